@@ -1,0 +1,23 @@
+-- The ways between places, and the latest arrival from which a leg is reached.
+use Rattle.std.specs.Prelude.{ℕ, ◌-◌, List, [], ◌∷◌, Option, Some, None, ◌==◌, nat_le, if◌then◌else◌, find}
+use Rattle.std.specs.Option.{option_map, option_and_then}
+use Rattle.plan_model.specs.declared.model.Leg.{Leg}
+use Rattle.plan_model.specs.declared.model.Way.{Way}
+use Rattle.plan_model.specs.Parts.{Parts}
+use Rattle.plan_model.specs.Network.{from_of, dep_of, change_of}
+
+-- the ways into a place: from the place itself, in its change time
+abbrev pub ways_into : Parts → ℕ → List Way
+ways_into n r = record { from = record { 0 = r }; seconds = change_of n r } ∷ []
+
+-- the seconds from who arrives at place p to who may board at place r, where there is a way
+abbrev pub way_of : Parts → ℕ → ℕ → Option ℕ
+way_of n p r = option_map (λ way. way.seconds) (find (λ way. way.from.0 == p) (ways_into n r))
+
+-- so many seconds before a moment, where that is not before all time
+abbrev pub earlier_by : ℕ → ℕ → Option ℕ
+earlier_by moment seconds = if nat_le seconds moment then Some (moment - seconds) else None
+
+-- the latest arrival at place p from which the leg can be taken, where there is one
+abbrev pub limit_of : Parts → ℕ → Leg → Option ℕ
+limit_of n p leg = option_and_then (earlier_by (dep_of n leg.enter.0)) (way_of n p (from_of n leg.enter.0))
