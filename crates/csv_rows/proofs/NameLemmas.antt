@@ -1,5 +1,5 @@
 -- Names that are not empty.
-use Rattle.std.proofs.Common.{◌≡◌, ℕ, Bool, true, false, ◌==◌, List, length, Option, Some, None, if◌then◌else◌, IsUtf8, refl, sym, ap, ◌∙◌, ⊎_elim}
+use Rattle.std.proofs.Common.{◌≡◌, ℕ, Bool, true, false, ◌==◌, List, length, Option, Some, None, if◌then◌else◌, IsUtf8, sym, ap, ◌∙◌, ⊎_elim}
 use Rattle.std.specs.Str.{is_utf8}
 use Rattle.std.proofs.lemmas.Str.{IsUtf8-from_is_utf8, is_utf8-from_IsUtf8}
 use Rattle.csv_rows.proofs.FirstLemmas.{true_or_false}

@@ -1,7 +1,6 @@
 -- The place of a name in a header.
-use Rattle.std.proofs.Common.{◌≡◌, ℕ, ◌+◌, ◌<◌, Bool, true, false, List, [], length, slice_index_or, Option, Some, None, IfSome, IfNone, if◌then◌else◌, refl, sym, ap, ◌∙◌, ⊎_elim, bytes_eq}
+use Rattle.std.proofs.Common.{◌≡◌, ℕ, ◌+◌, ◌<◌, true, false, List, [], length, slice_index_or, Option, Some, None, IfSome, IfNone, if◌then◌else◌, sym, ap, ◌∙◌, ⊎_elim, bytes_eq}
 use Rattle.std.proofs.lemmas.Slice.Eq.{bytes_eq-Decides}
-use Rattle.csv_rows.specs.First.{first_below}
 use Rattle.csv_rows.specs.Tables.{place_in, field_at}
 use Rattle.csv_rows.proofs.FirstLemmas.{first-none, first-at, true_or_false}
 

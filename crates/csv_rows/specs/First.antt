@@ -1,5 +1,5 @@
 -- The first of the faults that hold, in the order in which they are listed.
-use Rattle.std.specs.Prelude.{ℕ, zero, suc, Bool, false, ◌||◌, Option, Some, None, Result, Ok, Err}
+use Rattle.std.specs.Prelude.{ℕ, zero, suc, Bool, false, ◌||◌, Option, Some, None, Result, Err}
 
 -- the one, or else the other
 abbrev pub or_else : {F : Type 0} → Option F → Option F → Option F

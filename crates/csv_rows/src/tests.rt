@@ -58,6 +58,7 @@ fn names_columns(rt: HostRuntime) -> Result<(), Fail> {
     assert_eq!(rt; rows.place_of(Column::Run), None);
     assert_eq!(rt; rows.header_width(), 3);
     assert_eq!(rt; rows.header_field(3), b"".as_slice());
+    assert_eq!(rt; rows.count(), 1);
     assert_eq!(rt; read_name(rows.field_at(0, Some(0))), Some("A"));
     assert_eq!(rt; read_name(rows.field_at(0, None)), None);
     assert_eq!(rt; rows.line(0), 2);

@@ -1,4 +1,4 @@
-use Rattle.std.proofs.Common.{◌≡◌, ◌∙◌, ap}
+use Rattle.std.proofs.Common.{◌∙◌, ap}
 use Rattle.csv_rows.specs.Tables.{place_in, header}
 use Rattle.csv_rows.proofs.PlaceLemmas.{place_is}
 use Rattle.csv_rows.proofs.rows.Rows.place_of.Goals as goal
