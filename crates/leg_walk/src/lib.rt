@@ -11,7 +11,7 @@ ghost use Rattle.leg_walk.specs.Tables.{table_of, ride_at, key_of, key_cmp, with
 ghost use Rattle.leg_walk.specs.Placed.{IsReached};
 ghost use Rattle.leg_walk.specs.Walked.{IsWalked};
 
-use plan_graph::{GraphRow, Ride};
+use plan_graph::{ExpandedGraph, GraphRow, Ride};
 use plan_model::{ConnectionId, Leg, List, Moment, Network, NoMemory, Query};
 use std::alloc::Global;
 use std::collections::BTreeSet;
@@ -36,6 +36,20 @@ pub trait LegChoice {
         requires there { leg.exit.0 < count network.now }
         requires away { end_of network.now leg ≢ query.now.target.0 }
         ensures { result ≡ chosen self.now network.now leg arrival.0 };
+}
+
+impl LegChoice for ExpandedGraph {
+    ghost use Rattle.plan_graph.specs.Rows.{HasRisingRides, pick_after};
+
+    ghost fits = { λ graph n target. HasRisingRides graph.rides };
+
+    ghost chosen = { λ graph n. pick_after graph.rides };
+
+    fn choose(&self, network: &Network, query: &Query, leg: Leg, arrival: Moment) -> Option<Leg> {
+        let _ = network;
+        let _ = query;
+        self.pick(leg, arrival)
+    }
 }
 
 // The legs that are chosen after a leg, one for each outcome.
