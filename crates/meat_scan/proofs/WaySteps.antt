@@ -1,5 +1,5 @@
 -- One way after the other.
-use Rattle.std.proofs.Common.{◌≡◌, ◌≢◌, ℕ, zero, suc, ◌+◌, ◌<◌, ◌≤◌, Bool, true, false, List, [], ◌∷◌, ◌++◌, Option, Some, None, AllPairs, length, get_or, take, cond, slice_get, arith, sym, ap, ◌∙◌, refl, inl, inr, subst, set, length-take-le, get_or-set_same, get_or-set_other}
+use Rattle.std.proofs.Common.{◌≡◌, ◌≢◌, ℕ, zero, suc, ◌+◌, ◌<◌, ◌≤◌, true, List, [], ◌∷◌, ◌++◌, Option, Some, None, AllPairs, length, get_or, take, cond, slice_get, arith, sym, ap, ◌∙◌, refl, inl, inr, subst, set, length-take-le, get_or-set_same, get_or-set_other}
 use Rattle.std.specs.Prelude.{find, ◌==◌, is_some}
 use Rattle.std.specs.Option.{option_map}
 use Rattle.std.specs.List.{AllByRecursion}
@@ -11,7 +11,7 @@ use Rattle.plan_model.specs.declared.model.Way.{Way}
 use Rattle.plan_model.specs.Parts.{Parts}
 use Rattle.plan_model.specs.Network.{IsValid}
 use Rattle.plan_model.specs.Ways.{ways_into}
-use Rattle.plan_model.proofs.Boarding.{way_of-listed, way_takes}
+use Rattle.plan_model.proofs.Boarding.{way_of-listed, way_takes, ways_into-distinct}
 use Rattle.stop_profile.specs.declared.Row.{Row}
 use Rattle.meat_scan.specs.Step.{with_way, way_from}
 use Rattle.meat_scan.specs.Tables.{has_way}
@@ -145,3 +145,10 @@ has_way-listed n r k way is = ap is_some (way_of-listed n r k way is)
 -- and that place is one of the network's
 pub from_in : (n : Parts) → IsValid n → (r k : ℕ) (way : Way) → r < length n.change → slice_get (ways_into n r) k ≡ Some way → way.from.0 < length n.change
 from_in n valid r k way inside is = (way_takes n valid way.from.0 r way.seconds inside (way_of-listed n r k way is)).0
+
+-- where one row for each way has room, there is room for the row of a way after those before it
+pub room_left : (n : Parts) (r k : ℕ) → k < length (ways_into n r) → (way : Way) → slice_get (ways_into n r) k ≡ Some way → (old now : ℕ) → cond (has_way n way.from.0 r) 1 0 ≤ old → old ≤ now + way_number (way_in (take k (ways_into n r)) way.from.0) → 1 ≤ now
+room_left n r k within way is old now room so_far =
+    let none : way_number (way_in (take k (ways_into n r)) way.from.0) ≡ 0 = ap way_number (none_before (ways_into n r) (ways_into-distinct n r) k within way is) in
+    let one : ◌≡◌ {A = ℕ} (cond (has_way n way.from.0 r) 1 0) 1 = ap (λ b. cond b 1 0) (has_way-listed n r k way is) in
+    omega (arith, none, one)

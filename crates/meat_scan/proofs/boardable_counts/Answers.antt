@@ -1,6 +1,6 @@
-use Rattle.std.proofs.Common.{◌∙◌, ◌<◌, cond, length, arith, sym, ap}
+use Rattle.std.proofs.Common.{arith}
 use Rattle.stop_profile.proofs.Gaps.{written_back}
-use Rattle.plan_model.specs.Network.{count, connection, from_of}
+use Rattle.plan_model.specs.Network.{connection}
 use Rattle.meat_scan.specs.Tables.{has_way}
 use Rattle.meat_scan.proofs.Reserves.{count_by-take_more, count_by-take-le}
 use Rattle.meat_scan.proofs.boardable_counts.Goals as goal
