@@ -24,7 +24,8 @@ use Rattle.leg_walk.proofs.Tables.{IsChosenAt, first_pick, picked_has, same_next
 use Rattle.leg_walk.proofs.Graphs.{ready, busy, picks_taken, first_row}
 use Rattle.graph_prune.specs.Limits.{by_limits, ride_by_limits}
 use Rattle.graph_prune.proofs.Limits.{IsLimitOf, first_by_limits, limit_member, limits_rise, in_time_by, rows_after-limits}
-use Rattle.graph_prune.proofs.Sources.{ride_there, rows_after-own, kept_after, start_can}
+use Rattle.leg_walk.proofs.Rides.{ride_there, rows_after-own}
+use Rattle.graph_prune.proofs.Sources.{kept_after, start_can}
 
 rises_from : (rides : List Ride) (n : Parts) → Later (λ a b. Precedes a.leg b.leg) rides → Later (λ a b. Precedes a.leg b.leg) (map (ride_by_limits n) rides)
 rises_from [] n later = tt
