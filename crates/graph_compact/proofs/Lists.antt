@@ -1,6 +1,6 @@
 -- Rows that are gathered.
-use Rattle.std.proofs.Common.{◌≡◌, ◌≢◌, ℕ, zero, suc, ◌+◌, ◌≤◌, ◌<◌, ◌⊎◌, Bool, true, false, List, [], ◌∷◌, map, length, drop, arith, sym, subst, refl, inl, inr, ◌∙◌, ap}
-use Rattle.std.specs.Prelude.{◌==◌, if◌then◌else◌, slice_index_or, slice_set}
+use Rattle.std.proofs.Common.{◌≡◌, ◌≢◌, ℕ, zero, suc, ◌+◌, ◌≤◌, ◌<◌, ◌⊎◌, List, [], ◌∷◌, map, length, drop, arith, sym, subst, refl, inl, inr, ◌∙◌, ap}
+use Rattle.std.specs.Prelude.{slice_index_or, slice_set}
 use Rattle.std.specs.Ordering.{nat_cmp, ordering_then, match_ordering}
 use Rattle.std.specs.declared.cmp.Ordering.{Ordering}
 use Rattle.std.specs.declared.cmp.Ordering.TheVariants.{Less, Equal, Greater}
@@ -22,7 +22,7 @@ use Rattle.leg_walk.proofs.Lists.{Later}
 use Rattle.leg_walk.proofs.Places.{other_place, same_place}
 use Rattle.leg_walk.proofs.Sets.{kept_with, there_with, only_with}
 use Rattle.leg_walk.proofs.Orders.{nat_cmp_equal, nat_cmp_less, then_equal, then_less, leg_equal, leg_less}
-use Rattle.graph_compact.specs.Tables.{row_cmp, put_rows, with_ride, gathered, rows_in, with_table, tables_of}
+use Rattle.graph_compact.specs.Tables.{row_cmp, put_rows, with_ride, gathered, rows_in, with_table}
 
 pub with_rows : (place : ℕ) (rows : List GraphRow) (more : List PlaceTable) → 0 < length rows → with_table place rows more ≡ record { place = record { 0 = place }; rows = rows } ∷ more
 with_rows place [] more some = absurd (omega (arith, some))

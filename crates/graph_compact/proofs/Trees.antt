@@ -1,5 +1,5 @@
 -- The graph by place unfolds to the same tree, and is tidy.
-use Rattle.std.proofs.Common.{◌≡◌, ◌≢◌, ℕ, suc, ◌+◌, ◌≤◌, ◌<◌, ◌⊎◌, Bool, true, false, List, [], ◌∷◌, length, Option, Some, Contains, All, AllPairs, arith, sym, subst, refl, inl, inr, ◌∙◌, ap}
+use Rattle.std.proofs.Common.{◌≡◌, ◌≢◌, ℕ, suc, ◌+◌, ◌≤◌, ◌<◌, Bool, false, List, [], ◌∷◌, length, Option, Some, Contains, All, AllPairs, arith, sym, subst, refl, inl, inr, ◌∙◌, ap}
 use Rattle.std.specs.Prelude.{◌==◌, if◌then◌else◌, slice_index_or, MatchOption}
 use Rattle.std.proofs.lemmas.Bool.{cases_eq, cases_lt}
 use Rattle.std.proofs.lemmas.Bool.Decides.{nat_tests}
@@ -28,7 +28,7 @@ use Rattle.leg_walk.specs.Placed.{Has, IsPlaced}
 use Rattle.leg_walk.proofs.Lists.{Later, all_from_has, all_at_has, contains_from_has, has_from_contains, pairs_from_later}
 use Rattle.leg_walk.proofs.Places.{other_place, same_place, IsPlacedNext, next_after}
 use Rattle.leg_walk.proofs.Reaching.{starts_by, start_placed}
-use Rattle.leg_walk.proofs.Tables.{first_pick, first_there, picked_has, same_next, same_limit}
+use Rattle.leg_walk.proofs.Tables.{first_pick, first_there, same_next, same_limit}
 use Rattle.leg_walk.proofs.Rides.{ride_there}
 use Rattle.graph_compact.specs.Tables.{gathered, tables_of}
 use Rattle.graph_compact.proofs.Lists.{RowBefore, IsOf, gathered_only, gathered_there, gathered_rise, some_first, first_least}

@@ -83,10 +83,7 @@ fn add_table(full: &mut List<PlaceTable>, place: u32, rows: List<GraphRow>) -> R
 }
 
 // The tables that are not empty.
-fn full_tables(
-    alloc: Global,
-    tables: &[BTreeSet<GraphRow>],
-) -> Result<List<PlaceTable>, NoMemory>
+fn full_tables(alloc: Global, tables: &[BTreeSet<GraphRow>]) -> Result<List<PlaceTable>, NoMemory>
     requires { length tables.now < 4294967296 }
     ensures { IfOk result (λ full. full ≡ tables_of 0 (lists_of tables.now)) }
 {

@@ -1,6 +1,6 @@
 -- What a ready graph picks.
-use Rattle.std.proofs.Common.{◌≡◌, ◌≢◌, ℕ, ◌≤◌, ◌<◌, ◌⊎◌, Bool, true, false, List, [], ◌∷◌, Option, Some, None, Contains, All, AllPairs, arith, sym, subst, refl, inl, inr, ◌∙◌, ap}
-use Rattle.std.specs.Prelude.{◌==◌, ◌&&◌, if◌then◌else◌, MatchOption}
+use Rattle.std.proofs.Common.{◌≡◌, ◌≢◌, ℕ, List, Option, Some, Contains, All, sym, subst, ◌∙◌, ap}
+use Rattle.std.specs.Prelude.{MatchOption}
 use Rattle.plan_model.specs.declared.model.Leg.{Leg}
 use Rattle.plan_model.specs.declared.model.Outcome.{Outcome}
 use Rattle.plan_model.specs.declared.model.Query.{Query}
@@ -9,11 +9,11 @@ use Rattle.plan_model.specs.Unfold.{end_of, arrival_of, outcomes_of}
 use Rattle.plan_graph.specs.declared.GraphRow.{GraphRow}
 use Rattle.plan_graph.specs.declared.Ride.{Ride}
 use Rattle.plan_graph.specs.declared.ExpandedGraph.{ExpandedGraph}
-use Rattle.plan_graph.specs.Rows.{pick_row, pick_after, rows_after, Precedes, HasRisingRides, HasRisingRows}
+use Rattle.plan_graph.specs.Rows.{pick_row, pick_after, HasRisingRides, HasRisingRows}
 use Rattle.plan_graph.specs.Ready.{IsReady, IsReadyRide, IsReadyRow, IsLegOf, pick_in_time}
 use Rattle.leg_walk.proofs.Rides.{ride_there}
 use Rattle.leg_walk.specs.Placed.{Has}
-use Rattle.leg_walk.proofs.Lists.{Later, all_at_has, all_from_has, contains_from_has, later_from_pairs}
+use Rattle.leg_walk.proofs.Lists.{all_at_has, all_from_has, contains_from_has}
 use Rattle.leg_walk.proofs.Graphs.{IsKeptAfter}
 use Rattle.graph_prune.proofs.Limits.{in_time_kept}
 

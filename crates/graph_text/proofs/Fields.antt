@@ -1,6 +1,6 @@
 -- The fields of printed rows.
-use Rattle.std.proofs.Common.{◌≡◌, ℕ, zero, suc, ◌+◌, ◌<◌, List, [], ◌∷◌, ◌++◌, length, drop, Option, Some, Result, arith, sym, ◌∙◌, ap, refl, subst, append_assoc}
-use Rattle.std.specs.Prelude.{slice_get, slice_index_or, decimal, codes, OnOk}
+use Rattle.std.proofs.Common.{◌≡◌, ℕ, zero, suc, ◌+◌, ◌<◌, List, [], ◌∷◌, ◌++◌, length, drop, Some, Result, arith, sym, ◌∙◌, ap, refl, subst, append_assoc}
+use Rattle.std.specs.Prelude.{slice_get, slice_index_or, decimal, OnOk}
 use Rattle.clock_text.specs.Civil.{moment_text}
 use Rattle.plan_model.specs.declared.model.Leg.{Leg}
 use Rattle.plan_model.specs.declared.model.Connection.{Connection}

@@ -1,20 +1,18 @@
 -- Which graphs can be printed.
-use Rattle.std.proofs.Common.{◌≡◌, ◌≢◌, ℕ, ◌+◌, ◌<◌, ◌≤◌, List, length, Option, Some, None, All, arith, []}
+use Rattle.std.proofs.Common.{◌≡◌, ◌≢◌, ℕ, ◌<◌, length, Option, Some, None, arith, []}
 use Rattle.std.specs.Prelude.{MatchOption, IfSome, slice_index_or}
 use Rattle.plan_model.specs.declared.model.Leg.{Leg}
 use Rattle.plan_model.specs.declared.model.Query.{Query}
 use Rattle.plan_model.specs.Parts.{Parts}
-use Rattle.plan_model.specs.Network.{IsValid, dep_of, arr_of, from_of}
+use Rattle.plan_model.specs.Network.{IsValid, from_of}
 use Rattle.plan_model.specs.Ways.{limit_of}
 use Rattle.plan_model.proofs.Boarding.{limit_of-some, way_takes}
 use Rattle.plan_graph.specs.declared.GraphRow.{GraphRow}
-use Rattle.plan_graph.specs.declared.Ride.{Ride}
-use Rattle.plan_graph.specs.declared.PlaceTable.{PlaceTable}
 use Rattle.plan_graph.specs.declared.ExpandedGraph.{ExpandedGraph}
 use Rattle.plan_graph.specs.declared.PlanGraph.{PlanGraph}
-use Rattle.plan_graph.specs.Ready.{IsLegOf, IsReady, IsReadyRide, IsReadyRow}
-use Rattle.plan_graph.specs.Tidy.{IsFit, IsFitTable, IsFitRow, IsFitStart}
-use Rattle.graph_text.specs.Printable.{IsPrintableMoment, IsPrintableRow, IsPrintableRide, IsPrintableTable, IsPrintable, IsPrintablePlan}
+use Rattle.plan_graph.specs.Ready.{IsLegOf, IsReady}
+use Rattle.plan_graph.specs.Tidy.{IsFit, IsFitStart}
+use Rattle.graph_text.specs.Printable.{IsPrintable, IsPrintablePlan}
 
 module _ (n : Parts) (valid : IsValid n) where
   -- a limit is before the departure

@@ -1,6 +1,5 @@
 -- Which graphs can be printed.
-use Rattle.std.specs.Prelude.{ℕ, ◌<◌, ◌≤◌, List, Option, length, All, IfSome}
-use Rattle.plan_model.specs.declared.model.Leg.{Leg}
+use Rattle.std.specs.Prelude.{ℕ, ◌<◌, ◌≤◌, length, All, IfSome}
 use Rattle.plan_model.specs.declared.model.Query.{Query}
 use Rattle.plan_model.specs.Parts.{Parts}
 use Rattle.plan_graph.specs.declared.GraphRow.{GraphRow}

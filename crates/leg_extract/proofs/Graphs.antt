@@ -1,10 +1,9 @@
 -- The graph of the rides that a scan's choices reach.
-use Rattle.std.proofs.Common.{◌≡◌, ◌≢◌, ℕ, ◌+◌, ◌≤◌, List, [], ◌∷◌, map, Option, Some, None, Contains, All, arith, sym, subst, refl, inl, inr, ◌∙◌, ap}
+use Rattle.std.proofs.Common.{◌≡◌, ◌≢◌, ℕ, List, [], map, Option, Some, None, Contains, sym, subst, refl, inl, inr, ◌∙◌, ap}
 use Rattle.std.specs.Prelude.{◌==◌, if◌then◌else◌, MatchOption}
 use Rattle.std.specs.Option.{option_map}
 use Rattle.std.proofs.lemmas.Bool.{cases_eq}
 use Rattle.plan_model.specs.declared.model.Leg.{Leg}
-use Rattle.plan_model.specs.declared.model.Outcome.{Outcome}
 use Rattle.plan_model.specs.declared.model.Query.{Query}
 use Rattle.plan_model.specs.Parts.{Parts}
 use Rattle.plan_model.specs.Network.{IsValid, arr_of}
@@ -14,17 +13,15 @@ use Rattle.plan_model.specs.Choices.{IsKept}
 use Rattle.plan_model.specs.Unfold.{end_of, arrival_of, outcomes_of, by_place}
 use Rattle.plan_graph.specs.declared.GraphRow.{GraphRow}
 use Rattle.plan_graph.specs.declared.Ride.{Ride}
-use Rattle.plan_graph.specs.Rows.{pick_row}
-use Rattle.plan_graph.specs.Ready.{IsLegOf, IsSafeForSome}
+use Rattle.plan_graph.specs.Ready.{IsLegOf}
 use Rattle.plan_graph.specs.Follows.{Follows, IsSteady}
-use Rattle.leg_walk.specs.Placed.{Has}
 use Rattle.leg_walk.specs.Walked.{IsWalked}
 use Rattle.leg_walk.proofs.Lists.{contains_from_has, has_from_contains, all_at_has}
 use Rattle.leg_walk.proofs.Places.{other_place, same_place}
 use Rattle.leg_walk.proofs.Tables.{table_away, table_there, by_for}
 use Rattle.leg_walk.proofs.Graphs.{IsKeptAfter, ready, busy, all_rides, table_of_ride, picks_taken}
 use Rattle.meat_scan.specs.Found.{Found, choice_of, leg_choice, chosen_by}
-use Rattle.meat_scan.specs.Solves.{Answers, IsAnswer, IsStartAnswer, IsSafeAt, Solves}
+use Rattle.meat_scan.specs.Solves.{Answers, IsAnswer, IsStartAnswer, IsSafeAt}
 use Rattle.leg_extract.specs.Extracted.{IsExtracted, HasArrivals}
 
 module _ {V : Type 0} {below covers : V → Tree → Type 0} {gap : V → ℕ} (n : Parts) (q : Query) (found : Found V) (answers : Answers below covers gap n q found) where

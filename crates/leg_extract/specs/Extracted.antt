@@ -1,5 +1,5 @@
 -- What the graph of a scan says.
-use Rattle.std.specs.Prelude.{◌≡◌, ℕ, List, [], map, Option, Some, All, ◌==◌, if◌then◌else◌}
+use Rattle.std.specs.Prelude.{◌≡◌, ℕ, [], map, Some, All, ◌==◌, if◌then◌else◌}
 use Rattle.plan_model.specs.declared.model.Leg.{Leg}
 use Rattle.plan_model.specs.declared.model.Query.{Query}
 use Rattle.plan_model.specs.Parts.{Parts}

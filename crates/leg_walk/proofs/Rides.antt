@@ -1,5 +1,5 @@
 -- The rides of legs.
-use Rattle.std.proofs.Common.{◌≡◌, ℕ, ◌<◌, ◌⊎◌, Bool, true, false, List, [], ◌∷◌, Option, Some, sym, subst, refl, inl, inr, ◌∙◌, ap}
+use Rattle.std.proofs.Common.{◌≡◌, ℕ, Bool, true, false, List, [], ◌∷◌, Some, sym, subst, refl, inl, inr, ◌∙◌, ap}
 use Rattle.std.specs.Prelude.{◌==◌, ◌&&◌, if◌then◌else◌}
 use Rattle.plan_model.specs.declared.model.Leg.{Leg}
 use Rattle.plan_graph.specs.declared.Ride.{Ride}

@@ -1,5 +1,5 @@
 use Rattle.std.proofs.Common.{◌≡◌, ◌++◌, ◌∙◌, ℕ, List, subst, ap, refl}
-use Rattle.std.specs.Prelude.{OnOk, codes}
+use Rattle.std.specs.Prelude.{OnOk}
 use Rattle.clock_text.specs.Civil.{nanos_text}
 use Rattle.graph_text.specs.Texts.{row_of_fields}
 use Rattle.graph_text.specs.Writers.{written}

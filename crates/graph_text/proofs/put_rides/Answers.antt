@@ -8,5 +8,5 @@ pub loop-ride-preserved : goal.loop-ride-preserved
 loop-ride-preserved c = record {
   between = c.in_ok-put_ride.ensures.between;
   text = rides_step c.args.network.now c.args.names.now c.args.rides.now c.loop-ride.ride-index c.ride-item.result (written c.put_ride.new.writer) (written c.loop-ride.writer) (written c.args.writer.now ++ rides_text c.args.network.now c.args.names.now c.args.rides.now)
-  c.loop-ride-test.true c.ride-item.is c.in_ok-put_ride.ensures.text c.loop-ride.invariant.text;
+      c.loop-ride-test.true c.ride-item.is c.in_ok-put_ride.ensures.text c.loop-ride.invariant.text;
 }

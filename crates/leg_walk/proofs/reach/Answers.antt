@@ -1,4 +1,4 @@
-use Rattle.std.proofs.Common.{◌≡◌, sym, subst, ℕ, List, arith, inr, [], ◌∷◌, Some}
+use Rattle.std.proofs.Common.{◌≡◌, sym, subst, List, arith, inr, [], ◌∷◌, Some}
 use Rattle.plan_model.specs.Unfold.{unfolded}
 use Rattle.plan_model.specs.declared.model.Leg.{Leg}
 use Rattle.leg_walk.proofs.Reaching.{IsReaching, begin, start_placed, all_seen, popped, popped_there, visited}

@@ -1,4 +1,4 @@
-use Rattle.std.proofs.Common.{ℕ, ◌<◌, List, sym, subst}
+use Rattle.std.proofs.Common.{◌<◌, List, sym, subst}
 use Rattle.plan_model.specs.Network.{count}
 use Rattle.plan_graph.specs.declared.Ride.{Ride}
 use Rattle.leg_walk.specs.Walked.{IsWalked}
