@@ -1,0 +1,92 @@
+-- The first fault below a number, step by step, and that it is the least of all that hold.
+use Rattle.std.proofs.Common.{◌≡◌, ℕ, zero, suc, ◌+◌, ◌<◌, ◌≤◌, Bool, true, false, ◌||◌, Option, Some, None, refl, sym, ap, ap₂, ◌∙◌, subst, arith, ⊎_elim, eq-or-lt_of_le, add-one, ◌⊎◌, inl, inr}
+use Rattle.std.proofs.lemmas.Option.{none-some}
+use Rattle.csv_rows.specs.First.{or_else, first_below, any_below}
+
+pub first-zero : {F : Type 0} (f : ℕ → Option F) → first_below f 0 ≡ None
+unfolding first_below
+first-zero f = refl
+
+pub first-suc : {F : Type 0} (f : ℕ → Option F) (n : ℕ) → first_below f (suc n) ≡ or_else (first_below f n) (f n)
+unfolding first_below
+first-suc f n = refl
+
+-- where none holds there is none
+pub first-none : {F : Type 0} (f : ℕ → Option F) (n : ℕ) → ((k : ℕ) → k < n → f k ≡ None) → first_below f n ≡ None
+first-none f zero h = first-zero f
+first-none f (suc n) h = first-suc f n ∙ ap₂ or_else (first-none f n (λ k l. h k (omega arith))) (h n (omega arith))
+
+-- one more
+pub first-next : {F : Type 0} (f : ℕ → Option F) (n : ℕ) (o : Option F) → first_below f n ≡ None → f n ≡ o → first_below f (n + 1) ≡ o
+first-next f n o h e = rw add-one (first-suc f n ∙ ap (λ x. or_else x (f n)) h ∙ e)
+
+-- what comes first stays first
+pub first-stays : {F : Type 0} (f : ℕ → Option F) (n m : ℕ) (e : F) → n ≤ m → first_below f n ≡ Some e → first_below f m ≡ Some e
+first-stays f n zero e l h =
+    let z : n ≡ 0 = omega arith in
+    let P : ℕ → Type 0 = λ k. first_below f k ≡ Some e in subst P z h
+first-stays f n (suc m) e l h =
+    ⊎_elim (λ (same : n ≡ suc m). let P : ℕ → Type 0 = λ k. first_below f k ≡ Some e in subst P same h)
+    (λ (less : n < suc m). first-suc f m ∙ ap (λ x. or_else x (f m)) (first-stays f n m e (omega arith) h))
+    (eq-or-lt_of_le l)
+
+-- the one that holds at k, where none holds before
+pub first-at : {F : Type 0} (f : ℕ → Option F) (k n : ℕ) (e : F) → k < n → first_below f k ≡ None → f k ≡ Some e → first_below f n ≡ Some e
+first-at f k n e l none here = first-stays f (k + 1) n e (omega arith) (first-next f k (Some e) none here)
+
+none_both : {F : Type 0} (a b : Option F) → or_else a b ≡ None → (a ≡ None) × (b ≡ None)
+none_both None b h = (refl, h)
+none_both (Some x) b h = absurd (cc)
+
+-- where there is none, none holds
+pub none-each : {F : Type 0} (f : ℕ → Option F) (n : ℕ) → first_below f n ≡ None → (k : ℕ) → k < n → f k ≡ None
+none-each f zero h k l = absurd (omega arith)
+none-each f (suc n) h k l =
+    let both = none_both (first_below f n) (f n) (sym (first-suc f n) ∙ h) in
+    ⊎_elim (λ (same : k ≡ n). let P : ℕ → Type 0 = λ i. f i ≡ None in subst P (sym same) both.1)
+    (λ (less : k < n). none-each f n both.0 k less)
+    (eq-or-lt_of_le (omega arith))
+
+-- f holds at some place, and nowhere before
+pub record IsFirst {F : Type 0} (f : ℕ → Option F) (n : ℕ) (e : F) : Type 0 where
+  pub place : ℕ
+  pub inside : place < n
+  pub here : f place ≡ Some e
+  pub none : (j : ℕ) → j < place → f j ≡ None
+
+some_one : {F : Type 0} (a b : Option F) (e : F) → or_else a b ≡ Some e → (a ≡ Some e) ⊎ ((a ≡ None) × (b ≡ Some e))
+some_one None b e h = inr (refl, h)
+some_one (Some x) b e h = inl h
+
+-- what comes first is the least of all that hold
+pub first-is : {F : Type 0} (f : ℕ → Option F) (n : ℕ) (e : F) → first_below f n ≡ Some e → IsFirst f n e
+first-is f zero e h = let w : ⊥ = none-some e (sym (first-zero f) ∙ h) in absurd w
+first-is f (suc n) e h =
+    ⊎_elim (λ (w : first_below f n ≡ Some e).
+    let r = first-is f n e w in record { place = r.place; inside = omega (arith, r.inside); here = r.here; none = r.none })
+    (λ (w : (first_below f n ≡ None) × (f n ≡ Some e)). record { place = n; inside = omega arith; here = w.1; none = none-each f n w.0 })
+    (some_one (first_below f n) (f n) e (sym (first-suc f n) ∙ h))
+
+pub true_or_false : (b : Bool) → (b ≡ true) ⊎ (b ≡ false)
+true_or_false true = inl refl
+true_or_false false = inr refl
+
+or_true : (a b : Bool) → b ≡ true → (a || b) ≡ true
+or_true true b h = refl
+or_true false b h = h
+
+-- it holds at k
+pub any-true : (p : ℕ → Bool) (n k : ℕ) → k < n → p k ≡ true → any_below p n ≡ true
+unfolding any_below
+any-true p zero k l h = absurd (omega arith)
+any-true p (suc n) k l h =
+    ⊎_elim (λ (e : k ≡ n). or_true (any_below p n) (p n) (subst (λ (i : ℕ). p i ≡ true) e h))
+    (λ (less : k < n). ap (λ b. b || p n) (any-true p n k less h)) (eq-or-lt_of_le (omega arith))
+
+-- it holds nowhere
+pub any-false : (p : ℕ → Bool) (n : ℕ) → ((k : ℕ) → k < n → p k ≡ true → ⊥) → any_below p n ≡ false
+unfolding any_below
+any-false p zero h = refl
+any-false p (suc n) h =
+    ⊎_elim (λ (t : p n ≡ true). absurd (h n (omega arith) t))
+    (λ (f : p n ≡ false). ap₂ (λ a b. a || b) (any-false p n (λ k l. h k (omega arith))) f) (true_or_false (p n))

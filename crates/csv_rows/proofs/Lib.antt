@@ -1,0 +1,6 @@
+pub mod FirstLemmas
+pub mod NameLemmas
+pub mod PartsLemmas
+pub mod PlaceLemmas
+pub mod Records
+pub mod TableLemmas

@@ -1,0 +1,18 @@
+-- Names that are not empty.
+use Rattle.std.proofs.Common.{◌≡◌, ℕ, Bool, true, false, ◌==◌, List, length, Option, Some, None, if◌then◌else◌, IsUtf8, sym, ap, ◌∙◌, ⊎_elim}
+use Rattle.std.specs.Str.{is_utf8}
+use Rattle.std.proofs.lemmas.Str.{IsUtf8-from_is_utf8, is_utf8-from_IsUtf8}
+use Rattle.csv_rows.proofs.FirstLemmas.{true_or_false}
+use Rattle.csv_rows.specs.Names.{name_in}
+
+abbrev name_if : Bool → Bool → List ℕ → Option (List ℕ)
+name_if a b text = if a then None else if b then Some text else None
+
+pub name_some : (text x : List ℕ) → false ≡ (length text == 0) → x ≡ text → IsUtf8 text → Some x ≡ name_in text
+name_some text x some e u = ap Some e ∙ ap (λ a. name_if a true text) some ∙ ap (λ b. name_if (length text == 0) b text) (sym (is_utf8-from_IsUtf8 text u))
+
+pub name_none : (text : List ℕ) → false ≡ (length text == 0) → (IsUtf8 text → ⊥) → None ≡ name_in text
+name_none text some u =
+    ⊎_elim (λ (t : is_utf8 text ≡ true). absurd (u (IsUtf8-from_is_utf8 text t)))
+    (λ (f : is_utf8 text ≡ false). ap (λ a. name_if a false text) some ∙ ap (λ b. name_if (length text == 0) b text) (sym f))
+    (true_or_false (is_utf8 text))

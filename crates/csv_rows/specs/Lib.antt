@@ -1,0 +1,9 @@
+pub mod Columns
+pub mod Fields
+pub mod First
+pub mod Limits
+pub mod Names
+pub mod Parts
+pub mod Rows
+pub mod Spaces
+pub mod Tables

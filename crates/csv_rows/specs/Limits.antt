@@ -1,0 +1,31 @@
+-- How much is read at most.
+use Rattle.std.specs.Prelude.{◌≤◌}
+use Rattle.csv_rows.specs.declared.limits.Limits.{Limits}
+
+-- the standard limits
+abbrev pub standard : Limits
+standard = record {
+  bytes = 1073741824;
+  stops = 1048576;
+  routes = 65536;
+  trips = 4194304;
+  stop_times = 33554432;
+  calendar = 1048576;
+  calendar_dates = 16777216;
+  transfers = 4194304;
+  cut_rows = 8388608;
+  connections = 8388608;
+}
+
+-- none is above the standard one
+pub record AreWithin (limits : Limits) : Type 0 where
+  pub bytes : limits.bytes ≤ 1073741824
+  pub stops : limits.stops ≤ 1048576
+  pub routes : limits.routes ≤ 65536
+  pub trips : limits.trips ≤ 4194304
+  pub stop_times : limits.stop_times ≤ 33554432
+  pub calendar : limits.calendar ≤ 1048576
+  pub calendar_dates : limits.calendar_dates ≤ 16777216
+  pub transfers : limits.transfers ≤ 4194304
+  pub cut_rows : limits.cut_rows ≤ 8388608
+  pub connections : limits.connections ≤ 8388608

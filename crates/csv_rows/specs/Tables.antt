@@ -1,0 +1,38 @@
+-- A table: its records, the header first, and its fields by row and column.
+use Rattle.std.specs.Prelude.{ℕ, ◌+◌, ◌-◌, List, [], map, length, slice_index_or, Option, Some, None, if◌then◌else◌}
+use Rattle.std.specs.Str.{bytes_eq}
+use Rattle.csv.specs.Reading.{default_config, records, strip_bom}
+use Rattle.csv_rows.specs.declared.columns.Column.{Column}
+use Rattle.csv_rows.specs.Columns.{name_of}
+use Rattle.csv_rows.specs.First.{first_below}
+use Rattle.csv_rows.specs.Spaces.{trimmed}
+
+-- the records of a text: those of RFC 4180 as the csv crate takes them from the text without its byte-order mark, with no
+-- ASCII space round a field
+abbrev pub table_of : List ℕ → List (List (List ℕ))
+table_of text = map (λ row. map trimmed row) (records default_config (strip_bom text))
+
+-- the first record names the columns
+abbrev pub header : List (List (List ℕ)) → List (List ℕ)
+header t = slice_index_or t 0 []
+
+-- the others are the rows
+abbrev pub row_count : List (List (List ℕ)) → ℕ
+row_count t = length t - 1
+
+-- the place of the first of these names that is this one
+unfoldable pub place_in : List ℕ → List (List ℕ) → Option ℕ
+place_in name names = first_below (λ k. if bytes_eq (slice_index_or names k []) name then Some k else None) (length names)
+
+-- the place of a column in the header
+abbrev pub place_of : Column → List (List (List ℕ)) → Option ℕ
+place_of column t = place_in (name_of column) (header t)
+
+-- the field of a row at a place: empty past the row's end, and where the table lacks the column
+abbrev pub field_at : List (List (List ℕ)) → Option ℕ → ℕ → List ℕ
+field_at t None i = []
+field_at t (Some k) i = slice_index_or (slice_index_or t (i + 1) []) k []
+
+-- the field of a row under a column
+abbrev pub field : List (List (List ℕ)) → Column → ℕ → List ℕ
+field t column i = field_at t (place_of column t) i

@@ -1,0 +1,48 @@
+//! How much is read.
+ghost use Rattle.std.specs.Prelude.{◌≡◌};
+ghost use Rattle.csv_rows.specs.Limits.{standard};
+
+/// The most that is read: bytes of one file, rows of each table, and connections of a window.
+#[derive(Clone, Copy, Debug, PartialEq, Eq)]
+pub struct Limits {
+    /// Bytes of one file.
+    pub bytes: u64,
+    /// Rows of `stops.txt`.
+    pub stops: u64,
+    /// Rows of `routes.txt`.
+    pub routes: u64,
+    /// Rows of `trips.txt`.
+    pub trips: u64,
+    /// Rows of `stop_times.txt`.
+    pub stop_times: u64,
+    /// Rows of `calendar.txt`.
+    pub calendar: u64,
+    /// Rows of `calendar_dates.txt`.
+    pub calendar_dates: u64,
+    /// Rows of `transfers.txt`.
+    pub transfers: u64,
+    /// Rows of a cut file.
+    pub cut_rows: u64,
+    /// Connections of a window.
+    pub connections: u64,
+}
+
+impl Limits {
+    /// The limits with which the largest accepted feed fits in 8 GB of memory.
+    pub fn standard() -> Limits
+        ensures { result ≡ standard }
+    {
+        Limits {
+            bytes: 1 << 30,
+            stops: 1 << 20,
+            routes: 1 << 16,
+            trips: 1 << 22,
+            stop_times: 1 << 25,
+            calendar: 1 << 20,
+            calendar_dates: 1 << 24,
+            transfers: 1 << 22,
+            cut_rows: 1 << 23,
+            connections: 1 << 23,
+        }
+    }
+}

@@ -1,0 +1,16 @@
+//! Fields that name something.
+ghost use Rattle.std.specs.Prelude.{◌≡◌, option_map};
+ghost use Rattle.csv_rows.specs.Names.{name_in};
+
+/// A name: a text of UTF-8 that is not empty.
+pub fn read_name(text: &[u8]) -> Option<&str>
+    ensures { option_map (λ s. s.now) result ≡ name_in text.now }
+{
+    if text.is_empty() {
+        return None;
+    }
+    match std::str::from_utf8(text) {
+        Ok(name) => Some(name),
+        Err(_) => None,
+    }
+}

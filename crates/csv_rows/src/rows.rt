@@ -1,0 +1,270 @@
+//! The rows of a table.
+ghost use Rattle.std.specs.Prelude.{◌≡◌, ◌<◌, ◌+◌, ◌-◌, ◌^◌, ℕ, List, [], ◌∷◌, ◌++◌, map, length, take, OnOk, OnErr, IfOk, IfSome, IfNone, IsErrOf, Err, slice_index_or, ◌≢◌};
+ghost use Rattle.csv.specs.Records as csv;
+ghost use Rattle.csv_rows.specs.Parts.{parts_from, Fills};
+ghost use Rattle.csv_rows.specs.Spaces.{trimmed};
+ghost use Rattle.csv_rows.specs.Tables.{table_of, header, row_count, place_of, field_at};
+
+use crate::columns::Column;
+use crate::fields::{Fields, start_of};
+use crate::spaces::trimmed;
+use csv::{ByteRecord, ReaderBuilder};
+use plan_model::NoMemory;
+use std::alloc::{AllocError, Global};
+use std::marker::Model;
+
+/// The records of a table, the header first.
+#[derive(Drop)]
+pub struct Rows {
+    fields: Fields,
+    ends: Vec<u32>,
+}
+
+impl Model for Rows {
+    ghost use Rattle.std.specs.Prelude.{ℕ, List};
+
+    ghost Value = { List (List (List ℕ)) };
+
+    ghost use Rattle.csv_rows.specs.Rows.{rows_of, AreRows};
+
+    ghost view = { rows_of };
+
+    ghost invariant = { AreRows };
+}
+
+/// The field of a record at a place.
+fn field_of(row: &ByteRecord, i: usize) -> &[u8]
+    requires { i < length (csv.fields_of row.now) }
+    ensures { result.now ≡ slice_index_or (csv.fields_of row.now) i [] }
+{
+    match row.get(i) {
+        Some(field) => field,
+        None => unreachable!(),
+    }
+}
+
+/// Adds the fields of a record, with no ASCII space round each.
+fn push_fields(fields: &mut Fields, row: &ByteRecord) -> Result<(), AllocError>
+    ensures { OnOk result (fields.new ≡ fields.old ++ map trimmed (csv.fields_of row.now)) }
+{
+    for i in 0..row.len() {
+        fields.push(trimmed(field_of(row, i)))?;
+    }
+    Ok(())
+}
+
+/// All rows together have fewer fields.
+const LIMIT: usize = 1 << 32;
+
+/// Adds a record to the fields of all rows and the places where rows end.
+fn push_row(fields: &mut Fields, ends: &mut Vec<u32>, row: &ByteRecord) -> Result<(), AllocError>
+    requires { Fills ends.old.items (length fields.old) }
+    ensures fills { OnOk result (Fills ends.new.items (length fields.new)) }
+    ensures rows { OnOk result (parts_from 0 ends.new.items fields.new
+        ≡ parts_from 0 ends.old.items fields.old ++ map trimmed (csv.fields_of row.now) ∷ []) }
+{
+    push_fields(fields, row)?;
+    let end = fields.len();
+    if end >= LIMIT {
+        return Err(AllocError);
+    }
+    match ends.push(end as u32) {
+        Ok(()) => Ok(()),
+        Err(_) => Err(AllocError),
+    }
+}
+
+/// The rows, if there is one.
+fn finished(fields: Fields, ends: Vec<u32>) -> Result<Rows, RowsFault>
+    requires { Fills ends.items (length fields) }
+    ensures rows { IfOk result (λ rows. rows ≡ parts_from 0 ends.items fields) }
+    ensures header { IfOk result (λ rows. 0 < length rows) }
+    ensures none { OnErr result (parts_from 0 ends.items fields ≡ []) }
+    ensures no_header { OnErr result (result ≡ Err RowsFault.NoHeader) }
+{
+    if ends.as_slice().is_empty() {
+        return Err(RowsFault::NoHeader);
+    }
+    Ok(Rows { fields, ends })
+}
+
+/// Why a text is no table.
+#[derive(Clone, Copy, Debug, PartialEq, Eq)]
+pub enum RowsFault {
+    /// The text has no record.
+    NoHeader,
+    /// There was no memory, or the text has 2^32 bytes or fields.
+    NoMemory,
+}
+
+impl From<NoMemory> for RowsFault {
+    ghost use Rattle.std.specs.Prelude.{◌≡◌};
+    ghost use Rattle.csv_rows.specs.declared.rows.RowsFault.TheVariants.{NoMemory as NoMemoryFault};
+
+    ghost from_gives = { λ _ fault. fault ≡ NoMemoryFault };
+
+    fn from(_: NoMemory) -> Self {
+        RowsFault::NoMemory
+    }
+}
+
+impl Rows {
+    /// The records of a text after RFC 4180, with fields that commas part and double quotes may enclose, and records of any
+    /// length that LF, CR or CRLF ends. A blank line is no record. One byte-order mark at the start is dropped, and so are
+    /// the ASCII spaces round each field. The answer is `NoHeader` exactly where there is no record.
+    pub fn read(alloc: Global, bytes: &[u8]) -> Result<Rows, RowsFault>
+        ensures rows { IfOk result (λ rows. rows ≡ table_of bytes.now) }
+        ensures header { IfOk result (λ rows. 0 < length rows) }
+        ensures none { IsErrOf result RowsFault.NoHeader → table_of bytes.now ≡ [] }
+    {
+        let mut reader = ReaderBuilder::new()
+            .has_headers(false)
+            .flexible(true)
+            .from_reader(alloc, bytes);
+        let mut row = ByteRecord::new(alloc);
+        let mut fields = Fields::new(alloc);
+        let mut ends = Vec::new(alloc);
+        for _ in 0..u64::MAX {
+            match reader.read_byte_record(&mut row) {
+                Ok(true) => match push_row(&mut fields, &mut ends, &row) {
+                    Ok(()) => {}
+                    Err(_) => return Err(RowsFault::NoMemory),
+                },
+                Ok(false) => return finished(fields, ends),
+                Err(_) => return Err(RowsFault::NoMemory),
+            }
+        }
+        Err(RowsFault::NoMemory)
+    }
+
+    /// How many records there are after the header.
+    pub fn count(&self) -> usize
+        ensures count { result ≡ row_count self.now }
+        ensures few { result < 2 ^ 62 }
+    {
+        let ends: &[u32] = &self.ends;
+        ends.len().saturating_sub(1)
+    }
+
+    /// The line of a row, as refusals name it: its number among the records, where the header is line 1.
+    pub fn line(&self, row: usize) -> u64
+        requires { row < row_count self.now }
+        ensures { result ≡ row + 2 }
+    {
+        let _count = self.count();
+        row as u64 + 2
+    }
+
+    /// How many fields a record has, where the header is record 0.
+    fn record_width(&self, place: usize) -> usize
+        requires { place < length self.now }
+        ensures { result ≡ length (slice_index_or self.now place []) }
+    {
+        width_at(&self.ends, &self.fields, place)
+    }
+
+    /// The field of a record, or an empty one past its end.
+    fn record_field(&self, place: usize, column: usize) -> &[u8]
+        requires { place < length self.now }
+        ensures { result.now ≡ slice_index_or (slice_index_or self.now place []) column [] }
+    {
+        field_in(&self.fields, &self.ends, place, column)
+    }
+
+    /// How many fields the header has.
+    pub fn header_width(&self) -> usize
+        ensures { result ≡ length (header self.now) }
+    {
+        width_at(&self.ends, &self.fields, 0)
+    }
+
+    /// The field of the header, or an empty one past its end.
+    pub fn header_field(&self, column: usize) -> &[u8]
+        ensures { result.now ≡ slice_index_or (header self.now) column [] }
+    {
+        field_in(&self.fields, &self.ends, 0, column)
+    }
+
+    /// The first column of this name.
+    pub fn column(&self, name: &str) -> Option<usize>
+        ensures found { IfSome result (λ i. (i < length (header self.now))
+            × (slice_index_or (header self.now) i [] ≡ name.now)) }
+        ensures first { IfSome result (λ i. (k : ℕ) → k < i
+            → slice_index_or (header self.now) k [] ≢ name.now) }
+        ensures none { IfNone result ((k : ℕ) → k < length (header self.now)
+            → slice_index_or (header self.now) k [] ≢ name.now) }
+    {
+        for i in 0..self.header_width() {
+            if self.header_field(i) == name.as_bytes() {
+                return Some(i);
+            }
+        }
+        None
+    }
+
+    /// The first place of a column, if the header has it.
+    pub fn place_of(&self, column: Column) -> Option<usize>
+        ensures { result ≡ place_of column self.now }
+    {
+        self.column(column.name())
+    }
+
+    /// The place of a row among the records.
+    fn record_of(&self, row: usize) -> usize
+        requires { row < row_count self.now }
+        ensures { result ≡ row + 1 }
+    {
+        let _count = self.count();
+        row + 1
+    }
+
+    /// The field of a row, or an empty one past its end.
+    pub fn field(&self, row: usize, column: usize) -> &[u8]
+        requires { row < row_count self.now }
+        ensures { result.now ≡ slice_index_or (slice_index_or self.now (row + 1) []) column [] }
+    {
+        let record = self.record_of(row);
+        self.record_field(record, column)
+    }
+
+    /// The field of a row under a column at a place: empty past its end, and where the table lacks the column.
+    pub fn field_at(&self, row: usize, place: Option<usize>) -> &[u8]
+        requires { row < row_count self.now }
+        ensures { result.now ≡ field_at self.now place row }
+    {
+        match place {
+            Some(column) => self.field(row, column),
+            None => &[],
+        }
+    }
+
+    /// How many fields a row has.
+    pub fn width(&self, row: usize) -> usize
+        requires { row < row_count self.now }
+        ensures { result ≡ length (slice_index_or self.now (row + 1) []) }
+    {
+        let record = self.record_of(row);
+        self.record_width(record)
+    }
+}
+
+/// How many fields the record at a place has.
+fn width_at(ends: &[u32], fields: &Fields, place: usize) -> usize
+    requires place { place < length ends.now }
+    requires fills { Fills ends.now (length fields.now) }
+    ensures { result ≡ length (slice_index_or (parts_from 0 ends.now fields.now) place []) }
+{
+    ends[place] as usize - start_of(ends, place)
+}
+
+/// The field of the record at a place, or an empty one past its end.
+fn field_in<'a>(fields: &'a Fields, ends: &[u32], place: usize, column: usize) -> &'a [u8]
+    requires place { place < length ends.now }
+    requires fills { Fills ends.now (length fields.now) }
+    ensures { result.now ≡ slice_index_or (slice_index_or (parts_from 0 ends.now fields.now) place []) column [] }
+{
+    if column >= width_at(ends, fields, place) {
+        return &[];
+    }
+    fields.get(start_of(ends, place) + column)
+}

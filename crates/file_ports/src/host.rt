@@ -1,0 +1,103 @@
+//! Files and streams of the host. They tell neither what a file holds nor what was written, and count each error
+//! of the system, one for want of memory included.
+ghost use Rattle.std.specs.Prelude.{◌≡◌};
+
+use crate::ports::{Failed, Files, Presence, Sink};
+use std::io::{ErrorKind, Read, Write};
+use std::{fs, rt};
+
+/// The host's files. Only a path that the system does not find is absent: every other error is a fault, one for a
+/// folder in place of a file among them.
+#[derive(Drop)]
+pub struct HostFiles<R: rt::Files> {
+    rt: R,
+    file: Option<R::File>,
+    faults: u64,
+}
+
+impl<R: rt::Files> HostFiles<R> {
+    /// No file is in hand, and nothing has failed. It takes no memory.
+    pub fn new(rt: R) -> HostFiles<R> {
+        HostFiles {
+            rt,
+            file: None,
+            faults: 0,
+        }
+    }
+}
+
+impl<R: rt::Files> Files for HostFiles<R> {
+    ghost use Rattle.std.specs.Prelude.{[], None, Some, is_some, if◌then◌else◌};
+
+    ghost files = { λ _. None };
+
+    ghost in_hand = { λ s. if is_some s.file then Some [] else None };
+
+    ghost left = { λ _. None };
+
+    ghost faults = { λ s. s.faults };
+
+    ghost faults_of = { λ _ _. 0 };
+
+    fn open_file(&mut self, path: &str) -> Result<Presence, Failed> {
+        self.file = None;
+        match fs::open(&self.rt, path) {
+            Ok(file) => {
+                self.file = Some(file);
+                Ok(Presence::Present)
+            }
+            Err(error) => {
+                if error.kind() == ErrorKind::NotFound {
+                    return Ok(Presence::Absent);
+                }
+                self.faults = self.faults.saturating_add(1);
+                Err(Failed)
+            }
+        }
+    }
+
+    fn read(&mut self, buffer: &mut [u8]) -> Result<usize, Failed> {
+        let Some(file) = &mut self.file else {
+            unreachable!()
+        };
+        match file.read(buffer) {
+            Ok(count) => Ok(count),
+            Err(_) => {
+                self.faults = self.faults.saturating_add(1);
+                Err(Failed)
+            }
+        }
+    }
+}
+
+/// A stream of the host. Each write is flushed, and one that takes nothing is a fault.
+#[derive(Drop)]
+pub struct HostSink<W: Write> {
+    writer: W,
+    faults: u64,
+}
+
+impl<W: Write> HostSink<W> {
+    /// Nothing has failed. It takes no memory.
+    pub fn new(writer: W) -> HostSink<W> {
+        HostSink { writer, faults: 0 }
+    }
+}
+
+impl<W: Write> Sink for HostSink<W> {
+    ghost use Rattle.std.specs.Prelude.{None};
+
+    ghost written = { λ _. None };
+
+    ghost faults = { λ s. s.faults };
+
+    fn write(&mut self, piece: &[u8]) -> Result<usize, Failed> {
+        if let Ok(count) = self.writer.write(piece) {
+            if count > 0 && self.writer.flush().is_ok() {
+                return Ok(count);
+            }
+        }
+        self.faults = self.faults.saturating_add(1);
+        Err(Failed)
+    }
+}

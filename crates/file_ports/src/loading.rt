@@ -1,0 +1,101 @@
+//! Whole files from `Files`, and whole texts to a `Sink`.
+ghost use Rattle.std.specs.Prelude.{◌≡◌, ◌<◌, ◌≤◌, ◌+◌, ◌^◌, ◌↔◌, ℕ, length, IsSome, IsNone, IfOk, IfSome, OnOk, OnErr, IsErrOf, option_map, vec_items};
+ghost use Rattle.std.specs.Io.KnownBytes.{Appends, Consumes, IsAtEnd};
+ghost use Rattle.file_ports.specs.Counts.{HasCause};
+ghost use Rattle.file_ports.specs.Loading.{HasReadCause, HasPathReadCause, IsLonger, Takes, AppendsFront};
+ghost use Rattle.file_ports.specs.Ports.{file_at};
+
+use crate::ports::{Failed, Files, Presence, Sink};
+use std::alloc::Global;
+
+/// Why a file could not be loaded.
+#[derive(Clone, Copy, Debug, PartialEq, Eq)]
+pub enum LoadFault {
+    /// Opening it or a read failed.
+    Read,
+    /// It has more bytes than may be loaded.
+    TooLong,
+    /// There was no memory.
+    NoMemory,
+}
+
+const CHUNK: usize = 4096;
+
+/// Reads the file in hand to its end, at most so many bytes and one more.
+fn read_rest<F: Files>(alloc: Global, files: &mut F, most: usize) -> Result<Vec<u8>, LoadFault>
+    requires in_hand { IsSome (F.in_hand files.old) }
+    requires most { most ≤ 2 ^ 30 }
+    ensures same { F.files files.new ≡ F.files files.old }
+    ensures in_hand { F.in_hand files.new ≡ F.in_hand files.old }
+    ensures whole { IfOk result (λ v. Consumes (F.left files.old) (F.left files.new) v.items × IsAtEnd (F.left files.new)) }
+    ensures bound { IfOk result (λ v. length v.items ≤ most) }
+    ensures takes { Takes most (F.left files.old) (F.left files.new) result }
+    ensures cause { HasReadCause (F.faults files.old) (F.faults files.new) result }
+    ensures path_cause { IfSome (F.in_hand files.old) (λ path. HasPathReadCause (IsSome (F.files files.old)) path
+        (F.faults_of files.old) (F.faults_of files.new) result) }
+{
+    let mut bytes = Vec::new(alloc);
+    let mut buffer = [0; CHUNK];
+    while bytes.len() <= most {
+        let room = (most + 1 - bytes.len()).min(CHUNK);
+        let Ok(count) = files.read(&mut buffer[..room]) else {
+            return Err(LoadFault::Read);
+        };
+        if count == 0 {
+            return Ok(bytes);
+        }
+        if bytes.extend_from_slice(&buffer[..count]).is_err() {
+            return Err(LoadFault::NoMemory);
+        }
+    }
+    Err(LoadFault::TooLong)
+}
+
+/// Loads the whole file with this path, or none where it is absent. The file may have at most `most` bytes.
+pub fn load<F: Files>(
+    alloc: Global,
+    files: &mut F,
+    path: &str,
+    most: u64,
+) -> Result<Option<Vec<u8>>, LoadFault>
+    requires { most ≤ 2 ^ 30 }
+    ensures same { F.files files.new ≡ F.files files.old }
+
+    // `None` exactly where the file was answered absent: then none is in hand.
+    ensures absent { IfOk result (λ o. IsNone o ↔ (F.in_hand files.new ≡ None)) }
+
+    // Where the files are told: the whole file, or none exactly where there is none.
+    ensures found { IfSome (F.files files.old) (λ m.
+        IfOk result (λ o. option_map vec_items o ≡ file_at m path.now)) }
+    ensures bound { IfOk result (λ o. IfSome o (λ v. length v.items ≤ most)) }
+    ensures too_long { IsErrOf result LoadFault.TooLong → IsSome (F.in_hand files.new) }
+    ensures longer { IfSome (F.files files.old) (λ m.
+        IsErrOf result LoadFault.TooLong → IsLonger most (file_at m path.now)) }
+    ensures takes { IfSome (F.files files.old) (λ m.
+        IsSome (F.in_hand files.new) → Takes most (file_at m path.now) (F.left files.new) result) }
+    ensures cause { HasReadCause (F.faults files.old) (F.faults files.new) result }
+    ensures path_cause { HasPathReadCause (IsSome (F.files files.old)) path.now
+        (F.faults_of files.old) (F.faults_of files.new) result }
+{
+    match files.open_file(path) {
+        Err(Failed) => Err(LoadFault::Read),
+        Ok(Presence::Absent) => Ok(None),
+        Ok(Presence::Present) => match read_rest(alloc, files, most as usize) {
+            Ok(bytes) => Ok(Some(bytes)),
+            Err(fault) => Err(fault),
+        },
+    }
+}
+
+/// Writes all of these bytes, or a front of them where the sink fails.
+pub fn put_all<S: Sink>(sink: &mut S, bytes: &[u8]) -> Result<(), Failed>
+    ensures ok { OnOk result (Appends (S.written sink.old) (S.written sink.new) bytes.now) }
+    ensures err { OnErr result (AppendsFront (S.written sink.old) (S.written sink.new) bytes.now) }
+    ensures cause { HasCause (S.faults sink.old) (S.faults sink.new) result }
+{
+    let mut done = 0;
+    while done < bytes.len() {
+        done += sink.write(&bytes[done..])?;
+    }
+    Ok(())
+}

@@ -1,0 +1,90 @@
+//! Files in memory of which no call fails.
+ghost use Rattle.std.specs.Prelude.{◌≡◌, ◌<◌, min, length, OnOk, OnErr};
+
+use crate::ports::{Failed, Files, Presence};
+use crate::shelf::Shelf;
+use plan_model::NoMemory;
+use std::alloc::Global;
+
+/// Files in memory. Their counts of faults are always 0, so no call on them fails.
+#[derive(Drop)]
+pub struct SteadyFiles {
+    shelf: Shelf,
+}
+
+impl SteadyFiles {
+    ghost use Rattle.std.specs.Prelude.{[], None};
+    ghost use Rattle.file_ports.specs.Shelf.{PutsFile};
+    ghost use Rattle.file_ports.specs.Steady.{folder_of, hand_of, piece_of, SameFiles};
+
+    /// No files. A read gives at most `piece` bytes. It takes no memory.
+    pub fn new(alloc: Global, piece: usize) -> SteadyFiles
+        requires { 0 < piece }
+        ensures files { folder_of result ≡ [] }
+        ensures piece { piece_of result ≡ piece }
+        ensures hand { hand_of result ≡ None }
+    {
+        SteadyFiles {
+            shelf: Shelf::new(alloc, piece),
+        }
+    }
+
+    /// The path now holds these bytes, and no file is in hand. Without memory nothing changes.
+    pub fn add(&mut self, path: &str, bytes: &[u8]) -> Result<(), NoMemory>
+        ensures ok { OnOk result (PutsFile (folder_of self.old) (folder_of self.new) path.now bytes.now) }
+        ensures hand { OnOk result (hand_of self.new ≡ None) }
+        ensures err { OnErr result (SameFiles self.old self.new) }
+        ensures piece { piece_of self.new ≡ piece_of self.old }
+    {
+        self.shelf.add(path, bytes)
+    }
+}
+
+impl Files for SteadyFiles {
+    ghost use Rattle.std.specs.Prelude.{IsSome, IfSome, IfOk, Some, IsOk};
+    ghost use Rattle.std.specs.Io.{ReadsAtMost};
+    ghost use Rattle.std.specs.Io.KnownBytes.{ReadConsumes};
+    ghost use Rattle.file_ports.specs.Counts.{HasCause, HasPathCause};
+    ghost use Rattle.file_ports.specs.Ports.{Opens, TakesInHand};
+    ghost use Rattle.file_ports.specs.Steady.{folder_of, hand_of, left_of, piece_of};
+
+    ghost files = { λ s. Some (folder_of s) };
+
+    ghost in_hand = { hand_of };
+
+    ghost left = { left_of };
+
+    ghost faults = { λ _. 0 };
+
+    ghost faults_of = { λ _ _. 0 };
+
+    fn open_file(&mut self, path: &str) -> Result<Presence, Failed>
+        ensures same { Some (folder_of self.new) ≡ Some (folder_of self.old) }
+        ensures opens { Opens (Some (folder_of self.old)) path.now result (left_of self.new) }
+        ensures in_hand { TakesInHand (IsSome (Some (folder_of self.old))) path.now result (hand_of self.new) }
+        ensures cause { HasCause 0 0 result }
+        ensures path_cause { HasPathCause (IsSome (Some (folder_of self.old))) path.now (λ _. 0) (λ _. 0) result }
+        ensures never_fails { IsOk result }
+        ensures piece { piece_of self.new ≡ piece_of self.old }
+    {
+        Ok(self.shelf.open(path))
+    }
+
+    fn read(&mut self, buffer: &mut [u8]) -> Result<usize, Failed>
+        requires in_hand { IsSome (hand_of self.old) }
+        requires room { 0 < length buffer.old }
+        ensures same { Some (folder_of self.new) ≡ Some (folder_of self.old) }
+        ensures in_hand { hand_of self.new ≡ hand_of self.old }
+        ensures bound { ReadsAtMost result buffer.new }
+        ensures bytes { ReadConsumes (left_of self.old) (left_of self.new) result buffer.new }
+        ensures cause { HasCause 0 0 result }
+        ensures path_cause { IfSome (hand_of self.old) (λ path.
+            HasPathCause (IsSome (Some (folder_of self.old))) path (λ _. 0) (λ _. 0) result) }
+        ensures never_fails { IsOk result }
+        ensures count { IfOk result (λ n. IfSome (left_of self.old) (λ left.
+            n ≡ min (min (piece_of self.old) (length buffer.old)) (length left))) }
+        ensures piece { piece_of self.new ≡ piece_of self.old }
+    {
+        Ok(self.shelf.read(buffer))
+    }
+}

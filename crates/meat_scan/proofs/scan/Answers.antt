@@ -1,0 +1,73 @@
+use Rattle.std.proofs.Common.{◌∙◌, sym, subst, arith, refl}
+use Rattle.std.proofs.lemmas.List.{length-map}
+use Rattle.stop_profile.proofs.Gaps.{written_back}
+use Rattle.meat_scan.specs.Tables.{FitsTables}
+use Rattle.meat_scan.proofs.States.{first_state, next_state, last_state, next_there, room_for_run, room_for_row, room_next, found_rows-profiles}
+use Rattle.meat_scan.proofs.scan.Goals as goal
+
+pub loop-id-init : goal.loop-id-init
+loop-id-init g c =
+    let fit = subst (FitsTables c.args.network.now) (sym c.tables.view_is) c.requires.tables_fit in
+    record {
+      valid = fit.valid;
+      fits = c.requires.fits;
+      room = fit.room (g.B.BackwardOrder.rest c.args.order.now c.args.network.now) c.requires.whole;
+      state = first_state g.V.Score.laws c.args.network.now fit.valid c.args.query.now (g.B.BackwardOrder.rest c.args.order.now c.args.network.now) c.requires.whole _ _ fit.empty;
+    }
+
+pub scan_one-start-requires-clause-there : goal.scan_one-start-requires-clause-there
+scan_one-start-requires-clause-there g c =
+    let loop = c.loop-id.invariant in
+    let state = rw c.in-Some.ensures.last at loop.state in
+    next_there g.V.Score.laws c.args.network.now loop.valid c.args.query.now (g.B.BackwardOrder.rest c.args.order.now c.args.network.now) c.requires.whole (g.B.BackwardOrder.rest c.next.new.self c.args.network.now) c.in-Some.id c.loop-id.profiles.items c.loop-id.exits c.loop-id.start state
+
+pub scan_one-start-requires-clause-run : goal.scan_one-start-requires-clause-run
+scan_one-start-requires-clause-run g c =
+    let loop = c.loop-id.invariant in
+    let room = rw c.in-Some.ensures.last at loop.room in
+    let state = rw c.in-Some.ensures.last at loop.state in
+    let there = next_there g.V.Score.laws c.args.network.now loop.valid c.args.query.now (g.B.BackwardOrder.rest c.args.order.now c.args.network.now) c.requires.whole (g.B.BackwardOrder.rest c.next.new.self c.args.network.now) c.in-Some.id c.loop-id.profiles.items c.loop-id.exits c.loop-id.start state in
+    room_for_run c.args.network.now loop.valid (g.B.BackwardOrder.rest c.next.new.self c.args.network.now) c.in-Some.id there c.loop-id.profiles.items c.loop-id.exits c.loop-id.kids.items room
+
+pub scan_one-start-requires-clause-room : goal.scan_one-start-requires-clause-room
+scan_one-start-requires-clause-room g c =
+    let loop = c.loop-id.invariant in
+    let room = rw c.in-Some.ensures.last at loop.room in
+    let state = rw c.in-Some.ensures.last at loop.state in
+    let there = next_there g.V.Score.laws c.args.network.now loop.valid c.args.query.now (g.B.BackwardOrder.rest c.args.order.now c.args.network.now) c.requires.whole (g.B.BackwardOrder.rest c.next.new.self c.args.network.now) c.in-Some.id c.loop-id.profiles.items c.loop-id.exits c.loop-id.start state in
+    rw c.deref_mut.ensures.value (room_for_row c.args.network.now loop.valid (g.B.BackwardOrder.rest c.next.new.self c.args.network.now) c.in-Some.id there c.loop-id.profiles.items c.loop-id.exits c.loop-id.kids.items room)
+
+pub loop-id-preserved : goal.loop-id-preserved
+loop-id-preserved g c =
+    let loop = c.loop-id.invariant in
+    let one = c.scan_one-start in
+    let rest = g.B.BackwardOrder.rest c.next.new.self c.args.network.now in
+    let room = rw c.in-Some.ensures.last at loop.room in
+    let state = rw c.in-Some.ensures.last at loop.state in
+    let there = next_there g.V.Score.laws c.args.network.now loop.valid c.args.query.now (g.B.BackwardOrder.rest c.args.order.now c.args.network.now) c.requires.whole rest c.in-Some.id c.loop-id.profiles.items c.loop-id.exits c.loop-id.start state in
+    let profiles_whole = c.loop-id.profiles.ok.0 in
+    let kids_whole = c.loop-id.kids.ok.0 in
+    let profiles_are = written_back one.new.profiles c.loop-id.profiles.items c.loop-id.profiles.len (omega arith) (omega arith) in
+    let kids_are = written_back one.new.kids c.loop-id.kids.items c.loop-id.kids.len (omega arith) (omega arith) in
+    let old = c.deref_mut.ensures.value in
+    rw (profiles_are, kids_are) (record {
+      valid = loop.valid;
+      fits = c.in-Some.ensures.fits;
+      room = room_next c.args.network.now loop.valid rest c.in-Some.id there c.loop-id.profiles.items c.loop-id.exits c.loop-id.kids.items room one.new.profiles one.new.exits one.new.kids (rw old at one.ensures.spare) (rw old at one.ensures.others) (rw old at one.ensures.places) one.ensures.runs (omega arith);
+      state = next_state g.V.Score.laws c.args.network.now loop.valid c.args.query.now (g.B.BackwardOrder.rest c.args.order.now c.args.network.now) c.requires.whole rest c.in-Some.id c.loop-id.profiles.items one.new.profiles c.loop-id.exits one.new.exits c.loop-id.start one.result state (rw old at one.ensures.rows) (rw old at one.ensures.exits) (rw old at one.ensures.start);
+    })
+
+pub returns-clause-solves : goal.returns-clause-solves
+returns-clause-solves g c =
+    let score = g.V.Score in
+    let loop = c.loop-id.invariant in
+    let told = c.in_default.ensures.none.0 refl in
+    let rows_are = found_rows-profiles c.loop-id.start c.args.query.now.target.0 c.loop-id.profiles.items in
+    record {
+      as_many = length-map c.loop-id.profiles.items (λ profile. profile.rows) ∙ loop.room.places;
+      same_target = refl;
+      source_there = c.requires.source;
+      target_there = c.requires.target;
+      differ = c.requires.differ;
+      answers = last_state score.laws c.args.network.now loop.valid c.args.query.now (g.B.BackwardOrder.rest c.args.order.now c.args.network.now) c.requires.whole (g.B.BackwardOrder.rest c.loop-id.order c.args.network.now) c.loop-id.profiles.items c.loop-id.exits _ c.requires.differ told rows_are loop.state;
+    }

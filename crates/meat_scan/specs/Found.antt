@@ -1,0 +1,37 @@
+-- What a scan found, and the trees that it chooses.
+use Rattle.std.specs.Prelude.{ℕ, List, [], Option, Some, slice_index_or}
+use Rattle.std.specs.Option.{option_map}
+use Rattle.plan_model.specs.declared.model.Leg.{Leg}
+use Rattle.plan_model.specs.declared.model.Query.{Query}
+use Rattle.plan_model.specs.Parts.{Parts}
+use Rattle.plan_model.specs.Tree.{Tree}
+use Rattle.plan_model.specs.Unfold.{unfold_from, unfolded, by_place}
+use Rattle.stop_profile.specs.declared.Row.{Row}
+use Rattle.stop_profile.specs.Inserts.{picked}
+
+-- the start leg with its value, the rows of each place, and the target of the scan
+pub record Found (V : Type 0) : Type 0 where
+  pub start : Option (V × Leg)
+  pub rows : List (List (Row V))
+  pub target : ℕ
+
+-- the rows of a place
+abbrev pub found_rows : {V : Type 0} → Found V → ℕ → List (Row V)
+found_rows found place = slice_index_or found.rows place []
+
+-- what is chosen after an arrival at a place
+abbrev pub choice_of : {V : Type 0} → Found V → ℕ → ℕ → Option (V × Leg)
+choice_of found place arrival = option_map (λ row. (row.value, row.leg)) (picked arrival (found_rows found place))
+
+-- the leg that is chosen after an arrival at a place
+abbrev pub leg_choice : {V : Type 0} → Found V → ℕ → ℕ → Option Leg
+leg_choice found place arrival = option_map (λ choice. choice.1) (choice_of found place arrival)
+
+-- the tree that is chosen after an arrival at a place
+abbrev pub chosen_at : {V : Type 0} → Parts → Query → Found V → ℕ → ℕ → Tree
+chosen_at n q found place arrival =
+    unfold_from n q.target.0 (by_place n (leg_choice found)) (leg_choice found place arrival) place arrival
+
+-- the tree that is chosen by a start leg
+abbrev pub chosen_by : {V : Type 0} → Parts → Query → Found V → Leg → Tree
+chosen_by n q found leg = unfolded n q (by_place n (leg_choice found)) (Some leg)

@@ -1,0 +1,5 @@
+pub mod Values
+pub mod Step
+pub mod Found
+pub mod Solves
+pub mod Tables

@@ -1,0 +1,53 @@
+-- The tables of a scan.
+use Rattle.std.specs.Prelude.{◌≡◌, ℕ, ◌<◌, ◌≤◌, List, [], length, Option, None, slice_index_or, count_by, ◌==◌}
+use Rattle.plan_model.specs.declared.model.ConnectionId.{ConnectionId}
+use Rattle.plan_model.specs.Parts.{Parts}
+use Rattle.plan_model.specs.Network.{count, from_of, run_of, IsValid}
+use Rattle.plan_model.specs.Order.{IsScanOrder}
+use Rattle.stop_profile.specs.declared.Row.{Row}
+use Rattle.stop_profile.specs.Shown.{Shown}
+use Rattle.trip_exit.specs.Offers.{Exit}
+
+-- what stands for the profile of a place that is not there
+abbrev pub no_profile : {V : Type 0} → Shown V
+no_profile = record { spare = 0; rows = [] }
+
+-- the rows of each place
+abbrev pub rows_at : {V : Type 0} → List (Shown V) → ℕ → List (Row V)
+rows_at profiles place = (slice_index_or profiles place no_profile).rows
+
+-- the room of each place
+abbrev pub spare_at : {V : Type 0} → List (Shown V) → ℕ → ℕ
+spare_at profiles place = (slice_index_or profiles place no_profile).spare
+
+-- the exit of each run
+abbrev pub exit_at : {V : Type 0} → List (Option (Exit V)) → ℕ → Option (Exit V)
+exit_at exits run = slice_index_or exits run None
+
+-- how many of the connections leave a place
+abbrev pub leaving : Parts → ℕ → List ConnectionId → ℕ
+leaving network place ids = count_by (λ id. from_of network id.0 == place) ids
+
+-- the tables have room for the connections that are left
+pub record HasRoom {V : Type 0} (network : Parts) (rest : List ConnectionId) (profiles : List (Shown V)) (exits : List (Option (Exit V))) (kids : List V) : Type 0 where
+  pub places : length profiles ≡ length network.change
+  pub runs : (i : ℕ) → i < count network → run_of network i < length exits
+  pub room : (place : ℕ) → place < length profiles → leaving network place rest ≤ spare_at profiles place
+  pub outcomes : 64 ≤ length kids
+
+-- nothing is kept yet
+pub record IsEmpty {V : Type 0} (profiles : List (Shown V)) (exits : List (Option (Exit V))) : Type 0 where
+  pub no_rows : (place : ℕ) → rows_at profiles place ≡ []
+  pub no_exits : (run : ℕ) → exit_at exits run ≡ None
+
+-- the memory of a scan, as clauses see it
+pub record Tables (V : Type 0) : Type 0 where
+  pub profiles : List (Shown V)
+  pub exits : List (Option (Exit V))
+  pub kids : List V
+
+-- the tables are empty, and were made for the network, which is valid
+pub record FitsTables {V : Type 0} (network : Parts) (tables : Tables V) : Type 0 where
+  pub valid : IsValid network
+  pub empty : IsEmpty tables.profiles tables.exits
+  pub room : (order : List ConnectionId) → IsScanOrder network order → HasRoom network order tables.profiles tables.exits tables.kids

@@ -1,0 +1,368 @@
+//! The backward scan.
+#![tactic(auto)]
+
+ghost use Rattle.std.specs.Prelude.{◌≡◌, ◌≢◌, ℕ, ◌+◌, ◌-◌, ◌<◌, ◌≤◌, length, All, Some, None, MatchBool, take, Option, [], IfOk, slice_index, count_by, ◌==◌};
+ghost use Rattle.plan_model.specs.Network.{count, from_of, run_of, IsValid};
+ghost use Rattle.plan_model.specs.Order.{IsScanOrder};
+ghost use Rattle.meat_scan.specs.Tables.{rows_at, spare_at, exit_at, FitsTables};
+ghost use Rattle.meat_scan.specs.Found.{choice_of};
+ghost use Rattle.meat_scan.specs.Values.{value_at, values_after};
+ghost use Rattle.meat_scan.specs.Step.{left_by, exits_with, rows_with, start_with, boarded, leg_of, rows_next, exits_next, start_next};
+ghost use Rattle.meat_scan.specs.Solves.{Solves};
+
+use plan_model::{
+    BackwardOrder, ConnectionId, Leg, Moment, Network, NoMemory, Outcome, PlaceId, Query, RunId,
+};
+use std::alloc::Global;
+use std::marker::Model;
+use stop_profile::Profile;
+use trip_exit::ExitTable;
+use value_laws::Score;
+
+// The value of what is done after an arrival at a place, where that is safe.
+fn value_after<V: Score>(
+    profiles: &[Profile<V>],
+    place: PlaceId,
+    arrival: Moment,
+    query: &Query,
+) -> Option<V>
+    requires place { place.0 < length profiles.now }
+    requires soon { arrival.0 < 13601174401 }
+    ensures { result ≡ value_at V.arrived query.now.target.0 query.now.deadline.0 (rows_at profiles.now) place.0 arrival.0 }
+{
+    if place == query.target {
+        if arrival <= query.deadline {
+            Some(V::arrive(arrival))
+        } else {
+            None
+        }
+    } else {
+        match profiles[place.0 as usize].first(arrival) {
+            Some(row) => Some(row.value),
+            None => None,
+        }
+    }
+}
+
+// Whether all outcomes are safe; then their values stand in front in `kids`.
+fn fill_kids<V: Score>(
+    profiles: &[Profile<V>],
+    row: &[Outcome],
+    place: PlaceId,
+    scheduled: Moment,
+    query: &Query,
+    kids: &mut [V],
+) -> bool
+    requires place { place.0 < length profiles.now }
+    requires soon { scheduled.0 < 13601088000 }
+    requires delays { All (λ o. o.delay ≤ 86400) row.now }
+    requires room { length row.now ≤ length kids.old }
+    ensures filled { MatchBool result (values_after V.arrived query.now.target.0 query.now.deadline.0 (rows_at profiles.now) place.0 scheduled.0 row.now ≡ Some (take (length row.now) kids.new)) (values_after V.arrived query.now.target.0 query.now.deadline.0 (rows_at profiles.now) place.0 scheduled.0 row.now ≡ None) }
+    ensures len { length kids.new ≡ length kids.old }
+{
+    for k in 0..row.len() {
+        let arrival = Moment(scheduled.0 + row[k].delay as u64);
+        match value_after(profiles, place, arrival, query) {
+            Some(value) => kids[k] = value,
+            None => return false,
+        }
+    }
+    true
+}
+
+// Puts a connection, boarded for an exit, into the rows of the place that it leaves.
+fn board<V: Score>(
+    profiles: &mut [Profile<V>],
+    network: &Network,
+    query: &Query,
+    id: ConnectionId,
+    exit: Option<(V, ConnectionId)>,
+)
+    requires there { id.0 < count network.now }
+    requires places { length profiles.old ≡ length network.now.change }
+    requires from { from_of network.now id.0 < length network.now.change }
+    requires room { 1 ≤ spare_at profiles.old (from_of network.now id.0) }
+    ensures rows { (place : ℕ) → rows_at profiles.new place ≡ rows_with V.rank V.lowered network.now query.now id.0 exit (rows_at profiles.old) place }
+    ensures spare { spare_at profiles.old (from_of network.now id.0) ≤ spare_at profiles.new (from_of network.now id.0) + 1 }
+    ensures others { (place : ℕ) → place ≢ from_of network.now id.0 → spare_at profiles.new place ≡ spare_at profiles.old place }
+    ensures len { length profiles.new ≡ length profiles.old }
+{
+    let Some((value, exit)) = exit else {
+        return;
+    };
+    let connection = network.get(id);
+    let change = network.change(connection.from) as u64;
+    if connection.from == query.target || connection.dep.0 < change {
+        return;
+    }
+    let by = Moment(connection.dep.0 - change);
+    let profile = &mut profiles[connection.from.0 as usize];
+    profile.insert(by, value, Leg { enter: id, exit });
+}
+
+// The start leg, with a connection that is boarded for an exit.
+fn begin<V: Score>(
+    network: &Network,
+    query: &Query,
+    id: ConnectionId,
+    exit: Option<(V, ConnectionId)>,
+    start: Option<(V, Leg)>,
+) -> Option<(V, Leg)>
+    requires there { id.0 < count network.now }
+    ensures { result ≡ start_with V.rank V.lowered network.now query.now id.0 exit start }
+{
+    let Some((value, exit)) = exit else {
+        return start;
+    };
+    let connection = network.get(id);
+    if connection.from != query.source || connection.dep < query.start {
+        return start;
+    }
+    let leg = Leg { enter: id, exit };
+    match start {
+        None => Some((value, leg)),
+        Some(kept) if value.better(&kept.0) => Some((value.lower_to(&kept.0), leg)),
+        Some(kept) => Some((kept.0.lower_to(&value), kept.1)),
+    }
+}
+
+// The value of leaving a run by a connection, where that is allowed and safe.
+fn left_value<V: Score>(
+    profiles: &[Profile<V>],
+    network: &Network,
+    query: &Query,
+    id: ConnectionId,
+    kids: &mut [V],
+) -> Option<V>
+    requires valid { IsValid network.now }
+    requires there { id.0 < count network.now }
+    requires places { length profiles.now ≡ length network.now.change }
+    requires outcomes { 64 ≤ length kids.old }
+    ensures value { result ≡ left_by V.arrived V.blended network.now query.now (rows_at profiles.now) id.0 }
+    ensures len { length kids.new ≡ length kids.old }
+{
+    let connection = network.get(id);
+    if !connection.can_exit {
+        return None;
+    }
+    let row = network.row(connection.class);
+    if !fill_kids(profiles, row, connection.to, connection.arr, query, kids) {
+        return None;
+    }
+    Some(V::blend(row, &kids[..row.len()]))
+}
+
+// Offers a connection as an exit of its run, where it has a value.
+fn leave<V: Score>(exits: &mut ExitTable<V>, run: RunId, id: ConnectionId, value: Option<V>)
+    requires { run.0 < length exits.old }
+    ensures exits { (other : ℕ) → exit_at exits.new other ≡ exits_with V.rank V.lowered id run.0 value (exit_at exits.old) other }
+    ensures len { length exits.new ≡ length exits.old }
+{
+    if let Some(value) = value {
+        exits.offer(run, value, id);
+    }
+}
+
+// The exit that a connection is boarded for, if it can be boarded.
+fn boarded_for<V: Score>(
+    exits: &ExitTable<V>,
+    network: &Network,
+    id: ConnectionId,
+) -> Option<(V, ConnectionId)>
+    requires there { id.0 < count network.now }
+    requires run { run_of network.now id.0 < length exits.now }
+    ensures { result ≡ boarded network.now id.0 (exit_at exits.now) }
+{
+    let connection = network.get(id);
+    if connection.can_board {
+        exits.best(connection.run)
+    } else {
+        None
+    }
+}
+
+// Scans one connection, and gives the start leg.
+fn scan_one<V: Score>(
+    profiles: &mut [Profile<V>],
+    exits: &mut ExitTable<V>,
+    kids: &mut [V],
+    start: Option<(V, Leg)>,
+    network: &Network,
+    query: &Query,
+    id: ConnectionId,
+) -> Option<(V, Leg)>
+    requires valid { IsValid network.now }
+    requires there { id.0 < count network.now }
+    requires places { length profiles.old ≡ length network.now.change }
+    requires run { run_of network.now id.0 < length exits.old }
+    requires outcomes { 64 ≤ length kids.old }
+    requires room { 1 ≤ spare_at profiles.old (from_of network.now id.0) }
+    ensures rows { (place : ℕ) → rows_at profiles.new place ≡ rows_next V.rank V.lowered V.arrived V.blended network.now query.now id.0 (rows_at profiles.old) (exit_at exits.old) place }
+    ensures exits { (run : ℕ) → exit_at exits.new run ≡ exits_next V.rank V.lowered V.arrived V.blended network.now query.now id.0 (rows_at profiles.old) (exit_at exits.old) run }
+    ensures start { result ≡ start_next V.rank V.lowered V.arrived V.blended network.now query.now id.0 (rows_at profiles.old) (exit_at exits.old) start }
+    ensures spare { spare_at profiles.old (from_of network.now id.0) ≤ spare_at profiles.new (from_of network.now id.0) + 1 }
+    ensures others { (place : ℕ) → place ≢ from_of network.now id.0 → spare_at profiles.new place ≡ spare_at profiles.old place }
+    ensures places { length profiles.new ≡ length profiles.old }
+    ensures runs { length exits.new ≡ length exits.old }
+    ensures outcomes { length kids.new ≡ length kids.old }
+{
+    let value = left_value(profiles, network, query, id, kids);
+    leave(exits, network.get(id).run, id, value);
+    let exit = boarded_for(exits, network, id);
+    board(profiles, network, query, id, exit);
+    begin(network, query, id, exit, start)
+}
+
+/// The memory of a scan.
+#[derive(Drop)]
+pub struct ScanTables<V: Score> {
+    profiles: Vec<Profile<V>>,
+    exits: ExitTable<V>,
+    kids: Vec<V>,
+}
+
+impl<V: Score> Model for ScanTables<V> {
+    ghost use Rattle.meat_scan.specs.Tables.{Tables};
+
+    ghost Value = { Tables V };
+
+    ghost view = { λ t. record { profiles = t.profiles.items; exits = t.exits; kids = t.kids.items } };
+}
+
+/// What a scan found.
+#[derive(Drop)]
+pub struct Scanned<V: Score> {
+    profiles: Vec<Profile<V>>,
+    start: Option<(V, Leg)>,
+    target: PlaceId,
+}
+
+impl<V: Score> Model for Scanned<V> {
+    ghost use Rattle.std.specs.Prelude.{map};
+    ghost use Rattle.meat_scan.specs.Found.{Found};
+
+    ghost Value = { Found V };
+
+    ghost view = { λ s. record { start = s.start; rows = map (λ profile. profile.rows) s.profiles.items; target = s.target.0 } };
+}
+
+impl<V: Score> ScanTables<V> {
+    /// Takes all the memory that a scan of the network needs.
+    pub fn reserve(alloc: Global, network: &Network) -> Result<ScanTables<V>, NoMemory>
+        ensures { IfOk result (FitsTables network.now) }
+    {
+        let room = leaving_counts(alloc, network)?;
+        let profiles = reserve_profiles(alloc, &room)?;
+        let exits = ExitTable::reserve(alloc, network.runs())?;
+        let kids = reserve_kids(alloc)?;
+        Ok(ScanTables {
+            profiles,
+            exits,
+            kids,
+        })
+    }
+}
+
+// How many connections leave each place.
+fn leaving_counts(alloc: Global, network: &Network) -> Result<Vec<u32>, NoMemory>
+    ensures len { IfOk result (λ room. length room.items ≡ length network.now.change) }
+    ensures valid { IfOk result (λ _. IsValid network.now) }
+    ensures counts { IfOk result (λ room. (place : ℕ) → place < length network.now.change → slice_index room.items place ≡ count_by (λ c. c.from.0 == place) network.now.connections) }
+{
+    let mut room: Vec<u32> = vec![in alloc; 0; network.places() as usize]?;
+    for id in 0..network.count() {
+        let connection = network.get(ConnectionId(id));
+        room[connection.from.0 as usize] += 1;
+    }
+    Ok(room)
+}
+
+fn reserve_profiles<V: Score>(alloc: Global, room: &[u32]) -> Result<Vec<Profile<V>>, NoMemory>
+    ensures len { IfOk result (λ profiles. length profiles.items ≡ length room.now) }
+    ensures empty { IfOk result (λ profiles. (place : ℕ) → rows_at profiles.items place ≡ []) }
+    ensures room { IfOk result (λ profiles. (place : ℕ) → place < length room.now → slice_index room.now place ≤ spare_at profiles.items place) }
+{
+    let mut profiles = Vec::new(alloc);
+    for rows in room {
+        let profile = Profile::reserve(alloc, *rows)?;
+        if profiles.push(profile).is_err() {
+            return Err(NoMemory);
+        }
+    }
+    Ok(profiles)
+}
+
+// As many values as a delay row may have outcomes.
+fn reserve_kids<V: Score>(alloc: Global) -> Result<Vec<V>, NoMemory>
+    ensures { IfOk result (λ kids. length kids.items ≡ 64) }
+{
+    let mut kids = Vec::new(alloc);
+    for _ in 0..64u32 {
+        if kids.push(V::arrive(Moment(0))).is_err() {
+            return Err(NoMemory);
+        }
+    }
+    Ok(kids)
+}
+
+impl<V: Score> Scanned<V> {
+    /// The start leg with its value, if a strategy is safe.
+    pub fn start(&self) -> Option<(V, Leg)>
+        ensures { result ≡ self.now.start }
+    {
+        self.start
+    }
+
+    /// The leg to take after an arrival at a place, with its value.
+    pub fn choice(&self, place: PlaceId, arrival: Moment) -> Option<(V, Leg)>
+        requires there { place.0 < length self.now.rows }
+        requires away { place.0 ≢ self.now.target }
+        ensures { result ≡ choice_of self.now place.0 arrival.0 }
+    {
+        match self.profiles[place.0 as usize].first(arrival) {
+            Some(row) => Some((row.value, row.leg)),
+            None => None,
+        }
+    }
+}
+
+/// Scans all connections backwards.
+pub fn scan<V: Score, B: BackwardOrder>(
+    tables: ScanTables<V>,
+    network: &Network,
+    order: &mut B,
+    query: &Query,
+) -> Scanned<V>
+    requires tables_fit { FitsTables network.now tables }
+    requires fits { B.fits order.old network.now }
+    requires whole { IsScanOrder network.now (B.rest order.old network.now) }
+    requires source { query.now.source.0 < length network.now.change }
+    requires target { query.now.target.0 < length network.now.change }
+    requires differ { query.now.source.0 ≢ query.now.target.0 }
+    ensures solves { Solves V.below V.covers V.gap result network.now query.now }
+    ensures valid { IsValid network.now }
+    ensures fits { B.fits order.new network.now }
+{
+    let ScanTables {
+        mut profiles,
+        mut exits,
+        mut kids,
+    } = tables;
+    let mut start = None;
+    while let Some(id) = order.next(network) {
+        start = scan_one(
+            &mut profiles,
+            &mut exits,
+            &mut kids,
+            start,
+            network,
+            query,
+            id,
+        );
+    }
+    Scanned {
+        profiles,
+        start,
+        target: query.target,
+    }
+}

@@ -1,0 +1,6 @@
+pub mod Rows
+pub mod Unfold
+pub mod Ready
+pub mod Coherent
+pub mod Tidy
+pub mod Follows

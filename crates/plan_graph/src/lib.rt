@@ -1,0 +1,103 @@
+//! Decision graphs by ride and by place, what they pick, and what they unfold to.
+#![tactic(auto)]
+
+ghost use Rattle.std.specs.Prelude.{◌≡◌};
+ghost use Rattle.plan_graph.specs.Rows.{pick_row, pick_after, pick_at, leg_lt, HasRisingRows, HasRisingRides, HasRisingTables};
+
+use plan_model::{Leg, List, Moment, PlaceId};
+
+/// A leg that is taken after an arrival by this moment.
+#[derive(Clone, Copy, Debug, PartialEq, Eq)]
+pub struct GraphRow {
+    pub by: Moment,
+    pub leg: Leg,
+}
+
+/// A ride, and the legs that are taken after it.
+#[derive(Drop)]
+pub struct Ride {
+    pub leg: Leg,
+    pub after: List<GraphRow>,
+}
+
+/// A decision graph with a table for each ride. The rides rise by entry and exit, and the rows of
+/// each table by moment.
+#[derive(Drop)]
+pub struct ExpandedGraph {
+    pub start: Option<Leg>,
+    pub rides: List<Ride>,
+}
+
+/// The legs that are taken at a place.
+#[derive(Drop)]
+pub struct PlaceTable {
+    pub place: PlaceId,
+    pub rows: List<GraphRow>,
+}
+
+/// A decision graph with a table for each place. The places rise, and so do the rows of each table
+/// by moment.
+#[derive(Drop)]
+pub struct PlanGraph {
+    pub start: Option<Leg>,
+    pub tables: List<PlaceTable>,
+}
+
+// The leg of the first row that is not before the arrival.
+fn first_leg(rows: &[GraphRow], arrival: Moment) -> Option<Leg>
+    requires { HasRisingRows rows.now }
+    ensures { result ≡ pick_row rows.now arrival.0 }
+{
+    let at = rows.partition_point(|row| row.by.0 < arrival.0);
+    if at < rows.len() {
+        return Some(rows[at].leg);
+    }
+    None
+}
+
+// Whether one leg stands before another: by entry, and then by exit.
+fn precedes(a: Leg, b: Leg) -> bool
+    ensures { result ≡ leg_lt a b }
+{
+    a.enter.0 < b.enter.0 || a.enter.0 == b.enter.0 && a.exit.0 < b.exit.0
+}
+
+impl ExpandedGraph {
+    /// The leg that is taken after a ride that arrives at the moment: that of the first row that
+    /// is not before it. None where there is no such row.
+    pub fn pick(&self, leg: Leg, arrival: Moment) -> Option<Leg>
+        requires { HasRisingRides self.now.rides }
+        ensures { result ≡ pick_after self.now.rides leg arrival.0 }
+    {
+        let rides = self.rides.as_slice();
+        let at = rides.partition_point(|ride| precedes(ride.leg, leg));
+        if at == rides.len() {
+            return None;
+        }
+        let ride = &rides[at];
+        if ride.leg != leg {
+            return None;
+        }
+        first_leg(ride.after.as_slice(), arrival)
+    }
+}
+
+impl PlanGraph {
+    /// The leg that is taken after an arrival at the place: that of the first row that is not
+    /// before it. None where there is no such row.
+    pub fn pick(&self, place: PlaceId, arrival: Moment) -> Option<Leg>
+        requires { HasRisingTables self.now.tables }
+        ensures { result ≡ pick_at self.now.tables place.0 arrival.0 }
+    {
+        let tables = self.tables.as_slice();
+        let at = tables.partition_point(|table| table.place.0 < place.0);
+        if at == tables.len() {
+            return None;
+        }
+        let table = &tables[at];
+        if table.place != place {
+            return None;
+        }
+        first_leg(table.rows.as_slice(), arrival)
+    }
+}

@@ -1,0 +1,62 @@
+//! The least worst arrival, by the backward scan, and the deadline that follows from it.
+#![tactic(auto)]
+
+ghost use Rattle.std.specs.Prelude.{◌≡◌, ◌<◌, ◌≤◌, length, IfSome};
+ghost use Rattle.plan_model.specs.Order.{IsScanOrder};
+ghost use Rattle.plan_model.specs.Strategy.{LeastWorst, deadline_of};
+ghost use Rattle.meat_scan.specs.Tables.{FitsTables};
+
+use meat_scan::{ScanTables, scan};
+use plan_model::{BackwardOrder, Moment, Network, PlaceId, Query};
+use value_laws::WorstMoment;
+
+/// The least worst arrival at the target of all strategies that always reach it, from the source
+/// at the start. There is none where no strategy always reaches it.
+pub fn least_worst<B: BackwardOrder>(
+    tables: ScanTables<WorstMoment>,
+    network: &Network,
+    order: &mut B,
+    source: PlaceId,
+    target: PlaceId,
+    start: Moment,
+) -> Option<Moment>
+    requires tables_fit { FitsTables network.now tables }
+    requires fits { B.fits order.old network.now }
+    requires whole { IsScanOrder network.now (B.rest order.old network.now) }
+    requires source { source.0 < length network.now.change }
+    requires target { target.0 < length network.now.change }
+    requires start { start.0 < 13601174401 }
+    ensures least { LeastWorst network.now source.0 target.0 start.0 result }
+
+    // It is not before the start, and no later than a day after the last arrival of a network.
+    ensures order { IfSome result (λ worst. start.0 ≤ worst.0) }
+    ensures early { IfSome result (λ worst. worst.0 < 13601174401) }
+    ensures fits { B.fits order.new network.now }
+{
+    if source.0 == target.0 {
+        return Some(start);
+    }
+    let query = Query {
+        source,
+        target,
+        start,
+        deadline: Moment(13_601_174_400),
+    };
+    let scanned = scan(tables, network, order, &query);
+    match scanned.start() {
+        Some((worst, _)) => Some(worst.0),
+        None => None,
+    }
+}
+
+/// The deadline at a percentage of the time that the least worst arrival needs.
+pub fn deadline(start: Moment, worst: Moment, alpha: u32) -> Moment
+    requires order { start.0 ≤ worst.0 }
+    requires early { worst.0 < 13601174401 }
+    requires low { 100 ≤ alpha }
+    requires high { alpha ≤ 1000 }
+    ensures value { result.0 ≡ deadline_of start.0 worst.0 alpha }
+    ensures late { worst.0 ≤ result.0 }
+{
+    Moment(start.0 + (worst.0 - start.0) * u64::from(alpha) / 100)
+}
