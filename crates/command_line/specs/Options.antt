@@ -1,5 +1,6 @@
 -- The commands and the options by their words.
-use Rattle.std.specs.Prelude.{ℕ, List, [], ◌∷◌, Option, Some, None, Bool, if◌then◌else◌, codes, find}
+use Rattle.std.specs.Prelude.{ℕ, List, [], ◌∷◌, Option, Some, None, Bool, if◌then◌else◌, codes, find, ◌==◌}
+use Rattle.std.specs.Option.{option_map_or}
 use Rattle.std.specs.Str.{bytes_eq}
 use Rattle.command_line.specs.declared.options.Command.{Command}
 use Rattle.command_line.specs.declared.options.Command.TheVariants.{Safe, Expand}
@@ -37,6 +38,10 @@ option_number Size = 11
 -- the options by their numbers
 abbrev pub all_options : List OptionName
 all_options = Cut ∷ Feed ∷ Delays ∷ From ∷ To ∷ At ∷ Alpha ∷ Horizon ∷ Graph ∷ Late ∷ Size ∷ []
+
+-- the word of the option of this number
+abbrev pub option_word : ℕ → List ℕ
+option_word k = option_map_or option_name (find (λ option. option_number option == k) all_options) []
 
 -- the option that a word names
 abbrev pub option_named : List ℕ → Option OptionName

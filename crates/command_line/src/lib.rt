@@ -7,5 +7,5 @@ mod settings;
 mod values;
 
 pub use job::{Job, WordsFault, read_job};
-pub use options::{Command, OptionName};
+pub use options::{Command, OptionName, option_word};
 pub use settings::line_is_a_command_and_its_settings;

@@ -1,6 +1,6 @@
 //! The commands and the options by their words.
 ghost use Rattle.std.specs.Prelude.{◌≡◌, Some};
-ghost use Rattle.command_line.specs.Options.{option_name, option_number, option_named, command_named};
+ghost use Rattle.command_line.specs.Options.{option_name, option_number, option_word, command_named};
 
 /// What the program can be asked for.
 #[derive(Clone, Copy, Debug, PartialEq, Eq)]
@@ -90,5 +90,25 @@ impl OptionName {
             OptionName::Late => 10,
             OptionName::Size => 11,
         }
+    }
+}
+
+/// The word of the option of this number.
+pub fn option_word(number: u8) -> &'static str
+    ensures { result.now ≡ option_word number }
+{
+    match number {
+        1 => "--cut",
+        2 => "--feed",
+        3 => "--delays",
+        4 => "--from",
+        5 => "--to",
+        6 => "--at",
+        7 => "--alpha",
+        8 => "--horizon",
+        9 => "--graph",
+        10 => "--late",
+        11 => "--size",
+        _ => "",
     }
 }
