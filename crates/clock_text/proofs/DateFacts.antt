@@ -1,0 +1,66 @@
+-- Dates from 1970 on.
+use Rattle.std.proofs.Common.{◌≡◌, ℕ, ◌<◌, ◌≤◌, ◌⊎◌, inl, inr, arith, rules, pos, negsuc, ℤ, ◌≤ℤ◌, ◌<ℤ◌, true, refl, sym, ap, subst, ◌∙◌}
+use Rattle.std.specs.Prelude.{Some, None, if◌then◌else◌, unsigned_abs}
+use Rattle.std.proofs.lemmas.Bool.{cases_order}
+use Rattle.std.proofs.lemmas.Int.{by_lt_z}
+use Rattle.jiff_core.proofs.DateLemmas.{epoch_day-lt}
+use Rattle.std.proofs.lemmas.Bool.Decides.{nat_tests}
+use Rattle.jiff_core.specs.Calendar.{days_from_civil, day_count, days_in_month, IsEpochDay}
+use Rattle.jiff_core.specs.Date.{epoch_day}
+use Rattle.jiff_core.specs.declared.civil.date.Date.{Date}
+use Rattle.clock_text.specs.Times.{has_date, day_of}
+use Rattle.jiff_core.proofs.SignedLemmas.{signed_arith}
+use Rattle.jiff_core.proofs.CalendarLemmas.{days_from_civil-day_count, day_count-later_year, day_count-day_of_year, day_count-epoch}
+
+-- a later year counts more days
+year_counts : (y m d : ℕ) → 1 ≤ d → (1970 ≡ y) ⊎ ((1970 < y) ⊎ (y < 1970)) → 1970 ≤ y → day_count (pos 1970) 1 1 ≤ day_count (pos y) m d
+year_counts y m d low (inl same) h = rw (← same) (omega (arith, day_count-day_of_year (pos 1970) m d low))
+year_counts y m d low (inr (inl later)) h =
+    omega (arith, day_count-day_of_year (pos y) m d low, day_count-later_year (pos 1970) (pos y) (search rules) (omega (arith, signed_arith)))
+year_counts y m d low (inr (inr before)) h = absurd (omega arith)
+
+-- a date from 1970 on has a day number from 0 on
+pub after_epoch : (y m d : ℕ) → 1970 ≤ y → 1 ≤ d → pos 0 ≤ℤ days_from_civil (pos y) m d
+after_epoch y m d h low = omega (arith, signed_arith, days_from_civil-day_count, day_count-epoch, year_counts y m d low (cases_order 1970 y) h)
+
+pub has_date_true : (y m k : ℕ) → y ≤ 9999 → 1 ≤ m → m ≤ 12 → 1 ≤ k → k ≤ days_in_month (pos y) m → has_date y m k ≡ true
+has_date_true y m k a b c d e = grind (arith, nat_tests)
+
+-- the number of a date that has these parts
+pub day_is : (date : Date) (y m k : ℕ) → date.year ≡ pos y → pos date.month ≡ pos m → pos date.day ≡ pos k → (r : ℤ) → r ≡ epoch_day date → Some r ≡ day_of y m k
+day_is date y m k a b c r e =
+    let b' : date.month ≡ m = cc in
+    let c' : date.day ≡ k = cc in
+    let last : k ≤ days_in_month (pos y) m =
+    let P : ℤ → Type 0 = λ z. k ≤ days_in_month z m in
+    subst P a (let Q : ℕ → Type 0 = λ j. k ≤ days_in_month date.year j in subst Q b' (let R : ℕ → Type 0 = λ j. j ≤ days_in_month date.year date.month in subst R c' date.day_in.1)) in
+    let year : y ≤ 9999 = omega (arith, signed_arith, date.year_in) in
+    let t : has_date y m k ≡ true = has_date_true y m k year (rw (← b') date.month_in.0) (rw (← b') date.month_in.1) (rw (← c') date.day_in.0) last in
+    let f : epoch_day date ≡ days_from_civil (pos y) m k = rw (a, b', c') refl in
+    ap Some (e ∙ f) ∙ ap (λ b. if◌then◌else◌ b (Some (days_from_civil (pos y) m k)) None) (sym t)
+
+epoch : Date
+epoch = record { year = pos 1970; month = 1; day = 1; year_in = search rules; month_in = search rules; day_in = search rules }
+
+epoch_is : epoch_day epoch ≡ pos 0
+unfolding epoch
+epoch_is = omega (arith, signed_arith, days_from_civil-day_count, day_count-epoch)
+
+-- a day number is no greater than the days that a span may have
+pub day_size : (day : ℤ) → IsEpochDay day → unsigned_abs day ≤ 7_304_484
+day_size (pos k) h = omega (arith, signed_arith, h.1)
+day_size (negsuc k) h = omega (arith, signed_arith, h.0)
+
+-- the day number of the first day of 1970
+pub epoch_day_zero : (d : Date) → d.year ≡ pos 1970 → pos d.month ≡ pos 1 → pos d.day ≡ pos 1 → epoch_day d ≡ pos 0
+epoch_day_zero d a b c =
+    let b' : d.month ≡ 1 = cc in
+    let c' : d.day ≡ 1 = cc in
+    let parts : epoch_day d ≡ days_from_civil (pos 1970) 1 1 = rw (a, b', c') refl in
+    let zero_days : days_from_civil (pos 1970) 1 1 ≡ pos 0 = omega (arith, signed_arith, days_from_civil-day_count, day_count-epoch) in
+    parts ∙ zero_days
+
+-- a day number from 0 on is of a year from 1970 on
+pub year_from : (d : Date) → pos 0 ≤ℤ epoch_day d → pos 1970 ≤ℤ d.year
+unfolding epoch
+year_from d h = by_lt_z d.year (pos 1970) (λ lt. absurd (let k : epoch_day d <ℤ epoch_day epoch = epoch_day-lt d epoch (inl lt) in omega (arith, signed_arith, epoch_is))) (λ ge. ge)

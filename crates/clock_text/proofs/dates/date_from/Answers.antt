@@ -1,0 +1,32 @@
+use Rattle.std.proofs.Common.{arith, ◌≡◌, ◌∙◌, ℤ, pos, ◌+ℤ◌, FitsSigned, w32, w64}
+use Rattle.std.proofs.lemmas.Result.{IfOk-at_ok}
+use Rattle.std.proofs.lemmas.Int.{to_z-of_z}
+use Rattle.jiff_core.proofs.SignedLemmas.{signed_arith}
+use Rattle.jiff_core.specs.Date.{epoch_day}
+use Rattle.jiff.proofs.SpanFacts.{date_add-days, can_add-days}
+use Rattle.clock_text.proofs.DateFacts.{epoch_day_zero, day_size}
+use Rattle.clock_text.proofs.dates.date_from.Goals as goal
+
+pub days-requires : goal.days-requires
+days-requires c =
+    let d : c.from.result ≡ c.args.day = c.from.ensures ∙ to_z-of_z w32 c.args.day c.ranges.day in
+    let day64 : FitsSigned w64 c.from.result = omega (arith, signed_arith, d) in
+    rw (to_z-of_z w64 c.from.result day64, d) (day_size c.args.day c.requires)
+
+pub unwrap-requires : goal.unwrap-requires
+unwrap-requires c =
+    let d : c.from.result ≡ c.args.day = c.from.ensures ∙ to_z-of_z w32 c.args.day c.ranges.day in
+    let day64 : FitsSigned w64 c.from.result = omega (arith, signed_arith, d) in
+    let only = rw (to_z-of_z w64 c.from.result day64, d) at c.days.ensures in
+    let first : epoch_day c.date.result ≡ pos 0 = epoch_day_zero c.date.result c.date.ensures.0 c.date.ensures.1 c.date.ensures.2 in
+    c.checked_add.ensures.succeeds.1
+    ((can_add-days c.date.result c.args.day c.days.result only).1 (omega (arith, signed_arith, first, c.requires.0), omega (arith, signed_arith, first, c.requires.1)))
+
+pub returns : goal.returns
+returns c =
+    let d : c.from.result ≡ c.args.day = c.from.ensures ∙ to_z-of_z w32 c.args.day c.ranges.day in
+    let day64 : FitsSigned w64 c.from.result = omega (arith, signed_arith, d) in
+    let only = rw (to_z-of_z w64 c.from.result day64, d) at c.days.ensures in
+    let first : epoch_day c.date.result ≡ pos 0 = epoch_day_zero c.date.result c.date.ensures.0 c.date.ensures.1 c.date.ensures.2 in
+    let sum : epoch_day c.date.result +ℤ c.args.day ≡ c.args.day = omega (arith, signed_arith, first) in
+    IfOk-at_ok _ c.unwrap.ensures c.checked_add.ensures.value ∙ date_add-days c.date.result c.args.day c.days.result only ∙ sum
