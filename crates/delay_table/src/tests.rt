@@ -1,0 +1,88 @@
+use super::*;
+use csv_rows::{Column, Rows};
+use plan_model::ClassId;
+use std::alloc::Global;
+use std::test::Fail;
+
+fn read(alloc: Global, text: &[u8]) -> Result<DelayTable, DelayFault> {
+    let Ok(rows) = Rows::read(alloc, text) else {
+        return Err(DelayFault::NoMemory);
+    };
+    DelayTable::read(alloc, &rows)
+}
+
+#[test]
+fn reads_classes(rt: HostRuntime) -> Result<(), Fail> {
+    let text = b"weight,class,delay\n4000,003,0\n9000,*,0\n1000,*,300\n10000,0,60\n6000,3,120\n";
+    let Ok(table) = read(rt.alloc(), text) else {
+        return Err("no table".into());
+    };
+    assert_eq!(rt; table.class_of(0), ClassId(1));
+    assert_eq!(rt; table.class_of(3), ClassId(2));
+    assert_eq!(rt; table.class_of(7), ClassId(0));
+    assert_eq!(rt; table.row(ClassId(0)).len(), 2);
+    assert_eq!(rt; table.greatest(ClassId(0)), 300);
+    let Ok(classes) = table.classes(rt.alloc()) else {
+        return Err("no memory".into());
+    };
+    assert_eq!(rt; classes.len(), 3);
+    assert_eq!(rt; classes.as_slice()[2].as_slice().len(), 2);
+    assert_eq!(rt; classes.as_slice()[2].as_slice()[1].delay, 120);
+    Ok(())
+}
+
+#[test]
+fn first_fault(rt: HostRuntime) {
+    for (text, fault) in [
+        (
+            "class,delay\n*,0\n",
+            DelayFault::MissingColumn(Column::Weight),
+        ),
+        (
+            "class,delay,weight\n*,86401,1\n*,0,0\n",
+            DelayFault::BadField(2),
+        ),
+        ("class,delay,weight\n65535,0,1\n", DelayFault::BadField(2)),
+        (
+            "class,delay,weight\n*,0,8000\n*,300,1500\n*,300,500\n*,x,500\n",
+            DelayFault::NotRising(4),
+        ),
+        (
+            "class,delay,weight\n*,0,8000\n*,300,1500\n*,900,499\n",
+            DelayFault::WeightSum(ClassName::Any, 9999),
+        ),
+        (
+            "class,delay,weight\n5,0,1\n2,0,1\n*,0,2\n",
+            DelayFault::WeightSum(ClassName::Any, 2),
+        ),
+        (
+            "class,delay,weight\n5,0,1\n2,0,1\n*,0,10000\n",
+            DelayFault::WeightSum(ClassName::Route(2), 1),
+        ),
+        ("class,delay,weight\n3,0,10000\n", DelayFault::NoDefault),
+    ] {
+        assert_eq!(rt;
+            read(rt.alloc(), text.as_bytes()).err(),
+            Some(fault),
+            "{text}"
+        );
+    }
+}
+
+#[test]
+fn sixty_five_rows(rt: HostRuntime) -> Result<(), Fail> {
+    let Ok(mut text) = Vec::from_slice(rt.alloc(), b"class,delay,weight\n") else {
+        return Err("no memory".into());
+    };
+    for delay in 0..65u32 {
+        let Ok(line) = format!(in rt.alloc(); "3,{delay},1\n") else {
+            return Err("no memory".into());
+        };
+        if text.extend_from_slice(line.as_bytes()).is_err() {
+            return Err("no memory".into());
+        }
+    }
+    let fault = read(rt.alloc(), text.as_slice()).err();
+    assert_eq!(rt; fault, Some(DelayFault::TooManyRows(ClassName::Route(3))));
+    Ok(())
+}
