@@ -1,7 +1,9 @@
 pub mod Columns
 pub mod Fields
+pub mod FeedTables
 pub mod First
 pub mod Limits
+pub mod Loading
 pub mod Names
 pub mod Parts
 pub mod Rows

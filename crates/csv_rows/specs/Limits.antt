@@ -1,5 +1,7 @@
 -- How much is read at most.
-use Rattle.std.specs.Prelude.{◌≤◌}
+use Rattle.std.specs.Prelude.{ℕ, ◌≤◌}
+use Rattle.csv_rows.specs.declared.feed_tables.Table.{Table}
+use Rattle.csv_rows.specs.declared.feed_tables.Table.TheVariants.{Stops, Routes, Trips, StopTimes, Frequencies, Calendar, CalendarDates, Transfers}
 use Rattle.csv_rows.specs.declared.limits.Limits.{Limits}
 
 -- the standard limits
@@ -29,3 +31,14 @@ pub record AreWithin (limits : Limits) : Type 0 where
   pub transfers : limits.transfers ≤ 4194304
   pub cut_rows : limits.cut_rows ≤ 8388608
   pub connections : limits.connections ≤ 8388608
+
+-- the rows of a table; a file of the most bytes has no more rows than the number for frequencies
+abbrev pub rows_of : Limits → Table → ℕ
+rows_of limits Stops = limits.stops
+rows_of limits Routes = limits.routes
+rows_of limits Trips = limits.trips
+rows_of limits StopTimes = limits.stop_times
+rows_of limits Frequencies = 1073741824
+rows_of limits Calendar = limits.calendar
+rows_of limits CalendarDates = limits.calendar_dates
+rows_of limits Transfers = limits.transfers

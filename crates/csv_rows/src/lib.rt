@@ -2,14 +2,18 @@
 #![tactic(auto)]
 
 mod columns;
+mod feed_tables;
 mod fields;
 mod limits;
+mod loading;
 mod names;
 mod rows;
 mod spaces;
 
 pub use columns::Column;
+pub use feed_tables::{FeedFault, Table};
 pub use limits::Limits;
+pub use loading::{Loaded, read_table};
 pub use names::read_name;
 pub use rows::{Rows, RowsFault};
 

@@ -1,6 +1,8 @@
 //! How much is read.
 ghost use Rattle.std.specs.Prelude.{◌≡◌};
-ghost use Rattle.csv_rows.specs.Limits.{standard};
+ghost use Rattle.csv_rows.specs.Limits.{standard, rows_of};
+
+use crate::feed_tables::Table;
 
 /// The most that is read: bytes of one file, rows of each table, and connections of a window.
 #[derive(Clone, Copy, Debug, PartialEq, Eq)]
@@ -43,6 +45,22 @@ impl Limits {
             transfers: 1 << 22,
             cut_rows: 1 << 23,
             connections: 1 << 23,
+        }
+    }
+
+    /// The most rows of a table. The table of frequencies may have as many as a file can hold.
+    pub fn rows_of(&self, table: Table) -> u64
+        ensures { result ≡ rows_of self.now table }
+    {
+        match table {
+            Table::Stops => self.stops,
+            Table::Routes => self.routes,
+            Table::Trips => self.trips,
+            Table::StopTimes => self.stop_times,
+            Table::Frequencies => 1 << 30,
+            Table::Calendar => self.calendar,
+            Table::CalendarDates => self.calendar_dates,
+            Table::Transfers => self.transfers,
         }
     }
 }

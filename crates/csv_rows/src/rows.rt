@@ -2,7 +2,7 @@
 ghost use Rattle.std.specs.Prelude.{◌≡◌, ◌<◌, ◌+◌, ◌-◌, ◌^◌, ℕ, List, [], ◌∷◌, ◌++◌, map, length, take, OnOk, OnErr, IfOk, IfSome, IfNone, IsErrOf, Err, slice_index_or, ◌≢◌};
 ghost use Rattle.csv.specs.Records as csv;
 ghost use Rattle.csv_rows.specs.Parts.{parts_from, Fills};
-ghost use Rattle.csv_rows.specs.Spaces.{trimmed};
+ghost use Rattle.csv_rows.specs.Spaces.{trimmed, AreTrimmed};
 ghost use Rattle.csv_rows.specs.Tables.{table_of, header, row_count, place_of, field_at};
 
 use crate::columns::Column;
@@ -76,7 +76,8 @@ fn push_row(fields: &mut Fields, ends: &mut Vec<u32>, row: &ByteRecord) -> Resul
 
 /// The rows, if there is one.
 fn finished(fields: Fields, ends: Vec<u32>) -> Result<Rows, RowsFault>
-    requires { Fills ends.items (length fields) }
+    requires fills { Fills ends.items (length fields) }
+    requires trimmed { AreTrimmed (parts_from 0 ends.items fields) }
     ensures rows { IfOk result (λ rows. rows ≡ parts_from 0 ends.items fields) }
     ensures header { IfOk result (λ rows. 0 < length rows) }
     ensures none { OnErr result (parts_from 0 ends.items fields ≡ []) }
@@ -141,6 +142,7 @@ impl Rows {
     pub fn count(&self) -> usize
         ensures count { result ≡ row_count self.now }
         ensures few { result < 2 ^ 62 }
+        ensures trimmed { AreTrimmed self.now }
     {
         let ends: &[u32] = &self.ends;
         ends.len().saturating_sub(1)

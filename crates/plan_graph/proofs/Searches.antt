@@ -66,7 +66,7 @@ precedes_trans a b c (inr x) (inl y) = inl (omega (arith, x.0, y))
 precedes_trans a b c (inr x) (inr y) = inr (omega (arith, x.0, y.0), omega (arith, x.1, y.1))
 
 -- a leg does not stand before itself
-precedes_itself : (a b : Leg) → Precedes a b → a ≡ b → ⊥
+pub precedes_itself : (a b : Leg) → Precedes a b → a ≡ b → ⊥
 precedes_itself a b (inl less) same = let e = ap (λ (l : Leg). l.enter.0) same in omega (arith, less, e)
 precedes_itself a b (inr both) same = let e = ap (λ (l : Leg). l.exit.0) same in omega (arith, both.1, e)
 
@@ -79,7 +79,7 @@ rides_parted rides leg rise i j d before within is = elim (cases_lt i j) [
 abbrev leg_of : ℕ → ℕ → Leg
 leg_of i j = record { enter = record { 0 = i }; exit = record { 0 = j } }
 
-leg_test : (a b : Leg) → ((a.enter.0 == b.enter.0) && (a.exit.0 == b.exit.0)) ≡ true → a ≡ b
+pub leg_test : (a b : Leg) → ((a.enter.0 == b.enter.0) && (a.exit.0 == b.exit.0)) ≡ true → a ≡ b
 leg_test a b is =
     let first : a.enter.0 ≡ b.enter.0 = grind (arith, nat_tests) in
     let second : a.exit.0 ≡ b.exit.0 = grind (arith, nat_tests) in
@@ -94,10 +94,10 @@ leg_tested a b is =
     grind (arith, nat_tests)
 
 -- the rows after a leg, where the first ride is its
-rows_here : (r : Ride) (rides : List Ride) (leg : Leg) → r.leg ≡ leg → rows_after (r ∷ rides) leg ≡ r.after
+pub rows_here : (r : Ride) (rides : List Ride) (leg : Leg) → r.leg ≡ leg → rows_after (r ∷ rides) leg ≡ r.after
 rows_here r rides leg same = rw (leg_tested r.leg leg same) refl
 
-rows_further : (r : Ride) (rides : List Ride) (leg : Leg) → (r.leg ≡ leg → ⊥) → rows_after (r ∷ rides) leg ≡ rows_after rides leg
+pub rows_further : (r : Ride) (rides : List Ride) (leg : Leg) → (r.leg ≡ leg → ⊥) → rows_after (r ∷ rides) leg ≡ rows_after rides leg
 rows_further r rides leg other = by_test ((r.leg.enter.0 == leg.enter.0) && (r.leg.exit.0 == leg.exit.0)) refl
   where
     by_test : (test : Bool) → ((r.leg.enter.0 == leg.enter.0) && (r.leg.exit.0 == leg.exit.0)) ≡ test → rows_after (r ∷ rides) leg ≡ rows_after rides leg

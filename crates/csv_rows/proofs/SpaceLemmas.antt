@@ -1,0 +1,77 @@
+-- Trimmed fields neither begin nor end with a space.
+use Rattle.std.proofs.Common.{◌≡◌, ℕ, zero, suc, Bool, true, false, ◌==◌, List, [], ◌∷◌, ◌++◌, map, reverse, slice_index_or, if◌then◌else◌, refl, sym, ap, ◌∙◌, arith}
+use Rattle.std.proofs.lemmas.Bool.Decides.{nat_tests}
+use Rattle.std.proofs.lemmas.List.{reverse-append, reverse-reverse}
+use Rattle.plan_model.specs.NameLists.{IsTrimmed}
+use Rattle.csv_rows.specs.Spaces.{drop_spaces, trimmed, AreTrimmed}
+
+not_space : (b : ℕ) → (b == 32) ≡ false → b ≡ 32 → ⊥
+not_space b h e = grind (arith, nat_tests)
+
+start_if : (t : Bool) (b : ℕ) (bs dropped rest : List ℕ) → (b == 32) ≡ t → (dropped ≡ 32 ∷ rest → ⊥) → (if t then dropped else b ∷ bs) ≡ 32 ∷ rest → ⊥
+start_if true b bs dropped rest e h k = h k
+start_if false b bs dropped rest e h k = not_space b e (cc)
+
+-- with its spaces dropped it begins with none
+pub drop_spaces-start : (field rest : List ℕ) → drop_spaces field ≡ 32 ∷ rest → ⊥
+drop_spaces-start [] rest h = cc
+drop_spaces-start (b ∷ bs) rest h = start_if (b == 32) b bs (drop_spaces bs) rest refl (drop_spaces-start bs rest) h
+
+-- what is dropped stands before the rest
+record Drops (field : List ℕ) : Type 0 where
+  spaces : List ℕ
+  is : field ≡ spaces ++ drop_spaces field
+
+drops_if : (t : Bool) (b : ℕ) (bs dropped spaces : List ℕ) → bs ≡ spaces ++ dropped → (more : List ℕ) × (b ∷ bs ≡ more ++ (if t then dropped else b ∷ bs))
+drops_if true b bs dropped spaces e = (b ∷ spaces, ap (λ xs. b ∷ xs) e)
+drops_if false b bs dropped spaces e = ([], refl)
+
+drops : (field : List ℕ) → Drops field
+drops [] = record { spaces = []; is = refl }
+drops (b ∷ bs) = let d = drops bs in let w = drops_if (b == 32) b bs (drop_spaces bs) d.spaces d.is in record { spaces = w.0; is = w.1 }
+
+trimmed_start : (inner rest : List ℕ) → ((more : List ℕ) → inner ≡ 32 ∷ more → ⊥) → reverse (drop_spaces (reverse inner)) ≡ 32 ∷ rest → ⊥
+trimmed_start inner rest first h =
+    let d = drops (reverse inner) in
+    let kept = drop_spaces (reverse inner) in
+    let whole : inner ≡ reverse kept ++ reverse d.spaces = sym (reverse-reverse inner) ∙ ap reverse d.is ∙ reverse-append d.spaces kept in
+    first (rest ++ reverse d.spaces) (whole ∙ ap (λ xs. xs ++ reverse d.spaces) h)
+
+trimmed_end : (turned rest : List ℕ) → ((more : List ℕ) → turned ≡ 32 ∷ more → ⊥) → reverse turned ≡ rest ++ 32 ∷ [] → ⊥
+trimmed_end turned rest first h =
+    first (reverse rest) (sym (reverse-reverse turned) ∙ ap reverse h ∙ reverse-append rest (32 ∷ []))
+
+pub IsTrimmed-trimmed : (field : List ℕ) → IsTrimmed (trimmed field)
+IsTrimmed-trimmed field = record {
+  start = λ rest. trimmed_start (drop_spaces field) rest (drop_spaces-start field);
+  end = λ rest. trimmed_end (drop_spaces (reverse (drop_spaces field))) rest (drop_spaces-start (reverse (drop_spaces field)));
+}
+
+pub IsTrimmed-nil : IsTrimmed []
+IsTrimmed-nil = IsTrimmed-trimmed []
+
+drop_none : (field : List ℕ) → ((rest : List ℕ) → field ≡ 32 ∷ rest → ⊥) → drop_spaces field ≡ field
+drop_none [] h = refl
+drop_none (b ∷ bs) h = keep_if (b == 32) refl where
+  keep_if : (t : Bool) → (b == 32) ≡ t → (if t then drop_spaces bs else b ∷ bs) ≡ b ∷ bs
+  keep_if true e = absurd (h bs (ap (λ x. x ∷ bs) (let s : b ≡ 32 = grind (arith, nat_tests) in s)))
+  keep_if false e = refl
+
+-- nothing is trimmed from it
+pub trimmed-IsTrimmed : (field : List ℕ) → IsTrimmed field → trimmed field ≡ field
+trimmed-IsTrimmed field t =
+    let inner : drop_spaces field ≡ field = drop_none field t.start in
+    let turned : drop_spaces (reverse field) ≡ reverse field
+    = drop_none (reverse field) (λ rest h. t.end (reverse rest) (sym (reverse-reverse field) ∙ ap reverse h ∙ reverse-append (32 ∷ []) rest)) in
+    ap (λ xs. reverse (drop_spaces (reverse xs))) inner ∙ ap reverse turned ∙ reverse-reverse field
+
+trimmed_field : (row : List (List ℕ)) (k : ℕ) → IsTrimmed (slice_index_or (map trimmed row) k [])
+trimmed_field [] k = IsTrimmed-nil
+trimmed_field (f ∷ fs) zero = IsTrimmed-trimmed f
+trimmed_field (f ∷ fs) (suc k) = trimmed_field fs k
+
+-- the fields of a table are trimmed
+pub AreTrimmed-map : (raw : List (List (List ℕ))) → AreTrimmed (map (λ row. map trimmed row) raw)
+AreTrimmed-map [] i k = IsTrimmed-nil
+AreTrimmed-map (row ∷ rows) zero k = trimmed_field row k
+AreTrimmed-map (row ∷ rows) (suc i) k = AreTrimmed-map rows i k

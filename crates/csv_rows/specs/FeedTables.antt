@@ -1,0 +1,42 @@
+-- The tables of a feed by the names of their files.
+use Rattle.std.specs.Prelude.{ℕ, ◌==◌, Bool, false, List, ◌∷◌, ◌++◌, codes, Option, Some, None}
+use Rattle.csv_rows.specs.declared.feed_tables.Table.{Table}
+use Rattle.csv_rows.specs.declared.feed_tables.Table.TheVariants.{Stops, Routes, Trips, StopTimes, Frequencies, Calendar, CalendarDates, Transfers}
+use Rattle.csv_rows.specs.declared.feed_tables.FeedFault.{FeedFault}
+use Rattle.csv_rows.specs.declared.feed_tables.FeedFault.TheVariants.{Read}
+
+-- the name of a table's file
+abbrev pub file_name : Table → List ℕ
+file_name Stops = codes "stops.txt"
+file_name Routes = codes "routes.txt"
+file_name Trips = codes "trips.txt"
+file_name StopTimes = codes "stop_times.txt"
+file_name Frequencies = codes "frequencies.txt"
+file_name Calendar = codes "calendar.txt"
+file_name CalendarDates = codes "calendar_dates.txt"
+file_name Transfers = codes "transfers.txt"
+
+-- the path of a table in a folder
+abbrev pub path_of : List ℕ → Table → List ℕ
+path_of folder table = folder ++ 47 ∷ file_name table
+
+-- the place of a table in the order in which they are read
+abbrev pub rank_of : Table → ℕ
+rank_of Stops = 0
+rank_of Routes = 1
+rank_of Trips = 2
+rank_of StopTimes = 3
+rank_of Frequencies = 4
+rank_of Calendar = 5
+rank_of CalendarDates = 6
+rank_of Transfers = 7
+
+-- the table that could not be read, where the fault is of this kind
+abbrev pub unread_of : FeedFault → Option Table
+unread_of (Read table) = Some table
+unread_of _ = None
+
+-- whether this table is the one that could not be read
+abbrev pub is_unread : Option Table → Table → Bool
+is_unread None table = false
+is_unread (Some unread) table = rank_of unread == rank_of table

@@ -1,0 +1,4 @@
+pub mod Limits
+pub mod Sources
+pub mod Pruned
+pub mod Coherence

@@ -1,0 +1,28 @@
+-- Rows by the limits of their legs.
+use Rattle.std.specs.Prelude.{ℕ, Bool, false, List, [], ◌∷◌, Option, Some, None, ◌==◌, if◌then◌else◌}
+use Rattle.plan_model.specs.declared.model.Leg.{Leg}
+use Rattle.plan_model.specs.Parts.{Parts}
+use Rattle.plan_model.specs.Ways.{limit_of}
+use Rattle.plan_model.specs.Unfold.{end_of}
+use Rattle.plan_graph.specs.declared.GraphRow.{GraphRow}
+use Rattle.plan_graph.specs.declared.Ride.{Ride}
+use Rattle.leg_walk.specs.Tables.{row_by}
+
+-- the moment is that of the row before
+abbrev pub is_last : Option ℕ → ℕ → Bool
+is_last None by = false
+is_last (Some moment) by = moment == by
+
+-- with the row of a leg by its limit, if the row before is by another moment
+abbrev pub with_limit : Option ℕ → Leg → (Option ℕ → List GraphRow) → Option ℕ → List GraphRow
+with_limit None leg more last = more last
+with_limit (Some limit) leg more last = if is_last last limit then more last else row_by limit leg ∷ more (Some limit)
+
+-- at a place, the rows by their legs' limits, each limit once
+abbrev pub by_limits : Parts → ℕ → List GraphRow → Option ℕ → List GraphRow
+by_limits n place [] last = []
+by_limits n place (row ∷ rows) last = with_limit (limit_of n place row.leg) row.leg (by_limits n place rows) last
+
+-- the ride with its rows by their legs' limits
+abbrev pub ride_by_limits : Parts → Ride → Ride
+ride_by_limits n r = record { leg = r.leg; after = by_limits n (end_of n r.leg) r.after None }

@@ -1,0 +1,75 @@
+-- From a placed leg to those that are chosen after it.
+use Rattle.std.proofs.Common.{◌≡◌, ◌≢◌, ℕ, zero, suc, ◌+◌, ◌⊎◌, Bool, true, false, List, [], ◌∷◌, Option, Some, None, arith, sym, subst, refl, inl, inr}
+use Rattle.std.specs.Prelude.{◌==◌}
+use Rattle.std.proofs.lemmas.Bool.Decides.{nat_tests}
+use Rattle.plan_model.specs.declared.model.Leg.{Leg}
+use Rattle.plan_model.specs.declared.model.Outcome.{Outcome}
+use Rattle.plan_model.specs.Parts.{Parts}
+use Rattle.plan_model.specs.Network.{arr_of}
+use Rattle.plan_model.specs.Tree.{Tree, Done, Ride, Stuck, Kids, Nil, Kid}
+use Rattle.plan_model.specs.Strategy.{IsBoardable, Safe, SafeAll}
+use Rattle.plan_model.specs.Unfold.{end_of, arrival_of, outcomes_of, kids_after, ride_or_stuck, unfold_after}
+use Rattle.plan_graph.specs.Ready.{Stands, StandsIn}
+use Rattle.leg_walk.specs.Placed.{Has, IsPlaced}
+
+pub other_place : (a b : ℕ) → a ≢ b → (a == b) ≡ false
+other_place a b differ = grind (arith, nat_tests)
+
+pub same_place : (a b : ℕ) → a ≡ b → (a == b) ≡ true
+same_place a b is = grind (arith, nat_tests)
+
+-- the leg that is chosen after a leg that arrives at a moment is placed
+pub record IsPlacedNext (n : Parts) (target : ℕ) (by : Option ℕ) (choice : Leg → ℕ → Option Leg) (whole : Tree) (leg : Leg) (arrival : ℕ) : Type 0 where
+  pub next : Leg
+  pub is_chosen : choice leg arrival ≡ Some next
+  pub boards : IsBoardable n (end_of n leg) arrival next.enter.0
+  pub placed : IsPlaced n target by choice whole next
+
+module _ (n : Parts) (target : ℕ) (by : Option ℕ) (choice : Leg → ℕ → Option Leg) where
+  pub safe_kid : (f : ℕ → Tree) (row : List Outcome) (place scheduled : ℕ) → SafeAll n target by (kids_after f scheduled row) row place scheduled → (o : Outcome) → Has row o → Safe n target by (f (scheduled + o.delay)) place (scheduled + o.delay)
+  safe_kid f [] place scheduled safe o has = absurd has
+  safe_kid f (head ∷ row) place scheduled safe o (inl is) = subst (λ (u : Outcome). Safe n target by (f (scheduled + u.delay)) place (scheduled + u.delay)) (sym is) safe.1
+  safe_kid f (head ∷ row) place scheduled safe o (inr has) = safe_kid f row place scheduled safe.2 o has
+
+  pub stands_kid : (f : ℕ → Tree) (row : List Outcome) (scheduled : ℕ) (other : Leg) (o : Outcome) → Has row o → Stands other (f (scheduled + o.delay)) → StandsIn other (kids_after f scheduled row)
+  stands_kid f [] scheduled other o has stands = absurd has
+  stands_kid f (head ∷ row) scheduled other o (inl is) stands = inl (subst (λ (u : Outcome). Stands other (f (scheduled + u.delay))) is stands)
+  stands_kid f (head ∷ row) scheduled other o (inr has) stands = inr (stands_kid f row scheduled other o has stands)
+
+  next_by : (whole : Tree) (rides : ℕ) (leg : Leg) (arrival : ℕ) (found : Option Leg) → choice leg arrival ≡ found
+      → Safe n target by (ride_or_stuck n (unfold_after n target choice rides) found (end_of n leg) arrival) (end_of n leg) arrival
+      → ((other : Leg) → Stands other (ride_or_stuck n (unfold_after n target choice rides) found (end_of n leg) arrival) → Stands other whole)
+      → IsPlacedNext n target by choice whole leg arrival
+  next_by whole rides leg arrival None is safe stands = absurd safe
+  next_by whole rides leg arrival (Some next) is safe stands = record {
+    next = next;
+    is_chosen = is;
+    boards = safe.2;
+    placed = record {
+      is_leg = safe.1;
+      rides = rides;
+      safe = safe.3;
+      stands = stands next (inl (refl, refl));
+      below = λ other below. stands other (inr below);
+    };
+  }
+
+  next_at : (whole : Tree) (rides : ℕ) (leg : Leg) (arrival : ℕ) → end_of n leg ≢ target → Safe n target by (unfold_after n target choice rides leg arrival) (end_of n leg) arrival → ((other : Leg) → Stands other (unfold_after n target choice rides leg arrival) → Stands other whole) → IsPlacedNext n target by choice whole leg arrival
+  next_at whole zero leg arrival away safe stands =
+      let place = end_of n leg in
+      let is : unfold_after n target choice 0 leg arrival ≡ Stuck place arrival = rw (other_place place target away) in
+      absurd (subst (λ (tree : Tree). Safe n target by tree place arrival) is safe)
+  next_at whole (suc rides) leg arrival away safe stands =
+      let place = end_of n leg in
+      let is : unfold_after n target choice (suc rides) leg arrival ≡ ride_or_stuck n (unfold_after n target choice rides) (choice leg arrival) place arrival = rw (other_place place target away) in
+      next_by whole rides leg arrival (choice leg arrival) refl
+      (subst (λ (tree : Tree). Safe n target by tree place arrival) is safe)
+      (λ other there. stands other (subst (λ (tree : Tree). Stands other tree) (sym is) there))
+
+  -- after each outcome of a placed leg a placed leg is chosen
+  pub next_after : (whole : Tree) (leg : Leg) → IsPlaced n target by choice whole leg → end_of n leg ≢ target → (o : Outcome) → Has (outcomes_of n leg) o → IsPlacedNext n target by choice whole leg (arrival_of n leg o.delay)
+  next_after whole leg placed away o has =
+      let f = unfold_after n target choice placed.rides leg in
+      next_at whole placed.rides leg (arrival_of n leg o.delay) away
+      (safe_kid f (outcomes_of n leg) (end_of n leg) (arr_of n leg.exit.0) placed.safe o has)
+      (λ other there. placed.below other (stands_kid f (outcomes_of n leg) (arr_of n leg.exit.0) other o has there))

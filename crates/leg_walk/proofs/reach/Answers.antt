@@ -1,0 +1,53 @@
+use Rattle.std.proofs.Common.{◌≡◌, sym, subst, ℕ, List, arith, inr, [], ◌∷◌, Some}
+use Rattle.plan_model.specs.Unfold.{unfolded}
+use Rattle.leg_walk.specs.Tables.{key_of}
+use Rattle.leg_walk.proofs.Reaching.{IsReaching, begin, start_placed, all_seen, popped, popped_there, visited}
+use Rattle.leg_walk.proofs.reach.Goals as goal
+
+pub loop-init : goal.loop-init
+loop-init g c =
+    let choice = g.C.LegChoice.chosen c.args.choice.now c.args.network.now in
+    let whole = unfolded c.args.network.now c.args.query.now choice (Some c.args.start) in
+    let safe = c.requires.safe in
+    let empty : c.new-todo.result.items ≡ [] = c.new-todo.ensures.items in
+    let pushed : c.push.new.self.items ≡ c.args.start ∷ [] = grind arith in
+    let keys : c.new-seen.result.keys ≡ [] = c.new-seen.ensures.empty in
+    let at = begin c.args.network.now c.args.query.now.target.0 (Some safe.0) choice whole c.args.start (start_placed c.args.network.now c.args.query.now choice c.args.start c.requires.differ safe) in
+    record {
+      by = Some safe.0;
+      reaching = rw (pushed, keys) at;
+      ordered = c.new-seen.ensures.ordered;
+    }
+
+pub returns-in-None : goal.returns-in-None
+returns-in-None g c =
+    let choice = g.C.LegChoice.chosen c.args.choice.now c.args.network.now in
+    let whole = unfolded c.args.network.now c.args.query.now choice (Some c.args.start) in
+    let full = c.loop.todo.ok.0 in
+    let inv = c.loop.invariant in
+    let seen = all_seen c.args.network.now c.args.query.now.target.0 inv.by choice whole c.args.start c.loop.todo.items c.loop.seen.keys (omega (arith, full, c.in-None.ensures.cases.0)) in
+    record {
+      by = inv.by;
+      start_there = seen c.args.start inv.reaching.start_known;
+      placed = λ leg has. inv.reaching.placed leg (inr has);
+      closed = λ leg has row there. seen row.leg (inv.reaching.closed leg has row there);
+      ordered = inv.ordered;
+    }
+
+pub visit-requires-clause-there : goal.visit-requires-clause-there
+visit-requires-clause-there g c =
+    popped_there _ _ _ _ _ _ c.pop.new.self.items c.loop.seen.keys c.in-Some.leg
+    (popped _ _ _ _ _ _ c.loop.todo.items c.pop.new.self.items c.loop.seen.keys c.in-Some.leg c.loop.invariant.reaching c.in-Some.ensures.items)
+
+pub loop-preserved : goal.loop-preserved
+loop-preserved g c =
+    let choice = g.C.LegChoice.chosen c.args.choice.now c.args.network.now in
+    let whole = unfolded c.args.network.now c.args.query.now choice (Some c.args.start) in
+    let inv = c.loop.invariant in
+    let at = popped c.args.network.now c.args.query.now.target.0 inv.by choice whole c.args.start c.loop.todo.items c.pop.new.self.items c.loop.seen.keys c.in-Some.leg inv.reaching c.in-Some.ensures.items in
+    let after = visited c.args.network.now c.args.query.now.target.0 inv.by choice whole c.args.start c.pop.new.self.items c.visit.new.todo.items c.loop.seen.keys c.in-Some.leg at c.in_ok-visit-in-Some.ensures.todo in
+    record {
+      by = inv.by;
+      reaching = subst (λ (keys : List (ℕ × ℕ)). IsReaching c.args.network.now c.args.query.now.target.0 inv.by choice whole c.args.start c.visit.new.todo.items keys) (sym c.in_ok-visit-in-Some.ensures.seen) after;
+      ordered = c.in_ok-visit-in-Some.ensures.ordered;
+    }

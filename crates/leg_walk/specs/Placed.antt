@@ -1,0 +1,37 @@
+-- Which legs stand in the tree that a choice fixes.
+use Rattle.std.specs.Prelude.{◌≡◌, ℕ, ◌⊎◌, List, [], ◌∷◌, Option}
+use Rattle.std.specs.List.Sorted.{IsStrictlySortedBy}
+use Rattle.plan_model.specs.declared.model.Leg.{Leg}
+use Rattle.plan_model.specs.Parts.{Parts}
+use Rattle.plan_model.specs.Network.{arr_of}
+use Rattle.plan_model.specs.Tree.{Tree, Kids}
+use Rattle.plan_model.specs.Strategy.{SafeAll}
+use Rattle.plan_model.specs.Unfold.{end_of, outcomes_of, kids_after, unfold_after}
+use Rattle.plan_graph.specs.declared.GraphRow.{GraphRow}
+use Rattle.plan_graph.specs.Ready.{IsLegOf, Stands, StandsIn}
+use Rattle.leg_walk.specs.Tables.{table_of, key_of, key_cmp}
+
+-- the list has the element
+abbrev pub Has : {X : Type 0} → List X → X → Type 0
+Has [] x = ⊥
+Has (y ∷ ys) x = (x ≡ y) ⊎ Has ys x
+
+-- what is done after a leg, over at most so many rides
+abbrev pub kids_of : Parts → ℕ → (Leg → ℕ → Option Leg) → ℕ → Leg → Kids
+kids_of n target choice rides leg = kids_after (unfold_after n target choice rides leg) (arr_of n leg.exit.0) (outcomes_of n leg)
+
+-- the leg's ride stands in a tree, and what is done after it is safe
+pub record IsPlaced (n : Parts) (target : ℕ) (by : Option ℕ) (choice : Leg → ℕ → Option Leg) (whole : Tree) (leg : Leg) : Type 0 where
+  pub is_leg : IsLegOf n leg
+  pub rides : ℕ
+  pub safe : SafeAll n target by (kids_of n target choice rides leg) (outcomes_of n leg) (end_of n leg) (arr_of n leg.exit.0)
+  pub stands : Stands leg whole
+  pub below : (other : Leg) → StandsIn other (kids_of n target choice rides leg) → Stands other whole
+
+-- the keys are those of the legs that are reached from a start leg, in order
+pub record IsReached (n : Parts) (target : ℕ) (choice : Leg → ℕ → Option Leg) (whole : Tree) (start : Leg) (keys : List (ℕ × ℕ)) : Type 0 where
+  pub by : Option ℕ
+  pub start_there : Has keys (key_of start)
+  pub placed : (leg : Leg) → Has keys (key_of leg) → IsPlaced n target by choice whole leg
+  pub closed : (leg : Leg) → Has keys (key_of leg) → (row : GraphRow) → Has (table_of n target choice leg) row → Has keys (key_of row.leg)
+  pub ordered : IsStrictlySortedBy key_cmp keys

@@ -1,0 +1,35 @@
+-- The rides that a choice of legs reaches from a start leg.
+use Rattle.std.specs.Prelude.{◌≡◌, ◌≢◌, ℕ, List, Option, Some, All, AllPairs, Contains}
+use Rattle.plan_model.specs.declared.model.Leg.{Leg}
+use Rattle.plan_model.specs.declared.model.Outcome.{Outcome}
+use Rattle.plan_model.specs.declared.model.Query.{Query}
+use Rattle.plan_model.specs.Parts.{Parts}
+use Rattle.plan_model.specs.Strategy.{IsBoardable}
+use Rattle.plan_model.specs.Unfold.{end_of, arrival_of, outcomes_of, unfolded}
+use Rattle.plan_graph.specs.declared.GraphRow.{GraphRow}
+use Rattle.plan_graph.specs.declared.Ride.{Ride}
+use Rattle.plan_graph.specs.Rows.{Precedes, pick_after}
+use Rattle.plan_graph.specs.Ready.{IsLegOf, Stands}
+use Rattle.leg_walk.specs.Tables.{table_of}
+
+-- a ride of the leg is among these
+abbrev pub HasRideOf : List Ride → Leg → Type 0
+HasRideOf rides leg = (r : Ride) × Contains rides r × (r.leg ≡ leg)
+
+-- after a leg that arrives at a moment, a leg is chosen that can be boarded
+pub record IsTaken (n : Parts) (choice : Leg → ℕ → Option Leg) (leg : Leg) (arrival : ℕ) : Type 0 where
+  pub next : Leg
+  pub is_chosen : choice leg arrival ≡ Some next
+  pub is_leg : IsLegOf n next
+  pub boards : IsBoardable n (end_of n leg) arrival next.enter.0
+
+-- these rides, in order, are those that stand in the tree of the choice, each with a row for each outcome
+pub record IsWalked (n : Parts) (q : Query) (choice : Leg → ℕ → Option Leg) (start : Leg) (rides : List Ride) : Type 0 where
+  pub unfolds : unfolded n q (pick_after rides) (Some start) ≡ unfolded n q choice (Some start)
+  pub rising : AllPairs (λ a b. Precedes a.leg b.leg) rides
+  pub legs : All (λ r. IsLegOf n r.leg) rides
+  pub tables : All (λ r. r.after ≡ table_of n q.target.0 choice r.leg) rides
+  pub stands : All (λ r. Stands r.leg (unfolded n q choice (Some start))) rides
+  pub begins : HasRideOf rides start
+  pub closed : (r : Ride) → Contains rides r → (row : GraphRow) → Contains r.after row → HasRideOf rides row.leg
+  pub taken : (r : Ride) → Contains rides r → end_of n r.leg ≢ q.target.0 → (o : Outcome) → Contains (outcomes_of n r.leg) o → IsTaken n choice r.leg (arrival_of n r.leg o.delay)

@@ -1,0 +1,192 @@
+//! The rides that a choice of legs reaches from a start leg.
+#![tactic(auto)]
+
+ghost use Rattle.std.specs.Prelude.{◌≡◌, ◌≢◌, ℕ, ◌<◌, ◌++◌, map, Some, IfOk, OnOk, MatchBool};
+ghost use Rattle.std.specs.List.{AllByRecursion};
+ghost use Rattle.std.specs.BTreeSet.{contains, IsOrdered};
+ghost use Rattle.plan_model.specs.Network.{count};
+ghost use Rattle.plan_model.specs.Unfold.{unfolded};
+ghost use Rattle.plan_graph.specs.Ready.{IsSafeForSome};
+ghost use Rattle.leg_walk.specs.Tables.{table_of, ride_at, key_of, key_cmp, with_key};
+ghost use Rattle.leg_walk.specs.Placed.{IsReached};
+ghost use Rattle.leg_walk.specs.Walked.{IsWalked};
+
+use plan_graph::{ExpandedGraph, GraphRow, Ride};
+use plan_model::{ConnectionId, Leg, List, Moment, Network, NoMemory, Query};
+use std::alloc::Global;
+use std::collections::BTreeSet;
+
+/// A choice of the leg that is taken after each ride.
+pub trait LegChoice {
+    ghost use Rattle.std.specs.Prelude.{◌≡◌, ◌≢◌, ℕ, ◌<◌, Option};
+    ghost use Rattle.plan_model.specs.declared.model.Leg.{Leg};
+    ghost use Rattle.plan_model.specs.Parts.{Parts};
+    ghost use Rattle.plan_model.specs.Network.{count};
+    ghost use Rattle.plan_model.specs.Unfold.{end_of};
+
+    /// It can be asked about this network, away from this target.
+    ghost fits: { Self → Parts → ℕ → Type 0 };
+
+    /// The leg that it chooses after a leg that arrives at a moment.
+    ghost chosen: { Self → Parts → Leg → ℕ → Option Leg };
+
+    /// The leg that is chosen after a leg that arrives at the moment.
+    fn choose(&self, network: &Network, query: &Query, leg: Leg, arrival: Moment) -> Option<Leg>
+        requires fits { fits self.now network.now query.now.target.0 }
+        requires there { leg.exit.0 < count network.now }
+        requires away { end_of network.now leg ≢ query.now.target.0 }
+        ensures { result ≡ chosen self.now network.now leg arrival.0 };
+}
+
+impl LegChoice for ExpandedGraph {
+    ghost use Rattle.plan_graph.specs.Rows.{HasRisingRides, pick_after};
+
+    ghost fits = { λ graph n target. HasRisingRides graph.rides };
+
+    ghost chosen = { λ graph n. pick_after graph.rides };
+
+    fn choose(&self, network: &Network, query: &Query, leg: Leg, arrival: Moment) -> Option<Leg> {
+        let _ = network;
+        let _ = query;
+        self.pick(leg, arrival)
+    }
+}
+
+// The legs that are chosen after a leg, one for each outcome.
+fn table<C: LegChoice>(
+    alloc: Global,
+    choice: &C,
+    network: &Network,
+    query: &Query,
+    leg: Leg,
+) -> Result<Vec<GraphRow>, NoMemory>
+    requires fits { C.fits choice.now network.now query.now.target.0 }
+    requires there { leg.exit.0 < count network.now }
+    ensures { IfOk result (λ rows. rows.items ≡ table_of network.now query.now.target.0 (C.chosen choice.now network.now) leg) }
+{
+    let mut rows = Vec::new(alloc);
+    let _count = network.count();
+    let exit = network.get(leg.exit);
+    if exit.to == query.target {
+        return Ok(rows);
+    }
+    for outcome in network.row(exit.class) {
+        let by = Moment(exit.arr.0 + u64::from(outcome.delay));
+        if let Some(next) = choice.choose(network, query, leg, by) {
+            rows.push(GraphRow { by, leg: next })?;
+        }
+    }
+    Ok(rows)
+}
+
+// Puts the legs of a table on the list of those to do.
+fn push_legs(todo: &mut Vec<Leg>, rows: &[GraphRow]) -> Result<(), NoMemory>
+    ensures { OnOk result (todo.new.items ≡ todo.old.items ++ map (λ row. row.leg) rows.now) }
+{
+    for row in rows {
+        todo.push(row.leg)?;
+    }
+    Ok(())
+}
+
+// Sees a leg; the legs that are chosen after it are to do, if it was not seen before.
+fn visit<C: LegChoice>(
+    alloc: Global,
+    choice: &C,
+    network: &Network,
+    query: &Query,
+    leg: Leg,
+    todo: &mut Vec<Leg>,
+    seen: &mut BTreeSet<(u32, u32)>,
+) -> Result<(), NoMemory>
+    requires fits { C.fits choice.now network.now query.now.target.0 }
+    requires there { leg.exit.0 < count network.now }
+    ensures ordered { OnOk result (IsOrdered key_cmp seen.new) }
+    ensures seen { OnOk result (seen.new.keys ≡ with_key seen.old.keys (key_of leg)) }
+    ensures todo { OnOk result (MatchBool (contains key_cmp seen.old (key_of leg)) (todo.new.items ≡ todo.old.items) (todo.new.items ≡ todo.old.items ++ map (λ row. row.leg) (table_of network.now query.now.target.0 (C.chosen choice.now network.now) leg))) }
+{
+    match seen.insert((leg.enter.0, leg.exit.0)) {
+        Err(_) => Err(NoMemory),
+        Ok(added) => {
+            if added {
+                let rows = table(alloc, choice, network, query, leg)?;
+                push_legs(todo, &rows)
+            } else {
+                Ok(())
+            }
+        }
+    }
+}
+
+// The entries and exits of all rides that are reached from the start leg.
+fn reach<C: LegChoice>(
+    alloc: Global,
+    choice: &C,
+    network: &Network,
+    query: &Query,
+    start: Leg,
+) -> Result<BTreeSet<(u32, u32)>, NoMemory>
+    requires fits { C.fits choice.now network.now query.now.target.0 }
+    requires differ { query.now.source.0 ≢ query.now.target.0 }
+    requires safe { IsSafeForSome network.now query.now (unfolded network.now query.now (C.chosen choice.now network.now) (Some start)) }
+    ensures { IfOk result (λ seen. IsReached network.now query.now.target.0 (C.chosen choice.now network.now) (unfolded network.now query.now (C.chosen choice.now network.now) (Some start)) start seen.keys) }
+{
+    let mut seen = BTreeSet::new(alloc);
+    let mut todo = Vec::new(alloc);
+    todo.push(start)?;
+    for _ in 0..u64::MAX {
+        match todo.pop() {
+            None => return Ok(seen),
+            Some(leg) => visit(alloc, choice, network, query, leg, &mut todo, &mut seen)?,
+        }
+    }
+    Err(NoMemory)
+}
+
+// The rides, with their tables.
+fn rides_of<C: LegChoice>(
+    alloc: Global,
+    choice: &C,
+    network: &Network,
+    query: &Query,
+    seen: &BTreeSet<(u32, u32)>,
+) -> Result<List<Ride>, NoMemory>
+    requires fits { C.fits choice.now network.now query.now.target.0 }
+    requires there { AllByRecursion (λ key. key.1 < count network.now) seen.now.keys }
+    ensures { IfOk result (λ rides. rides ≡ map (ride_at network.now query.now.target.0 (C.chosen choice.now network.now)) seen.now.keys) }
+{
+    let mut rides = List::new(alloc);
+    for key in seen {
+        let leg = Leg {
+            enter: ConnectionId(key.0),
+            exit: ConnectionId(key.1),
+        };
+        let rows = table(alloc, choice, network, query, leg)?;
+        rides.push(Ride {
+            leg,
+            after: List::from_vec(rows),
+        })?;
+    }
+    Ok(rides)
+}
+
+/// The rides that the choice reaches from the start leg, in rising order of entry and exit. The
+/// table of each has a row for each outcome, by the arrival, and none at the target. The tree of
+/// the choice is safe for some deadline.
+pub fn walk<C: LegChoice>(
+    alloc: Global,
+    choice: &C,
+    network: &Network,
+    query: &Query,
+    start: Leg,
+) -> Result<List<Ride>, NoMemory>
+    requires fits { C.fits choice.now network.now query.now.target.0 }
+    requires differ { query.now.source.0 ≢ query.now.target.0 }
+    requires safe { IsSafeForSome network.now query.now (unfolded network.now query.now (C.chosen choice.now network.now) (Some start)) }
+    ensures { IfOk result (IsWalked network.now query.now (C.chosen choice.now network.now) start) }
+{
+    let _count = network.count();
+    let seen = reach(alloc, choice, network, query, start)?;
+    let rides = rides_of(alloc, choice, network, query, &seen)?;
+    Ok(rides)
+}
