@@ -2,3 +2,6 @@ pub mod Faults
 pub mod Lines
 pub mod Files
 pub mod Texts
+pub mod Problems
+pub mod Answers
+pub mod Received
