@@ -56,3 +56,16 @@ pub record HasCauses {T : Type 0} (told : Type 0) (path : Input → List ℕ) (b
   pub read : (input : Input) → IsErrOf result (Read input) → Rose before now
   pub read_path : told → (input : Input) → IsErrOf result (Read input) → Rose (before_of (path input)) (now_of (path input))
   pub grew : before < now → (input : Input) × IsErrOf result (Read input)
+
+-- a fault of what is read, before anything is sought or written
+abbrev pub IsEarly : Fault → Type 0
+IsEarly NoSafe = ⊥
+IsEarly Write = ⊥
+IsEarly (Words fault) = ⊥
+IsEarly (Cut fault) = Unit {0}
+IsEarly (Missing input) = Unit {0}
+IsEarly (Delays fault) = Unit {0}
+IsEarly (UnknownStop which) = Unit {0}
+IsEarly (Limit kind count) = Unit {0}
+IsEarly (Read input) = Unit {0}
+IsEarly NoMemory = Unit {0}

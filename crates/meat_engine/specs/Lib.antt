@@ -3,5 +3,6 @@ pub mod Lines
 pub mod Files
 pub mod Texts
 pub mod Problems
+pub mod Shown
 pub mod Answers
 pub mod Received

@@ -126,15 +126,26 @@ pub record IsProblemFault (limits : Limits) (files : Folder) (wanted : Wanted) (
   pub first : FaultIs (first_fault limits files wanted) fault
   pub in_turn : IsInTurn limits files wanted fault
 
--- a fault of what is read, before anything is sought or written
-abbrev pub IsEarly : Fault → Type 0
-IsEarly NoSafe = ⊥
-IsEarly Write = ⊥
-IsEarly (Words fault) = ⊥
-IsEarly (Cut fault) = Unit {0}
-IsEarly (Missing input) = Unit {0}
-IsEarly (Delays fault) = Unit {0}
-IsEarly (UnknownStop which) = Unit {0}
-IsEarly (Limit kind count) = Unit {0}
-IsEarly (Read input) = Unit {0}
-IsEarly NoMemory = Unit {0}
+-- what the two files hold
+pub record InputParts : Type 0 where
+  pub cut : CutParts
+  pub delays : DelayLists
+
+-- the first fault of the two files
+abbrev pub input_fault : Limits → Folder → Wanted → Option Fault
+input_fault limits files wanted = or_else (cut_fault limits (file_at files wanted.cut)) (delay_fault limits (file_at files wanted.delays))
+
+-- these are the parts of files with no fault
+pub record AreInputs (limits : Limits) (files : Folder) (wanted : Wanted) (parts : InputParts) : Type 0 where
+  pub cut_sound : cut_fault limits (file_at files wanted.cut) ≡ None
+  pub delays_sound : delay_fault limits (file_at files wanted.delays) ≡ None
+  pub is_cut : IsCutOf limits (file_at files wanted.cut) parts.cut
+  pub are_delays : AreDelaysOf limits (file_at files wanted.delays) parts.delays
+
+-- the fault is the first one of the files, or one of the outside in its turn
+pub record IsInputFault (limits : Limits) (files : Folder) (wanted : Wanted) (fault : Fault) : Type 0 where
+  pub first : FaultIs (input_fault limits files wanted) fault
+  pub in_turn : IsInTurn limits files wanted fault
+
+abbrev pub InputsAgree : Limits → Folder → Wanted → Result InputParts Fault → Type 0
+InputsAgree limits files wanted result = MatchResult result (AreInputs limits files wanted) (IsInputFault limits files wanted)

@@ -6,6 +6,6 @@ use Rattle.plan_model.specs.declared.model.Moment.{Moment}
 use Rattle.plan_model.specs.declared.model.Query.{Query}
 
 -- one row: the source, the target, the start, the least worst arrival and the deadline
-abbrev pub safe_text : List ℕ → List ℕ → Query → Moment → List ℕ
+unfoldable pub safe_text : List ℕ → List ℕ → Query → Moment → List ℕ
 safe_text source target query worst =
     row_text default_writer (codes "safe" ∷ source ∷ target ∷ moment_text query.start.0 ∷ moment_text worst.0 ∷ moment_text query.deadline.0 ∷ [])

@@ -1,7 +1,7 @@
 //! The files that a command reads.
-ghost use Rattle.std.specs.Prelude.{◌≡◌, ◌≤◌, IsSome, IfSome, IsErrOf, ◌^◌, ◌+◌};
+ghost use Rattle.std.specs.Prelude.{◌≡◌, ◌≤◌, IsSome, IfSome, IfErr, IsErrOf, ◌^◌, ◌+◌};
 ghost use Rattle.file_ports.specs.Ports.{file_at};
-ghost use Rattle.meat_engine.specs.Files.{Table, headless, loaded, Agrees, HasCauses};
+ghost use Rattle.meat_engine.specs.Files.{Table, headless, loaded, Agrees, HasCauses, IsEarly};
 
 use crate::faults::{Fault, Input, LimitKind};
 use csv_rows::{Column, Limits, Rows, RowsFault};
@@ -12,7 +12,8 @@ use std::alloc::Global;
 
 /// The fault of a file that has no record: it lacks its first column.
 fn headless(input: Input) -> Fault
-    ensures { result ≡ headless input }
+    ensures fault { result ≡ headless input }
+    ensures early { IsEarly result }
 {
     match input {
         Input::Cut => Fault::Cut(CutFault::MissingColumn(Column::Run)),
@@ -32,6 +33,7 @@ pub(crate) fn load_rows<F: Files>(
     ensures same { F.files files.new ≡ F.files files.old }
     ensures table { IfSome (F.files files.old) (λ m.
         Agrees (λ rows. rows) (loaded limits.now.bytes input (file_at m path.now)) result) }
+    ensures early { IfErr result IsEarly }
     ensures own { (other : Input) → IsErrOf result (Fault.Read other) → other ≡ input }
     ensures causes { HasCauses (IsSome (F.files files.old)) (λ other. path.now) (F.faults files.old) (F.faults files.new)
         (F.faults_of files.old) (F.faults_of files.new) result }

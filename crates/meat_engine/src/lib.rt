@@ -6,9 +6,9 @@ mod faults;
 mod inputs;
 mod problem;
 mod report;
-mod run;
 mod texts;
+mod top;
 
 pub use faults::{Fault, Input, LimitKind, Which};
 pub use report::{Report, Status};
-pub use run::run;
+pub use top::run;

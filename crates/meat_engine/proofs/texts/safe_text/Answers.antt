@@ -2,9 +2,11 @@ use Rattle.std.proofs.Common.{◌≡◌, ℕ, List, [], ◌∷◌, subst, ◌∙
 use Rattle.std.specs.Prelude.{IfOk, codes}
 use Rattle.csv.specs.Writing.{default_writer, row_text}
 use Rattle.clock_text.specs.Civil.{moment_text}
+use Rattle.meat_engine.specs.Texts.{safe_text}
 use Rattle.meat_engine.proofs.texts.safe_text.Goals as goal
 
 pub returns : goal.returns
+unfolding safe_text
 returns c =
     let head = c.as_slice.ensures in
     let source = c.as_bytes.ensures.value in
