@@ -2,6 +2,7 @@
 #![tactic(auto)]
 
 mod faults;
+mod feed;
 mod forms;
 mod ids;
 mod keys;
@@ -12,3 +13,6 @@ mod tables;
 mod timetable;
 mod trips;
 mod visits;
+
+pub use feed::Feed;
+pub use stop_times::StopRow;
