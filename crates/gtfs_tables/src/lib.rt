@@ -10,6 +10,8 @@ mod routes;
 mod stop_times;
 mod stops;
 mod tables;
+#[cfg(test)]
+mod tests;
 mod timetable;
 mod trips;
 mod visits;
