@@ -1,5 +1,5 @@
 -- The kept row before a row in its trip stands beside it, in the order of the keys, where no row is repeated.
-use Rattle.std.proofs.Common.{◌≡◌, ℕ, ◌+◌, ◌-◌, ◌<◌, ◌≤◌, ◌==◌, nat_lt, ◌⊎◌, inl, inr, Bool, true, false, not, ◌&&◌, ◌||◌, List, length, Option, Some, None, option_map, if◌then◌else◌, refl, sym, ap, ap₂, ◌∙◌, subst, arith, ⊎_elim}
+use Rattle.std.proofs.Common.{◌≡◌, ℕ, ◌+◌, ◌-◌, ◌<◌, ◌≤◌, nat_lt, ◌⊎◌, inl, inr, Bool, true, false, not, ◌&&◌, ◌||◌, List, length, Option, Some, None, option_map, refl, sym, ap, ◌∙◌, subst, arith, ⊎_elim}
 use Rattle.std.proofs.lemmas.Bool.{cases_lt}
 use Rattle.std.proofs.lemmas.Bool.Decides.{nat_tests}
 use Rattle.csv_rows.specs.declared.feed_tables.FeedFault.TheVariants.{BackwardTime}
@@ -8,7 +8,7 @@ use Rattle.csv_rows.proofs.FirstLemmas.{any-true, any-false, true_or_false}
 use Rattle.gtfs_tables.specs.declared.stop_times.TimedRow.{TimedRow}
 use Rattle.gtfs_tables.specs.declared.keys.Key.{Key}
 use Rattle.gtfs_tables.specs.StopTimes.{row_at, same_trip, is_kept, arrival_of, departure_of, precedes, just_precedes, goes_back, repeated_time, backward_time}
-use Rattle.gtfs_tables.specs.Keys.{key_at, row_of, IsLess, AreSorted, is_taken, before_at, arrives_before, goes_back_after, first_backward}
+use Rattle.gtfs_tables.specs.Keys.{key_at, row_of, IsLess, AreSorted, is_taken, before_at, goes_back_after, first_backward}
 use Rattle.gtfs_tables.proofs.BeforeLemmas.{Tells, before_tells, earlier_key, eq_test}
 use Rattle.gtfs_tables.proofs.SoonestLemmas.{soonest-first}
 use Rattle.gtfs_tables.proofs.TwinLemmas.{and_parts, and_true, eq_true, rises}

@@ -1,14 +1,12 @@
 -- Ids by their numbers, and ids that stand twice.
-use Rattle.std.proofs.Common.{◌≡◌, ℕ, ◌+◌, ◌-◌, ◌^◌, ◌<◌, ◌≤◌, Bool, true, false, List, [], ◌∷◌, ◌++◌, length, get_or, slice_index_or, Option, Some, None, IfSome, IfNone, Contains, refl, sym, ap, ◌∙◌, subst, arith, ⊎_elim, bytes_eq, if◌then◌else◌}
+use Rattle.std.proofs.Common.{◌≡◌, ℕ, ◌+◌, ◌<◌, Bool, List, [], length, slice_index_or, Option, Some, None, IfSome, IfNone, Contains, sym, ap, ◌∙◌, arith, ⊎_elim, bytes_eq, if◌then◌else◌}
 use Rattle.std.specs.Prelude.{slice_get}
-use Rattle.std.proofs.lemmas.Bool.{cases_lt}
 use Rattle.std.proofs.lemmas.List.{get_or_default}
 use Rattle.std.proofs.lemmas.Option.{slice_get_cases, none-some}
 use Rattle.std.proofs.lemmas.Slice.Eq.{bytes_eq-Decides}
 use Rattle.csv_rows.specs.declared.feed_tables.Table.{Table}
 use Rattle.csv_rows.specs.declared.feed_tables.FeedFault.{FeedFault}
 use Rattle.csv_rows.specs.declared.feed_tables.FeedFault.TheVariants.{DuplicateKey}
-use Rattle.csv_rows.specs.First.{any_below}
 use Rattle.csv_rows.specs.Tables.{place_in}
 use Rattle.csv_rows.proofs.FirstLemmas.{any-true, any-false}
 use Rattle.csv_rows.proofs.PlaceLemmas.{place_is}

@@ -11,3 +11,4 @@ pub mod TimeLemmas
 pub mod TwinLemmas
 pub mod BackLemmas
 pub mod VisitLemmas
+pub mod FeedLemmas

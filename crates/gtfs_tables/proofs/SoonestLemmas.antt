@@ -1,7 +1,6 @@
 -- The soonest of the rows at which a test holds, step by step, and that it is the first.
 use Rattle.std.proofs.Common.{◌≡◌, ℕ, zero, suc, ◌+◌, ◌<◌, ◌≤◌, min, Bool, true, false, ◌⊎◌, inl, inr, Option, Some, None, option_map, if◌then◌else◌, refl, sym, ap, ◌∙◌, subst, arith, ⊎_elim, add-one, eq-or-lt_of_le}
 use Rattle.std.proofs.lemmas.Bool.{cases_lt}
-use Rattle.std.proofs.lemmas.Bool.Decides.{nat_tests}
 use Rattle.csv_rows.specs.First.{first_below}
 use Rattle.csv_rows.proofs.FirstLemmas.{first-none, first-at}
 use Rattle.gtfs_tables.specs.Keys.{sooner, soonest}

@@ -12,7 +12,7 @@ use Rattle.std.proofs.lemmas.Bool.Decides.{nat_tests}
 use Rattle.gtfs_tables.specs.declared.stop_times.TimedRow.{TimedRow}
 use Rattle.gtfs_tables.specs.declared.keys.Key.{Key}
 use Rattle.gtfs_tables.specs.StopTimes.{row_at}
-use Rattle.gtfs_tables.specs.Keys.{key_at, no_key, IsLess, AreSorted}
+use Rattle.gtfs_tables.specs.Keys.{no_key, IsLess, AreSorted}
 
 unfoldable pub key_of : List TimedRow → ℕ → Key
 key_of rows i = record { trip = (row_at rows i).trip; sequence = (row_at rows i).sequence; row = i }

@@ -1,5 +1,5 @@
 -- The rows of stops.
-use Rattle.std.proofs.Common.{◌≡◌, ℕ, ◌<◌, List, Option, Some, None, sym, ap, ◌∙◌, subst}
+use Rattle.std.proofs.Common.{◌≡◌, ℕ, ◌<◌, List, Option, Some, None, sym, ap, ◌∙◌}
 use Rattle.std.specs.Prelude.{Result}
 use Rattle.csv_rows.specs.declared.columns.Column.TheVariants.{StopId}
 use Rattle.csv_rows.specs.declared.feed_tables.FeedFault.{FeedFault}
@@ -8,7 +8,6 @@ use Rattle.csv_rows.specs.Names.{name_in}
 use Rattle.csv_rows.specs.Tables.{row_count, field}
 use Rattle.csv_rows.proofs.FirstLemmas.{none-each}
 use Rattle.gtfs_tables.specs.declared.stops.StopColumns.{StopColumns}
-use Rattle.gtfs_tables.specs.Faults.{fault_in}
 use Rattle.gtfs_tables.specs.Stops.{Stop, stop_columns, stop_in, stop_at, bad_stop, parent_of, parent_in_row, stop_ids, unknown_in, unknown_parent, place_fault, place_from}
 use Rattle.gtfs_tables.proofs.RowLemmas.{read_ok, name_is}
 

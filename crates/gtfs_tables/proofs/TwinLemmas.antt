@@ -1,11 +1,11 @@
 -- A row that has the trip and the sequence of an earlier one stands beside it, in the order of the keys.
-use Rattle.std.proofs.Common.{◌≡◌, ℕ, ◌+◌, ◌-◌, ◌<◌, ◌≤◌, ◌==◌, ◌⊎◌, inl, inr, Bool, true, false, ◌&&◌, List, length, Option, Some, None, option_map, if◌then◌else◌, refl, sym, ap, ap₂, ◌∙◌, subst, arith, ⊎_elim, eq-or-lt_of_le}
+use Rattle.std.proofs.Common.{◌≡◌, ℕ, ◌+◌, ◌-◌, ◌<◌, ◌≤◌, ◌==◌, inr, Bool, true, false, ◌&&◌, List, length, Option, Some, None, option_map, if◌then◌else◌, refl, sym, ap, ◌∙◌, subst, arith, ⊎_elim, eq-or-lt_of_le}
 use Rattle.std.proofs.lemmas.Bool.{cases_lt}
 use Rattle.std.proofs.lemmas.Bool.Decides.{nat_tests}
 use Rattle.csv_rows.specs.declared.feed_tables.Table.TheVariants.{StopTimes}
 use Rattle.csv_rows.specs.declared.feed_tables.FeedFault.{FeedFault}
 use Rattle.csv_rows.specs.declared.feed_tables.FeedFault.TheVariants.{DuplicateKey}
-use Rattle.csv_rows.specs.First.{first_below, any_below}
+use Rattle.csv_rows.specs.First.{first_below}
 use Rattle.csv_rows.proofs.FirstLemmas.{any-true, any-false, none-each, true_or_false}
 use Rattle.gtfs_tables.specs.declared.stop_times.TimedRow.{TimedRow}
 use Rattle.gtfs_tables.specs.declared.keys.Key.{Key}

@@ -1,5 +1,5 @@
 -- The kept rows of a trip, by the keys that are of it.
-use Rattle.std.proofs.Common.{◌≡◌, ℕ, ◌+◌, ◌-◌, ◌<◌, ◌≤◌, ◌⊎◌, Bool, true, false, List, [], ◌∷◌, ◌++◌, length, map, slice_index_or, Option, Some, None, refl, sym, ap, ◌∙◌, subst, arith, ⊎_elim, eq-or-lt_of_le}
+use Rattle.std.proofs.Common.{◌≡◌, ℕ, ◌+◌, ◌-◌, ◌<◌, ◌≤◌, Bool, true, List, [], ◌∷◌, ◌++◌, length, map, slice_index_or, Option, Some, None, refl, sym, ap, ◌∙◌, subst, arith, ⊎_elim, eq-or-lt_of_le}
 use Rattle.std.specs.Prelude.{is_some}
 use Rattle.std.proofs.lemmas.Bool.{cases_lt}
 use Rattle.std.proofs.lemmas.List.{get_or_append_left, get_or_push, length-map, map-append}
@@ -8,7 +8,7 @@ use Rattle.gtfs_tables.specs.declared.stop_times.StopRow.{StopRow}
 use Rattle.gtfs_tables.specs.declared.stop_times.TimedRow.{TimedRow}
 use Rattle.gtfs_tables.specs.declared.keys.Key.{Key}
 use Rattle.gtfs_tables.specs.Lists.{list_below}
-use Rattle.gtfs_tables.specs.StopTimes.{row_at, is_kept, repeated_time}
+use Rattle.gtfs_tables.specs.StopTimes.{row_at, repeated_time}
 use Rattle.gtfs_tables.specs.Keys.{key_at, AreSorted, is_taken}
 use Rattle.gtfs_tables.specs.Visits.{no_visit, visit_or_none, visit_at, IsVisit, AreStopTimes, IsSpanOf}
 use Rattle.gtfs_tables.proofs.BeforeLemmas.{less_trip}

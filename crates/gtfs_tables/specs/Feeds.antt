@@ -133,6 +133,19 @@ AreVisits trips stops places (Ok t) visits =
     (length visits ≡ length trips) × ((trip : ℕ) → trip < length trips → AreStopTimes (timed_rows trips stops places t) trip (slice_index_or visits trip []))
 AreVisits trips stops places (Err fault) visits = ⊥
 
+-- it is so of a table that has no fault
+abbrev pub IsSound : (Records → Option FeedFault) → (Records → Type 0) → Type 0
+IsSound fault is = (t : Records) × (fault t ≡ None) × is t
+
+-- whatever the files tell, a feed is that of some tables with no fault
+pub record IsSoundFeed (f : FeedParts) : Type 0 where
+  pub tables : Tables
+  pub stops : stops_fault tables.stops ≡ None
+  pub routes : routes_fault tables.routes ≡ None
+  pub trips : trips_fault (route_ids tables.routes) tables.trips ≡ None
+  pub stop_times : stop_times_fault (trip_ids tables.trips) (stop_ids tables.stops) (stop_places tables.stops) tables.stop_times ≡ None
+  pub feed : IsFeed tables f
+
 -- the fault may be that this table could not be read, but no other
 abbrev pub MayBeUnread : Table → FeedFault → Type 0
 MayBeUnread table (Read t) = t ≡ table

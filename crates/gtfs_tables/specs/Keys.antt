@@ -1,5 +1,5 @@
 -- Rows in the order of trip and sequence, and what shows there.
-use Rattle.std.specs.Prelude.{◌≡◌, ℕ, zero, suc, ◌-◌, ◌<◌, ◌==◌, nat_lt, min, ◌⊎◌, Bool, true, false, not, ◌&&◌, ◌||◌, List, length, slice_index_or, Option, Some, None, if◌then◌else◌}
+use Rattle.std.specs.Prelude.{◌≡◌, ℕ, zero, suc, ◌-◌, ◌<◌, ◌==◌, nat_lt, min, ◌⊎◌, Bool, true, false, not, ◌||◌, List, length, slice_index_or, Option, Some, None, if◌then◌else◌}
 use Rattle.gtfs_tables.specs.declared.stop_times.TimedRow.{TimedRow}
 use Rattle.gtfs_tables.specs.declared.keys.Key.{Key}
 use Rattle.gtfs_tables.specs.StopTimes.{row_at, is_kept, arrival_of, departure_of}

@@ -9,3 +9,4 @@ pub mod StopTimes
 pub mod Keys
 pub mod Visits
 pub mod Feeds
+pub mod FeedInside

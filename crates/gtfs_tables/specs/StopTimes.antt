@@ -1,5 +1,5 @@
 -- The rows of stop times. Those that name a stop and a time are kept.
-use Rattle.std.specs.Prelude.{ℕ, ◌+◌, ◌==◌, nat_lt, Bool, false, not, ◌&&◌, ◌||◌, List, [], length, slice_index, slice_index_or, Option, Some, None, Result, Ok, option_map, is_some, if◌then◌else◌}
+use Rattle.std.specs.Prelude.{ℕ, ◌+◌, ◌==◌, nat_lt, Bool, not, ◌&&◌, ◌||◌, List, length, slice_index, slice_index_or, Option, Some, None, Result, Ok, option_map, is_some, if◌then◌else◌}
 use Rattle.clock_text.specs.Digits.{whole_of}
 use Rattle.csv_rows.specs.declared.columns.Column.TheVariants.{TripId, StopId, StopSequence, ArrivalTime, DepartureTime, PickupType, DropOffType}
 use Rattle.csv_rows.specs.declared.feed_tables.Table.TheVariants.{StopTimes}
@@ -11,7 +11,7 @@ use Rattle.csv_rows.specs.Tables.{row_count, place_in, place_of, field_at}
 use Rattle.gtfs_tables.specs.declared.stop_times.StopRow.{StopRow}
 use Rattle.gtfs_tables.specs.declared.stop_times.TimedRow.{TimedRow}
 use Rattle.gtfs_tables.specs.declared.stop_times.TimeColumns.{TimeColumns}
-use Rattle.gtfs_tables.specs.Faults.{fault_in, value_or, lack, lacks}
+use Rattle.gtfs_tables.specs.Faults.{fault_in, value_or, lack}
 use Rattle.gtfs_tables.specs.Forms.{text_in, allows_in, time_in}
 use Rattle.gtfs_tables.specs.Lists.{list_below}
 

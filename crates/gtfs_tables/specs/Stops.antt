@@ -1,5 +1,5 @@
 -- The stops of a feed: their ids, and the place of each.
-use Rattle.std.specs.Prelude.{ℕ, ◌+◌, ◌==◌, Bool, List, [], length, Option, Some, None, Result, Ok, is_some, unwrap_or, if◌then◌else◌}
+use Rattle.std.specs.Prelude.{ℕ, ◌+◌, ◌==◌, List, [], length, Option, Some, None, Result, Ok, is_some, unwrap_or, if◌then◌else◌}
 use Rattle.csv_rows.specs.declared.columns.Column.TheVariants.{StopId, LocationType, ParentStation}
 use Rattle.csv_rows.specs.declared.feed_tables.Table.TheVariants.{Stops}
 use Rattle.csv_rows.specs.declared.feed_tables.FeedFault.{FeedFault}

@@ -2,6 +2,7 @@
 #![tactic(auto)]
 
 mod faults;
+mod feed;
 mod forms;
 mod ids;
 mod keys;
@@ -9,6 +10,11 @@ mod routes;
 mod stop_times;
 mod stops;
 mod tables;
+#[cfg(test)]
+mod tests;
 mod timetable;
 mod trips;
 mod visits;
+
+pub use feed::Feed;
+pub use stop_times::StopRow;

@@ -7,6 +7,7 @@ ghost use Rattle.csv_rows.specs.First.{first_below, or_else};
 ghost use Rattle.csv_rows.specs.FeedTables.{unread_of};
 ghost use Rattle.csv_rows.specs.Tables.{row_count};
 ghost use Rattle.gtfs_tables.specs.Faults.{lack as lack_of};
+ghost use Rattle.gtfs_tables.specs.Feeds.{IsSound, AreRoutes};
 ghost use Rattle.gtfs_tables.specs.Routes.{route_columns, route_in, bad_route, route_ids, route_types, routes_fault};
 
 use crate::faults::lack;
@@ -113,6 +114,8 @@ pub(crate) fn read_routes(alloc: Global, rows: &Rows) -> Result<Routes, FeedFaul
     requires { row_count rows.now ≤ 65536 }
     ensures ids { IfOk result (λ routes. routes.ids ≡ route_ids rows.now) }
     ensures types { IfOk result (λ routes. routes.types.items ≡ route_types rows.now) }
+    ensures sound { IfOk result (λ routes. IsSound routes_fault
+        (λ t. AreRoutes (Ok t) routes.ids routes.types.items)) }
     ensures sized { IfOk result (λ routes. length routes.types.items ≡ length routes.ids) }
     ensures none { OnOk result (routes_fault rows.now ≡ None) }
     ensures fault { IfErr result (λ f. f ≢ FeedFault.NoMemory → routes_fault rows.now ≡ Some f) }

@@ -3,7 +3,7 @@ ghost use Rattle.std.specs.Prelude.{◌≡◌, ◌≢◌, ◌<◌, ◌≤◌, �
 ghost use Rattle.csv_rows.specs.First.{first_below};
 ghost use Rattle.csv_rows.specs.FeedTables.{unread_of};
 ghost use Rattle.csv_rows.specs.Tables.{row_count};
-ghost use Rattle.gtfs_tables.specs.Lists.{list_below};
+ghost use Rattle.gtfs_tables.specs.Feeds.{IsSound, AreStops};
 ghost use Rattle.gtfs_tables.specs.Stops.{stop_columns, stop_in, bad_stop, parent_in_row, stop_ids, place_fault, unknown_parent, place_from, stop_places, stops_fault};
 
 use crate::faults::lack;
@@ -140,6 +140,8 @@ pub(crate) fn read_stops(alloc: Global, rows: &Rows) -> Result<Stops, FeedFault>
     requires { row_count rows.now ≤ 1048576 }
     ensures ids { IfOk result (λ stops. stops.ids ≡ stop_ids rows.now) }
     ensures places { IfOk result (λ stops. stops.places.items ≡ stop_places rows.now) }
+    ensures sound { IfOk result (λ stops. IsSound stops_fault
+        (λ t. AreStops (Ok t) stops.ids stops.places.items)) }
     ensures sized { IfOk result (λ stops. length stops.places.items ≡ length stops.ids) }
     ensures none { OnOk result (stops_fault rows.now ≡ None) }
     ensures fault { IfErr result (λ f. f ≢ FeedFault.NoMemory → stops_fault rows.now ≡ Some f) }

@@ -7,7 +7,11 @@ ghost use Rattle.csv_rows.specs.Limits.{AreWithin, rows_of};
 ghost use Rattle.csv_rows.specs.Loading.{HasFeedCause, HasFeedPathCause};
 ghost use Rattle.csv_rows.specs.Tables.{row_count};
 ghost use Rattle.plan_model.specs.NameLists.{texts};
-ghost use Rattle.gtfs_tables.specs.Feeds.{required, load_in, stops_from, routes_from, trips_from, stop_times_from, frequencies_from, AreStops, AreRoutes, AreTrips, AreVisits, MayBeUnread};
+ghost use Rattle.gtfs_tables.specs.Feeds.{required, load_in, stops_from, routes_from, trips_from, stop_times_from, frequencies_from, AreStops, AreRoutes, AreTrips, AreVisits, IsSound, MayBeUnread};
+ghost use Rattle.gtfs_tables.specs.Stops.{stops_fault};
+ghost use Rattle.gtfs_tables.specs.Routes.{routes_fault};
+ghost use Rattle.gtfs_tables.specs.Trips.{trips_fault};
+ghost use Rattle.gtfs_tables.specs.StopTimes.{stop_times_fault};
 
 use crate::ids::Ids;
 use crate::routes::{Routes, read_routes};
@@ -61,7 +65,8 @@ pub(crate) fn load_stops<F: Files>(
         AreStops (stops_from (load_in m folder.now limits.now None StopsTable)) s.ids s.places.items)) }
     ensures fault { IfSome (F.files files.old) (λ m. IfErr result (λ f. f ≢ FeedFault.NoMemory
         → stops_from (load_in m folder.now limits.now (unread_of f) StopsTable) ≡ Err f)) }
-    ensures places { IfOk result (λ s. length s.places.items ≡ length s.ids) }
+    ensures sound { IfOk result (λ s. IsSound stops_fault (λ t. AreStops (Ok t) s.ids s.places.items)) }
+    ensures sized { IfOk result (λ s. length s.places.items ≡ length s.ids) }
     ensures own { IfErr result (MayBeUnread StopsTable) }
     ensures cause { HasFeedCause (F.faults files.old) (F.faults files.new) result }
     ensures path_cause { HasFeedPathCause (IsSome (F.files files.old)) folder.now
@@ -90,6 +95,7 @@ pub(crate) fn load_routes<F: Files>(
         AreRoutes (routes_from (load_in m folder.now limits.now None RoutesTable)) r.ids r.types.items)) }
     ensures fault { IfSome (F.files files.old) (λ m. IfErr result (λ f. f ≢ FeedFault.NoMemory
         → routes_from (load_in m folder.now limits.now (unread_of f) RoutesTable) ≡ Err f)) }
+    ensures sound { IfOk result (λ r. IsSound routes_fault (λ t. AreRoutes (Ok t) r.ids r.types.items)) }
     ensures sized { IfOk result (λ r. length r.types.items ≡ length r.ids) }
     ensures own { IfErr result (MayBeUnread RoutesTable) }
     ensures cause { HasFeedCause (F.faults files.old) (F.faults files.new) result }
@@ -123,6 +129,9 @@ pub(crate) fn load_trips<F: Files>(
         t.ids (texts t.of_trips.services.items) t.of_trips.types.items)) }
     ensures fault { IfSome (F.files files.old) (λ m. IfErr result (λ f. f ≢ FeedFault.NoMemory
         → trips_from (load_in m folder.now limits.now (unread_of f) TripsTable) routes.now.ids ≡ Err f)) }
+    ensures sound { IfOk result (λ r. IsSound (trips_fault routes.now.ids)
+        (λ t. AreTrips routes.now.ids routes.now.types.items (Ok t)
+        r.ids (texts r.of_trips.services.items) r.of_trips.types.items)) }
     ensures services_sized { IfOk result (λ t. length t.of_trips.services.items ≡ length t.ids) }
     ensures types_sized { IfOk result (λ t. length t.of_trips.types.items ≡ length t.ids) }
     ensures own { IfErr result (MayBeUnread TripsTable) }
@@ -160,6 +169,9 @@ pub(crate) fn load_stop_times<F: Files>(
     ensures fault { IfSome (F.files files.old) (λ m. IfErr result (λ f. f ≢ FeedFault.NoMemory
         → stop_times_from (load_in m folder.now limits.now (unread_of f) StopTimesTable)
         trips.now stops.now.ids stops.now.places.items ≡ Err f)) }
+    ensures sound { IfOk result (λ v.
+        IsSound (stop_times_fault trips.now stops.now.ids stops.now.places.items)
+        (λ t. AreVisits trips.now stops.now.ids stops.now.places.items (Ok t) (map vec_items v.items))) }
     ensures sized { IfOk result (λ v. length v.items ≡ length trips.now) }
     ensures own { IfErr result (MayBeUnread StopTimesTable) }
     ensures cause { HasFeedCause (F.faults files.old) (F.faults files.new) result }

@@ -1,8 +1,9 @@
 //! The stop times of a feed.
-ghost use Rattle.std.specs.Prelude.{◌≡◌, ◌≢◌, ◌<◌, ◌≤◌, ℕ, length, map, vec_items, slice_index_or, [], None, Some, IfOk, IfErr, OnOk};
+ghost use Rattle.std.specs.Prelude.{◌≡◌, ◌≢◌, ◌<◌, ◌≤◌, ℕ, length, map, vec_items, slice_index_or, [], None, Some, Ok, IfOk, IfErr, OnOk};
 ghost use Rattle.csv_rows.specs.First.{first_below};
 ghost use Rattle.csv_rows.specs.FeedTables.{unread_of};
 ghost use Rattle.csv_rows.specs.Tables.{row_count};
+ghost use Rattle.gtfs_tables.specs.Feeds.{IsSound, AreVisits};
 ghost use Rattle.gtfs_tables.specs.StopTimes.{timed_rows, repeated_time, order_fault, stop_times_fault};
 ghost use Rattle.gtfs_tables.specs.Visits.{AreStopTimes};
 
@@ -72,6 +73,10 @@ pub(crate) fn read_stop_times(
     ensures each { IfOk result (λ visits. (trip : ℕ) → trip < length trips.now → AreStopTimes
         (timed_rows trips.now stops.now.ids stops.now.places.items rows.now) trip
         (slice_index_or (map vec_items visits.items) trip [])) }
+    ensures sound { IfOk result (λ visits.
+        IsSound (stop_times_fault trips.now stops.now.ids stops.now.places.items)
+        (λ t. AreVisits trips.now stops.now.ids stops.now.places.items (Ok t)
+        (map vec_items visits.items))) }
     ensures none { OnOk result
         (stop_times_fault trips.now stops.now.ids stops.now.places.items rows.now ≡ None) }
     ensures fault { IfErr result (λ f. f ≢ FeedFault.NoMemory

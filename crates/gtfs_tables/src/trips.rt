@@ -7,6 +7,7 @@ ghost use Rattle.csv_rows.specs.FeedTables.{unread_of};
 ghost use Rattle.csv_rows.specs.Tables.{row_count};
 ghost use Rattle.plan_model.specs.NameLists.{texts};
 ghost use Rattle.gtfs_tables.specs.Faults.{lack as lack_of};
+ghost use Rattle.gtfs_tables.specs.Feeds.{IsSound, AreTrips};
 ghost use Rattle.gtfs_tables.specs.Trips.{trip_columns, trip_in, bad_trip, trip_ids, trip_services, trip_types, trips_fault};
 
 use crate::faults::lack;
@@ -154,6 +155,9 @@ pub(crate) fn read_trips(alloc: Global, rows: &Rows, routes: &Routes) -> Result<
         ≡ trip_services routes.now.ids rows.now) }
     ensures types { IfOk result (λ trips. trips.of_trips.types.items
         ≡ trip_types routes.now.ids routes.now.types.items rows.now) }
+    ensures sound { IfOk result (λ trips. IsSound (trips_fault routes.now.ids)
+        (λ t. AreTrips routes.now.ids routes.now.types.items (Ok t)
+        trips.ids (texts trips.of_trips.services.items) trips.of_trips.types.items)) }
     ensures services_sized { IfOk result (λ trips. length trips.of_trips.services.items ≡ length trips.ids) }
     ensures types_sized { IfOk result (λ trips. length trips.of_trips.types.items ≡ length trips.ids) }
     ensures none { OnOk result (trips_fault routes.now.ids rows.now ≡ None) }

@@ -1,4 +1,4 @@
-use Rattle.std.proofs.Common.{◌≡◌, sym, ap, ◌∙◌, refl, arith, subst, ℕ, length, ◌+◌, Vec, Global}
+use Rattle.std.proofs.Common.{◌≡◌, sym, ◌∙◌, refl, arith, subst, ℕ, length, ◌+◌, Vec, Global}
 use Rattle.gtfs_tables.specs.declared.keys.Key.{Key}
 use Rattle.gtfs_tables.specs.Keys.{is_taken}
 use Rattle.gtfs_tables.proofs.SortLemmas.{AreKeys, key_of, sorted_are, keys-none, keys-passed, keys-taken}

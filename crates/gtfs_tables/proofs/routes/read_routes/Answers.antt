@@ -1,4 +1,5 @@
-use Rattle.std.proofs.Common.{◌≡◌, None, Some, sym, ap, ◌∙◌}
+use Rattle.std.proofs.Common.{None, sym, ap, ◌∙◌}
+use Rattle.gtfs_tables.specs.Lists.{list_below}
 use Rattle.csv_rows.specs.declared.columns.Column.TheVariants.{RouteId, RouteType}
 use Rattle.csv_rows.specs.declared.feed_tables.Table.TheVariants.{Routes}
 use Rattle.csv_rows.specs.First.{or_else}
@@ -48,3 +49,9 @@ pub returns-in-Ok-read_ids-clause-sized : goal.returns-in-Ok-read_ids-clause-siz
 returns-in-Ok-read_ids-clause-sized c =
     let t = c.args.rows.now in
     same_length (λ i. (route_or_none (route_at t i)).kind) (field_at t c.route_columns-columns.result.id) (row_count t) _ _ c.in-Ok.ensures.types c.in-Ok-read_ids.ensures.ids
+
+pub returns-in-Ok-read_ids-clause-sound : goal.returns-in-Ok-read_ids-clause-sound
+returns-in-Ok-read_ids-clause-sound c =
+    let t = c.args.rows.now in
+    let place = ap (λ (k : RouteColumns). k.id) c.route_columns-columns.ensures in
+    (t, returns-in-Ok-read_ids-clause-none c, (c.in-Ok-read_ids.ensures.ids ∙ ap (λ p. list_below (field_at t p) (row_count t)) place, c.in-Ok.ensures.types))

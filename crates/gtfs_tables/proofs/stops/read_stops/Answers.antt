@@ -1,10 +1,9 @@
-use Rattle.std.proofs.Common.{◌≡◌, ℕ, None, Some, sym, ap, ◌∙◌, subst}
+use Rattle.std.proofs.Common.{None, sym, ap, ◌∙◌}
 use Rattle.csv_rows.specs.declared.columns.Column.TheVariants.{StopId}
 use Rattle.csv_rows.specs.declared.feed_tables.Table.TheVariants.{Stops}
-use Rattle.csv_rows.specs.First.{first_below}
 use Rattle.csv_rows.specs.Tables.{place_of, field_at, row_count}
 use Rattle.gtfs_tables.specs.declared.stops.StopColumns.{StopColumns}
-use Rattle.gtfs_tables.specs.Faults.{lack, repeated_id}
+use Rattle.gtfs_tables.specs.Faults.{lack}
 use Rattle.gtfs_tables.specs.Lists.{list_below}
 use Rattle.gtfs_tables.specs.Stops.{stop_ids, parent_of, place_from, stops_fault}
 use Rattle.gtfs_tables.proofs.RowLemmas.{or_first, or_then, named_is, ids_fault_is}
@@ -60,3 +59,9 @@ pub returns-in-Ok-read_places-clause-sized : goal.returns-in-Ok-read_places-clau
 returns-in-Ok-read_places-clause-sized c =
     let t = c.args.rows.now in
     same_length (λ i. place_from (stop_ids t) (parent_of t i) i) (field_at t c.stop_columns-columns.result.id) (row_count t) _ _ c.in-Ok-read_places.ensures.places c.in-Ok-read_ids.ensures.ids
+
+pub returns-in-Ok-read_places-clause-sound : goal.returns-in-Ok-read_places-clause-sound
+returns-in-Ok-read_places-clause-sound c =
+    let t = c.args.rows.now in
+    let place = ap (λ (k : StopColumns). k.id) c.stop_columns-columns.ensures in
+    (t, returns-in-Ok-read_places-clause-none c, (c.in-Ok-read_ids.ensures.ids ∙ ap (λ p. list_below (field_at t p) (row_count t)) place, c.in-Ok-read_places.ensures.places))

@@ -1,4 +1,7 @@
-use Rattle.std.proofs.Common.{◌≡◌, None, Some, List, length, sym, ap, ◌∙◌, arith}
+use Rattle.std.proofs.Common.{List, [], length, map, slice_index_or, sym, ap, ◌∙◌, subst, arith}
+use Rattle.std.specs.Prelude.{vec_items}
+use Rattle.std.proofs.lemmas.List.{length-map}
+use Rattle.gtfs_tables.specs.Visits.{AreStopTimes}
 use Rattle.gtfs_tables.specs.declared.stop_times.TimedRow.{TimedRow}
 use Rattle.gtfs_tables.specs.StopTimes.{missing_time_column, order_fault, stop_times_fault}
 use Rattle.gtfs_tables.proofs.RowLemmas.{or_first, or_then}
@@ -36,3 +39,16 @@ unfolding stop_times_fault
 returns-clause-fault c = λ free.
     or_then _ _ _ (sym (ap missing_time_column c.time_columns-columns.ensures) ∙ sym c.in_default.ensures) (or_then _ _ _ c.in-Ok.ensures.none
     (ap order_fault (sym (c.as_slice.ensures.value ∙ c.in-Ok.ensures.rows)) ∙ c.in-Err-in_order.ensures.fault free))
+
+pub returns-in-Ok-in_order-clause-sound : goal.returns-in-Ok-in_order-clause-sound
+returns-in-Ok-in_order-clause-sound c =
+    let v = c.in-Ok-in_order.visits.items in
+    let same = c.as_slice.ensures.value ∙ c.in-Ok.ensures.rows in
+    let size = c.in-Ok-in_order.ensures.size ∙ c.len.ensures.count in (
+      c.args.rows.now,
+      returns-in-Ok-in_order-clause-none c,
+      (
+        length-map v vec_items ∙ size,
+        λ trip h. subst (λ (xs : List TimedRow). AreStopTimes xs trip (slice_index_or (map vec_items v) trip [])) same (c.in-Ok-in_order.ensures.each trip (omega (arith, h, c.len.ensures.count))),
+      ),
+    )

@@ -1,4 +1,4 @@
-use Rattle.std.proofs.Common.{◌≡◌, ℕ, None, Some, sym, ap, ◌∙◌, arith, slice_index_or, string_bytes, List}
+use Rattle.std.proofs.Common.{ℕ, None, sym, ap, ◌∙◌, arith, slice_index_or, string_bytes, List}
 use Rattle.csv_rows.specs.Tables.{row_count}
 use Rattle.csv_rows.proofs.FirstLemmas.{first-zero, first-next, first-at}
 use Rattle.plan_model.specs.NameLists.{texts}

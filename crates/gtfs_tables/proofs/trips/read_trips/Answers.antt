@@ -1,4 +1,5 @@
-use Rattle.std.proofs.Common.{◌≡◌, None, Some, sym, ap, ◌∙◌, slice_index_or, string_bytes}
+use Rattle.std.proofs.Common.{None, sym, ap, ◌∙◌, slice_index_or, string_bytes}
+use Rattle.gtfs_tables.specs.Lists.{list_below}
 use Rattle.std.proofs.lemmas.List.{length-map}
 use Rattle.csv_rows.specs.declared.columns.Column.TheVariants.{RouteId, ServiceId, TripId}
 use Rattle.csv_rows.specs.declared.feed_tables.Table.TheVariants.{Trips}
@@ -57,3 +58,12 @@ returns-in-Ok-read_ids-clause-services_sized c =
     sym (length-map c.in-Ok.of_trips.services.items string_bytes)
     ∙ same_length (λ i. (trip_or_none (trip_at c.args.routes.now.ids t i)).service) (field_at t c.trip_columns-columns.result.id) (row_count t)
     _ _ c.in-Ok.ensures.services c.in-Ok-read_ids.ensures.ids
+
+pub returns-in-Ok-read_ids-clause-sound : goal.returns-in-Ok-read_ids-clause-sound
+returns-in-Ok-read_ids-clause-sound c =
+    let t = c.args.rows.now in
+    let place = ap (λ (k : TripColumns). k.id) c.trip_columns-columns.ensures in (
+      t,
+      returns-in-Ok-read_ids-clause-none c,
+      (c.in-Ok-read_ids.ensures.ids ∙ ap (λ p. list_below (field_at t p) (row_count t)) place, c.in-Ok.ensures.services, c.in-Ok.ensures.types),
+    )

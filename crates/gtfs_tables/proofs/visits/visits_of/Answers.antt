@@ -1,7 +1,6 @@
 use Rattle.std.proofs.lemmas.Bool.{cases_lt}
-use Rattle.std.proofs.Common.{◌≡◌, ◌<◌, ◌≤◌, ◌+◌, ◌∷◌, [], ℕ, true, ⊎_elim, List, ap, ◌∙◌, arith, length, length-append}
+use Rattle.std.proofs.Common.{◌<◌, ◌≤◌, ◌∷◌, [], true, ⊎_elim, ap, arith, length, length-append}
 use Rattle.std.specs.Prelude.{vec_items}
-use Rattle.gtfs_tables.specs.declared.stop_times.StopRow.{StopRow}
 use Rattle.gtfs_tables.specs.Keys.{is_taken}
 use Rattle.gtfs_tables.specs.Visits.{AreStopTimes}
 use Rattle.gtfs_tables.proofs.VisitLemmas.{visits_are, span_is, each_next}
