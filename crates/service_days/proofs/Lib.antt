@@ -1,0 +1,4 @@
+mod ActiveLemmas
+mod DateLemmas
+mod NumberLemmas
+mod PeriodLemmas
