@@ -2,3 +2,4 @@ mod ActiveLemmas
 mod DateLemmas
 mod NumberLemmas
 mod PeriodLemmas
+mod ReadLemmas

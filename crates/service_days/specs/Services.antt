@@ -23,3 +23,13 @@ runs_at periods exceptions day service =
 -- whether a service runs on a day
 abbrev pub runs_in : List (List ℕ) → List Period → List Exception → List ℕ → ℤ → Bool
 runs_in ids periods exceptions service day = runs_at periods exceptions day (place_in service ids)
+
+-- services by their numbers, with their periods and exceptions
+pub record ServiceParts : Type 0 where
+  pub ids : List (List ℕ)
+  pub periods : List Period
+  pub exceptions : List Exception
+
+-- whether a service runs on a day
+abbrev pub runs : ServiceParts → List ℕ → ℤ → Bool
+runs s service day = runs_in s.ids s.periods s.exceptions service day

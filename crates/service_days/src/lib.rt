@@ -6,4 +6,7 @@ mod dates;
 mod exceptions;
 mod forms;
 mod periods;
+mod services;
 mod tables;
+
+pub use services::Services;
