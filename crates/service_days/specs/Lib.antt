@@ -5,3 +5,4 @@ pub mod Exceptions
 pub mod Numbered
 pub mod Services
 pub mod Calendars
+pub mod Days

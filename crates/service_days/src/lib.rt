@@ -10,3 +10,6 @@ mod services;
 mod tables;
 
 pub use services::Services;
+
+#[cfg(test)]
+mod tests;

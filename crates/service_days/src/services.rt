@@ -1,9 +1,10 @@
 //! Services and the days on which they run.
-ghost use Rattle.std.specs.Prelude.{◌≡◌, ◌≢◌, ℕ, ℤ, None, Some, Err, IfOk, IfErr, IfSome, IsOkAnd, IsSome};
+ghost use Rattle.std.specs.Prelude.{◌≡◌, ◌≢◌, ℕ, ℤ, None, Some, Err, IfOk, IfErr, IfSome, IsOkAnd, IsSome, ◌<◌, ◌+ℤ◌, pos, filter};
 ghost use Rattle.csv_rows.specs.FeedTables.{unread_of};
 ghost use Rattle.csv_rows.specs.Limits.{AreWithin};
 ghost use Rattle.csv_rows.specs.Loading.{HasFeedCause, HasFeedPathCause};
 ghost use Rattle.service_days.specs.Services.{period_runs, runs};
+ghost use Rattle.service_days.specs.Days.{day_count, days_between};
 ghost use Rattle.service_days.specs.Calendars.{calendars_in, RunsBy, IsCalendarFault};
 
 use crate::exceptions::{Exception, has};
@@ -12,6 +13,7 @@ use crate::tables::{LoadedCalendar, load_calendar, load_dates};
 use csv_rows::{FeedFault, Ids, Limits, Table};
 use file_ports::Files;
 use indexmap::IndexSet;
+use plan_model::{List, NoMemory};
 use std::alloc::Global;
 use std::marker::Model;
 
@@ -28,8 +30,11 @@ impl Model for Services {
 
     ghost Value = { ServiceParts };
 
-    ghost view = { λ s. record { ids = s.ids; periods = s.periods.items;
-        exceptions = s.exceptions.keys } };
+    ghost view = { λ s. record {
+      ids = s.ids;
+      periods = s.periods.items;
+      exceptions = s.exceptions.keys;
+    } };
 }
 
 /// Whether the period of the service of this number lets it run on a day.
@@ -106,4 +111,45 @@ impl Services {
         };
         has(&self.exceptions, &added) || period_runs(self.periods.as_slice(), service, day)
     }
+
+    /// The days from `first` to `last`, both included, on which a service runs, rising. They are day numbers from
+    /// 1970-01-01. There is none where `first` is after `last`.
+    pub fn days(
+        &self,
+        alloc: Global,
+        service: &str,
+        first: i32,
+        last: i32,
+    ) -> Result<List<i32>, NoMemory>
+        ensures { IfOk result (λ days.
+            days ≡ filter (runs self.now service.now) (days_between first last)) }
+    {
+        let mut days: List<i32> = List::new(alloc);
+        for n in 0..day_count(first, last) {
+            let day = day_after(first, last, n);
+            if self.runs_on(service, day) {
+                days.push(day)?;
+            }
+        }
+        Ok(days)
+    }
+}
+
+/// How many days there are from a first to a last one.
+fn day_count(first: i32, last: i32) -> u64
+    ensures { result ≡ day_count first last }
+{
+    if first <= last {
+        (i64::from(last) - i64::from(first)).unsigned_abs() + 1
+    } else {
+        0
+    }
+}
+
+/// The day that is so many after the first.
+fn day_after(first: i32, last: i32, n: u64) -> i32
+    requires { n < day_count first last }
+    ensures { result ≡ first +ℤ pos n }
+{
+    (i64::from(first) + n as i64) as i32
 }
