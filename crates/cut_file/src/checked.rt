@@ -1,5 +1,5 @@
 //! A cut file with no fault.
-ghost use Rattle.std.specs.Prelude.{◌≡◌, ◌≢◌, ◌≤◌, length, Some, None, option_map, OnOk, IfOk, IfErr};
+ghost use Rattle.std.specs.Prelude.{◌≡◌, ◌≢◌, ◌≤◌, ◌^◌, length, Some, None, option_map, OnOk, IfOk, IfErr};
 ghost use Rattle.csv_rows.specs.First.{or_else};
 ghost use Rattle.csv_rows.specs.Spaces.{AreTrimmed};
 ghost use Rattle.cut_file.specs.Faults.{first_fault};
@@ -43,9 +43,10 @@ fn missing_column(columns: &Columns) -> Option<CutFault>
 
 /// The first fault of the runs.
 fn run_fault(rows: &[CutRow], keys: &[Key]) -> Option<CutFault>
-    requires few { length rows.now ≤ 8388608 }
+    requires few { length rows.now ≤ 2 ^ 23 }
     requires sorted { AreSorted rows.now keys.now }
-    ensures { result ≡ or_else (option_map (λ x. x.fault) (least_repeat keys.now (length keys.now))) (option_map (λ x. x.fault) (least_beside rows.now keys.now (length keys.now))) }
+    ensures { result ≡ or_else (option_map (λ x. x.fault) (least_repeat keys.now (length keys.now)))
+        (option_map (λ x. x.fault) (least_beside rows.now keys.now (length keys.now))) }
 {
     match first_repeat(rows, keys) {
         Some(found) => Some(found.fault),
@@ -58,11 +59,13 @@ fn run_fault(rows: &[CutRow], keys: &[Key]) -> Option<CutFault>
 
 /// The rows of a cut file, or the first of its faults.
 pub(crate) fn read_checked(alloc: Global, rows: &Rows, limits: &Limits) -> Result<Checked, CutFault>
-    requires { limits.now.cut_rows ≤ 8388608 }
+    requires { limits.now.cut_rows ≤ 2 ^ 23 }
     ensures trimmed { OnOk result (AreTrimmed rows.now) }
     ensures none { OnOk result (first_fault rows.now limits.now.cut_rows ≡ None) }
-    ensures cut { IfOk result (λ c. IsRead rows.now c.cut.names.runs c.cut.names.places c.cut.rows.items c.keys.items) }
-    ensures fault { IfErr result (λ f. f ≢ CutFault.NoMemory → first_fault rows.now limits.now.cut_rows ≡ Some f) }
+    ensures cut { IfOk result (λ c.
+        IsRead rows.now c.cut.names.runs c.cut.names.places c.cut.rows.items c.keys.items) }
+    ensures fault { IfErr result (λ f. f ≢ CutFault.NoMemory
+        → first_fault rows.now limits.now.cut_rows ≡ Some f) }
 {
     let columns = columns_of(rows);
     if let Some(fault) = missing_column(&columns) {

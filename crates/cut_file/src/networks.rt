@@ -44,7 +44,8 @@ pub(crate) fn connections_of(
     delays: &DelayTable,
 ) -> Result<List<Connection>, NoMemory>
     requires { AreSorted rows.now keys.now }
-    ensures { IfOk result (λ connections. AreConnections delays.now.types rows.now keys.now (length keys.now) connections) }
+    ensures { IfOk result (λ connections.
+        AreConnections delays.now.types rows.now keys.now (length keys.now) connections) }
 {
     let mut connections: List<Connection> = List::new(alloc);
     for k in 0..keys.len() {
@@ -68,7 +69,8 @@ fn seconds_of(change: Option<u32>) -> u32
 fn longest_of(alloc: Global, rows: &[CutRow], places: u32) -> Result<Vec<u32>, NoMemory>
     requires { (i : ℕ) → i < length rows.now → (cut_row rows.now i).from < places }
     ensures size { IfOk result (λ times. length times.items ≡ places) }
-    ensures each { IfOk result (λ times. (p : ℕ) → p < places → slice_index times.items p ≡ longest rows.now (length rows.now) p) }
+    ensures each { IfOk result (λ times. (p : ℕ) → p < places
+        → slice_index times.items p ≡ longest rows.now (length rows.now) p) }
 {
     let mut times: Vec<u32> = Vec::new(alloc);
     for _ in 0..places {
@@ -86,7 +88,8 @@ fn longest_of(alloc: Global, rows: &[CutRow], places: u32) -> Result<Vec<u32>, N
 pub(crate) fn changes_of(alloc: Global, rows: &[CutRow], places: u32) -> Result<List<u32>, NoMemory>
     requires { (i : ℕ) → i < length rows.now → (cut_row rows.now i).from < places }
     ensures size { IfOk result (λ change. length change ≡ places) }
-    ensures each { IfOk result (λ change. (p : ℕ) → p < places → slice_index change p ≡ change_from (longest rows.now (length rows.now) p)) }
+    ensures each { IfOk result (λ change. (p : ℕ) → p < places
+        → slice_index change p ≡ change_from (longest rows.now (length rows.now) p)) }
 {
     let times = longest_of(alloc, rows, places)?;
     let mut change: List<u32> = List::new(alloc);

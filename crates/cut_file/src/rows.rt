@@ -104,7 +104,9 @@ fn read_row<'a>(rows: &'a Rows, row: usize, columns: &Columns) -> Result<NamedRo
     requires row { row < row_count rows.now }
     requires columns { AreColumns rows.now columns.now }
     ensures row { IfOk result (λ r. row_at rows.now row
-        ≡ Ok (record { run = r.run.now; step = r.step; from = r.from.now; to = r.to.now; dep = r.dep; arr = r.arr; class = r.class; board = r.board; exit = r.exit; change = r.change })) }
+        ≡ Ok (record { run = r.run.now; step = r.step; from = r.from.now; to = r.to.now;
+            dep = r.dep; arr = r.arr; class = r.class; board = r.board; exit = r.exit;
+            change = r.change })) }
     ensures column { IfErr result (λ column. row_at rows.now row ≡ Err column) }
 {
     match read_fields(fields_of(rows, row, columns)) {
@@ -118,9 +120,12 @@ fn numbered(names: &mut Names, row: &NamedRow<'_>) -> Result<CutRow, NoMemory>
     requires runs { length names.old.runs < 2 ^ 32 - 1 }
     requires places { length names.old.places < 2 ^ 32 - 2 }
     ensures runs { OnOk result (names.new.runs ≡ add_new names.old.runs row.now.run.now) }
-    ensures places { OnOk result (names.new.places ≡ add_new (add_new names.old.places row.now.from.now) row.now.to.now) }
+    ensures places { OnOk result (names.new.places
+        ≡ add_new (add_new names.old.places row.now.from.now) row.now.to.now) }
     ensures row { IfOk result (λ c. IsNumbered names.new.runs names.new.places
-        (record { run = row.now.run.now; step = row.now.step; from = row.now.from.now; to = row.now.to.now; dep = row.now.dep; arr = row.now.arr; class = row.now.class; board = row.now.board; exit = row.now.exit; change = row.now.change }) c) }
+        (record { run = row.now.run.now; step = row.now.step; from = row.now.from.now;
+            to = row.now.to.now; dep = row.now.dep; arr = row.now.arr; class = row.now.class;
+            board = row.now.board; exit = row.now.exit; change = row.now.change }) c) }
 {
     let run = run_number(names, row.run)?;
     let from = place_number(names, row.from)?;
@@ -146,14 +151,15 @@ pub(crate) fn read_rows(
     columns: &Columns,
 ) -> Result<NumberedRows, CutFault>
     requires columns { AreColumns rows.now columns.now }
-    requires few { row_count rows.now ≤ 8388608 }
+    requires few { row_count rows.now ≤ 2 ^ 23 }
     ensures none { OnOk result (first_below (bad_field rows.now) (row_count rows.now) ≡ None) }
     ensures size { IfOk result (λ cut. length cut.rows.items ≡ row_count rows.now) }
     ensures each { IfOk result (λ cut. (k : ℕ) (d : CutRow) → k < row_count rows.now
         → IsNumbered cut.names.runs cut.names.places (row rows.now k) (slice_index_or cut.rows.items k d)) }
     ensures runs { IfOk result (λ cut. cut.names.runs ≡ run_names rows.now (row_count rows.now)) }
     ensures places { IfOk result (λ cut. cut.names.places ≡ place_names rows.now (row_count rows.now)) }
-    ensures err { IfErr result (λ f. f ≢ CutFault.NoMemory → first_below (bad_field rows.now) (row_count rows.now) ≡ Some f) }
+    ensures err { IfErr result (λ f. f ≢ CutFault.NoMemory
+        → first_below (bad_field rows.now) (row_count rows.now) ≡ Some f) }
 {
     let mut names = Names::new(alloc);
     let mut cut: Vec<CutRow> = Vec::new(alloc);

@@ -1,5 +1,5 @@
 //! The rows of a cut file, of which a network is made.
-ghost use Rattle.std.specs.Prelude.{◌≡◌, ◌≢◌, ◌≤◌, Some, None, OnOk, IfOk, IfErr};
+ghost use Rattle.std.specs.Prelude.{◌≡◌, ◌≢◌, ◌≤◌, ◌^◌, Some, None, OnOk, IfOk, IfErr};
 ghost use Rattle.plan_model.specs.NameLists.{NamesFit};
 ghost use Rattle.cut_file.specs.Faults.{first_fault};
 ghost use Rattle.cut_file.specs.Read.{IsRead};
@@ -31,17 +31,22 @@ impl Model for CutTable {
 
     ghost use Rattle.cut_file.specs.Sound.{IsSound};
 
-    ghost view = { λ c. record { runs = c.names.runs; places = c.names.places; rows = c.rows.items; keys = c.keys.items } };
+    ghost view = { λ c. record { runs = c.names.runs; places = c.names.places; rows = c.rows.items;
+        keys = c.keys.items } };
 
-    ghost invariant = { λ c. IsSound (record { runs = c.names.runs; places = c.names.places; rows = c.rows.items; keys = c.keys.items }) };
+    ghost invariant = { λ c. IsSound (record { runs = c.names.runs; places = c.names.places;
+        rows = c.rows.items; keys = c.keys.items }) };
 }
 
-/// The rows of a cut file, or the first of its faults.
+/// The rows of a cut file, or the first of its faults. It is a table with the columns `run`, `step`, `from`, `to`, `dep`
+/// and `arr`; `class`, `board`, `exit` and `change` may lack. Rows stand in any order; runs and places are numbered as they
+/// first stand, `from` before `to` in one row.
 pub fn read_cut(alloc: Global, rows: &Rows, limits: &Limits) -> Result<CutTable, CutFault>
-    requires { limits.now.cut_rows ≤ 8388608 }
+    requires { limits.now.cut_rows ≤ 2 ^ 23 }
     ensures table { IfOk result (λ table. IsRead rows.now table.runs table.places table.rows table.keys) }
     ensures none { OnOk result (first_fault rows.now limits.now.cut_rows ≡ None) }
-    ensures fault { IfErr result (λ f. f ≢ CutFault.NoMemory → first_fault rows.now limits.now.cut_rows ≡ Some f) }
+    ensures fault { IfErr result (λ f. f ≢ CutFault.NoMemory
+        → first_fault rows.now limits.now.cut_rows ≡ Some f) }
 {
     match read_checked(alloc, rows, limits) {
         Err(fault) => Err(fault),
@@ -54,7 +59,9 @@ pub fn read_cut(alloc: Global, rows: &Rows, limits: &Limits) -> Result<CutTable,
 }
 
 impl CutTable {
-    /// The network of these rows with these delays, and the names of its places and runs.
+    /// The network of these rows with these delays, and the names of its places and runs. A class that the delays do not
+    /// name is `*`. The change time of a place is the largest `change` of the rows that leave it, at least 1 second, and
+    /// 120 seconds where none tells one.
     pub fn network(&self, alloc: Global, delays: &DelayTable) -> Result<(Network, Names), NoMemory>
         ensures network { IfOk result (λ r. IsNetwork self.now delays.now r.0) }
         ensures runs { IfOk result (λ r. r.1.runs ≡ self.now.runs) }

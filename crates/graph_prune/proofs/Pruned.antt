@@ -1,5 +1,5 @@
 -- The graph of the rides that were walked, with rows by limits, unfolds to the same tree and is pruned.
-use Rattle.std.proofs.Common.{◌≡◌, ◌≢◌, ℕ, ◌≤◌, ◌<◌, ◌⊎◌, List, [], ◌∷◌, map, Option, Some, None, Contains, All, AllPairs, arith, sym, subst, refl, inl, inr, ◌∙◌, ap}
+use Rattle.std.proofs.Common.{◌≡◌, ◌≢◌, ℕ, ◌<◌, List, [], ◌∷◌, map, Option, Some, None, Contains, All, arith, sym, subst, refl, inl, inr, ◌∙◌, ap}
 use Rattle.plan_model.specs.declared.model.Leg.{Leg}
 use Rattle.plan_model.specs.declared.model.Outcome.{Outcome}
 use Rattle.plan_model.specs.declared.model.Query.{Query}
@@ -14,17 +14,18 @@ use Rattle.plan_graph.specs.declared.Ride.{Ride}
 use Rattle.plan_graph.specs.declared.ExpandedGraph.{ExpandedGraph}
 use Rattle.plan_graph.specs.Rows.{pick_row, pick_after, Precedes}
 use Rattle.plan_graph.specs.Unfold.{unfold_expanded}
-use Rattle.plan_graph.specs.Ready.{IsReady, IsReadyRide, IsReadyRow, IsBefore, IsBusy, IsPruned, IsByLimits, IsPickedAfter, IsLegOf, IsFirst, IsSafeForSome, Stands, pick_in_time}
+use Rattle.plan_graph.specs.Ready.{IsReady, IsReadyRide, IsReadyRow, IsBefore, IsBusy, IsPruned, IsByLimits, IsPickedAfter, IsFirst, IsSafeForSome, Stands}
 use Rattle.plan_graph.specs.Follows.{Follows}
 use Rattle.leg_walk.specs.Tables.{row_by}
 use Rattle.leg_walk.specs.Placed.{Has}
 use Rattle.leg_walk.specs.Walked.{IsWalked}
 use Rattle.leg_walk.proofs.Lists.{Later, has_from_map, contains_from_has, has_from_contains, all_from_has, all_at_has, pairs_from_later, later_from_pairs}
-use Rattle.leg_walk.proofs.Tables.{IsChosenAt, first_pick, picked_has, same_next, same_limit}
-use Rattle.leg_walk.proofs.Graphs.{ready, busy, picks_taken, first_row}
+use Rattle.leg_walk.proofs.Tables.{first_pick, picked_has, same_next, same_limit}
+use Rattle.leg_walk.proofs.Graphs.{ready, busy, picks_taken}
 use Rattle.graph_prune.specs.Limits.{by_limits, ride_by_limits}
-use Rattle.graph_prune.proofs.Limits.{IsLimitOf, first_by_limits, limit_member, limits_rise, in_time_by, rows_after-limits}
-use Rattle.graph_prune.proofs.Sources.{ride_there, rows_after-own, kept_after, start_can}
+use Rattle.graph_prune.proofs.Limits.{first_by_limits, limit_member, limits_rise, in_time_by, rows_after-limits}
+use Rattle.leg_walk.proofs.Rides.{ride_there, rows_after-own}
+use Rattle.graph_prune.proofs.Sources.{kept_after, start_can}
 
 rises_from : (rides : List Ride) (n : Parts) → Later (λ a b. Precedes a.leg b.leg) rides → Later (λ a b. Precedes a.leg b.leg) (map (ride_by_limits n) rides)
 rises_from [] n later = tt

@@ -1,5 +1,5 @@
 -- A graph of the rides that were walked is ready, where what is chosen is kept.
-use Rattle.std.proofs.Common.{◌≡◌, ◌≢◌, ℕ, ◌+◌, ◌≤◌, ◌<◌, ◌⊎◌, List, [], ◌∷◌, Option, Some, Contains, All, AllPairs, arith, sym, subst, refl, inl, inr, ◌∙◌, ap}
+use Rattle.std.proofs.Common.{◌≡◌, ◌≢◌, ℕ, ◌<◌, List, Option, Some, Contains, All, AllPairs, sym, subst, inl, inr, ◌∙◌, ap}
 use Rattle.std.proofs.lemmas.Bool.{cases_eq}
 use Rattle.plan_model.specs.declared.model.Leg.{Leg}
 use Rattle.plan_model.specs.declared.model.Outcome.{Outcome}
@@ -12,12 +12,11 @@ use Rattle.plan_model.specs.Unfold.{end_of, arrival_of, outcomes_of, unfolded}
 use Rattle.plan_graph.specs.declared.GraphRow.{GraphRow}
 use Rattle.plan_graph.specs.declared.Ride.{Ride}
 use Rattle.plan_graph.specs.declared.ExpandedGraph.{ExpandedGraph}
-use Rattle.plan_graph.specs.Rows.{pick_row, Precedes}
-use Rattle.plan_graph.specs.Unfold.{unfold_expanded}
+use Rattle.plan_graph.specs.Rows.{pick_row}
 use Rattle.plan_graph.specs.Ready.{IsLegOf, IsReady, IsReadyRide, IsReadyRow, IsBefore, IsBusy, IsPickedAfter, IsSafeForSome, IsFirst, Stands, pick_in_time}
-use Rattle.leg_walk.specs.Tables.{row_by, rows_for, table_of}
+use Rattle.leg_walk.specs.Tables.{row_by, table_of}
 use Rattle.leg_walk.specs.Placed.{Has}
-use Rattle.leg_walk.specs.Walked.{IsWalked, IsTaken}
+use Rattle.leg_walk.specs.Walked.{IsWalked}
 use Rattle.leg_walk.proofs.Lists.{Later, contains_from_has, has_from_contains, all_from_has, all_at_has, pairs_from_later}
 use Rattle.leg_walk.proofs.Tables.{IsChosenAt, IsTableRow, table_row, table_away, table_there, first_in_table, first_pick, in_time_for, before_for, same_next}
 use Rattle.leg_walk.proofs.Walks.{delays_rise}

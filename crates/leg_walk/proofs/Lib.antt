@@ -1,7 +1,9 @@
 pub mod Lists
-pub mod Keys
+pub mod Sets
+pub mod Orders
 pub mod Places
 pub mod Tables
 pub mod Reaching
 pub mod Walks
+pub mod Rides
 pub mod Graphs

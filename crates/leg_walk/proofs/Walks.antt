@@ -1,14 +1,13 @@
 -- The rides of the legs that were reached.
-use Rattle.std.proofs.Common.{◌≡◌, ◌≢◌, ℕ, ◌+◌, ◌-◌, ◌<◌, ◌⊎◌, Bool, true, false, List, [], ◌∷◌, map, Option, Some, None, Contains, All, AllPairs, arith, sym, subst, refl, inl, inr, ◌∙◌, ap}
+use Rattle.std.proofs.Common.{◌≡◌, ◌≢◌, ℕ, ◌<◌, Bool, true, false, List, [], ◌∷◌, map, Option, Some, Contains, All, sym, subst, refl, inl, inr, ◌∙◌, ap}
 use Rattle.std.specs.Prelude.{◌==◌, ◌&&◌, if◌then◌else◌}
 use Rattle.std.specs.declared.cmp.Ordering.TheVariants.{Less}
 use Rattle.std.proofs.lemmas.Bool.{false≢true}
-use Rattle.std.proofs.lemmas.Bool.Decides.{nat_tests}
 use Rattle.plan_model.specs.declared.model.Leg.{Leg}
 use Rattle.plan_model.specs.declared.model.Outcome.{Outcome}
 use Rattle.plan_model.specs.declared.model.Query.{Query}
 use Rattle.plan_model.specs.Parts.{Parts}
-use Rattle.plan_model.specs.Network.{IsValid, arr_of}
+use Rattle.plan_model.specs.Network.{IsValid}
 use Rattle.plan_model.specs.Tree.{Tree}
 use Rattle.plan_model.specs.Unfold.{end_of, arrival_of, outcomes_of, unfolded}
 use Rattle.plan_model.proofs.SameTree.{unfold_from-same}
@@ -16,27 +15,15 @@ use Rattle.plan_graph.specs.declared.GraphRow.{GraphRow}
 use Rattle.plan_graph.specs.declared.Ride.{Ride}
 use Rattle.plan_graph.specs.Rows.{pick_row, rows_after, pick_after, Precedes}
 use Rattle.plan_graph.specs.Ready.{IsLegOf, Stands}
-use Rattle.leg_walk.specs.Tables.{row_by, table_of, key_of, leg_at, ride_at, key_cmp}
+use Rattle.plan_graph.proofs.Searches.{leg_test, leg_tested}
+use Rattle.leg_walk.specs.Tables.{row_by, table_of, ride_of_leg, leg_cmp}
 use Rattle.leg_walk.specs.Placed.{Has, IsPlaced, IsReached}
 use Rattle.leg_walk.specs.Walked.{IsWalked, IsTaken, HasRideOf}
 use Rattle.leg_walk.proofs.Lists.{Later, later_from_pairs, has_from_map, has_map, contains_from_has, has_from_contains, all_from_has, pairs_from_later}
-use Rattle.leg_walk.proofs.Keys.{key_less, rising_keys}
+use Rattle.leg_walk.proofs.Sets.{rising_keys}
+use Rattle.leg_walk.proofs.Orders.{leg_less}
 use Rattle.leg_walk.proofs.Places.{IsPlacedNext, next_after}
 use Rattle.leg_walk.proofs.Tables.{first_pick, first_there, first_in_table, same_next}
-
-pub key_is : (a b : ℕ × ℕ) → ((a.0 == b.0) && (a.1 == b.1)) ≡ true → a ≡ b
-key_is a b is =
-    let first : a.0 ≡ b.0 = grind (arith, nat_tests) in
-    let second : a.1 ≡ b.1 = grind (arith, nat_tests) in
-    let one : (a.0, a.1) ≡ (b.0, a.1) = ap (λ (n : ℕ). (n, a.1)) first in
-    let two : (b.0, a.1) ≡ (b.0, b.1) = ap (λ (n : ℕ). (b.0, n)) second in
-    one ∙ two
-
-pub key_test : (a b : ℕ × ℕ) → a ≡ b → ((a.0 == b.0) && (a.1 == b.1)) ≡ true
-key_test a b is =
-    let first : a.0 ≡ b.0 = ap (λ (k : ℕ × ℕ). k.0) is in
-    let second : a.1 ≡ b.1 = ap (λ (k : ℕ × ℕ). k.1) is in
-    grind (arith, nat_tests)
 
 -- the delays after a leg rise
 pub delays_rise : (n : Parts) → IsValid n → (leg : Leg) → IsLegOf n leg → Later (λ a b. a.delay < b.delay) (outcomes_of n leg)
@@ -45,28 +32,28 @@ delays_rise n valid leg is_leg =
     later_from_pairs (λ a b. a.delay < b.delay) (outcomes_of n leg) (valid.rows _ class).rising
 
 module _ (n : Parts) (target : ℕ) (choice : Leg → ℕ → Option Leg) where
-  found_by : (ks : List (ℕ × ℕ)) (leg : Leg) (k : ℕ × ℕ) (test : Bool) → ((k.0 == leg.enter.0) && (k.1 == leg.exit.0)) ≡ test
-      → (Has ks (key_of leg) → rows_after (map (ride_at n target choice) ks) leg ≡ table_of n target choice leg)
-      → Has (k ∷ ks) (key_of leg) → (if test then table_of n target choice (leg_at k) else rows_after (map (ride_at n target choice) ks) leg) ≡ table_of n target choice leg
-  found_by ks leg k true is more has = ap (λ (key : ℕ × ℕ). table_of n target choice (leg_at key)) (key_is k (key_of leg) is)
-  found_by ks leg k false is more (inl same) = absurd (false≢true (sym is ∙ key_test k (key_of leg) (sym same)))
-  found_by ks leg k false is more (inr has) = more has
-
   -- the rows after a leg are its table
-  pub found_rows_after : (ks : List (ℕ × ℕ)) (leg : Leg) → Has ks (key_of leg) → rows_after (map (ride_at n target choice) ks) leg ≡ table_of n target choice leg
+  pub found_rows_after : (legs : List Leg) (leg : Leg) → Has legs leg → rows_after (map (ride_of_leg n target choice) legs) leg ≡ table_of n target choice leg
   found_rows_after [] leg has = absurd has
-  found_rows_after (k ∷ ks) leg has = found_by ks leg k ((k.0 == leg.enter.0) && (k.1 == leg.exit.0)) refl (found_rows_after ks leg) has
+  found_rows_after (other ∷ legs) leg has = found_by ((other.enter.0 == leg.enter.0) && (other.exit.0 == leg.exit.0)) refl (found_rows_after legs leg) has
+    where
+      found_by : (test : Bool) → ((other.enter.0 == leg.enter.0) && (other.exit.0 == leg.exit.0)) ≡ test
+          → (Has legs leg → rows_after (map (ride_of_leg n target choice) legs) leg ≡ table_of n target choice leg)
+          → Has (other ∷ legs) leg → (if test then table_of n target choice other else rows_after (map (ride_of_leg n target choice) legs) leg) ≡ table_of n target choice leg
+      found_by true is more has = ap (table_of n target choice) (leg_test other leg is)
+      found_by false is more (inl same) = absurd (false≢true (sym is ∙ leg_tested other leg (sym same)))
+      found_by false is more (inr has) = more has
 
-  rising_rides : (ks : List (ℕ × ℕ)) → Later (λ a b. key_cmp a b ≡ Less) ks → Later (λ a b. Precedes a.leg b.leg) (map (ride_at n target choice) ks)
+  rising_rides : (legs : List Leg) → Later (λ a b. leg_cmp a b ≡ Less) legs → Later (λ a b. Precedes a.leg b.leg) (map (ride_of_leg n target choice) legs)
   rising_rides [] later = tt
-  rising_rides (k ∷ ks) later = (
-    λ r has. let found = has_from_map (ride_at n target choice) ks r has in
-        subst (λ (other : Ride). Precedes (leg_at k) other.leg) (sym found.2) (key_less k found.0 (later.0 found.0 found.1)),
-    rising_rides ks later.1,
+  rising_rides (leg ∷ legs) later = (
+    λ r has. let found = has_from_map (ride_of_leg n target choice) legs r has in
+        subst (λ (other : Ride). Precedes leg other.leg) (sym found.2) (leg_less leg found.0 (later.0 found.0 found.1)),
+    rising_rides legs later.1,
   )
 
-module _ (n : Parts) (valid : IsValid n) (q : Query) (choice : Leg → ℕ → Option Leg) (start : Leg) (keys : List (ℕ × ℕ))
-    (reached : IsReached n q.target.0 choice (unfolded n q choice (Some start)) start keys) where
+module _ (n : Parts) (valid : IsValid n) (q : Query) (choice : Leg → ℕ → Option Leg) (start : Leg) (legs : List Leg)
+    (reached : IsReached n q.target.0 choice (unfolded n q choice (Some start)) start legs) where
   abbrev target : ℕ
   target = q.target.0
 
@@ -74,17 +61,17 @@ module _ (n : Parts) (valid : IsValid n) (q : Query) (choice : Leg → ℕ → O
   whole = unfolded n q choice (Some start)
 
   abbrev rides : List Ride
-  rides = map (ride_at n target choice) keys
+  rides = map (ride_of_leg n target choice) legs
 
-  placed : (leg : Leg) → Has keys (key_of leg) → IsPlaced n target reached.by choice whole leg
+  placed : (leg : Leg) → Has legs leg → IsPlaced n target reached.by choice whole leg
   placed = reached.placed
 
-  next : (leg : Leg) → Has keys (key_of leg) → end_of n leg ≢ target → (o : Outcome) → Has (outcomes_of n leg) o → IsPlacedNext n target reached.by choice whole leg (arrival_of n leg o.delay)
+  next : (leg : Leg) → Has legs leg → end_of n leg ≢ target → (o : Outcome) → Has (outcomes_of n leg) o → IsPlacedNext n target reached.by choice whole leg (arrival_of n leg o.delay)
   next leg has = next_after n target reached.by choice whole leg (placed leg has)
 
   -- who has ridden a leg that was reached comes at an arrival of an outcome
   record IsComing (leg : Leg) (x : ℕ) : Type 0 where
-    has : Has keys (key_of leg)
+    has : Has legs leg
     o : Outcome
     there : Contains (outcomes_of n leg) o
     at : x ≡ arrival_of n leg o.delay
@@ -94,9 +81,9 @@ module _ (n : Parts) (valid : IsValid n) (q : Query) (choice : Leg → ℕ → O
     own : Leg
     is_chosen : choice leg x ≡ Some own
     is_picked : pick_after rides leg x ≡ Some own
-    reached_too : Has keys (key_of own)
+    reached_too : Has legs own
 
-  picked_at : (leg : Leg) → (has : Has keys (key_of leg)) → end_of n leg ≢ target → (o : Outcome) → Has (outcomes_of n leg) o → IsPicked leg (arrival_of n leg o.delay)
+  picked_at : (leg : Leg) → (has : Has legs leg) → end_of n leg ≢ target → (o : Outcome) → Has (outcomes_of n leg) o → IsPicked leg (arrival_of n leg o.delay)
   picked_at leg has away o there =
       let t = next leg has away o there in
       let x = arrival_of n leg o.delay in
@@ -104,7 +91,7 @@ module _ (n : Parts) (valid : IsValid n) (q : Query) (choice : Leg → ℕ → O
       record {
         own = t.next;
         is_chosen = t.is_chosen;
-        is_picked = ap (λ (list : List GraphRow). pick_row list x) (found_rows_after n target choice keys leg has) ∙ first_pick (table_of n target choice leg) x (row_by x t.next) first;
+        is_picked = ap (λ (list : List GraphRow). pick_row list x) (found_rows_after n target choice legs leg has) ∙ first_pick (table_of n target choice leg) x (row_by x t.next) first;
         reached_too = reached.closed leg has (row_by x t.next) (first_there (table_of n target choice leg) x (row_by x t.next) first).1;
       }
 
@@ -115,25 +102,25 @@ module _ (n : Parts) (valid : IsValid n) (q : Query) (choice : Leg → ℕ → O
   goes_on leg x own coming away is o there =
       let p = picked leg x coming away in
       let same : p.own ≡ own = same_next (pick_after rides leg x) p.own own p.is_picked is in
-      record { has = subst (λ (l : Leg). Has keys (key_of l)) same p.reached_too; o = o; there = there; at = refl }
+      record { has = subst (λ (l : Leg). Has legs l) same p.reached_too; o = o; there = there; at = refl }
 
   unfolds : unfolded n q (pick_after rides) (Some start) ≡ whole
   unfolds = unfold_from-same n target (pick_after rides) choice IsComing
       (λ leg x coming away. let p = picked leg x coming away in p.is_picked ∙ sym p.is_chosen)
       goes_on (Some start) q.source.0 q.start.0
-      (λ leg is o there. record { has = subst (λ (l : Leg). Has keys (key_of l)) (same_next (Some start) start leg refl is) reached.start_there; o = o; there = there; at = refl })
+      (λ leg is o there. record { has = subst (λ (l : Leg). Has legs l) (same_next (Some start) start leg refl is) reached.start_there; o = o; there = there; at = refl })
 
-  -- what holds of each ride of a reached key holds of all rides
-  all_rides : (P : Ride → Type 0) → ((leg : Leg) → Has keys (key_of leg) → P (record { leg = leg; after = table_of n target choice leg })) → All P rides
-  all_rides P each = all_from_has P rides (λ r has. let found = has_from_map (ride_at n target choice) keys r has in subst P (sym found.2) (each (leg_at found.0) found.1))
+  -- what holds of each ride of a reached leg holds of all rides
+  all_rides : (P : Ride → Type 0) → ((leg : Leg) → Has legs leg → P (record { leg = leg; after = table_of n target choice leg })) → All P rides
+  all_rides P each = all_from_has P rides (λ r has. let found = has_from_map (ride_of_leg n target choice) legs r has in subst P (sym found.2) (each found.0 found.1))
 
-  at_ride : (P : Ride → Type 0) → ((leg : Leg) → Has keys (key_of leg) → P (record { leg = leg; after = table_of n target choice leg })) → (r : Ride) → Contains rides r → P r
-  at_ride P each r contains = let found = has_from_map (ride_at n target choice) keys r (has_from_contains rides r contains) in subst P (sym found.2) (each (leg_at found.0) found.1)
+  at_ride : (P : Ride → Type 0) → ((leg : Leg) → Has legs leg → P (record { leg = leg; after = table_of n target choice leg })) → (r : Ride) → Contains rides r → P r
+  at_ride P each r contains = let found = has_from_map (ride_of_leg n target choice) legs r (has_from_contains rides r contains) in subst P (sym found.2) (each found.0 found.1)
 
-  has_ride : (leg : Leg) → Has keys (key_of leg) → HasRideOf rides leg
-  has_ride leg has = (ride_at n target choice (key_of leg), contains_from_has rides (ride_at n target choice (key_of leg)) (has_map (ride_at n target choice) keys (key_of leg) has), refl)
+  has_ride : (leg : Leg) → Has legs leg → HasRideOf rides leg
+  has_ride leg has = (ride_of_leg n target choice leg, contains_from_has rides (ride_of_leg n target choice leg) (has_map (ride_of_leg n target choice) legs leg has), refl)
 
-  taken : (leg : Leg) → Has keys (key_of leg) → end_of n leg ≢ target → (o : Outcome) → Contains (outcomes_of n leg) o → IsTaken n choice leg (arrival_of n leg o.delay)
+  taken : (leg : Leg) → Has legs leg → end_of n leg ≢ target → (o : Outcome) → Contains (outcomes_of n leg) o → IsTaken n choice leg (arrival_of n leg o.delay)
   taken leg has away o there =
       let t = next leg has away o (has_from_contains (outcomes_of n leg) o there) in
       record { next = t.next; is_chosen = t.is_chosen; is_leg = t.placed.is_leg; boards = t.boards }
@@ -141,7 +128,7 @@ module _ (n : Parts) (valid : IsValid n) (q : Query) (choice : Leg → ℕ → O
   pub walked : IsWalked n q choice start rides
   walked = record {
     unfolds = unfolds;
-    rising = pairs_from_later (λ a b. Precedes a.leg b.leg) rides (rising_rides n target choice keys (rising_keys keys reached.ordered));
+    rising = pairs_from_later (λ a b. Precedes a.leg b.leg) rides (rising_rides n target choice legs (rising_keys leg_cmp legs reached.ordered));
     legs = all_rides (λ r. IsLegOf n r.leg) (λ leg has. (placed leg has).is_leg);
     tables = all_rides (λ r. r.after ≡ table_of n target choice r.leg) (λ leg has. refl);
     stands = all_rides (λ r. Stands r.leg whole) (λ leg has. (placed leg has).stands);

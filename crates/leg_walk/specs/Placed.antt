@@ -9,7 +9,7 @@ use Rattle.plan_model.specs.Strategy.{SafeAll}
 use Rattle.plan_model.specs.Unfold.{end_of, outcomes_of, kids_after, unfold_after}
 use Rattle.plan_graph.specs.declared.GraphRow.{GraphRow}
 use Rattle.plan_graph.specs.Ready.{IsLegOf, Stands, StandsIn}
-use Rattle.leg_walk.specs.Tables.{table_of, key_of, key_cmp}
+use Rattle.leg_walk.specs.Tables.{table_of, leg_cmp}
 
 -- the list has the element
 abbrev pub Has : {X : Type 0} → List X → X → Type 0
@@ -28,10 +28,10 @@ pub record IsPlaced (n : Parts) (target : ℕ) (by : Option ℕ) (choice : Leg �
   pub stands : Stands leg whole
   pub below : (other : Leg) → StandsIn other (kids_of n target choice rides leg) → Stands other whole
 
--- the keys are those of the legs that are reached from a start leg, in order
-pub record IsReached (n : Parts) (target : ℕ) (choice : Leg → ℕ → Option Leg) (whole : Tree) (start : Leg) (keys : List (ℕ × ℕ)) : Type 0 where
+-- these are the legs that are reached from a start leg, in order
+pub record IsReached (n : Parts) (target : ℕ) (choice : Leg → ℕ → Option Leg) (whole : Tree) (start : Leg) (legs : List Leg) : Type 0 where
   pub by : Option ℕ
-  pub start_there : Has keys (key_of start)
-  pub placed : (leg : Leg) → Has keys (key_of leg) → IsPlaced n target by choice whole leg
-  pub closed : (leg : Leg) → Has keys (key_of leg) → (row : GraphRow) → Has (table_of n target choice leg) row → Has keys (key_of row.leg)
-  pub ordered : IsStrictlySortedBy key_cmp keys
+  pub start_there : Has legs start
+  pub placed : (leg : Leg) → Has legs leg → IsPlaced n target by choice whole leg
+  pub closed : (leg : Leg) → Has legs leg → (row : GraphRow) → Has (table_of n target choice leg) row → Has legs row.leg
+  pub ordered : IsStrictlySortedBy leg_cmp legs

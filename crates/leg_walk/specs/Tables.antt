@@ -29,20 +29,14 @@ rows_for choice scheduled (o ∷ row) = with_row (scheduled + o.delay) (choice (
 abbrev pub table_of : Parts → ℕ → (Leg → ℕ → Option Leg) → Leg → List GraphRow
 table_of n target choice leg = if end_of n leg == target then [] else rows_for (choice leg) (arr_of n leg.exit.0) (outcomes_of n leg)
 
--- a leg's entry and exit
-abbrev pub key_of : Leg → ℕ × ℕ
-key_of leg = (leg.enter.0, leg.exit.0)
-
-abbrev pub leg_at : ℕ × ℕ → Leg
-leg_at key = record { enter = record { 0 = key.0 }; exit = record { 0 = key.1 } }
-
 -- by entry, and then by exit
-abbrev pub key_cmp : ℕ × ℕ → ℕ × ℕ → Ordering
-key_cmp a b = ordering_then (nat_cmp a.0 b.0) (nat_cmp a.1 b.1)
+abbrev pub leg_cmp : Leg → Leg → Ordering
+leg_cmp a b = ordering_then (nat_cmp a.enter.0 b.enter.0) (nat_cmp a.exit.0 b.exit.0)
 
-abbrev pub with_key : List (ℕ × ℕ) → ℕ × ℕ → List (ℕ × ℕ)
-with_key keys key = insert_key key_cmp keys key
+-- with a leg among legs in their order
+abbrev pub with_leg : List Leg → Leg → List Leg
+with_leg legs leg = insert_key leg_cmp legs leg
 
--- the ride of an entry and an exit, with its table
-abbrev pub ride_at : Parts → ℕ → (Leg → ℕ → Option Leg) → ℕ × ℕ → Ride
-ride_at n target choice key = record { leg = leg_at key; after = table_of n target choice (leg_at key) }
+-- the ride of a leg, with its table
+abbrev pub ride_of_leg : Parts → ℕ → (Leg → ℕ → Option Leg) → Leg → Ride
+ride_of_leg n target choice leg = record { leg = leg; after = table_of n target choice leg }

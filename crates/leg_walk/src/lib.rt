@@ -7,12 +7,12 @@ ghost use Rattle.std.specs.BTreeSet.{contains, IsOrdered};
 ghost use Rattle.plan_model.specs.Network.{count};
 ghost use Rattle.plan_model.specs.Unfold.{unfolded};
 ghost use Rattle.plan_graph.specs.Ready.{IsSafeForSome};
-ghost use Rattle.leg_walk.specs.Tables.{table_of, ride_at, key_of, key_cmp, with_key};
+ghost use Rattle.leg_walk.specs.Tables.{table_of, ride_of_leg, leg_cmp, with_leg};
 ghost use Rattle.leg_walk.specs.Placed.{IsReached};
 ghost use Rattle.leg_walk.specs.Walked.{IsWalked};
 
 use plan_graph::{ExpandedGraph, GraphRow, Ride};
-use plan_model::{ConnectionId, Leg, List, Moment, Network, NoMemory, Query};
+use plan_model::{Leg, List, Moment, Network, NoMemory, Query};
 use std::alloc::Global;
 use std::collections::BTreeSet;
 
@@ -97,15 +97,15 @@ fn visit<C: LegChoice>(
     query: &Query,
     leg: Leg,
     todo: &mut Vec<Leg>,
-    seen: &mut BTreeSet<(u32, u32)>,
+    seen: &mut BTreeSet<Leg>,
 ) -> Result<(), NoMemory>
     requires fits { C.fits choice.now network.now query.now.target.0 }
     requires there { leg.exit.0 < count network.now }
-    ensures ordered { OnOk result (IsOrdered key_cmp seen.new) }
-    ensures seen { OnOk result (seen.new.keys ≡ with_key seen.old.keys (key_of leg)) }
-    ensures todo { OnOk result (MatchBool (contains key_cmp seen.old (key_of leg)) (todo.new.items ≡ todo.old.items) (todo.new.items ≡ todo.old.items ++ map (λ row. row.leg) (table_of network.now query.now.target.0 (C.chosen choice.now network.now) leg))) }
+    ensures ordered { OnOk result (IsOrdered leg_cmp seen.new) }
+    ensures seen { OnOk result (seen.new.keys ≡ with_leg seen.old.keys leg) }
+    ensures todo { OnOk result (MatchBool (contains leg_cmp seen.old leg) (todo.new.items ≡ todo.old.items) (todo.new.items ≡ todo.old.items ++ map (λ row. row.leg) (table_of network.now query.now.target.0 (C.chosen choice.now network.now) leg))) }
 {
-    match seen.insert((leg.enter.0, leg.exit.0)) {
+    match seen.insert(leg) {
         Err(_) => Err(NoMemory),
         Ok(added) => {
             if added {
@@ -118,14 +118,14 @@ fn visit<C: LegChoice>(
     }
 }
 
-// The entries and exits of all rides that are reached from the start leg.
+// The legs that are reached from the start leg.
 fn reach<C: LegChoice>(
     alloc: Global,
     choice: &C,
     network: &Network,
     query: &Query,
     start: Leg,
-) -> Result<BTreeSet<(u32, u32)>, NoMemory>
+) -> Result<BTreeSet<Leg>, NoMemory>
     requires fits { C.fits choice.now network.now query.now.target.0 }
     requires differ { query.now.source.0 ≢ query.now.target.0 }
     requires safe { IsSafeForSome network.now query.now (unfolded network.now query.now (C.chosen choice.now network.now) (Some start)) }
@@ -149,21 +149,17 @@ fn rides_of<C: LegChoice>(
     choice: &C,
     network: &Network,
     query: &Query,
-    seen: &BTreeSet<(u32, u32)>,
+    seen: &BTreeSet<Leg>,
 ) -> Result<List<Ride>, NoMemory>
     requires fits { C.fits choice.now network.now query.now.target.0 }
-    requires there { AllByRecursion (λ key. key.1 < count network.now) seen.now.keys }
-    ensures { IfOk result (λ rides. rides ≡ map (ride_at network.now query.now.target.0 (C.chosen choice.now network.now)) seen.now.keys) }
+    requires there { AllByRecursion (λ leg. leg.exit.0 < count network.now) seen.now.keys }
+    ensures { IfOk result (λ rides. rides ≡ map (ride_of_leg network.now query.now.target.0 (C.chosen choice.now network.now)) seen.now.keys) }
 {
     let mut rides = List::new(alloc);
-    for key in seen {
-        let leg = Leg {
-            enter: ConnectionId(key.0),
-            exit: ConnectionId(key.1),
-        };
-        let rows = table(alloc, choice, network, query, leg)?;
+    for leg in seen {
+        let rows = table(alloc, choice, network, query, *leg)?;
         rides.push(Ride {
-            leg,
+            leg: *leg,
             after: List::from_vec(rows),
         })?;
     }

@@ -1,17 +1,18 @@
 //! The backward scan.
 #![tactic(auto)]
 
-ghost use Rattle.std.specs.Prelude.{◌≡◌, ◌≢◌, ℕ, ◌+◌, ◌-◌, ◌<◌, ◌≤◌, length, All, Some, None, MatchBool, take, Option, [], IfOk, slice_index, count_by, ◌==◌};
+ghost use Rattle.std.specs.Prelude.{◌≡◌, ◌≢◌, ℕ, ◌+◌, ◌-◌, ◌<◌, ◌≤◌, length, All, Some, None, MatchBool, take, Option, [], IfOk, slice_index, count_by, ◌==◌, if◌then◌else◌};
 ghost use Rattle.plan_model.specs.Network.{count, from_of, run_of, IsValid};
 ghost use Rattle.plan_model.specs.Order.{IsScanOrder};
-ghost use Rattle.meat_scan.specs.Tables.{rows_at, spare_at, exit_at, FitsTables};
+ghost use Rattle.meat_scan.specs.Tables.{rows_at, spare_at, exit_at, has_way, FitsTables};
 ghost use Rattle.meat_scan.specs.Found.{choice_of};
 ghost use Rattle.meat_scan.specs.Values.{value_at, values_after};
-ghost use Rattle.meat_scan.specs.Step.{left_by, exits_with, rows_with, start_with, boarded, leg_of, rows_next, exits_next, start_next};
+ghost use Rattle.meat_scan.specs.Step.{left_by, exits_with, way_from, with_way, rows_with, start_with, boarded, rows_next, exits_next, start_next};
 ghost use Rattle.meat_scan.specs.Solves.{Solves};
 
 use plan_model::{
     BackwardOrder, ConnectionId, Leg, Moment, Network, NoMemory, Outcome, PlaceId, Query, RunId,
+    Way,
 };
 use std::alloc::Global;
 use std::marker::Model;
@@ -70,7 +71,31 @@ fn fill_kids<V: Score>(
     true
 }
 
-// Puts a connection, boarded for an exit, into the rows of the place that it leaves.
+// Puts a leg into the rows of the place that a way comes from, where it can be boarded by the way.
+fn put_leg<V: Score>(
+    profiles: &mut [Profile<V>],
+    target: PlaceId,
+    way: Way,
+    dep: Moment,
+    value: V,
+    leg: Leg,
+)
+    requires from { way.from.0 < length profiles.old }
+    requires room { 1 ≤ spare_at profiles.old way.from.0 }
+    ensures rows { (place : ℕ) → rows_at profiles.new place ≡ with_way V.rank V.lowered target.0 dep.0 value leg (way_from way place) place (rows_at profiles.old place) }
+    ensures spare { (place : ℕ) → spare_at profiles.old place ≤ spare_at profiles.new place + (if way.from.0 == place then 1 else 0) }
+    ensures len { length profiles.new ≡ length profiles.old }
+{
+    let seconds = u64::from(way.seconds);
+    if way.from == target || dep.0 < seconds {
+        return;
+    }
+    let by = Moment(dep.0 - seconds);
+    let profile = &mut profiles[way.from.0 as usize];
+    profile.insert(by, value, leg);
+}
+
+// Puts a connection, boarded for an exit, into the rows of each place from which a way leads to it.
 fn board<V: Score>(
     profiles: &mut [Profile<V>],
     network: &Network,
@@ -78,26 +103,23 @@ fn board<V: Score>(
     id: ConnectionId,
     exit: Option<(V, ConnectionId)>,
 )
+    requires valid { IsValid network.now }
     requires there { id.0 < count network.now }
     requires places { length profiles.old ≡ length network.now.change }
-    requires from { from_of network.now id.0 < length network.now.change }
-    requires room { 1 ≤ spare_at profiles.old (from_of network.now id.0) }
+    requires room { (place : ℕ) → place < length network.now.change → (if has_way network.now place (from_of network.now id.0) then 1 else 0) ≤ spare_at profiles.old place }
     ensures rows { (place : ℕ) → rows_at profiles.new place ≡ rows_with V.rank V.lowered network.now query.now id.0 exit (rows_at profiles.old) place }
-    ensures spare { spare_at profiles.old (from_of network.now id.0) ≤ spare_at profiles.new (from_of network.now id.0) + 1 }
-    ensures others { (place : ℕ) → place ≢ from_of network.now id.0 → spare_at profiles.new place ≡ spare_at profiles.old place }
+    ensures spare { (place : ℕ) → spare_at profiles.old place ≤ spare_at profiles.new place + (if has_way network.now place (from_of network.now id.0) then 1 else 0) }
     ensures len { length profiles.new ≡ length profiles.old }
 {
     let Some((value, exit)) = exit else {
         return;
     };
     let connection = network.get(id);
-    let change = network.change(connection.from) as u64;
-    if connection.from == query.target || connection.dep.0 < change {
-        return;
+    let leg = Leg { enter: id, exit };
+    for k in 0..network.way_count(connection.from) {
+        let way = network.way_at(connection.from, k);
+        put_leg(profiles, query.target, way, connection.dep, value, leg);
     }
-    let by = Moment(connection.dep.0 - change);
-    let profile = &mut profiles[connection.from.0 as usize];
-    profile.insert(by, value, Leg { enter: id, exit });
 }
 
 // The start leg, with a connection that is boarded for an exit.
@@ -196,12 +218,11 @@ fn scan_one<V: Score>(
     requires places { length profiles.old ≡ length network.now.change }
     requires run { run_of network.now id.0 < length exits.old }
     requires outcomes { 64 ≤ length kids.old }
-    requires room { 1 ≤ spare_at profiles.old (from_of network.now id.0) }
+    requires room { (place : ℕ) → place < length network.now.change → (if has_way network.now place (from_of network.now id.0) then 1 else 0) ≤ spare_at profiles.old place }
     ensures rows { (place : ℕ) → rows_at profiles.new place ≡ rows_next V.rank V.lowered V.arrived V.blended network.now query.now id.0 (rows_at profiles.old) (exit_at exits.old) place }
     ensures exits { (run : ℕ) → exit_at exits.new run ≡ exits_next V.rank V.lowered V.arrived V.blended network.now query.now id.0 (rows_at profiles.old) (exit_at exits.old) run }
     ensures start { result ≡ start_next V.rank V.lowered V.arrived V.blended network.now query.now id.0 (rows_at profiles.old) (exit_at exits.old) start }
-    ensures spare { spare_at profiles.old (from_of network.now id.0) ≤ spare_at profiles.new (from_of network.now id.0) + 1 }
-    ensures others { (place : ℕ) → place ≢ from_of network.now id.0 → spare_at profiles.new place ≡ spare_at profiles.old place }
+    ensures spare { (place : ℕ) → spare_at profiles.old place ≤ spare_at profiles.new place + (if has_way network.now place (from_of network.now id.0) then 1 else 0) }
     ensures places { length profiles.new ≡ length profiles.old }
     ensures runs { length exits.new ≡ length exits.old }
     ensures outcomes { length kids.new ≡ length kids.old }
@@ -251,7 +272,7 @@ impl<V: Score> ScanTables<V> {
     pub fn reserve(alloc: Global, network: &Network) -> Result<ScanTables<V>, NoMemory>
         ensures { IfOk result (FitsTables network.now) }
     {
-        let room = leaving_counts(alloc, network)?;
+        let room = boardable_counts(alloc, network)?;
         let profiles = reserve_profiles(alloc, &room)?;
         let exits = ExitTable::reserve(alloc, network.runs())?;
         let kids = reserve_kids(alloc)?;
@@ -263,20 +284,35 @@ impl<V: Score> ScanTables<V> {
     }
 }
 
-// How many connections leave each place.
-fn leaving_counts(alloc: Global, network: &Network) -> Result<Vec<u32>, NoMemory>
+// One more for each place from which a way leads to this one.
+fn count_ways(room: &mut [u32], network: &Network, place: PlaceId)
+    requires valid { IsValid network.now }
+    requires place { place.0 < length network.now.change }
+    requires len { length room.old ≡ length network.now.change }
+    requires few { (from : ℕ) → from < length room.old → slice_index room.old from < 8388608 }
+    ensures counts { (from : ℕ) → from < length room.old → slice_index room.new from ≡ slice_index room.old from + (if has_way network.now from place.0 then 1 else 0) }
+    ensures len { length room.new ≡ length room.old }
+{
+    for k in 0..network.way_count(place) {
+        let way = network.way_at(place, k);
+        room[way.from.0 as usize] += 1;
+    }
+}
+
+// How many connections can be boarded by a way from each place.
+fn boardable_counts(alloc: Global, network: &Network) -> Result<Vec<u32>, NoMemory>
     ensures len { IfOk result (λ room. length room.items ≡ length network.now.change) }
     ensures valid { IfOk result (λ _. IsValid network.now) }
-    ensures counts { IfOk result (λ room. (place : ℕ) → place < length network.now.change → slice_index room.items place ≡ count_by (λ c. c.from.0 == place) network.now.connections) }
+    ensures counts { IfOk result (λ room. (place : ℕ) → place < length network.now.change → slice_index room.items place ≡ count_by (λ c. has_way network.now place c.from.0) network.now.connections) }
 {
     let mut room: Vec<u32> = vec![in alloc; 0; network.places() as usize]?;
     for id in 0..network.count() {
-        let connection = network.get(ConnectionId(id));
-        room[connection.from.0 as usize] += 1;
+        count_ways(&mut room, network, network.get(ConnectionId(id)).from);
     }
     Ok(room)
 }
 
+// A profile for each place, with room for so many rows.
 fn reserve_profiles<V: Score>(alloc: Global, room: &[u32]) -> Result<Vec<Profile<V>>, NoMemory>
     ensures len { IfOk result (λ profiles. length profiles.items ≡ length room.now) }
     ensures empty { IfOk result (λ profiles. (place : ℕ) → rows_at profiles.items place ≡ []) }

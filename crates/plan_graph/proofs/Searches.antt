@@ -59,7 +59,7 @@ leg_precedes a b is = elim (cases_lt a.enter.0 b.enter.0) [
       inr (same, less)
 ]
 
-precedes_trans : (a b c : Leg) → Precedes a b → Precedes b c → Precedes a c
+pub precedes_trans : (a b c : Leg) → Precedes a b → Precedes b c → Precedes a c
 precedes_trans a b c (inl x) (inl y) = inl (omega (arith, x, y))
 precedes_trans a b c (inl x) (inr y) = inl (omega (arith, x, y.0))
 precedes_trans a b c (inr x) (inl y) = inl (omega (arith, x.0, y))
@@ -87,7 +87,7 @@ leg_test a b is =
     let two : leg_of b.enter.0 a.exit.0 ≡ leg_of b.enter.0 b.exit.0 = ap (λ (n : ℕ). leg_of b.enter.0 n) second in
     one ∙ two
 
-leg_tested : (a b : Leg) → a ≡ b → ((a.enter.0 == b.enter.0) && (a.exit.0 == b.exit.0)) ≡ true
+pub leg_tested : (a b : Leg) → a ≡ b → ((a.enter.0 == b.enter.0) && (a.exit.0 == b.exit.0)) ≡ true
 leg_tested a b is =
     let first : a.enter.0 ≡ b.enter.0 = ap (λ (l : Leg). l.enter.0) is in
     let second : a.exit.0 ≡ b.exit.0 = ap (λ (l : Leg). l.exit.0) is in

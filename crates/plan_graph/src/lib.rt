@@ -7,7 +7,7 @@ ghost use Rattle.plan_graph.specs.Rows.{pick_row, pick_after, pick_at, leg_lt, H
 use plan_model::{Leg, List, Moment, PlaceId};
 
 /// A leg that is taken after an arrival by this moment.
-#[derive(Clone, Copy, Debug, PartialEq, Eq)]
+#[derive(Clone, Copy, Debug, PartialEq, Eq, PartialOrd, Ord)]
 pub struct GraphRow {
     pub by: Moment,
     pub leg: Leg,

@@ -1,6 +1,6 @@
-use Rattle.std.proofs.Common.{◌≡◌, sym, subst, ℕ, List, arith, inr, [], ◌∷◌, Some}
+use Rattle.std.proofs.Common.{◌≡◌, sym, subst, List, arith, inr, [], ◌∷◌, Some}
 use Rattle.plan_model.specs.Unfold.{unfolded}
-use Rattle.leg_walk.specs.Tables.{key_of}
+use Rattle.plan_model.specs.declared.model.Leg.{Leg}
 use Rattle.leg_walk.proofs.Reaching.{IsReaching, begin, start_placed, all_seen, popped, popped_there, visited}
 use Rattle.leg_walk.proofs.reach.Goals as goal
 
@@ -11,11 +11,11 @@ loop-init g c =
     let safe = c.requires.safe in
     let empty : c.new-todo.result.items ≡ [] = c.new-todo.ensures.items in
     let pushed : c.push.new.self.items ≡ c.args.start ∷ [] = grind arith in
-    let keys : c.new-seen.result.keys ≡ [] = c.new-seen.ensures.empty in
+    let none : c.new-seen.result.keys ≡ [] = c.new-seen.ensures.empty in
     let at = begin c.args.network.now c.args.query.now.target.0 (Some safe.0) choice whole c.args.start (start_placed c.args.network.now c.args.query.now choice c.args.start c.requires.differ safe) in
     record {
       by = Some safe.0;
-      reaching = rw (pushed, keys) at;
+      reaching = rw (pushed, none) at;
       ordered = c.new-seen.ensures.ordered;
     }
 
@@ -48,6 +48,6 @@ loop-preserved g c =
     let after = visited c.args.network.now c.args.query.now.target.0 inv.by choice whole c.args.start c.pop.new.self.items c.visit.new.todo.items c.loop.seen.keys c.in-Some.leg at c.in_ok-visit-in-Some.ensures.todo in
     record {
       by = inv.by;
-      reaching = subst (λ (keys : List (ℕ × ℕ)). IsReaching c.args.network.now c.args.query.now.target.0 inv.by choice whole c.args.start c.visit.new.todo.items keys) (sym c.in_ok-visit-in-Some.ensures.seen) after;
+      reaching = subst (λ (seen : List Leg). IsReaching c.args.network.now c.args.query.now.target.0 inv.by choice whole c.args.start c.visit.new.todo.items seen) (sym c.in_ok-visit-in-Some.ensures.seen) after;
       ordered = c.in_ok-visit-in-Some.ensures.ordered;
     }

@@ -1,7 +1,7 @@
 use Rattle.std.proofs.Common.{ℕ, Option, Some}
 use Rattle.std.specs.List.Sorted.{IsStrictlySortedBy}
 use Rattle.plan_model.specs.Unfold.{unfolded}
-use Rattle.leg_walk.specs.Tables.{key_cmp}
+use Rattle.leg_walk.specs.Tables.{leg_cmp}
 use Rattle.leg_walk.proofs.Reaching.{IsReaching}
 use Rattle.leg_walk.proofs.reach.Given as goal
 
@@ -11,5 +11,5 @@ invariant-loop g l =
     record {
       by : Option ℕ;
       reaching : IsReaching l.network l.query.target.0 by choice (unfolded l.network l.query choice (Some l.fn.start)) l.fn.start l.todo.items l.seen.keys;
-      ordered : IsStrictlySortedBy key_cmp l.seen.keys;
+      ordered : IsStrictlySortedBy leg_cmp l.seen.keys;
     }

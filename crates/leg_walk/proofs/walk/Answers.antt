@@ -1,16 +1,15 @@
-use Rattle.std.proofs.Common.{ℕ, ◌<◌, List, sym, subst}
+use Rattle.std.proofs.Common.{◌<◌, List, sym, subst}
 use Rattle.plan_model.specs.Network.{count}
 use Rattle.plan_graph.specs.declared.Ride.{Ride}
-use Rattle.leg_walk.specs.Tables.{leg_at}
 use Rattle.leg_walk.specs.Walked.{IsWalked}
-use Rattle.leg_walk.proofs.Keys.{recursion_from_has}
+use Rattle.leg_walk.proofs.Sets.{recursion_from_has}
 use Rattle.leg_walk.proofs.Walks.{walked}
 use Rattle.leg_walk.proofs.walk.Goals as goal
 
 pub rides_of-requires-clause-there : goal.rides_of-requires-clause-there
 rides_of-requires-clause-there g c =
-    recursion_from_has (λ key. key.1 < count c.args.network.now) c.in_ok-seen.seen.keys
-    (λ key has. (c.in_ok-seen.ensures.placed (leg_at key) has).is_leg.exit)
+    recursion_from_has (λ leg. leg.exit.0 < count c.args.network.now) c.in_ok-seen.seen.keys
+    (λ leg has. (c.in_ok-seen.ensures.placed leg has).is_leg.exit)
 
 pub returns : goal.returns
 returns g c =

@@ -1,0 +1,79 @@
+-- The fields of printed rows.
+use Rattle.std.proofs.Common.{◌≡◌, ℕ, zero, suc, ◌+◌, ◌<◌, List, [], ◌∷◌, ◌++◌, length, drop, Some, Result, arith, sym, ◌∙◌, ap, refl, subst, append_assoc}
+use Rattle.std.specs.Prelude.{slice_get, slice_index_or, decimal, OnOk}
+use Rattle.clock_text.specs.Civil.{moment_text}
+use Rattle.plan_model.specs.declared.model.Leg.{Leg}
+use Rattle.plan_model.specs.declared.model.Connection.{Connection}
+use Rattle.plan_model.specs.Parts.{Parts}
+use Rattle.plan_model.specs.NameLists.{NameLists}
+use Rattle.plan_model.specs.Network.{connection}
+use Rattle.plan_graph.specs.declared.GraphRow.{GraphRow}
+use Rattle.plan_graph.specs.declared.Ride.{Ride}
+use Rattle.plan_graph.specs.declared.PlaceTable.{PlaceTable}
+use Rattle.graph_text.specs.Texts.{leg_fields, place_name, run_name, leg_row, rows_text, ride_text, rides_text, table_text, tables_text}
+
+-- the name of this number
+pub name_is : (names : List (List ℕ)) (i : ℕ) (name : List ℕ) → slice_get names i ≡ Some name → name ≡ slice_index_or names i []
+name_is [] i name is = absurd (cc)
+name_is (head ∷ names) zero name is = cc
+name_is (head ∷ names) (suc i) name is = name_is names i name is
+
+pub eight : (a b c d e f g h a' b' c' d' e' f' g' h' : List ℕ) → a ≡ a' → b ≡ b' → c ≡ c' → d ≡ d' → e ≡ e' → f ≡ f' → g ≡ g' → h ≡ h' → ◌≡◌ {A = List (List ℕ)} (a ∷ b ∷ c ∷ d ∷ e ∷ f ∷ g ∷ h ∷ []) (a' ∷ b' ∷ c' ∷ d' ∷ e' ∷ f' ∷ g' ∷ h' ∷ [])
+eight a b c d e f g h a' b' c' d' e' f' g' h' = λ one two three four five six seven last. cc
+
+-- the fields of a leg's row, from its connections
+pub leg_row_fields : (n : Parts) (names : NameLists) (leg : Leg) (enter exit : Connection) (kind second run entry_step dep exit_step place arr : List ℕ)
+    → enter ≡ connection n leg.enter.0 → exit ≡ connection n leg.exit.0
+    → run ≡ run_name names enter.run.0 → entry_step ≡ decimal enter.step → dep ≡ moment_text enter.dep.0 → exit_step ≡ decimal exit.step → place ≡ place_name names exit.to.0 → arr ≡ moment_text exit.arr.0
+    → ◌≡◌ {A = List (List ℕ)} (kind ∷ second ∷ run ∷ entry_step ∷ dep ∷ exit_step ∷ place ∷ arr ∷ []) (kind ∷ second ∷ leg_fields n names leg)
+leg_row_fields n names leg enter exit kind second run entry_step dep exit_step place arr at_enter at_exit a b c d e f =
+    eight kind second run entry_step dep exit_step place arr kind second _ _ _ _ _ _ refl refl
+    (a ∙ ap (λ (k : Connection). run_name names k.run.0) at_enter)
+    (b ∙ ap (λ (k : Connection). decimal k.step) at_enter)
+    (c ∙ ap (λ (k : Connection). moment_text k.dep.0) at_enter)
+    (d ∙ ap (λ (k : Connection). decimal k.step) at_exit)
+    (e ∙ ap (λ (k : Connection). place_name names k.to.0) at_exit)
+    (f ∙ ap (λ (k : Connection). moment_text k.arr.0) at_exit)
+
+-- texts one after another
+pub append_twice : (new mid old a b : List ℕ) → mid ≡ old ++ a → mid ++ b ≡ old ++ (a ++ b)
+append_twice new mid old a b is = ap (λ (list : List ℕ). list ++ b) is ∙ append_assoc old a b
+
+pub append_ok : {T E : Type 0} (r : Result T E) (new mid old a b : List ℕ) → mid ≡ old ++ a → OnOk r (new ≡ mid ++ b) → OnOk r (new ≡ old ++ (a ++ b))
+append_ok r new mid old a b is ok = subst (λ (list : List ℕ). OnOk r (new ≡ list)) (append_twice new mid old a b is) ok
+
+split : {X : Type 0} (xs : List X) (i : ℕ) (d : X) → i < length xs → drop i xs ≡ slice_index_or xs i d ∷ drop (suc i) xs
+split [] i d within = absurd (omega (arith, within))
+split (x ∷ xs) zero d within = refl
+split (x ∷ xs) (suc i) d within = split xs i d (omega (arith, within))
+
+-- after one element more
+pub split_at : {X : Type 0} (xs : List X) (i : ℕ) (d : X) → i < length xs → drop i xs ≡ slice_index_or xs i d ∷ drop (i + 1) xs
+split_at xs i d within = let one : suc i ≡ i + 1 = omega arith in subst (λ (k : ℕ). drop i xs ≡ slice_index_or xs i d ∷ drop k xs) one (split xs i d within)
+
+pub text_step : (new old a rest all : List ℕ) → new ≡ old ++ a → old ++ (a ++ rest) ≡ all → new ++ rest ≡ all
+text_step new old a rest all is before = append_twice new new old a rest is ∙ before
+
+pub rows_step : (n : Parts) (names : NameLists) (kind : List ℕ) (rows : List GraphRow) (i : ℕ) (d : GraphRow) (new old all second : List ℕ) → i < length rows → second ≡ moment_text (slice_index_or rows i d).by.0
+    → new ≡ old ++ leg_row n names kind second (slice_index_or rows i d).leg → old ++ rows_text n names kind (drop i rows) ≡ all → new ++ rows_text n names kind (drop (i + 1) rows) ≡ all
+rows_step n names kind rows i d new old all second within by is before =
+    text_step new old (leg_row n names kind second (slice_index_or rows i d).leg) (rows_text n names kind (drop (i + 1) rows)) all is
+    (ap (λ (bytes : List ℕ). old ++ (leg_row n names kind bytes (slice_index_or rows i d).leg ++ rows_text n names kind (drop (i + 1) rows))) by
+    ∙ ap (λ (list : List GraphRow). old ++ rows_text n names kind list) (sym (split_at rows i d within))
+    ∙ before)
+
+pub rides_step : (n : Parts) (names : NameLists) (rides : List Ride) (i : ℕ) (r : Ride) (new old all : List ℕ) → i < length rides → r ≡ slice_index_or rides i r
+    → new ≡ old ++ ride_text n names r → old ++ rides_text n names (drop i rides) ≡ all → new ++ rides_text n names (drop (i + 1) rides) ≡ all
+rides_step n names rides i r new old all within at is before =
+    text_step new old (ride_text n names r) (rides_text n names (drop (i + 1) rides)) all is
+    (ap (λ (s : Ride). old ++ (ride_text n names s ++ rides_text n names (drop (i + 1) rides))) at
+    ∙ ap (λ (list : List Ride). old ++ rides_text n names list) (sym (split_at rides i r within))
+    ∙ before)
+
+pub tables_step : (n : Parts) (names : NameLists) (tables : List PlaceTable) (i : ℕ) (t : PlaceTable) (new old all : List ℕ) → i < length tables → t ≡ slice_index_or tables i t
+    → new ≡ old ++ table_text n names t → old ++ tables_text n names (drop i tables) ≡ all → new ++ tables_text n names (drop (i + 1) tables) ≡ all
+tables_step n names tables i t new old all within at is before =
+    text_step new old (table_text n names t) (tables_text n names (drop (i + 1) tables)) all is
+    (ap (λ (s : PlaceTable). old ++ (table_text n names s ++ tables_text n names (drop (i + 1) tables))) at
+    ∙ ap (λ (list : List PlaceTable). old ++ tables_text n names list) (sym (split_at tables i t within))
+    ∙ before)

@@ -1,0 +1,57 @@
+-- Which graphs can be printed.
+use Rattle.std.proofs.Common.{◌≡◌, ◌≢◌, ℕ, ◌<◌, length, Option, Some, None, arith, []}
+use Rattle.std.specs.Prelude.{MatchOption, IfSome, slice_index_or}
+use Rattle.plan_model.specs.declared.model.Leg.{Leg}
+use Rattle.plan_model.specs.declared.model.Query.{Query}
+use Rattle.plan_model.specs.Parts.{Parts}
+use Rattle.plan_model.specs.Network.{IsValid, from_of}
+use Rattle.plan_model.specs.Ways.{limit_of}
+use Rattle.plan_model.proofs.Boarding.{limit_of-some, way_takes}
+use Rattle.plan_graph.specs.declared.GraphRow.{GraphRow}
+use Rattle.plan_graph.specs.declared.ExpandedGraph.{ExpandedGraph}
+use Rattle.plan_graph.specs.declared.PlanGraph.{PlanGraph}
+use Rattle.plan_graph.specs.Ready.{IsLegOf, IsReady}
+use Rattle.plan_graph.specs.Tidy.{IsFit, IsFitStart}
+use Rattle.graph_text.specs.Printable.{IsPrintable, IsPrintablePlan}
+
+module _ (n : Parts) (valid : IsValid n) where
+  -- a limit is before the departure
+  limit_soon : (place limit : ℕ) (leg : Leg) → IsLegOf n leg → limit_of n place leg ≡ Some limit → limit < 13601088000
+  limit_soon place limit leg is_leg is =
+      let way = limit_of-some n place leg limit is in
+      let own = valid.connections leg.enter.0 is_leg.enter in
+      omega (arith, way.2, own.forward, own.early)
+
+  place_there : (place limit : ℕ) (leg : Leg) → IsLegOf n leg → limit_of n place leg ≡ Some limit → place < length n.change
+  place_there place limit leg is_leg is =
+      let way = limit_of-some n place leg limit is in
+      (way_takes n valid place (from_of n leg.enter.0) way.0 (valid.connections leg.enter.0 is_leg.enter).from_in way.1).0
+
+  pub ready_printable : (q : Query) (graph : ExpandedGraph) → IsReady n q graph → IsPrintable n graph
+  ready_printable q graph ready = record {
+    start = start_by graph.start ready.starts;
+    rides = λ k d within. let r = ready.rides k d within in record {
+      is_leg = r.is_leg;
+      rows = λ i e inside. let row = r.rows i e inside in record { is_leg = row.is_leg; by = omega (arith, row.in_time, limit_soon _ row.limit _ row.is_leg row.is_limit) };
+    };
+  }
+    where
+      start_by : (start : Option Leg) → MatchOption start (q.source.0 ≡ q.target.0) (λ leg. (q.source.0 ≢ q.target.0) × IsLegOf n leg) → IfSome start (IsLegOf n)
+      start_by None is = tt
+      start_by (Some leg) is = is.1
+
+  pub fit_printable : (q : Query) (graph : PlanGraph) → IsFit n q graph → IsPrintablePlan n graph
+  fit_printable q graph fit = record {
+    start = start_by graph.start fit.starts;
+    tables = λ k d within. let t = fit.tables k d within in let table = slice_index_or graph.tables k d in let first = t.rows 0 default (omega (arith, t.some)) in record {
+      place = place_there table.place.0 (slice_index_or table.rows 0 default).by.0 (slice_index_or table.rows 0 default).leg first.is_leg first.by;
+      rows = λ i e inside. let row = t.rows i e inside in record { is_leg = row.is_leg; by = let soon = limit_soon table.place.0 (slice_index_or table.rows i e).by.0 (slice_index_or table.rows i e).leg row.is_leg row.by in omega (arith, soon) };
+    };
+  }
+    where
+      default : GraphRow
+      default = record { by = record { 0 = 0 }; leg = record { enter = record { 0 = 0 }; exit = record { 0 = 0 } } }
+
+      start_by : (start : Option Leg) → MatchOption start ((q.source.0 ≡ q.target.0) × (graph.tables ≡ [])) (IsFitStart n q) → IfSome start (IsLegOf n)
+      start_by None is = tt
+      start_by (Some leg) is = is.is_leg

@@ -1,0 +1,44 @@
+use Rattle.std.proofs.Common.{◌≡◌, None, Some, sym, ap, ◌∙◌}
+use Rattle.csv_rows.specs.declared.columns.Column.TheVariants.{RouteId, ServiceId, TripId}
+use Rattle.csv_rows.specs.declared.feed_tables.Table.TheVariants.{Trips}
+use Rattle.csv_rows.specs.First.{or_else}
+use Rattle.csv_rows.specs.Tables.{place_of}
+use Rattle.gtfs_tables.specs.declared.trips.TripColumns.{TripColumns}
+use Rattle.gtfs_tables.specs.Faults.{lack}
+use Rattle.gtfs_tables.specs.Trips.{trips_fault}
+use Rattle.gtfs_tables.proofs.RowLemmas.{or_first, or_then, named_is, ids_fault_is}
+use Rattle.gtfs_tables.proofs.TripLemmas.{trips_named}
+use Rattle.gtfs_tables.proofs.trips.read_trips.Goals as goal
+
+pub returns-in-Some-clause-fault : goal.returns-in-Some-clause-fault
+unfolding trips_fault
+returns-in-Some-clause-fault c = λ free.
+    or_first _ _ _ (sym (ap (λ (k : TripColumns). or_else (lack Trips RouteId k.route) (or_else (lack Trips ServiceId k.service) (lack Trips TripId k.id))) c.trip_columns-columns.ensures) ∙ sym c.in-Some.ensures)
+
+pub returns-in-Err-clause-fault : goal.returns-in-Err-clause-fault
+unfolding trips_fault
+returns-in-Err-clause-fault c = λ free.
+    let has = sym (ap (λ (k : TripColumns). or_else (lack Trips RouteId k.route) (or_else (lack Trips ServiceId k.service) (lack Trips TripId k.id))) c.trip_columns-columns.ensures) ∙ sym c.in_default.ensures in
+    or_then _ _ _ has (or_first _ _ _ (c.in-Err.ensures.fault free))
+
+pub read_ids-requires-clause-named : goal.read_ids-requires-clause-named
+read_ids-requires-clause-named c =
+    let t = c.args.rows.now in
+    named_is t c.trip_columns-columns.result.id (place_of TripId t) (ap (λ (k : TripColumns). k.id) c.trip_columns-columns.ensures) (trips_named c.args.routes.now.ids t c.in-Ok.ensures.none)
+
+pub returns-in-Ok-read_ids-clause-none : goal.returns-in-Ok-read_ids-clause-none
+unfolding trips_fault
+returns-in-Ok-read_ids-clause-none c =
+    let t = c.args.rows.now in
+    let has = sym (ap (λ (k : TripColumns). or_else (lack Trips RouteId k.route) (or_else (lack Trips ServiceId k.service) (lack Trips TripId k.id))) c.trip_columns-columns.ensures) ∙ sym c.in_default.ensures in
+    let place = ap (λ (k : TripColumns). k.id) c.trip_columns-columns.ensures in
+    or_then _ _ _ has (or_then _ _ _ c.in-Ok.ensures.none (ids_fault_is Trips t c.trip_columns-columns.result.id (place_of TripId t) None place c.in-Ok-read_ids.ensures.none))
+
+pub returns-in-Err-read_ids-clause-fault : goal.returns-in-Err-read_ids-clause-fault
+unfolding trips_fault
+returns-in-Err-read_ids-clause-fault c = λ free.
+    let t = c.args.rows.now in
+    let has = sym (ap (λ (k : TripColumns). or_else (lack Trips RouteId k.route) (or_else (lack Trips ServiceId k.service) (lack Trips TripId k.id))) c.trip_columns-columns.ensures) ∙ sym c.in_default.ensures in
+    let place = ap (λ (k : TripColumns). k.id) c.trip_columns-columns.ensures in
+    or_then _ _ _ has (or_then _ _ _ c.in-Ok.ensures.none
+    (ids_fault_is Trips t c.trip_columns-columns.result.id (place_of TripId t) _ place (c.in-Err-read_ids.ensures.fault free)))

@@ -1,0 +1,98 @@
+-- The graph of the rides that a scan's choices reach.
+use Rattle.std.proofs.Common.{◌≡◌, ◌≢◌, ℕ, List, [], map, Option, Some, None, Contains, sym, subst, refl, inl, inr, ◌∙◌, ap}
+use Rattle.std.specs.Prelude.{◌==◌, if◌then◌else◌, MatchOption}
+use Rattle.std.specs.Option.{option_map}
+use Rattle.std.proofs.lemmas.Bool.{cases_eq}
+use Rattle.plan_model.specs.declared.model.Leg.{Leg}
+use Rattle.plan_model.specs.declared.model.Query.{Query}
+use Rattle.plan_model.specs.Parts.{Parts}
+use Rattle.plan_model.specs.Network.{IsValid, arr_of}
+use Rattle.plan_model.specs.Tree.{Tree}
+use Rattle.plan_model.specs.Strategy.{IsSafeFor}
+use Rattle.plan_model.specs.Choices.{IsKept}
+use Rattle.plan_model.specs.Unfold.{end_of, arrival_of, outcomes_of, by_place}
+use Rattle.plan_graph.specs.declared.GraphRow.{GraphRow}
+use Rattle.plan_graph.specs.declared.Ride.{Ride}
+use Rattle.plan_graph.specs.Ready.{IsLegOf}
+use Rattle.plan_graph.specs.Follows.{Follows, IsSteady}
+use Rattle.leg_walk.specs.Walked.{IsWalked}
+use Rattle.leg_walk.proofs.Lists.{contains_from_has, has_from_contains, all_at_has}
+use Rattle.leg_walk.proofs.Places.{other_place, same_place}
+use Rattle.leg_walk.proofs.Tables.{table_away, table_there, by_for}
+use Rattle.leg_walk.proofs.Graphs.{IsKeptAfter, ready, busy, all_rides, table_of_ride, picks_taken}
+use Rattle.meat_scan.specs.Found.{Found, choice_of, leg_choice, chosen_by}
+use Rattle.meat_scan.specs.Solves.{Answers, IsAnswer, IsStartAnswer, IsSafeAt}
+use Rattle.leg_extract.specs.Extracted.{IsExtracted, HasArrivals}
+
+module _ {V : Type 0} {below covers : V → Tree → Type 0} {gap : V → ℕ} (n : Parts) (q : Query) (found : Found V) (answers : Answers below covers gap n q found) where
+  steady_by : (place arrival : ℕ) (leg : Leg) (choice : Option (V × Leg))
+      → MatchOption choice ((tree : Tree) → IsSafeAt n q place arrival tree → ⊥) (IsAnswer below covers gap n q found place arrival)
+      → option_map (λ c. c.1) choice ≡ Some leg → IsKept n (leg_choice found) place arrival leg
+  steady_by place arrival leg None answer is = absurd (cc)
+  steady_by place arrival leg (Some choice) answer is = let one : choice.1 ≡ leg = (cc) in subst (λ (l : Leg). IsKept n (leg_choice found) place arrival l) one answer.kept
+
+  -- what is chosen is kept
+  pub steady : IsSteady n q.target.0 (leg_choice found)
+  steady place arrival leg away is = steady_by place arrival leg (choice_of found place arrival) (answers.goes_on place arrival away) is
+
+  pub safe_start : (start : V × Leg) → found.start ≡ Some start → IsSafeFor n q (chosen_by n q found start.1)
+  safe_start start is =
+      let begins = subst (λ (f : Option (V × Leg)). MatchOption f ((tree : Tree) → IsSafeFor n q tree → ⊥) (IsStartAnswer below covers gap n q found)) is answers.begins in
+      begins.safe
+
+  module _ (valid : IsValid n) (differ : q.source.0 ≢ q.target.0) (start : V × Leg) (starts : found.start ≡ Some start) (rides : List Ride)
+      (walked : IsWalked n q (by_place n (leg_choice found)) start.1 rides) where
+    abbrev target : ℕ
+    target = q.target.0
+
+    abbrev choice : Leg → ℕ → Option Leg
+    choice = by_place n (leg_choice found)
+
+    kept_after : (leg : Leg) → IsKeptAfter n target choice leg
+    kept_after leg away o has next is =
+        let k = steady (end_of n leg) (arrival_of n leg o.delay) next away is in
+        record {
+          next = next;
+          is_chosen = is;
+          limit = k.limit;
+          is_limit = k.is_limit;
+          in_time = k.in_time;
+          kept = λ u there after within. k.kept (arrival_of n leg u.delay) after within;
+        }
+
+    start_leg : IsLegOf n start.1
+    start_leg =
+        let r = walked.begins in
+        subst (λ (l : Leg). IsLegOf n l) r.2 (all_at_has (λ s. IsLegOf n s.leg) rides r.0 walked.legs (has_from_contains rides r.0 r.1))
+
+    has_arrivals : (r : Ride) → Contains rides r → HasArrivals n target r
+    has_arrivals r there =
+        let os = outcomes_of n r.leg in
+        let arrivals = map (λ o. arrival_of n r.leg o.delay) os in
+        let table = table_of_ride n valid q choice start.1 rides walked r there in
+        elim (cases_eq (end_of n r.leg) target) [
+          | inl is ↦
+              let right : (if end_of n r.leg == target then [] else arrivals) ≡ [] = rw (same_place (end_of n r.leg) target is) refl in
+              ap (λ (list : List GraphRow). map (λ row. row.by.0) list) (table ∙ table_there n target choice r.leg is) ∙ sym right
+          | inr away ↦
+              let right : (if end_of n r.leg == target then [] else arrivals) ≡ arrivals = rw (other_place (end_of n r.leg) target away) refl in
+              ap (λ (list : List GraphRow). map (λ row. row.by.0) list) (table ∙ table_away n target choice r.leg away)
+              ∙ by_for (choice r.leg) (arr_of n r.leg.exit.0) os (λ o has. let t = walked.taken r there away o (contains_from_has os o has) in (t.next, t.is_chosen))
+              ∙ sym right
+        ]
+
+    follows : Follows n target (leg_choice found) (record { start = Some start.1; rides = rides })
+    follows r there away o outcome =
+        let t = walked.taken r there away o outcome in
+        (t.next, picks_taken n valid q choice start.1 rides walked r there away o outcome, t.is_chosen)
+
+    pub extracted : IsExtracted n q found start.1 (record { start = Some start.1; rides = rides })
+    extracted = record {
+      starts = refl;
+      unfolds = walked.unfolds;
+      ready = ready n valid q choice start.1 rides walked differ start_leg (q.deadline.0, safe_start start starts) (λ r there. kept_after r.leg);
+      busy = busy n valid q choice start.1 rides walked;
+      arrivals = all_rides n valid q choice start.1 rides walked (HasArrivals n target) has_arrivals;
+      follows = follows;
+      steady = steady;
+    }

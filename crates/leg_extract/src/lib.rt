@@ -1,0 +1,65 @@
+//! The rides that a scan's choices reach, as a graph.
+#![tactic(auto)]
+
+ghost use Rattle.std.specs.Prelude.{◌≡◌, MatchOption, None, Some, IfOk};
+ghost use Rattle.plan_model.specs.declared.model.Leg.{Leg as LegParts};
+ghost use Rattle.meat_scan.specs.Solves.{Solves};
+ghost use Rattle.leg_extract.specs.Extracted.{IsExtracted};
+
+use leg_walk::{LegChoice, walk};
+use meat_scan::Scanned;
+use plan_graph::ExpandedGraph;
+use plan_model::{Leg, Moment, Network, NoMemory, Query};
+use std::alloc::Global;
+use value_laws::Score;
+
+// What a scan chooses at the place where a leg ends.
+#[derive(Drop)]
+struct ScanChoice<'a, V: Score> {
+    scanned: &'a Scanned<V>,
+}
+
+impl<'a, V: Score> LegChoice for ScanChoice<'a, V> {
+    ghost use Rattle.std.specs.Prelude.{◌≡◌, length};
+    ghost use Rattle.plan_model.specs.Unfold.{by_place};
+    ghost use Rattle.meat_scan.specs.Found.{leg_choice};
+
+    ghost fits = { λ s n target. (length s.scanned.now.rows ≡ length n.change) × (s.scanned.now.target ≡ target) };
+
+    ghost chosen = { λ s n. by_place n (leg_choice s.scanned.now) };
+
+    fn choose(&self, network: &Network, query: &Query, leg: Leg, arrival: Moment) -> Option<Leg> {
+        let _count = network.count();
+        let _ = query;
+        let end = network.get(leg.exit).to;
+        match self.scanned.choice(end, arrival) {
+            Some((_, next)) => Some(next),
+            None => None,
+        }
+    }
+}
+
+/// The graph of the rides that the scan's choices reach from its start leg, with one row for each
+/// outcome of a ride away from the target. None where the scan has no start leg.
+pub fn extract<V: Score>(
+    alloc: Global,
+    scanned: &Scanned<V>,
+    network: &Network,
+    query: &Query,
+) -> Result<Option<ExpandedGraph>, NoMemory>
+    requires { Solves V.below V.covers V.gap scanned.now network.now query.now }
+    ensures { IfOk result (λ graph. MatchOption graph (scanned.now.start ≡ None) (λ graph. (start : V × LegParts) × (scanned.now.start ≡ Some start) × IsExtracted network.now query.now scanned.now start.1 graph)) }
+{
+    let _count = network.count();
+    match scanned.start() {
+        None => Ok(None),
+        Some((_, start)) => {
+            let choice = ScanChoice { scanned };
+            let rides = walk(alloc, &choice, network, query, start)?;
+            Ok(Some(ExpandedGraph {
+                start: Some(start),
+                rides,
+            }))
+        }
+    }
+}
