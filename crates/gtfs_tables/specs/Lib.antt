@@ -5,3 +5,7 @@ pub mod Ids
 pub mod Stops
 pub mod Routes
 pub mod Trips
+pub mod StopTimes
+pub mod Keys
+pub mod Visits
+pub mod Feeds

@@ -4,6 +4,11 @@
 mod faults;
 mod forms;
 mod ids;
+mod keys;
 mod routes;
+mod stop_times;
 mod stops;
+mod tables;
+mod timetable;
 mod trips;
+mod visits;

@@ -113,6 +113,7 @@ pub(crate) fn read_routes(alloc: Global, rows: &Rows) -> Result<Routes, FeedFaul
     requires { row_count rows.now ≤ 65536 }
     ensures ids { IfOk result (λ routes. routes.ids ≡ route_ids rows.now) }
     ensures types { IfOk result (λ routes. routes.types.items ≡ route_types rows.now) }
+    ensures sized { IfOk result (λ routes. length routes.types.items ≡ length routes.ids) }
     ensures none { OnOk result (routes_fault rows.now ≡ None) }
     ensures fault { IfErr result (λ f. f ≢ FeedFault.NoMemory → routes_fault rows.now ≡ Some f) }
     ensures content { IfErr result (λ f. unread_of f ≡ None) }

@@ -1,5 +1,5 @@
 //! The stops of a feed.
-ghost use Rattle.std.specs.Prelude.{◌≡◌, ◌≢◌, ◌<◌, ◌≤◌, ℕ, None, Some, Ok, Err, IfOk, IfErr, OnOk, MatchResult};
+ghost use Rattle.std.specs.Prelude.{◌≡◌, ◌≢◌, ◌<◌, ◌≤◌, ℕ, None, Some, Ok, Err, IfOk, IfErr, OnOk, length};
 ghost use Rattle.csv_rows.specs.First.{first_below};
 ghost use Rattle.csv_rows.specs.FeedTables.{unread_of};
 ghost use Rattle.csv_rows.specs.Tables.{row_count};
@@ -140,6 +140,7 @@ pub(crate) fn read_stops(alloc: Global, rows: &Rows) -> Result<Stops, FeedFault>
     requires { row_count rows.now ≤ 1048576 }
     ensures ids { IfOk result (λ stops. stops.ids ≡ stop_ids rows.now) }
     ensures places { IfOk result (λ stops. stops.places.items ≡ stop_places rows.now) }
+    ensures sized { IfOk result (λ stops. length stops.places.items ≡ length stops.ids) }
     ensures none { OnOk result (stops_fault rows.now ≡ None) }
     ensures fault { IfErr result (λ f. f ≢ FeedFault.NoMemory → stops_fault rows.now ≡ Some f) }
     ensures content { IfErr result (λ f. unread_of f ≡ None) }

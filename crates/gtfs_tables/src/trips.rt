@@ -154,6 +154,8 @@ pub(crate) fn read_trips(alloc: Global, rows: &Rows, routes: &Routes) -> Result<
         ≡ trip_services routes.now.ids rows.now) }
     ensures types { IfOk result (λ trips. trips.of_trips.types.items
         ≡ trip_types routes.now.ids routes.now.types.items rows.now) }
+    ensures services_sized { IfOk result (λ trips. length trips.of_trips.services.items ≡ length trips.ids) }
+    ensures types_sized { IfOk result (λ trips. length trips.of_trips.types.items ≡ length trips.ids) }
     ensures none { OnOk result (trips_fault routes.now.ids rows.now ≡ None) }
     ensures fault { IfErr result (λ f. f ≢ FeedFault.NoMemory → trips_fault routes.now.ids rows.now ≡ Some f) }
     ensures content { IfErr result (λ f. unread_of f ≡ None) }

@@ -2,11 +2,12 @@ use Rattle.std.proofs.Common.{◌≡◌, None, Some, sym, ap, ◌∙◌}
 use Rattle.csv_rows.specs.declared.columns.Column.TheVariants.{RouteId, RouteType}
 use Rattle.csv_rows.specs.declared.feed_tables.Table.TheVariants.{Routes}
 use Rattle.csv_rows.specs.First.{or_else}
-use Rattle.csv_rows.specs.Tables.{place_of}
+use Rattle.csv_rows.specs.Tables.{place_of, field_at, row_count}
 use Rattle.gtfs_tables.specs.declared.routes.RouteColumns.{RouteColumns}
 use Rattle.gtfs_tables.specs.Faults.{lack}
-use Rattle.gtfs_tables.specs.Routes.{routes_fault}
+use Rattle.gtfs_tables.specs.Routes.{route_at, route_or_none, routes_fault}
 use Rattle.gtfs_tables.proofs.RowLemmas.{or_first, or_then, named_is, ids_fault_is}
+use Rattle.gtfs_tables.proofs.ListLemmas.{same_length}
 use Rattle.gtfs_tables.proofs.RouteLemmas.{routes_named}
 use Rattle.gtfs_tables.proofs.routes.read_routes.Goals as goal
 
@@ -42,3 +43,8 @@ returns-in-Err-read_ids-clause-fault c = λ free.
     let place = ap (λ (k : RouteColumns). k.id) c.route_columns-columns.ensures in
     or_then _ _ _ has (or_then _ _ _ c.in-Ok.ensures.none
     (ids_fault_is Routes t c.route_columns-columns.result.id (place_of RouteId t) _ place (c.in-Err-read_ids.ensures.fault free)))
+
+pub returns-in-Ok-read_ids-clause-sized : goal.returns-in-Ok-read_ids-clause-sized
+returns-in-Ok-read_ids-clause-sized c =
+    let t = c.args.rows.now in
+    same_length (λ i. (route_or_none (route_at t i)).kind) (field_at t c.route_columns-columns.result.id) (row_count t) _ _ c.in-Ok.ensures.types c.in-Ok-read_ids.ensures.ids

@@ -2,12 +2,13 @@ use Rattle.std.proofs.Common.{◌≡◌, ℕ, None, Some, sym, ap, ◌∙◌, su
 use Rattle.csv_rows.specs.declared.columns.Column.TheVariants.{StopId}
 use Rattle.csv_rows.specs.declared.feed_tables.Table.TheVariants.{Stops}
 use Rattle.csv_rows.specs.First.{first_below}
-use Rattle.csv_rows.specs.Tables.{place_of}
+use Rattle.csv_rows.specs.Tables.{place_of, field_at, row_count}
 use Rattle.gtfs_tables.specs.declared.stops.StopColumns.{StopColumns}
 use Rattle.gtfs_tables.specs.Faults.{lack, repeated_id}
 use Rattle.gtfs_tables.specs.Lists.{list_below}
-use Rattle.gtfs_tables.specs.Stops.{bad_stop, stops_fault}
+use Rattle.gtfs_tables.specs.Stops.{stop_ids, parent_of, place_from, stops_fault}
 use Rattle.gtfs_tables.proofs.RowLemmas.{or_first, or_then, named_is, ids_fault_is}
+use Rattle.gtfs_tables.proofs.ListLemmas.{same_length}
 use Rattle.gtfs_tables.proofs.StopLemmas.{stops_named}
 use Rattle.gtfs_tables.proofs.stops.read_stops.Goals as goal
 
@@ -54,3 +55,8 @@ returns-in-Err-read_places-clause-fault c = λ free.
     or_then _ _ _ has (or_then _ _ _ c.in-Ok.ensures.none
     (or_then _ _ _ (ids_fault_is Stops t c.stop_columns-columns.result.id (place_of StopId t) None place c.in-Ok-read_ids.ensures.none)
     (c.in-Err-read_places.ensures.fault free)))
+
+pub returns-in-Ok-read_places-clause-sized : goal.returns-in-Ok-read_places-clause-sized
+returns-in-Ok-read_places-clause-sized c =
+    let t = c.args.rows.now in
+    same_length (λ i. place_from (stop_ids t) (parent_of t i) i) (field_at t c.stop_columns-columns.result.id) (row_count t) _ _ c.in-Ok-read_places.ensures.places c.in-Ok-read_ids.ensures.ids

@@ -1,0 +1,205 @@
+-- The walk down the tree of a graph.
+use Rattle.std.proofs.Common.{◌≡◌, ◌≢◌, ℕ, zero, suc, ◌+◌, ◌-◌, ◌≤◌, ◌<◌, ◌⊎◌, Bool, true, false, List, [], ◌∷◌, ◌++◌, length, drop, Option, Some, None, Ok, Err, Result, All, Contains, arith, sym, subst, refl, inl, inr, ◌∙◌, ap}
+use Rattle.std.specs.Prelude.{◌==◌, if◌then◌else◌, slice_index_or, IfSome, OnOk, is_ok}
+use Rattle.std.specs.List.{list_any}
+use Rattle.std.proofs.lemmas.Bool.{cases_eq, cases_lt}
+use Rattle.std.proofs.lemmas.Bool.Decides.{nat_tests}
+use Rattle.plan_model.specs.declared.model.Leg.{Leg}
+use Rattle.plan_model.specs.declared.model.Outcome.{Outcome}
+use Rattle.plan_model.specs.declared.model.Query.{Query}
+use Rattle.plan_model.specs.Parts.{Parts}
+use Rattle.plan_model.specs.Network.{arr_of, to_of, outcomes}
+use Rattle.plan_model.specs.Tree.{Tree, Done, Ride, Stuck, Kids, Nil, Kid}
+use Rattle.plan_model.specs.Strategy.{Safe, SafeAll, SafeStart, IsSafeFor}
+use Rattle.plan_model.specs.Unfold.{end_of, outcomes_of, kids_after, ride_or_stuck, unfold_after}
+use Rattle.plan_graph.specs.declared.PlaceTable.{PlaceTable}
+use Rattle.plan_graph.specs.declared.GraphRow.{GraphRow}
+use Rattle.plan_graph.specs.declared.PlanGraph.{PlanGraph}
+use Rattle.plan_graph.specs.Rows.{pick_row, pick_at, rows_of_place, HasRisingTables}
+use Rattle.plan_graph.specs.Ready.{IsLegOf}
+use Rattle.plan_graph.specs.Tidy.{IsFit, IsFitTable, IsFitRow}
+use Rattle.trip_replay.specs.declared.Ridden.{Ridden}
+use Rattle.trip_replay.specs.declared.Trace.{Trace}
+use Rattle.trip_replay.specs.declared.Stop.{Stop}
+use Rattle.trip_replay.specs.declared.ReplayFault.{ReplayFault}
+use Rattle.trip_replay.specs.declared.ReplayFault.TheVariants as fault
+use Rattle.trip_replay.specs.Walk.{ridden, trace_of, walk, walk_kid, IsAnswer, IsSafeAnswer}
+use Rattle.trip_replay.specs.Stops.{has_delay, delayed, next_of, tree_at}
+
+same_delay : (a b : ℕ) → a ≡ b → (a == b) ≡ true
+same_delay a b is = grind (arith, nat_tests)
+
+other_delay : (a b : ℕ) → (a ≡ b → ⊥) → (a == b) ≡ false
+other_delay a b differ = grind (arith, nat_tests)
+
+-- the walk after a ride, by whether the delay is one of its outcomes
+pub kid_walk : (n : Parts) (f : ℕ → Tree) (scheduled : ℕ) (row : List Outcome) (i j delay : ℕ) (delays : List ℕ) (behind : List Ridden)
+    → walk_kid n (kids_after f scheduled row) row i j delay delays behind ≡ (if has_delay row delay then walk n (f (scheduled + delay)) delays (behind ++ ridden n i j delay ∷ []) else Err (fault.NotADelay (length behind + 1)))
+kid_walk n f scheduled [] i j delay delays behind = refl
+kid_walk n f scheduled (o ∷ row) i j delay delays behind = elim (cases_eq o.delay delay) [
+  | inl is ↦ rw (same_delay o.delay delay is) (ap (λ (d : ℕ). walk n (f (scheduled + d)) delays (behind ++ ridden n i j delay ∷ [])) is)
+  | inr differ ↦ rw (other_delay o.delay delay differ) (kid_walk n f scheduled row i j delay delays behind)
+]
+
+from_test : (a b : ℕ) (test : Bool) → test ≡ (a == b) → test ≡ true → a ≡ b
+from_test a b test is holds = grind (arith, nat_tests)
+
+from_other : (a b : ℕ) (test : Bool) → test ≡ (a == b) → test ≡ false → a ≢ b
+from_other a b test is fails same = let e = same_delay a b same in absurd (true_is_not_false (sym e ∙ sym is ∙ fails))
+  where
+    true_is_not_false : true ≡ false → ⊥
+    true_is_not_false e = cc e
+
+pub target_there : (a b : ℕ) (test : Bool) → test ≡ (a == b) → test ≡ true → a ≡ b
+target_there a b test is holds = from_test a b test is holds
+
+pub target_away : (a b : ℕ) (test : Bool) → test ≡ (a == b) → test ≡ false → a ≢ b
+target_away a b test is fails = from_other a b test is fails
+
+split : (delays : List ℕ) (i d : ℕ) → i < length delays → drop i delays ≡ slice_index_or delays i d ∷ drop (suc i) delays
+split [] i d within = absurd (omega (arith, within))
+split (head ∷ delays) zero d within = refl
+split (head ∷ delays) (suc i) d within = split delays i d (omega (arith, within))
+
+split_at : (delays : List ℕ) (i d : ℕ) → i < length delays → drop i delays ≡ slice_index_or delays i d ∷ drop (i + 1) delays
+split_at delays i d within = let one : suc i ≡ i + 1 = omega arith in subst (λ (k : ℕ). drop i delays ≡ slice_index_or delays i d ∷ drop k delays) one (split delays i d within)
+
+drop_all : (delays : List ℕ) (i : ℕ) → length delays ≤ i → drop i delays ≡ []
+drop_all [] zero over = refl
+drop_all [] (suc i) over = refl
+drop_all (head ∷ delays) zero over = absurd (omega (arith, over))
+drop_all (head ∷ delays) (suc i) over = drop_all delays i (omega (arith, over))
+
+module _ (n : Parts) (target : ℕ) (choice : Leg → ℕ → Option Leg) (s : Stop) (behind : List Ridden) (delays : List ℕ) (i : ℕ) where
+  at_target : s.place.0 ≡ target → tree_at n target choice s ≡ Done s.moment.0
+  at_target is = rw (same_delay s.place.0 target is) refl
+
+  on_the_way : (next : Option Leg) → s.place.0 ≢ target → s.next ≡ next → tree_at n target choice s ≡ ride_or_stuck n (unfold_after n target choice s.left) next s.place.0 s.moment.0
+  on_the_way next away is = rw (other_delay s.place.0 target away) (ap (λ (o : Option Leg). ride_or_stuck n (unfold_after n target choice s.left) o s.place.0 s.moment.0) is)
+
+  pub too_many : s.place.0 ≡ target → i < length delays → walk n (tree_at n target choice s) (drop i delays) behind ≡ Err (fault.TooMany (length behind))
+  too_many is within =
+      ap (λ (tree : Tree). walk n tree (drop i delays) behind) (at_target is)
+      ∙ ap (λ (list : List ℕ). walk n (Done s.moment.0) list behind) (split_at delays i 0 within)
+
+  pub arrived : s.place.0 ≡ target → length delays ≤ i → walk n (tree_at n target choice s) (drop i delays) behind ≡ Ok (trace_of behind s.moment.0)
+  arrived is over =
+      ap (λ (tree : Tree). walk n tree (drop i delays) behind) (at_target is)
+      ∙ ap (λ (list : List ℕ). walk n (Done s.moment.0) list behind) (drop_all delays i over)
+
+  pub stuck : s.place.0 ≢ target → s.next ≡ None → walk n (tree_at n target choice s) (drop i delays) behind ≡ Err (fault.Stuck s.place s.moment)
+  stuck away is = ap (λ (tree : Tree). walk n tree (drop i delays) behind) (on_the_way None away is)
+
+  pub too_few : (leg : Leg) → s.place.0 ≢ target → s.next ≡ Some leg → length delays ≤ i → walk n (tree_at n target choice s) (drop i delays) behind ≡ Err (fault.TooFew (length behind))
+  too_few leg away is over =
+      ap (λ (tree : Tree). walk n tree (drop i delays) behind) (on_the_way (Some leg) away is)
+      ∙ ap (λ (list : List ℕ). walk n (ride_or_stuck n (unfold_after n target choice s.left) (Some leg) s.place.0 s.moment.0) list behind) (drop_all delays i over)
+
+  rides_on : (leg : Leg) (d : ℕ) → s.place.0 ≢ target → s.next ≡ Some leg → i < length delays
+      → walk n (tree_at n target choice s) (drop i delays) behind ≡ (if has_delay (outcomes_of n leg) (slice_index_or delays i d) then walk n (unfold_after n target choice s.left leg (arr_of n leg.exit.0 + slice_index_or delays i d)) (drop (i + 1) delays) (behind ++ ridden n leg.enter.0 leg.exit.0 (slice_index_or delays i d) ∷ []) else Err (fault.NotADelay (length behind + 1)))
+  rides_on leg d away is within =
+      ap (λ (tree : Tree). walk n tree (drop i delays) behind) (on_the_way (Some leg) away is)
+      ∙ ap (λ (list : List ℕ). walk n (ride_or_stuck n (unfold_after n target choice s.left) (Some leg) s.place.0 s.moment.0) list behind) (split_at delays i d within)
+      ∙ kid_walk n (unfold_after n target choice s.left leg) (arr_of n leg.exit.0) (outcomes_of n leg) leg.enter.0 leg.exit.0 (slice_index_or delays i d) (drop (i + 1) delays) behind
+
+  delay_none : (leg : Leg) (delay : ℕ) (test : Bool) → has_delay (outcomes_of n leg) delay ≡ test → (if test then Some (arr_of n leg.exit.0 + delay) else None) ≡ None → has_delay (outcomes_of n leg) delay ≡ false
+  delay_none leg delay true is none = absurd (cc)
+  delay_none leg delay false is none = is
+
+  delay_some : (leg : Leg) (delay x : ℕ) (test : Bool) → has_delay (outcomes_of n leg) delay ≡ test → (if test then Some (arr_of n leg.exit.0 + delay) else None) ≡ Some x → (has_delay (outcomes_of n leg) delay ≡ true) × (arr_of n leg.exit.0 + delay ≡ x)
+  delay_some leg delay x true is some = (is, (cc))
+  delay_some leg delay x false is some = absurd (cc)
+
+  pub not_a_delay : (leg : Leg) (d : ℕ) → s.place.0 ≢ target → s.next ≡ Some leg → i < length delays → delayed n leg (slice_index_or delays i d) ≡ None → walk n (tree_at n target choice s) (drop i delays) behind ≡ Err (fault.NotADelay (length behind + 1))
+  not_a_delay leg d away is within none =
+      rides_on leg d away is within ∙ rw (delay_none leg (slice_index_or delays i d) (has_delay (outcomes_of n leg) (slice_index_or delays i d)) refl none) refl
+
+  -- after a ride
+  pub after_ride : (leg : Leg) (d x : ℕ) → s.place.0 ≢ target → s.next ≡ Some leg → i < length delays → delayed n leg (slice_index_or delays i d) ≡ Some x
+      → walk n (tree_at n target choice s) (drop i delays) behind ≡ walk n (unfold_after n target choice s.left leg x) (drop (i + 1) delays) (behind ++ (record { leg = leg; delay = slice_index_or delays i d; arrival = record { 0 = x } }) ∷ [])
+  after_ride leg d x away is within some =
+      let both = delay_some leg (slice_index_or delays i d) x (has_delay (outcomes_of n leg) (slice_index_or delays i d)) refl some in
+      rides_on leg d away is within
+      ∙ rw both.0 (ap (λ (y : ℕ). walk n (unfold_after n target choice s.left leg y) (drop (i + 1) delays) (behind ++ (record { leg = leg; delay = slice_index_or delays i d; arrival = record { 0 = y } }) ∷ [])) both.1)
+
+-- a safe tree ends no walk as stuck, nor too late
+module _ (n : Parts) (target deadline : ℕ) where
+  safe_by : (test : Bool) (a b : Result Trace ReplayFault) → IsSafeAnswer deadline a → IsSafeAnswer deadline b → IsSafeAnswer deadline (if test then a else b)
+  safe_by true a b one two = one
+  safe_by false a b one two = two
+
+  mutual
+    pub safe_walk : (tree : Tree) (p x : ℕ) (delays : List ℕ) (behind : List Ridden) → Safe n target (Some deadline) tree p x → IsSafeAnswer deadline (walk n tree delays behind)
+    safe_walk (Done a) p x [] behind safe = let is = safe.0 in omega (arith, is, safe.2)
+    safe_walk (Done a) p x (delay ∷ delays) behind safe = tt
+    safe_walk (Stuck q y) p x delays behind safe = absurd safe
+    safe_walk (Ride i j kids) p x [] behind safe = tt
+    safe_walk (Ride i j kids) p x (delay ∷ delays) behind safe = safe_kids kids (outcomes n j) (to_of n j) (arr_of n j) i j delay delays behind safe.3
+
+    safe_kids : (kids : Kids) (row : List Outcome) (p scheduled i j delay : ℕ) (delays : List ℕ) (behind : List Ridden) → SafeAll n target (Some deadline) kids row p scheduled → IsSafeAnswer deadline (walk_kid n kids row i j delay delays behind)
+    safe_kids Nil row p scheduled i j delay delays behind safe = tt
+    safe_kids (Kid w tree kids) [] p scheduled i j delay delays behind safe = absurd safe
+    safe_kids (Kid w tree kids) (o ∷ row) p scheduled i j delay delays behind safe =
+        safe_by (o.delay == delay) (walk n tree delays (behind ++ ridden n i j delay ∷ [])) (walk_kid n kids row i j delay delays behind)
+        (safe_walk tree p (scheduled + o.delay) delays (behind ++ ridden n i j delay ∷ []) safe.1) (safe_kids kids row p scheduled i j delay delays behind safe.2)
+
+safe_start : (n : Parts) (q : Query) (tree : Tree) (delays : List ℕ) → IsSafeFor n q tree → IsSafeAnswer q.deadline.0 (walk n tree delays [])
+safe_start n q (Done a) [] safe = let is = safe.0 in omega (arith, is, safe.2)
+safe_start n q (Done a) (delay ∷ delays) safe = tt
+safe_start n q (Stuck p y) delays safe = absurd safe
+safe_start n q (Ride i j kids) [] safe = tt
+safe_start n q (Ride i j kids) (delay ∷ delays) safe = safe_kids n q.target.0 q.deadline.0 kids (outcomes n j) (to_of n j) (arr_of n j) i j delay delays [] safe.3
+
+pub safe_answer : (n : Parts) (q : Query) (tree : Tree) (delays : List ℕ) (result : Result Trace ReplayFault) → IsAnswer result (walk n tree delays []) → IsSafeFor n q tree → IsSafeAnswer q.deadline.0 result
+safe_answer n q tree delays (Err fault.NoMemory) is safe = tt
+safe_answer n q tree delays (Ok trace) is safe = subst (λ (r : Result Trace ReplayFault). IsSafeAnswer q.deadline.0 r) is (safe_start n q tree delays safe)
+safe_answer n q tree delays (Err (fault.Stuck place moment)) is safe = subst (λ (r : Result Trace ReplayFault). IsSafeAnswer q.deadline.0 r) is (safe_start n q tree delays safe)
+safe_answer n q tree delays (Err e) is safe = tt
+
+-- what a table picks is a leg
+picked_row : (n : Parts) (place : ℕ) (rows : List GraphRow) → All (IsFitRow n place) rows → (x : ℕ) (leg : Leg) → pick_row rows x ≡ Some leg → IsLegOf n leg
+picked_row n place [] fit x leg is = absurd (cc)
+picked_row n place (row ∷ rows) fit x leg is = elim (cases_le x row.by.0) [
+  | inl early ↦
+      let e : pick_row (row ∷ rows) x ≡ Some row.leg = grind (arith, nat_tests) in
+      let one : row.leg ≡ leg = some_same row.leg leg (sym e ∙ is) in
+      subst (λ (l : Leg). IsLegOf n l) one (fit 0 row (omega arith)).is_leg
+  | inr late ↦
+      let e : pick_row (row ∷ rows) x ≡ pick_row rows x = grind (arith, nat_tests) in
+      picked_row n place rows (λ k d within. fit (suc k) d (omega (arith, within))) x leg (sym e ∙ is)
+]
+  where
+    some_same : (a b : Leg) → ◌≡◌ {A = Option Leg} (Some a) (Some b) → a ≡ b
+    some_same a b is = cc
+
+    cases_le : (a b : ℕ) → (a ≤ b) ⊎ (b < a)
+    cases_le a b = elim (cases_lt b a) [ inl less ↦ inr less | inr le ↦ inl le ]
+
+pub picked_leg : (n : Parts) (tables : List PlaceTable) → All (IsFitTable n) tables → (place x : ℕ) (leg : Leg) → pick_at tables place x ≡ Some leg → IsLegOf n leg
+picked_leg n [] fit place x leg is = absurd (cc)
+picked_leg n (table ∷ tables) fit place x leg is = by_test (table.place.0 == place) (picked_leg n tables (λ k d within. fit (suc k) d (omega (arith, within))) place x leg) is
+  where
+    by_test : (test : Bool) → (pick_at tables place x ≡ Some leg → IsLegOf n leg) → pick_row (if test then table.rows else rows_of_place tables place) x ≡ Some leg → IsLegOf n leg
+    by_test true more picks = picked_row n table.place.0 table.rows (fit 0 table (omega arith)).rows x leg picks
+    by_test false more picks = more picks
+
+pub next_leg : (n : Parts) (tables : List PlaceTable) → All (IsFitTable n) tables → (place x left : ℕ) (found : Option Leg) → found ≡ pick_at tables place x → 0 < left → IfSome found (λ next. IsLegOf n next × (left - 1 < left))
+next_leg n tables fit place x left None is some = tt
+next_leg n tables fit place x left (Some leg) is some = (picked_leg n tables fit place x leg (sym is), omega (arith, some))
+
+-- what is said of a success, where it was one
+pub from_ok : {T E : Type 0} (P : Type 0) (r : Result T E) → is_ok r ≡ true → OnOk r P → P
+from_ok P (Ok x) holds said = said
+from_ok P (Err e) holds said = absurd (cc)
+
+pub one_more : {X : Type 0} (xs : List X) (x : X) → length (xs ++ x ∷ []) ≡ length xs + 1
+one_more [] x = refl
+one_more (y ∷ xs) x = let more = one_more xs x in omega (arith, more)
+
+-- a leg that is next leaves fewer rides
+pub next_step : (n : Parts) (most before left new_left : ℕ) (next : Option Leg) → IfSome next (λ leg. IsLegOf n leg × (new_left < left)) → before + left < most → IfSome next (λ leg. IsLegOf n leg × (before + 1 + new_left < most))
+next_step n most before left new_left None said few = tt
+next_step n most before left new_left (Some leg) said few = (said.0, omega (arith, said.1, few))
+
+pub at_some : (n : Parts) (most behind left : ℕ) (next : Option Leg) (leg : Leg) → next ≡ Some leg → IfSome next (λ l. IsLegOf n l × (behind + left < most)) → behind + left < most
+at_some n most behind left next leg is said = (subst (λ (o : Option Leg). IfSome o (λ l. IsLegOf n l × (behind + left < most))) is said).1

@@ -1,0 +1,58 @@
+use Rattle.std.proofs.Common.{◌≡◌, ◌∙◌, ℕ, ◌+◌, ◌<◌, List, [], ◌∷◌, ◌++◌, length, drop, Option, None, Some, Err, sym, ap, arith, subst}
+use Rattle.std.specs.Prelude.{IfSome}
+use Rattle.std.specs.Option.{option_map}
+use Rattle.plan_model.specs.declared.model.Leg.{Leg}
+use Rattle.plan_model.specs.declared.model.Moment.{Moment}
+use Rattle.plan_model.specs.Network.{count}
+use Rattle.plan_model.specs.Tree.{Tree}
+use Rattle.plan_model.specs.Unfold.{by_place, unfold_after}
+use Rattle.plan_graph.specs.Rows.{pick_at}
+use Rattle.plan_graph.specs.Ready.{IsLegOf}
+use Rattle.trip_replay.specs.declared.Ridden.{Ridden}
+use Rattle.trip_replay.specs.declared.ReplayFault.TheVariants as fault
+use Rattle.trip_replay.specs.Walk.{walk}
+use Rattle.trip_replay.proofs.Walks.{too_many, not_a_delay, after_ride, target_there, target_away, from_ok, one_more, next_step, at_some}
+use Rattle.trip_replay.proofs.follow.Goals as goal
+
+pub returns-then-eq : goal.returns-then-eq
+returns-then-eq c =
+    let n = c.args.network.now in
+    let choice = by_place n (pick_at c.args.graph.now.tables) in
+    let s = c.loop-delay.stop in
+    let target = c.args.query.now.target.0 in
+    c.loop-delay.invariant.walk
+    ∙ too_many n target choice s c.loop-delay.rides c.args.delays.now c.loop-delay.delay-index (target_there s.place.0 target c.eq.result c.eq.ensures c.if-eq.true) c.loop-delay-test.true
+    ∙ ap (λ (k : ℕ). Err (fault.TooMany k)) (sym c.len.ensures)
+
+pub returns-in_default-arrival_of : goal.returns-in_default-arrival_of
+returns-in_default-arrival_of c =
+    let n = c.args.network.now in
+    let choice = by_place n (pick_at c.args.graph.now.tables) in
+    let s = c.loop-delay.stop in
+    let target = c.args.query.now.target.0 in
+    let none = sym c.arrival_of.ensures ∙ ap (λ (o : Option Moment). option_map (λ moment. moment.0) o) c.in_default-arrival_of.is in
+    c.loop-delay.invariant.walk
+    ∙ not_a_delay n target choice s c.loop-delay.rides c.args.delays.now c.loop-delay.delay-index c.in-Some.leg 0 (target_away s.place.0 target c.eq.result c.eq.ensures c.if-eq.false) c.in-Some.is c.loop-delay-test.true none
+    ∙ ap (λ (k : ℕ). Err (fault.NotADelay (k + 1))) (sym c.len-in_default-arrival_of.ensures)
+
+pub loop-delay-preserved : goal.loop-delay-preserved
+loop-delay-preserved c =
+    let n = c.args.network.now in
+    let choice = by_place n (pick_at c.args.graph.now.tables) in
+    let s = c.loop-delay.stop in
+    let target = c.args.query.now.target.0 in
+    let behind = c.loop-delay.rides in
+    let rest = drop (c.loop-delay.delay-index + 1) c.args.delays.now in
+    let some = sym c.arrival_of.ensures ∙ ap (λ (o : Option Moment). option_map (λ moment. moment.0) o) c.in-Some-arrival_of.is in
+    let pushed = from_ok _ c.push.result c.if-is_err.ensures.negation c.push.ensures.ok in
+    let more : length c.push.new.self ≡ length behind + 1 = ap (λ (list : List Ridden). length list) pushed ∙ one_more behind _ in
+    let few : length behind + s.left < count n = at_some n (count n) (length behind) s.left s.next c.in-Some.leg c.in-Some.is c.loop-delay.invariant.next in
+    record {
+      walk = c.loop-delay.invariant.walk
+      ∙ after_ride n target choice s behind c.args.delays.now c.loop-delay.delay-index c.in-Some.leg 0 c.in-Some-arrival_of.arrival.0 (target_away s.place.0 target c.eq.result c.eq.ensures c.if-eq.false) c.in-Some.is c.loop-delay-test.true some
+      ∙ ap (λ (list : List Ridden). walk n (unfold_after n target choice s.left c.in-Some.leg c.in-Some-arrival_of.arrival.0) rest list) (sym pushed)
+      ∙ ap (λ (tree : Tree). walk n tree rest c.push.new.self) (sym c.stop_after-stop.ensures.tree);
+      next = subst (λ (k : ℕ). IfSome c.stop_after-stop.result.next (λ leg. IsLegOf n leg × (k + c.stop_after-stop.result.left < count n))) (sym more)
+      (next_step n (count n) (length behind) s.left c.stop_after-stop.result.left c.stop_after-stop.result.next c.stop_after-stop.ensures.next few);
+      few = omega (arith, more, few, c.stop_after-stop.ensures.left);
+    }

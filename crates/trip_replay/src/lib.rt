@@ -1,0 +1,170 @@
+//! A trip by a graph, as the delays come.
+#![tactic(auto)]
+
+ghost use Rattle.std.specs.Prelude.{◌≡◌, ℕ, ◌+◌, ◌-◌, ◌<◌, ◌≤◌, [], IfSome, IfOk};
+ghost use Rattle.std.specs.Option.{option_map};
+ghost use Rattle.plan_model.specs.Network.{count};
+ghost use Rattle.plan_model.specs.Strategy.{IsSafeFor};
+ghost use Rattle.plan_model.specs.Unfold.{by_place, end_of, unfold_after};
+ghost use Rattle.plan_graph.specs.Rows.{pick_at};
+ghost use Rattle.plan_graph.specs.Ready.{IsLegOf};
+ghost use Rattle.plan_graph.specs.Tidy.{IsFit};
+ghost use Rattle.plan_graph.specs.Unfold.{unfold_plan};
+ghost use Rattle.trip_replay.specs.Walk.{walk, IsAnswer, IsSafeAnswer};
+ghost use Rattle.trip_replay.specs.Stops.{delayed, tree_at};
+
+use plan_graph::PlanGraph;
+use plan_model::{Leg, List, Moment, Network, PlaceId, Query};
+use std::alloc::Global;
+
+/// A ride, with its delay in seconds and its arrival.
+#[derive(Clone, Copy, Debug, PartialEq, Eq)]
+pub struct Ridden {
+    pub leg: Leg,
+    pub delay: u32,
+    pub arrival: Moment,
+}
+
+/// The rides of a trip, and its arrival at the target.
+#[derive(Drop)]
+pub struct Trace {
+    pub rides: List<Ridden>,
+    pub arrival: Moment,
+}
+
+/// Why there is no trip with these delays.
+#[derive(Clone, Copy, Debug, PartialEq, Eq)]
+pub enum ReplayFault {
+    /// The delay of this number, from 1 on, is none of its leg's.
+    NotADelay(u32),
+    /// After so many legs another one is taken, and no delay is left.
+    TooFew(u32),
+    /// After so many legs the target is reached, and delays are left.
+    TooMany(u32),
+    /// The table of the place has no row for the arrival.
+    Stuck(PlaceId, Moment),
+    /// There was no memory.
+    NoMemory,
+}
+
+// Where the traveller is, since when, which leg is taken next, and how many rides may follow it.
+#[derive(Clone, Copy)]
+struct Stop {
+    place: PlaceId,
+    moment: Moment,
+    next: Option<Leg>,
+    left: u32,
+}
+
+// The arrival of a leg with a delay, where it can have that delay.
+fn arrival_of(network: &Network, leg: Leg, delay: u32) -> Option<Moment>
+    requires { leg.exit.0 < count network.now }
+    ensures { option_map (λ moment. moment.0) result ≡ delayed network.now leg delay }
+{
+    let _count = network.count();
+    let exit = network.get(leg.exit);
+    for outcome in network.row(exit.class) {
+        if outcome.delay == delay {
+            return Some(Moment(exit.arr.0 + u64::from(delay)));
+        }
+    }
+    None
+}
+
+// Where the traveller stands after a leg.
+fn stop_after(
+    graph: &PlanGraph,
+    network: &Network,
+    query: &Query,
+    leg: Leg,
+    arrival: Moment,
+    left: u32,
+) -> Stop
+    requires fit { IsFit network.now query.now graph.now }
+    requires leg { IsLegOf network.now leg }
+    ensures tree { tree_at network.now query.now.target.0 (by_place network.now (pick_at graph.now.tables)) result ≡ unfold_after network.now query.now.target.0 (by_place network.now (pick_at graph.now.tables)) left leg arrival.0 }
+    ensures next { IfSome result.next (λ next. IsLegOf network.now next × (result.left < left)) }
+    ensures left { result.left ≤ left }
+{
+    let place = network.get(leg.exit).to;
+    if left == 0 {
+        return Stop {
+            place,
+            moment: arrival,
+            next: None,
+            left: 0,
+        };
+    }
+    Stop {
+        place,
+        moment: arrival,
+        next: graph.pick(place, arrival),
+        left: left - 1,
+    }
+}
+
+// The trip by the graph with these delays, leg by leg.
+fn follow(
+    alloc: Global,
+    graph: &PlanGraph,
+    network: &Network,
+    query: &Query,
+    delays: &[u32],
+) -> Result<Trace, ReplayFault>
+    requires { IsFit network.now query.now graph.now }
+    ensures { IsAnswer result (walk network.now (unfold_plan graph.now network.now query.now) delays.now []) }
+{
+    let mut rides = List::new(alloc);
+    let mut stop = Stop {
+        place: query.source,
+        moment: query.start,
+        next: graph.start,
+        left: network.count().saturating_sub(1),
+    };
+    for delay in delays {
+        if stop.place == query.target {
+            return Err(ReplayFault::TooMany(rides.len() as u32));
+        }
+        let Some(leg) = stop.next else {
+            return Err(ReplayFault::Stuck(stop.place, stop.moment));
+        };
+        let Some(arrival) = arrival_of(network, leg, *delay) else {
+            return Err(ReplayFault::NotADelay(rides.len() as u32 + 1));
+        };
+        let ridden = Ridden {
+            leg,
+            delay: *delay,
+            arrival,
+        };
+        if rides.push(ridden).is_err() {
+            return Err(ReplayFault::NoMemory);
+        }
+        stop = stop_after(graph, network, query, leg, arrival, stop.left);
+    }
+    if stop.place == query.target {
+        return Ok(Trace {
+            rides,
+            arrival: stop.moment,
+        });
+    }
+    match stop.next {
+        Some(_) => Err(ReplayFault::TooFew(rides.len() as u32)),
+        None => Err(ReplayFault::Stuck(stop.place, stop.moment)),
+    }
+}
+
+/// The trip by the graph with these delays, leg by leg. Where the graph's tree is safe for the
+/// query, the traveller is never stuck and arrives by the deadline.
+pub fn replay(
+    alloc: Global,
+    graph: &PlanGraph,
+    network: &Network,
+    query: &Query,
+    delays: &[u32],
+) -> Result<Trace, ReplayFault>
+    requires { IsFit network.now query.now graph.now }
+    ensures walk { IsAnswer result (walk network.now (unfold_plan graph.now network.now query.now) delays.now []) }
+    ensures safe { IsSafeFor network.now query.now (unfold_plan graph.now network.now query.now) → IsSafeAnswer query.now.deadline.0 result }
+{
+    follow(alloc, graph, network, query, delays)
+}
