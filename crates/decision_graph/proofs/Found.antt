@@ -47,3 +47,23 @@ expanded n q found start graph solves some extracted = record {
 
 pub steady_choice : (n : Parts) (q : Query) (found : Found MeanSpan) (leg : Leg) (graph : ExpandedGraph) → IsExtracted n q found leg graph → HasSteadyChoice n q graph
 steady_choice n q found leg graph extracted = record { choice = leg_choice found; steady = extracted.steady; follows = extracted.follows }
+
+-- what extraction gives of a scan that has a start
+pub extracted_from : (n : Parts) (q : Query) (found : Found MeanSpan) (o : Option ExpandedGraph) (graph : ExpandedGraph) → o ≡ Some graph →
+    MatchOption o (found.start ≡ None) (λ g. (start : MeanSpan × Leg) × (found.start ≡ Some start) × IsExtracted n q found start.1 g) →
+    (start : MeanSpan × Leg) × (found.start ≡ Some start) × IsExtracted n q found start.1 graph
+extracted_from n q found o graph is match =
+    let P : Option ExpandedGraph → Type 0 = λ o. MatchOption o (found.start ≡ None) (λ g. (start : MeanSpan × Leg) × (found.start ≡ Some start) × IsExtracted n q found start.1 g) in
+    subst P is match
+
+-- the graph with the bounds of the start
+pub expanded_from : (n : Parts) (q : Query) (found : Found MeanSpan) (value : MeanSpan) (leg : Leg) (graph : ExpandedGraph) → Solves mean_below mean_covers mean_gap found n q → Some (value, leg) ≡ found.start →
+    (start : MeanSpan × Leg) × (found.start ≡ Some start) × IsExtracted n q found start.1 graph → IsExpanded n q graph value.0
+expanded_from n q found value leg graph solves some (start, is, extracted) =
+    let both : Some (value, leg) ≡ Some start = some ∙ is in
+    let same : start.0 ≡ value = (cc) in
+    subst (λ (v : MeanSpan). IsExpanded n q graph v.0) same (expanded n q found start graph solves is extracted)
+
+pub steady_from : (n : Parts) (q : Query) (found : Found MeanSpan) (graph : ExpandedGraph) →
+    (start : MeanSpan × Leg) × (found.start ≡ Some start) × IsExtracted n q found start.1 graph → HasSteadyChoice n q graph
+steady_from n q found graph (start, is, extracted) = steady_choice n q found start.1 graph extracted
