@@ -9,6 +9,8 @@ pub enum Command {
     Safe,
     /// The decision graph, ride by ride.
     Expand,
+    /// The decision graph, with one table for each place.
+    Plan,
 }
 
 /// An option of the command line.
@@ -48,6 +50,9 @@ impl Command {
         }
         if word == "expand" {
             return Some(Command::Expand);
+        }
+        if word == "plan" {
+            return Some(Command::Plan);
         }
         None
     }

@@ -7,10 +7,10 @@ ghost use Rattle.command_line.specs.Shown.{shown};
 ghost use Rattle.meat_engine.specs.Faults.{status_of};
 ghost use Rattle.meat_engine.specs.Files.{path_of, HasCauses};
 ghost use Rattle.meat_engine.specs.Lines.{line_of, IsTold};
-ghost use Rattle.meat_engine.specs.Answers.{InTimetable, IsSafeAnswer, IsBare};
+ghost use Rattle.meat_engine.specs.Answers.{InTimetable, IsAsked, Tells, IsBare};
 ghost use Rattle.meat_engine.specs.Received.{Outcome, ErrReceived, FailsJob, IsWritten};
 
-use crate::answers::{Answer, safe_answer};
+use crate::answers::{Answer, answer_in};
 use crate::faults::{Fault, Input, known_line};
 use crate::problem::problem_of;
 use crate::report::{Report, Status};
@@ -32,14 +32,15 @@ fn answer_of<F: Files>(
     requires high { job.now.alpha ≤ 1000 }
     ensures same { F.files files.new ≡ F.files files.old }
     ensures answer { IfOk result (λ a. InTimetable (F.files files.old) limits.now (shown job.now)
-        (λ network names. IsSafeAnswer network names (shown job.now) a.query a.worst a.text.items)) }
+        (λ network names. IsAsked network names (shown job.now) a.query a.worst
+            × Tells job.now.command network names a.query a.worst a.expanded a.graph a.bounds a.text.items)) }
     ensures fault { IfErr result (FailsJob (F.files files.old) limits.now (shown job.now)) }
     ensures causes { HasCauses (IsSome (F.files files.old)) (path_of (shown job.now)) (F.faults files.old)
         (F.faults files.new) (F.faults_of files.old) (F.faults_of files.new) result }
 {
     match problem_of(alloc, files, job, limits) {
         Err(fault) => Err(fault),
-        Ok(problem) => match safe_answer(alloc, &problem, job) {
+        Ok(problem) => match answer_in(alloc, &problem, job) {
             Err(fault) => Err(fault),
             Ok(answer) => Ok(answer),
         },
@@ -80,7 +81,35 @@ fn bare(fault: Fault) -> Report
         status: Status(fault.status()),
         query: None,
         worst: None,
+        expanded: None,
+        graph: None,
+        bounds: None,
         fault: Some(fault),
+    }
+}
+
+/// The report of an answer.
+fn reported(answer: Answer, fault: Option<Fault>) -> Report
+    ensures status { result.status.0 ≡ status_of fault }
+    ensures query { result.query ≡ Some answer.query }
+    ensures worst { result.worst ≡ Some answer.worst }
+    ensures expanded { result.expanded ≡ answer.expanded }
+    ensures graph { result.graph ≡ answer.graph }
+    ensures bounds { result.bounds ≡ answer.bounds }
+    ensures fault { result.fault ≡ fault }
+{
+    let status = match fault {
+        None => 0,
+        Some(fault) => fault.status(),
+    };
+    Report {
+        status: Status(status),
+        query: Some(answer.query),
+        worst: Some(answer.worst),
+        expanded: answer.expanded,
+        graph: answer.graph,
+        bounds: answer.bounds,
+        fault,
     }
 }
 
@@ -89,27 +118,19 @@ fn tell<O: Sink, E: Sink>(answer: Answer, out: &mut O, err: &mut E) -> Report
     ensures status { result.status.0 ≡ status_of result.fault }
     ensures query { result.query ≡ Some answer.query }
     ensures worst { result.worst ≡ Some answer.worst }
+    ensures expanded { result.expanded ≡ answer.expanded }
+    ensures graph { result.graph ≡ answer.graph }
+    ensures bounds { result.bounds ≡ answer.bounds }
     ensures out { IsWritten (O.written out.old) (O.written out.new) answer.text.items result.fault }
     ensures err { ErrReceived (E.written err.old) (E.written err.new) (E.faults err.old) (E.faults err.new) result.fault }
     ensures write { result.fault ≡ Some Fault.Write → Rose (O.faults out.old) (O.faults out.new) }
     ensures grew { O.faults out.old < O.faults out.new → result.fault ≡ Some Fault.Write }
 {
-    let Answer { query, worst, text } = answer;
-    match put_all(out, text.as_slice()) {
-        Ok(()) => Report {
-            status: Status(0),
-            query: Some(query),
-            worst: Some(worst),
-            fault: None,
-        },
+    match put_all(out, answer.text.as_slice()) {
+        Ok(()) => reported(answer, None),
         Err(_) => {
             let _ = put_all(err, b"meat: cannot write\n");
-            Report {
-                status: Status(8),
-                query: Some(query),
-                worst: Some(worst),
-                fault: Some(Fault::Write),
-            }
+            reported(answer, Some(Fault::Write))
         }
     }
 }
