@@ -1,5 +1,5 @@
 -- Fields, and the rows that they make.
-use Rattle.std.proofs.Common.{◌≡◌, ℕ, ◌<◌, ◌≤◌, ◌==◌, ◌&&◌, nat_le, Bool, true, false, List, [], length, slice_index_or, Option, Some, None, if◌then◌else◌, IsUtf8, refl, sym, ap, ◌∙◌, subst, arith, ⊎_elim, bytes_eq}
+use Rattle.std.proofs.Common.{◌≡◌, ℕ, ◌<◌, ◌==◌, Bool, true, false, List, [], length, slice_index_or, Option, Some, None, if◌then◌else◌, refl, sym, ap, ◌∙◌, subst, arith, bytes_eq}
 use Rattle.std.specs.Prelude.{Result}
 use Rattle.std.specs.Str.{is_utf8}
 use Rattle.csv_rows.specs.declared.feed_tables.FeedFault.{FeedFault}

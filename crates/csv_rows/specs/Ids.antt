@@ -1,5 +1,5 @@
 -- Ids by their numbers.
-use Rattle.std.specs.Prelude.{ℕ, List, string_bytes, map}
+use Rattle.std.specs.Prelude.{ℕ, List}
 use Rattle.plan_model.specs.NameLists.{texts, IsNameList}
 use Rattle.csv_rows.specs.declared.ids.Ids.TheInside.{Inside}
 

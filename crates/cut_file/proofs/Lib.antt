@@ -13,3 +13,4 @@ pub mod Occurs
 pub mod Valid
 pub mod Made
 pub mod Fit
+pub mod NetworkFacts

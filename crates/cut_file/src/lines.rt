@@ -41,9 +41,18 @@ pub(crate) fn read_fields<'a>(f: Fields<'a>) -> Result<NamedRow<'a>, Column>
     ensures row { IfOk result (λ r. row_from f.entry.run.now f.entry.step.now f.entry.from.now
         f.entry.to.now f.entry.dep.now f.entry.arr.now f.entry.class.now f.entry.board.now
         f.entry.exit.now f.entry.change.now
-        ≡ Ok (record { run = r.run.now; step = r.step; from = r.from.now; to = r.to.now;
-            dep = r.dep; arr = r.arr; class = r.class; board = r.board; exit = r.exit;
-            change = r.change })) }
+        ≡ Ok (record {
+          run = r.run.now;
+          step = r.step;
+          from = r.from.now;
+          to = r.to.now;
+          dep = r.dep;
+          arr = r.arr;
+          class = r.class;
+          board = r.board;
+          exit = r.exit;
+          change = r.change;
+        })) }
     ensures column { IfErr result (λ column. row_from f.entry.run.now f.entry.step.now
         f.entry.from.now f.entry.to.now f.entry.dep.now f.entry.arr.now f.entry.class.now
         f.entry.board.now f.entry.exit.now f.entry.change.now ≡ Err column) }

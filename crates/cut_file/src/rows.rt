@@ -104,9 +104,18 @@ fn read_row<'a>(rows: &'a Rows, row: usize, columns: &Columns) -> Result<NamedRo
     requires row { row < row_count rows.now }
     requires columns { AreColumns rows.now columns.now }
     ensures row { IfOk result (λ r. row_at rows.now row
-        ≡ Ok (record { run = r.run.now; step = r.step; from = r.from.now; to = r.to.now;
-            dep = r.dep; arr = r.arr; class = r.class; board = r.board; exit = r.exit;
-            change = r.change })) }
+        ≡ Ok (record {
+          run = r.run.now;
+          step = r.step;
+          from = r.from.now;
+          to = r.to.now;
+          dep = r.dep;
+          arr = r.arr;
+          class = r.class;
+          board = r.board;
+          exit = r.exit;
+          change = r.change;
+        })) }
     ensures column { IfErr result (λ column. row_at rows.now row ≡ Err column) }
 {
     match read_fields(fields_of(rows, row, columns)) {
@@ -123,9 +132,18 @@ fn numbered(names: &mut Names, row: &NamedRow<'_>) -> Result<CutRow, NoMemory>
     ensures places { OnOk result (names.new.places
         ≡ add_new (add_new names.old.places row.now.from.now) row.now.to.now) }
     ensures row { IfOk result (λ c. IsNumbered names.new.runs names.new.places
-        (record { run = row.now.run.now; step = row.now.step; from = row.now.from.now;
-            to = row.now.to.now; dep = row.now.dep; arr = row.now.arr; class = row.now.class;
-            board = row.now.board; exit = row.now.exit; change = row.now.change }) c) }
+        (record {
+          run = row.now.run.now;
+          step = row.now.step;
+          from = row.now.from.now;
+          to = row.now.to.now;
+          dep = row.now.dep;
+          arr = row.now.arr;
+          class = row.now.class;
+          board = row.now.board;
+          exit = row.now.exit;
+          change = row.now.change;
+        }) c) }
 {
     let run = run_number(names, row.run)?;
     let from = place_number(names, row.from)?;

@@ -1,22 +1,19 @@
 -- Services run on the days on which they are active.
-use Rattle.std.proofs.Common.{◌≡◌, ℕ, ℤ, ◌+◌, ◌<◌, ◌≤◌, ◌&&◌, ◌||◌, not, Bool, true, false, List, length, slice_get, Option, Some, None, refl, sym, ap, ◌∙◌, subst, arith}
+use Rattle.std.proofs.Common.{◌≡◌, ℕ, ℤ, ◌<◌, ◌≤◌, ◌&&◌, ◌||◌, not, true, false, List, length, Option, Some, None, refl, sym, ap, ◌∙◌, arith}
 use Rattle.std.proofs.lemmas.Option.{slice_get-get_or, slice_get_past}
 use Rattle.csv_rows.specs.declared.columns.Column.TheVariants.{ServiceId}
 use Rattle.csv_rows.specs.declared.feed_tables.Table.TheVariants.{Calendar}
-use Rattle.csv_rows.specs.First.{first_below, any_below}
-use Rattle.csv_rows.specs.Lists.{list_below}
-use Rattle.csv_rows.specs.RowFaults.{repeated_id}
+use Rattle.csv_rows.specs.First.{any_below}
 use Rattle.csv_rows.specs.Tables.{row_count, place_in, field}
 use Rattle.csv_rows.proofs.FirstLemmas.{none-both}
 use Rattle.csv_rows.proofs.IdLemmas.{one_row, no_row, place-here}
 use Rattle.csv_rows.proofs.ListLemmas.{length-list_below, get-list_below}
-use Rattle.service_days.specs.declared.periods.Period.{Period}
 use Rattle.service_days.specs.declared.exceptions.Exception.{Exception}
 use Rattle.service_days.specs.Periods.{runs_by, period_of, service_ids, periods_of, runs_in_row, calendar_fault}
 use Rattle.service_days.specs.Dates.{is_excepted}
 use Rattle.service_days.specs.Exceptions.{has_at}
 use Rattle.service_days.specs.Numbered.{AreNumbered}
-use Rattle.service_days.specs.Services.{runs_within, period_runs, runs_at, runs_in}
+use Rattle.service_days.specs.Services.{runs_within, period_runs, runs_in}
 use Rattle.service_days.specs.Calendars.{is_active, AreDistinctRows}
 
 -- no fault, so no service stands twice

@@ -1,5 +1,5 @@
 -- Exceptions by the numbers of their services, one more at a time.
-use Rattle.std.proofs.Common.{◌≡◌, ℕ, ℤ, zero, suc, ◌+◌, ◌<◌, ◌≤◌, ◌==◌, ◌&&◌, ◌||◌, Bool, true, false, List, [], ◌∷◌, ◌++◌, length, slice_index_or, Option, Some, None, if◌then◌else◌, refl, sym, ap, ap₂, ◌∙◌, subst, arith, ⊎_elim, bytes_eq, add-one, length-append}
+use Rattle.std.proofs.Common.{◌≡◌, ℕ, ℤ, ◌+◌, ◌<◌, ◌≤◌, ◌==◌, ◌&&◌, ◌||◌, Bool, true, false, List, [], ◌∷◌, length, slice_index_or, Option, Some, None, if◌then◌else◌, refl, sym, ap, ◌∙◌, subst, arith, ⊎_elim, bytes_eq, add-one, length-append}
 use Rattle.std.specs.Ordering.{int_eq}
 use mathlib.Core.Bool.{beq}
 use Rattle.std.proofs.lemmas.Bool.Decides.{nat_tests}
@@ -11,7 +11,7 @@ use Rattle.std.proofs.lemmas.Slice.Eq.{bytes_eq-Decides}
 use Rattle.csv_rows.proofs.FirstLemmas.{true_or_false}
 use Rattle.csv_rows.proofs.IdLemmas.{place-push, place-same, place-here, place-none}
 use Rattle.service_days.specs.declared.exceptions.Exception.{Exception}
-use Rattle.service_days.specs.Dates.{ServiceDate, is_for, is_excepted, date_of}
+use Rattle.service_days.specs.Dates.{is_for, is_excepted, date_of}
 use Rattle.service_days.specs.Exceptions.{same, has, has_at}
 use Rattle.service_days.specs.Numbered.{AddsDate, AreNumbered}
 

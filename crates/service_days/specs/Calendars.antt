@@ -5,7 +5,7 @@ use Rattle.csv_rows.specs.declared.feed_tables.Table.TheVariants.{Calendar, Cale
 use Rattle.csv_rows.specs.declared.feed_tables.FeedFault.{FeedFault}
 use Rattle.csv_rows.specs.declared.feed_tables.FeedFault.TheVariants.{Read, MissingTable}
 use Rattle.csv_rows.specs.declared.loading.Loaded.{Loaded}
-use Rattle.csv_rows.specs.declared.loading.Loaded.TheVariants.{Absent, NoRecord, Found}
+use Rattle.csv_rows.specs.declared.loading.Loaded.TheVariants.{Found}
 use Rattle.csv_rows.specs.declared.limits.Limits.{Limits}
 use Rattle.file_ports.specs.Ports.{Folder, file_at}
 use Rattle.csv_rows.specs.declared.columns.Column.TheVariants.{ServiceId}

@@ -1,6 +1,5 @@
 -- The exceptions of `calendar_dates.txt`: days that are added to a service, or removed.
-use Rattle.std.specs.Prelude.{ℕ, ℤ, pos, ◌+◌, ◌==◌, ◌&&◌, Bool, false, List, [], Option, Some, None, Result, Ok, if◌then◌else◌}
-use Rattle.std.specs.List.{list_any}
+use Rattle.std.specs.Prelude.{ℕ, ℤ, pos, ◌+◌, ◌&&◌, Bool, false, List, [], Option, Result, Ok}
 use Rattle.std.specs.Option.{option_or}
 use Rattle.std.specs.Ordering.{int_eq}
 use Rattle.std.specs.Str.{bytes_eq}
@@ -13,7 +12,7 @@ use Rattle.csv_rows.specs.declared.feed_tables.FeedFault.TheVariants.{BadField}
 use Rattle.csv_rows.specs.First.{or_else, first_below, any_below, read}
 use Rattle.csv_rows.specs.Names.{name_in}
 use Rattle.csv_rows.specs.RowFaults.{fault_in, value_or, lack}
-use Rattle.csv_rows.specs.Tables.{row_count, place_of, field_at, field}
+use Rattle.csv_rows.specs.Tables.{row_count, place_of, field_at}
 use Rattle.service_days.specs.declared.dates.DateColumns.{DateColumns}
 use Rattle.service_days.specs.Forms.{adds_in}
 

@@ -1,5 +1,5 @@
 -- The exceptions of a table by the numbers of their services.
-use Rattle.std.specs.Prelude.{◌≡◌, ℕ, ℤ, ◌≤◌, ◌||◌, Bool, true, false, List, length, Option, Some, None}
+use Rattle.std.specs.Prelude.{◌≡◌, ℕ, ℤ, ◌≤◌, ◌||◌, Bool, false, List, length, Option, Some, None}
 use Rattle.plan_model.specs.NameLists.{Adds}
 use Rattle.csv_rows.specs.Tables.{place_in}
 use Rattle.service_days.specs.declared.exceptions.Exception.{Exception}

@@ -1,4 +1,4 @@
-use Rattle.std.proofs.Common.{◌≡◌, None, Some, true, false, sym, ap, ◌∙◌, arith, length, subst}
+use Rattle.std.proofs.Common.{None, Some, sym, ap, ◌∙◌, arith, length, subst}
 use Rattle.plan_model.specs.NameLists.{Adds}
 use Rattle.csv_rows.specs.declared.feed_tables.FeedFault.TheVariants.{DuplicateKey}
 use Rattle.csv_rows.specs.Tables.{row_count, field_at}

@@ -1,4 +1,4 @@
-use Rattle.std.proofs.Common.{◌≡◌, None, Some, sym, ap, ◌∙◌}
+use Rattle.std.proofs.Common.{sym, ap, ◌∙◌}
 use Rattle.csv_rows.proofs.RowLemmas.{or_first, or_then}
 use Rattle.service_days.specs.Dates.{missing_in, dates_fault}
 use Rattle.service_days.proofs.exceptions.read_exceptions.Goals as goal

@@ -1,4 +1,4 @@
-use Rattle.std.proofs.Common.{◌≡◌, ℕ, List, None, Some, sym, ap, ◌∙◌, subst, arith, length, refl}
+use Rattle.std.proofs.Common.{None, sym, ap, subst, arith}
 use Rattle.csv_rows.specs.RowFaults.{fault_in}
 use Rattle.csv_rows.specs.Tables.{row_count}
 use Rattle.csv_rows.proofs.FirstLemmas.{first-zero, first-next, first-at}

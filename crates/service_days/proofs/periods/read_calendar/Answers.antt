@@ -1,4 +1,4 @@
-use Rattle.std.proofs.Common.{◌≡◌, None, Some, sym, ap, ◌∙◌}
+use Rattle.std.proofs.Common.{None, sym, ap, ◌∙◌}
 use Rattle.csv_rows.specs.declared.columns.Column.TheVariants.{ServiceId}
 use Rattle.csv_rows.specs.declared.feed_tables.Table.TheVariants.{Calendar}
 use Rattle.csv_rows.specs.Tables.{place_of, field_at}

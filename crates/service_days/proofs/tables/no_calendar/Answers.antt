@@ -1,4 +1,4 @@
-use Rattle.std.proofs.Common.{◌∙◌, sym, ap, arith, [], length}
+use Rattle.std.proofs.Common.{◌∙◌, sym, []}
 use Rattle.csv_rows.specs.declared.columns.Column.TheVariants.{ServiceId}
 use Rattle.csv_rows.specs.declared.feed_tables.Table.TheVariants.{Calendar}
 use Rattle.csv_rows.specs.RowFaults.{repeated_id}

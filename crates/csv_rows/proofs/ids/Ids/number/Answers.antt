@@ -1,4 +1,4 @@
-use Rattle.std.proofs.Common.{◌≡◌, ℕ, List, Contains, Some, None, sym, ap, subst, ◌∙◌}
+use Rattle.std.proofs.Common.{ℕ, List, None, sym, ap, ◌∙◌}
 use Rattle.csv_rows.specs.Tables.{place_in}
 use Rattle.plan_model.specs.NameLists.{texts}
 use Rattle.plan_model.proofs.Texts.{absent_from_not_found, position_is}

@@ -1,7 +1,6 @@
-use Rattle.std.proofs.Common.{◌≡◌, ℕ, ℤ, sym, ap, ap₂, ◌∙◌, filter, w32, arith, ◌++◌, ◌∷◌, []}
+use Rattle.std.proofs.Common.{sym, ap, ◌∙◌, filter, w32, ◌++◌, ◌∷◌, []}
 use Rattle.std.proofs.lemmas.Int.{to_z-of_z}
 use Rattle.service_days.specs.Services.{runs}
-use Rattle.service_days.specs.Days.{days_from, day_count}
 use Rattle.service_days.proofs.DayLemmas.{days_from-zero, filter-kept, filter-dropped}
 use Rattle.service_days.proofs.services.Services.days.Goals as goal
 use Rattle.service_days.proofs.services.Services.days.Goals.{then-runs_on+in_ok-push, else-runs_on}

@@ -1,4 +1,4 @@
-use Rattle.std.proofs.Common.{◌≡◌, ◌≢◌, ◌&&◌, List, ℕ, Option, IfSome, Bool, true, false, None, sym, subst, refl, Err, Ok}
+use Rattle.std.proofs.Common.{◌≡◌, ◌≢◌, Option, IfSome, None, subst, refl, Err}
 use Rattle.file_ports.specs.Ports.{Folder}
 use Rattle.csv_rows.specs.declared.feed_tables.Table.TheVariants as table
 use Rattle.csv_rows.specs.declared.feed_tables.FeedFault.TheVariants as fault
