@@ -38,7 +38,9 @@ fn sooner(a: Option<Moment>, b: Option<Moment>) -> Option<Moment>
 /// The least worst arrival of the rides that leave the source at the start or later.
 fn set_out(network: &Network, taken: &[Taken], source: PlaceId, start: Moment) -> Option<Moment>
     requires { All (λ t. t.id.0 < count network.now) taken.now }
-    ensures { IsLeastIn Taken taken.now (λ t. IsBoardableAtStart network.now source.0 start.0 t.id.0) (λ t. t.enter) result }
+    ensures { IsLeastIn Taken taken.now
+        (λ t. IsBoardableAtStart network.now source.0 start.0 t.id.0)
+        (λ t. t.enter) result }
 {
     let mut best = None;
     for entry in taken {
@@ -72,7 +74,9 @@ fn ride_on(network: &Network, taken: &[Taken], place: PlaceId, since: Moment) ->
     requires taken { All (λ t. t.id.0 < count network.now) taken.now }
     requires place { place.0 < length network.now.change }
     requires room { since.0 < 2 ^ 40 }
-    ensures { IsLeastIn Taken taken.now (λ t. IsBoardable network.now place.0 since.0 t.id.0) (λ t. t.enter) result }
+    ensures { IsLeastIn Taken taken.now
+        (λ t. IsBoardable network.now place.0 since.0 t.id.0)
+        (λ t. t.enter) result }
 {
     let mut best = None;
     for entry in taken {
@@ -86,7 +90,9 @@ fn ride_on(network: &Network, taken: &[Taken], place: PlaceId, since: Moment) ->
 /// The least worst arrival of the rides that leave a run by a step or a later one.
 fn best_exit(network: &Network, taken: &[Taken], run: RunId, step: u32) -> Option<Moment>
     requires { All (λ t. t.id.0 < count network.now) taken.now }
-    ensures { IsLeastIn Taken taken.now (λ t. (run.0 ≡ run_of network.now t.id.0) × (step ≤ step_of network.now t.id.0)) (λ t. t.exit) result }
+    ensures { IsLeastIn Taken taken.now
+        (λ t. (run.0 ≡ run_of network.now t.id.0) × (step ≤ step_of network.now t.id.0))
+        (λ t. t.exit) result }
 {
     let mut best = None;
     for entry in taken {
@@ -111,7 +117,9 @@ fn arrive(
     requires later { HasLater network.now taken.now since.0 }
     requires place { place.0 < length network.now.change }
     requires room { since.0 < 2 ^ 40 }
-    ensures { IsLeast Tree (λ tree. Safe network.now target.0 None tree place.0 since.0) worst result }
+    ensures { IsLeast Tree
+        (λ tree. Safe network.now target.0 None tree place.0 since.0)
+        worst result }
 {
     if place.0 == target.0 {
         Some(since)
@@ -180,7 +188,8 @@ pub fn least_worst(
 
     // It is not before the start, and no later than a day after the last arrival of the network.
     ensures order { IfOk result (λ worst. IfSome worst (λ w. start.0 ≤ w.0)) }
-    ensures early { IfOk result (λ worst. IfSome worst (λ w. start.0 < 13601174401 → w.0 < 13601174401)) }
+    ensures early { IfOk result (λ worst. IfSome worst (λ w.
+        start.0 < 13601174401 → w.0 < 13601174401)) }
 {
     let mut order = SortedOrder::new(alloc, network)?;
     pass(alloc, network, &mut order, source, target, start)

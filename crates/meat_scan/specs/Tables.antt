@@ -1,5 +1,5 @@
 -- The tables of a scan.
-use Rattle.std.specs.Prelude.{◌≡◌, ℕ, ◌<◌, ◌≤◌, Bool, List, [], length, Option, None, is_some, slice_index_or, count_by}
+use Rattle.std.specs.Prelude.{◌≡◌, ℕ, ◌<◌, ◌≤◌, Bool, List, [], length, Option, None, is_some, slice_index_or, count_by, if◌then◌else◌}
 use Rattle.plan_model.specs.declared.model.ConnectionId.{ConnectionId}
 use Rattle.plan_model.specs.Parts.{Parts}
 use Rattle.plan_model.specs.Ways.{way_of}
@@ -28,6 +28,10 @@ exit_at exits run = slice_index_or exits run None
 -- whether a way leads from a place to another
 abbrev pub has_way : Parts → ℕ → ℕ → Bool
 has_way network place to = is_some (way_of network place to)
+
+-- how many ways lead from a place to another: one, or none
+abbrev pub ways_between : Parts → ℕ → ℕ → ℕ
+ways_between network place to = if has_way network place to then 1 else 0
 
 -- how many of the connections can be boarded by a way from a place
 abbrev pub boardable : Parts → ℕ → List ConnectionId → ℕ

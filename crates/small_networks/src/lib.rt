@@ -79,7 +79,8 @@ mod tests {
         true
     }
 
-    // On time 8,000 times in 10,000, five minutes late 1,500 times, and a quarter of an hour 500 times.
+    // On time 8,000 times in 10,000, five minutes late 1,500 times, and a quarter of an hour 500
+    // times.
     fn usual_delays(alloc: Global) -> Result<List<Outcome>, NoMemory>
         ensures { IfOk result (λ row. IsValidRow row) }
     {
@@ -158,7 +159,8 @@ mod tests {
         requires source { source < length network.now.change }
         requires target { target < length network.now.change }
         requires start { start < 1000000 }
-        ensures order { IfOk result (λ worst. IfSome worst (λ moment. 1717401600 + start ≤ moment.0)) }
+        ensures order { IfOk result (λ worst. IfSome worst (λ moment.
+            1717401600 + start ≤ moment.0)) }
         ensures early { IfOk result (λ worst. IfSome worst (λ moment. moment.0 < 13601174401)) }
     {
         let (source, target, start) = (PlaceId(source), PlaceId(target), Moment(START + start));
