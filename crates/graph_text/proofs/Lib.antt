@@ -1,2 +1,4 @@
 pub mod Fields
 pub mod Laws
+pub mod Found
+pub mod Steps

@@ -14,12 +14,15 @@ ghost use Rattle.graph_text.specs.Texts.{row_of_fields, leg_row, head_row, start
 ghost use Rattle.graph_text.specs.Writers.{written, IsBetweenRows};
 ghost use Rattle.graph_text.specs.Printable.{IsPrintableQuery, IsPrintableRow, IsPrintableRide, IsPrintableTable, IsPrintable, IsPrintablePlan};
 
+mod reader;
+
 use clock_text::{write_moment, write_nanos};
 use csv::{Writer, WriterBuilder};
 use interval_fixed::Span;
 use itoa::Buffer;
 use plan_graph::{ExpandedGraph, GraphRow, PlaceTable, PlanGraph, Ride};
 use plan_model::{Leg, Names, Network, NoMemory, PlaceId, Query};
+pub use reader::{TextFault, read};
 use std::alloc::Global;
 
 /// The question that a graph answers, and bounds on the expected arrival in nanoseconds.
