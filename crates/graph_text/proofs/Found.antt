@@ -69,7 +69,7 @@ run_number (Some id) names text name is utf8 there none distinct = by_number (So
 abbrev is_at : ℕ → ℕ → Connection → Bool
 is_at run step c = (c.run.0 == run) && (c.step == step)
 
-at_both : (run step : ℕ) (c : Connection) → is_at run step c ≡ true → (c.run.0 ≡ run) × (c.step ≡ step)
+pub at_both : (run step : ℕ) (c : Connection) → is_at run step c ≡ true → (c.run.0 ≡ run) × (c.step ≡ step)
 at_both run step c is = ((grind (arith, nat_tests)), (grind (arith, nat_tests)))
 
 both_at : (run step : ℕ) (c : Connection) → c.run.0 ≡ run → c.step ≡ step → is_at run step c ≡ true

@@ -2,3 +2,4 @@ pub mod Fields
 pub mod Laws
 pub mod Found
 pub mod Steps
+pub mod Fits

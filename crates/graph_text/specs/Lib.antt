@@ -2,3 +2,4 @@ pub mod Texts
 pub mod Writers
 pub mod Printable
 pub mod Reading
+pub mod Asked
