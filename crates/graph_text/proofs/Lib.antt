@@ -1,2 +1,5 @@
 pub mod Fields
 pub mod Laws
+pub mod Found
+pub mod Steps
+pub mod Fits

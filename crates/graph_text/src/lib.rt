@@ -1,8 +1,8 @@
 //! Graphs as printed rows.
 #![tactic(auto)]
 
-ghost use Rattle.std.specs.Prelude.{◌≡◌, ℕ, ◌<◌, ◌++◌, [], map, All, IfOk, IfSome, OnOk, codes, length};
-ghost use Rattle.plan_model.specs.NameLists.{NamesFit};
+ghost use Rattle.std.specs.Prelude.{◌≡◌, ℕ, ◌<◌, ◌++◌, [], map, All, IfOk, IfSome, OnOk, codes, length, Ok, List as Sequence};
+ghost use Rattle.plan_model.specs.NameLists.{NameLists, NamesFit};
 ghost use Rattle.plan_model.specs.Network.{IsValid, count};
 ghost use Rattle.plan_graph.specs.Ready.{IsLegOf, IsReady};
 ghost use Rattle.plan_graph.specs.Tidy.{IsFit};
@@ -12,7 +12,12 @@ ghost use Rattle.plan_model.specs.Parts.{Parts};
 ghost use Rattle.plan_model.specs.declared.model.Query.{Query as QueryParts};
 ghost use Rattle.graph_text.specs.Texts.{row_of_fields, leg_row, head_row, start_text, rows_text, ride_text, rides_text, expanded_text, place_row, table_text, tables_text, graph_text};
 ghost use Rattle.graph_text.specs.Writers.{written, IsBetweenRows};
+ghost use Rattle.graph_text.specs.declared.Head.{Head as HeadParts};
+ghost use Rattle.graph_text.specs.Reading.{graph_of};
+ghost use Rattle.graph_text.specs.Asked.{IsAsked};
 ghost use Rattle.graph_text.specs.Printable.{IsPrintableQuery, IsPrintableRow, IsPrintableRide, IsPrintableTable, IsPrintable, IsPrintablePlan};
+
+mod reader;
 
 use clock_text::{write_moment, write_nanos};
 use csv::{Writer, WriterBuilder};
@@ -20,6 +25,7 @@ use interval_fixed::Span;
 use itoa::Buffer;
 use plan_graph::{ExpandedGraph, GraphRow, PlaceTable, PlanGraph, Ride};
 use plan_model::{Leg, Names, Network, NoMemory, PlaceId, Query};
+pub use reader::{TextFault, read};
 use std::alloc::Global;
 
 /// The question that a graph answers, and bounds on the expected arrival in nanoseconds.
@@ -335,4 +341,9 @@ pub fn ready_is_printable()
 /// A graph that fits a network can be printed.
 pub fn fit_is_printable()
     ensures { (n : Parts) (q : QueryParts) (graph : Plan) → IsValid n → IsFit n q graph → IsPrintablePlan n graph }
+{}
+
+/// What is read fits the network and the question, whose source, target and start are those given.
+pub fn read_fits()
+    ensures { (n : Parts) (names : NameLists) (text : Sequence ℕ) (source target start : ℕ) (head : HeadParts) (graph : Plan) → graph_of text n names source target start ≡ Ok (head, graph) → IsFit n head.query graph × IsAsked source target start head }
 {}

@@ -1,0 +1,65 @@
+-- A step of reading.
+use Rattle.std.proofs.Common.{◌≡◌, ℕ, ◌+◌, ◌-◌, ◌<◌, List, [], ◌∷◌, length, drop, Option, Some, Ok, Err, Result, arith, sym, ◌∙◌, ap, subst, refl}
+use Rattle.std.specs.Prelude.{◌==◌, if◌then◌else◌, false, slice_index_or}
+use Rattle.std.specs.Option.{option_map}
+use Rattle.std.proofs.lemmas.Bool.Decides.{nat_tests}
+use Rattle.plan_model.specs.declared.model.PlaceId.{PlaceId}
+use Rattle.plan_model.specs.declared.model.Moment.{Moment}
+use Rattle.plan_model.specs.Parts.{Parts}
+use Rattle.plan_model.specs.NameLists.{NameLists}
+use Rattle.plan_graph.specs.declared.PlanGraph.{PlanGraph}
+use Rattle.graph_text.specs.declared.Head.{Head}
+use Rattle.graph_text.specs.declared.reader.Reading.{Reading}
+use Rattle.graph_text.specs.declared.reader.TextFault.{TextFault}
+use Rattle.graph_text.specs.declared.reader.TextFault.TheVariants as f
+use Rattle.graph_text.specs.Reading.{begun, extended, table_in, row_in, step, IsRead, place_or_first, and_then, graph_in, head_in, graph_of_records}
+
+not_none : (left : ℕ) → (left ≡ 0 → ⊥) → (left == 0) ≡ false
+not_none left some = grind (arith, nat_tests)
+
+-- where leg rows are to come
+pub leg_step : (n : Parts) (names : NameLists) (line : ℕ) (r : List (List ℕ)) (s : Reading) (place : PlaceId) → (s.left ≡ 0 → ⊥) → s.place ≡ Some place → extended s (row_in n names line place.0 (option_map (λ moment. moment.0) s.by) r) ≡ step n names line r s
+leg_step n names line r s place some is =
+    sym (rw (not_none s.left some) (ap (λ (p : Option PlaceId). extended s (row_in n names line (place_or_first p).0 (option_map (λ moment. moment.0) s.by) r)) is))
+
+-- a fault ends what is read
+pub read_err : {A B : Type 0} (fault : TextFault) (told : Result A TextFault) (next : A → Result B TextFault) → told ≡ Err fault → IsRead {A = B} (Err fault) (and_then told next)
+read_err f.NoMemory told next is = tt
+read_err (f.Row line) told next is = ap (λ r. and_then r next) is
+read_err (f.UnknownName line) told next is = ap (λ r. and_then r next) is
+read_err (f.NotRising line) told next is = ap (λ r. and_then r next) is
+read_err (f.NoLeg line) told next is = ap (λ r. and_then r next) is
+read_err (f.OtherQuery line) told next is = ap (λ r. and_then r next) is
+
+pub fault_on : {A B : Type 0} (fault : TextFault) (told : Result A TextFault) (next : A → Result B TextFault) → IsRead {A = A} (Err fault) told → IsRead {A = B} (Err fault) (and_then told next)
+fault_on f.NoMemory told next is = tt
+fault_on (f.Row line) told next is = ap (λ r. and_then r next) is
+fault_on (f.UnknownName line) told next is = ap (λ r. and_then r next) is
+fault_on (f.NotRising line) told next is = ap (λ r. and_then r next) is
+fault_on (f.NoLeg line) told next is = ap (λ r. and_then r next) is
+fault_on (f.OtherQuery line) told next is = ap (λ r. and_then r next) is
+
+pub ok_on : {A B : Type 0} (told : Result A TextFault) (a : A) (next : A → Result B TextFault) (r : Result B TextFault) → told ≡ Ok a → IsRead r (next a) → IsRead r (and_then told next)
+ok_on {A} {B} told a next r is read = subst (λ (t : Result A TextFault). IsRead r (and_then t next)) (sym is) read
+
+-- a table's records
+pub first_split : (t : List (List (List ℕ))) → 0 < length t → t ≡ slice_index_or t 0 [] ∷ drop 1 t
+first_split [] some = absurd (omega (arith, some))
+first_split (r ∷ rs) some = refl
+
+pub rest_split : (t : List (List (List ℕ))) → 0 < length t - 1 → drop 1 t ≡ slice_index_or t 1 [] ∷ drop 2 t
+rest_split [] some = absurd (omega (arith, some))
+rest_split (r ∷ []) some = absurd (omega (arith, some))
+rest_split (r ∷ s ∷ rs) some = refl
+
+pub rest_none : (t : List (List (List ℕ))) → length t - 1 ≡ 0 → drop 1 t ≡ []
+rest_none [] none = refl
+rest_none (r ∷ []) none = refl
+rest_none (r ∷ s ∷ rs) none = absurd (omega (arith, none))
+
+-- what the first row and the graph of the others tell together
+pub told_by : (n : Parts) (names : NameLists) (source target start : ℕ) (rows : List (List (List ℕ))) (head : Head) (r : Result (Head × PlanGraph) TextFault) → 0 < length rows → Ok head ≡ head_in names source target start (slice_index_or rows 0 [])
+    → IsRead r (and_then (graph_in n names source target start (drop 1 rows)) (λ graph. Ok (head, graph))) → IsRead r (graph_of_records n names source target start rows)
+told_by n names source target start rows head r some is read =
+    subst (λ (t : List (List (List ℕ))). IsRead r (graph_of_records n names source target start t)) (sym (first_split rows some))
+    (ok_on (head_in names source target start (slice_index_or rows 0 [])) head (λ h. and_then (graph_in n names source target start (drop 1 rows)) (λ graph. Ok (h, graph))) r (sym is) read)

@@ -1,0 +1,265 @@
+-- What a graph's text tells, or the first of its faults by line.
+use Rattle.std.specs.Prelude.{◌≡◌, ℕ, ◌+◌, ◌-◌, Bool, true, false, List, [], ◌∷◌, ◌++◌, length, ◌==◌, ◌&&◌, nat_le, nat_lt, if◌then◌else◌, slice_index_or, codes, Option, Some, None, Result, Ok, Err, ◌⊎◌, ◌<◌, IsSome, IfSome}
+use Rattle.std.specs.Option.{option_map}
+use Rattle.std.specs.List.{position_from}
+use Rattle.std.specs.Str.{bytes_eq, is_utf8}
+use Rattle.clock_text.specs.Digits.{whole_of}
+use Rattle.clock_text.specs.Times.{moment_at, nanos_at}
+use Rattle.csv_rows.specs.Tables.{table_of}
+use Rattle.plan_model.specs.declared.model.Connection.{Connection}
+use Rattle.plan_model.specs.declared.model.Leg.{Leg}
+use Rattle.plan_model.specs.declared.model.Query.{Query}
+use Rattle.plan_model.specs.Parts.{Parts}
+use Rattle.plan_model.specs.NameLists.{NameLists}
+use Rattle.plan_model.specs.Network.{connection, from_of, to_of, dep_of, arr_of, change_of}
+use Rattle.plan_model.specs.Ways.{limit_of}
+use Rattle.plan_graph.specs.declared.GraphRow.{GraphRow}
+use Rattle.plan_graph.specs.declared.PlaceTable.{PlaceTable}
+use Rattle.plan_graph.specs.declared.PlanGraph.{PlanGraph}
+use Rattle.graph_text.specs.declared.Head.{Head}
+use Rattle.graph_text.specs.declared.reader.TextFault.{TextFault}
+use Rattle.graph_text.specs.declared.reader.TextFault.TheVariants.{Row, UnknownName, NotRising, NoLeg, OtherQuery, NoMemory}
+use Rattle.graph_text.specs.declared.reader.HeadRow.{HeadRow}
+use Rattle.graph_text.specs.declared.reader.LegRow.{LegRow}
+use Rattle.graph_text.specs.declared.reader.PlaceRow.{PlaceRow}
+use Rattle.graph_text.specs.declared.reader.TableStart.{TableStart}
+use Rattle.graph_text.specs.declared.reader.Reading.{Reading}
+use Rattle.plan_model.specs.declared.model.PlaceId.{PlaceId}
+
+-- a field of a record
+abbrev pub field : List (List ℕ) → ℕ → List ℕ
+field r k = slice_index_or r k []
+
+-- whether it is a record of this kind, of eight fields
+abbrev pub is_kind : List ℕ → List (List ℕ) → Bool
+is_kind kind r = (length r == 8) && bytes_eq (field r 0) kind
+
+-- a whole number: one to nine digits
+abbrev pub whole_at : List ℕ → Option ℕ
+whole_at text = whole_of 999999999 text
+
+-- the number of a name; none where it is not among the names
+abbrev pub number_of : List (List ℕ) → List ℕ → Option ℕ
+number_of names text = if is_utf8 text then position_from (λ name. bytes_eq name text) 0 names else None
+
+-- the connection of a run and step
+abbrev pub connection_of : Parts → ℕ → ℕ → Option ℕ
+connection_of n run step = position_from (λ c. (c.run.0 == run) && (c.step == step)) 0 n.connections
+
+-- the numbers of a leg's row, where each is of its form
+abbrev pub leg_numbers : Option ℕ → Option ℕ → Option ℕ → Option ℕ → Option ℕ → Option LegRow
+leg_numbers (Some moment) (Some enter) (Some dep) (Some exit) (Some arr) =
+    Some (record { moment = record { 0 = moment }; enter = enter; dep = record { 0 = dep }; exit = exit; arr = record { 0 = arr } })
+leg_numbers _ _ _ _ _ = None
+
+abbrev pub leg_row_in : List ℕ → List (List ℕ) → Option LegRow
+leg_row_in kind r =
+    if is_kind kind r
+    then leg_numbers (moment_at (field r 1)) (whole_at (field r 3)) (moment_at (field r 4)) (whole_at (field r 5)) (moment_at (field r 7))
+    else None
+
+-- whether connections i and j agree with a leg's row
+abbrev pub agrees : Parts → ℕ → ℕ → LegRow → ℕ → Bool
+agrees n i j x place =
+    nat_le x.enter x.exit && ((connection n i).can_board && ((connection n j).can_exit
+    && ((dep_of n i == x.dep.0) && ((to_of n j == place) && (arr_of n j == x.arr.0)))))
+
+abbrev pub leg_of : ℕ → ℕ → Leg
+leg_of i j = record { enter = record { 0 = i }; exit = record { 0 = j } }
+
+abbrev pub leg_between : Parts → LegRow → ℕ → Option ℕ → Option ℕ → Option Leg
+leg_between n x place (Some i) (Some j) = if agrees n i j x place then Some (leg_of i j) else None
+leg_between n x place _ _ = None
+
+-- the leg of a row by its run and exit place, where the network has it
+abbrev pub leg_found : Parts → LegRow → ℕ → ℕ → Option Leg
+leg_found n x run place = leg_between n x place (connection_of n run x.enter) (connection_of n run x.exit)
+
+-- whether a limit is there and is this moment
+abbrev pub is_limit : Option ℕ → ℕ → Bool
+is_limit None moment = false
+is_limit (Some limit) moment = limit == moment
+
+-- whether it is greater than the one before, if there is one
+abbrev pub rises : Option ℕ → ℕ → Bool
+rises None x = true
+rises (Some last) x = nat_lt last x
+
+-- whether a leg leaves the source at the start or later, and the row's moment is its departure
+abbrev pub can_start : Parts → ℕ → ℕ → ℕ → Leg → Bool
+can_start n source start moment leg = (from_of n leg.enter.0 == source) && ((moment == dep_of n leg.enter.0) && nat_le start (dep_of n leg.enter.0))
+
+-- the start leg
+abbrev pub start_by : Parts → ℕ → ℕ → ℕ → LegRow → Option Leg → Result Leg TextFault
+start_by n line source start x None = Err (NoLeg line)
+start_by n line source start x (Some leg) =
+    if can_start n source start x.moment.0 leg then Ok leg else Err (NoLeg line)
+
+abbrev pub start_named : Parts → ℕ → ℕ → ℕ → LegRow → Option ℕ → Option ℕ → Result Leg TextFault
+start_named n line source start x (Some run) (Some place) = start_by n line source start x (leg_found n x run place)
+start_named n line source start x _ _ = Err (UnknownName line)
+
+abbrev pub start_numbers : Parts → NameLists → ℕ → ℕ → ℕ → List (List ℕ) → Option LegRow → Result Leg TextFault
+start_numbers n names line source start r None = Err (Row line)
+start_numbers n names line source start r (Some x) = start_named n line source start x (number_of names.runs (field r 2)) (number_of names.places (field r 6))
+
+-- the start row
+abbrev pub start_in : Parts → NameLists → ℕ → ℕ → ℕ → List (List ℕ) → Result Leg TextFault
+start_in n names line source start r = start_numbers n names line source start r (leg_row_in (codes "start") r)
+
+-- whether a leg leaves the place, and the moment is its limit
+abbrev pub is_by_limit : Parts → ℕ → ℕ → Leg → Bool
+is_by_limit n place moment leg = (from_of n leg.enter.0 == place) && is_limit (limit_of n place leg) moment
+
+-- the row of a leg at a place, by its limit
+abbrev pub row_by_leg : Parts → ℕ → ℕ → LegRow → Option Leg → Result GraphRow TextFault
+row_by_leg n line place x None = Err (NoLeg line)
+row_by_leg n line place x (Some leg) =
+    if is_by_limit n place x.moment.0 leg then Ok (record { by = x.moment; leg = leg }) else Err (NoLeg line)
+
+abbrev pub row_named : Parts → ℕ → ℕ → Option ℕ → LegRow → Option ℕ → Option ℕ → Result GraphRow TextFault
+row_named n line place last x (Some run) (Some exit) = if rises last x.moment.0 then row_by_leg n line place x (leg_found n x run exit) else Err (NotRising line)
+row_named n line place last x _ _ = Err (UnknownName line)
+
+abbrev pub row_numbers : Parts → NameLists → ℕ → ℕ → Option ℕ → List (List ℕ) → Option LegRow → Result GraphRow TextFault
+row_numbers n names line place last r None = Err (Row line)
+row_numbers n names line place last r (Some x) = row_named n line place last x (number_of names.runs (field r 2)) (number_of names.places (field r 6))
+
+-- a leg row of a place, after one by an earlier moment
+abbrev pub row_in : Parts → NameLists → ℕ → ℕ → Option ℕ → List (List ℕ) → Result GraphRow TextFault
+row_in n names line place last r = row_numbers n names line place last r (leg_row_in (codes "leg") r)
+
+-- the numbers of a place row, where each is of its form
+abbrev pub place_numbers : Option ℕ → Option ℕ → Option PlaceRow
+place_numbers (Some change) (Some count) = if nat_le 1 count then Some (record { change = change; count = count }) else None
+place_numbers _ _ = None
+
+abbrev pub is_blank : List (List ℕ) → Bool
+is_blank r = (length (field r 4) == 0) && ((length (field r 5) == 0) && ((length (field r 6) == 0) && (length (field r 7) == 0)))
+
+abbrev pub place_row_in : List (List ℕ) → Option PlaceRow
+place_row_in r = if is_kind (codes "place") r && is_blank r then place_numbers (whole_at (field r 2)) (whole_at (field r 3)) else None
+
+abbrev pub table_named : Parts → ℕ → Option ℕ → PlaceRow → Option ℕ → Result TableStart TextFault
+table_named n line last x None = Err (UnknownName line)
+table_named n line last x (Some place) =
+    if rises last place
+    then (if x.change == change_of n place then Ok (record { place = record { 0 = place }; count = x.count }) else Err (NoLeg line))
+    else Err (NotRising line)
+
+abbrev pub table_numbers : Parts → NameLists → ℕ → Option ℕ → List (List ℕ) → Option PlaceRow → Result TableStart TextFault
+table_numbers n names line last r None = Err (Row line)
+table_numbers n names line last r (Some x) = table_named n line last x (number_of names.places (field r 1))
+
+-- a place row, after one of an earlier place
+abbrev pub table_in : Parts → NameLists → ℕ → Option ℕ → List (List ℕ) → Result TableStart TextFault
+table_in n names line last r = table_numbers n names line last r (place_row_in r)
+
+-- the tables so far, with one that begins or has one row more
+abbrev pub begun : Reading → Result TableStart TextFault → Result Reading TextFault
+begun s (Err e) = Err e
+begun s (Ok t) = Ok (record { done = s.done; place = Some t.place; rows = []; by = None; left = t.count })
+
+-- the place, where there is one
+abbrev pub place_or_first : Option PlaceId → PlaceId
+place_or_first None = record { 0 = 0 }
+place_or_first (Some place) = place
+
+abbrev pub extended : Reading → Result GraphRow TextFault → Result Reading TextFault
+extended s (Err e) = Err e
+extended s (Ok row) =
+    if s.left == 1
+    then Ok (record { done = s.done ++ (record { place = place_or_first s.place; rows = s.rows ++ row ∷ [] }) ∷ []; place = s.place; rows = []; by = None; left = 0 })
+    else Ok (record { done = s.done; place = s.place; rows = s.rows ++ row ∷ []; by = Some row.by; left = s.left - 1 })
+
+-- after one record more: a place row where no leg row is left to come, and else a leg row
+abbrev pub step : Parts → NameLists → ℕ → List (List ℕ) → Reading → Result Reading TextFault
+step n names line r s =
+    if s.left == 0
+    then begun s (table_in n names line (option_map (λ place. place.0) s.place) r)
+    else extended s (row_in n names line (place_or_first s.place).0 (option_map (λ moment. moment.0) s.by) r)
+
+abbrev pub and_then : {A B : Type 0} → Result A TextFault → (A → Result B TextFault) → Result B TextFault
+and_then (Err e) next = Err e
+and_then (Ok a) next = next a
+
+-- the tables of the records from a line on
+abbrev pub tables_from : Parts → NameLists → List (List (List ℕ)) → ℕ → Reading → Result (List PlaceTable) TextFault
+tables_from n names [] line s = if s.left == 0 then Ok s.done else Err (Row line)
+tables_from n names (r ∷ rs) line s = and_then (step n names line r s) (tables_from n names rs (line + 1))
+
+-- where a leg row is to come there is a place, and a place is one of the network's
+pub record IsPlaced (n : Parts) (s : Reading) : Type 0 where
+  pub some : (s.left ≡ 0) ⊎ IsSome s.place
+  pub there : IfSome s.place (λ place. place.0 < length n.change)
+
+abbrev pub no_tables : Reading
+no_tables = record { done = []; place = None; rows = []; by = None; left = 0 }
+
+-- the graph of a start row and the records after it
+abbrev pub started_in : Parts → NameLists → ℕ → ℕ → List (List ℕ) → List (List (List ℕ)) → Result PlanGraph TextFault
+started_in n names source start r rs =
+    and_then (start_in n names 2 source start r) (λ leg. and_then (tables_from n names rs 3 no_tables) (λ tables. Ok (record { start = Some leg; tables = tables })))
+
+-- the graph of the records after the first
+abbrev pub graph_in : Parts → NameLists → ℕ → ℕ → ℕ → List (List (List ℕ)) → Result PlanGraph TextFault
+graph_in n names source target start [] = if source == target then Ok (record { start = None; tables = [] }) else Err (Row 2)
+graph_in n names source target start (r ∷ rs) =
+    if source == target
+    then Err (Row 2)
+    else started_in n names source start r rs
+
+-- whether two moments and two bounds are in order
+abbrev pub are_in_order : ℕ → ℕ → ℕ → ℕ → Bool
+are_in_order start deadline lo hi = nat_le start deadline && nat_le lo hi
+
+-- the numbers of the first row, where each is of its form
+abbrev pub head_numbers : Option ℕ → Option ℕ → Option ℕ → Option ℕ → Option HeadRow
+head_numbers (Some start) (Some deadline) (Some lo) (Some hi) =
+    if are_in_order start deadline lo hi then Some (record { start = record { 0 = start }; deadline = record { 0 = deadline }; lo = lo; hi = hi }) else None
+head_numbers _ _ _ _ = None
+
+-- whether it is the first row of a graph, of the version that is known
+abbrev pub is_head : List (List ℕ) → Bool
+is_head r = (length r == 8) && (bytes_eq (field r 0) (codes "graph") && bytes_eq (field r 1) (codes "1"))
+
+abbrev pub head_row_in : List (List ℕ) → Option HeadRow
+head_row_in r =
+    if is_head r
+    then head_numbers (moment_at (field r 4)) (moment_at (field r 5)) (nanos_at (field r 6)) (nanos_at (field r 7))
+    else None
+
+-- whether two places and a moment are these
+abbrev pub is_query : ℕ → ℕ → ℕ → ℕ → ℕ → ℕ → Bool
+is_query from to moment source target start = (from == source) && ((to == target) && (moment == start))
+
+abbrev pub head_named : ℕ → ℕ → ℕ → HeadRow → Option ℕ → Option ℕ → Result Head TextFault
+head_named source target start x (Some from) (Some to) =
+    if is_query from to x.start.0 source target start
+    then Ok (record { query = record { source = record { 0 = source }; target = record { 0 = target }; start = record { 0 = start }; deadline = x.deadline }; bounds = record { lo = x.lo; hi = x.hi } })
+    else Err (OtherQuery 1)
+head_named source target start x _ _ = Err (UnknownName 1)
+
+abbrev pub head_of_numbers : NameLists → ℕ → ℕ → ℕ → List (List ℕ) → Option HeadRow → Result Head TextFault
+head_of_numbers names source target start r None = Err (Row 1)
+head_of_numbers names source target start r (Some x) = head_named source target start x (number_of names.places (field r 2)) (number_of names.places (field r 3))
+
+-- the first row
+abbrev pub head_in : NameLists → ℕ → ℕ → ℕ → List (List ℕ) → Result Head TextFault
+head_in names source target start r = head_of_numbers names source target start r (head_row_in r)
+
+-- the head and the graph of a table's records
+abbrev pub graph_of_records : Parts → NameLists → ℕ → ℕ → ℕ → List (List (List ℕ)) → Result (Head × PlanGraph) TextFault
+graph_of_records n names source target start [] = Err (Row 1)
+graph_of_records n names source target start (r ∷ rs) =
+    and_then (head_in names source target start r) (λ head. and_then (graph_in n names source target start rs) (λ graph. Ok (head, graph)))
+
+-- the head and the graph of a text, or the first of its faults by line
+abbrev pub graph_of : List ℕ → Parts → NameLists → ℕ → ℕ → ℕ → Result (Head × PlanGraph) TextFault
+graph_of text n names source target start = graph_of_records n names source target start (table_of text)
+
+-- there was no memory, or it is this
+abbrev pub IsRead : {A : Type 0} → Result A TextFault → Result A TextFault → Type 0
+IsRead (Err NoMemory) told = Unit {0}
+IsRead (Ok a) told = told ≡ Ok a
+IsRead (Err e) told = told ≡ Err e
