@@ -1,5 +1,5 @@
 -- A line is a command and its settings, and the other way round.
-use Rattle.std.proofs.Common.{◌≡◌, ◌≢◌, ℕ, zero, suc, ◌<◌, List, [], ◌∷◌, ◌++◌, length, arith, refl, ap, sym, ◌∙◌, subst, Option, Some, None, Bool, true, false, IsTrue}
+use Rattle.std.proofs.Common.{◌≡◌, ◌≢◌, ℕ, suc, List, [], ◌∷◌, arith, refl, ap, sym, ◌∙◌, Option, Some, None, Bool, true, false, IsTrue}
 use Rattle.std.specs.Prelude.{is_none, ◌&&◌, if◌then◌else◌, All, AllPairs}
 use Rattle.std.specs.List.{flat_map, find}
 use Rattle.std.specs.Str.{bytes_eq}
@@ -10,7 +10,7 @@ use Rattle.std.proofs.lemmas.List.Kept.{AllPairs-cons}
 use Rattle.command_line.specs.declared.options.OptionName.{OptionName}
 use Rattle.command_line.specs.declared.options.OptionName.TheVariants.{Cut, Feed, Delays, From, To, At, Alpha, Horizon, Graph, Late, Size}
 use Rattle.command_line.specs.Options.{option_name, option_named, all_options}
-use Rattle.command_line.specs.Settings.{Setting, spelled, IsLine, value_of, value_in, is_new, are_settings}
+use Rattle.command_line.specs.Settings.{Setting, spelled, value_of, value_in, is_new, are_settings}
 
 -- the word of an option names it
 named : (option : OptionName) → option_named (option_name option) ≡ Some option
@@ -105,12 +105,14 @@ read_pair name value others (Some option) e fresh given read =
     let word = word_is name option e in
     let s : Setting = record { option = option; value = value } in
     let absent : value_of others option ≡ None = none_is (value_of others option) fresh in
-    let none : Lacks given option = lacking given option (sym (read.values option) ∙ absent) in
-    (s ∷ given, record {
-      words_are = ap (λ (w : List ℕ). w ∷ value ∷ others) word ∙ ap (λ (rest : List (List ℕ)). option_name option ∷ value ∷ rest) read.words_are;
-      once = AllPairs-cons (λ (a b : Setting). a.option ≢ b.option) s given none read.once;
-      values = λ other. ap (λ (w : List ℕ). if bytes_eq w (option_name other) then Some value else value_of others other) word ∙ ap (λ (v : Option (List ℕ)). if bytes_eq (option_name option) (option_name other) then Some value else v) (read.values other);
-    })
+    let none : Lacks given option = lacking given option (sym (read.values option) ∙ absent) in (
+      s ∷ given,
+      record {
+        words_are = ap (λ (w : List ℕ). w ∷ value ∷ others) word ∙ ap (λ (rest : List (List ℕ)). option_name option ∷ value ∷ rest) read.words_are;
+        once = AllPairs-cons (λ (a b : Setting). a.option ≢ b.option) s given none read.once;
+        values = λ other. ap (λ (w : List ℕ). if bytes_eq w (option_name other) then Some value else value_of others other) word ∙ ap (λ (v : Option (List ℕ)). if bytes_eq (option_name option) (option_name other) then Some value else v) (read.values other);
+      },
+    )
 
 pub read_settings : (words : List (List ℕ)) → IsTrue (are_settings words) → (given : List Setting) × AreRead words given
 unfolding are_settings value_of value_in

@@ -1,5 +1,5 @@
 -- Words as a name, a value and the others.
-use Rattle.std.proofs.Common.{◌≡◌, ◌≢◌, ℕ, zero, suc, ◌-◌, ◌<◌, ◌≤◌, List, [], ◌∷◌, length, map, string_bytes, arith, refl, ap, sym, ◌∙◌, Option, Some, None, Bool, true, false, take, drop, get_or}
+use Rattle.std.proofs.Common.{◌≡◌, ℕ, suc, ◌-◌, ◌<◌, ◌≤◌, List, [], ◌∷◌, length, map, string_bytes, arith, refl, ap, sym, ◌∙◌, Option, Some, None, Bool, true, false, take, drop, get_or}
 use Rattle.std.proofs.Math.Seq.{take-length}
 use Rattle.std.specs.Prelude.{String, if◌then◌else◌, is_none, is_some, not, option_map, ◌&&◌, ◌==◌}
 use Rattle.std.specs.Str.{bytes_eq}

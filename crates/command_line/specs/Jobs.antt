@@ -1,5 +1,5 @@
 -- What a line of words asks for, or why it is refused.
-use Rattle.std.specs.Prelude.{◌≡◌, ℕ, List, [], ◌∷◌, Option, Some, None, Result, Ok, Err, Bool, true, false, not, ◌&&◌, is_some, is_none, if◌then◌else◌, nat_le, option_map, option_and_then, unwrap_or, find}
+use Rattle.std.specs.Prelude.{ℕ, List, [], ◌∷◌, Option, Some, None, Result, Ok, Err, Bool, true, false, not, ◌&&◌, is_some, is_none, if◌then◌else◌, nat_le, option_map, option_and_then, unwrap_or, find}
 use Rattle.clock_text.specs.Digits.{whole_of}
 use Rattle.clock_text.specs.Times.{moment_at}
 use Rattle.command_line.specs.declared.options.Command.{Command}

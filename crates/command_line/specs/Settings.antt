@@ -1,5 +1,5 @@
 -- A line of words: a command, and pairs of an option and its value.
-use Rattle.std.specs.Prelude.{◌≡◌, ◌≢◌, ℕ, List, [], ◌∷◌, ◌++◌, Option, Some, None, Bool, true, false, not, ◌&&◌, is_some, is_none, if◌then◌else◌, AllPairs}
+use Rattle.std.specs.Prelude.{◌≡◌, ◌≢◌, ℕ, List, [], ◌∷◌, Option, Some, None, Bool, true, false, ◌&&◌, is_none, if◌then◌else◌, AllPairs}
 use Rattle.std.specs.List.{flat_map}
 use Rattle.std.specs.Str.{bytes_eq}
 use Rattle.command_line.specs.declared.options.OptionName.{OptionName}

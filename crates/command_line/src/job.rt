@@ -74,20 +74,16 @@ fn is_bad(settings: &[String], option: OptionName) -> bool
 fn first_useless(settings: &[String]) -> Option<OptionName>
     ensures { result ≡ find (is_useless (map string_bytes settings.now)) all_options }
 {
-    OPTIONS
-        .iter()
-        .copied()
-        .find(|option| !is_used(*option) && value_of(settings, *option).is_some())
+    OPTIONS.iter().copied().find(|option| !is_used(*option)
+        && value_of(settings, *option).is_some())
 }
 
 /// The first option that is needed and not given.
 fn first_missing(settings: &[String]) -> Option<OptionName>
     ensures { result ≡ find (is_missing (map string_bytes settings.now)) all_options }
 {
-    OPTIONS
-        .iter()
-        .copied()
-        .find(|option| is_needed(*option) && value_of(settings, *option).is_none())
+    OPTIONS.iter().copied().find(|option| is_needed(*option)
+        && value_of(settings, *option).is_none())
 }
 
 /// The first option whose value is not of its form.

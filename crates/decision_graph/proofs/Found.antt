@@ -1,17 +1,15 @@
 -- From what a scan promises to a best strategy.
-use Rattle.std.proofs.Common.{◌≡◌, ◌≢◌, ℕ, Option, Some, None, refl, sym, ap, ◌∙◌, subst}
+use Rattle.std.proofs.Common.{◌≡◌, Option, Some, None, sym, ◌∙◌, subst}
 use Rattle.std.specs.Prelude.{MatchOption}
-use Rattle.interval_fixed.specs.Interval.{Interval}
 use Rattle.plan_model.specs.declared.model.Leg.{Leg}
 use Rattle.plan_model.specs.declared.model.Query.{Query}
 use Rattle.plan_model.specs.Parts.{Parts}
 use Rattle.plan_model.specs.Tree.{Tree}
 use Rattle.plan_graph.specs.declared.ExpandedGraph.{ExpandedGraph}
-use Rattle.plan_graph.specs.Unfold.{unfold_expanded}
 use Rattle.value_laws.specs.declared.MeanSpan.{MeanSpan}
 use Rattle.value_laws.specs.Means.{mean_below, mean_covers, mean_gap}
 use Rattle.meat_scan.specs.Found.{Found, chosen_by, leg_choice}
-use Rattle.meat_scan.specs.Solves.{Solves, Answers, IsStartAnswer}
+use Rattle.meat_scan.specs.Solves.{Solves, IsStartAnswer}
 use Rattle.leg_extract.specs.Extracted.{IsExtracted}
 use Rattle.decision_graph.specs.Bounds.{IsBest}
 use Rattle.decision_graph.specs.Expanded.{NoneSafe, IsExpanded, HasSteadyChoice}

@@ -51,7 +51,11 @@ fn plan_away(
 
 /// The decision graph of a query with one table for each place, and bounds that enclose the least
 /// expected arrival of all strategies that are safe for it. None exactly where no strategy is safe.
-pub fn plan(alloc: Global, network: &Network, query: &Query) -> Result<Option<CompactPlan>, NoMemory>
+pub fn plan(
+    alloc: Global,
+    network: &Network,
+    query: &Query,
+) -> Result<Option<CompactPlan>, NoMemory>
     requires source { query.now.source.0 < length network.now.change }
     requires target { query.now.target.0 < length network.now.change }
     requires start { query.now.start.0 < 18446744073 }

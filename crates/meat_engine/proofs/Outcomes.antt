@@ -1,7 +1,7 @@
 -- What was written, and what a run comes to.
-use Rattle.std.proofs.Common.{◌≡◌, ℕ, ◌<◌, ◌≤◌, List, [], ◌∷◌, ◌++◌, length, take, Option, Some, None, Result, Ok, Err, refl, sym, ap, ◌∙◌, subst, arith}
+use Rattle.std.proofs.Common.{◌≡◌, ℕ, List, length, Option, Some, None, Result, Ok, Err, sym, subst, arith}
 use Rattle.std.specs.Prelude.{OnOk, OnErr, MatchOption}
-use Rattle.std.specs.Io.KnownBytes.{Appends, Keeps}
+use Rattle.std.specs.Io.KnownBytes.{Appends}
 use Rattle.std.proofs.Math.Seq.{take-length}
 use Rattle.file_ports.specs.Counts.{Rose, HasCause}
 use Rattle.file_ports.specs.Loading.{AppendsFront}
@@ -22,7 +22,7 @@ use Rattle.meat_engine.specs.declared.report.Report.{Report}
 use Rattle.meat_engine.specs.declared.faults.Fault.{Fault}
 use Rattle.meat_engine.specs.declared.faults.Fault.TheVariants.{Words, Cut, Missing, Delays, UnknownStop, Limit, Read, NoSafe, Write, NoMemory}
 use Rattle.meat_engine.specs.Texts.{safe_text}
-use Rattle.meat_engine.specs.Answers.{InTimetable, IsAsked, IsPrintableAsked, Tells, IsReported}
+use Rattle.meat_engine.specs.Answers.{InTimetable, IsAsked, IsPrintableAsked, Tells}
 use Rattle.meat_engine.specs.Lines.{line_of}
 use Rattle.meat_engine.specs.Received.{ErrReceived, Answers, IsWritten, Outcome}
 
@@ -61,10 +61,10 @@ pub told_of : (told : Option Folder) (limits : Limits) (wanted : Wanted) (query 
 told_of told limits wanted query worst text expanded expanded' graph graph' bounds bounds' e g b found =
     in_timetable_then told limits wanted _ _
     (λ network names answer.
-      let E : Option ExpandedGraph → Type 0 = λ x. Tells wanted.command network names query worst x graph bounds text in
-      let G : Option PlanGraph → Type 0 = λ x. Tells wanted.command network names query worst expanded' x bounds text in
-      let B : Option Interval → Type 0 = λ x. Tells wanted.command network names query worst expanded' graph' x text in
-      (answer.0, subst B (sym b) (subst G (sym g) (subst E (sym e) answer.1))))
+    let E : Option ExpandedGraph → Type 0 = λ x. Tells wanted.command network names query worst x graph bounds text in
+    let G : Option PlanGraph → Type 0 = λ x. Tells wanted.command network names query worst expanded' x bounds text in
+    let B : Option Interval → Type 0 = λ x. Tells wanted.command network names query worst expanded' graph' x text in
+    (answer.0, subst B (sym b) (subst G (sym g) (subst E (sym e) answer.1))))
     found
 
 -- an answer that was written, or not wholly

@@ -1,5 +1,5 @@
 -- What the commands answer.
-use Rattle.std.specs.Prelude.{◌≡◌, ℕ, List, [], Option, None, Some, Result, Ok, Err, IfSome, slice_index_or, length, ◌<◌, ◌≤◌}
+use Rattle.std.specs.Prelude.{◌≡◌, ℕ, List, [], Option, None, Some, Ok, IfSome, slice_index_or, length, ◌<◌, ◌≤◌}
 use Rattle.file_ports.specs.Ports.{Folder}
 use Rattle.csv_rows.specs.declared.limits.Limits.{Limits}
 use Rattle.plan_model.specs.declared.model.Moment.{Moment}
@@ -21,7 +21,7 @@ use Rattle.command_line.specs.Jobs.{Wanted, job_of}
 use Rattle.meat_engine.specs.declared.report.Report.{Report}
 use Rattle.meat_engine.specs.declared.faults.Fault.{Fault}
 use Rattle.meat_engine.specs.declared.faults.Fault.TheVariants.{Words, Cut, Missing, Delays, UnknownStop, Limit, Read, NoSafe, Write, NoMemory}
-use Rattle.meat_engine.specs.Problems.{IsProblem, IsProblemFault, IsAt}
+use Rattle.meat_engine.specs.Problems.{IsProblem, IsAt}
 use Rattle.meat_engine.specs.Texts.{safe_text}
 
 -- the name of a place

@@ -1,5 +1,5 @@
 -- The lines that tell the faults.
-use Rattle.std.specs.Prelude.{ℕ, List, [], ◌∷◌, ◌++◌, codes, decimal}
+use Rattle.std.specs.Prelude.{ℕ, List, ◌++◌, codes, decimal}
 use Rattle.csv_rows.specs.Columns.{name_of}
 use Rattle.command_line.specs.declared.job.WordsFault.{WordsFault}
 use Rattle.command_line.specs.declared.job.WordsFault.TheVariants as words
@@ -10,9 +10,7 @@ use Rattle.delay_table.specs.declared.faults.ClassName.{ClassName}
 use Rattle.delay_table.specs.declared.faults.ClassName.TheVariants.{Any, Route}
 use Rattle.delay_table.specs.declared.faults.DelayFault.{DelayFault}
 use Rattle.delay_table.specs.declared.faults.DelayFault.TheVariants as delay
-use Rattle.meat_engine.specs.declared.faults.Which.{Which}
 use Rattle.meat_engine.specs.declared.faults.Which.TheVariants as which
-use Rattle.meat_engine.specs.declared.faults.LimitKind.{LimitKind}
 use Rattle.meat_engine.specs.declared.faults.LimitKind.TheVariants.{Bytes, CutRows}
 use Rattle.meat_engine.specs.declared.faults.Fault.{Fault}
 use Rattle.meat_engine.specs.declared.faults.Fault.TheVariants.{Words, Cut, Missing, Delays, UnknownStop, Limit, Read, NoSafe, Write, NoMemory}

@@ -33,7 +33,7 @@ fn answer_of<F: Files>(
     ensures same { F.files files.new ≡ F.files files.old }
     ensures answer { IfOk result (λ a. InTimetable (F.files files.old) limits.now (shown job.now)
         (λ network names. IsAsked network names (shown job.now) a.query a.worst
-            × Tells job.now.command network names a.query a.worst a.expanded a.graph a.bounds a.text.items)) }
+        × Tells job.now.command network names a.query a.worst a.expanded a.graph a.bounds a.text.items)) }
     ensures fault { IfErr result (FailsJob (F.files files.old) limits.now (shown job.now)) }
     ensures causes { HasCauses (IsSome (F.files files.old)) (path_of (shown job.now)) (F.faults files.old)
         (F.faults files.new) (F.faults_of files.old) (F.faults_of files.new) result }

@@ -14,13 +14,13 @@ returns-in-None t c =
 pub returns-then-is_none : goal.returns-then-is_none
 returns-then-is_none t c =
     let all = are_settings-known (λ (value : Bor (List ℕ)). value.now) c.value_of.result c.args.settings.now c.name-item.result c._value-item.result c.as_str.result.now c.in-Some.option
-        c.in-len2-up.len_at_least c.name-item.is c._value-item.is c.as_str.ensures.value (sym c.option_named.ensures ∙ c.in-Some.is) c.value_of.ensures in
+    c.in-len2-up.len_at_least c.name-item.is c._value-item.is c.as_str.ensures.value (sym c.option_named.ensures ∙ c.in-Some.is) c.value_of.ensures in
     let none : is_some c.value_of.result ≡ false = c.if-is_none.ensures in
     c.are_settings.ensures ∙ sym (rw none at all)
 
 pub returns-else-is_none : goal.returns-else-is_none
 returns-else-is_none t c =
     let all = are_settings-known (λ (value : Bor (List ℕ)). value.now) c.value_of.result c.args.settings.now c.name-item.result c._value-item.result c.as_str.result.now c.in-Some.option
-        c.in-len2-up.len_at_least c.name-item.is c._value-item.is c.as_str.ensures.value (sym c.option_named.ensures ∙ c.in-Some.is) c.value_of.ensures in
+    c.in-len2-up.len_at_least c.name-item.is c._value-item.is c.as_str.ensures.value (sym c.option_named.ensures ∙ c.in-Some.is) c.value_of.ensures in
     let some : is_some c.value_of.result ≡ true = c.if-is_none.ensures in
     c.if-is_none.false ∙ sym (rw some at all)

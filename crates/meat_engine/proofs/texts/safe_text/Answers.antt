@@ -15,5 +15,5 @@ returns c =
     let worst = c.as_slice-3.ensures ∙ c.write_moment-worst.ensures.text in
     let deadline = c.as_slice-4.ensures ∙ c.write_moment-deadline.ensures.text in
     let fields : c.as_slice.result.now ∷ c.as_bytes.result.now ∷ c.as_bytes-2.result.now ∷ c.as_slice-2.result.now ∷ c.as_slice-3.result.now ∷ c.as_slice-4.result.now ∷ []
-        ≡ codes "safe" ∷ c.args.source.now ∷ c.args.target.now ∷ moment_text c.args.query.now.start.0 ∷ moment_text c.args.worst.0 ∷ moment_text c.args.query.now.deadline.0 ∷ [] = (cc) in
+    ≡ codes "safe" ∷ c.args.source.now ∷ c.args.target.now ∷ moment_text c.args.query.now.start.0 ∷ moment_text c.args.worst.0 ∷ moment_text c.args.query.now.deadline.0 ∷ [] = (cc) in
     subst (λ (fields : List (List ℕ)). IfOk c.row.result (λ text. text.items ≡ row_text default_writer fields)) fields c.row.ensures

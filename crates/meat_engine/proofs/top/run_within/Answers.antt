@@ -12,7 +12,7 @@ returns-in-Ok-answer_of-clause-outcome g c =
     let report = c.tell.result in
     answered told limits words report _ _ answer.text.items report.fault
     (reported told limits words (shown c.in-Ok.job) report answer.query answer.worst answer.text.items
-      c.in-Ok.ensures.job c.tell.ensures.query c.tell.ensures.worst
-      (told_of told limits (shown c.in-Ok.job) answer.query answer.worst answer.text.items answer.expanded report.expanded answer.graph report.graph answer.bounds report.bounds
-        c.tell.ensures.expanded c.tell.ensures.graph c.tell.ensures.bounds c.in-Ok-answer_of.ensures.answer))
+    c.in-Ok.ensures.job c.tell.ensures.query c.tell.ensures.worst
+    (told_of told limits (shown c.in-Ok.job) answer.query answer.worst answer.text.items answer.expanded report.expanded answer.graph report.graph answer.bounds report.bounds
+    c.tell.ensures.expanded c.tell.ensures.graph c.tell.ensures.bounds c.in-Ok-answer_of.ensures.answer))
     c.tell.ensures.out
