@@ -40,7 +40,7 @@ pub(crate) fn load_rows<F: Files>(
 {
     match load(alloc, files, path, limits.bytes) {
         Err(LoadFault::Read) => Err(Fault::Read(input)),
-        Err(LoadFault::TooLong) => { Err(Fault::Limit(LimitKind::Bytes(input), limits.bytes + 1)) }
+        Err(LoadFault::TooLong) => Err(Fault::Limit(LimitKind::Bytes(input), limits.bytes + 1)),
         Err(LoadFault::NoMemory) => Err(Fault::NoMemory),
         Ok(None) => Err(Fault::Missing(input)),
         Ok(Some(bytes)) => match Rows::read(alloc, bytes.as_slice()) {
