@@ -32,7 +32,10 @@ fn moments(rt: HostRuntime) {
         assert!(rt; read_moment(text.as_bytes()).is_none(), "{text}");
     }
     for (nanos, text) in [
-        (1_717_401_600_000_000_001u64, "2024-06-03T08:00:00.000000001"),
+        (
+            1_717_401_600_000_000_001u64,
+            "2024-06-03T08:00:00.000000001",
+        ),
         (u64::MAX, "2554-07-21T23:34:33.709551615"),
     ] {
         assert_eq!(rt; write_nanos(nanos).as_slice(), text.as_bytes(), "{text}");

@@ -1,5 +1,5 @@
 -- The first fault below a number, step by step, and that it is the least of all that hold.
-use Rattle.std.proofs.Common.{◌≡◌, ℕ, zero, suc, ◌+◌, ◌<◌, ◌≤◌, Bool, true, false, ◌||◌, Option, Some, None, refl, sym, ap, ap₂, ◌∙◌, subst, arith, ⊎_elim, eq-or-lt_of_le, add-one, ◌⊎◌, inl, inr}
+use Rattle.std.proofs.Common.{◌≡◌, ℕ, zero, suc, ◌+◌, ◌<◌, ◌≤◌, Bool, true, false, ◌||◌, ◌&&◌, Option, Some, None, refl, sym, ap, ap₂, ◌∙◌, subst, arith, ⊎_elim, eq-or-lt_of_le, add-one, ◌⊎◌, inl, inr}
 use Rattle.std.proofs.lemmas.Option.{none-some}
 use Rattle.csv_rows.specs.First.{or_else, first_below, any_below}
 
@@ -34,15 +34,15 @@ first-stays f n (suc m) e l h =
 pub first-at : {F : Type 0} (f : ℕ → Option F) (k n : ℕ) (e : F) → k < n → first_below f k ≡ None → f k ≡ Some e → first_below f n ≡ Some e
 first-at f k n e l none here = first-stays f (k + 1) n e (omega arith) (first-next f k (Some e) none here)
 
-none_both : {F : Type 0} (a b : Option F) → or_else a b ≡ None → (a ≡ None) × (b ≡ None)
-none_both None b h = (refl, h)
-none_both (Some x) b h = absurd (cc)
+pub none-both : {F : Type 0} (a b : Option F) → or_else a b ≡ None → (a ≡ None) × (b ≡ None)
+none-both None b h = (refl, h)
+none-both (Some x) b h = absurd (cc)
 
 -- where there is none, none holds
 pub none-each : {F : Type 0} (f : ℕ → Option F) (n : ℕ) → first_below f n ≡ None → (k : ℕ) → k < n → f k ≡ None
 none-each f zero h k l = absurd (omega arith)
 none-each f (suc n) h k l =
-    let both = none_both (first_below f n) (f n) (sym (first-suc f n) ∙ h) in
+    let both = none-both (first_below f n) (f n) (sym (first-suc f n) ∙ h) in
     ⊎_elim (λ (same : k ≡ n). let P : ℕ → Type 0 = λ i. f i ≡ None in subst P (sym same) both.1)
     (λ (less : k < n). none-each f n both.0 k less)
     (eq-or-lt_of_le (omega arith))
@@ -90,3 +90,35 @@ any-false p zero h = refl
 any-false p (suc n) h =
     ⊎_elim (λ (t : p n ≡ true). absurd (h n (omega arith) t))
     (λ (f : p n ≡ false). ap₂ (λ a b. a || b) (any-false p n (λ k l. h k (omega arith))) f) (true_or_false (p n))
+
+and_true : (a b : Bool) → a ≡ true → b ≡ true → (a && b) ≡ true
+and_true true b h k = k
+and_true false b h k = absurd (cc)
+
+and_first : (a b : Bool) → (a && b) ≡ true → a ≡ true
+and_first true b h = refl
+and_first false b h = absurd (cc)
+
+and_second : (a b : Bool) → (a && b) ≡ true → b ≡ true
+and_second true b h = h
+and_second false b h = absurd (cc)
+
+-- where p holds at one place alone, q is asked there alone
+pub any-one : (p q : ℕ → Bool) (n b : ℕ) → b < n → p b ≡ true → ((j : ℕ) → j < n → p j ≡ true → j ≡ b) → any_below (λ j. p j && q j) n ≡ q b
+any-one p q n b l here one =
+    ⊎_elim (λ (t : q b ≡ true). any-true (λ j. p j && q j) n b l (and_true (p b) (q b) here t) ∙ sym t)
+    (λ (f : q b ≡ false).
+    any-false (λ j. p j && q j) n (λ j less both.
+    let same = one j less (and_first (p j) (q j) both) in
+    let P : ℕ → Type 0 = λ i. q i ≡ true in
+    let t : q b ≡ true = subst P same (and_second (p j) (q j) both) in cc) ∙ sym f)
+    (true_or_false (q b))
+
+-- where p holds nowhere, q is never asked
+pub any-none : (p q : ℕ → Bool) (n : ℕ) → ((j : ℕ) → j < n → p j ≡ true → ⊥) → any_below (λ j. p j && q j) n ≡ false
+any-none p q n none = any-false (λ j. p j && q j) n (λ j less both. none j less (and_first (p j) (q j) both))
+
+-- the same faults, the same first
+pub first-same : {F : Type 0} (f g : ℕ → Option F) (n : ℕ) → ((k : ℕ) → k < n → f k ≡ g k) → first_below f n ≡ first_below g n
+first-same f g zero h = first-zero f ∙ sym (first-zero g)
+first-same f g (suc n) h = first-suc f n ∙ ap₂ or_else (first-same f g n (λ k l. h k (omega arith))) (h n (omega arith)) ∙ sym (first-suc g n)

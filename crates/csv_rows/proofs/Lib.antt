@@ -1,7 +1,10 @@
 pub mod FirstLemmas
+pub mod IdLemmas
+pub mod ListLemmas
 pub mod NameLemmas
 pub mod PartsLemmas
 pub mod PlaceLemmas
 pub mod Records
+pub mod RowLemmas
 pub mod SpaceLemmas
 pub mod TableLemmas

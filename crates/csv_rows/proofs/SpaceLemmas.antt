@@ -1,9 +1,10 @@
 -- Trimmed fields neither begin nor end with a space.
-use Rattle.std.proofs.Common.{◌≡◌, ℕ, zero, suc, Bool, true, false, ◌==◌, List, [], ◌∷◌, ◌++◌, map, reverse, slice_index_or, if◌then◌else◌, refl, sym, ap, ◌∙◌, arith}
+use Rattle.std.proofs.Common.{◌≡◌, ℕ, zero, suc, Option, Some, None, ◌+◌, Bool, true, false, ◌==◌, List, [], ◌∷◌, ◌++◌, map, reverse, slice_index_or, if◌then◌else◌, refl, sym, ap, ◌∙◌, arith}
 use Rattle.std.proofs.lemmas.Bool.Decides.{nat_tests}
 use Rattle.std.proofs.lemmas.List.{reverse-append, reverse-reverse}
 use Rattle.plan_model.specs.NameLists.{IsTrimmed}
 use Rattle.csv_rows.specs.Spaces.{drop_spaces, trimmed, AreTrimmed}
+use Rattle.csv_rows.specs.Tables.{field_at}
 
 not_space : (b : ℕ) → (b == 32) ≡ false → b ≡ 32 → ⊥
 not_space b h e = grind (arith, nat_tests)
@@ -75,3 +76,8 @@ pub AreTrimmed-map : (raw : List (List (List ℕ))) → AreTrimmed (map (λ row.
 AreTrimmed-map [] i k = IsTrimmed-nil
 AreTrimmed-map (row ∷ rows) zero k = trimmed_field row k
 AreTrimmed-map (row ∷ rows) (suc i) k = AreTrimmed-map rows i k
+
+-- and so is a field under a column
+pub IsTrimmed-field : (t : List (List (List ℕ))) (place : Option ℕ) (i : ℕ) → AreTrimmed t → IsTrimmed (field_at t place i)
+IsTrimmed-field t None i h = IsTrimmed-nil
+IsTrimmed-field t (Some k) i h = h (i + 1) k

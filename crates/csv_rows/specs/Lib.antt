@@ -2,10 +2,13 @@ pub mod Columns
 pub mod Fields
 pub mod FeedTables
 pub mod First
+pub mod Ids
 pub mod Limits
+pub mod Lists
 pub mod Loading
 pub mod Names
 pub mod Parts
+pub mod RowFaults
 pub mod Rows
 pub mod Spaces
 pub mod Tables

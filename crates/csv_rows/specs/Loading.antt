@@ -7,7 +7,7 @@ use Rattle.csv_rows.specs.declared.feed_tables.FeedFault.TheVariants.{Read, TooL
 use Rattle.csv_rows.specs.declared.loading.Loaded.{Loaded}
 use Rattle.csv_rows.specs.declared.loading.Loaded.TheVariants.{Absent, NoRecord, Found}
 use Rattle.csv_rows.specs.declared.limits.Limits.{Limits}
-use Rattle.csv_rows.specs.FeedTables.{is_unread}
+use Rattle.csv_rows.specs.FeedTables.{path_of, is_unread}
 use Rattle.csv_rows.specs.Limits.{rows_of}
 use Rattle.csv_rows.specs.Tables.{table_of, row_count}
 
@@ -33,6 +33,12 @@ IsAbsent Absent = Unit {0}
 IsAbsent NoRecord = ⊥
 IsAbsent (Found t) = ⊥
 
+-- it has at most so many rows
+abbrev pub HasAtMost : ℕ → Loaded → Type 0
+HasAtMost most Absent = Unit {0}
+HasAtMost most NoRecord = Unit {0}
+HasAtMost most (Found t) = row_count t ≤ most
+
 -- the faults that loading this table may have
 abbrev pub IsLoadFault : Table → FeedFault → Type 0
 IsLoadFault table (Read t) = t ≡ table
@@ -52,3 +58,20 @@ pub record HasPathTableCause {T : Type 0} (told : Type 0) (table : Table) (path 
   pub later : (p : List ℕ) → before p ≤ now p
   pub others : told → (p : List ℕ) → p ≢ path → now p ≡ before p
   pub read : told → IsErrOf result (Read table) → Rose (before path) (now path)
+
+-- the answer is that a table could not be read
+abbrev pub IsUnread : {T : Type 0} → Result T FeedFault → Type 0
+IsUnread (Ok x) = ⊥
+IsUnread (Err (Read table)) = Unit {0}
+IsUnread (Err _) = ⊥
+
+-- over several tables: `Read` only where the count of faults rose, and always where it grew
+pub record HasFeedCause {T : Type 0} (before now : ℕ) (result : Result T FeedFault) : Type 0 where
+  pub later : before ≤ now
+  pub read : (table : Table) → IsErrOf result (Read table) → Rose before now
+  pub grew : before < now → IsUnread result
+
+-- the same of the counts of all paths: `Read` of a table only where the count of its own path rose
+pub record HasFeedPathCause {T : Type 0} (told : Type 0) (folder : List ℕ) (before now : List ℕ → ℕ) (result : Result T FeedFault) : Type 0 where
+  pub later : (p : List ℕ) → before p ≤ now p
+  pub read : told → (table : Table) → IsErrOf result (Read table) → Rose (before (path_of folder table)) (now (path_of folder table))

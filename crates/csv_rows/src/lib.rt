@@ -4,17 +4,21 @@
 mod columns;
 mod feed_tables;
 mod fields;
+mod ids;
 mod limits;
 mod loading;
 mod names;
+mod row_faults;
 mod rows;
 mod spaces;
 
 pub use columns::Column;
 pub use feed_tables::{FeedFault, Table};
+pub use ids::{Ids, read_ids};
 pub use limits::Limits;
 pub use loading::{Loaded, read_table};
 pub use names::read_name;
+pub use row_faults::lack;
 pub use rows::{Rows, RowsFault};
 
 #[cfg(test)]

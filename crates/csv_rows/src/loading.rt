@@ -3,7 +3,7 @@ ghost use Rattle.std.specs.Prelude.{◌≡◌, ◌≢◌, ◌≤◌, ◌^◌, �
 ghost use Rattle.file_ports.specs.Ports.{file_at};
 ghost use Rattle.csv_rows.specs.FeedTables.{path_of, unread_of, is_unread};
 ghost use Rattle.csv_rows.specs.Limits.{AreWithin, rows_of};
-ghost use Rattle.csv_rows.specs.Loading.{load_of, loaded_from, IsAbsent, IsLoadFault, HasTableCause, HasPathTableCause};
+ghost use Rattle.csv_rows.specs.Loading.{load_of, loaded_from, HasAtMost, IsAbsent, IsLoadFault, HasTableCause, HasPathTableCause};
 ghost use Rattle.csv_rows.specs.Tables.{table_of};
 
 use crate::feed_tables::{FeedFault, Table};
@@ -42,6 +42,7 @@ fn records_of(alloc: Global, bytes: &[u8], table: Table, most: u64) -> Result<Lo
         → loaded_from table most (table_of bytes.now) ≡ Err f) }
     ensures read { IfErr result (λ f. unread_of f ≡ None) }
     ensures present { IfOk result (λ l. IsAbsent l → ⊥) }
+    ensures few { IfOk result (HasAtMost most) }
     ensures own { IfErr result (IsLoadFault table) }
 {
     match Rows::read(alloc, bytes) {
@@ -74,6 +75,7 @@ pub fn read_table<F: Files>(
         load_of None limits.now table (file_at m (path_of folder.now table)) ≡ Ok l)) }
     ensures fault { IfSome (F.files files.old) (λ m. IfErr result (λ f. f ≢ FeedFault.NoMemory
         → load_of (unread_of f) limits.now table (file_at m (path_of folder.now table)) ≡ Err f)) }
+    ensures few { IfOk result (HasAtMost (rows_of limits.now table)) }
     ensures own { IfErr result (IsLoadFault table) }
     ensures absent { IfOk result (λ l. IsAbsent l ↔ (F.in_hand files.new ≡ None)) }
     ensures cause { HasTableCause table (F.faults files.old) (F.faults files.new) result }

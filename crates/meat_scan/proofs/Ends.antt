@@ -12,12 +12,12 @@ use Rattle.plan_model.specs.Network.{count, to_of, arr_of, outcomes}
 use Rattle.plan_model.specs.Tree.{Tree, Kids, Done, Ride, Stuck, Nil, Kid, height, height_of}
 use Rattle.plan_model.specs.Strategy.{Safe, SafeAll, IsSafeFor}
 use Rattle.plan_model.specs.Unfold.{end_of, kids_after, ride_of, ride_or_stuck, unfold_after, unfold_from, by_place}
-use Rattle.plan_model.proofs.Boarding.{boards, limit_of-there}
 use Rattle.stop_profile.specs.declared.Row.{Row}
 use Rattle.stop_profile.specs.Inserts.{picked, Rises}
 use Rattle.trip_exit.specs.Offers.{Exit}
 use Rattle.meat_scan.specs.Found.{Found, found_rows, leg_choice, chosen_at, chosen_by}
 use Rattle.meat_scan.specs.Solves.{IsSafeAt, Answers, IsAnswer, IsStartAnswer}
+use Rattle.meat_scan.proofs.Ways.{boards-limit_of}
 use Rattle.meat_scan.proofs.Claims.{IsChosen, ChosenKids, IsRowFor, PlaceOk, RunOk}
 use Rattle.meat_scan.proofs.Kids.{picked_in_time}
 use Rattle.meat_scan.proofs.Starts.{StartOk}
@@ -93,7 +93,7 @@ module _ {V : Type 0} (below covers : V → Tree → Type 0) (gap rank : V → �
   answer place arrival away row is claim =
       let tree = Ride row.leg.enter.0 row.leg.exit.0 claim.kids in
       let in_time = picked_in_time arrival (found_rows found place) row is in
-      let safe : IsSafeAt n q place arrival tree = (away, claim.leg, boards claim.from (omega (arith, claim.limit)), claim.safe) in
+      let safe : IsSafeAt n q place arrival tree = (away, claim.leg, boards-limit_of n place arrival row.by.0 row.leg claim.limit in_time, claim.safe) in
       let chooses : (later : ℕ) → picked later (found_rows found place) ≡ Some row → leg_choice found place later ≡ Some row.leg = λ later there. leg_choice-picked place later ∙ ap (option_map (λ row. row.leg)) there in
       let chosen_is : chosen_at n q found place arrival ≡ tree = ap (λ (first : Option Leg). unfold_from n q.target.0 (by_place n (leg_choice found)) first place arrival) (chooses arrival is) ∙ unfold_from-chosen n q.target.0 q.deadline.0 (leg_choice found) (found_rows found) leg_choice-picked row.leg.enter.0 row.leg.exit.0 claim.kids row.leg place arrival away refl refl claim.low claim.safe claim.chosen in
       record {
@@ -103,7 +103,7 @@ module _ {V : Type 0} (below covers : V → Tree → Type 0) (gap rank : V → �
         gap_within = claim.gap_within;
         kept = record {
           limit = row.by.0;
-          is_limit = limit_of-there n place row.leg row.by.0 claim.from claim.limit;
+          is_limit = claim.limit;
           in_time = in_time;
           kept = λ later after before. chooses later (picked_still (found_rows found place) arrival later row is after before);
         };

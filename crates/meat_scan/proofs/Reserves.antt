@@ -1,8 +1,7 @@
 -- The memory of a scan.
-use Rattle.std.proofs.Common.{◌≡◌, ℕ, zero, suc, ◌+◌, ◌<◌, ◌≤◌, List, [], ◌∷◌, ◌++◌, length, get_or, take, set, replicate, Option, None, arith, sym, ap, subst, ◌∙◌, refl, inl, inr, cond, length-take-le, get_or-set_same, get_or-set_other}
-use Rattle.std.specs.Prelude.{count_by, ◌==◌}
-use Rattle.std.proofs.lemmas.Bool.{cases_lt, cases_eq}
-use Rattle.std.proofs.lemmas.Bool.Decides.{nat_tests}
+use Rattle.std.proofs.Common.{Bool, ◌≡◌, ℕ, zero, suc, ◌+◌, ◌<◌, ◌≤◌, List, [], ◌∷◌, ◌++◌, length, get_or, take, replicate, Option, None, arith, ap, ◌∙◌, refl, inl, inr, cond, length-take-le}
+use Rattle.std.specs.Prelude.{count_by}
+use Rattle.std.proofs.lemmas.Bool.{cases_lt}
 use Rattle.std.proofs.lemmas.List.{take_more, get_or_append_left, get_or_at, length-replicate}
 use Rattle.std.proofs.lemmas.List.Sums.{sum_by_push, count_by-le-length}
 use Rattle.plan_model.specs.declared.model.Connection.{Connection}
@@ -11,34 +10,16 @@ use Rattle.plan_model.specs.Network.{count, run_of, no_connection, IsValid}
 use Rattle.plan_model.proofs.ScanOrders.{count_in_order}
 use Rattle.stop_profile.specs.Shown.{Shown}
 use Rattle.trip_exit.specs.Offers.{Exit}
-use Rattle.meat_scan.specs.Tables.{rows_at, spare_at, exit_at, FitsTables}
+use Rattle.meat_scan.specs.Tables.{rows_at, spare_at, exit_at, has_way, FitsTables}
 
--- how many of the connections leave the place
-abbrev pub from_place : ℕ → List Connection → ℕ
-from_place place connections = count_by (λ c. c.from.0 == place) connections
+-- one connection more is counted, where it passes
+pub count_by-take_more : (p : Connection → Bool) (connections : List Connection) (i : ℕ) → i < length connections → count_by p (take (i + 1) connections) ≡ count_by p (take i connections) + cond (p (get_or connections i no_connection)) 1 0
+count_by-take_more p connections i within =
+    ap (count_by p) (take_more connections i no_connection within)
+    ∙ sum_by_push (λ (c : Connection). cond (p c) 1 0) (take i connections) (get_or connections i no_connection)
 
-counted_more : (connections : List Connection) (i place : ℕ) → i < length connections → from_place place (take (i + 1) connections) ≡ from_place place (take i connections) + cond ((get_or connections i no_connection).from.0 == place) 1 0
-counted_more connections i place within =
-    ap (from_place place) (take_more connections i no_connection within)
-    ∙ sum_by_push (λ (c : Connection). cond (c.from.0 == place) 1 0) (take i connections) (get_or connections i no_connection)
-
-pub count_small : (connections : List Connection) (i place : ℕ) → i ≤ length connections → from_place place (take i connections) ≤ i
-count_small connections i place within = omega (arith, count_by-le-length (λ (c : Connection). c.from.0 == place) (take i connections), length-take-le i connections within)
-
--- one connection more is counted at its place
-pub counts_next : (connections : List Connection) (i n : ℕ) (room : List ℕ) → i < length connections → length room ≡ n → (get_or connections i no_connection).from.0 < n → ((place : ℕ) → place < n → get_or room place 0 ≡ from_place place (take i connections)) → (place : ℕ) → place < n → get_or (set room (get_or connections i no_connection).from.0 (get_or room (get_or connections i no_connection).from.0 0 + 1)) place 0 ≡ from_place place (take (i + 1) connections)
-counts_next connections i n room within long there counts place inside =
-    let here = (get_or connections i no_connection).from.0 in
-    let more = counted_more connections i place within in
-    elim (cases_eq place here) [
-      | inl same ↦
-          let one : ◌≡◌ {A = ℕ} (cond (here == place) 1 0) 1 = grind (arith, nat_tests) in
-          subst (λ p. get_or (set room here (get_or room here 0 + 1)) p 0 ≡ from_place place (take (i + 1) connections)) (sym same)
-          (get_or-set_same room here (get_or room here 0 + 1) 0 (omega arith) ∙ (let old : get_or room here 0 ≡ from_place place (take i connections) = subst (λ p. get_or room p 0 ≡ from_place place (take i connections)) same (counts place inside) in omega (arith, old, more, one)))
-      | inr other ↦
-          let none : ◌≡◌ {A = ℕ} (cond (here == place) 1 0) 0 = grind (arith, nat_tests) in
-          get_or-set_other room here place (get_or room here 0 + 1) 0 other ∙ (let old = counts place inside in omega (arith, old, more, none))
-    ]
+pub count_by-take-le : (p : Connection → Bool) (connections : List Connection) (i : ℕ) → i ≤ length connections → count_by p (take i connections) ≤ i
+count_by-take-le p connections i within = omega (arith, count_by-le-length p (take i connections), length-take-le i connections within)
 
 -- an empty profile more
 pub rows_pushed : {V : Type 0} (profiles : List (Shown V)) (profile : Shown V) → ((place : ℕ) → rows_at profiles place ≡ []) → profile.rows ≡ [] → (place : ℕ) → rows_at (profiles ++ profile ∷ []) place ≡ []
@@ -59,14 +40,14 @@ no_exits (suc n) zero = refl
 no_exits (suc n) (suc run) = no_exits n run
 
 -- what was reserved fits the network
-pub fits : {V : Type 0} (network : Parts) → IsValid network → (runs : ℕ) (below : (i : ℕ) → i < count network → run_of network i < runs) (room : List ℕ) (profiles : List (Shown V)) (exits : List (Option (Exit V))) (kids : List V) → length room ≡ length network.change → ((place : ℕ) → place < length network.change → get_or room place 0 ≡ from_place place network.connections) → length profiles ≡ length room → ((place : ℕ) → rows_at profiles place ≡ []) → ((place : ℕ) → place < length room → get_or room place 0 ≤ spare_at profiles place) → exits ≡ replicate runs None → length kids ≡ 64 → FitsTables network (record { profiles = profiles; exits = exits; kids = kids })
+pub fits : {V : Type 0} (network : Parts) → IsValid network → (runs : ℕ) (below : (i : ℕ) → i < count network → run_of network i < runs) (room : List ℕ) (profiles : List (Shown V)) (exits : List (Option (Exit V))) (kids : List V) → length room ≡ length network.change → ((place : ℕ) → place < length network.change → get_or room place 0 ≡ count_by (λ c. has_way network place c.from.0) network.connections) → length profiles ≡ length room → ((place : ℕ) → rows_at profiles place ≡ []) → ((place : ℕ) → place < length room → get_or room place 0 ≤ spare_at profiles place) → exits ≡ replicate runs None → length kids ≡ 64 → FitsTables network (record { profiles = profiles; exits = exits; kids = kids })
 fits {V} network valid runs below room profiles exits kids long counts as_many empty enough none kids_there = record {
   valid = valid;
   empty = record { no_rows = empty; no_exits = λ run. rw none (no_exits runs run) };
   room = λ order whole. record {
     places = as_many ∙ long;
     runs = λ i inside. let n : length exits ≡ runs = rw none (length-replicate runs None) in omega (arith, below i inside);
-    room = λ place inside. omega (arith, count_in_order (λ c. c.from.0 == place) network order whole, counts place (omega arith), enough place (omega arith));
+    room = λ place inside. omega (arith, count_in_order (λ c. has_way network place c.from.0) network order whole, counts place (omega arith), enough place (omega arith));
     outcomes = omega arith;
   };
 }

@@ -1,10 +1,8 @@
 -- What holds while the scan runs.
-use Rattle.std.proofs.Common.{◌≡◌, ◌≢◌, ℕ, zero, suc, get_or, map, ◌+◌, ◌<◌, ◌≤◌, List, [], ◌∷◌, ◌++◌, length, Option, None, arith, sym, subst, refl, ◌∙◌, ap, inl, inr, append_assoc, ◌⊎◌, cond, add-zero}
-use Rattle.std.specs.Prelude.{Contains, ◌==◌}
+use Rattle.std.proofs.Common.{◌≡◌, ◌≢◌, ℕ, zero, suc, get_or, map, ◌+◌, ◌<◌, ◌≤◌, List, [], ◌∷◌, ◌++◌, length, Option, None, arith, sym, subst, refl, ◌∙◌, ap, inl, inr, append_assoc, ◌⊎◌, cond}
+use Rattle.std.specs.Prelude.{Contains}
 use Rattle.std.proofs.lemmas.List.{append-nil}
 use Rattle.std.proofs.lemmas.List.Sums.{sum_by_push}
-use Rattle.std.proofs.lemmas.Bool.{cases_eq}
-use Rattle.std.proofs.lemmas.Bool.Decides.{nat_tests}
 use Rattle.plan_model.specs.declared.model.ConnectionId.{ConnectionId}
 use Rattle.plan_model.specs.declared.model.Leg.{Leg}
 use Rattle.plan_model.specs.declared.model.Outcome.{Outcome}
@@ -18,7 +16,7 @@ use Rattle.value_laws.specs.ScoreLaws.{ScoreLaws}
 use Rattle.stop_profile.specs.Shown.{Shown}
 use Rattle.trip_exit.specs.Offers.{Exit}
 use Rattle.meat_scan.specs.Step.{exits_next, rows_next, start_next}
-use Rattle.meat_scan.specs.Tables.{rows_at, spare_at, exit_at, leaving, HasRoom, IsEmpty}
+use Rattle.meat_scan.specs.Tables.{rows_at, spare_at, exit_at, has_way, boardable, HasRoom, IsEmpty}
 use Rattle.meat_scan.specs.Found.{Found, found_rows}
 use Rattle.meat_scan.specs.Solves.{Answers}
 use Rattle.meat_scan.proofs.ScanStep.{ScanOk, IsNext, scan_ok_step}
@@ -111,35 +109,22 @@ module _ {V : Type 0} {below covers : V → Tree → Type 0} {gap rank : V → �
   pub next_there : (rest : List ConnectionId) (id : ConnectionId) (profiles : List (Shown V)) (exits : List (Option (Exit V))) (start : Option (V × Leg)) → ScanState below covers gap rank network query order (rest ++ id ∷ []) profiles exits start → id.0 < count network
   next_there rest id profiles exits start state = (next_of rest state.taken id state.split).there
 
--- how many connections leave a place, with one more
-leaving_here : (network : Parts) (place : ℕ) (rest : List ConnectionId) (id : ConnectionId) → from_of network id.0 ≡ place → leaving network place (rest ++ id ∷ []) ≡ leaving network place rest + 1
-leaving_here network place rest id here =
-    let one : cond (from_of network id.0 == place) 1 0 ≡ 1 = grind (arith, nat_tests) in
-    sum_by_push (λ (i : ConnectionId). cond (from_of network i.0 == place) 1 0) rest id ∙ ap (λ n. leaving network place rest + n) one
+-- how many connections can be boarded from a place, with one more
+boardable-push : (network : Parts) (place : ℕ) (rest : List ConnectionId) (id : ConnectionId) → boardable network place (rest ++ id ∷ []) ≡ boardable network place rest + cond (has_way network place (from_of network id.0)) 1 0
+boardable-push network place rest id = sum_by_push (λ (i : ConnectionId). cond (has_way network place (from_of network i.0)) 1 0) rest id
 
-leaving_other : (network : Parts) (place : ℕ) (rest : List ConnectionId) (id : ConnectionId) → from_of network id.0 ≢ place → leaving network place (rest ++ id ∷ []) ≡ leaving network place rest
-leaving_other network place rest id away =
-    let none : cond (from_of network id.0 == place) 1 0 ≡ 0 = grind (arith, nat_tests) in
-    sum_by_push (λ (i : ConnectionId). cond (from_of network i.0 == place) 1 0) rest id ∙ ap (λ n. leaving network place rest + n) none ∙ add-zero (leaving network place rest)
-
-module _ {V : Type 0} (network : Parts) (good : IsValid network) (rest : List ConnectionId) (id : ConnectionId) (there : id.0 < count network) (profiles : List (Shown V)) (exits : List (Option (Exit V))) (kids : List V) (room : HasRoom network (rest ++ id ∷ []) profiles exits kids) where
+module _ {V : Type 0} (network : Parts) (rest : List ConnectionId) (id : ConnectionId) (there : id.0 < count network) (profiles : List (Shown V)) (exits : List (Option (Exit V))) (kids : List V) (room : HasRoom network (rest ++ id ∷ []) profiles exits kids) where
   pub room_for_run : run_of network id.0 < length exits
   room_for_run = room.runs id.0 there
 
-  pub room_for_row : 1 ≤ spare_at profiles (from_of network id.0)
-  room_for_row =
-      let place = from_of network id.0 in
-      let within : place < length profiles = omega (arith, (good.connections id.0 there).from_in, room.places) in
-      omega (arith, room.room place within, leaving_here network place rest id refl)
+  pub room_for_rows : (place : ℕ) → place < length network.change → cond (has_way network place (from_of network id.0)) 1 0 ≤ spare_at profiles place
+  room_for_rows place inside = omega (arith, room.room place (omega (arith, room.places)), boardable-push network place rest id)
 
-  pub room_next : (profiles' : List (Shown V)) (exits' : List (Option (Exit V))) (kids' : List V) → spare_at profiles (from_of network id.0) ≤ spare_at profiles' (from_of network id.0) + 1 → ((place : ℕ) → place ≢ from_of network id.0 → spare_at profiles' place ≡ spare_at profiles place) → length profiles' ≡ length profiles → length exits' ≡ length exits → length kids' ≡ length kids → HasRoom network rest profiles' exits' kids'
-  room_next profiles' exits' kids' spare others same_places same_runs same_kids = record {
+  pub room_next : (profiles' : List (Shown V)) (exits' : List (Option (Exit V))) (kids' : List V) → ((place : ℕ) → spare_at profiles place ≤ spare_at profiles' place + cond (has_way network place (from_of network id.0)) 1 0) → length profiles' ≡ length profiles → length exits' ≡ length exits → length kids' ≡ length kids → HasRoom network rest profiles' exits' kids'
+  room_next profiles' exits' kids' spare same_places same_runs same_kids = record {
     places = same_places ∙ room.places;
     runs = λ i inside. omega (arith, room.runs i inside);
-    room = λ place within. elim (cases_eq place (from_of network id.0)) [
-      | inl here ↦ subst (λ p. leaving network p rest ≤ spare_at profiles' p) (sym here) (let inside : from_of network id.0 < length profiles = omega (arith, (good.connections id.0 there).from_in, room.places) in omega (arith, room.room (from_of network id.0) inside, leaving_here network (from_of network id.0) rest id refl))
-      | inr away ↦ let inside : place < length profiles = omega arith in omega (arith, room.room place inside, leaving_other network place rest id (λ same. away (sym same)), others place away)
-    ];
+    room = λ place within. omega (arith, room.room place (omega arith), boardable-push network place rest id, spare place);
     outcomes = omega (arith, room.outcomes);
   }
 

@@ -1,7 +1,8 @@
 -- The tables of a scan.
-use Rattle.std.specs.Prelude.{◌≡◌, ℕ, ◌<◌, ◌≤◌, List, [], length, Option, None, slice_index_or, count_by, ◌==◌}
+use Rattle.std.specs.Prelude.{◌≡◌, ℕ, ◌<◌, ◌≤◌, Bool, List, [], length, Option, None, is_some, slice_index_or, count_by, if◌then◌else◌}
 use Rattle.plan_model.specs.declared.model.ConnectionId.{ConnectionId}
 use Rattle.plan_model.specs.Parts.{Parts}
+use Rattle.plan_model.specs.Ways.{way_of}
 use Rattle.plan_model.specs.Network.{count, from_of, run_of, IsValid}
 use Rattle.plan_model.specs.Order.{IsScanOrder}
 use Rattle.stop_profile.specs.declared.Row.{Row}
@@ -24,15 +25,23 @@ spare_at profiles place = (slice_index_or profiles place no_profile).spare
 abbrev pub exit_at : {V : Type 0} → List (Option (Exit V)) → ℕ → Option (Exit V)
 exit_at exits run = slice_index_or exits run None
 
--- how many of the connections leave a place
-abbrev pub leaving : Parts → ℕ → List ConnectionId → ℕ
-leaving network place ids = count_by (λ id. from_of network id.0 == place) ids
+-- whether a way leads from a place to another
+abbrev pub has_way : Parts → ℕ → ℕ → Bool
+has_way network place to = is_some (way_of network place to)
+
+-- how many ways lead from a place to another: one, or none
+abbrev pub ways_between : Parts → ℕ → ℕ → ℕ
+ways_between network place to = if has_way network place to then 1 else 0
+
+-- how many of the connections can be boarded by a way from a place
+abbrev pub boardable : Parts → ℕ → List ConnectionId → ℕ
+boardable network place ids = count_by (λ id. has_way network place (from_of network id.0)) ids
 
 -- the tables have room for the connections that are left
 pub record HasRoom {V : Type 0} (network : Parts) (rest : List ConnectionId) (profiles : List (Shown V)) (exits : List (Option (Exit V))) (kids : List V) : Type 0 where
   pub places : length profiles ≡ length network.change
   pub runs : (i : ℕ) → i < count network → run_of network i < length exits
-  pub room : (place : ℕ) → place < length profiles → leaving network place rest ≤ spare_at profiles place
+  pub room : (place : ℕ) → place < length profiles → boardable network place rest ≤ spare_at profiles place
   pub outcomes : 64 ≤ length kids
 
 -- nothing is kept yet

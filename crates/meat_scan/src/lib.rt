@@ -1,17 +1,19 @@
 //! The backward scan.
 #![tactic(auto)]
 
-ghost use Rattle.std.specs.Prelude.{◌≡◌, ◌≢◌, ℕ, ◌+◌, ◌-◌, ◌<◌, ◌≤◌, length, All, Some, None, MatchBool, take, Option, [], IfOk, slice_index, count_by, ◌==◌};
+ghost use Rattle.std.specs.Prelude.{◌≡◌, ◌≢◌, ℕ, ◌+◌, ◌-◌, ◌<◌, ◌≤◌, length, All, Some, None, MatchBool, take, Option, [], IfOk, slice_index, count_by, ◌==◌, if◌then◌else◌};
 ghost use Rattle.plan_model.specs.Network.{count, from_of, run_of, IsValid};
 ghost use Rattle.plan_model.specs.Order.{IsScanOrder};
-ghost use Rattle.meat_scan.specs.Tables.{rows_at, spare_at, exit_at, FitsTables};
+ghost use Rattle.meat_scan.specs.Tables.{rows_at, spare_at, exit_at, has_way, ways_between, FitsTables};
 ghost use Rattle.meat_scan.specs.Found.{choice_of};
 ghost use Rattle.meat_scan.specs.Values.{value_at, values_after};
-ghost use Rattle.meat_scan.specs.Step.{left_by, exits_with, rows_with, start_with, boarded, leg_of, rows_next, exits_next, start_next};
+ghost use Rattle.meat_scan.specs.Step.{left_by, exits_with, way_from, with_way, rows_with, start_with};
+ghost use Rattle.meat_scan.specs.Step.{boarded, rows_next, exits_next, start_next};
 ghost use Rattle.meat_scan.specs.Solves.{Solves};
 
 use plan_model::{
     BackwardOrder, ConnectionId, Leg, Moment, Network, NoMemory, Outcome, PlaceId, Query, RunId,
+    Way,
 };
 use std::alloc::Global;
 use std::marker::Model;
@@ -28,7 +30,9 @@ fn value_after<V: Score>(
 ) -> Option<V>
     requires place { place.0 < length profiles.now }
     requires soon { arrival.0 < 13601174401 }
-    ensures { result ≡ value_at V.arrived query.now.target.0 query.now.deadline.0 (rows_at profiles.now) place.0 arrival.0 }
+    ensures { let query = query.now in
+        let rows = rows_at profiles.now in
+        result ≡ value_at V.arrived query.target.0 query.deadline.0 rows place.0 arrival.0 }
 {
     if place == query.target {
         if arrival <= query.deadline {
@@ -57,7 +61,13 @@ fn fill_kids<V: Score>(
     requires soon { scheduled.0 < 13601088000 }
     requires delays { All (λ o. o.delay ≤ 86400) row.now }
     requires room { length row.now ≤ length kids.old }
-    ensures filled { MatchBool result (values_after V.arrived query.now.target.0 query.now.deadline.0 (rows_at profiles.now) place.0 scheduled.0 row.now ≡ Some (take (length row.now) kids.new)) (values_after V.arrived query.now.target.0 query.now.deadline.0 (rows_at profiles.now) place.0 scheduled.0 row.now ≡ None) }
+    ensures filled { let query = query.now in
+        let rows = rows_at profiles.now in
+        let values = values_after V.arrived query.target.0 query.deadline.0 rows place.0 scheduled.0
+        in
+        MatchBool result
+        (values row.now ≡ Some (take (length row.now) kids.new))
+        (values row.now ≡ None) }
     ensures len { length kids.new ≡ length kids.old }
 {
     for k in 0..row.len() {
@@ -70,7 +80,36 @@ fn fill_kids<V: Score>(
     true
 }
 
-// Puts a connection, boarded for an exit, into the rows of the place that it leaves.
+// Puts a leg into the rows of the place that a way comes from, where it can be boarded by the way.
+fn put_leg<V: Score>(
+    profiles: &mut [Profile<V>],
+    target: PlaceId,
+    way: Way,
+    dep: Moment,
+    value: V,
+    leg: Leg,
+)
+    requires from { way.from.0 < length profiles.old }
+    requires room { 1 ≤ spare_at profiles.old way.from.0 }
+    ensures rows { (place : ℕ) →
+        let old = rows_at profiles.old place in
+        let from = way_from way place in
+        rows_at profiles.new place ≡ with_way V.rank V.lowered target.0 dep.0 value leg from place old }
+    ensures spare { (place : ℕ) →
+        let taken = if way.from.0 == place then 1 else 0 in
+        spare_at profiles.old place ≤ spare_at profiles.new place + taken }
+    ensures len { length profiles.new ≡ length profiles.old }
+{
+    let seconds = u64::from(way.seconds);
+    if way.from == target || dep.0 < seconds {
+        return;
+    }
+    let by = Moment(dep.0 - seconds);
+    let profile = &mut profiles[way.from.0 as usize];
+    profile.insert(by, value, leg);
+}
+
+// Puts a connection, boarded for an exit, into the rows of each place from which a way leads to it.
 fn board<V: Score>(
     profiles: &mut [Profile<V>],
     network: &Network,
@@ -78,26 +117,28 @@ fn board<V: Score>(
     id: ConnectionId,
     exit: Option<(V, ConnectionId)>,
 )
+    requires valid { IsValid network.now }
     requires there { id.0 < count network.now }
     requires places { length profiles.old ≡ length network.now.change }
-    requires from { from_of network.now id.0 < length network.now.change }
-    requires room { 1 ≤ spare_at profiles.old (from_of network.now id.0) }
-    ensures rows { (place : ℕ) → rows_at profiles.new place ≡ rows_with V.rank V.lowered network.now query.now id.0 exit (rows_at profiles.old) place }
-    ensures spare { spare_at profiles.old (from_of network.now id.0) ≤ spare_at profiles.new (from_of network.now id.0) + 1 }
-    ensures others { (place : ℕ) → place ≢ from_of network.now id.0 → spare_at profiles.new place ≡ spare_at profiles.old place }
+    requires room { (place : ℕ) → place < length network.now.change →
+        ways_between network.now place (from_of network.now id.0) ≤ spare_at profiles.old place }
+    ensures rows { (place : ℕ) →
+        let old = rows_at profiles.old in
+        rows_at profiles.new place ≡ rows_with V.rank V.lowered network.now query.now id.0 exit old place }
+    ensures spare { (place : ℕ) →
+        let taken = ways_between network.now place (from_of network.now id.0) in
+        spare_at profiles.old place ≤ spare_at profiles.new place + taken }
     ensures len { length profiles.new ≡ length profiles.old }
 {
     let Some((value, exit)) = exit else {
         return;
     };
     let connection = network.get(id);
-    let change = network.change(connection.from) as u64;
-    if connection.from == query.target || connection.dep.0 < change {
-        return;
+    let leg = Leg { enter: id, exit };
+    for k in 0..network.way_count(connection.from) {
+        let way = network.way_at(connection.from, k);
+        put_leg(profiles, query.target, way, connection.dep, value, leg);
     }
-    let by = Moment(connection.dep.0 - change);
-    let profile = &mut profiles[connection.from.0 as usize];
-    profile.insert(by, value, Leg { enter: id, exit });
 }
 
 // The start leg, with a connection that is boarded for an exit.
@@ -138,7 +179,8 @@ fn left_value<V: Score>(
     requires there { id.0 < count network.now }
     requires places { length profiles.now ≡ length network.now.change }
     requires outcomes { 64 ≤ length kids.old }
-    ensures value { result ≡ left_by V.arrived V.blended network.now query.now (rows_at profiles.now) id.0 }
+    ensures value { let rows = rows_at profiles.now in
+        result ≡ left_by V.arrived V.blended network.now query.now rows id.0 }
     ensures len { length kids.new ≡ length kids.old }
 {
     let connection = network.get(id);
@@ -155,7 +197,9 @@ fn left_value<V: Score>(
 // Offers a connection as an exit of its run, where it has a value.
 fn leave<V: Score>(exits: &mut ExitTable<V>, run: RunId, id: ConnectionId, value: Option<V>)
     requires { run.0 < length exits.old }
-    ensures exits { (other : ℕ) → exit_at exits.new other ≡ exits_with V.rank V.lowered id run.0 value (exit_at exits.old) other }
+    ensures exits { (other : ℕ) →
+        let old = exit_at exits.old in
+        exit_at exits.new other ≡ exits_with V.rank V.lowered id run.0 value old other }
     ensures len { length exits.new ≡ length exits.old }
 {
     if let Some(value) = value {
@@ -196,12 +240,24 @@ fn scan_one<V: Score>(
     requires places { length profiles.old ≡ length network.now.change }
     requires run { run_of network.now id.0 < length exits.old }
     requires outcomes { 64 ≤ length kids.old }
-    requires room { 1 ≤ spare_at profiles.old (from_of network.now id.0) }
-    ensures rows { (place : ℕ) → rows_at profiles.new place ≡ rows_next V.rank V.lowered V.arrived V.blended network.now query.now id.0 (rows_at profiles.old) (exit_at exits.old) place }
-    ensures exits { (run : ℕ) → exit_at exits.new run ≡ exits_next V.rank V.lowered V.arrived V.blended network.now query.now id.0 (rows_at profiles.old) (exit_at exits.old) run }
-    ensures start { result ≡ start_next V.rank V.lowered V.arrived V.blended network.now query.now id.0 (rows_at profiles.old) (exit_at exits.old) start }
-    ensures spare { spare_at profiles.old (from_of network.now id.0) ≤ spare_at profiles.new (from_of network.now id.0) + 1 }
-    ensures others { (place : ℕ) → place ≢ from_of network.now id.0 → spare_at profiles.new place ≡ spare_at profiles.old place }
+    requires room { (place : ℕ) → place < length network.now.change →
+        ways_between network.now place (from_of network.now id.0) ≤ spare_at profiles.old place }
+    ensures rows { (place : ℕ) →
+        let rows = rows_at profiles.old in
+        let exits = exit_at exits.old in
+        rows_at profiles.new place
+        ≡ rows_next V.rank V.lowered V.arrived V.blended network.now query.now id.0 rows exits place }
+    ensures exits { (run : ℕ) →
+        let rows = rows_at profiles.old in
+        let before = exit_at exits.old in
+        exit_at exits.new run
+        ≡ exits_next V.rank V.lowered V.arrived V.blended network.now query.now id.0 rows before run }
+    ensures start { let rows = rows_at profiles.old in
+        let exits = exit_at exits.old in
+        result ≡ start_next V.rank V.lowered V.arrived V.blended network.now query.now id.0 rows exits start }
+    ensures spare { (place : ℕ) →
+        let taken = ways_between network.now place (from_of network.now id.0) in
+        spare_at profiles.old place ≤ spare_at profiles.new place + taken }
     ensures places { length profiles.new ≡ length profiles.old }
     ensures runs { length exits.new ≡ length exits.old }
     ensures outcomes { length kids.new ≡ length kids.old }
@@ -226,7 +282,11 @@ impl<V: Score> Model for ScanTables<V> {
 
     ghost Value = { Tables V };
 
-    ghost view = { λ t. record { profiles = t.profiles.items; exits = t.exits; kids = t.kids.items } };
+    ghost view = { λ t. record {
+      profiles = t.profiles.items;
+      exits = t.exits;
+      kids = t.kids.items;
+    } };
 }
 
 /// What a scan found.
@@ -243,7 +303,11 @@ impl<V: Score> Model for Scanned<V> {
 
     ghost Value = { Found V };
 
-    ghost view = { λ s. record { start = s.start; rows = map (λ profile. profile.rows) s.profiles.items; target = s.target.0 } };
+    ghost view = { λ s. record {
+      start = s.start;
+      rows = map (λ profile. profile.rows) s.profiles.items;
+      target = s.target.0;
+    } };
 }
 
 impl<V: Score> ScanTables<V> {
@@ -251,7 +315,7 @@ impl<V: Score> ScanTables<V> {
     pub fn reserve(alloc: Global, network: &Network) -> Result<ScanTables<V>, NoMemory>
         ensures { IfOk result (FitsTables network.now) }
     {
-        let room = leaving_counts(alloc, network)?;
+        let room = boardable_counts(alloc, network)?;
         let profiles = reserve_profiles(alloc, &room)?;
         let exits = ExitTable::reserve(alloc, network.runs())?;
         let kids = reserve_kids(alloc)?;
@@ -263,24 +327,44 @@ impl<V: Score> ScanTables<V> {
     }
 }
 
-// How many connections leave each place.
-fn leaving_counts(alloc: Global, network: &Network) -> Result<Vec<u32>, NoMemory>
+// One more for each place from which a way leads to this one.
+fn count_ways(room: &mut [u32], network: &Network, place: PlaceId)
+    requires valid { IsValid network.now }
+    requires place { place.0 < length network.now.change }
+    requires len { length room.old ≡ length network.now.change }
+    requires few { (from : ℕ) → from < length room.old → slice_index room.old from < 8388608 }
+    ensures counts { (from : ℕ) → from < length room.old →
+        slice_index room.new from
+        ≡ slice_index room.old from + ways_between network.now from place.0 }
+    ensures len { length room.new ≡ length room.old }
+{
+    for k in 0..network.way_count(place) {
+        let way = network.way_at(place, k);
+        room[way.from.0 as usize] += 1;
+    }
+}
+
+// How many connections can be boarded by a way from each place.
+fn boardable_counts(alloc: Global, network: &Network) -> Result<Vec<u32>, NoMemory>
     ensures len { IfOk result (λ room. length room.items ≡ length network.now.change) }
     ensures valid { IfOk result (λ _. IsValid network.now) }
-    ensures counts { IfOk result (λ room. (place : ℕ) → place < length network.now.change → slice_index room.items place ≡ count_by (λ c. c.from.0 == place) network.now.connections) }
+    ensures counts { IfOk result (λ room. (place : ℕ) → place < length network.now.change →
+        slice_index room.items place
+        ≡ count_by (λ c. has_way network.now place c.from.0) network.now.connections) }
 {
     let mut room: Vec<u32> = vec![in alloc; 0; network.places() as usize]?;
     for id in 0..network.count() {
-        let connection = network.get(ConnectionId(id));
-        room[connection.from.0 as usize] += 1;
+        count_ways(&mut room, network, network.get(ConnectionId(id)).from);
     }
     Ok(room)
 }
 
+// A profile for each place, with room for so many rows.
 fn reserve_profiles<V: Score>(alloc: Global, room: &[u32]) -> Result<Vec<Profile<V>>, NoMemory>
     ensures len { IfOk result (λ profiles. length profiles.items ≡ length room.now) }
     ensures empty { IfOk result (λ profiles. (place : ℕ) → rows_at profiles.items place ≡ []) }
-    ensures room { IfOk result (λ profiles. (place : ℕ) → place < length room.now → slice_index room.now place ≤ spare_at profiles.items place) }
+    ensures room { IfOk result (λ profiles. (place : ℕ) → place < length room.now →
+        slice_index room.now place ≤ spare_at profiles.items place) }
 {
     let mut profiles = Vec::new(alloc);
     for rows in room {

@@ -1,5 +1,5 @@
 -- The best of the scan at the latest moment of arrival is the least worst arrival.
-use Rattle.std.proofs.Common.{◌≡◌, ℕ, ◌<◌, ◌≤◌, List, Option, Some, None, MatchOption, IfSome, arith}
+use Rattle.std.proofs.Common.{◌≡◌, ℕ, ◌<◌, ◌≤◌, Option, Some, None, MatchOption, IfSome, arith}
 use Rattle.std.specs.Option.{option_map}
 use Rattle.plan_model.specs.declared.model.Leg.{Leg}
 use Rattle.plan_model.specs.declared.model.Moment.{Moment}

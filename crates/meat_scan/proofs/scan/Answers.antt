@@ -2,7 +2,7 @@ use Rattle.std.proofs.Common.{◌∙◌, sym, subst, arith, refl}
 use Rattle.std.proofs.lemmas.List.{length-map}
 use Rattle.stop_profile.proofs.Gaps.{written_back}
 use Rattle.meat_scan.specs.Tables.{FitsTables}
-use Rattle.meat_scan.proofs.States.{first_state, next_state, last_state, next_there, room_for_run, room_for_row, room_next, found_rows-profiles}
+use Rattle.meat_scan.proofs.States.{first_state, next_state, last_state, next_there, room_for_run, room_for_rows, room_next, found_rows-profiles}
 use Rattle.meat_scan.proofs.scan.Goals as goal
 
 pub loop-id-init : goal.loop-id-init
@@ -27,7 +27,7 @@ scan_one-start-requires-clause-run g c =
     let room = rw c.in-Some.ensures.last at loop.room in
     let state = rw c.in-Some.ensures.last at loop.state in
     let there = next_there g.V.Score.laws c.args.network.now loop.valid c.args.query.now (g.B.BackwardOrder.rest c.args.order.now c.args.network.now) c.requires.whole (g.B.BackwardOrder.rest c.next.new.self c.args.network.now) c.in-Some.id c.loop-id.profiles.items c.loop-id.exits c.loop-id.start state in
-    room_for_run c.args.network.now loop.valid (g.B.BackwardOrder.rest c.next.new.self c.args.network.now) c.in-Some.id there c.loop-id.profiles.items c.loop-id.exits c.loop-id.kids.items room
+    room_for_run c.args.network.now (g.B.BackwardOrder.rest c.next.new.self c.args.network.now) c.in-Some.id there c.loop-id.profiles.items c.loop-id.exits c.loop-id.kids.items room
 
 pub scan_one-start-requires-clause-room : goal.scan_one-start-requires-clause-room
 scan_one-start-requires-clause-room g c =
@@ -35,7 +35,7 @@ scan_one-start-requires-clause-room g c =
     let room = rw c.in-Some.ensures.last at loop.room in
     let state = rw c.in-Some.ensures.last at loop.state in
     let there = next_there g.V.Score.laws c.args.network.now loop.valid c.args.query.now (g.B.BackwardOrder.rest c.args.order.now c.args.network.now) c.requires.whole (g.B.BackwardOrder.rest c.next.new.self c.args.network.now) c.in-Some.id c.loop-id.profiles.items c.loop-id.exits c.loop-id.start state in
-    rw c.deref_mut.ensures.value (room_for_row c.args.network.now loop.valid (g.B.BackwardOrder.rest c.next.new.self c.args.network.now) c.in-Some.id there c.loop-id.profiles.items c.loop-id.exits c.loop-id.kids.items room)
+    rw c.deref_mut.ensures.value (room_for_rows c.args.network.now (g.B.BackwardOrder.rest c.next.new.self c.args.network.now) c.in-Some.id there c.loop-id.profiles.items c.loop-id.exits c.loop-id.kids.items room)
 
 pub loop-id-preserved : goal.loop-id-preserved
 loop-id-preserved g c =
@@ -53,7 +53,7 @@ loop-id-preserved g c =
     rw (profiles_are, kids_are) (record {
       valid = loop.valid;
       fits = c.in-Some.ensures.fits;
-      room = room_next c.args.network.now loop.valid rest c.in-Some.id there c.loop-id.profiles.items c.loop-id.exits c.loop-id.kids.items room one.new.profiles one.new.exits one.new.kids (rw old at one.ensures.spare) (rw old at one.ensures.others) (rw old at one.ensures.places) one.ensures.runs (omega arith);
+      room = room_next c.args.network.now rest c.in-Some.id there c.loop-id.profiles.items c.loop-id.exits c.loop-id.kids.items room one.new.profiles one.new.exits one.new.kids (rw old at one.ensures.spare) (rw old at one.ensures.places) one.ensures.runs (omega arith);
       state = next_state g.V.Score.laws c.args.network.now loop.valid c.args.query.now (g.B.BackwardOrder.rest c.args.order.now c.args.network.now) c.requires.whole rest c.in-Some.id c.loop-id.profiles.items one.new.profiles c.loop-id.exits one.new.exits c.loop-id.start one.result state (rw old at one.ensures.rows) (rw old at one.ensures.exits) (rw old at one.ensures.start);
     })
 

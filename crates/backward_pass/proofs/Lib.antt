@@ -1,0 +1,4 @@
+pub mod Least
+pub mod Trees
+pub mod Entering
+pub mod Scanned

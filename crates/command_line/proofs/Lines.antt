@@ -1,0 +1,124 @@
+-- A line is a command and its settings, and the other way round.
+use Rattle.std.proofs.Common.{◌≡◌, ◌≢◌, ℕ, suc, List, [], ◌∷◌, arith, refl, ap, sym, ◌∙◌, Option, Some, None, Bool, true, false, IsTrue}
+use Rattle.std.specs.Prelude.{is_none, ◌&&◌, if◌then◌else◌, All, AllPairs}
+use Rattle.std.specs.List.{flat_map, find}
+use Rattle.std.specs.Str.{bytes_eq}
+use Rattle.std.proofs.lemmas.Bool.{false≢true}
+use Rattle.std.proofs.lemmas.Slice.Eq.{bytes_eq-Decides}
+use Rattle.std.proofs.lemmas.List.Elements.{All-nil, All-cons, All-head, All-tail}
+use Rattle.std.proofs.lemmas.List.Kept.{AllPairs-cons}
+use Rattle.command_line.specs.declared.options.OptionName.{OptionName}
+use Rattle.command_line.specs.declared.options.OptionName.TheVariants.{Cut, Feed, Delays, From, To, At, Alpha, Horizon, Graph, Late, Size}
+use Rattle.command_line.specs.Options.{option_name, option_named, all_options}
+use Rattle.command_line.specs.Settings.{Setting, spelled, value_of, value_in, is_new, are_settings}
+
+-- the word of an option names it
+named : (option : OptionName) → option_named (option_name option) ≡ Some option
+named Cut = refl
+named Feed = refl
+named Delays = refl
+named From = refl
+named To = refl
+named At = refl
+named Alpha = refl
+named Horizon = refl
+named Graph = refl
+named Late = refl
+named Size = refl
+
+-- options of one word are one
+same_option : (a b : OptionName) → option_name a ≡ option_name b → a ≡ b
+same_option a b same = let one = sym (named a) ∙ ap option_named same ∙ named b in cc
+
+find_at : {X : Type 0} (p : X → Bool) (xs : List X) (y x : X) (b : Bool) → p y ≡ b → (find p xs ≡ Some x → p x ≡ true) → find p (y ∷ xs) ≡ Some x → p x ≡ true
+find_at p xs y x true e rest found =
+    let here = ap (λ (c : Bool). if c then Some y else find p xs) e in
+    let one = sym here ∙ found in
+    cc
+find_at p xs y x false e rest found = rest (sym (ap (λ (c : Bool). if c then Some y else find p xs) e) ∙ found)
+
+find-passes : {X : Type 0} (p : X → Bool) (xs : List X) (x : X) → find p xs ≡ Some x → p x ≡ true
+find-passes p [] x found = absurd (cc)
+find-passes p (y ∷ xs) x found = find_at p xs y x (p y) refl (find-passes p xs x) found
+
+-- a word that names an option is its word
+word_is : (word : List ℕ) (option : OptionName) → option_named word ≡ Some option → word ≡ option_name option
+word_is word option is = (bytes_eq-Decides word (option_name option)).0 (find-passes (λ o. bytes_eq word (option_name o)) all_options option is)
+
+and_both : (a b : Bool) → IsTrue (a && b) → IsTrue a × IsTrue b
+and_both true b both = (refl, both)
+and_both false b both = absurd (false≢true both)
+
+none_is : {T : Type 0} (o : Option T) → IsTrue (is_none o) → o ≡ None
+none_is None is = refl
+none_is (Some v) is = absurd (false≢true is)
+
+-- no setting has the option
+abbrev Lacks : List Setting → OptionName → Type 0
+Lacks given option = All (λ s. option ≢ s.option) given
+
+lacks_at : (s : Setting) (given : List Setting) (option : OptionName) (b : Bool) → bytes_eq (option_name s.option) (option_name option) ≡ b → Lacks (s ∷ given) option → value_in given option ≡ None → value_in (s ∷ given) option ≡ None
+unfolding value_in
+lacks_at s given option true e none rest =
+    absurd (All-head (λ (t : Setting). option ≢ t.option) s given none (same_option option s.option (sym ((bytes_eq-Decides (option_name s.option) (option_name option)).0 e))))
+lacks_at s given option false e none rest = ap (λ (c : Bool). if c then Some s.value else value_in given option) e ∙ rest
+
+lacks : (given : List Setting) (option : OptionName) → Lacks given option → value_in given option ≡ None
+unfolding value_in
+lacks [] option none = refl
+lacks (s ∷ given) option none = lacks_at s given option (bytes_eq (option_name s.option) (option_name option)) refl none (lacks given option (All-tail (λ (t : Setting). option ≢ t.option) s given none))
+
+lacking_at : (s : Setting) (given : List Setting) (option : OptionName) (b : Bool) → bytes_eq (option_name s.option) (option_name option) ≡ b → value_in (s ∷ given) option ≡ None → (value_in given option ≡ None → Lacks given option) → Lacks (s ∷ given) option
+unfolding value_in
+lacking_at s given option true e none rest = let some = sym (ap (λ (c : Bool). if c then Some s.value else value_in given option) e) ∙ none in absurd (cc)
+lacking_at s given option false e none rest =
+    let away : option ≢ s.option = λ same. false≢true (sym e ∙ (bytes_eq-Decides (option_name s.option) (option_name option)).1 (ap option_name (sym same))) in
+    let others = rest (sym (ap (λ (c : Bool). if c then Some s.value else value_in given option) e) ∙ none) in
+    All-cons (λ (t : Setting). option ≢ t.option) s given away others
+
+lacking : (given : List Setting) (option : OptionName) → value_in given option ≡ None → Lacks given option
+unfolding value_in
+lacking [] option none = All-nil _
+lacking (s ∷ given) option none = lacking_at s given option (bytes_eq (option_name s.option) (option_name option)) refl none (lacking given option)
+
+-- the words of settings in which no option stands twice
+pub settings_hold : (given : List Setting) → AllPairs (λ a b. a.option ≢ b.option) given →
+    IsTrue (are_settings (flat_map spelled given)) × ((option : OptionName) → value_of (flat_map spelled given) option ≡ value_in given option)
+unfolding are_settings value_of value_in
+settings_hold [] once = (refl, λ option. refl)
+settings_hold (s ∷ given) once =
+    let rest = settings_hold given (λ i j d before within. once (suc i) (suc j) d (omega arith) (omega arith)) in
+    let none : Lacks given s.option = λ k d within. once 0 (suc k) d (omega arith) (omega arith) in
+    let fresh : is_new (option_named (option_name s.option)) (flat_map spelled given) ≡ true = ap (λ (o : Option OptionName). is_new o (flat_map spelled given)) (named s.option) ∙ ap is_none (rest.1 s.option ∙ lacks given s.option none) in
+    (rw (fresh, rest.0) refl, λ option. ap (λ (o : Option (List ℕ)). if bytes_eq (option_name s.option) (option_name option) then Some s.value else o) (rest.1 option))
+
+-- the settings of words
+pub record AreRead (words : List (List ℕ)) (given : List Setting) : Type 0 where
+  pub words_are : words ≡ flat_map spelled given
+  pub once : AllPairs (λ a b. a.option ≢ b.option) given
+  pub values : (option : OptionName) → value_of words option ≡ value_in given option
+
+read_pair : (name value : List ℕ) (others : List (List ℕ)) (o : Option OptionName) → option_named name ≡ o → IsTrue (is_new o others) → (given : List Setting) → AreRead others given → (all : List Setting) × AreRead (name ∷ value ∷ others) all
+unfolding value_of value_in
+read_pair name value others None e fresh given read = absurd (false≢true fresh)
+read_pair name value others (Some option) e fresh given read =
+    let word = word_is name option e in
+    let s : Setting = record { option = option; value = value } in
+    let absent : value_of others option ≡ None = none_is (value_of others option) fresh in
+    let none : Lacks given option = lacking given option (sym (read.values option) ∙ absent) in (
+      s ∷ given,
+      record {
+        words_are = ap (λ (w : List ℕ). w ∷ value ∷ others) word ∙ ap (λ (rest : List (List ℕ)). option_name option ∷ value ∷ rest) read.words_are;
+        once = AllPairs-cons (λ (a b : Setting). a.option ≢ b.option) s given none read.once;
+        values = λ other. ap (λ (w : List ℕ). if bytes_eq w (option_name other) then Some value else value_of others other) word ∙ ap (λ (v : Option (List ℕ)). if bytes_eq (option_name option) (option_name other) then Some value else v) (read.values other);
+      },
+    )
+
+pub read_settings : (words : List (List ℕ)) → IsTrue (are_settings words) → (given : List Setting) × AreRead words given
+unfolding are_settings value_of value_in
+read_settings [] are = ([], record { words_are = refl; once = λ i j d before within. absurd (omega arith); values = λ option. refl })
+read_settings (name ∷ []) are = absurd (false≢true are)
+read_settings (name ∷ value ∷ others) are =
+    let parts = and_both (is_new (option_named name) others) (are_settings others) are in
+    let rest = read_settings others parts.1 in
+    read_pair name value others (option_named name) refl parts.0 rest.0 rest.1

@@ -1,0 +1,18 @@
+use Rattle.std.proofs.Common.{◌≡◌, ℕ, List, ◌∷◌, IsTrue, sym, ◌∙◌, ap, subst}
+use Rattle.std.specs.List.{flat_map}
+use Rattle.command_line.specs.declared.options.OptionName.{OptionName}
+use Rattle.command_line.specs.Settings.{spelled, value_of, value_in, are_settings}
+use Rattle.command_line.proofs.Lines.{settings_hold, read_settings}
+use Rattle.command_line.proofs.settings.line_is_a_command_and_its_settings.Goals as goal
+
+pub returns-clause-accepted : goal.returns-clause-accepted
+returns-clause-accepted c words command given line rest is =
+    let both = sym line.words_are ∙ is in
+    let same : flat_map spelled given ≡ rest = (cc) in
+    let P : List (List ℕ) → Type 0 = λ rest. IsTrue (are_settings rest) × ((option : OptionName) → value_of rest option ≡ value_in given option) in
+    subst P same (settings_hold given line.once)
+
+pub returns-clause-only : goal.returns-clause-only
+returns-clause-only c command rest are =
+    let read = read_settings rest are in
+    (read.0, record { words_are = ap (λ (words : List (List ℕ)). command ∷ words) read.1.words_are; once = read.1.once })

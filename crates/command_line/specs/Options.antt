@@ -1,0 +1,56 @@
+-- The commands and the options by their words.
+use Rattle.std.specs.Prelude.{ℕ, List, [], ◌∷◌, Option, Some, None, if◌then◌else◌, codes, find, ◌==◌}
+use Rattle.std.specs.Option.{option_map_or}
+use Rattle.std.specs.Str.{bytes_eq}
+use Rattle.command_line.specs.declared.options.Command.{Command}
+use Rattle.command_line.specs.declared.options.Command.TheVariants.{Safe, Expand, Plan}
+use Rattle.command_line.specs.declared.options.OptionName.{OptionName}
+use Rattle.command_line.specs.declared.options.OptionName.TheVariants.{Cut, Feed, Delays, From, To, At, Alpha, Horizon, Graph, Late, Size}
+
+-- the word of an option
+abbrev pub option_name : OptionName → List ℕ
+option_name Cut = codes "--cut"
+option_name Feed = codes "--feed"
+option_name Delays = codes "--delays"
+option_name From = codes "--from"
+option_name To = codes "--to"
+option_name At = codes "--at"
+option_name Alpha = codes "--alpha"
+option_name Horizon = codes "--horizon"
+option_name Graph = codes "--graph"
+option_name Late = codes "--late"
+option_name Size = codes "--size"
+
+-- the number of an option
+abbrev pub option_number : OptionName → ℕ
+option_number Cut = 1
+option_number Feed = 2
+option_number Delays = 3
+option_number From = 4
+option_number To = 5
+option_number At = 6
+option_number Alpha = 7
+option_number Horizon = 8
+option_number Graph = 9
+option_number Late = 10
+option_number Size = 11
+
+-- the options by their numbers
+abbrev pub all_options : List OptionName
+all_options = Cut ∷ Feed ∷ Delays ∷ From ∷ To ∷ At ∷ Alpha ∷ Horizon ∷ Graph ∷ Late ∷ Size ∷ []
+
+-- the word of the option of this number
+abbrev pub option_word : ℕ → List ℕ
+option_word k = option_map_or option_name (find (λ option. option_number option == k) all_options) []
+
+-- the option that a word names
+abbrev pub option_named : List ℕ → Option OptionName
+option_named word = find (λ option. bytes_eq word (option_name option)) all_options
+
+-- the command that a word names
+abbrev pub command_named : List ℕ → Option Command
+command_named word =
+    if bytes_eq word (codes "safe") then Some Safe
+    else if bytes_eq word (codes "expand") then Some Expand
+    else if bytes_eq word (codes "plan") then Some Plan
+    else None

@@ -1,0 +1,11 @@
+//! The words of the command line: a command, and then pairs of an option and its value.
+#![tactic(auto)]
+
+mod job;
+mod options;
+mod settings;
+mod values;
+
+pub use job::{Job, WordsFault, read_job};
+pub use options::{Command, OptionName, option_word};
+pub use settings::line_is_a_command_and_its_settings;

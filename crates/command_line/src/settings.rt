@@ -1,0 +1,64 @@
+//! Pairs of an option and its value.
+ghost use Rattle.std.specs.Prelude.{◌≡◌, ℕ, ◌∷◌, ◌↔◌, List, Some, IsTrue, map, string_bytes, option_map};
+ghost use Rattle.command_line.specs.Options.{option_name, option_named};
+ghost use Rattle.command_line.specs.Settings.{Setting, IsLine, value_of, value_in, are_settings};
+
+use crate::options::OptionName;
+
+/// The options by their numbers.
+pub(crate) const OPTIONS: [OptionName; 11] = [
+    OptionName::Cut,
+    OptionName::Feed,
+    OptionName::Delays,
+    OptionName::From,
+    OptionName::To,
+    OptionName::At,
+    OptionName::Alpha,
+    OptionName::Horizon,
+    OptionName::Graph,
+    OptionName::Late,
+    OptionName::Size,
+];
+
+/// The option that a word names.
+fn option_named(word: &str) -> Option<OptionName>
+    ensures { result ≡ option_named word.now }
+{
+    OPTIONS.iter().copied().find(|option| word == option.name())
+}
+
+/// The value of an option.
+pub(crate) fn value_of(settings: &[String], option: OptionName) -> Option<&str>
+    ensures { option_map (λ value. value.now) result ≡ value_of (map string_bytes settings.now) option }
+{
+    let [name, value, others @ ..] = settings else {
+        return None;
+    };
+    if name.as_str() == option.name() {
+        return Some(value.as_str());
+    }
+    value_of(others, option)
+}
+
+/// Whether words are pairs of an option and a value, in which no option stands twice.
+pub(crate) fn are_settings(settings: &[String]) -> bool
+    ensures { result ≡ are_settings (map string_bytes settings.now) }
+{
+    let [name, _value, others @ ..] = settings else {
+        return settings.is_empty();
+    };
+    match option_named(name.as_str()) {
+        None => false,
+        Some(option) => value_of(others, option).is_none() && are_settings(others),
+    }
+}
+
+/// Words are read as the one line that they are: a command and settings, in which no option stands
+/// twice; and the value of an option is that of its setting.
+pub fn line_is_a_command_and_its_settings()
+    ensures accepted { (words : List (List ℕ)) (command : List ℕ) (given : List Setting) →
+        IsLine words command given → (rest : List (List ℕ)) → words ≡ command ∷ rest →
+        IsTrue (are_settings rest) × ((option : OptionName) → value_of rest option ≡ value_in given option) }
+    ensures only { (command : List ℕ) (rest : List (List ℕ)) → IsTrue (are_settings rest) →
+        (given : List Setting) × IsLine (command ∷ rest) command given }
+{}

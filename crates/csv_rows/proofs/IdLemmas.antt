@@ -1,0 +1,154 @@
+-- Ids by their numbers, and ids that stand twice.
+use Rattle.std.proofs.Common.{◌≡◌, ℕ, ◌+◌, ◌<◌, ◌≤◌, ◌==◌, ◌&&◌, Bool, true, false, List, [], ◌∷◌, ◌++◌, length, slice_index_or, Option, Some, None, IfSome, IfNone, Contains, refl, sym, ap, ap₂, ◌∙◌, subst, arith, ⊎_elim, bytes_eq, if◌then◌else◌, add-one, length-append}
+use Rattle.std.specs.Prelude.{slice_get}
+use Rattle.std.proofs.lemmas.Bool.{cases_lt}
+use Rattle.std.proofs.lemmas.Bool.Decides.{nat_tests}
+use Rattle.std.proofs.lemmas.List.{get_or_default, get_or_append_left, get_or_push}
+use Rattle.std.proofs.lemmas.Option.{slice_get_cases, none-some}
+use Rattle.std.proofs.lemmas.Slice.Eq.{bytes_eq-Decides}
+use Rattle.csv_rows.specs.declared.feed_tables.Table.{Table}
+use Rattle.csv_rows.specs.declared.feed_tables.FeedFault.{FeedFault}
+use Rattle.csv_rows.specs.declared.feed_tables.FeedFault.TheVariants.{DuplicateKey}
+use Rattle.csv_rows.specs.First.{or_else, first_below, any_below}
+use Rattle.csv_rows.specs.Tables.{place_in}
+use Rattle.csv_rows.proofs.FirstLemmas.{any-true, any-false, any-one, any-none, first-is, first-suc, first-same, none-each, true_or_false}
+use Rattle.csv_rows.proofs.PlaceLemmas.{place_is}
+use Rattle.plan_model.specs.NameLists.{AreDistinct}
+use Rattle.csv_rows.specs.RowFaults.{repeated_id}
+use Rattle.csv_rows.specs.Lists.{list_below}
+use Rattle.csv_rows.proofs.ListLemmas.{length-list_below, get-list_below}
+
+-- what stands at a place where something stands
+pub got : {A : Type 0} (xs : List A) (i : ℕ) (x d : A) → slice_get xs i ≡ Some x → (i < length xs) × (slice_index_or xs i d ≡ x)
+got xs i x d h =
+    ⊎_elim (λ w. (
+      w.1,
+      get_or_default xs i d w.0 w.1 ∙ w.3 ∙ (let e : Some w.0 ≡ Some x = sym w.2 ∙ h in cc),
+    ))
+    (λ w. let never : ⊥ = none-some x (sym w.1 ∙ h) in absurd never)
+    (slice_get_cases xs i).1
+
+-- where an id is found
+pub number_is : (o : Option ℕ) (name : List ℕ) (names : List (List ℕ)) → AreDistinct names → IfSome o (λ i. slice_get names i ≡ Some name)
+    → IfNone o (Contains names name → ⊥) → o ≡ place_in name names
+number_is None name names distinct found absent =
+    place_is None name names tt tt (λ k inside same. absent (k, inside, get_or_default names k name [] inside ∙ same))
+number_is (Some i) name names distinct found absent =
+    let here = got names i name [] found in
+    place_is (Some i) name names here (λ k less same. distinct k i less here.0 (same ∙ sym here.1)) tt
+
+pub found : (keys names : List (List ℕ)) (name : List ℕ) (i : ℕ) → AreDistinct keys → keys ≡ names → slice_get keys i ≡ Some name → Some i ≡ place_in name names
+found keys names name i distinct same here = number_is (Some i) name keys distinct here tt ∙ ap (place_in name) same
+
+dup : Table → ℕ → Bool → Option FeedFault
+dup table i b = if b then Some (DuplicateKey table (i + 2)) else None
+
+-- a row whose id is new
+pub not_repeated : (table : Table) (id : ℕ → List ℕ) (i : ℕ) (old : List (List ℕ)) (x : List ℕ) → old ≡ list_below id i → x ≡ id i → (Contains old x → ⊥)
+    → repeated_id table id i ≡ None
+unfolding repeated_id dup
+not_repeated table id i old x e same absent =
+    ap (dup table i) (any-false (λ j. bytes_eq (id j) (id i)) i (λ j less t.
+    let here : slice_index_or old j x ≡ x = ap (λ xs. slice_index_or xs j x) e ∙ get-list_below id i j x less ∙ (bytes_eq-Decides (id j) (id i)).0 t ∙ sym same in
+    absent (j, omega (arith, ap length e, length-list_below id i), here)))
+
+-- and one whose id is not
+pub repeated : (table : Table) (id : ℕ → List ℕ) (i : ℕ) (old : List (List ℕ)) (x : List ℕ) → old ≡ list_below id i → x ≡ id i → Contains old x
+    → repeated_id table id i ≡ Some (DuplicateKey table (i + 2))
+unfolding repeated_id dup
+repeated table id i old x e same there =
+    let inside : there.0 < i = omega (arith, there.1, ap length e, length-list_below id i) in
+    let here : id there.0 ≡ id i = sym (get-list_below id i there.0 x inside) ∙ sym (ap (λ xs. slice_index_or xs there.0 x) e) ∙ there.2 ∙ same in
+    ap (dup table i) (any-true (λ j. bytes_eq (id j) (id i)) i there.0 inside ((bytes_eq-Decides (id there.0) (id i)).1 here))
+
+-- ids of which none stands twice
+pub ids_differ : (table : Table) (id : ℕ → List ℕ) (n : ℕ) → first_below (repeated_id table id) n ≡ None → (i j : ℕ) → i < j → j < n → id i ≡ id j → ⊥
+unfolding repeated_id dup
+ids_differ table id n none i j less inside same =
+    let here = none-each (repeated_id table id) n none j inside in
+    let there = any-true (λ k. bytes_eq (id k) (id j)) j i less ((bytes_eq-Decides (id i) (id j)).1 same) in
+    let found : Some (DuplicateKey table (j + 2)) ≡ None = sym (ap (dup table j) there) ∙ here in cc
+
+one_of : (table : Table) (id : ℕ → List ℕ) (n : ℕ) → first_below (repeated_id table id) n ≡ None → (i j : ℕ) → i < n → j < n → id i ≡ id j → i ≡ j
+one_of table id n none i j a b same =
+    ⊎_elim (λ (less : i < j). absurd (ids_differ table id n none i j less b same))
+    (λ (ge : j ≤ i). ⊎_elim (λ (less : j < i). absurd (ids_differ table id n none j i less a (sym same))) (λ (le : i ≤ j). omega arith) (cases_lt j i))
+    (cases_lt i j)
+
+place_test : List (List ℕ) → List ℕ → ℕ → Option ℕ
+place_test names name k = if bytes_eq (slice_index_or names k []) name then Some k else None
+
+some_test : (b : Bool) (i k : ℕ) → (if b then Some i else None) ≡ Some k → (b ≡ true) × (i ≡ k)
+some_test true i k e = (refl, cc)
+some_test false i k e = absurd (cc)
+
+none_test : (b : Bool) (i : ℕ) → (if b then Some i else None) ≡ None → b ≡ false
+none_test true i e = absurd (cc)
+none_test false i e = refl
+
+-- what stands at the place of a name
+pub place-here : (name : List ℕ) (names : List (List ℕ)) (k : ℕ) → place_in name names ≡ Some k → (k < length names) × (slice_index_or names k [] ≡ name)
+unfolding place_in place_test
+place-here name names k h =
+    let w = first-is (place_test names name) (length names) k h in
+    let t = some_test (bytes_eq (slice_index_or names w.place []) name) w.place k w.here in
+    let here : slice_index_or names w.place [] ≡ name = (bytes_eq-Decides (slice_index_or names w.place []) name).0 t.0 in
+    (omega (arith, w.inside, t.1), (let P : ℕ → Type 0 = λ i. slice_index_or names i [] ≡ name in subst P t.1 here))
+
+-- a name that has no place stands nowhere
+pub place-none : (name : List ℕ) (names : List (List ℕ)) → place_in name names ≡ None → (k : ℕ) → k < length names → bytes_eq (slice_index_or names k []) name ≡ false
+unfolding place_in place_test
+place-none name names h k l = none_test (bytes_eq (slice_index_or names k []) name) k (none-each (place_test names name) (length names) h k l)
+
+-- one more name
+pub place-push : (name : List ℕ) (names : List (List ℕ)) (x : List ℕ) → place_in name (names ++ x ∷ []) ≡ or_else (place_in name names) (if bytes_eq x name then Some (length names) else None)
+unfolding place_in place_test
+place-push name names x =
+    let n = length names in
+    let size : length (names ++ x ∷ []) ≡ n + 1 = length-append names (x ∷ []) in
+    let f : ℕ → Option ℕ = place_test (names ++ x ∷ []) name in
+    ap (first_below f) size
+    ∙ rw add-one (first-suc f n)
+    ∙ ap₂ or_else
+    (first-same f (place_test names name) n (λ k l. ap (λ (y : List ℕ). if bytes_eq y name then Some k else None) (get_or_append_left names (x ∷ []) [] k l)))
+    (ap (λ (y : List ℕ). if bytes_eq y name then Some n else None) (get_or_push names x [] n refl))
+
+-- an id among those of a table without repetition is that of one row
+pub one_row : (table : Table) (id : ℕ → List ℕ) (n : ℕ) (name : List ℕ) (q : ℕ → Bool) → first_below (repeated_id table id) n ≡ None → (k : ℕ) → place_in name (list_below id n) ≡ Some k
+    → any_below (λ i. bytes_eq (id i) name && q i) n ≡ q k
+one_row table id n name q none k h =
+    let w = place-here name (list_below id n) k h in
+    let inside : k < n = omega (arith, w.0, length-list_below id n) in
+    let here : id k ≡ name = sym (get-list_below id n k [] inside) ∙ w.1 in
+    any-one (λ i. bytes_eq (id i) name) q n k inside ((bytes_eq-Decides (id k) name).1 here)
+    (λ j less t. one_of table id n none j k less inside ((bytes_eq-Decides (id j) name).0 t ∙ sym here))
+
+-- and one that is not is that of none
+pub no_row : (id : ℕ → List ℕ) (n : ℕ) (name : List ℕ) (q : ℕ → Bool) → place_in name (list_below id n) ≡ None → any_below (λ i. bytes_eq (id i) name && q i) n ≡ false
+no_row id n name q h =
+    any-none (λ i. bytes_eq (id i) name) q n (λ j less t.
+    let f = place-none name (list_below id n) h j (omega (arith, length-list_below id n, less)) in
+    let g : bytes_eq (id j) name ≡ false = ap (λ (y : List ℕ). bytes_eq y name) (sym (get-list_below id n j [] less)) ∙ f in cc)
+
+-- two places are one where the names are
+pub place-same : (x y : List ℕ) (names : List (List ℕ)) (m k : ℕ) → place_in x names ≡ Some m → place_in y names ≡ Some k → (m == k) ≡ bytes_eq x y
+place-same x y names m k h g =
+    let a = place-here x names m h in
+    let b = place-here y names k g in
+    ⊎_elim (λ (t : bytes_eq x y ≡ true).
+    let e : x ≡ y = (bytes_eq-Decides x y).0 t in
+    let s : Some m ≡ Some k = sym h ∙ ap (λ z. place_in z names) e ∙ g in
+    let same : m ≡ k = cc in
+    num_eq m k same ∙ sym t)
+    (λ (f : bytes_eq x y ≡ false).
+    num_ne m k (λ e.
+    let P : ℕ → Type 0 = λ i. slice_index_or names i [] ≡ y in
+    let same : x ≡ y = sym a.1 ∙ subst P (sym e) b.1 in
+    let t = (bytes_eq-Decides x y).1 same in cc) ∙ sym f)
+    (true_or_false (bytes_eq x y))
+  where
+    num_eq : (a b : ℕ) → a ≡ b → (a == b) ≡ true
+    num_eq a b h = grind (arith, nat_tests)
+
+    num_ne : (a b : ℕ) → (a ≡ b → ⊥) → (a == b) ≡ false
+    num_ne a b h = grind (arith, nat_tests)

@@ -1,0 +1,36 @@
+use Rattle.std.proofs.Common.{None, Some, sym, ap, ◌∙◌, arith, length, subst}
+use Rattle.plan_model.specs.NameLists.{Adds}
+use Rattle.csv_rows.specs.declared.feed_tables.FeedFault.TheVariants.{DuplicateKey}
+use Rattle.csv_rows.specs.Tables.{row_count, field_at}
+use Rattle.csv_rows.proofs.FirstLemmas.{first-zero, first-next, first-at}
+use Rattle.csv_rows.specs.RowFaults.{repeated_id}
+use Rattle.csv_rows.proofs.ListLemmas.{list_below-zero, list_below-next, length-list_below}
+use Rattle.csv_rows.proofs.IdLemmas.{not_repeated, repeated}
+use Rattle.csv_rows.proofs.ids.read_ids.Goals as goal
+
+pub loop-i-init : goal.loop-i-init
+loop-i-init c =
+    let id = field_at c.args.rows.now c.args.column in
+    record { ids = c.new-ids.ensures ∙ sym (list_below-zero id); none = first-zero (repeated_id c.args.table id) }
+
+pub add-requires : goal.add-requires
+add-requires c =
+    omega (arith, c.requires.few, ap length c.loop-i.invariant.ids, length-list_below (field_at c.args.rows.now c.args.column) c.loop-i.i)
+
+pub loop-i-preserved : goal.loop-i-preserved
+loop-i-preserved c =
+    let id = field_at c.args.rows.now c.args.column in
+    let added = subst (Adds c.loop-i.ids c.add.new.self c.name_at.result.now) c.in-Ok-true.field-0-test c.in-Ok-true.ensures.added in
+    record {
+      ids = list_below-next id c.loop-i.i c.loop-i.ids c.add.new.self c.name_at.result.now c.loop-i.invariant.ids added.0 c.name_at.ensures;
+      none = first-next (repeated_id c.args.table id) c.loop-i.i None c.loop-i.invariant.none
+          (not_repeated c.args.table id c.loop-i.i c.loop-i.ids c.name_at.result.now c.loop-i.invariant.ids c.name_at.ensures added.1);
+    }
+
+pub returns-in-Ok-false-clause-fault : goal.returns-in-Ok-false-clause-fault
+returns-in-Ok-false-clause-fault c = λ free.
+    let id = field_at c.args.rows.now c.args.column in
+    let added = subst (Adds c.loop-i.ids c.add.new.self c.name_at.result.now) c.in-Ok-false.field-0-test c.in-Ok-false.ensures.added in
+    first-at (repeated_id c.args.table id) c.loop-i.i (row_count c.args.rows.now) (DuplicateKey c.args.table c.line.result) (omega arith) c.loop-i.invariant.none
+    (repeated c.args.table id c.loop-i.i c.loop-i.ids c.name_at.result.now c.loop-i.invariant.ids c.name_at.ensures added.1
+    ∙ ap (λ n. Some (DuplicateKey c.args.table n)) (sym c.line.ensures))

@@ -1,0 +1,127 @@
+//! Ids, numbered in the order in which they stand in a table.
+ghost use Rattle.std.specs.Prelude.{◌≡◌, ◌≢◌, ◌<◌, ◌-◌, ◌^◌, ℕ, [], length, None, Some, IfOk, IfErr, IfSome, OnOk, OnErr, slice_get};
+ghost use Rattle.csv_rows.specs.First.{first_below};
+ghost use Rattle.csv_rows.specs.FeedTables.{unread_of};
+ghost use Rattle.csv_rows.specs.Names.{name_in};
+ghost use Rattle.csv_rows.specs.Tables.{row_count, place_in, field_at};
+ghost use Rattle.plan_model.specs.NameLists.{Adds, AreDistinct};
+ghost use Rattle.csv_rows.specs.RowFaults.{repeated_id};
+ghost use Rattle.csv_rows.specs.Lists.{list_below};
+
+use crate::feed_tables::{FeedFault, Table};
+use crate::names::read_name;
+use crate::rows::Rows;
+use indexmap::IndexSet;
+use plan_model::NoMemory;
+use std::alloc::Global;
+use std::marker::Model;
+
+/// Distinct ids, of which each has its place as its number.
+#[derive(Drop)]
+pub struct Ids {
+    ids: IndexSet<String>,
+}
+
+impl Model for Ids {
+    ghost use Rattle.std.specs.Prelude.{ℕ, List};
+
+    ghost Value = { List (List ℕ) };
+
+    ghost use Rattle.csv_rows.specs.Ids.{ids_of, AreIds};
+
+    ghost view = { ids_of };
+
+    ghost invariant = { AreIds };
+}
+
+impl Ids {
+    /// No ids.
+    pub fn new(alloc: Global) -> Ids
+        ensures { result ≡ [] }
+    {
+        Ids {
+            ids: IndexSet::new(alloc),
+        }
+    }
+
+    /// Adds an id at the end, and says whether it is new.
+    pub fn add(&mut self, alloc: Global, id: &str) -> Result<bool, NoMemory>
+        requires { length self.old < 2 ^ 32 - 1 }
+        ensures added { IfOk result (Adds self.old self.new id.now) }
+        ensures err { OnErr result (self.new ≡ self.old) }
+    {
+        if self.ids.contains(id) {
+            return Ok(false);
+        }
+        let id = String::from_str(alloc, id)?;
+        self.ids.insert(id)?;
+        Ok(true)
+    }
+
+    /// How many there are.
+    pub fn len(&self) -> u32
+        ensures count { result ≡ length self.now }
+        ensures distinct { AreDistinct self.now }
+    {
+        self.ids.len() as u32
+    }
+
+    /// The number of an id, if it is there.
+    pub fn number(&self, id: &str) -> Option<u32>
+        ensures place { result ≡ place_in id.now self.now }
+        ensures inside { IfSome result (λ number. number < length self.now) }
+    {
+        match self.ids.get_index_of(id) {
+            None => None,
+            Some(number) => Some(number as u32),
+        }
+    }
+
+    /// The id with this number.
+    pub fn get(&self, number: u32) -> &str
+        requires { number < length self.now }
+        ensures { slice_get self.now number ≡ Some result.now }
+    {
+        self.ids.as_slice()[number as usize].as_str()
+    }
+}
+
+/// The name of a row that has one.
+fn name_at(rows: &Rows, row: usize, column: Option<usize>) -> &str
+    requires inside { row < row_count rows.now }
+    requires named { name_in (field_at rows.now column row) ≡ Some (field_at rows.now column row) }
+    ensures { result.now ≡ field_at rows.now column row }
+{
+    match read_name(rows.field_at(row, column)) {
+        Some(name) => name,
+        None => unreachable!(),
+    }
+}
+
+/// The ids of all rows, or the first row whose id stands in an earlier one.
+pub fn read_ids(
+    alloc: Global,
+    rows: &Rows,
+    table: Table,
+    column: Option<usize>,
+) -> Result<Ids, FeedFault>
+    requires few { row_count rows.now < 2 ^ 32 - 1 }
+    requires named { (i : ℕ) → i < row_count rows.now
+        → name_in (field_at rows.now column i) ≡ Some (field_at rows.now column i) }
+    ensures ids { IfOk result (λ ids. ids ≡ list_below (field_at rows.now column) (row_count rows.now)) }
+    ensures none { OnOk result
+        (first_below (repeated_id table (field_at rows.now column)) (row_count rows.now) ≡ None) }
+    ensures fault { IfErr result (λ f. f ≢ FeedFault.NoMemory
+        → first_below (repeated_id table (field_at rows.now column)) (row_count rows.now) ≡ Some f) }
+    ensures content { IfErr result (λ f. unread_of f ≡ None) }
+{
+    let mut ids = Ids::new(alloc);
+    for i in 0..rows.count() {
+        match ids.add(alloc, name_at(rows, i, column)) {
+            Err(_) => return Err(FeedFault::NoMemory),
+            Ok(true) => {}
+            Ok(false) => return Err(FeedFault::DuplicateKey(table, rows.line(i))),
+        }
+    }
+    Ok(ids)
+}

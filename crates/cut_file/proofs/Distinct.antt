@@ -1,0 +1,67 @@
+-- Numbers of names: one for each name.
+use Rattle.std.proofs.Common.{◌≡◌, ℕ, zero, suc, ◌<◌, ◌≤◌, ◌==◌, Bool, true, false, List, [], ◌∷◌, ◌++◌, get_or, slice_get, Some, is_some, if◌then◌else◌, refl, sym, ap, ◌∙◌, subst, arith, ⊎_elim, Contains, bytes_eq}
+use Rattle.std.proofs.lemmas.Bool.{cases_lt}
+use Rattle.std.proofs.lemmas.Bool.Decides.{nat_tests}
+use Rattle.std.proofs.lemmas.Slice.Eq.{bytes_eq-Decides}
+use Rattle.std.proofs.lemmas.Option.{slice_get_within, get_or_from_slice_get, same_Some}
+use Rattle.plan_model.specs.NameLists.{AreDistinct}
+use Rattle.plan_model.proofs.Texts.{AreDistinct-push}
+use Rattle.csv_rows.specs.Tables.{place_in}
+use Rattle.csv_rows.proofs.FirstLemmas.{true_or_false}
+use Rattle.cut_file.specs.Faults.{row}
+use Rattle.cut_file.specs.Cut.{add_new, run_names, place_names}
+use Rattle.cut_file.proofs.NumberFacts.{there_place}
+
+push_if : (names : List (List ℕ)) (x : List ℕ) (b : Bool) → (b ≡ false → Contains names x → ⊥) → AreDistinct names → AreDistinct (if b then names else names ++ x ∷ [])
+push_if names x true absent d = d
+push_if names x false absent d = AreDistinct-push names x d (absent refl)
+
+true_is_not : (b : Bool) → b ≡ true → b ≡ false → ⊥
+true_is_not b h k = cc
+
+add_distinct : (names : List (List ℕ)) (x : List ℕ) → AreDistinct names → AreDistinct (add_new names x)
+unfolding add_new
+add_distinct names x d = push_if names x (is_some (place_in x names)) (λ none there. true_is_not (is_some (place_in x names)) (there_place names x there) none) d
+
+none_distinct : AreDistinct []
+none_distinct i j less inside same = absurd (omega arith)
+
+pub runs_distinct : (t : List (List (List ℕ))) (n : ℕ) → AreDistinct (run_names t n)
+unfolding run_names
+runs_distinct t zero = none_distinct
+runs_distinct t (suc n) = add_distinct (run_names t n) (row t n).run (runs_distinct t n)
+
+pub places_distinct : (t : List (List (List ℕ))) (n : ℕ) → AreDistinct (place_names t n)
+unfolding place_names
+places_distinct t zero = none_distinct
+places_distinct t (suc n) = add_distinct (add_new (place_names t n) (row t n).from) (row t n).to (add_distinct (place_names t n) (row t n).from (places_distinct t n))
+
+-- one name has one number
+pub one_number : (names : List (List ℕ)) → AreDistinct names → (a b : ℕ) (x : List ℕ) → slice_get names a ≡ Some x → slice_get names b ≡ Some x → a ≡ b
+one_number names d a b x h k =
+    let ga : get_or names a [] ≡ x = get_or_from_slice_get names a x [] h in
+    let gb : get_or names b [] ≡ x = get_or_from_slice_get names b x [] k in
+    let ia = slice_get_within names a x h in
+    let ib = slice_get_within names b x k in
+    ⊎_elim (λ (less : a < b). absurd (d a b less ib (ga ∙ sym gb)))
+    (λ (ge : b ≤ a). ⊎_elim (λ (less : b < a). absurd (d b a less ia (gb ∙ sym ga))) (λ (le : a ≤ b). omega arith) (cases_lt b a))
+    (cases_lt a b)
+
+num_eq : (a b : ℕ) → a ≡ b → (a == b) ≡ true
+num_eq a b h = grind (arith, nat_tests)
+
+num_ne : (a b : ℕ) → (a ≡ b → ⊥) → (a == b) ≡ false
+num_ne a b h = grind (arith, nat_tests)
+
+-- so names are compared by their numbers
+pub same_name : (names : List (List ℕ)) → AreDistinct names → (a b : ℕ) (x y : List ℕ) → slice_get names a ≡ Some x → slice_get names b ≡ Some y → bytes_eq x y ≡ (a == b)
+same_name names d a b x y h k =
+    ⊎_elim (λ (t : bytes_eq x y ≡ true).
+    let e : x ≡ y = (bytes_eq-Decides x y).0 t in
+    t ∙ sym (num_eq a b (one_number names d a b y (h ∙ ap Some e) k)))
+    (λ (f : bytes_eq x y ≡ false).
+    f ∙ sym (num_ne a b (λ e.
+    let P : ℕ → Type 0 = λ i. slice_get names i ≡ Some y in
+    let s : x ≡ y = same_Some x y (sym h ∙ subst P (sym e) k) in
+    true_is_not (bytes_eq x y) ((bytes_eq-Decides x y).1 s) f)))
+    (true_or_false (bytes_eq x y))

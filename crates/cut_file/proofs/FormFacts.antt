@@ -1,0 +1,89 @@
+-- What the forms of the fields bound.
+use Rattle.std.proofs.Common.{◌≡◌, ℕ, ◌+◌, ◌<◌, ◌≤◌, Bool, true, false, ◌==◌, nat_lt, List, length, Option, Some, None, Result, Ok, Err, IfSome, option_map, if◌then◌else◌, refl, subst, arith}
+use Rattle.std.proofs.lemmas.Bool.Decides.{nat_tests}
+use Rattle.csv_rows.specs.declared.columns.Column.{Column}
+use Rattle.csv_rows.specs.declared.columns.Column.TheVariants.{Class, Run, Step, From, To, Dep, Arr, Board, Exit, Change}
+use Rattle.delay_table.proofs.LineFacts.{whole_bound}
+use Rattle.clock_text.specs.Digits.{whole_of}
+use Rattle.clock_text.specs.Times.{moment_at}
+use Rattle.csv_rows.specs.First.{read}
+use Rattle.std.specs.Str.{is_utf8}
+use Rattle.csv_rows.specs.Names.{name_in}
+use Rattle.cut_file.specs.Forms.{before_end, early, class_in, flag_in, change_in}
+use Rattle.cut_file.specs.Rows.{Row, row_from, row_at}
+use Rattle.cut_file.specs.Faults.{bad_of, bad_field, row_of, row}
+use Rattle.csv_rows.specs.Tables.{field}
+
+-- what the fields of a row in form say of it
+pub record InForm (run from to : List ℕ) (r : Row) : Type 0 where
+  pub run_name : r.run ≡ run
+  pub from_name : r.from ≡ from
+  pub to_name : r.to ≡ to
+  pub step : r.step < 1000000000
+  pub arr : r.arr < 13601088000
+  pub change : IfSome r.change (λ s. s ≤ 86400)
+
+read_inv : {A : Type 0} (P : Row → Type 0) (o : Option A) (column : Column) (rest : A → Result Row Column) → ((a : A) → o ≡ Some a → (r : Row) → rest a ≡ Ok r → P r) → (r : Row) → read o column rest ≡ Ok r → P r
+read_inv P None column rest h r e = absurd (cc)
+read_inv P (Some a) column rest h r e = h a refl r e
+
+name_if : (empty utf8 : Bool) (text x : List ℕ) → (if empty then None else if utf8 then Some text else None) ≡ Some x → x ≡ text
+name_if true utf8 text x h = absurd (cc)
+name_if false true text x h = cc
+name_if false false text x h = absurd (cc)
+
+-- a name is its field
+name_is : (text x : List ℕ) → name_in text ≡ Some x → x ≡ text
+name_is text x h = name_if (length text == 0) (is_utf8 text) text x h
+
+lt_test : (a b : ℕ) → nat_lt a b ≡ true → a < b
+lt_test a b h = grind (arith, nat_tests)
+
+end_if : (b : Bool) (m : ℕ) → (b ≡ true → m < 13601088000) → IfSome (if b then Some m else None) (λ x. x < 13601088000)
+end_if true m h = h refl
+end_if false m h = tt
+
+end_bound : (o : Option ℕ) → IfSome (before_end o) (λ x. x < 13601088000)
+end_bound None = tt
+end_bound (Some m) = end_if (nat_lt m 13601088000) m (lt_test m 13601088000)
+
+change_some : (o : Option ℕ) → IfSome o (λ s. s ≤ 86400) → IfSome (option_map Some o) (λ x. IfSome x (λ s. s ≤ 86400))
+change_some None h = tt
+change_some (Some s) h = h
+
+change_if : (b : Bool) (o : Option ℕ) → IfSome o (λ s. s ≤ 86400) → IfSome (if b then Some None else option_map Some o) (λ x. IfSome x (λ s. s ≤ 86400))
+change_if true o h = tt
+change_if false o h = change_some o h
+
+at_some : {A : Type 0} (P : A → Type 0) (o : Option A) (a : A) → IfSome o P → o ≡ Some a → P a
+at_some P o a h e = let Q : Option _ → Type 0 = λ x. IfSome x P in subst Q e h
+
+same_ok : (x r : Row) → ◌≡◌ {A = Result Row Column} (Ok x) (Ok r) → x ≡ r
+same_ok x r e = cc
+
+pub row_form : (a b c d e f g h j k : List ℕ) (r : Row) → row_from a b c d e f g h j k ≡ Ok r → InForm a c d r
+row_form a b c d e f g h j k =
+    read_inv (InForm a c d) (name_in a) Run _ (λ run p1.
+    read_inv (InForm a c d) (whole_of 999999999 b) Step _ (λ step p2.
+    read_inv (InForm a c d) (name_in c) From _ (λ from p3.
+    read_inv (InForm a c d) (name_in d) To _ (λ to p4.
+    read_inv (InForm a c d) (early e) Dep _ (λ dep p5.
+    read_inv (InForm a c d) (early f) Arr _ (λ arr p6.
+    read_inv (InForm a c d) (class_in g) Class _ (λ class p7.
+    read_inv (InForm a c d) (flag_in h) Board _ (λ board p8.
+    read_inv (InForm a c d) (flag_in j) Exit _ (λ exit p9.
+    read_inv (InForm a c d) (change_in k) Change _ (λ change p10 r q.
+    let low : step ≤ 999999999 = at_some (λ (n : ℕ). n ≤ 999999999) (whole_of 999999999 b) step (whole_bound 999999999 b) p2 in
+    let early_arr : arr < 13601088000 = at_some (λ (n : ℕ). n < 13601088000) (early f) arr (end_bound (moment_at f)) p6 in
+    let small = at_some (λ (x : Option ℕ). IfSome x (λ s. s ≤ 86400)) (change_in k) change (change_if (length k == 0) (whole_of 86400 k) (whole_bound 86400 k)) p10 in
+    subst (InForm a c d) (same_ok _ r q) (record { run_name = name_is a run p1; from_name = name_is c from p3; to_name = name_is d to p4; step = omega arith; arr = early_arr; change = small })))))))))))
+
+ok_form : (P : Row → Type 0) (o : Result Row Column) (line : ℕ) → bad_of o line ≡ None → ((r : Row) → o ≡ Ok r → P r) → P (row_of o)
+ok_form P (Ok r) line h k = k r refl
+ok_form P (Err column) line h k = absurd (cc)
+
+-- a row with no bad field is in form
+pub row_in_form : (t : List (List (List ℕ))) (i : ℕ) → bad_field t i ≡ None → InForm (field t Run i) (field t From i) (field t To i) (row t i)
+unfolding row_at bad_field row
+row_in_form t i h =
+    ok_form (InForm (field t Run i) (field t From i) (field t To i)) (row_at t i) (i + 2) h (λ r e. row_form (field t Run i) (field t Step i) (field t From i) (field t To i) (field t Dep i) (field t Arr i) (field t Class i) (field t Board i) (field t Exit i) (field t Change i) r e)

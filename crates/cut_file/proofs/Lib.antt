@@ -1,0 +1,16 @@
+pub mod NumberFacts
+pub mod RowFacts
+pub mod SortFacts
+pub mod Soonest
+pub mod Before
+pub mod Distinct
+pub mod Repeats
+pub mod Misfits
+pub mod CheckedFacts
+pub mod ChangeFacts
+pub mod FormFacts
+pub mod Occurs
+pub mod Valid
+pub mod Made
+pub mod Fit
+pub mod NetworkFacts

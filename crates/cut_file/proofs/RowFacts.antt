@@ -1,0 +1,77 @@
+-- The rows, one more at a time.
+use Rattle.std.proofs.Common.{◌≡◌, ℕ, ◌+◌, ◌<◌, ◌≤◌, List, [], ◌∷◌, ◌++◌, length, get_or, Some, None, Result, Ok, Err, refl, sym, ap, ◌∙◌, subst, arith, ⊎_elim, add-one}
+use Rattle.std.proofs.lemmas.Bool.{cases_lt}
+use Rattle.std.proofs.lemmas.List.{get_or_append_left, get_or_push}
+use Rattle.csv_rows.specs.declared.columns.Column.{Column}
+use Rattle.csv_rows.specs.declared.columns.Column.TheVariants.{Class, Run, Step, From, To, Dep, Arr, Board, Exit, Change}
+use Rattle.csv_rows.specs.Tables.{field}
+use Rattle.cut_file.specs.declared.rows.CutRow.{CutRow}
+use Rattle.cut_file.specs.declared.faults.CutFault.TheVariants.{BadField}
+use Rattle.cut_file.specs.Rows.{Row, row_from, row_at}
+use Rattle.cut_file.specs.Faults.{bad_of, bad_field, row_of, row}
+use Rattle.cut_file.specs.Cut.{add_new, run_names, place_names, IsNumbered}
+use Rattle.cut_file.proofs.NumberFacts.{numbered_grows}
+
+-- a row by its fields
+pub row_here : (t : List (List (List ℕ))) (i : ℕ) (o : Result Row Column) (a b c d e f g h j k : List ℕ) → row_from a b c d e f g h j k ≡ o
+    → a ≡ field t Run i → b ≡ field t Step i → c ≡ field t From i → d ≡ field t To i → e ≡ field t Dep i → f ≡ field t Arr i
+    → g ≡ field t Class i → h ≡ field t Board i → j ≡ field t Exit i → k ≡ field t Change i → row_at t i ≡ o
+unfolding row_at
+row_here t i o a b c d e f g h j k q pa pb pc pd pe pf pg ph pj pk =
+    let A = field t Run i in let B = field t Step i in let C = field t From i in let D = field t To i in let E = field t Dep i in
+    let F = field t Arr i in let G = field t Class i in let H = field t Board i in let J = field t Exit i in
+    sym (ap (λ x. row_from x b c d e f g h j k) pa ∙ ap (λ x. row_from A x c d e f g h j k) pb ∙ ap (λ x. row_from A B x d e f g h j k) pc
+    ∙ ap (λ x. row_from A B C x e f g h j k) pd ∙ ap (λ x. row_from A B C D x f g h j k) pe ∙ ap (λ x. row_from A B C D E x g h j k) pf
+    ∙ ap (λ x. row_from A B C D E F x h j k) pg ∙ ap (λ x. row_from A B C D E F G x j k) ph ∙ ap (λ x. row_from A B C D E F G H x k) pj
+    ∙ ap (λ x. row_from A B C D E F G H J x) pk) ∙ q
+
+pub bad_here : (t : List (List (List ℕ))) (i : ℕ) (column : Column) → row_at t i ≡ Err column → bad_field t i ≡ Some (BadField (i + 2) column)
+unfolding bad_field
+bad_here t i column h = ap (λ r. bad_of r (i + 2)) h
+
+pub good_here : (t : List (List (List ℕ))) (i : ℕ) (r : Row) → row_at t i ≡ Ok r → bad_field t i ≡ None
+unfolding bad_field
+good_here t i r h = ap (λ r. bad_of r (i + 2)) h
+
+pub row_is : (t : List (List (List ℕ))) (i : ℕ) (r : Row) → row_at t i ≡ Ok r → row t i ≡ r
+unfolding row
+row_is t i r h = ap row_of h
+
+pub run_names-zero : (t : List (List (List ℕ))) → run_names t 0 ≡ []
+unfolding run_names
+run_names-zero t = refl
+
+pub place_names-zero : (t : List (List (List ℕ))) → place_names t 0 ≡ []
+unfolding place_names
+place_names-zero t = refl
+
+pub run_names-next : (t : List (List (List ℕ))) (i : ℕ) (r : Row) (old new : List (List ℕ)) → row_at t i ≡ Ok r → old ≡ run_names t i → new ≡ add_new old r.run → new ≡ run_names t (i + 1)
+unfolding run_names
+run_names-next t i r old new h e f = rw add-one (f ∙ ap (λ x. add_new x r.run) e ∙ ap (λ (x : Row). add_new (run_names t i) x.run) (sym (row_is t i r h)))
+
+pub place_names-next : (t : List (List (List ℕ))) (i : ℕ) (r : Row) (old new : List (List ℕ)) → row_at t i ≡ Ok r → old ≡ place_names t i → new ≡ add_new (add_new old r.from) r.to → new ≡ place_names t (i + 1)
+unfolding place_names
+place_names-next t i r old new h e f =
+    rw add-one (f ∙ ap (λ x. add_new (add_new x r.from) r.to) e ∙ ap (λ (x : Row). add_new (add_new (place_names t i) x.from) x.to) (sym (row_is t i r h)))
+
+-- each row has its numbers, after one more
+pub each_next : (t : List (List (List ℕ))) (i : ℕ) (r : Row) (runs places runs' places' : List (List ℕ)) (old new : List CutRow) (c : CutRow)
+    → row_at t i ≡ Ok r → length old ≡ i → ((k : ℕ) (d : CutRow) → k < i → IsNumbered runs places (row t k) (get_or old k d))
+    → runs' ≡ add_new runs r.run → places' ≡ add_new (add_new places r.from) r.to → new ≡ old ++ c ∷ [] → IsNumbered runs' places' r c
+    → (k : ℕ) (d : CutRow) → k < i + 1 → IsNumbered runs' places' (row t k) (get_or new k d)
+each_next t i r runs places runs' places' old new c h size each e f g here k d l =
+    let P : List CutRow → Type 0 = λ xs. IsNumbered runs' places' (row t k) (get_or xs k d) in
+    subst P (sym g)
+    (⊎_elim (λ (before : k < i).
+    let Q : CutRow → Type 0 = λ x. IsNumbered runs' places' (row t k) x in
+    let R : List (List ℕ) → Type 0 = λ xs. IsNumbered xs places' (row t k) (get_or old k d) in
+    let S : List (List ℕ) → Type 0 = λ xs. IsNumbered (add_new runs r.run) xs (row t k) (get_or old k d) in
+    subst Q (sym (get_or_append_left old (c ∷ []) d k (omega arith)))
+    (subst R (sym e) (subst S (sym f) (numbered_grows runs places r.run r.from r.to (row t k) (get_or old k d) (each k d before)))))
+    (λ (end : i ≤ k).
+    let same : i ≡ k = omega arith in
+    let Q : CutRow → Type 0 = λ x. IsNumbered runs' places' (row t k) x in
+    let T : Row → Type 0 = λ x. IsNumbered runs' places' x c in
+    let U : ℕ → Type 0 = λ m. IsNumbered runs' places' (row t m) c in
+    subst Q (sym (get_or_push old c d k (size ∙ same))) (subst U same (subst T (sym (row_is t i r h)) here)))
+    (cases_lt k i))

@@ -1,0 +1,233 @@
+-- The network of a cut file with no fault is valid.
+use Rattle.std.proofs.Common.{◌≡◌, ℕ, zero, suc, ◌+◌, ◌-◌, ◌<◌, ◌≤◌, ◌==◌, inl, inr, nat_lt, Bool, true, false, List, [], length, slice_get, slice_index_or, Option, Some, None, IfSome, if◌then◌else◌, refl, sym, ap, ◌∙◌, subst, arith, ⊎_elim}
+use Rattle.std.proofs.lemmas.Bool.{cases_lt}
+use Rattle.std.proofs.lemmas.Bool.Decides.{nat_tests}
+use Rattle.std.proofs.lemmas.Option.{slice_get_within}
+use Rattle.plan_model.specs.Parts.{Parts}
+use Rattle.plan_model.specs.Rows.{IsValidRow}
+use Rattle.plan_model.specs.Network.{IsValid, IsValidConnection, count, connection, no_connection, row_of, run_of, step_of}
+use Rattle.plan_model.proofs.Local.{FitsNext, IsLocallyValid, IsValid-from_local}
+use Rattle.csv_rows.specs.First.{or_else, first_below}
+use Rattle.delay_table.specs.DelayLists.{DelayLists}
+use Rattle.delay_table.specs.Slots.{AreDelays}
+use Rattle.csv_rows.specs.Tables.{row_count}
+use Rattle.csv_rows.proofs.FirstLemmas.{none-each}
+use Rattle.cut_file.specs.declared.rows.CutRow.{CutRow}
+use Rattle.cut_file.specs.declared.order.Key.{Key}
+use Rattle.cut_file.specs.declared.faults.CutFault.{CutFault}
+use Rattle.cut_file.specs.declared.faults.CutFault.TheVariants.{TooManyRows, Backward, Broken}
+use Rattle.cut_file.specs.Faults.{row, missing_column, too_many_rows, bad_field, repeated_step, run_fault, first_fault}
+use Rattle.cut_file.specs.Keys.{cut_row, key_at, before_at, misfit, beside}
+use Rattle.cut_file.specs.Read.{Cut}
+use Rattle.cut_file.specs.Sound.{IsSound}
+use Rattle.cut_file.specs.Networks.{IsClass, IsConnection, IsNetwork, longest, change_by, change_from, seconds_of}
+use Rattle.cut_file.proofs.Before.{Tells, before_tells}
+use Rattle.cut_file.proofs.Repeats.{AreRead, no_repeat}
+use Rattle.cut_file.proofs.Misfits.{misfit_is}
+use Rattle.cut_file.proofs.CheckedFacts.{are_read}
+use Rattle.cut_file.proofs.Distinct.{one_number}
+use Rattle.cut_file.proofs.FormFacts.{row_in_form}
+use Rattle.cut_file.proofs.Occurs.{run_occurs, few_places}
+use Rattle.cut_file.proofs.ChangeFacts.{longest-zero, longest-suc}
+
+none_both : (a b : Option CutFault) → or_else a b ≡ None → (a ≡ None) × (b ≡ None)
+none_both None b h = (refl, h)
+none_both (Some x) b h = absurd (cc)
+
+if_none : (b : Bool) (e : CutFault) (o : Option CutFault) → (if b then Some e else o) ≡ None → (b ≡ false) × (o ≡ None)
+if_none true e o h = absurd (cc)
+if_none false e o h = (refl, h)
+
+le_test : (a b : ℕ) → nat_lt a b ≡ false → b ≤ a
+le_test a b h = grind (arith, nat_tests)
+
+pub record HasNone (t : List (List (List ℕ))) (limit : ℕ) : Type 0 where
+  pub few : row_count t ≤ limit
+  pub fields : first_below (bad_field t) (row_count t) ≡ None
+  pub steps : first_below (repeated_step t) (row_count t) ≡ None
+  pub runs : first_below (run_fault t) (row_count t) ≡ None
+
+has_none : (t : List (List (List ℕ))) (limit : ℕ) → first_fault t limit ≡ None → HasNone t limit
+unfolding first_fault
+has_none t limit h =
+    let a = none_both (missing_column t) (or_else (too_many_rows t limit) (or_else (first_below (bad_field t) (row_count t)) (or_else (first_below (repeated_step t) (row_count t)) (first_below (run_fault t) (row_count t))))) h in
+    let b = none_both (too_many_rows t limit) (or_else (first_below (bad_field t) (row_count t)) (or_else (first_below (repeated_step t) (row_count t)) (first_below (run_fault t) (row_count t)))) a.1 in
+    let c = none_both (first_below (bad_field t) (row_count t)) (or_else (first_below (repeated_step t) (row_count t)) (first_below (run_fault t) (row_count t))) b.1 in
+    let d = none_both (first_below (repeated_step t) (row_count t)) (first_below (run_fault t) (row_count t)) c.1 in
+    record { few = le_test limit (row_count t) (if_none (nat_lt limit (row_count t)) (TooManyRows (row_count t)) None b.0).0; fields = c.0; steps = d.0; runs = d.1 }
+
+-- what no fault beside the row before tells
+beside_none : (rows : List CutRow) (o : Option Key) (i : ℕ) → beside rows o i ≡ None → ((cut_row rows i).dep ≤ (cut_row rows i).arr) × IfSome o (λ b. (cut_row rows b.row).arr ≤ (cut_row rows i).dep)
+beside_none rows None i h =
+    let a = if_none (nat_lt (cut_row rows i).arr (cut_row rows i).dep) (Backward (i + 2)) None h in
+    (le_test (cut_row rows i).arr (cut_row rows i).dep a.0, tt)
+beside_none rows (Some b) i h =
+    let a = if_none (nat_lt (cut_row rows i).arr (cut_row rows i).dep) (Backward (i + 2)) (misfit (cut_row rows i) (cut_row rows b.row) (i + 2)) h in
+    let c = if_none (nat_lt (cut_row rows i).dep (cut_row rows b.row).arr) (Backward (i + 2)) (if (cut_row rows i).from == (cut_row rows b.row).to then None else Some (Broken (i + 2))) a.1 in
+    (le_test (cut_row rows i).arr (cut_row rows i).dep a.0, le_test (cut_row rows i).dep (cut_row rows b.row).arr c.0)
+
+class_inside : (types : List ℕ) (c : Option ℕ) (k : ℕ) → IsClass types c k → k < length types + 1
+class_inside types None k h = omega (arith, h)
+class_inside types (Some route) zero h = omega arith
+class_inside types (Some route) (suc j) h = omega (arith, slice_get_within types j route h)
+
+seconds_few : (o : Option ℕ) → IfSome o (λ s. s ≤ 86400) → seconds_of o ≤ 86400
+seconds_few None h = omega arith
+seconds_few (Some s) h = omega (arith, h)
+
+by_few : (b : Bool) (r : CutRow) → IfSome r.change (λ s. s ≤ 86400) → change_by b r ≤ 86400
+by_few true r h = seconds_few r.change h
+by_few false r h = omega arith
+
+longest_few : (rows : List CutRow) (n p : ℕ) → ((i : ℕ) → i < n → IfSome (cut_row rows i).change (λ s. s ≤ 86400)) → longest rows n p ≤ 86400
+longest_few rows zero p h = omega (arith, longest-zero rows p)
+longest_few rows (suc n) p h =
+    omega (arith, longest-suc rows n p, longest_few rows n p (λ i l. h i (omega arith)), by_few ((cut_row rows n).from == p) (cut_row rows n) (h n (omega arith)))
+
+from_if : (b : Bool) (s : ℕ) → (b ≡ false → 1 ≤ s) → s ≤ 86400 → (1 ≤ (if b then 120 else s)) × ((if b then 120 else s) ≤ 86400)
+from_if true s h l = (omega arith, omega arith)
+from_if false s h l = (h refl, l)
+
+some_on : (s : ℕ) → (s == 0) ≡ false → 1 ≤ s
+some_on s h = grind (arith, nat_tests)
+
+change_fits : (s : ℕ) → s ≤ 86400 → (1 ≤ change_from s) × (change_from s ≤ 86400)
+change_fits s l = from_if (s == 0) s (some_on s) l
+
+module _ (cut : Cut) (delays : DelayLists) (n : Parts) (s : IsSound cut) (f : AreDelays delays) (net : IsNetwork cut delays n) where
+  pub none_of : HasNone s.table s.limit
+  none_of = has_none s.table s.limit s.none
+
+  reads : AreRead s.table cut.runs cut.places cut.rows cut.keys
+  reads = are_read s.table cut.runs cut.places cut.rows cut.keys s.read
+
+  abbrev own : ℕ → CutRow
+  own i = cut_row cut.rows (key_at cut.keys i).row
+
+  -- the connection at a position is the row of the key there
+  pub record IsAt (i : ℕ) : Type 0 where
+    pub run : run_of n i ≡ (key_at cut.keys i).run
+    pub step : step_of n i ≡ (key_at cut.keys i).step
+    pub made : IsConnection delays.types (cut_row cut.rows (key_at cut.keys i).row) (connection n i)
+    pub inside : (key_at cut.keys i).row < row_count s.table
+    pub key : i < length cut.keys
+
+  pub is_at : (i : ℕ) → i < count n → IsAt i
+  unfolding connection
+  is_at i l =
+      let key : i < length cut.keys = omega (arith, net.connections.size) in
+      let c = net.connections.each i no_connection key in
+      record {
+        run = c.run ∙ sym (s.read.sorted.run i key);
+        step = c.step ∙ sym (s.read.sorted.step i key);
+        made = c;
+        inside = omega (arith, s.read.sorted.inside i key, s.read.size);
+        key = key;
+      }
+
+  fits : (k : ℕ) → k < length cut.keys → beside cut.rows (before_at cut.keys k) (key_at cut.keys k).row ≡ None
+  fits k h =
+      sym (misfit_is s.table cut.runs cut.places cut.rows cut.keys reads none_of.steps k h (before_at cut.keys k) (before_tells cut.keys k))
+      ∙ none-each (run_fault s.table) (row_count s.table) none_of.runs (key_at cut.keys k).row (omega (arith, s.read.sorted.inside k h, s.read.size))
+
+  after_before : (k : ℕ) → 0 < k → (key_at cut.keys (k - 1)).run ≡ (key_at cut.keys k).run → (o : Option Key) → Tells cut.keys k o
+      → IfSome o (λ b. (cut_row cut.rows b.row).arr ≤ (cut_row cut.rows (key_at cut.keys k).row).dep)
+      → (cut_row cut.rows (key_at cut.keys (k - 1)).row).arr ≤ (cut_row cut.rows (key_at cut.keys k).row).dep
+  after_before k some run None tells h = absurd (tells some run)
+  after_before k some run (Some b) tells h =
+      let P : Key → Type 0 = λ x. (cut_row cut.rows x.row).arr ≤ (cut_row cut.rows (key_at cut.keys k).row).dep in subst P tells.is h
+
+  run_rises : (k m : ℕ) → k ≤ m → m < length cut.keys → (key_at cut.keys k).run ≤ (key_at cut.keys m).run
+  run_rises k m l h =
+      ⊎_elim (λ (less : k < m). ⊎_elim (λ x. omega (arith, x)) (λ x. omega (arith, x.0)) (s.read.sorted.rising k m less h))
+      (λ (ge : m ≤ k). let e : k ≡ m = omega arith in omega (arith, ap (λ i. (key_at cut.keys i).run) e)) (cases_lt k m)
+
+  -- a key of each run
+  pub record HasKey (r : ℕ) : Type 0 where
+    pub place : ℕ
+    pub inside : place < length cut.keys
+    pub run : (key_at cut.keys place).run ≡ r
+
+  pub key_of_run : (r : ℕ) → r < length cut.runs → HasKey r
+  key_of_run r l =
+      let t = s.table in
+      let w = run_occurs t (row_count t) r (omega (arith, ap length s.read.run_names)) in
+      let k = s.read.sorted.all w.at (omega (arith, w.inside, s.read.size)) in
+      let a = s.read.each w.at w.inside in
+      let P : List (List ℕ) → Type 0 = λ xs. slice_get xs r ≡ Some (row t w.at).run in
+      let same = one_number cut.runs reads.one_run (cut_row cut.rows w.at).run r (row t w.at).run a.run (subst P (sym s.read.run_names) w.is) in
+      record { place = k.0; inside = k.1; run = s.read.sorted.run k.0 k.1 ∙ ap (λ i. (cut_row cut.rows i).run) k.2 ∙ same }
+
+  pub run_inside : (i : ℕ) → i < length cut.keys → (key_at cut.keys i).run < length cut.runs
+  run_inside i h =
+      let a = s.read.each (key_at cut.keys i).row (omega (arith, s.read.sorted.inside i h, s.read.size)) in
+      omega (arith, s.read.sorted.run i h, slice_get_within cut.runs (own i).run (row s.table (key_at cut.keys i).row).run a.run)
+
+  next : (i : ℕ) → i + 1 < count n → FitsNext n i
+  next i l =
+      let a = is_at i (omega arith) in
+      let b = is_at (i + 1) l in
+      let back : i + 1 - 1 ≡ i = omega arith in
+      ⊎_elim (λ (less : (key_at cut.keys i).run < (key_at cut.keys (i + 1)).run).
+      ⊎_elim (λ (gap : (key_at cut.keys i).run + 1 < (key_at cut.keys (i + 1)).run).
+      let w = key_of_run ((key_at cut.keys i).run + 1) (omega (arith, run_inside (i + 1) b.key)) in
+      ⊎_elim (λ (before : w.place < i + 1). absurd (omega (arith, w.run, run_rises w.place i (omega arith) a.key)))
+      (λ (after : i + 1 ≤ w.place). absurd (omega (arith, w.run, run_rises (i + 1) w.place after w.inside))) (cases_lt w.place (i + 1)))
+      (λ (end : (key_at cut.keys (i + 1)).run ≤ (key_at cut.keys i).run + 1). inr (omega (arith, a.run, b.run))) (cases_lt ((key_at cut.keys i).run + 1) (key_at cut.keys (i + 1)).run))
+      (λ x.
+      let steps = no_repeat s.table cut.runs cut.places cut.rows cut.keys reads none_of.steps i (i + 1) (omega arith) b.key x.0 in
+      let q = beside_none cut.rows (before_at cut.keys (i + 1)) (key_at cut.keys (i + 1)).row (fits (i + 1) b.key) in
+      let same : (key_at cut.keys (i + 1 - 1)).run ≡ (key_at cut.keys (i + 1)).run = ap (λ k. (key_at cut.keys k).run) back ∙ x.0 in
+      let onward = after_before (i + 1) (omega arith) same (before_at cut.keys (i + 1)) (before_tells cut.keys (i + 1)) q.1 in
+      let at = ap (λ k. (cut_row cut.rows (key_at cut.keys k).row).arr) back in
+      inl (a.run ∙ x.0 ∙ sym b.run, omega (arith, a.step, b.step, steps), omega (arith, a.made.arr, b.made.dep, onward, at)))
+      (s.read.sorted.rising i (i + 1) (omega arith) b.key)
+
+  first : 0 < count n → run_of n 0 ≡ 0
+  first l =
+      let a = is_at 0 l in
+      let w = key_of_run 0 (omega (arith, run_inside 0 a.key)) in
+      omega (arith, a.run, w.run, run_rises 0 w.place (omega arith) w.inside)
+
+  valid_connection : (i : ℕ) → i < count n → IsValidConnection n i
+  valid_connection i l =
+      let a = is_at i l in
+      let r = s.read.each (key_at cut.keys i).row a.inside in
+      let form = row_in_form s.table (key_at cut.keys i).row (none-each (bad_field s.table) (row_count s.table) none_of.fields (key_at cut.keys i).row a.inside) in
+      let q = beside_none cut.rows (before_at cut.keys i) (key_at cut.keys i).row (fits i a.key) in
+      record {
+        forward = omega (arith, a.made.dep, a.made.arr, q.0);
+        early = omega (arith, a.made.arr, r.arr, form.arr);
+        from_in = omega (arith, a.made.from, net.places, slice_get_within cut.places (own i).from (row s.table (key_at cut.keys i).row).from r.from);
+        to_in = omega (arith, a.made.to, net.places, slice_get_within cut.places (own i).to (row s.table (key_at cut.keys i).row).to r.to);
+        class_in = omega (arith, class_inside delays.types (own i).class (connection n i).class.0 a.made.class, f.each, ap length net.classes);
+        step_in = omega (arith, a.made.step, r.step, form.step);
+      }
+
+  few_seconds : (i : ℕ) → i < length cut.rows → IfSome (cut_row cut.rows i).change (λ x. x ≤ 86400)
+  few_seconds i l =
+      let inside : i < row_count s.table = omega (arith, s.read.size) in
+      let r = s.read.each i inside in
+      let form = row_in_form s.table i (none-each (bad_field s.table) (row_count s.table) none_of.fields i inside) in
+      let P : Option ℕ → Type 0 = λ o. IfSome o (λ x. x ≤ 86400) in subst P (sym r.change) form.change
+
+  pub locally_valid : IsLocallyValid n
+  unfolding row_of
+  locally_valid = record {
+    next = next;
+    first = first;
+    connections = valid_connection;
+    changes = λ p l.
+        let P : ℕ → Type 0 = λ x. (1 ≤ x) × (x ≤ 86400) in
+        subst P (sym (net.change p (omega (arith, net.places)))) (change_fits (longest cut.rows (length cut.rows) p) (longest_few cut.rows (length cut.rows) p few_seconds));
+    rows = λ k l.
+        let P : List (List _) → Type 0 = λ xs. IsValidRow (slice_index_or xs k []) in
+        subst P (sym net.classes) (f.rows k (omega (arith, ap length net.classes)));
+    few_connections = omega (arith, net.connections.size, s.read.sorted.size, s.read.size, none_of.few, s.few);
+    few_places = omega (arith, net.places, ap length s.read.place_names, few_places s.table (row_count s.table), none_of.few, s.few);
+    few_classes = omega (arith, ap length net.classes, f.each, f.few);
+    class_0 = omega (arith, ap length net.classes, f.each);
+  }
+
+  pub network_valid : IsValid n
+  network_valid = IsValid-from_local n locally_valid

@@ -1,0 +1,18 @@
+use Rattle.std.proofs.Common.{◌∙◌, sym, ap₂, arith, max, length-set}
+use Rattle.std.proofs.lemmas.List.{get_or_default}
+use Rattle.cut_file.specs.Keys.{cut_row}
+use Rattle.cut_file.proofs.ChangeFacts.{longest-zero, longest_next}
+use Rattle.cut_file.proofs.networks.longest_of.Goals as goal
+
+pub loop-i-init : goal.loop-i-init
+loop-i-init c = (omega (arith, c.loop.invariant.0), λ p l. c.loop.invariant.1 p (omega arith) ∙ sym (longest-zero c.args.rows.now p))
+
+pub loop-i-preserved : goal.loop-i-preserved
+loop-i-preserved c =
+    let rows = c.args.rows.now in
+    let f = (cut_row rows c.loop-i.i).from in
+    let inside = c.requires c.loop-i.i (omega arith) in (
+      omega (arith, length-set c.loop-i.times.items f c.max.result, c.loop-i.invariant.0),
+      longest_next rows c.loop-i.i c.loop-i.times.items c.args.places c.max.result c.loop-i.invariant.0 c.loop-i.invariant.1 inside
+          (c.max.ensures ∙ ap₂ max (c.index.ensures ∙ get_or_default c.loop-i.times.items f c.index.result.now 0 (omega arith)) c.seconds_of-seconds.ensures),
+    )

@@ -1,0 +1,52 @@
+use Rattle.std.proofs.Common.{◌∷◌, [], ◌∙◌, sym, ap, arith, length, Some, None, length-append}
+use Rattle.csv_rows.specs.Tables.{row_count}
+use Rattle.csv_rows.proofs.FirstLemmas.{first-zero, first-next, first-at}
+use Rattle.cut_file.specs.declared.faults.CutFault.TheVariants.{BadField}
+use Rattle.cut_file.specs.Rows.{Row}
+use Rattle.cut_file.specs.Faults.{bad_field}
+use Rattle.cut_file.specs.Cut.{add_new}
+use Rattle.cut_file.proofs.NumberFacts.{length_add}
+use Rattle.cut_file.proofs.RowFacts.{bad_here, good_here, run_names-zero, place_names-zero, run_names-next, place_names-next, each_next}
+use Rattle.cut_file.proofs.rows.read_rows.Goals as goal
+
+pub loop-i-init : goal.loop-i-init
+loop-i-init c =
+    let t = c.args.rows.now in
+    record {
+      none = first-zero (bad_field t);
+      size = ap length c.new-cut.ensures.items;
+      each = λ k d l. absurd (omega arith);
+      runs = c.new-names.ensures.runs ∙ sym (run_names-zero t);
+      places = c.new-names.ensures.places ∙ sym (place_names-zero t);
+      few_runs = omega (arith, ap length c.new-names.ensures.runs);
+      few_places = omega (arith, ap length c.new-names.ensures.places);
+    }
+
+pub returns-in-Err-clause-err : goal.returns-in-Err-clause-err
+returns-in-Err-clause-err c = λ free.
+    let t = c.args.rows.now in
+    first-at (bad_field t) c.loop-i.i (row_count t) (BadField c.line.result c.in-Err.column) (omega arith) c.loop-i.invariant.none
+    (bad_here t c.loop-i.i c.in-Err.column c.in-Err.ensures.column ∙ ap (λ n. Some (BadField n c.in-Err.column)) (sym c.line.ensures))
+
+pub loop-i-preserved : goal.loop-i-preserved
+loop-i-preserved c =
+    let t = c.args.rows.now in
+    let i = c.loop-i.i in
+    let x = c.in-Ok.row in
+    let r : Row = record { run = x.run.now; step = x.step; from = x.from.now; to = x.to.now; dep = x.dep; arr = x.arr; class = x.class; board = x.board; exit = x.exit; change = x.change } in
+    let h = c.in-Ok.ensures.row in
+    let n = c.in-Ok-numbered.ensures in
+    let old = c.loop-i.names in
+    let new = c.numbered.new.names in
+    let row = c.in-Ok-numbered.row in
+    let pushed = c.in-Ok-push.ensures.items in
+    record {
+      none = first-next (bad_field t) i None c.loop-i.invariant.none (good_here t i r h);
+      size = omega (arith, ap length pushed, length-append c.loop-i.cut.items (row ∷ []), c.loop-i.invariant.size);
+      each = each_next t i r old.runs old.places new.runs new.places c.loop-i.cut.items c.push.new.self.items row h c.loop-i.invariant.size c.loop-i.invariant.each
+          n.runs n.places pushed n.row;
+      runs = run_names-next t i r old.runs new.runs h c.loop-i.invariant.runs n.runs;
+      places = place_names-next t i r old.places new.places h c.loop-i.invariant.places n.places;
+      few_runs = omega (arith, ap length n.runs, length_add old.runs r.run, c.loop-i.invariant.few_runs);
+      few_places = omega (arith, ap length n.places, length_add (add_new old.places r.from) r.to, length_add old.places r.from, c.loop-i.invariant.few_places);
+    }

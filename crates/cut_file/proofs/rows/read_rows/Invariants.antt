@@ -1,0 +1,17 @@
+use Rattle.std.proofs.Common.{◌≡◌, ℕ, ◌<◌, ◌≤◌, ◌*◌, length, None, slice_index_or}
+use Rattle.csv_rows.specs.First.{first_below}
+use Rattle.cut_file.specs.declared.rows.CutRow.{CutRow}
+use Rattle.cut_file.specs.Faults.{bad_field, row}
+use Rattle.cut_file.specs.Cut.{run_names, place_names, IsNumbered}
+use Rattle.cut_file.proofs.rows.read_rows.Given as goal
+
+abbrev pub invariant-loop-i : goal.invariant-loop-i
+invariant-loop-i l = record {
+  none : first_below (bad_field l.rows) l.i ≡ None;
+  size : length l.cut.items ≡ l.i;
+  each : (k : ℕ) (d : CutRow) → k < l.i → IsNumbered l.names.runs l.names.places (row l.rows k) (slice_index_or l.cut.items k d);
+  runs : l.names.runs ≡ run_names l.rows l.i;
+  places : l.names.places ≡ place_names l.rows l.i;
+  few_runs : length l.names.runs ≤ l.i;
+  few_places : length l.names.places ≤ 2 * l.i;
+}

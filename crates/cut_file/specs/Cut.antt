@@ -1,0 +1,58 @@
+-- The rows of a cut file by the numbers of their names.
+use Rattle.std.specs.Prelude.{◌≡◌, ℕ, zero, suc, List, [], ◌∷◌, ◌++◌, slice_get, Option, Some, None, is_some, is_none, if◌then◌else◌}
+use Rattle.csv_rows.specs.First.{or_else}
+use Rattle.csv_rows.specs.declared.columns.Column.{Column}
+use Rattle.cut_file.specs.declared.faults.CutFault.{CutFault}
+use Rattle.cut_file.specs.declared.faults.CutFault.TheVariants.{MissingColumn}
+use Rattle.csv_rows.specs.declared.columns.Column.TheVariants.{Class, Run, Step, From, To, Dep, Arr, Board, Exit, Change}
+use Rattle.csv_rows.specs.Tables.{place_in, place_of}
+use Rattle.cut_file.specs.declared.rows.CutRow.{CutRow}
+use Rattle.cut_file.specs.declared.rows.Columns.{Columns}
+use Rattle.cut_file.specs.Rows.{Row}
+use Rattle.cut_file.specs.Faults.{row}
+
+-- a name goes last, unless it is there
+unfoldable pub add_new : List (List ℕ) → List ℕ → List (List ℕ)
+add_new names name = if is_some (place_in name names) then names else names ++ name ∷ []
+
+-- the runs of the first n rows, in the order in which they first stand there
+unfoldable pub run_names : List (List (List ℕ)) → ℕ → List (List ℕ)
+run_names t zero = []
+run_names t (suc n) = add_new (run_names t n) (row t n).run
+
+-- and the places, `from` before `to`
+unfoldable pub place_names : List (List (List ℕ)) → ℕ → List (List ℕ)
+place_names t zero = []
+place_names t (suc n) = add_new (add_new (place_names t n) (row t n).from) (row t n).to
+
+-- a row with numbers for its names
+pub record IsNumbered (runs places : List (List ℕ)) (r : Row) (c : CutRow) : Type 0 where
+  pub run : slice_get runs c.run ≡ Some r.run
+  pub from : slice_get places c.from ≡ Some r.from
+  pub to : slice_get places c.to ≡ Some r.to
+  pub step : c.step ≡ r.step
+  pub dep : c.dep ≡ r.dep
+  pub arr : c.arr ≡ r.arr
+  pub class : c.class ≡ r.class
+  pub board : c.board ≡ r.board
+  pub exit : c.exit ≡ r.exit
+  pub change : c.change ≡ r.change
+
+-- the places of the columns
+pub record AreColumns (t : List (List (List ℕ))) (c : Columns) : Type 0 where
+  pub run : c.run ≡ place_of Run t
+  pub step : c.step ≡ place_of Step t
+  pub from : c.from ≡ place_of From t
+  pub to : c.to ≡ place_of To t
+  pub dep : c.dep ≡ place_of Dep t
+  pub arr : c.arr ≡ place_of Arr t
+  pub class : c.class ≡ place_of Class t
+  pub board : c.board ≡ place_of Board t
+  pub exit : c.exit ≡ place_of Exit t
+  pub change : c.change ≡ place_of Change t
+
+abbrev pub lack : Option ℕ → Column → Option CutFault
+lack place column = if is_none place then Some (MissingColumn column) else None
+
+abbrev pub missing_in : Columns → Option CutFault
+missing_in c = or_else (lack c.run Run) (or_else (lack c.step Step) (or_else (lack c.from From) (or_else (lack c.to To) (or_else (lack c.dep Dep) (lack c.arr Arr)))))

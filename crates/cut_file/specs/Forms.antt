@@ -1,0 +1,25 @@
+-- The forms of the fields of a cut file.
+use Rattle.std.specs.Prelude.{ℕ, ◌==◌, nat_lt, Bool, true, false, ◌||◌, List, length, Option, Some, None, option_map, if◌then◌else◌, codes}
+use Rattle.std.specs.Str.{bytes_eq}
+use Rattle.clock_text.specs.Digits.{whole_of}
+use Rattle.clock_text.specs.Times.{moment_at}
+
+abbrev pub before_end : Option ℕ → Option ℕ
+before_end None = None
+before_end (Some m) = if nat_lt m 13601088000 then Some m else None
+
+-- a moment before 2401-01-01
+abbrev pub early : List ℕ → Option ℕ
+early text = before_end (moment_at text)
+
+-- a route type, and none for `*`, which an empty field stands for
+abbrev pub class_in : List ℕ → Option (Option ℕ)
+class_in text = if length text == 0 || bytes_eq text (codes "*") then Some None else option_map Some (whole_of 65534 text)
+
+-- 0 or 1, and 1 for an empty field
+abbrev pub flag_in : List ℕ → Option Bool
+flag_in text = if length text == 0 || bytes_eq text (codes "1") then Some true else if bytes_eq text (codes "0") then Some false else None
+
+-- seconds, and none for an empty field
+abbrev pub change_in : List ℕ → Option (Option ℕ)
+change_in text = if length text == 0 then Some None else option_map Some (whole_of 86400 text)

@@ -1,0 +1,43 @@
+-- The rows of a cut file.
+use Rattle.std.specs.Prelude.{ℕ, Bool, List, Option, Result, Ok}
+use Rattle.clock_text.specs.Digits.{whole_of}
+use Rattle.csv_rows.specs.declared.columns.Column.{Column}
+use Rattle.csv_rows.specs.declared.columns.Column.TheVariants.{Class, Run, Step, From, To, Dep, Arr, Board, Exit, Change}
+use Rattle.csv_rows.specs.Tables.{field}
+use Rattle.csv_rows.specs.First.{read}
+use Rattle.csv_rows.specs.Names.{name_in}
+use Rattle.cut_file.specs.Forms.{early, class_in, flag_in, change_in}
+
+-- a row with its names; the class is a route type, and none for `*`
+pub record Row : Type 0 where
+  pub run : List ℕ
+  pub step : ℕ
+  pub from : List ℕ
+  pub to : List ℕ
+  pub dep : ℕ
+  pub arr : ℕ
+  pub class : Option ℕ
+  pub board : Bool
+  pub exit : Bool
+  pub change : Option ℕ
+
+-- the row of these fields, or the first column that is not of its form
+abbrev pub row_from : (run step from to dep arr class board exit change : List ℕ) → Result Row Column
+row_from run step from to dep arr class board exit change =
+    read (name_in run) Run (λ run'.
+    read (whole_of 999999999 step) Step (λ step'.
+    read (name_in from) From (λ from'.
+    read (name_in to) To (λ to'.
+    read (early dep) Dep (λ dep'.
+    read (early arr) Arr (λ arr'.
+    read (class_in class) Class (λ class'.
+    read (flag_in board) Board (λ board'.
+    read (flag_in exit) Exit (λ exit'.
+    read (change_in change) Change (λ change'.
+    Ok (record { run = run'; step = step'; from = from'; to = to'; dep = dep'; arr = arr'; class = class'; board = board'; exit = exit'; change = change' })))))))))))
+
+-- the row i of the table
+unfoldable pub row_at : List (List (List ℕ)) → ℕ → Result Row Column
+row_at t i =
+    row_from (field t Run i) (field t Step i) (field t From i) (field t To i) (field t Dep i) (field t Arr i)
+    (field t Class i) (field t Board i) (field t Exit i) (field t Change i)

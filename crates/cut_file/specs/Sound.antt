@@ -1,0 +1,14 @@
+-- A cut file with no fault.
+use Rattle.std.specs.Prelude.{◌≡◌, ℕ, ◌≤◌, List, None}
+use Rattle.csv_rows.specs.Spaces.{AreTrimmed}
+use Rattle.cut_file.specs.Faults.{first_fault}
+use Rattle.cut_file.specs.Read.{Cut, IsRead}
+
+-- it was read from a table of trimmed fields with no fault
+pub record IsSound (c : Cut) : Type 0 where
+  pub table : List (List (List ℕ))
+  pub limit : ℕ
+  pub few : limit ≤ 8388608
+  pub trimmed : AreTrimmed table
+  pub none : first_fault table limit ≡ None
+  pub read : IsRead table c.runs c.places c.rows c.keys

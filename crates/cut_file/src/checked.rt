@@ -1,0 +1,90 @@
+//! A cut file with no fault.
+ghost use Rattle.std.specs.Prelude.{◌≡◌, ◌≢◌, ◌≤◌, ◌^◌, length, Some, None, option_map, OnOk, IfOk, IfErr};
+ghost use Rattle.csv_rows.specs.First.{or_else};
+ghost use Rattle.csv_rows.specs.Spaces.{AreTrimmed};
+ghost use Rattle.cut_file.specs.Faults.{first_fault};
+ghost use Rattle.cut_file.specs.Cut.{AreColumns, missing_in};
+ghost use Rattle.cut_file.specs.Keys.{AreSorted, least_repeat, least_beside};
+ghost use Rattle.cut_file.specs.Read.{IsRead};
+
+use crate::faults::CutFault;
+use crate::order::{Key, first_misfit, first_repeat, sorted_keys};
+use crate::rows::{Columns, CutRow, NumberedRows, columns_of, read_rows};
+use csv_rows::{Column, Limits, Rows};
+use std::alloc::Global;
+
+/// The rows of a cut file, and their order by run and step.
+#[derive(Drop)]
+pub(crate) struct Checked {
+    pub(crate) cut: NumberedRows,
+    pub(crate) keys: Vec<Key>,
+}
+
+/// The first required column that is not there.
+fn missing_column(columns: &Columns) -> Option<CutFault>
+    ensures { result ≡ missing_in columns.now }
+{
+    if columns.run.is_none() {
+        Some(CutFault::MissingColumn(Column::Run))
+    } else if columns.step.is_none() {
+        Some(CutFault::MissingColumn(Column::Step))
+    } else if columns.from.is_none() {
+        Some(CutFault::MissingColumn(Column::From))
+    } else if columns.to.is_none() {
+        Some(CutFault::MissingColumn(Column::To))
+    } else if columns.dep.is_none() {
+        Some(CutFault::MissingColumn(Column::Dep))
+    } else if columns.arr.is_none() {
+        Some(CutFault::MissingColumn(Column::Arr))
+    } else {
+        None
+    }
+}
+
+/// The first fault of the runs.
+fn run_fault(rows: &[CutRow], keys: &[Key]) -> Option<CutFault>
+    requires few { length rows.now ≤ 2 ^ 23 }
+    requires sorted { AreSorted rows.now keys.now }
+    ensures { result ≡ or_else (option_map (λ x. x.fault) (least_repeat keys.now (length keys.now)))
+        (option_map (λ x. x.fault) (least_beside rows.now keys.now (length keys.now))) }
+{
+    match first_repeat(rows, keys) {
+        Some(found) => Some(found.fault),
+        None => match first_misfit(rows, keys) {
+            Some(found) => Some(found.fault),
+            None => None,
+        },
+    }
+}
+
+/// The rows of a cut file, or the first of its faults.
+pub(crate) fn read_checked(alloc: Global, rows: &Rows, limits: &Limits) -> Result<Checked, CutFault>
+    requires { limits.now.cut_rows ≤ 2 ^ 23 }
+    ensures trimmed { OnOk result (AreTrimmed rows.now) }
+    ensures none { OnOk result (first_fault rows.now limits.now.cut_rows ≡ None) }
+    ensures cut { IfOk result (λ c.
+        IsRead rows.now c.cut.names.runs c.cut.names.places c.cut.rows.items c.keys.items) }
+    ensures fault { IfErr result (λ f. f ≢ CutFault.NoMemory
+        → first_fault rows.now limits.now.cut_rows ≡ Some f) }
+{
+    let columns = columns_of(rows);
+    if let Some(fault) = missing_column(&columns) {
+        return Err(fault);
+    }
+    let count = rows.count() as u64;
+    if limits.cut_rows < count {
+        return Err(CutFault::TooManyRows(count));
+    }
+    let cut = match read_rows(alloc, rows, &columns) {
+        Ok(cut) => cut,
+        Err(fault) => return Err(fault),
+    };
+    let keys = match sorted_keys(alloc, cut.rows.as_slice()) {
+        Ok(keys) => keys,
+        Err(_) => return Err(CutFault::NoMemory),
+    };
+    match run_fault(cut.rows.as_slice(), keys.as_slice()) {
+        Some(fault) => Err(fault),
+        None => Ok(Checked { cut, keys }),
+    }
+}

@@ -1,0 +1,57 @@
+//! The forms of the fields.
+ghost use Rattle.std.specs.Prelude.{◌≡◌, option_map};
+ghost use Rattle.cut_file.specs.Forms.{early, class_in, flag_in, change_in};
+
+use clock_text::{read_moment, read_whole};
+
+/// The first moment that is too late: 2401-01-01.
+const END: u64 = 13_601_088_000;
+
+/// A moment before 2401.
+pub(crate) fn read_early(text: &[u8]) -> Option<u64>
+    ensures { result ≡ early text.now }
+{
+    match read_moment(text) {
+        None => None,
+        Some(moment) => { if moment.0 < END { Some(moment.0) } else { None } }
+    }
+}
+
+/// A route type, and none for `*`, which an empty field stands for.
+pub(crate) fn read_class(text: &[u8]) -> Option<Option<u16>>
+    ensures { result ≡ class_in text.now }
+{
+    if text.is_empty() || text == b"*".as_slice() {
+        return Some(None);
+    }
+    match read_whole(text, 65_534) {
+        None => None,
+        Some(route) => Some(Some(route as u16)),
+    }
+}
+
+/// 0 or 1, and 1 where the field is empty.
+pub(crate) fn read_flag(text: &[u8]) -> Option<bool>
+    ensures { result ≡ flag_in text.now }
+{
+    if text.is_empty() || text == b"1".as_slice() {
+        return Some(true);
+    }
+    if text == b"0".as_slice() {
+        return Some(false);
+    }
+    None
+}
+
+/// Seconds, or nothing where the field is empty.
+pub(crate) fn read_change(text: &[u8]) -> Option<Option<u32>>
+    ensures { result ≡ change_in text.now }
+{
+    if text.is_empty() {
+        return Some(None);
+    }
+    match read_whole(text, 86_400) {
+        None => None,
+        Some(seconds) => Some(Some(seconds)),
+    }
+}

@@ -1,0 +1,197 @@
+//! The rows of a cut file by the numbers of their names.
+ghost use Rattle.std.specs.Prelude.{◌≡◌, ◌≢◌, ℕ, ◌+◌, ◌-◌, ◌<◌, ◌≤◌, ◌^◌, length, slice_index_or, Some, None, Ok, Err, OnOk, IfOk, IfErr};
+ghost use Rattle.csv_rows.specs.declared.columns.Column.TheVariants.{Class, Run, Step, From, To, Dep, Arr, Board, Exit, Change};
+ghost use Rattle.csv_rows.specs.First.{first_below};
+ghost use Rattle.csv_rows.specs.Tables.{row_count, field};
+ghost use Rattle.cut_file.specs.declared.rows.CutRow.{CutRow};
+ghost use Rattle.cut_file.specs.Rows.{row_at};
+ghost use Rattle.cut_file.specs.Faults.{bad_field, row};
+ghost use Rattle.cut_file.specs.Cut.{add_new, run_names, place_names, IsNumbered, AreColumns};
+
+use crate::faults::CutFault;
+use crate::lines::{Fields, NamedRow, read_fields};
+use crate::numbers::{place_number, run_number};
+use csv_rows::{Column, Rows};
+use plan_model::{Names, NoMemory};
+use std::alloc::Global;
+
+/// A row with numbers for its names.
+#[derive(Clone, Copy)]
+pub(crate) struct CutRow {
+    pub(crate) run: u32,
+    pub(crate) step: u32,
+    pub(crate) from: u32,
+    pub(crate) to: u32,
+    pub(crate) dep: u64,
+    pub(crate) arr: u64,
+    pub(crate) class: Option<u16>,
+    pub(crate) board: bool,
+    pub(crate) exit: bool,
+    pub(crate) change: Option<u32>,
+}
+
+/// The rows, and the names of their numbers.
+#[derive(Drop)]
+pub(crate) struct NumberedRows {
+    pub(crate) names: Names,
+    pub(crate) rows: Vec<CutRow>,
+}
+
+/// The places of the columns.
+#[derive(Clone, Copy)]
+pub(crate) struct Columns {
+    pub(crate) run: Option<usize>,
+    pub(crate) step: Option<usize>,
+    pub(crate) from: Option<usize>,
+    pub(crate) to: Option<usize>,
+    pub(crate) dep: Option<usize>,
+    pub(crate) arr: Option<usize>,
+    pub(crate) class: Option<usize>,
+    pub(crate) board: Option<usize>,
+    pub(crate) exit: Option<usize>,
+    pub(crate) change: Option<usize>,
+}
+
+/// The places of the columns in this table.
+pub(crate) fn columns_of(rows: &Rows) -> Columns
+    ensures { AreColumns rows.now result }
+{
+    Columns {
+        run: rows.place_of(Column::Run),
+        step: rows.place_of(Column::Step),
+        from: rows.place_of(Column::From),
+        to: rows.place_of(Column::To),
+        dep: rows.place_of(Column::Dep),
+        arr: rows.place_of(Column::Arr),
+        class: rows.place_of(Column::Class),
+        board: rows.place_of(Column::Board),
+        exit: rows.place_of(Column::Exit),
+        change: rows.place_of(Column::Change),
+    }
+}
+
+/// The fields of a row.
+fn fields_of<'a>(rows: &'a Rows, row: usize, columns: &Columns) -> Fields<'a>
+    requires row { row < row_count rows.now }
+    requires columns { AreColumns rows.now columns.now }
+    ensures run { result.run.now ≡ field rows.now Run row }
+    ensures step { result.step.now ≡ field rows.now Step row }
+    ensures from { result.from.now ≡ field rows.now From row }
+    ensures to { result.to.now ≡ field rows.now To row }
+    ensures dep { result.dep.now ≡ field rows.now Dep row }
+    ensures arr { result.arr.now ≡ field rows.now Arr row }
+    ensures class { result.class.now ≡ field rows.now Class row }
+    ensures board { result.board.now ≡ field rows.now Board row }
+    ensures exit { result.exit.now ≡ field rows.now Exit row }
+    ensures change { result.change.now ≡ field rows.now Change row }
+{
+    Fields {
+        run: rows.field_at(row, columns.run),
+        step: rows.field_at(row, columns.step),
+        from: rows.field_at(row, columns.from),
+        to: rows.field_at(row, columns.to),
+        dep: rows.field_at(row, columns.dep),
+        arr: rows.field_at(row, columns.arr),
+        class: rows.field_at(row, columns.class),
+        board: rows.field_at(row, columns.board),
+        exit: rows.field_at(row, columns.exit),
+        change: rows.field_at(row, columns.change),
+    }
+}
+
+/// The row at a place, or its first column that is not of its form.
+fn read_row<'a>(rows: &'a Rows, row: usize, columns: &Columns) -> Result<NamedRow<'a>, Column>
+    requires row { row < row_count rows.now }
+    requires columns { AreColumns rows.now columns.now }
+    ensures row { IfOk result (λ r. row_at rows.now row
+        ≡ Ok (record {
+          run = r.run.now;
+          step = r.step;
+          from = r.from.now;
+          to = r.to.now;
+          dep = r.dep;
+          arr = r.arr;
+          class = r.class;
+          board = r.board;
+          exit = r.exit;
+          change = r.change;
+        })) }
+    ensures column { IfErr result (λ column. row_at rows.now row ≡ Err column) }
+{
+    match read_fields(fields_of(rows, row, columns)) {
+        Ok(row) => Ok(row),
+        Err(column) => Err(column),
+    }
+}
+
+/// The row with numbers for its names.
+fn numbered(names: &mut Names, row: &NamedRow<'_>) -> Result<CutRow, NoMemory>
+    requires runs { length names.old.runs < 2 ^ 32 - 1 }
+    requires places { length names.old.places < 2 ^ 32 - 2 }
+    ensures runs { OnOk result (names.new.runs ≡ add_new names.old.runs row.now.run.now) }
+    ensures places { OnOk result (names.new.places
+        ≡ add_new (add_new names.old.places row.now.from.now) row.now.to.now) }
+    ensures row { IfOk result (λ c. IsNumbered names.new.runs names.new.places
+        (record {
+          run = row.now.run.now;
+          step = row.now.step;
+          from = row.now.from.now;
+          to = row.now.to.now;
+          dep = row.now.dep;
+          arr = row.now.arr;
+          class = row.now.class;
+          board = row.now.board;
+          exit = row.now.exit;
+          change = row.now.change;
+        }) c) }
+{
+    let run = run_number(names, row.run)?;
+    let from = place_number(names, row.from)?;
+    let to = place_number(names, row.to)?;
+    Ok(CutRow {
+        run,
+        step: row.step,
+        from,
+        to,
+        dep: row.dep,
+        arr: row.arr,
+        class: row.class,
+        board: row.board,
+        exit: row.exit,
+        change: row.change,
+    })
+}
+
+/// The rows, where each is of its form.
+pub(crate) fn read_rows(
+    alloc: Global,
+    rows: &Rows,
+    columns: &Columns,
+) -> Result<NumberedRows, CutFault>
+    requires columns { AreColumns rows.now columns.now }
+    requires few { row_count rows.now ≤ 2 ^ 23 }
+    ensures none { OnOk result (first_below (bad_field rows.now) (row_count rows.now) ≡ None) }
+    ensures size { IfOk result (λ cut. length cut.rows.items ≡ row_count rows.now) }
+    ensures each { IfOk result (λ cut. (k : ℕ) (d : CutRow) → k < row_count rows.now
+        → IsNumbered cut.names.runs cut.names.places (row rows.now k) (slice_index_or cut.rows.items k d)) }
+    ensures runs { IfOk result (λ cut. cut.names.runs ≡ run_names rows.now (row_count rows.now)) }
+    ensures places { IfOk result (λ cut. cut.names.places ≡ place_names rows.now (row_count rows.now)) }
+    ensures err { IfErr result (λ f. f ≢ CutFault.NoMemory
+        → first_below (bad_field rows.now) (row_count rows.now) ≡ Some f) }
+{
+    let mut names = Names::new(alloc);
+    let mut cut: Vec<CutRow> = Vec::new(alloc);
+    for i in 0..rows.count() {
+        match read_row(rows, i, columns) {
+            Err(column) => return Err(CutFault::BadField(rows.line(i), column)),
+            Ok(row) => match numbered(&mut names, &row) {
+                Err(_) => return Err(CutFault::NoMemory),
+                Ok(row) => match cut.push(row) {
+                    Err(_) => return Err(CutFault::NoMemory),
+                    Ok(()) => {}
+                },
+            },
+        }
+    }
+    Ok(NumberedRows { names, rows: cut })
+}

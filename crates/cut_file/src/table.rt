@@ -1,0 +1,90 @@
+//! The rows of a cut file, of which a network is made.
+ghost use Rattle.std.specs.Prelude.{◌≡◌, ◌≢◌, ◌≤◌, ◌^◌, ℕ, List, Some, None, OnOk, IfOk, IfErr};
+ghost use Rattle.plan_model.specs.NameLists.{NamesFit};
+ghost use Rattle.cut_file.specs.Faults.{first_fault};
+ghost use Rattle.cut_file.specs.Read.{IsRead};
+ghost use Rattle.cut_file.specs.Networks.{IsNetwork};
+ghost use Rattle.cut_file.specs.CutNetwork.{IsCutNetwork};
+
+use crate::checked::read_checked;
+use crate::faults::CutFault;
+use crate::networks::{changes_of, connections_of};
+use crate::order::Key;
+use crate::rows::CutRow;
+use csv_rows::{Limits, Rows};
+use delay_table::DelayTable;
+use plan_model::{Names, Network, NoMemory};
+use std::alloc::Global;
+use std::marker::Model;
+
+/// A cut file with no fault.
+#[derive(Drop)]
+pub struct CutTable {
+    names: Names,
+    rows: Vec<CutRow>,
+    keys: Vec<Key>,
+}
+
+impl Model for CutTable {
+    ghost use Rattle.cut_file.specs.Read.{Cut};
+
+    ghost Value = { Cut };
+
+    ghost use Rattle.cut_file.specs.Sound.{IsSound};
+
+    ghost view = { λ c. record {
+      runs = c.names.runs;
+      places = c.names.places;
+      rows = c.rows.items;
+      keys = c.keys.items;
+    } };
+
+    ghost invariant = { λ c. IsSound (record {
+      runs = c.names.runs;
+      places = c.names.places;
+      rows = c.rows.items;
+      keys = c.keys.items;
+    }) };
+}
+
+/// The rows of a cut file, or the first of its faults. It is a table with the columns `run`, `step`, `from`, `to`, `dep`
+/// and `arr`; `class`, `board`, `exit` and `change` may lack. Rows stand in any order; runs and places are numbered as they
+/// first stand, `from` before `to` in one row.
+pub fn read_cut(alloc: Global, rows: &Rows, limits: &Limits) -> Result<CutTable, CutFault>
+    requires { limits.now.cut_rows ≤ 2 ^ 23 }
+    ensures table { IfOk result (λ table. IsRead rows.now table.runs table.places table.rows table.keys) }
+    ensures none { OnOk result (first_fault rows.now limits.now.cut_rows ≡ None) }
+    ensures fault { IfErr result (λ f. f ≢ CutFault.NoMemory
+        → first_fault rows.now limits.now.cut_rows ≡ Some f) }
+{
+    match read_checked(alloc, rows, limits) {
+        Err(fault) => Err(fault),
+        Ok(checked) => Ok(CutTable {
+            names: checked.cut.names,
+            rows: checked.cut.rows,
+            keys: checked.keys,
+        }),
+    }
+}
+
+impl CutTable {
+    /// The network of the rows that were read with these delays, and the names of its places and runs. A class that the delays do not
+    /// name is `*`. The change time of a place is the largest `change` of the rows that leave it, at least 1 second, and
+    /// 120 seconds where none tells one.
+    pub fn network(&self, alloc: Global, delays: &DelayTable) -> Result<(Network, Names), NoMemory>
+        ensures network { IfOk result (λ r. IsNetwork self.now delays.now r.0) }
+        ensures runs { IfOk result (λ r. r.1.runs ≡ self.now.runs) }
+        ensures places { IfOk result (λ r. r.1.places ≡ self.now.places) }
+        ensures table { IfOk result (λ r. (t : List (List (List ℕ)))
+            → IsRead t self.now.runs self.now.places self.now.rows self.now.keys
+            → IsCutNetwork t delays.now r.0 r.1) }
+        ensures fit { IfOk result (λ r. NamesFit r.1 r.0) }
+    {
+        let rows: &[CutRow] = self.rows.as_slice();
+        let change = changes_of(alloc, rows, self.names.places())?;
+        let connections = connections_of(alloc, rows, self.keys.as_slice(), delays)?;
+        let classes = delays.classes(alloc)?;
+        let names = self.names.try_clone(alloc)?;
+        Ok((Network::from_parts(connections, change, classes), names))
+    }
+}

@@ -1,0 +1,13 @@
+-- The decision graph with one table for each place.
+use Rattle.interval_fixed.specs.Interval.{Interval}
+use Rattle.plan_model.specs.declared.model.Query.{Query}
+use Rattle.plan_model.specs.Parts.{Parts}
+use Rattle.plan_graph.specs.declared.PlanGraph.{PlanGraph}
+use Rattle.plan_graph.specs.Unfold.{unfold_plan}
+use Rattle.plan_graph.specs.Tidy.{IsTidy}
+use Rattle.decision_graph.specs.Bounds.{IsBest}
+
+-- the graph unfolds to a best strategy, and every row of it is picked somewhere on the way
+pub record IsPlanned (n : Parts) (q : Query) (graph : PlanGraph) (bounds : Interval) : Type 0 where
+  pub best : IsBest n q (unfold_plan graph n q) bounds
+  pub tidy : IsTidy n q graph

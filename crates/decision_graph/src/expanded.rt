@@ -1,0 +1,73 @@
+//! The decision graph ride by ride.
+ghost use Rattle.std.specs.Prelude.{◌≡◌, ◌≢◌, ◌<◌, ◌≤◌, length, IfOk, IfSome, MatchOption};
+ghost use Rattle.decision_graph.specs.Expanded.{NoneSafe, IsExpanded, HasSteadyChoice};
+
+use interval_fixed::Span;
+use leg_extract::extract;
+use meat_scan::{ScanTables, scan};
+use plan_graph::ExpandedGraph;
+use plan_model::{List, Network, NoMemory, Query, SortedOrder};
+use std::alloc::Global;
+use value_laws::MeanSpan;
+
+/// A decision graph ride by ride, with bounds on its expected arrival in nanoseconds.
+#[derive(Drop)]
+pub struct ExpandedPlan {
+    pub graph: ExpandedGraph,
+    pub bounds: Span,
+}
+
+/// The decision graph of a journey between two places.
+pub(crate) fn expand_away(
+    alloc: Global,
+    network: &Network,
+    query: &Query,
+) -> Result<Option<ExpandedPlan>, NoMemory>
+    requires source { query.now.source.0 < length network.now.change }
+    requires target { query.now.target.0 < length network.now.change }
+    requires differ { query.now.source.0 ≢ query.now.target.0 }
+    ensures plan { IfOk result (λ found. MatchOption found (NoneSafe network.now query.now)
+        (λ p. IsExpanded network.now query.now p.graph p.bounds)) }
+    ensures steady { IfOk result (λ found. IfSome found (λ p. HasSteadyChoice network.now query.now p.graph)) }
+{
+    let tables: ScanTables<MeanSpan> = ScanTables::reserve(alloc, network)?;
+    let mut order = SortedOrder::new(alloc, network)?;
+    let scanned = scan(tables, network, &mut order, query);
+    let Some((value, _)) = scanned.start() else {
+        return Ok(None);
+    };
+    match extract(alloc, &scanned, network, query) {
+        Err(fault) => Err(fault),
+        Ok(None) => Ok(None),
+        Ok(Some(graph)) => Ok(Some(ExpandedPlan {
+            graph,
+            bounds: value.0,
+        })),
+    }
+}
+
+/// The decision graph of a query ride by ride, with bounds that enclose the least expected arrival
+/// of all strategies that are safe for it. None exactly where no strategy is safe.
+pub fn expand(
+    alloc: Global,
+    network: &Network,
+    query: &Query,
+) -> Result<Option<ExpandedPlan>, NoMemory>
+    requires source { query.now.source.0 < length network.now.change }
+    requires target { query.now.target.0 < length network.now.change }
+    requires start { query.now.start.0 < 18446744073 }
+    requires deadline { query.now.start.0 ≤ query.now.deadline.0 }
+    ensures { IfOk result (λ found. MatchOption found (NoneSafe network.now query.now)
+        (λ p. IsExpanded network.now query.now p.graph p.bounds)) }
+{
+    if query.source.0 != query.target.0 {
+        return expand_away(alloc, network, query);
+    }
+    Ok(Some(ExpandedPlan {
+        graph: ExpandedGraph {
+            start: None,
+            rides: List::new(alloc),
+        },
+        bounds: Span::exact(query.start),
+    }))
+}

@@ -1,0 +1,13 @@
+//! The decision graph of a journey in a network: the strategy of least expected arrival among those
+//! that reach the target by the deadline whatever the delays, with bounds on that arrival.
+//!
+//! The method is that of Dibbelt, Strasser and Wagner, "Delay-Robust Journeys in Timetable Networks
+//! with Minimum Expected Arrival Time" (ATMOS 2014), with a model of its own: departures are on time,
+//! and each arrival is late by one of a finite list of delays, independently.
+#![tactic(auto)]
+
+mod expanded;
+mod planned;
+
+pub use expanded::{ExpandedPlan, expand};
+pub use planned::{CompactPlan, plan};

@@ -1,0 +1,36 @@
+-- The list of a function's values.
+use Rattle.std.proofs.Common.{◌≡◌, ℕ, zero, suc, ◌+◌, ◌<◌, List, [], ◌∷◌, ◌++◌, length, slice_index_or, refl, sym, ap, ◌∙◌, subst, arith, ⊎_elim, add-one, length-append, eq-or-lt_of_le}
+use Rattle.std.proofs.lemmas.List.{get_or_append_left, get_or_push}
+use Rattle.gtfs_tables.specs.Lists.{list_below}
+
+pub list_below-zero : {A : Type 0} (f : ℕ → A) → list_below f 0 ≡ []
+unfolding list_below
+list_below-zero f = refl
+
+list_below-suc : {A : Type 0} (f : ℕ → A) (n : ℕ) → list_below f (suc n) ≡ list_below f n ++ f n ∷ []
+unfolding list_below
+list_below-suc f n = refl
+
+pub length-list_below : {A : Type 0} (f : ℕ → A) (n : ℕ) → length (list_below f n) ≡ n
+length-list_below f zero = ap length (list_below-zero f)
+length-list_below f (suc n) =
+    let more = ap length (list_below-suc f n) ∙ length-append (list_below f n) (f n ∷ []) in
+    omega (arith, more, length-list_below f n)
+
+-- one more value
+pub list_below-next : {A : Type 0} (f : ℕ → A) (n : ℕ) (old new : List A) (x : A) → old ≡ list_below f n → new ≡ old ++ x ∷ [] → x ≡ f n → new ≡ list_below f (n + 1)
+list_below-next f n old new x e p same =
+    rw add-one (p ∙ ap (λ xs. xs ++ x ∷ []) e ∙ ap (λ y. list_below f n ++ y ∷ []) same ∙ sym (list_below-suc f n))
+
+pub get-list_below : {A : Type 0} (f : ℕ → A) (n i : ℕ) (d : A) → i < n → slice_index_or (list_below f n) i d ≡ f i
+get-list_below f zero i d h = absurd (omega arith)
+get-list_below f (suc n) i d h =
+    let P : List _ → Type 0 = λ xs. slice_index_or xs i d ≡ f i in
+    subst P (sym (list_below-suc f n))
+    (⊎_elim (λ (e : i ≡ n). get_or_push (list_below f n) (f n) d i (length-list_below f n ∙ sym e) ∙ ap f (sym e))
+    (λ (less : i < n). get_or_append_left (list_below f n) (f n ∷ []) d i (omega (arith, length-list_below f n)) ∙ get-list_below f n i d less)
+    (eq-or-lt_of_le (omega arith)))
+
+-- two such lists are as long as each other
+pub same_length : {A B : Type 0} (f : ℕ → A) (g : ℕ → B) (n : ℕ) (xs : List A) (ys : List B) → xs ≡ list_below f n → ys ≡ list_below g n → length xs ≡ length ys
+same_length f g n xs ys e h = ap length e ∙ length-list_below f n ∙ sym (ap length h ∙ length-list_below g n)

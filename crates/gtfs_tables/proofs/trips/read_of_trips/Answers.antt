@@ -1,0 +1,44 @@
+use Rattle.std.proofs.Common.{ℕ, None, sym, ap, ◌∙◌, arith, slice_index_or, string_bytes, List}
+use Rattle.csv_rows.specs.Tables.{row_count}
+use Rattle.csv_rows.proofs.FirstLemmas.{first-zero, first-next, first-at}
+use Rattle.plan_model.specs.NameLists.{texts}
+use Rattle.plan_model.proofs.Texts.{texts-push}
+use Rattle.gtfs_tables.specs.Faults.{fault_in}
+use Rattle.gtfs_tables.specs.Trips.{bad_trip, trip_at, trip_or_none}
+use Rattle.gtfs_tables.proofs.ListLemmas.{list_below-zero, list_below-next}
+use Rattle.gtfs_tables.proofs.TripLemmas.{trip_is}
+use Rattle.gtfs_tables.proofs.trips.read_of_trips.Goals as goal
+
+pub loop-i-init : goal.loop-i-init
+loop-i-init c =
+    let t = c.args.rows.now in
+    let ids = c.args.routes.now.ids in
+    record {
+      services = ap texts c.new-services.ensures.items ∙ sym (list_below-zero (λ i. (trip_or_none (trip_at ids t i)).service));
+      types = c.new-types.ensures.items ∙ sym (list_below-zero (λ i. slice_index_or c.args.routes.now.types.items (trip_or_none (trip_at ids t i)).route 0));
+      none = first-zero (bad_trip ids t);
+    }
+
+pub returns-in-Err-clause-fault : goal.returns-in-Err-clause-fault
+returns-in-Err-clause-fault c = λ free.
+    let t = c.args.rows.now in
+    let ids = c.args.routes.now.ids in
+    first-at (bad_trip ids t) c.loop-i.i (row_count t) c.in-Err.fault (omega arith) c.loop-i.invariant.none
+    (ap fault_in (trip_is ids t c.args.columns c.loop-i.i _ c.requires.columns c.in-Err.ensures.fault))
+
+pub loop-i-preserved : goal.loop-i-preserved
+loop-i-preserved c =
+    let t = c.args.rows.now in
+    let ids = c.args.routes.now.ids in
+    let types = c.args.routes.now.types.items in
+    let here = trip_is ids t c.args.columns c.loop-i.i _ c.requires.columns c.in-Ok.ensures.trip in
+    record {
+      services = list_below-next (λ i. (trip_or_none (trip_at ids t i)).service) c.loop-i.i (texts c.loop-i.services.items) (texts c.push.new.self.items)
+          (string_bytes c.in-Ok-from_str.service) c.loop-i.invariant.services (ap texts c.in-Ok-push.ensures.items ∙ texts-push c.loop-i.services.items c.in-Ok-from_str.service)
+          (c.in-Ok-from_str.ensures.ok ∙ sym (ap (λ r. (trip_or_none r).service) here));
+      types = list_below-next (λ i. slice_index_or types (trip_or_none (trip_at ids t i)).route 0) c.loop-i.i c.loop-i.types.items c.push-in-loop-i.new.self.items
+          (slice_index_or c.deref-types_of_routes.result.now c.in-Ok.trip.route 0) c.loop-i.invariant.types c.in-Ok-push-2.ensures.items
+          (ap (λ (xs : List ℕ). slice_index_or xs c.in-Ok.trip.route 0) c.deref-types_of_routes.ensures.value
+          ∙ sym (ap (λ r. slice_index_or types (trip_or_none r).route 0) here));
+      none = first-next (bad_trip ids t) c.loop-i.i None c.loop-i.invariant.none (ap fault_in here);
+    }

@@ -1,0 +1,13 @@
+use Rattle.std.proofs.Common.{◌≡◌, None, slice_index_or}
+use Rattle.csv_rows.specs.First.{first_below}
+use Rattle.plan_model.specs.NameLists.{texts}
+use Rattle.gtfs_tables.specs.Lists.{list_below}
+use Rattle.gtfs_tables.specs.Trips.{bad_trip, trip_at, trip_or_none}
+use Rattle.gtfs_tables.proofs.trips.read_of_trips.Given as goal
+
+abbrev pub invariant-loop-i : goal.invariant-loop-i
+invariant-loop-i l = record {
+  services : texts l.services.items ≡ list_below (λ i. (trip_or_none (trip_at l.routes.ids l.rows i)).service) l.i;
+  types : l.types.items ≡ list_below (λ i. slice_index_or l.routes.types.items (trip_or_none (trip_at l.routes.ids l.rows i)).route 0) l.i;
+  none : first_below (bad_trip l.routes.ids l.rows) l.i ≡ None;
+}

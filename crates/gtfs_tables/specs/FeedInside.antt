@@ -1,0 +1,23 @@
+-- The parts of a feed.
+use Rattle.std.specs.Prelude.{◌≡◌, length, map, vec_items}
+use Rattle.plan_model.specs.NameLists.{texts}
+use Rattle.gtfs_tables.specs.declared.feed.Feed.TheInside.{Inside}
+use Rattle.gtfs_tables.specs.Feeds.{FeedParts, IsSoundFeed}
+
+abbrev pub parts_of : Inside → FeedParts
+parts_of f = record {
+  stop_ids = f.stops.ids;
+  places = f.stops.places.items;
+  trip_ids = f.trips.ids;
+  services = texts f.trips.of_trips.services.items;
+  route_types = f.trips.of_trips.types.items;
+  stop_times = map vec_items f.visits.items;
+}
+
+-- each stop has a place, each trip has a service, a type and its rows, and the parts are a feed
+pub record IsWhole (f : Inside) : Type 0 where
+  pub places : length f.stops.places.items ≡ length f.stops.ids
+  pub services : length f.trips.of_trips.services.items ≡ length f.trips.ids
+  pub types : length f.trips.of_trips.types.items ≡ length f.trips.ids
+  pub visits : length f.visits.items ≡ length f.trips.ids
+  pub sound : IsSoundFeed (parts_of f)

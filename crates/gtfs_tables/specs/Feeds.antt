@@ -1,0 +1,152 @@
+-- The feed of a folder, or the first of its faults: the tables come in their order, and each is whole before the next is looked at.
+use Rattle.std.specs.Prelude.{◌≡◌, ℕ, ◌<◌, ◌==◌, List, [], length, slice_index_or, Option, Some, None, Result, Ok, Err, if◌then◌else◌}
+use Rattle.file_ports.specs.Ports.{Folder, file_at}
+use Rattle.csv_rows.specs.declared.columns.Column.{Column}
+use Rattle.csv_rows.specs.declared.columns.Column.TheVariants.{StopId, RouteId, TripId}
+use Rattle.csv_rows.specs.declared.feed_tables.Table.{Table}
+use Rattle.csv_rows.specs.declared.feed_tables.Table.TheVariants.{Stops, Routes, Trips, StopTimes, Frequencies}
+use Rattle.csv_rows.specs.declared.feed_tables.FeedFault.{FeedFault}
+use Rattle.csv_rows.specs.declared.feed_tables.FeedFault.TheVariants.{Read, MissingTable, MissingColumn, FrequencyRows}
+use Rattle.csv_rows.specs.declared.limits.Limits.{Limits}
+use Rattle.csv_rows.specs.declared.loading.Loaded.{Loaded}
+use Rattle.csv_rows.specs.declared.loading.Loaded.TheVariants.{Absent, NoRecord, Found}
+use Rattle.csv_rows.specs.FeedTables.{path_of}
+use Rattle.csv_rows.specs.Loading.{load_of}
+use Rattle.csv_rows.specs.Tables.{row_count}
+use Rattle.gtfs_tables.specs.declared.stop_times.StopRow.{StopRow}
+use Rattle.gtfs_tables.specs.Stops.{stop_ids, stop_places, stops_fault}
+use Rattle.gtfs_tables.specs.Routes.{route_ids, route_types, routes_fault}
+use Rattle.gtfs_tables.specs.Trips.{trip_ids, trip_services, trip_types, trips_fault}
+use Rattle.gtfs_tables.specs.StopTimes.{timed_rows, stop_times_fault}
+use Rattle.gtfs_tables.specs.Visits.{AreStopTimes}
+
+-- the records of a table
+abbrev pub Records : Type 0
+Records = List (List (List ℕ))
+
+-- what comes next, where there is no fault so far
+abbrev pub and_then : {A B : Type 0} → Result A FeedFault → (A → Result B FeedFault) → Result B FeedFault
+and_then (Ok a) next = next a
+and_then (Err fault) next = Err fault
+
+-- the value, unless there is a fault
+abbrev pub unless : {A : Type 0} → Option FeedFault → A → Result A FeedFault
+unless None a = Ok a
+unless (Some fault) a = Err fault
+
+-- a required table is there, and has a record; else it is missing, or lacks its first column
+abbrev pub required : Table → Column → Result Loaded FeedFault → Result Records FeedFault
+required table first (Ok Absent) = Err (MissingTable table)
+required table first (Ok NoRecord) = Err (MissingColumn table first)
+required table first (Ok (Found t)) = Ok t
+required table first (Err fault) = Err fault
+
+-- what a folder holds of a table, where at most one table could not be read
+abbrev pub load_in : Folder → List ℕ → Limits → Option Table → Table → Result Loaded FeedFault
+load_in files folder limits unread table = load_of unread limits table (file_at files (path_of folder table))
+
+-- each table by what was loaded of it
+abbrev pub stops_from : Result Loaded FeedFault → Result Records FeedFault
+stops_from loaded = and_then (required Stops StopId loaded) (λ t. unless (stops_fault t) t)
+
+abbrev pub routes_from : Result Loaded FeedFault → Result Records FeedFault
+routes_from loaded = and_then (required Routes RouteId loaded) (λ t. unless (routes_fault t) t)
+
+abbrev pub trips_from : Result Loaded FeedFault → List (List ℕ) → Result Records FeedFault
+trips_from loaded routes = and_then (required Trips RouteId loaded) (λ t. unless (trips_fault routes t) t)
+
+abbrev pub stop_times_from : Result Loaded FeedFault → (trips stops : List (List ℕ)) (places : List ℕ) → Result Records FeedFault
+stop_times_from loaded trips stops places = and_then (required StopTimes TripId loaded) (λ t. unless (stop_times_fault trips stops places t) t)
+
+-- a table of frequencies may be there, but has no row
+abbrev pub frequencies_from : Result Loaded FeedFault → Option FeedFault
+frequencies_from (Ok Absent) = None
+frequencies_from (Ok NoRecord) = None
+frequencies_from (Ok (Found t)) = if row_count t == 0 then None else Some FrequencyRows
+frequencies_from (Err fault) = Some fault
+
+-- the tables of a feed
+pub record Tables : Type 0 where
+  pub stops : Records
+  pub routes : Records
+  pub trips : Records
+  pub stop_times : Records
+
+-- the tables one after the other
+abbrev pub tables_by : (stops routes : Result Records FeedFault) (trips : List (List ℕ) → Result Records FeedFault)
+    (stop_times : (trips stops : List (List ℕ)) (places : List ℕ) → Result Records FeedFault) (frequencies : Option FeedFault) → Result Tables FeedFault
+tables_by stops routes trips stop_times frequencies =
+    and_then stops (λ s.
+    and_then routes (λ r.
+    and_then (trips (route_ids r)) (λ t.
+    and_then (stop_times (trip_ids t) (stop_ids s) (stop_places s)) (λ x.
+    unless frequencies (record { stops = s; routes = r; trips = t; stop_times = x })))))
+
+abbrev pub tables_from : (Table → Result Loaded FeedFault) → Result Tables FeedFault
+tables_from load =
+    tables_by (stops_from (load Stops)) (routes_from (load Routes)) (trips_from (load Trips)) (stop_times_from (load StopTimes)) (frequencies_from (load Frequencies))
+
+-- the tables of the folder, or the first of all faults
+unfoldable pub tables_in : Folder → List ℕ → Limits → Option Table → Result Tables FeedFault
+tables_in files folder limits unread = tables_from (load_in files folder limits unread)
+
+-- a feed: the ids and places of its stops, the ids, services and route types of its trips, and the kept rows of each trip
+pub record FeedParts : Type 0 where
+  pub stop_ids : List (List ℕ)
+  pub places : List ℕ
+  pub trip_ids : List (List ℕ)
+  pub services : List (List ℕ)
+  pub route_types : List ℕ
+  pub stop_times : List (List StopRow)
+
+-- the feed of these tables
+pub record IsFeed (t : Tables) (f : FeedParts) : Type 0 where
+  pub stops : f.stop_ids ≡ stop_ids t.stops
+  pub places_of_stops : f.places ≡ stop_places t.stops
+  pub trips : f.trip_ids ≡ trip_ids t.trips
+  pub services_of_trips : f.services ≡ trip_services (route_ids t.routes) t.trips
+  pub types_of_trips : f.route_types ≡ trip_types (route_ids t.routes) (route_types t.routes) t.trips
+  pub size : length f.stop_times ≡ row_count t.trips
+  pub times : (trip : ℕ) → trip < row_count t.trips
+      → AreStopTimes (timed_rows (trip_ids t.trips) (stop_ids t.stops) (stop_places t.stops) t.stop_times) trip (slice_index_or f.stop_times trip [])
+
+-- there is a feed, and this is it
+abbrev pub IsFeedOf : Result Tables FeedFault → FeedParts → Type 0
+IsFeedOf (Ok t) f = IsFeed t f
+IsFeedOf (Err fault) f = ⊥
+
+-- what was read of each table
+abbrev pub AreStops : Result Records FeedFault → List (List ℕ) → List ℕ → Type 0
+AreStops (Ok t) ids places = (ids ≡ stop_ids t) × (places ≡ stop_places t)
+AreStops (Err fault) ids places = ⊥
+
+abbrev pub AreRoutes : Result Records FeedFault → List (List ℕ) → List ℕ → Type 0
+AreRoutes (Ok t) ids types = (ids ≡ route_ids t) × (types ≡ route_types t)
+AreRoutes (Err fault) ids types = ⊥
+
+abbrev pub AreTrips : (routes : List (List ℕ)) (types : List ℕ) → Result Records FeedFault → (ids services : List (List ℕ)) (types_of : List ℕ) → Type 0
+AreTrips routes types (Ok t) ids services types_of = (ids ≡ trip_ids t) × (services ≡ trip_services routes t) × (types_of ≡ trip_types routes types t)
+AreTrips routes types (Err fault) ids services types_of = ⊥
+
+abbrev pub AreVisits : (trips stops : List (List ℕ)) (places : List ℕ) → Result Records FeedFault → List (List StopRow) → Type 0
+AreVisits trips stops places (Ok t) visits =
+    (length visits ≡ length trips) × ((trip : ℕ) → trip < length trips → AreStopTimes (timed_rows trips stops places t) trip (slice_index_or visits trip []))
+AreVisits trips stops places (Err fault) visits = ⊥
+
+-- it is so of a table that has no fault
+abbrev pub IsSound : (Records → Option FeedFault) → (Records → Type 0) → Type 0
+IsSound fault is = (t : Records) × (fault t ≡ None) × is t
+
+-- whatever the files tell, a feed is that of some tables with no fault
+pub record IsSoundFeed (f : FeedParts) : Type 0 where
+  pub tables : Tables
+  pub stops : stops_fault tables.stops ≡ None
+  pub routes : routes_fault tables.routes ≡ None
+  pub trips : trips_fault (route_ids tables.routes) tables.trips ≡ None
+  pub stop_times : stop_times_fault (trip_ids tables.trips) (stop_ids tables.stops) (stop_places tables.stops) tables.stop_times ≡ None
+  pub feed : IsFeed tables f
+
+-- the fault may be that this table could not be read, but no other
+abbrev pub MayBeUnread : Table → FeedFault → Type 0
+MayBeUnread table (Read t) = t ≡ table
+MayBeUnread table _ = Unit {0}

@@ -1,0 +1,12 @@
+pub mod Lists
+pub mod Faults
+pub mod Forms
+pub mod Ids
+pub mod Stops
+pub mod Routes
+pub mod Trips
+pub mod StopTimes
+pub mod Keys
+pub mod Visits
+pub mod Feeds
+pub mod FeedInside

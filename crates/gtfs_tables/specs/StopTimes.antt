@@ -1,0 +1,141 @@
+-- The rows of stop times. Those that name a stop and a time are kept.
+use Rattle.std.specs.Prelude.{ℕ, ◌+◌, ◌==◌, nat_lt, Bool, not, ◌&&◌, ◌||◌, List, length, slice_index, slice_index_or, Option, Some, None, Result, Ok, option_map, is_some, if◌then◌else◌}
+use Rattle.clock_text.specs.Digits.{whole_of}
+use Rattle.csv_rows.specs.declared.columns.Column.TheVariants.{TripId, StopId, StopSequence, ArrivalTime, DepartureTime, PickupType, DropOffType}
+use Rattle.csv_rows.specs.declared.feed_tables.Table.TheVariants.{StopTimes}
+use Rattle.csv_rows.specs.declared.feed_tables.FeedFault.{FeedFault}
+use Rattle.csv_rows.specs.declared.feed_tables.FeedFault.TheVariants.{BadField, UnknownKey, DuplicateKey, BackwardTime}
+use Rattle.csv_rows.specs.First.{or_else, first_below, any_below, read}
+use Rattle.csv_rows.specs.Names.{name_in}
+use Rattle.csv_rows.specs.Tables.{row_count, place_in, place_of, field_at}
+use Rattle.gtfs_tables.specs.declared.stop_times.StopRow.{StopRow}
+use Rattle.gtfs_tables.specs.declared.stop_times.TimedRow.{TimedRow}
+use Rattle.gtfs_tables.specs.declared.stop_times.TimeColumns.{TimeColumns}
+use Rattle.gtfs_tables.specs.Faults.{fault_in, value_or, lack}
+use Rattle.gtfs_tables.specs.Forms.{text_in, allows_in, time_in}
+use Rattle.gtfs_tables.specs.Lists.{list_below}
+
+-- the number of a stop, or none where the text is empty
+abbrev pub number_in : List (List ℕ) → List ℕ → Option (Option ℕ)
+number_in stops text = if length text == 0 then Some None else option_map Some (place_in text stops)
+
+-- a row with one time has it for both
+abbrev pub times_of : Option ℕ → Option ℕ → Option (ℕ × ℕ)
+times_of None None = None
+times_of None (Some departure) = Some (departure, departure)
+times_of (Some arrival) None = Some (arrival, arrival)
+times_of (Some arrival) (Some departure) = Some (arrival, departure)
+
+-- a kept row has a stop and a time
+abbrev pub visit_of : List ℕ → Option ℕ → Option (ℕ × ℕ) → Bool → Bool → Option StopRow
+visit_of places None times board exit = None
+visit_of places (Some stop) None board exit = None
+visit_of places (Some stop) (Some times) board exit =
+    Some (record { stop = stop; place = record { 0 = slice_index places stop }; arrival = times.0; departure = times.1; can_board = board; can_exit = exit })
+
+-- the row of these fields, or the first that is not of its form or names nothing
+abbrev pub timed_from : (trips stops : List (List ℕ)) (places : List ℕ) (line : ℕ) (trip stop sequence arrival departure pickup drop_off : List ℕ)
+    → Result TimedRow FeedFault
+timed_from trips stops places line trip stop sequence arrival departure pickup drop_off =
+    read (name_in trip) (BadField StopTimes line TripId) (λ trip'.
+    read (place_in trip' trips) (UnknownKey StopTimes line TripId) (λ trip_number.
+    read (text_in stop) (BadField StopTimes line StopId) (λ stop'.
+    read (number_in stops stop') (UnknownKey StopTimes line StopId) (λ stop_number.
+    read (whole_of 999999999 sequence) (BadField StopTimes line StopSequence) (λ sequence'.
+    read (time_in arrival) (BadField StopTimes line ArrivalTime) (λ arrival'.
+    read (time_in departure) (BadField StopTimes line DepartureTime) (λ departure'.
+    read (allows_in pickup) (BadField StopTimes line PickupType) (λ board.
+    read (allows_in drop_off) (BadField StopTimes line DropOffType) (λ exit.
+    Ok (record { trip = trip_number; sequence = sequence'; visit = visit_of places stop_number (times_of arrival' departure') board exit }))))))))))
+
+-- where the columns stand
+abbrev pub time_columns : List (List (List ℕ)) → TimeColumns
+time_columns t = record {
+  trip = place_of TripId t;
+  stop = place_of StopId t;
+  sequence = place_of StopSequence t;
+  arrival = place_of ArrivalTime t;
+  departure = place_of DepartureTime t;
+  pickup = place_of PickupType t;
+  drop_off = place_of DropOffType t;
+}
+
+-- row i, where these are the ids of the trips and of the stops, and the places of the stops
+abbrev pub timed_in : (trips stops : List (List ℕ)) (places : List ℕ) → List (List (List ℕ)) → TimeColumns → ℕ → Result TimedRow FeedFault
+timed_in trips stops places t c i =
+    timed_from trips stops places (i + 2) (field_at t c.trip i) (field_at t c.stop i) (field_at t c.sequence i) (field_at t c.arrival i)
+    (field_at t c.departure i) (field_at t c.pickup i) (field_at t c.drop_off i)
+
+unfoldable pub timed_at : (trips stops : List (List ℕ)) (places : List ℕ) → List (List (List ℕ)) → ℕ → Result TimedRow FeedFault
+timed_at trips stops places t i = timed_in trips stops places t (time_columns t) i
+
+-- the first fault of row i by itself
+abbrev pub bad_time : (trips stops : List (List ℕ)) (places : List ℕ) → List (List (List ℕ)) → ℕ → Option FeedFault
+bad_time trips stops places t i = fault_in (timed_at trips stops places t i)
+
+abbrev pub no_row : TimedRow
+no_row = record { trip = 0; sequence = 0; visit = None }
+
+-- the rows, where they have no fault by themselves
+abbrev pub timed_rows : (trips stops : List (List ℕ)) (places : List ℕ) → List (List (List ℕ)) → List TimedRow
+timed_rows trips stops places t = list_below (λ i. value_or no_row (timed_at trips stops places t i)) (row_count t)
+
+abbrev pub row_at : List TimedRow → ℕ → TimedRow
+row_at rows i = slice_index_or rows i no_row
+
+abbrev pub same_trip : List TimedRow → ℕ → ℕ → Bool
+same_trip rows j i = (row_at rows j).trip == (row_at rows i).trip
+
+-- an earlier row has the trip and the sequence of row i
+abbrev pub has_twin : List TimedRow → ℕ → Bool
+has_twin rows i = any_below (λ j. same_trip rows j i && ((row_at rows j).sequence == (row_at rows i).sequence)) i
+
+unfoldable pub repeated_time : List TimedRow → ℕ → Option FeedFault
+repeated_time rows i = if has_twin rows i then Some (DuplicateKey StopTimes (i + 2)) else None
+
+-- whether row i is kept, and its times
+abbrev pub is_kept : List TimedRow → ℕ → Bool
+is_kept rows i = is_some (row_at rows i).visit
+
+abbrev pub times_in : Option StopRow → ℕ × ℕ
+times_in None = (0, 0)
+times_in (Some visit) = (visit.arrival, visit.departure)
+
+abbrev pub arrival_of : List TimedRow → ℕ → ℕ
+arrival_of rows i = (times_in (row_at rows i).visit).0
+
+abbrev pub departure_of : List TimedRow → ℕ → ℕ
+departure_of rows i = (times_in (row_at rows i).visit).1
+
+-- row j stands before row i in its trip, and both are kept
+abbrev pub precedes : List TimedRow → ℕ → ℕ → Bool
+precedes rows j i = (is_kept rows j && is_kept rows i) && (same_trip rows j i && nat_lt (row_at rows j).sequence (row_at rows i).sequence)
+
+-- and no kept row of the trip stands between
+abbrev pub just_precedes : List TimedRow → ℕ → ℕ → Bool
+just_precedes rows j i = precedes rows j i && not (any_below (λ k. precedes rows j k && precedes rows k i) (length rows))
+
+-- a kept row departs before it arrives, or arrives before the kept row before it in its trip departs
+abbrev pub goes_back : List TimedRow → ℕ → Bool
+goes_back rows i =
+    is_kept rows i && (nat_lt (departure_of rows i) (arrival_of rows i)
+    || any_below (λ j. just_precedes rows j i && nat_lt (arrival_of rows i) (departure_of rows j)) (length rows))
+
+unfoldable pub backward_time : List TimedRow → ℕ → Option FeedFault
+backward_time rows i = if goes_back rows i then Some (BackwardTime (i + 2)) else None
+
+-- the first required column that is not in the header
+abbrev pub missing_time_column : TimeColumns → Option FeedFault
+missing_time_column c =
+    or_else (lack StopTimes TripId c.trip) (or_else (lack StopTimes StopId c.stop) (or_else (lack StopTimes StopSequence c.sequence)
+    (or_else (lack StopTimes ArrivalTime c.arrival) (lack StopTimes DepartureTime c.departure))))
+
+-- the first fault of the rows beside each other
+abbrev pub order_fault : List TimedRow → Option FeedFault
+order_fault rows = or_else (first_below (repeated_time rows) (length rows)) (first_below (backward_time rows) (length rows))
+
+-- the first fault of the stop times
+unfoldable pub stop_times_fault : (trips stops : List (List ℕ)) (places : List ℕ) → List (List (List ℕ)) → Option FeedFault
+stop_times_fault trips stops places t =
+    or_else (missing_time_column (time_columns t))
+    (or_else (first_below (bad_time trips stops places t) (row_count t)) (order_fault (timed_rows trips stops places t)))

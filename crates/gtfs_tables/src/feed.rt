@@ -1,0 +1,163 @@
+//! A feed.
+ghost use Rattle.std.specs.Prelude.{◌≡◌};
+
+use crate::stop_times::StopRow;
+use crate::stops::Stops;
+use crate::tables::{check_frequencies, load_routes, load_stop_times, load_stops, load_trips};
+use crate::trips::Trips;
+use csv_rows::{FeedFault, Limits};
+use file_ports::Files;
+use plan_model::PlaceId;
+use std::alloc::Global;
+use std::marker::Model;
+
+/// The stops, trips and stop times of a feed (GTFS Schedule reference). A time counts in seconds from noon minus
+/// twelve hours of the service day.
+#[derive(Drop)]
+pub struct Feed {
+    stops: Stops,
+    trips: Trips,
+    visits: Vec<Vec<StopRow>>,
+}
+
+impl Model for Feed {
+    ghost use Rattle.gtfs_tables.specs.Feeds.{FeedParts};
+
+    ghost Value = { FeedParts };
+
+    ghost use Rattle.gtfs_tables.specs.FeedInside.{parts_of, IsWhole};
+
+    ghost view = { parts_of };
+
+    ghost invariant = { IsWhole };
+}
+
+impl Feed {
+    ghost use Rattle.std.specs.Prelude.{◌≡◌, ◌≢◌, ◌<◌, None, Some, Ok, Err, IfOk, IfErr, IfSome, IsSome, length, slice_get, slice_index, slice_index_or, option_map, []};
+    ghost use Rattle.csv_rows.specs.FeedTables.{unread_of};
+    ghost use Rattle.csv_rows.specs.Limits.{AreWithin};
+    ghost use Rattle.csv_rows.specs.Loading.{HasFeedCause, HasFeedPathCause};
+    ghost use Rattle.csv_rows.specs.Tables.{place_in};
+    ghost use Rattle.gtfs_tables.specs.Feeds.{tables_in, IsFeedOf, IsSoundFeed};
+
+    /// Reads the tables `stops.txt`, `routes.txt`, `trips.txt`, `stop_times.txt` and `frequencies.txt` of a folder, or
+    /// the first of their faults: by table, then by kind, then by line, then by column. The files themselves stay as
+    /// they are.
+    pub fn read<F: Files>(
+        alloc: Global,
+        files: &mut F,
+        folder: &str,
+        limits: &Limits,
+    ) -> Result<Feed, FeedFault>
+        requires { AreWithin limits.now }
+        ensures same { F.files files.new ≡ F.files files.old }
+
+        // Where the files are told: the feed of their tables, or the first of all faults.
+        ensures feed { IfSome (F.files files.old) (λ m. IfOk result (λ feed.
+            IsFeedOf (tables_in m folder.now limits.now None) feed)) }
+        ensures fault { IfSome (F.files files.old) (λ m. IfErr result (λ f. f ≢ FeedFault.NoMemory
+            → tables_in m folder.now limits.now (unread_of f) ≡ Err f)) }
+        ensures cause { HasFeedCause (F.faults files.old) (F.faults files.new) result }
+        ensures path_cause { HasFeedPathCause (IsSome (F.files files.old)) folder.now
+            (F.faults_of files.old) (F.faults_of files.new) result }
+    {
+        let stops = match load_stops(alloc, files, folder, limits) {
+            Ok(stops) => stops,
+            Err(fault) => return Err(fault),
+        };
+        let routes = match load_routes(alloc, files, folder, limits) {
+            Ok(routes) => routes,
+            Err(fault) => return Err(fault),
+        };
+        let trips = match load_trips(alloc, files, folder, limits, &routes) {
+            Ok(trips) => trips,
+            Err(fault) => return Err(fault),
+        };
+        let visits = match load_stop_times(alloc, files, folder, limits, &trips.ids, &stops) {
+            Ok(visits) => visits,
+            Err(fault) => return Err(fault),
+        };
+        match check_frequencies(alloc, files, folder, limits) {
+            Ok(()) => Ok(Feed {
+                stops,
+                trips,
+                visits,
+            }),
+            Err(fault) => Err(fault),
+        }
+    }
+
+    /// How many stops there are.
+    pub fn stop_count(&self) -> u32
+        ensures count { result ≡ length self.now.stop_ids }
+        ensures sound { IsSoundFeed self.now }
+    {
+        self.stops.ids.len()
+    }
+
+    /// The id of a stop.
+    pub fn stop_id(&self, stop: u32) -> &str
+        requires { stop < length self.now.stop_ids }
+        ensures { slice_get self.now.stop_ids stop ≡ Some result.now }
+    {
+        self.stops.ids.get(stop)
+    }
+
+    /// The stop with this id.
+    pub fn stop_of(&self, id: &str) -> Option<u32>
+        ensures { result ≡ place_in id.now self.now.stop_ids }
+    {
+        self.stops.ids.number(id)
+    }
+
+    /// The place of the stop with this id: its parent station, or else itself.
+    pub fn place_of(&self, id: &str) -> Option<PlaceId>
+        ensures { option_map (λ p. p.0) result
+            ≡ option_map (λ stop. slice_index self.now.places stop) (place_in id.now self.now.stop_ids) }
+    {
+        match self.stops.ids.number(id) {
+            None => None,
+            Some(stop) => Some(PlaceId(self.stops.places[stop as usize])),
+        }
+    }
+
+    /// How many trips there are.
+    pub fn trip_count(&self) -> u32
+        ensures count { result ≡ length self.now.trip_ids }
+        ensures sound { IsSoundFeed self.now }
+    {
+        self.trips.ids.len()
+    }
+
+    /// The id of a trip.
+    pub fn trip_id(&self, trip: u32) -> &str
+        requires { trip < length self.now.trip_ids }
+        ensures { slice_get self.now.trip_ids trip ≡ Some result.now }
+    {
+        self.trips.ids.get(trip)
+    }
+
+    /// The service of a trip.
+    pub fn service_of(&self, trip: u32) -> &str
+        requires { trip < length self.now.trip_ids }
+        ensures { slice_get self.now.services trip ≡ Some result.now }
+    {
+        self.trips.of_trips.services[trip as usize].as_str()
+    }
+
+    /// The route type of a trip.
+    pub fn route_type(&self, trip: u32) -> u16
+        requires { trip < length self.now.trip_ids }
+        ensures { result ≡ slice_index self.now.route_types trip }
+    {
+        self.trips.of_trips.types[trip as usize]
+    }
+
+    /// The kept rows of a trip, in rising order of `stop_sequence`.
+    pub fn stop_times(&self, trip: u32) -> &[StopRow]
+        requires { trip < length self.now.trip_ids }
+        ensures { result.now ≡ slice_index_or self.now.stop_times trip [] }
+    {
+        self.visits[trip as usize].as_slice()
+    }
+}

@@ -1,0 +1,166 @@
+//! The stops of a feed.
+ghost use Rattle.std.specs.Prelude.{◌≡◌, ◌≢◌, ◌<◌, ◌≤◌, ℕ, None, Some, Ok, Err, IfOk, IfErr, OnOk, length};
+ghost use Rattle.csv_rows.specs.First.{first_below};
+ghost use Rattle.csv_rows.specs.FeedTables.{unread_of};
+ghost use Rattle.csv_rows.specs.Tables.{row_count};
+ghost use Rattle.gtfs_tables.specs.Feeds.{IsSound, AreStops};
+ghost use Rattle.gtfs_tables.specs.Stops.{stop_columns, stop_in, bad_stop, parent_in_row, stop_ids, place_fault, unknown_parent, place_from, stop_places, stops_fault};
+
+use crate::faults::lack;
+use crate::forms::{read_is_stop, read_parent};
+use crate::ids::{Ids, read_ids};
+use csv_rows::{Column, FeedFault, Rows, Table, read_name};
+use std::alloc::Global;
+
+/// The ids of the stops, and the place of each: the number of its parent station or its own.
+#[derive(Drop)]
+pub(crate) struct Stops {
+    pub(crate) ids: Ids,
+    pub(crate) places: Vec<u32>,
+}
+
+/// Where the columns stand.
+#[derive(Clone, Copy)]
+pub(crate) struct StopColumns {
+    id: Option<usize>,
+    kind: Option<usize>,
+    parent: Option<usize>,
+}
+
+/// A stop by its id and its parent station, which is empty where it has none.
+#[derive(Clone, Copy)]
+struct Stop<'a> {
+    id: &'a str,
+    parent: &'a str,
+}
+
+/// Where the columns of the stops stand.
+fn stop_columns(rows: &Rows) -> StopColumns
+    ensures { result ≡ stop_columns rows.now }
+{
+    StopColumns {
+        id: rows.place_of(Column::StopId),
+        kind: rows.place_of(Column::LocationType),
+        parent: rows.place_of(Column::ParentStation),
+    }
+}
+
+/// The stop of a row, or the first field that is not of its form.
+fn read_stop(rows: &Rows, columns: StopColumns, row: usize) -> Result<Stop<'_>, FeedFault>
+    requires { row < row_count rows.now }
+    ensures stop { IfOk result (λ s. stop_in rows.now columns row
+        ≡ Ok (record { id = s.id.now; parent = s.parent.now })) }
+    ensures fault { IfErr result (λ f. stop_in rows.now columns row ≡ Err f) }
+    ensures content { IfErr result (λ f. unread_of f ≡ None) }
+{
+    let line = rows.line(row);
+    let Some(id) = read_name(rows.field_at(row, columns.id)) else {
+        return Err(FeedFault::BadField(Table::Stops, line, Column::StopId));
+    };
+    let Some(is_stop) = read_is_stop(rows.field_at(row, columns.kind)) else {
+        return Err(FeedFault::BadField(Table::Stops, line, Column::LocationType));
+    };
+    let Some(parent) = read_parent(is_stop, rows.field_at(row, columns.parent)) else {
+        return Err(FeedFault::BadField(Table::Stops, line, Column::ParentStation));
+    };
+    Ok(Stop { id, parent })
+}
+
+/// The first field of the stops that is not of its form.
+fn check_stops(rows: &Rows, columns: StopColumns) -> Result<(), FeedFault>
+    requires { columns ≡ stop_columns rows.now }
+    ensures none { OnOk result (first_below (bad_stop rows.now) (row_count rows.now) ≡ None) }
+    ensures fault { IfErr result (λ f. first_below (bad_stop rows.now) (row_count rows.now) ≡ Some f) }
+    ensures content { IfErr result (λ f. unread_of f ≡ None) }
+{
+    for i in 0..rows.count() {
+        match read_stop(rows, columns, i) {
+            Ok(_) => {}
+            Err(fault) => return Err(fault),
+        }
+    }
+    Ok(())
+}
+
+/// The place of the stop of a row, where its parent is one of these.
+fn read_place(rows: &Rows, columns: StopColumns, ids: &Ids, row: usize) -> Result<u32, FeedFault>
+    requires inside { row < row_count rows.now }
+    requires few { row_count rows.now ≤ 1048576 }
+    ensures place { IfOk result (λ p. place_from ids.now (parent_in_row (stop_in rows.now columns row)) row ≡ p) }
+    ensures none { OnOk result (place_fault ids.now (stop_in rows.now columns row) row ≡ None) }
+    ensures fault { IfErr result (λ f. place_fault ids.now (stop_in rows.now columns row) row ≡ Some f) }
+    ensures content { IfErr result (λ f. unread_of f ≡ None) }
+{
+    let stop = match read_stop(rows, columns, row) {
+        Ok(stop) => stop,
+        Err(fault) => return Err(fault),
+    };
+    if stop.parent.is_empty() {
+        return Ok(row as u32);
+    }
+    match ids.number(stop.parent) {
+        Some(place) => Ok(place),
+        None => Err(FeedFault::UnknownKey(Table::Stops, rows.line(row), Column::ParentStation)),
+    }
+}
+
+/// The place of each stop, or the first stop whose parent is none.
+fn read_places(
+    alloc: Global,
+    rows: &Rows,
+    columns: StopColumns,
+    ids: &Ids,
+) -> Result<Vec<u32>, FeedFault>
+    requires few { row_count rows.now ≤ 1048576 }
+    requires columns { columns ≡ stop_columns rows.now }
+    requires ids { ids.now ≡ stop_ids rows.now }
+    requires formed { first_below (bad_stop rows.now) (row_count rows.now) ≡ None }
+    ensures places { IfOk result (λ places. places.items ≡ stop_places rows.now) }
+    ensures none { OnOk result (first_below (unknown_parent rows.now) (row_count rows.now) ≡ None) }
+    ensures fault { IfErr result (λ f. f ≢ FeedFault.NoMemory
+        → first_below (unknown_parent rows.now) (row_count rows.now) ≡ Some f) }
+    ensures content { IfErr result (λ f. unread_of f ≡ None) }
+{
+    let mut places: Vec<u32> = Vec::new(alloc);
+    for i in 0..rows.count() {
+        let place = match read_place(rows, columns, ids, i) {
+            Ok(place) => place,
+            Err(fault) => return Err(fault),
+        };
+        match places.push(place) {
+            Ok(()) => {}
+            Err(_) => return Err(FeedFault::NoMemory),
+        }
+    }
+    Ok(places)
+}
+
+/// The stops of a table, or the first of its faults.
+pub(crate) fn read_stops(alloc: Global, rows: &Rows) -> Result<Stops, FeedFault>
+    requires { row_count rows.now ≤ 1048576 }
+    ensures ids { IfOk result (λ stops. stops.ids ≡ stop_ids rows.now) }
+    ensures places { IfOk result (λ stops. stops.places.items ≡ stop_places rows.now) }
+    ensures sound { IfOk result (λ stops. IsSound stops_fault
+        (λ t. AreStops (Ok t) stops.ids stops.places.items)) }
+    ensures sized { IfOk result (λ stops. length stops.places.items ≡ length stops.ids) }
+    ensures none { OnOk result (stops_fault rows.now ≡ None) }
+    ensures fault { IfErr result (λ f. f ≢ FeedFault.NoMemory → stops_fault rows.now ≡ Some f) }
+    ensures content { IfErr result (λ f. unread_of f ≡ None) }
+{
+    let columns = stop_columns(rows);
+    if let Some(fault) = lack(Table::Stops, Column::StopId, columns.id) {
+        return Err(fault);
+    }
+    match check_stops(rows, columns) {
+        Ok(()) => {}
+        Err(fault) => return Err(fault),
+    }
+    let ids = match read_ids(alloc, rows, Table::Stops, columns.id) {
+        Ok(ids) => ids,
+        Err(fault) => return Err(fault),
+    };
+    match read_places(alloc, rows, columns, &ids) {
+        Ok(places) => Ok(Stops { ids, places }),
+        Err(fault) => Err(fault),
+    }
+}

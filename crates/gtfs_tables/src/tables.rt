@@ -1,0 +1,228 @@
+//! The tables of a feed, each loaded and read.
+ghost use Rattle.std.specs.Prelude.{◌≡◌, ◌≢◌, ◌<◌, ◌≤◌, ℕ, length, map, vec_items, None, Some, Ok, Err, IfOk, IfErr, IfSome, IsSome, OnOk};
+ghost use Rattle.csv_rows.specs.declared.columns.Column.TheVariants.{StopId, RouteId, TripId};
+ghost use Rattle.csv_rows.specs.declared.feed_tables.Table.TheVariants.{Stops as StopsTable, Routes as RoutesTable, Trips as TripsTable, StopTimes as StopTimesTable, Frequencies as FrequenciesTable};
+ghost use Rattle.csv_rows.specs.FeedTables.{unread_of};
+ghost use Rattle.csv_rows.specs.Limits.{AreWithin, rows_of};
+ghost use Rattle.csv_rows.specs.Loading.{HasFeedCause, HasFeedPathCause};
+ghost use Rattle.csv_rows.specs.Tables.{row_count};
+ghost use Rattle.plan_model.specs.NameLists.{texts};
+ghost use Rattle.gtfs_tables.specs.Feeds.{required, load_in, stops_from, routes_from, trips_from, stop_times_from, frequencies_from, AreStops, AreRoutes, AreTrips, AreVisits, IsSound, MayBeUnread};
+ghost use Rattle.gtfs_tables.specs.Stops.{stops_fault};
+ghost use Rattle.gtfs_tables.specs.Routes.{routes_fault};
+ghost use Rattle.gtfs_tables.specs.Trips.{trips_fault};
+ghost use Rattle.gtfs_tables.specs.StopTimes.{stop_times_fault};
+
+use crate::ids::Ids;
+use crate::routes::{Routes, read_routes};
+use crate::stop_times::StopRow;
+use crate::stops::{Stops, read_stops};
+use crate::timetable::read_stop_times;
+use crate::trips::{Trips, read_trips};
+use csv_rows::{Column, FeedFault, Limits, Loaded, Rows, Table, read_table};
+use file_ports::Files;
+use std::alloc::Global;
+
+/// The records of a required table.
+fn load_required<F: Files>(
+    alloc: Global,
+    files: &mut F,
+    folder: &str,
+    table: Table,
+    first: Column,
+    limits: &Limits,
+) -> Result<Rows, FeedFault>
+    requires { AreWithin limits.now }
+    ensures same { F.files files.new ≡ F.files files.old }
+    ensures rows { IfSome (F.files files.old) (λ m. IfOk result (λ t.
+        required table first (load_in m folder.now limits.now None table) ≡ Ok t)) }
+    ensures fault { IfSome (F.files files.old) (λ m. IfErr result (λ f. f ≢ FeedFault.NoMemory
+        → required table first (load_in m folder.now limits.now (unread_of f) table) ≡ Err f)) }
+    ensures few { IfOk result (λ t. row_count t ≤ rows_of limits.now table) }
+    ensures own { IfErr result (MayBeUnread table) }
+    ensures cause { HasFeedCause (F.faults files.old) (F.faults files.new) result }
+    ensures path_cause { HasFeedPathCause (IsSome (F.files files.old)) folder.now
+        (F.faults_of files.old) (F.faults_of files.new) result }
+{
+    match read_table(alloc, files, folder, table, limits) {
+        Ok(Loaded::Found(rows)) => Ok(rows),
+        Ok(Loaded::Absent) => Err(FeedFault::MissingTable(table)),
+        Ok(Loaded::NoRecord) => Err(FeedFault::MissingColumn(table, first)),
+        Err(fault) => Err(fault),
+    }
+}
+
+/// The stops of the feed.
+pub(crate) fn load_stops<F: Files>(
+    alloc: Global,
+    files: &mut F,
+    folder: &str,
+    limits: &Limits,
+) -> Result<Stops, FeedFault>
+    requires { AreWithin limits.now }
+    ensures same { F.files files.new ≡ F.files files.old }
+    ensures stops { IfSome (F.files files.old) (λ m. IfOk result (λ s.
+        AreStops (stops_from (load_in m folder.now limits.now None StopsTable)) s.ids s.places.items)) }
+    ensures fault { IfSome (F.files files.old) (λ m. IfErr result (λ f. f ≢ FeedFault.NoMemory
+        → stops_from (load_in m folder.now limits.now (unread_of f) StopsTable) ≡ Err f)) }
+    ensures sound { IfOk result (λ s. IsSound stops_fault (λ t. AreStops (Ok t) s.ids s.places.items)) }
+    ensures sized { IfOk result (λ s. length s.places.items ≡ length s.ids) }
+    ensures own { IfErr result (MayBeUnread StopsTable) }
+    ensures cause { HasFeedCause (F.faults files.old) (F.faults files.new) result }
+    ensures path_cause { HasFeedPathCause (IsSome (F.files files.old)) folder.now
+        (F.faults_of files.old) (F.faults_of files.new) result }
+{
+    let rows = match load_required(alloc, files, folder, Table::Stops, Column::StopId, limits) {
+        Ok(rows) => rows,
+        Err(fault) => return Err(fault),
+    };
+    match read_stops(alloc, &rows) {
+        Ok(stops) => Ok(stops),
+        Err(fault) => Err(fault),
+    }
+}
+
+/// The routes of the feed.
+pub(crate) fn load_routes<F: Files>(
+    alloc: Global,
+    files: &mut F,
+    folder: &str,
+    limits: &Limits,
+) -> Result<Routes, FeedFault>
+    requires { AreWithin limits.now }
+    ensures same { F.files files.new ≡ F.files files.old }
+    ensures routes { IfSome (F.files files.old) (λ m. IfOk result (λ r.
+        AreRoutes (routes_from (load_in m folder.now limits.now None RoutesTable)) r.ids r.types.items)) }
+    ensures fault { IfSome (F.files files.old) (λ m. IfErr result (λ f. f ≢ FeedFault.NoMemory
+        → routes_from (load_in m folder.now limits.now (unread_of f) RoutesTable) ≡ Err f)) }
+    ensures sound { IfOk result (λ r. IsSound routes_fault (λ t. AreRoutes (Ok t) r.ids r.types.items)) }
+    ensures sized { IfOk result (λ r. length r.types.items ≡ length r.ids) }
+    ensures own { IfErr result (MayBeUnread RoutesTable) }
+    ensures cause { HasFeedCause (F.faults files.old) (F.faults files.new) result }
+    ensures path_cause { HasFeedPathCause (IsSome (F.files files.old)) folder.now
+        (F.faults_of files.old) (F.faults_of files.new) result }
+{
+    let rows = match load_required(alloc, files, folder, Table::Routes, Column::RouteId, limits) {
+        Ok(rows) => rows,
+        Err(fault) => return Err(fault),
+    };
+    match read_routes(alloc, &rows) {
+        Ok(routes) => Ok(routes),
+        Err(fault) => Err(fault),
+    }
+}
+
+/// The trips of the feed, which are of these routes.
+pub(crate) fn load_trips<F: Files>(
+    alloc: Global,
+    files: &mut F,
+    folder: &str,
+    limits: &Limits,
+    routes: &Routes,
+) -> Result<Trips, FeedFault>
+    requires limits { AreWithin limits.now }
+    requires types { length routes.now.types.items ≡ length routes.now.ids }
+    ensures same { F.files files.new ≡ F.files files.old }
+    ensures trips { IfSome (F.files files.old) (λ m. IfOk result (λ t.
+        AreTrips routes.now.ids routes.now.types.items
+        (trips_from (load_in m folder.now limits.now None TripsTable) routes.now.ids)
+        t.ids (texts t.of_trips.services.items) t.of_trips.types.items)) }
+    ensures fault { IfSome (F.files files.old) (λ m. IfErr result (λ f. f ≢ FeedFault.NoMemory
+        → trips_from (load_in m folder.now limits.now (unread_of f) TripsTable) routes.now.ids ≡ Err f)) }
+    ensures sound { IfOk result (λ r. IsSound (trips_fault routes.now.ids)
+        (λ t. AreTrips routes.now.ids routes.now.types.items (Ok t)
+        r.ids (texts r.of_trips.services.items) r.of_trips.types.items)) }
+    ensures services_sized { IfOk result (λ t. length t.of_trips.services.items ≡ length t.ids) }
+    ensures types_sized { IfOk result (λ t. length t.of_trips.types.items ≡ length t.ids) }
+    ensures own { IfErr result (MayBeUnread TripsTable) }
+    ensures cause { HasFeedCause (F.faults files.old) (F.faults files.new) result }
+    ensures path_cause { HasFeedPathCause (IsSome (F.files files.old)) folder.now
+        (F.faults_of files.old) (F.faults_of files.new) result }
+{
+    let rows = match load_required(alloc, files, folder, Table::Trips, Column::RouteId, limits) {
+        Ok(rows) => rows,
+        Err(fault) => return Err(fault),
+    };
+    match read_trips(alloc, &rows, routes) {
+        Ok(trips) => Ok(trips),
+        Err(fault) => Err(fault),
+    }
+}
+
+/// The kept rows of these trips, which stop at these stops.
+pub(crate) fn load_stop_times<F: Files>(
+    alloc: Global,
+    files: &mut F,
+    folder: &str,
+    limits: &Limits,
+    trips: &Ids,
+    stops: &Stops,
+) -> Result<Vec<Vec<StopRow>>, FeedFault>
+    requires limits { AreWithin limits.now }
+    requires places { length stops.now.places.items ≡ length stops.now.ids }
+    ensures same { F.files files.new ≡ F.files files.old }
+    ensures visits { IfSome (F.files files.old) (λ m. IfOk result (λ v.
+        AreVisits trips.now stops.now.ids stops.now.places.items
+        (stop_times_from (load_in m folder.now limits.now None StopTimesTable)
+        trips.now stops.now.ids stops.now.places.items)
+        (map vec_items v.items))) }
+    ensures fault { IfSome (F.files files.old) (λ m. IfErr result (λ f. f ≢ FeedFault.NoMemory
+        → stop_times_from (load_in m folder.now limits.now (unread_of f) StopTimesTable)
+        trips.now stops.now.ids stops.now.places.items ≡ Err f)) }
+    ensures sound { IfOk result (λ v.
+        IsSound (stop_times_fault trips.now stops.now.ids stops.now.places.items)
+        (λ t. AreVisits trips.now stops.now.ids stops.now.places.items (Ok t) (map vec_items v.items))) }
+    ensures sized { IfOk result (λ v. length v.items ≡ length trips.now) }
+    ensures own { IfErr result (MayBeUnread StopTimesTable) }
+    ensures cause { HasFeedCause (F.faults files.old) (F.faults files.new) result }
+    ensures path_cause { HasFeedPathCause (IsSome (F.files files.old)) folder.now
+        (F.faults_of files.old) (F.faults_of files.new) result }
+{
+    let rows = match load_required(
+        alloc,
+        files,
+        folder,
+        Table::StopTimes,
+        Column::TripId,
+        limits,
+    ) {
+        Ok(rows) => rows,
+        Err(fault) => return Err(fault),
+    };
+    match read_stop_times(alloc, &rows, trips, stops) {
+        Ok(visits) => Ok(visits),
+        Err(fault) => Err(fault),
+    }
+}
+
+/// A table of frequencies may be there, but has no row.
+pub(crate) fn check_frequencies<F: Files>(
+    alloc: Global,
+    files: &mut F,
+    folder: &str,
+    limits: &Limits,
+) -> Result<(), FeedFault>
+    requires { AreWithin limits.now }
+    ensures same { F.files files.new ≡ F.files files.old }
+    ensures none { IfSome (F.files files.old) (λ m. OnOk result
+        (frequencies_from (load_in m folder.now limits.now None FrequenciesTable) ≡ None)) }
+    ensures fault { IfSome (F.files files.old) (λ m. IfErr result (λ f. f ≢ FeedFault.NoMemory
+        → frequencies_from (load_in m folder.now limits.now (unread_of f) FrequenciesTable) ≡ Some f)) }
+    ensures own { IfErr result (MayBeUnread FrequenciesTable) }
+    ensures cause { HasFeedCause (F.faults files.old) (F.faults files.new) result }
+    ensures path_cause { HasFeedPathCause (IsSome (F.files files.old)) folder.now
+        (F.faults_of files.old) (F.faults_of files.new) result }
+{
+    match read_table(alloc, files, folder, Table::Frequencies, limits) {
+        Ok(Loaded::Absent) => Ok(()),
+        Ok(Loaded::NoRecord) => Ok(()),
+        Ok(Loaded::Found(rows)) => {
+            if rows.count() == 0 {
+                Ok(())
+            } else {
+                Err(FeedFault::FrequencyRows)
+            }
+        }
+        Err(fault) => Err(fault),
+    }
+}

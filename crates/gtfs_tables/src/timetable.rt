@@ -1,0 +1,98 @@
+//! The stop times of a feed.
+ghost use Rattle.std.specs.Prelude.{◌≡◌, ◌≢◌, ◌<◌, ◌≤◌, ℕ, length, map, vec_items, slice_index_or, [], None, Some, Ok, IfOk, IfErr, OnOk};
+ghost use Rattle.csv_rows.specs.First.{first_below};
+ghost use Rattle.csv_rows.specs.FeedTables.{unread_of};
+ghost use Rattle.csv_rows.specs.Tables.{row_count};
+ghost use Rattle.gtfs_tables.specs.Feeds.{IsSound, AreVisits};
+ghost use Rattle.gtfs_tables.specs.StopTimes.{timed_rows, repeated_time, order_fault, stop_times_fault};
+ghost use Rattle.gtfs_tables.specs.Visits.{AreStopTimes};
+
+use crate::ids::Ids;
+use crate::keys::{first_backward, first_repeat, sorted_keys};
+use crate::stop_times::{StopRow, TimedRow, missing_column, read_timed_rows, time_columns};
+use crate::stops::Stops;
+use crate::visits::visits_of;
+use csv_rows::{FeedFault, Rows, Table};
+use std::alloc::Global;
+
+/// The first row that has the trip and the sequence of an earlier one.
+fn check_once(alloc: Global, rows: &[TimedRow]) -> Result<(), FeedFault>
+    requires { length rows.now ≤ 33554432 }
+    ensures none { OnOk result (first_below (repeated_time rows.now) (length rows.now) ≡ None) }
+    ensures fault { IfErr result (λ f. f ≢ FeedFault.NoMemory
+        → first_below (repeated_time rows.now) (length rows.now) ≡ Some f) }
+    ensures content { IfErr result (λ f. unread_of f ≡ None) }
+{
+    let keys = match sorted_keys(alloc, rows, false) {
+        Ok(keys) => keys,
+        Err(_) => return Err(FeedFault::NoMemory),
+    };
+    match first_repeat(keys.as_slice()) {
+        None => Ok(()),
+        Some(row) => Err(FeedFault::DuplicateKey(Table::StopTimes, u64::from(row) + 2)),
+    }
+}
+
+/// The kept rows of each trip, or the first fault of the rows beside each other.
+fn in_order(alloc: Global, rows: &[TimedRow], trips: u32) -> Result<Vec<Vec<StopRow>>, FeedFault>
+    requires { length rows.now ≤ 33554432 }
+    ensures size { IfOk result (λ visits. length visits.items ≡ trips) }
+    ensures each { IfOk result (λ visits. (trip : ℕ) → trip < trips
+        → AreStopTimes rows.now trip (slice_index_or (map vec_items visits.items) trip [])) }
+    ensures none { OnOk result (order_fault rows.now ≡ None) }
+    ensures fault { IfErr result (λ f. f ≢ FeedFault.NoMemory → order_fault rows.now ≡ Some f) }
+    ensures content { IfErr result (λ f. unread_of f ≡ None) }
+{
+    match check_once(alloc, rows) {
+        Ok(()) => {}
+        Err(fault) => return Err(fault),
+    }
+    let keys = match sorted_keys(alloc, rows, true) {
+        Ok(keys) => keys,
+        Err(_) => return Err(FeedFault::NoMemory),
+    };
+    if let Some(row) = first_backward(rows, keys.as_slice()) {
+        return Err(FeedFault::BackwardTime(u64::from(row) + 2));
+    }
+    match visits_of(alloc, rows, keys.as_slice(), trips) {
+        Ok(visits) => Ok(visits),
+        Err(_) => Err(FeedFault::NoMemory),
+    }
+}
+
+/// The kept rows of each trip, in rising order of their sequences, or the first fault of the table.
+pub(crate) fn read_stop_times(
+    alloc: Global,
+    rows: &Rows,
+    trips: &Ids,
+    stops: &Stops,
+) -> Result<Vec<Vec<StopRow>>, FeedFault>
+    requires few { row_count rows.now ≤ 33554432 }
+    requires places { length stops.now.places.items ≡ length stops.now.ids }
+    ensures size { IfOk result (λ visits. length visits.items ≡ length trips.now) }
+    ensures each { IfOk result (λ visits. (trip : ℕ) → trip < length trips.now → AreStopTimes
+        (timed_rows trips.now stops.now.ids stops.now.places.items rows.now) trip
+        (slice_index_or (map vec_items visits.items) trip [])) }
+    ensures sound { IfOk result (λ visits.
+        IsSound (stop_times_fault trips.now stops.now.ids stops.now.places.items)
+        (λ t. AreVisits trips.now stops.now.ids stops.now.places.items (Ok t)
+        (map vec_items visits.items))) }
+    ensures none { OnOk result
+        (stop_times_fault trips.now stops.now.ids stops.now.places.items rows.now ≡ None) }
+    ensures fault { IfErr result (λ f. f ≢ FeedFault.NoMemory
+        → stop_times_fault trips.now stops.now.ids stops.now.places.items rows.now ≡ Some f) }
+    ensures content { IfErr result (λ f. unread_of f ≡ None) }
+{
+    let columns = time_columns(rows);
+    if let Some(fault) = missing_column(columns) {
+        return Err(fault);
+    }
+    let timed = match read_timed_rows(alloc, rows, columns, trips, stops) {
+        Ok(timed) => timed,
+        Err(fault) => return Err(fault),
+    };
+    match in_order(alloc, timed.as_slice(), trips.len()) {
+        Ok(visits) => Ok(visits),
+        Err(fault) => Err(fault),
+    }
+}

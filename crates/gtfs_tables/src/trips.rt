@@ -1,0 +1,179 @@
+//! The trips of a feed.
+ghost use Rattle.std.specs.Prelude.{◌≡◌, ◌≢◌, ◌<◌, ◌≤◌, None, Some, Ok, Err, IfOk, IfErr, OnOk, length};
+ghost use Rattle.csv_rows.specs.declared.columns.Column.TheVariants.{RouteId, ServiceId, TripId};
+ghost use Rattle.csv_rows.specs.declared.feed_tables.Table.TheVariants.{Trips as TripsTable};
+ghost use Rattle.csv_rows.specs.First.{first_below, or_else};
+ghost use Rattle.csv_rows.specs.FeedTables.{unread_of};
+ghost use Rattle.csv_rows.specs.Tables.{row_count};
+ghost use Rattle.plan_model.specs.NameLists.{texts};
+ghost use Rattle.gtfs_tables.specs.Faults.{lack as lack_of};
+ghost use Rattle.gtfs_tables.specs.Feeds.{IsSound, AreTrips};
+ghost use Rattle.gtfs_tables.specs.Trips.{trip_columns, trip_in, bad_trip, trip_ids, trip_services, trip_types, trips_fault};
+
+use crate::faults::lack;
+use crate::ids::{Ids, read_ids};
+use crate::routes::Routes;
+use csv_rows::{Column, FeedFault, Rows, Table, read_name};
+use std::alloc::Global;
+
+/// The ids of the trips, and the service and the route type of each.
+#[derive(Drop)]
+pub(crate) struct Trips {
+    pub(crate) ids: Ids,
+    pub(crate) of_trips: OfTrips,
+}
+
+/// The service and the route type of each trip.
+#[derive(Drop)]
+pub(crate) struct OfTrips {
+    pub(crate) services: Vec<String>,
+    pub(crate) types: Vec<u16>,
+}
+
+/// Where the columns stand.
+#[derive(Clone, Copy)]
+pub(crate) struct TripColumns {
+    route: Option<usize>,
+    service: Option<usize>,
+    id: Option<usize>,
+}
+
+/// A trip by the number of its route, its service and its id.
+#[derive(Clone, Copy)]
+struct Trip<'a> {
+    route: u32,
+    service: &'a str,
+    id: &'a str,
+}
+
+/// Where the columns of the trips stand.
+fn trip_columns(rows: &Rows) -> TripColumns
+    ensures { result ≡ trip_columns rows.now }
+{
+    TripColumns {
+        route: rows.place_of(Column::RouteId),
+        service: rows.place_of(Column::ServiceId),
+        id: rows.place_of(Column::TripId),
+    }
+}
+
+/// The first required column that stands nowhere in the header.
+fn missing_column(columns: TripColumns) -> Option<FeedFault>
+    ensures { result ≡ or_else (lack_of TripsTable RouteId columns.route)
+        (or_else (lack_of TripsTable ServiceId columns.service) (lack_of TripsTable TripId columns.id)) }
+{
+    match lack(Table::Trips, Column::RouteId, columns.route) {
+        Some(fault) => Some(fault),
+        None => match lack(Table::Trips, Column::ServiceId, columns.service) {
+            Some(fault) => Some(fault),
+            None => lack(Table::Trips, Column::TripId, columns.id),
+        },
+    }
+}
+
+/// The trip of a row, or the first field that is not of its form or names no route.
+fn read_trip<'a>(
+    rows: &'a Rows,
+    columns: TripColumns,
+    routes: &Ids,
+    row: usize,
+) -> Result<Trip<'a>, FeedFault>
+    requires { row < row_count rows.now }
+    ensures trip { IfOk result (λ r. trip_in routes.now rows.now columns row
+        ≡ Ok (record { route = r.route; service = r.service.now; id = r.id.now })) }
+    ensures fault { IfErr result (λ f. trip_in routes.now rows.now columns row ≡ Err f) }
+    ensures route { IfOk result (λ r. r.route < length routes.now) }
+    ensures content { IfErr result (λ f. unread_of f ≡ None) }
+{
+    let line = rows.line(row);
+    let Some(route) = read_name(rows.field_at(row, columns.route)) else {
+        return Err(FeedFault::BadField(Table::Trips, line, Column::RouteId));
+    };
+    let Some(number) = routes.number(route) else {
+        return Err(FeedFault::UnknownKey(Table::Trips, line, Column::RouteId));
+    };
+    let Some(service) = read_name(rows.field_at(row, columns.service)) else {
+        return Err(FeedFault::BadField(Table::Trips, line, Column::ServiceId));
+    };
+    let Some(id) = read_name(rows.field_at(row, columns.id)) else {
+        return Err(FeedFault::BadField(Table::Trips, line, Column::TripId));
+    };
+    Ok(Trip {
+        route: number,
+        service,
+        id,
+    })
+}
+
+/// The service and the route type of each trip, or the first fault of a row.
+fn read_of_trips(
+    alloc: Global,
+    rows: &Rows,
+    columns: TripColumns,
+    routes: &Routes,
+) -> Result<OfTrips, FeedFault>
+    requires columns { columns ≡ trip_columns rows.now }
+    requires types { length routes.now.types.items ≡ length routes.now.ids }
+    ensures services { IfOk result (λ o. texts o.services.items ≡ trip_services routes.now.ids rows.now) }
+    ensures types { IfOk result (λ o. o.types.items
+        ≡ trip_types routes.now.ids routes.now.types.items rows.now) }
+    ensures none { OnOk result (first_below (bad_trip routes.now.ids rows.now) (row_count rows.now) ≡ None) }
+    ensures fault { IfErr result (λ f. f ≢ FeedFault.NoMemory
+        → first_below (bad_trip routes.now.ids rows.now) (row_count rows.now) ≡ Some f) }
+    ensures content { IfErr result (λ f. unread_of f ≡ None) }
+{
+    let mut services: Vec<String> = Vec::new(alloc);
+    let mut types: Vec<u16> = Vec::new(alloc);
+    let types_of_routes: &[u16] = &routes.types;
+    for i in 0..rows.count() {
+        let trip = match read_trip(rows, columns, &routes.ids, i) {
+            Ok(trip) => trip,
+            Err(fault) => return Err(fault),
+        };
+        let service = match String::from_str(alloc, trip.service) {
+            Ok(service) => service,
+            Err(_) => return Err(FeedFault::NoMemory),
+        };
+        match services.push(service) {
+            Ok(()) => {}
+            Err(_) => return Err(FeedFault::NoMemory),
+        }
+        match types.push(types_of_routes[trip.route as usize]) {
+            Ok(()) => {}
+            Err(_) => return Err(FeedFault::NoMemory),
+        }
+    }
+    Ok(OfTrips { services, types })
+}
+
+/// The trips of a table, or the first of its faults.
+pub(crate) fn read_trips(alloc: Global, rows: &Rows, routes: &Routes) -> Result<Trips, FeedFault>
+    requires few { row_count rows.now ≤ 4194304 }
+    requires types { length routes.now.types.items ≡ length routes.now.ids }
+    ensures ids { IfOk result (λ trips. trips.ids ≡ trip_ids rows.now) }
+    ensures services { IfOk result (λ trips. texts trips.of_trips.services.items
+        ≡ trip_services routes.now.ids rows.now) }
+    ensures types { IfOk result (λ trips. trips.of_trips.types.items
+        ≡ trip_types routes.now.ids routes.now.types.items rows.now) }
+    ensures sound { IfOk result (λ trips. IsSound (trips_fault routes.now.ids)
+        (λ t. AreTrips routes.now.ids routes.now.types.items (Ok t)
+        trips.ids (texts trips.of_trips.services.items) trips.of_trips.types.items)) }
+    ensures services_sized { IfOk result (λ trips. length trips.of_trips.services.items ≡ length trips.ids) }
+    ensures types_sized { IfOk result (λ trips. length trips.of_trips.types.items ≡ length trips.ids) }
+    ensures none { OnOk result (trips_fault routes.now.ids rows.now ≡ None) }
+    ensures fault { IfErr result (λ f. f ≢ FeedFault.NoMemory → trips_fault routes.now.ids rows.now ≡ Some f) }
+    ensures content { IfErr result (λ f. unread_of f ≡ None) }
+{
+    let columns = trip_columns(rows);
+    if let Some(fault) = missing_column(columns) {
+        return Err(fault);
+    }
+    let of_trips = match read_of_trips(alloc, rows, columns, routes) {
+        Ok(of_trips) => of_trips,
+        Err(fault) => return Err(fault),
+    };
+    match read_ids(alloc, rows, Table::Trips, columns.id) {
+        Ok(ids) => Ok(Trips { ids, of_trips }),
+        Err(fault) => Err(fault),
+    }
+}

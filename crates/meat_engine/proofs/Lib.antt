@@ -1,0 +1,4 @@
+pub mod Loads
+pub mod Causes
+pub mod StopNames
+pub mod Outcomes

@@ -1,0 +1,154 @@
+-- One way after the other.
+use Rattle.std.proofs.Common.{◌≡◌, ◌≢◌, ℕ, zero, suc, ◌+◌, ◌<◌, ◌≤◌, true, List, [], ◌∷◌, ◌++◌, Option, Some, None, AllPairs, length, get_or, take, cond, slice_get, arith, sym, ap, ◌∙◌, refl, inl, inr, subst, set, length-take-le, get_or-set_same, get_or-set_other}
+use Rattle.std.specs.Prelude.{find, ◌==◌, is_some}
+use Rattle.std.specs.Option.{option_map}
+use Rattle.std.specs.List.{AllByRecursion}
+use Rattle.std.proofs.lemmas.Bool.{cases_eq}
+use Rattle.std.proofs.lemmas.Bool.Decides.{nat_tests}
+use Rattle.std.proofs.lemmas.List.{take_more, get_or-take}
+use Rattle.plan_model.specs.declared.model.Leg.{Leg}
+use Rattle.plan_model.specs.declared.model.Way.{Way}
+use Rattle.plan_model.specs.Parts.{Parts}
+use Rattle.plan_model.specs.Network.{IsValid}
+use Rattle.plan_model.specs.Ways.{ways_into}
+use Rattle.plan_model.proofs.Boarding.{way_of-listed, way_takes, ways_into-distinct}
+use Rattle.stop_profile.specs.declared.Row.{Row}
+use Rattle.meat_scan.specs.Step.{with_way, way_from}
+use Rattle.meat_scan.specs.Tables.{has_way}
+
+-- the way from a place, in a list of them
+abbrev pub way_in : List Way → ℕ → Option Way
+way_in ways place = find (λ way. way.from.0 == place) ways
+
+-- all of these ways come from elsewhere
+abbrev Elsewhere : ℕ → List Way → Type 0
+Elsewhere place ways = AllByRecursion (λ way. way.from.0 ≢ place) ways
+
+way_in-elsewhere : (ways : List Way) (place : ℕ) → Elsewhere place ways → way_in ways place ≡ None
+way_in-elsewhere [] place all = refl
+way_in-elsewhere (way ∷ ways) place all =
+    let e : way_in (way ∷ ways) place ≡ way_in ways place = let away = all.0 in grind (arith, nat_tests) in
+    e ∙ way_in-elsewhere ways place all.1
+
+-- a way is the one from its place where no way before it comes from there
+way_in-push : (ways : List Way) (way : Way) (place : ℕ) → Elsewhere way.from.0 ways → way_in (ways ++ way ∷ []) place ≡ (cond (way.from.0 == place) (Some way) (way_in ways place))
+way_in-push [] way place all = refl
+way_in-push (first ∷ ways) way place all = elim (cases_eq first.from.0 place) [
+  | inl here ↦
+      let away : way.from.0 ≢ place = λ at. all.0 (here ∙ sym at) in
+      grind (arith, nat_tests)
+  | inr away ↦
+      let e : way_in (first ∷ (ways ++ way ∷ [])) place ≡ way_in (ways ++ way ∷ []) place = grind (arith, nat_tests) in
+      let f : way_in (first ∷ ways) place ≡ way_in ways place = grind (arith, nat_tests) in
+      e ∙ way_in-push ways way place all.1 ∙ ap (cond (way.from.0 == place) (Some way)) (sym f)
+]
+
+elsewhere_of : (ways : List Way) (place : ℕ) → ((j : ℕ) (d : Way) → j < length ways → (get_or ways j d).from.0 ≢ place) → Elsewhere place ways
+elsewhere_of [] place all = tt
+elsewhere_of (way ∷ ways) place all = (all 0 way (omega arith), elsewhere_of ways place (λ j d within. all (suc j) d (omega arith)))
+
+with_way-none : {V : Type 0} (rank : V → ℕ) (lowered : V → V → V) (target dep : ℕ) (value : V) (leg : Leg) (place : ℕ) (rows : List (Row V)) → with_way rank lowered target dep value leg None place rows ≡ rows
+with_way-none rank lowered target dep value leg place rows = elim (cases_eq place target) [
+  | inl here ↦ grind (arith, nat_tests)
+  | inr away ↦ grind (arith, nat_tests)
+]
+
+-- one, where there is a way
+abbrev pub way_number : Option Way → ℕ
+way_number way = cond (is_some way) 1 0
+
+get_or-slice_get : (ways : List Way) (k : ℕ) (way d : Way) → slice_get ways k ≡ Some way → get_or ways k d ≡ way
+get_or-slice_get [] k way d is = absurd (cc)
+get_or-slice_get (first ∷ ways) zero way d is = cc
+get_or-slice_get (first ∷ ways) (suc k) way d is = get_or-slice_get ways k way d is
+
+module _ (ways : List Way) (distinct : AllPairs (λ a b. a.from.0 ≢ b.from.0) ways) (k : ℕ) (within : k < length ways) (way : Way) (is : slice_get ways k ≡ Some way) where
+  before : Elsewhere way.from.0 (take k ways)
+  before = elsewhere_of (take k ways) way.from.0 (λ j d inside.
+      let below : j < k = omega (arith, length-take-le k ways (omega arith)) in
+      let apart = distinct j k d below within in
+      let taken = get_or-take k ways j d below in
+      λ same. apart (sym (ap (λ (w : Way). w.from.0) taken) ∙ same ∙ sym (ap (λ (w : Way). w.from.0) (get_or-slice_get ways k way d is))))
+
+  -- no way before it comes from its place
+  pub none_before : way_in (take k ways) way.from.0 ≡ None
+  none_before = way_in-elsewhere (take k ways) way.from.0 before
+
+  next : (place : ℕ) → way_in (take (k + 1) ways) place ≡ cond (way.from.0 == place) (Some way) (way_in (take k ways) place)
+  next place =
+      ap (λ list. way_in list place) (take_more ways k way within ∙ ap (λ (w : Way). take k ways ++ w ∷ []) (get_or-slice_get ways k way way is))
+      ∙ way_in-push (take k ways) way place before
+
+  -- the way comes from the place, or from elsewhere
+  pub data WayCase (place : ℕ) : Type 0 where
+    comes : way.from.0 ≡ place → way_in (take k ways) place ≡ None → way_in (take (k + 1) ways) place ≡ Some way → WayCase place
+    passes : way.from.0 ≢ place → way_in (take (k + 1) ways) place ≡ way_in (take k ways) place → WayCase place
+
+  pub way_case : (place : ℕ) → WayCase place
+  way_case place = elim (cases_eq way.from.0 place) [
+    | inl here ↦ comes here (subst (λ p. way_in (take k ways) p ≡ None) here none_before) (next place ∙ (grind (arith, nat_tests)))
+    | inr away ↦ passes away (next place ∙ (grind (arith, nat_tests)))
+  ]
+
+  -- the rows of a place after one way more
+  pub rows_next : {V : Type 0} (rank : V → ℕ) (lowered : V → V → V) (target dep : ℕ) (value : V) (leg : Leg) (place : ℕ) (old now new : List (Row V)) → now ≡ with_way rank lowered target dep value leg (way_in (take k ways) place) place old → new ≡ with_way rank lowered target dep value leg (way_from way place) place now → new ≡ with_way rank lowered target dep value leg (way_in (take (k + 1) ways) place) place old
+  rows_next rank lowered target dep value leg place old now new is_now is_new = elim (way_case place) [
+    | comes here none some ↦
+        let from : way_from way place ≡ Some way = grind (arith, nat_tests) in
+        let same : now ≡ old = is_now ∙ ap (λ w. with_way rank lowered target dep value leg w place old) none ∙ with_way-none rank lowered target dep value leg place old in
+        is_new ∙ ap (λ w. with_way rank lowered target dep value leg w place now) from ∙ ap (with_way rank lowered target dep value leg (Some way) place) same
+        ∙ ap (λ w. with_way rank lowered target dep value leg w place old) (sym some)
+    | passes away same ↦
+        let from : way_from way place ≡ None = grind (arith, nat_tests) in
+        is_new ∙ ap (λ w. with_way rank lowered target dep value leg w place now) from ∙ with_way-none rank lowered target dep value leg place now ∙ is_now
+        ∙ ap (λ w. with_way rank lowered target dep value leg w place old) (sym same)
+  ]
+
+  -- the room of a place after one way more
+  pub spare_next : (place old now new : ℕ) → old ≤ now + way_number (way_in (take k ways) place) → now ≤ new + cond (way.from.0 == place) 1 0 → old ≤ new + way_number (way_in (take (k + 1) ways) place)
+  spare_next place old now new before_now now_new = elim (way_case place) [
+    | comes here none some ↦
+        let was : way_number (way_in (take k ways) place) ≡ 0 = ap way_number none in
+        let is_one : way_number (way_in (take (k + 1) ways) place) ≡ 1 = ap way_number some in
+        let one : ◌≡◌ {A = ℕ} (cond (way.from.0 == place) 1 0) 1 = grind (arith, nat_tests) in
+        omega (arith, was, is_one, one)
+    | passes away same ↦
+        let as_before : way_number (way_in (take (k + 1) ways) place) ≡ way_number (way_in (take k ways) place) = ap way_number same in
+        let zero_more : ◌≡◌ {A = ℕ} (cond (way.from.0 == place) 1 0) 0 = grind (arith, nat_tests) in
+        omega (arith, as_before, zero_more)
+  ]
+
+  -- a count for each place after one way more
+  pub count_next : (room : List ℕ) (place : ℕ) (old : ℕ) → way.from.0 < length room → get_or room place 0 ≡ old + way_number (way_in (take k ways) place) → get_or (set room way.from.0 (get_or room way.from.0 0 + 1)) place 0 ≡ old + way_number (way_in (take (k + 1) ways) place)
+  count_next room place old inside is_now = elim (way_case place) [
+    | comes here none some ↦
+        let was : way_number (way_in (take k ways) place) ≡ 0 = ap way_number none in
+        let is_one : way_number (way_in (take (k + 1) ways) place) ≡ 1 = ap way_number some in
+        subst (λ p. get_or (set room way.from.0 (get_or room way.from.0 0 + 1)) p 0 ≡ get_or room way.from.0 0 + 1) here (get_or-set_same room way.from.0 (get_or room way.from.0 0 + 1) 0 inside)
+        ∙ (let at : get_or room way.from.0 0 ≡ get_or room place 0 = ap (λ p. get_or room p 0) here in omega (arith, at, is_now, was, is_one))
+    | passes away same ↦
+        get_or-set_other room way.from.0 place (get_or room way.from.0 0 + 1) 0 (λ at. away (sym at)) ∙ is_now ∙ ap (λ n. old + n) (sym (ap way_number same))
+  ]
+
+-- the ways into a place say whether a way leads from another
+pub has_way-way_in : (n : Parts) (place r : ℕ) → cond (has_way n place r) 1 0 ≡ way_number (way_in (ways_into n r) place)
+has_way-way_in n place r = at (way_in (ways_into n r) place)
+  where
+    at : (o : Option Way) → ◌≡◌ {A = ℕ} (cond (is_some (option_map (λ (w : Way). w.seconds) o)) 1 0) (way_number o)
+    at None = refl
+    at (Some way) = refl
+
+-- a way that is listed leads from its place
+pub has_way-listed : (n : Parts) (r k : ℕ) (way : Way) → slice_get (ways_into n r) k ≡ Some way → has_way n way.from.0 r ≡ true
+has_way-listed n r k way is = ap is_some (way_of-listed n r k way is)
+
+-- and that place is one of the network's
+pub from_in : (n : Parts) → IsValid n → (r k : ℕ) (way : Way) → r < length n.change → slice_get (ways_into n r) k ≡ Some way → way.from.0 < length n.change
+from_in n valid r k way inside is = (way_takes n valid way.from.0 r way.seconds inside (way_of-listed n r k way is)).0
+
+-- where one row for each way has room, there is room for the row of a way after those before it
+pub room_left : (n : Parts) (r k : ℕ) → k < length (ways_into n r) → (way : Way) → slice_get (ways_into n r) k ≡ Some way → (old now : ℕ) → cond (has_way n way.from.0 r) 1 0 ≤ old → old ≤ now + way_number (way_in (take k (ways_into n r)) way.from.0) → 1 ≤ now
+room_left n r k within way is old now room so_far =
+    let none : way_number (way_in (take k (ways_into n r)) way.from.0) ≡ 0 = ap way_number (none_before (ways_into n r) (ways_into-distinct n r) k within way is) in
+    let one : ◌≡◌ {A = ℕ} (cond (has_way n way.from.0 r) 1 0) 1 = ap (λ b. cond b 1 0) (has_way-listed n r k way is) in
+    omega (arith, none, one)

@@ -1,0 +1,6 @@
+mod ActiveLemmas
+mod DateLemmas
+mod DayLemmas
+mod NumberLemmas
+mod PeriodLemmas
+mod ReadLemmas

@@ -1,0 +1,112 @@
+-- Exceptions by the numbers of their services, one more at a time.
+use Rattle.std.proofs.Common.{◌≡◌, ℕ, ℤ, ◌+◌, ◌<◌, ◌≤◌, ◌==◌, ◌&&◌, ◌||◌, Bool, true, false, List, [], ◌∷◌, length, slice_index_or, Option, Some, None, if◌then◌else◌, refl, sym, ap, ◌∙◌, subst, arith, ⊎_elim, bytes_eq, add-one, length-append}
+use Rattle.std.specs.Ordering.{int_eq}
+use mathlib.Core.Bool.{beq}
+use Rattle.std.proofs.lemmas.Bool.Decides.{nat_tests}
+use Rattle.plan_model.specs.NameLists.{Adds}
+use Rattle.csv_rows.specs.First.{any_below, or_else}
+use Rattle.csv_rows.specs.Tables.{place_in}
+use Rattle.std.proofs.lemmas.List.{get_or_default, get_or_push}
+use Rattle.std.proofs.lemmas.Slice.Eq.{bytes_eq-Decides}
+use Rattle.csv_rows.proofs.FirstLemmas.{true_or_false}
+use Rattle.csv_rows.proofs.IdLemmas.{place-push, place-same, place-here, place-none}
+use Rattle.service_days.specs.declared.exceptions.Exception.{Exception}
+use Rattle.service_days.specs.Dates.{is_for, is_excepted, date_of}
+use Rattle.service_days.specs.Exceptions.{same, has, has_at}
+use Rattle.service_days.specs.Numbered.{AddsDate, AreNumbered}
+
+asks_or : (asks : Option ℕ → Bool) (n : ℕ) (o : Option ℕ) (b : Bool) → asks None ≡ false → asks (Some n) ≡ false → asks (or_else o (if b then Some n else None)) ≡ asks o
+asks_or asks n (Some k) b h g = refl
+asks_or asks n None true h g = g ∙ sym h
+asks_or asks n None false h g = refl
+
+-- what is false of no number and of the next one is the same after a name is added
+pub asks-adds : (old new : List (List ℕ)) (x : List ℕ) (added : Bool) (asks : Option ℕ → Bool) (name : List ℕ) → Adds old new x added → asks None ≡ false → asks (Some (length old)) ≡ false
+    → asks (place_in name new) ≡ asks (place_in name old)
+asks-adds old new x true asks name a h g =
+    ap (λ xs. asks (place_in name xs)) a.0 ∙ ap asks (place-push name old x) ∙ asks_or asks (length old) (place_in name old) (bytes_eq x name) h g
+asks-adds old new x false asks name a h g = ap (λ xs. asks (place_in name xs)) a.0
+
+pub length-adds : (old new : List (List ℕ)) (x : List ℕ) (added : Bool) → Adds old new x added → (length old ≤ length new) × (length new ≤ length old + 1)
+length-adds old new x true a =
+    let size = ap length a.0 ∙ length-append old (x ∷ []) in
+    (omega (arith, size), omega (arith, size))
+length-adds old new x false a = (omega (arith, ap length a.0), omega (arith, ap length a.0))
+
+or_swap : (a b : Bool) → (a || b) ≡ (b || a)
+or_swap true true = refl
+or_swap true false = refl
+or_swap false true = refl
+or_swap false false = refl
+
+or_false : (a b : Bool) → a ≡ false → b ≡ false → (a || b) ≡ false
+or_false true b h k = absurd (cc)
+or_false false b h k = k
+
+num_ne : (a b : ℕ) → (a ≡ b → ⊥) → (a == b) ≡ false
+num_ne a b h = grind (arith, nat_tests)
+
+bytes_self : (x y : List ℕ) (ids : List (List ℕ)) (m : ℕ) → place_in x ids ≡ Some m → place_in y ids ≡ None → bytes_eq x y ≡ false
+bytes_self x y ids m h g =
+    ⊎_elim (λ (t : bytes_eq x y ≡ true).
+    let e : x ≡ y = (bytes_eq-Decides x y).0 t in
+    let s : Some m ≡ None = sym h ∙ ap (λ z. place_in z ids) e ∙ g in absurd (cc))
+    (λ (f : bytes_eq x y ≡ false). f) (true_or_false (bytes_eq x y))
+
+-- the exceptions of a service after one more
+excepts : (ids : List (List ℕ)) (before after : List Exception) (x : List ℕ) (m : ℕ) (d : ℤ) (a : Bool) → place_in x ids ≡ Some m
+    → ((e : Exception) → has after e ≡ (same (record { service = m; day = d; adds = a }) e || has before e))
+    → (name : List ℕ) (day : ℤ) (adds : Bool) (o : Option ℕ) → place_in name ids ≡ o
+    → has_at after day adds o ≡ ((bytes_eq x name && (int_eq d day && beq a adds)) || has_at before day adds o)
+excepts ids before after x m d a here h name day adds None g =
+    sym (ap (λ b. (b && (int_eq d day && beq a adds)) || false) (bytes_self x name ids m here g))
+excepts ids before after x m d a here h name day adds (Some k) g =
+    h (record { service = k; day = day; adds = adds })
+    ∙ ap (λ b. (b && (int_eq d day && beq a adds)) || has before (record { service = k; day = day; adds = adds })) (place-same x name ids m k here g)
+
+-- one more row
+pub numbered_next : (t : List (List (List ℕ))) (i : ℕ) (first old ids : List (List ℕ)) (before after : List Exception)
+    → AreNumbered t i first old before → length first ≤ length old → AddsDate old ids before after (date_of t i) → AreNumbered t (i + 1) first ids after
+unfolding any_below
+numbered_next t i first old ids before after n room a =
+    let d = date_of t i in
+    let size = length-adds old ids d.service a.new a.added in
+    let free : (day : ℤ) (adds : Bool) → has before (record { service = length old; day = day; adds = adds }) ≡ false = λ day adds. n.fresh (record { service = length old; day = day; adds = adds }) (omega arith) in
+    record {
+      is = λ name day adds.
+          rw add-one
+          (excepts ids before after d.service a.number d.day d.adds a.place a.exceptions name day adds (place_in name ids) refl
+          ∙ ap (λ b. is_for d name day adds || b) (asks-adds old ids d.service a.new (has_at before day adds) name a.added refl (free day adds) ∙ n.is name day adds)
+          ∙ or_swap (is_for d name day adds) (is_excepted t i name day adds));
+      fresh = λ e l.
+          a.exceptions e
+          ∙ or_false (same (record { service = a.number; day = d.day; adds = d.adds }) e) (has before e)
+          (ap (λ b. b && (int_eq d.day e.day && beq d.adds e.adds)) (num_ne a.number e.service (λ s. let w = place-here d.service ids a.number a.place in absurd (omega (arith, w.0, s, l)))))
+          (n.fresh e (omega (arith, size.0, l)));
+      kept = λ name asks h g.
+          asks-adds old ids d.service a.new asks name a.added h (g (length old) room) ∙ n.kept name asks h g;
+    }
+
+pub numbered_none : (t : List (List (List ℕ))) (ids : List (List ℕ)) (exceptions : List Exception) → exceptions ≡ [] → AreNumbered t 0 ids ids exceptions
+unfolding any_below
+numbered_none t ids exceptions e =
+    subst (λ (xs : List Exception). AreNumbered t 0 ids ids xs) (sym e)
+    (record { is = λ name day adds. none_at (place_in name ids) day adds; fresh = λ e l. refl; kept = λ name asks h g. refl })
+  where
+    none_at : (o : Option ℕ) (day : ℤ) (adds : Bool) → has_at [] day adds o ≡ false
+    none_at None day adds = refl
+    none_at (Some k) day adds = refl
+
+-- an added name has a place
+pub place-adds : (old new : List (List ℕ)) (x : List ℕ) (added : Bool) → Adds old new x added → place_in x new ≡ None → ⊥
+place-adds old new x true a none =
+    let size : length new ≡ length old + 1 = ap length a.0 ∙ length-append old (x ∷ []) in
+    let here : slice_index_or new (length old) [] ≡ x = ap (λ xs. slice_index_or xs (length old) []) a.0 ∙ get_or_push old x [] (length old) refl in
+    let t = (bytes_eq-Decides (slice_index_or new (length old) []) x).1 here in
+    let f = place-none x new none (length old) (omega (arith, size)) in cc
+place-adds old new x false a none =
+    let k = a.1.0 in
+    let inside : k < length new = omega (arith, a.1.1, ap length a.0) in
+    let here : slice_index_or new k [] ≡ x = ap (λ xs. slice_index_or xs k []) a.0 ∙ get_or_default old k [] x a.1.1 ∙ a.1.2 in
+    let t = (bytes_eq-Decides (slice_index_or new k []) x).1 here in
+    let f = place-none x new none k inside in cc

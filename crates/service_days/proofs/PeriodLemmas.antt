@@ -1,0 +1,31 @@
+-- The rows of the calendar.
+use Rattle.std.proofs.Common.{◌≡◌, ℕ, ◌<◌, ◌≤◌, length, arith, List, Some, None, sym, ap, ◌∙◌}
+use Rattle.std.specs.Prelude.{Result}
+use Rattle.csv_rows.specs.declared.columns.Column.TheVariants.{ServiceId}
+use Rattle.csv_rows.specs.declared.feed_tables.FeedFault.{FeedFault}
+use Rattle.csv_rows.specs.First.{first_below}
+use Rattle.csv_rows.specs.Lists.{list_below}
+use Rattle.csv_rows.proofs.ListLemmas.{length-list_below}
+use Rattle.csv_rows.specs.Names.{name_in}
+use Rattle.csv_rows.specs.Tables.{row_count, field}
+use Rattle.csv_rows.proofs.FirstLemmas.{none-each}
+use Rattle.csv_rows.proofs.RowLemmas.{read_ok, name_is}
+use Rattle.service_days.specs.declared.periods.Period.{Period}
+use Rattle.service_days.specs.declared.periods.PeriodColumns.{PeriodColumns}
+use Rattle.service_days.specs.Periods.{period_columns, period_in, period_at, bad_period}
+
+-- the row by where the columns stand
+pub period_is : (t : List (List (List ℕ))) (c : PeriodColumns) (i : ℕ) (r : Result Period FeedFault) → c ≡ period_columns t → period_in t c i ≡ r → period_at t i ≡ r
+unfolding period_at
+period_is t c i r e h = ap (λ k. period_in t k i) (sym e) ∙ h
+
+-- each row names its service
+pub periods_named : (t : List (List (List ℕ))) → first_below (bad_period t) (row_count t) ≡ None → (i : ℕ) → i < row_count t → name_in (field t ServiceId i) ≡ Some (field t ServiceId i)
+unfolding period_at
+periods_named t none i inside =
+    let w = read_ok _ _ _ (none-each (bad_period t) (row_count t) none i inside) in
+    name_is (field t ServiceId i) w.0 w.1
+
+-- as many ids as rows
+pub few_ids : (t : List (List (List ℕ))) (ids : List (List ℕ)) (id : ℕ → List ℕ) → row_count t ≤ 1048576 → ids ≡ list_below id (row_count t) → length ids ≤ 1048576
+few_ids t ids id few e = omega (arith, few, ap length e, length-list_below id (row_count t))

@@ -1,0 +1,41 @@
+use Rattle.std.proofs.Common.{None, sym, ap, subst, arith}
+use Rattle.csv_rows.specs.RowFaults.{fault_in}
+use Rattle.csv_rows.specs.Tables.{row_count}
+use Rattle.csv_rows.proofs.FirstLemmas.{first-zero, first-next, first-at}
+use Rattle.service_days.specs.Dates.{ServiceDate, bad_date, date_of, date_or_none}
+use Rattle.service_days.specs.Numbered.{AddsDate}
+use Rattle.service_days.proofs.DateLemmas.{date_is}
+use Rattle.service_days.proofs.NumberLemmas.{numbered_none, numbered_next, length-adds}
+use Rattle.service_days.proofs.exceptions.read_rows.Goals as goal
+
+pub loop-i-init : goal.loop-i-init
+loop-i-init c =
+    let t = c.args.rows.now in
+    record {
+      none = first-zero (bad_date t);
+      numbered = numbered_none t c.args.ids c.new.result.keys c.new.ensures.empty;
+      room = omega arith;
+      few = omega arith;
+    }
+
+pub returns-in-Err-clause-fault : goal.returns-in-Err-clause-fault
+returns-in-Err-clause-fault c = λ free.
+    let t = c.args.rows.now in
+    first-at (bad_date t) c.loop-i.i (row_count t) c.in-Err.fault (omega arith) c.loop-i.invariant.none
+    (ap fault_in (date_is t c.args.columns c.loop-i.i _ c.requires.columns c.in-Err.ensures.fault))
+
+pub loop-i-preserved : goal.loop-i-preserved
+loop-i-preserved c =
+    let t = c.args.rows.now in
+    let i = c.loop-i.i in
+    let here = date_is t c.args.columns i _ c.requires.columns c.in-Ok.ensures.exception in
+    let old = c.loop-i.numbered in
+    let P : ServiceDate → Type 0 = λ d. AddsDate old.ids c.add.new.ids old.exceptions.keys c.add.new.exceptions.keys d in
+    let added = subst P (sym (ap date_or_none here)) c.in-Ok-add.ensures in
+    let size = length-adds old.ids c.add.new.ids (date_of t i).service added.new added.added in
+    record {
+      none = first-next (bad_date t) i None c.loop-i.invariant.none (ap fault_in here);
+      numbered = numbered_next t i c.args.ids old.ids c.add.new.ids old.exceptions.keys c.add.new.exceptions.keys c.loop-i.invariant.numbered c.loop-i.invariant.room added;
+      room = omega (arith, c.loop-i.invariant.room, size.0);
+      few = omega (arith, c.loop-i.invariant.few, size.1);
+    }

@@ -1,0 +1,53 @@
+use Rattle.std.proofs.Common.{None, sym, ap, ◌∙◌}
+use Rattle.csv_rows.specs.declared.columns.Column.TheVariants.{ServiceId}
+use Rattle.csv_rows.specs.declared.feed_tables.Table.TheVariants.{Calendar}
+use Rattle.csv_rows.specs.Tables.{place_of, field_at}
+use Rattle.csv_rows.proofs.RowLemmas.{or_first, or_then, named_is, ids_fault_is}
+use Rattle.service_days.specs.declared.periods.PeriodColumns.{PeriodColumns}
+use Rattle.service_days.specs.Periods.{missing_in, calendar_fault}
+use Rattle.service_days.proofs.PeriodLemmas.{periods_named, few_ids}
+use Rattle.service_days.proofs.periods.read_calendar.Goals as goal
+
+pub returns-in-Some-clause-fault : goal.returns-in-Some-clause-fault
+unfolding calendar_fault
+returns-in-Some-clause-fault c = λ free.
+    or_first _ _ _ (sym (ap missing_in c.period_columns-columns.ensures) ∙ sym c.in-Some.ensures)
+
+pub returns-in-Err-clause-fault : goal.returns-in-Err-clause-fault
+unfolding calendar_fault
+returns-in-Err-clause-fault c = λ free.
+    let has = sym (ap missing_in c.period_columns-columns.ensures) ∙ sym c.in_default.ensures in
+    or_then _ _ _ has (or_first _ _ _ (c.in-Err.ensures.fault free))
+
+pub read_ids-requires-clause-named : goal.read_ids-requires-clause-named
+read_ids-requires-clause-named c =
+    let t = c.args.rows.now in
+    named_is t c.period_columns-columns.result.service (place_of ServiceId t) (ap (λ (k : PeriodColumns). k.service) c.period_columns-columns.ensures) (periods_named t c.in-Ok.ensures.none)
+
+pub returns-in-Ok-read_ids-clause-none : goal.returns-in-Ok-read_ids-clause-none
+unfolding calendar_fault
+returns-in-Ok-read_ids-clause-none c =
+    let t = c.args.rows.now in
+    let has = sym (ap missing_in c.period_columns-columns.ensures) ∙ sym c.in_default.ensures in
+    let place = ap (λ (k : PeriodColumns). k.service) c.period_columns-columns.ensures in
+    or_then _ _ _ has (or_then _ _ _ c.in-Ok.ensures.none (ids_fault_is Calendar t c.period_columns-columns.result.service (place_of ServiceId t) None place c.in-Ok-read_ids.ensures.none))
+
+pub returns-in-Err-read_ids-clause-fault : goal.returns-in-Err-read_ids-clause-fault
+unfolding calendar_fault
+returns-in-Err-read_ids-clause-fault c = λ free.
+    let t = c.args.rows.now in
+    let has = sym (ap missing_in c.period_columns-columns.ensures) ∙ sym c.in_default.ensures in
+    let place = ap (λ (k : PeriodColumns). k.service) c.period_columns-columns.ensures in
+    or_then _ _ _ has (or_then _ _ _ c.in-Ok.ensures.none
+    (ids_fault_is Calendar t c.period_columns-columns.result.service (place_of ServiceId t) _ place (c.in-Err-read_ids.ensures.fault free)))
+
+pub returns-in-Ok-read_ids-clause-few : goal.returns-in-Ok-read_ids-clause-few
+returns-in-Ok-read_ids-clause-few c =
+    let t = c.args.rows.now in
+    few_ids t c.in-Ok-read_ids.ids (field_at t c.period_columns-columns.result.service) c.requires c.in-Ok-read_ids.ensures.ids
+
+pub returns-in-Ok-read_ids-clause-distinct : goal.returns-in-Ok-read_ids-clause-distinct
+returns-in-Ok-read_ids-clause-distinct c =
+    let t = c.args.rows.now in
+    let place = ap (λ (k : PeriodColumns). k.service) c.period_columns-columns.ensures in
+    ids_fault_is Calendar t c.period_columns-columns.result.service (place_of ServiceId t) None place c.in-Ok-read_ids.ensures.none

@@ -1,0 +1,29 @@
+use Rattle.std.proofs.Common.{None, sym, ap, ◌∙◌, arith}
+use Rattle.csv_rows.specs.RowFaults.{fault_in}
+use Rattle.csv_rows.specs.Tables.{row_count}
+use Rattle.csv_rows.proofs.FirstLemmas.{first-zero, first-next, first-at}
+use Rattle.csv_rows.proofs.ListLemmas.{list_below-zero, list_below-next}
+use Rattle.service_days.specs.Periods.{bad_period, period_of, period_or_none}
+use Rattle.service_days.proofs.PeriodLemmas.{period_is}
+use Rattle.service_days.proofs.periods.read_periods.Goals as goal
+
+pub loop-i-init : goal.loop-i-init
+loop-i-init c =
+    let t = c.args.rows.now in
+    record { periods = c.new-periods.ensures.items ∙ sym (list_below-zero (period_of t)); none = first-zero (bad_period t) }
+
+pub returns-in-Err-clause-fault : goal.returns-in-Err-clause-fault
+returns-in-Err-clause-fault c = λ free.
+    let t = c.args.rows.now in
+    first-at (bad_period t) c.loop-i.i (row_count t) c.in-Err.fault (omega arith) c.loop-i.invariant.none
+    (ap fault_in (period_is t c.args.columns c.loop-i.i _ c.requires c.in-Err.ensures.fault))
+
+pub loop-i-preserved : goal.loop-i-preserved
+loop-i-preserved c =
+    let t = c.args.rows.now in
+    let here = period_is t c.args.columns c.loop-i.i _ c.requires c.in-Ok.ensures.period in
+    record {
+      periods = list_below-next (period_of t) c.loop-i.i c.loop-i.periods.items c.push.new.self.items c.in-Ok.period c.loop-i.invariant.periods
+          c.in-Ok-push.ensures.items (sym (ap period_or_none here));
+      none = first-next (bad_period t) c.loop-i.i None c.loop-i.invariant.none (ap fault_in here);
+    }

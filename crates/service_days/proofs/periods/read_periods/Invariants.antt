@@ -1,0 +1,11 @@
+use Rattle.std.proofs.Common.{◌≡◌, None}
+use Rattle.csv_rows.specs.First.{first_below}
+use Rattle.csv_rows.specs.Lists.{list_below}
+use Rattle.service_days.specs.Periods.{bad_period, period_of}
+use Rattle.service_days.proofs.periods.read_periods.Given as goal
+
+abbrev pub invariant-loop-i : goal.invariant-loop-i
+invariant-loop-i l = record {
+  periods : l.periods.items ≡ list_below (period_of l.rows) l.i;
+  none : first_below (bad_period l.rows) l.i ≡ None;
+}

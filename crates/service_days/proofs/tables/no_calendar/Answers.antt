@@ -1,0 +1,18 @@
+use Rattle.std.proofs.Common.{◌∙◌, sym, []}
+use Rattle.csv_rows.specs.declared.columns.Column.TheVariants.{ServiceId}
+use Rattle.csv_rows.specs.declared.feed_tables.Table.TheVariants.{Calendar}
+use Rattle.csv_rows.specs.RowFaults.{repeated_id}
+use Rattle.csv_rows.specs.Tables.{field}
+use Rattle.csv_rows.proofs.FirstLemmas.{first-zero}
+use Rattle.csv_rows.proofs.ListLemmas.{list_below-zero}
+use Rattle.service_days.specs.Periods.{period_of}
+use Rattle.service_days.proofs.tables.no_calendar.Goals as goal
+
+pub returns-clause-ids : goal.returns-clause-ids
+returns-clause-ids c = c.new.ensures ∙ sym (list_below-zero (field [] ServiceId))
+
+pub returns-clause-periods : goal.returns-clause-periods
+returns-clause-periods c = c.new-2.ensures.items ∙ sym (list_below-zero (period_of []))
+
+pub returns-clause-distinct : goal.returns-clause-distinct
+returns-clause-distinct c = first-zero (repeated_id Calendar (field [] ServiceId))

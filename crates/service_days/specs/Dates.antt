@@ -1,0 +1,70 @@
+-- The exceptions of `calendar_dates.txt`: days that are added to a service, or removed.
+use Rattle.std.specs.Prelude.{ℕ, ℤ, pos, ◌+◌, ◌&&◌, Bool, false, List, [], Option, Result, Ok}
+use Rattle.std.specs.Option.{option_or}
+use Rattle.std.specs.Ordering.{int_eq}
+use Rattle.std.specs.Str.{bytes_eq}
+use mathlib.Core.Bool.{beq}
+use Rattle.clock_text.specs.Times.{date_at}
+use Rattle.csv_rows.specs.declared.columns.Column.TheVariants.{ServiceId, Date, ExceptionType}
+use Rattle.csv_rows.specs.declared.feed_tables.Table.TheVariants.{CalendarDates}
+use Rattle.csv_rows.specs.declared.feed_tables.FeedFault.{FeedFault}
+use Rattle.csv_rows.specs.declared.feed_tables.FeedFault.TheVariants.{BadField}
+use Rattle.csv_rows.specs.First.{or_else, first_below, any_below, read}
+use Rattle.csv_rows.specs.Names.{name_in}
+use Rattle.csv_rows.specs.RowFaults.{fault_in, value_or, lack}
+use Rattle.csv_rows.specs.Tables.{row_count, place_of, field_at}
+use Rattle.service_days.specs.declared.dates.DateColumns.{DateColumns}
+use Rattle.service_days.specs.Forms.{adds_in}
+
+-- a service, a day, and whether it is added or removed
+pub record ServiceDate : Type 0 where
+  pub service : List ℕ
+  pub day : ℤ
+  pub adds : Bool
+
+-- the exception of these fields, or the first that is not of its form
+abbrev pub date_from : ℕ → (service date kind : List ℕ) → Result ServiceDate FeedFault
+date_from line service date kind =
+    read (name_in service) (BadField CalendarDates line ServiceId) (λ service'.
+    read (date_at date) (BadField CalendarDates line Date) (λ day.
+    read (adds_in kind) (BadField CalendarDates line ExceptionType) (λ adds.
+    Ok (record { service = service'; day = day; adds = adds }))))
+
+-- where the columns stand
+abbrev pub date_columns : List (List (List ℕ)) → DateColumns
+date_columns t = record { service = place_of ServiceId t; date = place_of Date t; kind = place_of ExceptionType t }
+
+-- the exception of row i
+abbrev pub date_in : List (List (List ℕ)) → DateColumns → ℕ → Result ServiceDate FeedFault
+date_in t c i = date_from (i + 2) (field_at t c.service i) (field_at t c.date i) (field_at t c.kind i)
+
+unfoldable pub date_at_row : List (List (List ℕ)) → ℕ → Result ServiceDate FeedFault
+date_at_row t i = date_in t (date_columns t) i
+
+-- the first field of row i that is not of its form
+abbrev pub bad_date : List (List (List ℕ)) → ℕ → Option FeedFault
+bad_date t i = fault_in (date_at_row t i)
+
+-- the exception of a row whose fields are of their forms
+abbrev pub date_or_none : Result ServiceDate FeedFault → ServiceDate
+date_or_none r = value_or (record { service = []; day = pos 0; adds = false }) r
+
+abbrev pub date_of : List (List (List ℕ)) → ℕ → ServiceDate
+date_of t i = date_or_none (date_at_row t i)
+
+-- whether an exception adds a day to a service, or removes it
+abbrev pub is_for : ServiceDate → List ℕ → ℤ → Bool → Bool
+is_for d service day adds = bytes_eq d.service service && (int_eq d.day day && beq d.adds adds)
+
+-- whether one of the first n rows does
+abbrev pub is_excepted : List (List (List ℕ)) → ℕ → List ℕ → ℤ → Bool → Bool
+is_excepted t n service day adds = any_below (λ i. is_for (date_of t i) service day adds) n
+
+-- the first required column that is not there
+abbrev pub missing_in : DateColumns → Option FeedFault
+missing_in c =
+    option_or (option_or (lack CalendarDates ServiceId c.service) (lack CalendarDates Date c.date)) (lack CalendarDates ExceptionType c.kind)
+
+-- the first fault of the exceptions
+unfoldable pub dates_fault : List (List (List ℕ)) → Option FeedFault
+dates_fault t = or_else (missing_in (date_columns t)) (first_below (bad_date t) (row_count t))

@@ -1,0 +1,18 @@
+-- Exceptions by the numbers of services.
+use Rattle.std.specs.Prelude.{ℕ, ℤ, ◌==◌, ◌&&◌, Bool, false, List, Option, Some, None}
+use Rattle.std.specs.List.{list_any}
+use Rattle.std.specs.Ordering.{int_eq}
+use mathlib.Core.Bool.{beq}
+use Rattle.service_days.specs.declared.exceptions.Exception.{Exception}
+
+abbrev pub same : Exception → Exception → Bool
+same a b = (a.service == b.service) && (int_eq a.day b.day && beq a.adds b.adds)
+
+-- whether this is one of them
+abbrev pub has : List Exception → Exception → Bool
+has exceptions e = list_any (same e) exceptions
+
+-- whether a day is added to the service of this number, or removed
+abbrev pub has_at : List Exception → ℤ → Bool → Option ℕ → Bool
+has_at exceptions day adds None = false
+has_at exceptions day adds (Some service) = has exceptions (record { service = service; day = day; adds = adds })

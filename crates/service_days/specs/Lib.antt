@@ -1,0 +1,8 @@
+pub mod Forms
+pub mod Periods
+pub mod Dates
+pub mod Exceptions
+pub mod Numbered
+pub mod Services
+pub mod Calendars
+pub mod Days

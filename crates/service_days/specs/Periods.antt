@@ -1,0 +1,124 @@
+-- The periods of `calendar.txt`: on which weekdays of which range of days a service runs.
+use Rattle.std.specs.Prelude.{ℕ, ℤ, pos, ◌+◌, ◌==◌, ◌&&◌, int_le, Bool, false, List, Option, Result, Ok, Err, if◌then◌else◌}
+use Rattle.std.specs.Option.{option_or}
+use Rattle.std.specs.Str.{bytes_eq}
+use Rattle.jiff_core.specs.Calendar.{weekday_number}
+use Rattle.clock_text.specs.Times.{date_at}
+use Rattle.csv_rows.specs.declared.columns.Column.TheVariants.{ServiceId, Monday, Tuesday, Wednesday, Thursday, Friday, Saturday, Sunday, StartDate, EndDate}
+use Rattle.csv_rows.specs.declared.feed_tables.Table.TheVariants.{Calendar}
+use Rattle.csv_rows.specs.declared.feed_tables.FeedFault.{FeedFault}
+use Rattle.csv_rows.specs.declared.feed_tables.FeedFault.TheVariants.{BadField}
+use Rattle.csv_rows.specs.First.{or_else, first_below, read}
+use Rattle.csv_rows.specs.Lists.{list_below}
+use Rattle.csv_rows.specs.Names.{name_in}
+use Rattle.csv_rows.specs.RowFaults.{fault_in, value_or, lack, repeated_id}
+use Rattle.csv_rows.specs.Tables.{row_count, place_of, field_at, field}
+use Rattle.service_days.specs.declared.periods.Week.{Week}
+use Rattle.service_days.specs.declared.periods.Period.{Period}
+use Rattle.service_days.specs.declared.periods.PeriodColumns.{PeriodColumns}
+use Rattle.service_days.specs.Forms.{flag_in}
+
+-- the flag of a weekday, from 0 for Monday to 6 for Sunday
+abbrev pub flag_of : Week → ℕ → Bool
+flag_of w day =
+    if day == 0 then w.monday else if day == 1 then w.tuesday else if day == 2 then w.wednesday else if day == 3 then w.thursday
+    else if day == 4 then w.friday else if day == 5 then w.saturday else w.sunday
+
+-- whether the range holds the day, both ends included, and the flag of the day's weekday is 1
+abbrev pub runs_by : Period → ℤ → Bool
+runs_by p day = int_le p.first day && (int_le day p.last && flag_of p.week (weekday_number day))
+
+-- the flags of these fields, or the first that is not of its form
+abbrev pub week_from : ℕ → (monday tuesday wednesday thursday friday saturday sunday : List ℕ) → Result Week FeedFault
+week_from line monday tuesday wednesday thursday friday saturday sunday =
+    read (flag_in monday) (BadField Calendar line Monday) (λ mon.
+    read (flag_in tuesday) (BadField Calendar line Tuesday) (λ tue.
+    read (flag_in wednesday) (BadField Calendar line Wednesday) (λ wed.
+    read (flag_in thursday) (BadField Calendar line Thursday) (λ thu.
+    read (flag_in friday) (BadField Calendar line Friday) (λ fri.
+    read (flag_in saturday) (BadField Calendar line Saturday) (λ sat.
+    read (flag_in sunday) (BadField Calendar line Sunday) (λ sun.
+    Ok (record { monday = mon; tuesday = tue; wednesday = wed; thursday = thu; friday = fri; saturday = sat; sunday = sun }))))))))
+
+-- what is read after the flags
+abbrev pub after_week : Result Week FeedFault → (Week → Result Period FeedFault) → Result Period FeedFault
+after_week (Ok week) rest = rest week
+after_week (Err fault) rest = Err fault
+
+-- the period of these fields and flags, or the first that is not of its form
+abbrev pub period_from : ℕ → (service : List ℕ) → Result Week FeedFault → (first last : List ℕ) → Result Period FeedFault
+period_from line service week first last =
+    read (name_in service) (BadField Calendar line ServiceId) (λ _.
+    after_week week (λ week'.
+    read (date_at first) (BadField Calendar line StartDate) (λ from.
+    read (date_at last) (BadField Calendar line EndDate) (λ to.
+    Ok (record { week = week'; first = from; last = to })))))
+
+-- where the columns stand
+abbrev pub period_columns : List (List (List ℕ)) → PeriodColumns
+period_columns t = record {
+  service = place_of ServiceId t;
+  monday = place_of Monday t;
+  tuesday = place_of Tuesday t;
+  wednesday = place_of Wednesday t;
+  thursday = place_of Thursday t;
+  friday = place_of Friday t;
+  saturday = place_of Saturday t;
+  sunday = place_of Sunday t;
+  first = place_of StartDate t;
+  last = place_of EndDate t;
+}
+
+-- the flags and the period of row i
+abbrev pub week_in : List (List (List ℕ)) → PeriodColumns → ℕ → Result Week FeedFault
+week_in t c i =
+    week_from (i + 2) (field_at t c.monday i) (field_at t c.tuesday i) (field_at t c.wednesday i) (field_at t c.thursday i) (field_at t c.friday i)
+    (field_at t c.saturday i) (field_at t c.sunday i)
+
+abbrev pub period_in : List (List (List ℕ)) → PeriodColumns → ℕ → Result Period FeedFault
+period_in t c i = period_from (i + 2) (field_at t c.service i) (week_in t c i) (field_at t c.first i) (field_at t c.last i)
+
+unfoldable pub period_at : List (List (List ℕ)) → ℕ → Result Period FeedFault
+period_at t i = period_in t (period_columns t) i
+
+-- the first field of row i that is not of its form
+abbrev pub bad_period : List (List (List ℕ)) → ℕ → Option FeedFault
+bad_period t i = fault_in (period_at t i)
+
+-- the period of a row whose fields are of their forms
+abbrev pub period_or_none : Result Period FeedFault → Period
+period_or_none r = value_or (record {
+  week = record { monday = false; tuesday = false; wednesday = false; thursday = false; friday = false; saturday = false; sunday = false };
+  first = pos 0;
+  last = pos 0;
+}) r
+
+abbrev pub period_of : List (List (List ℕ)) → ℕ → Period
+period_of t i = period_or_none (period_at t i)
+
+-- the services of the rows, and their periods
+abbrev pub service_ids : List (List (List ℕ)) → List (List ℕ)
+service_ids t = list_below (field t ServiceId) (row_count t)
+
+abbrev pub periods_of : List (List (List ℕ)) → List Period
+periods_of t = list_below (period_of t) (row_count t)
+
+-- whether row i lets a service run on a day
+abbrev pub runs_in_row : List (List (List ℕ)) → List ℕ → ℤ → ℕ → Bool
+runs_in_row t service day i = bytes_eq (field t ServiceId i) service && runs_by (period_of t i) day
+
+-- the first required column that is not there
+abbrev pub missing_in : PeriodColumns → Option FeedFault
+missing_in c =
+    option_or (option_or (option_or (option_or (option_or (option_or (option_or (option_or (option_or (lack Calendar ServiceId c.service) (lack Calendar Monday c.monday)) (lack Calendar Tuesday c.tuesday))
+    (lack Calendar Wednesday c.wednesday)) (lack Calendar Thursday c.thursday))
+    (lack Calendar Friday c.friday)) (lack Calendar Saturday c.saturday))
+    (lack Calendar Sunday c.sunday)) (lack Calendar StartDate c.first))
+    (lack Calendar EndDate c.last)
+
+-- the first fault of the calendar
+unfoldable pub calendar_fault : List (List (List ℕ)) → Option FeedFault
+calendar_fault t =
+    or_else (missing_in (period_columns t))
+    (or_else (first_below (bad_period t) (row_count t))
+    (first_below (repeated_id Calendar (field t ServiceId)) (row_count t)))

@@ -1,0 +1,134 @@
+//! Days that are added to services or removed, by the numbers of the services.
+ghost use Rattle.std.specs.Prelude.{◌≡◌, ◌≢◌, ◌<◌, ◌+◌, ◌-◌, ◌^◌, ◌||◌, Bool, ℕ, [], None, Some, IfOk, IfErr, OnOk, length};
+ghost use Rattle.csv_rows.specs.First.{first_below};
+ghost use Rattle.csv_rows.specs.FeedTables.{unread_of};
+ghost use Rattle.csv_rows.specs.Tables.{row_count, place_in};
+ghost use Rattle.plan_model.specs.NameLists.{Adds};
+ghost use Rattle.service_days.specs.declared.exceptions.Exception.{Exception};
+ghost use Rattle.service_days.specs.Dates.{date_columns, bad_date, dates_fault};
+ghost use Rattle.service_days.specs.Exceptions.{same, has};
+ghost use Rattle.service_days.specs.Numbered.{AddsDate, AreNumbered};
+
+use crate::dates::{DateColumns, ServiceDate, date_columns, missing_column, read_exception};
+use csv_rows::{FeedFault, Ids, Rows};
+use indexmap::IndexSet;
+use plan_model::NoMemory;
+use std::alloc::Global;
+
+/// A day that is added to a service or removed, by the number of the service.
+#[derive(Clone, Copy, Debug, PartialEq, Eq, Hash)]
+pub(crate) struct Exception {
+    pub(crate) service: u32,
+    pub(crate) day: i32,
+    pub(crate) adds: bool,
+}
+
+/// Services by their numbers, and the days that are added to them or removed.
+#[derive(Drop)]
+pub(crate) struct Numbered {
+    pub(crate) ids: Ids,
+    pub(crate) exceptions: IndexSet<Exception>,
+}
+
+/// Whether there is this exception.
+pub(crate) fn has(exceptions: &IndexSet<Exception>, exception: &Exception) -> bool
+    ensures { result ≡ has exceptions.now.keys exception.now }
+{
+    exceptions.contains(exception)
+}
+
+/// Adds an exception.
+fn insert(exceptions: &mut IndexSet<Exception>, exception: Exception) -> Result<(), NoMemory>
+    ensures { OnOk result ((e : Exception) → has exceptions.new.keys e
+        ≡ (same exception e || has exceptions.old.keys e)) }
+{
+    exceptions.insert(exception)?;
+    Ok(())
+}
+
+/// The number of a service, which is added where it is new.
+fn number_of(alloc: Global, ids: &mut Ids, service: &str) -> Result<u32, NoMemory>
+    requires { length ids.old < 2 ^ 32 - 1 }
+    ensures added { OnOk result ((b : Bool) × Adds ids.old ids.new service.now b) }
+    ensures number { IfOk result (λ n. place_in service.now ids.new ≡ Some n) }
+{
+    ids.add(alloc, service)?;
+    match ids.number(service) {
+        Some(number) => Ok(number),
+        None => unreachable!(),
+    }
+}
+
+/// Adds the exception of a row.
+fn add(
+    alloc: Global,
+    ids: &mut Ids,
+    exceptions: &mut IndexSet<Exception>,
+    row: ServiceDate<'_>,
+) -> Result<(), NoMemory>
+    requires { length ids.old < 2 ^ 32 - 1 }
+    ensures { OnOk result (AddsDate ids.old ids.new exceptions.old.keys exceptions.new.keys
+        (record { service = row.entry.service.now; day = row.entry.day; adds = row.entry.adds })) }
+{
+    let service = number_of(alloc, ids, row.service)?;
+    insert(
+        exceptions,
+        Exception {
+            service,
+            day: row.day,
+            adds: row.adds,
+        },
+    )
+}
+
+/// The exceptions of all rows, or the first field that is not of its form.
+fn read_rows(
+    alloc: Global,
+    rows: &Rows,
+    columns: DateColumns,
+    ids: Ids,
+) -> Result<Numbered, FeedFault>
+    requires columns { columns ≡ date_columns rows.now }
+    requires few { length ids + row_count rows.now < 2 ^ 32 - 1 }
+    ensures numbered { IfOk result (λ n.
+        AreNumbered rows.now (row_count rows.now) ids n.ids n.exceptions.keys) }
+    ensures none { OnOk result (first_below (bad_date rows.now) (row_count rows.now) ≡ None) }
+    ensures fault { IfErr result (λ f. f ≢ FeedFault.NoMemory
+        → first_below (bad_date rows.now) (row_count rows.now) ≡ Some f) }
+    ensures content { IfErr result (λ f. unread_of f ≡ None) }
+{
+    let mut numbered = Numbered {
+        ids,
+        exceptions: IndexSet::new(alloc),
+    };
+    for i in 0..rows.count() {
+        let row = match read_exception(rows, columns, i) {
+            Ok(row) => row,
+            Err(fault) => return Err(fault),
+        };
+        match add(alloc, &mut numbered.ids, &mut numbered.exceptions, row) {
+            Ok(()) => {}
+            Err(_) => return Err(FeedFault::NoMemory),
+        }
+    }
+    Ok(numbered)
+}
+
+/// The exceptions of a table, or the first of its faults. The services that are there keep their numbers.
+pub(crate) fn read_exceptions(alloc: Global, rows: &Rows, ids: Ids) -> Result<Numbered, FeedFault>
+    requires { length ids + row_count rows.now < 2 ^ 32 - 1 }
+    ensures numbered { IfOk result (λ n.
+        AreNumbered rows.now (row_count rows.now) ids n.ids n.exceptions.keys) }
+    ensures none { OnOk result (dates_fault rows.now ≡ None) }
+    ensures fault { IfErr result (λ f. f ≢ FeedFault.NoMemory → dates_fault rows.now ≡ Some f) }
+    ensures content { IfErr result (λ f. unread_of f ≡ None) }
+{
+    let columns = date_columns(rows);
+    if let Some(fault) = missing_column(columns) {
+        return Err(fault);
+    }
+    match read_rows(alloc, rows, columns, ids) {
+        Ok(numbered) => Ok(numbered),
+        Err(fault) => Err(fault),
+    }
+}

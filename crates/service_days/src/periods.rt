@@ -1,0 +1,236 @@
+//! The periods of `calendar.txt`.
+ghost use Rattle.std.specs.Prelude.{◌≡◌, ◌≢◌, ◌<◌, ◌≤◌, ◌^◌, length, None, Some, Ok, Err, IfOk, IfErr, OnOk};
+ghost use Rattle.csv_rows.specs.First.{first_below};
+ghost use Rattle.csv_rows.specs.FeedTables.{unread_of};
+ghost use Rattle.csv_rows.specs.Tables.{row_count};
+ghost use Rattle.service_days.specs.Calendars.{AreDistinctRows};
+ghost use Rattle.service_days.specs.Periods.{flag_of, runs_by, period_columns, week_in, period_in, bad_period, missing_in, service_ids, periods_of, calendar_fault};
+
+use crate::forms::read_flag;
+use clock_text::{read_date, weekday};
+use csv_rows::{Column, FeedFault, Ids, Rows, Table, lack, read_ids, read_name};
+use std::alloc::Global;
+
+/// The flags of the weekdays.
+#[derive(Clone, Copy)]
+pub(crate) struct Week {
+    pub(crate) monday: bool,
+    pub(crate) tuesday: bool,
+    pub(crate) wednesday: bool,
+    pub(crate) thursday: bool,
+    pub(crate) friday: bool,
+    pub(crate) saturday: bool,
+    pub(crate) sunday: bool,
+}
+
+/// The weekdays on which a service runs, and the first and the last day of the range, as day numbers from 1970-01-01.
+#[derive(Clone, Copy)]
+pub(crate) struct Period {
+    pub(crate) week: Week,
+    pub(crate) first: i32,
+    pub(crate) last: i32,
+}
+
+/// The services of a calendar, and the period of each.
+#[derive(Drop)]
+pub(crate) struct Calendar {
+    pub(crate) ids: Ids,
+    pub(crate) periods: Vec<Period>,
+}
+
+/// Where the columns stand.
+#[derive(Clone, Copy)]
+pub(crate) struct PeriodColumns {
+    service: Option<usize>,
+    monday: Option<usize>,
+    tuesday: Option<usize>,
+    wednesday: Option<usize>,
+    thursday: Option<usize>,
+    friday: Option<usize>,
+    saturday: Option<usize>,
+    sunday: Option<usize>,
+    first: Option<usize>,
+    last: Option<usize>,
+}
+
+impl Week {
+    /// The flag of a weekday, from 0 for Monday to 6 for Sunday.
+    fn flag_of(&self, day: u8) -> bool
+        ensures { result ≡ flag_of self.now day }
+    {
+        if day == 0 {
+            self.monday
+        } else if day == 1 {
+            self.tuesday
+        } else if day == 2 {
+            self.wednesday
+        } else if day == 3 {
+            self.thursday
+        } else if day == 4 {
+            self.friday
+        } else if day == 5 {
+            self.saturday
+        } else {
+            self.sunday
+        }
+    }
+}
+
+impl Period {
+    /// Whether the range holds the day and the flag of its weekday is 1.
+    pub(crate) fn runs_on(&self, day: i32) -> bool
+        ensures { result ≡ runs_by self.now day }
+    {
+        self.first <= day && day <= self.last && self.week.flag_of(weekday(day))
+    }
+}
+
+/// Where the columns of the calendar stand.
+fn period_columns(rows: &Rows) -> PeriodColumns
+    ensures { result ≡ period_columns rows.now }
+{
+    PeriodColumns {
+        service: rows.place_of(Column::ServiceId),
+        monday: rows.place_of(Column::Monday),
+        tuesday: rows.place_of(Column::Tuesday),
+        wednesday: rows.place_of(Column::Wednesday),
+        thursday: rows.place_of(Column::Thursday),
+        friday: rows.place_of(Column::Friday),
+        saturday: rows.place_of(Column::Saturday),
+        sunday: rows.place_of(Column::Sunday),
+        first: rows.place_of(Column::StartDate),
+        last: rows.place_of(Column::EndDate),
+    }
+}
+
+/// The first required column that stands nowhere in the header.
+fn missing_column(columns: PeriodColumns) -> Option<FeedFault>
+    ensures { result ≡ missing_in columns }
+{
+    lack(Table::Calendar, Column::ServiceId, columns.service)
+        .or(lack(Table::Calendar, Column::Monday, columns.monday))
+        .or(lack(Table::Calendar, Column::Tuesday, columns.tuesday))
+        .or(lack(Table::Calendar, Column::Wednesday, columns.wednesday))
+        .or(lack(Table::Calendar, Column::Thursday, columns.thursday))
+        .or(lack(Table::Calendar, Column::Friday, columns.friday))
+        .or(lack(Table::Calendar, Column::Saturday, columns.saturday))
+        .or(lack(Table::Calendar, Column::Sunday, columns.sunday))
+        .or(lack(Table::Calendar, Column::StartDate, columns.first))
+        .or(lack(Table::Calendar, Column::EndDate, columns.last))
+}
+
+/// The flags of a row, or the first that is not of its form.
+fn read_week(rows: &Rows, columns: PeriodColumns, row: usize) -> Result<Week, FeedFault>
+    requires { row < row_count rows.now }
+    ensures week { IfOk result (λ w. week_in rows.now columns row ≡ Ok w) }
+    ensures fault { IfErr result (λ f. week_in rows.now columns row ≡ Err f) }
+    ensures content { IfErr result (λ f. unread_of f ≡ None) }
+{
+    let line = rows.line(row);
+    let Some(monday) = read_flag(rows.field_at(row, columns.monday)) else {
+        return Err(FeedFault::BadField(Table::Calendar, line, Column::Monday));
+    };
+    let Some(tuesday) = read_flag(rows.field_at(row, columns.tuesday)) else {
+        return Err(FeedFault::BadField(Table::Calendar, line, Column::Tuesday));
+    };
+    let Some(wednesday) = read_flag(rows.field_at(row, columns.wednesday)) else {
+        return Err(FeedFault::BadField(Table::Calendar, line, Column::Wednesday));
+    };
+    let Some(thursday) = read_flag(rows.field_at(row, columns.thursday)) else {
+        return Err(FeedFault::BadField(Table::Calendar, line, Column::Thursday));
+    };
+    let Some(friday) = read_flag(rows.field_at(row, columns.friday)) else {
+        return Err(FeedFault::BadField(Table::Calendar, line, Column::Friday));
+    };
+    let Some(saturday) = read_flag(rows.field_at(row, columns.saturday)) else {
+        return Err(FeedFault::BadField(Table::Calendar, line, Column::Saturday));
+    };
+    let Some(sunday) = read_flag(rows.field_at(row, columns.sunday)) else {
+        return Err(FeedFault::BadField(Table::Calendar, line, Column::Sunday));
+    };
+    Ok(Week {
+        monday,
+        tuesday,
+        wednesday,
+        thursday,
+        friday,
+        saturday,
+        sunday,
+    })
+}
+
+/// The period of a row, or the first field that is not of its form.
+fn read_period(rows: &Rows, columns: PeriodColumns, row: usize) -> Result<Period, FeedFault>
+    requires { row < row_count rows.now }
+    ensures period { IfOk result (λ p. period_in rows.now columns row ≡ Ok p) }
+    ensures fault { IfErr result (λ f. period_in rows.now columns row ≡ Err f) }
+    ensures content { IfErr result (λ f. unread_of f ≡ None) }
+{
+    let line = rows.line(row);
+    let Some(_) = read_name(rows.field_at(row, columns.service)) else {
+        return Err(FeedFault::BadField(Table::Calendar, line, Column::ServiceId));
+    };
+    let week = match read_week(rows, columns, row) {
+        Ok(week) => week,
+        Err(fault) => return Err(fault),
+    };
+    let Some(first) = read_date(rows.field_at(row, columns.first)) else {
+        return Err(FeedFault::BadField(Table::Calendar, line, Column::StartDate));
+    };
+    let Some(last) = read_date(rows.field_at(row, columns.last)) else {
+        return Err(FeedFault::BadField(Table::Calendar, line, Column::EndDate));
+    };
+    Ok(Period { week, first, last })
+}
+
+/// The period of each row, or the first field that is not of its form.
+fn read_periods(
+    alloc: Global,
+    rows: &Rows,
+    columns: PeriodColumns,
+) -> Result<Vec<Period>, FeedFault>
+    requires { columns ≡ period_columns rows.now }
+    ensures periods { IfOk result (λ periods. periods.items ≡ periods_of rows.now) }
+    ensures none { OnOk result (first_below (bad_period rows.now) (row_count rows.now) ≡ None) }
+    ensures fault { IfErr result (λ f. f ≢ FeedFault.NoMemory
+        → first_below (bad_period rows.now) (row_count rows.now) ≡ Some f) }
+    ensures content { IfErr result (λ f. unread_of f ≡ None) }
+{
+    let mut periods: Vec<Period> = Vec::new(alloc);
+    for i in 0..rows.count() {
+        let period = match read_period(rows, columns, i) {
+            Ok(period) => period,
+            Err(fault) => return Err(fault),
+        };
+        match periods.push(period) {
+            Ok(()) => {}
+            Err(_) => return Err(FeedFault::NoMemory),
+        }
+    }
+    Ok(periods)
+}
+
+/// The calendar of a table, or the first of its faults.
+pub(crate) fn read_calendar(alloc: Global, rows: &Rows) -> Result<Calendar, FeedFault>
+    requires { row_count rows.now ≤ 2 ^ 20 }
+    ensures ids { IfOk result (λ calendar. calendar.ids ≡ service_ids rows.now) }
+    ensures periods { IfOk result (λ calendar. calendar.periods.items ≡ periods_of rows.now) }
+    ensures few { IfOk result (λ calendar. length calendar.ids ≤ 2 ^ 20) }
+    ensures distinct { OnOk result (AreDistinctRows rows.now) }
+    ensures none { OnOk result (calendar_fault rows.now ≡ None) }
+    ensures fault { IfErr result (λ f. f ≢ FeedFault.NoMemory → calendar_fault rows.now ≡ Some f) }
+    ensures content { IfErr result (λ f. unread_of f ≡ None) }
+{
+    let columns = period_columns(rows);
+    if let Some(fault) = missing_column(columns) {
+        return Err(fault);
+    }
+    let periods = match read_periods(alloc, rows, columns) {
+        Ok(periods) => periods,
+        Err(fault) => return Err(fault),
+    };
+    match read_ids(alloc, rows, Table::Calendar, columns.service) {
+        Ok(ids) => Ok(Calendar { ids, periods }),
+        Err(fault) => Err(fault),
+    }
+}

@@ -1,0 +1,155 @@
+//! Services and the days on which they run.
+ghost use Rattle.std.specs.Prelude.{◌≡◌, ◌≢◌, ℕ, ℤ, None, Some, Err, IfOk, IfErr, IfSome, IsOkAnd, IsSome, ◌<◌, ◌+ℤ◌, pos, filter};
+ghost use Rattle.csv_rows.specs.FeedTables.{unread_of};
+ghost use Rattle.csv_rows.specs.Limits.{AreWithin};
+ghost use Rattle.csv_rows.specs.Loading.{HasFeedCause, HasFeedPathCause};
+ghost use Rattle.service_days.specs.Services.{period_runs, runs};
+ghost use Rattle.service_days.specs.Days.{day_count, days_between};
+ghost use Rattle.service_days.specs.Calendars.{calendars_in, RunsBy, IsCalendarFault};
+
+use crate::exceptions::{Exception, has};
+use crate::periods::Period;
+use crate::tables::{LoadedCalendar, load_calendar, load_dates};
+use csv_rows::{FeedFault, Ids, Limits, Table};
+use file_ports::Files;
+use indexmap::IndexSet;
+use plan_model::{List, NoMemory};
+use std::alloc::Global;
+use std::marker::Model;
+
+/// The services of a feed, and the days on which each runs.
+#[derive(Drop)]
+pub struct Services {
+    ids: Ids,
+    periods: Vec<Period>,
+    exceptions: IndexSet<Exception>,
+}
+
+impl Model for Services {
+    ghost use Rattle.service_days.specs.Services.{ServiceParts};
+
+    ghost Value = { ServiceParts };
+
+    ghost view = { λ s. record {
+      ids = s.ids;
+      periods = s.periods.items;
+      exceptions = s.exceptions.keys;
+    } };
+}
+
+/// Whether the period of the service of this number lets it run on a day.
+fn period_runs(periods: &[Period], service: u32, day: i32) -> bool
+    ensures { result ≡ period_runs periods.now day (Some service) }
+{
+    match periods.get(service as usize) {
+        Some(period) => period.runs_on(day),
+        None => false,
+    }
+}
+
+impl Services {
+    /// Reads `calendar.txt` and `calendar_dates.txt` of the feed in this folder, or answers the first of their faults. At
+    /// least one of them has a record. `Read` comes only where opening or reading one of them failed.
+    pub fn read<F: Files>(
+        alloc: Global,
+        files: &mut F,
+        folder: &str,
+        limits: &Limits,
+    ) -> Result<Services, FeedFault>
+        requires { AreWithin limits.now }
+        ensures same { F.files files.new ≡ F.files files.old }
+        ensures services { IfSome (F.files files.old) (λ m. IfOk result (λ s.
+            IsOkAnd (calendars_in m folder.now limits.now None) (RunsBy (runs s)))) }
+        ensures fault { IfSome (F.files files.old) (λ m. IfErr result (λ f. f ≢ FeedFault.NoMemory
+            → calendars_in m folder.now limits.now (unread_of f) ≡ Err f)) }
+        ensures own { IfErr result IsCalendarFault }
+        ensures cause { HasFeedCause (F.faults files.old) (F.faults files.new) result }
+        ensures path_cause { HasFeedPathCause (IsSome (F.files files.old)) folder.now
+            (F.faults_of files.old) (F.faults_of files.new) result }
+    {
+        let LoadedCalendar { missing, calendar } = match load_calendar(
+            alloc, files, folder, limits,
+        ) {
+            Ok(calendar) => calendar,
+            Err(fault) => return Err(fault),
+        };
+        let dates = match load_dates(alloc, files, folder, limits, calendar.ids) {
+            Ok(dates) => dates,
+            Err(fault) => return Err(fault),
+        };
+        if missing && dates.missing {
+            return Err(FeedFault::MissingTable(Table::Calendar));
+        }
+        Ok(Services {
+            ids: dates.numbered.ids,
+            periods: calendar.periods,
+            exceptions: dates.numbered.exceptions,
+        })
+    }
+
+    /// Whether a service runs on a day, which is a day number from 1970-01-01: a row of `calendar.txt` has the service, its
+    /// range holds the day, both ends included, and the flag of the day's weekday is 1, or an exception adds the day; and
+    /// no exception removes it. A service that is named nowhere never runs.
+    pub fn runs_on(&self, service: &str, day: i32) -> bool
+        ensures { result ≡ runs self.now service.now day }
+    {
+        let Some(service) = self.ids.number(service) else {
+            return false;
+        };
+        let removed = Exception {
+            service,
+            day,
+            adds: false,
+        };
+        if has(&self.exceptions, &removed) {
+            return false;
+        }
+        let added = Exception {
+            service,
+            day,
+            adds: true,
+        };
+        has(&self.exceptions, &added) || period_runs(self.periods.as_slice(), service, day)
+    }
+
+    /// The days from `first` to `last`, both included, on which a service runs, rising. They are day numbers from
+    /// 1970-01-01. There is none where `first` is after `last`.
+    pub fn days(
+        &self,
+        alloc: Global,
+        service: &str,
+        first: i32,
+        last: i32,
+    ) -> Result<List<i32>, NoMemory>
+        ensures { IfOk result (λ days.
+            days ≡ filter (runs self.now service.now) (days_between first last)) }
+    {
+        let mut days: List<i32> = List::new(alloc);
+        for n in 0..day_count(first, last) {
+            let day = day_after(first, last, n);
+            if self.runs_on(service, day) {
+                days.push(day)?;
+            }
+        }
+        Ok(days)
+    }
+}
+
+/// How many days there are from a first to a last one.
+fn day_count(first: i32, last: i32) -> u64
+    ensures { result ≡ day_count first last }
+{
+    if first <= last {
+        (i64::from(last) - i64::from(first)).unsigned_abs() + 1
+    } else {
+        0
+    }
+}
+
+/// The day that is so many after the first.
+fn day_after(first: i32, last: i32, n: u64) -> i32
+    requires { n < day_count first last }
+    ensures { result ≡ first +ℤ pos n }
+{
+    (i64::from(first) + n as i64) as i32
+}

@@ -1,0 +1,168 @@
+//! The calendars of a feed, each loaded and read.
+ghost use Rattle.std.specs.Prelude.{◌≡◌, ◌≢◌, ◌≤◌, ◌^◌, ℕ, [], length, None, Some, Ok, Err, IfOk, IfErr, IfSome, IsSome, OnOk};
+ghost use Rattle.csv_rows.specs.declared.feed_tables.Table.TheVariants.{Calendar as CalendarTable, CalendarDates as DatesTable};
+ghost use Rattle.csv_rows.specs.FeedTables.{unread_of};
+ghost use Rattle.csv_rows.specs.Limits.{AreWithin};
+ghost use Rattle.csv_rows.specs.Loading.{HasAtMost, HasFeedCause, HasFeedPathCause};
+ghost use Rattle.csv_rows.specs.Tables.{row_count};
+ghost use Rattle.service_days.specs.Periods.{service_ids, periods_of};
+ghost use Rattle.service_days.specs.Numbered.{AreNumbered};
+ghost use Rattle.service_days.specs.Calendars.{is_missing, rows_of, fault_of_calendar, fault_of_dates, calendar_from, dates_from, load_in, IsCalendar, AreDates, AreDistinctRows, MayBeUnread};
+
+use crate::exceptions::{Numbered, read_exceptions};
+use crate::periods::{Calendar, read_calendar};
+use csv_rows::{FeedFault, Ids, Limits, Loaded, Table, read_table};
+use file_ports::Files;
+use indexmap::IndexSet;
+use std::alloc::Global;
+
+/// The calendar, and whether its table is absent.
+#[derive(Drop)]
+pub(crate) struct LoadedCalendar {
+    pub(crate) missing: bool,
+    pub(crate) calendar: Calendar,
+}
+
+/// The exceptions, and whether their table is absent.
+#[derive(Drop)]
+pub(crate) struct LoadedDates {
+    pub(crate) missing: bool,
+    pub(crate) numbered: Numbered,
+}
+
+/// Whether a table is absent, as one without a record is.
+fn is_missing(loaded: &Loaded) -> bool
+    ensures { result ≡ is_missing loaded.now }
+{
+    match loaded {
+        Loaded::Found(_) => false,
+        _ => true,
+    }
+}
+
+/// A calendar of no rows.
+fn no_calendar(alloc: Global) -> Calendar
+    ensures ids { result.ids ≡ service_ids [] }
+    ensures periods { result.periods.items ≡ periods_of [] }
+    ensures distinct { AreDistinctRows [] }
+    ensures few { length result.ids ≤ 2 ^ 20 }
+{
+    Calendar {
+        ids: Ids::new(alloc),
+        periods: Vec::new(alloc),
+    }
+}
+
+/// The services that are there, with no exceptions.
+fn no_exceptions(alloc: Global, ids: Ids) -> Numbered
+    ensures { AreNumbered [] 0 ids result.ids result.exceptions.keys }
+{
+    Numbered {
+        ids,
+        exceptions: IndexSet::new(alloc),
+    }
+}
+
+/// The calendar of what is loaded.
+fn calendar_of(alloc: Global, loaded: &Loaded) -> Result<Calendar, FeedFault>
+    requires { HasAtMost (2 ^ 20) loaded.now }
+    ensures ids { IfOk result (λ c. c.ids ≡ service_ids (rows_of loaded.now)) }
+    ensures periods { IfOk result (λ c. c.periods.items ≡ periods_of (rows_of loaded.now)) }
+    ensures distinct { OnOk result (AreDistinctRows (rows_of loaded.now)) }
+    ensures few { IfOk result (λ c. length c.ids ≤ 2 ^ 20) }
+    ensures none { OnOk result (fault_of_calendar loaded.now ≡ None) }
+    ensures fault { IfErr result (λ f. f ≢ FeedFault.NoMemory → fault_of_calendar loaded.now ≡ Some f) }
+    ensures content { IfErr result (λ f. unread_of f ≡ None) }
+{
+    match loaded {
+        Loaded::Found(rows) => match read_calendar(alloc, rows) {
+            Ok(calendar) => Ok(calendar),
+            Err(fault) => Err(fault),
+        },
+        Loaded::Absent => Ok(no_calendar(alloc)),
+        Loaded::NoRecord => Ok(no_calendar(alloc)),
+    }
+}
+
+/// The exceptions of what is loaded. The services that are there keep their numbers.
+fn exceptions_of(alloc: Global, loaded: &Loaded, ids: Ids) -> Result<Numbered, FeedFault>
+    requires rows { HasAtMost (2 ^ 24) loaded.now }
+    requires ids { length ids ≤ 2 ^ 20 }
+    ensures numbered { IfOk result (λ n. AreNumbered (rows_of loaded.now)
+        (row_count (rows_of loaded.now)) ids n.ids n.exceptions.keys) }
+    ensures none { OnOk result (fault_of_dates loaded.now ≡ None) }
+    ensures fault { IfErr result (λ f. f ≢ FeedFault.NoMemory → fault_of_dates loaded.now ≡ Some f) }
+    ensures content { IfErr result (λ f. unread_of f ≡ None) }
+{
+    match loaded {
+        Loaded::Found(rows) => match read_exceptions(alloc, rows, ids) {
+            Ok(numbered) => Ok(numbered),
+            Err(fault) => Err(fault),
+        },
+        Loaded::Absent => Ok(no_exceptions(alloc, ids)),
+        Loaded::NoRecord => Ok(no_exceptions(alloc, ids)),
+    }
+}
+
+/// The calendar of the folder.
+pub(crate) fn load_calendar<F: Files>(
+    alloc: Global,
+    files: &mut F,
+    folder: &str,
+    limits: &Limits,
+) -> Result<LoadedCalendar, FeedFault>
+    requires { AreWithin limits.now }
+    ensures same { F.files files.new ≡ F.files files.old }
+    ensures calendar { IfSome (F.files files.old) (λ m. IfOk result (λ c.
+        IsCalendar (calendar_from (load_in m folder.now limits.now None CalendarTable))
+        c.missing c.calendar.ids c.calendar.periods.items)) }
+    ensures fault { IfSome (F.files files.old) (λ m. IfErr result (λ f. f ≢ FeedFault.NoMemory
+        → calendar_from (load_in m folder.now limits.now (unread_of f) CalendarTable) ≡ Err f)) }
+    ensures few { IfOk result (λ c. length c.calendar.ids ≤ 2 ^ 20) }
+    ensures own { IfErr result (MayBeUnread CalendarTable) }
+    ensures cause { HasFeedCause (F.faults files.old) (F.faults files.new) result }
+    ensures path_cause { HasFeedPathCause (IsSome (F.files files.old)) folder.now
+        (F.faults_of files.old) (F.faults_of files.new) result }
+{
+    let loaded = match read_table(alloc, files, folder, Table::Calendar, limits) {
+        Ok(loaded) => loaded,
+        Err(fault) => return Err(fault),
+    };
+    let missing = is_missing(&loaded);
+    match calendar_of(alloc, &loaded) {
+        Ok(calendar) => Ok(LoadedCalendar { missing, calendar }),
+        Err(fault) => Err(fault),
+    }
+}
+
+/// The exceptions of the folder. The services that are there keep their numbers.
+pub(crate) fn load_dates<F: Files>(
+    alloc: Global,
+    files: &mut F,
+    folder: &str,
+    limits: &Limits,
+    ids: Ids,
+) -> Result<LoadedDates, FeedFault>
+    requires limits { AreWithin limits.now }
+    requires ids { length ids ≤ 2 ^ 20 }
+    ensures same { F.files files.new ≡ F.files files.old }
+    ensures dates { IfSome (F.files files.old) (λ m. IfOk result (λ d.
+        AreDates (dates_from (load_in m folder.now limits.now None DatesTable))
+        ids d.missing d.numbered.ids d.numbered.exceptions.keys)) }
+    ensures fault { IfSome (F.files files.old) (λ m. IfErr result (λ f. f ≢ FeedFault.NoMemory
+        → dates_from (load_in m folder.now limits.now (unread_of f) DatesTable) ≡ Err f)) }
+    ensures own { IfErr result (MayBeUnread DatesTable) }
+    ensures cause { HasFeedCause (F.faults files.old) (F.faults files.new) result }
+    ensures path_cause { HasFeedPathCause (IsSome (F.files files.old)) folder.now
+        (F.faults_of files.old) (F.faults_of files.new) result }
+{
+    let loaded = match read_table(alloc, files, folder, Table::CalendarDates, limits) {
+        Ok(loaded) => loaded,
+        Err(fault) => return Err(fault),
+    };
+    let missing = is_missing(&loaded);
+    match exceptions_of(alloc, &loaded, ids) {
+        Ok(numbered) => Ok(LoadedDates { missing, numbered }),
+        Err(fault) => Err(fault),
+    }
+}
