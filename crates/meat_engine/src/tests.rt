@@ -1,5 +1,6 @@
 //! Worked journeys, faults of the outside and refusals, through the top call.
 use super::*;
+use csv_rows::Limits;
 use file_ports::{MemoryFiles, MemorySink};
 use plan_model::List;
 use std::alloc::Global;
@@ -201,5 +202,52 @@ fn tells_faults_of_the_outside(rt: HostRuntime) -> Result<(), Fail> {
     assert_eq!(rt; unread.err.as_str(), "meat: cannot read cut file\n");
     let refused = run_over(alloc, &mut files, &["fly"], 0)?;
     assert_eq!(rt; refused.err.as_str(), "meat: unknown command\n");
+    Ok(())
+}
+
+#[test]
+fn refuses_what_is_too_much(rt: HostRuntime) -> Result<(), Fail> {
+    let alloc = rt.alloc();
+    let mut files = MemoryFiles::new(alloc, 64);
+    files.add("c", cut_of(alloc, CHANGE.as_slice())?.as_bytes())?;
+    files.add("d", USUAL.as_bytes())?;
+    let words = words_of(
+        alloc,
+        &[
+            "safe",
+            "--cut",
+            "c",
+            "--delays",
+            "d",
+            "--from",
+            "A",
+            "--to",
+            "T",
+            "--at",
+            "2024-06-03T08:00:00",
+        ],
+    )?;
+    for (bytes, cut_rows, fault) in [
+        (8, 3, Fault::Limit(LimitKind::Bytes(Input::Cut), 9)),
+        (1 << 20, 1, Fault::Limit(LimitKind::CutRows, 3)),
+    ] {
+        let limits = Limits {
+            bytes,
+            cut_rows,
+            ..Limits::standard()
+        };
+        let mut out = MemorySink::new(alloc, 64, 1 << 12, List::new(alloc))?;
+        let mut err = MemorySink::new(alloc, 64, 1 << 12, List::new(alloc))?;
+        let report = top::run_within(
+            alloc,
+            words.as_slice(),
+            &mut files,
+            &mut out,
+            &mut err,
+            &limits,
+        );
+        assert_eq!(rt; report.status.0, 6);
+        assert_eq!(rt; report.fault, Some(fault));
+    }
     Ok(())
 }
