@@ -44,7 +44,8 @@ fn worst_of(alloc: Global, problem: &Problem, start: Moment) -> Result<Option<Mo
     requires source { problem.now.source.0 < length problem.now.network.change }
     requires target { problem.now.target.0 < length problem.now.network.change }
     requires start { start.0 < 13601174401 }
-    ensures least { IfOk result (LeastWorst problem.now.network problem.now.source.0 problem.now.target.0 start.0) }
+    ensures least { IfOk result
+        (LeastWorst problem.now.network problem.now.source.0 problem.now.target.0 start.0) }
     ensures order { IfOk result (λ worst. IfSome worst (λ w. start.0 ≤ w.0)) }
     ensures early { IfOk result (λ worst. IfSome worst (λ w. w.0 < 13601174401)) }
 {
@@ -69,7 +70,8 @@ fn asked_of(alloc: Global, problem: &Problem, job: &Job) -> Result<Asked, Fault>
     requires start { job.now.start.0 ≤ 13569465599 }
     requires low { 100 ≤ job.now.alpha }
     requires high { job.now.alpha ≤ 1000 }
-    ensures asked { IfOk result (λ a. IsAsked problem.now.network problem.now.names (shown job.now) a.query a.worst) }
+    ensures asked { IfOk result (λ a.
+        IsAsked problem.now.network problem.now.names (shown job.now) a.query a.worst) }
     ensures printable { IfOk result (λ a. IsPrintableAsked problem.now.network a.query a.worst) }
     ensures none { IfErr result (FailsFor problem.now.network problem.now.names (shown job.now)) }
 {
@@ -94,7 +96,8 @@ fn safe_answer(alloc: Global, problem: &Problem, asked: Asked) -> Result<Answer,
     requires printable { IsPrintableAsked problem.now.network asked.query asked.worst }
     ensures query { IfOk result (λ a. a.query ≡ asked.query) }
     ensures worst { IfOk result (λ a. a.worst ≡ asked.worst) }
-    ensures tells { IfOk result (λ a. Tells Safe problem.now.network problem.now.names asked.query asked.worst
+    ensures tells { IfOk result (λ a.
+        Tells Safe problem.now.network problem.now.names asked.query asked.worst
         a.expanded a.graph a.bounds a.text.items) }
 {
     let Asked { query, worst } = asked;
@@ -119,11 +122,13 @@ fn expand_answer(
     asked: Asked,
 ) -> Result<Answer, NoMemory>
     requires fit { NamesFit problem.now.names problem.now.network }
-    requires asked { IsAsked problem.now.network problem.now.names (shown job.now) asked.query asked.worst }
+    requires asked { IsAsked problem.now.network problem.now.names (shown job.now)
+        asked.query asked.worst }
     requires printable { IsPrintableAsked problem.now.network asked.query asked.worst }
     ensures query { IfOk result (λ a. a.query ≡ asked.query) }
     ensures worst { IfOk result (λ a. a.worst ≡ asked.worst) }
-    ensures tells { IfOk result (λ a. Tells Expand problem.now.network problem.now.names asked.query asked.worst
+    ensures tells { IfOk result (λ a.
+        Tells Expand problem.now.network problem.now.names asked.query asked.worst
         a.expanded a.graph a.bounds a.text.items) }
 {
     let Asked { query, worst } = asked;
@@ -160,11 +165,13 @@ fn plan_answer(
     asked: Asked,
 ) -> Result<Answer, NoMemory>
     requires fit { NamesFit problem.now.names problem.now.network }
-    requires asked { IsAsked problem.now.network problem.now.names (shown job.now) asked.query asked.worst }
+    requires asked { IsAsked problem.now.network problem.now.names (shown job.now)
+        asked.query asked.worst }
     requires printable { IsPrintableAsked problem.now.network asked.query asked.worst }
     ensures query { IfOk result (λ a. a.query ≡ asked.query) }
     ensures worst { IfOk result (λ a. a.worst ≡ asked.worst) }
-    ensures tells { IfOk result (λ a. Tells Plan problem.now.network problem.now.names asked.query asked.worst
+    ensures tells { IfOk result (λ a.
+        Tells Plan problem.now.network problem.now.names asked.query asked.worst
         a.expanded a.graph a.bounds a.text.items) }
 {
     let Asked { query, worst } = asked;
@@ -201,8 +208,10 @@ pub(crate) fn answer_in(alloc: Global, problem: &Problem, job: &Job) -> Result<A
     requires start { job.now.start.0 ≤ 13569465599 }
     requires low { 100 ≤ job.now.alpha }
     requires high { job.now.alpha ≤ 1000 }
-    ensures asked { IfOk result (λ a. IsAsked problem.now.network problem.now.names (shown job.now) a.query a.worst) }
-    ensures tells { IfOk result (λ a. Tells job.now.command problem.now.network problem.now.names a.query a.worst
+    ensures asked { IfOk result (λ a.
+        IsAsked problem.now.network problem.now.names (shown job.now) a.query a.worst) }
+    ensures tells { IfOk result (λ a.
+        Tells job.now.command problem.now.network problem.now.names a.query a.worst
         a.expanded a.graph a.bounds a.text.items) }
     ensures none { IfErr result (FailsFor problem.now.network problem.now.names (shown job.now)) }
 {

@@ -35,7 +35,8 @@ pub(crate) fn load_rows<F: Files>(
         Agrees (λ rows. rows) (loaded limits.now.bytes input (file_at m path.now)) result) }
     ensures early { IfErr result IsEarly }
     ensures own { (other : Input) → IsErrOf result (Fault.Read other) → other ≡ input }
-    ensures causes { HasCauses (IsSome (F.files files.old)) (λ other. path.now) (F.faults files.old) (F.faults files.new)
+    ensures causes { HasCauses (IsSome (F.files files.old)) (λ other. path.now)
+        (F.faults files.old) (F.faults files.new)
         (F.faults_of files.old) (F.faults_of files.new) result }
 {
     match load(alloc, files, path, limits.bytes) {

@@ -37,10 +37,12 @@ fn read_cut_file<F: Files>(
 ) -> Result<CutTable, Fault>
     requires { AreWithin limits.now }
     ensures same { F.files files.new ≡ F.files files.old }
-    ensures table { IfSome (F.files files.old) (λ m. CutAgrees limits.now (file_at m path.now) result) }
+    ensures table { IfSome (F.files files.old) (λ m.
+        CutAgrees limits.now (file_at m path.now) result) }
     ensures own { (other : Input) → IsErrOf result (Fault.Read other) → other ≡ Input.Cut }
     ensures early { IfErr result IsEarly }
-    ensures causes { HasCauses (IsSome (F.files files.old)) (λ other. path.now) (F.faults files.old) (F.faults files.new)
+    ensures causes { HasCauses (IsSome (F.files files.old)) (λ other. path.now)
+        (F.faults files.old) (F.faults files.new)
         (F.faults_of files.old) (F.faults_of files.new) result }
 {
     match load_rows(alloc, files, path, Input::Cut, limits) {
@@ -63,10 +65,12 @@ fn read_delay_file<F: Files>(
 ) -> Result<DelayTable, Fault>
     requires { AreWithin limits.now }
     ensures same { F.files files.new ≡ F.files files.old }
-    ensures table { IfSome (F.files files.old) (λ m. DelayAgrees limits.now (file_at m path.now) result) }
+    ensures table { IfSome (F.files files.old) (λ m.
+        DelayAgrees limits.now (file_at m path.now) result) }
     ensures own { (other : Input) → IsErrOf result (Fault.Read other) → other ≡ Input.Delays }
     ensures early { IfErr result IsEarly }
-    ensures causes { HasCauses (IsSome (F.files files.old)) (λ other. path.now) (F.faults files.old) (F.faults files.new)
+    ensures causes { HasCauses (IsSome (F.files files.old)) (λ other. path.now)
+        (F.faults files.old) (F.faults files.new)
         (F.faults_of files.old) (F.faults_of files.new) result }
 {
     match load_rows(alloc, files, path, Input::Delays, limits) {
@@ -98,8 +102,9 @@ fn inputs_of<F: Files>(
     ensures inputs { IfSome (F.files files.old) (λ m. InputsAgree limits.now m (shown job.now)
         (inputs_shown result)) }
     ensures early { IfErr result IsEarly }
-    ensures causes { HasCauses (IsSome (F.files files.old)) (path_of (shown job.now)) (F.faults files.old)
-        (F.faults files.new) (F.faults_of files.old) (F.faults_of files.new) result }
+    ensures causes { HasCauses (IsSome (F.files files.old)) (path_of (shown job.now))
+        (F.faults files.old) (F.faults files.new)
+        (F.faults_of files.old) (F.faults_of files.new) result }
 {
     match read_cut_file(alloc, files, job.cut, limits) {
         Err(fault) => Err(fault),
@@ -122,7 +127,8 @@ fn stops_of(names: &Names, from: &str, to: &str) -> Result<Stops, Fault>
     ensures source { IfOk result (λ stops. IsAt names.now stops.source.0 from.now) }
     ensures target { IfOk result (λ stops. IsAt names.now stops.target.0 to.now) }
     ensures none { OnOk result (stop_fault names.now.places from.now to.now ≡ None) }
-    ensures fault { IfErr result (λ fault. stop_fault names.now.places from.now to.now ≡ Some fault) }
+    ensures fault { IfErr result (λ fault.
+        stop_fault names.now.places from.now to.now ≡ Some fault) }
     ensures early { IfErr result IsEarly }
     ensures quiet { (input : Input) → IsErrOf result (Fault.Read input) → ⊥ }
 {
@@ -143,8 +149,10 @@ fn problem_in(alloc: Global, inputs: &Inputs, job: &Job) -> Result<Problem, Faul
     ensures fit { IfOk result (λ p. NamesFit p.names p.network) }
     ensures source { IfOk result (λ p. IsAt p.names p.source.0 job.now.from.now) }
     ensures target { IfOk result (λ p. IsAt p.names p.target.0 job.now.to.now) }
-    ensures none { OnOk result (stop_fault inputs.now.cut.places job.now.from.now job.now.to.now ≡ None) }
-    ensures fault { IfErr result (FaultIs (stop_fault inputs.now.cut.places job.now.from.now job.now.to.now)) }
+    ensures none { OnOk result
+        (stop_fault inputs.now.cut.places job.now.from.now job.now.to.now ≡ None) }
+    ensures fault { IfErr result
+        (FaultIs (stop_fault inputs.now.cut.places job.now.from.now job.now.to.now)) }
     ensures early { IfErr result IsEarly }
     ensures quiet { (input : Input) → IsErrOf result (Fault.Read input) → ⊥ }
 {
@@ -179,8 +187,9 @@ pub(crate) fn problem_of<F: Files>(
     ensures source { IfOk result (λ p. IsAt p.names p.source.0 job.now.from.now) }
     ensures target { IfOk result (λ p. IsAt p.names p.target.0 job.now.to.now) }
     ensures early { IfErr result IsEarly }
-    ensures causes { HasCauses (IsSome (F.files files.old)) (path_of (shown job.now)) (F.faults files.old)
-        (F.faults files.new) (F.faults_of files.old) (F.faults_of files.new) result }
+    ensures causes { HasCauses (IsSome (F.files files.old)) (path_of (shown job.now))
+        (F.faults files.old) (F.faults files.new)
+        (F.faults_of files.old) (F.faults_of files.new) result }
 {
     match inputs_of(alloc, files, job, limits) {
         Err(fault) => Err(fault),

@@ -10,7 +10,8 @@ use std::alloc::Global;
 
 /// A row of fields, quoted where they need it, with its line end.
 fn row(alloc: Global, fields: &[&[u8]]) -> Result<Vec<u8>, NoMemory>
-    ensures { IfOk result (λ text. text.items ≡ row_text default_writer (map (λ field. field.now) fields.now)) }
+    ensures { IfOk result (λ text.
+        text.items ≡ row_text default_writer (map (λ field. field.now) fields.now)) }
 {
     let mut writer = WriterBuilder::new().from_writer(Vec::new(alloc));
     if writer.write_fields(fields).is_err() {

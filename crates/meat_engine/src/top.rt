@@ -33,10 +33,12 @@ fn answer_of<F: Files>(
     ensures same { F.files files.new ≡ F.files files.old }
     ensures answer { IfOk result (λ a. InTimetable (F.files files.old) limits.now (shown job.now)
         (λ network names. IsAsked network names (shown job.now) a.query a.worst
-        × Tells job.now.command network names a.query a.worst a.expanded a.graph a.bounds a.text.items)) }
+        × Tells job.now.command network names a.query a.worst
+        a.expanded a.graph a.bounds a.text.items)) }
     ensures fault { IfErr result (FailsJob (F.files files.old) limits.now (shown job.now)) }
-    ensures causes { HasCauses (IsSome (F.files files.old)) (path_of (shown job.now)) (F.faults files.old)
-        (F.faults files.new) (F.faults_of files.old) (F.faults_of files.new) result }
+    ensures causes { HasCauses (IsSome (F.files files.old)) (path_of (shown job.now))
+        (F.faults files.old) (F.faults files.new)
+        (F.faults_of files.old) (F.faults_of files.new) result }
 {
     match problem_of(alloc, files, job, limits) {
         Err(fault) => Err(fault),
@@ -52,8 +54,10 @@ fn answer_of<F: Files>(
 fn refuse<E: Sink>(alloc: Global, err: &mut E, fault: Fault) -> Report
     ensures status { result.status.0 ≡ status_of result.fault }
     ensures bare { IsBare result }
-    ensures fault { (result.fault ≡ Some fault) ⊎ ((result.fault ≡ Some Fault.NoMemory) × IsTold fault) }
-    ensures err { ErrReceived (E.written err.old) (E.written err.new) (E.faults err.old) (E.faults err.new) result.fault }
+    ensures fault { (result.fault ≡ Some fault)
+        ⊎ ((result.fault ≡ Some Fault.NoMemory) × IsTold fault) }
+    ensures err { ErrReceived (E.written err.old) (E.written err.new)
+        (E.faults err.old) (E.faults err.new) result.fault }
 {
     if let Some(line) = known_line(fault) {
         let _ = put_all(err, line.as_bytes());
@@ -122,7 +126,8 @@ fn tell<O: Sink, E: Sink>(answer: Answer, out: &mut O, err: &mut E) -> Report
     ensures graph { result.graph ≡ answer.graph }
     ensures bounds { result.bounds ≡ answer.bounds }
     ensures out { IsWritten (O.written out.old) (O.written out.new) answer.text.items result.fault }
-    ensures err { ErrReceived (E.written err.old) (E.written err.new) (E.faults err.old) (E.faults err.new) result.fault }
+    ensures err { ErrReceived (E.written err.old) (E.written err.new)
+        (E.faults err.old) (E.faults err.new) result.fault }
     ensures write { result.fault ≡ Some Fault.Write → Rose (O.faults out.old) (O.faults out.new) }
     ensures grew { O.faults out.old < O.faults out.new → result.fault ≡ Some Fault.Write }
 {
@@ -148,14 +153,19 @@ pub(crate) fn run_within<F: Files, O: Sink, E: Sink>(
     ensures status { result.status.0 ≡ status_of result.fault }
     ensures outcome { Outcome (F.files files.old) limits.now (map string_bytes words.now) result
         (O.written out.old) (O.written out.new) result.fault }
-    ensures err { ErrReceived (E.written err.old) (E.written err.new) (E.faults err.old) (E.faults err.new) result.fault }
+    ensures err { ErrReceived (E.written err.old) (E.written err.new)
+        (E.faults err.old) (E.faults err.new) result.fault }
 
     // The counts of the outside.
-    ensures read { (input : Input) → result.fault ≡ Some (Fault.Read input) → Rose (F.faults files.old) (F.faults files.new) }
-    ensures read_path { (wanted : Wanted) (input : Input) → job_of (map string_bytes words.now) ≡ Ok wanted
+    ensures read { (input : Input) → result.fault ≡ Some (Fault.Read input)
+        → Rose (F.faults files.old) (F.faults files.new) }
+    ensures read_path { (wanted : Wanted) (input : Input)
+        → job_of (map string_bytes words.now) ≡ Ok wanted
         → IsSome (F.files files.old) → result.fault ≡ Some (Fault.Read input)
-        → Rose (F.faults_of files.old (path_of wanted input)) (F.faults_of files.new (path_of wanted input)) }
-    ensures files_grew { F.faults files.old < F.faults files.new → (input : Input) × (result.fault ≡ Some (Fault.Read input)) }
+        → Rose (F.faults_of files.old (path_of wanted input))
+        (F.faults_of files.new (path_of wanted input)) }
+    ensures files_grew { F.faults files.old < F.faults files.new
+        → (input : Input) × (result.fault ≡ Some (Fault.Read input)) }
     ensures write { result.fault ≡ Some Fault.Write → Rose (O.faults out.old) (O.faults out.new) }
     ensures out_grew { O.faults out.old < O.faults out.new → result.fault ≡ Some Fault.Write }
     ensures same { F.files files.new ≡ F.files files.old }
@@ -181,14 +191,19 @@ pub fn run<F: Files, O: Sink, E: Sink>(
     ensures status { result.status.0 ≡ status_of result.fault }
     ensures outcome { Outcome (F.files files.old) standard (map string_bytes words.now) result
         (O.written out.old) (O.written out.new) result.fault }
-    ensures err { ErrReceived (E.written err.old) (E.written err.new) (E.faults err.old) (E.faults err.new) result.fault }
+    ensures err { ErrReceived (E.written err.old) (E.written err.new)
+        (E.faults err.old) (E.faults err.new) result.fault }
 
     // The counts of the outside.
-    ensures read { (input : Input) → result.fault ≡ Some (Fault.Read input) → Rose (F.faults files.old) (F.faults files.new) }
-    ensures read_path { (wanted : Wanted) (input : Input) → job_of (map string_bytes words.now) ≡ Ok wanted
+    ensures read { (input : Input) → result.fault ≡ Some (Fault.Read input)
+        → Rose (F.faults files.old) (F.faults files.new) }
+    ensures read_path { (wanted : Wanted) (input : Input)
+        → job_of (map string_bytes words.now) ≡ Ok wanted
         → IsSome (F.files files.old) → result.fault ≡ Some (Fault.Read input)
-        → Rose (F.faults_of files.old (path_of wanted input)) (F.faults_of files.new (path_of wanted input)) }
-    ensures files_grew { F.faults files.old < F.faults files.new → (input : Input) × (result.fault ≡ Some (Fault.Read input)) }
+        → Rose (F.faults_of files.old (path_of wanted input))
+        (F.faults_of files.new (path_of wanted input)) }
+    ensures files_grew { F.faults files.old < F.faults files.new
+        → (input : Input) × (result.fault ≡ Some (Fault.Read input)) }
     ensures write { result.fault ≡ Some Fault.Write → Rose (O.faults out.old) (O.faults out.new) }
     ensures out_grew { O.faults out.old < O.faults out.new → result.fault ≡ Some Fault.Write }
     ensures same { F.files files.new ≡ F.files files.old }
