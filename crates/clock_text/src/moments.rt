@@ -3,7 +3,7 @@ ghost use Rattle.std.specs.Prelude.{◌≡◌, ◌<◌, ◌≤◌, option_map, I
 ghost use Rattle.jiff_core.specs.Calendar.{days_from_civil};
 ghost use Rattle.jiff_core.specs.Date.{epoch_day};
 ghost use Rattle.clock_text.specs.Civil.{moment_text, nanos_text};
-ghost use Rattle.clock_text.specs.Times.{day_of, has_marks, moment_of, moment_at, nanos_at, nanos_of};
+ghost use Rattle.clock_text.specs.Times.{as_parts, day_of, has_marks, moment_of, moment_at, nanos_at, nanos_of};
 
 use crate::dates::date_from;
 use crate::digits::{four, nine, read_digits, two};
@@ -53,7 +53,7 @@ fn moment_of(w: &Written) -> Option<Moment>
     requires year { w.now.year < 10000 }
     requires month { w.now.month < 100 }
     requires day { w.now.day < 100 }
-    ensures { option_map (λ m. m.0) result ≡ moment_of (record { year = w.now.year; month = w.now.month; day = w.now.day; hour = w.now.hour; minute = w.now.minute; second = w.now.second }) }
+    ensures { option_map (λ m. m.0) result ≡ moment_of (as_parts w.now) }
 {
     if w.year < 1970 || w.hour > 23 || w.minute > 59 || w.second > 59 {
         return None;
@@ -104,7 +104,7 @@ fn parts_of(moment: u64) -> Written
     ensures hour { result.hour < 100 }
     ensures minute { result.minute < 100 }
     ensures second { result.second < 100 }
-    ensures moment { moment_of (record { year = result.year; month = result.month; day = result.day; hour = result.hour; minute = result.minute; second = result.second }) ≡ Some moment }
+    ensures moment { moment_of (as_parts result) ≡ Some moment }
 {
     let date = date_since_1970((moment / 86400) as u32).to_plain();
     let second = (moment % 86400) as u32;

@@ -79,7 +79,8 @@ pub fn read_table<F: Files>(
     ensures own { IfErr result (IsLoadFault table) }
     ensures absent { IfOk result (λ l. IsAbsent l ↔ (F.in_hand files.new ≡ None)) }
     ensures cause { HasTableCause table (F.faults files.old) (F.faults files.new) result }
-    ensures path_cause { HasPathTableCause (IsSome (F.files files.old)) table (path_of folder.now table)
+    ensures path_cause { HasPathTableCause
+        (IsSome (F.files files.old)) table (path_of folder.now table)
         (F.faults_of files.old) (F.faults_of files.new) result }
 {
     let path = match path_of(alloc, folder, table) {

@@ -27,11 +27,13 @@ fn read_rest<F: Files>(alloc: Global, files: &mut F, most: usize) -> Result<Vec<
     requires most { most ≤ 2 ^ 30 }
     ensures same { F.files files.new ≡ F.files files.old }
     ensures in_hand { F.in_hand files.new ≡ F.in_hand files.old }
-    ensures whole { IfOk result (λ v. Consumes (F.left files.old) (F.left files.new) v.items × IsAtEnd (F.left files.new)) }
+    ensures whole { IfOk result (λ v. Consumes (F.left files.old) (F.left files.new) v.items
+        × IsAtEnd (F.left files.new)) }
     ensures bound { IfOk result (λ v. length v.items ≤ most) }
     ensures takes { Takes most (F.left files.old) (F.left files.new) result }
     ensures cause { HasReadCause (F.faults files.old) (F.faults files.new) result }
-    ensures path_cause { IfSome (F.in_hand files.old) (λ path. HasPathReadCause (IsSome (F.files files.old)) path
+    ensures path_cause { IfSome (F.in_hand files.old) (λ path. HasPathReadCause
+        (IsSome (F.files files.old)) path
         (F.faults_of files.old) (F.faults_of files.new) result) }
 {
     let mut bytes = Vec::new(alloc);

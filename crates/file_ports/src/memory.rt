@@ -29,8 +29,10 @@ fn count_fault(failing: &mut Vec<Named<Failing>>, path: &str, call: u64) -> bool
     ensures count { result ≡ true → faults_in failing.new.items path.now
         ≡ min (faults_in failing.old.items path.now + 1) (2 ^ 64 - 1) }
     ensures later { (p : List ℕ) → faults_in failing.old.items p ≤ faults_in failing.new.items p }
-    ensures others { (p : List ℕ) → p ≢ path.now → faults_in failing.new.items p ≡ faults_in failing.old.items p }
-    ensures calls { (p : List ℕ) (k : ℕ) → fails_in failing.new.items p k ≡ fails_in failing.old.items p k }
+    ensures others { (p : List ℕ) → p ≢ path.now → faults_in failing.new.items p
+        ≡ faults_in failing.old.items p }
+    ensures calls { (p : List ℕ) (k : ℕ) → fails_in failing.new.items p k
+        ≡ fails_in failing.old.items p k }
     ensures quiet { result ≡ false → failing.new.items ≡ failing.old.items }
 {
     let Some(index) = place_of(failing, path) else {
@@ -46,7 +48,8 @@ fn count_fault(failing: &mut Vec<Named<Failing>>, path: &str, call: u64) -> bool
 
 /// The place of this path's counter, which is made where there is none.
 fn counter(alloc: Global, failing: &mut Vec<Named<Failing>>, path: &str) -> Result<usize, NoMemory>
-    ensures place { IfOk result (λ i. position (λ e. bytes_eq (string_bytes e.path) path.now) failing.new.items
+    ensures place { IfOk result (λ i. position
+        (λ e. bytes_eq (string_bytes e.path) path.now) failing.new.items
         ≡ Some i) }
     ensures same { SameFailures failing.old.items failing.new.items }
 {
@@ -154,7 +157,8 @@ impl Files for MemoryFiles {
     fn open_file(&mut self, path: &str) -> Result<Presence, Failed>
         ensures same { Some (folder_of self.new) ≡ Some (folder_of self.old) }
         ensures opens { Opens (Some (folder_of self.old)) path.now result (left_of self.new) }
-        ensures in_hand { TakesInHand (IsSome (Some (folder_of self.old))) path.now result (hand_of self.new) }
+        ensures in_hand { TakesInHand
+            (IsSome (Some (folder_of self.old))) path.now result (hand_of self.new) }
         ensures cause { HasCause (total_faults self.old) (total_faults self.new) result }
         ensures path_cause { HasPathCause (IsSome (Some (folder_of self.old))) path.now
             (faults_at self.old) (faults_at self.new) result }

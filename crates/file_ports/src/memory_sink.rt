@@ -76,7 +76,8 @@ impl Sink for MemorySink {
         ensures bound { IfOk result (λ n. n ≤ length piece.now) }
         ensures bytes { WriteAppends (Some (held_of self.old)) (Some (held_of self.new)) result piece.now }
         ensures cause { HasCause (total_faults self.old) (total_faults self.new) result }
-        ensures fails { is_err result ≡ (list_any (λ c. nat_eq c (writes_of self.new)) (failing_of self.old)
+        ensures fails { is_err result ≡ (list_any
+            (λ c. nat_eq c (writes_of self.new)) (failing_of self.old)
             || nat_le (room_of self.old) (length (held_of self.old))) }
         ensures count { IfOk result (λ n. n ≡ min (min (piece_of self.old) (length piece.now))
             (room_of self.old - length (held_of self.old))) }

@@ -67,7 +67,8 @@ impl Shelf {
     pub fn open(&mut self, path: &str) -> Presence
         ensures files { folder_of self.new ≡ folder_of self.old }
         ensures opens { Opens {E = Failed} (Some (folder_of self.old)) path.now (Ok result) (left_of self.new) }
-        ensures hand { TakesInHand {E = Failed} (IsSome (Some (folder_of self.old))) path.now (Ok result)
+        ensures hand { TakesInHand {E = Failed}
+            (IsSome (Some (folder_of self.old))) path.now (Ok result)
             (hand_of self.new) }
         ensures piece { piece_of self.new ≡ piece_of self.old }
     {

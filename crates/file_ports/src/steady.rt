@@ -61,9 +61,11 @@ impl Files for SteadyFiles {
     fn open_file(&mut self, path: &str) -> Result<Presence, Failed>
         ensures same { Some (folder_of self.new) ≡ Some (folder_of self.old) }
         ensures opens { Opens (Some (folder_of self.old)) path.now result (left_of self.new) }
-        ensures in_hand { TakesInHand (IsSome (Some (folder_of self.old))) path.now result (hand_of self.new) }
+        ensures in_hand { TakesInHand
+            (IsSome (Some (folder_of self.old))) path.now result (hand_of self.new) }
         ensures cause { HasCause 0 0 result }
-        ensures path_cause { HasPathCause (IsSome (Some (folder_of self.old))) path.now (λ _. 0) (λ _. 0) result }
+        ensures path_cause { HasPathCause (IsSome (Some (folder_of self.old))) path.now
+            (λ _. 0) (λ _. 0) result }
         ensures never_fails { IsOk result }
         ensures piece { piece_of self.new ≡ piece_of self.old }
     {

@@ -45,7 +45,8 @@ fn gather(
 ) -> Result<Vec<BTreeSet<GraphRow>>, NoMemory>
     requires { All (λ r. IsLegOf network.now r.leg) graph.now.rides }
     ensures len { IfOk result (λ tables. length tables.items ≡ length network.now.change) }
-    ensures rows { IfOk result (λ tables. (place : ℕ) → place < length network.now.change → rows_in tables.items place ≡ gathered network.now place graph.now.rides []) }
+    ensures rows { IfOk result (λ tables. (place : ℕ) → place < length network.now.change
+        → rows_in tables.items place ≡ gathered network.now place graph.now.rides []) }
 {
     let mut tables = no_tables(alloc, network)?;
     let _count = network.count();
@@ -70,7 +71,8 @@ fn rows_of(alloc: Global, table: &BTreeSet<GraphRow>) -> Result<List<GraphRow>, 
 // Adds the table of a place, if it has rows.
 #[tactic(auto, using(crate::proofs::Lists::with_rows, crate::proofs::Lists::without_rows))]
 fn add_table(full: &mut List<PlaceTable>, place: u32, rows: List<GraphRow>) -> Result<(), NoMemory>
-    ensures { OnOk result ((more : Sequence TableParts) → full.new ++ more ≡ full.old ++ with_table place rows more) }
+    ensures { OnOk result ((more : Sequence TableParts) → full.new ++ more ≡ full.old
+        ++ with_table place rows more) }
 {
     if rows.len() == 0 {
         return Ok(());
@@ -106,7 +108,8 @@ pub fn compact(
 ) -> Result<PlanGraph, NoMemory>
     requires pruned { IsPruned network.now query.now graph.now }
     requires coherent { IsCoherent network.now graph.now }
-    ensures unfolds { IfOk result (λ plan. unfold_plan plan network.now query.now ≡ unfold_expanded graph.now network.now query.now) }
+    ensures unfolds { IfOk result (λ plan. unfold_plan plan network.now query.now
+        ≡ unfold_expanded graph.now network.now query.now) }
     ensures tidy { IfOk result (IsTidy network.now query.now) }
 {
     let _count = network.count();

@@ -36,7 +36,10 @@ fn add_limit(
     last: Option<Moment>,
     rows: &mut Vec<GraphRow>,
 ) -> Result<Option<Moment>, NoMemory>
-    ensures { IfOk result (λ now. (more : Option ℕ → Sequence RowParts) → rows.new.items ++ more (option_map (λ moment. moment.0) now) ≡ rows.old.items ++ with_limit (option_map (λ moment. moment.0) limit) leg more (option_map (λ moment. moment.0) last)) }
+    ensures { IfOk result (λ now. (more : Option ℕ → Sequence RowParts) → rows.new.items
+        ++ more (option_map (λ moment. moment.0) now) ≡ rows.old.items
+        ++ with_limit (option_map (λ moment. moment.0) limit) leg more
+        (option_map (λ moment. moment.0) last)) }
 {
     let Some(by) = limit else {
         return Ok(last);
@@ -100,9 +103,12 @@ pub fn prune(
     query: &Query,
 ) -> Result<ExpandedGraph, NoMemory>
     requires { IsReady network.now query.now graph.now }
-    ensures unfolds { IfOk result (λ pruned. unfold_expanded pruned network.now query.now ≡ unfold_expanded graph.now network.now query.now) }
+    ensures unfolds { IfOk result (λ pruned. unfold_expanded pruned network.now query.now
+        ≡ unfold_expanded graph.now network.now query.now) }
     ensures pruned { IfOk result (IsPruned network.now query.now) }
-    ensures follows { IfOk result (λ pruned. (choice : ℕ → ℕ → Option LegParts) → Follows network.now query.now.target.0 choice graph.now → Follows network.now query.now.target.0 choice pruned) }
+    ensures follows { IfOk result (λ pruned. (choice : ℕ → ℕ → Option LegParts)
+        → Follows network.now query.now.target.0 choice graph.now
+        → Follows network.now query.now.target.0 choice pruned) }
 {
     let _count = network.count();
     match graph.start {
@@ -123,5 +129,7 @@ pub fn prune(
 
 /// A pruned graph that follows a steady choice at each place is coherent.
 pub fn steady_is_coherent()
-    ensures { (n : Parts) (q : QueryParts) (graph : Graph) (choice : ℕ → ℕ → Option LegParts) → IsPruned n q graph → IsSteady n q.target.0 choice → Follows n q.target.0 choice graph → IsCoherent n graph }
+    ensures { (n : Parts) (q : QueryParts) (graph : Graph) (choice : ℕ → ℕ → Option LegParts)
+        → IsPruned n q graph → IsSteady n q.target.0 choice → Follows n q.target.0 choice graph
+        → IsCoherent n graph }
 {}

@@ -40,7 +40,8 @@ pub struct Head {
 fn put_row(writer: &mut Writer<Vec<u8>>, fields: &[&[u8]]) -> Result<(), NoMemory>
     requires { IsBetweenRows writer.old }
     ensures between { OnOk result (IsBetweenRows writer.new) }
-    ensures text { OnOk result (written writer.new ≡ written writer.old ++ row_of_fields (map (λ field. field.now) fields.now)) }
+    ensures text { OnOk result (written writer.new ≡ written writer.old
+        ++ row_of_fields (map (λ field. field.now) fields.now)) }
 {
     match writer.write_fields(fields) {
         Ok(()) => Ok(()),
@@ -62,7 +63,8 @@ fn put_leg<'a>(
     requires enter { leg.enter.0 < count network.now }
     requires exit { leg.exit.0 < count network.now }
     ensures between { OnOk result (IsBetweenRows writer.new) }
-    ensures text { OnOk result (written writer.new ≡ written writer.old ++ leg_row network.now names.now kind.now second.now leg) }
+    ensures text { OnOk result (written writer.new ≡ written writer.old
+        ++ leg_row network.now names.now kind.now second.now leg) }
 {
     let _count = network.count();
     let enter = network.get(leg.enter);
@@ -98,7 +100,8 @@ fn put_head(
     requires names { NamesFit names.now network.now }
     requires query { IsPrintableQuery network.now head.now.query }
     ensures between { OnOk result (IsBetweenRows writer.new) }
-    ensures text { OnOk result (written writer.new ≡ written writer.old ++ head_row names.now kind.now head.now) }
+    ensures text { OnOk result (written writer.new ≡ written writer.old
+        ++ head_row names.now kind.now head.now) }
 {
     let query = head.query;
     let start = write_moment(query.start);
@@ -132,7 +135,8 @@ fn put_start(
     requires names { NamesFit names.now network.now }
     requires leg { IfSome start (IsLegOf network.now) }
     ensures between { OnOk result (IsBetweenRows writer.new) }
-    ensures text { OnOk result (written writer.new ≡ written writer.old ++ start_text network.now names.now start) }
+    ensures text { OnOk result (written writer.new ≡ written writer.old
+        ++ start_text network.now names.now start) }
 {
     let Some(leg) = start else {
         return Ok(());
@@ -154,7 +158,8 @@ fn put_rows(
     requires names { NamesFit names.now network.now }
     requires rows { All (IsPrintableRow network.now) rows.now }
     ensures between { OnOk result (IsBetweenRows writer.new) }
-    ensures text { OnOk result (written writer.new ≡ written writer.old ++ rows_text network.now names.now kind.now rows.now) }
+    ensures text { OnOk result (written writer.new ≡ written writer.old
+        ++ rows_text network.now names.now kind.now rows.now) }
 {
     for row in rows {
         let by = write_moment(row.by);
@@ -174,7 +179,8 @@ fn put_ride(
     requires names { NamesFit names.now network.now }
     requires ride { IsPrintableRide network.now ride.now }
     ensures between { OnOk result (IsBetweenRows writer.new) }
-    ensures text { OnOk result (written writer.new ≡ written writer.old ++ ride_text network.now names.now ride.now) }
+    ensures text { OnOk result (written writer.new ≡ written writer.old
+        ++ ride_text network.now names.now ride.now) }
 {
     let mut number = Buffer::new();
     let number = number.format(ride.after.len()).as_bytes();
@@ -193,7 +199,8 @@ fn put_rides(
     requires names { NamesFit names.now network.now }
     requires rides { All (IsPrintableRide network.now) rides.now }
     ensures between { OnOk result (IsBetweenRows writer.new) }
-    ensures text { OnOk result (written writer.new ≡ written writer.old ++ rides_text network.now names.now rides.now) }
+    ensures text { OnOk result (written writer.new ≡ written writer.old
+        ++ rides_text network.now names.now rides.now) }
 {
     for ride in rides {
         put_ride(writer, network, names, ride)?;
@@ -231,7 +238,8 @@ pub fn write_expanded(
     requires names { NamesFit names.now network.now }
     requires query { IsPrintableQuery network.now head.now.query }
     requires graph { IsPrintable network.now graph.now }
-    ensures { IfOk result (λ text. text.items ≡ expanded_text network.now names.now head.now graph.now) }
+    ensures { IfOk result
+        (λ text. text.items ≡ expanded_text network.now names.now head.now graph.now) }
 {
     let mut writer = new_writer(alloc);
     put_head(&mut writer, network, names, b"expanded", head)?;
@@ -253,7 +261,8 @@ fn put_table(
     requires names { NamesFit names.now network.now }
     requires table { IsPrintableTable network.now table.now }
     ensures between { OnOk result (IsBetweenRows writer.new) }
-    ensures text { OnOk result (written writer.new ≡ written writer.old ++ table_text network.now names.now table.now) }
+    ensures text { OnOk result (written writer.new ≡ written writer.old
+        ++ table_text network.now names.now table.now) }
 {
     put_place(writer, network, names, table.place, table.rows.len())?;
     put_rows(writer, network, names, b"leg", table.rows.as_slice())
@@ -271,7 +280,8 @@ fn put_place(
     requires names { NamesFit names.now network.now }
     requires place { place.0 < length network.now.change }
     ensures between { OnOk result (IsBetweenRows writer.new) }
-    ensures text { OnOk result (written writer.new ≡ written writer.old ++ place_row network.now names.now place.0 count) }
+    ensures text { OnOk result (written writer.new ≡ written writer.old
+        ++ place_row network.now names.now place.0 count) }
 {
     let mut change = Buffer::new();
     let mut number = Buffer::new();
@@ -302,7 +312,8 @@ fn put_tables(
     requires names { NamesFit names.now network.now }
     requires tables { All (IsPrintableTable network.now) tables.now }
     ensures between { OnOk result (IsBetweenRows writer.new) }
-    ensures text { OnOk result (written writer.new ≡ written writer.old ++ tables_text network.now names.now tables.now) }
+    ensures text { OnOk result (written writer.new ≡ written writer.old
+        ++ tables_text network.now names.now tables.now) }
 {
     for table in tables {
         put_table(writer, network, names, table)?;
@@ -322,7 +333,8 @@ pub fn write(
     requires names { NamesFit names.now network.now }
     requires query { IsPrintableQuery network.now head.now.query }
     requires graph { IsPrintablePlan network.now graph.now }
-    ensures { IfOk result (λ text. text.items ≡ graph_text network.now names.now head.now graph.now) }
+    ensures { IfOk result
+        (λ text. text.items ≡ graph_text network.now names.now head.now graph.now) }
 {
     let mut writer = new_writer(alloc);
     put_head(&mut writer, network, names, b"graph", head)?;
@@ -335,15 +347,19 @@ pub fn write(
 
 /// A graph that is ready to be pruned can be printed.
 pub fn ready_is_printable()
-    ensures { (n : Parts) (q : QueryParts) (graph : Expanded) → IsValid n → IsReady n q graph → IsPrintable n graph }
+    ensures { (n : Parts) (q : QueryParts) (graph : Expanded) → IsValid n → IsReady n q graph
+        → IsPrintable n graph }
 {}
 
 /// A graph that fits a network can be printed.
 pub fn fit_is_printable()
-    ensures { (n : Parts) (q : QueryParts) (graph : Plan) → IsValid n → IsFit n q graph → IsPrintablePlan n graph }
+    ensures { (n : Parts) (q : QueryParts) (graph : Plan) → IsValid n → IsFit n q graph
+        → IsPrintablePlan n graph }
 {}
 
 /// What is read fits the network and the question, whose source, target and start are those given.
 pub fn read_fits()
-    ensures { (n : Parts) (names : NameLists) (text : Sequence ℕ) (source target start : ℕ) (head : HeadParts) (graph : Plan) → graph_of text n names source target start ≡ Ok (head, graph) → IsFit n head.query graph × IsAsked source target start head }
+    ensures { (n : Parts) (names : NameLists) (text : Sequence ℕ) (source target start : ℕ)
+        (head : HeadParts) (graph : Plan) → graph_of text n names source target start
+        ≡ Ok (head, graph) → IsFit n head.query graph × IsAsked source target start head }
 {}

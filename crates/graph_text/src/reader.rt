@@ -147,7 +147,8 @@ fn connection_of(network: &Network, run: RunId, step: u32) -> Option<ConnectionI
 // The leg of a row by its run and exit place, where the network has it.
 fn leg_found(network: &Network, numbers: &LegRow, run: RunId, place: PlaceId) -> Option<Leg>
     ensures found { result ≡ leg_found network.now numbers.now run.0 place.0 }
-    ensures there { IfSome result (λ leg. (leg.enter.0 < count network.now) × (leg.exit.0 < count network.now)) }
+    ensures there { IfSome result (λ leg. (leg.enter.0 < count network.now)
+        × (leg.exit.0 < count network.now)) }
 {
     let enter = connection_of(network, run, numbers.enter)?;
     let exit = connection_of(network, run, numbers.exit)?;
@@ -194,7 +195,8 @@ fn start_row(
     start: Moment,
 ) -> Result<Leg, TextFault>
     requires { row < row_count rows.now }
-    ensures { result ≡ start_in network.now names.now (row + 2) source.0 start.0 (slice_index_or rows.now (row + 1) []) }
+    ensures { result ≡ start_in network.now names.now (row + 2) source.0 start.0
+        (slice_index_or rows.now (row + 1) []) }
 {
     let line = rows.line(row);
     let Some(numbers) = leg_row(rows, row, b"start") else {
@@ -246,7 +248,8 @@ fn table_row(
 ) -> Result<GraphRow, TextFault>
     requires row { row < row_count rows.now }
     requires place { place.0 < length network.now.change }
-    ensures { result ≡ row_in network.now names.now (row + 2) place.0 last (slice_index_or rows.now (row + 1) []) }
+    ensures { result ≡ row_in network.now names.now (row + 2) place.0 last
+        (slice_index_or rows.now (row + 1) []) }
 {
     let line = rows.line(row);
     let Some(numbers) = leg_row(rows, row, b"leg") else {
@@ -310,7 +313,8 @@ fn table_start(
 ) -> Result<TableStart, TextFault>
     requires row { row < row_count rows.now }
     requires names { NamesFit names.now network.now }
-    ensures told { result ≡ table_in network.now names.now (row + 2) last (slice_index_or rows.now (row + 1) []) }
+    ensures told { result ≡ table_in network.now names.now (row + 2) last
+        (slice_index_or rows.now (row + 1) []) }
     ensures there { IfOk result (λ table. table.place.0 < length network.now.change) }
 {
     let line = rows.line(row);
@@ -431,7 +435,9 @@ fn read_place(
 ) -> Result<Reading, TextFault>
     requires row { row < row_count rows.now }
     requires names { NamesFit names.now network.now }
-    ensures told { begun reading (table_in network.now names.now (row + 2) (option_map (λ place. place.0) reading.place) (slice_index_or rows.now (row + 1) [])) ≡ result }
+    ensures told { begun reading (table_in network.now names.now (row + 2)
+        (option_map (λ place. place.0) reading.place) (slice_index_or rows.now (row + 1) []))
+        ≡ result }
     ensures place { IfOk result (IsPlaced network.now) }
 {
     match table_start(rows, row, network, names, number(reading.place)) {
@@ -454,7 +460,9 @@ fn read_leg(
     requires left { 1 ≤ reading.left }
     requires last { reading.place ≡ Some place }
     requires place { place.0 < length network.now.change }
-    ensures told { IsRead result (extended reading (row_in network.now names.now (row + 2) place.0 (option_map (λ moment. moment.0) reading.by) (slice_index_or rows.now (row + 1) []))) }
+    ensures told { IsRead result (extended reading
+        (row_in network.now names.now (row + 2) place.0
+        (option_map (λ moment. moment.0) reading.by) (slice_index_or rows.now (row + 1) []))) }
     ensures place { IfOk result (IsPlaced network.now) }
 {
     match table_row(rows, row, network, names, place, seconds(reading.by)) {
@@ -478,7 +486,8 @@ fn read_row(
     requires row { row < row_count rows.now }
     requires names { NamesFit names.now network.now }
     requires place { IsPlaced network.now reading }
-    ensures told { IsRead result (step network.now names.now (row + 2) (slice_index_or rows.now (row + 1) []) reading) }
+    ensures told { IsRead result (step network.now names.now (row + 2)
+        (slice_index_or rows.now (row + 1) []) reading) }
     ensures place { IfOk result (IsPlaced network.now) }
 {
     if reading.left == 0 {
@@ -573,7 +582,8 @@ fn read_head(
     start: Moment,
 ) -> Result<Head, TextFault>
     ensures told { result ≡ head_in names.now source.0 target.0 start.0 (header rows.now) }
-    ensures query { IfOk result (λ head. (head.query.source ≡ source) × (head.query.target ≡ target) × (head.query.start ≡ start)) }
+    ensures query { IfOk result (λ head. (head.query.source ≡ source)
+        × (head.query.target ≡ target) × (head.query.start ≡ start)) }
 {
     let Some(numbers) = head_row(rows) else {
         return Err(TextFault::Row(1));
@@ -607,7 +617,8 @@ fn read_rows(
 ) -> Result<PlanGraph, TextFault>
     requires names { NamesFit names.now network.now }
     requires some { 0 < row_count rows.now }
-    ensures { IsRead result (started_in network.now names.now query.now.source.0 query.now.start.0 (slice_index_or rows.now 1 []) (drop 2 rows.now)) }
+    ensures { IsRead result (started_in network.now names.now query.now.source.0 query.now.start.0
+        (slice_index_or rows.now 1 []) (drop 2 rows.now)) }
 {
     let leg = match start_row(rows, 0, network, names, query.source, query.start) {
         Ok(leg) => leg,
@@ -631,7 +642,9 @@ fn read_graph(
     query: &Query,
 ) -> Result<PlanGraph, TextFault>
     requires { NamesFit names.now network.now }
-    ensures { IsRead result (graph_in network.now names.now query.now.source.0 query.now.target.0 query.now.start.0 (drop 1 rows.now)) }
+    ensures { IsRead result
+        (graph_in network.now names.now query.now.source.0 query.now.target.0 query.now.start.0
+        (drop 1 rows.now)) }
 {
     let here = query.source.0 == query.target.0;
     if rows.count() == 0 {

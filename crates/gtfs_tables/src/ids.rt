@@ -106,11 +106,13 @@ pub(crate) fn read_ids(
     requires few { row_count rows.now < 2 ^ 32 - 1 }
     requires named { (i : ℕ) → i < row_count rows.now
         → name_in (field_at rows.now column i) ≡ Some (field_at rows.now column i) }
-    ensures ids { IfOk result (λ ids. ids ≡ list_below (field_at rows.now column) (row_count rows.now)) }
+    ensures ids { IfOk result (λ ids. ids ≡ list_below (field_at rows.now column)
+        (row_count rows.now)) }
     ensures none { OnOk result
         (first_below (repeated_id table (field_at rows.now column)) (row_count rows.now) ≡ None) }
     ensures fault { IfErr result (λ f. f ≢ FeedFault.NoMemory
-        → first_below (repeated_id table (field_at rows.now column)) (row_count rows.now) ≡ Some f) }
+        → first_below (repeated_id table (field_at rows.now column)) (row_count rows.now)
+        ≡ Some f) }
     ensures content { IfErr result (λ f. unread_of f ≡ None) }
 {
     let mut ids = Ids::new(alloc);

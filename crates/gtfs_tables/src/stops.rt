@@ -70,7 +70,8 @@ fn read_stop(rows: &Rows, columns: StopColumns, row: usize) -> Result<Stop<'_>, 
 fn check_stops(rows: &Rows, columns: StopColumns) -> Result<(), FeedFault>
     requires { columns ≡ stop_columns rows.now }
     ensures none { OnOk result (first_below (bad_stop rows.now) (row_count rows.now) ≡ None) }
-    ensures fault { IfErr result (λ f. first_below (bad_stop rows.now) (row_count rows.now) ≡ Some f) }
+    ensures fault { IfErr result (λ f. first_below (bad_stop rows.now) (row_count rows.now)
+        ≡ Some f) }
     ensures content { IfErr result (λ f. unread_of f ≡ None) }
 {
     for i in 0..rows.count() {
@@ -86,9 +87,11 @@ fn check_stops(rows: &Rows, columns: StopColumns) -> Result<(), FeedFault>
 fn read_place(rows: &Rows, columns: StopColumns, ids: &Ids, row: usize) -> Result<u32, FeedFault>
     requires inside { row < row_count rows.now }
     requires few { row_count rows.now ≤ 1048576 }
-    ensures place { IfOk result (λ p. place_from ids.now (parent_in_row (stop_in rows.now columns row)) row ≡ p) }
+    ensures place { IfOk result
+        (λ p. place_from ids.now (parent_in_row (stop_in rows.now columns row)) row ≡ p) }
     ensures none { OnOk result (place_fault ids.now (stop_in rows.now columns row) row ≡ None) }
-    ensures fault { IfErr result (λ f. place_fault ids.now (stop_in rows.now columns row) row ≡ Some f) }
+    ensures fault { IfErr result (λ f. place_fault ids.now (stop_in rows.now columns row) row
+        ≡ Some f) }
     ensures content { IfErr result (λ f. unread_of f ≡ None) }
 {
     let stop = match read_stop(rows, columns, row) {

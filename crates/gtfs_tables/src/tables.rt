@@ -65,7 +65,8 @@ pub(crate) fn load_stops<F: Files>(
         AreStops (stops_from (load_in m folder.now limits.now None StopsTable)) s.ids s.places.items)) }
     ensures fault { IfSome (F.files files.old) (λ m. IfErr result (λ f. f ≢ FeedFault.NoMemory
         → stops_from (load_in m folder.now limits.now (unread_of f) StopsTable) ≡ Err f)) }
-    ensures sound { IfOk result (λ s. IsSound stops_fault (λ t. AreStops (Ok t) s.ids s.places.items)) }
+    ensures sound { IfOk result (λ s. IsSound stops_fault
+        (λ t. AreStops (Ok t) s.ids s.places.items)) }
     ensures sized { IfOk result (λ s. length s.places.items ≡ length s.ids) }
     ensures own { IfErr result (MayBeUnread StopsTable) }
     ensures cause { HasFeedCause (F.faults files.old) (F.faults files.new) result }
@@ -95,7 +96,8 @@ pub(crate) fn load_routes<F: Files>(
         AreRoutes (routes_from (load_in m folder.now limits.now None RoutesTable)) r.ids r.types.items)) }
     ensures fault { IfSome (F.files files.old) (λ m. IfErr result (λ f. f ≢ FeedFault.NoMemory
         → routes_from (load_in m folder.now limits.now (unread_of f) RoutesTable) ≡ Err f)) }
-    ensures sound { IfOk result (λ r. IsSound routes_fault (λ t. AreRoutes (Ok t) r.ids r.types.items)) }
+    ensures sound { IfOk result (λ r. IsSound routes_fault
+        (λ t. AreRoutes (Ok t) r.ids r.types.items)) }
     ensures sized { IfOk result (λ r. length r.types.items ≡ length r.ids) }
     ensures own { IfErr result (MayBeUnread RoutesTable) }
     ensures cause { HasFeedCause (F.faults files.old) (F.faults files.new) result }
@@ -128,7 +130,8 @@ pub(crate) fn load_trips<F: Files>(
         (trips_from (load_in m folder.now limits.now None TripsTable) routes.now.ids)
         t.ids (texts t.of_trips.services.items) t.of_trips.types.items)) }
     ensures fault { IfSome (F.files files.old) (λ m. IfErr result (λ f. f ≢ FeedFault.NoMemory
-        → trips_from (load_in m folder.now limits.now (unread_of f) TripsTable) routes.now.ids ≡ Err f)) }
+        → trips_from (load_in m folder.now limits.now (unread_of f) TripsTable) routes.now.ids
+        ≡ Err f)) }
     ensures sound { IfOk result (λ r. IsSound (trips_fault routes.now.ids)
         (λ t. AreTrips routes.now.ids routes.now.types.items (Ok t)
         r.ids (texts r.of_trips.services.items) r.of_trips.types.items)) }
@@ -207,7 +210,8 @@ pub(crate) fn check_frequencies<F: Files>(
     ensures none { IfSome (F.files files.old) (λ m. OnOk result
         (frequencies_from (load_in m folder.now limits.now None FrequenciesTable) ≡ None)) }
     ensures fault { IfSome (F.files files.old) (λ m. IfErr result (λ f. f ≢ FeedFault.NoMemory
-        → frequencies_from (load_in m folder.now limits.now (unread_of f) FrequenciesTable) ≡ Some f)) }
+        → frequencies_from (load_in m folder.now limits.now (unread_of f) FrequenciesTable)
+        ≡ Some f)) }
     ensures own { IfErr result (MayBeUnread FrequenciesTable) }
     ensures cause { HasFeedCause (F.faults files.old) (F.faults files.new) result }
     ensures path_cause { HasFeedPathCause (IsSome (F.files files.old)) folder.now

@@ -114,10 +114,12 @@ fn read_of_trips(
 ) -> Result<OfTrips, FeedFault>
     requires columns { columns ≡ trip_columns rows.now }
     requires types { length routes.now.types.items ≡ length routes.now.ids }
-    ensures services { IfOk result (λ o. texts o.services.items ≡ trip_services routes.now.ids rows.now) }
+    ensures services { IfOk result (λ o. texts o.services.items
+        ≡ trip_services routes.now.ids rows.now) }
     ensures types { IfOk result (λ o. o.types.items
         ≡ trip_types routes.now.ids routes.now.types.items rows.now) }
-    ensures none { OnOk result (first_below (bad_trip routes.now.ids rows.now) (row_count rows.now) ≡ None) }
+    ensures none { OnOk result (first_below (bad_trip routes.now.ids rows.now)
+        (row_count rows.now) ≡ None) }
     ensures fault { IfErr result (λ f. f ≢ FeedFault.NoMemory
         → first_below (bad_trip routes.now.ids rows.now) (row_count rows.now) ≡ Some f) }
     ensures content { IfErr result (λ f. unread_of f ≡ None) }
@@ -158,10 +160,13 @@ pub(crate) fn read_trips(alloc: Global, rows: &Rows, routes: &Routes) -> Result<
     ensures sound { IfOk result (λ trips. IsSound (trips_fault routes.now.ids)
         (λ t. AreTrips routes.now.ids routes.now.types.items (Ok t)
         trips.ids (texts trips.of_trips.services.items) trips.of_trips.types.items)) }
-    ensures services_sized { IfOk result (λ trips. length trips.of_trips.services.items ≡ length trips.ids) }
-    ensures types_sized { IfOk result (λ trips. length trips.of_trips.types.items ≡ length trips.ids) }
+    ensures services_sized { IfOk result (λ trips. length trips.of_trips.services.items
+        ≡ length trips.ids) }
+    ensures types_sized { IfOk result (λ trips. length trips.of_trips.types.items
+        ≡ length trips.ids) }
     ensures none { OnOk result (trips_fault routes.now.ids rows.now ≡ None) }
-    ensures fault { IfErr result (λ f. f ≢ FeedFault.NoMemory → trips_fault routes.now.ids rows.now ≡ Some f) }
+    ensures fault { IfErr result (λ f. f ≢ FeedFault.NoMemory
+        → trips_fault routes.now.ids rows.now ≡ Some f) }
     ensures content { IfErr result (λ f. unread_of f ≡ None) }
 {
     let columns = trip_columns(rows);

@@ -48,7 +48,9 @@ pub fn extract<V: Score>(
     query: &Query,
 ) -> Result<Option<ExpandedGraph>, NoMemory>
     requires { Solves V.below V.covers V.gap scanned.now network.now query.now }
-    ensures { IfOk result (λ graph. MatchOption graph (scanned.now.start ≡ None) (λ graph. (start : V × LegParts) × (scanned.now.start ≡ Some start) × IsExtracted network.now query.now scanned.now start.1 graph)) }
+    ensures { IfOk result (λ graph. MatchOption graph (scanned.now.start ≡ None)
+        (λ graph. (start : V × LegParts) × (scanned.now.start ≡ Some start)
+        × IsExtracted network.now query.now scanned.now start.1 graph)) }
 {
     let _count = network.count();
     match scanned.start() {

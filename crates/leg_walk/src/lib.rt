@@ -62,7 +62,8 @@ fn table<C: LegChoice>(
 ) -> Result<Vec<GraphRow>, NoMemory>
     requires fits { C.fits choice.now network.now query.now.target.0 }
     requires there { leg.exit.0 < count network.now }
-    ensures { IfOk result (λ rows. rows.items ≡ table_of network.now query.now.target.0 (C.chosen choice.now network.now) leg) }
+    ensures { IfOk result (λ rows. rows.items ≡ table_of network.now query.now.target.0
+        (C.chosen choice.now network.now) leg) }
 {
     let mut rows = Vec::new(alloc);
     let _count = network.count();
@@ -103,7 +104,10 @@ fn visit<C: LegChoice>(
     requires there { leg.exit.0 < count network.now }
     ensures ordered { OnOk result (IsOrdered leg_cmp seen.new) }
     ensures seen { OnOk result (seen.new.keys ≡ with_leg seen.old.keys leg) }
-    ensures todo { OnOk result (MatchBool (contains leg_cmp seen.old leg) (todo.new.items ≡ todo.old.items) (todo.new.items ≡ todo.old.items ++ map (λ row. row.leg) (table_of network.now query.now.target.0 (C.chosen choice.now network.now) leg))) }
+    ensures todo { OnOk result (MatchBool (contains leg_cmp seen.old leg)
+        (todo.new.items ≡ todo.old.items) (todo.new.items ≡ todo.old.items
+        ++ map (λ row. row.leg) (table_of network.now query.now.target.0
+        (C.chosen choice.now network.now) leg))) }
 {
     match seen.insert(leg) {
         Err(_) => Err(NoMemory),
@@ -128,8 +132,11 @@ fn reach<C: LegChoice>(
 ) -> Result<BTreeSet<Leg>, NoMemory>
     requires fits { C.fits choice.now network.now query.now.target.0 }
     requires differ { query.now.source.0 ≢ query.now.target.0 }
-    requires safe { IsSafeForSome network.now query.now (unfolded network.now query.now (C.chosen choice.now network.now) (Some start)) }
-    ensures { IfOk result (λ seen. IsReached network.now query.now.target.0 (C.chosen choice.now network.now) (unfolded network.now query.now (C.chosen choice.now network.now) (Some start)) start seen.keys) }
+    requires safe { IsSafeForSome network.now query.now
+        (unfolded network.now query.now (C.chosen choice.now network.now) (Some start)) }
+    ensures { IfOk result (λ seen. IsReached network.now query.now.target.0
+        (C.chosen choice.now network.now) (unfolded network.now query.now
+        (C.chosen choice.now network.now) (Some start)) start seen.keys) }
 {
     let mut seen = BTreeSet::new(alloc);
     let mut todo = Vec::new(alloc);
@@ -153,7 +160,9 @@ fn rides_of<C: LegChoice>(
 ) -> Result<List<Ride>, NoMemory>
     requires fits { C.fits choice.now network.now query.now.target.0 }
     requires there { AllByRecursion (λ leg. leg.exit.0 < count network.now) seen.now.keys }
-    ensures { IfOk result (λ rides. rides ≡ map (ride_of_leg network.now query.now.target.0 (C.chosen choice.now network.now)) seen.now.keys) }
+    ensures { IfOk result (λ rides. rides ≡ map
+        (ride_of_leg network.now query.now.target.0
+        (C.chosen choice.now network.now)) seen.now.keys) }
 {
     let mut rides = List::new(alloc);
     for leg in seen {
@@ -178,7 +187,8 @@ pub fn walk<C: LegChoice>(
 ) -> Result<List<Ride>, NoMemory>
     requires fits { C.fits choice.now network.now query.now.target.0 }
     requires differ { query.now.source.0 ≢ query.now.target.0 }
-    requires safe { IsSafeForSome network.now query.now (unfolded network.now query.now (C.chosen choice.now network.now) (Some start)) }
+    requires safe { IsSafeForSome network.now query.now
+        (unfolded network.now query.now (C.chosen choice.now network.now) (Some start)) }
     ensures { IfOk result (IsWalked network.now query.now (C.chosen choice.now network.now) start) }
 {
     let _count = network.count();

@@ -1,4 +1,11 @@
-//! The backward scan.
+//! The backward scan: the best safe strategy from the source, and from each place after each
+//! arrival, by any score.
+//!
+//! It follows the scan of Dibbelt, Strasser and Wagner, "Delay-Robust Journeys in Timetable Networks
+//! with Minimum Expected Arrival Time", ATMOS 2014. The connections are taken by falling departure.
+//! Each is offered as an exit of its run, by the values of what is done after each delay; and where
+//! it can be boarded, the best exit of its run gives a row for each place from which a way leads to
+//! it, and maybe the start leg.
 #![tactic(auto)]
 
 ghost use Rattle.std.specs.Prelude.{◌≡◌, ◌≢◌, ℕ, ◌+◌, ◌-◌, ◌<◌, ◌≤◌, length, All, Some, None, MatchBool, take, Option, [], IfOk, slice_index, count_by, ◌==◌, if◌then◌else◌};
@@ -269,7 +276,8 @@ fn scan_one<V: Score>(
     begin(network, query, id, exit, start)
 }
 
-/// The memory of a scan.
+/// The memory of a scan: the profile of each place, the best exit of each run, and the values after
+/// the delays of one ride.
 #[derive(Drop)]
 pub struct ScanTables<V: Score> {
     profiles: Vec<Profile<V>>,
@@ -289,7 +297,7 @@ impl<V: Score> Model for ScanTables<V> {
     } };
 }
 
-/// What a scan found.
+/// What a scan found: the start leg, and the leg to take after each arrival at each place.
 #[derive(Drop)]
 pub struct Scanned<V: Score> {
     profiles: Vec<Profile<V>>,
@@ -311,7 +319,7 @@ impl<V: Score> Model for Scanned<V> {
 }
 
 impl<V: Score> ScanTables<V> {
-    /// Takes all the memory that a scan of the network needs.
+    /// Takes all the memory that a scan of the network needs, or answers `NoMemory`.
     pub fn reserve(alloc: Global, network: &Network) -> Result<ScanTables<V>, NoMemory>
         ensures { IfOk result (FitsTables network.now) }
     {
@@ -390,14 +398,15 @@ fn reserve_kids<V: Score>(alloc: Global) -> Result<Vec<V>, NoMemory>
 }
 
 impl<V: Score> Scanned<V> {
-    /// The start leg with its value, if a strategy is safe.
+    /// The start leg with its value; none where no strategy is safe.
     pub fn start(&self) -> Option<(V, Leg)>
         ensures { result ≡ self.now.start }
     {
         self.start
     }
 
-    /// The leg to take after an arrival at a place, with its value.
+    /// The leg to take after an arrival at a place other than the target, with its value; none where
+    /// no strategy is safe from there.
     pub fn choice(&self, place: PlaceId, arrival: Moment) -> Option<(V, Leg)>
         requires there { place.0 < length self.now.rows }
         requires away { place.0 ≢ self.now.target }
@@ -410,7 +419,9 @@ impl<V: Score> Scanned<V> {
     }
 }
 
-/// Scans all connections backwards.
+/// Scans all connections backwards, for a query between two different places. What it finds is safe
+/// and best: its values are below those of every safe strategy, and each covers the strategy that it
+/// chooses, within a gap of as many units as there are connections. The order is used up.
 pub fn scan<V: Score, B: BackwardOrder>(
     tables: ScanTables<V>,
     network: &Network,

@@ -36,6 +36,7 @@ pub fn least_worst<B: BackwardOrder>(
     if source.0 == target.0 {
         return Some(start);
     }
+    // Whatever always arrives does so within a day after the last arrival that a network may have.
     let query = Query {
         source,
         target,
@@ -49,7 +50,8 @@ pub fn least_worst<B: BackwardOrder>(
     }
 }
 
-/// The deadline at a percentage of the time that the least worst arrival needs.
+/// The deadline at a percentage of the time that the least worst arrival needs, from 100 to 1,000,
+/// rounded down to a second.
 pub fn deadline(start: Moment, worst: Moment, alpha: u32) -> Moment
     requires order { start.0 ≤ worst.0 }
     requires early { worst.0 < 13601174401 }

@@ -24,7 +24,7 @@ use Rattle.trip_replay.specs.declared.Stop.{Stop}
 use Rattle.trip_replay.specs.declared.ReplayFault.{ReplayFault}
 use Rattle.trip_replay.specs.declared.ReplayFault.TheVariants as fault
 use Rattle.trip_replay.specs.Walk.{ridden, trace_of, walk, walk_kid, IsAnswer, IsSafeAnswer}
-use Rattle.trip_replay.specs.Stops.{has_delay, delayed, next_of, tree_at}
+use Rattle.trip_replay.specs.Stops.{has_delay, delayed, tree_at}
 
 same_delay : (a b : ℕ) → a ≡ b → (a == b) ≡ true
 same_delay a b is = grind (arith, nat_tests)

@@ -1,5 +1,5 @@
 -- Where a traveller stands between rides.
-use Rattle.std.specs.Prelude.{ℕ, zero, suc, ◌+◌, Bool, List, Option, Some, None, ◌==◌, if◌then◌else◌}
+use Rattle.std.specs.Prelude.{ℕ, ◌+◌, Bool, List, Option, Some, None, ◌==◌, if◌then◌else◌}
 use Rattle.std.specs.List.{list_any}
 use Rattle.plan_model.specs.declared.model.Leg.{Leg}
 use Rattle.plan_model.specs.declared.model.Outcome.{Outcome}
@@ -16,11 +16,6 @@ has_delay row delay = list_any (λ o. o.delay == delay) row
 -- the arrival of a leg with a delay, where it can have that delay
 abbrev pub delayed : Parts → Leg → ℕ → Option ℕ
 delayed n leg delay = if has_delay (outcomes_of n leg) delay then Some (arr_of n leg.exit.0 + delay) else None
-
--- the leg that is taken next, where more rides may follow
-abbrev pub next_of : ℕ → Option Leg → Option Leg
-next_of zero chosen = None
-next_of (suc left) chosen = chosen
 
 -- the tree from a stop on
 abbrev pub tree_at : Parts → ℕ → (Leg → ℕ → Option Leg) → Stop → Tree

@@ -82,7 +82,10 @@ fn stop_after(
 ) -> Stop
     requires fit { IsFit network.now query.now graph.now }
     requires leg { IsLegOf network.now leg }
-    ensures tree { tree_at network.now query.now.target.0 (by_place network.now (pick_at graph.now.tables)) result ≡ unfold_after network.now query.now.target.0 (by_place network.now (pick_at graph.now.tables)) left leg arrival.0 }
+    ensures tree { tree_at network.now query.now.target.0
+        (by_place network.now (pick_at graph.now.tables)) result
+        ≡ unfold_after network.now query.now.target.0
+        (by_place network.now (pick_at graph.now.tables)) left leg arrival.0 }
     ensures next { IfSome result.next (λ next. IsLegOf network.now next × (result.left < left)) }
     ensures left { result.left ≤ left }
 {
@@ -112,7 +115,8 @@ fn follow(
     delays: &[u32],
 ) -> Result<Trace, ReplayFault>
     requires { IsFit network.now query.now graph.now }
-    ensures { IsAnswer result (walk network.now (unfold_plan graph.now network.now query.now) delays.now []) }
+    ensures { IsAnswer result (walk network.now
+        (unfold_plan graph.now network.now query.now) delays.now []) }
 {
     let mut rides = List::new(alloc);
     let mut stop = Stop {
@@ -163,8 +167,10 @@ pub fn replay(
     delays: &[u32],
 ) -> Result<Trace, ReplayFault>
     requires { IsFit network.now query.now graph.now }
-    ensures walk { IsAnswer result (walk network.now (unfold_plan graph.now network.now query.now) delays.now []) }
-    ensures safe { IsSafeFor network.now query.now (unfold_plan graph.now network.now query.now) → IsSafeAnswer query.now.deadline.0 result }
+    ensures walk { IsAnswer result (walk network.now
+        (unfold_plan graph.now network.now query.now) delays.now []) }
+    ensures safe { IsSafeFor network.now query.now (unfold_plan graph.now network.now query.now)
+        → IsSafeAnswer query.now.deadline.0 result }
 {
     follow(alloc, graph, network, query, delays)
 }

@@ -1,4 +1,4 @@
-use Rattle.std.proofs.Common.{arith, ◌≡◌, ◌∙◌, ℤ, pos, ◌+ℤ◌, FitsSigned, w32, w64}
+use Rattle.std.proofs.Common.{arith, ◌≡◌, ◌∙◌, pos, ◌+ℤ◌, FitsSigned, w32, w64}
 use Rattle.std.proofs.lemmas.Result.{IfOk-at_ok}
 use Rattle.std.proofs.lemmas.Int.{to_z-of_z}
 use Rattle.jiff_core.proofs.SignedLemmas.{signed_arith}

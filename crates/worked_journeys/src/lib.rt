@@ -1,0 +1,5 @@
+//! Journeys that are worked out by hand, and refusals of words and files, through the top call.
+#![tactic(auto)]
+
+#[cfg(test)]
+mod tests;
