@@ -41,6 +41,7 @@ best_at_once n q same early = record {
   encloses = (mean_laws.arrived_below q.start.0, mean_laws.arrived_covers q.start.0);
   below_safe = below_all n q same;
   gap = omega arith;
+  at_once = λ same. refl;
 }
 
 -- nothing stands in an empty list

@@ -1,5 +1,5 @@
 -- From what a scan promises to a best strategy.
-use Rattle.std.proofs.Common.{◌≡◌, Option, Some, None, sym, ◌∙◌, subst}
+use Rattle.std.proofs.Common.{◌≡◌, ◌≢◌, Option, Some, None, sym, ◌∙◌, subst}
 use Rattle.std.specs.Prelude.{MatchOption}
 use Rattle.plan_model.specs.declared.model.Leg.{Leg}
 use Rattle.plan_model.specs.declared.model.Query.{Query}
@@ -26,18 +26,19 @@ started n q found start solves some =
     subst P some solves.answers.begins
 
 -- the strategy of the start is a best one
-best_strategy : (n : Parts) (q : Query) (found : Found MeanSpan) (start : MeanSpan × Leg) → IsStartAnswer mean_below mean_covers mean_gap n q found start → IsBest n q (chosen_by n q found start.1) start.0.0
-best_strategy n q found start answer = record {
+best_strategy : (n : Parts) (q : Query) (found : Found MeanSpan) (start : MeanSpan × Leg) → q.source.0 ≢ q.target.0 → IsStartAnswer mean_below mean_covers mean_gap n q found start → IsBest n q (chosen_by n q found start.1) start.0.0
+best_strategy n q found start differ answer = record {
   safe = answer.safe;
   encloses = (answer.below_safe (chosen_by n q found start.1) answer.safe, answer.covers_chosen);
   below_safe = answer.below_safe;
   gap = answer.gap_within;
+  at_once = λ same. absurd (differ same);
 }
 
 -- the graph that was extracted
 pub expanded : (n : Parts) (q : Query) (found : Found MeanSpan) (start : MeanSpan × Leg) (graph : ExpandedGraph) → Solves mean_below mean_covers mean_gap found n q → found.start ≡ Some start → IsExtracted n q found start.1 graph → IsExpanded n q graph start.0.0
 expanded n q found start graph solves some extracted = record {
-  best = subst (λ (t : Tree). IsBest n q t start.0.0) (sym extracted.unfolds) (best_strategy n q found start (started n q found start solves some));
+  best = subst (λ (t : Tree). IsBest n q t start.0.0) (sym extracted.unfolds) (best_strategy n q found start solves.differ (started n q found start solves some));
   ready = extracted.ready;
   busy = extracted.busy;
   arrivals = extracted.arrivals;

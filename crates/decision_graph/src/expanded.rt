@@ -13,7 +13,10 @@ use value_laws::MeanSpan;
 /// A decision graph ride by ride, with bounds on its expected arrival in nanoseconds.
 #[derive(Drop)]
 pub struct ExpandedPlan {
+    /// The graph.
     pub graph: ExpandedGraph,
+    /// Bounds on the expected arrival of the graph and on the least of all safe strategies, in
+    /// nanoseconds.
     pub bounds: Span,
 }
 

@@ -1,5 +1,6 @@
-//! The decision graph of a journey in a network: the strategy of least expected arrival among those
-//! that reach the target by the deadline whatever the delays, with bounds on that arrival.
+//! The decision graph of a journey in a network: a strategy that reaches the target by the deadline
+//! whatever the delays, with bounds that enclose its expected arrival and the least of all such
+//! strategies.
 //!
 //! The method is that of Dibbelt, Strasser and Wagner, "Delay-Robust Journeys in Timetable Networks
 //! with Minimum Expected Arrival Time" (ATMOS 2014), with a model of its own: departures are on time,

@@ -14,7 +14,10 @@ use std::alloc::Global;
 /// A decision graph with one table for each place, and bounds on its expected arrival in nanoseconds.
 #[derive(Drop)]
 pub struct CompactPlan {
+    /// The graph.
     pub graph: PlanGraph,
+    /// Bounds on the expected arrival of the graph and on the least of all safe strategies, in
+    /// nanoseconds.
     pub bounds: Span,
 }
 

@@ -132,6 +132,7 @@ fn expand_answer(
         a.expanded a.graph a.bounds a.text.items) }
 {
     let Asked { query, worst } = asked;
+    // What the job asks for is known to the proof alone.
     let _ = job;
     let found = match expand(alloc, &problem.network, &query) {
         Err(fault) => return Err(fault),
@@ -142,6 +143,7 @@ fn expand_answer(
         query,
         bounds: found.bounds,
     };
+    // That the network is valid is known from its count.
     let _count = problem.network.count();
     ready_is_printable();
     match write_expanded(alloc, &found.graph, &head, &problem.network, &problem.names) {
@@ -175,6 +177,7 @@ fn plan_answer(
         a.expanded a.graph a.bounds a.text.items) }
 {
     let Asked { query, worst } = asked;
+    // What the job asks for is known to the proof alone.
     let _ = job;
     let found = match plan(alloc, &problem.network, &query) {
         Err(fault) => return Err(fault),
@@ -185,6 +188,7 @@ fn plan_answer(
         query,
         bounds: found.bounds,
     };
+    // That the network is valid is known from its count.
     let _count = problem.network.count();
     fit_is_printable();
     match write(alloc, &found.graph, &head, &problem.network, &problem.names) {

@@ -22,7 +22,8 @@ pub struct Report {
     pub expanded: Option<ExpandedGraph>,
     /// The decision graph with one table for each place, of `plan`.
     pub graph: Option<PlanGraph>,
-    /// Bounds on the expected arrival of the graph, in nanoseconds.
+    /// Bounds on the expected arrival of the graph and on the least of all safe strategies, in
+    /// nanoseconds.
     pub bounds: Option<Span>,
     /// Why there is no answer, or why it was not written.
     pub fault: Option<Fault>,

@@ -180,7 +180,10 @@ pub(crate) fn run_within<F: Files, O: Sink, E: Sink>(
     }
 }
 
-/// Runs the command that the words ask for.
+/// Runs the command that the words ask for. The report has the answer at status 0 and at status 8,
+/// where it could not be written, and else the fault alone. At status 0 `out` received the whole text
+/// of the answer, at status 8 a front of it, and else nothing; `err` received the line of the fault,
+/// or a front of it where `err` failed.
 pub fn run<F: Files, O: Sink, E: Sink>(
     alloc: Global,
     words: &[String],
