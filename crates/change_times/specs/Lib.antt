@@ -1,0 +1,4 @@
+pub mod Forms
+pub mod Transfers
+pub mod Changes
+pub mod Inside

@@ -1,0 +1,92 @@
+-- The rows of `transfers.txt`: which change times they tell, and their faults. Row i stands in line i + 2.
+use Rattle.std.specs.Prelude.{ℕ, ◌+◌, ◌==◌, ◌&&◌, Bool, List, length, slice_index, Option, None, Result, Ok, option_map, if◌then◌else◌}
+use Rattle.std.specs.Option.{option_or}
+use Rattle.csv_rows.specs.declared.columns.Column.{Column}
+use Rattle.csv_rows.specs.declared.columns.Column.TheVariants.{FromStopId, ToStopId, TransferType, MinTransferTime, FromRouteId, ToRouteId, FromTripId, ToTripId}
+use Rattle.csv_rows.specs.declared.feed_tables.Table.TheVariants.{Transfers}
+use Rattle.csv_rows.specs.declared.feed_tables.FeedFault.{FeedFault}
+use Rattle.csv_rows.specs.declared.feed_tables.FeedFault.TheVariants.{BadField, UnknownKey}
+use Rattle.csv_rows.specs.First.{or_else, first_below, read}
+use Rattle.csv_rows.specs.Names.{name_in}
+use Rattle.csv_rows.specs.RowFaults.{fault_in, value_or, lack}
+use Rattle.csv_rows.specs.Tables.{row_count, place_in, place_of, field_at}
+use Rattle.gtfs_tables.specs.Feeds.{FeedParts, and_then}
+use Rattle.change_times.specs.declared.transfers.Change.{Change}
+use Rattle.change_times.specs.declared.transfers.TransferColumns.{TransferColumns}
+use Rattle.change_times.specs.Forms.{is_timed_in, seconds_in}
+
+-- the place of the stop of this id
+abbrev pub place_of_stop : FeedParts → List ℕ → Option ℕ
+place_of_stop feed id = option_map (λ stop. slice_index feed.places stop) (place_in id feed.stop_ids)
+
+-- the place of the stop that a field names
+abbrev pub place_from : FeedParts → ℕ → Column → List ℕ → Result ℕ FeedFault
+place_from feed line column text =
+    read (name_in text) (BadField Transfers line column) (λ id.
+    read (place_of_stop feed id) (UnknownKey Transfers line column) (λ place. Ok place))
+
+-- a transfer tells a change time where both its stops have one place and it has seconds
+abbrev pub change_between : (from to : ℕ) → Option ℕ → Option Change
+change_between from to seconds = if from == to then option_map (λ s. record { place = from; seconds = s }) seconds else None
+
+-- what these fields tell, or the first of them that is not of its form or names no stop
+abbrev pub timed_from : FeedParts → ℕ → (from to seconds : List ℕ) → Result (Option Change) FeedFault
+timed_from feed line from to seconds =
+    and_then (place_from feed line FromStopId from) (λ from'.
+    and_then (place_from feed line ToStopId to) (λ to'.
+    read (seconds_in seconds) (BadField Transfers line MinTransferTime) (λ seconds'.
+    Ok (change_between from' to' seconds'))))
+
+-- whether a row is for each route and each trip
+abbrev pub is_general : (from_route to_route from_trip to_trip : List ℕ) → Bool
+is_general from_route to_route from_trip to_trip =
+    length from_route == 0 && (length to_route == 0 && (length from_trip == 0 && length to_trip == 0))
+
+-- a row of another type than 2, or for some routes or trips, tells nothing, and its other fields are not looked at
+abbrev pub change_from : (kind : List ℕ) → ℕ → Bool → Result (Option Change) FeedFault → Result (Option Change) FeedFault
+change_from kind line general timed =
+    read (is_timed_in kind) (BadField Transfers line TransferType) (λ is_timed.
+    if is_timed && general then timed else Ok None)
+
+-- where the columns stand
+abbrev pub transfer_columns : List (List (List ℕ)) → TransferColumns
+transfer_columns t = record {
+  from = place_of FromStopId t;
+  to = place_of ToStopId t;
+  kind = place_of TransferType t;
+  seconds = place_of MinTransferTime t;
+  from_route = place_of FromRouteId t;
+  to_route = place_of ToRouteId t;
+  from_trip = place_of FromTripId t;
+  to_trip = place_of ToTripId t;
+}
+
+abbrev pub timed_in : FeedParts → List (List (List ℕ)) → TransferColumns → ℕ → Result (Option Change) FeedFault
+timed_in feed t c i = timed_from feed (i + 2) (field_at t c.from i) (field_at t c.to i) (field_at t c.seconds i)
+
+abbrev pub is_general_in : List (List (List ℕ)) → TransferColumns → ℕ → Bool
+is_general_in t c i = is_general (field_at t c.from_route i) (field_at t c.to_route i) (field_at t c.from_trip i) (field_at t c.to_trip i)
+
+-- what row i tells, or the first of its fields that is not of its form or names no stop
+abbrev pub change_in : FeedParts → List (List (List ℕ)) → TransferColumns → ℕ → Result (Option Change) FeedFault
+change_in feed t c i = change_from (field_at t c.kind i) (i + 2) (is_general_in t c i) (timed_in feed t c i)
+
+unfoldable pub change_at : FeedParts → List (List (List ℕ)) → ℕ → Result (Option Change) FeedFault
+change_at feed t i = change_in feed t (transfer_columns t) i
+
+-- the fault of row i
+abbrev pub bad_transfer : FeedParts → List (List (List ℕ)) → ℕ → Option FeedFault
+bad_transfer feed t i = fault_in (change_at feed t i)
+
+-- the change time that row i tells
+abbrev pub told_by : FeedParts → List (List (List ℕ)) → ℕ → Option Change
+told_by feed t i = value_or None (change_at feed t i)
+
+-- the first required column that is not there
+abbrev pub missing_in : TransferColumns → Option FeedFault
+missing_in c =
+    option_or (option_or (lack Transfers FromStopId c.from) (lack Transfers ToStopId c.to)) (lack Transfers TransferType c.kind)
+
+-- the first fault of the transfers
+unfoldable pub transfers_fault : FeedParts → List (List (List ℕ)) → Option FeedFault
+transfers_fault feed t = or_else (missing_in (transfer_columns t)) (first_below (bad_transfer feed t) (row_count t))

@@ -1,0 +1,151 @@
+//! The rows of `transfers.txt`.
+ghost use Rattle.std.specs.Prelude.{◌≡◌, ◌<◌, ◌≤◌, None, Ok, Err, IfOk, IfErr, IfSome};
+ghost use Rattle.csv_rows.specs.FeedTables.{unread_of};
+ghost use Rattle.csv_rows.specs.Tables.{row_count};
+ghost use Rattle.change_times.specs.Transfers.{place_from, change_between, transfer_columns, timed_in, is_general_in, change_in, missing_in};
+
+use crate::forms::{read_is_timed, read_seconds};
+use csv_rows::{Column, FeedFault, Rows, Table, lack, read_name};
+use gtfs_tables::Feed;
+use plan_model::PlaceId;
+
+/// The seconds that a row tells for a change at a place.
+#[derive(Clone, Copy)]
+pub(crate) struct Change {
+    pub(crate) place: u32,
+    pub(crate) seconds: u32,
+}
+
+/// Where the columns stand.
+#[derive(Clone, Copy)]
+pub(crate) struct TransferColumns {
+    from: Option<usize>,
+    to: Option<usize>,
+    kind: Option<usize>,
+    seconds: Option<usize>,
+    from_route: Option<usize>,
+    to_route: Option<usize>,
+    from_trip: Option<usize>,
+    to_trip: Option<usize>,
+}
+
+/// Where the columns of the transfers stand.
+pub(crate) fn transfer_columns(rows: &Rows) -> TransferColumns
+    ensures { result ≡ transfer_columns rows.now }
+{
+    TransferColumns {
+        from: rows.place_of(Column::FromStopId),
+        to: rows.place_of(Column::ToStopId),
+        kind: rows.place_of(Column::TransferType),
+        seconds: rows.place_of(Column::MinTransferTime),
+        from_route: rows.place_of(Column::FromRouteId),
+        to_route: rows.place_of(Column::ToRouteId),
+        from_trip: rows.place_of(Column::FromTripId),
+        to_trip: rows.place_of(Column::ToTripId),
+    }
+}
+
+/// The first required column that stands nowhere in the header.
+pub(crate) fn missing_column(columns: TransferColumns) -> Option<FeedFault>
+    ensures { result ≡ missing_in columns }
+{
+    lack(Table::Transfers, Column::FromStopId, columns.from)
+        .or(lack(Table::Transfers, Column::ToStopId, columns.to))
+        .or(lack(Table::Transfers, Column::TransferType, columns.kind))
+}
+
+/// The place of the stop that a field of this line names.
+fn read_place(feed: &Feed, text: &[u8], line: u64, column: Column) -> Result<PlaceId, FeedFault>
+    ensures place { IfOk result (λ p. place_from feed.now line column text.now ≡ Ok p.0) }
+    ensures fault { IfErr result (λ f. place_from feed.now line column text.now ≡ Err f) }
+    ensures content { IfErr result (λ f. unread_of f ≡ None) }
+{
+    let Some(id) = read_name(text) else {
+        return Err(FeedFault::BadField(Table::Transfers, line, column));
+    };
+    match feed.place_of(id) {
+        Some(place) => Ok(place),
+        None => Err(FeedFault::UnknownKey(Table::Transfers, line, column)),
+    }
+}
+
+/// What a transfer from one place to another tells for a change: its seconds, where it stays at its place and has some.
+fn change_between(from: PlaceId, to: PlaceId, seconds: Option<u32>) -> Option<Change>
+    ensures { result ≡ change_between from.0 to.0 seconds }
+{
+    if from.0 != to.0 {
+        return None;
+    }
+    match seconds {
+        Some(seconds) => Some(Change {
+            place: from.0,
+            seconds,
+        }),
+        None => None,
+    }
+}
+
+/// What a row of type 2 for all routes and trips tells, or the first of its faults.
+fn read_timed(
+    feed: &Feed,
+    rows: &Rows,
+    columns: TransferColumns,
+    row: usize,
+) -> Result<Option<Change>, FeedFault>
+    requires { row < row_count rows.now }
+    ensures change { IfOk result (λ c. timed_in feed.now rows.now columns row ≡ Ok c) }
+    ensures short { IfOk result (λ c. IfSome c (λ change. change.seconds ≤ 86400)) }
+    ensures fault { IfErr result (λ f. timed_in feed.now rows.now columns row ≡ Err f) }
+    ensures content { IfErr result (λ f. unread_of f ≡ None) }
+{
+    let line = rows.line(row);
+    let from = rows.field_at(row, columns.from);
+    let from = match read_place(feed, from, line, Column::FromStopId) {
+        Ok(place) => place,
+        Err(fault) => return Err(fault),
+    };
+    let to = rows.field_at(row, columns.to);
+    let to = match read_place(feed, to, line, Column::ToStopId) {
+        Ok(place) => place,
+        Err(fault) => return Err(fault),
+    };
+    let Some(seconds) = read_seconds(rows.field_at(row, columns.seconds)) else {
+        return Err(FeedFault::BadField(Table::Transfers, line, Column::MinTransferTime));
+    };
+    Ok(change_between(from, to, seconds))
+}
+
+/// Whether a row is for all routes and trips.
+fn is_general(rows: &Rows, columns: TransferColumns, row: usize) -> bool
+    requires { row < row_count rows.now }
+    ensures { result ≡ is_general_in rows.now columns row }
+{
+    rows.field_at(row, columns.from_route).is_empty()
+        && rows.field_at(row, columns.to_route).is_empty()
+        && rows.field_at(row, columns.from_trip).is_empty()
+        && rows.field_at(row, columns.to_trip).is_empty()
+}
+
+/// What a row tells for a change, or the first of its faults. A row of another type than 2, or for some routes or trips, tells
+/// nothing, and its other fields are not looked at.
+pub(crate) fn read_change(
+    feed: &Feed,
+    rows: &Rows,
+    columns: TransferColumns,
+    row: usize,
+) -> Result<Option<Change>, FeedFault>
+    requires { row < row_count rows.now }
+    ensures change { IfOk result (λ c. change_in feed.now rows.now columns row ≡ Ok c) }
+    ensures short { IfOk result (λ c. IfSome c (λ change. change.seconds ≤ 86400)) }
+    ensures fault { IfErr result (λ f. change_in feed.now rows.now columns row ≡ Err f) }
+    ensures content { IfErr result (λ f. unread_of f ≡ None) }
+{
+    let Some(is_timed) = read_is_timed(rows.field_at(row, columns.kind)) else {
+        let line = rows.line(row);
+        return Err(FeedFault::BadField(Table::Transfers, line, Column::TransferType));
+    };
+    if is_timed && is_general(rows, columns, row) {
+        return read_timed(feed, rows, columns, row);
+    }
+    Ok(None)
+}
