@@ -70,7 +70,7 @@ fn last_times(rt: HostRuntime) -> Result<(), Fail> {
     for (more, end) in [
         (1, "\nT10_95,24:15:50,24:15:50,H2,21\n"),
         (21, "\nT30_95,24:10:50,24:10:50,H1,21\n"),
-        (390, "\nT399_95,24:12:45,24:12:45,H0,21\n"),
+        (95, "\nT104_95,24:15:40,24:15:40,H6,21\n"),
     ] {
         let mut files = make(alloc, 10 + more % 391)?;
         let bytes = bytes_of(alloc, &mut files, "feed/stop_times.txt")?;
