@@ -1,0 +1,7 @@
+use Rattle.std.proofs.Common.{◌≡◌, ◌++◌, string_bytes}
+use Rattle.feed_maker.specs.Tables.{joined, own_row}
+use Rattle.feed_maker.proofs.tables.write_own_stops.Given as goal
+
+-- the rows of the stops so far
+abbrev pub invariant-loop-index : goal.invariant-loop-index
+invariant-loop-index l = string_bytes l.text ≡ string_bytes l.initial.text ++ joined (own_row l.line) l.index

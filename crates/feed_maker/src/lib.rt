@@ -1,0 +1,44 @@
+//! A timetable made by rule: lines between ten hubs, as the files of a feed and its delays.
+#![tactic(auto)]
+
+ghost use Rattle.std.specs.Prelude.{◌≡◌, ◌≤◌, None, IfOk};
+ghost use Rattle.file_ports.specs.Steady.{folder_of, hand_of, piece_of};
+ghost use Rattle.feed_maker.specs.Made.{made, SameFolder};
+
+mod lines;
+mod names;
+mod tables;
+#[cfg(test)]
+mod tests;
+
+use file_ports::SteadyFiles;
+use plan_model::NoMemory;
+use std::alloc::Global;
+
+/// The most bytes that a read gives.
+const PIECE: usize = 65_536;
+
+/// A feed of `size` lines in the folder `feed`, in the form of the GTFS Schedule reference, and the delays of its
+/// classes in `delays.csv`. No file is in hand, and a read gives at most 65,536 bytes.
+///
+/// A line goes from hub to hub over 19 stops of its own, and has 96 runs a day.
+pub fn make(alloc: Global, size: u32) -> Result<SteadyFiles, NoMemory>
+    requires low { 10 ≤ size }
+    requires high { size ≤ 400 }
+    ensures files { IfOk result (λ files. SameFolder (made size) (folder_of files)) }
+    ensures piece { IfOk result (λ files. piece_of files ≡ 65536) }
+    ensures hand { IfOk result (λ files. hand_of files ≡ None) }
+{
+    let mut files = SteadyFiles::new(alloc, PIECE);
+    let stops = tables::stops(alloc, size)?;
+    let routes = tables::routes(alloc, size)?;
+    let trips = tables::trips(alloc, size)?;
+    let stop_times = tables::stop_times(alloc, size)?;
+    files.add("delays.csv", tables::delays().as_bytes())?;
+    files.add("feed/calendar.txt", tables::calendar().as_bytes())?;
+    files.add("feed/stop_times.txt", stop_times.as_bytes())?;
+    files.add("feed/trips.txt", trips.as_bytes())?;
+    files.add("feed/routes.txt", routes.as_bytes())?;
+    files.add("feed/stops.txt", stops.as_bytes())?;
+    Ok(files)
+}

@@ -1,0 +1,87 @@
+//! What is written for stops, routes, trips and times.
+ghost use Rattle.std.specs.Prelude.{Some};
+ghost use Rattle.feed_maker.specs.Names.{route_name, trip_name, two_digits, time_text};
+
+use std::fmt;
+
+/// A stop of the feed.
+#[derive(Clone, Copy)]
+pub enum Stop {
+    /// A hub, by its number.
+    Hub(u32),
+    /// A stop of a line's own, by the line and the place on it.
+    Own(u32, u32),
+}
+
+impl fmt::Display for Stop {
+    ghost use Rattle.feed_maker.specs.Names.{stop_name};
+
+    ghost output = { λ stop. Some (stop_name stop) };
+
+    fn fmt<W: fmt::Write>(&self, f: &mut fmt::Formatter<W>) -> fmt::Result {
+        match *self {
+            Stop::Hub(hub) => write!(f, "H{hub}"),
+            Stop::Own(line, place) => write!(f, "L{line}_{place}"),
+        }
+    }
+}
+
+/// The route of a line.
+#[derive(Clone, Copy)]
+pub struct Route(pub u32);
+
+impl fmt::Display for Route {
+    ghost output = { λ route. Some (route_name route.0) };
+
+    fn fmt<W: fmt::Write>(&self, f: &mut fmt::Formatter<W>) -> fmt::Result {
+        let line = self.0;
+        write!(f, "R{line}")
+    }
+}
+
+/// A run of a line.
+#[derive(Clone, Copy)]
+pub struct Trip {
+    pub line: u32,
+    pub run: u32,
+}
+
+impl fmt::Display for Trip {
+    ghost output = { λ trip. Some (trip_name trip.line trip.run) };
+
+    fn fmt<W: fmt::Write>(&self, f: &mut fmt::Formatter<W>) -> fmt::Result {
+        let line = self.line;
+        let run = self.run;
+        write!(f, "T{line}_{run}")
+    }
+}
+
+/// A number below 100.
+#[derive(Clone, Copy)]
+struct TwoDigits(u32);
+
+impl fmt::Display for TwoDigits {
+    ghost output = { λ number. Some (two_digits number.0) };
+
+    fn fmt<W: fmt::Write>(&self, f: &mut fmt::Formatter<W>) -> fmt::Result {
+        let tens = self.0 / 10;
+        let ones = self.0 % 10;
+        write!(f, "{tens}{ones}")
+    }
+}
+
+/// A time of the service day, in seconds, below 100 hours.
+#[derive(Clone, Copy)]
+pub struct Time(pub u32);
+
+impl fmt::Display for Time {
+    ghost output = { λ time. Some (time_text time.0) };
+
+    #[tactic(auto, unfolding(crate::specs::Names::time_text))]
+    fn fmt<W: fmt::Write>(&self, f: &mut fmt::Formatter<W>) -> fmt::Result {
+        let hours = TwoDigits(self.0 / 3600);
+        let minutes = TwoDigits(self.0 / 60 % 60);
+        let seconds = TwoDigits(self.0 % 60);
+        write!(f, "{hours}:{minutes}:{seconds}")
+    }
+}
