@@ -129,7 +129,7 @@ def words_of(command, cut, delays, source):
 def main():
     parser = argparse.ArgumentParser(description="Measures how time and memory grow with the input.")
     parser.add_argument("--sizes", default="10000,100000,1000000", help="rows of the files, by commas")
-    parser.add_argument("--commands", default="safe,expand", help="commands to run, by commas")
+    parser.add_argument("--commands", default="safe,expand,plan", help="commands to run, by commas")
     parser.add_argument("--times", type=int, default=3, help="runs of each, of which the fastest counts")
     parser.add_argument("--limit", type=float, default=600, help="seconds that a run may take")
     parser.add_argument("--reading", type=int, default=2**20, help="rows of the file that is only read")
