@@ -12,3 +12,6 @@ pub mod TwinLemmas
 pub mod BackLemmas
 pub mod VisitLemmas
 pub mod FeedLemmas
+pub mod RowForms
+pub mod Beside
+pub mod FeedFacts

@@ -10,3 +10,4 @@ pub mod Keys
 pub mod Visits
 pub mod Feeds
 pub mod FeedInside
+pub mod Timed

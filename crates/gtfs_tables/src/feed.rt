@@ -39,6 +39,8 @@ impl Feed {
     ghost use Rattle.csv_rows.specs.Loading.{HasFeedCause, HasFeedPathCause};
     ghost use Rattle.csv_rows.specs.Tables.{place_in};
     ghost use Rattle.gtfs_tables.specs.Feeds.{tables_in, IsFeedOf, IsSoundFeed};
+    ghost use Rattle.gtfs_tables.specs.Ids.{AreNames};
+    ghost use Rattle.gtfs_tables.specs.Timed.{IsTimed};
 
     /// Reads the tables `stops.txt`, `routes.txt`, `trips.txt`, `stop_times.txt` and `frequencies.txt` of a folder, or
     /// the first of their faults: by table, then by kind, then by line, then by column. The files themselves stay as
@@ -90,6 +92,7 @@ impl Feed {
     /// How many stops there are.
     pub fn stop_count(&self) -> u32
         ensures count { result ≡ length self.now.stop_ids }
+        ensures names { AreNames self.now.stop_ids }
         ensures sound { IsSoundFeed self.now }
     {
         self.stops.ids.len()
@@ -124,7 +127,9 @@ impl Feed {
     /// How many trips there are.
     pub fn trip_count(&self) -> u32
         ensures count { result ≡ length self.now.trip_ids }
+        ensures names { AreNames self.now.trip_ids }
         ensures sound { IsSoundFeed self.now }
+        ensures timed { IsTimed self.now }
     {
         self.trips.ids.len()
     }

@@ -1,10 +1,11 @@
 //! Ids, numbered in the order in which they stand in a table.
-ghost use Rattle.std.specs.Prelude.{◌≡◌, ◌≢◌, ◌<◌, ◌-◌, ◌^◌, ℕ, [], length, None, Some, IfOk, IfErr, IfSome, OnOk, OnErr, slice_get};
+ghost use Rattle.std.specs.Prelude.{◌≡◌, ◌≢◌, ◌<◌, ◌≤◌, ℕ, [], length, None, Some, IfOk, IfErr, IfSome, OnOk, OnErr, slice_get};
 ghost use Rattle.csv_rows.specs.First.{first_below};
 ghost use Rattle.csv_rows.specs.FeedTables.{unread_of};
 ghost use Rattle.csv_rows.specs.Names.{name_in};
 ghost use Rattle.csv_rows.specs.Tables.{row_count, place_in, field_at};
-ghost use Rattle.plan_model.specs.NameLists.{Adds, AreDistinct};
+ghost use Rattle.plan_model.specs.NameLists.{Adds, AreDistinct, IsTrimmed};
+ghost use Rattle.gtfs_tables.specs.Ids.{AreNames};
 ghost use Rattle.gtfs_tables.specs.Faults.{repeated_id};
 ghost use Rattle.gtfs_tables.specs.Lists.{list_below};
 
@@ -44,7 +45,8 @@ impl Ids {
 
     /// Adds an id at the end, and says whether it is new.
     pub(crate) fn add(&mut self, alloc: Global, id: &str) -> Result<bool, NoMemory>
-        requires { length self.old < 2 ^ 32 - 1 }
+        requires room { length self.old < 4194304 }
+        requires trimmed { IsTrimmed id.now }
         ensures added { IfOk result (Adds self.old self.new id.now) }
         ensures err { OnErr result (self.new ≡ self.old) }
     {
@@ -60,6 +62,7 @@ impl Ids {
     pub(crate) fn len(&self) -> u32
         ensures count { result ≡ length self.now }
         ensures distinct { AreDistinct self.now }
+        ensures names { AreNames self.now }
     {
         self.ids.len() as u32
     }
@@ -103,7 +106,7 @@ pub(crate) fn read_ids(
     table: Table,
     column: Option<usize>,
 ) -> Result<Ids, FeedFault>
-    requires few { row_count rows.now < 2 ^ 32 - 1 }
+    requires few { row_count rows.now ≤ 4194304 }
     requires named { (i : ℕ) → i < row_count rows.now
         → name_in (field_at rows.now column i) ≡ Some (field_at rows.now column i) }
     ensures ids { IfOk result (λ ids. ids ≡ list_below (field_at rows.now column)

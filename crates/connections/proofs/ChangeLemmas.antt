@@ -1,0 +1,18 @@
+-- The change seconds of places, one after the other.
+use Rattle.std.proofs.Common.{◌≡◌, ℕ, ◌<◌, ◌≤◌, List, [], ◌∷◌, ◌++◌, length, slice_index, sym, ap, ◌∙◌, subst, arith, ⊎_elim, length-append}
+use Rattle.std.proofs.lemmas.Bool.{cases_lt}
+use Rattle.std.proofs.lemmas.List.{get_or_append_left, get_or_push}
+use Rattle.connections.specs.Networks.{AreChanges}
+
+abbrev Fits : ℕ → Type 0
+Fits x = (1 ≤ x) × (x ≤ 86400)
+
+pub changes-none : (xs : List ℕ) → xs ≡ [] → AreChanges xs
+changes-none xs e p h = absurd (omega (arith, ap length e))
+
+pub changes-next : (old new : List ℕ) (x : ℕ) → AreChanges old → new ≡ old ++ x ∷ [] → 1 ≤ x → x ≤ 86400 → AreChanges new
+changes-next old new x a e least most =
+    subst AreChanges (sym e) (λ p h.
+    let size = length-append old (x ∷ []) in
+    ⊎_elim (λ (less : p < length old). subst Fits (sym (get_or_append_left old (x ∷ []) 0 p less)) (a p less))
+    (λ (from : length old ≤ p). let same : length old ≡ p = omega arith in subst Fits (sym (get_or_push old x 0 p same)) (least, most)) (cases_lt p (length old)))

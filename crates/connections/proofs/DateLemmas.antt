@@ -1,0 +1,57 @@
+-- The text of a date is eight digits, and the names of runs.
+use Rattle.std.proofs.Common.{◌≡◌, ℕ, zero, suc, ◌+◌, ◌-◌, ◌<◌, ◌≤◌, ◌&&◌, nat_eq, Bool, true, false, List, [], ◌∷◌, ◌++◌, length, take, drop, slice_index, get_or, Option, Some, None, ℤ, pos, refl, sym, ap, ◌∙◌, subst, arith, ⊎_elim, IsAscii}
+use Rattle.std.specs.List.{list_all}
+use Rattle.std.specs.Char.{is_ascii_digit}
+use Rattle.std.proofs.lemmas.Bool.{cases_lt}
+use Rattle.std.proofs.lemmas.Bool.Decides.{nat_tests}
+use Rattle.std.proofs.lemmas.List.Folds.{list_all-append}
+use Rattle.clock_text.specs.Digits.{value_of}
+use Rattle.clock_text.specs.Times.{date_at, day_of, HasDate}
+use Rattle.clock_text.specs.Civil.{parts_of_day}
+use Rattle.clock_text.proofs.DigitLemmas.{and_parts}
+use Rattle.clock_text.proofs.MomentLemmas.{eq_test}
+use Rattle.clock_text.proofs.OneText.{if_cases}
+use Rattle.clock_text.proofs.Walk.{found}
+
+pub has_date : (day : ℕ) → day ≤ 2932896 → HasDate (pos day)
+has_date day h = let w = found day 0 h in let p = parts_of_day day 0 in (p.year, p.month, p.day, w.date)
+
+eight : (t : List ℕ) → length t ≡ 8 → t ≡ take 4 t ++ (take 2 (drop 4 t) ++ take 2 (drop 6 t))
+eight (a ∷ b ∷ c ∷ d ∷ e ∷ f ∷ g ∷ h ∷ []) l = refl
+eight t l = absurd (omega arith)
+
+and_both : (a b : Bool) → a ≡ true → b ≡ true → (a && b) ≡ true
+and_both true b h k = k
+and_both false b h k = absurd (cc)
+
+pub record IsDateText (t : List ℕ) : Type 0 where
+  pub size : length t ≡ 8
+  pub digits : list_all is_ascii_digit t ≡ true
+
+pub date_text : (t : List ℕ) (day : ℤ) → date_at t ≡ Some day → IsDateText t
+date_text t day h =
+    let year = take 4 t in let month = take 2 (drop 4 t) in let day' = take 2 (drop 6 t) in
+    let rest = list_all is_ascii_digit month && list_all is_ascii_digit day' in
+    let all = list_all is_ascii_digit year && rest in
+    let p = and_parts (nat_eq (length t) 8) all (if_cases (nat_eq (length t) 8 && all) (day_of (value_of year) (value_of month) (value_of day')) day h).0 in
+    let q = and_parts (list_all is_ascii_digit year) rest p.1 in
+    let r = and_parts (list_all is_ascii_digit month) (list_all is_ascii_digit day') q.1 in
+    let size = eq_test (length t) 8 p.0 in
+    record {
+      size = size;
+      digits = subst (λ (s : List ℕ). list_all is_ascii_digit s ≡ true) (sym (eight t size))
+          (list_all-append is_ascii_digit year (month ++ day')
+          ∙ and_both (list_all is_ascii_digit year) (list_all is_ascii_digit (month ++ day')) q.0
+          (list_all-append is_ascii_digit month day' ∙ and_both (list_all is_ascii_digit month) (list_all is_ascii_digit day') r.0 r.1));
+    }
+
+digit_few : (c : ℕ) → is_ascii_digit c ≡ true → c < 128
+digit_few c h = grind (arith, nat_tests)
+
+ascii_of : (t : List ℕ) → list_all is_ascii_digit t ≡ true → IsAscii t
+ascii_of [] h i = omega arith
+ascii_of (c ∷ t) h zero = digit_few c (and_parts _ _ h).0
+ascii_of (c ∷ t) h (suc i) = ascii_of t (and_parts _ _ h).1 i
+
+pub date_is_ascii : (t : List ℕ) (day : ℤ) → date_at t ≡ Some day → IsAscii t
+date_is_ascii t day h = ascii_of t (date_text t day h).digits

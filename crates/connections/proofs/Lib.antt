@@ -1,0 +1,11 @@
+pub mod JoinLemmas
+pub mod PairLemmas
+pub mod StepLemmas
+pub mod CountLemmas
+pub mod DayLemmas
+pub mod ClassLemmas
+pub mod DateLemmas
+pub mod NameLemmas
+pub mod RunLemmas
+pub mod ConnectionLemmas
+pub mod ChangeLemmas

@@ -1,0 +1,49 @@
+-- The steps of a trip in a window.
+use Rattle.std.proofs.Common.{◌≡◌, ℕ, zero, suc, ◌+◌, ◌-◌, ◌<◌, ◌≤◌, Bool, true, false, List, [], ◌∷◌, ◌++◌, length, map, get_or, refl, sym, ap, ◌∙◌, arith, length-append, add-one, subst}
+use Rattle.std.proofs.lemmas.List.{map-append}
+use Rattle.gtfs_tables.specs.declared.stop_times.StopRow.{StopRow}
+use Rattle.connections.specs.declared.window.Window.{Window}
+use Rattle.connections.specs.Joins.{join_below, only_if}
+use Rattle.connections.specs.Window.{holds}
+use Rattle.connections.specs.Rides.{steps_below, departs}
+use Rattle.connections.proofs.JoinLemmas.{join-zero, join-suc, join-next}
+
+pub steps-zero : (w : Window) (rows : List StopRow) (day : ℕ) → steps_below w rows day 0 ≡ []
+unfolding steps_below
+steps-zero w rows day = join-zero (λ k. only_if (holds w (departs rows day k)) k)
+
+pub steps-suc : (w : Window) (rows : List StopRow) (day n : ℕ) → steps_below w rows day (suc n) ≡ steps_below w rows day n ++ only_if (holds w (departs rows day n)) n
+unfolding steps_below
+steps-suc w rows day n = join-suc (λ k. only_if (holds w (departs rows day k)) k) n
+
+-- one more row
+pub steps-next : (w : Window) (rows : List StopRow) (day n : ℕ) (b : Bool) → b ≡ holds w (departs rows day n) → steps_below w rows day (n + 1) ≡ steps_below w rows day n ++ only_if b n
+steps-next w rows day n b h = (rw add-one (steps-suc w rows day n)) ∙ ap (λ x. steps_below w rows day n ++ only_if x n) (sym h)
+
+pub append-nil : {A : Type 0} (xs : List A) → xs ++ [] ≡ xs
+append-nil [] = refl
+append-nil (x ∷ xs) = ap (λ ys. x ∷ ys) (append-nil xs)
+
+pub length-one : (b : Bool) (n : ℕ) → b ≡ true → length (only_if b n) ≡ 1
+length-one b n h = ap (λ x. length (only_if x n)) h
+
+pub length-none : (b : Bool) (n : ℕ) → b ≡ false → length (only_if b n) ≡ 0
+length-none b n h = ap (λ x. length (only_if x n)) h
+
+-- how many there are, with one more row
+pub length-next : (w : Window) (rows : List StopRow) (day n : ℕ) (b : Bool) → b ≡ holds w (departs rows day n)
+    → length (steps_below w rows day (n + 1)) ≡ length (steps_below w rows day n) + length (only_if b n)
+length-next w rows day n b h = ap length (steps-next w rows day n b h) ∙ length-append (steps_below w rows day n) (only_if b n)
+
+-- the same of what a function makes of them
+pub map-next : {A : Type 0} (f : ℕ → A) (w : Window) (rows : List StopRow) (day n : ℕ) (b : Bool) → b ≡ holds w (departs rows day n)
+    → map f (steps_below w rows day (n + 1)) ≡ map f (steps_below w rows day n) ++ map f (only_if b n)
+map-next f w rows day n b h = ap (map f) (steps-next w rows day n b h) ∙ map-append f (steps_below w rows day n) (only_if b n)
+
+pub append-assoc : {A : Type 0} (xs ys zs : List A) → (xs ++ ys) ++ zs ≡ xs ++ (ys ++ zs)
+append-assoc [] ys zs = refl
+append-assoc (x ∷ xs) ys zs = ap (λ t. x ∷ t) (append-assoc xs ys zs)
+
+-- a list so far, and one that goes on
+pub goes-on : {A : Type 0} (old before more all new : List A) → all ≡ before ++ more → new ≡ (old ++ before) ++ more → new ≡ old ++ all
+goes-on old before more all new e h = h ∙ append-assoc old before more ∙ ap (λ xs. old ++ xs) (sym e)

@@ -1,0 +1,29 @@
+use Rattle.std.proofs.Common.{◌≡◌, ◌+◌, ◌++◌, [], ◌∷◌, List, map, true, false, sym, ap, ◌∙◌}
+use Rattle.connections.specs.Joins.{only_if}
+use Rattle.connections.specs.Rides.{steps_below}
+use Rattle.connections.specs.Networks.{ride}
+use Rattle.connections.proofs.StepLemmas.{steps-zero, map-next, append-nil, goes-on}
+use Rattle.connections.proofs.rides.add_rides.Goals as goal
+use Rattle.connections.proofs.rides.add_rides.Goals.{then-leaves+in_ok-push, else-leaves}
+
+pub loop-k-init : goal.loop-k-init
+loop-k-init c =
+    let rows = c.args.rows.now in let run = c.args.run in
+    sym (ap (λ xs. c.args.connections.now ++ map (ride rows run.day run.number run.class.0) xs) (steps-zero c.args.window rows run.day) ∙ append-nil c.args.connections.now)
+
+pub loop-k-preserved : goal.loop-k-preserved
+loop-k-preserved c =
+    let rows = c.args.rows.now in let run = c.args.run in let k = c.loop-k.k in
+    let f = ride rows run.day run.number run.class.0 in
+    let more = map-next f c.args.window rows run.day k c.leaves.result c.leaves.ensures in
+    let before = map f (steps_below c.args.window rows run.day k) in
+    let all = map f (steps_below c.args.window rows run.day (k + 1)) in
+    elim c.if-leaves.branch [
+      | then-leaves+in_ok-push w ↦
+          goes-on c.args.connections.now before (f k ∷ []) all c.if-leaves.connections (more ∙ ap (λ b. before ++ map f (only_if b k)) w.if-leaves.true)
+          (w.connections-is ∙ w.in_ok-push.ensures.ok ∙ ap (λ xs. xs ++ w.ride.result ∷ []) c.loop-k.invariant
+          ∙ ap (λ x. (c.args.connections.now ++ before) ++ x ∷ []) w.ride.ensures)
+      | else-leaves w ↦
+          goes-on c.args.connections.now before [] all c.if-leaves.connections (more ∙ ap (λ b. before ++ map f (only_if b k)) w.if-leaves.false)
+          (w.connections-is ∙ c.loop-k.invariant ∙ sym (append-nil (c.args.connections.now ++ before)))
+    ]

@@ -1,0 +1,6 @@
+use Rattle.std.proofs.Common.{◌≡◌, ◌++◌}
+use Rattle.connections.specs.Rides.{day_runs}
+use Rattle.connections.proofs.runs.add_day.Given as goal
+
+abbrev pub invariant-loop-trip : goal.invariant-loop-trip
+invariant-loop-trip l = l.runs.items ≡ l.initial.runs.items ++ day_runs l.feed l.services l.window l.day l.trip

@@ -1,0 +1,16 @@
+use Rattle.std.proofs.Common.{◌≡◌, ◌++◌, ◌+◌, ℕ, List, length, sym, ap, ◌∙◌}
+use Rattle.connections.specs.declared.runs.Run.{Run}
+use Rattle.connections.specs.Rides.{day_runs, runs_below}
+use Rattle.connections.proofs.DayLemmas.{days-zero, days-next}
+use Rattle.connections.proofs.runs.runs_of.Goals as goal
+
+pub loop-d-init : goal.loop-d-init
+loop-d-init c = c.new-runs.ensures.items ∙ sym (days-zero c.args.feed.now c.args.services.now c.args.window)
+
+pub loop-d-preserved : goal.loop-d-preserved
+loop-d-preserved c =
+    let f = c.args.feed.now in let s = c.args.services.now in let w = c.args.window in let d = c.loop-d.d in
+    c.in_ok-add_day.ensures
+    ∙ ap (λ (xs : List Run). xs ++ day_runs f s w (c.first_day-first.result + d) (length f.trip_ids)) c.loop-d.invariant
+    ∙ ap (λ k. runs_below f s w d ++ day_runs f s w (k + d) (length f.trip_ids)) c.first_day-first.ensures
+    ∙ sym (days-next f s w d)

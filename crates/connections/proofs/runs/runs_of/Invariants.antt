@@ -1,0 +1,6 @@
+use Rattle.std.proofs.Common.{◌≡◌}
+use Rattle.connections.specs.Rides.{runs_below}
+use Rattle.connections.proofs.runs.runs_of.Given as goal
+
+abbrev pub invariant-loop-d : goal.invariant-loop-d
+invariant-loop-d l = l.runs.items ≡ runs_below l.feed l.services l.window l.d

@@ -1,0 +1,20 @@
+-- A window of time, and the service days whose trips may ride in it.
+use Rattle.std.specs.Prelude.{ℕ, ◌+◌, ◌*◌, ◌/◌, ◌-◌, ◌≤◌, ◌<◌, ◌&&◌, nat_le, Bool}
+use Rattle.connections.specs.declared.window.Window.{Window}
+
+-- from the start to so many hours later, both ends included
+abbrev pub window_of : ℕ → ℕ → Window
+window_of start horizon = record { start = start; end = start + 3600 * horizon }
+
+abbrev pub holds : Window → ℕ → Bool
+holds w moment = nat_le w.start moment && nat_le moment w.end
+
+-- 7 days before the date of the start
+abbrev pub first_day : Window → ℕ
+first_day w = w.start / 86400 - 7
+
+-- it starts from 1970-01-08 to 2399-12-31, and has at most 72 hours
+pub record IsWindow (w : Window) : Type 0 where
+  pub early : 604800 ≤ w.start
+  pub late : w.start < 13569465600
+  pub short : w.end ≤ w.start + 259200

@@ -1,0 +1,154 @@
+//! The network of a feed in a window of time.
+ghost use Rattle.std.specs.Prelude.{◌≡◌, ◌<◌, ◌≤◌, length, OnOk, IfOk, IfErr};
+ghost use Rattle.csv_rows.specs.Limits.{AreWithin};
+ghost use Rattle.csv_rows.specs.Lists.{list_below};
+ghost use Rattle.change_times.specs.Changes.{seconds_of};
+ghost use Rattle.gtfs_tables.specs.Ids.{AreNames};
+ghost use Rattle.gtfs_tables.specs.Timed.{IsTimed};
+ghost use Rattle.plan_model.specs.NameLists.{NamesFit};
+ghost use Rattle.connections.specs.Window.{IsWindow};
+ghost use Rattle.connections.specs.Runs.{AreRunsOf, AllRide};
+ghost use Rattle.connections.specs.Networks.{ride_count, ride_count_in, rides_below, AreChanges, AreRunNames, IsNetworkOf};
+ghost use Rattle.connections.specs.Cut.{IsNetworkFrom, connection_count};
+ghost use Rattle.connections.specs.Faults.{IsWindowFault};
+
+use crate::counts::count_all;
+use crate::names::names_of;
+use crate::rides::connections_of;
+use crate::runs::{Run, runs_of};
+use crate::window::Window;
+use change_times::Changes;
+use csv_rows::Limits;
+use delay_table::DelayTable;
+use gtfs_tables::Feed;
+use plan_model::{List, Moment, Names, Network, NoMemory, PlaceId};
+use service_days::Services;
+use std::alloc::Global;
+
+/// Why a window has no network.
+#[derive(Clone, Copy, Debug, PartialEq, Eq)]
+pub enum WindowFault {
+    /// The count of connections, which passes the limit.
+    TooMany(u64),
+    /// There was no memory.
+    NoMemory,
+}
+
+/// The network of the rides of these runs in the window, and its names.
+fn network_of_runs(
+    alloc: Global,
+    feed: &Feed,
+    change: List<u32>,
+    delays: &DelayTable,
+    runs: &[Run],
+    window: Window,
+) -> Result<(Network, Names), NoMemory>
+    requires window { IsWindow window }
+    requires stops { AreNames feed.now.stop_ids }
+    requires trips { AreNames feed.now.trip_ids }
+    requires timed { IsTimed feed.now }
+    requires runs { AreRunsOf feed.now runs.now }
+    requires rides { AllRide feed.now window runs.now }
+    requires few { ride_count feed.now window runs.now (length runs.now) ≤ 8388608 }
+    requires places { length change ≡ length feed.now.stop_ids }
+    requires change { AreChanges change }
+    ensures connections { IfOk result (λ r. r.0.connections
+        ≡ rides_below feed.now delays.now.types window runs.now (length runs.now)) }
+    ensures change { IfOk result (λ r. r.0.change ≡ change) }
+    ensures classes { IfOk result (λ r. r.0.classes ≡ delays.now.classes) }
+    ensures places { IfOk result (λ r. r.1.places ≡ feed.now.stop_ids) }
+    ensures runs { IfOk result (λ r.
+        AreRunNames feed.now runs.now (length runs.now) r.1.runs) }
+    ensures fit { IfOk result (λ r. NamesFit r.1 r.0) }
+{
+    let classes = delays.classes(alloc)?;
+    let names = names_of(alloc, feed, runs)?;
+    let connections = connections_of(alloc, feed, delays, runs, window)?;
+    Ok((Network::from_parts(connections, change, classes), names))
+}
+
+/// The network of the connections that depart in the window, where these are the change seconds of the places, and the
+/// names of its places and runs.
+fn network_of(
+    alloc: Global,
+    feed: &Feed,
+    services: &Services,
+    change: List<u32>,
+    delays: &DelayTable,
+    window: Window,
+    limits: &Limits,
+) -> Result<(Network, Names), WindowFault>
+    requires window { IsWindow window }
+    requires limits { AreWithin limits.now }
+    requires places { length change ≡ length feed.now.stop_ids }
+    requires change { AreChanges change }
+    ensures network { IfOk result (λ r.
+        IsNetworkOf feed.now services.now change delays.now window r.0 r.1) }
+    ensures fit { IfOk result (λ r. NamesFit r.1 r.0) }
+    ensures few { OnOk result
+        (ride_count_in feed.now services.now window ≤ limits.now.connections) }
+    ensures fault { IfErr result (IsWindowFault limits.now.connections
+        (ride_count_in feed.now services.now window)) }
+{
+    let _trips = feed.trip_count();
+    let _stops = feed.stop_count();
+    let runs = match runs_of(alloc, feed, services, window) {
+        Ok(runs) => runs,
+        Err(_) => return Err(WindowFault::NoMemory),
+    };
+    let count = count_all(feed, runs.as_slice(), window);
+    if limits.connections < count {
+        return Err(WindowFault::TooMany(count));
+    }
+    match network_of_runs(alloc, feed, change, delays, runs.as_slice(), window) {
+        Ok(parts) => Ok(parts),
+        Err(_) => Err(WindowFault::NoMemory),
+    }
+}
+
+/// The change seconds of each place.
+fn changes_of(alloc: Global, changes: &Changes, places: u32) -> Result<List<u32>, NoMemory>
+    ensures seconds { IfOk result (λ change. change ≡ list_below (seconds_of changes.now) places) }
+    ensures fit { IfOk result AreChanges }
+{
+    let mut change: List<u32> = List::new(alloc);
+    for place in 0..places {
+        change.push(changes.seconds(PlaceId(place)))?;
+    }
+    Ok(change)
+}
+
+/// The network of the connections of a feed that depart from the start to so many hours later, both ends included, over
+/// the service days from 7 before the date of the start to 3 after it, and the names of its places and runs. A connection
+/// is the ride of a trip from one kept row to the next on a day on which its service is active. Runs are numbered by
+/// service day and then by the position of the trip; the name of a run is its service date as YYYYMMDD, a colon and the id
+/// of the trip, and that of a place is the id of its stop. `TooMany` carries the count of all connections, and comes where
+/// it passes `limits.connections`.
+pub fn cut(
+    alloc: Global,
+    feed: &Feed,
+    services: &Services,
+    changes: &Changes,
+    delays: &DelayTable,
+    start: Moment,
+    horizon: u32,
+    limits: &Limits,
+) -> Result<(Network, Names), WindowFault>
+    requires early { 604_800 ≤ start.0 }
+    requires late { start.0 < 13_569_465_600 }
+    requires horizon { horizon ≤ 72 }
+    requires limits { AreWithin limits.now }
+    ensures network { IfOk result (λ r. IsNetworkFrom feed.now services.now changes.now delays.now
+        start.0 horizon r.0 r.1) }
+    ensures fit { IfOk result (λ r. NamesFit r.1 r.0) }
+    ensures few { OnOk result
+        (connection_count feed.now services.now start.0 horizon ≤ limits.now.connections) }
+    ensures fault { IfErr result (IsWindowFault limits.now.connections
+        (connection_count feed.now services.now start.0 horizon)) }
+{
+    let window = Window::new(start.0, horizon);
+    match changes_of(alloc, changes, feed.stop_count()) {
+        Ok(change) => network_of(alloc, feed, services, change, delays, window, limits),
+        Err(_) => Err(WindowFault::NoMemory),
+    }
+}

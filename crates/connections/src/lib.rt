@@ -1,0 +1,14 @@
+//! The connections of a feed in a window of time (GTFS Schedule reference), as a network, and a merge of its runs.
+#![tactic(auto)]
+
+mod counts;
+mod cuts;
+mod names;
+mod rides;
+mod runs;
+mod window;
+
+pub use cuts::{WindowFault, cut};
+
+#[cfg(test)]
+mod tests;

@@ -1,0 +1,73 @@
+//! The names of places and runs.
+ghost use Rattle.std.specs.Prelude.{◌≡◌, ◌≤◌, ◌<◌, [], length, string_bytes, OnOk, IfOk};
+ghost use Rattle.gtfs_tables.specs.Ids.{AreNames};
+ghost use Rattle.connections.specs.Runs.{AreRunsOf};
+ghost use Rattle.connections.specs.Networks.{IsRunName, AreRunNames};
+
+use crate::runs::{Run, day_number};
+use clock_text::write_date;
+use gtfs_tables::Feed;
+use plan_model::{Names, NoMemory};
+use std::alloc::Global;
+
+/// The name of a run: its service date as YYYYMMDD, a colon, and the id of its trip.
+fn run_name(alloc: Global, feed: &Feed, run: Run) -> Result<String, NoMemory>
+    requires trip { run.trip < length feed.now.trip_ids }
+    requires day { run.day ≤ 2_932_896 }
+    ensures { IfOk result (λ name. IsRunName feed.now run (string_bytes name)) }
+{
+    let date = write_date(day_number(run.day));
+    match std::str::from_utf8(&date) {
+        Ok(date) => {
+            let mut name = String::from_str(alloc, date)?;
+            name.push_str(":")?;
+            name.push_str(feed.trip_id(run.trip))?;
+            Ok(name)
+        }
+        Err(_) => unreachable!(),
+    }
+}
+
+/// Adds the ids of the stops as the names of the places.
+fn add_places(names: &mut Names, feed: &Feed) -> Result<(), NoMemory>
+    requires none { names.old.places ≡ [] }
+    requires ids { AreNames feed.now.stop_ids }
+    ensures places { OnOk result (names.new.places ≡ feed.now.stop_ids) }
+    ensures runs { names.new.runs ≡ names.old.runs }
+{
+    for stop in 0..feed.stop_count() {
+        names.add_place(feed.stop_id(stop))?;
+    }
+    Ok(())
+}
+
+/// Adds the names of the runs.
+fn add_runs(alloc: Global, names: &mut Names, feed: &Feed, runs: &[Run]) -> Result<(), NoMemory>
+    requires none { names.old.runs ≡ [] }
+    requires few { length runs.now ≤ 8388608 }
+    requires runs { AreRunsOf feed.now runs.now }
+    requires ids { AreNames feed.now.trip_ids }
+    ensures places { names.new.places ≡ names.old.places }
+    ensures runs { OnOk result (AreRunNames feed.now runs.now (length runs.now) names.new.runs) }
+{
+    for r in 0..runs.len() {
+        let name = run_name(alloc, feed, runs[r])?;
+        names.add_run(name.as_str())?;
+    }
+    Ok(())
+}
+
+/// The names of the places of a feed and of these runs.
+pub(crate) fn names_of(alloc: Global, feed: &Feed, runs: &[Run]) -> Result<Names, NoMemory>
+    requires few { length runs.now ≤ 8388608 }
+    requires runs { AreRunsOf feed.now runs.now }
+    requires stops { AreNames feed.now.stop_ids }
+    requires trips { AreNames feed.now.trip_ids }
+    ensures places { IfOk result (λ names. names.places ≡ feed.now.stop_ids) }
+    ensures runs { IfOk result (λ names. AreRunNames feed.now runs.now (length runs.now) names.runs) }
+{
+    let mut names = Names::new(alloc);
+    add_places(&mut names, feed)?;
+    add_runs(alloc, &mut names, feed, runs)?;
+    Ok(names)
+}

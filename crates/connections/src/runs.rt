@@ -1,0 +1,107 @@
+//! The runs that ride in a window.
+ghost use Rattle.std.specs.Prelude.{◌≡◌, ◌+◌, ◌*◌, ◌≤◌, ◌<◌, ◌++◌, ◌&&◌, length, pos, IfOk, OnOk};
+ghost use Rattle.gtfs_tables.specs.Timed.{rows_of};
+ghost use Rattle.connections.specs.Window.{holds, IsWindow};
+ghost use Rattle.connections.specs.Rides.{departs, is_active, rides, steps_of, day_runs, runs_in};
+
+use crate::window::Window;
+use gtfs_tables::{Feed, StopRow};
+use plan_model::NoMemory;
+use service_days::Services;
+use std::alloc::Global;
+
+/// How many service days there are: from 7 before the date of the start to 3 after it.
+pub(crate) const DAYS: u32 = 11;
+
+/// A trip on a service day, which counts from 1970-01-01.
+#[derive(Clone, Copy)]
+pub(crate) struct Run {
+    pub(crate) day: u32,
+    pub(crate) trip: u32,
+}
+
+/// The moment that is so many seconds after the start of a service day.
+pub(crate) fn moment_of(day: u32, seconds: u32) -> u64
+    ensures { result ≡ 86400 * day + seconds }
+{
+    86_400 * u64::from(day) + u64::from(seconds)
+}
+
+/// The number of a service day.
+pub(crate) fn day_number(day: u32) -> i32
+    requires { day ≤ 2_932_896 }
+    ensures { result ≡ pos day }
+{
+    day as i32
+}
+
+/// Whether a trip leaves a kept row in the window on a day.
+pub(crate) fn leaves(rows: &[StopRow], row: usize, day: u32, window: Window) -> bool
+    requires { row < length rows.now }
+    ensures { result ≡ holds window (departs rows.now day row) }
+{
+    window.holds(moment_of(day, rows[row].departure))
+}
+
+/// How many rides of a trip with these kept rows depart in the window on a day.
+pub(crate) fn count_rides(rows: &[StopRow], day: u32, window: Window) -> u64
+    ensures count { result ≡ length (steps_of window rows.now day) }
+    ensures few { result ≤ length rows.now }
+{
+    let mut count = 0u64;
+    for k in 0..rows.len().saturating_sub(1) {
+        if leaves(rows, k, day, window) {
+            count += 1;
+        }
+    }
+    count
+}
+
+/// Whether a trip is active on a day and rides in the window then.
+fn rides_on(feed: &Feed, services: &Services, trip: u32, day: u32, window: Window) -> bool
+    requires trip { trip < length feed.now.trip_ids }
+    requires day { day ≤ 2_932_896 }
+    ensures { result ≡ (is_active feed.now services.now day trip
+        && rides window (rows_of feed.now trip) day) }
+{
+    services.runs_on(feed.service_of(trip), day_number(day))
+        && count_rides(feed.stop_times(trip), day, window) > 0
+}
+
+/// Adds the trips that are active on a day and ride in the window then.
+fn add_day(
+    runs: &mut Vec<Run>,
+    feed: &Feed,
+    services: &Services,
+    day: u32,
+    window: Window,
+) -> Result<(), NoMemory>
+    requires { day ≤ 2_932_896 }
+    ensures { OnOk result (runs.new.items
+        ≡ runs.old.items ++ day_runs feed.now services.now window day (length feed.now.trip_ids)) }
+{
+    for trip in 0..feed.trip_count() {
+        if rides_on(feed, services, trip, day, window) {
+            runs.push(Run { day, trip })?;
+        }
+    }
+    Ok(())
+}
+
+/// The runs that ride in the window, by service day and position of the trip.
+pub(crate) fn runs_of(
+    alloc: Global,
+    feed: &Feed,
+    services: &Services,
+    window: Window,
+) -> Result<Vec<Run>, NoMemory>
+    requires { IsWindow window }
+    ensures { IfOk result (λ runs. runs.items ≡ runs_in feed.now services.now window) }
+{
+    let mut runs: Vec<Run> = Vec::new(alloc);
+    let first = window.first_day();
+    for d in 0..DAYS {
+        add_day(&mut runs, feed, services, first + d, window)?;
+    }
+    Ok(runs)
+}

@@ -1,0 +1,127 @@
+-- Two kept rows of a trip that stand beside each other: the first departs no later than the second arrives.
+use Rattle.std.proofs.Common.{◌≡◌, ℕ, zero, suc, ◌+◌, ◌<◌, ◌≤◌, nat_lt, Bool, true, false, not, ◌&&◌, ◌||◌, List, length, slice_index_or, Option, Some, None, if◌then◌else◌, refl, sym, ap, ◌∙◌, subst, arith, ⊎_elim}
+use Rattle.std.specs.Prelude.{is_some}
+use Rattle.std.proofs.lemmas.Bool.{cases_lt}
+use Rattle.std.proofs.lemmas.Bool.Decides.{nat_tests}
+use Rattle.csv_rows.specs.declared.feed_tables.FeedFault.{FeedFault}
+use Rattle.csv_rows.specs.declared.feed_tables.FeedFault.TheVariants.{BackwardTime}
+use Rattle.csv_rows.specs.First.{first_below, any_below}
+use Rattle.csv_rows.proofs.FirstLemmas.{any-true, any-false, true_or_false, none-each}
+use Rattle.gtfs_tables.specs.declared.stop_times.StopRow.{StopRow}
+use Rattle.gtfs_tables.specs.declared.stop_times.TimedRow.{TimedRow}
+use Rattle.gtfs_tables.specs.StopTimes.{row_at, same_trip, is_kept, times_in, arrival_of, departure_of, precedes, just_precedes, goes_back, backward_time}
+use Rattle.gtfs_tables.specs.Visits.{no_visit, AreStopTimes}
+use Rattle.gtfs_tables.proofs.BeforeLemmas.{eq_test}
+use Rattle.gtfs_tables.proofs.TwinLemmas.{and_parts, and_true, eq_true}
+
+lt_test : (a b : ℕ) → nat_lt a b ≡ true → a < b
+lt_test a b h = grind (arith, nat_tests)
+
+lt_true : (a b : ℕ) → a < b → nat_lt a b ≡ true
+lt_true a b h = grind (arith, nat_tests)
+
+not_less : (a b : ℕ) → nat_lt a b ≡ false → b ≤ a
+not_less a b h = grind (arith, nat_tests)
+
+not_to : (b : Bool) → b ≡ false → not b ≡ true
+not_to true h = absurd (cc)
+not_to false h = refl
+
+or_false : (a b : Bool) → (a || b) ≡ false → (a ≡ false) × (b ≡ false)
+or_false true b h = absurd (cc)
+or_false false b h = (refl, h)
+
+and_false : (a b : Bool) → a ≡ true → (a && b) ≡ false → b ≡ false
+and_false true b h k = k
+and_false false b h k = absurd (cc)
+
+if_none : (b : Bool) (f : FeedFault) → (if b then Some f else None) ≡ None → b ≡ false
+if_none true f h = absurd (cc)
+if_none false f h = refl
+
+none_at : (p : ℕ → Bool) (n k : ℕ) → k < n → any_below p n ≡ false → p k ≡ false
+none_at p n k l h = ⊎_elim (λ (t : p k ≡ true). let u = any-true p n k l t in absurd (cc)) (λ (f : p k ≡ false). f) (true_or_false (p k))
+
+module _ (rows : List TimedRow) (none : first_below (backward_time rows) (length rows) ≡ None) (trip : ℕ) (visits : List StopRow) (s : AreStopTimes rows trip visits) where
+  abbrev at : ℕ → StopRow
+  at p = slice_index_or visits p no_visit
+
+  kept : (p : ℕ) → p < length visits → is_kept rows (s.line p) ≡ true
+  kept p h = ap is_some (s.visit p h).kept
+
+  arrives : (p : ℕ) → p < length visits → arrival_of rows (s.line p) ≡ (at p).arrival
+  arrives p h = ap (λ o. (times_in o).0) (s.visit p h).kept
+
+  departs : (p : ℕ) → p < length visits → departure_of rows (s.line p) ≡ (at p).departure
+  departs p h = ap (λ o. (times_in o).1) (s.visit p h).kept
+
+  late : ℕ → ℕ → Bool
+  late i j = nat_lt (arrival_of rows i) (departure_of rows j)
+
+  stands : (p : ℕ) → p < length visits
+      → (nat_lt (departure_of rows (s.line p)) (arrival_of rows (s.line p)) ≡ false)
+      × (any_below (λ j. just_precedes rows j (s.line p) && late (s.line p) j) (length rows) ≡ false)
+  unfolding backward_time late
+  stands p h =
+      let i = s.line p in
+      let back : goes_back rows i ≡ false = if_none (goes_back rows i) (BackwardTime (i + 2)) (none-each (backward_time rows) (length rows) none i (s.visit p h).inside) in
+      or_false _ _ (and_false (is_kept rows i) _ (kept p h) back)
+
+  pub forward : (p : ℕ) → p < length visits → (at p).arrival ≤ (at p).departure
+  forward p h = omega (arith, not_less _ _ (stands p h).0, arrives p h, departs p h)
+
+  sequence_of : ℕ → ℕ
+  sequence_of p = (row_at rows (s.line p)).sequence
+
+  same : (p q : ℕ) → p < length visits → q < length visits → same_trip rows (s.line p) (s.line q) ≡ true
+  same p q h k = eq_true _ _ ((s.visit p h).of_trip ∙ sym (s.visit q k).of_trip)
+
+  before : (p q : ℕ) → p < q → q < length visits → precedes rows (s.line p) (s.line q) ≡ true
+  before p q l h =
+      let k : p < length visits = omega arith in
+      and_true _ _ (and_true _ _ (kept p k) (kept q h)) (and_true _ _ (same p q k h) (lt_true _ _ (s.rising p q l h)))
+
+  between : ℕ → ℕ → ℕ → Bool
+  between j i x = precedes rows j x && precedes rows x i
+
+  -- a row that stands between two rows of a trip is of that trip
+  none_between : (p x : ℕ) → p + 1 < length visits → x < length rows → between (s.line p) (s.line (p + 1)) x ≡ true → ⊥
+  unfolding between
+  none_between p x h inside b =
+      let i = s.line p in let j = s.line (p + 1) in
+      let both = and_parts (precedes rows i x) (precedes rows x j) b in
+      let first = and_parts (is_kept rows i && is_kept rows x) (same_trip rows i x && nat_lt (row_at rows i).sequence (row_at rows x).sequence) both.0 in
+      let second = and_parts (is_kept rows x && is_kept rows j) (same_trip rows x j && nat_lt (row_at rows x).sequence (row_at rows j).sequence) both.1 in
+      let of_first = and_parts (same_trip rows i x) (nat_lt (row_at rows i).sequence (row_at rows x).sequence) first.1 in
+      let of_second = and_parts (same_trip rows x j) (nat_lt (row_at rows x).sequence (row_at rows j).sequence) second.1 in
+      let trip_is : (row_at rows x).trip ≡ trip = sym (eq_test (row_at rows i).trip (row_at rows x).trip of_first.0) ∙ (s.visit p (omega arith)).of_trip in
+      let w = s.all x inside trip_is (and_parts (is_kept rows i) (is_kept rows x) first.0).1 in
+      let here = ap (λ y. (row_at rows y).sequence) w.2 in
+      let low = lt_test (row_at rows i).sequence (row_at rows x).sequence of_first.1 in
+      let high = lt_test (row_at rows x).sequence (row_at rows j).sequence of_second.1 in
+      ⊎_elim (λ (less : w.0 < p). omega (arith, low, here, s.rising w.0 p less (omega arith)))
+      (λ (from : p ≤ w.0).
+      ⊎_elim (λ (more : p + 1 < w.0). omega (arith, high, here, s.rising (p + 1) w.0 more w.1))
+      (λ (to : w.0 ≤ p + 1).
+      ⊎_elim (λ (up : p < w.0). let e : w.0 ≡ p + 1 = omega arith in omega (arith, high, here, ap (λ y. (row_at rows (s.line y)).sequence) e))
+      (λ (down : w.0 ≤ p). let e : w.0 ≡ p = omega arith in omega (arith, low, here, ap (λ y. (row_at rows (s.line y)).sequence) e)) (cases_lt p w.0))
+      (cases_lt (p + 1) w.0)) (cases_lt w.0 p)
+
+  just : (p : ℕ) → p + 1 < length visits → just_precedes rows (s.line p) (s.line (p + 1)) ≡ true
+  unfolding between
+  just p h =
+      and_true _ _ (before p (p + 1) (omega arith) h)
+      (not_to _ (any-false (between (s.line p) (s.line (p + 1))) (length rows) (λ x inside b. none_between p x h inside b)))
+
+  pub onward : (p : ℕ) → p + 1 < length visits → (at p).departure ≤ (at (p + 1)).arrival
+  unfolding late
+  onward p h =
+      let k : p < length visits = omega arith in
+      let i = s.line (p + 1) in
+      let no = none_at (λ j. just_precedes rows j i && late i j) (length rows) (s.line p) (s.visit p k).inside (stands (p + 1) h).1 in
+      omega (arith, not_less (arrival_of rows i) (departure_of rows (s.line p)) (and_false (just_precedes rows (s.line p) i) _ (just p h) no), arrives (p + 1) h, departs p k)
+
+  -- sequences rise from 0 on
+  pub rises : (p : ℕ) → p < length visits → p ≤ (row_at rows (s.line p)).sequence
+  rises zero h = omega arith
+  rises (suc p) h = omega (arith, rises p (omega arith), s.rising p (suc p) (omega arith) h)

@@ -1,0 +1,138 @@
+-- What the form of a row of stop times tells.
+use Rattle.std.proofs.Common.{◌≡◌, ℕ, ◌+◌, ◌*◌, ◌<◌, ◌≤◌, ◌-◌, ◌==◌, nat_eq, nat_le, nat_lt, ◌&&◌, Bool, true, false, List, length, take, drop, slice_index, Option, Some, None, IfSome, option_map, if◌then◌else◌, refl, sym, subst, arith}
+use Rattle.std.specs.Prelude.{Result, Ok, Err}
+use Rattle.std.specs.List.{list_all}
+use Rattle.std.specs.Char.{is_ascii_digit}
+use Rattle.std.proofs.lemmas.Bool.Decides.{nat_tests}
+use Rattle.clock_text.specs.Digits.{value_of, whole_of}
+use Rattle.clock_text.specs.Times.{time_at, time_of, seconds_at}
+use Rattle.clock_text.proofs.OneText.{if_cases, some_cases}
+use Rattle.csv_rows.specs.declared.columns.Column.TheVariants.{TripId, StopId, StopSequence, ArrivalTime, DepartureTime, PickupType, DropOffType}
+use Rattle.csv_rows.specs.declared.feed_tables.Table.TheVariants.{StopTimes}
+use Rattle.csv_rows.specs.declared.feed_tables.FeedFault.{FeedFault}
+use Rattle.csv_rows.specs.declared.feed_tables.FeedFault.TheVariants.{BadField, UnknownKey}
+use Rattle.csv_rows.specs.First.{read}
+use Rattle.csv_rows.specs.Names.{name_in}
+use Rattle.csv_rows.specs.Tables.{place_in, field_at}
+use Rattle.gtfs_tables.specs.declared.stop_times.StopRow.{StopRow}
+use Rattle.gtfs_tables.specs.declared.stop_times.TimedRow.{TimedRow}
+use Rattle.gtfs_tables.specs.Faults.{fault_in, value_or}
+use Rattle.gtfs_tables.specs.Forms.{text_in, allows_in, time_in}
+use Rattle.gtfs_tables.specs.StopTimes.{time_columns, number_in, times_of, visit_of, timed_from, timed_at, no_row}
+use Rattle.gtfs_tables.proofs.RowLemmas.{place_inside, whole_bound}
+use Rattle.gtfs_tables.proofs.TwinLemmas.{and_parts}
+
+-- a kept row stands at the place of a stop, at times of at most 167 hours
+pub record IsAtStop (stops : ℕ) (places : List ℕ) (v : StopRow) : Type 0 where
+  pub stop : ℕ
+  pub inside : stop < stops
+  pub place : v.place.0 ≡ slice_index places stop
+  pub arrival : v.arrival < 604800
+  pub departure : v.departure < 604800
+
+pub record InForm (stops : ℕ) (places : List ℕ) (r : TimedRow) : Type 0 where
+  pub sequence : r.sequence ≤ 999999999
+  pub visit : IfSome r.visit (IsAtStop stops places)
+
+-- what is read is what the rest makes of its parts
+read_inv : {A R : Type 0} (P : R → Type 0) (o : Option A) (e : FeedFault) (rest : A → Result R FeedFault)
+    → ((a : A) → o ≡ Some a → (r : R) → rest a ≡ Ok r → P r) → (r : R) → read o e rest ≡ Ok r → P r
+read_inv P None e rest k r h = absurd (cc)
+read_inv P (Some a) e rest k r h = k a refl r h
+
+same_ok : (x r : TimedRow) → ◌≡◌ {A = Result TimedRow FeedFault} (Ok x) (Ok r) → x ≡ r
+same_ok x r e = cc
+
+abbrev IsBelow : ℕ → Option ℕ → Type 0
+IsBelow n o = IfSome o (λ k. k < n)
+
+place_few : (name : List ℕ) (names : List (List ℕ)) (o : Option ℕ) → o ≡ place_in name names → IsBelow (length names) o
+place_few name names None e = tt
+place_few name names (Some k) e = place_inside name names k (sym e)
+
+-- an empty text is none
+or_none : (b : Bool) (p : Option ℕ) (n : ℕ) (o : Option ℕ) → IsBelow n p → (if b then Some None else option_map Some p) ≡ Some o → IsBelow n o
+or_none true p n o h e = let same : None ≡ o = cc in subst (IsBelow n) same tt
+or_none false None n o h e = absurd (cc)
+or_none false (Some k) n o h e = let same : Some k ≡ o = cc in subst (IsBelow n) same h
+
+lt_test : (a b : ℕ) → nat_lt a b ≡ true → a < b
+lt_test a b h = grind (arith, nat_tests)
+
+le_test : (a b : ℕ) → nat_le a b ≡ true → a ≤ b
+le_test a b h = grind (arith, nat_tests)
+
+seconds_below : (h m s n : ℕ) → seconds_at h m s ≡ Some n → n < 604800
+seconds_below h m s n e =
+    let parts = some_cases (nat_le h 167 && (nat_lt m 60 && nat_lt s 60)) (3600 * h + (60 * m + s)) n e in
+    let hours = and_parts (nat_le h 167) (nat_lt m 60 && nat_lt s 60) parts.0 in
+    let rest = and_parts (nat_lt m 60) (nat_lt s 60) hours.1 in
+    omega (arith, le_test h 167 hours.0, lt_test m 60 rest.0, lt_test s 60 rest.1, parts.1)
+
+has_marks : ℕ → List ℕ → Bool
+has_marks k t =
+    nat_eq (slice_index t k) 58 && (nat_eq (slice_index t (k + 3)) 58 && (list_all is_ascii_digit (take k t)
+    && (list_all is_ascii_digit (take 2 (drop (k + 1) t)) && list_all is_ascii_digit (take 2 (drop (k + 4) t)))))
+
+of_below : (k : ℕ) (t : List ℕ) (n : ℕ) → time_of k t ≡ Some n → n < 604800
+unfolding has_marks
+of_below k t n e =
+    let hour = value_of (take k t) in let minute = value_of (take 2 (drop (k + 1) t)) in let second = value_of (take 2 (drop (k + 4) t)) in
+    seconds_below hour minute second n (if_cases (has_marks k t) (seconds_at hour minute second) n e).1
+
+time_below : (text : List ℕ) (n : ℕ) → time_at text ≡ Some n → n < 604800
+time_below text n e =
+    of_below (length text - 6) text n (if_cases (nat_le 7 (length text) && nat_le (length text) 9) (time_of (length text - 6) text) n e).1
+
+below_if : (o : Option ℕ) (n : ℕ) → ((m : ℕ) → o ≡ Some m → m < n) → IsBelow n o
+below_if None n h = tt
+below_if (Some m) n h = h m refl
+
+time_few : (text : List ℕ) → IsBelow 604800 (time_at text)
+time_few text = below_if (time_at text) 604800 (time_below text)
+
+visit_form : (stops : ℕ) (places : List ℕ) (o a d : Option ℕ) (board exit : Bool) → IsBelow stops o → IsBelow 604800 a → IsBelow 604800 d
+    → IfSome (visit_of places o (times_of a d) board exit) (IsAtStop stops places)
+visit_form stops places None None None board exit h k l = tt
+visit_form stops places None None (Some y) board exit h k l = tt
+visit_form stops places None (Some x) None board exit h k l = tt
+visit_form stops places None (Some x) (Some y) board exit h k l = tt
+visit_form stops places (Some i) None None board exit h k l = tt
+visit_form stops places (Some i) None (Some y) board exit h k l = record { stop = i; inside = h; place = refl; arrival = l; departure = l }
+visit_form stops places (Some i) (Some x) None board exit h k l = record { stop = i; inside = h; place = refl; arrival = k; departure = k }
+visit_form stops places (Some i) (Some x) (Some y) board exit h k l = record { stop = i; inside = h; place = refl; arrival = k; departure = l }
+
+-- a row that has no fault by itself
+from_in_form : (trips stops : List (List ℕ)) (places : List ℕ) (line : ℕ) (trip stop sequence arrival departure pickup drop_off : List ℕ) (r : TimedRow)
+    → timed_from trips stops places line trip stop sequence arrival departure pickup drop_off ≡ Ok r → InForm (length stops) places r
+from_in_form trips stops places line trip stop sequence arrival departure pickup drop_off =
+    let P : TimedRow → Type 0 = InForm (length stops) places in
+    read_inv P (name_in trip) (BadField StopTimes line TripId) _ (λ trip' e0.
+    read_inv P (place_in trip' trips) (UnknownKey StopTimes line TripId) _ (λ number e1.
+    read_inv P (text_in stop) (BadField StopTimes line StopId) _ (λ stop' e2.
+    read_inv P (number_in stops stop') (UnknownKey StopTimes line StopId) _ (λ stop_number e3.
+    read_inv P (whole_of 999999999 sequence) (BadField StopTimes line StopSequence) _ (λ sequence' e4.
+    read_inv P (time_in arrival) (BadField StopTimes line ArrivalTime) _ (λ arrival' e5.
+    read_inv P (time_in departure) (BadField StopTimes line DepartureTime) _ (λ departure' e6.
+    read_inv P (allows_in pickup) (BadField StopTimes line PickupType) _ (λ board e7.
+    read_inv P (allows_in drop_off) (BadField StopTimes line DropOffType) _ (λ exit e8 r q.
+    subst P (same_ok _ r q) (record {
+      sequence = whole_bound 999999999 sequence' sequence e4;
+      visit = visit_form (length stops) places stop_number arrival' departure' board exit
+          (or_none (length stop' == 0) (place_in stop' stops) (length stops) stop_number (place_few stop' stops (place_in stop' stops) refl) e3)
+          (or_none (length arrival == 0) (time_at arrival) 604800 arrival' (time_few arrival) e5)
+          (or_none (length departure == 0) (time_at departure) 604800 departure' (time_few departure) e6);
+    }))))))))))
+
+ok_form : (P : TimedRow → Type 0) (o : Result TimedRow FeedFault) → fault_in o ≡ None → ((r : TimedRow) → o ≡ Ok r → P r) → P (value_or no_row o)
+ok_form P (Ok r) h k = k r refl
+ok_form P (Err fault) h k = absurd (cc)
+
+pub row_in_form : (trips stops : List (List ℕ)) (places : List ℕ) (t : List (List (List ℕ))) (i : ℕ) → fault_in (timed_at trips stops places t i) ≡ None
+    → InForm (length stops) places (value_or no_row (timed_at trips stops places t i))
+unfolding timed_at
+row_in_form trips stops places t i none =
+    let c = time_columns t in
+    ok_form (InForm (length stops) places) (timed_at trips stops places t i) none
+    (from_in_form trips stops places (i + 2) (field_at t c.trip i) (field_at t c.stop i) (field_at t c.sequence i) (field_at t c.arrival i)
+    (field_at t c.departure i) (field_at t c.pickup i) (field_at t c.drop_off i))
