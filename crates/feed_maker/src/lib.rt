@@ -18,10 +18,15 @@ use std::alloc::Global;
 /// The most bytes that a read gives.
 const PIECE: usize = 65_536;
 
-/// A feed of `size` lines in the folder `feed`, in the form of the GTFS Schedule reference, and the delays of its
-/// classes in `delays.csv`. No file is in hand, and a read gives at most 65,536 bytes.
+/// A feed of `size` lines in the folder `feed`, in the form of the GTFS Schedule reference, and the
+/// delays of its classes in `delays.csv`, which is no part of that reference. No file is in hand,
+/// and a read gives at most 65,536 bytes.
 ///
-/// A line goes from hub to hub over 19 stops of its own, and has 96 runs a day.
+/// Line `a` goes from hub `a % 10` to hub `(a + 1 + a / 10 % 3) % 10`, over 19 stops of its own, in
+/// 20 hops of `60 + 5 * (a % 7)` seconds each. It has a run every 15 minutes, 96 a day, the first at
+/// `35 * a % 900` seconds after midnight, and its route is of type `a % 4`.
+///
+/// `NoMemory` comes only for want of memory.
 pub fn make(alloc: Global, size: u32) -> Result<SteadyFiles, NoMemory>
     requires low { 10 ≤ size }
     requires high { size ≤ 400 }

@@ -1,6 +1,6 @@
 //! What is written for stops, routes, trips and times.
 ghost use Rattle.std.specs.Prelude.{Some};
-ghost use Rattle.feed_maker.specs.Names.{route_name, trip_name, two_digits, time_text};
+ghost use Rattle.feed_maker.specs.Names.{route_name, trip_name, time_text};
 
 use std::fmt;
 
@@ -56,20 +56,6 @@ impl fmt::Display for Trip {
     }
 }
 
-/// A number below 100.
-#[derive(Clone, Copy)]
-struct TwoDigits(u32);
-
-impl fmt::Display for TwoDigits {
-    ghost output = { λ number. Some (two_digits number.0) };
-
-    fn fmt<W: fmt::Write>(&self, f: &mut fmt::Formatter<W>) -> fmt::Result {
-        let tens = self.0 / 10;
-        let ones = self.0 % 10;
-        write!(f, "{tens}{ones}")
-    }
-}
-
 /// A time of the service day, in seconds, below 100 hours.
 #[derive(Clone, Copy)]
 pub struct Time(pub u32);
@@ -77,11 +63,11 @@ pub struct Time(pub u32);
 impl fmt::Display for Time {
     ghost output = { λ time. Some (time_text time.0) };
 
-    #[tactic(auto, unfolding(crate::specs::Names::time_text))]
+    #[tactic(auto, using(crate::proofs::DigitLemmas::two_digits_padded), unfolding(crate::specs::Names::time_text))]
     fn fmt<W: fmt::Write>(&self, f: &mut fmt::Formatter<W>) -> fmt::Result {
-        let hours = TwoDigits(self.0 / 3600);
-        let minutes = TwoDigits(self.0 / 60 % 60);
-        let seconds = TwoDigits(self.0 % 60);
-        write!(f, "{hours}:{minutes}:{seconds}")
+        let hours = self.0 / 3600;
+        let minutes = self.0 / 60 % 60;
+        let seconds = self.0 % 60;
+        write!(f, "{hours:02}:{minutes:02}:{seconds:02}")
     }
 }
