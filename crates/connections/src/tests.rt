@@ -77,6 +77,9 @@ fn cut_of(
     horizon: u32,
     most: u64,
 ) -> Result<Result<(Network, Names), WindowFault>, &'static str> {
+    if start < 604_800 || start >= 13_569_465_600 || horizon > 72 || most > 8_388_608 {
+        return Err("no window");
+    }
     let Ok(mut files) = files_of(alloc, tables) else {
         return Err("no files");
     };
@@ -88,10 +91,20 @@ fn cut_of(
     let Ok(services) = Services::read(alloc, &mut files, "feed", &limits) else {
         return Err("no services");
     };
+    let Ok(changes) = Changes::read(alloc, &mut files, "feed", &feed, &limits) else {
+        return Err("no changes");
+    };
     let delays = delays_of(alloc)?;
-    let change = change_of(alloc, &feed)?;
-    let window = Window::new(start, horizon);
-    Ok(network_of(alloc, &feed, &services, change, &delays, window, &limits))
+    Ok(cut(
+        alloc,
+        &feed,
+        &services,
+        &changes,
+        &delays,
+        Moment(start),
+        horizon,
+        &limits,
+    ))
 }
 
 /// 2024-06-03T00:00:00.
