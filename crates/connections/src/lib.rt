@@ -1,4 +1,4 @@
-//! The connections of a feed in a window of time (GTFS Schedule reference), as a network, and a merge of its runs.
+//! The connections of a feed in a window of time (GTFS Schedule reference), as a network.
 #![tactic(auto)]
 
 mod counts;
@@ -9,6 +9,3 @@ mod runs;
 mod window;
 
 pub use cuts::{WindowFault, cut};
-
-#[cfg(test)]
-mod tests;
