@@ -1,84 +1,75 @@
 -- What a line of words asks for, or why it is refused.
-use Rattle.std.specs.Prelude.{ℕ, List, [], ◌∷◌, Option, Some, None, Result, Ok, Err, Bool, true, false, not, ◌&&◌, is_some, is_none, if◌then◌else◌, nat_le, option_map, option_and_then, unwrap_or, find}
-use Rattle.clock_text.specs.Digits.{whole_of}
-use Rattle.clock_text.specs.Times.{moment_at}
+use Rattle.std.specs.Prelude.{ℕ, List, [], ◌∷◌, Option, Some, None, Result, Ok, Err, Bool, true, false, not, ◌&&◌, is_some, if◌then◌else◌, option_map, option_and_then, unwrap_or, find}
+use Rattle.command_line.specs.declared.options.Goal.{Goal}
 use Rattle.command_line.specs.declared.options.Command.{Command}
+use Rattle.command_line.specs.declared.options.Command.TheVariants as command
 use Rattle.command_line.specs.declared.options.OptionName.{OptionName}
 use Rattle.command_line.specs.declared.options.OptionName.TheVariants.{Cut, Feed, Delays, From, To, At, Alpha, Horizon, Graph, Late, Size}
 use Rattle.command_line.specs.declared.job.WordsFault.{WordsFault}
 use Rattle.command_line.specs.declared.job.WordsFault.TheVariants.{Line, UnknownCommand, NotUsed, Missing, BadValue}
 use Rattle.command_line.specs.Options.{all_options, option_number, command_named}
 use Rattle.command_line.specs.Settings.{value_of, are_settings}
+use Rattle.command_line.specs.Values.{start_at, alpha_at, horizon_at, size_at, late_at, has_form}
 
--- at least so much
-abbrev pub from_on : ℕ → ℕ → Option ℕ
-from_on least n = if nat_le least n then Some n else None
+-- the command is about a journey over a timetable that is read
+abbrev pub has_journey : Command → Bool
+has_journey (command.Seek goal) = true
+has_journey command.Replay = true
+has_journey command.Sample = false
 
--- at most so much
-abbrev pub up_to : ℕ → ℕ → Option ℕ
-up_to most n = if nat_le n most then Some n else None
+abbrev pub is_seek : Command → Bool
+is_seek (command.Seek goal) = true
+is_seek command.Replay = false
+is_seek command.Sample = false
 
--- a moment from 1970-01-08T00:00:00 to 2399-12-31T23:59:59
-abbrev pub start_at : List ℕ → Option ℕ
-start_at text = option_and_then (up_to 13569465599) (option_and_then (from_on 604800) (moment_at text))
+abbrev pub is_replay : Command → Bool
+is_replay (command.Seek goal) = false
+is_replay command.Replay = true
+is_replay command.Sample = false
 
--- a whole number from 100 to 1,000
-abbrev pub alpha_at : List ℕ → Option ℕ
-alpha_at text = option_and_then (from_on 100) (whole_of 1000 text)
+abbrev pub is_sample : Command → Bool
+is_sample (command.Seek goal) = false
+is_sample command.Replay = false
+is_sample command.Sample = true
 
-abbrev pub is_empty : List ℕ → Bool
-is_empty [] = true
-is_empty (byte ∷ bytes) = false
+abbrev pub is_given : List (List ℕ) → OptionName → Bool
+is_given settings option = is_some (value_of settings option)
 
--- the value of an option is of its form; a path or a stop is not empty
-abbrev pub has_form : OptionName → List ℕ → Bool
-has_form At text = is_some (start_at text)
-has_form Alpha text = is_some (alpha_at text)
-has_form Cut text = not (is_empty text)
-has_form Feed text = not (is_empty text)
-has_form Delays text = not (is_empty text)
-has_form From text = not (is_empty text)
-has_form To text = not (is_empty text)
-has_form Horizon text = not (is_empty text)
-has_form Graph text = not (is_empty text)
-has_form Late text = not (is_empty text)
-has_form Size text = not (is_empty text)
+-- the command needs the option: one of the two timetables, of which the feed is asked for where neither is given
+abbrev pub is_needed : Command → List (List ℕ) → OptionName → Bool
+is_needed command settings Cut = false
+is_needed command settings Feed = has_journey command && not (is_given settings Cut)
+is_needed command settings Delays = has_journey command
+is_needed command settings From = has_journey command
+is_needed command settings To = has_journey command
+is_needed command settings At = has_journey command
+is_needed command settings Alpha = false
+is_needed command settings Horizon = false
+is_needed command settings Graph = is_replay command
+is_needed command settings Late = is_replay command
+is_needed command settings Size = is_sample command
 
--- the command needs the option
-abbrev pub is_needed : OptionName → Bool
-is_needed Cut = true
-is_needed Delays = true
-is_needed From = true
-is_needed To = true
-is_needed At = true
-is_needed Feed = false
-is_needed Alpha = false
-is_needed Horizon = false
-is_needed Graph = false
-is_needed Late = false
-is_needed Size = false
-
--- the command needs the option, or may have it
-abbrev pub is_used : OptionName → Bool
-is_used Alpha = true
-is_used Cut = true
-is_used Delays = true
-is_used From = true
-is_used To = true
-is_used At = true
-is_used Feed = false
-is_used Horizon = false
-is_used Graph = false
-is_used Late = false
-is_used Size = false
+-- the command has a use for the option: no cut file beside a feed, and a horizon with a feed alone
+abbrev pub is_used : Command → List (List ℕ) → OptionName → Bool
+is_used command settings Cut = has_journey command && not (is_given settings Feed)
+is_used command settings Feed = has_journey command
+is_used command settings Delays = has_journey command
+is_used command settings From = has_journey command
+is_used command settings To = has_journey command
+is_used command settings At = has_journey command
+is_used command settings Alpha = is_seek command
+is_used command settings Horizon = has_journey command && is_given settings Feed
+is_used command settings Graph = is_replay command
+is_used command settings Late = is_replay command
+is_used command settings Size = is_sample command
 
 -- it is given, and the command has no use for it
-abbrev pub is_useless : List (List ℕ) → OptionName → Bool
-is_useless settings option = not (is_used option) && is_some (value_of settings option)
+abbrev pub is_useless : Command → List (List ℕ) → OptionName → Bool
+is_useless command settings option = not (is_used command settings option) && is_given settings option
 
 -- it is needed, and not given
-abbrev pub is_missing : List (List ℕ) → OptionName → Bool
-is_missing settings option = is_needed option && is_none (value_of settings option)
+abbrev pub is_missing : Command → List (List ℕ) → OptionName → Bool
+is_missing command settings option = is_needed command settings option && not (is_given settings option)
 
 abbrev pub is_malformed : OptionName → Option (List ℕ) → Bool
 is_malformed option None = false
@@ -88,15 +79,36 @@ is_malformed option (Some value) = not (has_form option value)
 abbrev pub is_bad : List (List ℕ) → OptionName → Bool
 is_bad settings option = is_malformed option (value_of settings option)
 
--- what the words ask for
-pub record Wanted : Type 0 where
-  pub command : Command
-  pub cut : List ℕ
+-- where the connections come from: a cut file, or the folder of a feed, of which so many hours are looked at
+pub data WantedTimetable : Type 0 where
+  CutFile : (path : List ℕ) → WantedTimetable
+  FeedFolder : (folder : List ℕ) (horizon : ℕ) → WantedTimetable
+
+-- a journey over a timetable: the path of the delays, the stops where it begins and ends, and its start
+pub record WantedJourney : Type 0 where
+  pub timetable : WantedTimetable
   pub delays : List ℕ
   pub from : List ℕ
   pub to : List ℕ
   pub start : ℕ
+
+-- a journey whose strategies are sought, by a percentage for the deadline
+pub record WantedSearch : Type 0 where
+  pub goal : Goal
+  pub journey : WantedJourney
   pub alpha : ℕ
+
+-- a journey by the graph of this path, with these delays
+pub record WantedReplay : Type 0 where
+  pub journey : WantedJourney
+  pub graph : List ℕ
+  pub late : List ℕ
+
+-- what the words ask for
+pub data Wanted : Type 0 where
+  Seek : (search : WantedSearch) → Wanted
+  Replay : (replay : WantedReplay) → Wanted
+  Sample : (size : ℕ) → Wanted
 
 abbrev pub text_of : List (List ℕ) → OptionName → List ℕ
 text_of settings option = unwrap_or (value_of settings option) []
@@ -109,16 +121,37 @@ start_of settings = unwrap_or (start_at (text_of settings At)) 604800
 abbrev pub alpha_of : List (List ℕ) → ℕ
 alpha_of settings = unwrap_or (option_and_then alpha_at (value_of settings Alpha)) 200
 
-abbrev pub wanted_of : Command → List (List ℕ) → Wanted
-wanted_of command settings = record {
-  command = command;
-  cut = text_of settings Cut;
+-- the hours of the window, 24 unless they are given
+abbrev pub horizon_of : List (List ℕ) → ℕ
+horizon_of settings = unwrap_or (option_and_then horizon_at (value_of settings Horizon)) 24
+
+abbrev pub size_of : List (List ℕ) → ℕ
+size_of settings = unwrap_or (size_at (text_of settings Size)) 10
+
+-- the delays of a text that has their form
+abbrev pub late_in : List ℕ → List ℕ
+late_in text = unwrap_or (late_at text) []
+
+abbrev pub timetable_by : Option (List ℕ) → ℕ → List ℕ → WantedTimetable
+timetable_by None horizon cut = CutFile cut
+timetable_by (Some folder) horizon cut = FeedFolder folder horizon
+
+abbrev pub timetable_of : List (List ℕ) → WantedTimetable
+timetable_of settings = timetable_by (value_of settings Feed) (horizon_of settings) (text_of settings Cut)
+
+abbrev pub journey_of : List (List ℕ) → WantedJourney
+journey_of settings = record {
+  timetable = timetable_of settings;
   delays = text_of settings Delays;
   from = text_of settings From;
   to = text_of settings To;
   start = start_of settings;
-  alpha = alpha_of settings;
 }
+
+abbrev pub wanted_of : Command → List (List ℕ) → Wanted
+wanted_of (command.Seek goal) settings = Seek (record { goal = goal; journey = journey_of settings; alpha = alpha_of settings })
+wanted_of command.Replay settings = Replay (record { journey = journey_of settings; graph = text_of settings Graph; late = late_in (text_of settings Late) })
+wanted_of command.Sample settings = Sample (size_of settings)
 
 -- the refusal that the least option calls for, if one does
 abbrev pub refusal : (ℕ → WordsFault) → Option OptionName → Option WordsFault
@@ -132,8 +165,8 @@ unless_refused (Some fault) next = Err fault
 abbrev pub job_by : Option Command → List (List ℕ) → Result Wanted WordsFault
 job_by None settings = Err UnknownCommand
 job_by (Some command) settings =
-    unless_refused (refusal NotUsed (find (is_useless settings) all_options))
-    (unless_refused (refusal Missing (find (is_missing settings) all_options))
+    unless_refused (refusal NotUsed (find (is_useless command settings) all_options))
+    (unless_refused (refusal Missing (find (is_missing command settings) all_options))
     (unless_refused (refusal BadValue (find (is_bad settings) all_options))
     (Ok (wanted_of command settings))))
 

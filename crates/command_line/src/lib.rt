@@ -6,6 +6,6 @@ mod options;
 mod settings;
 mod values;
 
-pub use job::{Job, WordsFault, read_job};
-pub use options::{Command, OptionName, option_word};
+pub use job::{Job, Journey, ReplayJob, SearchJob, Timetable, WordsFault, read_job};
+pub use options::{Command, Goal, OptionName, option_word};
 pub use settings::line_is_a_command_and_its_settings;

@@ -2,15 +2,26 @@
 ghost use Rattle.std.specs.Prelude.{◌≡◌, Some};
 ghost use Rattle.command_line.specs.Options.{option_name, option_number, option_word, command_named};
 
-/// What the program can be asked for.
+/// What is sought.
 #[derive(Clone, Copy, Debug, PartialEq, Eq)]
-pub enum Command {
+pub enum Goal {
     /// The least worst arrival and the deadline.
     Safe,
     /// The decision graph, ride by ride.
     Expand,
     /// The decision graph, with one table for each place.
     Plan,
+}
+
+/// What the program can be asked for.
+#[derive(Clone, Copy, Debug, PartialEq, Eq)]
+pub enum Command {
+    /// To seek the strategies of a journey.
+    Seek(Goal),
+    /// To follow a decision graph as the delays come.
+    Replay,
+    /// To plan a journey over a timetable that is made by rule.
+    Sample,
 }
 
 /// An option of the command line.
@@ -46,13 +57,19 @@ impl Command {
         ensures { result ≡ command_named word.now }
     {
         if word == "safe" {
-            return Some(Command::Safe);
+            return Some(Command::Seek(Goal::Safe));
         }
         if word == "expand" {
-            return Some(Command::Expand);
+            return Some(Command::Seek(Goal::Expand));
         }
         if word == "plan" {
-            return Some(Command::Plan);
+            return Some(Command::Seek(Goal::Plan));
+        }
+        if word == "replay" {
+            return Some(Command::Replay);
+        }
+        if word == "sample" {
+            return Some(Command::Sample);
         }
         None
     }

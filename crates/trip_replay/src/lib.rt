@@ -1,7 +1,7 @@
 //! A trip by a graph, as the delays come.
 #![tactic(auto)]
 
-ghost use Rattle.std.specs.Prelude.{◌≡◌, ℕ, ◌+◌, ◌-◌, ◌<◌, ◌≤◌, [], IfSome, IfOk};
+ghost use Rattle.std.specs.Prelude.{◌≡◌, ℕ, ◌+◌, ◌-◌, ◌<◌, ◌≤◌, [], All, IfSome, IfOk};
 ghost use Rattle.std.specs.Option.{option_map};
 ghost use Rattle.plan_model.specs.Network.{count};
 ghost use Rattle.plan_model.specs.Strategy.{IsSafeFor};
@@ -12,6 +12,7 @@ ghost use Rattle.plan_graph.specs.Tidy.{IsFit};
 ghost use Rattle.plan_graph.specs.Unfold.{unfold_plan};
 ghost use Rattle.trip_replay.specs.Walk.{walk, IsAnswer, IsSafeAnswer};
 ghost use Rattle.trip_replay.specs.Stops.{delayed, tree_at};
+ghost use Rattle.trip_replay.specs.Rides.{IsRide, arrival_after};
 
 use plan_graph::PlanGraph;
 use plan_model::{Leg, List, Moment, Network, PlaceId, Query};
@@ -88,6 +89,7 @@ fn stop_after(
         (by_place network.now (pick_at graph.now.tables)) left leg arrival.0 }
     ensures next { IfSome result.next (λ next. IsLegOf network.now next × (result.left < left)) }
     ensures left { result.left ≤ left }
+    ensures moment { result.moment ≡ arrival }
 {
     let place = network.get(leg.exit).to;
     if left == 0 {
@@ -115,8 +117,11 @@ fn follow(
     delays: &[u32],
 ) -> Result<Trace, ReplayFault>
     requires { IsFit network.now query.now graph.now }
-    ensures { IsAnswer result (walk network.now
+    ensures walk { IsAnswer result (walk network.now
         (unfold_plan graph.now network.now query.now) delays.now []) }
+    ensures rides { IfOk result (λ trace. All (IsRide network.now) trace.rides) }
+    ensures arrival { IfOk result (λ trace.
+        trace.arrival.0 ≡ arrival_after query.now.start.0 trace.rides) }
 {
     let mut rides = List::new(alloc);
     let mut stop = Stop {
@@ -171,6 +176,9 @@ pub fn replay(
         (unfold_plan graph.now network.now query.now) delays.now []) }
     ensures safe { IsSafeFor network.now query.now (unfold_plan graph.now network.now query.now)
         → IsSafeAnswer query.now.deadline.0 result }
+    ensures rides { IfOk result (λ trace. All (IsRide network.now) trace.rides) }
+    ensures arrival { IfOk result (λ trace.
+        trace.arrival.0 ≡ arrival_after query.now.start.0 trace.rides) }
 {
     follow(alloc, graph, network, query, delays)
 }

@@ -1,7 +1,7 @@
-use Rattle.std.proofs.Common.{◌≡◌, ◌∙◌, ℕ, ◌+◌, ◌<◌, List, [], ◌∷◌, ◌++◌, length, drop, Option, None, Some, Err, sym, ap, arith, subst}
-use Rattle.std.specs.Prelude.{IfSome}
+use Rattle.std.proofs.Common.{◌≡◌, ◌∙◌, ℕ, ◌+◌, ◌<◌, List, length, drop, Option, Err, sym, ap, arith, subst}
+use Rattle.std.specs.Prelude.{IfSome, All}
+use Rattle.std.proofs.lemmas.List.Elements.{All-push}
 use Rattle.std.specs.Option.{option_map}
-use Rattle.plan_model.specs.declared.model.Leg.{Leg}
 use Rattle.plan_model.specs.declared.model.Moment.{Moment}
 use Rattle.plan_model.specs.Network.{count}
 use Rattle.plan_model.specs.Tree.{Tree}
@@ -11,11 +11,13 @@ use Rattle.plan_graph.specs.Ready.{IsLegOf}
 use Rattle.trip_replay.specs.declared.Ridden.{Ridden}
 use Rattle.trip_replay.specs.declared.ReplayFault.TheVariants as fault
 use Rattle.trip_replay.specs.Walk.{walk}
+use Rattle.trip_replay.specs.Rides.{IsRide, arrival_after}
+use Rattle.trip_replay.proofs.RideLemmas.{leg_at, is_ride, arrival_after-push}
 use Rattle.trip_replay.proofs.Walks.{too_many, not_a_delay, after_ride, target_there, target_away, from_ok, one_more, next_step, at_some}
 use Rattle.trip_replay.proofs.follow.Goals as goal
 
-pub returns-then-eq : goal.returns-then-eq
-returns-then-eq c =
+pub returns-then-eq-clause-walk : goal.returns-then-eq-clause-walk
+returns-then-eq-clause-walk c =
     let n = c.args.network.now in
     let choice = by_place n (pick_at c.args.graph.now.tables) in
     let s = c.loop-delay.stop in
@@ -24,8 +26,8 @@ returns-then-eq c =
     ∙ too_many n target choice s c.loop-delay.rides c.args.delays.now c.loop-delay.delay-index (target_there s.place.0 target c.eq.result c.eq.ensures c.if-eq.true) c.loop-delay-test.true
     ∙ ap (λ (k : ℕ). Err (fault.TooMany k)) (sym c.len.ensures)
 
-pub returns-in_default-arrival_of : goal.returns-in_default-arrival_of
-returns-in_default-arrival_of c =
+pub returns-in_default-arrival_of-clause-walk : goal.returns-in_default-arrival_of-clause-walk
+returns-in_default-arrival_of-clause-walk c =
     let n = c.args.network.now in
     let choice = by_place n (pick_at c.args.graph.now.tables) in
     let s = c.loop-delay.stop in
@@ -55,4 +57,9 @@ loop-delay-preserved c =
       next = subst (λ (k : ℕ). IfSome c.stop_after-stop.result.next (λ leg. IsLegOf n leg × (k + c.stop_after-stop.result.left < count n))) (sym more)
           (next_step n (count n) (length behind) s.left c.stop_after-stop.result.left c.stop_after-stop.result.next c.stop_after-stop.ensures.next few);
       few = omega (arith, more, few, c.stop_after-stop.ensures.left);
+      rides = subst (All (IsRide n)) (sym pushed)
+          (All-push (IsRide n) behind _ c.loop-delay.invariant.rides
+          (is_ride n c.in-Some.leg _ c.in-Some-arrival_of.arrival.0 (leg_at n (count n) (length behind) s.left s.next c.in-Some.leg c.in-Some.is c.loop-delay.invariant.next) some));
+      arrival = ap (λ (moment : Moment). moment.0) c.stop_after-stop.ensures.moment
+          ∙ sym (ap (λ (list : List Ridden). arrival_after c.args.query.now.start.0 list) pushed ∙ arrival_after-push c.args.query.now.start.0 behind _);
     }

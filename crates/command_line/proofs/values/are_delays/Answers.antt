@@ -1,0 +1,33 @@
+use Rattle.std.proofs.Common.{◌≡◌, ℕ, ◌≤◌, ◌<◌, length, List, Bool, true, false, refl, arith, rules, tests, lit<}
+use Rattle.std.specs.Prelude.{nat_le}
+use Rattle.std.specs.List.{list_all}
+use Rattle.std.proofs.lemmas.Bool.Decides.{nat_tests}
+use Rattle.std.proofs.lemmas.Iterator.Consumers.{count_from_yields_List}
+use Rattle.std.proofs.lemmas.Iterator.Search.{all_from_yields_List}
+use Rattle.std.proofs.lemmas.Iterator.Splits.{YieldsList-from_str_split}
+use Rattle.command_line.specs.Values.{is_delay, are_delays, pieces}
+use Rattle.command_line.proofs.values.are_delays.Goals as goal
+
+few : (texts : List (List ℕ)) (n : ℕ) (b : Bool) → n ≡ length texts → n ≤ 4096 → b ≡ list_all is_delay texts → b ≡ are_delays texts
+few texts n b count le all =
+    let here : nat_le (length texts) 4096 ≡ true = grind (arith, nat_tests) in
+    rw (here, all) refl
+
+many : (texts : List (List ℕ)) (n : ℕ) → n ≡ length texts → 4096 < n → nat_le n 4096 ≡ are_delays texts
+many texts n count more =
+    let one : nat_le n 4096 ≡ false = grind (arith, nat_tests) in
+    let other : nat_le (length texts) 4096 ≡ false = grind (arith, nat_tests) in
+    rw (one, other) refl
+
+pub returns-then-count-le-MOST_DELAYS : goal.returns-then-count-le-MOST_DELAYS
+returns-then-count-le-MOST_DELAYS c =
+    few (pieces c.args.text.now) c.count.result c.all.result
+    (count_from_yields_List _ _ c.count.ensures.ran (YieldsList-from_str_split 44 c.args.text.now (lit< tt) c.split.ensures.text c.split.ensures.has_more c.split.ensures.pattern))
+    c.if-count-le-MOST_DELAYS.true
+    (all_from_yields_List is_delay _ _ _ c.all.ensures.ran (YieldsList-from_str_split 44 c.args.text.now (lit< tt) c.split-then-count-le-MOST_DELAYS.ensures.text c.split-then-count-le-MOST_DELAYS.ensures.has_more c.split-then-count-le-MOST_DELAYS.ensures.pattern) (λ x b q k. search (rules, tests)))
+
+pub returns-else-count-le-MOST_DELAYS : goal.returns-else-count-le-MOST_DELAYS
+returns-else-count-le-MOST_DELAYS c =
+    many (pieces c.args.text.now) c.count.result
+    (count_from_yields_List _ _ c.count.ensures.ran (YieldsList-from_str_split 44 c.args.text.now (lit< tt) c.split.ensures.text c.split.ensures.has_more c.split.ensures.pattern))
+    c.if-count-le-MOST_DELAYS.false
