@@ -75,6 +75,13 @@ module _ (f : FeedParts) (s : IsSoundFeed f) where
   none : HasNone (trip_ids s.tables.trips) (stop_ids s.tables.stops) (stop_places s.tables.stops) s.tables.stop_times
   none = has_none (trip_ids s.tables.trips) (stop_ids s.tables.stops) (stop_places s.tables.stops) s.tables.stop_times s.stop_times
 
+  -- the place of each stop is one of the stops
+  pub place_below : (stop : ℕ) → stop < length f.stop_ids → slice_index f.places stop < length f.stop_ids
+  place_below stop inside =
+      let count : stops ≡ row_count s.tables.stops = length-list_below (field s.tables.stops StopId) (row_count s.tables.stops) in
+      let same = ap (λ (places : List ℕ). slice_index places stop) s.feed.places_of_stops in
+      omega (arith, same, place_is_stop s.tables.stops stop (omega (arith, inside, count, ap length s.feed.stops)), count, ap length s.feed.stops)
+
   module _ (trip : ℕ) (times : AreStopTimes rows trip (rows_of f trip)) where
     visit : (k : ℕ) → k < length (rows_of f trip) → IsAtStop stops (stop_places s.tables.stops) (kept_at (rows_of f trip) k)
     visit k h =

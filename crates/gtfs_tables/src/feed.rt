@@ -115,8 +115,9 @@ impl Feed {
 
     /// The place of the stop with this id: its parent station, or else itself.
     pub fn place_of(&self, id: &str) -> Option<PlaceId>
-        ensures { option_map (λ p. p.0) result
+        ensures place { option_map (λ p. p.0) result
             ≡ option_map (λ stop. slice_index self.now.places stop) (place_in id.now self.now.stop_ids) }
+        ensures in_range { IfSome result (λ p. p.0 < length self.now.stop_ids) }
     {
         match self.stops.ids.number(id) {
             None => None,
