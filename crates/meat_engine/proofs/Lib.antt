@@ -1,4 +1,2 @@
 pub mod Loads
-pub mod Causes
 pub mod StopNames
-pub mod Outcomes

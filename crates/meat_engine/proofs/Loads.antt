@@ -1,12 +1,18 @@
 -- What a loaded file gives.
-use Rattle.std.proofs.Common.{◌≡◌, ℕ, ◌≤◌, List, [], length, Option, Some, None, Result, Err, false, arith, refl, ap, ◌∙◌, subst}
-use Rattle.std.specs.Prelude.{IfSome, nat_lt}
+use Rattle.std.proofs.Common.{◌≡◌, ℕ, ◌≤◌, List, length, Option, Some, None, Result, Ok, Err, Bool, true, false, arith, refl, ap, ◌∙◌, subst}
+use Rattle.std.specs.Prelude.{IfSome, IfOk, nat_lt, ◌==◌, if◌then◌else◌}
 use Rattle.std.proofs.lemmas.Bool.Decides.{nat_tests}
-use Rattle.csv_rows.specs.Tables.{table_of}
+use Rattle.csv_rows.specs.FeedTables.{rank_of}
 use Rattle.meat_engine.specs.declared.faults.Input.{Input}
 use Rattle.meat_engine.specs.declared.faults.Input.TheVariants as input
 use Rattle.meat_engine.specs.declared.faults.Fault.{Fault}
-use Rattle.meat_engine.specs.Files.{Table, headless, with_header, loaded, Agrees}
+use Rattle.meat_engine.specs.declared.faults.Fault.TheVariants.{Read}
+use Rattle.meat_engine.specs.Faults.{is_unread}
+use Rattle.meat_engine.specs.Files.{bytes_of, bytes_present}
+
+pub if_some_any : {A : Type 0} (o : Option A) (P : A → Type 0) → ((a : A) → P a) → IfSome o P
+if_some_any None P f = tt
+if_some_any (Some a) P f = f a
 
 pub if_some_then : {A : Type 0} (o : Option A) (P Q : A → Type 0) → ((a : A) → P a → Q a) → IfSome o P → IfSome o Q
 if_some_then None P Q f p = tt
@@ -16,18 +22,15 @@ pub some_of : {A : Type 0} (o : Option A) (a : A) (P : A → Type 0) → o ≡ S
 some_of None a P is p = absurd (cc)
 some_of (Some b) a P is p = let same : b ≡ a = (cc) in subst P same p
 
-not_longer : (most n : ℕ) → n ≤ most → nat_lt most n ≡ false
-not_longer most n few = grind (arith, nat_tests)
+same_rank : (n : ℕ) → (n == n) ≡ true
+same_rank n = grind (arith, nat_tests)
 
-loaded-bytes : (most : ℕ) (input : Input) (file : Option (List ℕ)) (bytes : List ℕ) → file ≡ Some bytes → length bytes ≤ most → loaded most input file ≡ with_header input (table_of bytes)
-loaded-bytes most input file bytes there few = rw there (rw (not_longer most (length bytes) few) refl)
+own_unread : (file : Input) → is_unread (Some file) file ≡ true
+own_unread (input.Feed table) = same_rank (rank_of table)
+own_unread input.Cut = refl
+own_unread input.Delays = refl
+own_unread input.Graph = refl
 
-headless_agrees : {T U : Type 0} (shown : T → U) (wanted : Result U Fault) (input : Input) → wanted ≡ Err (headless input) → Agrees shown wanted (Err (headless input))
-headless_agrees shown wanted input.Cut is = is
-headless_agrees shown wanted input.Delays is = is
-
--- a file with no record
-pub headless_loaded : {T : Type 0} (shown : T → Table) (most : ℕ) (input : Input) (file : Option (List ℕ)) (bytes : List ℕ) → file ≡ Some bytes → length bytes ≤ most → table_of bytes ≡ [] →
-    Agrees shown (loaded most input file) (Err (headless input))
-headless_loaded shown most input file bytes there few none =
-    headless_agrees shown (loaded most input file) input (loaded-bytes most input file bytes there few ∙ ap (with_header input) none)
+-- a file that cannot be read
+pub bytes_of-unread : (most : ℕ) (file : Input) (bytes : Option (List ℕ)) → bytes_of most file (Some file) bytes ≡ Err (Read file)
+bytes_of-unread most file bytes = ap (λ (b : Bool). if b then Err (Read file) else bytes_present most file bytes) (own_unread file)

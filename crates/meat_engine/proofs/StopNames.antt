@@ -6,7 +6,7 @@ use Rattle.std.proofs.lemmas.Slice.Eq.{bytes_eq-Decides}
 use Rattle.std.proofs.lemmas.Map.Views.{Contains-from_any}
 use Rattle.meat_engine.specs.declared.faults.Which.TheVariants as which
 use Rattle.meat_engine.specs.declared.faults.Fault.TheVariants.{UnknownStop}
-use Rattle.meat_engine.specs.Problems.{is_among, stop_fault}
+use Rattle.meat_engine.specs.CutProblems.{is_among, stop_fault}
 
 among-at : (names : List (List ℕ)) (k : ℕ) (name : List ℕ) → slice_get names k ≡ Some name → is_among names name ≡ true
 among-at [] k name is = absurd (cc)

@@ -1,53 +1,66 @@
 -- The files that a command reads, and the causes of their faults.
-use Rattle.std.specs.Prelude.{◌≡◌, ℕ, ◌+◌, ◌<◌, ◌≤◌, List, [], ◌∷◌, length, Option, None, Some, Result, Ok, Err, IsErrOf, if◌then◌else◌, nat_lt}
+use Rattle.std.specs.Prelude.{◌≡◌, ◌≢◌, ℕ, ◌+◌, ◌<◌, ◌≤◌, List, [], ◌∷◌, length, Option, None, Some, Result, Ok, Err, IsErrOf, if◌then◌else◌, nat_lt}
 use Rattle.file_ports.specs.Counts.{Rose}
-use Rattle.csv_rows.specs.declared.columns.Column.TheVariants.{Run, Class}
+use Rattle.csv_rows.specs.FeedTables.{path_of as table_path}
 use Rattle.csv_rows.specs.Tables.{table_of}
-use Rattle.cut_file.specs.declared.faults.CutFault.TheVariants as cut
-use Rattle.delay_table.specs.declared.faults.DelayFault.TheVariants as delay
-use Rattle.command_line.specs.Jobs.{Wanted}
+use Rattle.csv_rows.specs.declared.feed_tables.Table.{Table}
+use Rattle.command_line.specs.Jobs.{WantedTimetable, CutFile, FeedFolder, WantedJourney}
 use Rattle.meat_engine.specs.declared.faults.Input.{Input}
 use Rattle.meat_engine.specs.declared.faults.Input.TheVariants as input
 use Rattle.meat_engine.specs.declared.faults.LimitKind.TheVariants.{Bytes}
 use Rattle.meat_engine.specs.declared.faults.Fault.{Fault}
-use Rattle.meat_engine.specs.declared.faults.Fault.TheVariants.{Words, Cut, Missing, Delays, UnknownStop, Limit, Read, NoSafe, Write, NoMemory}
+use Rattle.meat_engine.specs.declared.faults.Fault.TheVariants.{Words, Feed, Cut, Missing, Delays, UnknownStop, Limit, Read, NoSafe, GraphFile, Replay, Write, NoMemory}
+use Rattle.meat_engine.specs.Faults.{unread_of, is_unread}
 
 -- the records of a table, of which the first is the header
-abbrev pub Table : Type 0
-Table = List (List (List ℕ))
+abbrev pub Records : Type 0
+Records = List (List (List ℕ))
 
--- the path of an input
-abbrev pub path_of : Wanted → Input → List ℕ
-path_of wanted input.Cut = wanted.cut
-path_of wanted input.Delays = wanted.delays
+abbrev pub cut_path : WantedTimetable → List ℕ
+cut_path (CutFile path) = path
+cut_path (FeedFolder folder horizon) = []
 
--- a file with no record lacks its first column
-abbrev pub headless : Input → Fault
-headless input.Cut = Cut (cut.MissingColumn Run)
-headless input.Delays = Delays (delay.MissingColumn Class)
+abbrev pub feed_path : WantedTimetable → Table → List ℕ
+feed_path (CutFile path) table = []
+feed_path (FeedFolder folder horizon) table = table_path folder table
 
-abbrev pub with_header : Input → Table → Result Table Fault
-with_header input [] = Err (headless input)
-with_header input (header ∷ rows) = Ok (header ∷ rows)
+-- the paths of a journey's files over a timetable, and of a graph file
+abbrev pub path_by : WantedTimetable → WantedJourney → List ℕ → Input → List ℕ
+path_by timetable j graph (input.Feed table) = feed_path timetable table
+path_by timetable j graph input.Cut = cut_path timetable
+path_by timetable j graph input.Delays = j.delays
+path_by timetable j graph input.Graph = graph
+
+abbrev pub path_of : WantedJourney → List ℕ → Input → List ℕ
+path_of j graph = path_by j.timetable j graph
+
+-- what comes next, where there is no fault so far
+abbrev pub and_then : {A B : Type 0} → Result A Fault → (A → Result B Fault) → Result B Fault
+and_then (Ok a) next = next a
+and_then (Err fault) next = Err fault
+
+-- the bytes of a file that is there and not too long
+abbrev pub bytes_present : ℕ → Input → Option (List ℕ) → Result (List ℕ) Fault
+bytes_present most input None = Err (Missing input)
+bytes_present most input (Some bytes) = if nat_lt most (length bytes) then Err (Limit (Bytes input) (most + 1)) else Ok bytes
+
+-- the bytes of a file, where at most one file is unread
+abbrev pub bytes_of : ℕ → Input → Option Input → Option (List ℕ) → Result (List ℕ) Fault
+bytes_of most input unread file = if is_unread unread input then Err (Read input) else bytes_present most input file
+
+-- a file with no record has the fault that is given for it
+abbrev pub with_header : Fault → Records → Result Records Fault
+with_header headless [] = Err headless
+with_header headless (header ∷ rows) = Ok (header ∷ rows)
 
 -- the table of a file, or the first fault in loading it
-abbrev pub loaded : ℕ → Input → Option (List ℕ) → Result Table Fault
-loaded most input None = Err (Missing input)
-loaded most input (Some bytes) = if nat_lt most (length bytes) then Err (Limit (Bytes input) (most + 1)) else with_header input (table_of bytes)
+abbrev pub records_of : ℕ → Input → Fault → Option Input → Option (List ℕ) → Result Records Fault
+records_of most input headless unread file = and_then (bytes_of most input unread file) (λ bytes. with_header headless (table_of bytes))
 
--- the answer is this one, where reading and memory did not fail
-abbrev pub Agrees : {T U : Type 0} → (T → U) → Result U Fault → Result T Fault → Type 0
-Agrees shown wanted (Ok x) = wanted ≡ Ok (shown x)
-Agrees shown wanted (Err (Read input)) = Unit {0}
-Agrees shown wanted (Err NoMemory) = Unit {0}
-Agrees shown wanted (Err (Words fault)) = wanted ≡ Err (Words fault)
-Agrees shown wanted (Err (Cut fault)) = wanted ≡ Err (Cut fault)
-Agrees shown wanted (Err (Missing input)) = wanted ≡ Err (Missing input)
-Agrees shown wanted (Err (Delays fault)) = wanted ≡ Err (Delays fault)
-Agrees shown wanted (Err (UnknownStop which)) = wanted ≡ Err (UnknownStop which)
-Agrees shown wanted (Err (Limit kind count)) = wanted ≡ Err (Limit kind count)
-Agrees shown wanted (Err NoSafe) = wanted ≡ Err NoSafe
-Agrees shown wanted (Err Write) = wanted ≡ Err Write
+-- the answer is what is wanted: a value where no file is unread, and else the fault that holds first, or that there is no memory
+abbrev pub Finds : {A B : Type 0} → (A → B) → (Option Input → Result B Fault) → Result A Fault → Type 0
+Finds shown wanted (Ok a) = wanted None ≡ Ok (shown a)
+Finds shown wanted (Err fault) = fault ≢ NoMemory → wanted (unread_of fault) ≡ Err fault
 
 -- `Read` only where the count of faults rose, where it is told that of the input's own path too; and always where it grew
 pub record HasCauses {T : Type 0} (told : Type 0) (path : Input → List ℕ) (before now : ℕ) (before_of now_of : List ℕ → ℕ) (result : Result T Fault) : Type 0 where
@@ -57,15 +70,18 @@ pub record HasCauses {T : Type 0} (told : Type 0) (path : Input → List ℕ) (b
   pub read_path : told → (input : Input) → IsErrOf result (Read input) → Rose (before_of (path input)) (now_of (path input))
   pub grew : before < now → (input : Input) × IsErrOf result (Read input)
 
--- a fault of what is read, before anything is sought or written
+-- a fault of a timetable, of its delays or of the stops of a journey
 abbrev pub IsEarly : Fault → Type 0
-IsEarly NoSafe = ⊥
-IsEarly Write = ⊥
-IsEarly (Words fault) = ⊥
+IsEarly (Feed fault) = Unit {0}
 IsEarly (Cut fault) = Unit {0}
-IsEarly (Missing input) = Unit {0}
+IsEarly (Missing file) = file ≢ input.Graph
 IsEarly (Delays fault) = Unit {0}
 IsEarly (UnknownStop which) = Unit {0}
 IsEarly (Limit kind count) = Unit {0}
-IsEarly (Read input) = Unit {0}
+IsEarly (Read file) = file ≢ input.Graph
 IsEarly NoMemory = Unit {0}
+IsEarly NoSafe = ⊥
+IsEarly Write = ⊥
+IsEarly (Words fault) = ⊥
+IsEarly (GraphFile fault) = ⊥
+IsEarly (Replay fault) = ⊥

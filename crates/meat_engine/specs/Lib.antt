@@ -1,8 +1,6 @@
 pub mod Faults
-pub mod Lines
 pub mod Files
-pub mod Texts
+pub mod CutProblems
+pub mod FeedProblems
+pub mod Folders
 pub mod Problems
-pub mod Shown
-pub mod Answers
-pub mod Received

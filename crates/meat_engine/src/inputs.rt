@@ -1,40 +1,32 @@
 //! The files that a command reads.
-ghost use Rattle.std.specs.Prelude.{◌≡◌, ◌≤◌, IsSome, IfSome, IfErr, IsErrOf, ◌^◌, ◌+◌};
+ghost use Rattle.std.specs.Prelude.{◌≡◌, ◌≢◌, ◌≤◌, None, IsSome, IfSome, IfErr, ◌^◌, ◌+◌};
+ghost use Rattle.csv_rows.specs.Limits.{AreWithin};
 ghost use Rattle.file_ports.specs.Ports.{file_at};
-ghost use Rattle.meat_engine.specs.Files.{Table, headless, loaded, Agrees, HasCauses, IsEarly};
+ghost use Rattle.meat_engine.specs.Faults.{MayBeUnread, unread_of};
+ghost use Rattle.meat_engine.specs.Files.{bytes_of, records_of, Finds, HasCauses, IsEarly};
+ghost use Rattle.meat_engine.specs.CutProblems.{CutAgrees, DelayAgrees};
 
 use crate::faults::{Fault, Input, LimitKind};
 use csv_rows::{Column, Limits, Rows, RowsFault};
-use cut_file::CutFault;
-use delay_table::DelayFault;
+use cut_file::{CutFault, CutTable, read_cut};
+use delay_table::{DelayFault, DelayTable};
 use file_ports::{Files, LoadFault, load};
 use std::alloc::Global;
 
-/// The fault of a file that has no record: it lacks its first column.
-fn headless(input: Input) -> Fault
-    ensures fault { result ≡ headless input }
-    ensures early { IsEarly result }
-{
-    match input {
-        Input::Cut => Fault::Cut(CutFault::MissingColumn(Column::Run)),
-        Input::Delays => Fault::Delays(DelayFault::MissingColumn(Column::Class)),
-    }
-}
-
-/// The table of an input.
-pub(crate) fn load_rows<F: Files>(
+/// The bytes of an input.
+pub(crate) fn load_bytes<F: Files>(
     alloc: Global,
     files: &mut F,
     path: &str,
     input: Input,
     limits: &Limits,
-) -> Result<Rows, Fault>
+) -> Result<Vec<u8>, Fault>
     requires { limits.now.bytes ≤ 2 ^ 30 }
     ensures same { F.files files.new ≡ F.files files.old }
-    ensures table { IfSome (F.files files.old) (λ m.
-        Agrees (λ rows. rows) (loaded limits.now.bytes input (file_at m path.now)) result) }
-    ensures early { IfErr result IsEarly }
-    ensures own { (other : Input) → IsErrOf result (Fault.Read other) → other ≡ input }
+    ensures bytes { IfSome (F.files files.old) (λ m. Finds (λ bytes. bytes.items)
+        (λ unread. bytes_of limits.now.bytes input unread (file_at m path.now)) result) }
+    ensures own { IfErr result (MayBeUnread input) }
+    ensures early { input ≢ Input.Graph → IfErr result IsEarly }
     ensures causes { HasCauses (IsSome (F.files files.old)) (λ other. path.now)
         (F.faults files.old) (F.faults files.new)
         (F.faults_of files.old) (F.faults_of files.new) result }
@@ -44,10 +36,94 @@ pub(crate) fn load_rows<F: Files>(
         Err(LoadFault::TooLong) => Err(Fault::Limit(LimitKind::Bytes(input), limits.bytes + 1)),
         Err(LoadFault::NoMemory) => Err(Fault::NoMemory),
         Ok(None) => Err(Fault::Missing(input)),
-        Ok(Some(bytes)) => match Rows::read(alloc, bytes.as_slice()) {
+        Ok(Some(bytes)) => Ok(bytes),
+    }
+}
+
+/// The table of an input that is none of a feed, with the fault that it has where it holds no record.
+fn load_rows<F: Files>(
+    alloc: Global,
+    files: &mut F,
+    path: &str,
+    input: Input,
+    headless: Fault,
+    limits: &Limits,
+) -> Result<Rows, Fault>
+    requires bytes { limits.now.bytes ≤ 2 ^ 30 }
+    requires headless { unread_of headless ≡ None }
+    requires early { IsEarly headless }
+    ensures same { F.files files.new ≡ F.files files.old }
+    ensures table { IfSome (F.files files.old) (λ m. Finds (λ rows. rows)
+        (λ unread. records_of limits.now.bytes input headless unread (file_at m path.now)) result) }
+    ensures own { IfErr result (MayBeUnread input) }
+    ensures early { input ≢ Input.Graph → IfErr result IsEarly }
+    ensures causes { HasCauses (IsSome (F.files files.old)) (λ other. path.now)
+        (F.faults files.old) (F.faults files.new)
+        (F.faults_of files.old) (F.faults_of files.new) result }
+{
+    match load_bytes(alloc, files, path, input, limits) {
+        Err(fault) => Err(fault),
+        Ok(bytes) => match Rows::read(alloc, bytes.as_slice()) {
             Ok(rows) => Ok(rows),
-            Err(RowsFault::NoHeader) => Err(headless(input)),
+            Err(RowsFault::NoHeader) => Err(headless),
             Err(RowsFault::NoMemory) => Err(Fault::NoMemory),
+        },
+    }
+}
+
+/// The cut file. One with no record lacks its first column.
+pub(crate) fn read_cut_file<F: Files>(
+    alloc: Global,
+    files: &mut F,
+    path: &str,
+    limits: &Limits,
+) -> Result<CutTable, Fault>
+    requires { AreWithin limits.now }
+    ensures same { F.files files.new ≡ F.files files.old }
+    ensures table { IfSome (F.files files.old) (λ m.
+        CutAgrees limits.now (file_at m path.now) result) }
+    ensures own { IfErr result (MayBeUnread Input.Cut) }
+    ensures early { IfErr result IsEarly }
+    ensures causes { HasCauses (IsSome (F.files files.old)) (λ other. path.now)
+        (F.faults files.old) (F.faults files.new)
+        (F.faults_of files.old) (F.faults_of files.new) result }
+{
+    let headless = Fault::Cut(CutFault::MissingColumn(Column::Run));
+    match load_rows(alloc, files, path, Input::Cut, headless, limits) {
+        Err(fault) => Err(fault),
+        Ok(rows) => match read_cut(alloc, &rows, limits) {
+            Ok(table) => Ok(table),
+            Err(CutFault::TooManyRows(count)) => Err(Fault::Limit(LimitKind::CutRows, count)),
+            Err(CutFault::NoMemory) => Err(Fault::NoMemory),
+            Err(fault) => Err(Fault::Cut(fault)),
+        },
+    }
+}
+
+/// The delay file. One with no record lacks its first column.
+pub(crate) fn read_delay_file<F: Files>(
+    alloc: Global,
+    files: &mut F,
+    path: &str,
+    limits: &Limits,
+) -> Result<DelayTable, Fault>
+    requires { AreWithin limits.now }
+    ensures same { F.files files.new ≡ F.files files.old }
+    ensures table { IfSome (F.files files.old) (λ m.
+        DelayAgrees limits.now (file_at m path.now) result) }
+    ensures own { IfErr result (MayBeUnread Input.Delays) }
+    ensures early { IfErr result IsEarly }
+    ensures causes { HasCauses (IsSome (F.files files.old)) (λ other. path.now)
+        (F.faults files.old) (F.faults files.new)
+        (F.faults_of files.old) (F.faults_of files.new) result }
+{
+    let headless = Fault::Delays(DelayFault::MissingColumn(Column::Class));
+    match load_rows(alloc, files, path, Input::Delays, headless, limits) {
+        Err(fault) => Err(fault),
+        Ok(rows) => match DelayTable::read(alloc, &rows) {
+            Ok(table) => Ok(table),
+            Err(DelayFault::NoMemory) => Err(Fault::NoMemory),
+            Err(fault) => Err(Fault::Delays(fault)),
         },
     }
 }

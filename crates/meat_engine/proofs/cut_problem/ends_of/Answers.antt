@@ -1,5 +1,5 @@
 use Rattle.meat_engine.proofs.StopNames.{stop_fault-from, stop_fault-to, stop_fault-none}
-use Rattle.meat_engine.proofs.problem.stops_of.Goals as goal
+use Rattle.meat_engine.proofs.cut_problem.ends_of.Goals as goal
 
 pub returns-in_default-clause-fault : goal.returns-in_default-clause-fault
 returns-in_default-clause-fault c = stop_fault-from c.args.names.now.places c.args.from.now c.args.to.now c.in_default.ensures.none
