@@ -1,2 +1,4 @@
 pub mod Loads
 pub mod StopNames
+pub mod Causes
+pub mod FeedSteps

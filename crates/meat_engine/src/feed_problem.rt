@@ -9,6 +9,7 @@ ghost use Rattle.plan_model.specs.Network.{IsValid};
 ghost use Rattle.command_line.specs.Shown.{journey_shown};
 ghost use Rattle.command_line.specs.Jobs.{FeedFolder};
 ghost use Rattle.command_line.specs.Ranges.{IsJourney};
+ghost use Rattle.meat_engine.specs.Faults.{unread_of};
 ghost use Rattle.meat_engine.specs.Files.{path_by, HasCauses, IsEarly};
 ghost use Rattle.meat_engine.specs.FeedProblems.{feed_as, feed_stop_fault, window_count, IsFolder, IsFolderFault, IsWindowFault, IsFeedProblem, IsFeedProblemFault};
 ghost use Rattle.meat_engine.specs.Folders.{parts_of};
@@ -140,6 +141,7 @@ fn window_problem(
     ensures fault { IfErr result (λ fault. fault ≢ Fault.NoMemory → IsWindowFault limits.now
         horizon (journey_shown journey.now) (parts_of tables.now) fault) }
     ensures early { IfErr result IsEarly }
+    ensures read { IfErr result (λ fault. unread_of fault ≡ None) }
 {
     let ends = match ends_of(&tables.feed, journey.from, journey.to) {
         Err(fault) => return Err(fault),
