@@ -15,7 +15,7 @@ use Rattle.delay_table.specs.DelayLists.{DelayLists}
 use Rattle.delay_table.specs.Slots.{AreDelays}
 use Rattle.gtfs_tables.specs.declared.stop_times.StopRow.{StopRow}
 use Rattle.gtfs_tables.specs.Feeds.{FeedParts}
-use Rattle.gtfs_tables.specs.Ids.{AreNames}
+use Rattle.csv_rows.specs.Ids.{AreNames}
 use Rattle.gtfs_tables.specs.Timed.{rows_of, kept_at, AreTimed, IsTimed}
 use Rattle.connections.specs.declared.window.Window.{Window}
 use Rattle.connections.specs.declared.runs.Run.{Run}

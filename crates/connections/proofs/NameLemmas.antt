@@ -10,7 +10,7 @@ use Rattle.clock_text.specs.Times.{date_at}
 use Rattle.clock_text.proofs.DigitLemmas.{and_parts}
 use Rattle.plan_model.specs.NameLists.{Adds, AreDistinct, IsTrimmed}
 use Rattle.gtfs_tables.specs.Feeds.{FeedParts}
-use Rattle.gtfs_tables.specs.Ids.{AreNames}
+use Rattle.csv_rows.specs.Ids.{AreNames}
 use Rattle.connections.specs.declared.runs.Run.{Run}
 use Rattle.connections.specs.Rides.{run_at}
 use Rattle.connections.specs.Runs.{IsRunOf, AreRunsOf}
