@@ -1,18 +1,16 @@
 -- The scan order of a network, and what is left of it.
-use Rattle.std.proofs.Common.{◌≡◌, ℕ, zero, suc, ◌+◌, ◌-◌, ◌*◌, ◌<◌, ◌≤◌, ◌⊎◌, inl, inr, ⊎_elim, Bool, true, false, cond, ltb, List, [], ◌∷◌, ◌++◌, length, get_or, set, All, AllPairs, arith, refl, sym, ap, ◌∙◌, subst}
-use Rattle.std.specs.Prelude.{Contains, filter}
+use Rattle.std.proofs.Common.{◌≡◌, ℕ, zero, suc, ◌<◌, ◌≤◌, inl, inr, ⊎_elim, ltb, List, [], ◌∷◌, ◌++◌, All, AllPairs, arith, sym, subst}
 use Rattle.std.specs.List.Sorted.{IsPermutation}
-use Rattle.std.proofs.lemmas.Bool.{cases_lt, cases_eq, cond_both, ltb-true, ltb-false, lt-ltb, le-ltb}
-use Rattle.std.proofs.lemmas.List.{get_or-set_same, get_or-set_other, get_or_past}
+use Rattle.std.proofs.lemmas.Bool.{cases_lt, cond_both, ltb-true, ltb-false}
 use Rattle.std.proofs.lemmas.List.Elements.{All-cons, All-tail, All-head}
 use Rattle.std.proofs.lemmas.List.Kept.{AllPairs-cons}
-use Rattle.std.proofs.lemmas.List.Sorted.{IsPermutation-refl, IsPermutation-cons, IsPermutation-swap, IsPermutation-trans, IsPermutation-to_front, IsPermutation-sym, IsPermutation-middle, All-permutation}
+use Rattle.std.proofs.lemmas.List.Sorted.{IsPermutation-refl, IsPermutation-cons, IsPermutation-trans, IsPermutation-to_front, IsPermutation-sym, IsPermutation-middle, All-permutation}
 use Rattle.plan_model.specs.declared.model.ConnectionId.{ConnectionId}
 use Rattle.plan_model.specs.Parts.{Parts}
-use Rattle.plan_model.specs.Network.{IsValid, count, run_of, dep_of}
+use Rattle.plan_model.specs.Network.{IsValid, count, dep_of}
 use Rattle.plan_model.specs.Order.{IsScanOrder, IsEarlier, ids_below}
-use Rattle.plan_model.proofs.ScanOrders.{length_ids, get_ids, has_each_id}
-use Rattle.connections.specs.Merged.{rank, placed, in_order, rest_of, IsStart, AreStarts, AreStretches, shown}
+use Rattle.plan_model.proofs.ScanOrders.{length_ids, get_ids}
+use Rattle.connections.specs.Merged.{rank, placed, in_order}
 
 -- a connection is scanned before another
 abbrev pub Scanned : Parts → ConnectionId → ConnectionId → Type 0

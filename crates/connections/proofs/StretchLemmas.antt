@@ -1,12 +1,12 @@
 -- What is left of the runs of a network.
-use Rattle.std.proofs.Common.{◌≡◌, ℕ, zero, suc, ◌+◌, ◌-◌, ◌*◌, ◌<◌, ◌≤◌, ◌⊎◌, inl, inr, ⊎_elim, Bool, true, false, cond, ltb, List, [], ◌∷◌, ◌++◌, length, get_or, set, take, drop, add-one, All, AllPairs, arith, refl, sym, ap, ◌∙◌, subst}
+use Rattle.std.proofs.Common.{◌≡◌, ℕ, zero, suc, ◌+◌, ◌-◌, ◌<◌, ◌≤◌, ⊎_elim, Bool, true, false, cond, ltb, List, [], ◌∷◌, ◌++◌, length, get_or, set, take, drop, add-one, All, AllPairs, arith, refl, sym, ap, ◌∙◌, subst}
 use Rattle.std.specs.Prelude.{Contains, filter}
 use Rattle.std.proofs.lemmas.Bool.{cases_lt, cases_eq, lt-ltb, le-ltb, ltb-true, cond-true, cond-false, false_from_ne_true}
 use Rattle.std.proofs.lemmas.List.{get_or-set_same, get_or-set_other, get_or_past, length-set, take_all}
 use Rattle.std.proofs.lemmas.List.Elements.{All-tail, All-head}
 use Rattle.plan_model.specs.declared.model.ConnectionId.{ConnectionId}
 use Rattle.plan_model.specs.Parts.{Parts}
-use Rattle.plan_model.specs.Network.{IsValid, count, run_of, dep_of}
+use Rattle.plan_model.specs.Network.{IsValid, count, run_of}
 use Rattle.plan_model.specs.Order.{IsScanOrder}
 use Rattle.plan_model.proofs.ScanOrders.{has_each_id}
 use Rattle.connections.specs.Merged.{rank, in_order, rest_of, IsStart, AreStarts, AreStretches, shown}

@@ -1,4 +1,4 @@
-use Rattle.std.proofs.Common.{◌≡◌, ℕ, arith, ap, ◌∙◌, sym}
+use Rattle.std.proofs.Common.{◌≡◌, arith, ap}
 use Rattle.plan_model.specs.declared.model.Connection.{Connection}
 use Rattle.connections.proofs.StartLemmas.{AreStartsBelow-start, AreStartsBelow-within, AreStarts-from_below}
 use Rattle.connections.proofs.merged.starts_of.Goals as goal

@@ -1,4 +1,4 @@
-use Rattle.std.proofs.Common.{◌≡◌, ◌*◌, ◌/◌, refl, length, get_or, set, arith}
+use Rattle.std.proofs.Common.{◌≡◌, ◌*◌, ◌/◌, refl, length, get_or, arith}
 use Rattle.std.proofs.lemmas.List.{get_or_read}
 use Rattle.connections.proofs.TournamentLemmas.{IsPlayedAround-run, IsPlayedAround-child, IsPlayedAround-more}
 use Rattle.connections.proofs.merged.MergedRuns.give.Goals as goal

@@ -1,4 +1,4 @@
-use Rattle.std.proofs.Common.{◌≡◌, ℕ}
+use Rattle.std.proofs.Common.{◌≡◌}
 use Rattle.connections.proofs.TournamentLemmas.{IsPlayedAround}
 use Rattle.connections.proofs.merged.MergedRuns.give.Given as goal
 

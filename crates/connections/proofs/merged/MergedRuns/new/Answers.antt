@@ -1,5 +1,3 @@
-use Rattle.std.proofs.Common.{◌≡◌, ◌-◌, length, take, drop, arith}
-use Rattle.plan_model.specs.Order.{IsScanOrder}
 use Rattle.connections.specs.Merged.{AreStarts}
 use Rattle.connections.proofs.StretchLemmas.{IsWhole, IsWhole-copied, AreStretches-whole, rest_of-all}
 use Rattle.connections.proofs.merged.MergedRuns.new.Goals as goal

@@ -1,4 +1,4 @@
-use Rattle.std.proofs.Common.{◌≡◌, ℕ}
+use Rattle.std.proofs.Common.{◌≡◌}
 use Rattle.connections.proofs.TournamentLemmas.{IsPlayedFrom}
 use Rattle.connections.proofs.merged.MergedRuns.play_all.Given as goal
 

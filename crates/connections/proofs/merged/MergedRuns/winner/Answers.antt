@@ -1,4 +1,4 @@
-use Rattle.std.proofs.Common.{◌≡◌, ℕ, ◌+◌, ◌*◌, get_or, arith, sym, subst}
+use Rattle.std.proofs.Common.{◌+◌, ◌*◌, arith}
 use Rattle.std.proofs.lemmas.List.{get_or_read}
 use Rattle.connections.specs.Merged.{IsWinner}
 use Rattle.connections.proofs.TournamentLemmas.{IsWinner-first, IsWinner-second}

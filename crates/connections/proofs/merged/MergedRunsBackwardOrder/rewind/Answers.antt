@@ -1,6 +1,4 @@
-use Rattle.std.proofs.Common.{◌≡◌, ◌-◌, length, take, drop, arith}
-use Rattle.plan_model.specs.Order.{IsScanOrder}
-use Rattle.connections.specs.Merged.{AreStretches, HasRunsLast, rest_of}
+use Rattle.std.proofs.Common.{◌≡◌, length, arith}
 use Rattle.connections.proofs.StretchLemmas.{IsWhole, IsWhole-copied, AreStretches-whole, rest_of-all}
 use Rattle.connections.proofs.TournamentLemmas.{HasRunsLast-tournament}
 use Rattle.connections.proofs.merged.MergedRunsBackwardOrder.rewind.Goals as goal
