@@ -1,4 +1,4 @@
-use Rattle.std.proofs.Common.{◌∙◌, arith}
+use Rattle.std.proofs.Common.{◌∙◌}
 use Rattle.connections.proofs.RunLemmas.{runs_are}
 use Rattle.connections.proofs.cuts.network_of.Goals as goal
 
