@@ -1,7 +1,7 @@
 //! Graphs as printed rows.
 #![tactic(auto)]
 
-ghost use Rattle.std.specs.Prelude.{◌≡◌, ℕ, ◌<◌, ◌++◌, [], map, All, IfOk, IfSome, OnOk, codes, length, Ok, List as Sequence};
+ghost use Rattle.std.specs.Prelude.{◌≡◌, ℕ, ◌<◌, ◌^◌, ◌++◌, [], map, All, IfOk, IfSome, OnOk, codes, length, Ok, List as Sequence};
 ghost use Rattle.plan_model.specs.NameLists.{NameLists, NamesFit};
 ghost use Rattle.plan_model.specs.Network.{IsValid, count};
 ghost use Rattle.plan_graph.specs.Ready.{IsLegOf, IsReady};
@@ -15,6 +15,7 @@ ghost use Rattle.graph_text.specs.Writers.{written, IsBetweenRows};
 ghost use Rattle.graph_text.specs.declared.Head.{Head as HeadParts};
 ghost use Rattle.graph_text.specs.Reading.{graph_of};
 ghost use Rattle.graph_text.specs.Asked.{IsAsked};
+ghost use Rattle.graph_text.specs.Names.{AreNames};
 ghost use Rattle.graph_text.specs.Printable.{IsPrintableQuery, IsPrintableRow, IsPrintableRide, IsPrintableTable, IsPrintable, IsPrintablePlan};
 
 mod reader;
@@ -364,4 +365,13 @@ pub fn read_fits()
     ensures { (n : Parts) (names : NameLists) (text : Sequence ℕ) (source target start : ℕ)
         (head : HeadParts) (graph : Plan) → graph_of text n names source target start
         ≡ Ok (head, graph) → IsFit n head.query graph × IsAsked source target start head }
+{}
+
+/// What is written reads back: the text of a graph that fits the network and the question is read
+/// as this head and this graph.
+pub fn written_reads_back()
+    ensures { (n : Parts) (names : NameLists) (source target start : ℕ) (head : HeadParts) (graph : Plan)
+        → IsValid n → NamesFit names n → AreNames names → IsPrintableQuery n head.query
+        → head.bounds.hi < 2 ^ 64 → IsFit n head.query graph → IsAsked source target start head
+        → graph_of (graph_text n names head graph) n names source target start ≡ Ok (head, graph) }
 {}
