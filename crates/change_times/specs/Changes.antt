@@ -1,5 +1,5 @@
 -- The change time of each place of a feed.
-use Rattle.std.specs.Prelude.{◌≡◌, ℕ, zero, suc, ◌==◌, max, nat_eq, List, [], count_by, Option, None, Some, Result, is_none, if◌then◌else◌}
+use Rattle.std.specs.Prelude.{◌≡◌, ℕ, zero, suc, ◌==◌, max, nat_eq, List, count_by, Option, None, Some, Result, is_none, if◌then◌else◌}
 use Rattle.std.specs.Map.{lookup}
 use Rattle.file_ports.specs.Ports.{Folder}
 use Rattle.csv_rows.specs.declared.feed_tables.Table.{Table}
@@ -10,7 +10,9 @@ use Rattle.csv_rows.specs.declared.loading.Loaded.TheVariants.{Found}
 use Rattle.csv_rows.specs.declared.limits.Limits.{Limits}
 use Rattle.csv_rows.specs.Lists.{list_below}
 use Rattle.csv_rows.specs.Tables.{row_count}
-use Rattle.gtfs_tables.specs.Feeds.{FeedParts, Records, and_then, unless, load_in}
+use Rattle.csv_rows.specs.RowFaults.{and_then, unless}
+use Rattle.csv_rows.specs.Loading.{load_in, loaded_rows}
+use Rattle.gtfs_tables.specs.Feeds.{FeedParts, Records}
 use Rattle.change_times.specs.declared.transfers.Change.{Change}
 use Rattle.change_times.specs.Transfers.{told_by, transfers_fault}
 
@@ -57,17 +59,13 @@ pub record AreChanges (feed : FeedParts) (c : ChangeParts) (t : Records) : Type 
   pub seconds : (place : ℕ) → seconds_of c place ≡ change_time feed t place
   pub passed : c.passed ≡ passed_below feed t (row_count t)
 
--- a table that is absent has no rows, and neither has one whose file has no record
-abbrev pub rows_of : Loaded → Records
-rows_of (Found t) = t
-rows_of _ = []
-
+-- a table that is absent has no fault, and neither has one whose file has no record
 abbrev pub fault_of : FeedParts → Loaded → Option FeedFault
 fault_of feed (Found t) = transfers_fault feed t
 fault_of feed _ = None
 
 abbrev pub transfers_from : FeedParts → Result Loaded FeedFault → Result Records FeedFault
-transfers_from feed loaded = and_then loaded (λ l. unless (fault_of feed l) (rows_of l))
+transfers_from feed loaded = and_then loaded (λ l. unless (fault_of feed l) (loaded_rows l))
 
 -- the transfers of a folder, or the first of their faults
 abbrev pub transfers_in : Folder → List ℕ → Limits → Option Table → FeedParts → Result Records FeedFault

@@ -8,9 +8,9 @@ use Rattle.csv_rows.specs.declared.feed_tables.FeedFault.{FeedFault}
 use Rattle.csv_rows.specs.declared.feed_tables.FeedFault.TheVariants.{BadField, UnknownKey}
 use Rattle.csv_rows.specs.First.{or_else, first_below, read}
 use Rattle.csv_rows.specs.Names.{name_in}
-use Rattle.csv_rows.specs.RowFaults.{fault_in, value_or, lack}
+use Rattle.csv_rows.specs.RowFaults.{fault_in, value_or, lack, and_then}
 use Rattle.csv_rows.specs.Tables.{row_count, place_in, place_of, field_at}
-use Rattle.gtfs_tables.specs.Feeds.{FeedParts, and_then}
+use Rattle.gtfs_tables.specs.Feeds.{FeedParts}
 use Rattle.change_times.specs.declared.transfers.Change.{Change}
 use Rattle.change_times.specs.declared.transfers.TransferColumns.{TransferColumns}
 use Rattle.change_times.specs.Forms.{is_timed_in, seconds_in}

@@ -2,14 +2,14 @@
 ghost use Rattle.std.specs.Prelude.{◌≡◌, ◌≢◌, ◌<◌, ◌≤◌, ◌+◌, ◌-◌, ◌^◌, ℕ, None, Some, Ok, Err, IfOk, IfErr, IfSome, IsOkAnd, IsSome, OnOk, is_none, nat_eq, if◌then◌else◌, []};
 ghost use Rattle.std.specs.HashMap.{get};
 ghost use Rattle.csv_rows.specs.declared.feed_tables.Table.TheVariants.{Transfers as TransfersTable};
-ghost use Rattle.csv_rows.specs.FeedTables.{unread_of};
+ghost use Rattle.csv_rows.specs.FeedTables.{unread_of, IsFaultOf};
 ghost use Rattle.csv_rows.specs.First.{first_below};
 ghost use Rattle.csv_rows.specs.Limits.{AreWithin};
-ghost use Rattle.csv_rows.specs.Loading.{HasFeedCause, HasFeedPathCause};
+ghost use Rattle.csv_rows.specs.Loading.{HasFeedCause, HasFeedPathCause, loaded_rows};
 ghost use Rattle.csv_rows.specs.Tables.{row_count};
-ghost use Rattle.gtfs_tables.specs.Feeds.{FeedParts, MayBeUnread};
+ghost use Rattle.gtfs_tables.specs.Feeds.{FeedParts};
 ghost use Rattle.change_times.specs.Transfers.{transfer_columns, bad_transfer, transfers_fault};
-ghost use Rattle.change_times.specs.Changes.{greater, seconds_at, rows_of, fault_of, seconds_of, transfers_in, AreChanges};
+ghost use Rattle.change_times.specs.Changes.{greater, seconds_at, fault_of, seconds_of, transfers_in, AreChanges};
 
 use crate::transfers::{Change, TransferColumns, missing_column, read_change, transfer_columns};
 use csv_rows::{FeedFault, Limits, Loaded, Rows, Table, read_table};
@@ -76,6 +76,7 @@ fn read_rows(
     ensures fault { IfErr result (λ f. f ≢ FeedFault.NoMemory
         → first_below (bad_transfer feed.now rows.now) (row_count rows.now) ≡ Some f) }
     ensures content { IfErr result (λ f. unread_of f ≡ None) }
+    ensures own { IfErr result (IsFaultOf TransfersTable) }
 {
     let mut seconds: HashMap<u32, u32> = HashMap::new(alloc);
     let mut passed = 0u64;
@@ -99,6 +100,7 @@ fn read_transfers(alloc: Global, feed: &Feed, rows: &Rows) -> Result<Changes, Fe
     ensures fault { IfErr result (λ f. f ≢ FeedFault.NoMemory
         → transfers_fault feed.now rows.now ≡ Some f) }
     ensures content { IfErr result (λ f. unread_of f ≡ None) }
+    ensures own { IfErr result (IsFaultOf TransfersTable) }
 {
     let columns = transfer_columns(rows);
     if let Some(fault) = missing_column(columns) {
@@ -122,11 +124,12 @@ fn no_changes(alloc: Global) -> Changes
 
 /// What the table that is loaded tells, or the first of its faults.
 fn changes_of(alloc: Global, feed: &Feed, loaded: &Loaded) -> Result<Changes, FeedFault>
-    ensures changes { IfOk result (λ c. AreChanges feed.now c (rows_of loaded.now)) }
+    ensures changes { IfOk result (λ c. AreChanges feed.now c (loaded_rows loaded.now)) }
     ensures none { OnOk result (fault_of feed.now loaded.now ≡ None) }
     ensures fault { IfErr result (λ f. f ≢ FeedFault.NoMemory
         → fault_of feed.now loaded.now ≡ Some f) }
     ensures content { IfErr result (λ f. unread_of f ≡ None) }
+    ensures own { IfErr result (IsFaultOf TransfersTable) }
 {
     match loaded {
         Loaded::Found(rows) => match read_transfers(alloc, feed, rows) {
@@ -157,7 +160,7 @@ impl Changes {
             (transfers_in m folder.now limits.now None feed.now) (AreChanges feed.now c))) }
         ensures fault { IfSome (F.files files.old) (λ m. IfErr result (λ f. f ≢ FeedFault.NoMemory
             → transfers_in m folder.now limits.now (unread_of f) feed.now ≡ Err f)) }
-        ensures own { IfErr result (MayBeUnread TransfersTable) }
+        ensures own { IfErr result (IsFaultOf TransfersTable) }
         ensures cause { HasFeedCause (F.faults files.old) (F.faults files.new) result }
         ensures path_cause { HasFeedPathCause (IsSome (F.files files.old)) folder.now
             (F.faults_of files.old) (F.faults_of files.new) result }

@@ -1,6 +1,7 @@
 //! The rows of `transfers.txt`.
 ghost use Rattle.std.specs.Prelude.{◌≡◌, ◌<◌, ◌≤◌, None, Ok, Err, IfOk, IfErr, IfSome};
-ghost use Rattle.csv_rows.specs.FeedTables.{unread_of};
+ghost use Rattle.csv_rows.specs.declared.feed_tables.Table.TheVariants.{Transfers as TransfersTable};
+ghost use Rattle.csv_rows.specs.FeedTables.{unread_of, IsFaultOf};
 ghost use Rattle.csv_rows.specs.Tables.{row_count};
 ghost use Rattle.change_times.specs.Transfers.{place_from, change_between, transfer_columns, timed_in, is_general_in, change_in, missing_in};
 
@@ -47,7 +48,8 @@ pub(crate) fn transfer_columns(rows: &Rows) -> TransferColumns
 
 /// The first required column that stands nowhere in the header.
 pub(crate) fn missing_column(columns: TransferColumns) -> Option<FeedFault>
-    ensures { result ≡ missing_in columns }
+    ensures fault { result ≡ missing_in columns }
+    ensures own { IfSome result (IsFaultOf TransfersTable) }
 {
     lack(Table::Transfers, Column::FromStopId, columns.from)
         .or(lack(Table::Transfers, Column::ToStopId, columns.to))
@@ -59,6 +61,7 @@ fn read_place(feed: &Feed, text: &[u8], line: u64, column: Column) -> Result<Pla
     ensures place { IfOk result (λ p. place_from feed.now line column text.now ≡ Ok p.0) }
     ensures fault { IfErr result (λ f. place_from feed.now line column text.now ≡ Err f) }
     ensures content { IfErr result (λ f. unread_of f ≡ None) }
+    ensures own { IfErr result (IsFaultOf TransfersTable) }
 {
     let Some(id) = read_name(text) else {
         return Err(FeedFault::BadField(Table::Transfers, line, column));
@@ -97,6 +100,7 @@ fn read_timed(
     ensures short { IfOk result (λ c. IfSome c (λ change. change.seconds ≤ 86400)) }
     ensures fault { IfErr result (λ f. timed_in feed.now rows.now columns row ≡ Err f) }
     ensures content { IfErr result (λ f. unread_of f ≡ None) }
+    ensures own { IfErr result (IsFaultOf TransfersTable) }
 {
     let line = rows.line(row);
     let from = rows.field_at(row, columns.from);
@@ -139,6 +143,7 @@ pub(crate) fn read_change(
     ensures short { IfOk result (λ c. IfSome c (λ change. change.seconds ≤ 86400)) }
     ensures fault { IfErr result (λ f. change_in feed.now rows.now columns row ≡ Err f) }
     ensures content { IfErr result (λ f. unread_of f ≡ None) }
+    ensures own { IfErr result (IsFaultOf TransfersTable) }
 {
     let Some(is_timed) = read_is_timed(rows.field_at(row, columns.kind)) else {
         let line = rows.line(row);

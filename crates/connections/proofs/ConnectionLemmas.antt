@@ -1,9 +1,9 @@
 -- The rides of runs are in order, fit their places and classes, and each run has one.
-use Rattle.std.proofs.Common.{◌≡◌, ℕ, zero, suc, ◌+◌, ◌-◌, ◌*◌, ◌/◌, ◌<◌, ◌≤◌, ◌&&◌, ◌⊎◌, inl, inr, nat_le, Bool, true, false, List, [], ◌∷◌, ◌++◌, length, map, get_or, slice_index, slice_index_or, All, refl, sym, ap, ◌∙◌, subst, arith, ⊎_elim, length-append, add-one}
+use Rattle.std.proofs.Common.{◌≡◌, ℕ, zero, suc, ◌+◌, ◌-◌, ◌<◌, ◌≤◌, ◌⊎◌, inl, inr, nat_le, Bool, true, false, List, [], ◌∷◌, ◌++◌, length, map, get_or, slice_index, All, refl, sym, ap, ◌∙◌, subst, arith, ⊎_elim, length-append, add-one}
 use Rattle.std.specs.Prelude.{AllPairs}
 use Rattle.std.proofs.lemmas.Bool.{cases_lt}
 use Rattle.std.proofs.lemmas.Bool.Decides.{nat_tests}
-use Rattle.std.proofs.lemmas.List.{get_or_append_left, get_or-append_right, get_or-map, length-map, get_or_default}
+use Rattle.std.proofs.lemmas.List.{get_or_append_left, get_or-append_right, get_or-map, length-map}
 use Rattle.std.proofs.lemmas.List.Elements.{All-push, All-append, All-weaker, All-nil, All-get_or, All-map}
 use Rattle.clock_text.proofs.DigitLemmas.{and_parts}
 use Rattle.plan_model.specs.declared.model.Connection.{Connection}
@@ -15,11 +15,11 @@ use Rattle.delay_table.specs.DelayLists.{DelayLists}
 use Rattle.delay_table.specs.Slots.{AreDelays}
 use Rattle.gtfs_tables.specs.declared.stop_times.StopRow.{StopRow}
 use Rattle.gtfs_tables.specs.Feeds.{FeedParts}
-use Rattle.gtfs_tables.specs.Ids.{AreNames}
+use Rattle.csv_rows.specs.Ids.{AreNames}
 use Rattle.gtfs_tables.specs.Timed.{rows_of, kept_at, AreTimed, IsTimed}
 use Rattle.connections.specs.declared.window.Window.{Window}
 use Rattle.connections.specs.declared.runs.Run.{Run}
-use Rattle.connections.specs.Joins.{join_below, only_if}
+use Rattle.connections.specs.Joins.{only_if}
 use Rattle.connections.specs.Window.{holds, IsWindow}
 use Rattle.connections.specs.Rides.{departs, steps_below, steps_of, run_at, run_steps}
 use Rattle.connections.specs.Runs.{AreRunsOf, AllRide}
@@ -28,7 +28,7 @@ use Rattle.connections.proofs.ClassLemmas.{class_inside}
 use Rattle.connections.proofs.NameLemmas.{names_trimmed}
 use Rattle.connections.proofs.CountLemmas.{count-zero, count-suc, rides-zero, rides-suc}
 use Rattle.connections.proofs.PairLemmas.{AllPairs-append, AllPairs-nil, AllPairs-one}
-use Rattle.connections.proofs.StepLemmas.{steps-zero, steps-suc, append-nil}
+use Rattle.connections.proofs.StepLemmas.{steps-zero, steps-suc}
 
 le_test : (a b : ℕ) → nat_le a b ≡ true → a ≤ b
 le_test a b h = grind (arith, nat_tests)

@@ -1,5 +1,5 @@
 -- How many rides runs have, and their rides, run by run.
-use Rattle.std.proofs.Common.{◌≡◌, ℕ, zero, suc, ◌+◌, List, [], ◌∷◌, ◌++◌, length, map, refl, sym, ap, ◌∙◌, arith, add-one}
+use Rattle.std.proofs.Common.{◌≡◌, ℕ, suc, ◌+◌, List, [], ◌++◌, length, map, refl, sym, ap, ◌∙◌, arith, add-one}
 use Rattle.plan_model.specs.declared.model.Connection.{Connection}
 use Rattle.gtfs_tables.specs.declared.stop_times.StopRow.{StopRow}
 use Rattle.gtfs_tables.specs.Feeds.{FeedParts}
@@ -8,7 +8,7 @@ use Rattle.connections.specs.declared.window.Window.{Window}
 use Rattle.connections.specs.declared.runs.Run.{Run}
 use Rattle.connections.specs.Rides.{steps_of, run_at, run_steps}
 use Rattle.connections.specs.Networks.{ride, ride_count, run_rides, rides_below, class_of_trip}
-use Rattle.connections.proofs.JoinLemmas.{join-zero, join-suc, join-next}
+use Rattle.connections.proofs.JoinLemmas.{join-zero, join-suc}
 
 pub count-zero : (f : FeedParts) (w : Window) (rs : List Run) → ride_count f w rs 0 ≡ 0
 unfolding ride_count

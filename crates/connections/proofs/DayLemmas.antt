@@ -1,5 +1,5 @@
 -- The runs of a day, trip by trip, and of several days, day by day.
-use Rattle.std.proofs.Common.{◌≡◌, ℕ, zero, suc, ◌+◌, ◌&&◌, Bool, List, [], ◌∷◌, ◌++◌, length, refl, sym, ap, ◌∙◌, add-one}
+use Rattle.std.proofs.Common.{◌≡◌, ℕ, suc, ◌+◌, ◌&&◌, Bool, [], ◌++◌, length, sym, ap, ◌∙◌, add-one}
 use Rattle.gtfs_tables.specs.Feeds.{FeedParts}
 use Rattle.gtfs_tables.specs.Timed.{rows_of}
 use Rattle.service_days.specs.Services.{ServiceParts}

@@ -1,6 +1,6 @@
 -- Lists joined one after the other.
-use Rattle.std.proofs.Common.{◌≡◌, ℕ, zero, suc, ◌+◌, Bool, true, false, List, [], ◌∷◌, ◌++◌, refl, sym, ap, ◌∙◌, add-one}
-use Rattle.connections.specs.Joins.{join_below, only_if}
+use Rattle.std.proofs.Common.{◌≡◌, ℕ, suc, ◌+◌, List, [], ◌++◌, refl, add-one}
+use Rattle.connections.specs.Joins.{join_below}
 
 pub join-zero : {A : Type 0} (f : ℕ → List A) → join_below f 0 ≡ []
 unfolding join_below

@@ -9,3 +9,7 @@ pub mod NameLemmas
 pub mod RunLemmas
 pub mod ConnectionLemmas
 pub mod ChangeLemmas
+pub mod StartLemmas
+pub mod ScanLemmas
+pub mod StretchLemmas
+pub mod TournamentLemmas

@@ -1,8 +1,8 @@
 -- What holds of all pairs of a list that is joined of two, or mapped.
-use Rattle.std.proofs.Common.{◌≡◌, ℕ, ◌+◌, ◌-◌, ◌<◌, ◌≤◌, List, [], ◌∷◌, ◌++◌, length, map, get_or, All, sym, ap, ◌∙◌, subst, arith, ⊎_elim, refl, length-append}
+use Rattle.std.proofs.Common.{◌≡◌, ℕ, ◌-◌, ◌<◌, ◌≤◌, List, [], ◌∷◌, ◌++◌, length, get_or, sym, subst, arith, ⊎_elim, refl, length-append}
 use Rattle.std.specs.Prelude.{AllPairs}
 use Rattle.std.proofs.lemmas.Bool.{cases_lt}
-use Rattle.std.proofs.lemmas.List.{get_or_append_left, get_or-append_right, get_or-map}
+use Rattle.std.proofs.lemmas.List.{get_or_append_left, get_or-append_right}
 
 both : {A : Type 0} (R : A → A → Type 0) (a b x y : A) → x ≡ a → y ≡ b → R a b → R x y
 both R a b x y e h r = let P : _ → Type 0 = λ u. R u y in subst P (sym e) (subst (R a) (sym h) r)

@@ -1,19 +1,18 @@
 -- The runs that ride in a window, by service day and position of the trip.
-use Rattle.std.proofs.Common.{◌≡◌, ℕ, zero, suc, ◌+◌, ◌-◌, ◌*◌, ◌/◌, ◌<◌, ◌≤◌, ◌&&◌, ◌⊎◌, inl, inr, nat_lt, Bool, true, false, List, [], ◌∷◌, ◌++◌, length, get_or, All, refl, sym, ap, ◌∙◌, subst, arith, ⊎_elim, length-append}
+use Rattle.std.proofs.Common.{◌≡◌, ℕ, zero, suc, ◌+◌, ◌*◌, ◌<◌, ◌≤◌, ◌&&◌, ◌⊎◌, inl, inr, nat_lt, Bool, true, false, List, [], ◌∷◌, ◌++◌, length, get_or, All, refl, sym, subst, arith, ⊎_elim, length-append}
 use Rattle.std.specs.Prelude.{AllPairs}
 use Rattle.std.proofs.lemmas.Bool.Decides.{nat_tests}
-use Rattle.std.proofs.lemmas.List.{get_or_default}
 use Rattle.std.proofs.lemmas.List.Elements.{All-push, All-append, All-weaker, All-nil, All-get_or}
 use Rattle.gtfs_tables.specs.Feeds.{FeedParts}
 use Rattle.gtfs_tables.specs.Timed.{rows_of}
 use Rattle.service_days.specs.Services.{ServiceParts}
 use Rattle.connections.specs.declared.window.Window.{Window}
 use Rattle.connections.specs.declared.runs.Run.{Run}
-use Rattle.connections.specs.Joins.{join_below, only_if}
+use Rattle.connections.specs.Joins.{only_if}
 use Rattle.connections.specs.Window.{first_day, IsWindow}
 use Rattle.connections.specs.Rides.{is_active, rides, day_runs, runs_below, runs_in, run_at, no_run, run_steps}
-use Rattle.connections.specs.Runs.{IsRunOf, AreRunsOf}
-use Rattle.connections.proofs.JoinLemmas.{join-zero, join-suc, join-next}
+use Rattle.connections.specs.Runs.{AreRunsOf}
+use Rattle.connections.proofs.JoinLemmas.{join-zero, join-suc}
 use Rattle.connections.proofs.PairLemmas.{AllPairs-append, AllPairs-nil, AllPairs-one}
 use Rattle.connections.proofs.StepLemmas.{append-nil}
 

@@ -1,12 +1,12 @@
 -- The steps of a trip in a window.
-use Rattle.std.proofs.Common.{◌≡◌, ℕ, zero, suc, ◌+◌, ◌-◌, ◌<◌, ◌≤◌, Bool, true, false, List, [], ◌∷◌, ◌++◌, length, map, get_or, refl, sym, ap, ◌∙◌, arith, length-append, add-one, subst}
+use Rattle.std.proofs.Common.{◌≡◌, ℕ, suc, ◌+◌, Bool, true, false, List, [], ◌∷◌, ◌++◌, length, map, refl, sym, ap, ◌∙◌, length-append, add-one}
 use Rattle.std.proofs.lemmas.List.{map-append}
 use Rattle.gtfs_tables.specs.declared.stop_times.StopRow.{StopRow}
 use Rattle.connections.specs.declared.window.Window.{Window}
-use Rattle.connections.specs.Joins.{join_below, only_if}
+use Rattle.connections.specs.Joins.{only_if}
 use Rattle.connections.specs.Window.{holds}
 use Rattle.connections.specs.Rides.{steps_below, departs}
-use Rattle.connections.proofs.JoinLemmas.{join-zero, join-suc, join-next}
+use Rattle.connections.proofs.JoinLemmas.{join-zero, join-suc}
 
 pub steps-zero : (w : Window) (rows : List StopRow) (day : ℕ) → steps_below w rows day 0 ≡ []
 unfolding steps_below

@@ -5,3 +5,4 @@ pub mod Runs
 pub mod Networks
 pub mod Faults
 pub mod Cut
+pub mod Merged

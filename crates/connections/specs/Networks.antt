@@ -1,5 +1,5 @@
 -- The network of a feed in a window of time, and its names.
-use Rattle.std.specs.Prelude.{◌≡◌, ℕ, zero, suc, ◌+◌, ◌*◌, ◌==◌, ◌<◌, ◌≤◌, List, [], ◌∷◌, ◌++◌, map, length, slice_index, slice_index_or, Option, Some, None, if◌then◌else◌, unwrap_or, pos}
+use Rattle.std.specs.Prelude.{◌≡◌, ℕ, zero, suc, ◌+◌, ◌*◌, ◌==◌, ◌<◌, ◌≤◌, List, [], ◌∷◌, ◌++◌, map, length, slice_index, slice_index_or, Some, None, if◌then◌else◌, unwrap_or, pos}
 use Rattle.csv_rows.specs.First.{first_below}
 use Rattle.clock_text.specs.Times.{date_at}
 use Rattle.plan_model.specs.declared.model.Connection.{Connection}

@@ -3,7 +3,7 @@ ghost use Rattle.std.specs.Prelude.{◌≡◌, ◌<◌, ◌≤◌, length, OnOk,
 ghost use Rattle.csv_rows.specs.Limits.{AreWithin};
 ghost use Rattle.csv_rows.specs.Lists.{list_below};
 ghost use Rattle.change_times.specs.Changes.{seconds_of};
-ghost use Rattle.gtfs_tables.specs.Ids.{AreNames};
+ghost use Rattle.csv_rows.specs.Ids.{AreNames};
 ghost use Rattle.gtfs_tables.specs.Timed.{IsTimed};
 ghost use Rattle.plan_model.specs.NameLists.{NamesFit};
 ghost use Rattle.connections.specs.Window.{IsWindow};

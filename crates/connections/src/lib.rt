@@ -1,11 +1,14 @@
-//! The connections of a feed in a window of time (GTFS Schedule reference), as a network.
+//! The connections of a feed in a window of time (GTFS Schedule reference), as a network, and the scan order of a network,
+//! merged from its runs.
 #![tactic(auto)]
 
 mod counts;
 mod cuts;
+mod merged;
 mod names;
 mod rides;
 mod runs;
 mod window;
 
 pub use cuts::{WindowFault, cut};
+pub use merged::MergedRuns;

@@ -1,6 +1,6 @@
 //! The names of places and runs.
 ghost use Rattle.std.specs.Prelude.{◌≡◌, ◌≤◌, ◌<◌, [], length, string_bytes, OnOk, IfOk};
-ghost use Rattle.gtfs_tables.specs.Ids.{AreNames};
+ghost use Rattle.csv_rows.specs.Ids.{AreNames};
 ghost use Rattle.connections.specs.Runs.{AreRunsOf};
 ghost use Rattle.connections.specs.Networks.{IsRunName, AreRunNames};
 

@@ -1,3 +1,4 @@
+pub mod FaultLemmas
 pub mod FirstLemmas
 pub mod IdLemmas
 pub mod ListLemmas

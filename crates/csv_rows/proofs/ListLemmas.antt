@@ -30,3 +30,7 @@ get-list_below f (suc n) i d h =
     (⊎_elim (λ (e : i ≡ n). get_or_push (list_below f n) (f n) d i (length-list_below f n ∙ sym e) ∙ ap f (sym e))
     (λ (less : i < n). get_or_append_left (list_below f n) (f n ∷ []) d i (omega (arith, length-list_below f n)) ∙ get-list_below f n i d less)
     (eq-or-lt_of_le (omega arith)))
+
+-- two such lists are as long as each other
+pub same_length : {A B : Type 0} (f : ℕ → A) (g : ℕ → B) (n : ℕ) (xs : List A) (ys : List B) → xs ≡ list_below f n → ys ≡ list_below g n → length xs ≡ length ys
+same_length f g n xs ys e h = ap length e ∙ length-list_below f n ∙ sym (ap length h ∙ length-list_below g n)

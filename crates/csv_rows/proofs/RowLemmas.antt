@@ -1,6 +1,6 @@
 -- Fields, and the rows that they make.
 use Rattle.std.proofs.Common.{◌≡◌, ℕ, ◌<◌, ◌==◌, Bool, true, false, List, [], length, slice_index_or, Option, Some, None, if◌then◌else◌, refl, sym, ap, ◌∙◌, subst, arith, bytes_eq}
-use Rattle.std.specs.Prelude.{Result}
+use Rattle.std.specs.Prelude.{Result, Ok}
 use Rattle.std.specs.Str.{is_utf8}
 use Rattle.csv_rows.specs.declared.feed_tables.FeedFault.{FeedFault}
 use Rattle.csv_rows.specs.declared.feed_tables.Table.{Table}
@@ -22,6 +22,11 @@ pub read_ok : {A R : Type 0} (o : Option A) (e : FeedFault) (rest : A → Result
     → (a : A) × (o ≡ Some a) × (fault_in (rest a) ≡ None)
 read_ok None e rest h = absurd (cc)
 read_ok (Some a) e rest h = (a, refl, h)
+
+-- where it has a value, so has its first field
+pub read_is : {A R : Type 0} (o : Option A) (e : FeedFault) (rest : A → Result R FeedFault) (r : R) → read o e rest ≡ Ok r → (a : A) × (o ≡ Some a) × (rest a ≡ Ok r)
+read_is None e rest r h = absurd (cc)
+read_is (Some a) e rest r h = (a, refl, h)
 
 abbrev name_if : Bool → Bool → List ℕ → Option (List ℕ)
 name_if a b text = if a then None else if b then Some text else None

@@ -1,9 +1,9 @@
 -- The tables of a feed by the names of their files.
-use Rattle.std.specs.Prelude.{ℕ, ◌==◌, Bool, false, List, ◌∷◌, ◌++◌, codes, Option, Some, None}
+use Rattle.std.specs.Prelude.{◌≡◌, ℕ, ◌==◌, Bool, false, List, ◌∷◌, ◌++◌, codes, Option, Some, None, IfSome}
 use Rattle.csv_rows.specs.declared.feed_tables.Table.{Table}
 use Rattle.csv_rows.specs.declared.feed_tables.Table.TheVariants.{Stops, Routes, Trips, StopTimes, Frequencies, Calendar, CalendarDates, Transfers}
 use Rattle.csv_rows.specs.declared.feed_tables.FeedFault.{FeedFault}
-use Rattle.csv_rows.specs.declared.feed_tables.FeedFault.TheVariants.{Read}
+use Rattle.csv_rows.specs.declared.feed_tables.FeedFault.TheVariants.{Read, TooLong, MissingTable, MissingColumn, BadField, UnknownKey, DuplicateKey, BackwardTime, FrequencyRows, TooManyRows, NoMemory}
 
 -- the name of a table's file
 abbrev pub file_name : Table → List ℕ
@@ -40,3 +40,21 @@ unread_of _ = None
 abbrev pub is_unread : Option Table → Table → Bool
 is_unread None table = false
 is_unread (Some unread) table = rank_of unread == rank_of table
+
+-- the table that a fault is in; want of memory is in none
+abbrev pub table_of_fault : FeedFault → Option Table
+table_of_fault (Read table) = Some table
+table_of_fault (TooLong table) = Some table
+table_of_fault (MissingTable table) = Some table
+table_of_fault (MissingColumn table column) = Some table
+table_of_fault (BadField table line column) = Some table
+table_of_fault (UnknownKey table line column) = Some table
+table_of_fault (DuplicateKey table line) = Some table
+table_of_fault (BackwardTime line) = Some StopTimes
+table_of_fault FrequencyRows = Some Frequencies
+table_of_fault (TooManyRows table count) = Some table
+table_of_fault NoMemory = None
+
+-- it is in this table, or there was no memory
+abbrev pub IsFaultOf : Table → FeedFault → Type 0
+IsFaultOf table fault = IfSome (table_of_fault fault) (λ t. t ≡ table)

@@ -1,10 +1,15 @@
 -- Ids by their numbers.
-use Rattle.std.specs.Prelude.{ℕ, List}
-use Rattle.plan_model.specs.NameLists.{texts, IsNameList}
+use Rattle.std.specs.Prelude.{ℕ, List, All}
+use Rattle.plan_model.specs.NameLists.{texts, IsNameList, IsTrimmed}
 use Rattle.csv_rows.specs.declared.ids.Ids.TheInside.{Inside}
 
 abbrev pub ids_of : Inside → List (List ℕ)
 ids_of s = texts s.ids.keys
 
+-- no id stands twice, none begins or ends with a space, and their numbers fit
+pub record AreNames (ids : List (List ℕ)) : Type 0 where
+  pub names : IsNameList ids
+  pub trimmed : All IsTrimmed ids
+
 abbrev pub AreIds : Inside → Type 0
-AreIds s = IsNameList (texts s.ids.keys)
+AreIds s = AreNames (texts s.ids.keys)

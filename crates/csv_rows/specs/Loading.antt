@@ -1,6 +1,7 @@
 -- What a folder holds of a table, and the faults of reading it.
-use Rattle.std.specs.Prelude.{◌≡◌, ◌≢◌, ℕ, ◌<◌, ◌≤◌, ◌==◌, nat_lt, List, length, Option, None, Some, Result, Ok, Err, IsErrOf, if◌then◌else◌}
+use Rattle.std.specs.Prelude.{◌≡◌, ◌≢◌, ℕ, ◌<◌, ◌≤◌, ◌==◌, nat_lt, List, [], length, Option, None, Some, Result, Ok, Err, IsErrOf, if◌then◌else◌}
 use Rattle.file_ports.specs.Counts.{Rose}
+use Rattle.file_ports.specs.Ports.{Folder, file_at}
 use Rattle.csv_rows.specs.declared.feed_tables.Table.{Table}
 use Rattle.csv_rows.specs.declared.feed_tables.FeedFault.{FeedFault}
 use Rattle.csv_rows.specs.declared.feed_tables.FeedFault.TheVariants.{Read, TooLong, TooManyRows, NoMemory}
@@ -26,6 +27,15 @@ loaded_file limits table (Some bytes) =
 -- what is loaded of a file, where at most this table could not be read
 abbrev pub load_of : Option Table → Limits → Table → Option (List ℕ) → Result Loaded FeedFault
 load_of unread limits table file = if is_unread unread table then Err (Read table) else loaded_file limits table file
+
+-- what a folder holds of a table, where at most one table could not be read
+abbrev pub load_in : Folder → List ℕ → Limits → Option Table → Table → Result Loaded FeedFault
+load_in files folder limits unread table = load_of unread limits table (file_at files (path_of folder table))
+
+-- the records, of which a table that is absent has none, and neither has one whose file has no record
+abbrev pub loaded_rows : Loaded → List (List (List ℕ))
+loaded_rows (Found t) = t
+loaded_rows _ = []
 
 -- there is no file
 abbrev pub IsAbsent : Loaded → Type 0

@@ -18,6 +18,16 @@ abbrev pub value_or : {A : Type 0} → A → Result A FeedFault → A
 value_or default (Ok a) = a
 value_or default (Err fault) = default
 
+-- what comes next, where there is no fault so far
+abbrev pub and_then : {A B : Type 0} → Result A FeedFault → (A → Result B FeedFault) → Result B FeedFault
+and_then (Ok a) next = next a
+and_then (Err fault) next = Err fault
+
+-- the value, unless there is a fault
+abbrev pub unless : {A : Type 0} → Option FeedFault → A → Result A FeedFault
+unless None a = Ok a
+unless (Some fault) a = Err fault
+
 -- a required column is not in the header
 abbrev pub lack : Table → Column → Option ℕ → Option FeedFault
 lack table column place = if is_none place then Some (MissingColumn table column) else None

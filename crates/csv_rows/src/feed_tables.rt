@@ -7,13 +7,21 @@ use crate::columns::Column;
 /// A table of a feed (GTFS Schedule reference), in the order in which they are read.
 #[derive(Clone, Copy, Debug, PartialEq, Eq)]
 pub enum Table {
+    /// `stops.txt`: the stops and stations.
     Stops,
+    /// `routes.txt`: the routes, each with its means of transport.
     Routes,
+    /// `trips.txt`: the trips, each of a route and a service.
     Trips,
+    /// `stop_times.txt`: when each trip arrives at its stops and departs from them.
     StopTimes,
+    /// `frequencies.txt`: trips that run again and again. A feed that has any is refused.
     Frequencies,
+    /// `calendar.txt`: the weekdays on which a service runs, from a first day to a last one.
     Calendar,
+    /// `calendar_dates.txt`: the days that are added to a service or removed.
     CalendarDates,
+    /// `transfers.txt`: what it takes to change between two stops.
     Transfers,
 }
 

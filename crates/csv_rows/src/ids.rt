@@ -1,10 +1,11 @@
 //! Ids, numbered in the order in which they stand in a table.
 ghost use Rattle.std.specs.Prelude.{◌≡◌, ◌≢◌, ◌<◌, ◌-◌, ◌^◌, ℕ, [], length, None, Some, IfOk, IfErr, IfSome, OnOk, OnErr, slice_get};
 ghost use Rattle.csv_rows.specs.First.{first_below};
-ghost use Rattle.csv_rows.specs.FeedTables.{unread_of};
+ghost use Rattle.csv_rows.specs.FeedTables.{unread_of, IsFaultOf};
 ghost use Rattle.csv_rows.specs.Names.{name_in};
 ghost use Rattle.csv_rows.specs.Tables.{row_count, place_in, field_at};
-ghost use Rattle.plan_model.specs.NameLists.{Adds, AreDistinct};
+ghost use Rattle.plan_model.specs.NameLists.{Adds, IsTrimmed};
+ghost use Rattle.csv_rows.specs.Ids.{AreNames};
 ghost use Rattle.csv_rows.specs.RowFaults.{repeated_id};
 ghost use Rattle.csv_rows.specs.Lists.{list_below};
 
@@ -16,7 +17,7 @@ use plan_model::NoMemory;
 use std::alloc::Global;
 use std::marker::Model;
 
-/// Distinct ids, of which each has its place as its number.
+/// Distinct ids, of which each has its place as its number. None begins or ends with a space.
 #[derive(Drop)]
 pub struct Ids {
     ids: IndexSet<String>,
@@ -46,7 +47,8 @@ impl Ids {
 
     /// Adds an id at the end, and says whether it is new.
     pub fn add(&mut self, alloc: Global, id: &str) -> Result<bool, NoMemory>
-        requires { length self.old < 2 ^ 32 - 1 }
+        requires room { length self.old < 2 ^ 32 - 1 }
+        requires trimmed { IsTrimmed id.now }
         ensures added { IfOk result (Adds self.old self.new id.now) }
         ensures err { OnErr result (self.new ≡ self.old) }
     {
@@ -61,7 +63,7 @@ impl Ids {
     /// How many there are.
     pub fn len(&self) -> u32
         ensures count { result ≡ length self.now }
-        ensures distinct { AreDistinct self.now }
+        ensures names { AreNames self.now }
     {
         self.ids.len() as u32
     }
@@ -114,6 +116,7 @@ pub fn read_ids(
     ensures fault { IfErr result (λ f. f ≢ FeedFault.NoMemory
         → first_below (repeated_id table (field_at rows.now column)) (row_count rows.now) ≡ Some f) }
     ensures content { IfErr result (λ f. unread_of f ≡ None) }
+    ensures own { IfErr result (IsFaultOf table) }
 {
     let mut ids = Ids::new(alloc);
     for i in 0..rows.count() {

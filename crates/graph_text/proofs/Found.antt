@@ -1,12 +1,11 @@
 -- Where names and connections are found.
-use Rattle.std.proofs.Common.{◌≡◌, ℕ, zero, suc, ◌+◌, ◌<◌, ◌≤◌, ◌⊎◌, Bool, true, false, List, [], ◌∷◌, length, Contains, IsUtf8, Option, Some, None, arith, sym, subst, refl, inl, inr, ◌∙◌, ap}
+use Rattle.std.proofs.Common.{◌≡◌, ℕ, zero, suc, ◌+◌, ◌<◌, Bool, true, false, List, [], ◌∷◌, length, Contains, IsUtf8, Option, Some, None, arith, sym, subst, refl, inl, inr, ◌∙◌, ap}
 use Rattle.std.specs.Prelude.{◌==◌, ◌&&◌, cond, slice_get, slice_index_or, IfSome, IfNone, if◌then◌else◌}
 use Rattle.std.specs.Option.{option_map}
 use Rattle.std.specs.List.{position_from}
 use Rattle.std.specs.Str.{bytes_eq, is_utf8}
 use Rattle.std.specs.Cmp.Lexicographic.{bytes_decides}
 use Rattle.std.proofs.lemmas.Str.{IsUtf8-from_is_utf8, is_utf8-from_IsUtf8}
-use Rattle.std.proofs.lemmas.Bool.{cases_lt, cases_eq, false≢true, cases_Bool}
 use Rattle.std.proofs.lemmas.Bool.Decides.{nat_tests}
 use Rattle.plan_model.specs.declared.model.Connection.{Connection}
 use Rattle.plan_model.specs.declared.model.PlaceId.{PlaceId}
@@ -14,7 +13,7 @@ use Rattle.plan_model.specs.declared.model.RunId.{RunId}
 use Rattle.plan_model.specs.declared.model.ConnectionId.{ConnectionId}
 use Rattle.plan_model.specs.Parts.{Parts}
 use Rattle.plan_model.specs.NameLists.{AreDistinct}
-use Rattle.plan_model.specs.Network.{IsValid, IsBefore, count, connection, no_connection, run_of, step_of}
+use Rattle.plan_model.specs.Network.{IsValid, count, no_connection, run_of, step_of}
 use Rattle.plan_model.specs.Search.{connection_at}
 use Rattle.plan_model.proofs.Searches.{connection_is}
 use Rattle.plan_graph.proofs.Searches.{at_default}
@@ -33,7 +32,7 @@ pub place_none : {X : Type 0} (t : X → Bool) (xs : List X) (from : ℕ) (d : X
 place_none t [] from d none = refl
 place_none t (x ∷ xs) from d none = ap (λ (b : Bool). cond b (Some from) (position_from t (from + 1) xs)) (none 0 (omega arith)) ∙ place_none t xs (from + 1) d (λ k less. none (suc k) (omega (arith, less)))
 
-false_if : (b : Bool) → (b ≡ true → ⊥) → b ≡ false
+pub false_if : (b : Bool) → (b ≡ true → ⊥) → b ≡ false
 false_if true no_way = absurd (no_way refl)
 false_if false no_way = refl
 
@@ -51,7 +50,7 @@ by_number (Some i) names text there none distinct =
 by_number None names text there none distinct =
     sym (place_none (λ name. bytes_eq name text) names 0 [] (λ k within. false_if (bytes_eq (slice_index_or names k []) text) (λ same. none refl (k, within, at_default names k text [] within ∙ (bytes_decides (slice_index_or names k []) text).0 same))))
 
-with_utf8 : (text : List ℕ) (names : List (List ℕ)) → IsUtf8 text → number_of names text ≡ position_from (λ name. bytes_eq name text) 0 names
+pub with_utf8 : (text : List ℕ) (names : List (List ℕ)) → IsUtf8 text → number_of names text ≡ position_from (λ name. bytes_eq name text) 0 names
 with_utf8 text names utf8 = ap (λ (b : Bool). if b then position_from (λ name. bytes_eq name text) 0 names else None) (is_utf8-from_IsUtf8 text utf8)
 
 pub no_number : (text : List ℕ) (names : List (List ℕ)) → (IsUtf8 text → ⊥) → None ≡ number_of names text

@@ -16,13 +16,13 @@ use Rattle.graph_text.specs.Printable.{IsPrintable, IsPrintablePlan}
 
 module _ (n : Parts) (valid : IsValid n) where
   -- a limit is before the departure
-  limit_soon : (place limit : ℕ) (leg : Leg) → IsLegOf n leg → limit_of n place leg ≡ Some limit → limit < 13601088000
+  pub limit_soon : (place limit : ℕ) (leg : Leg) → IsLegOf n leg → limit_of n place leg ≡ Some limit → limit < 13601088000
   limit_soon place limit leg is_leg is =
       let way = limit_of-some n place leg limit is in
       let own = valid.connections leg.enter.0 is_leg.enter in
       omega (arith, way.2, own.forward, own.early)
 
-  place_there : (place limit : ℕ) (leg : Leg) → IsLegOf n leg → limit_of n place leg ≡ Some limit → place < length n.change
+  pub place_there : (place limit : ℕ) (leg : Leg) → IsLegOf n leg → limit_of n place leg ≡ Some limit → place < length n.change
   place_there place limit leg is_leg is =
       let way = limit_of-some n place leg limit is in
       (way_takes n valid place (from_of n leg.enter.0) way.0 (valid.connections leg.enter.0 is_leg.enter).from_in way.1).0

@@ -3,3 +3,6 @@ pub mod Laws
 pub mod Found
 pub mod Steps
 pub mod Fits
+pub mod Plain
+pub mod Printed
+pub mod ReadBack

@@ -1,10 +1,9 @@
 -- A step of reading.
-use Rattle.std.proofs.Common.{◌≡◌, ℕ, ◌+◌, ◌-◌, ◌<◌, List, [], ◌∷◌, length, drop, Option, Some, Ok, Err, Result, arith, sym, ◌∙◌, ap, subst, refl}
-use Rattle.std.specs.Prelude.{◌==◌, if◌then◌else◌, false, slice_index_or}
+use Rattle.std.proofs.Common.{◌≡◌, ℕ, ◌-◌, ◌<◌, List, [], ◌∷◌, length, drop, Option, Some, Ok, Err, Result, arith, sym, ap, subst, refl}
+use Rattle.std.specs.Prelude.{◌==◌, false, slice_index_or}
 use Rattle.std.specs.Option.{option_map}
 use Rattle.std.proofs.lemmas.Bool.Decides.{nat_tests}
 use Rattle.plan_model.specs.declared.model.PlaceId.{PlaceId}
-use Rattle.plan_model.specs.declared.model.Moment.{Moment}
 use Rattle.plan_model.specs.Parts.{Parts}
 use Rattle.plan_model.specs.NameLists.{NameLists}
 use Rattle.plan_graph.specs.declared.PlanGraph.{PlanGraph}
@@ -12,7 +11,7 @@ use Rattle.graph_text.specs.declared.Head.{Head}
 use Rattle.graph_text.specs.declared.reader.Reading.{Reading}
 use Rattle.graph_text.specs.declared.reader.TextFault.{TextFault}
 use Rattle.graph_text.specs.declared.reader.TextFault.TheVariants as f
-use Rattle.graph_text.specs.Reading.{begun, extended, table_in, row_in, step, IsRead, place_or_first, and_then, graph_in, head_in, graph_of_records}
+use Rattle.graph_text.specs.Reading.{extended, row_in, step, IsRead, place_or_first, and_then, graph_in, head_in, graph_of_records}
 
 not_none : (left : ℕ) → (left ≡ 0 → ⊥) → (left == 0) ≡ false
 not_none left some = grind (arith, nat_tests)

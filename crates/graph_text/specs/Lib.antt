@@ -3,3 +3,4 @@ pub mod Writers
 pub mod Printable
 pub mod Reading
 pub mod Asked
+pub mod Names

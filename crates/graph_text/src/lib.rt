@@ -1,7 +1,7 @@
 //! Graphs as printed rows.
 #![tactic(auto)]
 
-ghost use Rattle.std.specs.Prelude.{◌≡◌, ℕ, ◌<◌, ◌++◌, [], map, All, IfOk, IfSome, OnOk, codes, length, Ok, List as Sequence};
+ghost use Rattle.std.specs.Prelude.{◌≡◌, ℕ, ◌<◌, ◌^◌, ◌++◌, [], map, All, IfOk, IfSome, OnOk, codes, length, Ok, List as Sequence};
 ghost use Rattle.plan_model.specs.NameLists.{NameLists, NamesFit};
 ghost use Rattle.plan_model.specs.Network.{IsValid, count};
 ghost use Rattle.plan_graph.specs.Ready.{IsLegOf, IsReady};
@@ -15,6 +15,7 @@ ghost use Rattle.graph_text.specs.Writers.{written, IsBetweenRows};
 ghost use Rattle.graph_text.specs.declared.Head.{Head as HeadParts};
 ghost use Rattle.graph_text.specs.Reading.{graph_of};
 ghost use Rattle.graph_text.specs.Asked.{IsAsked};
+ghost use Rattle.graph_text.specs.Names.{AreNames};
 ghost use Rattle.graph_text.specs.Printable.{IsPrintableQuery, IsPrintableRow, IsPrintableRide, IsPrintableTable, IsPrintable, IsPrintablePlan};
 
 mod reader;
@@ -31,11 +32,13 @@ use std::alloc::Global;
 /// The question that a graph answers, and bounds on the expected arrival in nanoseconds.
 #[derive(Clone, Copy, Debug)]
 pub struct Head {
+    /// What was asked, and the deadline that the graph keeps.
     pub query: Query,
+    /// The least and the greatest moment of the expected arrival, in nanoseconds since 1970-01-01.
     pub bounds: Span,
 }
 
-// Writes a row of fields.
+/// Writes a row of fields.
 #[tactic(auto, unfolding(crate::specs::Texts::row_of_fields))]
 fn put_row(writer: &mut Writer<Vec<u8>>, fields: &[&[u8]]) -> Result<(), NoMemory>
     requires { IsBetweenRows writer.old }
@@ -49,7 +52,7 @@ fn put_row(writer: &mut Writer<Vec<u8>>, fields: &[&[u8]]) -> Result<(), NoMemor
     }
 }
 
-// Writes the row of a leg.
+/// Writes the row of a leg.
 fn put_leg<'a>(
     writer: &mut Writer<Vec<u8>>,
     network: &Network,
@@ -88,7 +91,7 @@ fn put_leg<'a>(
     )
 }
 
-// Writes the first row.
+/// Writes the first row.
 fn put_head(
     writer: &mut Writer<Vec<u8>>,
     network: &Network,
@@ -124,7 +127,7 @@ fn put_head(
     )
 }
 
-// Writes the row of the start leg.
+/// Writes the row of the start leg.
 fn put_start(
     writer: &mut Writer<Vec<u8>>,
     network: &Network,
@@ -146,7 +149,7 @@ fn put_start(
     put_leg(writer, network, names, b"start", dep.as_slice(), leg)
 }
 
-// Writes the rows of a table.
+/// Writes the rows of a table.
 fn put_rows(
     writer: &mut Writer<Vec<u8>>,
     network: &Network,
@@ -168,7 +171,7 @@ fn put_rows(
     Ok(())
 }
 
-// Writes the row of a ride, and its rows.
+/// Writes the row of a ride, and its rows.
 fn put_ride(
     writer: &mut Writer<Vec<u8>>,
     network: &Network,
@@ -188,7 +191,7 @@ fn put_ride(
     put_rows(writer, network, names, b"next", ride.after.as_slice())
 }
 
-// Writes the rows of all rides.
+/// Writes the rows of all rides.
 fn put_rides(
     writer: &mut Writer<Vec<u8>>,
     network: &Network,
@@ -208,7 +211,7 @@ fn put_rides(
     Ok(())
 }
 
-// The text that was written.
+/// The text that was written.
 fn text_of(writer: Writer<Vec<u8>>) -> Result<Vec<u8>, NoMemory>
     ensures { IfOk result (λ text. text.items ≡ written writer) }
 {
@@ -218,7 +221,7 @@ fn text_of(writer: Writer<Vec<u8>>) -> Result<Vec<u8>, NoMemory>
     }
 }
 
-// A writer of rows that has written nothing.
+/// A writer of rows that has written nothing.
 fn new_writer(alloc: Global) -> Writer<Vec<u8>>
     ensures between { IsBetweenRows result }
     ensures text { written result ≡ [] }
@@ -250,7 +253,7 @@ pub fn write_expanded(
     text_of(writer)
 }
 
-// Writes the row of a place, and its rows.
+/// Writes the row of a place, and its rows.
 fn put_table(
     writer: &mut Writer<Vec<u8>>,
     network: &Network,
@@ -268,7 +271,7 @@ fn put_table(
     put_rows(writer, network, names, b"leg", table.rows.as_slice())
 }
 
-// Writes the row of a place.
+/// Writes the row of a place.
 fn put_place(
     writer: &mut Writer<Vec<u8>>,
     network: &Network,
@@ -301,7 +304,7 @@ fn put_place(
     )
 }
 
-// Writes the rows of all places.
+/// Writes the rows of all places.
 fn put_tables(
     writer: &mut Writer<Vec<u8>>,
     network: &Network,
@@ -362,4 +365,13 @@ pub fn read_fits()
     ensures { (n : Parts) (names : NameLists) (text : Sequence ℕ) (source target start : ℕ)
         (head : HeadParts) (graph : Plan) → graph_of text n names source target start
         ≡ Ok (head, graph) → IsFit n head.query graph × IsAsked source target start head }
+{}
+
+/// What is written reads back: the text of a graph that fits the network and the question is read
+/// as this head and this graph.
+pub fn written_reads_back()
+    ensures { (n : Parts) (names : NameLists) (source target start : ℕ) (head : HeadParts) (graph : Plan)
+        → IsValid n → NamesFit names n → AreNames names → IsPrintableQuery n head.query
+        → head.bounds.hi < 2 ^ 64 → IsFit n head.query graph → IsAsked source target start head
+        → graph_of (graph_text n names head graph) n names source target start ≡ Ok (head, graph) }
 {}

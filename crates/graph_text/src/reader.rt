@@ -34,7 +34,7 @@ pub enum TextFault {
     NoMemory,
 }
 
-// The numbers of a leg's row.
+/// The numbers of a leg's row.
 #[derive(Clone, Copy)]
 struct LegRow {
     moment: Moment,
@@ -44,21 +44,21 @@ struct LegRow {
     arr: Moment,
 }
 
-// The numbers of a place row.
+/// The numbers of a place row.
 #[derive(Clone, Copy)]
 struct PlaceRow {
     change: u32,
     count: u32,
 }
 
-// A table that begins, and how many rows it has.
+/// A table that begins, and how many rows it has.
 #[derive(Clone, Copy)]
 struct TableStart {
     place: PlaceId,
     count: u32,
 }
 
-// The numbers of the first row.
+/// The numbers of the first row.
 #[derive(Clone, Copy)]
 struct HeadRow {
     start: Moment,
@@ -67,7 +67,7 @@ struct HeadRow {
     hi: u64,
 }
 
-// The tables so far; the last place, its rows so far and the last moment; how many rows are to come.
+/// The tables so far; the last place, its rows so far and the last moment; how many rows are to come.
 #[derive(Drop)]
 struct Reading {
     done: List<PlaceTable>,
@@ -77,7 +77,7 @@ struct Reading {
     left: u32,
 }
 
-// The place of this name.
+/// The place of this name.
 fn place_of(names: &Names, text: &[u8]) -> Option<PlaceId>
     ensures number { option_map (λ id. id.0) result ≡ number_of names.now.places text.now }
     ensures there { IfSome result (λ id. id.0 < length names.now.places) }
@@ -88,7 +88,7 @@ fn place_of(names: &Names, text: &[u8]) -> Option<PlaceId>
     }
 }
 
-// The run of this name.
+/// The run of this name.
 fn run_of(names: &Names, text: &[u8]) -> Option<RunId>
     ensures { option_map (λ id. id.0) result ≡ number_of names.now.runs text.now }
 {
@@ -98,14 +98,14 @@ fn run_of(names: &Names, text: &[u8]) -> Option<RunId>
     }
 }
 
-// A whole number of one to nine digits.
+/// A whole number of one to nine digits.
 fn whole(text: &[u8]) -> Option<u32>
     ensures { result ≡ whole_at text.now }
 {
     read_whole(text, 999_999_999)
 }
 
-// Whether a row is of this kind, with eight fields.
+/// Whether a row is of this kind, with eight fields.
 fn is_kind(rows: &Rows, row: usize, kind: &[u8]) -> bool
     requires { row < row_count rows.now }
     ensures { result ≡ is_kind kind.now (slice_index_or rows.now (row + 1) []) }
@@ -113,7 +113,7 @@ fn is_kind(rows: &Rows, row: usize, kind: &[u8]) -> bool
     rows.width(row) == 8 && rows.field(row, 0) == kind
 }
 
-// The numbers of a leg's row, where each field is of its form.
+/// The numbers of a leg's row, where each field is of its form.
 fn leg_row(rows: &Rows, row: usize, kind: &[u8]) -> Option<LegRow>
     requires { row < row_count rows.now }
     ensures { result ≡ leg_row_in kind.now (slice_index_or rows.now (row + 1) []) }
@@ -135,7 +135,7 @@ fn leg_row(rows: &Rows, row: usize, kind: &[u8]) -> Option<LegRow>
     })
 }
 
-// The connection of a run and step.
+/// The connection of a run and step.
 fn connection_of(network: &Network, run: RunId, step: u32) -> Option<ConnectionId>
     ensures number { option_map (λ id. id.0) result ≡ connection_of network.now run.0 step }
     ensures there { IfSome result (λ id. id.0 < count network.now) }
@@ -144,7 +144,7 @@ fn connection_of(network: &Network, run: RunId, step: u32) -> Option<ConnectionI
     network.find(run, step)
 }
 
-// The leg of a row by its run and exit place, where the network has it.
+/// The leg of a row by its run and exit place, where the network has it.
 fn leg_found(network: &Network, numbers: &LegRow, run: RunId, place: PlaceId) -> Option<Leg>
     ensures found { result ≡ leg_found network.now numbers.now run.0 place.0 }
     ensures there { IfSome result (λ leg. (leg.enter.0 < count network.now)
@@ -166,7 +166,7 @@ fn leg_found(network: &Network, numbers: &LegRow, run: RunId, place: PlaceId) ->
     None
 }
 
-// Whether it is greater than the one before, if there is one.
+/// Whether it is greater than the one before, if there is one.
 fn rises(last: Option<u64>, x: u64) -> bool
     ensures { result ≡ rises last x }
 {
@@ -176,7 +176,7 @@ fn rises(last: Option<u64>, x: u64) -> bool
     }
 }
 
-// Whether a leg leaves the source at the start or later, and the moment is its departure.
+/// Whether a leg leaves the source at the start or later, and the moment is its departure.
 fn can_start(network: &Network, source: PlaceId, start: Moment, moment: Moment, leg: Leg) -> bool
     requires { leg.enter.0 < count network.now }
     ensures { result ≡ can_start network.now source.0 start.0 moment.0 leg }
@@ -185,7 +185,7 @@ fn can_start(network: &Network, source: PlaceId, start: Moment, moment: Moment, 
     entry.from.0 == source.0 && moment.0 == entry.dep.0 && start.0 <= entry.dep.0
 }
 
-// The start leg of a row.
+/// The start leg of a row.
 fn start_row(
     rows: &Rows,
     row: usize,
@@ -217,7 +217,7 @@ fn start_row(
     }
 }
 
-// Whether there is a limit, and it is this moment.
+/// Whether there is a limit, and it is this moment.
 fn is_limit(limit: Option<Moment>, moment: Moment) -> bool
     ensures { result ≡ is_limit (option_map (λ limit. limit.0) limit) moment.0 }
 {
@@ -227,7 +227,7 @@ fn is_limit(limit: Option<Moment>, moment: Moment) -> bool
     }
 }
 
-// Whether a leg leaves the place, and the moment is its limit.
+/// Whether a leg leaves the place, and the moment is its limit.
 fn is_by_limit(network: &Network, place: PlaceId, moment: Moment, leg: Leg) -> bool
     requires place { place.0 < length network.now.change }
     requires enter { leg.enter.0 < count network.now }
@@ -237,7 +237,7 @@ fn is_by_limit(network: &Network, place: PlaceId, moment: Moment, leg: Leg) -> b
     network.get(leg.enter).from.0 == place.0 && is_limit(network.limit(place, leg), moment)
 }
 
-// A leg row of a place, after one by an earlier moment.
+/// A leg row of a place, after one by an earlier moment.
 fn table_row(
     rows: &Rows,
     row: usize,
@@ -276,7 +276,7 @@ fn table_row(
     }
 }
 
-// Whether the last four fields of a row are empty.
+/// Whether the last four fields of a row are empty.
 fn is_blank(rows: &Rows, row: usize) -> bool
     requires { row < row_count rows.now }
     ensures { result ≡ is_blank (slice_index_or rows.now (row + 1) []) }
@@ -287,7 +287,7 @@ fn is_blank(rows: &Rows, row: usize) -> bool
         && rows.field(row, 7).len() == 0
 }
 
-// The numbers of a place row, where each field is of its form.
+/// The numbers of a place row, where each field is of its form.
 fn place_row(rows: &Rows, row: usize) -> Option<PlaceRow>
     requires { row < row_count rows.now }
     ensures { result ≡ place_row_in (slice_index_or rows.now (row + 1) []) }
@@ -303,7 +303,7 @@ fn place_row(rows: &Rows, row: usize) -> Option<PlaceRow>
     Some(PlaceRow { change, count })
 }
 
-// A place row, after one of an earlier place.
+/// A place row, after one of an earlier place.
 fn table_start(
     rows: &Rows,
     row: usize,
@@ -338,7 +338,7 @@ fn table_start(
 }
 
 impl Reading {
-    // No tables.
+    /// No tables.
     fn new(alloc: Global) -> Reading
         ensures { result ≡ no_tables }
     {
@@ -352,7 +352,7 @@ impl Reading {
     }
 }
 
-// With a table that begins.
+/// With a table that begins.
 fn begin(alloc: Global, reading: Reading, start: TableStart) -> Reading
     ensures { begun reading (Ok start) ≡ Ok result }
 {
@@ -365,7 +365,7 @@ fn begin(alloc: Global, reading: Reading, start: TableStart) -> Reading
     }
 }
 
-// With one row more of the last table, which is done with its last row.
+/// With one row more of the last table, which is done with its last row.
 fn extend(
     alloc: Global,
     reading: Reading,
@@ -404,7 +404,7 @@ fn extend(
     })
 }
 
-// The number of a place, if there is one.
+/// The number of a place, if there is one.
 fn number(place: Option<PlaceId>) -> Option<u32>
     ensures { result ≡ option_map (λ place. place.0) place }
 {
@@ -414,7 +414,7 @@ fn number(place: Option<PlaceId>) -> Option<u32>
     }
 }
 
-// The seconds of a moment, if there is one.
+/// The seconds of a moment, if there is one.
 fn seconds(by: Option<Moment>) -> Option<u64>
     ensures { result ≡ option_map (λ moment. moment.0) by }
 {
@@ -424,7 +424,7 @@ fn seconds(by: Option<Moment>) -> Option<u64>
     }
 }
 
-// After a place row.
+/// After a place row.
 fn read_place(
     alloc: Global,
     rows: &Rows,
@@ -446,7 +446,7 @@ fn read_place(
     }
 }
 
-// After a leg row of the last place.
+/// After a leg row of the last place.
 fn read_leg(
     alloc: Global,
     rows: &Rows,
@@ -474,7 +474,7 @@ fn read_leg(
     }
 }
 
-// After one row more: a place row where no leg row is to come, and else a leg row.
+/// After one row more: a place row where no leg row is to come, and else a leg row.
 fn read_row(
     alloc: Global,
     rows: &Rows,
@@ -499,7 +499,7 @@ fn read_row(
     }
 }
 
-// The tables of the rows from the second on.
+/// The tables of the rows from the second on.
 fn read_tables(
     alloc: Global,
     rows: &Rows,
@@ -520,7 +520,7 @@ fn read_tables(
     Err(TextFault::Row(count as u64 + 2))
 }
 
-// Whether the first row is one of a graph, of the version that is known.
+/// Whether the first row is one of a graph, of the version that is known.
 fn is_head(rows: &Rows) -> bool
     ensures { result ≡ is_head (header rows.now) }
 {
@@ -529,7 +529,7 @@ fn is_head(rows: &Rows) -> bool
         && rows.header_field(1) == b"1".as_slice()
 }
 
-// Whether two moments and two bounds are in order.
+/// Whether two moments and two bounds are in order.
 fn are_in_order(start: Moment, deadline: Moment, lo: u64, hi: u64) -> bool
     ensures test { result ≡ are_in_order start.0 deadline.0 lo hi }
     ensures bounds { IsTrue result → lo ≤ hi }
@@ -537,7 +537,7 @@ fn are_in_order(start: Moment, deadline: Moment, lo: u64, hi: u64) -> bool
     start.0 <= deadline.0 && lo <= hi
 }
 
-// The numbers of the first row, where each field is of its form.
+/// The numbers of the first row, where each field is of its form.
 fn head_row(rows: &Rows) -> Option<HeadRow>
     ensures told { result ≡ head_row_in (header rows.now) }
     ensures ordered { IfSome result (λ numbers. numbers.lo ≤ numbers.hi) }
@@ -560,7 +560,7 @@ fn head_row(rows: &Rows) -> Option<HeadRow>
     })
 }
 
-// Whether two places and a moment are these.
+/// Whether two places and a moment are these.
 fn is_query(
     places: (PlaceId, PlaceId),
     moment: Moment,
@@ -573,7 +573,7 @@ fn is_query(
     places.0.0 == source.0 && places.1.0 == target.0 && moment.0 == start.0
 }
 
-// The head, whose source, target and start are these.
+/// The head, whose source, target and start are these.
 fn read_head(
     rows: &Rows,
     names: &Names,
@@ -607,7 +607,7 @@ fn read_head(
     })
 }
 
-// The graph of the start row and the rows after it.
+/// The graph of the start row and the rows after it.
 fn read_rows(
     alloc: Global,
     rows: &Rows,
@@ -633,7 +633,7 @@ fn read_rows(
     }
 }
 
-// The graph of the rows after the first.
+/// The graph of the rows after the first.
 fn read_graph(
     alloc: Global,
     rows: &Rows,

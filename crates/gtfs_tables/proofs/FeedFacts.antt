@@ -1,21 +1,21 @@
 -- A feed's trips are timed: their kept rows stand at places of the feed, and no time goes back.
-use Rattle.std.proofs.Common.{◌≡◌, ℕ, ◌+◌, ◌-◌, ◌<◌, ◌≤◌, ◌==◌, Bool, true, false, List, [], length, slice_index, slice_index_or, Option, Some, None, IfSome, if◌then◌else◌, refl, sym, ap, ◌∙◌, subst, arith, ⊎_elim}
+use Rattle.std.proofs.Common.{◌≡◌, ℕ, ◌-◌, ◌<◌, ◌≤◌, ◌==◌, Bool, true, false, List, length, slice_index, Option, Some, None, IfSome, if◌then◌else◌, refl, sym, ap, subst, arith, ⊎_elim}
 use Rattle.std.specs.Prelude.{unwrap_or}
 use Rattle.std.proofs.lemmas.Bool.{cases_lt}
-use Rattle.csv_rows.specs.First.{first_below, or_else}
+use Rattle.csv_rows.specs.First.{first_below}
 use Rattle.csv_rows.specs.Tables.{place_in, row_count, field}
 use Rattle.csv_rows.specs.declared.columns.Column.TheVariants.{StopId, TripId}
 use Rattle.csv_rows.proofs.FirstLemmas.{none-each, none-both}
 use Rattle.gtfs_tables.specs.declared.stop_times.StopRow.{StopRow}
 use Rattle.gtfs_tables.specs.declared.stop_times.TimedRow.{TimedRow}
-use Rattle.gtfs_tables.specs.Faults.{value_or}
-use Rattle.gtfs_tables.specs.Feeds.{FeedParts, IsFeed, IsSoundFeed}
+use Rattle.csv_rows.specs.RowFaults.{value_or}
+use Rattle.gtfs_tables.specs.Feeds.{FeedParts, IsSoundFeed}
 use Rattle.gtfs_tables.specs.Stops.{stop_ids, stop_places, place_from, parent_of}
 use Rattle.gtfs_tables.specs.Trips.{trip_ids}
 use Rattle.gtfs_tables.specs.StopTimes.{timed_rows, timed_at, row_at, no_row, time_columns, missing_time_column, bad_time, repeated_time, backward_time, order_fault, stop_times_fault}
 use Rattle.gtfs_tables.specs.Visits.{AreStopTimes}
-use Rattle.gtfs_tables.proofs.ListLemmas.{length-list_below, get-list_below}
-use Rattle.gtfs_tables.proofs.RowLemmas.{place_inside}
+use Rattle.csv_rows.proofs.ListLemmas.{length-list_below, get-list_below}
+use Rattle.csv_rows.proofs.RowLemmas.{place_inside}
 use Rattle.gtfs_tables.proofs.TimeLemmas.{timed_count}
 use Rattle.gtfs_tables.specs.Timed.{AreTimed, IsTimed, kept_at, rows_of}
 use Rattle.gtfs_tables.proofs.RowForms.{IsAtStop, InForm, row_in_form}

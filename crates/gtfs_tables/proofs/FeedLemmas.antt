@@ -10,8 +10,8 @@ use Rattle.csv_rows.specs.declared.feed_tables.Table.TheVariants.{Stops, Routes,
 use Rattle.csv_rows.specs.declared.feed_tables.FeedFault.{FeedFault}
 use Rattle.csv_rows.specs.declared.feed_tables.FeedFault.TheVariants.{Read, NoMemory}
 use Rattle.csv_rows.specs.declared.limits.Limits.{Limits}
-use Rattle.csv_rows.specs.FeedTables.{path_of, rank_of, unread_of}
-use Rattle.csv_rows.specs.Loading.{loaded_file, HasFeedCause}
+use Rattle.csv_rows.specs.FeedTables.{path_of, rank_of, unread_of, IsFaultOf}
+use Rattle.csv_rows.specs.Loading.{loaded_file, HasFeedCause, load_in}
 use Rattle.csv_rows.specs.Tables.{row_count, field}
 use Rattle.gtfs_tables.specs.declared.stop_times.StopRow.{StopRow}
 use Rattle.gtfs_tables.specs.Stops.{stop_ids, stop_places, stops_fault}
@@ -19,14 +19,15 @@ use Rattle.gtfs_tables.specs.Routes.{route_ids, routes_fault}
 use Rattle.gtfs_tables.specs.Trips.{trip_ids, trip_services, trip_types, trips_fault}
 use Rattle.gtfs_tables.specs.StopTimes.{timed_rows, stop_times_fault}
 use Rattle.gtfs_tables.specs.Visits.{AreStopTimes}
-use Rattle.gtfs_tables.specs.Feeds.{Records, and_then, unless, load_in, stops_from, routes_from, trips_from, stop_times_from, frequencies_from, Tables, tables_by, tables_in, FeedParts, IsFeed, IsFeedOf, AreStops, AreRoutes, AreTrips, AreVisits, IsSound, IsSoundFeed, MayBeUnread}
-use Rattle.gtfs_tables.proofs.ListLemmas.{length-list_below}
+use Rattle.csv_rows.specs.RowFaults.{and_then, unless}
+use Rattle.gtfs_tables.specs.Feeds.{Records, stops_from, routes_from, trips_from, stop_times_from, frequencies_from, Tables, tables_by, tables_in, FeedParts, IsFeed, IsFeedOf, AreStops, AreRoutes, AreTrips, AreVisits, IsSound, IsSoundFeed}
+use Rattle.csv_rows.proofs.ListLemmas.{length-list_below}
 
 pub if_same : {A : Type 0} (o o' : Option A) (P : A → Type 0) → o' ≡ o → IfSome o' P → IfSome o P
 if_same o o' P e h = subst (λ (z : Option _). IfSome z P) e h
 
 -- what is loaded of another table than the one that may not have been read
-other_load : (m : Folder) (folder : List ℕ) (limits : Limits) (f : FeedFault) (table other : Table) → MayBeUnread table f → (rank_of table == rank_of other) ≡ false
+other_load : (m : Folder) (folder : List ℕ) (limits : Limits) (f : FeedFault) (table other : Table) → IsFaultOf table f → (rank_of table == rank_of other) ≡ false
     → load_in m folder limits (unread_of f) other ≡ load_in m folder limits None other
 other_load m folder limits (Read t) table other e ne =
     ap (λ b. if b then Err (Read other) else loaded_file limits other (file_at m (path_of folder other))) (ap (λ x. rank_of x == rank_of other) e ∙ ne)
@@ -146,7 +147,7 @@ module _ (folder : List ℕ) (limits : Limits) where
   fault_at_stops (Some m) f h = λ free. let load = load_in m folder limits (unread_of f) in
       stops_stop (stops_from (load Stops)) (routes_from (load Routes)) (trips_from (load Trips)) (stop_times_from (load StopTimes)) (frequencies_from (load Frequencies)) f (h free)
 
-  pub fault_at_routes : (o : Option Folder) (f : FeedFault) (ids : List (List ℕ)) (places : List ℕ) → MayBeUnread Routes f
+  pub fault_at_routes : (o : Option Folder) (f : FeedFault) (ids : List (List ℕ)) (places : List ℕ) → IsFaultOf Routes f
       → IfSome o (λ m. AreStops (stops_from (load_in m folder limits None Stops)) ids places)
       → IfSome o (λ m. f ≢ NoMemory → routes_from (load_in m folder limits (unread_of f) Routes) ≡ Err f)
       → IfSome o (λ m. f ≢ NoMemory → tables_in m folder limits (unread_of f) ≡ Err f)
@@ -156,7 +157,7 @@ module _ (folder : List ℕ) (limits : Limits) where
       routes_stop (stops_from (load Stops)) (routes_from (load Routes)) (trips_from (load Trips)) (stop_times_from (load StopTimes)) (frequencies_from (load Frequencies)) f ids places
       (subst (λ z. AreStops (stops_from z) ids places) (sym (other_load m folder limits f Routes Stops own refl)) a) (h free)
 
-  pub fault_at_trips : (o : Option Folder) (f : FeedFault) (ids routes : List (List ℕ)) (places types : List ℕ) → MayBeUnread Trips f
+  pub fault_at_trips : (o : Option Folder) (f : FeedFault) (ids routes : List (List ℕ)) (places types : List ℕ) → IsFaultOf Trips f
       → IfSome o (λ m. AreStops (stops_from (load_in m folder limits None Stops)) ids places)
       → IfSome o (λ m. AreRoutes (routes_from (load_in m folder limits None Routes)) routes types)
       → IfSome o (λ m. f ≢ NoMemory → trips_from (load_in m folder limits (unread_of f) Trips) routes ≡ Err f)
@@ -169,7 +170,7 @@ module _ (folder : List ℕ) (limits : Limits) where
       (subst (λ z. AreStops (stops_from z) ids places) (sym (other_load m folder limits f Trips Stops own refl)) a)
       (subst (λ z. AreRoutes (routes_from z) routes types) (sym (other_load m folder limits f Trips Routes own refl)) b) (h free)
 
-  pub fault_at_times : (o : Option Folder) (f : FeedFault) (ids routes trips services : List (List ℕ)) (places types types_of : List ℕ) → MayBeUnread StopTimes f
+  pub fault_at_times : (o : Option Folder) (f : FeedFault) (ids routes trips services : List (List ℕ)) (places types types_of : List ℕ) → IsFaultOf StopTimes f
       → IfSome o (λ m. AreStops (stops_from (load_in m folder limits None Stops)) ids places)
       → IfSome o (λ m. AreRoutes (routes_from (load_in m folder limits None Routes)) routes types)
       → IfSome o (λ m. AreTrips routes types (trips_from (load_in m folder limits None Trips) routes) trips services types_of)
@@ -184,7 +185,7 @@ module _ (folder : List ℕ) (limits : Limits) where
       (subst (λ z. AreRoutes (routes_from z) routes types) (sym (other_load m folder limits f StopTimes Routes own refl)) b) d (h free)
 
   pub fault_at_frequencies : (o : Option Folder) (f : FeedFault) (ids routes trips services : List (List ℕ)) (places types types_of : List ℕ) (visits : List (List StopRow))
-      → MayBeUnread Frequencies f
+      → IsFaultOf Frequencies f
       → IfSome o (λ m. AreStops (stops_from (load_in m folder limits None Stops)) ids places)
       → IfSome o (λ m. AreRoutes (routes_from (load_in m folder limits None Routes)) routes types)
       → IfSome o (λ m. AreTrips routes types (trips_from (load_in m folder limits None Trips) routes) trips services types_of)

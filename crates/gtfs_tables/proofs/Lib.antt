@@ -1,5 +1,3 @@
-pub mod ListLemmas
-pub mod IdLemmas
 pub mod RowLemmas
 pub mod StopLemmas
 pub mod RouteLemmas

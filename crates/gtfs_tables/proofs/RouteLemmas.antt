@@ -9,7 +9,7 @@ use Rattle.csv_rows.specs.Tables.{row_count, field}
 use Rattle.csv_rows.proofs.FirstLemmas.{none-each}
 use Rattle.gtfs_tables.specs.declared.routes.RouteColumns.{RouteColumns}
 use Rattle.gtfs_tables.specs.Routes.{Route, route_columns, route_in, route_at, bad_route}
-use Rattle.gtfs_tables.proofs.RowLemmas.{read_ok, name_is}
+use Rattle.csv_rows.proofs.RowLemmas.{read_ok, name_is}
 
 -- the row by where the columns stand
 pub route_is : (t : List (List (List ℕ))) (c : RouteColumns) (i : ℕ) (r : Result Route FeedFault) → c ≡ route_columns t → route_in t c i ≡ r → route_at t i ≡ r

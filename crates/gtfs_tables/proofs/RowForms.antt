@@ -16,10 +16,11 @@ use Rattle.csv_rows.specs.Names.{name_in}
 use Rattle.csv_rows.specs.Tables.{place_in, field_at}
 use Rattle.gtfs_tables.specs.declared.stop_times.StopRow.{StopRow}
 use Rattle.gtfs_tables.specs.declared.stop_times.TimedRow.{TimedRow}
-use Rattle.gtfs_tables.specs.Faults.{fault_in, value_or}
+use Rattle.csv_rows.specs.RowFaults.{fault_in, value_or}
 use Rattle.gtfs_tables.specs.Forms.{text_in, allows_in, time_in}
 use Rattle.gtfs_tables.specs.StopTimes.{time_columns, number_in, times_of, visit_of, timed_from, timed_at, no_row}
-use Rattle.gtfs_tables.proofs.RowLemmas.{place_inside, whole_bound}
+use Rattle.gtfs_tables.proofs.RowLemmas.{whole_bound}
+use Rattle.csv_rows.proofs.RowLemmas.{place_inside}
 use Rattle.gtfs_tables.proofs.TwinLemmas.{and_parts}
 
 -- a kept row stands at the place of a stop, at times of at most 167 hours

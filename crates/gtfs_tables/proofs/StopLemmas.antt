@@ -9,7 +9,7 @@ use Rattle.csv_rows.specs.Tables.{row_count, field}
 use Rattle.csv_rows.proofs.FirstLemmas.{none-each}
 use Rattle.gtfs_tables.specs.declared.stops.StopColumns.{StopColumns}
 use Rattle.gtfs_tables.specs.Stops.{Stop, stop_columns, stop_in, stop_at, bad_stop, parent_of, parent_in_row, stop_ids, unknown_in, unknown_parent, place_fault, place_from}
-use Rattle.gtfs_tables.proofs.RowLemmas.{read_ok, name_is}
+use Rattle.csv_rows.proofs.RowLemmas.{read_ok, name_is}
 
 -- the row by where the columns stand
 pub stop_is : (t : List (List (List ℕ))) (c : StopColumns) (i : ℕ) (r : Result Stop FeedFault) → c ≡ stop_columns t → stop_in t c i ≡ r → stop_at t i ≡ r

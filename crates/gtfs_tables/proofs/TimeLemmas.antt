@@ -9,10 +9,10 @@ use Rattle.csv_rows.specs.Tables.{row_count}
 use Rattle.gtfs_tables.specs.declared.stop_times.TimeColumns.{TimeColumns}
 use Rattle.gtfs_tables.specs.declared.stop_times.TimedRow.{TimedRow}
 use Rattle.gtfs_tables.specs.declared.keys.Key.{Key}
-use Rattle.gtfs_tables.specs.Faults.{value_or}
+use Rattle.csv_rows.specs.RowFaults.{value_or}
 use Rattle.gtfs_tables.specs.StopTimes.{time_columns, timed_in, timed_at, timed_rows, no_row, repeated_time, backward_time}
 use Rattle.gtfs_tables.specs.Keys.{AreSorted, is_taken, first_repeat, first_backward}
-use Rattle.gtfs_tables.proofs.ListLemmas.{length-list_below}
+use Rattle.csv_rows.proofs.ListLemmas.{length-list_below}
 use Rattle.gtfs_tables.proofs.TwinLemmas.{repeats_first}
 use Rattle.gtfs_tables.proofs.BackLemmas.{backward_first}
 

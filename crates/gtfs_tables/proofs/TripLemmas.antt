@@ -10,9 +10,9 @@ use Rattle.csv_rows.specs.Names.{name_in}
 use Rattle.csv_rows.specs.Tables.{row_count, place_in, field}
 use Rattle.csv_rows.proofs.FirstLemmas.{none-each}
 use Rattle.gtfs_tables.specs.declared.trips.TripColumns.{TripColumns}
-use Rattle.gtfs_tables.specs.Faults.{fault_in}
+use Rattle.csv_rows.specs.RowFaults.{fault_in}
 use Rattle.gtfs_tables.specs.Trips.{Trip, trip_from, trip_columns, trip_in, trip_at, bad_trip}
-use Rattle.gtfs_tables.proofs.RowLemmas.{name_is}
+use Rattle.csv_rows.proofs.RowLemmas.{name_is}
 
 -- the row by where the columns stand
 pub trip_is : (routes : List (List ℕ)) (t : List (List (List ℕ))) (c : TripColumns) (i : ℕ) (r : Result Trip FeedFault) → c ≡ trip_columns t → trip_in routes t c i ≡ r → trip_at routes t i ≡ r

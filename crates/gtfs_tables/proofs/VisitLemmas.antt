@@ -7,12 +7,12 @@ use Rattle.csv_rows.specs.First.{first_below}
 use Rattle.gtfs_tables.specs.declared.stop_times.StopRow.{StopRow}
 use Rattle.gtfs_tables.specs.declared.stop_times.TimedRow.{TimedRow}
 use Rattle.gtfs_tables.specs.declared.keys.Key.{Key}
-use Rattle.gtfs_tables.specs.Lists.{list_below}
+use Rattle.csv_rows.specs.Lists.{list_below}
 use Rattle.gtfs_tables.specs.StopTimes.{row_at, repeated_time}
 use Rattle.gtfs_tables.specs.Keys.{key_at, AreSorted, is_taken}
 use Rattle.gtfs_tables.specs.Visits.{no_visit, visit_or_none, visit_at, IsVisit, AreStopTimes, IsSpanOf}
 use Rattle.gtfs_tables.proofs.BeforeLemmas.{less_trip}
-use Rattle.gtfs_tables.proofs.ListLemmas.{length-list_below, get-list_below}
+use Rattle.csv_rows.proofs.ListLemmas.{length-list_below, get-list_below}
 use Rattle.gtfs_tables.proofs.TwinLemmas.{rises}
 
 some_is : (o : Option StopRow) → is_some o ≡ true → o ≡ Some (visit_or_none o)

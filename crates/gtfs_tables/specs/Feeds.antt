@@ -1,17 +1,18 @@
 -- The feed of a folder, or the first of its faults: the tables come in their order, and each is whole before the next is looked at.
-use Rattle.std.specs.Prelude.{◌≡◌, ℕ, ◌<◌, ◌==◌, List, [], length, slice_index_or, Option, Some, None, Result, Ok, Err, if◌then◌else◌}
-use Rattle.file_ports.specs.Ports.{Folder, file_at}
+use Rattle.std.specs.Prelude.{◌≡◌, ℕ, ◌<◌, ◌==◌, List, [], length, slice_index_or, Option, Some, None, Result, Ok, Err, IfSome, if◌then◌else◌}
+use Rattle.file_ports.specs.Ports.{Folder}
 use Rattle.csv_rows.specs.declared.columns.Column.{Column}
 use Rattle.csv_rows.specs.declared.columns.Column.TheVariants.{StopId, RouteId, TripId}
 use Rattle.csv_rows.specs.declared.feed_tables.Table.{Table}
 use Rattle.csv_rows.specs.declared.feed_tables.Table.TheVariants.{Stops, Routes, Trips, StopTimes, Frequencies}
 use Rattle.csv_rows.specs.declared.feed_tables.FeedFault.{FeedFault}
-use Rattle.csv_rows.specs.declared.feed_tables.FeedFault.TheVariants.{Read, MissingTable, MissingColumn, FrequencyRows}
+use Rattle.csv_rows.specs.declared.feed_tables.FeedFault.TheVariants.{MissingTable, MissingColumn, FrequencyRows}
 use Rattle.csv_rows.specs.declared.limits.Limits.{Limits}
 use Rattle.csv_rows.specs.declared.loading.Loaded.{Loaded}
 use Rattle.csv_rows.specs.declared.loading.Loaded.TheVariants.{Absent, NoRecord, Found}
-use Rattle.csv_rows.specs.FeedTables.{path_of}
-use Rattle.csv_rows.specs.Loading.{load_of}
+use Rattle.csv_rows.specs.FeedTables.{table_of_fault}
+use Rattle.csv_rows.specs.Loading.{load_in}
+use Rattle.csv_rows.specs.RowFaults.{and_then, unless}
 use Rattle.csv_rows.specs.Tables.{row_count}
 use Rattle.gtfs_tables.specs.declared.stop_times.StopRow.{StopRow}
 use Rattle.gtfs_tables.specs.Stops.{stop_ids, stop_places, stops_fault}
@@ -24,26 +25,12 @@ use Rattle.gtfs_tables.specs.Visits.{AreStopTimes}
 abbrev pub Records : Type 0
 Records = List (List (List ℕ))
 
--- what comes next, where there is no fault so far
-abbrev pub and_then : {A B : Type 0} → Result A FeedFault → (A → Result B FeedFault) → Result B FeedFault
-and_then (Ok a) next = next a
-and_then (Err fault) next = Err fault
-
--- the value, unless there is a fault
-abbrev pub unless : {A : Type 0} → Option FeedFault → A → Result A FeedFault
-unless None a = Ok a
-unless (Some fault) a = Err fault
-
 -- a required table is there, and has a record; else it is missing, or lacks its first column
 abbrev pub required : Table → Column → Result Loaded FeedFault → Result Records FeedFault
 required table first (Ok Absent) = Err (MissingTable table)
 required table first (Ok NoRecord) = Err (MissingColumn table first)
 required table first (Ok (Found t)) = Ok t
 required table first (Err fault) = Err fault
-
--- what a folder holds of a table, where at most one table could not be read
-abbrev pub load_in : Folder → List ℕ → Limits → Option Table → Table → Result Loaded FeedFault
-load_in files folder limits unread table = load_of unread limits table (file_at files (path_of folder table))
 
 -- each table by what was loaded of it
 abbrev pub stops_from : Result Loaded FeedFault → Result Records FeedFault
@@ -146,7 +133,15 @@ pub record IsSoundFeed (f : FeedParts) : Type 0 where
   pub stop_times : stop_times_fault (trip_ids tables.trips) (stop_ids tables.stops) (stop_places tables.stops) tables.stop_times ≡ None
   pub feed : IsFeed tables f
 
--- the fault may be that this table could not be read, but no other
-abbrev pub MayBeUnread : Table → FeedFault → Type 0
-MayBeUnread table (Read t) = t ≡ table
-MayBeUnread table _ = Unit {0}
+-- the tables that make a feed
+abbrev pub IsFeedTable : Table → Type 0
+IsFeedTable Stops = Unit {0}
+IsFeedTable Routes = Unit {0}
+IsFeedTable Trips = Unit {0}
+IsFeedTable StopTimes = Unit {0}
+IsFeedTable Frequencies = Unit {0}
+IsFeedTable _ = ⊥
+
+-- it is in one of these, or there was no memory
+abbrev pub IsFeedTableFault : FeedFault → Type 0
+IsFeedTableFault fault = IfSome (table_of_fault fault) IsFeedTable

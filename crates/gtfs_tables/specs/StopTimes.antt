@@ -11,9 +11,9 @@ use Rattle.csv_rows.specs.Tables.{row_count, place_in, place_of, field_at}
 use Rattle.gtfs_tables.specs.declared.stop_times.StopRow.{StopRow}
 use Rattle.gtfs_tables.specs.declared.stop_times.TimedRow.{TimedRow}
 use Rattle.gtfs_tables.specs.declared.stop_times.TimeColumns.{TimeColumns}
-use Rattle.gtfs_tables.specs.Faults.{fault_in, value_or, lack}
+use Rattle.csv_rows.specs.RowFaults.{fault_in, value_or, lack}
 use Rattle.gtfs_tables.specs.Forms.{text_in, allows_in, time_in}
-use Rattle.gtfs_tables.specs.Lists.{list_below}
+use Rattle.csv_rows.specs.Lists.{list_below}
 
 -- the number of a stop, or none where the text is empty
 abbrev pub number_in : List (List ℕ) → List ℕ → Option (Option ℕ)

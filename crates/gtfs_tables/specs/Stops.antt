@@ -8,9 +8,9 @@ use Rattle.csv_rows.specs.First.{or_else, first_below, read}
 use Rattle.csv_rows.specs.Names.{name_in}
 use Rattle.csv_rows.specs.Tables.{row_count, place_in, place_of, field_at, field}
 use Rattle.gtfs_tables.specs.declared.stops.StopColumns.{StopColumns}
-use Rattle.gtfs_tables.specs.Faults.{fault_in, value_or, lacks, repeated_id}
+use Rattle.csv_rows.specs.RowFaults.{fault_in, value_or, lacks, repeated_id}
 use Rattle.gtfs_tables.specs.Forms.{is_stop_in, parent_in}
-use Rattle.gtfs_tables.specs.Lists.{list_below}
+use Rattle.csv_rows.specs.Lists.{list_below}
 
 -- a stop by its id and its parent station, which is empty where it has none
 pub record Stop : Type 0 where

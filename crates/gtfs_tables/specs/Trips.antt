@@ -8,8 +8,8 @@ use Rattle.csv_rows.specs.First.{or_else, first_below, read}
 use Rattle.csv_rows.specs.Names.{name_in}
 use Rattle.csv_rows.specs.Tables.{row_count, place_in, place_of, field_at, field}
 use Rattle.gtfs_tables.specs.declared.trips.TripColumns.{TripColumns}
-use Rattle.gtfs_tables.specs.Faults.{fault_in, value_or, lacks, repeated_id}
-use Rattle.gtfs_tables.specs.Lists.{list_below}
+use Rattle.csv_rows.specs.RowFaults.{fault_in, value_or, lacks, repeated_id}
+use Rattle.csv_rows.specs.Lists.{list_below}
 
 -- a trip by the number of its route, its service and its id
 pub record Trip : Type 0 where

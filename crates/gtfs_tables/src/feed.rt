@@ -33,13 +33,13 @@ impl Model for Feed {
 }
 
 impl Feed {
-    ghost use Rattle.std.specs.Prelude.{◌≡◌, ◌≢◌, ◌<◌, None, Some, Ok, Err, IfOk, IfErr, IfSome, IsSome, length, slice_get, slice_index, slice_index_or, option_map, []};
+    ghost use Rattle.std.specs.Prelude.{◌≡◌, ◌≢◌, ◌<◌, ◌≤◌, None, Some, Ok, Err, IfOk, IfErr, IfSome, IsSome, length, slice_get, slice_index, slice_index_or, option_map, []};
     ghost use Rattle.csv_rows.specs.FeedTables.{unread_of};
+    ghost use Rattle.csv_rows.specs.Ids.{AreNames};
     ghost use Rattle.csv_rows.specs.Limits.{AreWithin};
     ghost use Rattle.csv_rows.specs.Loading.{HasFeedCause, HasFeedPathCause};
     ghost use Rattle.csv_rows.specs.Tables.{place_in};
-    ghost use Rattle.gtfs_tables.specs.Feeds.{tables_in, IsFeedOf, IsSoundFeed};
-    ghost use Rattle.gtfs_tables.specs.Ids.{AreNames};
+    ghost use Rattle.gtfs_tables.specs.Feeds.{tables_in, IsFeedOf, IsFeedTableFault, IsSoundFeed};
     ghost use Rattle.gtfs_tables.specs.Timed.{IsTimed};
 
     /// Reads the tables `stops.txt`, `routes.txt`, `trips.txt`, `stop_times.txt` and `frequencies.txt` of a folder, or
@@ -59,6 +59,7 @@ impl Feed {
             IsFeedOf (tables_in m folder.now limits.now None) feed)) }
         ensures fault { IfSome (F.files files.old) (λ m. IfErr result (λ f. f ≢ FeedFault.NoMemory
             → tables_in m folder.now limits.now (unread_of f) ≡ Err f)) }
+        ensures own { IfErr result IsFeedTableFault }
         ensures cause { HasFeedCause (F.faults files.old) (F.faults files.new) result }
         ensures path_cause { HasFeedPathCause (IsSome (F.files files.old)) folder.now
             (F.faults_of files.old) (F.faults_of files.new) result }
@@ -93,6 +94,7 @@ impl Feed {
     pub fn stop_count(&self) -> u32
         ensures count { result ≡ length self.now.stop_ids }
         ensures names { AreNames self.now.stop_ids }
+        ensures few { length self.now.stop_ids ≤ 1048576 }
         ensures sound { IsSoundFeed self.now }
     {
         self.stops.ids.len()
@@ -129,6 +131,7 @@ impl Feed {
     pub fn trip_count(&self) -> u32
         ensures count { result ≡ length self.now.trip_ids }
         ensures names { AreNames self.now.trip_ids }
+        ensures few { length self.now.trip_ids ≤ 4194304 }
         ensures sound { IsSoundFeed self.now }
         ensures timed { IsTimed self.now }
     {

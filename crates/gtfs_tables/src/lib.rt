@@ -1,10 +1,8 @@
 //! The stops, routes, trips and stop times of a feed (GTFS Schedule reference).
 #![tactic(auto)]
 
-mod faults;
 mod feed;
 mod forms;
-mod ids;
 mod keys;
 mod routes;
 mod stop_times;

@@ -1,19 +1,17 @@
 //! The routes of a feed.
-ghost use Rattle.std.specs.Prelude.{◌≡◌, ◌≢◌, ◌<◌, ◌≤◌, None, Some, Ok, Err, IfOk, IfErr, OnOk, length};
+ghost use Rattle.std.specs.Prelude.{◌≡◌, ◌≢◌, ◌<◌, ◌≤◌, None, Some, Ok, Err, IfOk, IfErr, IfSome, OnOk, length};
 ghost use Rattle.clock_text.specs.Digits.{whole_of};
 ghost use Rattle.csv_rows.specs.declared.columns.Column.TheVariants.{RouteId, RouteType};
 ghost use Rattle.csv_rows.specs.declared.feed_tables.Table.TheVariants.{Routes as RoutesTable};
 ghost use Rattle.csv_rows.specs.First.{first_below, or_else};
-ghost use Rattle.csv_rows.specs.FeedTables.{unread_of};
+ghost use Rattle.csv_rows.specs.FeedTables.{unread_of, IsFaultOf};
 ghost use Rattle.csv_rows.specs.Tables.{row_count};
-ghost use Rattle.gtfs_tables.specs.Faults.{lack as lack_of};
+ghost use Rattle.csv_rows.specs.RowFaults.{lack as lack_of};
 ghost use Rattle.gtfs_tables.specs.Feeds.{IsSound, AreRoutes};
 ghost use Rattle.gtfs_tables.specs.Routes.{route_columns, route_in, bad_route, route_ids, route_types, routes_fault};
 
-use crate::faults::lack;
-use crate::ids::{Ids, read_ids};
 use clock_text::read_whole;
-use csv_rows::{Column, FeedFault, Rows, Table, read_name};
+use csv_rows::{Column, FeedFault, Ids, Rows, Table, lack, read_ids, read_name};
 use std::alloc::Global;
 
 /// The ids of the routes, and the type of each.
@@ -49,8 +47,9 @@ fn route_columns(rows: &Rows) -> RouteColumns
 
 /// The first required column that stands nowhere in the header.
 fn missing_column(columns: RouteColumns) -> Option<FeedFault>
-    ensures { result ≡ or_else (lack_of RoutesTable RouteId columns.id)
+    ensures fault { result ≡ or_else (lack_of RoutesTable RouteId columns.id)
         (lack_of RoutesTable RouteType columns.kind) }
+    ensures own { IfSome result (IsFaultOf RoutesTable) }
 {
     match lack(Table::Routes, Column::RouteId, columns.id) {
         Some(fault) => Some(fault),
@@ -75,6 +74,7 @@ fn read_route(rows: &Rows, columns: RouteColumns, row: usize) -> Result<Route<'_
         ≡ Ok (record { id = r.id.now; kind = r.kind })) }
     ensures fault { IfErr result (λ f. route_in rows.now columns row ≡ Err f) }
     ensures content { IfErr result (λ f. unread_of f ≡ None) }
+    ensures own { IfErr result (IsFaultOf RoutesTable) }
 {
     let line = rows.line(row);
     let Some(id) = read_name(rows.field_at(row, columns.id)) else {
@@ -94,6 +94,7 @@ fn read_types(alloc: Global, rows: &Rows, columns: RouteColumns) -> Result<Vec<u
     ensures fault { IfErr result (λ f. f ≢ FeedFault.NoMemory
         → first_below (bad_route rows.now) (row_count rows.now) ≡ Some f) }
     ensures content { IfErr result (λ f. unread_of f ≡ None) }
+    ensures own { IfErr result (IsFaultOf RoutesTable) }
 {
     let mut types: Vec<u16> = Vec::new(alloc);
     for i in 0..rows.count() {
@@ -120,6 +121,7 @@ pub(crate) fn read_routes(alloc: Global, rows: &Rows) -> Result<Routes, FeedFaul
     ensures none { OnOk result (routes_fault rows.now ≡ None) }
     ensures fault { IfErr result (λ f. f ≢ FeedFault.NoMemory → routes_fault rows.now ≡ Some f) }
     ensures content { IfErr result (λ f. unread_of f ≡ None) }
+    ensures own { IfErr result (IsFaultOf RoutesTable) }
 {
     let columns = route_columns(rows);
     if let Some(fault) = missing_column(columns) {

@@ -1,16 +1,15 @@
 //! The rows of stop times.
 ghost use Rattle.std.specs.Prelude.{◌≡◌, ◌≢◌, ◌<◌, ◌≤◌, ℕ, length, None, Some, Ok, Err, IfOk, IfErr, IfSome, OnOk};
+ghost use Rattle.csv_rows.specs.declared.feed_tables.Table.TheVariants.{StopTimes as StopTimesTable};
 ghost use Rattle.csv_rows.specs.First.{first_below};
-ghost use Rattle.csv_rows.specs.FeedTables.{unread_of};
+ghost use Rattle.csv_rows.specs.FeedTables.{unread_of, IsFaultOf};
 ghost use Rattle.csv_rows.specs.Tables.{row_count};
 ghost use Rattle.gtfs_tables.specs.StopTimes.{number_in, times_of, visit_of, time_columns, timed_in, bad_time, timed_rows, missing_time_column};
 
-use crate::faults::lack;
 use crate::forms::{read_allows, read_text, read_time_or_none};
-use crate::ids::Ids;
 use crate::stops::Stops;
 use clock_text::read_whole;
-use csv_rows::{Column, FeedFault, Rows, Table, read_name};
+use csv_rows::{Column, FeedFault, Ids, Rows, Table, lack, read_name};
 use plan_model::PlaceId;
 use std::alloc::Global;
 
@@ -68,7 +67,8 @@ pub(crate) fn time_columns(rows: &Rows) -> TimeColumns
 
 /// The first required column that stands nowhere in the header.
 pub(crate) fn missing_column(columns: TimeColumns) -> Option<FeedFault>
-    ensures { result ≡ missing_time_column columns }
+    ensures fault { result ≡ missing_time_column columns }
+    ensures own { IfSome result (IsFaultOf StopTimesTable) }
 {
     if let Some(fault) = lack(Table::StopTimes, Column::TripId, columns.trip) {
         return Some(fault);
@@ -148,6 +148,7 @@ fn read_timed_row(
     ensures fault { IfErr result (λ f.
         timed_in trips.now stops.now.ids stops.now.places.items rows.now columns row ≡ Err f) }
     ensures content { IfErr result (λ f. unread_of f ≡ None) }
+    ensures own { IfErr result (IsFaultOf StopTimesTable) }
 {
     let line = rows.line(row);
     let Some(trip_id) = read_name(rows.field_at(row, columns.trip)) else {
@@ -209,6 +210,7 @@ pub(crate) fn read_timed_rows(
         → first_below (bad_time trips.now stops.now.ids stops.now.places.items rows.now)
         (row_count rows.now) ≡ Some f) }
     ensures content { IfErr result (λ f. unread_of f ≡ None) }
+    ensures own { IfErr result (IsFaultOf StopTimesTable) }
 {
     let mut timed: Vec<TimedRow> = Vec::new(alloc);
     for i in 0..rows.count() {

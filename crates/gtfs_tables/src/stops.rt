@@ -1,15 +1,14 @@
 //! The stops of a feed.
 ghost use Rattle.std.specs.Prelude.{◌≡◌, ◌≢◌, ◌<◌, ◌≤◌, ℕ, None, Some, Ok, Err, IfOk, IfErr, OnOk, length};
+ghost use Rattle.csv_rows.specs.declared.feed_tables.Table.TheVariants.{Stops as StopsTable};
 ghost use Rattle.csv_rows.specs.First.{first_below};
-ghost use Rattle.csv_rows.specs.FeedTables.{unread_of};
+ghost use Rattle.csv_rows.specs.FeedTables.{unread_of, IsFaultOf};
 ghost use Rattle.csv_rows.specs.Tables.{row_count};
 ghost use Rattle.gtfs_tables.specs.Feeds.{IsSound, AreStops};
 ghost use Rattle.gtfs_tables.specs.Stops.{stop_columns, stop_in, bad_stop, parent_in_row, stop_ids, place_fault, unknown_parent, place_from, stop_places, stops_fault};
 
-use crate::faults::lack;
 use crate::forms::{read_is_stop, read_parent};
-use crate::ids::{Ids, read_ids};
-use csv_rows::{Column, FeedFault, Rows, Table, read_name};
+use csv_rows::{Column, FeedFault, Ids, Rows, Table, lack, read_ids, read_name};
 use std::alloc::Global;
 
 /// The ids of the stops, and the place of each: the number of its parent station or its own.
@@ -52,6 +51,7 @@ fn read_stop(rows: &Rows, columns: StopColumns, row: usize) -> Result<Stop<'_>, 
         ≡ Ok (record { id = s.id.now; parent = s.parent.now })) }
     ensures fault { IfErr result (λ f. stop_in rows.now columns row ≡ Err f) }
     ensures content { IfErr result (λ f. unread_of f ≡ None) }
+    ensures own { IfErr result (IsFaultOf StopsTable) }
 {
     let line = rows.line(row);
     let Some(id) = read_name(rows.field_at(row, columns.id)) else {
@@ -73,6 +73,7 @@ fn check_stops(rows: &Rows, columns: StopColumns) -> Result<(), FeedFault>
     ensures fault { IfErr result (λ f. first_below (bad_stop rows.now) (row_count rows.now)
         ≡ Some f) }
     ensures content { IfErr result (λ f. unread_of f ≡ None) }
+    ensures own { IfErr result (IsFaultOf StopsTable) }
 {
     for i in 0..rows.count() {
         match read_stop(rows, columns, i) {
@@ -93,6 +94,7 @@ fn read_place(rows: &Rows, columns: StopColumns, ids: &Ids, row: usize) -> Resul
     ensures fault { IfErr result (λ f. place_fault ids.now (stop_in rows.now columns row) row
         ≡ Some f) }
     ensures content { IfErr result (λ f. unread_of f ≡ None) }
+    ensures own { IfErr result (IsFaultOf StopsTable) }
 {
     let stop = match read_stop(rows, columns, row) {
         Ok(stop) => stop,
@@ -123,6 +125,7 @@ fn read_places(
     ensures fault { IfErr result (λ f. f ≢ FeedFault.NoMemory
         → first_below (unknown_parent rows.now) (row_count rows.now) ≡ Some f) }
     ensures content { IfErr result (λ f. unread_of f ≡ None) }
+    ensures own { IfErr result (IsFaultOf StopsTable) }
 {
     let mut places: Vec<u32> = Vec::new(alloc);
     for i in 0..rows.count() {
@@ -146,9 +149,11 @@ pub(crate) fn read_stops(alloc: Global, rows: &Rows) -> Result<Stops, FeedFault>
     ensures sound { IfOk result (λ stops. IsSound stops_fault
         (λ t. AreStops (Ok t) stops.ids stops.places.items)) }
     ensures sized { IfOk result (λ stops. length stops.places.items ≡ length stops.ids) }
+    ensures few { IfOk result (λ stops. length stops.ids ≤ 1048576) }
     ensures none { OnOk result (stops_fault rows.now ≡ None) }
     ensures fault { IfErr result (λ f. f ≢ FeedFault.NoMemory → stops_fault rows.now ≡ Some f) }
     ensures content { IfErr result (λ f. unread_of f ≡ None) }
+    ensures own { IfErr result (IsFaultOf StopsTable) }
 {
     let columns = stop_columns(rows);
     if let Some(fault) = lack(Table::Stops, Column::StopId, columns.id) {

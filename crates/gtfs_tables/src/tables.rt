@@ -2,24 +2,23 @@
 ghost use Rattle.std.specs.Prelude.{◌≡◌, ◌≢◌, ◌<◌, ◌≤◌, ℕ, length, map, vec_items, None, Some, Ok, Err, IfOk, IfErr, IfSome, IsSome, OnOk};
 ghost use Rattle.csv_rows.specs.declared.columns.Column.TheVariants.{StopId, RouteId, TripId};
 ghost use Rattle.csv_rows.specs.declared.feed_tables.Table.TheVariants.{Stops as StopsTable, Routes as RoutesTable, Trips as TripsTable, StopTimes as StopTimesTable, Frequencies as FrequenciesTable};
-ghost use Rattle.csv_rows.specs.FeedTables.{unread_of};
+ghost use Rattle.csv_rows.specs.FeedTables.{unread_of, IsFaultOf};
 ghost use Rattle.csv_rows.specs.Limits.{AreWithin, rows_of};
-ghost use Rattle.csv_rows.specs.Loading.{HasFeedCause, HasFeedPathCause};
+ghost use Rattle.csv_rows.specs.Loading.{HasFeedCause, HasFeedPathCause, load_in};
 ghost use Rattle.csv_rows.specs.Tables.{row_count};
 ghost use Rattle.plan_model.specs.NameLists.{texts};
-ghost use Rattle.gtfs_tables.specs.Feeds.{required, load_in, stops_from, routes_from, trips_from, stop_times_from, frequencies_from, AreStops, AreRoutes, AreTrips, AreVisits, IsSound, MayBeUnread};
+ghost use Rattle.gtfs_tables.specs.Feeds.{required, stops_from, routes_from, trips_from, stop_times_from, frequencies_from, AreStops, AreRoutes, AreTrips, AreVisits, IsSound};
 ghost use Rattle.gtfs_tables.specs.Stops.{stops_fault};
 ghost use Rattle.gtfs_tables.specs.Routes.{routes_fault};
 ghost use Rattle.gtfs_tables.specs.Trips.{trips_fault};
 ghost use Rattle.gtfs_tables.specs.StopTimes.{stop_times_fault};
 
-use crate::ids::Ids;
 use crate::routes::{Routes, read_routes};
 use crate::stop_times::StopRow;
 use crate::stops::{Stops, read_stops};
 use crate::timetable::read_stop_times;
 use crate::trips::{Trips, read_trips};
-use csv_rows::{Column, FeedFault, Limits, Loaded, Rows, Table, read_table};
+use csv_rows::{Column, FeedFault, Ids, Limits, Loaded, Rows, Table, read_table};
 use file_ports::Files;
 use std::alloc::Global;
 
@@ -39,7 +38,7 @@ fn load_required<F: Files>(
     ensures fault { IfSome (F.files files.old) (λ m. IfErr result (λ f. f ≢ FeedFault.NoMemory
         → required table first (load_in m folder.now limits.now (unread_of f) table) ≡ Err f)) }
     ensures few { IfOk result (λ t. row_count t ≤ rows_of limits.now table) }
-    ensures own { IfErr result (MayBeUnread table) }
+    ensures own { IfErr result (IsFaultOf table) }
     ensures cause { HasFeedCause (F.faults files.old) (F.faults files.new) result }
     ensures path_cause { HasFeedPathCause (IsSome (F.files files.old)) folder.now
         (F.faults_of files.old) (F.faults_of files.new) result }
@@ -68,7 +67,8 @@ pub(crate) fn load_stops<F: Files>(
     ensures sound { IfOk result (λ s. IsSound stops_fault
         (λ t. AreStops (Ok t) s.ids s.places.items)) }
     ensures sized { IfOk result (λ s. length s.places.items ≡ length s.ids) }
-    ensures own { IfErr result (MayBeUnread StopsTable) }
+    ensures few { IfOk result (λ s. length s.ids ≤ 1048576) }
+    ensures own { IfErr result (IsFaultOf StopsTable) }
     ensures cause { HasFeedCause (F.faults files.old) (F.faults files.new) result }
     ensures path_cause { HasFeedPathCause (IsSome (F.files files.old)) folder.now
         (F.faults_of files.old) (F.faults_of files.new) result }
@@ -99,7 +99,7 @@ pub(crate) fn load_routes<F: Files>(
     ensures sound { IfOk result (λ r. IsSound routes_fault
         (λ t. AreRoutes (Ok t) r.ids r.types.items)) }
     ensures sized { IfOk result (λ r. length r.types.items ≡ length r.ids) }
-    ensures own { IfErr result (MayBeUnread RoutesTable) }
+    ensures own { IfErr result (IsFaultOf RoutesTable) }
     ensures cause { HasFeedCause (F.faults files.old) (F.faults files.new) result }
     ensures path_cause { HasFeedPathCause (IsSome (F.files files.old)) folder.now
         (F.faults_of files.old) (F.faults_of files.new) result }
@@ -137,7 +137,8 @@ pub(crate) fn load_trips<F: Files>(
         r.ids (texts r.of_trips.services.items) r.of_trips.types.items)) }
     ensures services_sized { IfOk result (λ t. length t.of_trips.services.items ≡ length t.ids) }
     ensures types_sized { IfOk result (λ t. length t.of_trips.types.items ≡ length t.ids) }
-    ensures own { IfErr result (MayBeUnread TripsTable) }
+    ensures few { IfOk result (λ t. length t.ids ≤ 4194304) }
+    ensures own { IfErr result (IsFaultOf TripsTable) }
     ensures cause { HasFeedCause (F.faults files.old) (F.faults files.new) result }
     ensures path_cause { HasFeedPathCause (IsSome (F.files files.old)) folder.now
         (F.faults_of files.old) (F.faults_of files.new) result }
@@ -176,7 +177,7 @@ pub(crate) fn load_stop_times<F: Files>(
         IsSound (stop_times_fault trips.now stops.now.ids stops.now.places.items)
         (λ t. AreVisits trips.now stops.now.ids stops.now.places.items (Ok t) (map vec_items v.items))) }
     ensures sized { IfOk result (λ v. length v.items ≡ length trips.now) }
-    ensures own { IfErr result (MayBeUnread StopTimesTable) }
+    ensures own { IfErr result (IsFaultOf StopTimesTable) }
     ensures cause { HasFeedCause (F.faults files.old) (F.faults files.new) result }
     ensures path_cause { HasFeedPathCause (IsSome (F.files files.old)) folder.now
         (F.faults_of files.old) (F.faults_of files.new) result }
@@ -212,7 +213,7 @@ pub(crate) fn check_frequencies<F: Files>(
     ensures fault { IfSome (F.files files.old) (λ m. IfErr result (λ f. f ≢ FeedFault.NoMemory
         → frequencies_from (load_in m folder.now limits.now (unread_of f) FrequenciesTable)
         ≡ Some f)) }
-    ensures own { IfErr result (MayBeUnread FrequenciesTable) }
+    ensures own { IfErr result (IsFaultOf FrequenciesTable) }
     ensures cause { HasFeedCause (F.faults files.old) (F.faults files.new) result }
     ensures path_cause { HasFeedPathCause (IsSome (F.files files.old)) folder.now
         (F.faults_of files.old) (F.faults_of files.new) result }

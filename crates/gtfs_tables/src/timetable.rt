@@ -1,18 +1,18 @@
 //! The stop times of a feed.
 ghost use Rattle.std.specs.Prelude.{◌≡◌, ◌≢◌, ◌<◌, ◌≤◌, ℕ, length, map, vec_items, slice_index_or, [], None, Some, Ok, IfOk, IfErr, OnOk};
+ghost use Rattle.csv_rows.specs.declared.feed_tables.Table.TheVariants.{StopTimes as StopTimesTable};
 ghost use Rattle.csv_rows.specs.First.{first_below};
-ghost use Rattle.csv_rows.specs.FeedTables.{unread_of};
+ghost use Rattle.csv_rows.specs.FeedTables.{unread_of, IsFaultOf};
 ghost use Rattle.csv_rows.specs.Tables.{row_count};
 ghost use Rattle.gtfs_tables.specs.Feeds.{IsSound, AreVisits};
 ghost use Rattle.gtfs_tables.specs.StopTimes.{timed_rows, repeated_time, order_fault, stop_times_fault};
 ghost use Rattle.gtfs_tables.specs.Visits.{AreStopTimes};
 
-use crate::ids::Ids;
 use crate::keys::{first_backward, first_repeat, sorted_keys};
 use crate::stop_times::{StopRow, TimedRow, missing_column, read_timed_rows, time_columns};
 use crate::stops::Stops;
 use crate::visits::visits_of;
-use csv_rows::{FeedFault, Rows, Table};
+use csv_rows::{FeedFault, Ids, Rows, Table};
 use std::alloc::Global;
 
 /// The first row that has the trip and the sequence of an earlier one.
@@ -22,6 +22,7 @@ fn check_once(alloc: Global, rows: &[TimedRow]) -> Result<(), FeedFault>
     ensures fault { IfErr result (λ f. f ≢ FeedFault.NoMemory
         → first_below (repeated_time rows.now) (length rows.now) ≡ Some f) }
     ensures content { IfErr result (λ f. unread_of f ≡ None) }
+    ensures own { IfErr result (IsFaultOf StopTimesTable) }
 {
     let keys = match sorted_keys(alloc, rows, false) {
         Ok(keys) => keys,
@@ -42,6 +43,7 @@ fn in_order(alloc: Global, rows: &[TimedRow], trips: u32) -> Result<Vec<Vec<Stop
     ensures none { OnOk result (order_fault rows.now ≡ None) }
     ensures fault { IfErr result (λ f. f ≢ FeedFault.NoMemory → order_fault rows.now ≡ Some f) }
     ensures content { IfErr result (λ f. unread_of f ≡ None) }
+    ensures own { IfErr result (IsFaultOf StopTimesTable) }
 {
     match check_once(alloc, rows) {
         Ok(()) => {}
@@ -82,6 +84,7 @@ pub(crate) fn read_stop_times(
     ensures fault { IfErr result (λ f. f ≢ FeedFault.NoMemory
         → stop_times_fault trips.now stops.now.ids stops.now.places.items rows.now ≡ Some f) }
     ensures content { IfErr result (λ f. unread_of f ≡ None) }
+    ensures own { IfErr result (IsFaultOf StopTimesTable) }
 {
     let columns = time_columns(rows);
     if let Some(fault) = missing_column(columns) {

@@ -1,19 +1,17 @@
 //! The trips of a feed.
-ghost use Rattle.std.specs.Prelude.{◌≡◌, ◌≢◌, ◌<◌, ◌≤◌, None, Some, Ok, Err, IfOk, IfErr, OnOk, length};
+ghost use Rattle.std.specs.Prelude.{◌≡◌, ◌≢◌, ◌<◌, ◌≤◌, None, Some, Ok, Err, IfOk, IfErr, IfSome, OnOk, length};
 ghost use Rattle.csv_rows.specs.declared.columns.Column.TheVariants.{RouteId, ServiceId, TripId};
 ghost use Rattle.csv_rows.specs.declared.feed_tables.Table.TheVariants.{Trips as TripsTable};
 ghost use Rattle.csv_rows.specs.First.{first_below, or_else};
-ghost use Rattle.csv_rows.specs.FeedTables.{unread_of};
+ghost use Rattle.csv_rows.specs.FeedTables.{unread_of, IsFaultOf};
 ghost use Rattle.csv_rows.specs.Tables.{row_count};
 ghost use Rattle.plan_model.specs.NameLists.{texts};
-ghost use Rattle.gtfs_tables.specs.Faults.{lack as lack_of};
+ghost use Rattle.csv_rows.specs.RowFaults.{lack as lack_of};
 ghost use Rattle.gtfs_tables.specs.Feeds.{IsSound, AreTrips};
 ghost use Rattle.gtfs_tables.specs.Trips.{trip_columns, trip_in, bad_trip, trip_ids, trip_services, trip_types, trips_fault};
 
-use crate::faults::lack;
-use crate::ids::{Ids, read_ids};
 use crate::routes::Routes;
-use csv_rows::{Column, FeedFault, Rows, Table, read_name};
+use csv_rows::{Column, FeedFault, Ids, Rows, Table, lack, read_ids, read_name};
 use std::alloc::Global;
 
 /// The ids of the trips, and the service and the route type of each.
@@ -59,8 +57,9 @@ fn trip_columns(rows: &Rows) -> TripColumns
 
 /// The first required column that stands nowhere in the header.
 fn missing_column(columns: TripColumns) -> Option<FeedFault>
-    ensures { result ≡ or_else (lack_of TripsTable RouteId columns.route)
+    ensures fault { result ≡ or_else (lack_of TripsTable RouteId columns.route)
         (or_else (lack_of TripsTable ServiceId columns.service) (lack_of TripsTable TripId columns.id)) }
+    ensures own { IfSome result (IsFaultOf TripsTable) }
 {
     match lack(Table::Trips, Column::RouteId, columns.route) {
         Some(fault) => Some(fault),
@@ -84,6 +83,7 @@ fn read_trip<'a>(
     ensures fault { IfErr result (λ f. trip_in routes.now rows.now columns row ≡ Err f) }
     ensures route { IfOk result (λ r. r.route < length routes.now) }
     ensures content { IfErr result (λ f. unread_of f ≡ None) }
+    ensures own { IfErr result (IsFaultOf TripsTable) }
 {
     let line = rows.line(row);
     let Some(route) = read_name(rows.field_at(row, columns.route)) else {
@@ -123,6 +123,7 @@ fn read_of_trips(
     ensures fault { IfErr result (λ f. f ≢ FeedFault.NoMemory
         → first_below (bad_trip routes.now.ids rows.now) (row_count rows.now) ≡ Some f) }
     ensures content { IfErr result (λ f. unread_of f ≡ None) }
+    ensures own { IfErr result (IsFaultOf TripsTable) }
 {
     let mut services: Vec<String> = Vec::new(alloc);
     let mut types: Vec<u16> = Vec::new(alloc);
@@ -164,10 +165,12 @@ pub(crate) fn read_trips(alloc: Global, rows: &Rows, routes: &Routes) -> Result<
         ≡ length trips.ids) }
     ensures types_sized { IfOk result (λ trips. length trips.of_trips.types.items
         ≡ length trips.ids) }
+    ensures few { IfOk result (λ trips. length trips.ids ≤ 4194304) }
     ensures none { OnOk result (trips_fault routes.now.ids rows.now ≡ None) }
     ensures fault { IfErr result (λ f. f ≢ FeedFault.NoMemory
         → trips_fault routes.now.ids rows.now ≡ Some f) }
     ensures content { IfErr result (λ f. unread_of f ≡ None) }
+    ensures own { IfErr result (IsFaultOf TripsTable) }
 {
     let columns = trip_columns(rows);
     if let Some(fault) = missing_column(columns) {

@@ -2,7 +2,7 @@
 ghost use Rattle.std.specs.Prelude.{◌≡◌, ◌<◌, ◌≤◌, ◌+◌, ◌-◌, ℕ, length, true, None, IfOk, slice_index_or, map, vec_items, []};
 ghost use Rattle.csv_rows.specs.First.{first_below};
 ghost use Rattle.gtfs_tables.specs.Keys.{AreSorted, is_taken, key_at};
-ghost use Rattle.gtfs_tables.specs.Lists.{list_below};
+ghost use Rattle.csv_rows.specs.Lists.{list_below};
 ghost use Rattle.gtfs_tables.specs.StopTimes.{row_at, is_kept, repeated_time};
 ghost use Rattle.gtfs_tables.specs.Visits.{visit_or_none, visit_at, AreStopTimes, IsSpanOf};
 

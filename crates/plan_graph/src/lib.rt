@@ -9,14 +9,18 @@ use plan_model::{Leg, List, Moment, PlaceId};
 /// A leg that is taken after an arrival by this moment.
 #[derive(Clone, Copy, Debug, PartialEq, Eq, PartialOrd, Ord)]
 pub struct GraphRow {
+    /// The latest arrival with which the leg is taken.
     pub by: Moment,
+    /// The leg that is taken.
     pub leg: Leg,
 }
 
 /// A ride, and the legs that are taken after it.
 #[derive(Drop)]
 pub struct Ride {
+    /// The leg that is ridden.
     pub leg: Leg,
+    /// What is taken at its end, by the arrival. The moments rise.
     pub after: List<GraphRow>,
 }
 
@@ -24,14 +28,18 @@ pub struct Ride {
 /// each table by moment.
 #[derive(Drop)]
 pub struct ExpandedGraph {
+    /// The first leg. None where source and target are one place.
     pub start: Option<Leg>,
+    /// The rides that may happen, the first leg's among them.
     pub rides: List<Ride>,
 }
 
 /// The legs that are taken at a place.
 #[derive(Drop)]
 pub struct PlaceTable {
+    /// Where the traveller has arrived.
     pub place: PlaceId,
+    /// What is taken there, by the arrival. The moments rise.
     pub rows: List<GraphRow>,
 }
 
@@ -39,11 +47,13 @@ pub struct PlaceTable {
 /// by moment.
 #[derive(Drop)]
 pub struct PlanGraph {
+    /// The first leg. None where source and target are one place.
     pub start: Option<Leg>,
+    /// The tables of the places where a leg may be taken after an arrival.
     pub tables: List<PlaceTable>,
 }
 
-// The leg of the first row that is not before the arrival.
+/// The leg of the first row that is not before the arrival.
 fn first_leg(rows: &[GraphRow], arrival: Moment) -> Option<Leg>
     requires { HasRisingRows rows.now }
     ensures { result ≡ pick_row rows.now arrival.0 }
@@ -55,7 +65,7 @@ fn first_leg(rows: &[GraphRow], arrival: Moment) -> Option<Leg>
     None
 }
 
-// Whether one leg stands before another: by entry, and then by exit.
+/// Whether one leg stands before another: by entry, and then by exit.
 fn precedes(a: Leg, b: Leg) -> bool
     ensures { result ≡ leg_lt a b }
 {

@@ -1,11 +1,33 @@
 -- The rows of exceptions.
-use Rattle.std.proofs.Common.{◌≡◌, ℕ, List, ap, sym, ◌∙◌}
-use Rattle.std.specs.Prelude.{Result}
+use Rattle.std.proofs.Common.{◌≡◌, ℕ, ◌+◌, List, ap, sym, ◌∙◌, subst}
+use Rattle.std.specs.Prelude.{Result, Ok}
+use Rattle.clock_text.specs.Times.{date_at}
 use Rattle.csv_rows.specs.declared.feed_tables.FeedFault.{FeedFault}
+use Rattle.csv_rows.specs.Names.{name_in}
+use Rattle.csv_rows.specs.Spaces.{AreTrimmed}
+use Rattle.csv_rows.specs.Tables.{field_at}
+use Rattle.csv_rows.proofs.RowLemmas.{read_is, name_text}
+use Rattle.csv_rows.proofs.SpaceLemmas.{IsTrimmed-field}
+use Rattle.plan_model.specs.NameLists.{IsTrimmed}
 use Rattle.service_days.specs.declared.dates.DateColumns.{DateColumns}
-use Rattle.service_days.specs.Dates.{ServiceDate, date_columns, date_in, date_at_row}
+use Rattle.service_days.specs.Dates.{ServiceDate, date_from, date_columns, date_in, date_at_row}
+use Rattle.service_days.specs.Forms.{adds_in}
 
 -- the row by where the columns stand
 pub date_is : (t : List (List (List ℕ))) (c : DateColumns) (i : ℕ) (r : Result ServiceDate FeedFault) → c ≡ date_columns t → date_in t c i ≡ r → date_at_row t i ≡ r
 unfolding date_at_row
 date_is t c i r e h = ap (λ k. date_in t k i) (sym e) ∙ h
+
+-- the service of a row is its field
+service_is : (line : ℕ) (service date kind : List ℕ) (d : ServiceDate) → date_from line service date kind ≡ Ok d → d.service ≡ service
+service_is line service date kind d h =
+    let a = read_is (name_in service) _ _ d h in
+    let b = read_is (date_at date) _ _ d a.2 in
+    let k = read_is (adds_in kind) _ _ d b.2 in
+    let e : d.service ≡ a.0 = cc in
+    e ∙ name_text service a.0 a.1
+
+-- and so it has no space at its ends
+pub service_trimmed : (t : List (List (List ℕ))) (c : DateColumns) (i : ℕ) (d : ServiceDate) → AreTrimmed t → date_in t c i ≡ Ok d → IsTrimmed d.service
+service_trimmed t c i d trimmed h =
+    subst IsTrimmed (sym (service_is (i + 2) (field_at t c.service i) (field_at t c.date i) (field_at t c.kind i) d h)) (IsTrimmed-field t c.service i trimmed)

@@ -7,18 +7,19 @@ use Rattle.csv_rows.specs.declared.feed_tables.FeedFault.{FeedFault}
 use Rattle.csv_rows.specs.declared.feed_tables.FeedFault.TheVariants as fault
 use Rattle.csv_rows.specs.declared.loading.Loaded.{Loaded}
 use Rattle.csv_rows.specs.declared.limits.Limits.{Limits}
-use Rattle.csv_rows.specs.FeedTables.{path_of, rank_of, unread_of, is_unread}
-use Rattle.csv_rows.specs.Loading.{loaded_file}
+use Rattle.csv_rows.specs.FeedTables.{path_of, rank_of, unread_of, is_unread, IsFaultOf}
+use Rattle.csv_rows.specs.Loading.{loaded_file, load_in, loaded_rows}
 use Rattle.service_days.specs.declared.periods.Period.{Period}
 use Rattle.service_days.specs.declared.exceptions.Exception.{Exception}
 use Rattle.csv_rows.specs.Tables.{row_count}
 use Rattle.service_days.specs.Numbered.{AreNumbered}
 use Rattle.service_days.specs.Services.{ServiceParts, runs}
-use Rattle.service_days.specs.Calendars.{Calendars, RunsBy, is_missing, rows_of, and_then, both_of, calendar_from, dates_from, calendars_from, load_in, calendars_in, IsCalendar, AreDates, MayBeUnread}
+use Rattle.csv_rows.specs.RowFaults.{and_then}
+use Rattle.service_days.specs.Calendars.{Calendars, RunsBy, is_missing, both_of, calendar_from, dates_from, calendars_from, calendars_in, IsCalendar, AreDates}
 use Rattle.service_days.proofs.ActiveLemmas.{runs_is}
 
 -- the table that could not be read is not the calendar
-read_calendar : (f : FeedFault) → MayBeUnread table.CalendarDates f → is_unread (unread_of f) table.Calendar ≡ false
+read_calendar : (f : FeedFault) → IsFaultOf table.CalendarDates f → is_unread (unread_of f) table.Calendar ≡ false
 read_calendar (fault.Read t) e = ap (λ k. rank_of k == 5) e
 read_calendar (fault.TooLong t) e = refl
 read_calendar (fault.MissingTable t) e = refl
@@ -31,7 +32,7 @@ read_calendar fault.FrequencyRows e = refl
 read_calendar (fault.TooManyRows t n) e = refl
 read_calendar fault.NoMemory e = refl
 
-same_load : (m : Folder) (folder : List ℕ) (limits : Limits) (f : FeedFault) → MayBeUnread table.CalendarDates f
+same_load : (m : Folder) (folder : List ℕ) (limits : Limits) (f : FeedFault) → IsFaultOf table.CalendarDates f
     → load_in m folder limits (unread_of f) table.Calendar ≡ load_in m folder limits None table.Calendar
 same_load m folder limits f e =
     ap (λ b. if b then Err (fault.Read table.Calendar) else loaded_file limits table.Calendar (file_at m (path_of folder table.Calendar))) (read_calendar f e)
@@ -66,7 +67,7 @@ calendar_first (Some m) folder limits f h = λ free.
 -- and then that of the exceptions
 pub dates_first : (files : Option Folder) (folder : List ℕ) (limits : Limits) (f : FeedFault) (missing : Bool) (ids : List (List ℕ)) (periods : List Period)
     → IfSome files (λ m. IsCalendar (calendar_from (load_in m folder limits None table.Calendar)) missing ids periods)
-    → MayBeUnread table.CalendarDates f
+    → IsFaultOf table.CalendarDates f
     → IfSome files (λ m. f ≢ fault.NoMemory → dates_from (load_in m folder limits (unread_of f) table.CalendarDates) ≡ Err f)
     → IfSome files (λ m. f ≢ fault.NoMemory → calendars_in m folder limits (unread_of f) ≡ Err f)
 unfolding calendars_in
@@ -102,7 +103,7 @@ module _ (files : Option Folder) (folder : List ℕ) (limits : Limits) (missing 
       none_in (Some m) h k = λ free.
           let w = both_here m h k in
           let b : (is_missing w.0 && is_missing w.1) ≡ true = sym (ap₂ (λ a b. a && b) w.3.0 w.4.0) ∙ e in
-          w.2 ∙ ap (λ b. if b then Err (fault.MissingTable table.Calendar) else Ok (record { calendar = rows_of w.0; dates = rows_of w.1 })) b
+          w.2 ∙ ap (λ b. if b then Err (fault.MissingTable table.Calendar) else Ok (record { calendar = loaded_rows w.0; dates = loaded_rows w.1 })) b
 
   -- services run as the tables say
   pub services_here : (s : ServiceParts) → s ≡ record { ids = ids'; periods = periods; exceptions = exceptions }
@@ -118,14 +119,14 @@ module _ (files : Option Folder) (folder : List ℕ) (limits : Limits) (missing 
       there_in None h k = tt
       there_in (Some m) h k =
           let w = both_here m h k in
-          let tables : Calendars = record { calendar = rows_of w.0; dates = rows_of w.1 } in
+          let tables : Calendars = record { calendar = loaded_rows w.0; dates = loaded_rows w.1 } in
           let b : (is_missing w.0 && is_missing w.1) ≡ false = sym (ap₂ (λ a b. a && b) w.3.0 w.4.0) ∙ e in
           let found = w.2 ∙ ap (λ b. if b then Err (fault.MissingTable table.Calendar) else Ok tables) b in
           let P : Result Calendars FeedFault → Type 0 = λ r. IsOkAnd r (RunsBy (runs s)) in
-          let Q : List (List ℕ) → Type 0 = λ before. AreNumbered (rows_of w.1) (row_count (rows_of w.1)) before ids' exceptions in
+          let Q : List (List ℕ) → Type 0 = λ before. AreNumbered (loaded_rows w.1) (row_count (loaded_rows w.1)) before ids' exceptions in
           subst P (sym found) (λ service day.
           ap (λ (x : ServiceParts). runs x service day) (same ∙ ap (λ p. record { ids = ids'; periods = p; exceptions = exceptions }) w.3.2)
-          ∙ runs_is (rows_of w.0) (rows_of w.1) ids' exceptions w.3.3 (subst Q w.3.1 w.4.1) service day)
+          ∙ runs_is (loaded_rows w.0) (loaded_rows w.1) ids' exceptions w.3.3 (subst Q w.3.1 w.4.1) service day)
 
 pub both_true : (a b : Bool) → a ≡ true → b ≡ true → (a && b) ≡ true
 both_true true b h k = k

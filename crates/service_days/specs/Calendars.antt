@@ -1,18 +1,18 @@
 -- The calendars of a feed, and on which days a service is active (GTFS Schedule reference).
-use Rattle.std.specs.Prelude.{◌≡◌, ℕ, ℤ, ◌&&◌, ◌||◌, ◌⊎◌, not, Bool, true, false, List, [], Option, None, Some, Result, Ok, Err, if◌then◌else◌}
+use Rattle.std.specs.Prelude.{◌≡◌, ℕ, ℤ, ◌&&◌, ◌||◌, not, Bool, true, false, List, Option, None, Result, Ok, Err, IfSome, if◌then◌else◌}
 use Rattle.csv_rows.specs.declared.feed_tables.Table.{Table}
 use Rattle.csv_rows.specs.declared.feed_tables.Table.TheVariants.{Calendar, CalendarDates}
 use Rattle.csv_rows.specs.declared.feed_tables.FeedFault.{FeedFault}
-use Rattle.csv_rows.specs.declared.feed_tables.FeedFault.TheVariants.{Read, MissingTable}
+use Rattle.csv_rows.specs.declared.feed_tables.FeedFault.TheVariants.{MissingTable}
 use Rattle.csv_rows.specs.declared.loading.Loaded.{Loaded}
 use Rattle.csv_rows.specs.declared.loading.Loaded.TheVariants.{Found}
 use Rattle.csv_rows.specs.declared.limits.Limits.{Limits}
-use Rattle.file_ports.specs.Ports.{Folder, file_at}
+use Rattle.file_ports.specs.Ports.{Folder}
 use Rattle.csv_rows.specs.declared.columns.Column.TheVariants.{ServiceId}
-use Rattle.csv_rows.specs.FeedTables.{path_of}
+use Rattle.csv_rows.specs.FeedTables.{table_of_fault}
 use Rattle.csv_rows.specs.First.{first_below, any_below}
-use Rattle.csv_rows.specs.Loading.{load_of}
-use Rattle.csv_rows.specs.RowFaults.{repeated_id}
+use Rattle.csv_rows.specs.Loading.{load_in, loaded_rows}
+use Rattle.csv_rows.specs.RowFaults.{and_then, unless, repeated_id}
 use Rattle.csv_rows.specs.Tables.{row_count, field}
 use Rattle.service_days.specs.Periods.{runs_in_row, service_ids, periods_of, calendar_fault}
 use Rattle.service_days.specs.declared.periods.Period.{Period}
@@ -40,10 +40,6 @@ pub record Calendars : Type 0 where
 abbrev pub RunsBy : (List ℕ → ℤ → Bool) → Calendars → Type 0
 RunsBy runs c = (service : List ℕ) (day : ℤ) → runs service day ≡ is_active c.calendar c.dates service day
 
-abbrev pub rows_of : Loaded → List (List (List ℕ))
-rows_of (Found t) = t
-rows_of _ = []
-
 -- a table whose file has no record counts as absent
 abbrev pub is_missing : Loaded → Bool
 is_missing (Found t) = false
@@ -57,16 +53,6 @@ abbrev pub fault_of_dates : Loaded → Option FeedFault
 fault_of_dates (Found t) = dates_fault t
 fault_of_dates _ = None
 
--- what comes next, where there is no fault so far
-abbrev pub and_then : {A B : Type 0} → Result A FeedFault → (A → Result B FeedFault) → Result B FeedFault
-and_then (Ok a) next = next a
-and_then (Err fault) next = Err fault
-
--- the value, unless there is a fault
-abbrev pub unless : {A : Type 0} → Option FeedFault → A → Result A FeedFault
-unless None a = Ok a
-unless (Some fault) a = Err fault
-
 -- each table by what was loaded of it
 abbrev pub calendar_from : Result Loaded FeedFault → Result Loaded FeedFault
 calendar_from loaded = and_then loaded (λ l. unless (fault_of_calendar l) l)
@@ -78,15 +64,11 @@ dates_from loaded = and_then loaded (λ l. unless (fault_of_dates l) l)
 abbrev pub both_of : Loaded → Loaded → Result Calendars FeedFault
 both_of calendar dates =
     if is_missing calendar && is_missing dates then Err (MissingTable Calendar)
-    else Ok (record { calendar = rows_of calendar; dates = rows_of dates })
+    else Ok (record { calendar = loaded_rows calendar; dates = loaded_rows dates })
 
 -- the tables one after the other
 abbrev pub calendars_from : (calendar dates : Result Loaded FeedFault) → Result Calendars FeedFault
 calendars_from calendar dates = and_then calendar (λ c. and_then dates (λ d. both_of c d))
-
--- what a folder holds of a table, where at most one table could not be read
-abbrev pub load_in : Folder → List ℕ → Limits → Option Table → Table → Result Loaded FeedFault
-load_in files folder limits unread table = load_of unread limits table (file_at files (path_of folder table))
 
 -- the calendars of a folder, or the first of their faults
 unfoldable pub calendars_in : Folder → List ℕ → Limits → Option Table → Result Calendars FeedFault
@@ -96,20 +78,20 @@ calendars_in files folder limits unread =
 -- what was read of each table
 abbrev pub IsCalendar : Result Loaded FeedFault → Bool → List (List ℕ) → List Period → Type 0
 IsCalendar (Ok l) missing ids periods =
-    (missing ≡ is_missing l) × (ids ≡ service_ids (rows_of l)) × (periods ≡ periods_of (rows_of l)) × AreDistinctRows (rows_of l)
+    (missing ≡ is_missing l) × (ids ≡ service_ids (loaded_rows l)) × (periods ≡ periods_of (loaded_rows l)) × AreDistinctRows (loaded_rows l)
 IsCalendar (Err fault) missing ids periods = ⊥
 
 abbrev pub AreDates : Result Loaded FeedFault → List (List ℕ) → Bool → List (List ℕ) → List Exception → Type 0
 AreDates (Ok l) before missing ids exceptions =
-    (missing ≡ is_missing l) × AreNumbered (rows_of l) (row_count (rows_of l)) before ids exceptions
+    (missing ≡ is_missing l) × AreNumbered (loaded_rows l) (row_count (loaded_rows l)) before ids exceptions
 AreDates (Err fault) before missing ids exceptions = ⊥
 
--- the fault may be that this table could not be read, but no other
-abbrev pub MayBeUnread : Table → FeedFault → Type 0
-MayBeUnread table (Read t) = t ≡ table
-MayBeUnread table _ = Unit {0}
+-- the two tables
+abbrev pub IsCalendarTable : Table → Type 0
+IsCalendarTable Calendar = Unit {0}
+IsCalendarTable CalendarDates = Unit {0}
+IsCalendarTable _ = ⊥
 
--- it may be that one of the two tables could not be read
+-- it is in one of these, or there was no memory
 abbrev pub IsCalendarFault : FeedFault → Type 0
-IsCalendarFault (Read t) = (t ≡ Calendar) ⊎ (t ≡ CalendarDates)
-IsCalendarFault _ = Unit {0}
+IsCalendarFault fault = IfSome (table_of_fault fault) IsCalendarTable

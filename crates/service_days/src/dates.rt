@@ -1,7 +1,8 @@
 //! The exceptions of `calendar_dates.txt`.
-ghost use Rattle.std.specs.Prelude.{◌≡◌, ◌≢◌, ◌<◌, ◌+◌, ◌-◌, ◌^◌, None, Some, Ok, Err, IfOk, IfErr, OnOk, length};
+ghost use Rattle.std.specs.Prelude.{◌≡◌, ◌≢◌, ◌<◌, ◌+◌, ◌-◌, ◌^◌, None, Some, Ok, Err, IfOk, IfErr, IfSome, OnOk, length};
+ghost use Rattle.csv_rows.specs.declared.feed_tables.Table.TheVariants.{CalendarDates as DatesTable};
 ghost use Rattle.csv_rows.specs.First.{first_below};
-ghost use Rattle.csv_rows.specs.FeedTables.{unread_of};
+ghost use Rattle.csv_rows.specs.FeedTables.{unread_of, IsFaultOf};
 ghost use Rattle.csv_rows.specs.Tables.{row_count};
 ghost use Rattle.service_days.specs.Dates.{date_columns, date_in, bad_date, missing_in};
 
@@ -38,7 +39,8 @@ pub(crate) fn date_columns(rows: &Rows) -> DateColumns
 
 /// The first required column that stands nowhere in the header.
 pub(crate) fn missing_column(columns: DateColumns) -> Option<FeedFault>
-    ensures { result ≡ missing_in columns }
+    ensures fault { result ≡ missing_in columns }
+    ensures own { IfSome result (IsFaultOf DatesTable) }
 {
     lack(Table::CalendarDates, Column::ServiceId, columns.service)
         .or(lack(Table::CalendarDates, Column::Date, columns.date))
@@ -56,6 +58,7 @@ pub(crate) fn read_exception(
         ≡ Ok (record { service = e.service.now; day = e.day; adds = e.adds })) }
     ensures fault { IfErr result (λ f. date_in rows.now columns row ≡ Err f) }
     ensures content { IfErr result (λ f. unread_of f ≡ None) }
+    ensures own { IfErr result (IsFaultOf DatesTable) }
 {
     let line = rows.line(row);
     let Some(service) = read_name(rows.field_at(row, columns.service)) else {

@@ -1,9 +1,10 @@
 //! Days that are added to services or removed, by the numbers of the services.
 ghost use Rattle.std.specs.Prelude.{◌≡◌, ◌≢◌, ◌<◌, ◌+◌, ◌-◌, ◌^◌, ◌||◌, Bool, ℕ, [], None, Some, IfOk, IfErr, OnOk, length};
+ghost use Rattle.csv_rows.specs.declared.feed_tables.Table.TheVariants.{CalendarDates as DatesTable};
 ghost use Rattle.csv_rows.specs.First.{first_below};
-ghost use Rattle.csv_rows.specs.FeedTables.{unread_of};
+ghost use Rattle.csv_rows.specs.FeedTables.{unread_of, IsFaultOf};
 ghost use Rattle.csv_rows.specs.Tables.{row_count, place_in};
-ghost use Rattle.plan_model.specs.NameLists.{Adds};
+ghost use Rattle.plan_model.specs.NameLists.{Adds, IsTrimmed};
 ghost use Rattle.service_days.specs.declared.exceptions.Exception.{Exception};
 ghost use Rattle.service_days.specs.Dates.{date_columns, bad_date, dates_fault};
 ghost use Rattle.service_days.specs.Exceptions.{same, has};
@@ -48,7 +49,8 @@ fn insert(exceptions: &mut IndexSet<Exception>, exception: Exception) -> Result<
 
 /// The number of a service, which is added where it is new.
 fn number_of(alloc: Global, ids: &mut Ids, service: &str) -> Result<u32, NoMemory>
-    requires { length ids.old < 2 ^ 32 - 1 }
+    requires room { length ids.old < 2 ^ 32 - 1 }
+    requires trimmed { IsTrimmed service.now }
     ensures added { OnOk result ((b : Bool) × Adds ids.old ids.new service.now b) }
     ensures number { IfOk result (λ n. place_in service.now ids.new ≡ Some n) }
 {
@@ -66,7 +68,8 @@ fn add(
     exceptions: &mut IndexSet<Exception>,
     row: ServiceDate<'_>,
 ) -> Result<(), NoMemory>
-    requires { length ids.old < 2 ^ 32 - 1 }
+    requires room { length ids.old < 2 ^ 32 - 1 }
+    requires trimmed { IsTrimmed row.service.now }
     ensures { OnOk result (AddsDate ids.old ids.new exceptions.old.keys exceptions.new.keys
         (record { service = row.entry.service.now; day = row.entry.day; adds = row.entry.adds })) }
 {
@@ -96,6 +99,7 @@ fn read_rows(
     ensures fault { IfErr result (λ f. f ≢ FeedFault.NoMemory
         → first_below (bad_date rows.now) (row_count rows.now) ≡ Some f) }
     ensures content { IfErr result (λ f. unread_of f ≡ None) }
+    ensures own { IfErr result (IsFaultOf DatesTable) }
 {
     let mut numbered = Numbered {
         ids,
@@ -122,6 +126,7 @@ pub(crate) fn read_exceptions(alloc: Global, rows: &Rows, ids: Ids) -> Result<Nu
     ensures none { OnOk result (dates_fault rows.now ≡ None) }
     ensures fault { IfErr result (λ f. f ≢ FeedFault.NoMemory → dates_fault rows.now ≡ Some f) }
     ensures content { IfErr result (λ f. unread_of f ≡ None) }
+    ensures own { IfErr result (IsFaultOf DatesTable) }
 {
     let columns = date_columns(rows);
     if let Some(fault) = missing_column(columns) {

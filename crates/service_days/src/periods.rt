@@ -1,7 +1,8 @@
 //! The periods of `calendar.txt`.
-ghost use Rattle.std.specs.Prelude.{◌≡◌, ◌≢◌, ◌<◌, ◌≤◌, ◌^◌, length, None, Some, Ok, Err, IfOk, IfErr, OnOk};
+ghost use Rattle.std.specs.Prelude.{◌≡◌, ◌≢◌, ◌<◌, ◌≤◌, ◌^◌, length, None, Some, Ok, Err, IfOk, IfErr, IfSome, OnOk};
+ghost use Rattle.csv_rows.specs.declared.feed_tables.Table.TheVariants.{Calendar as CalendarTable};
 ghost use Rattle.csv_rows.specs.First.{first_below};
-ghost use Rattle.csv_rows.specs.FeedTables.{unread_of};
+ghost use Rattle.csv_rows.specs.FeedTables.{unread_of, IsFaultOf};
 ghost use Rattle.csv_rows.specs.Tables.{row_count};
 ghost use Rattle.service_days.specs.Calendars.{AreDistinctRows};
 ghost use Rattle.service_days.specs.Periods.{flag_of, runs_by, period_columns, week_in, period_in, bad_period, missing_in, service_ids, periods_of, calendar_fault};
@@ -105,7 +106,8 @@ fn period_columns(rows: &Rows) -> PeriodColumns
 
 /// The first required column that stands nowhere in the header.
 fn missing_column(columns: PeriodColumns) -> Option<FeedFault>
-    ensures { result ≡ missing_in columns }
+    ensures fault { result ≡ missing_in columns }
+    ensures own { IfSome result (IsFaultOf CalendarTable) }
 {
     lack(Table::Calendar, Column::ServiceId, columns.service)
         .or(lack(Table::Calendar, Column::Monday, columns.monday))
@@ -125,6 +127,7 @@ fn read_week(rows: &Rows, columns: PeriodColumns, row: usize) -> Result<Week, Fe
     ensures week { IfOk result (λ w. week_in rows.now columns row ≡ Ok w) }
     ensures fault { IfErr result (λ f. week_in rows.now columns row ≡ Err f) }
     ensures content { IfErr result (λ f. unread_of f ≡ None) }
+    ensures own { IfErr result (IsFaultOf CalendarTable) }
 {
     let line = rows.line(row);
     let Some(monday) = read_flag(rows.field_at(row, columns.monday)) else {
@@ -165,6 +168,7 @@ fn read_period(rows: &Rows, columns: PeriodColumns, row: usize) -> Result<Period
     ensures period { IfOk result (λ p. period_in rows.now columns row ≡ Ok p) }
     ensures fault { IfErr result (λ f. period_in rows.now columns row ≡ Err f) }
     ensures content { IfErr result (λ f. unread_of f ≡ None) }
+    ensures own { IfErr result (IsFaultOf CalendarTable) }
 {
     let line = rows.line(row);
     let Some(_) = read_name(rows.field_at(row, columns.service)) else {
@@ -195,6 +199,7 @@ fn read_periods(
     ensures fault { IfErr result (λ f. f ≢ FeedFault.NoMemory
         → first_below (bad_period rows.now) (row_count rows.now) ≡ Some f) }
     ensures content { IfErr result (λ f. unread_of f ≡ None) }
+    ensures own { IfErr result (IsFaultOf CalendarTable) }
 {
     let mut periods: Vec<Period> = Vec::new(alloc);
     for i in 0..rows.count() {
@@ -220,6 +225,7 @@ pub(crate) fn read_calendar(alloc: Global, rows: &Rows) -> Result<Calendar, Feed
     ensures none { OnOk result (calendar_fault rows.now ≡ None) }
     ensures fault { IfErr result (λ f. f ≢ FeedFault.NoMemory → calendar_fault rows.now ≡ Some f) }
     ensures content { IfErr result (λ f. unread_of f ≡ None) }
+    ensures own { IfErr result (IsFaultOf CalendarTable) }
 {
     let columns = period_columns(rows);
     if let Some(fault) = missing_column(columns) {

@@ -1,13 +1,13 @@
 //! The calendars of a feed, each loaded and read.
 ghost use Rattle.std.specs.Prelude.{◌≡◌, ◌≢◌, ◌≤◌, ◌^◌, ℕ, [], length, None, Some, Ok, Err, IfOk, IfErr, IfSome, IsSome, OnOk};
 ghost use Rattle.csv_rows.specs.declared.feed_tables.Table.TheVariants.{Calendar as CalendarTable, CalendarDates as DatesTable};
-ghost use Rattle.csv_rows.specs.FeedTables.{unread_of};
+ghost use Rattle.csv_rows.specs.FeedTables.{unread_of, IsFaultOf};
 ghost use Rattle.csv_rows.specs.Limits.{AreWithin};
-ghost use Rattle.csv_rows.specs.Loading.{HasAtMost, HasFeedCause, HasFeedPathCause};
+ghost use Rattle.csv_rows.specs.Loading.{HasAtMost, HasFeedCause, HasFeedPathCause, load_in, loaded_rows};
 ghost use Rattle.csv_rows.specs.Tables.{row_count};
 ghost use Rattle.service_days.specs.Periods.{service_ids, periods_of};
 ghost use Rattle.service_days.specs.Numbered.{AreNumbered};
-ghost use Rattle.service_days.specs.Calendars.{is_missing, rows_of, fault_of_calendar, fault_of_dates, calendar_from, dates_from, load_in, IsCalendar, AreDates, AreDistinctRows, MayBeUnread};
+ghost use Rattle.service_days.specs.Calendars.{is_missing, fault_of_calendar, fault_of_dates, calendar_from, dates_from, IsCalendar, AreDates, AreDistinctRows};
 
 use crate::exceptions::{Numbered, read_exceptions};
 use crate::periods::{Calendar, read_calendar};
@@ -66,13 +66,14 @@ fn no_exceptions(alloc: Global, ids: Ids) -> Numbered
 /// The calendar of what is loaded.
 fn calendar_of(alloc: Global, loaded: &Loaded) -> Result<Calendar, FeedFault>
     requires { HasAtMost (2 ^ 20) loaded.now }
-    ensures ids { IfOk result (λ c. c.ids ≡ service_ids (rows_of loaded.now)) }
-    ensures periods { IfOk result (λ c. c.periods.items ≡ periods_of (rows_of loaded.now)) }
-    ensures distinct { OnOk result (AreDistinctRows (rows_of loaded.now)) }
+    ensures ids { IfOk result (λ c. c.ids ≡ service_ids (loaded_rows loaded.now)) }
+    ensures periods { IfOk result (λ c. c.periods.items ≡ periods_of (loaded_rows loaded.now)) }
+    ensures distinct { OnOk result (AreDistinctRows (loaded_rows loaded.now)) }
     ensures few { IfOk result (λ c. length c.ids ≤ 2 ^ 20) }
     ensures none { OnOk result (fault_of_calendar loaded.now ≡ None) }
     ensures fault { IfErr result (λ f. f ≢ FeedFault.NoMemory → fault_of_calendar loaded.now ≡ Some f) }
     ensures content { IfErr result (λ f. unread_of f ≡ None) }
+    ensures own { IfErr result (IsFaultOf CalendarTable) }
 {
     match loaded {
         Loaded::Found(rows) => match read_calendar(alloc, rows) {
@@ -88,11 +89,12 @@ fn calendar_of(alloc: Global, loaded: &Loaded) -> Result<Calendar, FeedFault>
 fn exceptions_of(alloc: Global, loaded: &Loaded, ids: Ids) -> Result<Numbered, FeedFault>
     requires rows { HasAtMost (2 ^ 24) loaded.now }
     requires ids { length ids ≤ 2 ^ 20 }
-    ensures numbered { IfOk result (λ n. AreNumbered (rows_of loaded.now)
-        (row_count (rows_of loaded.now)) ids n.ids n.exceptions.keys) }
+    ensures numbered { IfOk result (λ n. AreNumbered (loaded_rows loaded.now)
+        (row_count (loaded_rows loaded.now)) ids n.ids n.exceptions.keys) }
     ensures none { OnOk result (fault_of_dates loaded.now ≡ None) }
     ensures fault { IfErr result (λ f. f ≢ FeedFault.NoMemory → fault_of_dates loaded.now ≡ Some f) }
     ensures content { IfErr result (λ f. unread_of f ≡ None) }
+    ensures own { IfErr result (IsFaultOf DatesTable) }
 {
     match loaded {
         Loaded::Found(rows) => match read_exceptions(alloc, rows, ids) {
@@ -119,7 +121,7 @@ pub(crate) fn load_calendar<F: Files>(
     ensures fault { IfSome (F.files files.old) (λ m. IfErr result (λ f. f ≢ FeedFault.NoMemory
         → calendar_from (load_in m folder.now limits.now (unread_of f) CalendarTable) ≡ Err f)) }
     ensures few { IfOk result (λ c. length c.calendar.ids ≤ 2 ^ 20) }
-    ensures own { IfErr result (MayBeUnread CalendarTable) }
+    ensures own { IfErr result (IsFaultOf CalendarTable) }
     ensures cause { HasFeedCause (F.faults files.old) (F.faults files.new) result }
     ensures path_cause { HasFeedPathCause (IsSome (F.files files.old)) folder.now
         (F.faults_of files.old) (F.faults_of files.new) result }
@@ -151,7 +153,7 @@ pub(crate) fn load_dates<F: Files>(
         ids d.missing d.numbered.ids d.numbered.exceptions.keys)) }
     ensures fault { IfSome (F.files files.old) (λ m. IfErr result (λ f. f ≢ FeedFault.NoMemory
         → dates_from (load_in m folder.now limits.now (unread_of f) DatesTable) ≡ Err f)) }
-    ensures own { IfErr result (MayBeUnread DatesTable) }
+    ensures own { IfErr result (IsFaultOf DatesTable) }
     ensures cause { HasFeedCause (F.faults files.old) (F.faults files.new) result }
     ensures path_cause { HasFeedPathCause (IsSome (F.files files.old)) folder.now
         (F.faults_of files.old) (F.faults_of files.new) result }

@@ -1,10 +1,14 @@
 //! Small networks, over which the scan and the least worst arrival are compared with values that
-//! were worked out by hand, and with the plain backward pass.
+//! were worked out by hand, and with the plain backward pass; and over which graph files are read
+//! and walked.
 #![tactic(auto)]
 
 ghost use Rattle.std.specs.Prelude.{◌≡◌, ◌≢◌, ℕ, ◌<◌, ◌≤◌, length, ◌+◌, IsTrue, IfOk, IfSome};
 ghost use Rattle.plan_model.specs.Rows.{IsValidRow};
 ghost use Rattle.small_networks.specs.Rides.{IsInRange, Follows, AreChained};
+
+#[cfg(test)]
+mod graph_files;
 
 #[cfg(test)]
 mod tests {

@@ -21,34 +21,41 @@ use std::alloc::Global;
 /// A ride, with its delay in seconds and its arrival.
 #[derive(Clone, Copy, Debug, PartialEq, Eq)]
 pub struct Ridden {
+    /// The leg that was ridden.
     pub leg: Leg,
+    /// Its delay in seconds.
     pub delay: u32,
+    /// When it came in: at the scheduled arrival of its exit and the delay.
     pub arrival: Moment,
 }
 
 /// The rides of a trip, and its arrival at the target.
 #[derive(Drop)]
 pub struct Trace {
+    /// The rides, one after the other. None where source and target are one place.
     pub rides: List<Ridden>,
+    /// When the traveller is at the target: the arrival of the last ride, or the start if there is
+    /// no ride.
     pub arrival: Moment,
 }
 
 /// Why there is no trip with these delays.
 #[derive(Clone, Copy, Debug, PartialEq, Eq)]
 pub enum ReplayFault {
-    /// The delay of this number, from 1 on, is none of its leg's.
+    /// The delay of this number, where the first one is 1, is none of its leg's.
     NotADelay(u32),
-    /// After so many legs another one is taken, and no delay is left.
+    /// After so many rides another leg is taken, and no delay is left.
     TooFew(u32),
-    /// After so many legs the target is reached, and delays are left.
+    /// After so many rides the traveller is at the target, and delays are left.
     TooMany(u32),
-    /// The table of the place has no row for the arrival.
+    /// At the place, with an arrival at the moment, no leg is taken: its table has no row for the
+    /// arrival, or it has no table.
     Stuck(PlaceId, Moment),
     /// There was no memory.
     NoMemory,
 }
 
-// Where the traveller is, since when, which leg is taken next, and how many rides may follow it.
+/// Where the traveller is, since when, which leg is taken next, and how many rides may follow it.
 #[derive(Clone, Copy)]
 struct Stop {
     place: PlaceId,
@@ -57,7 +64,7 @@ struct Stop {
     left: u32,
 }
 
-// The arrival of a leg with a delay, where it can have that delay.
+/// The arrival of a leg with a delay, where it can have that delay.
 fn arrival_of(network: &Network, leg: Leg, delay: u32) -> Option<Moment>
     requires { leg.exit.0 < count network.now }
     ensures { option_map (λ moment. moment.0) result ≡ delayed network.now leg delay }
@@ -72,7 +79,7 @@ fn arrival_of(network: &Network, leg: Leg, delay: u32) -> Option<Moment>
     None
 }
 
-// Where the traveller stands after a leg.
+/// Where the traveller stands after a leg.
 fn stop_after(
     graph: &PlanGraph,
     network: &Network,
@@ -108,7 +115,7 @@ fn stop_after(
     }
 }
 
-// The trip by the graph with these delays, leg by leg.
+/// The trip by the graph with these delays, leg by leg.
 fn follow(
     alloc: Global,
     graph: &PlanGraph,

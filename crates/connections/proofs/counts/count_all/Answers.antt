@@ -1,6 +1,5 @@
-use Rattle.std.proofs.Common.{◌≡◌, length, sym, ap, ◌∙◌, arith}
-use Rattle.std.proofs.lemmas.List.{get_or_default}
-use Rattle.connections.specs.Rides.{run_at, no_run}
+use Rattle.std.proofs.Common.{length, sym, ap, arith}
+use Rattle.connections.specs.Rides.{run_at}
 use Rattle.connections.proofs.CountLemmas.{count-zero, count-next}
 use Rattle.connections.proofs.counts.count_all.Goals as goal
 

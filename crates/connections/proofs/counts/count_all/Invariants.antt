@@ -1,4 +1,4 @@
-use Rattle.std.proofs.Common.{◌≡◌, ◌≤◌, ◌*◌, length}
+use Rattle.std.proofs.Common.{◌≡◌, ◌≤◌, ◌*◌}
 use Rattle.connections.specs.Networks.{ride_count}
 use Rattle.connections.proofs.counts.count_all.Given as goal
 

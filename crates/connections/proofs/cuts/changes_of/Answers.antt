@@ -1,7 +1,6 @@
-use Rattle.std.proofs.Common.{◌≡◌, ◌≤◌, ◌<◌, ◌++◌, ◌∷◌, [], ℕ, List, length, get_or, sym, ap, ◌∙◌, arith, subst}
+use Rattle.std.proofs.Common.{sym, ◌∙◌}
 use Rattle.csv_rows.proofs.ListLemmas.{list_below-zero, list_below-next}
 use Rattle.change_times.specs.Changes.{seconds_of}
-use Rattle.connections.specs.Networks.{AreChanges}
 use Rattle.connections.proofs.ChangeLemmas.{changes-none, changes-next}
 use Rattle.connections.proofs.cuts.changes_of.Goals as goal
 

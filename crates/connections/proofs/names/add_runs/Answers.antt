@@ -1,4 +1,4 @@
-use Rattle.std.proofs.Common.{arith, sym, ap, ◌∙◌, List, ℕ, subst}
+use Rattle.std.proofs.Common.{arith, sym, ◌∙◌, subst}
 use Rattle.connections.specs.Rides.{run_at}
 use Rattle.connections.specs.Networks.{IsRunName}
 use Rattle.connections.proofs.NameLemmas.{run_adds}

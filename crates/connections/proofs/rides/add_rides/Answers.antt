@@ -1,4 +1,4 @@
-use Rattle.std.proofs.Common.{◌≡◌, ◌+◌, ◌++◌, [], ◌∷◌, List, map, true, false, sym, ap, ◌∙◌}
+use Rattle.std.proofs.Common.{◌+◌, ◌++◌, [], ◌∷◌, map, sym, ap, ◌∙◌}
 use Rattle.connections.specs.Joins.{only_if}
 use Rattle.connections.specs.Rides.{steps_below}
 use Rattle.connections.specs.Networks.{ride}

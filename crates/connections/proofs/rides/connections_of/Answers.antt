@@ -1,4 +1,4 @@
-use Rattle.std.proofs.Common.{◌≡◌, sym, ap, ◌∙◌}
+use Rattle.std.proofs.Common.{sym, ap, ◌∙◌}
 use Rattle.connections.specs.Networks.{class_in}
 use Rattle.connections.proofs.ClassLemmas.{class_is}
 use Rattle.connections.proofs.CountLemmas.{rides-zero, rides-next}

@@ -1,4 +1,4 @@
-use Rattle.std.proofs.Common.{◌≡◌, ◌+◌, ◌++◌, [], ◌∷◌, List, sym, ap, ◌∙◌}
+use Rattle.std.proofs.Common.{◌+◌, ◌++◌, [], ◌∷◌, sym, ap, ◌∙◌}
 use Rattle.connections.specs.Joins.{only_if}
 use Rattle.connections.specs.Rides.{day_runs}
 use Rattle.connections.proofs.StepLemmas.{append-nil, goes-on}

@@ -1,4 +1,4 @@
-use Rattle.std.proofs.Common.{◌≡◌, true, false, IsTrue, length, sym, ap, ◌∙◌, arith}
+use Rattle.std.proofs.Common.{length, sym, ap, arith}
 use Rattle.connections.proofs.StepLemmas.{steps-zero, length-next, length-one, length-none}
 use Rattle.connections.proofs.runs.count_rides.Goals as goal
 use Rattle.connections.proofs.runs.count_rides.Goals.{then-leaves, else-leaves}

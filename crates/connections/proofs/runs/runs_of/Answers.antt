@@ -1,4 +1,4 @@
-use Rattle.std.proofs.Common.{◌≡◌, ◌++◌, ◌+◌, ℕ, List, length, sym, ap, ◌∙◌}
+use Rattle.std.proofs.Common.{◌++◌, ◌+◌, List, length, sym, ap, ◌∙◌}
 use Rattle.connections.specs.declared.runs.Run.{Run}
 use Rattle.connections.specs.Rides.{day_runs, runs_below}
 use Rattle.connections.proofs.DayLemmas.{days-zero, days-next}

@@ -1,5 +1,6 @@
 use Rattle.std.proofs.Common.{None, Some, sym, ap, ◌∙◌, arith, length, subst}
-use Rattle.plan_model.specs.NameLists.{Adds}
+use Rattle.plan_model.specs.NameLists.{Adds, IsTrimmed}
+use Rattle.csv_rows.proofs.SpaceLemmas.{IsTrimmed-field}
 use Rattle.csv_rows.specs.declared.feed_tables.FeedFault.TheVariants.{DuplicateKey}
 use Rattle.csv_rows.specs.Tables.{row_count, field_at}
 use Rattle.csv_rows.proofs.FirstLemmas.{first-zero, first-next, first-at}
@@ -13,9 +14,13 @@ loop-i-init c =
     let id = field_at c.args.rows.now c.args.column in
     record { ids = c.new-ids.ensures ∙ sym (list_below-zero id); none = first-zero (repeated_id c.args.table id) }
 
-pub add-requires : goal.add-requires
-add-requires c =
+pub add-requires-clause-room : goal.add-requires-clause-room
+add-requires-clause-room c =
     omega (arith, c.requires.few, ap length c.loop-i.invariant.ids, length-list_below (field_at c.args.rows.now c.args.column) c.loop-i.i)
+
+pub add-requires-clause-trimmed : goal.add-requires-clause-trimmed
+add-requires-clause-trimmed c =
+    subst IsTrimmed (sym c.name_at.ensures) (IsTrimmed-field c.args.rows.now c.args.column c.loop-i.i c.count-i-end.ensures.trimmed)
 
 pub loop-i-preserved : goal.loop-i-preserved
 loop-i-preserved c =

@@ -1,6 +1,4 @@
-use Rattle.std.proofs.Common.{◌≡◌, ◌∙◌, ℕ, List, [], drop, length, Ok, Err, Result, sym, ap, subst}
-use Rattle.std.specs.Prelude.{slice_index_or}
-use Rattle.csv_rows.specs.Tables.{table_of}
+use Rattle.std.proofs.Common.{◌≡◌, ◌∙◌, ℕ, List, drop, Ok, Err, Result, sym, ap, subst}
 use Rattle.plan_model.specs.declared.model.PlaceId.{PlaceId}
 use Rattle.plan_model.specs.declared.model.Moment.{Moment}
 use Rattle.plan_graph.specs.declared.PlanGraph.{PlanGraph}

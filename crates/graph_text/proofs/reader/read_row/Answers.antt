@@ -1,4 +1,4 @@
-use Rattle.std.proofs.Common.{subst, Result, ℕ, ◌+◌, List, []}
+use Rattle.std.proofs.Common.{subst, Result, ◌+◌, []}
 use Rattle.std.specs.Prelude.{slice_index_or}
 use Rattle.graph_text.specs.declared.reader.Reading.{Reading}
 use Rattle.graph_text.specs.declared.reader.TextFault.{TextFault}

@@ -1,9 +1,9 @@
 use Rattle.std.proofs.Common.{None, sym, ap, ◌∙◌, arith}
 use Rattle.csv_rows.specs.Tables.{row_count}
 use Rattle.csv_rows.proofs.FirstLemmas.{first-zero, first-next, first-at}
-use Rattle.gtfs_tables.specs.Faults.{fault_in}
+use Rattle.csv_rows.specs.RowFaults.{fault_in}
 use Rattle.gtfs_tables.specs.Routes.{bad_route, route_at, route_or_none}
-use Rattle.gtfs_tables.proofs.ListLemmas.{list_below-zero, list_below-next}
+use Rattle.csv_rows.proofs.ListLemmas.{list_below-zero, list_below-next}
 use Rattle.gtfs_tables.proofs.RouteLemmas.{route_is}
 use Rattle.gtfs_tables.proofs.routes.read_types.Goals as goal
 

@@ -1,6 +1,6 @@
 use Rattle.std.proofs.Common.{◌≡◌, None}
 use Rattle.csv_rows.specs.First.{first_below}
-use Rattle.gtfs_tables.specs.Lists.{list_below}
+use Rattle.csv_rows.specs.Lists.{list_below}
 use Rattle.gtfs_tables.specs.Routes.{bad_route, route_at, route_or_none}
 use Rattle.gtfs_tables.proofs.routes.read_types.Given as goal
 

@@ -1,9 +1,9 @@
 use Rattle.std.proofs.Common.{None, sym, ap, ◌∙◌, arith}
 use Rattle.csv_rows.specs.Tables.{row_count}
 use Rattle.csv_rows.proofs.FirstLemmas.{first-zero, first-next, first-at}
-use Rattle.gtfs_tables.specs.Faults.{fault_in, value_or}
+use Rattle.csv_rows.specs.RowFaults.{fault_in, value_or}
 use Rattle.gtfs_tables.specs.StopTimes.{bad_time, timed_at, no_row}
-use Rattle.gtfs_tables.proofs.ListLemmas.{list_below-zero, list_below-next}
+use Rattle.csv_rows.proofs.ListLemmas.{list_below-zero, list_below-next}
 use Rattle.gtfs_tables.proofs.TimeLemmas.{timed_is}
 use Rattle.gtfs_tables.proofs.stop_times.read_timed_rows.Goals as goal
 

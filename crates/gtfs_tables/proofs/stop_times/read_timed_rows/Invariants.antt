@@ -1,7 +1,7 @@
 use Rattle.std.proofs.Common.{◌≡◌, None}
 use Rattle.csv_rows.specs.First.{first_below}
-use Rattle.gtfs_tables.specs.Faults.{value_or}
-use Rattle.gtfs_tables.specs.Lists.{list_below}
+use Rattle.csv_rows.specs.RowFaults.{value_or}
+use Rattle.csv_rows.specs.Lists.{list_below}
 use Rattle.gtfs_tables.specs.StopTimes.{bad_time, timed_at, no_row}
 use Rattle.gtfs_tables.proofs.stop_times.read_timed_rows.Given as goal
 

@@ -1,7 +1,7 @@
 use Rattle.std.proofs.Common.{None, ap, arith}
 use Rattle.csv_rows.specs.Tables.{row_count}
 use Rattle.csv_rows.proofs.FirstLemmas.{first-zero, first-next, first-at}
-use Rattle.gtfs_tables.specs.Faults.{fault_in}
+use Rattle.csv_rows.specs.RowFaults.{fault_in}
 use Rattle.gtfs_tables.specs.Stops.{bad_stop}
 use Rattle.gtfs_tables.proofs.StopLemmas.{stop_is}
 use Rattle.gtfs_tables.proofs.stops.check_stops.Goals as goal

@@ -2,7 +2,7 @@ use Rattle.std.proofs.Common.{None, Some, sym, ◌∙◌, arith}
 use Rattle.csv_rows.specs.Tables.{row_count}
 use Rattle.csv_rows.proofs.FirstLemmas.{first-zero, first-next, first-at, none-each}
 use Rattle.gtfs_tables.specs.Stops.{bad_stop, unknown_parent, place_from, stop_ids, parent_of}
-use Rattle.gtfs_tables.proofs.ListLemmas.{list_below-zero, list_below-next}
+use Rattle.csv_rows.proofs.ListLemmas.{list_below-zero, list_below-next}
 use Rattle.gtfs_tables.proofs.StopLemmas.{unknown_is, place_is_from}
 use Rattle.gtfs_tables.proofs.stops.read_places.Goals as goal
 

@@ -1,6 +1,6 @@
 use Rattle.std.proofs.Common.{◌≡◌, None}
 use Rattle.csv_rows.specs.First.{first_below}
-use Rattle.gtfs_tables.specs.Lists.{list_below}
+use Rattle.csv_rows.specs.Lists.{list_below}
 use Rattle.gtfs_tables.specs.Stops.{unknown_parent, place_from, stop_ids, parent_of}
 use Rattle.gtfs_tables.proofs.stops.read_places.Given as goal
 

@@ -1,25 +1,25 @@
-use Rattle.std.proofs.Common.{None, sym, ap, ◌∙◌}
+use Rattle.std.proofs.Common.{None, length, sym, ap, ◌∙◌, arith}
 use Rattle.csv_rows.specs.declared.columns.Column.TheVariants.{StopId}
 use Rattle.csv_rows.specs.declared.feed_tables.Table.TheVariants.{Stops}
 use Rattle.csv_rows.specs.Tables.{place_of, field_at, row_count}
 use Rattle.gtfs_tables.specs.declared.stops.StopColumns.{StopColumns}
-use Rattle.gtfs_tables.specs.Faults.{lack}
-use Rattle.gtfs_tables.specs.Lists.{list_below}
+use Rattle.csv_rows.specs.RowFaults.{lack}
+use Rattle.csv_rows.specs.Lists.{list_below}
 use Rattle.gtfs_tables.specs.Stops.{stop_ids, parent_of, place_from, stops_fault}
-use Rattle.gtfs_tables.proofs.RowLemmas.{or_first, or_then, named_is, ids_fault_is}
-use Rattle.gtfs_tables.proofs.ListLemmas.{same_length}
+use Rattle.csv_rows.proofs.RowLemmas.{or_first, or_then, named_is, ids_fault_is}
+use Rattle.csv_rows.proofs.ListLemmas.{same_length, length-list_below}
 use Rattle.gtfs_tables.proofs.StopLemmas.{stops_named}
 use Rattle.gtfs_tables.proofs.stops.read_stops.Goals as goal
 
 pub returns-in-Some-clause-fault : goal.returns-in-Some-clause-fault
 unfolding stops_fault
 returns-in-Some-clause-fault c = λ free.
-    or_first _ _ _ (sym (ap (λ (k : StopColumns). lack Stops StopId k.id) c.stop_columns-columns.ensures) ∙ sym c.in-Some.ensures)
+    or_first _ _ _ (sym (ap (λ (k : StopColumns). lack Stops StopId k.id) c.stop_columns-columns.ensures) ∙ sym c.in-Some.ensures.fault)
 
 pub returns-in-Err-clause-fault : goal.returns-in-Err-clause-fault
 unfolding stops_fault
 returns-in-Err-clause-fault c = λ free.
-    let has = sym (ap (λ (k : StopColumns). lack Stops StopId k.id) c.stop_columns-columns.ensures) ∙ sym c.in_default.ensures in
+    let has = sym (ap (λ (k : StopColumns). lack Stops StopId k.id) c.stop_columns-columns.ensures) ∙ sym c.in_default.ensures.fault in
     or_then _ _ _ has (or_first _ _ _ c.in-Err.ensures.fault)
 
 pub read_ids-requires-clause-named : goal.read_ids-requires-clause-named
@@ -31,7 +31,7 @@ pub returns-in-Err-read_ids-clause-fault : goal.returns-in-Err-read_ids-clause-f
 unfolding stops_fault
 returns-in-Err-read_ids-clause-fault c = λ free.
     let t = c.args.rows.now in
-    let has = sym (ap (λ (k : StopColumns). lack Stops StopId k.id) c.stop_columns-columns.ensures) ∙ sym c.in_default.ensures in
+    let has = sym (ap (λ (k : StopColumns). lack Stops StopId k.id) c.stop_columns-columns.ensures) ∙ sym c.in_default.ensures.fault in
     let place = ap (λ (k : StopColumns). k.id) c.stop_columns-columns.ensures in
     or_then _ _ _ has (or_then _ _ _ c.in-Ok.ensures.none
     (or_first _ _ _ (ids_fault_is Stops t c.stop_columns-columns.result.id (place_of StopId t) _ place (c.in-Err-read_ids.ensures.fault free))))
@@ -40,7 +40,7 @@ pub returns-in-Ok-read_places-clause-none : goal.returns-in-Ok-read_places-claus
 unfolding stops_fault
 returns-in-Ok-read_places-clause-none c =
     let t = c.args.rows.now in
-    let has = sym (ap (λ (k : StopColumns). lack Stops StopId k.id) c.stop_columns-columns.ensures) ∙ sym c.in_default.ensures in
+    let has = sym (ap (λ (k : StopColumns). lack Stops StopId k.id) c.stop_columns-columns.ensures) ∙ sym c.in_default.ensures.fault in
     let place = ap (λ (k : StopColumns). k.id) c.stop_columns-columns.ensures in
     or_then _ _ _ has (or_then _ _ _ c.in-Ok.ensures.none
     (or_then _ _ _ (ids_fault_is Stops t c.stop_columns-columns.result.id (place_of StopId t) None place c.in-Ok-read_ids.ensures.none) c.in-Ok-read_places.ensures.none))
@@ -49,7 +49,7 @@ pub returns-in-Err-read_places-clause-fault : goal.returns-in-Err-read_places-cl
 unfolding stops_fault
 returns-in-Err-read_places-clause-fault c = λ free.
     let t = c.args.rows.now in
-    let has = sym (ap (λ (k : StopColumns). lack Stops StopId k.id) c.stop_columns-columns.ensures) ∙ sym c.in_default.ensures in
+    let has = sym (ap (λ (k : StopColumns). lack Stops StopId k.id) c.stop_columns-columns.ensures) ∙ sym c.in_default.ensures.fault in
     let place = ap (λ (k : StopColumns). k.id) c.stop_columns-columns.ensures in
     or_then _ _ _ has (or_then _ _ _ c.in-Ok.ensures.none
     (or_then _ _ _ (ids_fault_is Stops t c.stop_columns-columns.result.id (place_of StopId t) None place c.in-Ok-read_ids.ensures.none)
@@ -59,6 +59,11 @@ pub returns-in-Ok-read_places-clause-sized : goal.returns-in-Ok-read_places-clau
 returns-in-Ok-read_places-clause-sized c =
     let t = c.args.rows.now in
     same_length (λ i. place_from (stop_ids t) (parent_of t i) i) (field_at t c.stop_columns-columns.result.id) (row_count t) _ _ c.in-Ok-read_places.ensures.places c.in-Ok-read_ids.ensures.ids
+
+pub returns-in-Ok-read_places-clause-few : goal.returns-in-Ok-read_places-clause-few
+returns-in-Ok-read_places-clause-few c =
+    let t = c.args.rows.now in
+    omega (arith, ap length c.in-Ok-read_ids.ensures.ids, length-list_below (field_at t c.stop_columns-columns.result.id) (row_count t), c.requires)
 
 pub returns-in-Ok-read_places-clause-sound : goal.returns-in-Ok-read_places-clause-sound
 returns-in-Ok-read_places-clause-sound c =

@@ -1,6 +1,6 @@
 use Rattle.std.proofs.Common.{None, Some, sym, ap, ◌∙◌, ◌+◌}
 use Rattle.csv_rows.specs.declared.feed_tables.FeedFault.TheVariants.{BackwardTime}
-use Rattle.gtfs_tables.proofs.RowLemmas.{or_then}
+use Rattle.csv_rows.proofs.RowLemmas.{or_then}
 use Rattle.gtfs_tables.proofs.TimeLemmas.{backward_here}
 use Rattle.gtfs_tables.proofs.timetable.in_order.Goals as goal
 

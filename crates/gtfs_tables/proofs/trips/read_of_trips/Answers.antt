@@ -3,9 +3,9 @@ use Rattle.csv_rows.specs.Tables.{row_count}
 use Rattle.csv_rows.proofs.FirstLemmas.{first-zero, first-next, first-at}
 use Rattle.plan_model.specs.NameLists.{texts}
 use Rattle.plan_model.proofs.Texts.{texts-push}
-use Rattle.gtfs_tables.specs.Faults.{fault_in}
+use Rattle.csv_rows.specs.RowFaults.{fault_in}
 use Rattle.gtfs_tables.specs.Trips.{bad_trip, trip_at, trip_or_none}
-use Rattle.gtfs_tables.proofs.ListLemmas.{list_below-zero, list_below-next}
+use Rattle.csv_rows.proofs.ListLemmas.{list_below-zero, list_below-next}
 use Rattle.gtfs_tables.proofs.TripLemmas.{trip_is}
 use Rattle.gtfs_tables.proofs.trips.read_of_trips.Goals as goal
 

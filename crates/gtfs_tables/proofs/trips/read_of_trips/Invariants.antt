@@ -1,7 +1,7 @@
 use Rattle.std.proofs.Common.{◌≡◌, None, slice_index_or}
 use Rattle.csv_rows.specs.First.{first_below}
 use Rattle.plan_model.specs.NameLists.{texts}
-use Rattle.gtfs_tables.specs.Lists.{list_below}
+use Rattle.csv_rows.specs.Lists.{list_below}
 use Rattle.gtfs_tables.specs.Trips.{bad_trip, trip_at, trip_or_none}
 use Rattle.gtfs_tables.proofs.trips.read_of_trips.Given as goal
 

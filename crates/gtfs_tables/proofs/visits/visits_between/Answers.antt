@@ -1,6 +1,6 @@
 use Rattle.std.proofs.Common.{◌+◌, sym, ◌∙◌}
 use Rattle.gtfs_tables.specs.Visits.{visit_at}
-use Rattle.gtfs_tables.proofs.ListLemmas.{list_below-zero, list_below-next}
+use Rattle.csv_rows.proofs.ListLemmas.{list_below-zero, list_below-next}
 use Rattle.gtfs_tables.proofs.visits.visits_between.Goals as goal
 
 pub loop-p-init : goal.loop-p-init

@@ -4,7 +4,7 @@ use Rattle.csv_rows.specs.Tables.{row_count}
 use Rattle.csv_rows.proofs.FirstLemmas.{first-zero, first-next, first-at}
 use Rattle.service_days.specs.Dates.{ServiceDate, bad_date, date_of, date_or_none}
 use Rattle.service_days.specs.Numbered.{AddsDate}
-use Rattle.service_days.proofs.DateLemmas.{date_is}
+use Rattle.service_days.proofs.DateLemmas.{date_is, service_trimmed}
 use Rattle.service_days.proofs.NumberLemmas.{numbered_none, numbered_next, length-adds}
 use Rattle.service_days.proofs.exceptions.read_rows.Goals as goal
 
@@ -23,6 +23,10 @@ returns-in-Err-clause-fault c = λ free.
     let t = c.args.rows.now in
     first-at (bad_date t) c.loop-i.i (row_count t) c.in-Err.fault (omega arith) c.loop-i.invariant.none
     (ap fault_in (date_is t c.args.columns c.loop-i.i _ c.requires.columns c.in-Err.ensures.fault))
+
+pub add-requires-clause-trimmed : goal.add-requires-clause-trimmed
+add-requires-clause-trimmed c =
+    service_trimmed c.args.rows.now c.args.columns c.loop-i.i _ c.count-i-end.ensures.trimmed c.in-Ok.ensures.exception
 
 pub loop-i-preserved : goal.loop-i-preserved
 loop-i-preserved c =

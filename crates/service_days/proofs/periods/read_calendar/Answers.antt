@@ -11,12 +11,12 @@ use Rattle.service_days.proofs.periods.read_calendar.Goals as goal
 pub returns-in-Some-clause-fault : goal.returns-in-Some-clause-fault
 unfolding calendar_fault
 returns-in-Some-clause-fault c = λ free.
-    or_first _ _ _ (sym (ap missing_in c.period_columns-columns.ensures) ∙ sym c.in-Some.ensures)
+    or_first _ _ _ (sym (ap missing_in c.period_columns-columns.ensures) ∙ sym c.in-Some.ensures.fault)
 
 pub returns-in-Err-clause-fault : goal.returns-in-Err-clause-fault
 unfolding calendar_fault
 returns-in-Err-clause-fault c = λ free.
-    let has = sym (ap missing_in c.period_columns-columns.ensures) ∙ sym c.in_default.ensures in
+    let has = sym (ap missing_in c.period_columns-columns.ensures) ∙ sym c.in_default.ensures.fault in
     or_then _ _ _ has (or_first _ _ _ (c.in-Err.ensures.fault free))
 
 pub read_ids-requires-clause-named : goal.read_ids-requires-clause-named
@@ -28,7 +28,7 @@ pub returns-in-Ok-read_ids-clause-none : goal.returns-in-Ok-read_ids-clause-none
 unfolding calendar_fault
 returns-in-Ok-read_ids-clause-none c =
     let t = c.args.rows.now in
-    let has = sym (ap missing_in c.period_columns-columns.ensures) ∙ sym c.in_default.ensures in
+    let has = sym (ap missing_in c.period_columns-columns.ensures) ∙ sym c.in_default.ensures.fault in
     let place = ap (λ (k : PeriodColumns). k.service) c.period_columns-columns.ensures in
     or_then _ _ _ has (or_then _ _ _ c.in-Ok.ensures.none (ids_fault_is Calendar t c.period_columns-columns.result.service (place_of ServiceId t) None place c.in-Ok-read_ids.ensures.none))
 
@@ -36,7 +36,7 @@ pub returns-in-Err-read_ids-clause-fault : goal.returns-in-Err-read_ids-clause-f
 unfolding calendar_fault
 returns-in-Err-read_ids-clause-fault c = λ free.
     let t = c.args.rows.now in
-    let has = sym (ap missing_in c.period_columns-columns.ensures) ∙ sym c.in_default.ensures in
+    let has = sym (ap missing_in c.period_columns-columns.ensures) ∙ sym c.in_default.ensures.fault in
     let place = ap (λ (k : PeriodColumns). k.service) c.period_columns-columns.ensures in
     or_then _ _ _ has (or_then _ _ _ c.in-Ok.ensures.none
     (ids_fault_is Calendar t c.period_columns-columns.result.service (place_of ServiceId t) _ place (c.in-Err-read_ids.ensures.fault free)))

@@ -39,6 +39,8 @@ invariant_of-result g c =
       services = c.in-Ok-load_trips.ensures.services_sized;
       types = c.in-Ok-load_trips.ensures.types_sized;
       visits = c.in-Ok-load_stop_times.ensures.sized;
+      few_stops = c.in-Ok.ensures.few;
+      few_trips = c.in-Ok-load_trips.ensures.few;
       sound = sound_feed c.in-Ok.stops.ids c.in-Ok-load_routes.routes.ids trips.ids (texts trips.of_trips.services.items) c.in-Ok.stops.places.items
           c.in-Ok-load_routes.routes.types.items trips.of_trips.types.items (map vec_items c.in-Ok-load_stop_times.visits.items)
           c.in-Ok.ensures.sound c.in-Ok-load_routes.ensures.sound c.in-Ok-load_trips.ensures.sound c.in-Ok-load_stop_times.ensures.sound;

@@ -3,7 +3,8 @@ use Rattle.file_ports.specs.Ports.{Folder}
 use Rattle.csv_rows.specs.declared.feed_tables.Table.TheVariants as table
 use Rattle.csv_rows.specs.declared.feed_tables.FeedFault.TheVariants as fault
 use Rattle.csv_rows.specs.FeedTables.{unread_of}
-use Rattle.service_days.specs.Calendars.{dates_from, load_in, AreDates}
+use Rattle.csv_rows.specs.Loading.{load_in}
+use Rattle.service_days.specs.Calendars.{dates_from, AreDates}
 use Rattle.service_days.proofs.ReadLemmas.{calendar_first, dates_first, none_there, services_here, both_true, first_false, second_false}
 use Rattle.service_days.proofs.services.Services.read.Goals as goal
 use Rattle.service_days.proofs.services.Services.read.Goals.{else-missing-via-then-missing+else-dates, else-missing-via-else-missing}

@@ -1,0 +1,77 @@
+-- A merge of the runs of a network, the last connection first.
+use Rattle.std.specs.Prelude.{◌≡◌, ℕ, zero, suc, ◌+◌, ◌-◌, ◌*◌, ◌/◌, ◌<◌, ◌≤◌, List, [], ◌∷◌, length, filter, slice_index, nat_lt, if◌then◌else◌}
+use Rattle.plan_model.specs.declared.model.ConnectionId.{ConnectionId}
+use Rattle.plan_model.specs.Parts.{Parts}
+use Rattle.plan_model.specs.Network.{IsValid, count, dep_of, run_of}
+
+-- rises along the scan order, since a network has at most 8,388,608 connections
+abbrev pub rank : Parts → ℕ → ℕ
+rank n i = dep_of n i * 8388608 + i
+
+-- a connection at its place among others that stand in the scan order
+abbrev pub placed : Parts → ℕ → List ConnectionId → List ConnectionId
+placed n i [] = record { 0 = i } ∷ []
+placed n i (id ∷ ids) = if nat_lt (rank n i) (rank n id.0) then record { 0 = i } ∷ id ∷ ids else id ∷ placed n i ids
+
+-- the first m connections, in the scan order
+abbrev pub in_order : Parts → ℕ → List ConnectionId
+in_order n zero = []
+in_order n (suc m) = placed n m (in_order n m)
+
+-- in the scan order, the connections that stand before the end that is left of their run
+unfoldable pub rest_of : Parts → List ℕ → List ConnectionId
+rest_of n left = filter (λ id. nat_lt id.0 (slice_index left (run_of n id.0))) (in_order n (count n))
+
+-- s connections are of the runs before r, and they stand first
+pub record IsStart (n : Parts) (r s : ℕ) : Type 0 where
+  pub within : s ≤ count n
+  pub before : (i : ℕ) → i < s → run_of n i < r
+  pub after : (i : ℕ) → s ≤ i → i < count n → r ≤ run_of n i
+
+-- where each run starts, and then where the last one ends
+pub record AreStarts (n : Parts) (starts : List ℕ) : Type 0 where
+  pub valid : IsValid n
+  pub each : (r : ℕ) → r < length starts → IsStart n r (slice_index starts r)
+  pub some : 0 < length starts
+  pub few : length starts ≤ 8388609
+  pub whole : slice_index starts (length starts - 1) ≡ count n
+
+-- where each run starts, and up to where its connections are left
+pub record AreStretches (n : Parts) (starts left : List ℕ) : Type 0 where
+  pub begin : AreStarts n starts
+  pub size : length starts ≡ length left + 1
+  pub within : (r : ℕ) → r < length left → (slice_index starts r ≤ slice_index left r) × (slice_index left r ≤ slice_index starts (r + 1))
+
+-- one above the rank of the last connection that is left of a run, and 0 where none is left
+unfoldable pub shown : Parts → List ℕ → List ℕ → ℕ → ℕ
+shown n starts left r = if nat_lt (slice_index starts r) (slice_index left r) then rank n (slice_index left r - 1) + 1 else 0
+
+-- the node so many rounds above a node
+abbrev pub above : ℕ → ℕ → ℕ
+above zero k = k
+above (suc rounds) k = above rounds k / 2
+
+-- the first node is the second one, or stands above it
+abbrev pub IsOver : ℕ → ℕ → Type 0
+IsOver k leaf = (rounds : ℕ) × (above rounds leaf ≡ k)
+
+-- run w is a run below node k, and none of these shows a later connection
+pub record IsWinner (n : Parts) (starts left : List ℕ) (k w : ℕ) : Type 0 where
+  pub run : w < length left
+  pub below : IsOver k (length left + w)
+  pub best : (r : ℕ) → r < length left → IsOver k (length left + r) → shown n starts left r ≤ shown n starts left w
+
+-- each node has its winner
+pub record IsTournament (n : Parts) (starts left winners : List ℕ) : Type 0 where
+  pub size : length winners ≡ 2 * length left
+  pub each : (k : ℕ) → 0 < k → k < 2 * length left → IsWinner n starts left k (slice_index winners k)
+
+-- the last nodes are the runs
+pub record HasRunsLast (runs : ℕ) (winners : List ℕ) : Type 0 where
+  pub size : length winners ≡ 2 * runs
+  pub leaves : (r : ℕ) → r < runs → slice_index winners (runs + r) ≡ r
+
+-- what is left of the runs, and the tournament over it
+pub record IsMerge (n : Parts) (starts left winners : List ℕ) : Type 0 where
+  pub stretches : AreStretches n starts left
+  pub tournament : IsTournament n starts left winners

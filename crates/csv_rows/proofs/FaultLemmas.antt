@@ -1,0 +1,11 @@
+-- In which table a fault is.
+use Rattle.std.proofs.Common.{◌≡◌, Option, Some, None, IfSome, sym, subst}
+use Rattle.std.specs.Option.{option_or}
+use Rattle.csv_rows.specs.declared.feed_tables.Table.{Table}
+use Rattle.csv_rows.specs.declared.feed_tables.FeedFault.{FeedFault}
+use Rattle.csv_rows.specs.FeedTables.{IsFaultOf}
+
+-- where two faults are in a table, so is the first of them that is there
+pub first_own : (table : Table) (a b o : Option FeedFault) → o ≡ option_or a b → IfSome a (IsFaultOf table) → IfSome b (IsFaultOf table) → IfSome o (IsFaultOf table)
+first_own table None b o e h k = let P : Option FeedFault → Type 0 = λ z. IfSome z (IsFaultOf table) in subst P (sym e) k
+first_own table (Some f) b o e h k = let P : Option FeedFault → Type 0 = λ z. IfSome z (IsFaultOf table) in subst P (sym e) h
