@@ -1,12 +1,13 @@
 //! The decision graph ride by ride.
 ghost use Rattle.std.specs.Prelude.{◌≡◌, ◌≢◌, ◌<◌, ◌≤◌, length, IfOk, IfSome, MatchOption};
+ghost use Rattle.plan_model.specs.Order.{IsScanOrder};
 ghost use Rattle.decision_graph.specs.Expanded.{NoneSafe, IsExpanded, HasSteadyChoice};
 
 use interval_fixed::Span;
 use leg_extract::extract;
 use meat_scan::{ScanTables, scan};
 use plan_graph::ExpandedGraph;
-use plan_model::{List, Network, NoMemory, Query, SortedOrder};
+use plan_model::{BackwardOrder, List, Network, NoMemory, Query};
 use std::alloc::Global;
 use value_laws::MeanSpan;
 
@@ -21,11 +22,14 @@ pub struct ExpandedPlan {
 }
 
 /// The decision graph of a journey between two places.
-pub(crate) fn expand_away(
+pub(crate) fn expand_away<B: BackwardOrder>(
     alloc: Global,
+    order: &mut B,
     network: &Network,
     query: &Query,
 ) -> Result<Option<ExpandedPlan>, NoMemory>
+    requires fits { B.fits order.old network.now }
+    requires whole { IsScanOrder network.now (B.rest order.old network.now) }
     requires source { query.now.source.0 < length network.now.change }
     requires target { query.now.target.0 < length network.now.change }
     requires differ { query.now.source.0 ≢ query.now.target.0 }
@@ -34,8 +38,7 @@ pub(crate) fn expand_away(
     ensures steady { IfOk result (λ found. IfSome found (λ p. HasSteadyChoice network.now query.now p.graph)) }
 {
     let tables: ScanTables<MeanSpan> = ScanTables::reserve(alloc, network)?;
-    let mut order = SortedOrder::new(alloc, network)?;
-    let scanned = scan(tables, network, &mut order, query);
+    let scanned = scan(tables, network, order, query);
     let Some((value, _)) = scanned.start() else {
         return Ok(None);
     };
@@ -49,13 +52,16 @@ pub(crate) fn expand_away(
     }
 }
 
-/// The decision graph of a query ride by ride, with bounds that enclose the least expected arrival
+/// The decision graph of a query ride by ride, by a scan in this order of the network's connections, with bounds that enclose the least expected arrival
 /// of all strategies that are safe for it. None exactly where no strategy is safe.
-pub fn expand(
+pub fn expand<B: BackwardOrder>(
     alloc: Global,
+    order: &mut B,
     network: &Network,
     query: &Query,
 ) -> Result<Option<ExpandedPlan>, NoMemory>
+    requires fits { B.fits order.old network.now }
+    requires whole { IsScanOrder network.now (B.rest order.old network.now) }
     requires source { query.now.source.0 < length network.now.change }
     requires target { query.now.target.0 < length network.now.change }
     requires start { query.now.start.0 < 18446744073 }
@@ -64,7 +70,7 @@ pub fn expand(
         (λ p. IsExpanded network.now query.now p.graph p.bounds)) }
 {
     if query.source.0 != query.target.0 {
-        return expand_away(alloc, network, query);
+        return expand_away(alloc, order, network, query);
     }
     Ok(Some(ExpandedPlan {
         graph: ExpandedGraph {

@@ -4,3 +4,10 @@ pub mod CutProblems
 pub mod FeedProblems
 pub mod Folders
 pub mod Problems
+pub mod Findings
+pub mod Texts
+pub mod Lines
+pub mod Answers
+pub mod Samples
+pub mod Replays
+pub mod Received

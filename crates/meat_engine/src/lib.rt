@@ -1,10 +1,16 @@
 //! The commands of the planner over files and sinks.
 #![tactic(auto)]
 
+mod answers;
 mod cut_problem;
 mod faults;
 mod feed_problem;
 mod inputs;
+mod lines;
 mod problem;
+mod replays;
+mod report;
+mod samples;
+mod texts;
 
 pub use faults::{Fault, Input, LimitKind, Which};

@@ -3,12 +3,12 @@ use Rattle.std.proofs.Common.{◌≡◌, ℕ, ◌+◌, ◌<◌, List, [], ◌∷
 use Rattle.std.specs.Prelude.{IfSome, if◌then◌else◌}
 use Rattle.plan_model.specs.declared.model.Leg.{Leg}
 use Rattle.plan_model.specs.Parts.{Parts}
-use Rattle.plan_model.specs.Network.{arr_of}
+use Rattle.plan_model.specs.Network.{arr_of, to_of}
 use Rattle.plan_model.specs.Unfold.{outcomes_of}
 use Rattle.plan_graph.specs.Ready.{IsLegOf}
 use Rattle.trip_replay.specs.declared.Ridden.{Ridden}
 use Rattle.trip_replay.specs.Stops.{has_delay, delayed}
-use Rattle.trip_replay.specs.Rides.{IsRide, arrival_after}
+use Rattle.trip_replay.specs.Rides.{IsRide, arrival_after, place_after}
 
 pub leg_at : (n : Parts) (most behind left : ℕ) (next : Option Leg) (leg : Leg) → next ≡ Some leg → IfSome next (λ l. IsLegOf n l × (behind + left < most)) → IsLegOf n leg
 leg_at n most behind left None leg is there = absurd (cc)
@@ -25,3 +25,7 @@ is_ride n leg delay x is some = ride_by n leg delay x (has_delay (outcomes_of n 
 pub arrival_after-push : (start : ℕ) (rides : List Ridden) (r : Ridden) → arrival_after start (rides ++ r ∷ []) ≡ r.arrival.0
 arrival_after-push start [] r = refl
 arrival_after-push start (ride ∷ rides) r = arrival_after-push ride.arrival.0 rides r
+
+pub place_after-push : (n : Parts) (source : ℕ) (rides : List Ridden) (r : Ridden) → place_after n source (rides ++ r ∷ []) ≡ to_of n r.leg.exit.0
+place_after-push n source [] r = refl
+place_after-push n source (ride ∷ rides) r = place_after-push n (to_of n ride.leg.exit.0) rides r

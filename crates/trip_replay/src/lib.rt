@@ -1,9 +1,9 @@
 //! A trip by a graph, as the delays come.
 #![tactic(auto)]
 
-ghost use Rattle.std.specs.Prelude.{◌≡◌, ℕ, ◌+◌, ◌-◌, ◌<◌, ◌≤◌, [], All, IfSome, IfOk};
+ghost use Rattle.std.specs.Prelude.{◌≡◌, ℕ, ◌+◌, ◌-◌, ◌<◌, ◌≤◌, [], All, IfSome, IfOk, IfErr};
 ghost use Rattle.std.specs.Option.{option_map};
-ghost use Rattle.plan_model.specs.Network.{count};
+ghost use Rattle.plan_model.specs.Network.{count, to_of};
 ghost use Rattle.plan_model.specs.Strategy.{IsSafeFor};
 ghost use Rattle.plan_model.specs.Unfold.{by_place, end_of, unfold_after};
 ghost use Rattle.plan_graph.specs.Rows.{pick_at};
@@ -12,7 +12,7 @@ ghost use Rattle.plan_graph.specs.Tidy.{IsFit};
 ghost use Rattle.plan_graph.specs.Unfold.{unfold_plan};
 ghost use Rattle.trip_replay.specs.Walk.{walk, IsAnswer, IsSafeAnswer};
 ghost use Rattle.trip_replay.specs.Stops.{delayed, tree_at};
-ghost use Rattle.trip_replay.specs.Rides.{IsRide, arrival_after};
+ghost use Rattle.trip_replay.specs.Rides.{IsRide, arrival_after, IsStuckAfter};
 
 use plan_graph::PlanGraph;
 use plan_model::{Leg, List, Moment, Network, PlaceId, Query};
@@ -96,6 +96,7 @@ fn stop_after(
         (by_place network.now (pick_at graph.now.tables)) left leg arrival.0 }
     ensures next { IfSome result.next (λ next. IsLegOf network.now next × (result.left < left)) }
     ensures left { result.left ≤ left }
+    ensures place { result.place.0 ≡ to_of network.now leg.exit.0 }
     ensures moment { result.moment ≡ arrival }
 {
     let place = network.get(leg.exit).to;
@@ -129,6 +130,7 @@ fn follow(
     ensures rides { IfOk result (λ trace. All (IsRide network.now) trace.rides) }
     ensures arrival { IfOk result (λ trace.
         trace.arrival.0 ≡ arrival_after query.now.start.0 trace.rides) }
+    ensures stuck { IfErr result (IsStuckAfter network.now query.now) }
 {
     let mut rides = List::new(alloc);
     let mut stop = Stop {
@@ -186,6 +188,7 @@ pub fn replay(
     ensures rides { IfOk result (λ trace. All (IsRide network.now) trace.rides) }
     ensures arrival { IfOk result (λ trace.
         trace.arrival.0 ≡ arrival_after query.now.start.0 trace.rides) }
+    ensures stuck { IfErr result (IsStuckAfter network.now query.now) }
 {
     follow(alloc, graph, network, query, delays)
 }

@@ -11,8 +11,8 @@ use Rattle.plan_graph.specs.Ready.{IsLegOf}
 use Rattle.trip_replay.specs.declared.Ridden.{Ridden}
 use Rattle.trip_replay.specs.declared.ReplayFault.TheVariants as fault
 use Rattle.trip_replay.specs.Walk.{walk}
-use Rattle.trip_replay.specs.Rides.{IsRide, arrival_after}
-use Rattle.trip_replay.proofs.RideLemmas.{leg_at, is_ride, arrival_after-push}
+use Rattle.trip_replay.specs.Rides.{IsRide, arrival_after, place_after}
+use Rattle.trip_replay.proofs.RideLemmas.{leg_at, is_ride, arrival_after-push, place_after-push}
 use Rattle.trip_replay.proofs.Walks.{too_many, not_a_delay, after_ride, target_there, target_away, from_ok, one_more, next_step, at_some}
 use Rattle.trip_replay.proofs.follow.Goals as goal
 
@@ -60,6 +60,8 @@ loop-delay-preserved c =
       rides = subst (All (IsRide n)) (sym pushed)
           (All-push (IsRide n) behind _ c.loop-delay.invariant.rides
           (is_ride n c.in-Some.leg _ c.in-Some-arrival_of.arrival.0 (leg_at n (count n) (length behind) s.left s.next c.in-Some.leg c.in-Some.is c.loop-delay.invariant.next) some));
+      place = c.stop_after-stop.ensures.place
+          ∙ sym (ap (λ (list : List Ridden). place_after n c.args.query.now.source.0 list) pushed ∙ place_after-push n c.args.query.now.source.0 behind _);
       arrival = ap (λ (moment : Moment). moment.0) c.stop_after-stop.ensures.moment
           ∙ sym (ap (λ (list : List Ridden). arrival_after c.args.query.now.start.0 list) pushed ∙ arrival_after-push c.args.query.now.start.0 behind _);
     }

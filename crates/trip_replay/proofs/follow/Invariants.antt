@@ -7,7 +7,7 @@ use Rattle.plan_graph.specs.Ready.{IsLegOf}
 use Rattle.plan_graph.specs.Unfold.{unfold_plan}
 use Rattle.trip_replay.specs.Walk.{walk}
 use Rattle.trip_replay.specs.Stops.{tree_at}
-use Rattle.trip_replay.specs.Rides.{IsRide, arrival_after}
+use Rattle.trip_replay.specs.Rides.{IsRide, arrival_after, place_after}
 use Rattle.trip_replay.proofs.follow.Given as goal
 
 -- the walk goes on from the stop, with the delays that are left and the rides so far behind
@@ -17,5 +17,6 @@ invariant-loop-delay l = record {
   next : IfSome l.stop.next (λ leg. IsLegOf l.network leg × (length l.rides + l.stop.left < count l.network));
   few : length l.rides + l.stop.left ≤ count l.network;
   rides : All (IsRide l.network) l.rides;
+  place : l.stop.place.0 ≡ place_after l.network l.query.source.0 l.rides;
   arrival : l.stop.moment.0 ≡ arrival_after l.query.start.0 l.rides;
 }

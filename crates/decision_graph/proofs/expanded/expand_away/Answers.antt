@@ -2,11 +2,11 @@ use Rattle.decision_graph.proofs.Found.{extracted_from, expanded_from, steady_fr
 use Rattle.decision_graph.proofs.expanded.expand_away.Goals as goal
 
 pub returns-clause-plan : goal.returns-clause-plan
-returns-clause-plan c =
+returns-clause-plan g c =
     expanded_from c.args.network.now c.args.query.now c.scan-scanned.result c.in-Some.value c.in-Some.field-0-1 c.in-Ok-Some.graph c.scan-scanned.ensures.solves c.in-Some.ensures
     (extracted_from c.args.network.now c.args.query.now c.scan-scanned.result c.in-Ok-Some.field-0 c.in-Ok-Some.graph c.in-Ok-Some.field-0-is c.in-Ok-Some.ensures)
 
 pub returns-clause-steady : goal.returns-clause-steady
-returns-clause-steady c =
+returns-clause-steady g c =
     steady_from c.args.network.now c.args.query.now c.scan-scanned.result c.in-Ok-Some.graph
     (extracted_from c.args.network.now c.args.query.now c.scan-scanned.result c.in-Ok-Some.field-0 c.in-Ok-Some.graph c.in-Ok-Some.field-0-is c.in-Ok-Some.ensures)

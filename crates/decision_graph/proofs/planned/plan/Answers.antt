@@ -9,4 +9,4 @@ graph_of tables = record { start = None; tables = tables }
 
 pub returns : goal.returns
 unfolding graph_of
-returns c = planned_at_once c.args.network.now c.args.query.now (graph_of c.new.result) c.exact.result c.if-query.false c.requires.deadline (ap graph_of c.new.ensures) c.exact.ensures
+returns g c = planned_at_once c.args.network.now c.args.query.now (graph_of c.new.result) c.exact.result c.if-query.false c.requires.deadline (ap graph_of c.new.ensures) c.exact.ensures

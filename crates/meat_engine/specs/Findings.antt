@@ -1,0 +1,52 @@
+-- What a report tells, besides its status and its fault.
+use Rattle.std.specs.Prelude.{ℕ, Option, None, Some}
+use Rattle.plan_model.specs.declared.model.Moment.{Moment}
+use Rattle.plan_model.specs.declared.model.Query.{Query}
+use Rattle.interval_fixed.specs.Interval.{Interval}
+use Rattle.plan_graph.specs.declared.ExpandedGraph.{ExpandedGraph}
+use Rattle.plan_graph.specs.declared.PlanGraph.{PlanGraph}
+use Rattle.trip_replay.specs.declared.Trace.{Trace}
+use Rattle.meat_engine.specs.declared.report.Report.{Report}
+
+pub record Findings : Type 0 where
+  pub query : Option Query
+  pub worst : Option Moment
+  pub expanded : Option ExpandedGraph
+  pub graph : Option PlanGraph
+  pub bounds : Option Interval
+  pub trace : Option Trace
+  pub connections : Option ℕ
+
+abbrev pub findings_of : Report → Findings
+findings_of r = record {
+  query = r.query;
+  worst = r.worst;
+  expanded = r.expanded;
+  graph = r.graph;
+  bounds = r.bounds;
+  trace = r.trace;
+  connections = r.connections;
+}
+
+abbrev pub no_findings : Findings
+no_findings = record { query = None; worst = None; expanded = None; graph = None; bounds = None; trace = None; connections = None }
+
+-- the least worst arrival and the deadline
+abbrev pub safe_findings : Query → Moment → Findings
+safe_findings q worst = record { query = Some q; worst = Some worst; expanded = None; graph = None; bounds = None; trace = None; connections = None }
+
+-- with a graph by ride and its bounds
+abbrev pub expand_findings : Query → Moment → ExpandedGraph → Interval → Findings
+expand_findings q worst graph bounds = record { query = Some q; worst = Some worst; expanded = Some graph; graph = None; bounds = Some bounds; trace = None; connections = None }
+
+-- with a graph by place and its bounds
+abbrev pub plan_findings : Query → Moment → PlanGraph → Interval → Findings
+plan_findings q worst graph bounds = record { query = Some q; worst = Some worst; expanded = None; graph = Some graph; bounds = Some bounds; trace = None; connections = None }
+
+-- with how many connections there are
+abbrev pub sample_findings : Query → Moment → PlanGraph → Interval → ℕ → Findings
+sample_findings q worst graph bounds connections = record { query = Some q; worst = Some worst; expanded = None; graph = Some graph; bounds = Some bounds; trace = None; connections = Some connections }
+
+-- the query of a graph, the graph, and the trip by it
+abbrev pub replay_findings : Query → PlanGraph → Trace → Findings
+replay_findings q graph trace = record { query = Some q; worst = None; expanded = None; graph = Some graph; bounds = None; trace = Some trace; connections = None }
