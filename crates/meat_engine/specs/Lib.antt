@@ -10,4 +10,5 @@ pub mod Lines
 pub mod Answers
 pub mod Samples
 pub mod Replays
+pub mod Refusals
 pub mod Received

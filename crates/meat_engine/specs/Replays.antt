@@ -63,24 +63,30 @@ trip_by p head graph late = walk p.network (unfold_plan graph p.network head.que
 abbrev pub IsSafeTrip : Problem → Head → PlanGraph → Result Trace ReplayFault → Type 0
 IsSafeTrip p head graph trip = IsSafeFor p.network head.query (unfold_plan graph p.network head.query) → IsSafeAnswer head.query.deadline.0 trip
 
--- the report and the text tell the trip by the graph of the file
-pub record IsReplayed (told : Option Folder) (limits : Limits) (r : WantedReplay) (p : Problem) (report : Report) (text : List ℕ) : Type 0 where
-  pub head : Head
-  pub graph : PlanGraph
+-- the report and the text tell the trip by a graph
+pub record IsTripTold (p : Problem) (head : Head) (graph : PlanGraph) (late : List ℕ) (report : Report) (text : List ℕ) : Type 0 where
   pub trace : Trace
-  pub file : IsGraphFile told limits r p head graph
-  pub trip : trip_by p head graph r.late ≡ Ok trace
+  pub trip : trip_by p head graph late ≡ Ok trace
   pub safe : IsSafeTrip p head graph (Ok trace)
   pub found : findings_of report ≡ replay_findings head.query graph trace
   pub text_is : text ≡ trace_text p.network p.names p.target.0 trace
 
--- the trip by the graph of the file has this fault
-pub record FailsTrip (told : Option Folder) (limits : Limits) (r : WantedReplay) (p : Problem) (fault : ReplayFault) : Type 0 where
-  pub head : Head
-  pub graph : PlanGraph
-  pub file : IsGraphFile told limits r p head graph
-  pub trip : trip_by p head graph r.late ≡ Err fault
+-- the trip by a graph has this fault
+pub record IsTripFault (p : Problem) (head : Head) (graph : PlanGraph) (late : List ℕ) (fault : ReplayFault) : Type 0 where
+  pub trip : trip_by p head graph late ≡ Err fault
   pub safe : IsSafeTrip p head graph (Err fault)
+
+-- this holds of the head and the graph of the graph file
+abbrev pub InGraphFile : Option Folder → Limits → WantedReplay → Problem → (Head → PlanGraph → Type 0) → Type 0
+InGraphFile told limits r p P = (head : Head) × (graph : PlanGraph) × IsGraphFile told limits r p head graph × P head graph
+
+-- the report and the text tell the trip by the graph of the file
+abbrev pub IsReplayed : Option Folder → Limits → WantedReplay → Problem → Report → List ℕ → Type 0
+IsReplayed told limits r p report text = InGraphFile told limits r p (λ head graph. IsTripTold p head graph r.late report text)
+
+-- the trip by the graph of the file has this fault
+abbrev pub FailsTrip : Option Folder → Limits → WantedReplay → Problem → ReplayFault → Type 0
+FailsTrip told limits r p fault = InGraphFile told limits r p (λ head graph. IsTripFault p head graph r.late fault)
 
 -- the first fault of the graph file is this one, where no file but that of the fault is unread
 abbrev pub FailsGraph : Option Folder → Limits → WantedReplay → Fault → Type 0

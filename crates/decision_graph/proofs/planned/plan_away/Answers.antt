@@ -3,7 +3,7 @@ use Rattle.decision_graph.proofs.Tables.{some_of, match_some, planned}
 use Rattle.decision_graph.proofs.planned.plan_away.Goals as goal
 
 pub compact-requires-clause-coherent : goal.compact-requires-clause-coherent
-compact-requires-clause-coherent c =
+compact-requires-clause-coherent g c =
     let kept = some_of c.in-Ok-Some.field-0 c.in-Ok-Some.expanded (λ p. HasSteadyChoice c.args.network.now c.args.query.now p.graph) c.in-Ok-Some.field-0-is c.in-Ok-Some.ensures.steady in
     c.steady_is_coherent.ensures c.args.network.now c.args.query.now c.in-Ok.pruned kept.choice c.in-Ok.ensures.pruned kept.steady (c.in-Ok.ensures.follows kept.choice kept.follows)
 
