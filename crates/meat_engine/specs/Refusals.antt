@@ -1,5 +1,5 @@
 -- Refusals, with their lines where these name a place.
-use Rattle.std.specs.Prelude.{◌≡◌, ◌≢◌, ℕ, ◌<◌, ◌≤◌, List, length, Option, None, Some, MatchOption}
+use Rattle.std.specs.Prelude.{◌≡◌, ◌≢◌, ℕ, ◌<◌, ◌≤◌, List, length, Option, None, Some, Result, Ok, Err, MatchOption}
 use Rattle.plan_model.specs.NameLists.{NameLists}
 use Rattle.plan_graph.specs.declared.PlanGraph.{PlanGraph}
 use Rattle.graph_text.specs.declared.Head.{Head}
@@ -17,10 +17,6 @@ abbrev pub IsPlaced : Problem → ReplayFault → Type 0
 IsPlaced p (replay.Stuck place moment) = (place.0 < length p.network.change) × (moment.0 ≤ 253402300799)
 IsPlaced p _ = Unit {0}
 
-abbrev pub IsGraphFault : Fault → Type 0
-IsGraphFault (GraphFile fault) = Unit {0}
-IsGraphFault _ = ⊥
-
 -- the line that is there is that of the fault by these names, and else the fault's line names no place
 abbrev pub IsLined : NameLists → Refusal → Type 0
 IsLined names r = MatchOption r.line (IsNameless r.fault) (λ line. line.items ≡ line_of names r.fault)
@@ -28,9 +24,18 @@ IsLined names r = MatchOption r.line (IsNameless r.fault) (λ line. line.items �
 -- there was no memory, or it is this fault with its line
 pub record IsRefusalOf (names : NameLists) (fault : ReplayFault) (r : Refusal) : Type 0 where
   pub lined : IsLined names r
-  pub is : r.fault ≢ NoMemory → r.fault ≡ Replay fault
+  pub is : r.fault ≢ NoMemory → (r.fault ≡ Replay fault) × (fault ≢ replay.NoMemory)
 
 -- there was no memory, or it is a fault of the trip by the graph
 pub record IsTripRefusal (p : Problem) (head : Head) (graph : PlanGraph) (late : List ℕ) (r : Refusal) : Type 0 where
   pub lined : IsLined p.names r
   pub is : r.fault ≢ NoMemory → (fault : ReplayFault) × (r.fault ≡ Replay fault) × IsTripFault p head graph late fault
+
+-- a refused answer by its fault
+abbrev pub by_fault : {T : Type 0} → Result T Refusal → Result T Fault
+by_fault (Ok a) = Ok a
+by_fault (Err r) = Err r.fault
+
+-- the line is that of the fault, and there was no memory or the fault has its cause, by some names
+abbrev pub IsRefusalBy : (NameLists → Fault → Type 0) → Refusal → Type 0
+IsRefusalBy cause r = (names : NameLists) × IsLined names r × (r.fault ≢ NoMemory → cause names r.fault)

@@ -93,6 +93,14 @@ abbrev pub FailsGraph : Option Folder → Limits → WantedReplay → Fault → 
 FailsGraph told limits r fault =
     InProblem told limits r.journey (λ p. IfSome told (λ files. graph_in limits p r.journey.start (unread_of fault) (file_at files r.graph) ≡ Err fault))
 
+-- it is about the graph file
+abbrev pub IsOfGraph : Fault → Type 0
+IsOfGraph (GraphFile fault) = Unit {0}
+IsOfGraph (Missing file) = file ≡ input.Graph
+IsOfGraph (Read file) = file ≡ input.Graph
+IsOfGraph (Limit kind count) = kind ≡ Bytes input.Graph
+IsOfGraph _ = ⊥
+
 -- why a replay has no answer, where these are the names of its timetable: the trip has a fault, or the graph file; or it is
 -- the first fault of the files of the journey
 abbrev pub FailsReplay : Option Folder → Limits → WantedReplay → NameLists → Fault → Type 0

@@ -4,6 +4,7 @@ ghost use Rattle.csv_rows.specs.Limits.{AreWithin};
 ghost use Rattle.file_ports.specs.Ports.{file_at};
 ghost use Rattle.meat_engine.specs.Faults.{MayBeUnread, unread_of};
 ghost use Rattle.meat_engine.specs.Files.{bytes_of, records_of, Finds, HasCauses, IsEarly};
+ghost use Rattle.meat_engine.specs.Replays.{IsOfGraph};
 ghost use Rattle.meat_engine.specs.CutProblems.{CutAgrees, DelayAgrees};
 
 use crate::faults::{Fault, Input, LimitKind};
@@ -27,6 +28,8 @@ pub(crate) fn load_bytes<F: Files>(
         (λ unread. bytes_of limits.now.bytes input unread (file_at m path.now)) result) }
     ensures own { IfErr result (MayBeUnread input) }
     ensures early { input ≢ Input.Graph → IfErr result IsEarly }
+    ensures graph { input ≡ Input.Graph → IfErr result (λ fault. fault ≢ Fault.NoMemory
+        → IsOfGraph fault) }
     ensures causes { HasCauses (IsSome (F.files files.old)) (λ other. path.now)
         (F.faults files.old) (F.faults files.new)
         (F.faults_of files.old) (F.faults_of files.new) result }

@@ -11,6 +11,7 @@ mod problem;
 mod replays;
 mod report;
 mod samples;
+mod searches;
 mod texts;
 
 pub use faults::{Fault, Input, LimitKind, Which};

@@ -9,10 +9,11 @@ ghost use Rattle.file_ports.specs.Ports.{file_at};
 ghost use Rattle.command_line.specs.Jobs.{late_in};
 ghost use Rattle.command_line.specs.Ranges.{IsJourney};
 ghost use Rattle.command_line.specs.Shown.{replay_shown, journey_shown};
-ghost use Rattle.meat_engine.specs.Files.{path_of, HasCauses};
+ghost use Rattle.meat_engine.specs.Faults.{MayBeUnread, unread_of};
+ghost use Rattle.meat_engine.specs.Files.{path_of, Finds, HasCauses};
 ghost use Rattle.meat_engine.specs.Problems.{InProblem};
-ghost use Rattle.meat_engine.specs.Refusals.{IsPlaced, IsGraphFault, IsRefusalOf, IsTripRefusal};
-ghost use Rattle.meat_engine.specs.Replays.{graph_as, IsTripTold};
+ghost use Rattle.meat_engine.specs.Refusals.{IsPlaced, IsRefusalOf, IsTripRefusal, IsRefusalBy, by_fault};
+ghost use Rattle.meat_engine.specs.Replays.{graph_as, graph_in, IsOfGraph, IsTripTold, IsReplayed, FailsReplay};
 
 use crate::answers::Answer;
 use crate::faults::{Fault, Input};
@@ -46,20 +47,28 @@ impl Refusal {
     }
 }
 
-/// The head and the graph of a graph file.
-fn graph_in(
+/// What a graph file holds.
+#[derive(Drop)]
+struct GraphFile {
+    head: Head,
+    graph: PlanGraph,
+}
+
+/// The head and the graph of a text.
+fn graph_of_bytes(
     alloc: Global,
     bytes: &[u8],
     problem: &Problem,
     start: Moment,
-) -> Result<(Head, PlanGraph), Fault>
+) -> Result<GraphFile, Fault>
     requires fit { NamesFit problem.now.names problem.now.network }
-    ensures graph { IfOk result (λ found. graph_of bytes.now problem.now.network problem.now.names
-        problem.now.source.0 problem.now.target.0 start.0 ≡ Ok (found.0, found.1)) }
+    ensures graph { IfOk result (λ f. graph_of bytes.now problem.now.network problem.now.names
+        problem.now.source.0 problem.now.target.0 start.0 ≡ Ok (f.head, f.graph)) }
     ensures fault { IfErr result (λ fault. fault ≢ Fault.NoMemory
         → graph_as (graph_of bytes.now problem.now.network problem.now.names
         problem.now.source.0 problem.now.target.0 start.0) ≡ Err fault) }
-    ensures text { IfErr result (λ fault. fault ≢ Fault.NoMemory → IsGraphFault fault) }
+    ensures kind { IfErr result (λ fault. fault ≢ Fault.NoMemory → IsOfGraph fault) }
+    ensures read { IfErr result (λ fault. unread_of fault ≡ None) }
 {
     match read(
         alloc,
@@ -70,9 +79,44 @@ fn graph_in(
         problem.target,
         start,
     ) {
-        Ok(found) => Ok(found),
+        Ok((head, graph)) => Ok(GraphFile { head, graph }),
         Err(TextFault::NoMemory) => Err(Fault::NoMemory),
         Err(fault) => Err(Fault::GraphFile(fault)),
+    }
+}
+
+/// The graph file.
+fn read_graph_file<F: Files>(
+    alloc: Global,
+    files: &mut F,
+    job: &ReplayJob,
+    problem: &Problem,
+    limits: &Limits,
+) -> Result<GraphFile, Fault>
+    requires within { AreWithin limits.now }
+    requires fit { NamesFit problem.now.names problem.now.network }
+    ensures same { F.files files.new ≡ F.files files.old }
+    ensures graph { IfSome (F.files files.old) (λ m. Finds (λ f. (f.head, f.graph))
+        (λ unread. graph_in limits.now problem.now job.now.journey.start.0 unread
+        (file_at m job.now.graph.now)) result) }
+    ensures fit { IfOk result (λ f. IsFit problem.now.network f.head.query f.graph) }
+    ensures head { IfOk result (λ f. IsHeadOf problem.now.source.0 problem.now.target.0
+        job.now.journey.start.0 f.head) }
+    ensures own { IfErr result (MayBeUnread Input.Graph) }
+    ensures kind { IfErr result (λ fault. fault ≢ Fault.NoMemory → IsOfGraph fault) }
+    ensures causes { HasCauses (IsSome (F.files files.old)) (λ other. job.now.graph.now)
+        (F.faults files.old) (F.faults files.new)
+        (F.faults_of files.old) (F.faults_of files.new) result }
+{
+    read_fits();
+    match load_bytes(alloc, files, job.graph, Input::Graph, limits) {
+        Err(fault) => Err(fault),
+        Ok(bytes) => {
+            match graph_of_bytes(alloc, bytes.as_slice(), problem, job.journey.start) {
+                Err(fault) => Err(fault),
+                Ok(found) => Ok(found),
+            }
+        }
     }
 }
 
@@ -81,6 +125,7 @@ fn refusal_of(alloc: Global, problem: &Problem, fault: ReplayFault) -> Refusal
     requires fit { NamesFit problem.now.names problem.now.network }
     requires place { IsPlaced problem.now fault }
     ensures refusal { IsRefusalOf problem.now.names fault result }
+    ensures read { unread_of result.fault ≡ None }
 {
     match fault {
         ReplayFault::NoMemory => Refusal::plain(Fault::NoMemory),
@@ -102,20 +147,24 @@ fn trip(
     alloc: Global,
     problem: &Problem,
     job: &ReplayJob,
-    head: Head,
-    graph: PlanGraph,
+    file: GraphFile,
 ) -> Result<Answer, Refusal>
     requires fit { NamesFit problem.now.names problem.now.network }
-    requires graph { IsFit problem.now.network head.query graph }
+    requires graph { IsFit problem.now.network file.head.query file.graph }
     requires head { IsHeadOf problem.now.source.0 problem.now.target.0
-        job.now.journey.start.0 head }
+        job.now.journey.start.0 file.head }
     requires source { problem.now.source.0 < length problem.now.network.change }
     requires target { problem.now.target.0 < length problem.now.network.change }
     requires start { job.now.journey.start.0 ≤ 13569465599 }
-    ensures told { IfOk result (λ a. IsTripTold problem.now head graph
+    ensures told { IfOk result (λ a. IsTripTold problem.now file.head file.graph
         (late_in job.now.late.now) a.report a.text.items) }
-    ensures fault { IfErr result (IsTripRefusal problem.now head graph (late_in job.now.late.now)) }
+    ensures fault { IfErr result (IsTripRefusal problem.now file.head file.graph
+        (late_in job.now.late.now)) }
+    ensures read { IfErr result (λ r. unread_of r.fault ≡ None) }
 {
+    // That the network is valid is known from its count.
+    let _count = problem.network.count();
+    let GraphFile { head, graph } = file;
     let Ok(delays) = job.delays(alloc) else {
         return Err(Refusal::plain(Fault::NoMemory));
     };
@@ -134,4 +183,34 @@ fn trip(
         ..Report::empty()
     };
     Ok(Answer { report, text })
+}
+
+/// The trip of a job by the graph of its file.
+pub(crate) fn replay_over<F: Files>(
+    alloc: Global,
+    files: &mut F,
+    job: &ReplayJob,
+    limits: &Limits,
+) -> Result<Answer, Refusal>
+    requires within { AreWithin limits.now }
+    requires journey { IsJourney (replay_shown job.now).journey }
+    ensures same { F.files files.new ≡ F.files files.old }
+    ensures replayed { IfOk result (λ a. InProblem (F.files files.old) limits.now
+        (replay_shown job.now).journey (λ p. IsReplayed (F.files files.old) limits.now
+        (replay_shown job.now) p a.report a.text.items)) }
+    ensures fault { IfErr result (IsRefusalBy
+        (FailsReplay (F.files files.old) limits.now (replay_shown job.now))) }
+    ensures causes { HasCauses (IsSome (F.files files.old))
+        (path_of (replay_shown job.now).journey job.now.graph.now)
+        (F.faults files.old) (F.faults files.new)
+        (F.faults_of files.old) (F.faults_of files.new) (by_fault result) }
+{
+    let problem = match problem_of(alloc, files, &job.journey, limits) {
+        Err(fault) => return Err(Refusal::plain(fault)),
+        Ok(problem) => problem,
+    };
+    match read_graph_file(alloc, files, job, &problem, limits) {
+        Err(fault) => Err(Refusal::plain(fault)),
+        Ok(file) => trip(alloc, &problem, job, file),
+    }
 }

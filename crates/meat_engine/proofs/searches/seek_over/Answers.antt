@@ -1,0 +1,12 @@
+use Rattle.std.proofs.Common.{[]}
+use Rattle.command_line.specs.Shown.{search_shown}
+use Rattle.meat_engine.proofs.Search.{search_early, search_fails, fails_unread}
+use Rattle.meat_engine.proofs.Causes.{causes-quiet}
+use Rattle.meat_engine.proofs.searches.seek_over.Goals as goal
+
+pub returns-in-Err-clause-fault : goal.returns-in-Err-clause-fault
+returns-in-Err-clause-fault g c = λ other. search_early (g.F.Files.files c.args.files.now) c.args.limits.now (search_shown c.args.search.now) c.in-Err.fault c.in-Err.ensures.early c.in-Err.ensures.fault
+
+pub returns-in-Err-seek-clause-fault : goal.returns-in-Err-seek-clause-fault
+returns-in-Err-seek-clause-fault g c =
+    search_fails (g.F.Files.files c.args.files.now) c.args.limits.now (search_shown c.args.search.now) c.in-Ok.problem c.in-Ok.ensures.sound c.in-Ok.ensures.problem c.in-Err-seek.fault c.in-Err-seek.ensures.fault
