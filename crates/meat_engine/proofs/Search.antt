@@ -1,5 +1,8 @@
 -- Why a search fails, put together.
-use Rattle.std.proofs.Common.{◌≡◌, Option, Some, None}
+use Rattle.std.proofs.Common.{◌≡◌, ℕ, Option, Some, None}
+use Rattle.feed_maker.specs.Made.{made, SameFolder}
+use Rattle.meat_engine.specs.declared.faults.Input.{Input}
+use Rattle.meat_engine.specs.Samples.{sample_search, FailsSample}
 use Rattle.std.specs.Prelude.{◌≢◌, IfSome}
 use Rattle.file_ports.specs.Ports.{Folder}
 use Rattle.csv_rows.specs.declared.limits.Limits.{Limits}
@@ -76,3 +79,19 @@ fails_unread p s Write fails = absurd fails
 fails_unread p s (Words fault) fails = absurd fails
 fails_unread p s (GraphFile fault) fails = absurd fails
 fails_unread p s (Replay fault) fails = absurd fails
+
+-- a fault of the files that are made, of which none fails to be read
+pub sample_fails : (limits : Limits) (size : ℕ) (files : Folder) → SameFolder (made size) files → (fault : Fault) → IsEarly fault → IsProblemFault limits files sample_search.journey fault → ((input : Input) → fault ≡ Read input → ⊥) → FailsSample limits size fault
+sample_fails limits size files same (Feed fault) early is read = (files, same, (early, is))
+sample_fails limits size files same (Cut fault) early is read = (files, same, (early, is))
+sample_fails limits size files same (Missing file) early is read = (files, same, (early, is))
+sample_fails limits size files same (Delays fault) early is read = (files, same, (early, is))
+sample_fails limits size files same (UnknownStop which) early is read = (files, same, (early, is))
+sample_fails limits size files same (Limit kind count) early is read = (files, same, (early, is))
+sample_fails limits size files same (Read file) early is read = absurd (read file (cc))
+sample_fails limits size files same NoMemory early is read = tt
+sample_fails limits size files same NoSafe early is read = absurd early
+sample_fails limits size files same Write early is read = absurd early
+sample_fails limits size files same (Words fault) early is read = absurd early
+sample_fails limits size files same (GraphFile fault) early is read = absurd early
+sample_fails limits size files same (Replay fault) early is read = absurd early

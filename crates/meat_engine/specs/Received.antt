@@ -1,5 +1,5 @@
 -- What a run comes to, by its fault, and what the two sinks received.
-use Rattle.std.specs.Prelude.{◌≡◌, ℕ, List, [], Option, None, Some, Result, Ok, Err}
+use Rattle.std.specs.Prelude.{◌≡◌, ◌⊎◌, ℕ, List, [], Option, None, Some, Result, Ok, Err}
 use Rattle.std.specs.Io.KnownBytes.{Appends, Keeps}
 use Rattle.file_ports.specs.Counts.{Rose}
 use Rattle.file_ports.specs.Loading.{AppendsFront}
@@ -68,3 +68,14 @@ Outcome told limits words report old new Tells (Some fault) = Keeps old new × I
 -- a front of a line was received, the whole of it where the sink's count did not rise
 abbrev pub IsTold : Option (List ℕ) → Option (List ℕ) → ℕ → ℕ → List ℕ → Type 0
 IsTold old new before now line = AppendsFront old new line × (¬ Rose before now → Appends old new line)
+
+-- a text was written whole, or a front of it where writing failed
+abbrev pub IsWritten : Option (List ℕ) → Option (List ℕ) → List ℕ → Option Fault → Type 0
+IsWritten old new text None = Appends old new text
+IsWritten old new text (Some fault.Write) = AppendsFront old new text
+IsWritten old new text (Some _) = ⊥
+
+-- the fault was told, or that there is no memory
+abbrev pub IsRefusedWith : Option (List ℕ) → Option (List ℕ) → ℕ → ℕ → NameLists → Fault → Option Fault → Type 0
+IsRefusedWith old new before now names wanted None = ⊥
+IsRefusedWith old new before now names wanted (Some told) = ((told ≡ wanted) ⊎ (told ≡ fault.NoMemory)) × IsTold old new before now (line_of names told)

@@ -13,5 +13,8 @@ mod report;
 mod samples;
 mod searches;
 mod texts;
+mod top;
 
 pub use faults::{Fault, Input, LimitKind, Which};
+pub use report::{Report, Status};
+pub use top::run;

@@ -1,0 +1,190 @@
+//! The top call.
+ghost use Rattle.std.specs.Prelude.{◌≡◌, ◌≤◌, ◌<◌, ℕ, map, string_bytes, Some, None, Ok, IsSome, IfOk, IfErr};
+ghost use Rattle.std.specs.Io.KnownBytes.{Keeps, Appends};
+ghost use Rattle.csv_rows.specs.Limits.{AreWithin, standard};
+ghost use Rattle.file_ports.specs.Counts.{Rose};
+ghost use Rattle.file_ports.specs.Loading.{AppendsFront};
+ghost use Rattle.plan_model.specs.NameLists.{NameLists};
+ghost use Rattle.command_line.specs.Jobs.{Wanted, job_of};
+ghost use Rattle.command_line.specs.Ranges.{IsJob};
+ghost use Rattle.command_line.specs.Shown.{shown};
+ghost use Rattle.meat_engine.specs.Faults.{status_of};
+ghost use Rattle.meat_engine.specs.Files.{HasCauses};
+ghost use Rattle.meat_engine.specs.Findings.{findings_of, no_findings};
+ghost use Rattle.meat_engine.specs.Lines.{line_of};
+ghost use Rattle.meat_engine.specs.Refusals.{IsLined, IsRefusalBy, by_fault};
+ghost use Rattle.meat_engine.specs.Received.{paths_of, AnswersJob, FailsJob, Outcome, IsTold, IsWritten, IsRefusedWith};
+
+use crate::answers::Answer;
+use crate::faults::{Fault, Input};
+use crate::lines::{FaultText, known_line};
+use crate::replays::{Refusal, replay_over};
+use crate::report::{Report, Status};
+use crate::samples::sample;
+use crate::searches::seek_over;
+use command_line::{Job, read_job};
+use csv_rows::Limits;
+use file_ports::{Files, Sink, put_all};
+use std::alloc::Global;
+
+/// What a job asks for, over its files.
+fn answer_of<F: Files>(
+    alloc: Global,
+    files: &mut F,
+    job: &Job,
+    limits: &Limits,
+) -> Result<Answer, Refusal>
+    requires within { AreWithin limits.now }
+    requires job { IsJob (shown job.now) }
+    ensures same { F.files files.new ≡ F.files files.old }
+    ensures answer { IfOk result (λ a.
+        AnswersJob (F.files files.old) limits.now (shown job.now) a.report a.text.items) }
+    ensures fault { IfErr result (IsRefusalBy
+        (FailsJob (F.files files.old) limits.now (shown job.now))) }
+    ensures causes { HasCauses (IsSome (F.files files.old)) (paths_of (shown job.now))
+        (F.faults files.old) (F.faults files.new)
+        (F.faults_of files.old) (F.faults_of files.new) (by_fault result) }
+{
+    match *job {
+        Job::Seek(search) => match seek_over(alloc, files, &search, limits) {
+            Err(fault) => Err(Refusal::plain(fault)),
+            Ok(answer) => Ok(answer),
+        },
+        Job::Replay(replay) => replay_over(alloc, files, &replay, limits),
+        Job::Sample(size) => match sample(alloc, size, limits) {
+            Err(fault) => Err(Refusal::plain(fault)),
+            Ok(answer) => Ok(answer),
+        },
+    }
+}
+
+/// Ends with a fault, whose line is told to `err`. Where there is no memory for the line, that is
+/// the fault.
+fn refuse<E: Sink>(alloc: Global, err: &mut E, refusal: Refusal) -> Report
+    ensures status { result.status.0 ≡ status_of result.fault }
+    ensures findings { findings_of result ≡ no_findings }
+    ensures told { (names : NameLists) → IsLined names refusal
+        → IsRefusedWith (E.written err.old) (E.written err.new) (E.faults err.old) (E.faults err.new)
+        names refusal.fault result.fault }
+{
+    if let Some(line) = refusal.line {
+        let _ = put_all(err, line.as_slice());
+        return Report::bare(refusal.fault);
+    }
+    if let Some(line) = known_line(refusal.fault) {
+        let _ = put_all(err, line.as_bytes());
+        return Report::bare(refusal.fault);
+    }
+    let text = FaultText(refusal.fault);
+    match format!(in alloc; "meat: {text}\n") {
+        Ok(line) => {
+            let _ = put_all(err, line.as_bytes());
+            Report::bare(refusal.fault)
+        }
+        Err(_) => {
+            let _ = put_all(err, b"meat: out of memory\n");
+            Report::bare(Fault::NoMemory)
+        }
+    }
+}
+
+/// Writes an answer's text.
+fn tell<O: Sink, E: Sink>(answer: Answer, out: &mut O, err: &mut E) -> Report
+    ensures status { result.status.0 ≡ status_of result.fault }
+    ensures findings { findings_of result ≡ findings_of answer.report }
+    ensures out { IsWritten (O.written out.old) (O.written out.new) answer.text.items result.fault }
+    ensures quiet { result.fault ≡ None → Keeps (E.written err.old) (E.written err.new) }
+    ensures told { (names : NameLists) → result.fault ≡ Some Fault.Write → IsTold (E.written err.old)
+        (E.written err.new) (E.faults err.old) (E.faults err.new) (line_of names Fault.Write) }
+    ensures write { result.fault ≡ Some Fault.Write → Rose (O.faults out.old) (O.faults out.new) }
+    ensures grew { O.faults out.old < O.faults out.new → result.fault ≡ Some Fault.Write }
+{
+    let Answer { mut report, text } = answer;
+    match put_all(out, text.as_slice()) {
+        Ok(()) => {
+            report.status = Status(0);
+            report.fault = None;
+            report
+        }
+        Err(_) => {
+            let _ = put_all(err, b"meat: cannot write\n");
+            report.status = Status(8);
+            report.fault = Some(Fault::Write);
+            report
+        }
+    }
+}
+
+/// Runs the command that the words ask for, with these limits.
+pub(crate) fn run_within<F: Files, O: Sink, E: Sink>(
+    alloc: Global,
+    words: &[String],
+    files: &mut F,
+    out: &mut O,
+    err: &mut E,
+    limits: &Limits,
+) -> Report
+    requires { AreWithin limits.now }
+    ensures status { result.status.0 ≡ status_of result.fault }
+    ensures outcome { Outcome (F.files files.old) limits.now (map string_bytes words.now) result
+        (O.written out.old) (O.written out.new) (IsTold (E.written err.old) (E.written err.new)
+        (E.faults err.old) (E.faults err.new)) result.fault }
+    ensures quiet { result.fault ≡ None → Keeps (E.written err.old) (E.written err.new) }
+
+    // The counts of the outside.
+    ensures read { (input : Input) → result.fault ≡ Some (Fault.Read input)
+        → Rose (F.faults files.old) (F.faults files.new) }
+    ensures read_path { (wanted : Wanted) (input : Input)
+        → job_of (map string_bytes words.now) ≡ Ok wanted
+        → IsSome (F.files files.old) → result.fault ≡ Some (Fault.Read input)
+        → Rose (F.faults_of files.old (paths_of wanted input))
+        (F.faults_of files.new (paths_of wanted input)) }
+    ensures files_grew { F.faults files.old < F.faults files.new
+        → (input : Input) × (result.fault ≡ Some (Fault.Read input)) }
+    ensures write { result.fault ≡ Some Fault.Write → Rose (O.faults out.old) (O.faults out.new) }
+    ensures out_grew { O.faults out.old < O.faults out.new → result.fault ≡ Some Fault.Write }
+    ensures same { F.files files.new ≡ F.files files.old }
+{
+    let job = match read_job(words) {
+        Ok(job) => job,
+        Err(fault) => return refuse(alloc, err, Refusal::plain(Fault::Words(fault))),
+    };
+    match answer_of(alloc, files, &job, limits) {
+        Err(refusal) => refuse(alloc, err, refusal),
+        Ok(answer) => tell(answer, out, err),
+    }
+}
+
+/// Runs the command that the words ask for. The report has the answer at status 0 and at status 8,
+/// where it could not be written, and else the fault alone. At status 0 `out` received the whole text
+/// of the answer, at status 8 a front of it, and else nothing; `err` received the line of the fault,
+/// or a front of it where `err` failed.
+pub fn run<F: Files, O: Sink, E: Sink>(
+    alloc: Global,
+    words: &[String],
+    files: &mut F,
+    out: &mut O,
+    err: &mut E,
+) -> Report
+    ensures status { result.status.0 ≡ status_of result.fault }
+    ensures outcome { Outcome (F.files files.old) standard (map string_bytes words.now) result
+        (O.written out.old) (O.written out.new) (IsTold (E.written err.old) (E.written err.new)
+        (E.faults err.old) (E.faults err.new)) result.fault }
+    ensures quiet { result.fault ≡ None → Keeps (E.written err.old) (E.written err.new) }
+
+    // The counts of the outside.
+    ensures read { (input : Input) → result.fault ≡ Some (Fault.Read input)
+        → Rose (F.faults files.old) (F.faults files.new) }
+    ensures read_path { (wanted : Wanted) (input : Input)
+        → job_of (map string_bytes words.now) ≡ Ok wanted
+        → IsSome (F.files files.old) → result.fault ≡ Some (Fault.Read input)
+        → Rose (F.faults_of files.old (paths_of wanted input))
+        (F.faults_of files.new (paths_of wanted input)) }
+    ensures files_grew { F.faults files.old < F.faults files.new
+        → (input : Input) × (result.fault ≡ Some (Fault.Read input)) }
+    ensures write { result.fault ≡ Some Fault.Write → Rose (O.faults out.old) (O.faults out.new) }
+    ensures out_grew { O.faults out.old < O.faults out.new → result.fault ≡ Some Fault.Write }
+    ensures same { F.files files.new ≡ F.files files.old }
+{
+    run_within(alloc, words, files, out, err, &Limits::standard())
+}
