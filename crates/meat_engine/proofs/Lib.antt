@@ -6,3 +6,4 @@ pub mod Sought
 pub mod TextLemmas
 pub mod Trips
 pub mod Search
+pub mod Told

@@ -58,6 +58,14 @@ fn answer_of<F: Files>(
     }
 }
 
+/// Writes a line, or a front of it where the sink fails.
+fn put_line<E: Sink>(err: &mut E, line: &[u8])
+    ensures { IsTold (E.written err.old) (E.written err.new) (E.faults err.old) (E.faults err.new)
+        line.now }
+{
+    let _ = put_all(err, line);
+}
+
 /// Ends with a fault, whose line is told to `err`. Where there is no memory for the line, that is
 /// the fault.
 fn refuse<E: Sink>(alloc: Global, err: &mut E, refusal: Refusal) -> Report
@@ -67,22 +75,23 @@ fn refuse<E: Sink>(alloc: Global, err: &mut E, refusal: Refusal) -> Report
         → IsRefusedWith (E.written err.old) (E.written err.new) (E.faults err.old) (E.faults err.new)
         names refusal.fault result.fault }
 {
-    if let Some(line) = refusal.line {
-        let _ = put_all(err, line.as_slice());
-        return Report::bare(refusal.fault);
+    let Refusal { fault, line } = refusal;
+    if let Some(line) = line {
+        put_line(err, line.as_slice());
+        return Report::bare(fault);
     }
-    if let Some(line) = known_line(refusal.fault) {
-        let _ = put_all(err, line.as_bytes());
-        return Report::bare(refusal.fault);
+    if let Some(line) = known_line(fault) {
+        put_line(err, line.as_bytes());
+        return Report::bare(fault);
     }
-    let text = FaultText(refusal.fault);
+    let text = FaultText(fault);
     match format!(in alloc; "meat: {text}\n") {
         Ok(line) => {
-            let _ = put_all(err, line.as_bytes());
-            Report::bare(refusal.fault)
+            put_line(err, line.as_bytes());
+            Report::bare(fault)
         }
         Err(_) => {
-            let _ = put_all(err, b"meat: out of memory\n");
+            put_line(err, b"meat: out of memory\n");
             Report::bare(Fault::NoMemory)
         }
     }
@@ -107,7 +116,7 @@ fn tell<O: Sink, E: Sink>(answer: Answer, out: &mut O, err: &mut E) -> Report
             report
         }
         Err(_) => {
-            let _ = put_all(err, b"meat: cannot write\n");
+            put_line(err, b"meat: cannot write\n");
             report.status = Status(8);
             report.fault = Some(Fault::Write);
             report
