@@ -1,7 +1,6 @@
 -- The walk down the tree of a graph.
-use Rattle.std.proofs.Common.{◌≡◌, ◌≢◌, ℕ, zero, suc, ◌+◌, ◌-◌, ◌≤◌, ◌<◌, ◌⊎◌, Bool, true, false, List, [], ◌∷◌, ◌++◌, length, drop, Option, Some, None, Ok, Err, Result, All, Contains, arith, sym, subst, refl, inl, inr, ◌∙◌, ap}
+use Rattle.std.proofs.Common.{◌≡◌, ◌≢◌, ℕ, zero, suc, ◌+◌, ◌-◌, ◌≤◌, ◌<◌, ◌⊎◌, Bool, true, false, List, [], ◌∷◌, ◌++◌, length, drop, Option, Some, None, Ok, Err, Result, All, arith, sym, subst, refl, inl, inr, ◌∙◌, ap}
 use Rattle.std.specs.Prelude.{◌==◌, if◌then◌else◌, slice_index_or, IfSome, OnOk, is_ok}
-use Rattle.std.specs.List.{list_any}
 use Rattle.std.proofs.lemmas.Bool.{cases_eq, cases_lt}
 use Rattle.std.proofs.lemmas.Bool.Decides.{nat_tests}
 use Rattle.plan_model.specs.declared.model.Leg.{Leg}
@@ -10,14 +9,13 @@ use Rattle.plan_model.specs.declared.model.Query.{Query}
 use Rattle.plan_model.specs.Parts.{Parts}
 use Rattle.plan_model.specs.Network.{arr_of, to_of, outcomes}
 use Rattle.plan_model.specs.Tree.{Tree, Done, Ride, Stuck, Kids, Nil, Kid}
-use Rattle.plan_model.specs.Strategy.{Safe, SafeAll, SafeStart, IsSafeFor}
-use Rattle.plan_model.specs.Unfold.{end_of, outcomes_of, kids_after, ride_or_stuck, unfold_after}
+use Rattle.plan_model.specs.Strategy.{Safe, SafeAll, IsSafeFor}
+use Rattle.plan_model.specs.Unfold.{outcomes_of, kids_after, ride_or_stuck, unfold_after}
 use Rattle.plan_graph.specs.declared.PlaceTable.{PlaceTable}
 use Rattle.plan_graph.specs.declared.GraphRow.{GraphRow}
-use Rattle.plan_graph.specs.declared.PlanGraph.{PlanGraph}
-use Rattle.plan_graph.specs.Rows.{pick_row, pick_at, rows_of_place, HasRisingTables}
+use Rattle.plan_graph.specs.Rows.{pick_row, pick_at, rows_of_place}
 use Rattle.plan_graph.specs.Ready.{IsLegOf}
-use Rattle.plan_graph.specs.Tidy.{IsFit, IsFitTable, IsFitRow}
+use Rattle.plan_graph.specs.Tidy.{IsFitTable, IsFitRow}
 use Rattle.trip_replay.specs.declared.Ridden.{Ridden}
 use Rattle.trip_replay.specs.declared.Trace.{Trace}
 use Rattle.trip_replay.specs.declared.Stop.{Stop}

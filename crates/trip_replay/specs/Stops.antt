@@ -6,7 +6,7 @@ use Rattle.plan_model.specs.declared.model.Outcome.{Outcome}
 use Rattle.plan_model.specs.Parts.{Parts}
 use Rattle.plan_model.specs.Network.{arr_of}
 use Rattle.plan_model.specs.Tree.{Tree, Done}
-use Rattle.plan_model.specs.Unfold.{end_of, outcomes_of, ride_or_stuck, unfold_after}
+use Rattle.plan_model.specs.Unfold.{outcomes_of, ride_or_stuck, unfold_after}
 use Rattle.trip_replay.specs.declared.Stop.{Stop}
 
 -- whether one of the outcomes has this delay
