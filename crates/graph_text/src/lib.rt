@@ -367,8 +367,10 @@ pub fn read_fits()
         ≡ Ok (head, graph) → IsFit n head.query graph × IsAsked source target start head }
 {}
 
-/// What is written reads back: the text of a graph that fits the network and the question is read
-/// as this head and this graph.
+/// What is written reads back: where a graph fits the network and the question, the text of it and
+/// its head is read as this head and this graph. The names are those of a `Names`, distinct and
+/// UTF-8, and fit the network; the head can be printed, its start is not after its deadline, and
+/// its bounds are in order.
 pub fn written_reads_back()
     ensures { (n : Parts) (names : NameLists) (source target start : ℕ) (head : HeadParts) (graph : Plan)
         → IsValid n → NamesFit names n → AreNames names → IsPrintableQuery n head.query

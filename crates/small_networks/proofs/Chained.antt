@@ -1,6 +1,5 @@
 -- Rides that are chained make a network.
-use Rattle.std.proofs.Common.{◌≡◌, ℕ, zero, suc, ◌+◌, ◌<◌, ◌≤◌, List, [], ◌∷◌, length, replicate, arith, subst, sym, ◌∙◌, ap, inl, inr}
-use Rattle.std.proofs.lemmas.Bool.{cases_lt}
+use Rattle.std.proofs.Common.{◌≡◌, ℕ, zero, suc, ◌+◌, ◌<◌, ◌≤◌, List, [], ◌∷◌, length, replicate, arith}
 use Rattle.std.proofs.lemmas.List.{length-replicate, get_or-replicate}
 use Rattle.plan_model.specs.declared.model.Connection.{Connection}
 use Rattle.plan_model.specs.declared.model.Outcome.{Outcome}
@@ -8,7 +7,7 @@ use Rattle.plan_model.specs.Parts.{Parts}
 use Rattle.plan_model.specs.Rows.{IsValidRow}
 use Rattle.plan_model.specs.Network.{IsValid, IsValidConnection, connection, change_of, row_of}
 use Rattle.plan_model.proofs.Local.{FitsNext, IsValid-from_local}
-use Rattle.small_networks.specs.Rides.{IsInRange, Follows, AreChained, ride_at}
+use Rattle.small_networks.specs.Rides.{AreChained}
 
 module _ (places : ℕ) (few : places < 4294967296) (rides : List Connection) (row : List Outcome) (good : IsValidRow row) (chained : AreChained places rides (length rides)) where
   abbrev parts : Parts
