@@ -290,12 +290,13 @@ fn both_give(alloc: Global, network: &Network, ids: &[u32]) -> Result<bool, NoMe
 
 #[test]
 fn merges_runs(rt: HostRuntime) -> Result<(), Fail> {
-    for (tables, ids) in [
-        (&LEVEL, [5, 4, 3, 1, 2, 0].as_slice()),
-        (&MILL, [2, 1, 0].as_slice()),
-        (&NIGHT, [].as_slice()),
+    for (tables, seconds, ids) in [
+        (&LEVEL, 8 * 3600, [5, 4, 3, 1, 2, 0].as_slice()),
+        (&MILL, 8 * 3600, [2, 1, 0].as_slice()),
+        (&NIGHT, 86_400, [0].as_slice()),
+        (&NIGHT, 0, [].as_slice()),
     ] {
-        let (network, _) = window_of(rt.alloc(), tables, 8 * 3600, 1)?;
+        let (network, _) = window_of(rt.alloc(), tables, seconds, 2)?;
         assert!(rt; both_give(rt.alloc(), &network, ids)?, "{ids:?}");
     }
     Ok(())
