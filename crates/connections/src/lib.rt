@@ -8,6 +8,8 @@ mod merged;
 mod names;
 mod rides;
 mod runs;
+#[cfg(test)]
+mod tests;
 mod window;
 
 pub use cuts::{WindowFault, cut};
