@@ -81,3 +81,10 @@ fn no_record(rt: HostRuntime) {
         assert!(rt; matches!(read, Err(RowsFault::NoHeader)), "{text:?}");
     }
 }
+
+#[test]
+fn tells_a_column_that_is_lacking(rt: HostRuntime) {
+    let fault = FeedFault::MissingColumn(Table::Stops, Column::StopId);
+    assert_eq!(rt; lack(Table::Stops, Column::StopId, None), Some(fault));
+    assert_eq!(rt; lack(Table::Stops, Column::StopId, Some(2)), None);
+}

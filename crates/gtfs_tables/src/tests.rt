@@ -48,16 +48,28 @@ fn fault_with(alloc: Global, path: &str, text: &str) -> Option<FeedFault> {
     Feed::read(alloc, &mut files, "feed", &Limits::standard()).err()
 }
 
+/// The fault of the feed with these rows of stop times.
+fn fault_of_times(alloc: Global, rows: &str) -> Option<FeedFault> {
+    let columns = "trip_id,stop_id,stop_sequence,arrival_time,departure_time";
+    match format!(in alloc; "{columns}\n{rows}") {
+        Ok(text) => fault_with(alloc, "feed/stop_times.txt", text.as_str()),
+        Err(_) => Some(FeedFault::NoMemory),
+    }
+}
+
+/// The feed, with a table of frequencies that has no row.
+fn small_feed(alloc: Global) -> Result<Feed, FeedFault> {
+    match feed_with(alloc, "feed/frequencies.txt", "trip_id\n") {
+        Ok(mut files) => Feed::read(alloc, &mut files, "feed", &Limits::standard()),
+        Err(_) => Err(FeedFault::NoMemory),
+    }
+}
+
 #[test]
-fn reads_a_feed(rt: HostRuntime) -> Result<(), Fail> {
-    let alloc = rt.alloc();
-    let Ok(mut files) = feed_with(alloc, "feed/frequencies.txt", "trip_id\n") else {
-        return Err("no files".into());
-    };
-    let Ok(feed) = Feed::read(alloc, &mut files, "feed", &Limits::standard()) else {
+fn reads_stops(rt: HostRuntime) -> Result<(), Fail> {
+    let Ok(feed) = small_feed(rt.alloc()) else {
         return Err("no feed".into());
     };
-    assert_eq!(rt; feed.stop_count(), 6);
     for (id, stop, place) in [
         ("S,1", Some(0), Some(PlaceId(0))),
         ("S1a", Some(1), Some(PlaceId(0))),
@@ -68,21 +80,35 @@ fn reads_a_feed(rt: HostRuntime) -> Result<(), Fail> {
         assert_eq!(rt; feed.stop_of(id), stop, "{id}");
         assert_eq!(rt; feed.place_of(id), place, "{id}");
     }
-    assert_eq!(rt; feed.trip_count(), 3);
-    assert!(rt; feed.stop_count() == 6 && feed.trip_count() == 3);
-    if feed.stop_count() == 6 && feed.trip_count() == 3 {
+    assert_eq!(rt; feed.stop_count(), 6);
+    if feed.stop_count() == 6 {
         assert_eq!(rt; feed.stop_id(5), "HLF");
+    }
+    Ok(())
+}
+
+/// A stop where one may board and alight.
+fn visit(stop: u32, place: u32, arrival: u32, departure: u32) -> StopRow {
+    StopRow {
+        stop,
+        place: PlaceId(place),
+        arrival,
+        departure,
+        can_board: true,
+        can_exit: true,
+    }
+}
+
+#[test]
+fn reads_trips(rt: HostRuntime) -> Result<(), Fail> {
+    let Ok(feed) = small_feed(rt.alloc()) else {
+        return Err("no feed".into());
+    };
+    assert_eq!(rt; feed.trip_count(), 3);
+    if feed.trip_count() == 3 {
         assert_eq!(rt; feed.trip_id(2), "b201");
         assert_eq!(rt; feed.service_of(0), "WK");
         assert_eq!(rt; feed.route_type(1), 3);
-        let visit = |stop, place, arrival, departure| StopRow {
-            stop,
-            place: PlaceId(place),
-            arrival,
-            departure,
-            can_board: true,
-            can_exit: true,
-        };
         assert_eq!(rt;
             feed.stop_times(0),
             [visit(4, 4, 28_800, 28_800), visit(1, 0, 30_000, 30_060)].as_slice()
@@ -96,102 +122,127 @@ fn reads_a_feed(rt: HostRuntime) -> Result<(), Fail> {
 }
 
 #[test]
-fn refuses_the_first_fault(rt: HostRuntime) {
-    let times = "feed/stop_times.txt";
+fn accepts_an_empty_table_of_frequencies(rt: HostRuntime) {
+    let fault = fault_with(rt.alloc(), "feed/frequencies.txt", "");
+    assert_eq!(rt; fault, None);
+}
+
+#[test]
+fn accepts_stops_and_stations(rt: HostRuntime) {
+    for stops in [
+        "stop_id,parent_station\nMIL,MIL\nHLF,\nS1a,MIL\nS1b,S1a\nAIR,\n",
+        "stop_id,parent_station,location_type\nMIL,X,2\nHLF,X,3\nS1a,X,4\nS1b,X,1\nAIR\n",
+    ] {
+        assert_eq!(rt;
+            fault_with(rt.alloc(), "feed/stops.txt", stops),
+            None,
+            "{stops}"
+        );
+    }
+}
+
+#[test]
+fn accepts_late_times_in_any_order(rt: HostRuntime) {
+    for rows in [
+        "t100,MIL,1,,167:59:59\n",
+        "t100,MIL,2,25:00:00,\nt100,AIR,1,24:00:00\n",
+    ] {
+        assert_eq!(rt; fault_of_times(rt.alloc(), rows), None, "{rows}");
+    }
+}
+
+#[test]
+fn refuses_by_table(rt: HostRuntime) {
     for (path, text, fault) in [
-        // What may be so.
-        ("feed/frequencies.txt", "", None),
-        (
-            "feed/stops.txt",
-            "stop_id,parent_station\nMIL,MIL\nHLF,\nS1a,MIL\nS1b,S1a\nAIR,\n",
-            None,
-        ),
-        (
-            "feed/stops.txt",
-            "stop_id,parent_station,location_type\nMIL,X,2\nHLF,X,3\nS1a,X,4\nS1b,X,1\nAIR\n",
-            None,
-        ),
-        (
-            times,
-            "trip_id,stop_id,stop_sequence,arrival_time,departure_time\nt100,MIL,1,,167:59:59\n",
-            None,
-        ),
-        (
-            times,
-            "trip_id,stop_id,stop_sequence,arrival_time,departure_time\nt100,MIL,2,25:00:00,\nt100,AIR,1,24:00:00\n",
-            None,
-        ),
-        // Tables in their order, and columns before fields.
         (
             "feed/trips.txt",
             "",
-            Some(FeedFault::MissingColumn(Table::Trips, Column::RouteId)),
+            FeedFault::MissingColumn(Table::Trips, Column::RouteId),
         ),
         (
             "feed/routes.txt",
             "route_id\n,\n",
-            Some(FeedFault::MissingColumn(Table::Routes, Column::RouteType)),
+            FeedFault::MissingColumn(Table::Routes, Column::RouteType),
         ),
         (
             "feed/frequencies.txt",
             "trip_id\nx\n",
-            Some(FeedFault::FrequencyRows),
+            FeedFault::FrequencyRows,
         ),
-        // Fields by line, and then by column.
+    ] {
+        assert_eq!(rt; fault_with(rt.alloc(), path, text), Some(fault), "{text}");
+    }
+}
+
+#[test]
+fn refuses_stops_by_line_and_column(rt: HostRuntime) {
+    let stops = "stop_id,location_type\nA,02\n\"\",\n";
+    let fault = FeedFault::BadField(Table::Stops, 2, Column::LocationType);
+    assert_eq!(rt;
+        fault_with(rt.alloc(), "feed/stops.txt", stops),
+        Some(fault)
+    );
+}
+
+#[test]
+fn refuses_times_by_column(rt: HostRuntime) {
+    for (row, fault) in [
         (
-            "feed/stops.txt",
-            "stop_id,location_type\nA,02\n\"\",\n",
-            Some(FeedFault::BadField(Table::Stops, 2, Column::LocationType)),
+            "t999,MIL,1,8:60:00,\n",
+            FeedFault::UnknownKey(Table::StopTimes, 2, Column::TripId),
         ),
         (
-            times,
-            "trip_id,stop_id,stop_sequence,arrival_time,departure_time\nt999,MIL,1,8:60:00,\n",
-            Some(FeedFault::UnknownKey(Table::StopTimes, 2, Column::TripId)),
+            "t100,MIL,1,8:60:00,\n",
+            FeedFault::BadField(Table::StopTimes, 2, Column::ArrivalTime),
         ),
         (
-            times,
-            "trip_id,stop_id,stop_sequence,arrival_time,departure_time\nt100,MIL,1,8:60:00,\n",
-            Some(FeedFault::BadField(Table::StopTimes, 2, Column::ArrivalTime)),
+            "t100,,x,,\n",
+            FeedFault::BadField(Table::StopTimes, 2, Column::StopSequence),
         ),
-        (
-            times,
-            "trip_id,stop_id,stop_sequence,arrival_time,departure_time\nt100,,x,,\n",
-            Some(FeedFault::BadField(Table::StopTimes, 2, Column::StopSequence)),
-        ),
-        // Keys after fields, and what refers to its own table after keys.
+    ] {
+        assert_eq!(rt; fault_of_times(rt.alloc(), row), Some(fault), "{row}");
+    }
+}
+
+#[test]
+fn refuses_keys_after_fields(rt: HostRuntime) {
+    for (path, text, fault) in [
         (
             "feed/trips.txt",
             "route_id,service_id,trip_id\nT1,WK,t100\nB7,WK,b200\nB7,WK,b201\nB7,WK,b200\n",
-            Some(FeedFault::DuplicateKey(Table::Trips, 5)),
+            FeedFault::DuplicateKey(Table::Trips, 5),
         ),
         (
             "feed/stops.txt",
             "stop_id,parent_station\nA,Z\nB,\nB,\n",
-            Some(FeedFault::DuplicateKey(Table::Stops, 4)),
+            FeedFault::DuplicateKey(Table::Stops, 4),
         ),
         (
             "feed/stops.txt",
             "stop_id,parent_station\nA,\nB,Z\n",
-            Some(FeedFault::UnknownKey(Table::Stops, 3, Column::ParentStation)),
-        ),
-        (
-            times,
-            "trip_id,stop_id,stop_sequence,arrival_time,departure_time\nt100,,1,,\nt100,MIL,001,8:00:00,\n",
-            Some(FeedFault::DuplicateKey(Table::StopTimes, 3)),
-        ),
-        // Times of rows out of their order, past a row that is not kept.
-        (
-            times,
-            "trip_id,stop_id,stop_sequence,arrival_time,departure_time\nt100,AIR,9,7:59:00,\nt100,MIL,1,8:00:00,\nt100,HLF,5,,\n",
-            Some(FeedFault::BackwardTime(2)),
-        ),
-        (
-            times,
-            "trip_id,stop_id,stop_sequence,arrival_time,departure_time\nt100,AIR,9,9:00:00,8:59:59\n",
-            Some(FeedFault::BackwardTime(2)),
+            FeedFault::UnknownKey(Table::Stops, 3, Column::ParentStation),
         ),
     ] {
-        assert_eq!(rt; fault_with(rt.alloc(), path, text), fault, "{path} {text}");
+        assert_eq!(rt; fault_with(rt.alloc(), path, text), Some(fault), "{text}");
+    }
+}
+
+#[test]
+fn refuses_a_sequence_twice(rt: HostRuntime) {
+    let rows = "t100,,1,,\nt100,MIL,001,8:00:00,\n";
+    let fault = FeedFault::DuplicateKey(Table::StopTimes, 3);
+    assert_eq!(rt; fault_of_times(rt.alloc(), rows), Some(fault));
+}
+
+#[test]
+fn refuses_times_that_go_back(rt: HostRuntime) {
+    for rows in [
+        // Past a row that is not kept.
+        "t100,AIR,9,7:59:00,\nt100,MIL,1,8:00:00,\nt100,HLF,5,,\n",
+        "t100,AIR,9,9:00:00,8:59:59\n",
+    ] {
+        let fault = fault_of_times(rt.alloc(), rows);
+        assert_eq!(rt; fault, Some(FeedFault::BackwardTime(2)), "{rows}");
     }
 }
 
