@@ -7,3 +7,4 @@ pub mod TextLemmas
 pub mod Trips
 pub mod Search
 pub mod Told
+pub mod Outcomes

@@ -1,5 +1,6 @@
 -- Why a search fails, put together.
-use Rattle.std.proofs.Common.{◌≡◌, ℕ, Option, Some, None}
+use Rattle.std.proofs.Common.{◌≡◌, ℕ, Option, Some, None, arith}
+use Rattle.file_ports.specs.Counts.{Rose}
 use Rattle.feed_maker.specs.Made.{made, SameFolder}
 use Rattle.meat_engine.specs.declared.faults.Input.{Input}
 use Rattle.meat_engine.specs.Samples.{sample_search, FailsSample}
@@ -95,3 +96,21 @@ sample_fails limits size files same Write early is read = absurd early
 sample_fails limits size files same (Words fault) early is read = absurd early
 sample_fails limits size files same (GraphFile fault) early is read = absurd early
 sample_fails limits size files same (Replay fault) early is read = absurd early
+
+pub sample_nameless : (limits : Limits) (size : ℕ) (fault : Fault) → FailsSample limits size fault → IsNameless fault
+sample_nameless limits size (Replay fault) fails = absurd fails.2.0
+sample_nameless limits size (Feed fault) fails = tt
+sample_nameless limits size (Cut fault) fails = tt
+sample_nameless limits size (Missing file) fails = tt
+sample_nameless limits size (Delays fault) fails = tt
+sample_nameless limits size (UnknownStop which) fails = tt
+sample_nameless limits size (Limit kind count) fails = tt
+sample_nameless limits size (Read file) fails = tt
+sample_nameless limits size NoMemory fails = tt
+sample_nameless limits size NoSafe fails = tt
+sample_nameless limits size Write fails = tt
+sample_nameless limits size (Words fault) fails = tt
+sample_nameless limits size (GraphFile fault) fails = tt
+
+pub none_rises : Rose 0 0 → ⊥
+none_rises rose = omega (arith, rose)

@@ -14,7 +14,7 @@ use Rattle.meat_engine.specs.declared.faults.Fault.TheVariants as fault
 use Rattle.meat_engine.specs.Answers.{IsSought, FailsSearch}
 use Rattle.meat_engine.specs.Files.{path_of}
 use Rattle.meat_engine.specs.Findings.{findings_of, no_findings}
-use Rattle.meat_engine.specs.Lines.{line_of}
+use Rattle.meat_engine.specs.Lines.{line_of, IsFormatted}
 use Rattle.meat_engine.specs.Problems.{InProblem}
 use Rattle.meat_engine.specs.Replays.{IsReplayed, FailsReplay}
 use Rattle.meat_engine.specs.Samples.{AnswersSample, FailsSample}
@@ -75,7 +75,7 @@ IsWritten old new text None = Appends old new text
 IsWritten old new text (Some fault.Write) = AppendsFront old new text
 IsWritten old new text (Some _) = ⊥
 
--- the fault was told, or that there is no memory
+-- the fault was told, or that there is no memory for its line
 abbrev pub IsRefusedWith : Option (List ℕ) → Option (List ℕ) → ℕ → ℕ → NameLists → Fault → Option Fault → Type 0
 IsRefusedWith old new before now names wanted None = ⊥
-IsRefusedWith old new before now names wanted (Some told) = ((told ≡ wanted) ⊎ (told ≡ fault.NoMemory)) × IsTold old new before now (line_of names told)
+IsRefusedWith old new before now names wanted (Some told) = ((told ≡ wanted) ⊎ ((told ≡ fault.NoMemory) × IsFormatted wanted)) × IsTold old new before now (line_of names told)

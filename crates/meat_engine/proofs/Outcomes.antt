@@ -1,0 +1,125 @@
+-- What a run comes to.
+use Rattle.std.proofs.Common.{◌≡◌, ℕ, List, Option, Some, None, Result, Ok, Err, inl, inr, sym, subst, ⊎_elim, ◌∙◌}
+use Rattle.std.specs.Prelude.{◌≢◌, ◌⊎◌}
+use Rattle.std.specs.Io.KnownBytes.{Appends, Keeps}
+use Rattle.file_ports.specs.Loading.{AppendsFront}
+use Rattle.file_ports.specs.Ports.{Folder}
+use Rattle.csv_rows.specs.declared.limits.Limits.{Limits}
+use Rattle.plan_model.specs.NameLists.{NameLists}
+use Rattle.command_line.specs.declared.job.WordsFault.{WordsFault}
+use Rattle.command_line.specs.Jobs.{WantedSearch, WantedReplay, Wanted, Seek, Replay as Replays, Sample, job_of}
+use Rattle.meat_engine.specs.declared.report.Report.{Report}
+use Rattle.meat_engine.specs.declared.faults.Input.{Input}
+use Rattle.meat_engine.specs.declared.faults.Fault.{Fault}
+use Rattle.meat_engine.specs.declared.faults.Fault.TheVariants.{Words, Feed, Cut, Missing, Delays, UnknownStop, Limit, Read, NoSafe, GraphFile, Replay, Write, NoMemory}
+use Rattle.meat_engine.specs.Findings.{Findings, findings_of, no_findings}
+use Rattle.meat_engine.specs.declared.problem.Problem.{Problem}
+use Rattle.meat_engine.specs.Answers.{IsSought, Tells}
+use Rattle.meat_engine.specs.Replays.{IsReplayed}
+use Rattle.meat_engine.specs.Samples.{IsSampled}
+use Rattle.meat_engine.specs.Lines.{line_of, IsFormatted}
+use Rattle.meat_engine.specs.Received.{AnswersJob, FailsJob, Answers, HasCause, IsRefused, IsRefusedWith, IsWritten, IsTold, Outcome}
+
+-- a report that tells the same answers the same
+sought_as : (p : Problem) (s : WantedSearch) (answer report : Report) (text : List ℕ) → findings_of report ≡ findings_of answer → IsSought p s answer text → IsSought p s report text
+sought_as p s answer report text same sought = record {
+  query = sought.query;
+  worst = sought.worst;
+  asked = sought.asked;
+  tells = subst (λ (found : Findings). Tells s.goal p sought.query sought.worst found text) (sym same) sought.tells;
+}
+
+replayed_as : (told : Option Folder) (limits : Limits) (r : WantedReplay) (p : Problem) (answer report : Report) (text : List ℕ) → findings_of report ≡ findings_of answer → IsReplayed told limits r p answer text → IsReplayed told limits r p report text
+replayed_as told limits r p answer report text same (head, graph, file, trip) =
+    (head, graph, file, record { trace = trip.trace; trip = trip.trip; safe = trip.safe; found = same ∙ trip.found; text_is = trip.text_is })
+
+sampled_as : (size : ℕ) (p : Problem) (answer report : Report) (text : List ℕ) → findings_of report ≡ findings_of answer → IsSampled size p answer text → IsSampled size p report text
+sampled_as size p answer report text same sampled = record {
+  query = sampled.query;
+  worst = sampled.worst;
+  graph = sampled.graph;
+  bounds = sampled.bounds;
+  asked = sampled.asked;
+  planned = sampled.planned;
+  found = same ∙ sampled.found;
+  text_is = sampled.text_is;
+}
+
+same_answer : (told : Option Folder) (limits : Limits) (wanted : Wanted) (answer report : Report) (text : List ℕ) → findings_of report ≡ findings_of answer → AnswersJob told limits wanted answer text → AnswersJob told limits wanted report text
+same_answer told limits (Seek s) answer report text same (p, sound, problem, sought) = (p, sound, problem, sought_as p s answer report text same sought)
+same_answer told limits (Replays r) answer report text same (p, sound, problem, replayed) = (p, sound, problem, replayed_as told limits r p answer report text same replayed)
+same_answer told limits (Sample size) answer report text same (files, made, (p, sound, problem, sampled)) = (files, made, (p, sound, problem, sampled_as size p answer report text same sampled))
+
+module _ (told : Option Folder) (limits : Limits) (words : List (List ℕ)) where
+  -- the words of a job are not refused
+  words_fails : (wanted : Wanted) (names : NameLists) (fault : WordsFault) → FailsJob told limits wanted names (Words fault) → ⊥
+  words_fails (Seek s) names fault fails = fails.0
+  words_fails (Replays r) names fault fails = fails.0
+  words_fails (Sample size) names fault fails = fails.2.0
+
+  pub write_fails : (wanted : Wanted) (names : NameLists) → FailsJob told limits wanted names Write → ⊥
+  write_fails (Seek s) names fails = fails.0
+  write_fails (Replays r) names fails = fails.0
+  write_fails (Sample size) names fails = fails.2.0
+
+  -- why a job fails is why there is no answer to its words
+  pub job_cause : (wanted : Wanted) (names : NameLists) → job_of words ≡ Ok wanted → (fault : Fault) → (fault ≢ NoMemory → FailsJob told limits wanted names fault) → HasCause told limits words names fault
+  job_cause wanted names is (Words fault) fails = absurd (words_fails wanted names fault (fails (λ same. let none : Words fault ≡ NoMemory = same in absurd (cc))))
+  job_cause wanted names is NoMemory fails = tt
+  job_cause wanted names is (Feed fault) fails = (wanted, is, fails (λ same. absurd (cc)))
+  job_cause wanted names is (Cut fault) fails = (wanted, is, fails (λ same. absurd (cc)))
+  job_cause wanted names is (Missing file) fails = (wanted, is, fails (λ same. absurd (cc)))
+  job_cause wanted names is (Delays fault) fails = (wanted, is, fails (λ same. absurd (cc)))
+  job_cause wanted names is (UnknownStop which) fails = (wanted, is, fails (λ same. absurd (cc)))
+  job_cause wanted names is (Limit kind count) fails = (wanted, is, fails (λ same. absurd (cc)))
+  job_cause wanted names is (Read file) fails = (wanted, is, fails (λ same. absurd (cc)))
+  job_cause wanted names is NoSafe fails = (wanted, is, fails (λ same. absurd (cc)))
+  job_cause wanted names is (GraphFile fault) fails = (wanted, is, fails (λ same. absurd (cc)))
+  job_cause wanted names is (Replay fault) fails = (wanted, is, fails (λ same. absurd (cc)))
+  job_cause wanted names is Write fails = (wanted, is, fails (λ same. absurd (cc)))
+
+  module _ (report : Report) (old new : Option (List ℕ)) (IsLine : List ℕ → Type 0) where
+    outcome_by : (fault : Fault) → fault ≢ Write → Keeps old new → IsRefused told limits words report IsLine fault → Outcome told limits words report old new IsLine (Some fault)
+    outcome_by Write other keeps refused = absurd (other (cc))
+    outcome_by (Words fault) other keeps refused = (keeps, refused)
+    outcome_by (Feed fault) other keeps refused = (keeps, refused)
+    outcome_by (Cut fault) other keeps refused = (keeps, refused)
+    outcome_by (Missing file) other keeps refused = (keeps, refused)
+    outcome_by (Delays fault) other keeps refused = (keeps, refused)
+    outcome_by (UnknownStop which) other keeps refused = (keeps, refused)
+    outcome_by (Limit kind count) other keeps refused = (keeps, refused)
+    outcome_by (Read file) other keeps refused = (keeps, refused)
+    outcome_by NoSafe other keeps refused = (keeps, refused)
+    outcome_by (GraphFile fault) other keeps refused = (keeps, refused)
+    outcome_by (Replay fault) other keeps refused = (keeps, refused)
+    outcome_by NoMemory other keeps refused = (keeps, refused)
+
+  -- a refusal that was told
+  pub refused_outcome : (report : Report) (old new before after : Option (List ℕ)) (was now : ℕ) (names : NameLists) (wanted : Fault) (found : Option Fault) → findings_of report ≡ no_findings → Keeps old new
+      → HasCause told limits words names wanted → wanted ≢ Write → IsRefusedWith before after was now names wanted found → Outcome told limits words report old new (IsTold before after was now) found
+  refused_outcome report old new before after was now names wanted None findings keeps cause other refused = absurd refused
+  refused_outcome report old new before after was now names wanted (Some fault) findings keeps cause other (same, line) =
+      ⊎_elim
+      (λ (is : fault ≡ wanted). outcome_by report old new (IsTold before after was now) fault (λ write. other (sym is ∙ write)) keeps (findings, (names, subst (HasCause told limits words names) (sym is) cause, line)))
+      (λ (is : (fault ≡ NoMemory) × IsFormatted wanted).
+      outcome_by report old new (IsTold before after was now) fault (λ write. let none : NoMemory ≡ Write = sym is.0 ∙ write in absurd (cc)) keeps
+      (findings, (names, subst (HasCause told limits words names) (sym is.0) tt, line)))
+      same
+
+  -- an answer that was written, or not wholly
+  pub answered_outcome : (wanted : Wanted) (answer report : Report) (text : List ℕ) (old new : Option (List ℕ)) (IsLine : List ℕ → Type 0) (found : Option Fault) → job_of words ≡ Ok wanted → findings_of report ≡ findings_of answer
+      → AnswersJob told limits wanted answer text → IsWritten old new text found → ((names : NameLists) → found ≡ Some Write → IsLine (line_of names Write)) → Outcome told limits words report old new IsLine found
+  answered_outcome wanted answer report text old new IsLine None is same answers written tells = (text, (wanted, is, same_answer told limits wanted answer report text same answers), written)
+  answered_outcome wanted answer report text old new IsLine (Some Write) is same answers written tells = ((text, (wanted, is, same_answer told limits wanted answer report text same answers), written), λ names. tells names (cc))
+  answered_outcome wanted answer report text old new IsLine (Some (Words fault)) is same answers written tells = absurd written
+  answered_outcome wanted answer report text old new IsLine (Some (Feed fault)) is same answers written tells = absurd written
+  answered_outcome wanted answer report text old new IsLine (Some (Cut fault)) is same answers written tells = absurd written
+  answered_outcome wanted answer report text old new IsLine (Some (Missing file)) is same answers written tells = absurd written
+  answered_outcome wanted answer report text old new IsLine (Some (Delays fault)) is same answers written tells = absurd written
+  answered_outcome wanted answer report text old new IsLine (Some (UnknownStop which)) is same answers written tells = absurd written
+  answered_outcome wanted answer report text old new IsLine (Some (Limit kind count)) is same answers written tells = absurd written
+  answered_outcome wanted answer report text old new IsLine (Some (Read file)) is same answers written tells = absurd written
+  answered_outcome wanted answer report text old new IsLine (Some NoSafe) is same answers written tells = absurd written
+  answered_outcome wanted answer report text old new IsLine (Some (GraphFile fault)) is same answers written tells = absurd written
+  answered_outcome wanted answer report text old new IsLine (Some (Replay fault)) is same answers written tells = absurd written
+  answered_outcome wanted answer report text old new IsLine (Some NoMemory) is same answers written tells = absurd written
