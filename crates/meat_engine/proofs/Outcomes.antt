@@ -1,6 +1,6 @@
 -- What a run comes to.
-use Rattle.std.proofs.Common.{◌≡◌, ℕ, List, Option, Some, None, Result, Ok, Err, inl, inr, sym, subst, ⊎_elim, ◌∙◌}
-use Rattle.std.specs.Prelude.{◌≢◌, ◌⊎◌}
+use Rattle.std.proofs.Common.{◌≡◌, ℕ, List, [], Global, Option, Some, None, Result, Ok, Err, inl, inr, sym, subst, ⊎_elim, ◌∙◌}
+use Rattle.std.specs.Prelude.{◌≢◌, ◌⊎◌, MatchOption, Vec}
 use Rattle.std.specs.Io.KnownBytes.{Appends, Keeps}
 use Rattle.file_ports.specs.Loading.{AppendsFront}
 use Rattle.file_ports.specs.Ports.{Folder}
@@ -17,7 +17,9 @@ use Rattle.meat_engine.specs.declared.problem.Problem.{Problem}
 use Rattle.meat_engine.specs.Answers.{IsSought, Tells}
 use Rattle.meat_engine.specs.Replays.{IsReplayed}
 use Rattle.meat_engine.specs.Samples.{IsSampled}
-use Rattle.meat_engine.specs.Lines.{line_of, IsFormatted}
+use Rattle.meat_engine.specs.Lines.{line_of, IsFormatted, IsNameless}
+use Rattle.meat_engine.specs.declared.replays.Refusal.{Refusal}
+use Rattle.meat_engine.specs.Refusals.{IsLined}
 use Rattle.meat_engine.specs.Received.{AnswersJob, FailsJob, Answers, HasCause, IsRefused, IsRefusedWith, IsWritten, IsTold, Outcome}
 
 -- a report that tells the same answers the same
@@ -123,3 +125,36 @@ module _ (told : Option Folder) (limits : Limits) (words : List (List ℕ)) wher
   answered_outcome wanted answer report text old new IsLine (Some (GraphFile fault)) is same answers written tells = absurd written
   answered_outcome wanted answer report text old new IsLine (Some (Replay fault)) is same answers written tells = absurd written
   answered_outcome wanted answer report text old new IsLine (Some NoMemory) is same answers written tells = absurd written
+
+pub no_names : NameLists
+no_names = record { places = []; runs = [] }
+
+-- a refusal of words
+pub words_lined : (r : Refusal) (fault : WordsFault) (names : NameLists) → r.fault ≡ Words fault → r.line ≡ None → IsLined names r
+words_lined r fault names is none = subst (λ (line : Option (Vec ℕ Global)). MatchOption line (IsNameless r.fault) (λ l. l.items ≡ line_of names r.fault)) (sym none) (subst IsNameless (sym is) tt)
+
+module _ (before after : Option (List ℕ)) (was now : ℕ) (names : NameLists) where
+  pub refused_some : (wanted : Fault) (found : Option Fault) → IsRefusedWith before after was now names wanted found → found ≡ None → ⊥
+  refused_some wanted None refused none = refused
+  refused_some wanted (Some fault) refused none = absurd (cc)
+
+  -- what was told is the fault, or that there is no memory for its line
+  pub refused_is : (wanted : Fault) (found : Option Fault) (fault : Fault) → IsRefusedWith before after was now names wanted found → found ≡ Some fault → (fault ≡ wanted) ⊎ ((fault ≡ NoMemory) × IsFormatted wanted)
+  refused_is wanted None fault refused is = absurd (cc)
+  refused_is wanted (Some other) fault refused is =
+      let same : other ≡ fault = (cc) in subst (λ (f : Fault). (f ≡ wanted) ⊎ ((f ≡ NoMemory) × IsFormatted wanted)) same refused.0
+
+  -- a file that cannot be read is always told
+  pub refused_read : (wanted : Fault) (found : Option Fault) (file : Input) → IsRefusedWith before after was now names wanted found → wanted ≡ Read file → found ≡ Some (Read file)
+  refused_read wanted None file refused is = absurd refused
+  refused_read wanted (Some fault) file refused is =
+      ⊎_elim (λ (same : fault ≡ wanted). (cc)) (λ (none : (fault ≡ NoMemory) × IsFormatted wanted). absurd (subst IsFormatted is none.1)) refused.0
+
+  -- a refusal of words tells of no file and of no writing
+  pub words_told : (wanted : Fault) (words : WordsFault) (found : Option Fault) (fault : Fault) → wanted ≡ Words words → IsRefusedWith before after was now names wanted found → found ≡ Some fault → (fault ≡ Words words) ⊎ (fault ≡ NoMemory)
+  words_told wanted words found fault is refused told =
+      ⊎_elim (λ (same : fault ≡ wanted). inl (same ∙ is)) (λ (none : (fault ≡ NoMemory) × IsFormatted wanted). inr none.0) (refused_is wanted found fault refused told)
+
+pub keeps_same : (o : Option (List ℕ)) → Keeps o o
+keeps_same None = tt
+keeps_same (Some bytes) = (cc)

@@ -1,0 +1,10 @@
+use Rattle.std.proofs.Common.{subst, map, string_bytes}
+use Rattle.csv_rows.specs.declared.limits.Limits.{Limits}
+use Rattle.meat_engine.specs.Received.{Outcome, IsTold}
+use Rattle.meat_engine.proofs.top.run.Goals as goal
+
+pub returns-clause-outcome : goal.returns-clause-outcome
+returns-clause-outcome g c =
+    subst (λ (limits : Limits). Outcome (g.F.Files.files c.args.files.now) limits (map string_bytes c.args.words.now) c.run_within.result (g.O.Sink.written c.args.out.now) (g.O.Sink.written c.run_within.new.out)
+    (IsTold (g.E.Sink.written c.args.err.now) (g.E.Sink.written c.run_within.new.err) (g.E.Sink.faults c.args.err.now) (g.E.Sink.faults c.run_within.new.err)) c.run_within.result.fault)
+    c.standard.ensures c.run_within.ensures.outcome
