@@ -1,5 +1,5 @@
 -- The causes of a step after others.
-use Rattle.std.proofs.Common.{◌≡◌, ℕ, ◌<◌, ◌≤◌, List, Result, Ok, Err, Option, Some, None, arith, ⊎_elim, sym, subst}
+use Rattle.std.proofs.Common.{◌≡◌, ℕ, ◌<◌, ◌≤◌, List, Result, Ok, Err, None, arith, ⊎_elim, sym, subst}
 use Rattle.std.specs.Prelude.{IsErrOf, IfErr}
 use Rattle.std.proofs.lemmas.Bool.{cases_lt}
 use Rattle.file_ports.specs.Counts.{Rose}

@@ -1,11 +1,10 @@
 -- What a loaded file gives.
-use Rattle.std.proofs.Common.{◌≡◌, ℕ, ◌≤◌, List, length, Option, Some, None, Result, Ok, Err, Bool, true, false, arith, refl, ap, ◌∙◌, subst}
-use Rattle.std.specs.Prelude.{IfSome, IfOk, nat_lt, ◌==◌, if◌then◌else◌}
+use Rattle.std.proofs.Common.{◌≡◌, ℕ, List, Option, Some, None, Err, Bool, true, arith, refl, ap, subst}
+use Rattle.std.specs.Prelude.{IfSome, ◌==◌, if◌then◌else◌}
 use Rattle.std.proofs.lemmas.Bool.Decides.{nat_tests}
 use Rattle.csv_rows.specs.FeedTables.{rank_of}
 use Rattle.meat_engine.specs.declared.faults.Input.{Input}
 use Rattle.meat_engine.specs.declared.faults.Input.TheVariants as input
-use Rattle.meat_engine.specs.declared.faults.Fault.{Fault}
 use Rattle.meat_engine.specs.declared.faults.Fault.TheVariants.{Read}
 use Rattle.meat_engine.specs.Faults.{is_unread}
 use Rattle.meat_engine.specs.Files.{bytes_of, bytes_present}

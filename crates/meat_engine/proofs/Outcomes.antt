@@ -1,8 +1,7 @@
 -- What a run comes to.
-use Rattle.std.proofs.Common.{◌≡◌, ℕ, List, [], Global, Option, Some, None, Result, Ok, Err, inl, inr, sym, subst, ⊎_elim, ◌∙◌}
+use Rattle.std.proofs.Common.{◌≡◌, ℕ, List, [], Global, Option, Some, None, Ok, inl, inr, sym, subst, ⊎_elim, ◌∙◌}
 use Rattle.std.specs.Prelude.{◌≢◌, ◌⊎◌, MatchOption, Vec}
-use Rattle.std.specs.Io.KnownBytes.{Appends, Keeps}
-use Rattle.file_ports.specs.Loading.{AppendsFront}
+use Rattle.std.specs.Io.KnownBytes.{Keeps}
 use Rattle.file_ports.specs.Ports.{Folder}
 use Rattle.csv_rows.specs.declared.limits.Limits.{Limits}
 use Rattle.plan_model.specs.NameLists.{NameLists}
@@ -20,7 +19,7 @@ use Rattle.meat_engine.specs.Samples.{IsSampled}
 use Rattle.meat_engine.specs.Lines.{line_of, IsFormatted, IsNameless}
 use Rattle.meat_engine.specs.declared.replays.Refusal.{Refusal}
 use Rattle.meat_engine.specs.Refusals.{IsLined}
-use Rattle.meat_engine.specs.Received.{AnswersJob, FailsJob, Answers, HasCause, IsRefused, IsRefusedWith, IsWritten, IsTold, Outcome}
+use Rattle.meat_engine.specs.Received.{AnswersJob, FailsJob, HasCause, IsRefused, IsRefusedWith, IsWritten, IsTold, Outcome}
 
 -- a report that tells the same answers the same
 sought_as : (p : Problem) (s : WantedSearch) (answer report : Report) (text : List ℕ) → findings_of report ≡ findings_of answer → IsSought p s answer text → IsSought p s report text

@@ -1,5 +1,5 @@
 -- Why a search fails, put together.
-use Rattle.std.proofs.Common.{◌≡◌, ℕ, Option, Some, None, arith}
+use Rattle.std.proofs.Common.{◌≡◌, ℕ, Option, None, arith}
 use Rattle.file_ports.specs.Counts.{Rose}
 use Rattle.feed_maker.specs.Made.{made, SameFolder}
 use Rattle.meat_engine.specs.declared.faults.Input.{Input}

@@ -1,9 +1,9 @@
 -- What a sink received.
-use Rattle.std.proofs.Common.{◌≡◌, ℕ, List, length, Option, Some, None, Result, Ok, Err, sym, subst, arith, refl}
+use Rattle.std.proofs.Common.{◌≡◌, ℕ, List, length, Option, Result, Ok, Err, sym, subst, arith, refl}
 use Rattle.std.specs.Prelude.{OnOk, OnErr}
 use Rattle.std.specs.Io.KnownBytes.{Appends}
 use Rattle.std.proofs.Math.Seq.{take-length}
-use Rattle.file_ports.specs.Counts.{Rose, HasCause}
+use Rattle.file_ports.specs.Counts.{HasCause}
 use Rattle.file_ports.specs.Loading.{AppendsFront}
 use Rattle.plan_model.specs.NameLists.{NameLists}
 use Rattle.trip_replay.specs.declared.ReplayFault.TheVariants as replay

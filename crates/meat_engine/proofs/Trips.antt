@@ -1,5 +1,5 @@
 -- The steps of a replay, put together.
-use Rattle.std.proofs.Common.{◌≡◌, ℕ, List, Option, Some, None, Result, Ok, Err, sym, ap, ◌∙◌, subst, arith, refl}
+use Rattle.std.proofs.Common.{◌≡◌, ℕ, List, Option, None, Result, Ok, Err, sym, ap, ◌∙◌, subst, arith, refl}
 use Rattle.std.proofs.Common.{[], Global}
 use Rattle.std.specs.Prelude.{◌≢◌, ◌<◌, ◌≤◌, length, IfErr, IfOk, IfSome, MatchOption, Vec}
 use Rattle.meat_engine.specs.Lines.{line_of}
@@ -19,21 +19,20 @@ use Rattle.trip_replay.specs.Rides.{IsStuckAfter}
 use Rattle.command_line.specs.Jobs.{WantedReplay}
 use Rattle.meat_engine.specs.declared.faults.Input.{Input}
 use Rattle.meat_engine.specs.declared.faults.Input.TheVariants as input
-use Rattle.meat_engine.specs.declared.faults.LimitKind.{LimitKind}
 use Rattle.meat_engine.specs.declared.faults.LimitKind.TheVariants.{Bytes, Rows, CutRows, Connections}
 use Rattle.meat_engine.specs.declared.faults.Fault.{Fault}
 use Rattle.meat_engine.specs.declared.faults.Fault.TheVariants.{Words, Feed, Cut, Missing, Delays, UnknownStop, Limit, Read, NoSafe, GraphFile, Replay, Write, NoMemory}
 use Rattle.meat_engine.specs.declared.problem.Problem.{Problem}
 use Rattle.meat_engine.specs.declared.report.Report.{Report}
 use Rattle.meat_engine.specs.Faults.{unread_of}
-use Rattle.meat_engine.specs.Files.{bytes_of, and_then, Finds, IsEarly}
+use Rattle.meat_engine.specs.Files.{bytes_of, and_then, IsEarly}
 use Rattle.meat_engine.specs.Problems.{IsProblem, IsProblemFault, IsSound, InProblem}
 use Rattle.trip_replay.specs.declared.Trace.{Trace}
 use Rattle.trip_replay.specs.Walk.{IsAnswer}
 use Rattle.meat_engine.specs.declared.replays.Refusal.{Refusal}
 use Rattle.meat_engine.specs.Lines.{IsNameless}
-use Rattle.meat_engine.specs.Refusals.{IsPlaced, IsLined, IsRefusalOf, IsTripRefusal, IsRefusalBy, by_fault}
-use Rattle.meat_engine.specs.Replays.{graph_as, graph_in, IsOfGraph, FailsGraph, FailsReplay, IsGraphFile, IsTripFault, IsSafeTrip, trip_by, IsTripTold, IsReplayed}
+use Rattle.meat_engine.specs.Refusals.{IsPlaced, IsRefusalOf, IsTripRefusal, IsRefusalBy, by_fault}
+use Rattle.meat_engine.specs.Replays.{graph_as, graph_in, IsOfGraph, FailsGraph, FailsReplay, IsGraphFile, IsSafeTrip, trip_by, IsTripTold, IsReplayed}
 use Rattle.meat_engine.proofs.TextLemmas.{arrivals, places}
 
 -- a trip is stuck at a place, at a moment that has a text
@@ -170,12 +169,11 @@ no_names = record { places = []; runs = [] }
 
 -- a refusal whose line names no place
 pub plain_refusal : (cause : NameLists → Fault → Type 0) (r : Refusal) (fault : Fault) → r.fault ≡ fault → r.line ≡ None → IsNameless fault → ((names : NameLists) → fault ≢ NoMemory → cause names fault) → IsRefusalBy cause r
-plain_refusal cause r fault is none nameless holds =
-    (
-      no_names,
-      subst (λ (line : Option (Vec ℕ Global)). MatchOption line (IsNameless r.fault) (λ l. l.items ≡ line_of no_names r.fault)) (sym none) (subst IsNameless (sym is) nameless),
-      λ other. subst (cause no_names) (sym is) (holds no_names (λ same. other (is ∙ same))),
-    )
+plain_refusal cause r fault is none nameless holds = (
+  no_names,
+  subst (λ (line : Option (Vec ℕ Global)). MatchOption line (IsNameless r.fault) (λ l. l.items ≡ line_of no_names r.fault)) (sym none) (subst IsNameless (sym is) nameless),
+  λ other. subst (cause no_names) (sym is) (holds no_names (λ same. other (is ∙ same))),
+)
 
 module _ (told : Option Folder) (limits : Limits) (r : WantedReplay) where
   pub problem_refusal : (refusal : Refusal) (fault : Fault) → refusal.fault ≡ fault → refusal.line ≡ None → IsEarly fault → IfSome told (λ files. IsProblemFault limits files r.journey fault) → IsRefusalBy (FailsReplay told limits r) refusal
@@ -190,12 +188,11 @@ module _ (told : Option Folder) (limits : Limits) (r : WantedReplay) where
         (λ names other. graph_fails told limits r names fault (of other) (p, sound, problem, if_some_then told _ _ (λ files h. h other) holds))
 
     pub trip_fails : (head : Head) (graph : PlanGraph) (refusal : Refusal) → IsGraphFile told limits r p head graph → IsTripRefusal p head graph r.late refusal → IsRefusalBy (FailsReplay told limits r) refusal
-    trip_fails head graph refusal file fails =
-        (
-          p.names,
-          fails.lined,
-          λ other. let why = fails.is other in subst (FailsReplay told limits r p.names) (sym why.1) (p, sound, problem, (refl, (head, graph, file, why.2))),
-        )
+    trip_fails head graph refusal file fails = (
+      p.names,
+      fails.lined,
+      λ other. let why = fails.is other in subst (FailsReplay told limits r p.names) (sym why.1) (p, sound, problem, (refl, (head, graph, file, why.2))),
+    )
 
     pub trip_told : (head : Head) (graph : PlanGraph) (report : Report) (text : List ℕ) → IsGraphFile told limits r p head graph → IsTripTold p head graph r.late report text → InProblem told limits r.journey (λ p. IsReplayed told limits r p report text)
     trip_told head graph report text file tells = (p, sound, problem, (head, graph, file, tells))

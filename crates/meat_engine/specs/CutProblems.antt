@@ -16,7 +16,6 @@ use Rattle.cut_file.specs.Networks.{IsNetwork}
 use Rattle.delay_table.specs.declared.faults.DelayFault.TheVariants as delay
 use Rattle.delay_table.specs.DelayLists.{DelayLists}
 use Rattle.delay_table.specs.Delays.{delays_of, first_fault as first_delay_fault}
-use Rattle.plan_model.specs.Parts.{Parts}
 use Rattle.plan_model.specs.NameLists.{NameLists}
 use Rattle.command_line.specs.Jobs.{WantedJourney}
 use Rattle.meat_engine.specs.declared.faults.Input.{Input}

@@ -1,5 +1,5 @@
 -- The faults of a run: the number that a process ends with, and the file that a fault is of.
-use Rattle.std.specs.Prelude.{◌≡◌, ◌≢◌, ℕ, ◌==◌, Bool, true, false, List, Option, None, Some, Result, Ok, Err, codes}
+use Rattle.std.specs.Prelude.{◌≡◌, ◌≢◌, ℕ, ◌==◌, Bool, true, false, List, Option, None, Some, codes}
 use Rattle.csv_rows.specs.declared.feed_tables.Table.{Table}
 use Rattle.csv_rows.specs.FeedTables.{file_name, rank_of}
 use Rattle.meat_engine.specs.declared.faults.Input.{Input}

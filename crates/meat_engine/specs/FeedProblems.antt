@@ -1,7 +1,6 @@
 -- The timetable of a feed's folder, and the first fault of a journey over it.
-use Rattle.std.specs.Prelude.{◌≡◌, ℕ, ◌+◌, ◌<◌, ◌≤◌, ◌⊎◌, List, Option, None, Some, Result, Ok, Err, IsOk, IsOkAnd, is_none, if◌then◌else◌}
+use Rattle.std.specs.Prelude.{◌≡◌, ℕ, ◌+◌, ◌<◌, ◌≤◌, ◌⊎◌, List, Option, None, Some, Err, IsOk, IsOkAnd, is_none, if◌then◌else◌}
 use Rattle.file_ports.specs.Ports.{Folder, file_at}
-use Rattle.csv_rows.specs.declared.feed_tables.Table.{Table}
 use Rattle.csv_rows.specs.declared.feed_tables.FeedFault.{FeedFault}
 use Rattle.csv_rows.specs.declared.feed_tables.FeedFault.TheVariants as feed
 use Rattle.csv_rows.specs.declared.limits.Limits.{Limits}
@@ -14,7 +13,6 @@ use Rattle.change_times.specs.Transfers.{place_of_stop}
 use Rattle.delay_table.specs.DelayLists.{DelayLists}
 use Rattle.connections.specs.Cut.{IsNetworkFrom, connection_count}
 use Rattle.command_line.specs.Jobs.{WantedJourney}
-use Rattle.meat_engine.specs.declared.faults.Input.{Input}
 use Rattle.meat_engine.specs.declared.faults.Input.TheVariants as input
 use Rattle.meat_engine.specs.declared.faults.Which.TheVariants as which
 use Rattle.meat_engine.specs.declared.faults.LimitKind.TheVariants.{Bytes, Rows, Connections}

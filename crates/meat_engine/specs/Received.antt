@@ -1,5 +1,5 @@
 -- What a run comes to, by its fault, and what the two sinks received.
-use Rattle.std.specs.Prelude.{◌≡◌, ◌⊎◌, ℕ, List, [], Option, None, Some, Result, Ok, Err}
+use Rattle.std.specs.Prelude.{◌≡◌, ◌⊎◌, ℕ, List, [], Option, None, Some, Ok, Err}
 use Rattle.std.specs.Io.KnownBytes.{Appends, Keeps}
 use Rattle.file_ports.specs.Counts.{Rose}
 use Rattle.file_ports.specs.Loading.{AppendsFront}

@@ -1,8 +1,7 @@
 -- What `replay` answers: the trip by a printed graph, as the delays come.
-use Rattle.std.specs.Prelude.{◌≡◌, ℕ, ◌≤◌, List, [], Option, None, Some, Result, Ok, Err, IfSome}
+use Rattle.std.specs.Prelude.{◌≡◌, ℕ, List, [], Option, None, Result, Ok, Err, IfSome}
 use Rattle.file_ports.specs.Ports.{Folder, file_at}
 use Rattle.csv_rows.specs.declared.limits.Limits.{Limits}
-use Rattle.plan_model.specs.declared.model.Query.{Query}
 use Rattle.plan_model.specs.NameLists.{NameLists}
 use Rattle.plan_model.specs.Strategy.{IsSafeFor}
 use Rattle.plan_graph.specs.declared.PlanGraph.{PlanGraph}

@@ -18,3 +18,6 @@ mod top;
 pub use faults::{Fault, Input, LimitKind, Which};
 pub use report::{Report, Status};
 pub use top::run;
+
+#[cfg(test)]
+mod tests;

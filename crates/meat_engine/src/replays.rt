@@ -168,12 +168,23 @@ fn trip(
     let Ok(delays) = job.delays(alloc) else {
         return Err(Refusal::plain(Fault::NoMemory));
     };
-    let trace = match replay(alloc, &graph, &problem.network, &head.query, delays.as_slice()) {
+    let trace = match replay(
+        alloc,
+        &graph,
+        &problem.network,
+        &head.query,
+        delays.as_slice(),
+    ) {
         Err(fault) => return Err(refusal_of(alloc, problem, fault)),
         Ok(trace) => trace,
     };
-    let Ok(text) = trace_text(alloc, &problem.network, &problem.names, problem.target, &trace)
-    else {
+    let Ok(text) = trace_text(
+        alloc,
+        &problem.network,
+        &problem.names,
+        problem.target,
+        &trace,
+    ) else {
         return Err(Refusal::plain(Fault::NoMemory));
     };
     let report = Report {

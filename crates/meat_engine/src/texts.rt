@@ -100,11 +100,7 @@ fn arrived_text(alloc: Global, target: &str, arrival: Moment) -> Result<Vec<u8>,
     let moment = write_moment(arrival);
     row(
         alloc,
-        &[
-            b"arrived".as_slice(),
-            target.as_bytes(),
-            moment.as_slice(),
-        ],
+        &[b"arrived".as_slice(), target.as_bytes(), moment.as_slice()],
     )
 }
 

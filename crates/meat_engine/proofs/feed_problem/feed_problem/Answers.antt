@@ -1,4 +1,4 @@
-use Rattle.std.proofs.Common.{◌≡◌, Option, None}
+use Rattle.std.proofs.Common.{◌≡◌, None}
 use Rattle.file_ports.specs.Ports.{Folder, file_at}
 use Rattle.delay_table.specs.DelayLists.{DelayLists}
 use Rattle.command_line.specs.Shown.{journey_shown}

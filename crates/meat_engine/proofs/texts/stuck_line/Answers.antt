@@ -1,9 +1,8 @@
-use Rattle.std.proofs.Common.{◌≡◌, ◌++◌, [], ℕ, List, ◌∙◌, ap, sym}
-use Rattle.std.specs.Prelude.{codes}
+use Rattle.std.proofs.Common.{◌∙◌}
 use Rattle.clock_text.specs.Civil.{moment_text}
 use Rattle.graph_text.specs.Texts.{place_name}
 use Rattle.graph_text.proofs.Fields.{name_is}
-use Rattle.meat_engine.proofs.TextLemmas.{stuck_pieces, joined}
+use Rattle.meat_engine.proofs.TextLemmas.{joined}
 use Rattle.meat_engine.proofs.texts.stuck_line.Goals as goal
 
 pub returns : goal.returns

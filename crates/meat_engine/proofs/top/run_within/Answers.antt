@@ -1,7 +1,5 @@
-use Rattle.std.proofs.Common.{◌≡◌, ◌∙◌, map, string_bytes, Some, None, sym, ap, subst, ⊎_elim, refl}
-use Rattle.std.specs.Prelude.{IsSome}
+use Rattle.std.proofs.Common.{◌≡◌, ◌∙◌, map, string_bytes, sym, subst, ⊎_elim}
 use Rattle.command_line.specs.Shown.{shown}
-use Rattle.meat_engine.specs.declared.faults.Fault.{Fault}
 use Rattle.meat_engine.specs.declared.faults.Fault.TheVariants.{Words, Read, Write, NoMemory}
 use Rattle.meat_engine.specs.Received.{FailsJob, HasCause, IsTold}
 use Rattle.meat_engine.proofs.Outcomes.{keeps_same, no_names, words_lined, job_cause, write_fails, refused_outcome, answered_outcome, refused_some, refused_read, words_told}
