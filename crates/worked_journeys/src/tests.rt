@@ -21,25 +21,27 @@ struct Journey<'a> {
 
 /// What a run told: its answer and the line of its fault.
 #[derive(Drop)]
-struct Told {
-    status: u8,
-    out: String,
-    err: String,
+pub(super) struct Told {
+    pub status: u8,
+    pub out: String,
+    pub err: String,
 }
 
-const USUAL: &str = "class,delay,weight\n*,0,8000\n*,300,1500\n*,900,500\n";
+pub(super) const USUAL: &str = "class,delay,weight\n*,0,8000\n*,300,1500\n*,900,500\n";
 
-fn tell(alloc: Global, cut: &str, delays: &str, words: &[&str]) -> Result<Told, Fail> {
-    let mut files = MemoryFiles::new(alloc, 4096);
-    files.add("c", cut.as_bytes())?;
-    files.add("d", delays.as_bytes())?;
+/// What a run over some files told.
+pub(super) fn told_over(
+    alloc: Global,
+    files: &mut MemoryFiles,
+    words: &[&str],
+) -> Result<Told, Fail> {
     let mut list = Vec::new(alloc);
     for word in words {
         list.push(String::from_str(alloc, word)?)?;
     }
     let mut out = MemorySink::new(alloc, 4096, 1 << 13, List::new(alloc))?;
     let mut err = MemorySink::new(alloc, 4096, 1 << 13, List::new(alloc))?;
-    let report = run(alloc, list.as_slice(), &mut files, &mut out, &mut err);
+    let report = run(alloc, list.as_slice(), files, &mut out, &mut err);
     let (Ok(answer), Ok(line)) = (
         std::str::from_utf8(out.bytes()),
         std::str::from_utf8(err.bytes()),
@@ -51,6 +53,13 @@ fn tell(alloc: Global, cut: &str, delays: &str, words: &[&str]) -> Result<Told, 
         out: String::from_str(alloc, answer)?,
         err: String::from_str(alloc, line)?,
     })
+}
+
+fn tell(alloc: Global, cut: &str, delays: &str, words: &[&str]) -> Result<Told, Fail> {
+    let mut files = MemoryFiles::new(alloc, 4096);
+    files.add("c", cut.as_bytes())?;
+    files.add("d", delays.as_bytes())?;
+    told_over(alloc, &mut files, words)
 }
 
 fn ask(alloc: Global, command: &str, journey: Journey) -> Result<Told, Fail> {
@@ -259,67 +268,79 @@ fn staying_seated_and_what_may_not_be_boarded(rt: HostRuntime) -> Result<(), Fai
     )
 }
 
+const DIRECT: &str = "run,step,from,to,dep,arr\nr1,1,A,T,2024-06-03T08:00:00,2024-06-03T09:00:00\n";
+
+/// Whether a plan over these files is refused with this line.
+fn refuses(alloc: Global, cut: &str, delays: &str, line: &str) -> Result<(), Fail> {
+    let journey = Journey {
+        delays,
+        ..two_buses(cut)
+    };
+    let told = ask(alloc, "plan", journey)?;
+    if told.err.as_str() != line || told.out.len() != 0 {
+        return Err("another line".into());
+    }
+    Ok(())
+}
+
 #[test]
-fn refusals_with_their_lines(rt: HostRuntime) -> Result<(), Fail> {
-    let alloc = rt.alloc();
-    let direct = "run,step,from,to,dep,arr\nr1,1,A,T,2024-06-03T08:00:00,2024-06-03T09:00:00\n";
-    for (cut, delays, line) in [
-        ("", USUAL, "meat: cut file has no column run\n"),
+fn cut_files_are_refused_by_line(rt: HostRuntime) -> Result<(), Fail> {
+    for (cut, line) in [
+        ("", "meat: cut file has no column run\n"),
         (
             "run,step,from,to,dep,arr\nr1,1,A,T,09:00:00,2024-06-03T09:00:00\n",
-            USUAL,
             "meat: cut file line 2: bad dep\n",
         ),
         (
             "run,step,from,to,dep,arr\nr1,1,A,T,2024-06-03T08:00:00,2024-06-03T09:00:00\nr1,1,A,T,2024-06-03T08:00:00,2024-06-03T09:00:00\n",
-            USUAL,
             "meat: cut file line 3: repeated step\n",
         ),
         (
             "run,step,from,to,dep,arr\nr1,1,A,T,2024-06-03T08:00:00,2024-06-03T07:00:00\n",
-            USUAL,
             "meat: cut file line 2: time goes back\n",
         ),
         (
             "run,step,from,to,dep,arr\nr1,1,A,B,2024-06-03T08:00:00,2024-06-03T08:10:00\nr1,2,C,T,2024-06-03T08:20:00,2024-06-03T09:00:00\n",
-            USUAL,
             "meat: cut file line 3: run is broken\n",
         ),
+    ] {
+        refuses(rt.alloc(), cut, USUAL, line)?;
+    }
+    Ok(())
+}
+
+#[test]
+fn delay_files_are_refused_by_line_or_class(rt: HostRuntime) -> Result<(), Fail> {
+    for (delays, line) in [
         (
-            direct,
             "class,delay\n*,0\n",
             "meat: delay file has no column weight\n",
         ),
         (
-            direct,
             "class,delay,weight\n*,86401,10000\n",
             "meat: delay file line 2: bad field\n",
         ),
         (
-            direct,
             "class,delay,weight\n*,0,8000\n*,300,1500\n*,300,500\n",
             "meat: delay file line 4: delay does not rise\n",
         ),
         (
-            direct,
             "class,delay,weight\n*,0,8000\n*,300,1500\n*,900,499\n",
             "meat: delay class * weights sum to 9999\n",
         ),
         (
-            direct,
             "class,delay,weight\n3,0,10000\n",
             "meat: delay class * is missing\n",
         ),
-        (direct, "", "meat: delay file has no column class\n"),
+        ("", "meat: delay file has no column class\n"),
     ] {
-        let journey = Journey {
-            delays,
-            ..two_buses(cut)
-        };
-        let told = ask(alloc, "plan", journey)?;
-        assert_eq!(rt; told.err.as_str(), line);
-        assert_eq!(rt; told.out.as_str(), "");
+        refuses(rt.alloc(), DIRECT, delays, line)?;
     }
+    Ok(())
+}
+
+#[test]
+fn words_are_refused_by_their_first_reason(rt: HostRuntime) -> Result<(), Fail> {
     for (words, line) in [
         ([].as_slice(), "meat: words refused\n"),
         (["safe", "--from"].as_slice(), "meat: words refused\n"),
@@ -327,26 +348,24 @@ fn refusals_with_their_lines(rt: HostRuntime) -> Result<(), Fail> {
             ["safe", "--size", "10", "--size", "10"].as_slice(),
             "meat: words refused\n",
         ),
-        (["safe", "--x", "10"].as_slice(), "meat: words refused\n"),
         (["safe", "--size=10"].as_slice(), "meat: words refused\n"),
-        (
-            ["fly", "--size", "10"].as_slice(),
-            "meat: unknown command\n",
-        ),
+        (["fly"].as_slice(), "meat: unknown command\n"),
         (
             ["safe", "--horizon", "5"].as_slice(),
             "meat: option --horizon is not used here\n",
         ),
-        (["safe"].as_slice(), "meat: missing option --cut\n"),
         (
-            [
-                "plan", "--cut", "c", "--delays", "d", "--from", "A", "--to", "T",
-            ]
-            .as_slice(),
-            "meat: missing option --at\n",
+            ["plan", "--cut", "c", "--feed", "f"].as_slice(),
+            "meat: option --cut is not used here\n",
+        ),
+        (["safe"].as_slice(), "meat: missing option --feed\n"),
+        (["sample"].as_slice(), "meat: missing option --size\n"),
+        (
+            ["sample", "--size", "401"].as_slice(),
+            "meat: bad value of --size\n",
         ),
     ] {
-        let told = tell(alloc, direct, USUAL, words)?;
+        let told = tell(rt.alloc(), DIRECT, USUAL, words)?;
         assert_eq!(rt; told.err.as_str(), line);
         assert_eq!(rt; told.status, 2);
     }
