@@ -2,10 +2,10 @@
 """How the time and the memory of the built program grow with a feed.
 
 The feeds are those of `sample`, whose rule is in docs/FORMATS.md: so many lines between ten hubs, each of 96
-runs a day with 21 stop times. First comes `sample` itself, which makes the feed in memory. Then come `safe`
-and `plan` over the feed of 400 lines as files, beside `wc -l` of its tables. The last line is a feed of more
-lines by the same rule, with about 2^22 stop times, and with a source that the feed does not have: the program
-reads all tables, refuses with status 5, and plans nothing. The peak memory is at least this script's own, from
+runs a day with 21 stop times. First comes `sample` itself, which makes the feed in memory. Then come reading,
+`safe` and `plan` over the feed of 400 lines as files, beside `wc -l` of its tables, and reading a feed of more
+lines by the same rule, with about 2^22 stop times. Reading is `safe` with a source that the feed does not have:
+the program reads all tables, refuses with status 5, and plans nothing. The peak memory is at least this script's own, from
 which the process is begun.
 
 It needs the built program: `./meat` with no words builds it.
@@ -106,17 +106,19 @@ def main():
     before = None
     for size in (int(text) for text in options.sizes.split(",")):
         run = best([PROGRAM, "sample", "--size", str(size)], options.times, options.limit)
-        print(line("sample", rows_of(size), run, (0.0, 0, 0), before), flush=True)
+        print(line("sample", rows_of(size), run, None, before), flush=True)
         before = (run, rows_of(size))
-    for commands, lines, source in ((("safe", "plan"), options.lines, "H0"), (("safe",), options.reading, "no such stop")):
+    for commands, lines in ((("reading", "safe", "plan"), options.lines), (("reading",), options.reading)):
         with tempfile.TemporaryDirectory() as folder:
             write_feed(folder, lines)
             tables = [os.path.join(folder, name) for name in sorted(os.listdir(folder))]
             counted = best(["wc", "-l", *tables], options.times, options.limit)
             for command in commands:
-                run = best(words_of(command, folder, source), options.times, options.limit)
-                what = command if source == "H0" else "reading"
-                print(line(what, rows_of(lines), run, counted, None), flush=True)
+                words = words_of(command, folder, "H0")
+                if command == "reading":
+                    words = words_of("safe", folder, "no such stop")
+                run = best(words, options.times, options.limit)
+                print(line(command, rows_of(lines), run, counted, None), flush=True)
 
 
 if __name__ == "__main__":

@@ -108,16 +108,19 @@ def best(words, times, limit):
 
 
 def line(what, rows, run, counted, before):
-    """One line of the table: `before` is the run and the rows of the line that it is compared with."""
+    """One line of the table: `counted` is a run of `wc -l`, and `before` the run and the rows of the line that
+    it is compared with; each may be none."""
     if run is None:
         return "%-8s %9d   over the limit of time" % (what, rows)
     seconds, peak, status = run
     growth = "-"
     if before is not None and before[0] is not None:
         growth = "%.2f" % (seconds / before[0][0] / (rows / before[1]))
-    return "%-8s %9d %9.3f %9.1f %9.3f %9s %9.3f %9.1f %7d" % (
-        what, rows, seconds, peak / 1024, seconds / rows * 1e6, growth, counted[0],
-        seconds / max(counted[0], 1e-9), status)
+    wc, times = "-", "-"
+    if counted is not None:
+        wc, times = "%.3f" % counted[0], "%.1f" % (seconds / max(counted[0], 1e-9))
+    return "%-8s %9d %9.3f %9.1f %9.3f %9s %9s %9s %7d" % (
+        what, rows, seconds, peak / 1024, seconds / rows * 1e6, growth, wc, times, status)
 
 
 def words_of(command, cut, delays, source):
