@@ -15,7 +15,7 @@ use Rattle.delay_table.specs.DelayLists.{DelayLists}
 use Rattle.delay_table.specs.Slots.{AreDelays}
 use Rattle.gtfs_tables.specs.declared.stop_times.StopRow.{StopRow}
 use Rattle.gtfs_tables.specs.Feeds.{FeedParts}
-use Rattle.csv_rows.specs.Ids.{AreNames}
+use Rattle.csv_rows.specs.Ids.{AreIds}
 use Rattle.gtfs_tables.specs.Timed.{rows_of, kept_at, AreTimed, IsTimed}
 use Rattle.connections.specs.declared.window.Window.{Window}
 use Rattle.connections.specs.declared.runs.Run.{Run}
@@ -277,7 +277,7 @@ module _ (f : FeedParts) (d : DelayLists) (delays : AreDelays d) (w : Window) (v
       let Q : List (List Outcome) → Type 0 = λ x. IsValid (parts cs change x) in
       subst P (sym e) (subst Q (sym h) valid_here)
 
-  pub fits : (n : Parts) (names : NameLists) → n.connections ≡ cs → n.change ≡ change → names.places ≡ f.stop_ids → All IsTrimmed f.stop_ids → AreNames f.trip_ids
+  pub fits : (n : Parts) (names : NameLists) → n.connections ≡ cs → n.change ≡ change → names.places ≡ f.stop_ids → All IsTrimmed f.stop_ids → AreIds f.trip_ids
       → AreRunNames f rs (length rs) names.runs → NamesFit names n
   unfolding connection
   fits n names e h places trimmed ids named =

@@ -10,7 +10,7 @@ use Rattle.clock_text.specs.Times.{date_at}
 use Rattle.clock_text.proofs.DigitLemmas.{and_parts}
 use Rattle.plan_model.specs.NameLists.{Adds, AreDistinct, IsTrimmed}
 use Rattle.gtfs_tables.specs.Feeds.{FeedParts}
-use Rattle.csv_rows.specs.Ids.{AreNames}
+use Rattle.csv_rows.specs.Ids.{AreIds}
 use Rattle.connections.specs.declared.runs.Run.{Run}
 use Rattle.connections.specs.Rides.{run_at}
 use Rattle.connections.specs.Runs.{IsRunOf, AreRunsOf}
@@ -32,7 +32,7 @@ one_id ids distinct i j h k same =
     (λ (ge : j ≤ i). ⊎_elim (λ (more : j < i). absurd (distinct j i more h (sym same))) (λ (le : i ≤ j). omega arith) (cases_lt j i)) (cases_lt i j)
 
 -- two runs of one name are one
-pub one_run : (f : FeedParts) → AreNames f.trip_ids → (a b : Run) (name : List ℕ) → IsRunOf f a → IsRunOf f b → IsRunName f a name → IsRunName f b name
+pub one_run : (f : FeedParts) → AreIds f.trip_ids → (a b : Run) (name : List ℕ) → IsRunOf f a → IsRunOf f b → IsRunName f a name → IsRunName f b name
     → (a.day ≡ b.day) × (a.trip ≡ b.trip)
 one_run f ids a b name of_a of_b h k =
     let x = date_text h.date (pos a.day) h.reads in
@@ -47,7 +47,7 @@ name_at : (f : FeedParts) (rs : List Run) (n : ℕ) (names : List (List ℕ)) �
 name_at f rs n names a k d h = subst (IsRunName f (run_at rs k)) (get_or_default names k [] d (omega (arith, a.size))) (a.each k h)
 
 -- the name of one more run
-pub run_adds : (f : FeedParts) (rs : List Run) (r : ℕ) (old new : List (List ℕ)) (name : List ℕ) (added : Bool) → AreNames f.trip_ids → AreRunsOf f rs → r < length rs
+pub run_adds : (f : FeedParts) (rs : List Run) (r : ℕ) (old new : List (List ℕ)) (name : List ℕ) (added : Bool) → AreIds f.trip_ids → AreRunsOf f rs → r < length rs
     → AreRunNames f rs r old → IsRunName f (run_at rs r) name → Adds old new name added → AreRunNames f rs (r + 1) new
 run_adds f rs r old new name true ids runs inside a h k =
     subst (AreRunNames f rs (r + 1)) (sym k.0) (record {
@@ -91,7 +91,7 @@ no_end xs zero l e t = omega (arith, e)
 no_end xs (suc n) l e t = t (take n xs) (split_last xs n (omega arith) e)
 
 -- the name of a run neither begins nor ends with a space
-pub name_trimmed : (f : FeedParts) (run : Run) (name : List ℕ) → AreNames f.trip_ids → run.trip < length f.trip_ids → IsRunName f run name → IsTrimmed name
+pub name_trimmed : (f : FeedParts) (run : Run) (name : List ℕ) → AreIds f.trip_ids → run.trip < length f.trip_ids → IsRunName f run name → IsTrimmed name
 name_trimmed f run name ids inside h =
     let id = slice_index_or f.trip_ids run.trip [] in
     let d = date_text h.date (pos run.day) h.reads in
@@ -102,7 +102,7 @@ name_trimmed f run name ids inside h =
       end = λ rest e. no_end id (length id) refl (sym (ap (λ i. get_or (58 ∷ id) i 0) one) ∙ last_is h.date (58 ∷ id) rest (sym h.text ∙ e) (omega arith)) id_trimmed.end;
     }
 
-pub names_trimmed : (f : FeedParts) (rs : List Run) (names : List (List ℕ)) → AreNames f.trip_ids → AreRunsOf f rs → AreRunNames f rs (length rs) names → All IsTrimmed names
+pub names_trimmed : (f : FeedParts) (rs : List Run) (names : List (List ℕ)) → AreIds f.trip_ids → AreRunsOf f rs → AreRunNames f rs (length rs) names → All IsTrimmed names
 names_trimmed f rs names ids runs a k d h =
     let inside : k < length rs = omega (arith, a.size) in
     name_trimmed f (run_at rs k) (get_or names k d) ids (runs.each k inside).trip (name_at f rs (length rs) names a k d inside)

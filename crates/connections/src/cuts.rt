@@ -3,7 +3,7 @@ ghost use Rattle.std.specs.Prelude.{◌≡◌, ◌<◌, ◌≤◌, length, OnOk,
 ghost use Rattle.csv_rows.specs.Limits.{AreWithin};
 ghost use Rattle.csv_rows.specs.Lists.{list_below};
 ghost use Rattle.change_times.specs.Changes.{seconds_of};
-ghost use Rattle.csv_rows.specs.Ids.{AreNames};
+ghost use Rattle.csv_rows.specs.Ids.{AreIds};
 ghost use Rattle.gtfs_tables.specs.Timed.{IsTimed};
 ghost use Rattle.plan_model.specs.NameLists.{NamesFit};
 ghost use Rattle.connections.specs.Window.{IsWindow};
@@ -44,8 +44,8 @@ fn network_of_runs(
     window: Window,
 ) -> Result<(Network, Names), NoMemory>
     requires window { IsWindow window }
-    requires stops { AreNames feed.now.stop_ids }
-    requires trips { AreNames feed.now.trip_ids }
+    requires stops { AreIds feed.now.stop_ids }
+    requires trips { AreIds feed.now.trip_ids }
     requires timed { IsTimed feed.now }
     requires runs { AreRunsOf feed.now runs.now }
     requires rides { AllRide feed.now window runs.now }

@@ -1,6 +1,6 @@
 //! The names of places and runs.
 ghost use Rattle.std.specs.Prelude.{◌≡◌, ◌≤◌, ◌<◌, [], length, string_bytes, OnOk, IfOk};
-ghost use Rattle.csv_rows.specs.Ids.{AreNames};
+ghost use Rattle.csv_rows.specs.Ids.{AreIds};
 ghost use Rattle.connections.specs.Runs.{AreRunsOf};
 ghost use Rattle.connections.specs.Networks.{IsRunName, AreRunNames};
 
@@ -31,7 +31,7 @@ fn run_name(alloc: Global, feed: &Feed, run: Run) -> Result<String, NoMemory>
 /// Adds the ids of the stops as the names of the places.
 fn add_places(names: &mut Names, feed: &Feed) -> Result<(), NoMemory>
     requires none { names.old.places ≡ [] }
-    requires ids { AreNames feed.now.stop_ids }
+    requires ids { AreIds feed.now.stop_ids }
     ensures places { OnOk result (names.new.places ≡ feed.now.stop_ids) }
     ensures runs { names.new.runs ≡ names.old.runs }
 {
@@ -46,7 +46,7 @@ fn add_runs(alloc: Global, names: &mut Names, feed: &Feed, runs: &[Run]) -> Resu
     requires none { names.old.runs ≡ [] }
     requires few { length runs.now ≤ 8388608 }
     requires runs { AreRunsOf feed.now runs.now }
-    requires ids { AreNames feed.now.trip_ids }
+    requires ids { AreIds feed.now.trip_ids }
     ensures places { names.new.places ≡ names.old.places }
     ensures runs { OnOk result (AreRunNames feed.now runs.now (length runs.now) names.new.runs) }
 {
@@ -61,8 +61,8 @@ fn add_runs(alloc: Global, names: &mut Names, feed: &Feed, runs: &[Run]) -> Resu
 pub(crate) fn names_of(alloc: Global, feed: &Feed, runs: &[Run]) -> Result<Names, NoMemory>
     requires few { length runs.now ≤ 8388608 }
     requires runs { AreRunsOf feed.now runs.now }
-    requires stops { AreNames feed.now.stop_ids }
-    requires trips { AreNames feed.now.trip_ids }
+    requires stops { AreIds feed.now.stop_ids }
+    requires trips { AreIds feed.now.trip_ids }
     ensures places { IfOk result (λ names. names.places ≡ feed.now.stop_ids) }
     ensures runs { IfOk result (λ names. AreRunNames feed.now runs.now (length runs.now) names.runs) }
 {

@@ -7,9 +7,9 @@ abbrev pub ids_of : Inside → List (List ℕ)
 ids_of s = texts s.ids.keys
 
 -- no id stands twice, none begins or ends with a space, and their numbers fit
-pub record AreNames (ids : List (List ℕ)) : Type 0 where
+pub record AreIds (ids : List (List ℕ)) : Type 0 where
   pub names : IsNameList ids
   pub trimmed : All IsTrimmed ids
 
-abbrev pub AreIds : Inside → Type 0
-AreIds s = AreNames (texts s.ids.keys)
+abbrev pub HasIds : Inside → Type 0
+HasIds s = AreIds (texts s.ids.keys)

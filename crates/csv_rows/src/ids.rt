@@ -5,7 +5,7 @@ ghost use Rattle.csv_rows.specs.FeedTables.{unread_of, IsFaultOf};
 ghost use Rattle.csv_rows.specs.Names.{name_in};
 ghost use Rattle.csv_rows.specs.Tables.{row_count, place_in, field_at};
 ghost use Rattle.plan_model.specs.NameLists.{Adds, IsTrimmed};
-ghost use Rattle.csv_rows.specs.Ids.{AreNames};
+ghost use Rattle.csv_rows.specs.Ids.{AreIds};
 ghost use Rattle.csv_rows.specs.RowFaults.{repeated_id};
 ghost use Rattle.csv_rows.specs.Lists.{list_below};
 
@@ -28,11 +28,11 @@ impl Model for Ids {
 
     ghost Value = { List (List ℕ) };
 
-    ghost use Rattle.csv_rows.specs.Ids.{ids_of, AreIds};
+    ghost use Rattle.csv_rows.specs.Ids.{ids_of, HasIds};
 
     ghost view = { ids_of };
 
-    ghost invariant = { AreIds };
+    ghost invariant = { HasIds };
 }
 
 impl Ids {
@@ -63,7 +63,7 @@ impl Ids {
     /// How many there are.
     pub fn len(&self) -> u32
         ensures count { result ≡ length self.now }
-        ensures names { AreNames self.now }
+        ensures names { AreIds self.now }
     {
         self.ids.len() as u32
     }

@@ -21,7 +21,7 @@ use Rattle.plan_model.specs.declared.model.Leg.{Leg}
 use Rattle.plan_model.specs.declared.model.Moment.{Moment}
 use Rattle.plan_model.specs.declared.model.PlaceId.{PlaceId}
 use Rattle.plan_model.specs.Parts.{Parts}
-use Rattle.plan_model.specs.NameLists.{NameLists, NamesFit}
+use Rattle.plan_model.specs.NameLists.{NameLists, NamesFit, AreNames}
 use Rattle.plan_model.specs.Network.{IsValid, count, change_of, connection, run_of, step_of, from_of, to_of, dep_of, arr_of}
 use Rattle.plan_model.specs.Ways.{limit_of}
 use Rattle.plan_model.proofs.Boarding.{limit_of-some, way_cases}
@@ -39,7 +39,6 @@ use Rattle.graph_text.specs.declared.reader.TextFault.{TextFault}
 use Rattle.graph_text.specs.declared.reader.TextFault.TheVariants as fault
 use Rattle.graph_text.specs.declared.reader.Reading.{Reading}
 use Rattle.graph_text.specs.Asked.{IsAsked}
-use Rattle.graph_text.specs.Names.{AreNames}
 use Rattle.graph_text.specs.Printable.{IsPrintableQuery}
 use Rattle.graph_text.specs.Texts.{leg_fields, place_name, run_name, rows_text, start_text, tables_text, row_of_fields, graph_text}
 use Rattle.graph_text.specs.Reading.{number_of, whole_at, connection_of, leg_numbers, leg_row_in, leg_found, leg_between, agrees, leg_of, is_limit, rises, start_by, start_named, start_numbers, start_in, is_by_limit, row_by_leg, row_named, row_numbers, row_in, place_numbers, place_row_in, table_named, table_numbers, table_in, begun, extended, step, and_then, tables_from, no_tables, graph_in, started_in, head_numbers, head_row_in, head_named, head_of_numbers, head_in, graph_of_records, graph_of}

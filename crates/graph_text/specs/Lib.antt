@@ -3,4 +3,3 @@ pub mod Writers
 pub mod Printable
 pub mod Reading
 pub mod Asked
-pub mod Names

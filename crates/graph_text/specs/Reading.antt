@@ -256,6 +256,10 @@ graph_of_records n names source target start (r ∷ rs) =
 abbrev pub graph_of : List ℕ → Parts → NameLists → ℕ → ℕ → ℕ → Result (Head × PlanGraph) TextFault
 graph_of text n names source target start = graph_of_records n names source target start (table_of text)
 
+-- the text is read as this head and this graph, where the head's question is asked
+abbrev pub IsReadAs : Parts → NameLists → Head → PlanGraph → List ℕ → Type 0
+IsReadAs n names head graph text = graph_of text n names head.query.source.0 head.query.target.0 head.query.start.0 ≡ Ok (head, graph)
+
 -- there was no memory, or it is this
 abbrev pub IsRead : {A : Type 0} → Result A TextFault → Result A TextFault → Type 0
 IsRead (Err NoMemory) told = Unit {0}

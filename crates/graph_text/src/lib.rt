@@ -1,7 +1,7 @@
 //! Graphs as printed rows.
 #![tactic(auto)]
 
-ghost use Rattle.std.specs.Prelude.{◌≡◌, ℕ, ◌<◌, ◌^◌, ◌++◌, [], map, All, IfOk, IfSome, OnOk, codes, length, Ok, List as Sequence};
+ghost use Rattle.std.specs.Prelude.{◌≡◌, ℕ, ◌<◌, ◌≤◌, ◌++◌, [], map, All, IfOk, IfSome, OnOk, codes, length, Ok, List as Sequence};
 ghost use Rattle.plan_model.specs.NameLists.{NameLists, NamesFit};
 ghost use Rattle.plan_model.specs.Network.{IsValid, count};
 ghost use Rattle.plan_graph.specs.Ready.{IsLegOf, IsReady};
@@ -13,9 +13,8 @@ ghost use Rattle.plan_model.specs.declared.model.Query.{Query as QueryParts};
 ghost use Rattle.graph_text.specs.Texts.{row_of_fields, leg_row, head_row, start_text, rows_text, ride_text, rides_text, expanded_text, place_row, table_text, tables_text, graph_text};
 ghost use Rattle.graph_text.specs.Writers.{written, IsBetweenRows};
 ghost use Rattle.graph_text.specs.declared.Head.{Head as HeadParts};
-ghost use Rattle.graph_text.specs.Reading.{graph_of};
+ghost use Rattle.graph_text.specs.Reading.{graph_of, IsReadAs};
 ghost use Rattle.graph_text.specs.Asked.{IsAsked};
-ghost use Rattle.graph_text.specs.Names.{AreNames};
 ghost use Rattle.graph_text.specs.Printable.{IsPrintableQuery, IsPrintableRow, IsPrintableRide, IsPrintableTable, IsPrintable, IsPrintablePlan};
 
 mod reader;
@@ -324,8 +323,26 @@ fn put_tables(
     Ok(())
 }
 
+/// A law: where a graph fits the network and the question, whose start is not after its deadline,
+/// the text of it and its head is read as this head and this graph.
+fn written_reads_back(graph: &PlanGraph, head: &Head, network: &Network, names: &Names)
+    requires names { NamesFit names.now network.now }
+    requires query { IsPrintableQuery network.now head.now.query }
+    ensures { IsFit network.now head.now.query graph.now
+        → head.now.query.start.0 ≤ head.now.query.deadline.0
+        → IsReadAs network.now names.now head.now graph.now
+            (graph_text network.now names.now head.now graph.now) }
+{
+    let _ = graph;
+    let _count = network.count();
+    let _places = names.places();
+    let _lo = head.bounds.lo();
+    let _hi = head.bounds.hi();
+}
+
 /// The text of a graph by place: a first row, the start leg, and for each place a row and one for
-/// each of its rows. Where source and target are one place only the first row stands.
+/// each of its rows. Where source and target are one place only the first row stands. What is
+/// written of a graph that fits the network and the question reads back.
 pub fn write(
     alloc: Global,
     graph: &PlanGraph,
@@ -336,9 +353,13 @@ pub fn write(
     requires names { NamesFit names.now network.now }
     requires query { IsPrintableQuery network.now head.now.query }
     requires graph { IsPrintablePlan network.now graph.now }
-    ensures { IfOk result
+    ensures text { IfOk result
         (λ text. text.items ≡ graph_text network.now names.now head.now graph.now) }
+    ensures reads_back { IfOk result (λ text. IsFit network.now head.now.query graph.now
+        → head.now.query.start.0 ≤ head.now.query.deadline.0
+        → IsReadAs network.now names.now head.now graph.now text.items) }
 {
+    written_reads_back(graph, head, network, names);
     let mut writer = new_writer(alloc);
     put_head(&mut writer, network, names, b"graph", head)?;
     if head.query.source != head.query.target {
@@ -365,15 +386,4 @@ pub fn read_fits()
     ensures { (n : Parts) (names : NameLists) (text : Sequence ℕ) (source target start : ℕ)
         (head : HeadParts) (graph : Plan) → graph_of text n names source target start
         ≡ Ok (head, graph) → IsFit n head.query graph × IsAsked source target start head }
-{}
-
-/// What is written reads back: where a graph fits the network and the question, the text of it and
-/// its head is read as this head and this graph. The names are those of a `Names`, distinct and
-/// UTF-8, and fit the network; the head can be printed, its start is not after its deadline, and
-/// its bounds are in order.
-pub fn written_reads_back()
-    ensures { (n : Parts) (names : NameLists) (source target start : ℕ) (head : HeadParts) (graph : Plan)
-        → IsValid n → NamesFit names n → AreNames names → IsPrintableQuery n head.query
-        → head.bounds.hi < 2 ^ 64 → IsFit n head.query graph → IsAsked source target start head
-        → graph_of (graph_text n names head graph) n names source target start ≡ Ok (head, graph) }
 {}

@@ -35,7 +35,7 @@ impl Model for Feed {
 impl Feed {
     ghost use Rattle.std.specs.Prelude.{◌≡◌, ◌≢◌, ◌<◌, ◌≤◌, None, Some, Ok, Err, IfOk, IfErr, IfSome, IsSome, length, slice_get, slice_index, slice_index_or, option_map, []};
     ghost use Rattle.csv_rows.specs.FeedTables.{unread_of};
-    ghost use Rattle.csv_rows.specs.Ids.{AreNames};
+    ghost use Rattle.csv_rows.specs.Ids.{AreIds};
     ghost use Rattle.csv_rows.specs.Limits.{AreWithin};
     ghost use Rattle.csv_rows.specs.Loading.{HasFeedCause, HasFeedPathCause};
     ghost use Rattle.csv_rows.specs.Tables.{place_in};
@@ -93,7 +93,7 @@ impl Feed {
     /// How many stops there are.
     pub fn stop_count(&self) -> u32
         ensures count { result ≡ length self.now.stop_ids }
-        ensures names { AreNames self.now.stop_ids }
+        ensures names { AreIds self.now.stop_ids }
         ensures few { length self.now.stop_ids ≤ 1048576 }
         ensures sound { IsSoundFeed self.now }
     {
@@ -130,7 +130,7 @@ impl Feed {
     /// How many trips there are.
     pub fn trip_count(&self) -> u32
         ensures count { result ≡ length self.now.trip_ids }
-        ensures names { AreNames self.now.trip_ids }
+        ensures names { AreIds self.now.trip_ids }
         ensures few { length self.now.trip_ids ≤ 4194304 }
         ensures sound { IsSoundFeed self.now }
         ensures timed { IsTimed self.now }

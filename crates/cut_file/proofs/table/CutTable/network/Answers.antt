@@ -18,7 +18,7 @@ from_parts-requires c =
     let d : DelayLists = c.args.delays.now in
     let made = make_network cut d c.as_slice-rows.result.now c.as_slice.result.now c.places.result
     c.in_ok-connections.connections c.in_ok-change.change c.in_ok-classes.classes c.as_slice-rows.ensures.value c.as_slice.ensures.value
-    c.places.ensures c.in_ok-change.ensures.size c.in_ok-change.ensures.each c.in_ok-connections.ensures c.in_ok-classes.ensures.classes in
+    c.places.ensures.count c.in_ok-change.ensures.size c.in_ok-change.ensures.each c.in_ok-connections.ensures c.in_ok-classes.ensures.classes in
     network_valid cut d (parts c.in_ok-connections.connections c.in_ok-change.change c.in_ok-classes.classes) c.self.invariant c.in_ok-classes.ensures.sound made
 
 pub returns-clause-network : goal.returns-clause-network
@@ -28,7 +28,7 @@ returns-clause-network c =
     let d : DelayLists = c.args.delays.now in
     let made = make_network cut d c.as_slice-rows.result.now c.as_slice.result.now c.places.result
     c.in_ok-connections.connections c.in_ok-change.change c.in_ok-classes.classes c.as_slice-rows.ensures.value c.as_slice.ensures.value
-    c.places.ensures c.in_ok-change.ensures.size c.in_ok-change.ensures.each c.in_ok-connections.ensures c.in_ok-classes.ensures.classes in
+    c.places.ensures.count c.in_ok-change.ensures.size c.in_ok-change.ensures.each c.in_ok-connections.ensures c.in_ok-classes.ensures.classes in
     let e = parts_same c.from_parts.result c.in_ok-connections.connections c.in_ok-change.change c.in_ok-classes.classes c.from_parts.ensures.connections c.from_parts.ensures.change c.from_parts.ensures.classes in
     subst (λ (x : Cut). IsNetwork x d c.from_parts.result) c.self.view_is (subst (λ (n : Parts). IsNetwork cut d n) (sym e) made)
 
@@ -39,7 +39,7 @@ returns-clause-table c = λ t read.
     let d : DelayLists = c.args.delays.now in
     let made = make_network cut d c.as_slice-rows.result.now c.as_slice.result.now c.places.result
     c.in_ok-connections.connections c.in_ok-change.change c.in_ok-classes.classes c.as_slice-rows.ensures.value c.as_slice.ensures.value
-    c.places.ensures c.in_ok-change.ensures.size c.in_ok-change.ensures.each c.in_ok-connections.ensures c.in_ok-classes.ensures.classes in
+    c.places.ensures.count c.in_ok-change.ensures.size c.in_ok-change.ensures.each c.in_ok-connections.ensures c.in_ok-classes.ensures.classes in
     let e = parts_same c.from_parts.result c.in_ok-connections.connections c.in_ok-change.change c.in_ok-classes.classes c.from_parts.ensures.connections c.from_parts.ensures.change c.from_parts.ensures.classes in
     let P : Cut → Type 0 = λ x. IsRead t x.runs x.places x.rows x.keys in
     let network = subst (λ (n : Parts). IsNetwork cut d n) (sym e) made in
@@ -53,7 +53,7 @@ returns-clause-fit c =
     let d : DelayLists = c.args.delays.now in
     let made = make_network cut d c.as_slice-rows.result.now c.as_slice.result.now c.places.result
     c.in_ok-connections.connections c.in_ok-change.change c.in_ok-classes.classes c.as_slice-rows.ensures.value c.as_slice.ensures.value
-    c.places.ensures c.in_ok-change.ensures.size c.in_ok-change.ensures.each c.in_ok-connections.ensures c.in_ok-classes.ensures.classes in
+    c.places.ensures.count c.in_ok-change.ensures.size c.in_ok-change.ensures.each c.in_ok-connections.ensures c.in_ok-classes.ensures.classes in
     let made_of = parts c.in_ok-connections.connections c.in_ok-change.change c.in_ok-classes.classes in
     let fit = names_fit cut d made_of c.self.invariant c.in_ok-classes.ensures.sound made in
     let e = parts_same c.from_parts.result c.in_ok-connections.connections c.in_ok-change.change c.in_ok-classes.classes c.from_parts.ensures.connections c.from_parts.ensures.change c.from_parts.ensures.classes in

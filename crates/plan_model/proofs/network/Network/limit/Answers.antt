@@ -1,8 +1,8 @@
-use Rattle.std.proofs.Common.{◌≡◌, ℕ, ◌<◌, arith, ap, ◌∙◌, subst, sym}
+use Rattle.std.proofs.Common.{arith, ap, ◌∙◌, subst, sym}
 use Rattle.std.specs.Option.{option_and_then}
 use Rattle.plan_model.specs.declared.model.Connection.{Connection}
 use Rattle.plan_model.specs.Parts.{Parts}
-use Rattle.plan_model.specs.Network.{IsValid, connection}
+use Rattle.plan_model.specs.Network.{IsValid}
 use Rattle.plan_model.specs.Ways.{earlier_by}
 use Rattle.plan_model.specs.Search.{connection_at}
 use Rattle.plan_model.proofs.Searches.{at_place}
