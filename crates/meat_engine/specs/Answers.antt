@@ -12,6 +12,7 @@ use Rattle.plan_graph.specs.declared.PlanGraph.{PlanGraph}
 use Rattle.decision_graph.specs.Expanded.{IsExpanded}
 use Rattle.decision_graph.specs.Planned.{IsPlanned}
 use Rattle.graph_text.specs.declared.Head.{Head}
+use Rattle.graph_text.specs.Reading.{IsReadAs}
 use Rattle.graph_text.specs.Texts.{place_name, expanded_text, graph_text}
 use Rattle.command_line.specs.declared.options.Goal.{Goal}
 use Rattle.command_line.specs.declared.options.Goal.TheVariants.{Safe, Expand, Plan}
@@ -38,7 +39,8 @@ pub record IsAsked (p : Problem) (s : WantedSearch) (q : Query) (worst : Moment)
 abbrev pub head_of : Query → Interval → Head
 head_of q bounds = record { query = q; bounds = bounds }
 
--- what is told of a query, and the text of it: the least worst arrival and the deadline; or a decision graph with its bounds
+-- what is told of a query, and the text of it: the least worst arrival and the deadline; or a decision graph with its bounds,
+-- whose text reads back where it is by place
 abbrev pub Tells : Goal → Problem → Query → Moment → Findings → List ℕ → Type 0
 Tells Safe p q worst found text =
     (found ≡ safe_findings q worst)
@@ -49,6 +51,7 @@ Tells Expand p q worst found text =
 Tells Plan p q worst found text =
     (graph : PlanGraph) × (bounds : Interval) × (found ≡ plan_findings q worst graph bounds)
     × IsPlanned p.network q graph bounds × (text ≡ graph_text p.network p.names (head_of q bounds) graph)
+    × IsReadAs p.network p.names (head_of q bounds) graph text
 
 -- the report and the text tell what is sought
 pub record IsSought (p : Problem) (s : WantedSearch) (report : Report) (text : List ℕ) : Type 0 where
