@@ -1,6 +1,7 @@
 -- The rows of `transfers.txt`: which change times they tell, and their faults. Row i stands in line i + 2.
 use Rattle.std.specs.Prelude.{ℕ, ◌+◌, ◌==◌, ◌&&◌, Bool, List, length, slice_index, Option, None, Result, Ok, option_map, if◌then◌else◌}
 use Rattle.std.specs.Option.{option_or}
+use Rattle.clock_text.specs.Digits.{optional_seconds_of}
 use Rattle.csv_rows.specs.declared.columns.Column.{Column}
 use Rattle.csv_rows.specs.declared.columns.Column.TheVariants.{FromStopId, ToStopId, TransferType, MinTransferTime, FromRouteId, ToRouteId, FromTripId, ToTripId}
 use Rattle.csv_rows.specs.declared.feed_tables.Table.TheVariants.{Transfers}
@@ -13,7 +14,7 @@ use Rattle.csv_rows.specs.Tables.{row_count, place_in, place_of, field_at}
 use Rattle.gtfs_tables.specs.Feeds.{FeedParts}
 use Rattle.change_times.specs.declared.transfers.Change.{Change}
 use Rattle.change_times.specs.declared.transfers.TransferColumns.{TransferColumns}
-use Rattle.change_times.specs.Forms.{is_timed_in, seconds_in}
+use Rattle.change_times.specs.Forms.{is_timed_in}
 
 -- the place of the stop of this id
 abbrev pub place_of_stop : FeedParts → List ℕ → Option ℕ
@@ -34,7 +35,7 @@ abbrev pub timed_from : FeedParts → ℕ → (from to seconds : List ℕ) → R
 timed_from feed line from to seconds =
     and_then (place_from feed line FromStopId from) (λ from'.
     and_then (place_from feed line ToStopId to) (λ to'.
-    read (seconds_in seconds) (BadField Transfers line MinTransferTime) (λ seconds'.
+    read (optional_seconds_of seconds) (BadField Transfers line MinTransferTime) (λ seconds'.
     Ok (change_between from' to' seconds'))))
 
 -- whether a row is for each route and each trip

@@ -5,7 +5,8 @@ ghost use Rattle.csv_rows.specs.FeedTables.{unread_of, IsFaultOf};
 ghost use Rattle.csv_rows.specs.Tables.{row_count};
 ghost use Rattle.change_times.specs.Transfers.{place_from, change_between, transfer_columns, timed_in, is_general_in, change_in, missing_in};
 
-use crate::forms::{read_is_timed, read_seconds};
+use crate::forms::read_is_timed;
+use clock_text::read_optional_seconds;
 use csv_rows::{Column, FeedFault, Rows, Table, lack, read_name};
 use gtfs_tables::Feed;
 use plan_model::PlaceId;
@@ -113,7 +114,7 @@ fn read_timed(
         Ok(place) => place,
         Err(fault) => return Err(fault),
     };
-    let Some(seconds) = read_seconds(rows.field_at(row, columns.seconds)) else {
+    let Some(seconds) = read_optional_seconds(rows.field_at(row, columns.seconds)) else {
         return Err(FeedFault::BadField(Table::Transfers, line, Column::MinTransferTime));
     };
     Ok(change_between(from, to, seconds))

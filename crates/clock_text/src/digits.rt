@@ -1,6 +1,6 @@
 //! Numbers as decimal digits.
 ghost use Rattle.std.specs.Prelude.{◌≡◌, ◌<◌, ◌≤◌, ◌^◌, length, IfSome};
-ghost use Rattle.clock_text.specs.Digits.{digits, number_of, whole_of};
+ghost use Rattle.clock_text.specs.Digits.{digits, number_of, optional_seconds_of, whole_of};
 
 /// The number that a text of at most nine digits spells.
 pub(crate) fn read_digits(text: &[u8]) -> Option<u32>
@@ -28,6 +28,19 @@ pub fn read_whole(text: &[u8], most: u32) -> Option<u32>
     }
     let number = read_digits(text)?;
     if number > most { None } else { Some(number) }
+}
+
+/// The seconds of a text, at most a day, or nothing where the text is empty. None where it has another form.
+pub fn read_optional_seconds(text: &[u8]) -> Option<Option<u32>>
+    ensures { result ≡ optional_seconds_of text.now }
+{
+    if text.is_empty() {
+        return Some(None);
+    }
+    match read_whole(text, 86_400) {
+        None => None,
+        Some(seconds) => Some(Some(seconds)),
+    }
 }
 
 /// Two digits of a number.

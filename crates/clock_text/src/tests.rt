@@ -78,3 +78,17 @@ fn dates_and_times(rt: HostRuntime) {
         assert_eq!(rt; read_whole(text.as_bytes(), 123), number, "{text}");
     }
 }
+
+#[test]
+fn seconds_or_nothing(rt: HostRuntime) {
+    for (text, seconds) in [
+        ("", Some(None)),
+        ("0", Some(Some(0u32))),
+        ("86400", Some(Some(86_400))),
+        ("86401", None),
+        ("-1", None),
+        (" ", None),
+    ] {
+        assert_eq!(rt; read_optional_seconds(text.as_bytes()), seconds, "{text}");
+    }
+}

@@ -126,7 +126,7 @@ abbrev pub horizon_of : List (List ℕ) → ℕ
 horizon_of settings = unwrap_or (option_and_then horizon_at (value_of settings Horizon)) 24
 
 abbrev pub size_of : List (List ℕ) → ℕ
-size_of settings = unwrap_or (size_at (text_of settings Size)) 10
+size_of settings = unwrap_or (option_and_then size_at (value_of settings Size)) 10
 
 -- the delays of a text that has their form
 abbrev pub late_in : List ℕ → List ℕ

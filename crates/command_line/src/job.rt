@@ -1,13 +1,17 @@
 //! What a line of words asks for.
-ghost use Rattle.std.specs.Prelude.{◌≡◌, ◌≤◌, map, string_bytes, find, IfOk};
+ghost use Rattle.std.specs.Prelude.{◌≡◌, ◌≤◌, map, string_bytes, find, option_and_then, unwrap_or, IfOk};
 ghost use Rattle.command_line.specs.Options.{all_options};
 ghost use Rattle.command_line.specs.Jobs.{has_journey, is_seek, is_replay, is_sample, is_given, is_useless, is_missing, is_bad, is_needed, is_used, text_of, start_of, alpha_of, horizon_of, size_of, timetable_of, journey_of, wanted_of, job_of, late_in};
 ghost use Rattle.command_line.specs.Ranges.{HasHorizon, IsJourney, IsJob};
+ghost use Rattle.command_line.specs.Settings.{value_of};
+ghost use Rattle.command_line.specs.Values.{number_at};
 ghost use Rattle.command_line.specs.Shown.{timetable_shown, journey_shown, shown, answer_shown};
 
 use crate::options::{Command, Goal, OptionName};
 use crate::settings::{OPTIONS, are_settings, value_of};
-use crate::values::{has_form, read_alpha, read_horizon, read_late, read_size, read_start};
+use crate::values::{
+    ALPHA, FIRST_START, HORIZON, NumberRange, SIZE, has_form, read_late, read_number, read_start,
+};
 use plan_model::Moment;
 use std::alloc::{AllocError, Global};
 
@@ -217,8 +221,23 @@ fn start_of(settings: &[String]) -> Moment
 {
     let text = text_of(settings, OptionName::At);
     match read_start(text.as_bytes()) {
-        None => Moment(604_800),
+        None => Moment(FIRST_START),
         Some(start) => start,
+    }
+}
+
+/// The number that an option tells, or another where it tells none.
+fn number_of(settings: &[String], option: OptionName, range: NumberRange, other: u32) -> u32
+    ensures number { result ≡ unwrap_or (option_and_then (number_at range.least range.most)
+        (value_of (map string_bytes settings.now) option)) other }
+    ensures in_range { range.least ≤ other → other ≤ range.most → (range.least ≤ result) × (result ≤ range.most) }
+{
+    let Some(value) = value_of(settings, option) else {
+        return other;
+    };
+    match read_number(value.as_bytes(), range) {
+        None => other,
+        Some(number) => number,
     }
 }
 
@@ -227,13 +246,7 @@ fn alpha_of(settings: &[String]) -> u32
     ensures alpha { result ≡ alpha_of (map string_bytes settings.now) }
     ensures in_range { (100 ≤ result) × (result ≤ 1000) }
 {
-    let Some(value) = value_of(settings, OptionName::Alpha) else {
-        return 200;
-    };
-    match read_alpha(value.as_bytes()) {
-        None => 200,
-        Some(alpha) => alpha,
-    }
+    number_of(settings, OptionName::Alpha, ALPHA, 200)
 }
 
 /// The hours of the window.
@@ -241,13 +254,7 @@ fn horizon_of(settings: &[String]) -> u32
     ensures horizon { result ≡ horizon_of (map string_bytes settings.now) }
     ensures in_range { (1 ≤ result) × (result ≤ 72) }
 {
-    let Some(value) = value_of(settings, OptionName::Horizon) else {
-        return 24;
-    };
-    match read_horizon(value.as_bytes()) {
-        None => 24,
-        Some(horizon) => horizon,
-    }
+    number_of(settings, OptionName::Horizon, HORIZON, 24)
 }
 
 /// The size of a feed that is made.
@@ -255,11 +262,7 @@ fn size_of(settings: &[String]) -> u32
     ensures size { result ≡ size_of (map string_bytes settings.now) }
     ensures in_range { (10 ≤ result) × (result ≤ 400) }
 {
-    let text = text_of(settings, OptionName::Size);
-    match read_size(text.as_bytes()) {
-        None => 10,
-        Some(size) => size,
-    }
+    number_of(settings, OptionName::Size, SIZE, SIZE.least)
 }
 
 /// Where the connections come from.

@@ -1,6 +1,6 @@
 //! The forms of the values.
 ghost use Rattle.std.specs.Prelude.{◌≡◌, ◌≤◌, option_map, map, is_some, IfSome, IfOk};
-ghost use Rattle.command_line.specs.Values.{start_at, alpha_at, horizon_at, size_at, late_at, pieces, is_delay, delay_in, are_delays, has_form};
+ghost use Rattle.command_line.specs.Values.{start_at, number_at, late_at, pieces, is_delay, delay_in, are_delays, has_form};
 ghost use Rattle.command_line.specs.Jobs.{late_in};
 
 use crate::options::OptionName;
@@ -9,10 +9,32 @@ use plan_model::Moment;
 use std::alloc::{AllocError, Global};
 
 /// The first moment at which a journey may begin: 1970-01-08T00:00:00.
-const FIRST_START: u64 = 604_800;
+pub(crate) const FIRST_START: u64 = 604_800;
 
 /// The last one: 2399-12-31T23:59:59.
 const LAST_START: u64 = 13_569_465_599;
+
+/// The numbers from the least to the most.
+#[derive(Clone, Copy)]
+pub(crate) struct NumberRange {
+    pub(crate) least: u32,
+    pub(crate) most: u32,
+}
+
+/// The percentages of a deadline.
+pub(crate) const ALPHA: NumberRange = NumberRange {
+    least: 100,
+    most: 1_000,
+};
+
+/// The hours of a window.
+pub(crate) const HORIZON: NumberRange = NumberRange { least: 1, most: 72 };
+
+/// The sizes of a feed that is made.
+pub(crate) const SIZE: NumberRange = NumberRange {
+    least: 10,
+    most: 400,
+};
 
 /// The longest delay, in seconds: a day.
 const LONGEST_DELAY: u32 = 86_400;
@@ -36,48 +58,16 @@ pub(crate) fn read_start(text: &[u8]) -> Option<Moment>
     }
 }
 
-/// The percentage of the deadline.
-pub(crate) fn read_alpha(text: &[u8]) -> Option<u32>
-    ensures alpha { result ≡ alpha_at text.now }
-    ensures in_range { IfSome result (λ alpha. (100 ≤ alpha) × (alpha ≤ 1000)) }
+/// A whole number of a range.
+pub(crate) fn read_number(text: &[u8], range: NumberRange) -> Option<u32>
+    ensures number { result ≡ number_at range.least range.most text.now }
+    ensures in_range { IfSome result (λ number. (range.least ≤ number) × (number ≤ range.most)) }
 {
-    match read_whole(text, 1_000) {
+    match read_whole(text, range.most) {
         None => None,
-        Some(alpha) => {
-            if 100 <= alpha {
-                return Some(alpha);
-            }
-            None
-        }
-    }
-}
-
-/// The hours of the window.
-pub(crate) fn read_horizon(text: &[u8]) -> Option<u32>
-    ensures horizon { result ≡ horizon_at text.now }
-    ensures in_range { IfSome result (λ horizon. (1 ≤ horizon) × (horizon ≤ 72)) }
-{
-    match read_whole(text, 72) {
-        None => None,
-        Some(horizon) => {
-            if 1 <= horizon {
-                return Some(horizon);
-            }
-            None
-        }
-    }
-}
-
-/// The size of a feed that is made.
-pub(crate) fn read_size(text: &[u8]) -> Option<u32>
-    ensures size { result ≡ size_at text.now }
-    ensures in_range { IfSome result (λ size. (10 ≤ size) × (size ≤ 400)) }
-{
-    match read_whole(text, 400) {
-        None => None,
-        Some(size) => {
-            if 10 <= size {
-                return Some(size);
+        Some(number) => {
+            if range.least <= number {
+                return Some(number);
             }
             None
         }
@@ -138,10 +128,10 @@ pub(crate) fn has_form(option: OptionName, text: &str) -> bool
 {
     match option {
         OptionName::At => read_start(text.as_bytes()).is_some(),
-        OptionName::Alpha => read_alpha(text.as_bytes()).is_some(),
-        OptionName::Horizon => read_horizon(text.as_bytes()).is_some(),
+        OptionName::Alpha => read_number(text.as_bytes(), ALPHA).is_some(),
+        OptionName::Horizon => read_number(text.as_bytes(), HORIZON).is_some(),
         OptionName::Late => is_late(text),
-        OptionName::Size => read_size(text.as_bytes()).is_some(),
+        OptionName::Size => read_number(text.as_bytes(), SIZE).is_some(),
         _ => !text.is_empty(),
     }
 }

@@ -1,3 +1,7 @@
+ghost use Rattle.std.specs.Prelude.{◌≡◌, ◌<◌, ℕ, Some, IsTrue};
+ghost use Rattle.csv_rows.specs.Names.{name_in};
+ghost use Rattle.csv_rows.specs.Tables.{row_count, field_at};
+
 use super::*;
 use std::alloc::Global;
 use std::test::Fail;
@@ -87,4 +91,60 @@ fn tells_a_column_that_is_lacking(rt: HostRuntime) {
     let fault = FeedFault::MissingColumn(Table::Stops, Column::StopId);
     assert_eq!(rt; lack(Table::Stops, Column::StopId, None), Some(fault));
     assert_eq!(rt; lack(Table::Stops, Column::StopId, Some(2)), None);
+}
+
+#[test]
+fn numbers_ids(rt: HostRuntime) -> Result<(), Fail> {
+    let mut ids = Ids::new(rt.alloc());
+    assert!(rt; ids.add(rt.alloc(), "b")?);
+    assert!(rt; ids.add(rt.alloc(), "a")?);
+    assert!(rt; !ids.add(rt.alloc(), "b")?);
+    assert_eq!(rt; ids.len(), 2);
+    assert_eq!(rt; ids.number("b"), Some(0));
+    assert_eq!(rt; ids.number("a"), Some(1));
+    assert_eq!(rt; ids.number("c"), None);
+    assert_eq!(rt; ids.get(0), "b");
+    assert_eq!(rt; ids.get(1), "a");
+    Ok(())
+}
+
+/// Whether each row has a name in this column.
+fn are_named(rows: &Rows, column: Option<usize>) -> bool
+    ensures { IsTrue result → (i : ℕ) → i < row_count rows.now
+        → name_in (field_at rows.now column i) ≡ Some (field_at rows.now column i) }
+{
+    for i in 0..rows.count() {
+        if read_name(rows.field_at(i, column)).is_none() {
+            return false;
+        }
+    }
+    true
+}
+
+#[test]
+fn reads_ids(rt: HostRuntime) -> Result<(), Fail> {
+    let Ok(rows) = Rows::read(rt.alloc(), b"stop_name,stop_id\nx,b\nx,a\n") else {
+        return Err("no rows".into());
+    };
+    assert!(rt; rows.count() == 2 && are_named(&rows, Some(1)));
+    let Ok(ids) = read_ids(rt.alloc(), &rows, Table::Stops, Some(1)) else {
+        return Err("no ids".into());
+    };
+    assert_eq!(rt; ids.len(), 2);
+    assert_eq!(rt; ids.get(0), "b");
+    assert_eq!(rt; ids.number("a"), Some(1));
+    Ok(())
+}
+
+#[test]
+fn tells_an_id_that_stands_twice(rt: HostRuntime) -> Result<(), Fail> {
+    let Ok(rows) = Rows::read(rt.alloc(), b"trip_id\nb\na\nb\na\n") else {
+        return Err("no rows".into());
+    };
+    assert!(rt; rows.count() == 4 && are_named(&rows, Some(0)));
+    let Err(fault) = read_ids(rt.alloc(), &rows, Table::Trips, Some(0)) else {
+        return Err("no fault".into());
+    };
+    assert_eq!(rt; fault, FeedFault::DuplicateKey(Table::Trips, 4));
+    Ok(())
 }

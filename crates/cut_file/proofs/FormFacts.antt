@@ -4,12 +4,12 @@ use Rattle.std.proofs.lemmas.Bool.Decides.{nat_tests}
 use Rattle.csv_rows.specs.declared.columns.Column.{Column}
 use Rattle.csv_rows.specs.declared.columns.Column.TheVariants.{Class, Run, Step, From, To, Dep, Arr, Board, Exit, Change}
 use Rattle.delay_table.proofs.LineFacts.{whole_bound}
-use Rattle.clock_text.specs.Digits.{whole_of}
+use Rattle.clock_text.specs.Digits.{optional_seconds_of, whole_of}
 use Rattle.clock_text.specs.Times.{moment_at}
 use Rattle.csv_rows.specs.First.{read}
 use Rattle.std.specs.Str.{is_utf8}
 use Rattle.csv_rows.specs.Names.{name_in}
-use Rattle.cut_file.specs.Forms.{before_end, early, class_in, flag_in, change_in}
+use Rattle.cut_file.specs.Forms.{before_end, early, class_in, flag_in}
 use Rattle.cut_file.specs.Rows.{Row, row_from, row_at}
 use Rattle.cut_file.specs.Faults.{bad_of, bad_field, row_of, row}
 use Rattle.csv_rows.specs.Tables.{field}
@@ -72,10 +72,10 @@ row_form a b c d e f g h j k =
     read_inv (InForm a c d) (class_in g) Class _ (λ class p7.
     read_inv (InForm a c d) (flag_in h) Board _ (λ board p8.
     read_inv (InForm a c d) (flag_in j) Exit _ (λ exit p9.
-    read_inv (InForm a c d) (change_in k) Change _ (λ change p10 r q.
+    read_inv (InForm a c d) (optional_seconds_of k) Change _ (λ change p10 r q.
     let low : step ≤ 999999999 = at_some (λ (n : ℕ). n ≤ 999999999) (whole_of 999999999 b) step (whole_bound 999999999 b) p2 in
     let early_arr : arr < 13601088000 = at_some (λ (n : ℕ). n < 13601088000) (early f) arr (end_bound (moment_at f)) p6 in
-    let small = at_some (λ (x : Option ℕ). IfSome x (λ s. s ≤ 86400)) (change_in k) change (change_if (length k == 0) (whole_of 86400 k) (whole_bound 86400 k)) p10 in
+    let small = at_some (λ (x : Option ℕ). IfSome x (λ s. s ≤ 86400)) (optional_seconds_of k) change (change_if (length k == 0) (whole_of 86400 k) (whole_bound 86400 k)) p10 in
     subst (InForm a c d) (same_ok _ r q) (record { run_name = name_is a run p1; from_name = name_is c from p3; to_name = name_is d to p4; step = omega arith; arr = early_arr; change = small })))))))))))
 
 ok_form : (P : Row → Type 0) (o : Result Row Column) (line : ℕ) → bad_of o line ≡ None → ((r : Row) → o ≡ Ok r → P r) → P (row_of o)

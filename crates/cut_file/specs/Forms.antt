@@ -19,7 +19,3 @@ class_in text = if length text == 0 || bytes_eq text (codes "*") then Some None 
 -- 0 or 1, and 1 for an empty field
 abbrev pub flag_in : List ℕ → Option Bool
 flag_in text = if length text == 0 || bytes_eq text (codes "1") then Some true else if bytes_eq text (codes "0") then Some false else None
-
--- seconds, and none for an empty field
-abbrev pub change_in : List ℕ → Option (Option ℕ)
-change_in text = if length text == 0 then Some None else option_map Some (whole_of 86400 text)

@@ -1,12 +1,12 @@
 -- The rows of a cut file.
 use Rattle.std.specs.Prelude.{ℕ, Bool, List, Option, Result, Ok}
-use Rattle.clock_text.specs.Digits.{whole_of}
+use Rattle.clock_text.specs.Digits.{optional_seconds_of, whole_of}
 use Rattle.csv_rows.specs.declared.columns.Column.{Column}
 use Rattle.csv_rows.specs.declared.columns.Column.TheVariants.{Class, Run, Step, From, To, Dep, Arr, Board, Exit, Change}
 use Rattle.csv_rows.specs.Tables.{field}
 use Rattle.csv_rows.specs.First.{read}
 use Rattle.csv_rows.specs.Names.{name_in}
-use Rattle.cut_file.specs.Forms.{early, class_in, flag_in, change_in}
+use Rattle.cut_file.specs.Forms.{early, class_in, flag_in}
 
 -- a row with its names; the class is a route type, and none for `*`
 pub record Row : Type 0 where
@@ -33,7 +33,7 @@ row_from run step from to dep arr class board exit change =
     read (class_in class) Class (λ class'.
     read (flag_in board) Board (λ board'.
     read (flag_in exit) Exit (λ exit'.
-    read (change_in change) Change (λ change'.
+    read (optional_seconds_of change) Change (λ change'.
     Ok (record { run = run'; step = step'; from = from'; to = to'; dep = dep'; arr = arr'; class = class'; board = board'; exit = exit'; change = change' })))))))))))
 
 -- the row i of the table

@@ -1,6 +1,6 @@
 //! The forms of the fields.
 ghost use Rattle.std.specs.Prelude.{◌≡◌, option_map};
-ghost use Rattle.cut_file.specs.Forms.{early, class_in, flag_in, change_in};
+ghost use Rattle.cut_file.specs.Forms.{early, class_in, flag_in};
 
 use clock_text::{read_moment, read_whole};
 
@@ -41,17 +41,4 @@ pub(crate) fn read_flag(text: &[u8]) -> Option<bool>
         return Some(false);
     }
     None
-}
-
-/// Seconds, or nothing where the field is empty.
-pub(crate) fn read_change(text: &[u8]) -> Option<Option<u32>>
-    ensures { result ≡ change_in text.now }
-{
-    if text.is_empty() {
-        return Some(None);
-    }
-    match read_whole(text, 86_400) {
-        None => None,
-        Some(seconds) => Some(Some(seconds)),
-    }
 }

@@ -2,8 +2,8 @@
 ghost use Rattle.std.specs.Prelude.{◌≡◌, Ok, Err, IfOk, IfErr};
 ghost use Rattle.cut_file.specs.Rows.{row_from};
 
-use crate::fields::{read_change, read_class, read_early, read_flag};
-use clock_text::read_whole;
+use crate::fields::{read_class, read_early, read_flag};
+use clock_text::{read_optional_seconds, read_whole};
 use csv_rows::{Column, read_name};
 
 /// A row as it is read, with its names.
@@ -84,7 +84,7 @@ pub(crate) fn read_fields<'a>(f: Fields<'a>) -> Result<NamedRow<'a>, Column>
     let Some(exit) = read_flag(f.exit) else {
         return Err(Column::Exit);
     };
-    let Some(change) = read_change(f.change) else {
+    let Some(change) = read_optional_seconds(f.change) else {
         return Err(Column::Change);
     };
     Ok(NamedRow {
