@@ -5,6 +5,7 @@ mod columns;
 mod feed_tables;
 mod fields;
 mod ids;
+mod keys;
 mod limits;
 mod loading;
 mod names;
@@ -15,11 +16,14 @@ mod spaces;
 pub use columns::Column;
 pub use feed_tables::{FeedFault, Table};
 pub use ids::{Ids, read_ids};
+pub use keys::{Key, before_at, first_repeat, in_order, sooner};
 pub use limits::Limits;
 pub use loading::{Loaded, read_table};
 pub use names::read_name;
 pub use row_faults::lack;
 pub use rows::{Rows, RowsFault};
 
+#[cfg(test)]
+mod key_tests;
 #[cfg(test)]
 mod tests;

@@ -21,7 +21,7 @@ use Rattle.gtfs_tables.specs.Forms.{text_in, allows_in, time_in}
 use Rattle.gtfs_tables.specs.StopTimes.{time_columns, number_in, times_of, visit_of, timed_from, timed_at, no_row}
 use Rattle.gtfs_tables.proofs.RowLemmas.{whole_bound}
 use Rattle.csv_rows.proofs.RowLemmas.{place_inside}
-use Rattle.gtfs_tables.proofs.TwinLemmas.{and_parts}
+use Rattle.csv_rows.proofs.TestLemmas.{and_parts}
 
 -- a kept row stands at the place of a stop, at times of at most 167 hours
 pub record IsAtStop (stops : ℕ) (places : List ℕ) (v : StopRow) : Type 0 where
