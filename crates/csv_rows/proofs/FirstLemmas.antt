@@ -107,6 +107,12 @@ any-one p q n b l here one =
 pub any-none : (p q : ℕ → Bool) (n : ℕ) → ((j : ℕ) → j < n → p j ≡ true → ⊥) → any_below (λ j. p j && q j) n ≡ false
 any-none p q n none = any-false (λ j. p j && q j) n (λ j less both. none j less (and_parts (p j) (q j) both).0)
 
+-- the same tests, the same answer
+pub any-same : (p q : ℕ → Bool) (n : ℕ) → ((k : ℕ) → k < n → p k ≡ q k) → any_below p n ≡ any_below q n
+unfolding any_below
+any-same p q zero h = refl
+any-same p q (suc n) h = ap₂ (λ a b. a || b) (any-same p q n (λ k l. h k (omega arith))) (h n (omega arith))
+
 -- the same faults, the same first
 pub first-same : {F : Type 0} (f g : ℕ → Option F) (n : ℕ) → ((k : ℕ) → k < n → f k ≡ g k) → first_below f n ≡ first_below g n
 first-same f g zero h = first-zero f ∙ sym (first-zero g)

@@ -34,6 +34,10 @@ no_twins fault group order n none j i less inside same same' =
     let here : twin group order i j ≡ true = and_true (group j == group i) (order j == order i) (eq_true _ _ same) (eq_true _ _ same') in
     some_not (has_twin group order i) (fault i) (any-true (twin group order i) i j less here) (none-each (λ i. if has_twin group order i then Some (fault i) else None) n none i inside)
 
+abbrev pub asked : (ℕ → Bool) → Option Key → Bool
+asked q None = false
+asked q (Some before) = q before.row
+
 module _ (test : ℕ → Bool) (group order : ℕ → ℕ) (n : ℕ) (keys : List Key) (s : AreSorted test group order n keys) where
   at : ℕ → Key
   at k = key_at keys k
@@ -145,10 +149,6 @@ module _ (test : ℕ → Bool) (group order : ℕ → ℕ) (n : ℕ) (keys : Lis
             absurd (not_from (any_below (between x i) n) p.1 (any-true (between x i) n c (s.inside (k - 1) (omega arith)) there))) e.2),
         e.0,
       )
-
-  abbrev pub asked : (ℕ → Bool) → Option Key → Bool
-  asked q None = false
-  asked q (Some before) = q before.row
 
   -- what is asked of the rows just before a row is asked of the row of the key before
   pub asked_before : AreApart group order n → (k : ℕ) → k < length keys → (o : Option Key) → IsBefore keys k o → (q : ℕ → Bool)
