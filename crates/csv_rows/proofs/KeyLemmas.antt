@@ -1,5 +1,5 @@
 -- What the key before a key tells of the rows before its row in its group.
-use Rattle.std.proofs.Common.{◌≡◌, ◌≢◌, ℕ, ◌-◌, ◌<◌, ◌≤◌, ◌==◌, nat_lt, ◌⊎◌, inl, inr, Bool, true, false, not, ◌&&◌, List, length, Option, Some, None, IfSome, if◌then◌else◌, option_map, refl, sym, ap, ap₂, ◌∙◌, subst, arith, ⊎_elim, eq-or-lt_of_le}
+use Rattle.std.proofs.Common.{◌≡◌, ◌≢◌, ℕ, ◌-◌, ◌<◌, ◌≤◌, ◌==◌, nat_lt, ◌⊎◌, inl, inr, Bool, true, false, not, ◌&&◌, List, length, Option, Some, None, IfSome, if◌then◌else◌, refl, sym, ap, ◌∙◌, subst, arith, ⊎_elim, eq-or-lt_of_le}
 use Rattle.std.proofs.lemmas.Bool.{cases_lt}
 use Rattle.csv_rows.specs.First.{first_below, any_below}
 use Rattle.csv_rows.specs.declared.keys.Key.{Key}
@@ -39,9 +39,6 @@ asked q None = false
 asked q (Some before) = q before.row
 
 module _ (test : ℕ → Bool) (group order : ℕ → ℕ) (n : ℕ) (keys : List Key) (s : AreSorted test group order n keys) where
-  at : ℕ → Key
-  at k = key_at keys k
-
   earlier_place : (k m : ℕ) → k < m → m < length keys → (key_at keys k).group ≡ (key_at keys m).group → (key_at keys k).order ≡ (key_at keys m).order
       → (key_at keys k).row < (key_at keys m).row
   earlier_place k m less h same same' =

@@ -1,5 +1,5 @@
 -- The soonest of the faults of rows, key by key, and that it is the first.
-use Rattle.std.proofs.Common.{◌≡◌, ℕ, suc, ◌+◌, ◌<◌, ◌≤◌, nat_lt, Bool, true, false, ◌⊎◌, inl, inr, List, length, Option, Some, None, option_map, if◌then◌else◌, refl, sym, ap, ◌∙◌, subst, arith, ⊎_elim, eq-or-lt_of_le}
+use Rattle.std.proofs.Common.{◌≡◌, ℕ, ◌+◌, ◌<◌, ◌≤◌, nat_lt, Bool, true, false, ◌⊎◌, inl, inr, List, length, Option, Some, None, option_map, if◌then◌else◌, refl, sym, subst, arith, ⊎_elim, eq-or-lt_of_le}
 use Rattle.csv_rows.specs.First.{first_below}
 use Rattle.csv_rows.specs.declared.keys.Key.{Key}
 use Rattle.csv_rows.specs.Keys.{key_at, AreSorted, sooner}
@@ -10,9 +10,6 @@ use Rattle.csv_rows.proofs.TestLemmas.{lt_test, le_test}
 abbrev pub IsSoonest : {F : Type 0} → (ℕ → Option F) → ℕ → List Key → ℕ → Option (ℕ × F) → Type 0
 IsSoonest f n keys m None = (k : ℕ) → k < m → f (key_at keys k).row ≡ None
 IsSoonest f n keys m (Some x) = (f x.0 ≡ Some x.1) × (x.0 < n) × ((k : ℕ) → k < m → (f (key_at keys k).row ≡ None) ⊎ (x.0 ≤ (key_at keys k).row))
-
-pub soonest-zero : {F : Type 0} (f : ℕ → Option F) (n : ℕ) (keys : List Key) → IsSoonest f n keys 0 None
-soonest-zero f n keys k l = absurd (omega arith)
 
 module _ {F : Type 0} (f : ℕ → Option F) (n : ℕ) (keys : List Key) where
   row : ℕ → ℕ

@@ -1,4 +1,5 @@
-//! Tables of comma-separated values: rows of trimmed fields, the columns that a header names, and how much is read.
+//! Tables of comma-separated values: rows of trimmed fields, the columns that a header names, how much is read, and rows
+//! in the order of their keys.
 #![tactic(auto)]
 
 mod columns;

@@ -1,9 +1,10 @@
 -- The first fault of a table, by the step that finds it.
-use Rattle.std.proofs.Common.{◌≡◌, ℕ, ◌<◌, ◌≤◌, nat_lt, true, false, List, length, Option, Some, None, option_map, slice_index_or, if◌then◌else◌, refl, sym, ap, ◌∙◌, subst, arith}
+use Rattle.std.proofs.Common.{◌≡◌, ℕ, ◌<◌, ◌≤◌, nat_lt, false, List, length, Option, Some, None, slice_index_or, if◌then◌else◌, refl, sym, ap, ◌∙◌, subst, arith}
 use Rattle.std.proofs.lemmas.Bool.Decides.{nat_tests}
 use Rattle.csv_rows.specs.First.{or_else, first_below}
 use Rattle.csv_rows.specs.declared.columns.Column.TheVariants.{Run, Step, From, To, Dep, Arr}
 use Rattle.csv_rows.specs.Tables.{place_of, row_count}
+use Rattle.csv_rows.proofs.TestLemmas.{lt_true}
 use Rattle.cut_file.specs.declared.rows.CutRow.{CutRow}
 use Rattle.cut_file.specs.declared.rows.Columns.{Columns}
 use Rattle.csv_rows.specs.declared.keys.Key.{Key}
@@ -39,9 +40,6 @@ first_is t limit = refl
 pub column_first : (t : List (List (List ℕ))) (limit : ℕ) (c : Columns) (f : CutFault) → AreColumns t c → Some f ≡ missing_in c → first_fault t limit ≡ Some f
 column_first t limit c f h e =
     first_is t limit ∙ ap (λ a. all_faults a (too_many_rows t limit) (first_below (bad_field t) (row_count t)) (runs_of t)) (missing_is t c h ∙ sym e)
-
-lt_true : (a b : ℕ) → a < b → nat_lt a b ≡ true
-lt_true a b h = grind (arith, nat_tests)
 
 lt_false : (a b : ℕ) → b ≤ a → nat_lt a b ≡ false
 lt_false a b h = grind (arith, nat_tests)

@@ -1,7 +1,7 @@
 -- The rows of a table by the keys of their runs and steps, and the first step that is repeated.
 use Rattle.std.proofs.Common.{◌≡◌, ℕ, ◌+◌, ◌<◌, ◌==◌, Bool, true, ◌&&◌, List, length, Option, Some, None, option_map, if◌then◌else◌, sym, ap, ap₂, ◌∙◌, subst, arith}
 use Rattle.plan_model.specs.NameLists.{AreDistinct}
-use Rattle.csv_rows.specs.First.{first_below, any_below}
+use Rattle.csv_rows.specs.First.{first_below}
 use Rattle.csv_rows.specs.Tables.{row_count}
 use Rattle.csv_rows.specs.declared.keys.Key.{Key}
 use Rattle.csv_rows.specs.Keys.{key_at, AreSorted, has_twin, twin_at}
@@ -11,7 +11,7 @@ use Rattle.cut_file.specs.declared.rows.CutRow.{CutRow}
 use Rattle.cut_file.specs.declared.faults.CutFault.{CutFault}
 use Rattle.cut_file.specs.declared.faults.CutFault.TheVariants.{DuplicateStep}
 use Rattle.cut_file.specs.Faults.{row, same_run, repeated_step}
-use Rattle.cut_file.specs.Keys.{cut_row, run_of, step_of}
+use Rattle.cut_file.specs.Keys.{run_of, step_of}
 use Rattle.cut_file.specs.Read.{IsRead}
 use Rattle.cut_file.proofs.Distinct.{runs_distinct, places_distinct, same_name}
 

@@ -1,22 +1,17 @@
 -- Two kept rows of a trip that stand beside each other: the first departs no later than the second arrives.
-use Rattle.std.proofs.Common.{◌≡◌, ℕ, zero, suc, ◌+◌, ◌<◌, ◌≤◌, ◌==◌, nat_lt, Bool, true, false, not, ◌&&◌, ◌||◌, List, length, slice_index_or, Some, None, if◌then◌else◌, refl, sym, ap, ◌∙◌, arith, ⊎_elim}
+use Rattle.std.proofs.Common.{◌≡◌, ℕ, zero, suc, ◌+◌, ◌<◌, ◌≤◌, ◌==◌, nat_lt, Bool, true, false, ◌&&◌, List, length, slice_index_or, Some, None, if◌then◌else◌, refl, sym, ap, ◌∙◌, arith, ⊎_elim}
 use Rattle.std.specs.Prelude.{is_some}
 use Rattle.std.proofs.lemmas.Bool.{cases_lt}
-use Rattle.std.proofs.lemmas.Bool.Decides.{nat_tests}
 use Rattle.csv_rows.specs.declared.feed_tables.FeedFault.{FeedFault}
 use Rattle.csv_rows.specs.declared.feed_tables.FeedFault.TheVariants.{BackwardTime}
 use Rattle.csv_rows.specs.First.{first_below, any_below}
 use Rattle.csv_rows.proofs.FirstLemmas.{any-true, any-false, true_or_false, none-each}
-use Rattle.csv_rows.proofs.TestLemmas.{eq_test, eq_true, lt_test, lt_true, le_test, and_true, and_parts, not_to}
+use Rattle.csv_rows.proofs.TestLemmas.{eq_test, eq_true, lt_test, lt_true, le_test, and_true, and_parts, or_false, not_to}
 use Rattle.csv_rows.specs.Keys.{precedes}
 use Rattle.gtfs_tables.specs.declared.stop_times.StopRow.{StopRow}
 use Rattle.gtfs_tables.specs.declared.stop_times.TimedRow.{TimedRow}
 use Rattle.gtfs_tables.specs.StopTimes.{row_at, trip_of, sequence_of, is_kept, times_in, arrival_of, departure_of, just_before, goes_back, backward_time}
 use Rattle.gtfs_tables.specs.Visits.{no_visit, AreStopTimes}
-
-or_false : (a b : Bool) → (a || b) ≡ false → (a ≡ false) × (b ≡ false)
-or_false true b h = absurd (cc)
-or_false false b h = (refl, h)
 
 and_false : (a b : Bool) → a ≡ true → (a && b) ≡ false → b ≡ false
 and_false true b h k = k

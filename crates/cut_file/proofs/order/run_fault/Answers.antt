@@ -1,4 +1,4 @@
-use Rattle.std.proofs.Common.{◌+◌, None, Some, option_map, ap, ◌∙◌}
+use Rattle.std.proofs.Common.{◌+◌, option_map, ap, ◌∙◌}
 use Rattle.csv_rows.specs.First.{or_else, first_below}
 use Rattle.csv_rows.specs.Tables.{row_count}
 use Rattle.cut_file.specs.declared.faults.CutFault.TheVariants.{DuplicateStep}

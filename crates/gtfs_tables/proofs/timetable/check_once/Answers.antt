@@ -1,7 +1,6 @@
-use Rattle.std.proofs.Common.{false, List, option_map, sym, subst, ap, ◌∙◌, ◌+◌, Some}
+use Rattle.std.proofs.Common.{false, option_map, sym, subst, ap, ◌∙◌, ◌+◌, Some}
 use Rattle.csv_rows.specs.declared.feed_tables.Table.TheVariants.{StopTimes}
 use Rattle.csv_rows.specs.declared.feed_tables.FeedFault.TheVariants.{DuplicateKey}
-use Rattle.csv_rows.specs.declared.keys.Key.{Key}
 use Rattle.gtfs_tables.specs.Keys.{AreKeysOf}
 use Rattle.gtfs_tables.proofs.BackLemmas.{repeats_first}
 use Rattle.gtfs_tables.proofs.timetable.check_once.Goals as goal

@@ -1,5 +1,5 @@
 use Rattle.std.proofs.lemmas.Bool.{cases_lt}
-use Rattle.std.proofs.Common.{◌<◌, ◌≤◌, ◌∷◌, [], true, ⊎_elim, ap, arith, length, length-append}
+use Rattle.std.proofs.Common.{◌<◌, ◌≤◌, ◌∷◌, [], ⊎_elim, ap, arith, length, length-append}
 use Rattle.std.specs.Prelude.{vec_items}
 use Rattle.gtfs_tables.specs.Visits.{AreStopTimes}
 use Rattle.gtfs_tables.proofs.VisitLemmas.{visits_are, span_is, each_next}
