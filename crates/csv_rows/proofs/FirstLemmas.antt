@@ -1,7 +1,8 @@
 -- The first fault below a number, step by step, and that it is the least of all that hold.
-use Rattle.std.proofs.Common.{◌≡◌, ℕ, zero, suc, ◌+◌, ◌<◌, ◌≤◌, Bool, true, false, ◌||◌, ◌&&◌, Option, Some, None, refl, sym, ap, ap₂, ◌∙◌, subst, arith, ⊎_elim, eq-or-lt_of_le, add-one, ◌⊎◌, inl, inr}
+use Rattle.std.proofs.Common.{◌≡◌, ℕ, zero, suc, ◌+◌, ◌<◌, ◌≤◌, Bool, true, false, ◌||◌, ◌&&◌, Option, Some, None, option_map, if◌then◌else◌, refl, sym, ap, ap₂, ◌∙◌, subst, arith, ⊎_elim, eq-or-lt_of_le, add-one, ◌⊎◌, inl, inr}
 use Rattle.std.proofs.lemmas.Option.{none-some}
 use Rattle.csv_rows.specs.First.{or_else, first_below, any_below}
+use Rattle.csv_rows.proofs.TestLemmas.{and_true, and_parts}
 
 pub first-zero : {F : Type 0} (f : ℕ → Option F) → first_below f 0 ≡ None
 unfolding first_below
@@ -91,34 +92,44 @@ any-false p (suc n) h =
     ⊎_elim (λ (t : p n ≡ true). absurd (h n (omega arith) t))
     (λ (f : p n ≡ false). ap₂ (λ a b. a || b) (any-false p n (λ k l. h k (omega arith))) f) (true_or_false (p n))
 
-and_true : (a b : Bool) → a ≡ true → b ≡ true → (a && b) ≡ true
-and_true true b h k = k
-and_true false b h k = absurd (cc)
-
-and_first : (a b : Bool) → (a && b) ≡ true → a ≡ true
-and_first true b h = refl
-and_first false b h = absurd (cc)
-
-and_second : (a b : Bool) → (a && b) ≡ true → b ≡ true
-and_second true b h = h
-and_second false b h = absurd (cc)
-
 -- where p holds at one place alone, q is asked there alone
 pub any-one : (p q : ℕ → Bool) (n b : ℕ) → b < n → p b ≡ true → ((j : ℕ) → j < n → p j ≡ true → j ≡ b) → any_below (λ j. p j && q j) n ≡ q b
 any-one p q n b l here one =
     ⊎_elim (λ (t : q b ≡ true). any-true (λ j. p j && q j) n b l (and_true (p b) (q b) here t) ∙ sym t)
     (λ (f : q b ≡ false).
     any-false (λ j. p j && q j) n (λ j less both.
-    let same = one j less (and_first (p j) (q j) both) in
+    let same = one j less (and_parts (p j) (q j) both).0 in
     let P : ℕ → Type 0 = λ i. q i ≡ true in
-    let t : q b ≡ true = subst P same (and_second (p j) (q j) both) in cc) ∙ sym f)
+    let t : q b ≡ true = subst P same (and_parts (p j) (q j) both).1 in cc) ∙ sym f)
     (true_or_false (q b))
 
 -- where p holds nowhere, q is never asked
 pub any-none : (p q : ℕ → Bool) (n : ℕ) → ((j : ℕ) → j < n → p j ≡ true → ⊥) → any_below (λ j. p j && q j) n ≡ false
-any-none p q n none = any-false (λ j. p j && q j) n (λ j less both. none j less (and_first (p j) (q j) both))
+any-none p q n none = any-false (λ j. p j && q j) n (λ j less both. none j less (and_parts (p j) (q j) both).0)
+
+-- the same tests, the same answer
+pub any-same : (p q : ℕ → Bool) (n : ℕ) → ((k : ℕ) → k < n → p k ≡ q k) → any_below p n ≡ any_below q n
+unfolding any_below
+any-same p q zero h = refl
+any-same p q (suc n) h = ap₂ (λ a b. a || b) (any-same p q n (λ k l. h k (omega arith))) (h n (omega arith))
 
 -- the same faults, the same first
 pub first-same : {F : Type 0} (f g : ℕ → Option F) (n : ℕ) → ((k : ℕ) → k < n → f k ≡ g k) → first_below f n ≡ first_below g n
 first-same f g zero h = first-zero f ∙ sym (first-zero g)
 first-same f g (suc n) h = first-suc f n ∙ ap₂ or_else (first-same f g n (λ k l. h k (omega arith))) (h n (omega arith)) ∙ sym (first-suc g n)
+
+told-if : {F : Type 0} (fault : ℕ → F) (b : Bool) (i : ℕ) (o : Option ℕ)
+    → or_else (option_map fault o) (if b then Some (fault i) else None) ≡ option_map fault (or_else o (if b then Some i else None))
+told-if fault true i None = refl
+told-if fault false i None = refl
+told-if fault b i (Some k) = refl
+
+-- the fault of the first place at which it holds
+pub first-told : {F : Type 0} (fault : ℕ → F) (p : ℕ → Bool) (n : ℕ)
+    → first_below (λ i. if p i then Some (fault i) else None) n ≡ option_map fault (first_below (λ i. if p i then Some i else None) n)
+first-told fault p zero = first-zero (λ i. if p i then Some (fault i) else None) ∙ sym (ap (option_map fault) (first-zero (λ i. if p i then Some i else None)))
+first-told fault p (suc n) =
+    first-suc (λ i. if p i then Some (fault i) else None) n
+    ∙ ap (λ o. or_else o (if p n then Some (fault n) else None)) (first-told fault p n)
+    ∙ told-if fault (p n) n (first_below (λ i. if p i then Some i else None) n)
+    ∙ sym (ap (option_map fault) (first-suc (λ i. if p i then Some i else None) n))

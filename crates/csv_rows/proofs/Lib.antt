@@ -1,11 +1,15 @@
 pub mod FaultLemmas
 pub mod FirstLemmas
 pub mod IdLemmas
+pub mod KeyLemmas
 pub mod ListLemmas
 pub mod NameLemmas
 pub mod PartsLemmas
 pub mod PlaceLemmas
 pub mod Records
 pub mod RowLemmas
+pub mod SoonestLemmas
+pub mod SortLemmas
 pub mod SpaceLemmas
 pub mod TableLemmas
+pub mod TestLemmas

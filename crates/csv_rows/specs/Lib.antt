@@ -3,6 +3,7 @@ pub mod Fields
 pub mod FeedTables
 pub mod First
 pub mod Ids
+pub mod Keys
 pub mod Limits
 pub mod Lists
 pub mod Loading

@@ -1,10 +1,12 @@
-//! Tables of comma-separated values: rows of trimmed fields, the columns that a header names, and how much is read.
+//! Tables of comma-separated values: rows of trimmed fields, the columns that a header names, how much is read, and rows
+//! in the order of their keys.
 #![tactic(auto)]
 
 mod columns;
 mod feed_tables;
 mod fields;
 mod ids;
+mod keys;
 mod limits;
 mod loading;
 mod names;
@@ -15,11 +17,14 @@ mod spaces;
 pub use columns::Column;
 pub use feed_tables::{FeedFault, Table};
 pub use ids::{Ids, read_ids};
+pub use keys::{Key, before_at, first_repeat, in_order, sooner};
 pub use limits::Limits;
 pub use loading::{Loaded, read_table};
 pub use names::read_name;
 pub use row_faults::lack;
 pub use rows::{Rows, RowsFault};
 
+#[cfg(test)]
+mod key_tests;
 #[cfg(test)]
 mod tests;

@@ -1,22 +1,19 @@
 -- The first fault of a table, by the step that finds it.
-use Rattle.std.proofs.Common.{◌≡◌, ℕ, ◌<◌, ◌≤◌, nat_lt, true, false, List, length, Option, Some, None, option_map, slice_index_or, if◌then◌else◌, refl, sym, ap, ◌∙◌, subst, arith}
+use Rattle.std.proofs.Common.{◌≡◌, ℕ, ◌<◌, ◌≤◌, nat_lt, false, List, length, Option, Some, None, slice_index_or, if◌then◌else◌, refl, sym, ap, ◌∙◌, subst, arith}
 use Rattle.std.proofs.lemmas.Bool.Decides.{nat_tests}
 use Rattle.csv_rows.specs.First.{or_else, first_below}
 use Rattle.csv_rows.specs.declared.columns.Column.TheVariants.{Run, Step, From, To, Dep, Arr}
 use Rattle.csv_rows.specs.Tables.{place_of, row_count}
+use Rattle.csv_rows.proofs.TestLemmas.{lt_true}
 use Rattle.cut_file.specs.declared.rows.CutRow.{CutRow}
 use Rattle.cut_file.specs.declared.rows.Columns.{Columns}
-use Rattle.cut_file.specs.declared.order.Key.{Key}
+use Rattle.csv_rows.specs.declared.keys.Key.{Key}
 use Rattle.cut_file.specs.declared.faults.CutFault.{CutFault}
 use Rattle.cut_file.specs.declared.faults.CutFault.TheVariants.{TooManyRows}
 use Rattle.cut_file.specs.Faults.{missing_column, too_many_rows, bad_field, repeated_step, run_fault, first_fault, row}
 use Rattle.cut_file.specs.Cut.{AreColumns, missing_in, lack, run_names, place_names, IsNumbered}
-use Rattle.cut_file.specs.Keys.{least_repeat, least_beside, AreSorted, no_row}
+use Rattle.cut_file.specs.Keys.{AreKeysOf, no_row}
 use Rattle.cut_file.specs.Read.{IsRead}
-use Rattle.cut_file.proofs.Distinct.{runs_distinct, places_distinct}
-use Rattle.cut_file.proofs.Repeats.{AreRead, repeats_first}
-use Rattle.cut_file.proofs.Misfits.{misfits_first}
-use Rattle.plan_model.specs.NameLists.{AreDistinct}
 
 missing_by : Option ℕ → Option ℕ → Option ℕ → Option ℕ → Option ℕ → Option ℕ → Option CutFault
 missing_by a b c d e f = or_else (lack a Run) (or_else (lack b Step) (or_else (lack c From) (or_else (lack d To) (or_else (lack e Dep) (lack f Arr)))))
@@ -44,9 +41,6 @@ pub column_first : (t : List (List (List ℕ))) (limit : ℕ) (c : Columns) (f :
 column_first t limit c f h e =
     first_is t limit ∙ ap (λ a. all_faults a (too_many_rows t limit) (first_below (bad_field t) (row_count t)) (runs_of t)) (missing_is t c h ∙ sym e)
 
-lt_true : (a b : ℕ) → a < b → nat_lt a b ≡ true
-lt_true a b h = grind (arith, nat_tests)
-
 lt_false : (a b : ℕ) → b ≤ a → nat_lt a b ≡ false
 lt_false a b h = grind (arith, nat_tests)
 
@@ -65,41 +59,24 @@ rows_first t limit c h e l =
 pub field_first : (t : List (List (List ℕ))) (o : Option CutFault) (f : CutFault) → first_below (bad_field t) (row_count t) ≡ Some f → or_else (first_below (bad_field t) (row_count t)) o ≡ Some f
 field_first t o f h = ap (λ a. or_else a o) h
 
-or_same : (a b c d : Option CutFault) → a ≡ c → (a ≡ None → b ≡ d) → or_else a b ≡ or_else c d
-or_same None b c d h k = k refl ∙ ap (λ x. or_else x d) h
-or_same (Some x) b c d h k = ap (λ x. or_else x d) h
-
-pub are_read : (t : List (List (List ℕ))) (runs places : List (List ℕ)) (rows : List CutRow) (keys : List Key) → IsRead t runs places rows keys → AreRead t runs places rows keys
-are_read t runs places rows keys h = record {
-  size = h.size;
-  each = h.each;
-  one_run = subst AreDistinct (sym h.run_names) (runs_distinct t (row_count t));
-  one_place_name = subst AreDistinct (sym h.place_names) (places_distinct t (row_count t));
-  sorted = h.sorted;
-}
-
--- the faults of the runs, in rows that are read
-pub runs_first : (t : List (List (List ℕ))) (runs places : List (List ℕ)) (rows : List CutRow) (keys : List Key) (o : Option CutFault) → IsRead t runs places rows keys
-    → first_below (bad_field t) (row_count t) ≡ None
-    → o ≡ or_else (option_map (λ x. x.fault) (least_repeat keys (length keys))) (option_map (λ x. x.fault) (least_beside rows keys (length keys)))
-    → or_else (first_below (bad_field t) (row_count t)) (runs_of t) ≡ o
-runs_first t runs places rows keys o h none e =
-    let r = are_read t runs places rows keys h in
-    ap (λ a. or_else a (runs_of t)) none
-    ∙ or_same (first_below (repeated_step t) (row_count t)) (first_below (run_fault t) (row_count t))
-    (option_map (λ x. x.fault) (least_repeat keys (length keys))) (option_map (λ x. x.fault) (least_beside rows keys (length keys)))
-    (repeats_first t runs places rows keys r) (λ once. misfits_first t runs places rows keys r once)
-    ∙ sym e
-
--- the same by the slices that were read
+-- the faults of the runs, in rows that are read, by the slices that were lent
 pub runs_here : (t : List (List (List ℕ))) (runs places : List (List ℕ)) (rows rows' : List CutRow) (keys keys' : List Key) (o : Option CutFault) → rows' ≡ rows → keys' ≡ keys
     → IsRead t runs places rows keys → first_below (bad_field t) (row_count t) ≡ None
-    → o ≡ or_else (option_map (λ x. x.fault) (least_repeat keys' (length keys'))) (option_map (λ x. x.fault) (least_beside rows' keys' (length keys')))
+    → ((t : List (List (List ℕ))) (runs places : List (List ℕ)) → IsRead t runs places rows' keys' → runs_of t ≡ o)
     → or_else (first_below (bad_field t) (row_count t)) (runs_of t) ≡ o
-runs_here t runs places rows rows' keys keys' o e f h none g =
-    runs_first t runs places rows' keys' o (subst (λ (x : List CutRow). IsRead t runs places x keys') (sym e) (subst (λ (x : List Key). IsRead t runs places rows x) (sym f) h)) none g
+runs_here t runs places rows rows' keys keys' o e f h none told =
+    ap (λ a. or_else a (runs_of t)) none
+    ∙ told t runs places (subst (λ (x : List CutRow). IsRead t runs places x keys') (sym e) (subst (λ (x : List Key). IsRead t runs places rows x) (sym f) h))
 
 pub read_here : (t : List (List (List ℕ))) (runs places : List (List ℕ)) (rows rows' : List CutRow) (keys : List Key) → runs ≡ run_names t (row_count t) → places ≡ place_names t (row_count t)
-    → length rows ≡ row_count t → ((k : ℕ) (d : CutRow) → k < row_count t → IsNumbered runs places (row t k) (slice_index_or rows k d)) → rows' ≡ rows → AreSorted rows' keys → IsRead t runs places rows keys
-read_here t runs places rows rows' keys a b size each e s =
-    record { run_names = a; place_names = b; size = size; each = λ k l. each k no_row l; sorted = subst (λ (x : List CutRow). AreSorted x keys) e s }
+    → length rows ≡ row_count t → ((k : ℕ) (d : CutRow) → k < row_count t → IsNumbered runs places (row t k) (slice_index_or rows k d)) → rows' ≡ rows → length keys ≡ length rows' → AreKeysOf rows' keys
+    → IsRead t runs places rows keys
+read_here t runs places rows rows' keys a b size each e count s =
+    record {
+      run_names = a;
+      place_names = b;
+      size = size;
+      each = λ k l. each k no_row l;
+      key_count = count ∙ ap length e;
+      sorted = subst (λ (x : List CutRow). AreKeysOf x keys) e s;
+    }

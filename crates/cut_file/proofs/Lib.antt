@@ -1,8 +1,5 @@
 pub mod NumberFacts
 pub mod RowFacts
-pub mod SortFacts
-pub mod Soonest
-pub mod Before
 pub mod Distinct
 pub mod Repeats
 pub mod Misfits

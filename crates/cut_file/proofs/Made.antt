@@ -6,7 +6,7 @@ use Rattle.plan_model.specs.Parts.{Parts}
 use Rattle.plan_model.specs.Network.{change_of}
 use Rattle.delay_table.specs.DelayLists.{DelayLists}
 use Rattle.cut_file.specs.declared.rows.CutRow.{CutRow}
-use Rattle.cut_file.specs.declared.order.Key.{Key}
+use Rattle.csv_rows.specs.declared.keys.Key.{Key}
 use Rattle.cut_file.specs.Read.{Cut}
 use Rattle.cut_file.specs.Networks.{AreConnections, IsNetwork, longest, change_from}
 

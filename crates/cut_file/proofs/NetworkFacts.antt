@@ -1,17 +1,18 @@
 -- The network of a cut file by the rows of its table.
-use Rattle.std.proofs.Common.{◌≡◌, ℕ, zero, suc, ◌<◌, ◌≤◌, max, List, length, slice_get, Option, Some, if◌then◌else◌, bytes_eq, sym, ap, ap₂, ◌∙◌, subst, arith}
+use Rattle.std.proofs.Common.{◌≡◌, ℕ, zero, suc, ◌<◌, ◌≤◌, max, List, length, slice_get, Option, Some, if◌then◌else◌, bytes_eq, refl, sym, ap, ap₂, ◌∙◌, subst, arith}
 use Rattle.std.proofs.lemmas.Option.{slice_get_within}
 use Rattle.plan_model.specs.Parts.{Parts}
 use Rattle.plan_model.specs.Network.{count, connection, no_connection}
 use Rattle.csv_rows.specs.Tables.{row_count}
 use Rattle.delay_table.specs.DelayLists.{DelayLists}
 use Rattle.cut_file.specs.Faults.{row}
-use Rattle.cut_file.specs.Keys.{cut_row, key_at}
+use Rattle.csv_rows.specs.Keys.{key_at}
+use Rattle.cut_file.specs.Keys.{cut_row}
 use Rattle.cut_file.specs.Read.{Cut, IsRead}
 use Rattle.cut_file.specs.Networks.{IsClass, IsNetwork, longest, seconds_of, change_from}
 use Rattle.cut_file.specs.CutNetwork.{IsRide, largest, IsCutNetwork}
 use Rattle.cut_file.proofs.ChangeFacts.{longest-zero, longest-suc}
-use Rattle.cut_file.proofs.CheckedFacts.{are_read}
+use Rattle.cut_file.proofs.Repeats.{one_place_name}
 use Rattle.cut_file.proofs.Distinct.{same_name}
 use Rattle.cut_file.proofs.Fit.{name_lists}
 
@@ -41,21 +42,21 @@ module _ (t : List (List (List ℕ))) (cut : Cut) (delays : DelayLists) (n : Par
   largest_is p place h zero l = longest-zero cut.rows p
   largest_is p place h (suc m) l =
       let a = read.each m (omega arith) in
-      let here = same_name cut.places (are_read t cut.runs cut.places cut.rows cut.keys read).one_place_name (cut_row cut.rows m).from p (row t m).from place a.from h in
+      let here = same_name cut.places (one_place_name t cut.runs cut.places cut.rows cut.keys read) (cut_row cut.rows m).from p (row t m).from place a.from h in
       longest-suc cut.rows m p
       ∙ ap₂ max (largest_is p place h m (omega arith))
       (ap (λ b. if b then seconds_of (cut_row cut.rows m).change else 0) (sym here) ∙ ap (λ x. if bytes_eq (row t m).from place then seconds_of x else 0) a.change)
 
   pub cut_network : IsCutNetwork t delays n (name_lists cut)
   cut_network =
-      let size : count n ≡ row_count t = net.connections.size ∙ read.sorted.size ∙ read.size in
+      let size : count n ≡ row_count t = net.connections.size ∙ read.key_count ∙ read.size in
       record {
         runs = read.run_names;
         places = read.place_names;
         size = size;
         rides = λ i l. ((key_at cut.keys i).row, omega (arith, read.sorted.inside i (omega (arith, net.connections.size, l)), read.size), ride i l);
         rows = λ k l.
-            let w = read.sorted.all k (omega (arith, read.size, l)) in
+            let w = read.sorted.all k (omega (arith, read.size, l)) refl in
             let inside : w.0 < count n = omega (arith, net.connections.size, w.1) in
             let P : ℕ → Type 0 = λ j. IsRide (name_lists cut) delays.types (row t j) (connection n w.0) in
             (w.0, inside, subst P w.2 (ride w.0 inside));

@@ -1,5 +1,5 @@
 -- The network of a cut file with no fault is valid.
-use Rattle.std.proofs.Common.{◌≡◌, ℕ, zero, suc, ◌+◌, ◌-◌, ◌<◌, ◌≤◌, ◌==◌, inl, inr, nat_lt, Bool, true, false, List, [], length, slice_get, slice_index_or, Option, Some, None, IfSome, if◌then◌else◌, refl, sym, ap, ◌∙◌, subst, arith, ⊎_elim}
+use Rattle.std.proofs.Common.{◌≡◌, ℕ, zero, suc, ◌+◌, ◌-◌, ◌<◌, ◌≤◌, ◌==◌, inl, inr, nat_lt, Bool, true, false, ◌&&◌, List, [], length, slice_get, slice_index_or, Option, Some, None, IfSome, if◌then◌else◌, refl, sym, ap, ◌∙◌, subst, arith, ⊎_elim}
 use Rattle.std.proofs.lemmas.Bool.{cases_lt}
 use Rattle.std.proofs.lemmas.Bool.Decides.{nat_tests}
 use Rattle.std.proofs.lemmas.Option.{slice_get_within}
@@ -7,24 +7,25 @@ use Rattle.plan_model.specs.Parts.{Parts}
 use Rattle.plan_model.specs.Rows.{IsValidRow}
 use Rattle.plan_model.specs.Network.{IsValid, IsValidConnection, count, connection, no_connection, row_of, run_of, step_of}
 use Rattle.plan_model.proofs.Local.{FitsNext, IsLocallyValid, IsValid-from_local}
-use Rattle.csv_rows.specs.First.{or_else, first_below}
+use Rattle.csv_rows.specs.First.{or_else, first_below, any_below}
 use Rattle.delay_table.specs.DelayLists.{DelayLists}
 use Rattle.delay_table.specs.Slots.{AreDelays}
 use Rattle.csv_rows.specs.Tables.{row_count}
 use Rattle.csv_rows.proofs.FirstLemmas.{none-each}
+use Rattle.csv_rows.proofs.TestLemmas.{le_test, or_false}
 use Rattle.cut_file.specs.declared.rows.CutRow.{CutRow}
-use Rattle.cut_file.specs.declared.order.Key.{Key}
+use Rattle.csv_rows.specs.declared.keys.Key.{Key}
+use Rattle.csv_rows.specs.Keys.{key_at, IsBefore}
+use Rattle.csv_rows.proofs.KeyLemmas.{less_group}
 use Rattle.cut_file.specs.declared.faults.CutFault.{CutFault}
 use Rattle.cut_file.specs.declared.faults.CutFault.TheVariants.{TooManyRows, Backward, Broken}
-use Rattle.cut_file.specs.Faults.{row, missing_column, too_many_rows, bad_field, repeated_step, run_fault, first_fault}
-use Rattle.cut_file.specs.Keys.{cut_row, key_at, before_at, misfit, beside}
+use Rattle.cut_file.specs.Faults.{row, just_precedes, goes_back, is_broken, missing_column, too_many_rows, bad_field, repeated_step, run_fault, first_fault}
+use Rattle.cut_file.specs.Keys.{cut_row, misfit, beside}
 use Rattle.cut_file.specs.Read.{Cut}
 use Rattle.cut_file.specs.Sound.{IsSound}
 use Rattle.cut_file.specs.Networks.{IsClass, IsConnection, IsNetwork, longest, change_by, change_from, seconds_of}
-use Rattle.cut_file.proofs.Before.{Tells, before_tells}
-use Rattle.cut_file.proofs.Repeats.{AreRead, no_repeat}
+use Rattle.cut_file.proofs.Repeats.{one_run, steps_rise}
 use Rattle.cut_file.proofs.Misfits.{misfit_is}
-use Rattle.cut_file.proofs.CheckedFacts.{are_read}
 use Rattle.cut_file.proofs.Distinct.{one_number}
 use Rattle.cut_file.proofs.FormFacts.{row_in_form}
 use Rattle.cut_file.proofs.Occurs.{run_occurs, few_places}
@@ -37,9 +38,6 @@ none_both (Some x) b h = absurd (cc)
 if_none : (b : Bool) (e : CutFault) (o : Option CutFault) → (if b then Some e else o) ≡ None → (b ≡ false) × (o ≡ None)
 if_none true e o h = absurd (cc)
 if_none false e o h = (refl, h)
-
-le_test : (a b : ℕ) → nat_lt a b ≡ false → b ≤ a
-le_test a b h = grind (arith, nat_tests)
 
 pub record HasNone (t : List (List (List ℕ))) (limit : ℕ) : Type 0 where
   pub few : row_count t ≤ limit
@@ -56,15 +54,18 @@ has_none t limit h =
     let d = none_both (first_below (repeated_step t) (row_count t)) (first_below (run_fault t) (row_count t)) c.1 in
     record { few = le_test limit (row_count t) (if_none (nat_lt limit (row_count t)) (TooManyRows (row_count t)) None b.0).0; fields = c.0; steps = d.0; runs = d.1 }
 
--- what no fault beside the row before tells
-beside_none : (rows : List CutRow) (o : Option Key) (i : ℕ) → beside rows o i ≡ None → ((cut_row rows i).dep ≤ (cut_row rows i).arr) × IfSome o (λ b. (cut_row rows b.row).arr ≤ (cut_row rows i).dep)
-beside_none rows None i h =
-    let a = if_none (nat_lt (cut_row rows i).arr (cut_row rows i).dep) (Backward (i + 2)) None h in
-    (le_test (cut_row rows i).arr (cut_row rows i).dep a.0, tt)
-beside_none rows (Some b) i h =
+-- what a row without a fault beside the row before it tells
+forward_own : (t : List (List (List ℕ))) (i : ℕ) → run_fault t i ≡ None → (row t i).dep ≤ (row t i).arr
+unfolding run_fault
+forward_own t i h =
+    le_test (row t i).arr (row t i).dep (or_false (nat_lt (row t i).arr (row t i).dep) (any_below (λ j. just_precedes t j i && nat_lt (row t i).dep (row t j).arr) (row_count t))
+    (if_none (goes_back t i) (Backward (i + 2)) (if is_broken t i then Some (Broken (i + 2)) else None) h).0).0
+
+after_last : (rows : List CutRow) (b : Key) (i : ℕ) → beside rows (Some b) i ≡ None → (cut_row rows b.row).arr ≤ (cut_row rows i).dep
+after_last rows b i h =
     let a = if_none (nat_lt (cut_row rows i).arr (cut_row rows i).dep) (Backward (i + 2)) (misfit (cut_row rows i) (cut_row rows b.row) (i + 2)) h in
     let c = if_none (nat_lt (cut_row rows i).dep (cut_row rows b.row).arr) (Backward (i + 2)) (if (cut_row rows i).from == (cut_row rows b.row).to then None else Some (Broken (i + 2))) a.1 in
-    (le_test (cut_row rows i).arr (cut_row rows i).dep a.0, le_test (cut_row rows i).dep (cut_row rows b.row).arr c.0)
+    le_test (cut_row rows i).dep (cut_row rows b.row).arr c.0
 
 class_inside : (types : List ℕ) (c : Option ℕ) (k : ℕ) → IsClass types c k → k < length types + 1
 class_inside types None k h = omega (arith, h)
@@ -98,16 +99,13 @@ module _ (cut : Cut) (delays : DelayLists) (n : Parts) (s : IsSound cut) (f : Ar
   pub none_of : HasNone s.table s.limit
   none_of = has_none s.table s.limit s.none
 
-  reads : AreRead s.table cut.runs cut.places cut.rows cut.keys
-  reads = are_read s.table cut.runs cut.places cut.rows cut.keys s.read
-
   abbrev own : ℕ → CutRow
   own i = cut_row cut.rows (key_at cut.keys i).row
 
   -- the connection at a position is the row of the key there
   pub record IsAt (i : ℕ) : Type 0 where
-    pub run : run_of n i ≡ (key_at cut.keys i).run
-    pub step : step_of n i ≡ (key_at cut.keys i).step
+    pub run : run_of n i ≡ (key_at cut.keys i).group
+    pub step : step_of n i ≡ (key_at cut.keys i).order
     pub made : IsConnection delays.types (cut_row cut.rows (key_at cut.keys i).row) (connection n i)
     pub inside : (key_at cut.keys i).row < row_count s.table
     pub key : i < length cut.keys
@@ -118,69 +116,59 @@ module _ (cut : Cut) (delays : DelayLists) (n : Parts) (s : IsSound cut) (f : Ar
       let key : i < length cut.keys = omega (arith, net.connections.size) in
       let c = net.connections.each i no_connection key in
       record {
-        run = c.run ∙ sym (s.read.sorted.run i key);
-        step = c.step ∙ sym (s.read.sorted.step i key);
+        run = c.run ∙ sym (s.read.sorted.groups i key);
+        step = c.step ∙ sym (s.read.sorted.orders i key);
         made = c;
         inside = omega (arith, s.read.sorted.inside i key, s.read.size);
         key = key;
       }
 
-  fits : (k : ℕ) → k < length cut.keys → beside cut.rows (before_at cut.keys k) (key_at cut.keys k).row ≡ None
-  fits k h =
-      sym (misfit_is s.table cut.runs cut.places cut.rows cut.keys reads none_of.steps k h (before_at cut.keys k) (before_tells cut.keys k))
-      ∙ none-each (run_fault s.table) (row_count s.table) none_of.runs (key_at cut.keys k).row (omega (arith, s.read.sorted.inside k h, s.read.size))
+  fits : (k : ℕ) → k < length cut.keys → run_fault s.table (key_at cut.keys k).row ≡ None
+  fits k h = none-each (run_fault s.table) (row_count s.table) none_of.runs (key_at cut.keys k).row (omega (arith, s.read.sorted.inside k h, s.read.size))
 
-  after_before : (k : ℕ) → 0 < k → (key_at cut.keys (k - 1)).run ≡ (key_at cut.keys k).run → (o : Option Key) → Tells cut.keys k o
-      → IfSome o (λ b. (cut_row cut.rows b.row).arr ≤ (cut_row cut.rows (key_at cut.keys k).row).dep)
-      → (cut_row cut.rows (key_at cut.keys (k - 1)).row).arr ≤ (cut_row cut.rows (key_at cut.keys k).row).dep
-  after_before k some run None tells h = absurd (tells some run)
-  after_before k some run (Some b) tells h =
-      let P : Key → Type 0 = λ x. (cut_row cut.rows x.row).arr ≤ (cut_row cut.rows (key_at cut.keys k).row).dep in subst P tells.is h
-
-  run_rises : (k m : ℕ) → k ≤ m → m < length cut.keys → (key_at cut.keys k).run ≤ (key_at cut.keys m).run
+  run_rises : (k m : ℕ) → k ≤ m → m < length cut.keys → (key_at cut.keys k).group ≤ (key_at cut.keys m).group
   run_rises k m l h =
-      ⊎_elim (λ (less : k < m). ⊎_elim (λ x. omega (arith, x)) (λ x. omega (arith, x.0)) (s.read.sorted.rising k m less h))
-      (λ (ge : m ≤ k). let e : k ≡ m = omega arith in omega (arith, ap (λ i. (key_at cut.keys i).run) e)) (cases_lt k m)
+      ⊎_elim (λ (less : k < m). less_group (key_at cut.keys k) (key_at cut.keys m) (s.read.sorted.rising k m less h))
+      (λ (ge : m ≤ k). let e : k ≡ m = omega arith in omega (arith, ap (λ i. (key_at cut.keys i).group) e)) (cases_lt k m)
 
   -- a key of each run
   pub record HasKey (r : ℕ) : Type 0 where
     pub place : ℕ
     pub inside : place < length cut.keys
-    pub run : (key_at cut.keys place).run ≡ r
+    pub run : (key_at cut.keys place).group ≡ r
 
   pub key_of_run : (r : ℕ) → r < length cut.runs → HasKey r
   key_of_run r l =
       let t = s.table in
       let w = run_occurs t (row_count t) r (omega (arith, ap length s.read.run_names)) in
-      let k = s.read.sorted.all w.at (omega (arith, w.inside, s.read.size)) in
+      let k = s.read.sorted.all w.at (omega (arith, w.inside, s.read.size)) refl in
       let a = s.read.each w.at w.inside in
       let P : List (List ℕ) → Type 0 = λ xs. slice_get xs r ≡ Some (row t w.at).run in
-      let same = one_number cut.runs reads.one_run (cut_row cut.rows w.at).run r (row t w.at).run a.run (subst P (sym s.read.run_names) w.is) in
-      record { place = k.0; inside = k.1; run = s.read.sorted.run k.0 k.1 ∙ ap (λ i. (cut_row cut.rows i).run) k.2 ∙ same }
+      let same = one_number cut.runs (one_run s.table cut.runs cut.places cut.rows cut.keys s.read) (cut_row cut.rows w.at).run r (row t w.at).run a.run (subst P (sym s.read.run_names) w.is) in
+      record { place = k.0; inside = k.1; run = s.read.sorted.groups k.0 k.1 ∙ ap (λ i. (cut_row cut.rows i).run) k.2 ∙ same }
 
-  pub run_inside : (i : ℕ) → i < length cut.keys → (key_at cut.keys i).run < length cut.runs
+  pub run_inside : (i : ℕ) → i < length cut.keys → (key_at cut.keys i).group < length cut.runs
   run_inside i h =
       let a = s.read.each (key_at cut.keys i).row (omega (arith, s.read.sorted.inside i h, s.read.size)) in
-      omega (arith, s.read.sorted.run i h, slice_get_within cut.runs (own i).run (row s.table (key_at cut.keys i).row).run a.run)
+      omega (arith, s.read.sorted.groups i h, slice_get_within cut.runs (own i).run (row s.table (key_at cut.keys i).row).run a.run)
 
   next : (i : ℕ) → i + 1 < count n → FitsNext n i
   next i l =
       let a = is_at i (omega arith) in
       let b = is_at (i + 1) l in
       let back : i + 1 - 1 ≡ i = omega arith in
-      ⊎_elim (λ (less : (key_at cut.keys i).run < (key_at cut.keys (i + 1)).run).
-      ⊎_elim (λ (gap : (key_at cut.keys i).run + 1 < (key_at cut.keys (i + 1)).run).
-      let w = key_of_run ((key_at cut.keys i).run + 1) (omega (arith, run_inside (i + 1) b.key)) in
+      ⊎_elim (λ (less : (key_at cut.keys i).group < (key_at cut.keys (i + 1)).group).
+      ⊎_elim (λ (gap : (key_at cut.keys i).group + 1 < (key_at cut.keys (i + 1)).group).
+      let w = key_of_run ((key_at cut.keys i).group + 1) (omega (arith, run_inside (i + 1) b.key)) in
       ⊎_elim (λ (before : w.place < i + 1). absurd (omega (arith, w.run, run_rises w.place i (omega arith) a.key)))
       (λ (after : i + 1 ≤ w.place). absurd (omega (arith, w.run, run_rises (i + 1) w.place after w.inside))) (cases_lt w.place (i + 1)))
-      (λ (end : (key_at cut.keys (i + 1)).run ≤ (key_at cut.keys i).run + 1). inr (omega (arith, a.run, b.run))) (cases_lt ((key_at cut.keys i).run + 1) (key_at cut.keys (i + 1)).run))
+      (λ (end : (key_at cut.keys (i + 1)).group ≤ (key_at cut.keys i).group + 1). inr (omega (arith, a.run, b.run))) (cases_lt ((key_at cut.keys i).group + 1) (key_at cut.keys (i + 1)).group))
       (λ x.
-      let steps = no_repeat s.table cut.runs cut.places cut.rows cut.keys reads none_of.steps i (i + 1) (omega arith) b.key x.0 in
-      let q = beside_none cut.rows (before_at cut.keys (i + 1)) (key_at cut.keys (i + 1)).row (fits (i + 1) b.key) in
-      let same : (key_at cut.keys (i + 1 - 1)).run ≡ (key_at cut.keys (i + 1)).run = ap (λ k. (key_at cut.keys k).run) back ∙ x.0 in
-      let onward = after_before (i + 1) (omega arith) same (before_at cut.keys (i + 1)) (before_tells cut.keys (i + 1)) q.1 in
-      let at = ap (λ k. (cut_row cut.rows (key_at cut.keys k).row).arr) back in
-      inl (a.run ∙ x.0 ∙ sym b.run, omega (arith, a.step, b.step, steps), omega (arith, a.made.arr, b.made.dep, onward, at)))
+      let steps = steps_rise s.table cut.runs cut.places cut.rows cut.keys s.read none_of.steps i (i + 1) (omega arith) b.key x.0 in
+      let before : IsBefore cut.keys (i + 1) (Some (key_at cut.keys i)) = (omega arith, ap (key_at cut.keys) (sym back), x.0) in
+      let fault = misfit_is s.table cut.runs cut.places cut.rows cut.keys s.read none_of.steps (i + 1) b.key (Some (key_at cut.keys i)) before in
+      let onward = after_last cut.rows (key_at cut.keys i) (key_at cut.keys (i + 1)).row (sym fault ∙ fits (i + 1) b.key) in
+      inl (a.run ∙ x.0 ∙ sym b.run, omega (arith, a.step, b.step, steps), omega (arith, a.made.arr, b.made.dep, onward)))
       (s.read.sorted.rising i (i + 1) (omega arith) b.key)
 
   first : 0 < count n → run_of n 0 ≡ 0
@@ -194,9 +182,8 @@ module _ (cut : Cut) (delays : DelayLists) (n : Parts) (s : IsSound cut) (f : Ar
       let a = is_at i l in
       let r = s.read.each (key_at cut.keys i).row a.inside in
       let form = row_in_form s.table (key_at cut.keys i).row (none-each (bad_field s.table) (row_count s.table) none_of.fields (key_at cut.keys i).row a.inside) in
-      let q = beside_none cut.rows (before_at cut.keys i) (key_at cut.keys i).row (fits i a.key) in
       record {
-        forward = omega (arith, a.made.dep, a.made.arr, q.0);
+        forward = omega (arith, a.made.dep, a.made.arr, r.dep, r.arr, forward_own s.table (key_at cut.keys i).row (fits i a.key));
         early = omega (arith, a.made.arr, r.arr, form.arr);
         from_in = omega (arith, a.made.from, net.places, slice_get_within cut.places (own i).from (row s.table (key_at cut.keys i).row).from r.from);
         to_in = omega (arith, a.made.to, net.places, slice_get_within cut.places (own i).to (row s.table (key_at cut.keys i).row).to r.to);
@@ -223,7 +210,7 @@ module _ (cut : Cut) (delays : DelayLists) (n : Parts) (s : IsSound cut) (f : Ar
     rows = λ k l.
         let P : List (List _) → Type 0 = λ xs. IsValidRow (slice_index_or xs k []) in
         subst P (sym net.classes) (f.rows k (omega (arith, ap length net.classes)));
-    few_connections = omega (arith, net.connections.size, s.read.sorted.size, s.read.size, none_of.few, s.few);
+    few_connections = omega (arith, net.connections.size, s.read.key_count, s.read.size, none_of.few, s.few);
     few_places = omega (arith, net.places, ap length s.read.place_names, few_places s.table (row_count s.table), none_of.few, s.few);
     few_classes = omega (arith, ap length net.classes, f.each, f.few);
     class_0 = omega (arith, ap length net.classes, f.each);

@@ -6,8 +6,9 @@ use Rattle.plan_model.specs.Network.{change_of}
 use Rattle.delay_table.specs.DelayLists.{DelayLists}
 use Rattle.delay_table.specs.Slots.{IsClassOf}
 use Rattle.cut_file.specs.declared.rows.CutRow.{CutRow}
-use Rattle.cut_file.specs.declared.order.Key.{Key}
-use Rattle.cut_file.specs.Keys.{cut_row, key_at}
+use Rattle.csv_rows.specs.declared.keys.Key.{Key}
+use Rattle.csv_rows.specs.Keys.{key_at}
+use Rattle.cut_file.specs.Keys.{cut_row}
 use Rattle.cut_file.specs.Read.{Cut}
 
 -- the class of a row: 0 for `*`

@@ -2,10 +2,10 @@
 use Rattle.std.specs.Prelude.{◌≡◌, ℕ, ◌<◌, List, length}
 use Rattle.csv_rows.specs.Tables.{row_count}
 use Rattle.cut_file.specs.declared.rows.CutRow.{CutRow}
-use Rattle.cut_file.specs.declared.order.Key.{Key}
+use Rattle.csv_rows.specs.declared.keys.Key.{Key}
 use Rattle.cut_file.specs.Faults.{row}
 use Rattle.cut_file.specs.Cut.{run_names, place_names, IsNumbered}
-use Rattle.cut_file.specs.Keys.{cut_row, AreSorted}
+use Rattle.cut_file.specs.Keys.{cut_row, AreKeysOf}
 
 -- its names in the order in which they first stand, its rows with their numbers, and the order of the rows by run and step
 pub record IsRead (t : List (List (List ℕ))) (runs places : List (List ℕ)) (rows : List CutRow) (keys : List Key) : Type 0 where
@@ -13,7 +13,8 @@ pub record IsRead (t : List (List (List ℕ))) (runs places : List (List ℕ)) (
   pub place_names : places ≡ place_names t (row_count t)
   pub size : length rows ≡ row_count t
   pub each : (k : ℕ) → k < row_count t → IsNumbered runs places (row t k) (cut_row rows k)
-  pub sorted : AreSorted rows keys
+  pub key_count : length keys ≡ length rows
+  pub sorted : AreKeysOf rows keys
 
 -- the parts of a cut file
 pub record Cut : Type 0 where

@@ -1,16 +1,14 @@
 //! A cut file with no fault.
-ghost use Rattle.std.specs.Prelude.{◌≡◌, ◌≢◌, ◌≤◌, ◌^◌, length, Some, None, option_map, OnOk, IfOk, IfErr};
-ghost use Rattle.csv_rows.specs.First.{or_else};
+ghost use Rattle.std.specs.Prelude.{◌≡◌, ◌≢◌, ◌≤◌, ◌^◌, length, Some, None, OnOk, IfOk, IfErr};
 ghost use Rattle.csv_rows.specs.Spaces.{AreTrimmed};
 ghost use Rattle.cut_file.specs.Faults.{first_fault};
 ghost use Rattle.cut_file.specs.Cut.{AreColumns, missing_in};
-ghost use Rattle.cut_file.specs.Keys.{AreSorted, least_repeat, least_beside};
 ghost use Rattle.cut_file.specs.Read.{IsRead};
 
 use crate::faults::CutFault;
-use crate::order::{Key, first_misfit, first_repeat, sorted_keys};
+use crate::order::{run_fault, sorted_keys};
 use crate::rows::{Columns, CutRow, NumberedRows, columns_of, read_rows};
-use csv_rows::{Column, Limits, Rows};
+use csv_rows::{Column, Key, Limits, Rows};
 use std::alloc::Global;
 
 /// The rows of a cut file, and their order by run and step.
@@ -38,22 +36,6 @@ fn missing_column(columns: &Columns) -> Option<CutFault>
         Some(CutFault::MissingColumn(Column::Arr))
     } else {
         None
-    }
-}
-
-/// The first fault of the runs.
-fn run_fault(rows: &[CutRow], keys: &[Key]) -> Option<CutFault>
-    requires few { length rows.now ≤ 2 ^ 23 }
-    requires sorted { AreSorted rows.now keys.now }
-    ensures { result ≡ or_else (option_map (λ x. x.fault) (least_repeat keys.now (length keys.now)))
-        (option_map (λ x. x.fault) (least_beside rows.now keys.now (length keys.now))) }
-{
-    match first_repeat(rows, keys) {
-        Some(found) => Some(found.fault),
-        None => match first_misfit(rows, keys) {
-            Some(found) => Some(found.fault),
-            None => None,
-        },
     }
 }
 

@@ -1,10 +1,10 @@
 //! The parts of the network of a cut file.
 ghost use Rattle.std.specs.Prelude.{◌≡◌, ℕ, ◌<◌, length, slice_index, IfOk};
-ghost use Rattle.cut_file.specs.Keys.{AreSorted, cut_row};
+ghost use Rattle.cut_file.specs.Keys.{AreKeysOf, cut_row};
 ghost use Rattle.cut_file.specs.Networks.{IsClass, IsConnection, AreConnections, longest, change_from, seconds_of};
 
-use crate::order::Key;
 use crate::rows::CutRow;
+use csv_rows::Key;
 use delay_table::DelayTable;
 use plan_model::{ClassId, Connection, List, Moment, NoMemory, PlaceId, RunId};
 use std::alloc::Global;
@@ -43,7 +43,7 @@ pub(crate) fn connections_of(
     keys: &[Key],
     delays: &DelayTable,
 ) -> Result<List<Connection>, NoMemory>
-    requires { AreSorted rows.now keys.now }
+    requires { AreKeysOf rows.now keys.now }
     ensures { IfOk result (λ connections.
         AreConnections delays.now.types rows.now keys.now (length keys.now) connections) }
 {

@@ -1,35 +1,17 @@
 -- Two kept rows of a trip that stand beside each other: the first departs no later than the second arrives.
-use Rattle.std.proofs.Common.{◌≡◌, ℕ, zero, suc, ◌+◌, ◌<◌, ◌≤◌, nat_lt, Bool, true, false, not, ◌&&◌, ◌||◌, List, length, slice_index_or, Some, None, if◌then◌else◌, refl, sym, ap, ◌∙◌, arith, ⊎_elim}
+use Rattle.std.proofs.Common.{◌≡◌, ℕ, zero, suc, ◌+◌, ◌<◌, ◌≤◌, ◌==◌, nat_lt, Bool, true, false, ◌&&◌, List, length, slice_index_or, Some, None, if◌then◌else◌, refl, sym, ap, ◌∙◌, arith, ⊎_elim}
 use Rattle.std.specs.Prelude.{is_some}
 use Rattle.std.proofs.lemmas.Bool.{cases_lt}
-use Rattle.std.proofs.lemmas.Bool.Decides.{nat_tests}
 use Rattle.csv_rows.specs.declared.feed_tables.FeedFault.{FeedFault}
 use Rattle.csv_rows.specs.declared.feed_tables.FeedFault.TheVariants.{BackwardTime}
 use Rattle.csv_rows.specs.First.{first_below, any_below}
 use Rattle.csv_rows.proofs.FirstLemmas.{any-true, any-false, true_or_false, none-each}
+use Rattle.csv_rows.proofs.TestLemmas.{eq_test, eq_true, lt_test, lt_true, le_test, and_true, and_parts, or_false, not_to}
+use Rattle.csv_rows.specs.Keys.{precedes}
 use Rattle.gtfs_tables.specs.declared.stop_times.StopRow.{StopRow}
 use Rattle.gtfs_tables.specs.declared.stop_times.TimedRow.{TimedRow}
-use Rattle.gtfs_tables.specs.StopTimes.{row_at, same_trip, is_kept, times_in, arrival_of, departure_of, precedes, just_precedes, goes_back, backward_time}
+use Rattle.gtfs_tables.specs.StopTimes.{row_at, trip_of, sequence_of, is_kept, times_in, arrival_of, departure_of, just_before, goes_back, backward_time}
 use Rattle.gtfs_tables.specs.Visits.{no_visit, AreStopTimes}
-use Rattle.gtfs_tables.proofs.BeforeLemmas.{eq_test}
-use Rattle.gtfs_tables.proofs.TwinLemmas.{and_parts, and_true, eq_true}
-
-lt_test : (a b : ℕ) → nat_lt a b ≡ true → a < b
-lt_test a b h = grind (arith, nat_tests)
-
-lt_true : (a b : ℕ) → a < b → nat_lt a b ≡ true
-lt_true a b h = grind (arith, nat_tests)
-
-not_less : (a b : ℕ) → nat_lt a b ≡ false → b ≤ a
-not_less a b h = grind (arith, nat_tests)
-
-not_to : (b : Bool) → b ≡ false → not b ≡ true
-not_to true h = absurd (cc)
-not_to false h = refl
-
-or_false : (a b : Bool) → (a || b) ≡ false → (a ≡ false) × (b ≡ false)
-or_false true b h = absurd (cc)
-or_false false b h = (refl, h)
 
 and_false : (a b : Bool) → a ≡ true → (a && b) ≡ false → b ≡ false
 and_false true b h k = k
@@ -58,42 +40,43 @@ module _ (rows : List TimedRow) (none : first_below (backward_time rows) (length
   late : ℕ → ℕ → Bool
   late i j = nat_lt (arrival_of rows i) (departure_of rows j)
 
-  stands : (p : ℕ) → p < length visits
+  holds : (p : ℕ) → p < length visits
       → (nat_lt (departure_of rows (s.line p)) (arrival_of rows (s.line p)) ≡ false)
-      × (any_below (λ j. just_precedes rows j (s.line p) && late (s.line p) j) (length rows) ≡ false)
+      × (any_below (λ j. just_before rows j (s.line p) && late (s.line p) j) (length rows) ≡ false)
   unfolding backward_time late
-  stands p h =
+  holds p h =
       let i = s.line p in
       let back : goes_back rows i ≡ false = if_none (goes_back rows i) (BackwardTime (i + 2)) (none-each (backward_time rows) (length rows) none i (s.visit p h).inside) in
       or_false _ _ (and_false (is_kept rows i) _ (kept p h) back)
 
   pub forward : (p : ℕ) → p < length visits → (at p).arrival ≤ (at p).departure
-  forward p h = omega (arith, not_less _ _ (stands p h).0, arrives p h, departs p h)
+  forward p h = omega (arith, le_test _ _ (holds p h).0, arrives p h, departs p h)
 
-  sequence_of : ℕ → ℕ
-  sequence_of p = (row_at rows (s.line p)).sequence
-
-  same : (p q : ℕ) → p < length visits → q < length visits → same_trip rows (s.line p) (s.line q) ≡ true
+  same : (p q : ℕ) → p < length visits → q < length visits → (trip_of rows (s.line p) == trip_of rows (s.line q)) ≡ true
   same p q h k = eq_true _ _ ((s.visit p h).of_trip ∙ sym (s.visit q k).of_trip)
 
-  before : (p q : ℕ) → p < q → q < length visits → precedes rows (s.line p) (s.line q) ≡ true
+  stands : ℕ → ℕ → Bool
+  stands j i = precedes (is_kept rows) (trip_of rows) (sequence_of rows) j i
+
+  before : (p q : ℕ) → p < q → q < length visits → stands (s.line p) (s.line q) ≡ true
+  unfolding stands
   before p q l h =
       let k : p < length visits = omega arith in
       and_true _ _ (and_true _ _ (kept p k) (kept q h)) (and_true _ _ (same p q k h) (lt_true _ _ (s.rising p q l h)))
 
   between : ℕ → ℕ → ℕ → Bool
-  between j i x = precedes rows j x && precedes rows x i
+  between j i x = stands j x && stands x i
 
   -- a row that stands between two rows of a trip is of that trip
   none_between : (p x : ℕ) → p + 1 < length visits → x < length rows → between (s.line p) (s.line (p + 1)) x ≡ true → ⊥
-  unfolding between
+  unfolding between stands
   none_between p x h inside b =
       let i = s.line p in let j = s.line (p + 1) in
-      let both = and_parts (precedes rows i x) (precedes rows x j) b in
-      let first = and_parts (is_kept rows i && is_kept rows x) (same_trip rows i x && nat_lt (row_at rows i).sequence (row_at rows x).sequence) both.0 in
-      let second = and_parts (is_kept rows x && is_kept rows j) (same_trip rows x j && nat_lt (row_at rows x).sequence (row_at rows j).sequence) both.1 in
-      let of_first = and_parts (same_trip rows i x) (nat_lt (row_at rows i).sequence (row_at rows x).sequence) first.1 in
-      let of_second = and_parts (same_trip rows x j) (nat_lt (row_at rows x).sequence (row_at rows j).sequence) second.1 in
+      let both = and_parts (stands i x) (stands x j) b in
+      let first = and_parts (is_kept rows i && is_kept rows x) ((trip_of rows i == trip_of rows x) && nat_lt (row_at rows i).sequence (row_at rows x).sequence) both.0 in
+      let second = and_parts (is_kept rows x && is_kept rows j) ((trip_of rows x == trip_of rows j) && nat_lt (row_at rows x).sequence (row_at rows j).sequence) both.1 in
+      let of_first = and_parts (trip_of rows i == trip_of rows x) (nat_lt (row_at rows i).sequence (row_at rows x).sequence) first.1 in
+      let of_second = and_parts (trip_of rows x == trip_of rows j) (nat_lt (row_at rows x).sequence (row_at rows j).sequence) second.1 in
       let trip_is : (row_at rows x).trip ≡ trip = sym (eq_test (row_at rows i).trip (row_at rows x).trip of_first.0) ∙ (s.visit p (omega arith)).of_trip in
       let w = s.all x inside trip_is (and_parts (is_kept rows i) (is_kept rows x) first.0).1 in
       let here = ap (λ y. (row_at rows y).sequence) w.2 in
@@ -107,8 +90,8 @@ module _ (rows : List TimedRow) (none : first_below (backward_time rows) (length
       (λ (down : w.0 ≤ p). let e : w.0 ≡ p = omega arith in omega (arith, low, here, ap (λ y. (row_at rows (s.line y)).sequence) e)) (cases_lt p w.0))
       (cases_lt (p + 1) w.0)) (cases_lt w.0 p)
 
-  just : (p : ℕ) → p + 1 < length visits → just_precedes rows (s.line p) (s.line (p + 1)) ≡ true
-  unfolding between
+  just : (p : ℕ) → p + 1 < length visits → just_before rows (s.line p) (s.line (p + 1)) ≡ true
+  unfolding between stands
   just p h =
       and_true _ _ (before p (p + 1) (omega arith) h)
       (not_to _ (any-false (between (s.line p) (s.line (p + 1))) (length rows) (λ x inside b. none_between p x h inside b)))
@@ -118,8 +101,8 @@ module _ (rows : List TimedRow) (none : first_below (backward_time rows) (length
   onward p h =
       let k : p < length visits = omega arith in
       let i = s.line (p + 1) in
-      let no = none_at (λ j. just_precedes rows j i && late i j) (length rows) (s.line p) (s.visit p k).inside (stands (p + 1) h).1 in
-      omega (arith, not_less (arrival_of rows i) (departure_of rows (s.line p)) (and_false (just_precedes rows (s.line p) i) _ (just p h) no), arrives (p + 1) h, departs p k)
+      let no = none_at (λ j. just_before rows j i && late i j) (length rows) (s.line p) (s.visit p k).inside (holds (p + 1) h).1 in
+      omega (arith, le_test (arrival_of rows i) (departure_of rows (s.line p)) (and_false (just_before rows (s.line p) i) _ (just p h) no), arrives (p + 1) h, departs p k)
 
   -- sequences rise from 0 on
   pub rises : (p : ℕ) → p < length visits → p ≤ (row_at rows (s.line p)).sequence

@@ -2,11 +2,7 @@ pub mod RowLemmas
 pub mod StopLemmas
 pub mod RouteLemmas
 pub mod TripLemmas
-pub mod SoonestLemmas
-pub mod SortLemmas
-pub mod BeforeLemmas
 pub mod TimeLemmas
-pub mod TwinLemmas
 pub mod BackLemmas
 pub mod VisitLemmas
 pub mod FeedLemmas

@@ -21,7 +21,7 @@ use Rattle.gtfs_tables.specs.Forms.{text_in, allows_in, time_in}
 use Rattle.gtfs_tables.specs.StopTimes.{time_columns, number_in, times_of, visit_of, timed_from, timed_at, no_row}
 use Rattle.gtfs_tables.proofs.RowLemmas.{whole_bound}
 use Rattle.csv_rows.proofs.RowLemmas.{place_inside}
-use Rattle.gtfs_tables.proofs.TwinLemmas.{and_parts}
+use Rattle.csv_rows.proofs.TestLemmas.{lt_test, and_parts}
 
 -- a kept row stands at the place of a stop, at times of at most 167 hours
 pub record IsAtStop (stops : ℕ) (places : List ℕ) (v : StopRow) : Type 0 where
@@ -56,9 +56,6 @@ or_none : (b : Bool) (p : Option ℕ) (n : ℕ) (o : Option ℕ) → IsBelow n p
 or_none true p n o h e = let same : None ≡ o = cc in subst (IsBelow n) same tt
 or_none false None n o h e = absurd (cc)
 or_none false (Some k) n o h e = let same : Some k ≡ o = cc in subst (IsBelow n) same h
-
-lt_test : (a b : ℕ) → nat_lt a b ≡ true → a < b
-lt_test a b h = grind (arith, nat_tests)
 
 le_test : (a b : ℕ) → nat_le a b ≡ true → a ≤ b
 le_test a b h = grind (arith, nat_tests)

@@ -1,11 +1,12 @@
 -- The rows of stop times. Those that name a stop and a time are kept.
-use Rattle.std.specs.Prelude.{ℕ, ◌+◌, ◌==◌, nat_lt, Bool, not, ◌&&◌, ◌||◌, List, length, slice_index, slice_index_or, Option, Some, None, Result, Ok, option_map, is_some, if◌then◌else◌}
+use Rattle.std.specs.Prelude.{ℕ, ◌+◌, ◌==◌, nat_lt, Bool, ◌&&◌, ◌||◌, List, length, slice_index, slice_index_or, Option, Some, None, Result, Ok, option_map, is_some, if◌then◌else◌}
 use Rattle.clock_text.specs.Digits.{whole_of}
 use Rattle.csv_rows.specs.declared.columns.Column.TheVariants.{TripId, StopId, StopSequence, ArrivalTime, DepartureTime, PickupType, DropOffType}
 use Rattle.csv_rows.specs.declared.feed_tables.Table.TheVariants.{StopTimes}
 use Rattle.csv_rows.specs.declared.feed_tables.FeedFault.{FeedFault}
 use Rattle.csv_rows.specs.declared.feed_tables.FeedFault.TheVariants.{BadField, UnknownKey, DuplicateKey, BackwardTime}
 use Rattle.csv_rows.specs.First.{or_else, first_below, any_below, read}
+use Rattle.csv_rows.specs.Keys.{has_twin, just_precedes}
 use Rattle.csv_rows.specs.Names.{name_in}
 use Rattle.csv_rows.specs.Tables.{row_count, place_in, place_of, field_at}
 use Rattle.gtfs_tables.specs.declared.stop_times.StopRow.{StopRow}
@@ -83,15 +84,15 @@ timed_rows trips stops places t = list_below (λ i. value_or no_row (timed_at tr
 abbrev pub row_at : List TimedRow → ℕ → TimedRow
 row_at rows i = slice_index_or rows i no_row
 
-abbrev pub same_trip : List TimedRow → ℕ → ℕ → Bool
-same_trip rows j i = (row_at rows j).trip == (row_at rows i).trip
+abbrev pub trip_of : List TimedRow → ℕ → ℕ
+trip_of rows i = (row_at rows i).trip
+
+abbrev pub sequence_of : List TimedRow → ℕ → ℕ
+sequence_of rows i = (row_at rows i).sequence
 
 -- an earlier row has the trip and the sequence of row i
-abbrev pub has_twin : List TimedRow → ℕ → Bool
-has_twin rows i = any_below (λ j. same_trip rows j i && ((row_at rows j).sequence == (row_at rows i).sequence)) i
-
 unfoldable pub repeated_time : List TimedRow → ℕ → Option FeedFault
-repeated_time rows i = if has_twin rows i then Some (DuplicateKey StopTimes (i + 2)) else None
+repeated_time rows i = if has_twin (trip_of rows) (sequence_of rows) i then Some (DuplicateKey StopTimes (i + 2)) else None
 
 -- whether row i is kept, and its times
 abbrev pub is_kept : List TimedRow → ℕ → Bool
@@ -107,19 +108,15 @@ arrival_of rows i = (times_in (row_at rows i).visit).0
 abbrev pub departure_of : List TimedRow → ℕ → ℕ
 departure_of rows i = (times_in (row_at rows i).visit).1
 
--- row j stands before row i in its trip, and both are kept
-abbrev pub precedes : List TimedRow → ℕ → ℕ → Bool
-precedes rows j i = (is_kept rows j && is_kept rows i) && (same_trip rows j i && nat_lt (row_at rows j).sequence (row_at rows i).sequence)
-
--- and no kept row of the trip stands between
-abbrev pub just_precedes : List TimedRow → ℕ → ℕ → Bool
-just_precedes rows j i = precedes rows j i && not (any_below (λ k. precedes rows j k && precedes rows k i) (length rows))
+-- row j is the kept row just before the kept row i in its trip
+abbrev pub just_before : List TimedRow → ℕ → ℕ → Bool
+just_before rows j i = just_precedes (is_kept rows) (trip_of rows) (sequence_of rows) (length rows) j i
 
 -- a kept row departs before it arrives, or arrives before the kept row before it in its trip departs
 abbrev pub goes_back : List TimedRow → ℕ → Bool
 goes_back rows i =
     is_kept rows i && (nat_lt (departure_of rows i) (arrival_of rows i)
-    || any_below (λ j. just_precedes rows j i && nat_lt (arrival_of rows i) (departure_of rows j)) (length rows))
+    || any_below (λ j. just_before rows j i && nat_lt (arrival_of rows i) (departure_of rows j)) (length rows))
 
 unfoldable pub backward_time : List TimedRow → ℕ → Option FeedFault
 backward_time rows i = if goes_back rows i then Some (BackwardTime (i + 2)) else None

@@ -2,9 +2,9 @@
 use Rattle.std.specs.Prelude.{◌≡◌, ℕ, ◌<◌, ◌≤◌, false, true, List, length, slice_index_or, Option, Some, None}
 use Rattle.gtfs_tables.specs.declared.stop_times.StopRow.{StopRow}
 use Rattle.gtfs_tables.specs.declared.stop_times.TimedRow.{TimedRow}
-use Rattle.gtfs_tables.specs.declared.keys.Key.{Key}
+use Rattle.csv_rows.specs.declared.keys.Key.{Key}
 use Rattle.gtfs_tables.specs.StopTimes.{row_at, is_kept}
-use Rattle.gtfs_tables.specs.Keys.{key_at}
+use Rattle.csv_rows.specs.Keys.{key_at}
 
 abbrev pub no_visit : StopRow
 no_visit = record { stop = 0; place = record { 0 = 0 }; arrival = 0; departure = 0; can_board = false; can_exit = false }
@@ -34,6 +34,6 @@ visit_at rows keys k = visit_or_none (row_at rows (key_at keys k).row).visit
 pub record IsSpanOf (keys : List Key) (trip low high : ℕ) : Type 0 where
   pub order : low ≤ high
   pub inside : high ≤ length keys
-  pub before : (k : ℕ) → k < low → (key_at keys k).trip < trip
-  pub here : (k : ℕ) → low ≤ k → k < high → (key_at keys k).trip ≡ trip
-  pub after : (k : ℕ) → high ≤ k → k < length keys → trip < (key_at keys k).trip
+  pub before : (k : ℕ) → k < low → (key_at keys k).group < trip
+  pub here : (k : ℕ) → low ≤ k → k < high → (key_at keys k).group ≡ trip
+  pub after : (k : ℕ) → high ≤ k → k < length keys → trip < (key_at keys k).group

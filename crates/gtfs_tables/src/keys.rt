@@ -1,19 +1,13 @@
-//! The rows of stop times by trip and sequence, and what shows there.
-ghost use Rattle.std.specs.Prelude.{◌≡◌, ◌<◌, ◌≤◌, ◌^◌, ℕ, length, true, IfOk, IfSome};
-ghost use Rattle.gtfs_tables.specs.Keys.{AreSorted, is_taken, before_at, repeats_key, goes_back_after, sooner, first_repeat, first_backward};
-ghost use Rattle.gtfs_tables.specs.StopTimes.{times_in, row_at};
+//! The rows of stop times by trip and sequence, and the first of them whose times go back.
+ghost use Rattle.std.specs.Prelude.{◌≡◌, ◌<◌, ◌≤◌, ◌^◌, length, true, None, IfOk, IfSome};
+ghost use Rattle.csv_rows.specs.First.{first_below};
+ghost use Rattle.gtfs_tables.specs.Keys.{AreKeysOf, is_taken, goes_back_after, backward_after};
+ghost use Rattle.gtfs_tables.specs.StopTimes.{times_in, row_at, repeated_time, backward_time};
 
 use crate::stop_times::TimedRow;
+use csv_rows::{FeedFault, Key, before_at, in_order, sooner};
 use plan_model::NoMemory;
 use std::alloc::Global;
-
-/// A row by its trip, its sequence and its place in the file.
-#[derive(Clone, Copy, PartialEq, Eq, PartialOrd, Ord)]
-pub(crate) struct Key {
-    pub(crate) trip: u32,
-    pub(crate) sequence: u32,
-    pub(crate) row: u32,
-}
 
 /// Whether a row is taken: each is, or the kept ones alone are.
 fn is_taken(rows: &[TimedRow], row: usize, kept_alone: bool) -> bool
@@ -30,46 +24,19 @@ pub(crate) fn sorted_keys(
     kept_alone: bool,
 ) -> Result<Vec<Key>, NoMemory>
     requires { length rows.now < 2 ^ 32 }
-    ensures { IfOk result (λ keys. AreSorted (is_taken kept_alone rows.now) rows.now keys.items) }
+    ensures { IfOk result (λ keys. AreKeysOf kept_alone rows.now keys.items) }
 {
     let mut keys: Vec<Key> = Vec::new(alloc);
     for i in 0..rows.len() {
         if is_taken(rows, i, kept_alone) {
             keys.push(Key {
-                trip: rows[i].trip,
-                sequence: rows[i].sequence,
+                group: rows[i].trip,
+                order: rows[i].sequence,
                 row: i as u32,
             })?;
         }
     }
-    keys.sort_unstable();
-    Ok(keys)
-}
-
-/// The key before this one, if it is of the same trip.
-fn before_at(keys: &[Key], k: usize) -> Option<Key>
-    requires { k < length keys.now }
-    ensures { result ≡ before_at keys.now k }
-{
-    if k == 0 {
-        return None;
-    }
-    let before = keys[k - 1];
-    if before.trip == keys[k].trip {
-        Some(before)
-    } else {
-        None
-    }
-}
-
-/// Whether the key before has the sequence too.
-fn repeats_key(before: Option<Key>, here: Key) -> bool
-    ensures { result ≡ repeats_key before here }
-{
-    match before {
-        None => false,
-        Some(before) => before.sequence == here.sequence,
-    }
+    Ok(in_order(keys))
 }
 
 /// When a kept row arrives and departs.
@@ -102,40 +69,32 @@ fn goes_back(rows: &[TimedRow], before: Option<Key>, row: u32) -> bool
     }
 }
 
-/// The sooner of two rows, of which the second counts where the test holds.
-fn sooner(first: Option<u32>, row: u32, holds: bool) -> Option<u32>
-    ensures { result ≡ sooner first row holds }
+/// The fault of a kept row after the row before it in its trip.
+fn backward(rows: &[TimedRow], before: Option<Key>, row: u32) -> Option<FeedFault>
+    requires row { row < length rows.now }
+    requires before { IfSome before (λ b. b.row < length rows.now) }
+    ensures { result ≡ backward_after rows.now before row }
 {
-    if !holds {
-        return first;
+    if goes_back(rows, before, row) {
+        Some(FeedFault::BackwardTime(u64::from(row) + 2))
+    } else {
+        None
+    }
+}
+
+/// The fault of the first kept row whose times go back, where no row is repeated.
+pub(crate) fn first_backward(rows: &[TimedRow], keys: &[Key]) -> Option<FeedFault>
+    requires { AreKeysOf true rows.now keys.now }
+    ensures { first_below (repeated_time rows.now) (length rows.now) ≡ None
+        → first_below (backward_time rows.now) (length rows.now) ≡ result }
+{
+    let mut first: Option<(u32, FeedFault)> = None;
+    for k in 0..keys.len() {
+        let row = keys[k].row;
+        first = sooner(first, row, backward(rows, before_at(keys, k), row));
     }
     match first {
-        None => Some(row),
-        Some(found) => Some(found.min(row)),
+        None => None,
+        Some((_, fault)) => Some(fault),
     }
-}
-
-/// The first row that has the trip and the sequence of an earlier one.
-pub(crate) fn first_repeat(keys: &[Key]) -> Option<u32>
-    ensures { result ≡ first_repeat keys.now (length keys.now) }
-{
-    let mut first: Option<u32> = None;
-    for k in 0..keys.len() {
-        let repeats = repeats_key(before_at(keys, k), keys[k]);
-        first = sooner(first, keys[k].row, repeats);
-    }
-    first
-}
-
-/// The first kept row whose times go back.
-pub(crate) fn first_backward(rows: &[TimedRow], keys: &[Key]) -> Option<u32>
-    requires { AreSorted (is_taken true rows.now) rows.now keys.now }
-    ensures { result ≡ first_backward rows.now keys.now (length keys.now) }
-{
-    let mut first: Option<u32> = None;
-    for k in 0..keys.len() {
-        let back = goes_back(rows, before_at(keys, k), keys[k].row);
-        first = sooner(first, keys[k].row, back);
-    }
-    first
 }

@@ -8,11 +8,11 @@ ghost use Rattle.gtfs_tables.specs.Feeds.{IsSound, AreVisits};
 ghost use Rattle.gtfs_tables.specs.StopTimes.{timed_rows, repeated_time, order_fault, stop_times_fault};
 ghost use Rattle.gtfs_tables.specs.Visits.{AreStopTimes};
 
-use crate::keys::{first_backward, first_repeat, sorted_keys};
+use crate::keys::{first_backward, sorted_keys};
 use crate::stop_times::{StopRow, TimedRow, missing_column, read_timed_rows, time_columns};
 use crate::stops::Stops;
 use crate::visits::visits_of;
-use csv_rows::{FeedFault, Ids, Rows, Table};
+use csv_rows::{FeedFault, Ids, Rows, Table, first_repeat};
 use std::alloc::Global;
 
 /// The first row that has the trip and the sequence of an earlier one.
@@ -53,8 +53,8 @@ fn in_order(alloc: Global, rows: &[TimedRow], trips: u32) -> Result<Vec<Vec<Stop
         Ok(keys) => keys,
         Err(_) => return Err(FeedFault::NoMemory),
     };
-    if let Some(row) = first_backward(rows, keys.as_slice()) {
-        return Err(FeedFault::BackwardTime(u64::from(row) + 2));
+    if let Some(fault) = first_backward(rows, keys.as_slice()) {
+        return Err(fault);
     }
     match visits_of(alloc, rows, keys.as_slice(), trips) {
         Ok(visits) => Ok(visits),

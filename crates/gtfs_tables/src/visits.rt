@@ -1,13 +1,14 @@
 //! The kept rows of the trips.
 ghost use Rattle.std.specs.Prelude.{◌≡◌, ◌<◌, ◌≤◌, ◌+◌, ◌-◌, ℕ, length, true, None, IfOk, slice_index_or, map, vec_items, []};
 ghost use Rattle.csv_rows.specs.First.{first_below};
-ghost use Rattle.gtfs_tables.specs.Keys.{AreSorted, is_taken, key_at};
+ghost use Rattle.csv_rows.specs.Keys.{key_at};
 ghost use Rattle.csv_rows.specs.Lists.{list_below};
+ghost use Rattle.gtfs_tables.specs.Keys.{AreKeysOf};
 ghost use Rattle.gtfs_tables.specs.StopTimes.{row_at, is_kept, repeated_time};
 ghost use Rattle.gtfs_tables.specs.Visits.{visit_or_none, visit_at, AreStopTimes, IsSpanOf};
 
-use crate::keys::Key;
 use crate::stop_times::{StopRow, TimedRow};
+use csv_rows::Key;
 use plan_model::NoMemory;
 use std::alloc::Global;
 
@@ -16,11 +17,11 @@ fn end_of(keys: &[Key], start: usize, trip: u32) -> usize
     requires start { start ≤ length keys.now }
     ensures order { start ≤ result }
     ensures inside { result ≤ length keys.now }
-    ensures here { (k : ℕ) → start ≤ k → k < result → (key_at keys.now k).trip ≡ trip }
-    ensures after { result < length keys.now → (key_at keys.now result).trip ≡ trip → ⊥ }
+    ensures here { (k : ℕ) → start ≤ k → k < result → (key_at keys.now k).group ≡ trip }
+    ensures after { result < length keys.now → (key_at keys.now result).group ≡ trip → ⊥ }
 {
     let mut end = start;
-    while end < keys.len() && keys[end].trip == trip {
+    while end < keys.len() && keys[end].group == trip {
         end += 1;
     }
     end
@@ -46,7 +47,7 @@ fn visits_between(
     start: usize,
     end: usize,
 ) -> Result<Vec<StopRow>, NoMemory>
-    requires sorted { AreSorted (is_taken true rows.now) rows.now keys.now }
+    requires sorted { AreKeysOf true rows.now keys.now }
     requires order { start ≤ end }
     requires inside { end ≤ length keys.now }
     ensures { IfOk result (λ visits. visits.items
@@ -66,7 +67,7 @@ pub(crate) fn visits_of(
     keys: &[Key],
     trips: u32,
 ) -> Result<Vec<Vec<StopRow>>, NoMemory>
-    requires sorted { AreSorted (is_taken true rows.now) rows.now keys.now }
+    requires sorted { AreKeysOf true rows.now keys.now }
     requires once { first_below (repeated_time rows.now) (length rows.now) ≡ None }
     ensures size { IfOk result (λ visits. length visits.items ≡ trips) }
     ensures each { IfOk result (λ visits. (trip : ℕ) → trip < trips

@@ -1,25 +1,40 @@
-use Rattle.std.proofs.Common.{◌∙◌, sym, ap, arith, ℕ, subst, ◌<◌, IfSome, length, Option}
-use Rattle.cut_file.specs.declared.order.Key.{Key}
-use Rattle.cut_file.specs.Keys.{key_at, beside, before_at, sooner, soonest}
-use Rattle.cut_file.proofs.Soonest.{soonest-zero, soonest-next}
-use Rattle.cut_file.proofs.Before.{before_inside}
+use Rattle.std.proofs.Common.{ℕ, true, length, sym, ap, ◌∙◌, arith, option_map}
+use Rattle.csv_rows.specs.First.{first_below}
+use Rattle.csv_rows.proofs.KeyLemmas.{before_inside}
+use Rattle.csv_rows.proofs.SoonestLemmas.{soonest-next, soonest-first}
+use Rattle.cut_file.specs.declared.faults.CutFault.{CutFault}
+use Rattle.cut_file.specs.Faults.{run_fault}
+use Rattle.cut_file.specs.Keys.{run_of, step_of}
+use Rattle.cut_file.proofs.Misfits.{misfit_is}
 use Rattle.cut_file.proofs.order.first_misfit.Goals as goal
 
-pub loop-k-init : goal.loop-k-init
-loop-k-init c = sym (soonest-zero (λ k. (key_at c.args.keys.now k).row) (λ (k : ℕ). beside c.args.rows.now (before_at c.args.keys.now k) (key_at c.args.keys.now k).row))
-
 pub loop-k-preserved : goal.loop-k-preserved
-loop-k-preserved c =
-    let row : ℕ → ℕ = λ k. (key_at c.args.keys.now k).row in
-    c.sooner-first.ensures
-    ∙ ap (λ f. sooner f (row c.loop-k.k) c.beside-fault.result) c.loop-k.invariant
-    ∙ ap (λ o. sooner (soonest row (λ (k : ℕ). beside c.args.rows.now (before_at c.args.keys.now k) (key_at c.args.keys.now k).row) c.loop-k.k) (row c.loop-k.k) o) (c.beside-fault.ensures ∙ ap (λ b. beside c.args.rows.now b (row c.loop-k.k)) c.before_at.ensures)
-    ∙ sym (soonest-next row (λ (k : ℕ). beside c.args.rows.now (before_at c.args.keys.now k) (key_at c.args.keys.now k).row) c.loop-k.k)
+loop-k-preserved c = λ t runs places read none.
+    let k = c.loop-k.k in
+    let rows = c.args.rows.now in
+    let keys = c.args.keys.now in
+    soonest-next (run_fault t) (length rows) keys k c.loop-k.first c.sooner-first.result c.beside.result (c.requires.sorted.inside k (omega arith))
+    (misfit_is t runs places rows keys read none k (omega arith) c.before_at.result c.before_at.ensures ∙ sym c.beside.ensures) c.sooner-first.ensures
+    (c.loop-k.invariant t runs places read none)
 
-pub beside-fault-requires-clause-here : goal.beside-fault-requires-clause-here
-beside-fault-requires-clause-here c = c.requires.sorted.inside c.loop-k.k (omega arith)
+pub beside-requires-clause-here : goal.beside-requires-clause-here
+beside-requires-clause-here c = c.requires.sorted.inside c.loop-k.k (omega arith)
 
-pub beside-fault-requires-clause-before : goal.beside-fault-requires-clause-before
-beside-fault-requires-clause-before c =
-    let P : Option Key → Type 0 = λ o. IfSome o (λ b. b.row < length c.args.rows.now) in
-    subst P (sym c.before_at.ensures) (before_inside c.args.rows.now c.args.keys.now c.requires.sorted c.loop-k.k (omega arith))
+pub beside-requires-clause-before : goal.beside-requires-clause-before
+beside-requires-clause-before c =
+    let rows = c.args.rows.now in
+    before_inside (λ i. true) (run_of rows) (step_of rows) (length rows) c.args.keys.now c.requires.sorted c.loop-k.k (omega arith) c.before_at.result c.before_at.ensures
+
+pub returns-in-None : goal.returns-in-None
+returns-in-None c = λ t runs places read none.
+    let rows = c.args.rows.now in
+    ap (first_below (run_fault t)) (sym read.size)
+    ∙ soonest-first (run_fault t) (length rows) c.args.keys.now (λ i. true) (run_of rows) (step_of rows) c.requires.sorted (λ i never. absurd (cc)) c.loop-k.k (omega arith)
+    c.loop-k.first (c.loop-k.invariant t runs places read none) ∙ ap (option_map (λ (x : ℕ × CutFault). x.1)) c.in-None.is
+
+pub returns-in-Some : goal.returns-in-Some
+returns-in-Some c = λ t runs places read none.
+    let rows = c.args.rows.now in
+    ap (first_below (run_fault t)) (sym read.size)
+    ∙ soonest-first (run_fault t) (length rows) c.args.keys.now (λ i. true) (run_of rows) (step_of rows) c.requires.sorted (λ i never. absurd (cc)) c.loop-k.k (omega arith)
+    c.loop-k.first (c.loop-k.invariant t runs places read none) ∙ ap (option_map (λ (x : ℕ × CutFault). x.1)) c.in-Some.is

@@ -1,18 +1,29 @@
-use Rattle.std.proofs.Common.{length, arith, refl}
+use Rattle.std.proofs.Common.{◌≡◌, ℕ, length, true, subst, refl, arith}
 use Rattle.std.proofs.lemmas.Grind.{common_steps}
-use Rattle.cut_file.proofs.SortFacts.{AreKeys, key_of, sorted_are, keys_next}
+use Rattle.std.proofs.lemmas.List.Sorted.{length_permutation}
+use Rattle.csv_rows.proofs.SortLemmas.{AreKeys, key_of, sorted_are, keys-none, keys-taken}
+use Rattle.cut_file.specs.Keys.{run_of, step_of}
 use Rattle.cut_file.proofs.order.sorted_keys.Goals as goal
+
+pub loop-i-init : goal.loop-i-init
+loop-i-init c = record {
+  size = grind (arith, common_steps);
+  keys = keys-none (λ i. true) (run_of c.args.rows.now) (step_of c.args.rows.now) c.new-keys.result.items c.new-keys.ensures.items;
+}
 
 pub loop-i-preserved : goal.loop-i-preserved
 unfolding key_of
 loop-i-preserved c = record {
   size = grind (arith, common_steps);
-  each = keys_next c.args.rows.now c.loop-i.i c.loop-i.keys.items c.push.new.self.items _ c.loop-i.invariant.size c.loop-i.invariant.each c.in_ok-push.ensures.items refl;
+  keys = keys-taken (λ i. true) (run_of c.args.rows.now) (step_of c.args.rows.now) c.loop-i.i c.loop-i.keys.items c.push.new.self.items _ c.loop-i.invariant.keys refl c.in_ok-push.ensures.items refl;
 }
 
-pub returns : goal.returns
-returns c =
-    let s = c.sort_unstable.ensures in
-    let xs = c.loop-i.keys.items in
-    let each : AreKeys c.args.rows.now (length xs) xs = λ k d h. c.loop-i.invariant.each k d (omega (arith, c.loop-i.invariant.size)) in
-    sorted_are c.args.rows.now xs c.sort_unstable.new.self.items (omega (arith, c.loop-i.invariant.size)) (omega (arith, s.len, c.loop-i.keys.ok.0, c.sort_unstable.new.self.ok.0)) each s.permutation s.sorted
+pub returns-clause-size : goal.returns-clause-size
+returns-clause-size c = omega (arith, length_permutation c.loop-i.keys.items c.in_order.result.items c.in_order.ensures.same, c.loop-i.invariant.size)
+
+pub returns-clause-sorted : goal.returns-clause-sorted
+returns-clause-sorted c =
+    let rows = c.args.rows.now in
+    let P : ℕ → Type 0 = λ m. AreKeys (λ i. true) (run_of rows) (step_of rows) m c.loop-i.keys.items in
+    let end : c.loop-i.i ≡ length rows = omega arith in
+    sorted_are (λ i. true) (run_of rows) (step_of rows) (length rows) c.loop-i.keys.items c.in_order.result.items (subst P end c.loop-i.invariant.keys) c.in_order.ensures.same c.in_order.ensures.rising

@@ -1,26 +1,35 @@
-use Rattle.std.proofs.Common.{◌<◌, sym, ap, ◌∙◌, true, length, subst, arith, Option, IfSome}
-use Rattle.gtfs_tables.specs.declared.keys.Key.{Key}
-use Rattle.gtfs_tables.specs.Keys.{is_taken, row_of, before_at, goes_back_after}
-use Rattle.gtfs_tables.proofs.SoonestLemmas.{soonest-zero, soonest-more}
-use Rattle.gtfs_tables.proofs.BeforeLemmas.{before_inside}
+use Rattle.std.proofs.Common.{ℕ, true, sym, ap, ◌∙◌, length, arith, option_map}
+use Rattle.csv_rows.specs.declared.feed_tables.FeedFault.{FeedFault}
+use Rattle.csv_rows.proofs.KeyLemmas.{before_inside}
+use Rattle.csv_rows.proofs.SoonestLemmas.{soonest-next, soonest-first}
+use Rattle.gtfs_tables.specs.StopTimes.{trip_of, sequence_of, backward_time}
+use Rattle.gtfs_tables.specs.Keys.{is_taken}
+use Rattle.gtfs_tables.proofs.BackLemmas.{back_is, quiet}
 use Rattle.gtfs_tables.proofs.keys.first_backward.Goals as goal
 
-pub loop-k-init : goal.loop-k-init
-loop-k-init c =
-    let keys = c.args.keys.now in
-    sym (soonest-zero (row_of keys) (λ k. goes_back_after c.args.rows.now (before_at keys k) (row_of keys k)))
-
 pub loop-k-preserved : goal.loop-k-preserved
-loop-k-preserved c =
-    let keys = c.args.keys.now in
+loop-k-preserved c = λ none.
+    let k = c.loop-k.k in
     let rows = c.args.rows.now in
-    soonest-more (row_of keys) (λ k. goes_back_after rows (before_at keys k) (row_of keys k)) c.loop-k.k c.loop-k.first c.sooner-first.result c.goes_back-back.result
-    c.loop-k.invariant c.sooner-first.ensures (c.goes_back-back.ensures ∙ ap (λ b. goes_back_after rows b (row_of keys c.loop-k.k)) c.before_at.ensures)
+    soonest-next (backward_time rows) (length rows) c.args.keys.now k c.loop-k.first c.sooner-first.result c.backward.result (c.requires.inside k (omega arith))
+    (back_is rows c.args.keys.now c.requires none k (omega arith) c.before_at.result c.before_at.ensures ∙ sym c.backward.ensures) c.sooner-first.ensures (c.loop-k.invariant none)
 
-pub goes_back-back-requires-clause-row : goal.goes_back-back-requires-clause-row
-goes_back-back-requires-clause-row c = c.requires.inside c.loop-k.k (omega arith)
+pub backward-requires-clause-row : goal.backward-requires-clause-row
+backward-requires-clause-row c = c.requires.inside c.loop-k.k (omega arith)
 
-pub goes_back-back-requires-clause-before : goal.goes_back-back-requires-clause-before
-goes_back-back-requires-clause-before c =
-    let P : Option Key → Type 0 = λ o. IfSome o (λ b. b.row < length c.args.rows.now) in
-    subst P (sym c.before_at.ensures) (before_inside (is_taken true c.args.rows.now) c.args.rows.now c.args.keys.now c.requires c.loop-k.k (omega arith))
+pub backward-requires-clause-before : goal.backward-requires-clause-before
+backward-requires-clause-before c =
+    let rows = c.args.rows.now in
+    before_inside (is_taken true rows) (trip_of rows) (sequence_of rows) (length rows) c.args.keys.now c.requires c.loop-k.k (omega arith) c.before_at.result c.before_at.ensures
+
+pub returns-in-None : goal.returns-in-None
+returns-in-None c = λ none.
+    let rows = c.args.rows.now in
+    soonest-first (backward_time rows) (length rows) c.args.keys.now (is_taken true rows) (trip_of rows) (sequence_of rows) c.requires (quiet rows) c.loop-k.k (omega arith)
+    c.loop-k.first (c.loop-k.invariant none) ∙ ap (option_map (λ (x : ℕ × FeedFault). x.1)) c.in-None.is
+
+pub returns-in-Some : goal.returns-in-Some
+returns-in-Some c = λ none.
+    let rows = c.args.rows.now in
+    soonest-first (backward_time rows) (length rows) c.args.keys.now (is_taken true rows) (trip_of rows) (sequence_of rows) c.requires (quiet rows) c.loop-k.k (omega arith)
+    c.loop-k.first (c.loop-k.invariant none) ∙ ap (option_map (λ (x : ℕ × FeedFault). x.1)) c.in-Some.is

@@ -1,7 +1,6 @@
 use Rattle.std.proofs.lemmas.Bool.{cases_lt}
-use Rattle.std.proofs.Common.{◌<◌, ◌≤◌, ◌∷◌, [], true, ⊎_elim, ap, arith, length, length-append}
+use Rattle.std.proofs.Common.{◌<◌, ◌≤◌, ◌∷◌, [], ⊎_elim, ap, arith, length, length-append}
 use Rattle.std.specs.Prelude.{vec_items}
-use Rattle.gtfs_tables.specs.Keys.{is_taken}
 use Rattle.gtfs_tables.specs.Visits.{AreStopTimes}
 use Rattle.gtfs_tables.proofs.VisitLemmas.{visits_are, span_is, each_next}
 use Rattle.gtfs_tables.proofs.visits.visits_of.Goals as goal
@@ -14,7 +13,7 @@ loop-trip-preserved c =
     let inv = c.loop-trip.invariant in
     let s = c.requires.sorted in
     let found = c.end_of-end.ensures in
-    let span = span_is (is_taken true rows) rows keys s trip c.loop-trip.start c.end_of-end.result found.order found.inside inv.before inv.after found.here found.after in
+    let span = span_is rows keys s trip c.loop-trip.start c.end_of-end.result found.order found.inside inv.before inv.after found.here found.after in
     let visits = visits_are rows keys s c.requires.once trip c.loop-trip.start c.end_of-end.result c.in_ok-visits.visits.items span c.in_ok-visits.ensures in
     record {
       inside = found.inside;

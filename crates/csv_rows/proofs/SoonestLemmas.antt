@@ -1,0 +1,60 @@
+-- The soonest of the faults of rows, key by key, and that it is the first.
+use Rattle.std.proofs.Common.{◌≡◌, ℕ, ◌+◌, ◌<◌, ◌≤◌, nat_lt, Bool, true, false, ◌⊎◌, inl, inr, List, length, Option, Some, None, option_map, if◌then◌else◌, refl, sym, subst, arith, ⊎_elim, eq-or-lt_of_le}
+use Rattle.csv_rows.specs.First.{first_below}
+use Rattle.csv_rows.specs.declared.keys.Key.{Key}
+use Rattle.csv_rows.specs.Keys.{key_at, AreSorted, sooner}
+use Rattle.csv_rows.proofs.FirstLemmas.{first-none, first-at, true_or_false}
+use Rattle.csv_rows.proofs.TestLemmas.{lt_test, le_test}
+
+-- of the rows of the first m keys this one is the first that has a fault, or none has
+abbrev pub IsSoonest : {F : Type 0} → (ℕ → Option F) → ℕ → List Key → ℕ → Option (ℕ × F) → Type 0
+IsSoonest f n keys m None = (k : ℕ) → k < m → f (key_at keys k).row ≡ None
+IsSoonest f n keys m (Some x) = (f x.0 ≡ Some x.1) × (x.0 < n) × ((k : ℕ) → k < m → (f (key_at keys k).row ≡ None) ⊎ (x.0 ≤ (key_at keys k).row))
+
+module _ {F : Type 0} (f : ℕ → Option F) (n : ℕ) (keys : List Key) where
+  row : ℕ → ℕ
+  row k = (key_at keys k).row
+
+  more : (m : ℕ) (P : ℕ → Type 0) → ((k : ℕ) → k < m → P k) → P m → (k : ℕ) → k < m + 1 → P k
+  more m P h here k l = ⊎_elim (λ (e : k ≡ m). subst P (sym e) here) (λ (less : k < m). h k less) (eq-or-lt_of_le (omega arith))
+
+  nearer : (m : ℕ) (x : ℕ × F) (e : F) (b : Bool) → nat_lt x.0 (row m) ≡ b → row m < n → f (row m) ≡ Some e → IsSoonest f n keys m (Some x)
+      → IsSoonest f n keys (m + 1) (if b then Some x else Some (row m, e))
+  unfolding row
+  nearer m x e true less inside here h =
+      (h.0, h.1, more m (λ k. (f (row k) ≡ None) ⊎ (x.0 ≤ row k)) h.2 (inr (omega (arith, lt_test x.0 (row m) less))))
+  nearer m x e false less inside here h = (
+    here,
+    inside,
+    more m (λ k. (f (row k) ≡ None) ⊎ (row m ≤ row k))
+        (λ k l. ⊎_elim (λ none. inl none) (λ (r : x.0 ≤ row k). inr (omega (arith, le_test x.0 (row m) less, r))) (h.2 k l)) (inr (omega arith)),
+  )
+
+  step : (m : ℕ) (first : Option (ℕ × F)) (o : Option F) → row m < n → f (row m) ≡ o → IsSoonest f n keys m first → IsSoonest f n keys (m + 1) (sooner first (row m) o)
+  unfolding row
+  step m None None inside here h = more m (λ k. f (row k) ≡ None) h here
+  step m (Some x) None inside here h = (h.0, h.1, more m (λ k. (f (row k) ≡ None) ⊎ (x.0 ≤ row k)) h.2 (inl here))
+  step m None (Some e) inside here h = (here, inside, more m (λ k. (f (row k) ≡ None) ⊎ (row m ≤ row k)) (λ k l. inl (h k l)) (inr (omega arith)))
+  step m (Some x) (Some e) inside here h = nearer m x e (nat_lt x.0 (row m)) refl inside here h
+
+  -- one more key
+  pub soonest-next : (m : ℕ) (old new : Option (ℕ × F)) (o : Option F) → (key_at keys m).row < n → f (key_at keys m).row ≡ o → new ≡ sooner old (key_at keys m).row o
+      → IsSoonest f n keys m old → IsSoonest f n keys (m + 1) new
+  unfolding row
+  soonest-next m old new o inside here e h = subst (IsSoonest f n keys (m + 1)) (sym e) (step m old o inside here h)
+
+  -- where each row that has a fault has a key, the soonest is the first
+  pub soonest-first : (test : ℕ → Bool) (group order : ℕ → ℕ) → AreSorted test group order n keys → ((i : ℕ) → test i ≡ false → f i ≡ None)
+      → (m : ℕ) → length keys ≤ m → (first : Option (ℕ × F)) → IsSoonest f n keys m first → first_below f n ≡ option_map (λ x. x.1) first
+  soonest-first test group order s quiet m long None h = first-none f n (λ i l.
+      ⊎_elim (λ (t : test i ≡ true). let w = s.all i l t in let P : ℕ → Type 0 = λ j. f j ≡ None in subst P w.2 (h w.0 (omega (arith, w.1))))
+      (λ (p : test i ≡ false). quiet i p) (true_or_false (test i)))
+  soonest-first test group order s quiet m long (Some x) h =
+      first-at f x.0 n x.1 h.1
+      (first-none f x.0 (λ i l.
+      ⊎_elim (λ (t : test i ≡ true).
+      let w = s.all i (omega (arith, h.1)) t in
+      ⊎_elim (λ (none : f (key_at keys w.0).row ≡ None). let P : ℕ → Type 0 = λ j. f j ≡ None in subst P w.2 none)
+      (λ (late : x.0 ≤ (key_at keys w.0).row). absurd (omega (arith, late, w.2))) (h.2 w.0 (omega (arith, w.1))))
+      (λ (p : test i ≡ false). quiet i p) (true_or_false (test i))))
+      h.0

@@ -1,0 +1,7 @@
+use Rattle.std.proofs.Common.{ℕ, true}
+use Rattle.csv_rows.specs.Keys.{AreSorted, twin_at}
+use Rattle.csv_rows.proofs.SoonestLemmas.{IsSoonest}
+use Rattle.csv_rows.proofs.keys.first_repeat.Given as goal
+
+abbrev pub invariant-loop-k : goal.invariant-loop-k
+invariant-loop-k l = (group order : ℕ → ℕ) (count : ℕ) → AreSorted (λ i. true) group order count l.keys → IsSoonest (twin_at group order) count l.keys l.k l.first

@@ -1,0 +1,92 @@
+//! The rows of a table by group, order and place in the file, and what shows there.
+ghost use Rattle.std.specs.Prelude.{◌≡◌, ◌<◌, ℕ, true, length, Some, None};
+ghost use Rattle.std.specs.List.Sorted.{IsPermutation};
+ghost use Rattle.csv_rows.specs.First.{first_below};
+ghost use Rattle.csv_rows.specs.Keys.{IsRising, AreSorted, IsBefore, twin_at, repeated, sooner};
+
+/// A row of a table by its group, its order in the group and its place in the file.
+#[derive(Clone, Copy, Debug, PartialEq, Eq, PartialOrd, Ord)]
+pub struct Key {
+    /// The number of its group.
+    pub group: u32,
+    /// Its order in the group.
+    pub order: u32,
+    /// Its place in the file.
+    pub row: u32,
+}
+
+/// The keys by group, then by order, then by place in the file.
+pub fn in_order(mut keys: Vec<Key>) -> Vec<Key>
+    ensures same { IsPermutation keys.items result.items }
+    ensures rising { IsRising result.items }
+{
+    keys.sort_unstable();
+    keys
+}
+
+/// The key before this one, if it is of the same group.
+pub fn before_at(keys: &[Key], k: usize) -> Option<Key>
+    requires { k < length keys.now }
+    ensures { IsBefore keys.now k result }
+{
+    if k == 0 {
+        return None;
+    }
+    let before = keys[k - 1];
+    if before.group == keys[k].group {
+        Some(before)
+    } else {
+        None
+    }
+}
+
+/// The sooner of two faults, by their rows.
+pub fn sooner<F: Copy>(first: Option<(u32, F)>, row: u32, fault: Option<F>) -> Option<(u32, F)>
+    ensures { result ≡ sooner first row fault }
+{
+    let Some(fault) = fault else {
+        return first;
+    };
+    match first {
+        None => Some((row, fault)),
+        Some(found) => {
+            if found.0 < row {
+                Some(found)
+            } else {
+                Some((row, fault))
+            }
+        }
+    }
+}
+
+/// The row of a key, if the key before it has its order too.
+fn repeated(before: Option<Key>, here: Key) -> Option<u32>
+    ensures { result ≡ repeated before here }
+{
+    match before {
+        None => None,
+        Some(before) => {
+            if before.order == here.order {
+                Some(here.row)
+            } else {
+                None
+            }
+        }
+    }
+}
+
+/// The first row that has the group and the order of an earlier one, by the keys of all rows in their order.
+pub fn first_repeat(keys: &[Key]) -> Option<u32>
+    ensures { (group order : ℕ → ℕ) (count : ℕ) → AreSorted (λ i. true) group order count keys.now
+        → first_below (twin_at group order) count ≡ result }
+{
+    let mut first: Option<(u32, u32)> = None;
+    for k in 0..keys.len() {
+        let here = keys[k];
+        first = sooner(first, here.row, repeated(before_at(keys, k), here));
+    }
+    match first {
+        None => None,
+        Some((_, row)) => Some(row),
+    }
+}
