@@ -10,23 +10,16 @@ ghost use Rattle.meat_engine.specs.Faults.{IsFirst};
 ghost use Rattle.meat_engine.specs.Files.{path_by, HasCauses, IsEarly};
 ghost use Rattle.meat_engine.specs.CutProblems.{cut_problem_fault, IsCutProblem, IsNamed, IsUnknownStop, stop_fault};
 
-use crate::faults::{Fault, Input, Which};
+use crate::faults::{Fault, Which};
 use crate::inputs::{read_cut_file, read_delay_file};
-use crate::problem::Problem;
+use crate::problem::{Ends, Problem};
 use command_line::Journey;
 use csv_rows::Limits;
 use cut_file::CutTable;
 use delay_table::DelayTable;
 use file_ports::Files;
-use plan_model::{Names, PlaceId};
+use plan_model::Names;
 use std::alloc::Global;
-
-/// The ends of a journey.
-#[derive(Clone, Copy)]
-struct Ends {
-    source: PlaceId,
-    target: PlaceId,
-}
 
 /// The places that are named as the stops of a journey.
 fn ends_of(names: &Names, from: &str, to: &str) -> Result<Ends, Fault>
@@ -71,12 +64,7 @@ fn problem_in(
     };
     match ends_of(&names, journey.from, journey.to) {
         Err(fault) => Err(fault),
-        Ok(ends) => Ok(Problem {
-            network,
-            names,
-            source: ends.source,
-            target: ends.target,
-        }),
+        Ok(ends) => Ok(Problem::between(ends, network, names)),
     }
 }
 
