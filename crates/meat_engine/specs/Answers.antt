@@ -25,13 +25,17 @@ use Rattle.meat_engine.specs.Findings.{Findings, findings_of, safe_findings, exp
 use Rattle.meat_engine.specs.Problems.{IsProblemFault, InProblem}
 use Rattle.meat_engine.specs.Texts.{safe_text}
 
+-- this is the least worst arrival of the query
+abbrev pub IsWorst : Parts → Query → Moment → Type 0
+IsWorst n q worst = LeastWorst n q.source.0 q.target.0 q.start.0 (Some worst)
+
 -- this is the query of the search: it goes from the source of the problem to its target, from the start on; the least worst
 -- arrival is this one, and the deadline follows from it
 pub record IsAsked (p : Problem) (s : WantedSearch) (q : Query) (worst : Moment) : Type 0 where
   pub source : q.source.0 ≡ p.source.0
   pub target : q.target.0 ≡ p.target.0
   pub start : q.start.0 ≡ s.journey.start
-  pub least : LeastWorst p.network q.source.0 q.target.0 q.start.0 (Some worst)
+  pub least : IsWorst p.network q worst
   pub deadline : q.deadline.0 ≡ deadline_of q.start.0 worst.0 s.alpha
 
 -- the head of a graph's text
