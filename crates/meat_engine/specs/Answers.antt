@@ -1,5 +1,5 @@
 -- What the commands answer over a timetable.
-use Rattle.std.specs.Prelude.{◌≡◌, ℕ, ◌<◌, ◌≤◌, List, length, Option, None, Some, IfSome}
+use Rattle.std.specs.Prelude.{◌≡◌, ◌⊎◌, ℕ, ◌<◌, ◌≤◌, List, length, Option, None, Some}
 use Rattle.file_ports.specs.Ports.{Folder}
 use Rattle.csv_rows.specs.declared.limits.Limits.{Limits}
 use Rattle.plan_model.specs.declared.model.Moment.{Moment}
@@ -20,9 +20,8 @@ use Rattle.meat_engine.specs.declared.report.Report.{Report}
 use Rattle.meat_engine.specs.declared.problem.Problem.{Problem}
 use Rattle.meat_engine.specs.declared.faults.Fault.{Fault}
 use Rattle.meat_engine.specs.declared.faults.Fault.TheVariants.{NoSafe, NoMemory}
-use Rattle.meat_engine.specs.Files.{IsEarly}
 use Rattle.meat_engine.specs.Findings.{Findings, findings_of, safe_findings, expand_findings, plan_findings}
-use Rattle.meat_engine.specs.Problems.{IsProblemFault, InProblem}
+use Rattle.meat_engine.specs.Problems.{FailsEarly, InProblem}
 use Rattle.meat_engine.specs.Texts.{safe_text}
 
 -- this is the least worst arrival of the query
@@ -65,16 +64,15 @@ pub record IsSought (p : Problem) (s : WantedSearch) (report : Report) (text : L
 abbrev pub HasNoSafe : Problem → WantedSearch → Type 0
 HasNoSafe p s = LeastWorst p.network p.source.0 p.target.0 s.journey.start None
 
--- why a search over a problem has no answer
+-- why a search over a problem has no answer: no strategy is safe; or there was no memory
 abbrev pub FailsIn : Problem → WantedSearch → Fault → Type 0
-FailsIn p s NoSafe = HasNoSafe p s
-FailsIn p s NoMemory = Unit {0}
-FailsIn p s _ = ⊥
+FailsIn p s fault = ((fault ≡ NoSafe) × HasNoSafe p s) ⊎ (fault ≡ NoMemory)
 
 -- why a search has no answer: no strategy is safe; or the first fault of its files
 abbrev pub FailsSearch : Option Folder → Limits → WantedSearch → Fault → Type 0
-FailsSearch told limits s NoSafe = InProblem told limits s.journey (λ p. HasNoSafe p s)
-FailsSearch told limits s fault = IsEarly fault × IfSome told (λ files. IsProblemFault limits files s.journey fault)
+FailsSearch told limits s fault =
+    ((fault ≡ NoSafe) × InProblem told limits s.journey (λ p. HasNoSafe p s))
+    ⊎ FailsEarly told limits s.journey fault
 
 -- its places are the network's, and its moments have texts
 pub record IsPrintable (n : Parts) (q : Query) (worst : Moment) : Type 0 where
