@@ -1,18 +1,13 @@
 -- Faults whose line names no place.
-use Rattle.std.proofs.Common.{◌≡◌, ℕ, [], Global, Option, None, refl, sym, subst}
+use Rattle.std.proofs.Common.{◌≡◌, ℕ, [], Global, Option, None, sym, subst}
 use Rattle.std.specs.Prelude.{◌≢◌, MatchOption, Vec}
 use Rattle.plan_model.specs.NameLists.{NameLists}
-use Rattle.trip_replay.specs.declared.ReplayFault.TheVariants as replay
 use Rattle.meat_engine.specs.declared.faults.Fault.{Fault}
 use Rattle.meat_engine.specs.declared.faults.Fault.TheVariants.{Replay, NoMemory}
 use Rattle.meat_engine.specs.declared.replays.Refusal.{Refusal}
 use Rattle.meat_engine.specs.Files.{IsEarly, IsOfGraph}
-use Rattle.meat_engine.specs.Lines.{IsNameless, fault_text, plain_text, line_of}
+use Rattle.meat_engine.specs.Lines.{IsNameless, line_of}
 use Rattle.meat_engine.specs.Refusals.{IsLined}
-
-pub nameless_text : (names : NameLists) (fault : Fault) → IsNameless fault → fault_text names fault ≡ plain_text fault
-nameless_text names (Replay (replay.Stuck place moment)) nameless = absurd nameless
-nameless_text names _ nameless = refl
 
 pub early_nameless : (fault : Fault) → IsEarly fault → IsNameless fault
 early_nameless (Replay fault) early = absurd early

@@ -4,7 +4,6 @@ use Rattle.std.specs.Prelude.{IfSome}
 use Rattle.file_ports.specs.Counts.{Rose}
 use Rattle.file_ports.specs.Ports.{Folder}
 use Rattle.csv_rows.specs.declared.limits.Limits.{Limits}
-use Rattle.feed_maker.specs.Made.{made, SameFolder}
 use Rattle.command_line.specs.Jobs.{WantedJourney, WantedSearch}
 use Rattle.meat_engine.specs.declared.faults.Input.{Input}
 use Rattle.meat_engine.specs.declared.faults.Fault.{Fault}
@@ -41,10 +40,6 @@ fails_unread p s fault (inr memory) = ap unread_of memory
 pub never_unread : (fault : Fault) → ((input : Input) → fault ≡ Read input → ⊥) → unread_of fault ≡ None
 never_unread (Read file) never = absurd (never file refl)
 never_unread _ never = refl
-
--- why a search over the made files has no answer
-pub sample_fails : (limits : Limits) (size : ℕ) (files : Folder) → SameFolder (made size) files → (fault : Fault) → unread_of fault ≡ None → FailsSearch (Some files) limits sample_search fault → FailsSample limits size fault
-sample_fails limits size files same fault read fails = inr (read, (files, same, fails))
 
 pub sample_nameless : (limits : Limits) (size : ℕ) (fault : Fault) → FailsSample limits size fault → IsNameless fault
 sample_nameless limits size fault (inl memory) = subst IsNameless (sym memory) tt

@@ -83,11 +83,6 @@ stop_fault names from to =
     then (if is_among names to then None else Some (UnknownStop which.To))
     else Some (UnknownStop which.From)
 
--- a stop is unknown
-abbrev pub IsUnknownStop : Fault → Type 0
-IsUnknownStop (UnknownStop which) = Unit {0}
-IsUnknownStop _ = ⊥
-
 -- the first fault: of the cut file, of the delay file, of the stops
 abbrev pub cut_problem_fault : Limits → Folder → List ℕ → WantedJourney → Option Input → Option Fault
 cut_problem_fault limits files path j unread =

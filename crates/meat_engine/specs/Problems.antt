@@ -29,7 +29,7 @@ IsProblemFaultOver limits files (FeedFolder folder horizon) j fault = IsFeedProb
 abbrev pub IsProblemFault : Limits → Folder → WantedJourney → Fault → Type 0
 IsProblemFault limits files j fault = fault ≢ NoMemory → IsProblemFaultOver limits files j.timetable j fault
 
--- it is the first fault of the journey's files, where these are told; and a fault of such files
+-- the journey's files or its stops have this fault; where the files are told, it is the first
 abbrev pub FailsEarly : Option Folder → Limits → WantedJourney → Fault → Type 0
 FailsEarly told limits j fault = IsEarly fault × IfSome told (λ files. IsProblemFault limits files j fault)
 
