@@ -18,7 +18,7 @@ use Rattle.command_line.specs.Jobs.{WantedReplay}
 use Rattle.meat_engine.specs.declared.faults.Input.{Input}
 use Rattle.meat_engine.specs.declared.faults.Input.TheVariants as input
 use Rattle.meat_engine.specs.declared.faults.Fault.{Fault}
-use Rattle.meat_engine.specs.declared.faults.Fault.TheVariants.{Replay, NoMemory}
+use Rattle.meat_engine.specs.declared.faults.Fault.TheVariants.{NoMemory}
 use Rattle.meat_engine.specs.declared.problem.Problem.{Problem}
 use Rattle.meat_engine.specs.declared.report.Report.{Report}
 use Rattle.meat_engine.specs.Faults.{unread_of}

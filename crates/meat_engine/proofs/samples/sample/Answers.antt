@@ -1,4 +1,4 @@
-use Rattle.std.proofs.Common.{◌≡◌, Some, inr, subst, []}
+use Rattle.std.proofs.Common.{Some, inr, subst, []}
 use Rattle.file_ports.specs.Steady.{folder_of}
 use Rattle.command_line.specs.Jobs.{WantedSearch}
 use Rattle.meat_engine.specs.Answers.{FailsIn}
