@@ -32,11 +32,7 @@ use Rattle.meat_engine.specs.Files.{Records, records_of}
 abbrev pub cut_as : CutFault → Fault
 cut_as (cut.TooManyRows count) = Limit CutRows count
 cut_as cut.NoMemory = NoMemory
-cut_as (cut.MissingColumn column) = Cut (cut.MissingColumn column)
-cut_as (cut.BadField line column) = Cut (cut.BadField line column)
-cut_as (cut.DuplicateStep line) = Cut (cut.DuplicateStep line)
-cut_as (cut.Backward line) = Cut (cut.Backward line)
-cut_as (cut.Broken line) = Cut (cut.Broken line)
+cut_as fault = Cut fault
 
 -- the first fault of a table that was loaded, or that of its loading
 abbrev pub fault_in : (Records → Option Fault) → Result Records Fault → Option Fault

@@ -31,11 +31,7 @@ use Rattle.meat_engine.specs.Texts.{trace_text}
 -- a fault of a graph's text as one of the run
 abbrev pub text_as : TextFault → Fault
 text_as text.NoMemory = NoMemory
-text_as (text.Row line) = GraphFile (text.Row line)
-text_as (text.UnknownName line) = GraphFile (text.UnknownName line)
-text_as (text.NotRising line) = GraphFile (text.NotRising line)
-text_as (text.NoLeg line) = GraphFile (text.NoLeg line)
-text_as (text.OtherQuery line) = GraphFile (text.OtherQuery line)
+text_as fault = GraphFile fault
 
 abbrev pub graph_as : Result (Head × PlanGraph) TextFault → Result (Head × PlanGraph) Fault
 graph_as (Ok found) = Ok found
