@@ -4,6 +4,7 @@ pub mod Causes
 pub mod FeedSteps
 pub mod Sought
 pub mod TextLemmas
+pub mod Nameless
 pub mod Trips
 pub mod Search
 pub mod Told

@@ -1,6 +1,6 @@
 -- What a run comes to.
-use Rattle.std.proofs.Common.{◌≡◌, ℕ, List, [], Global, Option, Some, None, Ok, inl, inr, sym, subst, ⊎_elim, ◌∙◌}
-use Rattle.std.specs.Prelude.{◌≢◌, ◌⊎◌, MatchOption, Vec}
+use Rattle.std.proofs.Common.{◌≡◌, ℕ, List, Option, Some, None, Ok, inl, inr, refl, sym, subst, ⊎_elim, ◌∙◌}
+use Rattle.std.specs.Prelude.{◌≢◌, ◌⊎◌}
 use Rattle.std.specs.Io.KnownBytes.{Keeps}
 use Rattle.file_ports.specs.Ports.{Folder}
 use Rattle.csv_rows.specs.declared.limits.Limits.{Limits}
@@ -10,16 +10,17 @@ use Rattle.command_line.specs.Jobs.{WantedSearch, WantedReplay, Wanted, Seek, Re
 use Rattle.meat_engine.specs.declared.report.Report.{Report}
 use Rattle.meat_engine.specs.declared.faults.Input.{Input}
 use Rattle.meat_engine.specs.declared.faults.Fault.{Fault}
-use Rattle.meat_engine.specs.declared.faults.Fault.TheVariants.{Words, Feed, Cut, Missing, Delays, UnknownStop, Limit, Read, NoSafe, GraphFile, Replay, Write, NoMemory}
+use Rattle.meat_engine.specs.declared.faults.Fault.TheVariants.{Words, Read, Write, NoMemory}
 use Rattle.meat_engine.specs.Findings.{Findings, findings_of, no_findings}
 use Rattle.meat_engine.specs.declared.problem.Problem.{Problem}
 use Rattle.meat_engine.specs.Answers.{IsSought, Tells}
 use Rattle.meat_engine.specs.Replays.{IsReplayed}
 use Rattle.meat_engine.specs.Samples.{IsSampled}
-use Rattle.meat_engine.specs.Lines.{line_of, IsFormatted, IsNameless}
+use Rattle.meat_engine.specs.Lines.{line_of, IsFormatted}
 use Rattle.meat_engine.specs.declared.replays.Refusal.{Refusal}
 use Rattle.meat_engine.specs.Refusals.{IsLined}
 use Rattle.meat_engine.specs.Received.{AnswersJob, FailsJob, HasCause, IsRefused, IsRefusedWith, IsWritten, IsTold, Outcome}
+use Rattle.meat_engine.proofs.Nameless.{plain_lined}
 
 -- a report that tells the same answers the same
 sought_as : (p : Problem) (s : WantedSearch) (answer report : Report) (text : List ℕ) → findings_of report ≡ findings_of answer → IsSought p s answer text → IsSought p s report text
@@ -52,48 +53,26 @@ same_answer told limits (Replays r) answer report text same (p, sound, problem, 
 same_answer told limits (Sample size) answer report text same (files, made, (p, sound, problem, sampled)) = (files, made, (p, sound, problem, sampled_as size p answer report text same sampled))
 
 module _ (told : Option Folder) (limits : Limits) (words : List (List ℕ)) where
-  -- the words of a job are not refused
-  words_fails : (wanted : Wanted) (names : NameLists) (fault : WordsFault) → FailsJob told limits wanted names (Words fault) → ⊥
-  words_fails (Seek s) names fault fails = fails.0
-  words_fails (Replays r) names fault fails = fails.0
-  words_fails (Sample size) names fault fails = fails.2.0
-
+  -- a job does not fail because its answer cannot be written
   pub write_fails : (wanted : Wanted) (names : NameLists) → FailsJob told limits wanted names Write → ⊥
-  write_fails (Seek s) names fails = fails.0
-  write_fails (Replays r) names fails = fails.0
-  write_fails (Sample size) names fails = fails.2.0
+  write_fails (Seek s) names (inl (is, none)) = absurd (cc)
+  write_fails (Seek s) names (inr early) = early.0
+  write_fails (Replays r) names (inl (stop, is, why)) = absurd (cc)
+  write_fails (Replays r) names (inr (inl graph)) = graph.0
+  write_fails (Replays r) names (inr (inr early)) = early.0
+  write_fails (Sample size) names (inl memory) = absurd (cc)
+  write_fails (Sample size) names (inr (read, (files, same, inl (is, none)))) = absurd (cc)
+  write_fails (Sample size) names (inr (read, (files, same, inr early))) = early.0
 
   -- why a job fails is why there is no answer to its words
   pub job_cause : (wanted : Wanted) (names : NameLists) → job_of words ≡ Ok wanted → (fault : Fault) → (fault ≢ NoMemory → FailsJob told limits wanted names fault) → HasCause told limits words names fault
-  job_cause wanted names is (Words fault) fails = absurd (words_fails wanted names fault (fails (λ same. let none : Words fault ≡ NoMemory = same in absurd (cc))))
-  job_cause wanted names is NoMemory fails = tt
-  job_cause wanted names is (Feed fault) fails = (wanted, is, fails (λ same. absurd (cc)))
-  job_cause wanted names is (Cut fault) fails = (wanted, is, fails (λ same. absurd (cc)))
-  job_cause wanted names is (Missing file) fails = (wanted, is, fails (λ same. absurd (cc)))
-  job_cause wanted names is (Delays fault) fails = (wanted, is, fails (λ same. absurd (cc)))
-  job_cause wanted names is (UnknownStop which) fails = (wanted, is, fails (λ same. absurd (cc)))
-  job_cause wanted names is (Limit kind count) fails = (wanted, is, fails (λ same. absurd (cc)))
-  job_cause wanted names is (Read file) fails = (wanted, is, fails (λ same. absurd (cc)))
-  job_cause wanted names is NoSafe fails = (wanted, is, fails (λ same. absurd (cc)))
-  job_cause wanted names is (GraphFile fault) fails = (wanted, is, fails (λ same. absurd (cc)))
-  job_cause wanted names is (Replay fault) fails = (wanted, is, fails (λ same. absurd (cc)))
-  job_cause wanted names is Write fails = (wanted, is, fails (λ same. absurd (cc)))
+  job_cause wanted names is NoMemory fails = inl refl
+  job_cause wanted names is fault fails = inr (inr (wanted, is, fails (λ (same : fault ≡ NoMemory). absurd (cc))))
 
   module _ (report : Report) (old new : Option (List ℕ)) (IsLine : List ℕ → Type 0) where
     outcome_by : (fault : Fault) → fault ≢ Write → Keeps old new → IsRefused told limits words report IsLine fault → Outcome told limits words report old new IsLine (Some fault)
-    outcome_by Write other keeps refused = absurd (other (cc))
-    outcome_by (Words fault) other keeps refused = (keeps, refused)
-    outcome_by (Feed fault) other keeps refused = (keeps, refused)
-    outcome_by (Cut fault) other keeps refused = (keeps, refused)
-    outcome_by (Missing file) other keeps refused = (keeps, refused)
-    outcome_by (Delays fault) other keeps refused = (keeps, refused)
-    outcome_by (UnknownStop which) other keeps refused = (keeps, refused)
-    outcome_by (Limit kind count) other keeps refused = (keeps, refused)
-    outcome_by (Read file) other keeps refused = (keeps, refused)
-    outcome_by NoSafe other keeps refused = (keeps, refused)
-    outcome_by (GraphFile fault) other keeps refused = (keeps, refused)
-    outcome_by (Replay fault) other keeps refused = (keeps, refused)
-    outcome_by NoMemory other keeps refused = (keeps, refused)
+    outcome_by Write other keeps refused = absurd (other refl)
+    outcome_by _ other keeps refused = (keeps, refused)
 
   -- a refusal that was told
   pub refused_outcome : (report : Report) (old new before after : Option (List ℕ)) (was now : ℕ) (names : NameLists) (wanted : Fault) (found : Option Fault) → findings_of report ≡ no_findings → Keeps old new
@@ -104,7 +83,7 @@ module _ (told : Option Folder) (limits : Limits) (words : List (List ℕ)) wher
       (λ (is : fault ≡ wanted). outcome_by report old new (IsTold before after was now) fault (λ write. other (sym is ∙ write)) keeps (findings, (names, subst (HasCause told limits words names) (sym is) cause, line)))
       (λ (is : (fault ≡ NoMemory) × IsFormatted wanted).
       outcome_by report old new (IsTold before after was now) fault (λ write. let none : NoMemory ≡ Write = sym is.0 ∙ write in absurd (cc)) keeps
-      (findings, (names, subst (HasCause told limits words names) (sym is.0) tt, line)))
+      (findings, (names, inl is.0, line)))
       same
 
   -- an answer that was written, or not wholly
@@ -112,25 +91,11 @@ module _ (told : Option Folder) (limits : Limits) (words : List (List ℕ)) wher
       → AnswersJob told limits wanted answer text → IsWritten old new text found → ((names : NameLists) → found ≡ Some Write → IsLine (line_of names Write)) → Outcome told limits words report old new IsLine found
   answered_outcome wanted answer report text old new IsLine None is same answers written tells = (text, (wanted, is, same_answer told limits wanted answer report text same answers), written)
   answered_outcome wanted answer report text old new IsLine (Some Write) is same answers written tells = ((text, (wanted, is, same_answer told limits wanted answer report text same answers), written), λ names. tells names (cc))
-  answered_outcome wanted answer report text old new IsLine (Some (Words fault)) is same answers written tells = absurd written
-  answered_outcome wanted answer report text old new IsLine (Some (Feed fault)) is same answers written tells = absurd written
-  answered_outcome wanted answer report text old new IsLine (Some (Cut fault)) is same answers written tells = absurd written
-  answered_outcome wanted answer report text old new IsLine (Some (Missing file)) is same answers written tells = absurd written
-  answered_outcome wanted answer report text old new IsLine (Some (Delays fault)) is same answers written tells = absurd written
-  answered_outcome wanted answer report text old new IsLine (Some (UnknownStop which)) is same answers written tells = absurd written
-  answered_outcome wanted answer report text old new IsLine (Some (Limit kind count)) is same answers written tells = absurd written
-  answered_outcome wanted answer report text old new IsLine (Some (Read file)) is same answers written tells = absurd written
-  answered_outcome wanted answer report text old new IsLine (Some NoSafe) is same answers written tells = absurd written
-  answered_outcome wanted answer report text old new IsLine (Some (GraphFile fault)) is same answers written tells = absurd written
-  answered_outcome wanted answer report text old new IsLine (Some (Replay fault)) is same answers written tells = absurd written
-  answered_outcome wanted answer report text old new IsLine (Some NoMemory) is same answers written tells = absurd written
-
-pub no_names : NameLists
-no_names = record { places = []; runs = [] }
+  answered_outcome wanted answer report text old new IsLine (Some _) is same answers written tells = absurd written
 
 -- a refusal of words
 pub words_lined : (r : Refusal) (fault : WordsFault) (names : NameLists) → r.fault ≡ Words fault → r.line ≡ None → IsLined names r
-words_lined r fault names is none = subst (λ (line : Option (Vec ℕ Global)). MatchOption line (IsNameless r.fault) (λ l. l.items ≡ line_of names r.fault)) (sym none) (subst IsNameless (sym is) tt)
+words_lined r fault names is none = plain_lined r (Words fault) names is none tt
 
 module _ (before after : Option (List ℕ)) (was now : ℕ) (names : NameLists) where
   pub refused_some : (wanted : Fault) (found : Option Fault) → IsRefusedWith before after was now names wanted found → found ≡ None → ⊥

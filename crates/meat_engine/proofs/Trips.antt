@@ -1,8 +1,6 @@
 -- The steps of a replay, put together.
-use Rattle.std.proofs.Common.{◌≡◌, ℕ, List, Option, None, Result, Ok, Err, sym, ap, ◌∙◌, subst, arith, refl}
-use Rattle.std.proofs.Common.{[], Global}
-use Rattle.std.specs.Prelude.{◌≢◌, ◌<◌, ◌≤◌, length, IfErr, IfOk, IfSome, MatchOption, Vec}
-use Rattle.meat_engine.specs.Lines.{line_of}
+use Rattle.std.proofs.Common.{◌≡◌, ℕ, List, Option, None, Result, Ok, Err, inl, inr, sym, ap, ◌∙◌, subst, arith, refl}
+use Rattle.std.specs.Prelude.{◌≢◌, ◌<◌, ◌≤◌, length, IfErr, IfOk, IfSome}
 use Rattle.meat_engine.proofs.Loads.{if_some_then}
 use Rattle.file_ports.specs.Ports.{Folder, file_at}
 use Rattle.csv_rows.specs.declared.limits.Limits.{Limits}
@@ -19,20 +17,20 @@ use Rattle.trip_replay.specs.Rides.{IsStuckAfter}
 use Rattle.command_line.specs.Jobs.{WantedReplay}
 use Rattle.meat_engine.specs.declared.faults.Input.{Input}
 use Rattle.meat_engine.specs.declared.faults.Input.TheVariants as input
-use Rattle.meat_engine.specs.declared.faults.LimitKind.TheVariants.{Bytes, Rows, CutRows, Connections}
 use Rattle.meat_engine.specs.declared.faults.Fault.{Fault}
-use Rattle.meat_engine.specs.declared.faults.Fault.TheVariants.{Words, Feed, Cut, Missing, Delays, UnknownStop, Limit, Read, NoSafe, GraphFile, Replay, Write, NoMemory}
+use Rattle.meat_engine.specs.declared.faults.Fault.TheVariants.{NoMemory}
 use Rattle.meat_engine.specs.declared.problem.Problem.{Problem}
 use Rattle.meat_engine.specs.declared.report.Report.{Report}
 use Rattle.meat_engine.specs.Faults.{unread_of}
-use Rattle.meat_engine.specs.Files.{bytes_of, and_then, IsEarly}
+use Rattle.meat_engine.specs.Files.{bytes_of, and_then, IsEarly, IsOfGraph}
 use Rattle.meat_engine.specs.Problems.{IsProblem, IsProblemFault, IsSound, InProblem}
 use Rattle.trip_replay.specs.declared.Trace.{Trace}
 use Rattle.trip_replay.specs.Walk.{IsAnswer}
 use Rattle.meat_engine.specs.declared.replays.Refusal.{Refusal}
 use Rattle.meat_engine.specs.Lines.{IsNameless}
 use Rattle.meat_engine.specs.Refusals.{IsPlaced, IsRefusalOf, IsTripRefusal, IsRefusalBy, by_fault}
-use Rattle.meat_engine.specs.Replays.{graph_as, graph_in, IsOfGraph, FailsGraph, FailsReplay, IsGraphFile, IsSafeTrip, trip_by, IsTripTold, IsReplayed}
+use Rattle.meat_engine.specs.Replays.{graph_as, graph_in, FailsReplay, IsGraphFile, IsSafeTrip, trip_by, IsTripTold, IsReplayed}
+use Rattle.meat_engine.proofs.Nameless.{early_nameless, graph_nameless, no_names, plain_lined}
 use Rattle.meat_engine.proofs.TextLemmas.{arrivals, places}
 
 -- a trip is stuck at a place, at a moment that has a text
@@ -44,67 +42,7 @@ stuck_placed p head since valid is inside early (replay.Stuck place moment) (rid
       subst (λ (k : ℕ). k < length p.network.change) (sym at) (places p.network valid head.query.source.0 rides source all),
       subst (λ (k : ℕ). k ≤ 253402300799) (sym since_when) (arrivals p.network valid head.query.start.0 rides few all),
     )
-stuck_placed p head since valid is inside early (replay.NotADelay number) stuck = tt
-stuck_placed p head since valid is inside early (replay.TooFew ridden) stuck = tt
-stuck_placed p head since valid is inside early (replay.TooMany ridden) stuck = tt
-stuck_placed p head since valid is inside early replay.NoMemory stuck = tt
-
-module _ (told : Option Folder) (limits : Limits) (r : WantedReplay) (names : NameLists) where
-  -- a fault of the files of the journey
-  pub early_fails : (fault : Fault) → IsEarly fault → IfSome told (λ files. IsProblemFault limits files r.journey fault) → FailsReplay told limits r names fault
-  early_fails (Feed fault) early is = (early, is)
-  early_fails (Cut fault) early is = (early, is)
-  early_fails (Missing (input.Feed table)) early is = (early, is)
-  early_fails (Missing input.Cut) early is = (early, is)
-  early_fails (Missing input.Delays) early is = (early, is)
-  early_fails (Missing input.Graph) early is = absurd (early (cc))
-  early_fails (Delays fault) early is = (early, is)
-  early_fails (UnknownStop which) early is = (early, is)
-  early_fails (Limit (Bytes (input.Feed table)) count) early is = (early, is)
-  early_fails (Limit (Bytes input.Cut) count) early is = (early, is)
-  early_fails (Limit (Bytes input.Delays) count) early is = (early, is)
-  early_fails (Limit (Bytes input.Graph) count) early is = absurd (early (cc))
-  early_fails (Limit (Rows table) count) early is = (early, is)
-  early_fails (Limit CutRows count) early is = (early, is)
-  early_fails (Limit Connections count) early is = (early, is)
-  early_fails (Read (input.Feed table)) early is = (early, is)
-  early_fails (Read input.Cut) early is = (early, is)
-  early_fails (Read input.Delays) early is = (early, is)
-  early_fails (Read input.Graph) early is = absurd (early (cc))
-  early_fails NoMemory early is = (early, is)
-  early_fails NoSafe early is = absurd early
-  early_fails Write early is = absurd early
-  early_fails (Words fault) early is = absurd early
-  early_fails (GraphFile fault) early is = absurd early
-  early_fails (Replay fault) early is = absurd early
-
-  -- a fault of the graph file
-  pub graph_fails : (fault : Fault) → IsOfGraph fault → FailsGraph told limits r fault → FailsReplay told limits r names fault
-  graph_fails (GraphFile fault) of is = is
-  graph_fails (Missing input.Graph) of is = is
-  graph_fails (Missing input.Cut) of is = absurd (cc)
-  graph_fails (Missing input.Delays) of is = absurd (cc)
-  graph_fails (Missing (input.Feed table)) of is = absurd (cc)
-  graph_fails (Read input.Graph) of is = is
-  graph_fails (Read input.Cut) of is = absurd (cc)
-  graph_fails (Read input.Delays) of is = absurd (cc)
-  graph_fails (Read (input.Feed table)) of is = absurd (cc)
-  graph_fails (Limit (Bytes input.Graph) count) of is = is
-  graph_fails (Limit (Bytes input.Cut) count) of is = absurd (cc)
-  graph_fails (Limit (Bytes input.Delays) count) of is = absurd (cc)
-  graph_fails (Limit (Bytes (input.Feed table)) count) of is = absurd (cc)
-  graph_fails (Limit (Rows table) count) of is = absurd (cc)
-  graph_fails (Limit CutRows count) of is = absurd (cc)
-  graph_fails (Limit Connections count) of is = absurd (cc)
-  graph_fails (Feed fault) of is = absurd of
-  graph_fails (Cut fault) of is = absurd of
-  graph_fails (Delays fault) of is = absurd of
-  graph_fails (UnknownStop which) of is = absurd of
-  graph_fails (Words fault) of is = absurd of
-  graph_fails (Replay fault) of is = absurd of
-  graph_fails NoMemory of is = absurd of
-  graph_fails NoSafe of is = absurd of
-  graph_fails Write of is = absurd of
+stuck_placed p head since valid is inside early _ stuck = tt
 
 module _ (limits : Limits) (p : Problem) (start : ℕ) (file : Option (List ℕ)) (bytes text : List ℕ) (there : bytes_of limits.bytes input.Graph None file ≡ Ok bytes) (same : text ≡ bytes) where
   -- what is read of the bytes of the file is read of the file
@@ -121,11 +59,8 @@ module _ (limits : Limits) (p : Problem) (start : ℕ) (file : Option (List ℕ)
   graph_fault fault none is other = read_of (unread_of fault) none ∙ is other
 
 answer_is : (fault : ReplayFault) (trip : Result Trace ReplayFault) → fault ≢ replay.NoMemory → IsAnswer (Err fault) trip → trip ≡ Err fault
-answer_is (replay.NotADelay number) trip other is = is
-answer_is (replay.TooFew ridden) trip other is = is
-answer_is (replay.TooMany ridden) trip other is = is
-answer_is (replay.Stuck place moment) trip other is = is
-answer_is replay.NoMemory trip other is = absurd (other (cc))
+answer_is replay.NoMemory trip other is = absurd (other refl)
+answer_is _ trip other is = is
 
 -- the refusal of a trip
 pub trip_refusal : (p : Problem) (head : Head) (graph : PlanGraph) (late : List ℕ) (fault : ReplayFault) (r : Refusal) → IsRefusalOf p.names fault r → IsAnswer (Err fault) (trip_by p head graph late) → IsSafeTrip p head graph (Err fault) → IsTripRefusal p head graph late r
@@ -134,64 +69,28 @@ trip_refusal p head graph late fault r refusal is safe = record {
   is = λ other. let both = refusal.is other in (fault, both.0, record { trip = answer_is fault (trip_by p head graph late) both.1 is; safe = safe });
 }
 
-early_nameless : (fault : Fault) → IsEarly fault → IsNameless fault
-early_nameless (Feed fault) early = tt
-early_nameless (Cut fault) early = tt
-early_nameless (Missing file) early = tt
-early_nameless (Delays fault) early = tt
-early_nameless (UnknownStop which) early = tt
-early_nameless (Limit kind count) early = tt
-early_nameless (Read file) early = tt
-early_nameless NoMemory early = tt
-early_nameless NoSafe early = tt
-early_nameless Write early = tt
-early_nameless (Words fault) early = tt
-early_nameless (GraphFile fault) early = tt
-early_nameless (Replay fault) early = absurd early
-
-graph_nameless : (fault : Fault) → (fault ≢ NoMemory → IsOfGraph fault) → IsNameless fault
-graph_nameless (Feed fault) of = tt
-graph_nameless (Cut fault) of = tt
-graph_nameless (Missing file) of = tt
-graph_nameless (Delays fault) of = tt
-graph_nameless (UnknownStop which) of = tt
-graph_nameless (Limit kind count) of = tt
-graph_nameless (Read file) of = tt
-graph_nameless NoMemory of = tt
-graph_nameless NoSafe of = tt
-graph_nameless Write of = tt
-graph_nameless (Words fault) of = tt
-graph_nameless (GraphFile fault) of = tt
-graph_nameless (Replay fault) of = absurd (of (λ same. let none : Replay fault ≡ NoMemory = same in absurd (cc)))
-
-no_names : NameLists
-no_names = record { places = []; runs = [] }
-
 -- a refusal whose line names no place
 pub plain_refusal : (cause : NameLists → Fault → Type 0) (r : Refusal) (fault : Fault) → r.fault ≡ fault → r.line ≡ None → IsNameless fault → ((names : NameLists) → fault ≢ NoMemory → cause names fault) → IsRefusalBy cause r
-plain_refusal cause r fault is none nameless holds = (
-  no_names,
-  subst (λ (line : Option (Vec ℕ Global)). MatchOption line (IsNameless r.fault) (λ l. l.items ≡ line_of no_names r.fault)) (sym none) (subst IsNameless (sym is) nameless),
-  λ other. subst (cause no_names) (sym is) (holds no_names (λ same. other (is ∙ same))),
-)
+plain_refusal cause r fault is none nameless holds =
+    (no_names, plain_lined r fault no_names is none nameless, λ other. subst (cause no_names) (sym is) (holds no_names (λ same. other (is ∙ same))))
 
 module _ (told : Option Folder) (limits : Limits) (r : WantedReplay) where
   pub problem_refusal : (refusal : Refusal) (fault : Fault) → refusal.fault ≡ fault → refusal.line ≡ None → IsEarly fault → IfSome told (λ files. IsProblemFault limits files r.journey fault) → IsRefusalBy (FailsReplay told limits r) refusal
   problem_refusal refusal fault is none early holds =
-      plain_refusal (FailsReplay told limits r) refusal fault is none (early_nameless fault early) (λ names other. early_fails told limits r names fault early holds)
+      plain_refusal (FailsReplay told limits r) refusal fault is none (early_nameless fault early) (λ names other. inr (inr (early, holds)))
 
   module _ (p : Problem) (sound : IsSound r.journey p) (problem : IfSome told (λ files. IsProblem limits files r.journey p)) where
     pub graph_refusal : (refusal : Refusal) (fault : Fault) → refusal.fault ≡ fault → refusal.line ≡ None → (fault ≢ NoMemory → IsOfGraph fault)
         → IfSome told (λ files. fault ≢ NoMemory → graph_in limits p r.journey.start (unread_of fault) (file_at files r.graph) ≡ Err fault) → IsRefusalBy (FailsReplay told limits r) refusal
     graph_refusal refusal fault is none of holds =
         plain_refusal (FailsReplay told limits r) refusal fault is none (graph_nameless fault of)
-        (λ names other. graph_fails told limits r names fault (of other) (p, sound, problem, if_some_then told _ _ (λ files h. h other) holds))
+        (λ names other. inr (inl (of other, (p, sound, problem, if_some_then told _ _ (λ files h. h other) holds))))
 
     pub trip_fails : (head : Head) (graph : PlanGraph) (refusal : Refusal) → IsGraphFile told limits r p head graph → IsTripRefusal p head graph r.late refusal → IsRefusalBy (FailsReplay told limits r) refusal
     trip_fails head graph refusal file fails = (
       p.names,
       fails.lined,
-      λ other. let why = fails.is other in subst (FailsReplay told limits r p.names) (sym why.1) (p, sound, problem, (refl, (head, graph, file, why.2))),
+      λ other. let why = fails.is other in inl (why.0, why.1, (p, sound, problem, (refl, (head, graph, file, why.2)))),
     )
 
     pub trip_told : (head : Head) (graph : PlanGraph) (report : Report) (text : List ℕ) → IsGraphFile told limits r p head graph → IsTripTold p head graph r.late report text → InProblem told limits r.journey (λ p. IsReplayed told limits r p report text)

@@ -1,5 +1,5 @@
 -- What the commands answer over a timetable.
-use Rattle.std.specs.Prelude.{◌≡◌, ℕ, ◌<◌, ◌≤◌, List, length, Option, None, Some, IfSome}
+use Rattle.std.specs.Prelude.{◌≡◌, ◌⊎◌, ℕ, ◌<◌, ◌≤◌, List, length, Option, None, Some}
 use Rattle.file_ports.specs.Ports.{Folder}
 use Rattle.csv_rows.specs.declared.limits.Limits.{Limits}
 use Rattle.plan_model.specs.declared.model.Moment.{Moment}
@@ -21,10 +21,13 @@ use Rattle.meat_engine.specs.declared.report.Report.{Report}
 use Rattle.meat_engine.specs.declared.problem.Problem.{Problem}
 use Rattle.meat_engine.specs.declared.faults.Fault.{Fault}
 use Rattle.meat_engine.specs.declared.faults.Fault.TheVariants.{NoSafe, NoMemory}
-use Rattle.meat_engine.specs.Files.{IsEarly}
 use Rattle.meat_engine.specs.Findings.{Findings, findings_of, safe_findings, expand_findings, plan_findings}
-use Rattle.meat_engine.specs.Problems.{IsProblemFault, InProblem}
+use Rattle.meat_engine.specs.Problems.{FailsEarly, InProblem}
 use Rattle.meat_engine.specs.Texts.{safe_text}
+
+-- this is the least worst arrival of the query
+abbrev pub IsWorst : Parts → Query → Moment → Type 0
+IsWorst n q worst = LeastWorst n q.source.0 q.target.0 q.start.0 (Some worst)
 
 -- this is the query of the search: it goes from the source of the problem to its target, from the start on; the least worst
 -- arrival is this one, and the deadline follows from it
@@ -32,7 +35,7 @@ pub record IsAsked (p : Problem) (s : WantedSearch) (q : Query) (worst : Moment)
   pub source : q.source.0 ≡ p.source.0
   pub target : q.target.0 ≡ p.target.0
   pub start : q.start.0 ≡ s.journey.start
-  pub least : LeastWorst p.network q.source.0 q.target.0 q.start.0 (Some worst)
+  pub least : IsWorst p.network q worst
   pub deadline : q.deadline.0 ≡ deadline_of q.start.0 worst.0 s.alpha
 
 -- the head of a graph's text
@@ -64,16 +67,15 @@ pub record IsSought (p : Problem) (s : WantedSearch) (report : Report) (text : L
 abbrev pub HasNoSafe : Problem → WantedSearch → Type 0
 HasNoSafe p s = LeastWorst p.network p.source.0 p.target.0 s.journey.start None
 
--- why a search over a problem has no answer
+-- why a search over a problem has no answer: no strategy is safe; or there was no memory
 abbrev pub FailsIn : Problem → WantedSearch → Fault → Type 0
-FailsIn p s NoSafe = HasNoSafe p s
-FailsIn p s NoMemory = Unit {0}
-FailsIn p s _ = ⊥
+FailsIn p s fault = ((fault ≡ NoSafe) × HasNoSafe p s) ⊎ (fault ≡ NoMemory)
 
 -- why a search has no answer: no strategy is safe; or the first fault of its files
 abbrev pub FailsSearch : Option Folder → Limits → WantedSearch → Fault → Type 0
-FailsSearch told limits s NoSafe = InProblem told limits s.journey (λ p. HasNoSafe p s)
-FailsSearch told limits s fault = IsEarly fault × IfSome told (λ files. IsProblemFault limits files s.journey fault)
+FailsSearch told limits s fault =
+    ((fault ≡ NoSafe) × InProblem told limits s.journey (λ p. HasNoSafe p s))
+    ⊎ FailsEarly told limits s.journey fault
 
 -- its places are the network's, and its moments have texts
 pub record IsPrintable (n : Parts) (q : Query) (worst : Moment) : Type 0 where

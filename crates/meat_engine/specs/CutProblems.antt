@@ -32,11 +32,7 @@ use Rattle.meat_engine.specs.Files.{Records, records_of}
 abbrev pub cut_as : CutFault → Fault
 cut_as (cut.TooManyRows count) = Limit CutRows count
 cut_as cut.NoMemory = NoMemory
-cut_as (cut.MissingColumn column) = Cut (cut.MissingColumn column)
-cut_as (cut.BadField line column) = Cut (cut.BadField line column)
-cut_as (cut.DuplicateStep line) = Cut (cut.DuplicateStep line)
-cut_as (cut.Backward line) = Cut (cut.Backward line)
-cut_as (cut.Broken line) = Cut (cut.Broken line)
+cut_as fault = Cut fault
 
 -- the first fault of a table that was loaded, or that of its loading
 abbrev pub fault_in : (Records → Option Fault) → Result Records Fault → Option Fault
@@ -82,11 +78,6 @@ stop_fault names from to =
     if is_among names from
     then (if is_among names to then None else Some (UnknownStop which.To))
     else Some (UnknownStop which.From)
-
--- a stop is unknown
-abbrev pub IsUnknownStop : Fault → Type 0
-IsUnknownStop (UnknownStop which) = Unit {0}
-IsUnknownStop _ = ⊥
 
 -- the first fault: of the cut file, of the delay file, of the stops
 abbrev pub cut_problem_fault : Limits → Folder → List ℕ → WantedJourney → Option Input → Option Fault

@@ -9,7 +9,7 @@ use Rattle.meat_engine.specs.declared.faults.Input.{Input}
 use Rattle.meat_engine.specs.declared.faults.Input.TheVariants as input
 use Rattle.meat_engine.specs.declared.faults.LimitKind.TheVariants.{Bytes}
 use Rattle.meat_engine.specs.declared.faults.Fault.{Fault}
-use Rattle.meat_engine.specs.declared.faults.Fault.TheVariants.{Words, Feed, Cut, Missing, Delays, UnknownStop, Limit, Read, NoSafe, GraphFile, Replay, Write, NoMemory}
+use Rattle.meat_engine.specs.declared.faults.Fault.TheVariants.{Words, Missing, Limit, Read, NoSafe, GraphFile, Replay, Write, NoMemory}
 use Rattle.meat_engine.specs.Faults.{unread_of, is_unread}
 
 -- the records of a table, of which the first is the header
@@ -70,18 +70,18 @@ pub record HasCauses {T : Type 0} (told : Type 0) (path : Input → List ℕ) (b
   pub read_path : told → (input : Input) → IsErrOf result (Read input) → Rose (before_of (path input)) (now_of (path input))
   pub grew : before < now → (input : Input) × IsErrOf result (Read input)
 
--- a fault of a timetable, of its delays or of the stops of a journey
+-- it is about the graph file
+abbrev pub IsOfGraph : Fault → Type 0
+IsOfGraph (GraphFile fault) = Unit {0}
+IsOfGraph (Missing file) = file ≡ input.Graph
+IsOfGraph (Read file) = file ≡ input.Graph
+IsOfGraph (Limit kind count) = kind ≡ Bytes input.Graph
+IsOfGraph _ = ⊥
+
+-- a fault of a timetable, of its delays or of the stops of a journey; or there was no memory
 abbrev pub IsEarly : Fault → Type 0
-IsEarly (Feed fault) = Unit {0}
-IsEarly (Cut fault) = Unit {0}
-IsEarly (Missing file) = file ≢ input.Graph
-IsEarly (Delays fault) = Unit {0}
-IsEarly (UnknownStop which) = Unit {0}
-IsEarly (Limit kind count) = kind ≢ Bytes input.Graph
-IsEarly (Read file) = file ≢ input.Graph
-IsEarly NoMemory = Unit {0}
-IsEarly NoSafe = ⊥
-IsEarly Write = ⊥
 IsEarly (Words fault) = ⊥
-IsEarly (GraphFile fault) = ⊥
+IsEarly NoSafe = ⊥
 IsEarly (Replay fault) = ⊥
+IsEarly Write = ⊥
+IsEarly fault = ¬ IsOfGraph fault

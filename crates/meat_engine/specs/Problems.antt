@@ -9,6 +9,7 @@ use Rattle.meat_engine.specs.declared.faults.Fault.{Fault}
 use Rattle.meat_engine.specs.declared.faults.Fault.TheVariants.{NoMemory}
 use Rattle.meat_engine.specs.declared.problem.Problem.{Problem}
 use Rattle.meat_engine.specs.Faults.{unread_of}
+use Rattle.meat_engine.specs.Files.{IsEarly}
 use Rattle.meat_engine.specs.CutProblems.{cut_problem_fault, IsCutProblem, IsNamed}
 use Rattle.meat_engine.specs.FeedProblems.{IsFeedProblem, IsFeedProblemFault}
 
@@ -27,6 +28,10 @@ IsProblemFaultOver limits files (FeedFolder folder horizon) j fault = IsFeedProb
 
 abbrev pub IsProblemFault : Limits → Folder → WantedJourney → Fault → Type 0
 IsProblemFault limits files j fault = fault ≢ NoMemory → IsProblemFaultOver limits files j.timetable j fault
+
+-- the journey's files or its stops have this fault; where the files are told, it is the first
+abbrev pub FailsEarly : Option Folder → Limits → WantedJourney → Fault → Type 0
+FailsEarly told limits j fault = IsEarly fault × IfSome told (λ files. IsProblemFault limits files j fault)
 
 -- the ends of a journey are places; those of a cut file have the names of its stops
 abbrev pub IsEnd : WantedTimetable → Problem → ℕ → List ℕ → Type 0

@@ -6,11 +6,12 @@ use Rattle.file_ports.specs.Loading.{AppendsFront}
 use Rattle.file_ports.specs.Ports.{Folder}
 use Rattle.csv_rows.specs.declared.limits.Limits.{Limits}
 use Rattle.plan_model.specs.NameLists.{NameLists}
+use Rattle.command_line.specs.declared.job.WordsFault.{WordsFault}
 use Rattle.command_line.specs.Jobs.{Wanted, Seek, Replay, Sample, job_of}
 use Rattle.meat_engine.specs.declared.report.Report.{Report}
 use Rattle.meat_engine.specs.declared.faults.Input.{Input}
 use Rattle.meat_engine.specs.declared.faults.Fault.{Fault}
-use Rattle.meat_engine.specs.declared.faults.Fault.TheVariants as fault
+use Rattle.meat_engine.specs.declared.faults.Fault.TheVariants.{Words, Write, NoMemory}
 use Rattle.meat_engine.specs.Answers.{IsSought, FailsSearch}
 use Rattle.meat_engine.specs.Files.{path_of}
 use Rattle.meat_engine.specs.Findings.{findings_of, no_findings}
@@ -45,11 +46,13 @@ Asks words P = (wanted : Wanted) × (job_of words ≡ Ok wanted) × P wanted
 abbrev pub Answers : Option Folder → Limits → List (List ℕ) → Report → List ℕ → Type 0
 Answers told limits words report text = Asks words (λ wanted. AnswersJob told limits wanted report text)
 
--- why there is no answer to the words, where these are the names of the timetable
+-- why there is no answer to the words, where these are the names of the timetable: there was no memory; or the words are
+-- refused; or the job that they ask for has none
 abbrev pub HasCause : Option Folder → Limits → List (List ℕ) → NameLists → Fault → Type 0
-HasCause told limits words names (fault.Words refusal) = job_of words ≡ Err refusal
-HasCause told limits words names fault.NoMemory = Unit {0}
-HasCause told limits words names fault = Asks words (λ wanted. FailsJob told limits wanted names fault)
+HasCause told limits words names fault =
+    (fault ≡ NoMemory)
+    ⊎ (((refusal : WordsFault) × (fault ≡ Words refusal) × (job_of words ≡ Err refusal))
+    ⊎ Asks words (λ wanted. FailsJob told limits wanted names fault))
 
 -- nothing but the fault is told, which has a cause, and this holds of its line
 abbrev pub IsRefused : Option Folder → Limits → List (List ℕ) → Report → (List ℕ → Type 0) → Fault → Type 0
@@ -60,9 +63,9 @@ IsRefused told limits words report Tells fault =
 -- the fault's cause and its line, and then nothing is written
 abbrev pub Outcome : Option Folder → Limits → List (List ℕ) → Report → Option (List ℕ) → Option (List ℕ) → (List ℕ → Type 0) → Option Fault → Type 0
 Outcome told limits words report old new Tells None = (text : List ℕ) × Answers told limits words report text × Appends old new text
-Outcome told limits words report old new Tells (Some fault.Write) =
+Outcome told limits words report old new Tells (Some Write) =
     ((text : List ℕ) × Answers told limits words report text × AppendsFront old new text)
-    × ((names : NameLists) → Tells (line_of names fault.Write))
+    × ((names : NameLists) → Tells (line_of names Write))
 Outcome told limits words report old new Tells (Some fault) = Keeps old new × IsRefused told limits words report Tells fault
 
 -- a front of a line was received, the whole of it where the sink's count did not rise
@@ -72,10 +75,10 @@ IsTold old new before now line = AppendsFront old new line × (¬ Rose before no
 -- a text was written whole, or a front of it where writing failed
 abbrev pub IsWritten : Option (List ℕ) → Option (List ℕ) → List ℕ → Option Fault → Type 0
 IsWritten old new text None = Appends old new text
-IsWritten old new text (Some fault.Write) = AppendsFront old new text
+IsWritten old new text (Some Write) = AppendsFront old new text
 IsWritten old new text (Some _) = ⊥
 
 -- the fault was told, or that there is no memory for its line
 abbrev pub IsRefusedWith : Option (List ℕ) → Option (List ℕ) → ℕ → ℕ → NameLists → Fault → Option Fault → Type 0
 IsRefusedWith old new before now names wanted None = ⊥
-IsRefusedWith old new before now names wanted (Some told) = ((told ≡ wanted) ⊎ ((told ≡ fault.NoMemory) × IsFormatted wanted)) × IsTold old new before now (line_of names told)
+IsRefusedWith old new before now names wanted (Some told) = ((told ≡ wanted) ⊎ ((told ≡ NoMemory) × IsFormatted wanted)) × IsTold old new before now (line_of names told)

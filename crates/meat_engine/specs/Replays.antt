@@ -1,5 +1,5 @@
 -- What `replay` answers: the trip by a printed graph, as the delays come.
-use Rattle.std.specs.Prelude.{◌≡◌, ℕ, List, [], Option, None, Result, Ok, Err, IfSome}
+use Rattle.std.specs.Prelude.{◌≡◌, ◌⊎◌, ℕ, List, [], Option, None, Result, Ok, Err, IfSome}
 use Rattle.file_ports.specs.Ports.{Folder, file_at}
 use Rattle.csv_rows.specs.declared.limits.Limits.{Limits}
 use Rattle.plan_model.specs.NameLists.{NameLists}
@@ -20,23 +20,18 @@ use Rattle.meat_engine.specs.declared.report.Report.{Report}
 use Rattle.meat_engine.specs.declared.problem.Problem.{Problem}
 use Rattle.meat_engine.specs.declared.faults.Input.{Input}
 use Rattle.meat_engine.specs.declared.faults.Input.TheVariants as input
-use Rattle.meat_engine.specs.declared.faults.LimitKind.TheVariants.{Bytes}
 use Rattle.meat_engine.specs.declared.faults.Fault.{Fault}
-use Rattle.meat_engine.specs.declared.faults.Fault.TheVariants.{Missing, Limit, Read, GraphFile, Replay, NoMemory}
+use Rattle.meat_engine.specs.declared.faults.Fault.TheVariants.{GraphFile, Replay, NoMemory}
 use Rattle.meat_engine.specs.Faults.{unread_of}
-use Rattle.meat_engine.specs.Files.{bytes_of, and_then, IsEarly}
+use Rattle.meat_engine.specs.Files.{bytes_of, and_then, IsOfGraph}
 use Rattle.meat_engine.specs.Findings.{findings_of, replay_findings}
-use Rattle.meat_engine.specs.Problems.{IsProblemFault, InProblem}
+use Rattle.meat_engine.specs.Problems.{FailsEarly, InProblem}
 use Rattle.meat_engine.specs.Texts.{trace_text}
 
 -- a fault of a graph's text as one of the run
 abbrev pub text_as : TextFault → Fault
 text_as text.NoMemory = NoMemory
-text_as (text.Row line) = GraphFile (text.Row line)
-text_as (text.UnknownName line) = GraphFile (text.UnknownName line)
-text_as (text.NotRising line) = GraphFile (text.NotRising line)
-text_as (text.NoLeg line) = GraphFile (text.NoLeg line)
-text_as (text.OtherQuery line) = GraphFile (text.OtherQuery line)
+text_as fault = GraphFile fault
 
 abbrev pub graph_as : Result (Head × PlanGraph) TextFault → Result (Head × PlanGraph) Fault
 graph_as (Ok found) = Ok found
@@ -90,22 +85,13 @@ FailsTrip told limits r p fault = InGraphFile told limits r p (λ head graph. Is
 -- the first fault of the graph file is this one, where no file but that of the fault is unread
 abbrev pub FailsGraph : Option Folder → Limits → WantedReplay → Fault → Type 0
 FailsGraph told limits r fault =
-    InProblem told limits r.journey (λ p. IfSome told (λ files. graph_in limits p r.journey.start (unread_of fault) (file_at files r.graph) ≡ Err fault))
+    IsOfGraph fault
+    × InProblem told limits r.journey (λ p. IfSome told (λ files. graph_in limits p r.journey.start (unread_of fault) (file_at files r.graph) ≡ Err fault))
 
--- it is about the graph file
-abbrev pub IsOfGraph : Fault → Type 0
-IsOfGraph (GraphFile fault) = Unit {0}
-IsOfGraph (Missing file) = file ≡ input.Graph
-IsOfGraph (Read file) = file ≡ input.Graph
-IsOfGraph (Limit kind count) = kind ≡ Bytes input.Graph
-IsOfGraph _ = ⊥
-
--- why a replay has no answer, where these are the names of its timetable: the trip has a fault, or the graph file; or it is
+-- why a replay has no answer, where these are the names of its timetable: the trip has a fault; or the graph file; or it is
 -- the first fault of the files of the journey
 abbrev pub FailsReplay : Option Folder → Limits → WantedReplay → NameLists → Fault → Type 0
-FailsReplay told limits r names (Replay fault) = InProblem told limits r.journey (λ p. (p.names ≡ names) × FailsTrip told limits r p fault)
-FailsReplay told limits r names (GraphFile fault) = FailsGraph told limits r (GraphFile fault)
-FailsReplay told limits r names (Missing input.Graph) = FailsGraph told limits r (Missing input.Graph)
-FailsReplay told limits r names (Read input.Graph) = FailsGraph told limits r (Read input.Graph)
-FailsReplay told limits r names (Limit (Bytes input.Graph) count) = FailsGraph told limits r (Limit (Bytes input.Graph) count)
-FailsReplay told limits r names fault = IsEarly fault × IfSome told (λ files. IsProblemFault limits files r.journey fault)
+FailsReplay told limits r names fault =
+    ((stop : ReplayFault) × (fault ≡ Replay stop) × InProblem told limits r.journey (λ p. (p.names ≡ names) × FailsTrip told limits r p stop))
+    ⊎ (FailsGraph told limits r fault
+    ⊎ FailsEarly told limits r.journey fault)

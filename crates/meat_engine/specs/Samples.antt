@@ -1,5 +1,5 @@
 -- What `sample` answers: the plan of a journey over a timetable that is made.
-use Rattle.std.specs.Prelude.{◌≡◌, ℕ, List, Some, codes}
+use Rattle.std.specs.Prelude.{◌≡◌, ◌⊎◌, ℕ, List, None, Some, codes}
 use Rattle.file_ports.specs.Ports.{Folder}
 use Rattle.csv_rows.specs.declared.limits.Limits.{Limits}
 use Rattle.plan_model.specs.declared.model.Moment.{Moment}
@@ -14,7 +14,8 @@ use Rattle.command_line.specs.Jobs.{WantedSearch, FeedFolder}
 use Rattle.meat_engine.specs.declared.report.Report.{Report}
 use Rattle.meat_engine.specs.declared.problem.Problem.{Problem}
 use Rattle.meat_engine.specs.declared.faults.Fault.{Fault}
-use Rattle.meat_engine.specs.declared.faults.Fault.TheVariants.{Read, NoMemory}
+use Rattle.meat_engine.specs.declared.faults.Fault.TheVariants.{NoMemory}
+use Rattle.meat_engine.specs.Faults.{unread_of}
 use Rattle.meat_engine.specs.Answers.{IsAsked, FailsSearch}
 use Rattle.meat_engine.specs.Findings.{findings_of, sample_findings}
 use Rattle.meat_engine.specs.Problems.{InProblem}
@@ -46,8 +47,8 @@ OverMade size P = (files : Folder) × SameFolder (made size) files × P files
 abbrev pub AnswersSample : Limits → ℕ → Report → List ℕ → Type 0
 AnswersSample limits size report text = OverMade size (λ files. InProblem (Some files) limits sample_search.journey (λ p. IsSampled size p report text))
 
--- no made file fails to be read
+-- why a sample has no answer: there was no memory; or its search over the made files has none, and no file failed to be read
 abbrev pub FailsSample : Limits → ℕ → Fault → Type 0
-FailsSample limits size NoMemory = Unit {0}
-FailsSample limits size (Read input) = ⊥
-FailsSample limits size fault = OverMade size (λ files. FailsSearch (Some files) limits sample_search fault)
+FailsSample limits size fault =
+    (fault ≡ NoMemory)
+    ⊎ ((unread_of fault ≡ None) × OverMade size (λ files. FailsSearch (Some files) limits sample_search fault))

@@ -1,15 +1,13 @@
 //! What a search finds.
-ghost use Rattle.std.specs.Prelude.{◌≡◌, ◌≢◌, ◌<◌, ◌≤◌, length, Some, None, IfOk, IfErr, IfSome};
+ghost use Rattle.std.specs.Prelude.{◌<◌, ◌≤◌, length, Some, None, IfOk, IfErr, IfSome};
 ghost use Rattle.plan_model.specs.NameLists.{NamesFit};
-ghost use Rattle.plan_model.specs.Network.{IsValid};
 ghost use Rattle.plan_model.specs.Order.{IsScanOrder};
 ghost use Rattle.plan_model.specs.Strategy.{LeastWorst};
 ghost use Rattle.decision_graph.specs.Planned.{IsPlanned};
 ghost use Rattle.decision_graph.specs.Expanded.{IsExpanded};
 ghost use Rattle.command_line.specs.declared.options.Goal.TheVariants.{Safe, Expand, Plan};
-ghost use Rattle.command_line.specs.Ranges.{IsJourney};
-ghost use Rattle.command_line.specs.Shown.{search_shown, journey_shown};
-ghost use Rattle.meat_engine.specs.Answers.{IsAsked, IsPrintable, Tells, IsSought, FailsIn};
+ghost use Rattle.command_line.specs.Shown.{search_shown};
+ghost use Rattle.meat_engine.specs.Answers.{IsWorst, IsAsked, IsPrintable, Tells, IsSought, FailsIn};
 ghost use Rattle.meat_engine.specs.Findings.{findings_of};
 
 use crate::faults::Fault;
@@ -70,27 +68,30 @@ fn worst_of<B: BackwardOrder>(
     Ok(worst)
 }
 
-/// The query of a search.
-pub(crate) fn asked_of<B: BackwardOrder>(
+/// The query of a search, and an order for the scan that finds its graph.
+pub(crate) fn asked_of(
     alloc: Global,
-    order: &mut B,
     problem: &Problem,
     search: &SearchJob,
-) -> Result<Asked, Fault>
-    requires fits { B.fits order.old problem.now.network }
-    requires whole { IsScanOrder problem.now.network (B.rest order.old problem.now.network) }
+) -> Result<(Asked, MergedRuns), Fault>
     requires source { problem.now.source.0 < length problem.now.network.change }
     requires target { problem.now.target.0 < length problem.now.network.change }
     requires start { search.now.journey.start.0 ≤ 13569465599 }
     requires low { 100 ≤ search.now.alpha }
     requires high { search.now.alpha ≤ 1000 }
-    ensures asked { IfOk result (λ a. IsAsked problem.now (search_shown search.now) a.query a.worst) }
-    ensures printable { IfOk result (λ a. IsPrintable problem.now.network a.query a.worst) }
-    ensures none { IfErr result (FailsIn problem.now (search_shown search.now)) }
-    ensures fits { IfOk result (λ a. B.fits order.new problem.now.network) }
+    ensures asked { IfOk result (λ found.
+        IsAsked problem.now (search_shown search.now) found.0.query found.0.worst) }
+    ensures printable { IfOk result (λ found.
+        IsPrintable problem.now.network found.0.query found.0.worst) }
+    ensures fits { IfOk result (λ found.
+        ⟦<MergedRuns as BackwardOrder>⟧.fits found.1 problem.now.network) }
+    ensures fault { IfErr result (FailsIn problem.now (search_shown search.now)) }
 {
+    let Ok(mut order) = MergedRuns::new(alloc, &problem.network) else {
+        return Err(Fault::NoMemory);
+    };
     let start = search.journey.start;
-    match worst_of(alloc, order, problem, start) {
+    match worst_of(alloc, &mut order, problem, start) {
         Ok(None) => Err(Fault::NoSafe),
         Err(NoMemory) => Err(Fault::NoMemory),
         Ok(Some(worst)) => {
@@ -100,7 +101,7 @@ pub(crate) fn asked_of<B: BackwardOrder>(
                 start,
                 deadline: deadline(start, worst, search.alpha),
             };
-            Ok(Asked { query, worst })
+            Ok((Asked { query, worst }, order))
         }
     }
 }
@@ -129,17 +130,14 @@ fn expanded_of<B: BackwardOrder>(
     alloc: Global,
     order: &mut B,
     problem: &Problem,
-    search: &SearchJob,
     asked: Asked,
 ) -> Result<ExpandedPlan, NoMemory>
     requires fits { B.fits order.old problem.now.network }
-    requires asked { IsAsked problem.now (search_shown search.now) asked.query asked.worst }
+    requires least { IsWorst problem.now.network asked.query asked.worst }
     requires printable { IsPrintable problem.now.network asked.query asked.worst }
     ensures { IfOk result (λ found.
         IsExpanded problem.now.network asked.query found.graph found.bounds) }
 {
-    // What the search asks for is known to the proof alone.
-    let _ = search;
     order.rewind(&problem.network);
     match expand(alloc, order, &problem.network, &asked.query) {
         Err(fault) => Err(fault),
@@ -153,17 +151,14 @@ pub(crate) fn planned_of<B: BackwardOrder>(
     alloc: Global,
     order: &mut B,
     problem: &Problem,
-    search: &SearchJob,
     asked: Asked,
 ) -> Result<CompactPlan, NoMemory>
     requires fits { B.fits order.old problem.now.network }
-    requires asked { IsAsked problem.now (search_shown search.now) asked.query asked.worst }
+    requires least { IsWorst problem.now.network asked.query asked.worst }
     requires printable { IsPrintable problem.now.network asked.query asked.worst }
     ensures { IfOk result (λ found.
         IsPlanned problem.now.network asked.query found.graph found.bounds) }
 {
-    // What the search asks for is known to the proof alone.
-    let _ = search;
     order.rewind(&problem.network);
     match plan(alloc, order, &problem.network, &asked.query) {
         Err(fault) => Err(fault),
@@ -241,23 +236,23 @@ fn goal_answer<B: BackwardOrder>(
     alloc: Global,
     order: &mut B,
     problem: &Problem,
-    search: &SearchJob,
+    goal: Goal,
     asked: Asked,
 ) -> Result<Answer, NoMemory>
     requires fits { B.fits order.old problem.now.network }
     requires fit { NamesFit problem.now.names problem.now.network }
-    requires asked { IsAsked problem.now (search_shown search.now) asked.query asked.worst }
+    requires least { IsWorst problem.now.network asked.query asked.worst }
     requires printable { IsPrintable problem.now.network asked.query asked.worst }
-    ensures tells { IfOk result (λ a. Tells search.now.goal problem.now asked.query asked.worst
+    ensures tells { IfOk result (λ a. Tells goal problem.now asked.query asked.worst
         (findings_of a.report) a.text.items) }
 {
-    match search.goal {
+    match goal {
         Goal::Safe => safe_answer(alloc, problem, asked),
-        Goal::Expand => match expanded_of(alloc, order, problem, search, asked) {
+        Goal::Expand => match expanded_of(alloc, order, problem, asked) {
             Err(fault) => Err(fault),
             Ok(found) => expand_answer(alloc, problem, asked, found),
         },
-        Goal::Plan => match planned_of(alloc, order, problem, search, asked) {
+        Goal::Plan => match planned_of(alloc, order, problem, asked) {
             Err(fault) => Err(fault),
             Ok(found) => plan_answer(alloc, problem, asked, found),
         },
@@ -276,14 +271,11 @@ pub(crate) fn seek(alloc: Global, problem: &Problem, search: &SearchJob) -> Resu
         IsSought problem.now (search_shown search.now) a.report a.text.items) }
     ensures fault { IfErr result (FailsIn problem.now (search_shown search.now)) }
 {
-    let Ok(mut order) = MergedRuns::new(alloc, &problem.network) else {
-        return Err(Fault::NoMemory);
-    };
-    let asked = match asked_of(alloc, &mut order, problem, search) {
+    let (asked, mut order) = match asked_of(alloc, problem, search) {
         Err(fault) => return Err(fault),
-        Ok(asked) => asked,
+        Ok(found) => found,
     };
-    match goal_answer(alloc, &mut order, problem, search, asked) {
+    match goal_answer(alloc, &mut order, problem, search.goal, asked) {
         Err(NoMemory) => Err(Fault::NoMemory),
         Ok(answer) => Ok(answer),
     }

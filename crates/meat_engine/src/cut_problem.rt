@@ -6,27 +6,20 @@ ghost use Rattle.plan_model.specs.NameLists.{NamesFit};
 ghost use Rattle.plan_model.specs.Network.{IsValid};
 ghost use Rattle.command_line.specs.Shown.{journey_shown};
 ghost use Rattle.command_line.specs.Jobs.{CutFile};
-ghost use Rattle.meat_engine.specs.Faults.{IsFirst};
+ghost use Rattle.meat_engine.specs.Faults.{IsFirst, unread_of};
 ghost use Rattle.meat_engine.specs.Files.{path_by, HasCauses, IsEarly};
-ghost use Rattle.meat_engine.specs.CutProblems.{cut_problem_fault, IsCutProblem, IsNamed, IsUnknownStop, stop_fault};
+ghost use Rattle.meat_engine.specs.CutProblems.{cut_problem_fault, IsCutProblem, IsNamed, stop_fault};
 
-use crate::faults::{Fault, Input, Which};
+use crate::faults::{Fault, Which};
 use crate::inputs::{read_cut_file, read_delay_file};
-use crate::problem::Problem;
+use crate::problem::{Ends, Problem};
 use command_line::Journey;
 use csv_rows::Limits;
 use cut_file::CutTable;
 use delay_table::DelayTable;
 use file_ports::Files;
-use plan_model::{Names, PlaceId};
+use plan_model::Names;
 use std::alloc::Global;
-
-/// The ends of a journey.
-#[derive(Clone, Copy)]
-struct Ends {
-    source: PlaceId,
-    target: PlaceId,
-}
 
 /// The places that are named as the stops of a journey.
 fn ends_of(names: &Names, from: &str, to: &str) -> Result<Ends, Fault>
@@ -35,7 +28,8 @@ fn ends_of(names: &Names, from: &str, to: &str) -> Result<Ends, Fault>
     ensures none { OnOk result (stop_fault names.now.places from.now to.now ≡ None) }
     ensures fault { IfErr result (λ fault.
         stop_fault names.now.places from.now to.now ≡ Some fault) }
-    ensures unknown { IfErr result IsUnknownStop }
+    ensures early { IfErr result IsEarly }
+    ensures read { IfErr result (λ fault. unread_of fault ≡ None) }
 {
     let Some(source) = names.place(from) else {
         return Err(Fault::UnknownStop(Which::From));
@@ -64,19 +58,15 @@ fn problem_in(
         (stop_fault cut.now.places journey.now.from.now journey.now.to.now ≡ None) }
     ensures fault { IfErr result (λ fault. fault ≢ Fault.NoMemory
         → stop_fault cut.now.places journey.now.from.now journey.now.to.now ≡ Some fault) }
-    ensures unknown { IfErr result (λ fault. fault ≢ Fault.NoMemory → IsUnknownStop fault) }
+    ensures early { IfErr result IsEarly }
+    ensures read { IfErr result (λ fault. unread_of fault ≡ None) }
 {
     let Ok((network, names)) = cut.network(alloc, delays) else {
         return Err(Fault::NoMemory);
     };
     match ends_of(&names, journey.from, journey.to) {
         Err(fault) => Err(fault),
-        Ok(ends) => Ok(Problem {
-            network,
-            names,
-            source: ends.source,
-            target: ends.target,
-        }),
+        Ok(ends) => Ok(Problem::between(ends, network, names)),
     }
 }
 

@@ -16,7 +16,7 @@ ghost use Rattle.meat_engine.specs.Folders.{parts_of};
 
 use crate::faults::{Fault, Input, LimitKind, Which};
 use crate::inputs::read_delay_file;
-use crate::problem::Problem;
+use crate::problem::{Ends, Problem};
 use change_times::Changes;
 use command_line::Journey;
 use connections::{WindowFault, cut};
@@ -24,7 +24,6 @@ use csv_rows::{FeedFault, Limits};
 use delay_table::DelayTable;
 use file_ports::Files;
 use gtfs_tables::Feed;
-use plan_model::PlaceId;
 use service_days::Services;
 use std::alloc::Global;
 
@@ -86,13 +85,6 @@ fn fault_of(fault: FeedFault, limits: &Limits) -> Fault
         FeedFault::NoMemory => Fault::NoMemory,
         fault => Fault::Feed(fault),
     }
-}
-
-/// The ends of a journey.
-#[derive(Clone, Copy)]
-struct Ends {
-    source: PlaceId,
-    target: PlaceId,
 }
 
 /// The places of the stops of a journey.
@@ -159,12 +151,7 @@ fn window_problem(
     ) {
         Err(WindowFault::TooMany(count)) => Err(Fault::Limit(LimitKind::Connections, count)),
         Err(WindowFault::NoMemory) => Err(Fault::NoMemory),
-        Ok((network, names)) => Ok(Problem {
-            network,
-            names,
-            source: ends.source,
-            target: ends.target,
-        }),
+        Ok((network, names)) => Ok(Problem::between(ends, network, names)),
     }
 }
 

@@ -3,8 +3,7 @@ ghost use Rattle.std.specs.Prelude.{◌≡◌, ◌≢◌, ◌≤◌, None, IsSom
 ghost use Rattle.csv_rows.specs.Limits.{AreWithin};
 ghost use Rattle.file_ports.specs.Ports.{file_at};
 ghost use Rattle.meat_engine.specs.Faults.{MayBeUnread, unread_of};
-ghost use Rattle.meat_engine.specs.Files.{bytes_of, records_of, Finds, HasCauses, IsEarly};
-ghost use Rattle.meat_engine.specs.Replays.{IsOfGraph};
+ghost use Rattle.meat_engine.specs.Files.{bytes_of, records_of, Finds, HasCauses, IsEarly, IsOfGraph};
 ghost use Rattle.meat_engine.specs.CutProblems.{CutAgrees, DelayAgrees};
 
 use crate::faults::{Fault, Input, LimitKind};

@@ -24,6 +24,30 @@ pub(crate) struct Problem {
     pub target: PlaceId,
 }
 
+/// The ends of a journey.
+#[derive(Clone, Copy)]
+pub(crate) struct Ends {
+    pub source: PlaceId,
+    pub target: PlaceId,
+}
+
+impl Problem {
+    /// The problem of a journey between these ends.
+    pub(crate) fn between(ends: Ends, network: Network, names: Names) -> Problem
+        ensures network { result.network ≡ network }
+        ensures names { result.names ≡ names }
+        ensures source { result.source ≡ ends.source }
+        ensures target { result.target ≡ ends.target }
+    {
+        Problem {
+            network,
+            names,
+            source: ends.source,
+            target: ends.target,
+        }
+    }
+}
+
 /// The problem of a journey.
 pub(crate) fn problem_of<F: Files>(
     alloc: Global,

@@ -1,19 +1,19 @@
 //! The trip by a printed graph, as the delays come.
-ghost use Rattle.std.specs.Prelude.{◌≡◌, ◌≢◌, ◌<◌, ◌≤◌, ℕ, List as Bytes, length, Some, None, Ok, Err, IfOk, IfErr, IfSome, IsSome};
+ghost use Rattle.std.specs.Prelude.{◌≡◌, ◌≢◌, ◌<◌, ◌≤◌, length, Some, None, Ok, Err, IfOk, IfErr, IfSome, IsSome};
 ghost use Rattle.csv_rows.specs.Limits.{AreWithin};
-ghost use Rattle.plan_model.specs.NameLists.{NameLists, NamesFit};
+ghost use Rattle.plan_model.specs.NameLists.{NamesFit};
 ghost use Rattle.plan_graph.specs.Tidy.{IsFit};
 ghost use Rattle.graph_text.specs.Asked.{IsAsked as IsHeadOf};
 ghost use Rattle.graph_text.specs.Reading.{graph_of};
 ghost use Rattle.file_ports.specs.Ports.{file_at};
 ghost use Rattle.command_line.specs.Jobs.{late_in};
 ghost use Rattle.command_line.specs.Ranges.{IsJourney};
-ghost use Rattle.command_line.specs.Shown.{replay_shown, journey_shown};
+ghost use Rattle.command_line.specs.Shown.{replay_shown};
 ghost use Rattle.meat_engine.specs.Faults.{MayBeUnread, unread_of};
-ghost use Rattle.meat_engine.specs.Files.{path_of, Finds, HasCauses};
+ghost use Rattle.meat_engine.specs.Files.{path_of, Finds, HasCauses, IsOfGraph};
 ghost use Rattle.meat_engine.specs.Problems.{InProblem};
 ghost use Rattle.meat_engine.specs.Refusals.{IsPlaced, IsRefusalOf, IsTripRefusal, IsRefusalBy, by_fault};
-ghost use Rattle.meat_engine.specs.Replays.{graph_as, graph_in, IsOfGraph, IsTripTold, IsReplayed, FailsReplay};
+ghost use Rattle.meat_engine.specs.Replays.{graph_as, graph_in, IsTripTold, IsReplayed, FailsReplay};
 
 use crate::answers::Answer;
 use crate::faults::{Fault, Input};

@@ -1,7 +1,6 @@
 //! A plan over a timetable that is made.
 ghost use Rattle.std.specs.Prelude.{◌≡◌, ◌<◌, ◌≤◌, length, IfOk, IfErr};
 ghost use Rattle.csv_rows.specs.Limits.{AreWithin};
-ghost use Rattle.plan_model.specs.NameLists.{NamesFit};
 ghost use Rattle.command_line.specs.Shown.{search_shown};
 ghost use Rattle.meat_engine.specs.Answers.{FailsIn};
 ghost use Rattle.meat_engine.specs.Samples.{sample_search, IsSampled, AnswersSample, FailsSample};
@@ -12,7 +11,6 @@ use crate::problem::{Problem, problem_of};
 use crate::report::Report;
 use crate::texts::sample_text;
 use command_line::{Goal, Journey, SearchJob, Timetable};
-use connections::MergedRuns;
 use csv_rows::Limits;
 use feed_maker::make;
 use plan_model::{Moment, NoMemory};
@@ -49,14 +47,11 @@ fn sample_in(
     ensures sampled { IfOk result (λ a. IsSampled size problem.now a.report a.text.items) }
     ensures fault { IfErr result (FailsIn problem.now sample_search) }
 {
-    let Ok(mut order) = MergedRuns::new(alloc, &problem.network) else {
-        return Err(Fault::NoMemory);
-    };
-    let asked = match asked_of(alloc, &mut order, problem, search) {
+    let (asked, mut order) = match asked_of(alloc, problem, search) {
         Err(fault) => return Err(fault),
-        Ok(asked) => asked,
+        Ok(found) => found,
     };
-    let Ok(found) = planned_of(alloc, &mut order, problem, search, asked) else {
+    let Ok(found) = planned_of(alloc, &mut order, problem, asked) else {
         return Err(Fault::NoMemory);
     };
     let connections = problem.network.count();

@@ -1,5 +1,5 @@
 //! A search over its files.
-ghost use Rattle.std.specs.Prelude.{◌≡◌, ◌≢◌, ◌≤◌, [], IsSome, IfOk, IfErr};
+ghost use Rattle.std.specs.Prelude.{◌≡◌, ◌≤◌, [], IsSome, IfOk, IfErr};
 ghost use Rattle.csv_rows.specs.Limits.{AreWithin};
 ghost use Rattle.command_line.specs.Ranges.{IsJourney};
 ghost use Rattle.command_line.specs.Shown.{search_shown, journey_shown};
@@ -30,8 +30,8 @@ pub(crate) fn seek_over<F: Files>(
     ensures sought { IfOk result (λ a. InProblem (F.files files.old) limits.now
         (journey_shown search.now.journey)
         (λ p. IsSought p (search_shown search.now) a.report a.text.items)) }
-    ensures fault { IfErr result (λ fault. fault ≢ Fault.NoMemory
-        → FailsSearch (F.files files.old) limits.now (search_shown search.now) fault) }
+    ensures fault { IfErr result
+        (FailsSearch (F.files files.old) limits.now (search_shown search.now)) }
     ensures causes { HasCauses (IsSome (F.files files.old))
         (path_of (journey_shown search.now.journey) [])
         (F.faults files.old) (F.faults files.new)

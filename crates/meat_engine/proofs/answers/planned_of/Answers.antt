@@ -1,9 +1,8 @@
-use Rattle.command_line.specs.Shown.{search_shown}
 use Rattle.decision_graph.specs.Expanded.{NoneSafe}
 use Rattle.meat_engine.proofs.Sought.{none_is_safe, match_none}
 use Rattle.meat_engine.proofs.answers.planned_of.Goals as goal
 
 pub unreachable-requires : goal.unreachable-requires
 unreachable-requires g c =
-    none_is_safe c.args.problem.now (search_shown c.args.search.now) c.args.asked.query c.args.asked.worst c.requires.asked c.requires.printable
+    none_is_safe c.args.problem.now.network c.args.asked.query c.args.asked.worst c.requires.least c.requires.printable.deadline
     (match_none c.in-Ok-None.field-0 (NoneSafe c.args.problem.now.network c.args.asked.query) _ c.in-Ok-None.field-0-is c.in-Ok-None.ensures)

@@ -1,11 +1,11 @@
-use Rattle.std.proofs.Common.{[]}
+use Rattle.std.proofs.Common.{[], inr}
 use Rattle.command_line.specs.Shown.{search_shown}
-use Rattle.meat_engine.proofs.Search.{search_early, search_fails, fails_unread}
+use Rattle.meat_engine.proofs.Search.{search_fails, fails_unread}
 use Rattle.meat_engine.proofs.Causes.{causes-quiet, causes-as}
 use Rattle.meat_engine.proofs.searches.seek_over.Goals as goal
 
 pub returns-in-Err-clause-fault : goal.returns-in-Err-clause-fault
-returns-in-Err-clause-fault g c = λ other. search_early (g.F.Files.files c.args.files.now) c.args.limits.now (search_shown c.args.search.now) c.in-Err.fault c.in-Err.ensures.early c.in-Err.ensures.fault
+returns-in-Err-clause-fault g c = inr (c.in-Err.ensures.early, c.in-Err.ensures.fault)
 
 pub returns-in-Err-seek-clause-fault : goal.returns-in-Err-seek-clause-fault
 returns-in-Err-seek-clause-fault g c =

@@ -1,8 +1,9 @@
-use Rattle.std.proofs.Common.{◌≡◌, ◌∙◌, map, string_bytes, sym, subst, ⊎_elim}
+use Rattle.std.proofs.Common.{◌≡◌, ◌∙◌, inl, inr, map, string_bytes, sym, subst, ⊎_elim}
 use Rattle.command_line.specs.Shown.{shown}
 use Rattle.meat_engine.specs.declared.faults.Fault.TheVariants.{Words, Read, Write, NoMemory}
-use Rattle.meat_engine.specs.Received.{FailsJob, HasCause, IsTold}
-use Rattle.meat_engine.proofs.Outcomes.{keeps_same, no_names, words_lined, job_cause, write_fails, refused_outcome, answered_outcome, refused_some, refused_read, words_told}
+use Rattle.meat_engine.specs.Received.{FailsJob, IsTold}
+use Rattle.meat_engine.proofs.Outcomes.{keeps_same, words_lined, job_cause, write_fails, refused_outcome, answered_outcome, refused_some, refused_read, words_told}
+use Rattle.meat_engine.proofs.Nameless.{no_names}
 use Rattle.meat_engine.proofs.top.run_within.Goals as goal
 
 pub returns-in-Err-clause-outcome : goal.returns-in-Err-clause-outcome
@@ -10,7 +11,7 @@ returns-in-Err-clause-outcome g c =
     let told = g.F.Files.files c.args.files.now in
     let words = map string_bytes c.args.words.now in
     refused_outcome told c.args.limits.now words c.refuse.result (g.O.Sink.written c.args.out.now) (g.O.Sink.written c.args.out.now) _ _ _ _ no_names c.plain.result.fault c.refuse.result.fault c.refuse.ensures.findings (keeps_same (g.O.Sink.written c.args.out.now))
-    (subst (HasCause told c.args.limits.now words no_names) (sym c.plain.ensures.fault) (sym c.in-Err.ensures.job)) (λ write. let none = sym c.plain.ensures.fault ∙ write in absurd (cc))
+    (inr (inl (c.in-Err.fault, c.plain.ensures.fault, sym c.in-Err.ensures.job))) (λ write. let none = sym c.plain.ensures.fault ∙ write in absurd (cc))
     (c.refuse.ensures.told no_names (words_lined c.plain.result c.in-Err.fault no_names c.plain.ensures.fault c.plain.ensures.line))
 
 pub returns-in-Err-clause-quiet : goal.returns-in-Err-clause-quiet
