@@ -4,6 +4,8 @@
 mod job;
 mod options;
 mod settings;
+#[cfg(test)]
+mod tests;
 mod values;
 
 pub use job::{Job, Journey, ReplayJob, SearchJob, Timetable, WordsFault, read_job};
