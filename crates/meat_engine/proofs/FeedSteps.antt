@@ -12,13 +12,22 @@ use Rattle.meat_engine.specs.declared.faults.Fault.TheVariants.{NoMemory}
 use Rattle.meat_engine.specs.declared.problem.Problem.{Problem}
 use Rattle.meat_engine.specs.Faults.{IsFirst}
 use Rattle.meat_engine.specs.CutProblems.{AreDelaysOf, delay_fault}
-use Rattle.meat_engine.specs.FeedProblems.{FolderParts, IsFolder, IsWindowFault, IsFeedProblem, IsFeedProblemFault, window_count}
+use Rattle.meat_engine.specs.FeedProblems.{FolderParts, IsFolder, IsWindowFault, IsFeedProblem, IsFeedProblemFault, HasFeedTimetable, window_count}
 
 -- what holds of a told folder before and after a step that leaves it the same
 pub if_some_both : {A : Type 0} (o later : Option A) (P Q R : A → Type 0) → ((a : A) → P a → Q a → R a) → later ≡ o → IfSome o P → IfSome later Q → IfSome o R
 if_some_both None later P Q R f same p q = tt
 if_some_both (Some a) None P Q R f same p q = absurd (cc)
 if_some_both (Some a) (Some b) P Q R f same p q = let one : b ≡ a = (cc) in f a p (subst Q one q)
+
+-- a window of a feed is that of some feed
+pub feed_timetable : (horizon : ℕ) (j : WantedJourney) (h : FolderParts) (lists : DelayLists) (r : Result Problem Fault)
+    → IfOk r (λ p. IsNetworkFrom h.feed h.services h.changes lists j.start horizon p.network p.names)
+    → IfOk r (λ p. place_of_stop h.feed j.from ≡ Some p.source.0)
+    → IfOk r (λ p. place_of_stop h.feed j.to ≡ Some p.target.0)
+    → IfOk r (HasFeedTimetable horizon j)
+feed_timetable horizon j h lists (Ok p) network source target = (h, lists, record { is_network = network; source = source; target = target })
+feed_timetable horizon j h lists (Err fault) network source target = tt
 
 module _ (limits : Limits) (files : Folder) (folder : List ℕ) (horizon : ℕ) (j : WantedJourney) (h : FolderParts) (is : IsFolder limits files folder h) where
   pub after_folder : (fault : Fault) → IsFirst (delay_fault limits (file_at files j.delays)) fault → fault ≢ NoMemory → IsFeedProblemFault limits files folder horizon j fault
@@ -43,8 +52,6 @@ module _ (limits : Limits) (files : Folder) (folder : List ℕ) (horizon : ℕ) 
       no_delay_fault = sound;
       are_delays = are;
       few = few;
-      is_network = network;
-      source = source;
-      target = target;
+      timetable = record { is_network = network; source = source; target = target };
     }
     window_problem (Err fault) network few source target = tt

@@ -90,19 +90,27 @@ cut_problem_fault limits files path j unread =
 abbrev pub IsNamed : NameLists → ℕ → List ℕ → Type 0
 IsNamed names place name = slice_get names.places place ≡ Some name
 
--- no file has a fault; the network and the names are those of the cut file with the delays of the delay file; and the
--- journey goes from the place that is named as its first stop to that of its last
+-- the network and the names are those of a cut file of these parts with these delays; and the journey goes from the place
+-- that is named as its first stop to that of its last
+pub record IsCutTimetable (parts : CutParts) (lists : DelayLists) (j : WantedJourney) (p : Problem) : Type 0 where
+  pub is_network : IsNetwork parts lists p.network
+  pub places : p.names.places ≡ parts.places
+  pub runs : p.names.runs ≡ parts.runs
+  pub source : IsNamed p.names p.source.0 j.from
+  pub target : IsNamed p.names p.target.0 j.to
+
+-- this is so of some cut file and delays
+abbrev pub HasCutTimetable : WantedJourney → Problem → Type 0
+HasCutTimetable j p = (parts : CutParts) × (lists : DelayLists) × IsCutTimetable parts lists j p
+
+-- no file has a fault, and the timetable is that of the cut file with the delays of the delay file
 pub record IsCutProblem (limits : Limits) (files : Folder) (path : List ℕ) (j : WantedJourney) (p : Problem) : Type 0 where
   pub parts : CutParts
   pub lists : DelayLists
   pub no_fault : cut_problem_fault limits files path j None ≡ None
   pub is_cut : IsCutOf limits (file_at files path) parts
   pub are_delays : AreDelaysOf limits (file_at files j.delays) lists
-  pub is_network : IsNetwork parts lists p.network
-  pub places : p.names.places ≡ parts.places
-  pub runs : p.names.runs ≡ parts.runs
-  pub source : IsNamed p.names p.source.0 j.from
-  pub target : IsNamed p.names p.target.0 j.to
+  pub timetable : IsCutTimetable parts lists j p
 
 -- what reading each of the two files gives
 abbrev pub CutAgrees : Limits → Option (List ℕ) → Result CutParts Fault → Type 0

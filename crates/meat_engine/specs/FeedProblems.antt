@@ -85,8 +85,19 @@ IsFeedProblemFault limits files folder horizon j fault =
     ((g : FeedFault) × (fault ≡ feed_as limits g) × IsFolderFault limits files folder g)
     ⊎ ((h : FolderParts) × IsFolder limits files folder h × IsFaultAfterFolder limits files horizon j h fault)
 
--- no file has a fault; the network and the names are those of the window of the feed, which has not too many connections;
--- and the journey goes from the place of its first stop to that of its last
+-- the network and the names are those of the window of a feed of these parts with these delays; and the journey goes from
+-- the place of its first stop to that of its last
+pub record IsFeedTimetable (parts : FolderParts) (lists : DelayLists) (horizon : ℕ) (j : WantedJourney) (p : Problem) : Type 0 where
+  pub is_network : IsNetworkFrom parts.feed parts.services parts.changes lists j.start horizon p.network p.names
+  pub source : place_of_stop parts.feed j.from ≡ Some p.source.0
+  pub target : place_of_stop parts.feed j.to ≡ Some p.target.0
+
+-- this is so of some feed and delays
+abbrev pub HasFeedTimetable : ℕ → WantedJourney → Problem → Type 0
+HasFeedTimetable horizon j p = (parts : FolderParts) × (lists : DelayLists) × IsFeedTimetable parts lists horizon j p
+
+-- no file has a fault, the timetable is that of the feed with the delays of the delay file, and its window has not too many
+-- connections
 pub record IsFeedProblem (limits : Limits) (files : Folder) (folder : List ℕ) (horizon : ℕ) (j : WantedJourney) (p : Problem) : Type 0 where
   pub parts : FolderParts
   pub lists : DelayLists
@@ -94,6 +105,4 @@ pub record IsFeedProblem (limits : Limits) (files : Folder) (folder : List ℕ) 
   pub no_delay_fault : delay_fault limits (file_at files j.delays) None ≡ None
   pub are_delays : AreDelaysOf limits (file_at files j.delays) lists
   pub few : window_count horizon j parts ≤ limits.connections
-  pub is_network : IsNetworkFrom parts.feed parts.services parts.changes lists j.start horizon p.network p.names
-  pub source : place_of_stop parts.feed j.from ≡ Some p.source.0
-  pub target : place_of_stop parts.feed j.to ≡ Some p.target.0
+  pub timetable : IsFeedTimetable parts lists horizon j p

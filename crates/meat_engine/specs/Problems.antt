@@ -1,5 +1,5 @@
 -- The problem that a journey asks about, or its first fault.
-use Rattle.std.specs.Prelude.{◌≡◌, ◌≢◌, ℕ, ◌<◌, List, length, Option, Some, IfSome}
+use Rattle.std.specs.Prelude.{◌≡◌, ◌≢◌, Option, Some, IfSome}
 use Rattle.file_ports.specs.Ports.{Folder}
 use Rattle.csv_rows.specs.declared.limits.Limits.{Limits}
 use Rattle.plan_model.specs.Network.{IsValid}
@@ -10,8 +10,8 @@ use Rattle.meat_engine.specs.declared.faults.Fault.TheVariants.{NoMemory}
 use Rattle.meat_engine.specs.declared.problem.Problem.{Problem}
 use Rattle.meat_engine.specs.Faults.{unread_of}
 use Rattle.meat_engine.specs.Files.{IsEarly}
-use Rattle.meat_engine.specs.CutProblems.{cut_problem_fault, IsCutProblem, IsNamed}
-use Rattle.meat_engine.specs.FeedProblems.{IsFeedProblem, IsFeedProblemFault}
+use Rattle.meat_engine.specs.CutProblems.{cut_problem_fault, IsCutProblem, HasCutTimetable}
+use Rattle.meat_engine.specs.FeedProblems.{IsFeedProblem, IsFeedProblemFault, HasFeedTimetable}
 
 -- this is the problem of the journey, and its files have no fault
 abbrev pub IsProblemOver : Limits → Folder → WantedTimetable → WantedJourney → Problem → Type 0
@@ -33,16 +33,15 @@ IsProblemFault limits files j fault = fault ≢ NoMemory → IsProblemFaultOver 
 abbrev pub FailsEarly : Option Folder → Limits → WantedJourney → Fault → Type 0
 FailsEarly told limits j fault = IsEarly fault × IfSome told (λ files. IsProblemFault limits files j fault)
 
--- the ends of a journey are places; those of a cut file have the names of its stops
-abbrev pub IsEnd : WantedTimetable → Problem → ℕ → List ℕ → Type 0
-IsEnd (CutFile path) p place stop = IsNamed p.names place stop
-IsEnd (FeedFolder folder horizon) p place stop = place < length p.network.change
+-- the problem is that of the journey over some timetable with some delays
+abbrev pub HasTimetable : WantedTimetable → WantedJourney → Problem → Type 0
+HasTimetable (CutFile path) j p = HasCutTimetable j p
+HasTimetable (FeedFolder folder horizon) j p = HasFeedTimetable horizon j p
 
 pub record IsSound (j : WantedJourney) (p : Problem) : Type 0 where
   pub valid : IsValid p.network
   pub fit : NamesFit p.names p.network
-  pub source : IsEnd j.timetable p p.source.0 j.from
-  pub target : IsEnd j.timetable p p.target.0 j.to
+  pub timetable : HasTimetable j.timetable j p
 
 -- there is a problem of the journey, where the files are told theirs, of which this holds
 abbrev pub InProblem : Option Folder → Limits → WantedJourney → (Problem → Type 0) → Type 0

@@ -8,7 +8,7 @@ ghost use Rattle.command_line.specs.Shown.{journey_shown};
 ghost use Rattle.command_line.specs.Jobs.{CutFile};
 ghost use Rattle.meat_engine.specs.Faults.{IsFirst, unread_of};
 ghost use Rattle.meat_engine.specs.Files.{path_by, HasCauses, IsEarly};
-ghost use Rattle.meat_engine.specs.CutProblems.{cut_problem_fault, IsCutProblem, IsNamed, stop_fault};
+ghost use Rattle.meat_engine.specs.CutProblems.{cut_problem_fault, IsCutProblem, HasCutTimetable, IsNamed, stop_fault};
 
 use crate::faults::{Fault, Which};
 use crate::inputs::{read_cut_file, read_delay_file};
@@ -87,6 +87,7 @@ pub(crate) fn cut_problem<F: Files>(
     ensures early { IfErr result IsEarly }
     ensures valid { IfOk result (λ p. IsValid p.network) }
     ensures fit { IfOk result (λ p. NamesFit p.names p.network) }
+    ensures timetable { IfOk result (HasCutTimetable (journey_shown journey.now)) }
     ensures source { IfOk result (λ p. IsNamed p.names p.source.0 journey.now.from.now) }
     ensures target { IfOk result (λ p. IsNamed p.names p.target.0 journey.now.to.now) }
     ensures causes { (graph : Bytes ℕ) → HasCauses (IsSome (F.files files.old))

@@ -11,7 +11,7 @@ ghost use Rattle.command_line.specs.Jobs.{FeedFolder};
 ghost use Rattle.command_line.specs.Ranges.{IsJourney};
 ghost use Rattle.meat_engine.specs.Faults.{unread_of};
 ghost use Rattle.meat_engine.specs.Files.{path_by, HasCauses, IsEarly};
-ghost use Rattle.meat_engine.specs.FeedProblems.{feed_as, feed_stop_fault, window_count, IsFolder, IsFolderFault, IsWindowFault, IsFeedProblem, IsFeedProblemFault};
+ghost use Rattle.meat_engine.specs.FeedProblems.{feed_as, feed_stop_fault, window_count, IsFolder, IsFolderFault, IsWindowFault, IsFeedProblem, IsFeedProblemFault, HasFeedTimetable};
 ghost use Rattle.meat_engine.specs.Folders.{parts_of};
 
 use crate::faults::{Fault, Input, LimitKind, Which};
@@ -176,6 +176,7 @@ pub(crate) fn feed_problem<F: Files>(
     ensures early { IfErr result IsEarly }
     ensures valid { IfOk result (λ p. IsValid p.network) }
     ensures fit { IfOk result (λ p. NamesFit p.names p.network) }
+    ensures timetable { IfOk result (HasFeedTimetable horizon (journey_shown journey.now)) }
     ensures source { IfOk result (λ p. p.source.0 < length p.network.change) }
     ensures target { IfOk result (λ p. p.target.0 < length p.network.change) }
     ensures causes { (graph : Bytes ℕ) → HasCauses (IsSome (F.files files.old))

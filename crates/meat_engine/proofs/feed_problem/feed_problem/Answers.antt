@@ -7,7 +7,7 @@ use Rattle.meat_engine.specs.CutProblems.{AreDelaysOf, delay_fault}
 use Rattle.meat_engine.specs.FeedProblems.{IsFolder}
 use Rattle.meat_engine.specs.Folders.{parts_of}
 use Rattle.meat_engine.proofs.Causes.{causes-after}
-use Rattle.meat_engine.proofs.FeedSteps.{if_some_both, after_folder, window_fault, window_problem}
+use Rattle.meat_engine.proofs.FeedSteps.{if_some_both, after_folder, feed_timetable, window_fault, window_problem}
 use Rattle.meat_engine.proofs.feed_problem.feed_problem.Goals as goal
 
 pub returns-in-Err-read_delay_file-clause-fault : goal.returns-in-Err-read_delay_file-clause-fault
@@ -44,6 +44,11 @@ returns-clause-fault g c =
     (λ (m : Folder). IsFolder limits m folder h) (λ (m : Folder). (delay_fault limits (file_at m j.delays) None ≡ None) × AreDelaysOf limits (file_at m j.delays) lists) _
     (λ m is delays. window_fault limits m folder c.args.horizon j h is lists delays.0 delays.1 c.window_problem.result c.window_problem.ensures.fault)
     c.in-Ok.ensures.same c.in-Ok.ensures.folder c.in-Ok-read_delay_file.ensures.table
+
+pub returns-clause-timetable : goal.returns-clause-timetable
+returns-clause-timetable g c =
+    feed_timetable c.args.horizon (journey_shown c.args.journey.now) (parts_of c.in-Ok.tables) c.in-Ok-read_delay_file.delays
+    c.window_problem.result c.window_problem.ensures.network c.window_problem.ensures.source c.window_problem.ensures.target
 
 pub returns-clause-causes : goal.returns-clause-causes
 returns-clause-causes g c =
