@@ -331,7 +331,7 @@ fn written_reads_back(graph: &PlanGraph, head: &Head, network: &Network, names: 
     ensures { IsFit network.now head.now.query graph.now
         → head.now.query.start.0 ≤ head.now.query.deadline.0
         → IsReadAs network.now names.now head.now graph.now
-            (graph_text network.now names.now head.now graph.now) }
+        (graph_text network.now names.now head.now graph.now) }
 {
     let _ = graph;
     let _count = network.count();

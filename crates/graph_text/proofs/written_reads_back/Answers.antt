@@ -1,4 +1,4 @@
-use Rattle.std.proofs.Common.{◌≤◌, ◌<◌, ◌^◌, ℕ, refl, subst, arith}
+use Rattle.std.proofs.Common.{◌<◌, ◌^◌, ℕ, refl, subst}
 use Rattle.graph_text.proofs.ReadBack.{reads_back}
 use Rattle.graph_text.proofs.written_reads_back.Goals as goal
 
