@@ -1,12 +1,15 @@
-//! Graph files over a network of three buses: what is read of them, and the trips that are walked
-//! by them. A bus goes from A to B, and two go on from B to T.
-ghost use Rattle.std.specs.Prelude.{IfOk};
+//! Graph files over a network of three buses: what is written and read of them, and the trips that
+//! are walked by them. A bus goes from A to B, and two go on from B to T.
+ghost use Rattle.std.specs.Prelude.{◌≡◌, IfOk, length};
 ghost use Rattle.plan_model.specs.NameLists.{NamesFit};
 
+use crate::graphs::{EXPECTED, asked, expanded, limits, nanos, planned, rows_by_place};
 use csv_rows::{Limits, Rows};
 use cut_file::read_cut;
 use delay_table::DelayTable;
-use graph_text::{Head, TextFault, read, read_fits};
+use graph_text::{
+    Head, TextFault, fit_is_printable, read, read_fits, ready_is_printable, write, write_expanded,
+};
 use plan_graph::{GraphRow, PlanGraph};
 use plan_model::{ConnectionId, Leg, Moment, Names, Network, PlaceId, Query};
 use std::alloc::Global;
@@ -28,6 +31,18 @@ const SOONER: &str = "leg,2024-06-03T08:22:00,r2,1,2024-06-03T08:24:00,1,T,2024-
 const LATER: &str = "leg,2024-06-03T08:38:00,r3,1,2024-06-03T08:40:00,1,T,2024-06-03T09:06:00";
 
 const GRAPH: [&str; 5] = [HEAD, START, "place,B,120,2,,,,", SOONER, LATER];
+
+/// The text of the graph by ride.
+const EXPANDED: [&str; 8] = [
+    "expanded,1,A,T,2024-06-03T08:00:00,2024-06-03T10:42:00,2024-06-03T08:54:42.000000000,2024-06-03T08:54:42.000000000",
+    "start,2024-06-03T08:00:00,r1,1,2024-06-03T08:00:00,1,B,2024-06-03T08:20:00",
+    "ride,3,r1,1,2024-06-03T08:00:00,1,B,2024-06-03T08:20:00",
+    "next,2024-06-03T08:20:00,r2,1,2024-06-03T08:24:00,1,T,2024-06-03T08:50:00",
+    "next,2024-06-03T08:25:00,r3,1,2024-06-03T08:40:00,1,T,2024-06-03T09:06:00",
+    "next,2024-06-03T08:35:00,r3,1,2024-06-03T08:40:00,1,T,2024-06-03T09:06:00",
+    "ride,0,r2,1,2024-06-03T08:24:00,1,T,2024-06-03T08:50:00",
+    "ride,0,r3,1,2024-06-03T08:40:00,1,T,2024-06-03T09:06:00",
+];
 
 /// 2024-06-03 08:00:00.
 const EIGHT: u64 = 1_717_401_600;
@@ -93,7 +108,7 @@ fn fault_of(alloc: Global, lines: &[&str]) -> Result<Option<TextFault>, Fail> {
 }
 
 /// A ride of one connection.
-fn ride(connection: u32) -> Leg {
+pub(crate) fn ride(connection: u32) -> Leg {
     Leg {
         enter: ConnectionId(connection),
         exit: ConnectionId(connection),
@@ -144,7 +159,7 @@ fn reads_the_head(rt: HostRuntime) -> Result<(), Fail> {
 }
 
 /// A row by so many seconds after eight o'clock.
-fn row(by: u32, connection: u32) -> GraphRow {
+pub(crate) fn row(by: u32, connection: u32) -> GraphRow {
     GraphRow {
         by: Moment(EIGHT + u64::from(by)),
         leg: ride(connection),
@@ -288,5 +303,93 @@ fn is_stuck_where_a_row_is_missing(rt: HostRuntime) -> Result<(), Fail> {
     let fault = trip(rt.alloc(), lines.as_slice(), &[300, 900])?.err();
     let stuck = ReplayFault::Stuck(PlaceId(1), Moment(EIGHT + 1500));
     assert_eq!(rt; fault, Some(stuck));
+    Ok(())
+}
+
+/// The network of the three buses, and its names.
+fn named(alloc: Global) -> Result<(Network, Names), Fail>
+    ensures fit { IfOk result (λ parts. NamesFit parts.1 parts.0) }
+    ensures places { IfOk result (λ parts. length parts.0.change ≡ 3) }
+{
+    let (network, names) = network(alloc)?;
+    if network.places() != 3 {
+        return Err("not three places".into());
+    }
+    Ok((network, names))
+}
+
+/// The text of the graph by place.
+fn plan_text(alloc: Global, network: &Network, names: &Names) -> Result<Vec<u8>, Fail>
+    requires fit { NamesFit names.now network.now }
+    requires places { length network.now.change ≡ 3 }
+{
+    let query = asked(2);
+    let found = planned(alloc, network, &query)?;
+    let head = Head {
+        query,
+        bounds: found.bounds,
+    };
+    let _count = network.count();
+    fit_is_printable();
+    match write(alloc, &found.graph, &head, network, names) {
+        Ok(text) => Ok(text),
+        Err(_) => Err("no memory to write".into()),
+    }
+}
+
+/// The text of the graph by ride.
+fn expanded_text(alloc: Global, network: &Network, names: &Names) -> Result<Vec<u8>, Fail>
+    requires fit { NamesFit names.now network.now }
+    requires places { length network.now.change ≡ 3 }
+{
+    let query = asked(2);
+    let found = expanded(alloc, network, &query)?;
+    let head = Head {
+        query,
+        bounds: found.bounds,
+    };
+    let _count = network.count();
+    ready_is_printable();
+    match write_expanded(alloc, &found.graph, &head, network, names) {
+        Ok(text) => Ok(text),
+        Err(_) => Err("no memory to write".into()),
+    }
+}
+
+#[test]
+fn writes_the_expanded_graph(rt: HostRuntime) -> Result<(), Fail> {
+    let (network, names) = named(rt.alloc())?;
+    let text = expanded_text(rt.alloc(), &network, &names)?;
+    let want = text_of(rt.alloc(), EXPANDED.as_slice(), "\n")?;
+    assert_eq!(rt;
+        std::str::from_utf8(text.as_slice()).ok(),
+        Some(want.as_str())
+    );
+    Ok(())
+}
+
+#[test]
+fn writes_the_plan(rt: HostRuntime) -> Result<(), Fail> {
+    let (network, names) = named(rt.alloc())?;
+    let text = plan_text(rt.alloc(), &network, &names)?;
+    let want = text_of(rt.alloc(), GRAPH.as_slice(), "\n")?;
+    assert_eq!(rt;
+        std::str::from_utf8(text.as_slice()).ok(),
+        Some(want.as_str())
+    );
+    Ok(())
+}
+
+#[test]
+fn reads_the_written_plan_back(rt: HostRuntime) -> Result<(), Fail> {
+    let (network, names) = named(rt.alloc())?;
+    let text = plan_text(rt.alloc(), &network, &names)?;
+    let text = std::str::from_utf8(text.as_slice())?;
+    let Ok((head, graph)) = graph_of(rt.alloc(), text)? else {
+        return Err("no graph".into());
+    };
+    assert_eq!(rt; head.query, asked(2));
+    assert_eq!(rt; nanos(head.bounds), (EXPECTED, EXPECTED));
+    assert_eq!(rt; rows_by_place(&graph)?, limits().as_slice());
     Ok(())
 }

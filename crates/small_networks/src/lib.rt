@@ -1,14 +1,17 @@
 //! Small networks, over which the scan and the least worst arrival are compared with values that
-//! were worked out by hand, and with the plain backward pass; and over which graph files are read
-//! and walked.
+//! were worked out by hand, and with the plain backward pass; over which graphs are made and
+//! written; and over which graph files are read and walked.
 #![tactic(auto)]
 
 ghost use Rattle.std.specs.Prelude.{◌≡◌, ◌≢◌, ℕ, ◌<◌, ◌≤◌, length, ◌+◌, IsTrue, IfOk, IfSome};
 ghost use Rattle.plan_model.specs.Rows.{IsValidRow};
+ghost use Rattle.meat_scan.specs.Solves.{Solves};
 ghost use Rattle.small_networks.specs.Rides.{IsInRange, Follows, AreChained};
 
 #[cfg(test)]
 mod graph_files;
+#[cfg(test)]
+mod graphs;
 
 #[cfg(test)]
 mod tests {
@@ -23,10 +26,10 @@ mod tests {
     use value_laws::{MeanSpan, Score, WorstMoment};
 
     // 2024-06-03 08:00:00, from which the times of the rides count.
-    const START: u64 = 1_717_401_600;
+    pub(crate) const START: u64 = 1_717_401_600;
 
     // A ride of a run, from a place to another.
-    fn ride(run: u32, step: u32, from: u32, to: u32, dep: u64, arr: u64) -> Connection
+    pub(crate) fn ride(run: u32, step: u32, from: u32, to: u32, dep: u64, arr: u64) -> Connection
         requires dep { dep < 1000000 }
         requires arr { arr < 1000000 }
     {
@@ -105,7 +108,11 @@ mod tests {
     }
 
     // The network of these rides, with the usual delays and two minutes for a change at each place.
-    fn network_of(alloc: Global, rides: &[Connection], places: u32) -> Result<Network, Fail>
+    pub(crate) fn network_of(
+        alloc: Global,
+        rides: &[Connection],
+        places: u32,
+    ) -> Result<Network, Fail>
         ensures { IfOk result (λ network. length network.change ≡ places) }
     {
         if !are_chained(rides, places) {
@@ -119,10 +126,12 @@ mod tests {
     }
 
     // What is asked, from a place to another at a moment.
-    fn query(source: u32, target: u32, start: u64, deadline: Moment) -> Query
+    pub(crate) fn query(source: u32, target: u32, start: u64, deadline: Moment) -> Query
         requires { start < 1000000 }
         ensures source { result.source.0 ≡ source }
         ensures target { result.target.0 ≡ target }
+        ensures start { result.start.0 ≡ 1717401600 + start }
+        ensures deadline { result.deadline.0 ≡ deadline.0 }
     {
         Query {
             source: PlaceId(source),
@@ -140,12 +149,18 @@ mod tests {
     }
 
     // What a scan finds, by any score.
-    fn solved<V: Score>(alloc: Global, network: &Network, query: &Query) -> Result<Scanned<V>, Fail>
+    pub(crate) fn solved<V: Score>(
+        alloc: Global,
+        network: &Network,
+        query: &Query,
+    ) -> Result<Scanned<V>, Fail>
         requires source { query.now.source.0 < length network.now.change }
         requires target { query.now.target.0 < length network.now.change }
         requires differ { query.now.source.0 ≢ query.now.target.0 }
         ensures places { IfOk result (λ found. length found.rows ≡ length network.now.change) }
         ensures target { IfOk result (λ found. found.target ≡ query.now.target.0) }
+        ensures solves { IfOk result (λ found.
+            Solves V.below V.covers V.gap found network.now query.now) }
     {
         let mut order = SortedOrder::new(alloc, network)?;
         let tables = ScanTables::reserve(alloc, network)?;
@@ -222,7 +237,7 @@ mod tests {
     }
 
     // Two rides go on from where the first one ends.
-    fn two_ways_on(dep: u64) -> [Connection; 3]
+    pub(crate) fn two_ways_on(dep: u64) -> [Connection; 3]
         requires { dep < 1000000 }
     {
         [
