@@ -21,10 +21,8 @@ fn add_run(names: &mut Names, name: &str) -> Result<bool, NoMemory>
     requires { length names.old.runs < 9 }
     ensures { OnOk result (length names.new.runs ≤ length names.old.runs + 1) }
 {
-    match names.add_run(name) {
-        Ok(added) => Ok(added),
-        Err(fault) => Err(fault),
-    }
+    let added = names.add_run(name)?;
+    Ok(added)
 }
 
 /// Three runs and two places.
