@@ -1,6 +1,4 @@
 //! Lists, names and the scan order of a network.
-ghost use Rattle.std.specs.Prelude.{◌+◌, ◌<◌, ◌≤◌, length, OnOk};
-
 use crate::tests::{network_of, ride};
 use plan_model::{
     BackwardOrder, ConnectionId, List, Names, Network, NoMemory, PlaceId, RunId, SortedOrder,
@@ -8,31 +6,14 @@ use plan_model::{
 use std::alloc::Global;
 use std::test::Fail;
 
-/// Adds the name of a place to a few, and says whether it is new.
-fn add_place(names: &mut Names, name: &str) -> Result<bool, NoMemory> {
-    if names.places() > 9 {
-        return Err(NoMemory);
-    }
-    names.add_place(name)
-}
-
-/// Adds the name of a run to a few, and says whether it is new.
-fn add_run(names: &mut Names, name: &str) -> Result<bool, NoMemory>
-    requires { length names.old.runs < 9 }
-    ensures { OnOk result (length names.new.runs ≤ length names.old.runs + 1) }
-{
-    let added = names.add_run(name)?;
-    Ok(added)
-}
-
 /// Three runs and two places.
 fn names_of(alloc: Global) -> Result<Names, NoMemory> {
     let mut names = Names::new(alloc);
-    add_run(&mut names, "t100")?;
-    add_run(&mut names, "b200")?;
-    add_run(&mut names, "b201")?;
-    add_place(&mut names, "Mill")?;
-    add_place(&mut names, "Old Town")?;
+    names.add_run("t100")?;
+    names.add_run("b200")?;
+    names.add_run("b201")?;
+    names.add_place("Mill")?;
+    names.add_place("Old Town")?;
     Ok(names)
 }
 
@@ -52,7 +33,7 @@ fn run_text<'a>(names: &'a Names, name: &str) -> Option<&'a str> {
     }
 }
 
-/// The names of these places, by their numbers.
+/// Whether each of those has the number in the order of its adding.
 fn has_names(names: &Names) -> bool {
     names.places() == 2
         && names.place("Mill") == Some(PlaceId(0))
@@ -84,9 +65,9 @@ fn finds_no_other_names(rt: HostRuntime) -> Result<(), Fail> {
 #[test]
 fn adds_no_place_twice(rt: HostRuntime) -> Result<(), Fail> {
     let mut names = Names::new(rt.alloc());
-    assert!(rt; add_place(&mut names, "Mill")?);
-    assert!(rt; !add_place(&mut names, "Mill")?);
-    assert!(rt; add_place(&mut names, "mill")?);
+    assert!(rt; names.add_place("Mill")?);
+    assert!(rt; !names.add_place("Mill")?);
+    assert!(rt; names.add_place("mill")?);
     assert_eq!(rt; names.places(), 2);
     assert_eq!(rt; names.place("mill"), Some(PlaceId(1)));
     Ok(())
@@ -95,9 +76,9 @@ fn adds_no_place_twice(rt: HostRuntime) -> Result<(), Fail> {
 #[test]
 fn adds_no_run_twice(rt: HostRuntime) -> Result<(), Fail> {
     let mut names = Names::new(rt.alloc());
-    assert!(rt; add_run(&mut names, "t100")?);
-    assert!(rt; !add_run(&mut names, "t100")?);
-    assert!(rt; add_run(&mut names, "b200")?);
+    assert!(rt; names.add_run("t100")?);
+    assert!(rt; !names.add_run("t100")?);
+    assert!(rt; names.add_run("b200")?);
     assert_eq!(rt; names.run("b200"), Some(RunId(1)));
     assert_eq!(rt; names.places(), 0);
     Ok(())
@@ -107,7 +88,8 @@ fn adds_no_run_twice(rt: HostRuntime) -> Result<(), Fail> {
 fn copies_names_with_their_numbers(rt: HostRuntime) -> Result<(), Fail> {
     let mut names = names_of(rt.alloc())?;
     let copy = names.try_clone(rt.alloc())?;
-    add_place(&mut names, "Airport")?;
+    assert_eq!(rt; names.places(), 2);
+    names.add_place("Airport")?;
     assert!(rt; has_names(&copy));
     assert_eq!(rt; copy.place("Airport"), None);
     Ok(())
