@@ -1,6 +1,6 @@
 //! Small networks, over which the scan and the least worst arrival are compared with values that
 //! were worked out by hand, and with the plain backward pass; over which graphs are made and
-//! written; and over which graph files are read and walked.
+//! written; and over which graph files are read and walked. Lists, names and orders besides.
 #![tactic(auto)]
 
 ghost use Rattle.std.specs.Prelude.{◌≡◌, ◌≢◌, ℕ, ◌<◌, ◌≤◌, length, ◌+◌, IsTrue, IfOk, IfSome};
@@ -12,6 +12,8 @@ ghost use Rattle.small_networks.specs.Rides.{IsInRange, Follows, AreChained};
 mod graph_files;
 #[cfg(test)]
 mod graphs;
+#[cfg(test)]
+mod names_and_orders;
 
 #[cfg(test)]
 mod tests {
