@@ -1,6 +1,8 @@
 //! `meat` plans journeys in timetables whose trips may arrive late.
 #![tactic(auto)]
 
+ghost use Rattle.std.specs.Prelude.{◌≡◌, ◌⊎◌, IfErr};
+
 use file_ports::{HostFiles, HostSink};
 use meat_engine::run;
 use std::alloc::Global;
@@ -11,7 +13,9 @@ use std::process::ExitCode;
 
 /// The words after the program's name, or the status that the process ends with: 9 where there is
 /// no memory for them, and 2 where a word is not UTF-8.
-fn words(rt: &(impl Env + AllocGlobal)) -> Result<Vec<String>, u8> {
+fn words(rt: &(impl Env + AllocGlobal)) -> Result<Vec<String>, u8>
+    ensures { IfErr result (λ status. (status ≡ 2) ⊎ (status ≡ 9)) }
+{
     let all = match env::args(rt) {
         Ok(all) => all,
         Err(error) => {
