@@ -12,3 +12,5 @@ pub mod Samples
 pub mod Replays
 pub mod Refusals
 pub mod Received
+pub mod Ends
+pub mod Calls
