@@ -13,3 +13,4 @@ pub mod StartLemmas
 pub mod ScanLemmas
 pub mod StretchLemmas
 pub mod TournamentLemmas
+pub mod SkipLemmas

@@ -61,22 +61,9 @@ shown-some n starts left r h = cond-true (ltb (get_or starts r 0) (get_or left r
 
 -- one connection of a run is given
 module _ (n : Parts) (starts left : List ℕ) (run : ℕ) where
-  pub shown-set_other : (r : ℕ) → (r ≡ run → ⊥) → shown n starts (set left run (get_or left run 0 - 1)) r ≡ shown n starts left r
+  pub shown-set_other : (end r : ℕ) → (r ≡ run → ⊥) → shown n starts (set left run end) r ≡ shown n starts left r
   unfolding shown
-  shown-set_other r other = rw (get_or-set_other left run r (get_or left run 0 - 1) 0 other)
-
-  pub shown-set_same : IsValid n → AreStretches n starts left → run < length left → get_or starts run 0 < get_or left run 0 → shown n starts (set left run (get_or left run 0 - 1)) run ≤ shown n starts left run
-  shown-set_same v s h some =
-      let end : ℕ = get_or left run 0 in
-      let less : List ℕ = set left run (end - 1) in
-      let now : get_or less run 0 ≡ end - 1 = get_or-set_same left run (end - 1) 0 h in
-      ⊎_elim (λ more.
-      let first = run_between n starts s.begin run (end - 1 - 1) (omega (arith, s.size)) (omega arith) (omega (arith, (s.within run h).1)) in
-      let second = run_between n starts s.begin run (end - 1) (omega (arith, s.size)) (omega arith) (omega (arith, (s.within run h).1)) in
-      let up = rank_along n v (end - 1 - 1) (end - 1) (omega arith) second.0 (first.1 ∙ sym second.1) in
-      omega (arith, up, shown-some n starts left run some, shown-some n starts less run (omega (arith, now)), ap (λ (x : ℕ). rank n (x - 1)) now))
-      (λ none. omega (arith, shown-none n starts less run (omega (arith, now))))
-      (cases_lt (get_or starts run 0) (end - 1))
+  shown-set_other end r other = rw (get_or-set_other left run r end 0 other)
 
   pub AreStretches-set : AreStretches n starts left → run < length left → get_or starts run 0 < get_or left run 0 → AreStretches n starts (set left run (get_or left run 0 - 1))
   AreStretches-set s h some =
@@ -93,7 +80,7 @@ filter_all p [] all = refl
 filter_all p (id ∷ ids) all =
     cond-true (p id) (id ∷ filter p ids) (filter p ids) (All-head (λ (x : ConnectionId). p x ≡ true) id ids all) ∙ ap (λ (zs : List ConnectionId). id ∷ zs) (filter_all p ids (All-tail (λ (x : ConnectionId). p x ≡ true) id ids all))
 
-filter_none : (p : ConnectionId → Bool) (ids : List ConnectionId) → All (λ id. p id ≡ false) ids → filter p ids ≡ []
+pub filter_none : (p : ConnectionId → Bool) (ids : List ConnectionId) → All (λ id. p id ≡ false) ids → filter p ids ≡ []
 filter_none p [] none = refl
 filter_none p (id ∷ ids) none =
     cond-false (p id) (id ∷ filter p ids) (filter p ids) (All-head (λ (x : ConnectionId). p x ≡ false) id ids none) ∙ filter_none p ids (All-tail (λ (x : ConnectionId). p x ≡ false) id ids none)
@@ -132,7 +119,7 @@ same_test : (i end : ℕ) → (i ≡ end - 1 → ⊥) → ltb i (end - 1) ≡ lt
 same_test i end other =
     ⊎_elim (λ less. lt-ltb i (end - 1) less ∙ sym (lt-ltb i end (omega arith))) (λ ge. le-ltb i (end - 1) ge ∙ sym (le-ltb i end (omega arith))) (cases_lt i (end - 1))
 
-waiting : (n : Parts) (left : List ℕ) (i : ℕ) → i < get_or left (run_of n i) 0 → run_of n i < length left
+pub waiting : (n : Parts) (left : List ℕ) (i : ℕ) → i < get_or left (run_of n i) 0 → run_of n i < length left
 waiting n left i h = ⊎_elim (λ less. less) (λ ge. absurd (omega (arith, h, get_or_past left (run_of n i) 0 ge))) (cases_lt (run_of n i) (length left))
 
 -- no connection that is left ranks above what its run shows

@@ -55,23 +55,32 @@ above (suc rounds) k = above rounds k / 2
 abbrev pub IsOver : ℕ → ℕ → Type 0
 IsOver k leaf = (rounds : ℕ) × (above rounds leaf ≡ k)
 
--- run w is a run below node k, and none of these shows a later connection
-pub record IsWinner (n : Parts) (starts left : List ℕ) (k w : ℕ) : Type 0 where
-  pub run : w < length left
-  pub below : IsOver k (length left + w)
-  pub best : (r : ℕ) → r < length left → IsOver k (length left + r) → shown n starts left r ≤ shown n starts left w
+-- the greatest key below node k is that of a run below it
+pub record IsWinner (n : Parts) (starts left : List ℕ) (k key : ℕ) : Type 0 where
+  pub run : ℕ
+  pub within : run < length left
+  pub below : IsOver k (length left + run)
+  pub own : key ≡ shown n starts left run
+  pub best : (r : ℕ) → r < length left → IsOver k (length left + r) → shown n starts left r ≤ key
 
--- each node has its winner
-pub record IsTournament (n : Parts) (starts left winners : List ℕ) : Type 0 where
-  pub size : length winners ≡ 2 * length left
-  pub each : (k : ℕ) → 0 < k → k < 2 * length left → IsWinner n starts left k (slice_index winners k)
-
--- the last nodes are the runs
-pub record HasRunsLast (runs : ℕ) (winners : List ℕ) : Type 0 where
-  pub size : length winners ≡ 2 * runs
-  pub leaves : (r : ℕ) → r < runs → slice_index winners (runs + r) ≡ r
+-- each node has the greatest key below it
+pub record IsTournament (n : Parts) (starts left keys : List ℕ) : Type 0 where
+  pub size : length keys ≡ 2 * length left
+  pub each : (k : ℕ) → 0 < k → k < 2 * length left → IsWinner n starts left k (slice_index keys k)
 
 -- what is left of the runs, and the tournament over it
-pub record IsMerge (n : Parts) (starts left winners : List ℕ) : Type 0 where
+pub record IsMerge (n : Parts) (starts left keys : List ℕ) : Type 0 where
   pub stretches : AreStretches n starts left
-  pub tournament : IsTournament n starts left winners
+  pub tournament : IsTournament n starts left keys
+
+-- departures do not fall between two positions
+abbrev pub DepartsInOrder : Parts → ℕ → ℕ → Type 0
+DepartsInOrder n from to = (i j : ℕ) → from ≤ i → i ≤ j → j < to → dep_of n i ≤ dep_of n j
+
+-- between two positions, the connections before low depart by a moment, and those from high on after it
+pub record IsParted (n : Parts) (last from low high to : ℕ) : Type 0 where
+  pub begin : from ≤ low
+  pub ordered : low ≤ high
+  pub end : high ≤ to
+  pub soon : (i : ℕ) → from ≤ i → i < low → dep_of n i ≤ last
+  pub late : (i : ℕ) → high ≤ i → i < to → last < dep_of n i

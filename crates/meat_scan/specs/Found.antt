@@ -1,5 +1,5 @@
 -- What a scan found, and the trees that it chooses.
-use Rattle.std.specs.Prelude.{ℕ, List, [], Option, Some, slice_index_or}
+use Rattle.std.specs.Prelude.{ℕ, List, [], Option, Some, slice_index_or, map}
 use Rattle.std.specs.Option.{option_map}
 use Rattle.plan_model.specs.declared.model.Leg.{Leg}
 use Rattle.plan_model.specs.declared.model.Query.{Query}
@@ -8,12 +8,17 @@ use Rattle.plan_model.specs.Tree.{Tree}
 use Rattle.plan_model.specs.Unfold.{unfold_from, unfolded, by_place}
 use Rattle.stop_profile.specs.declared.Row.{Row}
 use Rattle.stop_profile.specs.Inserts.{picked}
+use Rattle.meat_scan.specs.Tables.{Tables}
 
 -- the start leg with its value, the rows of each place, and the target of the scan
 pub record Found (V : Type 0) : Type 0 where
   pub start : Option (V × Leg)
   pub rows : List (List (Row V))
   pub target : ℕ
+
+-- what the tables hold after a scan
+abbrev pub found_in : {V : Type 0} → Tables V → Option (V × Leg) → ℕ → Found V
+found_in tables start target = record { start = start; rows = map (λ profile. profile.rows) tables.profiles; target = target }
 
 -- the rows of a place
 abbrev pub found_rows : {V : Type 0} → Found V → ℕ → List (Row V)

@@ -1,5 +1,5 @@
 -- What a scan gives: the best of all safe strategies, from the start and from each place.
-use Rattle.std.specs.Prelude.{◌≡◌, ◌≢◌, ℕ, ◌<◌, ◌≤◌, Some, MatchOption, length}
+use Rattle.std.specs.Prelude.{◌≡◌, ◌≢◌, ℕ, ◌<◌, ◌≤◌, Option, Some, MatchOption, length}
 use Rattle.plan_model.specs.declared.model.Leg.{Leg}
 use Rattle.plan_model.specs.declared.model.Query.{Query}
 use Rattle.plan_model.specs.Parts.{Parts}
@@ -45,3 +45,15 @@ pub record Solves {V : Type 0} (below covers : V → Tree → Type 0) (gap : V �
   pub target_there : q.target.0 < length n.change
   pub differ : q.source.0 ≢ q.target.0
   pub answers : Answers below covers gap n q found
+
+-- a strategy that the value covers is safe, and it is below each safe one, within the gap
+pub record IsStartValue {V : Type 0} (below covers : V → Tree → Type 0) (gap : V → ℕ) (n : Parts) (q : Query) (value : V) : Type 0 where
+  pub tree : Tree
+  pub safe : IsSafeFor n q tree
+  pub covers_tree : covers value tree
+  pub below_safe : (other : Tree) → IsSafeFor n q other → below value other
+  pub gap_within : gap value ≤ count n
+
+-- the value of the start; none exactly where nothing is safe
+abbrev pub SolvesStart : {V : Type 0} → (below covers : V → Tree → Type 0) → (V → ℕ) → Parts → Query → Option V → Type 0
+SolvesStart below covers gap n q value = MatchOption value ((tree : Tree) → IsSafeFor n q tree → ⊥) (IsStartValue below covers gap n q)

@@ -1,5 +1,5 @@
 -- The tables of a scan.
-use Rattle.std.specs.Prelude.{◌≡◌, ℕ, ◌<◌, ◌≤◌, Bool, List, [], length, Option, None, is_some, slice_index_or, count_by, if◌then◌else◌}
+use Rattle.std.specs.Prelude.{◌≡◌, ℕ, ◌+◌, ◌<◌, ◌≤◌, Bool, List, [], length, Option, None, is_some, slice_index_or, count_by, if◌then◌else◌}
 use Rattle.plan_model.specs.declared.model.ConnectionId.{ConnectionId}
 use Rattle.plan_model.specs.Parts.{Parts}
 use Rattle.plan_model.specs.Ways.{way_of}
@@ -20,6 +20,10 @@ rows_at profiles place = (slice_index_or profiles place no_profile).rows
 -- the room of each place
 abbrev pub spare_at : {V : Type 0} → List (Shown V) → ℕ → ℕ
 spare_at profiles place = (slice_index_or profiles place no_profile).spare
+
+-- the room of each place, with what its rows take
+abbrev pub room_at : {V : Type 0} → List (Shown V) → ℕ → ℕ
+room_at profiles place = spare_at profiles place + length (rows_at profiles place)
 
 -- the exit of each run
 abbrev pub exit_at : {V : Type 0} → List (Option (Exit V)) → ℕ → Option (Exit V)

@@ -11,12 +11,13 @@
 ghost use Rattle.std.specs.Prelude.{◌≡◌, ◌≢◌, ℕ, ◌+◌, ◌-◌, ◌<◌, ◌≤◌, length, All, Some, None, MatchBool, take, Option, [], IfOk, slice_index, count_by, ◌==◌, if◌then◌else◌};
 ghost use Rattle.plan_model.specs.Network.{count, from_of, run_of, IsValid};
 ghost use Rattle.plan_model.specs.Order.{IsScanOrder};
-ghost use Rattle.meat_scan.specs.Tables.{rows_at, spare_at, exit_at, has_way, ways_between, FitsTables};
-ghost use Rattle.meat_scan.specs.Found.{choice_of};
+ghost use Rattle.std.specs.Option.{option_map};
+ghost use Rattle.meat_scan.specs.Tables.{rows_at, spare_at, room_at, exit_at, has_way, ways_between, FitsTables, IsEmpty};
+ghost use Rattle.meat_scan.specs.Found.{choice_of, found_in};
 ghost use Rattle.meat_scan.specs.Values.{value_at, values_after};
 ghost use Rattle.meat_scan.specs.Step.{left_by, exits_with, way_from, with_way, rows_with, start_with};
 ghost use Rattle.meat_scan.specs.Step.{boarded, rows_next, exits_next, start_next};
-ghost use Rattle.meat_scan.specs.Solves.{Solves};
+ghost use Rattle.meat_scan.specs.Solves.{Answers, Solves, SolvesStart};
 
 use plan_model::{
     BackwardOrder, ConnectionId, Leg, Moment, Network, NoMemory, Outcome, PlaceId, Query, RunId,
@@ -105,6 +106,7 @@ fn put_leg<V: Score>(
     ensures spare { (place : ℕ) →
         let taken = if way.from.0 == place then 1 else 0 in
         spare_at profiles.old place ≤ spare_at profiles.new place + taken }
+    ensures room { (place : ℕ) → room_at profiles.new place ≡ room_at profiles.old place }
     ensures len { length profiles.new ≡ length profiles.old }
 {
     let seconds = u64::from(way.seconds);
@@ -135,6 +137,7 @@ fn board<V: Score>(
     ensures spare { (place : ℕ) →
         let taken = ways_between network.now place (from_of network.now id.0) in
         spare_at profiles.old place ≤ spare_at profiles.new place + taken }
+    ensures room { (place : ℕ) → room_at profiles.new place ≡ room_at profiles.old place }
     ensures len { length profiles.new ≡ length profiles.old }
 {
     let Some((value, exit)) = exit else {
@@ -265,6 +268,7 @@ fn scan_one<V: Score>(
     ensures spare { (place : ℕ) →
         let taken = ways_between network.now place (from_of network.now id.0) in
         spare_at profiles.old place ≤ spare_at profiles.new place + taken }
+    ensures room { (place : ℕ) → room_at profiles.new place ≡ room_at profiles.old place }
     ensures places { length profiles.new ≡ length profiles.old }
     ensures runs { length exits.new ≡ length exits.old }
     ensures outcomes { length kids.new ≡ length kids.old }
@@ -419,6 +423,54 @@ impl<V: Score> Scanned<V> {
     }
 }
 
+// Scans all connections backwards, and gives the start leg. The rows stay in the tables.
+fn scan_all<V: Score, B: BackwardOrder>(
+    tables: ScanTables<V>,
+    network: &Network,
+    order: &mut B,
+    query: &Query,
+) -> (ScanTables<V>, Option<(V, Leg)>)
+    requires tables_fit { FitsTables network.now tables }
+    requires fits { B.fits order.old network.now }
+    requires whole { IsScanOrder network.now (B.rest order.old network.now) }
+    requires source { query.now.source.0 < length network.now.change }
+    requires target { query.now.target.0 < length network.now.change }
+    requires differ { query.now.source.0 ≢ query.now.target.0 }
+    ensures answers { let found = found_in result.0 result.1 query.now.target.0 in
+        Answers V.below V.covers V.gap network.now query.now found }
+    ensures valid { IsValid network.now }
+    ensures fits { B.fits order.new network.now }
+    ensures room { (place : ℕ) → room_at result.0.profiles place ≡ room_at tables.profiles place }
+    ensures places { length result.0.profiles ≡ length network.now.change }
+    ensures runs { length result.0.exits ≡ length tables.exits }
+    ensures outcomes { length result.0.kids ≡ length tables.kids }
+{
+    let ScanTables {
+        mut profiles,
+        mut exits,
+        mut kids,
+    } = tables;
+    order.skip_after(network, query.deadline);
+    let mut start = None;
+    while let Some(id) = order.next(network) {
+        start = scan_one(
+            &mut profiles,
+            &mut exits,
+            &mut kids,
+            start,
+            network,
+            query,
+            id,
+        );
+    }
+    let tables = ScanTables {
+        profiles,
+        exits,
+        kids,
+    };
+    (tables, start)
+}
+
 /// Scans all connections backwards, for a query between two different places. What it finds is safe
 /// and best: its values are below those of every safe strategy, and each covers the strategy that it
 /// chooses, within a gap of as many units as there are connections. The order is used up.
@@ -438,26 +490,83 @@ pub fn scan<V: Score, B: BackwardOrder>(
     ensures valid { IsValid network.now }
     ensures fits { B.fits order.new network.now }
 {
+    let (tables, start) = scan_all(tables, network, order, query);
     let ScanTables {
-        mut profiles,
-        mut exits,
-        mut kids,
+        profiles,
+        exits: _exits,
+        kids: _kids,
     } = tables;
-    let mut start = None;
-    while let Some(id) = order.next(network) {
-        start = scan_one(
-            &mut profiles,
-            &mut exits,
-            &mut kids,
-            start,
-            network,
-            query,
-            id,
-        );
-    }
     Scanned {
         profiles,
         start,
         target: query.target,
     }
+}
+
+// Takes out the rows of each place.
+fn clear_all<V: Score>(profiles: &mut [Profile<V>])
+    ensures empty { (place : ℕ) → rows_at profiles.new place ≡ [] }
+    ensures room { (place : ℕ) → spare_at profiles.new place ≡ room_at profiles.old place }
+    ensures len { length profiles.new ≡ length profiles.old }
+{
+    for place in 0..profiles.len() {
+        let profile = &mut profiles[place];
+        profile.clear();
+    }
+}
+
+// The tables with all rows and exits taken out.
+fn emptied<V: Score>(tables: ScanTables<V>) -> ScanTables<V>
+    ensures empty { IsEmpty result.profiles result.exits }
+    ensures room { (place : ℕ) → spare_at result.profiles place ≡ room_at tables.profiles place }
+    ensures places { length result.profiles ≡ length tables.profiles }
+    ensures runs { length result.exits ≡ length tables.exits }
+    ensures outcomes { length result.kids ≡ length tables.kids }
+{
+    let ScanTables {
+        mut profiles,
+        mut exits,
+        kids,
+    } = tables;
+    clear_all(&mut profiles);
+    exits.clear();
+    ScanTables {
+        profiles,
+        exits,
+        kids,
+    }
+}
+
+// The value of a start leg.
+fn value_of<V: Score>(start: Option<(V, Leg)>) -> Option<V>
+    ensures { result ≡ option_map (λ s. s.0) start }
+{
+    match start {
+        Some((value, _)) => Some(value),
+        None => None,
+    }
+}
+
+/// The value of the best safe strategy from the start, by the same scan; none where no strategy is
+/// safe. The tables come back empty, for a further scan. The order is used up.
+pub fn start_value<V: Score, B: BackwardOrder>(
+    tables: ScanTables<V>,
+    network: &Network,
+    order: &mut B,
+    query: &Query,
+) -> (ScanTables<V>, Option<V>)
+    requires tables_fit { FitsTables network.now tables }
+    requires fits { B.fits order.old network.now }
+    requires whole { IsScanOrder network.now (B.rest order.old network.now) }
+    requires source { query.now.source.0 < length network.now.change }
+    requires target { query.now.target.0 < length network.now.change }
+    requires differ { query.now.source.0 ≢ query.now.target.0 }
+    ensures solves { SolvesStart V.below V.covers V.gap network.now query.now result.1 }
+    ensures tables_fit { FitsTables network.now result.0 }
+    ensures valid { IsValid network.now }
+    ensures fits { B.fits order.new network.now }
+{
+    let (tables, start) = scan_all(tables, network, order, query);
+    let value = value_of(start);
+    (emptied(tables), value)
 }

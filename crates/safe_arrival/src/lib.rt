@@ -1,19 +1,51 @@
 //! The least worst arrival, by the backward scan, and the deadline that follows from it.
 #![tactic(auto)]
 
-ghost use Rattle.std.specs.Prelude.{◌≡◌, ◌<◌, ◌≤◌, length, IfSome};
+ghost use Rattle.std.specs.Prelude.{◌≡◌, ◌≢◌, ◌<◌, ◌≤◌, length, Some, IfSome, MatchOption};
 ghost use Rattle.plan_model.specs.Order.{IsScanOrder};
-ghost use Rattle.plan_model.specs.Strategy.{LeastWorst, deadline_of};
+ghost use Rattle.plan_model.specs.Strategy.{IsSafeFor, LeastWorst, deadline_of};
+ghost use Rattle.plan_model.specs.Network.{IsValid};
+ghost use Rattle.plan_model.specs.Tree.{Tree};
 ghost use Rattle.meat_scan.specs.Tables.{FitsTables};
 
-use meat_scan::{ScanTables, scan};
+use meat_scan::{ScanTables, start_value};
 use plan_model::{BackwardOrder, Moment, Network, PlaceId, Query};
 use value_laws::WorstMoment;
 
-/// The least worst arrival at the target of all strategies that always reach it, from the source
-/// at the start. There is none where no strategy always reaches it.
-pub fn least_worst<B: BackwardOrder>(
+// The least worst arrival of all, where one is by the deadline of the query. The tables come back
+// empty, and the order is used up.
+fn least_by<B: BackwardOrder>(
     tables: ScanTables<WorstMoment>,
+    network: &Network,
+    order: &mut B,
+    query: &Query,
+) -> (ScanTables<WorstMoment>, Option<Moment>)
+    requires tables_fit { FitsTables network.now tables }
+    requires fits { B.fits order.old network.now }
+    requires whole { IsScanOrder network.now (B.rest order.old network.now) }
+    requires source { query.now.source.0 < length network.now.change }
+    requires target { query.now.target.0 < length network.now.change }
+    requires differ { query.now.source.0 ≢ query.now.target.0 }
+    ensures least { let query = query.now in
+        MatchOption result.1 ((tree : Tree) → IsSafeFor network.now query tree → ⊥)
+        (λ worst. LeastWorst network.now query.source.0 query.target.0 query.start.0 (Some worst)) }
+    ensures tables_fit { FitsTables network.now result.0 }
+    ensures valid { IsValid network.now }
+    ensures fits { B.fits order.new network.now }
+{
+    let (tables, worst) = start_value(tables, network, order, query);
+    match worst {
+        Some(worst) => (tables, Some(worst.0)),
+        None => (tables, None),
+    }
+}
+
+/// The least worst arrival at the target of all strategies that always reach it, from the source
+/// at the start. There is none where no strategy always reaches it. It is sought by the first two
+/// hours, by the first eight, and at last by the end of all time, since most connections leave too
+/// late to matter.
+pub fn least_worst<B: BackwardOrder>(
+    mut tables: ScanTables<WorstMoment>,
     network: &Network,
     order: &mut B,
     source: PlaceId,
@@ -36,6 +68,20 @@ pub fn least_worst<B: BackwardOrder>(
     if source.0 == target.0 {
         return Some(start);
     }
+    for hours in [2, 8] {
+        let query = Query {
+            source,
+            target,
+            start,
+            deadline: Moment(start.0 + 3600 * hours),
+        };
+        let (again, worst) = least_by(tables, network, order, &query);
+        if worst.is_some() {
+            return worst;
+        }
+        tables = again;
+        order.rewind(network);
+    }
     // Whatever always arrives does so within a day after the last arrival that a network may have.
     let query = Query {
         source,
@@ -43,11 +89,8 @@ pub fn least_worst<B: BackwardOrder>(
         start,
         deadline: Moment(13_601_174_400),
     };
-    let scanned = scan(tables, network, order, &query);
-    match scanned.start() {
-        Some((worst, _)) => Some(worst.0),
-        None => None,
-    }
+    let (_tables, worst) = least_by(tables, network, order, &query);
+    worst
 }
 
 /// The deadline at a percentage of the time that the least worst arrival needs, from 100 to 1,000,

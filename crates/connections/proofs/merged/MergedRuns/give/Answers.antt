@@ -1,4 +1,4 @@
-use Rattle.std.proofs.Common.{◌≡◌, ◌*◌, ◌/◌, refl, length, get_or, arith}
+use Rattle.std.proofs.Common.{◌≡◌, ◌-◌, ◌*◌, ◌/◌, refl, length, get_or, arith}
 use Rattle.std.proofs.lemmas.List.{get_or_read}
 use Rattle.connections.proofs.TournamentLemmas.{IsPlayedAround-run, IsPlayedAround-child, IsPlayedAround-more}
 use Rattle.connections.proofs.merged.MergedRuns.give.Goals as goal
@@ -12,13 +12,13 @@ loop-node-init c =
     record {
       starts = refl;
       left = refl;
-      played = rw (end, all) (IsPlayedAround-run c.args.network.now merge.stretches.begin.valid s.starts.items s.left.items s.winners.items c.args.run merge.stretches merge.tournament c.requires.run c.requires.some);
+      played = rw all (IsPlayedAround-run c.args.network.now s.starts.items s.left.items s.keys.items c.args.run (c.index_mut.result.now - 1) c.key.result merge.tournament c.requires.run c.key.ensures);
     }
 
 pub winner-requires-clause-first : goal.winner-requires-clause-first
 winner-requires-clause-first c =
     let inv = c.loop-node.invariant in
-    rw (inv.starts, inv.left) (IsPlayedAround-child _ _ _ c.args.run c.loop-node.node c.loop-node.self.winners.items inv.played (2 * (c.loop-node.node / 2)) (omega arith) c.loop-node-test.true (omega (arith, inv.played.few)))
+    rw (inv.starts, inv.left) (IsPlayedAround-child _ _ _ c.args.run c.loop-node.node c.loop-node.self.keys.items inv.played (2 * (c.loop-node.node / 2)) (omega arith) c.loop-node-test.true (omega (arith, inv.played.few)))
 
 pub loop-node-preserved : goal.loop-node-preserved
 loop-node-preserved c =
@@ -26,5 +26,5 @@ loop-node-preserved c =
     record {
       starts = inv.starts;
       left = inv.left;
-      played = IsPlayedAround-more _ _ _ c.args.run c.loop-node.node c.loop-node.self.winners.items inv.played c.winner.result c.loop-node-test.true (rw (inv.starts, inv.left) at c.winner.ensures);
+      played = IsPlayedAround-more _ _ _ c.args.run c.loop-node.node c.loop-node.self.keys.items inv.played c.winner.result c.loop-node-test.true (rw (inv.starts, inv.left) at c.winner.ensures);
     }

@@ -1,6 +1,5 @@
-use Rattle.std.proofs.Common.{◌≡◌, length, arith}
+use Rattle.std.proofs.Common.{arith}
 use Rattle.connections.proofs.StretchLemmas.{IsWhole, IsWhole-copied, AreStretches-whole, rest_of-all}
-use Rattle.connections.proofs.TournamentLemmas.{HasRunsLast-tournament}
 use Rattle.connections.proofs.merged.MergedRunsBackwardOrder.rewind.Goals as goal
 use Rattle.connections.proofs.merged.MergedRunsBackwardOrder.rewind.Goals.{After-copy_from_slice}
 
@@ -9,12 +8,10 @@ whole c =
     let starts = c.args.self.now.starts.items in
     rw (c.copy_from_slice.ensures.items, c.deref.ensures.value) (IsWhole-copied starts c.requires.stretches.begin.some)
 
-pub play_all-requires-clause-runs : goal.play_all-requires-clause-runs
-play_all-requires-clause-runs c =
-    let s = c.args.self.now in
-    let w = whole (goal.at.play_all-requires-clause-runs c).After-copy_from_slice in
-    let same : length c.copy_from_slice.new.self.items ≡ length s.left.items = omega (arith, w.size, c.requires.stretches.size) in
-    rw same (HasRunsLast-tournament c.args.network.now s.starts.items s.left.items s.winners.items c.requires.tournament)
+pub play_all-requires-clause-size : goal.play_all-requires-clause-size
+play_all-requires-clause-size c =
+    let w = whole (goal.at.play_all-requires-clause-size c).After-copy_from_slice in
+    omega (arith, w.size, c.requires.stretches.size, c.requires.tournament.size)
 
 pub returns-clause-fits : goal.returns-clause-fits
 returns-clause-fits c =

@@ -1,18 +1,23 @@
 use Rattle.std.proofs.Common.{◌∙◌, sym, subst, arith, refl}
-use Rattle.std.proofs.lemmas.List.{length-map}
 use Rattle.stop_profile.proofs.Gaps.{written_back}
 use Rattle.meat_scan.specs.Tables.{FitsTables}
-use Rattle.meat_scan.proofs.States.{first_state, next_state, last_state, next_there, room_for_run, room_for_rows, room_next, found_rows-profiles}
-use Rattle.meat_scan.proofs.scan.Goals as goal
+use Rattle.meat_scan.proofs.States.{next_state, last_state, next_there, room_for_run, room_for_rows, room_next, found_rows-profiles}
+use Rattle.meat_scan.proofs.Lates.{skipped_state, skipped_room}
+use Rattle.meat_scan.proofs.scan_all.Goals as goal
 
 pub loop-id-init : goal.loop-id-init
 loop-id-init g c =
     let fit = subst (FitsTables c.args.network.now) (sym c.tables.view_is) c.requires.tables_fit in
+    let rest = g.B.BackwardOrder.rest c.skip_after.new.self c.args.network.now in
+    let order = g.B.BackwardOrder.rest c.args.order.now c.args.network.now in
     record {
       valid = fit.valid;
-      fits = c.requires.fits;
-      room = fit.room (g.B.BackwardOrder.rest c.args.order.now c.args.network.now) c.requires.whole;
-      state = first_state g.V.Score.laws c.args.network.now fit.valid c.args.query.now (g.B.BackwardOrder.rest c.args.order.now c.args.network.now) c.requires.whole _ _ fit.empty;
+      fits = c.skip_after.ensures.fits;
+      room = skipped_room c.args.network.now c.args.query.now.deadline.0 order rest _ _ _ c.skip_after.ensures.up_to (fit.room order c.requires.whole);
+      state = skipped_state g.V.Score.laws c.args.network.now fit.valid c.args.query.now order c.requires.whole _ _ fit.empty rest c.skip_after.ensures.up_to;
+      same_room = λ place. refl;
+      same_runs = refl;
+      same_outcomes = refl;
     }
 
 pub scan_one-start-requires-clause-there : goal.scan_one-start-requires-clause-there
@@ -55,19 +60,14 @@ loop-id-preserved g c =
       fits = c.in-Some.ensures.fits;
       room = room_next c.args.network.now rest c.in-Some.id there c.loop-id.profiles.items c.loop-id.exits c.loop-id.kids.items room one.new.profiles one.new.exits one.new.kids (rw old at one.ensures.spare) (rw old at one.ensures.places) one.ensures.runs (omega arith);
       state = next_state g.V.Score.laws c.args.network.now loop.valid c.args.query.now (g.B.BackwardOrder.rest c.args.order.now c.args.network.now) c.requires.whole rest c.in-Some.id c.loop-id.profiles.items one.new.profiles c.loop-id.exits one.new.exits c.loop-id.start one.result state (rw old at one.ensures.rows) (rw old at one.ensures.exits) (rw old at one.ensures.start);
+      same_room = λ place. rw old at (one.ensures.room place) ∙ loop.same_room place;
+      same_runs = one.ensures.runs ∙ loop.same_runs;
+      same_outcomes = omega (arith, loop.same_outcomes);
     })
 
-pub returns-clause-solves : goal.returns-clause-solves
-returns-clause-solves g c =
-    let score = g.V.Score in
+pub returns-clause-answers : goal.returns-clause-answers
+returns-clause-answers g c =
     let loop = c.loop-id.invariant in
     let told = c.in_default.ensures.none.0 refl in
     let rows_are = found_rows-profiles c.loop-id.start c.args.query.now.target.0 c.loop-id.profiles.items in
-    record {
-      as_many = length-map c.loop-id.profiles.items (λ profile. profile.rows) ∙ loop.room.places;
-      same_target = refl;
-      source_there = c.requires.source;
-      target_there = c.requires.target;
-      differ = c.requires.differ;
-      answers = last_state score.laws c.args.network.now loop.valid c.args.query.now (g.B.BackwardOrder.rest c.args.order.now c.args.network.now) c.requires.whole (g.B.BackwardOrder.rest c.loop-id.order c.args.network.now) c.loop-id.profiles.items c.loop-id.exits _ c.requires.differ told rows_are loop.state;
-    }
+    last_state g.V.Score.laws c.args.network.now loop.valid c.args.query.now (g.B.BackwardOrder.rest c.args.order.now c.args.network.now) c.requires.whole (g.B.BackwardOrder.rest c.loop-id.order c.args.network.now) c.loop-id.profiles.items c.loop-id.exits _ c.requires.differ told rows_are loop.state

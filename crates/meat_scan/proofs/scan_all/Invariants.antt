@@ -1,0 +1,21 @@
+use Rattle.std.proofs.Common.{◌≡◌, ℕ, length}
+use Rattle.plan_model.specs.Network.{IsValid}
+use Rattle.meat_scan.specs.Tables.{room_at, HasRoom}
+use Rattle.meat_scan.proofs.States.{ScanState}
+use Rattle.meat_scan.proofs.scan_all.Given as goal
+
+abbrev pub invariant-loop-id : goal.invariant-loop-id
+invariant-loop-id g l =
+    let score = g.V.Score in
+    record {
+      valid : IsValid l.network;
+      fits : g.B.BackwardOrder.fits l.order l.network;
+      room : HasRoom l.network (g.B.BackwardOrder.rest l.order l.network) l.profiles.items l.exits l.kids.items;
+      state : ScanState score.below score.covers score.gap score.rank l.network l.query (g.B.BackwardOrder.rest l.fn.order l.network) (g.B.BackwardOrder.rest l.order l.network) l.profiles.items l.exits l.start;
+      same_room : (place : ℕ) → room_at l.profiles.items place ≡ room_at l.initial.profiles.items place;
+      same_runs : length l.exits ≡ length l.initial.exits;
+      same_outcomes : length l.kids.items ≡ length l.initial.kids.items;
+    }
+
+abbrev pub decreases-loop-id : goal.decreases-loop-id
+decreases-loop-id g l = length (g.B.BackwardOrder.rest l.order l.network)
