@@ -1,5 +1,5 @@
 -- What a line of words asks for, or why it is refused.
-use Rattle.std.specs.Prelude.{ℕ, List, [], ◌∷◌, Option, Some, None, Result, Ok, Err, Bool, true, false, not, ◌&&◌, is_some, if◌then◌else◌, option_map, option_and_then, unwrap_or, find}
+use Rattle.std.specs.Prelude.{ℕ, List, [], ◌∷◌, Option, Some, None, Result, Ok, Err, if◌then◌else◌, option_map, option_and_then, unwrap_or, find}
 use Rattle.command_line.specs.declared.options.Goal.{Goal}
 use Rattle.command_line.specs.declared.options.Command.{Command}
 use Rattle.command_line.specs.declared.options.Command.TheVariants as command
@@ -8,76 +8,9 @@ use Rattle.command_line.specs.declared.options.OptionName.TheVariants.{Cut, Feed
 use Rattle.command_line.specs.declared.job.WordsFault.{WordsFault}
 use Rattle.command_line.specs.declared.job.WordsFault.TheVariants.{Line, UnknownCommand, NotUsed, Missing, BadValue}
 use Rattle.command_line.specs.Options.{all_options, option_number, command_named}
-use Rattle.command_line.specs.Settings.{value_of, are_settings}
-use Rattle.command_line.specs.Values.{start_at, alpha_at, horizon_at, size_at, late_at, has_form}
-
--- the command is about a journey over a timetable that is read
-abbrev pub has_journey : Command → Bool
-has_journey (command.Seek goal) = true
-has_journey command.Replay = true
-has_journey command.Sample = false
-
-abbrev pub is_seek : Command → Bool
-is_seek (command.Seek goal) = true
-is_seek command.Replay = false
-is_seek command.Sample = false
-
-abbrev pub is_replay : Command → Bool
-is_replay (command.Seek goal) = false
-is_replay command.Replay = true
-is_replay command.Sample = false
-
-abbrev pub is_sample : Command → Bool
-is_sample (command.Seek goal) = false
-is_sample command.Replay = false
-is_sample command.Sample = true
-
-abbrev pub is_given : List (List ℕ) → OptionName → Bool
-is_given settings option = is_some (value_of settings option)
-
--- the command needs the option: one of the two timetables, of which the feed is asked for where neither is given
-abbrev pub is_needed : Command → List (List ℕ) → OptionName → Bool
-is_needed command settings Cut = false
-is_needed command settings Feed = has_journey command && not (is_given settings Cut)
-is_needed command settings Delays = has_journey command
-is_needed command settings From = has_journey command
-is_needed command settings To = has_journey command
-is_needed command settings At = has_journey command
-is_needed command settings Alpha = false
-is_needed command settings Horizon = false
-is_needed command settings Graph = is_replay command
-is_needed command settings Late = is_replay command
-is_needed command settings Size = is_sample command
-
--- the command has a use for the option: no cut file beside a feed, and a horizon with a feed alone
-abbrev pub is_used : Command → List (List ℕ) → OptionName → Bool
-is_used command settings Cut = has_journey command && not (is_given settings Feed)
-is_used command settings Feed = has_journey command
-is_used command settings Delays = has_journey command
-is_used command settings From = has_journey command
-is_used command settings To = has_journey command
-is_used command settings At = has_journey command
-is_used command settings Alpha = is_seek command
-is_used command settings Horizon = has_journey command && is_given settings Feed
-is_used command settings Graph = is_replay command
-is_used command settings Late = is_replay command
-is_used command settings Size = is_sample command
-
--- it is given, and the command has no use for it
-abbrev pub is_useless : Command → List (List ℕ) → OptionName → Bool
-is_useless command settings option = not (is_used command settings option) && is_given settings option
-
--- it is needed, and not given
-abbrev pub is_missing : Command → List (List ℕ) → OptionName → Bool
-is_missing command settings option = is_needed command settings option && not (is_given settings option)
-
-abbrev pub is_malformed : OptionName → Option (List ℕ) → Bool
-is_malformed option None = false
-is_malformed option (Some value) = not (has_form option value)
-
--- it is given, and not of its form
-abbrev pub is_bad : List (List ℕ) → OptionName → Bool
-is_bad settings option = is_malformed option (value_of settings option)
+use Rattle.command_line.specs.Settings.{value_of, text_of, are_settings}
+use Rattle.command_line.specs.Uses.{is_useless, is_missing}
+use Rattle.command_line.specs.Values.{first_start, default_alpha, default_horizon, least_size, start_at, alpha_at, horizon_at, size_at, late_at, is_bad}
 
 -- where the connections come from: a cut file, or the folder of a feed, of which so many hours are looked at
 pub data WantedTimetable : Type 0 where
@@ -110,23 +43,20 @@ pub data Wanted : Type 0 where
   Replay : (replay : WantedReplay) → Wanted
   Sample : (size : ℕ) → Wanted
 
-abbrev pub text_of : List (List ℕ) → OptionName → List ℕ
-text_of settings option = unwrap_or (value_of settings option) []
-
 -- the moment that the journey begins at
 abbrev pub start_of : List (List ℕ) → ℕ
-start_of settings = unwrap_or (start_at (text_of settings At)) 604800
+start_of settings = unwrap_or (start_at (text_of settings At)) first_start
 
 -- the percentage of the deadline, 200 unless it is given
 abbrev pub alpha_of : List (List ℕ) → ℕ
-alpha_of settings = unwrap_or (option_and_then alpha_at (value_of settings Alpha)) 200
+alpha_of settings = unwrap_or (option_and_then alpha_at (value_of settings Alpha)) default_alpha
 
 -- the hours of the window, 24 unless they are given
 abbrev pub horizon_of : List (List ℕ) → ℕ
-horizon_of settings = unwrap_or (option_and_then horizon_at (value_of settings Horizon)) 24
+horizon_of settings = unwrap_or (option_and_then horizon_at (value_of settings Horizon)) default_horizon
 
 abbrev pub size_of : List (List ℕ) → ℕ
-size_of settings = unwrap_or (option_and_then size_at (value_of settings Size)) 10
+size_of settings = unwrap_or (option_and_then size_at (value_of settings Size)) least_size
 
 -- the delays of a text that has their form
 abbrev pub late_in : List ℕ → List ℕ
@@ -149,8 +79,10 @@ journey_of settings = record {
 }
 
 abbrev pub wanted_of : Command → List (List ℕ) → Wanted
-wanted_of (command.Seek goal) settings = Seek (record { goal = goal; journey = journey_of settings; alpha = alpha_of settings })
-wanted_of command.Replay settings = Replay (record { journey = journey_of settings; graph = text_of settings Graph; late = late_in (text_of settings Late) })
+wanted_of (command.Seek goal) settings =
+    Seek (record { goal = goal; journey = journey_of settings; alpha = alpha_of settings })
+wanted_of command.Replay settings =
+    Replay (record { journey = journey_of settings; graph = text_of settings Graph; late = late_in (text_of settings Late) })
 wanted_of command.Sample settings = Sample (size_of settings)
 
 -- the refusal that the least option calls for, if one does
@@ -161,7 +93,8 @@ abbrev pub unless_refused : Option WordsFault → Result Wanted WordsFault → R
 unless_refused None next = next
 unless_refused (Some fault) next = Err fault
 
--- the job of a command with its settings: first each option is used, then none is missing, then each value is of its form
+-- the job of a command with its settings: first each option is used, then none is missing, then each value is of
+-- its form
 abbrev pub job_by : Option Command → List (List ℕ) → Result Wanted WordsFault
 job_by None settings = Err UnknownCommand
 job_by (Some command) settings =

@@ -1,5 +1,6 @@
 pub mod Options
 pub mod Settings
+pub mod Uses
 pub mod Values
 pub mod Jobs
 pub mod Ranges

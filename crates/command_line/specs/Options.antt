@@ -40,9 +40,13 @@ option_number Size = 11
 abbrev pub all_options : List OptionName
 all_options = Cut ∷ Feed ∷ Delays ∷ From ∷ To ∷ At ∷ Alpha ∷ Horizon ∷ Graph ∷ Late ∷ Size ∷ []
 
--- the word of the option of this number
+-- the option of this number
+abbrev pub option_numbered : ℕ → Option OptionName
+option_numbered k = find (λ option. option_number option == k) all_options
+
+-- the word of the option of this number, and nothing where none has it
 abbrev pub option_word : ℕ → List ℕ
-option_word k = option_map_or option_name (find (λ option. option_number option == k) all_options) []
+option_word k = option_map_or option_name (option_numbered k) []
 
 -- the option that a word names
 abbrev pub option_named : List ℕ → Option OptionName

@@ -1,5 +1,5 @@
 -- A line of words: a command, and pairs of an option and its value.
-use Rattle.std.specs.Prelude.{◌≡◌, ◌≢◌, ℕ, List, [], ◌∷◌, Option, Some, None, Bool, true, false, ◌&&◌, is_none, if◌then◌else◌, AllPairs}
+use Rattle.std.specs.Prelude.{◌≡◌, ◌≢◌, ℕ, List, [], ◌∷◌, Option, Some, None, Bool, true, false, ◌&&◌, is_none, is_some, unwrap_or, if◌then◌else◌, AllPairs}
 use Rattle.std.specs.List.{flat_map}
 use Rattle.std.specs.Str.{bytes_eq}
 use Rattle.command_line.specs.declared.options.OptionName.{OptionName}
@@ -24,6 +24,14 @@ unfoldable pub value_of : List (List ℕ) → OptionName → Option (List ℕ)
 value_of [] option = None
 value_of (name ∷ []) option = None
 value_of (name ∷ value ∷ others) option = if bytes_eq name (option_name option) then Some value else value_of others option
+
+-- the words after the command give a value to an option
+abbrev pub is_given : List (List ℕ) → OptionName → Bool
+is_given settings option = is_some (value_of settings option)
+
+-- the value of an option, and nothing where it has none
+abbrev pub text_of : List (List ℕ) → OptionName → List ℕ
+text_of settings option = unwrap_or (value_of settings option) []
 
 -- the value that settings give to an option
 unfoldable pub value_in : List Setting → OptionName → Option (List ℕ)

@@ -4,8 +4,51 @@ use Rattle.std.specs.List.{slice_split, list_all}
 use Rattle.std.specs.Str.{bytes_eq}
 use Rattle.clock_text.specs.Digits.{whole_of}
 use Rattle.clock_text.specs.Times.{moment_at}
+use Rattle.command_line.specs.Settings.{is_given, text_of}
 use Rattle.command_line.specs.declared.options.OptionName.{OptionName}
 use Rattle.command_line.specs.declared.options.OptionName.TheVariants.{Cut, Feed, Delays, From, To, At, Alpha, Horizon, Graph, Late, Size}
+
+-- the first moment at which a journey may begin, 1970-01-08T00:00:00, and the last, 2399-12-31T23:59:59
+abbrev pub first_start : ℕ
+first_start = 604800
+
+abbrev pub last_start : ℕ
+last_start = 13569465599
+
+-- the percentages of a deadline, and the one that is taken where none is given
+abbrev pub least_alpha : ℕ
+least_alpha = 100
+
+abbrev pub most_alpha : ℕ
+most_alpha = 1000
+
+abbrev pub default_alpha : ℕ
+default_alpha = 200
+
+-- the hours of a window, and those that are taken where none are given
+abbrev pub least_horizon : ℕ
+least_horizon = 1
+
+abbrev pub most_horizon : ℕ
+most_horizon = 72
+
+abbrev pub default_horizon : ℕ
+default_horizon = 24
+
+-- the sizes of a feed that is made
+abbrev pub least_size : ℕ
+least_size = 10
+
+abbrev pub most_size : ℕ
+most_size = 400
+
+-- the longest delay that was met, in seconds: a day
+abbrev pub longest_delay : ℕ
+longest_delay = 86400
+
+-- how many delays are taken at most
+abbrev pub most_delays : ℕ
+most_delays = 4096
 
 -- at least so much
 abbrev pub from_on : ℕ → ℕ → Option ℕ
@@ -15,33 +58,33 @@ from_on least n = if nat_le least n then Some n else None
 abbrev pub up_to : ℕ → ℕ → Option ℕ
 up_to most n = if nat_le n most then Some n else None
 
--- a moment from 1970-01-08T00:00:00 to 2399-12-31T23:59:59
+-- a moment at which a journey may begin
 abbrev pub start_at : List ℕ → Option ℕ
-start_at text = option_and_then (up_to 13569465599) (option_and_then (from_on 604800) (moment_at text))
+start_at text = option_and_then (up_to last_start) (option_and_then (from_on first_start) (moment_at text))
 
 -- a whole number of a range
 abbrev pub number_at : (least most : ℕ) → List ℕ → Option ℕ
 number_at least most text = option_and_then (from_on least) (whole_of most text)
 
--- a percentage from 100 to 1,000
+-- a percentage of a deadline
 abbrev pub alpha_at : List ℕ → Option ℕ
-alpha_at text = number_at 100 1000 text
+alpha_at text = number_at least_alpha most_alpha text
 
--- from 1 to 72 hours
+-- the hours of a window
 abbrev pub horizon_at : List ℕ → Option ℕ
-horizon_at text = number_at 1 72 text
+horizon_at text = number_at least_horizon most_horizon text
 
--- from 10 to 400 lines
+-- the size of a feed that is made
 abbrev pub size_at : List ℕ → Option ℕ
-size_at text = number_at 10 400 text
+size_at text = number_at least_size most_size text
 
 -- what stands between the commas of a text
 abbrev pub pieces : List ℕ → List (List ℕ)
 pieces text = slice_split (λ byte. byte == 44) text
 
--- a delay in seconds, at most a day
+-- a delay in seconds
 abbrev pub delay_at : List ℕ → Option ℕ
-delay_at text = whole_of 86400 text
+delay_at text = whole_of longest_delay text
 
 abbrev pub is_delay : List ℕ → Bool
 is_delay text = is_some (delay_at text)
@@ -50,9 +93,9 @@ is_delay text = is_some (delay_at text)
 abbrev pub delay_in : List ℕ → ℕ
 delay_in text = unwrap_or (delay_at text) 0
 
--- one to 4,096 delays
+-- one delay or more, not too many
 abbrev pub are_delays : List (List ℕ) → Bool
-are_delays texts = nat_le (length texts) 4096 && list_all is_delay texts
+are_delays texts = nat_le (length texts) most_delays && list_all is_delay texts
 
 -- the delays that a text tells: none, or those joined by commas
 abbrev pub late_at : List ℕ → Option (List ℕ)
@@ -65,16 +108,20 @@ abbrev pub is_empty : List ℕ → Bool
 is_empty [] = true
 is_empty (byte ∷ bytes) = false
 
--- the value of an option is of its form; a path or a stop is not empty
-abbrev pub has_form : OptionName → List ℕ → Bool
-has_form At text = is_some (start_at text)
-has_form Alpha text = is_some (alpha_at text)
-has_form Horizon text = is_some (horizon_at text)
-has_form Late text = is_some (late_at text)
-has_form Size text = is_some (size_at text)
-has_form Cut text = not (is_empty text)
-has_form Feed text = not (is_empty text)
-has_form Delays text = not (is_empty text)
-has_form From text = not (is_empty text)
-has_form To text = not (is_empty text)
-has_form Graph text = not (is_empty text)
+-- the value that settings give to an option is of its form; a path or a stop is not empty
+abbrev pub has_form : List (List ℕ) → OptionName → Bool
+has_form settings Cut = not (is_empty (text_of settings Cut))
+has_form settings Feed = not (is_empty (text_of settings Feed))
+has_form settings Delays = not (is_empty (text_of settings Delays))
+has_form settings From = not (is_empty (text_of settings From))
+has_form settings To = not (is_empty (text_of settings To))
+has_form settings At = is_some (start_at (text_of settings At))
+has_form settings Alpha = is_some (alpha_at (text_of settings Alpha))
+has_form settings Horizon = is_some (horizon_at (text_of settings Horizon))
+has_form settings Graph = not (is_empty (text_of settings Graph))
+has_form settings Late = is_some (late_at (text_of settings Late))
+has_form settings Size = is_some (size_at (text_of settings Size))
+
+-- it is given, and not of its form
+abbrev pub is_bad : List (List ℕ) → OptionName → Bool
+is_bad settings option = is_given settings option && not (has_form settings option)

@@ -1,19 +1,25 @@
 //! What a line of words asks for.
-ghost use Rattle.std.specs.Prelude.{◌≡◌, ◌≤◌, map, string_bytes, find, option_and_then, unwrap_or, IfOk};
-ghost use Rattle.command_line.specs.Options.{all_options};
-ghost use Rattle.command_line.specs.Jobs.{has_journey, is_seek, is_replay, is_sample, is_given, is_useless, is_missing, is_bad, is_needed, is_used, text_of, start_of, alpha_of, horizon_of, size_of, timetable_of, journey_of, wanted_of, job_of, late_in};
+ghost use Rattle.std.specs.Prelude.{◌≡◌, ◌≤◌, map, string_bytes, option_and_then, unwrap_or, IfOk};
+ghost use Rattle.command_line.specs.Jobs.{start_of, alpha_of, horizon_of, size_of, timetable_of, journey_of, wanted_of, job_of, late_in};
 ghost use Rattle.command_line.specs.Ranges.{HasHorizon, IsJourney, IsJob};
 ghost use Rattle.command_line.specs.Settings.{value_of};
-ghost use Rattle.command_line.specs.Values.{number_at};
 ghost use Rattle.command_line.specs.Shown.{timetable_shown, journey_shown, shown, answer_shown};
+ghost use Rattle.command_line.specs.Values.{number_at, first_start, last_start, least_alpha, most_alpha, least_horizon, most_horizon, least_size, most_size};
 
 use crate::options::{Command, Goal, OptionName};
-use crate::settings::{OPTIONS, are_settings, value_of};
+use crate::refusals::{first_bad, first_missing, first_useless};
+use crate::settings::{are_settings, text_of, value_of};
 use crate::values::{
-    ALPHA, FIRST_START, HORIZON, NumberRange, SIZE, has_form, read_late, read_number, read_start,
+    ALPHA, FIRST_START, HORIZON, NumberRange, SIZE, read_late, read_number, read_start,
 };
 use plan_model::Moment;
 use std::alloc::{AllocError, Global};
+
+/// The percentage of a deadline where none is given.
+const DEFAULT_ALPHA: u32 = 200;
+
+/// The hours of a window where none are given.
+const DEFAULT_HORIZON: u32 = 24;
 
 /// Why words are refused, in the order in which the refusals are answered. Options go by number.
 #[derive(Clone, Copy, Debug, PartialEq, Eq)]
@@ -96,128 +102,10 @@ impl ReplayJob<'_> {
     }
 }
 
-impl Command {
-    /// Whether it is about a journey over a timetable that is read.
-    fn has_journey(self) -> bool
-        ensures { result ≡ has_journey self }
-    {
-        match self {
-            Command::Seek(_) | Command::Replay => true,
-            Command::Sample => false,
-        }
-    }
-
-    fn is_seek(self) -> bool
-        ensures { result ≡ is_seek self }
-    {
-        matches!(self, Command::Seek(_))
-    }
-
-    fn is_replay(self) -> bool
-        ensures { result ≡ is_replay self }
-    {
-        matches!(self, Command::Replay)
-    }
-
-    fn is_sample(self) -> bool
-        ensures { result ≡ is_sample self }
-    {
-        matches!(self, Command::Sample)
-    }
-}
-
-/// Whether an option has a value.
-fn is_given(settings: &[String], option: OptionName) -> bool
-    ensures { result ≡ is_given (map string_bytes settings.now) option }
-{
-    value_of(settings, option).is_some()
-}
-
-/// Whether a command needs this option. Of the two timetables the feed is asked for where neither is
-/// given.
-fn is_needed(command: Command, settings: &[String], option: OptionName) -> bool
-    ensures { result ≡ is_needed command (map string_bytes settings.now) option }
-{
-    match option {
-        OptionName::Cut | OptionName::Alpha | OptionName::Horizon => false,
-        OptionName::Feed => command.has_journey() && !is_given(settings, OptionName::Cut),
-        OptionName::Delays | OptionName::From | OptionName::To | OptionName::At => {
-            command.has_journey()
-        }
-        OptionName::Graph | OptionName::Late => command.is_replay(),
-        OptionName::Size => command.is_sample(),
-    }
-}
-
-/// Whether a command has a use for this option: for no cut file beside a feed, and for a horizon with
-/// a feed alone.
-fn is_used(command: Command, settings: &[String], option: OptionName) -> bool
-    ensures { result ≡ is_used command (map string_bytes settings.now) option }
-{
-    match option {
-        OptionName::Cut => command.has_journey() && !is_given(settings, OptionName::Feed),
-        OptionName::Feed
-        | OptionName::Delays
-        | OptionName::From
-        | OptionName::To
-        | OptionName::At => command.has_journey(),
-        OptionName::Alpha => command.is_seek(),
-        OptionName::Horizon => command.has_journey() && is_given(settings, OptionName::Feed),
-        OptionName::Graph | OptionName::Late => command.is_replay(),
-        OptionName::Size => command.is_sample(),
-    }
-}
-
-/// Whether the value of an option that is given is not of its form.
-fn is_bad(settings: &[String], option: OptionName) -> bool
-    ensures { result ≡ is_bad (map string_bytes settings.now) option }
-{
-    match value_of(settings, option) {
-        None => false,
-        Some(value) => !has_form(option, value),
-    }
-}
-
-/// The first option that is given and not used.
-fn first_useless(command: Command, settings: &[String]) -> Option<OptionName>
-    ensures { result ≡ find (is_useless command (map string_bytes settings.now)) all_options }
-{
-    OPTIONS.iter().copied().find(|option| !is_used(command, settings, *option)
-        && is_given(settings, *option))
-}
-
-/// The first option that is needed and not given.
-fn first_missing(command: Command, settings: &[String]) -> Option<OptionName>
-    ensures { result ≡ find (is_missing command (map string_bytes settings.now)) all_options }
-{
-    OPTIONS.iter().copied().find(|option| is_needed(command, settings, *option)
-        && !is_given(settings, *option))
-}
-
-/// The first option whose value is not of its form.
-fn first_bad(settings: &[String]) -> Option<OptionName>
-    ensures { result ≡ find (is_bad (map string_bytes settings.now)) all_options }
-{
-    OPTIONS
-        .iter()
-        .copied()
-        .find(|option| is_bad(settings, *option))
-}
-
-/// The value of an option, and nothing where it has none.
-fn text_of(settings: &[String], option: OptionName) -> &str
-    ensures { result.now ≡ text_of (map string_bytes settings.now) option }
-{
-    match value_of(settings, option) {
-        None => "",
-        Some(value) => value,
-    }
-}
-
 /// The moment that the journey begins at.
 fn start_of(settings: &[String]) -> Moment
     ensures start { result.0 ≡ start_of (map string_bytes settings.now) }
-    ensures in_range { (604800 ≤ result.0) × (result.0 ≤ 13569465599) }
+    ensures in_range { (first_start ≤ result.0) × (result.0 ≤ last_start) }
 {
     let text = text_of(settings, OptionName::At);
     match read_start(text.as_bytes()) {
@@ -244,23 +132,23 @@ fn number_of(settings: &[String], option: OptionName, range: NumberRange, other:
 /// The percentage of the deadline.
 fn alpha_of(settings: &[String]) -> u32
     ensures alpha { result ≡ alpha_of (map string_bytes settings.now) }
-    ensures in_range { (100 ≤ result) × (result ≤ 1000) }
+    ensures in_range { (least_alpha ≤ result) × (result ≤ most_alpha) }
 {
-    number_of(settings, OptionName::Alpha, ALPHA, 200)
+    number_of(settings, OptionName::Alpha, ALPHA, DEFAULT_ALPHA)
 }
 
 /// The hours of the window.
 fn horizon_of(settings: &[String]) -> u32
     ensures horizon { result ≡ horizon_of (map string_bytes settings.now) }
-    ensures in_range { (1 ≤ result) × (result ≤ 72) }
+    ensures in_range { (least_horizon ≤ result) × (result ≤ most_horizon) }
 {
-    number_of(settings, OptionName::Horizon, HORIZON, 24)
+    number_of(settings, OptionName::Horizon, HORIZON, DEFAULT_HORIZON)
 }
 
 /// The size of a feed that is made.
 fn size_of(settings: &[String]) -> u32
     ensures size { result ≡ size_of (map string_bytes settings.now) }
-    ensures in_range { (10 ≤ result) × (result ≤ 400) }
+    ensures in_range { (least_size ≤ result) × (result ≤ most_size) }
 {
     number_of(settings, OptionName::Size, SIZE, SIZE.least)
 }

@@ -3,11 +3,12 @@
 
 mod job;
 mod options;
+mod refusals;
 mod settings;
 #[cfg(test)]
 mod tests;
 mod values;
 
 pub use job::{Job, Journey, ReplayJob, SearchJob, Timetable, WordsFault, read_job};
-pub use options::{Command, Goal, OptionName, option_word};
+pub use options::{Command, Goal, OptionName, Use, option_word};
 pub use settings::line_is_a_command_and_its_settings;

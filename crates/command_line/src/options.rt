@@ -1,6 +1,7 @@
 //! The commands and the options by their words.
 ghost use Rattle.std.specs.Prelude.{◌≡◌, Some};
-ghost use Rattle.command_line.specs.Options.{option_name, option_number, option_word, command_named};
+ghost use Rattle.command_line.specs.Options.{option_name, option_number, option_word, option_numbered, option_named, command_named};
+ghost use Rattle.command_line.specs.Uses.{use_of};
 
 /// What is sought.
 #[derive(Clone, Copy, Debug, PartialEq, Eq)]
@@ -51,6 +52,37 @@ pub enum OptionName {
     Size,
 }
 
+/// The options by their numbers.
+pub(crate) const OPTIONS: [OptionName; 11] = [
+    OptionName::Cut,
+    OptionName::Feed,
+    OptionName::Delays,
+    OptionName::From,
+    OptionName::To,
+    OptionName::At,
+    OptionName::Alpha,
+    OptionName::Horizon,
+    OptionName::Graph,
+    OptionName::Late,
+    OptionName::Size,
+];
+
+/// What a command does with an option.
+#[derive(Clone, Copy, Debug, PartialEq, Eq)]
+pub enum Use {
+    /// It cannot do without it.
+    Needed,
+    /// It takes it where it is given.
+    Optional,
+    /// It has no use for it.
+    Unused,
+    /// It needs one of this option and the other. Where both are given it has no use for the one with the
+    /// lesser number, and where neither is it asks for the one with the greater.
+    OneOf(OptionName),
+    /// It takes it beside the other option, and has no use for it without.
+    With(OptionName),
+}
+
 impl Command {
     /// The command that a word names.
     pub(crate) fn named(word: &str) -> Option<Command>
@@ -72,6 +104,45 @@ impl Command {
             return Some(Command::Sample);
         }
         None
+    }
+
+    /// What the command does with an option.
+    pub fn use_of(self, option: OptionName) -> Use
+        ensures { result ≡ use_of self option }
+    {
+        match self {
+            Command::Seek(_) => match option {
+                OptionName::Cut => Use::OneOf(OptionName::Feed),
+                OptionName::Feed => Use::OneOf(OptionName::Cut),
+                OptionName::Delays | OptionName::From | OptionName::To | OptionName::At =>
+                    Use::Needed,
+                OptionName::Alpha => Use::Optional,
+                OptionName::Horizon => Use::With(OptionName::Feed),
+                OptionName::Graph | OptionName::Late | OptionName::Size => Use::Unused,
+            },
+            Command::Replay => match option {
+                OptionName::Cut => Use::OneOf(OptionName::Feed),
+                OptionName::Feed => Use::OneOf(OptionName::Cut),
+                OptionName::Delays | OptionName::From | OptionName::To | OptionName::At =>
+                    Use::Needed,
+                OptionName::Horizon => Use::With(OptionName::Feed),
+                OptionName::Graph | OptionName::Late => Use::Needed,
+                OptionName::Alpha | OptionName::Size => Use::Unused,
+            },
+            Command::Sample => match option {
+                OptionName::Size => Use::Needed,
+                OptionName::Cut
+                | OptionName::Feed
+                | OptionName::Delays
+                | OptionName::From
+                | OptionName::To
+                | OptionName::At
+                | OptionName::Alpha
+                | OptionName::Horizon
+                | OptionName::Graph
+                | OptionName::Late => Use::Unused,
+            },
+        }
     }
 }
 
@@ -115,22 +186,29 @@ impl OptionName {
     }
 }
 
-/// The word of the option of this number.
+/// The option that a word names.
+pub(crate) fn option_named(word: &str) -> Option<OptionName>
+    ensures { result ≡ option_named word.now }
+{
+    OPTIONS.iter().copied().find(|option| word == option.name())
+}
+
+/// The option of this number.
+fn option_numbered(number: u8) -> Option<OptionName>
+    ensures { result ≡ option_numbered number }
+{
+    OPTIONS
+        .iter()
+        .copied()
+        .find(|option| option.number() == number)
+}
+
+/// The word of the option of this number, and nothing where none has it.
 pub fn option_word(number: u8) -> &'static str
     ensures { result.now ≡ option_word number }
 {
-    match number {
-        1 => "--cut",
-        2 => "--feed",
-        3 => "--delays",
-        4 => "--from",
-        5 => "--to",
-        6 => "--at",
-        7 => "--alpha",
-        8 => "--horizon",
-        9 => "--graph",
-        10 => "--late",
-        11 => "--size",
-        _ => "",
+    match option_numbered(number) {
+        None => "",
+        Some(option) => option.name(),
     }
 }

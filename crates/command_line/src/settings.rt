@@ -1,31 +1,9 @@
 //! Pairs of an option and its value.
 ghost use Rattle.std.specs.Prelude.{◌≡◌, ℕ, ◌∷◌, ◌↔◌, List, Some, IsTrue, map, string_bytes, option_map};
-ghost use Rattle.command_line.specs.Options.{option_name, option_named};
-ghost use Rattle.command_line.specs.Settings.{Setting, IsLine, value_of, value_in, are_settings};
+ghost use Rattle.command_line.specs.Options.{option_name};
+ghost use Rattle.command_line.specs.Settings.{Setting, IsLine, value_of, value_in, is_given, text_of, are_settings};
 
-use crate::options::OptionName;
-
-/// The options by their numbers.
-pub(crate) const OPTIONS: [OptionName; 11] = [
-    OptionName::Cut,
-    OptionName::Feed,
-    OptionName::Delays,
-    OptionName::From,
-    OptionName::To,
-    OptionName::At,
-    OptionName::Alpha,
-    OptionName::Horizon,
-    OptionName::Graph,
-    OptionName::Late,
-    OptionName::Size,
-];
-
-/// The option that a word names.
-fn option_named(word: &str) -> Option<OptionName>
-    ensures { result ≡ option_named word.now }
-{
-    OPTIONS.iter().copied().find(|option| word == option.name())
-}
+use crate::options::{OptionName, option_named};
 
 /// The value of an option.
 pub(crate) fn value_of(settings: &[String], option: OptionName) -> Option<&str>
@@ -38,6 +16,23 @@ pub(crate) fn value_of(settings: &[String], option: OptionName) -> Option<&str>
         return Some(value.as_str());
     }
     value_of(others, option)
+}
+
+/// Whether an option has a value.
+pub(crate) fn is_given(settings: &[String], option: OptionName) -> bool
+    ensures { result ≡ is_given (map string_bytes settings.now) option }
+{
+    value_of(settings, option).is_some()
+}
+
+/// The value of an option, and nothing where it has none.
+pub(crate) fn text_of(settings: &[String], option: OptionName) -> &str
+    ensures { result.now ≡ text_of (map string_bytes settings.now) option }
+{
+    match value_of(settings, option) {
+        None => "",
+        Some(value) => value,
+    }
 }
 
 /// Whether words are pairs of an option and a value, in which no option stands twice.

@@ -1,9 +1,10 @@
 //! The forms of the values.
-ghost use Rattle.std.specs.Prelude.{◌≡◌, ◌≤◌, option_map, map, is_some, IfSome, IfOk};
-ghost use Rattle.command_line.specs.Values.{start_at, number_at, late_at, pieces, is_delay, delay_in, are_delays, has_form};
+ghost use Rattle.std.specs.Prelude.{◌≡◌, ◌≤◌, option_map, map, string_bytes, is_some, IfSome, IfOk};
+ghost use Rattle.command_line.specs.Values.{first_start, last_start, start_at, number_at, late_at, pieces, is_delay, delay_in, are_delays, has_form};
 ghost use Rattle.command_line.specs.Jobs.{late_in};
 
 use crate::options::OptionName;
+use crate::settings::text_of;
 use clock_text::{read_moment, read_whole};
 use plan_model::Moment;
 use std::alloc::{AllocError, Global};
@@ -45,7 +46,7 @@ const MOST_DELAYS: usize = 4_096;
 /// The moment that a journey begins at.
 pub(crate) fn read_start(text: &[u8]) -> Option<Moment>
     ensures start { option_map (λ moment. moment.0) result ≡ start_at text.now }
-    ensures in_range { IfSome result (λ moment. (604800 ≤ moment.0) × (moment.0 ≤ 13569465599)) }
+    ensures in_range { IfSome result (λ moment. (first_start ≤ moment.0) × (moment.0 ≤ last_start)) }
 {
     match read_moment(text) {
         None => None,
@@ -122,16 +123,22 @@ pub(crate) fn read_late(alloc: Global, text: &str) -> Result<Vec<u32>, AllocErro
     Ok(Vec::new(alloc))
 }
 
-/// Whether the value of an option is of its form.
-pub(crate) fn has_form(option: OptionName, text: &str) -> bool
-    ensures { result ≡ has_form option text.now }
+/// Whether the value that settings give to an option is of its form.
+pub(crate) fn has_form(settings: &[String], option: OptionName) -> bool
+    ensures { result ≡ has_form (map string_bytes settings.now) option }
 {
+    let text = text_of(settings, option);
     match option {
         OptionName::At => read_start(text.as_bytes()).is_some(),
         OptionName::Alpha => read_number(text.as_bytes(), ALPHA).is_some(),
         OptionName::Horizon => read_number(text.as_bytes(), HORIZON).is_some(),
         OptionName::Late => is_late(text),
         OptionName::Size => read_number(text.as_bytes(), SIZE).is_some(),
-        _ => !text.is_empty(),
+        OptionName::Cut
+        | OptionName::Feed
+        | OptionName::Delays
+        | OptionName::From
+        | OptionName::To
+        | OptionName::Graph => !text.is_empty(),
     }
 }
