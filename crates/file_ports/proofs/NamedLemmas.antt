@@ -12,7 +12,7 @@ use Rattle.file_ports.specs.Named.{value_at}
 abbrev pub at_path : {T : Type 0} → List ℕ → Named T → Bool
 at_path q e = bytes_eq (string_bytes e.path) q
 
-get_or_next : {A : Type 0} (x : A) (xs : List A) (n : ℕ) (d : A) → get_or (x ∷ xs) (1 + n) d ≡ get_or xs n d
+pub get_or_next : {A : Type 0} (x : A) (xs : List A) (n : ℕ) (d : A) → get_or (x ∷ xs) (1 + n) d ≡ get_or xs n d
 get_or_next x xs n d = grind (arith, common_steps)
 
 some_step : {T : Type 0} (b : Bool) (e d : Named T) (es : List (Named T)) (v : Option T) (n : ℕ) → cond (not b) (1 + n) 0 < length (e ∷ es)

@@ -1,6 +1,6 @@
 //! Files and streams of the host. They tell neither what a file holds nor what was written, and count each error
 //! of the system, one for want of memory included.
-ghost use Rattle.std.specs.Prelude.{◌≡◌};
+ghost use Rattle.std.specs.Prelude.{◌≡◌, None};
 
 use crate::ports::{Failed, Files, Presence, Sink};
 use std::io::{ErrorKind, Read, Write};
@@ -17,7 +17,10 @@ pub struct HostFiles<R: rt::Files> {
 
 impl<R: rt::Files> HostFiles<R> {
     /// No file is in hand, and nothing has failed. It takes no memory.
-    pub fn new(rt: R) -> HostFiles<R> {
+    pub fn new(rt: R) -> HostFiles<R>
+        ensures hand { ⟦<HostFiles<R> as Files>⟧.in_hand result ≡ None }
+        ensures faults { ⟦<HostFiles<R> as Files>⟧.faults result ≡ 0 }
+    {
         HostFiles {
             rt,
             file: None,
@@ -79,7 +82,9 @@ pub struct HostSink<W: Write> {
 
 impl<W: Write> HostSink<W> {
     /// Nothing has failed. It takes no memory.
-    pub fn new(writer: W) -> HostSink<W> {
+    pub fn new(writer: W) -> HostSink<W>
+        ensures { ⟦<HostSink<W> as Sink>⟧.faults result ≡ 0 }
+    {
         HostSink { writer, faults: 0 }
     }
 }

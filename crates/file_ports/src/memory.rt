@@ -66,6 +66,17 @@ fn counter(alloc: Global, failing: &mut Vec<Named<Failing>>, path: &str) -> Resu
     Ok(index)
 }
 
+/// Forgets which calls fail, and keeps the counts.
+fn forget_calls(failing: &mut [Named<Failing>])
+    ensures calls { (path : List ℕ) (call : ℕ) → fails_in failing.new path call ≡ false }
+    ensures counts { (path : List ℕ) → faults_in failing.new path ≡ faults_in failing.old path }
+{
+    for index in 0..failing.len() {
+        let entry = &mut failing[index].value;
+        entry.calls.clear();
+    }
+}
+
 /// Files in memory. Calls on them fail where `fail` says so, and only there.
 #[derive(Drop)]
 pub struct MemoryFiles {
@@ -128,6 +139,18 @@ impl MemoryFiles {
         Ok(())
     }
 
+    /// Forgets all calls that are to fail, and leaves the files, the file in hand and all counts as they are: from
+    /// now on no call fails until `fail` names one again.
+    pub fn heal(&mut self)
+        ensures calls { (path : List ℕ) (call : ℕ) → fails_at self.new path call ≡ false }
+        ensures files { SameFiles self.old self.new }
+        ensures counts { (path : List ℕ) → faults_at self.new path ≡ faults_at self.old path }
+        ensures total { total_faults self.new ≡ total_faults self.old }
+        ensures piece { piece_of self.new ≡ piece_of self.old }
+    {
+        forget_calls(&mut self.failing);
+    }
+
     /// How many calls have failed.
     pub fn fault_count(&self) -> u64
         ensures { result ≡ total_faults self.now }
@@ -140,7 +163,7 @@ impl Files for MemoryFiles {
     ghost use Rattle.std.specs.Prelude.{IsSome, IfSome, IfOk, Some, is_err};
     ghost use Rattle.std.specs.Io.{ReadsAtMost};
     ghost use Rattle.std.specs.Io.KnownBytes.{ReadConsumes};
-    ghost use Rattle.file_ports.specs.Counts.{HasCause, HasPathCause};
+    ghost use Rattle.file_ports.specs.Counts.{RoseByOne, HasCause, HasPathCause};
     ghost use Rattle.file_ports.specs.Ports.{Opens, TakesInHand};
     ghost use Rattle.file_ports.specs.Memory.{folder_of, faults_at, fails_at, hand_of, left_of, piece_of, reads_of, total_faults, FailsAlike};
 
@@ -163,6 +186,9 @@ impl Files for MemoryFiles {
         ensures path_cause { HasPathCause (IsSome (Some (folder_of self.old))) path.now
             (faults_at self.old) (faults_at self.new) result }
         ensures fails { is_err result ≡ fails_at self.old path.now 0 }
+        ensures one { OnErr result (RoseByOne (total_faults self.old) (total_faults self.new)) }
+        ensures one_at_path { OnErr result
+            (RoseByOne (faults_at self.old path.now) (faults_at self.new path.now)) }
         ensures reads { reads_of self.new ≡ 0 }
         ensures piece { piece_of self.new ≡ piece_of self.old }
         ensures failing { FailsAlike self.old self.new }
@@ -188,6 +214,9 @@ impl Files for MemoryFiles {
             HasPathCause (IsSome (Some (folder_of self.old))) path (faults_at self.old) (faults_at self.new) result) }
         ensures fails { IfSome (hand_of self.old) (λ path.
             is_err result ≡ fails_at self.old path (reads_of self.new)) }
+        ensures one { OnErr result (RoseByOne (total_faults self.old) (total_faults self.new)) }
+        ensures one_at_path { OnErr result (IfSome (hand_of self.old) (λ path.
+            RoseByOne (faults_at self.old path) (faults_at self.new path))) }
         ensures count { IfOk result (λ n. IfSome (left_of self.old) (λ left.
             n ≡ min (min (piece_of self.old) (length buffer.old)) (length left))) }
         ensures reads { reads_of self.new ≡ min (reads_of self.old + 1) (2 ^ 64 - 1) }

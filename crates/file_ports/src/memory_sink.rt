@@ -60,10 +60,10 @@ impl MemorySink {
 }
 
 impl Sink for MemorySink {
-    ghost use Rattle.std.specs.Prelude.{◌≡◌, ◌<◌, ◌≤◌, ◌+◌, ◌-◌, ◌^◌, ◌||◌, min, length, Some, IfOk, is_err, nat_eq, nat_le};
+    ghost use Rattle.std.specs.Prelude.{◌≡◌, ◌<◌, ◌≤◌, ◌+◌, ◌-◌, ◌^◌, ◌||◌, min, length, Some, IfOk, OnErr, is_err, nat_eq, nat_le};
     ghost use Rattle.std.specs.List.{list_any};
     ghost use Rattle.std.specs.Io.KnownBytes.{WriteAppends};
-    ghost use Rattle.file_ports.specs.Counts.{HasCause};
+    ghost use Rattle.file_ports.specs.Counts.{RoseByOne, HasCause};
     ghost use Rattle.file_ports.specs.MemorySink.{held_of, piece_of, room_of, writes_of, failing_of, total_faults};
 
     ghost written = { λ s. Some (held_of s) };
@@ -79,6 +79,7 @@ impl Sink for MemorySink {
         ensures fails { is_err result ≡ (list_any
             (λ c. nat_eq c (writes_of self.new)) (failing_of self.old)
             || nat_le (room_of self.old) (length (held_of self.old))) }
+        ensures one { OnErr result (RoseByOne (total_faults self.old) (total_faults self.new)) }
         ensures count { IfOk result (λ n. n ≡ min (min (piece_of self.old) (length piece.now))
             (room_of self.old - length (held_of self.old))) }
         ensures writes { writes_of self.new ≡ min (writes_of self.old + 1) (2 ^ 64 - 1) }

@@ -74,6 +74,42 @@ fn memory_files_fail_where_told(rt: HostRuntime) -> Result<(), Fail> {
 }
 
 #[test]
+fn memory_files_heal(rt: HostRuntime) -> Result<(), Fail> {
+    let alloc = rt.alloc();
+    let mut files = MemoryFiles::new(alloc, 2);
+    files.add("a", b"hello")?;
+    files.add("b", b"there")?;
+    for (path, call) in [("a", 0), ("a", 2), ("b", 1), ("c", 0)] {
+        files.fail(path, call)?;
+    }
+    for path in ["a", "b", "c"] {
+        assert_eq!(rt;
+            loaded(alloc, &mut files, path, 9).err(),
+            Some("cannot read"),
+            "{path}"
+        );
+    }
+    assert_eq!(rt; files.fault_count(), 3);
+    files.heal();
+    for (path, bytes) in [("a", b"hello".as_slice()), ("b", b"there".as_slice())] {
+        assert_eq!(rt;
+            loaded(alloc, &mut files, path, 9)?.as_slice(),
+            bytes,
+            "{path}"
+        );
+    }
+    assert_eq!(rt; loaded(alloc, &mut files, "c", 9).err(), Some("absent"));
+    assert_eq!(rt; files.fault_count(), 3);
+    files.fail("b", 0)?;
+    assert_eq!(rt;
+        loaded(alloc, &mut files, "b", 9).err(),
+        Some("cannot read")
+    );
+    assert_eq!(rt; files.fault_count(), 4);
+    Ok(())
+}
+
+#[test]
 fn steady_files_load(rt: HostRuntime) -> Result<(), Fail> {
     let alloc = rt.alloc();
     let mut files = SteadyFiles::new(alloc, 2);
