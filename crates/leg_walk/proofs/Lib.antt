@@ -6,4 +6,5 @@ pub mod Tables
 pub mod Reaching
 pub mod Walks
 pub mod Rides
+pub mod Whole
 pub mod Graphs

@@ -24,6 +24,7 @@ use Rattle.leg_walk.proofs.Sets.{rising_keys}
 use Rattle.leg_walk.proofs.Orders.{leg_less}
 use Rattle.leg_walk.proofs.Places.{IsPlacedNext, next_after}
 use Rattle.leg_walk.proofs.Tables.{first_pick, first_there, first_in_table, same_next}
+use Rattle.leg_walk.proofs.Whole.{ride_from}
 
 -- the delays after a leg rise
 pub delays_rise : (n : Parts) → IsValid n → (leg : Leg) → IsLegOf n leg → Later (λ a b. a.delay < b.delay) (outcomes_of n leg)
@@ -125,6 +126,15 @@ module _ (n : Parts) (valid : IsValid n) (q : Query) (choice : Leg → ℕ → O
       let t = next leg has away o (has_from_contains (outcomes_of n leg) o there) in
       record { next = t.next; is_chosen = t.is_chosen; is_leg = t.placed.is_leg; boards = t.boards }
 
+  closed : (r : Ride) → Contains rides r → (row : GraphRow) → Contains r.after row → HasRideOf rides row.leg
+  closed = at_ride (λ r. (row : GraphRow) → Contains r.after row → HasRideOf rides row.leg) (λ leg has row there. has_ride row.leg (reached.closed leg has row (has_from_contains (table_of n target choice leg) row there)))
+
+  covered : (leg : Leg) → Stands leg whole → HasRideOf rides leg
+  covered leg there =
+      ride_from n target rides closed leg (Some start) q.source.0 q.start.0
+      (λ own is. subst (λ (l : Leg). HasRideOf rides l) (same_next (Some start) start own refl is) (has_ride start reached.start_there))
+      (subst (λ (tree : Tree). Stands leg tree) (sym unfolds) there)
+
   pub walked : IsWalked n q choice start rides
   walked = record {
     unfolds = unfolds;
@@ -132,7 +142,8 @@ module _ (n : Parts) (valid : IsValid n) (q : Query) (choice : Leg → ℕ → O
     legs = all_rides (λ r. IsLegOf n r.leg) (λ leg has. (placed leg has).is_leg);
     tables = all_rides (λ r. r.after ≡ table_of n target choice r.leg) (λ leg has. refl);
     stands = all_rides (λ r. Stands r.leg whole) (λ leg has. (placed leg has).stands);
+    whole = covered;
     begins = has_ride start reached.start_there;
-    closed = at_ride (λ r. (row : GraphRow) → Contains r.after row → HasRideOf rides row.leg) (λ leg has row there. has_ride row.leg (reached.closed leg has row (has_from_contains (table_of n target choice leg) row there)));
+    closed = closed;
     taken = at_ride (λ r. end_of n r.leg ≢ target → (o : Outcome) → Contains (outcomes_of n r.leg) o → IsTaken n choice r.leg (arrival_of n r.leg o.delay)) taken;
   }

@@ -30,6 +30,7 @@ pub record IsWalked (n : Parts) (q : Query) (choice : Leg → ℕ → Option Leg
   pub legs : All (λ r. IsLegOf n r.leg) rides
   pub tables : All (λ r. r.after ≡ table_of n q.target.0 choice r.leg) rides
   pub stands : All (λ r. Stands r.leg (unfolded n q choice (Some start))) rides
+  pub whole : (leg : Leg) → Stands leg (unfolded n q choice (Some start)) → HasRideOf rides leg
   pub begins : HasRideOf rides start
   pub closed : (r : Ride) → Contains rides r → (row : GraphRow) → Contains r.after row → HasRideOf rides row.leg
   pub taken : (r : Ride) → Contains rides r → end_of n r.leg ≢ q.target.0 → (o : Outcome) → Contains (outcomes_of n r.leg) o → IsTaken n choice r.leg (arrival_of n r.leg o.delay)
