@@ -9,11 +9,11 @@ use Rattle.plan_model.specs.Unfold.{end_of, arrival_of, outcomes_of}
 use Rattle.plan_graph.specs.declared.GraphRow.{GraphRow}
 use Rattle.plan_graph.specs.declared.Ride.{Ride}
 use Rattle.plan_graph.specs.declared.ExpandedGraph.{ExpandedGraph}
-use Rattle.plan_graph.specs.Rows.{pick_row, pick_after, HasRisingRides, HasRisingRows}
+use Rattle.plan_graph.specs.Rows.{pick_row, pick_after, HasRisingRides}
 use Rattle.plan_graph.specs.Ready.{IsReady, IsReadyRide, IsReadyRow, IsLegOf, pick_in_time}
 use Rattle.leg_walk.proofs.Rides.{ride_there}
 use Rattle.leg_walk.specs.Placed.{Has}
-use Rattle.leg_walk.proofs.Lists.{all_at_has, all_from_has, contains_from_has}
+use Rattle.leg_walk.proofs.Lists.{all_at_has, contains_from_has}
 use Rattle.leg_walk.proofs.Graphs.{IsKeptAfter}
 use Rattle.graph_prune.proofs.Limits.{in_time_kept}
 
@@ -26,7 +26,7 @@ module _ (n : Parts) (q : Query) (graph : ExpandedGraph) (ready : IsReady n q gr
 
   -- it can be asked for its picks
   pub rising : HasRisingRides graph.rides
-  rising = (ready.rising, all_from_has (λ r. HasRisingRows r.after) graph.rides (λ r has i j d less within. ((ready_ride r has).rising i j d less within).by))
+  rising = ready.rising
 
   -- what is picked after an outcome is kept
   pub kept_after : (leg : Leg) → IsKeptAfter n q.target.0 choice leg

@@ -48,7 +48,7 @@ impl LegChoice for ExpandedGraph {
     fn choose(&self, network: &Network, query: &Query, leg: Leg, arrival: Moment) -> Option<Leg> {
         let _ = network;
         let _ = query;
-        self.pick(leg, arrival)
+        self.pick_rising(leg, arrival)
     }
 }
 

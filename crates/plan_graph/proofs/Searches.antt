@@ -1,5 +1,5 @@
 -- Searches by halving find what comes first in a list that rises.
-use Rattle.std.proofs.Common.{◌≡◌, ℕ, zero, suc, ◌<◌, ◌≤◌, Bool, true, false, not, List, [], ◌∷◌, length, Some, None, AllPairs, arith, sym, subst, refl, inl, inr, ◌∙◌, ap}
+use Rattle.std.proofs.Common.{◌≡◌, ℕ, zero, suc, ◌<◌, ◌≤◌, Bool, true, false, not, List, [], ◌∷◌, length, None, AllPairs, arith, sym, subst, refl, inl, inr, ◌∙◌, ap}
 use Rattle.std.specs.Prelude.{nat_lt, ◌==◌, ◌&&◌, slice_index_or}
 use Rattle.std.specs.List.{AllWithin}
 use Rattle.std.specs.List.Sorted.{IsPartitionedBy, IsPartitionPoint}
@@ -8,8 +8,7 @@ use Rattle.std.proofs.lemmas.Bool.Decides.{nat_tests}
 use Rattle.plan_model.specs.declared.model.Leg.{Leg}
 use Rattle.plan_graph.specs.declared.GraphRow.{GraphRow}
 use Rattle.plan_graph.specs.declared.Ride.{Ride}
-use Rattle.plan_graph.specs.declared.PlaceTable.{PlaceTable}
-use Rattle.plan_graph.specs.Rows.{pick_row, rows_after, rows_of_place, Precedes, leg_lt}
+use Rattle.plan_graph.specs.Rows.{pick_row, rows_after, Precedes, leg_lt}
 
 lt_true : (x y : ℕ) → nat_lt x y ≡ true → x < y
 lt_true x y is = grind (arith, nat_tests)
@@ -19,31 +18,6 @@ lt_false x y is = grind (arith, nat_tests)
 
 lt_is : (x y : ℕ) → x < y → nat_lt x y ≡ true
 lt_is x y less = grind (arith, nat_tests)
-
--- rows that rise are parted by a moment
-pub rows_parted : (rows : List GraphRow) (x : ℕ) → AllPairs (λ a b. a.by.0 < b.by.0) rows → IsPartitionedBy (λ row. nat_lt row.by.0 x) rows
-rows_parted rows x rise i j d before within is =
-    elim (cases_lt i j) [
-      | inl less ↦ let rises = rise i j d less within in lt_is (slice_index_or rows i d).by.0 x (omega (arith, rises, lt_true (slice_index_or rows j d).by.0 x is))
-      | inr same ↦ let e : j ≡ i = omega (arith, before, same) in subst (λ (k : ℕ). nat_lt (slice_index_or rows k d).by.0 x ≡ true) e is
-    ]
-
--- the first row that is not before a moment
-pub pick_row-at : (rows : List GraphRow) (x i : ℕ) (d : GraphRow) → AllWithin (λ row. nat_lt row.by.0 x ≡ true) rows 0 i → i < length rows → nat_lt (slice_index_or rows i d).by.0 x ≡ false → pick_row rows x ≡ Some (slice_index_or rows i d).leg
-pick_row-at [] x i d before within is = absurd (omega (arith, within))
-pick_row-at (row ∷ rows) x zero d before within is =
-    let here = lt_false row.by.0 x is in grind (arith, nat_tests)
-pick_row-at (row ∷ rows) x (suc i) d before within is =
-    let head = lt_true row.by.0 x (before 0 row (omega arith) (omega arith)) in
-    let step : pick_row (row ∷ rows) x ≡ pick_row rows x = grind (arith, nat_tests) in
-    step ∙ pick_row-at rows x i d (λ k e from below. before (suc k) e (omega arith) (omega (arith, below))) (omega (arith, within)) is
-
-pub pick_row-none : (rows : List GraphRow) (x : ℕ) → AllWithin (λ row. nat_lt row.by.0 x ≡ true) rows 0 (length rows) → pick_row rows x ≡ None
-pick_row-none [] x before = refl
-pick_row-none (row ∷ rows) x before =
-    let head = lt_true row.by.0 x (before 0 row (omega arith) (omega arith)) in
-    let step : pick_row (row ∷ rows) x ≡ pick_row rows x = grind (arith, nat_tests) in
-    step ∙ pick_row-none rows x (λ k e from below. before (suc k) e (omega arith) (omega (arith, below)))
 
 -- rides that rise are parted by a leg
 leg_before : (a b : Leg) → Precedes a b → leg_lt a b ≡ true
@@ -125,39 +99,6 @@ rows_after-none rides leg i rise point other = rows_after-absent rides leg (λ k
   ]
 ])
 
--- the same of tables by place
-pub tables_parted : (tables : List PlaceTable) (place : ℕ) → AllPairs (λ a b. a.place.0 < b.place.0) tables → IsPartitionedBy (λ t. nat_lt t.place.0 place) tables
-tables_parted tables place rise i j d before within is = elim (cases_lt i j) [
-  | inl less ↦ let rises = rise i j d less within in lt_is (slice_index_or tables i d).place.0 place (omega (arith, rises, lt_true (slice_index_or tables j d).place.0 place is))
-  | inr same ↦ let e : j ≡ i = omega (arith, before, same) in subst (λ (k : ℕ). nat_lt (slice_index_or tables k d).place.0 place ≡ true) e is
-]
-
-table_here : (t : PlaceTable) (tables : List PlaceTable) (place : ℕ) → t.place.0 ≡ place → rows_of_place (t ∷ tables) place ≡ t.rows
-table_here t tables place same = let e : (t.place.0 == place) ≡ true = grind (arith, nat_tests) in rw e refl
-
-table_further : (t : PlaceTable) (tables : List PlaceTable) (place : ℕ) → (t.place.0 ≡ place → ⊥) → rows_of_place (t ∷ tables) place ≡ rows_of_place tables place
-table_further t tables place other = let e : (t.place.0 == place) ≡ false = grind (arith, nat_tests) in rw e refl
-
-pub rows_of_place-at : (tables : List PlaceTable) (place i : ℕ) (d : PlaceTable) → AllWithin (λ t. nat_lt t.place.0 place ≡ true) tables 0 i → i < length tables → (slice_index_or tables i d).place.0 ≡ place → rows_of_place tables place ≡ (slice_index_or tables i d).rows
-rows_of_place-at [] place i d before within is = absurd (omega (arith, within))
-rows_of_place-at (t ∷ tables) place zero d before within is = table_here t tables place is
-rows_of_place-at (t ∷ tables) place (suc i) d before within is =
-    table_further t tables place (λ same. let less = lt_true t.place.0 place (before 0 t (omega arith) (omega arith)) in omega (arith, same, less))
-    ∙ rows_of_place-at tables place i d (λ k e from below. before (suc k) e (omega arith) (omega (arith, below))) (omega (arith, within)) is
-
-rows_of_place-absent : (tables : List PlaceTable) (place : ℕ) → ((k : ℕ) (d : PlaceTable) → k < length tables → (slice_index_or tables k d).place.0 ≡ place → ⊥) → rows_of_place tables place ≡ []
-rows_of_place-absent [] place other = refl
-rows_of_place-absent (t ∷ tables) place other = table_further t tables place (other 0 t (omega arith)) ∙ rows_of_place-absent tables place (λ k d within. other (suc k) d (omega (arith, within)))
-
-pub rows_of_place-none : (tables : List PlaceTable) (place i : ℕ) → AllPairs (λ a b. a.place.0 < b.place.0) tables → IsPartitionPoint (λ t. nat_lt t.place.0 place ≡ true) (λ t. nat_lt t.place.0 place ≡ false) tables i → ((d : PlaceTable) → i < length tables → (slice_index_or tables i d).place.0 ≡ place → ⊥) → rows_of_place tables place ≡ []
-rows_of_place-none tables place i rise point other = rows_of_place-absent tables place (λ k d within is. elim (cases_lt k i) [
-  | inl less ↦ let before = lt_true (slice_index_or tables k d).place.0 place (point.0 k d (omega arith) less) in omega (arith, before, is)
-  | inr from ↦ elim (cases_lt i k) [
-    | inl more ↦ let rises = rise i k d more within in let after = lt_false (slice_index_or tables i d).place.0 place (point.1 i d (omega arith) (omega (arith, more, within))) in omega (arith, rises, after, is)
-    | inr same ↦ let e : i ≡ k = omega (arith, from, same) in other d (omega (arith, e, within)) (subst (λ (n : ℕ). (slice_index_or tables n d).place.0 ≡ place) (sym e) is)
-  ]
-])
-
 -- the same of a slice of the rides of a graph
 pub pick_after-at : (own rides : List Ride) (leg : Leg) (x i : ℕ) (r : Ride) → rides ≡ own → IsPartitionPoint (λ r. leg_lt r.leg leg ≡ true) (λ r. leg_lt r.leg leg ≡ false) rides i → i < length rides → r ≡ slice_index_or rides i r → r.leg ≡ leg → pick_row (rows_after own leg) x ≡ pick_row r.after x
 pick_after-at own rides leg x i r same point within is here =
@@ -168,17 +109,6 @@ pub pick_after-none : (own rides : List Ride) (leg : Leg) (x i : ℕ) → rides 
 pick_after-none own rides leg x i same rise point other =
     ap (λ (list : List Ride). pick_row (rows_after list leg) x) (sym same)
     ∙ ap (λ (rows : List GraphRow). pick_row rows x) (rows_after-none rides leg i (subst (λ (list : List Ride). AllPairs (λ a b. Precedes a.leg b.leg) list) (sym same) rise) point other)
-
--- the same of a slice of the tables of a graph
-pub pick_at-at : (own tables : List PlaceTable) (place x i : ℕ) (t : PlaceTable) → tables ≡ own → IsPartitionPoint (λ t. nat_lt t.place.0 place ≡ true) (λ t. nat_lt t.place.0 place ≡ false) tables i → i < length tables → t ≡ slice_index_or tables i t → t.place.0 ≡ place → pick_row (rows_of_place own place) x ≡ pick_row t.rows x
-pick_at-at own tables place x i t same point within is here =
-    ap (λ (list : List PlaceTable). pick_row (rows_of_place list place) x) (sym same)
-    ∙ ap (λ (rows : List GraphRow). pick_row rows x) (rows_of_place-at tables place i t point.0 within (ap (λ (s : PlaceTable). s.place.0) (sym is) ∙ here) ∙ ap (λ (s : PlaceTable). s.rows) (sym is))
-
-pub pick_at-none : (own tables : List PlaceTable) (place x i : ℕ) → tables ≡ own → AllPairs (λ a b. a.place.0 < b.place.0) own → IsPartitionPoint (λ t. nat_lt t.place.0 place ≡ true) (λ t. nat_lt t.place.0 place ≡ false) tables i → ((d : PlaceTable) → i < length tables → (slice_index_or tables i d).place.0 ≡ place → ⊥) → pick_row (rows_of_place own place) x ≡ None
-pick_at-none own tables place x i same rise point other =
-    ap (λ (list : List PlaceTable). pick_row (rows_of_place list place) x) (sym same)
-    ∙ ap (λ (rows : List GraphRow). pick_row rows x) (rows_of_place-none tables place i (subst (λ (list : List PlaceTable). AllPairs (λ a b. a.place.0 < b.place.0) list) (sym same) rise) point other)
 
 -- an element of a list is its own default
 pub at_default : {X : Type 0} (xs : List X) (i : ℕ) (d e : X) → i < length xs → slice_index_or xs i d ≡ slice_index_or xs i e
@@ -196,9 +126,3 @@ leg_same a b test is unequal = leg_test a b (by_test ((a.enter.0 == b.enter.0) &
 
 pub leg_other : (a b : Leg) (test : Bool) → test ≡ not ((a.enter.0 == b.enter.0) && (a.exit.0 == b.exit.0)) → test ≡ true → a ≡ b → ⊥
 leg_other a b test is unequal same = false≢true (ap not (sym (leg_tested a b same)) ∙ sym is ∙ unequal)
-
-pub place_same : (a b : ℕ) (test : Bool) → test ≡ not (a == b) → test ≡ false → a ≡ b
-place_same a b test is unequal = grind (arith, nat_tests)
-
-pub place_other : (a b : ℕ) (test : Bool) → test ≡ not (a == b) → test ≡ true → a ≡ b → ⊥
-place_other a b test is unequal same = let e : (a == b) ≡ true = grind (arith, nat_tests) in false≢true (ap not (sym e) ∙ sym is ∙ unequal)

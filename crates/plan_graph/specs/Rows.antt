@@ -1,5 +1,5 @@
 -- The rows of a graph, and what they pick.
-use Rattle.std.specs.Prelude.{◌≡◌, ℕ, ◌<◌, ◌⊎◌, List, [], ◌∷◌, Option, Some, None, All, AllPairs, Bool, nat_le, nat_lt, ◌==◌, ◌&&◌, ◌||◌, if◌then◌else◌}
+use Rattle.std.specs.Prelude.{◌≡◌, ℕ, ◌<◌, ◌⊎◌, List, [], ◌∷◌, Option, Some, None, AllPairs, Bool, nat_le, nat_lt, ◌==◌, ◌&&◌, ◌||◌, if◌then◌else◌}
 use Rattle.plan_model.specs.declared.model.Leg.{Leg}
 use Rattle.plan_graph.specs.declared.GraphRow.{GraphRow}
 use Rattle.plan_graph.specs.declared.Ride.{Ride}
@@ -10,15 +10,23 @@ abbrev pub pick_row : List GraphRow → ℕ → Option Leg
 pick_row [] arrival = None
 pick_row (row ∷ rows) arrival = if nat_le arrival row.by.0 then Some row.leg else pick_row rows arrival
 
+-- the ride is of this leg
+abbrev pub is_ride_of : Leg → Ride → Bool
+is_ride_of leg r = (r.leg.enter.0 == leg.enter.0) && (r.leg.exit.0 == leg.exit.0)
+
 -- the rows after a ride; none where the leg has no ride
 abbrev pub rows_after : List Ride → Leg → List GraphRow
 rows_after [] leg = []
-rows_after (r ∷ rides) leg = if (r.leg.enter.0 == leg.enter.0) && (r.leg.exit.0 == leg.exit.0) then r.after else rows_after rides leg
+rows_after (r ∷ rides) leg = if is_ride_of leg r then r.after else rows_after rides leg
+
+-- the table is of this place
+abbrev pub is_table_of : ℕ → PlaceTable → Bool
+is_table_of place table = table.place.0 == place
 
 -- the rows of a place; none where it has no table
 abbrev pub rows_of_place : List PlaceTable → ℕ → List GraphRow
 rows_of_place [] place = []
-rows_of_place (table ∷ tables) place = if table.place.0 == place then table.rows else rows_of_place tables place
+rows_of_place (table ∷ tables) place = if is_table_of place table then table.rows else rows_of_place tables place
 
 -- the leg after a ride that arrives at a moment
 abbrev pub pick_after : List Ride → Leg → ℕ → Option Leg
@@ -36,14 +44,6 @@ Precedes a b = (a.enter.0 < b.enter.0) ⊎ ((a.enter.0 ≡ b.enter.0) × (a.exit
 abbrev pub leg_lt : Leg → Leg → Bool
 leg_lt a b = nat_lt a.enter.0 b.enter.0 || ((a.enter.0 == b.enter.0) && nat_lt a.exit.0 b.exit.0)
 
--- the moments rise
-abbrev pub HasRisingRows : List GraphRow → Type 0
-HasRisingRows rows = AllPairs (λ a b. a.by.0 < b.by.0) rows
-
--- the rides rise, and so do the rows of each
+-- the rides rise
 abbrev pub HasRisingRides : List Ride → Type 0
-HasRisingRides rides = AllPairs (λ a b. Precedes a.leg b.leg) rides × All (λ r. HasRisingRows r.after) rides
-
--- the places rise, and so do the rows of each
-abbrev pub HasRisingTables : List PlaceTable → Type 0
-HasRisingTables tables = AllPairs (λ a b. a.place.0 < b.place.0) tables × All (λ table. HasRisingRows table.rows) tables
+HasRisingRides rides = AllPairs (λ a b. Precedes a.leg b.leg) rides

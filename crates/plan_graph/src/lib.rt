@@ -1,8 +1,9 @@
 //! Decision graphs by ride and by place, what they pick, and what they unfold to.
 #![tactic(auto)]
 
-ghost use Rattle.std.specs.Prelude.{◌≡◌};
-ghost use Rattle.plan_graph.specs.Rows.{pick_row, pick_after, pick_at, leg_lt, HasRisingRows, HasRisingRides, HasRisingTables};
+ghost use Rattle.std.specs.Prelude.{◌≡◌, nat_le, find};
+ghost use Rattle.std.specs.Option.{option_copied};
+ghost use Rattle.plan_graph.specs.Rows.{pick_row, pick_after, pick_at, is_ride_of, is_table_of, leg_lt, HasRisingRides};
 
 use plan_model::{Leg, List, Moment, PlaceId};
 
@@ -53,16 +54,36 @@ pub struct PlanGraph {
     pub tables: List<PlaceTable>,
 }
 
+/// The first row that is not before the arrival.
+fn first_row(rows: &[GraphRow], arrival: Moment) -> Option<&GraphRow>
+    ensures { option_copied result ≡ find (λ row. nat_le arrival.0 row.by.0) rows.now }
+{
+    rows.iter().find(|row| arrival.0 <= row.by.0)
+}
+
 /// The leg of the first row that is not before the arrival.
+#[tactic(auto, using(crate::proofs::Finds::picks_first, crate::proofs::Finds::picks_none))]
 fn first_leg(rows: &[GraphRow], arrival: Moment) -> Option<Leg>
-    requires { HasRisingRows rows.now }
     ensures { result ≡ pick_row rows.now arrival.0 }
 {
-    let at = rows.partition_point(|row| row.by.0 < arrival.0);
-    if at < rows.len() {
-        return Some(rows[at].leg);
+    match first_row(rows, arrival) {
+        Some(row) => Some(row.leg),
+        None => None,
     }
-    None
+}
+
+/// The first ride of the leg.
+fn ride_of(rides: &[Ride], leg: Leg) -> Option<&Ride>
+    ensures { option_copied result ≡ find (is_ride_of leg) rides.now }
+{
+    rides.iter().find(|ride| ride.leg == leg)
+}
+
+/// The first table of the place.
+fn table_of(tables: &[PlaceTable], place: PlaceId) -> Option<&PlaceTable>
+    ensures { option_copied result ≡ find (is_table_of place.0) tables.now }
+{
+    tables.iter().find(|table| table.place.0 == place.0)
 }
 
 /// Whether one leg stands before another: by entry, and then by exit.
@@ -73,9 +94,21 @@ fn precedes(a: Leg, b: Leg) -> bool
 }
 
 impl ExpandedGraph {
-    /// The leg that is taken after a ride that arrives at the moment: that of the first row that
-    /// is not before it. None where there is no such row.
+    /// The leg that is taken after a ride that arrives at the moment: that of the first row of the
+    /// leg's first ride that is not before it. None exactly where there is no such row. It looks at
+    /// one ride after the other; where the rides rise, `pick_rising` halves them.
+    #[tactic(auto, using(crate::proofs::Finds::rows_of_ride, crate::proofs::Finds::rows_of_none))]
     pub fn pick(&self, leg: Leg, arrival: Moment) -> Option<Leg>
+        ensures { result ≡ pick_after self.now.rides leg arrival.0 }
+    {
+        match ride_of(self.rides.as_slice(), leg) {
+            Some(ride) => first_leg(ride.after.as_slice(), arrival),
+            None => None,
+        }
+    }
+
+    /// The same of a graph whose rides rise, by halving them.
+    pub fn pick_rising(&self, leg: Leg, arrival: Moment) -> Option<Leg>
         requires { HasRisingRides self.now.rides }
         ensures { result ≡ pick_after self.now.rides leg arrival.0 }
     {
@@ -93,21 +126,16 @@ impl ExpandedGraph {
 }
 
 impl PlanGraph {
-    /// The leg that is taken after an arrival at the place: that of the first row that is not
-    /// before it. None where there is no such row.
+    /// The leg that is taken after an arrival at the place: that of the first row of the place's
+    /// first table that is not before it. None exactly where there is no such row. It looks at one
+    /// table after the other, and so at one row.
+    #[tactic(auto, using(crate::proofs::Finds::rows_of_table, crate::proofs::Finds::rows_of_no_table))]
     pub fn pick(&self, place: PlaceId, arrival: Moment) -> Option<Leg>
-        requires { HasRisingTables self.now.tables }
         ensures { result ≡ pick_at self.now.tables place.0 arrival.0 }
     {
-        let tables = self.tables.as_slice();
-        let at = tables.partition_point(|table| table.place.0 < place.0);
-        if at == tables.len() {
-            return None;
+        match table_of(self.tables.as_slice(), place) {
+            Some(table) => first_leg(table.rows.as_slice(), arrival),
+            None => None,
         }
-        let table = &tables[at];
-        if table.place != place {
-            return None;
-        }
-        first_leg(table.rows.as_slice(), arrival)
     }
 }
