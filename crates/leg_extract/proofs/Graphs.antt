@@ -13,7 +13,7 @@ use Rattle.plan_model.specs.Choices.{IsKept}
 use Rattle.plan_model.specs.Unfold.{end_of, arrival_of, outcomes_of, by_place}
 use Rattle.plan_graph.specs.declared.GraphRow.{GraphRow}
 use Rattle.plan_graph.specs.declared.Ride.{Ride}
-use Rattle.plan_graph.specs.Ready.{IsLegOf}
+use Rattle.plan_graph.specs.Ready.{IsLegOf, Stands}
 use Rattle.plan_graph.specs.Follows.{Follows, IsSteady}
 use Rattle.leg_walk.specs.Walked.{IsWalked}
 use Rattle.leg_walk.proofs.Lists.{contains_from_has, has_from_contains, all_at_has}
@@ -92,6 +92,7 @@ module _ {V : Type 0} {below covers : V → Tree → Type 0} {gap : V → ℕ} (
       unfolds = walked.unfolds;
       ready = ready n valid q choice start.1 rides walked differ start_leg (q.deadline.0, safe_start start starts) (λ r there. kept_after r.leg);
       busy = busy n valid q choice start.1 rides walked;
+      whole = λ leg there. walked.whole leg (subst (λ (tree : Tree). Stands leg tree) walked.unfolds there);
       arrivals = all_rides n valid q choice start.1 rides walked (HasArrivals n target) has_arrivals;
       follows = follows;
       steady = steady;

@@ -7,8 +7,9 @@ use Rattle.plan_model.specs.Unfold.{end_of, arrival_of, outcomes_of}
 use Rattle.plan_graph.specs.declared.Ride.{Ride}
 use Rattle.plan_graph.specs.declared.ExpandedGraph.{ExpandedGraph}
 use Rattle.plan_graph.specs.Unfold.{unfold_expanded}
-use Rattle.plan_graph.specs.Ready.{IsReady, IsBusy}
+use Rattle.plan_graph.specs.Ready.{IsReady, IsBusy, Stands}
 use Rattle.plan_graph.specs.Follows.{Follows, IsSteady}
+use Rattle.leg_walk.specs.Walked.{HasRideOf}
 use Rattle.meat_scan.specs.Found.{Found, leg_choice, chosen_by}
 
 -- one row for each outcome, by its arrival; none at the target
@@ -17,6 +18,10 @@ HasArrivals n target r =
     map (λ row. row.by.0) r.after
     ≡ (if end_of n r.leg == target then [] else map (λ o. arrival_of n r.leg o.delay) (outcomes_of n r.leg))
 
+-- each leg that stands in the unfolding has a ride, those that end at the target among them
+abbrev pub IsWhole : Parts → Query → ExpandedGraph → Type 0
+IsWhole n q graph = (leg : Leg) → Stands leg (unfold_expanded graph n q) → HasRideOf graph.rides leg
+
 -- the graph has the rides that the scan's choices reach from a start leg on, each with a row for each outcome;
 -- it unfolds to the tree that they fix, and is ready to be pruned; what is chosen is kept up to its limit
 pub record IsExtracted {V : Type 0} (n : Parts) (q : Query) (found : Found V) (start : Leg) (graph : ExpandedGraph) : Type 0 where
@@ -24,6 +29,7 @@ pub record IsExtracted {V : Type 0} (n : Parts) (q : Query) (found : Found V) (s
   pub unfolds : unfold_expanded graph n q ≡ chosen_by n q found start
   pub ready : IsReady n q graph
   pub busy : IsBusy n q graph
+  pub whole : IsWhole n q graph
   pub arrivals : All (HasArrivals n q.target.0) graph.rides
   pub follows : Follows n q.target.0 (leg_choice found) graph
   pub steady : IsSteady n q.target.0 (leg_choice found)
