@@ -1,5 +1,5 @@
 -- What is left of the runs of a network up to a moment.
-use Rattle.std.proofs.Common.{◌≡◌, ℕ, suc, ◌+◌, ◌<◌, ◌≤◌, inl, inr, ⊎_elim, Bool, true, false, cond, ltb, List, [], ◌∷◌, ◌++◌, length, get_or, set, All, AllPairs, arith, refl, sym, ap, ◌∙◌}
+use Rattle.std.proofs.Common.{◌≡◌, ℕ, suc, ◌+◌, ◌-◌, ◌<◌, ◌≤◌, inl, inr, ⊎_elim, Bool, true, false, cond, ltb, List, [], ◌∷◌, ◌++◌, length, get_or, set, All, AllPairs, arith, refl, sym, ap, ◌∙◌}
 use Rattle.std.specs.Prelude.{filter}
 use Rattle.std.proofs.lemmas.Bool.{cases_lt, cases_eq, lt-ltb, le-ltb, ltb-true, ltb-false, false_from_ne_true, cases_Bool}
 use Rattle.std.proofs.lemmas.List.{get_or-set_same, get_or-set_other, get_or_past, length-set}
@@ -7,7 +7,7 @@ use Rattle.std.proofs.lemmas.List.Elements.{All-tail, All-head, All-cons, filter
 use Rattle.plan_model.specs.declared.model.ConnectionId.{ConnectionId}
 use Rattle.plan_model.specs.Parts.{Parts}
 use Rattle.plan_model.specs.Network.{IsValid, count, dep_of, run_of}
-use Rattle.plan_model.specs.Order.{IsUpTo}
+use Rattle.plan_model.specs.Order.{IsPrefixUpTo}
 use Rattle.plan_model.proofs.Skips.{dep_of_earlier}
 use Rattle.connections.specs.Merged.{in_order, rest_of, AreStretches, DepartsInOrder, IsParted}
 use Rattle.connections.proofs.ScanLemmas.{IsScanOrder-in_order}
@@ -72,6 +72,16 @@ DepartsInOrder-run n v starts left s r h i j from up to =
 
 pub left_within : (n : Parts) (starts left : List ℕ) → AreStretches n starts left → (r : ℕ) → r < length left → get_or left r 0 ≤ count n
 left_within n starts left s r h = let next = s.begin.each (r + 1) (omega (arith, s.size)) in omega (arith, (s.within r h).1, next.within)
+
+-- where the last one departs in time, all do
+pub IsParted-whole : (n : Parts) (last from to : ℕ) → from ≤ to → DepartsInOrder n from to → (from < to → dep_of n (to - 1) ≤ last) → IsParted n last from to to to
+IsParted-whole n last from to ordered rising soon = record {
+  begin = ordered;
+  ordered = omega arith;
+  end = omega arith;
+  soon = λ i first before. omega (arith, rising i (to - 1) first (omega arith) (omega arith), soon (omega arith));
+  late = λ i after before. absurd (omega arith);
+}
 
 module _ (n : Parts) (last from low high to : ℕ) (p : IsParted n last from low high to) (rising : DepartsInOrder n from to) where
   pub IsParted-up : (middle : ℕ) → low ≤ middle → middle < high → dep_of n middle ≤ last → IsParted n last from (middle + 1) high to
@@ -149,7 +159,7 @@ module _ (n : Parts) (last : ℕ) (starts left new : List ℕ) (run : ℕ) (s : 
             le-ltb id.0 (new_end id) (omega (arith, ge, less));
       }
 
-  pub rest_of-lowered : IsValid n → IsUpTo n last (rest_of n left) (rest_of n new)
+  pub rest_of-lowered : IsValid n → IsPrefixUpTo n last (rest_of n left) (rest_of n new)
   unfolding rest_of
   rest_of-lowered v =
       let ids : List ConnectionId = in_order n (count n) in

@@ -9,7 +9,7 @@ use Rattle.plan_model.specs.Parts.{Parts}
 use Rattle.plan_model.specs.Network.{IsValid, count, run_of}
 use Rattle.plan_model.specs.Order.{IsScanOrder}
 use Rattle.plan_model.proofs.ScanOrders.{has_each_id}
-use Rattle.connections.specs.Merged.{rank, in_order, rest_of, IsStart, AreStarts, AreStretches, shown}
+use Rattle.connections.specs.Merged.{rank, in_order, rest_of, IsStart, AreStarts, AreStretches, key_of}
 use Rattle.connections.proofs.ScanLemmas.{IsScanOrder-in_order, All-in_order, AllPairs-in_order}
 
 -- a run is one of those that have a start, and its connections lie from there to the next start
@@ -51,19 +51,19 @@ rank_along n v i j h k same =
     (λ ge. let e : i ≡ j = omega arith in omega (arith, ap (rank n) e))
     (cases_lt i j)
 
-pub shown-none : (n : Parts) (starts left : List ℕ) (r : ℕ) → get_or left r 0 ≤ get_or starts r 0 → shown n starts left r ≡ 0
-unfolding shown
-shown-none n starts left r h = cond-false (ltb (get_or starts r 0) (get_or left r 0)) _ _ (le-ltb (get_or starts r 0) (get_or left r 0) h)
+pub key_of-none : (n : Parts) (starts left : List ℕ) (r : ℕ) → get_or left r 0 ≤ get_or starts r 0 → key_of n starts left r ≡ 0
+unfolding key_of
+key_of-none n starts left r h = cond-false (ltb (get_or starts r 0) (get_or left r 0)) _ _ (le-ltb (get_or starts r 0) (get_or left r 0) h)
 
-pub shown-some : (n : Parts) (starts left : List ℕ) (r : ℕ) → get_or starts r 0 < get_or left r 0 → shown n starts left r ≡ rank n (get_or left r 0 - 1) + 1
-unfolding shown
-shown-some n starts left r h = cond-true (ltb (get_or starts r 0) (get_or left r 0)) _ _ (lt-ltb (get_or starts r 0) (get_or left r 0) h)
+pub key_of-some : (n : Parts) (starts left : List ℕ) (r : ℕ) → get_or starts r 0 < get_or left r 0 → key_of n starts left r ≡ rank n (get_or left r 0 - 1) + 1
+unfolding key_of
+key_of-some n starts left r h = cond-true (ltb (get_or starts r 0) (get_or left r 0)) _ _ (lt-ltb (get_or starts r 0) (get_or left r 0) h)
 
 -- one connection of a run is given
 module _ (n : Parts) (starts left : List ℕ) (run : ℕ) where
-  pub shown-set_other : (end r : ℕ) → (r ≡ run → ⊥) → shown n starts (set left run end) r ≡ shown n starts left r
-  unfolding shown
-  shown-set_other end r other = rw (get_or-set_other left run r end 0 other)
+  pub key_of-set_other : (end r : ℕ) → (r ≡ run → ⊥) → key_of n starts (set left run end) r ≡ key_of n starts left r
+  unfolding key_of
+  key_of-set_other end r other = rw (get_or-set_other left run r end 0 other)
 
   pub AreStretches-set : AreStretches n starts left → run < length left → get_or starts run 0 < get_or left run 0 → AreStretches n starts (set left run (get_or left run 0 - 1))
   AreStretches-set s h some =
@@ -123,17 +123,17 @@ pub waiting : (n : Parts) (left : List ℕ) (i : ℕ) → i < get_or left (run_o
 waiting n left i h = ⊎_elim (λ less. less) (λ ge. absurd (omega (arith, h, get_or_past left (run_of n i) 0 ge))) (cases_lt (run_of n i) (length left))
 
 -- no connection that is left ranks above what its run shows
-rank_shown : (n : Parts) → IsValid n → (starts left : List ℕ) → AreStretches n starts left → (i : ℕ) → i < get_or left (run_of n i) 0 → rank n i < shown n starts left (run_of n i)
-rank_shown n v starts left s i h =
+rank_at_most_key : (n : Parts) → IsValid n → (starts left : List ℕ) → AreStretches n starts left → (i : ℕ) → i < get_or left (run_of n i) 0 → rank n i < key_of n starts left (run_of n i)
+rank_at_most_key n v starts left s i h =
     let r : ℕ = run_of n i in
     let inside : r < length left = waiting n left i h in
     let bounds = s.within r inside in
     let next = s.begin.each (r + 1) (omega (arith, s.size)) in
     let own = of_run n starts s.begin i (omega (arith, bounds.1, next.within)) in
     let last = run_between n starts s.begin r (get_or left r 0 - 1) (omega (arith, s.size)) (omega (arith, own.from)) (omega (arith, bounds.1)) in
-    omega (arith, rank_along n v i (get_or left r 0 - 1) (omega arith) last.0 (sym last.1), shown-some n starts left r (omega (arith, own.from)))
+    omega (arith, rank_along n v i (get_or left r 0 - 1) (omega arith) last.0 (sym last.1), key_of-some n starts left r (omega (arith, own.from)))
 
-pub rest_of-last : (n : Parts) → IsValid n → (starts left : List ℕ) → AreStretches n starts left → (run : ℕ) → run < length left → get_or starts run 0 < get_or left run 0 → ((r : ℕ) → r < length left → shown n starts left r ≤ shown n starts left run) → rest_of n left ≡ rest_of n (set left run (get_or left run 0 - 1)) ++ record { 0 = get_or left run 0 - 1 } ∷ []
+pub rest_of-last : (n : Parts) → IsValid n → (starts left : List ℕ) → AreStretches n starts left → (run : ℕ) → run < length left → get_or starts run 0 < get_or left run 0 → ((r : ℕ) → r < length left → key_of n starts left r ≤ key_of n starts left run) → rest_of n left ≡ rest_of n (set left run (get_or left run 0 - 1)) ++ record { 0 = get_or left run 0 - 1 } ∷ []
 unfolding rest_of
 rest_of-last n v starts left s run h some most =
     let end : ℕ = get_or left run 0 in
@@ -146,7 +146,7 @@ rest_of-last n v starts left s run h some most =
     (rw own.1 (lt-ltb (end - 1) end (omega arith)))
     (rw (own.1, now) (le-ltb (end - 1) (end - 1) (omega arith)))
     (λ id other. ⊎_elim (λ (same : run_of n id.0 ≡ run). rw (same, now) (same_test id.0 end (λ e. other (ap (rank n) e)))) (λ apart. rw (get_or-set_other left run (run_of n id.0) (end - 1) 0 apart) refl) (cases_eq (run_of n id.0) run))
-    (λ id t. omega (arith, rank_shown n v starts left s id.0 (ltb-true id.0 (get_or left (run_of n id.0) 0) t), most (run_of n id.0) (waiting n left id.0 (ltb-true id.0 (get_or left (run_of n id.0) 0) t)), shown-some n starts left run some))
+    (λ id t. omega (arith, rank_at_most_key n v starts left s id.0 (ltb-true id.0 (get_or left (run_of n id.0) 0) t), most (run_of n id.0) (waiting n left id.0 (ltb-true id.0 (get_or left (run_of n id.0) 0) t)), key_of-some n starts left run some))
     ids (AllPairs-in_order n (count n) v.few_connections)
     ((has_each_id n ids (IsScanOrder-in_order n v)).all (end - 1) own.0)
 

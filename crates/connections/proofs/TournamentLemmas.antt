@@ -4,8 +4,8 @@ use Rattle.std.proofs.lemmas.Bool.{cases_lt, cases_eq}
 use Rattle.std.proofs.lemmas.List.{get_or-set_same, get_or-set_other, length-set}
 use Rattle.plan_model.specs.Parts.{Parts}
 use Rattle.plan_model.specs.Network.{count, run_of}
-use Rattle.connections.specs.Merged.{rank, shown, above, IsOver, IsWinner, IsTournament, IsMerge, rest_of}
-use Rattle.connections.proofs.StretchLemmas.{run_between, within_count, shown-set_other, shown-none, shown-some, rest_of-none, rest_of-last}
+use Rattle.connections.specs.Merged.{rank, key_of, above, IsOver, IsWinner, IsTournament, IsMerge, rest_of}
+use Rattle.connections.proofs.StretchLemmas.{run_between, within_count, key_of-set_other, key_of-none, key_of-some, rest_of-none, rest_of-last}
 
 above_le : (rounds k : ℕ) → above rounds k ≤ k
 above_le zero k = omega arith
@@ -58,13 +58,13 @@ IsOver-both a b leaf over_a over_b less =
     (cases_lt over_b.0 over_a.0)
 
 module _ (n : Parts) (starts left : List ℕ) where
-  pub IsWinner-leaf : (r : ℕ) → r < length left → IsWinner n starts left (length left + r) (shown n starts left r)
+  pub IsWinner-leaf : (r : ℕ) → r < length left → IsWinner n starts left (length left + r) (key_of n starts left r)
   IsWinner-leaf r h = record {
     run = r;
     within = h;
     below = (0, refl);
     own = refl;
-    best = λ other inside over. let same : other ≡ r = omega (arith, IsOver-leaf (length left) (length left + r) (length left + other) (omega arith) (omega arith) over) in omega (arith, ap (shown n starts left) same);
+    best = λ other inside over. let same : other ≡ r = omega (arith, IsOver-leaf (length left) (length left + r) (length left + other) (omega arith) (omega arith) over) in omega (arith, ap (key_of n starts left) same);
   }
 
   -- at a node the greater of the keys of its children wins
@@ -89,7 +89,7 @@ module _ (n : Parts) (starts left : List ℕ) where
 -- the runs before this one have their keys
 pub record AreRead (n : Parts) (starts left : List ℕ) (run : ℕ) (keys : List ℕ) : Type 0 where
   pub size : length keys ≡ 2 * length left
-  pub each : (r : ℕ) → r < run → r < length left → get_or keys (length left + r) 0 ≡ shown n starts left r
+  pub each : (r : ℕ) → r < run → r < length left → get_or keys (length left + r) 0 ≡ key_of n starts left r
 
 -- the nodes from this one on have the greatest keys below them
 pub record IsPlayedFrom (n : Parts) (starts left : List ℕ) (node : ℕ) (keys : List ℕ) : Type 0 where
@@ -108,7 +108,7 @@ module _ (n : Parts) (starts left keys : List ℕ) where
   pub AreRead-none : length keys ≡ 2 * length left → AreRead n starts left 0 keys
   AreRead-none size = record { size = size; each = λ r h. absurd (omega arith) }
 
-  pub AreRead-more : (run key : ℕ) → run < length left → AreRead n starts left run keys → key ≡ shown n starts left run → AreRead n starts left (run + 1) (set keys (length left + run) key)
+  pub AreRead-more : (run key : ℕ) → run < length left → AreRead n starts left run keys → key ≡ key_of n starts left run → AreRead n starts left (run + 1) (set keys (length left + run) key)
   AreRead-more run key h read own = record {
     size = omega (arith, length-set keys (length left + run) key, read.size);
     each = λ r less within. ⊎_elim (λ (same : r ≡ run). rw (same, get_or-set_same keys (length left + run) key 0 (omega (arith, read.size))) own) (λ other. rw (get_or-set_other keys (length left + run) (length left + r) key 0 (λ e. other (omega (arith, e)))) (read.each r (omega (arith, less, other)) within)) (cases_eq r run);
@@ -118,8 +118,8 @@ module _ (n : Parts) (starts left keys : List ℕ) where
   IsPlayedFrom-runs run all read = record {
     size = read.size;
     each = λ k ge some few. let e : length left + (k - length left) ≡ k = omega arith in
-        let leaf : get_or keys k 0 ≡ shown n starts left (k - length left) = ap (λ m. get_or keys m 0) (sym e) ∙ read.each (k - length left) (omega arith) (omega arith) in
-        rw leaf (subst (λ m. IsWinner n starts left m (shown n starts left (k - length left))) e (IsWinner-leaf n starts left (k - length left) (omega arith)));
+        let leaf : get_or keys k 0 ≡ key_of n starts left (k - length left) = ap (λ m. get_or keys m 0) (sym e) ∙ read.each (k - length left) (omega arith) (omega arith) in
+        rw leaf (subst (λ m. IsWinner n starts left m (key_of n starts left (k - length left))) e (IsWinner-leaf n starts left (k - length left) (omega arith)));
   }
 
   pub IsPlayedFrom-more : (node key : ℕ) → 0 < node → node < length left → IsPlayedFrom n starts left (node + 1) keys → IsWinner n starts left node key → IsPlayedFrom n starts left node (set keys node key)
@@ -129,7 +129,7 @@ module _ (n : Parts) (starts left keys : List ℕ) where
   }
 
   -- the final has the greatest key of all
-  pub best_of_all : IsTournament n starts left keys → (r : ℕ) → r < length left → shown n starts left r ≤ get_or keys 1 0
+  pub best_of_all : IsTournament n starts left keys → (r : ℕ) → r < length left → key_of n starts left r ≤ get_or keys 1 0
   best_of_all t r h = (t.each 1 (omega arith) (omega arith)).best r h (IsOver-final (length left + r) (omega arith))
 
 -- a node that is not above a run keeps its key, whatever is left of the run
@@ -141,20 +141,20 @@ IsWinner-apart n starts left run end k key never won =
       run = won.run;
       within = omega (arith, won.within, len);
       below = rw len won.below;
-      own = won.own ∙ sym (shown-set_other n starts left run end won.run gone);
+      own = won.own ∙ sym (key_of-set_other n starts left run end won.run gone);
       best = λ r within over.
           let below : IsOver k (length left + r) = subst (λ m. IsOver k (m + r)) len over in
           let apart : r ≡ run → ⊥ = λ e. never (subst (λ m. IsOver k (length left + m)) e below) in
-          omega (arith, shown-set_other n starts left run end r apart, won.best r (omega (arith, within, len)) below);
+          omega (arith, key_of-set_other n starts left run end r apart, won.best r (omega (arith, within, len)) below);
     }
 
 -- where the last connection of a run is given and its key is read again, the nodes that are not above the run keep theirs
-pub IsPlayedAround-run : (n : Parts) → (starts left keys : List ℕ) (run end key : ℕ) → IsTournament n starts left keys → run < length left → key ≡ shown n starts (set left run end) run → IsPlayedAround n starts (set left run end) run (length left + run) (set keys (length left + run) key)
+pub IsPlayedAround-run : (n : Parts) → (starts left keys : List ℕ) (run end key : ℕ) → IsTournament n starts left keys → run < length left → key ≡ key_of n starts (set left run end) run → IsPlayedAround n starts (set left run end) run (length left + run) (set keys (length left + run) key)
 IsPlayedAround-run n starts left keys run end key t h own =
     let less : List ℕ = set left run end in
     let leaf : ℕ = length left + run in
     let len : length less ≡ length left = length-set left run end in
-    let at_run : IsWinner n starts less leaf key = rw own (subst (λ m. IsWinner n starts less (m + run) (shown n starts less run)) len (IsWinner-leaf n starts less run (omega (arith, len)))) in
+    let at_run : IsWinner n starts less leaf key = rw own (subst (λ m. IsWinner n starts less (m + run) (key_of n starts less run)) len (IsWinner-leaf n starts less run (omega (arith, len)))) in
     let others : (k : ℕ) → 0 < k → k < 2 * length less → (IsOver k (length less + run) → leaf ≤ k) → (k ≡ leaf → ⊥) → IsWinner n starts less k (get_or keys k 0) = λ k some few outside apart.
     IsWinner-apart n starts left run end k (get_or keys k 0)
     (λ over. apart (omega (arith, above_le over.0 leaf, over.1, outside (subst (λ m. IsOver k (m + run)) (sym len) over))))
@@ -205,14 +205,14 @@ module _ (n : Parts) (starts left keys : List ℕ) (m : IsMerge n starts left ke
   -- where the final has no key nothing is left at all
   pub rest_of-exhausted : key ≡ 0 → rest_of n left ≡ []
   rest_of-exhausted none =
-      rest_of-none n starts left m.stretches (λ r h. ⊎_elim (λ less. absurd (omega (arith, best_of_all n starts left keys m.tournament r h, final, shown-some n starts left r less))) (λ ge. ge) (cases_lt (get_or starts r 0) (get_or left r 0)))
+      rest_of-none n starts left m.stretches (λ r h. ⊎_elim (λ less. absurd (omega (arith, best_of_all n starts left keys m.tournament r h, final, key_of-some n starts left r less))) (λ ge. ge) (cases_lt (get_or starts r 0) (get_or left r 0)))
 
   pub won : 0 < length left → 0 < key → HasWon n starts left key
   won any more =
       let w = m.tournament.each 1 (omega arith) (omega (arith, any)) in
       let run : ℕ = w.run in
-      let some : get_or starts run 0 < get_or left run 0 = ⊎_elim (λ less. less) (λ ge. absurd (omega (arith, final, w.own, shown-none n starts left run ge))) (cases_lt (get_or starts run 0) (get_or left run 0)) in
-      let last : key - 1 ≡ rank n (get_or left run 0 - 1) = omega (arith, final, w.own, shown-some n starts left run some) in
+      let some : get_or starts run 0 < get_or left run 0 = ⊎_elim (λ less. less) (λ ge. absurd (omega (arith, final, w.own, key_of-none n starts left run ge))) (cases_lt (get_or starts run 0) (get_or left run 0)) in
+      let last : key - 1 ≡ rank n (get_or left run 0 - 1) = omega (arith, final, w.own, key_of-some n starts left run some) in
       let own = run_between n starts m.stretches.begin run (get_or left run 0 - 1) (omega (arith, w.within, m.stretches.size)) (omega arith) (omega (arith, (m.stretches.within run w.within).1)) in
       let few = within_count n starts left m.stretches run w.within in
       record {
@@ -228,4 +228,4 @@ module _ (n : Parts) (starts left keys : List ℕ) (m : IsMerge n starts left ke
   -- the last connection that is left of the run that won is the last one of all
   pub rest_of-given : (h : HasWon n starts left key) → rest_of n left ≡ rest_of n (set left h.run (get_or left h.run 0 - 1)) ++ record { 0 = get_or left h.run 0 - 1 } ∷ []
   rest_of-given h =
-      rest_of-last n m.stretches.begin.valid starts left m.stretches h.run h.within h.some (λ r k. omega (arith, best_of_all n starts left keys m.tournament r k, final, h.last, h.some, shown-some n starts left h.run h.some))
+      rest_of-last n m.stretches.begin.valid starts left m.stretches h.run h.within h.some (λ r k. omega (arith, best_of_all n starts left keys m.tournament r k, final, h.last, h.some, key_of-some n starts left h.run h.some))

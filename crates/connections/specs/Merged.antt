@@ -1,12 +1,13 @@
 -- A merge of the runs of a network, the last connection first.
 use Rattle.std.specs.Prelude.{◌≡◌, ℕ, zero, suc, ◌+◌, ◌-◌, ◌*◌, ◌/◌, ◌<◌, ◌≤◌, List, [], ◌∷◌, length, filter, slice_index, nat_lt, if◌then◌else◌}
 use Rattle.plan_model.specs.declared.model.ConnectionId.{ConnectionId}
+use Rattle.plan_model.specs.Bounds.{most_connections}
 use Rattle.plan_model.specs.Parts.{Parts}
 use Rattle.plan_model.specs.Network.{IsValid, count, dep_of, run_of}
 
--- rises along the scan order, since a network has at most 8,388,608 connections
+-- rises along the scan order, since a connection has a lesser number than most_connections
 abbrev pub rank : Parts → ℕ → ℕ
-rank n i = dep_of n i * 8388608 + i
+rank n i = dep_of n i * most_connections + i
 
 -- a connection at its place among others that stand in the scan order
 abbrev pub placed : Parts → ℕ → List ConnectionId → List ConnectionId
@@ -33,7 +34,7 @@ pub record AreStarts (n : Parts) (starts : List ℕ) : Type 0 where
   pub valid : IsValid n
   pub each : (r : ℕ) → r < length starts → IsStart n r (slice_index starts r)
   pub some : 0 < length starts
-  pub few : length starts ≤ 8388609
+  pub few : length starts ≤ most_connections + 1
   pub whole : slice_index starts (length starts - 1) ≡ count n
 
 -- where each run starts, and up to where its connections are left
@@ -43,8 +44,8 @@ pub record AreStretches (n : Parts) (starts left : List ℕ) : Type 0 where
   pub within : (r : ℕ) → r < length left → (slice_index starts r ≤ slice_index left r) × (slice_index left r ≤ slice_index starts (r + 1))
 
 -- one above the rank of the last connection that is left of a run, and 0 where none is left
-unfoldable pub shown : Parts → List ℕ → List ℕ → ℕ → ℕ
-shown n starts left r = if nat_lt (slice_index starts r) (slice_index left r) then rank n (slice_index left r - 1) + 1 else 0
+unfoldable pub key_of : Parts → List ℕ → List ℕ → ℕ → ℕ
+key_of n starts left r = if nat_lt (slice_index starts r) (slice_index left r) then rank n (slice_index left r - 1) + 1 else 0
 
 -- the node so many rounds above a node
 abbrev pub above : ℕ → ℕ → ℕ
@@ -60,8 +61,8 @@ pub record IsWinner (n : Parts) (starts left : List ℕ) (k key : ℕ) : Type 0 
   pub run : ℕ
   pub within : run < length left
   pub below : IsOver k (length left + run)
-  pub own : key ≡ shown n starts left run
-  pub best : (r : ℕ) → r < length left → IsOver k (length left + r) → shown n starts left r ≤ key
+  pub own : key ≡ key_of n starts left run
+  pub best : (r : ℕ) → r < length left → IsOver k (length left + r) → key_of n starts left r ≤ key
 
 -- each node has the greatest key below it
 pub record IsTournament (n : Parts) (starts left keys : List ℕ) : Type 0 where

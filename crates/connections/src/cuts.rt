@@ -5,6 +5,7 @@ ghost use Rattle.csv_rows.specs.Lists.{list_below};
 ghost use Rattle.change_times.specs.Changes.{seconds_of};
 ghost use Rattle.csv_rows.specs.Ids.{AreIds};
 ghost use Rattle.gtfs_tables.specs.Timed.{IsTimed};
+ghost use Rattle.plan_model.specs.Bounds.{most_connections};
 ghost use Rattle.plan_model.specs.NameLists.{NamesFit};
 ghost use Rattle.connections.specs.Window.{IsWindow};
 ghost use Rattle.connections.specs.Runs.{AreRunsOf, AllRide};
@@ -49,7 +50,7 @@ fn network_of_runs(
     requires timed { IsTimed feed.now }
     requires runs { AreRunsOf feed.now runs.now }
     requires rides { AllRide feed.now window runs.now }
-    requires few { ride_count feed.now window runs.now (length runs.now) ≤ 8388608 }
+    requires few { ride_count feed.now window runs.now (length runs.now) ≤ most_connections }
     requires places { length change ≡ length feed.now.stop_ids }
     requires change { AreChanges change }
     ensures connections { IfOk result (λ r. r.0.connections

@@ -1,14 +1,15 @@
 //! The scan order of a network, merged from its runs.
 ghost use Rattle.std.specs.Prelude.{◌≡◌, ℕ, ◌+◌, ◌-◌, ◌*◌, ◌<◌, ◌≤◌, length, slice_index, slice_set, IfOk, MatchBool};
+ghost use Rattle.plan_model.specs.Bounds.{most_connections};
 ghost use Rattle.plan_model.specs.Order.{IsScanOrder};
-ghost use Rattle.connections.specs.Merged.{AreStarts, AreStretches, IsWinner, IsTournament, IsMerge, DepartsInOrder, IsParted, shown, rest_of};
+ghost use Rattle.connections.specs.Merged.{AreStarts, AreStretches, IsWinner, IsTournament, IsMerge, DepartsInOrder, IsParted, key_of, rest_of};
 ghost use Rattle.plan_model.specs.Network.{count};
 
 use plan_model::{BackwardOrder, ConnectionId, Moment, Network, NoMemory};
 use std::alloc::Global;
 
 /// As many connections as a network may have.
-const CONNECTIONS: u64 = 8_388_608;
+const MOST_CONNECTIONS: u64 = 8_388_608;
 
 /// The scan order backwards, by a tournament over the runs: each run shows the key of the last of its connections that was
 /// not given yet, and the greatest key wins. A step plays the rounds above one run again, and takes no memory.
@@ -40,20 +41,23 @@ fn starts_of(alloc: Global, network: &Network) -> Result<Vec<u32>, NoMemory>
 
 /// A tournament of so many runs that was not played yet.
 fn unplayed(alloc: Global, runs: u32) -> Result<Vec<u64>, NoMemory>
-    requires { runs ≤ 8388608 }
+    requires { runs ≤ most_connections }
     ensures { IfOk result (λ keys. length keys.items ≡ 2 * runs) }
 {
     let keys: Vec<u64> = vec![in alloc; 0; 2 * runs as usize]?;
     Ok(keys)
 }
 
-/// Up to where connections of one run depart by a moment.
+/// Up to where connections of one run depart by a moment. Mostly all do, and then the last one tells.
 fn end_by(network: &Network, from: u32, to: u32, last: Moment) -> u32
     requires ordered { from ≤ to }
     requires within { to ≤ count network.now }
     requires rising { DepartsInOrder network.now from to }
     ensures { IsParted network.now last.0 from result result to }
 {
+    if from == to || network.get(ConnectionId(to - 1)).dep.0 <= last.0 {
+        return to;
+    }
     let mut low = from;
     let mut high = to;
     while low < high {
@@ -86,14 +90,14 @@ impl MergedRuns {
     fn key(&self, network: &Network, run: usize) -> u64
         requires stretches { AreStretches network.now self.now.starts.items self.now.left.items }
         requires run { run < length self.now.left.items }
-        ensures { result ≡ shown network.now self.now.starts.items self.now.left.items run }
+        ensures { result ≡ key_of network.now self.now.starts.items self.now.left.items run }
     {
         let end = self.left[run];
         if end == self.starts[run] {
             return 0;
         }
         let dep = network.get(ConnectionId(end - 1)).dep;
-        dep.0 * CONNECTIONS + u64::from(end)
+        dep.0 * MOST_CONNECTIONS + u64::from(end)
     }
 
     /// The greatest key below a node, by those of the two nodes below it.
@@ -169,7 +173,7 @@ impl BackwardOrder for MergedRuns {
         if key == 0 {
             return None;
         }
-        let last = ConnectionId(((key - 1) % CONNECTIONS) as u32);
+        let last = ConnectionId(((key - 1) % MOST_CONNECTIONS) as u32);
         let run = network.get(last).run.0 as usize;
         self.give(network, run);
         Some(last)

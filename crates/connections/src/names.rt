@@ -1,5 +1,6 @@
 //! The names of places and runs.
 ghost use Rattle.std.specs.Prelude.{◌≡◌, ◌≤◌, ◌<◌, [], length, string_bytes, OnOk, IfOk};
+ghost use Rattle.plan_model.specs.Bounds.{most_connections};
 ghost use Rattle.csv_rows.specs.Ids.{AreIds};
 ghost use Rattle.connections.specs.Runs.{AreRunsOf};
 ghost use Rattle.connections.specs.Networks.{IsRunName, AreRunNames};
@@ -44,7 +45,7 @@ fn add_places(names: &mut Names, feed: &Feed) -> Result<(), NoMemory>
 /// Adds the names of the runs.
 fn add_runs(alloc: Global, names: &mut Names, feed: &Feed, runs: &[Run]) -> Result<(), NoMemory>
     requires none { names.old.runs ≡ [] }
-    requires few { length runs.now ≤ 8388608 }
+    requires few { length runs.now ≤ most_connections }
     requires runs { AreRunsOf feed.now runs.now }
     requires ids { AreIds feed.now.trip_ids }
     ensures places { names.new.places ≡ names.old.places }
@@ -59,7 +60,7 @@ fn add_runs(alloc: Global, names: &mut Names, feed: &Feed, runs: &[Run]) -> Resu
 
 /// The names of the places of a feed and of these runs.
 pub(crate) fn names_of(alloc: Global, feed: &Feed, runs: &[Run]) -> Result<Names, NoMemory>
-    requires few { length runs.now ≤ 8388608 }
+    requires few { length runs.now ≤ most_connections }
     requires runs { AreRunsOf feed.now runs.now }
     requires stops { AreIds feed.now.stop_ids }
     requires trips { AreIds feed.now.trip_ids }

@@ -1,5 +1,6 @@
 //! The connections of a window.
 ghost use Rattle.std.specs.Prelude.{◌≡◌, ◌+◌, ◌≤◌, ◌<◌, ◌++◌, ℕ, length, map, OnOk, IfOk};
+ghost use Rattle.plan_model.specs.Bounds.{most_connections};
 ghost use Rattle.connections.specs.Rides.{steps_of};
 ghost use Rattle.delay_table.specs.Slots.{AreDelays};
 ghost use Rattle.gtfs_tables.specs.Timed.{IsTimed};
@@ -70,7 +71,7 @@ pub(crate) fn connections_of(
     runs: &[Run],
     window: Window,
 ) -> Result<List<Connection>, NoMemory>
-    requires few { length runs.now ≤ 8388608 }
+    requires few { length runs.now ≤ most_connections }
     requires runs { AreRunsOf feed.now runs.now }
     requires timed { IsTimed feed.now }
     requires delays { AreDelays delays.now }

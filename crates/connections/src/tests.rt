@@ -301,3 +301,49 @@ fn merges_runs(rt: HostRuntime) -> Result<(), Fail> {
     }
     Ok(())
 }
+
+/// What an order gives of the connections that depart by a moment.
+fn given_by<O: BackwardOrder>(
+    alloc: Global,
+    network: &Network,
+    order: &mut O,
+    last: Moment,
+) -> Result<Vec<u32>, NoMemory>
+    requires { O.fits order.old network.now }
+{
+    order.skip_after(network, last);
+    given(alloc, network, order)
+}
+
+/// Whether both orders give these connections of those that depart by a moment.
+fn both_give_by(
+    alloc: Global,
+    network: &Network,
+    last: Moment,
+    ids: &[u32],
+) -> Result<bool, NoMemory> {
+    let mut sorted = SortedOrder::new(alloc, network)?;
+    if given_by(alloc, network, &mut sorted, last)?.as_slice() != ids {
+        return Ok(false);
+    }
+    let mut merged = MergedRuns::new(alloc, network)?;
+    Ok(given_by(alloc, network, &mut merged, last)?.as_slice() == ids)
+}
+
+#[test]
+fn skips_what_departs_later(rt: HostRuntime) -> Result<(), Fail> {
+    let (network, _) = window_of(rt.alloc(), &LEVEL, 8 * 3600, 2)?;
+    // Two depart at 08:00, and four at 08:10.
+    for (last, ids) in [
+        (Moment(MONDAY + 8 * 3600 - 1), [].as_slice()),
+        (Moment(MONDAY + 8 * 3600), [2, 0].as_slice()),
+        (Moment(MONDAY + 8 * 3600 + 599), [2, 0].as_slice()),
+        (
+            Moment(MONDAY + 8 * 3600 + 600),
+            [5, 4, 3, 1, 2, 0].as_slice(),
+        ),
+    ] {
+        assert!(rt; both_give_by(rt.alloc(), &network, last, ids)?, "{ids:?}");
+    }
+    Ok(())
+}

@@ -10,7 +10,7 @@ use Rattle.plan_model.specs.declared.model.Outcome.{Outcome}
 use Rattle.plan_model.specs.declared.model.Query.{Query}
 use Rattle.plan_model.specs.Parts.{Parts}
 use Rattle.plan_model.specs.Network.{count, connection, from_of, to_of, dep_of, arr_of, run_of, outcomes, IsValid}
-use Rattle.plan_model.specs.Order.{IsScanOrder, IsUpTo}
+use Rattle.plan_model.specs.Order.{IsScanOrder, IsPrefixUpTo}
 use Rattle.plan_model.specs.Tree.{Tree}
 use Rattle.value_laws.specs.ScoreLaws.{ScoreLaws}
 use Rattle.stop_profile.specs.declared.Row.{Row}
@@ -69,10 +69,10 @@ room_less network rest skipped profiles exits kids room = record {
 
 module _ {V : Type 0} {below covers : V → Tree → Type 0} {gap rank : V → ℕ} {arrived : ℕ → V} {blended : List Outcome → List V → V} {lowered : V → V → V} (laws : ScoreLaws below covers gap rank arrived blended lowered) (network : Parts) (good : IsValid network) (query : Query) (order : List ConnectionId) (whole : IsScanOrder network order) (profiles : List (Shown V)) (exits : List (Option (Exit V))) (empty : IsEmpty profiles exits) where
   -- after the skipped ones, by induction over them
-  late_state : (rest skipped : List ConnectionId) → rest ++ skipped ≡ order → All (λ id. query.deadline.0 < dep_of network id.0) skipped → ScanState below covers gap rank network query order rest profiles exits None
+  late_state : (rest skipped : List ConnectionId) → rest ++ skipped ≡ order → All (λ id. query.deadline.0 < dep_of network id.0) skipped → ScanState below covers gap rank lowered arrived blended network query order rest profiles exits None
   late_state rest [] split late =
       let same : order ≡ rest = sym split ∙ append-nil rest in
-      subst (λ (ids : List ConnectionId). ScanState below covers gap rank network query order ids profiles exits None) same (first_state laws network good query order whole profiles exits empty)
+      subst (λ (ids : List ConnectionId). ScanState below covers gap rank lowered arrived blended network query order ids profiles exits None) same (first_state laws network good query order whole profiles exits empty)
   late_state rest (id ∷ skipped) split late =
       let before = late_state (rest ++ id ∷ []) skipped (append_assoc rest (id ∷ []) skipped ∙ split) (All-tail (λ (i : ConnectionId). query.deadline.0 < dep_of network i.0) id skipped late) in
       let after : query.deadline.0 < dep_of network id.0 = All-head (λ (i : ConnectionId). query.deadline.0 < dep_of network i.0) id skipped late in
@@ -83,9 +83,9 @@ module _ {V : Type 0} {below covers : V → Tree → Type 0} {gap rank : V → �
       (sym (start_kept rank lowered arrived blended network good query id.0 there after (rows_at profiles) (exit_at exits) empty.no_rows empty.no_exits None))
 
   -- where the scan begins
-  pub skipped_state : (rest : List ConnectionId) → IsUpTo network query.deadline.0 order rest → ScanState below covers gap rank network query order rest profiles exits None
+  pub skipped_state : (rest : List ConnectionId) → IsPrefixUpTo network query.deadline.0 order rest → ScanState below covers gap rank lowered arrived blended network query order rest profiles exits None
   skipped_state rest up_to = late_state rest up_to.skipped (sym up_to.split) up_to.late
 
-pub skipped_room : {V : Type 0} (network : Parts) (last : ℕ) (order rest : List ConnectionId) (profiles : List (Shown V)) (exits : List (Option (Exit V))) (kids : List V) → IsUpTo network last order rest → HasRoom network order profiles exits kids → HasRoom network rest profiles exits kids
+pub skipped_room : {V : Type 0} (network : Parts) (last : ℕ) (order rest : List ConnectionId) (profiles : List (Shown V)) (exits : List (Option (Exit V))) (kids : List V) → IsPrefixUpTo network last order rest → HasRoom network order profiles exits kids → HasRoom network rest profiles exits kids
 skipped_room network last order rest profiles exits kids up_to room =
     room_less network rest up_to.skipped profiles exits kids (subst (λ (ids : List ConnectionId). HasRoom network ids profiles exits kids) up_to.split room)

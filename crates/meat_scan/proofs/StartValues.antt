@@ -9,7 +9,7 @@ use Rattle.plan_model.specs.Strategy.{IsSafeFor}
 use Rattle.stop_profile.specs.Shown.{Shown}
 use Rattle.meat_scan.specs.Found.{Found, chosen_by}
 use Rattle.meat_scan.specs.Solves.{IsStartAnswer, SolvesStart}
-use Rattle.meat_scan.specs.Tables.{Tables, spare_at, room_at, FitsTables, IsEmpty}
+use Rattle.meat_scan.specs.Tables.{Tables, spare_at, capacity_at, FitsTables, IsEmpty}
 
 -- the tree that the start leg chooses is the one
 start_solved : {V : Type 0} (below covers : V → Tree → Type 0) (gap : V → ℕ) (n : Parts) (q : Query) (found : Found V) (start : Option (V × Leg)) → MatchOption start ((tree : Tree) → IsSafeFor n q tree → ⊥) (IsStartAnswer below covers gap n q found) → SolvesStart below covers gap n q (option_map (λ s. s.0) start)
@@ -27,7 +27,7 @@ value_solved below covers gap n q found start value answer is =
     subst (SolvesStart below covers gap n q) (sym is) (start_solved below covers gap n q found start answer)
 
 -- tables with as much room, and with nothing in them, fit the network again
-pub fits_again : {V : Type 0} (network : Parts) (old new : Tables V) (used : List (Shown V)) → FitsTables network old → IsEmpty new.profiles new.exits → ((place : ℕ) → spare_at new.profiles place ≡ room_at used place) → ((place : ℕ) → room_at used place ≡ room_at old.profiles place) → length new.profiles ≡ length network.change → length new.exits ≡ length old.exits → length new.kids ≡ length old.kids → FitsTables network new
+pub fits_again : {V : Type 0} (network : Parts) (old new : Tables V) (used : List (Shown V)) → FitsTables network old → IsEmpty new.profiles new.exits → ((place : ℕ) → spare_at new.profiles place ≡ capacity_at used place) → ((place : ℕ) → capacity_at used place ≡ capacity_at old.profiles place) → length new.profiles ≡ length network.change → length new.exits ≡ length old.exits → length new.kids ≡ length old.kids → FitsTables network new
 fits_again network old new used fit empty spare same places runs outcomes = record {
   valid = fit.valid;
   empty = empty;

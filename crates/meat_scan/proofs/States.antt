@@ -13,9 +13,11 @@ use Rattle.plan_model.specs.Tree.{Tree}
 use Rattle.plan_model.specs.Order.{IsScanOrder}
 use Rattle.plan_model.proofs.ScanOrders.{has_each_id}
 use Rattle.value_laws.specs.ScoreLaws.{ScoreLaws}
+use Rattle.stop_profile.specs.declared.Row.{Row}
 use Rattle.stop_profile.specs.Shown.{Shown}
 use Rattle.trip_exit.specs.Offers.{Exit}
 use Rattle.meat_scan.specs.Step.{exits_next, rows_next, start_next}
+use Rattle.meat_scan.specs.Rules.{Kept, kept_next, kept_after, FollowsRules}
 use Rattle.meat_scan.specs.Tables.{rows_at, spare_at, exit_at, has_way, boardable, HasRoom, IsEmpty}
 use Rattle.meat_scan.specs.Found.{Found, found_rows}
 use Rattle.meat_scan.specs.Solves.{Answers}
@@ -61,18 +63,24 @@ next_known network taken id next = record {
 }
 
 -- the ids that are taken, and what is claimed of them
-pub record ScanState {V : Type 0} (below covers : V → Tree → Type 0) (gap rank : V → ℕ) (network : Parts) (query : Query) (order rest : List ConnectionId) (profiles : List (Shown V)) (exits : List (Option (Exit V))) (start : Option (V × Leg)) : Type 0 where
+pub record ScanState {V : Type 0} (below covers : V → Tree → Type 0) (gap rank : V → ℕ) (lowered : V → V → V) (arrived : ℕ → V) (blended : List Outcome → List V → V) (network : Parts) (query : Query) (order rest : List ConnectionId) (profiles : List (Shown V)) (exits : List (Option (Exit V))) (start : Option (V × Leg)) : Type 0 where
   pub taken : List ConnectionId
   pub split : rest ++ taken ≡ order
   pub ok : ScanOk below covers gap rank network query (Known taken) (length taken) (rows_at profiles) (exit_at exits) start
+  pub kept : record { rows = rows_at profiles; exits = exit_at exits; start = start } ≡ kept_after rank lowered arrived blended network query taken
+
+-- what is kept, part for part
+kept_same : {V : Type 0} {rows rows' : ℕ → List (Row V)} {exits exits' : ℕ → Option (Exit V)} {start start' : Option (V × Leg)} → rows ≡ rows' → exits ≡ exits' → start ≡ start' → ◌≡◌ {A = Kept V} (record { rows = rows; exits = exits; start = start }) (record { rows = rows'; exits = exits'; start = start' })
+kept_same rows exits start = λ i. record { rows = rows i; exits = exits i; start = start i }
 
 module _ {V : Type 0} {below covers : V → Tree → Type 0} {gap rank : V → ℕ} {arrived : ℕ → V} {blended : List Outcome → List V → V} {lowered : V → V → V} (laws : ScoreLaws below covers gap rank arrived blended lowered) (network : Parts) (good : IsValid network) (query : Query) (order : List ConnectionId) (whole : IsScanOrder network order) where
   -- before the first
-  pub first_state : (profiles : List (Shown V)) (exits : List (Option (Exit V))) → IsEmpty profiles exits → ScanState below covers gap rank network query order order profiles exits None
+  pub first_state : (profiles : List (Shown V)) (exits : List (Option (Exit V))) → IsEmpty profiles exits → ScanState below covers gap rank lowered arrived blended network query order order profiles exits None
   first_state profiles exits empty = record {
     taken = [];
     split = append-nil order;
     ok = scan_ok_start below covers gap rank network query (Known []) (λ id known. known) (rows_at profiles) empty.no_rows (exit_at exits) empty.no_exits;
+    kept = kept_same (same_function (rows_at profiles) (λ place. []) empty.no_rows) (same_function (exit_at exits) (λ run. None) empty.no_exits) refl;
   }
 
   next_of : (rest taken : List ConnectionId) (id : ConnectionId) → (rest ++ id ∷ []) ++ taken ≡ order → IsNext network (Known taken) id.0
@@ -81,7 +89,7 @@ module _ {V : Type 0} {below covers : V → Tree → Type 0} {gap rank : V → �
       next_known network taken id.0 (next_in_order network good rest taken id (subst (IsScanOrder network) (sym same) whole))
 
   -- one more
-  pub next_state : (rest : List ConnectionId) (id : ConnectionId) (profiles profiles' : List (Shown V)) (exits exits' : List (Option (Exit V))) (start start' : Option (V × Leg)) → ScanState below covers gap rank network query order (rest ++ id ∷ []) profiles exits start → ((place : ℕ) → rows_at profiles' place ≡ rows_next rank lowered arrived blended network query id.0 (rows_at profiles) (exit_at exits) place) → ((run : ℕ) → exit_at exits' run ≡ exits_next rank lowered arrived blended network query id.0 (rows_at profiles) (exit_at exits) run) → start' ≡ start_next rank lowered arrived blended network query id.0 (rows_at profiles) (exit_at exits) start → ScanState below covers gap rank network query order rest profiles' exits' start'
+  pub next_state : (rest : List ConnectionId) (id : ConnectionId) (profiles profiles' : List (Shown V)) (exits exits' : List (Option (Exit V))) (start start' : Option (V × Leg)) → ScanState below covers gap rank lowered arrived blended network query order (rest ++ id ∷ []) profiles exits start → ((place : ℕ) → rows_at profiles' place ≡ rows_next rank lowered arrived blended network query id.0 (rows_at profiles) (exit_at exits) place) → ((run : ℕ) → exit_at exits' run ≡ exits_next rank lowered arrived blended network query id.0 (rows_at profiles) (exit_at exits) run) → start' ≡ start_next rank lowered arrived blended network query id.0 (rows_at profiles) (exit_at exits) start → ScanState below covers gap rank lowered arrived blended network query order rest profiles' exits' start'
   next_state rest id profiles profiles' exits exits' start start' state rows_are exits_are start_is =
       let known = Known (id ∷ state.taken) in
       let next = next_of rest state.taken id state.split in
@@ -93,10 +101,11 @@ module _ {V : Type 0} {below covers : V → Tree → Type 0} {gap rank : V → �
         taken = id ∷ state.taken;
         split = sym (append_assoc rest (id ∷ []) state.taken) ∙ state.split;
         ok = rw (rows_same, exits_same, start_is) counted;
+        kept = kept_same rows_same exits_same start_is ∙ ap (kept_next rank lowered arrived blended network query id.0) state.kept;
       }
 
   -- after the last
-  pub last_state : (rest : List ConnectionId) (profiles : List (Shown V)) (exits : List (Option (Exit V))) (found : Found V) → query.source.0 ≢ query.target.0 → rest ≡ [] → found_rows found ≡ rows_at profiles → ScanState below covers gap rank network query order rest profiles exits found.start → Answers below covers gap network query found
+  pub last_state : (rest : List ConnectionId) (profiles : List (Shown V)) (exits : List (Option (Exit V))) (found : Found V) → query.source.0 ≢ query.target.0 → rest ≡ [] → found_rows found ≡ rows_at profiles → ScanState below covers gap rank lowered arrived blended network query order rest profiles exits found.start → Answers below covers gap network query found
   last_state rest profiles exits found differ none rows_are state =
       let all_taken : state.taken ≡ order = ap (λ (ids : List ConnectionId). ids ++ state.taken) (sym none) ∙ state.split in
       let all_count : length state.taken ≡ count network = ap length all_taken ∙ (has_each_id network order whole).as_many in
@@ -105,8 +114,18 @@ module _ {V : Type 0} {below covers : V → Tree → Type 0} {gap rank : V → �
       solves_end below covers gap rank network query (Known state.taken) known differ found (exit_at exits)
       (subst (λ rows. ScanOk below covers gap rank network query (Known state.taken) (count network) rows (exit_at exits) found.start) (sym rows_are) counted)
 
+  -- what was found follows the rules
+  pub rules_end : (rest : List ConnectionId) (profiles : List (Shown V)) (exits : List (Option (Exit V))) (found : Found V) → rest ≡ [] → found_rows found ≡ rows_at profiles → ScanState below covers gap rank lowered arrived blended network query order rest profiles exits found.start → FollowsRules rank lowered arrived blended network query order found
+  rules_end rest profiles exits found none rows_are state =
+      let all_taken : state.taken ≡ order = ap (λ (ids : List ConnectionId). ids ++ state.taken) (sym none) ∙ state.split in
+      let all_kept = state.kept ∙ ap (kept_after rank lowered arrived blended network query) all_taken in
+      record {
+        rows = λ place. ap (λ (rows : ℕ → List (Row V)). rows place) rows_are ∙ ap (λ (kept : Kept V). kept.rows place) all_kept;
+        start = ap (λ (kept : Kept V). kept.start) all_kept;
+      }
+
   -- the next id is one of the network's
-  pub next_there : (rest : List ConnectionId) (id : ConnectionId) (profiles : List (Shown V)) (exits : List (Option (Exit V))) (start : Option (V × Leg)) → ScanState below covers gap rank network query order (rest ++ id ∷ []) profiles exits start → id.0 < count network
+  pub next_there : (rest : List ConnectionId) (id : ConnectionId) (profiles : List (Shown V)) (exits : List (Option (Exit V))) (start : Option (V × Leg)) → ScanState below covers gap rank lowered arrived blended network query order (rest ++ id ∷ []) profiles exits start → id.0 < count network
   next_there rest id profiles exits start state = (next_of rest state.taken id state.split).there
 
 -- how many connections can be boarded from a place, with one more

@@ -21,9 +21,9 @@ rows_at profiles place = (slice_index_or profiles place no_profile).rows
 abbrev pub spare_at : {V : Type 0} → List (Shown V) → ℕ → ℕ
 spare_at profiles place = (slice_index_or profiles place no_profile).spare
 
--- the room of each place, with what its rows take
-abbrev pub room_at : {V : Type 0} → List (Shown V) → ℕ → ℕ
-room_at profiles place = spare_at profiles place + length (rows_at profiles place)
+-- how many rows each place has room for, those that it holds among them
+abbrev pub capacity_at : {V : Type 0} → List (Shown V) → ℕ → ℕ
+capacity_at profiles place = spare_at profiles place + length (rows_at profiles place)
 
 -- the exit of each run
 abbrev pub exit_at : {V : Type 0} → List (Option (Exit V)) → ℕ → Option (Exit V)

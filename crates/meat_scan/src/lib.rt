@@ -9,14 +9,16 @@
 #![tactic(auto)]
 
 ghost use Rattle.std.specs.Prelude.{◌≡◌, ◌≢◌, ℕ, ◌+◌, ◌-◌, ◌<◌, ◌≤◌, length, All, Some, None, MatchBool, take, Option, [], IfOk, slice_index, count_by, ◌==◌, if◌then◌else◌};
+ghost use Rattle.plan_model.specs.Bounds.{most_connections, end_of_arrivals, end_of_time, seconds_per_day};
 ghost use Rattle.plan_model.specs.Network.{count, from_of, run_of, IsValid};
 ghost use Rattle.plan_model.specs.Order.{IsScanOrder};
 ghost use Rattle.std.specs.Option.{option_map};
-ghost use Rattle.meat_scan.specs.Tables.{rows_at, spare_at, room_at, exit_at, has_way, ways_between, FitsTables, IsEmpty};
+ghost use Rattle.meat_scan.specs.Tables.{rows_at, spare_at, capacity_at, exit_at, has_way, ways_between, FitsTables, IsEmpty};
 ghost use Rattle.meat_scan.specs.Found.{choice_of, found_in};
 ghost use Rattle.meat_scan.specs.Values.{value_at, values_after};
 ghost use Rattle.meat_scan.specs.Step.{left_by, exits_with, way_from, with_way, rows_with, start_with};
 ghost use Rattle.meat_scan.specs.Step.{boarded, rows_next, exits_next, start_next};
+ghost use Rattle.meat_scan.specs.Rules.{FollowsRules};
 ghost use Rattle.meat_scan.specs.Solves.{Answers, Solves, SolvesStart};
 
 use plan_model::{
@@ -37,7 +39,7 @@ fn value_after<V: Score>(
     query: &Query,
 ) -> Option<V>
     requires place { place.0 < length profiles.now }
-    requires soon { arrival.0 < 13601174401 }
+    requires soon { arrival.0 < end_of_time }
     ensures { let query = query.now in
         let rows = rows_at profiles.now in
         result ≡ value_at V.arrived query.target.0 query.deadline.0 rows place.0 arrival.0 }
@@ -66,8 +68,8 @@ fn fill_kids<V: Score>(
     kids: &mut [V],
 ) -> bool
     requires place { place.0 < length profiles.now }
-    requires soon { scheduled.0 < 13601088000 }
-    requires delays { All (λ o. o.delay ≤ 86400) row.now }
+    requires soon { scheduled.0 < end_of_arrivals }
+    requires delays { All (λ o. o.delay ≤ seconds_per_day) row.now }
     requires room { length row.now ≤ length kids.old }
     ensures filled { let query = query.now in
         let rows = rows_at profiles.now in
@@ -106,7 +108,7 @@ fn put_leg<V: Score>(
     ensures spare { (place : ℕ) →
         let taken = if way.from.0 == place then 1 else 0 in
         spare_at profiles.old place ≤ spare_at profiles.new place + taken }
-    ensures room { (place : ℕ) → room_at profiles.new place ≡ room_at profiles.old place }
+    ensures capacity { (place : ℕ) → capacity_at profiles.new place ≡ capacity_at profiles.old place }
     ensures len { length profiles.new ≡ length profiles.old }
 {
     let seconds = u64::from(way.seconds);
@@ -137,7 +139,7 @@ fn board<V: Score>(
     ensures spare { (place : ℕ) →
         let taken = ways_between network.now place (from_of network.now id.0) in
         spare_at profiles.old place ≤ spare_at profiles.new place + taken }
-    ensures room { (place : ℕ) → room_at profiles.new place ≡ room_at profiles.old place }
+    ensures capacity { (place : ℕ) → capacity_at profiles.new place ≡ capacity_at profiles.old place }
     ensures len { length profiles.new ≡ length profiles.old }
 {
     let Some((value, exit)) = exit else {
@@ -223,8 +225,7 @@ fn boarded_for<V: Score>(
     network: &Network,
     id: ConnectionId,
 ) -> Option<(V, ConnectionId)>
-    requires there { id.0 < count network.now }
-    requires run { run_of network.now id.0 < length exits.now }
+    requires { id.0 < count network.now }
     ensures { result ≡ boarded network.now id.0 (exit_at exits.now) }
 {
     let connection = network.get(id);
@@ -268,7 +269,7 @@ fn scan_one<V: Score>(
     ensures spare { (place : ℕ) →
         let taken = ways_between network.now place (from_of network.now id.0) in
         spare_at profiles.old place ≤ spare_at profiles.new place + taken }
-    ensures room { (place : ℕ) → room_at profiles.new place ≡ room_at profiles.old place }
+    ensures capacity { (place : ℕ) → capacity_at profiles.new place ≡ capacity_at profiles.old place }
     ensures places { length profiles.new ≡ length profiles.old }
     ensures runs { length exits.new ≡ length exits.old }
     ensures outcomes { length kids.new ≡ length kids.old }
@@ -344,7 +345,7 @@ fn count_ways(room: &mut [u32], network: &Network, place: PlaceId)
     requires valid { IsValid network.now }
     requires place { place.0 < length network.now.change }
     requires len { length room.old ≡ length network.now.change }
-    requires few { (from : ℕ) → from < length room.old → slice_index room.old from < 8388608 }
+    requires few { (from : ℕ) → from < length room.old → slice_index room.old from < most_connections }
     ensures counts { (from : ℕ) → from < length room.old →
         slice_index room.new from
         ≡ slice_index room.old from + ways_between network.now from place.0 }
@@ -423,7 +424,8 @@ impl<V: Score> Scanned<V> {
     }
 }
 
-// Scans all connections backwards, and gives the start leg. The rows stay in the tables.
+// Scans the connections up to the deadline backwards, which leave what all would, and gives the
+// start leg. The rows stay in the tables.
 fn scan_all<V: Score, B: BackwardOrder>(
     tables: ScanTables<V>,
     network: &Network,
@@ -438,9 +440,12 @@ fn scan_all<V: Score, B: BackwardOrder>(
     requires differ { query.now.source.0 ≢ query.now.target.0 }
     ensures answers { let found = found_in result.0 result.1 query.now.target.0 in
         Answers V.below V.covers V.gap network.now query.now found }
+    ensures rules { let found = found_in result.0 result.1 query.now.target.0 in
+        let whole = B.rest order.old network.now in
+        FollowsRules V.rank V.lowered V.arrived V.blended network.now query.now whole found }
     ensures valid { IsValid network.now }
     ensures fits { B.fits order.new network.now }
-    ensures room { (place : ℕ) → room_at result.0.profiles place ≡ room_at tables.profiles place }
+    ensures capacity { (place : ℕ) → capacity_at result.0.profiles place ≡ capacity_at tables.profiles place }
     ensures places { length result.0.profiles ≡ length network.now.change }
     ensures runs { length result.0.exits ≡ length tables.exits }
     ensures outcomes { length result.0.kids ≡ length tables.kids }
@@ -473,7 +478,8 @@ fn scan_all<V: Score, B: BackwardOrder>(
 
 /// Scans all connections backwards, for a query between two different places. What it finds is safe
 /// and best: its values are below those of every safe strategy, and each covers the strategy that it
-/// chooses, within a gap of as many units as there are connections. The order is used up.
+/// chooses, within a gap of as many units as there are connections. Of equal values it keeps the one
+/// that it came to first, lowered to the other. The order is used up.
 pub fn scan<V: Score, B: BackwardOrder>(
     tables: ScanTables<V>,
     network: &Network,
@@ -487,6 +493,8 @@ pub fn scan<V: Score, B: BackwardOrder>(
     requires target { query.now.target.0 < length network.now.change }
     requires differ { query.now.source.0 ≢ query.now.target.0 }
     ensures solves { Solves V.below V.covers V.gap result network.now query.now }
+    ensures rules { let whole = B.rest order.old network.now in
+        FollowsRules V.rank V.lowered V.arrived V.blended network.now query.now whole result }
     ensures valid { IsValid network.now }
     ensures fits { B.fits order.new network.now }
 {
@@ -506,7 +514,7 @@ pub fn scan<V: Score, B: BackwardOrder>(
 // Takes out the rows of each place.
 fn clear_all<V: Score>(profiles: &mut [Profile<V>])
     ensures empty { (place : ℕ) → rows_at profiles.new place ≡ [] }
-    ensures room { (place : ℕ) → spare_at profiles.new place ≡ room_at profiles.old place }
+    ensures spare { (place : ℕ) → spare_at profiles.new place ≡ capacity_at profiles.old place }
     ensures len { length profiles.new ≡ length profiles.old }
 {
     for place in 0..profiles.len() {
@@ -518,7 +526,7 @@ fn clear_all<V: Score>(profiles: &mut [Profile<V>])
 // The tables with all rows and exits taken out.
 fn emptied<V: Score>(tables: ScanTables<V>) -> ScanTables<V>
     ensures empty { IsEmpty result.profiles result.exits }
-    ensures room { (place : ℕ) → spare_at result.profiles place ≡ room_at tables.profiles place }
+    ensures spare { (place : ℕ) → spare_at result.profiles place ≡ capacity_at tables.profiles place }
     ensures places { length result.profiles ≡ length tables.profiles }
     ensures runs { length result.exits ≡ length tables.exits }
     ensures outcomes { length result.kids ≡ length tables.kids }
@@ -538,7 +546,7 @@ fn emptied<V: Score>(tables: ScanTables<V>) -> ScanTables<V>
 }
 
 // The value of a start leg.
-fn value_of<V: Score>(start: Option<(V, Leg)>) -> Option<V>
+fn leg_value<V: Score>(start: Option<(V, Leg)>) -> Option<V>
     ensures { result ≡ option_map (λ s. s.0) start }
 {
     match start {
@@ -567,6 +575,9 @@ pub fn start_value<V: Score, B: BackwardOrder>(
     ensures fits { B.fits order.new network.now }
 {
     let (tables, start) = scan_all(tables, network, order, query);
-    let value = value_of(start);
+    let value = leg_value(start);
     (emptied(tables), value)
 }
+
+#[cfg(test)]
+mod tests;

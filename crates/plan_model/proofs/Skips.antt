@@ -5,7 +5,7 @@ use Rattle.std.proofs.lemmas.List.{take-append-drop, get_or-drop, get_or-take, l
 use Rattle.plan_model.specs.declared.model.ConnectionId.{ConnectionId}
 use Rattle.plan_model.specs.Parts.{Parts}
 use Rattle.plan_model.specs.Network.{dep_of}
-use Rattle.plan_model.specs.Order.{IsEarlier, IsScanOrder, IsUpTo}
+use Rattle.plan_model.specs.Order.{IsEarlier, IsScanOrder, IsPrefixUpTo}
 
 take_take : {X : Type 0} (xs : List X) (i j : ℕ) → i ≤ j → take i (take j xs) ≡ take i xs
 take_take {X} xs i j h =
@@ -52,8 +52,8 @@ module _ (n : Parts) (ids : List ConnectionId) (last left low high : ℕ) (order
     late = λ k d ge less. omega (arith, dep_along n ids order middle k d ge (omega arith), late d);
   }
 
-  pub IsUpTo-halved : high ≤ low → left ≤ length ids → IsUpTo n last (take left ids) (take low ids)
-  IsUpTo-halved done all =
+  pub IsPrefixUpTo-halved : high ≤ low → left ≤ length ids → IsPrefixUpTo n last (take left ids) (take low ids)
+  IsPrefixUpTo-halved done all =
       let low_is : low ≤ left = omega (arith, h.ordered, h.within) in
       let front : take low (take left ids) ≡ take low ids = take_take ids low left low_is in
       let long : length (take left ids) ≡ left = length-take-le left ids all in

@@ -5,6 +5,7 @@ use Rattle.plan_model.specs.declared.model.Moment.{Moment}
 use Rattle.plan_model.specs.declared.model.Query.{Query}
 use Rattle.plan_model.specs.Parts.{Parts}
 use Rattle.plan_model.specs.Network.{IsValid}
+use Rattle.plan_model.specs.Bounds.{last_moment, end_of_time}
 use Rattle.plan_model.specs.Tree.{Tree, worst}
 use Rattle.plan_model.specs.Strategy.{IsSafeFor, Reaches, LeastWorst}
 use Rattle.plan_model.proofs.Bounds.{before_last, after_LeastWorst, before_LeastWorst}
@@ -25,7 +26,7 @@ least_from_value n q value v =
       ],
     )
 
-module _ (n : Parts) (v : IsValid n) (q : Query) (early : q.start.0 < 13601174401) (last : q.deadline.0 ≡ 13601174400) where
+module _ (n : Parts) (v : IsValid n) (q : Query) (early : q.start.0 < end_of_time) (last : q.deadline.0 ≡ last_moment) where
   -- what always reaches the target does so by the last moment
   safe_from : (tree : Tree) → Reaches n q.source.0 q.target.0 q.start.0 tree → IsSafeFor n q tree
   safe_from tree reaches = safe_from_reaches n q.source.0 q.target.0 q.start.0 q.deadline.0 tree reaches (omega (arith, last, before_last n v q.source.0 q.target.0 q.start.0 tree reaches early))
@@ -40,6 +41,6 @@ module _ (n : Parts) (v : IsValid n) (source target start : ℕ) (none : Type 0)
   not_before None h = tt
   not_before (Some w) h = after_LeastWorst n v source target start w h
 
-  pub not_late : (result : Option Moment) → start < 13601174401 → MatchOption result none (λ w. LeastWorst n source target start (Some w)) → IfSome result (λ w. w.0 < 13601174401)
+  pub not_late : (result : Option Moment) → start < end_of_time → MatchOption result none (λ w. LeastWorst n source target start (Some w)) → IfSome result (λ w. w.0 < end_of_time)
   not_late None early h = tt
   not_late (Some w) early h = before_LeastWorst n v source target start w h early

@@ -2,6 +2,7 @@
 #![tactic(auto)]
 
 ghost use Rattle.std.specs.Prelude.{◌≡◌, ◌≢◌, ◌<◌, ◌≤◌, length, Some, IfSome, MatchOption};
+ghost use Rattle.plan_model.specs.Bounds.{end_of_time};
 ghost use Rattle.plan_model.specs.Order.{IsScanOrder};
 ghost use Rattle.plan_model.specs.Strategy.{IsSafeFor, LeastWorst, deadline_of};
 ghost use Rattle.plan_model.specs.Network.{IsValid};
@@ -12,9 +13,14 @@ use meat_scan::{ScanTables, start_value};
 use plan_model::{BackwardOrder, Moment, Network, PlaceId, Query};
 use value_laws::WorstMoment;
 
-// The least worst arrival of all, where one is by the deadline of the query. The tables come back
-// empty, and the order is used up.
-fn least_by<B: BackwardOrder>(
+// A day after the last arrival that a network may have: whatever always arrives does so by then.
+const LAST_MOMENT: Moment = Moment(13_601_174_400);
+
+const SECONDS_PER_HOUR: u64 = 3600;
+
+// The least worst arrival, where it is by the deadline of the query. The tables come back empty,
+// and the order is used up.
+fn least_worst_by<B: BackwardOrder>(
     tables: ScanTables<WorstMoment>,
     network: &Network,
     order: &mut B,
@@ -57,12 +63,12 @@ pub fn least_worst<B: BackwardOrder>(
     requires whole { IsScanOrder network.now (B.rest order.old network.now) }
     requires source { source.0 < length network.now.change }
     requires target { target.0 < length network.now.change }
-    requires start { start.0 < 13601174401 }
+    requires start { start.0 < end_of_time }
     ensures least { LeastWorst network.now source.0 target.0 start.0 result }
 
     // It is not before the start, and no later than a day after the last arrival of a network.
     ensures order { IfSome result (λ worst. start.0 ≤ worst.0) }
-    ensures early { IfSome result (λ worst. worst.0 < 13601174401) }
+    ensures early { IfSome result (λ worst. worst.0 < end_of_time) }
     ensures fits { B.fits order.new network.now }
 {
     if source.0 == target.0 {
@@ -73,23 +79,22 @@ pub fn least_worst<B: BackwardOrder>(
             source,
             target,
             start,
-            deadline: Moment(start.0 + 3600 * hours),
+            deadline: Moment(start.0 + SECONDS_PER_HOUR * hours),
         };
-        let (again, worst) = least_by(tables, network, order, &query);
+        let (again, worst) = least_worst_by(tables, network, order, &query);
         if worst.is_some() {
             return worst;
         }
         tables = again;
         order.rewind(network);
     }
-    // Whatever always arrives does so within a day after the last arrival that a network may have.
     let query = Query {
         source,
         target,
         start,
-        deadline: Moment(13_601_174_400),
+        deadline: LAST_MOMENT,
     };
-    let (_tables, worst) = least_by(tables, network, order, &query);
+    let (_tables, worst) = least_worst_by(tables, network, order, &query);
     worst
 }
 
@@ -97,7 +102,7 @@ pub fn least_worst<B: BackwardOrder>(
 /// rounded down to a second.
 pub fn deadline(start: Moment, worst: Moment, alpha: u32) -> Moment
     requires order { start.0 ≤ worst.0 }
-    requires early { worst.0 < 13601174401 }
+    requires early { worst.0 < end_of_time }
     requires low { 100 ≤ alpha }
     requires high { alpha ≤ 1000 }
     ensures value { result.0 ≡ deadline_of start.0 worst.0 alpha }

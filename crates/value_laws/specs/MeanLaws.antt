@@ -2,13 +2,15 @@
 use Rattle.std.specs.Prelude.{◌≡◌, ℕ, ◌+◌, ◌-◌, ◌*◌, ◌/◌, ◌^◌, ◌≤◌, ◌⊎◌, min, List, [], ◌∷◌, length, map, sum_by, All, refl}
 use Rattle.std.proofs.Common.{arith, inl, inr, zero, suc}
 use Rattle.std.proofs.Math.Nat.{mul-le-mul_left, mul-le-mul_right, mul_assoc, mul_comm, mul-add, pow-suc}
-use Rattle.std.proofs.lemmas.List.Sums.{sum_by-cons}
+use Rattle.std.proofs.lemmas.List.{length-map}
+use Rattle.std.proofs.lemmas.List.Elements.{All-map}
 use Rattle.plan_model.specs.declared.model.Outcome.{Outcome}
 use Rattle.plan_model.specs.Tree.{Tree, Kids, Ride, Nil, Kid}
 use Rattle.plan_model.specs.Rows.{IsValidRow, EachKid}
 use Rattle.plan_model.specs.Expected.{Below, Covers}
 use Rattle.interval_fixed.specs.Interval.{Interval}
 use Rattle.interval_fixed.specs.Means.{weighted_lo, weighted_hi}
+use Rattle.interval_fixed.proofs.Enclosed.{mean_gap_within}
 use Rattle.value_laws.specs.declared.MeanSpan.{MeanSpan}
 use Rattle.value_laws.specs.ScoreLaws.{ScoreLaws}
 use Rattle.value_laws.specs.Means.{mean_below, mean_covers, mean_gap, mean_rank, mean_arrived, mean_blended, mean_lowered}
@@ -52,26 +54,9 @@ blended_covers : (row : List Outcome) (spans : List Interval) (kids : Kids) (ent
 blended_covers row spans kids enter exit each h tall =
     rw (pow_down h (omega arith)) (rounded_covers (weighted_hi row spans) (10000 ^ (h - 1)) _ (covers_sum row spans kids (h - 1) (omega arith) each))
 
-gap_step : (w lo hi most l u s : ℕ) → hi - lo ≤ most → u ≤ l + most * s → w * hi + u ≤ (w * lo + l) + most * (w + s)
-gap_step w lo hi most l u s here rest =
-    let here' : hi ≤ lo + most = omega arith in
-    let scaled = mul-le-mul_left w here' in
-    omega (arith, scaled, mul-add w lo most, mul-add most w s, mul_comm w most)
-
--- the sums are as far apart as the gap times the weights
-gap_sum : (row : List Outcome) (values : List MeanSpan) (most : ℕ) → length row ≡ length values → All (λ v. mean_gap v ≤ most) values → weighted_hi row (map (λ v. v.0) values) ≤ weighted_lo row (map (λ v. v.0) values) + most * sum_by (λ o. o.weight) row
-gap_sum [] [] most same gaps = omega arith
-gap_sum (o ∷ row) (v ∷ values) most same gaps =
-    rw (sum_by-cons (λ o. o.weight) o row)
-    (gap_step o.weight v.0.lo v.0.hi most (weighted_lo row (map (λ v. v.0) values)) (weighted_hi row (map (λ v. v.0) values)) (sum_by (λ o. o.weight) row) (gaps 0 v (omega arith))
-    (gap_sum row values most (omega arith) (λ k d below. gaps (suc k) d (omega arith))))
-gap_sum [] (v ∷ values) most same gaps = absurd (omega arith)
-gap_sum (o ∷ row) [] most same gaps = absurd (omega arith)
-
 blended_gap : (row : List Outcome) (values : List MeanSpan) (most : ℕ) → IsValidRow row → length row ≡ length values → All (λ v. mean_gap v ≤ most) values → mean_gap (mean_blended row values) ≤ most + 1
 blended_gap row values most good same gaps =
-    let sums = rw good.total at (gap_sum row values most same gaps) in
-    omega (arith, sums)
+    mean_gap_within row (map (λ v. v.0) values) most good (omega (arith, same, length-map values (λ (v : MeanSpan). v.0))) (All-map (λ (s : Interval). s.hi - s.lo ≤ most) (λ (v : MeanSpan). v.0) values gaps)
 
 -- the lesser of two is below what either is below
 lesser_below : (a b p n : ℕ) → a * p ≤ n ⊎ b * p ≤ n → min a b * p ≤ n

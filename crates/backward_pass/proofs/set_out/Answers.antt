@@ -18,7 +18,7 @@ loop-entry-preserved c =
     let xs = c.args.taken.now in
     let i = c.loop-entry.entry-index in
     let leaves : Taken → Type 0 = λ t. IsBoardableAtStart n c.args.source.0 c.args.start.0 t.id.0 in
-    let at : c.get-connection.result ≡ connection n (get_or xs i nothing).id.0 = c.get-connection.ensures in
+    let at : c.get-connection.result ≡ connection n (get_or xs i nothing).id.0 = c.get-connection.ensures.connection in
     let from = ap (λ (k : Connection). k.from.0) at in
     let dep = ap (λ (k : Connection). k.dep.0) at in
     elim c.if-connection-source.branch [

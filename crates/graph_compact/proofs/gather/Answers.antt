@@ -19,7 +19,7 @@ loop-ride-preserved c =
     let tables = c.loop-ride.tables.items in
     let end = c.get-end.result.to.0 in
     let within : c.loop-ride.ride-index < length rides = omega (arith, c.loop-ride-test.true) in
-    let ends : end ≡ end_of c.args.network.now r.leg = ap (λ (conn : Connection). conn.to.0) c.get-end.ensures in
+    let ends : end ≡ end_of c.args.network.now r.leg = ap (λ (conn : Connection). conn.to.0) c.get-end.ensures.connection in
     let leg : IsLegOf c.args.network.now r.leg =
     subst (λ (x : Ride). IsLegOf c.args.network.now x.leg) (sym c.ride-item.is)
     (subst (λ (list : List Ride). (k : ℕ) (d : Ride) → k < length list → IsLegOf c.args.network.now (slice_index_or list k d).leg) (sym c.as_slice-ride-items.ensures) c.requires c.loop-ride.ride-index r within) in

@@ -9,7 +9,7 @@ pub returns-clause-text : goal.returns-clause-text
 returns-clause-text c =
     let fields = leg_row_fields c.args.network.now c.args.names.now c.args.leg c.get-enter.result c.get-exit.result c.args.kind.now c.args.second.now
     c.as_bytes.result.now c.as_bytes-2.result.now c.as_slice.result.now c.as_bytes-3.result.now c.as_bytes-4.result.now c.as_slice-2.result.now
-    c.get-enter.ensures c.get-exit.ensures
+    c.get-enter.ensures.connection c.get-exit.ensures.connection
     (c.as_bytes.ensures.value ∙ name_is c.args.names.now.runs c.get-enter.result.run.0 c.run_name.result.now c.run_name.ensures.name)
     (c.as_bytes-2.ensures.value ∙ c.format.ensures.text)
     (c.as_slice.ensures ∙ c.write_moment-dep.ensures.text)

@@ -9,7 +9,7 @@ use Rattle.graph_text.proofs.put_start.Goals as goal
 
 pub returns-clause-text : goal.returns-clause-text
 returns-clause-text c =
-    let second = c.as_slice.ensures ∙ c.write_moment-dep.ensures.text ∙ ap (λ (k : Connection). moment_text k.dep.0) c.get.ensures in
+    let second = c.as_slice.ensures ∙ c.write_moment-dep.ensures.text ∙ ap (λ (k : Connection). moment_text k.dep.0) c.get.ensures.connection in
     let text = ap (λ (bytes : List ℕ). leg_row c.args.network.now c.args.names.now (codes "start") bytes c.in-Some.leg) second
     ∙ ap (λ (s : Option Leg). start_text c.args.network.now c.args.names.now s) (sym c.in-Some.is) in
     subst (λ (bytes : List ℕ). OnOk c.put_leg.result (written c.put_leg.new.writer ≡ written c.args.writer.now ++ bytes)) text c.put_leg.ensures.text

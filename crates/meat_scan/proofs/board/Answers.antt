@@ -10,7 +10,7 @@ pub put_leg-requires-clause-from : goal.put_leg-requires-clause-from
 put_leg-requires-clause-from g c =
     let network = c.args.network.now in
     let r = c.get-connection.result.from.0 in
-    let there : r < length network.change = rw c.get-connection.ensures (c.requires.valid.connections c.args.id.0 c.requires.there).from_in in
+    let there : r < length network.change = rw c.get-connection.ensures.connection (c.requires.valid.connections c.args.id.0 c.requires.there).from_in in
     let inside = from_in network c.requires.valid r c.loop-k.k c.way_at-way.result there c.way_at-way.ensures in
     omega (arith, inside, c.loop-k.invariant.len, c.requires.places)
 
@@ -19,9 +19,9 @@ put_leg-requires-clause-room g c =
     let network = c.args.network.now in
     let r = c.get-connection.result.from.0 in
     let way = c.way_at-way.result in
-    let there : r < length network.change = rw c.get-connection.ensures (c.requires.valid.connections c.args.id.0 c.requires.there).from_in in
+    let there : r < length network.change = rw c.get-connection.ensures.connection (c.requires.valid.connections c.args.id.0 c.requires.there).from_in in
     let inside = from_in network c.requires.valid r c.loop-k.k way there c.way_at-way.ensures in
-    let from : from_of network c.args.id.0 ≡ r = ap (λ connection. connection.from.0) (sym c.get-connection.ensures) in
+    let from : from_of network c.args.id.0 ≡ r = ap (λ connection. connection.from.0) (sym c.get-connection.ensures.connection) in
     let room = subst (λ to. cond (has_way network way.from.0 to) 1 0 ≤ spare_at c.args.profiles.now way.from.0) from (c.requires.room way.from.0 inside) in
     room_left network r c.loop-k.k (omega arith) way c.way_at-way.ensures _ _ room (c.loop-k.invariant.spare way.from.0)
 
@@ -38,5 +38,5 @@ loop-k-preserved g c =
       len = put.len ∙ loop.invariant.len;
       rows = λ place. rows_next (ways_into network r) distinct loop.k (omega arith) way c.way_at-way.ensures score.rank score.lowered c.args.query.now.target.0 c.get-connection.result.dep.0 _ _ place _ _ _ (loop.invariant.rows place) (put.rows place);
       spare = λ place. spare_next (ways_into network r) distinct loop.k (omega arith) way c.way_at-way.ensures place _ _ _ (loop.invariant.spare place) (put.spare place);
-      room = λ place. put.room place ∙ loop.invariant.room place;
+      capacity = λ place. put.capacity place ∙ loop.invariant.capacity place;
     }

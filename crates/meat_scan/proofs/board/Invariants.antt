@@ -1,11 +1,11 @@
 use Rattle.std.proofs.Common.{◌≡◌, ℕ, ◌+◌, ◌≤◌, length, take}
 use Rattle.plan_model.specs.Ways.{ways_into}
-use Rattle.meat_scan.specs.Tables.{rows_at, spare_at, room_at}
+use Rattle.meat_scan.specs.Tables.{rows_at, spare_at, capacity_at}
 use Rattle.meat_scan.specs.Step.{with_way}
 use Rattle.meat_scan.proofs.WaySteps.{way_in, way_number}
 use Rattle.meat_scan.proofs.board.Given as goal
 
--- the rows and the room of each place after the ways so far
+-- the rows of each place, and its room, after the ways so far
 abbrev pub invariant-loop-k : goal.invariant-loop-k
 invariant-loop-k g l =
     let score = g.V.Score in
@@ -14,5 +14,5 @@ invariant-loop-k g l =
       len : length l.profiles ≡ length l.initial.profiles;
       rows : (place : ℕ) → rows_at l.profiles place ≡ with_way score.rank score.lowered l.query.target.0 l.connection.dep.0 l.value l.leg (way_in ways place) place (rows_at l.initial.profiles place);
       spare : (place : ℕ) → spare_at l.initial.profiles place ≤ spare_at l.profiles place + way_number (way_in ways place);
-      room : (place : ℕ) → room_at l.profiles place ≡ room_at l.initial.profiles place;
+      capacity : (place : ℕ) → capacity_at l.profiles place ≡ capacity_at l.initial.profiles place;
     }

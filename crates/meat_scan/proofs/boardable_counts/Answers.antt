@@ -27,7 +27,7 @@ loop-id-preserved c =
       valid = loop.invariant.valid;
       len = omega (arith, loop.invariant.len);
       counts = λ place inside.
-          let more = rw (old, c.get.ensures) at (c.count_ways.ensures.counts place) in
+          let more = rw (old, c.get.ensures.connection) at (c.count_ways.ensures.counts place) in
           let counted = loop.invariant.counts place inside in
           let next = count_by-take_more (λ connection. has_way network place connection.from.0) network.connections loop.id (omega arith) in
           omega (arith, more (omega (arith, loop.invariant.len)), counted, next);

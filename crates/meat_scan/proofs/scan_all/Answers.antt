@@ -1,7 +1,7 @@
 use Rattle.std.proofs.Common.{◌∙◌, sym, subst, arith, refl}
 use Rattle.stop_profile.proofs.Gaps.{written_back}
 use Rattle.meat_scan.specs.Tables.{FitsTables}
-use Rattle.meat_scan.proofs.States.{next_state, last_state, next_there, room_for_run, room_for_rows, room_next, found_rows-profiles}
+use Rattle.meat_scan.proofs.States.{next_state, last_state, rules_end, next_there, room_for_run, room_for_rows, room_next, found_rows-profiles}
 use Rattle.meat_scan.proofs.Lates.{skipped_state, skipped_room}
 use Rattle.meat_scan.proofs.scan_all.Goals as goal
 
@@ -15,7 +15,7 @@ loop-id-init g c =
       fits = c.skip_after.ensures.fits;
       room = skipped_room c.args.network.now c.args.query.now.deadline.0 order rest _ _ _ c.skip_after.ensures.up_to (fit.room order c.requires.whole);
       state = skipped_state g.V.Score.laws c.args.network.now fit.valid c.args.query.now order c.requires.whole _ _ fit.empty rest c.skip_after.ensures.up_to;
-      same_room = λ place. refl;
+      same_capacity = λ place. refl;
       same_runs = refl;
       same_outcomes = refl;
     }
@@ -60,7 +60,7 @@ loop-id-preserved g c =
       fits = c.in-Some.ensures.fits;
       room = room_next c.args.network.now rest c.in-Some.id there c.loop-id.profiles.items c.loop-id.exits c.loop-id.kids.items room one.new.profiles one.new.exits one.new.kids (rw old at one.ensures.spare) (rw old at one.ensures.places) one.ensures.runs (omega arith);
       state = next_state g.V.Score.laws c.args.network.now loop.valid c.args.query.now (g.B.BackwardOrder.rest c.args.order.now c.args.network.now) c.requires.whole rest c.in-Some.id c.loop-id.profiles.items one.new.profiles c.loop-id.exits one.new.exits c.loop-id.start one.result state (rw old at one.ensures.rows) (rw old at one.ensures.exits) (rw old at one.ensures.start);
-      same_room = λ place. rw old at (one.ensures.room place) ∙ loop.same_room place;
+      same_capacity = λ place. rw old at (one.ensures.capacity place) ∙ loop.same_capacity place;
       same_runs = one.ensures.runs ∙ loop.same_runs;
       same_outcomes = omega (arith, loop.same_outcomes);
     })
@@ -71,3 +71,10 @@ returns-clause-answers g c =
     let told = c.in_default.ensures.none.0 refl in
     let rows_are = found_rows-profiles c.loop-id.start c.args.query.now.target.0 c.loop-id.profiles.items in
     last_state g.V.Score.laws c.args.network.now loop.valid c.args.query.now (g.B.BackwardOrder.rest c.args.order.now c.args.network.now) c.requires.whole (g.B.BackwardOrder.rest c.loop-id.order c.args.network.now) c.loop-id.profiles.items c.loop-id.exits _ c.requires.differ told rows_are loop.state
+
+pub returns-clause-rules : goal.returns-clause-rules
+returns-clause-rules g c =
+    let loop = c.loop-id.invariant in
+    let told = c.in_default.ensures.none.0 refl in
+    let rows_are = found_rows-profiles c.loop-id.start c.args.query.now.target.0 c.loop-id.profiles.items in
+    rules_end g.V.Score.laws c.args.network.now loop.valid c.args.query.now (g.B.BackwardOrder.rest c.args.order.now c.args.network.now) c.requires.whole (g.B.BackwardOrder.rest c.loop-id.order c.args.network.now) c.loop-id.profiles.items c.loop-id.exits _ told rows_are loop.state

@@ -1,4 +1,5 @@
 use Rattle.std.proofs.Common.{refl}
+use Rattle.plan_model.specs.Bounds.{last_moment}
 use Rattle.plan_model.proofs.Laws.{LeastWorst-at_target}
 use Rattle.safe_arrival.proofs.Least.{least_by_last, not_before, not_late}
 use Rattle.safe_arrival.proofs.least_worst.Goals as goal
@@ -8,25 +9,25 @@ returns-then-source-target-clause-least g c = LeastWorst-at_target c.args.networ
 
 pub returns-then-is_some-clause-order : goal.returns-then-is_some-clause-order
 returns-then-is_some-clause-order g c =
-    let found = c.least_by-again in
+    let found = c.least_worst_by-again in
     not_before c.args.network.now found.ensures.valid c.args.source.0 c.args.target.0 c.args.start.0 _ found.result.1 found.ensures.least
 
 pub returns-then-is_some-clause-early : goal.returns-then-is_some-clause-early
 returns-then-is_some-clause-early g c =
-    let found = c.least_by-again in
+    let found = c.least_worst_by-again in
     not_late c.args.network.now found.ensures.valid c.args.source.0 c.args.target.0 c.args.start.0 _ found.result.1 c.requires.start found.ensures.least
 
 pub returns-clause-least : goal.returns-clause-least
 returns-clause-least g c =
-    let found = c.least_by-tables in
-    least_by_last c.args.network.now found.ensures.valid (record { source = c.args.source; target = c.args.target; start = c.args.start; deadline = record { 0 = 13601174400 } }) c.requires.start refl found.result.1 found.ensures.least
+    let found = c.least_worst_by-tables in
+    least_by_last c.args.network.now found.ensures.valid (record { source = c.args.source; target = c.args.target; start = c.args.start; deadline = record { 0 = last_moment } }) c.requires.start refl found.result.1 found.ensures.least
 
 pub returns-clause-order : goal.returns-clause-order
 returns-clause-order g c =
-    let found = c.least_by-tables in
+    let found = c.least_worst_by-tables in
     not_before c.args.network.now found.ensures.valid c.args.source.0 c.args.target.0 c.args.start.0 _ found.result.1 found.ensures.least
 
 pub returns-clause-early : goal.returns-clause-early
 returns-clause-early g c =
-    let found = c.least_by-tables in
+    let found = c.least_worst_by-tables in
     not_late c.args.network.now found.ensures.valid c.args.source.0 c.args.target.0 c.args.start.0 _ found.result.1 c.requires.start found.ensures.least

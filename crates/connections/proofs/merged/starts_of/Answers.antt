@@ -6,7 +6,7 @@ use Rattle.connections.proofs.merged.starts_of.Goals.{then-get-len+in_ok-push, e
 
 pub loop-i-preserved : goal.loop-i-preserved
 loop-i-preserved c =
-    let run = ap (λ (x : Connection). x.run.0) c.get.ensures in
+    let run = ap (λ (x : Connection). x.run.0) c.get.ensures.connection in
     let len = c.loop-i.starts.ok.0 in
     elim c.if-get-len.branch [
       | then-get-len+in_ok-push w ↦ rw (w.starts-is, w.in_ok-push.ensures.items) (AreStartsBelow-start c.args.network.now c.count-i-end.ensures.valid c.loop-i.i c.loop-i.starts.items (omega (arith, c.count-i-end.ensures.count)) (omega (arith, run, c.len.ensures, w.if-get-len.true)) c.loop-i.invariant)

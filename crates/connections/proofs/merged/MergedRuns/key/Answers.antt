@@ -2,7 +2,7 @@ use Rattle.std.proofs.Common.{◌-◌, arith, ap}
 use Rattle.std.proofs.lemmas.List.{get_or_read}
 use Rattle.plan_model.specs.declared.model.Connection.{Connection}
 use Rattle.plan_model.specs.Network.{dep_of}
-use Rattle.connections.proofs.StretchLemmas.{shown-none, shown-some}
+use Rattle.connections.proofs.StretchLemmas.{key_of-none, key_of-some}
 use Rattle.connections.proofs.merged.MergedRuns.key.Goals as goal
 
 pub returns-then-end-index : goal.returns-then-end-index
@@ -10,7 +10,7 @@ returns-then-end-index c =
     let s = c.args.self.now in
     let end = get_or_read s.left.items c.args.run c.index-end.result.now c.requires.run c.index-end.ensures 0 in
     let start = get_or_read s.starts.items c.args.run c.index.result.now (omega arith) c.index.ensures 0 in
-    omega (arith, shown-none c.args.network.now s.starts.items s.left.items c.args.run (omega arith))
+    omega (arith, key_of-none c.args.network.now s.starts.items s.left.items c.args.run (omega arith))
 
 pub returns : goal.returns
 returns c =
@@ -19,4 +19,4 @@ returns c =
     let end = get_or_read s.left.items c.args.run c.index-end.result.now c.requires.run c.index-end.ensures 0 in
     let start = get_or_read s.starts.items c.args.run c.index.result.now (omega arith) c.index.ensures 0 in
     let within = c.requires.stretches.within c.args.run c.requires.run in
-    omega (arith, shown-some n s.starts.items s.left.items c.args.run (omega arith), ap (λ m. dep_of n (m - 1)) end, ap (λ (x : Connection). x.dep.0) c.get.ensures)
+    omega (arith, key_of-some n s.starts.items s.left.items c.args.run (omega arith), ap (λ m. dep_of n (m - 1)) end, ap (λ (x : Connection). x.dep.0) c.get.ensures.connection)

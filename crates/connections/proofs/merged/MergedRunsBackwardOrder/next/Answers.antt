@@ -42,7 +42,7 @@ get-run-requires c =
 
 -- its number is that of the connection
 run_is : (c : After-get-run) → (w : HasWon c.args.network.now c.args.self.now.starts.items c.args.self.now.left.items c.index-key.result.now) → c.get-run.result.run.0 ≡ w.run
-run_is c w = ap (λ (x : Connection). x.run.0) c.get-run.ensures ∙ ap (λ (i : ℕ). (connection c.args.network.now i).run.0) w.id ∙ w.own
+run_is c w = ap (λ (x : Connection). x.run.0) c.get-run.ensures.connection ∙ ap (λ (i : ℕ). (connection c.args.network.now i).run.0) w.id ∙ w.own
 
 pub give-requires-clause-run : goal.give-requires-clause-run
 give-requires-clause-run c =

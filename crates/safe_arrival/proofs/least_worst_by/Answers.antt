@@ -2,7 +2,7 @@ use Rattle.std.proofs.Common.{subst}
 use Rattle.value_laws.specs.Worsts.{worst_below, worst_covers, worst_gap}
 use Rattle.meat_scan.specs.Solves.{SolvesStart}
 use Rattle.safe_arrival.proofs.Least.{least_from_value}
-use Rattle.safe_arrival.proofs.least_by.Goals as goal
+use Rattle.safe_arrival.proofs.least_worst_by.Goals as goal
 
 pub returns-in-Some-clause-least : goal.returns-in-Some-clause-least
 returns-in-Some-clause-least g c =

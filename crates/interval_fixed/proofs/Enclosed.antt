@@ -1,0 +1,51 @@
+-- A mean of spans encloses the mean of what is within them, and is little wider than the widest.
+use Rattle.std.proofs.Common.{◌≡◌, ℕ, zero, suc, ◌+◌, ◌-◌, ◌*◌, ◌≤◌, List, [], ◌∷◌, length, map, All, arith}
+use Rattle.std.specs.Prelude.{sum_by}
+use Rattle.std.proofs.Math.Nat.{mul-le-mul_left, mul_comm, mul-add}
+use Rattle.std.proofs.lemmas.List.Sums.{sum_by-cons}
+use Rattle.plan_model.specs.declared.model.Outcome.{Outcome}
+use Rattle.plan_model.specs.Rows.{IsValidRow}
+use Rattle.interval_fixed.specs.Interval.{Interval}
+use Rattle.interval_fixed.specs.Means.{weighted, weighted_lo, weighted_hi, mean_of}
+use Rattle.interval_fixed.specs.Enclosures.{AreWithin, EnclosesMean}
+
+sums_below : (row : List Outcome) (spans : List Interval) (xs : List ℕ) → AreWithin spans xs → weighted_lo row spans ≤ weighted row xs
+sums_below [] spans xs within = omega arith
+sums_below (o ∷ row) [] [] within = omega arith
+sums_below (o ∷ row) (span ∷ spans) (x ∷ xs) within =
+    omega (arith, mul-le-mul_left o.weight within.0, sums_below row spans xs within.2)
+sums_below (o ∷ row) [] (x ∷ xs) within = absurd within
+sums_below (o ∷ row) (span ∷ spans) [] within = absurd within
+
+sums_above : (row : List Outcome) (spans : List Interval) (xs : List ℕ) → AreWithin spans xs → weighted row xs ≤ weighted_hi row spans
+sums_above [] spans xs within = omega arith
+sums_above (o ∷ row) [] [] within = omega arith
+sums_above (o ∷ row) (span ∷ spans) (x ∷ xs) within =
+    omega (arith, mul-le-mul_left o.weight within.1, sums_above row spans xs within.2)
+sums_above (o ∷ row) [] (x ∷ xs) within = absurd within
+sums_above (o ∷ row) (span ∷ spans) [] within = absurd within
+
+pub mean_encloses : (row : List Outcome) (spans : List Interval) (xs : List ℕ) → AreWithin spans xs → EnclosesMean (mean_of row spans) row xs
+mean_encloses row spans xs within =
+    (omega (arith, sums_below row spans xs within), omega (arith, sums_above row spans xs within))
+
+widened : (w lo hi most l u s : ℕ) → hi - lo ≤ most → u ≤ l + most * s → w * hi + u ≤ (w * lo + l) + most * (w + s)
+widened w lo hi most l u s here rest =
+    let here' : hi ≤ lo + most = omega arith in
+    let scaled = mul-le-mul_left w here' in
+    omega (arith, scaled, mul-add w lo most, mul-add most w s, mul_comm w most)
+
+-- the sums are as far apart as the gap times the weights
+gap_sum : (row : List Outcome) (spans : List Interval) (most : ℕ) → length row ≡ length spans → All (λ span. span.hi - span.lo ≤ most) spans → weighted_hi row spans ≤ weighted_lo row spans + most * sum_by (λ o. o.weight) row
+gap_sum [] [] most same gaps = omega arith
+gap_sum (o ∷ row) (span ∷ spans) most same gaps =
+    rw (sum_by-cons (λ o. o.weight) o row)
+    (widened o.weight span.lo span.hi most (weighted_lo row spans) (weighted_hi row spans) (sum_by (λ o. o.weight) row) (gaps 0 span (omega arith))
+    (gap_sum row spans most (omega arith) (λ k d below. gaps (suc k) d (omega arith))))
+gap_sum [] (span ∷ spans) most same gaps = absurd (omega arith)
+gap_sum (o ∷ row) [] most same gaps = absurd (omega arith)
+
+pub mean_gap_within : (row : List Outcome) (spans : List Interval) (most : ℕ) → IsValidRow row → length row ≡ length spans → All (λ span. span.hi - span.lo ≤ most) spans → (mean_of row spans).hi - (mean_of row spans).lo ≤ most + 1
+mean_gap_within row spans most good same gaps =
+    let sums = rw good.total at (gap_sum row spans most same gaps) in
+    omega (arith, sums)

@@ -1,0 +1,22 @@
+use Rattle.std.proofs.Common.{◌≡◌, ℕ, ◌+◌, ◌-◌, ◌/◌, length, arith, ap, drop}
+use Rattle.std.proofs.lemmas.List.{drop_all}
+use Rattle.plan_model.specs.declared.model.Outcome.{Outcome}
+use Rattle.interval_fixed.specs.Interval.{Interval}
+use Rattle.interval_fixed.specs.Means.{weighted, weighted_lo, weighted_hi}
+use Rattle.interval_fixed.proofs.Enclosed.{mean_encloses, mean_gap_within}
+use Rattle.interval_fixed.proofs.Span.mean.Goals as goal
+
+pub returns-clause-encloses : goal.returns-clause-encloses
+returns-clause-encloses c values within =
+    let none = drop_all c.loop-i.i c.args.row.now c.loop-i-test.false in
+    let lo = rw none at c.loop-i.invariant.told_lo in
+    let hi = rw none at c.loop-i.invariant.told_hi in
+    let at = mean_encloses c.args.row.now c.args.spans.now values within in
+    (omega (arith, lo, hi, at.0), omega (arith, lo, hi, at.1))
+
+pub returns-clause-gap : goal.returns-clause-gap
+returns-clause-gap c most gaps =
+    let none = drop_all c.loop-i.i c.args.row.now c.loop-i-test.false in
+    let lo = rw none at c.loop-i.invariant.told_lo in
+    let hi = rw none at c.loop-i.invariant.told_hi in
+    omega (arith, lo, hi, mean_gap_within c.args.row.now c.args.spans.now most c.requires.row c.requires.as_many gaps)

@@ -1,0 +1,16 @@
+-- What the mean of spans is to the values within them.
+use Rattle.std.specs.Prelude.{ℕ, ◌*◌, ◌≤◌, List, [], ◌∷◌}
+use Rattle.plan_model.specs.declared.model.Outcome.{Outcome}
+use Rattle.interval_fixed.specs.Interval.{Interval}
+use Rattle.interval_fixed.specs.Means.{weighted}
+
+-- each value is within the span that stands beside it
+abbrev pub AreWithin : List Interval → List ℕ → Type 0
+AreWithin [] [] = Unit {0}
+AreWithin (span ∷ spans) (x ∷ xs) = (span.lo ≤ x) × (x ≤ span.hi) × AreWithin spans xs
+AreWithin [] (x ∷ xs) = ⊥
+AreWithin (span ∷ spans) [] = ⊥
+
+-- the mean of the values by weight is within the span; weights are of 10,000
+abbrev pub EnclosesMean : Interval → List Outcome → List ℕ → Type 0
+EnclosesMean span row xs = (10000 * span.lo ≤ weighted row xs) × (weighted row xs ≤ 10000 * span.hi)

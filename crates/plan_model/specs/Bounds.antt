@@ -1,0 +1,28 @@
+-- The bounds of what a network tells, as numbers.
+use Rattle.std.specs.Prelude.{ℕ}
+
+-- as many connections as a network may have
+abbrev pub most_connections : ℕ
+most_connections = 8388608
+
+-- each step of a run is below it
+abbrev pub end_of_steps : ℕ
+end_of_steps = 1000000000
+
+-- 2401-01-01T00:00:00: each arrival of a network is due before it
+abbrev pub end_of_arrivals : ℕ
+end_of_arrivals = 13601088000
+
+-- a day later, since a delay is at most a day: no traveller arrives after it
+abbrev pub last_moment : ℕ
+last_moment = 13601174400
+
+-- and a second later
+abbrev pub end_of_time : ℕ
+end_of_time = 13601174401
+
+abbrev pub nanos_per_second : ℕ
+nanos_per_second = 1000000000
+
+abbrev pub seconds_per_day : ℕ
+seconds_per_day = 86400
