@@ -1,0 +1,133 @@
+"""The inputs that bench/measure.py runs the program on, each made by a stated rule, so that every machine
+measures the same bytes.
+
+A feed of n lines is that of `sample --size n`, whose rule is in docs/FORMATS.md: n lines between ten hubs, each of
+96 runs a day with 21 stop times. Beside its stops stands one that no trip serves, `X`, from which no strategy is safe.
+
+A cut file of n rows comes from the sequence x -> (6364136223846793005 * x + 1442695040888963407) mod 2^64 from
+x = 1, of which a number below m is the upper 32 bits of x, mod m:
+
+- It has max(200, n / 50) places in a ring, S0, S1 and on, and n / 10 runs of ten rows each. A row of a run goes
+  from one place of the ring to its next.
+- Run 0 begins at S0 at 08:00:00. Each other run begins at a random place, at a random second of the twelve hours
+  from then on. A hop takes 60 to 359 seconds, and a stop before the next one 0 to 59 seconds.
+
+So run 0 goes from S0 to S10 without a change, and a safe strategy exists at each size.
+"""
+
+import datetime
+import os
+
+RUNS = 96
+HOPS = 20
+FEED_DELAYS = ("class,delay,weight\n*,0,8000\n*,300,1500\n*,900,500\n1,0,9000\n1,60,1000\n"
+               "2,0,7000\n2,120,2000\n2,600,1000\n")
+CALENDAR = ("service_id,monday,tuesday,wednesday,thursday,friday,saturday,sunday,start_date,end_date\n"
+            "D,1,1,1,1,1,1,1,20240101,20241231\n")
+UNSERVED = "X"
+
+CUT_START = datetime.datetime(2024, 6, 3, 8, 0, 0)
+CUT_HOPS = 10
+CUT_DELAYS = "class,delay,weight\n*,0,8000\n*,300,1500\n*,900,500\n"
+
+
+def stop_times_of(lines):
+    """How many stop times a feed of so many lines has."""
+    return lines * RUNS * (HOPS + 1)
+
+
+def stop_at(number, place):
+    """The stop at a place of a line."""
+    if place == 0:
+        return "H%d" % (number % 10)
+    if place == HOPS:
+        return "H%d" % ((number + 1 + number // 10 % 3) % 10)
+    return "L%d_%d" % (number, place)
+
+
+def clock(seconds):
+    """A time of the service day."""
+    return "%02d:%02d:%02d" % (seconds // 3600, seconds // 60 % 60, seconds % 60)
+
+
+def write(folder, name, pieces):
+    """Writes a file of these pieces of text."""
+    with open(os.path.join(folder, name), "w", encoding="utf-8", newline="\n") as file:
+        file.writelines(pieces)
+
+
+def stop_times(lines):
+    """Each run of each line at its 21 stops."""
+    yield "trip_id,arrival_time,departure_time,stop_id,stop_sequence\n"
+    for number in range(lines):
+        hop = 60 + 5 * (number % 7)
+        for run in range(RUNS):
+            begin = 900 * run + 35 * number % 900
+            for place in range(HOPS + 1):
+                time = clock(begin + place * hop)
+                yield "T%d_%d,%s,%s,%s,%d\n" % (number, run, time, time, stop_at(number, place), place + 1)
+
+
+def write_feed(folder, lines):
+    """Writes the tables of a feed of so many lines, and its delay file beside them."""
+    stops = ["H%d\n" % hub for hub in range(10)] + [UNSERVED + "\n"]
+    stops += ["L%d_%d\n" % (number, place) for number in range(lines) for place in range(1, HOPS)]
+    write(folder, "stops.txt", ["stop_id\n"] + stops)
+    write(folder, "routes.txt",
+          ["route_id,route_type\n"] + ["R%d,%d\n" % (number, number % 4) for number in range(lines)])
+    write(folder, "trips.txt", ["route_id,service_id,trip_id\n"]
+          + ["R%d,D,T%d_%d\n" % (number, number, run) for number in range(lines) for run in range(RUNS)])
+    write(folder, "stop_times.txt", stop_times(lines))
+    write(folder, "calendar.txt", [CALENDAR])
+    write(folder, "delays.csv", [FEED_DELAYS])
+
+
+def numbers():
+    """The pseudo-random sequence, as a function that gives the next number below m."""
+    state = 1
+
+    def below(m):
+        nonlocal state
+        state = (6364136223846793005 * state + 1442695040888963407) % 2**64
+        return (state >> 32) % m
+
+    return below
+
+
+def moments():
+    """The text of a moment so many seconds after the start."""
+    days = {}
+
+    def text(seconds):
+        day, rest = divmod(CUT_START.hour * 3600 + seconds, 86400)
+        if day not in days:
+            days[day] = (CUT_START.date() + datetime.timedelta(days=day)).isoformat()
+        return "%sT%s" % (days[day], clock(rest))
+
+    return text
+
+
+def cut_rows(rows):
+    """The lines of a cut file of so many rows."""
+    below = numbers()
+    text = moments()
+    places = max(200, rows // 50)
+    yield "run,step,from,to,dep,arr\n"
+    written = 0
+    run = 0
+    while written < rows:
+        place = 0 if run == 0 else below(places)
+        at = 0 if run == 0 else below(12 * 3600)
+        for step in range(min(CUT_HOPS, rows - written)):
+            arrival = at + 60 + below(300)
+            yield "r%d,%d,S%d,S%d,%s,%s\n" % (
+                run, step, (place + step) % places, (place + step + 1) % places, text(at), text(arrival))
+            at = arrival + below(60)
+            written += 1
+        run += 1
+
+
+def write_cut(folder, rows):
+    """Writes a cut file of so many rows, and its delay file beside it."""
+    write(folder, "cut.csv", cut_rows(rows))
+    write(folder, "delays.csv", [CUT_DELAYS])
