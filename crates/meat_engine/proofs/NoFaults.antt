@@ -21,8 +21,8 @@ use Rattle.meat_engine.specs.Faults.{unread_of}
 use Rattle.meat_engine.specs.CutProblems.{cut_problem_fault, delay_fault}
 use Rattle.meat_engine.specs.FeedProblems.{feed_as, FolderParts, IsFolder, IsFolderFault, IsLaterTableFault, IsFaultAfterFolder, IsWindowFault, IsFeedProblem, IsFeedProblemFault, feed_stop_fault, window_count}
 use Rattle.meat_engine.specs.Problems.{IsProblem, IsProblemOver, IsProblemFault, IsProblemFaultOver}
-use Rattle.meat_engine.proofs.FeedOnes.{one_feed_of}
-use Rattle.meat_engine.proofs.FeedProblemOnes.{one_folder, one_count}
+use Rattle.meat_engine.proofs.OneFeed.{one_feed_of}
+use Rattle.meat_engine.proofs.OneFeedProblem.{one_folder, one_count}
 
 abbrev NotRead : Fault → Type 0
 NotRead fault = (i : Input) → fault ≡ Read i → ⊥

@@ -12,5 +12,6 @@ pub mod Samples
 pub mod Replays
 pub mod Refusals
 pub mod Received
-pub mod Ends
-pub mod Calls
+pub mod Faultless
+pub mod Completeness
+pub mod OneProblem

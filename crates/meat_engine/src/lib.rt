@@ -6,6 +6,7 @@ mod cut_problem;
 mod faults;
 mod feed_problem;
 mod inputs;
+mod laws;
 mod lines;
 mod problem;
 mod replays;
@@ -16,6 +17,7 @@ mod texts;
 mod top;
 
 pub use faults::{Fault, Input, LimitKind, Which};
+pub use laws::{files_have_one_problem, files_of_a_problem_have_no_fault};
 pub use report::{Report, Status};
 pub use top::run;
 

@@ -10,7 +10,7 @@ ghost use Rattle.command_line.specs.Ranges.{IsJob};
 ghost use Rattle.command_line.specs.Shown.{shown};
 ghost use Rattle.meat_engine.specs.Faults.{status_of};
 ghost use Rattle.meat_engine.specs.Files.{HasCauses};
-ghost use Rattle.meat_engine.specs.Calls.{SeeksWithoutFault, SeeksInFull, ReplaysInFull, SamplesInFull};
+ghost use Rattle.meat_engine.specs.Completeness.{IsComplete};
 ghost use Rattle.meat_engine.specs.Findings.{findings_of, no_findings};
 ghost use Rattle.meat_engine.specs.Lines.{line_of};
 ghost use Rattle.meat_engine.specs.Refusals.{IsLined, IsRefusalBy, by_fault};
@@ -197,14 +197,9 @@ pub fn run<F: Files, O: Sink, E: Sink>(
     ensures same { F.files files.new ≡ F.files files.old }
 
     // The status, where no count rises and the files have no fault.
-    ensures faultless { ¬ Rose (F.faults files.old) (F.faults files.new) → ¬ Rose (O.faults out.old) (O.faults out.new)
-        → SeeksWithoutFault (F.files files.old) standard (map string_bytes words.now) result.status.0 }
-    ensures seek { ¬ Rose (F.faults files.old) (F.faults files.new) → ¬ Rose (O.faults out.old) (O.faults out.new)
-        → SeeksInFull (F.files files.old) standard (map string_bytes words.now) result.status.0 }
-    ensures replay { ¬ Rose (F.faults files.old) (F.faults files.new) → ¬ Rose (O.faults out.old) (O.faults out.new)
-        → ReplaysInFull (F.files files.old) standard (map string_bytes words.now) result.status.0 }
-    ensures sample { ¬ Rose (F.faults files.old) (F.faults files.new) → ¬ Rose (O.faults out.old) (O.faults out.new)
-        → SamplesInFull standard (map string_bytes words.now) result.status.0 }
+    ensures complete { ¬ Rose (F.faults files.old) (F.faults files.new)
+        → ¬ Rose (O.faults out.old) (O.faults out.new)
+        → IsComplete (F.files files.old) standard (map string_bytes words.now) result.status.0 }
 {
     run_within(alloc, words, files, out, err, &Limits::standard())
 }

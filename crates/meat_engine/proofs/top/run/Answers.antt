@@ -2,7 +2,7 @@ use Rattle.std.proofs.Common.{subst, map, string_bytes}
 use Rattle.csv_rows.specs.declared.limits.Limits.{Limits}
 use Rattle.meat_engine.specs.Received.{Outcome, IsTold}
 use Rattle.csv_rows.specs.Limits.{standard}
-use Rattle.meat_engine.proofs.Calls.{faultless_status, seek_status, replay_status, sample_status}
+use Rattle.meat_engine.proofs.Statuses.{complete}
 use Rattle.meat_engine.proofs.top.run.Goals as goal
 
 pub returns-clause-outcome : goal.returns-clause-outcome
@@ -11,26 +11,11 @@ returns-clause-outcome g c =
     (IsTold (g.E.Sink.written c.args.err.now) (g.E.Sink.written c.run_within.new.err) (g.E.Sink.faults c.args.err.now) (g.E.Sink.faults c.run_within.new.err)) c.run_within.result.fault)
     c.standard.ensures c.run_within.ensures.outcome
 
-pub returns-clause-faultless : goal.returns-clause-faultless
-returns-clause-faultless g c = λ files_calm out_calm.
-    faultless_status (g.F.Files.files c.args.files.now) standard (map string_bytes c.args.words.now) c.run_within.result (g.O.Sink.written c.args.out.now) (g.O.Sink.written c.run_within.new.out)
-    (IsTold (g.E.Sink.written c.args.err.now) (g.E.Sink.written c.run_within.new.err) (g.E.Sink.faults c.args.err.now) (g.E.Sink.faults c.run_within.new.err)) c.run_within.result.fault c.run_within.result.status.0
-    (returns-clause-outcome g c) c.run_within.ensures.status ((λ input e. files_calm (c.run_within.ensures.read input e)), (λ e. out_calm (c.run_within.ensures.write e)))
-
-pub returns-clause-seek : goal.returns-clause-seek
-returns-clause-seek g c = λ files_calm out_calm.
-    seek_status (g.F.Files.files c.args.files.now) standard (map string_bytes c.args.words.now) c.run_within.result (g.O.Sink.written c.args.out.now) (g.O.Sink.written c.run_within.new.out)
-    (IsTold (g.E.Sink.written c.args.err.now) (g.E.Sink.written c.run_within.new.err) (g.E.Sink.faults c.args.err.now) (g.E.Sink.faults c.run_within.new.err)) c.run_within.result.fault c.run_within.result.status.0
-    (returns-clause-outcome g c) c.run_within.ensures.status ((λ input e. files_calm (c.run_within.ensures.read input e)), (λ e. out_calm (c.run_within.ensures.write e)))
-
-pub returns-clause-replay : goal.returns-clause-replay
-returns-clause-replay g c = λ files_calm out_calm.
-    replay_status (g.F.Files.files c.args.files.now) standard (map string_bytes c.args.words.now) c.run_within.result (g.O.Sink.written c.args.out.now) (g.O.Sink.written c.run_within.new.out)
-    (IsTold (g.E.Sink.written c.args.err.now) (g.E.Sink.written c.run_within.new.err) (g.E.Sink.faults c.args.err.now) (g.E.Sink.faults c.run_within.new.err)) c.run_within.result.fault c.run_within.result.status.0
-    (returns-clause-outcome g c) c.run_within.ensures.status ((λ input e. files_calm (c.run_within.ensures.read input e)), (λ e. out_calm (c.run_within.ensures.write e)))
-
-pub returns-clause-sample : goal.returns-clause-sample
-returns-clause-sample g c = λ files_calm out_calm.
-    sample_status (g.F.Files.files c.args.files.now) standard (map string_bytes c.args.words.now) c.run_within.result (g.O.Sink.written c.args.out.now) (g.O.Sink.written c.run_within.new.out)
-    (IsTold (g.E.Sink.written c.args.err.now) (g.E.Sink.written c.run_within.new.err) (g.E.Sink.faults c.args.err.now) (g.E.Sink.faults c.run_within.new.err)) c.run_within.result.fault c.run_within.result.status.0
-    (returns-clause-outcome g c) c.run_within.ensures.status ((λ input e. files_calm (c.run_within.ensures.read input e)), (λ e. out_calm (c.run_within.ensures.write e)))
+pub returns-clause-complete : goal.returns-clause-complete
+returns-clause-complete g c = λ files_calm out_calm.
+    complete (g.F.Files.files c.args.files.now) standard (map string_bytes c.args.words.now) c.run_within.result
+    (g.O.Sink.written c.args.out.now) (g.O.Sink.written c.run_within.new.out)
+    (IsTold (g.E.Sink.written c.args.err.now) (g.E.Sink.written c.run_within.new.err) (g.E.Sink.faults c.args.err.now) (g.E.Sink.faults c.run_within.new.err))
+    c.run_within.result.fault c.run_within.result.status.0
+    (returns-clause-outcome g c) c.run_within.ensures.status
+    ((λ input e. files_calm (c.run_within.ensures.read input e)), (λ e. out_calm (c.run_within.ensures.write e)))

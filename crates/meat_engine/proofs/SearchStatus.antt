@@ -15,10 +15,10 @@ use Rattle.meat_engine.specs.declared.faults.Fault.TheVariants.{Read, NoSafe, No
 use Rattle.meat_engine.specs.Answers.{IsAsked, FailsSearch}
 use Rattle.meat_engine.specs.Problems.{IsProblem}
 use Rattle.meat_engine.specs.Received.{Outcome}
-use Rattle.meat_engine.specs.Ends.{IsUndisturbed, HasSafe, EndsBy}
-use Rattle.meat_engine.proofs.ProblemOnes.{one_problem}
+use Rattle.meat_engine.specs.Faultless.{IsUndisturbed, HasSafe, EndsBy}
+use Rattle.meat_engine.proofs.OneProblem.{one_problem}
 use Rattle.meat_engine.proofs.NoFaults.{no_fault}
-use Rattle.meat_engine.proofs.Ends.{memory_or, fails, answered}
+use Rattle.meat_engine.proofs.Undisturbed.{memory_or, fails, answered}
 
 -- a least worst arrival is that of a strategy
 has_tree : (n : Parts) (source target start a b c : ℕ) (w : Moment) → a ≡ source → b ≡ target → c ≡ start → LeastWorst n a b c (Some w) → HasSafe n source target start

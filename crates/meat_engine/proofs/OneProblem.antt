@@ -4,8 +4,8 @@ use Rattle.file_ports.specs.Ports.{Folder}
 use Rattle.csv_rows.specs.declared.limits.Limits.{Limits}
 use Rattle.command_line.specs.Jobs.{WantedTimetable, CutFile, FeedFolder, WantedJourney}
 use Rattle.meat_engine.specs.Problems.{IsProblem, IsProblemOver}
-use Rattle.meat_engine.proofs.CutProblemOnes.{one_cut_problem}
-use Rattle.meat_engine.proofs.FeedProblemOnes.{one_feed_problem}
+use Rattle.meat_engine.proofs.OneCutProblem.{one_cut_problem}
+use Rattle.meat_engine.proofs.OneFeedProblem.{one_feed_problem}
 
 over : (limits : Limits) (files : Folder) (timetable : WantedTimetable) (j : WantedJourney) (p q : _) → IsProblemOver limits files timetable j p → IsProblemOver limits files timetable j q → p ≡ q
 over limits files (CutFile path) j p q a b = one_cut_problem limits files path j p q a b

@@ -12,8 +12,8 @@ use Rattle.cut_file.specs.Networks.{IsNetwork}
 use Rattle.cut_file.proofs.Distinct.{places_distinct, one_number}
 use Rattle.command_line.specs.Jobs.{WantedJourney}
 use Rattle.meat_engine.specs.CutProblems.{IsCutOf, AreDelaysOf, IsCutProblem}
-use Rattle.meat_engine.proofs.CutOnes.{AreRising, one_cut, one_network}
-use Rattle.meat_engine.proofs.DelayOnes.{types_rise}
+use Rattle.meat_engine.proofs.OneCutNetwork.{AreRising, one_cut, one_network}
+use Rattle.meat_engine.proofs.DelayTypes.{types_rise}
 
 pub same_ok : {A E : Type 0} (r : Result A E) (x y : A) → r ≡ Ok x → r ≡ Ok y → x ≡ y
 same_ok r x y h k = cc

@@ -15,10 +15,10 @@ use Rattle.meat_engine.specs.declared.faults.Fault.TheVariants.{Read, NoMemory, 
 use Rattle.meat_engine.specs.Problems.{IsProblem}
 use Rattle.meat_engine.specs.Replays.{graph_in, trip_by, FailsReplay}
 use Rattle.meat_engine.specs.Received.{Outcome}
-use Rattle.meat_engine.specs.Ends.{IsUndisturbed, EndsByWalk}
-use Rattle.meat_engine.proofs.ProblemOnes.{one_problem}
+use Rattle.meat_engine.specs.Faultless.{IsUndisturbed, EndsByWalk}
+use Rattle.meat_engine.proofs.OneProblem.{one_problem}
 use Rattle.meat_engine.proofs.NoFaults.{no_fault, none_unread}
-use Rattle.meat_engine.proofs.Ends.{memory_or, fails, answered}
+use Rattle.meat_engine.proofs.Undisturbed.{memory_or, fails, answered}
 
 same_ok : {A E : Type 0} (r : Result A E) (x y : A) → r ≡ Ok x → r ≡ Ok y → x ≡ y
 same_ok r x y h k = cc

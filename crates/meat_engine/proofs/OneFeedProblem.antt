@@ -13,9 +13,9 @@ use Rattle.change_times.specs.Transfers.{place_of_stop}
 use Rattle.connections.specs.Cut.{IsNetworkFrom}
 use Rattle.command_line.specs.Jobs.{WantedJourney}
 use Rattle.meat_engine.specs.FeedProblems.{FolderParts, IsFolder, IsFeedProblem, window_count}
-use Rattle.meat_engine.proofs.CutProblemOnes.{delays_of_one}
-use Rattle.meat_engine.proofs.FeedOnes.{one_feed_of}
-use Rattle.meat_engine.proofs.WindowOnes.{SameDays, same_count, one_window}
+use Rattle.meat_engine.proofs.OneCutProblem.{delays_of_one}
+use Rattle.meat_engine.proofs.OneFeed.{one_feed_of}
+use Rattle.meat_engine.proofs.OneWindow.{SameDays, same_count, one_window}
 
 -- two folders as they are read: one feed, services that run on the same days, and the same change times
 pub record SameFolderParts (g h : FolderParts) : Type 0 where

@@ -21,7 +21,7 @@ use Rattle.cut_file.specs.Keys.{no_row, cut_row, run_of, step_of, AreKeysOf}
 use Rattle.cut_file.specs.Read.{Cut, IsRead}
 use Rattle.cut_file.specs.Networks.{IsClass, IsConnection, IsNetwork}
 use Rattle.cut_file.proofs.Distinct.{runs_distinct, places_distinct, one_number}
-use Rattle.meat_engine.proofs.Orders.{one_sorting}
+use Rattle.meat_engine.proofs.OneOrder.{one_sorting}
 
 -- a row has one numbering
 same_row : (runs places : List (List ℕ)) → AreDistinct runs → AreDistinct places → (r : Row) (c d : CutRow) → IsNumbered runs places r c → IsNumbered runs places r d → c ≡ d

@@ -22,9 +22,9 @@ use Rattle.meat_engine.specs.FeedProblems.{FolderParts, IsFolder, IsFeedProblem}
 use Rattle.meat_engine.specs.Problems.{IsProblem}
 use Rattle.meat_engine.specs.Samples.{sample_search, FailsSample}
 use Rattle.meat_engine.specs.Received.{Outcome}
-use Rattle.meat_engine.specs.Ends.{IsUndisturbed, HasSafe, EndsBy}
-use Rattle.meat_engine.proofs.Ends.{memory_or, fails, answered}
-use Rattle.meat_engine.proofs.SeekEnds.{asked_safe, one_safe, search_fails}
+use Rattle.meat_engine.specs.Faultless.{IsUndisturbed, HasSafe, EndsBy}
+use Rattle.meat_engine.proofs.Undisturbed.{memory_or, fails, answered}
+use Rattle.meat_engine.proofs.SearchStatus.{asked_safe, one_safe, search_fails}
 
 module _ (limits : Limits) (files other : Folder) (same : (path : List ℕ) → file_at files path ≡ file_at other path) where
   same_tables : (folder : List ℕ) → tables_in files folder limits None ≡ tables_in other folder limits None

@@ -10,7 +10,7 @@ use Rattle.gtfs_tables.specs.Stops.{stop_ids, stop_places}
 use Rattle.gtfs_tables.specs.Trips.{trip_ids}
 use Rattle.gtfs_tables.specs.Visits.{no_visit, IsVisit, AreStopTimes}
 use Rattle.gtfs_tables.specs.Feeds.{FeedParts, Tables, IsFeed, IsFeedOf}
-use Rattle.meat_engine.proofs.Orders.{Enumerates, agree, same_size}
+use Rattle.meat_engine.proofs.OneOrder.{Enumerates, agree, same_size}
 
 never_both : (rows : _) (a b : ℕ) → (row_at rows a).sequence < (row_at rows b).sequence → (row_at rows b).sequence < (row_at rows a).sequence → ⊥
 never_both rows a b h k = omega (arith, h, k)

@@ -5,7 +5,7 @@ use Rattle.std.proofs.lemmas.List.{get_or_append_left, get_or_push}
 use Rattle.plan_model.specs.declared.model.Outcome.{Outcome}
 use Rattle.csv_rows.specs.Tables.{row_count}
 use Rattle.delay_table.specs.Delays.{if_some, named, delays_in, delays_of, outcomes}
-use Rattle.meat_engine.proofs.CutOnes.{AreRising}
+use Rattle.meat_engine.proofs.OneCutNetwork.{AreRising}
 
 record Rises (n : ℕ) (types : List ℕ) : Type 0 where
   below : (k : ℕ) → k < length types → get_or types k 0 < n
