@@ -11,6 +11,7 @@ use Rattle.plan_model.specs.Expected.{Below}
 use Rattle.plan_model.specs.Strategy.{IsSafeFor}
 use Rattle.plan_model.specs.Unfold.{unfolded, by_place}
 use Rattle.plan_graph.specs.Rows.{Precedes, pick_after, pick_at}
+use Rattle.plan_graph.specs.Ready.{Stands}
 use Rattle.plan_graph.specs.declared.ExpandedGraph.{ExpandedGraph}
 use Rattle.plan_graph.specs.declared.PlanGraph.{PlanGraph}
 use Rattle.plan_graph.specs.declared.PlaceTable.{PlaceTable}
@@ -64,6 +65,7 @@ expanded_none n q same early =
       best = best;
       ready = record { safe = (q.deadline.0, best.safe); starts = same; rising = pairs_none (λ (a b : RideTable). Precedes a.leg b.leg); rides = all_none _ };
       busy = record { picked = all_none _; stands = all_none _ };
+      whole = λ leg there. absurd (subst (λ (t : Tree). Stands leg t) (unfolds n q (pick_after []) same) there);
       arrivals = all_none _;
     }
 

@@ -41,6 +41,7 @@ expanded n q found start graph solves some extracted = record {
   best = subst (λ (t : Tree). IsBest n q t start.0.0) (sym extracted.unfolds) (best_strategy n q found start solves.differ (started n q found start solves some));
   ready = extracted.ready;
   busy = extracted.busy;
+  whole = extracted.whole;
   arrivals = extracted.arrivals;
 }
 

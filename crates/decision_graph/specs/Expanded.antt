@@ -10,18 +10,20 @@ use Rattle.plan_graph.specs.declared.ExpandedGraph.{ExpandedGraph}
 use Rattle.plan_graph.specs.Unfold.{unfold_expanded}
 use Rattle.plan_graph.specs.Ready.{IsReady, IsBusy}
 use Rattle.plan_graph.specs.Follows.{IsSteady, Follows}
-use Rattle.leg_extract.specs.Extracted.{HasArrivals}
+use Rattle.leg_extract.specs.Extracted.{HasArrivals, IsWhole}
 use Rattle.decision_graph.specs.Bounds.{IsBest}
 
 -- no strategy is safe for the query
 abbrev pub NoneSafe : Parts → Query → Type 0
 NoneSafe n q = (tree : Tree) → IsSafeFor n q tree → ⊥
 
--- the graph unfolds to a best strategy; it has a row for each outcome, every row is picked, and every ride stands in the unfolding
+-- the graph unfolds to a best strategy; it has a row for each outcome, every row is picked, and its rides are those that stand
+-- in the unfolding, each of them
 pub record IsExpanded (n : Parts) (q : Query) (graph : ExpandedGraph) (bounds : Interval) : Type 0 where
   pub best : IsBest n q (unfold_expanded graph n q) bounds
   pub ready : IsReady n q graph
   pub busy : IsBusy n q graph
+  pub whole : IsWhole n q graph
   pub arrivals : All (HasArrivals n q.target.0) graph.rides
 
 -- the graph follows a choice by place and arrival that is kept up to each leg's limit

@@ -36,6 +36,7 @@ pub(crate) fn expand_away<B: BackwardOrder>(
     ensures plan { IfOk result (λ found. MatchOption found (NoneSafe network.now query.now)
         (λ p. IsExpanded network.now query.now p.graph p.bounds)) }
     ensures steady { IfOk result (λ found. IfSome found (λ p. HasSteadyChoice network.now query.now p.graph)) }
+    ensures fits { B.fits order.new network.now }
 {
     let tables: ScanTables<MeanSpan> = ScanTables::reserve(alloc, network)?;
     let scanned = scan(tables, network, order, query);
@@ -66,8 +67,9 @@ pub fn expand<B: BackwardOrder>(
     requires target { query.now.target.0 < length network.now.change }
     requires start { query.now.start.0 < 18446744073 }
     requires deadline { query.now.start.0 ≤ query.now.deadline.0 }
-    ensures { IfOk result (λ found. MatchOption found (NoneSafe network.now query.now)
+    ensures plan { IfOk result (λ found. MatchOption found (NoneSafe network.now query.now)
         (λ p. IsExpanded network.now query.now p.graph p.bounds)) }
+    ensures fits { B.fits order.new network.now }
 {
     if query.source.0 != query.target.0 {
         return expand_away(alloc, order, network, query);

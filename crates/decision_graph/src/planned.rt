@@ -34,8 +34,9 @@ fn plan_away<B: BackwardOrder>(
     requires source { query.now.source.0 < length network.now.change }
     requires target { query.now.target.0 < length network.now.change }
     requires differ { query.now.source.0 ≢ query.now.target.0 }
-    ensures { IfOk result (λ found. MatchOption found (NoneSafe network.now query.now)
+    ensures plan { IfOk result (λ found. MatchOption found (NoneSafe network.now query.now)
         (λ p. IsPlanned network.now query.now p.graph p.bounds)) }
+    ensures fits { B.fits order.new network.now }
 {
     let expanded = match expand_away(alloc, order, network, query) {
         Err(fault) => return Err(fault),
@@ -71,8 +72,9 @@ pub fn plan<B: BackwardOrder>(
     requires target { query.now.target.0 < length network.now.change }
     requires start { query.now.start.0 < 18446744073 }
     requires deadline { query.now.start.0 ≤ query.now.deadline.0 }
-    ensures { IfOk result (λ found. MatchOption found (NoneSafe network.now query.now)
+    ensures plan { IfOk result (λ found. MatchOption found (NoneSafe network.now query.now)
         (λ p. IsPlanned network.now query.now p.graph p.bounds)) }
+    ensures fits { B.fits order.new network.now }
 {
     if query.source.0 != query.target.0 {
         return plan_away(alloc, order, network, query);

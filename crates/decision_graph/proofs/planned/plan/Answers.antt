@@ -7,6 +7,6 @@ use Rattle.decision_graph.proofs.planned.plan.Goals as goal
 graph_of : List PlaceTable → PlanGraph
 graph_of tables = record { start = None; tables = tables }
 
-pub returns : goal.returns
+pub returns-clause-plan : goal.returns-clause-plan
 unfolding graph_of
-returns g c = planned_at_once c.args.network.now c.args.query.now (graph_of c.new.result) c.exact.result c.if-query.false c.requires.deadline (ap graph_of c.new.ensures) c.exact.ensures
+returns-clause-plan g c = planned_at_once c.args.network.now c.args.query.now (graph_of c.new.result) c.exact.result c.if-query.false c.requires.deadline (ap graph_of c.new.ensures) c.exact.ensures
