@@ -17,7 +17,7 @@ ghost use Rattle.meat_scan.specs.Tables.{rows_at, spare_at, capacity_at, exit_at
 ghost use Rattle.meat_scan.specs.Found.{choice_of, found_in};
 ghost use Rattle.meat_scan.specs.Values.{value_at, values_after};
 ghost use Rattle.meat_scan.specs.Step.{left_by, exits_with, way_from, with_way, rows_with, start_with};
-ghost use Rattle.meat_scan.specs.Step.{boarded, rows_next, exits_next, start_next};
+ghost use Rattle.meat_scan.specs.Step.{boarded, rows_next, exits_next};
 ghost use Rattle.meat_scan.specs.Rules.{FollowsRules};
 ghost use Rattle.meat_scan.specs.Solves.{Answers, Solves, SolvesStart};
 
@@ -161,7 +161,7 @@ fn begin<V: Score>(
     exit: Option<(V, ConnectionId)>,
     start: Option<(V, Leg)>,
 ) -> Option<(V, Leg)>
-    requires there { id.0 < count network.now }
+    requires { id.0 < count network.now }
     ensures { result ≡ start_with V.rank V.lowered network.now query.now id.0 exit start }
 {
     let Some((value, exit)) = exit else {
@@ -236,16 +236,15 @@ fn boarded_for<V: Score>(
     }
 }
 
-// Scans one connection, and gives the start leg.
+// Scans one connection, and gives the exit that it is boarded for.
 fn scan_one<V: Score>(
     profiles: &mut [Profile<V>],
     exits: &mut ExitTable<V>,
     kids: &mut [V],
-    start: Option<(V, Leg)>,
     network: &Network,
     query: &Query,
     id: ConnectionId,
-) -> Option<(V, Leg)>
+) -> Option<(V, ConnectionId)>
     requires valid { IsValid network.now }
     requires there { id.0 < count network.now }
     requires places { length profiles.old ≡ length network.now.change }
@@ -263,9 +262,10 @@ fn scan_one<V: Score>(
         let before = exit_at exits.old in
         exit_at exits.new run
         ≡ exits_next V.rank V.lowered V.arrived V.blended network.now query.now id.0 rows before run }
-    ensures start { let rows = rows_at profiles.old in
+    ensures exit { let rows = rows_at profiles.old in
         let exits = exit_at exits.old in
-        result ≡ start_next V.rank V.lowered V.arrived V.blended network.now query.now id.0 rows exits start }
+        let exits = exits_next V.rank V.lowered V.arrived V.blended network.now query.now id.0 rows exits in
+        result ≡ boarded network.now id.0 exits }
     ensures spare { (place : ℕ) →
         let taken = ways_between network.now place (from_of network.now id.0) in
         spare_at profiles.old place ≤ spare_at profiles.new place + taken }
@@ -278,7 +278,7 @@ fn scan_one<V: Score>(
     leave(exits, network.get(id).run, id, value);
     let exit = boarded_for(exits, network, id);
     board(profiles, network, query, id, exit);
-    begin(network, query, id, exit, start)
+    exit
 }
 
 /// The memory of a scan: the profile of each place, the best exit of each run, and the values after
@@ -458,15 +458,8 @@ fn scan_all<V: Score, B: BackwardOrder>(
     order.skip_after(network, query.deadline);
     let mut start = None;
     while let Some(id) = order.next(network) {
-        start = scan_one(
-            &mut profiles,
-            &mut exits,
-            &mut kids,
-            start,
-            network,
-            query,
-            id,
-        );
+        let exit = scan_one(&mut profiles, &mut exits, &mut kids, network, query, id);
+        start = begin(network, query, id, exit, start);
     }
     let tables = ScanTables {
         profiles,

@@ -20,32 +20,38 @@ loop-id-init g c =
       same_outcomes = refl;
     }
 
-pub scan_one-start-requires-clause-there : goal.scan_one-start-requires-clause-there
-scan_one-start-requires-clause-there g c =
+pub scan_one-exit-requires-clause-there : goal.scan_one-exit-requires-clause-there
+scan_one-exit-requires-clause-there g c =
     let loop = c.loop-id.invariant in
     let state = rw c.in-Some.ensures.last at loop.state in
     next_there g.V.Score.laws c.args.network.now loop.valid c.args.query.now (g.B.BackwardOrder.rest c.args.order.now c.args.network.now) c.requires.whole (g.B.BackwardOrder.rest c.next.new.self c.args.network.now) c.in-Some.id c.loop-id.profiles.items c.loop-id.exits c.loop-id.start state
 
-pub scan_one-start-requires-clause-run : goal.scan_one-start-requires-clause-run
-scan_one-start-requires-clause-run g c =
+pub scan_one-exit-requires-clause-run : goal.scan_one-exit-requires-clause-run
+scan_one-exit-requires-clause-run g c =
     let loop = c.loop-id.invariant in
     let room = rw c.in-Some.ensures.last at loop.room in
     let state = rw c.in-Some.ensures.last at loop.state in
     let there = next_there g.V.Score.laws c.args.network.now loop.valid c.args.query.now (g.B.BackwardOrder.rest c.args.order.now c.args.network.now) c.requires.whole (g.B.BackwardOrder.rest c.next.new.self c.args.network.now) c.in-Some.id c.loop-id.profiles.items c.loop-id.exits c.loop-id.start state in
     room_for_run c.args.network.now (g.B.BackwardOrder.rest c.next.new.self c.args.network.now) c.in-Some.id there c.loop-id.profiles.items c.loop-id.exits c.loop-id.kids.items room
 
-pub scan_one-start-requires-clause-room : goal.scan_one-start-requires-clause-room
-scan_one-start-requires-clause-room g c =
+pub scan_one-exit-requires-clause-room : goal.scan_one-exit-requires-clause-room
+scan_one-exit-requires-clause-room g c =
     let loop = c.loop-id.invariant in
     let room = rw c.in-Some.ensures.last at loop.room in
     let state = rw c.in-Some.ensures.last at loop.state in
     let there = next_there g.V.Score.laws c.args.network.now loop.valid c.args.query.now (g.B.BackwardOrder.rest c.args.order.now c.args.network.now) c.requires.whole (g.B.BackwardOrder.rest c.next.new.self c.args.network.now) c.in-Some.id c.loop-id.profiles.items c.loop-id.exits c.loop-id.start state in
     rw c.deref_mut.ensures.value (room_for_rows c.args.network.now (g.B.BackwardOrder.rest c.next.new.self c.args.network.now) c.in-Some.id there c.loop-id.profiles.items c.loop-id.exits c.loop-id.kids.items room)
 
+pub begin-start-requires : goal.begin-start-requires
+begin-start-requires g c =
+    let loop = c.loop-id.invariant in
+    let state = rw c.in-Some.ensures.last at loop.state in
+    next_there g.V.Score.laws c.args.network.now loop.valid c.args.query.now (g.B.BackwardOrder.rest c.args.order.now c.args.network.now) c.requires.whole (g.B.BackwardOrder.rest c.next.new.self c.args.network.now) c.in-Some.id c.loop-id.profiles.items c.loop-id.exits c.loop-id.start state
+
 pub loop-id-preserved : goal.loop-id-preserved
 loop-id-preserved g c =
     let loop = c.loop-id.invariant in
-    let one = c.scan_one-start in
+    let one = c.scan_one-exit in
     let rest = g.B.BackwardOrder.rest c.next.new.self c.args.network.now in
     let room = rw c.in-Some.ensures.last at loop.room in
     let state = rw c.in-Some.ensures.last at loop.state in
@@ -55,11 +61,12 @@ loop-id-preserved g c =
     let profiles_are = written_back one.new.profiles c.loop-id.profiles.items c.loop-id.profiles.len (omega arith) (omega arith) in
     let kids_are = written_back one.new.kids c.loop-id.kids.items c.loop-id.kids.len (omega arith) (omega arith) in
     let old = c.deref_mut.ensures.value in
+    let exit = rw old at one.ensures.exit in
     rw (profiles_are, kids_are) (record {
       valid = loop.valid;
       fits = c.in-Some.ensures.fits;
       room = room_next c.args.network.now rest c.in-Some.id there c.loop-id.profiles.items c.loop-id.exits c.loop-id.kids.items room one.new.profiles one.new.exits one.new.kids (rw old at one.ensures.spare) (rw old at one.ensures.places) one.ensures.runs (omega arith);
-      state = next_state g.V.Score.laws c.args.network.now loop.valid c.args.query.now (g.B.BackwardOrder.rest c.args.order.now c.args.network.now) c.requires.whole rest c.in-Some.id c.loop-id.profiles.items one.new.profiles c.loop-id.exits one.new.exits c.loop-id.start one.result state (rw old at one.ensures.rows) (rw old at one.ensures.exits) (rw old at one.ensures.start);
+      state = next_state g.V.Score.laws c.args.network.now loop.valid c.args.query.now (g.B.BackwardOrder.rest c.args.order.now c.args.network.now) c.requires.whole rest c.in-Some.id c.loop-id.profiles.items one.new.profiles c.loop-id.exits one.new.exits c.loop-id.start c.begin-start.result state (rw old at one.ensures.rows) (rw old at one.ensures.exits) (rw exit at c.begin-start.ensures);
       same_capacity = λ place. rw old at (one.ensures.capacity place) ∙ loop.same_capacity place;
       same_runs = one.ensures.runs ∙ loop.same_runs;
       same_outcomes = omega (arith, loop.same_outcomes);
