@@ -193,7 +193,7 @@ pub(crate) fn load_stop_times<F: Files>(
         Ok(rows) => rows,
         Err(fault) => return Err(fault),
     };
-    match read_stop_times(alloc, &rows, trips, stops) {
+    match read_stop_times(alloc, rows, trips, stops) {
         Ok(visits) => Ok(visits),
         Err(fault) => Err(fault),
     }

@@ -62,38 +62,40 @@ fn in_order(alloc: Global, rows: &[TimedRow], trips: u32) -> Result<Vec<Vec<Stop
     }
 }
 
-/// The kept rows of each trip, in rising order of their sequences, or the first fault of the table.
+/// The kept rows of each trip, in rising order of their sequences, or the first fault of the table. The records are let go
+/// before the rows are put in order, so that both do not stand in memory at once.
 pub(crate) fn read_stop_times(
     alloc: Global,
-    rows: &Rows,
+    rows: Rows,
     trips: &Ids,
     stops: &Stops,
 ) -> Result<Vec<Vec<StopRow>>, FeedFault>
-    requires few { row_count rows.now ≤ 33554432 }
+    requires few { row_count rows ≤ 33554432 }
     requires places { length stops.now.places.items ≡ length stops.now.ids }
     ensures size { IfOk result (λ visits. length visits.items ≡ length trips.now) }
     ensures each { IfOk result (λ visits. (trip : ℕ) → trip < length trips.now → AreStopTimes
-        (timed_rows trips.now stops.now.ids stops.now.places.items rows.now) trip
+        (timed_rows trips.now stops.now.ids stops.now.places.items rows) trip
         (slice_index_or (map vec_items visits.items) trip [])) }
     ensures sound { IfOk result (λ visits.
         IsSound (stop_times_fault trips.now stops.now.ids stops.now.places.items)
         (λ t. AreVisits trips.now stops.now.ids stops.now.places.items (Ok t)
         (map vec_items visits.items))) }
     ensures none { OnOk result
-        (stop_times_fault trips.now stops.now.ids stops.now.places.items rows.now ≡ None) }
+        (stop_times_fault trips.now stops.now.ids stops.now.places.items rows ≡ None) }
     ensures fault { IfErr result (λ f. f ≢ FeedFault.NoMemory
-        → stop_times_fault trips.now stops.now.ids stops.now.places.items rows.now ≡ Some f) }
+        → stop_times_fault trips.now stops.now.ids stops.now.places.items rows ≡ Some f) }
     ensures content { IfErr result (λ f. unread_of f ≡ None) }
     ensures own { IfErr result (IsFaultOf StopTimesTable) }
 {
-    let columns = time_columns(rows);
+    let columns = time_columns(&rows);
     if let Some(fault) = missing_column(columns) {
         return Err(fault);
     }
-    let timed = match read_timed_rows(alloc, rows, columns, trips, stops) {
+    let timed = match read_timed_rows(alloc, &rows, columns, trips, stops) {
         Ok(timed) => timed,
         Err(fault) => return Err(fault),
     };
+    drop(rows);
     match in_order(alloc, timed.as_slice(), trips.len()) {
         Ok(visits) => Ok(visits),
         Err(fault) => Err(fault),

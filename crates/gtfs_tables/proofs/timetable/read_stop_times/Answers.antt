@@ -24,7 +24,7 @@ in_order-requires c =
       arith,
       ap length c.as_slice.ensures.value,
       ap length c.in-Ok.ensures.rows,
-      timed_count c.args.trips.now c.args.stops.now.ids c.args.stops.now.places.items c.args.rows.now,
+      timed_count c.args.trips.now c.args.stops.now.ids c.args.stops.now.places.items c.args.rows,
       c.requires.few,
     )
 
@@ -45,7 +45,7 @@ returns-in-Ok-in_order-clause-sound c =
     let v = c.in-Ok-in_order.visits.items in
     let same = c.as_slice.ensures.value ∙ c.in-Ok.ensures.rows in
     let size = c.in-Ok-in_order.ensures.size ∙ c.len.ensures.count in (
-      c.args.rows.now,
+      c.args.rows,
       returns-in-Ok-in_order-clause-none c,
       (
         length-map v vec_items ∙ size,
