@@ -2,3 +2,4 @@ pub mod Lines
 pub mod Names
 pub mod Tables
 pub mod Made
+pub mod Pieces

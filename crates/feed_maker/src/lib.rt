@@ -41,7 +41,7 @@ pub fn make(alloc: Global, size: u32) -> Result<SteadyFiles, NoMemory>
     let stop_times = tables::stop_times(alloc, size)?;
     files.add("delays.csv", tables::delays().as_bytes())?;
     files.add("feed/calendar.txt", tables::calendar().as_bytes())?;
-    files.add("feed/stop_times.txt", stop_times.as_bytes())?;
+    files.add("feed/stop_times.txt", stop_times.as_slice())?;
     files.add("feed/trips.txt", trips.as_bytes())?;
     files.add("feed/routes.txt", routes.as_bytes())?;
     files.add("feed/stops.txt", stops.as_bytes())?;

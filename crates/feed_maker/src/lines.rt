@@ -56,7 +56,8 @@ pub fn seconds_at(line: u32, run: u32, place: u32) -> u32
     requires line { line ≤ 400 }
     requires run { run < 96 }
     requires place { place ≤ 20 }
-    ensures { result ≡ seconds_at line run place }
+    ensures value { result ≡ seconds_at line run place }
+    ensures bound { result < 90000 }
 {
     900 * run + 35 * line % 900 + ride_to(line, place)
 }

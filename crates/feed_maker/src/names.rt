@@ -1,5 +1,5 @@
 //! What is written for stops, routes, trips and times.
-ghost use Rattle.std.specs.Prelude.{Some};
+ghost use Rattle.std.specs.Prelude.{◌≡◌, ◌+◌, ◌<◌, ◌++◌, Some, codes};
 ghost use Rattle.feed_maker.specs.Names.{route_name, trip_name, time_text};
 
 use std::fmt;
@@ -56,18 +56,31 @@ impl fmt::Display for Trip {
     }
 }
 
-/// A time of the service day, in seconds, below 100 hours.
-#[derive(Clone, Copy)]
-pub struct Time(pub u32);
+/// A digit, as text.
+fn digit(number: u32) -> u8
+    requires { number < 10 }
+    ensures { result ≡ 48 + number }
+{
+    b'0' + number as u8
+}
 
-impl fmt::Display for Time {
-    ghost output = { λ time. Some (time_text time.0) };
-
-    #[tactic(auto, using(crate::proofs::DigitLemmas::two_digits_padded), unfolding(crate::specs::Names::time_text))]
-    fn fmt<W: fmt::Write>(&self, f: &mut fmt::Formatter<W>) -> fmt::Result {
-        let hours = self.0 / 3600;
-        let minutes = self.0 / 60 % 60;
-        let seconds = self.0 % 60;
-        write!(f, "{hours:02}:{minutes:02}:{seconds:02}")
-    }
+/// A time of the service day, in seconds, below 100 hours, and a comma after it.
+pub fn clock(seconds: u32) -> [u8; 9]
+    requires { seconds < 360000 }
+    ensures { result ≡ time_text seconds ++ codes "," }
+{
+    let hours = seconds / 3600;
+    let minutes = seconds / 60 % 60;
+    let seconds = seconds % 60;
+    [
+        digit(hours / 10),
+        digit(hours % 10),
+        b':',
+        digit(minutes / 10),
+        digit(minutes % 10),
+        b':',
+        digit(seconds / 10),
+        digit(seconds % 10),
+        b',',
+    ]
 }

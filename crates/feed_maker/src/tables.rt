@@ -1,9 +1,10 @@
 //! The texts of the tables.
 ghost use Rattle.std.specs.Prelude.{◌≡◌, ◌++◌, ◌<◌, ◌≤◌, IfOk, OnOk, string_bytes};
+ghost use Rattle.feed_maker.specs.Pieces.{run_piece, place_piece, ArePlacePieces};
 ghost use Rattle.feed_maker.specs.Tables.{joined, hub_row, own_rows, stops_text, routes_text, trip_rows, trips_text, stop_time_row, run_rows, line_rows, stop_times_text, calendar_text, delays_text};
 
 use crate::lines::{HUBS, LAST, PLACES, RUNS, seconds_at, stop_at};
-use crate::names::{Route, Stop, Time, Trip};
+use crate::names::{Route, Stop, Trip, clock};
 use std::alloc::{AllocError, Global};
 
 /// Writes the rows of the hubs.
@@ -81,57 +82,84 @@ pub fn trips(alloc: Global, lines: u32) -> Result<String, AllocError>
     Ok(text)
 }
 
-/// Writes the row of a run at a place of its line.
+/// The ends of the rows at the places of a line, for each run alike.
+fn place_pieces(alloc: Global, line: u32) -> Result<Vec<String>, AllocError>
+    requires { line ≤ 400 }
+    ensures { IfOk result (λ ends. ArePlacePieces line ends.items) }
+{
+    let mut ends = Vec::new(alloc);
+    for place in 0..PLACES {
+        let stop = stop_at(line, place);
+        let sequence = place + 1;
+        let end = format!(in alloc; "{stop},{sequence}\n")?;
+        ends.push(end)?;
+    }
+    Ok(ends)
+}
+
+/// Adds the row of a run at a place of its line, by the front and the end that it has.
 #[tactic(auto, unfolding(crate::specs::Tables::stop_time_row))]
-fn write_stop_time(text: &mut String, trip: Trip, place: u32) -> Result<(), AllocError>
+fn add_stop_time(
+    text: &mut Vec<u8>,
+    front: &str,
+    trip: Trip,
+    place: u32,
+    end: &str,
+) -> Result<(), AllocError>
     requires line { trip.line ≤ 400 }
     requires run { trip.run < 96 }
     requires place { place ≤ 20 }
-    ensures { OnOk result (string_bytes text.new
-        ≡ string_bytes text.old ++ stop_time_row trip.line trip.run place) }
+    requires front { front.now ≡ run_piece trip.line trip.run }
+    requires end { end.now ≡ place_piece trip.line place }
+    ensures { OnOk result (text.new.items
+        ≡ text.old.items ++ stop_time_row trip.line trip.run place) }
 {
-    let time = Time(seconds_at(trip.line, trip.run, place));
-    let stop = stop_at(trip.line, place);
-    let sequence = place + 1;
-    writeln!(text, "{trip},{time},{time},{stop},{sequence}")
+    let time = clock(seconds_at(trip.line, trip.run, place));
+    text.extend_from_slice(front.as_bytes())?;
+    text.extend_from_slice(&time)?;
+    text.extend_from_slice(&time)?;
+    text.extend_from_slice(end.as_bytes())
 }
 
-/// Writes the rows of a run.
+/// Adds the rows of a run, by the ends of the rows at its places.
 #[tactic(auto, unfolding(crate::specs::Tables::run_rows))]
-fn write_run(text: &mut String, trip: Trip) -> Result<(), AllocError>
+fn add_run(alloc: Global, text: &mut Vec<u8>, trip: Trip, ends: &[String]) -> Result<(), AllocError>
     requires line { trip.line ≤ 400 }
     requires run { trip.run < 96 }
-    ensures { OnOk result (string_bytes text.new
-        ≡ string_bytes text.old ++ run_rows trip.line trip.run) }
+    requires ends { ArePlacePieces trip.line ends.now }
+    ensures { OnOk result (text.new.items
+        ≡ text.old.items ++ run_rows trip.line trip.run) }
 {
+    let front = format!(in alloc; "{trip},")?;
     for place in 0..PLACES {
-        write_stop_time(text, trip, place)?;
+        add_stop_time(text, &front, trip, place, &ends[place as usize])?;
     }
     Ok(())
 }
 
-/// Writes the rows of a line's runs.
+/// Adds the rows of a line's runs.
 #[tactic(auto, unfolding(crate::specs::Tables::line_rows))]
-fn write_line(text: &mut String, line: u32) -> Result<(), AllocError>
+fn add_line(alloc: Global, text: &mut Vec<u8>, line: u32) -> Result<(), AllocError>
     requires { line ≤ 400 }
-    ensures { OnOk result (string_bytes text.new ≡ string_bytes text.old ++ line_rows line) }
+    ensures { OnOk result (text.new.items ≡ text.old.items ++ line_rows line) }
 {
+    let ends = place_pieces(alloc, line)?;
     for run in 0..RUNS {
-        write_run(text, Trip { line, run })?;
+        add_run(alloc, text, Trip { line, run }, &ends)?;
     }
     Ok(())
 }
 
 /// The times of so many lines' runs at their places.
 #[tactic(auto, unfolding(crate::specs::Tables::stop_times_text))]
-pub fn stop_times(alloc: Global, lines: u32) -> Result<String, AllocError>
+pub fn stop_times(alloc: Global, lines: u32) -> Result<Vec<u8>, AllocError>
     requires { lines ≤ 400 }
-    ensures { IfOk result (λ text. string_bytes text ≡ stop_times_text lines) }
+    ensures { IfOk result (λ text. text.items ≡ stop_times_text lines) }
 {
     let header = "trip_id,arrival_time,departure_time,stop_id,stop_sequence\n";
-    let mut text = String::from_str(alloc, header)?;
+    let mut text = Vec::from_slice(alloc, header.as_bytes())?;
     for line in 0..lines {
-        write_line(&mut text, line)?;
+        add_line(alloc, &mut text, line)?;
     }
     Ok(text)
 }

@@ -1,7 +1,7 @@
-use Rattle.std.proofs.Common.{◌≡◌, ◌++◌, string_bytes, codes}
+use Rattle.std.proofs.Common.{◌≡◌, ◌++◌, codes}
 use Rattle.feed_maker.specs.Tables.{joined, line_rows}
 use Rattle.feed_maker.proofs.tables.stop_times.Given as goal
 
 -- the rows of the lines so far
 abbrev pub invariant-loop-line : goal.invariant-loop-line
-invariant-loop-line l = string_bytes l.text ≡ codes "trip_id,arrival_time,departure_time,stop_id,stop_sequence\n" ++ joined line_rows l.line
+invariant-loop-line l = l.text.items ≡ codes "trip_id,arrival_time,departure_time,stop_id,stop_sequence\n" ++ joined line_rows l.line

@@ -1,7 +1,0 @@
-use Rattle.std.proofs.Common.{◌≡◌, ◌++◌, string_bytes}
-use Rattle.feed_maker.specs.Tables.{joined, run_rows}
-use Rattle.feed_maker.proofs.tables.write_line.Given as goal
-
--- the rows of the runs so far
-abbrev pub invariant-loop-run : goal.invariant-loop-run
-invariant-loop-run l = string_bytes l.text ≡ string_bytes l.initial.text ++ joined (run_rows l.line) l.run
