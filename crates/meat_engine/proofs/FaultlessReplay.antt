@@ -8,14 +8,16 @@ use Rattle.trip_replay.specs.declared.Trace.{Trace}
 use Rattle.trip_replay.specs.declared.ReplayFault.{ReplayFault}
 use Rattle.command_line.specs.Jobs.{WantedReplay, Replay as Replays, job_of}
 use Rattle.meat_engine.specs.declared.report.Report.{Report}
-use Rattle.meat_engine.specs.declared.faults.Input.{Input}
-use Rattle.meat_engine.specs.declared.faults.Fault.{Fault}
-use Rattle.meat_engine.specs.declared.faults.Fault.TheVariants.{NoMemory, Replay}
+use Rattle.fault_lines.specs.declared.faults.Input.{Input}
+use Rattle.fault_lines.specs.declared.faults.Fault.{Fault}
+use Rattle.fault_lines.specs.declared.faults.Fault.TheVariants.{NoMemory, Replay}
 use Rattle.meat_engine.specs.Replays.{graph_in, FailsReplay}
 use Rattle.meat_engine.specs.Received.{Outcome}
-use Rattle.meat_engine.specs.Faultless.{IsUndisturbed, IsFaultless, IsTripOver, HasGraphFault}
-use Rattle.meat_engine.proofs.OneProblem.{one_problem}
-use Rattle.meat_engine.proofs.NoFaults.{none_unread}
+use Rattle.fault_lines.specs.Faults.{IsUndisturbed}
+use Rattle.journey_problem.specs.Problems.{IsFaultless}
+use Rattle.meat_engine.specs.Faultless.{IsTripOver, HasGraphFault}
+use Rattle.journey_problem.proofs.OneProblem.{one_problem}
+use Rattle.journey_problem.proofs.NoFaults.{none_unread}
 use Rattle.meat_engine.proofs.Undisturbed.{memory_or, fails, answered}
 use Rattle.meat_engine.proofs.ReplayStatus.{same_trip, not_both}
 

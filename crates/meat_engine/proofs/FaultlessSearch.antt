@@ -5,11 +5,13 @@ use Rattle.file_ports.specs.Ports.{Folder}
 use Rattle.csv_rows.specs.declared.limits.Limits.{Limits}
 use Rattle.command_line.specs.Jobs.{WantedSearch, Seek, job_of}
 use Rattle.meat_engine.specs.declared.report.Report.{Report}
-use Rattle.meat_engine.specs.declared.faults.Fault.{Fault}
-use Rattle.meat_engine.specs.declared.faults.Fault.TheVariants.{NoSafe, NoMemory}
+use Rattle.fault_lines.specs.declared.faults.Fault.{Fault}
+use Rattle.fault_lines.specs.declared.faults.Fault.TheVariants.{NoSafe, NoMemory}
 use Rattle.meat_engine.specs.Answers.{FailsSearch}
 use Rattle.meat_engine.specs.Received.{Outcome}
-use Rattle.meat_engine.specs.Faultless.{IsUndisturbed, IsFaultless, IsSafeSearch, IsUnsafeSearch}
+use Rattle.fault_lines.specs.Faults.{IsUndisturbed}
+use Rattle.journey_problem.specs.Problems.{IsFaultless}
+use Rattle.meat_engine.specs.Faultless.{IsSafeSearch, IsUnsafeSearch}
 use Rattle.meat_engine.proofs.Undisturbed.{memory_or, fails, answered}
 use Rattle.meat_engine.proofs.SearchStatus.{asked_safe, one_safe}
 

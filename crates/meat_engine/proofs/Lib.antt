@@ -1,7 +1,3 @@
-pub mod Loads
-pub mod StopNames
-pub mod Causes
-pub mod FeedSteps
 pub mod Sought
 pub mod TextLemmas
 pub mod Nameless
@@ -9,15 +5,6 @@ pub mod Trips
 pub mod Search
 pub mod Told
 pub mod Outcomes
-pub mod OneOrder
-pub mod OneCutNetwork
-pub mod DelayTypes
-pub mod OneCutProblem
-pub mod OneFeed
-pub mod OneWindow
-pub mod OneFeedProblem
-pub mod OneProblem
-pub mod NoFaults
 pub mod Undisturbed
 pub mod SearchStatus
 pub mod FaultlessSearch
@@ -25,3 +12,4 @@ pub mod ReplayStatus
 pub mod FaultlessReplay
 pub mod SampleStatus
 pub mod Statuses
+pub mod Runs

@@ -2,19 +2,22 @@
 use Rattle.std.proofs.Common.{◌≡◌, ℕ, [], Global, Option, None, sym, subst}
 use Rattle.std.specs.Prelude.{◌≢◌, MatchOption, Vec}
 use Rattle.plan_model.specs.NameLists.{NameLists}
-use Rattle.meat_engine.specs.declared.faults.Fault.{Fault}
-use Rattle.meat_engine.specs.declared.faults.Fault.TheVariants.{Replay, NoMemory}
+use Rattle.fault_lines.specs.declared.faults.Fault.{Fault}
+use Rattle.fault_lines.specs.declared.faults.Fault.TheVariants.{Replay, NoMemory}
 use Rattle.meat_engine.specs.declared.replays.Refusal.{Refusal}
-use Rattle.meat_engine.specs.Files.{IsEarly, IsOfGraph}
-use Rattle.meat_engine.specs.Lines.{IsNameless, line_of}
+use Rattle.journey_problem.specs.EarlyFaults.{IsEarly}
+use Rattle.fault_lines.specs.Stages.{AtOutcome, AtGraphFile, IsOfGraph}
+use Rattle.command_line.specs.Jobs.{WantedTimetable}
+use Rattle.fault_lines.specs.Lines.{IsNameless, line_of}
 use Rattle.meat_engine.specs.Refusals.{IsLined}
 
-pub early_nameless : (fault : Fault) → IsEarly fault → IsNameless fault
-early_nameless (Replay fault) early = absurd early
-early_nameless _ early = tt
+pub early_nameless : (timetable : WantedTimetable) (fault : Fault) → IsEarly timetable fault → IsNameless fault
+early_nameless timetable (Replay fault) early = absurd early.stage
+early_nameless timetable _ early = tt
 
 pub graph_nameless : (fault : Fault) → (fault ≢ NoMemory → IsOfGraph fault) → IsNameless fault
-graph_nameless (Replay fault) of = absurd (of (λ (same : Replay fault ≡ NoMemory). absurd (cc)))
+graph_nameless (Replay fault) of =
+    let late : AtOutcome ≡ AtGraphFile = (of (λ (same : Replay fault ≡ NoMemory). absurd (cc))).0 in absurd (cc)
 graph_nameless _ of = tt
 
 pub no_names : NameLists

@@ -9,15 +9,16 @@ use Rattle.graph_text.specs.declared.Head.{Head}
 use Rattle.trip_replay.specs.declared.ReplayFault.{ReplayFault}
 use Rattle.command_line.specs.Jobs.{WantedReplay, Replay as Replays, job_of}
 use Rattle.meat_engine.specs.declared.report.Report.{Report}
-use Rattle.meat_engine.specs.declared.faults.Input.{Input}
-use Rattle.meat_engine.specs.declared.faults.Fault.{Fault}
-use Rattle.meat_engine.specs.declared.faults.Fault.TheVariants.{Read, NoMemory, Replay}
-use Rattle.meat_engine.specs.Problems.{IsProblem}
+use Rattle.fault_lines.specs.declared.faults.Input.{Input}
+use Rattle.fault_lines.specs.declared.faults.Fault.{Fault}
+use Rattle.fault_lines.specs.declared.faults.Fault.TheVariants.{Read, NoMemory, Replay}
+use Rattle.journey_problem.specs.Problems.{IsProblem}
 use Rattle.meat_engine.specs.Replays.{graph_in, trip_by, FailsReplay}
 use Rattle.meat_engine.specs.Received.{Outcome}
-use Rattle.meat_engine.specs.Faultless.{IsUndisturbed, EndsByWalk}
-use Rattle.meat_engine.proofs.OneProblem.{one_problem}
-use Rattle.meat_engine.proofs.NoFaults.{no_fault, none_unread}
+use Rattle.fault_lines.specs.Faults.{IsUndisturbed}
+use Rattle.meat_engine.specs.Faultless.{EndsByWalk}
+use Rattle.journey_problem.proofs.OneProblem.{one_problem}
+use Rattle.journey_problem.proofs.NoFaults.{no_fault, none_unread}
 use Rattle.meat_engine.proofs.Undisturbed.{memory_or, fails, answered}
 
 same_ok : {A E : Type 0} (r : Result A E) (x y : A) → r ≡ Ok x → r ≡ Ok y → x ≡ y

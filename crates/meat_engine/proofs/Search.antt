@@ -5,21 +5,21 @@ use Rattle.file_ports.specs.Counts.{Rose}
 use Rattle.file_ports.specs.Ports.{Folder}
 use Rattle.csv_rows.specs.declared.limits.Limits.{Limits}
 use Rattle.command_line.specs.Jobs.{WantedJourney, WantedSearch}
-use Rattle.meat_engine.specs.declared.faults.Input.{Input}
-use Rattle.meat_engine.specs.declared.faults.Fault.{Fault}
-use Rattle.meat_engine.specs.declared.faults.Fault.TheVariants.{Read, NoMemory}
-use Rattle.meat_engine.specs.declared.problem.Problem.{Problem}
+use Rattle.fault_lines.specs.declared.faults.Input.{Input}
+use Rattle.fault_lines.specs.declared.faults.Fault.{Fault}
+use Rattle.fault_lines.specs.declared.faults.Fault.TheVariants.{Read, NoMemory}
+use Rattle.journey_problem.specs.declared.problem.Problem.{Problem}
 use Rattle.meat_engine.specs.Answers.{FailsIn, FailsSearch}
-use Rattle.meat_engine.specs.Faults.{unread_of}
-use Rattle.meat_engine.specs.Lines.{IsNameless}
-use Rattle.meat_engine.specs.Problems.{IsProblem, IsSound, FailsEarly}
+use Rattle.fault_lines.specs.Faults.{unread_of}
+use Rattle.fault_lines.specs.Lines.{IsNameless}
+use Rattle.journey_problem.specs.Problems.{IsProblem, IsSound, FailsEarly}
 use Rattle.meat_engine.specs.Samples.{sample_search, FailsSample}
-use Rattle.meat_engine.proofs.Loads.{if_some_any}
+use Rattle.journey_problem.proofs.Loads.{if_some_any}
 use Rattle.meat_engine.proofs.Nameless.{early_nameless}
 
 -- there may have been no memory at any step
 memory_early : (told : Option Folder) (limits : Limits) (j : WantedJourney) → FailsEarly told limits j NoMemory
-memory_early told limits j = (λ of. of, if_some_any told _ (λ files other. absurd (other refl)))
+memory_early told limits j = (record { stage = tt; of_timetable = tt; of_text = tt }, if_some_any told _ (λ files other. absurd (other refl)))
 
 module _ (told : Option Folder) (limits : Limits) (s : WantedSearch) where
   -- why a search over the problem of its journey has no answer
@@ -29,7 +29,7 @@ module _ (told : Option Folder) (limits : Limits) (s : WantedSearch) where
 
   pub search_nameless : (fault : Fault) → FailsSearch told limits s fault → IsNameless fault
   search_nameless fault (inl (is, none)) = subst IsNameless (sym is) tt
-  search_nameless fault (inr early) = early_nameless fault early.0
+  search_nameless fault (inr early) = early_nameless s.journey.timetable fault early.0
 
 -- a fault of a search in a problem is not that a file cannot be read
 pub fails_unread : (p : Problem) (s : WantedSearch) (fault : Fault) → FailsIn p s fault → unread_of fault ≡ None

@@ -9,15 +9,16 @@ use Rattle.plan_model.specs.Parts.{Parts}
 use Rattle.plan_model.specs.Strategy.{Reaches, LeastWorst}
 use Rattle.command_line.specs.Jobs.{WantedSearch, Seek, job_of}
 use Rattle.meat_engine.specs.declared.report.Report.{Report}
-use Rattle.meat_engine.specs.declared.faults.Input.{Input}
-use Rattle.meat_engine.specs.declared.faults.Fault.{Fault}
-use Rattle.meat_engine.specs.declared.faults.Fault.TheVariants.{Read, NoSafe, NoMemory}
+use Rattle.fault_lines.specs.declared.faults.Input.{Input}
+use Rattle.fault_lines.specs.declared.faults.Fault.{Fault}
+use Rattle.fault_lines.specs.declared.faults.Fault.TheVariants.{Read, NoSafe, NoMemory}
 use Rattle.meat_engine.specs.Answers.{IsAsked, FailsSearch}
-use Rattle.meat_engine.specs.Problems.{IsProblem}
+use Rattle.journey_problem.specs.Problems.{IsProblem}
 use Rattle.meat_engine.specs.Received.{Outcome}
-use Rattle.meat_engine.specs.Faultless.{IsUndisturbed, HasSafe, EndsBy}
-use Rattle.meat_engine.proofs.OneProblem.{one_problem}
-use Rattle.meat_engine.proofs.NoFaults.{no_fault}
+use Rattle.fault_lines.specs.Faults.{IsUndisturbed}
+use Rattle.meat_engine.specs.Faultless.{HasSafe, EndsBy}
+use Rattle.journey_problem.proofs.OneProblem.{one_problem}
+use Rattle.journey_problem.proofs.NoFaults.{no_fault}
 use Rattle.meat_engine.proofs.Undisturbed.{memory_or, fails, answered}
 
 -- a least worst arrival is that of a strategy

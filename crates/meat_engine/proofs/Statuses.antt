@@ -6,11 +6,11 @@ use Rattle.command_line.specs.Jobs.{WantedReplay}
 use Rattle.trip_replay.specs.declared.Trace.{Trace}
 use Rattle.trip_replay.specs.declared.ReplayFault.{ReplayFault}
 use Rattle.meat_engine.specs.declared.report.Report.{Report}
-use Rattle.meat_engine.specs.declared.faults.Fault.{Fault}
-use Rattle.meat_engine.specs.declared.faults.Fault.TheVariants.{NoSafe, NoMemory}
-use Rattle.meat_engine.specs.Faults.{status_of}
+use Rattle.fault_lines.specs.declared.faults.Fault.{Fault}
+use Rattle.fault_lines.specs.declared.faults.Fault.TheVariants.{NoSafe, NoMemory}
+use Rattle.fault_lines.specs.Faults.{status_of, IsUndisturbed}
 use Rattle.meat_engine.specs.Received.{Outcome}
-use Rattle.meat_engine.specs.Faultless.{IsUndisturbed, EndsBy, EndsByWalk, IsSafeSearch, IsUnsafeSearch}
+use Rattle.meat_engine.specs.Faultless.{EndsBy, EndsByWalk, IsSafeSearch, IsUnsafeSearch}
 use Rattle.meat_engine.specs.Completeness.{IsStatusBy, IsStatusByWalk, IsReplayStatus, SeeksInFull, ReplaysInFull, SamplesInFull, SeeksWithoutFault, ReplaysWithoutFault, IsComplete}
 use Rattle.meat_engine.proofs.FaultlessSearch.{faultless_search}
 use Rattle.meat_engine.proofs.FaultlessReplay.{faultless_replay, EndsOver}

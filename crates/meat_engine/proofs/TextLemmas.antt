@@ -19,7 +19,8 @@ use Rattle.trip_replay.specs.Rides.{IsRide, arrival_after, place_after}
 use Rattle.plan_model.specs.declared.model.Moment.{Moment}
 use Rattle.meat_engine.specs.Texts.{ride_text, rides_text, arrived_text}
 
-delay_at : (o : Outcome) (row : List Outcome) (d : ℕ) (b : Bool) → (o.delay == d) ≡ b → o.delay ≤ 86400 → (list_any (λ x. x.delay == d) row ≡ true → d ≤ 86400) → (b || list_any (λ x. x.delay == d) row) ≡ true → d ≤ 86400
+delay_at : (o : Outcome) (row : List Outcome) (d : ℕ) (b : Bool) → (o.delay == d) ≡ b → o.delay ≤ 86400 → (list_any (λ x. x.delay == d) row ≡ true → d ≤ 86400)
+    → (b || list_any (λ x. x.delay == d) row) ≡ true → d ≤ 86400
 delay_at o row d true same few rest any = grind (arith, nat_tests)
 delay_at o row d false same few rest any = rest any
 
@@ -76,16 +77,19 @@ rides_step n names rides i d new old all within is before =
     (sym (ap (λ (list : List Ridden). old ++ rides_text n names list) (split_at rides i d within)) ∙ before)
 
 -- the line of a trip that is stuck, piece by piece
-pub stuck_pieces : (place moment : List ℕ) → (((codes "meat: stuck at " ++ place) ++ codes " at ") ++ moment) ++ codes "\n" ≡ codes "meat: " ++ ((codes "stuck at " ++ (place ++ (codes " at " ++ moment))) ++ codes "\n")
+pub stuck_pieces : (place moment : List ℕ) → (((codes "meat: stuck at " ++ place) ++ codes " at ") ++ moment) ++ codes "\n" ≡ codes "meat: " ++
+    ((codes "stuck at " ++ (place ++ (codes " at " ++ moment))) ++ codes "\n")
 stuck_pieces place moment = ap (λ (list : List ℕ). codes "meat: stuck at " ++ (list ++ codes "\n")) (append_assoc place (codes " at ") moment)
 
 -- pieces put one after another
-pub joined : (none a b c d e : List ℕ) (place moment place' moment' : List ℕ) → none ≡ [] → a ≡ none ++ codes "meat: stuck at " → b ≡ a ++ place → c ≡ b ++ codes " at " → d ≡ c ++ moment → e ≡ d ++ codes "\n" → place ≡ place' → moment ≡ moment'
+pub joined : (none a b c d e : List ℕ) (place moment place' moment' : List ℕ) → none ≡ [] → a ≡ none ++ codes "meat: stuck at " → b ≡ a ++ place → c ≡ b ++ codes " at "
+    → d ≡ c ++ moment → e ≡ d ++ codes "\n" → place ≡ place' → moment ≡ moment'
     → e ≡ codes "meat: " ++ ((codes "stuck at " ++ (place' ++ (codes " at " ++ moment'))) ++ codes "\n")
 joined none a b c d e place moment place' moment' start one two three four five same_place same_moment =
     let first : a ≡ codes "meat: stuck at " = one ∙ ap (λ (list : List ℕ). list ++ codes "meat: stuck at ") start in
     let whole : e ≡ (((codes "meat: stuck at " ++ place) ++ codes " at ") ++ moment) ++ codes "\n"
-    = five ∙ ap (λ (list : List ℕ). list ++ codes "\n") (four ∙ ap (λ (list : List ℕ). list ++ moment) (three ∙ ap (λ (list : List ℕ). list ++ codes " at ") (two ∙ ap (λ (list : List ℕ). list ++ place) first))) in
+    = five ∙ ap (λ (list : List ℕ). list ++ codes "\n") (four ∙ ap (λ (list : List ℕ). list ++ moment)
+    (three ∙ ap (λ (list : List ℕ). list ++ codes " at ") (two ∙ ap (λ (list : List ℕ). list ++ place) first))) in
     whole ∙ (ap (λ (list : List ℕ). (((codes "meat: stuck at " ++ list) ++ codes " at ") ++ moment) ++ codes "\n") same_place
     ∙ (ap (λ (list : List ℕ). (((codes "meat: stuck at " ++ place') ++ codes " at ") ++ list) ++ codes "\n") same_moment ∙ stuck_pieces place' moment'))
 
@@ -94,5 +98,6 @@ pub trace_end : (n : Parts) (names : NameLists) (rides : List Ridden) (i : ℕ) 
     → old ++ rides_text n names (drop i rides) ≡ rides_text n names rides → new ≡ old ++ row → row ≡ arrived_text target arrival → target ≡ target'
     → new ≡ rides_text n names rides ++ arrived_text target' arrival
 trace_end n names rides i old row new target target' arrival all before is row_is same =
-    let whole : old ≡ rides_text n names rides = sym (append-nil old) ∙ (sym (ap (λ (rest : List ℕ). old ++ rest) (at_drop_all (λ (rest : List Ridden). rides_text n names rest) rides i all)) ∙ before) in
+    let whole : old ≡ rides_text n names rides = sym (append-nil old) ∙ (sym (ap (λ (rest : List ℕ). old ++ rest)
+    (at_drop_all (λ (rest : List Ridden). rides_text n names rest) rides i all)) ∙ before) in
     is ∙ (ap (λ (text : List ℕ). text ++ row) whole ∙ ap (λ (end : List ℕ). rides_text n names rides ++ end) (row_is ∙ ap (λ (name : List ℕ). arrived_text name arrival) same))

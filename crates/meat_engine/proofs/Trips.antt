@@ -1,7 +1,7 @@
 -- The steps of a replay, put together.
 use Rattle.std.proofs.Common.{◌≡◌, ℕ, List, Option, None, Result, Ok, Err, inl, inr, sym, ap, ◌∙◌, subst, arith, refl}
 use Rattle.std.specs.Prelude.{◌≢◌, ◌<◌, ◌≤◌, length, IfErr, IfOk, IfSome}
-use Rattle.meat_engine.proofs.Loads.{if_some_then}
+use Rattle.journey_problem.proofs.Loads.{if_some_then}
 use Rattle.file_ports.specs.Ports.{Folder, file_at}
 use Rattle.csv_rows.specs.declared.limits.Limits.{Limits}
 use Rattle.plan_model.specs.NameLists.{NameLists}
@@ -15,19 +15,21 @@ use Rattle.trip_replay.specs.declared.ReplayFault.{ReplayFault}
 use Rattle.trip_replay.specs.declared.ReplayFault.TheVariants as replay
 use Rattle.trip_replay.specs.Rides.{IsStuckAfter}
 use Rattle.command_line.specs.Jobs.{WantedReplay}
-use Rattle.meat_engine.specs.declared.faults.Input.{Input}
-use Rattle.meat_engine.specs.declared.faults.Input.TheVariants as input
-use Rattle.meat_engine.specs.declared.faults.Fault.{Fault}
-use Rattle.meat_engine.specs.declared.faults.Fault.TheVariants.{NoMemory}
-use Rattle.meat_engine.specs.declared.problem.Problem.{Problem}
+use Rattle.fault_lines.specs.declared.faults.Input.{Input}
+use Rattle.fault_lines.specs.declared.faults.Input.TheVariants as input
+use Rattle.fault_lines.specs.declared.faults.Fault.{Fault}
+use Rattle.fault_lines.specs.declared.faults.Fault.TheVariants.{NoMemory}
+use Rattle.journey_problem.specs.declared.problem.Problem.{Problem}
 use Rattle.meat_engine.specs.declared.report.Report.{Report}
-use Rattle.meat_engine.specs.Faults.{unread_of}
-use Rattle.meat_engine.specs.Files.{bytes_of, and_then, IsEarly, IsOfGraph}
-use Rattle.meat_engine.specs.Problems.{IsProblem, IsProblemFault, IsSound, InProblem}
+use Rattle.fault_lines.specs.Faults.{unread_of}
+use Rattle.journey_problem.specs.Files.{bytes_of, and_then}
+use Rattle.journey_problem.specs.EarlyFaults.{IsEarly}
+use Rattle.fault_lines.specs.Stages.{IsOfGraph}
+use Rattle.journey_problem.specs.Problems.{IsProblem, IsProblemFault, IsSound, InProblem}
 use Rattle.trip_replay.specs.declared.Trace.{Trace}
 use Rattle.trip_replay.specs.Walk.{IsAnswer}
 use Rattle.meat_engine.specs.declared.replays.Refusal.{Refusal}
-use Rattle.meat_engine.specs.Lines.{IsNameless}
+use Rattle.fault_lines.specs.Lines.{IsNameless}
 use Rattle.meat_engine.specs.Refusals.{IsPlaced, IsRefusalOf, IsTripRefusal, IsRefusalBy, by_fault}
 use Rattle.meat_engine.specs.Replays.{graph_as, graph_in, FailsReplay, IsGraphFile, IsSafeTrip, trip_by, IsTripTold, IsReplayed}
 use Rattle.meat_engine.proofs.Nameless.{early_nameless, graph_nameless, no_names, plain_lined}
@@ -55,7 +57,8 @@ module _ (limits : Limits) (p : Problem) (start : ℕ) (file : Option (List ℕ)
   pub graph_read : (head : Head) (graph : PlanGraph) → graph_of text p.network p.names p.source.0 p.target.0 start ≡ Ok (head, graph) → graph_in limits p start None file ≡ Ok (head, graph)
   graph_read head graph is = read_of None (cc) ∙ ap graph_as is
 
-  pub graph_fault : (fault : Fault) → unread_of fault ≡ None → (fault ≢ NoMemory → graph_as (graph_of text p.network p.names p.source.0 p.target.0 start) ≡ Err fault) → fault ≢ NoMemory → graph_in limits p start (unread_of fault) file ≡ Err fault
+  pub graph_fault : (fault : Fault) → unread_of fault ≡ None → (fault ≢ NoMemory → graph_as (graph_of text p.network p.names p.source.0 p.target.0 start) ≡ Err fault)
+      → fault ≢ NoMemory → graph_in limits p start (unread_of fault) file ≡ Err fault
   graph_fault fault none is other = read_of (unread_of fault) none ∙ is other
 
 answer_is : (fault : ReplayFault) (trip : Result Trace ReplayFault) → fault ≢ replay.NoMemory → IsAnswer (Err fault) trip → trip ≡ Err fault
@@ -63,21 +66,24 @@ answer_is replay.NoMemory trip other is = absurd (other refl)
 answer_is _ trip other is = is
 
 -- the refusal of a trip
-pub trip_refusal : (p : Problem) (head : Head) (graph : PlanGraph) (late : List ℕ) (fault : ReplayFault) (r : Refusal) → IsRefusalOf p.names fault r → IsAnswer (Err fault) (trip_by p head graph late) → IsSafeTrip p head graph (Err fault) → IsTripRefusal p head graph late r
+pub trip_refusal : (p : Problem) (head : Head) (graph : PlanGraph) (late : List ℕ) (fault : ReplayFault) (r : Refusal) → IsRefusalOf p.names fault r
+    → IsAnswer (Err fault) (trip_by p head graph late) → IsSafeTrip p head graph (Err fault) → IsTripRefusal p head graph late r
 trip_refusal p head graph late fault r refusal is safe = record {
   lined = refusal.lined;
   is = λ other. let both = refusal.is other in (fault, both.0, record { trip = answer_is fault (trip_by p head graph late) both.1 is; safe = safe });
 }
 
 -- a refusal whose line names no place
-pub plain_refusal : (cause : NameLists → Fault → Type 0) (r : Refusal) (fault : Fault) → r.fault ≡ fault → r.line ≡ None → IsNameless fault → ((names : NameLists) → fault ≢ NoMemory → cause names fault) → IsRefusalBy cause r
+pub plain_refusal : (cause : NameLists → Fault → Type 0) (r : Refusal) (fault : Fault) → r.fault ≡ fault → r.line ≡ None → IsNameless fault
+    → ((names : NameLists) → fault ≢ NoMemory → cause names fault) → IsRefusalBy cause r
 plain_refusal cause r fault is none nameless holds =
     (no_names, plain_lined r fault no_names is none nameless, λ other. subst (cause no_names) (sym is) (holds no_names (λ same. other (is ∙ same))))
 
 module _ (told : Option Folder) (limits : Limits) (r : WantedReplay) where
-  pub problem_refusal : (refusal : Refusal) (fault : Fault) → refusal.fault ≡ fault → refusal.line ≡ None → IsEarly fault → IfSome told (λ files. IsProblemFault limits files r.journey fault) → IsRefusalBy (FailsReplay told limits r) refusal
+  pub problem_refusal : (refusal : Refusal) (fault : Fault) → refusal.fault ≡ fault → refusal.line ≡ None → IsEarly r.journey.timetable fault
+      → IfSome told (λ files. IsProblemFault limits files r.journey fault) → IsRefusalBy (FailsReplay told limits r) refusal
   problem_refusal refusal fault is none early holds =
-      plain_refusal (FailsReplay told limits r) refusal fault is none (early_nameless fault early) (λ names other. inr (inr (early, holds)))
+      plain_refusal (FailsReplay told limits r) refusal fault is none (early_nameless r.journey.timetable fault early) (λ names other. inr (inr (early, holds)))
 
   module _ (p : Problem) (sound : IsSound r.journey p) (problem : IfSome told (λ files. IsProblem limits files r.journey p)) where
     pub graph_refusal : (refusal : Refusal) (fault : Fault) → refusal.fault ≡ fault → refusal.line ≡ None → (fault ≢ NoMemory → IsOfGraph fault)
@@ -86,18 +92,21 @@ module _ (told : Option Folder) (limits : Limits) (r : WantedReplay) where
         plain_refusal (FailsReplay told limits r) refusal fault is none (graph_nameless fault of)
         (λ names other. inr (inl (of other, (p, sound, problem, if_some_then told _ _ (λ files h. h other) holds))))
 
-    pub trip_fails : (head : Head) (graph : PlanGraph) (refusal : Refusal) → IsGraphFile told limits r p head graph → IsTripRefusal p head graph r.late refusal → IsRefusalBy (FailsReplay told limits r) refusal
+    pub trip_fails : (head : Head) (graph : PlanGraph) (refusal : Refusal) → IsGraphFile told limits r p head graph → IsTripRefusal p head graph r.late refusal
+        → IsRefusalBy (FailsReplay told limits r) refusal
     trip_fails head graph refusal file fails = (
       p.names,
       fails.lined,
       λ other. let why = fails.is other in inl (why.0, why.1, (p, sound, problem, (refl, (head, graph, file, why.2)))),
     )
 
-    pub trip_told : (head : Head) (graph : PlanGraph) (report : Report) (text : List ℕ) → IsGraphFile told limits r p head graph → IsTripTold p head graph r.late report text → InProblem told limits r.journey (λ p. IsReplayed told limits r p report text)
+    pub trip_told : (head : Head) (graph : PlanGraph) (report : Report) (text : List ℕ) → IsGraphFile told limits r p head graph → IsTripTold p head graph r.late report text
+        → InProblem told limits r.journey (λ p. IsReplayed told limits r p report text)
     trip_told head graph report text file tells = (p, sound, problem, (head, graph, file, tells))
 
 -- the head and the graph that were read
-pub graph_file : (told later : Option Folder) (limits : Limits) (r : WantedReplay) (p : Problem) (head : Head) (graph : PlanGraph) → later ≡ told → IfSome later (λ files. graph_in limits p r.journey.start None (file_at files r.graph) ≡ Ok (head, graph))
+pub graph_file : (told later : Option Folder) (limits : Limits) (r : WantedReplay) (p : Problem) (head : Head) (graph : PlanGraph) → later ≡ told
+    → IfSome later (λ files. graph_in limits p r.journey.start None (file_at files r.graph) ≡ Ok (head, graph))
     → IsFit p.network head.query graph → IsHeadOf p.source.0 p.target.0 r.journey.start head → IsGraphFile told limits r p head graph
 graph_file told later limits r p head graph same reads fit is = record {
   reads = subst (λ (o : Option Folder). IfSome o (λ files. graph_in limits p r.journey.start None (file_at files r.graph) ≡ Ok (head, graph))) same reads;

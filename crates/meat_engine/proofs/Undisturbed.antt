@@ -7,15 +7,15 @@ use Rattle.plan_model.specs.NameLists.{NameLists}
 use Rattle.command_line.specs.declared.job.WordsFault.{WordsFault}
 use Rattle.command_line.specs.Jobs.{Wanted, job_of}
 use Rattle.meat_engine.specs.declared.report.Report.{Report}
-use Rattle.meat_engine.specs.declared.faults.Fault.{Fault}
-use Rattle.meat_engine.specs.declared.faults.Fault.TheVariants.{Write, NoMemory}
+use Rattle.fault_lines.specs.declared.faults.Fault.{Fault}
+use Rattle.fault_lines.specs.declared.faults.Fault.TheVariants.{Write, NoMemory}
 use Rattle.meat_engine.specs.Received.{AnswersJob, FailsJob, HasCause, IsRefused, Outcome}
 
 pub memory_or : (fault : Fault) → (fault ≡ NoMemory) ⊎ (fault ≡ NoMemory → ⊥)
 memory_or NoMemory = inl refl
 memory_or fault = inr (λ e. absurd (cc))
 
-one_job : (words : List (List ℕ)) (a b : Wanted) → job_of words ≡ Ok a → job_of words ≡ Ok b → a ≡ b
+pub one_job : (words : List (List ℕ)) (a b : Wanted) → job_of words ≡ Ok a → job_of words ≡ Ok b → a ≡ b
 one_job words a b h k = cc
 
 no_refusal : (words : List (List ℕ)) (a : Wanted) (b : WordsFault) → job_of words ≡ Ok a → job_of words ≡ Err b → ⊥

@@ -18,11 +18,11 @@ use Rattle.command_line.specs.declared.options.Goal.{Goal}
 use Rattle.command_line.specs.declared.options.Goal.TheVariants.{Safe, Expand, Plan}
 use Rattle.command_line.specs.Jobs.{WantedSearch}
 use Rattle.meat_engine.specs.declared.report.Report.{Report}
-use Rattle.meat_engine.specs.declared.problem.Problem.{Problem}
-use Rattle.meat_engine.specs.declared.faults.Fault.{Fault}
-use Rattle.meat_engine.specs.declared.faults.Fault.TheVariants.{NoSafe, NoMemory}
+use Rattle.journey_problem.specs.declared.problem.Problem.{Problem}
+use Rattle.fault_lines.specs.declared.faults.Fault.{Fault}
+use Rattle.fault_lines.specs.declared.faults.Fault.TheVariants.{NoSafe, NoMemory}
 use Rattle.meat_engine.specs.Findings.{Findings, findings_of, safe_findings, expand_findings, plan_findings}
-use Rattle.meat_engine.specs.Problems.{FailsEarly, InProblem}
+use Rattle.journey_problem.specs.Problems.{FailsEarly, InProblem}
 use Rattle.meat_engine.specs.Texts.{safe_text}
 
 -- this is the least worst arrival of the query

@@ -8,13 +8,13 @@ use Rattle.trip_replay.specs.declared.Trace.{Trace}
 use Rattle.trip_replay.specs.declared.ReplayFault.{ReplayFault}
 use Rattle.feed_maker.specs.Made.{made}
 use Rattle.command_line.specs.Jobs.{WantedSearch, WantedReplay, Seek, Replay as Replays, Sample, job_of}
-use Rattle.meat_engine.specs.declared.faults.Fault.{Fault}
-use Rattle.meat_engine.specs.declared.problem.Problem.{Problem}
-use Rattle.meat_engine.specs.Faults.{status_of}
-use Rattle.meat_engine.specs.Problems.{IsProblem}
+use Rattle.fault_lines.specs.declared.faults.Fault.{Fault}
+use Rattle.journey_problem.specs.declared.problem.Problem.{Problem}
+use Rattle.fault_lines.specs.Faults.{status_of}
+use Rattle.journey_problem.specs.Problems.{IsProblem, IsFaultless}
 use Rattle.meat_engine.specs.Replays.{trip_by}
 use Rattle.meat_engine.specs.Samples.{sample_search}
-use Rattle.meat_engine.specs.Faultless.{HasSafe, IsFaultless, IsSafeSearch, IsUnsafeSearch, IsGraphOver, IsTripOver, HasGraphFault}
+use Rattle.meat_engine.specs.Faultless.{HasSafe, IsSafeSearch, IsUnsafeSearch, IsGraphOver, IsTripOver, HasGraphFault}
 
 -- 0 where this holds, 1 where it does not, or 9
 abbrev pub IsStatusBy : Type 0 → ℕ → Type 0

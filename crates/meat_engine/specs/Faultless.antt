@@ -1,5 +1,5 @@
 -- Runs over files with no fault, and what they come to.
-use Rattle.std.specs.Prelude.{◌≡◌, ◌≢◌, ◌⊎◌, ℕ, Option, None, Some, Result, Ok, Err}
+use Rattle.std.specs.Prelude.{◌≡◌, ◌⊎◌, ℕ, Option, None, Some, Result, Ok, Err}
 use Rattle.file_ports.specs.Ports.{Folder, file_at}
 use Rattle.csv_rows.specs.declared.limits.Limits.{Limits}
 use Rattle.plan_model.specs.Parts.{Parts}
@@ -9,22 +9,12 @@ use Rattle.plan_graph.specs.declared.PlanGraph.{PlanGraph}
 use Rattle.graph_text.specs.declared.Head.{Head}
 use Rattle.trip_replay.specs.declared.Trace.{Trace}
 use Rattle.trip_replay.specs.declared.ReplayFault.{ReplayFault}
-use Rattle.command_line.specs.Jobs.{WantedJourney, WantedSearch, WantedReplay}
-use Rattle.meat_engine.specs.declared.faults.Input.{Input}
-use Rattle.meat_engine.specs.declared.faults.Fault.{Fault}
-use Rattle.meat_engine.specs.declared.faults.Fault.TheVariants.{Read, Write, NoSafe, NoMemory, Replay}
-use Rattle.meat_engine.specs.declared.problem.Problem.{Problem}
-use Rattle.meat_engine.specs.Problems.{IsProblem, IsProblemFault}
+use Rattle.command_line.specs.Jobs.{WantedSearch, WantedReplay}
+use Rattle.fault_lines.specs.declared.faults.Fault.{Fault}
+use Rattle.fault_lines.specs.declared.faults.Fault.TheVariants.{NoSafe, NoMemory, Replay}
+use Rattle.journey_problem.specs.declared.problem.Problem.{Problem}
+use Rattle.journey_problem.specs.Problems.{IsProblem}
 use Rattle.meat_engine.specs.Replays.{graph_in, trip_by}
-
--- no file failed to be read, and the answer was written
-abbrev pub IsUndisturbed : Option Fault → Type 0
-IsUndisturbed fault = ((input : Input) → fault ≢ Some (Read input)) × (fault ≢ Some Write)
-
--- the files of a journey have no fault, but where one fails to be read or there is no memory
-abbrev pub IsFaultless : Limits → Folder → WantedJourney → Type 0
-IsFaultless limits files j =
-    (fault : Fault) → IsUndisturbed (Some fault) → fault ≢ NoMemory → IsProblemFault limits files j fault → ⊥
 
 -- some strategy always reaches the target
 abbrev pub HasSafe : Parts → (source target start : ℕ) → Type 0

@@ -33,20 +33,20 @@ no_findings = record { query = None; worst = None; expanded = None; graph = None
 
 -- the least worst arrival and the deadline
 abbrev pub safe_findings : Query → Moment → Findings
-safe_findings q worst = record { query = Some q; worst = Some worst; expanded = None; graph = None; bounds = None; trace = None; connections = None }
+safe_findings q worst = record no_findings { query = Some q; worst = Some worst }
 
 -- with a graph by ride and its bounds
 abbrev pub expand_findings : Query → Moment → ExpandedGraph → Interval → Findings
-expand_findings q worst graph bounds = record { query = Some q; worst = Some worst; expanded = Some graph; graph = None; bounds = Some bounds; trace = None; connections = None }
+expand_findings q worst graph bounds = record no_findings { query = Some q; worst = Some worst; expanded = Some graph; bounds = Some bounds }
 
 -- with a graph by place and its bounds
 abbrev pub plan_findings : Query → Moment → PlanGraph → Interval → Findings
-plan_findings q worst graph bounds = record { query = Some q; worst = Some worst; expanded = None; graph = Some graph; bounds = Some bounds; trace = None; connections = None }
+plan_findings q worst graph bounds = record no_findings { query = Some q; worst = Some worst; graph = Some graph; bounds = Some bounds }
 
 -- with how many connections there are
 abbrev pub sample_findings : Query → Moment → PlanGraph → Interval → ℕ → Findings
-sample_findings q worst graph bounds connections = record { query = Some q; worst = Some worst; expanded = None; graph = Some graph; bounds = Some bounds; trace = None; connections = Some connections }
+sample_findings q worst graph bounds connections = record no_findings { query = Some q; worst = Some worst; graph = Some graph; bounds = Some bounds; connections = Some connections }
 
 -- the query of a graph, the graph, and the trip by it
 abbrev pub replay_findings : Query → PlanGraph → Trace → Findings
-replay_findings q graph trace = record { query = Some q; worst = None; expanded = None; graph = Some graph; bounds = None; trace = Some trace; connections = None }
+replay_findings q graph trace = record no_findings { query = Some q; graph = Some graph; trace = Some trace }

@@ -1,12 +1,5 @@
-pub mod Faults
-pub mod Files
-pub mod CutProblems
-pub mod FeedProblems
-pub mod Folders
-pub mod Problems
 pub mod Findings
 pub mod Texts
-pub mod Lines
 pub mod Answers
 pub mod Samples
 pub mod Replays
@@ -14,4 +7,4 @@ pub mod Refusals
 pub mod Received
 pub mod Faultless
 pub mod Completeness
-pub mod OneProblem
+pub mod Runs

@@ -5,17 +5,20 @@ use Rattle.plan_graph.specs.declared.PlanGraph.{PlanGraph}
 use Rattle.graph_text.specs.declared.Head.{Head}
 use Rattle.trip_replay.specs.declared.ReplayFault.{ReplayFault}
 use Rattle.trip_replay.specs.declared.ReplayFault.TheVariants as replay
-use Rattle.meat_engine.specs.declared.faults.Fault.{Fault}
-use Rattle.meat_engine.specs.declared.faults.Fault.TheVariants.{Replay, NoMemory}
-use Rattle.meat_engine.specs.declared.problem.Problem.{Problem}
+use Rattle.fault_lines.specs.declared.faults.Fault.{Fault}
+use Rattle.fault_lines.specs.declared.faults.Fault.TheVariants.{Replay, NoMemory}
+use Rattle.journey_problem.specs.declared.problem.Problem.{Problem}
 use Rattle.meat_engine.specs.declared.replays.Refusal.{Refusal}
-use Rattle.meat_engine.specs.Lines.{line_of, IsNameless}
+use Rattle.fault_lines.specs.Lines.{line_of, IsNameless}
 use Rattle.meat_engine.specs.Replays.{IsTripFault}
 
 -- where a trip is stuck it is at a place, and the moment has a text
 abbrev pub IsPlaced : Problem → ReplayFault → Type 0
+IsPlaced p (replay.NotADelay number) = Unit {0}
+IsPlaced p (replay.TooFew ridden) = Unit {0}
+IsPlaced p (replay.TooMany ridden) = Unit {0}
 IsPlaced p (replay.Stuck place moment) = (place.0 < length p.network.change) × (moment.0 ≤ 253402300799)
-IsPlaced p _ = Unit {0}
+IsPlaced p replay.NoMemory = Unit {0}
 
 -- the line that is there is that of the fault by these names, and else the fault's line names no place
 abbrev pub IsLined : NameLists → Refusal → Type 0

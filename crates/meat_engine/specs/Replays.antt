@@ -17,21 +17,26 @@ use Rattle.trip_replay.specs.declared.ReplayFault.{ReplayFault}
 use Rattle.trip_replay.specs.Walk.{walk, IsSafeAnswer}
 use Rattle.command_line.specs.Jobs.{WantedReplay}
 use Rattle.meat_engine.specs.declared.report.Report.{Report}
-use Rattle.meat_engine.specs.declared.problem.Problem.{Problem}
-use Rattle.meat_engine.specs.declared.faults.Input.{Input}
-use Rattle.meat_engine.specs.declared.faults.Input.TheVariants as input
-use Rattle.meat_engine.specs.declared.faults.Fault.{Fault}
-use Rattle.meat_engine.specs.declared.faults.Fault.TheVariants.{GraphFile, Replay, NoMemory}
-use Rattle.meat_engine.specs.Faults.{unread_of}
-use Rattle.meat_engine.specs.Files.{bytes_of, and_then, IsOfGraph}
+use Rattle.journey_problem.specs.declared.problem.Problem.{Problem}
+use Rattle.fault_lines.specs.declared.faults.Input.{Input}
+use Rattle.fault_lines.specs.declared.faults.Input.TheVariants as input
+use Rattle.fault_lines.specs.declared.faults.Fault.{Fault}
+use Rattle.fault_lines.specs.declared.faults.Fault.TheVariants.{GraphFile, Replay, NoMemory}
+use Rattle.fault_lines.specs.Faults.{unread_of}
+use Rattle.journey_problem.specs.Files.{bytes_of, and_then}
+use Rattle.fault_lines.specs.Stages.{IsOfGraph}
 use Rattle.meat_engine.specs.Findings.{findings_of, replay_findings}
-use Rattle.meat_engine.specs.Problems.{FailsEarly, InProblem}
+use Rattle.journey_problem.specs.Problems.{FailsEarly, InProblem}
 use Rattle.meat_engine.specs.Texts.{trace_text}
 
 -- a fault of a graph's text as one of the run
 abbrev pub text_as : TextFault → Fault
+text_as (text.Row line) = GraphFile (text.Row line)
+text_as (text.UnknownName line) = GraphFile (text.UnknownName line)
+text_as (text.NotRising line) = GraphFile (text.NotRising line)
+text_as (text.NoLeg line) = GraphFile (text.NoLeg line)
+text_as (text.OtherQuery line) = GraphFile (text.OtherQuery line)
 text_as text.NoMemory = NoMemory
-text_as fault = GraphFile fault
 
 abbrev pub graph_as : Result (Head × PlanGraph) TextFault → Result (Head × PlanGraph) Fault
 graph_as (Ok found) = Ok found

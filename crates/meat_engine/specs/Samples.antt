@@ -12,13 +12,13 @@ use Rattle.feed_maker.specs.Made.{made, SameFolder}
 use Rattle.command_line.specs.declared.options.Goal.TheVariants.{Plan}
 use Rattle.command_line.specs.Jobs.{WantedSearch, FeedFolder}
 use Rattle.meat_engine.specs.declared.report.Report.{Report}
-use Rattle.meat_engine.specs.declared.problem.Problem.{Problem}
-use Rattle.meat_engine.specs.declared.faults.Fault.{Fault}
-use Rattle.meat_engine.specs.declared.faults.Fault.TheVariants.{NoMemory}
-use Rattle.meat_engine.specs.Faults.{unread_of}
+use Rattle.journey_problem.specs.declared.problem.Problem.{Problem}
+use Rattle.fault_lines.specs.declared.faults.Fault.{Fault}
+use Rattle.fault_lines.specs.declared.faults.Fault.TheVariants.{NoMemory}
+use Rattle.fault_lines.specs.Faults.{unread_of}
 use Rattle.meat_engine.specs.Answers.{IsAsked, FailsSearch}
 use Rattle.meat_engine.specs.Findings.{findings_of, sample_findings}
-use Rattle.meat_engine.specs.Problems.{InProblem}
+use Rattle.journey_problem.specs.Problems.{InProblem}
 use Rattle.meat_engine.specs.Texts.{leg_count, sample_text}
 
 -- from the hub H0 to the hub H5, from 2024-06-03T08:00:01 on, in a window of 24 hours

@@ -10,14 +10,14 @@ ghost use Rattle.command_line.specs.Shown.{search_shown};
 ghost use Rattle.meat_engine.specs.Answers.{IsWorst, IsAsked, IsPrintable, Tells, IsSought, FailsIn};
 ghost use Rattle.meat_engine.specs.Findings.{findings_of};
 
-use crate::faults::Fault;
-use crate::problem::Problem;
 use crate::report::Report;
 use crate::texts::safe_text;
 use command_line::{Goal, SearchJob};
 use connections::MergedRuns;
 use decision_graph::{CompactPlan, ExpandedPlan, expand, plan};
+use fault_lines::Fault;
 use graph_text::{Head, fit_is_printable, ready_is_printable, write, write_expanded};
+use journey_problem::Problem;
 use meat_scan::ScanTables;
 use plan_model::{BackwardOrder, Moment, NoMemory, Query};
 use safe_arrival::{deadline, least_worst};

@@ -2,13 +2,6 @@
 #![tactic(auto)]
 
 mod answers;
-mod cut_problem;
-mod faults;
-mod feed_problem;
-mod inputs;
-mod laws;
-mod lines;
-mod problem;
 mod replays;
 mod report;
 mod samples;
@@ -16,10 +9,6 @@ mod searches;
 mod texts;
 mod top;
 
-pub use faults::{Fault, Input, LimitKind, Which};
-pub use laws::{files_have_one_problem, files_of_a_problem_have_no_fault};
+pub use fault_lines::{Fault, Input, LimitKind, Which};
 pub use report::{Report, Status};
-pub use top::run;
-
-#[cfg(test)]
-mod tests;
+pub use top::{run, run_limited};

@@ -1,9 +1,9 @@
 //! What a run came to.
 ghost use Rattle.std.specs.Prelude.{◌≡◌, Some, None};
-ghost use Rattle.meat_engine.specs.Faults.{status_of};
+ghost use Rattle.fault_lines.specs.Faults.{status_of};
 ghost use Rattle.meat_engine.specs.Findings.{findings_of, no_findings};
 
-use crate::faults::Fault;
+use fault_lines::Fault;
 use interval_fixed::Span;
 use plan_graph::{ExpandedGraph, PlanGraph};
 use plan_model::{Moment, Query};

@@ -6,13 +6,13 @@ ghost use Rattle.meat_engine.specs.Answers.{FailsIn};
 ghost use Rattle.meat_engine.specs.Samples.{sample_search, IsSampled, AnswersSample, FailsSample};
 
 use crate::answers::{Answer, asked_of, planned_of};
-use crate::faults::Fault;
-use crate::problem::{Problem, problem_of};
 use crate::report::Report;
 use crate::texts::sample_text;
 use command_line::{Goal, Journey, SearchJob, Timetable};
 use csv_rows::Limits;
+use fault_lines::Fault;
 use feed_maker::make;
+use journey_problem::{Problem, problem_of};
 use plan_model::{Moment, NoMemory};
 use std::alloc::Global;
 

@@ -4,15 +4,15 @@ ghost use Rattle.csv_rows.specs.Limits.{AreWithin};
 ghost use Rattle.command_line.specs.Ranges.{IsJourney};
 ghost use Rattle.command_line.specs.Shown.{search_shown, journey_shown};
 ghost use Rattle.meat_engine.specs.Answers.{IsSought, FailsSearch};
-ghost use Rattle.meat_engine.specs.Files.{path_of, HasCauses};
-ghost use Rattle.meat_engine.specs.Problems.{InProblem};
+ghost use Rattle.journey_problem.specs.Files.{path_of, HasCauses};
+ghost use Rattle.journey_problem.specs.Problems.{InProblem};
 
 use crate::answers::{Answer, seek};
-use crate::faults::Fault;
-use crate::problem::problem_of;
 use command_line::SearchJob;
 use csv_rows::Limits;
+use fault_lines::Fault;
 use file_ports::Files;
+use journey_problem::problem_of;
 use std::alloc::Global;
 
 /// What a search finds over its files.

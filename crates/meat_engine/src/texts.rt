@@ -4,11 +4,11 @@ ghost use Rattle.csv.specs.Writing.{default_writer, row_text};
 ghost use Rattle.plan_model.specs.NameLists.{NamesFit};
 ghost use Rattle.trip_replay.specs.Rides.{IsRide};
 ghost use Rattle.meat_engine.specs.Texts.{safe_text, ride_text, rides_text, arrived_text, trace_text, leg_count, sample_text};
-ghost use Rattle.meat_engine.specs.Lines.{line_of};
+ghost use Rattle.fault_lines.specs.Lines.{line_of};
 
-use crate::faults::Fault;
 use clock_text::{write_moment, write_nanos};
 use csv::WriterBuilder;
+use fault_lines::Fault;
 use interval_fixed::Span;
 use plan_graph::PlanGraph;
 use plan_model::{Moment, Names, Network, NoMemory, PlaceId, Query};

@@ -1,30 +1,27 @@
 //! The top call.
-ghost use Rattle.std.specs.Prelude.{◌≡◌, ◌≤◌, ◌<◌, ℕ, map, string_bytes, Some, None, Ok, IsSome, IfOk, IfErr};
-ghost use Rattle.std.specs.Io.KnownBytes.{Keeps, Appends};
+ghost use Rattle.std.specs.Prelude.{◌≡◌, ◌<◌, map, string_bytes, Some, None, IsSome, IfOk, IfErr};
+ghost use Rattle.std.specs.Io.KnownBytes.{Keeps};
 ghost use Rattle.csv_rows.specs.Limits.{AreWithin, standard};
 ghost use Rattle.file_ports.specs.Counts.{Rose};
-ghost use Rattle.file_ports.specs.Loading.{AppendsFront};
 ghost use Rattle.plan_model.specs.NameLists.{NameLists};
-ghost use Rattle.command_line.specs.Jobs.{Wanted, job_of};
 ghost use Rattle.command_line.specs.Ranges.{IsJob};
 ghost use Rattle.command_line.specs.Shown.{shown};
-ghost use Rattle.meat_engine.specs.Faults.{status_of};
-ghost use Rattle.meat_engine.specs.Files.{HasCauses};
-ghost use Rattle.meat_engine.specs.Completeness.{IsComplete};
+ghost use Rattle.fault_lines.specs.Faults.{status_of};
+ghost use Rattle.journey_problem.specs.Files.{HasCauses};
 ghost use Rattle.meat_engine.specs.Findings.{findings_of, no_findings};
-ghost use Rattle.meat_engine.specs.Lines.{line_of};
+ghost use Rattle.fault_lines.specs.Lines.{line_of};
 ghost use Rattle.meat_engine.specs.Refusals.{IsLined, IsRefusalBy, by_fault};
-ghost use Rattle.meat_engine.specs.Received.{paths_of, AnswersJob, FailsJob, Outcome, IsTold, IsWritten, IsRefusedWith};
+ghost use Rattle.meat_engine.specs.Received.{paths_of, AnswersJob, FailsJob, IsTold, IsWritten, IsRefusedWith};
+ghost use Rattle.meat_engine.specs.Runs.{IsRun, files_state, sink_state};
 
 use crate::answers::Answer;
-use crate::faults::{Fault, Input};
-use crate::lines::{FaultText, known_line};
 use crate::replays::{Refusal, replay_over};
 use crate::report::{Report, Status};
 use crate::samples::sample;
 use crate::searches::seek_over;
 use command_line::{Job, read_job};
 use csv_rows::Limits;
+use fault_lines::{Fault, FaultText, known_line};
 use file_ports::{Files, Sink, put_all};
 use std::alloc::Global;
 
@@ -125,8 +122,11 @@ fn tell<O: Sink, E: Sink>(answer: Answer, out: &mut O, err: &mut E) -> Report
     }
 }
 
-/// Runs the command that the words ask for, with these limits.
-pub(crate) fn run_within<F: Files, O: Sink, E: Sink>(
+/// Runs the command that the words ask for, within these limits, none of which is above the standard
+/// one. The report has the answer at status 0 and at status 8, where it could not be written, and else
+/// the fault alone. At status 0 `out` received the whole text of the answer, at status 8 a front of it,
+/// and else nothing; `err` received the line of the fault, or a front of it where `err` failed.
+pub fn run_limited<F: Files, O: Sink, E: Sink>(
     alloc: Global,
     words: &[String],
     files: &mut F,
@@ -135,25 +135,13 @@ pub(crate) fn run_within<F: Files, O: Sink, E: Sink>(
     limits: &Limits,
 ) -> Report
     requires { AreWithin limits.now }
-    ensures status { result.status.0 ≡ status_of result.fault }
-    ensures outcome { Outcome (F.files files.old) limits.now (map string_bytes words.now) result
-        (O.written out.old) (O.written out.new) (IsTold (E.written err.old) (E.written err.new)
-        (E.faults err.old) (E.faults err.new)) result.fault }
-    ensures quiet { result.fault ≡ None → Keeps (E.written err.old) (E.written err.new) }
-
-    // The counts of the outside.
-    ensures read { (input : Input) → result.fault ≡ Some (Fault.Read input)
-        → Rose (F.faults files.old) (F.faults files.new) }
-    ensures read_path { (wanted : Wanted) (input : Input)
-        → job_of (map string_bytes words.now) ≡ Ok wanted
-        → IsSome (F.files files.old) → result.fault ≡ Some (Fault.Read input)
-        → Rose (F.faults_of files.old (paths_of wanted input))
-        (F.faults_of files.new (paths_of wanted input)) }
-    ensures files_grew { F.faults files.old < F.faults files.new
-        → (input : Input) × (result.fault ≡ Some (Fault.Read input)) }
-    ensures write { result.fault ≡ Some Fault.Write → Rose (O.faults out.old) (O.faults out.new) }
-    ensures out_grew { O.faults out.old < O.faults out.new → result.fault ≡ Some Fault.Write }
-    ensures same { F.files files.new ≡ F.files files.old }
+    ensures { IsRun limits.now (map string_bytes words.now) result
+        (files_state (F.files files.old) (F.faults files.old) (F.faults_of files.old))
+        (files_state (F.files files.new) (F.faults files.new) (F.faults_of files.new))
+        (sink_state (O.written out.old) (O.faults out.old))
+        (sink_state (O.written out.new) (O.faults out.new))
+        (sink_state (E.written err.old) (E.faults err.old))
+        (sink_state (E.written err.new) (E.faults err.new)) }
 {
     let job = match read_job(words) {
         Ok(job) => job,
@@ -165,10 +153,7 @@ pub(crate) fn run_within<F: Files, O: Sink, E: Sink>(
     }
 }
 
-/// Runs the command that the words ask for. The report has the answer at status 0 and at status 8,
-/// where it could not be written, and else the fault alone. At status 0 `out` received the whole text
-/// of the answer, at status 8 a front of it, and else nothing; `err` received the line of the fault,
-/// or a front of it where `err` failed.
+/// Runs the command that the words ask for, within the standard limits, as [`run_limited`] does.
 pub fn run<F: Files, O: Sink, E: Sink>(
     alloc: Global,
     words: &[String],
@@ -176,30 +161,13 @@ pub fn run<F: Files, O: Sink, E: Sink>(
     out: &mut O,
     err: &mut E,
 ) -> Report
-    ensures status { result.status.0 ≡ status_of result.fault }
-    ensures outcome { Outcome (F.files files.old) standard (map string_bytes words.now) result
-        (O.written out.old) (O.written out.new) (IsTold (E.written err.old) (E.written err.new)
-        (E.faults err.old) (E.faults err.new)) result.fault }
-    ensures quiet { result.fault ≡ None → Keeps (E.written err.old) (E.written err.new) }
-
-    // The counts of the outside.
-    ensures read { (input : Input) → result.fault ≡ Some (Fault.Read input)
-        → Rose (F.faults files.old) (F.faults files.new) }
-    ensures read_path { (wanted : Wanted) (input : Input)
-        → job_of (map string_bytes words.now) ≡ Ok wanted
-        → IsSome (F.files files.old) → result.fault ≡ Some (Fault.Read input)
-        → Rose (F.faults_of files.old (paths_of wanted input))
-        (F.faults_of files.new (paths_of wanted input)) }
-    ensures files_grew { F.faults files.old < F.faults files.new
-        → (input : Input) × (result.fault ≡ Some (Fault.Read input)) }
-    ensures write { result.fault ≡ Some Fault.Write → Rose (O.faults out.old) (O.faults out.new) }
-    ensures out_grew { O.faults out.old < O.faults out.new → result.fault ≡ Some Fault.Write }
-    ensures same { F.files files.new ≡ F.files files.old }
-
-    // The status, where no count rises and the files have no fault.
-    ensures complete { ¬ Rose (F.faults files.old) (F.faults files.new)
-        → ¬ Rose (O.faults out.old) (O.faults out.new)
-        → IsComplete (F.files files.old) standard (map string_bytes words.now) result.status.0 }
+    ensures { IsRun standard (map string_bytes words.now) result
+        (files_state (F.files files.old) (F.faults files.old) (F.faults_of files.old))
+        (files_state (F.files files.new) (F.faults files.new) (F.faults_of files.new))
+        (sink_state (O.written out.old) (O.faults out.old))
+        (sink_state (O.written out.new) (O.faults out.new))
+        (sink_state (E.written err.old) (E.faults err.old))
+        (sink_state (E.written err.new) (E.faults err.new)) }
 {
-    run_within(alloc, words, files, out, err, &Limits::standard())
+    run_limited(alloc, words, files, out, err, &Limits::standard())
 }

@@ -4,4 +4,6 @@
 #[cfg(test)]
 mod feeds;
 #[cfg(test)]
+mod rides;
+#[cfg(test)]
 mod tests;

@@ -1,3 +1,5 @@
+ghost use Rattle.std.specs.Prelude.{◌<◌};
+
 use file_ports::{MemoryFiles, MemorySink};
 use meat_engine::run;
 use plan_model::List;
@@ -29,19 +31,32 @@ pub(super) struct Told {
 
 pub(super) const USUAL: &str = "class,delay,weight\n*,0,8000\n*,300,1500\n*,900,500\n";
 
-/// What a run over some files told.
-pub(super) fn told_over(
-    alloc: Global,
-    files: &mut MemoryFiles,
-    words: &[&str],
-) -> Result<Told, Fail> {
+/// The words of a line.
+pub(super) fn words_of(alloc: Global, words: &[&str]) -> Result<Vec<String>, Fail> {
     let mut list = Vec::new(alloc);
     for word in words {
         list.push(String::from_str(alloc, word)?)?;
     }
-    let mut out = MemorySink::new(alloc, 4096, 1 << 13, List::new(alloc))?;
+    Ok(list)
+}
+
+/// What a run over some files told, whose answer is taken in pieces of this many bytes, and where the
+/// write of this number fails: 0 for none.
+pub(super) fn told_in_pieces(
+    alloc: Global,
+    files: &mut MemoryFiles,
+    words: &[&str],
+    piece: usize,
+    failing: u32,
+) -> Result<Told, Fail>
+    requires { 0 < piece }
+{
+    let words = words_of(alloc, words)?;
+    let mut list = Vec::new(alloc);
+    list.push(failing)?;
+    let mut out = MemorySink::new(alloc, piece, 1 << 13, List::from_vec(list))?;
     let mut err = MemorySink::new(alloc, 4096, 1 << 13, List::new(alloc))?;
-    let report = run(alloc, list.as_slice(), files, &mut out, &mut err);
+    let report = run(alloc, words.as_slice(), files, &mut out, &mut err);
     let (Ok(answer), Ok(line)) = (
         std::str::from_utf8(out.bytes()),
         std::str::from_utf8(err.bytes()),
@@ -53,6 +68,15 @@ pub(super) fn told_over(
         out: String::from_str(alloc, answer)?,
         err: String::from_str(alloc, line)?,
     })
+}
+
+/// What a run over some files told.
+pub(super) fn told_over(
+    alloc: Global,
+    files: &mut MemoryFiles,
+    words: &[&str],
+) -> Result<Told, Fail> {
+    told_in_pieces(alloc, files, words, 4096, 0)
 }
 
 fn tell(alloc: Global, cut: &str, delays: &str, words: &[&str]) -> Result<Told, Fail> {

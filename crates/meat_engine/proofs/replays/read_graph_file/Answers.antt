@@ -1,9 +1,9 @@
 use Rattle.std.proofs.Common.{◌≡◌, Ok, None}
 use Rattle.file_ports.specs.Ports.{Folder, file_at}
-use Rattle.meat_engine.specs.declared.faults.Input.TheVariants as input
-use Rattle.meat_engine.specs.Files.{bytes_of}
-use Rattle.meat_engine.proofs.Causes.{causes-quiet}
-use Rattle.meat_engine.proofs.Loads.{if_some_then}
+use Rattle.fault_lines.specs.declared.faults.Input.TheVariants as input
+use Rattle.journey_problem.specs.Files.{bytes_of}
+use Rattle.journey_problem.proofs.Causes.{causes-quiet}
+use Rattle.journey_problem.proofs.Loads.{if_some_then}
 use Rattle.meat_engine.proofs.Trips.{graph_read, graph_fault}
 use Rattle.meat_engine.proofs.replays.read_graph_file.Goals as goal
 

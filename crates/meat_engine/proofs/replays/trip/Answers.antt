@@ -13,10 +13,12 @@ refusal_of-requires-clause-place c =
 pub returns-in-Err-clause-fault : goal.returns-in-Err-clause-fault
 returns-in-Err-clause-fault c =
     trip_refusal c.args.problem.now c.args.file.head c.args.file.graph (late_in c.args.job.now.late.now) c.in-Err.fault c.refusal_of.result c.refusal_of.ensures.refusal
-    (subst (λ (delays : List ℕ). IsAnswer (Err c.in-Err.fault) (trip_by c.args.problem.now c.args.file.head c.args.file.graph delays)) (c.as_slice.ensures.value ∙ c.in-Ok.ensures) c.in-Err.ensures.walk)
+    (subst (λ (delays : List ℕ). IsAnswer (Err c.in-Err.fault) (trip_by c.args.problem.now c.args.file.head c.args.file.graph delays))
+    (c.as_slice.ensures.value ∙ c.in-Ok.ensures) c.in-Err.ensures.walk)
     c.in-Err.ensures.safe
 
 pub trace_text-requires-clause-arrival : goal.trace_text-requires-clause-arrival
 trace_text-requires-clause-arrival c =
     subst (λ (k : ℕ). k ≤ 253402300799) (sym c.in-Ok-replay.ensures.arrival)
-    (arrivals c.args.problem.now.network c.count-count.ensures.valid c.args.file.head.query.start.0 c.in-Ok-replay.trace.rides (omega (arith, c.requires.head.start, c.requires.start)) c.in-Ok-replay.ensures.rides)
+    (arrivals c.args.problem.now.network c.count-count.ensures.valid c.args.file.head.query.start.0 c.in-Ok-replay.trace.rides
+    (omega (arith, c.requires.head.start, c.requires.start)) c.in-Ok-replay.ensures.rides)

@@ -17,12 +17,14 @@ run_name-requires c =
 pub place_name-requires : goal.place_name-requires
 place_name-requires c =
     subst (λ (places : ℕ). c.get-enter.result.from.0 < places) (sym c.requires.fit.places)
-    (subst (λ (k : Connection). k.from.0 < length c.args.network.now.change) (sym c.get-enter.ensures.connection) (c.count-count.ensures.valid.connections c.args.ride.now.leg.enter.0 c.requires.ride.is_leg.enter).from_in)
+    (subst (λ (k : Connection). k.from.0 < length c.args.network.now.change) (sym c.get-enter.ensures.connection)
+    (c.count-count.ensures.valid.connections c.args.ride.now.leg.enter.0 c.requires.ride.is_leg.enter).from_in)
 
 pub place_name-requires-2 : goal.place_name-requires-2
 place_name-requires-2 c =
     subst (λ (places : ℕ). c.get-exit.result.to.0 < places) (sym c.requires.fit.places)
-    (subst (λ (k : Connection). k.to.0 < length c.args.network.now.change) (sym c.get-exit.ensures.connection) (c.count-count.ensures.valid.connections c.args.ride.now.leg.exit.0 c.requires.ride.is_leg.exit).to_in)
+    (subst (λ (k : Connection). k.to.0 < length c.args.network.now.change) (sym c.get-exit.ensures.connection)
+    (c.count-count.ensures.valid.connections c.args.ride.now.leg.exit.0 c.requires.ride.is_leg.exit).to_in)
 
 pub returns : goal.returns
 unfolding ride_text

@@ -14,11 +14,13 @@ returns-in-Err-clause-fault g c =
     let told = g.F.Files.files c.args.files.now in
     let s = search_shown c.in-Seek.search in
     subst (λ (wanted : Wanted). IsRefusalBy (FailsJob told c.args.limits.now wanted) c.plain.result) (ap (λ (job : Job). shown job) (sym c.in-Seek.is))
-    (plain_refusal (FailsJob told c.args.limits.now (Seek s)) c.plain.result c.in-Err.fault c.plain.ensures.fault c.plain.ensures.line (search_nameless told c.args.limits.now s c.in-Err.fault c.in-Err.ensures.fault) (λ names other. c.in-Err.ensures.fault))
+    (plain_refusal (FailsJob told c.args.limits.now (Seek s)) c.plain.result c.in-Err.fault c.plain.ensures.fault c.plain.ensures.line
+    (search_nameless told c.args.limits.now s c.in-Err.fault c.in-Err.ensures.fault) (λ names other. c.in-Err.ensures.fault))
 
 pub returns-in-Replay-clause-fault : goal.returns-in-Replay-clause-fault
 returns-in-Replay-clause-fault g c =
-    subst (λ (wanted : Wanted). IfErr c.replay_over.result (IsRefusalBy (FailsJob (g.F.Files.files c.args.files.now) c.args.limits.now wanted))) (ap (λ (job : Job). shown job) (sym c.in-Replay.is)) c.replay_over.ensures.fault
+    subst (λ (wanted : Wanted). IfErr c.replay_over.result (IsRefusalBy (FailsJob (g.F.Files.files c.args.files.now) c.args.limits.now wanted)))
+    (ap (λ (job : Job). shown job) (sym c.in-Replay.is)) c.replay_over.ensures.fault
 
 pub returns-in-Err-sample-clause-fault : goal.returns-in-Err-sample-clause-fault
 returns-in-Err-sample-clause-fault g c =

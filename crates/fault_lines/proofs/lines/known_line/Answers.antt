@@ -1,0 +1,7 @@
+use Rattle.std.proofs.Common.{◌∙◌, ap, sym}
+use Rattle.fault_lines.specs.declared.faults.Fault.{Fault}
+use Rattle.fault_lines.specs.Lines.{line_of}
+use Rattle.fault_lines.proofs.lines.known_line.Goals as goal
+
+pub returns-in-Read-clause-line : goal.returns-in-Read-clause-line
+returns-in-Read-clause-line c = λ names. c.unread_line.ensures names ∙ ap (λ (fault : Fault). line_of names fault) (sym c.in-Read.is)

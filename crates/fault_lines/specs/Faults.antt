@@ -1,0 +1,102 @@
+-- The faults of a run: the number that a process ends with, and the file that a fault is of.
+use Rattle.std.specs.Prelude.{◌≡◌, ◌≢◌, ℕ, ◌==◌, Bool, true, false, List, Option, None, Some, codes}
+use Rattle.csv_rows.specs.FeedTables.{file_name, rank_of}
+use Rattle.fault_lines.specs.declared.faults.Input.{Input}
+use Rattle.fault_lines.specs.declared.faults.Input.TheVariants as input
+use Rattle.fault_lines.specs.declared.faults.Fault.{Fault}
+use Rattle.fault_lines.specs.declared.faults.Fault.TheVariants.{Words, Feed, Cut, Missing, Delays, UnknownStop, Limit, Read, NoSafe, GraphFile, Replay, Write, NoMemory}
+
+-- where this file is missing
+abbrev pub missing_status : Input → ℕ
+missing_status (input.Feed table) = 3
+missing_status input.Cut = 3
+missing_status input.Delays = 4
+missing_status input.Graph = 10
+
+-- 0 where there is no fault
+abbrev pub status_of : Option Fault → ℕ
+status_of None = 0
+status_of (Some NoSafe) = 1
+status_of (Some (Words fault)) = 2
+status_of (Some (Feed fault)) = 3
+status_of (Some (Cut fault)) = 3
+status_of (Some (Missing input)) = missing_status input
+status_of (Some (Delays fault)) = 4
+status_of (Some (UnknownStop which)) = 5
+status_of (Some (Limit kind count)) = 6
+status_of (Some (Read input)) = 7
+status_of (Some Write) = 8
+status_of (Some NoMemory) = 9
+status_of (Some (GraphFile fault)) = 10
+status_of (Some (Replay fault)) = 11
+
+-- what a line calls a file
+abbrev pub input_name : Input → List ℕ
+input_name (input.Feed table) = file_name table
+input_name input.Cut = codes "cut file"
+input_name input.Delays = codes "delay file"
+input_name input.Graph = codes "graph file"
+
+-- the file that cannot be read, where the fault is of this kind
+abbrev pub unread_of : Fault → Option Input
+unread_of (Words fault) = None
+unread_of (Feed fault) = None
+unread_of (Cut fault) = None
+unread_of (Missing input) = None
+unread_of (Delays fault) = None
+unread_of (UnknownStop which) = None
+unread_of (Limit kind count) = None
+unread_of (Read input) = Some input
+unread_of NoSafe = None
+unread_of (GraphFile fault) = None
+unread_of (Replay fault) = None
+unread_of Write = None
+unread_of NoMemory = None
+
+-- whether the two inputs are one
+abbrev pub is_input : Input → Input → Bool
+is_input (input.Feed other) (input.Feed table) = rank_of other == rank_of table
+is_input (input.Feed other) input.Cut = false
+is_input (input.Feed other) input.Delays = false
+is_input (input.Feed other) input.Graph = false
+is_input input.Cut (input.Feed table) = false
+is_input input.Cut input.Cut = true
+is_input input.Cut input.Delays = false
+is_input input.Cut input.Graph = false
+is_input input.Delays (input.Feed table) = false
+is_input input.Delays input.Cut = false
+is_input input.Delays input.Delays = true
+is_input input.Delays input.Graph = false
+is_input input.Graph (input.Feed table) = false
+is_input input.Graph input.Cut = false
+is_input input.Graph input.Delays = false
+is_input input.Graph input.Graph = true
+
+-- whether this file is the one that cannot be read
+abbrev pub is_unread : Option Input → Input → Bool
+is_unread None input = false
+is_unread (Some other) input = is_input other input
+
+-- where the fault is that a file cannot be read, it is this file
+abbrev pub MayBeUnread : Input → Fault → Type 0
+MayBeUnread input (Words fault) = Unit {0}
+MayBeUnread input (Feed fault) = Unit {0}
+MayBeUnread input (Cut fault) = Unit {0}
+MayBeUnread input (Missing file) = Unit {0}
+MayBeUnread input (Delays fault) = Unit {0}
+MayBeUnread input (UnknownStop which) = Unit {0}
+MayBeUnread input (Limit kind count) = Unit {0}
+MayBeUnread input (Read other) = other ≡ input
+MayBeUnread input NoSafe = Unit {0}
+MayBeUnread input (GraphFile fault) = Unit {0}
+MayBeUnread input (Replay fault) = Unit {0}
+MayBeUnread input Write = Unit {0}
+MayBeUnread input NoMemory = Unit {0}
+
+-- no file failed to be read, and the answer was written
+abbrev pub IsUndisturbed : Option Fault → Type 0
+IsUndisturbed fault = ((input : Input) → fault ≢ Some (Read input)) × (fault ≢ Some Write)
+
+-- there was no memory, or this is the fault that holds first, where no file but that of the fault is unread
+abbrev pub IsFirst : (Option Input → Option Fault) → Fault → Type 0
+IsFirst first fault = fault ≢ NoMemory → first (unread_of fault) ≡ Some fault

@@ -1,0 +1,176 @@
+-- The lines that tell the faults.
+use Rattle.std.specs.Prelude.{ℕ, List, ◌++◌, codes, decimal}
+use Rattle.clock_text.specs.Civil.{moment_text}
+use Rattle.csv_rows.specs.Columns.{name_of}
+use Rattle.csv_rows.specs.FeedTables.{file_name}
+use Rattle.csv_rows.specs.declared.feed_tables.FeedFault.{FeedFault}
+use Rattle.csv_rows.specs.declared.feed_tables.FeedFault.TheVariants as feed
+use Rattle.command_line.specs.declared.job.WordsFault.{WordsFault}
+use Rattle.command_line.specs.declared.job.WordsFault.TheVariants as words
+use Rattle.command_line.specs.Options.{option_word}
+use Rattle.cut_file.specs.declared.faults.CutFault.{CutFault}
+use Rattle.cut_file.specs.declared.faults.CutFault.TheVariants as cut
+use Rattle.delay_table.specs.declared.faults.ClassName.{ClassName}
+use Rattle.delay_table.specs.declared.faults.ClassName.TheVariants.{Any, Route}
+use Rattle.delay_table.specs.declared.faults.DelayFault.{DelayFault}
+use Rattle.delay_table.specs.declared.faults.DelayFault.TheVariants as delay
+use Rattle.plan_model.specs.NameLists.{NameLists}
+use Rattle.graph_text.specs.declared.reader.TextFault.{TextFault}
+use Rattle.graph_text.specs.declared.reader.TextFault.TheVariants as text
+use Rattle.graph_text.specs.Texts.{place_name}
+use Rattle.trip_replay.specs.declared.ReplayFault.{ReplayFault}
+use Rattle.trip_replay.specs.declared.ReplayFault.TheVariants as replay
+use Rattle.fault_lines.specs.declared.faults.Which.TheVariants as which
+use Rattle.fault_lines.specs.declared.faults.LimitKind.{LimitKind}
+use Rattle.fault_lines.specs.declared.faults.LimitKind.TheVariants.{Bytes, Rows, CutRows, Connections}
+use Rattle.fault_lines.specs.declared.faults.Fault.{Fault}
+use Rattle.fault_lines.specs.declared.faults.Fault.TheVariants.{Words, Feed, Cut, Missing, Delays, UnknownStop, Limit, Read, NoSafe, GraphFile, Replay, Write, NoMemory}
+use Rattle.fault_lines.specs.Faults.{input_name}
+
+abbrev pub words_text : WordsFault → List ℕ
+words_text words.Line = codes "words refused"
+words_text words.UnknownCommand = codes "unknown command"
+words_text (words.NotUsed option) = codes "option " ++ option_word option ++ codes " is not used here"
+words_text (words.Missing option) = codes "missing option " ++ option_word option
+words_text (words.BadValue option) = codes "bad value of " ++ option_word option
+
+abbrev pub feed_text : FeedFault → List ℕ
+feed_text (feed.MissingTable table) = file_name table ++ codes " is missing"
+feed_text (feed.MissingColumn table column) = file_name table ++ (codes " has no column " ++ name_of column)
+feed_text (feed.BadField table line column) = file_name table ++ (codes " line " ++ (decimal line ++ (codes ": bad " ++ name_of column)))
+feed_text (feed.UnknownKey table line column) = file_name table ++ (codes " line " ++ (decimal line ++ (codes ": unknown " ++ name_of column)))
+feed_text (feed.DuplicateKey table line) = file_name table ++ (codes " line " ++ (decimal line ++ codes ": repeated key"))
+feed_text (feed.BackwardTime line) = codes "stop_times.txt line " ++ (decimal line ++ codes ": time goes back")
+feed_text feed.FrequencyRows = codes "frequencies.txt has rows"
+feed_text (feed.Read table) = codes "cannot read " ++ file_name table
+feed_text (feed.TooLong table) = file_name table ++ codes " is too long"
+feed_text (feed.TooManyRows table count) = file_name table ++ (codes " has too many rows: " ++ decimal count)
+feed_text feed.NoMemory = codes "out of memory"
+
+abbrev pub cut_text : CutFault → List ℕ
+cut_text (cut.MissingColumn column) = codes "cut file has no column " ++ name_of column
+cut_text (cut.TooManyRows count) = codes "cut file has too many rows: " ++ decimal count
+cut_text (cut.BadField line column) = codes "cut file line " ++ (decimal line ++ (codes ": bad " ++ name_of column))
+cut_text (cut.DuplicateStep line) = codes "cut file line " ++ decimal line ++ codes ": repeated step"
+cut_text (cut.Backward line) = codes "cut file line " ++ decimal line ++ codes ": time goes back"
+cut_text (cut.Broken line) = codes "cut file line " ++ decimal line ++ codes ": run is broken"
+cut_text cut.NoMemory = codes "out of memory"
+
+abbrev pub class_text : ClassName → List ℕ
+class_text Any = codes "*"
+class_text (Route route) = decimal route
+
+abbrev pub delay_text : DelayFault → List ℕ
+delay_text (delay.MissingColumn column) = codes "delay file has no column " ++ name_of column
+delay_text (delay.BadField line) = codes "delay file line " ++ decimal line ++ codes ": bad field"
+delay_text (delay.TooManyRows class) = codes "delay class " ++ class_text class ++ codes " has more than 64 rows"
+delay_text (delay.NotRising line) = codes "delay file line " ++ decimal line ++ codes ": delay does not rise"
+delay_text (delay.WeightSum class sum) = codes "delay class " ++ class_text class ++ codes " weights sum to " ++ decimal sum
+delay_text delay.NoDefault = codes "delay class * is missing"
+delay_text delay.NoMemory = codes "out of memory"
+
+abbrev pub graph_text : TextFault → List ℕ
+graph_text (text.Row line) = codes "graph file line " ++ (decimal line ++ codes ": bad row")
+graph_text (text.UnknownName line) = codes "graph file line " ++ (decimal line ++ codes ": unknown name")
+graph_text (text.NotRising line) = codes "graph file line " ++ (decimal line ++ codes ": not rising")
+graph_text (text.NoLeg line) = codes "graph file line " ++ (decimal line ++ codes ": does not agree")
+graph_text (text.OtherQuery line) = codes "graph file line " ++ (decimal line ++ codes ": other query")
+graph_text text.NoMemory = codes "out of memory"
+
+-- but for the place and the moment where a trip is stuck
+abbrev pub replay_text : ReplayFault → List ℕ
+replay_text (replay.NotADelay number) = codes "late " ++ (decimal number ++ codes " is not a delay")
+replay_text (replay.TooFew ridden) = codes "too few delays: " ++ (decimal ridden ++ codes " ridden")
+replay_text (replay.TooMany ridden) = codes "too many delays: " ++ (decimal ridden ++ codes " ridden")
+replay_text (replay.Stuck place moment) = codes "stuck"
+replay_text replay.NoMemory = codes "out of memory"
+
+abbrev pub limit_text : LimitKind → ℕ → List ℕ
+limit_text (Bytes input) count = input_name input ++ codes " is too long"
+limit_text (Rows table) count = file_name table ++ (codes " has too many rows: " ++ decimal count)
+limit_text CutRows count = codes "cut file has too many rows: " ++ decimal count
+limit_text Connections count = codes "too many connections: " ++ decimal count
+
+-- what is told of a fault, but for the place and the moment where a trip is stuck
+abbrev pub plain_text : Fault → List ℕ
+plain_text (Words fault) = words_text fault
+plain_text (Feed fault) = feed_text fault
+plain_text (Cut fault) = cut_text fault
+plain_text (Missing input) = input_name input ++ codes " is missing"
+plain_text (Delays fault) = delay_text fault
+plain_text (UnknownStop which.From) = codes "unknown stop of --from"
+plain_text (UnknownStop which.To) = codes "unknown stop of --to"
+plain_text (Limit kind count) = limit_text kind count
+plain_text (Read input) = codes "cannot read " ++ input_name input
+plain_text NoSafe = codes "no safe strategy"
+plain_text (GraphFile fault) = graph_text fault
+plain_text (Replay fault) = replay_text fault
+plain_text Write = codes "cannot write"
+plain_text NoMemory = codes "out of memory"
+
+-- what is told of a fault of a replay, where these are the names of the timetable
+abbrev pub named_replay_text : NameLists → ReplayFault → List ℕ
+named_replay_text names (replay.NotADelay number) = replay_text (replay.NotADelay number)
+named_replay_text names (replay.TooFew ridden) = replay_text (replay.TooFew ridden)
+named_replay_text names (replay.TooMany ridden) = replay_text (replay.TooMany ridden)
+named_replay_text names (replay.Stuck place moment) = codes "stuck at " ++ (place_name names place.0 ++ (codes " at " ++ moment_text moment.0))
+named_replay_text names replay.NoMemory = replay_text replay.NoMemory
+
+-- what is told of a fault, where these are the names of the timetable
+abbrev pub fault_text : NameLists → Fault → List ℕ
+fault_text names (Words fault) = plain_text (Words fault)
+fault_text names (Feed fault) = plain_text (Feed fault)
+fault_text names (Cut fault) = plain_text (Cut fault)
+fault_text names (Missing input) = plain_text (Missing input)
+fault_text names (Delays fault) = plain_text (Delays fault)
+fault_text names (UnknownStop which) = plain_text (UnknownStop which)
+fault_text names (Limit kind count) = plain_text (Limit kind count)
+fault_text names (Read input) = plain_text (Read input)
+fault_text names NoSafe = plain_text NoSafe
+fault_text names (GraphFile fault) = plain_text (GraphFile fault)
+fault_text names (Replay fault) = named_replay_text names fault
+fault_text names Write = plain_text Write
+fault_text names NoMemory = plain_text NoMemory
+
+-- the line of a fault
+abbrev pub line_of : NameLists → Fault → List ℕ
+line_of names fault = codes "meat: " ++ (fault_text names fault ++ codes "\n")
+
+-- its line is made where it is told
+abbrev pub IsFormatted : Fault → Type 0
+IsFormatted (Words fault) = Unit {0}
+IsFormatted (Feed fault) = Unit {0}
+IsFormatted (Cut fault) = Unit {0}
+IsFormatted (Missing input) = Unit {0}
+IsFormatted (Delays fault) = Unit {0}
+IsFormatted (UnknownStop which) = Unit {0}
+IsFormatted (Limit kind count) = Unit {0}
+IsFormatted (Read input) = ⊥
+IsFormatted NoSafe = Unit {0}
+IsFormatted (GraphFile fault) = Unit {0}
+IsFormatted (Replay fault) = Unit {0}
+IsFormatted Write = ⊥
+IsFormatted NoMemory = ⊥
+
+-- its line names no place
+abbrev pub IsNamelessReplay : ReplayFault → Type 0
+IsNamelessReplay (replay.NotADelay number) = Unit {0}
+IsNamelessReplay (replay.TooFew ridden) = Unit {0}
+IsNamelessReplay (replay.TooMany ridden) = Unit {0}
+IsNamelessReplay (replay.Stuck place moment) = ⊥
+IsNamelessReplay replay.NoMemory = Unit {0}
+
+abbrev pub IsNameless : Fault → Type 0
+IsNameless (Words fault) = Unit {0}
+IsNameless (Feed fault) = Unit {0}
+IsNameless (Cut fault) = Unit {0}
+IsNameless (Missing input) = Unit {0}
+IsNameless (Delays fault) = Unit {0}
+IsNameless (UnknownStop which) = Unit {0}
+IsNameless (Limit kind count) = Unit {0}
+IsNameless (Read input) = Unit {0}
+IsNameless NoSafe = Unit {0}
+IsNameless (GraphFile fault) = Unit {0}
+IsNameless (Replay fault) = IsNamelessReplay fault
+IsNameless Write = Unit {0}
+IsNameless NoMemory = Unit {0}

@@ -1,0 +1,123 @@
+//! Why a run gives no answer.
+ghost use Rattle.std.specs.Prelude.{◌≡◌, Some};
+ghost use Rattle.fault_lines.specs.Faults.{status_of, missing_status, input_name};
+
+use command_line::WordsFault;
+use csv_rows::{FeedFault, Table};
+use cut_file::CutFault;
+use delay_table::DelayFault;
+use graph_text::TextFault;
+use trip_replay::ReplayFault;
+
+/// A file that a command reads.
+#[derive(Clone, Copy, Debug, PartialEq, Eq)]
+pub enum Input {
+    /// The file of a table of the feed.
+    Feed(Table),
+    /// The cut file.
+    Cut,
+    /// The delay file.
+    Delays,
+    /// The graph file.
+    Graph,
+}
+
+/// A stop that the words name.
+#[derive(Clone, Copy, Debug, PartialEq, Eq)]
+pub enum Which {
+    /// That of `--from`.
+    From,
+    /// That of `--to`.
+    To,
+}
+
+/// What there was too much of.
+#[derive(Clone, Copy, Debug, PartialEq, Eq)]
+pub enum LimitKind {
+    /// Bytes of a file.
+    Bytes(Input),
+    /// Rows of a table of the feed.
+    Rows(Table),
+    /// Rows of the cut file.
+    CutRows,
+    /// Connections of the window.
+    Connections,
+}
+
+/// Why a run gives no answer.
+#[derive(Clone, Copy, Debug, PartialEq, Eq)]
+pub enum Fault {
+    /// The words are refused.
+    Words(WordsFault),
+    /// A table of the feed is faulty.
+    Feed(FeedFault),
+    /// The cut file is faulty.
+    Cut(CutFault),
+    /// A file is not there.
+    Missing(Input),
+    /// The delay file is faulty.
+    Delays(DelayFault),
+    /// No stop has this name.
+    UnknownStop(Which),
+    /// There is more than is taken, and how much.
+    Limit(LimitKind, u64),
+    /// A file cannot be read.
+    Read(Input),
+    /// No strategy reaches the target by the deadline whatever the delays.
+    NoSafe,
+    /// The graph file is faulty.
+    GraphFile(TextFault),
+    /// The graph cannot be followed with these delays.
+    Replay(ReplayFault),
+    /// The answer cannot be written.
+    Write,
+    /// There is no memory.
+    NoMemory,
+}
+
+impl Input {
+    /// What a line calls the file.
+    pub fn name(self) -> &'static str
+        ensures { result.now ≡ input_name self }
+    {
+        match self {
+            Input::Feed(table) => table.file_name(),
+            Input::Cut => "cut file",
+            Input::Delays => "delay file",
+            Input::Graph => "graph file",
+        }
+    }
+
+    /// The number that a process ends with where the file is missing.
+    fn missing_status(self) -> u8
+        ensures { result ≡ missing_status self }
+    {
+        match self {
+            Input::Feed(_) | Input::Cut => 3,
+            Input::Delays => 4,
+            Input::Graph => 10,
+        }
+    }
+}
+
+impl Fault {
+    /// The number that a process ends with.
+    pub fn status(self) -> u8
+        ensures { result ≡ status_of (Some self) }
+    {
+        match self {
+            Fault::NoSafe => 1,
+            Fault::Words(_) => 2,
+            Fault::Feed(_) | Fault::Cut(_) => 3,
+            Fault::Missing(input) => input.missing_status(),
+            Fault::Delays(_) => 4,
+            Fault::UnknownStop(_) => 5,
+            Fault::Limit(_, _) => 6,
+            Fault::Read(_) => 7,
+            Fault::Write => 8,
+            Fault::NoMemory => 9,
+            Fault::GraphFile(_) => 10,
+            Fault::Replay(_) => 11,
+        }
+    }
+}

@@ -1,0 +1,330 @@
+//! The lines that tell the faults.
+ghost use Rattle.std.specs.Prelude.{◌≡◌, Some, IfSome, IfNone};
+ghost use Rattle.plan_model.specs.NameLists.{NameLists};
+ghost use Rattle.fault_lines.specs.Lines.{line_of, IsFormatted};
+
+use crate::faults::{Fault, Input, LimitKind, Which};
+use command_line::{WordsFault, option_word};
+use csv_rows::{FeedFault, Table};
+use cut_file::CutFault;
+use delay_table::{ClassName, DelayFault};
+use graph_text::TextFault;
+use std::fmt;
+use trip_replay::ReplayFault;
+
+/// The text of a fault of the words.
+#[derive(Clone, Copy)]
+struct WordsText(WordsFault);
+
+impl fmt::Display for WordsText {
+    ghost use Rattle.fault_lines.specs.Lines.{words_text};
+
+    ghost output = { λ t. Some (words_text t.0) };
+
+    fn fmt<W: fmt::Write>(&self, f: &mut fmt::Formatter<W>) -> fmt::Result {
+        match self.0 {
+            WordsFault::Line => write!(f, "words refused"),
+            WordsFault::UnknownCommand => write!(f, "unknown command"),
+            WordsFault::NotUsed(option) => {
+                let word = option_word(option);
+                write!(f, "option {word} is not used here")
+            }
+            WordsFault::Missing(option) => {
+                let word = option_word(option);
+                write!(f, "missing option {word}")
+            }
+            WordsFault::BadValue(option) => {
+                let word = option_word(option);
+                write!(f, "bad value of {word}")
+            }
+        }
+    }
+}
+
+/// The text of a fault of a feed.
+#[derive(Clone, Copy)]
+struct FeedText(FeedFault);
+
+impl fmt::Display for FeedText {
+    ghost use Rattle.fault_lines.specs.Lines.{feed_text};
+
+    ghost output = { λ t. Some (feed_text t.0) };
+
+    fn fmt<W: fmt::Write>(&self, f: &mut fmt::Formatter<W>) -> fmt::Result {
+        match self.0 {
+            FeedFault::MissingTable(table) => {
+                let file = table.file_name();
+                write!(f, "{file} is missing")
+            }
+            FeedFault::MissingColumn(table, column) => {
+                let file = table.file_name();
+                let name = column.name();
+                write!(f, "{file} has no column {name}")
+            }
+            FeedFault::BadField(table, line, column) => {
+                let file = table.file_name();
+                let name = column.name();
+                write!(f, "{file} line {line}: bad {name}")
+            }
+            FeedFault::UnknownKey(table, line, column) => {
+                let file = table.file_name();
+                let name = column.name();
+                write!(f, "{file} line {line}: unknown {name}")
+            }
+            FeedFault::DuplicateKey(table, line) => {
+                let file = table.file_name();
+                write!(f, "{file} line {line}: repeated key")
+            }
+            FeedFault::BackwardTime(line) => {
+                write!(f, "stop_times.txt line {line}: time goes back")
+            }
+            FeedFault::FrequencyRows => write!(f, "frequencies.txt has rows"),
+            FeedFault::Read(table) => {
+                let file = table.file_name();
+                write!(f, "cannot read {file}")
+            }
+            FeedFault::TooLong(table) => {
+                let file = table.file_name();
+                write!(f, "{file} is too long")
+            }
+            FeedFault::TooManyRows(table, count) => {
+                let file = table.file_name();
+                write!(f, "{file} has too many rows: {count}")
+            }
+            FeedFault::NoMemory => write!(f, "out of memory"),
+        }
+    }
+}
+
+/// The text of a fault of the cut file.
+#[derive(Clone, Copy)]
+struct CutText(CutFault);
+
+impl fmt::Display for CutText {
+    ghost use Rattle.fault_lines.specs.Lines.{cut_text};
+
+    ghost output = { λ t. Some (cut_text t.0) };
+
+    fn fmt<W: fmt::Write>(&self, f: &mut fmt::Formatter<W>) -> fmt::Result {
+        match self.0 {
+            CutFault::MissingColumn(column) => {
+                let name = column.name();
+                write!(f, "cut file has no column {name}")
+            }
+            CutFault::TooManyRows(count) => write!(f, "cut file has too many rows: {count}"),
+            CutFault::BadField(line, column) => {
+                let name = column.name();
+                write!(f, "cut file line {line}: bad {name}")
+            }
+            CutFault::DuplicateStep(line) => write!(f, "cut file line {line}: repeated step"),
+            CutFault::Backward(line) => write!(f, "cut file line {line}: time goes back"),
+            CutFault::Broken(line) => write!(f, "cut file line {line}: run is broken"),
+            CutFault::NoMemory => write!(f, "out of memory"),
+        }
+    }
+}
+
+/// The text of a class.
+#[derive(Clone, Copy)]
+struct ClassText(ClassName);
+
+impl fmt::Display for ClassText {
+    ghost use Rattle.fault_lines.specs.Lines.{class_text};
+
+    ghost output = { λ t. Some (class_text t.0) };
+
+    fn fmt<W: fmt::Write>(&self, f: &mut fmt::Formatter<W>) -> fmt::Result {
+        match self.0 {
+            ClassName::Any => write!(f, "*"),
+            ClassName::Route(route) => write!(f, "{route}"),
+        }
+    }
+}
+
+/// The text of a fault of the delay file.
+#[derive(Clone, Copy)]
+struct DelayText(DelayFault);
+
+impl fmt::Display for DelayText {
+    ghost use Rattle.fault_lines.specs.Lines.{delay_text};
+
+    ghost output = { λ t. Some (delay_text t.0) };
+
+    fn fmt<W: fmt::Write>(&self, f: &mut fmt::Formatter<W>) -> fmt::Result {
+        match self.0 {
+            DelayFault::MissingColumn(column) => {
+                let name = column.name();
+                write!(f, "delay file has no column {name}")
+            }
+            DelayFault::BadField(line) => write!(f, "delay file line {line}: bad field"),
+            DelayFault::TooManyRows(class) => {
+                let class = ClassText(class);
+                write!(f, "delay class {class} has more than 64 rows")
+            }
+            DelayFault::NotRising(line) => {
+                write!(f, "delay file line {line}: delay does not rise")
+            }
+            DelayFault::WeightSum(class, sum) => {
+                let class = ClassText(class);
+                write!(f, "delay class {class} weights sum to {sum}")
+            }
+            DelayFault::NoDefault => write!(f, "delay class * is missing"),
+            DelayFault::NoMemory => write!(f, "out of memory"),
+        }
+    }
+}
+
+/// The text of a fault of the graph file.
+#[derive(Clone, Copy)]
+struct GraphText(TextFault);
+
+impl fmt::Display for GraphText {
+    ghost use Rattle.fault_lines.specs.Lines.{graph_text};
+
+    ghost output = { λ t. Some (graph_text t.0) };
+
+    fn fmt<W: fmt::Write>(&self, f: &mut fmt::Formatter<W>) -> fmt::Result {
+        match self.0 {
+            TextFault::Row(line) => write!(f, "graph file line {line}: bad row"),
+            TextFault::UnknownName(line) => write!(f, "graph file line {line}: unknown name"),
+            TextFault::NotRising(line) => write!(f, "graph file line {line}: not rising"),
+            TextFault::NoLeg(line) => write!(f, "graph file line {line}: does not agree"),
+            TextFault::OtherQuery(line) => write!(f, "graph file line {line}: other query"),
+            TextFault::NoMemory => write!(f, "out of memory"),
+        }
+    }
+}
+
+/// The text of a fault of a replay, but for the place and the moment where a trip is stuck.
+#[derive(Clone, Copy)]
+struct ReplayText(ReplayFault);
+
+impl fmt::Display for ReplayText {
+    ghost use Rattle.fault_lines.specs.Lines.{replay_text};
+
+    ghost output = { λ t. Some (replay_text t.0) };
+
+    fn fmt<W: fmt::Write>(&self, f: &mut fmt::Formatter<W>) -> fmt::Result {
+        match self.0 {
+            ReplayFault::NotADelay(number) => write!(f, "late {number} is not a delay"),
+            ReplayFault::TooFew(ridden) => write!(f, "too few delays: {ridden} ridden"),
+            ReplayFault::TooMany(ridden) => write!(f, "too many delays: {ridden} ridden"),
+            ReplayFault::Stuck(_, _) => write!(f, "stuck"),
+            ReplayFault::NoMemory => write!(f, "out of memory"),
+        }
+    }
+}
+
+/// The text of too much of something.
+#[derive(Clone, Copy)]
+struct LimitText(LimitKind, u64);
+
+impl fmt::Display for LimitText {
+    ghost use Rattle.fault_lines.specs.Lines.{limit_text};
+
+    ghost output = { λ t. Some (limit_text t.0 t.1) };
+
+    fn fmt<W: fmt::Write>(&self, f: &mut fmt::Formatter<W>) -> fmt::Result {
+        let count = self.1;
+        match self.0 {
+            LimitKind::Bytes(input) => {
+                let name = input.name();
+                write!(f, "{name} is too long")
+            }
+            LimitKind::Rows(table) => {
+                let file = table.file_name();
+                write!(f, "{file} has too many rows: {count}")
+            }
+            LimitKind::CutRows => write!(f, "cut file has too many rows: {count}"),
+            LimitKind::Connections => write!(f, "too many connections: {count}"),
+        }
+    }
+}
+
+/// The text of a fault, but for the place and the moment where a trip is stuck.
+#[derive(Clone, Copy)]
+pub struct FaultText(pub Fault);
+
+impl fmt::Display for FaultText {
+    ghost use Rattle.fault_lines.specs.Lines.{plain_text};
+
+    ghost output = { λ t. Some (plain_text t.0) };
+
+    fn fmt<W: fmt::Write>(&self, f: &mut fmt::Formatter<W>) -> fmt::Result {
+        match self.0 {
+            Fault::Words(fault) => {
+                let text = WordsText(fault);
+                write!(f, "{text}")
+            }
+            Fault::Feed(fault) => {
+                let text = FeedText(fault);
+                write!(f, "{text}")
+            }
+            Fault::Cut(fault) => {
+                let text = CutText(fault);
+                write!(f, "{text}")
+            }
+            Fault::Missing(input) => {
+                let name = input.name();
+                write!(f, "{name} is missing")
+            }
+            Fault::Delays(fault) => {
+                let text = DelayText(fault);
+                write!(f, "{text}")
+            }
+            Fault::UnknownStop(Which::From) => write!(f, "unknown stop of --from"),
+            Fault::UnknownStop(Which::To) => write!(f, "unknown stop of --to"),
+            Fault::Limit(kind, count) => {
+                let text = LimitText(kind, count);
+                write!(f, "{text}")
+            }
+            Fault::Read(input) => {
+                let name = input.name();
+                write!(f, "cannot read {name}")
+            }
+            Fault::NoSafe => write!(f, "no safe strategy"),
+            Fault::GraphFile(fault) => {
+                let text = GraphText(fault);
+                write!(f, "{text}")
+            }
+            Fault::Replay(fault) => {
+                let text = ReplayText(fault);
+                write!(f, "{text}")
+            }
+            Fault::Write => write!(f, "cannot write"),
+            Fault::NoMemory => write!(f, "out of memory"),
+        }
+    }
+}
+
+/// The line of an input that cannot be read, which must be told where there is no memory.
+fn unread_line(input: Input) -> &'static str
+    ensures { (names : NameLists) → result.now ≡ line_of names (Fault.Read input) }
+{
+    match input {
+        Input::Feed(Table::Stops) => "meat: cannot read stops.txt\n",
+        Input::Feed(Table::Routes) => "meat: cannot read routes.txt\n",
+        Input::Feed(Table::Trips) => "meat: cannot read trips.txt\n",
+        Input::Feed(Table::StopTimes) => "meat: cannot read stop_times.txt\n",
+        Input::Feed(Table::Frequencies) => "meat: cannot read frequencies.txt\n",
+        Input::Feed(Table::Calendar) => "meat: cannot read calendar.txt\n",
+        Input::Feed(Table::CalendarDates) => "meat: cannot read calendar_dates.txt\n",
+        Input::Feed(Table::Transfers) => "meat: cannot read transfers.txt\n",
+        Input::Cut => "meat: cannot read cut file\n",
+        Input::Delays => "meat: cannot read delay file\n",
+        Input::Graph => "meat: cannot read graph file\n",
+    }
+}
+
+/// The lines that must be told where there is no memory.
+pub fn known_line(fault: Fault) -> Option<&'static str>
+    ensures line { IfSome result (λ line. (names : NameLists) → line.now ≡ line_of names fault) }
+    ensures known { IfNone result (IsFormatted fault) }
+{
+    match fault {
+        Fault::Read(input) => Some(unread_line(input)),
+        Fault::Write => Some("meat: cannot write\n"),
+        Fault::NoMemory => Some("meat: out of memory\n"),
+        _ => None,
+    }
+}

@@ -1,0 +1,94 @@
+-- The causes of a step after others.
+use Rattle.std.proofs.Common.{◌≡◌, ℕ, ◌<◌, ◌≤◌, List, Result, Ok, Err, None, arith, ⊎_elim, sym, subst}
+use Rattle.std.specs.Prelude.{IsErrOf, IfErr}
+use Rattle.std.proofs.lemmas.Bool.{cases_lt}
+use Rattle.file_ports.specs.Counts.{Rose}
+use Rattle.csv_rows.specs.Loading.{HasFeedCause, HasFeedPathCause}
+use Rattle.fault_lines.specs.declared.faults.Input.{Input}
+use Rattle.fault_lines.specs.declared.faults.Fault.{Fault}
+use Rattle.fault_lines.specs.declared.faults.Fault.TheVariants.{Read}
+use Rattle.fault_lines.specs.Faults.{unread_of, MayBeUnread}
+use Rattle.journey_problem.specs.Files.{HasCauses}
+
+-- whose fault is not that a file cannot be read
+not_read : {T : Type 0} (r : Result T Fault) → IfErr r (λ fault. unread_of fault ≡ None) → (input : Input) → IsErrOf r (Read input) → {A : Type 0} → A
+not_read (Ok x) quiet input is = absurd (cc)
+not_read (Err fault) quiet input is = let same : fault ≡ Read input = (cc) in absurd (cc)
+
+-- a step that reads nothing, after a folder and a file were read
+pub causes-after : {S T U : Type 0} {told later : Type 0} {folder : List ℕ} {path first : Input → List ℕ} {before middle now : ℕ} {before_of middle_of now_of : List ℕ → ℕ}
+    (x : S) (y : T) (r : Result U Fault) →
+    HasFeedCause before middle (Ok x) → HasFeedPathCause told folder before_of middle_of (Ok x) →
+    HasCauses later first middle now middle_of now_of (Ok y) → IfErr r (λ fault. unread_of fault ≡ None) → HasCauses told path before now before_of now_of r
+causes-after {before = before} {middle = middle} {now = now} x y r f g h quiet = record {
+  later = omega (arith, f.later, h.later);
+  later_of = λ p. omega (arith, g.later p, h.later_of p);
+  read = λ input is. not_read r quiet input is;
+  read_path = λ t input is. not_read r quiet input is;
+  grew = λ less. ⊎_elim
+      (λ (rising : before < middle). absurd (f.grew rising))
+      (λ (flat : middle ≤ before). let both = (h.grew (omega arith)).1 in absurd (cc))
+      (cases_lt before middle);
+}
+
+rose_from : (a b c : ℕ) → a ≤ b → Rose b c → Rose a c
+rose_from a b c le rose = omega (arith, le, rose)
+
+err_same : {T U : Type 0} (a b : Fault) → IsErrOf {T = T} (Err a) b → IsErrOf {T = U} (Err a) b
+err_same a b is = let same : a ≡ b = (cc) in cc
+
+-- a fault as that of another answer
+pub causes-as : {T U : Type 0} {told : Type 0} {path : Input → List ℕ} {before now : ℕ} {before_of now_of : List ℕ → ℕ} (fault : Fault) →
+    HasCauses {T = T} told path before now before_of now_of (Err fault) → HasCauses {T = U} told path before now before_of now_of (Err fault)
+causes-as {T = T} {U = U} fault h = record {
+  later = h.later;
+  later_of = h.later_of;
+  read = λ input is. h.read input (err_same {T = U} {U = T} fault (Read input) is);
+  read_path = λ t input is. h.read_path t input (err_same {T = U} {U = T} fault (Read input) is);
+  grew = λ less. ((h.grew less).0, err_same {T = T} {U = U} fault (Read (h.grew less).0) (h.grew less).1);
+}
+
+-- an answer that is a value has no cause, whatever the paths
+pub causes-path : {T : Type 0} {told : Type 0} {path other : Input → List ℕ} {before now : ℕ} {before_of now_of : List ℕ → ℕ} (x : T) →
+    HasCauses {T = T} told path before now before_of now_of (Ok x) → HasCauses {T = T} told other before now before_of now_of (Ok x)
+causes-path x h = record {
+  later = h.later;
+  later_of = h.later_of;
+  read = λ input is. absurd (cc);
+  read_path = λ t input is. absurd (cc);
+  grew = h.grew;
+}
+
+-- a step that reads nothing
+pub causes-quiet : {T U : Type 0} {told : Type 0} {path : Input → List ℕ} {before now : ℕ} {before_of now_of : List ℕ → ℕ} (x : T) (r : Result U Fault) →
+    HasCauses told path before now before_of now_of (Ok x) → IfErr r (λ fault. unread_of fault ≡ None) → HasCauses told path before now before_of now_of r
+causes-quiet x r h quiet = record {
+  later = h.later;
+  later_of = h.later_of;
+  read = λ input is. not_read r quiet input is;
+  read_path = λ t input is. not_read r quiet input is;
+  grew = λ less. let both = (h.grew less).1 in absurd (cc);
+}
+
+-- the file that cannot be read is this one
+own_file : {T : Type 0} (r : Result T Fault) (mine file : Input) → IfErr r (MayBeUnread mine) → IsErrOf r (Read file) → file ≡ mine
+own_file (Ok x) mine file own is = absurd (cc)
+own_file (Err fault) mine file own is = let same : fault ≡ Read file = (cc) in subst (λ (f : Fault). MayBeUnread mine f) same own
+
+-- a file after others
+pub causes-then : {T U : Type 0} {told later : Type 0} {path : Input → List ℕ} {before middle now : ℕ} {before_of middle_of now_of : List ℕ → ℕ} (x : T) (mine : Input)
+    (r : Result U Fault) → (told → later) →
+    HasCauses told path before middle before_of middle_of (Ok x) → HasCauses later (λ other. path mine) middle now middle_of now_of r → IfErr r (MayBeUnread mine) → HasCauses
+    told path before now before_of now_of r
+causes-then {path = path} {before = before} {middle = middle} {now = now} {before_of = before_of} {middle_of = middle_of} {now_of = now_of} x mine r tells g h own = record {
+  later = omega (arith, g.later, h.later);
+  later_of = λ p. omega (arith, g.later_of p, h.later_of p);
+  read = λ input is. rose_from before middle now g.later (h.read input is);
+  read_path = λ t input is.
+      let P : Input → Type 0 = λ i. Rose (before_of (path i)) (now_of (path i)) in
+      subst P (sym (own_file r mine input own is)) (rose_from (before_of (path mine)) (middle_of (path mine)) (now_of (path mine)) (g.later_of (path mine)) (h.read_path (tells t) input is));
+  grew = λ less. ⊎_elim
+      (λ (rising : before < middle). let both = (g.grew rising).1 in absurd (cc))
+      (λ (flat : middle ≤ before). h.grew (omega arith))
+      (cases_lt before middle);
+}

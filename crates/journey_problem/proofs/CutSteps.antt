@@ -1,0 +1,68 @@
+-- The steps of reading a cut file, put together.
+use Rattle.std.proofs.Common.{◌≡◌, ℕ, List, Option, None, Result, Ok, Err, sym, ap, ◌∙◌}
+use Rattle.std.specs.Prelude.{◌≤◌, IfOk, OnOk}
+use Rattle.file_ports.specs.Ports.{Folder, file_at}
+use Rattle.csv_rows.specs.First.{or_else}
+use Rattle.csv_rows.specs.Limits.{standard}
+use Rattle.csv_rows.specs.Tables.{row_count, table_of}
+use Rattle.csv_rows.specs.declared.limits.Limits.{Limits}
+use Rattle.cut_file.specs.Cut.{place_names}
+use Rattle.cut_file.specs.CutNetwork.{IsCutNetwork}
+use Rattle.cut_file.specs.Faults.{first_fault as first_cut_fault}
+use Rattle.cut_file.specs.Read.{Cut as CutParts, IsRead}
+use Rattle.delay_table.specs.DelayLists.{DelayLists}
+use Rattle.delay_table.specs.Slots.{AreDelays}
+use Rattle.plan_model.specs.Network.{IsValid}
+use Rattle.command_line.specs.Jobs.{WantedJourney}
+use Rattle.fault_lines.specs.declared.faults.Fault.{Fault}
+use Rattle.journey_problem.specs.declared.problem.Problem.{Problem}
+use Rattle.journey_problem.specs.Files.{Records}
+use Rattle.journey_problem.specs.CutProblems.{cut_fault, cut_records, delay_fault, places_in, stop_fault, cut_problem_fault, IsCutOf, IsCutOfSome, AreDelaysOf, IsNamed, IsCutProblem, HasCutTimetable}
+
+-- a table that was read with no fault
+pub cut_of_some : (table : Records) (parts : CutParts) (text : List ℕ) (limit : ℕ) → table ≡ table_of text → limit ≤ standard.cut_rows
+    → first_cut_fault table limit ≡ None → IsRead table parts.runs parts.places parts.rows parts.keys → IsCutOfSome parts
+cut_of_some table parts text limit is few none read = (table, record { text = text; limit = limit; is_table = is; few = few; none = none }, read)
+
+-- the network of a table that was read
+abbrev pub IsNetworkOf : CutParts → DelayLists → Problem → Type 0
+IsNetworkOf cut lists p =
+    (table : Records) → IsRead table cut.runs cut.places cut.rows cut.keys → IsCutNetwork table lists p.network p.names
+
+module _ (j : WantedJourney) (cut : CutParts) (lists : DelayLists) where
+  -- the timetable of a cut file is that of some cut file
+  pub cut_timetable : (r : Result Problem Fault) → IsCutOfSome cut → AreDelays lists → IfOk r (IsNetworkOf cut lists)
+      → IfOk r (λ p. IsValid p.network) → IfOk r (λ p. IsNamed p.names p.source.0 j.from) → IfOk r (λ p. IsNamed p.names p.target.0 j.to)
+      → IfOk r (HasCutTimetable j)
+  cut_timetable (Ok p) (table, is, read) are network valid source target =
+      (table, lists, is, are, record { is_network = network table read; valid = valid; source = source; target = target })
+  cut_timetable (Err fault) some are network valid source target = tt
+
+  module _ (limits : Limits) (files : Folder) (path : List ℕ) where
+    no_fault : (table : Records) → cut_records limits None (file_at files path) ≡ Ok table → cut.places ≡ place_names table (row_count table)
+        → cut_fault limits (file_at files path) None ≡ None → delay_fault limits (file_at files j.delays) None ≡ None
+        → stop_fault cut.places j.from j.to ≡ None → cut_problem_fault limits files path j None ≡ None
+    no_fault table is places none delays stops =
+        let stop = stop_fault (places_in (cut_records limits None (file_at files path))) j.from j.to in
+        let named : stop ≡ None
+        = ap (λ (r : Result Records Fault). stop_fault (places_in r) j.from j.to) is
+        ∙ ap (λ (names : List (List ℕ)). stop_fault names j.from j.to) (sym places) ∙ stops in
+        ap (λ (o : Option Fault). or_else o (or_else (delay_fault limits (file_at files j.delays) None) stop)) none
+        ∙ ap (λ (o : Option Fault). or_else o stop) delays ∙ named
+
+    -- the problem of a cut file and a delay file
+    pub cut_file_problem : (r : Result Problem Fault)
+        → (cut_fault limits (file_at files path) None ≡ None) × IsCutOf limits (file_at files path) cut
+        → (delay_fault limits (file_at files j.delays) None ≡ None) × AreDelaysOf limits (file_at files j.delays) lists
+        → IfOk r (IsNetworkOf cut lists) → IfOk r (λ p. IsValid p.network)
+        → IfOk r (λ p. IsNamed p.names p.source.0 j.from) → IfOk r (λ p. IsNamed p.names p.target.0 j.to)
+        → OnOk r (stop_fault cut.places j.from j.to ≡ None) → IfOk r (IsCutProblem limits files path j)
+    cut_file_problem (Ok p) (none, (table, is, read)) (no_delays, are) network valid source target stops = record {
+      table = table;
+      lists = lists;
+      no_fault = no_fault table is read.place_names none no_delays stops;
+      is_table = is;
+      are_delays = are;
+      timetable = record { is_network = network table read; valid = valid; source = source; target = target };
+    }
+    cut_file_problem (Err fault) cut delays network valid source target stops = tt

@@ -1,0 +1,36 @@
+-- Faults of an input of a journey's timetable.
+use Rattle.std.proofs.Common.{◌≡◌, ℕ, ap}
+use Rattle.command_line.specs.Jobs.{WantedTimetable}
+use Rattle.fault_lines.specs.declared.faults.Input.{Input}
+use Rattle.fault_lines.specs.declared.faults.Input.TheVariants as input
+use Rattle.fault_lines.specs.declared.faults.LimitKind.TheVariants.{Bytes}
+use Rattle.fault_lines.specs.declared.faults.Fault.TheVariants.{Missing, Limit, Read}
+use Rattle.fault_lines.specs.Stages.{stage_of_input, IsEarlyStage, IsOfGraph}
+use Rattle.journey_problem.specs.EarlyFaults.{IsInputOf, IsEarly}
+
+-- it is read before the graph file
+early_stage : (timetable : WantedTimetable) (file : Input) → IsInputOf timetable file → IsEarlyStage (stage_of_input file)
+early_stage timetable (input.Feed table) own = tt
+early_stage timetable input.Cut own = tt
+early_stage timetable input.Delays own = tt
+early_stage timetable input.Graph own = absurd own
+
+module _ (timetable : WantedTimetable) (file : Input) (own : IsInputOf timetable file) where
+  pub early_read : IsEarly timetable (Read file)
+  early_read = record { stage = early_stage timetable file own; of_timetable = own; of_text = tt }
+
+  pub early_missing : IsEarly timetable (Missing file)
+  early_missing = record { stage = early_stage timetable file own; of_timetable = own; of_text = tt }
+
+  pub early_limit : (count : ℕ) → IsEarly timetable (Limit (Bytes file) count)
+  early_limit count = record { stage = early_stage timetable file own; of_timetable = own; of_text = tt }
+
+module _ (file : Input) (is : file ≡ input.Graph) where
+  pub graph_unread : IsOfGraph (Read file)
+  graph_unread = (ap (λ (i : Input). stage_of_input i) is, tt)
+
+  pub graph_missing : IsOfGraph (Missing file)
+  graph_missing = (ap (λ (i : Input). stage_of_input i) is, tt)
+
+  pub graph_limit : (count : ℕ) → IsOfGraph (Limit (Bytes file) count)
+  graph_limit count = (ap (λ (i : Input). stage_of_input i) is, tt)

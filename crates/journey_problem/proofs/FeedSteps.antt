@@ -1,0 +1,60 @@
+-- The steps of reading a feed, put together.
+use Rattle.std.proofs.Common.{◌≡◌, ℕ, List, Option, Some, None, Result, Ok, Err, inl, inr, subst}
+use Rattle.std.specs.Prelude.{◌≢◌, ◌≤◌, IfOk, IfErr, OnOk, IfSome}
+use Rattle.file_ports.specs.Ports.{Folder, file_at}
+use Rattle.csv_rows.specs.declared.limits.Limits.{Limits}
+use Rattle.change_times.specs.Transfers.{place_of_stop}
+use Rattle.connections.specs.Cut.{IsNetworkFrom}
+use Rattle.delay_table.specs.DelayLists.{DelayLists}
+use Rattle.delay_table.specs.Slots.{AreDelays}
+use Rattle.gtfs_tables.specs.Feeds.{IsSoundFeed}
+use Rattle.command_line.specs.Jobs.{WantedJourney}
+use Rattle.fault_lines.specs.declared.faults.Fault.{Fault}
+use Rattle.fault_lines.specs.declared.faults.Fault.TheVariants.{NoMemory}
+use Rattle.journey_problem.specs.declared.problem.Problem.{Problem}
+use Rattle.fault_lines.specs.Faults.{IsFirst}
+use Rattle.journey_problem.specs.CutProblems.{AreDelaysOf, delay_fault}
+use Rattle.journey_problem.specs.FeedProblems.{FolderParts, IsFolder, IsWindowFault, IsFeedProblem, IsFeedProblemFault, HasFeedTimetable, window_count}
+
+-- what holds of a told folder before and after a step that leaves it the same
+pub if_some_both : {A : Type 0} (o later : Option A) (P Q R : A → Type 0) → ((a : A) → P a → Q a → R a) → later ≡ o → IfSome o P → IfSome later Q → IfSome o R
+if_some_both None later P Q R f same p q = tt
+if_some_both (Some a) None P Q R f same p q = absurd (cc)
+if_some_both (Some a) (Some b) P Q R f same p q = let one : b ≡ a = (cc) in f a p (subst Q one q)
+
+-- a window of a feed is that of some feed
+pub feed_timetable : (horizon : ℕ) (j : WantedJourney) (h : FolderParts) (lists : DelayLists) (r : Result Problem Fault)
+    → IsSoundFeed h.feed → AreDelays lists
+    → IfOk r (λ p. IsNetworkFrom h.feed h.services h.changes lists j.start horizon p.network p.names)
+    → IfOk r (λ p. place_of_stop h.feed j.from ≡ Some p.source.0)
+    → IfOk r (λ p. place_of_stop h.feed j.to ≡ Some p.target.0)
+    → IfOk r (HasFeedTimetable horizon j)
+feed_timetable horizon j h lists (Ok p) sound are network source target = (h, lists, sound, are, record { is_network = network; source = source; target = target })
+feed_timetable horizon j h lists (Err fault) sound are network source target = tt
+
+module _ (limits : Limits) (files : Folder) (folder : List ℕ) (horizon : ℕ) (j : WantedJourney) (h : FolderParts) (is : IsFolder limits files folder h) where
+  pub after_folder : (fault : Fault) → IsFirst (delay_fault limits (file_at files j.delays)) fault → fault ≢ NoMemory → IsFeedProblemFault limits files folder horizon j fault
+  after_folder fault first other = inr (h, is, inl (first other))
+
+  module _ (lists : DelayLists) (sound : delay_fault limits (file_at files j.delays) None ≡ None) (are : AreDelaysOf limits (file_at files j.delays) lists) where
+    pub window_fault : (r : Result Problem Fault) → IfErr r (λ fault. fault ≢ NoMemory → IsWindowFault limits horizon j h fault)
+        → IfErr r (λ fault. fault ≢ NoMemory → IsFeedProblemFault limits files folder horizon j fault)
+    window_fault (Ok p) f = tt
+    window_fault (Err fault) f = λ other. inr (h, is, inr (sound, f other))
+
+    pub window_problem : (r : Result Problem Fault)
+        → IfOk r (λ p. IsNetworkFrom h.feed h.services h.changes lists j.start horizon p.network p.names)
+        → OnOk r (window_count horizon j h ≤ limits.connections)
+        → IfOk r (λ p. place_of_stop h.feed j.from ≡ Some p.source.0)
+        → IfOk r (λ p. place_of_stop h.feed j.to ≡ Some p.target.0)
+        → IfOk r (IsFeedProblem limits files folder horizon j)
+    window_problem (Ok p) network few source target = record {
+      parts = h;
+      lists = lists;
+      is_folder = is;
+      no_delay_fault = sound;
+      are_delays = are;
+      few = few;
+      timetable = record { is_network = network; source = source; target = target };
+    }
+    window_problem (Err fault) network few source target = tt

@@ -1,0 +1,16 @@
+pub mod Loads
+pub mod EarlyFacts
+pub mod StopNames
+pub mod Causes
+pub mod FeedSteps
+pub mod OneOrder
+pub mod OneCutNetwork
+pub mod DelayTypes
+pub mod OneCutProblem
+pub mod OneFeed
+pub mod OneWindow
+pub mod OneFeedProblem
+pub mod OneProblem
+pub mod NoFaults
+pub mod SameFiles
+pub mod CutSteps

@@ -1,0 +1,56 @@
+-- A cut file with a delay file has one problem.
+use Rattle.std.proofs.Common.{◌≡◌, ℕ, sym, ap, ◌∙◌, subst, List, Option, Some, Result, Ok}
+use Rattle.std.specs.Prelude.{slice_get}
+use Rattle.file_ports.specs.Ports.{Folder, file_at}
+use Rattle.csv_rows.specs.declared.limits.Limits.{Limits}
+use Rattle.plan_model.specs.NameLists.{NameLists, AreDistinct}
+use Rattle.delay_table.specs.DelayLists.{DelayLists}
+use Rattle.delay_table.specs.Delays.{delays_of}
+use Rattle.cut_file.specs.CutNetwork.{IsCutNetwork}
+use Rattle.cut_file.proofs.Distinct.{one_number}
+use Rattle.command_line.specs.Jobs.{WantedJourney}
+use Rattle.journey_problem.specs.declared.problem.Problem.{Problem}
+use Rattle.journey_problem.specs.Files.{Records}
+use Rattle.journey_problem.specs.CutProblems.{AreDelaysOf, IsCutProblem}
+use Rattle.journey_problem.proofs.OneCutNetwork.{AreRising, one_network, same_names, runs_apart, places_apart}
+use Rattle.journey_problem.proofs.DelayTypes.{types_rise}
+
+pub same_ok : {A E : Type 0} (r : Result A E) (x y : A) → r ≡ Ok x → r ≡ Ok y → x ≡ y
+same_ok r x y h k = cc
+
+pub delays_of_one : (limits : Limits) (file : Option (List ℕ)) (c d : DelayLists) → AreDelaysOf limits file c → AreDelaysOf limits file d → c ≡ d
+delays_of_one limits file c d (t, e, a) (u, f, b) = a ∙ ap delays_of (same_ok _ t u e f) ∙ sym b
+
+delays_rise : (limits : Limits) (file : Option (List ℕ)) (c : DelayLists) → AreDelaysOf limits file c → AreRising c.types
+delays_rise limits file c (t, e, a) = subst (λ (d : DelayLists). AreRising d.types) (sym a) (types_rise t)
+
+one_end : (names : List (List ℕ)) → AreDistinct names → (a b : ℕ) (x : List ℕ) → slice_get names a ≡ Some x → slice_get names b ≡ Some x → a ≡ b
+one_end names apart a b x h k = one_number names apart a b x h k
+
+-- a cut file and a delay file have one problem of a journey
+pub one_cut_problem : (limits : Limits) (files : Folder) (path : List ℕ) (j : WantedJourney) (p q : Problem)
+    → IsCutProblem limits files path j p → IsCutProblem limits files path j q → p ≡ q
+one_cut_problem limits files path j p q a b =
+    let table : b.table ≡ a.table = same_ok _ b.table a.table b.is_table a.is_table in
+    let lists : b.lists ≡ a.lists = delays_of_one limits (file_at files j.delays) b.lists a.lists b.are_delays a.are_delays in
+    let first : IsCutNetwork a.table a.lists p.network p.names = a.timetable.is_network in
+    let other : IsCutNetwork a.table a.lists q.network q.names
+    = subst (λ (t : Records). IsCutNetwork t a.lists q.network q.names) table
+    (subst (λ (d : DelayLists). IsCutNetwork b.table d q.network q.names) lists b.timetable.is_network) in
+    let names : q.names ≡ p.names = same_names a.table a.lists a.lists q.network p.network q.names p.names other first in
+    let second : IsCutNetwork a.table a.lists q.network p.names = subst (λ (ns : NameLists). IsCutNetwork a.table a.lists q.network ns) names other in
+    let runs = runs_apart a.table a.lists p.network p.names first in
+    let places = places_apart a.table a.lists p.network p.names first in
+    let network : p.network ≡ q.network
+    = one_network a.table a.lists p.names runs places (delays_rise limits (file_at files j.delays) a.lists a.are_delays)
+    p.network q.network first second a.timetable.valid b.timetable.valid in
+    let source : p.source.0 ≡ q.source.0 = one_end p.names.places places p.source.0 q.source.0 j.from a.timetable.source
+    (subst (λ (ns : NameLists). slice_get ns.places q.source.0 ≡ Some j.from) names b.timetable.source) in
+    let target : p.target.0 ≡ q.target.0 = one_end p.names.places places p.target.0 q.target.0 j.to a.timetable.target
+    (subst (λ (ns : NameLists). slice_get ns.places q.target.0 ≡ Some j.to) names b.timetable.target) in
+    λ i. record {
+      network = network i;
+      names = sym names i;
+      source = record { 0 = source i };
+      target = record { 0 = target i };
+    }

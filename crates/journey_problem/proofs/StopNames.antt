@@ -1,0 +1,33 @@
+-- Whether the stops of a journey are among the names.
+use Rattle.std.proofs.Common.{◌≡◌, ℕ, zero, suc, List, [], ◌∷◌, Some, None, Bool, true, false, Contains, refl, slice_get}
+use Rattle.std.specs.Str.{bytes_eq}
+use Rattle.std.proofs.Math.Bool.{or-true}
+use Rattle.std.proofs.lemmas.Slice.Eq.{bytes_eq-Decides}
+use Rattle.std.proofs.lemmas.Map.Views.{Contains-from_any}
+use Rattle.fault_lines.specs.declared.faults.Which.TheVariants as which
+use Rattle.fault_lines.specs.declared.faults.Fault.TheVariants.{UnknownStop}
+use Rattle.journey_problem.specs.CutProblems.{is_among, stop_fault}
+
+among-at : (names : List (List ℕ)) (k : ℕ) (name : List ℕ) → slice_get names k ≡ Some name → is_among names name ≡ true
+among-at [] k name is = absurd (cc)
+among-at (x ∷ names) zero name is =
+    let same : name ≡ x = (cc) in
+    let test : bytes_eq name x ≡ true = (bytes_eq-Decides name x).1 same in
+    rw test refl
+among-at (x ∷ names) (suc k) name is = rw (among-at names k name is) (or-true (bytes_eq name x))
+
+among-false : (names : List (List ℕ)) (name : List ℕ) (b : Bool) → is_among names name ≡ b → ¬ Contains names name → is_among names name ≡ false
+among-false names name true e absent = absurd (absent (Contains-from_any {eq = bytes_eq} (λ x y. (bytes_eq-Decides x y).0) name names e))
+among-false names name false e absent = e
+
+among-absent : (names : List (List ℕ)) (name : List ℕ) → ¬ Contains names name → is_among names name ≡ false
+among-absent names name absent = among-false names name (is_among names name) refl absent
+
+pub stop_fault-from : (names : List (List ℕ)) (from to : List ℕ) → ¬ Contains names from → stop_fault names from to ≡ Some (UnknownStop which.From)
+stop_fault-from names from to absent = rw (among-absent names from absent) refl
+
+pub stop_fault-to : (names : List (List ℕ)) (from to : List ℕ) (k : ℕ) → slice_get names k ≡ Some from → ¬ Contains names to → stop_fault names from to ≡ Some (UnknownStop which.To)
+stop_fault-to names from to k there absent = rw (among-at names k from there, among-absent names to absent) refl
+
+pub stop_fault-none : (names : List (List ℕ)) (from to : List ℕ) (k j : ℕ) → slice_get names k ≡ Some from → slice_get names j ≡ Some to → stop_fault names from to ≡ None
+stop_fault-none names from to k j there here = rw (among-at names k from there, among-at names j to here) refl

@@ -1,0 +1,56 @@
+-- The faults of a journey's timetable, of its delays, of its stops and of its window.
+use Rattle.fault_lines.specs.declared.faults.Input.{Input}
+use Rattle.fault_lines.specs.declared.faults.Input.TheVariants as input
+use Rattle.fault_lines.specs.declared.faults.LimitKind.{LimitKind}
+use Rattle.fault_lines.specs.declared.faults.LimitKind.TheVariants.{Bytes, Rows, CutRows, Connections}
+use Rattle.fault_lines.specs.declared.faults.Fault.{Fault}
+use Rattle.fault_lines.specs.declared.faults.Fault.TheVariants.{Words, Feed, Cut, Missing, Delays, UnknownStop, Limit, Read, NoSafe, GraphFile, Replay, Write, NoMemory}
+use Rattle.fault_lines.specs.Stages.{stage_of, IsEarlyStage, IsOfText}
+use Rattle.command_line.specs.Jobs.{WantedTimetable, CutFile, FeedFolder}
+
+-- the timetable is a cut file
+abbrev pub IsOfCutFile : WantedTimetable → Type 0
+IsOfCutFile (CutFile path) = Unit {0}
+IsOfCutFile (FeedFolder folder horizon) = ⊥
+
+-- the timetable is that of a feed
+abbrev pub IsOfFeed : WantedTimetable → Type 0
+IsOfFeed (CutFile path) = ⊥
+IsOfFeed (FeedFolder folder horizon) = Unit {0}
+
+-- the input is one of a journey over this timetable
+abbrev pub IsInputOf : WantedTimetable → Input → Type 0
+IsInputOf timetable (input.Feed table) = IsOfFeed timetable
+IsInputOf timetable input.Cut = IsOfCutFile timetable
+IsInputOf timetable input.Delays = Unit {0}
+IsInputOf timetable input.Graph = ⊥
+
+-- the limit is one of a journey over this timetable
+abbrev pub IsLimitOf : WantedTimetable → LimitKind → Type 0
+IsLimitOf timetable (Bytes input) = IsInputOf timetable input
+IsLimitOf timetable (Rows table) = IsOfFeed timetable
+IsLimitOf timetable CutRows = IsOfCutFile timetable
+IsLimitOf timetable Connections = IsOfFeed timetable
+
+-- where it is of an input, a timetable or a limit, this is one of a journey over this timetable
+abbrev pub IsOfTimetable : WantedTimetable → Fault → Type 0
+IsOfTimetable timetable (Words fault) = Unit {0}
+IsOfTimetable timetable (Feed fault) = IsOfFeed timetable
+IsOfTimetable timetable (Cut fault) = IsOfCutFile timetable
+IsOfTimetable timetable (Missing input) = IsInputOf timetable input
+IsOfTimetable timetable (Delays fault) = Unit {0}
+IsOfTimetable timetable (UnknownStop which) = Unit {0}
+IsOfTimetable timetable (Limit kind count) = IsLimitOf timetable kind
+IsOfTimetable timetable (Read input) = IsInputOf timetable input
+IsOfTimetable timetable NoSafe = Unit {0}
+IsOfTimetable timetable (GraphFile fault) = Unit {0}
+IsOfTimetable timetable (Replay fault) = Unit {0}
+IsOfTimetable timetable Write = Unit {0}
+IsOfTimetable timetable NoMemory = Unit {0}
+
+-- it is a fault of the timetable, of its delays, of the stops of a journey or of the window; or there was no memory. A fault
+-- that is told of a file is of what this holds
+pub record IsEarly (timetable : WantedTimetable) (fault : Fault) : Type 0 where
+  pub stage : IsEarlyStage (stage_of fault)
+  pub of_timetable : IsOfTimetable timetable fault
+  pub of_text : IsOfText fault

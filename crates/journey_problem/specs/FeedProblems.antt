@@ -1,0 +1,116 @@
+-- The timetable of a feed's folder, and the first fault of a journey over it.
+use Rattle.std.specs.Prelude.{◌≡◌, ℕ, ◌+◌, ◌<◌, ◌≤◌, ◌⊎◌, List, Option, None, Some, Err, IsOk, IsOkAnd, is_none, if◌then◌else◌}
+use Rattle.file_ports.specs.Ports.{Folder, file_at}
+use Rattle.csv_rows.specs.declared.feed_tables.FeedFault.{FeedFault}
+use Rattle.csv_rows.specs.declared.feed_tables.FeedFault.TheVariants as feed
+use Rattle.csv_rows.specs.declared.limits.Limits.{Limits}
+use Rattle.csv_rows.specs.FeedTables.{unread_of as unread_table_of}
+use Rattle.gtfs_tables.specs.Feeds.{FeedParts, tables_in, IsFeedOf, IsSoundFeed}
+use Rattle.service_days.specs.Services.{ServiceParts, runs}
+use Rattle.service_days.specs.Calendars.{calendars_in, RunsBy}
+use Rattle.change_times.specs.Changes.{ChangeParts, AreChanges, transfers_in}
+use Rattle.change_times.specs.Transfers.{place_of_stop}
+use Rattle.delay_table.specs.DelayLists.{DelayLists}
+use Rattle.delay_table.specs.Slots.{AreDelays}
+use Rattle.connections.specs.Cut.{IsNetworkFrom, connection_count}
+use Rattle.command_line.specs.Jobs.{WantedJourney}
+use Rattle.fault_lines.specs.declared.faults.Input.TheVariants as input
+use Rattle.fault_lines.specs.declared.faults.Which.TheVariants as which
+use Rattle.fault_lines.specs.declared.faults.LimitKind.TheVariants.{Bytes, Rows, Connections}
+use Rattle.fault_lines.specs.declared.faults.Fault.{Fault}
+use Rattle.fault_lines.specs.declared.faults.Fault.TheVariants.{Feed, UnknownStop, Limit, Read, NoMemory}
+use Rattle.journey_problem.specs.declared.problem.Problem.{Problem}
+use Rattle.fault_lines.specs.Faults.{unread_of}
+use Rattle.journey_problem.specs.CutProblems.{AreDelaysOf, delay_fault}
+
+-- a fault of a feed as one of the run
+abbrev pub feed_as : Limits → FeedFault → Fault
+feed_as limits (feed.MissingTable table) = Feed (feed.MissingTable table)
+feed_as limits (feed.MissingColumn table column) = Feed (feed.MissingColumn table column)
+feed_as limits (feed.BadField table line column) = Feed (feed.BadField table line column)
+feed_as limits (feed.UnknownKey table line column) = Feed (feed.UnknownKey table line column)
+feed_as limits (feed.DuplicateKey table line) = Feed (feed.DuplicateKey table line)
+feed_as limits (feed.BackwardTime line) = Feed (feed.BackwardTime line)
+feed_as limits feed.FrequencyRows = Feed feed.FrequencyRows
+feed_as limits (feed.Read table) = Read (input.Feed table)
+feed_as limits (feed.TooLong table) = Limit (Bytes (input.Feed table)) (limits.bytes + 1)
+feed_as limits (feed.TooManyRows table count) = Limit (Rows table) count
+feed_as limits feed.NoMemory = NoMemory
+
+-- what a folder holds
+pub record FolderParts : Type 0 where
+  pub feed : FeedParts
+  pub services : ServiceParts
+  pub changes : ChangeParts
+
+-- none of its tables has a fault, and these are its feed, its services and its change times
+pub record IsFolder (limits : Limits) (files : Folder) (folder : List ℕ) (h : FolderParts) : Type 0 where
+  pub feed : IsFeedOf (tables_in files folder limits None) h.feed
+  pub services : IsOkAnd (calendars_in files folder limits None) (RunsBy (runs h.services))
+  pub changes : IsOkAnd (transfers_in files folder limits None h.feed) (AreChanges h.feed h.changes)
+
+-- after tables with no fault the first fault is this one, of the calendars or else of the transfers
+abbrev pub IsLaterTableFault : Limits → Folder → List ℕ → FeedParts → FeedFault → Type 0
+IsLaterTableFault limits files folder f fault =
+    (calendars_in files folder limits (unread_table_of fault) ≡ Err fault)
+    ⊎ (IsOk (calendars_in files folder limits None) × (transfers_in files folder limits (unread_table_of fault) f ≡ Err fault))
+
+-- the first fault of a folder is this one, where no table but that of the fault is unread: of the tables of the feed, or
+-- else of the later ones
+abbrev pub IsFolderFault : Limits → Folder → List ℕ → FeedFault → Type 0
+IsFolderFault limits files folder fault =
+    (tables_in files folder limits (unread_table_of fault) ≡ Err fault)
+    ⊎ ((f : FeedParts) × IsFeedOf (tables_in files folder limits None) f × IsLaterTableFault limits files folder f fault)
+
+-- a stop of the journey that the feed does not have
+abbrev pub feed_stop_fault : FeedParts → (from to : List ℕ) → Option Fault
+feed_stop_fault f from to =
+    if is_none (place_of_stop f from) then Some (UnknownStop which.From)
+    else if is_none (place_of_stop f to) then Some (UnknownStop which.To)
+    else None
+
+-- the window of the journey has this number of connections
+abbrev pub window_count : ℕ → WantedJourney → FolderParts → ℕ
+window_count horizon j h = connection_count h.feed h.services j.start horizon
+
+-- after a delay file with no fault the first fault is this one: of the stops, or else that the window has too many connections
+abbrev pub IsWindowFault : Limits → ℕ → WantedJourney → FolderParts → Fault → Type 0
+IsWindowFault limits horizon j h fault =
+    (feed_stop_fault h.feed j.from j.to ≡ Some fault)
+    ⊎ ((feed_stop_fault h.feed j.from j.to ≡ None)
+    × (fault ≡ Limit Connections (window_count horizon j h)) × (limits.connections < window_count horizon j h))
+
+-- after a folder with no fault the first fault is this one: of the delay file, or else of the window
+abbrev pub IsFaultAfterFolder : Limits → Folder → ℕ → WantedJourney → FolderParts → Fault → Type 0
+IsFaultAfterFolder limits files horizon j h fault =
+    (delay_fault limits (file_at files j.delays) (unread_of fault) ≡ Some fault)
+    ⊎ ((delay_fault limits (file_at files j.delays) None ≡ None) × IsWindowFault limits horizon j h fault)
+
+-- the first fault is this one: of the folder, or else of what comes after it
+abbrev pub IsFeedProblemFault : Limits → Folder → List ℕ → ℕ → WantedJourney → Fault → Type 0
+IsFeedProblemFault limits files folder horizon j fault =
+    ((g : FeedFault) × (fault ≡ feed_as limits g) × IsFolderFault limits files folder g)
+    ⊎ ((h : FolderParts) × IsFolder limits files folder h × IsFaultAfterFolder limits files horizon j h fault)
+
+-- the network and the names are those of the window of a feed of these parts with these delays; and the journey goes from
+-- the place of its first stop to that of its last
+pub record IsFeedTimetable (parts : FolderParts) (lists : DelayLists) (horizon : ℕ) (j : WantedJourney) (p : Problem) : Type 0 where
+  pub is_network : IsNetworkFrom parts.feed parts.services parts.changes lists j.start horizon p.network p.names
+  pub source : place_of_stop parts.feed j.from ≡ Some p.source.0
+  pub target : place_of_stop parts.feed j.to ≡ Some p.target.0
+
+-- this is so of some feed with no fault and some delays
+abbrev pub HasFeedTimetable : ℕ → WantedJourney → Problem → Type 0
+HasFeedTimetable horizon j p =
+    (parts : FolderParts) × (lists : DelayLists) × IsSoundFeed parts.feed × AreDelays lists × IsFeedTimetable parts lists horizon j p
+
+-- no file has a fault, the timetable is that of the feed with the delays of the delay file, and its window has not too many
+-- connections
+pub record IsFeedProblem (limits : Limits) (files : Folder) (folder : List ℕ) (horizon : ℕ) (j : WantedJourney) (p : Problem) : Type 0 where
+  pub parts : FolderParts
+  pub lists : DelayLists
+  pub is_folder : IsFolder limits files folder parts
+  pub no_delay_fault : delay_fault limits (file_at files j.delays) None ≡ None
+  pub are_delays : AreDelaysOf limits (file_at files j.delays) lists
+  pub few : window_count horizon j parts ≤ limits.connections
+  pub timetable : IsFeedTimetable parts lists horizon j p

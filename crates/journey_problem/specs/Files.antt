@@ -1,0 +1,71 @@
+-- The files that a command reads, and the causes of their faults.
+use Rattle.std.specs.Prelude.{◌≡◌, ◌≢◌, ℕ, ◌+◌, ◌<◌, ◌≤◌, List, [], ◌∷◌, length, Option, None, Some, Result, Ok, Err, IsErrOf, if◌then◌else◌, nat_lt}
+use Rattle.file_ports.specs.Counts.{Rose}
+use Rattle.csv_rows.specs.FeedTables.{path_of as table_path}
+use Rattle.csv_rows.specs.Tables.{table_of}
+use Rattle.csv_rows.specs.declared.feed_tables.Table.{Table}
+use Rattle.command_line.specs.Jobs.{WantedTimetable, CutFile, FeedFolder, WantedJourney}
+use Rattle.fault_lines.specs.declared.faults.Input.{Input}
+use Rattle.fault_lines.specs.declared.faults.Input.TheVariants as input
+use Rattle.fault_lines.specs.declared.faults.LimitKind.TheVariants.{Bytes}
+use Rattle.fault_lines.specs.declared.faults.Fault.{Fault}
+use Rattle.fault_lines.specs.declared.faults.Fault.TheVariants.{Missing, Limit, Read, NoMemory}
+use Rattle.fault_lines.specs.Faults.{unread_of, is_unread}
+
+-- the records of a table, of which the first is the header
+abbrev pub Records : Type 0
+Records = List (List (List ℕ))
+
+abbrev pub cut_path : WantedTimetable → List ℕ
+cut_path (CutFile path) = path
+cut_path (FeedFolder folder horizon) = []
+
+abbrev pub feed_path : WantedTimetable → Table → List ℕ
+feed_path (CutFile path) table = []
+feed_path (FeedFolder folder horizon) table = table_path folder table
+
+-- the paths of a journey's files over a timetable, and of a graph file
+abbrev pub path_by : WantedTimetable → WantedJourney → List ℕ → Input → List ℕ
+path_by timetable j graph (input.Feed table) = feed_path timetable table
+path_by timetable j graph input.Cut = cut_path timetable
+path_by timetable j graph input.Delays = j.delays
+path_by timetable j graph input.Graph = graph
+
+abbrev pub path_of : WantedJourney → List ℕ → Input → List ℕ
+path_of j graph = path_by j.timetable j graph
+
+-- what comes next, where there is no fault so far
+abbrev pub and_then : {A B : Type 0} → Result A Fault → (A → Result B Fault) → Result B Fault
+and_then (Ok a) next = next a
+and_then (Err fault) next = Err fault
+
+-- the bytes of a file that is there and not too long
+abbrev pub bytes_present : ℕ → Input → Option (List ℕ) → Result (List ℕ) Fault
+bytes_present most input None = Err (Missing input)
+bytes_present most input (Some bytes) = if nat_lt most (length bytes) then Err (Limit (Bytes input) (most + 1)) else Ok bytes
+
+-- the bytes of a file, where at most one file is unread
+abbrev pub bytes_of : ℕ → Input → Option Input → Option (List ℕ) → Result (List ℕ) Fault
+bytes_of most input unread file = if is_unread unread input then Err (Read input) else bytes_present most input file
+
+-- a file with no record has the fault that is given for it
+abbrev pub with_header : Fault → Records → Result Records Fault
+with_header headless [] = Err headless
+with_header headless (header ∷ rows) = Ok (header ∷ rows)
+
+-- the table of a file, or the first fault in loading it
+abbrev pub records_of : ℕ → Input → Fault → Option Input → Option (List ℕ) → Result Records Fault
+records_of most input headless unread file = and_then (bytes_of most input unread file) (λ bytes. with_header headless (table_of bytes))
+
+-- the answer is what is wanted: a value where no file is unread, and else the fault that holds first, or that there is no memory
+abbrev pub Finds : {A B : Type 0} → (A → B) → (Option Input → Result B Fault) → Result A Fault → Type 0
+Finds shown wanted (Ok a) = wanted None ≡ Ok (shown a)
+Finds shown wanted (Err fault) = fault ≢ NoMemory → wanted (unread_of fault) ≡ Err fault
+
+-- `Read` only where the count of faults rose, where it is told that of the input's own path too; and always where it grew
+pub record HasCauses {T : Type 0} (told : Type 0) (path : Input → List ℕ) (before now : ℕ) (before_of now_of : List ℕ → ℕ) (result : Result T Fault) : Type 0 where
+  pub later : before ≤ now
+  pub later_of : (p : List ℕ) → before_of p ≤ now_of p
+  pub read : (input : Input) → IsErrOf result (Read input) → Rose before now
+  pub read_path : told → (input : Input) → IsErrOf result (Read input) → Rose (before_of (path input)) (now_of (path input))
+  pub grew : before < now → (input : Input) × IsErrOf result (Read input)

@@ -1,0 +1,6 @@
+-- What a folder holds, as it is read.
+use Rattle.journey_problem.specs.declared.feed_problem.FeedTables.{FeedTables}
+use Rattle.journey_problem.specs.FeedProblems.{FolderParts}
+
+abbrev pub parts_of : FeedTables → FolderParts
+parts_of t = record { feed = t.feed; services = t.services; changes = t.changes }

@@ -1,0 +1,7 @@
+pub mod EarlyFaults
+pub mod Files
+pub mod CutProblems
+pub mod FeedProblems
+pub mod Folders
+pub mod Problems
+pub mod OneProblem

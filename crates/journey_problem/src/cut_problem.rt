@@ -1,0 +1,109 @@
+//! A journey over a cut file.
+ghost use Rattle.std.specs.Prelude.{◌≡◌, ◌≢◌, ℕ, List as Bytes, None, Some, IsSome, IfSome, IfOk, IfErr, OnOk};
+ghost use Rattle.csv_rows.specs.Limits.{AreWithin};
+ghost use Rattle.cut_file.specs.CutNetwork.{IsCutNetwork};
+ghost use Rattle.cut_file.specs.Read.{IsRead};
+ghost use Rattle.plan_model.specs.NameLists.{NamesFit};
+ghost use Rattle.plan_model.specs.Network.{IsValid};
+ghost use Rattle.command_line.specs.Shown.{journey_shown};
+ghost use Rattle.command_line.specs.Jobs.{WantedTimetable, CutFile};
+ghost use Rattle.fault_lines.specs.Faults.{IsFirst, unread_of};
+ghost use Rattle.journey_problem.specs.Files.{Records, path_by, HasCauses};
+ghost use Rattle.journey_problem.specs.EarlyFaults.{IsEarly};
+ghost use Rattle.journey_problem.specs.CutProblems.{cut_problem_fault, IsCutProblem, HasCutTimetable, IsNamed, stop_fault};
+
+use crate::inputs::{read_cut_file, read_delay_file};
+use crate::problem::{Ends, Problem};
+use command_line::Journey;
+use csv_rows::Limits;
+use cut_file::CutTable;
+use delay_table::DelayTable;
+use fault_lines::{Fault, Which};
+use file_ports::Files;
+use plan_model::Names;
+use std::alloc::Global;
+
+/// The places that are named as the stops of a journey.
+fn ends_of(names: &Names, from: &str, to: &str) -> Result<Ends, Fault>
+    ensures source { IfOk result (λ ends. IsNamed names.now ends.source.0 from.now) }
+    ensures target { IfOk result (λ ends. IsNamed names.now ends.target.0 to.now) }
+    ensures none { OnOk result (stop_fault names.now.places from.now to.now ≡ None) }
+    ensures fault { IfErr result (λ fault.
+        stop_fault names.now.places from.now to.now ≡ Some fault) }
+    ensures early { (timetable : WantedTimetable) → IfErr result (IsEarly timetable) }
+    ensures read { IfErr result (λ fault. unread_of fault ≡ None) }
+{
+    let Some(source) = names.place(from) else {
+        return Err(Fault::UnknownStop(Which::From));
+    };
+    let Some(target) = names.place(to) else {
+        return Err(Fault::UnknownStop(Which::To));
+    };
+    Ok(Ends { source, target })
+}
+
+/// The problem of a journey in what its files hold.
+fn problem_in(
+    alloc: Global,
+    cut: &CutTable,
+    delays: &DelayTable,
+    journey: &Journey,
+) -> Result<Problem, Fault>
+    ensures network { IfOk result (λ p. (table : Records)
+        → IsRead table cut.now.runs cut.now.places cut.now.rows cut.now.keys
+        → IsCutNetwork table delays.now p.network p.names) }
+    ensures valid { IfOk result (λ p. IsValid p.network) }
+    ensures fit { IfOk result (λ p. NamesFit p.names p.network) }
+    ensures source { IfOk result (λ p. IsNamed p.names p.source.0 journey.now.from.now) }
+    ensures target { IfOk result (λ p. IsNamed p.names p.target.0 journey.now.to.now) }
+    ensures none { OnOk result
+        (stop_fault cut.now.places journey.now.from.now journey.now.to.now ≡ None) }
+    ensures fault { IfErr result (λ fault. fault ≢ Fault.NoMemory
+        → stop_fault cut.now.places journey.now.from.now journey.now.to.now ≡ Some fault) }
+    ensures early { (timetable : WantedTimetable) → IfErr result (IsEarly timetable) }
+    ensures read { IfErr result (λ fault. unread_of fault ≡ None) }
+{
+    let Ok((network, names)) = cut.network(alloc, delays) else {
+        return Err(Fault::NoMemory);
+    };
+    match ends_of(&names, journey.from, journey.to) {
+        Err(fault) => Err(fault),
+        Ok(ends) => Ok(Problem::between(ends, network, names)),
+    }
+}
+
+/// The problem of a journey over the cut file of this path, whose timetable is that file.
+pub(crate) fn cut_problem<F: Files>(
+    alloc: Global,
+    files: &mut F,
+    path: &str,
+    journey: &Journey,
+    limits: &Limits,
+) -> Result<Problem, Fault>
+    requires within { AreWithin limits.now }
+    ensures same { F.files files.new ≡ F.files files.old }
+    ensures problem { IfSome (F.files files.old) (λ m. IfOk result
+        (IsCutProblem limits.now m path.now (journey_shown journey.now))) }
+    ensures fault { IfSome (F.files files.old) (λ m. IfErr result
+        (IsFirst (cut_problem_fault limits.now m path.now (journey_shown journey.now)))) }
+    ensures early { IfErr result (IsEarly (CutFile path.now)) }
+    ensures valid { IfOk result (λ p. IsValid p.network) }
+    ensures fit { IfOk result (λ p. NamesFit p.names p.network) }
+    ensures timetable { IfOk result (HasCutTimetable (journey_shown journey.now)) }
+    ensures source { IfOk result (λ p. IsNamed p.names p.source.0 journey.now.from.now) }
+    ensures target { IfOk result (λ p. IsNamed p.names p.target.0 journey.now.to.now) }
+    ensures causes { (graph : Bytes ℕ) → HasCauses (IsSome (F.files files.old))
+        (path_by (CutFile path.now) (journey_shown journey.now) graph)
+        (F.faults files.old) (F.faults files.new)
+        (F.faults_of files.old) (F.faults_of files.new) result }
+{
+    let cut = match read_cut_file(alloc, files, path, limits) {
+        Err(fault) => return Err(fault),
+        Ok(cut) => cut,
+    };
+    let delays = match read_delay_file(alloc, files, journey.delays, limits) {
+        Err(fault) => return Err(fault),
+        Ok(delays) => delays,
+    };
+    problem_in(alloc, &cut, &delays, journey)
+}

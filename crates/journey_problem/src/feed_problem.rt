@@ -1,0 +1,203 @@
+//! A journey over a feed.
+ghost use Rattle.std.specs.Prelude.{◌≡◌, ◌≢◌, ◌<◌, ◌≤◌, ℕ, List as Bytes, length, None, Some, IsSome, IfSome, IfOk, IfErr, OnOk};
+ghost use Rattle.csv_rows.specs.Limits.{AreWithin};
+ghost use Rattle.csv_rows.specs.Loading.{HasFeedCause, HasFeedPathCause};
+ghost use Rattle.change_times.specs.Transfers.{place_of_stop};
+ghost use Rattle.connections.specs.Cut.{IsNetworkFrom};
+ghost use Rattle.gtfs_tables.specs.Feeds.{IsSoundFeed};
+ghost use Rattle.plan_model.specs.NameLists.{NamesFit};
+ghost use Rattle.plan_model.specs.Network.{IsValid};
+ghost use Rattle.command_line.specs.Shown.{journey_shown};
+ghost use Rattle.command_line.specs.Jobs.{WantedTimetable, FeedFolder};
+ghost use Rattle.command_line.specs.Ranges.{IsJourney};
+ghost use Rattle.fault_lines.specs.Faults.{unread_of};
+ghost use Rattle.journey_problem.specs.Files.{path_by, HasCauses};
+ghost use Rattle.journey_problem.specs.EarlyFaults.{IsEarly};
+ghost use Rattle.journey_problem.specs.FeedProblems.{feed_as, feed_stop_fault, window_count, IsFolder, IsFolderFault, IsWindowFault, IsFeedProblem, IsFeedProblemFault, HasFeedTimetable};
+ghost use Rattle.journey_problem.specs.Folders.{parts_of};
+
+use crate::inputs::read_delay_file;
+use crate::problem::{Ends, Problem};
+use change_times::Changes;
+use command_line::Journey;
+use connections::{WindowFault, cut};
+use csv_rows::{FeedFault, Limits};
+use delay_table::DelayTable;
+use fault_lines::{Fault, Input, LimitKind, Which};
+use file_ports::Files;
+use gtfs_tables::Feed;
+use service_days::Services;
+use std::alloc::Global;
+
+/// What a folder of GTFS tables holds.
+#[derive(Drop)]
+struct FeedTables {
+    feed: Feed,
+    services: Services,
+    changes: Changes,
+}
+
+/// The tables of a folder.
+fn read_folder<F: Files>(
+    alloc: Global,
+    files: &mut F,
+    folder: &str,
+    limits: &Limits,
+) -> Result<FeedTables, FeedFault>
+    requires { AreWithin limits.now }
+    ensures same { F.files files.new ≡ F.files files.old }
+    ensures folder { IfSome (F.files files.old) (λ m.
+        IfOk result (λ t. IsFolder limits.now m folder.now (parts_of t))) }
+    ensures fault { IfSome (F.files files.old) (λ m. IfErr result (λ f. f ≢ FeedFault.NoMemory
+        → IsFolderFault limits.now m folder.now f)) }
+    ensures sound { IfOk result (λ t. IsSoundFeed t.feed) }
+    ensures cause { HasFeedCause (F.faults files.old) (F.faults files.new) result }
+    ensures path_cause { HasFeedPathCause (IsSome (F.files files.old)) folder.now
+        (F.faults_of files.old) (F.faults_of files.new) result }
+{
+    let feed = match Feed::read(alloc, files, folder, limits) {
+        Err(fault) => return Err(fault),
+        Ok(feed) => feed,
+    };
+    let services = match Services::read(alloc, files, folder, limits) {
+        Err(fault) => return Err(fault),
+        Ok(services) => services,
+    };
+    match Changes::read(alloc, files, folder, &feed, limits) {
+        Err(fault) => Err(fault),
+        Ok(changes) => {
+            // That the feed is sound is known from its count of stops.
+            let _count = feed.stop_count();
+            Ok(FeedTables {
+                feed,
+                services,
+                changes,
+            })
+        }
+    }
+}
+
+/// A fault of a feed as one of the run.
+fn fault_of(fault: FeedFault, limits: &Limits) -> Fault
+    requires { AreWithin limits.now }
+    ensures fault { result ≡ feed_as limits.now fault }
+    ensures early { (folder : Bytes ℕ) (horizon : ℕ) → IsEarly (FeedFolder folder horizon) result }
+{
+    match fault {
+        FeedFault::Read(table) => Fault::Read(Input::Feed(table)),
+        FeedFault::TooLong(table) => {
+            Fault::Limit(LimitKind::Bytes(Input::Feed(table)), limits.bytes + 1)
+        }
+        FeedFault::TooManyRows(table, count) => Fault::Limit(LimitKind::Rows(table), count),
+        FeedFault::NoMemory => Fault::NoMemory,
+        fault => Fault::Feed(fault),
+    }
+}
+
+/// The places of the stops of a journey.
+fn ends_of(feed: &Feed, from: &str, to: &str) -> Result<Ends, Fault>
+    ensures source { IfOk result (λ ends. place_of_stop feed.now from.now ≡ Some ends.source.0) }
+    ensures target { IfOk result (λ ends. place_of_stop feed.now to.now ≡ Some ends.target.0) }
+    ensures source_in { IfOk result (λ ends. ends.source.0 < length feed.now.stop_ids) }
+    ensures target_in { IfOk result (λ ends. ends.target.0 < length feed.now.stop_ids) }
+    ensures none { OnOk result (feed_stop_fault feed.now from.now to.now ≡ None) }
+    ensures fault { IfErr result (λ fault. feed_stop_fault feed.now from.now to.now ≡ Some fault) }
+    ensures early { (timetable : WantedTimetable) → IfErr result (IsEarly timetable) }
+{
+    let Some(source) = feed.place_of(from) else {
+        return Err(Fault::UnknownStop(Which::From));
+    };
+    let Some(target) = feed.place_of(to) else {
+        return Err(Fault::UnknownStop(Which::To));
+    };
+    Ok(Ends { source, target })
+}
+
+/// The problem of a journey in what its files hold.
+fn window_problem(
+    alloc: Global,
+    tables: &FeedTables,
+    delays: &DelayTable,
+    horizon: u32,
+    journey: &Journey,
+    limits: &Limits,
+) -> Result<Problem, Fault>
+    requires within { AreWithin limits.now }
+    requires journey { IsJourney (journey_shown journey.now) }
+    requires horizon { horizon ≤ 72 }
+    ensures network { IfOk result (λ p. IsNetworkFrom tables.now.feed tables.now.services
+        tables.now.changes delays.now journey.now.start.0 horizon p.network p.names) }
+    ensures few { OnOk result (window_count horizon (journey_shown journey.now)
+        (parts_of tables.now) ≤ limits.now.connections) }
+    ensures valid { IfOk result (λ p. IsValid p.network) }
+    ensures fit { IfOk result (λ p. NamesFit p.names p.network) }
+    ensures source { IfOk result (λ p.
+        place_of_stop tables.now.feed journey.now.from.now ≡ Some p.source.0) }
+    ensures target { IfOk result (λ p.
+        place_of_stop tables.now.feed journey.now.to.now ≡ Some p.target.0) }
+    ensures source_in { IfOk result (λ p. p.source.0 < length p.network.change) }
+    ensures target_in { IfOk result (λ p. p.target.0 < length p.network.change) }
+    ensures fault { IfErr result (λ fault. fault ≢ Fault.NoMemory → IsWindowFault limits.now
+        horizon (journey_shown journey.now) (parts_of tables.now) fault) }
+    ensures early { (folder : Bytes ℕ) → IfErr result (IsEarly (FeedFolder folder horizon)) }
+    ensures read { IfErr result (λ fault. unread_of fault ≡ None) }
+{
+    let ends = match ends_of(&tables.feed, journey.from, journey.to) {
+        Err(fault) => return Err(fault),
+        Ok(ends) => ends,
+    };
+    match cut(
+        alloc,
+        &tables.feed,
+        &tables.services,
+        &tables.changes,
+        delays,
+        journey.start,
+        horizon,
+        limits,
+    ) {
+        Err(WindowFault::TooMany(count)) => Err(Fault::Limit(LimitKind::Connections, count)),
+        Err(WindowFault::NoMemory) => Err(Fault::NoMemory),
+        Ok((network, names)) => Ok(Problem::between(ends, network, names)),
+    }
+}
+
+/// The problem of a journey over the feed in this folder, whose timetable is the window of so many
+/// hours from the start on.
+pub(crate) fn feed_problem<F: Files>(
+    alloc: Global,
+    files: &mut F,
+    folder: &str,
+    horizon: u32,
+    journey: &Journey,
+    limits: &Limits,
+) -> Result<Problem, Fault>
+    requires within { AreWithin limits.now }
+    requires journey { IsJourney (journey_shown journey.now) }
+    requires horizon { horizon ≤ 72 }
+    ensures same { F.files files.new ≡ F.files files.old }
+    ensures problem { IfSome (F.files files.old) (λ m. IfOk result
+        (IsFeedProblem limits.now m folder.now horizon (journey_shown journey.now))) }
+    ensures fault { IfSome (F.files files.old) (λ m. IfErr result (λ fault. fault ≢ Fault.NoMemory
+        → IsFeedProblemFault limits.now m folder.now horizon (journey_shown journey.now) fault)) }
+    ensures early { IfErr result (IsEarly (FeedFolder folder.now horizon)) }
+    ensures valid { IfOk result (λ p. IsValid p.network) }
+    ensures fit { IfOk result (λ p. NamesFit p.names p.network) }
+    ensures timetable { IfOk result (HasFeedTimetable horizon (journey_shown journey.now)) }
+    ensures source { IfOk result (λ p. p.source.0 < length p.network.change) }
+    ensures target { IfOk result (λ p. p.target.0 < length p.network.change) }
+    ensures causes { (graph : Bytes ℕ) → HasCauses (IsSome (F.files files.old))
+        (path_by (FeedFolder folder.now horizon) (journey_shown journey.now) graph)
+        (F.faults files.old) (F.faults files.new)
+        (F.faults_of files.old) (F.faults_of files.new) result }
+{
+    let tables = match read_folder(alloc, files, folder, limits) {
+        Err(fault) => return Err(fault_of(fault, limits)),
+        Ok(tables) => tables,
+    };
+    let delays = match read_delay_file(alloc, files, journey.delays, limits) {
+        Err(fault) => return Err(fault),
+        Ok(delays) => delays,
+    };
+    window_problem(alloc, &tables, &delays, horizon, journey, limits)
+}

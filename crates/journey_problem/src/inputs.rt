@@ -1,0 +1,143 @@
+//! The files that a command reads.
+ghost use Rattle.std.specs.Prelude.{◌≡◌, ◌≢◌, ◌≤◌, ℕ, List as Bytes, None, IsSome, IfSome, IfOk, IfErr, ◌^◌, ◌+◌};
+ghost use Rattle.csv_rows.specs.Limits.{AreWithin};
+ghost use Rattle.csv_rows.specs.Tables.{table_of};
+ghost use Rattle.delay_table.specs.Slots.{AreDelays};
+ghost use Rattle.file_ports.specs.Ports.{file_at};
+ghost use Rattle.fault_lines.specs.Faults.{MayBeUnread, unread_of};
+ghost use Rattle.journey_problem.specs.Files.{bytes_of, records_of, Finds, HasCauses};
+ghost use Rattle.command_line.specs.Jobs.{WantedTimetable, CutFile};
+ghost use Rattle.journey_problem.specs.EarlyFaults.{IsEarly, IsInputOf};
+ghost use Rattle.fault_lines.specs.Stages.{IsOfGraph};
+ghost use Rattle.journey_problem.specs.CutProblems.{CutAgrees, DelayAgrees, IsCutOfSome};
+
+use csv_rows::{Column, Limits, Rows, RowsFault};
+use cut_file::{CutFault, CutTable, read_cut};
+use delay_table::{DelayFault, DelayTable};
+use fault_lines::{Fault, Input, LimitKind};
+use file_ports::{Files, LoadFault, load};
+use std::alloc::Global;
+
+/// The bytes of an input; or that it is not there, cannot be read or is too long, or that there is no
+/// memory.
+pub fn load_bytes<F: Files>(
+    alloc: Global,
+    files: &mut F,
+    path: &str,
+    input: Input,
+    limits: &Limits,
+) -> Result<Vec<u8>, Fault>
+    requires { limits.now.bytes ≤ 2 ^ 30 }
+    ensures same { F.files files.new ≡ F.files files.old }
+    ensures bytes { IfSome (F.files files.old) (λ m. Finds (λ bytes. bytes.items)
+        (λ unread. bytes_of limits.now.bytes input unread (file_at m path.now)) result) }
+    ensures own { IfErr result (MayBeUnread input) }
+    ensures early { (timetable : WantedTimetable) → IsInputOf timetable input
+        → IfErr result (IsEarly timetable) }
+    ensures graph { input ≡ Input.Graph → IfErr result (λ fault. fault ≢ Fault.NoMemory
+        → IsOfGraph fault) }
+    ensures causes { HasCauses (IsSome (F.files files.old)) (λ other. path.now)
+        (F.faults files.old) (F.faults files.new)
+        (F.faults_of files.old) (F.faults_of files.new) result }
+{
+    match load(alloc, files, path, limits.bytes) {
+        Err(LoadFault::Read) => Err(Fault::Read(input)),
+        Err(LoadFault::TooLong) => Err(Fault::Limit(LimitKind::Bytes(input), limits.bytes + 1)),
+        Err(LoadFault::NoMemory) => Err(Fault::NoMemory),
+        Ok(None) => Err(Fault::Missing(input)),
+        Ok(Some(bytes)) => Ok(bytes),
+    }
+}
+
+/// The table of an input that is none of a feed, with the fault that it has where it holds no record.
+fn load_rows<F: Files>(
+    alloc: Global,
+    files: &mut F,
+    path: &str,
+    input: Input,
+    headless: Fault,
+    limits: &Limits,
+) -> Result<Rows, Fault>
+    requires bytes { limits.now.bytes ≤ 2 ^ 30 }
+    requires headless { unread_of headless ≡ None }
+    requires early { (timetable : WantedTimetable) → IsInputOf timetable input
+        → IsEarly timetable headless }
+    ensures same { F.files files.new ≡ F.files files.old }
+    ensures text { IfOk result (λ rows. (text : Bytes ℕ) × (rows ≡ table_of text)) }
+    ensures table { IfSome (F.files files.old) (λ m. Finds (λ rows. rows)
+        (λ unread. records_of limits.now.bytes input headless unread (file_at m path.now)) result) }
+    ensures own { IfErr result (MayBeUnread input) }
+    ensures early { (timetable : WantedTimetable) → IsInputOf timetable input
+        → IfErr result (IsEarly timetable) }
+    ensures causes { HasCauses (IsSome (F.files files.old)) (λ other. path.now)
+        (F.faults files.old) (F.faults files.new)
+        (F.faults_of files.old) (F.faults_of files.new) result }
+{
+    match load_bytes(alloc, files, path, input, limits) {
+        Err(fault) => Err(fault),
+        Ok(bytes) => match Rows::read(alloc, bytes.as_slice()) {
+            Ok(rows) => Ok(rows),
+            Err(RowsFault::NoHeader) => Err(headless),
+            Err(RowsFault::NoMemory) => Err(Fault::NoMemory),
+        },
+    }
+}
+
+/// The cut file. One with no record lacks its first column.
+pub(crate) fn read_cut_file<F: Files>(
+    alloc: Global,
+    files: &mut F,
+    path: &str,
+    limits: &Limits,
+) -> Result<CutTable, Fault>
+    requires { AreWithin limits.now }
+    ensures same { F.files files.new ≡ F.files files.old }
+    ensures table { IfSome (F.files files.old) (λ m.
+        CutAgrees limits.now (file_at m path.now) result) }
+    ensures sound { IfOk result IsCutOfSome }
+    ensures own { IfErr result (MayBeUnread Input.Cut) }
+    ensures early { IfErr result (IsEarly (CutFile path.now)) }
+    ensures causes { HasCauses (IsSome (F.files files.old)) (λ other. path.now)
+        (F.faults files.old) (F.faults files.new)
+        (F.faults_of files.old) (F.faults_of files.new) result }
+{
+    let headless = Fault::Cut(CutFault::MissingColumn(Column::Run));
+    match load_rows(alloc, files, path, Input::Cut, headless, limits) {
+        Err(fault) => Err(fault),
+        Ok(rows) => match read_cut(alloc, &rows, limits) {
+            Ok(table) => Ok(table),
+            Err(CutFault::TooManyRows(count)) => Err(Fault::Limit(LimitKind::CutRows, count)),
+            Err(CutFault::NoMemory) => Err(Fault::NoMemory),
+            Err(fault) => Err(Fault::Cut(fault)),
+        },
+    }
+}
+
+/// The delay file. One with no record lacks its first column.
+pub(crate) fn read_delay_file<F: Files>(
+    alloc: Global,
+    files: &mut F,
+    path: &str,
+    limits: &Limits,
+) -> Result<DelayTable, Fault>
+    requires { AreWithin limits.now }
+    ensures same { F.files files.new ≡ F.files files.old }
+    ensures table { IfSome (F.files files.old) (λ m.
+        DelayAgrees limits.now (file_at m path.now) result) }
+    ensures sound { IfOk result AreDelays }
+    ensures own { IfErr result (MayBeUnread Input.Delays) }
+    ensures early { (timetable : WantedTimetable) → IfErr result (IsEarly timetable) }
+    ensures causes { HasCauses (IsSome (F.files files.old)) (λ other. path.now)
+        (F.faults files.old) (F.faults files.new)
+        (F.faults_of files.old) (F.faults_of files.new) result }
+{
+    let headless = Fault::Delays(DelayFault::MissingColumn(Column::Class));
+    match load_rows(alloc, files, path, Input::Delays, headless, limits) {
+        Err(fault) => Err(fault),
+        Ok(rows) => match DelayTable::read(alloc, &rows) {
+            Ok(table) => Ok(table),
+            Err(DelayFault::NoMemory) => Err(Fault::NoMemory),
+            Err(fault) => Err(Fault::Delays(fault)),
+        },
+    }
+}

@@ -1,0 +1,49 @@
+//! The problem of a journey over its files.
+ghost use Rattle.std.specs.Prelude.{◌≡◌, ◌<◌, ℕ, List as Bytes, length, IsSome, IfSome, IfOk, IfErr};
+ghost use Rattle.csv_rows.specs.Limits.{AreWithin};
+ghost use Rattle.command_line.specs.Shown.{journey_shown};
+ghost use Rattle.command_line.specs.Ranges.{IsJourney};
+ghost use Rattle.journey_problem.specs.EarlyFaults.{IsEarly};
+ghost use Rattle.journey_problem.specs.Files.{path_of, HasCauses};
+ghost use Rattle.journey_problem.specs.Problems.{IsProblem, IsProblemFault, IsSound};
+
+use crate::cut_problem::cut_problem;
+use crate::feed_problem::feed_problem;
+use crate::problem::Problem;
+use command_line::{Journey, Timetable};
+use csv_rows::Limits;
+use fault_lines::Fault;
+use file_ports::Files;
+use std::alloc::Global;
+
+/// The problem of a journey; or the first fault of its files, of its stops or of the window, or that
+/// there is no memory.
+pub fn problem_of<F: Files>(
+    alloc: Global,
+    files: &mut F,
+    journey: &Journey,
+    limits: &Limits,
+) -> Result<Problem, Fault>
+    requires within { AreWithin limits.now }
+    requires journey { IsJourney (journey_shown journey.now) }
+    ensures same { F.files files.new ≡ F.files files.old }
+    ensures problem { IfSome (F.files files.old) (λ m. IfOk result
+        (IsProblem limits.now m (journey_shown journey.now))) }
+    ensures fault { IfSome (F.files files.old) (λ m. IfErr result
+        (IsProblemFault limits.now m (journey_shown journey.now))) }
+    ensures early { IfErr result (IsEarly (journey_shown journey.now).timetable) }
+    ensures sound { IfOk result (IsSound (journey_shown journey.now)) }
+    ensures source { IfOk result (λ p. p.source.0 < length p.network.change) }
+    ensures target { IfOk result (λ p. p.target.0 < length p.network.change) }
+    ensures causes { (graph : Bytes ℕ) → HasCauses (IsSome (F.files files.old))
+        (path_of (journey_shown journey.now) graph)
+        (F.faults files.old) (F.faults files.new)
+        (F.faults_of files.old) (F.faults_of files.new) result }
+{
+    match journey.timetable {
+        Timetable::Cut(path) => cut_problem(alloc, files, path, journey, limits),
+        Timetable::Feed(folder, horizon) => {
+            feed_problem(alloc, files, folder, horizon, journey, limits)
+        }
+    }
+}

@@ -1,0 +1,55 @@
+-- What a run promises, once for all its limits.
+use Rattle.std.specs.Prelude.{◌≡◌, ℕ, ◌<◌, List, Option, None, Some, Ok, IsSome}
+use Rattle.std.specs.Io.KnownBytes.{Keeps}
+use Rattle.file_ports.specs.Counts.{Rose}
+use Rattle.file_ports.specs.Ports.{Folder}
+use Rattle.csv_rows.specs.declared.limits.Limits.{Limits}
+use Rattle.command_line.specs.Jobs.{Wanted, job_of}
+use Rattle.fault_lines.specs.declared.faults.Input.{Input}
+use Rattle.fault_lines.specs.declared.faults.Fault.TheVariants.{Read, Write}
+use Rattle.fault_lines.specs.Faults.{status_of}
+use Rattle.meat_engine.specs.declared.report.Report.{Report}
+use Rattle.meat_engine.specs.Received.{Outcome, IsTold, paths_of}
+use Rattle.meat_engine.specs.Completeness.{IsComplete}
+
+-- what files tell, where they do; and how often they failed, in all and by path
+pub record FilesState : Type 0 where
+  pub told : Option Folder
+  pub faults : ℕ
+  pub faults_of : List ℕ → ℕ
+
+abbrev pub files_state : Option Folder → ℕ → (List ℕ → ℕ) → FilesState
+files_state told faults faults_of = record { told = told; faults = faults; faults_of = faults_of }
+
+-- what a sink received, where that is known; and how often it failed
+pub record SinkState : Type 0 where
+  pub written : Option (List ℕ)
+  pub faults : ℕ
+
+abbrev pub sink_state : Option (List ℕ) → ℕ → SinkState
+sink_state written faults = record { written = written; faults = faults }
+
+-- a front of a line was received by the sink of faults, the whole of it where its count did not rise
+abbrev pub Tells : SinkState → SinkState → List ℕ → Type 0
+Tells old new = IsTold old.written new.written old.faults new.faults
+
+-- a run of these words within these limits gives this report, over files that stood so before it and after it, with a sink
+-- for the answer and one for the fault that stood so
+pub record IsRun (limits : Limits) (words : List (List ℕ)) (report : Report) (before after : FilesState) (out out_after err err_after : SinkState) : Type 0 where
+  -- the status is that of the fault, and the fault is that of the run
+  pub status : report.status.0 ≡ status_of report.fault
+  pub outcome : Outcome before.told limits words report out.written out_after.written (Tells err err_after) report.fault
+  -- where there is no fault nothing is told of one
+  pub quiet : report.fault ≡ None → Keeps err.written err_after.written
+  pub same : after.told ≡ before.told
+  -- a file cannot be read only where the files failed, which is told of its own path too; and always where they did
+  pub read : (input : Input) → report.fault ≡ Some (Read input) → Rose before.faults after.faults
+  pub read_path : (wanted : Wanted) (input : Input) → job_of words ≡ Ok wanted → IsSome before.told
+      → report.fault ≡ Some (Read input) → Rose (before.faults_of (paths_of wanted input)) (after.faults_of (paths_of wanted input))
+  pub files_grew : before.faults < after.faults → (input : Input) × (report.fault ≡ Some (Read input))
+  -- the answer cannot be written only where its sink failed, and always where it did
+  pub write : report.fault ≡ Some Write → Rose out.faults out_after.faults
+  pub out_grew : out.faults < out_after.faults → report.fault ≡ Some Write
+  -- the status, where neither failed and the files have no fault
+  pub complete : ¬ Rose before.faults after.faults → ¬ Rose out.faults out_after.faults
+      → IsComplete before.told limits words report.status.0
