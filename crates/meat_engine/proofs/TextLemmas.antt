@@ -18,6 +18,7 @@ use Rattle.trip_replay.specs.declared.Ridden.{Ridden}
 use Rattle.trip_replay.specs.Rides.{IsRide, arrival_after, place_after}
 use Rattle.plan_model.specs.declared.model.Moment.{Moment}
 use Rattle.meat_engine.specs.Texts.{ride_text, rides_text, arrived_text}
+use Rattle.meat_engine.specs.Moments.{last_moment}
 
 delay_at : (o : Outcome) (row : List Outcome) (d : ℕ) (b : Bool) → (o.delay == d) ≡ b → o.delay ≤ 86400 → (list_any (λ x. x.delay == d) row ≡ true → d ≤ 86400)
     → (b || list_any (λ x. x.delay == d) row) ≡ true → d ≤ 86400
@@ -32,14 +33,14 @@ delay_few (o ∷ row) d all any =
 
 module _ (n : Parts) (valid : IsValid n) where
   -- the arrival of a ride has a text
-  pub ride_arrival : (r : Ridden) → IsRide n r → r.arrival.0 ≤ 253402300799
+  pub ride_arrival : (r : Ridden) → IsRide n r → r.arrival.0 ≤ last_moment
   ride_arrival r is =
       let c = valid.connections r.leg.exit.0 is.is_leg.exit in
       let row = valid.rows (connection n r.leg.exit.0).class.0 c.class_in in
       let few = delay_few (outcomes_of n r.leg) r.delay row.delays is.is_delay in
       omega (arith, is.late, c.early, few)
 
-  pub arrivals : (start : ℕ) (rides : List Ridden) → start ≤ 253402300799 → All (IsRide n) rides → arrival_after start rides ≤ 253402300799
+  pub arrivals : (start : ℕ) (rides : List Ridden) → start ≤ last_moment → All (IsRide n) rides → arrival_after start rides ≤ last_moment
   arrivals start [] early all = early
   arrivals start (r ∷ rides) early all = arrivals r.arrival.0 rides (ride_arrival r (All-head (IsRide n) r rides all)) (All-tail (IsRide n) r rides all)
 

@@ -34,15 +34,16 @@ use Rattle.meat_engine.specs.Refusals.{IsPlaced, IsRefusalOf, IsTripRefusal, IsR
 use Rattle.meat_engine.specs.Replays.{graph_as, graph_in, FailsReplay, IsGraphFile, IsSafeTrip, trip_by, IsTripTold, IsReplayed}
 use Rattle.meat_engine.proofs.Nameless.{early_nameless, graph_nameless, no_names, plain_lined}
 use Rattle.meat_engine.proofs.TextLemmas.{arrivals, places}
+use Rattle.meat_engine.specs.Moments.{last_moment, last_start}
 
 -- a trip is stuck at a place, at a moment that has a text
-pub stuck_placed : (p : Problem) (head : Head) (since : ℕ) → IsValid p.network → IsHeadOf p.source.0 p.target.0 since head → p.source.0 < length p.network.change → since ≤ 13569465599
+pub stuck_placed : (p : Problem) (head : Head) (since : ℕ) → IsValid p.network → IsHeadOf p.source.0 p.target.0 since head → p.source.0 < length p.network.change → since ≤ last_start
     → (fault : ReplayFault) → IsStuckAfter p.network head.query fault → IsPlaced p fault
 stuck_placed p head since valid is inside early (replay.Stuck place moment) (rides, all, at, since_when) =
     let source : head.query.source.0 < length p.network.change = omega (arith, is.source, inside) in
-    let few : head.query.start.0 ≤ 253402300799 = omega (arith, is.start, early) in (
+    let few : head.query.start.0 ≤ last_moment = omega (arith, is.start, early) in (
       subst (λ (k : ℕ). k < length p.network.change) (sym at) (places p.network valid head.query.source.0 rides source all),
-      subst (λ (k : ℕ). k ≤ 253402300799) (sym since_when) (arrivals p.network valid head.query.start.0 rides few all),
+      subst (λ (k : ℕ). k ≤ last_moment) (sym since_when) (arrivals p.network valid head.query.start.0 rides few all),
     )
 stuck_placed p head since valid is inside early _ stuck = tt
 

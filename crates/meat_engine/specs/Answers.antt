@@ -24,6 +24,7 @@ use Rattle.fault_lines.specs.declared.faults.Fault.TheVariants.{NoSafe, NoMemory
 use Rattle.meat_engine.specs.Findings.{Findings, findings_of, safe_findings, expand_findings, plan_findings}
 use Rattle.journey_problem.specs.Problems.{FailsEarly, InProblem}
 use Rattle.meat_engine.specs.Texts.{safe_text}
+use Rattle.meat_engine.specs.Moments.{after_arrivals, last_moment, last_start}
 
 -- this is the least worst arrival of the query
 abbrev pub IsWorst : Parts → Query → Moment → Type 0
@@ -81,8 +82,8 @@ FailsSearch told limits s fault =
 pub record IsPrintable (n : Parts) (q : Query) (worst : Moment) : Type 0 where
   pub source : q.source.0 < length n.change
   pub target : q.target.0 < length n.change
-  pub start : q.start.0 ≤ 13569465599
+  pub start : q.start.0 ≤ last_start
   pub order : q.start.0 ≤ worst.0
-  pub early : worst.0 < 13601174401
+  pub early : worst.0 < after_arrivals
   pub deadline : worst.0 ≤ q.deadline.0
-  pub late : q.deadline.0 ≤ 253402300799
+  pub late : q.deadline.0 ≤ last_moment

@@ -1,3 +1,4 @@
+pub mod Moments
 pub mod Findings
 pub mod Texts
 pub mod Answers

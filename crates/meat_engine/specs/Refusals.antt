@@ -11,13 +11,14 @@ use Rattle.journey_problem.specs.declared.problem.Problem.{Problem}
 use Rattle.meat_engine.specs.declared.replays.Refusal.{Refusal}
 use Rattle.fault_lines.specs.Lines.{line_of, IsNameless}
 use Rattle.meat_engine.specs.Replays.{IsTripFault}
+use Rattle.meat_engine.specs.Moments.{last_moment}
 
 -- where a trip is stuck it is at a place, and the moment has a text
 abbrev pub IsPlaced : Problem → ReplayFault → Type 0
 IsPlaced p (replay.NotADelay number) = Unit {0}
 IsPlaced p (replay.TooFew ridden) = Unit {0}
 IsPlaced p (replay.TooMany ridden) = Unit {0}
-IsPlaced p (replay.Stuck place moment) = (place.0 < length p.network.change) × (moment.0 ≤ 253402300799)
+IsPlaced p (replay.Stuck place moment) = (place.0 < length p.network.change) × (moment.0 ≤ last_moment)
 IsPlaced p replay.NoMemory = Unit {0}
 
 -- the line that is there is that of the fault by these names, and else the fault's line names no place

@@ -9,6 +9,7 @@ ghost use Rattle.command_line.specs.declared.options.Goal.TheVariants.{Safe, Exp
 ghost use Rattle.command_line.specs.Shown.{search_shown};
 ghost use Rattle.meat_engine.specs.Answers.{IsWorst, IsAsked, IsPrintable, Tells, IsSought, FailsIn};
 ghost use Rattle.meat_engine.specs.Findings.{findings_of};
+ghost use Rattle.meat_engine.specs.Moments.{after_arrivals, last_start};
 
 use crate::report::Report;
 use crate::texts::safe_text;
@@ -49,11 +50,11 @@ fn worst_of<B: BackwardOrder>(
     requires whole { IsScanOrder problem.now.network (B.rest order.old problem.now.network) }
     requires source { problem.now.source.0 < length problem.now.network.change }
     requires target { problem.now.target.0 < length problem.now.network.change }
-    requires start { start.0 < 13601174401 }
+    requires start { start.0 < after_arrivals }
     ensures least { IfOk result
         (LeastWorst problem.now.network problem.now.source.0 problem.now.target.0 start.0) }
     ensures order { IfOk result (λ worst. IfSome worst (λ w. start.0 ≤ w.0)) }
-    ensures early { IfOk result (λ worst. IfSome worst (λ w. w.0 < 13601174401)) }
+    ensures early { IfOk result (λ worst. IfSome worst (λ w. w.0 < after_arrivals)) }
     ensures fits { IfOk result (λ worst. B.fits order.new problem.now.network) }
 {
     let tables: ScanTables<WorstMoment> = ScanTables::reserve(alloc, &problem.network)?;
@@ -76,7 +77,7 @@ pub(crate) fn asked_of(
 ) -> Result<(Asked, MergedRuns), Fault>
     requires source { problem.now.source.0 < length problem.now.network.change }
     requires target { problem.now.target.0 < length problem.now.network.change }
-    requires start { search.now.journey.start.0 ≤ 13569465599 }
+    requires start { search.now.journey.start.0 ≤ last_start }
     requires low { 100 ≤ search.now.alpha }
     requires high { search.now.alpha ≤ 1000 }
     ensures asked { IfOk result (λ found.
@@ -264,7 +265,7 @@ pub(crate) fn seek(alloc: Global, problem: &Problem, search: &SearchJob) -> Resu
     requires fit { NamesFit problem.now.names problem.now.network }
     requires source { problem.now.source.0 < length problem.now.network.change }
     requires target { problem.now.target.0 < length problem.now.network.change }
-    requires start { search.now.journey.start.0 ≤ 13569465599 }
+    requires start { search.now.journey.start.0 ≤ last_start }
     requires low { 100 ≤ search.now.alpha }
     requires high { search.now.alpha ≤ 1000 }
     ensures sought { IfOk result (λ a.

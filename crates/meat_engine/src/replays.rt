@@ -15,6 +15,7 @@ ghost use Rattle.fault_lines.specs.Stages.{IsOfGraph};
 ghost use Rattle.journey_problem.specs.Problems.{InProblem};
 ghost use Rattle.meat_engine.specs.Refusals.{IsPlaced, IsRefusalOf, IsTripRefusal, IsRefusalBy, by_fault};
 ghost use Rattle.meat_engine.specs.Replays.{graph_as, graph_in, IsTripTold, IsReplayed, FailsReplay};
+ghost use Rattle.meat_engine.specs.Moments.{last_start};
 
 use crate::answers::Answer;
 use crate::report::Report;
@@ -155,7 +156,7 @@ fn trip(
         job.now.journey.start.0 file.head }
     requires source { problem.now.source.0 < length problem.now.network.change }
     requires target { problem.now.target.0 < length problem.now.network.change }
-    requires start { job.now.journey.start.0 ≤ 13569465599 }
+    requires start { job.now.journey.start.0 ≤ last_start }
     ensures told { IfOk result (λ a. IsTripTold problem.now file.head file.graph
         (late_in job.now.late.now) a.report a.text.items) }
     ensures fault { IfErr result (IsTripRefusal problem.now file.head file.graph

@@ -41,8 +41,5 @@ pub(crate) fn seek_over<F: Files>(
         Err(fault) => return Err(fault),
         Ok(problem) => problem,
     };
-    match seek(alloc, &problem, search) {
-        Err(fault) => Err(fault),
-        Ok(answer) => Ok(answer),
-    }
+    seek(alloc, &problem, search)
 }

@@ -5,6 +5,7 @@ ghost use Rattle.plan_model.specs.NameLists.{NamesFit};
 ghost use Rattle.trip_replay.specs.Rides.{IsRide};
 ghost use Rattle.meat_engine.specs.Texts.{safe_text, ride_text, rides_text, arrived_text, trace_text, leg_count, sample_text};
 ghost use Rattle.fault_lines.specs.Lines.{line_of};
+ghost use Rattle.meat_engine.specs.Moments.{last_moment};
 
 use clock_text::{write_moment, write_nanos};
 use csv::WriterBuilder;
@@ -38,9 +39,9 @@ pub(crate) fn safe_text(
     query: &Query,
     worst: Moment,
 ) -> Result<Vec<u8>, NoMemory>
-    requires start { query.now.start.0 ≤ 253402300799 }
-    requires worst { worst.0 ≤ 253402300799 }
-    requires deadline { query.now.deadline.0 ≤ 253402300799 }
+    requires start { query.now.start.0 ≤ last_moment }
+    requires worst { worst.0 ≤ last_moment }
+    requires deadline { query.now.deadline.0 ≤ last_moment }
     ensures { IfOk result (λ text. text.items ≡ safe_text source.now target.now query.now worst) }
 {
     let start = write_moment(query.start);
@@ -94,7 +95,7 @@ fn ride_text(
 
 /// The row of an arrival at the target.
 fn arrived_text(alloc: Global, target: &str, arrival: Moment) -> Result<Vec<u8>, NoMemory>
-    requires { arrival.0 ≤ 253402300799 }
+    requires { arrival.0 ≤ last_moment }
     ensures { IfOk result (λ text. text.items ≡ arrived_text target.now arrival) }
 {
     let moment = write_moment(arrival);
@@ -115,7 +116,7 @@ pub(crate) fn trace_text(
     requires fit { NamesFit names.now network.now }
     requires target { target.0 < length network.now.change }
     requires rides { All (IsRide network.now) trace.now.rides }
-    requires arrival { trace.now.arrival.0 ≤ 253402300799 }
+    requires arrival { trace.now.arrival.0 ≤ last_moment }
     ensures { IfOk result (λ text.
         text.items ≡ trace_text network.now names.now target.0 trace.now) }
 {
@@ -178,7 +179,7 @@ pub(crate) fn stuck_line(
     moment: Moment,
 ) -> Result<Vec<u8>, NoMemory>
     requires place { place.0 < length names.now.places }
-    requires moment { moment.0 ≤ 253402300799 }
+    requires moment { moment.0 ≤ last_moment }
     ensures { IfOk result (λ line.
         line.items ≡ line_of names.now (Fault.Replay (ReplayFault.Stuck place moment))) }
 {

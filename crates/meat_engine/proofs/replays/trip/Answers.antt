@@ -5,6 +5,7 @@ use Rattle.command_line.specs.Jobs.{late_in}
 use Rattle.meat_engine.proofs.TextLemmas.{arrivals}
 use Rattle.meat_engine.proofs.Trips.{stuck_placed, trip_refusal}
 use Rattle.meat_engine.proofs.replays.trip.Goals as goal
+use Rattle.meat_engine.specs.Moments.{last_moment}
 
 pub refusal_of-requires-clause-place : goal.refusal_of-requires-clause-place
 refusal_of-requires-clause-place c =
@@ -19,6 +20,6 @@ returns-in-Err-clause-fault c =
 
 pub trace_text-requires-clause-arrival : goal.trace_text-requires-clause-arrival
 trace_text-requires-clause-arrival c =
-    subst (λ (k : ℕ). k ≤ 253402300799) (sym c.in-Ok-replay.ensures.arrival)
+    subst (λ (k : ℕ). k ≤ last_moment) (sym c.in-Ok-replay.ensures.arrival)
     (arrivals c.args.problem.now.network c.count-count.ensures.valid c.args.file.head.query.start.0 c.in-Ok-replay.trace.rides
     (omega (arith, c.requires.head.start, c.requires.start)) c.in-Ok-replay.ensures.rides)
