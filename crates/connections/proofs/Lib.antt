@@ -14,3 +14,4 @@ pub mod ScanLemmas
 pub mod StretchLemmas
 pub mod TournamentLemmas
 pub mod SkipLemmas
+pub mod ReachLemmas

@@ -1,5 +1,5 @@
 -- The runs of a feed that ride in a window.
-use Rattle.std.specs.Prelude.{ℕ, ◌+◌, ◌-◌, ◌*◌, ◌&&◌, nat_lt, Bool, List, [], length, pos, slice_index_or}
+use Rattle.std.specs.Prelude.{ℕ, ◌+◌, ◌-◌, ◌*◌, ◌<◌, ◌≤◌, ◌&&◌, nat_lt, Bool, List, [], length, pos, slice_index_or}
 use Rattle.gtfs_tables.specs.declared.stop_times.StopRow.{StopRow}
 use Rattle.gtfs_tables.specs.Feeds.{FeedParts}
 use Rattle.gtfs_tables.specs.Timed.{rows_of, kept_at}
@@ -12,6 +12,10 @@ use Rattle.connections.specs.Window.{holds, first_day}
 -- when a trip leaves its k-th kept row on a service day
 abbrev pub departs : List StopRow → ℕ → ℕ → ℕ
 departs rows day k = 86400 * day + (kept_at rows k).departure
+
+-- no kept row is left before one that stands before it
+abbrev pub DepartInOrder : List StopRow → Type 0
+DepartInOrder rows = (i j : ℕ) → i ≤ j → j < length rows → (kept_at rows i).departure ≤ (kept_at rows j).departure
 
 -- which of the first n kept rows a trip leaves in the window
 unfoldable pub steps_below : Window → List StopRow → ℕ → ℕ → List ℕ

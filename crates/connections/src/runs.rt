@@ -1,8 +1,8 @@
 //! The runs that ride in a window.
-ghost use Rattle.std.specs.Prelude.{◌≡◌, ◌+◌, ◌*◌, ◌≤◌, ◌<◌, ◌++◌, ◌&&◌, length, pos, IfOk, OnOk};
-ghost use Rattle.gtfs_tables.specs.Timed.{rows_of};
+ghost use Rattle.std.specs.Prelude.{◌≡◌, ◌+◌, ◌*◌, ◌≤◌, ◌<◌, ◌++◌, ◌&&◌, length, pos, [], false, IfOk, OnOk};
+ghost use Rattle.gtfs_tables.specs.Timed.{IsTimed, rows_of};
 ghost use Rattle.connections.specs.Window.{holds, IsWindow};
-ghost use Rattle.connections.specs.Rides.{departs, is_active, rides, steps_of, day_runs, runs_in};
+ghost use Rattle.connections.specs.Rides.{DepartInOrder, departs, is_active, rides, steps_of, day_runs, runs_in};
 
 use crate::window::Window;
 use gtfs_tables::{Feed, StopRow};
@@ -35,12 +35,33 @@ pub(crate) fn day_number(day: u32) -> i32
     day as i32
 }
 
+/// When a trip leaves a kept row on a day.
+fn departure_of(rows: &[StopRow], row: usize, day: u32) -> u64
+    requires { row < length rows.now }
+    ensures { result ≡ departs rows.now day row }
+{
+    moment_of(day, rows[row].departure)
+}
+
 /// Whether a trip leaves a kept row in the window on a day.
 pub(crate) fn leaves(rows: &[StopRow], row: usize, day: u32, window: Window) -> bool
     requires { row < length rows.now }
     ensures { result ≡ holds window (departs rows.now day row) }
 {
-    window.holds(moment_of(day, rows[row].departure))
+    window.holds(departure_of(rows, row, day))
+}
+
+/// Whether a trip with these kept rows may ride in the window on a day: not where its first ride departs after it, or its
+/// last one before it.
+fn may_ride(rows: &[StopRow], day: u32, window: Window) -> bool
+    requires { DepartInOrder rows.now }
+    ensures { result ≡ false → steps_of window rows.now day ≡ [] }
+{
+    let rides = rows.len().saturating_sub(1);
+    if rides == 0 || window.end < departure_of(rows, 0, day) {
+        return false;
+    }
+    window.start <= departure_of(rows, rides - 1, day)
 }
 
 /// How many rides of a trip with these kept rows depart in the window on a day.
@@ -57,15 +78,28 @@ pub(crate) fn count_rides(rows: &[StopRow], day: u32, window: Window) -> u64
     count
 }
 
+/// Whether the service of a trip is active on a day.
+fn has_service(feed: &Feed, services: &Services, trip: u32, day: u32) -> bool
+    requires trip { trip < length feed.now.trip_ids }
+    requires day { day ≤ 2_932_896 }
+    ensures { result ≡ is_active feed.now services.now day trip }
+{
+    services.runs_on(feed.service_of(trip), day_number(day))
+}
+
 /// Whether a trip is active on a day and rides in the window then.
 fn rides_on(feed: &Feed, services: &Services, trip: u32, day: u32, window: Window) -> bool
     requires trip { trip < length feed.now.trip_ids }
     requires day { day ≤ 2_932_896 }
+    requires timed { IsTimed feed.now }
     ensures { result ≡ (is_active feed.now services.now day trip
         && rides window (rows_of feed.now trip) day) }
 {
-    services.runs_on(feed.service_of(trip), day_number(day))
-        && count_rides(feed.stop_times(trip), day, window) > 0
+    let rows = feed.stop_times(trip);
+    if !may_ride(rows, day, window) {
+        return false;
+    }
+    has_service(feed, services, trip, day) && count_rides(rows, day, window) > 0
 }
 
 /// Adds the trips that are active on a day and ride in the window then.
