@@ -456,7 +456,7 @@ fn scan_all<V: Score, B: BackwardOrder>(
         mut kids,
     } = tables;
     order.skip_after(network, query.deadline);
-    let mut start = None;
+    let mut start: Option<(V, Leg)> = None;
     while let Some(id) = order.next(network) {
         let exit = scan_one(&mut profiles, &mut exits, &mut kids, network, query, id);
         start = begin(network, query, id, exit, start);
