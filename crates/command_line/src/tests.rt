@@ -303,3 +303,31 @@ fn names_options(rt: HostRuntime) {
     assert_eq!(rt; OptionName::Late.number(), 10);
     assert_eq!(rt; OptionName::Late.name(), "--late");
 }
+
+#[test]
+fn tells_what_options_are_for(rt: HostRuntime) {
+    for (command, option, done) in [
+        (
+            Command::Seek(Goal::Plan),
+            OptionName::Cut,
+            Use::OneOf(OptionName::Feed),
+        ),
+        (
+            Command::Replay,
+            OptionName::Feed,
+            Use::OneOf(OptionName::Cut),
+        ),
+        (Command::Seek(Goal::Safe), OptionName::Alpha, Use::Optional),
+        (Command::Replay, OptionName::Alpha, Use::Unused),
+        (
+            Command::Seek(Goal::Expand),
+            OptionName::Horizon,
+            Use::With(OptionName::Feed),
+        ),
+        (Command::Replay, OptionName::Graph, Use::Needed),
+        (Command::Sample, OptionName::Size, Use::Needed),
+        (Command::Sample, OptionName::At, Use::Unused),
+    ] {
+        assert_eq!(rt; command.use_of(option), done, "{}", option.name());
+    }
+}
