@@ -1,6 +1,26 @@
-use Rattle.std.proofs.Common.{arith}
+use Rattle.std.proofs.Common.{◌≡◌, ℕ, suc, ◌-◌, Option, arith, ap, refl}
+use Rattle.std.specs.Prelude.{◌==◌, if◌then◌else◌}
+use Rattle.plan_model.specs.declared.model.Connection.{Connection}
+use Rattle.plan_model.specs.declared.model.Leg.{Leg}
+use Rattle.plan_model.specs.Parts.{Parts}
+use Rattle.plan_model.specs.Tree.{Done}
+use Rattle.plan_model.specs.Unfold.{end_of, by_place, ride_or_stuck, unfold_after}
+use Rattle.plan_graph.specs.Rows.{pick_at}
 use Rattle.trip_replay.proofs.Walks.{next_leg}
 use Rattle.trip_replay.proofs.stop_after.Goals as goal
 
 pub returns-clause-next : goal.returns-clause-next
 returns-clause-next c = next_leg c.args.network.now c.args.graph.now.tables c.requires.fit.tables c.get.result.to.0 c.args.arrival.0 c.args.left c.pick.result c.pick.ensures (omega (arith, c.if-left-eq0.false))
+
+-- with one more ride to come
+one_more : (n : Parts) (target : ℕ) (choice : Leg → ℕ → Option Leg) (fewer left : ℕ) (leg : Leg) (arrival : ℕ) → left ≡ suc fewer
+    → (if end_of n leg == target then Done arrival else ride_or_stuck n (unfold_after n target choice fewer) (choice leg arrival) (end_of n leg) arrival)
+    ≡ unfold_after n target choice left leg arrival
+one_more n target choice fewer left leg arrival is = rw is refl
+
+pub returns-clause-tree : goal.returns-clause-tree
+returns-clause-tree c =
+    let n = c.args.network.now in
+    let choice = by_place n (pick_at c.args.graph.now.tables) in
+    let to = ap (λ (k : Connection). k.to.0) c.get.ensures.connection in
+    rw (c.pick.ensures, to) (one_more n c.args.query.now.target.0 choice (c.args.left - 1) c.args.left c.args.leg c.args.arrival.0 (omega (arith, c.if-left-eq0.false)))
