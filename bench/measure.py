@@ -11,7 +11,7 @@ over the same files.
 With `--before PROGRAM` a second program runs in turn with the first on each line, and the last columns give its
 seconds and peak memory, and the seconds of the first divided by those of the second.
 
-The peak memory is at least this script's own, from which a process is begun. It needs the built program: `./meat`
+The peak memory is at least this script's own, some 15 MiB, from which a process is begun. It needs the built program: `./meat`
 with no words builds it.
 """
 
@@ -72,6 +72,19 @@ def fastest(runs):
     if any(run is None for run in runs):
         return None
     return min(runs, key=Run.seconds)
+
+
+def write_apart(write, folder, size):
+    """Writes inputs in a process of their own, so that this one stays small."""
+    pid = os.fork()
+    if pid == 0:
+        try:
+            write(folder, size)
+            os._exit(0)
+        finally:
+            os._exit(1)
+    if os.waitpid(pid, 0)[1] != 0:
+        sys.exit("The inputs cannot be written.")
 
 
 def text_of(words):
@@ -158,7 +171,7 @@ def measure_feed(table, lines, commands, cases):
     """A feed of so many lines: reading and these commands, and the further cases if they are wanted."""
     items = stop_times_of(lines)
     with tempfile.TemporaryDirectory() as folder:
-        write_feed(folder, lines)
+        write_apart(write_feed, folder, lines)
         files = [os.path.join(folder, name) for name in sorted(os.listdir(folder))]
         table.line("reading", "reading, %d lines" % lines, items, feed_words("safe", folder, NO_STOP), files)
         for command in commands:
@@ -179,14 +192,14 @@ def measure_feed(table, lines, commands, cases):
 def measure_cut(table, rows, commands, cases):
     """A cut file of so many rows: reading and these commands, and a start long before the first departure."""
     with tempfile.TemporaryDirectory() as folder:
-        write_cut(folder, rows)
+        write_apart(write_cut, folder, rows)
         files = [os.path.join(folder, "cut.csv"), os.path.join(folder, "delays.csv")]
-        table.line("reading cut", "reading, cut file", rows, cut_words("safe", folder, NO_STOP), files)
+        table.line("reading cut", "reading, cut file of %d rows" % rows, rows, cut_words("safe", folder, NO_STOP), files)
         for command in commands:
-            table.line("%s cut" % command, "`%s`, cut file" % command, rows, cut_words(command, folder, "S0"))
+            table.line("%s cut" % command, "`%s`, cut file of %d rows" % (command, rows), rows, cut_words(command, folder, "S0"))
         if cases:
             for command in commands:
-                table.line("%s cut early" % command, "`%s`, cut file, from 12 hours before on" % command,
+                table.line("%s cut early" % command, "`%s`, %d rows, from 12 hours before on" % (command, rows),
                            rows, cut_words(command, folder, "S0", at=EVENING_BEFORE))
 
 
