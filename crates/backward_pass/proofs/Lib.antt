@@ -1,4 +1,0 @@
-pub mod Least
-pub mod Trees
-pub mod Entering
-pub mod Scanned

@@ -1,0 +1,5 @@
+//! Graphs over small networks, step by step.
+#![tactic(auto)]
+
+#[cfg(test)]
+mod graphs;
