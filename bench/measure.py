@@ -28,7 +28,8 @@ sys.dont_write_bytecode = True
 from inputs import UNSERVED, stop_times_of, write_cut, write_feed  # noqa: E402
 
 TOP = os.path.dirname(os.path.dirname(os.path.abspath(__file__)))
-BUILT = os.path.join(TOP, "crates", "meat_cli", "out", "meat_cli")
+# The launcher's program, and the one that `rt run` or `rt ci` has built.
+BUILT = [os.path.join(TOP, "out", "meat"), os.path.join(TOP, "crates", "meat_cli", "out", "meat_cli")]
 NO_STOP = "no such stop"
 MORNING = "2024-06-03T08:00:01"
 LATE = "2024-06-03T22:00:01"
@@ -210,7 +211,8 @@ def numbers_in(text):
 
 def options_of():
     parser = argparse.ArgumentParser(description="Measures the time and the memory of the program.")
-    parser.add_argument("--program", default=BUILT, help="the program")
+    built = next((program for program in BUILT if os.access(program, os.X_OK)), BUILT[0])
+    parser.add_argument("--program", default=built, help="the program")
     parser.add_argument("--before", help="a second program, to compare with in the same run")
     parser.add_argument("--lines", default="100,200,400", help="lines of the feeds, by commas")
     parser.add_argument("--most-lines", type=int, default=2081, help="lines of the feed of 2^22 stop times, or 0")
