@@ -20,7 +20,7 @@ const JOURNEYS: u32 = 2;
 /// No strategy arrives later than this in a network of one hour.
 const NEVER: Moment = Moment(100_000);
 
-/// How many queries have a safe strategy, and how many have none.
+/// How many journeys between two places have a safe strategy, and how many have none.
 #[derive(Clone, Copy)]
 struct Counts {
     safe: u64,
@@ -135,7 +135,11 @@ fn compare_made(alloc: Global, numbers: &mut Numbers, counts: Counts) -> Result<
         if source >= places || target >= places {
             return Err("a place of another network".into());
         }
-        if compare(alloc, &network, PlaceId(source), PlaceId(target), start)? {
+        let safe = compare(alloc, &network, PlaceId(source), PlaceId(target), start)?;
+        if source == target {
+            continue;
+        }
+        if safe {
             counts.safe = counts.safe.saturating_add(1);
         } else {
             counts.none = counts.none.saturating_add(1);
