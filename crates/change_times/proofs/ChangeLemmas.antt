@@ -1,31 +1,30 @@
 -- What rows tell, one more at a time.
-use Rattle.std.proofs.Common.{◌≡◌, ℕ, ◌+◌, ◌≤◌, Bool, true, false, cond, [], ◌∷◌, ◌++◌, count_by, Option, Some, None, IfSome, is_none, nat_eq, ◌==◌, if◌then◌else◌, refl, sym, ap, ◌∙◌, subst, arith, add-one}
+use Rattle.std.proofs.Common.{◌≡◌, ℕ, ◌+◌, ◌≤◌, ◌&&◌, Bool, true, false, cond, [], ◌∷◌, ◌++◌, length, count_by, Option, Some, None, IfSome, is_none, nat_eq, ◌==◌, if◌then◌else◌, refl, sym, ap, ◌∙◌, subst, arith}
 use Rattle.std.specs.Prelude.{Result}
 use Rattle.std.specs.Map.{lookup}
 use Rattle.std.proofs.lemmas.List.Sums.{sum_by-append}
+use Rattle.std.proofs.lemmas.Bool.Decides.{nat_tests}
 use Rattle.csv_rows.specs.declared.feed_tables.FeedFault.{FeedFault}
 use Rattle.csv_rows.specs.Lists.{list_below}
 use Rattle.csv_rows.proofs.ListLemmas.{list_below-zero, list_below-next}
 use Rattle.gtfs_tables.specs.Feeds.{FeedParts, Records}
-use Rattle.change_times.specs.declared.transfers.Change.{Change}
+use Rattle.change_times.specs.declared.transfers.Transfer.{Transfer}
 use Rattle.change_times.specs.declared.transfers.TransferColumns.{TransferColumns}
-use Rattle.change_times.specs.Transfers.{transfer_columns, change_in, change_at, told_by}
-use Rattle.change_times.specs.Changes.{greater, greatest_below, seconds_at, change_seconds, ChangeParts, AreChanges}
+use Rattle.change_times.specs.Transfers.{transfer_columns, transfer_in, transfer_at, told_by}
+use Rattle.change_times.specs.Greatest.{greatest_below}
+use Rattle.change_times.specs.declared.changes.Told.{Told}
+use Rattle.change_times.specs.Walks.{seconds_between, link_between, walks_of, most_to}
+use Rattle.change_times.specs.Told.{AreTold}
+use Rattle.change_times.specs.Links.{ways_at}
+use Rattle.change_times.specs.Changes.{change_seconds, greatest_link, ChangeParts, AreChanges}
+use Rattle.change_times.proofs.GreatestLemmas.{IsShort, greatest-zero}
+use Rattle.change_times.proofs.LinkLemmas.{ways-none}
 
 -- the row by where the columns stand
-pub change_is : (feed : FeedParts) (t : Records) (c : TransferColumns) (i : ℕ) (r : Result (Option Change) FeedFault) → c ≡ transfer_columns t → change_in feed t c i ≡ r
-    → change_at feed t i ≡ r
-unfolding change_at
-change_is feed t c i r e h = ap (λ k. change_in feed t k i) (sym e) ∙ h
-
-pub greatest-zero : (f : ℕ → Option ℕ) → greatest_below f 0 ≡ None
-unfolding greatest_below
-greatest-zero f = refl
-
--- the greatest with one more
-pub greatest-next : (f : ℕ → Option ℕ) (n : ℕ) (old new o : Option ℕ) → old ≡ greatest_below f n → new ≡ greater old o → f n ≡ o → new ≡ greatest_below f (n + 1)
-unfolding greatest_below
-greatest-next f n old new o e h here = rw add-one (h ∙ ap (λ x. greater x o) e ∙ ap (greater (greatest_below f n)) (sym here))
+pub transfer_is : (feed : FeedParts) (t : Records) (c : TransferColumns) (i : ℕ) (r : Result (Option Transfer) FeedFault) → c ≡ transfer_columns t → transfer_in feed t c i ≡ r
+    → transfer_at feed t i ≡ r
+unfolding transfer_at
+transfer_is feed t c i r e h = ap (λ k. transfer_in feed t k i) (sym e) ∙ h
 
 count_one : {A : Type 0} (p : A → Bool) (a : A) → count_by p (a ∷ []) ≡ (if p a then 1 else 0)
 count_one p a = omega arith
@@ -42,30 +41,50 @@ pub one_at_most : (b : Bool) → (if b then 1 else 0) ≤ 1
 one_at_most true = omega arith
 one_at_most false = omega arith
 
-abbrev IsShort : Option ℕ → Type 0
-IsShort o = IfSome o (λ seconds. seconds ≤ 86400)
-
-short_greater : (a b : Option ℕ) → IsShort a → IsShort b → IsShort (greater a b)
-short_greater None b h k = k
-short_greater (Some a) None h k = h
-short_greater (Some a) (Some b) h k = omega (arith, h, k)
-
 short_if : (b : Bool) (seconds : ℕ) → seconds ≤ 86400 → IsShort (if b then Some seconds else None)
 short_if true seconds h = h
 short_if false seconds h = tt
 
-short_at : (place : ℕ) (c : Option Change) → IfSome c (λ change. change.seconds ≤ 86400) → IsShort (seconds_at place c)
-short_at place None h = tt
-short_at place (Some c) h = short_if (c.place == place) c.seconds h
+-- the seconds of a short transfer are short
+pub short_between : (from to : ℕ) (o : Option Transfer) → IfSome o (λ transfer. transfer.seconds ≤ 86400) → IsShort (seconds_between from to o)
+short_between from to None h = tt
+short_between from to (Some t) h = short_if (t.from == from && t.to == to) t.seconds h
 
--- what is told stays short
-pub short_next : (old new : Option ℕ) (place : ℕ) (c : Option Change) → IsShort old → IfSome c (λ change. change.seconds ≤ 86400) → new ≡ greater old (seconds_at place c) → IsShort new
-short_next old new place c h k e = subst IsShort (sym e) (short_greater old (seconds_at place c) h (short_at place c k))
+pub short_link : (from to : ℕ) (o : Option Transfer) → IfSome o (λ transfer. transfer.seconds ≤ 86400) → IsShort (link_between from to o)
+short_link from to None h = tt
+short_link from to (Some t) h = cases (t.from == t.to)
+  where
+    cases : (b : Bool) → IsShort (if b then None else seconds_between from to (Some t))
+    cases true = tt
+    cases false = short_between from to (Some t) h
+
+-- no transfer leads from a place to itself as a link
+pub no_own_link : (place : ℕ) (o : Option Transfer) → link_between place place o ≡ None
+no_own_link place None = refl
+no_own_link place (Some t) = grind (arith, nat_tests)
 
 -- no rows tell nothing
-pub no_rows : (feed : FeedParts) (c : ChangeParts) → c.told ≡ [] → c.passed ≡ 0 → AreChanges feed c []
-no_rows feed c told passed =
+pub no_rows : (feed : FeedParts) (c : ChangeParts) → c.told ≡ [] → c.links ≡ [] → c.passed ≡ 0 → AreChanges feed c []
+no_rows feed c told links passed =
     record {
-      seconds = λ place. ap (λ es. change_seconds (lookup (nat_eq place) es)) told ∙ ap change_seconds (sym (greatest-zero (λ i. seconds_at place (told_by feed [] i))));
+      links = λ place inside. ap (λ ls. ways_at ls place) links
+          ∙ sym (ways-none (λ from. greatest_below (λ i. link_between from place (told_by feed [] i)) 0) (length feed.stop_ids) (λ from. greatest-zero (λ i. link_between from place (told_by feed [] i))));
+      few = omega (arith, ap length links);
+      seconds = λ place. ap (λ es. change_seconds (lookup (nat_eq place) es)) told ∙ ap change_seconds (sym (greatest-zero (λ i. seconds_between place place (told_by feed [] i))));
       passed = passed ∙ sym (ap (count_by is_none) (list_below-zero (told_by feed [])));
+    }
+
+-- what no rows tell
+pub told_none : (feed : FeedParts) (t : Records) (told : Told) → length told.walks.items ≡ length feed.stop_ids → ((from : ℕ) → walks_of told.walks.items from ≡ [])
+    → told.seconds.entries ≡ [] → told.passed ≡ 0 → AreTold feed t 0 told
+told_none feed t told size walks seconds passed =
+    let zero : (from to : ℕ) → greatest_link feed t 0 from to ≡ None = λ from to. greatest-zero (λ i. link_between from to (told_by feed t i)) in
+    record {
+      size = size;
+      seconds = λ place. ap (λ es. lookup (nat_eq place) es) seconds ∙ sym (greatest-zero (λ k. seconds_between place place (told_by feed t k)));
+      walks = λ from to. ap (most_to to) (walks from) ∙ sym (zero from to);
+      short = λ place. subst (λ es. IsShort (lookup (nat_eq place) es)) (sym seconds) tt;
+      brief = λ from to. subst IsShort (sym (zero from to)) tt;
+      passed = passed ∙ sym (ap (count_by is_none) (list_below-zero (told_by feed t)));
+      few = omega (arith, passed);
     }

@@ -1,1 +1,4 @@
+mod GreatestLemmas
+mod LinkLemmas
+mod SoundLemmas
 mod ChangeLemmas

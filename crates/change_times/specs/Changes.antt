@@ -1,5 +1,5 @@
--- The change time of each place of a feed.
-use Rattle.std.specs.Prelude.{◌≡◌, ℕ, zero, suc, ◌==◌, max, nat_eq, List, count_by, Option, None, Some, Result, is_none, if◌then◌else◌}
+-- The change time of each place of a feed, and the links between places.
+use Rattle.std.specs.Prelude.{◌≡◌, ℕ, ◌<◌, ◌≤◌, max, nat_eq, List, length, All, count_by, is_none, Option, None, Some, Result}
 use Rattle.std.specs.Map.{lookup}
 use Rattle.file_ports.specs.Ports.{Folder}
 use Rattle.csv_rows.specs.declared.feed_tables.Table.{Table}
@@ -12,51 +12,62 @@ use Rattle.csv_rows.specs.Lists.{list_below}
 use Rattle.csv_rows.specs.Tables.{row_count}
 use Rattle.csv_rows.specs.RowFaults.{and_then, unless}
 use Rattle.csv_rows.specs.Loading.{load_in, loaded_rows}
+use Rattle.plan_model.specs.declared.model.Way.{Way}
 use Rattle.gtfs_tables.specs.Feeds.{FeedParts, Records}
-use Rattle.change_times.specs.declared.transfers.Change.{Change}
 use Rattle.change_times.specs.Transfers.{told_by, transfers_fault}
-
--- the greater of two, where they are there
-abbrev pub greater : Option ℕ → Option ℕ → Option ℕ
-greater None b = b
-greater (Some a) None = Some a
-greater (Some a) (Some b) = Some (max a b)
-
--- the greatest of what is there at 0, 1 and on below n
-unfoldable pub greatest_below : (ℕ → Option ℕ) → ℕ → Option ℕ
-greatest_below f zero = None
-greatest_below f (suc n) = greater (greatest_below f n) (f n)
-
--- the seconds that are told for this place
-abbrev pub seconds_at : ℕ → Option Change → Option ℕ
-seconds_at place None = None
-seconds_at place (Some c) = if c.place == place then Some c.seconds else None
+use Rattle.change_times.specs.Greatest.{greatest_below}
+use Rattle.change_times.specs.Links.{ways_at, ways_below}
+use Rattle.change_times.specs.Walks.{seconds_between, link_between}
 
 -- a change takes a second at least, and 120 where nothing is told
 abbrev pub change_seconds : Option ℕ → ℕ
 change_seconds None = 120
 change_seconds (Some seconds) = max 1 seconds
 
--- the change time of a place: the greatest that a row tells for it
-abbrev pub change_time : FeedParts → Records → ℕ → ℕ
-change_time feed t place = change_seconds (greatest_below (λ i. seconds_at place (told_by feed t i)) (row_count t))
+-- the greatest seconds of a transfer that stays at a place, of the first n rows
+abbrev pub greatest_change : FeedParts → Records → ℕ → (place : ℕ) → Option ℕ
+greatest_change feed t n place = greatest_below (λ i. seconds_between place place (told_by feed t i)) n
 
--- how many of the first n rows tell no change time
+-- the change time of a place: the greatest of the transfers that stay there
+abbrev pub change_time : FeedParts → Records → ℕ → ℕ
+change_time feed t place = change_seconds (greatest_change feed t (row_count t) place)
+
+-- the greatest seconds of a transfer from one place to another, of the first n rows
+abbrev pub greatest_link : FeedParts → Records → ℕ → (from to : ℕ) → Option ℕ
+greatest_link feed t n from to = greatest_below (λ i. link_between from to (told_by feed t i)) n
+
+-- the links into a place: the greatest of the transfers from each other place to it
+abbrev pub links_in : FeedParts → Records → ℕ → List Way
+links_in feed t place = ways_below (λ from. greatest_link feed t (row_count t) from place) (length feed.stop_ids)
+
+-- how many of the first n rows have no transfer
 abbrev pub passed_below : FeedParts → Records → ℕ → ℕ
 passed_below feed t n = count_by is_none (list_below (told_by feed t) n)
 
--- the places for which a row tells seconds, with the greatest that is told, and how many rows tell none
+-- the places for which a row tells seconds, with the greatest that is told, the links into each place, and how many rows
+-- tell neither; where the lists of links end, no link leads into the places from there on
 pub record ChangeParts : Type 0 where
   pub told : List (ℕ × ℕ)
+  pub links : List (List Way)
   pub passed : ℕ
 
 -- the seconds that a change at a place takes
 abbrev pub seconds_of : ChangeParts → ℕ → ℕ
 seconds_of c place = change_seconds (lookup (nat_eq place) c.told)
 
--- these are the change times that a table tells
+-- the links into a place
+abbrev pub links_of : ChangeParts → ℕ → List Way
+links_of c place = ways_at c.links place
+
+-- each link comes from one of so many places
+abbrev pub LinksComeFrom : ℕ → ChangeParts → Type 0
+LinksComeFrom places c = (place : ℕ) → All (λ way. way.from.0 < places) (links_of c place)
+
+-- these are the change times and the links that a table tells; a place that the feed does not have has no link into it
 pub record AreChanges (feed : FeedParts) (c : ChangeParts) (t : Records) : Type 0 where
   pub seconds : (place : ℕ) → seconds_of c place ≡ change_time feed t place
+  pub links : (place : ℕ) → place < length feed.stop_ids → links_of c place ≡ links_in feed t place
+  pub few : length c.links ≤ length feed.stop_ids
   pub passed : c.passed ≡ passed_below feed t (row_count t)
 
 -- a table that is absent has no fault, and neither has one whose file has no record

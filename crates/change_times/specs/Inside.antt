@@ -1,12 +1,15 @@
--- The change times of places, as they are kept.
+-- The change times of places and the links between them, as they are kept.
 use Rattle.std.specs.Prelude.{ℕ, ◌≤◌, nat_eq, IfSome}
 use Rattle.std.specs.HashMap.{get}
 use Rattle.change_times.specs.declared.changes.Changes.TheInside.{Inside}
 use Rattle.change_times.specs.Changes.{ChangeParts}
+use Rattle.change_times.specs.Links.{ways_at}
+use Rattle.plan_model.specs.Network.{AreLinksInto}
 
 abbrev pub parts_of : Inside → ChangeParts
-parts_of c = record { told = c.seconds.entries; passed = c.passed }
+parts_of c = record { told = c.seconds.entries; links = c.links.items; passed = c.passed }
 
--- none is longer than a day
-abbrev pub AreShort : Inside → Type 0
-AreShort c = (place : ℕ) → IfSome (get nat_eq c.seconds place) (λ seconds. seconds ≤ 86400)
+-- no change is longer than a day, and the links into each place rise and come from others
+pub record AreSound (c : Inside) : Type 0 where
+  pub short : (place : ℕ) → IfSome (get nat_eq c.seconds place) (λ seconds. seconds ≤ 86400)
+  pub links : (place : ℕ) → AreLinksInto 4294967296 place (ways_at c.links.items place)

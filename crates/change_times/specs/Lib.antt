@@ -1,4 +1,8 @@
 pub mod Forms
 pub mod Transfers
+pub mod Greatest
+pub mod Links
+pub mod Walks
 pub mod Changes
+pub mod Told
 pub mod Inside

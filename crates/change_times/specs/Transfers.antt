@@ -1,4 +1,4 @@
--- The rows of `transfers.txt`: which change times they tell, and their faults. Row i stands in line i + 2.
+-- The rows of `transfers.txt`: their transfers between places, and their faults. Row i stands in line i + 2.
 use Rattle.std.specs.Prelude.{ℕ, ◌+◌, ◌==◌, ◌&&◌, Bool, List, length, slice_index, Option, None, Result, Ok, option_map, if◌then◌else◌}
 use Rattle.std.specs.Option.{option_or}
 use Rattle.clock_text.specs.Digits.{optional_seconds_of}
@@ -12,7 +12,7 @@ use Rattle.csv_rows.specs.Names.{name_in}
 use Rattle.csv_rows.specs.RowFaults.{fault_in, value_or, lack, and_then}
 use Rattle.csv_rows.specs.Tables.{row_count, place_in, place_of, field_at}
 use Rattle.gtfs_tables.specs.Feeds.{FeedParts}
-use Rattle.change_times.specs.declared.transfers.Change.{Change}
+use Rattle.change_times.specs.declared.transfers.Transfer.{Transfer}
 use Rattle.change_times.specs.declared.transfers.TransferColumns.{TransferColumns}
 use Rattle.change_times.specs.Forms.{is_timed_in}
 
@@ -26,26 +26,26 @@ place_from feed line column text =
     read (name_in text) (BadField Transfers line column) (λ id.
     read (place_of_stop feed id) (UnknownKey Transfers line column) (λ place. Ok place))
 
--- a transfer tells a change time where both its stops have one place and it has seconds
-abbrev pub change_between : (from to : ℕ) → Option ℕ → Option Change
-change_between from to seconds = if from == to then option_map (λ s. record { place = from; seconds = s }) seconds else None
+-- the transfer from the place of the first stop to that of the second, where it has seconds
+abbrev pub transfer_between : (from to : ℕ) → Option ℕ → Option Transfer
+transfer_between from to seconds = option_map (λ s. record { from = from; to = to; seconds = s }) seconds
 
--- what these fields tell, or the first of them that is not of its form or names no stop
-abbrev pub timed_from : FeedParts → ℕ → (from to seconds : List ℕ) → Result (Option Change) FeedFault
+-- the transfer of these fields, or the first of them that is not of its form or names no stop
+abbrev pub timed_from : FeedParts → ℕ → (from to seconds : List ℕ) → Result (Option Transfer) FeedFault
 timed_from feed line from to seconds =
     and_then (place_from feed line FromStopId from) (λ from'.
     and_then (place_from feed line ToStopId to) (λ to'.
     read (optional_seconds_of seconds) (BadField Transfers line MinTransferTime) (λ seconds'.
-    Ok (change_between from' to' seconds'))))
+    Ok (transfer_between from' to' seconds'))))
 
 -- whether a row is for each route and each trip
 abbrev pub is_general : (from_route to_route from_trip to_trip : List ℕ) → Bool
 is_general from_route to_route from_trip to_trip =
     length from_route == 0 && (length to_route == 0 && (length from_trip == 0 && length to_trip == 0))
 
--- a row of another type than 2, or for some routes or trips, tells nothing, and its other fields are not looked at
-abbrev pub change_from : (kind : List ℕ) → ℕ → Bool → Result (Option Change) FeedFault → Result (Option Change) FeedFault
-change_from kind line general timed =
+-- a row of another type than 2, or for some routes or trips, has no transfer, and its other fields are not looked at
+abbrev pub transfer_from : (kind : List ℕ) → ℕ → Bool → Result (Option Transfer) FeedFault → Result (Option Transfer) FeedFault
+transfer_from kind line general timed =
     read (is_timed_in kind) (BadField Transfers line TransferType) (λ is_timed.
     if is_timed && general then timed else Ok None)
 
@@ -62,26 +62,26 @@ transfer_columns t = record {
   to_trip = place_of ToTripId t;
 }
 
-abbrev pub timed_in : FeedParts → List (List (List ℕ)) → TransferColumns → ℕ → Result (Option Change) FeedFault
+abbrev pub timed_in : FeedParts → List (List (List ℕ)) → TransferColumns → ℕ → Result (Option Transfer) FeedFault
 timed_in feed t c i = timed_from feed (i + 2) (field_at t c.from i) (field_at t c.to i) (field_at t c.seconds i)
 
 abbrev pub is_general_in : List (List (List ℕ)) → TransferColumns → ℕ → Bool
 is_general_in t c i = is_general (field_at t c.from_route i) (field_at t c.to_route i) (field_at t c.from_trip i) (field_at t c.to_trip i)
 
--- what row i tells, or the first of its fields that is not of its form or names no stop
-abbrev pub change_in : FeedParts → List (List (List ℕ)) → TransferColumns → ℕ → Result (Option Change) FeedFault
-change_in feed t c i = change_from (field_at t c.kind i) (i + 2) (is_general_in t c i) (timed_in feed t c i)
+-- the transfer of row i, or the first of its fields that is not of its form or names no stop
+abbrev pub transfer_in : FeedParts → List (List (List ℕ)) → TransferColumns → ℕ → Result (Option Transfer) FeedFault
+transfer_in feed t c i = transfer_from (field_at t c.kind i) (i + 2) (is_general_in t c i) (timed_in feed t c i)
 
-unfoldable pub change_at : FeedParts → List (List (List ℕ)) → ℕ → Result (Option Change) FeedFault
-change_at feed t i = change_in feed t (transfer_columns t) i
+unfoldable pub transfer_at : FeedParts → List (List (List ℕ)) → ℕ → Result (Option Transfer) FeedFault
+transfer_at feed t i = transfer_in feed t (transfer_columns t) i
 
 -- the fault of row i
 abbrev pub bad_transfer : FeedParts → List (List (List ℕ)) → ℕ → Option FeedFault
-bad_transfer feed t i = fault_in (change_at feed t i)
+bad_transfer feed t i = fault_in (transfer_at feed t i)
 
--- the change time that row i tells
-abbrev pub told_by : FeedParts → List (List (List ℕ)) → ℕ → Option Change
-told_by feed t i = value_or None (change_at feed t i)
+-- the transfer of row i, where it has one
+abbrev pub told_by : FeedParts → List (List (List ℕ)) → ℕ → Option Transfer
+told_by feed t i = value_or None (transfer_at feed t i)
 
 -- the first required column that is not there
 abbrev pub missing_in : TransferColumns → Option FeedFault

@@ -1,5 +1,5 @@
-//! The change times of the places of a feed.
-ghost use Rattle.std.specs.Prelude.{◌≡◌, ◌≢◌, ◌<◌, ◌≤◌, ◌+◌, ◌-◌, ◌^◌, ℕ, None, Some, Ok, Err, IfOk, IfErr, IfSome, IsOkAnd, IsSome, OnOk, is_none, nat_eq, if◌then◌else◌, []};
+//! The change times of the places of a feed, and the links between them.
+ghost use Rattle.std.specs.Prelude.{◌≡◌, ◌≢◌, ◌<◌, ◌≤◌, ◌+◌, ◌-◌, ◌^◌, ℕ, None, Some, Ok, Err, IfOk, IfErr, IfSome, IsOkAnd, IsSome, OnOk, is_none, nat_eq, length, if◌then◌else◌, []};
 ghost use Rattle.std.specs.HashMap.{get};
 ghost use Rattle.csv_rows.specs.declared.feed_tables.Table.TheVariants.{Transfers as TransfersTable};
 ghost use Rattle.csv_rows.specs.FeedTables.{unread_of, IsFaultOf};
@@ -7,23 +7,31 @@ ghost use Rattle.csv_rows.specs.First.{first_below};
 ghost use Rattle.csv_rows.specs.Limits.{AreWithin};
 ghost use Rattle.csv_rows.specs.Loading.{HasFeedCause, HasFeedPathCause, loaded_rows};
 ghost use Rattle.csv_rows.specs.Tables.{row_count};
-ghost use Rattle.gtfs_tables.specs.Feeds.{FeedParts};
+ghost use Rattle.gtfs_tables.specs.Feeds.{FeedParts, Records};
 ghost use Rattle.change_times.specs.Transfers.{transfer_columns, bad_transfer, transfers_fault};
-ghost use Rattle.change_times.specs.Changes.{greater, seconds_at, fault_of, seconds_of, transfers_in, AreChanges};
+ghost use Rattle.change_times.specs.Greatest.{greater};
+ghost use Rattle.plan_model.specs.Network.{AreLinksInto};
+ghost use Rattle.change_times.specs.Walks.{walks_of, most_to, seconds_between, link_between};
+ghost use Rattle.change_times.specs.Told.{AreTold};
+ghost use Rattle.change_times.specs.Changes.{fault_of, seconds_of, links_of, transfers_in, AreChanges, LinksComeFrom};
 
-use crate::transfers::{Change, TransferColumns, missing_column, read_change, transfer_columns};
+use crate::links::{Walk, Ways, add_walk, links_of, no_walks};
+use crate::transfers::{
+    Transfer, TransferColumns, missing_column, read_transfer, transfer_columns,
+};
 use csv_rows::{FeedFault, Limits, Loaded, Rows, Table, read_table};
 use file_ports::Files;
 use gtfs_tables::Feed;
-use plan_model::{NoMemory, PlaceId};
+use plan_model::{List, NoMemory, PlaceId, Way};
 use std::alloc::Global;
 use std::collections::HashMap;
 use std::marker::Model;
 
-/// The change times of the places of a feed.
+/// The change times of the places of a feed, and the links between them.
 #[derive(Drop)]
 pub struct Changes {
     seconds: HashMap<u32, u32>,
+    links: Vec<Ways>,
     passed: u64,
 }
 
@@ -32,37 +40,102 @@ impl Model for Changes {
 
     ghost Value = { ChangeParts };
 
-    ghost use Rattle.change_times.specs.Inside.{parts_of, AreShort};
+    ghost use Rattle.change_times.specs.Inside.{parts_of, AreSound};
 
     ghost view = { parts_of };
 
-    ghost invariant = { AreShort };
+    ghost invariant = { AreSound };
 }
 
-/// Notes what a row tells: its seconds where its place has no greater ones, or that it tells nothing.
-fn note(
-    seconds: &mut HashMap<u32, u32>,
-    passed: &mut u64,
-    change: Option<Change>,
-) -> Result<(), NoMemory>
-    requires { passed.old < 2 ^ 64 - 1 }
-    ensures seconds { OnOk result ((place : ℕ) → get nat_eq seconds.new place
-        ≡ greater (get nat_eq seconds.old place) (seconds_at place change)) }
-    ensures passed { OnOk result (passed.new ≡ passed.old + (if is_none change then 1 else 0)) }
+/// What rows tell: the change times of places, the walks from each place, and how many tell neither.
+#[derive(Drop)]
+pub(crate) struct Told {
+    seconds: HashMap<u32, u32>,
+    walks: Vec<List<Walk>>,
+    passed: u64,
+}
+
+/// Notes a transfer that stays at its place: its seconds, where the place has no greater ones.
+fn note_change(seconds: &mut HashMap<u32, u32>, transfer: Transfer) -> Result<(), NoMemory>
+    requires { transfer.from ≡ transfer.to }
+    ensures { OnOk result ((place : ℕ) → get nat_eq seconds.new place
+        ≡ greater (get nat_eq seconds.old place) (seconds_between place place (Some transfer))) }
 {
-    let Some(change) = change else {
-        *passed += 1;
-        return Ok(());
+    let most = match seconds.get(&transfer.to) {
+        Some(before) => transfer.seconds.max(*before),
+        None => transfer.seconds,
     };
-    let most = match seconds.get(&change.place) {
-        Some(before) => change.seconds.max(*before),
-        None => change.seconds,
-    };
-    seconds.insert(change.place, most)?;
+    seconds.insert(transfer.to, most)?;
     Ok(())
 }
 
+/// What no rows tell, over so many places.
+fn nothing_told(alloc: Global, places: u32) -> Result<Told, NoMemory>
+    ensures { IfOk result (λ told. (feed : FeedParts) → (t : Records) → length feed.stop_ids ≡ places
+        → AreTold feed t 0 told) }
+{
+    let walks = no_walks(alloc, places)?;
+    Ok(Told {
+        seconds: HashMap::new(alloc),
+        walks,
+        passed: 0,
+    })
+}
+
+/// Notes the transfer of a row, or that it has none.
+fn note(told: &mut Told, transfer: Option<Transfer>) -> Result<(), NoMemory>
+    requires few { told.old.passed < 2 ^ 64 - 1 }
+    requires from { IfSome transfer (λ t. t.from < length told.old.walks.items) }
+    ensures size { OnOk result (length told.new.walks.items ≡ length told.old.walks.items) }
+    ensures seconds { OnOk result ((place : ℕ) → get nat_eq told.new.seconds place
+        ≡ greater (get nat_eq told.old.seconds place) (seconds_between place place transfer)) }
+    ensures walks { OnOk result ((from to : ℕ) → most_to to (walks_of told.new.walks.items from)
+        ≡ greater (most_to to (walks_of told.old.walks.items from)) (link_between from to transfer)) }
+    ensures passed { OnOk result (told.new.passed
+        ≡ told.old.passed + (if is_none transfer then 1 else 0)) }
+{
+    let Some(transfer) = transfer else {
+        told.passed += 1;
+        return Ok(());
+    };
+    if transfer.from == transfer.to {
+        return note_change(&mut told.seconds, transfer);
+    }
+    add_walk(&mut told.walks, transfer)
+}
+
 /// What the rows tell, or the first of their faults.
+fn tell(
+    nothing: Told,
+    feed: &Feed,
+    rows: &Rows,
+    columns: TransferColumns,
+) -> Result<Told, FeedFault>
+    requires nothing { AreTold feed.now rows.now 0 nothing }
+    requires columns { columns ≡ transfer_columns rows.now }
+    ensures told { IfOk result (AreTold feed.now rows.now (row_count rows.now)) }
+    ensures none { OnOk result (first_below (bad_transfer feed.now rows.now) (row_count rows.now)
+        ≡ None) }
+    ensures fault { IfErr result (λ f. f ≢ FeedFault.NoMemory
+        → first_below (bad_transfer feed.now rows.now) (row_count rows.now) ≡ Some f) }
+    ensures content { IfErr result (λ f. unread_of f ≡ None) }
+    ensures own { IfErr result (IsFaultOf TransfersTable) }
+{
+    let mut told = nothing;
+    for i in 0..rows.count() {
+        let transfer = match read_transfer(feed, rows, columns, i) {
+            Ok(transfer) => transfer,
+            Err(fault) => return Err(fault),
+        };
+        match note(&mut told, transfer) {
+            Ok(()) => {}
+            Err(_) => return Err(FeedFault::NoMemory),
+        }
+    }
+    Ok(told)
+}
+
+/// The change times and the links that the rows tell, or the first of their faults.
 fn read_rows(
     alloc: Global,
     feed: &Feed,
@@ -71,6 +144,7 @@ fn read_rows(
 ) -> Result<Changes, FeedFault>
     requires { columns ≡ transfer_columns rows.now }
     ensures changes { IfOk result (λ c. AreChanges feed.now c rows.now) }
+    ensures links { IfOk result (λ c. LinksComeFrom (length feed.now.stop_ids) c) }
     ensures none { OnOk result (first_below (bad_transfer feed.now rows.now) (row_count rows.now)
         ≡ None) }
     ensures fault { IfErr result (λ f. f ≢ FeedFault.NoMemory
@@ -78,24 +152,28 @@ fn read_rows(
     ensures content { IfErr result (λ f. unread_of f ≡ None) }
     ensures own { IfErr result (IsFaultOf TransfersTable) }
 {
-    let mut seconds: HashMap<u32, u32> = HashMap::new(alloc);
-    let mut passed = 0u64;
-    for i in 0..rows.count() {
-        let change = match read_change(feed, rows, columns, i) {
-            Ok(change) => change,
-            Err(fault) => return Err(fault),
-        };
-        match note(&mut seconds, &mut passed, change) {
-            Ok(()) => {}
-            Err(_) => return Err(FeedFault::NoMemory),
-        }
+    let nothing = match nothing_told(alloc, feed.stop_count()) {
+        Ok(nothing) => nothing,
+        Err(_) => return Err(FeedFault::NoMemory),
+    };
+    let told = match tell(nothing, feed, rows, columns) {
+        Ok(told) => told,
+        Err(fault) => return Err(fault),
+    };
+    match links_of(alloc, told.walks.as_slice()) {
+        Ok(links) => Ok(Changes {
+            seconds: told.seconds,
+            links,
+            passed: told.passed,
+        }),
+        Err(_) => Err(FeedFault::NoMemory),
     }
-    Ok(Changes { seconds, passed })
 }
 
 /// What a table tells, or the first of its faults.
 fn read_transfers(alloc: Global, feed: &Feed, rows: &Rows) -> Result<Changes, FeedFault>
     ensures changes { IfOk result (λ c. AreChanges feed.now c rows.now) }
+    ensures links { IfOk result (λ c. LinksComeFrom (length feed.now.stop_ids) c) }
     ensures none { OnOk result (transfers_fault feed.now rows.now ≡ None) }
     ensures fault { IfErr result (λ f. f ≢ FeedFault.NoMemory
         → transfers_fault feed.now rows.now ≡ Some f) }
@@ -114,10 +192,12 @@ fn read_transfers(alloc: Global, feed: &Feed, rows: &Rows) -> Result<Changes, Fe
 
 /// What a table with no rows tells: nothing, whatever the feed is.
 fn no_changes(alloc: Global) -> Changes
-    ensures { (feed : FeedParts) → AreChanges feed result [] }
+    ensures changes { (feed : FeedParts) → AreChanges feed result [] }
+    ensures links { (places : ℕ) → LinksComeFrom places result }
 {
     Changes {
         seconds: HashMap::new(alloc),
+        links: Vec::new(alloc),
         passed: 0,
     }
 }
@@ -125,6 +205,7 @@ fn no_changes(alloc: Global) -> Changes
 /// What the table that is loaded tells, or the first of its faults.
 fn changes_of(alloc: Global, feed: &Feed, loaded: &Loaded) -> Result<Changes, FeedFault>
     ensures changes { IfOk result (λ c. AreChanges feed.now c (loaded_rows loaded.now)) }
+    ensures links { IfOk result (λ c. LinksComeFrom (length feed.now.stop_ids) c) }
     ensures none { OnOk result (fault_of feed.now loaded.now ≡ None) }
     ensures fault { IfErr result (λ f. f ≢ FeedFault.NoMemory
         → fault_of feed.now loaded.now ≡ Some f) }
@@ -158,6 +239,7 @@ impl Changes {
         ensures same { F.files files.new ≡ F.files files.old }
         ensures changes { IfSome (F.files files.old) (λ m. IfOk result (λ c. IsOkAnd
             (transfers_in m folder.now limits.now None feed.now) (AreChanges feed.now c))) }
+        ensures links { IfOk result (λ c. LinksComeFrom (length feed.now.stop_ids) c) }
         ensures fault { IfSome (F.files files.old) (λ m. IfErr result (λ f. f ≢ FeedFault.NoMemory
             → transfers_in m folder.now limits.now (unread_of f) feed.now ≡ Err f)) }
         ensures own { IfErr result (IsFaultOf TransfersTable) }
@@ -188,7 +270,20 @@ impl Changes {
         }
     }
 
-    /// How many rows of the table set the change time of no place.
+    /// The links into a place from others, by rising place that they come from: for each the greatest `min_transfer_time` of
+    /// the rows of type 2 that name no route and no trip, whose first stop has the place that it comes from and whose second
+    /// stop has this place; 1 at least. A link is walked in this direction alone, and links are not joined to longer ones.
+    pub fn links_into(&self, place: PlaceId) -> &[Way]
+        ensures links { result.now ≡ links_of self.now place.0 }
+        ensures sound { (to : ℕ) → AreLinksInto 4294967296 to (links_of self.now to) }
+    {
+        match self.links.get(place.0 as usize) {
+            Some(links) => links.as_slice(),
+            None => &[],
+        }
+    }
+
+    /// How many rows of the table tell neither a change time nor a link.
     pub fn passed(&self) -> u64
         ensures { result ≡ self.now.passed }
     {

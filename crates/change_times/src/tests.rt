@@ -3,7 +3,7 @@ use crate::*;
 use csv_rows::{Column, FeedFault, Limits, Table};
 use file_ports::SteadyFiles;
 use gtfs_tables::Feed;
-use plan_model::{NoMemory, PlaceId};
+use plan_model::{NoMemory, PlaceId, Way};
 use std::alloc::Global;
 use std::test::Fail;
 
@@ -58,7 +58,7 @@ fn tells_change_times(rt: HostRuntime) -> Result<(), Fail> {
         (
             "from_stop_id,to_stop_id,transfer_type,min_transfer_time\nX1,X,2,90\nX,X,2,30\nX1,A,2,95\n",
             90,
-            1,
+            0,
         ),
         (
             "from_stop_id,to_stop_id,transfer_type,min_transfer_time,to_trip_id\nX1,X2,2,300,t1\nX1,X2,2\n",
@@ -73,6 +73,31 @@ fn tells_change_times(rt: HostRuntime) -> Result<(), Fail> {
         assert_eq!(rt; changes.seconds(PlaceId(0)), 120, "{transfers}");
         assert_eq!(rt; changes.passed(), passed, "{transfers}");
     }
+    Ok(())
+}
+
+#[test]
+fn tells_links(rt: HostRuntime) -> Result<(), Fail> {
+    let transfers = "from_stop_id,to_stop_id,transfer_type,min_transfer_time\n\
+        X,T,2,7\nX1,A,2,95\nX2,A,2,300\nX1,A,2,40\nA,X2,2,0\nA,T,2,9\nT,T,2,3\nT,A,1,5\nT,A,2,\n";
+    let Ok(changes) = read(rt.alloc(), transfers) else {
+        return Err("no changes".into());
+    };
+    let from = |from: u32, seconds: u32| Way {
+        from: PlaceId(from),
+        seconds,
+    };
+    assert_eq!(rt; changes.links_into(PlaceId(0)), [from(1, 300)].as_slice());
+    assert_eq!(rt; changes.links_into(PlaceId(1)), [from(0, 1)].as_slice());
+    assert_eq!(rt;
+        changes.links_into(PlaceId(4)),
+        [from(0, 9), from(1, 7)].as_slice()
+    );
+    for place in [2, 3, 5] {
+        assert!(rt; changes.links_into(PlaceId(place)).is_empty());
+    }
+    assert_eq!(rt; changes.seconds(PlaceId(4)), 3);
+    assert_eq!(rt; changes.passed(), 2);
     Ok(())
 }
 

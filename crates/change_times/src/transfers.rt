@@ -1,9 +1,9 @@
 //! The rows of `transfers.txt`.
-ghost use Rattle.std.specs.Prelude.{◌≡◌, ◌<◌, ◌≤◌, None, Ok, Err, IfOk, IfErr, IfSome};
+ghost use Rattle.std.specs.Prelude.{◌≡◌, ◌<◌, ◌≤◌, length, None, Ok, Err, IfOk, IfErr, IfSome};
 ghost use Rattle.csv_rows.specs.declared.feed_tables.Table.TheVariants.{Transfers as TransfersTable};
 ghost use Rattle.csv_rows.specs.FeedTables.{unread_of, IsFaultOf};
 ghost use Rattle.csv_rows.specs.Tables.{row_count};
-ghost use Rattle.change_times.specs.Transfers.{place_from, change_between, transfer_columns, timed_in, is_general_in, change_in, missing_in};
+ghost use Rattle.change_times.specs.Transfers.{place_from, transfer_between, transfer_columns, timed_in, is_general_in, transfer_in, missing_in};
 
 use crate::forms::read_is_timed;
 use clock_text::read_optional_seconds;
@@ -11,10 +11,11 @@ use csv_rows::{Column, FeedFault, Rows, Table, lack, read_name};
 use gtfs_tables::Feed;
 use plan_model::PlaceId;
 
-/// The seconds that a row tells for a change at a place.
+/// A transfer between two places, which may be one, and the seconds that it takes at least.
 #[derive(Clone, Copy)]
-pub(crate) struct Change {
-    pub(crate) place: u32,
+pub(crate) struct Transfer {
+    pub(crate) from: u32,
+    pub(crate) to: u32,
     pub(crate) seconds: u32,
 }
 
@@ -60,6 +61,7 @@ pub(crate) fn missing_column(columns: TransferColumns) -> Option<FeedFault>
 /// The place of the stop that a field of this line names.
 fn read_place(feed: &Feed, text: &[u8], line: u64, column: Column) -> Result<PlaceId, FeedFault>
     ensures place { IfOk result (λ p. place_from feed.now line column text.now ≡ Ok p.0) }
+    ensures in_range { IfOk result (λ p. p.0 < length feed.now.stop_ids) }
     ensures fault { IfErr result (λ f. place_from feed.now line column text.now ≡ Err f) }
     ensures content { IfErr result (λ f. unread_of f ≡ None) }
     ensures own { IfErr result (IsFaultOf TransfersTable) }
@@ -73,32 +75,31 @@ fn read_place(feed: &Feed, text: &[u8], line: u64, column: Column) -> Result<Pla
     }
 }
 
-/// What a transfer from one place to another tells for a change: its seconds, where it stays at its place and has some.
-fn change_between(from: PlaceId, to: PlaceId, seconds: Option<u32>) -> Option<Change>
-    ensures { result ≡ change_between from.0 to.0 seconds }
+/// The transfer from one place to another, where it has seconds.
+fn transfer_between(from: PlaceId, to: PlaceId, seconds: Option<u32>) -> Option<Transfer>
+    ensures { result ≡ transfer_between from.0 to.0 seconds }
 {
-    if from.0 != to.0 {
-        return None;
-    }
     match seconds {
-        Some(seconds) => Some(Change {
-            place: from.0,
+        Some(seconds) => Some(Transfer {
+            from: from.0,
+            to: to.0,
             seconds,
         }),
         None => None,
     }
 }
 
-/// What a row of type 2 for all routes and trips tells, or the first of its faults.
+/// The transfer of a row of type 2 for all routes and trips, or the first of its faults.
 fn read_timed(
     feed: &Feed,
     rows: &Rows,
     columns: TransferColumns,
     row: usize,
-) -> Result<Option<Change>, FeedFault>
+) -> Result<Option<Transfer>, FeedFault>
     requires { row < row_count rows.now }
-    ensures change { IfOk result (λ c. timed_in feed.now rows.now columns row ≡ Ok c) }
-    ensures short { IfOk result (λ c. IfSome c (λ change. change.seconds ≤ 86400)) }
+    ensures transfer { IfOk result (λ t. timed_in feed.now rows.now columns row ≡ Ok t) }
+    ensures from { IfOk result (λ t. IfSome t (λ transfer. transfer.from < length feed.now.stop_ids)) }
+    ensures short { IfOk result (λ t. IfSome t (λ transfer. transfer.seconds ≤ 86400)) }
     ensures fault { IfErr result (λ f. timed_in feed.now rows.now columns row ≡ Err f) }
     ensures content { IfErr result (λ f. unread_of f ≡ None) }
     ensures own { IfErr result (IsFaultOf TransfersTable) }
@@ -117,7 +118,7 @@ fn read_timed(
     let Some(seconds) = read_optional_seconds(rows.field_at(row, columns.seconds)) else {
         return Err(FeedFault::BadField(Table::Transfers, line, Column::MinTransferTime));
     };
-    Ok(change_between(from, to, seconds))
+    Ok(transfer_between(from, to, seconds))
 }
 
 /// Whether a row is for all routes and trips.
@@ -131,18 +132,19 @@ fn is_general(rows: &Rows, columns: TransferColumns, row: usize) -> bool
         && rows.field_at(row, columns.to_trip).is_empty()
 }
 
-/// What a row tells for a change, or the first of its faults. A row of another type than 2, or for some routes or trips, tells
-/// nothing, and its other fields are not looked at.
-pub(crate) fn read_change(
+/// The transfer of a row, or the first of its faults. A row of another type than 2, or for some routes or trips, has none, and
+/// its other fields are not looked at.
+pub(crate) fn read_transfer(
     feed: &Feed,
     rows: &Rows,
     columns: TransferColumns,
     row: usize,
-) -> Result<Option<Change>, FeedFault>
+) -> Result<Option<Transfer>, FeedFault>
     requires { row < row_count rows.now }
-    ensures change { IfOk result (λ c. change_in feed.now rows.now columns row ≡ Ok c) }
-    ensures short { IfOk result (λ c. IfSome c (λ change. change.seconds ≤ 86400)) }
-    ensures fault { IfErr result (λ f. change_in feed.now rows.now columns row ≡ Err f) }
+    ensures transfer { IfOk result (λ t. transfer_in feed.now rows.now columns row ≡ Ok t) }
+    ensures from { IfOk result (λ t. IfSome t (λ transfer. transfer.from < length feed.now.stop_ids)) }
+    ensures short { IfOk result (λ t. IfSome t (λ transfer. transfer.seconds ≤ 86400)) }
+    ensures fault { IfErr result (λ f. transfer_in feed.now rows.now columns row ≡ Err f) }
     ensures content { IfErr result (λ f. unread_of f ≡ None) }
     ensures own { IfErr result (IsFaultOf TransfersTable) }
 {

@@ -1,6 +1,5 @@
 -- What a line of words asks for, or why it is refused.
 use Rattle.std.specs.Prelude.{ℕ, List, [], ◌∷◌, Option, Some, None, Result, Ok, Err, if◌then◌else◌, option_map, option_and_then, unwrap_or, find}
-use Rattle.command_line.specs.declared.options.Goal.{Goal}
 use Rattle.command_line.specs.declared.options.Command.{Command}
 use Rattle.command_line.specs.declared.options.Command.TheVariants as command
 use Rattle.command_line.specs.declared.options.OptionName.{OptionName}
@@ -25,22 +24,17 @@ pub record WantedJourney : Type 0 where
   pub to : List ℕ
   pub start : ℕ
 
--- a journey whose strategies are sought, by a percentage for the deadline
-pub record WantedSearch : Type 0 where
-  pub goal : Goal
-  pub journey : WantedJourney
-  pub alpha : ℕ
+-- what is asked about a journey: the least worst arrival and the deadline, a decision graph ride by ride or by place, each by
+-- a percentage for the deadline; or the trip by the graph of this path, with these delays
+pub data WantedAsk : Type 0 where
+  Safe : (alpha : ℕ) → WantedAsk
+  Expand : (alpha : ℕ) → WantedAsk
+  Plan : (alpha : ℕ) → WantedAsk
+  Replay : (graph : List ℕ) (late : List ℕ) → WantedAsk
 
--- a journey by the graph of this path, with these delays
-pub record WantedReplay : Type 0 where
-  pub journey : WantedJourney
-  pub graph : List ℕ
-  pub late : List ℕ
-
--- what the words ask for
+-- what the words ask for: something about a journey, or the plan of one over a timetable that is made
 pub data Wanted : Type 0 where
-  Seek : (search : WantedSearch) → Wanted
-  Replay : (replay : WantedReplay) → Wanted
+  Ask : (journey : WantedJourney) (ask : WantedAsk) → Wanted
   Sample : (size : ℕ) → Wanted
 
 -- the moment that the journey begins at
@@ -79,10 +73,10 @@ journey_of settings = record {
 }
 
 abbrev pub wanted_of : Command → List (List ℕ) → Wanted
-wanted_of (command.Seek goal) settings =
-    Seek (record { goal = goal; journey = journey_of settings; alpha = alpha_of settings })
-wanted_of command.Replay settings =
-    Replay (record { journey = journey_of settings; graph = text_of settings Graph; late = late_in (text_of settings Late) })
+wanted_of command.Safe settings = Ask (journey_of settings) (Safe (alpha_of settings))
+wanted_of command.Expand settings = Ask (journey_of settings) (Expand (alpha_of settings))
+wanted_of command.Plan settings = Ask (journey_of settings) (Plan (alpha_of settings))
+wanted_of command.Replay settings = Ask (journey_of settings) (Replay (text_of settings Graph) (late_in (text_of settings Late)))
 wanted_of command.Sample settings = Sample (size_of settings)
 
 -- the refusal that the least option calls for, if one does

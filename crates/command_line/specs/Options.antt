@@ -3,8 +3,7 @@ use Rattle.std.specs.Prelude.{ℕ, List, [], ◌∷◌, Option, Some, None, if�
 use Rattle.std.specs.Option.{option_map_or}
 use Rattle.std.specs.Str.{bytes_eq}
 use Rattle.command_line.specs.declared.options.Command.{Command}
-use Rattle.command_line.specs.declared.options.Command.TheVariants.{Seek, Replay, Sample}
-use Rattle.command_line.specs.declared.options.Goal.TheVariants.{Safe, Expand, Plan}
+use Rattle.command_line.specs.declared.options.Command.TheVariants.{Safe, Expand, Plan, Replay, Sample}
 use Rattle.command_line.specs.declared.options.OptionName.{OptionName}
 use Rattle.command_line.specs.declared.options.OptionName.TheVariants.{Cut, Feed, Delays, From, To, At, Alpha, Horizon, Graph, Late, Size}
 
@@ -55,9 +54,9 @@ option_named word = find (λ option. bytes_eq word (option_name option)) all_opt
 -- the command that a word names
 abbrev pub command_named : List ℕ → Option Command
 command_named word =
-    if bytes_eq word (codes "safe") then Some (Seek Safe)
-    else if bytes_eq word (codes "expand") then Some (Seek Expand)
-    else if bytes_eq word (codes "plan") then Some (Seek Plan)
+    if bytes_eq word (codes "safe") then Some Safe
+    else if bytes_eq word (codes "expand") then Some Expand
+    else if bytes_eq word (codes "plan") then Some Plan
     else if bytes_eq word (codes "replay") then Some Replay
     else if bytes_eq word (codes "sample") then Some Sample
     else None

@@ -1,7 +1,7 @@
 -- The ranges of what a job asks for.
-use Rattle.std.specs.Prelude.{◌≤◌}
+use Rattle.std.specs.Prelude.{ℕ, ◌≤◌}
 use Rattle.command_line.specs.Values.{first_start, last_start, least_alpha, most_alpha, least_horizon, most_horizon, least_size, most_size}
-use Rattle.command_line.specs.Jobs.{WantedTimetable, CutFile, FeedFolder, WantedJourney, Wanted, Seek, Replay, Sample}
+use Rattle.command_line.specs.Jobs.{WantedTimetable, CutFile, FeedFolder, WantedJourney, WantedAsk, Safe, Expand, Plan, Replay, Wanted, Ask, Sample}
 
 abbrev pub HasHorizon : WantedTimetable → Type 0
 HasHorizon (CutFile path) = Unit {0}
@@ -13,8 +13,17 @@ pub record IsJourney (j : WantedJourney) : Type 0 where
   pub late : j.start ≤ last_start
   pub horizon : HasHorizon j.timetable
 
--- the percentage is from 100 to 1,000, and the size from 10 to 400
+-- a percentage is from 100 to 1,000
+abbrev pub IsPercentage : ℕ → Type 0
+IsPercentage alpha = (least_alpha ≤ alpha) × (alpha ≤ most_alpha)
+
+abbrev pub IsAsk : WantedAsk → Type 0
+IsAsk (Safe alpha) = IsPercentage alpha
+IsAsk (Expand alpha) = IsPercentage alpha
+IsAsk (Plan alpha) = IsPercentage alpha
+IsAsk (Replay graph late) = Unit {0}
+
+-- the size of a made timetable is from 10 to 400
 abbrev pub IsJob : Wanted → Type 0
-IsJob (Seek s) = IsJourney s.journey × ((least_alpha ≤ s.alpha) × (s.alpha ≤ most_alpha))
-IsJob (Replay r) = IsJourney r.journey
+IsJob (Ask j a) = IsJourney j × IsAsk a
 IsJob (Sample size) = (least_size ≤ size) × (size ≤ most_size)

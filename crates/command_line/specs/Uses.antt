@@ -4,46 +4,51 @@ use Rattle.command_line.specs.declared.options.Command.{Command}
 use Rattle.command_line.specs.declared.options.Command.TheVariants as command
 use Rattle.command_line.specs.declared.options.OptionName.{OptionName}
 use Rattle.command_line.specs.declared.options.OptionName.TheVariants.{Cut, Feed, Delays, From, To, At, Alpha, Horizon, Graph, Late, Size}
+use Rattle.command_line.specs.declared.options.OwnUses.{OwnUses}
 use Rattle.command_line.specs.declared.options.Use.{Use}
 use Rattle.command_line.specs.declared.options.Use.TheVariants.{Needed, Optional, Unused, OneOf, With}
 use Rattle.command_line.specs.Options.{option_number}
 use Rattle.command_line.specs.Settings.{is_given}
 
+-- a command about a journey that takes none of the options which not each such command takes
+abbrev pub no_own : OwnUses
+no_own = record { alpha = Unused; graph = Unused; late = Unused }
+
+-- what a command about a journey does with an option
+abbrev pub on_journey : OwnUses → OptionName → Use
+on_journey own Cut = OneOf Feed
+on_journey own Feed = OneOf Cut
+on_journey own Delays = Needed
+on_journey own From = Needed
+on_journey own To = Needed
+on_journey own At = Needed
+on_journey own Alpha = own.alpha
+on_journey own Horizon = With Feed
+on_journey own Graph = own.graph
+on_journey own Late = own.late
+on_journey own Size = Unused
+
+-- what a command about a made timetable does with an option
+abbrev pub on_made : OptionName → Use
+on_made Cut = Unused
+on_made Feed = Unused
+on_made Delays = Unused
+on_made From = Unused
+on_made To = Unused
+on_made At = Unused
+on_made Alpha = Unused
+on_made Horizon = Unused
+on_made Graph = Unused
+on_made Late = Unused
+on_made Size = Needed
+
 -- what a command does with an option
 abbrev pub use_of : Command → OptionName → Use
-use_of (command.Seek goal) Cut = OneOf Feed
-use_of (command.Seek goal) Feed = OneOf Cut
-use_of (command.Seek goal) Delays = Needed
-use_of (command.Seek goal) From = Needed
-use_of (command.Seek goal) To = Needed
-use_of (command.Seek goal) At = Needed
-use_of (command.Seek goal) Alpha = Optional
-use_of (command.Seek goal) Horizon = With Feed
-use_of (command.Seek goal) Graph = Unused
-use_of (command.Seek goal) Late = Unused
-use_of (command.Seek goal) Size = Unused
-use_of command.Replay Cut = OneOf Feed
-use_of command.Replay Feed = OneOf Cut
-use_of command.Replay Delays = Needed
-use_of command.Replay From = Needed
-use_of command.Replay To = Needed
-use_of command.Replay At = Needed
-use_of command.Replay Alpha = Unused
-use_of command.Replay Horizon = With Feed
-use_of command.Replay Graph = Needed
-use_of command.Replay Late = Needed
-use_of command.Replay Size = Unused
-use_of command.Sample Cut = Unused
-use_of command.Sample Feed = Unused
-use_of command.Sample Delays = Unused
-use_of command.Sample From = Unused
-use_of command.Sample To = Unused
-use_of command.Sample At = Unused
-use_of command.Sample Alpha = Unused
-use_of command.Sample Horizon = Unused
-use_of command.Sample Graph = Unused
-use_of command.Sample Late = Unused
-use_of command.Sample Size = Needed
+use_of command.Safe option = on_journey (record no_own { alpha = Optional }) option
+use_of command.Expand option = on_journey (record no_own { alpha = Optional }) option
+use_of command.Plan option = on_journey (record no_own { alpha = Optional }) option
+use_of command.Replay option = on_journey (record no_own { graph = Needed; late = Needed }) option
+use_of command.Sample option = on_made option
 
 -- the number of an option is less than that of another
 abbrev pub is_before : OptionName → OptionName → Bool

@@ -1,19 +1,16 @@
 //! What a line of words asks for.
 ghost use Rattle.std.specs.Prelude.{◌≡◌, ◌≤◌, map, string_bytes, option_and_then, unwrap_or, IfOk};
-ghost use Rattle.command_line.specs.Jobs.{start_of, alpha_of, horizon_of, size_of, timetable_of, journey_of, wanted_of, job_of, late_in};
+ghost use Rattle.command_line.specs.Jobs.{start_of, alpha_of, horizon_of, size_of, timetable_of, journey_of, wanted_of, job_of};
 ghost use Rattle.command_line.specs.Ranges.{HasHorizon, IsJourney, IsJob};
 ghost use Rattle.command_line.specs.Settings.{value_of};
 ghost use Rattle.command_line.specs.Shown.{timetable_shown, journey_shown, shown, answer_shown};
 ghost use Rattle.command_line.specs.Values.{number_at, first_start, last_start, least_alpha, most_alpha, least_horizon, most_horizon, least_size, most_size};
 
-use crate::options::{Command, Goal, OptionName};
+use crate::options::{Command, OptionName};
 use crate::refusals::{first_bad, first_missing, first_useless};
 use crate::settings::{are_settings, text_of, value_of};
-use crate::values::{
-    ALPHA, FIRST_START, HORIZON, NumberRange, SIZE, read_late, read_number, read_start,
-};
+use crate::values::{ALPHA, FIRST_START, HORIZON, NumberRange, SIZE, read_number, read_start};
 use plan_model::Moment;
-use std::alloc::{AllocError, Global};
 
 /// The percentage of a deadline where none is given.
 const DEFAULT_ALPHA: u32 = 200;
@@ -60,46 +57,28 @@ pub struct Journey<'a> {
     pub start: Moment,
 }
 
-/// A journey whose strategies are sought.
-#[derive(Clone, Copy, Debug)]
-pub struct SearchJob<'a> {
-    /// What is told of them.
-    pub goal: Goal,
-    /// The journey.
-    pub journey: Journey<'a>,
-    /// The deadline, in percent of the least time that a plan needs at worst.
-    pub alpha: u32,
-}
-
-/// A journey by a decision graph, as the delays come.
-#[derive(Clone, Copy, Debug)]
-pub struct ReplayJob<'a> {
-    /// The journey.
-    pub journey: Journey<'a>,
-    /// The path of the graph file.
-    pub graph: &'a str,
-    /// The delays that were met: `none`, or seconds that are joined by commas.
-    pub late: &'a str,
+/// What is asked about a journey. A percentage is that of the deadline: of the least time that a plan
+/// needs at worst.
+#[derive(Clone, Copy, Debug, PartialEq, Eq)]
+pub enum Ask<'a> {
+    /// The least worst arrival and the deadline.
+    Safe { alpha: u32 },
+    /// The decision graph, ride by ride.
+    Expand { alpha: u32 },
+    /// The decision graph, with one table for each place.
+    Plan { alpha: u32 },
+    /// The trip by the decision graph of a file, with the delays that were met: `none`, or seconds that
+    /// are joined by commas.
+    Replay { graph: &'a str, late: &'a str },
 }
 
 /// What a line of words asks for.
 #[derive(Clone, Copy, Debug)]
 pub enum Job<'a> {
-    /// To seek the strategies of a journey.
-    Seek(SearchJob<'a>),
-    /// To follow a decision graph.
-    Replay(ReplayJob<'a>),
-    /// To plan a journey over the timetable of this size that is made by rule.
+    /// Something about a journey.
+    Journey(Journey<'a>, Ask<'a>),
+    /// The plan of a journey over the timetable of this size that is made by rule.
     Sample(u32),
-}
-
-impl ReplayJob<'_> {
-    /// The delays that were met, in seconds.
-    pub fn delays(&self, alloc: Global) -> Result<Vec<u32>, AllocError>
-        ensures { IfOk result (λ delays. delays.items ≡ late_in self.now.late.now) }
-    {
-        read_late(alloc, self.late)
-    }
 }
 
 /// The moment that the journey begins at.
@@ -184,16 +163,31 @@ fn job_of(command: Command, settings: &[String]) -> Job<'_>
     ensures in_range { IsJob (shown result) }
 {
     match command {
-        Command::Seek(goal) => Job::Seek(SearchJob {
-            goal,
-            journey: journey_of(settings),
-            alpha: alpha_of(settings),
-        }),
-        Command::Replay => Job::Replay(ReplayJob {
-            journey: journey_of(settings),
-            graph: text_of(settings, OptionName::Graph),
-            late: text_of(settings, OptionName::Late),
-        }),
+        Command::Safe => Job::Journey(
+            journey_of(settings),
+            Ask::Safe {
+                alpha: alpha_of(settings),
+            },
+        ),
+        Command::Expand => Job::Journey(
+            journey_of(settings),
+            Ask::Expand {
+                alpha: alpha_of(settings),
+            },
+        ),
+        Command::Plan => Job::Journey(
+            journey_of(settings),
+            Ask::Plan {
+                alpha: alpha_of(settings),
+            },
+        ),
+        Command::Replay => Job::Journey(
+            journey_of(settings),
+            Ask::Replay {
+                graph: text_of(settings, OptionName::Graph),
+                late: text_of(settings, OptionName::Late),
+            },
+        ),
         Command::Sample => Job::Sample(size_of(settings)),
     }
 }

@@ -9,6 +9,7 @@ mod settings;
 mod tests;
 mod values;
 
-pub use job::{Job, Journey, ReplayJob, SearchJob, Timetable, WordsFault, read_job};
-pub use options::{Command, Goal, OptionName, Use, option_word};
+pub use job::{Ask, Job, Journey, Timetable, WordsFault, read_job};
+pub use options::{Command, OptionName, Use, option_word};
 pub use settings::line_is_a_command_and_its_settings;
+pub use values::read_late;

@@ -1,24 +1,17 @@
 //! The commands and the options by their words.
 ghost use Rattle.std.specs.Prelude.{◌≡◌, Some};
 ghost use Rattle.command_line.specs.Options.{option_name, option_number, option_word, option_numbered, option_named, command_named};
-ghost use Rattle.command_line.specs.Uses.{use_of};
-
-/// What is sought.
-#[derive(Clone, Copy, Debug, PartialEq, Eq)]
-pub enum Goal {
-    /// The least worst arrival and the deadline.
-    Safe,
-    /// The decision graph, ride by ride.
-    Expand,
-    /// The decision graph, with one table for each place.
-    Plan,
-}
+ghost use Rattle.command_line.specs.Uses.{use_of, on_journey, on_made};
 
 /// What the program can be asked for.
 #[derive(Clone, Copy, Debug, PartialEq, Eq)]
 pub enum Command {
-    /// To seek the strategies of a journey.
-    Seek(Goal),
+    /// To tell the least worst arrival of a journey and its deadline.
+    Safe,
+    /// To make the decision graph of a journey, ride by ride.
+    Expand,
+    /// To make the decision graph of a journey, with one table for each place.
+    Plan,
     /// To follow a decision graph as the delays come.
     Replay,
     /// To plan a journey over a timetable that is made by rule.
@@ -83,19 +76,34 @@ pub enum Use {
     With(OptionName),
 }
 
+/// What a command about a journey does with the options that not each of them takes.
+#[derive(Clone, Copy)]
+struct OwnUses {
+    alpha: Use,
+    graph: Use,
+    late: Use,
+}
+
+/// None of them is taken.
+const NO_OWN: OwnUses = OwnUses {
+    alpha: Use::Unused,
+    graph: Use::Unused,
+    late: Use::Unused,
+};
+
 impl Command {
     /// The command that a word names.
     pub(crate) fn named(word: &str) -> Option<Command>
         ensures { result ≡ command_named word.now }
     {
         if word == "safe" {
-            return Some(Command::Seek(Goal::Safe));
+            return Some(Command::Safe);
         }
         if word == "expand" {
-            return Some(Command::Seek(Goal::Expand));
+            return Some(Command::Expand);
         }
         if word == "plan" {
-            return Some(Command::Seek(Goal::Plan));
+            return Some(Command::Plan);
         }
         if word == "replay" {
             return Some(Command::Replay);
@@ -111,38 +119,58 @@ impl Command {
         ensures { result ≡ use_of self option }
     {
         match self {
-            Command::Seek(_) => match option {
-                OptionName::Cut => Use::OneOf(OptionName::Feed),
-                OptionName::Feed => Use::OneOf(OptionName::Cut),
-                OptionName::Delays | OptionName::From | OptionName::To | OptionName::At =>
-                    Use::Needed,
-                OptionName::Alpha => Use::Optional,
-                OptionName::Horizon => Use::With(OptionName::Feed),
-                OptionName::Graph | OptionName::Late | OptionName::Size => Use::Unused,
-            },
-            Command::Replay => match option {
-                OptionName::Cut => Use::OneOf(OptionName::Feed),
-                OptionName::Feed => Use::OneOf(OptionName::Cut),
-                OptionName::Delays | OptionName::From | OptionName::To | OptionName::At =>
-                    Use::Needed,
-                OptionName::Horizon => Use::With(OptionName::Feed),
-                OptionName::Graph | OptionName::Late => Use::Needed,
-                OptionName::Alpha | OptionName::Size => Use::Unused,
-            },
-            Command::Sample => match option {
-                OptionName::Size => Use::Needed,
-                OptionName::Cut
-                | OptionName::Feed
-                | OptionName::Delays
-                | OptionName::From
-                | OptionName::To
-                | OptionName::At
-                | OptionName::Alpha
-                | OptionName::Horizon
-                | OptionName::Graph
-                | OptionName::Late => Use::Unused,
-            },
+            Command::Safe | Command::Expand | Command::Plan => on_journey(
+                OwnUses {
+                    alpha: Use::Optional,
+                    ..NO_OWN
+                },
+                option,
+            ),
+            Command::Replay => on_journey(
+                OwnUses {
+                    graph: Use::Needed,
+                    late: Use::Needed,
+                    ..NO_OWN
+                },
+                option,
+            ),
+            Command::Sample => on_made(option),
         }
+    }
+}
+
+/// What a command about a journey does with an option.
+fn on_journey(own: OwnUses, option: OptionName) -> Use
+    ensures { result ≡ on_journey own option }
+{
+    match option {
+        OptionName::Cut => Use::OneOf(OptionName::Feed),
+        OptionName::Feed => Use::OneOf(OptionName::Cut),
+        OptionName::Delays | OptionName::From | OptionName::To | OptionName::At => Use::Needed,
+        OptionName::Alpha => own.alpha,
+        OptionName::Horizon => Use::With(OptionName::Feed),
+        OptionName::Graph => own.graph,
+        OptionName::Late => own.late,
+        OptionName::Size => Use::Unused,
+    }
+}
+
+/// What a command about a made timetable does with an option.
+fn on_made(option: OptionName) -> Use
+    ensures { result ≡ on_made option }
+{
+    match option {
+        OptionName::Size => Use::Needed,
+        OptionName::Cut
+        | OptionName::Feed
+        | OptionName::Delays
+        | OptionName::From
+        | OptionName::To
+        | OptionName::At
+        | OptionName::Alpha
+        | OptionName::Horizon
+        | OptionName::Graph
+        | OptionName::Late => Use::Unused,
     }
 }
 

@@ -1,17 +1,19 @@
 -- The rides of runs are in order, fit their places and classes, and each run has one.
-use Rattle.std.proofs.Common.{◌≡◌, ℕ, zero, suc, ◌+◌, ◌-◌, ◌<◌, ◌≤◌, ◌⊎◌, inl, inr, nat_le, Bool, true, false, List, [], ◌∷◌, ◌++◌, length, map, get_or, slice_index, All, refl, sym, ap, ◌∙◌, subst, arith, ⊎_elim, length-append, add-one}
+use Rattle.std.proofs.Common.{◌≡◌, ℕ, zero, suc, ◌+◌, ◌-◌, ◌<◌, ◌≤◌, ◌⊎◌, inl, inr, nat_le, Bool, true, false, List, [], ◌∷◌, ◌++◌, length, map, get_or, slice_index, Some, All, refl, sym, ap, ◌∙◌, subst, arith, ⊎_elim, length-append, add-one}
 use Rattle.std.specs.Prelude.{AllPairs}
 use Rattle.std.proofs.lemmas.Bool.{cases_lt}
 use Rattle.std.proofs.lemmas.Bool.Decides.{nat_tests}
 use Rattle.std.proofs.lemmas.List.{get_or_append_left, get_or-append_right, get_or-map, length-map}
 use Rattle.std.proofs.lemmas.List.Elements.{All-push, All-append, All-weaker, All-nil, All-get_or, All-map}
 use Rattle.clock_text.proofs.DigitLemmas.{and_parts}
+use Rattle.plan_model.proofs.Links.{AreLinks-none}
 use Rattle.plan_model.specs.declared.model.Connection.{Connection}
 use Rattle.plan_model.specs.declared.model.Outcome.{Outcome}
 use Rattle.plan_model.specs.NameLists.{NameLists, IsTrimmed, NamesFit}
 use Rattle.plan_model.specs.Network.{IsValid, connection, no_connection, change_of, row_of}
-use Rattle.plan_model.specs.Parts.{Parts}
+use Rattle.plan_model.specs.Parts.{Parts, plain_parts}
 use Rattle.delay_table.specs.DelayLists.{DelayLists}
+use Rattle.delay_table.proofs.ClassBounds.{class_for-inside}
 use Rattle.delay_table.specs.Slots.{AreDelays}
 use Rattle.gtfs_tables.specs.declared.stop_times.StopRow.{StopRow}
 use Rattle.gtfs_tables.specs.Feeds.{FeedParts}
@@ -23,10 +25,9 @@ use Rattle.connections.specs.Joins.{only_if}
 use Rattle.connections.specs.Window.{holds, IsWindow}
 use Rattle.connections.specs.Rides.{departs, steps_below, steps_of, run_at, run_steps}
 use Rattle.connections.specs.Runs.{AreRunsOf, AllRide}
-use Rattle.connections.specs.Networks.{AreChanges, AreRunNames, ride, ride_count, run_rides, rides_below, class_of_trip}
-use Rattle.connections.proofs.ClassLemmas.{class_inside}
+use Rattle.connections.specs.Networks.{AreChanges, AreRunNames, arrives, ride, run_rides, rides_below, class_of_trip, route_of}
 use Rattle.connections.proofs.NameLemmas.{names_trimmed}
-use Rattle.connections.proofs.CountLemmas.{count-zero, count-suc, rides-zero, rides-suc}
+use Rattle.connections.proofs.CountLemmas.{rides-zero, rides-suc}
 use Rattle.connections.proofs.PairLemmas.{AllPairs-append, AllPairs-nil, AllPairs-one}
 use Rattle.connections.proofs.StepLemmas.{steps-zero, steps-suc}
 
@@ -106,7 +107,7 @@ pub record IsGood (places classes runs : ℕ) (c : Connection) : Type 0 where
   pub step_in : c.step < 1000000000
   pub run_in : c.run.0 < runs
 
-module _ (w : Window) (v : IsWindow w) (rows : List StopRow) (places : ℕ) (t : AreTimed rows places) (day number class classes : ℕ) (few : class < classes) where
+module _ (w : Window) (v : IsWindow w) (rows : List StopRow) (places : ℕ) (t : AreTimed rows places) (day number : ℕ) (class : ℕ → ℕ) (classes : ℕ) (few : (arr : ℕ) → class arr < classes) where
   abbrev steps : List ℕ
   steps = steps_of w rows day
 
@@ -119,7 +120,7 @@ module _ (w : Window) (v : IsWindow w) (rows : List StopRow) (places : ℕ) (t :
         early = omega (arith, s.to, v.late, v.short, t.early (k + 1) next, t.forward (k + 1) next);
         from_in = t.place k here;
         to_in = t.place (k + 1) next;
-        class_in = few;
+        class_in = few (arrives rows day k);
         step_in = omega (arith, t.few, next);
         run_in = omega arith;
       }
@@ -149,49 +150,46 @@ module _ (w : Window) (v : IsWindow w) (rows : List StopRow) (places : ℕ) (t :
 
 -- the connections of the first n runs
 pub record AreGood (f : FeedParts) (w : Window) (rs : List Run) (places classes n : ℕ) (cs : List Connection) : Type 0 where
-  pub size : length cs ≡ ride_count f w rs n
   pub good : All (IsGood places classes n) cs
   pub order : AllPairs Follows cs
   pub each : (r : ℕ) (d : Connection) → r < n → (j : ℕ) × (j < length cs) × ((get_or cs j d).run.0 ≡ r)
   pub many : n ≤ length cs
 
-module _ (f : FeedParts) (types : List ℕ) (w : Window) (v : IsWindow w) (timed : IsTimed f) (rs : List Run) (runs : AreRunsOf f rs) (classes : ℕ)
-    (few : (trip : ℕ) → class_of_trip f types trip < classes) (some : (r : ℕ) → r < length rs → 0 < length (run_steps f w (run_at rs r))) where
+module _ (f : FeedParts) (delays : DelayLists) (w : Window) (v : IsWindow w) (timed : IsTimed f) (rs : List Run) (runs : AreRunsOf f rs) (classes : ℕ)
+    (few : (trip arr : ℕ) → class_of_trip f delays trip arr < classes) (some : (r : ℕ) → r < length rs → 0 < length (run_steps f w (run_at rs r))) where
   abbrev places : ℕ
   places = length f.stop_ids
 
   own : (n : ℕ) → n < length rs
-      → All (IsGood places classes (n + 1)) (run_rides f types w rs n) × AllPairs Follows (run_rides f types w rs n) × (length (run_rides f types w rs n) ≡ length (run_steps f w (run_at rs n)))
+      → All (IsGood places classes (n + 1)) (run_rides f delays w rs n) × AllPairs Follows (run_rides f delays w rs n) × (length (run_rides f delays w rs n) ≡ length (run_steps f w (run_at rs n)))
   unfolding run_rides
   own n h =
       let run = run_at rs n in
       let t = timed run.trip (runs.each n h).trip in
-      let class = class_of_trip f types run.trip in (
+      let class = class_of_trip f delays run.trip in (
         good_rides w v (rows_of f run.trip) places t run.day n class classes (few run.trip),
         rides_follow w v (rows_of f run.trip) places t run.day n class classes (few run.trip),
         length-map (run_steps f w run) (ride (rows_of f run.trip) run.day n class),
       )
 
-  own_run : (n j : ℕ) (d : Connection) → n < length rs → j < length (run_rides f types w rs n) → (get_or (run_rides f types w rs n) j d).run.0 ≡ n
+  own_run : (n j : ℕ) (d : Connection) → n < length rs → j < length (run_rides f delays w rs n) → (get_or (run_rides f delays w rs n) j d).run.0 ≡ n
   unfolding run_rides
   own_run n j d h l =
       let run = run_at rs n in
-      let g = ride (rows_of f run.trip) run.day n (class_of_trip f types run.trip) in
+      let g = ride (rows_of f run.trip) run.day n (class_of_trip f delays run.trip) in
       let size = length-map (run_steps f w run) g in
       ap (λ c. c.run.0) (get_or-map g (run_steps f w run) j 0 d (omega (arith, size)))
 
-  own_here : (n r : ℕ) (d : Connection) → n < length rs → n ≡ r → (m : ℕ) → 0 < length (run_rides f types w rs n) → m ≡ 0 → (get_or (run_rides f types w rs n) m d).run.0 ≡ r
-  own_here n r d h e m l z = let P : ℕ → Type 0 = λ j. (get_or (run_rides f types w rs n) j d).run.0 ≡ r in subst P (sym z) (own_run n 0 d h l ∙ e)
+  own_here : (n r : ℕ) (d : Connection) → n < length rs → n ≡ r → (m : ℕ) → 0 < length (run_rides f delays w rs n) → m ≡ 0 → (get_or (run_rides f delays w rs n) m d).run.0 ≡ r
+  own_here n r d h e m l z = let P : ℕ → Type 0 = λ j. (get_or (run_rides f delays w rs n) j d).run.0 ≡ r in subst P (sym z) (own_run n 0 d h l ∙ e)
 
-  add : (n : ℕ) (cs : List Connection) → n < length rs → AreGood f w rs places classes n cs → AreGood f w rs places classes (n + 1) (cs ++ run_rides f types w rs n)
+  add : (n : ℕ) (cs : List Connection) → n < length rs → AreGood f w rs places classes n cs → AreGood f w rs places classes (n + 1) (cs ++ run_rides f delays w rs n)
   add n cs h a =
-      let ds = run_rides f types w rs n in
+      let ds = run_rides f delays w rs n in
       let o = own n h in
       let size = length-append cs ds in
       let has = some n h in
-      let more : ride_count f w rs (n + 1) ≡ ride_count f w rs n + length (run_steps f w (run_at rs n)) = rw add-one (count-suc f w rs n) in
       record {
-        size = omega (arith, size, a.size, o.2, more);
         good = All-append (IsGood places classes (n + 1)) cs ds
             (All-weaker (IsGood places classes n) (IsGood places classes (n + 1)) (λ c g. record {
               forward = g.forward;
@@ -214,10 +212,9 @@ module _ (f : FeedParts) (types : List ℕ) (w : Window) (v : IsWindow w) (timed
         many = omega (arith, a.many, size, o.2, has);
       }
 
-  pub all_good : (n : ℕ) → n ≤ length rs → AreGood f w rs places classes n (rides_below f types w rs n)
+  pub all_good : (n : ℕ) → n ≤ length rs → AreGood f w rs places classes n (rides_below f delays w rs n)
   all_good zero h =
-      subst (AreGood f w rs places classes 0) (sym (rides-zero f types w rs)) (record {
-        size = sym (count-zero f w rs);
+      subst (AreGood f w rs places classes 0) (sym (rides-zero f delays w rs)) (record {
         good = All-nil (IsGood places classes 0);
         order = AllPairs-nil Follows;
         each = λ r d l. absurd (omega arith);
@@ -225,25 +222,22 @@ module _ (f : FeedParts) (types : List ℕ) (w : Window) (v : IsWindow w) (timed
       })
   all_good (suc n) h =
       let e : n + 1 ≡ suc n = omega arith in
-      let P : ℕ → Type 0 = λ k. AreGood f w rs places classes k (rides_below f types w rs (suc n)) in
-      subst P e (subst (AreGood f w rs places classes (n + 1)) (sym (rides-suc f types w rs n)) (add n (rides_below f types w rs n) (omega arith) (all_good n (omega arith))))
+      let P : ℕ → Type 0 = λ k. AreGood f w rs places classes k (rides_below f delays w rs (suc n)) in
+      subst P e (subst (AreGood f w rs places classes (n + 1)) (sym (rides-suc f delays w rs n)) (add n (rides_below f delays w rs n) (omega arith) (all_good n (omega arith))))
 
 -- what the parts of a network are made of
 module _ (f : FeedParts) (d : DelayLists) (delays : AreDelays d) (w : Window) (v : IsWindow w) (timed : IsTimed f) (rs : List Run) (runs : AreRunsOf f rs) (some : AllRide f w rs)
-    (few : ride_count f w rs (length rs) ≤ 8388608) (change : List ℕ) (changes : AreChanges change) (size : length change ≡ length f.stop_ids) (stops : length f.stop_ids < 4294967296) where
+    (few : length (rides_below f d w rs (length rs)) ≤ 8388608) (change : List ℕ) (changes : AreChanges change) (size : length change ≡ length f.stop_ids) (stops : length f.stop_ids < 4294967296) where
   abbrev cs : List Connection
-  cs = rides_below f d.types w rs (length rs)
+  cs = rides_below f d w rs (length rs)
 
-  class_few : (trip : ℕ) → class_of_trip f d.types trip < length d.classes
-  class_few trip = omega (arith, class_inside d.types (slice_index f.route_types trip), delays.each)
+  class_few : (trip arr : ℕ) → class_of_trip f d trip arr < length d.classes
+  class_few trip arr = class_for-inside d delays (Some (slice_index f.route_types trip)) (Some (route_of f trip)) arr
 
   good : AreGood f w rs (length f.stop_ids) (length d.classes) (length rs) cs
-  good = all_good f d.types w v timed rs runs (length d.classes) class_few some (length rs) (omega arith)
+  good = all_good f d w v timed rs runs (length d.classes) class_few some (length rs) (omega arith)
 
-  abbrev parts : (connections : List Connection) (changes : List ℕ) (classes : List (List Outcome)) → Parts
-  parts connections changes classes = record { connections = connections; change = changes; classes = classes }
-
-  valid_here : IsValid (parts cs change d.classes)
+  valid_here : IsValid (plain_parts cs change d.classes)
   unfolding connection change_of row_of
   valid_here =
       let g = good in
@@ -264,17 +258,18 @@ module _ (f : FeedParts) (d : DelayLists) (delays : AreDelays d) (w : Window) (v
             let c = All-get_or (IsGood (length f.stop_ids) (length d.classes) (length rs)) cs i no_connection h g.good in
             g.each r no_connection (omega (arith, c.run_in, l));
         changes = changes;
+        links = AreLinks-none (length change);
         rows = λ k h. delays.rows k h;
-        few_connections = omega (arith, g.size, few);
+        few_connections = few;
         few_places = omega (arith, size, stops);
         few_classes = omega (arith, delays.each, delays.few);
         class_0 = omega (arith, delays.each);
       }
 
-  pub valid : (connections : List Connection) (classes : List (List Outcome)) → connections ≡ cs → classes ≡ d.classes → IsValid (parts connections change classes)
+  pub valid : (connections : List Connection) (classes : List (List Outcome)) → connections ≡ cs → classes ≡ d.classes → IsValid (plain_parts connections change classes)
   valid connections classes e h =
-      let P : List Connection → Type 0 = λ x. IsValid (parts x change classes) in
-      let Q : List (List Outcome) → Type 0 = λ x. IsValid (parts cs change x) in
+      let P : List Connection → Type 0 = λ x. IsValid (plain_parts x change classes) in
+      let Q : List (List Outcome) → Type 0 = λ x. IsValid (plain_parts cs change x) in
       subst P (sym e) (subst Q (sym h) valid_here)
 
   pub fits : (n : Parts) (names : NameLists) → n.connections ≡ cs → n.change ≡ change → names.places ≡ f.stop_ids → All IsTrimmed f.stop_ids → AreIds f.trip_ids
@@ -296,4 +291,4 @@ module _ (f : FeedParts) (d : DelayLists) (delays : AreDelays d) (w : Window) (v
       }
 
   pub few_runs : length rs ≤ 8388608
-  few_runs = let g = good in omega (arith, g.many, g.size, few)
+  few_runs = omega (arith, good.many, few)

@@ -2,8 +2,10 @@ pub mod JoinLemmas
 pub mod PairLemmas
 pub mod StepLemmas
 pub mod CountLemmas
+pub mod SumLemmas
+pub mod LinkLemmas
+pub mod FaultLemmas
 pub mod DayLemmas
-pub mod ClassLemmas
 pub mod DateLemmas
 pub mod NameLemmas
 pub mod RunLemmas

@@ -9,7 +9,7 @@ use Rattle.connections.specs.declared.window.Window.{Window}
 use Rattle.connections.specs.Joins.{only_if}
 use Rattle.connections.specs.Window.{holds}
 use Rattle.connections.specs.Rides.{DepartInOrder, departs, rides, steps_below, steps_of}
-use Rattle.connections.proofs.StepLemmas.{steps-zero, steps-suc, append-nil}
+use Rattle.connections.proofs.StepLemmas.{steps-zero, steps-suc, length-next, length-one, append-nil}
 use Rattle.connections.proofs.ConnectionLemmas.{onward_to}
 
 pub DepartInOrder-timed : (rows : List StopRow) (places : ℕ) → AreTimed rows places → DepartInOrder rows
@@ -51,9 +51,29 @@ pub rides_not : (active : Bool) (w : Window) (rows : List StopRow) (day : ℕ) �
 rides_not true w rows day none = rw none refl
 rides_not false w rows day none = refl
 
--- where it is active, its count tells
-pub rides_if : (active : Bool) (count : ℕ) (w : Window) (rows : List StopRow) (day : ℕ) → active ≡ true → count ≡ length (steps_of w rows day) → nat_lt 0 count ≡ (active && rides w rows day)
-rides_if active count w rows day is same = rw (is, same) refl
+-- where it is active, its rows tell
+pub rides_if : (active result : Bool) (w : Window) (rows : List StopRow) (day : ℕ) → active ≡ true → result ≡ rides w rows day → result ≡ (active && rides w rows day)
+rides_if active result w rows day is same = rw is same
+
+-- a row that is left in the window is a ride
+some_step : (w : Window) (rows : List StopRow) (day n k : ℕ) → k < n → holds w (departs rows day k) ≡ true → 0 < length (steps_below w rows day n)
+some_step w rows day zero k h t = absurd (omega arith)
+some_step w rows day (suc n) k h t =
+    let e : n + 1 ≡ suc n = omega arith in
+    let more = length-next w rows day n (holds w (departs rows day n)) refl in
+    let same = ap (λ m. length (steps_below w rows day m)) e in
+    elim (cases_eq k n) [
+      | inl last ↦
+          let one = length-one (holds w (departs rows day n)) n (ap (λ m. holds w (departs rows day m)) (sym last) ∙ t) in
+          omega (arith, same, more, one)
+      | inr other ↦ omega (arith, same, more, some_step w rows day n k (omega arith) t)
+    ]
+
+pub rides_true : (w : Window) (rows : List StopRow) (day k : ℕ) → k < length rows - 1 → holds w (departs rows day k) ≡ true → true ≡ rides w rows day
+rides_true w rows day k h t = let some = some_step w rows day (length rows - 1) k h t in grind (arith, nat_tests)
+
+pub rides_false : (w : Window) (rows : List StopRow) (day : ℕ) → steps_of w rows day ≡ [] → false ≡ rides w rows day
+rides_false w rows day none = rw none refl
 
 -- and where it is not, it does not ride
 pub rides_inactive : (result active : Bool) (w : Window) (rows : List StopRow) (day : ℕ) → result ≡ active → result ≡ false → result ≡ (active && rides w rows day)

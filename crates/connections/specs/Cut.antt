@@ -1,19 +1,32 @@
 -- The network of a feed from a start on, so many hours long.
-use Rattle.std.specs.Prelude.{ℕ, length}
+use Rattle.std.specs.Prelude.{ℕ, length, Option}
+use Rattle.csv_rows.specs.declared.limits.Limits.{Limits}
 use Rattle.csv_rows.specs.Lists.{list_below}
 use Rattle.plan_model.specs.NameLists.{NameLists}
 use Rattle.plan_model.specs.Parts.{Parts}
-use Rattle.change_times.specs.Changes.{ChangeParts, seconds_of}
+use Rattle.change_times.specs.Changes.{ChangeParts, seconds_of, links_of}
 use Rattle.delay_table.specs.DelayLists.{DelayLists}
 use Rattle.gtfs_tables.specs.Feeds.{FeedParts}
 use Rattle.service_days.specs.Services.{ServiceParts}
+use Rattle.connections.specs.declared.cuts.WindowFault.{WindowFault}
 use Rattle.connections.specs.Window.{window_of}
-use Rattle.connections.specs.Networks.{IsNetworkOf, ride_count_in}
+use Rattle.connections.specs.Faults.{window_fault}
+use Rattle.connections.specs.Counts.{count_in, entries_in}
+use Rattle.connections.specs.Networks.{IsNetworkOf}
 
--- its connections are the rides in the window, and its change seconds and classes are those of the feed's transfers and of the delays
+-- its connections are the rides in the window, its change seconds and links are those of the feed's transfers, and its classes
+-- those of the delays
 abbrev pub IsNetworkFrom : FeedParts → ServiceParts → ChangeParts → DelayLists → (start horizon : ℕ) → Parts → NameLists → Type 0
-IsNetworkFrom f s c d start horizon n names = IsNetworkOf f s (list_below (seconds_of c) (length f.stop_ids)) d (window_of start horizon) n names
+IsNetworkFrom f s c d start horizon n names = IsNetworkOf f s (list_below (seconds_of c) (length f.stop_ids)) (list_below (links_of c) (length f.stop_ids)) d (window_of start horizon) n names
 
 -- how many connections the window has
 abbrev pub connection_count : FeedParts → ServiceParts → (start horizon : ℕ) → ℕ
-connection_count f s start horizon = ride_count_in f s (window_of start horizon)
+connection_count f s start horizon = count_in f s (window_of start horizon)
+
+-- how many entries it has
+abbrev pub entry_count : FeedParts → ServiceParts → ChangeParts → (start horizon : ℕ) → ℕ
+entry_count f s c start horizon = entries_in f s c (window_of start horizon)
+
+-- the first fault of the window
+abbrev pub fault_from : Limits → FeedParts → ServiceParts → ChangeParts → (start horizon : ℕ) → Option WindowFault
+fault_from limits f s c start horizon = window_fault limits (connection_count f s start horizon) (entry_count f s c start horizon)

@@ -2,6 +2,7 @@ pub mod Joins
 pub mod Window
 pub mod Rides
 pub mod Runs
+pub mod Counts
 pub mod Networks
 pub mod Faults
 pub mod Cut

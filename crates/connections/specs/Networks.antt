@@ -1,11 +1,11 @@
 -- The network of a feed in a window of time, and its names.
-use Rattle.std.specs.Prelude.{◌≡◌, ℕ, zero, suc, ◌+◌, ◌*◌, ◌==◌, ◌<◌, ◌≤◌, List, [], ◌∷◌, ◌++◌, map, length, slice_index, slice_index_or, Some, None, if◌then◌else◌, unwrap_or, pos}
-use Rattle.csv_rows.specs.First.{first_below}
+use Rattle.std.specs.Prelude.{◌≡◌, ℕ, ◌+◌, ◌*◌, ◌==◌, ◌<◌, ◌≤◌, List, [], ◌∷◌, ◌++◌, map, length, slice_index, slice_index_or, Some, None, if◌then◌else◌, unwrap_or, pos}
 use Rattle.clock_text.specs.Times.{date_at}
 use Rattle.plan_model.specs.declared.model.Connection.{Connection}
+use Rattle.plan_model.specs.declared.model.Way.{Way}
 use Rattle.plan_model.specs.NameLists.{NameLists}
 use Rattle.plan_model.specs.Parts.{Parts}
-use Rattle.delay_table.specs.DelayLists.{DelayLists}
+use Rattle.delay_table.specs.DelayLists.{DelayLists, class_for}
 use Rattle.gtfs_tables.specs.declared.stop_times.StopRow.{StopRow}
 use Rattle.gtfs_tables.specs.Feeds.{FeedParts}
 use Rattle.gtfs_tables.specs.Timed.{rows_of, kept_at}
@@ -15,52 +15,48 @@ use Rattle.connections.specs.declared.runs.Run.{Run}
 use Rattle.connections.specs.Joins.{join_below}
 use Rattle.connections.specs.Rides.{departs, run_steps, run_at, runs_in}
 
--- the class of a route type: 0 where none is named for it, and else its place among the named ones, from 1 on
-unfoldable pub class_in : List ℕ → ℕ → ℕ
-class_in types route = unwrap_or (first_below (λ k. if slice_index types k == route then Some (k + 1) else None) (length types)) 0
+-- when the ride from the k-th kept row to the next arrives
+abbrev pub arrives : List StopRow → ℕ → ℕ → ℕ
+arrives rows day k = 86400 * day + (kept_at rows (k + 1)).arrival
 
--- the ride of a trip on a day from its k-th kept row to the next, with the number of its run and its class
-abbrev pub ride : List StopRow → ℕ → ℕ → ℕ → ℕ → Connection
+-- the ride of a trip on a day from its k-th kept row to the next, with the number of its run, and its class by its arrival
+abbrev pub ride : List StopRow → (day number : ℕ) → (class : ℕ → ℕ) → (k : ℕ) → Connection
 ride rows day number class k = record {
   from = (kept_at rows k).place;
   to = (kept_at rows (k + 1)).place;
   dep = record { 0 = departs rows day k };
-  arr = record { 0 = 86400 * day + (kept_at rows (k + 1)).arrival };
+  arr = record { 0 = arrives rows day k };
   run = record { 0 = number };
   step = k;
-  class = record { 0 = class };
+  class = record { 0 = class (arrives rows day k) };
   can_board = (kept_at rows k).can_board;
   can_exit = (kept_at rows (k + 1)).can_exit;
 }
 
-abbrev pub class_of_trip : FeedParts → List ℕ → ℕ → ℕ
-class_of_trip f types trip = class_in types (slice_index f.route_types trip)
+-- the id of the route of a trip
+abbrev pub route_of : FeedParts → ℕ → List ℕ
+route_of f trip = slice_index_or f.route_ids (slice_index f.routes trip) []
+
+-- the class of a connection of a trip by its arrival, its route type and its route
+abbrev pub class_of_trip : FeedParts → DelayLists → (trip arr : ℕ) → ℕ
+class_of_trip f d trip arr = class_for d (Some (slice_index f.route_types trip)) (Some (route_of f trip)) arr
 
 -- the rides of a run in the window
-unfoldable pub run_rides : FeedParts → List ℕ → Window → List Run → ℕ → List Connection
-run_rides f types w rs r =
-    map (ride (rows_of f (run_at rs r).trip) (run_at rs r).day r (class_of_trip f types (run_at rs r).trip)) (run_steps f w (run_at rs r))
+unfoldable pub run_rides : FeedParts → DelayLists → Window → List Run → ℕ → List Connection
+run_rides f d w rs r =
+    map (ride (rows_of f (run_at rs r).trip) (run_at rs r).day r (class_of_trip f d (run_at rs r).trip)) (run_steps f w (run_at rs r))
 
 -- the rides of the first n runs, by run and step
-unfoldable pub rides_below : FeedParts → List ℕ → Window → List Run → ℕ → List Connection
-rides_below f types w rs n = join_below (run_rides f types w rs) n
-
--- how many rides the first n runs have in the window
-unfoldable pub ride_count : FeedParts → Window → List Run → ℕ → ℕ
-ride_count f w rs zero = 0
-ride_count f w rs (suc n) = ride_count f w rs n + length (run_steps f w (run_at rs n))
-
--- how many connections a window has
-abbrev pub ride_count_in : FeedParts → ServiceParts → Window → ℕ
-ride_count_in f s w = ride_count f w (runs_in f s w) (length (runs_in f s w))
+unfoldable pub rides_below : FeedParts → DelayLists → Window → List Run → ℕ → List Connection
+rides_below f d w rs n = join_below (run_rides f d w rs) n
 
 -- a change takes from a second to a day
 abbrev pub AreChanges : List ℕ → Type 0
 AreChanges change = (p : ℕ) → p < length change → (1 ≤ slice_index change p) × (slice_index change p ≤ 86400)
 
 -- the connections of the window
-abbrev pub connections_in : FeedParts → ServiceParts → List ℕ → Window → List Connection
-connections_in f s types w = rides_below f types w (runs_in f s w) (length (runs_in f s w))
+abbrev pub connections_in : FeedParts → ServiceParts → DelayLists → Window → List Connection
+connections_in f s d w = rides_below f d w (runs_in f s w) (length (runs_in f s w))
 
 -- the service date as YYYYMMDD, a colon, and the id of the trip
 pub record IsRunName (f : FeedParts) (run : Run) (name : List ℕ) : Type 0 where
@@ -73,11 +69,12 @@ pub record AreRunNames (f : FeedParts) (rs : List Run) (n : ℕ) (names : List (
   pub size : length names ≡ n
   pub each : (r : ℕ) → r < n → IsRunName f (run_at rs r) (slice_index_or names r [])
 
--- the network of a window: its connections, the change seconds of each place, and the classes of the delays; places have
--- the ids of their stops as names
-pub record IsNetworkOf (f : FeedParts) (s : ServiceParts) (change : List ℕ) (d : DelayLists) (w : Window) (n : Parts) (names : NameLists) : Type 0 where
-  pub connections : n.connections ≡ connections_in f s d.types w
+-- the network of a window: its connections, the change seconds of each place, the links into it, and the classes of the
+-- delays; places have the ids of their stops as names
+pub record IsNetworkOf (f : FeedParts) (s : ServiceParts) (change : List ℕ) (links : List (List Way)) (d : DelayLists) (w : Window) (n : Parts) (names : NameLists) : Type 0 where
+  pub connections : n.connections ≡ connections_in f s d w
   pub change_of_places : n.change ≡ change
+  pub links_of_places : n.links ≡ links
   pub classes_of_delays : n.classes ≡ d.classes
   pub places : names.places ≡ f.stop_ids
   pub runs : AreRunNames f (runs_in f s w) (length (runs_in f s w)) names.runs

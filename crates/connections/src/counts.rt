@@ -1,23 +1,127 @@
-//! How many connections a window has.
-ghost use Rattle.std.specs.Prelude.{◌≡◌, ◌≤◌, length};
-ghost use Rattle.gtfs_tables.specs.Timed.{IsTimed};
-ghost use Rattle.connections.specs.Runs.{AreRunsOf};
-ghost use Rattle.connections.specs.Networks.{ride_count};
+//! What the connections of a window add up to, before any of them stands.
+ghost use Rattle.std.specs.Prelude.{◌≡◌, ◌≤◌, ◌<◌, ◌^◌, ◌-◌, length, min, sum_by};
+ghost use Rattle.gtfs_tables.specs.Timed.{IsTimed, kept_at};
+ghost use Rattle.connections.specs.Joins.{only_if};
+ghost use Rattle.connections.specs.Window.{holds, IsWindow};
+ghost use Rattle.connections.specs.Rides.{departs};
+ghost use Rattle.connections.specs.Counts.{each_of, steps_sum, trip_sum, day_sum, window_sum};
 
-use crate::runs::{Run, count_rides};
+use crate::runs::{DAYS, has_service, leaves, may_ride};
 use crate::window::Window;
-use gtfs_tables::Feed;
+use change_times::Changes;
+use gtfs_tables::{Feed, StopRow};
+use plan_model::PlaceId;
+use service_days::Services;
 
-/// How many rides of these runs depart in the window.
-pub(crate) fn count_all(feed: &Feed, runs: &[Run], window: Window) -> u64
-    requires runs { AreRunsOf feed.now runs.now }
-    requires timed { IsTimed feed.now }
-    ensures { result ≡ ride_count feed.now window runs.now (length runs.now) }
+/// What is counted: connections, or entries, which are the pairs of a connection and a way into the place that it leaves.
+#[derive(Clone, Copy)]
+pub(crate) enum Counted {
+    Connections,
+    Entries,
+}
+
+/// What a connection counts for that leaves this place.
+fn each(changes: &Changes, counted: Counted, place: PlaceId) -> u64
+    ensures { result ≡ each_of changes.now counted place }
 {
-    let mut count = 0u64;
-    for r in 0..runs.len() {
-        let run = runs[r];
-        count += count_rides(feed.stop_times(run.trip), run.day, window);
+    match counted {
+        Counted::Connections => 1,
+        Counted::Entries => changes.links_into(place).len() as u64 + 1,
     }
-    count
+}
+
+/// What the connection from one kept row counts for, where it departs in the window.
+fn sum_step(
+    changes: &Changes,
+    counted: Counted,
+    rows: &[StopRow],
+    step: usize,
+    day: u32,
+    window: Window,
+) -> u64
+    requires { step < length rows.now }
+    ensures { result ≡ sum_by (λ k. each_of changes.now counted (kept_at rows.now k).place)
+        (only_if (holds window (departs rows.now day step)) step) }
+{
+    if leaves(rows, step, day, window) {
+        let row = rows[step];
+        each(changes, counted, row.place)
+    } else {
+        0
+    }
+}
+
+/// What the connections of a trip with these kept rows count for on a day.
+fn sum_steps(changes: &Changes, counted: Counted, rows: &[StopRow], day: u32, window: Window) -> u64
+    ensures { result ≡ min (steps_sum (each_of changes.now counted) window rows.now day) (2 ^ 64 - 1) }
+{
+    let mut sum = 0u64;
+    for k in 0..rows.len().saturating_sub(1) {
+        sum = sum.saturating_add(sum_step(changes, counted, rows, k, day, window));
+    }
+    sum
+}
+
+/// What the connections of a trip count for on a day.
+fn sum_trip(
+    feed: &Feed,
+    services: &Services,
+    changes: &Changes,
+    counted: Counted,
+    trip: u32,
+    day: u32,
+    window: Window,
+) -> u64
+    requires trip { trip < length feed.now.trip_ids }
+    requires day { day ≤ 2_932_896 }
+    requires timed { IsTimed feed.now }
+    ensures { result ≡ min
+        (trip_sum (each_of changes.now counted) feed.now services.now window day trip) (2 ^ 64 - 1) }
+{
+    let rows = feed.stop_times(trip);
+    if !may_ride(rows, day, window) || !has_service(feed, services, trip, day) {
+        return 0;
+    }
+    sum_steps(changes, counted, rows, day, window)
+}
+
+/// What the connections of all trips count for on a day.
+fn sum_day(
+    feed: &Feed,
+    services: &Services,
+    changes: &Changes,
+    counted: Counted,
+    day: u32,
+    window: Window,
+) -> u64
+    requires { day ≤ 2_932_896 }
+    ensures { result ≡ min (day_sum (each_of changes.now counted) feed.now services.now window day
+        (length feed.now.trip_ids)) (2 ^ 64 - 1) }
+{
+    let mut sum = 0u64;
+    for trip in 0..feed.trip_count() {
+        sum = sum.saturating_add(sum_trip(feed, services, changes, counted, trip, day, window));
+    }
+    sum
+}
+
+/// What the connections of a window count for; from the greatest `u64` on this.
+pub(crate) fn sum_window(
+    feed: &Feed,
+    services: &Services,
+    changes: &Changes,
+    counted: Counted,
+    window: Window,
+) -> u64
+    requires { IsWindow window }
+    ensures { result ≡ min (window_sum (each_of changes.now counted) feed.now services.now window)
+        (2 ^ 64 - 1) }
+{
+    let mut sum = 0u64;
+    let first = window.first_day();
+    for d in 0..DAYS {
+        let day = sum_day(feed, services, changes, counted, first + d, window);
+        sum = sum.saturating_add(day);
+    }
+    sum
 }

@@ -1,19 +1,20 @@
 //! The network of a feed in a window of time.
-ghost use Rattle.std.specs.Prelude.{◌≡◌, ◌<◌, ◌≤◌, length, OnOk, IfOk, IfErr};
+ghost use Rattle.std.specs.Prelude.{◌≡◌, ◌≢◌, ◌<◌, ◌≤◌, [], length, Some, None, OnOk, IfOk, IfErr};
 ghost use Rattle.csv_rows.specs.Limits.{AreWithin};
 ghost use Rattle.csv_rows.specs.Lists.{list_below};
-ghost use Rattle.change_times.specs.Changes.{seconds_of};
+ghost use Rattle.change_times.specs.Changes.{seconds_of, links_of, LinksComeFrom};
 ghost use Rattle.csv_rows.specs.Ids.{AreIds};
 ghost use Rattle.gtfs_tables.specs.Timed.{IsTimed};
 ghost use Rattle.plan_model.specs.Bounds.{most_connections};
 ghost use Rattle.plan_model.specs.NameLists.{NamesFit};
 ghost use Rattle.connections.specs.Window.{IsWindow};
 ghost use Rattle.connections.specs.Runs.{AreRunsOf, AllRide};
-ghost use Rattle.connections.specs.Networks.{ride_count, ride_count_in, rides_below, AreChanges, AreRunNames, IsNetworkOf};
-ghost use Rattle.connections.specs.Cut.{IsNetworkFrom, connection_count};
-ghost use Rattle.connections.specs.Faults.{IsWindowFault};
+ghost use Rattle.connections.specs.Networks.{rides_below, AreChanges, AreRunNames, IsNetworkOf};
+ghost use Rattle.connections.specs.Cut.{IsNetworkFrom, connection_count, fault_from};
+ghost use Rattle.connections.specs.Faults.{window_fault};
+ghost use Rattle.connections.specs.Counts.{count_in, entries_in};
 
-use crate::counts::count_all;
+use crate::counts::{Counted, sum_window};
 use crate::names::names_of;
 use crate::rides::connections_of;
 use crate::runs::{Run, runs_of};
@@ -22,7 +23,7 @@ use change_times::Changes;
 use csv_rows::Limits;
 use delay_table::DelayTable;
 use gtfs_tables::Feed;
-use plan_model::{List, Moment, Names, Network, NoMemory, PlaceId};
+use plan_model::{List, Moment, Names, Network, NoMemory, PlaceId, Way};
 use service_days::Services;
 use std::alloc::Global;
 
@@ -31,6 +32,8 @@ use std::alloc::Global;
 pub enum WindowFault {
     /// The count of connections, which passes the limit.
     TooMany(u64),
+    /// The count of entries, which passes its limit: the pairs of a connection and a way into the place that it leaves.
+    TooManyEntries(u64),
     /// There was no memory.
     NoMemory,
 }
@@ -50,13 +53,15 @@ fn network_of_runs(
     requires timed { IsTimed feed.now }
     requires runs { AreRunsOf feed.now runs.now }
     requires rides { AllRide feed.now window runs.now }
-    requires few { ride_count feed.now window runs.now (length runs.now) ≤ most_connections }
+    requires few { length (rides_below feed.now delays.now window runs.now
+        (length runs.now)) ≤ most_connections }
     requires places { length change ≡ length feed.now.stop_ids }
     requires change { AreChanges change }
     ensures connections { IfOk result (λ r. r.0.connections
-        ≡ rides_below feed.now delays.now.types window runs.now (length runs.now)) }
+        ≡ rides_below feed.now delays.now window runs.now (length runs.now)) }
     ensures change { IfOk result (λ r. r.0.change ≡ change) }
     ensures classes { IfOk result (λ r. r.0.classes ≡ delays.now.classes) }
+    ensures links { IfOk result (λ r. r.0.links ≡ []) }
     ensures places { IfOk result (λ r. r.1.places ≡ feed.now.stop_ids) }
     ensures runs { IfOk result (λ r.
         AreRunNames feed.now runs.now (length runs.now) r.1.runs) }
@@ -68,43 +73,30 @@ fn network_of_runs(
     Ok((Network::from_parts(connections, change, classes), names))
 }
 
-/// The network of the connections that depart in the window, where these are the change seconds of the places, and the
-/// names of its places and runs.
-fn network_of(
-    alloc: Global,
+/// The first fault of a window.
+fn fault_of(
     feed: &Feed,
     services: &Services,
-    change: List<u32>,
-    delays: &DelayTable,
+    changes: &Changes,
     window: Window,
     limits: &Limits,
-) -> Result<(Network, Names), WindowFault>
+) -> Option<WindowFault>
     requires window { IsWindow window }
     requires limits { AreWithin limits.now }
-    requires places { length change ≡ length feed.now.stop_ids }
-    requires change { AreChanges change }
-    ensures network { IfOk result (λ r.
-        IsNetworkOf feed.now services.now change delays.now window r.0 r.1) }
-    ensures fit { IfOk result (λ r. NamesFit r.1 r.0) }
-    ensures few { OnOk result
-        (ride_count_in feed.now services.now window ≤ limits.now.connections) }
-    ensures fault { IfErr result (IsWindowFault limits.now.connections
-        (ride_count_in feed.now services.now window)) }
+    ensures { result ≡ window_fault limits.now (count_in feed.now services.now window)
+        (entries_in feed.now services.now changes.now window) }
 {
     let _trips = feed.trip_count();
-    let _stops = feed.stop_count();
-    let runs = match runs_of(alloc, feed, services, window) {
-        Ok(runs) => runs,
-        Err(_) => return Err(WindowFault::NoMemory),
-    };
-    let count = count_all(feed, runs.as_slice(), window);
+    let _link = changes.links_into(PlaceId(0));
+    let count = sum_window(feed, services, changes, Counted::Connections, window);
     if limits.connections < count {
-        return Err(WindowFault::TooMany(count));
+        return Some(WindowFault::TooMany(count));
     }
-    match network_of_runs(alloc, feed, change, delays, runs.as_slice(), window) {
-        Ok(parts) => Ok(parts),
-        Err(_) => Err(WindowFault::NoMemory),
+    let entries = sum_window(feed, services, changes, Counted::Entries, window);
+    if limits.entries < entries {
+        return Some(WindowFault::TooManyEntries(entries));
     }
+    None
 }
 
 /// The change seconds of each place.
@@ -119,12 +111,54 @@ fn changes_of(alloc: Global, changes: &Changes, places: u32) -> Result<List<u32>
     Ok(change)
 }
 
+/// The links into each place.
+fn links_of(alloc: Global, changes: &Changes, places: u32) -> Result<List<List<Way>>, NoMemory>
+    ensures { IfOk result (λ links. links ≡ list_below (links_of changes.now) places) }
+{
+    let mut links: List<List<Way>> = List::new(alloc);
+    for place in 0..places {
+        let ways = Vec::from_slice(alloc, changes.links_into(PlaceId(place)))?;
+        links.push(List::from_vec(ways))?;
+    }
+    Ok(links)
+}
+
+/// The network of the connections that depart in the window, and the names of its places and runs.
+fn network_of(
+    alloc: Global,
+    feed: &Feed,
+    services: &Services,
+    changes: &Changes,
+    delays: &DelayTable,
+    window: Window,
+) -> Result<(Network, Names), NoMemory>
+    requires window { IsWindow window }
+    requires few { count_in feed.now services.now window ≤ most_connections }
+    requires links { LinksComeFrom (length feed.now.stop_ids) changes.now }
+    ensures network { IfOk result (λ r. IsNetworkOf feed.now services.now
+        (list_below (seconds_of changes.now) (length feed.now.stop_ids))
+        (list_below (links_of changes.now) (length feed.now.stop_ids)) delays.now window r.0 r.1) }
+    ensures fit { IfOk result (λ r. NamesFit r.1 r.0) }
+    ensures count { IfOk result (λ r. length r.0.connections
+        ≡ count_in feed.now services.now window) }
+{
+    let _trips = feed.trip_count();
+    let _link = changes.links_into(PlaceId(0));
+    let runs = runs_of(alloc, feed, services, window)?;
+    let change = changes_of(alloc, changes, feed.stop_count())?;
+    let links = links_of(alloc, changes, feed.stop_count())?;
+    let (network, names) = network_of_runs(alloc, feed, change, delays, runs.as_slice(), window)?;
+    Ok((network.with_links(links), names))
+}
+
 /// The network of the connections of a feed that depart from the start to so many hours later, both ends included, over
 /// the service days from 7 before the date of the start to 3 after it, and the names of its places and runs. A connection
 /// is the ride of a trip from one kept row to the next on a day on which its service is active. Runs are numbered by
 /// service day and then by the position of the trip; the name of a run is its service date as YYYYMMDD, a colon and the id
-/// of the trip, and that of a place is the id of its stop. `TooMany` carries the count of all connections, and comes where
-/// it passes `limits.connections`.
+/// of the trip, and that of a place is the id of its stop. The change seconds and the links are those of the changes.
+/// `TooMany` carries the count of all connections, and comes where it passes `limits.connections`; else `TooManyEntries`
+/// carries that of the pairs of a connection and a way into the place that it leaves, and comes where it passes
+/// `limits.entries`. Both are counted before anything is made.
 pub fn cut(
     alloc: Global,
     feed: &Feed,
@@ -139,17 +173,23 @@ pub fn cut(
     requires late { start.0 < 13_569_465_600 }
     requires horizon { horizon ≤ 72 }
     requires limits { AreWithin limits.now }
+    requires links { LinksComeFrom (length feed.now.stop_ids) changes.now }
     ensures network { IfOk result (λ r. IsNetworkFrom feed.now services.now changes.now delays.now
         start.0 horizon r.0 r.1) }
     ensures fit { IfOk result (λ r. NamesFit r.1 r.0) }
-    ensures few { OnOk result
-        (connection_count feed.now services.now start.0 horizon ≤ limits.now.connections) }
-    ensures fault { IfErr result (IsWindowFault limits.now.connections
-        (connection_count feed.now services.now start.0 horizon)) }
+    ensures count { IfOk result (λ r. length r.0.connections
+        ≡ connection_count feed.now services.now start.0 horizon) }
+    ensures none { OnOk result
+        (fault_from limits.now feed.now services.now changes.now start.0 horizon ≡ None) }
+    ensures fault { IfErr result (λ f. f ≢ WindowFault.NoMemory
+        → fault_from limits.now feed.now services.now changes.now start.0 horizon ≡ Some f) }
 {
     let window = Window::new(start.0, horizon);
-    match changes_of(alloc, changes, feed.stop_count()) {
-        Ok(change) => network_of(alloc, feed, services, change, delays, window, limits),
+    if let Some(fault) = fault_of(feed, services, changes, window, limits) {
+        return Err(fault);
+    }
+    match network_of(alloc, feed, services, changes, delays, window) {
+        Ok(parts) => Ok(parts),
         Err(_) => Err(WindowFault::NoMemory),
     }
 }

@@ -1,43 +1,55 @@
 //! The connections of a window.
-ghost use Rattle.std.specs.Prelude.{◌≡◌, ◌+◌, ◌≤◌, ◌<◌, ◌++◌, ℕ, length, map, OnOk, IfOk};
+ghost use Rattle.std.specs.Prelude.{◌≡◌, ◌+◌, ◌≤◌, ◌<◌, ◌++◌, ℕ, length, map, Some, OnOk, IfOk};
 ghost use Rattle.plan_model.specs.Bounds.{most_connections};
 ghost use Rattle.connections.specs.Rides.{steps_of};
-ghost use Rattle.delay_table.specs.Slots.{AreDelays};
+ghost use Rattle.delay_table.specs.DelayLists.{class_for};
 ghost use Rattle.gtfs_tables.specs.Timed.{IsTimed};
 ghost use Rattle.connections.specs.Runs.{AreRunsOf};
 ghost use Rattle.connections.specs.Networks.{ride, rides_below};
 
 use crate::runs::{Run, leaves, moment_of};
 use crate::window::Window;
-use delay_table::DelayTable;
+use delay_table::{ClassName, DelayTable};
 use gtfs_tables::{Feed, StopRow};
 use plan_model::{ClassId, Connection, List, Moment, NoMemory, RunId};
 use std::alloc::Global;
 
-/// A run with its number and its class of delays.
+/// A run with its number, its route type and the id of its route.
 #[derive(Clone, Copy)]
-struct Numbered {
+struct Numbered<'a> {
     day: u32,
     number: u32,
-    class: ClassId,
+    route_type: u16,
+    route: &'a str,
+}
+
+/// The number of the class of a connection of a run, by its arrival.
+fn class_of(delays: &DelayTable, run: &Numbered<'_>, arrival: u64) -> u16
+    ensures { result ≡ class_for delays.now (Some run.now.route_type)
+        (Some run.now.route.now) arrival }
+{
+    let class = ClassName::Route(run.route_type);
+    delays.class_for(class, Some(run.route), Moment(arrival)).0
 }
 
 /// The ride from one kept row to the next.
-fn ride(rows: &[StopRow], step: usize, run: Numbered) -> Connection
+fn ride(rows: &[StopRow], step: usize, run: &Numbered<'_>, delays: &DelayTable) -> Connection
     requires inside { step + 1 < length rows.now }
     requires few { step ≤ 1_000_000_000 }
-    ensures { result ≡ ride rows.now run.day run.number run.class.0 step }
+    ensures { result ≡ ride rows.now run.now.day run.now.number
+        (class_for delays.now (Some run.now.route_type) (Some run.now.route.now)) step }
 {
     let from = rows[step];
     let to = rows[step + 1];
+    let arrival = moment_of(run.day, to.arrival);
     Connection {
         from: from.place,
         to: to.place,
         dep: Moment(moment_of(run.day, from.departure)),
-        arr: Moment(moment_of(run.day, to.arrival)),
+        arr: Moment(arrival),
         run: RunId(run.number),
         step: step as u32,
-        class: run.class,
+        class: ClassId(class_of(delays, run, arrival)),
         can_board: from.can_board,
         can_exit: to.can_exit,
     }
@@ -47,17 +59,19 @@ fn ride(rows: &[StopRow], step: usize, run: Numbered) -> Connection
 fn add_rides(
     connections: &mut List<Connection>,
     rows: &[StopRow],
-    run: Numbered,
+    run: &Numbered<'_>,
+    delays: &DelayTable,
     window: Window,
 ) -> Result<(), NoMemory>
     requires { length rows.now ≤ 1_000_000_000 }
     ensures { OnOk result (connections.new
-        ≡ connections.old ++ map (ride rows.now run.day run.number run.class.0)
-        (steps_of window rows.now run.day)) }
+        ≡ connections.old ++ map (ride rows.now run.now.day run.now.number
+        (class_for delays.now (Some run.now.route_type) (Some run.now.route.now)))
+        (steps_of window rows.now run.now.day)) }
 {
     for k in 0..rows.len().saturating_sub(1) {
         if leaves(rows, k, run.day, window) {
-            connections.push(ride(rows, k, run))?;
+            connections.push(ride(rows, k, run, delays))?;
         }
     }
     Ok(())
@@ -74,9 +88,8 @@ pub(crate) fn connections_of(
     requires few { length runs.now ≤ most_connections }
     requires runs { AreRunsOf feed.now runs.now }
     requires timed { IsTimed feed.now }
-    requires delays { AreDelays delays.now }
     ensures { IfOk result (λ connections.
-        connections ≡ rides_below feed.now delays.now.types window runs.now (length runs.now)) }
+        connections ≡ rides_below feed.now delays.now window runs.now (length runs.now)) }
 {
     let mut connections: List<Connection> = List::new(alloc);
     for r in 0..runs.len() {
@@ -84,12 +97,14 @@ pub(crate) fn connections_of(
         let numbered = Numbered {
             day: run.day,
             number: r as u32,
-            class: delays.class_of(feed.route_type(run.trip)),
+            route_type: feed.route_type(run.trip),
+            route: feed.route_id(run.trip),
         };
         add_rides(
             &mut connections,
             feed.stop_times(run.trip),
-            numbered,
+            &numbered,
+            delays,
             window,
         )?;
     }

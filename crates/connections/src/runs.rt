@@ -53,7 +53,7 @@ pub(crate) fn leaves(rows: &[StopRow], row: usize, day: u32, window: Window) -> 
 
 /// Whether a trip with these kept rows may ride in the window on a day: not where its first ride departs after it, or its
 /// last one before it.
-fn may_ride(rows: &[StopRow], day: u32, window: Window) -> bool
+pub(crate) fn may_ride(rows: &[StopRow], day: u32, window: Window) -> bool
     requires { DepartInOrder rows.now }
     ensures { result ≡ false → steps_of window rows.now day ≡ [] }
 {
@@ -64,22 +64,20 @@ fn may_ride(rows: &[StopRow], day: u32, window: Window) -> bool
     window.start <= departure_of(rows, rides - 1, day)
 }
 
-/// How many rides of a trip with these kept rows depart in the window on a day.
-pub(crate) fn count_rides(rows: &[StopRow], day: u32, window: Window) -> u64
-    ensures count { result ≡ length (steps_of window rows.now day) }
-    ensures few { result ≤ length rows.now }
+/// Whether a trip with these kept rows rides in the window on a day.
+fn rides(rows: &[StopRow], day: u32, window: Window) -> bool
+    ensures { result ≡ rides window rows.now day }
 {
-    let mut count = 0u64;
     for k in 0..rows.len().saturating_sub(1) {
         if leaves(rows, k, day, window) {
-            count += 1;
+            return true;
         }
     }
-    count
+    false
 }
 
 /// Whether the service of a trip is active on a day.
-fn has_service(feed: &Feed, services: &Services, trip: u32, day: u32) -> bool
+pub(crate) fn has_service(feed: &Feed, services: &Services, trip: u32, day: u32) -> bool
     requires trip { trip < length feed.now.trip_ids }
     requires day { day ≤ 2_932_896 }
     ensures { result ≡ is_active feed.now services.now day trip }
@@ -99,7 +97,7 @@ fn rides_on(feed: &Feed, services: &Services, trip: u32, day: u32, window: Windo
     if !may_ride(rows, day, window) {
         return false;
     }
-    has_service(feed, services, trip, day) && count_rides(rows, day, window) > 0
+    has_service(feed, services, trip, day) && rides(rows, day, window)
 }
 
 /// Adds the trips that are active on a day and ride in the window then.

@@ -1,7 +1,7 @@
 -- The columns of the tables by their names.
 use Rattle.std.specs.Prelude.{ℕ, List, codes}
 use Rattle.csv_rows.specs.declared.columns.Column.{Column}
-use Rattle.csv_rows.specs.declared.columns.Column.TheVariants.{StopId, LocationType, ParentStation, RouteId, RouteType, ServiceId, TripId, StopSequence, ArrivalTime, DepartureTime, PickupType, DropOffType, Monday, Tuesday, Wednesday, Thursday, Friday, Saturday, Sunday, StartDate, EndDate, Date, ExceptionType, FromStopId, ToStopId, TransferType, MinTransferTime, FromRouteId, ToRouteId, FromTripId, ToTripId, Class, Delay, Weight, Run, Step, From, To, Dep, Arr, Board, Exit, Change}
+use Rattle.csv_rows.specs.declared.columns.Column.TheVariants.{StopId, LocationType, ParentStation, RouteId, RouteType, ServiceId, TripId, StopSequence, ArrivalTime, DepartureTime, PickupType, DropOffType, StartTime, EndTime, HeadwaySecs, ExactTimes, Monday, Tuesday, Wednesday, Thursday, Friday, Saturday, Sunday, StartDate, EndDate, Date, ExceptionType, FromStopId, ToStopId, TransferType, MinTransferTime, FromRouteId, ToRouteId, FromTripId, ToTripId, Class, Delay, Weight, Hour, Run, Step, From, To, Dep, Arr, Board, Exit, Change}
 
 -- the name that a header gives a column
 abbrev pub name_of : Column → List ℕ
@@ -17,6 +17,10 @@ name_of ArrivalTime = codes "arrival_time"
 name_of DepartureTime = codes "departure_time"
 name_of PickupType = codes "pickup_type"
 name_of DropOffType = codes "drop_off_type"
+name_of StartTime = codes "start_time"
+name_of EndTime = codes "end_time"
+name_of HeadwaySecs = codes "headway_secs"
+name_of ExactTimes = codes "exact_times"
 name_of Monday = codes "monday"
 name_of Tuesday = codes "tuesday"
 name_of Wednesday = codes "wednesday"
@@ -39,6 +43,7 @@ name_of ToTripId = codes "to_trip_id"
 name_of Class = codes "class"
 name_of Delay = codes "delay"
 name_of Weight = codes "weight"
+name_of Hour = codes "hour"
 name_of Run = codes "run"
 name_of Step = codes "step"
 name_of From = codes "from"

@@ -12,11 +12,13 @@ standard = record {
   routes = 65536;
   trips = 4194304;
   stop_times = 33554432;
+  frequencies = 65536;
   calendar = 1048576;
   calendar_dates = 16777216;
   transfers = 4194304;
   cut_rows = 8388608;
   connections = 8388608;
+  entries = 67108864;
 }
 
 -- none is above the standard one
@@ -26,11 +28,13 @@ pub record AreWithin (limits : Limits) : Type 0 where
   pub routes : limits.routes ≤ 65536
   pub trips : limits.trips ≤ 4194304
   pub stop_times : limits.stop_times ≤ 33554432
+  pub frequencies : limits.frequencies ≤ 65536
   pub calendar : limits.calendar ≤ 1048576
   pub calendar_dates : limits.calendar_dates ≤ 16777216
   pub transfers : limits.transfers ≤ 4194304
   pub cut_rows : limits.cut_rows ≤ 8388608
   pub connections : limits.connections ≤ 8388608
+  pub entries : limits.entries ≤ 67108864
 
 -- the rows of a table; a file of the most bytes has no more rows than the number for frequencies
 abbrev pub rows_of : Limits → Table → ℕ

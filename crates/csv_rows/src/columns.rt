@@ -11,13 +11,13 @@ pub enum Column {
     LocationType,
     /// `parent_station` of `stops.txt`: the id of the station that a stop belongs to.
     ParentStation,
-    /// `route_id` of `routes.txt` and `trips.txt`: the id of a route.
+    /// `route_id` of `routes.txt`, `trips.txt` and a delay file: the id of a route.
     RouteId,
     /// `route_type` of `routes.txt`: the means of transport.
     RouteType,
     /// `service_id` of `trips.txt`, `calendar.txt` and `calendar_dates.txt`: the id of a service, which runs on some days.
     ServiceId,
-    /// `trip_id` of `trips.txt` and `stop_times.txt`: the id of a trip.
+    /// `trip_id` of `trips.txt`, `stop_times.txt` and `frequencies.txt`: the id of a trip.
     TripId,
     /// `stop_sequence` of `stop_times.txt`: the order of the rows of a trip.
     StopSequence,
@@ -29,6 +29,14 @@ pub enum Column {
     PickupType,
     /// `drop_off_type` of `stop_times.txt`: whether one may alight.
     DropOffType,
+    /// `start_time` of `frequencies.txt`: when a trip that repeats departs first.
+    StartTime,
+    /// `end_time` of `frequencies.txt`: before when a trip that repeats departs last.
+    EndTime,
+    /// `headway_secs` of `frequencies.txt`: the seconds from one departure to the next.
+    HeadwaySecs,
+    /// `exact_times` of `frequencies.txt`: whether the departures are told to the second.
+    ExactTimes,
     /// `monday` of `calendar.txt`: whether a service runs on Mondays.
     Monday,
     /// `tuesday` of `calendar.txt`: whether a service runs on Tuesdays.
@@ -73,6 +81,8 @@ pub enum Column {
     Delay,
     /// `weight` of a delay file: in how many of 10,000 cases the delay comes.
     Weight,
+    /// `hour` of a delay file: the hour of the day in which a trip is to arrive.
+    Hour,
     /// `run` of a cut file: the name of a run.
     Run,
     /// `step` of a cut file: the order of the rows of a run.
@@ -111,6 +121,10 @@ impl Column {
             Column::DepartureTime => "departure_time",
             Column::PickupType => "pickup_type",
             Column::DropOffType => "drop_off_type",
+            Column::StartTime => "start_time",
+            Column::EndTime => "end_time",
+            Column::HeadwaySecs => "headway_secs",
+            Column::ExactTimes => "exact_times",
             Column::Monday => "monday",
             Column::Tuesday => "tuesday",
             Column::Wednesday => "wednesday",
@@ -133,6 +147,7 @@ impl Column {
             Column::Class => "class",
             Column::Delay => "delay",
             Column::Weight => "weight",
+            Column::Hour => "hour",
             Column::Run => "run",
             Column::Step => "step",
             Column::From => "from",

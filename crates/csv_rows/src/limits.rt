@@ -4,7 +4,7 @@ ghost use Rattle.csv_rows.specs.Limits.{standard, rows_of};
 
 use crate::feed_tables::Table;
 
-/// The most that is read: bytes of one file, rows of each table, and connections of a window.
+/// The most that is read: bytes of one file, rows of each table, and connections of a window and their entries.
 #[derive(Clone, Copy, Debug, PartialEq, Eq)]
 pub struct Limits {
     /// Bytes of one file.
@@ -17,6 +17,8 @@ pub struct Limits {
     pub trips: u64,
     /// Rows of `stop_times.txt`.
     pub stop_times: u64,
+    /// Rows of `frequencies.txt`.
+    pub frequencies: u64,
     /// Rows of `calendar.txt`.
     pub calendar: u64,
     /// Rows of `calendar_dates.txt`.
@@ -27,6 +29,8 @@ pub struct Limits {
     pub cut_rows: u64,
     /// Connections of a window.
     pub connections: u64,
+    /// Entries of a window: pairs of a connection and a way into the place that it leaves.
+    pub entries: u64,
 }
 
 impl Limits {
@@ -40,11 +44,13 @@ impl Limits {
             routes: 1 << 16,
             trips: 1 << 22,
             stop_times: 1 << 25,
+            frequencies: 1 << 16,
             calendar: 1 << 20,
             calendar_dates: 1 << 24,
             transfers: 1 << 22,
             cut_rows: 1 << 23,
             connections: 1 << 23,
+            entries: 1 << 26,
         }
     }
 

@@ -1,8 +1,8 @@
 -- The network that is made.
-use Rattle.std.proofs.Common.{◌≡◌, ℕ, ◌<◌, List, length, get_or, ap, ◌∙◌, subst, arith}
+use Rattle.std.proofs.Common.{◌≡◌, ℕ, ◌<◌, List, length, get_or, ap, ◌∙◌, refl, subst, arith}
 use Rattle.plan_model.specs.declared.model.Connection.{Connection}
 use Rattle.plan_model.specs.declared.model.Outcome.{Outcome}
-use Rattle.plan_model.specs.Parts.{Parts}
+use Rattle.plan_model.specs.Parts.{Parts, plain_parts}
 use Rattle.plan_model.specs.Network.{change_of}
 use Rattle.delay_table.specs.DelayLists.{DelayLists}
 use Rattle.cut_file.specs.declared.rows.CutRow.{CutRow}
@@ -10,22 +10,16 @@ use Rattle.csv_rows.specs.declared.keys.Key.{Key}
 use Rattle.cut_file.specs.Read.{Cut}
 use Rattle.cut_file.specs.Networks.{AreConnections, IsNetwork, longest, change_from}
 
-abbrev pub parts : List Connection → List ℕ → List (List Outcome) → Parts
-parts connections change classes = record { connections = connections; change = change; classes = classes }
-
 pub make_network : (cut : Cut) (delays : DelayLists) (r : List CutRow) (k : List Key) (places : ℕ) (connections : List Connection) (change : List ℕ) (classes : List (List Outcome))
     → r ≡ cut.rows → k ≡ cut.keys → places ≡ length cut.places → length change ≡ places
-    → ((p : ℕ) → p < places → get_or change p 0 ≡ change_from (longest r (length r) p)) → AreConnections delays.types r k (length k) connections → classes ≡ delays.classes
-    → IsNetwork cut delays (parts connections change classes)
+    → ((p : ℕ) → p < places → get_or change p 0 ≡ change_from (longest r (length r) p)) → AreConnections delays r k (length k) connections → classes ≡ delays.classes
+    → IsNetwork cut delays (plain_parts connections change classes)
 unfolding change_of
 make_network cut delays r k places connections change classes e f count size each made same =
     record {
-      connections = subst (λ (x : List Key). AreConnections delays.types cut.rows x (length x) connections) f (subst (λ (x : List CutRow). AreConnections delays.types x k (length k) connections) e made);
+      connections = subst (λ (x : List Key). AreConnections delays cut.rows x (length x) connections) f (subst (λ (x : List CutRow). AreConnections delays x k (length k) connections) e made);
       places = size ∙ count;
       change = λ p l. each p (omega (arith, count)) ∙ ap (λ (x : List CutRow). change_from (longest x (length x) p)) e;
       classes = same;
+      links = refl;
     }
-
-pub parts_same : (n : Parts) (connections : List Connection) (change : List ℕ) (classes : List (List Outcome)) → n.connections ≡ connections → n.change ≡ change → n.classes ≡ classes → n ≡ parts connections change classes
-parts_same n connections change classes a b c =
-    ap (λ x. parts x n.change n.classes) a ∙ ap (λ x. parts connections x n.classes) b ∙ ap (λ x. parts connections change x) c

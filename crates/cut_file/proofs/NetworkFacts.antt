@@ -1,15 +1,15 @@
 -- The network of a cut file by the rows of its table.
-use Rattle.std.proofs.Common.{◌≡◌, ℕ, zero, suc, ◌<◌, ◌≤◌, max, List, length, slice_get, Option, Some, if◌then◌else◌, bytes_eq, refl, sym, ap, ap₂, ◌∙◌, subst, arith}
+use Rattle.std.proofs.Common.{◌≡◌, ℕ, zero, suc, ◌<◌, ◌≤◌, max, List, length, slice_get, Option, Some, None, if◌then◌else◌, bytes_eq, refl, sym, ap, ap₂, ◌∙◌, subst, arith}
 use Rattle.std.proofs.lemmas.Option.{slice_get_within}
 use Rattle.plan_model.specs.Parts.{Parts}
 use Rattle.plan_model.specs.Network.{count, connection, no_connection}
 use Rattle.csv_rows.specs.Tables.{row_count}
-use Rattle.delay_table.specs.DelayLists.{DelayLists}
+use Rattle.delay_table.specs.DelayLists.{DelayLists, class_for}
 use Rattle.cut_file.specs.Faults.{row}
 use Rattle.csv_rows.specs.Keys.{key_at}
 use Rattle.cut_file.specs.Keys.{cut_row}
 use Rattle.cut_file.specs.Read.{Cut, IsRead}
-use Rattle.cut_file.specs.Networks.{IsClass, IsNetwork, longest, seconds_of, change_from}
+use Rattle.cut_file.specs.Networks.{IsNetwork, longest, seconds_of, change_from}
 use Rattle.cut_file.specs.CutNetwork.{IsRide, largest, IsCutNetwork}
 use Rattle.cut_file.proofs.ChangeFacts.{longest-zero, longest-suc}
 use Rattle.cut_file.proofs.Repeats.{one_place_name}
@@ -17,13 +17,12 @@ use Rattle.cut_file.proofs.Distinct.{same_name}
 use Rattle.cut_file.proofs.Fit.{name_lists}
 
 module _ (t : List (List (List ℕ))) (cut : Cut) (delays : DelayLists) (n : Parts) (read : IsRead t cut.runs cut.places cut.rows cut.keys) (net : IsNetwork cut delays n) where
-  ride : (i : ℕ) → i < count n → IsRide (name_lists cut) delays.types (row t (key_at cut.keys i).row) (connection n i)
+  ride : (i : ℕ) → i < count n → IsRide (name_lists cut) delays (row t (key_at cut.keys i).row) (connection n i)
   unfolding connection
   ride i l =
       let key : i < length cut.keys = omega (arith, net.connections.size, l) in
       let c = net.connections.each i no_connection key in
       let a = read.each (key_at cut.keys i).row (omega (arith, read.sorted.inside i key, read.size)) in
-      let P : Option ℕ → Type 0 = λ x. IsClass delays.types x (connection n i).class.0 in
       record {
         run = ap (slice_get cut.runs) c.run ∙ a.run;
         from = ap (slice_get cut.places) c.from ∙ a.from;
@@ -31,7 +30,7 @@ module _ (t : List (List (List ℕ))) (cut : Cut) (delays : DelayLists) (n : Par
         dep = c.dep ∙ a.dep;
         arr = c.arr ∙ a.arr;
         step = c.step ∙ a.step;
-        class = subst P a.class c.class;
+        class = c.class ∙ ap₂ (λ (x : Option ℕ) m. class_for delays x None m) a.class a.arr;
         board = c.board ∙ a.board;
         exit = c.exit ∙ a.exit;
       }
@@ -58,11 +57,12 @@ module _ (t : List (List (List ℕ))) (cut : Cut) (delays : DelayLists) (n : Par
         rows = λ k l.
             let w = read.sorted.all k (omega (arith, read.size, l)) refl in
             let inside : w.0 < count n = omega (arith, net.connections.size, w.1) in
-            let P : ℕ → Type 0 = λ j. IsRide (name_lists cut) delays.types (row t j) (connection n w.0) in
+            let P : ℕ → Type 0 = λ j. IsRide (name_lists cut) delays (row t j) (connection n w.0) in
             (w.0, inside, subst P w.2 (ride w.0 inside));
         changes = net.places;
         change = λ p place h.
             net.change p (slice_get_within cut.places p place h) ∙ ap (λ m. change_from (longest cut.rows m p)) read.size
             ∙ ap change_from (largest_is p place h (row_count t) (omega arith));
         classes = net.classes;
+        links = net.links;
       }

@@ -3,13 +3,15 @@ use Rattle.std.proofs.Common.{◌≡◌, ℕ, zero, suc, ◌+◌, ◌-◌, ◌<�
 use Rattle.std.proofs.lemmas.Bool.{cases_lt}
 use Rattle.std.proofs.lemmas.Bool.Decides.{nat_tests}
 use Rattle.std.proofs.lemmas.Option.{slice_get_within}
+use Rattle.plan_model.proofs.Links.{AreLinks-none}
 use Rattle.plan_model.specs.Parts.{Parts}
 use Rattle.plan_model.specs.Rows.{IsValidRow}
-use Rattle.plan_model.specs.Network.{IsValid, IsValidConnection, count, connection, no_connection, row_of, run_of, step_of}
+use Rattle.plan_model.specs.Network.{IsValid, IsValidConnection, AreLinks, count, connection, no_connection, row_of, run_of, step_of}
 use Rattle.plan_model.proofs.Local.{FitsNext, IsLocallyValid, IsValid-from_local}
 use Rattle.csv_rows.specs.First.{or_else, first_below, any_below}
 use Rattle.delay_table.specs.DelayLists.{DelayLists}
 use Rattle.delay_table.specs.Slots.{AreDelays}
+use Rattle.delay_table.proofs.ClassBounds.{class_for-inside}
 use Rattle.csv_rows.specs.Tables.{row_count}
 use Rattle.csv_rows.proofs.FirstLemmas.{none-each}
 use Rattle.csv_rows.proofs.TestLemmas.{le_test, or_false}
@@ -23,7 +25,7 @@ use Rattle.cut_file.specs.Faults.{row, just_precedes, goes_back, is_broken, miss
 use Rattle.cut_file.specs.Keys.{cut_row, misfit, beside}
 use Rattle.cut_file.specs.Read.{Cut}
 use Rattle.cut_file.specs.Sound.{IsSound}
-use Rattle.cut_file.specs.Networks.{IsClass, IsConnection, IsNetwork, longest, change_by, change_from, seconds_of}
+use Rattle.cut_file.specs.Networks.{IsConnection, IsNetwork, longest, change_by, change_from, seconds_of}
 use Rattle.cut_file.proofs.Repeats.{one_run, steps_rise}
 use Rattle.cut_file.proofs.Misfits.{misfit_is}
 use Rattle.cut_file.proofs.Distinct.{one_number}
@@ -67,11 +69,6 @@ after_last rows b i h =
     let c = if_none (nat_lt (cut_row rows i).dep (cut_row rows b.row).arr) (Backward (i + 2)) (if (cut_row rows i).from == (cut_row rows b.row).to then None else Some (Broken (i + 2))) a.1 in
     le_test (cut_row rows i).dep (cut_row rows b.row).arr c.0
 
-class_inside : (types : List ℕ) (c : Option ℕ) (k : ℕ) → IsClass types c k → k < length types + 1
-class_inside types None k h = omega (arith, h)
-class_inside types (Some route) zero h = omega arith
-class_inside types (Some route) (suc j) h = omega (arith, slice_get_within types j route h)
-
 seconds_few : (o : Option ℕ) → IfSome o (λ s. s ≤ 86400) → seconds_of o ≤ 86400
 seconds_few None h = omega arith
 seconds_few (Some s) h = omega (arith, h)
@@ -106,7 +103,7 @@ module _ (cut : Cut) (delays : DelayLists) (n : Parts) (s : IsSound cut) (f : Ar
   pub record IsAt (i : ℕ) : Type 0 where
     pub run : run_of n i ≡ (key_at cut.keys i).group
     pub step : step_of n i ≡ (key_at cut.keys i).order
-    pub made : IsConnection delays.types (cut_row cut.rows (key_at cut.keys i).row) (connection n i)
+    pub made : IsConnection delays (cut_row cut.rows (key_at cut.keys i).row) (connection n i)
     pub inside : (key_at cut.keys i).row < row_count s.table
     pub key : i < length cut.keys
 
@@ -187,7 +184,7 @@ module _ (cut : Cut) (delays : DelayLists) (n : Parts) (s : IsSound cut) (f : Ar
         early = omega (arith, a.made.arr, r.arr, form.arr);
         from_in = omega (arith, a.made.from, net.places, slice_get_within cut.places (own i).from (row s.table (key_at cut.keys i).row).from r.from);
         to_in = omega (arith, a.made.to, net.places, slice_get_within cut.places (own i).to (row s.table (key_at cut.keys i).row).to r.to);
-        class_in = omega (arith, class_inside delays.types (own i).class (connection n i).class.0 a.made.class, f.each, ap length net.classes);
+        class_in = omega (arith, a.made.class, class_for-inside delays f (own i).class None (own i).arr, ap length net.classes);
         step_in = omega (arith, a.made.step, r.step, form.step);
       }
 
@@ -207,6 +204,7 @@ module _ (cut : Cut) (delays : DelayLists) (n : Parts) (s : IsSound cut) (f : Ar
     changes = λ p l.
         let P : ℕ → Type 0 = λ x. (1 ≤ x) × (x ≤ 86400) in
         subst P (sym (net.change p (omega (arith, net.places)))) (change_fits (longest cut.rows (length cut.rows) p) (longest_few cut.rows (length cut.rows) p few_seconds));
+    links = subst (AreLinks (length n.change)) (sym net.links) (AreLinks-none (length n.change));
     rows = λ k l.
         let P : List (List _) → Type 0 = λ xs. IsValidRow (slice_index_or xs k []) in
         subst P (sym net.classes) (f.rows k (omega (arith, ap length net.classes)));

@@ -1,26 +1,27 @@
 -- What network and names the rows of a cut file make with delays.
-use Rattle.std.specs.Prelude.{◌≡◌, ℕ, zero, suc, ◌<◌, max, List, length, slice_get, Some, if◌then◌else◌}
+use Rattle.std.specs.Prelude.{◌≡◌, ℕ, zero, suc, ◌<◌, max, List, [], length, slice_get, Some, None, if◌then◌else◌}
 use Rattle.std.specs.Str.{bytes_eq}
 use Rattle.plan_model.specs.declared.model.Connection.{Connection}
 use Rattle.plan_model.specs.NameLists.{NameLists}
 use Rattle.plan_model.specs.Parts.{Parts}
 use Rattle.plan_model.specs.Network.{count, connection, change_of}
 use Rattle.csv_rows.specs.Tables.{row_count}
-use Rattle.delay_table.specs.DelayLists.{DelayLists}
+use Rattle.delay_table.specs.DelayLists.{DelayLists, class_for}
 use Rattle.cut_file.specs.Rows.{Row}
 use Rattle.cut_file.specs.Faults.{row}
 use Rattle.cut_file.specs.Cut.{run_names, place_names}
-use Rattle.cut_file.specs.Networks.{IsClass, seconds_of, change_from}
+use Rattle.cut_file.specs.Networks.{seconds_of, change_from}
 
--- a row as a connection whose numbers are those of its names
-pub record IsRide (names : NameLists) (types : List ℕ) (r : Row) (c : Connection) : Type 0 where
+-- a row as a connection whose numbers are those of its names; its class is told by its class column and its arrival, since a
+-- cut file has no routes
+pub record IsRide (names : NameLists) (delays : DelayLists) (r : Row) (c : Connection) : Type 0 where
   pub run : slice_get names.runs c.run.0 ≡ Some r.run
   pub from : slice_get names.places c.from.0 ≡ Some r.from
   pub to : slice_get names.places c.to.0 ≡ Some r.to
   pub dep : c.dep.0 ≡ r.dep
   pub arr : c.arr.0 ≡ r.arr
   pub step : c.step ≡ r.step
-  pub class : IsClass types r.class c.class.0
+  pub class : c.class.0 ≡ class_for delays r.class None r.arr
   pub board : c.can_board ≡ r.board
   pub exit : c.can_exit ≡ r.exit
 
@@ -29,13 +30,15 @@ unfoldable pub largest : List (List (List ℕ)) → List ℕ → ℕ → ℕ
 largest t place zero = 0
 largest t place (suc n) = max (largest t place n) (if bytes_eq (row t n).from place then seconds_of (row t n).change else 0)
 
--- the connections are the rows, runs and places are numbered as they first stand, and the classes are those of the delays
+-- the connections are the rows, runs and places are numbered as they first stand, and the classes are those of the delays;
+-- a cut file tells no links
 pub record IsCutNetwork (t : List (List (List ℕ))) (delays : DelayLists) (n : Parts) (names : NameLists) : Type 0 where
   pub runs : names.runs ≡ run_names t (row_count t)
   pub places : names.places ≡ place_names t (row_count t)
   pub size : count n ≡ row_count t
-  pub rides : (i : ℕ) → i < count n → (k : ℕ) × (k < row_count t) × IsRide names delays.types (row t k) (connection n i)
-  pub rows : (k : ℕ) → k < row_count t → (i : ℕ) × (i < count n) × IsRide names delays.types (row t k) (connection n i)
+  pub rides : (i : ℕ) → i < count n → (k : ℕ) × (k < row_count t) × IsRide names delays (row t k) (connection n i)
+  pub rows : (k : ℕ) → k < row_count t → (i : ℕ) × (i < count n) × IsRide names delays (row t k) (connection n i)
   pub changes : length n.change ≡ length names.places
   pub change : (p : ℕ) (place : List ℕ) → slice_get names.places p ≡ Some place → change_of n p ≡ change_from (largest t place (row_count t))
   pub classes : n.classes ≡ delays.classes
+  pub links : n.links ≡ []

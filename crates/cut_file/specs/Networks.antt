@@ -1,37 +1,31 @@
 -- The network of a cut file with the delays of a table.
-use Rattle.std.specs.Prelude.{◌≡◌, ℕ, zero, suc, ◌<◌, ◌==◌, max, Bool, List, length, slice_index_or, Option, Some, None, if◌then◌else◌}
+use Rattle.std.specs.Prelude.{◌≡◌, ℕ, zero, suc, ◌<◌, ◌==◌, max, Bool, List, [], length, slice_index_or, Option, Some, None, if◌then◌else◌}
 use Rattle.plan_model.specs.declared.model.Connection.{Connection}
 use Rattle.plan_model.specs.Parts.{Parts}
 use Rattle.plan_model.specs.Network.{change_of}
-use Rattle.delay_table.specs.DelayLists.{DelayLists}
-use Rattle.delay_table.specs.Slots.{IsClassOf}
+use Rattle.delay_table.specs.DelayLists.{DelayLists, class_for}
 use Rattle.cut_file.specs.declared.rows.CutRow.{CutRow}
 use Rattle.csv_rows.specs.declared.keys.Key.{Key}
 use Rattle.csv_rows.specs.Keys.{key_at}
 use Rattle.cut_file.specs.Keys.{cut_row}
 use Rattle.cut_file.specs.Read.{Cut}
 
--- the class of a row: 0 for `*`
-abbrev pub IsClass : List ℕ → Option ℕ → ℕ → Type 0
-IsClass types None k = k ≡ 0
-IsClass types (Some route) k = IsClassOf types route k
-
--- a row as a connection
-pub record IsConnection (types : List ℕ) (r : CutRow) (c : Connection) : Type 0 where
+-- a row as a connection; a cut file has no routes
+pub record IsConnection (delays : DelayLists) (r : CutRow) (c : Connection) : Type 0 where
   pub from : c.from.0 ≡ r.from
   pub to : c.to.0 ≡ r.to
   pub dep : c.dep.0 ≡ r.dep
   pub arr : c.arr.0 ≡ r.arr
   pub run : c.run.0 ≡ r.run
   pub step : c.step ≡ r.step
-  pub class : IsClass types r.class c.class.0
+  pub class : c.class.0 ≡ class_for delays r.class None r.arr
   pub board : c.can_board ≡ r.board
   pub exit : c.can_exit ≡ r.exit
 
 -- the rows in the order of run and step, as connections
-pub record AreConnections (types : List ℕ) (rows : List CutRow) (keys : List Key) (n : ℕ) (connections : List Connection) : Type 0 where
+pub record AreConnections (delays : DelayLists) (rows : List CutRow) (keys : List Key) (n : ℕ) (connections : List Connection) : Type 0 where
   pub size : length connections ≡ n
-  pub each : (k : ℕ) (d : Connection) → k < n → IsConnection types (cut_row rows (key_at keys k).row) (slice_index_or connections k d)
+  pub each : (k : ℕ) (d : Connection) → k < n → IsConnection delays (cut_row rows (key_at keys k).row) (slice_index_or connections k d)
 
 -- a change takes a second at least
 abbrev pub seconds_of : Option ℕ → ℕ
@@ -50,9 +44,10 @@ longest rows (suc n) p = max (longest rows n p) (change_by ((cut_row rows n).fro
 abbrev pub change_from : ℕ → ℕ
 change_from seconds = if seconds == 0 then 120 else seconds
 
--- the network of a cut file and delays
+-- the network of a cut file and delays, which tells no links
 pub record IsNetwork (cut : Cut) (delays : DelayLists) (n : Parts) : Type 0 where
-  pub connections : AreConnections delays.types cut.rows cut.keys (length cut.keys) n.connections
+  pub connections : AreConnections delays cut.rows cut.keys (length cut.keys) n.connections
   pub places : length n.change ≡ length cut.places
   pub change : (p : ℕ) → p < length cut.places → change_of n p ≡ change_from (longest cut.rows (length cut.rows) p)
   pub classes : n.classes ≡ delays.classes
+  pub links : n.links ≡ []

@@ -1,27 +1,28 @@
 //! The parts of the network of a cut file.
-ghost use Rattle.std.specs.Prelude.{◌≡◌, ℕ, ◌<◌, length, slice_index, IfOk};
+ghost use Rattle.std.specs.Prelude.{◌≡◌, ℕ, ◌<◌, length, slice_index, IfOk, None};
+ghost use Rattle.delay_table.specs.DelayLists.{class_for};
 ghost use Rattle.cut_file.specs.Keys.{AreKeysOf, cut_row};
-ghost use Rattle.cut_file.specs.Networks.{IsClass, IsConnection, AreConnections, longest, change_from, seconds_of};
+ghost use Rattle.cut_file.specs.Networks.{IsConnection, AreConnections, longest, change_from, seconds_of};
 
 use crate::rows::CutRow;
 use csv_rows::Key;
-use delay_table::DelayTable;
+use delay_table::{ClassName, DelayTable};
 use plan_model::{ClassId, Connection, List, Moment, NoMemory, PlaceId, RunId};
 use std::alloc::Global;
 
-/// The class of a row.
-fn class_of(delays: &DelayTable, class: Option<u16>) -> ClassId
-    ensures { IsClass delays.now.types class result.0 }
+/// The class of a row, by its class column and its arrival.
+fn class_of(delays: &DelayTable, class: Option<u16>, arrival: Moment) -> ClassId
+    ensures { result.0 ≡ class_for delays.now class None arrival.0 }
 {
     match class {
-        None => ClassId(0),
-        Some(route) => delays.class_of(route),
+        None => delays.class_for(ClassName::Any, None, arrival),
+        Some(route) => delays.class_for(ClassName::Route(route), None, arrival),
     }
 }
 
 /// A row as a connection.
 fn connection_of(delays: &DelayTable, row: CutRow) -> Connection
-    ensures { IsConnection delays.now.types row result }
+    ensures { IsConnection delays.now row result }
 {
     Connection {
         from: PlaceId(row.from),
@@ -30,7 +31,7 @@ fn connection_of(delays: &DelayTable, row: CutRow) -> Connection
         arr: Moment(row.arr),
         run: RunId(row.run),
         step: row.step,
-        class: class_of(delays, row.class),
+        class: class_of(delays, row.class, Moment(row.arr)),
         can_board: row.board,
         can_exit: row.exit,
     }
@@ -45,7 +46,7 @@ pub(crate) fn connections_of(
 ) -> Result<List<Connection>, NoMemory>
     requires { AreKeysOf rows.now keys.now }
     ensures { IfOk result (λ connections.
-        AreConnections delays.now.types rows.now keys.now (length keys.now) connections) }
+        AreConnections delays.now rows.now keys.now (length keys.now) connections) }
 {
     let mut connections: List<Connection> = List::new(alloc);
     for k in 0..keys.len() {

@@ -1,3 +1,4 @@
 pub mod Found
 pub mod AtOnce
 pub mod Tables
+pub mod Means

@@ -1,7 +1,6 @@
 -- From the graph ride by ride to the one with one table for each place.
-use Rattle.std.proofs.Common.{◌≡◌, Option, Some, None, sym, ◌∙◌, subst}
+use Rattle.std.proofs.Common.{◌≡◌, ℕ, Option, Some, None, sym, ◌∙◌, subst}
 use Rattle.std.specs.Prelude.{IfSome, MatchOption}
-use Rattle.interval_fixed.specs.Interval.{Interval}
 use Rattle.plan_model.specs.declared.model.Query.{Query}
 use Rattle.plan_model.specs.Parts.{Parts}
 use Rattle.plan_model.specs.Tree.{Tree}
@@ -9,9 +8,9 @@ use Rattle.plan_graph.specs.declared.ExpandedGraph.{ExpandedGraph}
 use Rattle.plan_graph.specs.declared.PlanGraph.{PlanGraph}
 use Rattle.plan_graph.specs.Unfold.{unfold_expanded, unfold_plan}
 use Rattle.plan_graph.specs.Tidy.{IsTidy}
-use Rattle.decision_graph.specs.Bounds.{IsBest}
-use Rattle.decision_graph.specs.Expanded.{IsExpanded}
-use Rattle.decision_graph.specs.Planned.{IsPlanned}
+use Rattle.decision_graph.specs.Bounds.{IsBestBy}
+use Rattle.decision_graph.specs.Expanded.{IsExpandedBy}
+use Rattle.decision_graph.specs.Planned.{IsPlannedBy}
 
 pub some_of : {A : Type 0} (o : Option A) (a : A) (P : A → Type 0) → o ≡ Some a → IfSome o P → P a
 some_of None a P is p = absurd (cc)
@@ -22,8 +21,8 @@ match_some None a N P is p = absurd (cc)
 match_some (Some b) a N P is p = let same : b ≡ a = (cc) in subst P same p
 
 -- the plan unfolds to the strategy of the graph
-pub planned : (n : Parts) (q : Query) (graph pruned : ExpandedGraph) (plan : PlanGraph) (bounds : Interval) → IsExpanded n q graph bounds → unfold_expanded pruned n q ≡ unfold_expanded graph n q → unfold_plan plan n q ≡ unfold_expanded pruned n q → IsTidy n q plan → IsPlanned n q plan bounds
-planned n q graph pruned plan bounds expanded prunes compacts tidy = record {
-  best = subst (λ (t : Tree). IsBest n q t bounds) (sym (compacts ∙ prunes)) expanded.best;
+pub planned : {V : Type 0} (below covers : V → Tree → Type 0) (gap : V → ℕ) (arrived : ℕ → V) (n : Parts) (q : Query) (graph pruned : ExpandedGraph) (plan : PlanGraph) (value : V) → IsExpandedBy below covers gap arrived n q graph value → unfold_expanded pruned n q ≡ unfold_expanded graph n q → unfold_plan plan n q ≡ unfold_expanded pruned n q → IsTidy n q plan → IsPlannedBy below covers gap arrived n q plan value
+planned below covers gap arrived n q graph pruned plan value expanded prunes compacts tidy = record {
+  best = subst (λ (t : Tree). IsBestBy below covers gap arrived n q t value) (sym (compacts ∙ prunes)) expanded.best;
   tidy = tidy;
 }

@@ -1,12 +1,21 @@
--- What the bounds of a decision graph enclose.
+-- What the value of a decision graph says.
 use Rattle.std.specs.Prelude.{◌≡◌, ℕ, ◌-◌, ◌*◌, ◌≤◌}
 use Rattle.interval_fixed.specs.Interval.{Interval}
+use Rattle.plan_model.specs.Expected.{Below, Encloses}
 use Rattle.plan_model.specs.declared.model.Query.{Query}
 use Rattle.plan_model.specs.Parts.{Parts}
 use Rattle.plan_model.specs.Network.{count}
 use Rattle.plan_model.specs.Tree.{Tree}
-use Rattle.plan_model.specs.Expected.{Below, Encloses}
 use Rattle.plan_model.specs.Strategy.{IsSafeFor}
+
+-- the strategy is safe; the value covers it and is below every safe strategy, this one too;
+-- its gap is at most the number of connections; where source and target are one place, it is that of having arrived at the start
+pub record IsBestBy {V : Type 0} (below covers : V → Tree → Type 0) (gap : V → ℕ) (arrived : ℕ → V) (n : Parts) (q : Query) (strategy : Tree) (value : V) : Type 0 where
+  pub safe : IsSafeFor n q strategy
+  pub covers_own : covers value strategy
+  pub below_safe : (tree : Tree) → IsSafeFor n q tree → below value tree
+  pub gap_within : gap value ≤ count n
+  pub at_once : q.source.0 ≡ q.target.0 → value ≡ arrived q.start.0
 
 -- the strategy is safe; the bounds enclose its expected arrival, and the lower one is below that of every safe strategy;
 -- they differ by at most one nanosecond for each connection of the network; where source and target are one place, both are the start

@@ -1,7 +1,7 @@
 //! The decision graph ride by ride.
 ghost use Rattle.std.specs.Prelude.{◌≡◌, ◌≢◌, ◌<◌, ◌≤◌, length, IfOk, IfSome, MatchOption};
 ghost use Rattle.plan_model.specs.Order.{IsScanOrder};
-ghost use Rattle.decision_graph.specs.Expanded.{NoneSafe, IsExpanded, HasSteadyChoice};
+ghost use Rattle.decision_graph.specs.Expanded.{NoneSafe, IsExpanded, IsExpandedBy, HasSteadyChoice};
 
 use interval_fixed::Span;
 use leg_extract::extract;
@@ -9,7 +9,7 @@ use meat_scan::{ScanTables, scan};
 use plan_graph::ExpandedGraph;
 use plan_model::{BackwardOrder, List, Network, NoMemory, Query};
 use std::alloc::Global;
-use value_laws::MeanSpan;
+use value_laws::{MeanSpan, Score};
 
 /// A decision graph ride by ride, with bounds on its expected arrival in nanoseconds.
 #[derive(Drop)]
@@ -21,24 +21,32 @@ pub struct ExpandedPlan {
     pub bounds: Span,
 }
 
+/// A decision graph ride by ride, with a value that covers its own strategy and is below every safe
+/// one.
+#[derive(Drop)]
+pub(crate) struct Scored<V> {
+    pub(crate) graph: ExpandedGraph,
+    pub(crate) value: V,
+}
+
 /// The decision graph of a journey between two places.
-pub(crate) fn expand_away<B: BackwardOrder>(
+pub(crate) fn expand_away<V: Score, B: BackwardOrder>(
     alloc: Global,
     order: &mut B,
     network: &Network,
     query: &Query,
-) -> Result<Option<ExpandedPlan>, NoMemory>
+) -> Result<Option<Scored<V>>, NoMemory>
     requires fits { B.fits order.old network.now }
     requires whole { IsScanOrder network.now (B.rest order.old network.now) }
     requires source { query.now.source.0 < length network.now.change }
     requires target { query.now.target.0 < length network.now.change }
     requires differ { query.now.source.0 ≢ query.now.target.0 }
     ensures plan { IfOk result (λ found. MatchOption found (NoneSafe network.now query.now)
-        (λ p. IsExpanded network.now query.now p.graph p.bounds)) }
+        (λ p. IsExpandedBy V.below V.covers V.gap V.arrived network.now query.now p.graph p.value)) }
     ensures steady { IfOk result (λ found. IfSome found (λ p. HasSteadyChoice network.now query.now p.graph)) }
     ensures fits { B.fits order.new network.now }
 {
-    let tables: ScanTables<MeanSpan> = ScanTables::reserve(alloc, network)?;
+    let tables: ScanTables<V> = ScanTables::reserve(alloc, network)?;
     let scanned = scan(tables, network, order, query);
     let Some((value, _)) = scanned.start() else {
         return Ok(None);
@@ -46,10 +54,7 @@ pub(crate) fn expand_away<B: BackwardOrder>(
     match extract(alloc, &scanned, network, query) {
         Err(fault) => Err(fault),
         Ok(None) => Ok(None),
-        Ok(Some(graph)) => Ok(Some(ExpandedPlan {
-            graph,
-            bounds: value.0,
-        })),
+        Ok(Some(graph)) => Ok(Some(Scored { graph, value })),
     }
 }
 
@@ -72,7 +77,15 @@ pub fn expand<B: BackwardOrder>(
     ensures fits { B.fits order.new network.now }
 {
     if query.source.0 != query.target.0 {
-        return expand_away(alloc, order, network, query);
+        let found: Option<Scored<MeanSpan>> = expand_away(alloc, order, network, query)?;
+        return match found {
+            None => Ok(None),
+            Some(scored) => {
+                let bounds = scored.value.0;
+                let graph = scored.graph;
+                Ok(Some(ExpandedPlan { graph, bounds }))
+            }
+        };
     }
     Ok(Some(ExpandedPlan {
         graph: ExpandedGraph {

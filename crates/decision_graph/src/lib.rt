@@ -11,4 +11,4 @@ mod expanded;
 mod planned;
 
 pub use expanded::{ExpandedPlan, expand};
-pub use planned::{CompactPlan, plan};
+pub use planned::{CompactPlan, ScoredPlan, plan, plan_by};

@@ -1,8 +1,9 @@
 //! The decision graph with one table for each place.
 ghost use Rattle.std.specs.Prelude.{◌≡◌, ◌≢◌, ◌<◌, ◌≤◌, length, IfOk, MatchOption};
+ghost use Rattle.plan_model.specs.Bounds.{end_of_time};
 ghost use Rattle.plan_model.specs.Order.{IsScanOrder};
 ghost use Rattle.decision_graph.specs.Expanded.{NoneSafe};
-ghost use Rattle.decision_graph.specs.Planned.{IsPlanned};
+ghost use Rattle.decision_graph.specs.Planned.{IsPlanned, IsPlannedBy};
 
 use crate::expanded::expand_away;
 use graph_compact::compact;
@@ -11,6 +12,7 @@ use interval_fixed::Span;
 use plan_graph::PlanGraph;
 use plan_model::{BackwardOrder, List, Network, NoMemory, Query};
 use std::alloc::Global;
+use value_laws::{MeanSpan, Score};
 
 /// A decision graph with one table for each place, and bounds on its expected arrival in nanoseconds.
 #[derive(Drop)]
@@ -22,20 +24,30 @@ pub struct CompactPlan {
     pub bounds: Span,
 }
 
+/// A decision graph with one table for each place, with a value that covers its own strategy and is
+/// below every safe one.
+#[derive(Drop)]
+pub struct ScoredPlan<V> {
+    /// The graph.
+    pub graph: PlanGraph,
+    /// The value of the graph.
+    pub value: V,
+}
+
 /// The decision graph of a journey between two places.
-fn plan_away<B: BackwardOrder>(
+fn plan_away<V: Score, B: BackwardOrder>(
     alloc: Global,
     order: &mut B,
     network: &Network,
     query: &Query,
-) -> Result<Option<CompactPlan>, NoMemory>
+) -> Result<Option<ScoredPlan<V>>, NoMemory>
     requires fits { B.fits order.old network.now }
     requires whole { IsScanOrder network.now (B.rest order.old network.now) }
     requires source { query.now.source.0 < length network.now.change }
     requires target { query.now.target.0 < length network.now.change }
     requires differ { query.now.source.0 ≢ query.now.target.0 }
     ensures plan { IfOk result (λ found. MatchOption found (NoneSafe network.now query.now)
-        (λ p. IsPlanned network.now query.now p.graph p.bounds)) }
+        (λ p. IsPlannedBy V.below V.covers V.gap V.arrived network.now query.now p.graph p.value)) }
     ensures fits { B.fits order.new network.now }
 {
     let expanded = match expand_away(alloc, order, network, query) {
@@ -50,11 +62,42 @@ fn plan_away<B: BackwardOrder>(
     steady_is_coherent();
     match compact(alloc, &pruned, network, query) {
         Err(fault) => Err(fault),
-        Ok(graph) => Ok(Some(CompactPlan {
+        Ok(graph) => Ok(Some(ScoredPlan {
             graph,
-            bounds: expanded.bounds,
+            value: expanded.value,
         })),
     }
+}
+
+/// The decision graph of a query with one table for each place, by a scan in this order of the
+/// network's connections, with a value that covers its own strategy and is below every safe one. None
+/// exactly where no strategy is safe.
+pub fn plan_by<V: Score, B: BackwardOrder>(
+    alloc: Global,
+    order: &mut B,
+    network: &Network,
+    query: &Query,
+) -> Result<Option<ScoredPlan<V>>, NoMemory>
+    requires fits { B.fits order.old network.now }
+    requires whole { IsScanOrder network.now (B.rest order.old network.now) }
+    requires source { query.now.source.0 < length network.now.change }
+    requires target { query.now.target.0 < length network.now.change }
+    requires start { query.now.start.0 < end_of_time }
+    requires deadline { query.now.start.0 ≤ query.now.deadline.0 }
+    ensures plan { IfOk result (λ found. MatchOption found (NoneSafe network.now query.now)
+        (λ p. IsPlannedBy V.below V.covers V.gap V.arrived network.now query.now p.graph p.value)) }
+    ensures fits { B.fits order.new network.now }
+{
+    if query.source.0 != query.target.0 {
+        return plan_away(alloc, order, network, query);
+    }
+    Ok(Some(ScoredPlan {
+        graph: PlanGraph {
+            start: None,
+            tables: List::new(alloc),
+        },
+        value: V::arrive(query.start),
+    }))
 }
 
 /// The decision graph of a query with one table for each place, by a scan in this order of the
@@ -77,7 +120,15 @@ pub fn plan<B: BackwardOrder>(
     ensures fits { B.fits order.new network.now }
 {
     if query.source.0 != query.target.0 {
-        return plan_away(alloc, order, network, query);
+        let found: Option<ScoredPlan<MeanSpan>> = plan_away(alloc, order, network, query)?;
+        return match found {
+            None => Ok(None),
+            Some(scored) => {
+                let bounds = scored.value.0;
+                let graph = scored.graph;
+                Ok(Some(CompactPlan { graph, bounds }))
+            }
+        };
     }
     Ok(Some(CompactPlan {
         graph: PlanGraph {

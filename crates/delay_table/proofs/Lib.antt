@@ -1,5 +1,9 @@
 pub mod LineFacts
+pub mod GroupFacts
+pub mod NumberedFacts
+pub mod ReadFacts
 pub mod Starts
-pub mod SlotFacts
-pub mod Classes
-pub mod Reading
+pub mod Named
+pub mod Sound
+pub mod TypeFacts
+pub mod ClassBounds

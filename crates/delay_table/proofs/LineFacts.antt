@@ -1,13 +1,16 @@
 -- One row of the table.
-use Rattle.std.proofs.Common.{◌≡◌, ℕ, ◌≤◌, Bool, true, false, ◌&&◌, nat_le, ◌==◌, List, length, Option, Some, None, IfSome, if◌then◌else◌, refl, ap, ◌∙◌, arith}
+use Rattle.std.proofs.Common.{◌≡◌, ℕ, ◌≤◌, Bool, true, false, ◌&&◌, nat_le, ◌==◌, List, length, Option, Some, None, IfSome, option_map, if◌then◌else◌, refl, sym, ap, ◌∙◌, subst, arith, is_none}
 use Rattle.std.proofs.lemmas.Bool.Decides.{nat_tests}
 use Rattle.std.specs.List.{list_all}
+use Rattle.std.specs.Str.{is_utf8}
 use Rattle.std.specs.Char.{is_ascii_digit}
 use Rattle.clock_text.specs.Digits.{whole_of, value_of}
-use Rattle.csv_rows.specs.declared.columns.Column.TheVariants.{Class, Delay, Weight}
+use Rattle.csv_rows.specs.declared.columns.Column.TheVariants.{Class, Delay, Weight, RouteId, Hour}
+use Rattle.csv_rows.specs.Names.{name_in}
+use Rattle.csv_rows.specs.Tables.{field, field_at}
+use Rattle.plan_model.specs.NameLists.{IsTrimmed}
 use Rattle.delay_table.specs.declared.lines.DelayLine.{DelayLine}
-use Rattle.csv_rows.specs.Tables.{field}
-use Rattle.delay_table.specs.Delays.{class_number, not_zero, line_from, line_of, line_at}
+use Rattle.delay_table.specs.Delays.{Line, class_in, not_zero, route_in, hour_in, given, line_of, line_at}
 
 le_test : (a b : ℕ) → nat_le a b ≡ true → a ≤ b
 le_test a b h = grind (arith, nat_tests)
@@ -24,27 +27,99 @@ bounded false v most = tt
 pub whole_bound : (most : ℕ) (text : List ℕ) → IfSome (whole_of most text) (λ n. n ≤ most)
 whole_bound most text = bounded (nat_le 1 (length text) && nat_le (length text) 9 && list_all is_ascii_digit text) (value_of text) most
 
-abbrev IsFormed : DelayLine → Type 0
-IsFormed line = (line.outcome.delay ≤ 86400) × (1 ≤ line.outcome.weight)
+one_on : (b : Bool) (w : ℕ) → (b ≡ false → 1 ≤ w) → IfSome (if b then None else Some w) (λ n. 1 ≤ n)
+one_on true w h = tt
+one_on false w h = h refl
 
-formed_at : (c d w : ℕ) (b : Bool) → d ≤ 86400 → (b ≡ false → 1 ≤ w) → IfSome (line_from (Some c) (Some d) (if b then None else Some w)) IsFormed
-formed_at c d w true l h = tt
-formed_at c d w false l h = (l, h refl)
+zero_test : (w : ℕ) → (w == 0) ≡ false → 1 ≤ w
+zero_test w h = grind (arith, nat_tests)
 
-one_on : (w : ℕ) → (w == 0) ≡ false → 1 ≤ w
-one_on w h = grind (arith, nat_tests)
+weight_bound : (o : Option ℕ) → IfSome (not_zero o) (λ n. 1 ≤ n)
+weight_bound None = tt
+weight_bound (Some w) = one_on (w == 0) w (zero_test w)
 
-formed : (c d w : Option ℕ) → IfSome d (λ n. n ≤ 86400) → IfSome (line_from c d (not_zero w)) IsFormed
-formed None d w h = tt
-formed (Some c) None w h = tt
-formed (Some c) (Some d) None h = tt
-formed (Some c) (Some d) (Some w) h = formed_at c d w (w == 0) h (one_on w)
+-- what holds of what comes next, holds where it is there
+given-holds : {A B : Type 0} (P : B → Type 0) (o : Option A) (next : A → Option B) → ((a : A) → o ≡ Some a → IfSome (next a) P) → IfSome (given o next) P
+given-holds P None next h = tt
+given-holds P (Some a) next h = h a refl
 
-pub line_formed : (a b c : List ℕ) → IfSome (line_of a b c) (λ line. (line.outcome.delay ≤ 86400) × (1 ≤ line.outcome.weight))
-line_formed a b c = formed (class_number a) (whole_of 86400 b) (whole_of 10000 c) (whole_bound 86400 b)
+name_if : (empty utf8 : Bool) (text x : List ℕ) → (if empty then None else if utf8 then Some text else None) ≡ Some x → x ≡ text
+name_if true utf8 text x h = absurd (cc)
+name_if false true text x h = cc
+name_if false false text x h = absurd (cc)
+
+mapped : (P : List ℕ → Type 0) (o : Option (List ℕ)) → ((x : List ℕ) → o ≡ Some x → P x) → (r : Option (List ℕ)) → option_map Some o ≡ Some r → IfSome r P
+mapped P None h r e = absurd (cc)
+mapped P (Some x) h r e = let same : Some x ≡ r = cc in subst (λ (y : Option (List ℕ)). IfSome y P) same (h x refl)
+
+route_if : (P : List ℕ → Type 0) (empty any : Bool) (o : Option (List ℕ)) → ((x : List ℕ) → o ≡ Some x → P x) → (r : Option (List ℕ))
+    → (if empty then Some None else if any then option_map Some o else None) ≡ Some r → IfSome r P
+route_if P true any o h r e = let same : None ≡ r = cc in subst (λ (y : Option (List ℕ)). IfSome y P) same tt
+route_if P false true o h r e = mapped P o h r e
+route_if P false false o h r e = absurd (cc)
+
+-- what a row says, where each field is of its form: its route is the field
+pub record IsFormed (field : List ℕ) (line : Line) : Type 0 where
+  pub delay : line.outcome.delay ≤ 86400
+  pub weight : 1 ≤ line.outcome.weight
+  pub route : IfSome line.group.route (λ r. r ≡ field)
+
+bound_at : (P : ℕ → Type 0) (o : Option ℕ) (n : ℕ) → IfSome o P → o ≡ Some n → P n
+bound_at P o n h e = subst (λ (x : Option ℕ). IfSome x P) e h
+
+pub line_formed : (class delay weight route hour : List ℕ) → IfSome (line_of class delay weight route hour) (IsFormed route)
+line_formed class delay weight route hour =
+    given-holds (IsFormed route) (class_in class) _ (λ c h1.
+    given-holds (IsFormed route) (whole_of 86400 delay) _ (λ d h2.
+    given-holds (IsFormed route) (not_zero (whole_of 10000 weight)) _ (λ w h3.
+    given-holds (IsFormed route) (route_in c route) _ (λ r h4.
+    given-holds (IsFormed route) (hour_in hour) _ (λ h h5. record {
+      delay = bound_at (λ n. n ≤ 86400) (whole_of 86400 delay) d (whole_bound 86400 delay) h2;
+      weight = bound_at (λ n. 1 ≤ n) (not_zero (whole_of 10000 weight)) w (weight_bound (whole_of 10000 weight)) h3;
+      route = route_if (λ x. x ≡ route) (length route == 0) (is_none c) (name_in route) (λ x e. name_if (length route == 0) (is_utf8 route) route x e) r h4;
+    })))))
+
+pub formed_at : (t : List (List (List ℕ))) (i : ℕ) → IfSome (line_at t i) (IsFormed (field t RouteId i))
+unfolding line_at
+formed_at t i = line_formed (field t Class i) (field t Delay i) (field t Weight i) (field t RouteId i) (field t Hour i)
 
 -- the row at a place, by its fields
-pub line_here : (t : List (List (List ℕ))) (i : ℕ) (o : Option DelayLine) (a b c : List ℕ) → o ≡ line_of a b c → a ≡ field t Class i → b ≡ field t Delay i → c ≡ field t Weight i → o ≡ line_at t i
+pub line_here : (t : List (List (List ℕ))) (i : ℕ) (a b c d e : List ℕ) → a ≡ field t Class i → b ≡ field t Delay i → c ≡ field t Weight i → d ≡ field t RouteId i → e ≡ field t Hour i
+    → line_of a b c d e ≡ line_at t i
 unfolding line_at
-line_here t i o a b c e p q r =
-    e ∙ ap (λ x. line_of x b c) p ∙ ap (λ x. line_of (field t Class i) x c) q ∙ ap (λ x. line_of (field t Class i) (field t Delay i) x) r
+line_here t i a b c d e p q r s u =
+    ap (λ x. line_of x b c d e) p ∙ ap (λ x. line_of (field t Class i) x c d e) q ∙ ap (λ x. line_of (field t Class i) (field t Delay i) x d e) r
+    ∙ ap (λ x. line_of (field t Class i) (field t Delay i) (field t Weight i) x e) s
+    ∙ ap (λ x. line_of (field t Class i) (field t Delay i) (field t Weight i) (field t RouteId i) x) u
+
+-- a field under a column
+pub field_is : (t : List (List (List ℕ))) (i : ℕ) (a : List ℕ) (place own : Option ℕ) → a ≡ field_at t place i → place ≡ own → a ≡ field_at t own i
+field_is t i a place own e f = e ∙ ap (λ o. field_at t o i) f
+
+-- what holds of a value of another form
+pub of-mapped : {X Y : Type 0} (f : X → Y) (P : Y → Type 0) (o : Option X) (m : Option Y) → option_map f o ≡ m → IfSome m P → IfSome o (λ x. P (f x))
+of-mapped f P None m e h = tt
+of-mapped f P (Some x) m e h = subst (λ (y : Option _). IfSome y P) (sym e) h
+
+-- a route that is a field has no space at either end
+pub route-trimmed : {X : Type 0} (f : X → List ℕ) (o : Option X) (field : List ℕ) → IsTrimmed field → IfSome (option_map f o) (λ r. r ≡ field) → IfSome o (λ x. IsTrimmed (f x))
+route-trimmed f None field t h = tt
+route-trimmed f (Some x) field t h = subst IsTrimmed (sym h) t
+
+-- the line that is read
+abbrev pub own_line : DelayLine → Line
+own_line l = record { group = record { class = l.class; route = option_map (λ s. s.now) l.route; hour = l.hour }; outcome = l.outcome }
+
+pub line_is_formed : (class delay weight route hour : List ℕ) (o : Option DelayLine) → option_map own_line o ≡ line_of class delay weight route hour
+    → IfSome o (λ l. (l.outcome.delay ≤ 86400) × (1 ≤ l.outcome.weight))
+line_is_formed class delay weight route hour None e = tt
+line_is_formed class delay weight route hour (Some l) e =
+    let f = of-mapped own_line (IsFormed route) (Some l) (line_of class delay weight route hour) e (line_formed class delay weight route hour) in
+    (f.delay, f.weight)
+
+pub line_is_trimmed : (class delay weight route hour : List ℕ) → IsTrimmed route → (o : Option DelayLine) → option_map own_line o ≡ line_of class delay weight route hour
+    → IfSome o (λ l. IfSome l.route (λ s. IsTrimmed s.now))
+line_is_trimmed class delay weight route hour t None e = tt
+line_is_trimmed class delay weight route hour t (Some l) e =
+    let f = of-mapped own_line (IsFormed route) (Some l) (line_of class delay weight route hour) e (line_formed class delay weight route hour) in
+    route-trimmed (λ s. s.now) l.route route t f.route

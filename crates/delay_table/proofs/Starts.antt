@@ -1,16 +1,23 @@
--- The outcomes of one class, one more at a time.
-use Rattle.std.proofs.Common.{◌≡◌, ℕ, ◌+◌, ◌-◌, ◌<◌, ◌≤◌, Bool, true, false, nat_le, nat_lt, ◌==◌, List, [], ◌∷◌, ◌++◌, length, slice_get, slice_index_or, Option, Some, None, if◌then◌else◌, refl, sym, subst, arith, ⊎_elim, length-append, append-nil}
+-- The outcomes of one group, one more at a time.
+use Rattle.std.proofs.Common.{◌≡◌, ◌+◌, ◌-◌, ◌<◌, ◌≤◌, Bool, true, false, nat_le, nat_lt, List, [], ◌∷◌, ◌++◌, length, slice_get, slice_index_or, Option, Some, None, if◌then◌else◌, refl, sym, subst, arith, ⊎_elim, length-append, append-nil, zero, suc, ℕ, IfSome, add-one, ap, ◌∙◌}
 use Rattle.std.proofs.lemmas.Bool.{cases_lt}
 use Rattle.std.proofs.lemmas.Bool.Decides.{nat_tests}
 use Rattle.std.proofs.lemmas.List.Elements.{All-push}
 use Rattle.std.proofs.lemmas.Option.{slice_get-get_or}
 use Rattle.std.proofs.lemmas.List.Quantifiers.{all_pairs_push}
 use Rattle.plan_model.specs.declared.model.Outcome.{Outcome}
-use Rattle.delay_table.specs.declared.lines.DelayLine.{DelayLine}
 use Rattle.delay_table.specs.declared.faults.DelayFault.{DelayFault}
-use Rattle.delay_table.specs.declared.faults.DelayFault.TheVariants.{TooManyRows, NotRising}
-use Rattle.delay_table.specs.Delays.{fault_after, rises, of_class, class_name}
-use Rattle.delay_table.specs.Slots.{IsStart, slot}
+use Rattle.delay_table.specs.declared.faults.DelayFault.TheVariants.{NotRising}
+use Rattle.delay_table.specs.Groups.{Group, same_group}
+use Rattle.delay_table.specs.Delays.{Line, fault_after, fault_of, rises, too_many, of_group, outcomes, line_at, line_fault}
+use Rattle.delay_table.specs.Slots.{IsStart}
+use Rattle.csv_rows.specs.First.{first_below}
+use Rattle.csv_rows.specs.Tables.{field}
+use Rattle.csv_rows.specs.declared.columns.Column.TheVariants.{RouteId}
+use Rattle.csv_rows.proofs.FirstLemmas.{none-each}
+use Rattle.delay_table.proofs.GroupFacts.{same-equal}
+use Rattle.delay_table.proofs.LineFacts.{IsFormed, formed_at}
+use Rattle.delay_table.proofs.ReadFacts.{outcomes-next}
 
 none_cases : (a b : Bool) (x y : DelayFault) → (if a then Some x else if b then None else Some y) ≡ None → (a ≡ false) × (b ≡ true)
 none_cases true b x y h = absurd (cc)
@@ -41,10 +48,10 @@ rises_each r delay s h k d l =
     (cases_lt k (length r - 1))
 
 -- one more row with no fault
-pub start_next : (r : List Outcome) (line : DelayLine) (number : ℕ) → IsStart r → fault_after r line number ≡ None → line.outcome.delay ≤ 86400 → 1 ≤ line.outcome.weight → IsStart (r ++ line.outcome ∷ [])
+start_next : (r : List Outcome) (line : Line) (number : ℕ) → IsStart r → fault_after r line number ≡ None → line.outcome.delay ≤ 86400 → 1 ≤ line.outcome.weight → IsStart (r ++ line.outcome ∷ [])
 start_next r line number s none d w =
     let o = line.outcome in
-    let t = none_cases (nat_le 64 (length r)) (rises (slice_get r (length r - 1)) o.delay) (TooManyRows (class_name line.class)) (NotRising number) none in
+    let t = none_cases (nat_le 64 (length r)) (rises (slice_get r (length r - 1)) o.delay) (too_many line.group number) (NotRising number) none in
     let room : length r < 64 = not_le_test 64 (length r) t.0 in
     let size : length (r ++ o ∷ []) ≡ length r + 1 = length-append r (o ∷ []) in
     record {
@@ -54,23 +61,36 @@ start_next r line number s none d w =
       weights = All-push (λ (x : Outcome). 1 ≤ x.weight) r o s.weights w;
     }
 
-pub start_empty : IsStart []
-start_empty = record { few = omega arith; rising = λ i j d less inside. absurd (omega arith); delays = λ k d inside. absurd (omega arith); weights = λ k d inside. absurd (omega arith) }
-
-eq_test : (a b : ℕ) → (a == b) ≡ true → a ≡ b
-eq_test a b h = grind (arith, nat_tests)
-
 start_if : (b : Bool) (r : List Outcome) (o : Outcome) → IsStart r → (b ≡ true → IsStart (r ++ o ∷ [])) → IsStart (r ++ (if b then o ∷ [] else []))
 start_if true r o s h = h refl
 start_if false r o s h = subst IsStart (sym (append-nil r)) s
 
--- for each class, after one more row
-pub starts_next : (old new : List (List Outcome)) (line : DelayLine) (number : ℕ)
-    → ((c : ℕ) → IsStart (slot old c)) → fault_after (slot old line.class) line number ≡ None
-    → ((c : ℕ) → slot new c ≡ slot old c ++ of_class c (Some line))
-    → line.outcome.delay ≤ 86400 → 1 ≤ line.outcome.weight → (c : ℕ) → IsStart (slot new c)
-starts_next old new line number s none step d w c =
-    subst IsStart (sym (step c))
-    (start_if (line.class == c) (slot old c) line.outcome (s c)
-    (λ same. let P : ℕ → Type 0 = λ k. IsStart (slot old k ++ line.outcome ∷ []) in
-    subst P (eq_test line.class c same) (start_next (slot old line.class) line number (s line.class) none d w)))
+start_line : (t : List (List (List ℕ))) (n : ℕ) (group : Group) (o : Option Line) → ((g : Group) → IsStart (outcomes t n g))
+    → fault_of (outcomes t n) o (n + 2) ≡ None → IfSome o (IsFormed (field t RouteId n)) → IsStart (outcomes t n group ++ of_group group o)
+start_line t n group None s none form = absurd (cc)
+start_line t n group (Some line) s none form =
+    start_if (same_group line.group group) (outcomes t n group) line.outcome (s group)
+    (λ same. let P : Group → Type 0 = λ g. IsStart (outcomes t n g ++ line.outcome ∷ []) in
+    subst P (same-equal line.group group same) (start_next (outcomes t n line.group) line (n + 2) (s line.group) none form.delay form.weight))
+
+start_empty : IsStart []
+start_empty = record { few = omega arith; rising = λ i j d less inside. absurd (omega arith); delays = λ k d inside. absurd (omega arith); weights = λ k d inside. absurd (omega arith) }
+
+no_outcomes : (t : List (List (List ℕ))) (group : Group) → outcomes t 0 group ≡ []
+unfolding outcomes
+no_outcomes t group = refl
+
+row_fault : (t : List (List (List ℕ))) (n : ℕ) → line_fault t n ≡ None → fault_of (outcomes t n) (line_at t n) (n + 2) ≡ None
+unfolding line_fault
+row_fault t n h = h
+
+starts_to : (t : List (List (List ℕ))) (n : ℕ) → ((k : ℕ) → k < n → line_fault t k ≡ None) → (group : Group) → IsStart (outcomes t n group)
+starts_to t zero h group = subst IsStart (sym (no_outcomes t group)) start_empty
+starts_to t (suc n) h group =
+    let e : outcomes t (suc n) group ≡ outcomes t n group ++ of_group group (line_at t n) = ap (λ m. outcomes t m group) (sym (add-one n)) ∙ outcomes-next t n group in
+    subst IsStart (sym e)
+    (start_line t n group (line_at t n) (starts_to t n (λ k l. h k (omega arith))) (row_fault t n (h n (omega arith))) (formed_at t n))
+
+-- the outcomes of each group of rows without a fault
+pub starts : (t : List (List (List ℕ))) (n : ℕ) → first_below (line_fault t) n ≡ None → (group : Group) → IsStart (outcomes t n group)
+starts t n h = starts_to t n (none-each (line_fault t) n h)

@@ -1,55 +1,90 @@
 -- What a delay table is, and which of its faults comes first.
-use Rattle.std.specs.Prelude.{ℕ, zero, suc, ◌+◌, ◌-◌, ◌==◌, nat_lt, nat_le, true, Bool, List, [], ◌∷◌, ◌++◌, length, map, sum_by, slice_get, Option, Some, None, option_map, is_none, if◌then◌else◌, codes}
+use Rattle.std.specs.Prelude.{ℕ, zero, suc, ◌+◌, ◌-◌, ◌==◌, nat_lt, nat_le, true, Bool, List, [], ◌∷◌, ◌++◌, length, map, sum_by, slice_get, slice_index, Option, Some, None, option_map, is_none, if◌then◌else◌, codes}
 use Rattle.std.specs.Str.{bytes_eq}
 use Rattle.clock_text.specs.Digits.{whole_of}
 use Rattle.plan_model.specs.declared.model.Outcome.{Outcome}
 use Rattle.csv_rows.specs.declared.columns.Column.{Column}
-use Rattle.csv_rows.specs.declared.columns.Column.TheVariants.{Class, Delay, Weight}
-use Rattle.delay_table.specs.declared.lines.DelayLine.{DelayLine}
+use Rattle.csv_rows.specs.declared.columns.Column.TheVariants.{Class, Delay, Weight, RouteId, Hour}
 use Rattle.delay_table.specs.declared.faults.ClassName.{ClassName}
 use Rattle.delay_table.specs.declared.faults.ClassName.TheVariants.{Any, Route}
 use Rattle.delay_table.specs.declared.faults.DelayFault.{DelayFault}
-use Rattle.delay_table.specs.declared.faults.DelayFault.TheVariants.{MissingColumn, BadField, TooManyRows, NotRising, WeightSum, NoDefault}
+use Rattle.delay_table.specs.declared.faults.DelayFault.TheVariants.{MissingColumn, BadField, TooManyRows, GroupRows, NotRising, TooManyClasses, WeightSum, GroupSum, NoDefault}
 use Rattle.csv_rows.specs.First.{or_else, first_below}
+use Rattle.csv_rows.specs.Names.{name_in}
 use Rattle.csv_rows.specs.Tables.{place_of, field, row_count}
 use Rattle.delay_table.specs.DelayLists.{DelayLists}
+use Rattle.delay_table.specs.Groups.{Group, of_class, group_in, is_plain, same_group}
+
+-- a row: the group that it is of, and its outcome
+pub record Line : Type 0 where
+  pub group : Group
+  pub outcome : Outcome
+
+abbrev pub line_with : (class : Option ℕ) → (route : Option (List ℕ)) → (hour : Option ℕ) → Outcome → Line
+line_with class route hour outcome = record { group = record { class = class; route = route; hour = hour }; outcome = outcome }
+
+-- a class by its name
+abbrev pub class_name : Option ℕ → ClassName
+class_name None = Any
+class_name (Some route) = Route route
+
+abbrev pub class_type : ClassName → Option ℕ
+class_type Any = None
+class_type (Route route) = Some route
 
 -- classes by number: `*` is 0, and the route type r is r + 1
-abbrev pub class_name : ℕ → ClassName
-class_name zero = Any
-class_name (suc r) = Route r
+abbrev pub class_at : ℕ → Option ℕ
+class_at zero = None
+class_at (suc r) = Some r
 
-abbrev pub class_number : List ℕ → Option ℕ
-class_number text = if bytes_eq text (codes "*") then Some 0 else option_map (λ r. r + 1) (whole_of 65534 text)
+-- `*`, or a route type
+abbrev pub class_in : List ℕ → Option (Option ℕ)
+class_in text = if bytes_eq text (codes "*") then Some None else option_map Some (whole_of 65534 text)
 
 -- a whole number from 1 on
 abbrev pub not_zero : Option ℕ → Option ℕ
 not_zero None = None
 not_zero (Some n) = if n == 0 then None else Some n
 
-abbrev pub line_from : Option ℕ → Option ℕ → Option ℕ → Option DelayLine
-line_from None d w = None
-line_from (Some c) None w = None
-line_from (Some c) (Some d) None = None
-line_from (Some c) (Some d) (Some w) = Some (record { class = c; outcome = record { delay = d; weight = w } })
+-- a route, which a row of the class `*` alone may tell
+abbrev pub route_in : Option ℕ → List ℕ → Option (Option (List ℕ))
+route_in class text = if length text == 0 then Some None else if is_none class then option_map Some (name_in text) else None
 
--- a class, a delay and a weight, where each is of its form
-abbrev pub line_of : List ℕ → List ℕ → List ℕ → Option DelayLine
-line_of class delay weight = line_from (class_number class) (whole_of 86400 delay) (not_zero (whole_of 10000 weight))
+-- an hour of the day
+abbrev pub hour_in : List ℕ → Option (Option ℕ)
+hour_in text = if length text == 0 then Some None else option_map Some (whole_of 23 text)
+
+-- what comes next, where this is there
+abbrev pub given : {A B : Type 0} → Option A → (A → Option B) → Option B
+given None next = None
+given (Some a) next = next a
+
+-- the row of these fields, where each is of its form
+abbrev pub line_of : (class delay weight route hour : List ℕ) → Option Line
+line_of class delay weight route hour =
+    given (class_in class) (λ class'.
+    given (whole_of 86400 delay) (λ delay'.
+    given (not_zero (whole_of 10000 weight)) (λ weight'.
+    given (route_in class' route) (λ route'.
+    given (hour_in hour) (λ hour'.
+    Some (record {
+      group = record { class = class'; route = route'; hour = hour' };
+      outcome = record { delay = delay'; weight = weight' };
+    }))))))
 
 -- the row i of the table
-unfoldable pub line_at : List (List (List ℕ)) → ℕ → Option DelayLine
-line_at t i = line_of (field t Class i) (field t Delay i) (field t Weight i)
+unfoldable pub line_at : List (List (List ℕ)) → ℕ → Option Line
+line_at t i = line_of (field t Class i) (field t Delay i) (field t Weight i) (field t RouteId i) (field t Hour i)
 
--- its outcome, if it is of the class
-abbrev pub of_class : ℕ → Option DelayLine → List Outcome
-of_class c None = []
-of_class c (Some line) = if line.class == c then line.outcome ∷ [] else []
+-- its outcome, if it is of the group
+abbrev pub of_group : Group → Option Line → List Outcome
+of_group group None = []
+of_group group (Some line) = if same_group line.group group then line.outcome ∷ [] else []
 
--- the outcomes of a class in the first n rows, in their order
-unfoldable pub outcomes : List (List (List ℕ)) → ℕ → ℕ → List Outcome
-outcomes t zero c = []
-outcomes t (suc n) c = outcomes t n c ++ of_class c (line_at t n)
+-- the outcomes of a group in the first n rows, in their order
+unfoldable pub outcomes : List (List (List ℕ)) → ℕ → Group → List Outcome
+outcomes t zero group = []
+outcomes t (suc n) group = outcomes t n group ++ of_group group (line_at t n)
 
 -- the first column that is not there
 abbrev pub lacks : List (List (List ℕ)) → Column → Option DelayFault
@@ -58,58 +93,137 @@ lacks t column = if is_none (place_of column t) then Some (MissingColumn column)
 abbrev pub missing_column : List (List (List ℕ)) → Option DelayFault
 missing_column t = or_else (lacks t Class) (or_else (lacks t Delay) (lacks t Weight))
 
--- a delay is greater than that of the class's row before
+-- a delay is greater than that of the group's row before
 abbrev pub rises : Option Outcome → ℕ → Bool
 rises None delay = true
 rises (Some o) delay = nat_lt o.delay delay
 
--- the fault of a row after these of its class
-abbrev pub fault_after : List Outcome → DelayLine → ℕ → Option DelayFault
+-- a group has too many rows
+abbrev pub too_many : Group → ℕ → DelayFault
+too_many group number = if is_plain group then TooManyRows (class_name group.class) else GroupRows number
+
+-- the fault of a row after these of its group
+abbrev pub fault_after : List Outcome → Line → ℕ → Option DelayFault
 fault_after earlier line number =
-    if nat_le 64 (length earlier) then Some (TooManyRows (class_name line.class))
+    if nat_le 64 (length earlier) then Some (too_many line.group number)
     else if rises (slice_get earlier (length earlier - 1)) line.outcome.delay then None
     else Some (NotRising number)
 
--- and of a row of a table that has these outcomes of each class before it
-abbrev pub fault_of : (ℕ → List Outcome) → Option DelayLine → ℕ → Option DelayFault
+-- and of a row of a table that has these outcomes of each group before it
+abbrev pub fault_of : (Group → List Outcome) → Option Line → ℕ → Option DelayFault
 fault_of earlier None number = Some (BadField number)
-fault_of earlier (Some line) number = fault_after (earlier line.class) line number
+fault_of earlier (Some line) number = fault_after (earlier line.group) line number
 
 -- the fault of row i, whose line is i + 2
 unfoldable pub line_fault : List (List (List ℕ)) → ℕ → Option DelayFault
 line_fault t i = fault_of (outcomes t i) (line_at t i) (i + 2)
 
--- the fault of a class, by its outcomes in the whole table
-abbrev pub sum_fault_of : List Outcome → ℕ → Option DelayFault
-sum_fault_of [] c = None
-sum_fault_of (o ∷ os) c = if sum_by (λ o. o.weight) (o ∷ os) == 10000 then None else Some (WeightSum (class_name c) (sum_by (λ o. o.weight) (o ∷ os)))
+-- a row, if no row before it is of its group
+abbrev pub if_begins : List Outcome → ℕ → List ℕ
+if_begins [] i = i ∷ []
+if_begins (o ∷ os) i = []
+
+abbrev pub begins : (Group → List Outcome) → Option Line → ℕ → List ℕ
+begins earlier None i = []
+begins earlier (Some line) i = if_begins (earlier line.group) i
+
+-- the first n rows of which each is the first of its group
+unfoldable pub firsts : List (List (List ℕ)) → ℕ → List ℕ
+firsts t zero = []
+firsts t (suc n) = firsts t n ++ begins (outcomes t n) (line_at t n) n
+
+abbrev pub group_of : Option Line → Group
+group_of None = of_class None
+group_of (Some line) = line.group
+
+-- the groups of these rows
+unfoldable pub groups_at : List (List (List ℕ)) → List ℕ → List Group
+groups_at t rows = map (λ i. group_of (line_at t i)) rows
+
+abbrev pub too_many_classes : ℕ → Option DelayFault
+too_many_classes count = if nat_lt 65536 count then Some (TooManyClasses count) else None
+
+-- the sum of the weights of outcomes, where there are some and it is not 10,000
+abbrev pub other_sum : List Outcome → Option ℕ
+other_sum [] = None
+other_sum (o ∷ os) = if sum_by (λ o. o.weight) (o ∷ os) == 10000 then None else Some (sum_by (λ o. o.weight) (o ∷ os))
+
+-- the outcomes of a class by its number
+abbrev pub class_rows : (Group → List Outcome) → ℕ → List Outcome
+class_rows rows c = rows (of_class (class_at c))
+
+-- the fault of a class by its number, by the outcomes of the whole table
+abbrev pub class_sum : (Group → List Outcome) → ℕ → Option DelayFault
+class_sum rows c = option_map (WeightSum (class_name (class_at c))) (other_sum (class_rows rows c))
+
+-- that of a group that names a route or an hour, by its first line
+abbrev pub group_sum : Group → ℕ → List Outcome → Option DelayFault
+group_sum group line row = if is_plain group then None else option_map (GroupSum line) (other_sum row)
+
+abbrev pub group_sum_at : (Group → List Outcome) → List Group → (ℕ → ℕ) → ℕ → Option DelayFault
+group_sum_at rows groups line_of k = group_sum (group_in groups k) (line_of k) (rows (group_in groups k))
 
 abbrev pub no_default_of : List Outcome → Option DelayFault
 no_default_of [] = Some NoDefault
 no_default_of (o ∷ os) = None
-
--- the first of the faults of the classes
-unfoldable pub class_fault : (ℕ → List Outcome) → Option DelayFault
-class_fault rows = or_else (first_below (λ c. sum_fault_of (rows c) c) 65536) (no_default_of (rows 0))
-
--- the first of all faults
-unfoldable pub first_fault : List (List (List ℕ)) → Option DelayFault
-first_fault t = or_else (missing_column t) (or_else (first_below (line_fault t) (row_count t)) (class_fault (outcomes t (row_count t))))
 
 -- one more, if it has outcomes
 abbrev pub if_some : List Outcome → ℕ → List ℕ
 if_some [] r = []
 if_some (o ∷ os) r = r ∷ []
 
--- the route types below n that have outcomes, rising
-unfoldable pub named : (ℕ → List Outcome) → ℕ → List ℕ
-named rows zero = []
-named rows (suc n) = named rows n ++ if_some (rows (n + 1)) n
+abbrev pub if_row : List Outcome → List (List Outcome)
+if_row [] = []
+if_row (o ∷ os) = (o ∷ os) ∷ []
 
--- the route types and the classes: that of `*`, and then those of the route types
-unfoldable pub delays_in : (ℕ → List Outcome) → DelayLists
-delays_in rows = record { types = named rows 65535; classes = rows 0 ∷ map (λ r. rows (r + 1)) (named rows 65535) }
+-- the route types below n that have outcomes, rising
+unfoldable pub named : (Group → List Outcome) → ℕ → List ℕ
+named rows zero = []
+named rows (suc n) = named rows n ++ if_some (class_rows rows (n + 1)) n
+
+-- the outcomes of these route types
+unfoldable pub named_rows : (Group → List Outcome) → ℕ → List (List Outcome)
+named_rows rows zero = []
+named_rows rows (suc n) = named_rows rows n ++ if_row (class_rows rows (n + 1))
+
+-- one element, where the group names a route or an hour
+abbrev pub if_other : {A : Type 0} → Group → A → List A
+if_other group x = if is_plain group then [] else x ∷ []
+
+-- the groups among the first n that name a route or an hour
+unfoldable pub others : List Group → ℕ → List Group
+others groups zero = []
+others groups (suc n) = others groups n ++ if_other (group_in groups n) (group_in groups n)
+
+-- how many groups there are: `*`, the named route types, and those that name a route or an hour
+unfoldable pub group_count : (Group → List Outcome) → List Group → ℕ
+group_count rows groups = length (if_some (class_rows rows 0) 0) + length (named rows 65535) + length (others groups (length groups))
+
+-- the first of the faults of the groups: their number, then the classes by number, then the others by their first lines
+abbrev pub groups_fault : (Group → List Outcome) → List Group → (ℕ → ℕ) → Option DelayFault
+groups_fault rows groups line_of =
+    or_else (too_many_classes (group_count rows groups))
+    (or_else (first_below (class_sum rows) 65536)
+    (or_else (first_below (group_sum_at rows groups line_of) (length groups)) (no_default_of (class_rows rows 0))))
+
+-- the first lines of the groups of the first n rows
+unfoldable pub first_line : List (List (List ℕ)) → ℕ → ℕ → ℕ
+first_line t n k = slice_index (firsts t n) k + 2
+
+-- the first of all faults
+unfoldable pub first_fault : List (List (List ℕ)) → Option DelayFault
+first_fault t =
+    or_else (missing_column t) (or_else (first_below (line_fault t) (row_count t))
+    (groups_fault (outcomes t (row_count t)) (groups_at t (firsts t (row_count t))) (first_line t (row_count t))))
+
+-- the route types, the other groups, and the classes: that of `*`, and then those of the route types and of the other groups
+unfoldable pub delays_in : (Group → List Outcome) → List Group → DelayLists
+delays_in rows groups = record {
+  types = named rows 65535;
+  others = others groups (length groups);
+  classes = class_rows rows 0 ∷ named_rows rows 65535 ++ map rows (others groups (length groups));
+}
 
 -- the delays of a table
 unfoldable pub delays_of : List (List (List ℕ)) → DelayLists
-delays_of t = delays_in (outcomes t (row_count t))
+delays_of t = delays_in (outcomes t (row_count t)) (groups_at t (firsts t (row_count t)))

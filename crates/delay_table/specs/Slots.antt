@@ -7,7 +7,7 @@ use Rattle.delay_table.specs.DelayLists.{DelayLists}
 abbrev pub slot : List (List Outcome) → ℕ → List Outcome
 slot slots c = slice_index_or slots c []
 
--- what holds of the outcomes of a class before its last row
+-- what holds of the outcomes of a group before its last row
 pub record IsStart (r : List Outcome) : Type 0 where
   pub few : length r ≤ 64
   pub rising : AllPairs (λ a b. a.delay < b.delay) r
@@ -17,8 +17,8 @@ pub record IsStart (r : List Outcome) : Type 0 where
 -- the route types rise, and each class has a valid row
 pub record AreDelays (f : DelayLists) : Type 0 where
   pub rising : (i j : ℕ) → i < j → j < length f.types → slice_index_or f.types i 0 < slice_index_or f.types j 0
-  pub few : length f.types ≤ 65535
-  pub each : length f.classes ≡ length f.types + 1
+  pub few : length f.classes ≤ 65536
+  pub each : length f.classes ≡ length f.types + 1 + length f.others
   pub rows : (k : ℕ) → k < length f.classes → IsValidRow (slice_index_or f.classes k [])
 
 -- 0 where the route type is not named, and else its place among the named ones, from 1 on

@@ -11,23 +11,33 @@ pub enum ClassName {
     Route(u16),
 }
 
-/// Why rows are no delay table. The first that holds is answered: a missing column, then `BadField`, `TooManyRows` and
-/// `NotRising` by line and at one line in this order, then the sums, that of `*` first and then by route type, then
-/// `NoDefault`.
+/// Why rows are no delay table. The first that holds is answered: a missing column; then `BadField`, `TooManyRows` or
+/// `GroupRows`, and `NotRising`, by line and at one line in this order; then `TooManyClasses`; then `WeightSum`, that of `*`
+/// first and then by route type; then `GroupSum` by line; then `NoDefault`.
+///
+/// A group is the rows of one class, one route and one hour. That of a class alone names neither a route nor an hour.
 #[derive(Clone, Copy, Debug, PartialEq, Eq)]
 pub enum DelayFault {
     /// The first of `class`, `delay` and `weight` that the header lacks.
     MissingColumn(Column),
-    /// At this line the class is neither `*` nor a whole number up to 65,534, the delay is no whole number up to 86,400, or
-    /// the weight is no whole number from 1 to 10,000.
+    /// At this line the class is neither `*` nor a whole number up to 65,534, the delay is no whole number up to 86,400, the
+    /// weight is no whole number from 1 to 10,000, the route is no UTF-8 or stands beside a class that is not `*`, or the
+    /// hour is no whole number up to 23.
     BadField(u64),
-    /// The class has a 65th row.
+    /// The group of the class alone has a 65th row.
     TooManyRows(ClassName),
-    /// At this line the delay is not greater than that of the class's row before.
+    /// This line is the 65th row of a group that names a route or an hour.
+    GroupRows(u64),
+    /// At this line the delay is not greater than that of the group's row before.
     NotRising(u64),
-    /// The weights of the class add up to this sum, and not to 10,000.
+    /// There are this many groups, more than 65,536.
+    TooManyClasses(u64),
+    /// The weights of the group of the class alone add up to this sum, and not to 10,000.
     WeightSum(ClassName, u32),
-    /// No row has the class `*`.
+    /// The weights of a group that names a route or an hour, and whose first line this is, add up to this sum, and not to
+    /// 10,000.
+    GroupSum(u64, u32),
+    /// No row has the class `*` with neither a route nor an hour.
     NoDefault,
     /// There was no memory.
     NoMemory,

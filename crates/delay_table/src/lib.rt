@@ -1,9 +1,12 @@
-//! How late a trip may arrive, by class: the outcomes of `*` and of each route type that a delay file names.
+//! How late a trip may arrive, by class: the outcomes of `*`, of each route type, of each route and at each hour that a delay
+//! file names.
 #![tactic(auto)]
 
 mod faults;
+mod groups;
 mod lines;
-mod slots;
+mod reading;
+mod sums;
 mod table;
 
 pub use faults::{ClassName, DelayFault};

@@ -1,55 +1,177 @@
-//! One row of a delay table.
-ghost use Rattle.std.specs.Prelude.{◌≡◌};
-ghost use Rattle.delay_table.specs.Delays.{class_number, class_name, line_of};
+//! One row of a delay file.
+ghost use Rattle.std.specs.Prelude.{◌≡◌, ◌<◌, ◌≤◌, option_map, IfSome};
+ghost use Rattle.csv_rows.specs.Spaces.{AreTrimmed};
+ghost use Rattle.csv_rows.specs.Tables.{row_count};
+ghost use Rattle.plan_model.specs.NameLists.{IsTrimmed};
+ghost use Rattle.clock_text.specs.Digits.{whole_of};
+ghost use Rattle.delay_table.specs.Delays.{class_in, hour_in, not_zero, route_in, class_name, lacks, line_of, line_at, missing_column};
+ghost use Rattle.delay_table.specs.Lines.{AreColumns};
 
-use crate::faults::ClassName;
+use crate::faults::{ClassName, DelayFault};
 use clock_text::read_whole;
+use csv_rows::{Column, Rows, read_name};
 use plan_model::Outcome;
 
-/// An outcome and the number of its class: 0 for `*`, and r + 1 for the route type r.
+/// An outcome, and the class, the route and the hour of its group. The class is a route type, and none for `*`.
 #[derive(Clone, Copy)]
-pub(crate) struct DelayLine {
-    pub(crate) class: u16,
+pub(crate) struct DelayLine<'a> {
+    pub(crate) class: Option<u16>,
+    pub(crate) route: Option<&'a str>,
+    pub(crate) hour: Option<u8>,
     pub(crate) outcome: Outcome,
 }
 
-/// The number of a class.
-fn read_class(text: &[u8]) -> Option<u16>
-    ensures { result ≡ class_number text.now }
-{
-    if text == b"*".as_slice() {
-        return Some(0);
-    }
-    let route = read_whole(text, 65_534)?;
-    Some(route as u16 + 1)
+/// The places of the columns.
+#[derive(Clone, Copy)]
+pub(crate) struct Columns {
+    pub(crate) class: Option<usize>,
+    pub(crate) delay: Option<usize>,
+    pub(crate) weight: Option<usize>,
+    pub(crate) route: Option<usize>,
+    pub(crate) hour: Option<usize>,
 }
 
-/// A class, a delay and a weight, where each is of its form.
-pub(crate) fn read_line(class: &[u8], delay: &[u8], weight: &[u8]) -> Option<DelayLine>
-    ensures { result ≡ line_of class.now delay.now weight.now }
+/// The places of the columns in this table.
+pub(crate) fn columns_of(rows: &Rows) -> Columns
+    ensures { AreColumns rows.now result }
 {
-    let class = read_class(class)?;
-    let delay = read_whole(delay, 86_400)?;
-    let weight = read_whole(weight, 10_000)?;
+    Columns {
+        class: rows.place_of(Column::Class),
+        delay: rows.place_of(Column::Delay),
+        weight: rows.place_of(Column::Weight),
+        route: rows.place_of(Column::RouteId),
+        hour: rows.place_of(Column::Hour),
+    }
+}
+
+/// The fault of a column that is not there.
+fn lacks(rows: &Rows, column: Column) -> Option<DelayFault>
+    ensures { result ≡ lacks rows.now column }
+{
+    if rows.place_of(column).is_none() {
+        return Some(DelayFault::MissingColumn(column));
+    }
+    None
+}
+
+/// The fault of the first required column that is not there.
+pub(crate) fn missing_column(rows: &Rows) -> Option<DelayFault>
+    ensures { result ≡ missing_column rows.now }
+{
+    if let Some(fault) = lacks(rows, Column::Class) {
+        return Some(fault);
+    }
+    if let Some(fault) = lacks(rows, Column::Delay) {
+        return Some(fault);
+    }
+    lacks(rows, Column::Weight)
+}
+
+/// A route type, and none for `*`.
+fn read_class(text: &[u8]) -> Option<Option<u16>>
+    ensures { result ≡ class_in text.now }
+{
+    if text == b"*".as_slice() {
+        return Some(None);
+    }
+    match read_whole(text, 65_534) {
+        None => None,
+        Some(route) => Some(Some(route as u16)),
+    }
+}
+
+/// A route, which a row of the class `*` alone may tell.
+fn read_route(class: Option<u16>, text: &[u8]) -> Option<Option<&str>>
+    ensures { option_map (option_map (λ s. s.now)) result ≡ route_in class text.now }
+{
+    if text.is_empty() {
+        return Some(None);
+    }
+    if class.is_some() {
+        return None;
+    }
+    match read_name(text) {
+        None => None,
+        Some(route) => Some(Some(route)),
+    }
+}
+
+/// An hour of the day, or nothing.
+fn read_hour(text: &[u8]) -> Option<Option<u8>>
+    ensures { result ≡ hour_in text.now }
+{
+    if text.is_empty() {
+        return Some(None);
+    }
+    match read_whole(text, 23) {
+        None => None,
+        Some(hour) => Some(Some(hour as u8)),
+    }
+}
+
+/// A weight, which is 1 or more.
+fn read_weight(text: &[u8]) -> Option<u16>
+    ensures { result ≡ not_zero (whole_of 10000 text.now) }
+{
+    let weight = read_whole(text, 10_000)?;
     if weight == 0 {
         return None;
     }
+    Some(weight as u16)
+}
+
+/// The row of these fields, where each is of its form.
+fn read_line<'a>(
+    class: &'a [u8],
+    delay: &'a [u8],
+    weight: &'a [u8],
+    route: &'a [u8],
+    hour: &'a [u8],
+) -> Option<DelayLine<'a>>
+    ensures { option_map (λ l. record {
+      group = record { class = l.class; route = option_map (λ s. s.now) l.route; hour = l.hour };
+      outcome = l.outcome;
+    }) result ≡ line_of class.now delay.now weight.now route.now hour.now }
+{
+    let class = read_class(class)?;
+    let delay = read_whole(delay, 86_400)?;
+    let weight = read_weight(weight)?;
+    let route = read_route(class, route)?;
+    let hour = read_hour(hour)?;
     Some(DelayLine {
         class,
-        outcome: Outcome {
-            delay,
-            weight: weight as u16,
-        },
+        route,
+        hour,
+        outcome: Outcome { delay, weight },
     })
 }
 
+/// The row at a place, where each of its fields is of its form.
+pub(crate) fn line_at<'a>(rows: &'a Rows, row: usize, columns: &Columns) -> Option<DelayLine<'a>>
+    requires row { row < row_count rows.now }
+    requires columns { AreColumns rows.now columns.now }
+    requires trimmed { AreTrimmed rows.now }
+    ensures line { option_map (λ l. record {
+      group = record { class = l.class; route = option_map (λ s. s.now) l.route; hour = l.hour };
+      outcome = l.outcome;
+    }) result ≡ line_at rows.now row }
+    ensures form { IfSome result (λ l. (l.outcome.delay ≤ 86400) × (1 ≤ l.outcome.weight)) }
+    ensures trimmed { IfSome result (λ l. IfSome l.route (λ s. IsTrimmed s.now)) }
+{
+    let class = rows.field_at(row, columns.class);
+    let delay = rows.field_at(row, columns.delay);
+    let weight = rows.field_at(row, columns.weight);
+    let route = rows.field_at(row, columns.route);
+    let hour = rows.field_at(row, columns.hour);
+    read_line(class, delay, weight, route, hour)
+}
+
 /// The name of a class.
-pub(crate) fn class_name(class: u16) -> ClassName
+pub(crate) fn class_name(class: Option<u16>) -> ClassName
     ensures { result ≡ class_name class }
 {
-    if class == 0 {
-        ClassName::Any
-    } else {
-        ClassName::Route(class - 1)
+    match class {
+        None => ClassName::Any,
+        Some(route) => ClassName::Route(route),
     }
 }

@@ -1,13 +1,18 @@
 //! The delays by class.
-ghost use Rattle.std.specs.Prelude.{◌≡◌, ◌≢◌, ℕ, ◌<◌, ◌≤◌, [], length, slice_index_or, sum_by, Some, None, All, Any, OnOk, IfOk, IfErr};
-ghost use Rattle.delay_table.specs.Delays.{sum_fault_of, class_fault, first_fault, delays_in, delays_of};
-ghost use Rattle.delay_table.specs.Slots.{slot, IsStart, IsClassOf, AreDelays};
+ghost use Rattle.std.specs.Prelude.{◌≡◌, ◌≢◌, ◌<◌, ◌≤◌, ◌++◌, [], length, map, slice_index_or, option_map, Some, None, All, Any, OnOk, IfOk, IfErr, IfSome};
+ghost use Rattle.delay_table.specs.DelayLists.{class_for, hour_of, other_class, route_class, type_class};
+ghost use Rattle.delay_table.specs.Delays.{class_type, delays_in, delays_of, first_fault, groups_fault, if_other, if_row, if_some, named, named_rows, others};
+ghost use Rattle.delay_table.specs.Groups.{group_in, place_of};
+ghost use Rattle.delay_table.specs.Read.{IsRead, line_at, rows_of};
+ghost use Rattle.delay_table.specs.Slots.{IsClassOf, AreDelays};
 
-use crate::faults::DelayFault;
-use crate::lines::class_name;
-use crate::slots::{CLASSES, read_slots};
-use csv_rows::{Column, Rows};
-use plan_model::{ClassId, List, NoMemory, Outcome};
+use crate::faults::{ClassName, DelayFault};
+use crate::groups::Groups;
+use crate::lines::{columns_of, missing_column};
+use crate::reading::{ReadRows, read_rows};
+use crate::sums::groups_fault;
+use csv_rows::Rows;
+use plan_model::{ClassId, List, Moment, NoMemory, Outcome};
 use std::alloc::Global;
 use std::marker::Model;
 
@@ -16,6 +21,7 @@ use std::marker::Model;
 #[derive(Drop)]
 pub struct DelayTable {
     types: List<u16>,
+    others: Groups,
     classes: List<List<Outcome>>,
 }
 
@@ -26,53 +32,9 @@ impl Model for DelayTable {
 
     ghost use Rattle.delay_table.specs.Slots.{AreDelays};
 
-    ghost view = { λ d. record { types = d.types; classes = d.classes } };
+    ghost view = { λ d. record { types = d.types; others = d.others; classes = d.classes } };
 
-    ghost invariant = { λ d. AreDelays (record { types = d.types; classes = d.classes }) };
-}
-
-/// The sum of the weights of a row.
-fn weight_sum(row: &[Outcome]) -> u32
-    requires { length row.now ≤ 64 }
-    ensures { result ≡ sum_by (λ o. o.weight) row.now }
-{
-    let mut sum = 0u32;
-    for outcome in row {
-        sum += u32::from(outcome.weight);
-    }
-    sum
-}
-
-/// The fault of a class.
-fn sum_fault(row: &[Outcome], class: u16) -> Option<DelayFault>
-    requires { length row.now ≤ 64 }
-    ensures { result ≡ sum_fault_of row.now class }
-{
-    if row.is_empty() {
-        return None;
-    }
-    let sum = weight_sum(row);
-    if sum == 10_000 {
-        return None;
-    }
-    Some(DelayFault::WeightSum(class_name(class), sum))
-}
-
-/// The first fault of the classes.
-fn class_fault(slots: &[List<Outcome>]) -> Option<DelayFault>
-    requires all { length slots.now ≡ 65536 }
-    requires starts { (c : ℕ) → IsStart (slot slots.now c) }
-    ensures { result ≡ class_fault (slot slots.now) }
-{
-    for c in 0..CLASSES {
-        if let Some(fault) = sum_fault(slots[c].as_slice(), c as u16) {
-            return Some(fault);
-        }
-    }
-    if slots[0].as_slice().is_empty() {
-        return Some(DelayFault::NoDefault);
-    }
-    None
+    ghost invariant = { λ d. AreDelays (record { types = d.types; others = d.others; classes = d.classes }) };
 }
 
 /// A copy of a row.
@@ -82,26 +44,127 @@ fn copied(alloc: Global, row: &[Outcome]) -> Result<List<Outcome>, NoMemory>
     Ok(List::from_vec(Vec::from_slice(alloc, row)?))
 }
 
+/// Adds a route type and its outcomes, where it has some.
+fn add_type(
+    alloc: Global,
+    row: &[Outcome],
+    route: u16,
+    types: &mut List<u16>,
+    classes: &mut List<List<Outcome>>,
+) -> Result<(), NoMemory>
+    ensures types { OnOk result (types.new ≡ types.old ++ if_some row.now route) }
+    ensures classes { OnOk result (classes.new ≡ classes.old ++ if_row row.now) }
+{
+    if !row.is_empty() {
+        types.push(route)?;
+        let copy = copied(alloc, row)?;
+        classes.push(copy)?;
+    }
+    Ok(())
+}
+
+/// Adds the route types that are named, and their outcomes.
+fn add_types(
+    alloc: Global,
+    read: &ReadRows,
+    types: &mut List<u16>,
+    classes: &mut List<List<Outcome>>,
+) -> Result<(), NoMemory>
+    requires { IsRead read.now.groups read.now.rows.items }
+    ensures types { OnOk result (types.new
+        ≡ types.old ++ named (rows_of read.now.groups read.now.rows.items) 65535) }
+    ensures classes { OnOk result (classes.new
+        ≡ classes.old ++ named_rows (rows_of read.now.groups read.now.rows.items) 65535) }
+{
+    for route in 0..65_535u16 {
+        add_type(alloc, read.class_rows(Some(route)), route, types, classes)?;
+    }
+    Ok(())
+}
+
+/// Adds a group and its outcomes, where it names a route or an hour.
+fn add_other(
+    alloc: Global,
+    read: &ReadRows,
+    place: usize,
+    groups: &mut Groups,
+    classes: &mut List<List<Outcome>>,
+) -> Result<(), NoMemory>
+    requires place { place < length read.now.groups }
+    requires read { IsRead read.now.groups read.now.rows.items }
+    requires new { place_of (group_in read.now.groups place) groups.old ≡ None }
+    ensures groups { OnOk result (groups.new ≡ groups.old
+        ++ if_other (group_in read.now.groups place) (group_in read.now.groups place)) }
+    ensures classes { OnOk result (classes.new ≡ classes.old
+        ++ if_other (group_in read.now.groups place)
+        (rows_of read.now.groups read.now.rows.items (group_in read.now.groups place))) }
+{
+    if !read.groups.is_plain(place) {
+        groups.add_from(alloc, &read.groups, place)?;
+        let copy = copied(alloc, read.group_rows(place))?;
+        classes.push(copy)?;
+    }
+    Ok(())
+}
+
+/// Adds the groups that name a route or an hour, and their outcomes.
+fn add_others(
+    alloc: Global,
+    read: &ReadRows,
+    groups: &mut Groups,
+    classes: &mut List<List<Outcome>>,
+) -> Result<(), NoMemory>
+    requires none { groups.old ≡ [] }
+    requires read { IsRead read.now.groups read.now.rows.items }
+    ensures groups { OnOk result (groups.new
+        ≡ others read.now.groups (length read.now.groups)) }
+    ensures classes { OnOk result (classes.new ≡ classes.old
+        ++ map (rows_of read.now.groups read.now.rows.items)
+        (others read.now.groups (length read.now.groups))) }
+{
+    for place in 0..read.groups.len() {
+        add_other(alloc, read, place, groups, classes)?;
+    }
+    Ok(())
+}
+
 /// The table of these outcomes.
-fn delays_in(alloc: Global, slots: &[List<Outcome>]) -> Result<DelayTable, NoMemory>
-    requires all { length slots.now ≡ 65536 }
-    requires starts { (c : ℕ) → IsStart (slot slots.now c) }
-    requires sound { class_fault (slot slots.now) ≡ None }
-    ensures { IfOk result (λ table. table ≡ delays_in (slot slots.now)) }
+fn delays_in(alloc: Global, read: &ReadRows) -> Result<DelayTable, NoMemory>
+    requires read { IsRead read.now.groups read.now.rows.items }
+    requires sound { groups_fault (rows_of read.now.groups read.now.rows.items)
+        read.now.groups (line_at read.now.rows.items) ≡ None }
+    ensures { IfOk result (λ table.
+        table ≡ delays_in (rows_of read.now.groups read.now.rows.items) read.now.groups) }
 {
     let mut types: List<u16> = List::new(alloc);
+    let mut others = Groups::new(alloc);
     let mut classes: List<List<Outcome>> = List::new(alloc);
-    let default = copied(alloc, slots[0].as_slice())?;
+    let default = copied(alloc, read.class_rows(None))?;
     classes.push(default)?;
-    for route in 0..65_535u16 {
-        let row = slots[route as usize + 1].as_slice();
-        if !row.is_empty() {
-            types.push(route)?;
-            let copy = copied(alloc, row)?;
-            classes.push(copy)?;
-        }
+    add_types(alloc, read, &mut types, &mut classes)?;
+    add_others(alloc, read, &mut others, &mut classes)?;
+    Ok(DelayTable {
+        types,
+        others,
+        classes,
+    })
+}
+
+/// The route type of a class, and none for `*`.
+fn class_type(class: ClassName) -> Option<u16>
+    ensures { result ≡ class_type class }
+{
+    match class {
+        ClassName::Any => None,
+        ClassName::Route(route) => Some(route),
     }
-    Ok(DelayTable { types, classes })
+}
+
+/// The hour of the day of a moment.
+fn hour_of(moment: Moment) -> u8
+    ensures { result ≡ hour_of moment.0 }
+{
+    (moment.0 / 3_600 % 24) as u8
 }
 
 impl DelayTable {
@@ -113,27 +176,18 @@ impl DelayTable {
         ensures none { OnOk result (first_fault rows.now ≡ None) }
         ensures fault { IfErr result (λ f. f ≢ DelayFault.NoMemory → first_fault rows.now ≡ Some f) }
     {
-        let Some(class) = rows.place_of(Column::Class) else {
-            return Err(DelayFault::MissingColumn(Column::Class));
-        };
-        let Some(delay) = rows.place_of(Column::Delay) else {
-            return Err(DelayFault::MissingColumn(Column::Delay));
-        };
-        let Some(weight) = rows.place_of(Column::Weight) else {
-            return Err(DelayFault::MissingColumn(Column::Weight));
-        };
-        match read_slots(alloc, rows, class, delay, weight) {
+        if let Some(fault) = missing_column(rows) {
+            return Err(fault);
+        }
+        match read_rows(alloc, rows, &columns_of(rows)) {
             Err(fault) => Err(fault),
-            Ok(slots) => {
-                let slots: &[List<Outcome>] = slots.as_slice();
-                match class_fault(slots) {
-                    Some(fault) => Err(fault),
-                    None => match delays_in(alloc, slots) {
-                        Ok(table) => Ok(table),
-                        Err(_) => Err(DelayFault::NoMemory),
-                    },
-                }
-            }
+            Ok(read) => match groups_fault(&read) {
+                Some(fault) => Err(fault),
+                None => match delays_in(alloc, &read) {
+                    Ok(table) => Ok(table),
+                    Err(_) => Err(DelayFault::NoMemory),
+                },
+            },
         }
     }
 
@@ -142,10 +196,90 @@ impl DelayTable {
     pub fn class_of(&self, route_type: u16) -> ClassId
         ensures class { IsClassOf self.now.types route_type result.0 }
         ensures in_range { result.0 < length self.now.classes }
+        ensures sound { AreDelays self.now }
     {
         match self.types.as_slice().binary_search(&route_type) {
             Ok(place) => ClassId(place as u16 + 1),
             Err(_) => ClassId(0),
+        }
+    }
+
+    /// The class of `*`.
+    fn default_class(&self) -> ClassId
+        ensures class { result.0 ≡ 0 }
+        ensures in_range { result.0 < length self.now.classes }
+    {
+        let _count = self.classes.len();
+        ClassId(0)
+    }
+
+    /// The class of a group that names a route or an hour, where it is there.
+    fn other_class(
+        &self,
+        class: Option<u16>,
+        route: Option<&str>,
+        hour: Option<u8>,
+    ) -> Option<ClassId>
+        ensures class { option_map (λ c. c.0) result ≡ other_class self.now (record {
+          class = class;
+          route = option_map (λ s. s.now) route.entry;
+          hour = hour;
+        }) }
+        ensures in_range { IfSome result (λ c. c.0 < length self.now.classes) }
+    {
+        let place = self.others.place(class, route, hour)?;
+        Some(ClassId((self.types.len() + 1 + place) as u16))
+    }
+
+    /// The class of a route, where it is told and there.
+    fn route_class(&self, route: Option<&str>, hour: Option<u8>) -> Option<ClassId>
+        ensures class { option_map (λ c. c.0) result
+            ≡ route_class self.now (option_map (λ s. s.now) route.entry) hour }
+        ensures in_range { IfSome result (λ c. c.0 < length self.now.classes) }
+    {
+        if route.is_none() {
+            return None;
+        }
+        self.other_class(None, route, hour)
+    }
+
+    /// The class of `*`, or of a route type where it is named.
+    fn type_class(&self, class: Option<u16>) -> Option<ClassId>
+        ensures class { option_map (λ c. c.0) result ≡ type_class self.now class }
+        ensures in_range { IfSome result (λ c. c.0 < length self.now.classes) }
+    {
+        let Some(route) = class else {
+            return Some(self.default_class());
+        };
+        let class = self.class_of(route);
+        if class.0 == 0 { None } else { Some(class) }
+    }
+
+    /// The class of a connection, by its class, its route where it has one, and its arrival: that of the first group that is
+    /// there among those of this route and hour, of this route, of this class and hour, of this class, of `*` and this hour,
+    /// and of `*`. The hour is the civil hour of the arrival.
+    pub fn class_for(&self, class: ClassName, route: Option<&str>, arrival: Moment) -> ClassId
+        ensures class { result.0 ≡ class_for self.now (class_type class)
+            (option_map (λ s. s.now) route.entry) arrival.0 }
+        ensures in_range { result.0 < length self.now.classes }
+    {
+        let class = class_type(class);
+        let hour = Some(hour_of(arrival));
+        if let Some(found) = self.route_class(route, hour) {
+            return found;
+        }
+        if let Some(found) = self.route_class(route, None) {
+            return found;
+        }
+        if let Some(found) = self.other_class(class, None, hour) {
+            return found;
+        }
+        if let Some(found) = self.type_class(class) {
+            return found;
+        }
+        match self.other_class(None, None, hour) {
+            Some(found) => found,
+            None => self.default_class(),
         }
     }
 

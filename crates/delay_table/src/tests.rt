@@ -1,6 +1,6 @@
 use super::*;
 use csv_rows::{Column, Rows};
-use plan_model::ClassId;
+use plan_model::{ClassId, Moment};
 use std::alloc::Global;
 use std::test::Fail;
 
@@ -28,6 +28,47 @@ fn reads_classes(rt: HostRuntime) -> Result<(), Fail> {
     assert_eq!(rt; classes.len(), 3);
     assert_eq!(rt; classes.as_slice()[2].as_slice().len(), 2);
     assert_eq!(rt; classes.as_slice()[2].as_slice()[1].delay, 120);
+    Ok(())
+}
+
+/// The class of a group, by the delays that its rows tell.
+fn delays_at(table: &DelayTable, class: ClassName, route: Option<&str>, arrival: u64) -> u32 {
+    let class = table.class_for(class, route, Moment(arrival));
+    table.greatest(class)
+}
+
+#[test]
+fn finds_groups_by_route_and_hour(rt: HostRuntime) -> Result<(), Fail> {
+    let text =
+        b"hour,class,delay,weight,route_id\n,*,1,10000,\n,3,2,10000,\n9,*,3,10000,\n9,3,4,10000,\n,*,5,10000,T1\n9,*,6,10000,T1\n";
+    let Ok(table) = read(rt.alloc(), text) else {
+        return Err("no table".into());
+    };
+    let nine = 9 * 3_600;
+    let day = 86_400;
+    for (class, route, arrival, delay) in [
+        (ClassName::Route(3), Some("T1"), nine, 6),
+        (ClassName::Route(3), Some("T1"), nine + day, 6),
+        (ClassName::Route(3), Some("T1"), nine - 1, 5),
+        (ClassName::Route(3), Some("T2"), nine + 3_599, 4),
+        (ClassName::Route(3), Some("T2"), nine + 3_600, 2),
+        (ClassName::Route(3), None, nine, 4),
+        (ClassName::Route(0), None, nine, 3),
+        (ClassName::Route(0), None, day, 1),
+        (ClassName::Any, Some("T2"), nine, 3),
+        (ClassName::Any, None, 0, 1),
+    ] {
+        assert_eq!(rt;
+            delays_at(&table, class, route, arrival),
+            delay,
+            "{class:?} {arrival}"
+        );
+    }
+    assert_eq!(rt; table.class_of(3), ClassId(1));
+    assert_eq!(rt;
+        table.class_for(ClassName::Any, None, Moment(nine)),
+        ClassId(2)
+    );
     Ok(())
 }
 
@@ -60,6 +101,30 @@ fn first_fault(rt: HostRuntime) {
             DelayFault::WeightSum(ClassName::Route(2), 1),
         ),
         ("class,delay,weight\n3,0,10000\n", DelayFault::NoDefault),
+        (
+            "class,delay,weight,hour\n*,0,10000,3\n",
+            DelayFault::NoDefault,
+        ),
+        (
+            "class,delay,weight,hour\n*,0,8000,\n*,300,1500,\n*,900,500,\n*,0,9000,9\n",
+            DelayFault::GroupSum(5, 9000),
+        ),
+        (
+            "class,delay,weight,route_id\n*,0,8000,\n*,300,1500,\n*,900,500,\n3,0,10000,T1\n",
+            DelayFault::BadField(5),
+        ),
+        (
+            "class,delay,weight,hour\n*,0,10000,24\n",
+            DelayFault::BadField(2),
+        ),
+        (
+            "class,delay,weight,hour\n*,5,1,\n*,0,1,9\n*,7,1,\n*,0,1,9\n",
+            DelayFault::NotRising(5),
+        ),
+        (
+            "class,delay,weight,hour\n*,0,1,9\n3,0,1,\n",
+            DelayFault::WeightSum(ClassName::Route(3), 1),
+        ),
     ] {
         assert_eq!(rt;
             read(rt.alloc(), text.as_bytes()).err(),

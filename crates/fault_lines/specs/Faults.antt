@@ -1,5 +1,5 @@
 -- The faults of a run: the number that a process ends with, and the file that a fault is of.
-use Rattle.std.specs.Prelude.{◌≡◌, ◌≢◌, ℕ, ◌==◌, Bool, true, false, List, Option, None, Some, codes}
+use Rattle.std.specs.Prelude.{◌≡◌, ◌≢◌, ℕ, ◌==◌, Bool, true, false, List, Option, None, Some, IfSome, codes}
 use Rattle.csv_rows.specs.FeedTables.{file_name, rank_of}
 use Rattle.fault_lines.specs.declared.faults.Input.{Input}
 use Rattle.fault_lines.specs.declared.faults.Input.TheVariants as input
@@ -79,19 +79,7 @@ is_unread (Some other) input = is_input other input
 
 -- where the fault is that a file cannot be read, it is this file
 abbrev pub MayBeUnread : Input → Fault → Type 0
-MayBeUnread input (Words fault) = Unit {0}
-MayBeUnread input (Feed fault) = Unit {0}
-MayBeUnread input (Cut fault) = Unit {0}
-MayBeUnread input (Missing file) = Unit {0}
-MayBeUnread input (Delays fault) = Unit {0}
-MayBeUnread input (UnknownStop which) = Unit {0}
-MayBeUnread input (Limit kind count) = Unit {0}
-MayBeUnread input (Read other) = other ≡ input
-MayBeUnread input NoSafe = Unit {0}
-MayBeUnread input (GraphFile fault) = Unit {0}
-MayBeUnread input (Replay fault) = Unit {0}
-MayBeUnread input Write = Unit {0}
-MayBeUnread input NoMemory = Unit {0}
+MayBeUnread input fault = IfSome (unread_of fault) (λ other. other ≡ input)
 
 -- no file failed to be read, and the answer was written
 abbrev pub IsUndisturbed : Option Fault → Type 0

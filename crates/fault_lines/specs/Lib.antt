@@ -1,3 +1,4 @@
 pub mod Faults
 pub mod Stages
+pub mod Sites
 pub mod Lines

@@ -1,6 +1,5 @@
 -- The lines that tell the faults.
-use Rattle.std.specs.Prelude.{ℕ, List, ◌++◌, codes, decimal}
-use Rattle.clock_text.specs.Civil.{moment_text}
+use Rattle.std.specs.Prelude.{ℕ, List, ◌++◌, Option, codes, decimal}
 use Rattle.csv_rows.specs.Columns.{name_of}
 use Rattle.csv_rows.specs.FeedTables.{file_name}
 use Rattle.csv_rows.specs.declared.feed_tables.FeedFault.{FeedFault}
@@ -14,18 +13,17 @@ use Rattle.delay_table.specs.declared.faults.ClassName.{ClassName}
 use Rattle.delay_table.specs.declared.faults.ClassName.TheVariants.{Any, Route}
 use Rattle.delay_table.specs.declared.faults.DelayFault.{DelayFault}
 use Rattle.delay_table.specs.declared.faults.DelayFault.TheVariants as delay
-use Rattle.plan_model.specs.NameLists.{NameLists}
 use Rattle.graph_text.specs.declared.reader.TextFault.{TextFault}
 use Rattle.graph_text.specs.declared.reader.TextFault.TheVariants as text
-use Rattle.graph_text.specs.Texts.{place_name}
 use Rattle.trip_replay.specs.declared.ReplayFault.{ReplayFault}
 use Rattle.trip_replay.specs.declared.ReplayFault.TheVariants as replay
 use Rattle.fault_lines.specs.declared.faults.Which.TheVariants as which
 use Rattle.fault_lines.specs.declared.faults.LimitKind.{LimitKind}
-use Rattle.fault_lines.specs.declared.faults.LimitKind.TheVariants.{Bytes, Rows, CutRows, Connections}
+use Rattle.fault_lines.specs.declared.faults.LimitKind.TheVariants.{Bytes, Rows, CutRows, Connections, Entries}
 use Rattle.fault_lines.specs.declared.faults.Fault.{Fault}
 use Rattle.fault_lines.specs.declared.faults.Fault.TheVariants.{Words, Feed, Cut, Missing, Delays, UnknownStop, Limit, Read, NoSafe, GraphFile, Replay, Write, NoMemory}
 use Rattle.fault_lines.specs.Faults.{input_name}
+use Rattle.fault_lines.specs.Sites.{NamedParts, site_of, site_text_in}
 
 abbrev pub words_text : WordsFault → List ℕ
 words_text words.Line = codes "words refused"
@@ -64,8 +62,11 @@ abbrev pub delay_text : DelayFault → List ℕ
 delay_text (delay.MissingColumn column) = codes "delay file has no column " ++ name_of column
 delay_text (delay.BadField line) = codes "delay file line " ++ decimal line ++ codes ": bad field"
 delay_text (delay.TooManyRows class) = codes "delay class " ++ class_text class ++ codes " has more than 64 rows"
+delay_text (delay.GroupRows line) = codes "delay file line " ++ decimal line ++ codes ": group has more than 64 rows"
 delay_text (delay.NotRising line) = codes "delay file line " ++ decimal line ++ codes ": delay does not rise"
+delay_text (delay.TooManyClasses count) = codes "too many delay classes: " ++ decimal count
 delay_text (delay.WeightSum class sum) = codes "delay class " ++ class_text class ++ codes " weights sum to " ++ decimal sum
+delay_text (delay.GroupSum line sum) = codes "delay file line " ++ (decimal line ++ (codes ": group weights sum to " ++ decimal sum))
 delay_text delay.NoDefault = codes "delay class * is missing"
 delay_text delay.NoMemory = codes "out of memory"
 
@@ -77,7 +78,6 @@ graph_text (text.NoLeg line) = codes "graph file line " ++ (decimal line ++ code
 graph_text (text.OtherQuery line) = codes "graph file line " ++ (decimal line ++ codes ": other query")
 graph_text text.NoMemory = codes "out of memory"
 
--- but for the place and the moment where a trip is stuck
 abbrev pub replay_text : ReplayFault → List ℕ
 replay_text (replay.NotADelay number) = codes "late " ++ (decimal number ++ codes " is not a delay")
 replay_text (replay.TooFew ridden) = codes "too few delays: " ++ (decimal ridden ++ codes " ridden")
@@ -90,8 +90,9 @@ limit_text (Bytes input) count = input_name input ++ codes " is too long"
 limit_text (Rows table) count = file_name table ++ (codes " has too many rows: " ++ decimal count)
 limit_text CutRows count = codes "cut file has too many rows: " ++ decimal count
 limit_text Connections count = codes "too many connections: " ++ decimal count
+limit_text Entries count = codes "too many entries: " ++ decimal count
 
--- what is told of a fault, but for the place and the moment where a trip is stuck
+-- what is told of a fault, but for where in the timetable it is
 abbrev pub plain_text : Fault → List ℕ
 plain_text (Words fault) = words_text fault
 plain_text (Feed fault) = feed_text fault
@@ -108,33 +109,9 @@ plain_text (Replay fault) = replay_text fault
 plain_text Write = codes "cannot write"
 plain_text NoMemory = codes "out of memory"
 
--- what is told of a fault of a replay, where these are the names of the timetable
-abbrev pub named_replay_text : NameLists → ReplayFault → List ℕ
-named_replay_text names (replay.NotADelay number) = replay_text (replay.NotADelay number)
-named_replay_text names (replay.TooFew ridden) = replay_text (replay.TooFew ridden)
-named_replay_text names (replay.TooMany ridden) = replay_text (replay.TooMany ridden)
-named_replay_text names (replay.Stuck place moment) = codes "stuck at " ++ (place_name names place.0 ++ (codes " at " ++ moment_text moment.0))
-named_replay_text names replay.NoMemory = replay_text replay.NoMemory
-
--- what is told of a fault, where these are the names of the timetable
-abbrev pub fault_text : NameLists → Fault → List ℕ
-fault_text names (Words fault) = plain_text (Words fault)
-fault_text names (Feed fault) = plain_text (Feed fault)
-fault_text names (Cut fault) = plain_text (Cut fault)
-fault_text names (Missing input) = plain_text (Missing input)
-fault_text names (Delays fault) = plain_text (Delays fault)
-fault_text names (UnknownStop which) = plain_text (UnknownStop which)
-fault_text names (Limit kind count) = plain_text (Limit kind count)
-fault_text names (Read input) = plain_text (Read input)
-fault_text names NoSafe = plain_text NoSafe
-fault_text names (GraphFile fault) = plain_text (GraphFile fault)
-fault_text names (Replay fault) = named_replay_text names fault
-fault_text names Write = plain_text Write
-fault_text names NoMemory = plain_text NoMemory
-
--- the line of a fault
-abbrev pub line_of : NameLists → Fault → List ℕ
-line_of names fault = codes "meat: " ++ (fault_text names fault ++ codes "\n")
+-- the line of a fault, by the timetable that is known: what the fault is, and where in the timetable
+abbrev pub line_of : Option NamedParts → Fault → List ℕ
+line_of known fault = codes "meat: " ++ (plain_text fault ++ (site_text_in known (site_of fault) ++ codes "\n"))
 
 -- its line is made where it is told
 abbrev pub IsFormatted : Fault → Type 0
@@ -151,26 +128,3 @@ IsFormatted (GraphFile fault) = Unit {0}
 IsFormatted (Replay fault) = Unit {0}
 IsFormatted Write = ⊥
 IsFormatted NoMemory = ⊥
-
--- its line names no place
-abbrev pub IsNamelessReplay : ReplayFault → Type 0
-IsNamelessReplay (replay.NotADelay number) = Unit {0}
-IsNamelessReplay (replay.TooFew ridden) = Unit {0}
-IsNamelessReplay (replay.TooMany ridden) = Unit {0}
-IsNamelessReplay (replay.Stuck place moment) = ⊥
-IsNamelessReplay replay.NoMemory = Unit {0}
-
-abbrev pub IsNameless : Fault → Type 0
-IsNameless (Words fault) = Unit {0}
-IsNameless (Feed fault) = Unit {0}
-IsNameless (Cut fault) = Unit {0}
-IsNameless (Missing input) = Unit {0}
-IsNameless (Delays fault) = Unit {0}
-IsNameless (UnknownStop which) = Unit {0}
-IsNameless (Limit kind count) = Unit {0}
-IsNameless (Read input) = Unit {0}
-IsNameless NoSafe = Unit {0}
-IsNameless (GraphFile fault) = Unit {0}
-IsNameless (Replay fault) = IsNamelessReplay fault
-IsNameless Write = Unit {0}
-IsNameless NoMemory = Unit {0}

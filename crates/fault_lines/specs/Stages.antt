@@ -11,7 +11,7 @@ use Rattle.graph_text.specs.declared.reader.TextFault.TheVariants as text
 use Rattle.fault_lines.specs.declared.faults.Input.{Input}
 use Rattle.fault_lines.specs.declared.faults.Input.TheVariants as input
 use Rattle.fault_lines.specs.declared.faults.LimitKind.{LimitKind}
-use Rattle.fault_lines.specs.declared.faults.LimitKind.TheVariants.{Bytes, Rows, CutRows, Connections}
+use Rattle.fault_lines.specs.declared.faults.LimitKind.TheVariants.{Bytes, Rows, CutRows, Connections, Entries}
 use Rattle.fault_lines.specs.declared.faults.Fault.{Fault}
 use Rattle.fault_lines.specs.declared.faults.Fault.TheVariants.{Words, Feed, Cut, Missing, Delays, UnknownStop, Limit, Read, NoSafe, GraphFile, Replay, Write, NoMemory}
 
@@ -41,6 +41,7 @@ stage_of_limit (Bytes input) = stage_of_input input
 stage_of_limit (Rows table) = AtTimetable
 stage_of_limit CutRows = AtTimetable
 stage_of_limit Connections = AtWindow
+stage_of_limit Entries = AtWindow
 
 -- the stage that a fault comes from
 abbrev pub stage_of : Fault → Stage
@@ -100,8 +101,11 @@ abbrev pub IsOfDelayText : DelayFault → Type 0
 IsOfDelayText (delay.MissingColumn column) = Unit {0}
 IsOfDelayText (delay.BadField line) = Unit {0}
 IsOfDelayText (delay.TooManyRows class) = Unit {0}
+IsOfDelayText (delay.GroupRows line) = Unit {0}
 IsOfDelayText (delay.NotRising line) = Unit {0}
+IsOfDelayText (delay.TooManyClasses count) = Unit {0}
 IsOfDelayText (delay.WeightSum class sum) = Unit {0}
+IsOfDelayText (delay.GroupSum line sum) = Unit {0}
 IsOfDelayText delay.NoDefault = Unit {0}
 IsOfDelayText delay.NoMemory = ⊥
 
@@ -130,6 +134,6 @@ IsOfText (Replay fault) = Unit {0}
 IsOfText Write = Unit {0}
 IsOfText NoMemory = Unit {0}
 
--- it is about the graph file
-abbrev pub IsOfGraph : Fault → Type 0
-IsOfGraph fault = (stage_of fault ≡ AtGraphFile) × IsOfText fault
+-- it is told of an input: that it cannot be read, is missing or too long, or of what it holds
+abbrev pub IsOfInput : Input → Fault → Type 0
+IsOfInput input fault = (stage_of fault ≡ stage_of_input input) × IsOfText fault

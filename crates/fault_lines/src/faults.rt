@@ -1,12 +1,14 @@
 //! Why a run gives no answer.
 ghost use Rattle.std.specs.Prelude.{◌≡◌, Some};
 ghost use Rattle.fault_lines.specs.Faults.{status_of, missing_status, input_name};
+ghost use Rattle.fault_lines.specs.Sites.{site_of, site_of_replay};
 
 use command_line::WordsFault;
 use csv_rows::{FeedFault, Table};
 use cut_file::CutFault;
 use delay_table::DelayFault;
 use graph_text::TextFault;
+use plan_model::{Moment, NoMemory, PlaceId};
 use trip_replay::ReplayFault;
 
 /// A file that a command reads.
@@ -42,6 +44,8 @@ pub enum LimitKind {
     CutRows,
     /// Connections of the window.
     Connections,
+    /// Pairs of a connection of the window and a way into the place that it leaves.
+    Entries,
 }
 
 /// Why a run gives no answer.
@@ -75,6 +79,13 @@ pub enum Fault {
     NoMemory,
 }
 
+/// Where in a timetable a fault is.
+#[derive(Clone, Copy, Debug, PartialEq, Eq)]
+pub enum Site {
+    /// At a place, since a moment.
+    Arrival(PlaceId, Moment),
+}
+
 impl Input {
     /// What a line calls the file.
     pub fn name(self) -> &'static str
@@ -100,6 +111,17 @@ impl Input {
     }
 }
 
+impl From<NoMemory> for Fault {
+    ghost use Rattle.std.specs.Prelude.{◌≡◌};
+    ghost use Rattle.fault_lines.specs.declared.faults.Fault.TheVariants.{NoMemory as NoMemoryFault};
+
+    ghost from_gives = { λ _ fault. fault ≡ NoMemoryFault };
+
+    fn from(_: NoMemory) -> Self {
+        Fault::NoMemory
+    }
+}
+
 impl Fault {
     /// The number that a process ends with.
     pub fn status(self) -> u8
@@ -119,5 +141,38 @@ impl Fault {
             Fault::GraphFile(_) => 10,
             Fault::Replay(_) => 11,
         }
+    }
+    /// Where in its timetable the fault is, for one that is at a place.
+    pub fn site(self) -> Option<Site>
+        ensures { result ≡ site_of self }
+    {
+        match self {
+            Fault::Replay(fault) => site_of_replay(fault),
+            Fault::NoSafe
+            | Fault::Words(_)
+            | Fault::Feed(_)
+            | Fault::Cut(_)
+            | Fault::Missing(_)
+            | Fault::Delays(_)
+            | Fault::UnknownStop(_)
+            | Fault::Limit(_, _)
+            | Fault::Read(_)
+            | Fault::Write
+            | Fault::NoMemory
+            | Fault::GraphFile(_) => None,
+        }
+    }
+}
+
+/// Where a trip is stuck.
+fn site_of_replay(fault: ReplayFault) -> Option<Site>
+    ensures { result ≡ site_of_replay fault }
+{
+    match fault {
+        ReplayFault::Stuck(place, moment) => Some(Site::Arrival(place, moment)),
+        ReplayFault::NotADelay(_)
+        | ReplayFault::TooFew(_)
+        | ReplayFault::TooMany(_)
+        | ReplayFault::NoMemory => None,
     }
 }

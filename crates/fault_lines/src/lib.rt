@@ -3,9 +3,11 @@
 
 mod faults;
 mod lines;
+mod told;
 
-pub use faults::{Fault, Input, LimitKind, Which};
-pub use lines::{FaultText, known_line};
+pub use faults::{Fault, Input, LimitKind, Site, Which};
+pub use lines::known_line;
+pub use told::{NamedNetwork, fault_line};
 
 #[cfg(test)]
 mod tests;

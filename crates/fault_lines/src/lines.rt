@@ -1,6 +1,6 @@
 //! The lines that tell the faults.
-ghost use Rattle.std.specs.Prelude.{◌≡◌, Some, IfSome, IfNone};
-ghost use Rattle.plan_model.specs.NameLists.{NameLists};
+ghost use Rattle.std.specs.Prelude.{◌≡◌, Option as Optional, Some, IfSome, IfNone};
+ghost use Rattle.fault_lines.specs.Sites.{NamedParts};
 ghost use Rattle.fault_lines.specs.Lines.{line_of, IsFormatted};
 
 use crate::faults::{Fault, Input, LimitKind, Which};
@@ -161,12 +161,19 @@ impl fmt::Display for DelayText {
                 let class = ClassText(class);
                 write!(f, "delay class {class} has more than 64 rows")
             }
+            DelayFault::GroupRows(line) => {
+                write!(f, "delay file line {line}: group has more than 64 rows")
+            }
             DelayFault::NotRising(line) => {
                 write!(f, "delay file line {line}: delay does not rise")
             }
+            DelayFault::TooManyClasses(count) => { write!(f, "too many delay classes: {count}") }
             DelayFault::WeightSum(class, sum) => {
                 let class = ClassText(class);
                 write!(f, "delay class {class} weights sum to {sum}")
+            }
+            DelayFault::GroupSum(line, sum) => {
+                write!(f, "delay file line {line}: group weights sum to {sum}")
             }
             DelayFault::NoDefault => write!(f, "delay class * is missing"),
             DelayFault::NoMemory => write!(f, "out of memory"),
@@ -195,7 +202,7 @@ impl fmt::Display for GraphText {
     }
 }
 
-/// The text of a fault of a replay, but for the place and the moment where a trip is stuck.
+/// The text of a fault of a replay, but for where in the timetable it is.
 #[derive(Clone, Copy)]
 struct ReplayText(ReplayFault);
 
@@ -237,13 +244,14 @@ impl fmt::Display for LimitText {
             }
             LimitKind::CutRows => write!(f, "cut file has too many rows: {count}"),
             LimitKind::Connections => write!(f, "too many connections: {count}"),
+            LimitKind::Entries => write!(f, "too many entries: {count}"),
         }
     }
 }
 
-/// The text of a fault, but for the place and the moment where a trip is stuck.
+/// The text of a fault, but for where in the timetable it is.
 #[derive(Clone, Copy)]
-pub struct FaultText(pub Fault);
+pub(crate) struct FaultText(pub(crate) Fault);
 
 impl fmt::Display for FaultText {
     ghost use Rattle.fault_lines.specs.Lines.{plain_text};
@@ -299,7 +307,7 @@ impl fmt::Display for FaultText {
 
 /// The line of an input that cannot be read, which must be told where there is no memory.
 fn unread_line(input: Input) -> &'static str
-    ensures { (names : NameLists) → result.now ≡ line_of names (Fault.Read input) }
+    ensures { (known : Optional NamedParts) → result.now ≡ line_of known (Fault.Read input) }
 {
     match input {
         Input::Feed(Table::Stops) => "meat: cannot read stops.txt\n",
@@ -318,7 +326,7 @@ fn unread_line(input: Input) -> &'static str
 
 /// The lines that must be told where there is no memory.
 pub fn known_line(fault: Fault) -> Option<&'static str>
-    ensures line { IfSome result (λ line. (names : NameLists) → line.now ≡ line_of names fault) }
+    ensures line { IfSome result (λ line. (known : Optional NamedParts) → line.now ≡ line_of known fault) }
     ensures known { IfNone result (IsFormatted fault) }
 {
     match fault {

@@ -4,6 +4,7 @@ use command_line::WordsFault;
 use csv_rows::{FeedFault, Table};
 use std::test::Fail;
 
+/// A line of each kind that is at no place of a timetable.
 #[test]
 fn tells_faults_by_status_and_line(rt: HostRuntime) -> Result<(), Fail> {
     for (fault, status, line) in [
@@ -21,11 +22,16 @@ fn tells_faults_by_status_and_line(rt: HostRuntime) -> Result<(), Fail> {
             6,
             "too many connections: 12",
         ),
+        (
+            Fault::Limit(LimitKind::Entries, 4),
+            6,
+            "too many entries: 4",
+        ),
         (Fault::Read(Input::Graph), 7, "cannot read graph file"),
     ] {
-        let text = FaultText(fault);
-        let told = format!(in rt.alloc(); "{text}")?;
-        assert_eq!(rt; told.as_str(), line);
+        let told = fault_line(rt.alloc(), fault, None)?;
+        let wanted = format!(in rt.alloc(); "meat: {line}\n")?;
+        assert_eq!(rt; told.as_slice(), wanted.as_bytes());
         assert_eq!(rt; fault.status(), status);
     }
     Ok(())

@@ -27,12 +27,14 @@ use Rattle.plan_graph.specs.Tidy.{IsFit, IsFitRow, IsFitTable}
 use Rattle.graph_text.specs.declared.Head.{Head}
 use Rattle.graph_text.specs.declared.reader.TextFault.{TextFault}
 use Rattle.graph_text.specs.declared.reader.TextFault.TheVariants as fault
+use Rattle.graph_text.specs.declared.version.Version.{Version}
 use Rattle.graph_text.specs.declared.reader.LegRow.{LegRow}
+use Rattle.graph_text.specs.declared.reader.LegNames.{LegNames}
 use Rattle.graph_text.specs.declared.reader.PlaceRow.{PlaceRow}
 use Rattle.graph_text.specs.declared.reader.HeadRow.{HeadRow}
 use Rattle.graph_text.specs.declared.reader.TableStart.{TableStart}
 use Rattle.graph_text.specs.declared.reader.Reading.{Reading}
-use Rattle.graph_text.specs.Reading.{connection_of, leg_between, leg_found, agrees, leg_of, number_of, is_limit, rises, can_start, is_by_limit, start_by, start_named, start_numbers, start_in, row_by_leg, row_named, row_numbers, row_in, leg_row_in, field, table_named, table_numbers, table_in, place_row_in, begun, extended, place_or_first, step, and_then, tables_from, no_tables, started_in, graph_in, are_in_order, is_query, is_head, head_numbers, head_row_in, head_named, head_of_numbers, head_in, graph_of_records}
+use Rattle.graph_text.specs.Reading.{connection_of, names_in, leg_between, leg_found, agrees, leg_of, number_of, is_limit, rises, can_start, is_by_limit, start_by, start_named, start_numbers, start_in, row_by_leg, row_named, row_numbers, row_in, leg_row_in, field, table_named, table_numbers, table_in, place_row_in, begun, extended, place_or_first, step, and_then, tables_from, no_tables, started_in, graph_in, are_in_order, is_query, is_head, head_numbers, head_row_in, head_named, head_of_numbers, head_in, version_in, graph_of_version, graph_of_records}
 use Rattle.graph_text.specs.Asked.{IsAsked}
 use Rattle.graph_text.proofs.Found.{at_both}
 
@@ -72,14 +74,14 @@ connection_holds n run step i is =
       ap (step_of n) (sym same) ∙ ap (λ (c : Connection). c.step) (sym (connection_is n found.0)) ∙ both.1,
     )
 
-leg_if : (n : Parts) (x : LegRow) (run place i j : ℕ) (test : Bool) (leg : Leg) → agrees n i j x place ≡ test → connection_of n run x.enter ≡ Some i → connection_of n run x.exit ≡ Some j → (if test then Some (leg_of i j) else None) ≡ Some leg → IsLegOf n leg
-leg_if n x run place i j false leg is enter exit found = absurd (cc)
-leg_if n x run place i j true leg is enter exit found =
+leg_if : (n : Parts) (x : LegRow) (known : LegNames) (i j : ℕ) (test : Bool) (leg : Leg) → agrees n i j x known ≡ test → connection_of n known.run.0 x.enter ≡ Some i → connection_of n known.run.0 x.exit ≡ Some j → (if test then Some (leg_of i j) else None) ≡ Some leg → IsLegOf n leg
+leg_if n x known i j false leg is enter exit found = absurd (cc)
+leg_if n x known i j true leg is enter exit found =
     let first = and_true (nat_le x.enter x.exit) _ is in
     let second = and_true (connection n i).can_board _ first.1 in
     let third = and_true (connection n j).can_exit _ second.1 in
-    let a = connection_holds n run x.enter i enter in
-    let b = connection_holds n run x.exit j exit in
+    let a = connection_holds n known.run.0 x.enter i enter in
+    let b = connection_holds n known.run.0 x.exit j exit in
     let one : leg_of i j ≡ leg = (cc) in
     subst (λ (l : Leg). IsLegOf n l) one (record {
       enter = a.0;
@@ -90,18 +92,14 @@ leg_if n x run place i j true leg is enter exit found =
       leave = third.0;
     })
 
-leg_by : (n : Parts) (x : LegRow) (run place : ℕ) (enter exit : Option ℕ) (leg : Leg) → connection_of n run x.enter ≡ enter → connection_of n run x.exit ≡ exit → leg_between n x place enter exit ≡ Some leg → IsLegOf n leg
-leg_by n x run place (Some i) (Some j) leg enter exit is = leg_if n x run place i j (agrees n i j x place) leg refl enter exit is
-leg_by n x run place (Some i) None leg enter exit is = absurd (cc)
-leg_by n x run place None exit leg enter e is = absurd (none_found exit is)
-  where
-    none_found : (exit : Option ℕ) → leg_between n x place None exit ≡ Some leg → ⊥
-    none_found None is = cc is
-    none_found (Some j) is = cc is
+leg_by : (n : Parts) (x : LegRow) (known : LegNames) (enter exit : Option ℕ) (leg : Leg) → connection_of n known.run.0 x.enter ≡ enter → connection_of n known.run.0 x.exit ≡ exit → leg_between n x known enter exit ≡ Some leg → IsLegOf n leg
+leg_by n x known (Some i) (Some j) leg enter exit is = leg_if n x known i j (agrees n i j x known) leg refl enter exit is
+leg_by n x known (Some i) None leg enter exit is = absurd (cc)
+leg_by n x known None exit leg enter e is = absurd (cc)
 
 -- a leg that is found is one
-pub leg_found_is : (n : Parts) (x : LegRow) (run place : ℕ) (leg : Leg) → leg_found n x run place ≡ Some leg → IsLegOf n leg
-leg_found_is n x run place leg is = leg_by n x run place (connection_of n run x.enter) (connection_of n run x.exit) leg refl refl is
+pub leg_found_is : (n : Parts) (x : LegRow) (known : LegNames) (leg : Leg) → leg_found n x known ≡ Some leg → IsLegOf n leg
+leg_found_is n x known leg is = leg_by n x known (connection_of n known.run.0 x.enter) (connection_of n known.run.0 x.exit) leg refl refl is
 
 -- a list with one element more
 all_push : {X : Type 0} (P : X → Type 0) (xs : List X) (x : X) → All P xs → P x → All P (xs ++ x ∷ [])
@@ -126,8 +124,7 @@ row_if : (n : Parts) (line place : ℕ) (x : LegRow) (leg : Leg) (row : GraphRow
     → ◌≡◌ {A = Result GraphRow TextFault} (if test then Ok (record { by = x.moment; leg = leg }) else Err (fault.NoLeg line)) (Ok row) → IsFitRow n place row × (x.moment ≡ row.by)
 row_if n line place x leg row false is is_leg found = absurd (cc)
 row_if n line place x leg row true is is_leg found =
-    let both = and_true (from_of n leg.enter.0 == place) _ is in
-    let fit : IsFitRow n place (record { by = x.moment; leg = leg }) = record { is_leg = is_leg; by = limit_is (limit_of n place leg) x.moment.0 both.1 } in
+    let fit : IsFitRow n place (record { by = x.moment; leg = leg }) = record { is_leg = is_leg; by = limit_is (limit_of n place leg) x.moment.0 is } in
     let same : record { by = x.moment; leg = leg } ≡ row = (cc) in
     (subst (λ (r : GraphRow). IsFitRow n place r) same fit, ap (λ (r : GraphRow). r.by) same)
 
@@ -135,22 +132,20 @@ row_leg : (n : Parts) (line place : ℕ) (x : LegRow) (found : Option Leg) (row 
 row_leg n line place x None row legs is = absurd (cc)
 row_leg n line place x (Some leg) row legs is = row_if n line place x leg row (is_by_limit n place x.moment.0 leg) refl (legs leg refl) is
 
-row_rises : (n : Parts) (line place : ℕ) (last : Option ℕ) (x : LegRow) (run exit : ℕ) (row : GraphRow) (test : Bool) → rises last x.moment.0 ≡ test
-    → (if test then row_by_leg n line place x (leg_found n x run exit) else Err (fault.NotRising line)) ≡ Ok row → IsFitRow n place row × (rises last row.by.0 ≡ true)
-row_rises n line place last x run exit row false is found = absurd (cc)
-row_rises n line place last x run exit row true is found =
-    let both = row_leg n line place x (leg_found n x run exit) row (λ leg e. leg_found_is n x run exit leg e) found in
+row_rises : (n : Parts) (line place : ℕ) (last : Option ℕ) (x : LegRow) (known : LegNames) (row : GraphRow) (test : Bool) → rises last x.moment.0 ≡ test
+    → (if test then row_by_leg n line place x (leg_found n x known) else Err (fault.NotRising line)) ≡ Ok row → IsFitRow n place row × (rises last row.by.0 ≡ true)
+row_rises n line place last x known row false is found = absurd (cc)
+row_rises n line place last x known row true is found =
+    let both = row_leg n line place x (leg_found n x known) row (λ leg e. leg_found_is n x known leg e) found in
     (both.0, ap (λ (m : Moment). rises last m.0) (sym both.1) ∙ is)
 
-row_names : (n : Parts) (line place : ℕ) (last : Option ℕ) (x : LegRow) (run exit : Option ℕ) (row : GraphRow) → row_named n line place last x run exit ≡ Ok row → IsFitRow n place row × (rises last row.by.0 ≡ true)
-row_names n line place last x (Some run) (Some exit) row is = row_rises n line place last x run exit row (rises last x.moment.0) refl is
-row_names n line place last x (Some run) None row is = absurd (cc)
-row_names n line place last x None (Some exit) row is = absurd (cc)
-row_names n line place last x None None row is = absurd (cc)
+row_names : (n : Parts) (line place : ℕ) (last : Option ℕ) (x : LegRow) (known : Option LegNames) (row : GraphRow) → row_named n line place last x known ≡ Ok row → IsFitRow n place row × (rises last row.by.0 ≡ true)
+row_names n line place last x (Some known) row is = row_rises n line place last x known row (rises last x.moment.0) refl is
+row_names n line place last x None row is = absurd (cc)
 
-row_reads : (n : Parts) (names : NameLists) (line place : ℕ) (last : Option ℕ) (r : List (List ℕ)) (x : Option LegRow) (row : GraphRow) → row_numbers n names line place last r x ≡ Ok row → IsFitRow n place row × (rises last row.by.0 ≡ true)
-row_reads n names line place last r None row is = absurd (cc)
-row_reads n names line place last r (Some x) row is = row_names n line place last x (number_of names.runs (field r 2)) (number_of names.places (field r 6)) row is
+row_reads : (n : Parts) (names : NameLists) (version : Version) (line place : ℕ) (last : Option ℕ) (r : List (List ℕ)) (x : Option LegRow) (row : GraphRow) → row_numbers n names version line place last r x ≡ Ok row → IsFitRow n place row × (rises last row.by.0 ≡ true)
+row_reads n names version line place last r None row is = absurd (cc)
+row_reads n names version line place last r (Some x) row is = row_names n line place last x (names_in version names place r) row is
 
 -- the start leg that is read
 start_if : (n : Parts) (line source start : ℕ) (x : LegRow) (leg own : Leg) (test : Bool) → can_start n source start x.moment.0 leg ≡ test → IsLegOf n leg
@@ -166,15 +161,13 @@ start_leg : (n : Parts) (line source start : ℕ) (x : LegRow) (found : Option L
 start_leg n line source start x None own legs is = absurd (cc)
 start_leg n line source start x (Some leg) own legs is = start_if n line source start x leg own (can_start n source start x.moment.0 leg) refl (legs leg refl) is
 
-start_names : (n : Parts) (line source start : ℕ) (x : LegRow) (run place : Option ℕ) (own : Leg) → start_named n line source start x run place ≡ Ok own → IsLegOf n own × (from_of n own.enter.0 ≡ source) × (start ≤ dep_of n own.enter.0)
-start_names n line source start x (Some run) (Some place) own is = start_leg n line source start x (leg_found n x run place) own (λ leg e. leg_found_is n x run place leg e) is
-start_names n line source start x (Some run) None own is = absurd (cc)
-start_names n line source start x None (Some place) own is = absurd (cc)
-start_names n line source start x None None own is = absurd (cc)
+start_names : (n : Parts) (line source start : ℕ) (x : LegRow) (known : Option LegNames) (own : Leg) → start_named n line source start x known ≡ Ok own → IsLegOf n own × (from_of n own.enter.0 ≡ source) × (start ≤ dep_of n own.enter.0)
+start_names n line source start x (Some known) own is = start_leg n line source start x (leg_found n x known) own (λ leg e. leg_found_is n x known leg e) is
+start_names n line source start x None own is = absurd (cc)
 
-start_reads : (n : Parts) (names : NameLists) (line source start : ℕ) (r : List (List ℕ)) (x : Option LegRow) (own : Leg) → start_numbers n names line source start r x ≡ Ok own → IsLegOf n own × (from_of n own.enter.0 ≡ source) × (start ≤ dep_of n own.enter.0)
-start_reads n names line source start r None own is = absurd (cc)
-start_reads n names line source start r (Some x) own is = start_names n line source start x (number_of names.runs (field r 2)) (number_of names.places (field r 6)) own is
+start_reads : (n : Parts) (names : NameLists) (version : Version) (line source start : ℕ) (r : List (List ℕ)) (x : Option LegRow) (own : Leg) → start_numbers n names version line source start r x ≡ Ok own → IsLegOf n own × (from_of n own.enter.0 ≡ source) × (start ≤ dep_of n own.enter.0)
+start_reads n names version line source start r None own is = absurd (cc)
+start_reads n names version line source start r (Some x) own is = start_names n line source start x (names_in version names source r) own is
 
 -- a table that begins rises
 table_if : (n : Parts) (line : ℕ) (last : Option ℕ) (x : PlaceRow) (place : ℕ) (t : TableStart) (rising same : Bool) → rises last place ≡ rising
@@ -211,10 +204,10 @@ pub record IsFitting (n : Parts) (s : Reading) : Type 0 where
   pub rows_rise : (s.left ≡ 0 → ⊥) → AllPairs (λ a b. a.by.0 < b.by.0) s.rows
   pub moments : (s.left ≡ 0 → ⊥) → All (λ row. IsUpTo (option_map (λ m. m.0) s.by) row.by.0) s.rows
 
-begun_fits : (n : Parts) (names : NameLists) (line : ℕ) (r : List (List ℕ)) (s now : Reading) (t : Result TableStart TextFault) → t ≡ table_in n names line (option_map (λ p. p.0) s.place) r → IsFitting n s → begun s t ≡ Ok now → IsFitting n now
-begun_fits n names line r s now (Err e) told fits is = absurd (cc)
-begun_fits n names line r s now (Ok t) told fits is =
-    let rising = table_reads n names line (option_map (λ p. p.0) s.place) r (place_row_in r) t (sym told) in
+begun_fits : (n : Parts) (names : NameLists) (version : Version) (line : ℕ) (r : List (List ℕ)) (s now : Reading) (t : Result TableStart TextFault) → t ≡ table_in n names version line (option_map (λ p. p.0) s.place) r → IsFitting n s → begun s t ≡ Ok now → IsFitting n now
+begun_fits n names version line r s now (Err e) told fits is = absurd (cc)
+begun_fits n names version line r s now (Ok t) told fits is =
+    let rising = table_reads n names line (option_map (λ p. p.0) s.place) r (place_row_in version r) t (sym told) in
     let less : All (λ u. u.place.0 < t.place.0) s.done = λ k d within. up_to_less (option_map (λ p. p.0) s.place) (slice_index_or s.done k d).place.0 t.place.0 (fits.places k d within) rising in
     let here : IsFitting n (record { done = s.done; place = Some t.place; rows = []; by = None; left = t.count }) = record {
       done = fits.done;
@@ -278,36 +271,36 @@ module _ (n : Parts) (s : Reading) (some : s.left ≡ 0 → ⊥) (fits : IsFitti
   extended_if now true is = subst (λ (u : Reading). IsFitting n u) (ok_same _ now is) last_fits
   extended_if now false is = subst (λ (u : Reading). IsFitting n u) (ok_same _ now is) further_fits
 
-extended_fits : (n : Parts) (names : NameLists) (line : ℕ) (r : List (List ℕ)) (s now : Reading) (read : Result GraphRow TextFault) → (s.left ≡ 0 → ⊥) → read ≡ row_in n names line (place_or_first s.place).0 (option_map (λ m. m.0) s.by) r → IsFitting n s → extended s read ≡ Ok now → IsFitting n now
-extended_fits n names line r s now (Err e) some told fits is = absurd (cc)
-extended_fits n names line r s now (Ok row) some told fits is =
-    let both = row_reads n names line (place_or_first s.place).0 (option_map (λ m. m.0) s.by) r (leg_row_in (codes "leg") r) row (sym told) in
+extended_fits : (n : Parts) (names : NameLists) (version : Version) (line : ℕ) (r : List (List ℕ)) (s now : Reading) (read : Result GraphRow TextFault) → (s.left ≡ 0 → ⊥) → read ≡ row_in n names version line (place_or_first s.place).0 (option_map (λ m. m.0) s.by) r → IsFitting n s → extended s read ≡ Ok now → IsFitting n now
+extended_fits n names version line r s now (Err e) some told fits is = absurd (cc)
+extended_fits n names version line r s now (Ok row) some told fits is =
+    let both = row_reads n names version line (place_or_first s.place).0 (option_map (λ m. m.0) s.by) r (leg_row_in version (codes "leg") r) row (sym told) in
     extended_if n s some fits row both.0 both.1 now (s.left == 1) is
 
-step_fits : (n : Parts) (names : NameLists) (line : ℕ) (r : List (List ℕ)) (s now : Reading) → IsFitting n s → step n names line r s ≡ Ok now → IsFitting n now
-step_fits n names line r s now fits is = by_test (s.left == 0) refl is
+step_fits : (n : Parts) (names : NameLists) (version : Version) (line : ℕ) (r : List (List ℕ)) (s now : Reading) → IsFitting n s → step n names version line r s ≡ Ok now → IsFitting n now
+step_fits n names version line r s now fits is = by_test (s.left == 0) refl is
   where
     not_zero : (left : ℕ) → (left == 0) ≡ false → left ≡ 0 → ⊥
     not_zero left some zero_left = let e : (left == 0) ≡ true = grind (arith, nat_tests) in false≢true (sym some ∙ e)
 
     by_test : (test : Bool) → (s.left == 0) ≡ test
-        → (if test then begun s (table_in n names line (option_map (λ place. place.0) s.place) r) else extended s (row_in n names line (place_or_first s.place).0 (option_map (λ moment. moment.0) s.by) r)) ≡ Ok now → IsFitting n now
-    by_test true none is = begun_fits n names line r s now (table_in n names line (option_map (λ place. place.0) s.place) r) refl fits is
-    by_test false some is = extended_fits n names line r s now (row_in n names line (place_or_first s.place).0 (option_map (λ moment. moment.0) s.by) r) (not_zero s.left some) refl fits is
+        → (if test then begun s (table_in n names version line (option_map (λ place. place.0) s.place) r) else extended s (row_in n names version line (place_or_first s.place).0 (option_map (λ moment. moment.0) s.by) r)) ≡ Ok now → IsFitting n now
+    by_test true none is = begun_fits n names version line r s now (table_in n names version line (option_map (λ place. place.0) s.place) r) refl fits is
+    by_test false some is = extended_fits n names version line r s now (row_in n names version line (place_or_first s.place).0 (option_map (λ moment. moment.0) s.by) r) (not_zero s.left some) refl fits is
 
 -- the tables that are read fit
-pub tables_fit : (n : Parts) (names : NameLists) (rs : List (List (List ℕ))) (line : ℕ) (s : Reading) (tables : List PlaceTable) → IsFitting n s → tables_from n names rs line s ≡ Ok tables → All (IsFitTable n) tables × AllPairs (λ a b. a.place.0 < b.place.0) tables
-tables_fit n names [] line s tables fits is = by_test (s.left == 0) is
+pub tables_fit : (n : Parts) (names : NameLists) (version : Version) (rs : List (List (List ℕ))) (line : ℕ) (s : Reading) (tables : List PlaceTable) → IsFitting n s → tables_from n names version rs line s ≡ Ok tables → All (IsFitTable n) tables × AllPairs (λ a b. a.place.0 < b.place.0) tables
+tables_fit n names version [] line s tables fits is = by_test (s.left == 0) is
   where
     by_test : (test : Bool) → ◌≡◌ {A = Result (List PlaceTable) TextFault} (if test then Ok s.done else Err (fault.Row line)) (Ok tables) → All (IsFitTable n) tables × AllPairs (λ a b. a.place.0 < b.place.0) tables
     by_test true is = subst (λ (ts : List PlaceTable). All (IsFitTable n) ts × AllPairs (λ a b. a.place.0 < b.place.0) ts) (ok_same s.done tables is) (fits.done, fits.rising)
     by_test false is = absurd (cc)
-tables_fit n names (r ∷ rs) line s tables fits is = by_step (step n names line r s) refl is (λ now fit told. tables_fit n names rs (line + 1) now tables fit told)
+tables_fit n names version (r ∷ rs) line s tables fits is = by_step (step n names version line r s) refl is (λ now fit told. tables_fit n names version rs (line + 1) now tables fit told)
   where
-    by_step : (after : Result Reading TextFault) → step n names line r s ≡ after → and_then after (tables_from n names rs (line + 1)) ≡ Ok tables
-        → ((now : Reading) → IsFitting n now → tables_from n names rs (line + 1) now ≡ Ok tables → All (IsFitTable n) tables × AllPairs (λ a b. a.place.0 < b.place.0) tables) → All (IsFitTable n) tables × AllPairs (λ a b. a.place.0 < b.place.0) tables
+    by_step : (after : Result Reading TextFault) → step n names version line r s ≡ after → and_then after (tables_from n names version rs (line + 1)) ≡ Ok tables
+        → ((now : Reading) → IsFitting n now → tables_from n names version rs (line + 1) now ≡ Ok tables → All (IsFitTable n) tables × AllPairs (λ a b. a.place.0 < b.place.0) tables) → All (IsFitTable n) tables × AllPairs (λ a b. a.place.0 < b.place.0) tables
     by_step (Err e) told is more = absurd (cc)
-    by_step (Ok now) told is more = more now (step_fits n names line r s now fits told) is
+    by_step (Ok now) told is more = more now (step_fits n names version line r s now fits told) is
 
 no_tables_fit : (n : Parts) → IsFitting n no_tables
 no_tables_fit n = record {
@@ -322,15 +315,15 @@ no_tables_fit n = record {
 }
 
 -- the graph that is read fits a question of this source, target and start
-started_fits : (n : Parts) (names : NameLists) (q : Query) (r : List (List ℕ)) (rs : List (List (List ℕ))) (graph : PlanGraph) → q.source.0 ≢ q.target.0 → started_in n names q.source.0 q.start.0 r rs ≡ Ok graph → IsFit n q graph
-started_fits n names q r rs graph differ is = by_leg (start_in n names 2 q.source.0 q.start.0 r) refl is
+started_fits : (n : Parts) (names : NameLists) (version : Version) (q : Query) (r : List (List ℕ)) (rs : List (List (List ℕ))) (graph : PlanGraph) → q.source.0 ≢ q.target.0 → started_in n names version q.source.0 q.start.0 r rs ≡ Ok graph → IsFit n q graph
+started_fits n names version q r rs graph differ is = by_leg (start_in n names version 2 q.source.0 q.start.0 r) refl is
   where
-    by_tables : (leg : Leg) → start_in n names 2 q.source.0 q.start.0 r ≡ Ok leg → (told : Result (List PlaceTable) TextFault) → tables_from n names rs 3 no_tables ≡ told
+    by_tables : (leg : Leg) → start_in n names version 2 q.source.0 q.start.0 r ≡ Ok leg → (told : Result (List PlaceTable) TextFault) → tables_from n names version rs 3 no_tables ≡ told
         → ◌≡◌ {A = Result PlanGraph TextFault} (and_then told (λ tables. Ok (record { start = Some leg; tables = tables }))) (Ok graph) → IsFit n q graph
     by_tables leg begins (Err e) told is = absurd (cc)
     by_tables leg begins (Ok tables) told is =
-        let own = start_reads n names 2 q.source.0 q.start.0 r (leg_row_in (codes "start") r) leg begins in
-        let fit = tables_fit n names rs 3 no_tables tables (no_tables_fit n) told in
+        let own = start_reads n names version 2 q.source.0 q.start.0 r (leg_row_in version (codes "start") r) leg begins in
+        let fit = tables_fit n names version rs 3 no_tables tables (no_tables_fit n) told in
         let here : IsFit n q (record { start = Some leg; tables = tables }) = record {
           starts = record { differ = differ; is_leg = own.0; leaves = own.1; in_time = own.2 };
           tables = fit.0;
@@ -338,24 +331,24 @@ started_fits n names q r rs graph differ is = by_leg (start_in n names 2 q.sourc
         } in
         subst (λ (g : PlanGraph). IsFit n q g) (ok_same _ graph is) here
 
-    by_leg : (told : Result Leg TextFault) → start_in n names 2 q.source.0 q.start.0 r ≡ told
-        → ◌≡◌ {A = Result PlanGraph TextFault} (and_then told (λ leg. and_then (tables_from n names rs 3 no_tables) (λ tables. Ok (record { start = Some leg; tables = tables })))) (Ok graph) → IsFit n q graph
+    by_leg : (told : Result Leg TextFault) → start_in n names version 2 q.source.0 q.start.0 r ≡ told
+        → ◌≡◌ {A = Result PlanGraph TextFault} (and_then told (λ leg. and_then (tables_from n names version rs 3 no_tables) (λ tables. Ok (record { start = Some leg; tables = tables })))) (Ok graph) → IsFit n q graph
     by_leg (Err e) begins is = absurd (cc)
-    by_leg (Ok leg) begins is = by_tables leg begins (tables_from n names rs 3 no_tables) refl is
+    by_leg (Ok leg) begins is = by_tables leg begins (tables_from n names version rs 3 no_tables) refl is
 
-graph_fits : (n : Parts) (names : NameLists) (q : Query) (rs : List (List (List ℕ))) (graph : PlanGraph) → graph_in n names q.source.0 q.target.0 q.start.0 rs ≡ Ok graph → IsFit n q graph
-graph_fits n names q [] graph is = by_test (q.source.0 == q.target.0) refl is
+graph_fits : (n : Parts) (names : NameLists) (version : Version) (q : Query) (rs : List (List (List ℕ))) (graph : PlanGraph) → graph_in n names version q.source.0 q.target.0 q.start.0 rs ≡ Ok graph → IsFit n q graph
+graph_fits n names version q [] graph is = by_test (q.source.0 == q.target.0) refl is
   where
     by_test : (test : Bool) → (q.source.0 == q.target.0) ≡ test → ◌≡◌ {A = Result PlanGraph TextFault} (if test then Ok (record { start = None; tables = [] }) else Err (fault.Row 2)) (Ok graph) → IsFit n q graph
     by_test true here is =
         let fit : IsFit n q (record { start = None; tables = [] }) = record { starts = (eq_true q.source.0 q.target.0 here, refl); tables = All-nil (IsFitTable n); rising = λ i j d less within. absurd (omega (arith, less, within)) } in
         subst (λ (g : PlanGraph). IsFit n q g) (ok_same _ graph is) fit
     by_test false away is = absurd (cc)
-graph_fits n names q (r ∷ rs) graph is = by_test (q.source.0 == q.target.0) refl is
+graph_fits n names version q (r ∷ rs) graph is = by_test (q.source.0 == q.target.0) refl is
   where
-    by_test : (test : Bool) → (q.source.0 == q.target.0) ≡ test → ◌≡◌ {A = Result PlanGraph TextFault} (if test then Err (fault.Row 2) else started_in n names q.source.0 q.start.0 r rs) (Ok graph) → IsFit n q graph
+    by_test : (test : Bool) → (q.source.0 == q.target.0) ≡ test → ◌≡◌ {A = Result PlanGraph TextFault} (if test then Err (fault.Row 2) else started_in n names version q.source.0 q.start.0 r rs) (Ok graph) → IsFit n q graph
     by_test true here is = absurd (cc)
-    by_test false away is = started_fits n names q r rs graph (λ same. let e : (q.source.0 == q.target.0) ≡ true = grind (arith, nat_tests) in false≢true (sym away ∙ e)) is
+    by_test false away is = started_fits n names version q r rs graph (λ same. let e : (q.source.0 == q.target.0) ≡ true = grind (arith, nat_tests) in false≢true (sym away ∙ e)) is
 
 -- the head that is read is of the source, target and start that were asked for
 head_if : (source target start from to : ℕ) (x : HeadRow) (head : Head) (test : Bool) → is_query from to x.start.0 source target start ≡ test → are_in_order x.start.0 x.deadline.0 x.lo x.hi ≡ true
@@ -395,9 +388,9 @@ numbers_in_order (Some a) None c d x is = absurd (cc)
 numbers_in_order (Some a) (Some b) None d x is = absurd (cc)
 numbers_in_order (Some a) (Some b) (Some c) None x is = absurd (cc)
 
-head_reads : (names : NameLists) (source target start : ℕ) (r : List (List ℕ)) (x : Option HeadRow) (head : Head) → x ≡ head_row_in r → head_of_numbers names source target start r x ≡ Ok head → IsAsked source target start head
-head_reads names source target start r None head told is = absurd (cc)
-head_reads names source target start r (Some x) head told is = head_names source target start x (number_of names.places (field r 2)) (number_of names.places (field r 3)) head (by_test (is_head r) (sym told)) is
+head_reads : (names : NameLists) (version : Version) (source target start : ℕ) (r : List (List ℕ)) (x : Option HeadRow) (head : Head) → x ≡ head_row_in version r → head_of_numbers names source target start r x ≡ Ok head → IsAsked source target start head
+head_reads names version source target start r None head told is = absurd (cc)
+head_reads names version source target start r (Some x) head told is = head_names source target start x (number_of names.places (field r 2)) (number_of names.places (field r 3)) head (by_test (is_head version r) (sym told)) is
   where
     by_test : (test : Bool) → (if test then head_numbers (moment_at (field r 4)) (moment_at (field r 5)) (nanos_at (field r 6)) (nanos_at (field r 7)) else None) ≡ Some x → are_in_order x.start.0 x.deadline.0 x.lo x.hi ≡ true
     by_test true found = numbers_in_order (moment_at (field r 4)) (moment_at (field r 5)) (nanos_at (field r 6)) (nanos_at (field r 7)) x found
@@ -406,24 +399,28 @@ head_reads names source target start r (Some x) head told is = head_names source
 -- what is read fits the network and the question
 pub told_fits : (n : Parts) (names : NameLists) (source target start : ℕ) (rows : List (List (List ℕ))) (head : Head) (graph : PlanGraph) → graph_of_records n names source target start rows ≡ Ok (head, graph) → IsFit n head.query graph × IsAsked source target start head
 told_fits n names source target start [] head graph is = absurd (cc)
-told_fits n names source target start (r ∷ rs) head graph is = by_head (head_in names source target start r) refl is
+told_fits n names source target start (r ∷ rs) head graph is = by_version (version_in r) is
   where
     pair_is : (a : Head) (b : PlanGraph) → ◌≡◌ {A = Result (Head × PlanGraph) TextFault} (Ok (a, b)) (Ok (head, graph)) → (a ≡ head) × (b ≡ graph)
     pair_is a b e = let both : (a, b) ≡ (head, graph) = ok_same (a, b) (head, graph) e in (ap (λ (p : Head × PlanGraph). p.0) both, ap (λ (p : Head × PlanGraph). p.1) both)
 
-    by_graph : (own : Head) → IsAsked source target start own → (told : Result PlanGraph TextFault) → graph_in n names source target start rs ≡ told
+    by_graph : (version : Version) (own : Head) → IsAsked source target start own → (told : Result PlanGraph TextFault) → graph_in n names version source target start rs ≡ told
         → ◌≡◌ {A = Result (Head × PlanGraph) TextFault} (and_then told (λ g. Ok (own, g))) (Ok (head, graph)) → IsFit n head.query graph × IsAsked source target start head
-    by_graph own asked (Err e) told is = absurd (cc)
-    by_graph own asked (Ok g) told is =
+    by_graph version own asked (Err e) told is = absurd (cc)
+    by_graph version own asked (Ok g) told is =
         let both = pair_is own g is in
-        let same : graph_in n names own.query.source.0 own.query.target.0 own.query.start.0 rs ≡ Ok g =
-        ap (λ (p : ℕ). graph_in n names p own.query.target.0 own.query.start.0 rs) asked.source
-        ∙ ap (λ (p : ℕ). graph_in n names source p own.query.start.0 rs) asked.target
-        ∙ ap (λ (p : ℕ). graph_in n names source target p rs) asked.start ∙ told in
-        let fit = graph_fits n names own.query rs g same in
+        let same : graph_in n names version own.query.source.0 own.query.target.0 own.query.start.0 rs ≡ Ok g =
+        ap (λ (p : ℕ). graph_in n names version p own.query.target.0 own.query.start.0 rs) asked.source
+        ∙ ap (λ (p : ℕ). graph_in n names version source p own.query.start.0 rs) asked.target
+        ∙ ap (λ (p : ℕ). graph_in n names version source target p rs) asked.start ∙ told in
+        let fit = graph_fits n names version own.query rs g same in
         (subst (λ (h : Head). IsFit n h.query graph) both.0 (subst (λ (k : PlanGraph). IsFit n own.query k) both.1 fit), subst (λ (h : Head). IsAsked source target start h) both.0 asked)
 
-    by_head : (told : Result Head TextFault) → head_in names source target start r ≡ told
-        → ◌≡◌ {A = Result (Head × PlanGraph) TextFault} (and_then told (λ own. and_then (graph_in n names source target start rs) (λ g. Ok (own, g)))) (Ok (head, graph)) → IsFit n head.query graph × IsAsked source target start head
-    by_head (Err e) told is = absurd (cc)
-    by_head (Ok own) told is = by_graph own (head_reads names source target start r (head_row_in r) own refl told) (graph_in n names source target start rs) refl is
+    by_head : (version : Version) (told : Result Head TextFault) → head_in names version source target start r ≡ told
+        → ◌≡◌ {A = Result (Head × PlanGraph) TextFault} (and_then told (λ own. and_then (graph_in n names version source target start rs) (λ g. Ok (own, g)))) (Ok (head, graph)) → IsFit n head.query graph × IsAsked source target start head
+    by_head version (Err e) told is = absurd (cc)
+    by_head version (Ok own) told is = by_graph version own (head_reads names version source target start r (head_row_in version r) own refl told) (graph_in n names version source target start rs) refl is
+
+    by_version : (version : Option Version) → graph_of_version n names source target start r rs version ≡ Ok (head, graph) → IsFit n head.query graph × IsAsked source target start head
+    by_version None is = absurd (cc)
+    by_version (Some version) is = by_head version (head_in names version source target start r) refl is

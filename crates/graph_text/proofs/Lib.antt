@@ -6,3 +6,5 @@ pub mod Fits
 pub mod Plain
 pub mod Printed
 pub mod ReadBack
+mod Leaving
+mod Versioned

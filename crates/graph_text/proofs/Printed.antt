@@ -8,6 +8,9 @@ use Rattle.csv.specs.declared.parser.State.TheVariants as st
 use Rattle.csv.proofs.RoundTrip.{read-write, rows_text as text_of_rows}
 use Rattle.csv_rows.specs.Spaces.{trimmed}
 use Rattle.csv_rows.specs.Tables.{table_of}
+use Rattle.graph_text.specs.declared.version.Version.{Version}
+use Rattle.graph_text.specs.declared.version.Version.TheVariants.{First, Second}
+use Rattle.graph_text.specs.Versions.{ninth}
 
 -- each record's text has a byte
 last_byte : (front mid : List ℕ) → 1 ≤ length (front ++ (mid ++ 10 ∷ []))
@@ -55,9 +58,10 @@ table_back rows kept plain =
     ∙ ap (λ (raw : List (List (List ℕ))). map (λ row. map trimmed row) raw) (records_in rows (length (text_of_rows rows) + 1) (omega (arith, few_rows rows)))
     ∙ kept_back rows kept
 
-pub eight_kept : (a b c d e f g h : List ℕ) → trimmed a ≡ a → trimmed b ≡ b → trimmed c ≡ c → trimmed d ≡ d → trimmed e ≡ e → trimmed f ≡ f → trimmed g ≡ g → trimmed h ≡ h
-    → IsKept (a ∷ b ∷ c ∷ d ∷ e ∷ f ∷ g ∷ h ∷ [])
-eight_kept a b c d e f g h one two three four five six seven last = cc
+pub fields_kept : (version : Version) (a b c d e f g h last : List ℕ) → trimmed a ≡ a → trimmed b ≡ b → trimmed c ≡ c → trimmed d ≡ d → trimmed e ≡ e → trimmed f ≡ f → trimmed g ≡ g → trimmed h ≡ h → trimmed last ≡ last
+    → IsKept (a ∷ b ∷ c ∷ d ∷ e ∷ f ∷ g ∷ h ∷ ninth version last)
+fields_kept First a b c d e f g h last one two three four five six seven eight nine = cc
+fields_kept Second a b c d e f g h last one two three four five six seven eight nine = cc
 
 pub rows-append : (rows more : List (List (List ℕ))) → text_of_rows (rows ++ more) ≡ text_of_rows rows ++ text_of_rows more
 unfolding text_of_rows

@@ -1,25 +1,28 @@
 -- A step of reading.
-use Rattle.std.proofs.Common.{◌≡◌, ℕ, ◌-◌, ◌<◌, List, [], ◌∷◌, length, drop, Option, Some, Ok, Err, Result, arith, sym, ap, subst, refl}
+use Rattle.std.proofs.Common.{◌≡◌, ℕ, ◌+◌, ◌-◌, ◌<◌, List, [], ◌∷◌, length, drop, Option, Some, Ok, Err, Result, arith, sym, ap, subst, refl, ◌∙◌}
 use Rattle.std.specs.Prelude.{◌==◌, false, slice_index_or}
 use Rattle.std.specs.Option.{option_map}
 use Rattle.std.proofs.lemmas.Bool.Decides.{nat_tests}
 use Rattle.plan_model.specs.declared.model.PlaceId.{PlaceId}
 use Rattle.plan_model.specs.Parts.{Parts}
 use Rattle.plan_model.specs.NameLists.{NameLists}
+use Rattle.plan_graph.specs.declared.PlaceTable.{PlaceTable}
 use Rattle.plan_graph.specs.declared.PlanGraph.{PlanGraph}
 use Rattle.graph_text.specs.declared.Head.{Head}
+use Rattle.graph_text.specs.declared.version.Version.{Version}
 use Rattle.graph_text.specs.declared.reader.Reading.{Reading}
 use Rattle.graph_text.specs.declared.reader.TextFault.{TextFault}
 use Rattle.graph_text.specs.declared.reader.TextFault.TheVariants as f
-use Rattle.graph_text.specs.Reading.{extended, row_in, step, IsRead, place_or_first, and_then, graph_in, head_in, graph_of_records}
+use Rattle.graph_text.proofs.Fields.{split_at}
+use Rattle.graph_text.specs.Reading.{extended, row_in, step, IsRead, place_or_first, and_then, tables_from, graph_in, head_in, version_in, graph_of_version, graph_of_records}
 
 not_none : (left : ℕ) → (left ≡ 0 → ⊥) → (left == 0) ≡ false
 not_none left some = grind (arith, nat_tests)
 
 -- where leg rows are to come
-pub leg_step : (n : Parts) (names : NameLists) (line : ℕ) (r : List (List ℕ)) (s : Reading) (place : PlaceId) → (s.left ≡ 0 → ⊥) → s.place ≡ Some place → extended s (row_in n names line place.0 (option_map (λ moment. moment.0) s.by) r) ≡ step n names line r s
-leg_step n names line r s place some is =
-    sym (rw (not_none s.left some) (ap (λ (p : Option PlaceId). extended s (row_in n names line (place_or_first p).0 (option_map (λ moment. moment.0) s.by) r)) is))
+pub leg_step : (n : Parts) (names : NameLists) (version : Version) (line : ℕ) (r : List (List ℕ)) (s : Reading) (place : PlaceId) → (s.left ≡ 0 → ⊥) → s.place ≡ Some place → extended s (row_in n names version line place.0 (option_map (λ moment. moment.0) s.by) r) ≡ step n names version line r s
+leg_step n names version line r s place some is =
+    sym (rw (not_none s.left some) (ap (λ (p : Option PlaceId). extended s (row_in n names version line (place_or_first p).0 (option_map (λ moment. moment.0) s.by) r)) is))
 
 -- a fault ends what is read
 pub read_err : {A B : Type 0} (fault : TextFault) (told : Result A TextFault) (next : A → Result B TextFault) → told ≡ Err fault → IsRead {A = B} (Err fault) (and_then told next)
@@ -41,6 +44,19 @@ fault_on (f.OtherQuery line) told next is = ap (λ r. and_then r next) is
 pub ok_on : {A B : Type 0} (told : Result A TextFault) (a : A) (next : A → Result B TextFault) (r : Result B TextFault) → told ≡ Ok a → IsRead r (next a) → IsRead r (and_then told next)
 ok_on {A} {B} told a next r is read = subst (λ (t : Result A TextFault). IsRead r (and_then t next)) (sym is) read
 
+-- the tables of the records from one on, after the step of this one
+pub tables_after : (n : Parts) (names : NameLists) (version : Version) (rows : List (List (List ℕ))) (line i : ℕ) (s now : Reading) → i < length rows → step n names version line (slice_index_or rows i []) s ≡ Ok now
+    → tables_from n names version (drop i rows) line s ≡ tables_from n names version (drop (i + 1) rows) (line + 1) now
+tables_after n names version rows line i s now within is =
+    ap (λ (list : List (List (List ℕ))). tables_from n names version list line s) (split_at rows i [] within)
+    ∙ ap (λ (told : Result Reading TextFault). and_then told (tables_from n names version (drop (i + 1) rows) (line + 1))) is
+
+pub tables_fail : (n : Parts) (names : NameLists) (version : Version) (rows : List (List (List ℕ))) (line i : ℕ) (s : Reading) (fault : TextFault) → i < length rows → IsRead {A = Reading} (Err fault) (step n names version line (slice_index_or rows i []) s)
+    → IsRead {A = List PlaceTable} (Err fault) (tables_from n names version (drop i rows) line s)
+tables_fail n names version rows line i s fault within told =
+    subst (λ (list : List (List (List ℕ))). IsRead {A = List PlaceTable} (Err fault) (tables_from n names version list line s)) (sym (split_at rows i [] within))
+    (fault_on fault (step n names version line (slice_index_or rows i []) s) (tables_from n names version (drop (i + 1) rows) (line + 1)) told)
+
 -- a table's records
 pub first_split : (t : List (List (List ℕ))) → 0 < length t → t ≡ slice_index_or t 0 [] ∷ drop 1 t
 first_split [] some = absurd (omega (arith, some))
@@ -57,8 +73,17 @@ rest_none (r ∷ []) none = refl
 rest_none (r ∷ s ∷ rs) none = absurd (omega (arith, none))
 
 -- what the first row and the graph of the others tell together
-pub told_by : (n : Parts) (names : NameLists) (source target start : ℕ) (rows : List (List (List ℕ))) (head : Head) (r : Result (Head × PlanGraph) TextFault) → 0 < length rows → Ok head ≡ head_in names source target start (slice_index_or rows 0 [])
-    → IsRead r (and_then (graph_in n names source target start (drop 1 rows)) (λ graph. Ok (head, graph))) → IsRead r (graph_of_records n names source target start rows)
-told_by n names source target start rows head r some is read =
+pub told_by : (n : Parts) (names : NameLists) (version : Version) (source target start : ℕ) (rows : List (List (List ℕ))) (head : Head) (r : Result (Head × PlanGraph) TextFault) → 0 < length rows
+    → Some version ≡ version_in (slice_index_or rows 0 []) → Ok head ≡ head_in names version source target start (slice_index_or rows 0 [])
+    → IsRead r (and_then (graph_in n names version source target start (drop 1 rows)) (λ graph. Ok (head, graph))) → IsRead r (graph_of_records n names source target start rows)
+told_by n names version source target start rows head r some found is read =
     subst (λ (t : List (List (List ℕ))). IsRead r (graph_of_records n names source target start t)) (sym (first_split rows some))
-    (ok_on (head_in names source target start (slice_index_or rows 0 [])) head (λ h. and_then (graph_in n names source target start (drop 1 rows)) (λ graph. Ok (h, graph))) r (sym is) read)
+    (subst (λ (v : Option Version). IsRead r (graph_of_version n names source target start (slice_index_or rows 0 []) (drop 1 rows) v)) found
+    (ok_on (head_in names version source target start (slice_index_or rows 0 [])) head (λ h. and_then (graph_in n names version source target start (drop 1 rows)) (λ graph. Ok (h, graph))) r (sym is) read))
+
+-- a fault of the first row is one of the text
+pub head_fault : (n : Parts) (names : NameLists) (source target start : ℕ) (rows : List (List (List ℕ))) (found : Option Version) (r : Result (Head × PlanGraph) TextFault) → 0 < length rows → found ≡ version_in (slice_index_or rows 0 [])
+    → IsRead r (graph_of_version n names source target start (slice_index_or rows 0 []) (drop 1 rows) found) → IsRead r (graph_of_records n names source target start rows)
+head_fault n names source target start rows found r some is read =
+    subst (λ (t : List (List (List ℕ))). IsRead r (graph_of_records n names source target start t)) (sym (first_split rows some))
+    (subst (λ (v : Option Version). IsRead r (graph_of_version n names source target start (slice_index_or rows 0 []) (drop 1 rows) v)) is read)

@@ -1,3 +1,4 @@
+pub mod Versions
 pub mod Texts
 pub mod Writers
 pub mod Printable

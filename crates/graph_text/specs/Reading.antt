@@ -1,6 +1,6 @@
 -- What a graph's text tells, or the first of its faults by line.
 use Rattle.std.specs.Prelude.{◌≡◌, ℕ, ◌+◌, ◌-◌, Bool, true, false, List, [], ◌∷◌, ◌++◌, length, ◌==◌, ◌&&◌, nat_le, nat_lt, if◌then◌else◌, slice_index_or, codes, Option, Some, None, Result, Ok, Err, ◌⊎◌, ◌<◌, IsSome, IfSome}
-use Rattle.std.specs.Option.{option_map}
+use Rattle.std.specs.Option.{option_map, option_and_then}
 use Rattle.std.specs.List.{position_from}
 use Rattle.std.specs.Str.{bytes_eq, is_utf8}
 use Rattle.clock_text.specs.Digits.{whole_of}
@@ -16,9 +16,13 @@ use Rattle.plan_graph.specs.declared.PlaceTable.{PlaceTable}
 use Rattle.plan_graph.specs.declared.PlanGraph.{PlanGraph}
 use Rattle.graph_text.specs.declared.Head.{Head}
 use Rattle.graph_text.specs.declared.reader.TextFault.{TextFault}
+use Rattle.graph_text.specs.declared.version.Version.{Version}
+use Rattle.graph_text.specs.declared.version.Version.TheVariants.{First, Second}
+use Rattle.graph_text.specs.Versions.{width_of, number_of_version}
 use Rattle.graph_text.specs.declared.reader.TextFault.TheVariants.{Row, UnknownName, NotRising, NoLeg, OtherQuery, NoMemory}
 use Rattle.graph_text.specs.declared.reader.HeadRow.{HeadRow}
 use Rattle.graph_text.specs.declared.reader.LegRow.{LegRow}
+use Rattle.graph_text.specs.declared.reader.LegNames.{LegNames}
 use Rattle.graph_text.specs.declared.reader.PlaceRow.{PlaceRow}
 use Rattle.graph_text.specs.declared.reader.TableStart.{TableStart}
 use Rattle.graph_text.specs.declared.reader.Reading.{Reading}
@@ -28,9 +32,14 @@ use Rattle.plan_model.specs.declared.model.PlaceId.{PlaceId}
 abbrev pub field : List (List ℕ) → ℕ → List ℕ
 field r k = slice_index_or r k []
 
--- whether it is a record of this kind, of eight fields
-abbrev pub is_kind : List ℕ → List (List ℕ) → Bool
-is_kind kind r = (length r == 8) && bytes_eq (field r 0) kind
+-- whether it is a record of this kind, of as many fields as the version has
+abbrev pub is_kind : Version → List ℕ → List (List ℕ) → Bool
+is_kind version kind r = (length r == width_of version) && bytes_eq (field r 0) kind
+
+-- whether the field of the entry place is empty, where the version has one
+abbrev pub has_no_entry : Version → List (List ℕ) → Bool
+has_no_entry First r = true
+has_no_entry Second r = length (field r 8) == 0
 
 -- a whole number: one to nine digits
 abbrev pub whole_at : List ℕ → Option ℕ
@@ -50,28 +59,44 @@ leg_numbers (Some moment) (Some enter) (Some dep) (Some exit) (Some arr) =
     Some (record { moment = record { 0 = moment }; enter = enter; dep = record { 0 = dep }; exit = exit; arr = record { 0 = arr } })
 leg_numbers _ _ _ _ _ = None
 
-abbrev pub leg_row_in : List ℕ → List (List ℕ) → Option LegRow
-leg_row_in kind r =
-    if is_kind kind r
+abbrev pub leg_row_in : Version → List ℕ → List (List ℕ) → Option LegRow
+leg_row_in version kind r =
+    if is_kind version kind r
     then leg_numbers (moment_at (field r 1)) (whole_at (field r 3)) (moment_at (field r 4)) (whole_at (field r 5)) (moment_at (field r 7))
     else None
 
--- whether connections i and j agree with a leg's row
-abbrev pub agrees : Parts → ℕ → ℕ → LegRow → ℕ → Bool
-agrees n i j x place =
+-- the place where a row has its leg begin: in the first version its own place, and in the second the one that the ninth field names
+abbrev pub entry_in : Version → NameLists → ℕ → List (List ℕ) → Option ℕ
+entry_in First names here r = Some here
+entry_in Second names here r = number_of names.places (field r 8)
+
+-- a run, the place where one boards and the place where one leaves
+abbrev pub leg_names : ℕ → ℕ → ℕ → LegNames
+leg_names run exit entry = record { run = record { 0 = run }; exit = record { 0 = exit }; entry = record { 0 = entry } }
+
+-- those of a row of a place, where each is known
+abbrev pub names_in : Version → NameLists → ℕ → List (List ℕ) → Option LegNames
+names_in version names here r =
+    option_and_then (λ run. option_and_then (λ exit. option_map (λ entry. leg_names run exit entry) (entry_in version names here r))
+    (number_of names.places (field r 6))) (number_of names.runs (field r 2))
+
+-- whether connections i and j agree with a leg's row and its names
+abbrev pub agrees : Parts → ℕ → ℕ → LegRow → LegNames → Bool
+agrees n i j x known =
     nat_le x.enter x.exit && ((connection n i).can_board && ((connection n j).can_exit
-    && ((dep_of n i == x.dep.0) && ((to_of n j == place) && (arr_of n j == x.arr.0)))))
+    && ((dep_of n i == x.dep.0) && ((from_of n i == known.entry.0) && ((to_of n j == known.exit.0) && (arr_of n j == x.arr.0))))))
 
 abbrev pub leg_of : ℕ → ℕ → Leg
 leg_of i j = record { enter = record { 0 = i }; exit = record { 0 = j } }
 
-abbrev pub leg_between : Parts → LegRow → ℕ → Option ℕ → Option ℕ → Option Leg
-leg_between n x place (Some i) (Some j) = if agrees n i j x place then Some (leg_of i j) else None
-leg_between n x place _ _ = None
+abbrev pub leg_between : Parts → LegRow → LegNames → Option ℕ → Option ℕ → Option Leg
+leg_between n x known (Some i) (Some j) = if agrees n i j x known then Some (leg_of i j) else None
+leg_between n x known (Some i) None = None
+leg_between n x known None j = None
 
--- the leg of a row by its run and exit place, where the network has it
-abbrev pub leg_found : Parts → LegRow → ℕ → ℕ → Option Leg
-leg_found n x run place = leg_between n x place (connection_of n run x.enter) (connection_of n run x.exit)
+-- the leg of a row by its run and places, where the network has it
+abbrev pub leg_found : Parts → LegRow → LegNames → Option Leg
+leg_found n x known = leg_between n x known (connection_of n known.run.0 x.enter) (connection_of n known.run.0 x.exit)
 
 -- whether a limit is there and is this moment
 abbrev pub is_limit : Option ℕ → ℕ → Bool
@@ -93,21 +118,21 @@ start_by n line source start x None = Err (NoLeg line)
 start_by n line source start x (Some leg) =
     if can_start n source start x.moment.0 leg then Ok leg else Err (NoLeg line)
 
-abbrev pub start_named : Parts → ℕ → ℕ → ℕ → LegRow → Option ℕ → Option ℕ → Result Leg TextFault
-start_named n line source start x (Some run) (Some place) = start_by n line source start x (leg_found n x run place)
-start_named n line source start x _ _ = Err (UnknownName line)
+abbrev pub start_named : Parts → ℕ → ℕ → ℕ → LegRow → Option LegNames → Result Leg TextFault
+start_named n line source start x None = Err (UnknownName line)
+start_named n line source start x (Some known) = start_by n line source start x (leg_found n x known)
 
-abbrev pub start_numbers : Parts → NameLists → ℕ → ℕ → ℕ → List (List ℕ) → Option LegRow → Result Leg TextFault
-start_numbers n names line source start r None = Err (Row line)
-start_numbers n names line source start r (Some x) = start_named n line source start x (number_of names.runs (field r 2)) (number_of names.places (field r 6))
+abbrev pub start_numbers : Parts → NameLists → Version → ℕ → ℕ → ℕ → List (List ℕ) → Option LegRow → Result Leg TextFault
+start_numbers n names version line source start r None = Err (Row line)
+start_numbers n names version line source start r (Some x) = start_named n line source start x (names_in version names source r)
 
 -- the start row
-abbrev pub start_in : Parts → NameLists → ℕ → ℕ → ℕ → List (List ℕ) → Result Leg TextFault
-start_in n names line source start r = start_numbers n names line source start r (leg_row_in (codes "start") r)
+abbrev pub start_in : Parts → NameLists → Version → ℕ → ℕ → ℕ → List (List ℕ) → Result Leg TextFault
+start_in n names version line source start r = start_numbers n names version line source start r (leg_row_in version (codes "start") r)
 
--- whether a leg leaves the place, and the moment is its limit
+-- whether the moment is the limit of a leg at a place
 abbrev pub is_by_limit : Parts → ℕ → ℕ → Leg → Bool
-is_by_limit n place moment leg = (from_of n leg.enter.0 == place) && is_limit (limit_of n place leg) moment
+is_by_limit n place moment leg = is_limit (limit_of n place leg) moment
 
 -- the row of a leg at a place, by its limit
 abbrev pub row_by_leg : Parts → ℕ → ℕ → LegRow → Option Leg → Result GraphRow TextFault
@@ -115,17 +140,17 @@ row_by_leg n line place x None = Err (NoLeg line)
 row_by_leg n line place x (Some leg) =
     if is_by_limit n place x.moment.0 leg then Ok (record { by = x.moment; leg = leg }) else Err (NoLeg line)
 
-abbrev pub row_named : Parts → ℕ → ℕ → Option ℕ → LegRow → Option ℕ → Option ℕ → Result GraphRow TextFault
-row_named n line place last x (Some run) (Some exit) = if rises last x.moment.0 then row_by_leg n line place x (leg_found n x run exit) else Err (NotRising line)
-row_named n line place last x _ _ = Err (UnknownName line)
+abbrev pub row_named : Parts → ℕ → ℕ → Option ℕ → LegRow → Option LegNames → Result GraphRow TextFault
+row_named n line place last x None = Err (UnknownName line)
+row_named n line place last x (Some known) = if rises last x.moment.0 then row_by_leg n line place x (leg_found n x known) else Err (NotRising line)
 
-abbrev pub row_numbers : Parts → NameLists → ℕ → ℕ → Option ℕ → List (List ℕ) → Option LegRow → Result GraphRow TextFault
-row_numbers n names line place last r None = Err (Row line)
-row_numbers n names line place last r (Some x) = row_named n line place last x (number_of names.runs (field r 2)) (number_of names.places (field r 6))
+abbrev pub row_numbers : Parts → NameLists → Version → ℕ → ℕ → Option ℕ → List (List ℕ) → Option LegRow → Result GraphRow TextFault
+row_numbers n names version line place last r None = Err (Row line)
+row_numbers n names version line place last r (Some x) = row_named n line place last x (names_in version names place r)
 
 -- a leg row of a place, after one by an earlier moment
-abbrev pub row_in : Parts → NameLists → ℕ → ℕ → Option ℕ → List (List ℕ) → Result GraphRow TextFault
-row_in n names line place last r = row_numbers n names line place last r (leg_row_in (codes "leg") r)
+abbrev pub row_in : Parts → NameLists → Version → ℕ → ℕ → Option ℕ → List (List ℕ) → Result GraphRow TextFault
+row_in n names version line place last r = row_numbers n names version line place last r (leg_row_in version (codes "leg") r)
 
 -- the numbers of a place row, where each is of its form
 abbrev pub place_numbers : Option ℕ → Option ℕ → Option PlaceRow
@@ -135,8 +160,12 @@ place_numbers _ _ = None
 abbrev pub is_blank : List (List ℕ) → Bool
 is_blank r = (length (field r 4) == 0) && ((length (field r 5) == 0) && ((length (field r 6) == 0) && (length (field r 7) == 0)))
 
-abbrev pub place_row_in : List (List ℕ) → Option PlaceRow
-place_row_in r = if is_kind (codes "place") r && is_blank r then place_numbers (whole_at (field r 2)) (whole_at (field r 3)) else None
+-- whether it is a place row, of which the fields after the numbers are empty
+abbrev pub is_place : Version → List (List ℕ) → Bool
+is_place version r = is_kind version (codes "place") r && (is_blank r && has_no_entry version r)
+
+abbrev pub place_row_in : Version → List (List ℕ) → Option PlaceRow
+place_row_in version r = if is_place version r then place_numbers (whole_at (field r 2)) (whole_at (field r 3)) else None
 
 abbrev pub table_named : Parts → ℕ → Option ℕ → PlaceRow → Option ℕ → Result TableStart TextFault
 table_named n line last x None = Err (UnknownName line)
@@ -150,8 +179,8 @@ table_numbers n names line last r None = Err (Row line)
 table_numbers n names line last r (Some x) = table_named n line last x (number_of names.places (field r 1))
 
 -- a place row, after one of an earlier place
-abbrev pub table_in : Parts → NameLists → ℕ → Option ℕ → List (List ℕ) → Result TableStart TextFault
-table_in n names line last r = table_numbers n names line last r (place_row_in r)
+abbrev pub table_in : Parts → NameLists → Version → ℕ → Option ℕ → List (List ℕ) → Result TableStart TextFault
+table_in n names version line last r = table_numbers n names line last r (place_row_in version r)
 
 -- the tables so far, with one that begins or has one row more
 abbrev pub begun : Reading → Result TableStart TextFault → Result Reading TextFault
@@ -171,20 +200,20 @@ extended s (Ok row) =
     else Ok (record { done = s.done; place = s.place; rows = s.rows ++ row ∷ []; by = Some row.by; left = s.left - 1 })
 
 -- after one record more: a place row where no leg row is left to come, and else a leg row
-abbrev pub step : Parts → NameLists → ℕ → List (List ℕ) → Reading → Result Reading TextFault
-step n names line r s =
+abbrev pub step : Parts → NameLists → Version → ℕ → List (List ℕ) → Reading → Result Reading TextFault
+step n names version line r s =
     if s.left == 0
-    then begun s (table_in n names line (option_map (λ place. place.0) s.place) r)
-    else extended s (row_in n names line (place_or_first s.place).0 (option_map (λ moment. moment.0) s.by) r)
+    then begun s (table_in n names version line (option_map (λ place. place.0) s.place) r)
+    else extended s (row_in n names version line (place_or_first s.place).0 (option_map (λ moment. moment.0) s.by) r)
 
 abbrev pub and_then : {A B : Type 0} → Result A TextFault → (A → Result B TextFault) → Result B TextFault
 and_then (Err e) next = Err e
 and_then (Ok a) next = next a
 
 -- the tables of the records from a line on
-abbrev pub tables_from : Parts → NameLists → List (List (List ℕ)) → ℕ → Reading → Result (List PlaceTable) TextFault
-tables_from n names [] line s = if s.left == 0 then Ok s.done else Err (Row line)
-tables_from n names (r ∷ rs) line s = and_then (step n names line r s) (tables_from n names rs (line + 1))
+abbrev pub tables_from : Parts → NameLists → Version → List (List (List ℕ)) → ℕ → Reading → Result (List PlaceTable) TextFault
+tables_from n names version [] line s = if s.left == 0 then Ok s.done else Err (Row line)
+tables_from n names version (r ∷ rs) line s = and_then (step n names version line r s) (tables_from n names version rs (line + 1))
 
 -- where a leg row is to come there is a place, and a place is one of the network's
 pub record IsPlaced (n : Parts) (s : Reading) : Type 0 where
@@ -195,17 +224,17 @@ abbrev pub no_tables : Reading
 no_tables = record { done = []; place = None; rows = []; by = None; left = 0 }
 
 -- the graph of a start row and the records after it
-abbrev pub started_in : Parts → NameLists → ℕ → ℕ → List (List ℕ) → List (List (List ℕ)) → Result PlanGraph TextFault
-started_in n names source start r rs =
-    and_then (start_in n names 2 source start r) (λ leg. and_then (tables_from n names rs 3 no_tables) (λ tables. Ok (record { start = Some leg; tables = tables })))
+abbrev pub started_in : Parts → NameLists → Version → ℕ → ℕ → List (List ℕ) → List (List (List ℕ)) → Result PlanGraph TextFault
+started_in n names version source start r rs =
+    and_then (start_in n names version 2 source start r) (λ leg. and_then (tables_from n names version rs 3 no_tables) (λ tables. Ok (record { start = Some leg; tables = tables })))
 
 -- the graph of the records after the first
-abbrev pub graph_in : Parts → NameLists → ℕ → ℕ → ℕ → List (List (List ℕ)) → Result PlanGraph TextFault
-graph_in n names source target start [] = if source == target then Ok (record { start = None; tables = [] }) else Err (Row 2)
-graph_in n names source target start (r ∷ rs) =
+abbrev pub graph_in : Parts → NameLists → Version → ℕ → ℕ → ℕ → List (List (List ℕ)) → Result PlanGraph TextFault
+graph_in n names version source target start [] = if source == target then Ok (record { start = None; tables = [] }) else Err (Row 2)
+graph_in n names version source target start (r ∷ rs) =
     if source == target
     then Err (Row 2)
-    else started_in n names source start r rs
+    else started_in n names version source start r rs
 
 -- whether two moments and two bounds are in order
 abbrev pub are_in_order : ℕ → ℕ → ℕ → ℕ → Bool
@@ -217,13 +246,20 @@ head_numbers (Some start) (Some deadline) (Some lo) (Some hi) =
     if are_in_order start deadline lo hi then Some (record { start = record { 0 = start }; deadline = record { 0 = deadline }; lo = lo; hi = hi }) else None
 head_numbers _ _ _ _ = None
 
--- whether it is the first row of a graph, of the version that is known
-abbrev pub is_head : List (List ℕ) → Bool
-is_head r = (length r == 8) && (bytes_eq (field r 0) (codes "graph") && bytes_eq (field r 1) (codes "1"))
+-- the version that the first row tells
+abbrev pub version_in : List (List ℕ) → Option Version
+version_in r =
+    if bytes_eq (field r 1) (number_of_version First)
+    then Some First
+    else (if bytes_eq (field r 1) (number_of_version Second) then Some Second else None)
 
-abbrev pub head_row_in : List (List ℕ) → Option HeadRow
-head_row_in r =
-    if is_head r
+-- whether it is the first row of a graph
+abbrev pub is_head : Version → List (List ℕ) → Bool
+is_head version r = is_kind version (codes "graph") r && has_no_entry version r
+
+abbrev pub head_row_in : Version → List (List ℕ) → Option HeadRow
+head_row_in version r =
+    if is_head version r
     then head_numbers (moment_at (field r 4)) (moment_at (field r 5)) (nanos_at (field r 6)) (nanos_at (field r 7))
     else None
 
@@ -243,14 +279,19 @@ head_of_numbers names source target start r None = Err (Row 1)
 head_of_numbers names source target start r (Some x) = head_named source target start x (number_of names.places (field r 2)) (number_of names.places (field r 3))
 
 -- the first row
-abbrev pub head_in : NameLists → ℕ → ℕ → ℕ → List (List ℕ) → Result Head TextFault
-head_in names source target start r = head_of_numbers names source target start r (head_row_in r)
+abbrev pub head_in : NameLists → Version → ℕ → ℕ → ℕ → List (List ℕ) → Result Head TextFault
+head_in names version source target start r = head_of_numbers names source target start r (head_row_in version r)
+
+-- the head and the graph of a table's records, by the version that the first one tells
+abbrev pub graph_of_version : Parts → NameLists → ℕ → ℕ → ℕ → List (List ℕ) → List (List (List ℕ)) → Option Version → Result (Head × PlanGraph) TextFault
+graph_of_version n names source target start r rs None = Err (Row 1)
+graph_of_version n names source target start r rs (Some version) =
+    and_then (head_in names version source target start r) (λ head. and_then (graph_in n names version source target start rs) (λ graph. Ok (head, graph)))
 
 -- the head and the graph of a table's records
 abbrev pub graph_of_records : Parts → NameLists → ℕ → ℕ → ℕ → List (List (List ℕ)) → Result (Head × PlanGraph) TextFault
 graph_of_records n names source target start [] = Err (Row 1)
-graph_of_records n names source target start (r ∷ rs) =
-    and_then (head_in names source target start r) (λ head. and_then (graph_in n names source target start rs) (λ graph. Ok (head, graph)))
+graph_of_records n names source target start (r ∷ rs) = graph_of_version n names source target start r rs (version_in r)
 
 -- the head and the graph of a text, or the first of its faults by line
 abbrev pub graph_of : List ℕ → Parts → NameLists → ℕ → ℕ → ℕ → Result (Head × PlanGraph) TextFault

@@ -5,13 +5,15 @@ use Rattle.clock_text.specs.Civil.{moment_text, nanos_text}
 use Rattle.plan_model.specs.declared.model.Leg.{Leg}
 use Rattle.plan_model.specs.Parts.{Parts}
 use Rattle.plan_model.specs.NameLists.{NameLists}
-use Rattle.plan_model.specs.Network.{run_of, step_of, dep_of, arr_of, to_of, change_of}
+use Rattle.plan_model.specs.Network.{run_of, step_of, from_of, dep_of, arr_of, to_of, change_of}
 use Rattle.plan_graph.specs.declared.GraphRow.{GraphRow}
 use Rattle.plan_graph.specs.declared.Ride.{Ride}
 use Rattle.plan_graph.specs.declared.PlaceTable.{PlaceTable}
 use Rattle.plan_graph.specs.declared.ExpandedGraph.{ExpandedGraph}
 use Rattle.plan_graph.specs.declared.PlanGraph.{PlanGraph}
 use Rattle.graph_text.specs.declared.Head.{Head}
+use Rattle.graph_text.specs.declared.version.Version.{Version}
+use Rattle.graph_text.specs.Versions.{number_of_version, ninth, tables_leave, rides_leave, version_by}
 
 -- a printed row of fields
 unfoldable pub row_of_fields : List (List ℕ) → List ℕ
@@ -23,79 +25,87 @@ place_name names place = slice_index_or names.places place []
 abbrev pub run_name : NameLists → ℕ → List ℕ
 run_name names run = slice_index_or names.runs run []
 
--- the fields of a leg: run, entry step, departure, exit step, exit place, scheduled arrival
-abbrev pub leg_fields : Parts → NameLists → Leg → List (List ℕ)
-leg_fields n names leg =
+-- the fields of a leg: run, entry step, departure, exit step, exit place, scheduled arrival, and the entry place in the second version
+abbrev pub leg_fields : Parts → NameLists → Version → Leg → List (List ℕ)
+leg_fields n names version leg =
     run_name names (run_of n leg.enter.0)
     ∷ decimal (step_of n leg.enter.0)
     ∷ moment_text (dep_of n leg.enter.0)
     ∷ decimal (step_of n leg.exit.0)
     ∷ place_name names (to_of n leg.exit.0)
     ∷ moment_text (arr_of n leg.exit.0)
-    ∷ []
+    ∷ ninth version (place_name names (from_of n leg.enter.0))
 
 -- a row of a leg: its kind, a field of its own, and the leg's fields
-abbrev pub leg_row : Parts → NameLists → List ℕ → List ℕ → Leg → List ℕ
-leg_row n names kind second leg = row_of_fields (kind ∷ second ∷ leg_fields n names leg)
+abbrev pub leg_row : Parts → NameLists → Version → List ℕ → List ℕ → Leg → List ℕ
+leg_row n names version kind second leg = row_of_fields (kind ∷ second ∷ leg_fields n names version leg)
 
 -- the first row: kind, version, source, target, start, deadline, lower and upper bound
-abbrev pub head_row : NameLists → List ℕ → Head → List ℕ
-head_row names kind head =
+abbrev pub head_row : NameLists → Version → List ℕ → Head → List ℕ
+head_row names version kind head =
     row_of_fields
     (kind
-    ∷ codes "1"
+    ∷ number_of_version version
     ∷ place_name names head.query.source.0
     ∷ place_name names head.query.target.0
     ∷ moment_text head.query.start.0
     ∷ moment_text head.query.deadline.0
     ∷ nanos_text head.bounds.lo
     ∷ nanos_text head.bounds.hi
-    ∷ [])
+    ∷ ninth version [])
 
 -- the row of the start leg, where there is one
-abbrev pub start_text : Parts → NameLists → Option Leg → List ℕ
-start_text n names None = []
-start_text n names (Some leg) = leg_row n names (codes "start") (moment_text (dep_of n leg.enter.0)) leg
+abbrev pub start_text : Parts → NameLists → Version → Option Leg → List ℕ
+start_text n names version None = []
+start_text n names version (Some leg) = leg_row n names version (codes "start") (moment_text (dep_of n leg.enter.0)) leg
 
 -- a row for each row of a table, by its moment
-abbrev pub rows_text : Parts → NameLists → List ℕ → List GraphRow → List ℕ
-rows_text n names kind [] = []
-rows_text n names kind (row ∷ rows) = leg_row n names kind (moment_text row.by.0) row.leg ++ rows_text n names kind rows
+abbrev pub rows_text : Parts → NameLists → Version → List ℕ → List GraphRow → List ℕ
+rows_text n names version kind [] = []
+rows_text n names version kind (row ∷ rows) = leg_row n names version kind (moment_text row.by.0) row.leg ++ rows_text n names version kind rows
 
 -- the row of a ride, with the number of its rows, and those rows
-abbrev pub ride_text : Parts → NameLists → Ride → List ℕ
-ride_text n names r = leg_row n names (codes "ride") (decimal (length r.after)) r.leg ++ rows_text n names (codes "next") r.after
+abbrev pub ride_text : Parts → NameLists → Version → Ride → List ℕ
+ride_text n names version r = leg_row n names version (codes "ride") (decimal (length r.after)) r.leg ++ rows_text n names version (codes "next") r.after
 
-abbrev pub rides_text : Parts → NameLists → List Ride → List ℕ
-rides_text n names [] = []
-rides_text n names (r ∷ rides) = ride_text n names r ++ rides_text n names rides
+abbrev pub rides_text : Parts → NameLists → Version → List Ride → List ℕ
+rides_text n names version [] = []
+rides_text n names version (r ∷ rides) = ride_text n names version r ++ rides_text n names version rides
 
--- the text of a graph by ride; where source and target are one place only the first row stands
+-- the text of a graph by ride, of a version; where source and target are one place only the first row stands
+abbrev pub expanded_text_in : Parts → NameLists → Version → Head → ExpandedGraph → List ℕ
+expanded_text_in n names version head graph =
+    head_row names version (codes "expanded") head
+    ++ (if head.query.source.0 == head.query.target.0 then [] else start_text n names version graph.start ++ rides_text n names version graph.rides)
+
+-- the text of a graph by ride
 abbrev pub expanded_text : Parts → NameLists → Head → ExpandedGraph → List ℕ
-expanded_text n names head graph =
-    head_row names (codes "expanded") head
-    ++ (if head.query.source.0 == head.query.target.0 then [] else start_text n names graph.start ++ rides_text n names graph.rides)
+expanded_text n names head graph = expanded_text_in n names (version_by (rides_leave n graph.rides)) head graph
 
 -- the row of a place, with its change seconds and how many rows it has
-abbrev pub place_row : Parts → NameLists → ℕ → ℕ → List ℕ
-place_row n names place count =
+abbrev pub place_row : Parts → NameLists → Version → ℕ → ℕ → List ℕ
+place_row n names version place count =
     row_of_fields
     (codes "place"
     ∷ place_name names place
     ∷ decimal (change_of n place)
     ∷ decimal count
-    ∷ [] ∷ [] ∷ [] ∷ [] ∷ [])
+    ∷ [] ∷ [] ∷ [] ∷ [] ∷ ninth version [])
 
 -- the row of a place, and its rows
-abbrev pub table_text : Parts → NameLists → PlaceTable → List ℕ
-table_text n names table = place_row n names table.place.0 (length table.rows) ++ rows_text n names (codes "leg") table.rows
+abbrev pub table_text : Parts → NameLists → Version → PlaceTable → List ℕ
+table_text n names version table = place_row n names version table.place.0 (length table.rows) ++ rows_text n names version (codes "leg") table.rows
 
-abbrev pub tables_text : Parts → NameLists → List PlaceTable → List ℕ
-tables_text n names [] = []
-tables_text n names (table ∷ tables) = table_text n names table ++ tables_text n names tables
+abbrev pub tables_text : Parts → NameLists → Version → List PlaceTable → List ℕ
+tables_text n names version [] = []
+tables_text n names version (table ∷ tables) = table_text n names version table ++ tables_text n names version tables
 
--- the text of a graph by place; where source and target are one place only the first row stands
+-- the text of a graph by place, of a version; where source and target are one place only the first row stands
+abbrev pub graph_text_in : Parts → NameLists → Version → Head → PlanGraph → List ℕ
+graph_text_in n names version head graph =
+    head_row names version (codes "graph") head
+    ++ (if head.query.source.0 == head.query.target.0 then [] else start_text n names version graph.start ++ tables_text n names version graph.tables)
+
+-- the text of a graph by place
 abbrev pub graph_text : Parts → NameLists → Head → PlanGraph → List ℕ
-graph_text n names head graph =
-    head_row names (codes "graph") head
-    ++ (if head.query.source.0 == head.query.target.0 then [] else start_text n names graph.start ++ tables_text n names graph.tables)
+graph_text n names head graph = graph_text_in n names (version_by (tables_leave n graph.tables)) head graph

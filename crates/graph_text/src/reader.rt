@@ -4,9 +4,10 @@ ghost use Rattle.std.specs.Option.{option_map};
 ghost use Rattle.csv_rows.specs.Tables.{header, row_count};
 ghost use Rattle.plan_model.specs.NameLists.{NamesFit};
 ghost use Rattle.plan_model.specs.Network.{count};
-ghost use Rattle.graph_text.specs.Reading.{is_kind, whole_at, number_of, connection_of, leg_row_in, leg_found, rises, can_start, start_in, is_limit, is_by_limit, row_in, is_blank, place_row_in, table_in, begun, extended, place_or_first, IsPlaced, no_tables, step, tables_from, graph_in, is_head, are_in_order, head_row_in, is_query, head_in, started_in, graph_of, IsRead};
+ghost use Rattle.graph_text.specs.Reading.{is_kind, whole_at, number_of, connection_of, leg_row_in, entry_in, names_in, leg_found, rises, can_start, start_in, is_limit, is_by_limit, row_in, is_blank, has_no_entry, is_place, place_row_in, table_in, begun, extended, place_or_first, IsPlaced, no_tables, step, tables_from, graph_in, version_in, is_head, are_in_order, head_row_in, is_query, head_in, started_in, graph_of, IsRead};
 
 use crate::Head;
+use crate::version::{Version, width};
 use clock_text::{read_moment, read_nanos, read_whole};
 use csv_rows::{Rows, RowsFault};
 use interval_fixed::Span;
@@ -44,6 +45,14 @@ struct LegRow {
     arr: Moment,
 }
 
+/// The names of a leg's row: its run, where one leaves it and where one boards.
+#[derive(Clone, Copy)]
+struct LegNames {
+    run: RunId,
+    exit: PlaceId,
+    entry: PlaceId,
+}
+
 /// The numbers of a place row.
 #[derive(Clone, Copy)]
 struct PlaceRow {
@@ -77,25 +86,13 @@ struct Reading {
     left: u32,
 }
 
-/// The place of this name.
-fn place_of(names: &Names, text: &[u8]) -> Option<PlaceId>
-    ensures number { option_map (λ id. id.0) result ≡ number_of names.now.places text.now }
-    ensures there { IfSome result (λ id. id.0 < length names.now.places) }
-{
-    match std::str::from_utf8(text) {
-        Ok(name) => names.place(name),
-        Err(_) => None,
-    }
-}
-
-/// The run of this name.
-fn run_of(names: &Names, text: &[u8]) -> Option<RunId>
-    ensures { option_map (λ id. id.0) result ≡ number_of names.now.runs text.now }
-{
-    match std::str::from_utf8(text) {
-        Ok(name) => names.run(name),
-        Err(_) => None,
-    }
+/// A table's rows, their version, and the network and the names that they are read by.
+#[derive(Drop)]
+struct Reader<'a> {
+    version: Version,
+    rows: &'a Rows,
+    network: &'a Network,
+    names: &'a Names,
 }
 
 /// A whole number of one to nine digits.
@@ -103,67 +100,6 @@ fn whole(text: &[u8]) -> Option<u32>
     ensures { result ≡ whole_at text.now }
 {
     read_whole(text, 999_999_999)
-}
-
-/// Whether a row is of this kind, with eight fields.
-fn is_kind(rows: &Rows, row: usize, kind: &[u8]) -> bool
-    requires { row < row_count rows.now }
-    ensures { result ≡ is_kind kind.now (slice_index_or rows.now (row + 1) []) }
-{
-    rows.width(row) == 8 && rows.field(row, 0) == kind
-}
-
-/// The numbers of a leg's row, where each field is of its form.
-fn leg_row(rows: &Rows, row: usize, kind: &[u8]) -> Option<LegRow>
-    requires { row < row_count rows.now }
-    ensures { result ≡ leg_row_in kind.now (slice_index_or rows.now (row + 1) []) }
-{
-    if !is_kind(rows, row, kind) {
-        return None;
-    }
-    let moment = read_moment(rows.field(row, 1))?;
-    let enter = whole(rows.field(row, 3))?;
-    let dep = read_moment(rows.field(row, 4))?;
-    let exit = whole(rows.field(row, 5))?;
-    let arr = read_moment(rows.field(row, 7))?;
-    Some(LegRow {
-        moment,
-        enter,
-        dep,
-        exit,
-        arr,
-    })
-}
-
-/// The connection of a run and step.
-fn connection_of(network: &Network, run: RunId, step: u32) -> Option<ConnectionId>
-    ensures number { option_map (λ id. id.0) result ≡ connection_of network.now run.0 step }
-    ensures there { IfSome result (λ id. id.0 < count network.now) }
-{
-    let _count = network.count();
-    network.find(run, step)
-}
-
-/// The leg of a row by its run and exit place, where the network has it.
-fn leg_found(network: &Network, numbers: &LegRow, run: RunId, place: PlaceId) -> Option<Leg>
-    ensures found { result ≡ leg_found network.now numbers.now run.0 place.0 }
-    ensures there { IfSome result (λ leg. (leg.enter.0 < count network.now)
-        × (leg.exit.0 < count network.now)) }
-{
-    let enter = connection_of(network, run, numbers.enter)?;
-    let exit = connection_of(network, run, numbers.exit)?;
-    let entry = network.get(enter);
-    let last = network.get(exit);
-    if numbers.enter <= numbers.exit
-        && entry.can_board
-        && last.can_exit
-        && entry.dep.0 == numbers.dep.0
-        && last.to.0 == place.0
-        && last.arr.0 == numbers.arr.0
-    {
-        return Some(Leg { enter, exit });
-    }
-    None
 }
 
 /// Whether it is greater than the one before, if there is one.
@@ -176,47 +112,6 @@ fn rises(last: Option<u64>, x: u64) -> bool
     }
 }
 
-/// Whether a leg leaves the source at the start or later, and the moment is its departure.
-fn can_start(network: &Network, source: PlaceId, start: Moment, moment: Moment, leg: Leg) -> bool
-    requires { leg.enter.0 < count network.now }
-    ensures { result ≡ can_start network.now source.0 start.0 moment.0 leg }
-{
-    let entry = network.get(leg.enter);
-    entry.from.0 == source.0 && moment.0 == entry.dep.0 && start.0 <= entry.dep.0
-}
-
-/// The start leg of a row.
-fn start_row(
-    rows: &Rows,
-    row: usize,
-    network: &Network,
-    names: &Names,
-    source: PlaceId,
-    start: Moment,
-) -> Result<Leg, TextFault>
-    requires { row < row_count rows.now }
-    ensures { result ≡ start_in network.now names.now (row + 2) source.0 start.0
-        (slice_index_or rows.now (row + 1) []) }
-{
-    let line = rows.line(row);
-    let Some(numbers) = leg_row(rows, row, b"start") else {
-        return Err(TextFault::Row(line));
-    };
-    let run = run_of(names, rows.field(row, 2));
-    let place = place_of(names, rows.field(row, 6));
-    let (Some(run), Some(place)) = (run, place) else {
-        return Err(TextFault::UnknownName(line));
-    };
-    let Some(leg) = leg_found(network, &numbers, run, place) else {
-        return Err(TextFault::NoLeg(line));
-    };
-    if can_start(network, source, start, numbers.moment, leg) {
-        Ok(leg)
-    } else {
-        Err(TextFault::NoLeg(line))
-    }
-}
-
 /// Whether there is a limit, and it is this moment.
 fn is_limit(limit: Option<Moment>, moment: Moment) -> bool
     ensures { result ≡ is_limit (option_map (λ limit. limit.0) limit) moment.0 }
@@ -224,116 +119,6 @@ fn is_limit(limit: Option<Moment>, moment: Moment) -> bool
     match limit {
         Some(limit) => limit.0 == moment.0,
         None => false,
-    }
-}
-
-/// Whether a leg leaves the place, and the moment is its limit.
-fn is_by_limit(network: &Network, place: PlaceId, moment: Moment, leg: Leg) -> bool
-    requires place { place.0 < length network.now.change }
-    requires enter { leg.enter.0 < count network.now }
-    requires exit { leg.exit.0 < count network.now }
-    ensures { result ≡ is_by_limit network.now place.0 moment.0 leg }
-{
-    network.get(leg.enter).from.0 == place.0 && is_limit(network.limit(place, leg), moment)
-}
-
-/// A leg row of a place, after one by an earlier moment.
-fn table_row(
-    rows: &Rows,
-    row: usize,
-    network: &Network,
-    names: &Names,
-    place: PlaceId,
-    last: Option<u64>,
-) -> Result<GraphRow, TextFault>
-    requires row { row < row_count rows.now }
-    requires place { place.0 < length network.now.change }
-    ensures { result ≡ row_in network.now names.now (row + 2) place.0 last
-        (slice_index_or rows.now (row + 1) []) }
-{
-    let line = rows.line(row);
-    let Some(numbers) = leg_row(rows, row, b"leg") else {
-        return Err(TextFault::Row(line));
-    };
-    let run = run_of(names, rows.field(row, 2));
-    let exit = place_of(names, rows.field(row, 6));
-    let (Some(run), Some(exit)) = (run, exit) else {
-        return Err(TextFault::UnknownName(line));
-    };
-    if !rises(last, numbers.moment.0) {
-        return Err(TextFault::NotRising(line));
-    }
-    let Some(leg) = leg_found(network, &numbers, run, exit) else {
-        return Err(TextFault::NoLeg(line));
-    };
-    if is_by_limit(network, place, numbers.moment, leg) {
-        Ok(GraphRow {
-            by: numbers.moment,
-            leg,
-        })
-    } else {
-        Err(TextFault::NoLeg(line))
-    }
-}
-
-/// Whether the last four fields of a row are empty.
-fn is_blank(rows: &Rows, row: usize) -> bool
-    requires { row < row_count rows.now }
-    ensures { result ≡ is_blank (slice_index_or rows.now (row + 1) []) }
-{
-    rows.field(row, 4).len() == 0
-        && rows.field(row, 5).len() == 0
-        && rows.field(row, 6).len() == 0
-        && rows.field(row, 7).len() == 0
-}
-
-/// The numbers of a place row, where each field is of its form.
-fn place_row(rows: &Rows, row: usize) -> Option<PlaceRow>
-    requires { row < row_count rows.now }
-    ensures { result ≡ place_row_in (slice_index_or rows.now (row + 1) []) }
-{
-    if !is_kind(rows, row, b"place") || !is_blank(rows, row) {
-        return None;
-    }
-    let change = whole(rows.field(row, 2))?;
-    let count = whole(rows.field(row, 3))?;
-    if count == 0 {
-        return None;
-    }
-    Some(PlaceRow { change, count })
-}
-
-/// A place row, after one of an earlier place.
-fn table_start(
-    rows: &Rows,
-    row: usize,
-    network: &Network,
-    names: &Names,
-    last: Option<u32>,
-) -> Result<TableStart, TextFault>
-    requires row { row < row_count rows.now }
-    requires names { NamesFit names.now network.now }
-    ensures told { result ≡ table_in network.now names.now (row + 2) last
-        (slice_index_or rows.now (row + 1) []) }
-    ensures there { IfOk result (λ table. table.place.0 < length network.now.change) }
-{
-    let line = rows.line(row);
-    let Some(numbers) = place_row(rows, row) else {
-        return Err(TextFault::Row(line));
-    };
-    let Some(place) = place_of(names, rows.field(row, 1)) else {
-        return Err(TextFault::UnknownName(line));
-    };
-    if !rises(last.map(|last| u64::from(last)), u64::from(place.0)) {
-        return Err(TextFault::NotRising(line));
-    }
-    if numbers.change == network.change(place) {
-        Ok(TableStart {
-            place,
-            count: numbers.count,
-        })
-    } else {
-        Err(TextFault::NoLeg(line))
     }
 }
 
@@ -424,140 +209,12 @@ fn seconds(by: Option<Moment>) -> Option<u64>
     }
 }
 
-/// After a place row.
-fn read_place(
-    alloc: Global,
-    rows: &Rows,
-    row: usize,
-    network: &Network,
-    names: &Names,
-    reading: Reading,
-) -> Result<Reading, TextFault>
-    requires row { row < row_count rows.now }
-    requires names { NamesFit names.now network.now }
-    ensures told { begun reading (table_in network.now names.now (row + 2)
-        (option_map (λ place. place.0) reading.place) (slice_index_or rows.now (row + 1) []))
-        ≡ result }
-    ensures place { IfOk result (IsPlaced network.now) }
-{
-    match table_start(rows, row, network, names, number(reading.place)) {
-        Ok(start) => Ok(begin(alloc, reading, start)),
-        Err(fault) => Err(fault),
-    }
-}
-
-/// After a leg row of the last place.
-fn read_leg(
-    alloc: Global,
-    rows: &Rows,
-    row: usize,
-    network: &Network,
-    names: &Names,
-    reading: Reading,
-    place: PlaceId,
-) -> Result<Reading, TextFault>
-    requires row { row < row_count rows.now }
-    requires left { 1 ≤ reading.left }
-    requires last { reading.place ≡ Some place }
-    requires place { place.0 < length network.now.change }
-    ensures told { IsRead result (extended reading
-        (row_in network.now names.now (row + 2) place.0
-        (option_map (λ moment. moment.0) reading.by) (slice_index_or rows.now (row + 1) []))) }
-    ensures place { IfOk result (IsPlaced network.now) }
-{
-    match table_row(rows, row, network, names, place, seconds(reading.by)) {
-        Ok(row) => match extend(alloc, reading, place, row) {
-            Ok(reading) => Ok(reading),
-            Err(_) => Err(TextFault::NoMemory),
-        },
-        Err(fault) => Err(fault),
-    }
-}
-
-/// After one row more: a place row where no leg row is to come, and else a leg row.
-fn read_row(
-    alloc: Global,
-    rows: &Rows,
-    row: usize,
-    network: &Network,
-    names: &Names,
-    reading: Reading,
-) -> Result<Reading, TextFault>
-    requires row { row < row_count rows.now }
-    requires names { NamesFit names.now network.now }
-    requires place { IsPlaced network.now reading }
-    ensures told { IsRead result (step network.now names.now (row + 2)
-        (slice_index_or rows.now (row + 1) []) reading) }
-    ensures place { IfOk result (IsPlaced network.now) }
-{
-    if reading.left == 0 {
-        return read_place(alloc, rows, row, network, names, reading);
-    }
-    match reading.place {
-        Some(place) => read_leg(alloc, rows, row, network, names, reading, place),
-        None => unreachable!(),
-    }
-}
-
-/// The tables of the rows from the second on.
-fn read_tables(
-    alloc: Global,
-    rows: &Rows,
-    network: &Network,
-    names: &Names,
-) -> Result<List<PlaceTable>, TextFault>
-    requires { NamesFit names.now network.now }
-    ensures { IsRead result (tables_from network.now names.now (drop 2 rows.now) 3 no_tables) }
-{
-    let mut reading = Reading::new(alloc);
-    let count = rows.count();
-    for row in 1..count {
-        reading = read_row(alloc, rows, row, network, names, reading)?;
-    }
-    if reading.left == 0 {
-        return Ok(reading.done);
-    }
-    Err(TextFault::Row(count as u64 + 2))
-}
-
-/// Whether the first row is one of a graph, of the version that is known.
-fn is_head(rows: &Rows) -> bool
-    ensures { result ≡ is_head (header rows.now) }
-{
-    rows.header_width() == 8
-        && rows.header_field(0) == b"graph".as_slice()
-        && rows.header_field(1) == b"1".as_slice()
-}
-
 /// Whether two moments and two bounds are in order.
 fn are_in_order(start: Moment, deadline: Moment, lo: u64, hi: u64) -> bool
     ensures test { result ≡ are_in_order start.0 deadline.0 lo hi }
     ensures bounds { IsTrue result → lo ≤ hi }
 {
     start.0 <= deadline.0 && lo <= hi
-}
-
-/// The numbers of the first row, where each field is of its form.
-fn head_row(rows: &Rows) -> Option<HeadRow>
-    ensures told { result ≡ head_row_in (header rows.now) }
-    ensures ordered { IfSome result (λ numbers. numbers.lo ≤ numbers.hi) }
-{
-    if !is_head(rows) {
-        return None;
-    }
-    let start = read_moment(rows.header_field(4))?;
-    let deadline = read_moment(rows.header_field(5))?;
-    let lo = read_nanos(rows.header_field(6))?;
-    let hi = read_nanos(rows.header_field(7))?;
-    if !are_in_order(start, deadline, lo, hi) {
-        return None;
-    }
-    Some(HeadRow {
-        start,
-        deadline,
-        lo,
-        hi,
-    })
 }
 
 /// Whether two places and a moment are these.
@@ -573,93 +230,468 @@ fn is_query(
     places.0.0 == source.0 && places.1.0 == target.0 && moment.0 == start.0
 }
 
-/// The head, whose source, target and start are these.
-fn read_head(
-    rows: &Rows,
-    names: &Names,
-    source: PlaceId,
-    target: PlaceId,
-    start: Moment,
-) -> Result<Head, TextFault>
-    ensures told { result ≡ head_in names.now source.0 target.0 start.0 (header rows.now) }
-    ensures query { IfOk result (λ head. (head.query.source ≡ source)
-        × (head.query.target ≡ target) × (head.query.start ≡ start)) }
-{
-    let Some(numbers) = head_row(rows) else {
-        return Err(TextFault::Row(1));
-    };
-    let from = place_of(names, rows.header_field(2));
-    let to = place_of(names, rows.header_field(3));
-    let (Some(from), Some(to)) = (from, to) else {
-        return Err(TextFault::UnknownName(1));
-    };
-    if !is_query((from, to), numbers.start, source, target, start) {
-        return Err(TextFault::OtherQuery(1));
-    }
-    Ok(Head {
-        query: Query {
-            source,
-            target,
-            start,
-            deadline: numbers.deadline,
-        },
-        bounds: Span::from_parts(numbers.lo, numbers.hi),
-    })
-}
-
-/// The graph of the start row and the rows after it.
-fn read_rows(
-    alloc: Global,
-    rows: &Rows,
-    network: &Network,
-    names: &Names,
-    query: &Query,
-) -> Result<PlanGraph, TextFault>
-    requires names { NamesFit names.now network.now }
-    requires some { 0 < row_count rows.now }
-    ensures { IsRead result (started_in network.now names.now query.now.source.0 query.now.start.0
-        (slice_index_or rows.now 1 []) (drop 2 rows.now)) }
-{
-    let leg = match start_row(rows, 0, network, names, query.source, query.start) {
-        Ok(leg) => leg,
-        Err(fault) => return Err(fault),
-    };
-    match read_tables(alloc, rows, network, names) {
-        Ok(tables) => Ok(PlanGraph {
-            start: Some(leg),
-            tables,
-        }),
-        Err(fault) => Err(fault),
-    }
-}
-
-/// The graph of the rows after the first.
-fn read_graph(
-    alloc: Global,
-    rows: &Rows,
-    network: &Network,
-    names: &Names,
-    query: &Query,
-) -> Result<PlanGraph, TextFault>
-    requires { NamesFit names.now network.now }
-    ensures { IsRead result
-        (graph_in network.now names.now query.now.source.0 query.now.target.0 query.now.start.0
-        (drop 1 rows.now)) }
-{
-    let here = query.source.0 == query.target.0;
-    if rows.count() == 0 {
-        if here {
-            return Ok(PlanGraph {
-                start: None,
-                tables: List::new(alloc),
-            });
+impl<'a> Reader<'a> {
+    /// The place of this name.
+    fn place_of(&self, text: &[u8]) -> Option<PlaceId>
+        ensures number { option_map (λ id. id.0) result ≡ number_of self.now.names.now.places text.now }
+        ensures there { IfSome result (λ id. id.0 < length self.now.names.now.places) }
+    {
+        match std::str::from_utf8(text) {
+            Ok(name) => self.names.place(name),
+            Err(_) => None,
         }
-        return Err(TextFault::Row(2));
     }
-    if here {
-        return Err(TextFault::Row(2));
+
+    /// The run of this name.
+    fn run_of(&self, text: &[u8]) -> Option<RunId>
+        ensures { option_map (λ id. id.0) result ≡ number_of self.now.names.now.runs text.now }
+    {
+        match std::str::from_utf8(text) {
+            Ok(name) => self.names.run(name),
+            Err(_) => None,
+        }
     }
-    read_rows(alloc, rows, network, names, query)
+
+    /// Whether a row is of this kind, with as many fields as the version has.
+    fn is_kind(&self, row: usize, kind: &[u8]) -> bool
+        requires { row < row_count self.now.rows.now }
+        ensures { result ≡ is_kind self.now.version kind.now (slice_index_or self.now.rows.now (row + 1) []) }
+    {
+        self.rows.width(row) == width(self.version) && self.rows.field(row, 0) == kind
+    }
+
+    /// The numbers of a leg's row, where each field is of its form.
+    fn leg_row(&self, row: usize, kind: &[u8]) -> Option<LegRow>
+        requires { row < row_count self.now.rows.now }
+        ensures { result ≡ leg_row_in self.now.version kind.now (slice_index_or self.now.rows.now (row + 1) []) }
+    {
+        if !self.is_kind(row, kind) {
+            return None;
+        }
+        let moment = read_moment(self.rows.field(row, 1))?;
+        let enter = whole(self.rows.field(row, 3))?;
+        let dep = read_moment(self.rows.field(row, 4))?;
+        let exit = whole(self.rows.field(row, 5))?;
+        let arr = read_moment(self.rows.field(row, 7))?;
+        Some(LegRow {
+            moment,
+            enter,
+            dep,
+            exit,
+            arr,
+        })
+    }
+
+    /// The connection of a run and step.
+    fn connection_of(&self, run: RunId, step: u32) -> Option<ConnectionId>
+        ensures number { option_map (λ id. id.0) result ≡ connection_of self.now.network.now run.0 step }
+        ensures there { IfSome result (λ id. id.0 < count self.now.network.now) }
+    {
+        let _count = self.network.count();
+        self.network.find(run, step)
+    }
+
+    /// The place where a row has its leg begin: its own place, or the one that it names.
+    fn entry_of(&self, row: usize, here: PlaceId) -> Option<PlaceId>
+        requires { row < row_count self.now.rows.now }
+        ensures { option_map (λ id. id.0) result ≡ entry_in self.now.version self.now.names.now here.0
+            (slice_index_or self.now.rows.now (row + 1) []) }
+    {
+        match self.version {
+            Version::First => Some(here),
+            Version::Second => self.place_of(self.rows.field(row, 8)),
+        }
+    }
+
+    /// The names of a leg's row of a place, where each is known.
+    fn names_of(&self, row: usize, here: PlaceId) -> Option<LegNames>
+        requires { row < row_count self.now.rows.now }
+        ensures { result ≡ names_in self.now.version self.now.names.now here.0
+            (slice_index_or self.now.rows.now (row + 1) []) }
+    {
+        let run = self.run_of(self.rows.field(row, 2))?;
+        let exit = self.place_of(self.rows.field(row, 6))?;
+        let entry = self.entry_of(row, here)?;
+        Some(LegNames { run, exit, entry })
+    }
+
+    /// The leg of a row by its numbers and names, where the network has it.
+    fn leg_found(&self, numbers: &LegRow, known: &LegNames) -> Option<Leg>
+        ensures found { result ≡ leg_found self.now.network.now numbers.now known.now }
+        ensures there { IfSome result (λ leg. (leg.enter.0 < count self.now.network.now)
+            × (leg.exit.0 < count self.now.network.now)) }
+    {
+        let enter = self.connection_of(known.run, numbers.enter)?;
+        let exit = self.connection_of(known.run, numbers.exit)?;
+        let entry = self.network.get(enter);
+        let last = self.network.get(exit);
+        if numbers.enter <= numbers.exit
+            && entry.can_board
+            && last.can_exit
+            && entry.dep.0 == numbers.dep.0
+            && entry.from.0 == known.entry.0
+            && last.to.0 == known.exit.0
+            && last.arr.0 == numbers.arr.0
+        {
+            return Some(Leg { enter, exit });
+        }
+        None
+    }
+
+    /// Whether a leg leaves the source at the start or later, and the moment is its departure.
+    fn can_start(&self, source: PlaceId, start: Moment, moment: Moment, leg: Leg) -> bool
+        requires { leg.enter.0 < count self.now.network.now }
+        ensures { result ≡ can_start self.now.network.now source.0 start.0 moment.0 leg }
+    {
+        let entry = self.network.get(leg.enter);
+        entry.from.0 == source.0 && moment.0 == entry.dep.0 && start.0 <= entry.dep.0
+    }
+
+    /// The start leg of a row.
+    fn start_row(&self, row: usize, source: PlaceId, start: Moment) -> Result<Leg, TextFault>
+        requires { row < row_count self.now.rows.now }
+        ensures { result ≡ start_in self.now.network.now self.now.names.now self.now.version (row + 2) source.0 start.0
+            (slice_index_or self.now.rows.now (row + 1) []) }
+    {
+        let line = self.rows.line(row);
+        let Some(numbers) = self.leg_row(row, b"start") else {
+            return Err(TextFault::Row(line));
+        };
+        let Some(known) = self.names_of(row, source) else {
+            return Err(TextFault::UnknownName(line));
+        };
+        let Some(leg) = self.leg_found(&numbers, &known) else {
+            return Err(TextFault::NoLeg(line));
+        };
+        if self.can_start(source, start, numbers.moment, leg) {
+            Ok(leg)
+        } else {
+            Err(TextFault::NoLeg(line))
+        }
+    }
+
+    /// Whether the moment is the limit of a leg at a place.
+    fn is_by_limit(&self, place: PlaceId, moment: Moment, leg: Leg) -> bool
+        requires place { place.0 < length self.now.network.now.change }
+        requires enter { leg.enter.0 < count self.now.network.now }
+        requires exit { leg.exit.0 < count self.now.network.now }
+        ensures { result ≡ is_by_limit self.now.network.now place.0 moment.0 leg }
+    {
+        is_limit(self.network.limit(place, leg), moment)
+    }
+
+    /// A leg row of a place, after one by an earlier moment.
+    fn table_row(
+        &self,
+        row: usize,
+        place: PlaceId,
+        last: Option<u64>,
+    ) -> Result<GraphRow, TextFault>
+        requires row { row < row_count self.now.rows.now }
+        requires place { place.0 < length self.now.network.now.change }
+        ensures { result ≡ row_in self.now.network.now self.now.names.now self.now.version (row + 2) place.0 last
+            (slice_index_or self.now.rows.now (row + 1) []) }
+    {
+        let line = self.rows.line(row);
+        let Some(numbers) = self.leg_row(row, b"leg") else {
+            return Err(TextFault::Row(line));
+        };
+        let Some(known) = self.names_of(row, place) else {
+            return Err(TextFault::UnknownName(line));
+        };
+        if !rises(last, numbers.moment.0) {
+            return Err(TextFault::NotRising(line));
+        }
+        let Some(leg) = self.leg_found(&numbers, &known) else {
+            return Err(TextFault::NoLeg(line));
+        };
+        if self.is_by_limit(place, numbers.moment, leg) {
+            Ok(GraphRow {
+                by: numbers.moment,
+                leg,
+            })
+        } else {
+            Err(TextFault::NoLeg(line))
+        }
+    }
+
+    /// Whether the fields of a place row after its numbers are empty, up to the eighth.
+    fn is_blank(&self, row: usize) -> bool
+        requires { row < row_count self.now.rows.now }
+        ensures { result ≡ is_blank (slice_index_or self.now.rows.now (row + 1) []) }
+    {
+        self.rows.field(row, 4).len() == 0
+            && self.rows.field(row, 5).len() == 0
+            && self.rows.field(row, 6).len() == 0
+            && self.rows.field(row, 7).len() == 0
+    }
+
+    /// Whether the field of the entry place is empty, where the version has one.
+    fn has_no_entry(&self, row: usize) -> bool
+        requires { row < row_count self.now.rows.now }
+        ensures { result ≡ has_no_entry self.now.version (slice_index_or self.now.rows.now (row + 1) []) }
+    {
+        match self.version {
+            Version::First => true,
+            Version::Second => self.rows.field(row, 8).len() == 0,
+        }
+    }
+
+    /// Whether a row is a place row, whose fields after its numbers are empty.
+    fn is_place(&self, row: usize) -> bool
+        requires { row < row_count self.now.rows.now }
+        ensures { result ≡ is_place self.now.version (slice_index_or self.now.rows.now (row + 1) []) }
+    {
+        self.is_kind(row, b"place") && (self.is_blank(row) && self.has_no_entry(row))
+    }
+
+    /// The numbers of a place row, where each field is of its form.
+    fn place_row(&self, row: usize) -> Option<PlaceRow>
+        requires { row < row_count self.now.rows.now }
+        ensures { result ≡ place_row_in self.now.version (slice_index_or self.now.rows.now (row + 1) []) }
+    {
+        if !self.is_place(row) {
+            return None;
+        }
+        let change = whole(self.rows.field(row, 2))?;
+        let count = whole(self.rows.field(row, 3))?;
+        if count == 0 {
+            return None;
+        }
+        Some(PlaceRow { change, count })
+    }
+
+    /// A place row, after one of an earlier place.
+    fn table_start(&self, row: usize, last: Option<u32>) -> Result<TableStart, TextFault>
+        requires row { row < row_count self.now.rows.now }
+        requires names { NamesFit self.now.names.now self.now.network.now }
+        ensures told { result ≡ table_in self.now.network.now self.now.names.now self.now.version (row + 2) last
+            (slice_index_or self.now.rows.now (row + 1) []) }
+        ensures there { IfOk result (λ table. table.place.0 < length self.now.network.now.change) }
+    {
+        let line = self.rows.line(row);
+        let Some(numbers) = self.place_row(row) else {
+            return Err(TextFault::Row(line));
+        };
+        let Some(place) = self.place_of(self.rows.field(row, 1)) else {
+            return Err(TextFault::UnknownName(line));
+        };
+        if !rises(last.map(|last| u64::from(last)), u64::from(place.0)) {
+            return Err(TextFault::NotRising(line));
+        }
+        if numbers.change == self.network.change(place) {
+            Ok(TableStart {
+                place,
+                count: numbers.count,
+            })
+        } else {
+            Err(TextFault::NoLeg(line))
+        }
+    }
+
+    /// After a place row.
+    fn read_place(&self, alloc: Global, row: usize, reading: Reading) -> Result<Reading, TextFault>
+        requires row { row < row_count self.now.rows.now }
+        requires names { NamesFit self.now.names.now self.now.network.now }
+        ensures told { begun reading (table_in self.now.network.now self.now.names.now self.now.version (row + 2)
+            (option_map (λ place. place.0) reading.place) (slice_index_or self.now.rows.now (row + 1) []))
+            ≡ result }
+        ensures place { IfOk result (IsPlaced self.now.network.now) }
+    {
+        match self.table_start(row, number(reading.place)) {
+            Ok(start) => Ok(begin(alloc, reading, start)),
+            Err(fault) => Err(fault),
+        }
+    }
+
+    /// After a leg row of the last place.
+    fn read_leg(
+        &self,
+        alloc: Global,
+        row: usize,
+        reading: Reading,
+        place: PlaceId,
+    ) -> Result<Reading, TextFault>
+        requires row { row < row_count self.now.rows.now }
+        requires left { 1 ≤ reading.left }
+        requires last { reading.place ≡ Some place }
+        requires place { place.0 < length self.now.network.now.change }
+        ensures told { IsRead result (extended reading
+            (row_in self.now.network.now self.now.names.now self.now.version (row + 2) place.0
+            (option_map (λ moment. moment.0) reading.by) (slice_index_or self.now.rows.now (row + 1) []))) }
+        ensures place { IfOk result (IsPlaced self.now.network.now) }
+    {
+        match self.table_row(row, place, seconds(reading.by)) {
+            Ok(row) => match extend(alloc, reading, place, row) {
+                Ok(reading) => Ok(reading),
+                Err(_) => Err(TextFault::NoMemory),
+            },
+            Err(fault) => Err(fault),
+        }
+    }
+
+    /// After one row more: a place row where no leg row is to come, and else a leg row.
+    fn read_row(&self, alloc: Global, row: usize, reading: Reading) -> Result<Reading, TextFault>
+        requires row { row < row_count self.now.rows.now }
+        requires place { IsPlaced self.now.network.now reading }
+        requires names { NamesFit self.now.names.now self.now.network.now }
+        ensures told { IsRead result (step self.now.network.now self.now.names.now self.now.version (row + 2)
+            (slice_index_or self.now.rows.now (row + 1) []) reading) }
+        ensures place { IfOk result (IsPlaced self.now.network.now) }
+    {
+        if reading.left == 0 {
+            return self.read_place(alloc, row, reading);
+        }
+        match reading.place {
+            Some(place) => self.read_leg(alloc, row, reading, place),
+            None => unreachable!(),
+        }
+    }
+
+    /// The tables of the rows from the second on.
+    fn read_tables(&self, alloc: Global) -> Result<List<PlaceTable>, TextFault>
+        requires names { NamesFit self.now.names.now self.now.network.now }
+        ensures { IsRead result (tables_from self.now.network.now self.now.names.now self.now.version (drop 2 self.now.rows.now) 3 no_tables) }
+    {
+        let mut reading = Reading::new(alloc);
+        let count = self.rows.count();
+        for row in 1..count {
+            reading = match self.read_row(alloc, row, reading) {
+                Ok(reading) => reading,
+                Err(fault) => return Err(fault),
+            };
+        }
+        if reading.left == 0 {
+            return Ok(reading.done);
+        }
+        Err(TextFault::Row(count as u64 + 2))
+    }
+
+    /// Whether the first row is one of a graph.
+    fn is_head(&self) -> bool
+        ensures { result ≡ is_head self.now.version (header self.now.rows.now) }
+    {
+        self.rows.header_width() == width(self.version)
+            && self.rows.header_field(0) == b"graph".as_slice()
+            && self.heads_no_entry()
+    }
+
+    /// Whether the first row's field of the entry place is empty, where the version has one.
+    fn heads_no_entry(&self) -> bool
+        ensures { result ≡ has_no_entry self.now.version (header self.now.rows.now) }
+    {
+        match self.version {
+            Version::First => true,
+            Version::Second => self.rows.header_field(8).len() == 0,
+        }
+    }
+
+    /// The numbers of the first row, where each field is of its form.
+    fn head_row(&self) -> Option<HeadRow>
+        ensures told { result ≡ head_row_in self.now.version (header self.now.rows.now) }
+        ensures ordered { IfSome result (λ numbers. numbers.lo ≤ numbers.hi) }
+    {
+        if !self.is_head() {
+            return None;
+        }
+        let start = read_moment(self.rows.header_field(4))?;
+        let deadline = read_moment(self.rows.header_field(5))?;
+        let lo = read_nanos(self.rows.header_field(6))?;
+        let hi = read_nanos(self.rows.header_field(7))?;
+        if !are_in_order(start, deadline, lo, hi) {
+            return None;
+        }
+        Some(HeadRow {
+            start,
+            deadline,
+            lo,
+            hi,
+        })
+    }
+
+    /// The head, whose source, target and start are these.
+    fn read_head(&self, source: PlaceId, target: PlaceId, start: Moment) -> Result<Head, TextFault>
+        ensures told { result ≡ head_in self.now.names.now self.now.version source.0 target.0 start.0 (header self.now.rows.now) }
+        ensures query { IfOk result (λ head. (head.query.source ≡ source)
+            × (head.query.target ≡ target) × (head.query.start ≡ start)) }
+    {
+        let Some(numbers) = self.head_row() else {
+            return Err(TextFault::Row(1));
+        };
+        let from = self.place_of(self.rows.header_field(2));
+        let to = self.place_of(self.rows.header_field(3));
+        let (Some(from), Some(to)) = (from, to) else {
+            return Err(TextFault::UnknownName(1));
+        };
+        if !is_query((from, to), numbers.start, source, target, start) {
+            return Err(TextFault::OtherQuery(1));
+        }
+        Ok(Head {
+            query: Query {
+                source,
+                target,
+                start,
+                deadline: numbers.deadline,
+            },
+            bounds: Span::from_parts(numbers.lo, numbers.hi),
+        })
+    }
+
+    /// The graph of the start row and the rows after it.
+    fn read_rows(&self, alloc: Global, query: &Query) -> Result<PlanGraph, TextFault>
+        requires some { 0 < row_count self.now.rows.now }
+        requires names { NamesFit self.now.names.now self.now.network.now }
+        ensures { IsRead result (started_in self.now.network.now self.now.names.now self.now.version query.now.source.0 query.now.start.0
+            (slice_index_or self.now.rows.now 1 []) (drop 2 self.now.rows.now)) }
+    {
+        let leg = match self.start_row(0, query.source, query.start) {
+            Ok(leg) => leg,
+            Err(fault) => return Err(fault),
+        };
+        match self.read_tables(alloc) {
+            Ok(tables) => Ok(PlanGraph {
+                start: Some(leg),
+                tables,
+            }),
+            Err(fault) => Err(fault),
+        }
+    }
+
+    /// The graph of the rows after the first.
+    fn read_graph(&self, alloc: Global, query: &Query) -> Result<PlanGraph, TextFault>
+        requires names { NamesFit self.now.names.now self.now.network.now }
+        ensures { IsRead result
+            (graph_in self.now.network.now self.now.names.now self.now.version query.now.source.0 query.now.target.0 query.now.start.0
+            (drop 1 self.now.rows.now)) }
+    {
+        let here = query.source.0 == query.target.0;
+        if self.rows.count() == 0 {
+            if here {
+                return Ok(PlanGraph {
+                    start: None,
+                    tables: List::new(alloc),
+                });
+            }
+            return Err(TextFault::Row(2));
+        }
+        if here {
+            return Err(TextFault::Row(2));
+        }
+        self.read_rows(alloc, query)
+    }
+}
+
+/// The version that the first row tells.
+fn version_of(rows: &Rows) -> Option<Version>
+    ensures { result ≡ version_in (header rows.now) }
+{
+    if rows.header_field(1) == b"1".as_slice() {
+        return Some(Version::First);
+    }
+    if rows.header_field(1) == b"2".as_slice() {
+        return Some(Version::Second);
+    }
+    None
 }
 
 /// The head and the graph that a text tells, which are of this source, target and start; or the
@@ -681,11 +713,20 @@ pub fn read(
         Err(RowsFault::NoHeader) => return Err(TextFault::Row(1)),
         Err(RowsFault::NoMemory) => return Err(TextFault::NoMemory),
     };
-    let head = match read_head(&rows, names, source, target, start) {
+    let Some(version) = version_of(&rows) else {
+        return Err(TextFault::Row(1));
+    };
+    let reader = Reader {
+        version,
+        rows: &rows,
+        network,
+        names,
+    };
+    let head = match reader.read_head(source, target, start) {
         Ok(head) => head,
         Err(fault) => return Err(fault),
     };
-    match read_graph(alloc, &rows, network, names, &head.query) {
+    match reader.read_graph(alloc, &head.query) {
         Ok(graph) => Ok((head, graph)),
         Err(fault) => Err(fault),
     }

@@ -16,7 +16,7 @@ use Rattle.csv_rows.specs.Tables.{row_count, field}
 use Rattle.gtfs_tables.specs.declared.stop_times.StopRow.{StopRow}
 use Rattle.gtfs_tables.specs.Stops.{stop_ids, stop_places, stops_fault}
 use Rattle.gtfs_tables.specs.Routes.{route_ids, routes_fault}
-use Rattle.gtfs_tables.specs.Trips.{trip_ids, trip_services, trip_types, trips_fault}
+use Rattle.gtfs_tables.specs.Trips.{trip_ids, trip_routes, trip_services, trip_types, trips_fault}
 use Rattle.gtfs_tables.specs.StopTimes.{timed_rows, stop_times_fault}
 use Rattle.gtfs_tables.specs.Visits.{AreStopTimes}
 use Rattle.csv_rows.specs.RowFaults.{and_then, unless}
@@ -71,16 +71,16 @@ same_times : (x : (trips stops : List (List ℕ)) (places : List ℕ) → Result
 same_times x trips trips' stops stops' places places' a b c = sym (ap₂ (λ u v. x u v places) a b ∙ ap (λ w. x trips' stops' w) c)
 
 times_stop : (s r : Result Records FeedFault) (t : List (List ℕ) → Result Records FeedFault) (x : (trips stops : List (List ℕ)) (places : List ℕ) → Result Records FeedFault)
-    (q : Option FeedFault) (f : FeedFault) (ids routes trips services : List (List ℕ)) (places types types_of : List ℕ) (found : Result Records FeedFault) → t routes ≡ found
-    → AreStops s ids places → AreRoutes r routes types → AreTrips routes types found trips services types_of → x trips ids places ≡ Err f
+    (q : Option FeedFault) (f : FeedFault) (ids routes trips services : List (List ℕ)) (places types types_of routes_of : List ℕ) (found : Result Records FeedFault) → t routes ≡ found
+    → AreStops s ids places → AreRoutes r routes types → AreTrips routes types found trips services types_of routes_of → x trips ids places ≡ Err f
     → tables_by s r t x q ≡ Err f
-times_stop (Ok s) (Ok r) t x q f ids routes trips services places types types_of (Ok t') e a b d h =
+times_stop (Ok s) (Ok r) t x q f ids routes trips services places types types_of routes_of (Ok t') e a b d h =
     whole_trips s r t x q routes t' b.0 e
     ∙ ap (λ z. and_then z (λ x'. unless q (record { stops = s; routes = r; trips = t'; stop_times = x' })))
     (same_times x trips (trip_ids t') ids (stop_ids s) places (stop_places s) d.0 a.0 a.1 ∙ h)
-times_stop (Ok s) (Ok r) t x q f ids routes trips services places types types_of (Err z) e a b d h = absurd d
-times_stop (Ok s) (Err z) t x q f ids routes trips services places types types_of found e a b d h = absurd b
-times_stop (Err z) r t x q f ids routes trips services places types types_of found e a b d h = absurd a
+times_stop (Ok s) (Ok r) t x q f ids routes trips services places types types_of routes_of (Err z) e a b d h = absurd d
+times_stop (Ok s) (Err z) t x q f ids routes trips services places types types_of routes_of found e a b d h = absurd b
+times_stop (Err z) r t x q f ids routes trips services places types types_of routes_of found e a b d h = absurd a
 
 -- all four tables are whole
 whole : (s r t' x' : Records) (t : List (List ℕ) → Result Records FeedFault) (x : (trips stops : List (List ℕ)) (places : List ℕ) → Result Records FeedFault) (q : Option FeedFault)
@@ -92,11 +92,11 @@ whole s r t' x' t x q ids routes trips places b e d a₀ a₁ h =
     (same_times x trips (trip_ids t') ids (stop_ids s) places (stop_places s) d a₀ a₁ ∙ h)
 
 -- what was read is the feed of its tables
-is_feed : (s r t x : Records) (ids routes trips services : List (List ℕ)) (places types types_of : List ℕ) (visits : List (List StopRow))
-    → AreStops (Ok s) ids places → AreRoutes (Ok r) routes types → AreTrips routes types (Ok t) trips services types_of → AreVisits trips ids places (Ok x) visits
+is_feed : (s r t x : Records) (ids routes trips services : List (List ℕ)) (places types types_of routes_of : List ℕ) (visits : List (List StopRow))
+    → AreStops (Ok s) ids places → AreRoutes (Ok r) routes types → AreTrips routes types (Ok t) trips services types_of routes_of → AreVisits trips ids places (Ok x) visits
     → IsFeed (record { stops = s; routes = r; trips = t; stop_times = x })
-    (record { stop_ids = ids; places = places; trip_ids = trips; services = services; route_types = types_of; stop_times = visits })
-is_feed s r t x ids routes trips services places types types_of visits a b d v =
+    (record { stop_ids = ids; places = places; trip_ids = trips; services = services; route_types = types_of; route_ids = routes; routes = routes_of; stop_times = visits })
+is_feed s r t x ids routes trips services places types types_of routes_of visits a b d v =
     let count : length trips ≡ row_count t = ap length d.0 ∙ length-list_below (field t TripId) (row_count t) in
     let rows : timed_rows trips ids places x ≡ timed_rows (trip_ids t) (stop_ids s) (stop_places s) x
     = ap₂ (λ u w. timed_rows u w places x) d.0 a.0 ∙ ap (λ w. timed_rows (trip_ids t) (stop_ids s) w x) a.1 in
@@ -106,37 +106,39 @@ is_feed s r t x ids routes trips services places types types_of visits a b d v =
       trips = d.0;
       services_of_trips = d.1 ∙ ap (λ z. trip_services z t) b.0;
       types_of_trips = d.2 ∙ ap₂ (λ z w. trip_types z w t) b.0 b.1;
+      routes = b.0;
+      routes_of_trips = d.3 ∙ ap (λ z. trip_routes z t) b.0;
       size = v.0 ∙ count;
       times = λ trip h. subst (λ z. AreStopTimes z trip (slice_index_or visits trip [])) rows (v.1 trip (omega (arith, h, count)));
     }
 
 frequencies_stop : (s r : Result Records FeedFault) (t : List (List ℕ) → Result Records FeedFault) (x : (trips stops : List (List ℕ)) (places : List ℕ) → Result Records FeedFault)
-    (q : Option FeedFault) (f : FeedFault) (ids routes trips services : List (List ℕ)) (places types types_of : List ℕ) (visits : List (List StopRow))
+    (q : Option FeedFault) (f : FeedFault) (ids routes trips services : List (List ℕ)) (places types types_of routes_of : List ℕ) (visits : List (List StopRow))
     (found rows : Result Records FeedFault) → t routes ≡ found → x trips ids places ≡ rows
-    → AreStops s ids places → AreRoutes r routes types → AreTrips routes types found trips services types_of → AreVisits trips ids places rows visits → q ≡ Some f
+    → AreStops s ids places → AreRoutes r routes types → AreTrips routes types found trips services types_of routes_of → AreVisits trips ids places rows visits → q ≡ Some f
     → tables_by s r t x q ≡ Err f
-frequencies_stop (Ok s) (Ok r) t x q f ids routes trips services places types types_of visits (Ok t') (Ok x') e k a b d v h =
+frequencies_stop (Ok s) (Ok r) t x q f ids routes trips services places types types_of routes_of visits (Ok t') (Ok x') e k a b d v h =
     whole s r t' x' t x q ids routes trips places b.0 e d.0 a.0 a.1 k ∙ ap (λ z. unless z (record { stops = s; routes = r; trips = t'; stop_times = x' })) h
-frequencies_stop (Ok s) (Ok r) t x q f ids routes trips services places types types_of visits (Ok t') (Err z) e k a b d v h = absurd v
-frequencies_stop (Ok s) (Ok r) t x q f ids routes trips services places types types_of visits (Err z) rows e k a b d v h = absurd d
-frequencies_stop (Ok s) (Err z) t x q f ids routes trips services places types types_of visits found rows e k a b d v h = absurd b
-frequencies_stop (Err z) r t x q f ids routes trips services places types types_of visits found rows e k a b d v h = absurd a
+frequencies_stop (Ok s) (Ok r) t x q f ids routes trips services places types types_of routes_of visits (Ok t') (Err z) e k a b d v h = absurd v
+frequencies_stop (Ok s) (Ok r) t x q f ids routes trips services places types types_of routes_of visits (Err z) rows e k a b d v h = absurd d
+frequencies_stop (Ok s) (Err z) t x q f ids routes trips services places types types_of routes_of visits found rows e k a b d v h = absurd b
+frequencies_stop (Err z) r t x q f ids routes trips services places types types_of routes_of visits found rows e k a b d v h = absurd a
 
 all_tables : (s r : Result Records FeedFault) (t : List (List ℕ) → Result Records FeedFault) (x : (trips stops : List (List ℕ)) (places : List ℕ) → Result Records FeedFault)
-    (q : Option FeedFault) (ids routes trips services : List (List ℕ)) (places types types_of : List ℕ) (visits : List (List StopRow))
+    (q : Option FeedFault) (ids routes trips services : List (List ℕ)) (places types types_of routes_of : List ℕ) (visits : List (List StopRow))
     (found rows : Result Records FeedFault) → t routes ≡ found → x trips ids places ≡ rows
-    → AreStops s ids places → AreRoutes r routes types → AreTrips routes types found trips services types_of → AreVisits trips ids places rows visits → q ≡ None
+    → AreStops s ids places → AreRoutes r routes types → AreTrips routes types found trips services types_of routes_of → AreVisits trips ids places rows visits → q ≡ None
     → IsFeedOf (tables_by s r t x q)
-    (record { stop_ids = ids; places = places; trip_ids = trips; services = services; route_types = types_of; stop_times = visits })
-all_tables (Ok s) (Ok r) t x q ids routes trips services places types types_of visits (Ok t') (Ok x') e k a b d v h =
-    let parts : FeedParts = record { stop_ids = ids; places = places; trip_ids = trips; services = services; route_types = types_of; stop_times = visits } in
+    (record { stop_ids = ids; places = places; trip_ids = trips; services = services; route_types = types_of; route_ids = routes; routes = routes_of; stop_times = visits })
+all_tables (Ok s) (Ok r) t x q ids routes trips services places types types_of routes_of visits (Ok t') (Ok x') e k a b d v h =
+    let parts : FeedParts = record { stop_ids = ids; places = places; trip_ids = trips; services = services; route_types = types_of; route_ids = routes; routes = routes_of; stop_times = visits } in
     subst (λ z. IsFeedOf z parts)
     (sym (whole s r t' x' t x q ids routes trips places b.0 e d.0 a.0 a.1 k ∙ ap (λ z. unless z (record { stops = s; routes = r; trips = t'; stop_times = x' })) h))
-    (is_feed s r t' x' ids routes trips services places types types_of visits a b d v)
-all_tables (Ok s) (Ok r) t x q ids routes trips services places types types_of visits (Ok t') (Err z) e k a b d v h = absurd v
-all_tables (Ok s) (Ok r) t x q ids routes trips services places types types_of visits (Err z) rows e k a b d v h = absurd d
-all_tables (Ok s) (Err z) t x q ids routes trips services places types types_of visits found rows e k a b d v h = absurd b
-all_tables (Err z) r t x q ids routes trips services places types types_of visits found rows e k a b d v h = absurd a
+    (is_feed s r t' x' ids routes trips services places types types_of routes_of visits a b d v)
+all_tables (Ok s) (Ok r) t x q ids routes trips services places types types_of routes_of visits (Ok t') (Err z) e k a b d v h = absurd v
+all_tables (Ok s) (Ok r) t x q ids routes trips services places types types_of routes_of visits (Err z) rows e k a b d v h = absurd d
+all_tables (Ok s) (Err z) t x q ids routes trips services places types types_of routes_of visits found rows e k a b d v h = absurd b
+all_tables (Err z) r t x q ids routes trips services places types types_of routes_of visits found rows e k a b d v h = absurd a
 
 -- the same of a folder, where it is told
 module _ (folder : List ℕ) (limits : Limits) where
@@ -170,67 +172,67 @@ module _ (folder : List ℕ) (limits : Limits) where
       (subst (λ z. AreStops (stops_from z) ids places) (sym (other_load m folder limits f Trips Stops own refl)) a)
       (subst (λ z. AreRoutes (routes_from z) routes types) (sym (other_load m folder limits f Trips Routes own refl)) b) (h free)
 
-  pub fault_at_times : (o : Option Folder) (f : FeedFault) (ids routes trips services : List (List ℕ)) (places types types_of : List ℕ) → IsFaultOf StopTimes f
+  pub fault_at_times : (o : Option Folder) (f : FeedFault) (ids routes trips services : List (List ℕ)) (places types types_of routes_of : List ℕ) → IsFaultOf StopTimes f
       → IfSome o (λ m. AreStops (stops_from (load_in m folder limits None Stops)) ids places)
       → IfSome o (λ m. AreRoutes (routes_from (load_in m folder limits None Routes)) routes types)
-      → IfSome o (λ m. AreTrips routes types (trips_from (load_in m folder limits None Trips) routes) trips services types_of)
+      → IfSome o (λ m. AreTrips routes types (trips_from (load_in m folder limits None Trips) routes) trips services types_of routes_of)
       → IfSome o (λ m. f ≢ NoMemory → stop_times_from (load_in m folder limits (unread_of f) StopTimes) trips ids places ≡ Err f)
       → IfSome o (λ m. f ≢ NoMemory → tables_in m folder limits (unread_of f) ≡ Err f)
   unfolding tables_in
-  fault_at_times None f ids routes trips services places types types_of own a b d h = tt
-  fault_at_times (Some m) f ids routes trips services places types types_of own a b d h = λ free. let load = load_in m folder limits (unread_of f) in
+  fault_at_times None f ids routes trips services places types types_of routes_of own a b d h = tt
+  fault_at_times (Some m) f ids routes trips services places types types_of routes_of own a b d h = λ free. let load = load_in m folder limits (unread_of f) in
       times_stop (stops_from (load Stops)) (routes_from (load Routes)) (trips_from (load Trips)) (stop_times_from (load StopTimes)) (frequencies_from (load Frequencies)) f ids routes trips
-      services places types types_of (trips_from (load_in m folder limits None Trips) routes) (ap (λ z. trips_from z routes) (other_load m folder limits f StopTimes Trips own refl))
+      services places types types_of routes_of (trips_from (load_in m folder limits None Trips) routes) (ap (λ z. trips_from z routes) (other_load m folder limits f StopTimes Trips own refl))
       (subst (λ z. AreStops (stops_from z) ids places) (sym (other_load m folder limits f StopTimes Stops own refl)) a)
       (subst (λ z. AreRoutes (routes_from z) routes types) (sym (other_load m folder limits f StopTimes Routes own refl)) b) d (h free)
 
-  pub fault_at_frequencies : (o : Option Folder) (f : FeedFault) (ids routes trips services : List (List ℕ)) (places types types_of : List ℕ) (visits : List (List StopRow))
+  pub fault_at_frequencies : (o : Option Folder) (f : FeedFault) (ids routes trips services : List (List ℕ)) (places types types_of routes_of : List ℕ) (visits : List (List StopRow))
       → IsFaultOf Frequencies f
       → IfSome o (λ m. AreStops (stops_from (load_in m folder limits None Stops)) ids places)
       → IfSome o (λ m. AreRoutes (routes_from (load_in m folder limits None Routes)) routes types)
-      → IfSome o (λ m. AreTrips routes types (trips_from (load_in m folder limits None Trips) routes) trips services types_of)
+      → IfSome o (λ m. AreTrips routes types (trips_from (load_in m folder limits None Trips) routes) trips services types_of routes_of)
       → IfSome o (λ m. AreVisits trips ids places (stop_times_from (load_in m folder limits None StopTimes) trips ids places) visits)
       → IfSome o (λ m. f ≢ NoMemory → frequencies_from (load_in m folder limits (unread_of f) Frequencies) ≡ Some f)
       → IfSome o (λ m. f ≢ NoMemory → tables_in m folder limits (unread_of f) ≡ Err f)
   unfolding tables_in
-  fault_at_frequencies None f ids routes trips services places types types_of visits own a b d v h = tt
-  fault_at_frequencies (Some m) f ids routes trips services places types types_of visits own a b d v h = λ free. let load = load_in m folder limits (unread_of f) in
+  fault_at_frequencies None f ids routes trips services places types types_of routes_of visits own a b d v h = tt
+  fault_at_frequencies (Some m) f ids routes trips services places types types_of routes_of visits own a b d v h = λ free. let load = load_in m folder limits (unread_of f) in
       frequencies_stop (stops_from (load Stops)) (routes_from (load Routes)) (trips_from (load Trips)) (stop_times_from (load StopTimes)) (frequencies_from (load Frequencies)) f ids routes
-      trips services places types types_of visits (trips_from (load_in m folder limits None Trips) routes)
+      trips services places types types_of routes_of visits (trips_from (load_in m folder limits None Trips) routes)
       (stop_times_from (load_in m folder limits None StopTimes) trips ids places)
       (ap (λ z. trips_from z routes) (other_load m folder limits f Frequencies Trips own refl))
       (ap (λ z. stop_times_from z trips ids places) (other_load m folder limits f Frequencies StopTimes own refl))
       (subst (λ z. AreStops (stops_from z) ids places) (sym (other_load m folder limits f Frequencies Stops own refl)) a)
       (subst (λ z. AreRoutes (routes_from z) routes types) (sym (other_load m folder limits f Frequencies Routes own refl)) b) d v (h free)
 
-  pub feed_of_tables : (o : Option Folder) (ids routes trips services : List (List ℕ)) (places types types_of : List ℕ) (visits : List (List StopRow))
+  pub feed_of_tables : (o : Option Folder) (ids routes trips services : List (List ℕ)) (places types types_of routes_of : List ℕ) (visits : List (List StopRow))
       → IfSome o (λ m. AreStops (stops_from (load_in m folder limits None Stops)) ids places)
       → IfSome o (λ m. AreRoutes (routes_from (load_in m folder limits None Routes)) routes types)
-      → IfSome o (λ m. AreTrips routes types (trips_from (load_in m folder limits None Trips) routes) trips services types_of)
+      → IfSome o (λ m. AreTrips routes types (trips_from (load_in m folder limits None Trips) routes) trips services types_of routes_of)
       → IfSome o (λ m. AreVisits trips ids places (stop_times_from (load_in m folder limits None StopTimes) trips ids places) visits)
       → IfSome o (λ m. frequencies_from (load_in m folder limits None Frequencies) ≡ None)
       → IfSome o (λ m. IsFeedOf (tables_in m folder limits None)
-      (record { stop_ids = ids; places = places; trip_ids = trips; services = services; route_types = types_of; stop_times = visits }))
+      (record { stop_ids = ids; places = places; trip_ids = trips; services = services; route_types = types_of; route_ids = routes; routes = routes_of; stop_times = visits }))
   unfolding tables_in
-  feed_of_tables None ids routes trips services places types types_of visits a b d v h = tt
-  feed_of_tables (Some m) ids routes trips services places types types_of visits a b d v h = let load = load_in m folder limits None in
+  feed_of_tables None ids routes trips services places types types_of routes_of visits a b d v h = tt
+  feed_of_tables (Some m) ids routes trips services places types types_of routes_of visits a b d v h = let load = load_in m folder limits None in
       all_tables (stops_from (load Stops)) (routes_from (load Routes)) (trips_from (load Trips)) (stop_times_from (load StopTimes)) (frequencies_from (load Frequencies)) ids routes trips
-      services places types types_of visits (trips_from (load Trips) routes) (stop_times_from (load StopTimes) trips ids places) refl refl a b d v h
+      services places types types_of routes_of visits (trips_from (load Trips) routes) (stop_times_from (load StopTimes) trips ids places) refl refl a b d v h
 
 -- whatever the files tell
-pub sound_feed : (ids routes trips services : List (List ℕ)) (places types types_of : List ℕ) (visits : List (List StopRow))
+pub sound_feed : (ids routes trips services : List (List ℕ)) (places types types_of routes_of : List ℕ) (visits : List (List StopRow))
     → IsSound stops_fault (λ t. AreStops (Ok t) ids places) → IsSound routes_fault (λ t. AreRoutes (Ok t) routes types)
-    → IsSound (trips_fault routes) (λ t. AreTrips routes types (Ok t) trips services types_of)
+    → IsSound (trips_fault routes) (λ t. AreTrips routes types (Ok t) trips services types_of routes_of)
     → IsSound (stop_times_fault trips ids places) (λ t. AreVisits trips ids places (Ok t) visits)
-    → IsSoundFeed (record { stop_ids = ids; places = places; trip_ids = trips; services = services; route_types = types_of; stop_times = visits })
-sound_feed ids routes trips services places types types_of visits s r t x = record {
+    → IsSoundFeed (record { stop_ids = ids; places = places; trip_ids = trips; services = services; route_types = types_of; route_ids = routes; routes = routes_of; stop_times = visits })
+sound_feed ids routes trips services places types types_of routes_of visits s r t x = record {
   tables = record { stops = s.0; routes = r.0; trips = t.0; stop_times = x.0 };
   stops = s.1;
   routes = r.1;
   trips = ap (λ z. trips_fault z t.0) (sym r.2.0) ∙ t.1;
   stop_times =
       sym (ap₂ (λ u w. stop_times_fault u w places x.0) t.2.0 s.2.0 ∙ ap (λ w. stop_times_fault (trip_ids t.0) (stop_ids s.0) w x.0) s.2.1) ∙ x.1;
-  feed = is_feed s.0 r.0 t.0 x.0 ids routes trips services places types types_of visits s.2 r.2 t.2 x.2;
+  feed = is_feed s.0 r.0 t.0 x.0 ids routes trips services places types types_of routes_of visits s.2 r.2 t.2 x.2;
 }
 
 -- a step with no fault leaves the count

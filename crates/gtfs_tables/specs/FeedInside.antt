@@ -1,5 +1,5 @@
 -- The parts of a feed.
-use Rattle.std.specs.Prelude.{◌≡◌, ◌≤◌, length, map, vec_items}
+use Rattle.std.specs.Prelude.{◌≡◌, ◌<◌, ◌≤◌, length, map, vec_items, All}
 use Rattle.plan_model.specs.NameLists.{texts}
 use Rattle.gtfs_tables.specs.declared.feed.Feed.TheInside.{Inside}
 use Rattle.gtfs_tables.specs.Feeds.{FeedParts, IsSoundFeed}
@@ -11,14 +11,18 @@ parts_of f = record {
   trip_ids = f.trips.ids;
   services = texts f.trips.of_trips.services.items;
   route_types = f.trips.of_trips.types.items;
+  route_ids = f.routes.ids;
+  routes = f.trips.of_trips.routes.items;
   stop_times = map vec_items f.visits.items;
 }
 
--- each stop has a place, each trip has a service, a type and its rows, there are no more than tables may have, and the parts are a feed
+-- each stop has a place, each trip has a service, a type, one of the routes and its rows, there are no more than tables may have, and the parts are a feed
 pub record IsWhole (f : Inside) : Type 0 where
   pub places : length f.stops.places.items ≡ length f.stops.ids
   pub services : length f.trips.of_trips.services.items ≡ length f.trips.ids
   pub types : length f.trips.of_trips.types.items ≡ length f.trips.ids
+  pub routes : length f.trips.of_trips.routes.items ≡ length f.trips.ids
+  pub known : All (λ route. route < length f.routes.ids) f.trips.of_trips.routes.items
   pub visits : length f.visits.items ≡ length f.trips.ids
   pub few_stops : length f.stops.ids ≤ 1048576
   pub few_trips : length f.trips.ids ≤ 4194304

@@ -17,7 +17,7 @@ use Rattle.csv_rows.specs.Tables.{row_count}
 use Rattle.gtfs_tables.specs.declared.stop_times.StopRow.{StopRow}
 use Rattle.gtfs_tables.specs.Stops.{stop_ids, stop_places, stops_fault}
 use Rattle.gtfs_tables.specs.Routes.{route_ids, route_types, routes_fault}
-use Rattle.gtfs_tables.specs.Trips.{trip_ids, trip_services, trip_types, trips_fault}
+use Rattle.gtfs_tables.specs.Trips.{trip_ids, trip_routes, trip_services, trip_types, trips_fault}
 use Rattle.gtfs_tables.specs.StopTimes.{timed_rows, stop_times_fault}
 use Rattle.gtfs_tables.specs.Visits.{AreStopTimes}
 
@@ -77,13 +77,16 @@ tables_from load =
 unfoldable pub tables_in : Folder → List ℕ → Limits → Option Table → Result Tables FeedFault
 tables_in files folder limits unread = tables_from (load_in files folder limits unread)
 
--- a feed: the ids and places of its stops, the ids, services and route types of its trips, and the kept rows of each trip
+-- a feed: the ids and places of its stops, the ids of its routes, the ids, services and route types of its trips and the number of
+-- the route of each, and the kept rows of each trip
 pub record FeedParts : Type 0 where
   pub stop_ids : List (List ℕ)
   pub places : List ℕ
   pub trip_ids : List (List ℕ)
   pub services : List (List ℕ)
   pub route_types : List ℕ
+  pub route_ids : List (List ℕ)
+  pub routes : List ℕ
   pub stop_times : List (List StopRow)
 
 -- the feed of these tables
@@ -93,6 +96,8 @@ pub record IsFeed (t : Tables) (f : FeedParts) : Type 0 where
   pub trips : f.trip_ids ≡ trip_ids t.trips
   pub services_of_trips : f.services ≡ trip_services (route_ids t.routes) t.trips
   pub types_of_trips : f.route_types ≡ trip_types (route_ids t.routes) (route_types t.routes) t.trips
+  pub routes : f.route_ids ≡ route_ids t.routes
+  pub routes_of_trips : f.routes ≡ trip_routes (route_ids t.routes) t.trips
   pub size : length f.stop_times ≡ row_count t.trips
   pub times : (trip : ℕ) → trip < row_count t.trips
       → AreStopTimes (timed_rows (trip_ids t.trips) (stop_ids t.stops) (stop_places t.stops) t.stop_times) trip (slice_index_or f.stop_times trip [])
@@ -111,9 +116,10 @@ abbrev pub AreRoutes : Result Records FeedFault → List (List ℕ) → List ℕ
 AreRoutes (Ok t) ids types = (ids ≡ route_ids t) × (types ≡ route_types t)
 AreRoutes (Err fault) ids types = ⊥
 
-abbrev pub AreTrips : (routes : List (List ℕ)) (types : List ℕ) → Result Records FeedFault → (ids services : List (List ℕ)) (types_of : List ℕ) → Type 0
-AreTrips routes types (Ok t) ids services types_of = (ids ≡ trip_ids t) × (services ≡ trip_services routes t) × (types_of ≡ trip_types routes types t)
-AreTrips routes types (Err fault) ids services types_of = ⊥
+abbrev pub AreTrips : (routes : List (List ℕ)) (types : List ℕ) → Result Records FeedFault → (ids services : List (List ℕ)) (types_of routes_of : List ℕ) → Type 0
+AreTrips routes types (Ok t) ids services types_of routes_of =
+    (ids ≡ trip_ids t) × (services ≡ trip_services routes t) × (types_of ≡ trip_types routes types t) × (routes_of ≡ trip_routes routes t)
+AreTrips routes types (Err fault) ids services types_of routes_of = ⊥
 
 abbrev pub AreVisits : (trips stops : List (List ℕ)) (places : List ℕ) → Result Records FeedFault → List (List StopRow) → Type 0
 AreVisits trips stops places (Ok t) visits =

@@ -1,4 +1,4 @@
--- The trips of a feed: their ids, services and route types.
+-- The trips of a feed: their ids, services, routes and route types.
 use Rattle.std.specs.Prelude.{ℕ, ◌+◌, List, [], slice_index, Option, Result, Ok}
 use Rattle.csv_rows.specs.declared.columns.Column.TheVariants.{RouteId, ServiceId, TripId}
 use Rattle.csv_rows.specs.declared.feed_tables.Table.TheVariants.{Trips}
@@ -45,7 +45,8 @@ bad_trip routes t i = fault_in (trip_at routes t i)
 abbrev pub trip_or_none : Result Trip FeedFault → Trip
 trip_or_none r = value_or (record { route = 0; service = []; id = [] }) r
 
--- the ids, the services and the route types of the trips, where these are the ids and the types of the routes
+-- the ids, the services, the route types and the numbers of the routes of the trips, where these are the ids and the types of the
+-- routes
 abbrev pub trip_ids : List (List (List ℕ)) → List (List ℕ)
 trip_ids t = list_below (field t TripId) (row_count t)
 
@@ -54,6 +55,9 @@ trip_services routes t = list_below (λ i. (trip_or_none (trip_at routes t i)).s
 
 abbrev pub trip_types : List (List ℕ) → List ℕ → List (List (List ℕ)) → List ℕ
 trip_types routes types t = list_below (λ i. slice_index types (trip_or_none (trip_at routes t i)).route) (row_count t)
+
+abbrev pub trip_routes : List (List ℕ) → List (List (List ℕ)) → List ℕ
+trip_routes routes t = list_below (λ i. (trip_or_none (trip_at routes t i)).route) (row_count t)
 
 -- the first fault of the trips
 unfoldable pub trips_fault : List (List ℕ) → List (List (List ℕ)) → Option FeedFault

@@ -1,6 +1,7 @@
 //! A feed.
 ghost use Rattle.std.specs.Prelude.{◌≡◌};
 
+use crate::routes::Routes;
 use crate::stop_times::StopRow;
 use crate::stops::Stops;
 use crate::tables::{check_frequencies, load_routes, load_stop_times, load_stops, load_trips};
@@ -16,6 +17,7 @@ use std::marker::Model;
 #[derive(Drop)]
 pub struct Feed {
     stops: Stops,
+    routes: Routes,
     trips: Trips,
     visits: Vec<Vec<StopRow>>,
 }
@@ -83,6 +85,7 @@ impl Feed {
         match check_frequencies(alloc, files, folder, limits) {
             Ok(()) => Ok(Feed {
                 stops,
+                routes,
                 trips,
                 visits,
             }),
@@ -160,6 +163,16 @@ impl Feed {
         ensures { result ≡ slice_index self.now.route_types trip }
     {
         self.trips.of_trips.types[trip as usize]
+    }
+
+    /// The id of the route of a trip.
+    pub fn route_id(&self, trip: u32) -> &str
+        requires { trip < length self.now.trip_ids }
+        ensures { result.now ≡ slice_index_or self.now.route_ids (slice_index self.now.routes trip) [] }
+    {
+        self.routes
+            .ids
+            .get(self.trips.of_trips.routes[trip as usize])
     }
 
     /// The kept rows of a trip, in rising order of `stop_sequence`.

@@ -1,5 +1,5 @@
 //! The tables of a feed, each loaded and read.
-ghost use Rattle.std.specs.Prelude.{◌≡◌, ◌≢◌, ◌<◌, ◌≤◌, ℕ, length, map, vec_items, None, Some, Ok, Err, IfOk, IfErr, IfSome, IsSome, OnOk};
+ghost use Rattle.std.specs.Prelude.{◌≡◌, ◌≢◌, ◌<◌, ◌≤◌, ℕ, length, map, vec_items, None, Some, Ok, Err, IfOk, IfErr, IfSome, IsSome, OnOk, All};
 ghost use Rattle.csv_rows.specs.declared.columns.Column.TheVariants.{StopId, RouteId, TripId};
 ghost use Rattle.csv_rows.specs.declared.feed_tables.Table.TheVariants.{Stops as StopsTable, Routes as RoutesTable, Trips as TripsTable, StopTimes as StopTimesTable, Frequencies as FrequenciesTable};
 ghost use Rattle.csv_rows.specs.FeedTables.{unread_of, IsFaultOf};
@@ -128,15 +128,18 @@ pub(crate) fn load_trips<F: Files>(
     ensures trips { IfSome (F.files files.old) (λ m. IfOk result (λ t.
         AreTrips routes.now.ids routes.now.types.items
         (trips_from (load_in m folder.now limits.now None TripsTable) routes.now.ids)
-        t.ids (texts t.of_trips.services.items) t.of_trips.types.items)) }
+        t.ids (texts t.of_trips.services.items) t.of_trips.types.items t.of_trips.routes.items)) }
     ensures fault { IfSome (F.files files.old) (λ m. IfErr result (λ f. f ≢ FeedFault.NoMemory
         → trips_from (load_in m folder.now limits.now (unread_of f) TripsTable) routes.now.ids
         ≡ Err f)) }
     ensures sound { IfOk result (λ r. IsSound (trips_fault routes.now.ids)
         (λ t. AreTrips routes.now.ids routes.now.types.items (Ok t)
-        r.ids (texts r.of_trips.services.items) r.of_trips.types.items)) }
+        r.ids (texts r.of_trips.services.items) r.of_trips.types.items r.of_trips.routes.items)) }
     ensures services_sized { IfOk result (λ t. length t.of_trips.services.items ≡ length t.ids) }
     ensures types_sized { IfOk result (λ t. length t.of_trips.types.items ≡ length t.ids) }
+    ensures routes_sized { IfOk result (λ t. length t.of_trips.routes.items ≡ length t.ids) }
+    ensures known { IfOk result (λ t.
+        All (λ route. route < length routes.now.ids) t.of_trips.routes.items) }
     ensures few { IfOk result (λ t. length t.ids ≤ 4194304) }
     ensures own { IfErr result (IsFaultOf TripsTable) }
     ensures cause { HasFeedCause (F.faults files.old) (F.faults files.new) result }

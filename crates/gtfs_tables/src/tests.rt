@@ -109,6 +109,7 @@ fn reads_trips(rt: HostRuntime) -> Result<(), Fail> {
         assert_eq!(rt; feed.trip_id(2), "b201");
         assert_eq!(rt; feed.service_of(0), "WK");
         assert_eq!(rt; feed.route_type(1), 3);
+        assert_eq!(rt; feed.route_id(1), "B7");
         assert_eq!(rt;
             feed.stop_times(0),
             [visit(4, 4, 28_800, 28_800), visit(1, 0, 30_000, 30_060)].as_slice()

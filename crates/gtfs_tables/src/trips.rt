@@ -1,5 +1,5 @@
 //! The trips of a feed.
-ghost use Rattle.std.specs.Prelude.{◌≡◌, ◌≢◌, ◌<◌, ◌≤◌, None, Some, Ok, Err, IfOk, IfErr, IfSome, OnOk, length};
+ghost use Rattle.std.specs.Prelude.{◌≡◌, ◌≢◌, ◌<◌, ◌≤◌, None, Some, Ok, Err, IfOk, IfErr, IfSome, OnOk, length, All};
 ghost use Rattle.csv_rows.specs.declared.columns.Column.TheVariants.{RouteId, ServiceId, TripId};
 ghost use Rattle.csv_rows.specs.declared.feed_tables.Table.TheVariants.{Trips as TripsTable};
 ghost use Rattle.csv_rows.specs.First.{first_below, or_else};
@@ -8,24 +8,25 @@ ghost use Rattle.csv_rows.specs.Tables.{row_count};
 ghost use Rattle.plan_model.specs.NameLists.{texts};
 ghost use Rattle.csv_rows.specs.RowFaults.{lack as lack_of};
 ghost use Rattle.gtfs_tables.specs.Feeds.{IsSound, AreTrips};
-ghost use Rattle.gtfs_tables.specs.Trips.{trip_columns, trip_in, bad_trip, trip_ids, trip_services, trip_types, trips_fault};
+ghost use Rattle.gtfs_tables.specs.Trips.{trip_columns, trip_in, bad_trip, trip_ids, trip_routes, trip_services, trip_types, trips_fault};
 
 use crate::routes::Routes;
 use csv_rows::{Column, FeedFault, Ids, Rows, Table, lack, read_ids, read_name};
 use std::alloc::Global;
 
-/// The ids of the trips, and the service and the route type of each.
+/// The ids of the trips, and the service, the route and the route type of each.
 #[derive(Drop)]
 pub(crate) struct Trips {
     pub(crate) ids: Ids,
     pub(crate) of_trips: OfTrips,
 }
 
-/// The service and the route type of each trip.
+/// The service, the route type and the number of the route of each trip.
 #[derive(Drop)]
 pub(crate) struct OfTrips {
     pub(crate) services: Vec<String>,
     pub(crate) types: Vec<u16>,
+    pub(crate) routes: Vec<u32>,
 }
 
 /// Where the columns stand.
@@ -105,7 +106,7 @@ fn read_trip<'a>(
     })
 }
 
-/// The service and the route type of each trip, or the first fault of a row.
+/// The service, the route type and the route of each trip, or the first fault of a row.
 fn read_of_trips(
     alloc: Global,
     rows: &Rows,
@@ -118,6 +119,8 @@ fn read_of_trips(
         ≡ trip_services routes.now.ids rows.now) }
     ensures types { IfOk result (λ o. o.types.items
         ≡ trip_types routes.now.ids routes.now.types.items rows.now) }
+    ensures routes { IfOk result (λ o. o.routes.items ≡ trip_routes routes.now.ids rows.now) }
+    ensures known { IfOk result (λ o. All (λ route. route < length routes.now.ids) o.routes.items) }
     ensures none { OnOk result (first_below (bad_trip routes.now.ids rows.now)
         (row_count rows.now) ≡ None) }
     ensures fault { IfErr result (λ f. f ≢ FeedFault.NoMemory
@@ -127,6 +130,7 @@ fn read_of_trips(
 {
     let mut services: Vec<String> = Vec::new(alloc);
     let mut types: Vec<u16> = Vec::new(alloc);
+    let mut numbers: Vec<u32> = Vec::new(alloc);
     let types_of_routes: &[u16] = &routes.types;
     for i in 0..rows.count() {
         let trip = match read_trip(rows, columns, &routes.ids, i) {
@@ -145,8 +149,16 @@ fn read_of_trips(
             Ok(()) => {}
             Err(_) => return Err(FeedFault::NoMemory),
         }
+        match numbers.push(trip.route) {
+            Ok(()) => {}
+            Err(_) => return Err(FeedFault::NoMemory),
+        }
     }
-    Ok(OfTrips { services, types })
+    Ok(OfTrips {
+        services,
+        types,
+        routes: numbers,
+    })
 }
 
 /// The trips of a table, or the first of its faults.
@@ -158,13 +170,20 @@ pub(crate) fn read_trips(alloc: Global, rows: &Rows, routes: &Routes) -> Result<
         ≡ trip_services routes.now.ids rows.now) }
     ensures types { IfOk result (λ trips. trips.of_trips.types.items
         ≡ trip_types routes.now.ids routes.now.types.items rows.now) }
+    ensures routes { IfOk result (λ trips. trips.of_trips.routes.items
+        ≡ trip_routes routes.now.ids rows.now) }
     ensures sound { IfOk result (λ trips. IsSound (trips_fault routes.now.ids)
         (λ t. AreTrips routes.now.ids routes.now.types.items (Ok t)
-        trips.ids (texts trips.of_trips.services.items) trips.of_trips.types.items)) }
+        trips.ids (texts trips.of_trips.services.items) trips.of_trips.types.items
+        trips.of_trips.routes.items)) }
     ensures services_sized { IfOk result (λ trips. length trips.of_trips.services.items
         ≡ length trips.ids) }
     ensures types_sized { IfOk result (λ trips. length trips.of_trips.types.items
         ≡ length trips.ids) }
+    ensures routes_sized { IfOk result (λ trips. length trips.of_trips.routes.items
+        ≡ length trips.ids) }
+    ensures known { IfOk result (λ trips.
+        All (λ route. route < length routes.now.ids) trips.of_trips.routes.items) }
     ensures few { IfOk result (λ trips. length trips.ids ≤ 4194304) }
     ensures none { OnOk result (trips_fault routes.now.ids rows.now ≡ None) }
     ensures fault { IfErr result (λ f. f ≢ FeedFault.NoMemory

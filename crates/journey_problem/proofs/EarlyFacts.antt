@@ -1,11 +1,11 @@
 -- Faults of an input of a journey's timetable.
-use Rattle.std.proofs.Common.{◌≡◌, ℕ, ap}
+use Rattle.std.proofs.Common.{ℕ}
 use Rattle.command_line.specs.Jobs.{WantedTimetable}
 use Rattle.fault_lines.specs.declared.faults.Input.{Input}
 use Rattle.fault_lines.specs.declared.faults.Input.TheVariants as input
 use Rattle.fault_lines.specs.declared.faults.LimitKind.TheVariants.{Bytes}
 use Rattle.fault_lines.specs.declared.faults.Fault.TheVariants.{Missing, Limit, Read}
-use Rattle.fault_lines.specs.Stages.{stage_of_input, IsEarlyStage, IsOfGraph}
+use Rattle.fault_lines.specs.Stages.{stage_of_input, IsEarlyStage}
 use Rattle.journey_problem.specs.EarlyFaults.{IsInputOf, IsEarly}
 
 -- it is read before the graph file
@@ -24,13 +24,3 @@ module _ (timetable : WantedTimetable) (file : Input) (own : IsInputOf timetable
 
   pub early_limit : (count : ℕ) → IsEarly timetable (Limit (Bytes file) count)
   early_limit count = record { stage = early_stage timetable file own; of_timetable = own; of_text = tt }
-
-module _ (file : Input) (is : file ≡ input.Graph) where
-  pub graph_unread : IsOfGraph (Read file)
-  graph_unread = (ap (λ (i : Input). stage_of_input i) is, tt)
-
-  pub graph_missing : IsOfGraph (Missing file)
-  graph_missing = (ap (λ (i : Input). stage_of_input i) is, tt)
-
-  pub graph_limit : (count : ℕ) → IsOfGraph (Limit (Bytes file) count)
-  graph_limit count = (ap (λ (i : Input). stage_of_input i) is, tt)

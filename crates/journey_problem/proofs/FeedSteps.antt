@@ -1,6 +1,6 @@
 -- The steps of reading a feed, put together.
 use Rattle.std.proofs.Common.{◌≡◌, ℕ, List, Option, Some, None, Result, Ok, Err, inl, inr, subst}
-use Rattle.std.specs.Prelude.{◌≢◌, ◌≤◌, IfOk, IfErr, OnOk, IfSome}
+use Rattle.std.specs.Prelude.{◌≢◌, IfOk, IfErr, OnOk, IfSome}
 use Rattle.file_ports.specs.Ports.{Folder, file_at}
 use Rattle.csv_rows.specs.declared.limits.Limits.{Limits}
 use Rattle.change_times.specs.Transfers.{place_of_stop}
@@ -14,7 +14,7 @@ use Rattle.fault_lines.specs.declared.faults.Fault.TheVariants.{NoMemory}
 use Rattle.journey_problem.specs.declared.problem.Problem.{Problem}
 use Rattle.fault_lines.specs.Faults.{IsFirst}
 use Rattle.journey_problem.specs.CutProblems.{AreDelaysOf, delay_fault}
-use Rattle.journey_problem.specs.FeedProblems.{FolderParts, IsFolder, IsWindowFault, IsFeedProblem, IsFeedProblemFault, HasFeedTimetable, window_count}
+use Rattle.journey_problem.specs.FeedProblems.{FolderParts, IsFolder, IsWindowFault, IsFeedProblem, IsFeedProblemFault, HasFeedTimetable, window_fault_of}
 
 -- what holds of a told folder before and after a step that leaves it the same
 pub if_some_both : {A : Type 0} (o later : Option A) (P Q R : A → Type 0) → ((a : A) → P a → Q a → R a) → later ≡ o → IfSome o P → IfSome later Q → IfSome o R
@@ -44,17 +44,17 @@ module _ (limits : Limits) (files : Folder) (folder : List ℕ) (horizon : ℕ) 
 
     pub window_problem : (r : Result Problem Fault)
         → IfOk r (λ p. IsNetworkFrom h.feed h.services h.changes lists j.start horizon p.network p.names)
-        → OnOk r (window_count horizon j h ≤ limits.connections)
+        → OnOk r (window_fault_of limits horizon j h ≡ None)
         → IfOk r (λ p. place_of_stop h.feed j.from ≡ Some p.source.0)
         → IfOk r (λ p. place_of_stop h.feed j.to ≡ Some p.target.0)
         → IfOk r (IsFeedProblem limits files folder horizon j)
-    window_problem (Ok p) network few source target = record {
+    window_problem (Ok p) network no_fault source target = record {
       parts = h;
       lists = lists;
       is_folder = is;
       no_delay_fault = sound;
       are_delays = are;
-      few = few;
+      no_window_fault = no_fault;
       timetable = record { is_network = network; source = source; target = target };
     }
-    window_problem (Err fault) network few source target = tt
+    window_problem (Err fault) network no_fault source target = tt

@@ -5,7 +5,6 @@ pub mod Causes
 pub mod FeedSteps
 pub mod OneOrder
 pub mod OneCutNetwork
-pub mod DelayTypes
 pub mod OneCutProblem
 pub mod OneFeed
 pub mod OneWindow

@@ -20,10 +20,10 @@ use Rattle.fault_lines.specs.declared.faults.Fault.TheVariants.{Read, NoMemory}
 use Rattle.fault_lines.specs.Faults.{unread_of}
 use Rattle.journey_problem.specs.CutProblems.{cut_problem_fault, delay_fault}
 use Rattle.journey_problem.specs.FeedProblems.{feed_as, FolderParts, IsFolder, IsFolderFault, IsLaterTableFault}
-use Rattle.journey_problem.specs.FeedProblems.{IsFaultAfterFolder, IsWindowFault, IsFeedProblem, IsFeedProblemFault, feed_stop_fault, window_count}
+use Rattle.journey_problem.specs.FeedProblems.{IsFaultAfterFolder, IsWindowFault, IsFeedProblem, IsFeedProblemFault, feed_stop_fault, window_fault_of}
 use Rattle.journey_problem.specs.Problems.{IsProblem, IsProblemOver, IsProblemFault, IsProblemFaultOver}
 use Rattle.journey_problem.proofs.OneFeed.{one_feed_of}
-use Rattle.journey_problem.proofs.OneFeedProblem.{one_folder, one_count}
+use Rattle.journey_problem.proofs.OneFeedProblem.{one_folder, one_window_fault}
 
 abbrev NotRead : Fault → Type 0
 NotRead fault = (i : Input) → fault ≡ Read i → ⊥
@@ -70,16 +70,16 @@ module _ (limits : Limits) (files : Folder) (folder : List ℕ) (h : FolderParts
   no_folder_fault g u (inr (f, feed, later)) = no_later f g (one_feed_of (tables_in files folder limits None) f h.feed feed is.feed) u later
 
 no_window : (limits : Limits) (horizon : ℕ) (j : WantedJourney) (h : FolderParts) (a b : ℕ) (fault : Fault) → place_of_stop h.feed j.from ≡ Some a → place_of_stop h.feed j.to ≡ Some b
-    → window_count horizon j h ≤ limits.connections → IsWindowFault limits horizon j h fault → ⊥
-no_window limits horizon j h a b fault from to few (inl e) = no_stop h.feed j.from j.to a b fault from to e
-no_window limits horizon j h a b fault from to few (inr (none, is, many)) = omega (arith, few, many)
+    → window_fault_of limits horizon j h ≡ None → IsWindowFault limits horizon j h fault → ⊥
+no_window limits horizon j h a b fault from to sound (inl e) = no_stop h.feed j.from j.to a b fault from to e
+no_window limits horizon j h a b fault from to sound (inr (none, is)) = not_both (window_fault_of limits horizon j h) fault sound is
 
 no_after : (limits : Limits) (files : Folder) (horizon : ℕ) (j : WantedJourney) (h : FolderParts) (a b : ℕ) (fault : Fault) → NotRead fault → delay_fault limits (file_at files j.delays) None ≡ None
-    → place_of_stop h.feed j.from ≡ Some a → place_of_stop h.feed j.to ≡ Some b → window_count horizon j h ≤ limits.connections
+    → place_of_stop h.feed j.from ≡ Some a → place_of_stop h.feed j.to ≡ Some b → window_fault_of limits horizon j h ≡ None
     → IsFaultAfterFolder limits files horizon j h fault → ⊥
-no_after limits files horizon j h a b fault n none from to few (inl e) =
+no_after limits files horizon j h a b fault n none from to sound (inl e) =
     not_both (delay_fault limits (file_at files j.delays) None) fault none (subst (λ (u : Option Input). delay_fault limits (file_at files j.delays) u ≡ Some fault) (none_unread fault n) e)
-no_after limits files horizon j h a b fault n none from to few (inr (ok, w)) = no_window limits horizon j h a b fault from to few w
+no_after limits files horizon j h a b fault n none from to sound (inr (ok, w)) = no_window limits horizon j h a b fault from to sound w
 
 no_feed_fault : (limits : Limits) (files : Folder) (folder : List ℕ) (horizon : ℕ) (j : WantedJourney) (p : _) (fault : Fault) → IsFeedProblem limits files folder horizon j p
     → NotRead fault → IsFeedProblemFault limits files folder horizon j fault → ⊥
@@ -87,9 +87,9 @@ no_feed_fault limits files folder horizon j p fault a n (inl (g, is, why)) =
     no_folder_fault limits files folder a.parts a.is_folder g (table_read limits g (λ i e. n i (is ∙ e))) why
 no_feed_fault limits files folder horizon j p fault a n (inr (h, is, why)) =
     let same = one_folder limits files folder a.parts h a.is_folder is in
-    let few : window_count horizon j h ≤ limits.connections = omega (arith, a.few, one_count limits files folder horizon j a.parts h same) in
+    let sound : window_fault_of limits horizon j h ≡ None = sym (one_window_fault limits files folder horizon j a.parts h same) ∙ a.no_window_fault in
     no_after limits files horizon j h p.source.0 p.target.0 fault n a.no_delay_fault
-    (ap (λ (f : FeedParts). place_of_stop f j.from) (sym same.feed) ∙ a.timetable.source) (ap (λ (f : FeedParts). place_of_stop f j.to) (sym same.feed) ∙ a.timetable.target) few why
+    (ap (λ (f : FeedParts). place_of_stop f j.from) (sym same.feed) ∙ a.timetable.source) (ap (λ (f : FeedParts). place_of_stop f j.to) (sym same.feed) ∙ a.timetable.target) sound why
 
 no_fault_over : (limits : Limits) (files : Folder) (timetable : WantedTimetable) (j : WantedJourney) (p : _) (fault : Fault) → IsProblemOver limits files timetable j p → NotRead fault
     → IsProblemFaultOver limits files timetable j fault → ⊥

@@ -6,44 +6,16 @@ use Rattle.std.proofs.lemmas.List.{ext_get_or}
 use Rattle.std.proofs.lemmas.Option.{slice_get_within, get_or_from_slice_get, slice_get-get_or}
 use Rattle.plan_model.specs.NameLists.{NameLists, AreDistinct}
 use Rattle.plan_model.specs.Parts.{Parts}
+use Rattle.plan_model.proofs.SameParts.{same_parts}
 use Rattle.plan_model.specs.Network.{change_of, connection, count, no_connection, IsValid}
 use Rattle.plan_model.specs.declared.model.Connection.{Connection}
 use Rattle.csv_rows.specs.Tables.{row_count}
 use Rattle.delay_table.specs.DelayLists.{DelayLists}
-use Rattle.delay_table.specs.Slots.{IsClassOf}
 use Rattle.cut_file.specs.Rows.{Row}
 use Rattle.cut_file.specs.Faults.{row}
-use Rattle.cut_file.specs.Networks.{IsClass}
 use Rattle.cut_file.specs.CutNetwork.{IsRide, IsCutNetwork}
 use Rattle.cut_file.proofs.Distinct.{runs_distinct, places_distinct, one_number}
 use Rattle.journey_problem.proofs.OneOrder.{Enumerates, agree, same_size}
-
--- the types of a delay table rise
-abbrev pub AreRising : List ℕ → Type 0
-AreRising types = (i j : ℕ) → i < j → j < length types → get_or types i 0 < get_or types j 0
-
-one_slot : (types : List ℕ) → AreRising types → (a b x : ℕ) → slice_get types a ≡ Some x → slice_get types b ≡ Some x → a ≡ b
-one_slot types rising a b x h k =
-    let ga : get_or types a 0 ≡ x = get_or_from_slice_get types a x 0 h in
-    let gb : get_or types b 0 ≡ x = get_or_from_slice_get types b x 0 k in
-    let ia = slice_get_within types a x h in
-    let ib = slice_get_within types b x k in
-    ⊎_elim (λ (less : a < b). absurd (omega (arith, rising a b less ib, ga, gb)))
-    (λ (ge : b ≤ a). ⊎_elim (λ (less : b < a). absurd (omega (arith, rising b a less ia, ga, gb))) (λ (le : a ≤ b). omega arith) (cases_lt b a))
-    (cases_lt a b)
-
-holds : (types : List ℕ) (a x : ℕ) → slice_get types a ≡ Some x → Contains types x
-holds types a x h = (a, slice_get_within types a x h, get_or_from_slice_get types a x x h)
-
-same_class_of : (types : List ℕ) → AreRising types → (route k l : ℕ) → IsClassOf types route k → IsClassOf types route l → k ≡ l
-same_class_of types rising route zero zero a b = refl
-same_class_of types rising route zero (suc l) a b = absurd (a (holds types l route b))
-same_class_of types rising route (suc k) zero a b = absurd (b (holds types k route a))
-same_class_of types rising route (suc k) (suc l) a b = ap suc (one_slot types rising k l route a b)
-
-same_class : (types : List ℕ) → AreRising types → (class : Option ℕ) (k l : ℕ) → IsClass types class k → IsClass types class l → k ≡ l
-same_class types rising None k l a b = a ∙ sym b
-same_class types rising (Some route) k l a b = same_class_of types rising route k l a b
 
 -- by run, and then by step
 abbrev pub Precedes : Connection → Connection → Type 0
@@ -55,11 +27,10 @@ never_both c d (inl h) (inr k) = omega (arith, h, k.0)
 never_both c d (inr h) (inl k) = omega (arith, h.0, k)
 never_both c d (inr h) (inr k) = omega (arith, h.1, k.1)
 
-module _ (names : NameLists) (types : List ℕ) (runs : AreDistinct names.runs) (places : AreDistinct names.places) (rising : AreRising types) where
+module _ (names : NameLists) (delays : DelayLists) (runs : AreDistinct names.runs) (places : AreDistinct names.places) where
   -- a row has one connection
-  same_ride : (r : Row) (c d : Connection) → IsRide names types r c → IsRide names types r d → c ≡ d
+  same_ride : (r : Row) (c d : Connection) → IsRide names delays r c → IsRide names delays r d → c ≡ d
   same_ride r c d a b =
-      let class = same_class types rising r.class c.class.0 d.class.0 a.class b.class in
       let from = one_number names.places places c.from.0 d.from.0 r.from a.from b.from in
       let to = one_number names.places places c.to.0 d.to.0 r.to a.to b.to in
       let run = one_number names.runs runs c.run.0 d.run.0 r.run a.run b.run in
@@ -70,7 +41,7 @@ module _ (names : NameLists) (types : List ℕ) (runs : AreDistinct names.runs) 
         arr = record { 0 = (a.arr ∙ sym b.arr) i };
         run = record { 0 = run i };
         step = (a.step ∙ sym b.step) i;
-        class = record { 0 = class i };
+        class = record { 0 = (a.class ∙ sym b.class) i };
         can_board = (a.board ∙ sym b.board) i;
         can_exit = (a.exit ∙ sym b.exit) i;
       }
@@ -78,15 +49,15 @@ module _ (names : NameLists) (types : List ℕ) (runs : AreDistinct names.runs) 
 module _ (t : List (List (List ℕ))) (delays : DelayLists) (names : NameLists) where
   -- it is the connection of a row
   abbrev pub IsOfRow : Connection → Type 0
-  IsOfRow c = (k : ℕ) × (k < row_count t) × IsRide names delays.types (row t k) c
+  IsOfRow c = (k : ℕ) × (k < row_count t) × IsRide names delays (row t k) c
 
-  module _ (runs : AreDistinct names.runs) (places : AreDistinct names.places) (rising : AreRising delays.types) where
+  module _ (runs : AreDistinct names.runs) (places : AreDistinct names.places) where
     enumerates : (n : Parts) → IsCutNetwork t delays n names → IsValid n → Enumerates (IsOfRow) Precedes (λ i. connection n i) (count n)
     enumerates n is valid = record {
       inside = λ i h. is.rides i h;
       rising = λ i j less h. valid.rising i j less h;
       all = λ c h. let w = is.rows h.0 h.1 in
-          (w.0, w.1, same_ride names delays.types runs places rising (row t h.0) (connection n w.0) c w.2 h.2);
+          (w.0, w.1, same_ride names delays runs places (row t h.0) (connection n w.0) c w.2 h.2);
     }
 
     same_connections : (n m : Parts) → IsCutNetwork t delays n names → IsCutNetwork t delays m names → IsValid n → IsValid m → n.connections ≡ m.connections
@@ -108,12 +79,12 @@ module _ (t : List (List (List ℕ))) (delays : DelayLists) (names : NameLists) 
       a.change p (get_or names.places p []) name ∙ sym (b.change p (get_or names.places p []) name))
 
   -- a cut file makes one network with its delays
-  pub one_network : AreDistinct names.runs → AreDistinct names.places → AreRising delays.types → (n m : Parts)
+  pub one_network : AreDistinct names.runs → AreDistinct names.places → (n m : Parts)
       → IsCutNetwork t delays n names → IsCutNetwork t delays m names → IsValid n → IsValid m → n ≡ m
-  one_network runs places rising n m a b valid other =
-      let connections = same_connections runs places rising n m a b valid other in
+  one_network runs places n m a b valid other =
+      let connections = same_connections runs places n m a b valid other in
       let change = same_changes n m a b in
-      λ i. record { connections = connections i; change = change i; classes = (a.classes ∙ sym b.classes) i }
+      same_parts n m connections change (a.classes ∙ sym b.classes) (a.links ∙ sym b.links)
 
 -- the names of a cut file are one list each, of distinct names
 pub same_names : (t : List (List (List ℕ))) (delays other : DelayLists) (n m : Parts) (names more : NameLists) → IsCutNetwork t delays n names → IsCutNetwork t other m more → names ≡ more

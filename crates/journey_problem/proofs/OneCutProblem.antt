@@ -12,17 +12,13 @@ use Rattle.command_line.specs.Jobs.{WantedJourney}
 use Rattle.journey_problem.specs.declared.problem.Problem.{Problem}
 use Rattle.journey_problem.specs.Files.{Records}
 use Rattle.journey_problem.specs.CutProblems.{AreDelaysOf, IsCutProblem}
-use Rattle.journey_problem.proofs.OneCutNetwork.{AreRising, one_network, same_names, runs_apart, places_apart}
-use Rattle.journey_problem.proofs.DelayTypes.{types_rise}
+use Rattle.journey_problem.proofs.OneCutNetwork.{one_network, same_names, runs_apart, places_apart}
 
 pub same_ok : {A E : Type 0} (r : Result A E) (x y : A) → r ≡ Ok x → r ≡ Ok y → x ≡ y
 same_ok r x y h k = cc
 
 pub delays_of_one : (limits : Limits) (file : Option (List ℕ)) (c d : DelayLists) → AreDelaysOf limits file c → AreDelaysOf limits file d → c ≡ d
 delays_of_one limits file c d (t, e, a) (u, f, b) = a ∙ ap delays_of (same_ok _ t u e f) ∙ sym b
-
-delays_rise : (limits : Limits) (file : Option (List ℕ)) (c : DelayLists) → AreDelaysOf limits file c → AreRising c.types
-delays_rise limits file c (t, e, a) = subst (λ (d : DelayLists). AreRising d.types) (sym a) (types_rise t)
 
 one_end : (names : List (List ℕ)) → AreDistinct names → (a b : ℕ) (x : List ℕ) → slice_get names a ≡ Some x → slice_get names b ≡ Some x → a ≡ b
 one_end names apart a b x h k = one_number names apart a b x h k
@@ -42,7 +38,7 @@ one_cut_problem limits files path j p q a b =
     let runs = runs_apart a.table a.lists p.network p.names first in
     let places = places_apart a.table a.lists p.network p.names first in
     let network : p.network ≡ q.network
-    = one_network a.table a.lists p.names runs places (delays_rise limits (file_at files j.delays) a.lists a.are_delays)
+    = one_network a.table a.lists p.names runs places
     p.network q.network first second a.timetable.valid b.timetable.valid in
     let source : p.source.0 ≡ q.source.0 = one_end p.names.places places p.source.0 q.source.0 j.from a.timetable.source
     (subst (λ (ns : NameLists). slice_get ns.places q.source.0 ≡ Some j.from) names b.timetable.source) in

@@ -50,6 +50,8 @@ one_feed t f g a b =
       trip_ids = (a.trips ∙ sym b.trips) i;
       services = (a.services_of_trips ∙ sym b.services_of_trips) i;
       route_types = (a.types_of_trips ∙ sym b.types_of_trips) i;
+      route_ids = (a.routes ∙ sym b.routes) i;
+      routes = (a.routes_of_trips ∙ sym b.routes_of_trips) i;
       stop_times = times i;
     }
 

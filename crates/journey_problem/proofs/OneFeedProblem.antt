@@ -1,6 +1,8 @@
 -- A folder with a delay file has one problem.
-use Rattle.std.proofs.Common.{◌≡◌, ℕ, sym, ap, ◌∙◌, subst, List, Some, None, Result, Ok, Err}
-use Rattle.std.specs.Prelude.{IsOkAnd}
+use Rattle.std.proofs.Common.{◌≡◌, ℕ, ◌<◌, ◌≤◌, sym, ap, ◌∙◌, subst, arith, List, [], length, ⊎_elim, Some, None, Result, Ok, Err}
+use Rattle.std.specs.Prelude.{IsOkAnd, option_map}
+use Rattle.std.proofs.lemmas.Bool.{cases_lt}
+use Rattle.std.proofs.lemmas.List.{get_or_past}
 use Rattle.file_ports.specs.Ports.{Folder, file_at}
 use Rattle.csv_rows.specs.declared.limits.Limits.{Limits}
 use Rattle.csv_rows.specs.declared.feed_tables.FeedFault.{FeedFault}
@@ -8,20 +10,22 @@ use Rattle.delay_table.specs.DelayLists.{DelayLists}
 use Rattle.gtfs_tables.specs.Feeds.{FeedParts, Records, tables_in}
 use Rattle.service_days.specs.Services.{ServiceParts, runs}
 use Rattle.service_days.specs.Calendars.{Calendars, calendars_in, RunsBy}
-use Rattle.change_times.specs.Changes.{ChangeParts, AreChanges, seconds_of, transfers_in}
+use Rattle.change_times.specs.Changes.{ChangeParts, AreChanges, seconds_of, links_of, transfers_in}
 use Rattle.change_times.specs.Transfers.{place_of_stop}
-use Rattle.connections.specs.Cut.{IsNetworkFrom}
+use Rattle.connections.specs.Cut.{IsNetworkFrom, connection_count, entry_count}
+use Rattle.connections.specs.Faults.{window_fault}
 use Rattle.command_line.specs.Jobs.{WantedJourney}
-use Rattle.journey_problem.specs.FeedProblems.{FolderParts, IsFolder, IsFeedProblem, window_count}
+use Rattle.journey_problem.specs.FeedProblems.{FolderParts, IsFolder, IsFeedProblem, window_as, window_fault_of}
 use Rattle.journey_problem.proofs.OneCutProblem.{delays_of_one}
 use Rattle.journey_problem.proofs.OneFeed.{one_feed_of}
-use Rattle.journey_problem.proofs.OneWindow.{SameDays, same_count, one_window}
+use Rattle.journey_problem.proofs.OneWindow.{SameDays, same_count, same_entries, one_window}
 
--- two folders as they are read: one feed, services that run on the same days, and the same change times
+-- two folders as they are read: one feed, services that run on the same days, and the same change times and links
 pub record SameFolderParts (g h : FolderParts) : Type 0 where
   pub feed : g.feed ≡ h.feed
   pub days : SameDays g.services h.services
   pub changes : (place : ℕ) → seconds_of g.changes place ≡ seconds_of h.changes place
+  pub links : (place : ℕ) → links_of g.changes place ≡ links_of h.changes place
 
 same_days : (r : Result Calendars FeedFault) (s t : ServiceParts) → IsOkAnd r (RunsBy (runs s)) → IsOkAnd r (RunsBy (runs t)) → SameDays s t
 same_days (Ok c) s t a b = λ service day. a service day ∙ sym (b service day)
@@ -31,25 +35,36 @@ same_changes : (r : Result Records FeedFault) (f : FeedParts) (c d : ChangeParts
 same_changes (Ok t) f c d a b = λ place. a.seconds place ∙ sym (b.seconds place)
 same_changes (Err fault) f c d a b = absurd a
 
+same_links : (r : Result Records FeedFault) (f : FeedParts) (c d : ChangeParts) → IsOkAnd r (AreChanges f c) → IsOkAnd r (AreChanges f d) → (place : ℕ) → links_of c place ≡ links_of d place
+same_links (Ok t) f c d a b = λ place.
+    ⊎_elim (λ (inside : place < length f.stop_ids). a.links place inside ∙ sym (b.links place inside))
+    (λ (past : length f.stop_ids ≤ place). get_or_past c.links place [] (omega (arith, a.few)) ∙ sym (get_or_past d.links place [] (omega (arith, b.few))))
+    (cases_lt place (length f.stop_ids))
+same_links (Err fault) f c d a b = absurd a
+
 module _ (limits : Limits) (files : Folder) (folder : List ℕ) where
   -- a folder is read in one way
   pub one_folder : (g h : FolderParts) → IsFolder limits files folder g → IsFolder limits files folder h → SameFolderParts g h
   one_folder g h a b =
       let feed : g.feed ≡ h.feed = one_feed_of (tables_in files folder limits None) g.feed h.feed a.feed b.feed in
+      let other = subst (λ (f : FeedParts). IsOkAnd (transfers_in files folder limits None f) (AreChanges f h.changes)) (sym feed) b.changes in
       record {
         feed = feed;
         days = same_days (calendars_in files folder limits None) g.services h.services a.services b.services;
-        changes = same_changes (transfers_in files folder limits None g.feed) g.feed g.changes h.changes a.changes
-            (subst (λ (f : FeedParts). IsOkAnd (transfers_in files folder limits None f) (AreChanges f h.changes)) (sym feed) b.changes);
+        changes = same_changes (transfers_in files folder limits None g.feed) g.feed g.changes h.changes a.changes other;
+        links = same_links (transfers_in files folder limits None g.feed) g.feed g.changes h.changes a.changes other;
       }
 
   one_place : (f g : FeedParts) → f ≡ g → (id : List ℕ) (a b : ℕ) → place_of_stop f id ≡ Some a → place_of_stop g id ≡ Some b → a ≡ b
   one_place f g e id a b h k = let l : Some a ≡ Some b = sym h ∙ ap (λ (x : FeedParts). place_of_stop x id) e ∙ k in cc
 
-  -- the window has one count of connections
-  pub one_count : (horizon : ℕ) (j : WantedJourney) (g h : FolderParts) → SameFolderParts g h → window_count horizon j g ≡ window_count horizon j h
-  one_count horizon j g h s =
-      same_count g.feed g.services h.services j.start horizon s.days ∙ ap (λ (f : FeedParts). window_count horizon j (record { feed = f; services = h.services; changes = h.changes })) s.feed
+  -- the window has one first fault
+  pub one_window_fault : (horizon : ℕ) (j : WantedJourney) (g h : FolderParts) → SameFolderParts g h → window_fault_of limits horizon j g ≡ window_fault_of limits horizon j h
+  one_window_fault horizon j g h s =
+      ap (λ n. option_map window_as (window_fault limits n (entry_count g.feed g.services g.changes j.start horizon))) (same_count g.feed g.services h.services j.start horizon s.days)
+      ∙ ap (λ n. option_map window_as (window_fault limits (connection_count g.feed h.services j.start horizon) n))
+      (same_entries g.feed g.services h.services g.changes h.changes j.start horizon s.days s.links)
+      ∙ ap (λ (f : FeedParts). window_fault_of limits horizon j (record { feed = f; services = h.services; changes = h.changes })) s.feed
 
   -- a folder and a delay file have one problem of a journey
   pub one_feed_problem : (horizon : ℕ) (j : WantedJourney) (p q : _) → IsFeedProblem limits files folder horizon j p → IsFeedProblem limits files folder horizon j q → p ≡ q
@@ -59,7 +74,7 @@ module _ (limits : Limits) (files : Folder) (folder : List ℕ) where
       let other : IsNetworkFrom a.parts.feed b.parts.services b.parts.changes a.lists j.start horizon q.network q.names
       = subst (λ (f : FeedParts). IsNetworkFrom f b.parts.services b.parts.changes a.lists j.start horizon q.network q.names) (sym parts.feed)
       (subst (λ (d : DelayLists). IsNetworkFrom b.parts.feed b.parts.services b.parts.changes d j.start horizon q.network q.names) (sym lists) b.timetable.is_network) in
-      let w = one_window a.parts.feed a.parts.services b.parts.services a.parts.changes b.parts.changes a.lists j.start horizon parts.days parts.changes
+      let w = one_window a.parts.feed a.parts.services b.parts.services a.parts.changes b.parts.changes a.lists j.start horizon parts.days parts.changes parts.links
       p.network q.network p.names q.names a.timetable.is_network other in
       let source : p.source.0 ≡ q.source.0 = one_place a.parts.feed b.parts.feed parts.feed j.from p.source.0 q.source.0 a.timetable.source b.timetable.source in
       let target : p.target.0 ≡ q.target.0 = one_place a.parts.feed b.parts.feed parts.feed j.to p.target.0 q.target.0 a.timetable.target b.timetable.target in

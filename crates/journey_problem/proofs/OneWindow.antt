@@ -1,22 +1,26 @@
 -- The window of a feed has one network and one list of names.
 use Rattle.std.proofs.Common.{◌≡◌, ℕ, ◌+◌, ◌<◌, ◌++◌, ◌∷◌, [], sym, ap, ◌∙◌, subst, arith, List, length, Bool}
-use Rattle.std.specs.Prelude.{ℤ, pos, slice_index_or, ◌&&◌}
+use Rattle.std.specs.Prelude.{ℤ, pos, slice_index_or, ◌&&◌, if◌then◌else◌}
 use mathlib.Core.Path.{fun_ext}
 use Rattle.std.proofs.lemmas.List.{ext_get_or}
+use Rattle.plan_model.specs.declared.model.PlaceId.{PlaceId}
+use Rattle.plan_model.specs.declared.model.Way.{Way}
 use Rattle.plan_model.specs.NameLists.{NameLists}
 use Rattle.plan_model.specs.Parts.{Parts}
+use Rattle.plan_model.proofs.SameParts.{same_parts}
 use Rattle.csv_rows.specs.Lists.{list_below}
-use Rattle.change_times.specs.Changes.{ChangeParts, seconds_of}
+use Rattle.change_times.specs.Changes.{ChangeParts, seconds_of, links_of}
 use Rattle.clock_text.proofs.OneDate.{one_date}
 use Rattle.delay_table.specs.DelayLists.{DelayLists}
 use Rattle.gtfs_tables.specs.Feeds.{FeedParts}
 use Rattle.gtfs_tables.specs.Timed.{rows_of}
 use Rattle.service_days.specs.Services.{ServiceParts, runs}
-use Rattle.connections.specs.Joins.{join_below, only_if}
+use Rattle.connections.specs.Joins.{join_below, only_if, sum_below}
 use Rattle.connections.specs.Window.{first_day, window_of}
 use Rattle.connections.specs.Rides.{rides, day_runs, runs_below, runs_in, run_at, no_run}
-use Rattle.connections.specs.Networks.{IsRunName, AreRunNames, rides_below, ride_count}
-use Rattle.connections.specs.Cut.{IsNetworkFrom, connection_count}
+use Rattle.connections.specs.Counts.{steps_sum, day_sum, days_sum, window_sum}
+use Rattle.connections.specs.Networks.{IsRunName, AreRunNames, rides_below}
+use Rattle.connections.specs.Cut.{IsNetworkFrom, connection_count, entry_count}
 
 -- they run on the same days
 abbrev pub SameDays : ServiceParts → ServiceParts → Type 0
@@ -43,19 +47,35 @@ one_names : (f : FeedParts) (rs : _) (n : ℕ) (a b : List (List ℕ)) → AreRu
 one_names f rs n a b h k = ext_get_or [] a b (h.size ∙ sym k.size) (λ r l.
     let inside : r < n = omega (arith, l, h.size) in one_name f (run_at rs r) _ _ (h.each r inside) (k.each r inside))
 
-pub same_count : (f : FeedParts) (s t : ServiceParts) (start horizon : ℕ) → SameDays s t → connection_count f s start horizon ≡ connection_count f t start horizon
-same_count f s t start horizon e =
-    let w = window_of start horizon in ap (λ (rs : _). ride_count f w rs (length rs)) (same_runs f s t w e)
+-- what the connections add up to depends on the services by their days alone
+same_sum : (each : PlaceId → ℕ) (f : FeedParts) (s t : ServiceParts) (w : _) → SameDays s t → window_sum each f s w ≡ window_sum each f t w
+unfolding days_sum day_sum
+same_sum each f s t w e =
+    ap (λ (r : List ℕ → ℤ → Bool). sum_below (λ d. sum_below (λ trip.
+    if r (slice_index_or f.services trip []) (pos (first_day w + d))
+    then steps_sum each w (rows_of f trip) (first_day w + d) else 0) (length f.trip_ids)) 11)
+    (fun_ext (λ x. fun_ext (e x)))
 
-module _ (f : FeedParts) (s t : ServiceParts) (c d : ChangeParts) (lists : DelayLists) (start horizon : ℕ) (days : SameDays s t) (changes : (place : ℕ) → seconds_of c place ≡ seconds_of d place) where
+pub same_count : (f : FeedParts) (s t : ServiceParts) (start horizon : ℕ) → SameDays s t → connection_count f s start horizon ≡ connection_count f t start horizon
+same_count f s t start horizon e = same_sum (λ place. 1) f s t (window_of start horizon) e
+
+pub same_entries : (f : FeedParts) (s t : ServiceParts) (c d : ChangeParts) (start horizon : ℕ) → SameDays s t → ((place : ℕ) → links_of c place ≡ links_of d place)
+    → entry_count f s c start horizon ≡ entry_count f t d start horizon
+same_entries f s t c d start horizon e links =
+    let w = window_of start horizon in
+    same_sum (λ place. length (links_of c place.0) + 1) f s t w e
+    ∙ ap (λ (each : PlaceId → ℕ). window_sum each f t w) (fun_ext (λ place. ap (λ (ls : List Way). length ls + 1) (links place.0)))
+
+module _ (f : FeedParts) (s t : ServiceParts) (c d : ChangeParts) (lists : DelayLists) (start horizon : ℕ) (days : SameDays s t) (changes : (place : ℕ) → seconds_of c place ≡ seconds_of d place) (links : (place : ℕ) → links_of c place ≡ links_of d place) where
   pub one_window : (n m : Parts) (names more : NameLists) → IsNetworkFrom f s c lists start horizon n names → IsNetworkFrom f t d lists start horizon m more → (n ≡ m) × (names ≡ more)
   one_window n m names more a b =
       let w = window_of start horizon in
       let rs : runs_in f s w ≡ runs_in f t w = same_runs f s t w days in
-      let connections : n.connections ≡ m.connections = a.connections ∙ ap (λ (x : _). rides_below f lists.types w x (length x)) rs ∙ sym b.connections in
+      let connections : n.connections ≡ m.connections = a.connections ∙ ap (λ (x : _). rides_below f lists w x (length x)) rs ∙ sym b.connections in
       let change : n.change ≡ m.change = a.change_of_places ∙ ap (λ (g : ℕ → ℕ). list_below g (length f.stop_ids)) (fun_ext changes) ∙ sym b.change_of_places in
+      let linked : n.links ≡ m.links = a.links_of_places ∙ ap (λ (g : ℕ → List Way). list_below g (length f.stop_ids)) (fun_ext links) ∙ sym b.links_of_places in
       let named : names.runs ≡ more.runs = one_names f (runs_in f s w) (length (runs_in f s w)) names.runs more.runs a.runs
       (subst (λ (x : _). AreRunNames f x (length x) more.runs) (sym rs) b.runs) in (
-        λ i. record { connections = connections i; change = change i; classes = (a.classes_of_delays ∙ sym b.classes_of_delays) i },
+        same_parts n m connections change (a.classes_of_delays ∙ sym b.classes_of_delays) linked,
         λ i. record { places = (a.places ∙ sym b.places) i; runs = named i },
       )

@@ -40,6 +40,6 @@ module _ (limits : Limits) (files other : Folder) (same : (path : List ℕ) → 
     is_folder = same_folder folder a.parts a.is_folder;
     no_delay_fault = subst (λ (f : Option (List ℕ)). delay_fault limits f None ≡ None) (same j.delays) a.no_delay_fault;
     are_delays = subst (λ (f : Option (List ℕ)). AreDelaysOf limits f a.lists) (same j.delays) a.are_delays;
-    few = a.few;
+    no_window_fault = a.no_window_fault;
     timetable = a.timetable;
   }

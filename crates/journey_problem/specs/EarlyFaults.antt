@@ -2,7 +2,7 @@
 use Rattle.fault_lines.specs.declared.faults.Input.{Input}
 use Rattle.fault_lines.specs.declared.faults.Input.TheVariants as input
 use Rattle.fault_lines.specs.declared.faults.LimitKind.{LimitKind}
-use Rattle.fault_lines.specs.declared.faults.LimitKind.TheVariants.{Bytes, Rows, CutRows, Connections}
+use Rattle.fault_lines.specs.declared.faults.LimitKind.TheVariants.{Bytes, Rows, CutRows, Connections, Entries}
 use Rattle.fault_lines.specs.declared.faults.Fault.{Fault}
 use Rattle.fault_lines.specs.declared.faults.Fault.TheVariants.{Words, Feed, Cut, Missing, Delays, UnknownStop, Limit, Read, NoSafe, GraphFile, Replay, Write, NoMemory}
 use Rattle.fault_lines.specs.Stages.{stage_of, IsEarlyStage, IsOfText}
@@ -31,6 +31,7 @@ IsLimitOf timetable (Bytes input) = IsInputOf timetable input
 IsLimitOf timetable (Rows table) = IsOfFeed timetable
 IsLimitOf timetable CutRows = IsOfCutFile timetable
 IsLimitOf timetable Connections = IsOfFeed timetable
+IsLimitOf timetable Entries = IsOfFeed timetable
 
 -- where it is of an input, a timetable or a limit, this is one of a journey over this timetable
 abbrev pub IsOfTimetable : WantedTimetable → Fault → Type 0

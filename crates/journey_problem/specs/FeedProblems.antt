@@ -1,5 +1,5 @@
 -- The timetable of a feed's folder, and the first fault of a journey over it.
-use Rattle.std.specs.Prelude.{◌≡◌, ℕ, ◌+◌, ◌<◌, ◌≤◌, ◌⊎◌, List, Option, None, Some, Err, IsOk, IsOkAnd, is_none, if◌then◌else◌}
+use Rattle.std.specs.Prelude.{◌≡◌, ℕ, ◌+◌, ◌⊎◌, List, Option, None, Some, Err, IsOk, IsOkAnd, is_none, option_map, if◌then◌else◌}
 use Rattle.file_ports.specs.Ports.{Folder, file_at}
 use Rattle.csv_rows.specs.declared.feed_tables.FeedFault.{FeedFault}
 use Rattle.csv_rows.specs.declared.feed_tables.FeedFault.TheVariants as feed
@@ -12,11 +12,13 @@ use Rattle.change_times.specs.Changes.{ChangeParts, AreChanges, transfers_in}
 use Rattle.change_times.specs.Transfers.{place_of_stop}
 use Rattle.delay_table.specs.DelayLists.{DelayLists}
 use Rattle.delay_table.specs.Slots.{AreDelays}
-use Rattle.connections.specs.Cut.{IsNetworkFrom, connection_count}
+use Rattle.connections.specs.declared.cuts.WindowFault.{WindowFault}
+use Rattle.connections.specs.declared.cuts.WindowFault.TheVariants as window
+use Rattle.connections.specs.Cut.{IsNetworkFrom, fault_from}
 use Rattle.command_line.specs.Jobs.{WantedJourney}
 use Rattle.fault_lines.specs.declared.faults.Input.TheVariants as input
 use Rattle.fault_lines.specs.declared.faults.Which.TheVariants as which
-use Rattle.fault_lines.specs.declared.faults.LimitKind.TheVariants.{Bytes, Rows, Connections}
+use Rattle.fault_lines.specs.declared.faults.LimitKind.TheVariants.{Bytes, Rows, Connections, Entries}
 use Rattle.fault_lines.specs.declared.faults.Fault.{Fault}
 use Rattle.fault_lines.specs.declared.faults.Fault.TheVariants.{Feed, UnknownStop, Limit, Read, NoMemory}
 use Rattle.journey_problem.specs.declared.problem.Problem.{Problem}
@@ -69,16 +71,21 @@ feed_stop_fault f from to =
     else if is_none (place_of_stop f to) then Some (UnknownStop which.To)
     else None
 
--- the window of the journey has this number of connections
-abbrev pub window_count : ℕ → WantedJourney → FolderParts → ℕ
-window_count horizon j h = connection_count h.feed h.services j.start horizon
+-- a fault of a window as one of the run
+abbrev pub window_as : WindowFault → Fault
+window_as (window.TooMany count) = Limit Connections count
+window_as (window.TooManyEntries count) = Limit Entries count
+window_as window.NoMemory = NoMemory
 
--- after a delay file with no fault the first fault is this one: of the stops, or else that the window has too many connections
+-- the first fault of the window of the journey
+abbrev pub window_fault_of : Limits → ℕ → WantedJourney → FolderParts → Option Fault
+window_fault_of limits horizon j h = option_map window_as (fault_from limits h.feed h.services h.changes j.start horizon)
+
+-- after a delay file with no fault the first fault is this one: of the stops, or else of the window
 abbrev pub IsWindowFault : Limits → ℕ → WantedJourney → FolderParts → Fault → Type 0
 IsWindowFault limits horizon j h fault =
     (feed_stop_fault h.feed j.from j.to ≡ Some fault)
-    ⊎ ((feed_stop_fault h.feed j.from j.to ≡ None)
-    × (fault ≡ Limit Connections (window_count horizon j h)) × (limits.connections < window_count horizon j h))
+    ⊎ ((feed_stop_fault h.feed j.from j.to ≡ None) × (window_fault_of limits horizon j h ≡ Some fault))
 
 -- after a folder with no fault the first fault is this one: of the delay file, or else of the window
 abbrev pub IsFaultAfterFolder : Limits → Folder → ℕ → WantedJourney → FolderParts → Fault → Type 0
@@ -104,13 +111,12 @@ abbrev pub HasFeedTimetable : ℕ → WantedJourney → Problem → Type 0
 HasFeedTimetable horizon j p =
     (parts : FolderParts) × (lists : DelayLists) × IsSoundFeed parts.feed × AreDelays lists × IsFeedTimetable parts lists horizon j p
 
--- no file has a fault, the timetable is that of the feed with the delays of the delay file, and its window has not too many
--- connections
+-- no file has a fault, the timetable is that of the feed with the delays of the delay file, and its window has no fault
 pub record IsFeedProblem (limits : Limits) (files : Folder) (folder : List ℕ) (horizon : ℕ) (j : WantedJourney) (p : Problem) : Type 0 where
   pub parts : FolderParts
   pub lists : DelayLists
   pub is_folder : IsFolder limits files folder parts
   pub no_delay_fault : delay_fault limits (file_at files j.delays) None ≡ None
   pub are_delays : AreDelaysOf limits (file_at files j.delays) lists
-  pub few : window_count horizon j parts ≤ limits.connections
+  pub no_window_fault : window_fault_of limits horizon j parts ≡ None
   pub timetable : IsFeedTimetable parts lists horizon j p

@@ -1,5 +1,6 @@
 -- The files that a command reads, and the causes of their faults.
 use Rattle.std.specs.Prelude.{◌≡◌, ◌≢◌, ℕ, ◌+◌, ◌<◌, ◌≤◌, List, [], ◌∷◌, length, Option, None, Some, Result, Ok, Err, IsErrOf, if◌then◌else◌, nat_lt}
+use Rattle.std.specs.Option.{IsSomeAnd}
 use Rattle.file_ports.specs.Counts.{Rose}
 use Rattle.csv_rows.specs.FeedTables.{path_of as table_path}
 use Rattle.csv_rows.specs.Tables.{table_of}
@@ -16,23 +17,27 @@ use Rattle.fault_lines.specs.Faults.{unread_of, is_unread}
 abbrev pub Records : Type 0
 Records = List (List (List ℕ))
 
-abbrev pub cut_path : WantedTimetable → List ℕ
-cut_path (CutFile path) = path
-cut_path (FeedFolder folder horizon) = []
+abbrev pub cut_path : WantedTimetable → Option (List ℕ)
+cut_path (CutFile path) = Some path
+cut_path (FeedFolder folder horizon) = None
 
-abbrev pub feed_path : WantedTimetable → Table → List ℕ
-feed_path (CutFile path) table = []
-feed_path (FeedFolder folder horizon) table = table_path folder table
+abbrev pub feed_path : WantedTimetable → Table → Option (List ℕ)
+feed_path (CutFile path) table = None
+feed_path (FeedFolder folder horizon) table = Some (table_path folder table)
 
--- the paths of a journey's files over a timetable, and of a graph file
-abbrev pub path_by : WantedTimetable → WantedJourney → List ℕ → Input → List ℕ
-path_by timetable j graph (input.Feed table) = feed_path timetable table
-path_by timetable j graph input.Cut = cut_path timetable
-path_by timetable j graph input.Delays = j.delays
-path_by timetable j graph input.Graph = graph
+-- the paths of the inputs that are read beside the files of a journey
+abbrev pub OwnPaths : Type 0
+OwnPaths = Input → Option (List ℕ)
 
-abbrev pub path_of : WantedJourney → List ℕ → Input → List ℕ
-path_of j graph = path_by j.timetable j graph
+-- the path of an input: of a journey's files over a timetable, or of another file that is read beside them, by its own
+abbrev pub path_by : WantedTimetable → WantedJourney → OwnPaths → Input → Option (List ℕ)
+path_by timetable j own (input.Feed table) = feed_path timetable table
+path_by timetable j own input.Cut = cut_path timetable
+path_by timetable j own input.Delays = Some j.delays
+path_by timetable j own input.Graph = own input.Graph
+
+abbrev pub path_of : WantedJourney → OwnPaths → Input → Option (List ℕ)
+path_of j own = path_by j.timetable j own
 
 -- what comes next, where there is no fault so far
 abbrev pub and_then : {A B : Type 0} → Result A Fault → (A → Result B Fault) → Result B Fault
@@ -62,10 +67,14 @@ abbrev pub Finds : {A B : Type 0} → (A → B) → (Option Input → Result B F
 Finds shown wanted (Ok a) = wanted None ≡ Ok (shown a)
 Finds shown wanted (Err fault) = fault ≢ NoMemory → wanted (unread_of fault) ≡ Err fault
 
+-- the count of faults of a path rose
+abbrev pub RoseAt : Option (List ℕ) → (before_of now_of : List ℕ → ℕ) → Type 0
+RoseAt path before_of now_of = IsSomeAnd path (λ p. Rose (before_of p) (now_of p))
+
 -- `Read` only where the count of faults rose, where it is told that of the input's own path too; and always where it grew
-pub record HasCauses {T : Type 0} (told : Type 0) (path : Input → List ℕ) (before now : ℕ) (before_of now_of : List ℕ → ℕ) (result : Result T Fault) : Type 0 where
+pub record HasCauses {T : Type 0} (told : Type 0) (path : Input → Option (List ℕ)) (before now : ℕ) (before_of now_of : List ℕ → ℕ) (result : Result T Fault) : Type 0 where
   pub later : before ≤ now
   pub later_of : (p : List ℕ) → before_of p ≤ now_of p
   pub read : (input : Input) → IsErrOf result (Read input) → Rose before now
-  pub read_path : told → (input : Input) → IsErrOf result (Read input) → Rose (before_of (path input)) (now_of (path input))
+  pub read_path : told → (input : Input) → IsErrOf result (Read input) → RoseAt (path input) before_of now_of
   pub grew : before < now → (input : Input) × IsErrOf result (Read input)

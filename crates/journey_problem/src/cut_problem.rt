@@ -8,7 +8,7 @@ ghost use Rattle.plan_model.specs.Network.{IsValid};
 ghost use Rattle.command_line.specs.Shown.{journey_shown};
 ghost use Rattle.command_line.specs.Jobs.{WantedTimetable, CutFile};
 ghost use Rattle.fault_lines.specs.Faults.{IsFirst, unread_of};
-ghost use Rattle.journey_problem.specs.Files.{Records, path_by, HasCauses};
+ghost use Rattle.journey_problem.specs.Files.{Records, OwnPaths, path_by, HasCauses};
 ghost use Rattle.journey_problem.specs.EarlyFaults.{IsEarly};
 ghost use Rattle.journey_problem.specs.CutProblems.{cut_problem_fault, IsCutProblem, HasCutTimetable, IsNamed, stop_fault};
 
@@ -92,8 +92,8 @@ pub(crate) fn cut_problem<F: Files>(
     ensures timetable { IfOk result (HasCutTimetable (journey_shown journey.now)) }
     ensures source { IfOk result (λ p. IsNamed p.names p.source.0 journey.now.from.now) }
     ensures target { IfOk result (λ p. IsNamed p.names p.target.0 journey.now.to.now) }
-    ensures causes { (graph : Bytes ℕ) → HasCauses (IsSome (F.files files.old))
-        (path_by (CutFile path.now) (journey_shown journey.now) graph)
+    ensures causes { (own : OwnPaths) → HasCauses (IsSome (F.files files.old))
+        (path_by (CutFile path.now) (journey_shown journey.now) own)
         (F.faults files.old) (F.faults files.new)
         (F.faults_of files.old) (F.faults_of files.new) result }
 {

@@ -3,6 +3,7 @@ ghost use Rattle.std.specs.Prelude.{◌≡◌, ◌≢◌, ◌<◌, ◌≤◌, �
 ghost use Rattle.csv_rows.specs.Limits.{AreWithin};
 ghost use Rattle.csv_rows.specs.Loading.{HasFeedCause, HasFeedPathCause};
 ghost use Rattle.change_times.specs.Transfers.{place_of_stop};
+ghost use Rattle.change_times.specs.Changes.{LinksComeFrom};
 ghost use Rattle.connections.specs.Cut.{IsNetworkFrom};
 ghost use Rattle.gtfs_tables.specs.Feeds.{IsSoundFeed};
 ghost use Rattle.plan_model.specs.NameLists.{NamesFit};
@@ -11,9 +12,9 @@ ghost use Rattle.command_line.specs.Shown.{journey_shown};
 ghost use Rattle.command_line.specs.Jobs.{WantedTimetable, FeedFolder};
 ghost use Rattle.command_line.specs.Ranges.{IsJourney};
 ghost use Rattle.fault_lines.specs.Faults.{unread_of};
-ghost use Rattle.journey_problem.specs.Files.{path_by, HasCauses};
+ghost use Rattle.journey_problem.specs.Files.{OwnPaths, path_by, HasCauses};
 ghost use Rattle.journey_problem.specs.EarlyFaults.{IsEarly};
-ghost use Rattle.journey_problem.specs.FeedProblems.{feed_as, feed_stop_fault, window_count, IsFolder, IsFolderFault, IsWindowFault, IsFeedProblem, IsFeedProblemFault, HasFeedTimetable};
+ghost use Rattle.journey_problem.specs.FeedProblems.{feed_as, feed_stop_fault, window_fault_of, IsFolder, IsFolderFault, IsWindowFault, IsFeedProblem, IsFeedProblemFault, HasFeedTimetable};
 ghost use Rattle.journey_problem.specs.Folders.{parts_of};
 
 use crate::inputs::read_delay_file;
@@ -51,6 +52,7 @@ fn read_folder<F: Files>(
     ensures fault { IfSome (F.files files.old) (λ m. IfErr result (λ f. f ≢ FeedFault.NoMemory
         → IsFolderFault limits.now m folder.now f)) }
     ensures sound { IfOk result (λ t. IsSoundFeed t.feed) }
+    ensures links { IfOk result (λ t. LinksComeFrom (length t.feed.stop_ids) t.changes) }
     ensures cause { HasFeedCause (F.faults files.old) (F.faults files.new) result }
     ensures path_cause { HasFeedPathCause (IsSome (F.files files.old)) folder.now
         (F.faults_of files.old) (F.faults_of files.new) result }
@@ -125,10 +127,11 @@ fn window_problem(
     requires within { AreWithin limits.now }
     requires journey { IsJourney (journey_shown journey.now) }
     requires horizon { horizon ≤ 72 }
+    requires links { LinksComeFrom (length tables.now.feed.stop_ids) tables.now.changes }
     ensures network { IfOk result (λ p. IsNetworkFrom tables.now.feed tables.now.services
         tables.now.changes delays.now journey.now.start.0 horizon p.network p.names) }
-    ensures few { OnOk result (window_count horizon (journey_shown journey.now)
-        (parts_of tables.now) ≤ limits.now.connections) }
+    ensures no_window_fault { OnOk result (window_fault_of limits.now horizon
+        (journey_shown journey.now) (parts_of tables.now) ≡ None) }
     ensures valid { IfOk result (λ p. IsValid p.network) }
     ensures fit { IfOk result (λ p. NamesFit p.names p.network) }
     ensures source { IfOk result (λ p.
@@ -157,6 +160,7 @@ fn window_problem(
         limits,
     ) {
         Err(WindowFault::TooMany(count)) => Err(Fault::Limit(LimitKind::Connections, count)),
+        Err(WindowFault::TooManyEntries(count)) => Err(Fault::Limit(LimitKind::Entries, count)),
         Err(WindowFault::NoMemory) => Err(Fault::NoMemory),
         Ok((network, names)) => Ok(Problem::between(ends, network, names)),
     }
@@ -186,8 +190,8 @@ pub(crate) fn feed_problem<F: Files>(
     ensures timetable { IfOk result (HasFeedTimetable horizon (journey_shown journey.now)) }
     ensures source { IfOk result (λ p. p.source.0 < length p.network.change) }
     ensures target { IfOk result (λ p. p.target.0 < length p.network.change) }
-    ensures causes { (graph : Bytes ℕ) → HasCauses (IsSome (F.files files.old))
-        (path_by (FeedFolder folder.now horizon) (journey_shown journey.now) graph)
+    ensures causes { (own : OwnPaths) → HasCauses (IsSome (F.files files.old))
+        (path_by (FeedFolder folder.now horizon) (journey_shown journey.now) own)
         (F.faults files.old) (F.faults files.new)
         (F.faults_of files.old) (F.faults_of files.new) result }
 {

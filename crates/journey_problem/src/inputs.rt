@@ -1,5 +1,5 @@
 //! The files that a command reads.
-ghost use Rattle.std.specs.Prelude.{◌≡◌, ◌≢◌, ◌≤◌, ℕ, List as Bytes, None, IsSome, IfSome, IfOk, IfErr, ◌^◌, ◌+◌};
+ghost use Rattle.std.specs.Prelude.{◌≡◌, ◌≢◌, ◌≤◌, ℕ, List as Bytes, Some, None, IsSome, IfSome, IfOk, IfErr, ◌^◌, ◌+◌};
 ghost use Rattle.csv_rows.specs.Limits.{AreWithin};
 ghost use Rattle.csv_rows.specs.Tables.{table_of};
 ghost use Rattle.delay_table.specs.Slots.{AreDelays};
@@ -8,7 +8,7 @@ ghost use Rattle.fault_lines.specs.Faults.{MayBeUnread, unread_of};
 ghost use Rattle.journey_problem.specs.Files.{bytes_of, records_of, Finds, HasCauses};
 ghost use Rattle.command_line.specs.Jobs.{WantedTimetable, CutFile};
 ghost use Rattle.journey_problem.specs.EarlyFaults.{IsEarly, IsInputOf};
-ghost use Rattle.fault_lines.specs.Stages.{IsOfGraph};
+ghost use Rattle.fault_lines.specs.Stages.{IsOfInput};
 ghost use Rattle.journey_problem.specs.CutProblems.{CutAgrees, DelayAgrees, IsCutOfSome};
 
 use csv_rows::{Column, Limits, Rows, RowsFault};
@@ -34,9 +34,8 @@ pub fn load_bytes<F: Files>(
     ensures own { IfErr result (MayBeUnread input) }
     ensures early { (timetable : WantedTimetable) → IsInputOf timetable input
         → IfErr result (IsEarly timetable) }
-    ensures graph { input ≡ Input.Graph → IfErr result (λ fault. fault ≢ Fault.NoMemory
-        → IsOfGraph fault) }
-    ensures causes { HasCauses (IsSome (F.files files.old)) (λ other. path.now)
+    ensures stage { IfErr result (λ fault. fault ≢ Fault.NoMemory → IsOfInput input fault) }
+    ensures causes { HasCauses (IsSome (F.files files.old)) (λ other. Some path.now)
         (F.faults files.old) (F.faults files.new)
         (F.faults_of files.old) (F.faults_of files.new) result }
 {
@@ -69,7 +68,7 @@ fn load_rows<F: Files>(
     ensures own { IfErr result (MayBeUnread input) }
     ensures early { (timetable : WantedTimetable) → IsInputOf timetable input
         → IfErr result (IsEarly timetable) }
-    ensures causes { HasCauses (IsSome (F.files files.old)) (λ other. path.now)
+    ensures causes { HasCauses (IsSome (F.files files.old)) (λ other. Some path.now)
         (F.faults files.old) (F.faults files.new)
         (F.faults_of files.old) (F.faults_of files.new) result }
 {
@@ -97,7 +96,7 @@ pub(crate) fn read_cut_file<F: Files>(
     ensures sound { IfOk result IsCutOfSome }
     ensures own { IfErr result (MayBeUnread Input.Cut) }
     ensures early { IfErr result (IsEarly (CutFile path.now)) }
-    ensures causes { HasCauses (IsSome (F.files files.old)) (λ other. path.now)
+    ensures causes { HasCauses (IsSome (F.files files.old)) (λ other. Some path.now)
         (F.faults files.old) (F.faults files.new)
         (F.faults_of files.old) (F.faults_of files.new) result }
 {
@@ -127,7 +126,7 @@ pub(crate) fn read_delay_file<F: Files>(
     ensures sound { IfOk result AreDelays }
     ensures own { IfErr result (MayBeUnread Input.Delays) }
     ensures early { (timetable : WantedTimetable) → IfErr result (IsEarly timetable) }
-    ensures causes { HasCauses (IsSome (F.files files.old)) (λ other. path.now)
+    ensures causes { HasCauses (IsSome (F.files files.old)) (λ other. Some path.now)
         (F.faults files.old) (F.faults files.new)
         (F.faults_of files.old) (F.faults_of files.new) result }
 {

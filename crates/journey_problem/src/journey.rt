@@ -1,10 +1,10 @@
 //! The problem of a journey over its files.
-ghost use Rattle.std.specs.Prelude.{◌≡◌, ◌<◌, ℕ, List as Bytes, length, IsSome, IfSome, IfOk, IfErr};
+ghost use Rattle.std.specs.Prelude.{◌≡◌, ◌<◌, length, IsSome, IfSome, IfOk, IfErr};
 ghost use Rattle.csv_rows.specs.Limits.{AreWithin};
 ghost use Rattle.command_line.specs.Shown.{journey_shown};
 ghost use Rattle.command_line.specs.Ranges.{IsJourney};
 ghost use Rattle.journey_problem.specs.EarlyFaults.{IsEarly};
-ghost use Rattle.journey_problem.specs.Files.{path_of, HasCauses};
+ghost use Rattle.journey_problem.specs.Files.{OwnPaths, path_of, HasCauses};
 ghost use Rattle.journey_problem.specs.Problems.{IsProblem, IsProblemFault, IsSound};
 
 use crate::cut_problem::cut_problem;
@@ -35,8 +35,8 @@ pub fn problem_of<F: Files>(
     ensures sound { IfOk result (IsSound (journey_shown journey.now)) }
     ensures source { IfOk result (λ p. p.source.0 < length p.network.change) }
     ensures target { IfOk result (λ p. p.target.0 < length p.network.change) }
-    ensures causes { (graph : Bytes ℕ) → HasCauses (IsSome (F.files files.old))
-        (path_of (journey_shown journey.now) graph)
+    ensures causes { (own : OwnPaths) → HasCauses (IsSome (F.files files.old))
+        (path_of (journey_shown journey.now) own)
         (F.faults files.old) (F.faults files.new)
         (F.faults_of files.old) (F.faults_of files.new) result }
 {

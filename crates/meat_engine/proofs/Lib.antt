@@ -1,15 +1,10 @@
 pub mod Sought
 pub mod TextLemmas
-pub mod Nameless
+pub mod Asking
 pub mod Trips
-pub mod Search
 pub mod Told
 pub mod Outcomes
 pub mod Undisturbed
-pub mod SearchStatus
-pub mod FaultlessSearch
-pub mod ReplayStatus
-pub mod FaultlessReplay
-pub mod SampleStatus
+pub mod Ended
 pub mod Statuses
 pub mod Runs

@@ -4,43 +4,44 @@ use Rattle.std.specs.Prelude.{◌≢◌, IsSome}
 use Rattle.std.specs.Io.KnownBytes.{Keeps}
 use Rattle.file_ports.specs.Counts.{Rose}
 use Rattle.csv_rows.specs.declared.limits.Limits.{Limits}
-use Rattle.plan_model.specs.NameLists.{NameLists}
 use Rattle.command_line.specs.Jobs.{Wanted, job_of}
 use Rattle.fault_lines.specs.declared.faults.Input.{Input}
 use Rattle.fault_lines.specs.declared.faults.Fault.{Fault}
 use Rattle.fault_lines.specs.declared.faults.Fault.TheVariants.{Read, Write, NoMemory}
 use Rattle.fault_lines.specs.Faults.{status_of}
 use Rattle.fault_lines.specs.Lines.{line_of, IsFormatted}
+use Rattle.fault_lines.specs.Sites.{NamedParts}
+use Rattle.journey_problem.specs.Files.{RoseAt}
 use Rattle.meat_engine.specs.declared.report.Report.{Report}
-use Rattle.meat_engine.specs.Findings.{findings_of, no_findings}
-use Rattle.meat_engine.specs.Received.{AnswersJob, HasCause, IsRefusedWith, IsWritten, Outcome, paths_of}
+use Rattle.meat_engine.specs.Findings.{Findings, findings_of, no_findings}
+use Rattle.meat_engine.specs.Received.{Ending, AnswersJob, HasCause, IsRefusedWith, IsWritten, IsWrittenBy, Outcome, path_in}
 use Rattle.meat_engine.specs.Runs.{FilesState, SinkState, Tells, IsRun}
-use Rattle.meat_engine.proofs.Outcomes.{keeps_same, refused_outcome, answered_outcome, refused_some, refused_is, refused_read}
+use Rattle.meat_engine.proofs.Outcomes.{refused_ending, keeps_same, refused_outcome, answered_outcome, refused_some, refused_is, refused_read}
 use Rattle.meat_engine.proofs.Statuses.{complete}
 use Rattle.meat_engine.proofs.Undisturbed.{one_job}
 
 -- what a run that is refused promises
 module _ (limits : Limits) (words : List (List ℕ)) (report : Report) (before after : FilesState) (out err err_after : SinkState)
-    (names : NameLists) (wanted : Fault) (told : IsRefusedWith err.written err_after.written err.faults err_after.faults names wanted report.fault) where
+    (known : Option NamedParts) (wanted : Fault) (told : IsRefusedWith err.written err_after.written err.faults err_after.faults known wanted report.fault) where
   wanted_is : (fault : Fault) → report.fault ≡ Some fault → fault ≢ NoMemory → wanted ≡ fault
   wanted_is fault is other =
       ⊎_elim (λ (same : fault ≡ wanted). sym same) (λ (none : (fault ≡ NoMemory) × IsFormatted wanted). absurd (other none.0))
-      (refused_is err.written err_after.written err.faults err_after.faults names wanted report.fault fault told is)
+      (refused_is err.written err_after.written err.faults err_after.faults known wanted report.fault fault told is)
 
   wanted_read : (input : Input) → report.fault ≡ Some (Read input) → wanted ≡ Read input
   wanted_read input is = wanted_is (Read input) is (λ (same : Read input ≡ NoMemory). cc)
 
   pub refused_run : report.status.0 ≡ status_of report.fault → findings_of report ≡ no_findings
-      → HasCause before.told limits words names wanted → wanted ≢ Write → after.told ≡ before.told
+      → HasCause before.told limits words known wanted → wanted ≢ Write → after.told ≡ before.told
       → ((input : Input) → wanted ≡ Read input → Rose before.faults after.faults)
       → ((job : Wanted) (input : Input) → job_of words ≡ Ok job → IsSome before.told → wanted ≡ Read input
-      → Rose (before.faults_of (paths_of job input)) (after.faults_of (paths_of job input)))
+      → RoseAt (path_in job input) before.faults_of after.faults_of)
       → (before.faults < after.faults → (input : Input) × (wanted ≡ Read input))
       → IsRun limits words report before after out out err err_after
   refused_run status findings cause other same read read_path grew =
       let ended : Outcome before.told limits words report out.written out.written (Tells err err_after) report.fault =
       refused_outcome before.told limits words report out.written out.written err.written err_after.written err.faults err_after.faults
-      names wanted report.fault findings (keeps_same out.written) cause other told in
+      known wanted report.fault findings (keeps_same out.written) cause other told in
       let unread : (input : Input) → report.fault ≡ Some (Read input) → Rose before.faults after.faults
       = λ input is. read input (wanted_read input is) in
       let unwritten : report.fault ≡ Some Write → Rose out.faults out.faults
@@ -48,12 +49,12 @@ module _ (limits : Limits) (words : List (List ℕ)) (report : Report) (before a
       record {
         status = status;
         outcome = ended;
-        quiet = λ none. absurd (refused_some err.written err_after.written err.faults err_after.faults names wanted report.fault told none);
+        quiet = λ none. absurd (refused_some err.written err_after.written err.faults err_after.faults known wanted report.fault told none);
         same = same;
         read = unread;
         read_path = λ job input is some unread. read_path job input is some (wanted_read input unread);
         files_grew = λ less. let file = grew less in
-            (file.0, refused_read err.written err_after.written err.faults err_after.faults names wanted report.fault file.0 told file.1);
+            (file.0, refused_read err.written err_after.written err.faults err_after.faults known wanted report.fault file.0 told file.1);
         write = unwritten;
         out_grew = λ less. absurd (omega (arith, less));
         complete = λ files_calm out_calm.
@@ -65,18 +66,19 @@ module _ (limits : Limits) (words : List (List ℕ)) (report : Report) (before a
 written_fault : (old new : Option (List ℕ)) (text : List ℕ) (found : Option Fault) (fault : Fault) → IsWritten old new text found → found ≡ Some fault → fault ≡ Write
 written_fault old new text None fault written is = absurd (cc)
 written_fault old new text (Some Write) fault written is = (cc)
-written_fault old new text (Some _) fault written is = absurd written
+written_fault old new text (Some other) fault written is =
+    absurd (subst (λ (e : Ending). IsWrittenBy e old new text) (refused_ending other (λ same. absurd (cc))) written)
 
 -- what a run that is answered promises
-module _ (limits : Limits) (words : List (List ℕ)) (answer report : Report) (text : List ℕ) (before after : FilesState) (out out_after err err_after : SinkState)
+module _ (limits : Limits) (words : List (List ℕ)) (answer : Findings) (report : Report) (text : List ℕ) (before after : FilesState) (out out_after err err_after : SinkState)
     (written : IsWritten out.written out_after.written text report.fault) where
   never_read : (input : Input) → report.fault ≡ Some (Read input) → ⊥
   never_read input is = let same : Read input ≡ Write = written_fault out.written out_after.written text report.fault (Read input) written is in cc
 
   pub answered_run : (job : Wanted) → job_of words ≡ Ok job → AnswersJob before.told limits job answer text
-      → report.status.0 ≡ status_of report.fault → findings_of report ≡ findings_of answer
+      → report.status.0 ≡ status_of report.fault → findings_of report ≡ answer
       → (report.fault ≡ None → Keeps err.written err_after.written)
-      → ((names : NameLists) → report.fault ≡ Some Write → Tells err err_after (line_of names Write))
+      → ((known : Option NamedParts) → report.fault ≡ Some Write → Tells err err_after (line_of known Write))
       → after.told ≡ before.told → (before.faults < after.faults → ⊥)
       → (report.fault ≡ Some Write → Rose out.faults out_after.faults)
       → (out.faults < out_after.faults → report.fault ≡ Some Write)
@@ -101,8 +103,8 @@ module _ (limits : Limits) (words : List (List ℕ)) (answer report : Report) (t
       }
 
 -- the words ask for one job
-pub paths_of_job : (words : List (List ℕ)) (job other : Wanted) (before after : List ℕ → ℕ) (input : Input) → job_of words ≡ Ok job → job_of words ≡ Ok other
-    → Rose (before (paths_of other input)) (after (paths_of other input)) → Rose (before (paths_of job input)) (after (paths_of job input))
-paths_of_job words job other before after input is asked rose =
+pub path_of_job : (words : List (List ℕ)) (job other : Wanted) (before after : List ℕ → ℕ) (input : Input) → job_of words ≡ Ok job → job_of words ≡ Ok other
+    → RoseAt (path_in other input) before after → RoseAt (path_in job input) before after
+path_of_job words job other before after input is asked rose =
     let same : other ≡ job = one_job words other job asked is in
-    subst (λ (wanted : Wanted). Rose (before (paths_of wanted input)) (after (paths_of wanted input))) same rose
+    subst (λ (wanted : Wanted). RoseAt (path_in wanted input) before after) same rose

@@ -1,74 +1,110 @@
 -- The status of a call, by what it comes to.
-use Rattle.std.proofs.Common.{◌≡◌, ℕ, ap, ◌∙◌, ◌⊎◌, subst, inl, inr, List, Option, Some, None, Result}
+use Rattle.std.proofs.Common.{◌≡◌, ℕ, ap, refl, sym, ◌∙◌, subst, inl, inr, List, Option, Some, None, Ok}
+use Rattle.std.specs.Prelude.{◌≢◌, ◌⊎◌}
 use Rattle.file_ports.specs.Ports.{Folder}
 use Rattle.csv_rows.specs.declared.limits.Limits.{Limits}
-use Rattle.command_line.specs.Jobs.{WantedReplay}
-use Rattle.trip_replay.specs.declared.Trace.{Trace}
-use Rattle.trip_replay.specs.declared.ReplayFault.{ReplayFault}
-use Rattle.meat_engine.specs.declared.report.Report.{Report}
+use Rattle.feed_maker.specs.Made.{made, SameFolder}
+use Rattle.command_line.specs.Jobs.{WantedJourney, WantedAsk, Plan, Ask, Sample, job_of}
+use Rattle.fault_lines.specs.declared.faults.Input.{Input}
 use Rattle.fault_lines.specs.declared.faults.Fault.{Fault}
-use Rattle.fault_lines.specs.declared.faults.Fault.TheVariants.{NoSafe, NoMemory}
+use Rattle.fault_lines.specs.declared.faults.Fault.TheVariants.{Read, NoMemory}
 use Rattle.fault_lines.specs.Faults.{status_of, IsUndisturbed}
+use Rattle.fault_lines.specs.Sites.{NamedParts}
+use Rattle.journey_problem.specs.declared.problem.Problem.{Problem}
+use Rattle.journey_problem.specs.Problems.{IsProblem, IsProblemFault, IsFaultless}
+use Rattle.journey_problem.proofs.NoFaults.{no_fault}
+use Rattle.journey_problem.proofs.SameFiles.{same_feed_problem}
+use Rattle.meat_engine.specs.declared.report.Report.{Report}
+use Rattle.meat_engine.specs.Asks.{EndsAsk}
+use Rattle.meat_engine.specs.Completeness.{IsComplete}
+use Rattle.meat_engine.specs.Ends.{EndsBySafety}
+use Rattle.meat_engine.specs.Findings.{findings_of}
 use Rattle.meat_engine.specs.Received.{Outcome}
-use Rattle.meat_engine.specs.Faultless.{EndsBy, EndsByWalk, IsSafeSearch, IsUnsafeSearch}
-use Rattle.meat_engine.specs.Completeness.{IsStatusBy, IsStatusByWalk, IsReplayStatus, SeeksInFull, ReplaysInFull, SamplesInFull, SeeksWithoutFault, ReplaysWithoutFault, IsComplete}
-use Rattle.meat_engine.proofs.FaultlessSearch.{faultless_search}
-use Rattle.meat_engine.proofs.FaultlessReplay.{faultless_replay, EndsOver}
-use Rattle.meat_engine.proofs.SearchStatus.{seek_ends}
-use Rattle.meat_engine.proofs.ReplayStatus.{replay_ends}
-use Rattle.meat_engine.proofs.SampleStatus.{sample_ends}
+use Rattle.meat_engine.specs.Samples.{sample_journey, sample_alpha, FailsSample}
+use Rattle.meat_engine.proofs.Ended.{asked_ends, answers_end, EndsOver, ends_in, fails_over}
+use Rattle.meat_engine.proofs.Undisturbed.{memory_or, fails, answered}
 
-status_by : (safe : Type 0) (fault : Option Fault) (status : ℕ) → status ≡ status_of fault → EndsBy safe fault → IsStatusBy safe status
-status_by safe fault status e (inl (f, h)) = inl (e ∙ ap status_of f, h)
-status_by safe fault status e (inr (inl (f, h))) = inr (inl (e ∙ ap status_of f, h))
-status_by safe fault status e (inr (inr f)) = inr (inr (e ∙ ap status_of f))
+-- what a journey comes to over told files: its question ends over a problem, or its files have a fault, or there was no memory
+abbrev Comes : Limits → Folder → WantedJourney → WantedAsk → Option Fault → Type 0
+Comes limits files j a fault =
+    EndsOver limits files j a (status_of fault)
+    ⊎ (((f : Fault) × (fault ≡ Some f) × (f ≢ NoMemory) × IsProblemFault limits files j f) ⊎ (fault ≡ Some NoMemory))
 
-status_by_walk : (trip : Result Trace ReplayFault) (fault : Option Fault) (status : ℕ) → status ≡ status_of fault → EndsByWalk trip fault → IsStatusByWalk trip status
-status_by_walk trip fault status e (inl (trace, f, h)) = inl (trace, e ∙ ap status_of f, h)
-status_by_walk trip fault status e (inr (inl (stop, f, h))) = inr (inl (stop, e ∙ ap status_of f, h))
-status_by_walk trip fault status e (inr (inr f)) = inr (inr (e ∙ ap status_of f))
+comes_by : (limits : Limits) (files : Folder) (j : WantedJourney) (a : WantedAsk) (fault : Fault) → fault ≢ NoMemory
+    → EndsOver limits files j a (status_of (Some fault)) ⊎ IsProblemFault limits files j fault → Comes limits files j a (Some fault)
+comes_by limits files j a fault m (inl ends) = inl ends
+comes_by limits files j a fault m (inr first) = inr (inl (fault, refl, m, first))
 
-status_without : (safe unsafe : Type 0) (fault : Option Fault) (status : ℕ) → status ≡ status_of fault
-    → ((fault ≡ None) × safe) ⊎ (((fault ≡ Some NoSafe) × unsafe) ⊎ (fault ≡ Some NoMemory)) → ((status ≡ 0) × safe) ⊎ (((status ≡ 1) × unsafe) ⊎ (status ≡ 9))
-status_without safe unsafe fault status e (inl (f, h)) = inl (e ∙ ap status_of f, h)
-status_without safe unsafe fault status e (inr (inl (f, h))) = inr (inl (e ∙ ap status_of f, h))
-status_without safe unsafe fault status e (inr (inr f)) = inr (inr (e ∙ ap status_of f))
+module _ (limits : Limits) (files : Folder) (words : List (List ℕ)) (report : Report) (old new : Option (List ℕ)) (Tells : List ℕ → Type 0) (j : WantedJourney) (a : WantedAsk) where
+  fault_comes : (fault : Fault) → job_of words ≡ Ok (Ask j a) → Outcome (Some files) limits words report old new Tells (Some fault)
+      → IsUndisturbed (Some fault) → (fault ≡ NoMemory) ⊎ (fault ≡ NoMemory → ⊥) → Comes limits files j a (Some fault)
+  fault_comes fault h o calm (inl e) = inr (inr (ap Some e))
+  fault_comes fault h o calm (inr m) =
+      let f = fails (Some files) limits words report old new Tells fault o (λ e. calm.1 (ap Some e)) m (Ask j a) h in
+      comes_by limits files j a fault m (fails_over limits files j a f.0 fault (λ i e. calm.0 i (ap Some e)) f.1)
 
-replay_status_by : (limits : Limits) (files : Folder) (r : WantedReplay) (fault : Option Fault) (status : ℕ) → status ≡ status_of fault
-    → EndsOver limits files r fault → IsReplayStatus limits files r status
-replay_status_by limits files r fault status e (inl (trace, f, over)) = inl (trace, e ∙ ap status_of f, over)
-replay_status_by limits files r fault status e (inr (inl (stop, f, over))) = inr (inl (stop, e ∙ ap status_of f, over))
-replay_status_by limits files r fault status e (inr (inr (inl (graph, f, has)))) = inr (inr (inl (graph, e ∙ ap status_of f, has)))
-replay_status_by limits files r fault status e (inr (inr (inr f))) = inr (inr (inr (e ∙ ap status_of f)))
+  comes : (fault : Option Fault) → job_of words ≡ Ok (Ask j a) → Outcome (Some files) limits words report old new Tells fault
+      → IsUndisturbed fault → Comes limits files j a fault
+  comes None h o calm =
+      let r = answered (Some files) limits words report old new Tells o (Ask j a) h in
+      let w = r.1 in
+      inl (w.0, w.2, answers_end limits files j.start w.0 a (findings_of report) r.0 w.3)
+  comes (Some fault) h o calm = fault_comes fault h o calm (memory_or fault)
+
+module _ (limits : Limits) (files : Folder) (j : WantedJourney) (a : WantedAsk) (fault : Option Fault) (status : ℕ) (is : status ≡ status_of fault) (calm : IsUndisturbed fault) where
+  problem_status : (p : Problem) → IsProblem limits files j p → Comes limits files j a fault → EndsAsk limits files j.start p a status ⊎ (status ≡ 9)
+  problem_status p one (inl ends) = inl (subst (λ s. EndsAsk limits files j.start p a s) (sym is) (ends_in limits files j a p (status_of fault) one ends))
+  problem_status p one (inr (inl (f, e, m, first))) = absurd (no_fault limits files j p f one (λ i k. calm.0 i (e ∙ ap Some k)) m first)
+  problem_status p one (inr (inr e)) = inr (is ∙ ap status_of e)
+
+  faultless_status : IsFaultless limits files j → Comes limits files j a fault → EndsOver limits files j a status ⊎ (status ≡ 9)
+  faultless_status clean (inl ends) = inl (subst (EndsOver limits files j a) (sym is) ends)
+  faultless_status clean (inr (inl (f, e, m, first))) = absurd (clean f (subst IsUndisturbed e calm) m first)
+  faultless_status clean (inr (inr e)) = inr (is ∙ ap status_of e)
+
+module _ (limits : Limits) (size : ℕ) where
+  over_made : (files : Folder) (p : Problem) → SameFolder (made size) files → IsProblem limits (made size) sample_journey p → IsProblem limits files sample_journey p
+  over_made files p same one = same_feed_problem limits (made size) files (λ path. sym (same path)) _ _ sample_journey p one
+
+  sample_in : (p : Problem) (known : Option NamedParts) (fault : Fault) (files : Folder) → IsProblem limits files sample_journey p → ((i : Input) → fault ≡ Read i → ⊥) → fault ≢ NoMemory
+      → EndsOver limits files sample_journey (Plan sample_alpha) (status_of (Some fault)) ⊎ IsProblemFault limits files sample_journey fault
+      → EndsBySafety p sample_journey.start (status_of (Some fault))
+  sample_in p known fault files one never m (inl ends) = ends_in limits files sample_journey (Plan sample_alpha) p (status_of (Some fault)) one ends
+  sample_in p known fault files one never m (inr first) = absurd (no_fault limits files sample_journey p fault one never m first)
+
+  sample_fails : (p : Problem) (known : Option NamedParts) (fault : Fault) → IsProblem limits (made size) sample_journey p → ((i : Input) → fault ≡ Read i → ⊥) → fault ≢ NoMemory
+      → FailsSample limits size known fault → EndsBySafety p sample_journey.start (status_of (Some fault))
+  sample_fails p known fault one never m (read, (files, same, why)) =
+      sample_in p known fault files (over_made files p same one) never m (fails_over limits files sample_journey (Plan sample_alpha) known fault never why)
+
+module _ (told : Option Folder) (limits : Limits) (words : List (List ℕ)) (report : Report) (old new : Option (List ℕ)) (Tells : List ℕ → Type 0) (size : ℕ) (p : Problem) (status : ℕ) where
+  sample_fault : (fault : Fault) → job_of words ≡ Ok (Sample size) → IsProblem limits (made size) sample_journey p → Outcome told limits words report old new Tells (Some fault)
+      → IsUndisturbed (Some fault) → status ≡ status_of (Some fault) → (fault ≡ NoMemory) ⊎ (fault ≡ NoMemory → ⊥) → EndsBySafety p sample_journey.start status ⊎ (status ≡ 9)
+  sample_fault fault h one o calm is (inl e) = inr (is ∙ ap (λ (f : Fault). status_of (Some f)) e)
+  sample_fault fault h one o calm is (inr m) =
+      let f = fails told limits words report old new Tells fault o (λ e. calm.1 (ap Some e)) m (Sample size) h in
+      inl (subst (EndsBySafety p sample_journey.start) (sym is) (sample_fails limits size p f.0 fault one (λ i e. calm.0 i (ap Some e)) m f.1))
+
+  sample_status : (fault : Option Fault) → job_of words ≡ Ok (Sample size) → IsProblem limits (made size) sample_journey p → Outcome told limits words report old new Tells fault
+      → IsUndisturbed fault → status ≡ status_of fault → EndsBySafety p sample_journey.start status ⊎ (status ≡ 9)
+  sample_status None h one o calm is =
+      let w = (answered told limits words report old new Tells o (Sample size) h).1 in
+      let v = w.2 in
+      let ends : EndsBySafety v.0 sample_journey.start 0 = asked_ends v.0 sample_journey.start sample_alpha v.3.0 v.3.1 v.3.2 in
+      inl (subst (EndsBySafety p sample_journey.start) (sym is)
+      (ends_in limits w.0 sample_journey (Plan sample_alpha) p 0 (over_made limits size w.0 p w.1 one) (v.0, v.2, ends)))
+  sample_status (Some fault) h one o calm is = sample_fault fault h one o calm is (memory_or fault)
 
 module _ (told : Option Folder) (limits : Limits) (words : List (List ℕ)) (report : Report) (old new : Option (List ℕ)) (Tells : List ℕ → Type 0) (fault : Option Fault) (status : ℕ) where
-  at_files : (files : Folder) → told ≡ Some files → Outcome told limits words report old new Tells fault → Outcome (Some files) limits words report old new Tells fault
-  at_files files e o = subst (λ (t : Option Folder). Outcome t limits words report old new Tells fault) e o
-
-  seek_status : Outcome told limits words report old new Tells fault → status ≡ status_of fault → IsUndisturbed fault → SeeksInFull told limits words status
-  seek_status o is calm = λ files s p e h a. status_by _ fault status is (seek_ends limits files words report old new Tells s fault p h a (at_files files e o) calm)
-
-  replay_status : Outcome told limits words report old new Tells fault → status ≡ status_of fault → IsUndisturbed fault → ReplaysInFull told limits words status
-  replay_status o is calm = λ files r p head graph e h over.
-      status_by_walk _ fault status is (replay_ends limits files words report old new Tells r head graph fault p h over.0 over.1 (at_files files e o) calm)
-
-  sample_status : Outcome told limits words report old new Tells fault → status ≡ status_of fault → IsUndisturbed fault → SamplesInFull limits words status
-  sample_status o is calm = λ size p h a. status_by _ fault status is (sample_ends told limits words report old new Tells size fault p h a o calm)
-
-  search_without : Outcome told limits words report old new Tells fault → status ≡ status_of fault → IsUndisturbed fault → SeeksWithoutFault told limits words status
-  search_without o is calm = λ files s e h clean. status_without (IsSafeSearch limits files s) (IsUnsafeSearch limits files s) fault status is
-      (faultless_search limits files words report old new Tells s fault h clean (at_files files e o) calm)
-
-  replay_without : Outcome told limits words report old new Tells fault → status ≡ status_of fault → IsUndisturbed fault → ReplaysWithoutFault told limits words status
-  replay_without o is calm = λ files r e h clean.
-      replay_status_by limits files r fault status is (faultless_replay limits files words report old new Tells r fault h clean (at_files files e o) calm)
+  journey_comes : Outcome told limits words report old new Tells fault → IsUndisturbed fault → (files : Folder) (j : WantedJourney) (a : WantedAsk) → told ≡ Some files
+      → job_of words ≡ Ok (Ask j a) → Comes limits files j a fault
+  journey_comes o calm files j a e h =
+      comes limits files words report old new Tells j a fault h (subst (λ (t : Option Folder). Outcome t limits words report old new Tells fault) e o) calm
 
   -- where no count rises, the status is that of the problem
   pub complete : Outcome told limits words report old new Tells fault → status ≡ status_of fault → IsUndisturbed fault → IsComplete told limits words status
   complete o is calm = record {
-    seek = seek_status o is calm;
-    seek_without = search_without o is calm;
-    replay = replay_status o is calm;
-    replay_without = replay_without o is calm;
-    sample = sample_status o is calm;
+    problem = λ files j a p e h one. problem_status limits files j a fault status is calm p one (journey_comes o calm files j a e h);
+    faultless = λ files j a e h clean. faultless_status limits files j a fault status is calm clean (journey_comes o calm files j a e h);
+    sample = λ size p h one. sample_status told limits words report old new Tells size p status fault h one o calm is;
   }

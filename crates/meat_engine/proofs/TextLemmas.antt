@@ -1,5 +1,5 @@
 -- The rows of a trip.
-use Rattle.std.proofs.Common.{◌≡◌, ℕ, ◌+◌, ◌<◌, ◌≤◌, List, [], ◌∷◌, ◌++◌, length, drop, Bool, true, false, arith, refl, sym, ap, ◌∙◌, append_assoc, slice_index_or}
+use Rattle.std.proofs.Common.{◌≡◌, ℕ, ◌+◌, ◌<◌, ◌≤◌, List, [], ◌∷◌, ◌++◌, length, drop, Bool, true, false, arith, refl, sym, ap, ◌∙◌, slice_index_or}
 use Rattle.std.specs.Prelude.{All, codes, decimal, ◌==◌, ◌||◌}
 use Rattle.std.specs.List.{list_any}
 use Rattle.std.proofs.lemmas.Bool.Decides.{nat_tests}
@@ -18,7 +18,7 @@ use Rattle.trip_replay.specs.declared.Ridden.{Ridden}
 use Rattle.trip_replay.specs.Rides.{IsRide, arrival_after, place_after}
 use Rattle.plan_model.specs.declared.model.Moment.{Moment}
 use Rattle.meat_engine.specs.Texts.{ride_text, rides_text, arrived_text}
-use Rattle.meat_engine.specs.Moments.{last_moment}
+use Rattle.fault_lines.specs.Sites.{last_printable}
 
 delay_at : (o : Outcome) (row : List Outcome) (d : ℕ) (b : Bool) → (o.delay == d) ≡ b → o.delay ≤ 86400 → (list_any (λ x. x.delay == d) row ≡ true → d ≤ 86400)
     → (b || list_any (λ x. x.delay == d) row) ≡ true → d ≤ 86400
@@ -33,14 +33,14 @@ delay_few (o ∷ row) d all any =
 
 module _ (n : Parts) (valid : IsValid n) where
   -- the arrival of a ride has a text
-  pub ride_arrival : (r : Ridden) → IsRide n r → r.arrival.0 ≤ last_moment
+  pub ride_arrival : (r : Ridden) → IsRide n r → r.arrival.0 ≤ last_printable
   ride_arrival r is =
       let c = valid.connections r.leg.exit.0 is.is_leg.exit in
       let row = valid.rows (connection n r.leg.exit.0).class.0 c.class_in in
       let few = delay_few (outcomes_of n r.leg) r.delay row.delays is.is_delay in
       omega (arith, is.late, c.early, few)
 
-  pub arrivals : (start : ℕ) (rides : List Ridden) → start ≤ last_moment → All (IsRide n) rides → arrival_after start rides ≤ last_moment
+  pub arrivals : (start : ℕ) (rides : List Ridden) → start ≤ last_printable → All (IsRide n) rides → arrival_after start rides ≤ last_printable
   arrivals start [] early all = early
   arrivals start (r ∷ rides) early all = arrivals r.arrival.0 rides (ride_arrival r (All-head (IsRide n) r rides all)) (All-tail (IsRide n) r rides all)
 
@@ -76,23 +76,6 @@ pub rides_step : (n : Parts) (names : NameLists) (rides : List Ridden) (i : ℕ)
 rides_step n names rides i d new old all within is before =
     text_step new old (ride_text n names (slice_index_or rides i d)) (rides_text n names (drop (i + 1) rides)) all is
     (sym (ap (λ (list : List Ridden). old ++ rides_text n names list) (split_at rides i d within)) ∙ before)
-
--- the line of a trip that is stuck, piece by piece
-pub stuck_pieces : (place moment : List ℕ) → (((codes "meat: stuck at " ++ place) ++ codes " at ") ++ moment) ++ codes "\n" ≡ codes "meat: " ++
-    ((codes "stuck at " ++ (place ++ (codes " at " ++ moment))) ++ codes "\n")
-stuck_pieces place moment = ap (λ (list : List ℕ). codes "meat: stuck at " ++ (list ++ codes "\n")) (append_assoc place (codes " at ") moment)
-
--- pieces put one after another
-pub joined : (none a b c d e : List ℕ) (place moment place' moment' : List ℕ) → none ≡ [] → a ≡ none ++ codes "meat: stuck at " → b ≡ a ++ place → c ≡ b ++ codes " at "
-    → d ≡ c ++ moment → e ≡ d ++ codes "\n" → place ≡ place' → moment ≡ moment'
-    → e ≡ codes "meat: " ++ ((codes "stuck at " ++ (place' ++ (codes " at " ++ moment'))) ++ codes "\n")
-joined none a b c d e place moment place' moment' start one two three four five same_place same_moment =
-    let first : a ≡ codes "meat: stuck at " = one ∙ ap (λ (list : List ℕ). list ++ codes "meat: stuck at ") start in
-    let whole : e ≡ (((codes "meat: stuck at " ++ place) ++ codes " at ") ++ moment) ++ codes "\n"
-    = five ∙ ap (λ (list : List ℕ). list ++ codes "\n") (four ∙ ap (λ (list : List ℕ). list ++ moment)
-    (three ∙ ap (λ (list : List ℕ). list ++ codes " at ") (two ∙ ap (λ (list : List ℕ). list ++ place) first))) in
-    whole ∙ (ap (λ (list : List ℕ). (((codes "meat: stuck at " ++ list) ++ codes " at ") ++ moment) ++ codes "\n") same_place
-    ∙ (ap (λ (list : List ℕ). (((codes "meat: stuck at " ++ place') ++ codes " at ") ++ list) ++ codes "\n") same_moment ∙ stuck_pieces place' moment'))
 
 -- the rides, and then the arrival
 pub trace_end : (n : Parts) (names : NameLists) (rides : List Ridden) (i : ℕ) (old row new target target' : List ℕ) (arrival : Moment) → length rides ≤ i

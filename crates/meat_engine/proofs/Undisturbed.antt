@@ -3,13 +3,15 @@ use Rattle.std.proofs.Common.{◌≡◌, ℕ, refl, subst, inl, inr, List, Optio
 use Rattle.std.specs.Prelude.{◌≢◌, ◌⊎◌}
 use Rattle.file_ports.specs.Ports.{Folder}
 use Rattle.csv_rows.specs.declared.limits.Limits.{Limits}
-use Rattle.plan_model.specs.NameLists.{NameLists}
 use Rattle.command_line.specs.declared.job.WordsFault.{WordsFault}
 use Rattle.command_line.specs.Jobs.{Wanted, job_of}
 use Rattle.meat_engine.specs.declared.report.Report.{Report}
 use Rattle.fault_lines.specs.declared.faults.Fault.{Fault}
 use Rattle.fault_lines.specs.declared.faults.Fault.TheVariants.{Write, NoMemory}
-use Rattle.meat_engine.specs.Received.{AnswersJob, FailsJob, HasCause, IsRefused, Outcome}
+use Rattle.fault_lines.specs.Sites.{NamedParts}
+use Rattle.meat_engine.specs.Findings.{findings_of}
+use Rattle.meat_engine.specs.Received.{Ending, AnswersJob, FailsJob, HasCause, IsRefused, Outcome, OutcomeBy}
+use Rattle.meat_engine.proofs.Outcomes.{refused_ending}
 
 pub memory_or : (fault : Fault) → (fault ≡ NoMemory) ⊎ (fault ≡ NoMemory → ⊥)
 memory_or NoMemory = inl refl
@@ -23,17 +25,16 @@ no_refusal words a b h k = cc
 
 module _ (told : Option Folder) (limits : Limits) (words : List (List ℕ)) (report : Report) (old new : Option (List ℕ)) (Tells : List ℕ → Type 0) where
   refused : (fault : Fault) → Outcome told limits words report old new Tells (Some fault) → fault ≢ Write → IsRefused told limits words report Tells fault
-  refused Write o n = absurd (n refl)
-  refused fault o n = o.1
+  refused fault o n = (subst (λ (e : Ending). OutcomeBy e told limits words report old new Tells (Some fault)) (refused_ending fault n) o).1
 
-  caused : (fault : Fault) → fault ≢ NoMemory → (wanted : Wanted) → job_of words ≡ Ok wanted → (names : NameLists) → HasCause told limits words names fault → FailsJob told limits wanted names fault
-  caused fault m wanted h names (inl e) = absurd (m e)
-  caused fault m wanted h names (inr (inl (refusal, e, k))) = absurd (no_refusal words wanted refusal h k)
-  caused fault m wanted h names (inr (inr (other, k, why))) = subst (λ (w : Wanted). FailsJob told limits w names fault) (one_job words other wanted k h) why
+  caused : (fault : Fault) → fault ≢ NoMemory → (wanted : Wanted) → job_of words ≡ Ok wanted → (known : Option NamedParts) → HasCause told limits words known fault → FailsJob told limits wanted known fault
+  caused fault m wanted h known (inl e) = absurd (m e)
+  caused fault m wanted h known (inr (inl (refusal, e, k))) = absurd (no_refusal words wanted refusal h k)
+  caused fault m wanted h known (inr (inr (other, k, why))) = subst (λ (w : Wanted). FailsJob told limits w known fault) (one_job words other wanted k h) why
 
   pub fails : (fault : Fault) → Outcome told limits words report old new Tells (Some fault) → fault ≢ Write → fault ≢ NoMemory
-      → (wanted : Wanted) → job_of words ≡ Ok wanted → (names : NameLists) × FailsJob told limits wanted names fault
+      → (wanted : Wanted) → job_of words ≡ Ok wanted → (known : Option NamedParts) × FailsJob told limits wanted known fault
   fails fault o n m wanted h = let r = (refused fault o n).1 in (r.0, caused fault m wanted h r.0 r.1)
 
-  pub answered : Outcome told limits words report old new Tells None → (wanted : Wanted) → job_of words ≡ Ok wanted → (text : List ℕ) × AnswersJob told limits wanted report text
-  answered (text, (other, k, answers), written) wanted h = (text, subst (λ (w : Wanted). AnswersJob told limits w report text) (one_job words other wanted k h) answers)
+  pub answered : Outcome told limits words report old new Tells None → (wanted : Wanted) → job_of words ≡ Ok wanted → (text : List ℕ) × AnswersJob told limits wanted (findings_of report) text
+  answered (text, (other, k, answers), written) wanted h = (text, subst (λ (w : Wanted). AnswersJob told limits w (findings_of report) text) (one_job words other wanted k h) answers)

@@ -45,7 +45,7 @@ plan_findings q worst graph bounds = record no_findings { query = Some q; worst 
 
 -- with how many connections there are
 abbrev pub sample_findings : Query → Moment → PlanGraph → Interval → ℕ → Findings
-sample_findings q worst graph bounds connections = record no_findings { query = Some q; worst = Some worst; graph = Some graph; bounds = Some bounds; connections = Some connections }
+sample_findings q worst graph bounds connections = record (plan_findings q worst graph bounds) { connections = Some connections }
 
 -- the query of a graph, the graph, and the trip by it
 abbrev pub replay_findings : Query → PlanGraph → Trace → Findings

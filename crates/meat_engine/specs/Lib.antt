@@ -2,10 +2,11 @@ pub mod Moments
 pub mod Findings
 pub mod Texts
 pub mod Answers
-pub mod Samples
 pub mod Replays
+pub mod Ends
+pub mod Asks
+pub mod Samples
 pub mod Refusals
 pub mod Received
-pub mod Faultless
 pub mod Completeness
 pub mod Runs

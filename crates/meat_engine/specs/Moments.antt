@@ -1,4 +1,4 @@
--- The moments that bound a journey and its text.
+-- The moments that bound a journey.
 use Rattle.std.specs.Prelude.{ℕ}
 
 -- the last moment at which a journey may start
@@ -8,7 +8,3 @@ last_start = 13569465599
 -- a moment after each arrival of a timetable with its delay
 abbrev pub after_arrivals : ℕ
 after_arrivals = 13601174401
-
--- the last moment that has a text
-abbrev pub last_moment : ℕ
-last_moment = 253402300799

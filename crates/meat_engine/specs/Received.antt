@@ -1,97 +1,115 @@
 -- What a run comes to, by its fault, and what the two sinks received.
-use Rattle.std.specs.Prelude.{◌≡◌, ◌⊎◌, ℕ, List, [], Option, None, Some, Ok, Err}
+use Rattle.std.specs.Prelude.{◌≡◌, ◌⊎◌, ℕ, List, Option, None, Some, IfSome, Ok, Err}
 use Rattle.std.specs.Io.KnownBytes.{Appends, Keeps}
 use Rattle.file_ports.specs.Counts.{Rose}
 use Rattle.file_ports.specs.Loading.{AppendsFront}
 use Rattle.file_ports.specs.Ports.{Folder}
 use Rattle.csv_rows.specs.declared.limits.Limits.{Limits}
-use Rattle.plan_model.specs.NameLists.{NameLists}
 use Rattle.command_line.specs.declared.job.WordsFault.{WordsFault}
-use Rattle.command_line.specs.Jobs.{Wanted, Seek, Replay as Replays, Sample, job_of}
-use Rattle.meat_engine.specs.declared.report.Report.{Report}
+use Rattle.command_line.specs.Jobs.{Wanted, Ask, Sample, job_of}
 use Rattle.fault_lines.specs.declared.faults.Input.{Input}
 use Rattle.fault_lines.specs.declared.faults.Fault.{Fault}
-use Rattle.fault_lines.specs.declared.faults.Fault.TheVariants.{Words, Feed, Cut, Missing, Delays, UnknownStop, Limit, Read, NoSafe, GraphFile, Replay, Write, NoMemory}
-use Rattle.meat_engine.specs.Answers.{IsSought, FailsSearch}
-use Rattle.journey_problem.specs.Files.{path_of}
-use Rattle.meat_engine.specs.Findings.{findings_of, no_findings}
+use Rattle.fault_lines.specs.declared.faults.Fault.TheVariants.{Words, NoMemory}
 use Rattle.fault_lines.specs.Lines.{line_of, IsFormatted}
+use Rattle.fault_lines.specs.Sites.{NamedParts}
+use Rattle.fault_lines.specs.Stages.{Stage, stage_of, AtWords, AtTimetable, AtDelays, AtStops, AtWindow, AtGraphFile, AtOutcome, AtOutput, AtMemory}
+use Rattle.journey_problem.specs.Files.{path_of}
 use Rattle.journey_problem.specs.Problems.{InProblem}
-use Rattle.meat_engine.specs.Replays.{IsReplayed, FailsReplay}
+use Rattle.meat_engine.specs.declared.report.Report.{Report}
+use Rattle.meat_engine.specs.Asks.{own_paths, no_path, AnswersAsk, FailsJourney}
+use Rattle.meat_engine.specs.Findings.{Findings, findings_of, no_findings}
 use Rattle.meat_engine.specs.Samples.{AnswersSample, FailsSample}
 
--- the paths of the files of a job; a made timetable has none that is read
-abbrev pub paths_of : Wanted → Input → List ℕ
-paths_of (Seek s) = path_of s.journey []
-paths_of (Replays r) = path_of r.journey r.graph
-paths_of (Sample size) = λ input. []
+-- the path of an input of a job, where it has one; a made timetable has none that is read
+abbrev pub path_in : Wanted → Input → Option (List ℕ)
+path_in (Ask j a) input = path_of j (own_paths a) input
+path_in (Sample size) input = no_path input
 
--- the report and the text answer the job
-abbrev pub AnswersJob : Option Folder → Limits → Wanted → Report → List ℕ → Type 0
-AnswersJob told limits (Seek s) report text = InProblem told limits s.journey (λ p. IsSought p s report text)
-AnswersJob told limits (Replays r) report text = InProblem told limits r.journey (λ p. IsReplayed told limits r p report text)
-AnswersJob told limits (Sample size) report text = AnswersSample limits size report text
+-- the findings and the text answer the job
+abbrev pub AnswersJob : Option Folder → Limits → Wanted → Findings → List ℕ → Type 0
+AnswersJob told limits (Ask j a) found text = InProblem told limits j (λ p. AnswersAsk told limits j.start p a found text)
+AnswersJob told limits (Sample size) found text = AnswersSample limits size found text
 
--- why the job has no answer, where these are the names of its timetable
-abbrev pub FailsJob : Option Folder → Limits → Wanted → NameLists → Fault → Type 0
-FailsJob told limits (Seek s) names fault = FailsSearch told limits s fault
-FailsJob told limits (Replays r) names fault = FailsReplay told limits r names fault
-FailsJob told limits (Sample size) names fault = FailsSample limits size fault
+-- why the job has no answer, but for want of memory, where this timetable is known
+abbrev pub FailsJob : Option Folder → Limits → Wanted → Option NamedParts → Fault → Type 0
+FailsJob told limits (Ask j a) known fault = FailsJourney told limits j a known fault
+FailsJob told limits (Sample size) known fault = FailsSample limits size known fault
 
 -- the words are a job, of which this holds
 abbrev pub Asks : List (List ℕ) → (Wanted → Type 0) → Type 0
 Asks words P = (wanted : Wanted) × (job_of words ≡ Ok wanted) × P wanted
 
--- the report and the text answer what the words ask
-abbrev pub Answers : Option Folder → Limits → List (List ℕ) → Report → List ℕ → Type 0
-Answers told limits words report text = Asks words (λ wanted. AnswersJob told limits wanted report text)
+-- the findings and the text answer what the words ask
+abbrev pub Answers : Option Folder → Limits → List (List ℕ) → Findings → List ℕ → Type 0
+Answers told limits words found text = Asks words (λ wanted. AnswersJob told limits wanted found text)
 
--- why there is no answer to the words, where these are the names of the timetable: there was no memory; or the words are
--- refused; or the job that they ask for has none
-abbrev pub HasCause : Option Folder → Limits → List (List ℕ) → NameLists → Fault → Type 0
-HasCause told limits words names fault =
+-- why there is no answer to the words, where this timetable is known: there was no memory; or the words are refused; or the job
+-- that they ask for has none
+abbrev pub HasCause : Option Folder → Limits → List (List ℕ) → Option NamedParts → Fault → Type 0
+HasCause told limits words known fault =
     (fault ≡ NoMemory)
     ⊎ (((refusal : WordsFault) × (fault ≡ Words refusal) × (job_of words ≡ Err refusal))
-    ⊎ Asks words (λ wanted. FailsJob told limits wanted names fault))
+    ⊎ Asks words (λ wanted. FailsJob told limits wanted known fault))
 
 -- nothing but the fault is told, which has a cause, and this holds of its line
 abbrev pub IsRefused : Option Folder → Limits → List (List ℕ) → Report → (List ℕ → Type 0) → Fault → Type 0
 IsRefused told limits words report Tells fault =
-    (findings_of report ≡ no_findings) × ((names : NameLists) × HasCause told limits words names fault × Tells (line_of names fault))
+    (findings_of report ≡ no_findings) × ((known : Option NamedParts) × HasCause told limits words known fault × Tells (line_of known fault))
+
+-- how a run ends: with the whole of its answer; with a front of it; or with nothing but a fault
+pub data Ending : Type 0 where
+  Whole : Ending
+  Torn : Ending
+  Refused : Ending
+
+-- where a fault comes from this stage
+abbrev pub ending_at : Stage → Ending
+ending_at AtWords = Refused
+ending_at AtTimetable = Refused
+ending_at AtDelays = Refused
+ending_at AtStops = Refused
+ending_at AtWindow = Refused
+ending_at AtGraphFile = Refused
+ending_at AtOutcome = Refused
+ending_at AtOutput = Torn
+ending_at AtMemory = Refused
+
+abbrev pub ending_of : Option Fault → Ending
+ending_of None = Whole
+ending_of (Some fault) = ending_at (stage_of fault)
+
+-- an answer to the words, of whose text this holds
+abbrev pub HasAnswer : Option Folder → Limits → List (List ℕ) → Report → (List ℕ → Type 0) → Type 0
+HasAnswer told limits words report P = (text : List ℕ) × Answers told limits words (findings_of report) text × P text
 
 -- what a run comes to, by its fault: the answer with its text, written whole, or only a front of it where writing failed; or
 -- the fault's cause and its line, and then nothing is written
+abbrev pub OutcomeBy : Ending → Option Folder → Limits → List (List ℕ) → Report → Option (List ℕ) → Option (List ℕ) → (List ℕ → Type 0)
+    → Option Fault → Type 0
+OutcomeBy Whole told limits words report old new Tells fault = HasAnswer told limits words report (Appends old new)
+OutcomeBy Torn told limits words report old new Tells fault =
+    HasAnswer told limits words report (AppendsFront old new) × ((known : Option NamedParts) → IfSome fault (λ f. Tells (line_of known f)))
+OutcomeBy Refused told limits words report old new Tells fault = Keeps old new × IfSome fault (IsRefused told limits words report Tells)
+
 abbrev pub Outcome : Option Folder → Limits → List (List ℕ) → Report → Option (List ℕ) → Option (List ℕ) → (List ℕ → Type 0)
     → Option Fault → Type 0
-Outcome told limits words report old new Tells None = (text : List ℕ) × Answers told limits words report text × Appends old new text
-Outcome told limits words report old new Tells (Some Write) =
-    ((text : List ℕ) × Answers told limits words report text × AppendsFront old new text)
-    × ((names : NameLists) → Tells (line_of names Write))
-Outcome told limits words report old new Tells (Some fault) = Keeps old new × IsRefused told limits words report Tells fault
+Outcome told limits words report old new Tells fault = OutcomeBy (ending_of fault) told limits words report old new Tells fault
 
 -- a front of a line was received, the whole of it where the sink's count did not rise
 abbrev pub IsTold : Option (List ℕ) → Option (List ℕ) → ℕ → ℕ → List ℕ → Type 0
 IsTold old new before now line = AppendsFront old new line × (¬ Rose before now → Appends old new line)
 
 -- a text was written whole, or a front of it where writing failed
+abbrev pub IsWrittenBy : Ending → Option (List ℕ) → Option (List ℕ) → List ℕ → Type 0
+IsWrittenBy Whole old new text = Appends old new text
+IsWrittenBy Torn old new text = AppendsFront old new text
+IsWrittenBy Refused old new text = ⊥
+
 abbrev pub IsWritten : Option (List ℕ) → Option (List ℕ) → List ℕ → Option Fault → Type 0
-IsWritten old new text None = Appends old new text
-IsWritten old new text (Some Write) = AppendsFront old new text
-IsWritten old new text (Some (Words fault)) = ⊥
-IsWritten old new text (Some (Feed fault)) = ⊥
-IsWritten old new text (Some (Cut fault)) = ⊥
-IsWritten old new text (Some (Missing input)) = ⊥
-IsWritten old new text (Some (Delays fault)) = ⊥
-IsWritten old new text (Some (UnknownStop which)) = ⊥
-IsWritten old new text (Some (Limit kind count)) = ⊥
-IsWritten old new text (Some (Read input)) = ⊥
-IsWritten old new text (Some NoSafe) = ⊥
-IsWritten old new text (Some (GraphFile fault)) = ⊥
-IsWritten old new text (Some (Replay fault)) = ⊥
-IsWritten old new text (Some NoMemory) = ⊥
+IsWritten old new text fault = IsWrittenBy (ending_of fault) old new text
 
 -- the fault was told, or that there is no memory for its line
-abbrev pub IsRefusedWith : Option (List ℕ) → Option (List ℕ) → ℕ → ℕ → NameLists → Fault → Option Fault → Type 0
-IsRefusedWith old new before now names wanted None = ⊥
-IsRefusedWith old new before now names wanted (Some told) =
-    ((told ≡ wanted) ⊎ ((told ≡ NoMemory) × IsFormatted wanted)) × IsTold old new before now (line_of names told)
+abbrev pub IsRefusedWith : Option (List ℕ) → Option (List ℕ) → ℕ → ℕ → Option NamedParts → Fault → Option Fault → Type 0
+IsRefusedWith old new before now known wanted None = ⊥
+IsRefusedWith old new before now known wanted (Some told) =
+    ((told ≡ wanted) ⊎ ((told ≡ NoMemory) × IsFormatted wanted)) × IsTold old new before now (line_of known told)

@@ -2,7 +2,6 @@
 use Rattle.std.specs.Prelude.{◌≡◌, ◌⊎◌, ℕ, List, [], Option, None, Result, Ok, Err, IfSome}
 use Rattle.file_ports.specs.Ports.{Folder, file_at}
 use Rattle.csv_rows.specs.declared.limits.Limits.{Limits}
-use Rattle.plan_model.specs.NameLists.{NameLists}
 use Rattle.plan_model.specs.Strategy.{IsSafeFor}
 use Rattle.plan_graph.specs.declared.PlanGraph.{PlanGraph}
 use Rattle.plan_graph.specs.Tidy.{IsFit}
@@ -14,9 +13,8 @@ use Rattle.graph_text.specs.Asked.{IsAsked as IsHeadOf}
 use Rattle.graph_text.specs.Reading.{graph_of}
 use Rattle.trip_replay.specs.declared.Trace.{Trace}
 use Rattle.trip_replay.specs.declared.ReplayFault.{ReplayFault}
+use Rattle.trip_replay.specs.declared.ReplayFault.TheVariants as replay
 use Rattle.trip_replay.specs.Walk.{walk, IsSafeAnswer}
-use Rattle.command_line.specs.Jobs.{WantedReplay}
-use Rattle.meat_engine.specs.declared.report.Report.{Report}
 use Rattle.journey_problem.specs.declared.problem.Problem.{Problem}
 use Rattle.fault_lines.specs.declared.faults.Input.{Input}
 use Rattle.fault_lines.specs.declared.faults.Input.TheVariants as input
@@ -24,9 +22,8 @@ use Rattle.fault_lines.specs.declared.faults.Fault.{Fault}
 use Rattle.fault_lines.specs.declared.faults.Fault.TheVariants.{GraphFile, Replay, NoMemory}
 use Rattle.fault_lines.specs.Faults.{unread_of}
 use Rattle.journey_problem.specs.Files.{bytes_of, and_then}
-use Rattle.fault_lines.specs.Stages.{IsOfGraph}
-use Rattle.meat_engine.specs.Findings.{findings_of, replay_findings}
-use Rattle.journey_problem.specs.Problems.{FailsEarly, InProblem}
+use Rattle.fault_lines.specs.Stages.{IsOfInput}
+use Rattle.meat_engine.specs.Findings.{Findings, replay_findings}
 use Rattle.meat_engine.specs.Texts.{trace_text}
 
 -- a fault of a graph's text as one of the run
@@ -38,6 +35,14 @@ text_as (text.NoLeg line) = GraphFile (text.NoLeg line)
 text_as (text.OtherQuery line) = GraphFile (text.OtherQuery line)
 text_as text.NoMemory = NoMemory
 
+-- a fault of a trip as one of the run
+abbrev pub replay_as : ReplayFault → Fault
+replay_as (replay.NotADelay number) = Replay (replay.NotADelay number)
+replay_as (replay.TooFew ridden) = Replay (replay.TooFew ridden)
+replay_as (replay.TooMany ridden) = Replay (replay.TooMany ridden)
+replay_as (replay.Stuck place moment) = Replay (replay.Stuck place moment)
+replay_as replay.NoMemory = NoMemory
+
 abbrev pub graph_as : Result (Head × PlanGraph) TextFault → Result (Head × PlanGraph) Fault
 graph_as (Ok found) = Ok found
 graph_as (Err fault) = Err (text_as fault)
@@ -47,12 +52,12 @@ abbrev pub graph_in : Limits → Problem → ℕ → Option Input → Option (Li
 graph_in limits p start unread file =
     and_then (bytes_of limits.bytes input.Graph unread file) (λ bytes. graph_as (graph_of bytes p.network p.names p.source.0 p.target.0 start))
 
--- these are the head and the graph of the graph file, where the files are told; the graph fits the network, and the head is
--- of the journey
-pub record IsGraphFile (told : Option Folder) (limits : Limits) (r : WantedReplay) (p : Problem) (head : Head) (graph : PlanGraph) : Type 0 where
-  pub reads : IfSome told (λ files. graph_in limits p r.journey.start None (file_at files r.graph) ≡ Ok (head, graph))
+-- these are the head and the graph of the graph file of this path, where the files are told; the graph fits the network, and
+-- the head is of a journey that starts then
+pub record IsGraphFile (told : Option Folder) (limits : Limits) (start : ℕ) (path : List ℕ) (p : Problem) (head : Head) (graph : PlanGraph) : Type 0 where
+  pub reads : IfSome told (λ files. graph_in limits p start None (file_at files path) ≡ Ok (head, graph))
   pub fit : IsFit p.network head.query graph
-  pub head_is : IsHeadOf p.source.0 p.target.0 r.journey.start head
+  pub head_is : IsHeadOf p.source.0 p.target.0 start head
 
 -- the trip by a graph with these delays
 abbrev pub trip_by : Problem → Head → PlanGraph → List ℕ → Result Trace ReplayFault
@@ -62,41 +67,31 @@ trip_by p head graph late = walk p.network (unfold_plan graph p.network head.que
 abbrev pub IsSafeTrip : Problem → Head → PlanGraph → Result Trace ReplayFault → Type 0
 IsSafeTrip p head graph trip = IsSafeFor p.network head.query (unfold_plan graph p.network head.query) → IsSafeAnswer head.query.deadline.0 trip
 
--- the report and the text tell the trip by a graph
-pub record IsTripTold (p : Problem) (head : Head) (graph : PlanGraph) (late : List ℕ) (report : Report) (text : List ℕ) : Type 0 where
+-- the trip by a graph is told
+pub record IsTripTold (p : Problem) (late : List ℕ) (found : Findings) (text : List ℕ) (head : Head) (graph : PlanGraph) : Type 0 where
   pub trace : Trace
   pub trip : trip_by p head graph late ≡ Ok trace
   pub safe : IsSafeTrip p head graph (Ok trace)
-  pub found : findings_of report ≡ replay_findings head.query graph trace
+  pub found_is : found ≡ replay_findings head.query graph trace
   pub text_is : text ≡ trace_text p.network p.names p.target.0 trace
 
--- the trip by a graph has this fault
-pub record IsTripFault (p : Problem) (head : Head) (graph : PlanGraph) (late : List ℕ) (fault : ReplayFault) : Type 0 where
-  pub trip : trip_by p head graph late ≡ Err fault
-  pub safe : IsSafeTrip p head graph (Err fault)
+-- the fault is that of the trip by a graph
+pub record IsTripFault (p : Problem) (late : List ℕ) (fault : Fault) (head : Head) (graph : PlanGraph) : Type 0 where
+  pub stop : ReplayFault
+  pub fault_is : fault ≡ Replay stop
+  pub trip : trip_by p head graph late ≡ Err stop
+  pub safe : IsSafeTrip p head graph (Err stop)
 
 -- this holds of the head and the graph of the graph file
-abbrev pub InGraphFile : Option Folder → Limits → WantedReplay → Problem → (Head → PlanGraph → Type 0) → Type 0
-InGraphFile told limits r p P = (head : Head) × (graph : PlanGraph) × IsGraphFile told limits r p head graph × P head graph
-
--- the report and the text tell the trip by the graph of the file
-abbrev pub IsReplayed : Option Folder → Limits → WantedReplay → Problem → Report → List ℕ → Type 0
-IsReplayed told limits r p report text = InGraphFile told limits r p (λ head graph. IsTripTold p head graph r.late report text)
-
--- the trip by the graph of the file has this fault
-abbrev pub FailsTrip : Option Folder → Limits → WantedReplay → Problem → ReplayFault → Type 0
-FailsTrip told limits r p fault = InGraphFile told limits r p (λ head graph. IsTripFault p head graph r.late fault)
+abbrev pub InGraphFile : Option Folder → Limits → ℕ → List ℕ → Problem → (Head → PlanGraph → Type 0) → Type 0
+InGraphFile told limits start path p P = (head : Head) × (graph : PlanGraph) × IsGraphFile told limits start path p head graph × P head graph
 
 -- the first fault of the graph file is this one, where no file but that of the fault is unread
-abbrev pub FailsGraph : Option Folder → Limits → WantedReplay → Fault → Type 0
-FailsGraph told limits r fault =
-    IsOfGraph fault
-    × InProblem told limits r.journey (λ p. IfSome told (λ files. graph_in limits p r.journey.start (unread_of fault) (file_at files r.graph) ≡ Err fault))
+abbrev pub FailsGraph : Option Folder → Limits → ℕ → List ℕ → Problem → Fault → Type 0
+FailsGraph told limits start path p fault =
+    IsOfInput input.Graph fault × IfSome told (λ files. graph_in limits p start (unread_of fault) (file_at files path) ≡ Err fault)
 
--- why a replay has no answer, where these are the names of its timetable: the trip has a fault; or the graph file; or it is
--- the first fault of the files of the journey
-abbrev pub FailsReplay : Option Folder → Limits → WantedReplay → NameLists → Fault → Type 0
-FailsReplay told limits r names fault =
-    ((stop : ReplayFault) × (fault ≡ Replay stop) × InProblem told limits r.journey (λ p. (p.names ≡ names) × FailsTrip told limits r p stop))
-    ⊎ (FailsGraph told limits r fault
-    ⊎ FailsEarly told limits r.journey fault)
+-- why a replay has no answer, but for want of memory: the graph file has a fault; or the trip by its graph
+abbrev pub FailsReplay : Option Folder → Limits → ℕ → List ℕ → List ℕ → Problem → Fault → Type 0
+FailsReplay told limits start path late p fault =
+    FailsGraph told limits start path p fault ⊎ InGraphFile told limits start path p (IsTripFault p late fault)

@@ -9,7 +9,8 @@ use Rattle.fault_lines.specs.declared.faults.Input.{Input}
 use Rattle.fault_lines.specs.declared.faults.Fault.TheVariants.{Read, Write}
 use Rattle.fault_lines.specs.Faults.{status_of}
 use Rattle.meat_engine.specs.declared.report.Report.{Report}
-use Rattle.meat_engine.specs.Received.{Outcome, IsTold, paths_of}
+use Rattle.journey_problem.specs.Files.{RoseAt}
+use Rattle.meat_engine.specs.Received.{Outcome, IsTold, path_in}
 use Rattle.meat_engine.specs.Completeness.{IsComplete}
 
 -- what files tell, where they do; and how often they failed, in all and by path
@@ -42,10 +43,11 @@ pub record IsRun (limits : Limits) (words : List (List ℕ)) (report : Report) (
   -- where there is no fault nothing is told of one
   pub quiet : report.fault ≡ None → Keeps err.written err_after.written
   pub same : after.told ≡ before.told
-  -- a file cannot be read only where the files failed, which is told of its own path too; and always where they did
+  -- a file cannot be read only where the files failed, where it is one of the job, and where it is told its own path failed
+  -- too; and always where the files failed
   pub read : (input : Input) → report.fault ≡ Some (Read input) → Rose before.faults after.faults
   pub read_path : (wanted : Wanted) (input : Input) → job_of words ≡ Ok wanted → IsSome before.told
-      → report.fault ≡ Some (Read input) → Rose (before.faults_of (paths_of wanted input)) (after.faults_of (paths_of wanted input))
+      → report.fault ≡ Some (Read input) → RoseAt (path_in wanted input) before.faults_of after.faults_of
   pub files_grew : before.faults < after.faults → (input : Input) × (report.fault ≡ Some (Read input))
   -- the answer cannot be written only where its sink failed, and always where it did
   pub write : report.fault ≡ Some Write → Rose out.faults out_after.faults

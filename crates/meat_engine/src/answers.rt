@@ -1,19 +1,18 @@
-//! What a search finds.
-ghost use Rattle.std.specs.Prelude.{◌<◌, ◌≤◌, length, Some, None, IfOk, IfErr, IfSome};
+//! What is told of the strategies of a journey.
+ghost use Rattle.std.specs.Prelude.{◌≡◌, ◌<◌, ◌≤◌, length, Some, None, IfOk, IfErr, IfSome};
 ghost use Rattle.plan_model.specs.NameLists.{NamesFit};
 ghost use Rattle.plan_model.specs.Order.{IsScanOrder};
 ghost use Rattle.plan_model.specs.Strategy.{LeastWorst};
 ghost use Rattle.decision_graph.specs.Planned.{IsPlanned};
 ghost use Rattle.decision_graph.specs.Expanded.{IsExpanded};
-ghost use Rattle.command_line.specs.declared.options.Goal.TheVariants.{Safe, Expand, Plan};
-ghost use Rattle.command_line.specs.Shown.{search_shown};
-ghost use Rattle.meat_engine.specs.Answers.{IsWorst, IsAsked, IsPrintable, Tells, IsSought, FailsIn};
+ghost use Rattle.command_line.specs.Ranges.{IsPercentage};
+ghost use Rattle.meat_engine.specs.Answers.{IsWorst, IsAsked, InQuery, IsPrintable, TellsWorst, TellsExpanded, TellsPlanned, FailsIn};
 ghost use Rattle.meat_engine.specs.Findings.{findings_of};
 ghost use Rattle.meat_engine.specs.Moments.{after_arrivals, last_start};
 
+use crate::answer::Answer;
 use crate::report::Report;
 use crate::texts::safe_text;
-use command_line::{Goal, SearchJob};
 use connections::MergedRuns;
 use decision_graph::{CompactPlan, ExpandedPlan, expand, plan};
 use fault_lines::Fault;
@@ -24,13 +23,6 @@ use plan_model::{BackwardOrder, Moment, NoMemory, Query};
 use safe_arrival::{deadline, least_worst};
 use std::alloc::Global;
 use value_laws::WorstMoment;
-
-/// What a command found, and the text that tells it.
-#[derive(Drop)]
-pub(crate) struct Answer {
-    pub report: Report,
-    pub text: Vec<u8>,
-}
 
 /// A query, and the least worst arrival that its deadline follows from.
 #[derive(Clone, Copy)]
@@ -69,50 +61,45 @@ fn worst_of<B: BackwardOrder>(
     Ok(worst)
 }
 
-/// The query of a search, and an order for the scan that finds its graph.
+/// The query of a journey from a start on, by a percentage for the deadline, and an order for the scan
+/// that finds its graph.
 pub(crate) fn asked_of(
     alloc: Global,
     problem: &Problem,
-    search: &SearchJob,
+    start: Moment,
+    alpha: u32,
 ) -> Result<(Asked, MergedRuns), Fault>
     requires source { problem.now.source.0 < length problem.now.network.change }
     requires target { problem.now.target.0 < length problem.now.network.change }
-    requires start { search.now.journey.start.0 ≤ last_start }
-    requires low { 100 ≤ search.now.alpha }
-    requires high { search.now.alpha ≤ 1000 }
+    requires start { start.0 ≤ last_start }
+    requires alpha { IsPercentage alpha }
     ensures asked { IfOk result (λ found.
-        IsAsked problem.now (search_shown search.now) found.0.query found.0.worst) }
+        IsAsked problem.now start.0 alpha found.0.query found.0.worst) }
     ensures printable { IfOk result (λ found.
         IsPrintable problem.now.network found.0.query found.0.worst) }
     ensures fits { IfOk result (λ found.
         ⟦<MergedRuns as BackwardOrder>⟧.fits found.1 problem.now.network) }
-    ensures fault { IfErr result (FailsIn problem.now (search_shown search.now)) }
+    ensures fault { IfErr result (FailsIn problem.now start.0) }
 {
-    let Ok(mut order) = MergedRuns::new(alloc, &problem.network) else {
-        return Err(Fault::NoMemory);
+    let mut order = MergedRuns::new(alloc, &problem.network)?;
+    let Some(worst) = worst_of(alloc, &mut order, problem, start)? else {
+        return Err(Fault::NoSafe);
     };
-    let start = search.journey.start;
-    match worst_of(alloc, &mut order, problem, start) {
-        Ok(None) => Err(Fault::NoSafe),
-        Err(NoMemory) => Err(Fault::NoMemory),
-        Ok(Some(worst)) => {
-            let query = Query {
-                source: problem.source,
-                target: problem.target,
-                start,
-                deadline: deadline(start, worst, search.alpha),
-            };
-            Ok((Asked { query, worst }, order))
-        }
-    }
+    let query = Query {
+        source: problem.source,
+        target: problem.target,
+        start,
+        deadline: deadline(start, worst, alpha),
+    };
+    Ok((Asked { query, worst }, order))
 }
 
-/// The least worst arrival and the deadline.
-fn safe_answer(alloc: Global, problem: &Problem, asked: Asked) -> Result<Answer, NoMemory>
+/// The answer that tells the least worst arrival and the deadline.
+fn worst_answer(alloc: Global, problem: &Problem, asked: Asked) -> Result<Answer, NoMemory>
     requires fit { NamesFit problem.now.names problem.now.network }
     requires printable { IsPrintable problem.now.network asked.query asked.worst }
-    ensures tells { IfOk result (λ a. Tells Safe problem.now asked.query asked.worst
-        (findings_of a.report) a.text.items) }
+    ensures tells { IfOk result (λ a. TellsWorst problem.now (findings_of a.report) a.text.items
+        asked.query asked.worst) }
 {
     let Asked { query, worst } = asked;
     let source = problem.names.place_name(query.source);
@@ -140,10 +127,9 @@ fn expanded_of<B: BackwardOrder>(
         IsExpanded problem.now.network asked.query found.graph found.bounds) }
 {
     order.rewind(&problem.network);
-    match expand(alloc, order, &problem.network, &asked.query) {
-        Err(fault) => Err(fault),
-        Ok(None) => unreachable!(),
-        Ok(Some(found)) => Ok(found),
+    match expand(alloc, order, &problem.network, &asked.query)? {
+        None => unreachable!(),
+        Some(found) => Ok(found),
     }
 }
 
@@ -161,15 +147,14 @@ pub(crate) fn planned_of<B: BackwardOrder>(
         IsPlanned problem.now.network asked.query found.graph found.bounds) }
 {
     order.rewind(&problem.network);
-    match plan(alloc, order, &problem.network, &asked.query) {
-        Err(fault) => Err(fault),
-        Ok(None) => unreachable!(),
-        Ok(Some(found)) => Ok(found),
+    match plan(alloc, order, &problem.network, &asked.query)? {
+        None => unreachable!(),
+        Some(found) => Ok(found),
     }
 }
 
 /// The answer of a decision graph ride by ride.
-fn expand_answer(
+fn expanded_answer(
     alloc: Global,
     problem: &Problem,
     asked: Asked,
@@ -178,8 +163,8 @@ fn expand_answer(
     requires fit { NamesFit problem.now.names problem.now.network }
     requires printable { IsPrintable problem.now.network asked.query asked.worst }
     requires found { IsExpanded problem.now.network asked.query found.graph found.bounds }
-    ensures tells { IfOk result (λ a. Tells Expand problem.now asked.query asked.worst
-        (findings_of a.report) a.text.items) }
+    ensures tells { IfOk result (λ a. TellsExpanded problem.now (findings_of a.report) a.text.items
+        asked.query asked.worst) }
 {
     let Asked { query, worst } = asked;
     let head = Head {
@@ -201,7 +186,7 @@ fn expand_answer(
 }
 
 /// The answer of a decision graph with one table for each place.
-fn plan_answer(
+fn planned_answer(
     alloc: Global,
     problem: &Problem,
     asked: Asked,
@@ -210,8 +195,8 @@ fn plan_answer(
     requires fit { NamesFit problem.now.names problem.now.network }
     requires printable { IsPrintable problem.now.network asked.query asked.worst }
     requires found { IsPlanned problem.now.network asked.query found.graph found.bounds }
-    ensures tells { IfOk result (λ a. Tells Plan problem.now asked.query asked.worst
-        (findings_of a.report) a.text.items) }
+    ensures tells { IfOk result (λ a. TellsPlanned problem.now (findings_of a.report) a.text.items
+        asked.query asked.worst) }
 {
     let Asked { query, worst } = asked;
     let head = Head {
@@ -232,52 +217,67 @@ fn plan_answer(
     Ok(Answer { report, text })
 }
 
-/// What is told of a query.
-fn goal_answer<B: BackwardOrder>(
+/// The least worst arrival of a journey and its deadline.
+pub(crate) fn safe_over(
     alloc: Global,
-    order: &mut B,
     problem: &Problem,
-    goal: Goal,
-    asked: Asked,
-) -> Result<Answer, NoMemory>
-    requires fits { B.fits order.old problem.now.network }
-    requires fit { NamesFit problem.now.names problem.now.network }
-    requires least { IsWorst problem.now.network asked.query asked.worst }
-    requires printable { IsPrintable problem.now.network asked.query asked.worst }
-    ensures tells { IfOk result (λ a. Tells goal problem.now asked.query asked.worst
-        (findings_of a.report) a.text.items) }
-{
-    match goal {
-        Goal::Safe => safe_answer(alloc, problem, asked),
-        Goal::Expand => match expanded_of(alloc, order, problem, asked) {
-            Err(fault) => Err(fault),
-            Ok(found) => expand_answer(alloc, problem, asked, found),
-        },
-        Goal::Plan => match planned_of(alloc, order, problem, asked) {
-            Err(fault) => Err(fault),
-            Ok(found) => plan_answer(alloc, problem, asked, found),
-        },
-    }
-}
-
-/// What a search finds in its timetable.
-pub(crate) fn seek(alloc: Global, problem: &Problem, search: &SearchJob) -> Result<Answer, Fault>
+    start: Moment,
+    alpha: u32,
+) -> Result<Answer, Fault>
     requires fit { NamesFit problem.now.names problem.now.network }
     requires source { problem.now.source.0 < length problem.now.network.change }
     requires target { problem.now.target.0 < length problem.now.network.change }
-    requires start { search.now.journey.start.0 ≤ last_start }
-    requires low { 100 ≤ search.now.alpha }
-    requires high { search.now.alpha ≤ 1000 }
-    ensures sought { IfOk result (λ a.
-        IsSought problem.now (search_shown search.now) a.report a.text.items) }
-    ensures fault { IfErr result (FailsIn problem.now (search_shown search.now)) }
+    requires start { start.0 ≤ last_start }
+    requires alpha { IsPercentage alpha }
+    ensures answer { IfOk result (λ a. InQuery problem.now start.0 alpha
+        (TellsWorst problem.now (findings_of a.report) a.text.items)) }
+    ensures fault { IfErr result (FailsIn problem.now start.0) }
 {
-    let (asked, mut order) = match asked_of(alloc, problem, search) {
-        Err(fault) => return Err(fault),
-        Ok(found) => found,
-    };
-    match goal_answer(alloc, &mut order, problem, search.goal, asked) {
-        Err(NoMemory) => Err(Fault::NoMemory),
-        Ok(answer) => Ok(answer),
-    }
+    let (asked, _) = asked_of(alloc, problem, start, alpha)?;
+    let answer = worst_answer(alloc, problem, asked)?;
+    Ok(answer)
+}
+
+/// The decision graph of a journey, ride by ride.
+pub(crate) fn expand_over(
+    alloc: Global,
+    problem: &Problem,
+    start: Moment,
+    alpha: u32,
+) -> Result<Answer, Fault>
+    requires fit { NamesFit problem.now.names problem.now.network }
+    requires source { problem.now.source.0 < length problem.now.network.change }
+    requires target { problem.now.target.0 < length problem.now.network.change }
+    requires start { start.0 ≤ last_start }
+    requires alpha { IsPercentage alpha }
+    ensures answer { IfOk result (λ a. InQuery problem.now start.0 alpha
+        (TellsExpanded problem.now (findings_of a.report) a.text.items)) }
+    ensures fault { IfErr result (FailsIn problem.now start.0) }
+{
+    let (asked, mut order) = asked_of(alloc, problem, start, alpha)?;
+    let found = expanded_of(alloc, &mut order, problem, asked)?;
+    let answer = expanded_answer(alloc, problem, asked, found)?;
+    Ok(answer)
+}
+
+/// The decision graph of a journey, with one table for each place.
+pub(crate) fn plan_over(
+    alloc: Global,
+    problem: &Problem,
+    start: Moment,
+    alpha: u32,
+) -> Result<Answer, Fault>
+    requires fit { NamesFit problem.now.names problem.now.network }
+    requires source { problem.now.source.0 < length problem.now.network.change }
+    requires target { problem.now.target.0 < length problem.now.network.change }
+    requires start { start.0 ≤ last_start }
+    requires alpha { IsPercentage alpha }
+    ensures answer { IfOk result (λ a. InQuery problem.now start.0 alpha
+        (TellsPlanned problem.now (findings_of a.report) a.text.items)) }
+    ensures fault { IfErr result (FailsIn problem.now start.0) }
+{
+    let (asked, mut order) = asked_of(alloc, problem, start, alpha)?;
+    let found = planned_of(alloc, &mut order, problem, asked)?;
+    let answer = planned_answer(alloc, problem, asked, found)?;
+    Ok(answer)
 }

@@ -1,11 +1,12 @@
 //! The commands of the planner over files and sinks.
 #![tactic(auto)]
 
+mod answer;
 mod answers;
+mod asks;
 mod replays;
 mod report;
 mod samples;
-mod searches;
 mod texts;
 mod top;
 

@@ -4,17 +4,15 @@ ghost use Rattle.csv.specs.Writing.{default_writer, row_text};
 ghost use Rattle.plan_model.specs.NameLists.{NamesFit};
 ghost use Rattle.trip_replay.specs.Rides.{IsRide};
 ghost use Rattle.meat_engine.specs.Texts.{safe_text, ride_text, rides_text, arrived_text, trace_text, leg_count, sample_text};
-ghost use Rattle.fault_lines.specs.Lines.{line_of};
-ghost use Rattle.meat_engine.specs.Moments.{last_moment};
+ghost use Rattle.fault_lines.specs.Sites.{last_printable};
 
 use clock_text::{write_moment, write_nanos};
 use csv::WriterBuilder;
-use fault_lines::Fault;
 use interval_fixed::Span;
 use plan_graph::PlanGraph;
 use plan_model::{Moment, Names, Network, NoMemory, PlaceId, Query};
 use std::alloc::Global;
-use trip_replay::{ReplayFault, Ridden, Trace};
+use trip_replay::{Ridden, Trace};
 
 /// A row of fields, quoted where they need it, with its line end.
 fn row(alloc: Global, fields: &[&[u8]]) -> Result<Vec<u8>, NoMemory>
@@ -39,9 +37,9 @@ pub(crate) fn safe_text(
     query: &Query,
     worst: Moment,
 ) -> Result<Vec<u8>, NoMemory>
-    requires start { query.now.start.0 ≤ last_moment }
-    requires worst { worst.0 ≤ last_moment }
-    requires deadline { query.now.deadline.0 ≤ last_moment }
+    requires start { query.now.start.0 ≤ last_printable }
+    requires worst { worst.0 ≤ last_printable }
+    requires deadline { query.now.deadline.0 ≤ last_printable }
     ensures { IfOk result (λ text. text.items ≡ safe_text source.now target.now query.now worst) }
 {
     let start = write_moment(query.start);
@@ -95,7 +93,7 @@ fn ride_text(
 
 /// The row of an arrival at the target.
 fn arrived_text(alloc: Global, target: &str, arrival: Moment) -> Result<Vec<u8>, NoMemory>
-    requires { arrival.0 ≤ last_moment }
+    requires { arrival.0 ≤ last_printable }
     ensures { IfOk result (λ text. text.items ≡ arrived_text target.now arrival) }
 {
     let moment = write_moment(arrival);
@@ -116,7 +114,7 @@ pub(crate) fn trace_text(
     requires fit { NamesFit names.now network.now }
     requires target { target.0 < length network.now.change }
     requires rides { All (IsRide network.now) trace.now.rides }
-    requires arrival { trace.now.arrival.0 ≤ last_moment }
+    requires arrival { trace.now.arrival.0 ≤ last_printable }
     ensures { IfOk result (λ text.
         text.items ≡ trace_text network.now names.now target.0 trace.now) }
 {
@@ -169,26 +167,4 @@ pub(crate) fn sample_text(
             upper.as_slice(),
         ],
     )
-}
-
-/// The line of a trip that is stuck at a place since a moment.
-pub(crate) fn stuck_line(
-    alloc: Global,
-    names: &Names,
-    place: PlaceId,
-    moment: Moment,
-) -> Result<Vec<u8>, NoMemory>
-    requires place { place.0 < length names.now.places }
-    requires moment { moment.0 ≤ last_moment }
-    ensures { IfOk result (λ line.
-        line.items ≡ line_of names.now (Fault.Replay (ReplayFault.Stuck place moment))) }
-{
-    let moment = write_moment(moment);
-    let mut line: Vec<u8> = Vec::new(alloc);
-    line.extend_from_slice(b"meat: stuck at ")?;
-    line.extend_from_slice(names.place_name(place).as_bytes())?;
-    line.extend_from_slice(b" at ")?;
-    line.extend_from_slice(moment.as_slice())?;
-    line.extend_from_slice(b"\n")?;
-    Ok(line)
 }

@@ -1,28 +1,30 @@
 //! The top call.
-ghost use Rattle.std.specs.Prelude.{◌≡◌, ◌<◌, map, string_bytes, Some, None, IsSome, IfOk, IfErr};
+ghost use Rattle.std.specs.Prelude.{◌≡◌, ◌<◌, map, string_bytes, option_map, Option as Optional, Some, None, IsSome, IfOk, IfErr};
 ghost use Rattle.std.specs.Io.KnownBytes.{Keeps};
 ghost use Rattle.csv_rows.specs.Limits.{AreWithin, standard};
 ghost use Rattle.file_ports.specs.Counts.{Rose};
-ghost use Rattle.plan_model.specs.NameLists.{NameLists};
 ghost use Rattle.command_line.specs.Ranges.{IsJob};
 ghost use Rattle.command_line.specs.Shown.{shown};
 ghost use Rattle.fault_lines.specs.Faults.{status_of};
-ghost use Rattle.journey_problem.specs.Files.{HasCauses};
-ghost use Rattle.meat_engine.specs.Findings.{findings_of, no_findings};
 ghost use Rattle.fault_lines.specs.Lines.{line_of};
-ghost use Rattle.meat_engine.specs.Refusals.{IsLined, IsRefusalBy, by_fault};
-ghost use Rattle.meat_engine.specs.Received.{paths_of, AnswersJob, FailsJob, IsTold, IsWritten, IsRefusedWith};
+ghost use Rattle.fault_lines.specs.Sites.{NamedParts, known_in, IsTellable};
+ghost use Rattle.journey_problem.specs.Files.{HasCauses};
+ghost use Rattle.meat_engine.specs.Asks.{parts_of};
+ghost use Rattle.meat_engine.specs.Findings.{findings_of, no_findings};
+ghost use Rattle.meat_engine.specs.Refusals.{known_of, IsRefusalBy, by_fault};
+ghost use Rattle.meat_engine.specs.Received.{path_in, AnswersJob, FailsJob, IsTold, IsWritten, IsRefusedWith};
 ghost use Rattle.meat_engine.specs.Runs.{IsRun, files_state, sink_state};
 
-use crate::answers::Answer;
-use crate::replays::{Refusal, replay_over};
+use crate::answer::{Answer, Refusal};
+use crate::asks::journey_over;
 use crate::report::{Report, Status};
 use crate::samples::sample;
-use crate::searches::seek_over;
 use command_line::{Job, read_job};
 use csv_rows::Limits;
-use fault_lines::{Fault, FaultText, known_line};
+use fault_lines::{Fault, NamedNetwork, fault_line, known_line};
 use file_ports::{Files, Sink, put_all};
+use journey_problem::Problem;
+use plan_model::NoMemory;
 use std::alloc::Global;
 
 /// What a job asks for, over its files.
@@ -35,24 +37,17 @@ fn answer_of<F: Files>(
     requires within { AreWithin limits.now }
     requires job { IsJob (shown job.now) }
     ensures same { F.files files.new ≡ F.files files.old }
-    ensures answer { IfOk result (λ a.
-        AnswersJob (F.files files.old) limits.now (shown job.now) a.report a.text.items) }
+    ensures answer { IfOk result (λ a. AnswersJob (F.files files.old) limits.now (shown job.now)
+        (findings_of a.report) a.text.items) }
     ensures fault { IfErr result (IsRefusalBy
         (FailsJob (F.files files.old) limits.now (shown job.now))) }
-    ensures causes { HasCauses (IsSome (F.files files.old)) (paths_of (shown job.now))
+    ensures causes { HasCauses (IsSome (F.files files.old)) (path_in (shown job.now))
         (F.faults files.old) (F.faults files.new)
         (F.faults_of files.old) (F.faults_of files.new) (by_fault result) }
 {
     match *job {
-        Job::Seek(search) => match seek_over(alloc, files, &search, limits) {
-            Err(fault) => Err(Refusal::plain(fault)),
-            Ok(answer) => Ok(answer),
-        },
-        Job::Replay(replay) => replay_over(alloc, files, &replay, limits),
-        Job::Sample(size) => match sample(alloc, size, limits) {
-            Err(fault) => Err(Refusal::plain(fault)),
-            Ok(answer) => Ok(answer),
-        },
+        Job::Journey(journey, ask) => journey_over(alloc, files, &journey, &ask, limits),
+        Job::Sample(size) => sample(alloc, size, limits),
     }
 }
 
@@ -64,31 +59,39 @@ fn put_line<E: Sink>(err: &mut E, line: &[u8])
     let _ = put_all(err, line);
 }
 
+/// The timetable of a problem with its names.
+fn named<'a>(problem: &'a Option<Problem>) -> Option<NamedNetwork<'a>>
+    ensures { known_in result ≡ option_map parts_of problem.now }
+{
+    match problem {
+        None => None,
+        Some(problem) => Some(NamedNetwork {
+            network: &problem.network,
+            names: &problem.names,
+        }),
+    }
+}
+
 /// Ends with a fault, whose line is told to `err`. Where there is no memory for the line, that is
 /// the fault.
 fn refuse<E: Sink>(alloc: Global, err: &mut E, refusal: Refusal) -> Report
+    requires { IsTellable (known_of refusal) refusal.fault }
     ensures status { result.status.0 ≡ status_of result.fault }
     ensures findings { findings_of result ≡ no_findings }
-    ensures told { (names : NameLists) → IsLined names refusal
-        → IsRefusedWith (E.written err.old) (E.written err.new) (E.faults err.old) (E.faults err.new)
-        names refusal.fault result.fault }
+    ensures told { IsRefusedWith (E.written err.old) (E.written err.new)
+        (E.faults err.old) (E.faults err.new) (known_of refusal) refusal.fault result.fault }
 {
-    let Refusal { fault, line } = refusal;
-    if let Some(line) = line {
-        put_line(err, line.as_slice());
-        return Report::bare(fault);
-    }
+    let Refusal { fault, problem } = refusal;
     if let Some(line) = known_line(fault) {
         put_line(err, line.as_bytes());
         return Report::bare(fault);
     }
-    let text = FaultText(fault);
-    match format!(in alloc; "meat: {text}\n") {
+    match fault_line(alloc, fault, named(&problem)) {
         Ok(line) => {
-            put_line(err, line.as_bytes());
+            put_line(err, line.as_slice());
             Report::bare(fault)
         }
-        Err(_) => {
+        Err(NoMemory) => {
             put_line(err, b"meat: out of memory\n");
             Report::bare(Fault::NoMemory)
         }
@@ -101,8 +104,9 @@ fn tell<O: Sink, E: Sink>(answer: Answer, out: &mut O, err: &mut E) -> Report
     ensures findings { findings_of result ≡ findings_of answer.report }
     ensures out { IsWritten (O.written out.old) (O.written out.new) answer.text.items result.fault }
     ensures quiet { result.fault ≡ None → Keeps (E.written err.old) (E.written err.new) }
-    ensures told { (names : NameLists) → result.fault ≡ Some Fault.Write → IsTold (E.written err.old)
-        (E.written err.new) (E.faults err.old) (E.faults err.new) (line_of names Fault.Write) }
+    ensures told { (known : Optional NamedParts) → result.fault ≡ Some Fault.Write
+        → IsTold (E.written err.old) (E.written err.new) (E.faults err.old) (E.faults err.new)
+        (line_of known Fault.Write) }
     ensures write { result.fault ≡ Some Fault.Write → Rose (O.faults out.old) (O.faults out.new) }
     ensures grew { O.faults out.old < O.faults out.new → result.fault ≡ Some Fault.Write }
 {

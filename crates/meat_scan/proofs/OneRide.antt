@@ -3,10 +3,11 @@ use Rattle.std.proofs.Common.{◌≡◌, ℕ, zero, suc, ◌<◌, ◌≤◌, Lis
 use Rattle.std.proofs.lemmas.List.Elements.{All-cons}
 use Rattle.plan_model.specs.declared.model.Connection.{Connection}
 use Rattle.plan_model.specs.declared.model.Outcome.{Outcome}
-use Rattle.plan_model.specs.Parts.{Parts}
+use Rattle.plan_model.specs.Parts.{Parts, plain_parts}
 use Rattle.plan_model.specs.Rows.{IsValidRow}
 use Rattle.plan_model.specs.Network.{IsValid, IsValidConnection, connection, change_of, row_of}
 use Rattle.plan_model.proofs.Local.{IsValid-from_local}
+use Rattle.plan_model.proofs.Links.{AreLinks-none}
 
 abbrev pub ride : Connection
 ride = record { from = record { 0 = 0 }; to = record { 0 = 1 }; dep = record { 0 = 1717401600 }; arr = record { 0 = 1717402800 }; run = record { 0 = 0 }; step = 0; class = record { 0 = 0 }; can_board = true; can_exit = true }
@@ -15,7 +16,7 @@ abbrev pub late : Outcome
 late = record { delay = 300; weight = 10000 }
 
 abbrev pub parts : Parts
-parts = record { connections = ride ∷ []; change = 120 ∷ 120 ∷ []; classes = (late ∷ []) ∷ [] }
+parts = plain_parts (ride ∷ []) (120 ∷ 120 ∷ []) ((late ∷ []) ∷ [])
 
 row_is_valid : IsValidRow (late ∷ [])
 row_is_valid = record {
@@ -53,6 +54,7 @@ IsValid-one_ride = IsValid-from_local parts (record {
   first = first;
   connections = in_range;
   changes = changes;
+  links = AreLinks-none 2;
   rows = rows;
   few_connections = omega arith;
   few_places = omega arith;

@@ -7,12 +7,6 @@ use Rattle.plan_model.specs.Ways.{limit_of}
 use Rattle.plan_model.specs.Strategy.{IsBoardable}
 use Rattle.plan_model.proofs.Boarding.{way_takes, earlier_by-is, limit_of-some}
 
--- one boards after the arrival
-pub boards_later : (n : Parts) → IsValid n → (p x i : ℕ) → i < count n → IsBoardable n p x i → x < dep_of n i
-boards_later n valid p x i there board =
-    let takes = way_takes n valid p (from_of n i) board.seconds (valid.connections i there).from_in board.way in
-    omega (arith, takes.1, board.in_time)
-
 -- whoever can board has arrived by the limit
 pub limit_of-boards : (n : Parts) (p x : ℕ) (leg : Leg) → IsBoardable n p x leg.enter.0 → (by : ℕ) × (limit_of n p leg ≡ Some by) × (x ≤ by)
 limit_of-boards n p x leg board =

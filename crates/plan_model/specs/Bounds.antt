@@ -26,3 +26,7 @@ nanos_per_second = 1000000000
 
 abbrev pub seconds_per_day : ℕ
 seconds_per_day = 86400
+
+-- certainty, in the units in which a chance is told: 10 to the -18
+abbrev pub certainty : ℕ
+certainty = 1000000000000000000

@@ -1,18 +1,26 @@
 -- The ways between places, and the latest arrival from which a leg is reached.
-use Rattle.std.specs.Prelude.{ℕ, ◌-◌, List, [], ◌∷◌, Option, Some, None, ◌==◌, nat_le, if◌then◌else◌, find}
+use Rattle.std.specs.Prelude.{ℕ, ◌-◌, List, ◌∷◌, Option, Some, None, ◌==◌, nat_le, if◌then◌else◌, find}
 use Rattle.std.specs.Option.{option_map, option_and_then}
 use Rattle.plan_model.specs.declared.model.Leg.{Leg}
 use Rattle.plan_model.specs.declared.model.Way.{Way}
 use Rattle.plan_model.specs.Parts.{Parts}
-use Rattle.plan_model.specs.Network.{from_of, dep_of, change_of}
+use Rattle.plan_model.specs.Network.{from_of, dep_of, change_of, links_into}
 
--- the ways into a place: from the place itself, in its change time
+-- the way from a place to itself: a change, in its change time
+abbrev pub own_way : Parts → ℕ → Way
+own_way n r = record { from = record { 0 = r }; seconds = change_of n r }
+
+-- the ways into a place: from the place itself, and then the links from others
 abbrev pub ways_into : Parts → ℕ → List Way
-ways_into n r = record { from = record { 0 = r }; seconds = change_of n r } ∷ []
+ways_into n r = own_way n r ∷ links_into n r
+
+-- the seconds of the first way from place p in a list
+abbrev pub way_in : List Way → ℕ → Option ℕ
+way_in ways p = option_map (λ way. way.seconds) (find (λ way. way.from.0 == p) ways)
 
 -- the seconds from who arrives at place p to who may board at place r, where there is a way
 abbrev pub way_of : Parts → ℕ → ℕ → Option ℕ
-way_of n p r = option_map (λ way. way.seconds) (find (λ way. way.from.0 == p) (ways_into n r))
+way_of n p r = way_in (ways_into n r) p
 
 -- so many seconds before a moment, where that is not before all time
 abbrev pub earlier_by : ℕ → ℕ → Option ℕ

@@ -6,7 +6,7 @@ use std::test::Fail;
 
 /// The tables of a feed that differ.
 #[derive(Clone, Copy)]
-struct Tables<'a> {
+pub(super) struct Tables<'a> {
     stops: &'a str,
     routes: &'a str,
     trips: &'a str,
@@ -16,17 +16,17 @@ struct Tables<'a> {
 const CALENDAR: &str =
     "service_id,monday,tuesday,wednesday,thursday,friday,saturday,sunday,start_date,end_date\nWK,1,1,1,1,1,0,0,20240101,20241231\n";
 
-const OLD_TOWN: Tables<'static> = Tables {
+pub(super) const OLD_TOWN: Tables<'static> = Tables {
     stops: "\u{FEFF}stop_name,stop_id,parent_station,location_type\n\"Old Town, Square\",\"S,1\",,1\nPlatform 1,S1a,\"S,1\",0\nPlatform 2,S1b,\"S,1\",\nAirport,AIR,,\nMill,MIL,,0\nHalfway,HLF,,0\n",
     routes: "route_id,route_short_name,route_type\nT1,1,0\nB7,7,3\n",
     trips: "route_id,service_id,trip_id\nT1,WK,t100\nB7,WK,b200\nB7,WK,b201\n",
     stop_times: "trip_id,stop_sequence,stop_id,arrival_time,departure_time,pickup_type\nt100,10,MIL,8:00:00,8:00:00,0\nt100,15,HLF,,,\nt100,20,S1a,8:20:00,8:21:00,0\nb200,1,S1b,08:24:00,08:24:00,\nb200,2,AIR,08:50:00,08:50:00,\nb201,1,S1b,08:40:00,08:40:00,\nb201,2,AIR,09:06:00\n",
 };
 
-const OLD_TOWN_PLAN: &str =
+pub(super) const OLD_TOWN_PLAN: &str =
     "graph,1,MIL,AIR,2024-06-03T08:00:00,2024-06-03T10:42:00,2024-06-03T08:54:42.000000000,2024-06-03T08:54:42.000000000\nstart,2024-06-03T08:00:00,20240603:t100,0,2024-06-03T08:00:00,0,\"S,1\",2024-06-03T08:20:00\nplace,\"S,1\",120,2,,,,\nleg,2024-06-03T08:22:00,20240603:b200,0,2024-06-03T08:24:00,0,AIR,2024-06-03T08:50:00\nleg,2024-06-03T08:38:00,20240603:b201,0,2024-06-03T08:40:00,0,AIR,2024-06-03T09:06:00\n";
 
-fn files_of(alloc: Global, tables: Tables) -> Result<MemoryFiles, Fail> {
+pub(super) fn files_of(alloc: Global, tables: Tables) -> Result<MemoryFiles, Fail> {
     let mut files = MemoryFiles::new(alloc, 4096);
     files.add("f/stops.txt", tables.stops.as_bytes())?;
     files.add("f/routes.txt", tables.routes.as_bytes())?;
@@ -66,6 +66,27 @@ fn plans_over_a_small_folder(rt: HostRuntime) -> Result<(), Fail> {
     let told = from_mill(rt.alloc(), &mut files, "plan", "AIR")?;
     assert_eq!(rt; told.out.as_str(), OLD_TOWN_PLAN);
     assert_eq!(rt; told.status, 0);
+    Ok(())
+}
+
+/// The tram is never late.
+const SURE_TRAM: &str =
+    "class,delay,weight,route_id\n*,0,8000,\n*,300,1500,\n*,900,500,\n*,0,10000,T1\n";
+
+const SURE_TRAM_PLAN: &str =
+    "graph,1,MIL,AIR,2024-06-03T08:00:00,2024-06-03T10:10:00,2024-06-03T08:51:30.000000000,2024-06-03T08:51:30.000000000\nstart,2024-06-03T08:00:00,20240603:t100,0,2024-06-03T08:00:00,0,\"S,1\",2024-06-03T08:20:00\nplace,\"S,1\",120,1,,,,\nleg,2024-06-03T08:22:00,20240603:b200,0,2024-06-03T08:24:00,0,AIR,2024-06-03T08:50:00\n";
+
+#[test]
+fn plans_with_the_delays_of_a_route(rt: HostRuntime) -> Result<(), Fail> {
+    let mut files = files_of(rt.alloc(), OLD_TOWN)?;
+    files.add("d", SURE_TRAM.as_bytes())?;
+    let safe = from_mill(rt.alloc(), &mut files, "safe", "AIR")?;
+    assert_eq!(rt;
+        safe.out.as_str(),
+        "safe,MIL,AIR,2024-06-03T08:00:00,2024-06-03T09:05:00,2024-06-03T10:10:00\n"
+    );
+    let plan = from_mill(rt.alloc(), &mut files, "plan", "AIR")?;
+    assert_eq!(rt; plan.out.as_str(), SURE_TRAM_PLAN);
     Ok(())
 }
 

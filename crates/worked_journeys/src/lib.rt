@@ -2,7 +2,15 @@
 #![tactic(auto)]
 
 #[cfg(test)]
+mod delays;
+#[cfg(test)]
+mod edited_graphs;
+#[cfg(test)]
 mod feeds;
+#[cfg(test)]
+mod limits;
+#[cfg(test)]
+mod links;
 #[cfg(test)]
 mod rides;
 #[cfg(test)]

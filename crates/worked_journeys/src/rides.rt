@@ -8,15 +8,15 @@ use std::alloc::Global;
 use std::test::Fail;
 
 /// A ride on 2024-06-03: run, step, from, to, departure and arrival.
-type Ride<'a> = (&'a str, u32, &'a str, &'a str, &'a str, &'a str);
+pub(super) type Ride<'a> = (&'a str, u32, &'a str, &'a str, &'a str, &'a str);
 
-const CHANGE: [Ride<'static>; 3] = [
+pub(super) const CHANGE: [Ride<'static>; 3] = [
     ("r1", 1, "A", "B", "08:00:00", "08:20:00"),
     ("r2", 1, "B", "T", "08:24:00", "08:50:00"),
     ("r3", 1, "B", "T", "08:40:00", "09:06:00"),
 ];
 
-fn cut_of(alloc: Global, rides: &[Ride]) -> Result<String, Fail> {
+pub(super) fn cut_of(alloc: Global, rides: &[Ride]) -> Result<String, Fail> {
     let mut text = String::from_str(alloc, "run,step,from,to,dep,arr\n")?;
     for ride in rides {
         let (run, step, from, to, dep, arr) = *ride;

@@ -57,6 +57,16 @@ pub(super) fn told_in_pieces(
     let mut out = MemorySink::new(alloc, piece, 1 << 13, List::from_vec(list))?;
     let mut err = MemorySink::new(alloc, 4096, 1 << 13, List::new(alloc))?;
     let report = run(alloc, words.as_slice(), files, &mut out, &mut err);
+    told_by(alloc, report.status.0, &out, &err)
+}
+
+/// What a run told, by its status and its two sinks.
+pub(super) fn told_by(
+    alloc: Global,
+    status: u8,
+    out: &MemorySink,
+    err: &MemorySink,
+) -> Result<Told, Fail> {
     let (Ok(answer), Ok(line)) = (
         std::str::from_utf8(out.bytes()),
         std::str::from_utf8(err.bytes()),
@@ -64,7 +74,7 @@ pub(super) fn told_in_pieces(
         return Err("no text".into());
     };
     Ok(Told {
-        status: report.status.0,
+        status,
         out: String::from_str(alloc, answer)?,
         err: String::from_str(alloc, line)?,
     })

@@ -23,7 +23,7 @@ put_leg-requires-clause-room g c =
     let inside = from_in network c.requires.valid r c.loop-k.k way there c.way_at-way.ensures in
     let from : from_of network c.args.id.0 ≡ r = ap (λ connection. connection.from.0) (sym c.get-connection.ensures.connection) in
     let room = subst (λ to. cond (has_way network way.from.0 to) 1 0 ≤ spare_at c.args.profiles.now way.from.0) from (c.requires.room way.from.0 inside) in
-    room_left network r c.loop-k.k (omega arith) way c.way_at-way.ensures _ _ room (c.loop-k.invariant.spare way.from.0)
+    room_left network c.requires.valid r c.loop-k.k there (omega arith) way c.way_at-way.ensures _ _ room (c.loop-k.invariant.spare way.from.0)
 
 pub loop-k-preserved : goal.loop-k-preserved
 loop-k-preserved g c =
@@ -33,7 +33,8 @@ loop-k-preserved g c =
     let way = c.way_at-way.result in
     let loop = c.loop-k in
     let put = c.put_leg.ensures in
-    let distinct = ways_into-distinct network r in
+    let there : r < length network.change = rw c.get-connection.ensures.connection (c.requires.valid.connections c.args.id.0 c.requires.there).from_in in
+    let distinct = ways_into-distinct network c.requires.valid r there in
     record {
       len = put.len ∙ loop.invariant.len;
       rows = λ place. rows_next (ways_into network r) distinct loop.k (omega arith) way c.way_at-way.ensures score.rank score.lowered c.args.query.now.target.0 c.get-connection.result.dep.0 _ _ place _ _ _ (loop.invariant.rows place) (put.rows place);

@@ -1,6 +1,12 @@
-use Rattle.std.proofs.Common.{refl}
+use Rattle.std.proofs.Common.{◌<◌, List, All, refl, sym, subst}
+use Rattle.std.proofs.lemmas.List.Elements.{All-nil}
+use Rattle.plan_model.specs.declared.model.Way.{Way}
+use Rattle.change_times.specs.Links.{ways_at}
 use Rattle.change_times.proofs.ChangeLemmas.{no_rows}
 use Rattle.change_times.proofs.changes.no_changes.Goals as goal
 
-pub returns : goal.returns
-returns c = λ feed. no_rows feed (record { told = c.new.result.entries; passed = 0 }) c.new.ensures.empty refl
+pub returns-clause-changes : goal.returns-clause-changes
+returns-clause-changes c = λ feed. no_rows feed (record { told = c.new.result.entries; links = c.new-2.result.items; passed = 0 }) c.new.ensures.empty c.new-2.ensures.items refl
+
+pub returns-clause-links : goal.returns-clause-links
+returns-clause-links c = λ places place. subst (λ (ls : List (List Way)). All (λ way. way.from.0 < places) (ways_at ls place)) (sym c.new-2.ensures.items) (All-nil (λ (way : Way). way.from.0 < places))

@@ -1,52 +1,38 @@
-use Rattle.std.proofs.Common.{◌≡◌, ℕ, ◌≤◌, List, None, IfSome, is_none, nat_eq, sym, ap, ◌∙◌, subst, arith, count_by}
-use Rattle.std.specs.HashMap.{get}
-use Rattle.std.specs.Map.{lookup}
-use Rattle.csv_rows.specs.RowFaults.{fault_in, value_or}
+use Rattle.std.proofs.Common.{◌≡◌, ◌<◌, ℕ, List, length, ap, ◌∙◌, arith}
+use Rattle.plan_model.specs.declared.model.Way.{Way}
+use Rattle.gtfs_tables.specs.Feeds.{FeedParts, Records}
 use Rattle.csv_rows.specs.Tables.{row_count}
-use Rattle.csv_rows.proofs.FirstLemmas.{first-zero, first-next, first-at}
-use Rattle.csv_rows.proofs.ListLemmas.{list_below-zero}
-use Rattle.change_times.specs.Transfers.{bad_transfer, told_by}
-use Rattle.change_times.specs.Changes.{seconds_at}
-use Rattle.change_times.proofs.ChangeLemmas.{change_is, greatest-zero, greatest-next, count-next, one_at_most, short_next}
+use Rattle.change_times.specs.declared.changes.Told.{Told}
+use Rattle.change_times.specs.declared.links.Walk.{Walk}
+use Rattle.change_times.specs.Links.{ways_at, ways_below}
+use Rattle.change_times.specs.Told.{AreTold}
+use Rattle.change_times.specs.Walks.{walks_of, most_to}
+use Rattle.change_times.proofs.SoundLemmas.{told_sound, told_from}
 use Rattle.change_times.proofs.changes.read_rows.Goals as goal
 
-pub loop-i-init : goal.loop-i-init
-loop-i-init c =
-    let feed = c.args.feed.now in
-    let t = c.args.rows.now in
-    let empty = c.new-seconds.ensures.empty in
+-- the links by the places of the feed
+by_feed : (feed : FeedParts) (t : Records) (n : ℕ) (told : Told) → AreTold feed t n told → (walks : List (List Walk)) → walks ≡ told.walks.items → (links : List (List Way))
+    → ((to : ℕ) → to < length walks → ways_at links to ≡ ways_below (λ from. most_to to (walks_of walks from)) (length walks))
+    → (to : ℕ) → to < length feed.stop_ids → ways_at links to ≡ ways_below (λ from. most_to to (walks_of told.walks.items from)) (length feed.stop_ids)
+by_feed feed t n told is walks same links ways to inside =
+    let size : length walks ≡ length feed.stop_ids = ap length same ∙ is.size in
+    ways to (omega (arith, size)) ∙ ap (λ k. ways_below (λ from. most_to to (walks_of walks from)) k) size
+    ∙ ap (λ ws. ways_below (λ from. most_to to (walks_of ws from)) (length feed.stop_ids)) same
+
+pub invariant_of-result : goal.invariant_of-result
+invariant_of-result c =
+    let feed = c.args.feed.now in let t = c.args.rows.now in let n = row_count t in let told = c.in-Ok-tell.told in let is = c.in-Ok-tell.ensures.told in
+    let links = c.in-Ok-links_of.links.items in
+    let size : length links ≡ length feed.stop_ids = c.in-Ok-links_of.ensures.size ∙ ap length c.as_slice.ensures.value ∙ is.size in
     record {
-      seconds = λ place.
-          ap (λ es. lookup (nat_eq place) es) empty ∙ sym (greatest-zero (λ k. seconds_at place (told_by feed t k)));
-      short = λ place. let P : List (ℕ × ℕ) → Type 0 = λ es. IfSome (lookup (nat_eq place) es) (λ seconds. seconds ≤ 86400) in subst P (sym empty) tt;
-      passed = sym (ap (count_by is_none) (list_below-zero (told_by feed t)));
-      few = omega arith;
-      none = first-zero (bad_transfer feed t);
+      short = is.short;
+      links = told_sound feed t n told is links size (by_feed feed t n told is c.as_slice.result.now c.as_slice.ensures.value links c.in-Ok-links_of.ensures.ways)
+          (omega (arith, c.stop_count.ensures.few));
     }
 
-pub returns-in-Err-clause-fault : goal.returns-in-Err-clause-fault
-returns-in-Err-clause-fault c = λ free.
-    let feed = c.args.feed.now in
-    let t = c.args.rows.now in
-    first-at (bad_transfer feed t) c.loop-i.i (row_count t) c.in-Err.fault (omega arith) c.loop-i.invariant.none
-    (ap fault_in (change_is feed t c.args.columns c.loop-i.i _ c.requires c.in-Err.ensures.fault))
-
-pub loop-i-preserved : goal.loop-i-preserved
-loop-i-preserved c =
-    let feed = c.args.feed.now in
-    let t = c.args.rows.now in
-    let i = c.loop-i.i in
-    let old = c.loop-i.invariant in
-    let here = change_is feed t c.args.columns i _ c.requires c.in-Ok.ensures.change in
-    let told : told_by feed t i ≡ c.in-Ok.change = ap (value_or None) here in
-    let step = c.in-Ok-note.ensures in
-    record {
-      seconds = λ place.
-          greatest-next (λ k. seconds_at place (told_by feed t k)) i (get nat_eq c.loop-i.seconds place) (get nat_eq c.note.new.seconds place)
-          (seconds_at place c.in-Ok.change) (old.seconds place) (step.seconds place) (ap (seconds_at place) told);
-      short = λ place.
-          short_next (get nat_eq c.loop-i.seconds place) (get nat_eq c.note.new.seconds place) place c.in-Ok.change (old.short place) c.in-Ok.ensures.short (step.seconds place);
-      passed = count-next is_none (told_by feed t) i c.loop-i.passed c.note.new.passed c.in-Ok.change old.passed step.passed told;
-      few = omega (arith, old.few, step.passed, one_at_most (is_none c.in-Ok.change));
-      none = first-next (bad_transfer feed t) i None old.none (ap fault_in here);
-    }
+pub returns-in-Ok-links_of-clause-links : goal.returns-in-Ok-links_of-clause-links
+returns-in-Ok-links_of-clause-links c =
+    let feed = c.args.feed.now in let t = c.args.rows.now in let n = row_count t in let told = c.in-Ok-tell.told in let is = c.in-Ok-tell.ensures.told in
+    let links = c.in-Ok-links_of.links.items in
+    let size : length links ≡ length feed.stop_ids = c.in-Ok-links_of.ensures.size ∙ ap length c.as_slice.ensures.value ∙ is.size in
+    told_from feed t n told is links size (by_feed feed t n told is c.as_slice.result.now c.as_slice.ensures.value links c.in-Ok-links_of.ensures.ways)

@@ -1,8 +1,7 @@
-use Rattle.std.proofs.Common.{length, ap, ◌∙◌}
-use Rattle.csv_rows.proofs.ListLemmas.{length-list_below}
-use Rattle.change_times.specs.Changes.{seconds_of}
+use Rattle.std.proofs.Common.{◌≡◌, ◌≤◌, arith}
+use Rattle.connections.proofs.FaultLemmas.{not_many}
 use Rattle.connections.proofs.cuts.cut.Goals as goal
 
-pub network_of-requires-clause-places : goal.network_of-requires-clause-places
-network_of-requires-clause-places c =
-    ap length c.in-Ok.ensures.seconds ∙ length-list_below (seconds_of c.args.changes.now) c.stop_count.result ∙ c.stop_count.ensures.count
+pub network_of-requires-clause-few : goal.network_of-requires-clause-few
+network_of-requires-clause-few c =
+    omega (arith, not_many c.args.limits.now _ _ c.in_default.ensures, c.requires.limits.connections)

@@ -1,4 +1,5 @@
-use Rattle.std.proofs.Common.{◌+◌, ◌++◌, [], ◌∷◌, map, sym, ap, ◌∙◌}
+use Rattle.std.proofs.Common.{◌+◌, ◌++◌, [], ◌∷◌, map, Some, sym, ap, ◌∙◌}
+use Rattle.delay_table.specs.DelayLists.{class_for}
 use Rattle.connections.specs.Joins.{only_if}
 use Rattle.connections.specs.Rides.{steps_below}
 use Rattle.connections.specs.Networks.{ride}
@@ -8,13 +9,13 @@ use Rattle.connections.proofs.rides.add_rides.Goals.{then-leaves+in_ok-push, els
 
 pub loop-k-init : goal.loop-k-init
 loop-k-init c =
-    let rows = c.args.rows.now in let run = c.args.run in
-    sym (ap (λ xs. c.args.connections.now ++ map (ride rows run.day run.number run.class.0) xs) (steps-zero c.args.window rows run.day) ∙ append-nil c.args.connections.now)
+    let rows = c.args.rows.now in let run = c.args.run.now in
+    sym (ap (λ xs. c.args.connections.now ++ map (ride rows run.day run.number (class_for c.args.delays.now (Some run.route_type) (Some run.route.now))) xs) (steps-zero c.args.window rows run.day) ∙ append-nil c.args.connections.now)
 
 pub loop-k-preserved : goal.loop-k-preserved
 loop-k-preserved c =
-    let rows = c.args.rows.now in let run = c.args.run in let k = c.loop-k.k in
-    let f = ride rows run.day run.number run.class.0 in
+    let rows = c.args.rows.now in let run = c.args.run.now in let k = c.loop-k.k in
+    let f = ride rows run.day run.number (class_for c.args.delays.now (Some run.route_type) (Some run.route.now)) in
     let more = map-next f c.args.window rows run.day k c.leaves.result c.leaves.ensures in
     let before = map f (steps_below c.args.window rows run.day k) in
     let all = map f (steps_below c.args.window rows run.day (k + 1)) in

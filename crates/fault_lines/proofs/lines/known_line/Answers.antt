@@ -4,4 +4,4 @@ use Rattle.fault_lines.specs.Lines.{line_of}
 use Rattle.fault_lines.proofs.lines.known_line.Goals as goal
 
 pub returns-in-Read-clause-line : goal.returns-in-Read-clause-line
-returns-in-Read-clause-line c = λ names. c.unread_line.ensures names ∙ ap (λ (fault : Fault). line_of names fault) (sym c.in-Read.is)
+returns-in-Read-clause-line c = λ known. c.unread_line.ensures known ∙ ap (λ (fault : Fault). line_of known fault) (sym c.in-Read.is)

@@ -1,4 +1,5 @@
-use Rattle.std.proofs.Common.{ℕ, None, sym, ap, ◌∙◌, arith, slice_index_or, string_bytes, List}
+use Rattle.std.proofs.Common.{ℕ, ◌<◌, None, sym, subst, ap, ◌∙◌, arith, length, slice_index_or, string_bytes, List, All}
+use Rattle.std.proofs.lemmas.List.Elements.{All-push, All-nil}
 use Rattle.csv_rows.specs.Tables.{row_count}
 use Rattle.csv_rows.proofs.FirstLemmas.{first-zero, first-next, first-at}
 use Rattle.plan_model.specs.NameLists.{texts}
@@ -16,6 +17,8 @@ loop-i-init c =
     record {
       services = ap texts c.new-services.ensures.items ∙ sym (list_below-zero (λ i. (trip_or_none (trip_at ids t i)).service));
       types = c.new-types.ensures.items ∙ sym (list_below-zero (λ i. slice_index_or c.args.routes.now.types.items (trip_or_none (trip_at ids t i)).route 0));
+      routes = c.new-numbers.ensures.items ∙ sym (list_below-zero (λ i. (trip_or_none (trip_at ids t i)).route));
+      known = subst (All (λ route. route < length ids)) (sym c.new-numbers.ensures.items) (All-nil (λ route. route < length ids));
       none = first-zero (bad_trip ids t);
     }
 
@@ -40,5 +43,9 @@ loop-i-preserved c =
           (slice_index_or c.deref-types_of_routes.result.now c.in-Ok.trip.route 0) c.loop-i.invariant.types c.in-Ok-push-2.ensures.items
           (ap (λ (xs : List ℕ). slice_index_or xs c.in-Ok.trip.route 0) c.deref-types_of_routes.ensures.value
           ∙ sym (ap (λ r. slice_index_or types (trip_or_none r).route 0) here));
+      routes = list_below-next (λ i. (trip_or_none (trip_at ids t i)).route) c.loop-i.i c.loop-i.numbers.items c.push-in-loop-i-2.new.self.items
+          c.in-Ok.trip.route c.loop-i.invariant.routes c.in-Ok-push-3.ensures.items (sym (ap (λ r. (trip_or_none r).route) here));
+      known = subst (All (λ route. route < length ids)) (sym c.in-Ok-push-3.ensures.items)
+          (All-push (λ route. route < length ids) c.loop-i.numbers.items c.in-Ok.trip.route c.loop-i.invariant.known c.in-Ok.ensures.route);
       none = first-next (bad_trip ids t) c.loop-i.i None c.loop-i.invariant.none (ap fault_in here);
     }

@@ -1,4 +1,4 @@
-use Rattle.std.proofs.Common.{◌≡◌, None, slice_index_or}
+use Rattle.std.proofs.Common.{◌≡◌, ◌<◌, All, length, None, slice_index_or}
 use Rattle.csv_rows.specs.First.{first_below}
 use Rattle.plan_model.specs.NameLists.{texts}
 use Rattle.csv_rows.specs.Lists.{list_below}
@@ -9,5 +9,7 @@ abbrev pub invariant-loop-i : goal.invariant-loop-i
 invariant-loop-i l = record {
   services : texts l.services.items ≡ list_below (λ i. (trip_or_none (trip_at l.routes.ids l.rows i)).service) l.i;
   types : l.types.items ≡ list_below (λ i. slice_index_or l.routes.types.items (trip_or_none (trip_at l.routes.ids l.rows i)).route 0) l.i;
+  routes : l.numbers.items ≡ list_below (λ i. (trip_or_none (trip_at l.routes.ids l.rows i)).route) l.i;
+  known : All (λ route. route < length l.routes.ids) l.numbers.items;
   none : first_below (bad_trip l.routes.ids l.rows) l.i ≡ None;
 }

@@ -52,6 +52,12 @@ returns-in-Ok-read_ids-clause-types_sized c =
     same_length (λ i. slice_index_or c.args.routes.now.types.items (trip_or_none (trip_at c.args.routes.now.ids t i)).route 0) (field_at t c.trip_columns-columns.result.id) (row_count t)
     _ _ c.in-Ok.ensures.types c.in-Ok-read_ids.ensures.ids
 
+pub returns-in-Ok-read_ids-clause-routes_sized : goal.returns-in-Ok-read_ids-clause-routes_sized
+returns-in-Ok-read_ids-clause-routes_sized c =
+    let t = c.args.rows.now in
+    same_length (λ i. (trip_or_none (trip_at c.args.routes.now.ids t i)).route) (field_at t c.trip_columns-columns.result.id) (row_count t)
+    _ _ c.in-Ok.ensures.routes c.in-Ok-read_ids.ensures.ids
+
 pub returns-in-Ok-read_ids-clause-services_sized : goal.returns-in-Ok-read_ids-clause-services_sized
 returns-in-Ok-read_ids-clause-services_sized c =
     let t = c.args.rows.now in
@@ -70,5 +76,5 @@ returns-in-Ok-read_ids-clause-sound c =
     let place = ap (λ (k : TripColumns). k.id) c.trip_columns-columns.ensures in (
       t,
       returns-in-Ok-read_ids-clause-none c,
-      (c.in-Ok-read_ids.ensures.ids ∙ ap (λ p. list_below (field_at t p) (row_count t)) place, c.in-Ok.ensures.services, c.in-Ok.ensures.types),
+      (c.in-Ok-read_ids.ensures.ids ∙ ap (λ p. list_below (field_at t p) (row_count t)) place, c.in-Ok.ensures.services, c.in-Ok.ensures.types, c.in-Ok.ensures.routes),
     )

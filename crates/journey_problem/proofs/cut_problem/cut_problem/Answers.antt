@@ -34,9 +34,9 @@ returns-clause-timetable g c =
     c.problem_in.ensures.network c.problem_in.ensures.valid c.problem_in.ensures.source c.problem_in.ensures.target
 
 pub returns-clause-causes : goal.returns-clause-causes
-returns-clause-causes g c = λ graph.
+returns-clause-causes g c = λ own.
     causes-quiet c.in-Ok-read_delay_file.delays c.problem_in.result
-    (causes-then {told = IsSome (g.F.Files.files c.args.files.now)} {path = path_by (CutFile c.args.path.now) (journey_shown c.args.journey.now) graph}
+    (causes-then {told = IsSome (g.F.Files.files c.args.files.now)} {path = path_by (CutFile c.args.path.now) (journey_shown c.args.journey.now) own}
     c.in-Ok.cut input.Delays (Ok c.in-Ok-read_delay_file.delays) (λ told. subst (λ (o : Option Folder). IsSome o) (sym c.in-Ok.ensures.same) told)
     (causes-path c.in-Ok.cut c.in-Ok.ensures.causes) c.in-Ok-read_delay_file.ensures.causes tt)
     c.problem_in.ensures.read

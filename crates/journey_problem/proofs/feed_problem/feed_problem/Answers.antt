@@ -32,7 +32,7 @@ returns-clause-problem g c =
     if_some_both (g.F.Files.files c.args.files.now) (g.F.Files.files c.read_folder.new.files)
     (λ (m : Folder). IsFolder limits m folder h) (λ (m : Folder). (delay_fault limits (file_at m j.delays) None ≡ None) × AreDelaysOf limits (file_at m j.delays) lists) _
     (λ m is delays. window_problem limits m folder c.args.horizon j h is lists delays.0 delays.1 c.window_problem.result c.window_problem.ensures.network
-    c.window_problem.ensures.few c.window_problem.ensures.source c.window_problem.ensures.target)
+    c.window_problem.ensures.no_window_fault c.window_problem.ensures.source c.window_problem.ensures.target)
     c.in-Ok.ensures.same c.in-Ok.ensures.folder c.in-Ok-read_delay_file.ensures.table
 
 pub returns-clause-fault : goal.returns-clause-fault
@@ -55,7 +55,7 @@ returns-clause-timetable g c =
 
 pub returns-clause-causes : goal.returns-clause-causes
 returns-clause-causes g c =
-    λ graph. causes-after {T = DelayLists} c.in-Ok.tables c.in-Ok-read_delay_file.delays c.window_problem.result c.in-Ok.ensures.cause c.in-Ok.ensures.path_cause
+    λ own. causes-after {T = DelayLists} c.in-Ok.tables c.in-Ok-read_delay_file.delays c.window_problem.result c.in-Ok.ensures.cause c.in-Ok.ensures.path_cause
     c.in-Ok-read_delay_file.ensures.causes c.window_problem.ensures.read
 
 pub returns-in-Err-read_delay_file-clause-early : goal.returns-in-Err-read_delay_file-clause-early

@@ -1,6 +1,6 @@
 use Rattle.std.specs.Prelude.{◌+◌}
 use Rattle.journey_problem.proofs.Loads.{if_some_any, bytes_of-unread}
-use Rattle.journey_problem.proofs.EarlyFacts.{early_read, early_missing, early_limit, graph_unread, graph_missing, graph_limit}
+use Rattle.journey_problem.proofs.EarlyFacts.{early_read, early_missing, early_limit}
 use Rattle.file_ports.specs.Ports.{file_at}
 use Rattle.journey_problem.proofs.inputs.load_bytes.Goals as goal
 
@@ -11,17 +11,8 @@ returns-in-Err-Read-clause-bytes g c =
 pub returns-in-Err-Read-clause-early : goal.returns-in-Err-Read-clause-early
 returns-in-Err-Read-clause-early g c = λ timetable own. early_read timetable c.args.input own
 
-pub returns-in-Err-Read-clause-graph : goal.returns-in-Err-Read-clause-graph
-returns-in-Err-Read-clause-graph g c = λ is other. graph_unread c.args.input is
-
 pub returns-in-Err-TooLong-clause-early : goal.returns-in-Err-TooLong-clause-early
 returns-in-Err-TooLong-clause-early g c = λ timetable own. early_limit timetable c.args.input own (c.args.limits.now.bytes + 1)
 
-pub returns-in-Err-TooLong-clause-graph : goal.returns-in-Err-TooLong-clause-graph
-returns-in-Err-TooLong-clause-graph g c = λ is other. graph_limit c.args.input is (c.args.limits.now.bytes + 1)
-
 pub returns-in-Ok-None-clause-early : goal.returns-in-Ok-None-clause-early
 returns-in-Ok-None-clause-early g c = λ timetable own. early_missing timetable c.args.input own
-
-pub returns-in-Ok-None-clause-graph : goal.returns-in-Ok-None-clause-graph
-returns-in-Ok-None-clause-graph g c = λ is other. graph_missing c.args.input is

@@ -1,25 +1,35 @@
-use Rattle.std.proofs.Common.{ℕ, List, Err, ◌≤◌, ◌∙◌, sym, subst, arith}
+use Rattle.std.proofs.Common.{◌≡◌, ℕ, List, Some, None, Err, ◌≤◌, ◌∙◌, sym, subst, arith}
+use Rattle.std.specs.Prelude.{◌≢◌}
 use Rattle.trip_replay.specs.Walk.{IsAnswer}
-use Rattle.meat_engine.specs.Replays.{trip_by}
+use Rattle.fault_lines.specs.declared.faults.Fault.{Fault}
+use Rattle.fault_lines.specs.declared.faults.Fault.TheVariants.{NoMemory}
+use Rattle.fault_lines.specs.Faults.{unread_of}
+use Rattle.fault_lines.specs.Sites.{last_printable, IsTellable}
+use Rattle.meat_engine.specs.Asks.{parts_of}
 use Rattle.command_line.specs.Jobs.{late_in}
+use Rattle.meat_engine.specs.Replays.{replay_as, trip_by, IsTripFault}
 use Rattle.meat_engine.proofs.TextLemmas.{arrivals}
-use Rattle.meat_engine.proofs.Trips.{stuck_placed, trip_refusal}
+use Rattle.meat_engine.proofs.Trips.{stuck_tellable, trip_fault, replay_unread}
 use Rattle.meat_engine.proofs.replays.trip.Goals as goal
-use Rattle.meat_engine.specs.Moments.{last_moment}
 
-pub refusal_of-requires-clause-place : goal.refusal_of-requires-clause-place
-refusal_of-requires-clause-place c =
-    stuck_placed c.args.problem.now c.args.file.head c.args.job.now.journey.start.0 c.count-count.ensures.valid c.requires.head c.requires.source c.requires.start c.in-Err.fault c.in-Err.ensures.stuck
-
-pub returns-in-Err-clause-fault : goal.returns-in-Err-clause-fault
-returns-in-Err-clause-fault c =
-    trip_refusal c.args.problem.now c.args.file.head c.args.file.graph (late_in c.args.job.now.late.now) c.in-Err.fault c.refusal_of.result c.refusal_of.ensures.refusal
-    (subst (λ (delays : List ℕ). IsAnswer (Err c.in-Err.fault) (trip_by c.args.problem.now c.args.file.head c.args.file.graph delays))
-    (c.as_slice.ensures.value ∙ c.in-Ok.ensures) c.in-Err.ensures.walk)
-    c.in-Err.ensures.safe
+pub returns-in-Err : goal.returns-in-Err
+returns-in-Err c =
+    let p = c.args.problem.now in
+    let late : List ℕ = late_in c.args.late.now in
+    let fault = c.in-Err.fault in
+    let is : IsAnswer (Err fault) (trip_by p c.args.head c.args.graph late) =
+    subst (λ (delays : List ℕ). IsAnswer (Err fault) (trip_by p c.args.head c.args.graph delays)) (c.as_slice.ensures.value ∙ c.in-Ok.ensures) c.in-Err.ensures.walk in
+    let named : replay_as fault ≡ c.fault_of.result = sym c.fault_of.ensures in
+    record {
+      told = tt;
+      fault = subst (λ (f : Fault). f ≢ NoMemory → IsTripFault p late f c.args.head c.args.graph) named (trip_fault p c.args.head c.args.graph late fault is c.in-Err.ensures.safe);
+      tellable = subst (IsTellable (Some (parts_of p))) named
+          (stuck_tellable p c.args.head.query c.requires.fit c.count-count.ensures.valid c.requires.source c.requires.start fault c.in-Err.ensures.stuck);
+      read = subst (λ (f : Fault). unread_of f ≡ None) named (replay_unread fault);
+    }
 
 pub trace_text-requires-clause-arrival : goal.trace_text-requires-clause-arrival
 trace_text-requires-clause-arrival c =
-    subst (λ (k : ℕ). k ≤ last_moment) (sym c.in-Ok-replay.ensures.arrival)
-    (arrivals c.args.problem.now.network c.count-count.ensures.valid c.args.file.head.query.start.0 c.in-Ok-replay.trace.rides
-    (omega (arith, c.requires.head.start, c.requires.start)) c.in-Ok-replay.ensures.rides)
+    subst (λ (k : ℕ). k ≤ last_printable) (sym c.in-Ok-replay.ensures.arrival)
+    (arrivals c.args.problem.now.network c.count-count.ensures.valid c.args.head.query.start.0 c.in-Ok-replay.trace.rides
+    (omega (arith, c.requires.start)) c.in-Ok-replay.ensures.rides)

@@ -2,13 +2,22 @@ use Rattle.std.proofs.Common.{◌≡◌, ◌∙◌, inl, inr, map, string_bytes,
 use Rattle.command_line.specs.Jobs.{Wanted}
 use Rattle.command_line.specs.Shown.{shown}
 use Rattle.fault_lines.specs.declared.faults.Input.{Input}
+use Rattle.fault_lines.specs.declared.faults.Fault.{Fault}
 use Rattle.fault_lines.specs.declared.faults.Fault.TheVariants.{Words, Read, Write, NoMemory}
+use Rattle.fault_lines.specs.Sites.{IsTellable}
+use Rattle.meat_engine.specs.Findings.{findings_of}
 use Rattle.meat_engine.specs.Received.{FailsJob}
 use Rattle.meat_engine.specs.Runs.{files_state, sink_state}
-use Rattle.meat_engine.proofs.Outcomes.{words_lined, job_cause, write_fails}
-use Rattle.meat_engine.proofs.Nameless.{no_names}
-use Rattle.meat_engine.proofs.Runs.{refused_run, answered_run, paths_of_job}
+use Rattle.meat_engine.specs.Refusals.{known_of}
+use Rattle.meat_engine.proofs.Outcomes.{job_cause, write_fails}
+use Rattle.meat_engine.proofs.Runs.{refused_run, answered_run, path_of_job}
 use Rattle.meat_engine.proofs.top.run_limited.Goals as goal
+
+pub refuse-requires : goal.refuse-requires
+refuse-requires g c = subst (λ (f : Fault). IsTellable (known_of c.plain.result) f) (sym c.plain.ensures.fault) tt
+
+pub refuse-requires-in-Err-answer_of : goal.refuse-requires-in-Err-answer_of
+refuse-requires-in-Err-answer_of g c = c.in-Err-answer_of.ensures.fault.tellable
 
 pub returns-in-Err : goal.returns-in-Err
 returns-in-Err g c =
@@ -19,8 +28,7 @@ returns-in-Err g c =
     let err_after = sink_state (g.E.Sink.written c.refuse.new.err) (g.E.Sink.faults c.refuse.new.err) in
     let wanted = c.plain.result.fault in
     let is : wanted ≡ Words c.in-Err.fault = c.plain.ensures.fault in
-    refused_run c.args.limits.now words c.refuse.result files files out err err_after no_names wanted
-    (c.refuse.ensures.told no_names (words_lined c.plain.result c.in-Err.fault no_names is c.plain.ensures.line))
+    refused_run c.args.limits.now words c.refuse.result files files out err err_after (known_of c.plain.result) wanted c.refuse.ensures.told
     c.refuse.ensures.status c.refuse.ensures.findings
     (inr (inl (c.in-Err.fault, is, sym c.in-Err.ensures.job)))
     (λ (write : wanted ≡ Write). let none : Words c.in-Err.fault ≡ Write = sym is ∙ write in absurd (cc))
@@ -42,15 +50,15 @@ returns-in-Err-answer_of g c =
     let wanted = shown c.in-Ok.job in
     let fault = c.in-Err-answer_of.refusal.fault in
     let why = c.in-Err-answer_of.ensures.fault in
+    let known = known_of c.in-Err-answer_of.refusal in
     let asked = sym c.in-Ok.ensures.job in
-    refused_run limits words c.refuse-in-Err-answer_of.result before after out err err_after why.0 fault
-    (c.refuse-in-Err-answer_of.ensures.told why.0 why.1)
+    refused_run limits words c.refuse-in-Err-answer_of.result before after out err err_after known fault c.refuse-in-Err-answer_of.ensures.told
     c.refuse-in-Err-answer_of.ensures.status c.refuse-in-Err-answer_of.ensures.findings
-    (job_cause told limits words wanted why.0 asked fault why.2)
-    (λ write. write_fails told limits words wanted why.0 (subst (FailsJob told limits wanted why.0) write (why.2 (λ memory. let none : Write ≡ NoMemory = sym write ∙ memory in absurd (cc)))))
+    (job_cause told limits words wanted known asked fault why.holds)
+    (λ write. write_fails told limits words wanted known (subst (FailsJob told limits wanted known) write (why.holds (λ memory. let none : Write ≡ NoMemory = sym write ∙ memory in absurd (cc)))))
     c.in-Err-answer_of.ensures.same
     (λ input read. c.in-Err-answer_of.ensures.causes.read input (cc))
-    (λ job input is some read. paths_of_job words job wanted before.faults_of after.faults_of input is asked (c.in-Err-answer_of.ensures.causes.read_path some input (cc)))
+    (λ job input is some read. path_of_job words job wanted before.faults_of after.faults_of input is asked (c.in-Err-answer_of.ensures.causes.read_path some input (cc)))
     (λ less. let read = c.in-Err-answer_of.ensures.causes.grew less in (read.0, (cc)))
 
 pub returns-in-Ok-answer_of : goal.returns-in-Ok-answer_of
@@ -62,7 +70,7 @@ returns-in-Ok-answer_of g c =
     let out_after = sink_state (g.O.Sink.written c.tell.new.out) (g.O.Sink.faults c.tell.new.out) in
     let err = sink_state (g.E.Sink.written c.args.err.now) (g.E.Sink.faults c.args.err.now) in
     let err_after = sink_state (g.E.Sink.written c.tell.new.err) (g.E.Sink.faults c.tell.new.err) in
-    answered_run c.args.limits.now (map string_bytes c.args.words.now) c.in-Ok-answer_of.answer.report c.tell.result c.in-Ok-answer_of.answer.text.items
+    answered_run c.args.limits.now (map string_bytes c.args.words.now) (findings_of c.in-Ok-answer_of.answer.report) c.tell.result c.in-Ok-answer_of.answer.text.items
     before after out out_after err err_after c.tell.ensures.out
     (shown c.in-Ok.job) (sym c.in-Ok.ensures.job) c.in-Ok-answer_of.ensures.answer c.tell.ensures.status c.tell.ensures.findings
     c.tell.ensures.quiet c.tell.ensures.told c.in-Ok-answer_of.ensures.same

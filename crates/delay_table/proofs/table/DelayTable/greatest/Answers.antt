@@ -1,6 +1,6 @@
 use Rattle.std.proofs.Common.{◌≤◌, ◌-◌, sym, subst, All, List, [], length, slice_index_or}
 use Rattle.plan_model.specs.declared.model.Outcome.{Outcome}
-use Rattle.delay_table.proofs.Classes.{greatest_last}
+use Rattle.delay_table.proofs.TypeFacts.{greatest_last}
 use Rattle.delay_table.proofs.table.DelayTable.greatest.Goals as goal
 
 pub returns-clause-all : goal.returns-clause-all

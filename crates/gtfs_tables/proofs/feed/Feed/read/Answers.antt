@@ -27,7 +27,7 @@ returns-in-Err-load_stop_times-clause-fault g c =
     let third = c.in-Ok-load_trips.ensures.same ∙ second in
     let trips = c.in-Ok-load_trips.trips in
     fault_at_times c.args.folder.now c.args.limits.now (g.F.Files.files c.args.files.now) c.in-Err-load_stop_times.fault c.in-Ok.stops.ids c.in-Ok-load_routes.routes.ids
-    trips.ids (texts trips.of_trips.services.items) c.in-Ok.stops.places.items c.in-Ok-load_routes.routes.types.items trips.of_trips.types.items
+    trips.ids (texts trips.of_trips.services.items) c.in-Ok.stops.places.items c.in-Ok-load_routes.routes.types.items trips.of_trips.types.items trips.of_trips.routes.items
     c.in-Err-load_stop_times.ensures.own c.in-Ok.ensures.stops (if_same _ _ _ first c.in-Ok-load_routes.ensures.routes)
     (if_same _ _ _ second c.in-Ok-load_trips.ensures.trips) (if_same _ _ _ third c.in-Err-load_stop_times.ensures.fault)
 
@@ -38,11 +38,13 @@ invariant_of-result g c =
       places = c.in-Ok.ensures.sized;
       services = c.in-Ok-load_trips.ensures.services_sized;
       types = c.in-Ok-load_trips.ensures.types_sized;
+      routes = c.in-Ok-load_trips.ensures.routes_sized;
+      known = c.in-Ok-load_trips.ensures.known;
       visits = c.in-Ok-load_stop_times.ensures.sized;
       few_stops = c.in-Ok.ensures.few;
       few_trips = c.in-Ok-load_trips.ensures.few;
       sound = sound_feed c.in-Ok.stops.ids c.in-Ok-load_routes.routes.ids trips.ids (texts trips.of_trips.services.items) c.in-Ok.stops.places.items
-          c.in-Ok-load_routes.routes.types.items trips.of_trips.types.items (map vec_items c.in-Ok-load_stop_times.visits.items)
+          c.in-Ok-load_routes.routes.types.items trips.of_trips.types.items trips.of_trips.routes.items (map vec_items c.in-Ok-load_stop_times.visits.items)
           c.in-Ok.ensures.sound c.in-Ok-load_routes.ensures.sound c.in-Ok-load_trips.ensures.sound c.in-Ok-load_stop_times.ensures.sound;
     }
 
@@ -54,7 +56,7 @@ returns-in-Ok-check_frequencies-clause-feed g c =
     let fourth = c.in-Ok-load_stop_times.ensures.same ∙ third in
     let trips = c.in-Ok-load_trips.trips in
     feed_of_tables c.args.folder.now c.args.limits.now (g.F.Files.files c.args.files.now) c.in-Ok.stops.ids c.in-Ok-load_routes.routes.ids
-    trips.ids (texts trips.of_trips.services.items) c.in-Ok.stops.places.items c.in-Ok-load_routes.routes.types.items trips.of_trips.types.items
+    trips.ids (texts trips.of_trips.services.items) c.in-Ok.stops.places.items c.in-Ok-load_routes.routes.types.items trips.of_trips.types.items trips.of_trips.routes.items
     (map vec_items c.in-Ok-load_stop_times.visits.items) c.in-Ok.ensures.stops (if_same _ _ _ first c.in-Ok-load_routes.ensures.routes)
     (if_same _ _ _ second c.in-Ok-load_trips.ensures.trips) (if_same _ _ _ third c.in-Ok-load_stop_times.ensures.visits)
     (if_same _ _ _ fourth c.in-Ok-check_frequencies.ensures.none)
@@ -67,7 +69,7 @@ returns-in-Err-check_frequencies-clause-fault g c =
     let fourth = c.in-Ok-load_stop_times.ensures.same ∙ third in
     let trips = c.in-Ok-load_trips.trips in
     fault_at_frequencies c.args.folder.now c.args.limits.now (g.F.Files.files c.args.files.now) c.in-Err-check_frequencies.fault c.in-Ok.stops.ids c.in-Ok-load_routes.routes.ids
-    trips.ids (texts trips.of_trips.services.items) c.in-Ok.stops.places.items c.in-Ok-load_routes.routes.types.items trips.of_trips.types.items
+    trips.ids (texts trips.of_trips.services.items) c.in-Ok.stops.places.items c.in-Ok-load_routes.routes.types.items trips.of_trips.types.items trips.of_trips.routes.items
     (map vec_items c.in-Ok-load_stop_times.visits.items) c.in-Err-check_frequencies.ensures.own c.in-Ok.ensures.stops
     (if_same _ _ _ first c.in-Ok-load_routes.ensures.routes) (if_same _ _ _ second c.in-Ok-load_trips.ensures.trips)
     (if_same _ _ _ third c.in-Ok-load_stop_times.ensures.visits) (if_same _ _ _ fourth c.in-Err-check_frequencies.ensures.fault)

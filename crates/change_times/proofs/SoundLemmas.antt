@@ -1,0 +1,82 @@
+-- Ways that rise, come from others and take a second to a day.
+use Rattle.std.proofs.Common.{◌≡◌, ◌≢◌, ℕ, zero, suc, ◌+◌, ◌<◌, ◌≤◌, max, List, [], ◌∷◌, ◌++◌, length, get_or, All, Option, Some, None, sym, ap, ◌∙◌, subst, arith, length-append, ⊎_elim}
+use Rattle.std.proofs.lemmas.Bool.{cases_lt}
+use Rattle.std.proofs.lemmas.List.{append-nil, get_or_append_left, get_or_past, get_or_push}
+use Rattle.std.proofs.lemmas.List.Elements.{All-get_or, All-nil, All-push}
+use Rattle.plan_model.specs.declared.model.Way.{Way}
+use Rattle.change_times.specs.Links.{way_from, ways_below, ways_at}
+use Rattle.plan_model.specs.Network.{AreLinksInto}
+use Rattle.change_times.specs.declared.changes.Told.{Told}
+use Rattle.gtfs_tables.specs.Feeds.{FeedParts, Records}
+use Rattle.change_times.specs.Transfers.{told_by}
+use Rattle.change_times.specs.Told.{AreTold}
+use Rattle.change_times.specs.Walks.{walks_of, most_to, link_between}
+use Rattle.change_times.proofs.ChangeLemmas.{no_own_link}
+use Rattle.change_times.proofs.GreatestLemmas.{IsShort, greatest-none}
+use Rattle.change_times.proofs.LinkLemmas.{ways-zero, ways-next, ways_before}
+
+abbrev Rises : Way → Way → Type 0
+Rises a b = a.from.0 < b.from.0
+
+abbrev Takes : Way → Type 0
+Takes way = (1 ≤ way.seconds) × (way.seconds ≤ 86400)
+
+pub no_links : (places r : ℕ) (ws : List Way) → ws ≡ [] → AreLinksInto places r ws
+no_links places r ws e = subst (AreLinksInto places r) (sym e) (record {
+  rising = λ i j d l h. absurd (omega arith);
+  inside = All-nil (λ (way : Way). way.from.0 < places);
+  others = All-nil (λ (way : Way). way.from.0 ≢ r);
+  takes = All-nil Takes;
+})
+
+add : (places r n : ℕ) (ws : List Way) (o : Option ℕ) → n < places → (n ≡ r → o ≡ None) → IsShort o → All (λ (way : Way). way.from.0 < n) ws → AreLinksInto places r ws → AreLinksInto places r (ws ++ way_from n o)
+add places r n ws None less own short before are = subst (AreLinksInto places r) (sym (append-nil ws)) are
+add places r n ws (Some s) less own short before are =
+    let w : Way = record { from = record { 0 = n }; seconds = max 1 s } in
+    let size : length (ws ++ w ∷ []) ≡ length ws + 1 = length-append ws (w ∷ []) in
+    record {
+      rising = λ i j d l h.
+          ⊎_elim (λ (low : j < length ws).
+          let P : Way → Way → Type 0 = Rises in
+          subst (λ x. Rises x (get_or (ws ++ w ∷ []) j d)) (sym (get_or_append_left ws (w ∷ []) d i (omega arith)))
+          (subst (Rises (get_or ws i d)) (sym (get_or_append_left ws (w ∷ []) d j low)) (are.rising i j d l low)))
+          (λ (high : length ws ≤ j).
+          let end : length ws ≡ j = omega (arith, size) in
+          subst (λ x. Rises x (get_or (ws ++ w ∷ []) j d)) (sym (get_or_append_left ws (w ∷ []) d i (omega arith)))
+          (subst (Rises (get_or ws i d)) (sym (get_or_push ws w d j end)) (All-get_or (λ (way : Way). way.from.0 < n) ws i d (omega arith) before)))
+          (cases_lt j (length ws));
+      inside = All-push (λ (way : Way). way.from.0 < places) ws w are.inside less;
+      others = All-push (λ (way : Way). way.from.0 ≢ r) ws w are.others (λ e. let none : Some s ≡ None = own e in absurd (cc));
+      takes = All-push Takes ws w are.takes (omega arith, omega (arith, short));
+    }
+
+pub sound : (places r n : ℕ) (f : ℕ → Option ℕ) → n ≤ places → f r ≡ None → ((i : ℕ) → IsShort (f i)) → AreLinksInto places r (ways_below f n)
+sound places r zero f few own short = no_links places r (ways_below f 0) (ways-zero f)
+sound places r (suc n) f few own short =
+    let e : n + 1 ≡ suc n = omega arith in
+    subst (λ k. AreLinksInto places r (ways_below f k)) e
+    (subst (AreLinksInto places r) (sym (ways-next f n))
+    (add places r n (ways_below f n) (f n) (omega arith) (λ same. ap f same ∙ own) (short n) (ways_before f n) (sound places r n f (omega arith) own short)))
+
+-- the links that rows tell, by the walks that they tell
+module _ (feed : FeedParts) (t : Records) (n : ℕ) (told : Told) (is : AreTold feed t n told) (links : List (List Way)) (size : length links ≡ length feed.stop_ids)
+    (ways : (to : ℕ) → to < length feed.stop_ids → ways_at links to ≡ ways_below (λ from. most_to to (walks_of told.walks.items from)) (length feed.stop_ids)) where
+  told_into : (places to : ℕ) → length feed.stop_ids ≤ places → to < length feed.stop_ids → AreLinksInto places to (ways_at links to)
+  told_into places to few inside =
+      subst (AreLinksInto places to) (sym (ways to inside))
+      (sound places to (length feed.stop_ids) (λ from. most_to to (walks_of told.walks.items from)) few
+      (is.walks to to ∙ greatest-none (λ i. link_between to to (told_by feed t i)) n (λ i. no_own_link to (told_by feed t i)))
+      (λ from. subst IsShort (sym (is.walks from to)) (is.brief from to)))
+
+  pub told_sound : length feed.stop_ids ≤ 4294967296 → (to : ℕ) → AreLinksInto 4294967296 to (ways_at links to)
+  told_sound few to =
+      ⊎_elim (λ (inside : to < length feed.stop_ids). told_into 4294967296 to few inside)
+      (λ (past : length feed.stop_ids ≤ to). no_links 4294967296 to (ways_at links to) (get_or_past links to [] (omega (arith, size))))
+      (cases_lt to (length feed.stop_ids))
+
+  pub told_from : (to : ℕ) → All (λ (way : Way). way.from.0 < length feed.stop_ids) (ways_at links to)
+  told_from to =
+      ⊎_elim (λ (inside : to < length feed.stop_ids). (told_into (length feed.stop_ids) to (omega arith) inside).inside)
+      (λ (past : length feed.stop_ids ≤ to).
+      subst (All (λ (way : Way). way.from.0 < length feed.stop_ids)) (sym (get_or_past links to [] (omega (arith, size)))) (All-nil (λ (way : Way). way.from.0 < length feed.stop_ids)))
+      (cases_lt to (length feed.stop_ids))

@@ -1,0 +1,54 @@
+use Rattle.std.proofs.Common.{◌≡◌, ◌+◌, None, refl, is_none, nat_eq, sym, ap, ◌∙◌, arith}
+use Rattle.std.specs.HashMap.{get}
+use Rattle.csv_rows.specs.RowFaults.{fault_in, value_or}
+use Rattle.csv_rows.specs.Tables.{row_count}
+use Rattle.csv_rows.proofs.FirstLemmas.{first-zero, first-next, first-at}
+use Rattle.change_times.specs.Transfers.{bad_transfer, told_by}
+use Rattle.change_times.specs.Walks.{seconds_between, link_between, walks_of, most_to}
+use Rattle.change_times.specs.Changes.{greatest_link}
+use Rattle.change_times.proofs.ChangeLemmas.{transfer_is, count-next, one_at_most, short_between, short_link}
+use Rattle.change_times.proofs.GreatestLemmas.{greatest-next, short_next}
+use Rattle.change_times.proofs.changes.tell.Goals as goal
+
+pub loop-i-init : goal.loop-i-init
+loop-i-init c = record { told = c.requires.nothing; none = first-zero (bad_transfer c.args.feed.now c.args.rows.now) }
+
+pub returns-in-Err-clause-fault : goal.returns-in-Err-clause-fault
+returns-in-Err-clause-fault c = λ free.
+    let feed = c.args.feed.now in
+    let t = c.args.rows.now in
+    first-at (bad_transfer feed t) c.loop-i.i (row_count t) c.in-Err.fault (omega arith) c.loop-i.invariant.none
+    (ap fault_in (transfer_is feed t c.args.columns c.loop-i.i _ c.requires.columns c.in-Err.ensures.fault))
+
+pub loop-i-preserved : goal.loop-i-preserved
+loop-i-preserved c =
+    let feed = c.args.feed.now in
+    let t = c.args.rows.now in
+    let i = c.loop-i.i in
+    let old = c.loop-i.invariant.told in
+    let here = transfer_is feed t c.args.columns i _ c.requires.columns c.in-Ok.ensures.transfer in
+    let told : told_by feed t i ≡ c.in-Ok.transfer = ap (value_or None) here in
+    let step = c.in-Ok-note.ensures in
+    let old_told = c.loop-i.told in
+    let new_told = c.note.new.told in
+    record {
+      told = record {
+        size = step.size ∙ old.size;
+        seconds = λ place.
+            greatest-next (λ k. seconds_between place place (told_by feed t k)) i (get nat_eq old_told.seconds place) (get nat_eq new_told.seconds place)
+            (seconds_between place place c.in-Ok.transfer) (old.seconds place) (step.seconds place) (ap (seconds_between place place) told);
+        walks = λ from to.
+            greatest-next (λ k. link_between from to (told_by feed t k)) i (most_to to (walks_of old_told.walks.items from)) (most_to to (walks_of new_told.walks.items from))
+            (link_between from to c.in-Ok.transfer) (old.walks from to) (step.walks from to) (ap (link_between from to) told);
+        short = λ place.
+            short_next (get nat_eq old_told.seconds place) (get nat_eq new_told.seconds place) (seconds_between place place c.in-Ok.transfer) (old.short place)
+            (short_between place place c.in-Ok.transfer c.in-Ok.ensures.short) (step.seconds place);
+        brief = λ from to.
+            short_next (greatest_link feed t i from to) (greatest_link feed t (i + 1) from to) (link_between from to c.in-Ok.transfer) (old.brief from to)
+            (short_link from to c.in-Ok.transfer c.in-Ok.ensures.short)
+            (sym (greatest-next (λ k. link_between from to (told_by feed t k)) i (greatest_link feed t i from to) _ (link_between from to c.in-Ok.transfer) refl refl (ap (link_between from to) told)));
+        passed = count-next is_none (told_by feed t) i old_told.passed new_told.passed c.in-Ok.transfer old.passed step.passed told;
+        few = omega (arith, old.few, step.passed, one_at_most (is_none c.in-Ok.transfer));
+      };
+      none = first-next (bad_transfer feed t) i None c.loop-i.invariant.none (ap fault_in here);
+    }

@@ -1,0 +1,25 @@
+use Rattle.std.proofs.Common.{◌++◌, ◌<◌, Option, ℕ, length, take, sym, ap, ◌∙◌, arith}
+use Rattle.std.proofs.lemmas.List.{take_all}
+use Rattle.change_times.specs.Links.{way_from}
+use Rattle.change_times.specs.Walks.{most_to}
+use Rattle.change_times.proofs.LinkLemmas.{most-next}
+use Rattle.change_times.proofs.links.put_walks.Goals as goal
+
+pub loop-walk-preserved : goal.loop-walk-preserved
+loop-walk-preserved c =
+    let walks = c.args.walks.now in
+    let i = c.loop-walk.walk-index in
+    let inv = c.loop-walk.invariant in
+    let inside : i < length walks = omega (arith, c.loop-walk-test.true) in
+    record {
+      size = c.in_ok-put_walk.ensures.size ∙ inv.size;
+      ways = λ to base less before e.
+          c.in_ok-put_walk.ensures.ways to base (most_to to (take i walks)) (omega (arith, inv.size, less)) before (inv.ways to base less before e)
+          ∙ ap (λ (o : Option ℕ). base ++ way_from c.args.from o) (sym (most-next to walks i _ inside));
+    }
+
+pub returns-clause-ways : goal.returns-clause-ways
+returns-clause-ways c =
+    λ to base less before e.
+    c.loop-walk.invariant.ways to base less before e
+    ∙ ap (λ ws. base ++ way_from c.args.from (most_to to ws)) (take_all c.loop-walk.walk-index c.args.walks.now (omega (arith, c.loop-walk-test.false)))

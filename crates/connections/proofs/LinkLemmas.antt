@@ -1,0 +1,32 @@
+-- The links of a network, and its names with them.
+use Rattle.std.proofs.Common.{◌≡◌, ℕ, ◌<◌, List, [], length, get_or, refl, sym, ap, ◌∙◌, subst, arith}
+use Rattle.std.specs.Prelude.{slice_index_or}
+use Rattle.csv_rows.specs.Lists.{list_below}
+use Rattle.csv_rows.proofs.ListLemmas.{get-list_below}
+use Rattle.plan_model.specs.declared.model.Connection.{Connection}
+use Rattle.plan_model.specs.declared.model.Way.{Way}
+use Rattle.plan_model.specs.NameLists.{NameLists, NamesFit}
+use Rattle.plan_model.specs.Network.{AreLinksInto, connection, no_connection}
+use Rattle.plan_model.specs.Parts.{Parts}
+use Rattle.change_times.specs.Changes.{ChangeParts, links_of, LinksComeFrom}
+
+-- the links of changes, one list for each of so many places, are links of a network with so many
+pub links_fit : (places : ℕ) (c : ChangeParts) → ((to : ℕ) → AreLinksInto 4294967296 to (links_of c to)) → LinksComeFrom places c → (links : List (List Way))
+    → links ≡ list_below (links_of c) places → (r : ℕ) → r < places → AreLinksInto places r (slice_index_or links r [])
+links_fit places c are from links e r inside =
+    let here : slice_index_or links r [] ≡ links_of c r = ap (λ ls. slice_index_or ls r []) e ∙ get-list_below (links_of c) places r [] inside in
+    let a = are r in
+    subst (AreLinksInto places r) (sym here) (record { rising = a.rising; inside = from r; others = a.others; takes = a.takes })
+
+-- names fit by the connections and the places alone
+pub names_fit : (names : NameLists) (n m : Parts) → n.connections ≡ m.connections → n.change ≡ m.change → NamesFit names n → NamesFit names m
+unfolding connection
+names_fit names n m e h a =
+    let run : (i : ℕ) → (get_or n.connections i no_connection).run.0 ≡ (get_or m.connections i no_connection).run.0 = λ i. ap (λ (cs : List Connection). (get_or cs i no_connection).run.0) e in
+    record {
+      places = a.places ∙ ap length h;
+      below = λ i l. omega (arith, run i, a.below i (omega (arith, ap length e, l)));
+      each = λ r l. let x = a.each r l in (x.0, omega (arith, ap length e, x.1), sym (run x.0) ∙ x.2);
+      place_names = a.place_names;
+      run_names = a.run_names;
+    }

@@ -1,0 +1,48 @@
+-- What the connections of a window add up to: a sum over its service days, the trips of the feed and their kept rows.
+use Rattle.std.specs.Prelude.{ℕ, ◌+◌, List, length, sum_by, if◌then◌else◌}
+use Rattle.plan_model.specs.declared.model.PlaceId.{PlaceId}
+use Rattle.gtfs_tables.specs.declared.stop_times.StopRow.{StopRow}
+use Rattle.gtfs_tables.specs.Feeds.{FeedParts}
+use Rattle.gtfs_tables.specs.Timed.{rows_of, kept_at}
+use Rattle.service_days.specs.Services.{ServiceParts}
+use Rattle.change_times.specs.Changes.{ChangeParts, links_of}
+use Rattle.connections.specs.declared.counts.Counted.{Counted}
+use Rattle.connections.specs.declared.counts.Counted.TheVariants.{Connections, Entries}
+use Rattle.connections.specs.declared.window.Window.{Window}
+use Rattle.connections.specs.Joins.{sum_below}
+use Rattle.connections.specs.Window.{first_day}
+use Rattle.connections.specs.Rides.{is_active, steps_of}
+
+-- what the connections of a trip with these kept rows add up to, by the places that they leave
+abbrev pub steps_sum : (PlaceId → ℕ) → Window → List StopRow → ℕ → ℕ
+steps_sum each w rows day = sum_by (λ k. each (kept_at rows k).place) (steps_of w rows day)
+
+module _ (each : PlaceId → ℕ) (f : FeedParts) (s : ServiceParts) (w : Window) where
+  -- the same of a trip on a service day
+  abbrev pub trip_sum : (day trip : ℕ) → ℕ
+  trip_sum day trip = if is_active f s day trip then steps_sum each w (rows_of f trip) day else 0
+
+  -- the same of the first n trips
+  unfoldable pub day_sum : (day n : ℕ) → ℕ
+  day_sum day n = sum_below (trip_sum day) n
+
+  -- and of the first n service days
+  unfoldable pub days_sum : (n : ℕ) → ℕ
+  days_sum n = sum_below (λ d. day_sum (first_day w + d) (length f.trip_ids)) n
+
+-- what the connections of a window add up to
+abbrev pub window_sum : (PlaceId → ℕ) → FeedParts → ServiceParts → Window → ℕ
+window_sum each f s w = days_sum each f s w 11
+
+-- what a connection counts for: one, or the ways into the place that it leaves, which are the change there and the links
+abbrev pub each_of : ChangeParts → Counted → PlaceId → ℕ
+each_of c Connections place = 1
+each_of c Entries place = length (links_of c place.0) + 1
+
+-- how many connections a window has
+abbrev pub count_in : FeedParts → ServiceParts → Window → ℕ
+count_in f s w = window_sum (λ place. 1) f s w
+
+-- how many entries it has: pairs of a connection and a way into the place that it leaves
+abbrev pub entries_in : FeedParts → ServiceParts → ChangeParts → Window → ℕ
+entries_in f s c w = window_sum (each_of c Entries) f s w

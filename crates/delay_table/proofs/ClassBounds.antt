@@ -1,0 +1,70 @@
+-- The class of a connection is one of those of the table.
+use Rattle.std.proofs.Common.{◌≡◌, ℕ, ◌+◌, ◌<◌, ◌==◌, Bool, true, false, List, length, slice_index, Option, Some, None, IfSome, option_map, if◌then◌else◌, refl, subst, arith}
+use Rattle.std.specs.Prelude.{unwrap_or}
+use Rattle.csv_rows.specs.First.{or_else}
+use Rattle.csv_rows.proofs.FirstLemmas.{first-is}
+use Rattle.delay_table.specs.DelayLists.{DelayLists, class_for, hour_class, hour_of, other_class, route_class, type_class, type_place}
+use Rattle.delay_table.specs.Groups.{Group, place_of}
+use Rattle.delay_table.specs.Slots.{AreDelays}
+use Rattle.delay_table.proofs.GroupFacts.{group-here, some_test}
+
+module _ (n : ℕ) where
+  -- it is below n, where it is there
+  abbrev pub Is : Option ℕ → Type 0
+  Is o = IfSome o (λ k. k < n)
+
+  pub either : (a b : Option ℕ) → Is a → Is b → Is (or_else a b)
+  either None b h k = k
+  either (Some x) b h k = h
+
+  pub chosen : (o : Option ℕ) → 0 < n → Is o → unwrap_or o 0 < n
+  chosen None some h = some
+  chosen (Some x) some h = h
+
+type-inside : (types : List ℕ) (route k : ℕ) → type_place types route ≡ Some k → k < length types
+unfolding type_place
+type-inside types route k h =
+    let w = first-is (λ i. if slice_index types i == route then Some i else None) (length types) k h in
+    let t = some_test (slice_index types w.place == route) w.place k w.here in
+    subst (λ i. i < length types) t.1 w.inside
+
+shifted : (o : Option ℕ) (by n : ℕ) → ((k : ℕ) → o ≡ Some k → by + k < n) → IfSome (option_map (λ k. by + k) o) (λ k. k < n)
+shifted None by n h = tt
+shifted (Some k) by n h = h k refl
+
+raised : (o : Option ℕ) (n : ℕ) → ((k : ℕ) → o ≡ Some k → k + 1 < n) → IfSome (option_map (λ k. k + 1) o) (λ k. k < n)
+raised None n h = tt
+raised (Some k) n h = h k refl
+
+module _ (d : DelayLists) (s : AreDelays d) where
+  abbrev Inside : Option ℕ → Type 0
+  Inside o = IfSome o (λ k. k < length d.classes)
+
+  some : 0 < length d.classes
+  some = omega (arith, s.each)
+
+  other-inside : (group : Group) → Inside (other_class d group)
+  other-inside group = shifted (place_of group d.others) (length d.types + 1) (length d.classes) (λ k e. omega (arith, s.each, (group-here group d.others k e).0))
+
+  route-inside : (route : Option (List ℕ)) (hour : Option ℕ) → Inside (route_class d route hour)
+  route-inside None hour = tt
+  route-inside (Some route) hour = other-inside (record { class = None; route = Some route; hour = hour })
+
+  type-class-inside : (class : Option ℕ) → Inside (type_class d class)
+  type-class-inside None = some
+  type-class-inside (Some route) = raised (type_place d.types route) (length d.classes) (λ k e. omega (arith, s.each, type-inside d.types route k e))
+
+  pub class_for-inside : (class : Option ℕ) (route : Option (List ℕ)) (arr : ℕ) → class_for d class route arr < length d.classes
+  unfolding class_for
+  class_for-inside class route arr =
+      let n = length d.classes in
+      let hour = hour_of arr in
+      let A = route_class d route (Some hour) in
+      let B = route_class d route None in
+      let C = hour_class d class hour in
+      let D = type_class d class in
+      let E = hour_class d None hour in
+      let last = either n D E (type-class-inside class) (other-inside (record { class = None; route = None; hour = Some hour })) in
+      let hours = either n C (or_else D E) (other-inside (record { class = class; route = None; hour = Some hour })) last in
+      let routes = either n B (or_else C (or_else D E)) (route-inside route None) hours in
+      chosen n (or_else A (or_else B (or_else C (or_else D E)))) some (either n A (or_else B (or_else C (or_else D E))) (route-inside route (Some hour)) routes)

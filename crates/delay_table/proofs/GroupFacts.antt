@@ -1,0 +1,121 @@
+-- Groups that are the same, and where a group stands among others.
+use Rattle.std.proofs.Common.{◌≡◌, ℕ, ◌+◌, ◌<◌, ◌≤◌, Bool, true, false, ◌&&◌, List, [], ◌∷◌, ◌++◌, length, Option, Some, None, if◌then◌else◌, refl, sym, ap, ap₂, ◌∙◌, subst, arith, ⊎_elim, add-one, length-append}
+use Rattle.std.specs.Str.{bytes_eq}
+use Rattle.std.proofs.lemmas.Bool.{cases_lt}
+use Rattle.std.proofs.lemmas.List.{get_or_append_left, get_or_push}
+use Rattle.std.proofs.lemmas.Slice.Eq.{bytes_eq-Decides}
+use Rattle.csv_rows.specs.First.{or_else, first_below}
+use Rattle.csv_rows.proofs.FirstLemmas.{first-at, first-is, first-none, first-same, first-suc, none-each, true_or_false}
+use Rattle.csv_rows.proofs.TestLemmas.{eq_test, eq_true, and_parts, and_true}
+use Rattle.delay_table.specs.Groups.{Group, same_if, same_number, same_group, of_class, group_in, place_of}
+use Rattle.delay_table.specs.Read.{AreApart}
+
+same_if-equal : {A : Type 0} (same : A → A → Bool) → ((a b : A) → same a b ≡ true → a ≡ b) → (x y : Option A) → same_if same x y ≡ true → x ≡ y
+same_if-equal same decides None None h = refl
+same_if-equal same decides None (Some b) h = absurd (cc)
+same_if-equal same decides (Some a) None h = absurd (cc)
+same_if-equal same decides (Some a) (Some b) h = ap Some (decides a b h)
+
+same_if-self : {A : Type 0} (same : A → A → Bool) → ((a : A) → same a a ≡ true) → (x : Option A) → same_if same x x ≡ true
+same_if-self same self None = refl
+same_if-self same self (Some a) = self a
+
+pub same-equal : (a b : Group) → same_group a b ≡ true → a ≡ b
+unfolding same_group
+same-equal a b h =
+    let p = and_parts (same_if same_number a.class b.class) (same_if bytes_eq a.route b.route && same_if same_number a.hour b.hour) h in
+    let q = and_parts (same_if bytes_eq a.route b.route) (same_if same_number a.hour b.hour) p.1 in
+    let class : a.class ≡ b.class = same_if-equal same_number eq_test a.class b.class p.0 in
+    let route : a.route ≡ b.route = same_if-equal bytes_eq (λ x y. (bytes_eq-Decides x y).0) a.route b.route q.0 in
+    let hour : a.hour ≡ b.hour = same_if-equal same_number eq_test a.hour b.hour q.1 in
+    λ i. record { class = class i; route = route i; hour = hour i }
+
+pub same-self : (a : Group) → same_group a a ≡ true
+unfolding same_group
+same-self a =
+    let number : (n : ℕ) → same_number n n ≡ true = λ n. eq_true n n refl in
+    and_true (same_if same_number a.class a.class) (same_if bytes_eq a.route a.route && same_if same_number a.hour a.hour) (same_if-self same_number number a.class)
+    (and_true (same_if bytes_eq a.route a.route) (same_if same_number a.hour a.hour) (same_if-self bytes_eq (λ x. (bytes_eq-Decides x x).1 refl) a.route)
+    (same_if-self same_number number a.hour))
+
+pub same-true : (a b : Group) → a ≡ b → same_group a b ≡ true
+same-true a b e = subst (λ (x : Group). same_group a x ≡ true) e (same-self a)
+
+pub same-false : (a b : Group) → (a ≡ b → ⊥) → same_group a b ≡ false
+same-false a b h = ⊎_elim (λ (t : same_group a b ≡ true). absurd (h (same-equal a b t))) (λ (f : same_group a b ≡ false). f) (true_or_false (same_group a b))
+
+pub false-same : (a b : Group) → same_group a b ≡ false → a ≡ b → ⊥
+false-same a b f e = let t = same-true a b e in absurd (cc)
+
+place_test : Group → List Group → ℕ → Option ℕ
+place_test group groups k = if same_group (group_in groups k) group then Some k else None
+
+pub some_test : (b : Bool) (i k : ℕ) → (if b then Some i else None) ≡ Some k → (b ≡ true) × (i ≡ k)
+some_test true i k e = (refl, cc)
+some_test false i k e = absurd (cc)
+
+none_test : (b : Bool) (i : ℕ) → (if b then Some i else None) ≡ None → b ≡ false
+none_test true i e = absurd (cc)
+none_test false i e = refl
+
+-- what stands at the place of a group
+pub group-here : (group : Group) (groups : List Group) (k : ℕ) → place_of group groups ≡ Some k → (k < length groups) × (group_in groups k ≡ group)
+unfolding place_of place_test
+group-here group groups k h =
+    let w = first-is (place_test group groups) (length groups) k h in
+    let t = some_test (same_group (group_in groups w.place) group) w.place k w.here in
+    let P : ℕ → Type 0 = λ i. (i < length groups) × (group_in groups i ≡ group) in
+    subst P t.1 (w.inside, same-equal (group_in groups w.place) group t.0)
+
+-- a group that has no place stands nowhere
+pub nowhere : (group : Group) (groups : List Group) → place_of group groups ≡ None → (k : ℕ) → k < length groups → group_in groups k ≡ group → ⊥
+unfolding place_of place_test
+nowhere group groups h k l =
+    false-same (group_in groups k) group (none_test (same_group (group_in groups k) group) k (none-each (place_test group groups) (length groups) h k l))
+
+pub none-place : (group : Group) (groups : List Group) → ((k : ℕ) → k < length groups → group_in groups k ≡ group → ⊥) → place_of group groups ≡ None
+unfolding place_of place_test
+none-place group groups h =
+    first-none (place_test group groups) (length groups) (λ k l. ap (λ b. if b then Some k else None) (same-false (group_in groups k) group (h k l)))
+
+-- the first place at which it stands
+pub place-first : (group : Group) (groups : List Group) (k : ℕ) → k < length groups → group_in groups k ≡ group → ((j : ℕ) → j < k → group_in groups j ≡ group → ⊥) → place_of group groups ≡ Some k
+unfolding place_of place_test
+place-first group groups k l e first =
+    let f : ℕ → Option ℕ = place_test group groups in
+    first-at f k (length groups) k l
+    (first-none f k (λ j less. ap (λ b. if b then Some j else None) (same-false (group_in groups j) group (first j less))))
+    (ap (λ b. if b then Some k else None) (same-true (group_in groups k) group e))
+
+-- groups that stand at two places differ
+pub apart-ne : (groups : List Group) → AreApart groups → (j k : ℕ) → j < length groups → k < length groups → (j ≡ k → ⊥) → group_in groups j ≡ group_in groups k → ⊥
+apart-ne groups apart j k inside within ne e =
+    ⊎_elim (λ (less : j < k). false-same (group_in groups j) (group_in groups k) (apart j k less within) e)
+    (λ (ge : k ≤ j). ⊎_elim (λ (less : k < j). false-same (group_in groups k) (group_in groups j) (apart k j less inside) (sym e))
+    (λ (le : j ≤ k). absurd (ne (omega arith))) (cases_lt k j)) (cases_lt j k)
+
+-- and each has its own place
+pub place-at : (groups : List Group) → AreApart groups → (k : ℕ) → k < length groups → place_of (group_in groups k) groups ≡ Some k
+place-at groups apart k l =
+    place-first (group_in groups k) groups k l refl (λ j less. false-same (group_in groups j) (group_in groups k) (apart j k less l))
+
+-- one more group
+pub place-push : (group : Group) (groups : List Group) (x : Group) → place_of group (groups ++ x ∷ []) ≡ or_else (place_of group groups) (if same_group x group then Some (length groups) else None)
+unfolding place_of place_test
+place-push group groups x =
+    let n = length groups in
+    let size : length (groups ++ x ∷ []) ≡ n + 1 = length-append groups (x ∷ []) in
+    let f : ℕ → Option ℕ = place_test group (groups ++ x ∷ []) in
+    ap (first_below f) size
+    ∙ rw add-one (first-suc f n)
+    ∙ ap₂ or_else
+    (first-same f (place_test group groups) n (λ k l. ap (λ (y : Group). if same_group y group then Some k else None) (get_or_append_left groups (x ∷ []) (of_class None) k l)))
+    (ap (λ (y : Group). if same_group y group then Some n else None) (get_or_push groups x (of_class None) n refl))
+
+pub push-none : (group : Group) (groups : List Group) (x : Group) → place_of group (groups ++ x ∷ []) ≡ None → (place_of group groups ≡ None) × (x ≡ group → ⊥)
+push-none group groups x h =
+    let n = length groups in
+    let size : length (groups ++ x ∷ []) ≡ n + 1 = length-append groups (x ∷ []) in (
+      none-place group groups (λ k l e. nowhere group (groups ++ x ∷ []) h k (omega arith) (get_or_append_left groups (x ∷ []) (of_class None) k l ∙ e)),
+      λ e. nowhere group (groups ++ x ∷ []) h n (omega arith) (get_or_push groups x (of_class None) n refl ∙ e),
+    )

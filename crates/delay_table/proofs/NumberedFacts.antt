@@ -1,0 +1,228 @@
+-- Groups by the numbers of their routes.
+use Rattle.std.proofs.Common.{◌≡◌, ℕ, suc, ◌+◌, ◌<◌, ◌≤◌, ◌&&◌, Bool, true, false, List, [], ◌∷◌, ◌++◌, length, map, slice_index_or, Option, Some, None, IfSome, option_map, is_some, refl, sym, ap, ap₂, ◌∙◌, subst, arith, ⊎_elim, length-append}
+use Rattle.std.specs.Prelude.{position}
+use Rattle.std.specs.List.{list_any}
+use Rattle.std.proofs.lemmas.Bool.{cases_lt}
+use Rattle.std.proofs.lemmas.List.{get_or_default, get_or_append_left, get_or_push, get_or-map, length-map, map-append}
+use Rattle.std.proofs.lemmas.List.Folds.{Any-from_list_any, list_any_at}
+use Rattle.std.proofs.lemmas.List.Quantifiers.{position-Some}
+use Rattle.std.proofs.lemmas.Slice.Eq.{bytes_eq-Decides}
+use Rattle.plan_model.specs.NameLists.{Adds, AreDistinct}
+use Rattle.plan_model.proofs.Texts.{AreDistinct-push}
+use Rattle.csv_rows.specs.Tables.{place_in}
+use Rattle.csv_rows.proofs.FirstLemmas.{true_or_false}
+use Rattle.csv_rows.proofs.IdLemmas.{place-here, place-none}
+use Rattle.csv_rows.proofs.TestLemmas.{eq_test, eq_true, and_parts, and_true}
+use Rattle.delay_table.specs.declared.groups.NumberedGroup.{NumberedGroup}
+use Rattle.delay_table.specs.Groups.{Group, same_if, same_number, of_class, group_in, place_of}
+use Rattle.delay_table.specs.Numbered.{no_group, named_group, same_numbered, AreNumbers, IsNumber, StaysSo}
+use Rattle.delay_table.proofs.GroupFacts.{none-place, nowhere, place-first}
+
+-- an id that was added has a place
+pub place-adds : (old new : List (List ℕ)) (x : List ℕ) (added : Bool) → Adds old new x added → place_in x new ≡ None → ⊥
+place-adds old new x true a none =
+    let size : length new ≡ length old + 1 = ap length a.0 ∙ length-append old (x ∷ []) in
+    let here : slice_index_or new (length old) [] ≡ x = ap (λ xs. slice_index_or xs (length old) []) a.0 ∙ get_or_push old x [] (length old) refl in
+    let t = (bytes_eq-Decides (slice_index_or new (length old) []) x).1 here in
+    let f = place-none x new none (length old) (omega (arith, size)) in cc
+place-adds old new x false a none =
+    let k = a.1.0 in
+    let inside : k < length new = omega (arith, a.1.1, ap length a.0) in
+    let here : slice_index_or new k [] ≡ x = ap (λ xs. slice_index_or xs k []) a.0 ∙ get_or_default old k [] x a.1.1 ∙ a.1.2 in
+    let t = (bytes_eq-Decides (slice_index_or new k []) x).1 here in
+    let f = place-none x new none k inside in cc
+
+option_same : (a b : Option ℕ) → same_if same_number a b ≡ true → a ≡ b
+option_same None None h = refl
+option_same None (Some b) h = absurd (cc)
+option_same (Some a) None h = absurd (cc)
+option_same (Some a) (Some b) h = ap Some (eq_test a b h)
+
+option_self : (a : Option ℕ) → same_if same_number a a ≡ true
+option_self None = refl
+option_self (Some a) = eq_true a a refl
+
+numbered-equal : (a b : NumberedGroup) → same_numbered a b ≡ true → a ≡ b
+numbered-equal a b h =
+    let p = and_parts (same_if same_number a.class b.class) (same_if same_number a.route b.route && same_if same_number a.hour b.hour) h in
+    let q = and_parts (same_if same_number a.route b.route) (same_if same_number a.hour b.hour) p.1 in
+    let class = option_same a.class b.class p.0 in
+    let route = option_same a.route b.route q.0 in
+    let hour = option_same a.hour b.hour q.1 in
+    λ i. record { class = class i; route = route i; hour = hour i }
+
+numbered-true : (a b : NumberedGroup) → a ≡ b → same_numbered a b ≡ true
+numbered-true a b e =
+    let self : same_numbered a a ≡ true = and_true (same_if same_number a.class a.class) (same_if same_number a.route a.route && same_if same_number a.hour a.hour) (option_self a.class)
+    (and_true (same_if same_number a.route a.route) (same_if same_number a.hour a.hour) (option_self a.route) (option_self a.hour)) in
+    subst (λ (x : NumberedGroup). same_numbered a x ≡ true) e self
+
+some_inj : (a b : List ℕ) → Some a ≡ Some b → a ≡ b
+some_inj a b h = cc
+
+-- two numbers of one route are the same
+one_number : (routes : List (List ℕ)) → AreDistinct routes → (m n : ℕ) → m < length routes → n < length routes → slice_index_or routes m [] ≡ slice_index_or routes n [] → m ≡ n
+one_number routes distinct m n a b e =
+    ⊎_elim (λ (less : m < n). absurd (distinct m n less b e))
+    (λ (ge : n ≤ m). ⊎_elim (λ (less : n < m). absurd (distinct n m less a (sym e))) (λ (le : m ≤ n). omega arith) (cases_lt n m)) (cases_lt m n)
+
+one_route : (routes : List (List ℕ)) → AreDistinct routes → (a b : Option ℕ) → IfSome a (λ n. n < length routes) → IfSome b (λ n. n < length routes)
+    → option_map (λ k. slice_index_or routes k []) a ≡ option_map (λ k. slice_index_or routes k []) b → a ≡ b
+one_route routes distinct None None h g e = refl
+one_route routes distinct None (Some n) h g e = absurd (cc)
+one_route routes distinct (Some m) None h g e = absurd (cc)
+one_route routes distinct (Some m) (Some n) h g e = ap Some (one_number routes distinct m n h g (some_inj (slice_index_or routes m []) (slice_index_or routes n []) e))
+
+-- a route that has no number is none of these
+no_route : (routes : List (List ℕ)) (id : List ℕ) (a : Option ℕ) → place_in id routes ≡ None → IfSome a (λ n. n < length routes) → option_map (λ k. slice_index_or routes k []) a ≡ Some id → ⊥
+no_route routes id None none h e = absurd (cc)
+no_route routes id (Some m) none h e =
+    let t = (bytes_eq-Decides (slice_index_or routes m []) id).1 (some_inj (slice_index_or routes m []) id e) in
+    let f = place-none id routes none m h in absurd (cc)
+
+module _ (routes : List (List ℕ)) (keys : List NumberedGroup) (distinct : AreDistinct routes) (numbers : AreNumbers routes keys) where
+  abbrev key_at : ℕ → NumberedGroup
+  key_at k = slice_index_or keys k no_group
+
+  abbrev groups : List Group
+  groups = map (named_group routes) keys
+
+  size : length groups ≡ length keys
+  size = length-map keys (named_group routes)
+
+  at : (k : ℕ) → k < length keys → group_in groups k ≡ named_group routes (key_at k)
+  at k l = get_or-map (named_group routes) keys k no_group (of_class None) l
+
+  module _ (key : NumberedGroup) (group : Group) (number : IfSome key.route (λ n. n < length routes)) (is : named_group routes key ≡ group) where
+    -- a key that stands for the group is this one
+    back : (k : ℕ) → k < length keys → group_in groups k ≡ group → key ≡ key_at k
+    back k l e =
+        let same : named_group routes key ≡ named_group routes (key_at k) = is ∙ sym e ∙ at k l in
+        let class : key.class ≡ (key_at k).class = ap (λ (g : Group). g.class) same in
+        let hour : key.hour ≡ (key_at k).hour = ap (λ (g : Group). g.hour) same in
+        let route : key.route ≡ (key_at k).route = one_route routes distinct key.route (key_at k).route number (numbers k l) (ap (λ (g : Group). g.route) same) in
+        λ i. record { class = class i; route = route i; hour = hour i }
+
+    forth : (k : ℕ) → k < length keys → key ≡ key_at k → group_in groups k ≡ group
+    forth k l e = at k l ∙ ap (named_group routes) (sym e) ∙ is
+
+    -- where it stands
+    pub found-place : (o : Option ℕ) → o ≡ position (same_numbered key) keys → is_some o ≡ list_any (same_numbered key) keys → o ≡ place_of group groups
+    found-place None e f = sym (none-place group groups (λ k l g.
+        let inside : k < length keys = omega (arith, size) in
+        let t = list_any_at (same_numbered key) keys k no_group inside (numbered-true key (key_at k) (back k inside g)) in
+        let z : false ≡ true = f ∙ t in cc))
+    found-place (Some i) e f =
+        let w = position-Some (same_numbered key) keys i no_group (sym e) in
+        let here = forth i w.0 (numbered-equal key (key_at i) w.1) in
+        sym (place-first group groups i (omega (arith, size)) here (λ k less g.
+        let inside : k < length keys = omega arith in
+        let t = numbered-true key (key_at k) (back k inside g) in
+        let z = w.2 k less in cc))
+
+    -- a group that is new has a new key
+    pub new-key : place_of group groups ≡ None → list_any (same_numbered key) keys ≡ false
+    new-key h =
+        ⊎_elim (λ (t : list_any (same_numbered key) keys ≡ true).
+        let w = Any-from_list_any (same_numbered key) keys t in
+        let inside : w.0 < length keys = w.2 in
+        let e : key_at w.0 ≡ w.1 = get_or_default keys w.0 no_group w.1 inside ∙ w.3 in
+        absurd (nowhere group groups h w.0 (omega (arith, size)) (forth w.0 inside (numbered-equal key w.1 w.4 ∙ sym e))))
+        (λ (f : list_any (same_numbered key) keys ≡ false). f) (true_or_false (list_any (same_numbered key) keys))
+
+    -- and goes last
+    pub keys-last : (keys' : List NumberedGroup) → keys' ≡ keys ++ key ∷ [] → map (named_group routes) keys' ≡ groups ++ group ∷ []
+    keys-last keys' e = ap (map (named_group routes)) e ∙ map-append (named_group routes) keys (key ∷ []) ∙ ap (λ (g : Group). groups ++ g ∷ []) is
+
+    pub numbers-last : (keys' : List NumberedGroup) → keys' ≡ keys ++ key ∷ [] → AreNumbers routes keys'
+    numbers-last keys' e = subst (AreNumbers routes) (sym e) (λ k l.
+        let n = length keys in
+        ⊎_elim (λ (before : k < n). subst (λ (x : NumberedGroup). IfSome x.route (λ m. m < length routes)) (sym (get_or_append_left keys (key ∷ []) no_group k before)) (numbers k before))
+        (λ (end : n ≤ k).
+        let z : n ≡ k = omega (arith, l, length-append keys (key ∷ [])) in
+        subst (λ (x : NumberedGroup). IfSome x.route (λ m. m < length routes)) (sym (get_or_push keys key no_group k z)) number)
+        (cases_lt k n))
+
+  -- a route without a number has no group
+  pub unknown-route : (id : List ℕ) (class : Option ℕ) (hour : Option ℕ) → place_in id routes ≡ None → None ≡ place_of (record { class = class; route = Some id; hour = hour }) groups
+  unknown-route id class hour none =
+      let group : Group = record { class = class; route = Some id; hour = hour } in
+      sym (none-place group groups (λ k l g.
+      let inside : k < length keys = omega (arith, size) in
+      no_route routes id (key_at k).route none (numbers k inside) (ap (λ (x : Group). x.route) (sym (at k inside) ∙ g))))
+
+-- the groups stay when a route is added
+same_route : (routes : List (List ℕ)) (id : List ℕ) (a : Option ℕ) → IfSome a (λ n. n < length routes)
+    → option_map (λ k. slice_index_or (routes ++ id ∷ []) k []) a ≡ option_map (λ k. slice_index_or routes k []) a
+same_route routes id None h = refl
+same_route routes id (Some n) h = ap Some (get_or_append_left routes (id ∷ []) [] n h)
+
+same_names : (routes : List (List ℕ)) (id : List ℕ) (keys : List NumberedGroup) → AreNumbers routes keys → map (named_group (routes ++ id ∷ [])) keys ≡ map (named_group routes) keys
+same_names routes id [] numbers = refl
+same_names routes id (x ∷ xs) numbers =
+    let route = same_route routes id x.route (numbers 0 (omega arith)) in
+    let head : named_group (routes ++ id ∷ []) x ≡ named_group routes x = λ i. record { class = x.class; route = route i; hour = x.hour } in
+    ap₂ (λ a b. a ∷ b) head (same_names routes id xs (λ k l. numbers (suc k) (omega arith)))
+
+wider : (a : Option ℕ) (m n : ℕ) → m ≤ n → IfSome a (λ k. k < m) → IfSome a (λ k. k < n)
+wider None m n l h = tt
+wider (Some k) m n l h = omega (arith, l, h)
+
+pub stays-adds : (old new : List (List ℕ)) (id : List ℕ) (added : Bool) (keys : List NumberedGroup) → AreDistinct old → AreNumbers old keys → Adds old new id added → StaysSo old new keys
+stays-adds old new id true keys distinct numbers a =
+    subst (λ (xs : List (List ℕ)). StaysSo old xs keys) (sym a.0) (record {
+      distinct = AreDistinct-push old id distinct a.1;
+      numbers = λ k l. wider (slice_index_or keys k no_group).route (length old) (length (old ++ id ∷ [])) (omega (arith, length-append old (id ∷ []))) (numbers k l);
+      names = same_names old id keys numbers;
+    })
+stays-adds old new id false keys distinct numbers a =
+    subst (λ (xs : List (List ℕ)). StaysSo old xs keys) (sym a.0) (record { distinct = distinct; numbers = numbers; names = refl })
+
+-- where a group stands, by the number of its route
+pub place-is : (routes : List (List ℕ)) (keys : List NumberedGroup) (distinct : AreDistinct routes) (numbers : AreNumbers routes keys) (all : List Group)
+    (class number hour : Option ℕ) (route : Option (List ℕ)) → map (named_group routes) keys ≡ all → IfSome number (λ n. n < length routes)
+    → option_map (λ k. slice_index_or routes k []) number ≡ route → (o : Option ℕ)
+    → o ≡ position (same_numbered (record { class = class; route = number; hour = hour })) keys
+    → is_some o ≡ list_any (same_numbered (record { class = class; route = number; hour = hour })) keys → o ≡ place_of (record { class = class; route = route; hour = hour }) all
+place-is routes keys distinct numbers all class number hour route view inside is o here found =
+    let key : NumberedGroup = record { class = class; route = number; hour = hour } in
+    let group : Group = record { class = class; route = route; hour = hour } in
+    let named : named_group routes key ≡ group = λ i. record { class = class; route = is i; hour = hour } in
+    found-place routes keys distinct numbers key group inside named o here found ∙ ap (place_of group) view
+
+-- the number of a route is that of its id
+pub number-is : (routes : List (List ℕ)) (id : List ℕ) (n : ℕ) → place_in id routes ≡ Some n → (n < length routes) × (slice_index_or routes n [] ≡ id)
+number-is routes id n h = place-here id routes n h
+
+pub stays-same : (old new : List (List ℕ)) (keys : List NumberedGroup) → new ≡ old → AreDistinct old → AreNumbers old keys → StaysSo old new keys
+stays-same old new keys e distinct numbers =
+    subst (λ (xs : List (List ℕ)). StaysSo old xs keys) (sym e) (record { distinct = distinct; numbers = numbers; names = refl })
+
+module _ (routes : List (List ℕ)) (keys : List NumberedGroup) (distinct : AreDistinct routes) (numbers : AreNumbers routes keys) (all : List Group)
+    (class number hour : Option ℕ) (route : Option (List ℕ)) (view : map (named_group routes) keys ≡ all) (is : IsNumber routes number route) where
+  abbrev own_key : NumberedGroup
+  own_key = record { class = class; route = number; hour = hour }
+
+  abbrev own_group : Group
+  own_group = record { class = class; route = route; hour = hour }
+
+  own-named : named_group routes own_key ≡ own_group
+  own-named = λ i. record { class = class; route = is.is i; hour = hour }
+
+  -- the key of a group that is new is new
+  pub key-is-new : place_of own_group all ≡ None → list_any (same_numbered own_key) keys ≡ false
+  key-is-new h = new-key routes keys distinct numbers own_key own_group is.inside own-named (ap (place_of own_group) view ∙ h)
+
+  -- and it goes last
+  pub groups-last : (more : List NumberedGroup) → more ≡ keys ++ own_key ∷ [] → map (named_group routes) more ≡ all ++ own_group ∷ []
+  groups-last more e = keys-last routes keys distinct numbers own_key own_group is.inside own-named more e ∙ ap (λ gs. gs ++ own_group ∷ []) view
+
+  pub numbers-more : (more : List NumberedGroup) → more ≡ keys ++ own_key ∷ [] → AreNumbers routes more
+  numbers-more more e = numbers-last routes keys distinct numbers own_key own_group is.inside own-named more e
+
+-- the group at a place, by its key
+pub group-at : (routes : List (List ℕ)) (keys : List NumberedGroup) (all : List Group) (key : NumberedGroup) (route : Option (List ℕ)) (k : ℕ) → map (named_group routes) keys ≡ all → k < length keys
+    → key ≡ slice_index_or keys k no_group → route ≡ option_map (λ n. slice_index_or routes n []) key.route → ◌≡◌ {A = Group} (record { class = key.class; route = route; hour = key.hour }) (group_in all k)
+group-at routes keys all key route k view l e is =
+    let same : ◌≡◌ {A = Group} (record { class = key.class; route = route; hour = key.hour }) (named_group routes key) = λ i. record { class = key.class; route = is i; hour = key.hour } in
+    same ∙ ap (named_group routes) e ∙ sym (get_or-map (named_group routes) keys k no_group (of_class None) l) ∙ ap (λ gs. group_in gs k) view

@@ -1,0 +1,221 @@
+-- The groups of the rows that are read, one row more at a time.
+use Rattle.std.proofs.Common.{◌≡◌, ℕ, ◌+◌, ◌<◌, ◌≤◌, List, [], ◌∷◌, ◌++◌, length, slice_index, Option, Some, None, Result, Ok, Err, if◌then◌else◌, refl, sym, ap, ap₂, ◌∙◌, subst, arith, ⊎_elim, add-one, length-append, append-nil}
+use Rattle.std.specs.Prelude.{OnOk}
+use Rattle.std.proofs.lemmas.Bool.{cases_lt}
+use Rattle.std.proofs.lemmas.List.{get_or_append_left, get_or_push, length-map, map-append}
+use Rattle.plan_model.specs.declared.model.Outcome.{Outcome}
+use Rattle.delay_table.specs.declared.reading.GroupRows.{GroupRows}
+use Rattle.delay_table.specs.declared.faults.DelayFault.{DelayFault}
+use Rattle.delay_table.specs.declared.faults.DelayFault.TheVariants.{BadField}
+use Rattle.delay_table.specs.Groups.{Group, same_group, of_class, group_in, place_of}
+use Rattle.delay_table.specs.Delays.{Line, of_group, outcomes, line_at, fault_of, fault_after, line_fault, begins, if_begins, firsts, group_of, groups_at}
+use Rattle.delay_table.specs.Read.{no_rows, rows_at, outcomes_at, rows_of, AreApart, IsPushed, AddsRow, IsReadTo}
+use Rattle.delay_table.proofs.GroupFacts.{same-true, same-false, group-here, nowhere, apart-ne, place-at, push-none}
+
+outcomes-zero : (t : List (List (List ℕ))) (group : Group) → outcomes t 0 group ≡ []
+unfolding outcomes
+outcomes-zero t group = refl
+
+pub outcomes-next : (t : List (List (List ℕ))) (n : ℕ) (group : Group) → outcomes t (n + 1) group ≡ outcomes t n group ++ of_group group (line_at t n)
+unfolding outcomes
+outcomes-next t n group = rw add-one
+
+firsts-zero : (t : List (List (List ℕ))) → firsts t 0 ≡ []
+unfolding firsts
+firsts-zero t = refl
+
+firsts-next : (t : List (List (List ℕ))) (n : ℕ) → firsts t (n + 1) ≡ firsts t n ++ begins (outcomes t n) (line_at t n) n
+unfolding firsts
+firsts-next t n = rw add-one
+
+pub length-groups : (t : List (List (List ℕ))) (rows : List ℕ) → length (groups_at t rows) ≡ length rows
+unfolding groups_at
+length-groups t rows = length-map rows (λ i. group_of (line_at t i))
+
+groups-push : (t : List (List (List ℕ))) (rows : List ℕ) (i : ℕ) → groups_at t (rows ++ i ∷ []) ≡ groups_at t rows ++ group_of (line_at t i) ∷ []
+unfolding groups_at
+groups-push t rows i = map-append (λ i. group_of (line_at t i)) rows (i ∷ [])
+
+groups-nil : (t : List (List (List ℕ))) → groups_at t [] ≡ []
+unfolding groups_at
+groups-nil t = refl
+
+-- a group of its own rows begins with the first one
+begins-some : (r : List Outcome) (i : ℕ) → 0 < length r → if_begins r i ≡ []
+begins-some [] i h = absurd (omega arith)
+begins-some (o ∷ os) i h = refl
+
+rows_by : (t : List (List (List ℕ))) (n : ℕ) (groups : List Group) (rows : List GroupRows) → IsReadTo t n groups rows → (group : Group) (o : Option ℕ) → place_of group groups ≡ o → outcomes_at rows o ≡ outcomes t n group
+rows_by t n groups rows r group None e = sym (r.absent group e)
+rows_by t n groups rows r group (Some k) e = let w = group-here group groups k e in r.each k w.0 ∙ ap (outcomes t n) w.1
+
+-- the outcomes that are read are those of the rows
+pub rows-are : (t : List (List (List ℕ))) (n : ℕ) (groups : List Group) (rows : List GroupRows) → IsReadTo t n groups rows → (group : Group) → rows_of groups rows group ≡ outcomes t n group
+unfolding rows_of
+rows-are t n groups rows r group = rows_by t n groups rows r group (place_of group groups) refl
+
+-- the outcomes of the group at a place
+pub rows-here : (groups : List Group) (rows : List GroupRows) → AreApart groups → (k : ℕ) → k < length groups → rows_of groups rows (group_in groups k) ≡ (rows_at rows k).outcomes
+unfolding rows_of
+rows-here groups rows apart k l = ap (outcomes_at rows) (place-at groups apart k l)
+
+pub rows-known : (groups : List Group) (rows : List GroupRows) (group : Group) (k : ℕ) → Some k ≡ place_of group groups → (rows_at rows k).outcomes ≡ rows_of groups rows group
+unfolding rows_of
+rows-known groups rows group k e = ap (outcomes_at rows) e
+
+pub rows-new : (groups : List Group) (rows : List GroupRows) (group : Group) → None ≡ place_of group groups → [] ≡ rows_of groups rows group
+unfolding rows_of
+rows-new groups rows group e = ap (outcomes_at rows) e
+
+-- a first row has no fault
+pub first-none : {A E : Type 0} (r : Result A E) (line : Line) (number : ℕ) → OnOk r (fault_after [] line number ≡ None)
+first-none (Ok a) line number = refl
+first-none (Err e) line number = tt
+
+-- before the first row
+pub read-nothing : (t : List (List (List ℕ))) (groups : List Group) (rows : List GroupRows) → groups ≡ [] → rows ≡ [] → IsReadTo t 0 groups rows
+read-nothing t groups rows e f =
+    let none : length groups ≡ 0 = ap length e in
+    record {
+      are = e ∙ sym (ap (groups_at t) (firsts-zero t) ∙ groups-nil t);
+      size = ap length f ∙ sym none;
+      apart = λ i j less l. absurd (omega arith);
+      lines = λ k l. absurd (omega arith);
+      each = λ k l. absurd (omega arith);
+      some = λ k l. absurd (omega arith);
+      absent = λ group h. outcomes-zero t group;
+    }
+
+module _ (t : List (List (List ℕ))) (i : ℕ) (line : Line) (here : Some line ≡ line_at t i) where
+  -- the outcomes of a group after this row
+  abbrev after : Group → List Outcome
+  after group = outcomes t i group ++ (if same_group line.group group then line.outcome ∷ [] else [])
+
+  next : (group : Group) → outcomes t (i + 1) group ≡ after group
+  next group = outcomes-next t i group ∙ ap (λ o. outcomes t i group ++ of_group group o) (sym here)
+
+  next-own : (group : Group) → line.group ≡ group → outcomes t (i + 1) group ≡ outcomes t i group ++ line.outcome ∷ []
+  next-own group e = next group ∙ ap (λ b. outcomes t i group ++ (if b then line.outcome ∷ [] else [])) (same-true line.group group e)
+
+  next-other : (group : Group) → (line.group ≡ group → ⊥) → outcomes t (i + 1) group ≡ outcomes t i group
+  next-other group h =
+      next group ∙ ap (λ b. outcomes t i group ++ (if b then line.outcome ∷ [] else [])) (same-false line.group group h)
+      ∙ append-nil (outcomes t i group)
+
+  firsts-same : 0 < length (outcomes t i line.group) → firsts t (i + 1) ≡ firsts t i
+  firsts-same some =
+      firsts-next t i ∙ ap (λ o. firsts t i ++ begins (outcomes t i) o i) (sym here)
+      ∙ ap (λ xs. firsts t i ++ xs) (begins-some (outcomes t i line.group) i some) ∙ append-nil (firsts t i)
+
+  firsts-more : outcomes t i line.group ≡ [] → firsts t (i + 1) ≡ firsts t i ++ i ∷ []
+  firsts-more none =
+      firsts-next t i ∙ ap (λ o. firsts t i ++ begins (outcomes t i) o i) (sym here)
+      ∙ ap (λ (r : List Outcome). firsts t i ++ if_begins r i) none
+
+  module _ (groups : List Group) (rows new : List GroupRows) (r : IsReadTo t i groups rows) where
+    -- a row of a group that is there
+    known_next : (k : ℕ) → place_of line.group groups ≡ Some k → IsPushed rows new k line.outcome → IsReadTo t (i + 1) groups new
+    known_next k e p =
+        let w = group-here line.group groups k e in
+        let own : outcomes t i line.group ≡ (rows_at rows k).outcomes = sym (r.each k w.0 ∙ ap (outcomes t i) w.1) in
+        let same : firsts t (i + 1) ≡ firsts t i = firsts-same (omega (arith, ap length own, r.some k w.0)) in
+        let pushed : (rows_at new k).outcomes ≡ outcomes t (i + 1) (group_in groups k) =
+        p.here ∙ ap (λ xs. xs ++ line.outcome ∷ []) (r.each k w.0) ∙ sym (next-own (group_in groups k) (sym w.1)) in
+        let other : (j : ℕ) → j < length groups → (j ≡ k → ⊥) → (rows_at new j).outcomes ≡ outcomes t (i + 1) (group_in groups j) =
+        λ j l ne. p.others j ne ∙ r.each j l ∙ sym (next-other (group_in groups j) (λ z. apart-ne groups r.apart j k l w.0 ne (sym (w.1 ∙ z)))) in
+        record {
+          are = r.are ∙ ap (groups_at t) (sym same);
+          size = p.size ∙ r.size;
+          apart = r.apart;
+          lines = λ j l. p.lines j ∙ r.lines j l ∙ ap (λ xs. slice_index xs j + 2) (sym same);
+          each = λ j l.
+              ⊎_elim (λ (less : j < k). other j l (λ z. omega (arith, less, z)))
+              (λ (ge : k ≤ j). ⊎_elim (λ (less : k < j). other j l (λ z. omega (arith, less, z)))
+              (λ (le : j ≤ k). let z : k ≡ j = omega arith in subst (λ (m : ℕ). (rows_at new m).outcomes ≡ outcomes t (i + 1) (group_in groups m)) z pushed)
+              (cases_lt k j)) (cases_lt j k);
+          some = λ j l.
+              ⊎_elim (λ (less : j < k). omega (arith, ap length (p.others j (λ z. omega (arith, less, z))), r.some j l))
+              (λ (ge : k ≤ j). ⊎_elim (λ (less : k < j). omega (arith, ap length (p.others j (λ z. omega (arith, less, z))), r.some j l))
+              (λ (le : j ≤ k). let z : k ≡ j = omega arith in
+              let size = ap length p.here ∙ length-append (rows_at rows k).outcomes (line.outcome ∷ []) in
+              subst (λ (m : ℕ). 0 < length (rows_at new m).outcomes) z (omega (arith, size)))
+              (cases_lt k j)) (cases_lt j k);
+          absent = λ group h. next-other group (λ z. nowhere group groups h k w.0 (w.1 ∙ z)) ∙ r.absent group h;
+        }
+
+    -- the first row of a group
+    fresh_next : (more : List Group) → place_of line.group groups ≡ None → more ≡ groups ++ line.group ∷ []
+        → new ≡ rows ++ (record { line = i + 2; outcomes = line.outcome ∷ [] }) ∷ [] → IsReadTo t (i + 1) more new
+    fresh_next more e g f =
+        let n = length groups in
+        let x : GroupRows = record { line = i + 2; outcomes = line.outcome ∷ [] } in
+        let none : outcomes t i line.group ≡ [] = r.absent line.group e in
+        let first : firsts t (i + 1) ≡ firsts t i ++ i ∷ [] = firsts-more none in
+        let count : length (firsts t i) ≡ n = sym (ap length r.are ∙ length-groups t (firsts t i)) in
+        let size : length (groups ++ line.group ∷ []) ≡ n + 1 = length-append groups (line.group ∷ []) in
+        let old_group : (j : ℕ) → j < n → group_in (groups ++ line.group ∷ []) j ≡ group_in groups j = λ j l. get_or_append_left groups (line.group ∷ []) (of_class None) j l in
+        let new_group : group_in (groups ++ line.group ∷ []) n ≡ line.group = get_or_push groups line.group (of_class None) n refl in
+        let old_rows : (j : ℕ) → j < n → rows_at (rows ++ x ∷ []) j ≡ rows_at rows j = λ j l. get_or_append_left rows (x ∷ []) no_rows j (omega (arith, r.size)) in
+        let new_rows : rows_at (rows ++ x ∷ []) n ≡ x = get_or_push rows x no_rows n r.size in
+        let old_first : (j : ℕ) → j < n → slice_index (firsts t i ++ i ∷ []) j ≡ slice_index (firsts t i) j = λ j l. get_or_append_left (firsts t i) (i ∷ []) 0 j (omega (arith, count)) in
+        let new_first : slice_index (firsts t i ++ i ∷ []) n ≡ i = get_or_push (firsts t i) i 0 n count in
+        let ne : (j : ℕ) → j < n → line.group ≡ group_in groups j → ⊥ = λ j l z. nowhere line.group groups e j l (sym z) in
+        let goal : IsReadTo t (i + 1) (groups ++ line.group ∷ []) (rows ++ x ∷ []) = record {
+          are = ap (λ gs. gs ++ line.group ∷ []) r.are ∙ ap (λ o. groups_at t (firsts t i) ++ group_of o ∷ []) here
+              ∙ sym (groups-push t (firsts t i) i) ∙ ap (groups_at t) (sym first);
+          size = length-append rows (x ∷ []) ∙ ap (λ m. m + 1) r.size ∙ sym size;
+          apart = λ a b less l.
+              ⊎_elim (λ (before : b < n). ap₂ same_group (old_group a (omega arith)) (old_group b before) ∙ r.apart a b less before)
+              (λ (end : n ≤ b).
+              let z : n ≡ b = omega arith in
+              let ea : group_in (groups ++ line.group ∷ []) a ≡ group_in groups a = old_group a (omega arith) in
+              let eb : group_in (groups ++ line.group ∷ []) b ≡ line.group = ap (group_in (groups ++ line.group ∷ [])) (sym z) ∙ new_group in
+              ap₂ same_group ea eb ∙ same-false (group_in groups a) line.group (nowhere line.group groups e a (omega arith)))
+              (cases_lt b n);
+          lines = λ j l.
+              ⊎_elim (λ (before : j < n). ap (λ (y : GroupRows). y.line) (old_rows j before) ∙ r.lines j before ∙ ap (λ m. m + 2) (sym (ap (λ xs. slice_index xs j) first ∙ old_first j before)))
+              (λ (end : n ≤ j).
+              let z : n ≡ j = omega arith in
+              let P : ℕ → Type 0 = λ m. (rows_at (rows ++ x ∷ []) m).line ≡ slice_index (firsts t (i + 1)) m + 2 in
+              subst P z (ap (λ (y : GroupRows). y.line) new_rows ∙ ap (λ m. m + 2) (sym (ap (λ xs. slice_index xs n) first ∙ new_first))))
+              (cases_lt j n);
+          each = λ j l.
+              ⊎_elim (λ (before : j < n). ap (λ (y : GroupRows). y.outcomes) (old_rows j before) ∙ r.each j before
+              ∙ sym (next-other (group_in groups j) (ne j before)) ∙ ap (outcomes t (i + 1)) (sym (old_group j before)))
+              (λ (end : n ≤ j).
+              let z : n ≡ j = omega arith in
+              let P : ℕ → Type 0 = λ m. (rows_at (rows ++ x ∷ []) m).outcomes ≡ outcomes t (i + 1) (group_in (groups ++ line.group ∷ []) m) in
+              subst P z (ap (λ (y : GroupRows). y.outcomes) new_rows ∙ ap (λ xs. xs ++ line.outcome ∷ []) (sym none)
+              ∙ sym (next-own line.group refl) ∙ ap (outcomes t (i + 1)) (sym new_group)))
+              (cases_lt j n);
+          some = λ j l.
+              ⊎_elim (λ (before : j < n). subst (λ (y : GroupRows). 0 < length y.outcomes) (sym (old_rows j before)) (r.some j before))
+              (λ (end : n ≤ j).
+              let z : n ≡ j = omega arith in
+              let P : ℕ → Type 0 = λ m. 0 < length (rows_at (rows ++ x ∷ []) m).outcomes in
+              subst P z (subst (λ (y : GroupRows). 0 < length y.outcomes) (sym new_rows) (omega arith)))
+              (cases_lt j n);
+          absent = λ group h.
+              let w = push-none group groups line.group h in next-other group w.1 ∙ r.absent group w.0;
+        } in
+        subst (λ (gs : List Group). IsReadTo t (i + 1) gs new) (sym g) (subst (IsReadTo t (i + 1) (groups ++ line.group ∷ [])) (sym f) goal)
+
+    by_place : (more : List Group) (o : Option ℕ) → place_of line.group groups ≡ o → AddsRow groups rows line (i + 2) more new → IsReadTo t (i + 1) more new
+    by_place more None e a = let w = a.fresh e in fresh_next more e w.0 w.1
+    by_place more (Some k) e a = let w = a.known k e in subst (λ (gs : List Group). IsReadTo t (i + 1) gs new) (sym w.0) (known_next k e w.1)
+
+    -- after one more row
+    pub read-next : (more : List Group) → AddsRow groups rows line (i + 2) more new → IsReadTo t (i + 1) more new
+    read-next more a = by_place more (place_of line.group groups) refl a
+
+-- the fault of a row
+pub fault_here : (t : List (List (List ℕ))) (i : ℕ) (r : List Outcome) (line : Line) (number : ℕ) (o : Option DelayFault)
+    → Some line ≡ line_at t i → r ≡ outcomes t i line.group → number ≡ i + 2 → fault_after r line number ≡ o → line_fault t i ≡ o
+unfolding line_fault
+fault_here t i r line number o e same n h =
+    ap (λ x. fault_of (outcomes t i) x (i + 2)) (sym e) ∙ ap (λ x. fault_after (outcomes t i line.group) line x) (sym n)
+    ∙ ap (λ x. fault_after x line number) (sym same) ∙ h
+
+pub bad_here : (t : List (List (List ℕ))) (i : ℕ) (number : ℕ) → None ≡ line_at t i → number ≡ i + 2 → line_fault t i ≡ Some (BadField number)
+unfolding line_fault
+bad_here t i number e n = ap (λ x. fault_of (outcomes t i) x (i + 2)) (sym e) ∙ ap (λ x. Some (BadField x)) (sym n)

@@ -1,0 +1,115 @@
+-- The place of a route type among those that are named, and the greatest delay of a class.
+use Rattle.std.proofs.Common.{◌≡◌, slice_get, ℕ, zero, suc, ◌+◌, ◌-◌, ◌<◌, ◌≤◌, ◌==◌, List, length, get_or, slice_index, slice_index_or, Option, Some, None, option_map, if◌then◌else◌, sym, ap, ap₂, ◌∙◌, subst, arith, ⊎_elim, eq-or-lt_of_le, Contains, All}
+use Rattle.std.proofs.lemmas.Bool.{cases_lt}
+use Rattle.std.proofs.lemmas.List.{get_or_default}
+use Rattle.std.proofs.lemmas.Option.{slice_get_within, get_or_from_slice_get}
+use Rattle.plan_model.specs.declared.model.Outcome.{Outcome}
+use Rattle.plan_model.specs.Rows.{IsValidRow}
+use Rattle.csv_rows.proofs.FirstLemmas.{first-none, first-at}
+use Rattle.csv_rows.proofs.TestLemmas.{eq_true, eq_false}
+use Rattle.csv_rows.specs.First.{or_else}
+use Rattle.delay_table.specs.DelayLists.{DelayLists, class_for, hour_class, hour_of, route_class, type_class, type_place}
+use Rattle.std.specs.Prelude.{unwrap_or}
+use Rattle.delay_table.specs.Slots.{AreDelays, IsClassOf}
+
+-- not found among types that rise
+pub absent_type : (types : List ℕ) (r i : ℕ) → ((k : ℕ) → k < i → get_or types k 0 < r) → ((k : ℕ) → i ≤ k → k < length types → r < get_or types k 0) → Contains types r → ⊥
+absent_type types r i low high there =
+    let e = get_or_default types there.0 0 r there.1 ∙ there.2 in
+    ⊎_elim (λ (before : there.0 < i). absurd (omega (arith, e, low there.0 before)))
+    (λ (after : i ≤ there.0). absurd (omega (arith, e, high there.0 after there.1)))
+    (cases_lt there.0 i)
+
+pub never_falls : (types : List ℕ) → ((i j : ℕ) → i < j → j < length types → get_or types i 0 < get_or types j 0) → (i j : ℕ) → i ≤ j → j < length types → get_or types i 0 ≤ get_or types j 0
+never_falls types h i j l inside =
+    ⊎_elim (λ (same : i ≡ j). omega (arith, ap (λ k. get_or types k 0) same)) (λ (less : i < j). omega (arith, h i j less inside)) (eq-or-lt_of_le l)
+
+-- the last delay of a row is the greatest
+pub greatest_last : (r : List Outcome) (last : Outcome) → IsValidRow r → All (λ o. o.delay ≤ (slice_index_or r (length r - 1) last).delay) r
+greatest_last r last v k d l =
+    let e = get_or_default r (length r - 1) d last (omega arith) in
+    let P : Outcome → Type 0 = λ o. (slice_index_or r k d).delay ≤ o.delay in
+    subst P e
+    (⊎_elim (λ (before : k < length r - 1). omega (arith, v.rising k (length r - 1) d before (omega arith)))
+    (λ (end : length r - 1 ≤ k).
+    let same : k ≡ length r - 1 = omega arith in
+    let Q : ℕ → Type 0 = λ i. (slice_index_or r k d).delay ≤ (slice_index_or r i d).delay in
+    subst Q same (omega arith))
+    (cases_lt k (length r - 1)))
+
+no_place : (types : List ℕ) (route : ℕ) → ¬ Contains types route → type_place types route ≡ None
+unfolding type_place
+no_place types route h =
+    first-none (λ k. if slice_index types k == route then Some k else None) (length types) (λ k l.
+    ap (λ b. if b then Some k else None) (eq_false (slice_index types k) route (λ e. h (k, l, get_or_default types k route 0 l ∙ e))))
+
+own_place : (types : List ℕ) → ((i j : ℕ) → i < j → j < length types → get_or types i 0 < get_or types j 0) → (route j : ℕ) → slice_get types j ≡ Some route → type_place types route ≡ Some j
+unfolding type_place
+own_place types rising route j h =
+    let f : ℕ → Option ℕ = λ k. if slice_index types k == route then Some k else None in
+    let here = get_or_from_slice_get types j route 0 h in
+    let inside = slice_get_within types j route h in
+    let none = first-none f j (λ k l. ap (λ b. if b then Some k else None) (eq_false (slice_index types k) route (λ e. let less = rising k j l inside in omega (arith, less, e, here)))) in
+    first-at f j (length types) j inside none (ap (λ b. if b then Some j else None) (eq_true (slice_index types j) route here))
+
+-- the place of a route type, by its class
+pub class-place : (types : List ℕ) → ((i j : ℕ) → i < j → j < length types → get_or types i 0 < get_or types j 0) → (route k : ℕ) → IsClassOf types route k → (k ≡ 0 → type_place types route ≡ None) × ((j : ℕ) → k ≡ j + 1 → type_place types route ≡ Some j)
+class-place types rising route zero h = (λ e. no_place types route h, λ j e. absurd (omega (arith, e)))
+class-place types rising route (suc j) h = (λ e. absurd (omega (arith, e)), λ i e. let same : j ≡ i = omega (arith, e) in subst (λ (x : ℕ). type_place types route ≡ Some x) same (own_place types rising route j h))
+
+pub class-none : (d : DelayLists) → AreDelays d → (route k : ℕ) → IsClassOf d.types route k → k ≡ 0 → None ≡ type_class d (Some route)
+class-none d s route k h e = sym (ap (option_map (λ n. n + 1)) ((class-place d.types s.rising route k h).0 e))
+
+pub class-some : (d : DelayLists) → AreDelays d → (route k : ℕ) → IsClassOf d.types route k → (k ≡ 0 → ⊥) → Some k ≡ type_class d (Some route)
+class-some d s route k h e =
+    let n : k ≡ (k - 1) + 1 = grind (arith, e) in
+    ap Some n ∙ sym (ap (option_map (λ n. n + 1)) ((class-place d.types s.rising route k h).1 (k - 1) n))
+
+-- the first that is there
+pub pick : (o rest : Option ℕ) (x : ℕ) → Some x ≡ o → Some x ≡ or_else o rest
+pick o rest x e = ap (λ p. or_else p rest) e
+
+pub skip : (o rest answer : Option ℕ) → None ≡ o → answer ≡ rest → answer ≡ or_else o rest
+skip o rest answer e f = f ∙ ap (λ p. or_else p rest) e
+
+-- the class by an hour that is told
+abbrev by_hour : DelayLists → Option ℕ → Option (List ℕ) → ℕ → ℕ
+by_hour d class route hour =
+    unwrap_or (or_else (route_class d route (Some hour)) (or_else (route_class d route None) (or_else (hour_class d class hour) (or_else (type_class d class) (hour_class d None hour))))) 0
+
+module _ (d : DelayLists) (class own : Option ℕ) (route : Option (List ℕ)) (hour arr : ℕ) (same : class ≡ own) (is : hour ≡ hour_of arr) where
+  told : (answer : ℕ) → answer ≡ by_hour d class route hour → answer ≡ class_for d own route arr
+  unfolding class_for
+  told answer e = e ∙ ap₂ (λ c h. by_hour d c route h) same is
+
+  abbrev A : Option ℕ
+  A = route_class d route (Some hour)
+
+  abbrev B : Option ℕ
+  B = route_class d route None
+
+  abbrev C : Option ℕ
+  C = hour_class d class hour
+
+  abbrev D : Option ℕ
+  D = type_class d class
+
+  abbrev E : Option ℕ
+  E = hour_class d None hour
+
+  pub first-class : (x : ℕ) → Some x ≡ A → x ≡ class_for d own route arr
+  first-class x e = told x (ap (λ o. unwrap_or o 0) (pick A (or_else B (or_else C (or_else D E))) x e))
+
+  pub second-class : (x : ℕ) → None ≡ A → Some x ≡ B → x ≡ class_for d own route arr
+  second-class x a e = told x (ap (λ o. unwrap_or o 0) (skip A (or_else B (or_else C (or_else D E))) (Some x) a (pick B (or_else C (or_else D E)) x e)))
+
+  pub third-class : (x : ℕ) → None ≡ A → None ≡ B → Some x ≡ C → x ≡ class_for d own route arr
+  third-class x a b e = told x (ap (λ o. unwrap_or o 0) (skip A (or_else B (or_else C (or_else D E))) (Some x) a (skip B (or_else C (or_else D E)) (Some x) b (pick C (or_else D E) x e))))
+
+  pub fourth-class : (x : ℕ) → None ≡ A → None ≡ B → None ≡ C → Some x ≡ D → x ≡ class_for d own route arr
+  fourth-class x a b c e =
+      told x (ap (λ o. unwrap_or o 0) (skip A (or_else B (or_else C (or_else D E))) (Some x) a (skip B (or_else C (or_else D E)) (Some x) b (skip C (or_else D E) (Some x) c (pick D E x e)))))
+
+  pub last-class : (o : Option ℕ) → None ≡ A → None ≡ B → None ≡ C → None ≡ D → o ≡ E → unwrap_or o 0 ≡ class_for d own route arr
+  last-class o a b c e f =
+      told (unwrap_or o 0) (ap (λ o. unwrap_or o 0) (skip A (or_else B (or_else C (or_else D E))) o a (skip B (or_else C (or_else D E)) o b (skip C (or_else D E) o c (skip D E o e f)))))

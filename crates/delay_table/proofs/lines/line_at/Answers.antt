@@ -1,0 +1,32 @@
+use Rattle.std.proofs.Common.{◌∙◌, sym, subst}
+use Rattle.csv_rows.specs.declared.columns.Column.TheVariants.{Class, Delay, Weight, RouteId, Hour}
+use Rattle.csv_rows.specs.Tables.{place_of}
+use Rattle.plan_model.specs.NameLists.{IsTrimmed}
+use Rattle.csv_rows.proofs.SpaceLemmas.{IsTrimmed-field}
+use Rattle.delay_table.proofs.LineFacts.{line_here, field_is, line_is_formed, line_is_trimmed}
+use Rattle.delay_table.proofs.lines.line_at.Goals as goal
+
+pub returns-clause-line : goal.returns-clause-line
+returns-clause-line c =
+    let t = c.args.rows.now in
+    let i = c.args.row in
+    let col = c.args.columns.now in
+    let r = c.requires.columns in
+    c.read_line.ensures
+    ∙ line_here t i c.field_at-class.result.now c.field_at-delay.result.now c.field_at-weight.result.now c.field_at-route.result.now c.field_at-hour.result.now
+    (field_is t i c.field_at-class.result.now col.class (place_of Class t) c.field_at-class.ensures r.class)
+    (field_is t i c.field_at-delay.result.now col.delay (place_of Delay t) c.field_at-delay.ensures r.delay)
+    (field_is t i c.field_at-weight.result.now col.weight (place_of Weight t) c.field_at-weight.ensures r.weight)
+    (field_is t i c.field_at-route.result.now col.route (place_of RouteId t) c.field_at-route.ensures r.route)
+    (field_is t i c.field_at-hour.result.now col.hour (place_of Hour t) c.field_at-hour.ensures r.hour)
+
+pub returns-clause-form : goal.returns-clause-form
+returns-clause-form c =
+    line_is_formed c.field_at-class.result.now c.field_at-delay.result.now c.field_at-weight.result.now c.field_at-route.result.now c.field_at-hour.result.now
+    c.read_line.result c.read_line.ensures
+
+pub returns-clause-trimmed : goal.returns-clause-trimmed
+returns-clause-trimmed c =
+    let trimmed = IsTrimmed-field c.args.rows.now c.args.columns.now.route c.args.row c.requires.trimmed in
+    line_is_trimmed c.field_at-class.result.now c.field_at-delay.result.now c.field_at-weight.result.now c.field_at-route.result.now c.field_at-hour.result.now
+    (subst IsTrimmed (sym c.field_at-route.ensures) trimmed) c.read_line.result c.read_line.ensures

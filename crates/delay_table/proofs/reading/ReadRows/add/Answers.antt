@@ -1,0 +1,28 @@
+use Rattle.std.proofs.Common.{◌≡◌, ◌≢◌, subst, List, Some, None, option_map}
+use Rattle.std.specs.Prelude.{OnOk, IfErr}
+use Rattle.plan_model.specs.declared.model.Outcome.{Outcome}
+use Rattle.delay_table.specs.declared.faults.DelayFault.TheVariants.{NoMemory}
+use Rattle.delay_table.specs.Delays.{Line, fault_after, line_with}
+use Rattle.delay_table.proofs.ReadFacts.{rows-known, rows-new, first-none}
+use Rattle.delay_table.proofs.reading.ReadRows.add.Goals as goal
+
+pub returns-in-Some-clause-none : goal.returns-in-Some-clause-none
+returns-in-Some-clause-none c =
+    let l = c.args.line.now in
+    let line : Line = line_with l.class (option_map (λ s. s.now) l.route) l.hour l.outcome in
+    let P : List Outcome → Type 0 = λ r. OnOk c.push.result (fault_after r line c.args.number ≡ None) in
+    subst P (rows-known c.args.self.now.groups c.args.self.now.rows.items line.group c.in-Some.place c.in-Some.ensures.place) c.push.ensures.none
+
+pub returns-in-Some-clause-err : goal.returns-in-Some-clause-err
+returns-in-Some-clause-err c =
+    let l = c.args.line.now in
+    let line : Line = line_with l.class (option_map (λ s. s.now) l.route) l.hour l.outcome in
+    let P : List Outcome → Type 0 = λ r. IfErr c.push.result (λ f. f ≢ NoMemory → fault_after r line c.args.number ≡ Some f) in
+    subst P (rows-known c.args.self.now.groups c.args.self.now.rows.items line.group c.in-Some.place c.in-Some.ensures.place) c.push.ensures.err
+
+pub returns-in-None-clause-none : goal.returns-in-None-clause-none
+returns-in-None-clause-none c =
+    let l = c.args.line.now in
+    let line : Line = line_with l.class (option_map (λ s. s.now) l.route) l.hour l.outcome in
+    let P : List Outcome → Type 0 = λ r. OnOk c.begin.result (fault_after r line c.args.number ≡ None) in
+    subst P (rows-new c.args.self.now.groups c.args.self.now.rows.items line.group c.in-None.ensures.place) (first-none c.begin.result line c.args.number)

@@ -1,0 +1,38 @@
+-- Groups of the rows of a delay file: each is of one class, one route and one hour.
+use Rattle.std.specs.Prelude.{ℕ, ◌==◌, Bool, true, false, ◌&&◌, List, length, slice_index_or, Option, Some, None, is_none, if◌then◌else◌}
+use Rattle.std.specs.Str.{bytes_eq}
+use Rattle.csv_rows.specs.First.{first_below}
+
+-- what the rows are of: the route type of the class, and none for `*`; a route and an hour, where they are told
+pub record Group : Type 0 where
+  pub class : Option ℕ
+  pub route : Option (List ℕ)
+  pub hour : Option ℕ
+
+-- both are there and the same, or neither is
+abbrev pub same_if : {A : Type 0} → (A → A → Bool) → Option A → Option A → Bool
+same_if same None None = true
+same_if same None (Some b) = false
+same_if same (Some a) None = false
+same_if same (Some a) (Some b) = same a b
+
+abbrev pub same_number : ℕ → ℕ → Bool
+same_number a b = a == b
+
+unfoldable pub same_group : Group → Group → Bool
+same_group a b = same_if same_number a.class b.class && (same_if bytes_eq a.route b.route && same_if same_number a.hour b.hour)
+
+-- the group of a class alone
+abbrev pub of_class : Option ℕ → Group
+of_class class = record { class = class; route = None; hour = None }
+
+-- whether it is of a class alone
+abbrev pub is_plain : Group → Bool
+is_plain group = is_none group.route && is_none group.hour
+
+abbrev pub group_in : List Group → ℕ → Group
+group_in groups k = slice_index_or groups k (of_class None)
+
+-- where a group stands among others
+unfoldable pub place_of : Group → List Group → Option ℕ
+place_of group groups = first_below (λ k. if same_group (group_in groups k) group then Some k else None) (length groups)

@@ -1,0 +1,211 @@
+//! Groups of the rows of a delay file, in the order in which they first stand.
+ghost use Rattle.std.specs.Prelude.{◌≡◌, ◌<◌, ◌++◌, ◌∷◌, [], Bool, length, slice_index_or, None, Some, IfSome, IfOk, OnErr, OnOk, is_some, option_map, position, false};
+ghost use Rattle.std.specs.List.{list_any};
+ghost use Rattle.csv_rows.specs.Tables.{place_in};
+ghost use Rattle.plan_model.specs.NameLists.{Adds, IsTrimmed};
+ghost use Rattle.delay_table.specs.Numbered.{no_group, same_numbered, IsNumber, Keeps};
+ghost use Rattle.delay_table.specs.Groups.{group_in, is_plain, place_of};
+
+use csv_rows::Ids;
+use indexmap::IndexSet;
+use plan_model::NoMemory;
+use std::alloc::Global;
+use std::marker::Model;
+
+/// What a group is of, by the number of its route.
+#[derive(Clone, Copy, Debug, PartialEq, Eq, Hash)]
+pub(crate) struct NumberedGroup {
+    class: Option<u16>,
+    route: Option<u32>,
+    hour: Option<u8>,
+}
+
+/// The number of a route, which is added where it is new.
+fn number_of(alloc: Global, routes: &mut Ids, id: &str) -> Result<u32, NoMemory>
+    requires { IsTrimmed id.now }
+    ensures added { OnOk result ((b : Bool) × Adds routes.old routes.new id.now b) }
+    ensures number { IfOk result (λ n. place_in id.now routes.new ≡ Some n) }
+    ensures err { OnErr result (routes.new ≡ routes.old) }
+{
+    if routes.len() == u32::MAX {
+        return Err(NoMemory);
+    }
+    routes.add(alloc, id)?;
+    match routes.number(id) {
+        Some(number) => Ok(number),
+        None => unreachable!(),
+    }
+}
+
+/// The number of a route, where one is told.
+fn add_route(alloc: Global, routes: &mut Ids, route: Option<&str>) -> Result<Option<u32>, NoMemory>
+    requires trimmed { IfSome route (λ s. IsTrimmed s.now) }
+    ensures number { IfOk result (λ n.
+        IsNumber routes.new n (option_map (λ s. s.now) route.entry)) }
+    ensures keeps { Keeps routes.old routes.new }
+{
+    let Some(id) = route else {
+        return Ok(None);
+    };
+    match number_of(alloc, routes, id) {
+        Ok(number) => Ok(Some(number)),
+        Err(_) => Err(NoMemory),
+    }
+}
+
+/// The place of a group by the number of its route, if it is there.
+fn numbered_place(groups: &IndexSet<NumberedGroup>, group: &NumberedGroup) -> Option<usize>
+    ensures place { result ≡ position (same_numbered group.now) groups.now.keys }
+    ensures found { is_some result ≡ list_any (same_numbered group.now) groups.now.keys }
+{
+    groups.get_index_of(group)
+}
+
+/// Adds a group that is new.
+fn insert(groups: &mut IndexSet<NumberedGroup>, group: NumberedGroup) -> Result<(), NoMemory>
+    requires { list_any (same_numbered group) groups.old.keys ≡ false }
+    ensures ok { OnOk result (groups.new.keys ≡ groups.old.keys ++ group ∷ []) }
+    ensures err { OnErr result (groups.new.keys ≡ groups.old.keys) }
+{
+    groups.insert(group)?;
+    Ok(())
+}
+
+/// The group at a place.
+fn numbered_at(groups: &IndexSet<NumberedGroup>, place: usize) -> NumberedGroup
+    requires { place < length groups.now.keys }
+    ensures { result ≡ slice_index_or groups.now.keys place no_group }
+{
+    groups.as_slice()[place]
+}
+
+/// The route of a number, where one is told.
+fn route_of(routes: &Ids, number: Option<u32>) -> Option<&str>
+    requires { IfSome number (λ n. n < length routes.now) }
+    ensures is { option_map (λ s. s.now) result
+        ≡ option_map (λ k. slice_index_or routes.now k []) number }
+    ensures trimmed { IfSome result (λ s. IsTrimmed s.now) }
+{
+    let _count = routes.len();
+    match number {
+        None => None,
+        Some(number) => Some(routes.get(number)),
+    }
+}
+
+/// Groups, each of one class, one route and one hour, in the order in which they were added.
+#[derive(Drop)]
+pub(crate) struct Groups {
+    routes: Ids,
+    groups: IndexSet<NumberedGroup>,
+}
+
+impl Model for Groups {
+    ghost use Rattle.std.specs.Prelude.{List};
+    ghost use Rattle.delay_table.specs.Groups.{Group};
+
+    ghost Value = { List Group };
+
+    ghost use Rattle.delay_table.specs.Numbered.{groups_of, HasGroups};
+
+    ghost view = { groups_of };
+
+    ghost invariant = { HasGroups };
+}
+
+impl Groups {
+    /// No groups.
+    pub(crate) fn new(alloc: Global) -> Groups
+        ensures { result ≡ [] }
+    {
+        Groups {
+            routes: Ids::new(alloc),
+            groups: IndexSet::new(alloc),
+        }
+    }
+
+    /// How many there are.
+    pub(crate) fn len(&self) -> usize
+        ensures { result ≡ length self.now }
+    {
+        self.groups.len()
+    }
+
+    /// The place of a group, if it is there.
+    pub(crate) fn place(
+        &self,
+        class: Option<u16>,
+        route: Option<&str>,
+        hour: Option<u8>,
+    ) -> Option<usize>
+        ensures place { result ≡ place_of (record {
+          class = class;
+          route = option_map (λ s. s.now) route.entry;
+          hour = hour;
+        }) self.now }
+        ensures inside { IfSome result (λ place. place < length self.now) }
+    {
+        let route = match route {
+            None => None,
+            Some(id) => match self.routes.number(id) {
+                None => return None,
+                Some(number) => Some(number),
+            },
+        };
+        numbered_place(&self.groups, &NumberedGroup { class, route, hour })
+    }
+
+    /// Adds a group that is new.
+    pub(crate) fn add(
+        &mut self,
+        alloc: Global,
+        class: Option<u16>,
+        route: Option<&str>,
+        hour: Option<u8>,
+    ) -> Result<(), NoMemory>
+        requires new { place_of (record {
+          class = class;
+          route = option_map (λ s. s.now) route;
+          hour = hour;
+        }) self.old ≡ None }
+        requires trimmed { IfSome route (λ s. IsTrimmed s.now) }
+        ensures { OnOk result (self.new ≡ self.old ++ (record {
+          class = class;
+          route = option_map (λ s. s.now) route.entry;
+          hour = hour;
+        }) ∷ []) }
+    {
+        let number = add_route(alloc, &mut self.routes, route)?;
+        let group = NumberedGroup {
+            class,
+            route: number,
+            hour,
+        };
+        insert(&mut self.groups, group)
+    }
+
+    /// Whether a group names neither a route nor an hour.
+    pub(crate) fn is_plain(&self, place: usize) -> bool
+        requires { place < length self.now }
+        ensures { result ≡ is_plain (group_in self.now place) }
+    {
+        let group = self.groups.as_slice()[place];
+        group.route.is_none() && group.hour.is_none()
+    }
+
+    /// Adds a group of another list, which is new here.
+    pub(crate) fn add_from(
+        &mut self,
+        alloc: Global,
+        other: &Groups,
+        place: usize,
+    ) -> Result<(), NoMemory>
+        requires inside { place < length other.now }
+        requires new { place_of (group_in other.now place) self.old ≡ None }
+        ensures { OnOk result (self.new ≡ self.old ++ group_in other.now place ∷ []) }
+    {
+        let group = numbered_at(&other.groups, place);
+        let route = route_of(&other.routes, group.route);
+        self.add(alloc, group.class, route, group.hour)
+    }
+}

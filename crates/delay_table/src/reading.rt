@@ -1,0 +1,205 @@
+//! The outcomes of each group, row by row.
+ghost use Rattle.std.specs.Prelude.{◌≡◌, ◌≢◌, ◌+◌, ◌<◌, ◌++◌, ◌∷◌, [], length, Some, None, OnOk, IfOk, IfErr, IfSome, option_map};
+ghost use Rattle.csv_rows.specs.First.{first_below};
+ghost use Rattle.csv_rows.specs.Tables.{row_count};
+ghost use Rattle.plan_model.specs.NameLists.{IsTrimmed};
+ghost use Rattle.delay_table.specs.Groups.{group_in, of_class, place_of};
+ghost use Rattle.delay_table.specs.Delays.{fault_after, line_fault, line_with, too_many};
+ghost use Rattle.delay_table.specs.Lines.{AreColumns};
+ghost use Rattle.delay_table.specs.Read.{AddsRow, IsPushed, IsRead, IsReadTo, line_at, rows_at, rows_of};
+
+use crate::faults::DelayFault;
+use crate::groups::Groups;
+use crate::lines::{Columns, DelayLine, class_name, line_at};
+use csv_rows::Rows;
+use plan_model::{List, Outcome};
+use std::alloc::Global;
+
+/// A group has no more rows.
+const MOST_ROWS: usize = 64;
+
+/// The outcomes of a group, and the line where it begins.
+#[derive(Drop)]
+pub(crate) struct GroupRows {
+    pub(crate) line: u64,
+    pub(crate) outcomes: List<Outcome>,
+}
+
+/// The groups in the order of their first rows, and the outcomes of each.
+#[derive(Drop)]
+pub(crate) struct ReadRows {
+    pub(crate) groups: Groups,
+    pub(crate) rows: Vec<GroupRows>,
+}
+
+/// The fault of a 65th row of a group.
+fn too_many(line: &DelayLine<'_>, number: u64) -> DelayFault
+    ensures { result ≡ too_many (line_with line.now.class (option_map (λ s. s.now) line.now.route)
+        line.now.hour line.now.outcome).group number }
+{
+    if line.route.is_none() && line.hour.is_none() {
+        DelayFault::TooManyRows(class_name(line.class))
+    } else {
+        DelayFault::GroupRows(number)
+    }
+}
+
+/// The fault of a row after these of its group.
+fn fault_after(earlier: &[Outcome], line: &DelayLine<'_>, number: u64) -> Option<DelayFault>
+    ensures { result ≡ fault_after earlier.now (line_with line.now.class (option_map (λ s. s.now) line.now.route)
+        line.now.hour line.now.outcome) number }
+{
+    if earlier.len() >= MOST_ROWS {
+        return Some(too_many(line, number));
+    }
+    match earlier.last() {
+        None => None,
+        Some(before) => {
+            if before.delay < line.outcome.delay {
+                None
+            } else {
+                Some(DelayFault::NotRising(number))
+            }
+        }
+    }
+}
+
+/// The outcomes of the group at a place.
+fn outcomes_at(rows: &[GroupRows], place: usize) -> &[Outcome]
+    requires { place < length rows.now }
+    ensures { result.now ≡ (rows_at rows.now place).outcomes }
+{
+    rows[place].outcomes.as_slice()
+}
+
+impl ReadRows {
+    /// Adds a row to those of a group that is there.
+    fn push(&mut self, place: usize, line: &DelayLine<'_>, number: u64) -> Result<(), DelayFault>
+        requires { place < length self.old.rows.items }
+        ensures groups { self.new.groups ≡ self.old.groups }
+        ensures none { OnOk result (fault_after (rows_at self.old.rows.items place).outcomes
+            (line_with line.now.class (option_map (λ s. s.now) line.now.route)
+            line.now.hour line.now.outcome) number ≡ None) }
+        ensures pushed { OnOk result
+            (IsPushed self.old.rows.items self.new.rows.items place line.now.outcome) }
+        ensures err { IfErr result (λ f. f ≢ DelayFault.NoMemory
+            → fault_after (rows_at self.old.rows.items place).outcomes
+            (line_with line.now.class (option_map (λ s. s.now) line.now.route)
+            line.now.hour line.now.outcome) number ≡ Some f) }
+    {
+        let row: &mut List<Outcome> = &mut self.rows[place].outcomes;
+        if let Some(fault) = fault_after(row.as_slice(), line, number) {
+            return Err(fault);
+        }
+        row.push(line.outcome)?;
+        Ok(())
+    }
+
+    /// Adds the first row of a group.
+    fn begin(&mut self, alloc: Global, line: &DelayLine<'_>, number: u64) -> Result<(), DelayFault>
+        requires new { place_of (line_with line.now.class (option_map (λ s. s.now) line.now.route)
+            line.now.hour line.now.outcome).group self.old.groups ≡ None }
+        requires trimmed { IfSome line.now.route (λ s. IsTrimmed s.now) }
+        ensures groups { OnOk result (self.new.groups ≡ self.old.groups
+            ++ (line_with line.now.class (option_map (λ s. s.now) line.now.route)
+            line.now.hour line.now.outcome).group ∷ []) }
+        ensures rows { OnOk result (self.new.rows.items ≡ self.old.rows.items
+            ++ (record { line = number; outcomes = line.now.outcome ∷ [] }) ∷ []) }
+        ensures err { IfErr result (λ f. f ≡ DelayFault.NoMemory) }
+    {
+        self.groups.add(alloc, line.class, line.route, line.hour)?;
+        let mut outcomes: List<Outcome> = List::new(alloc);
+        outcomes.push(line.outcome)?;
+        let row = GroupRows {
+            line: number,
+            outcomes,
+        };
+        match self.rows.push(row) {
+            Ok(()) => Ok(()),
+            Err(_) => Err(DelayFault::NoMemory),
+        }
+    }
+
+    /// Adds a row to those of its group.
+    fn add(&mut self, alloc: Global, line: &DelayLine<'_>, number: u64) -> Result<(), DelayFault>
+        requires size { length self.old.rows.items ≡ length self.old.groups }
+        requires trimmed { IfSome line.now.route (λ s. IsTrimmed s.now) }
+        ensures none { OnOk result (fault_after (rows_of self.old.groups self.old.rows.items
+            (line_with line.now.class (option_map (λ s. s.now) line.now.route)
+            line.now.hour line.now.outcome).group)
+            (line_with line.now.class (option_map (λ s. s.now) line.now.route)
+            line.now.hour line.now.outcome) number ≡ None) }
+        ensures added { OnOk result (AddsRow self.old.groups self.old.rows.items
+            (line_with line.now.class (option_map (λ s. s.now) line.now.route)
+            line.now.hour line.now.outcome) number self.new.groups self.new.rows.items) }
+        ensures err { IfErr result (λ f. f ≢ DelayFault.NoMemory
+            → fault_after (rows_of self.old.groups self.old.rows.items
+            (line_with line.now.class (option_map (λ s. s.now) line.now.route)
+            line.now.hour line.now.outcome).group)
+            (line_with line.now.class (option_map (λ s. s.now) line.now.route)
+            line.now.hour line.now.outcome) number ≡ Some f) }
+    {
+        match self.groups.place(line.class, line.route, line.hour) {
+            Some(place) => self.push(place, line, number),
+            None => self.begin(alloc, line, number),
+        }
+    }
+
+    /// The outcomes of a class alone, none where it is not named.
+    pub(crate) fn class_rows(&self, class: Option<u16>) -> &[Outcome]
+        requires { length self.now.rows.items ≡ length self.now.groups }
+        ensures { result.now ≡ rows_of self.now.groups self.now.rows.items (of_class class) }
+    {
+        match self.groups.place(class, None, None) {
+            Some(place) => outcomes_at(self.rows.as_slice(), place),
+            None => &[],
+        }
+    }
+
+    /// The outcomes of the group at a place.
+    pub(crate) fn group_rows(&self, place: usize) -> &[Outcome]
+        requires place { place < length self.now.groups }
+        requires read { IsRead self.now.groups self.now.rows.items }
+        ensures { result.now ≡ rows_of self.now.groups self.now.rows.items (group_in self.now.groups place) }
+    {
+        outcomes_at(self.rows.as_slice(), place)
+    }
+
+    /// The line where the group at a place begins.
+    pub(crate) fn line(&self, place: usize) -> u64
+        requires { place < length self.now.rows.items }
+        ensures { result ≡ line_at self.now.rows.items place }
+    {
+        self.rows[place].line
+    }
+}
+
+/// The outcomes of each group.
+pub(crate) fn read_rows(
+    alloc: Global,
+    rows: &Rows,
+    columns: &Columns,
+) -> Result<ReadRows, DelayFault>
+    requires { AreColumns rows.now columns.now }
+    ensures none { OnOk result (first_below (line_fault rows.now) (row_count rows.now) ≡ None) }
+    ensures read { IfOk result (λ read.
+        IsReadTo rows.now (row_count rows.now) read.groups read.rows.items) }
+    ensures err { IfErr result (λ f. f ≢ DelayFault.NoMemory
+        → first_below (line_fault rows.now) (row_count rows.now) ≡ Some f) }
+{
+    let mut read = ReadRows {
+        groups: Groups::new(alloc),
+        rows: Vec::new(alloc),
+    };
+    for i in 0..rows.count() {
+        let number = rows.line(i);
+        let Some(line) = line_at(rows, i, columns) else {
+            return Err(DelayFault::BadField(number));
+        };
+        match read.add(alloc, &line, number) {
+            Ok(()) => {}
+            Err(fault) => return Err(fault),
+        }
+    }
+    Ok(read)
+}

@@ -1,0 +1,2 @@
+pub mod Sited
+pub mod Pieces

@@ -1,0 +1,81 @@
+-- Where in a timetable a fault is, and what is told of that.
+use Rattle.std.specs.Prelude.{ℕ, ◌<◌, ◌≤◌, List, [], ◌++◌, length, Option, None, Some, option_map, codes}
+use Rattle.clock_text.specs.Civil.{moment_text}
+use Rattle.plan_model.specs.declared.model.Moment.{Moment}
+use Rattle.plan_model.specs.declared.model.PlaceId.{PlaceId}
+use Rattle.plan_model.specs.Parts.{Parts}
+use Rattle.plan_model.specs.NameLists.{NameLists}
+use Rattle.graph_text.specs.Texts.{place_name}
+use Rattle.trip_replay.specs.declared.ReplayFault.{ReplayFault}
+use Rattle.trip_replay.specs.declared.ReplayFault.TheVariants as replay
+use Rattle.fault_lines.specs.declared.told.NamedNetwork.{NamedNetwork}
+use Rattle.fault_lines.specs.declared.faults.Site.{Site}
+use Rattle.fault_lines.specs.declared.faults.Site.TheVariants.{Arrival}
+use Rattle.fault_lines.specs.declared.faults.Fault.{Fault}
+use Rattle.fault_lines.specs.declared.faults.Fault.TheVariants.{Words, Feed, Cut, Missing, Delays, UnknownStop, Limit, Read, NoSafe, GraphFile, Replay, Write, NoMemory}
+
+-- the last moment that has a text: 9999-12-31T23:59:59
+abbrev pub last_printable : ℕ
+last_printable = 253402300799
+
+-- a timetable with its names, by which a line tells where a fault is
+pub record NamedParts : Type 0 where
+  pub network : Parts
+  pub names : NameLists
+
+abbrev pub known_parts : NamedNetwork → NamedParts
+known_parts known = record { network = known.network.now; names = known.names.now }
+
+abbrev pub known_in : Option NamedNetwork → Option NamedParts
+known_in known = option_map known_parts known
+
+-- where a trip is stuck
+abbrev pub site_of_replay : ReplayFault → Option Site
+site_of_replay (replay.NotADelay number) = None
+site_of_replay (replay.TooFew ridden) = None
+site_of_replay (replay.TooMany ridden) = None
+site_of_replay (replay.Stuck place moment) = Some (Arrival place moment)
+site_of_replay replay.NoMemory = None
+
+-- where a fault is
+abbrev pub site_of : Fault → Option Site
+site_of (Words fault) = None
+site_of (Feed fault) = None
+site_of (Cut fault) = None
+site_of (Missing input) = None
+site_of (Delays fault) = None
+site_of (UnknownStop which) = None
+site_of (Limit kind count) = None
+site_of (Read input) = None
+site_of NoSafe = None
+site_of (GraphFile fault) = None
+site_of (Replay fault) = site_of_replay fault
+site_of Write = None
+site_of NoMemory = None
+
+-- a place and a moment
+abbrev pub arrival_text : NameLists → PlaceId → Moment → List ℕ
+arrival_text names place moment = codes " at " ++ (place_name names place.0 ++ (codes " at " ++ moment_text moment.0))
+
+-- what is told of a site
+abbrev pub site_text : NamedParts → Site → List ℕ
+site_text known (Arrival place moment) = arrival_text known.names place moment
+
+-- nothing, where a fault is at no site, or no timetable is known
+abbrev pub site_text_in : Option NamedParts → Option Site → List ℕ
+site_text_in known None = []
+site_text_in None (Some site) = []
+site_text_in (Some known) (Some site) = site_text known site
+
+-- the place has a name, and the moment a text
+abbrev pub IsTellableSite : NamedParts → Site → Type 0
+IsTellableSite known (Arrival place moment) = (place.0 < length known.names.places) × (moment.0 ≤ last_printable)
+
+-- where a fault is at a site, a timetable is known that has this site
+abbrev pub IsTellableIn : Option NamedParts → Option Site → Type 0
+IsTellableIn known None = Unit {0}
+IsTellableIn None (Some site) = ⊥
+IsTellableIn (Some known) (Some site) = IsTellableSite known site
+
+abbrev pub IsTellable : Option NamedParts → Fault → Type 0
+IsTellable known fault = IsTellableIn known (site_of fault)

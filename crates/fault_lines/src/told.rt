@@ -1,0 +1,80 @@
+//! The line of a fault, by the names of its timetable.
+ghost use Rattle.std.specs.Prelude.{◌≡◌, ◌<◌, ◌≤◌, ◌++◌, length, IfOk, codes};
+ghost use Rattle.fault_lines.specs.Lines.{plain_text, line_of};
+ghost use Rattle.fault_lines.specs.Sites.{last_printable, arrival_text, known_parts, known_in, site_of, site_text, site_text_in, IsTellable, IsTellableSite};
+
+use crate::faults::{Fault, Site};
+use crate::lines::FaultText;
+use clock_text::write_moment;
+use plan_model::{Moment, Names, Network, NoMemory, PlaceId};
+use std::alloc::Global;
+
+/// A timetable with its names, by which a line tells where a fault is.
+#[derive(Clone, Copy)]
+pub struct NamedNetwork<'a> {
+    /// The connections.
+    pub network: &'a Network,
+    /// The names of the places and of the runs.
+    pub names: &'a Names,
+}
+
+/// A line with a place and a moment behind it.
+fn with_arrival(
+    line: Vec<u8>,
+    names: &Names,
+    place: PlaceId,
+    moment: Moment,
+) -> Result<Vec<u8>, NoMemory>
+    requires place { place.0 < length names.now.places }
+    requires moment { moment.0 ≤ last_printable }
+    ensures { IfOk result (λ text.
+        text.items ≡ line.items ++ arrival_text names.now place moment) }
+{
+    let moment = write_moment(moment);
+    let mut line = line;
+    line.extend_from_slice(b" at ")?;
+    line.extend_from_slice(names.place_name(place).as_bytes())?;
+    line.extend_from_slice(b" at ")?;
+    line.extend_from_slice(moment.as_slice())?;
+    Ok(line)
+}
+
+/// A line with what is told of a site behind it.
+fn with_site(line: Vec<u8>, site: Site, known: NamedNetwork) -> Result<Vec<u8>, NoMemory>
+    requires { IsTellableSite (known_parts known) site }
+    ensures { IfOk result (λ text.
+        text.items ≡ line.items ++ site_text (known_parts known.entry) site) }
+{
+    match site {
+        Site::Arrival(place, moment) => with_arrival(line, known.names, place, moment),
+    }
+}
+
+/// What a fault is, and where in the timetable, where this is known.
+fn front_of(alloc: Global, fault: Fault, known: Option<NamedNetwork>) -> Result<Vec<u8>, NoMemory>
+    requires { IsTellable (known_in known) fault }
+    ensures { IfOk result (λ text. text.items
+        ≡ (codes "meat: " ++ plain_text fault) ++ site_text_in (known_in known.entry) (site_of fault)) }
+{
+    let text = FaultText(fault);
+    let line = format!(in alloc; "meat: {text}")?.into_bytes();
+    match (fault.site(), known) {
+        (Some(site), Some(known)) => with_site(line, site, known),
+        _ => Ok(line),
+    }
+}
+
+/// The line that tells a fault: what it is, and where in the timetable, which is known where the fault
+/// is at a place of one.
+pub fn fault_line(
+    alloc: Global,
+    fault: Fault,
+    known: Option<NamedNetwork>,
+) -> Result<Vec<u8>, NoMemory>
+    requires { IsTellable (known_in known) fault }
+    ensures { IfOk result (λ line. line.items ≡ line_of (known_in known.entry) fault) }
+{
+    let mut line = front_of(alloc, fault, known)?;
+    line.extend_from_slice(b"\n")?;
+    Ok(line)
+}

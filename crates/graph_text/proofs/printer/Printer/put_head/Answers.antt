@@ -1,0 +1,22 @@
+use Rattle.std.proofs.Common.{◌≡◌, ◌++◌, ◌∙◌, ℕ, List, [], subst, ap, refl}
+use Rattle.std.specs.Prelude.{OnOk}
+use Rattle.clock_text.specs.Civil.{nanos_text}
+use Rattle.graph_text.specs.Texts.{row_of_fields}
+use Rattle.graph_text.specs.Writers.{written}
+use Rattle.graph_text.proofs.Fields.{take_nine, name_is}
+use Rattle.graph_text.proofs.printer.Printer.put_head.Goals as goal
+
+pub returns-clause-text : goal.returns-clause-text
+returns-clause-text c =
+    let fields = take_nine c.args.self.now.version c.args.kind.now c.as_slice.result.now c.as_bytes.result.now c.as_bytes-2.result.now c.as_slice-2.result.now c.as_slice-3.result.now c.as_slice-4.result.now c.as_slice-5.result.now c.as_slice-6.result.now
+    _ _ _ _ _ _ _ _ []
+    refl
+    (c.as_slice.ensures ∙ c.digit.ensures)
+    (c.as_bytes.ensures.value ∙ name_is c.args.self.now.names.now.places c.args.head.now.query.source.0 c.place_name.result.now c.place_name.ensures.name)
+    (c.as_bytes-2.ensures.value ∙ name_is c.args.self.now.names.now.places c.args.head.now.query.target.0 c.place_name-2.result.now c.place_name-2.ensures.name)
+    (c.as_slice-2.ensures ∙ c.write_moment-start.ensures.text)
+    (c.as_slice-3.ensures ∙ c.write_moment-deadline.ensures.text)
+    (c.as_slice-4.ensures ∙ c.write_nanos-lo.ensures.text ∙ ap nanos_text c.lo.ensures.lo)
+    (c.as_slice-5.ensures ∙ c.write_nanos-hi.ensures.text ∙ ap nanos_text c.hi.ensures)
+    c.as_slice-6.ensures in
+    subst (λ (list : List (List ℕ)). OnOk c.put_row.result (written c.put_row.new.writer ≡ written c.args.writer.now ++ row_of_fields list)) fields c.put_row.ensures.text

@@ -1,0 +1,18 @@
+use Rattle.std.proofs.Common.{◌≡◌, ◌++◌, ◌∙◌, ℕ, List, [], subst, ap}
+use Rattle.std.specs.Prelude.{OnOk, decimal}
+use Rattle.graph_text.specs.Texts.{row_of_fields}
+use Rattle.graph_text.specs.Writers.{written}
+use Rattle.graph_text.proofs.Fields.{take_nine, name_is}
+use Rattle.graph_text.proofs.printer.Printer.put_place.Goals as goal
+
+pub returns-clause-text : goal.returns-clause-text
+returns-clause-text c =
+    let none = c.as_slice-none.result.now in
+    let fields = take_nine c.args.self.now.version c.as_slice.result.now c.as_bytes.result.now c.as_bytes-2.result.now c.as_bytes-3.result.now none none none none none
+    _ _ _ _ _ _ _ _ []
+    c.as_slice.ensures
+    (c.as_bytes.ensures.value ∙ name_is c.args.self.now.names.now.places c.args.place.0 c.place_name.result.now c.place_name.ensures.name)
+    (c.as_bytes-2.ensures.value ∙ c.format.ensures.text ∙ ap decimal c.change.ensures)
+    (c.as_bytes-3.ensures.value ∙ c.format-2.ensures.text)
+    c.as_slice-none.ensures c.as_slice-none.ensures c.as_slice-none.ensures c.as_slice-none.ensures c.as_slice-none.ensures in
+    subst (λ (list : List (List ℕ)). OnOk c.put_row.result (written c.put_row.new.writer ≡ written c.args.writer.now ++ row_of_fields list)) fields c.put_row.ensures.text

@@ -1,0 +1,18 @@
+use Rattle.std.proofs.Common.{◌≡◌, ◌++◌, ◌∙◌, ℕ, List, subst, ap, length}
+use Rattle.std.specs.Prelude.{OnOk, codes, decimal}
+use Rattle.plan_graph.specs.declared.GraphRow.{GraphRow}
+use Rattle.graph_text.specs.Texts.{leg_row, rows_text}
+use Rattle.graph_text.specs.Writers.{written}
+use Rattle.graph_text.proofs.Fields.{append_ok}
+use Rattle.graph_text.proofs.printer.Printer.put_ride.Goals as goal
+
+pub returns-clause-text : goal.returns-clause-text
+returns-clause-text c =
+    let n = c.args.self.now.network.now in
+    let names = c.args.self.now.names.now in
+    let version = c.args.self.now.version in
+    let r = c.args.ride.now in
+    let second = c.as_bytes-number.ensures.value ∙ c.format.ensures.text ∙ ap decimal c.len.ensures in
+    let first = c.in_ok-put_leg.ensures.text ∙ ap (λ (bytes : List ℕ). written c.args.writer.now ++ leg_row n names version (codes "ride") bytes r.leg) second in
+    append_ok c.put_rows.result (written c.put_rows.new.writer) (written c.put_leg.new.writer) (written c.args.writer.now) (leg_row n names version (codes "ride") (decimal (length r.after)) r.leg) (rows_text n names version (codes "next") r.after) first
+    (subst (λ (rows : List GraphRow). OnOk c.put_rows.result (written c.put_rows.new.writer ≡ written c.put_leg.new.writer ++ rows_text n names version (codes "next") rows)) c.as_slice.ensures c.put_rows.ensures.text)

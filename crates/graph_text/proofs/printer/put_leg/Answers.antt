@@ -1,0 +1,20 @@
+use Rattle.std.proofs.Common.{◌≡◌, ◌++◌, ◌∙◌, ℕ, List, subst}
+use Rattle.std.specs.Prelude.{OnOk}
+use Rattle.graph_text.specs.Texts.{row_of_fields}
+use Rattle.graph_text.specs.Writers.{written}
+use Rattle.graph_text.proofs.Fields.{leg_row_fields, name_is}
+use Rattle.graph_text.proofs.printer.put_leg.Goals as goal
+
+pub returns-clause-text : goal.returns-clause-text
+returns-clause-text c =
+    let fields = leg_row_fields c.args.network.now c.args.names.now c.args.version c.args.leg c.get-enter.result c.get-exit.result c.args.kind.now c.args.second.now
+    c.as_bytes.result.now c.as_bytes-2.result.now c.as_slice.result.now c.as_bytes-3.result.now c.as_bytes-4.result.now c.as_slice-2.result.now c.as_bytes-5.result.now
+    c.get-enter.ensures.connection c.get-exit.ensures.connection
+    (c.as_bytes.ensures.value ∙ name_is c.args.names.now.runs c.get-enter.result.run.0 c.run_name.result.now c.run_name.ensures.name)
+    (c.as_bytes-2.ensures.value ∙ c.format.ensures.text)
+    (c.as_slice.ensures ∙ c.write_moment-dep.ensures.text)
+    (c.as_bytes-3.ensures.value ∙ c.format-2.ensures.text)
+    (c.as_bytes-4.ensures.value ∙ name_is c.args.names.now.places c.get-exit.result.to.0 c.place_name.result.now c.place_name.ensures.name)
+    (c.as_slice-2.ensures ∙ c.write_moment-arr.ensures.text)
+    (c.as_bytes-5.ensures.value ∙ name_is c.args.names.now.places c.get-enter.result.from.0 c.place_name-2.result.now c.place_name-2.ensures.name) in
+    subst (λ (list : List (List ℕ)). OnOk c.put_row.result (written c.put_row.new.writer ≡ written c.args.writer.now ++ row_of_fields list)) fields c.put_row.ensures.text

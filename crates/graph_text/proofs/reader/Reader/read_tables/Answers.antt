@@ -1,0 +1,23 @@
+use Rattle.std.proofs.Common.{◌≡◌, ◌∙◌, ℕ, ◌+◌, drop, Err, Result, List, arith, sym, subst}
+use Rattle.plan_graph.specs.declared.PlaceTable.{PlaceTable}
+use Rattle.graph_text.specs.declared.reader.TextFault.{TextFault}
+use Rattle.graph_text.specs.Reading.{IsRead, tables_from}
+use Rattle.graph_text.proofs.Steps.{tables_after, tables_fail}
+use Rattle.graph_text.proofs.reader.Reader.read_tables.Goals as goal
+
+pub returns-in-Err : goal.returns-in-Err
+returns-in-Err c =
+    subst (λ (told : Result (List PlaceTable) TextFault). IsRead (Err c.in-Err.fault) told) (sym c.loop-row.invariant.told)
+    (tables_fail c.args.self.now.network.now c.args.self.now.names.now c.args.self.now.version c.args.self.now.rows.now (c.loop-row.row + 2) (c.loop-row.row + 1) c.loop-row.reading c.in-Err.fault
+    (omega (arith, c.count-count.ensures.count, c.loop-row-test.true)) c.in-Err.ensures.told)
+
+pub loop-row-preserved : goal.loop-row-preserved
+loop-row-preserved c =
+    let line : c.loop-row.row + 2 + 1 ≡ c.loop-row.row + 1 + 2 = omega arith in
+    record {
+      told = c.loop-row.invariant.told ∙ subst (λ (k : ℕ). tables_from c.args.self.now.network.now c.args.self.now.names.now c.args.self.now.version (drop (c.loop-row.row + 1) c.args.self.now.rows.now) (c.loop-row.row + 2) c.loop-row.reading
+          ≡ tables_from c.args.self.now.network.now c.args.self.now.names.now c.args.self.now.version (drop (c.loop-row.row + 1 + 1) c.args.self.now.rows.now) k c.in-Ok.reading) line
+          (tables_after c.args.self.now.network.now c.args.self.now.names.now c.args.self.now.version c.args.self.now.rows.now (c.loop-row.row + 2) (c.loop-row.row + 1) c.loop-row.reading c.in-Ok.reading
+          (omega (arith, c.count-count.ensures.count, c.loop-row-test.true)) c.in-Ok.ensures.told);
+      place = c.in-Ok.ensures.place;
+    }

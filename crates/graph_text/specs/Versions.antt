@@ -1,0 +1,45 @@
+-- The two versions of a graph's text.
+use Rattle.std.specs.Prelude.{◌≡◌, ℕ, Bool, true, List, [], ◌∷◌, ◌==◌, ◌&&◌, if◌then◌else◌, codes}
+use Rattle.plan_model.specs.declared.model.Leg.{Leg}
+use Rattle.plan_model.specs.Parts.{Parts}
+use Rattle.plan_model.specs.Network.{from_of}
+use Rattle.plan_model.specs.Unfold.{end_of}
+use Rattle.plan_graph.specs.declared.GraphRow.{GraphRow}
+use Rattle.plan_graph.specs.declared.Ride.{Ride}
+use Rattle.plan_graph.specs.declared.PlaceTable.{PlaceTable}
+use Rattle.graph_text.specs.declared.version.Version.{Version}
+use Rattle.graph_text.specs.declared.version.Version.TheVariants.{First, Second}
+
+-- its number, as the first row tells it
+abbrev pub number_of_version : Version → List ℕ
+number_of_version First = codes "1"
+number_of_version Second = codes "2"
+
+-- how many fields each row has
+abbrev pub width_of : Version → ℕ
+width_of First = 8
+width_of Second = 9
+
+-- the ninth field, which only the second version has
+abbrev pub ninth : Version → List ℕ → List (List ℕ)
+ninth First field = []
+ninth Second field = field ∷ []
+
+-- whether each leg of a place's rows leaves that place
+abbrev pub rows_leave : Parts → ℕ → List GraphRow → Bool
+rows_leave n place [] = true
+rows_leave n place (row ∷ rows) = (from_of n row.leg.enter.0 == place) && rows_leave n place rows
+
+-- of each place
+abbrev pub tables_leave : Parts → List PlaceTable → Bool
+tables_leave n [] = true
+tables_leave n (table ∷ tables) = rows_leave n table.place.0 table.rows && tables_leave n tables
+
+-- and whether the legs after each ride leave the place where it ends
+abbrev pub rides_leave : Parts → List Ride → Bool
+rides_leave n [] = true
+rides_leave n (r ∷ rides) = rows_leave n (end_of n r.leg) r.after && rides_leave n rides
+
+-- the version: the first where each leg leaves its row's place, and the second where one does not
+abbrev pub version_by : Bool → Version
+version_by leave = if leave then First else Second

@@ -1,0 +1,237 @@
+-- The entries of a board, one connection and one way after the other, and in order.
+use Rattle.std.proofs.Common.{◌≡◌, ◌≢◌, ℕ, zero, suc, ◌+◌, ◌-◌, ◌<◌, ◌≤◌, ◌⊎◌, List, [], ◌∷◌, ◌++◌, length, get_or, set, reverse, slice_get, Option, Some, IsTrue, true, false, ltb, arith, ⊎_elim, inl, inr, sym, ◌∙◌, ap, subst, refl, get_or-set_other, get_or-set_same, zero}
+use Rattle.std.specs.declared.cmp.Ordering.{Ordering}
+use Rattle.std.specs.Ordering.{is_lt, nat_cmp, ordering_then}
+use Rattle.std.specs.List.Sorted.{IsPermutation, IsSorted}
+use Rattle.std.proofs.lemmas.Bool.{cases_eq, cases_lt}
+use Rattle.std.proofs.lemmas.Bool.Decides.{nat_tests}
+use Rattle.std.proofs.lemmas.List.{length-set, length_push, get_or-reverse, get_or_append_left, get_or_at, get_or_default}
+use Rattle.std.proofs.lemmas.List.Sorted.{All-permutation, Contains-permutation}
+use Rattle.plan_model.specs.declared.model.Way.{Way}
+use Rattle.plan_model.specs.Parts.{Parts}
+use Rattle.plan_model.specs.Network.{IsValid, count, connection, from_of, dep_of}
+use Rattle.plan_model.specs.Ways.{ways_into}
+use Rattle.plan_model.specs.Strategy.{IsBoardable}
+use Rattle.plan_model.proofs.Boarding.{way_of-listed, listed-way_of}
+use Rattle.lower_proof.specs.declared.board.Entry.{Entry}
+use Rattle.lower_proof.specs.Boards.{Shown, entry_at, IsEntry, AreEntries, Falls}
+use Rattle.lower_proof.specs.Minima.{board_at, AreBoards, AllLate, HaveEntries}
+
+abbrev pub no_board : Shown
+no_board = record { entries = []; least = [] }
+
+abbrev pub no_entry : Entry
+no_entry = record { by = record { 0 = 0 }; id = record { 0 = 0 } }
+
+-- one more empty board
+pub push_empty : (boards : List Shown) (board : Shown) → board ≡ no_board → ((p : ℕ) → board_at boards p ≡ no_board) → (p : ℕ) → board_at (boards ++ board ∷ []) p ≡ no_board
+push_empty [] board is empty zero = is
+push_empty [] board is empty (suc p) = refl
+push_empty (b ∷ boards) board is empty zero = empty zero
+push_empty (b ∷ boards) board is empty (suc p) = push_empty boards board is (λ k. empty (suc k)) p
+
+-- ---- order
+
+abbrev pub entry_cmp : Entry → Entry → Ordering
+entry_cmp a b = ordering_then (nat_cmp a.by.0 b.by.0) (nat_cmp a.id.0 b.id.0)
+
+not_above : (x y u v : ℕ) → is_lt (ordering_then (nat_cmp y x) (nat_cmp v u)) ≡ false → x ≤ y
+not_above x y u v h = ⊎_elim (λ below. let t : ltb y x ≡ true = grind (arith, nat_tests) in absurd (cc (rw t at h))) (λ le. le) (cases_lt y x)
+
+along : (ys : List Entry) → IsSorted entry_cmp ys → (d : Entry) (k m : ℕ) → k + suc m < length ys → (get_or ys k d).by.0 ≤ (get_or ys (k + suc m) d).by.0
+along ys up d k zero h = not_above (get_or ys k d).by.0 (get_or ys (k + 1) d).by.0 (get_or ys k d).id.0 (get_or ys (k + 1) d).id.0 (up k d (omega arith) h)
+along ys up d k (suc m) h =
+    let before = along ys up d k m (omega arith) in
+    let one = not_above (get_or ys (k + suc m) d).by.0 (get_or ys (k + suc m + 1) d).by.0 (get_or ys (k + suc m) d).id.0
+    (get_or ys (k + suc m + 1) d).id.0 (up (k + suc m) d (omega arith) (omega arith)) in
+    let e : k + suc m + 1 ≡ k + suc (suc m) = omega arith in
+    rw (← e) (omega arith)
+
+-- sorted and turned round, they fall
+pub falls_reversed : (ys : List Entry) → IsSorted entry_cmp ys → (zs : List Entry) → zs ≡ reverse ys → length zs ≡ length ys → Falls zs
+falls_reversed ys up zs is same i j d before within =
+    let first = ap (λ (w : List Entry). get_or w i d) is ∙ get_or-reverse ys i d (omega arith) in
+    let second = ap (λ (w : List Entry). get_or w j d) is ∙ get_or-reverse ys j d (omega arith) in
+    let at : length ys - 1 - j + suc (j - i - 1) ≡ length ys - 1 - i = omega arith in
+    let order = rw at at (along ys up d (length ys - 1 - j) (j - i - 1) (omega arith)) in
+    rw (first, second) order
+
+-- the same entries in another order
+pub entries_permuted : (n : Parts) (p m : ℕ) (xs ys : List Entry) → IsPermutation xs ys → AreEntries n p m xs → AreEntries n p m ys
+entries_permuted n p m xs ys moved are = record {
+  each = λ k within. All-permutation (IsEntry n p) xs ys moved (λ i d inside. subst (IsEntry n p) (get_or_default xs i no_entry d inside) (are.each i inside)) k no_entry within;
+  all = λ c x below board boards.
+      let (k, within, is) = are.all c x below board boards in
+      let (i, inside, at) = Contains-permutation xs ys (entry_at xs k) moved (k, within, get_or_default xs k (entry_at xs k) no_entry within) in
+      (i, inside, ap (λ (e : Entry). e.id.0) (get_or_default ys i no_entry (entry_at xs k) inside ∙ at) ∙ is);
+}
+
+-- ---- one way after the other
+
+-- a board with the first connections, and with this one by the first k ways into where it departs
+pub record HasWays (n : Parts) (id k p : ℕ) (board : Shown) : Type 0 where
+  pub entries : AreEntries n p id board.entries
+  pub own : (x j : ℕ) (way : Way) → j < k → slice_get (ways_into n (from_of n id)) j ≡ Some way → way.from.0 ≡ p → IsBoardable n p x id → (i : ℕ)
+      × (i < length board.entries) × ((entry_at board.entries i).id.0 ≡ id)
+  pub fresh : board.least ≡ []
+
+abbrev pub HaveWays : Parts → ℕ → ℕ → List Shown → Type 0
+HaveWays n id k boards = (p : ℕ) → p < length boards → HasWays n id k p (board_at boards p)
+
+module _ (n : Parts) (id : ℕ) where
+  pub no_ways : (boards : List Shown) → HaveEntries n id boards → HaveWays n id 0 boards
+  no_ways boards have p within = record { entries = (have p within).0; own = λ x j way below. absurd (omega arith); fresh = (have p within).1 }
+
+  -- all ways
+  pub all_ways : (boards : List Shown) (k : ℕ) → length (ways_into n (from_of n id)) ≤ k → HaveWays n id k boards → HaveEntries n (id + 1) boards
+  all_ways boards k whole have p within = (
+    record {
+      each = (have p within).entries.each;
+      all = λ c x below board boards. elim (cases_lt c id) [
+        | inl before ↦ (have p within).entries.all c x before board boards
+        | inr last ↦
+            let is : c ≡ id = omega arith in
+            let own = subst (λ i. IsBoardable n p x i) is boards in
+            let (j, listed, is_way) = listed-way_of n p (from_of n id) own.seconds own.way in
+            let (i, inside, at) = (have p within).own x j (record { from = record { 0 = p }; seconds = own.seconds }) (omega arith) is_way refl own in
+            (i, inside, at ∙ sym is)
+      ];
+    },
+    (have p within).fresh,
+  )
+
+  -- a connection that cannot be boarded
+  pub entries_skipped : (boards : List Shown) → (IsTrue (connection n id).can_board → ⊥) → HaveEntries n id boards → HaveEntries n (id + 1) boards
+  entries_skipped boards never have p within = (
+    record {
+      each = (have p within).0.each;
+      all = λ c x below board boards. elim (cases_lt c id) [
+        | inl before ↦ (have p within).0.all c x before board boards
+        | inr last ↦ let is : c ≡ id = omega arith in absurd (never (subst (λ i. IsTrue (connection n i).can_board) is board))
+      ];
+    },
+    (have p within).1,
+  )
+
+  module _ (valid : IsValid n) (departs_in : from_of n id < length n.change) (k : ℕ) (way : Way) (listed : slice_get (ways_into n (from_of n id)) k ≡ Some way) where
+    same_way : (j : ℕ) (other : Way) → j < k + 1 → slice_get (ways_into n (from_of n id)) j ≡ Some other → (j < k) ⊎ (other ≡ way)
+    same_way j other below at = elim (cases_lt j k) [
+      | inl before ↦ inl before
+      | inr last ↦ let e : j ≡ k = omega arith in inr (let both = sym at ∙ ap (slice_get (ways_into n (from_of n id))) e ∙ listed in cc)
+    ]
+
+    seconds_are : (x : ℕ) (board : IsBoardable n way.from.0 x id) → board.seconds ≡ way.seconds
+    seconds_are x board = let both = sym board.way ∙ way_of-listed n valid (from_of n id) departs_in k way listed in cc
+
+    -- nobody can board by the way
+    pub way_passed : dep_of n id < way.seconds → (boards : List Shown) → HaveWays n id k boards → HaveWays n id (k + 1) boards
+    way_passed early boards have p within = record {
+      entries = (have p within).entries;
+      own = λ x j other below at from boards_by. elim (same_way j other below at) [
+        | inl before ↦ (have p within).own x j other before at from boards_by
+        | inr is ↦
+            let here = subst (λ r. IsBoardable n r x id) (sym from ∙ ap (λ (w : Way). w.from.0) is) boards_by in
+            let in_time = here.in_time in
+            let seconds = seconds_are x here in
+            absurd (omega arith)
+      ];
+      fresh = (have p within).fresh;
+    }
+
+    abbrev new_entry : ℕ → Entry
+    new_entry by = record { by = record { 0 = by }; id = record { 0 = id } }
+
+    is_entry : (by : ℕ) → id < count n → IsTrue (connection n id).can_board → by + way.seconds ≡ dep_of n id → IsEntry n way.from.0 (new_entry by)
+    is_entry by there board sum = record {
+      there = there;
+      board = board;
+      early = λ x in_time. record { seconds = way.seconds; way = way_of-listed n valid (from_of n id) departs_in k way listed; in_time = omega arith };
+      late = λ x boards. let in_time = boards.in_time in let seconds = seconds_are x boards in omega arith;
+    }
+
+    -- one more entry
+    entries_more : (by : ℕ) → id < count n → IsTrue (connection n id).can_board → by + way.seconds ≡ dep_of n id → (entries : List Entry)
+        → AreEntries n way.from.0 id entries → AreEntries n way.from.0 id (entries ++ new_entry by ∷ [])
+    entries_more by there board sum entries are = record {
+      each = λ i within. elim (cases_lt i (length entries)) [
+        | inl before ↦ rw (get_or_append_left entries (new_entry by ∷ []) no_entry i before) (are.each i before)
+        | inr last ↦ rw (get_or_at entries (new_entry by) [] no_entry i (omega (arith, length_push entries (new_entry by)))) (is_entry by there board sum)
+      ];
+      all = λ c x below can boards.
+          let (i, within, is) = are.all c x below can boards in
+          (i, omega (arith, length_push entries (new_entry by)), rw (get_or_append_left entries (new_entry by ∷ []) no_entry i within) is);
+    }
+
+    pub way_added : (by : ℕ) → id < count n → IsTrue (connection n id).can_board → by + way.seconds ≡ dep_of n id
+        → (boards : List Shown) (board : Shown) → way.from.0 < length boards
+        → board.entries ≡ (board_at boards way.from.0).entries ++ new_entry by ∷ [] → board.least ≡ [] → HaveWays n id k boards → HaveWays n id (k + 1) (set boards way.from.0 board)
+    way_added by there can sum boards board inside is fresh have p within = elim (cases_eq p way.from.0) [
+      | inl here ↦
+          let old = (board_at boards way.from.0).entries in
+          let at : board_at (set boards way.from.0 board) way.from.0 ≡ board = get_or-set_same boards way.from.0 board no_board inside in
+          let more : HasWays n id (k + 1) way.from.0 board = record {
+            entries = rw is (entries_more by there can sum old (have way.from.0 inside).entries);
+            own = λ x j other below listed_at from boards_by. rw is
+                (length old, omega (arith, length_push old (new_entry by)), ap (λ (e : Entry). e.id.0) (get_or_at old (new_entry by) [] no_entry (length old) refl));
+            fresh = fresh;
+          } in
+          subst (λ r. HasWays n id (k + 1) r (board_at (set boards way.from.0 board) r)) (sym here) (rw at more)
+      | inr away ↦
+          let at : board_at (set boards way.from.0 board) p ≡ board_at boards p = get_or-set_other boards way.from.0 p board no_board away in
+          let before = have p (omega (arith, length-set boards way.from.0 board)) in
+          rw at (record {
+            entries = before.entries;
+            own = λ x j other below listed_at from boards_by. elim (same_way j other below listed_at) [
+              | inl earlier ↦ before.own x j other earlier listed_at from boards_by
+              | inr same ↦ absurd (away (sym from ∙ ap (λ (w : Way). w.from.0) same))
+            ];
+            fresh = before.fresh;
+          })
+    ]
+
+-- ---- all boards in order
+
+-- the first k boards are in order
+pub record AreSorted (n : Parts) (k : ℕ) (boards : List Shown) : Type 0 where
+  pub len : length boards ≡ length n.change
+  pub entries : HaveEntries n (count n) boards
+  pub falls : (p : ℕ) → p < k → Falls (board_at boards p).entries
+
+pub sorted_more : (n : Parts) (k : ℕ) (boards : List Shown) (board : Shown) → k < length boards
+    → IsPermutation (board_at boards k).entries board.entries → Falls board.entries → board.least ≡ [] → AreSorted n k boards → AreSorted n (k + 1) (set boards k board)
+sorted_more n k boards board inside moved falls fresh sorted =
+    let here : board_at (set boards k board) k ≡ board = get_or-set_same boards k board no_board inside in
+    let there : (p : ℕ) → p ≢ k → board_at (set boards k board) p ≡ board_at boards p = λ p differ. get_or-set_other boards k p board no_board differ in
+    record {
+      len = length-set boards k board ∙ sorted.len;
+      entries = λ p within. elim (cases_eq p k) [
+        | inl is ↦ subst (λ r. AreEntries n r (count n) (board_at (set boards k board) r).entries
+            × ((board_at (set boards k board) r).least ≡ [])) (sym is) (rw here (entries_permuted n k (count n) (board_at boards k).entries board.entries moved (sorted.entries k inside).0, fresh))
+        | inr differ ↦ rw (there p differ) (sorted.entries p (omega (arith, length-set boards k board)))
+      ];
+      falls = λ p below. elim (cases_eq p k) [
+        | inl is ↦ subst (λ r. Falls (board_at (set boards k board) r).entries) (sym is) (rw here falls)
+        | inr differ ↦ rw (there p differ) (sorted.falls p (omega arith))
+      ];
+    }
+
+-- no value is known yet, so what is known is right
+pub sorted_boards : (n : Parts) (boards : List Shown) (values : List (Option ℕ)) → length values ≡ count n → AreSorted n (length boards) boards → AreBoards n values boards
+sorted_boards n boards values as_many sorted = record {
+  as_many = sorted.len;
+  each = λ p within.
+      let have = sorted.entries p within in
+      let none : length (board_at boards p).least ≡ 0 = ap length have.1 in
+      record {
+        entries = have.0;
+        right = record {
+          sizes = omega arith;
+          falls = sorted.falls p within;
+          ids = λ k inside. omega (arith, (have.0.each k inside).there);
+          minima = λ k below. absurd (omega arith);
+        };
+      };
+}
+
+pub sorted_late : (n : Parts) (boards : List Shown) (moment : ℕ) → AreSorted n (length boards) boards → AllLate moment boards
+sorted_late n boards moment sorted p within k below = let none : length (board_at boards p).least ≡ 0 = ap length (sorted.entries p within).1 in absurd (omega arith)

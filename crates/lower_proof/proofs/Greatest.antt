@@ -1,0 +1,116 @@
+-- No accepted certificate has a greater value than a tight one.
+use Rattle.std.proofs.Common.{◌≡◌, ◌≢◌, ℕ, zero, suc, ◌+◌, ◌*◌, ◌/◌, ◌<◌, ◌≤◌, List, [], ◌∷◌, Option, Some, IsTrue, arith, inl, inr, subst, refl}
+use Rattle.std.proofs.lemmas.Bool.{cases_eq}
+use Rattle.std.proofs.Math.Nat.{mul-le-mul_left}
+use Rattle.plan_model.specs.declared.model.Outcome.{Outcome}
+use Rattle.plan_model.specs.declared.model.Query.{Query}
+use Rattle.plan_model.specs.Parts.{Parts}
+use Rattle.plan_model.specs.Network.{IsValid, count, connection, to_of, dep_of, arr_of, outcomes}
+use Rattle.plan_model.specs.Strategy.{IsLeg, IsBoardable, IsBoardableAtStart}
+use Rattle.plan_model.proofs.Bounds.{forward}
+use Rattle.interval_fixed.specs.Means.{weighted}
+use Rattle.lower_proof.specs.Certificates.{value_of, IsLeastOf, Offers, IsLeast, IsLeastAt, IsLeastAtStart, AreLeast, IsVia, IsAccepted, IsTight}
+use Rattle.lower_proof.specs.Promises.{IsGreatest}
+use Rattle.lower_proof.proofs.Search.{least_boardable, least_at_start}
+use Rattle.lower_proof.proofs.Vias.{IsLeast-unique}
+use Rattle.lower_proof.proofs.Soundness.{ride_bound, target_least}
+use Rattle.lower_proof.proofs.Departures.{after, after_less, after_boards, after_le}
+use Rattle.plan_model.proofs.Boarding.{boards_later}
+use Rattle.lower_proof.proofs.Near.{in_time_of}
+
+-- each value is at most the one that stands beside it
+abbrev EachAtMost : List ℕ → List ℕ → Type 0
+EachAtMost [] [] = Unit {0}
+EachAtMost (w ∷ ws) (v ∷ vs) = (w ≤ v) × EachAtMost ws vs
+EachAtMost _ _ = ⊥
+
+lesser_sum : (row : List Outcome) (ws vs : List ℕ) → EachAtMost ws vs → weighted row ws ≤ weighted row vs
+lesser_sum [] ws vs each = omega arith
+lesser_sum (o ∷ row) [] [] each = omega arith
+lesser_sum (o ∷ row) (w ∷ ws) (v ∷ vs) each = omega (arith, mul-le-mul_left o.weight each.0, lesser_sum row ws vs each.1)
+lesser_sum (o ∷ row) [] (v ∷ vs) each = absurd each
+lesser_sum (o ∷ row) (w ∷ ws) [] each = absurd each
+
+lesser_mean : (row : List Outcome) (ws vs : List ℕ) → EachAtMost ws vs → weighted row ws / 10000 ≤ weighted row vs / 10000
+lesser_mean row ws vs each = let sum = lesser_sum row ws vs each in omega arith
+
+module _ (n : Parts) (valid : IsValid n) (q : Query) (values others : List (Option ℕ)) (tight : IsTight n q values) (accepted : IsAccepted n q others) where
+  -- where one has a value, the other has one that is at most it
+  abbrev LesserBy : ℕ → Type 0
+  LesserBy m = (p x v : ℕ) → after n x ≤ m → IsLeastAt n q values p x (Some v) → (w : ℕ) × IsLeastAt n q others p x (Some w) × (w ≤ v)
+
+  lesser_all : (m : ℕ) → LesserBy m → (p arrival : ℕ) → after n arrival ≤ m → (row : List Outcome) (vs : List ℕ)
+      → AreLeast n q values p arrival row vs → (ws : List ℕ) × AreLeast n q others p arrival row ws × EachAtMost ws vs
+  lesser_all m lesser p arrival few [] [] all = ([], tt, tt)
+  lesser_all m lesser p arrival few [] (v ∷ vs) all = absurd all
+  lesser_all m lesser p arrival few (o ∷ row) [] all = absurd all
+  lesser_all m lesser p arrival few (o ∷ row) (v ∷ vs) all =
+      let less = after_less n arrival (arrival + o.delay) (omega arith) in
+      let one = lesser p (arrival + o.delay) v (omega arith) all.0 in
+      let rest = lesser_all m lesser p arrival few row vs all.1 in
+      (one.0 ∷ rest.0, (one.1, rest.1), (one.2, rest.2))
+
+  lesser_ride : (m : ℕ) → LesserBy m → (Boards : ℕ → Type 0) (p x c v : ℕ) → after n (dep_of n c) ≤ m → p ≢ q.target.0 → Boards c → c < count n
+      → IsTrue (connection n c).can_board → value_of values c ≡ Some v → (least : Option ℕ)
+      → IsLeastOf (λ w. (c : ℕ) × Offers n others Boards c w) least → (w : ℕ) × IsLeast n q others Boards p x (Some w) × (w ≤ v)
+  lesser_ride m lesser Boards p x c v few away boards there board is least is_least =
+      let own = subst (IsLeastOf (λ v. (j : ℕ) × IsLeg n c j × IsVia n q values j v)) is (tight.boarded c there board) in
+      let j = own.0.0 in
+      let leg = own.0.1 in
+      let via = own.0.2 in
+      let later = after_less n (dep_of n c) (arr_of n j) (forward n valid c j leg) in
+      let all = lesser_all m lesser (to_of n j) (arr_of n j) (omega arith) (outcomes n j) via.least via.are_least in
+      let less = lesser_mean (outcomes n j) all.0 via.least all.2 in
+      let other_via : IsVia n q others j (weighted (outcomes n j) all.0 / 10000) = record { leave = via.leave; least = all.0; are_least = all.1; mean = refl } in
+      let ride = ride_bound n q others accepted Boards p x c j (weighted (outcomes n j) all.0 / 10000) least away is_least leg boards other_via in
+      (ride.0, ride.1, omega (arith, ride.2, less, via.mean))
+
+  -- a least value elsewhere than at the target
+  abbrev LesserAway : ℕ → Type 0
+  LesserAway m = (p x v : ℕ) → after n x ≤ m → p ≢ q.target.0 → IsLeastOf (λ w. (c : ℕ) × Offers n values (IsBoardable n p x) c w) (Some v) → (w : ℕ) × IsLeastAt n q others p x (Some w) × (w ≤ v)
+
+  away_none : LesserAway zero
+  away_none p x v few away least =
+      let offer = least.0.1 in
+      absurd (omega (arith, after_boards n x least.0.0 offer.there (boards_later n valid p x least.0.0 offer.there offer.boards)))
+
+  away_some : (m : ℕ) → LesserBy m → LesserAway (suc m)
+  away_some m lesser p x v few away least =
+      let c = least.0.0 in
+      let offer = least.0.1 in
+      let fewer = after_boards n x c offer.there (boards_later n valid p x c offer.there offer.boards) in
+      let search = least_boardable n others p x in
+      lesser_ride m lesser (IsBoardable n p x) p x c v (omega arith) away offer.boards offer.there offer.board offer.value search.0 search.1
+
+  or_arrived : (m : ℕ) → LesserAway m → LesserBy m
+  or_arrived m elsewhere p x v few least = elim (cases_eq p q.target.0) [
+    | inl there ↦
+        let done = in_time_of q.deadline.0 x v (least.at_target there) in
+        (1000000000 * x, target_least n q others (IsBoardable n p x) p x there done.0, omega (arith, done.1))
+    | inr away ↦ elsewhere p x v few away (least.elsewhere away)
+  ]
+
+  pub lesser_at : (m : ℕ) → LesserBy m
+  lesser_at zero = or_arrived zero away_none
+  lesser_at (suc m) = or_arrived (suc m) (away_some m (lesser_at m))
+
+  pub lesser_start : (v : ℕ) → IsLeastAtStart n q values (Some v) → (w : ℕ) × IsLeastAtStart n q others (Some w) × (w ≤ v)
+  lesser_start v least = elim (cases_eq q.source.0 q.target.0) [
+    | inl there ↦
+        let done = in_time_of q.deadline.0 q.start.0 v (least.at_target there) in
+        (1000000000 * q.start.0, target_least n q others (IsBoardableAtStart n q.source.0 q.start.0) q.source.0 q.start.0 there done.0, omega (arith, done.1))
+    | inr away ↦
+        let offered = (least.elsewhere away).0 in
+        let c = offered.0 in
+        let offer = offered.1 in
+        let search = least_at_start n others q.source.0 q.start.0 in
+        lesser_ride (count n) (lesser_at (count n)) (IsBoardableAtStart n q.source.0 q.start.0) q.source.0 q.start.0 c v
+        (after_le n (dep_of n c)) away offer.boards offer.there offer.board offer.value search.0 search.1
+  ]
+
+pub greatest : (n : Parts) → IsValid n → (q : Query) (values : List (Option ℕ)) → IsTight n q values → (v : ℕ) → IsLeastAtStart n q values (Some v) → IsGreatest n q v
+greatest n valid q values tight v least others w accepted other_least =
+    let (u, is, less) = lesser_start n valid q values others tight accepted v least in
+    let same = IsLeast-unique n q others (IsBoardableAtStart n q.source.0 q.start.0) q.source.0 q.start.0 (Some u) (Some w) is other_least in
+    let e : u ≡ w = (cc) in
+    omega arith

@@ -1,0 +1,140 @@
+-- The greedy tree: after each arrival the connection of least value and its best exit. Its expected arrival is less than a nanosecond above the least value for each ride.
+use Rattle.std.proofs.Common.{◌≡◌, ◌≢◌, ℕ, zero, suc, ◌+◌, ◌*◌, ◌/◌, ◌^◌, ◌<◌, ◌≤◌, List, [], ◌∷◌, Option, Some, None, map, length, sum_by, IsTrue, arith, inl, inr, ◌∙◌, subst, refl}
+use Rattle.std.proofs.lemmas.Bool.{cases_eq, cases_lt}
+use Rattle.std.proofs.lemmas.Bool.Decides.{nat_tests}
+use Rattle.std.proofs.lemmas.List.Sums.{sum_by-cons}
+use Rattle.std.proofs.Math.Nat.{mul_assoc, mul-add}
+use Rattle.plan_model.specs.declared.model.Outcome.{Outcome}
+use Rattle.plan_model.specs.declared.model.Query.{Query}
+use Rattle.plan_model.specs.Parts.{Parts}
+use Rattle.plan_model.specs.Network.{IsValid, count, connection, from_of, to_of, dep_of, arr_of, outcomes}
+use Rattle.plan_model.specs.Tree.{Tree, Kids, Done, Ride, Nil, Kid}
+use Rattle.plan_model.specs.Rows.{EachKid, IsValidRow}
+use Rattle.plan_model.specs.Strategy.{IsLeg, IsBoardable, Safe, SafeAll, IsSafeFor}
+use Rattle.plan_model.specs.Bounds.{nanos_per_second}
+use Rattle.plan_model.specs.Expected.{Covers, arrival as arrival_of}
+use Rattle.plan_model.proofs.Bounds.{forward}
+use Rattle.interval_fixed.specs.Means.{weighted}
+use Rattle.lower_proof.specs.Certificates.{value_of, IsLeastOf, Offers, arrived_by, IsLeastAt, IsLeastAtStart, AreLeast, IsVia, IsTight}
+use Rattle.plan_model.proofs.Laws.{covers_more}
+use Rattle.interval_fixed.proofs.Sums.{mean_covers}
+use Rattle.plan_model.proofs.Boarding.{boards_later}
+use Rattle.lower_proof.proofs.Departures.{after, after_less, after_boards, after_starts, after_le}
+
+-- who has arrived at the target is in time
+pub in_time_of : (deadline x v : ℕ) → Some v ≡ arrived_by deadline x → (x ≤ deadline) × (v ≡ 1000000000 * x)
+in_time_of deadline x v is = elim (cases_lt deadline x) [
+  | inl late ↦ let e : arrived_by deadline x ≡ None = grind (arith, nat_tests) in let both = is ∙ e in absurd (cc)
+  | inr in_time ↦ let e : arrived_by deadline x ≡ Some (1000000000 * x) = grind (arith, nat_tests) in let both = is ∙ e in let same : v ≡ 1000000000 * x = (cc) in (in_time, same)
+]
+
+raised_step : (w v k s t : ℕ) → w * (v + k) + (s + k * t) ≡ (w * v + s) + k * (w + t)
+raised_step w v k s t = omega (arith, mul-add w v k, mul-add k w t)
+
+-- a sum of values that are all raised
+raised_sum : (row : List Outcome) (values : List ℕ) (k : ℕ) → length row ≡ length values → weighted row (map (λ v. v + k) values) ≡ weighted row values + k * sum_by (λ o. o.weight) row
+raised_sum [] [] k same = omega arith
+raised_sum (o ∷ row) (v ∷ values) k same =
+    rw (sum_by-cons (λ o. o.weight) o row, raised_sum row values k (omega arith))
+    (raised_step o.weight v k (weighted row values) (sum_by (λ o. o.weight) row))
+raised_sum [] (v ∷ values) k same = absurd (omega arith)
+raised_sum (o ∷ row) [] k same = absurd (omega arith)
+
+-- rounding down and up again loses less than one
+raised_mean : (row : List Outcome) (values : List ℕ) (k : ℕ) → IsValidRow row → length row ≡ length values
+    → (weighted row (map (λ v. v + k) values) + 9999) / 10000 ≤ weighted row values / 10000 + (k + 1)
+raised_mean row values k good same =
+    let sum = rw good.total at (raised_sum row values k same) in
+    omega (arith, sum)
+
+module _ (n : Parts) (valid : IsValid n) (q : Query) (values : List (Option ℕ)) (tight : IsTight n q values) where
+  as_many : (p arrival : ℕ) (row : List Outcome) (vs : List ℕ) → AreLeast n q values p arrival row vs → length row ≡ length vs
+  as_many p arrival [] [] all = refl
+  as_many p arrival [] (v ∷ vs) all = absurd all
+  as_many p arrival (o ∷ row) [] all = absurd all
+  as_many p arrival (o ∷ row) (v ∷ vs) all = omega (arith, as_many p arrival row vs all.1)
+
+  -- a tree near the least value after an arrival
+  abbrev NearAt : ℕ → ℕ → ℕ → Type 0
+  NearAt p x v = (tree : Tree) × Safe n q.target.0 (Some q.deadline.0) tree p x × Covers (v + after n x) tree
+
+  -- one for each least value, where at most m connections depart later
+  abbrev NearBy : ℕ → Type 0
+  NearBy m = (p x v : ℕ) → after n x ≤ m → IsLeastAt n q values p x (Some v) → NearAt p x v
+
+  near_all : (m k : ℕ) → NearBy m → k ≤ m → (p arrival : ℕ) → after n arrival ≤ k → (row : List Outcome) (vs : List ℕ)
+      → AreLeast n q values p arrival row vs → (kids : Kids) × SafeAll n q.target.0 (Some q.deadline.0) kids row p arrival × EachKid Covers row (map (λ v. v + k) vs) kids
+  near_all m k near few p arrival later [] [] all = (Nil, tt, tt)
+  near_all m k near few p arrival later [] (v ∷ vs) all = absurd all
+  near_all m k near few p arrival later (o ∷ row) [] all = absurd all
+  near_all m k near few p arrival later (o ∷ row) (v ∷ vs) all =
+      let less = after_less n arrival (arrival + o.delay) (omega arith) in
+      let one = near p (arrival + o.delay) v (omega arith) all.0 in
+      let others = near_all m k near few p arrival later row vs all.1 in
+      (Kid o.weight one.0 others.0, (refl, one.1, others.1), (refl, covers_more nanos_per_second arrival_of (v + after n (arrival + o.delay)) (v + k) one.0 (omega arith) one.2, others.2))
+
+  -- the ride of a connection that is offered
+  near_ride : (m : ℕ) → NearBy m → (c v : ℕ) → after n (dep_of n c) ≤ m → c < count n → IsTrue (connection n c).can_board → value_of values c ≡ Some v
+      → (j : ℕ) × (kids : Kids) × IsLeg n c j × SafeAll n q.target.0 (Some q.deadline.0) kids (outcomes n j) (to_of n j) (arr_of n j) × Covers (v + (after n (dep_of n c) + 1)) (Ride c j kids)
+  near_ride m near c v few there board is =
+      let least = subst (IsLeastOf (λ v. (j : ℕ) × IsLeg n c j × IsVia n q values j v)) is (tight.boarded c there board) in
+      let j = least.0.0 in
+      let leg = least.0.1 in
+      let via = least.0.2 in
+      let k = after n (dep_of n c) in
+      let later = after_less n (dep_of n c) (arr_of n j) (forward n valid c j leg) in
+      let good : IsValidRow (outcomes n j) = valid.rows (connection n j).class.0 (valid.connections j leg.exit).class_in in
+      let all = near_all m k near few (to_of n j) (arr_of n j) later (outcomes n j) via.least via.are_least in
+      let covers = mean_covers nanos_per_second arrival_of (outcomes n j) (map (λ w. w + k) via.least) all.0 c j all.2 in
+      let near_mean = raised_mean (outcomes n j) via.least k good (as_many (to_of n j) (arr_of n j) (outcomes n j) via.least via.are_least) in
+      (j, all.0, leg, all.1, covers_more nanos_per_second arrival_of ((weighted (outcomes n j) (map (λ w. w + k) via.least) + 9999) / 10000) (v + (k + 1)) (Ride c j all.0) (omega (arith, near_mean, via.mean)) covers)
+
+  done_near : (x v more : ℕ) → v ≡ 1000000000 * x → Covers (v + more) (Done x)
+  done_near x v more is = covers_more nanos_per_second arrival_of v (v + more) (Done x) (omega arith) (λ h tall. rw is (omega (arith, mul_assoc 1000000000 x (10000 ^ h))))
+
+  -- a least value elsewhere than at the target
+  abbrev NearAway : ℕ → Type 0
+  NearAway m = (p x v : ℕ) → after n x ≤ m → p ≢ q.target.0 → IsLeastOf (λ w. (c : ℕ) × Offers n values (IsBoardable n p x) c w) (Some v) → NearAt p x v
+
+  away_none : NearAway zero
+  away_none p x v few away least =
+      let offer = least.0.1 in
+      absurd (omega (arith, after_boards n x least.0.0 offer.there (boards_later n valid p x least.0.0 offer.there offer.boards)))
+
+  away_some : (m : ℕ) → NearBy m → NearAway (suc m)
+  away_some m near p x v few away least =
+      let c = least.0.0 in
+      let offer = least.0.1 in
+      let fewer = after_boards n x c offer.there (boards_later n valid p x c offer.there offer.boards) in
+      let ride = near_ride m near c v (omega arith) offer.there offer.board offer.value in
+      (Ride c ride.0 ride.1, (away, ride.2, offer.boards, ride.3), covers_more nanos_per_second arrival_of (v + (after n (dep_of n c) + 1)) (v + after n x) (Ride c ride.0 ride.1) (omega arith) ride.4)
+
+  or_arrived : (m : ℕ) → NearAway m → NearBy m
+  or_arrived m elsewhere p x v few least = elim (cases_eq p q.target.0) [
+    | inl there ↦
+        let done = in_time_of q.deadline.0 x v (least.at_target there) in
+        (Done x, (refl, there, done.0), done_near x v (after n x) done.1)
+    | inr away ↦ elsewhere p x v few away (least.elsewhere away)
+  ]
+
+  pub near_at : (m : ℕ) → NearBy m
+  near_at zero = or_arrived zero away_none
+  near_at (suc m) = or_arrived (suc m) (away_some m (near_at m))
+
+  -- at the start
+  pub near_start : (v : ℕ) → IsLeastAtStart n q values (Some v) → (tree : Tree) × IsSafeFor n q tree × Covers (v + count n) tree
+  near_start v least = elim (cases_eq q.source.0 q.target.0) [
+    | inl there ↦
+        let done = in_time_of q.deadline.0 q.start.0 v (least.at_target there) in
+        (Done q.start.0, (refl, there, done.0), done_near q.start.0 v (count n) done.1)
+    | inr away ↦
+        let offered = (least.elsewhere away).0 in
+        let c = offered.0 in
+        let offer = offered.1 in
+        let ride = near_ride (count n) (near_at (count n)) c v (after_le n (dep_of n c)) offer.there offer.board offer.value in (
+          Ride c ride.0 ride.1,
+          (away, ride.2, offer.boards, ride.3),
+          covers_more nanos_per_second arrival_of (v + (after n (dep_of n c) + 1)) (v + count n) (Ride c ride.0 ride.1)
+              (omega (arith, after_starts n c offer.there)) ride.4,
+        )
+  ]

@@ -1,0 +1,83 @@
+-- The boards of all places.
+use Rattle.std.proofs.Common.{◌≡◌, ◌≢◌, ℕ, ◌+◌, ◌<◌, List, length, set, Option, [], arith, inl, inr, sym, ◌∙◌, ap, subst, get_or-set_other, get_or-set_same}
+use Rattle.std.proofs.lemmas.Bool.{cases_eq}
+use Rattle.std.proofs.lemmas.List.{length-set}
+use Rattle.plan_model.specs.declared.model.Query.{Query}
+use Rattle.plan_model.specs.Parts.{Parts}
+use Rattle.plan_model.specs.Network.{count, IsValid}
+use Rattle.plan_model.specs.Strategy.{IsBoardable}
+use Rattle.lower_proof.specs.declared.board.Entry.{Entry}
+use Rattle.lower_proof.specs.Certificates.{value_of, IsLeastOf, Offers, IsLeastAt}
+use Rattle.lower_proof.specs.Boards.{Shown, entry_at, AreEntries, FrontValue, ValueInTime, least_of}
+use Rattle.lower_proof.specs.Minima.{AreLate, IsBoard, board_at, IsBoardOf, AreBoards, AllLate}
+use Rattle.lower_proof.proofs.Leasts.{least_same}
+use Rattle.plan_model.proofs.Boarding.{boards_later}
+use Rattle.lower_proof.proofs.Writes.{Agree}
+
+-- the least value in time is the least value after the arrival
+pub board_least : (n : Parts) (q : Query) (values : List (Option ℕ)) (p x : ℕ) (entries : List Entry) → AreEntries n p (count n) entries
+    → p ≢ q.target.0 → (least : Option ℕ) → IsLeastOf (ValueInTime values entries x) least → IsLeastAt n q values p x least
+board_least n q values p x entries are away least is = record {
+  at_target = λ there. absurd (away there);
+  elsewhere = λ e. least_same (ValueInTime values entries x) (λ v. (c : ℕ) × Offers n values (IsBoardable n p x) c v)
+      (λ v t. let entry = are.each t.0 t.1 in ((entry_at entries t.0).id.0, record { there = entry.there; board = entry.board; boards = entry.early x t.2; value = t.3 }))
+      least
+      (λ v o.
+      let (k, within, is_c) = are.all o.0 x o.1.there o.1.board o.1.boards in
+      let boards = subst (λ c. IsBoardable n p x c) (sym is_c) o.1.boards in
+      (k, within, (are.each k within).late x boards, ap (value_of values) is_c ∙ o.1.value))
+      is;
+}
+
+-- a board that was looked at
+pub boards_looked : (n : Parts) (values : List (Option ℕ)) (boards : List Shown) (p : ℕ) (board : Shown) → p < length boards
+    → AreBoards n values boards → board.entries ≡ (board_at boards p).entries → IsBoard values board → AreBoards n values (set boards p board)
+boards_looked n values boards p board within are same right = record {
+  as_many = length-set boards p board ∙ are.as_many;
+  each = λ r inside. elim (cases_eq r p) [
+    | inl is ↦
+        let at : board_at (set boards p board) p ≡ board = get_or-set_same boards p board (record { entries = []; least = [] }) within in
+        subst (λ i. IsBoardOf n i values (board_at (set boards p board) i)) (sym is)
+        (rw at (record { entries = subst (AreEntries n p (count n)) (sym same) (are.each p within).entries; right = right }))
+    | inr differ ↦
+        let at : board_at (set boards p board) r ≡ board_at boards r = get_or-set_other boards p r board (record { entries = []; least = [] }) differ in
+        rw at (are.each r (omega (arith, length-set boards p board)))
+  ];
+}
+
+pub late_looked : (boards : List Shown) (p : ℕ) (board : Shown) (moment : ℕ) → p < length boards → AreLate moment board.entries (length board.least)
+    → AllLate moment boards → AllLate moment (set boards p board)
+late_looked boards p board moment within late all r inside = elim (cases_eq r p) [
+  | inl is ↦
+      let at : board_at (set boards p board) p ≡ board = get_or-set_same boards p board (record { entries = []; least = [] }) within in
+      subst (λ i. AreLate moment (board_at (set boards p board) i).entries (length (board_at (set boards p board) i).least)) (sym is) (rw at late)
+  | inr differ ↦
+      let at : board_at (set boards p board) r ≡ board_at boards r = get_or-set_other boards p r board (record { entries = []; least = [] }) differ in
+      rw at (all r (omega (arith, length-set boards p board)))
+]
+
+module _ (n : Parts) (valid : IsValid n) (moment : ℕ) (values others : List (Option ℕ)) (agree : Agree n moment values others) (as_many : length others ≡ length values) where
+  -- what is known stays right where only values of earlier departures change
+  board_agrees : (p : ℕ) (board : Shown) → AreLate moment board.entries (length board.least) → IsBoardOf n p values board → IsBoardOf n p others board
+  board_agrees p board late of = record {
+    entries = of.entries;
+    right = record {
+      falls = of.right.falls;
+      ids = λ k within. omega (arith, of.right.ids k within);
+      sizes = of.right.sizes;
+      minima = λ k below. least_same (FrontValue values board.entries (k + 1)) (FrontValue others board.entries (k + 1))
+          (λ v f. (f.0, f.1, sym (same k below f.0 f.1) ∙ f.2)) (least_of board.least k)
+          (λ v f. (f.0, f.1, same k below f.0 f.1 ∙ f.2)) (of.right.minima k below);
+    };
+  }
+    where
+      same : (k : ℕ) → k < length board.least → (i : ℕ) → i < k + 1 → value_of values (entry_at board.entries i).id.0 ≡ value_of others (entry_at board.entries i).id.0
+      same k below i front =
+          let sizes = of.right.sizes in
+          let entry = of.entries.each i (omega arith) in
+          let by_i = late i (omega arith) in
+          let departs = boards_later n valid p (entry_at board.entries i).by.0 (entry_at board.entries i).id.0 entry.there (entry.early (entry_at board.entries i).by.0 (omega arith)) in
+          agree (entry_at board.entries i).id.0 entry.there (omega arith)
+
+  pub boards_agree : (boards : List Shown) → AllLate moment boards → AreBoards n values boards → AreBoards n others boards
+  boards_agree boards late are = record { as_many = are.as_many; each = λ p within. board_agrees p (board_at boards p) (late p within) (are.each p within) }

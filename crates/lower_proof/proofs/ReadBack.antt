@@ -1,0 +1,336 @@
+-- What was printed of a certificate is read back.
+use Rattle.std.proofs.Common.{◌≡◌, ◌≢◌, ℕ, zero, suc, ◌+◌, ◌<◌, ◌≤◌, ◌^◌, Bool, true, List, [], ◌∷◌, length, Option, Some, None, Ok, Err, Result, arith, inl, inr, sym, ◌∙◌, ap, subst, refl}
+use Rattle.std.specs.Prelude.{◌==◌, cond, nat_lt, is_some, codes, decimal, if◌then◌else◌, slice_index_or}
+use Rattle.std.specs.List.{count_by}
+use Rattle.std.specs.Option.{option_map}
+use Rattle.std.proofs.Math.Nat.{max-le}
+use Rattle.std.proofs.lemmas.Bool.Decides.{nat_tests}
+use Rattle.std.proofs.lemmas.List.Sums.{sum_by-cons}
+use Rattle.std.proofs.lemmas.List.{ext_get_or}
+use Rattle.csv.proofs.RoundTrip.{rows_text as text_of_rows}
+use Rattle.csv.specs.Reading.{strip_bom}
+use Rattle.clock_text.specs.Civil.{moment_text, nanos_text}
+use Rattle.clock_text.specs.Times.{moment_at, nanos_at}
+use Rattle.clock_text.proofs.Walk.{text_tells}
+use Rattle.clock_text.proofs.NanosLemmas.{nanos_tell}
+use Rattle.csv_rows.specs.Spaces.{trimmed}
+use Rattle.csv_rows.specs.Tables.{table_of, row_count, header}
+use Rattle.plan_model.specs.declared.model.Query.{Query}
+use Rattle.plan_model.specs.declared.model.PlaceId.{PlaceId}
+use Rattle.plan_model.specs.declared.model.Moment.{Moment}
+use Rattle.plan_model.specs.Parts.{Parts}
+use Rattle.plan_model.specs.NameLists.{NameLists, NamesFit, AreNames}
+use Rattle.plan_model.specs.Network.{IsValid, count, run_of, step_of}
+use Rattle.printed_rows.specs.Fields.{number_of, whole_at, connection_of, rises}
+use Rattle.printed_rows.specs.Writers.{place_name, run_name}
+use Rattle.printed_rows.proofs.Found.{connection_number}
+use Rattle.printed_rows.proofs.Lines.{records_printed}
+use Rattle.printed_rows.proofs.Plain.{moment_kept, nanos_kept, decimal_kept, whole_back, name_back, name_kept, le_holds}
+use Rattle.printed_rows.proofs.Printed.{IsKept, AreKept, seven_kept, four_kept, table_back}
+use Rattle.lower_proof.specs.declared.LowerBounds.{LowerBounds}
+use Rattle.lower_proof.specs.declared.reader.BoundsRow.{BoundsRow}
+use Rattle.lower_proof.specs.declared.reader.ValueRow.{ValueRow}
+use Rattle.lower_proof.specs.declared.reader.ProofFault.{ProofFault}
+use Rattle.lower_proof.specs.declared.reader.ProofFault.TheVariants.{Row, NotRising}
+use Rattle.lower_proof.specs.Certificates.{value_of}
+use Rattle.lower_proof.specs.Texts.{bounds_record, value_record, value_records, proof_text}
+use Rattle.lower_proof.specs.Reading.{bounds_numbers, bounds_row_in, bounds_by, bounds_in, value_numbers, value_row_in, connection_by, connection_in, value_in, told_after, told_by, told_in, value_row, connection_before, fault_of, value_fault, IsFaultAfter, AreTold, IsTold, IsReadAs, IsReadBack}
+
+lt_holds : (a b : ℕ) → a < b → nat_lt a b ≡ true
+lt_holds a b less = grind (arith, nat_tests)
+
+eq_holds : (a b : ℕ) → a ≡ b → (a == b) ≡ true
+eq_holds a b same = grind (arith, nat_tests)
+
+abbrev query_of : PlaceId → PlaceId → Moment → Moment → Query
+query_of source target start deadline = record { source = source; target = target; start = start; deadline = deadline }
+
+abbrev place : ℕ → PlaceId
+place x = record { 0 = x }
+
+abbrev moment : ℕ → Moment
+moment x = record { 0 = x }
+
+same_query : (a b : Query) → a.source.0 ≡ b.source.0 → a.target.0 ≡ b.target.0 → a.start.0 ≡ b.start.0 → a.deadline ≡ b.deadline → a ≡ b
+same_query a b one two three four =
+    ap (λ (x : ℕ). query_of (place x) a.target a.start a.deadline) one
+    ∙ ap (λ (x : ℕ). query_of b.source (place x) a.start a.deadline) two
+    ∙ ap (λ (x : ℕ). query_of b.source b.target (moment x) a.deadline) three
+    ∙ ap (λ (x : Moment). query_of b.source b.target b.start x) four
+
+count_more : (x : Option ℕ) (values : List (Option ℕ)) → count_by is_some (x ∷ values) ≡ cond (is_some x) 1 0 + count_by is_some values
+count_more x values = sum_by-cons (λ (y : Option ℕ). cond (is_some y) 1 0) x values
+
+-- as many rows as values that are there
+rows_many : (n : Parts) (names : NameLists) (c : ℕ) (values : List (Option ℕ)) → length (value_records n names c values) ≡ count_by is_some values
+rows_many n names c [] = refl
+rows_many n names c (None ∷ values) = omega (arith, count_more None values, rows_many n names (c + 1) values)
+rows_many n names c (Some v ∷ values) = omega (arith, count_more (Some v) values, rows_many n names (c + 1) values)
+
+pub present : (values : List (Option ℕ)) (c v : ℕ) → value_of values c ≡ Some v → c < length values
+present [] c v is = absurd (cc)
+present (x ∷ values) zero v is = omega arith
+present (x ∷ values) (suc c) v is = omega (arith, present values c v is)
+
+-- row k is of a connection at an offset, and of its value
+record IsRowOf (n : Parts) (names : NameLists) (c : ℕ) (values : List (Option ℕ)) (k offset v : ℕ) : Type 0 where
+  inside : offset < length values
+  value : value_of values offset ≡ Some v
+  row : slice_index_or (value_records n names c values) k [] ≡ value_record n names (c + offset) v
+
+-- row i of a table is of a connection and its value
+record TellsOf (n : Parts) (names : NameLists) (t : List (List (List ℕ))) (values : List (Option ℕ)) (i c v : ℕ) : Type 0 where
+  there : c < count n
+  value : value_of values c ≡ Some v
+  row : value_row t i ≡ value_record n names c v
+
+-- the offset of row k
+abbrev offset_at : List (Option ℕ) → ℕ → ℕ
+offset_at [] k = 0
+offset_at (None ∷ values) k = suc (offset_at values k)
+offset_at (Some v ∷ values) zero = 0
+offset_at (Some v ∷ values) (suc k) = suc (offset_at values k)
+
+module _ (n : Parts) (names : NameLists) where
+  shifted : (c offset v : ℕ) → value_record n names (c + 1 + offset) v ≡ value_record n names (c + suc offset) v
+  shifted c offset v = let e : c + 1 + offset ≡ c + suc offset = omega arith in ap (λ (d : ℕ). value_record n names d v) e
+
+  row_at : (c : ℕ) (values : List (Option ℕ)) (k : ℕ) → k < length (value_records n names c values) → (v : ℕ) × IsRowOf n names c values k (offset_at values k) v
+  row_at c [] k within = absurd (omega (arith, within))
+  row_at c (None ∷ values) k within =
+      let own = row_at (c + 1) values k within in
+      (own.0, record { inside = omega (arith, own.1.inside); value = own.1.value; row = own.1.row ∙ shifted c (offset_at values k) own.0 })
+  row_at c (Some w ∷ values) zero within =
+      (w, record { inside = omega arith; value = refl; row = let e : c ≡ c + 0 = omega arith in ap (λ (d : ℕ). value_record n names d w) e })
+  row_at c (Some w ∷ values) (suc k) within =
+      let own = row_at (c + 1) values k (omega (arith, within)) in
+      (own.0, record { inside = omega (arith, own.1.inside); value = own.1.value; row = own.1.row ∙ shifted c (offset_at values k) own.0 })
+
+  -- offsets rise
+  offsets_rise : (c : ℕ) (values : List (Option ℕ)) (k : ℕ) → suc k < length (value_records n names c values) → offset_at values k < offset_at values (suc k)
+  offsets_rise c [] k within = absurd (omega (arith, within))
+  offsets_rise c (None ∷ values) k within = omega (arith, offsets_rise (c + 1) values k within)
+  offsets_rise c (Some w ∷ values) zero within = omega arith
+  offsets_rise c (Some w ∷ values) (suc k) within = omega (arith, offsets_rise (c + 1) values k (omega (arith, within)))
+
+  -- each value that is there has a row
+  row_of_value : (c : ℕ) (values : List (Option ℕ)) (offset v : ℕ) → value_of values offset ≡ Some v
+      → (k : ℕ) × (k < length (value_records n names c values)) × (slice_index_or (value_records n names c values) k [] ≡ value_record n names (c + offset) v)
+  row_of_value c [] offset v is = absurd (cc)
+  row_of_value c (None ∷ values) zero v is = absurd (cc)
+  row_of_value c (None ∷ values) (suc offset) v is =
+      let own = row_of_value (c + 1) values offset v is in (own.0, own.1, own.2 ∙ shifted c offset v)
+  row_of_value c (Some w ∷ values) zero v is =
+      let same : w ≡ v = cc in
+      let e : c ≡ c + 0 = omega arith in
+      (0, omega arith, ap (λ (d : ℕ). value_record n names d w) e ∙ ap (value_record n names (c + 0)) same)
+  row_of_value c (Some w ∷ values) (suc offset) v is =
+      let own = row_of_value (c + 1) values offset v is in (suc own.0, omega (arith, own.1), own.2 ∙ shifted c offset v)
+
+module _ (n : Parts) (names : NameLists) (valid : IsValid n) (fit : NamesFit names n) (own : AreNames names) where
+  place_named : (place : ℕ) → place < length n.change → number_of names.places (place_name names place) ≡ Some place
+  place_named place there = name_back names.places place own.places own.place_texts (omega (arith, there, fit.places))
+
+  place_kept : (place : ℕ) → place < length n.change → trimmed (place_name names place) ≡ place_name names place
+  place_kept place there = name_kept names.places place fit.place_names (omega (arith, there, fit.places))
+
+  run_named : (c : ℕ) → c < count n → number_of names.runs (run_name names (run_of n c)) ≡ Some (run_of n c)
+  run_named c there = name_back names.runs (run_of n c) own.runs own.run_texts (fit.below c there)
+
+  connection_back : (c : ℕ) → c < count n → connection_of n (run_of n c) (step_of n c) ≡ Some c
+  connection_back c there = sym (connection_number n valid (run_of n c) (step_of n c) (Some (record { 0 = c })) (there, refl, refl) tt)
+
+  -- ---- a value row
+
+  record_kept : (c v : ℕ) → c < count n → IsKept (value_record n names c v)
+  record_kept c v there =
+      four_kept (codes "value") (run_name names (run_of n c)) (decimal (step_of n c)) (nanos_text v) refl
+      (name_kept names.runs (run_of n c) fit.run_names (fit.below c there))
+      (decimal_kept (step_of n c) (omega (arith, (valid.connections c there).step_in))) (nanos_kept v)
+
+  records_kept : (c : ℕ) (values : List (Option ℕ)) → c + length values ≤ count n → AreKept (value_records n names c values)
+  records_kept c [] within = tt
+  records_kept c (None ∷ values) within = records_kept (c + 1) values (omega (arith, within))
+  records_kept c (Some v ∷ values) within = (record_kept c v (omega (arith, within)), records_kept (c + 1) values (omega (arith, within)))
+
+  abbrev numbers : ℕ → ℕ → ValueRow
+  numbers c v = record { step = step_of n c; value = v }
+
+  numbers_back : (c v : ℕ) → c < count n → v < 2 ^ 64 → value_row_in (value_record n names c v) ≡ Some (numbers c v)
+  numbers_back c v there small =
+      ap (λ (x : Option ℕ). value_numbers x (nanos_at (nanos_text v))) (whole_back (step_of n c) (omega (arith, (valid.connections c there).step_in)))
+      ∙ ap (λ (x : Option ℕ). value_numbers (Some (step_of n c)) x) (nanos_tell v small)
+
+  value_back : (c v : ℕ) → c < count n → v < 2 ^ 64 → value_in (value_record n names c v) ≡ Some v
+  value_back c v there small = ap (λ (row : Option ValueRow). option_map (λ (x : ValueRow). x.value) row) (numbers_back c v there small)
+
+  named_back : (c v : ℕ) → c < count n → v < 2 ^ 64 → connection_in n names (value_record n names c v) ≡ Some c
+  named_back c v there small =
+      ap (λ (row : Option ValueRow). connection_by n row (number_of names.runs (run_name names (run_of n c)))) (numbers_back c v there small)
+      ∙ ap (connection_by n (Some (numbers c v))) (run_named c there)
+      ∙ connection_back c there
+
+  told_back : (c v line : ℕ) (before : Option ℕ) → c < count n → v < 2 ^ 64 → rises before c ≡ true
+      → told_in n names line before (value_record n names c v) ≡ Ok (record { id = record { 0 = c }; value = v })
+  told_back c v line before there small rise =
+      ap (λ (row : Option ValueRow). told_by n line before row (number_of names.runs (run_name names (run_of n c)))) (numbers_back c v there small)
+      ∙ ap (told_by n line before (Some (numbers c v))) (run_named c there)
+      ∙ ap (told_after line before v) (connection_back c there)
+      ∙ ap (λ (test : Bool). if test then Ok (record { id = record { 0 = c }; value = v }) else Err (NotRising line)) rise
+
+  -- ---- all of them, after a first row
+
+  module _ (first : List (List ℕ)) (values : List (Option ℕ)) (as_many : length values ≡ count n) (small : (c v : ℕ) → value_of values c ≡ Some v → v < 2 ^ 64) where
+    abbrev rows : List (List (List ℕ))
+    rows = value_records n names 0 values
+
+    abbrev table : List (List (List ℕ))
+    table = first ∷ rows
+
+    row_is : (i : ℕ) → value_row table i ≡ slice_index_or rows i []
+    row_is i = let e : i + 1 ≡ suc i = omega arith in ap (λ (k : ℕ). slice_index_or table k []) e
+
+    row_told : (i : ℕ) → i < length rows → (v : ℕ) × TellsOf n names table values i (offset_at values i) v
+    row_told i within =
+        let own_row = row_at n names 0 values i within in
+        let e : 0 + offset_at values i ≡ offset_at values i = omega arith in (
+          own_row.0,
+          record {
+            there = omega (arith, own_row.1.inside, as_many);
+            value = own_row.1.value;
+            row = row_is i ∙ own_row.1.row ∙ ap (λ (d : ℕ). value_record n names d own_row.0) e;
+          },
+        )
+
+    row_connection : (i : ℕ) → i < length rows → connection_in n names (value_row table i) ≡ Some (offset_at values i)
+    row_connection i within =
+        let r = row_told i within in
+        ap (connection_in n names) r.1.row ∙ named_back (offset_at values i) r.0 r.1.there (small (offset_at values i) r.0 r.1.value)
+
+    row_rises : (i : ℕ) → i < length rows → rises (connection_before n names table i) (offset_at values i) ≡ true
+    row_rises zero within = refl
+    row_rises (suc i) within =
+        ap (λ (last : Option ℕ). rises last (offset_at values (suc i))) (row_connection i (omega (arith, within)))
+        ∙ lt_holds (offset_at values i) (offset_at values (suc i)) (offsets_rise n names 0 values i within)
+
+    row_faultless : (stated i : ℕ) → i < stated → i < length rows → value_fault n names table stated i ≡ None
+    row_faultless stated i inside within =
+        let r = row_told i within in
+        let c = offset_at values i in
+        ap (λ (b : Bool). if b then fault_of (told_in n names (i + 2) (connection_before n names table i) (value_row table i)) else Some (Row (i + 2))) (lt_holds i stated inside)
+        ∙ ap (λ (fields : List (List ℕ)). fault_of (told_in n names (i + 2) (connection_before n names table i) fields)) r.1.row
+        ∙ ap fault_of (told_back c r.0 (i + 2) (connection_before n names table i) r.1.there (small c r.0 r.1.value) (row_rises i within))
+
+    -- each value that is there has its row
+    row_for : (c v : ℕ) → value_of values c ≡ Some v → (i : ℕ) × (i < length rows) × (value_row table i ≡ value_record n names c v)
+    row_for c v is =
+        let at = row_of_value n names 0 values c v is in
+        let e : 0 + c ≡ c = omega arith in
+        (at.0, at.1, row_is at.0 ∙ at.2 ∙ ap (λ (d : ℕ). value_record n names d v) e)
+
+    never_told : (c : ℕ) → ((i : ℕ) → i < length rows → connection_in n names (value_row table i) ≢ Some c) → (own_value : Option ℕ) → value_of values c ≡ own_value → own_value ≡ None
+    never_told c never None is = refl
+    never_told c never (Some v) is =
+        let at = row_for c v is in
+        absurd (never at.0 at.1 (ap (connection_in n names) at.2 ∙ named_back c v (omega (arith, as_many, present values c v is)) (small c v is)))
+
+    -- and no other values are told
+    only : (stated : ℕ) (others : List (Option ℕ)) → AreTold n names table stated others → others ≡ values
+    only stated others told = ext_get_or None others values (told.as_many ∙ sym as_many) (λ c within. same c (value_of values c) refl)
+      where
+        same : (c : ℕ) (x : Option ℕ) → value_of values c ≡ x → value_of others c ≡ value_of values c
+        same c (Some v) is =
+            let at = row_for c v is in
+            let there : c < count n = omega (arith, as_many, present values c v is) in
+            told.told at.0 c (omega (arith, at.1)) (ap (connection_in n names) at.2 ∙ named_back c v there (small c v is))
+            ∙ ap value_in at.2 ∙ value_back c v there (small c v is) ∙ sym is
+        same c None is =
+            told.others c (λ i inside at.
+            let within : i < length rows = omega (arith, inside) in
+            let r = row_told i within in
+            let both : ◌≡◌ {A = Option ℕ} (Some (offset_at values i)) (Some c) = sym (row_connection i within) ∙ at in
+            let here : offset_at values i ≡ c = cc in
+            let some : ◌≡◌ {A = Option ℕ} (Some r.0) None = sym r.1.value ∙ ap (value_of values) here ∙ is in
+            cc)
+            ∙ sym is
+
+    all_told : AreTold n names table (count_by is_some values) values
+    all_told =
+        let many : length rows ≡ count_by is_some values = rows_many n names 0 values in
+        record {
+          faultless = λ i within.
+              let inside : i < length rows = omega (arith, many, within, max-le {a = row_count table} {b = count_by is_some values} {k = length rows} (omega arith) (omega (arith, many))) in
+              row_faultless (count_by is_some values) i (omega (arith, many, inside)) inside;
+          as_many = as_many;
+          told = λ i c within at.
+              let inside : i < length rows = omega (arith, within) in
+              let r = row_told i inside in
+              let both : ◌≡◌ {A = Option ℕ} (Some (offset_at values i)) (Some c) = sym (row_connection i inside) ∙ at in
+              let same : offset_at values i ≡ c = cc in
+              ap (value_of values) (sym same) ∙ r.1.value ∙ sym (ap value_in r.1.row ∙ value_back (offset_at values i) r.0 r.1.there (small (offset_at values i) r.0 r.1.value));
+          others = λ c never. never_told c (λ i within. never i (omega (arith, within))) (value_of values c) refl;
+        }
+
+  -- ---- the first row
+
+  module _ (q : Query) (values : List (Option ℕ)) (source : q.source.0 < length n.change) (target : q.target.0 < length n.change)
+      (start : q.start.0 ≤ 253402300799) (deadline : q.deadline.0 ≤ 253402300799) (in_time : q.start.0 ≤ q.deadline.0) (few : count_by is_some values ≤ 999999999) where
+    bounds_kept : IsKept (bounds_record names q values)
+    bounds_kept =
+        seven_kept (codes "bounds") (codes "1") (place_name names q.source.0) (place_name names q.target.0) (moment_text q.start.0) (moment_text q.deadline.0)
+        (decimal (count_by is_some values)) refl refl (place_kept q.source.0 source) (place_kept q.target.0 target) (moment_kept q.start.0) (moment_kept q.deadline.0)
+        (decimal_kept (count_by is_some values) (omega (arith, few)))
+
+    abbrev bounds : BoundsRow
+    bounds = record { start = q.start; deadline = q.deadline; number = count_by is_some values }
+
+    bounds_row_back : bounds_row_in (bounds_record names q values) ≡ Some bounds
+    bounds_row_back =
+        three (moment_at (moment_text q.start.0)) (moment_at (moment_text q.deadline.0)) (whole_at (decimal (count_by is_some values)))
+        (text_tells q.start.0 start) (text_tells q.deadline.0 deadline) (whole_back (count_by is_some values) few)
+      where
+        three : (a b d : Option ℕ) → a ≡ Some q.start.0 → b ≡ Some q.deadline.0 → d ≡ Some (count_by is_some values) → bounds_numbers a b d ≡ Some bounds
+        three a b d one two more = rw (one, two, more, le_holds q.start.0 q.deadline.0 in_time) refl
+
+    bounds_back : bounds_in names q.source.0 q.target.0 q.start.0 (bounds_record names q values) ≡ Ok bounds
+    bounds_back =
+        ap (λ (x : Option BoundsRow). bounds_by q.source.0 q.target.0 q.start.0 x (number_of names.places (place_name names q.source.0)) (number_of names.places (place_name names q.target.0)))
+        bounds_row_back
+        ∙ ap (λ (x : Option ℕ). bounds_by q.source.0 q.target.0 q.start.0 (Some bounds) x (number_of names.places (place_name names q.target.0))) (place_named q.source.0 source)
+        ∙ ap (bounds_by q.source.0 q.target.0 q.start.0 (Some bounds) (Some q.source.0)) (place_named q.target.0 target)
+        ∙ asked
+      where
+        asked : bounds_by q.source.0 q.target.0 q.start.0 (Some bounds) (Some q.source.0) (Some q.target.0) ≡ Ok bounds
+        asked = rw (eq_holds q.source.0 q.source.0 refl, eq_holds q.target.0 q.target.0 refl, eq_holds q.start.0 q.start.0 refl) refl
+
+    no_mark : (rest : List (List ℕ)) (others : List (List (List ℕ))) → strip_bom (text_of_rows ((codes "bounds" ∷ rest) ∷ others)) ≡ text_of_rows ((codes "bounds" ∷ rest) ∷ others)
+    unfolding strip_bom text_of_rows
+    no_mark rest others = refl
+
+    table_is : length values ≡ count n → table_of (proof_text n names q values) ≡ bounds_record names q values ∷ value_records n names 0 values
+    table_is as_many =
+        ap table_of (records_printed (bounds_record names q values ∷ value_records n names 0 values))
+        ∙ table_back (bounds_record names q values ∷ value_records n names 0 values) (bounds_kept, records_kept 0 values (omega (arith, as_many))) (no_mark _ (value_records n names 0 values))
+
+    -- whatever is read of the text is what was printed
+    pub reads_back : length values ≡ count n → ((c v : ℕ) → value_of values c ≡ Some v → v < 2 ^ 64)
+        → (result : Result (Query × LowerBounds) ProofFault) → IsReadAs n names q.source.0 q.target.0 q.start.0 (proof_text n names q values) result → IsReadBack q values result
+    reads_back as_many small (Ok read) is =
+        told_once read.0 read.1.values (subst (λ (t : List (List (List ℕ))). IsTold n names q.source.0 q.target.0 q.start.0 t read.0 read.1.values) (table_is as_many) is)
+      where
+        told_once : (other : Query) (others : List (Option ℕ)) → IsTold n names q.source.0 q.target.0 q.start.0 (bounds_record names q values ∷ value_records n names 0 values) other others
+            → (other ≡ q) × (others ≡ values)
+        told_once other others told =
+            let both : ◌≡◌ {A = Result BoundsRow ProofFault} (Ok told.bounds) (Ok bounds) = sym told.head ∙ bounds_back in
+            let same : ◌≡◌ {A = BoundsRow} told.bounds bounds = cc in (
+              same_query other q told.from told.to told.since (told.until ∙ ap (λ (b : BoundsRow). b.deadline) same),
+              only (bounds_record names q values) values as_many small told.bounds.number others told.told,
+            )
+    reads_back as_many small (Err fault) (inl none) = none
+    reads_back as_many small (Err fault) (inr first) =
+        let e = table_is as_many in
+        let on_table = subst (λ (t : List (List (List ℕ))). IsFaultAfter n names t (bounds_in names q.source.0 q.target.0 q.start.0 (header t)) fault) e first in
+        let late = subst (λ (h : Result BoundsRow ProofFault). IsFaultAfter n names (bounds_record names q values ∷ value_records n names 0 values) h fault) bounds_back on_table in
+        let none = (all_told (bounds_record names q values) values as_many small).faultless late.i late.within in
+        let both : ◌≡◌ {A = Option ProofFault} (Some fault) None = sym late.here ∙ none in
+        absurd (cc)

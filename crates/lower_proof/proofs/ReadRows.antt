@@ -1,0 +1,181 @@
+-- What is read of the value rows so far.
+use Rattle.std.proofs.Common.{◌≡◌, ◌≢◌, ℕ, suc, ◌+◌, ◌<◌, ◌≤◌, ◌⊎◌, Bool, true, false, List, [], length, set, Option, Some, None, Ok, Err, Result, arith, inl, inr, sym, ◌∙◌, ap, subst, refl, get_or-set_other, get_or-set_same}
+use Rattle.std.specs.Prelude.{nat_lt, max, if◌then◌else◌}
+use Rattle.std.specs.Option.{option_map}
+use Rattle.std.proofs.Math.Nat.{le-max_left}
+use Rattle.std.proofs.lemmas.Bool.{cases_lt}
+use Rattle.std.proofs.lemmas.Bool.Decides.{nat_tests}
+use Rattle.std.proofs.lemmas.List.{length-set, get_or_past}
+use Rattle.csv_rows.specs.Tables.{row_count}
+use Rattle.plan_model.specs.Parts.{Parts}
+use Rattle.plan_model.specs.NameLists.{NameLists}
+use Rattle.plan_model.specs.Network.{count}
+use Rattle.printed_rows.specs.Fields.{field, number_of, connection_of, rises}
+use Rattle.lower_proof.specs.declared.reader.ValueRow.{ValueRow}
+use Rattle.lower_proof.specs.declared.reader.Told.{Told}
+use Rattle.lower_proof.specs.declared.reader.ProofFault.{ProofFault}
+use Rattle.lower_proof.specs.declared.reader.ProofFault.TheVariants.{Row, NotRising}
+use Rattle.lower_proof.specs.Certificates.{value_of}
+use Rattle.lower_proof.specs.Reading.{value_row_in, connection_by, connection_in, value_in, told_after, told_by, told_in, value_row, connection_before, fault_of, value_fault, IsFirstFault, AreTold}
+
+lt_holds : (a b : ℕ) → a < b → nat_lt a b ≡ true
+lt_holds a b less = grind (arith, nat_tests)
+
+lt_fails : (a b : ℕ) → b ≤ a → nat_lt a b ≡ false
+lt_fails a b le = grind (arith, nat_tests)
+
+lt_means : (a b : ℕ) → nat_lt a b ≡ true → a < b
+lt_means a b less = grind (arith, nat_tests)
+
+-- ---- a row that tells
+
+record Tells (n : Parts) (row : Option ValueRow) (run before : Option ℕ) (told : Told) : Type 0 where
+  connection : connection_by n row run ≡ Some told.id.0
+  value : option_map (λ (x : ValueRow). x.value) row ≡ Some told.value
+  rise : rises before told.id.0 ≡ true
+
+abbrev made : ℕ → ℕ → Told
+made c v = record { id = record { 0 = c }; value = v }
+
+risen : (line c v : ℕ) (test : Bool) (told : Told) → ◌≡◌ {A = Result Told ProofFault} (if test then Ok (made c v) else Err (NotRising line)) (Ok told) → (test ≡ true) × (made c v ≡ told)
+risen line c v true told is = (refl, (cc))
+risen line c v false told is = absurd (cc)
+
+told_found : (n : Parts) (line : ℕ) (before : Option ℕ) (v : ℕ) (found : Option ℕ) (told : Told) → told_after line before v found ≡ Ok told
+    → (found ≡ Some told.id.0) × (v ≡ told.value) × (rises before told.id.0 ≡ true)
+told_found n line before v None told is = absurd (cc)
+told_found n line before v (Some c) told is =
+    let own = risen line c v (rises before c) told is in
+    (ap (λ (t : Told). Some t.id.0) own.1, ap (λ (t : Told). t.value) own.1, subst (λ (t : Told). rises before t.id.0 ≡ true) own.1 own.0)
+
+tells : (n : Parts) (line : ℕ) (before : Option ℕ) (row : Option ValueRow) (run : Option ℕ) (told : Told) → told_by n line before row run ≡ Ok told → Tells n row run before told
+tells n line before None run told is = absurd (cc)
+tells n line before (Some x) None told is = absurd (cc)
+tells n line before (Some x) (Some run) told is =
+    let own = told_found n line before x.value (connection_of n run x.step) told is in
+    record { connection = own.0; value = ap Some own.1; rise = own.2 }
+
+above : (last : Option ℕ) (l c : ℕ) → last ≡ Some l → rises last c ≡ true → l < c
+above None l c is rise = absurd (cc)
+above (Some k) l c is rise = let same : k ≡ l = cc in subst (λ (m : ℕ). m < c) same (lt_means k c rise)
+
+-- ---- the rows below i
+
+pub record IsReadTo (n : Parts) (names : NameLists) (t : List (List (List ℕ))) (stated i : ℕ) (values : List (Option ℕ)) (last : Option ℕ) : Type 0 where
+  pub rows : i ≤ row_count t
+  pub stated_rows : i ≤ stated
+  pub faultless : (k : ℕ) → k < i → value_fault n names t stated k ≡ None
+  pub before : last ≡ connection_before n names t i
+  pub below : (k c : ℕ) → k < i → connection_in n names (value_row t k) ≡ Some c → (l : ℕ) × (last ≡ Some l) × (c ≤ l)
+  pub as_many : length values ≡ count n
+  pub told : (k c : ℕ) → k < i → connection_in n names (value_row t k) ≡ Some c → value_of values c ≡ value_in (value_row t k)
+  pub others : (c : ℕ) → ((k : ℕ) → k < i → connection_in n names (value_row t k) ≢ Some c) → value_of values c ≡ None
+
+pub read_first : (n : Parts) (names : NameLists) (t : List (List (List ℕ))) (stated : ℕ) (values : List (Option ℕ)) → length values ≡ count n → ((c : ℕ) → value_of values c ≡ None)
+    → IsReadTo n names t stated 0 values None
+read_first n names t stated values as_many none = record {
+  rows = omega arith;
+  stated_rows = omega arith;
+  faultless = λ k less. absurd (omega (arith, less));
+  before = refl;
+  below = λ k c less is. absurd (omega (arith, less));
+  as_many = as_many;
+  told = λ k c less is. absurd (omega (arith, less));
+  others = λ c never. none c;
+}
+
+-- the fault of row i, by what it tells after the row before
+fault_is : (n : Parts) (names : NameLists) (t : List (List (List ℕ))) (stated i : ℕ) (last : Option ℕ) (told : Result Told ProofFault) → i < stated → last ≡ connection_before n names t i
+    → told ≡ told_in n names (i + 2) last (value_row t i) → value_fault n names t stated i ≡ fault_of told
+fault_is n names t stated i last told inside before is =
+    ap (λ (b : Bool). if b then fault_of (told_in n names (i + 2) (connection_before n names t i) (value_row t i)) else Some (Row (i + 2))) (lt_holds i stated inside)
+    ∙ ap (λ (x : Option ℕ). fault_of (told_in n names (i + 2) x (value_row t i))) (sym before)
+    ∙ ap fault_of (sym is)
+
+module _ (n : Parts) (names : NameLists) (t : List (List (List ℕ))) (stated i : ℕ) (values : List (Option ℕ)) (last : Option ℕ) (so_far : IsReadTo n names t stated i values last) where
+  below_or_here : (k : ℕ) → k < i + 1 → (k < i) ⊎ (k ≡ i)
+  below_or_here k less = elim (cases_lt k i) [ inl own ↦ inl own | inr le ↦ inr (omega (arith, le, less)) ]
+
+  -- with row i
+  pub read_on : (told : Told) → i < row_count t → i < stated → Ok told ≡ told_in n names (i + 2) last (value_row t i) → told.id.0 < count n
+      → IsReadTo n names t stated (i + 1) (set values told.id.0 (Some told.value)) (Some told.id.0)
+  read_on told inside within is there = record {
+    rows = omega (arith, inside);
+    stated_rows = omega (arith, within);
+    faultless = λ k less. elim (below_or_here k less) [
+      | inl own ↦ so_far.faultless k own
+      | inr same ↦ subst (λ (m : ℕ). value_fault n names t stated m ≡ None) (sym same) (fault_is n names t stated i last (Ok told) within so_far.before is)
+    ];
+    before = let one : suc i ≡ i + 1 = omega arith in subst (λ (m : ℕ). Some c ≡ connection_before n names t m) one (sym own_row.connection);
+    below = λ k d less at. elim (below_or_here k less) [
+      | inl own ↦ let b = so_far.below k d own at in let l_below = above last b.0 c b.1 own_row.rise in (c, refl, omega (arith, l_below, b.2))
+      | inr same ↦ let e = named k d same at in (c, refl, omega (arith, e))
+    ];
+    as_many = length-set values c (Some told.value) ∙ so_far.as_many;
+    told = λ k d less at. elim (below_or_here k less) [
+      | inl own ↦ get_or-set_other values c d (Some told.value) None (λ e. fresh k own (at ∙ ap Some e)) ∙ so_far.told k d own at
+      | inr same ↦
+          subst (λ (m : ℕ). value_of (set values c (Some told.value)) d ≡ value_in (value_row t m)) (sym same)
+          (subst (λ (m : ℕ). value_of (set values c (Some told.value)) m ≡ value_in (value_row t i)) (sym (named k d same at)) (stored ∙ sym own_row.value))
+    ];
+    others = λ d never.
+        get_or-set_other values c d (Some told.value) None (λ e. never i (omega arith) (own_row.connection ∙ ap Some (sym e)))
+        ∙ so_far.others d (λ k less. never k (omega (arith, less)));
+  }
+    where
+      c : ℕ
+      c = told.id.0
+
+      own_row : Tells n (value_row_in (value_row t i)) (number_of names.runs (field (value_row t i) 1)) last told
+      own_row = tells n (i + 2) last (value_row_in (value_row t i)) (number_of names.runs (field (value_row t i) 1)) told (sym is)
+
+      fresh : (k : ℕ) → k < i → connection_in n names (value_row t k) ≢ Some c
+      fresh k less at = let b = so_far.below k c less at in let l_below = above last b.0 c b.1 own_row.rise in omega (arith, l_below, b.2)
+
+      named : (k d : ℕ) → k ≡ i → connection_in n names (value_row t k) ≡ Some d → d ≡ c
+      named k d same at =
+          let at_i : connection_in n names (value_row t i) ≡ Some d = subst (λ (m : ℕ). connection_in n names (value_row t m) ≡ Some d) same at in
+          let both : ◌≡◌ {A = Option ℕ} (Some d) (Some c) = sym at_i ∙ own_row.connection in
+          cc
+
+      stored : value_of (set values c (Some told.value)) c ≡ Some told.value
+      stored = get_or-set_same values c (Some told.value) None (omega (arith, there, so_far.as_many))
+
+  -- row i has a fault
+  pub fault_here : (fault : ProofFault) → i < row_count t → i < stated → ◌≡◌ {A = Result Told ProofFault} (Err fault) (told_in n names (i + 2) last (value_row t i))
+      → IsFirstFault n names t stated fault
+  fault_here fault inside within is = record {
+    i = i;
+    within = omega (arith, inside, le-max_left (row_count t) stated);
+    here = fault_is n names t stated i last (Err fault) within so_far.before is;
+    first = so_far.faultless;
+  }
+
+  -- row i is missing, or one too many
+  pub ends_here : i < max (row_count t) stated → (row_count t ≤ i) ⊎ (stated ≤ i) → IsFirstFault n names t stated (Row (i + 2))
+  ends_here within ends = record {
+    i = i;
+    within = within;
+    here = elim (cases_lt i stated) [
+      | inr too_many ↦
+          ap (λ (b : Bool). if b then fault_of (told_in n names (i + 2) (connection_before n names t i) (value_row t i)) else Some (Row (i + 2))) (lt_fails i stated too_many)
+      | inl stated_more ↦ missing stated_more (elim ends [ inl past ↦ past | inr more ↦ absurd (omega (arith, more, stated_more)) ])
+    ];
+    first = so_far.faultless;
+  }
+    where
+      missing : i < stated → row_count t ≤ i → value_fault n names t stated i ≡ Some (Row (i + 2))
+      missing inside past =
+          ap (λ (b : Bool). if b then fault_of (told_in n names (i + 2) (connection_before n names t i) (value_row t i)) else Some (Row (i + 2))) (lt_holds i stated inside)
+          ∙ ap (λ (r : List (List ℕ)). fault_of (told_in n names (i + 2) (connection_before n names t i) r)) (get_or_past t (i + 1) [] (omega (arith, past)))
+
+  -- all rows
+  pub read_all : max (row_count t) stated ≤ i → AreTold n names t stated values
+  read_all whole =
+      let all : i ≡ row_count t = omega (arith, le-max_left (row_count t) stated, so_far.rows, whole) in
+      record {
+        faultless = λ k within. so_far.faultless k (omega (arith, within, whole));
+        as_many = so_far.as_many;
+        told = λ k c within at. so_far.told k c (omega (arith, all, within)) at;
+        others = λ c never. so_far.others c (λ k less. never k (omega (arith, all, less)));
+      }

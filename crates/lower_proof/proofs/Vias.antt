@@ -1,0 +1,117 @@
+-- The value of leaving by a connection.
+use Rattle.std.proofs.Common.{◌≡◌, ℕ, zero, suc, ◌+◌, ◌*◌, ◌/◌, ◌<◌, ◌≤◌, List, [], ◌∷◌, ◌++◌, length, take, drop, get_or, Option, Some, None, IsTrue, arith, inl, inr, sym, ◌∙◌, ap, subst, refl}
+use Rattle.std.proofs.lemmas.Bool.{cases_eq}
+use Rattle.std.proofs.lemmas.List.{take_more}
+use Rattle.std.proofs.lemmas.List.Sums.{sum_by-cons}
+use Rattle.std.proofs.Math.Seq.{drop-cons}
+use Rattle.std.proofs.Math.Nat.{mul-le-mul_left, mul-add, mul_comm}
+use Rattle.std.specs.List.{sum_by}
+use Rattle.plan_model.specs.declared.model.Outcome.{Outcome}
+use Rattle.plan_model.specs.declared.model.Query.{Query}
+use Rattle.plan_model.specs.Parts.{Parts}
+use Rattle.plan_model.specs.Network.{connection, to_of, arr_of, outcomes}
+use Rattle.interval_fixed.specs.Means.{weighted}
+use Rattle.lower_proof.specs.Certificates.{IsLeastOf, Offers, IsLeast, IsLeastAt, AreLeast, IsVia}
+use Rattle.lower_proof.proofs.Leasts.{IsLeastOf-unique}
+
+-- there is only one least value
+pub IsLeast-unique : (n : Parts) (q : Query) (values : List (Option ℕ)) (Boards : ℕ → Type 0) (p x : ℕ) (r s : Option ℕ) → IsLeast n q values Boards p x r → IsLeast n q values Boards p x s → r ≡ s
+IsLeast-unique n q values Boards p x r s h k = elim (cases_eq p q.target.0) [
+  | inl there ↦ h.at_target there ∙ sym (k.at_target there)
+  | inr away ↦ IsLeastOf-unique (λ v. (c : ℕ) × Offers n values Boards c v) r s (h.elsewhere away) (k.elsewhere away)
+]
+
+-- an outcome of a row
+abbrev pub outcome_at : List Outcome → ℕ → Outcome
+outcome_at items k = get_or items k (record { delay = 0; weight = 0 })
+
+-- room for one outcome less
+room_step : (w v s t most : ℕ) → v ≤ most → s + most * (w + t) ≤ 184467440737095516150000 → s + w * v + most * t ≤ 184467440737095516150000
+room_step w v s t most small room =
+    let scaled = mul-le-mul_left w small in
+    omega (arith, scaled, mul-add most w t, mul_comm w most)
+
+pub room_next : (items : List Outcome) (k sum v : ℕ) → k < length items → v ≤ 18446744073709551615
+    → sum + 18446744073709551615 * sum_by (λ o. o.weight) (drop k items) ≤ 184467440737095516150000
+    → sum + (outcome_at items k).weight * v + 18446744073709551615 * sum_by (λ o. o.weight) (drop (k + 1) items) ≤ 184467440737095516150000
+room_next items k sum v within small room =
+    let e : k + 1 ≡ suc k = omega arith in
+    let rest = sum_by (λ (o : Outcome). o.weight) (drop (suc k) items) in
+    let split : sum_by (λ (o : Outcome). o.weight) (drop k items) ≡ (outcome_at items k).weight + rest = ap (sum_by (λ (o : Outcome). o.weight))
+    (drop-cons items k (record { delay = 0; weight = 0 }) within) ∙ sum_by-cons (λ (o : Outcome). o.weight) (outcome_at items k) (drop (suc k) items) in
+    rw e (room_step (outcome_at items k).weight v sum rest 18446744073709551615 small (rw split at room))
+
+module _ (n : Parts) (q : Query) (values : List (Option ℕ)) (p arrival : ℕ) where
+  same_value : (x v w : ℕ) → IsLeastAt n q values p x (Some v) → IsLeastAt n q values p x (Some w) → v ≡ w
+  same_value x v w h k = let both = IsLeast-unique n q values _ p x (Some v) (Some w) h k in (cc)
+
+  -- and only one after each outcome
+  pub AreLeast-unique : (row : List Outcome) (vs ws : List ℕ) → AreLeast n q values p arrival row vs → AreLeast n q values p arrival row ws → vs ≡ ws
+  AreLeast-unique [] [] [] h k = refl
+  AreLeast-unique [] [] (w ∷ ws) h k = absurd k
+  AreLeast-unique [] (v ∷ vs) ws h k = absurd h
+  AreLeast-unique (o ∷ row) [] ws h k = absurd h
+  AreLeast-unique (o ∷ row) (v ∷ vs) [] h k = absurd k
+  AreLeast-unique (o ∷ row) (v ∷ vs) (w ∷ ws) h k =
+      let first = same_value (arrival + o.delay) v w h.0 k.0 in
+      let rest = AreLeast-unique row vs ws h.1 k.1 in
+      cc
+
+  -- the sum by weight of the least values after the outcomes
+  pub record Weighed (row : List Outcome) (sum : ℕ) : Type 0 where
+    pub least : List ℕ
+    pub are_least : AreLeast n q values p arrival row least
+    pub total : weighted row least ≡ sum
+
+  pub nothing_weighed : Weighed [] 0
+  nothing_weighed = record { least = []; are_least = tt; total = refl }
+
+  least_push : (row : List Outcome) (o : Outcome) (vs : List ℕ) (v : ℕ) → AreLeast n q values p arrival row vs
+      → IsLeastAt n q values p (arrival + o.delay) (Some v) → AreLeast n q values p arrival (row ++ o ∷ []) (vs ++ v ∷ [])
+  least_push [] o [] v all one = (one, tt)
+  least_push [] o (w ∷ vs) v all one = absurd all
+  least_push (e ∷ row) o [] v all one = absurd all
+  least_push (e ∷ row) o (w ∷ vs) v all one = (all.0, least_push row o vs v all.1 one)
+
+  sum_push : (row : List Outcome) (o : Outcome) (vs : List ℕ) (v : ℕ) → AreLeast n q values p arrival row vs → weighted (row ++ o ∷ []) (vs ++ v ∷ []) ≡ weighted row vs + o.weight * v
+  sum_push [] o [] v all = omega arith
+  sum_push [] o (w ∷ vs) v all = absurd all
+  sum_push (e ∷ row) o [] v all = absurd all
+  sum_push (e ∷ row) o (w ∷ vs) v all = omega (arith, sum_push row o vs v all.1)
+
+  -- one outcome more
+  pub weighed_next : (items : List Outcome) (k sum v : ℕ) → k < length items → IsLeastAt n q values p (arrival + (outcome_at items k).delay) (Some v)
+      → Weighed (take k items) sum → Weighed (take (k + 1) items) (sum + (outcome_at items k).weight * v)
+  weighed_next items k sum v within one weighed =
+      let o = outcome_at items k in
+      let more : take (k + 1) items ≡ take k items ++ o ∷ [] = take_more items k (record { delay = 0; weight = 0 }) within in
+      subst (λ (row : List Outcome). Weighed row (sum + o.weight * v)) (sym more) (record {
+        least = weighed.least ++ v ∷ [];
+        are_least = least_push (take k items) o weighed.least v weighed.are_least one;
+        total = sum_push (take k items) o weighed.least v weighed.are_least ∙ ap (λ s. s + o.weight * v) weighed.total;
+      })
+
+  -- an outcome after which there is no least value
+  pub never_least : (row : List Outcome) (vs : List ℕ) (k : ℕ) → k < length row → IsLeastAt n q values p (arrival + (outcome_at row k).delay) None → AreLeast n q values p arrival row vs → ⊥
+  never_least [] vs k within none all = absurd (omega arith)
+  never_least (e ∷ row) [] k within none all = all
+  never_least (e ∷ row) (v ∷ vs) zero within none all =
+      let both = IsLeast-unique n q values _ p (arrival + e.delay) None (Some v) none all.0 in
+      absurd (cc)
+  never_least (e ∷ row) (v ∷ vs) (suc k) within none all = never_least row vs k (omega arith) none all.1
+
+module _ (n : Parts) (q : Query) (values : List (Option ℕ)) (j : ℕ) where
+  IsVia-unique : (v w : ℕ) → IsVia n q values j v → IsVia n q values j w → v ≡ w
+  IsVia-unique v w h k =
+      let same = AreLeast-unique n q values (to_of n j) (arr_of n j) (outcomes n j) h.least k.least h.are_least k.are_least in
+      sym h.mean ∙ ap (λ (vs : List ℕ). weighted (outcomes n j) vs / 10000) same ∙ k.mean
+
+  -- where it is there, it is the least, since there is only one
+  pub least_via : (v : ℕ) → IsVia n q values j v → IsLeastOf (IsVia n q values j) (Some v)
+  least_via v via = (via, λ w other. omega (arith, IsVia-unique v w via other))
+
+  pub never_via : (k : ℕ) → k < length (outcomes n j) → IsLeastAt n q values (to_of n j) (arr_of n j + (outcome_at (outcomes n j) k).delay) None → (v : ℕ) → IsVia n q values j v → ⊥
+  never_via k within none v via = never_least n q values (to_of n j) (arr_of n j) (outcomes n j) via.least k within none via.are_least
+
+  pub via_weighed : (sum : ℕ) → IsTrue (connection n j).can_exit → Weighed n q values (to_of n j) (arr_of n j) (outcomes n j) sum → IsLeastOf (IsVia n q values j) (Some (sum / 10000))
+  via_weighed sum leave weighed = least_via (sum / 10000) (record { leave = leave; least = weighed.least; are_least = weighed.are_least; mean = ap (λ s. s / 10000) weighed.total })

@@ -1,0 +1,64 @@
+use Rattle.std.proofs.Common.{◌≡◌, ◌+◌, ◌-◌, ◌<◌, ◌∙◌, ◌++◌, ◌∷◌, [], length, slice_get, Some, arith, subst, ap}
+use Rattle.std.proofs.lemmas.List.{length-set, get_or_default}
+use Rattle.plan_model.specs.declared.model.Connection.{Connection}
+use Rattle.plan_model.specs.Network.{from_of, dep_of}
+use Rattle.plan_model.specs.Ways.{ways_into}
+use Rattle.plan_model.proofs.Boarding.{way_takes, way_of-listed}
+use Rattle.lower_proof.specs.Boards.{Shown}
+use Rattle.lower_proof.specs.Minima.{board_at}
+use Rattle.lower_proof.proofs.Entries.{no_board, no_ways, all_ways, way_passed, way_added}
+use Rattle.lower_proof.proofs.board.add_entries.Goals as goal
+use Rattle.lower_proof.proofs.board.add_entries.Goals.{then-seconds-connection+in_ok-add, else-seconds-connection}
+
+pub loop-k-init : goal.loop-k-init
+loop-k-init c = record { len = c.requires.len; ways = no_ways c.args.network.now c.args.id.0 c.args.boards.now c.requires.entries }
+
+pub bounds-boards-way : goal.bounds-boards-way
+bounds-boards-way c =
+    let n = c.args.network.now in
+    let id = c.args.id.0 in
+    let way = c.way_at-way.result in
+    let departs_in = (c.requires.valid.connections id c.requires.there).from_in in
+    let listed = subst (λ (e : Connection). slice_get (ways_into n e.from.0) c.loop-k.k ≡ Some way) c.get-connection.ensures.connection c.way_at-way.ensures in
+    let takes = way_takes n c.requires.valid way.from.0 (from_of n id) way.seconds departs_in (way_of-listed n c.requires.valid (from_of n id) departs_in c.loop-k.k way listed) in
+    omega (arith, takes.0, c.loop-k.invariant.len)
+
+pub loop-k-preserved : goal.loop-k-preserved
+loop-k-preserved c =
+    let n = c.args.network.now in
+    let id = c.args.id.0 in
+    let loop = c.loop-k in
+    let boards = loop.boards in
+    let way = c.way_at-way.result in
+    let departs_in = (c.requires.valid.connections id c.requires.there).from_in in
+    let listed = subst (λ (e : Connection). slice_get (ways_into n e.from.0) loop.k ≡ Some way) c.get-connection.ensures.connection c.way_at-way.ensures in
+    let dep_is = ap (λ (e : Connection). e.dep.0) c.get-connection.ensures.connection in
+    elim c.if-seconds-connection.branch [
+      | then-seconds-connection+in_ok-add w ↦
+          let by = c.get-connection.result.dep.0 - c.from-seconds.result in
+          let early = w.if-seconds-connection.true in
+          let sum : by + way.seconds ≡ dep_of n id = omega (arith, c.from-seconds.ensures, dep_is) in
+          let takes = way_takes n c.requires.valid way.from.0 (from_of n id) way.seconds (c.requires.valid.connections id c.requires.there).from_in
+          (way_of-listed n c.requires.valid (from_of n id) departs_in loop.k way listed) in
+          let inside : way.from.0 < length boards = omega (arith, takes.0, loop.invariant.len) in
+          let same = get_or_default boards way.from.0 w.index-boards-way.result no_board inside in
+          let is : w.add.new.self.entries ≡ (board_at boards way.from.0).entries ++
+          (record { by = record { 0 = by }; id = record { 0 = id } }) ∷ [] = w.in_ok-add.ensures.added
+          ∙ ap (λ (b : Shown). b.entries ++ (record { by = record { 0 = by }; id = record { 0 = id } }) ∷ []) same in
+          rw w.boards-is (record {
+            len = length-set boards way.from.0 w.add.new.self ∙ loop.invariant.len;
+            ways = way_added n id c.requires.valid departs_in loop.k way listed by c.requires.there c.requires.board sum boards w.add.new.self inside is w.in_ok-add.ensures.least loop.invariant.ways;
+          })
+      | else-seconds-connection w ↦
+          let late = w.if-seconds-connection.false in
+          rw w.boards-is (record {
+            len = loop.invariant.len;
+            ways = way_passed n id c.requires.valid departs_in loop.k way listed (omega (arith, c.from-seconds.ensures, dep_is)) boards loop.invariant.ways;
+          })
+    ]
+
+pub returns-clause-entries : goal.returns-clause-entries
+returns-clause-entries c =
+    let n = c.args.network.now in
+    let ways_are = subst (λ (e : Connection). c.way_count-k-end.result ≡ length (ways_into n e.from.0)) c.get-connection.ensures.connection c.way_count-k-end.ensures in
+    all_ways n c.args.id.0 c.loop-k.boards c.loop-k.k (omega (arith, ways_are)) c.loop-k.invariant.ways

@@ -1,0 +1,11 @@
+use Rattle.std.proofs.Common.{◌≡◌, length}
+use Rattle.plan_model.specs.Network.{IsValid}
+use Rattle.lower_proof.specs.Minima.{HaveEntries}
+use Rattle.lower_proof.proofs.board.boards.Given as goal
+
+abbrev pub invariant-loop-i : goal.invariant-loop-i
+invariant-loop-i l = record {
+  valid : IsValid l.network;
+  len : length l.boards.items ≡ length l.network.change;
+  entries : HaveEntries l.network l.i l.boards.items;
+}

@@ -1,0 +1,23 @@
+use Rattle.std.proofs.Common.{◌≡◌, ◌<◌, ◌∙◌, length, arith}
+use Rattle.std.proofs.lemmas.List.{length-set}
+use Rattle.lower_proof.specs.Certificates.{IsLeastOf, value_of}
+use Rattle.lower_proof.specs.Steps.{lesser}
+use Rattle.lower_proof.specs.Boards.{entry_at, FrontValue}
+use Rattle.lower_proof.proofs.Minima.{none_front, before_is, minima_more}
+use Rattle.lower_proof.proofs.board.extend.Goals as goal
+use Rattle.lower_proof.proofs.board.extend.Goals.{then-k-eq0, else-k-eq0}
+
+pub loop-k-preserved : goal.loop-k-preserved
+loop-k-preserved c =
+    let values = c.args.values.now in
+    let entries = c.args.entries.now in
+    let loop = c.loop-k in
+    let within : loop.k < length loop.least = omega arith in
+    let before : IsLeastOf (FrontValue values entries loop.k) c.if-k-eq0.before = elim c.if-k-eq0.branch [
+      | then-k-eq0 w ↦ let zero_is : loop.k ≡ 0 = omega arith in rw (w.before-is, zero_is) (none_front values entries)
+      | else-k-eq0 w ↦ rw w.before-is (before_is values entries loop.least loop.k (omega arith) loop.invariant.minima)
+    ] in
+    rw c.lesser.ensures (record {
+      sizes = length-set loop.least loop.k (lesser c.if-k-eq0.before (value_of values (entry_at entries loop.k).id.0)) ∙ loop.invariant.sizes;
+      minima = minima_more values entries loop.least loop.k c.if-k-eq0.before within loop.invariant.minima before;
+    })

@@ -1,0 +1,20 @@
+use Rattle.std.proofs.Common.{◌≡◌, ◌++◌, ◌∙◌, ℕ, List, subst, ap}
+use Rattle.std.specs.Prelude.{OnOk, decimal}
+use Rattle.printed_rows.specs.Writers.{row_of_fields, written}
+use Rattle.printed_rows.proofs.Lines.{seven_fields, name_is}
+use Rattle.lower_proof.proofs.printer.put_bounds.Goals as goal
+
+pub returns-clause-text : goal.returns-clause-text
+returns-clause-text c =
+    let places = c.args.names.now.places in
+    let query = c.args.query.now in
+    let fields = seven_fields c.as_slice.result.now c.as_slice-2.result.now c.as_bytes.result.now c.as_bytes-2.result.now c.as_slice-3.result.now c.as_slice-4.result.now
+    c.as_bytes-3.result.now _ _ _ _ _ _ _
+    c.as_slice.ensures
+    c.as_slice-2.ensures
+    (c.as_bytes.ensures.value ∙ name_is places query.source.0 c.place_name.result.now c.place_name.ensures.name)
+    (c.as_bytes-2.ensures.value ∙ name_is places query.target.0 c.place_name-2.result.now c.place_name-2.ensures.name)
+    (c.as_slice-3.ensures ∙ c.write_moment-start.ensures.text)
+    (c.as_slice-4.ensures ∙ c.write_moment-deadline.ensures.text)
+    (c.as_bytes-3.ensures.value ∙ c.format.ensures.text ∙ ap decimal c.number_of.ensures) in
+    subst (λ (list : List (List ℕ)). OnOk c.put_row.result (written c.put_row.new.writer ≡ written c.args.writer.now ++ row_of_fields list)) fields c.put_row.ensures.text

@@ -1,0 +1,14 @@
+use Rattle.std.proofs.Common.{◌≡◌, ◌++◌, drop}
+use Rattle.printed_rows.specs.Writers.{written, text_of_records, IsBetweenRows}
+use Rattle.lower_proof.specs.Steps.{AllFit}
+use Rattle.lower_proof.specs.Texts.{value_records}
+use Rattle.lower_proof.proofs.printer.put_values.Given as goal
+
+-- the text so far, and that of the values that are left
+abbrev pub invariant-loop-i : goal.invariant-loop-i
+invariant-loop-i l = record {
+  between : IsBetweenRows l.writer;
+  text : written l.writer ++ text_of_records (value_records l.network l.names l.i (drop l.i l.values))
+      ≡ written l.initial.writer ++ text_of_records (value_records l.network l.names 0 l.values);
+  fit : AllFit l.i l.values;
+}

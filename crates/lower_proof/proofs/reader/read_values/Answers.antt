@@ -1,0 +1,42 @@
+use Rattle.std.proofs.Common.{◌≡◌, ◌∙◌, ◌<◌, ◌≤◌, ◌⊎◌, ap, inl, inr, arith}
+use Rattle.std.specs.Prelude.{max}
+use Rattle.csv_rows.specs.Tables.{row_count}
+use Rattle.lower_proof.proofs.ReadRows.{read_first, read_on, fault_here, ends_here, read_all}
+use Rattle.lower_proof.proofs.reader.read_values.Goals as goal
+use Rattle.lower_proof.proofs.reader.read_values.Goals.{then-row-count-via-then-row-count, then-row-count-via-else-row-count+then-row-most}
+
+pub loop-row-init : goal.loop-row-init
+loop-row-init c =
+    read_first c.args.network.now c.args.names.now c.args.rows.now c.args.stated c.in-Ok.values.items c.in-Ok.ensures.as_many c.in-Ok.ensures.none
+
+pub returns-then-row-count-clause-fault : goal.returns-then-row-count-clause-fault
+returns-then-row-count-clause-fault c =
+    let t = c.args.rows.now in
+    let loop = c.loop-row in
+    let end : c.max-row-end.result ≡ max (row_count t) c.args.stated = c.max-row-end.ensures ∙ ap (λ k. max k c.args.stated) c.count-count.ensures.count in
+    let within : loop.row < max (row_count t) c.args.stated = omega (arith, end) in
+    let ends : (row_count t ≤ loop.row) ⊎ (c.args.stated ≤ loop.row) = elim c.then-row-count.branch [
+      | then-row-count-via-then-row-count w ↦ inl (omega (arith, c.count-count.ensures.count))
+      | then-row-count-via-else-row-count+then-row-most w ↦ inr (omega arith)
+    ] in
+    inr (ends_here c.args.network.now c.args.names.now t c.args.stated loop.row loop.values.items loop.last loop.invariant within ends)
+
+pub returns-in-Err-read_value-clause-fault : goal.returns-in-Err-read_value-clause-fault
+returns-in-Err-read_value-clause-fault c =
+    let loop = c.loop-row in
+    inr (fault_here c.args.network.now c.args.names.now c.args.rows.now c.args.stated loop.row loop.values.items loop.last loop.invariant
+    c.in-Err-read_value.fault (omega (arith, c.count-count.ensures.count)) (omega arith) c.in-Err-read_value.ensures.told)
+
+pub loop-row-preserved : goal.loop-row-preserved
+loop-row-preserved c =
+    let loop = c.loop-row in
+    let told = c.in-Ok-read_value.told in
+    rw c.from.ensures (read_on c.args.network.now c.args.names.now c.args.rows.now c.args.stated loop.row loop.values.items loop.last loop.invariant told
+    (omega (arith, c.count-count.ensures.count)) (omega arith) c.in-Ok-read_value.ensures.told c.in-Ok-read_value.ensures.there)
+
+pub returns-clause-told : goal.returns-clause-told
+returns-clause-told c =
+    let t = c.args.rows.now in
+    let loop = c.loop-row in
+    let end : c.max-row-end.result ≡ max (row_count t) c.args.stated = c.max-row-end.ensures ∙ ap (λ k. max k c.args.stated) c.count-count.ensures.count in
+    read_all c.args.network.now c.args.names.now t c.args.stated loop.row loop.values.items loop.last loop.invariant (omega (arith, end))

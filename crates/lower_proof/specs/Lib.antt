@@ -1,0 +1,7 @@
+pub mod Certificates
+pub mod Promises
+pub mod Steps
+pub mod Boards
+pub mod Minima
+pub mod Texts
+pub mod Reading

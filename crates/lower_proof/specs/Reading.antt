@@ -1,0 +1,151 @@
+-- What the text of a certificate tells, or the first of its faults by line. Value row i stands in line i + 2.
+use Rattle.std.specs.Prelude.{◌≡◌, ◌≢◌, ℕ, zero, suc, ◌+◌, ◌<◌, Bool, List, [], length, ◌==◌, ◌&&◌, ◌⊎◌, nat_le, nat_lt, max, if◌then◌else◌, slice_index_or, codes, Option, Some, None, Result, Ok, Err}
+use Rattle.std.specs.Option.{option_map}
+use Rattle.std.specs.Str.{bytes_eq}
+use Rattle.clock_text.specs.Times.{moment_at, nanos_at}
+use Rattle.csv_rows.specs.Tables.{table_of, header, row_count}
+use Rattle.plan_model.specs.declared.model.Query.{Query}
+use Rattle.plan_model.specs.Parts.{Parts}
+use Rattle.plan_model.specs.NameLists.{NameLists}
+use Rattle.plan_model.specs.Network.{count}
+use Rattle.printed_rows.specs.Fields.{field, is_kind, whole_at, number_of, connection_of, rises}
+use Rattle.lower_proof.specs.declared.LowerBounds.{LowerBounds}
+use Rattle.lower_proof.specs.declared.reader.BoundsRow.{BoundsRow}
+use Rattle.lower_proof.specs.declared.reader.ValueRow.{ValueRow}
+use Rattle.lower_proof.specs.declared.reader.Told.{Told}
+use Rattle.lower_proof.specs.declared.reader.ProofFault.{ProofFault}
+use Rattle.lower_proof.specs.declared.reader.ProofFault.TheVariants.{Row, UnknownName, NoConnection, NotRising, OtherQuery, NoMemory}
+use Rattle.lower_proof.specs.Certificates.{value_of}
+
+-- ---- the first row
+
+abbrev pub bounds_numbers : Option ℕ → Option ℕ → Option ℕ → Option BoundsRow
+bounds_numbers None deadline number = None
+bounds_numbers (Some start) None number = None
+bounds_numbers (Some start) (Some deadline) None = None
+bounds_numbers (Some start) (Some deadline) (Some number) =
+    if nat_le start deadline then Some (record { start = record { 0 = start }; deadline = record { 0 = deadline }; number = number }) else None
+
+-- whether it is the first row of a certificate, of the version that is known
+abbrev pub is_bounds : List (List ℕ) → Bool
+is_bounds r = is_kind (codes "bounds") 7 r && bytes_eq (field r 1) (codes "1")
+
+-- the numbers of the first row, where each is of its form and the start is not after the deadline
+abbrev pub bounds_row_in : List (List ℕ) → Option BoundsRow
+bounds_row_in r = if is_bounds r then bounds_numbers (moment_at (field r 4)) (moment_at (field r 5)) (whole_at (field r 6)) else None
+
+-- whether two places and a moment are these
+abbrev pub is_query : ℕ → ℕ → ℕ → ℕ → ℕ → ℕ → Bool
+is_query from to moment source target start = (from == source) && ((to == target) && (moment == start))
+
+abbrev pub bounds_by : ℕ → ℕ → ℕ → Option BoundsRow → Option ℕ → Option ℕ → Result BoundsRow ProofFault
+bounds_by source target start None from to = Err (Row 1)
+bounds_by source target start (Some x) None to = Err (UnknownName 1)
+bounds_by source target start (Some x) (Some from) None = Err (UnknownName 1)
+bounds_by source target start (Some x) (Some from) (Some to) = if is_query from to x.start.0 source target start then Ok x else Err (OtherQuery 1)
+
+-- what the first row tells, or the first of its faults
+abbrev pub bounds_in : NameLists → ℕ → ℕ → ℕ → List (List ℕ) → Result BoundsRow ProofFault
+bounds_in names source target start r =
+    bounds_by source target start (bounds_row_in r) (number_of names.places (field r 2)) (number_of names.places (field r 3))
+
+-- ---- a value row
+
+abbrev pub value_numbers : Option ℕ → Option ℕ → Option ValueRow
+value_numbers None value = None
+value_numbers (Some step) None = None
+value_numbers (Some step) (Some value) = Some (record { step = step; value = value })
+
+-- the numbers of a value row, where each is of its form
+abbrev pub value_row_in : List (List ℕ) → Option ValueRow
+value_row_in r = if is_kind (codes "value") 4 r then value_numbers (whole_at (field r 2)) (nanos_at (field r 3)) else None
+
+abbrev pub connection_by : Parts → Option ValueRow → Option ℕ → Option ℕ
+connection_by n None run = None
+connection_by n (Some x) None = None
+connection_by n (Some x) (Some run) = connection_of n run x.step
+
+-- the connection of a value row
+abbrev pub connection_in : Parts → NameLists → List (List ℕ) → Option ℕ
+connection_in n names r = connection_by n (value_row_in r) (number_of names.runs (field r 1))
+
+-- and its value
+abbrev pub value_in : List (List ℕ) → Option ℕ
+value_in r = option_map (λ x. x.value) (value_row_in r)
+
+abbrev pub told_after : ℕ → Option ℕ → ℕ → Option ℕ → Result Told ProofFault
+told_after line before value None = Err (NoConnection line)
+told_after line before value (Some c) = if rises before c then Ok (record { id = record { 0 = c }; value = value }) else Err (NotRising line)
+
+abbrev pub told_by : Parts → ℕ → Option ℕ → Option ValueRow → Option ℕ → Result Told ProofFault
+told_by n line before None run = Err (Row line)
+told_by n line before (Some x) None = Err (UnknownName line)
+told_by n line before (Some x) (Some run) = told_after line before x.value (connection_of n run x.step)
+
+-- what a value row tells after one of an earlier connection, or the first of its faults
+abbrev pub told_in : Parts → NameLists → ℕ → Option ℕ → List (List ℕ) → Result Told ProofFault
+told_in n names line before r = told_by n line before (value_row_in r) (number_of names.runs (field r 1))
+
+-- ---- all lines
+
+-- value row i; it has no field where the table ends before it
+abbrev pub value_row : List (List (List ℕ)) → ℕ → List (List ℕ)
+value_row t i = slice_index_or t (i + 1) []
+
+-- the connection of the value row before, if there is one
+abbrev pub connection_before : Parts → NameLists → List (List (List ℕ)) → ℕ → Option ℕ
+connection_before n names t zero = None
+connection_before n names t (suc i) = connection_in n names (value_row t i)
+
+abbrev pub fault_of : Result Told ProofFault → Option ProofFault
+fault_of (Ok told) = None
+fault_of (Err fault) = Some fault
+
+-- the first fault of value row i, of which the first row states so many
+abbrev pub value_fault : Parts → NameLists → List (List (List ℕ)) → ℕ → ℕ → Option ProofFault
+value_fault n names t stated i =
+    if nat_lt i stated then fault_of (told_in n names (i + 2) (connection_before n names t i) (value_row t i)) else Some (Row (i + 2))
+
+-- it is that of a value row, or of one that is missing, and no line before has one
+pub record IsFirstFault (n : Parts) (names : NameLists) (t : List (List (List ℕ))) (stated : ℕ) (fault : ProofFault) : Type 0 where
+  pub i : ℕ
+  pub within : i < max (row_count t) stated
+  pub here : value_fault n names t stated i ≡ Some fault
+  pub first : (k : ℕ) → k < i → value_fault n names t stated k ≡ None
+
+-- the first fault by line: that of the first row, or else that of the first value row that has one
+abbrev pub IsFaultAfter : Parts → NameLists → List (List (List ℕ)) → Result BoundsRow ProofFault → ProofFault → Type 0
+IsFaultAfter n names t (Ok bounds) fault = IsFirstFault n names t bounds.number fault
+IsFaultAfter n names t (Err first) fault = first ≡ fault
+
+-- no line has a fault, and the values are those of the value rows
+pub record AreTold (n : Parts) (names : NameLists) (t : List (List (List ℕ))) (stated : ℕ) (values : List (Option ℕ)) : Type 0 where
+  pub faultless : (i : ℕ) → i < max (row_count t) stated → value_fault n names t stated i ≡ None
+  pub as_many : length values ≡ count n
+  pub told : (i c : ℕ) → i < row_count t → connection_in n names (value_row t i) ≡ Some c → value_of values c ≡ value_in (value_row t i)
+  pub others : (c : ℕ) → ((i : ℕ) → i < row_count t → connection_in n names (value_row t i) ≢ Some c) → value_of values c ≡ None
+
+-- the query has the source, the target and the start, and the deadline of the first row
+pub record IsTold (n : Parts) (names : NameLists) (source target start : ℕ) (t : List (List (List ℕ))) (q : Query) (values : List (Option ℕ)) : Type 0 where
+  pub bounds : BoundsRow
+  pub head : bounds_in names source target start (header t) ≡ Ok bounds
+  pub from : q.source.0 ≡ source
+  pub to : q.target.0 ≡ target
+  pub since : q.start.0 ≡ start
+  pub until : q.deadline ≡ bounds.deadline
+  pub told : AreTold n names t bounds.number values
+
+-- what is read of a text, of this source, target and start: a query and values, or the first fault, or there was no memory
+abbrev pub IsReadAs : Parts → NameLists → ℕ → ℕ → ℕ → List ℕ → Result (Query × LowerBounds) ProofFault → Type 0
+IsReadAs n names source target start text (Ok read) = IsTold n names source target start (table_of text) read.0 read.1.values
+IsReadAs n names source target start text (Err fault) =
+    (fault ≡ NoMemory) ⊎ IsFaultAfter n names (table_of text) (bounds_in names source target start (header (table_of text))) fault
+
+-- it is this query and these values, unless there was no memory
+abbrev pub IsReadBack : Query → List (Option ℕ) → Result (Query × LowerBounds) ProofFault → Type 0
+IsReadBack q values (Ok read) = (read.0 ≡ q) × (read.1.values ≡ values)
+IsReadBack q values (Err fault) = fault ≡ NoMemory
+
+-- whatever is read of the text for this query's source, target and start
+abbrev pub ReadsBack : Parts → NameLists → Query → List (Option ℕ) → List ℕ → Type 0
+ReadsBack n names q values text = (result : Result (Query × LowerBounds) ProofFault) → IsReadAs n names q.source.0 q.target.0 q.start.0 text result → IsReadBack q values result

@@ -1,0 +1,205 @@
+//! The connections that can be boarded from a place, with the least of their values.
+ghost use Rattle.std.specs.Prelude.{◌≡◌, ℕ, ◌+◌, ◌<◌, ◌≤◌, length, max, IfOk, OnOk, IsTrue, [], ◌∷◌, ◌++◌, IsPermutation};
+ghost use Rattle.lower_proof.specs.Certificates.{IsLeastOf};
+ghost use Rattle.lower_proof.specs.Boards.{entry_at, Falls, ValueInTime};
+ghost use Rattle.lower_proof.specs.Minima.{AreMinima, AreLate, IsBoard, board_at, HaveEntries, AreBoards, AllLate};
+ghost use Rattle.std.specs.Prelude.{List as Sequence, Option as Maybe};
+ghost use Rattle.plan_model.specs.Network.{count, connection, IsValid};
+
+use crate::lesser;
+use plan_model::{ConnectionId, Moment, Network, NoMemory};
+use std::alloc::Global;
+use std::marker::Model;
+
+/// A connection that can be boarded by whoever arrives by a moment.
+#[derive(Clone, Copy, PartialEq, Eq, PartialOrd, Ord)]
+pub struct Entry {
+    pub by: Moment,
+    pub id: ConnectionId,
+}
+
+/// How many entries are in time for an arrival.
+fn count_in_time(entries: &[Entry], arrival: Moment) -> usize
+    requires { Falls entries.now }
+    ensures within { result ≤ length entries.now }
+    ensures in_time { (k : ℕ) → k < result → arrival.0 ≤ (entry_at entries.now k).by.0 }
+    ensures late { (k : ℕ) → result ≤ k → k < length entries.now → (entry_at entries.now k).by.0 < arrival.0 }
+{
+    let mut low: usize = 0;
+    let mut high: usize = entries.len();
+    while low < high {
+        let middle = low + (high - low) / 2;
+        if entries[middle].by >= arrival {
+            low = middle + 1;
+        } else {
+            high = middle;
+        }
+    }
+    low
+}
+
+/// Makes the least values known up to a number of entries.
+fn extend(
+    least: &mut [Option<u64>],
+    entries: &[Entry],
+    values: &[Option<u64>],
+    known: usize,
+    wanted: usize,
+)
+    requires sizes { length entries.now ≤ length least.old }
+    requires wanted { wanted ≤ length entries.now }
+    requires ids { (k : ℕ) → k < length entries.now → (entry_at entries.now k).id.0 < length values.now }
+    requires minima { AreMinima values.now entries.now least.old known }
+    ensures sizes { length least.new ≡ length least.old }
+    ensures minima { AreMinima values.now entries.now least.new (max known wanted) }
+{
+    for k in known..wanted {
+        let before = if k == 0 { None } else { least[k - 1] };
+        least[k] = lesser(before, values[entries[k].id.0 as usize]);
+    }
+}
+
+/// The connections that can be boarded from a place, by falling moment, and the least values of the
+/// first so many of them.
+#[derive(Drop)]
+pub struct Board {
+    entries: Vec<Entry>,
+    least: Vec<Option<u64>>,
+    known: usize,
+}
+
+impl Model for Board {
+    ghost use Rattle.std.specs.Prelude.{◌≡◌, ◌≤◌, length, take};
+    ghost use Rattle.lower_proof.specs.Boards.{Shown};
+
+    ghost Value = { Shown };
+
+    ghost view = { λ b. record { entries = b.entries.items; least = take b.known b.least.items } };
+
+    ghost invariant = { λ b. record {
+      sizes : length b.entries.items ≤ length b.least.items;
+      known : b.known ≤ length b.entries.items;
+    } };
+}
+
+impl Board {
+    /// The least value of the entries that are in time for an arrival.
+    pub fn look(&mut self, values: &[Option<u64>], arrival: Moment) -> Option<u64>
+        requires { IsBoard values.now self.old }
+        ensures least { IsLeastOf (ValueInTime values.now self.new.entries arrival.0) result }
+        ensures entries { self.new.entries ≡ self.old.entries }
+        ensures board { IsBoard values.now self.new }
+        ensures late { (moment : ℕ) → moment ≤ arrival.0 →
+            AreLate moment self.old.entries (length self.old.least) →
+            AreLate moment self.new.entries (length self.new.least) }
+    {
+        let wanted = count_in_time(&self.entries, arrival);
+        extend(&mut self.least, &self.entries, values, self.known, wanted);
+        self.known = self.known.max(wanted);
+        if wanted == 0 {
+            None
+        } else {
+            self.least[wanted - 1]
+        }
+    }
+}
+
+impl Board {
+    /// A board without entries.
+    fn new(alloc: Global) -> Board
+        ensures { result ≡ record { entries = []; least = [] } }
+    {
+        Board {
+            entries: Vec::new(alloc),
+            least: Vec::new(alloc),
+            known: 0,
+        }
+    }
+
+    /// Puts an entry at the end, and forgets what was known.
+    fn add(&mut self, entry: Entry) -> Result<(), NoMemory>
+        ensures added { OnOk result (self.new.entries ≡ self.old.entries ++ entry ∷ []) }
+        ensures least { self.new.least ≡ [] }
+    {
+        self.known = 0;
+        self.least.push(None)?;
+        self.entries.push(entry)?;
+        Ok(())
+    }
+
+    /// Puts the entries in order.
+    fn sort(&mut self)
+        ensures permutation { IsPermutation self.old.entries self.new.entries }
+        ensures falls { Falls self.new.entries }
+        ensures least { self.new.least ≡ [] }
+    {
+        self.known = 0;
+        self.entries.sort_unstable();
+        self.entries.reverse();
+    }
+}
+
+/// A board without entries for each place.
+fn empty_boards(alloc: Global, places: u32) -> Result<Vec<Board>, NoMemory>
+    ensures len { IfOk result (λ boards. length boards.items ≡ places) }
+    ensures empty { IfOk result (λ boards. (p : ℕ) → board_at boards.items p ≡ record { entries = []; least = [] }) }
+{
+    let mut boards = Vec::new(alloc);
+    for _ in 0..places {
+        boards.push(Board::new(alloc))?;
+    }
+    Ok(boards)
+}
+
+/// Puts a connection into the board of each place from which a way leads to it.
+fn add_entries(boards: &mut [Board], network: &Network, id: ConnectionId) -> Result<(), NoMemory>
+    requires valid { IsValid network.now }
+    requires there { id.0 < count network.now }
+    requires board { IsTrue (connection network.now id.0).can_board }
+    requires len { length boards.old ≡ length network.now.change }
+    requires entries { HaveEntries network.now id.0 boards.old }
+    ensures len { OnOk result (length boards.new ≡ length network.now.change) }
+    ensures entries { OnOk result (HaveEntries network.now (id.0 + 1) boards.new) }
+{
+    let connection = network.get(id);
+    for k in 0..network.way_count(connection.from) {
+        let way = network.way_at(connection.from, k);
+        let seconds = u64::from(way.seconds);
+        if seconds <= connection.dep.0 {
+            let by = Moment(connection.dep.0 - seconds);
+            let board = &mut boards[way.from.0 as usize];
+            board.add(Entry { by, id })?;
+        }
+    }
+    Ok(())
+}
+
+/// Puts the entries of each board in order.
+fn sort_boards(boards: &mut [Board], network: &Network)
+    requires len { length boards.old ≡ length network.now.change }
+    requires entries { HaveEntries network.now (count network.now) boards.old }
+    ensures boards { (values : Sequence (Maybe ℕ)) → length values ≡ count network.now → AreBoards network.now values boards.new }
+    ensures late { (m : ℕ) → AllLate m boards.new }
+{
+    for p in 0..network.places() {
+        let board = &mut boards[p as usize];
+        board.sort();
+    }
+}
+
+/// The boards of all places of a network.
+pub fn boards(alloc: Global, network: &Network) -> Result<Vec<Board>, NoMemory>
+    ensures boards { IfOk result (λ boards. (values : Sequence (Maybe ℕ)) → length values ≡ count network.now → AreBoards network.now values boards.items) }
+    ensures late { IfOk result (λ boards. (m : ℕ) → AllLate m boards.items) }
+    ensures valid { IfOk result (λ _. IsValid network.now) }
+{
+    let mut boards = empty_boards(alloc, network.places())?;
+    for i in 0..network.count() {
+        let id = ConnectionId(i);
+        if network.get(id).can_board {
+            add_entries(&mut boards, network, id)?;
+        }
+    }
+    sort_boards(&mut boards, network);
+    Ok(boards)
+}

@@ -1,0 +1,307 @@
+//! Lower bounds on the expected arrival of every safe strategy, that are checked one connection at a
+//! time.
+#![tactic(auto)]
+
+ghost use Rattle.std.specs.Prelude.{◌≡◌, ℕ, ◌+◌, ◌<◌, ◌≤◌, ◌↔◌, IsTrue, IfOk, length, slice_set, List as Sequence, Option as Maybe};
+ghost use Rattle.plan_model.specs.Parts.{Parts};
+ghost use Rattle.plan_model.specs.declared.model.Query.{Query as QueryParts};
+ghost use Rattle.plan_model.specs.Network.{IsValid, count, run_of, arr_of};
+ghost use Rattle.plan_model.specs.Order.{IsScanOrder};
+ghost use Rattle.plan_model.specs.Strategy.{IsBoardableAtStart};
+ghost use Rattle.lower_proof.specs.Certificates.{IsLeastOf, arrived_by, IsLeastAt, IsLeastAtStart, IsVia, IsTight, IsVerdict};
+ghost use Rattle.lower_proof.specs.Promises.{IsSound, IsBest};
+ghost use Rattle.lower_proof.specs.Steps.{lesser, KeepsTo, exit_of};
+ghost use Rattle.lower_proof.specs.Minima.{IsBoard, board_at, AreBoards, AllLate};
+
+mod board;
+mod printer;
+mod reader;
+
+use board::{Board, boards};
+use plan_model::{
+    BackwardOrder, ConnectionId, List, Moment, Network, NoMemory, PlaceId, Query, SortedOrder,
+};
+pub use printer::write_text;
+pub use reader::{ProofFault, read_text};
+use std::alloc::Global;
+
+/// A lower bound for each connection that has one, in nanoseconds since 1970-01-01.
+#[derive(Drop)]
+pub struct LowerBounds {
+    /// One entry for each connection.
+    pub values: List<Option<u64>>,
+}
+
+/// What a check found.
+#[derive(Clone, Copy, Debug, PartialEq, Eq)]
+pub enum Verdict {
+    /// The value of every connection that can be boarded is small enough.
+    Holds,
+    /// The last connection of the scan order whose value is too great.
+    Fails(ConnectionId),
+}
+
+/// The lesser of two values.
+fn lesser(a: Option<u64>, b: Option<u64>) -> Option<u64>
+    ensures { result ≡ lesser a b }
+{
+    match (a, b) {
+        (None, b) => b,
+        (a, None) => a,
+        (Some(a), Some(b)) => Some(a.min(b)),
+    }
+}
+
+/// Whether a value is at most another.
+fn keeps_to(own: Option<u64>, best: Option<u64>) -> bool
+    ensures { IsTrue result ↔ KeepsTo own best }
+{
+    match (own, best) {
+        (_, None) => true,
+        (None, Some(_)) => false,
+        (Some(own), Some(best)) => own <= best,
+    }
+}
+
+/// The arrival in nanoseconds, where it is by the deadline.
+fn arrived(deadline: Moment, moment: Moment) -> Option<u64>
+    requires { moment.0 < 18446744073 }
+    ensures { result ≡ arrived_by deadline.0 moment.0 }
+{
+    if moment <= deadline {
+        Some(1_000_000_000 * moment.0)
+    } else {
+        None
+    }
+}
+
+/// Whether one who sets out at a place at a moment can board a connection.
+fn starts(network: &Network, place: PlaceId, moment: Moment, id: ConnectionId) -> bool
+    requires { id.0 < count network.now }
+    ensures { IsTrue result ↔ IsBoardableAtStart network.now place.0 moment.0 id.0 }
+{
+    let connection = network.get(id);
+    connection.from == place && moment <= connection.dep
+}
+
+/// The least value after an arrival at a place.
+fn least_at(
+    boards: &mut [Board],
+    values: &[Option<u64>],
+    query: &Query,
+    place: PlaceId,
+    moment: Moment,
+) -> Option<u64>
+    requires boards { (p : ℕ) → p < length boards.old → IsBoard values.now (board_at boards.old p) }
+    requires place { place.0 < length boards.old }
+    requires soon { moment.0 < 13601174401 }
+    ensures least { (n : Parts) → AreBoards n values.now boards.old → IsLeastAt n query.now values.now place.0 moment.0 result }
+    ensures boards { (n : Parts) → AreBoards n values.now boards.old → AreBoards n values.now boards.new }
+    ensures late { (m : ℕ) → m ≤ moment.0 → AllLate m boards.old → AllLate m boards.new }
+{
+    if place == query.target {
+        return arrived(query.deadline, moment);
+    }
+    let board = &mut boards[place.0 as usize];
+    board.look(values, moment)
+}
+
+/// The value of leaving by a connection, where one can leave by it and is safe after each outcome.
+fn via(
+    boards: &mut [Board],
+    values: &[Option<u64>],
+    network: &Network,
+    query: &Query,
+    id: ConnectionId,
+) -> Option<u64>
+    requires valid { IsValid network.now }
+    requires boards { AreBoards network.now values.now boards.old }
+    requires there { id.0 < count network.now }
+    ensures via { IsLeastOf (IsVia network.now query.now values.now id.0) result }
+    ensures boards { AreBoards network.now values.now boards.new }
+    ensures late { (m : ℕ) → m ≤ arr_of network.now id.0 → AllLate m boards.old → AllLate m boards.new }
+{
+    let connection = network.get(id);
+    if !connection.can_exit {
+        return None;
+    }
+    let mut sum: u128 = 0;
+    for outcome in network.row(connection.class) {
+        let moment = Moment(connection.arr.0 + u64::from(outcome.delay));
+        match least_at(boards, values, query, connection.to, moment) {
+            None => return None,
+            Some(value) => sum += u128::from(outcome.weight) * u128::from(value),
+        }
+    }
+    Some((sum / 10_000) as u64)
+}
+
+/// Room for the least value of leaving each run, with none known yet.
+fn no_exits(alloc: Global, network: &Network) -> Result<Vec<Option<u64>>, NoMemory>
+    ensures runs { IfOk result (λ exits. (i : ℕ) → i < count network.now → run_of network.now i < length exits.items) }
+    ensures empty { IfOk result (λ exits. (run : ℕ) → exit_of exits.items run ≡ Maybe.None) }
+{
+    Ok(vec![in alloc; None; network.runs() as usize]?)
+}
+
+/// Offers a connection as an exit of its run, and gives the least value of the exits so far.
+fn offer(
+    boards: &mut [Board],
+    exits: &mut [Option<u64>],
+    values: &[Option<u64>],
+    network: &Network,
+    query: &Query,
+    id: ConnectionId,
+) -> Option<u64>
+    requires valid { IsValid network.now }
+    requires boards { AreBoards network.now values.now boards.old }
+    requires there { id.0 < count network.now }
+    requires run { run_of network.now id.0 < length exits.old }
+    ensures best { (via : Maybe ℕ) × IsLeastOf (IsVia network.now query.now values.now id.0) via
+        × (result ≡ lesser (exit_of exits.old (run_of network.now id.0)) via) }
+    ensures exits { exits.new ≡ slice_set exits.old (run_of network.now id.0) result }
+    ensures boards { AreBoards network.now values.now boards.new }
+    ensures late { (m : ℕ) → m ≤ arr_of network.now id.0 → AllLate m boards.old → AllLate m boards.new }
+{
+    let run = network.get(id).run.0 as usize;
+    let best = lesser(exits[run], via(boards, values, network, query, id));
+    exits[run] = best;
+    best
+}
+
+/// Checks each connection in the scan order, the last one first.
+fn check_all<B: BackwardOrder>(
+    order: &mut B,
+    boards: &mut [Board],
+    exits: &mut [Option<u64>],
+    values: &[Option<u64>],
+    network: &Network,
+    query: &Query,
+) -> Verdict
+    requires valid { IsValid network.now }
+    requires fits { B.fits order.old network.now }
+    requires whole { IsScanOrder network.now (B.rest order.old network.now) }
+    requires values { length values.now ≡ count network.now }
+    requires boards { AreBoards network.now values.now boards.old }
+    requires runs { (i : ℕ) → i < count network.now → run_of network.now i < length exits.old }
+    requires empty { (run : ℕ) → exit_of exits.old run ≡ Maybe.None }
+    ensures { IsVerdict network.now query.now values.now result }
+{
+    while let Some(id) = order.next(network) {
+        let best = offer(boards, exits, values, network, query, id);
+        if network.get(id).can_board && !keeps_to(values[id.0 as usize], best) {
+            return Verdict::Fails(id);
+        }
+    }
+    Verdict::Holds
+}
+
+/// Whether the value of each connection that can be boarded is at most that of each way to leave its
+/// run. Where it is, no safe strategy is expected to arrive before the least value at the start.
+pub fn check(
+    alloc: Global,
+    proof: &LowerBounds,
+    network: &Network,
+    query: &Query,
+) -> Result<Verdict, NoMemory>
+    requires { length proof.now.values ≡ count network.now }
+    ensures verdict { IfOk result (IsVerdict network.now query.now proof.now.values) }
+    ensures sound { IfOk result (λ verdict. verdict ≡ Verdict.Holds → IsSound network.now query.now proof.now.values) }
+{
+    let mut order = SortedOrder::new(alloc, network)?;
+    let mut boards = boards(alloc, network)?;
+    let mut exits = no_exits(alloc, network)?;
+    Ok(check_all(
+        &mut order,
+        &mut boards,
+        &mut exits,
+        proof.values.as_slice(),
+        network,
+        query,
+    ))
+}
+
+/// The least value at the start.
+pub fn least(proof: &LowerBounds, network: &Network, query: &Query) -> Option<u64>
+    requires values { length proof.now.values ≡ count network.now }
+    requires start { query.now.source.0 ≡ query.now.target.0 → query.now.start.0 < 18446744073 }
+    ensures { IsLeastAtStart network.now query.now proof.now.values result }
+{
+    if query.source == query.target {
+        return arrived(query.deadline, query.start);
+    }
+    let values = proof.values.as_slice();
+    let mut least = None;
+    for i in 0..network.count() {
+        let id = ConnectionId(i);
+        if network.get(id).can_board && starts(network, query.source, query.start, id) {
+            least = lesser(least, values[i as usize]);
+        }
+    }
+    least
+}
+
+/// Gives each connection its value in the scan order, the last one first.
+fn write_all<B: BackwardOrder>(
+    order: &mut B,
+    boards: &mut [Board],
+    exits: &mut [Option<u64>],
+    values: &mut [Option<u64>],
+    network: &Network,
+    query: &Query,
+)
+    requires valid { IsValid network.now }
+    requires fits { B.fits order.old network.now }
+    requires whole { IsScanOrder network.now (B.rest order.old network.now) }
+    requires values { length values.old ≡ count network.now }
+    requires boards { AreBoards network.now values.old boards.old }
+    requires late { (m : ℕ) → AllLate m boards.old }
+    requires runs { (i : ℕ) → i < count network.now → run_of network.now i < length exits.old }
+    requires empty { (run : ℕ) → exit_of exits.old run ≡ Maybe.None }
+    ensures { IsTight network.now query.now values.new }
+{
+    while let Some(id) = order.next(network) {
+        let best = offer(boards, exits, values, network, query, id);
+        values[id.0 as usize] = if network.get(id).can_board {
+            best
+        } else {
+            None
+        };
+    }
+}
+
+/// The value of each connection: the least value of the ways to leave its run after boarding it.
+fn best_values(
+    alloc: Global,
+    network: &Network,
+    query: &Query,
+) -> Result<Vec<Option<u64>>, NoMemory>
+    ensures valid { IfOk result (λ _. IsValid network.now) }
+    ensures tight { IfOk result (λ values. IsTight network.now query.now values.items) }
+{
+    let mut order = SortedOrder::new(alloc, network)?;
+    let mut boards = boards(alloc, network)?;
+    let mut exits = no_exits(alloc, network)?;
+    let mut values: Vec<Option<u64>> = vec![in alloc; None; network.count() as usize]?;
+    write_all(
+        &mut order,
+        &mut boards,
+        &mut exits,
+        &mut values,
+        network,
+        query,
+    );
+    Ok(values)
+}
+
+/// The greatest certificate: each connection that can be boarded has the least value of the ways to
+/// leave its run after boarding it.
+pub fn write(alloc: Global, network: &Network, query: &Query) -> Result<LowerBounds, NoMemory>
+    ensures tight { IfOk result (λ proof. IsTight network.now query.now proof.values) }
+    ensures best { IfOk result (λ proof. IsBest network.now query.now proof.values) }
+{
+    let values = best_values(alloc, network, query)?;
+    Ok(LowerBounds {
+        values: List::from_vec(values),
+    })
+}

@@ -1,0 +1,78 @@
+-- A question about a problem ends as the problem says.
+use Rattle.std.proofs.Common.{◌≡◌, ℕ, refl, sym, ap, ◌∙◌, subst, inl, inr, List, Option, Some, None, Ok, Err}
+use Rattle.std.specs.Prelude.{◌≢◌, ◌⊎◌}
+use Rattle.file_ports.specs.Ports.{Folder, file_at}
+use Rattle.csv_rows.specs.declared.limits.Limits.{Limits}
+use Rattle.plan_model.specs.declared.model.Query.{Query}
+use Rattle.plan_model.specs.declared.model.Moment.{Moment}
+use Rattle.plan_model.specs.Parts.{Parts}
+use Rattle.plan_model.specs.Strategy.{Reaches, LeastWorst}
+use Rattle.command_line.specs.Jobs.{WantedJourney, WantedAsk, Safe, Expand, Plan, Replay as Replays}
+use Rattle.fault_lines.specs.declared.faults.Input.{Input}
+use Rattle.fault_lines.specs.declared.faults.Fault.{Fault}
+use Rattle.fault_lines.specs.declared.faults.Fault.TheVariants.{Read}
+use Rattle.fault_lines.specs.Faults.{status_of}
+use Rattle.fault_lines.specs.Sites.{NamedParts}
+use Rattle.journey_problem.specs.declared.problem.Problem.{Problem}
+use Rattle.journey_problem.specs.Problems.{IsProblem, IsProblemFault}
+use Rattle.journey_problem.proofs.OneProblem.{one_problem}
+use Rattle.journey_problem.proofs.NoFaults.{none_unread}
+use Rattle.meat_engine.specs.Answers.{IsAsked, IsNoSafe}
+use Rattle.meat_engine.specs.Asks.{AnswersAsk, FailsAsk, EndsAsk, FailsJourney}
+use Rattle.meat_engine.specs.Ends.{HasSafe, EndsBySafety, EndsByGraphFile}
+use Rattle.meat_engine.specs.Findings.{Findings}
+use Rattle.meat_engine.specs.Replays.{graph_in, FailsReplay}
+
+-- a least worst arrival is that of a strategy
+has_tree : (n : Parts) (source target start a b c : ℕ) (w : Moment) → a ≡ source → b ≡ target → c ≡ start → LeastWorst n a b c (Some w) → HasSafe n source target start
+has_tree n source target start a b c w e f g l =
+    let t = l.0 in
+    (t.0, subst (λ x. Reaches n x target start t.0) e (subst (λ y. Reaches n a y start t.0) f (subst (λ z. Reaches n a b z t.0) g t.1)))
+
+module _ (p : Problem) (start : ℕ) where
+  -- a journey with a query has a safe strategy
+  pub asked_ends : (alpha : ℕ) (q : Query) (w : Moment) → IsAsked p start alpha q w → EndsBySafety p start 0
+  asked_ends alpha q w a =
+      inl (refl, has_tree p.network p.source.0 p.target.0 start q.source.0 q.target.0 q.start.0 w a.source a.target a.start_is a.least)
+
+  pub unsafe_ends : (fault : Fault) → IsNoSafe p start fault → EndsBySafety p start (status_of (Some fault))
+  unsafe_ends fault (is, none) = inr (ap (λ (f : Fault). status_of (Some f)) is, λ h. none h.0 h.1)
+
+module _ (limits : Limits) (files : Folder) (start : ℕ) (p : Problem) where
+  -- an answered question
+  pub answers_end : (ask : WantedAsk) (found : Findings) (text : List ℕ) → AnswersAsk (Some files) limits start p ask found text → EndsAsk limits files start p ask 0
+  answers_end (Safe alpha) found text (q, w, asked, tells) = asked_ends p start alpha q w asked
+  answers_end (Expand alpha) found text (q, w, asked, tells) = asked_ends p start alpha q w asked
+  answers_end (Plan alpha) found text (q, w, asked, tells) = asked_ends p start alpha q w asked
+  answers_end (Replays graph late) found text (head, plan, file, told) =
+      inl (head, plan, file.reads, inl (told.trace, told.trip, refl))
+
+  replay_ends : (graph late : List ℕ) (fault : Fault) → ((i : Input) → fault ≡ Read i → ⊥)
+      → FailsReplay (Some files) limits start graph late p fault → EndsByGraphFile limits files start graph late p (status_of (Some fault))
+  replay_ends graph late fault never (inl (of, fails)) =
+      inr (fault, ap (λ (u : Option Input). graph_in limits p start u (file_at files graph)) (sym (none_unread fault never)) ∙ fails, refl)
+  replay_ends graph late fault never (inr (head, plan, file, trip)) =
+      inl (head, plan, file.reads, inr (trip.stop, trip.trip, ap (λ (f : Fault). status_of (Some f)) trip.fault_is))
+
+  -- a question with no answer
+  pub fails_end : (ask : WantedAsk) (fault : Fault) → ((i : Input) → fault ≡ Read i → ⊥) → FailsAsk (Some files) limits start p ask fault
+      → EndsAsk limits files start p ask (status_of (Some fault))
+  fails_end (Safe alpha) fault never fails = unsafe_ends p start fault fails
+  fails_end (Expand alpha) fault never fails = unsafe_ends p start fault fails
+  fails_end (Plan alpha) fault never fails = unsafe_ends p start fault fails
+  fails_end (Replays graph late) fault never fails = replay_ends graph late fault never fails
+
+module _ (limits : Limits) (files : Folder) (j : WantedJourney) (a : WantedAsk) where
+  -- over some problem of the files it ends so
+  abbrev pub EndsOver : ℕ → Type 0
+  EndsOver status = (p : Problem) × IsProblem limits files j p × EndsAsk limits files j.start p a status
+
+  -- the files have one problem
+  pub ends_in : (p : Problem) (status : ℕ) → IsProblem limits files j p → EndsOver status → EndsAsk limits files j.start p a status
+  ends_in p status is (q, other, ends) = subst (λ x. EndsAsk limits files j.start x a status) (one_problem limits files j q p other is) ends
+
+  -- it fails over a problem, or the files of the journey have a fault
+  pub fails_over : (known : Option NamedParts) (fault : Fault) → ((i : Input) → fault ≡ Read i → ⊥) → FailsJourney (Some files) limits j a known fault
+      → EndsOver (status_of (Some fault)) ⊎ IsProblemFault limits files j fault
+  fails_over known fault never (inl (p, sound, is, (named, fails))) = inl (p, is, fails_end limits files j.start p a fault never fails)
+  fails_over known fault never (inr (early, first)) = inr first

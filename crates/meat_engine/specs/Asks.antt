@@ -1,0 +1,66 @@
+-- What is asked about a journey: its answers, why there are none, and what it ends with.
+use Rattle.std.specs.Prelude.{◌≡◌, ◌⊎◌, ℕ, List, Option, None, Some}
+use Rattle.file_ports.specs.Ports.{Folder}
+use Rattle.csv_rows.specs.declared.limits.Limits.{Limits}
+use Rattle.command_line.specs.Jobs.{WantedJourney, WantedAsk, Safe, Expand, Plan, Replay}
+use Rattle.fault_lines.specs.declared.faults.Input.{Input}
+use Rattle.fault_lines.specs.declared.faults.Input.TheVariants as input
+use Rattle.fault_lines.specs.declared.faults.Fault.{Fault}
+use Rattle.fault_lines.specs.Sites.{NamedParts}
+use Rattle.journey_problem.specs.declared.problem.Problem.{Problem}
+use Rattle.journey_problem.specs.Files.{OwnPaths}
+use Rattle.journey_problem.specs.Problems.{FailsEarly, InProblem}
+use Rattle.meat_engine.specs.Findings.{Findings}
+use Rattle.meat_engine.specs.Answers.{InQuery, TellsWorst, TellsExpanded, TellsPlanned, IsNoSafe}
+use Rattle.meat_engine.specs.Replays.{InGraphFile, IsTripTold, FailsReplay}
+use Rattle.meat_engine.specs.Ends.{EndsBySafety, EndsByGraphFile}
+
+-- no file is read beside those of the journey
+abbrev pub no_path : OwnPaths
+no_path input = None
+
+-- a graph file is
+abbrev pub graph_path : List ℕ → OwnPaths
+graph_path path (input.Feed table) = None
+graph_path path input.Cut = None
+graph_path path input.Delays = None
+graph_path path input.Graph = Some path
+
+-- the paths of the files that are read beside those of the journey
+abbrev pub own_paths : WantedAsk → OwnPaths
+own_paths (Safe alpha) = no_path
+own_paths (Expand alpha) = no_path
+own_paths (Plan alpha) = no_path
+own_paths (Replay graph late) = graph_path graph
+
+-- the findings and the text answer what is asked about a problem, from a start on
+abbrev pub AnswersAsk : Option Folder → Limits → ℕ → Problem → WantedAsk → Findings → List ℕ → Type 0
+AnswersAsk told limits start p (Safe alpha) found text = InQuery p start alpha (TellsWorst p found text)
+AnswersAsk told limits start p (Expand alpha) found text = InQuery p start alpha (TellsExpanded p found text)
+AnswersAsk told limits start p (Plan alpha) found text = InQuery p start alpha (TellsPlanned p found text)
+AnswersAsk told limits start p (Replay graph late) found text = InGraphFile told limits start graph p (IsTripTold p late found text)
+
+-- why it has no answer, but for want of memory
+abbrev pub FailsAsk : Option Folder → Limits → ℕ → Problem → WantedAsk → Fault → Type 0
+FailsAsk told limits start p (Safe alpha) fault = IsNoSafe p start fault
+FailsAsk told limits start p (Expand alpha) fault = IsNoSafe p start fault
+FailsAsk told limits start p (Plan alpha) fault = IsNoSafe p start fault
+FailsAsk told limits start p (Replay graph late) fault = FailsReplay told limits start graph late p fault
+
+-- the status that it ends with, but for want of memory, where no file fails to be read and the answer is written
+abbrev pub EndsAsk : Limits → Folder → ℕ → Problem → WantedAsk → ℕ → Type 0
+EndsAsk limits files start p (Safe alpha) status = EndsBySafety p start status
+EndsAsk limits files start p (Expand alpha) status = EndsBySafety p start status
+EndsAsk limits files start p (Plan alpha) status = EndsBySafety p start status
+EndsAsk limits files start p (Replay graph late) status = EndsByGraphFile limits files start graph late p status
+
+-- a timetable with its names, by which the lines of faults are told
+abbrev pub parts_of : Problem → NamedParts
+parts_of p = record { network = p.network; names = p.names }
+
+-- why what is asked about a journey has no answer, but for want of memory, where this timetable is known: it has none over the
+-- problem of the journey, whose timetable that is; or it is the first fault of the files of the journey
+abbrev pub FailsJourney : Option Folder → Limits → WantedJourney → WantedAsk → Option NamedParts → Fault → Type 0
+FailsJourney told limits j a known fault =
+    InProblem told limits j (λ p. (known ≡ Some (parts_of p)) × FailsAsk told limits j.start p a fault)
+    ⊎ FailsEarly told limits j fault

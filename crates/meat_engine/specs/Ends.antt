@@ -1,0 +1,39 @@
+-- The status that a question about a problem ends with.
+use Rattle.std.specs.Prelude.{◌≡◌, ◌⊎◌, ℕ, List, None, Some, Result, Ok, Err}
+use Rattle.file_ports.specs.Ports.{Folder, file_at}
+use Rattle.csv_rows.specs.declared.limits.Limits.{Limits}
+use Rattle.plan_model.specs.Parts.{Parts}
+use Rattle.plan_model.specs.Tree.{Tree}
+use Rattle.plan_model.specs.Strategy.{Reaches}
+use Rattle.plan_graph.specs.declared.PlanGraph.{PlanGraph}
+use Rattle.graph_text.specs.declared.Head.{Head}
+use Rattle.trip_replay.specs.declared.Trace.{Trace}
+use Rattle.trip_replay.specs.declared.ReplayFault.{ReplayFault}
+use Rattle.fault_lines.specs.declared.faults.Fault.{Fault}
+use Rattle.fault_lines.specs.Faults.{status_of}
+use Rattle.journey_problem.specs.declared.problem.Problem.{Problem}
+use Rattle.meat_engine.specs.Replays.{graph_in, trip_by}
+
+-- some strategy always reaches the target
+abbrev pub HasSafe : Parts → (source target start : ℕ) → Type 0
+HasSafe n source target start = (tree : Tree) × Reaches n source target start tree
+
+-- 0 where this holds, and 1 where it does not
+abbrev pub EndsBy : Type 0 → ℕ → Type 0
+EndsBy safe status = ((status ≡ 0) × safe) ⊎ ((status ≡ 1) × ¬ safe)
+
+-- 0 where some strategy of the problem is safe, and 1 where none is
+abbrev pub EndsBySafety : Problem → ℕ → ℕ → Type 0
+EndsBySafety p start status = EndsBy (HasSafe p.network p.source.0 p.target.0 start) status
+
+-- 0 where the walk has no fault, and 11 where it has one
+abbrev pub EndsByWalk : Result Trace ReplayFault → ℕ → Type 0
+EndsByWalk trip status =
+    ((trace : Trace) × (trip ≡ Ok trace) × (status ≡ 0)) ⊎ ((stop : ReplayFault) × (trip ≡ Err stop) × (status ≡ 11))
+
+-- where the graph file reads, as the walk by its graph says; and else the status of its fault
+abbrev pub EndsByGraphFile : Limits → Folder → ℕ → List ℕ → List ℕ → Problem → ℕ → Type 0
+EndsByGraphFile limits files start path late p status =
+    ((head : Head) × (graph : PlanGraph) × (graph_in limits p start None (file_at files path) ≡ Ok (head, graph))
+    × EndsByWalk (trip_by p head graph late) status)
+    ⊎ ((fault : Fault) × (graph_in limits p start None (file_at files path) ≡ Err fault) × (status ≡ status_of (Some fault)))

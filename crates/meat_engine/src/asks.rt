@@ -1,0 +1,94 @@
+//! What is asked about a journey, over its files.
+ghost use Rattle.std.specs.Prelude.{◌≡◌, ◌≢◌, ◌<◌, ◌≤◌, length, Some, IsSome, IfOk, IfErr};
+ghost use Rattle.csv_rows.specs.Limits.{AreWithin};
+ghost use Rattle.plan_model.specs.NameLists.{NamesFit};
+ghost use Rattle.command_line.specs.Ranges.{IsJourney, IsAsk};
+ghost use Rattle.command_line.specs.Shown.{journey_shown, ask_shown};
+ghost use Rattle.fault_lines.specs.Sites.{IsTellable};
+ghost use Rattle.journey_problem.specs.Files.{path_of, HasCauses};
+ghost use Rattle.journey_problem.specs.Problems.{InProblem};
+ghost use Rattle.meat_engine.specs.Asks.{own_paths, parts_of, AnswersAsk, FailsAsk, FailsJourney};
+ghost use Rattle.meat_engine.specs.Findings.{findings_of};
+ghost use Rattle.meat_engine.specs.Moments.{last_start};
+ghost use Rattle.meat_engine.specs.Refusals.{IsRefusalBy, by_fault};
+
+use crate::answer::{Answer, Refusal};
+use crate::answers::{expand_over, plan_over, safe_over};
+use crate::replays::replay_over;
+use command_line::{Ask, Journey};
+use csv_rows::Limits;
+use fault_lines::Fault;
+use file_ports::Files;
+use journey_problem::{Problem, problem_of};
+use plan_model::Moment;
+use std::alloc::Global;
+
+/// What is asked about a problem, from a start on.
+fn ask_over<F: Files>(
+    alloc: Global,
+    files: &mut F,
+    problem: &Problem,
+    start: Moment,
+    ask: &Ask,
+    limits: &Limits,
+) -> Result<Answer, Fault>
+    requires within { AreWithin limits.now }
+    requires fit { NamesFit problem.now.names problem.now.network }
+    requires source { problem.now.source.0 < length problem.now.network.change }
+    requires target { problem.now.target.0 < length problem.now.network.change }
+    requires start { start.0 ≤ last_start }
+    requires ask { IsAsk (ask_shown ask.now) }
+    ensures same { F.files files.new ≡ F.files files.old }
+    ensures answer { IfOk result (λ a. AnswersAsk (F.files files.old) limits.now start.0
+        problem.now (ask_shown ask.now) (findings_of a.report) a.text.items) }
+    ensures fault { IfErr result (λ fault. fault ≢ Fault.NoMemory
+        → FailsAsk (F.files files.old) limits.now start.0 problem.now (ask_shown ask.now) fault) }
+    ensures tellable { IfErr result (IsTellable (Some (parts_of problem.now))) }
+    ensures causes { HasCauses (IsSome (F.files files.old)) (own_paths (ask_shown ask.now))
+        (F.faults files.old) (F.faults files.new)
+        (F.faults_of files.old) (F.faults_of files.new) result }
+{
+    match *ask {
+        Ask::Safe { alpha } => safe_over(alloc, problem, start, alpha),
+        Ask::Expand { alpha } => expand_over(alloc, problem, start, alpha),
+        Ask::Plan { alpha } => plan_over(alloc, problem, start, alpha),
+        Ask::Replay { graph, late } => {
+            replay_over(alloc, files, problem, start, graph, late, limits)
+        }
+    }
+}
+
+/// What is asked about a journey, over its problem; or the first fault of its files.
+pub(crate) fn journey_over<F: Files>(
+    alloc: Global,
+    files: &mut F,
+    journey: &Journey,
+    ask: &Ask,
+    limits: &Limits,
+) -> Result<Answer, Refusal>
+    requires within { AreWithin limits.now }
+    requires journey { IsJourney (journey_shown journey.now) }
+    requires ask { IsAsk (ask_shown ask.now) }
+    ensures same { F.files files.new ≡ F.files files.old }
+    ensures answer { IfOk result (λ a. InProblem (F.files files.old) limits.now
+        (journey_shown journey.now) (λ p. AnswersAsk (F.files files.old) limits.now
+        journey.now.start.0 p (ask_shown ask.now) (findings_of a.report) a.text.items)) }
+    ensures fault { IfErr result (IsRefusalBy (FailsJourney (F.files files.old) limits.now
+        (journey_shown journey.now) (ask_shown ask.now))) }
+    ensures causes { HasCauses (IsSome (F.files files.old))
+        (path_of (journey_shown journey.now) (own_paths (ask_shown ask.now)))
+        (F.faults files.old) (F.faults files.new)
+        (F.faults_of files.old) (F.faults_of files.new) (by_fault result) }
+{
+    let problem = match problem_of(alloc, files, journey, limits) {
+        Err(fault) => return Err(Refusal::plain(fault)),
+        Ok(problem) => problem,
+    };
+    match ask_over(alloc, files, &problem, journey.start, ask, limits) {
+        Err(fault) => Err(Refusal {
+            fault,
+            problem: Some(problem),
+        }),
+        Ok(answer) => Ok(answer),
+    }
+}

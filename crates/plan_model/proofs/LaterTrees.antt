@@ -1,0 +1,71 @@
+-- What choices unfold to in a network, and what the same choices unfold to in a view of it.
+use Rattle.std.proofs.Common.{◌≡◌, ℕ, zero, suc, ◌+◌, ◌-◌, Bool, true, false, Option, Some, None, List, [], ◌∷◌, refl, sym, ap, ◌∙◌, arith}
+use Rattle.std.specs.Prelude.{◌==◌, if◌then◌else◌}
+use Rattle.plan_model.specs.declared.model.Outcome.{Outcome}
+use Rattle.plan_model.specs.declared.model.Leg.{Leg}
+use Rattle.plan_model.specs.Parts.{Parts}
+use Rattle.plan_model.specs.Network.{IsValid, count, arr_of}
+use Rattle.plan_model.specs.Tree.{Tree, Done, Ride, Stuck}
+use Rattle.plan_model.specs.Strategy.{IsLeg}
+use Rattle.plan_model.specs.Unfold.{end_of, outcomes_of, kids_after, ride_of, ride_or_stuck, unfold_after, unfold_from}
+use Rattle.plan_model.specs.View.{later_by, all_later_by, IsView}
+use Rattle.plan_model.proofs.Views.{leg_there, arrives, seen, same_outcomes}
+
+kids_after-later : (shift : ℕ) (f g : ℕ → Tree) (a : ℕ) (row : List Outcome) → ((y : ℕ) → g (y + shift) ≡ later_by shift (f y)) → kids_after g (a + shift) row ≡ all_later_by shift (kids_after f a row)
+kids_after-later shift f g a [] same = refl
+kids_after-later shift f g a (o ∷ row) same =
+    let turned : a + shift + o.delay ≡ a + o.delay + shift = omega arith in
+    let one = ap g turned ∙ same (a + o.delay) in
+    let others = kids_after-later shift f g a row same in
+    rw (one, others) refl
+
+module _ (n m : Parts) (shift first : ℕ) (view : IsView n m shift first) (valid : IsValid m) (target : ℕ) where
+  pub same_end : (leg : Leg) → IsLeg n leg.enter.0 leg.exit.0 → end_of n leg ≡ end_of m leg
+  same_end leg is = (seen n m shift first view valid leg.exit.0 (leg_there n m shift first view valid leg.enter.0 leg.exit.0 is).0.exit).to
+
+  pub same_arrival : (leg : Leg) → IsLeg n leg.enter.0 leg.exit.0 → arr_of n leg.exit.0 + shift ≡ arr_of m leg.exit.0
+  same_arrival leg is =
+      let there = leg_there n m shift first view valid leg.enter.0 leg.exit.0 is in
+      arrives n m shift first view valid leg.enter.0 leg.exit.0 there.0 there.1
+
+  pub same_row : (leg : Leg) → IsLeg n leg.enter.0 leg.exit.0 → outcomes_of n leg ≡ outcomes_of m leg
+  same_row leg is = same_outcomes n m shift first view valid leg.exit.0 (leg_there n m shift first view valid leg.enter.0 leg.exit.0 is).0.exit
+
+  -- the ride of a leg, after which each goes on alike
+  ride_later : (f g : Leg → ℕ → Tree) (leg : Leg) → IsLeg n leg.enter.0 leg.exit.0 → ((y : ℕ) → g leg (y + shift) ≡ later_by shift (f leg y)) → ride_of m g leg ≡ later_by shift (ride_of n f leg)
+  ride_later f g leg is same =
+      let kids = kids_after-later shift (f leg) (g leg) (arr_of n leg.exit.0) (outcomes_of n leg) same in
+      ap (Ride leg.enter.0 leg.exit.0)
+      (ap (λ (a : ℕ). kids_after (g leg) a (outcomes_of m leg)) (sym (same_arrival leg is))
+      ∙ ap (λ (row : List Outcome). kids_after (g leg) (arr_of n leg.exit.0 + shift) row) (sym (same_row leg is))
+      ∙ kids)
+
+  module _ (f g : Leg → ℕ → Option Leg)
+      (agree : (leg : Leg) (x : ℕ) → IsLeg n leg.enter.0 leg.exit.0 → g leg (x + shift) ≡ f leg x)
+      (legs : (leg : Leg) (x : ℕ) (next : Leg) → f leg x ≡ Some next → IsLeg n next.enter.0 next.exit.0) where
+    goes_later : (s t : Leg → ℕ → Tree) (p x : ℕ) (o : Option Leg) → ((next : Leg) → o ≡ Some next → IsLeg n next.enter.0 next.exit.0)
+        → ((next : Leg) (y : ℕ) → IsLeg n next.enter.0 next.exit.0 → t next (y + shift) ≡ later_by shift (s next y))
+        → ride_or_stuck m t o p (x + shift) ≡ later_by shift (ride_or_stuck n s o p x)
+    goes_later s t p x None is same = refl
+    goes_later s t p x (Some next) is same = ride_later s t next (is next refl) (λ y. same next y (is next refl))
+
+    done_or : (b : Bool) (x : ℕ) (t u : Tree) → t ≡ later_by shift u → (if b then Done (x + shift) else t) ≡ later_by shift (if b then Done x else u)
+    done_or true x t u same = refl
+    done_or false x t u same = same
+
+    pub unfold_after-later : (k : ℕ) (leg : Leg) (x : ℕ) → IsLeg n leg.enter.0 leg.exit.0 → unfold_after m target g k leg (x + shift) ≡ later_by shift (unfold_after n target f k leg x)
+    unfold_after-later zero leg x is =
+        ap (λ (p : ℕ). if p == target then Done (x + shift) else Stuck p (x + shift)) (sym (same_end leg is))
+        ∙ done_or (end_of n leg == target) x (Stuck (end_of n leg) (x + shift)) (Stuck (end_of n leg) x) refl
+    unfold_after-later (suc k) leg x is =
+        ap (λ (p : ℕ). if p == target then Done (x + shift) else ride_or_stuck m (unfold_after m target g k) (g leg (x + shift)) p (x + shift)) (sym (same_end leg is))
+        ∙ done_or (end_of n leg == target) x _ _
+        (ap (λ (o : Option Leg). ride_or_stuck m (unfold_after m target g k) o (end_of n leg) (x + shift)) (agree leg x is)
+        ∙ goes_later (unfold_after n target f k) (unfold_after m target g k) (end_of n leg) x (f leg x) (legs leg x) (unfold_after-later k))
+
+    -- the same from a place, with one first leg
+    pub unfold_from-later : (o : Option Leg) (p x : ℕ) → ((leg : Leg) → o ≡ Some leg → IsLeg n leg.enter.0 leg.exit.0) → unfold_from m target g o p (x + shift) ≡ later_by shift (unfold_from n target f o p x)
+    unfold_from-later o p x begins =
+        let many : count m - 1 ≡ count n - 1 = omega (arith, view.as_many) in
+        ap (λ (k : ℕ). if p == target then Done (x + shift) else ride_or_stuck m (unfold_after m target g k) o p (x + shift)) many
+        ∙ done_or (p == target) x _ _ (goes_later (unfold_after n target f (count n - 1)) (unfold_after m target g (count n - 1)) p x o begins (unfold_after-later (count n - 1)))

@@ -1,0 +1,5 @@
+use Rattle.plan_model.proofs.Extensions.{alike}
+use Rattle.plan_model.proofs.view.safe_in_view.Goals as goal
+
+pub returns : goal.returns
+returns c = alike

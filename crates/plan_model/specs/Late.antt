@@ -1,0 +1,21 @@
+-- The chance of an arrival after a promised moment.
+use Rattle.std.specs.Prelude.{ℕ, nat_le, if◌then◌else◌}
+use Rattle.plan_model.specs.Bounds.{certainty}
+use Rattle.plan_model.specs.Tree.{Tree}
+use Rattle.plan_model.specs.Expected.{weighted_by, BelowBy, CoversBy}
+
+-- 1 for an arrival after the promised moment, and 0 for one by then
+abbrev pub late : (promise : ℕ) → ℕ → ℕ
+late promise a = if nat_le a promise then 0 else 1
+
+-- the chance of an arrival after the promised moment, times 10,000 to the h, for h at least the height
+abbrev pub late_num : (promise : ℕ) → Tree → ℕ → ℕ
+late_num promise tree h = weighted_by (late promise) tree h
+
+-- a tree whose chance of being late is at least lo, in units of 10 to the -18
+abbrev pub LateBelow : (promise : ℕ) → ℕ → Tree → Type 0
+LateBelow promise lo tree = BelowBy certainty (late promise) lo tree
+
+-- a tree whose chance of being late is at most hi
+abbrev pub LateCovers : (promise : ℕ) → ℕ → Tree → Type 0
+LateCovers promise hi tree = CoversBy certainty (late promise) hi tree

@@ -1,0 +1,4 @@
+pub mod Found
+pub mod Plain
+pub mod Printed
+pub mod Lines

@@ -1,0 +1,42 @@
+-- The fields of printed rows, and texts one after another.
+use Rattle.std.proofs.Common.{◌≡◌, ℕ, zero, suc, ◌+◌, ◌<◌, List, [], ◌∷◌, ◌++◌, length, drop, Some, Result, arith, ◌∙◌, ap, refl, subst, append_assoc}
+use Rattle.std.specs.Prelude.{slice_get, slice_index_or, OnOk}
+use Rattle.csv.proofs.RoundTrip.{rows_text as text_of_rows}
+use Rattle.printed_rows.specs.Writers.{row_of_fields, text_of_records}
+
+-- the name of this number
+pub name_is : (names : List (List ℕ)) (i : ℕ) (name : List ℕ) → slice_get names i ≡ Some name → name ≡ slice_index_or names i []
+name_is [] i name is = absurd (cc)
+name_is (head ∷ names) zero name is = cc
+name_is (head ∷ names) (suc i) name is = name_is names i name is
+
+-- the same fields are the same rows
+pub four_fields : (a b c d a' b' c' d' : List ℕ) → a ≡ a' → b ≡ b' → c ≡ c' → d ≡ d' → ◌≡◌ {A = List (List ℕ)} (a ∷ b ∷ c ∷ d ∷ []) (a' ∷ b' ∷ c' ∷ d' ∷ [])
+four_fields a b c d a' b' c' d' = λ one two three four. cc
+
+pub seven_fields : (a b c d e f g a' b' c' d' e' f' g' : List ℕ) → a ≡ a' → b ≡ b' → c ≡ c' → d ≡ d' → e ≡ e' → f ≡ f' → g ≡ g'
+    → ◌≡◌ {A = List (List ℕ)} (a ∷ b ∷ c ∷ d ∷ e ∷ f ∷ g ∷ []) (a' ∷ b' ∷ c' ∷ d' ∷ e' ∷ f' ∷ g' ∷ [])
+seven_fields a b c d e f g a' b' c' d' e' f' g' = λ one two three four five six seven. cc
+
+-- after one text more
+pub text_step : (new old a rest all : List ℕ) → new ≡ old ++ a → old ++ (a ++ rest) ≡ all → new ++ rest ≡ all
+text_step new old a rest all is before = ap (λ (list : List ℕ). list ++ rest) is ∙ append_assoc old a rest ∙ before
+
+pub append_ok : {T E : Type 0} (r : Result T E) (new mid old a b : List ℕ) → mid ≡ old ++ a → OnOk r (new ≡ mid ++ b) → OnOk r (new ≡ old ++ (a ++ b))
+append_ok r new mid old a b is ok =
+    subst (λ (list : List ℕ). OnOk r (new ≡ list)) (ap (λ (list : List ℕ). list ++ b) is ∙ append_assoc old a b) ok
+
+split : {X : Type 0} (xs : List X) (i : ℕ) (d : X) → i < length xs → drop i xs ≡ slice_index_or xs i d ∷ drop (suc i) xs
+split [] i d within = absurd (omega (arith, within))
+split (x ∷ xs) zero d within = refl
+split (x ∷ xs) (suc i) d within = split xs i d (omega (arith, within))
+
+-- after one element more
+pub split_at : {X : Type 0} (xs : List X) (i : ℕ) (d : X) → i < length xs → drop i xs ≡ slice_index_or xs i d ∷ drop (i + 1) xs
+split_at xs i d within = let one : suc i ≡ i + 1 = omega arith in subst (λ (k : ℕ). drop i xs ≡ slice_index_or xs i d ∷ drop k xs) one (split xs i d within)
+
+-- the writer's rows are these
+pub records_printed : (rows : List (List (List ℕ))) → text_of_records rows ≡ text_of_rows rows
+unfolding text_of_rows row_of_fields
+records_printed [] = refl
+records_printed (row ∷ rows) = ap (λ (text : List ℕ). row_of_fields row ++ text) (records_printed rows)

@@ -1,0 +1,31 @@
+-- What the fields of a printed row tell.
+use Rattle.std.specs.Prelude.{ℕ, Bool, true, List, [], length, ◌==◌, ◌&&◌, nat_lt, if◌then◌else◌, slice_index_or, Option, Some, None}
+use Rattle.std.specs.List.{position_from}
+use Rattle.std.specs.Str.{bytes_eq, is_utf8}
+use Rattle.clock_text.specs.Digits.{whole_of}
+use Rattle.plan_model.specs.Parts.{Parts}
+
+-- a field of a record
+abbrev pub field : List (List ℕ) → ℕ → List ℕ
+field r k = slice_index_or r k []
+
+-- whether it is a record of this kind, of so many fields
+abbrev pub is_kind : List ℕ → ℕ → List (List ℕ) → Bool
+is_kind kind width r = (length r == width) && bytes_eq (field r 0) kind
+
+-- a whole number: one to nine digits
+abbrev pub whole_at : List ℕ → Option ℕ
+whole_at text = whole_of 999999999 text
+
+-- the number of a name; none where it is not among the names
+abbrev pub number_of : List (List ℕ) → List ℕ → Option ℕ
+number_of names text = if is_utf8 text then position_from (λ name. bytes_eq name text) 0 names else None
+
+-- the connection of a run and step
+abbrev pub connection_of : Parts → ℕ → ℕ → Option ℕ
+connection_of n run step = position_from (λ c. (c.run.0 == run) && (c.step == step)) 0 n.connections
+
+-- whether it is greater than the one before, if there is one
+abbrev pub rises : Option ℕ → ℕ → Bool
+rises None x = true
+rises (Some last) x = nat_lt last x

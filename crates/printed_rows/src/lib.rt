@@ -1,0 +1,102 @@
+//! Rows of printed files: their fields as they are written, and as they are read.
+#![tactic(auto)]
+
+ghost use Rattle.std.specs.Prelude.{◌≡◌, ℕ, ◌<◌, ◌+◌, ◌++◌, [], map, IfOk, IfSome, OnOk, length, slice_index_or};
+ghost use Rattle.std.specs.Option.{option_map};
+ghost use Rattle.csv_rows.specs.Tables.{row_count};
+ghost use Rattle.plan_model.specs.Network.{count};
+ghost use Rattle.printed_rows.specs.Fields.{number_of, connection_of, whole_at, rises, is_kind};
+ghost use Rattle.printed_rows.specs.Writers.{row_of_fields, written, IsBetweenRows};
+
+use clock_text::read_whole;
+use csv::{Writer, WriterBuilder};
+use csv_rows::Rows;
+use plan_model::{ConnectionId, Names, Network, NoMemory, PlaceId, RunId};
+use std::alloc::Global;
+
+/// The place of this name; none where it is not among the names.
+pub fn place_of(names: &Names, text: &[u8]) -> Option<PlaceId>
+    ensures number { option_map (λ id. id.0) result ≡ number_of names.now.places text.now }
+    ensures there { IfSome result (λ id. id.0 < length names.now.places) }
+{
+    match std::str::from_utf8(text) {
+        Ok(name) => names.place(name),
+        Err(_) => None,
+    }
+}
+
+/// The run of this name; none where it is not among the names.
+pub fn run_of(names: &Names, text: &[u8]) -> Option<RunId>
+    ensures { option_map (λ id. id.0) result ≡ number_of names.now.runs text.now }
+{
+    match std::str::from_utf8(text) {
+        Ok(name) => names.run(name),
+        Err(_) => None,
+    }
+}
+
+/// The connection of a run and step; none where the run has no such step.
+pub fn connection_of(network: &Network, run: RunId, step: u32) -> Option<ConnectionId>
+    ensures number { option_map (λ id. id.0) result ≡ connection_of network.now run.0 step }
+    ensures there { IfSome result (λ id. id.0 < count network.now) }
+{
+    let _count = network.count();
+    network.find(run, step)
+}
+
+/// A whole number of one to nine digits; none where the text is not of this form.
+pub fn whole(text: &[u8]) -> Option<u32>
+    ensures { result ≡ whole_at text.now }
+{
+    read_whole(text, 999_999_999)
+}
+
+/// Whether a number is greater than the one before, if there is one.
+pub fn rises(last: Option<u64>, x: u64) -> bool
+    ensures { result ≡ rises last x }
+{
+    match last {
+        Some(last) => last < x,
+        None => true,
+    }
+}
+
+/// Whether a row is of this kind, with so many fields.
+pub fn is_kind(rows: &Rows, row: usize, kind: &[u8], width: usize) -> bool
+    requires row { row < row_count rows.now }
+    requires some { 0 < width }
+    ensures { result ≡ is_kind kind.now width (slice_index_or rows.now (row + 1) []) }
+{
+    rows.width(row) == width && rows.field(row, 0) == kind
+}
+
+/// A writer of rows that has written nothing.
+pub fn new_writer(alloc: Global) -> Writer<Vec<u8>>
+    ensures between { IsBetweenRows result }
+    ensures text { written result ≡ [] }
+{
+    WriterBuilder::new().from_writer(Vec::new(alloc))
+}
+
+/// Writes a row of fields, quoted where they need it.
+#[tactic(auto, unfolding(crate::specs::Writers::row_of_fields))]
+pub fn put_row(writer: &mut Writer<Vec<u8>>, fields: &[&[u8]]) -> Result<(), NoMemory>
+    requires { IsBetweenRows writer.old }
+    ensures between { OnOk result (IsBetweenRows writer.new) }
+    ensures text { OnOk result (written writer.new ≡ written writer.old ++ row_of_fields (map (λ field. field.now) fields.now)) }
+{
+    match writer.write_fields(fields) {
+        Ok(()) => Ok(()),
+        Err(_) => Err(NoMemory),
+    }
+}
+
+/// The text that was written.
+pub fn text_of(writer: Writer<Vec<u8>>) -> Result<Vec<u8>, NoMemory>
+    ensures { IfOk result (λ text. text.items ≡ written writer) }
+{
+    match writer.into_inner() {
+        Ok(text) => Ok(text),
+        Err(_) => Err(NoMemory),
+    }
+}
