@@ -4,6 +4,10 @@ measures the same bytes.
 A feed of n lines is that of `sample --size n`, whose rule is in docs/FORMATS.md: n lines between ten hubs, each of
 96 runs a day with 21 stop times. Beside its stops stands one that no trip serves, `X`, from which no strategy is safe.
 
+The same feed with links has a `transfers.txt`: from each stop of a line, links lead to the stops at the same position
+of the next four lines, and from each hub to the next four hubs, in a ring; they take 120, 180, 240 and 300 seconds.
+So four links lead into each place but `X`.
+
 A cut file of n rows comes from the sequence x -> (6364136223846793005 * x + 1442695040888963407) mod 2^64 from
 x = 1, of which a number below m is the upper 32 bits of x, mod m:
 
@@ -22,6 +26,7 @@ RUNS = 96
 HOPS = 20
 FEED_DELAYS = ("class,delay,weight\n*,0,8000\n*,300,1500\n*,900,500\n1,0,9000\n1,60,1000\n"
                "2,0,7000\n2,120,2000\n2,600,1000\n")
+LINK_SECONDS = (120, 180, 240, 300)
 CALENDAR = ("service_id,monday,tuesday,wednesday,thursday,friday,saturday,sunday,start_date,end_date\n"
             "D,1,1,1,1,1,1,1,20240101,20241231\n")
 UNSERVED = "X"
@@ -80,6 +85,23 @@ def write_feed(folder, lines):
     write(folder, "stop_times.txt", stop_times(lines))
     write(folder, "calendar.txt", [CALENDAR])
     write(folder, "delays.csv", [FEED_DELAYS])
+
+
+def links(lines):
+    """Four links from each stop that a trip serves."""
+    yield "from_stop_id,to_stop_id,transfer_type,min_transfer_time\n"
+    for hub in range(10):
+        for step, seconds in enumerate(LINK_SECONDS, 1):
+            yield "H%d,H%d,2,%d\n" % (hub, (hub + step) % 10, seconds)
+    for number in range(lines):
+        for place in range(1, HOPS):
+            for step, seconds in enumerate(LINK_SECONDS, 1):
+                yield "L%d_%d,L%d_%d,2,%d\n" % (number, place, (number + step) % lines, place, seconds)
+
+
+def write_links(folder, lines):
+    """Writes the links of a feed of so many lines, five at least."""
+    write(folder, "transfers.txt", links(lines))
 
 
 def numbers():

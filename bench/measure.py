@@ -25,7 +25,7 @@ import time
 
 sys.dont_write_bytecode = True
 
-from inputs import UNSERVED, stop_times_of, write_cut, write_feed  # noqa: E402
+from inputs import UNSERVED, stop_times_of, write_cut, write_feed, write_links  # noqa: E402
 
 TOP = os.path.dirname(os.path.dirname(os.path.abspath(__file__)))
 # The launcher's program, and the one that `rt run` or `rt ci` has built.
@@ -190,6 +190,18 @@ def measure_feed(table, lines, commands, cases):
                        items, feed_words(command, folder, UNSERVED))
 
 
+def measure_linked(table, lines, commands):
+    """These commands over a feed of so many lines, and over the same feed with four links into each place."""
+    items = stop_times_of(lines)
+    with tempfile.TemporaryDirectory() as folder:
+        write_apart(write_feed, folder, lines)
+        for links in ("no links", "4 links a place"):
+            for command in commands:
+                table.line("%s, %s" % (command, links), "`%s`, %d lines, %s" % (command, lines, links), items,
+                           feed_words(command, folder, "H0"))
+            write_apart(write_links, folder, lines)
+
+
 def measure_cut(table, rows, commands, cases):
     """A cut file of so many rows: reading and these commands, and a start long before the first departure."""
     with tempfile.TemporaryDirectory() as folder:
@@ -216,6 +228,7 @@ def options_of():
     parser.add_argument("--before", help="a second program, to compare with in the same run")
     parser.add_argument("--lines", default="100,200,400", help="lines of the feeds, by commas")
     parser.add_argument("--most-lines", type=int, default=2081, help="lines of the feed of 2^22 stop times, or 0")
+    parser.add_argument("--linked", default="100,200,400", help="lines of the feeds with and without links, by commas")
     parser.add_argument("--rows", default="100000,200000,400000", help="rows of the cut files, by commas")
     parser.add_argument("--times", type=int, default=3, help="runs of each, of which the fastest counts")
     parser.add_argument("--limit", type=float, default=600, help="seconds that a run may take")
@@ -243,6 +256,8 @@ def main():
         measure_feed(table, size, commands, size == lines[-1])
     if options.most_lines:
         measure_feed(table, options.most_lines, commands, False)
+    for size in numbers_in(options.linked):
+        measure_linked(table, size, commands)
     rows = numbers_in(options.rows)
     for size in rows:
         measure_cut(table, size, commands, size == rows[-1])
