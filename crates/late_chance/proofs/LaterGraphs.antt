@@ -1,0 +1,220 @@
+-- A graph for a view, with all moments greater by the shift, is one for the network.
+use Rattle.std.proofs.Common.{◌≡◌, ◌≢◌, ℕ, zero, suc, ◌+◌, ◌-◌, ◌<◌, ◌≤◌, Bool, true, false, Option, Some, None, List, [], ◌∷◌, length, map, All, Contains, refl, sym, ap, ◌∙◌, subst, inl, inr, ⊎_elim, arith}
+use Rattle.std.specs.Prelude.{◌==◌, nat_le, if◌then◌else◌, AllPairs, MatchOption}
+use Rattle.std.proofs.lemmas.Bool.{cases_lt}
+use Rattle.std.proofs.lemmas.List.{length-map}
+use Rattle.std.proofs.lemmas.Bool.Decides.{nat_tests}
+use Rattle.plan_model.specs.declared.model.Outcome.{Outcome}
+use Rattle.plan_model.specs.declared.model.Leg.{Leg}
+use Rattle.plan_model.specs.declared.model.Query.{Query}
+use Rattle.plan_model.specs.Parts.{Parts}
+use Rattle.plan_model.specs.Network.{IsValid, count, from_of, dep_of, arr_of, outcomes}
+use Rattle.plan_model.specs.Ways.{way_of, limit_of}
+use Rattle.plan_model.specs.Tree.{Tree, Done, Ride, Stuck, Kids, Nil, Kid}
+use Rattle.plan_model.specs.Strategy.{IsLeg, Safe, SafeAll, SafeStart, IsSafeFor}
+use Rattle.plan_model.specs.Unfold.{end_of, arrival_of, outcomes_of, by_place, unfolded}
+use Rattle.plan_model.specs.View.{IsView, later_by, all_later_by}
+use Rattle.plan_model.proofs.Boarding.{limit_of-some, way_takes, earlier_by-is}
+use Rattle.plan_model.proofs.Views.{seen, leg_there, departs, same_way, start_there}
+use Rattle.plan_model.proofs.LaterTrees.{same_end, same_arrival, same_row, unfold_from-later}
+use Rattle.plan_graph.specs.declared.GraphRow.{GraphRow}
+use Rattle.plan_graph.specs.declared.PlaceTable.{PlaceTable}
+use Rattle.plan_graph.specs.declared.PlanGraph.{PlanGraph}
+use Rattle.plan_graph.specs.Rows.{pick_row, pick_at, rows_of_place}
+use Rattle.plan_graph.specs.Ready.{IsLegOf, Stands, StandsIn, IsFirst}
+use Rattle.plan_graph.specs.Tidy.{IsFitRow, IsFitTable, IsFitStart, IsFit, IsPickedIn, IsTidy}
+use Rattle.plan_graph.specs.Unfold.{unfold_plan}
+use Rattle.late_chance.specs.LaterGraphs.{later_row, later_table, later_graph, later_query, IsShown, LaterAlike}
+
+-- what the later rows pick
+pick_row-later : (shift : ℕ) (rows : List GraphRow) (x : ℕ) → pick_row (map (later_row shift) rows) (x + shift) ≡ pick_row rows x
+pick_row-later shift [] x = refl
+pick_row-later shift (r ∷ rows) x =
+    let test : nat_le (x + shift) (r.by.0 + shift) ≡ nat_le x r.by.0 = grind (arith, nat_tests) in
+    let others = pick_row-later shift rows x in
+    rw (test, others) refl
+
+rows_of-later : (shift : ℕ) (tables : List PlaceTable) (p : ℕ) → rows_of_place (map (later_table shift) tables) p ≡ map (later_row shift) (rows_of_place tables p)
+rows_of-later shift [] p = refl
+rows_of-later shift (t ∷ tables) p = either (t.place.0 == p) _ _ (rows_of-later shift tables p)
+  where
+    either : (b : Bool) (r s : List GraphRow) → r ≡ map (later_row shift) s → (if b then map (later_row shift) t.rows else r) ≡ map (later_row shift) (if b then t.rows else s)
+    either true r s e = refl
+    either false r s e = e
+
+pick_at-later : (shift : ℕ) (tables : List PlaceTable) (p x : ℕ) → pick_at (map (later_table shift) tables) p (x + shift) ≡ pick_at tables p x
+pick_at-later shift tables p x =
+    ap (λ (rows : List GraphRow). pick_row rows (x + shift)) (rows_of-later shift tables p) ∙ pick_row-later shift (rows_of_place tables p) x
+
+-- what all elements are, what is made of them is
+all_mapped : {A B : Type 0} (f : A → B) (P : A → Type 0) (Q : B → Type 0) (xs : List A) → ((a : A) → P a → Q (f a)) → All P xs → All Q (map f xs)
+all_mapped f P Q [] to all k d h = absurd (omega arith)
+all_mapped f P Q (x ∷ xs) to all zero d h = to x (all zero x (omega arith))
+all_mapped f P Q (x ∷ xs) to all (suc k) d h = all_mapped f P Q xs to (λ j e l. all (suc j) e (omega arith)) k d (omega arith)
+
+pairs_mapped : {A B : Type 0} (f : A → B) (R : A → A → Type 0) (S : B → B → Type 0) (xs : List A) → ((a b : A) → R a b → S (f a) (f b)) → AllPairs R xs → AllPairs S (map f xs)
+pairs_mapped f R S [] to pairs i j d less h = absurd (omega arith)
+pairs_mapped f R S (x ∷ xs) to pairs i zero d less h = absurd (omega arith)
+pairs_mapped f R S (x ∷ xs) to pairs zero (suc j) d less h =
+    all_mapped f (R x) (S (f x)) xs (λ a r. to x a r) (λ k e l. pairs zero (suc k) e (omega arith) (omega arith)) j d (omega arith)
+pairs_mapped f R S (x ∷ xs) to pairs (suc i) (suc j) d less h =
+    pairs_mapped f R S xs to (λ k l e b w. pairs (suc k) (suc l) e (omega arith) (omega arith)) i j d (omega arith) (omega arith)
+
+-- the leg that is picked is that of a row
+picked_leg : (P : Leg → Type 0) (rows : List GraphRow) (x : ℕ) (leg : Leg) → All (λ r. P r.leg) rows → pick_row rows x ≡ Some leg → P leg
+picked_leg P [] x leg all is = absurd (cc)
+picked_leg P (r ∷ rows) x leg all is =
+    ⊎_elim (λ gt. let test : nat_le x r.by.0 ≡ false = grind (arith, nat_tests) in picked_leg P rows x leg (λ k d h. all (suc k) d (omega arith)) (rw test at is))
+    (λ le. let test : nat_le x r.by.0 ≡ true = grind (arith, nat_tests) in let some = rw test at is in let same : r.leg ≡ leg = (cc) in subst P same (all zero r (omega arith)))
+    (cases_lt r.by.0 x)
+
+rows_of_all : (P : GraphRow → Type 0) (tables : List PlaceTable) (p : ℕ) → All (λ t. All P t.rows) tables → All P (rows_of_place tables p)
+rows_of_all P [] p all = λ k d h. absurd (omega arith)
+rows_of_all P (t ∷ tables) p all = either (t.place.0 == p) (rows_of_place tables p) (rows_of_all P tables p (λ k d h. all (suc k) d (omega arith)))
+  where
+    either : (b : Bool) (r : List GraphRow) → All P r → All P (if b then t.rows else r)
+    either true r a = all zero t (omega arith)
+    either false r a = a
+
+-- a leg that stands in a safe tree is one of the network
+module _ (n : Parts) (target : ℕ) (by : Option ℕ) (leg : Leg) where
+  mutual
+    stands : (tree : Tree) (p x : ℕ) → Safe n target by tree p x → Stands leg tree → IsLegOf n leg
+    stands (Done a) p x h there = absurd there
+    stands (Ride i j kids) p x h (inl here) = let e = here.0 in let f = here.1 in rw (e, f) h.1
+    stands (Ride i j kids) p x h (inr below) = stands_in kids (outcomes n j) _ _ h.3 below
+    stands (Stuck q y) p x h there = absurd there
+
+    stands_in : (kids : Kids) (row : List Outcome) (p a : ℕ) → SafeAll n target by kids row p a → StandsIn leg kids → IsLegOf n leg
+    stands_in Nil row p a h there = absurd there
+    stands_in (Kid w tree kids) [] p a h there = absurd h
+    stands_in (Kid w tree kids) (o ∷ os) p a h (inl here) = stands tree p (a + o.delay) h.1 here
+    stands_in (Kid w tree kids) (o ∷ os) p a h (inr below) = stands_in kids os p a h.2 below
+
+  stands_start : (tree : Tree) (source x : ℕ) → SafeStart n target by tree source x → Stands leg tree → IsLegOf n leg
+  stands_start (Done a) source x h there = absurd there
+  stands_start (Ride i j kids) source x h (inl here) = let e = here.0 in let f = here.1 in rw (e, f) h.1
+  stands_start (Ride i j kids) source x h (inr below) = stands_in kids (outcomes n j) _ _ h.3 below
+  stands_start (Stuck q y) source x h there = absurd there
+
+mutual
+  stands_later : (shift : ℕ) (leg : Leg) (tree : Tree) → Stands leg tree → Stands leg (later_by shift tree)
+  stands_later shift leg (Done a) there = absurd there
+  stands_later shift leg (Ride i j kids) (inl here) = inl here
+  stands_later shift leg (Ride i j kids) (inr below) = inr (stands_in_later shift leg kids below)
+  stands_later shift leg (Stuck p x) there = absurd there
+
+  stands_in_later : (shift : ℕ) (leg : Leg) (kids : Kids) → StandsIn leg kids → StandsIn leg (all_later_by shift kids)
+  stands_in_later shift leg Nil there = absurd there
+  stands_in_later shift leg (Kid w tree kids) (inl here) = inl (stands_later shift leg tree here)
+  stands_in_later shift leg (Kid w tree kids) (inr below) = inr (stands_in_later shift leg kids below)
+
+is_first-later : (shift : ℕ) (rows : List GraphRow) (x : ℕ) (row : GraphRow) → IsFirst rows x row → IsFirst (map (later_row shift) rows) (x + shift) (later_row shift row)
+is_first-later shift [] x row h = absurd h
+is_first-later shift (r ∷ rows) x row (inl h) = inl (let e = h.0 in omega arith, ap (later_row shift) h.1)
+is_first-later shift (r ∷ rows) x row (inr h) = inr (let e = h.0 in omega arith, is_first-later shift rows x row h.1)
+
+module _ (n m : Parts) (shift first : ℕ) (q : Query) (shown : IsShown n m shift first q) where
+  abbrev there : (leg : Leg) → IsLegOf n leg → IsLegOf m leg × (first ≤ dep_of m leg.enter.0)
+  there leg is = leg_there n m shift first shown.view shown.valid leg.enter.0 leg.exit.0 is
+
+  later_dep : (leg : Leg) → IsLegOf n leg → dep_of n leg.enter.0 + shift ≡ dep_of m leg.enter.0
+  later_dep leg is = departs n m shift first shown.view shown.valid leg.enter.0 leg.exit.0 (there leg is).0 (there leg is).1
+
+  limit_later : (p : ℕ) (leg : Leg) (by : ℕ) → IsLegOf n leg → limit_of n p leg ≡ Some by → limit_of m p leg ≡ Some (by + shift)
+  limit_later p leg by is limit =
+      let l = limit_of-some n p leg by limit in
+      let inside = (way_takes n shown.valid_view p (from_of n leg.enter.0) l.0 (shown.valid_view.connections leg.enter.0 is.enter).from_in l.1).0 in
+      let same = ap (λ (c : List ℕ). length c) shown.same_places in
+      let way = same_way n m shift first shown.view shown.valid p leg.enter.0 l.0 (omega arith) (there leg is).0.enter l.1 in
+      rw way (earlier_by-is (dep_of m leg.enter.0) l.0 (by + shift) (let before = l.2 in let dep = later_dep leg is in omega arith))
+
+  row_later : (p : ℕ) (row : GraphRow) → IsFitRow n p row → IsFitRow m p (later_row shift row)
+  row_later p row fit = record { is_leg = (there row.leg fit.is_leg).0; by = limit_later p row.leg row.by.0 fit.is_leg fit.by }
+
+  table_later : (table : PlaceTable) → IsFitTable n table → IsFitTable m (later_table shift table)
+  table_later table fit = record {
+    some = let s = fit.some in simp length-map (omega arith);
+    rows = all_mapped (later_row shift) (IsFitRow n table.place.0) (IsFitRow m table.place.0) table.rows (row_later table.place.0) fit.rows;
+    rising = pairs_mapped (later_row shift) (λ a b. a.by.0 < b.by.0) (λ a b. a.by.0 < b.by.0) table.rows (λ a b less. omega arith) fit.rising;
+  }
+
+  start_later : (leg : Leg) → IsFitStart n q leg → IsFitStart m (later_query shift q) leg
+  start_later leg fit = record {
+    differ = fit.differ;
+    is_leg = (there leg fit.is_leg).0;
+    leaves = sym (seen n m shift first shown.view shown.valid leg.enter.0 (there leg fit.is_leg).0.enter).from ∙ fit.leaves;
+    in_time = let dep = later_dep leg fit.is_leg in let t = fit.in_time in omega arith;
+  }
+
+  starts_later : (o : Option Leg) (tables : List PlaceTable) → MatchOption o ((q.source.0 ≡ q.target.0) × (tables ≡ [])) (IsFitStart n q)
+      → MatchOption o ((q.source.0 ≡ q.target.0) × (map (later_table shift) tables ≡ [])) (IsFitStart m (later_query shift q))
+  starts_later None tables h = (h.0, ap (map (later_table shift)) h.1)
+  starts_later (Some leg) tables h = start_later leg h
+
+  module _ (graph : PlanGraph) where
+    fit_later : IsFit n q graph → IsFit m (later_query shift q) (later_graph shift graph)
+    fit_later fit = record {
+      starts = starts_later graph.start graph.tables fit.starts;
+      tables = all_mapped (later_table shift) (IsFitTable n) (IsFitTable m) graph.tables table_later fit.tables;
+      rising = pairs_mapped (later_table shift) (λ a b. a.place.0 < b.place.0) (λ a b. a.place.0 < b.place.0) graph.tables (λ a b less. less) fit.rising;
+    }
+
+    begins : IsFit n q graph → (leg : Leg) → graph.start ≡ Some leg → IsLegOf n leg
+    begins fit leg is = (subst (λ (o : Option Leg). MatchOption o ((q.source.0 ≡ q.target.0) × (graph.tables ≡ [])) (IsFitStart n q)) is fit.starts).is_leg
+
+    legs : IsFit n q graph → (leg : Leg) (x : ℕ) (next : Leg) → pick_at graph.tables (end_of n leg) x ≡ Some next → IsLegOf n next
+    legs fit leg x next is =
+        picked_leg (IsLegOf n) (rows_of_place graph.tables (end_of n leg)) x next
+        (rows_of_all (λ r. IsLegOf n r.leg) graph.tables (end_of n leg) (λ k d h j e l. ((fit.tables k d h).rows j e l).is_leg))
+        is
+
+    pub unfolds : IsFit n q graph → unfold_plan (later_graph shift graph) m (later_query shift q) ≡ later_by shift (unfold_plan graph n q)
+    unfolds fit =
+        unfold_from-later n m shift first shown.view shown.valid q.target.0
+        (by_place n (pick_at graph.tables)) (by_place m (pick_at (map (later_table shift) graph.tables)))
+        (λ leg x is. ap (λ (p : ℕ). pick_at (map (later_table shift) graph.tables) p (x + shift)) (sym (same_end n m shift first shown.view shown.valid q.target.0 leg is)) ∙ pick_at-later shift graph.tables (end_of n leg) x)
+        (legs fit)
+        graph.start q.source.0 q.start.0 (begins fit)
+
+    pub safe_later : IsFit n q graph → IsSafeFor n q (unfold_plan graph n q) → IsSafeFor m (later_query shift q) (unfold_plan (later_graph shift graph) m (later_query shift q))
+    safe_later fit safe =
+        rw (unfolds fit) (start_there n m shift first shown.view shown.valid q.target.0 (Some q.deadline.0) (unfold_plan graph n q) q.source.0 q.start.0 safe)
+
+    module _ (fit : IsFit n q graph) (safe : IsSafeFor n q (unfold_plan graph n q)) where
+      abbrev before : Tree
+      before = unfold_plan graph n q
+
+      abbrev after : Tree
+      after = unfold_plan (later_graph shift graph) m (later_query shift q)
+
+      picked_later : (table : PlaceTable) (row : GraphRow) → IsPickedIn n q.target.0 before table row → IsPickedIn m q.target.0 after (later_table shift table) (later_row shift row)
+      picked_later table row picked =
+          let leg = picked.1.0 in
+          let stood = picked.1.1 in
+          let is = stands_start n q.target.0 (Some q.deadline.0) leg before q.source.0 q.start.0 safe stood in
+          let stands_on = subst (λ (t : Tree). Stands leg t) (sym (unfolds fit)) (stands_later shift leg before stood) in
+          let ends = sym (same_end n m shift first shown.view shown.valid q.target.0 leg is) ∙ picked.1.2 in
+          let o = picked.1.3.0 in
+          let outcome = subst (λ (os : List Outcome). Contains os o) (same_row n m shift first shown.view shown.valid q.target.0 leg is) picked.1.3.1 in
+          let moment : arrival_of n leg o.delay + shift ≡ arrival_of m leg o.delay = let a = same_arrival n m shift first shown.view shown.valid q.target.0 leg is in omega arith in
+          let is_first = subst (λ (y : ℕ). IsFirst (map (later_row shift) table.rows) y (later_row shift row)) moment (is_first-later shift table.rows (arrival_of n leg o.delay) row picked.1.3.2) in
+          (picked.0, (leg, stands_on, ends, (o, outcome, is_first)))
+
+    pub alike : IsTidy n q graph → IsSafeFor n q (unfold_plan graph n q) → LaterAlike n m shift q graph
+    alike tidy safe = record {
+      unfolds = unfolds tidy.fit;
+      safe = safe_later tidy.fit safe;
+      tidy = record {
+        fit = fit_later tidy.fit;
+        picked = all_mapped (later_table shift)
+            (λ table. All (IsPickedIn n q.target.0 (unfold_plan graph n q) table) table.rows)
+            (λ table. All (IsPickedIn m q.target.0 (unfold_plan (later_graph shift graph) m (later_query shift q)) table) table.rows)
+            graph.tables
+            (λ table all. all_mapped (later_row shift)
+            (IsPickedIn n q.target.0 (unfold_plan graph n q) table)
+            (IsPickedIn m q.target.0 (unfold_plan (later_graph shift graph) m (later_query shift q)) (later_table shift table))
+            table.rows (picked_later tidy.fit safe table) all)
+            tidy.picked;
+      };
+    }

@@ -1,0 +1,51 @@
+-- The least chance of being late in a view is that in the network.
+use Rattle.std.proofs.Common.{◌≡◌, ℕ, ◌+◌, ◌-◌, ◌≤◌, arith, Some, sym, subst}
+use Rattle.interval_fixed.specs.Interval.{Interval}
+use Rattle.plan_model.specs.declared.model.Query.{Query}
+use Rattle.plan_model.specs.Parts.{Parts}
+use Rattle.plan_model.specs.Network.{count}
+use Rattle.plan_model.specs.Bounds.{certainty}
+use Rattle.plan_model.specs.Tree.{Tree}
+use Rattle.plan_model.specs.Strategy.{IsSafeFor}
+use Rattle.plan_model.specs.Late.{late, LateBelow, LateCovers}
+use Rattle.plan_model.specs.View.{later_by}
+use Rattle.plan_model.proofs.Views.{start_back}
+use Rattle.plan_model.proofs.Later.{below-later, covers-later, late-later}
+use Rattle.plan_graph.specs.declared.PlanGraph.{PlanGraph}
+use Rattle.plan_graph.specs.Unfold.{unfold_plan}
+use Rattle.late_chance.specs.LaterGraphs.{later_graph, later_query, IsShown, LaterAlike}
+use Rattle.late_chance.specs.Punctual.{IsPunctual, PunctualAlike}
+use Rattle.late_chance.proofs.LaterGraphs.{alike}
+
+module _ (n m : Parts) (shift first : ℕ) (q : Query) (shown : IsShown n m shift first q) where
+  abbrev Sooner : Tree → Type 0
+  Sooner u = (tree : Tree) × (later_by shift tree ≡ u) × IsSafeFor n q tree
+
+  sooner : (u : Tree) → IsSafeFor m (later_query shift q) u → Sooner u
+  sooner u safe = start_back n m shift first shown.view shown.valid q.target.0 (Some q.deadline.0) u q.source.0 q.start.0 shown.late safe
+
+  below : (promise lo : ℕ) (tree : Tree) → LateBelow promise lo tree → LateBelow (promise + shift) lo (later_by shift tree)
+  below promise lo tree b = below-later shift (late (promise + shift)) (late promise) (late-later shift promise) certainty lo tree b
+
+  covers : (promise hi : ℕ) (tree : Tree) → LateCovers promise hi tree → LateCovers (promise + shift) hi (later_by shift tree)
+  covers promise hi tree b = covers-later shift (late (promise + shift)) (late promise) (late-later shift promise) certainty hi tree b
+
+  graphs : (promise : ℕ) (graph : PlanGraph) (chance : Interval) → IsPunctual n q promise graph chance → IsPunctual m (later_query shift q) (promise + shift) (later_graph shift graph) chance
+  graphs promise graph chance p =
+      let told = alike n m shift first q shown graph p.tidy p.safe in
+      let own : Tree = unfold_plan graph n q in
+      record {
+        tidy = told.tidy;
+        safe = told.safe;
+        below_own = subst (λ (t : Tree). LateBelow (promise + shift) chance.lo t) (sym told.unfolds) (below promise chance.lo own p.below_own);
+        covers_own = subst (λ (t : Tree). LateCovers (promise + shift) chance.hi t) (sym told.unfolds) (covers promise chance.hi own p.covers_own);
+        below_safe = λ u safe. let s = sooner u safe in subst (λ (t : Tree). LateBelow (promise + shift) chance.lo t) s.1 (below promise chance.lo s.0 (p.below_safe s.0 s.2));
+        gap = let g = p.gap in let many = shown.view.as_many in omega arith;
+        at_once = λ same by. p.at_once same (omega arith);
+      }
+
+  pub punctual_alike : PunctualAlike n m shift q
+  punctual_alike = record {
+    graphs = graphs;
+    none = λ nothing u safe. let s = sooner u safe in nothing s.0 s.2;
+  }

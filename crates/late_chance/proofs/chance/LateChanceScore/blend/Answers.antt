@@ -1,0 +1,13 @@
+use Rattle.std.proofs.Common.{◌≡◌, ◌≤◌, ℕ, List, sym, subst}
+use Rattle.plan_model.specs.Bounds.{certainty}
+use Rattle.interval_fixed.specs.Interval.{Interval}
+use Rattle.interval_fixed.specs.Means.{mean_of}
+use Rattle.late_chance.proofs.Within.{mean_within}
+use Rattle.late_chance.proofs.chance.LateChanceScore.blend.Goals as goal
+
+pub invariant_of-result : goal.invariant_of-result
+invariant_of-result c =
+    let P : Interval → Type 0 = λ s. s.hi ≤ certainty in
+    let spans = c.deref.ensures.0 in
+    let within = mean_within certainty c.args.row.now c.loop-kid.spans.items c.requires.row c.loop-kid.invariant.within in
+    subst P (sym c.mean.ensures.mean) (subst (λ (xs : List Interval). P (mean_of c.args.row.now xs)) (sym spans) within)

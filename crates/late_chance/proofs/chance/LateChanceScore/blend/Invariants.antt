@@ -1,0 +1,12 @@
+use Rattle.std.proofs.Common.{◌≡◌, ◌≤◌, map, take, All}
+use Rattle.arrayvec.specs.ArrayVec.{array_vec_len}
+use Rattle.plan_model.specs.Bounds.{certainty}
+use Rattle.late_chance.specs.Chances.{itself}
+use Rattle.late_chance.proofs.chance.LateChanceScore.blend.Given as goal
+
+abbrev pub invariant-loop-kid : goal.invariant-loop-kid
+invariant-loop-kid l = record {
+  copied : l.spans.items ≡ map itself (take l.kid-index l.kids);
+  count : array_vec_len l.spans ≡ l.kid-index;
+  within : All (λ s. s.hi ≤ certainty) l.spans.items;
+}

@@ -1,0 +1,13 @@
+use Rattle.plan_model.proofs.Extensions.{alike}
+use Rattle.late_chance.specs.SeenFrom.{shifted_parts}
+use Rattle.late_chance.proofs.SeenFrom.{valid, view}
+use Rattle.late_chance.proofs.shifted_is_view.Goals as goal
+
+pub returns-clause-valid : goal.returns-clause-valid
+returns-clause-valid c = valid
+
+pub returns-clause-view : goal.returns-clause-view
+returns-clause-view c = view
+
+pub returns-clause-alike : goal.returns-clause-alike
+returns-clause-alike c = λ shift start m v soon. alike (shifted_parts shift start m) m shift start (view shift start m soon) v

@@ -1,0 +1,7 @@
+use Rattle.std.proofs.Common.{◌≡◌, ℕ, ◌+◌, ◌/◌, ◌%◌, List, ◌∷◌, ap, sym}
+use Rattle.plan_model.specs.Bounds.{certainty}
+use Rattle.late_chance.proofs.Spelled.{digits-spelled}
+use Rattle.late_chance.proofs.text.write_chance.Goals as goal
+
+pub returns : goal.returns
+returns c = sym (ap (λ (ds : List ℕ). (48 + c.args.chance / certainty % 10) ∷ 46 ∷ ds) (digits-spelled 18 c.args.chance))

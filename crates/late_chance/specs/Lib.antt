@@ -1,0 +1,5 @@
+pub mod Chances
+pub mod LaterGraphs
+pub mod SeenFrom
+pub mod Punctual
+pub mod Texts

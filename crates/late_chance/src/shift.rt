@@ -1,0 +1,120 @@
+//! A network as it is seen from a start on, and graphs by the shift later.
+ghost use Rattle.std.specs.Prelude.{◌≡◌, ℕ, ◌+◌, ◌-◌, ◌^◌, ◌<◌, ◌≤◌, All, IfOk, map};
+ghost use Rattle.plan_model.specs.View.{IsView};
+ghost use Rattle.late_chance.specs.Chances.{seconds_per_week};
+ghost use Rattle.late_chance.specs.LaterGraphs.{later_row, later_table, later_graph, sooner_query};
+ghost use Rattle.late_chance.specs.SeenFrom.{shifted_connection, shifted_parts};
+
+use plan_graph::{GraphRow, PlaceTable, PlanGraph};
+use plan_model::{Connection, ConnectionId, List, Moment, Network, NoMemory, Query};
+use std::alloc::Global;
+
+const SECONDS_PER_WEEK: u64 = 604_800;
+
+/// The rows by so many seconds later.
+fn later_rows(alloc: Global, rows: &[GraphRow], seconds: u64) -> Result<List<GraphRow>, NoMemory>
+    requires { All (λ row. row.by.0 + seconds < 2 ^ 64) rows.now }
+    ensures { IfOk result (λ later. later ≡ map (later_row seconds) rows.now) }
+{
+    let mut later = Vec::new(alloc);
+    for row in rows {
+        later.push(GraphRow {
+            by: Moment(row.by.0 + seconds),
+            leg: row.leg,
+        })?;
+    }
+    Ok(List::from_vec(later))
+}
+
+/// The graph with all moments so many seconds later. `NoMemory` comes where there is no memory for
+/// it.
+pub fn unshifted(alloc: Global, graph: &PlanGraph, seconds: u64) -> Result<PlanGraph, NoMemory>
+    requires { All (λ table. All (λ row. row.by.0 + seconds < 2 ^ 64) table.rows) graph.now.tables }
+    ensures { IfOk result (λ later. later ≡ later_graph seconds graph.now) }
+{
+    let mut tables = Vec::new(alloc);
+    for table in graph.tables.as_slice() {
+        let rows = later_rows(alloc, table.rows.as_slice(), seconds)?;
+        let place = table.place;
+        tables.push(PlaceTable { place, rows })?;
+    }
+    Ok(PlanGraph {
+        start: graph.start,
+        tables: List::from_vec(tables),
+    })
+}
+
+/// The query with its start and its deadline so many seconds sooner.
+pub fn sooner(query: &Query, seconds: u64) -> Query
+    requires start { seconds ≤ query.now.start.0 }
+    requires deadline { seconds ≤ query.now.deadline.0 }
+    ensures { result ≡ sooner_query seconds query.now }
+{
+    Query {
+        source: query.source,
+        target: query.target,
+        start: Moment(query.start.0 - seconds),
+        deadline: Moment(query.deadline.0 - seconds),
+    }
+}
+
+/// A moment so many seconds sooner, and the first of all time where it would be before that.
+fn moment_before(moment: Moment, seconds: u64) -> Moment
+    ensures { result ≡ record { 0 = moment.0 - seconds } }
+{
+    if moment.0 < seconds {
+        return Moment(0);
+    }
+    Moment(moment.0 - seconds)
+}
+
+/// A connection as it is seen from the start on.
+fn seen_connection(connection: Connection, start: Moment, shift: u64) -> Connection
+    ensures { result ≡ shifted_connection shift start.0 connection }
+{
+    Connection {
+        dep: moment_before(connection.dep, shift),
+        arr: moment_before(connection.arr, shift),
+        can_board: connection.can_board && start.0 <= connection.dep.0,
+        ..connection
+    }
+}
+
+/// The connections as they are seen from the start on.
+fn seen_connections(
+    alloc: Global,
+    network: &Network,
+    start: Moment,
+    shift: u64,
+) -> Result<List<Connection>, NoMemory>
+    ensures { IfOk result (λ seen. seen ≡ map (shifted_connection shift start.0) network.now.connections) }
+{
+    let mut seen = Vec::new(alloc);
+    for id in 0..network.count() {
+        let connection = seen_connection(network.get(ConnectionId(id)), start, shift);
+        seen.push(connection)?;
+    }
+    Ok(List::from_vec(seen))
+}
+
+/// The network as it is seen from the start on: no connection before the start can be boarded, and
+/// all moments are less by so many seconds that the promised one is 1970-01-08T00:00:00, or 0 where
+/// they would be before all time. Places, delays and links stay. `NoMemory` comes where there is no
+/// memory for it.
+pub fn shifted(
+    alloc: Global,
+    network: &Network,
+    start: Moment,
+    promise: Moment,
+) -> Result<Network, NoMemory>
+    requires promise { seconds_per_week ≤ promise.0 }
+    requires soon { promise.0 ≤ start.0 + seconds_per_week }
+    ensures parts { IfOk result (λ seen. seen ≡ shifted_parts (promise.0 - seconds_per_week) start.0 network.now) }
+    ensures view { IfOk result (λ seen. IsView seen network.now (promise.0 - seconds_per_week) start.0) }
+{
+    let _valid = network.count();
+    let shift = promise.0 - SECONDS_PER_WEEK;
+    let connections = seen_connections(alloc, network, start, shift)?;
+    let copy = network.try_clone(alloc)?;
+    Ok(copy.with_connections(connections))
+}
