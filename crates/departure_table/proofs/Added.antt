@@ -1,0 +1,48 @@
+-- The parts of a network with a place more.
+use Rattle.std.proofs.Common.{◌≡◌, ℕ, ◌+◌, ◌<◌, ◌≤◌, List, [], ◌∷◌, ◌++◌, map, length, false, slice_index_or, length-append, refl, ap, sym, ◌∙◌, subst, arith}
+use Rattle.std.specs.Prelude.{◌==◌, if◌then◌else◌}
+use Rattle.std.specs.List.{range_with_len}
+use Rattle.std.proofs.lemmas.Bool.Decides.{nat_tests}
+use Rattle.std.proofs.lemmas.List.{get_or_past}
+use Rattle.std.proofs.lemmas.List.FromFn.{map-range_with_len_more, length-map-range_with_len}
+use Rattle.plan_model.specs.declared.model.Connection.{Connection}
+use Rattle.plan_model.specs.declared.model.Outcome.{Outcome}
+use Rattle.plan_model.specs.declared.model.Way.{Way}
+use Rattle.plan_model.specs.Parts.{Parts, plain_parts}
+use Rattle.plan_model.specs.Network.{IsValid, AreLinksInto, links_into}
+use Rattle.plan_model.specs.View.{first_way, links_from_added, extended}
+use Rattle.plan_model.proofs.Extended.{is_valid}
+use Rattle.plan_model.proofs.Links.{IsValid-relinked, AreLinks-none}
+
+-- the links into one place more
+pub links_more : (m : Parts) (source place : ℕ) (old now : List (List Way)) (one : List Way) → old ≡ map (links_from_added m source) (range_with_len 0 place)
+    → one ≡ links_from_added m source place → now ≡ old ++ one ∷ [] → now ≡ map (links_from_added m source) (range_with_len 0 (place + 1))
+links_more m source place old now one before is grows =
+    grows ∙ ap (λ (xs : List (List Way)). xs ++ one ∷ []) before ∙ ap (λ (x : List Way). map (links_from_added m source) (range_with_len 0 place) ++ x ∷ []) is
+    ∙ sym (map-range_with_len_more (links_from_added m source) 0 place place (omega arith))
+
+-- none lead into the place that is added
+pub none_added : (m : Parts) → IsValid m → (source : ℕ) → source < length m.change → [] ≡ links_from_added m source (length m.change)
+none_added m v source there =
+    let other : (length m.change == source) ≡ false = grind (arith, nat_tests) in
+    let past : links_into m (length m.change) ≡ [] = get_or_past m.links (length m.change) [] v.links.few in
+    rw (other, past) refl
+
+module _ (m : Parts) (v : IsValid m) (source : ℕ) (there : source < length m.change) (few : length m.change + 1 < 4294967296) where
+  abbrev more : Parts
+  more = extended m source
+
+  -- its parts without links are a network
+  pub plain_valid : (connections : List Connection) (change : List ℕ) (classes : List (List Outcome)) → connections ≡ m.connections → change ≡ more.change → classes ≡ m.classes
+      → IsValid (plain_parts connections change classes)
+  plain_valid connections change classes a b d =
+      rw (a, b, d) (IsValid-relinked more [] (is_valid m v source there few) (AreLinks-none (length more.change)))
+
+  -- there is a list of links for each place
+  pub as_many_links : (links : List (List Way)) (change : List ℕ) → links ≡ more.links → change ≡ more.change → length links ≡ length change
+  as_many_links links change a b =
+      rw (a, b) (omega (arith, length-map-range_with_len (links_from_added m source) 0 (length m.change + 1), length-append m.change (1 ∷ [])))
+
+  pub are_links : (links : List (List Way)) (change : List ℕ) → links ≡ more.links → change ≡ more.change → (r : ℕ) → r < length change → AreLinksInto (length change) r (slice_index_or links r [])
+  are_links links change a b =
+      rw (a, b) (is_valid m v source there few).links.each

@@ -1,0 +1,97 @@
+-- A table that grows from look to look.
+use Rattle.std.proofs.Common.{◌≡◌, ℕ, zero, suc, ◌+◌, ◌-◌, ◌<◌, ◌≤◌, arith, Option, Some, None, List, [], ◌∷◌, ◌++◌, length, get_or, true, false, refl, sym, ap, ◌∙◌, subst, ⊎_elim, length-append, All}
+use Rattle.std.specs.Prelude.{AllPairs, MatchOption, nat_le, if◌then◌else◌}
+use Rattle.std.proofs.lemmas.Bool.{cases_lt}
+use Rattle.std.proofs.lemmas.Bool.Decides.{nat_tests}
+use Rattle.std.proofs.lemmas.List.Quantifiers.{all_pairs_push}
+use Rattle.std.proofs.lemmas.List.Elements.{All-append, All-cons, All-nil}
+use Rattle.plan_model.specs.Parts.{Parts}
+use Rattle.plan_model.specs.Tree.{Tree}
+use Rattle.departure_table.specs.declared.DepartureRow.{DepartureRow}
+use Rattle.departure_table.specs.Departures.{NoneSafe, IsBestFrom, IsDeparture, IsTable, row_by}
+
+row_past : (moment : ℕ) (rows : List DepartureRow) → All (λ r. r.by.0 < moment) rows → row_by moment rows ≡ None
+row_past moment [] few = refl
+row_past moment (r ∷ rows) few =
+    let less = few zero r (omega arith) in
+    let test : nat_le moment r.by.0 ≡ false = grind (arith, nat_tests) in
+    rw test (row_past moment rows (λ k d l. few (suc k) d (omega arith)))
+
+row_last : (moment : ℕ) (rows : List DepartureRow) (row : DepartureRow) → All (λ r. r.by.0 < moment) rows → moment ≤ row.by.0 → row_by moment (rows ++ row ∷ []) ≡ Some row
+row_last moment [] row few within = let test : nat_le moment row.by.0 ≡ true = grind (arith, nat_tests) in rw test refl
+row_last moment (r ∷ rows) row few within =
+    let less = few zero r (omega arith) in
+    let test : nat_le moment r.by.0 ≡ false = grind (arith, nat_tests) in
+    rw test (row_last moment rows row (λ k d l. few (suc k) d (omega arith)) within)
+
+row_kept : (moment : ℕ) (rows : List DepartureRow) (row found : DepartureRow) → row_by moment rows ≡ Some found → row_by moment (rows ++ row ∷ []) ≡ Some found
+row_kept moment [] row found is = absurd (cc)
+row_kept moment (r ∷ rows) row found is =
+    ⊎_elim (λ gt. let test : nat_le moment r.by.0 ≡ false = grind (arith, nat_tests) in rw test (row_kept moment rows row found (rw test at is)))
+    (λ le. let test : nat_le moment r.by.0 ≡ true = grind (arith, nat_tests) in rw test (rw test at is))
+    (cases_lt r.by.0 moment)
+
+-- the table as far as the moments before the next look
+pub record IsTableTo (m : Parts) (Safe : ℕ → Tree → Type 0) (first last next : ℕ) (rows : List DepartureRow) : Type 0 where
+  pub in_order : first ≤ next
+  pub found : (moment : ℕ) → first ≤ moment → moment < next → (row : DepartureRow) × (row_by moment rows ≡ Some row) × IsBestFrom m Safe moment row
+  pub departures : All (IsDeparture m) rows
+  pub from_first : All (λ row. first ≤ row.by.0) rows
+  pub rising : AllPairs (λ a b. (a.by.0 < b.by.0) × (a.by.0 < last)) rows
+  pub before : All (λ row. row.by.0 < next) rows
+
+module _ (m : Parts) (Safe : ℕ → Tree → Type 0) (first last : ℕ) where
+  pub no_rows : IsTableTo m Safe first last first []
+  no_rows = record {
+    in_order = omega arith;
+    found = λ moment from less. absurd (omega arith);
+    departures = All-nil _;
+    from_first = All-nil _;
+    rising = λ i j d less h. absurd (omega arith);
+    before = All-nil _;
+  }
+
+  module _ (next : ℕ) (rows : List DepartureRow) (t : IsTableTo m Safe first last next rows) where
+    module _ (row : DepartureRow) (soon : next ≤ last) (ahead : next ≤ row.by.0) (departure : IsDeparture m row) (best : (moment : ℕ) → next ≤ moment → moment ≤ row.by.0 → IsBestFrom m Safe moment row) where
+      abbrev Found : ℕ → Type 0
+      Found moment = (r : DepartureRow) × (row_by moment (rows ++ row ∷ []) ≡ Some r) × IsBestFrom m Safe moment r
+
+      found_more : (moment : ℕ) → first ≤ moment → moment < row.by.0 + 1 → Found moment
+      found_more moment from less =
+          ⊎_elim (λ (old : moment < next). let f = t.found moment from old in (f.0, row_kept moment rows row f.0 f.1, f.2))
+          (λ (new : next ≤ moment). (row, row_last moment rows row (λ k d h. let b = t.before k d h in omega arith) (omega arith), best moment new (omega arith)))
+          (cases_lt moment next)
+
+      one : (P : DepartureRow → Type 0) → P row → All P (row ∷ [])
+      one P p = All-cons P row [] p (All-nil P)
+
+      pub grown : IsTableTo m Safe first last (row.by.0 + 1) (rows ++ row ∷ [])
+      grown =
+          let sooner : All (λ (r : DepartureRow). r.by.0 < row.by.0 + 1) rows = λ k d h. let b = t.before k d h in omega arith in
+          record {
+            in_order = let o = t.in_order in omega arith;
+            found = found_more;
+            departures = All-append (IsDeparture m) rows (row ∷ []) t.departures (one (IsDeparture m) departure);
+            from_first = All-append (λ (r : DepartureRow). first ≤ r.by.0) rows (row ∷ []) t.from_first (one (λ (r : DepartureRow). first ≤ r.by.0) (let o = t.in_order in omega arith));
+            rising = all_pairs_push (λ (a b : DepartureRow). (a.by.0 < b.by.0) × (a.by.0 < last)) rows row t.rising (λ k d h. let b = t.before k d h in (omega arith, omega arith));
+            before = All-append (λ (r : DepartureRow). r.by.0 < row.by.0 + 1) rows (row ∷ []) sooner (one (λ (r : DepartureRow). r.by.0 < row.by.0 + 1) (omega arith));
+          }
+
+    abbrev Answer : ℕ → Type 0
+    Answer moment = MatchOption (row_by moment rows) (NoneSafe Safe moment) (IsBestFrom m Safe moment)
+
+    is_found : (moment : ℕ) → first ≤ moment → moment < next → Answer moment
+    is_found moment from less = let f = t.found moment from less in let e = f.1 in rw e f.2
+
+    is_past : (moment : ℕ) → next ≤ moment → NoneSafe Safe moment → Answer moment
+    is_past moment from none = let e = row_past moment rows (λ k d h. let b = t.before k d h in omega arith) in rw e none
+
+    whole : ((moment : ℕ) → first ≤ moment → moment ≤ last → Answer moment) → IsTable m Safe first last rows
+    whole answers = record { answers = answers; departures = t.departures; from_first = t.from_first; rising = t.rising }
+
+    pub ends_after : last < next → IsTable m Safe first last rows
+    ends_after over = whole (λ moment from within. is_found moment from (omega arith))
+
+    pub ends_with_none : ((moment : ℕ) → next ≤ moment → NoneSafe Safe moment) → IsTable m Safe first last rows
+    ends_with_none none = whole (λ moment from within.
+        ⊎_elim (λ (old : moment < next). is_found moment from old) (λ (new : next ≤ moment). is_past moment new (none moment new)) (cases_lt moment next))

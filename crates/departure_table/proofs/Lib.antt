@@ -1,0 +1,5 @@
+pub mod Looks
+pub mod Growth
+pub mod Sources
+pub mod Empty
+pub mod Added

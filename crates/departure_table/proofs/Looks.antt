@@ -1,0 +1,87 @@
+-- What a choice at a moment says of all from then on.
+use Rattle.std.proofs.Common.{◌≡◌, ◌≢◌, ℕ, ◌+◌, ◌-◌, ◌<◌, ◌≤◌, arith, Option, Some, None, false, refl, sym, ap, ◌∙◌, subst}
+use Rattle.std.specs.Prelude.{◌==◌, if◌then◌else◌, MatchOption}
+use Rattle.std.specs.Option.{option_map}
+use Rattle.std.proofs.lemmas.Bool.Decides.{nat_tests}
+use Rattle.plan_model.specs.declared.model.Leg.{Leg}
+use Rattle.plan_model.specs.declared.model.Query.{Query}
+use Rattle.plan_model.specs.Parts.{Parts}
+use Rattle.plan_model.specs.Network.{IsValid, count, connection, from_of, dep_of, arr_of}
+use Rattle.plan_model.specs.Ways.{way_of, limit_of}
+use Rattle.plan_model.specs.Tree.{Tree, Done, Ride, Stuck, Kids}
+use Rattle.plan_model.specs.Strategy.{IsLeg, IsBoardable, Safe}
+use Rattle.plan_model.specs.Unfold.{by_place, unfold_after, ride_of, ride_or_stuck, kids_after, outcomes_of}
+use Rattle.plan_model.specs.Choices.{IsKept}
+use Rattle.plan_model.proofs.Boarding.{limit_of-some}
+use Rattle.value_laws.specs.declared.MeanSpan.{MeanSpan}
+use Rattle.value_laws.specs.Means.{mean_below, mean_covers, mean_gap}
+use Rattle.meat_scan.specs.Found.{Found, choice_of, leg_choice, chosen_at}
+use Rattle.meat_scan.specs.Solves.{Solves, IsAnswer, IsSafeAt}
+use Rattle.departure_table.specs.declared.DepartureRow.{DepartureRow}
+use Rattle.departure_table.specs.Departures.{IsASecondAway, SafeAfter, NoneSafe, BeginsWith, IsBestFrom, IsDeparture, LooksAhead}
+
+module _ (n : Parts) (q : Query) (found : Found MeanSpan) (valid : IsValid n) (solves : Solves mean_below mean_covers mean_gap found n q) (second : IsASecondAway n q.source.0) where
+  abbrev here : ℕ
+  here = q.source.0
+
+  -- who may be later may be sooner
+  earlier : (tree : Tree) (x y : ℕ) → x ≤ y → IsSafeAt n q here y tree → IsSafeAt n q here x tree
+  earlier (Done a) x y le h = absurd (solves.differ h.1)
+  earlier (Ride i j kids) x y le h =
+      let board : IsBoardable n here x i = record { seconds = h.2.seconds; way = h.2.way; in_time = omega (arith, h.2.in_time) } in
+      (h.0, h.1, board, h.3)
+  earlier (Stuck p z) x y le h = absurd h
+
+  -- a ride is as safe for who is later, up to its departure
+  until : (i j : ℕ) (kids : Kids) (x y : ℕ) → y < dep_of n i → IsSafeAt n q here x (Ride i j kids) → IsSafeAt n q here y (Ride i j kids)
+  until i j kids x y less h =
+      let one = second i h.2.seconds h.1.enter h.2.way in
+      let board : IsBoardable n here y i = record { seconds = h.2.seconds; way = h.2.way; in_time = omega (arith, one) } in
+      (h.0, h.1, board, h.3)
+
+  pub none_ahead : (next : ℕ) → ((tree : Tree) → IsSafeAt n q here (next - 1) tree → ⊥) → (moment : ℕ) → next ≤ moment → NoneSafe (SafeAfter n q) moment
+  none_ahead next none moment ahead tree safe = none tree (earlier tree (next - 1) (moment - 1) (omega arith) safe)
+
+  module _ (x : ℕ) (choice : MeanSpan × Leg) (is : choice_of found here x ≡ Some choice) where
+    abbrev chosen_kids : Kids
+    chosen_kids = kids_after (unfold_after n q.target.0 (by_place n (leg_choice found)) (count n - 1) choice.1) (arr_of n choice.1.exit.0) (outcomes_of n choice.1)
+
+    begins : chosen_at n q found here x ≡ Ride choice.1.enter.0 choice.1.exit.0 chosen_kids
+    begins =
+        let differ = solves.differ in
+        let test : (here == q.target.0) ≡ false = grind (arith, nat_tests) in
+        let leg : leg_choice found here x ≡ Some choice.1 = ap (option_map (λ c. c.1)) is in
+        rw (test, leg) refl
+
+    module _ (answer : IsAnswer mean_below mean_covers mean_gap n q found here x choice) where
+      abbrev enter : ℕ
+      enter = choice.1.enter.0
+
+      safe_ride : IsSafeAt n q here x (Ride enter choice.1.exit.0 chosen_kids)
+      safe_ride = subst (λ (t : Tree). IsSafeAt n q here x t) begins answer.safe
+
+      covers_ride : mean_covers choice.0 (Ride enter choice.1.exit.0 chosen_kids)
+      covers_ride = subst (λ (t : Tree). mean_covers choice.0 t) begins answer.covers_chosen
+
+      pub departs_later : x < dep_of n enter
+      departs_later =
+          let one = second enter safe_ride.2.seconds safe_ride.1.enter safe_ride.2.way in
+          omega (arith, one, safe_ride.2.in_time)
+
+      pub departs_early : dep_of n enter < 13601088000
+      departs_early = let v = valid.connections enter safe_ride.1.enter in omega (arith, v.forward, v.early)
+
+      pub departure : (row : DepartureRow) → row.leg ≡ choice.1 → row.by.0 ≡ dep_of n enter → IsDeparture n row
+      departure row leg by =
+          let same : IsLeg n row.leg.enter.0 row.leg.exit.0 = rw leg safe_ride.1 in
+          record { is_leg = same; departs = by ∙ ap (λ (l : Leg). dep_of n l.enter.0) (sym leg) }
+
+      pub best : (row : DepartureRow) → row.leg ≡ choice.1 → row.bounds ≡ choice.0.0 → (moment : ℕ) → x < moment → moment ≤ dep_of n enter → IsBestFrom n (SafeAfter n q) moment row
+      best row leg bounds moment ahead within =
+          let tree = Ride enter choice.1.exit.0 chosen_kids in
+          let begin : BeginsWith row.leg tree = rw leg (chosen_kids, refl) in
+          record {
+            below_safe = λ other safe. rw bounds (answer.below_safe other (earlier other x (moment - 1) (omega arith) safe));
+            covers_one = (tree, until enter choice.1.exit.0 chosen_kids x (moment - 1) (omega arith) safe_ride, begin, rw bounds covers_ride);
+            gap = rw bounds answer.gap_within;
+          }

@@ -1,0 +1,82 @@
+-- What is said of an extended network is said of the network itself.
+use Rattle.std.proofs.Common.{◌≡◌, ◌≢◌, ℕ, ◌+◌, ◌-◌, ◌<◌, ◌≤◌, arith, Option, Some, None, List, [], length, All, refl, sym, ap, ◌∙◌, subst}
+use Rattle.std.specs.Prelude.{MatchOption, ◌↔◌}
+use Rattle.plan_model.specs.declared.model.Query.{Query}
+use Rattle.plan_model.specs.declared.model.Moment.{Moment}
+use Rattle.plan_model.specs.Parts.{Parts}
+use Rattle.plan_model.specs.View.{IsExtension}
+use Rattle.plan_model.specs.Network.{IsValid, count, from_of, dep_of}
+use Rattle.plan_model.specs.Ways.{way_of}
+use Rattle.plan_model.specs.Tree.{Tree}
+use Rattle.plan_model.proofs.Views.{seen, leg_there}
+use Rattle.plan_model.proofs.Extensions.{added_there, added_back}
+use Rattle.departure_table.specs.declared.DepartureRow.{DepartureRow}
+use Rattle.departure_table.specs.Departures.{IsASecondAway, SafeAfter, SafeFrom, NoneSafe, IsBestFrom, IsDeparture, IsTable, IsGreatest, IsExtendedFor, SaysOfSource, row_by}
+use Rattle.departure_table.proofs.Empty.{empty_exactly}
+
+-- answers for one kind of safety are answers for the same kind told otherwise
+module _ (n m : Parts) (S T : ℕ → Tree → Type 0) (many : count n ≡ count m) (to : (moment : ℕ) (tree : Tree) → 1 ≤ moment → S moment tree → T moment tree) (from : (moment : ℕ) (tree : Tree) → 1 ≤ moment → T moment tree → S moment tree) where
+  best_told : (moment : ℕ) (row : DepartureRow) → 1 ≤ moment → IsBestFrom n S moment row → IsBestFrom m T moment row
+  best_told moment row some b = record {
+    below_safe = λ tree safe. b.below_safe tree (from moment tree some safe);
+    covers_one = let c = b.covers_one in (c.0, to moment c.0 some c.1, c.2, c.3);
+    gap = let g = b.gap in omega arith;
+  }
+
+  pub answer_told : (moment : ℕ) (o : Option DepartureRow) → 1 ≤ moment → MatchOption o (NoneSafe S moment) (IsBestFrom n S moment) → MatchOption o (NoneSafe T moment) (IsBestFrom m T moment)
+  answer_told moment None some none = λ tree safe. none tree (from moment tree some safe)
+  answer_told moment (Some row) some best = best_told moment row some best
+
+  pub greatest_told : (first : ℕ) (o : Option Moment) → 1 ≤ first → IsGreatest S first o → IsGreatest T first o
+  greatest_told first None some none = λ moment later tree safe. none moment later tree (from moment tree (omega arith) safe)
+  greatest_told first (Some g) some is =
+      (is.0, (is.1.0, to g.0 is.1.0 (let f = is.0 in omega arith) is.1.1), λ moment later tree safe. is.2 moment later tree (from moment tree (omega arith) safe))
+
+-- from the place that was added everything is a second away
+pub second_away : (n m : Parts) (source : ℕ) → IsExtension n m source → IsValid m → IsASecondAway n (length m.change)
+second_away n m source extends v i seconds less way =
+    let inside : i < count m = omega (arith, extends.view.as_many) in
+    let from = (seen n m 0 0 extends.view v i inside).from in
+    let here = extends.only (from_of n i) seconds (omega (arith, from, (v.connections i inside).from_in)) way in
+    let both = sym (rw here at way) ∙ extends.link in
+    cc
+
+module _ (n : Parts) (q : Query) (m : Parts) (source : ℕ) (e : IsExtendedFor n q m source) where
+  to_source : (moment : ℕ) (tree : Tree) → 1 ≤ moment → SafeAfter n q moment tree → SafeFrom m source q moment tree
+  to_source moment tree some safe =
+      let place = e.last_place in
+      let there = added_there n m source e.extends e.valid q.target.0 (Some q.deadline.0) e.target_there e.away tree (moment - 1) (rw place at safe) in
+      let now : moment - 1 + 1 ≡ moment = omega arith in
+      rw now at there
+
+  from_source : (moment : ℕ) (tree : Tree) → 1 ≤ moment → SafeFrom m source q moment tree → SafeAfter n q moment tree
+  from_source moment tree some safe =
+      let place = e.last_place in
+      let now : moment - 1 + 1 ≡ moment = omega arith in
+      let told = rw (← now) at safe in
+      rw place (added_back n m source e.extends e.valid q.target.0 (Some q.deadline.0) e.target_there e.away tree (moment - 1) told)
+
+  departure_told : (row : DepartureRow) → IsDeparture n row → IsDeparture m row
+  departure_told row d =
+      let there = leg_there n m 0 0 e.extends.view e.valid row.leg.enter.0 row.leg.exit.0 d.is_leg in
+      let same = (seen n m 0 0 e.extends.view e.valid row.leg.enter.0 there.0.enter).departs (omega arith) in
+      record { is_leg = there.0; departs = let f = d.departs in omega arith }
+
+  table_told : (first last : ℕ) (rows : List DepartureRow) → 1 ≤ first → IsTable n (SafeAfter n q) first last rows → IsTable m (SafeFrom m source q) first last rows
+  table_told first last rows some t = record {
+    answers = λ moment later within. answer_told n m (SafeAfter n q) (SafeFrom m source q) e.extends.view.as_many to_source from_source moment (row_by moment rows) (omega arith) (t.answers moment later within);
+    departures = λ k d h. departure_told _ (t.departures k d h);
+    from_first = t.from_first;
+    rising = t.rising;
+  }
+
+  empty_told : (first last : ℕ) (rows : List DepartureRow) → 1 ≤ first → first ≤ last → IsTable n (SafeAfter n q) first last rows → (rows ≡ []) ↔ NoneSafe (SafeFrom m source q) first
+  empty_told first last rows some order t = empty_exactly m (SafeFrom m source q) first last order rows (table_told first last rows some t)
+
+  pub says : SaysOfSource n q m source
+  says = record {
+    second = subst (λ (place : ℕ). IsASecondAway n place) (sym e.last_place) (second_away n m source e.extends e.valid);
+    empty_exactly = empty_told;
+    tables = table_told;
+    greatest = λ first result some g. greatest_told n m (SafeAfter n q) (SafeFrom m source q) e.extends.view.as_many to_source from_source first result some g;
+  }

@@ -1,0 +1,90 @@
+-- What a table of departures says.
+use Rattle.std.specs.Prelude.{◌≡◌, ◌≢◌, ℕ, ◌+◌, ◌-◌, ◌<◌, ◌≤◌, ◌↔◌, List, [], Option, Some, MatchOption, All, AllPairs, find, length, nat_le}
+use Rattle.plan_model.specs.declared.model.Leg.{Leg}
+use Rattle.plan_model.specs.declared.model.Query.{Query}
+use Rattle.plan_model.specs.declared.model.Moment.{Moment}
+use Rattle.plan_model.specs.Bounds.{end_of_arrivals}
+use Rattle.plan_model.specs.Parts.{Parts}
+use Rattle.plan_model.specs.Network.{IsValid, count, from_of, dep_of}
+use Rattle.plan_model.specs.Ways.{way_of}
+use Rattle.plan_model.specs.Tree.{Tree, Ride, Kids}
+use Rattle.plan_model.specs.Expected.{Below, Covers}
+use Rattle.plan_model.specs.Strategy.{IsLeg, SafeStart}
+use Rattle.plan_model.specs.View.{IsExtension}
+use Rattle.meat_scan.specs.Solves.{IsSafeAt}
+use Rattle.departure_table.specs.declared.DepartureRow.{DepartureRow}
+
+-- each way from a place to where a connection can be boarded takes one second
+abbrev pub IsASecondAway : Parts → (place : ℕ) → Type 0
+IsASecondAway n place = (i seconds : ℕ) → i < count n → way_of n place (from_of n i) ≡ Some seconds → seconds ≡ 1
+
+-- the tree is safe for who has been at the source since a second before
+abbrev pub SafeAfter : Parts → Query → ℕ → Tree → Type 0
+SafeAfter n q moment tree = IsSafeAt n q q.source.0 (moment - 1) tree
+
+-- the tree is safe for who sets out at a moment or later at a place, with the target and the deadline of the query
+abbrev pub SafeFrom : Parts → ℕ → Query → ℕ → Tree → Type 0
+SafeFrom m source q moment tree = SafeStart m q.target.0 (Some q.deadline.0) tree source moment
+
+-- nothing is safe from a moment on
+abbrev pub NoneSafe : (ℕ → Tree → Type 0) → ℕ → Type 0
+NoneSafe Safe moment = (tree : Tree) → Safe moment tree → ⊥
+
+-- the first thing to do by the tree is to ride the leg
+abbrev pub BeginsWith : Leg → Tree → Type 0
+BeginsWith leg tree = (kids : Kids) × (tree ≡ Ride leg.enter.0 leg.exit.0 kids)
+
+-- the best of what is safe from a moment on begins with the row's leg: its lower bound is below all that is safe,
+-- and the upper one covers one that begins with the leg
+pub record IsBestFrom (m : Parts) (Safe : ℕ → Tree → Type 0) (moment : ℕ) (row : DepartureRow) : Type 0 where
+  pub below_safe : (tree : Tree) → Safe moment tree → Below row.bounds.lo tree
+  pub covers_one : (tree : Tree) × Safe moment tree × BeginsWith row.leg tree × Covers row.bounds.hi tree
+  pub gap : row.bounds.hi - row.bounds.lo ≤ count m
+
+-- the row's leg is one of the network, and departs by the row's moment
+pub record IsDeparture (m : Parts) (row : DepartureRow) : Type 0 where
+  pub is_leg : IsLeg m row.leg.enter.0 row.leg.exit.0
+  pub departs : row.by.0 ≡ dep_of m row.leg.enter.0
+
+-- the first row by a moment or later
+abbrev pub row_by : ℕ → List DepartureRow → Option DepartureRow
+row_by moment rows = find (λ row. nat_le moment row.by.0) rows
+
+-- the best of what is safe from each moment on, from a first to a last one: the first row by the moment or later; none exactly where nothing is safe.
+-- moments rise, and only the last row may be by the last moment or later
+pub record IsTable (m : Parts) (Safe : ℕ → Tree → Type 0) (first last : ℕ) (rows : List DepartureRow) : Type 0 where
+  pub answers : (moment : ℕ) → first ≤ moment → moment ≤ last → MatchOption (row_by moment rows) (NoneSafe Safe moment) (IsBestFrom m Safe moment)
+  pub departures : All (IsDeparture m) rows
+  pub from_first : All (λ row. first ≤ row.by.0) rows
+  pub rising : AllPairs (λ a b. (a.by.0 < b.by.0) × (a.by.0 < last)) rows
+
+-- the latest moment from a first one on from which something is safe; none where there is none
+abbrev pub IsGreatest : (ℕ → Tree → Type 0) → ℕ → Option Moment → Type 0
+IsGreatest Safe first result =
+    MatchOption result
+    ((moment : ℕ) → first ≤ moment → NoneSafe Safe moment)
+    (λ greatest. (first ≤ greatest.0) × ((tree : Tree) × Safe greatest.0 tree) × ((moment : ℕ) → greatest.0 < moment → NoneSafe Safe moment))
+
+-- what the choice at a moment says of all from then on: a row by which it is the best, or that nothing is safe any more
+abbrev pub LooksAhead : Parts → (ℕ → Tree → Type 0) → ℕ → Option DepartureRow → Type 0
+LooksAhead m Safe next found =
+    MatchOption found
+    ((moment : ℕ) → next ≤ moment → NoneSafe Safe moment)
+    (λ row. (next ≤ row.by.0) × (row.by.0 < end_of_arrivals) × IsDeparture m row × ((moment : ℕ) → next ≤ moment → moment ≤ row.by.0 → IsBestFrom m Safe moment row))
+
+-- the network is that of m with a place more, where the query has its source, and its target is another place of m than the one it leads to
+pub record IsExtendedFor (n : Parts) (q : Query) (m : Parts) (source : ℕ) : Type 0 where
+  pub extends : IsExtension n m source
+  pub valid : IsValid m
+  pub last_place : q.source.0 ≡ length m.change
+  pub target_there : q.target.0 < length m.change
+  pub away : source ≢ q.target.0
+
+-- what the table and the greatest moment say of the extended network, they say of the network itself; the table is empty exactly where
+-- nothing is safe from the first moment on
+pub record SaysOfSource (n : Parts) (q : Query) (m : Parts) (source : ℕ) : Type 0 where
+  pub second : IsASecondAway n q.source.0
+  pub tables : (first last : ℕ) (rows : List DepartureRow) → 1 ≤ first → IsTable n (SafeAfter n q) first last rows → IsTable m (SafeFrom m source q) first last rows
+  pub empty_exactly : (first last : ℕ) (rows : List DepartureRow) → 1 ≤ first → first ≤ last → IsTable n (SafeAfter n q) first last rows →
+      (rows ≡ []) ↔ NoneSafe (SafeFrom m source q) first
+  pub greatest : (first : ℕ) (result : Option Moment) → 1 ≤ first → IsGreatest (SafeAfter n q) first result → IsGreatest (SafeFrom m source q) first result

@@ -1,0 +1,119 @@
+//! The departures from a place in a span of time, each with the best that can still be done by it,
+//! and the latest moment at which one can still set out. A scan answers whoever has arrived at a
+//! place, so the network is extended by a place from which one is at the source a second later:
+//! there the departures are legs after an arrival, and the rows of one scan tell them all.
+#![tactic(auto)]
+
+ghost use Rattle.std.specs.Prelude.{◌≡◌, ◌≢◌, ℕ, ◌+◌, ◌<◌, ◌≤◌, IfOk};
+ghost use Rattle.plan_model.specs.Parts.{Parts};
+ghost use Rattle.plan_model.specs.Network.{IsValid};
+ghost use Rattle.value_laws.specs.Means.{mean_below, mean_covers, mean_gap};
+ghost use Rattle.meat_scan.specs.Solves.{Solves};
+ghost use Rattle.departure_table.specs.Departures.{IsASecondAway, SafeAfter, IsExtendedFor, IsTable, IsGreatest, LooksAhead, SaysOfSource};
+ghost use Rattle.plan_model.specs.declared.model.Query.{Query as Asked};
+
+use interval_fixed::Span;
+use meat_scan::Scanned;
+use plan_model::{Leg, List, Moment, Network, NoMemory, Query};
+use std::alloc::Global;
+use value_laws::MeanSpan;
+
+mod added_place;
+
+pub use added_place::extended;
+
+/// What whoever sets out by a moment, and not by that of the row before, does best.
+#[derive(Clone, Copy, Debug)]
+pub struct DepartureRow {
+    /// The departure of the leg: the last moment by which one sets out for it.
+    pub by: Moment,
+    /// Bounds on the least expected arrival of whoever sets out then, in nanoseconds.
+    pub bounds: Span,
+    /// The leg that is taken.
+    pub leg: Leg,
+}
+
+/// The row for whoever sets out at this moment or later; none where nothing is safe any more.
+fn row_from(
+    scanned: &Scanned<MeanSpan>,
+    network: &Network,
+    query: &Query,
+    next: Moment,
+) -> Option<DepartureRow>
+    requires next { 1 ≤ next.0 }
+    requires valid { IsValid network.now }
+    requires solves { Solves mean_below mean_covers mean_gap scanned.now network.now query.now }
+    requires second { IsASecondAway network.now query.now.source.0 }
+    ensures { LooksAhead network.now (SafeAfter network.now query.now) next.0 result }
+{
+    let Some((value, leg)) = scanned.choice(query.source, Moment(next.0 - 1)) else {
+        return None;
+    };
+    Some(DepartureRow {
+        by: network.get(leg.enter).dep,
+        bounds: value.0,
+        leg,
+    })
+}
+
+/// The departures that are taken from the place to which the source of the query leads in a second,
+/// from the first moment to the last one: each row's leg is the best to take for whoever sets out by
+/// its moment and not by that of the row before. Only the last row may be by the last moment or
+/// later. `NoMemory` comes where there is no memory for the rows.
+pub fn table(
+    alloc: Global,
+    scanned: &Scanned<MeanSpan>,
+    network: &Network,
+    query: &Query,
+    first: Moment,
+    last: Moment,
+) -> Result<List<DepartureRow>, NoMemory>
+    requires first { 1 ≤ first.0 }
+    requires valid { IsValid network.now }
+    requires solves { Solves mean_below mean_covers mean_gap scanned.now network.now query.now }
+    requires second { IsASecondAway network.now query.now.source.0 }
+    ensures { IfOk result (IsTable network.now (SafeAfter network.now query.now) first.0 last.0) }
+{
+    let mut rows = List::new(alloc);
+    let mut next = first.0;
+    while next <= last.0 {
+        match row_from(scanned, network, query, Moment(next)) {
+            None => return Ok(rows),
+            Some(row) => {
+                next = row.by.0 + 1;
+                rows.push(row)?;
+            }
+        }
+    }
+    Ok(rows)
+}
+
+/// The latest moment from the first one on at which whoever sets out from the place to which the
+/// source of the query leads in a second is still safe. None exactly where nobody is from the first
+/// moment on.
+pub fn greatest(
+    scanned: &Scanned<MeanSpan>,
+    network: &Network,
+    query: &Query,
+    first: Moment,
+) -> Option<Moment>
+    requires first { 1 ≤ first.0 }
+    requires valid { IsValid network.now }
+    requires solves { Solves mean_below mean_covers mean_gap scanned.now network.now query.now }
+    requires second { IsASecondAway network.now query.now.source.0 }
+    ensures { IsGreatest (SafeAfter network.now query.now) first.0 result }
+{
+    let mut greatest = None;
+    let mut next = first.0;
+    while let Some(row) = row_from(scanned, network, query, Moment(next)) {
+        let by = row.by;
+        greatest = Some(by);
+        next = by.0 + 1;
+    }
+    greatest
+}
+
+/// What the table and the greatest moment say of an extended network, they say of the network.
+pub fn says_of_source()
+    ensures { (n : Parts) (q : Asked) (m : Parts) (source : ℕ) → IsExtendedFor n q m source → SaysOfSource n q m source }
+{}
