@@ -1,5 +1,5 @@
 -- The class of a connection is one of those of the table.
-use Rattle.std.proofs.Common.{◌≡◌, ℕ, ◌+◌, ◌<◌, ◌==◌, Bool, true, false, List, length, slice_index, Option, Some, None, IfSome, option_map, if◌then◌else◌, refl, subst, arith}
+use Rattle.std.proofs.Common.{◌≡◌, ℕ, ◌+◌, ◌<◌, ◌==◌, List, length, slice_index, Option, Some, None, IfSome, option_map, if◌then◌else◌, refl, subst, arith}
 use Rattle.std.specs.Prelude.{unwrap_or}
 use Rattle.csv_rows.specs.First.{or_else}
 use Rattle.csv_rows.proofs.FirstLemmas.{first-is}

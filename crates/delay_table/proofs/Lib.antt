@@ -3,7 +3,10 @@ pub mod GroupFacts
 pub mod NumberedFacts
 pub mod ReadFacts
 pub mod Starts
-pub mod Named
+pub mod Others
+pub mod NamedTypes
+pub mod PlainTypes
 pub mod Sound
+pub mod Counted
 pub mod TypeFacts
 pub mod ClassBounds

@@ -1,14 +1,17 @@
 -- One row of the table.
-use Rattle.std.proofs.Common.{◌≡◌, ℕ, ◌≤◌, Bool, true, false, ◌&&◌, nat_le, ◌==◌, List, length, Option, Some, None, IfSome, option_map, if◌then◌else◌, refl, sym, ap, ◌∙◌, subst, arith, is_none}
+use Rattle.std.proofs.Common.{◌≡◌, ℕ, ◌≤◌, Bool, true, false, ◌&&◌, nat_le, ◌==◌, List, length, Option, Some, None, IfSome, ◌<◌, option_map, if◌then◌else◌, refl, sym, ap, ◌∙◌, subst, arith, is_none}
 use Rattle.std.proofs.lemmas.Bool.Decides.{nat_tests}
 use Rattle.std.specs.List.{list_all}
-use Rattle.std.specs.Str.{is_utf8}
+use Rattle.std.specs.Prelude.{codes}
+use Rattle.std.specs.Str.{bytes_eq, is_utf8}
 use Rattle.std.specs.Char.{is_ascii_digit}
 use Rattle.clock_text.specs.Digits.{whole_of, value_of}
 use Rattle.csv_rows.specs.declared.columns.Column.TheVariants.{Class, Delay, Weight, RouteId, Hour}
 use Rattle.csv_rows.specs.Names.{name_in}
 use Rattle.csv_rows.specs.Tables.{field, field_at}
 use Rattle.plan_model.specs.NameLists.{IsTrimmed}
+use Rattle.plan_model.specs.Bounds.{seconds_per_day}
+use Rattle.delay_table.specs.Bounds.{end_of_types, last_type, whole_weight}
 use Rattle.delay_table.specs.declared.lines.DelayLine.{DelayLine}
 use Rattle.delay_table.specs.Delays.{Line, class_in, not_zero, route_in, hour_in, given, line_of, line_at}
 
@@ -60,23 +63,31 @@ route_if P false false o h r e = absurd (cc)
 
 -- what a row says, where each field is of its form: its route is the field
 pub record IsFormed (field : List ℕ) (line : Line) : Type 0 where
-  pub delay : line.outcome.delay ≤ 86400
+  pub delay : line.outcome.delay ≤ seconds_per_day
   pub weight : 1 ≤ line.outcome.weight
   pub route : IfSome line.group.route (λ r. r ≡ field)
+  pub class : IfSome line.group.class (λ r. r < end_of_types)
 
 bound_at : (P : ℕ → Type 0) (o : Option ℕ) (n : ℕ) → IfSome o P → o ≡ Some n → P n
 bound_at P o n h e = subst (λ (x : Option ℕ). IfSome x P) e h
 
+-- a class is `*` or a route type within its bound
+class_if : (any : Bool) (o : Option ℕ) → IfSome o (λ n. n ≤ last_type) → (c : Option ℕ) → (if any then Some None else option_map Some o) ≡ Some c → IfSome c (λ r. r < end_of_types)
+class_if true o h c e = let same : None ≡ c = cc in subst (λ (x : Option ℕ). IfSome x (λ r. r < end_of_types)) same tt
+class_if false None h c e = absurd (cc)
+class_if false (Some n) h c e = let same : Some n ≡ c = cc in subst (λ (x : Option ℕ). IfSome x (λ r. r < end_of_types)) same (omega (arith, h))
+
 pub line_formed : (class delay weight route hour : List ℕ) → IfSome (line_of class delay weight route hour) (IsFormed route)
 line_formed class delay weight route hour =
     given-holds (IsFormed route) (class_in class) _ (λ c h1.
-    given-holds (IsFormed route) (whole_of 86400 delay) _ (λ d h2.
-    given-holds (IsFormed route) (not_zero (whole_of 10000 weight)) _ (λ w h3.
+    given-holds (IsFormed route) (whole_of seconds_per_day delay) _ (λ d h2.
+    given-holds (IsFormed route) (not_zero (whole_of whole_weight weight)) _ (λ w h3.
     given-holds (IsFormed route) (route_in c route) _ (λ r h4.
     given-holds (IsFormed route) (hour_in hour) _ (λ h h5. record {
-      delay = bound_at (λ n. n ≤ 86400) (whole_of 86400 delay) d (whole_bound 86400 delay) h2;
-      weight = bound_at (λ n. 1 ≤ n) (not_zero (whole_of 10000 weight)) w (weight_bound (whole_of 10000 weight)) h3;
+      delay = bound_at (λ n. n ≤ seconds_per_day) (whole_of seconds_per_day delay) d (whole_bound seconds_per_day delay) h2;
+      weight = bound_at (λ n. 1 ≤ n) (not_zero (whole_of whole_weight weight)) w (weight_bound (whole_of whole_weight weight)) h3;
       route = route_if (λ x. x ≡ route) (length route == 0) (is_none c) (name_in route) (λ x e. name_if (length route == 0) (is_utf8 route) route x e) r h4;
+      class = class_if (bytes_eq class (codes "*")) (whole_of last_type class) (whole_bound last_type class) c h1;
     })))))
 
 pub formed_at : (t : List (List (List ℕ))) (i : ℕ) → IfSome (line_at t i) (IsFormed (field t RouteId i))
@@ -111,7 +122,7 @@ abbrev pub own_line : DelayLine → Line
 own_line l = record { group = record { class = l.class; route = option_map (λ s. s.now) l.route; hour = l.hour }; outcome = l.outcome }
 
 pub line_is_formed : (class delay weight route hour : List ℕ) (o : Option DelayLine) → option_map own_line o ≡ line_of class delay weight route hour
-    → IfSome o (λ l. (l.outcome.delay ≤ 86400) × (1 ≤ l.outcome.weight))
+    → IfSome o (λ l. (l.outcome.delay ≤ seconds_per_day) × (1 ≤ l.outcome.weight))
 line_is_formed class delay weight route hour None e = tt
 line_is_formed class delay weight route hour (Some l) e =
     let f = of-mapped own_line (IsFormed route) (Some l) (line_of class delay weight route hour) e (line_formed class delay weight route hour) in

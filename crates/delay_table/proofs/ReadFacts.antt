@@ -1,8 +1,8 @@
 -- The groups of the rows that are read, one row more at a time.
-use Rattle.std.proofs.Common.{◌≡◌, ℕ, ◌+◌, ◌<◌, ◌≤◌, List, [], ◌∷◌, ◌++◌, length, slice_index, Option, Some, None, Result, Ok, Err, if◌then◌else◌, refl, sym, ap, ap₂, ◌∙◌, subst, arith, ⊎_elim, add-one, length-append, append-nil}
+use Rattle.std.proofs.Common.{◌≡◌, ℕ, ◌+◌, ◌<◌, ◌≤◌, List, [], ◌∷◌, ◌++◌, length, slice_index, Option, Some, None, IfSome, Result, Ok, Err, if◌then◌else◌, refl, sym, ap, ap₂, ◌∙◌, subst, arith, ⊎_elim, add-one, length-append, append-nil}
 use Rattle.std.specs.Prelude.{OnOk}
 use Rattle.std.proofs.lemmas.Bool.{cases_lt}
-use Rattle.std.proofs.lemmas.List.{get_or_append_left, get_or_push, length-map, map-append}
+use Rattle.std.proofs.lemmas.List.{get_or_append_left, get_or_push, get_or-map, length-map, map-append}
 use Rattle.plan_model.specs.declared.model.Outcome.{Outcome}
 use Rattle.delay_table.specs.declared.reading.GroupRows.{GroupRows}
 use Rattle.delay_table.specs.declared.faults.DelayFault.{DelayFault}
@@ -10,6 +10,10 @@ use Rattle.delay_table.specs.declared.faults.DelayFault.TheVariants.{BadField}
 use Rattle.delay_table.specs.Groups.{Group, same_group, of_class, group_in, place_of}
 use Rattle.delay_table.specs.Delays.{Line, of_group, outcomes, line_at, fault_of, fault_after, line_fault, begins, if_begins, firsts, group_of, groups_at}
 use Rattle.delay_table.specs.Read.{no_rows, rows_at, outcomes_at, rows_of, AreApart, IsPushed, AddsRow, IsReadTo}
+use Rattle.csv_rows.specs.Tables.{field}
+use Rattle.csv_rows.specs.declared.columns.Column.TheVariants.{RouteId}
+use Rattle.delay_table.specs.Bounds.{end_of_types}
+use Rattle.delay_table.proofs.LineFacts.{IsFormed, formed_at}
 use Rattle.delay_table.proofs.GroupFacts.{same-true, same-false, group-here, nowhere, apart-ne, place-at, push-none}
 
 outcomes-zero : (t : List (List (List ℕ))) (group : Group) → outcomes t 0 group ≡ []
@@ -219,3 +223,15 @@ fault_here t i r line number o e same n h =
 pub bad_here : (t : List (List (List ℕ))) (i : ℕ) (number : ℕ) → None ≡ line_at t i → number ≡ i + 2 → line_fault t i ≡ Some (BadField number)
 unfolding line_fault
 bad_here t i number e n = ap (λ x. fault_of (outcomes t i) x (i + 2)) (sym e) ∙ ap (λ x. Some (BadField x)) (sym n)
+
+-- each route type is within its bound
+type-bounded : (t : List (List (List ℕ))) (i : ℕ) (o : Option Line) → IfSome o (IsFormed (field t RouteId i)) → IfSome (group_of o).class (λ route. route < end_of_types)
+type-bounded t i None h = tt
+type-bounded t i (Some line) h = h.class
+
+pub types-bounded : (t : List (List (List ℕ))) (rows : List ℕ) (k : ℕ) → k < length (groups_at t rows) → IfSome (group_in (groups_at t rows) k).class (λ route. route < end_of_types)
+unfolding groups_at
+types-bounded t rows k l =
+    let i = slice_index rows k in
+    let inside : k < length rows = omega (arith, length-groups t rows) in
+    subst (λ (g : Group). IfSome g.class (λ route. route < end_of_types)) (sym (get_or-map (λ j. group_of (line_at t j)) rows k 0 (of_class None) inside)) (type-bounded t i (line_at t i) (formed_at t i))

@@ -1,8 +1,7 @@
 -- The classes of a table without a fault are valid.
-use Rattle.std.proofs.Common.{◌≡◌, ℕ, zero, suc, ◌+◌, ◌<◌, ◌≤◌, ◌==◌, nat_lt, Bool, true, false, List, [], ◌∷◌, ◌++◌, length, map, get_or, sum_by, Option, Some, None, option_map, if◌then◌else◌, refl, sym, ap, ap₂, ◌∙◌, subst, arith, ⊎_elim, All, length-append, append-nil, add-one}
-use Rattle.std.proofs.lemmas.Bool.{cases_lt}
-use Rattle.std.proofs.lemmas.List.{get_or_append_left, get_or_push, length-map}
-use Rattle.std.proofs.lemmas.List.Elements.{All-nil, All-cons, All-append, All-map}
+use Rattle.std.proofs.Common.{◌≡◌, ℕ, ◌+◌, ◌<◌, ◌≤◌, ◌==◌, nat_lt, Bool, true, false, List, [], ◌∷◌, ◌++◌, length, map, get_or, sum_by, Option, Some, None, IfSome, option_map, if◌then◌else◌, refl, sym, ap, ◌∙◌, subst, arith, All, length-append}
+use Rattle.std.proofs.lemmas.List.{get_or_default, length-map}
+use Rattle.std.proofs.lemmas.List.Elements.{All-cons, All-append, All-map}
 use Rattle.plan_model.specs.declared.model.Outcome.{Outcome}
 use Rattle.plan_model.specs.Rows.{IsValidRow}
 use Rattle.csv_rows.specs.First.{or_else, first_below}
@@ -12,8 +11,9 @@ use Rattle.delay_table.specs.declared.faults.DelayFault.{DelayFault}
 use Rattle.delay_table.specs.declared.faults.DelayFault.TheVariants.{TooManyClasses, WeightSum, GroupSum}
 use Rattle.delay_table.specs.declared.reading.GroupRows.{GroupRows}
 use Rattle.delay_table.specs.DelayLists.{DelayLists}
-use Rattle.delay_table.specs.Groups.{Group, group_in, is_plain, of_class}
-use Rattle.delay_table.specs.Delays.{class_at, class_name, class_rows, class_sum, delays_in, group_count, group_sum, group_sum_at, groups_fault, if_row, if_some, named, named_rows, no_default_of, other_sum, others, too_many_classes}
+use Rattle.delay_table.specs.Bounds.{end_of_types, most_groups, whole_weight}
+use Rattle.delay_table.specs.Groups.{Group, group_in, is_plain, of_class, plain_types}
+use Rattle.delay_table.specs.Delays.{class_name, class_rows, class_sum, delays_in, group_sum, group_sum_at, groups_fault, groups_of, named, no_default_of, other_sum, others, too_many_classes, type_rows, type_sum_at}
 use Rattle.delay_table.specs.Read.{IsRead, line_at, rows_of}
 use Rattle.delay_table.specs.Slots.{AreDelays, IsStart}
 use mathlib.Core.Path.{fun_ext}
@@ -23,7 +23,10 @@ use Rattle.delay_table.specs.Delays.{delays_of, first_fault, first_line, firsts,
 use Rattle.delay_table.specs.Read.{IsReadTo}
 use Rattle.delay_table.proofs.ReadFacts.{rows-are, rows-here}
 use Rattle.delay_table.proofs.Starts.{starts}
-use Rattle.delay_table.proofs.Named.{named-zero, named-next, named_rows-zero, named_rows-next, others-from}
+use Rattle.delay_table.proofs.Others.{others-from}
+use Rattle.delay_table.proofs.NamedTypes.{named-are}
+use Rattle.delay_table.proofs.PlainTypes.{groups-are}
+use Rattle.delay_table.proofs.ReadFacts.{types-bounded}
 
 none_mapped : (f : ℕ → DelayFault) (o : Option ℕ) → option_map f o ≡ None → o ≡ None
 none_mapped f None h = refl
@@ -41,106 +44,56 @@ sum_if : (b : Bool) (n : ℕ) → (if b then None else Some n) ≡ None → b �
 sum_if true n h = refl
 sum_if false n h = absurd (cc)
 
-sum_right : (r : List Outcome) → 0 < length r → other_sum r ≡ None → sum_by (λ o. o.weight) r ≡ 10000
+sum_right : (r : List Outcome) → 0 < length r → other_sum r ≡ None → sum_by (λ o. o.weight) r ≡ whole_weight
 sum_right [] some h = absurd (omega arith)
-sum_right (o ∷ os) some h = eq_test (sum_by (λ o. o.weight) (o ∷ os)) 10000 (sum_if (sum_by (λ o. o.weight) (o ∷ os) == 10000) (sum_by (λ o. o.weight) (o ∷ os)) h)
+sum_right (o ∷ os) some h = eq_test (sum_by (λ o. o.weight) (o ∷ os)) whole_weight (sum_if (sum_by (λ o. o.weight) (o ∷ os) == whole_weight) (sum_by (λ o. o.weight) (o ∷ os)) h)
 
 valid_row : (r : List Outcome) → IsStart r → 0 < length r → other_sum r ≡ None → IsValidRow r
 valid_row r s some h = record { some = some; few = s.few; rising = s.rising; delays = s.delays; weights = s.weights; total = sum_right r some h }
-
-if_valid : (r : List Outcome) → IsStart r → other_sum r ≡ None → All IsValidRow (if_row r)
-if_valid [] s h = All-nil IsValidRow
-if_valid (o ∷ os) s h = All-cons IsValidRow (o ∷ os) [] (valid_row (o ∷ os) s (omega arith) h) (All-nil IsValidRow)
 
 default_some : (r : List Outcome) → no_default_of r ≡ None → 0 < length r
 default_some [] h = absurd (cc)
 default_some (o ∷ os) h = omega arith
 
-one_some : (r : List Outcome) (n : ℕ) → 0 < length r → length (if_some r n) ≡ 1
-one_some [] n h = absurd (omega arith)
-one_some (o ∷ os) n h = refl
-
-same_length : (r : List Outcome) (n : ℕ) → length (if_row r) ≡ length (if_some r n)
-same_length [] n = refl
-same_length (o ∷ os) n = refl
-
-named-lengths : (rows : Group → List Outcome) (n : ℕ) → length (named_rows rows n) ≡ length (named rows n)
-named-lengths rows zero = ap length (named_rows-zero rows) ∙ sym (ap length (named-zero rows))
-named-lengths rows (suc n) =
-    let r = class_rows rows (n + 1) in
-    let step : length (named_rows rows (n + 1)) ≡ length (named rows (n + 1)) =
-    ap length (named_rows-next rows n) ∙ length-append (named_rows rows n) (if_row r) ∙ ap₂ (λ a b. a + b) (named-lengths rows n) (same_length r n)
-    ∙ sym (ap length (named-next rows n) ∙ length-append (named rows n) (if_some r n)) in
-    subst (λ (m : ℕ). length (named_rows rows m) ≡ length (named rows m)) (add-one n) step
-
--- the route types below a number rise
-record AreNamed (n : ℕ) (types : List ℕ) : Type 0 where
-  below : (k : ℕ) → k < length types → get_or types k 0 < n
-  rising : (i j : ℕ) → i < j → j < length types → get_or types i 0 < get_or types j 0
-
-named_push : (n : ℕ) (types : List ℕ) (r : List Outcome) → AreNamed n types → AreNamed (n + 1) (types ++ if_some r n)
-named_push n types [] s = subst (AreNamed (n + 1)) (sym (append-nil types)) (record { below = λ k l. omega (arith, s.below k l); rising = s.rising })
-named_push n types (o ∷ os) s =
-    let size : length (types ++ n ∷ []) ≡ length types + 1 = length-append types (n ∷ []) in
-    let at_old : (k : ℕ) → k < length types → get_or (types ++ n ∷ []) k 0 ≡ get_or types k 0 = λ k l. get_or_append_left types (n ∷ []) 0 k l in
-    let at_new : (k : ℕ) → length types ≡ k → get_or (types ++ n ∷ []) k 0 ≡ n = λ k e. get_or_push types n 0 k e in
-    record {
-      below = λ k l.
-          ⊎_elim (λ (before : k < length types). omega (arith, at_old k before, s.below k before))
-          (λ (end : length types ≤ k). omega (arith, at_new k (omega arith)))
-          (cases_lt k (length types));
-      rising = λ i j less inside.
-          let ii : i < length types = omega arith in
-          ⊎_elim (λ (before : j < length types). omega (arith, at_old i ii, at_old j before, s.rising i j less before))
-          (λ (end : length types ≤ j). omega (arith, at_old i ii, at_new j (omega arith), s.below i ii))
-          (cases_lt j (length types));
-    }
-
-named_are : (rows : Group → List Outcome) (n : ℕ) → AreNamed n (named rows n)
-named_are rows zero = subst (AreNamed 0) (sym (named-zero rows)) (record { below = λ k l. absurd (omega arith); rising = λ i j less l. absurd (omega arith) })
-named_are rows (suc n) =
-    let step : AreNamed (n + 1) (named rows (n + 1)) = subst (AreNamed (n + 1)) (sym (named-next rows n)) (named_push n (named rows n) (class_rows rows (n + 1)) (named_are rows n)) in
-    subst (λ (m : ℕ). AreNamed m (named rows m)) (add-one n) step
-
--- the route types of a table rise
-pub types_rise : (rows : Group → List Outcome) (i j : ℕ) → i < j → j < length (named rows 65535) → get_or (named rows 65535) i 0 < get_or (named rows 65535) j 0
-types_rise rows = (named_are rows 65535).rising
-
-module _ (groups : List Group) (read : List GroupRows) (is : IsRead groups read) (sound : groups_fault (rows_of groups read) groups (line_at read) ≡ None) where
+module _ (groups : List Group) (read : List GroupRows) (is : IsRead groups read) (sound : groups_fault (rows_of groups read) groups (line_at read) ≡ None) (size : length (named (rows_of groups read) end_of_types) ≡ length (plain_types groups (length groups))) where
   abbrev own : Group → List Outcome
   own = rows_of groups read
 
-  few_part : too_many_classes (group_count own groups) ≡ None
-  few_part = (none-both (too_many_classes (group_count own groups)) (or_else (first_below (class_sum own) 65536) (or_else (first_below (group_sum_at own groups (line_at read)) (length groups)) (no_default_of (class_rows own 0)))) sound).0
+  abbrev types : List ℕ
+  types = named own end_of_types
 
-  sums_part : or_else (first_below (class_sum own) 65536) (or_else (first_below (group_sum_at own groups (line_at read)) (length groups)) (no_default_of (class_rows own 0))) ≡ None
-  sums_part = (none-both (too_many_classes (group_count own groups)) (or_else (first_below (class_sum own) 65536) (or_else (first_below (group_sum_at own groups (line_at read)) (length groups)) (no_default_of (class_rows own 0)))) sound).1
+  -- the faults of the groups, from the last
+  abbrev types_fault : Option DelayFault
+  types_fault = first_below (type_sum_at own types) (length types)
 
-  classes_part : first_below (class_sum own) 65536 ≡ None
-  classes_part = (none-both (first_below (class_sum own) 65536) (or_else (first_below (group_sum_at own groups (line_at read)) (length groups)) (no_default_of (class_rows own 0))) sums_part).0
+  abbrev others_fault : Option DelayFault
+  others_fault = first_below (group_sum_at own groups (line_at read)) (length groups)
 
-  last_part : or_else (first_below (group_sum_at own groups (line_at read)) (length groups)) (no_default_of (class_rows own 0)) ≡ None
-  last_part = (none-both (first_below (class_sum own) 65536) (or_else (first_below (group_sum_at own groups (line_at read)) (length groups)) (no_default_of (class_rows own 0))) sums_part).1
+  abbrev default_fault : Option DelayFault
+  default_fault = no_default_of (class_rows own None)
 
-  groups_part : (first_below (group_sum_at own groups (line_at read)) (length groups) ≡ None) × (no_default_of (class_rows own 0) ≡ None)
-  groups_part = none-both (first_below (group_sum_at own groups (line_at read)) (length groups)) (no_default_of (class_rows own 0)) last_part
+  parts : (too_many_classes (length groups) ≡ None) × (class_sum own None ≡ None) × (types_fault ≡ None) × (others_fault ≡ None) × (default_fault ≡ None)
+  parts =
+      let a = none-both (too_many_classes (length groups)) (or_else (class_sum own None) (or_else types_fault (or_else others_fault default_fault))) sound in
+      let b = none-both (class_sum own None) (or_else types_fault (or_else others_fault default_fault)) a.1 in
+      let c = none-both types_fault (or_else others_fault default_fault) b.1 in
+      let d = none-both others_fault default_fault c.1 in
+      (a.0, b.0, c.0, d.0, d.1)
 
-  class_right : (c : ℕ) → c < 65536 → other_sum (class_rows own c) ≡ None
-  class_right c l = none_mapped (WeightSum (class_name (class_at c))) (other_sum (class_rows own c)) (none-each (class_sum own) 65536 classes_part c l)
+  type_right : (k : ℕ) → k < length types → other_sum (type_rows own (get_or types k 0)) ≡ None
+  type_right k l = none_mapped (WeightSum (class_name (Some (get_or types k 0)))) (other_sum (type_rows own (get_or types k 0))) (none-each (type_sum_at own types) (length types) parts.2 k l)
 
   group_right : (k : ℕ) → k < length groups → is_plain (group_in groups k) ≡ false → other_sum (own (group_in groups k)) ≡ None
   group_right k l e =
       none_mapped (GroupSum (line_at read k)) (other_sum (own (group_in groups k)))
       (none_else (is_plain (group_in groups k)) (option_map (GroupSum (line_at read k)) (other_sum (own (group_in groups k)))) e
-      (none-each (group_sum_at own groups (line_at read)) (length groups) groups_part.0 k l))
+      (none-each (group_sum_at own groups (line_at read)) (length groups) parts.3 k l))
 
-  named_valid : (n : ℕ) → n < 65536 → All IsValidRow (named_rows own n)
-  named_valid zero l = subst (All IsValidRow) (sym (named_rows-zero own)) (All-nil IsValidRow)
-  named_valid (suc n) l =
-      let r = class_rows own (n + 1) in
-      let step : All IsValidRow (named_rows own (n + 1)) = subst (All IsValidRow) (sym (named_rows-next own n))
-      (All-append IsValidRow (named_rows own n) (if_row r) (named_valid n (omega arith)) (if_valid r (is.starts (of_class (class_at (n + 1)))) (class_right (n + 1) (omega arith)))) in
-      subst (λ (m : ℕ). All IsValidRow (named_rows own m)) (add-one n) step
+  types_valid : All IsValidRow (map (type_rows own) types)
+  types_valid = All-map IsValidRow (type_rows own) types (λ k d l.
+      let e : get_or types k 0 ≡ get_or types k d = get_or_default types k 0 d l in
+      subst (λ r. IsValidRow (type_rows own r)) e
+      (valid_row (type_rows own (get_or types k 0)) (is.starts (of_class (Some (get_or types k 0)))) ((named-are own end_of_types).some k l) (type_right k l)))
 
   others_valid : All IsValidRow (map own (others groups (length groups)))
   others_valid = All-map IsValidRow own (others groups (length groups)) (λ k d l.
@@ -150,35 +103,44 @@ module _ (groups : List Group) (read : List GroupRows) (is : IsRead groups read)
       (group_right w.place w.inside (subst (λ (g : Group). is_plain g ≡ false) e w.other)) in
       subst (λ (g : Group). IsValidRow (own g)) (sym e) valid)
 
-  default_valid : IsValidRow (class_rows own 0)
-  default_valid = valid_row (class_rows own 0) (is.starts (of_class None)) (default_some (class_rows own 0) groups_part.1) (class_right 0 (omega arith))
+  default_there : 0 < length (class_rows own None)
+  default_there = default_some (class_rows own None) parts.4
 
-  few : length (named own 65535) + 1 + length (others groups (length groups)) ≤ 65536
-  unfolding group_count
-  few =
-      let count = le_test 65536 (group_count own groups) (few_if (nat_lt 65536 (group_count own groups)) (TooManyClasses (group_count own groups)) few_part) in
-      let one = one_some (class_rows own 0) 0 (default_some (class_rows own 0) groups_part.1) in
-      omega (arith, count, one)
+  default_valid : IsValidRow (class_rows own None)
+  default_valid = valid_row (class_rows own None) (is.starts (of_class None)) default_there (none_mapped (WeightSum (class_name None)) (other_sum (class_rows own None)) parts.1)
+
+  few : length groups ≤ most_groups
+  few = le_test most_groups (length groups) (few_if (nat_lt most_groups (length groups)) (TooManyClasses (length groups)) parts.0)
+
+  counted : length types + 1 + length (others groups (length groups)) ≡ length groups
+  counted = groups-are groups read is size default_there
+
+  class-count : length (class_rows own None ∷ map (type_rows own) types ++ map own (others groups (length groups))) ≡ length types + 1 + length (others groups (length groups))
+  class-count =
+      let more = map (type_rows own) types in
+      let last = map own (others groups (length groups)) in
+      omega (arith, length-append more last, length-map types (type_rows own), length-map (others groups (length groups)) own)
 
   pub delays_valid : AreDelays (delays_in own groups)
   unfolding delays_in
-  delays_valid =
-      let more = named_rows own 65535 in
-      let last = map own (others groups (length groups)) in
-      let size : length (class_rows own 0 ∷ more ++ last) ≡ length (named own 65535) + 1 + length (others groups (length groups)) =
-      omega (arith, length-append more last, named-lengths own 65535, length-map (others groups (length groups)) own) in
-      record {
-        rising = types_rise own;
-        few = omega (arith, size, few);
-        each = size;
-        rows = λ k l. All-cons IsValidRow (class_rows own 0) (more ++ last) default_valid (All-append IsValidRow more last (named_valid 65535 (omega arith)) others_valid) k [] l;
-      }
+  delays_valid = record {
+    rising = (named-are own end_of_types).rising;
+    few = omega (arith, class-count, counted, few);
+    each = class-count;
+    rows = λ k l. All-cons IsValidRow (class_rows own None) (map (type_rows own) types ++ map own (others groups (length groups))) default_valid
+        (All-append IsValidRow (map (type_rows own) types) (map own (others groups (length groups))) types_valid others_valid) k [] l;
+  }
+
+  -- there are as many classes as groups
+  pub classes-are : length (delays_in own groups).classes ≡ length groups
+  unfolding delays_in
+  classes-are = class-count ∙ counted
 
 -- what is made of these groups
-pub made-is : (rows : Group → List Outcome) (groups : List Group) (types : List ℕ) (os : List Group) (classes : List (List Outcome)) → types ≡ named rows 65535 → os ≡ others groups (length groups)
-    → classes ≡ class_rows rows 0 ∷ named_rows rows 65535 ++ map rows (others groups (length groups)) → ◌≡◌ {A = DelayLists} (record { types = types; others = os; classes = classes }) (delays_in rows groups)
+pub made-is : (rows : Group → List Outcome) (groups : List Group) (route_types : List ℕ) (os : List Group) (classes : List (List Outcome)) → route_types ≡ named rows end_of_types → os ≡ others groups (length groups)
+    → classes ≡ class_rows rows None ∷ map (type_rows rows) (named rows end_of_types) ++ map rows (others groups (length groups)) → ◌≡◌ {A = DelayLists} (record { types = route_types; others = os; classes = classes }) (delays_in rows groups)
 unfolding delays_in
-made-is rows groups types os classes e f g = λ i. record { types = e i; others = f i; classes = g i }
+made-is rows groups route_types os classes e f g = λ i. record { types = e i; others = f i; classes = g i }
 
 -- the groups of all rows
 pub is-read : (t : List (List (List ℕ))) (groups : List Group) (rows : List GroupRows) → first_below (line_fault t) (row_count t) ≡ None → IsReadTo t (row_count t) groups rows → IsRead groups rows
@@ -187,6 +149,7 @@ is-read t groups rows none r = record {
   apart = r.apart;
   some = λ k l. subst (λ (x : List Outcome). 0 < length x) (sym (rows-here groups rows r.apart k l)) (r.some k l);
   starts = λ group. subst IsStart (sym (rows-are t (row_count t) groups rows r group)) (starts t (row_count t) none group);
+  types = λ k l. subst (λ (gs : List Group). IfSome (group_in gs k).class (λ route. route < end_of_types)) (sym r.are) (types-bounded t (firsts t (row_count t)) k (omega (arith, ap length r.are)));
 }
 
 -- their faults are those of the table
@@ -199,16 +162,21 @@ groups-same t n groups rows r =
     first-same (group_sum_at (outcomes t n) groups (line_at rows)) (group_sum_at (outcomes t n) groups (first_line t n)) (length groups)
     (λ k l. ap (λ m. group_sum (group_in groups k) m (outcomes t n (group_in groups k))) (r.lines k l)) in
     ap (λ rs. groups_fault rs groups (line_at rows)) same
-    ∙ ap (λ o. or_else (too_many_classes (group_count (outcomes t n) groups)) (or_else (first_below (class_sum (outcomes t n)) 65536) (or_else o (no_default_of (class_rows (outcomes t n) 0))))) lines
+    ∙ ap (λ o. or_else (too_many_classes (length groups)) (or_else (class_sum (outcomes t n) None)
+    (or_else (first_below (type_sum_at (outcomes t n) (named (outcomes t n) end_of_types)) (length (named (outcomes t n) end_of_types))) (or_else o (no_default_of (class_rows (outcomes t n) None)))))) lines
     ∙ ap (λ gs. groups_fault (outcomes t n) gs (first_line t n)) r.are
+
+groups-of : (t : List (List (List ℕ))) → groups_at t (firsts t (row_count t)) ≡ groups_of t
+unfolding groups_of
+groups-of t = refl
 
 pub delays-same : (t : List (List (List ℕ))) (groups : List Group) (rows : List GroupRows) → IsReadTo t (row_count t) groups rows → delays_in (rows_of groups rows) groups ≡ delays_of t
 unfolding delays_of
 delays-same t groups rows r =
-    ap (λ rs. delays_in rs groups) (fun_ext (rows-are t (row_count t) groups rows r)) ∙ ap (delays_in (outcomes t (row_count t))) r.are
+    ap (λ rs. delays_in rs groups) (fun_ext (rows-are t (row_count t) groups rows r)) ∙ ap (delays_in (outcomes t (row_count t))) (r.are ∙ groups-of t)
 
 abbrev last_fault : List (List (List ℕ)) → Option DelayFault
-last_fault t = groups_fault (outcomes t (row_count t)) (groups_at t (firsts t (row_count t))) (first_line t (row_count t))
+last_fault t = groups_fault (outcomes t (row_count t)) (groups_of t) (first_line t (row_count t))
 
 pub column-first : (t : List (List (List ℕ))) (e : DelayFault) → Some e ≡ missing_column t → first_fault t ≡ Some e
 unfolding first_fault
@@ -219,9 +187,13 @@ unfolding first_fault
 line-first t e h k =
     ap (λ o. or_else o (or_else (first_below (line_fault t) (row_count t)) (last_fault t))) (sym h) ∙ ap (λ o. or_else o (last_fault t)) k
 
-pub group-first : (t : List (List (List ℕ))) (o : Option DelayFault) (groups : List Group) (rows : List GroupRows) → None ≡ missing_column t → first_below (line_fault t) (row_count t) ≡ None → IsReadTo t (row_count t) groups rows
-    → o ≡ groups_fault (rows_of groups rows) groups (line_at rows) → first_fault t ≡ o
+pub fault-same : (t : List (List (List ℕ))) (groups : List Group) (rows : List GroupRows) → None ≡ missing_column t → first_below (line_fault t) (row_count t) ≡ None → IsReadTo t (row_count t) groups rows
+    → groups_fault (rows_of groups rows) groups (line_at rows) ≡ first_fault t
 unfolding first_fault
-group-first t o groups rows h k r e =
-    ap (λ o. or_else o (or_else (first_below (line_fault t) (row_count t)) (last_fault t))) (sym h) ∙ ap (λ o. or_else o (last_fault t)) k
-    ∙ sym (groups-same t (row_count t) groups rows r) ∙ sym e
+fault-same t groups rows h k r =
+    sym (ap (λ o. or_else o (or_else (first_below (line_fault t) (row_count t)) (last_fault t))) (sym h) ∙ ap (λ o. or_else o (last_fault t)) k
+    ∙ ap (λ gs. groups_fault (outcomes t (row_count t)) gs (first_line t (row_count t))) (sym (groups-of t)) ∙ sym (groups-same t (row_count t) groups rows r))
+
+-- there are as many groups as are read
+pub groups-count : (t : List (List (List ℕ))) (groups : List Group) (rows : List GroupRows) → IsReadTo t (row_count t) groups rows → length groups ≡ length (groups_of t)
+groups-count t groups rows r = ap length (r.are ∙ groups-of t)

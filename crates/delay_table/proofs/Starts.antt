@@ -6,6 +6,7 @@ use Rattle.std.proofs.lemmas.List.Elements.{All-push}
 use Rattle.std.proofs.lemmas.Option.{slice_get-get_or}
 use Rattle.std.proofs.lemmas.List.Quantifiers.{all_pairs_push}
 use Rattle.plan_model.specs.declared.model.Outcome.{Outcome}
+use Rattle.plan_model.specs.Bounds.{seconds_per_day}
 use Rattle.delay_table.specs.declared.faults.DelayFault.{DelayFault}
 use Rattle.delay_table.specs.declared.faults.DelayFault.TheVariants.{NotRising}
 use Rattle.delay_table.specs.Groups.{Group, same_group}
@@ -48,7 +49,7 @@ rises_each r delay s h k d l =
     (cases_lt k (length r - 1))
 
 -- one more row with no fault
-start_next : (r : List Outcome) (line : Line) (number : ℕ) → IsStart r → fault_after r line number ≡ None → line.outcome.delay ≤ 86400 → 1 ≤ line.outcome.weight → IsStart (r ++ line.outcome ∷ [])
+start_next : (r : List Outcome) (line : Line) (number : ℕ) → IsStart r → fault_after r line number ≡ None → line.outcome.delay ≤ seconds_per_day → 1 ≤ line.outcome.weight → IsStart (r ++ line.outcome ∷ [])
 start_next r line number s none d w =
     let o = line.outcome in
     let t = none_cases (nat_le 64 (length r)) (rises (slice_get r (length r - 1)) o.delay) (too_many line.group number) (NotRising number) none in
@@ -57,7 +58,7 @@ start_next r line number s none d w =
     record {
       few = omega arith;
       rising = all_pairs_push (λ a b. a.delay < b.delay) r o s.rising (rises_each r o.delay s t.1);
-      delays = All-push (λ (x : Outcome). x.delay ≤ 86400) r o s.delays d;
+      delays = All-push (λ (x : Outcome). x.delay ≤ seconds_per_day) r o s.delays d;
       weights = All-push (λ (x : Outcome). 1 ≤ x.weight) r o s.weights w;
     }
 

@@ -2,6 +2,7 @@
 use Rattle.std.specs.Prelude.{ℕ, ◌+◌, ◌==◌, ◌/◌, ◌%◌, List, length, slice_index, Option, Some, None, option_map, unwrap_or, if◌then◌else◌}
 use Rattle.plan_model.specs.declared.model.Outcome.{Outcome}
 use Rattle.csv_rows.specs.First.{or_else, first_below}
+use Rattle.delay_table.specs.Bounds.{seconds_per_hour, hours_per_day}
 use Rattle.delay_table.specs.Groups.{Group, place_of}
 
 -- the named route types, rising; the groups that name a route or an hour; and the outcomes of class 0, of each route type
@@ -13,7 +14,7 @@ pub record DelayLists : Type 0 where
 
 -- the hour of the day of a moment, on the civil clock
 abbrev pub hour_of : ℕ → ℕ
-hour_of moment = (moment / 3600) % 24
+hour_of moment = (moment / seconds_per_hour) % hours_per_day
 
 -- where a route type stands among those that are named
 unfoldable pub type_place : List ℕ → ℕ → Option ℕ

@@ -3,6 +3,7 @@ use Rattle.std.specs.Prelude.{ℕ, zero, suc, ◌+◌, ◌-◌, ◌==◌, nat_lt
 use Rattle.std.specs.Str.{bytes_eq}
 use Rattle.clock_text.specs.Digits.{whole_of}
 use Rattle.plan_model.specs.declared.model.Outcome.{Outcome}
+use Rattle.plan_model.specs.Bounds.{seconds_per_day}
 use Rattle.csv_rows.specs.declared.columns.Column.{Column}
 use Rattle.csv_rows.specs.declared.columns.Column.TheVariants.{Class, Delay, Weight, RouteId, Hour}
 use Rattle.delay_table.specs.declared.faults.ClassName.{ClassName}
@@ -12,6 +13,7 @@ use Rattle.delay_table.specs.declared.faults.DelayFault.TheVariants.{MissingColu
 use Rattle.csv_rows.specs.First.{or_else, first_below}
 use Rattle.csv_rows.specs.Names.{name_in}
 use Rattle.csv_rows.specs.Tables.{place_of, field, row_count}
+use Rattle.delay_table.specs.Bounds.{most_rows, most_groups, last_type, end_of_types, whole_weight, last_hour}
 use Rattle.delay_table.specs.DelayLists.{DelayLists}
 use Rattle.delay_table.specs.Groups.{Group, of_class, group_in, is_plain, same_group}
 
@@ -32,14 +34,9 @@ abbrev pub class_type : ClassName → Option ℕ
 class_type Any = None
 class_type (Route route) = Some route
 
--- classes by number: `*` is 0, and the route type r is r + 1
-abbrev pub class_at : ℕ → Option ℕ
-class_at zero = None
-class_at (suc r) = Some r
-
 -- `*`, or a route type
 abbrev pub class_in : List ℕ → Option (Option ℕ)
-class_in text = if bytes_eq text (codes "*") then Some None else option_map Some (whole_of 65534 text)
+class_in text = if bytes_eq text (codes "*") then Some None else option_map Some (whole_of last_type text)
 
 -- a whole number from 1 on
 abbrev pub not_zero : Option ℕ → Option ℕ
@@ -52,7 +49,7 @@ route_in class text = if length text == 0 then Some None else if is_none class t
 
 -- an hour of the day
 abbrev pub hour_in : List ℕ → Option (Option ℕ)
-hour_in text = if length text == 0 then Some None else option_map Some (whole_of 23 text)
+hour_in text = if length text == 0 then Some None else option_map Some (whole_of last_hour text)
 
 -- what comes next, where this is there
 abbrev pub given : {A B : Type 0} → Option A → (A → Option B) → Option B
@@ -63,8 +60,8 @@ given (Some a) next = next a
 abbrev pub line_of : (class delay weight route hour : List ℕ) → Option Line
 line_of class delay weight route hour =
     given (class_in class) (λ class'.
-    given (whole_of 86400 delay) (λ delay'.
-    given (not_zero (whole_of 10000 weight)) (λ weight'.
+    given (whole_of seconds_per_day delay) (λ delay'.
+    given (not_zero (whole_of whole_weight weight)) (λ weight'.
     given (route_in class' route) (λ route'.
     given (hour_in hour) (λ hour'.
     Some (record {
@@ -105,7 +102,7 @@ too_many group number = if is_plain group then TooManyRows (class_name group.cla
 -- the fault of a row after these of its group
 abbrev pub fault_after : List Outcome → Line → ℕ → Option DelayFault
 fault_after earlier line number =
-    if nat_le 64 (length earlier) then Some (too_many line.group number)
+    if nat_le most_rows (length earlier) then Some (too_many line.group number)
     else if rises (slice_get earlier (length earlier - 1)) line.outcome.delay then None
     else Some (NotRising number)
 
@@ -141,20 +138,27 @@ unfoldable pub groups_at : List (List (List ℕ)) → List ℕ → List Group
 groups_at t rows = map (λ i. group_of (line_at t i)) rows
 
 abbrev pub too_many_classes : ℕ → Option DelayFault
-too_many_classes count = if nat_lt 65536 count then Some (TooManyClasses count) else None
+too_many_classes count = if nat_lt most_groups count then Some (TooManyClasses count) else None
 
--- the sum of the weights of outcomes, where there are some and it is not 10,000
+-- the sum of the weights of outcomes, where there are some and it is not the whole
 abbrev pub other_sum : List Outcome → Option ℕ
 other_sum [] = None
-other_sum (o ∷ os) = if sum_by (λ o. o.weight) (o ∷ os) == 10000 then None else Some (sum_by (λ o. o.weight) (o ∷ os))
+other_sum (o ∷ os) = if sum_by (λ o. o.weight) (o ∷ os) == whole_weight then None else Some (sum_by (λ o. o.weight) (o ∷ os))
 
--- the outcomes of a class by its number
-abbrev pub class_rows : (Group → List Outcome) → ℕ → List Outcome
-class_rows rows c = rows (of_class (class_at c))
+-- the outcomes of a class alone, and those of a route type
+abbrev pub class_rows : (Group → List Outcome) → Option ℕ → List Outcome
+class_rows rows class = rows (of_class class)
 
--- the fault of a class by its number, by the outcomes of the whole table
-abbrev pub class_sum : (Group → List Outcome) → ℕ → Option DelayFault
-class_sum rows c = option_map (WeightSum (class_name (class_at c))) (other_sum (class_rows rows c))
+abbrev pub type_rows : (Group → List Outcome) → ℕ → List Outcome
+type_rows rows route = class_rows rows (Some route)
+
+-- the fault of a class alone, by the outcomes of the whole table
+abbrev pub class_sum : (Group → List Outcome) → Option ℕ → Option DelayFault
+class_sum rows class = option_map (WeightSum (class_name class)) (other_sum (class_rows rows class))
+
+-- that of the route type at a place among these
+abbrev pub type_sum_at : (Group → List Outcome) → List ℕ → ℕ → Option DelayFault
+type_sum_at rows types k = class_sum rows (Some (slice_index types k))
 
 -- that of a group that names a route or an hour, by its first line
 abbrev pub group_sum : Group → ℕ → List Outcome → Option DelayFault
@@ -167,24 +171,15 @@ abbrev pub no_default_of : List Outcome → Option DelayFault
 no_default_of [] = Some NoDefault
 no_default_of (o ∷ os) = None
 
--- one more, if it has outcomes
+-- one element, if it has outcomes
 abbrev pub if_some : List Outcome → ℕ → List ℕ
 if_some [] r = []
 if_some (o ∷ os) r = r ∷ []
 
-abbrev pub if_row : List Outcome → List (List Outcome)
-if_row [] = []
-if_row (o ∷ os) = (o ∷ os) ∷ []
-
 -- the route types below n that have outcomes, rising
 unfoldable pub named : (Group → List Outcome) → ℕ → List ℕ
 named rows zero = []
-named rows (suc n) = named rows n ++ if_some (class_rows rows (n + 1)) n
-
--- the outcomes of these route types
-unfoldable pub named_rows : (Group → List Outcome) → ℕ → List (List Outcome)
-named_rows rows zero = []
-named_rows rows (suc n) = named_rows rows n ++ if_row (class_rows rows (n + 1))
+named rows (suc n) = named rows n ++ if_some (type_rows rows n) n
 
 -- one element, where the group names a route or an hour
 abbrev pub if_other : {A : Type 0} → Group → A → List A
@@ -195,35 +190,37 @@ unfoldable pub others : List Group → ℕ → List Group
 others groups zero = []
 others groups (suc n) = others groups n ++ if_other (group_in groups n) (group_in groups n)
 
--- how many groups there are: `*`, the named route types, and those that name a route or an hour
-unfoldable pub group_count : (Group → List Outcome) → List Group → ℕ
-group_count rows groups = length (if_some (class_rows rows 0) 0) + length (named rows 65535) + length (others groups (length groups))
-
--- the first of the faults of the groups: their number, then the classes by number, then the others by their first lines
+-- the first of the faults of the groups: their number; then that of `*`, and those of the route types that are named, rising; then
+-- those of the others by their first lines
 abbrev pub groups_fault : (Group → List Outcome) → List Group → (ℕ → ℕ) → Option DelayFault
 groups_fault rows groups line_of =
-    or_else (too_many_classes (group_count rows groups))
-    (or_else (first_below (class_sum rows) 65536)
-    (or_else (first_below (group_sum_at rows groups line_of) (length groups)) (no_default_of (class_rows rows 0))))
+    or_else (too_many_classes (length groups))
+    (or_else (class_sum rows None)
+    (or_else (first_below (type_sum_at rows (named rows end_of_types)) (length (named rows end_of_types)))
+    (or_else (first_below (group_sum_at rows groups line_of) (length groups)) (no_default_of (class_rows rows None)))))
 
 -- the first lines of the groups of the first n rows
 unfoldable pub first_line : List (List (List ℕ)) → ℕ → ℕ → ℕ
 first_line t n k = slice_index (firsts t n) k + 2
 
+-- the groups of a table, in the order of their first lines
+unfoldable pub groups_of : List (List (List ℕ)) → List Group
+groups_of t = groups_at t (firsts t (row_count t))
+
 -- the first of all faults
 unfoldable pub first_fault : List (List (List ℕ)) → Option DelayFault
 first_fault t =
     or_else (missing_column t) (or_else (first_below (line_fault t) (row_count t))
-    (groups_fault (outcomes t (row_count t)) (groups_at t (firsts t (row_count t))) (first_line t (row_count t))))
+    (groups_fault (outcomes t (row_count t)) (groups_of t) (first_line t (row_count t))))
 
 -- the route types, the other groups, and the classes: that of `*`, and then those of the route types and of the other groups
 unfoldable pub delays_in : (Group → List Outcome) → List Group → DelayLists
 delays_in rows groups = record {
-  types = named rows 65535;
+  types = named rows end_of_types;
   others = others groups (length groups);
-  classes = class_rows rows 0 ∷ named_rows rows 65535 ++ map rows (others groups (length groups));
+  classes = class_rows rows None ∷ map (type_rows rows) (named rows end_of_types) ++ map rows (others groups (length groups));
 }
 
 -- the delays of a table
 unfoldable pub delays_of : List (List (List ℕ)) → DelayLists
-delays_of t = delays_in (outcomes t (row_count t)) (groups_at t (firsts t (row_count t)))
+delays_of t = delays_in (outcomes t (row_count t)) (groups_of t)

@@ -1,5 +1,5 @@
 -- Groups of the rows of a delay file: each is of one class, one route and one hour.
-use Rattle.std.specs.Prelude.{ℕ, ◌==◌, Bool, true, false, ◌&&◌, List, length, slice_index_or, Option, Some, None, is_none, if◌then◌else◌}
+use Rattle.std.specs.Prelude.{ℕ, zero, suc, ◌==◌, Bool, true, false, ◌&&◌, List, [], ◌∷◌, ◌++◌, length, slice_index_or, Option, Some, None, is_none, if◌then◌else◌}
 use Rattle.std.specs.Str.{bytes_eq}
 use Rattle.csv_rows.specs.First.{first_below}
 
@@ -30,9 +30,23 @@ of_class class = record { class = class; route = None; hour = None }
 abbrev pub is_plain : Group → Bool
 is_plain group = is_none group.route && is_none group.hour
 
+-- the route type, where it is of a route type alone
+abbrev pub plain_type : Group → Option ℕ
+plain_type group = if is_plain group then group.class else None
+
 abbrev pub group_in : List Group → ℕ → Group
 group_in groups k = slice_index_or groups k (of_class None)
 
 -- where a group stands among others
 unfoldable pub place_of : Group → List Group → Option ℕ
 place_of group groups = first_below (λ k. if same_group (group_in groups k) group then Some k else None) (length groups)
+
+-- one element, where there is one
+abbrev pub listed : Option ℕ → List ℕ
+listed None = []
+listed (Some n) = n ∷ []
+
+-- the route types of the groups of a route type alone among the first n, in the order of the groups
+unfoldable pub plain_types : List Group → ℕ → List ℕ
+plain_types groups zero = []
+plain_types groups (suc n) = plain_types groups n ++ listed (plain_type (group_in groups n))

@@ -1,9 +1,10 @@
 -- The rows of a delay file by their groups, as far as they are read.
-use Rattle.std.specs.Prelude.{◌≡◌, ℕ, ◌+◌, ◌<◌, false, List, [], ◌∷◌, ◌++◌, length, slice_index, slice_index_or, Option, Some, None}
+use Rattle.std.specs.Prelude.{◌≡◌, ℕ, ◌+◌, ◌<◌, false, List, [], ◌∷◌, ◌++◌, length, slice_index, slice_index_or, Option, Some, None, IfSome}
 use Rattle.plan_model.specs.declared.model.Outcome.{Outcome}
 use Rattle.delay_table.specs.declared.reading.GroupRows.{GroupRows}
 use Rattle.delay_table.specs.Delays.{Line, outcomes, firsts, groups_at}
 use Rattle.delay_table.specs.Groups.{Group, group_in, same_group, place_of}
+use Rattle.delay_table.specs.Bounds.{end_of_types}
 use Rattle.delay_table.specs.Slots.{IsStart}
 
 abbrev pub no_rows : GroupRows
@@ -55,3 +56,4 @@ pub record IsRead (groups : List Group) (rows : List GroupRows) : Type 0 where
   pub apart : AreApart groups
   pub some : (k : ℕ) → k < length groups → 0 < length (rows_of groups rows (group_in groups k))
   pub starts : (group : Group) → IsStart (rows_of groups rows group)
+  pub types : (k : ℕ) → k < length groups → IfSome (group_in groups k).class (λ route. route < end_of_types)

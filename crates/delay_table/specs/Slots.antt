@@ -2,6 +2,8 @@
 use Rattle.std.specs.Prelude.{◌≡◌, ℕ, ◌+◌, ◌<◌, ◌≤◌, List, [], length, slice_index_or, slice_get, Some, Contains, All, AllPairs, zero, suc}
 use Rattle.plan_model.specs.declared.model.Outcome.{Outcome}
 use Rattle.plan_model.specs.Rows.{IsValidRow}
+use Rattle.plan_model.specs.Bounds.{seconds_per_day}
+use Rattle.delay_table.specs.Bounds.{most_rows, most_groups}
 use Rattle.delay_table.specs.DelayLists.{DelayLists}
 
 abbrev pub slot : List (List Outcome) → ℕ → List Outcome
@@ -9,15 +11,15 @@ slot slots c = slice_index_or slots c []
 
 -- what holds of the outcomes of a group before its last row
 pub record IsStart (r : List Outcome) : Type 0 where
-  pub few : length r ≤ 64
+  pub few : length r ≤ most_rows
   pub rising : AllPairs (λ a b. a.delay < b.delay) r
-  pub delays : All (λ o. o.delay ≤ 86400) r
+  pub delays : All (λ o. o.delay ≤ seconds_per_day) r
   pub weights : All (λ o. 1 ≤ o.weight) r
 
 -- the route types rise, and each class has a valid row
 pub record AreDelays (f : DelayLists) : Type 0 where
   pub rising : (i j : ℕ) → i < j → j < length f.types → slice_index_or f.types i 0 < slice_index_or f.types j 0
-  pub few : length f.classes ≤ 65536
+  pub few : length f.classes ≤ most_groups
   pub each : length f.classes ≡ length f.types + 1 + length f.others
   pub rows : (k : ℕ) → k < length f.classes → IsValidRow (slice_index_or f.classes k [])
 

@@ -4,7 +4,7 @@ ghost use Rattle.std.specs.List.{list_any};
 ghost use Rattle.csv_rows.specs.Tables.{place_in};
 ghost use Rattle.plan_model.specs.NameLists.{Adds, IsTrimmed};
 ghost use Rattle.delay_table.specs.Numbered.{no_group, same_numbered, IsNumber, Keeps};
-ghost use Rattle.delay_table.specs.Groups.{group_in, is_plain, place_of};
+ghost use Rattle.delay_table.specs.Groups.{group_in, is_plain, place_of, plain_type};
 
 use csv_rows::Ids;
 use indexmap::IndexSet;
@@ -191,6 +191,17 @@ impl Groups {
     {
         let group = self.groups.as_slice()[place];
         group.route.is_none() && group.hour.is_none()
+    }
+
+    /// The route type of a group of a route type alone.
+    pub(crate) fn plain_type(&self, place: usize) -> Option<u16>
+        requires { place < length self.now }
+        ensures { result ≡ plain_type (group_in self.now place) }
+    {
+        if !self.is_plain(place) {
+            return None;
+        }
+        self.groups.as_slice()[place].class
     }
 
     /// Adds a group of another list, which is new here.

@@ -8,6 +8,7 @@ mod lines;
 mod reading;
 mod sums;
 mod table;
+mod types;
 
 pub use faults::{ClassName, DelayFault};
 pub use table::DelayTable;

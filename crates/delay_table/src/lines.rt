@@ -4,6 +4,8 @@ ghost use Rattle.csv_rows.specs.Spaces.{AreTrimmed};
 ghost use Rattle.csv_rows.specs.Tables.{row_count};
 ghost use Rattle.plan_model.specs.NameLists.{IsTrimmed};
 ghost use Rattle.clock_text.specs.Digits.{whole_of};
+ghost use Rattle.plan_model.specs.Bounds.{seconds_per_day};
+ghost use Rattle.delay_table.specs.Bounds.{whole_weight};
 ghost use Rattle.delay_table.specs.Delays.{class_in, hour_in, not_zero, route_in, class_name, lacks, line_of, line_at, missing_column};
 ghost use Rattle.delay_table.specs.Lines.{AreColumns};
 
@@ -11,6 +13,18 @@ use crate::faults::{ClassName, DelayFault};
 use clock_text::read_whole;
 use csv_rows::{Column, Rows, read_name};
 use plan_model::Outcome;
+
+/// The greatest route type.
+const LAST_TYPE: u32 = 65_534;
+
+/// The last hour of a day.
+const LAST_HOUR: u32 = 23;
+
+/// A weight is no more than the weights of its group together.
+const WHOLE_WEIGHT: u32 = 10_000;
+
+/// A delay is at most a day.
+const SECONDS_PER_DAY: u32 = 86_400;
 
 /// An outcome, and the class, the route and the hour of its group. The class is a route type, and none for `*`.
 #[derive(Clone, Copy)]
@@ -74,7 +88,7 @@ fn read_class(text: &[u8]) -> Option<Option<u16>>
     if text == b"*".as_slice() {
         return Some(None);
     }
-    match read_whole(text, 65_534) {
+    match read_whole(text, LAST_TYPE) {
         None => None,
         Some(route) => Some(Some(route as u16)),
     }
@@ -103,7 +117,7 @@ fn read_hour(text: &[u8]) -> Option<Option<u8>>
     if text.is_empty() {
         return Some(None);
     }
-    match read_whole(text, 23) {
+    match read_whole(text, LAST_HOUR) {
         None => None,
         Some(hour) => Some(Some(hour as u8)),
     }
@@ -111,9 +125,9 @@ fn read_hour(text: &[u8]) -> Option<Option<u8>>
 
 /// A weight, which is 1 or more.
 fn read_weight(text: &[u8]) -> Option<u16>
-    ensures { result ≡ not_zero (whole_of 10000 text.now) }
+    ensures { result ≡ not_zero (whole_of whole_weight text.now) }
 {
-    let weight = read_whole(text, 10_000)?;
+    let weight = read_whole(text, WHOLE_WEIGHT)?;
     if weight == 0 {
         return None;
     }
@@ -134,7 +148,7 @@ fn read_line<'a>(
     }) result ≡ line_of class.now delay.now weight.now route.now hour.now }
 {
     let class = read_class(class)?;
-    let delay = read_whole(delay, 86_400)?;
+    let delay = read_whole(delay, SECONDS_PER_DAY)?;
     let weight = read_weight(weight)?;
     let route = read_route(class, route)?;
     let hour = read_hour(hour)?;
@@ -155,7 +169,7 @@ pub(crate) fn line_at<'a>(rows: &'a Rows, row: usize, columns: &Columns) -> Opti
       group = record { class = l.class; route = option_map (λ s. s.now) l.route; hour = l.hour };
       outcome = l.outcome;
     }) result ≡ line_at rows.now row }
-    ensures form { IfSome result (λ l. (l.outcome.delay ≤ 86400) × (1 ≤ l.outcome.weight)) }
+    ensures form { IfSome result (λ l. (l.outcome.delay ≤ seconds_per_day) × (1 ≤ l.outcome.weight)) }
     ensures trimmed { IfSome result (λ l. IfSome l.route (λ s. IsTrimmed s.now)) }
 {
     let class = rows.field_at(row, columns.class);

@@ -1,8 +1,9 @@
 //! The delays by class.
-ghost use Rattle.std.specs.Prelude.{◌≡◌, ◌≢◌, ◌<◌, ◌≤◌, ◌++◌, [], length, map, slice_index_or, option_map, Some, None, All, Any, OnOk, IfOk, IfErr, IfSome};
+ghost use Rattle.std.specs.Prelude.{ℕ, ◌≡◌, ◌≢◌, ◌<◌, ◌≤◌, ◌++◌, [], length, map, slice_index_or, option_map, Some, None, All, Any, OnOk, IfOk, IfErr, IfSome};
 ghost use Rattle.delay_table.specs.DelayLists.{class_for, hour_of, other_class, route_class, type_class};
-ghost use Rattle.delay_table.specs.Delays.{class_type, delays_in, delays_of, first_fault, groups_fault, if_other, if_row, if_some, named, named_rows, others};
-ghost use Rattle.delay_table.specs.Groups.{group_in, place_of};
+ghost use Rattle.delay_table.specs.Bounds.{end_of_types, most_groups};
+ghost use Rattle.delay_table.specs.Delays.{class_type, delays_in, delays_of, first_fault, groups_fault, groups_of, if_other, named, others, type_rows};
+ghost use Rattle.delay_table.specs.Groups.{group_in, place_of, plain_types};
 ghost use Rattle.delay_table.specs.Read.{IsRead, line_at, rows_of};
 ghost use Rattle.delay_table.specs.Slots.{IsClassOf, AreDelays};
 
@@ -11,6 +12,7 @@ use crate::groups::Groups;
 use crate::lines::{columns_of, missing_column};
 use crate::reading::{ReadRows, read_rows};
 use crate::sums::groups_fault;
+use crate::types::named_types;
 use csv_rows::Rows;
 use plan_model::{ClassId, List, Moment, NoMemory, Outcome};
 use std::alloc::Global;
@@ -44,40 +46,20 @@ fn copied(alloc: Global, row: &[Outcome]) -> Result<List<Outcome>, NoMemory>
     Ok(List::from_vec(Vec::from_slice(alloc, row)?))
 }
 
-/// Adds a route type and its outcomes, where it has some.
-fn add_type(
-    alloc: Global,
-    row: &[Outcome],
-    route: u16,
-    types: &mut List<u16>,
-    classes: &mut List<List<Outcome>>,
-) -> Result<(), NoMemory>
-    ensures types { OnOk result (types.new ≡ types.old ++ if_some row.now route) }
-    ensures classes { OnOk result (classes.new ≡ classes.old ++ if_row row.now) }
-{
-    if !row.is_empty() {
-        types.push(route)?;
-        let copy = copied(alloc, row)?;
-        classes.push(copy)?;
-    }
-    Ok(())
-}
-
-/// Adds the route types that are named, and their outcomes.
+/// Adds the outcomes of these route types.
 fn add_types(
     alloc: Global,
     read: &ReadRows,
-    types: &mut List<u16>,
+    types: &[u16],
     classes: &mut List<List<Outcome>>,
 ) -> Result<(), NoMemory>
     requires { IsRead read.now.groups read.now.rows.items }
-    ensures types { OnOk result (types.new
-        ≡ types.old ++ named (rows_of read.now.groups read.now.rows.items) 65535) }
-    ensures classes { OnOk result (classes.new
-        ≡ classes.old ++ named_rows (rows_of read.now.groups read.now.rows.items) 65535) }
+    ensures { OnOk result (classes.new
+        ≡ classes.old ++ map (type_rows (rows_of read.now.groups read.now.rows.items)) types.now) }
 {
-    for route in 0..65_535u16 {
-        add_type(alloc, read.class_rows(Some(route)), route, types, classes)?;
+    for route_type in types {
+        let copy = copied(alloc, read.class_rows(Some(*route_type)))?;
+        classes.push(copy)?;
     }
     Ok(())
 }
@@ -128,26 +110,56 @@ fn add_others(
     Ok(())
 }
 
-/// The table of these outcomes.
-fn delays_in(alloc: Global, read: &ReadRows) -> Result<DelayTable, NoMemory>
+/// The table of these outcomes, where these are the route types that are named.
+fn delays_in(alloc: Global, read: &ReadRows, types: Vec<u16>) -> Result<DelayTable, NoMemory>
     requires read { IsRead read.now.groups read.now.rows.items }
+    requires types { types.items ≡ named (rows_of read.now.groups read.now.rows.items) end_of_types }
+    requires size { length types.items
+        ≡ length (plain_types read.now.groups (length read.now.groups)) }
     requires sound { groups_fault (rows_of read.now.groups read.now.rows.items)
         read.now.groups (line_at read.now.rows.items) ≡ None }
-    ensures { IfOk result (λ table.
+    ensures table { IfOk result (λ table.
         table ≡ delays_in (rows_of read.now.groups read.now.rows.items) read.now.groups) }
+    ensures size { OnOk result (length (delays_in (rows_of read.now.groups read.now.rows.items)
+        read.now.groups).classes ≡ length read.now.groups) }
 {
-    let mut types: List<u16> = List::new(alloc);
     let mut others = Groups::new(alloc);
     let mut classes: List<List<Outcome>> = List::new(alloc);
     let default = copied(alloc, read.class_rows(None))?;
     classes.push(default)?;
-    add_types(alloc, read, &mut types, &mut classes)?;
+    add_types(alloc, read, types.as_slice(), &mut classes)?;
     add_others(alloc, read, &mut others, &mut classes)?;
     Ok(DelayTable {
-        types,
+        types: List::from_vec(types),
         others,
         classes,
     })
+}
+
+/// The table of these outcomes, or the first fault of their groups.
+fn table_of(alloc: Global, read: &ReadRows) -> Result<DelayTable, DelayFault>
+    requires { IsRead read.now.groups read.now.rows.items }
+    ensures table { IfOk result (λ table.
+        table ≡ delays_in (rows_of read.now.groups read.now.rows.items) read.now.groups) }
+    ensures sound { IfOk result (λ table. AreDelays table) }
+    ensures none { OnOk result (groups_fault (rows_of read.now.groups read.now.rows.items)
+        read.now.groups (line_at read.now.rows.items) ≡ None) }
+    ensures size { OnOk result (length (delays_in (rows_of read.now.groups read.now.rows.items)
+        read.now.groups).classes ≡ length read.now.groups) }
+    ensures fault { IfErr result (λ f. f ≢ DelayFault.NoMemory
+        → groups_fault (rows_of read.now.groups read.now.rows.items)
+        read.now.groups (line_at read.now.rows.items) ≡ Some f) }
+    ensures count { IfErr result (λ f. (n : ℕ) → f ≡ DelayFault.TooManyClasses n
+        → (n ≡ length read.now.groups) × (most_groups < n)) }
+{
+    let types = named_types(alloc, read)?;
+    if let Some(fault) = groups_fault(read, types.as_slice()) {
+        return Err(fault);
+    }
+    match delays_in(alloc, read, types) {
+        Ok(table) => Ok(table),
+        Err(_) => Err(DelayFault::NoMemory),
+    }
 }
 
 /// The route type of a class, and none for `*`.
@@ -160,11 +172,15 @@ fn class_type(class: ClassName) -> Option<u16>
     }
 }
 
+const SECONDS_PER_HOUR: u64 = 3_600;
+
+const HOURS_PER_DAY: u64 = 24;
+
 /// The hour of the day of a moment.
 fn hour_of(moment: Moment) -> u8
     ensures { result ≡ hour_of moment.0 }
 {
-    (moment.0 / 3_600 % 24) as u8
+    (moment.0 / SECONDS_PER_HOUR % HOURS_PER_DAY) as u8
 }
 
 impl DelayTable {
@@ -175,19 +191,17 @@ impl DelayTable {
         ensures sound { IfOk result (λ table. AreDelays table) }
         ensures none { OnOk result (first_fault rows.now ≡ None) }
         ensures fault { IfErr result (λ f. f ≢ DelayFault.NoMemory → first_fault rows.now ≡ Some f) }
+        ensures count { IfErr result (λ f. (n : ℕ) → f ≡ DelayFault.TooManyClasses n
+            → (n ≡ length (groups_of rows.now)) × (most_groups < n)) }
+        ensures classes { OnOk result (length (delays_of rows.now).classes
+            ≡ length (groups_of rows.now)) }
     {
         if let Some(fault) = missing_column(rows) {
             return Err(fault);
         }
         match read_rows(alloc, rows, &columns_of(rows)) {
             Err(fault) => Err(fault),
-            Ok(read) => match groups_fault(&read) {
-                Some(fault) => Err(fault),
-                None => match delays_in(alloc, &read) {
-                    Ok(table) => Ok(table),
-                    Err(_) => Err(DelayFault::NoMemory),
-                },
-            },
+            Ok(read) => table_of(alloc, &read),
         }
     }
 

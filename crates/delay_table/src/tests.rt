@@ -73,6 +73,51 @@ fn finds_groups_by_route_and_hour(rt: HostRuntime) -> Result<(), Fail> {
 }
 
 #[test]
+fn takes_either_column_alone(rt: HostRuntime) -> Result<(), Fail> {
+    let Ok(by_route) = read(
+        rt.alloc(),
+        b"class,delay,weight,route_id\n*,1,10000,\n*,5,10000,T1\n",
+    ) else {
+        return Err("no table".into());
+    };
+    let bus = ClassName::Route(3);
+    assert_eq!(rt; delays_at(&by_route, bus, Some("T1"), 0), 5);
+    assert_eq!(rt; delays_at(&by_route, bus, Some("T2"), 0), 1);
+    assert_eq!(rt; delays_at(&by_route, bus, None, 0), 1);
+    let Ok(by_hour) = read(
+        rt.alloc(),
+        b"class,delay,weight,hour\n*,1,10000,\n*,2,10000,1\n",
+    ) else {
+        return Err("no table".into());
+    };
+    let past_midnight = 25 * 3_600 + 600;
+    assert_eq!(rt; delays_at(&by_hour, bus, Some("T1"), past_midnight), 2);
+    assert_eq!(rt; delays_at(&by_hour, bus, None, past_midnight + 3_600), 1);
+    Ok(())
+}
+
+/// A file of one row of `*`, and this many of a route.
+fn with_route_rows(alloc: Global, count: u32) -> Result<Vec<u8>, Fail> {
+    let mut text = Vec::from_slice(alloc, b"class,delay,weight,route_id\n*,0,10000,\n")?;
+    for delay in 0..count {
+        let line = format!(in alloc; "*,{delay},1,T1\n")?;
+        text.extend_from_slice(line.as_bytes())?;
+    }
+    Ok(text)
+}
+
+#[test]
+fn sixty_five_rows_of_a_route(rt: HostRuntime) -> Result<(), Fail> {
+    let most = with_route_rows(rt.alloc(), 64)?;
+    let fault = read(rt.alloc(), most.as_slice()).err();
+    assert_eq!(rt; fault, Some(DelayFault::GroupSum(3, 64)));
+    let more = with_route_rows(rt.alloc(), 65)?;
+    let fault = read(rt.alloc(), more.as_slice()).err();
+    assert_eq!(rt; fault, Some(DelayFault::GroupRows(67)));
+    Ok(())
+}
+
+#[test]
 fn first_fault(rt: HostRuntime) {
     for (text, fault) in [
         (
@@ -124,6 +169,14 @@ fn first_fault(rt: HostRuntime) {
         (
             "class,delay,weight,hour\n*,0,1,9\n3,0,1,\n",
             DelayFault::WeightSum(ClassName::Route(3), 1),
+        ),
+        (
+            "class,delay,weight,hour\n*,0,10000,\n*,0,2,9\n*,0,1,8\n",
+            DelayFault::GroupSum(3, 2),
+        ),
+        (
+            "class,delay,weight,hour\n*,0,1,9\n",
+            DelayFault::GroupSum(2, 1),
         ),
     ] {
         assert_eq!(rt;

@@ -60,6 +60,18 @@ fn is_late_a_second_before_that_hour(rt: HostRuntime) -> Result<(), Fail> {
 }
 
 #[test]
+fn is_of_no_route_in_a_cut_file(rt: HostRuntime) -> Result<(), Fail> {
+    let by_route =
+        "class,delay,weight,route_id\n*,0,8000,\n*,300,1500,\n*,900,500,\n*,0,10000,r1\n";
+    let safe = ride(rt.alloc(), "safe", by_route, "09:00:00")?;
+    assert_eq!(rt;
+        safe.out.as_str(),
+        "safe,A,T,2024-06-03T08:00:00,2024-06-03T09:15:00,2024-06-03T10:30:00\n"
+    );
+    Ok(())
+}
+
+#[test]
 fn tells_the_line_of_a_group(rt: HostRuntime) -> Result<(), Fail> {
     let by_hour = "class,delay,weight,hour\n*,0,8000,\n*,300,1500,\n*,900,500,\n*,0,9000,9\n";
     let by_route =

@@ -44,6 +44,16 @@ fn from_mill(
     command: &str,
     to: &str,
 ) -> Result<Told, Fail> {
+    from_mill_at(alloc, files, command, to, "2024-06-03T08:00:00")
+}
+
+fn from_mill_at(
+    alloc: Global,
+    files: &mut MemoryFiles,
+    command: &str,
+    to: &str,
+    at: &str,
+) -> Result<Told, Fail> {
     let words = [
         command,
         "--feed",
@@ -55,7 +65,7 @@ fn from_mill(
         "--to",
         to,
         "--at",
-        "2024-06-03T08:00:00",
+        at,
     ];
     told_over(alloc, files, words.as_slice())
 }
@@ -87,6 +97,58 @@ fn plans_with_the_delays_of_a_route(rt: HostRuntime) -> Result<(), Fail> {
     );
     let plan = from_mill(rt.alloc(), &mut files, "plan", "AIR")?;
     assert_eq!(rt; plan.out.as_str(), SURE_TRAM_PLAN);
+    Ok(())
+}
+
+#[test]
+fn plans_as_before_with_groups_that_no_trip_has(rt: HostRuntime) -> Result<(), Fail> {
+    for delays in [
+        "class,delay,weight,route_id,hour\n*,0,8000,,\n*,300,1500,,\n*,900,500,,\n",
+        "class,delay,weight,route_id\n*,0,8000,\n*,300,1500,\n*,900,500,\n*,0,10000,T9\n",
+        "class,delay,weight,hour\n*,0,8000,\n*,300,1500,\n*,900,500,\n*,0,10000,10\n",
+    ] {
+        let mut files = files_of(rt.alloc(), OLD_TOWN)?;
+        files.add("d", delays.as_bytes())?;
+        let told = from_mill(rt.alloc(), &mut files, "plan", "AIR")?;
+        assert_eq!(rt; told.out.as_str(), OLD_TOWN_PLAN, "{delays}");
+    }
+    Ok(())
+}
+
+/// A bus after midnight, of the day before.
+const NIGHT_BUS: Tables<'static> = Tables {
+    stops: "stop_id\nMIL\nAIR\n",
+    routes: "route_id,route_type\nN,3\n",
+    trips: "route_id,service_id,trip_id\nN,WK,n1\n",
+    stop_times: "trip_id,stop_sequence,stop_id,arrival_time,departure_time\nn1,1,MIL,24:50:00,24:50:00\nn1,2,AIR,25:10:00,25:10:00\n",
+};
+
+#[test]
+fn is_sure_in_the_first_hour_of_the_next_day(rt: HostRuntime) -> Result<(), Fail> {
+    for (hour, safe) in [
+        (
+            "1",
+            "safe,MIL,AIR,2024-06-04T00:40:00,2024-06-04T01:10:00,2024-06-04T01:40:00\n",
+        ),
+        (
+            "0",
+            "safe,MIL,AIR,2024-06-04T00:40:00,2024-06-04T01:25:00,2024-06-04T02:10:00\n",
+        ),
+    ] {
+        let mut files = files_of(rt.alloc(), NIGHT_BUS)?;
+        let delays = format!(in rt.alloc();
+            "class,delay,weight,hour\n*,0,8000,\n*,300,1500,\n*,900,500,\n*,0,10000,{hour}\n"
+        )?;
+        files.add("d", delays.as_bytes())?;
+        let told = from_mill_at(
+            rt.alloc(),
+            &mut files,
+            "safe",
+            "AIR",
+            "2024-06-04T00:40:00",
+        )?;
+        assert_eq!(rt; told.out.as_str(), safe);
+    }
     Ok(())
 }
 

@@ -2,7 +2,7 @@ use Rattle.std.proofs.Common.{◌≡◌, ◌++◌, ◌∙◌, ap, sym, subst, ap
 use Rattle.delay_table.specs.Groups.{Group, group_in, place_of}
 use Rattle.delay_table.specs.Delays.{if_other}
 use Rattle.delay_table.specs.Read.{rows_of}
-use Rattle.delay_table.proofs.Named.{others-zero, others-next, others-new, other-rows-next}
+use Rattle.delay_table.proofs.Others.{others-zero, others-next, others-new, other-rows-next}
 use Rattle.delay_table.proofs.table.add_others.Goals as goal
 
 pub loop-place-init : goal.loop-place-init

@@ -1,9 +1,10 @@
-use Rattle.std.proofs.Common.{◌++◌, ◌∷◌, ◌∙◌, [], ap, ap₂, sym, subst, length, map, List}
+use Rattle.std.proofs.Common.{◌≡◌, ◌++◌, ◌∷◌, ◌∙◌, [], ap, ap₂, sym, subst, length, map, List, ℕ}
 use Rattle.plan_model.specs.declared.model.Outcome.{Outcome}
-use Rattle.delay_table.specs.Delays.{named, named_rows, others}
+use Rattle.delay_table.specs.Groups.{plain_types}
+use Rattle.delay_table.specs.Delays.{others, type_rows}
 use Rattle.delay_table.specs.Read.{rows_of}
 use Rattle.delay_table.specs.Slots.{AreDelays}
-use Rattle.delay_table.proofs.Sound.{made-is, delays_valid}
+use Rattle.delay_table.proofs.Sound.{made-is, delays_valid, classes-are}
 use Rattle.delay_table.proofs.table.delays_in.Goals as goal
 
 pub invariant_of-result : goal.invariant_of-result
@@ -12,19 +13,30 @@ invariant_of-result c =
     let rs = rows_of g c.args.read.now.rows.items in
     let push : List (List Outcome) → List Outcome → List (List Outcome) = λ a d. a ++ d ∷ [] in
     let first = c.in_ok-push.ensures.ok ∙ ap₂ push c.new-classes.ensures (c.in_ok-default.ensures ∙ c.class_rows.ensures) in
-    let made = made-is rs g c.add_types.new.types c.add_others.new.groups c.add_others.new.classes
-    (c.in_ok-add_types.ensures.types ∙ ap (λ xs. xs ++ named rs 65535) c.new-types.ensures)
+    let more : List ℕ → List (List Outcome) = λ ts. map (type_rows rs) ts in
+    let made = made-is rs g c.from_vec.result c.add_others.new.groups c.add_others.new.classes
+    (c.from_vec.ensures ∙ c.requires.types)
     c.in_ok-add_others.ensures.groups
-    (c.in_ok-add_others.ensures.classes ∙ ap (λ xs. xs ++ map rs (others g (length g))) (c.in_ok-add_types.ensures.classes ∙ ap (λ xs. xs ++ named_rows rs 65535) first)) in
-    subst AreDelays (sym made) (delays_valid g c.args.read.now.rows.items c.requires.read c.requires.sound)
+    (c.in_ok-add_others.ensures.classes ∙ ap (λ xs. xs ++ map rs (others g (length g)))
+    (c.in_ok-add_types.ensures ∙ ap₂ (λ xs ys. xs ++ ys) first (ap more (c.as_slice.ensures.value ∙ c.requires.types)))) in
+    let P : ℕ → Type 0 = λ n. n ≡ length (plain_types g (length g)) in
+    subst AreDelays (sym made) (delays_valid g c.args.read.now.rows.items c.requires.read c.requires.sound (subst P (ap length c.requires.types) c.requires.size))
 
-pub returns : goal.returns
-returns c =
+pub returns-clause-table : goal.returns-clause-table
+returns-clause-table c =
     let g = c.args.read.now.groups in
     let rs = rows_of g c.args.read.now.rows.items in
     let push : List (List Outcome) → List Outcome → List (List Outcome) = λ a d. a ++ d ∷ [] in
     let first = c.in_ok-push.ensures.ok ∙ ap₂ push c.new-classes.ensures (c.in_ok-default.ensures ∙ c.class_rows.ensures) in
-    made-is rs g c.add_types.new.types c.add_others.new.groups c.add_others.new.classes
-    (c.in_ok-add_types.ensures.types ∙ ap (λ xs. xs ++ named rs 65535) c.new-types.ensures)
+    let more : List ℕ → List (List Outcome) = λ ts. map (type_rows rs) ts in
+    made-is rs g c.from_vec.result c.add_others.new.groups c.add_others.new.classes
+    (c.from_vec.ensures ∙ c.requires.types)
     c.in_ok-add_others.ensures.groups
-    (c.in_ok-add_others.ensures.classes ∙ ap (λ xs. xs ++ map rs (others g (length g))) (c.in_ok-add_types.ensures.classes ∙ ap (λ xs. xs ++ named_rows rs 65535) first))
+    (c.in_ok-add_others.ensures.classes ∙ ap (λ xs. xs ++ map rs (others g (length g)))
+    (c.in_ok-add_types.ensures ∙ ap₂ (λ xs ys. xs ++ ys) first (ap more (c.as_slice.ensures.value ∙ c.requires.types))))
+
+pub returns-clause-size : goal.returns-clause-size
+returns-clause-size c =
+    let g = c.args.read.now.groups in
+    let P : ℕ → Type 0 = λ n. n ≡ length (plain_types g (length g)) in
+    classes-are g c.args.read.now.rows.items c.requires.read c.requires.sound (subst P (ap length c.requires.types) c.requires.size)

@@ -1,0 +1,47 @@
+//! The route types that a delay file names.
+ghost use Rattle.std.specs.Prelude.{◌≡◌, ◌<◌, ◌++◌, length, OnOk, IfOk};
+ghost use Rattle.delay_table.specs.Bounds.{end_of_types};
+ghost use Rattle.delay_table.specs.Delays.{named};
+ghost use Rattle.delay_table.specs.Groups.{group_in, listed, plain_type, plain_types};
+ghost use Rattle.delay_table.specs.Read.{IsRead, rows_of};
+
+use crate::groups::Groups;
+use crate::reading::ReadRows;
+use plan_model::NoMemory;
+use std::alloc::Global;
+
+/// Adds the route type of a group, where it is of a route type alone.
+fn add_type(types: &mut Vec<u16>, groups: &Groups, place: usize) -> Result<(), NoMemory>
+    requires { place < length groups.now }
+    ensures { OnOk result (types.new.items
+        ≡ types.old.items ++ listed (plain_type (group_in groups.now place))) }
+{
+    if let Some(route_type) = groups.plain_type(place) {
+        types.push(route_type)?;
+    }
+    Ok(())
+}
+
+/// The route types of the groups of a route type alone, in the order of the groups.
+fn plain_types(alloc: Global, groups: &Groups) -> Result<Vec<u16>, NoMemory>
+    ensures { IfOk result (λ types. types.items ≡ plain_types groups.now (length groups.now)) }
+{
+    let mut types: Vec<u16> = Vec::new(alloc);
+    for place in 0..groups.len() {
+        add_type(&mut types, groups, place)?;
+    }
+    Ok(types)
+}
+
+/// The route types that are named, rising.
+pub(crate) fn named_types(alloc: Global, read: &ReadRows) -> Result<Vec<u16>, NoMemory>
+    requires { IsRead read.now.groups read.now.rows.items }
+    ensures named { IfOk result (λ types. types.items
+        ≡ named (rows_of read.now.groups read.now.rows.items) end_of_types) }
+    ensures size { IfOk result (λ types. length types.items
+        ≡ length (plain_types read.now.groups (length read.now.groups))) }
+{
+    let mut sorted = plain_types(alloc, &read.groups)?;
+    sorted.sort_unstable();
+    Ok(sorted)
+}
