@@ -1,5 +1,6 @@
 -- What rows tell, one more at a time.
-use Rattle.std.proofs.Common.{◌≡◌, ℕ, ◌+◌, ◌≤◌, ◌&&◌, Bool, true, false, cond, [], ◌∷◌, ◌++◌, length, count_by, Option, Some, None, IfSome, is_none, nat_eq, ◌==◌, if◌then◌else◌, refl, sym, ap, ◌∙◌, subst, arith}
+use Rattle.std.proofs.Common.{◌≡◌, ℕ, ◌+◌, ◌≤◌, ◌&&◌, Bool, true, false, cond, [], ◌∷◌, ◌++◌, length, count_by, Option, Some, None}
+use Rattle.std.proofs.Common.{IfSome, is_none, nat_eq, ◌==◌, if◌then◌else◌, refl, sym, ap, ◌∙◌, subst, arith}
 use Rattle.std.specs.Prelude.{Result}
 use Rattle.std.specs.Map.{lookup}
 use Rattle.std.proofs.lemmas.List.Sums.{sum_by-append}
@@ -68,7 +69,8 @@ pub no_rows : (feed : FeedParts) (c : ChangeParts) → c.told ≡ [] → c.links
 no_rows feed c told links passed =
     record {
       links = λ place inside. ap (λ ls. ways_at ls place) links
-          ∙ sym (ways-none (λ from. greatest_below (λ i. link_between from place (told_by feed [] i)) 0) (length feed.stop_ids) (λ from. greatest-zero (λ i. link_between from place (told_by feed [] i))));
+          ∙ sym (ways-none (λ from. greatest_below (λ i. link_between from place (told_by feed [] i)) 0) (length feed.stop_ids)
+          (λ from. greatest-zero (λ i. link_between from place (told_by feed [] i))));
       few = omega (arith, ap length links);
       seconds = λ place. ap (λ es. change_seconds (lookup (nat_eq place) es)) told ∙ ap change_seconds (sym (greatest-zero (λ i. seconds_between place place (told_by feed [] i))));
       passed = passed ∙ sym (ap (count_by is_none) (list_below-zero (told_by feed [])));

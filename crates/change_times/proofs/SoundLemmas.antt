@@ -29,7 +29,8 @@ no_links places r ws e = subst (AreLinksInto places r) (sym e) (record {
   takes = All-nil Takes;
 })
 
-add : (places r n : ℕ) (ws : List Way) (o : Option ℕ) → n < places → (n ≡ r → o ≡ None) → IsShort o → All (λ (way : Way). way.from.0 < n) ws → AreLinksInto places r ws → AreLinksInto places r (ws ++ way_from n o)
+add : (places r n : ℕ) (ws : List Way) (o : Option ℕ) → n < places → (n ≡ r → o ≡ None) → IsShort o → All (λ (way : Way). way.from.0 < n) ws
+    → AreLinksInto places r ws → AreLinksInto places r (ws ++ way_from n o)
 add places r n ws None less own short before are = subst (AreLinksInto places r) (sym (append-nil ws)) are
 add places r n ws (Some s) less own short before are =
     let w : Way = record { from = record { 0 = n }; seconds = max 1 s } in

@@ -10,4 +10,5 @@ returns-in-Absent-clause-changes c =
 
 pub returns-in-NoRecord-clause-changes : goal.returns-in-NoRecord-clause-changes
 returns-in-NoRecord-clause-changes c =
-    let P : Loaded → Type 0 = λ l. AreChanges c.args.feed.now c.no_changes-in-NoRecord.result (loaded_rows l) in subst P (sym c.in-NoRecord.is) (c.no_changes-in-NoRecord.ensures.changes c.args.feed.now)
+    let P : Loaded → Type 0 = λ l. AreChanges c.args.feed.now c.no_changes-in-NoRecord.result (loaded_rows l) in
+    subst P (sym c.in-NoRecord.is) (c.no_changes-in-NoRecord.ensures.changes c.args.feed.now)

@@ -9,4 +9,5 @@ pub returns-clause-changes : goal.returns-clause-changes
 returns-clause-changes c = λ feed. no_rows feed (record { told = c.new.result.entries; links = c.new-2.result.items; passed = 0 }) c.new.ensures.empty c.new-2.ensures.items refl
 
 pub returns-clause-links : goal.returns-clause-links
-returns-clause-links c = λ places place. subst (λ (ls : List (List Way)). All (λ way. way.from.0 < places) (ways_at ls place)) (sym c.new-2.ensures.items) (All-nil (λ (way : Way). way.from.0 < places))
+returns-clause-links c = λ places place.
+    subst (λ (ls : List (List Way)). All (λ way. way.from.0 < places) (ways_at ls place)) (sym c.new-2.ensures.items) (All-nil (λ (way : Way). way.from.0 < places))

@@ -46,7 +46,8 @@ loop-i-preserved c =
         brief = λ from to.
             short_next (greatest_link feed t i from to) (greatest_link feed t (i + 1) from to) (link_between from to c.in-Ok.transfer) (old.brief from to)
             (short_link from to c.in-Ok.transfer c.in-Ok.ensures.short)
-            (sym (greatest-next (λ k. link_between from to (told_by feed t k)) i (greatest_link feed t i from to) _ (link_between from to c.in-Ok.transfer) refl refl (ap (link_between from to) told)));
+            (sym (greatest-next (λ k. link_between from to (told_by feed t k)) i (greatest_link feed t i from to) _
+            (link_between from to c.in-Ok.transfer) refl refl (ap (link_between from to) told)));
         passed = count-next is_none (told_by feed t) i old_told.passed new_told.passed c.in-Ok.transfer old.passed step.passed told;
         few = omega (arith, old.few, step.passed, one_at_most (is_none c.in-Ok.transfer));
       };
