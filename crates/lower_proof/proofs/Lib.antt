@@ -16,3 +16,5 @@ pub mod Written
 pub mod ReadRows
 pub mod ReadBack
 pub mod Printed
+pub mod Range
+pub mod Deadlines

@@ -13,7 +13,7 @@ use clock_text::{write_moment, write_nanos};
 use csv::Writer;
 use itoa::Buffer;
 use plan_model::{ConnectionId, Names, Network, NoMemory, Query};
-use printed_rows::{new_writer, put_row, text_of};
+use printed_rows::{new_writer, put_row, text_of, writer_behind};
 use std::alloc::Global;
 
 /// How many of these there are.
@@ -54,6 +54,25 @@ fn put_bounds(
             number.format(number_of(values)).as_bytes(),
         ],
     )
+}
+
+/// The text of the first row.
+fn bounds_text(
+    alloc: Global,
+    names: &Names,
+    query: &Query,
+    values: &[Option<u64>],
+) -> Result<Vec<u8>, NoMemory>
+    requires source { query.now.source.0 < length names.now.places }
+    requires target { query.now.target.0 < length names.now.places }
+    requires start { query.now.start.0 ≤ 253402300799 }
+    requires deadline { query.now.deadline.0 ≤ 253402300799 }
+    ensures { IfOk result (λ text.
+        text.items ≡ row_of_fields (bounds_record names.now query.now values.now)) }
+{
+    let mut writer = new_writer(alloc);
+    put_bounds(&mut writer, names, query, values)?;
+    text_of(writer)
 }
 
 /// Writes the row of a connection with its value.
@@ -150,8 +169,9 @@ pub fn write_text(
     let _count = network.count();
     let _places = names.places();
     let values = proof.values.as_slice();
-    let mut writer = new_writer(alloc);
-    put_bounds(&mut writer, names, query, values)?;
+    let first = bounds_text(alloc, names, query, values)?;
+    // The rows of values have another number of fields.
+    let mut writer = writer_behind(first);
     put_values(&mut writer, network, names, values)?;
     text_of(writer)
 }

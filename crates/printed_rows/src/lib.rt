@@ -78,6 +78,14 @@ pub fn new_writer(alloc: Global) -> Writer<Vec<u8>>
     WriterBuilder::new().from_writer(Vec::new(alloc))
 }
 
+/// A writer of rows that goes on behind a text. All rows that one writer writes have as many fields as its first.
+pub fn writer_behind(text: Vec<u8>) -> Writer<Vec<u8>>
+    ensures between { IsBetweenRows result }
+    ensures text { written result ≡ text.items }
+{
+    WriterBuilder::new().from_writer(text)
+}
+
 /// Writes a row of fields, quoted where they need it.
 #[tactic(auto, unfolding(crate::specs::Writers::row_of_fields))]
 pub fn put_row(writer: &mut Writer<Vec<u8>>, fields: &[&[u8]]) -> Result<(), NoMemory>

@@ -1,4 +1,4 @@
-use Rattle.std.proofs.Common.{◌≡◌, ◌≤◌, ℕ, List, Option, Vec, length, arith, subst}
+use Rattle.std.proofs.Common.{◌≡◌, ◌≤◌, ℕ, List, [], Option, Vec, length, refl, ◌∙◌, arith, subst}
 use Rattle.std.specs.Prelude.{IfOk, is_some}
 use Rattle.std.specs.List.{count_by}
 use Rattle.std.specs.Global.{Global}
@@ -15,8 +15,8 @@ pub returns-clause-text : goal.returns-clause-text
 returns-clause-text c =
     subst (λ (all : List ℕ). IfOk c.text_of.result (λ text. text.items ≡ all))
     (text_is c.args.network.now c.args.names.now c.args.query.now c.args.proof.now.values c.as_slice-values.result.now
-    (written c.new_writer-writer.result) (written c.put_bounds.new.writer) (written c.put_values.new.writer)
-    c.as_slice-values.ensures c.new_writer-writer.ensures.text c.in_ok-put_bounds.ensures.text c.in_ok-put_values.ensures.text)
+    [] (written c.writer_behind-writer.result) (written c.put_values.new.writer)
+    c.as_slice-values.ensures refl (c.writer_behind-writer.ensures.text ∙ c.in_ok-first.ensures) c.in_ok-put_values.ensures.text)
     c.text_of.ensures
 
 pub returns-clause-reads_back : goal.returns-clause-reads_back

@@ -1,0 +1,29 @@
+-- Moments that a text tells are before the year 10000.
+use Rattle.std.proofs.Common.{◌≡◌, ℕ, ◌+◌, ◌*◌, ◌<◌, ◌≤◌, List, arith, subst, ℤ, pos, negsuc, ◌≤ℤ◌}
+use Rattle.std.specs.Prelude.{Some, unsigned_abs}
+use Rattle.jiff_core.specs.Calendar.{days_from_civil, day_count}
+use Rattle.jiff_core.proofs.SignedLemmas.{signed_arith}
+use Rattle.jiff_core.proofs.CalendarLemmas.{days_from_civil-day_count, day_count_bounds}
+use Rattle.clock_text.specs.Times.{Parts, parts_at, seconds_of, moment_of, moment_at}
+use Rattle.clock_text.proofs.DateFacts.{after_epoch}
+use Rattle.clock_text.proofs.OneText.{Holds, parts_hold, if_cases}
+
+day_small : (z : ℤ) → pos 0 ≤ℤ z → z ≤ℤ pos 2_932_896 → unsigned_abs z ≤ 2_932_896
+day_small (pos k) low high = omega (arith, signed_arith, high)
+day_small (negsuc k) low high = absurd (omega (arith, signed_arith, low))
+
+day_before : (p : Parts) → Holds p → unsigned_abs (days_from_civil (pos p.year) p.month p.day) ≤ 2_932_896
+day_before p h =
+    let count = day_count_bounds (pos p.year) p.month p.day ((omega (arith, signed_arith), omega (arith, signed_arith, h.year)), (h.month_low, h.month_high), (h.day_low, h.day_high)) in
+    day_small (days_from_civil (pos p.year) p.month p.day) (after_epoch p.year p.month p.day h.from h.day_low)
+    (omega (arith, signed_arith, days_from_civil-day_count (pos p.year) p.month p.day, count.1))
+
+seconds_small : (d h m s : ℕ) → d ≤ 2_932_896 → h < 24 → m < 60 → s < 60 → 86400 * d + (3600 * h + (60 * m + s)) ≤ 253_402_300_799
+seconds_small d h m s a b c e = omega arith
+
+pub moment_range : (t : List ℕ) (m : ℕ) → moment_at t ≡ Some m → m ≤ 253_402_300_799
+moment_range t m is =
+    let p = parts_hold (parts_at t) m (if_cases _ _ m is).1 in
+    let few : seconds_of (parts_at t) ≤ 253_402_300_799
+    = seconds_small _ _ _ _ (day_before (parts_at t) p.0) p.0.hour p.0.minute p.0.second in
+    subst (λ (k : ℕ). k ≤ 253_402_300_799) p.1 few
