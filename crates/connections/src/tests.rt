@@ -1,5 +1,6 @@
 //! Windows of small feeds, and the scan order of one of them.
-ghost use Rattle.std.specs.Prelude.{◌≤◌};
+ghost use Rattle.std.specs.Prelude.{◌≤◌, length, IfSome};
+ghost use Rattle.change_times.specs.Changes.{LinksComeFrom};
 
 use crate::*;
 use change_times::Changes;
@@ -75,15 +76,6 @@ const LEVEL: Tables<'_> = Tables {
     transfers: "",
 };
 
-/// What a feed tells.
-#[derive(Drop)]
-struct Told {
-    feed: Feed,
-    services: Services,
-    changes: Changes,
-    delays: DelayTable,
-}
-
 fn files_of(alloc: Global, tables: &Tables<'_>) -> Result<SteadyFiles, NoMemory> {
     let mut files = SteadyFiles::new(alloc, 64);
     files.add("feed/stops.txt", tables.stops.as_bytes())?;
@@ -104,7 +96,9 @@ fn services_of(alloc: Global, files: &mut SteadyFiles) -> Option<Services> {
     Services::read(alloc, files, "feed", &Limits::standard()).ok()
 }
 
-fn changes_of(alloc: Global, files: &mut SteadyFiles, feed: &Feed) -> Option<Changes> {
+fn changes_of(alloc: Global, files: &mut SteadyFiles, feed: &Feed) -> Option<Changes>
+    ensures { IfSome result (LinksComeFrom (length feed.now.stop_ids)) }
+{
     Changes::read(alloc, files, "feed", feed, &Limits::standard()).ok()
 }
 
@@ -113,47 +107,31 @@ fn delays_of(alloc: Global) -> Option<DelayTable> {
     DelayTable::read(alloc, &rows).ok()
 }
 
-fn read_all(alloc: Global, tables: &Tables<'_>) -> Option<Told> {
+/// 2024-06-03T00:00:00, a Monday.
+const MONDAY: u64 = 19_877 * 86_400;
+
+/// The window of a feed from so many seconds after Monday's begin on, if its tables are read.
+fn window(
+    alloc: Global,
+    tables: &Tables<'_>,
+    seconds: u32,
+    horizon: u32,
+    most: u64,
+) -> Option<Result<(Network, Names), WindowFault>>
+    requires horizon { horizon ≤ 72 }
+    requires most { most ≤ 8388608 }
+{
     let mut files = files_of(alloc, tables).ok()?;
     let feed = feed_of(alloc, &mut files)?;
     let services = services_of(alloc, &mut files)?;
     let changes = changes_of(alloc, &mut files, &feed)?;
     let delays = delays_of(alloc)?;
-    Some(Told {
-        feed,
-        services,
-        changes,
-        delays,
-    })
-}
-
-/// 2024-06-03T00:00:00, a Monday.
-const MONDAY: u64 = 19_877 * 86_400;
-
-/// The window of a feed from so many seconds after Monday's begin on.
-fn window(
-    alloc: Global,
-    told: &Told,
-    seconds: u32,
-    horizon: u32,
-    most: u64,
-) -> Result<(Network, Names), WindowFault>
-    requires horizon { horizon ≤ 72 }
-    requires most { most ≤ 8388608 }
-{
     let mut limits = Limits::standard();
     limits.connections = most;
     let start = Moment(MONDAY + u64::from(seconds));
-    cut(
-        alloc,
-        &told.feed,
-        &told.services,
-        &told.changes,
-        &told.delays,
-        start,
-        horizon,
-        &limits,
-    )
+    Some(cut(
+        alloc, &feed, &services, &changes, &delays, start, horizon, &limits,
+    ))
 }
 
 /// The network of a window of a feed, and its names.
@@ -165,12 +143,10 @@ fn window_of(
 ) -> Result<(Network, Names), Fail>
     requires { horizon ≤ 72 }
 {
-    let Some(told) = read_all(alloc, tables) else {
-        return Err("no feed".into());
-    };
-    match window(alloc, &told, seconds, horizon, 8) {
-        Ok(parts) => Ok(parts),
-        Err(_) => Err("no window".into()),
+    match window(alloc, tables, seconds, horizon, 8) {
+        None => Err("no feed".into()),
+        Some(Err(_)) => Err("no window".into()),
+        Some(Ok(parts)) => Ok(parts),
     }
 }
 
@@ -216,11 +192,11 @@ fn days_of_a_window(rt: HostRuntime) -> Result<(), Fail> {
 
 #[test]
 fn counts_all_connections(rt: HostRuntime) -> Result<(), Fail> {
-    let Some(told) = read_all(rt.alloc(), &MILL) else {
-        return Err("no feed".into());
-    };
     for (most, fault) in [(4, None), (3, Some(WindowFault::TooMany(4)))] {
-        assert_eq!(rt; window(rt.alloc(), &told, 8 * 3600, 24, most).err(), fault);
+        let Some(found) = window(rt.alloc(), &MILL, 8 * 3600, 24, most) else {
+            return Err("no feed".into());
+        };
+        assert_eq!(rt; found.err(), fault);
     }
     Ok(())
 }
