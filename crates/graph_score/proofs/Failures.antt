@@ -1,0 +1,136 @@
+-- The first failure after the outcomes of a ride, and the bounds where there is none.
+use Rattle.std.proofs.Common.{◌≡◌, ℕ, ◌≤◌, ◌⊎◌, Bool, true, false, List, [], ◌∷◌, Option, Some, None, arith, refl, inl, inr, ◌∙◌, ap}
+use Rattle.std.specs.Prelude.{if◌then◌else◌}
+use Rattle.std.proofs.lemmas.Bool.{cases_lt}
+use Rattle.std.proofs.lemmas.Bool.Decides.{nat_tests}
+use Rattle.plan_model.specs.declared.model.Outcome.{Outcome}
+use Rattle.plan_model.specs.declared.model.Query.{Query}
+use Rattle.plan_model.specs.Parts.{Parts}
+use Rattle.plan_model.specs.Network.{outcomes}
+use Rattle.plan_model.specs.Rows.{EachKid}
+use Rattle.plan_model.specs.Tree.{Tree, Ride, Kids, Nil, Kid}
+use Rattle.interval_fixed.specs.Interval.{Interval}
+use Rattle.interval_fixed.specs.Means.{mean_of}
+use Rattle.graph_score.specs.declared.outlooks.Failure.{Failure}
+use Rattle.graph_score.specs.declared.outlooks.Outlook.{Outlook}
+use Rattle.graph_score.specs.declared.outlooks.Outlook.TheVariants.{Safe, Failing}
+use Rattle.graph_score.specs.Failures.{Fails, FailsIn, IsNotAfter, IsFirstFailure}
+use Rattle.graph_score.specs.Spans.{span_of, spans_of}
+use Rattle.graph_score.specs.Steps.{is_sooner, sooner, with_outlook, first_of, spans_in, mean_or, blended, IsOutlook}
+use Rattle.graph_score.proofs.Lists.{first_of-some}
+
+abbrev May : Type 1
+May = ℕ → ℕ → Type 0
+
+-- none of what may be is left out
+abbrev IsFirst : Option Failure → May → Type 0
+IsFirst None F = (p x : ℕ) → F p x → ⊥
+IsFirst (Some f) F = IsFirstFailure F f.place.0 f.moment.0
+
+-- the same, told in other words
+told_as : (first : Option Failure) (F G : May) → ((p x : ℕ) → F p x → G p x) → ((p x : ℕ) → G p x → F p x) → IsFirst first F → IsFirst first G
+told_as None F G there back is = λ p x may. is p x (back p x may)
+told_as (Some f) F G there back is = record { fails = there f.place.0 f.moment.0 is.fails; first = λ r y may. is.first r y (back r y may) }
+
+not_after_trans : (p x r y s z : ℕ) → IsNotAfter p x r y → IsNotAfter r y s z → IsNotAfter p x s z
+not_after_trans p x r y s z (inl a) (inl b) = inl (omega (arith, a, b))
+not_after_trans p x r y s z (inl a) (inr b) = inl (omega (arith, a, b.0))
+not_after_trans p x r y s z (inr a) (inl b) = inl (omega (arith, a.0, b))
+not_after_trans p x r y s z (inr a) (inr b) = inr (omega (arith, a.0, b.0), omega (arith, a.1, b.1))
+
+sooner_is : (a b : Failure) → is_sooner a b ≡ true → IsNotAfter a.place.0 a.moment.0 b.place.0 b.moment.0
+sooner_is a b is = elim (cases_lt a.moment.0 b.moment.0) [
+  | inl less ↦ inl less
+  | inr more ↦
+      let same : a.moment.0 ≡ b.moment.0 = grind (arith, nat_tests) in
+      let less : a.place.0 ≤ b.place.0 = grind (arith, nat_tests) in
+      inr (same, less)
+]
+
+not_sooner : (a b : Failure) → is_sooner a b ≡ false → IsNotAfter b.place.0 b.moment.0 a.place.0 a.moment.0
+not_sooner a b is = elim (cases_lt b.moment.0 a.moment.0) [
+  | inl less ↦ inl less
+  | inr more ↦
+      let same : b.moment.0 ≡ a.moment.0 = grind (arith, nat_tests) in
+      let less : b.place.0 ≤ a.place.0 = grind (arith, nat_tests) in
+      inr (same, less)
+]
+
+-- the sooner of two first failures is the first of both
+first_both : (a f : Failure) (F G : May) → IsFirst (Some a) F → IsFirst (Some f) G → IsFirst (Some (sooner (Some a) f)) (λ p x. F p x ⊎ G p x)
+first_both a f F G own other = by_test (is_sooner f a) refl
+  where
+    by_test : (test : Bool) → is_sooner f a ≡ test → IsFirst (Some (if test then f else a)) (λ p x. F p x ⊎ G p x)
+    by_test true is = record {
+      fails = inr other.fails;
+      first = λ r y may. elim may [
+        | inl here ↦ not_after_trans f.place.0 f.moment.0 a.place.0 a.moment.0 r y (sooner_is f a is) (own.first r y here)
+        | inr there ↦ other.first r y there
+      ];
+    }
+    by_test false is = record {
+      fails = inl own.fails;
+      first = λ r y may. elim may [
+        | inl here ↦ own.first r y here
+        | inr there ↦ not_after_trans a.place.0 a.moment.0 f.place.0 f.moment.0 r y (not_sooner f a is) (other.first r y there)
+      ];
+    }
+
+module _ (n : Parts) (q : Query) where
+  -- with what comes of one tree more
+  with_tree : (first : Option Failure) (kid : Outlook) (tree : Tree) (F : May) → IsFirst first F → IsOutlook n q kid tree → IsFirst (with_outlook first kid) (λ p x. F p x ⊎ Fails q tree p x)
+  with_tree first (Safe span) tree F is own = told_as first F (λ p x. F p x ⊎ Fails q tree p x) (λ p x may. inl may) (λ p x may. elim may [
+    | inl here ↦ here
+    | inr there ↦ absurd (own.0 p x there)
+  ]) is
+  with_tree None (Failing f) tree F is own = told_as (Some f) (Fails q tree) (λ p x. F p x ⊎ Fails q tree p x) (λ p x may. inr may) (λ p x may. elim may [
+    | inl here ↦ absurd (is p x here)
+    | inr there ↦ there
+  ]) own
+  with_tree (Some a) (Failing f) tree F is own = first_both a f F (Fails q tree) is own
+
+  first_told : (row : List Outcome) (values : List Outlook) (kids : Kids) (first : Option Failure) (F : May) → EachKid (IsOutlook n q) row values kids → IsFirst first F → IsFirst (first_of first values) (λ p x. F p x ⊎ FailsIn q kids p x)
+  first_told [] [] Nil first F each is = told_as first F (λ p x. F p x ⊎ ⊥) (λ p x may. inl may) (λ p x may. elim may [
+    | inl here ↦ here
+    | inr there ↦ absurd there
+  ]) is
+  first_told (o ∷ row) (value ∷ values) (Kid w tree kids) first F each is =
+      told_as (first_of (with_outlook first value) values) (λ p x. (F p x ⊎ Fails q tree p x) ⊎ FailsIn q kids p x) (λ p x. F p x ⊎ (Fails q tree p x ⊎ FailsIn q kids p x))
+      (λ p x may. elim may [
+        | inl here ↦ elim here [
+          | inl own ↦ inl own
+          | inr tree ↦ inr (inl tree)
+        ]
+        | inr there ↦ inr (inr there)
+      ])
+      (λ p x may. elim may [
+        | inl own ↦ inl (inl own)
+        | inr there ↦ elim there [
+          | inl tree ↦ inl (inr tree)
+          | inr rest ↦ inr rest
+        ]
+      ])
+      (first_told row values kids (with_outlook first value) (λ p x. F p x ⊎ Fails q tree p x) each.2 (with_tree first value tree F is each.1))
+  first_told _ _ _ first F each is = absurd each
+
+  -- where none fails, the bounds are those of the kids
+  spans_told : (row : List Outcome) (values : List Outlook) (kids : Kids) → EachKid (IsOutlook n q) row values kids → first_of None values ≡ None → spans_in values ≡ spans_of n kids
+  spans_told [] [] Nil each none = refl
+  spans_told (o ∷ row) (Safe span ∷ values) (Kid w tree kids) each none =
+      ap (λ (s : Interval). s ∷ spans_in values) each.1.1 ∙ ap (λ (spans : List Interval). span_of n tree ∷ spans) (spans_told row values kids each.2 none)
+  spans_told (o ∷ row) (Failing f ∷ values) (Kid w tree kids) each none = absurd (first_of-some f values none)
+  spans_told _ _ _ each none = absurd each
+
+  -- what comes of a ride, by what comes of its kids
+  pub blend_told : (i j : ℕ) (values : List Outlook) (kids : Kids) → EachKid (IsOutlook n q) (outcomes n j) values kids → IsOutlook n q (blended (outcomes n j) values) (Ride i j kids)
+  blend_told i j values kids each =
+      let told = first_told (outcomes n j) values kids None (λ p x. ⊥) each (λ p x may. may) in
+      let is = told_as (first_of None values) (λ p x. ⊥ ⊎ FailsIn q kids p x) (FailsIn q kids) (λ p x may. elim may [
+        | inl never ↦ absurd never
+        | inr there ↦ there
+      ]) (λ p x may. inr may) told in
+      by_first (first_of None values) refl is
+    where
+      by_first : (first : Option Failure) → first_of None values ≡ first → IsFirst first (FailsIn q kids) → IsOutlook n q (mean_or (outcomes n j) values first) (Ride i j kids)
+      by_first None e is = (is, ap (mean_of (outcomes n j)) (spans_told (outcomes n j) values kids each e))
+      by_first (Some f) e is = is

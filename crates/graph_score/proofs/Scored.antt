@@ -1,0 +1,73 @@
+-- The score of a graph whose legs fit, by what comes of it.
+use Rattle.std.proofs.Common.{◌≡◌, ◌≢◌, ℕ, ◌-◌, ◌<◌, ◌≤◌, ◌⊎◌, Option, Some, None, All, arith, sym, subst, refl, inl, inr}
+use Rattle.std.proofs.lemmas.Bool.{cases_lt, cases_eq}
+use Rattle.plan_model.specs.declared.model.Leg.{Leg}
+use Rattle.plan_model.specs.declared.model.Query.{Query}
+use Rattle.plan_model.specs.Parts.{Parts}
+use Rattle.plan_model.specs.Network.{IsValid, count, arr_of}
+use Rattle.plan_model.specs.Tree.{Tree, Done}
+use Rattle.plan_model.specs.Unfold.{kids_after, outcomes_of}
+use Rattle.plan_graph.specs.declared.PlanGraph.{PlanGraph}
+use Rattle.plan_graph.specs.Tidy.{IsFitStart}
+use Rattle.plan_graph.specs.Unfold.{unfold_plan}
+use Rattle.interval_fixed.specs.Interval.{Interval}
+use Rattle.graph_score.specs.declared.outlooks.Failure.{Failure}
+use Rattle.graph_score.specs.declared.outlooks.Outlook.TheVariants.{Safe, Failing}
+use Rattle.graph_score.specs.Legs.{Fits, legs_of}
+use Rattle.graph_score.specs.Failures.{Fails}
+use Rattle.graph_score.specs.Scores.{IsScored, IsUnsafe}
+use Rattle.graph_score.specs.Spans.{span_of}
+use Rattle.graph_score.specs.Steps.{IsOutlook, ridden}
+use Rattle.graph_score.proofs.GraphLegs.{rows_fit, start_fits}
+use Rattle.graph_score.proofs.Means.{exact_below, exact_covers, ride_enclosed, ride_near}
+use Rattle.graph_score.proofs.Trees.{next_after, safe_never_fails, safe_ride, height_ridden, unfold-start, unfold-none, unfold-there}
+
+-- who may fail is not safe
+pub failing_told : (n : Parts) (q : Query) (tree : Tree) (f : Failure) → IsOutlook n q (Failing f) tree → IsUnsafe n q tree f.place.0 f.moment.0
+failing_told n q tree f is = record { unsafe = λ safe. safe_never_fails n q tree safe f.place.0 f.moment.0 is.fails; first = is }
+
+module _ (n : Parts) (valid : IsValid n) (q : Query) (graph : PlanGraph) (fit : All (Fits n q) (legs_of graph)) where
+  abbrev Never : Tree → Type 0
+  Never tree = (p x : ℕ) → Fails q tree p x → ⊥
+
+  done_scored : q.source.0 ≡ q.target.0 → Never (Done q.start.0) → IsScored n q (Done q.start.0) (span_of n (Done q.start.0))
+  done_scored there never = record {
+    safe = (refl, there, in_time (cases_lt q.deadline.0 q.start.0));
+    means = refl;
+    encloses = (exact_below q.start.0, exact_covers q.start.0);
+    gap = omega arith;
+  }
+    where
+      in_time : (q.deadline.0 < q.start.0) ⊎ (q.start.0 ≤ q.deadline.0) → q.start.0 ≤ q.deadline.0
+      in_time (inl late) = absurd (never q.target.0 q.start.0 (refl, refl, late))
+      in_time (inr soon) = soon
+
+  ride_scored : (leg : Leg) → IsFitStart n q leg → Never (ridden n q graph.tables (count n - 1) leg) → IsScored n q (ridden n q graph.tables (count n - 1) leg) (span_of n (ridden n q graph.tables (count n - 1) leg))
+  ride_scored leg start never =
+      let rides = count n - 1 in
+      let rows = rows_fit n q graph fit in
+      let safe = safe_ride n q graph.tables rows rides leg start never in
+      let kids = kids_after (next_after n q graph.tables rows rides leg) (arr_of n leg.exit.0) (outcomes_of n leg) in
+      let near = ride_near n q.target.0 (Some q.deadline.0) valid leg.enter.0 leg.exit.0 kids start.is_leg.exit safe.3 in
+      record {
+        safe = safe;
+        means = refl;
+        encloses = ride_enclosed n q.target.0 (Some q.deadline.0) leg.enter.0 leg.exit.0 kids safe.3;
+        gap = omega (arith, near, height_ridden n q graph.tables rows rides leg, start.is_leg.exit);
+      }
+
+  as_told : (tree : Tree) → (Never tree → IsScored n q tree (span_of n tree)) → unfold_plan graph n q ≡ tree → (span : Interval) → IsOutlook n q (Safe span) (unfold_plan graph n q) → IsScored n q (unfold_plan graph n q) span
+  as_told tree scored is span told =
+      subst (IsScored n q (unfold_plan graph n q)) (sym told.1)
+      (subst (λ t. IsScored n q t (span_of n t)) (sym is) (scored (subst Never is told.0)))
+
+  -- who cannot fail is safe, and the bounds enclose
+  pub safe_told : (span : Interval) → IsOutlook n q (Safe span) (unfold_plan graph n q) → IsScored n q (unfold_plan graph n q) span
+  safe_told span told = elim (cases_eq q.source.0 q.target.0) [
+    | inl there ↦ as_told (Done q.start.0) (done_scored there) (unfold-there n q graph there) span told
+    | inr away ↦ by_start away graph.start refl
+  ]
+    where
+      by_start : q.source.0 ≢ q.target.0 → (start : Option Leg) → graph.start ≡ start → IsScored n q (unfold_plan graph n q) span
+      by_start away None is = absurd (told.0 q.source.0 q.start.0 (subst (λ t. Fails q t q.source.0 q.start.0) (sym (unfold-none n q graph away is)) (refl, refl)))
+      by_start away (Some leg) is = as_told (ridden n q graph.tables (count n - 1) leg) (ride_scored leg (start_fits n q graph leg fit is)) (unfold-start n q graph leg away is) span told

@@ -1,0 +1,164 @@
+-- A tree by rows that fit is safe exactly where the traveller cannot fail.
+use Rattle.std.proofs.Common.{◌≡◌, ◌≢◌, ℕ, zero, suc, ◌+◌, ◌-◌, ◌≤◌, List, [], ◌∷◌, true, false, Option, Some, None, All, arith, sym, subst, refl, inl, inr, ap}
+use Rattle.std.specs.Prelude.{◌==◌}
+use Rattle.std.proofs.lemmas.Bool.{cases_lt, cases_eq}
+use Rattle.std.proofs.lemmas.Bool.Decides.{nat_tests}
+use Rattle.plan_model.specs.declared.model.Leg.{Leg}
+use Rattle.plan_model.specs.declared.model.Outcome.{Outcome}
+use Rattle.plan_model.specs.declared.model.Query.{Query}
+use Rattle.plan_model.specs.Parts.{Parts}
+use Rattle.plan_model.specs.Network.{count, to_of, arr_of, outcomes}
+use Rattle.plan_model.specs.Tree.{Tree, Done, Ride, Stuck, Kids, Nil, Kid, height, height_of}
+use Rattle.plan_model.specs.Strategy.{Safe, SafeAll, IsBoardable, IsSafeFor}
+use Rattle.plan_model.specs.Unfold.{end_of, outcomes_of, kids_after, ride_or_stuck, unfold_after, by_place}
+use Rattle.plan_model.proofs.Boarding.{limit_of-some}
+use Rattle.plan_graph.specs.declared.PlaceTable.{PlaceTable}
+use Rattle.plan_graph.specs.declared.PlanGraph.{PlanGraph}
+use Rattle.plan_graph.specs.Rows.{pick_at, rows_of_place}
+use Rattle.plan_graph.specs.Ready.{IsLegOf}
+use Rattle.plan_graph.specs.Tidy.{IsFitRow, IsFitStart}
+use Rattle.plan_graph.specs.Unfold.{unfold_plan}
+use Rattle.graph_score.specs.Failures.{Fails, FailsIn}
+use Rattle.graph_score.specs.Steps.{AreFitRows, ridden}
+use Rattle.graph_score.proofs.Picks.{rows_of_place-by, picked}
+
+same_is : (a b : ℕ) → a ≡ b → (a == b) ≡ true
+same_is a b is = grind (arith, nat_tests)
+
+other_is : (a b : ℕ) → a ≢ b → (a == b) ≡ false
+other_is a b differ = grind (arith, nat_tests)
+
+mutual
+  -- who is safe cannot fail
+  cannot_fail : (n : Parts) (q : Query) (tree : Tree) (p x : ℕ) → Safe n q.target.0 (Some q.deadline.0) tree p x → (r y : ℕ) → Fails q tree r y → ⊥
+  cannot_fail n q (Done a) p x safe r y fails = omega (arith, safe.0, safe.2, fails.2)
+  cannot_fail n q (Ride i j kids) p x safe r y fails = none_can_fail n q kids (outcomes n j) (to_of n j) (arr_of n j) safe.3 r y fails
+  cannot_fail n q (Stuck place moment) p x safe r y fails = absurd safe
+
+  none_can_fail : (n : Parts) (q : Query) (kids : Kids) (row : List Outcome) (p arrival : ℕ) → SafeAll n q.target.0 (Some q.deadline.0) kids row p arrival → (r y : ℕ) → FailsIn q kids r y → ⊥
+  none_can_fail n q Nil [] p arrival safe r y fails = fails
+  none_can_fail n q Nil (o ∷ row) p arrival safe r y fails = fails
+  none_can_fail n q (Kid w tree kids) [] p arrival safe r y fails = absurd safe
+  none_can_fail n q (Kid w tree kids) (o ∷ row) p arrival safe r y fails = elim fails [
+    | inl here ↦ cannot_fail n q tree p (arrival + o.delay) safe.1 r y here
+    | inr there ↦ none_can_fail n q kids row p arrival safe.2 r y there
+  ]
+
+pub safe_never_fails : (n : Parts) (q : Query) (tree : Tree) → IsSafeFor n q tree → (r y : ℕ) → Fails q tree r y → ⊥
+safe_never_fails n q (Done a) safe r y fails = omega (arith, safe.0, safe.2, fails.2)
+safe_never_fails n q (Ride i j kids) safe r y fails = none_can_fail n q kids (outcomes n j) (to_of n j) (arr_of n j) safe.3 r y fails
+safe_never_fails n q (Stuck place moment) safe r y fails = absurd safe
+
+-- the row whose leg is taken
+pub taken_row : (n : Parts) (tables : List PlaceTable) → AreFitRows n tables → (p x : ℕ) (leg : Leg) → pick_at tables p x ≡ Some leg → IsLegOf n leg × IsBoardable n p x leg.enter.0
+taken_row n tables fit p x leg is =
+    let (row, fits, soon, same) = picked (IsFitRow n p) (rows_of_place tables p) x leg (rows_of_place-by (λ p rows. All (IsFitRow n p) rows) tables p (λ k d within. absurd (omega (arith, within))) fit) is in
+    let some = limit_of-some n p row.leg row.by.0 fits.by in
+    let boards : IsBoardable n p x row.leg.enter.0 = record { seconds = some.0; way = some.1; in_time = omega (arith, soon, some.2) } in
+    (subst (IsLegOf n) same fits.is_leg, subst (λ (l : Leg). IsBoardable n p x l.enter.0) same boards)
+
+module _ (n : Parts) (q : Query) (tables : List PlaceTable) (fit : AreFitRows n tables) where
+  -- what is done after a leg
+  abbrev pub next_after : ℕ → Leg → ℕ → Tree
+  next_after rides leg x = unfold_after n q.target.0 (by_place n (pick_at tables)) rides leg x
+
+  abbrev SafeHere : Tree → ℕ → ℕ → Type 0
+  SafeHere tree p x = Safe n q.target.0 (Some q.deadline.0) tree p x
+
+  -- the traveller cannot fail
+  abbrev pub Never : Tree → Type 0
+  Never tree = (r y : ℕ) → Fails q tree r y → ⊥
+
+  -- at the target
+  pub after-there : (rides : ℕ) (leg : Leg) (x : ℕ) → end_of n leg ≡ q.target.0 → next_after rides leg x ≡ Done x
+  after-there zero leg x there = rw (same_is (end_of n leg) q.target.0 there) refl
+  after-there (suc rides) leg x there = rw (same_is (end_of n leg) q.target.0 there) refl
+
+  -- where no leg is taken
+  pub after-stuck : (rides : ℕ) (leg : Leg) (x : ℕ) → end_of n leg ≢ q.target.0 → pick_at tables (end_of n leg) x ≡ None → next_after rides leg x ≡ Stuck (end_of n leg) x
+  after-stuck zero leg x away none = rw (other_is (end_of n leg) q.target.0 away) refl
+  after-stuck (suc rides) leg x away none = rw (other_is (end_of n leg) q.target.0 away) (ap (λ next. ride_or_stuck n (next_after rides) next (end_of n leg) x) none)
+
+  -- where one is taken, and no more rides may follow
+  after-over : (leg : Leg) (x : ℕ) → end_of n leg ≢ q.target.0 → next_after zero leg x ≡ Stuck (end_of n leg) x
+  after-over leg x away = rw (other_is (end_of n leg) q.target.0 away) refl
+
+  -- where one is taken
+  pub after-ride : (rides : ℕ) (leg : Leg) (x : ℕ) (next : Leg) → end_of n leg ≢ q.target.0 → pick_at tables (end_of n leg) x ≡ Some next → next_after (suc rides) leg x ≡ ridden n q tables rides next
+  after-ride rides leg x next away some = rw (other_is (end_of n leg) q.target.0 away) (ap (λ next. ride_or_stuck n (next_after rides) next (end_of n leg) x) some)
+
+  in_time : (p x : ℕ) → p ≡ q.target.0 → Never (Done x) → SafeHere (Done x) p x
+  in_time p x there never = elim (cases_lt q.deadline.0 x) [
+    | inl late ↦ absurd (never q.target.0 x (refl, refl, late))
+    | inr soon ↦ (refl, there, soon)
+  ]
+
+  kids_safe : (next : ℕ → Tree) (p scheduled : ℕ) → ((x : ℕ) → Never (next x) → SafeHere (next x) p x) → (row : List Outcome)
+      → ((r y : ℕ) → FailsIn q (kids_after next scheduled row) r y → ⊥) → SafeAll n q.target.0 (Some q.deadline.0) (kids_after next scheduled row) row p scheduled
+  kids_safe next p scheduled each [] never = tt
+  kids_safe next p scheduled each (o ∷ row) never =
+      (refl, each (scheduled + o.delay) (λ r y fails. never r y (inl fails)), kids_safe next p scheduled each row (λ r y fails. never r y (inr fails)))
+
+  -- who cannot fail after a leg is safe
+  safe_after : (rides : ℕ) (leg : Leg) (x : ℕ) → Never (next_after rides leg x) → SafeHere (next_after rides leg x) (end_of n leg) x
+  safe_after zero leg x never = elim (cases_eq (end_of n leg) q.target.0) [
+    | inl there ↦ subst (λ t. SafeHere t (end_of n leg) x) (sym (after-there zero leg x there)) (in_time (end_of n leg) x there (subst Never (after-there zero leg x there) never))
+    | inr away ↦ absurd (subst Never (after-over leg x away) never (end_of n leg) x (refl, refl))
+  ]
+  safe_after (suc rides) leg x never = elim (cases_eq (end_of n leg) q.target.0) [
+    | inl there ↦ subst (λ t. SafeHere t (end_of n leg) x) (sym (after-there (suc rides) leg x there)) (in_time (end_of n leg) x there (subst Never (after-there (suc rides) leg x there) never))
+    | inr away ↦ by_leg (λ next y now. safe_after rides next y now) away (pick_at tables (end_of n leg) x) refl
+  ]
+    where
+      by_leg : ((next : Leg) (y : ℕ) → Never (next_after rides next y) → SafeHere (next_after rides next y) (end_of n next) y) → end_of n leg ≢ q.target.0 → (next : Option Leg) → pick_at tables (end_of n leg) x ≡ next → SafeHere (next_after (suc rides) leg x) (end_of n leg) x
+      by_leg onward away None is = absurd (subst Never (after-stuck (suc rides) leg x away is) never (end_of n leg) x (refl, refl))
+      by_leg onward away (Some next) is =
+          let e = after-ride rides leg x next away is in
+          let never_now = subst Never e never in
+          let row = taken_row n tables fit (end_of n leg) x next is in
+          subst (λ t. SafeHere t (end_of n leg) x) (sym e)
+          (away, row.0, row.1, kids_safe (next_after rides next) (end_of n next) (arr_of n next.exit.0) (onward next) (outcomes_of n next) never_now)
+
+  -- who cannot fail after the start leg is safe
+  pub safe_ride : (rides : ℕ) (leg : Leg) → IsFitStart n q leg → Never (ridden n q tables rides leg) → IsSafeFor n q (ridden n q tables rides leg)
+  safe_ride rides leg start never =
+      (start.differ, start.is_leg, (start.leaves, start.in_time), kids_safe (next_after rides leg) (end_of n leg) (arr_of n leg.exit.0) (safe_after rides leg) (outcomes_of n leg) never)
+
+  height_kids : (next : ℕ → Tree) (most : ℕ) → ((x : ℕ) → height (next x) ≤ most) → (scheduled : ℕ) (row : List Outcome) → height_of (kids_after next scheduled row) ≤ most
+  height_kids next most each scheduled [] = omega arith
+  height_kids next most each scheduled (o ∷ row) = omega (arith, each (scheduled + o.delay), height_kids next most each scheduled row)
+
+  height_ride : (rides : ℕ) (leg : Leg) → ((x : ℕ) → height (next_after rides leg x) ≤ rides) → height (ridden n q tables rides leg) ≤ suc rides
+  height_ride rides leg each = let low = height_kids (next_after rides leg) rides each (arr_of n leg.exit.0) (outcomes_of n leg) in omega (arith, low)
+
+  -- as many rides are nested as may be at most
+  height_after : (rides : ℕ) (leg : Leg) (x : ℕ) → height (next_after rides leg x) ≤ rides
+  height_after zero leg x = elim (cases_eq (end_of n leg) q.target.0) [
+    | inl there ↦ rw (after-there zero leg x there) (omega arith)
+    | inr away ↦ rw (after-over leg x away) (omega arith)
+  ]
+  height_after (suc rides) leg x = elim (cases_eq (end_of n leg) q.target.0) [
+    | inl there ↦ rw (after-there (suc rides) leg x there) (omega arith)
+    | inr away ↦ by_next (λ next. height_ride rides next (λ y. height_after rides next y)) away (pick_at tables (end_of n leg) x) refl
+  ]
+    where
+      by_next : ((next : Leg) → height (ridden n q tables rides next) ≤ suc rides) → end_of n leg ≢ q.target.0 → (next : Option Leg) → pick_at tables (end_of n leg) x ≡ next → height (next_after (suc rides) leg x) ≤ suc rides
+      by_next onward away None is = rw (after-stuck (suc rides) leg x away is) (omega arith)
+      by_next onward away (Some next) is = rw (after-ride rides leg x next away is) (onward next)
+
+  pub height_ridden : (rides : ℕ) (leg : Leg) → height (ridden n q tables rides leg) ≤ suc rides
+  height_ridden rides leg = height_ride rides leg (height_after rides leg)
+
+-- by a graph one takes the start leg
+pub unfold-start : (n : Parts) (q : Query) (graph : PlanGraph) (leg : Leg) → q.source.0 ≢ q.target.0 → graph.start ≡ Some leg → unfold_plan graph n q ≡ ridden n q graph.tables (count n - 1) leg
+unfold-start n q graph leg away is =
+    rw (other_is q.source.0 q.target.0 away) (ap (λ first. ride_or_stuck n (unfold_after n q.target.0 (by_place n (pick_at graph.tables)) (count n - 1)) first q.source.0 q.start.0) is)
+
+-- and is stuck without one
+pub unfold-none : (n : Parts) (q : Query) (graph : PlanGraph) → q.source.0 ≢ q.target.0 → graph.start ≡ None → unfold_plan graph n q ≡ Stuck q.source.0 q.start.0
+unfold-none n q graph away is =
+    rw (other_is q.source.0 q.target.0 away) (ap (λ first. ride_or_stuck n (unfold_after n q.target.0 (by_place n (pick_at graph.tables)) (count n - 1)) first q.source.0 q.start.0) is)
+
+-- where source and target are one place one has arrived
+pub unfold-there : (n : Parts) (q : Query) (graph : PlanGraph) → q.source.0 ≡ q.target.0 → unfold_plan graph n q ≡ Done q.start.0
+unfold-there n q graph there = rw (same_is q.source.0 q.target.0 there) refl

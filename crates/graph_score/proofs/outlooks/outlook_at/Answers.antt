@@ -1,0 +1,11 @@
+use Rattle.std.proofs.Common.{◌<◌, List, AllPairs, arith, subst, sym, ◌∙◌, ap}
+use Rattle.plan_graph.specs.declared.GraphRow.{GraphRow}
+use Rattle.plan_graph.specs.declared.PlaceTable.{PlaceTable}
+use Rattle.plan_graph.specs.Rows.{rows_of_place}
+use Rattle.graph_score.proofs.Picks.{rows_of_place-each}
+use Rattle.graph_score.proofs.outlooks.outlook_at.Goals as goal
+
+pub leg_at-requires : goal.leg_at-requires
+leg_at-requires c =
+    let rises = rows_of_place-each (λ (rows : List GraphRow). AllPairs (λ (a b : GraphRow). a.by.0 < b.by.0) rows) c.args.graph.now.tables c.args.place.0 (λ i j d less within. absurd (omega (arith, less, within))) c.requires.rising.rows in
+    subst (λ (rows : List GraphRow). AllPairs (λ (a b : GraphRow). a.by.0 < b.by.0) rows) (sym (c.rows_at.ensures ∙ ap (λ (tables : List PlaceTable). rows_of_place tables c.args.place.0) c.as_slice.ensures)) rises

@@ -1,0 +1,46 @@
+-- The legs of a graph, and which of them fit a network and a query.
+use Rattle.std.specs.Prelude.{◌≡◌, ◌≢◌, ℕ, ◌+◌, ◌<◌, ◌≤◌, List, [], ◌∷◌, ◌++◌, Option, Some, None, map, length, All, AllPairs}
+use Rattle.std.specs.List.{flat_map}
+use Rattle.plan_model.specs.declared.model.Leg.{Leg}
+use Rattle.plan_model.specs.declared.model.Query.{Query}
+use Rattle.plan_model.specs.Parts.{Parts}
+use Rattle.plan_graph.specs.declared.PlaceTable.{PlaceTable}
+use Rattle.plan_graph.specs.declared.PlanGraph.{PlanGraph}
+use Rattle.plan_graph.specs.Tidy.{IsFitStart, IsFitRow}
+use Rattle.graph_score.specs.declared.legs.GraphLeg.{GraphLeg}
+use Rattle.graph_score.specs.declared.legs.GraphLeg.TheVariants.{Start, Row}
+
+-- the places and the rows of each table rise, and no table is empty
+pub record IsRising (graph : PlanGraph) : Type 0 where
+  pub places : AllPairs (λ a b. a.place.0 < b.place.0) graph.tables
+  pub rows : All (λ table. AllPairs (λ a b. a.by.0 < b.by.0) table.rows) graph.tables
+  pub some : All (λ table. 1 ≤ length table.rows) graph.tables
+
+-- the start leg, where there is one
+abbrev pub start_leg : Option Leg → List GraphLeg
+start_leg None = []
+start_leg (Some leg) = Start leg ∷ []
+
+-- the rows of a table, with its place
+abbrev pub legs_in : PlaceTable → List GraphLeg
+legs_in table = map (λ row. Row table.place row) table.rows
+
+-- the start leg, and then the rows of each table in their order
+abbrev pub legs_of : PlanGraph → List GraphLeg
+legs_of graph = start_leg graph.start ++ flat_map legs_in graph.tables
+
+-- a start leg may leave the source at the start or later; that of a row is taken up to its limit. Where source and target
+-- are one place no leg fits
+abbrev pub Fits : Parts → Query → GraphLeg → Type 0
+Fits n q (Start leg) = IsFitStart n q leg
+Fits n q (Row place row) = (q.source.0 ≢ q.target.0) × IsFitRow n place.0 row
+
+-- the k-th leg, where the first one is 1, does not fit, and each before it does
+pub record IsFirstWrong (n : Parts) (q : Query) (legs : List GraphLeg) (k : ℕ) : Type 0 where
+  pub before : List GraphLeg
+  pub wrong : GraphLeg
+  pub others : List GraphLeg
+  pub split : legs ≡ before ++ wrong ∷ others
+  pub number : k ≡ length before + 1
+  pub fit : All (Fits n q) before
+  pub breaks : Fits n q wrong → ⊥

@@ -1,0 +1,5 @@
+pub mod Legs
+pub mod Failures
+pub mod Spans
+pub mod Scores
+pub mod Steps

@@ -1,0 +1,105 @@
+-- What comes of a ride, by what comes of those after it.
+use Rattle.std.specs.Prelude.{◌≡◌, ℕ, ◌+◌, ◌-◌, ◌<◌, Bool, All, List, [], ◌∷◌, Option, Some, None, ◌==◌, nat_le, nat_lt, ◌||◌, ◌&&◌, if◌then◌else◌, map, slice_index_or}
+use Rattle.plan_model.specs.declared.model.Leg.{Leg}
+use Rattle.plan_model.specs.declared.model.Outcome.{Outcome}
+use Rattle.plan_model.specs.declared.model.Query.{Query}
+use Rattle.plan_model.specs.Parts.{Parts}
+use Rattle.plan_model.specs.Network.{count, to_of, arr_of, outcomes}
+use Rattle.plan_model.specs.Unfold.{by_place, ride_of, unfold_after}
+use Rattle.plan_model.specs.Tree.{Tree}
+use Rattle.plan_graph.specs.declared.PlaceTable.{PlaceTable}
+use Rattle.plan_graph.specs.Rows.{pick_at}
+use Rattle.plan_graph.specs.Tidy.{IsFitRow}
+use Rattle.interval_fixed.specs.Interval.{Interval}
+use Rattle.interval_fixed.specs.Means.{mean_of}
+use Rattle.graph_score.specs.declared.outlooks.Failure.{Failure}
+use Rattle.graph_score.specs.declared.outlooks.Outlook.{Outlook}
+use Rattle.graph_score.specs.declared.outlooks.Outlook.TheVariants.{Safe, Failing}
+use Rattle.graph_score.specs.Failures.{Fails, IsFirstFailure}
+use Rattle.graph_score.specs.Spans.{exact, span_of}
+
+-- a failure at a place at a moment
+abbrev pub failure : (place moment : ℕ) → Failure
+failure place moment = record { moment = record { 0 = moment }; place = record { 0 = place } }
+
+-- whether one failure is before another
+abbrev pub is_sooner : Failure → Failure → Bool
+is_sooner a b = nat_lt a.moment.0 b.moment.0 || ((a.moment.0 == b.moment.0) && nat_lt a.place.0 b.place.0)
+
+-- the sooner of two failures
+abbrev pub sooner : Option Failure → Failure → Failure
+sooner None b = b
+sooner (Some a) b = if is_sooner b a then b else a
+
+-- with what comes of one more outcome
+abbrev pub with_outlook : Option Failure → Outlook → Option Failure
+with_outlook first (Safe span) = first
+with_outlook first (Failing f) = Some (sooner first f)
+
+-- the first failure of these, or one before
+abbrev pub first_of : Option Failure → List Outlook → Option Failure
+first_of first [] = first
+first_of first (kid ∷ kids) = first_of (with_outlook first kid) kids
+
+-- the bounds of those that are safe
+abbrev pub spans_in : List Outlook → List Interval
+spans_in [] = []
+spans_in (Safe span ∷ kids) = span ∷ spans_in kids
+spans_in (Failing f ∷ kids) = spans_in kids
+
+-- the first failure, or the mean
+abbrev pub mean_or : List Outcome → List Outlook → Option Failure → Outlook
+mean_or row kids (Some f) = Failing f
+mean_or row kids None = Safe (mean_of row (spans_in kids))
+
+abbrev pub blended : List Outcome → List Outlook → Outlook
+blended row kids = mean_or row kids (first_of None kids)
+
+-- of who has arrived at the target
+abbrev pub arrived_by : ℕ → ℕ → ℕ → Outlook
+arrived_by deadline place moment = if nat_le moment deadline then Safe (exact moment) else Failing (failure place moment)
+
+-- where nothing is known
+abbrev pub no_outlook : Outlook
+no_outlook = Failing (failure 0 0)
+
+-- of the leg that is taken, by its exit; or stuck
+abbrev pub by_leg : List Outlook → ℕ → ℕ → Option Leg → Outlook
+by_leg outlooks place moment None = Failing (failure place moment)
+by_leg outlooks place moment (Some leg) = slice_index_or outlooks leg.exit.0 no_outlook
+
+-- after an arrival at a place
+abbrev pub outlook_at : List PlaceTable → Query → List Outlook → ℕ → ℕ → Outlook
+outlook_at tables q outlooks place moment =
+    if place == q.target.0
+    then arrived_by q.deadline.0 place moment
+    else by_leg outlooks place moment (pick_at tables place moment)
+
+-- after each outcome of a connection
+abbrev pub outlooks_after : List PlaceTable → Query → List Outlook → ℕ → ℕ → List Outcome → List Outlook
+outlooks_after tables q outlooks place scheduled row = map (λ o. outlook_at tables q outlooks place (scheduled + o.delay)) row
+
+-- of leaving by a connection
+abbrev pub outlook_of : Parts → List PlaceTable → Query → List Outlook → ℕ → Outlook
+outlook_of n tables q outlooks j = blended (outcomes n j) (outlooks_after tables q outlooks (to_of n j) (arr_of n j) (outcomes n j))
+
+-- it tells what comes of a tree: that the traveller cannot fail, with its bounds; or how one may fail first
+abbrev pub IsOutlook : Parts → Query → Outlook → Tree → Type 0
+IsOutlook n q (Safe span) tree = ((p x : ℕ) → Fails q tree p x → ⊥) × (span ≡ span_of n tree)
+IsOutlook n q (Failing f) tree = IsFirstFailure (Fails q tree) f.place.0 f.moment.0
+
+-- each leg that is taken ends by one of the first so many connections
+abbrev pub ExitsWithin : List PlaceTable → ℕ → Type 0
+ExitsWithin tables many = (place moment : ℕ) (leg : Leg) → pick_at tables place moment ≡ Some leg → leg.exit.0 < many
+
+-- each row fits
+abbrev pub AreFitRows : Parts → List PlaceTable → Type 0
+AreFitRows n tables = All (λ table. All (IsFitRow n table.place.0) table.rows) tables
+
+-- the ride of a leg, after which a traveller goes on by the rows of each place, over at most so many more rides
+abbrev pub ridden : Parts → Query → List PlaceTable → ℕ → Leg → Tree
+ridden n q tables rides leg = ride_of n (unfold_after n q.target.0 (by_place n (pick_at tables)) rides) leg
+
+-- it is known of each connection what comes of leaving by it
+abbrev pub AreOutlooks : Parts → Query → List PlaceTable → List Outlook → Type 0
+AreOutlooks n q tables outlooks = (leg : Leg) → leg.exit.0 < count n → IsOutlook n q (slice_index_or outlooks leg.exit.0 no_outlook) (ridden n q tables (count n - 1) leg)

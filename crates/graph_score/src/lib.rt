@@ -1,0 +1,106 @@
+//! Bounds on the expected arrival of any graph by place, or why it has none.
+#![tactic(auto)]
+
+ghost use Rattle.std.specs.Prelude.{◌≡◌, ℕ, ◌<◌, IfOk, All};
+ghost use Rattle.plan_model.specs.declared.model.Query.{Query as QueryParts};
+ghost use Rattle.plan_model.specs.Parts.{Parts};
+ghost use Rattle.plan_graph.specs.declared.PlanGraph.{PlanGraph as GraphParts};
+ghost use Rattle.plan_graph.specs.Tidy.{IsFit};
+ghost use Rattle.plan_graph.specs.Unfold.{unfold_plan};
+ghost use Rattle.graph_score.specs.Legs.{IsRising, Fits, IsFirstWrong, legs_of};
+ghost use Rattle.graph_score.specs.Scores.{IsScore};
+ghost use Rattle.graph_score.specs.Steps.{IsOutlook};
+
+mod legs;
+mod outlooks;
+
+use interval_fixed::Span;
+use legs::{first_wrong, legs_of};
+use outlooks::{Failure, Outlook, arrived, fill};
+use plan_graph::PlanGraph;
+use plan_model::{Moment, Network, NoMemory, PlaceId, Query, SortedOrder};
+use std::alloc::Global;
+
+/// Why a graph has no score.
+#[derive(Clone, Copy, Debug, PartialEq, Eq)]
+pub enum ScoreFault {
+    /// The leg of this number does not fit the network and the query: it is none of the network, its
+    /// row is not by its limit, or the start leg does not leave the source at the start or later.
+    /// The start leg comes first, where there is one, and then the rows in their order, from 1 on.
+    NoSuchLeg(u64),
+    /// By the graph a traveller may be stuck at the place at the moment, or arrive there, at the
+    /// target, after the deadline. It is the least moment at which this may be, and the least place.
+    Unsafe(PlaceId, Moment),
+    /// There was no memory.
+    NoMemory,
+}
+
+/// What comes of a graph whose legs fit.
+fn outlook(
+    alloc: Global,
+    graph: &PlanGraph,
+    network: &Network,
+    query: &Query,
+) -> Result<Outlook, NoMemory>
+    requires rising { IsRising graph.now }
+    requires fit { All (Fits network.now query.now) (legs_of graph.now) }
+    requires start { query.now.source.0 ≡ query.now.target.0 → query.now.start.0 < 18446744073 }
+    ensures { IfOk result (λ outlook. IsOutlook network.now query.now outlook (unfold_plan graph.now network.now query.now)) }
+{
+    if query.source.0 == query.target.0 {
+        return Ok(arrived(query.deadline, query.source, query.start));
+    }
+    let stuck = Outlook::Failing(Failure {
+        moment: query.start,
+        place: query.source,
+    });
+    let Some(start) = graph.start else {
+        return Ok(stuck);
+    };
+    let mut order = SortedOrder::new(alloc, network)?;
+    let mut outlooks: Vec<Outlook> = vec![in alloc; stuck; network.count() as usize]?;
+    fill(&mut order, &mut outlooks, graph, network, query);
+    let outlook = outlooks.as_slice()[start.exit.0 as usize];
+    Ok(outlook)
+}
+
+/// Bounds on the expected arrival of a graph, in nanoseconds since 1970-01-01: from the arrivals
+/// upward, ride by ride the mean rounded outward. Each connection is looked at once, however many
+/// trips lead to it.
+///
+/// `NoSuchLeg` comes exactly where a leg does not fit the network and the query; where source and
+/// target are one place none does. `Unsafe` comes exactly where all legs fit and the graph is not
+/// safe for the query; a graph without a start leg is stuck at the source.
+pub fn score(
+    alloc: Global,
+    graph: &PlanGraph,
+    network: &Network,
+    query: &Query,
+) -> Result<Span, ScoreFault>
+    requires rising { IsRising graph.now }
+    requires start { query.now.source.0 ≡ query.now.target.0 → query.now.start.0 < 18446744073 }
+    ensures { IsScore network.now query.now graph.now result }
+{
+    let _count = network.count();
+    let Ok(legs) = legs_of(alloc, graph) else {
+        return Err(ScoreFault::NoMemory);
+    };
+    if let Some(at) = first_wrong(network, query, &legs) {
+        return Err(ScoreFault::NoSuchLeg(at as u64 + 1));
+    }
+    let Ok(outlook) = outlook(alloc, graph, network, query) else {
+        return Err(ScoreFault::NoMemory);
+    };
+    match outlook {
+        Outlook::Safe(span) => Ok(span),
+        Outlook::Failing(failure) => Err(ScoreFault::Unsafe(failure.place, failure.moment)),
+    }
+}
+
+/// A graph that fits its network and query rises, and each of its legs fits.
+pub fn fit_is_scored()
+    ensures rises { (n : Parts) (q : QueryParts) (graph : GraphParts) → IsFit n q graph → IsRising graph }
+    ensures legs { (n : Parts) (q : QueryParts) (graph : GraphParts) → IsFit n q graph → All (Fits n q) (legs_of graph) }
+    ensures none_wrong { (n : Parts) (q : QueryParts) (graph : GraphParts) (k : ℕ) → IsFit n q graph
+        → IsFirstWrong n q (legs_of graph) k → ⊥ }
+{}
