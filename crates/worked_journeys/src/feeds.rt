@@ -55,17 +55,7 @@ fn from_mill_at(
     at: &str,
 ) -> Result<Told, Fail> {
     let words = [
-        command,
-        "--feed",
-        "f",
-        "--delays",
-        "d",
-        "--from",
-        "MIL",
-        "--to",
-        to,
-        "--at",
-        at,
+        command, "--feed", "f", "--delays", "d", "--from", "MIL", "--to", to, "--at", at,
     ];
     told_over(alloc, files, words.as_slice())
 }
@@ -140,13 +130,7 @@ fn is_sure_in_the_first_hour_of_the_next_day(rt: HostRuntime) -> Result<(), Fail
             "class,delay,weight,hour\n*,0,8000,\n*,300,1500,\n*,900,500,\n*,0,10000,{hour}\n"
         )?;
         files.add("d", delays.as_bytes())?;
-        let told = from_mill_at(
-            rt.alloc(),
-            &mut files,
-            "safe",
-            "AIR",
-            "2024-06-04T00:40:00",
-        )?;
+        let told = from_mill_at(rt.alloc(), &mut files, "safe", "AIR", "2024-06-04T00:40:00")?;
         assert_eq!(rt; told.out.as_str(), safe);
     }
     Ok(())

@@ -1,4 +1,7 @@
 //! Limits, each passed by a run within smaller ones, and none of them anything.
+ghost use Rattle.std.specs.Prelude.{◌≤◌};
+ghost use Rattle.csv_rows.specs.Limits.{AreWithin};
+
 use crate::feeds::{OLD_TOWN, OLD_TOWN_PLAN, files_of};
 use crate::rides::{CHANGE, cut_of};
 use crate::tests::{Told, USUAL, told_by, words_of};
@@ -8,6 +11,34 @@ use meat_engine::{Fault, Input, LimitKind, Which, run_limited};
 use plan_model::List;
 use std::alloc::Global;
 use std::test::Fail;
+
+/// The limit, or the most that it may be.
+fn at_most(most: u64, limit: u64) -> u64
+    ensures { result ≤ most }
+{
+    if limit <= most { limit } else { most }
+}
+
+/// The limits, each at most the standard one.
+fn within(limits: &Limits) -> Limits
+    ensures { AreWithin result }
+{
+    let all = Limits::standard();
+    Limits {
+        bytes: at_most(all.bytes, limits.bytes),
+        stops: at_most(all.stops, limits.stops),
+        routes: at_most(all.routes, limits.routes),
+        trips: at_most(all.trips, limits.trips),
+        stop_times: at_most(all.stop_times, limits.stop_times),
+        frequencies: at_most(all.frequencies, limits.frequencies),
+        calendar: at_most(all.calendar, limits.calendar),
+        calendar_dates: at_most(all.calendar_dates, limits.calendar_dates),
+        transfers: at_most(all.transfers, limits.transfers),
+        cut_rows: at_most(all.cut_rows, limits.cut_rows),
+        connections: at_most(all.connections, limits.connections),
+        entries: at_most(all.entries, limits.entries),
+    }
+}
 
 /// What a run within limits told, and its fault.
 fn told_within(
@@ -19,7 +50,8 @@ fn told_within(
     let words = words_of(alloc, words)?;
     let mut out = MemorySink::new(alloc, 64, 1 << 13, List::new(alloc))?;
     let mut err = MemorySink::new(alloc, 64, 1 << 13, List::new(alloc))?;
-    let report = run_limited(alloc, words.as_slice(), files, &mut out, &mut err, limits);
+    let limits = within(limits);
+    let report = run_limited(alloc, words.as_slice(), files, &mut out, &mut err, &limits);
     let told = told_by(alloc, report.status.0, &out, &err)?;
     Ok((told, report.fault))
 }
@@ -61,18 +93,18 @@ fn bytes(table: Table, count: u64) -> Fault {
 }
 
 #[test]
-fn plans_over_a_feed_within_limits(rt: HostRuntime) -> Result<(), Fail> {
+fn refuses_a_feed_above_its_limits(rt: HostRuntime) -> Result<(), Fail> {
     let all = Limits::standard();
     for (limits, fault, line) in [
         (
             Limits { stops: 2, ..all },
             rows(Table::Stops, 6),
-            "meat: stops.txt has too many rows: 6\n",
+            b"meat: stops.txt has too many rows: 6\n".as_slice(),
         ),
         (
             Limits { bytes: 100, ..all },
             bytes(Table::Stops, 101),
-            "meat: stops.txt is too long\n",
+            b"meat: stops.txt is too long\n".as_slice(),
         ),
         (
             Limits {
@@ -80,27 +112,42 @@ fn plans_over_a_feed_within_limits(rt: HostRuntime) -> Result<(), Fail> {
                 ..all
             },
             Fault::Limit(LimitKind::Connections, 4),
-            "meat: too many connections: 4\n",
+            b"meat: too many connections: 4\n".as_slice(),
         ),
+    ] {
+        let mut files = old_town(rt.alloc())?;
+        let (told, found) = told_within(rt.alloc(), &mut files, FROM_MILL.as_slice(), &limits)?;
+        assert_eq!(rt; found, Some(fault));
+        assert_eq!(rt; told.status, 6);
+        assert!(rt; told.out.is_empty());
+        assert_eq!(rt; told.err.as_bytes(), line);
+    }
+    Ok(())
+}
+
+#[test]
+fn refuses_any_feed_where_a_limit_is_none(rt: HostRuntime) -> Result<(), Fail> {
+    let all = Limits::standard();
+    for (limits, fault, line) in [
         (
             Limits { bytes: 0, ..all },
             bytes(Table::Stops, 1),
-            "meat: stops.txt is too long\n",
+            b"meat: stops.txt is too long\n".as_slice(),
         ),
         (
             Limits { stops: 0, ..all },
             rows(Table::Stops, 6),
-            "meat: stops.txt has too many rows: 6\n",
+            b"meat: stops.txt has too many rows: 6\n".as_slice(),
         ),
         (
             Limits { routes: 0, ..all },
             rows(Table::Routes, 2),
-            "meat: routes.txt has too many rows: 2\n",
+            b"meat: routes.txt has too many rows: 2\n".as_slice(),
         ),
         (
             Limits { trips: 0, ..all },
             rows(Table::Trips, 3),
-            "meat: trips.txt has too many rows: 3\n",
+            b"meat: trips.txt has too many rows: 3\n".as_slice(),
         ),
         (
             Limits {
@@ -108,12 +155,12 @@ fn plans_over_a_feed_within_limits(rt: HostRuntime) -> Result<(), Fail> {
                 ..all
             },
             rows(Table::StopTimes, 7),
-            "meat: stop_times.txt has too many rows: 7\n",
+            b"meat: stop_times.txt has too many rows: 7\n".as_slice(),
         ),
         (
             Limits { calendar: 0, ..all },
             rows(Table::Calendar, 1),
-            "meat: calendar.txt has too many rows: 1\n",
+            b"meat: calendar.txt has too many rows: 1\n".as_slice(),
         ),
         (
             Limits {
@@ -121,7 +168,7 @@ fn plans_over_a_feed_within_limits(rt: HostRuntime) -> Result<(), Fail> {
                 ..all
             },
             rows(Table::CalendarDates, 1),
-            "meat: calendar_dates.txt has too many rows: 1\n",
+            b"meat: calendar_dates.txt has too many rows: 1\n".as_slice(),
         ),
         (
             Limits {
@@ -129,7 +176,7 @@ fn plans_over_a_feed_within_limits(rt: HostRuntime) -> Result<(), Fail> {
                 ..all
             },
             rows(Table::Transfers, 2),
-            "meat: transfers.txt has too many rows: 2\n",
+            b"meat: transfers.txt has too many rows: 2\n".as_slice(),
         ),
         (
             Limits {
@@ -137,15 +184,15 @@ fn plans_over_a_feed_within_limits(rt: HostRuntime) -> Result<(), Fail> {
                 ..all
             },
             Fault::Limit(LimitKind::Connections, 4),
-            "meat: too many connections: 4\n",
+            b"meat: too many connections: 4\n".as_slice(),
         ),
     ] {
         let mut files = old_town(rt.alloc())?;
         let (told, found) = told_within(rt.alloc(), &mut files, FROM_MILL.as_slice(), &limits)?;
-        assert_eq!(rt; found, Some(fault), "{line}");
-        assert_eq!(rt; told.status, 6, "{line}");
-        assert_eq!(rt; told.out.as_str(), "", "{line}");
-        assert_eq!(rt; told.err.as_str(), line);
+        assert_eq!(rt; found, Some(fault));
+        assert_eq!(rt; told.status, 6);
+        assert!(rt; told.out.is_empty());
+        assert_eq!(rt; told.err.as_bytes(), line);
     }
     Ok(())
 }
@@ -221,22 +268,22 @@ fn plans_over_a_cut_file_within_limits(rt: HostRuntime) -> Result<(), Fail> {
         (
             Limits { bytes: 8, ..all },
             6,
-            "meat: cut file is too long\n",
+            b"meat: cut file is too long\n".as_slice(),
         ),
         (
             Limits { bytes: 0, ..all },
             6,
-            "meat: cut file is too long\n",
+            b"meat: cut file is too long\n".as_slice(),
         ),
         (
             Limits { cut_rows: 1, ..all },
             6,
-            "meat: cut file has too many rows: 3\n",
+            b"meat: cut file has too many rows: 3\n".as_slice(),
         ),
         (
             Limits { cut_rows: 0, ..all },
             6,
-            "meat: cut file has too many rows: 3\n",
+            b"meat: cut file has too many rows: 3\n".as_slice(),
         ),
         (
             Limits {
@@ -246,13 +293,13 @@ fn plans_over_a_cut_file_within_limits(rt: HostRuntime) -> Result<(), Fail> {
                 ..all
             },
             0,
-            "",
+            b"".as_slice(),
         ),
     ] {
         let (told, _) = told_within(alloc, &mut files, words.as_slice(), &limits)?;
-        assert_eq!(rt; told.status, status, "{line}");
-        assert_eq!(rt; told.err.as_str(), line);
-        assert_eq!(rt; told.out.is_empty(), status == 6, "{line}");
+        assert_eq!(rt; told.status, status);
+        assert_eq!(rt; told.err.as_bytes(), line);
+        assert_eq!(rt; told.out.is_empty(), status == 6);
     }
     Ok(())
 }
