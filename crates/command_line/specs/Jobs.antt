@@ -3,7 +3,7 @@ use Rattle.std.specs.Prelude.{ℕ, List, [], ◌∷◌, Option, Some, None, Resu
 use Rattle.command_line.specs.declared.options.Command.{Command}
 use Rattle.command_line.specs.declared.options.Command.TheVariants as command
 use Rattle.command_line.specs.declared.options.OptionName.{OptionName}
-use Rattle.command_line.specs.declared.options.OptionName.TheVariants.{Cut, Feed, Delays, From, To, At, Alpha, Horizon, Graph, Late, Size}
+use Rattle.command_line.specs.declared.options.OptionName.TheVariants.{Cut, Feed, Delays, From, To, At, Alpha, Horizon, Graph, Late, Size, Proof}
 use Rattle.command_line.specs.declared.job.WordsFault.{WordsFault}
 use Rattle.command_line.specs.declared.job.WordsFault.TheVariants.{Line, UnknownCommand, NotUsed, Missing, BadValue}
 use Rattle.command_line.specs.Options.{all_options, option_number, command_named}
@@ -25,12 +25,15 @@ pub record WantedJourney : Type 0 where
   pub start : ℕ
 
 -- what is asked about a journey: the least worst arrival and the deadline, a decision graph ride by ride or by place, each by
--- a percentage for the deadline; or the trip by the graph of this path, with these delays
+-- a percentage for the deadline; the trip by the graph of this path, with these delays; a certificate, by a percentage for the
+-- deadline; or whether that of this path holds
 pub data WantedAsk : Type 0 where
   Safe : (alpha : ℕ) → WantedAsk
   Expand : (alpha : ℕ) → WantedAsk
   Plan : (alpha : ℕ) → WantedAsk
   Replay : (graph : List ℕ) (late : List ℕ) → WantedAsk
+  Certify : (alpha : ℕ) → WantedAsk
+  CheckProof : (proof : List ℕ) → WantedAsk
 
 -- what the words ask for: something about a journey, or the plan of one over a timetable that is made
 pub data Wanted : Type 0 where
@@ -77,6 +80,8 @@ wanted_of command.Safe settings = Ask (journey_of settings) (Safe (alpha_of sett
 wanted_of command.Expand settings = Ask (journey_of settings) (Expand (alpha_of settings))
 wanted_of command.Plan settings = Ask (journey_of settings) (Plan (alpha_of settings))
 wanted_of command.Replay settings = Ask (journey_of settings) (Replay (text_of settings Graph) (late_in (text_of settings Late)))
+wanted_of command.Certify settings = Ask (journey_of settings) (Certify (alpha_of settings))
+wanted_of command.Check settings = Ask (journey_of settings) (CheckProof (text_of settings Proof))
 wanted_of command.Sample settings = Sample (size_of settings)
 
 -- the refusal that the least option calls for, if one does

@@ -3,9 +3,9 @@ use Rattle.std.specs.Prelude.{ℕ, List, [], ◌∷◌, Option, Some, None, if�
 use Rattle.std.specs.Option.{option_map_or}
 use Rattle.std.specs.Str.{bytes_eq}
 use Rattle.command_line.specs.declared.options.Command.{Command}
-use Rattle.command_line.specs.declared.options.Command.TheVariants.{Safe, Expand, Plan, Replay, Sample}
+use Rattle.command_line.specs.declared.options.Command.TheVariants.{Safe, Expand, Plan, Replay, Certify, Check, Sample}
 use Rattle.command_line.specs.declared.options.OptionName.{OptionName}
-use Rattle.command_line.specs.declared.options.OptionName.TheVariants.{Cut, Feed, Delays, From, To, At, Alpha, Horizon, Graph, Late, Size}
+use Rattle.command_line.specs.declared.options.OptionName.TheVariants.{Cut, Feed, Delays, From, To, At, Alpha, Horizon, Graph, Late, Size, Proof}
 
 -- the word of an option
 abbrev pub option_name : OptionName → List ℕ
@@ -20,6 +20,7 @@ option_name Horizon = codes "--horizon"
 option_name Graph = codes "--graph"
 option_name Late = codes "--late"
 option_name Size = codes "--size"
+option_name Proof = codes "--proof"
 
 -- the number of an option
 abbrev pub option_number : OptionName → ℕ
@@ -34,10 +35,11 @@ option_number Horizon = 8
 option_number Graph = 9
 option_number Late = 10
 option_number Size = 11
+option_number Proof = 12
 
 -- the options by their numbers
 abbrev pub all_options : List OptionName
-all_options = Cut ∷ Feed ∷ Delays ∷ From ∷ To ∷ At ∷ Alpha ∷ Horizon ∷ Graph ∷ Late ∷ Size ∷ []
+all_options = Cut ∷ Feed ∷ Delays ∷ From ∷ To ∷ At ∷ Alpha ∷ Horizon ∷ Graph ∷ Late ∷ Size ∷ Proof ∷ []
 
 -- the option of this number
 abbrev pub option_numbered : ℕ → Option OptionName
@@ -58,5 +60,7 @@ command_named word =
     else if bytes_eq word (codes "expand") then Some Expand
     else if bytes_eq word (codes "plan") then Some Plan
     else if bytes_eq word (codes "replay") then Some Replay
+    else if bytes_eq word (codes "certify") then Some Certify
+    else if bytes_eq word (codes "check") then Some Check
     else if bytes_eq word (codes "sample") then Some Sample
     else None

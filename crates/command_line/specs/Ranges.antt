@@ -1,7 +1,7 @@
 -- The ranges of what a job asks for.
 use Rattle.std.specs.Prelude.{ℕ, ◌≤◌}
 use Rattle.command_line.specs.Values.{first_start, last_start, least_alpha, most_alpha, least_horizon, most_horizon, least_size, most_size}
-use Rattle.command_line.specs.Jobs.{WantedTimetable, CutFile, FeedFolder, WantedJourney, WantedAsk, Safe, Expand, Plan, Replay, Wanted, Ask, Sample}
+use Rattle.command_line.specs.Jobs.{WantedTimetable, CutFile, FeedFolder, WantedJourney, WantedAsk, Safe, Expand, Plan, Replay, Certify, CheckProof, Wanted, Ask, Sample}
 
 abbrev pub HasHorizon : WantedTimetable → Type 0
 HasHorizon (CutFile path) = Unit {0}
@@ -22,6 +22,8 @@ IsAsk (Safe alpha) = IsPercentage alpha
 IsAsk (Expand alpha) = IsPercentage alpha
 IsAsk (Plan alpha) = IsPercentage alpha
 IsAsk (Replay graph late) = Unit {0}
+IsAsk (Certify alpha) = IsPercentage alpha
+IsAsk (CheckProof proof) = Unit {0}
 
 -- the size of a made timetable is from 10 to 400
 abbrev pub IsJob : Wanted → Type 0

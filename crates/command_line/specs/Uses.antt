@@ -3,7 +3,7 @@ use Rattle.std.specs.Prelude.{ℕ, List, Bool, true, false, not, ◌&&◌, nat_l
 use Rattle.command_line.specs.declared.options.Command.{Command}
 use Rattle.command_line.specs.declared.options.Command.TheVariants as command
 use Rattle.command_line.specs.declared.options.OptionName.{OptionName}
-use Rattle.command_line.specs.declared.options.OptionName.TheVariants.{Cut, Feed, Delays, From, To, At, Alpha, Horizon, Graph, Late, Size}
+use Rattle.command_line.specs.declared.options.OptionName.TheVariants.{Cut, Feed, Delays, From, To, At, Alpha, Horizon, Graph, Late, Size, Proof}
 use Rattle.command_line.specs.declared.options.OwnUses.{OwnUses}
 use Rattle.command_line.specs.declared.options.Use.{Use}
 use Rattle.command_line.specs.declared.options.Use.TheVariants.{Needed, Optional, Unused, OneOf, With}
@@ -12,7 +12,7 @@ use Rattle.command_line.specs.Settings.{is_given}
 
 -- a command about a journey that takes none of the options which not each such command takes
 abbrev pub no_own : OwnUses
-no_own = record { alpha = Unused; graph = Unused; late = Unused }
+no_own = record { alpha = Unused; graph = Unused; late = Unused; proof = Unused }
 
 -- what a command about a journey does with an option
 abbrev pub on_journey : OwnUses → OptionName → Use
@@ -27,6 +27,7 @@ on_journey own Horizon = With Feed
 on_journey own Graph = own.graph
 on_journey own Late = own.late
 on_journey own Size = Unused
+on_journey own Proof = own.proof
 
 -- what a command about a made timetable does with an option
 abbrev pub on_made : OptionName → Use
@@ -41,6 +42,7 @@ on_made Horizon = Unused
 on_made Graph = Unused
 on_made Late = Unused
 on_made Size = Needed
+on_made Proof = Unused
 
 -- what a command does with an option
 abbrev pub use_of : Command → OptionName → Use
@@ -48,6 +50,8 @@ use_of command.Safe option = on_journey (record no_own { alpha = Optional }) opt
 use_of command.Expand option = on_journey (record no_own { alpha = Optional }) option
 use_of command.Plan option = on_journey (record no_own { alpha = Optional }) option
 use_of command.Replay option = on_journey (record no_own { graph = Needed; late = Needed }) option
+use_of command.Certify option = on_journey (record no_own { alpha = Optional }) option
+use_of command.Check option = on_journey (record no_own { proof = Needed }) option
 use_of command.Sample option = on_made option
 
 -- the number of an option is less than that of another

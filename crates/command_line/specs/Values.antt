@@ -6,7 +6,7 @@ use Rattle.clock_text.specs.Digits.{whole_of}
 use Rattle.clock_text.specs.Times.{moment_at}
 use Rattle.command_line.specs.Settings.{is_given, text_of}
 use Rattle.command_line.specs.declared.options.OptionName.{OptionName}
-use Rattle.command_line.specs.declared.options.OptionName.TheVariants.{Cut, Feed, Delays, From, To, At, Alpha, Horizon, Graph, Late, Size}
+use Rattle.command_line.specs.declared.options.OptionName.TheVariants.{Cut, Feed, Delays, From, To, At, Alpha, Horizon, Graph, Late, Size, Proof}
 
 -- the first moment at which a journey may begin, 1970-01-08T00:00:00, and the last, 2399-12-31T23:59:59
 abbrev pub first_start : ℕ
@@ -121,6 +121,7 @@ has_form settings Horizon = is_some (horizon_at (text_of settings Horizon))
 has_form settings Graph = not (is_empty (text_of settings Graph))
 has_form settings Late = is_some (late_at (text_of settings Late))
 has_form settings Size = is_some (size_at (text_of settings Size))
+has_form settings Proof = not (is_empty (text_of settings Proof))
 
 -- it is given, and not of its form
 abbrev pub is_bad : List (List ℕ) → OptionName → Bool

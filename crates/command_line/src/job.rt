@@ -70,6 +70,10 @@ pub enum Ask<'a> {
     /// The trip by the decision graph of a file, with the delays that were met: `none`, or seconds that
     /// are joined by commas.
     Replay { graph: &'a str, late: &'a str },
+    /// Lower bounds on the expected arrival of every safe strategy.
+    Certify { alpha: u32 },
+    /// Whether the lower bounds of a file hold.
+    CheckProof { proof: &'a str },
 }
 
 /// What a line of words asks for.
@@ -186,6 +190,18 @@ fn job_of(command: Command, settings: &[String]) -> Job<'_>
             Ask::Replay {
                 graph: text_of(settings, OptionName::Graph),
                 late: text_of(settings, OptionName::Late),
+            },
+        ),
+        Command::Certify => Job::Journey(
+            journey_of(settings),
+            Ask::Certify {
+                alpha: alpha_of(settings),
+            },
+        ),
+        Command::Check => Job::Journey(
+            journey_of(settings),
+            Ask::CheckProof {
+                proof: text_of(settings, OptionName::Proof),
             },
         ),
         Command::Sample => Job::Sample(size_of(settings)),

@@ -14,6 +14,10 @@ pub enum Command {
     Plan,
     /// To follow a decision graph as the delays come.
     Replay,
+    /// To make a certificate: lower bounds on the expected arrival of every safe strategy.
+    Certify,
+    /// To check a certificate.
+    Check,
     /// To plan a journey over a timetable that is made by rule.
     Sample,
 }
@@ -43,10 +47,12 @@ pub enum OptionName {
     Late,
     /// The size of a feed that is made.
     Size,
+    /// The path of a proof file, which has a certificate.
+    Proof,
 }
 
 /// The options by their numbers.
-pub(crate) const OPTIONS: [OptionName; 11] = [
+pub(crate) const OPTIONS: [OptionName; 12] = [
     OptionName::Cut,
     OptionName::Feed,
     OptionName::Delays,
@@ -58,6 +64,7 @@ pub(crate) const OPTIONS: [OptionName; 11] = [
     OptionName::Graph,
     OptionName::Late,
     OptionName::Size,
+    OptionName::Proof,
 ];
 
 /// What a command does with an option.
@@ -82,6 +89,7 @@ struct OwnUses {
     alpha: Use,
     graph: Use,
     late: Use,
+    proof: Use,
 }
 
 /// None of them is taken.
@@ -89,6 +97,7 @@ const NO_OWN: OwnUses = OwnUses {
     alpha: Use::Unused,
     graph: Use::Unused,
     late: Use::Unused,
+    proof: Use::Unused,
 };
 
 impl Command {
@@ -108,6 +117,12 @@ impl Command {
         if word == "replay" {
             return Some(Command::Replay);
         }
+        if word == "certify" {
+            return Some(Command::Certify);
+        }
+        if word == "check" {
+            return Some(Command::Check);
+        }
         if word == "sample" {
             return Some(Command::Sample);
         }
@@ -119,7 +134,7 @@ impl Command {
         ensures { result ≡ use_of self option }
     {
         match self {
-            Command::Safe | Command::Expand | Command::Plan => on_journey(
+            Command::Safe | Command::Expand | Command::Plan | Command::Certify => on_journey(
                 OwnUses {
                     alpha: Use::Optional,
                     ..NO_OWN
@@ -130,6 +145,13 @@ impl Command {
                 OwnUses {
                     graph: Use::Needed,
                     late: Use::Needed,
+                    ..NO_OWN
+                },
+                option,
+            ),
+            Command::Check => on_journey(
+                OwnUses {
+                    proof: Use::Needed,
                     ..NO_OWN
                 },
                 option,
@@ -152,6 +174,7 @@ fn on_journey(own: OwnUses, option: OptionName) -> Use
         OptionName::Graph => own.graph,
         OptionName::Late => own.late,
         OptionName::Size => Use::Unused,
+        OptionName::Proof => own.proof,
     }
 }
 
@@ -170,7 +193,8 @@ fn on_made(option: OptionName) -> Use
         | OptionName::Alpha
         | OptionName::Horizon
         | OptionName::Graph
-        | OptionName::Late => Use::Unused,
+        | OptionName::Late
+        | OptionName::Proof => Use::Unused,
     }
 }
 
@@ -191,6 +215,7 @@ impl OptionName {
             OptionName::Graph => "--graph",
             OptionName::Late => "--late",
             OptionName::Size => "--size",
+            OptionName::Proof => "--proof",
         }
     }
 
@@ -210,6 +235,7 @@ impl OptionName {
             OptionName::Graph => 9,
             OptionName::Late => 10,
             OptionName::Size => 11,
+            OptionName::Proof => 12,
         }
     }
 }

@@ -53,6 +53,7 @@ fn seeks_over_a_cut_file(rt: HostRuntime) -> Result<(), Fail> {
         ("safe --alpha 100 --cut c", Ask::Safe { alpha: 100 }),
         ("expand --cut c --alpha 0150", Ask::Expand { alpha: 150 }),
         ("plan --cut c --alpha 1000", Ask::Plan { alpha: 1_000 }),
+        ("certify --cut c", Ask::Certify { alpha: 200 }),
     ] {
         let words = words_of(rt.alloc(), &[line, JOURNEY])?;
         let Ok(Job::Journey(journey, ask)) = read_job(words.as_slice()) else {
@@ -143,6 +144,21 @@ fn replays_over_a_feed(rt: HostRuntime) -> Result<(), Fail> {
 }
 
 #[test]
+fn checks_over_a_feed(rt: HostRuntime) -> Result<(), Fail> {
+    let words = words_of(
+        rt.alloc(),
+        &["check --proof p --horizon 6 --feed f", JOURNEY],
+    )?;
+    let Ok(Job::Journey(journey, Ask::CheckProof { proof })) = read_job(words.as_slice()) else {
+        return Err("no check".into());
+    };
+    assert_eq!(rt; proof, "p");
+    assert!(rt; is_feed(journey.timetable, "f", 6));
+    assert!(rt; is_journey(&journey));
+    Ok(())
+}
+
+#[test]
 fn makes_samples(rt: HostRuntime) -> Result<(), Fail> {
     for (line, size) in [("sample --size 10", 10), ("sample --size 400", 400)] {
         let words = words_of(rt.alloc(), &[line])?;
@@ -201,6 +217,8 @@ fn refuses_useless_options(rt: HostRuntime) -> Result<(), Fail> {
         ("safe --cut c --horizon 24", 8),
         ("expand --graph g", 9),
         ("safe --size 10", 11),
+        ("check --proof p --alpha 200", 7),
+        ("certify --proof p", 12),
     ] {
         let fault = fault_of(rt.alloc(), line)?;
         assert_eq!(rt; fault, Some(WordsFault::NotUsed(number)), "{line}");
@@ -220,6 +238,7 @@ fn asks_for_options(rt: HostRuntime) -> Result<(), Fail> {
             9,
         ),
         ("sample", 11),
+        ("check --cut c --delays d --from A --to T --at x", 12),
     ] {
         let fault = fault_of(rt.alloc(), line)?;
         assert_eq!(rt; fault, Some(WordsFault::Missing(number)), "{line}");
@@ -290,7 +309,8 @@ fn names_options(rt: HostRuntime) {
         (6, "--at"),
         (10, "--late"),
         (11, "--size"),
-        (12, ""),
+        (12, "--proof"),
+        (13, ""),
         (255, ""),
     ] {
         assert_eq!(rt; option_word(number), word, "{number}");

@@ -140,6 +140,7 @@ pub(crate) fn has_form(settings: &[String], option: OptionName) -> bool
         | OptionName::Delays
         | OptionName::From
         | OptionName::To
-        | OptionName::Graph => !text.is_empty(),
+        | OptionName::Graph
+        | OptionName::Proof => !text.is_empty(),
     }
 }
