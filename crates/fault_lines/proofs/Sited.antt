@@ -2,7 +2,7 @@
 use Rattle.std.specs.Prelude.{◌≡◌, Option}
 use Rattle.trip_replay.specs.declared.ReplayFault.{ReplayFault}
 use Rattle.fault_lines.specs.declared.faults.Fault.{Fault}
-use Rattle.fault_lines.specs.declared.faults.Fault.TheVariants.{Replay}
+use Rattle.fault_lines.specs.declared.faults.Fault.TheVariants.{Replay, ProofFails, Unsafe}
 use Rattle.fault_lines.specs.Stages.{stage_of, AtOutcome}
 use Rattle.fault_lines.specs.Sites.{NamedParts, IsTellable}
 use Rattle.std.proofs.Common.{refl}
@@ -10,4 +10,6 @@ use Rattle.std.proofs.Common.{refl}
 -- only what a command comes to is at a site
 pub tellable : (known : Option NamedParts) (fault : Fault) → (stage_of fault ≡ AtOutcome → ⊥) → IsTellable known fault
 tellable known (Replay fault) other = absurd (other refl)
+tellable known (ProofFails connection) other = absurd (other refl)
+tellable known (Unsafe place moment) other = absurd (other refl)
 tellable known _ other = tt

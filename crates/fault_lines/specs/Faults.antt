@@ -4,7 +4,7 @@ use Rattle.csv_rows.specs.FeedTables.{file_name, rank_of}
 use Rattle.fault_lines.specs.declared.faults.Input.{Input}
 use Rattle.fault_lines.specs.declared.faults.Input.TheVariants as input
 use Rattle.fault_lines.specs.declared.faults.Fault.{Fault}
-use Rattle.fault_lines.specs.declared.faults.Fault.TheVariants.{Words, Feed, Cut, Missing, Delays, UnknownStop, Limit, Read, NoSafe, GraphFile, Replay, Write, NoMemory}
+use Rattle.fault_lines.specs.declared.faults.Fault.TheVariants.{Words, Feed, Cut, Missing, Delays, UnknownStop, Limit, Read, NoSafe, GraphFile, Replay, ProofFile, ProofFails, Unsafe, Write, NoMemory}
 
 -- where this file is missing
 abbrev pub missing_status : Input → ℕ
@@ -12,6 +12,7 @@ missing_status (input.Feed table) = 3
 missing_status input.Cut = 3
 missing_status input.Delays = 4
 missing_status input.Graph = 10
+missing_status input.Proof = 14
 
 -- 0 where there is no fault
 abbrev pub status_of : Option Fault → ℕ
@@ -29,6 +30,9 @@ status_of (Some Write) = 8
 status_of (Some NoMemory) = 9
 status_of (Some (GraphFile fault)) = 10
 status_of (Some (Replay fault)) = 11
+status_of (Some (ProofFails connection)) = 13
+status_of (Some (ProofFile fault)) = 14
+status_of (Some (Unsafe place moment)) = 15
 
 -- what a line calls a file
 abbrev pub input_name : Input → List ℕ
@@ -36,6 +40,7 @@ input_name (input.Feed table) = file_name table
 input_name input.Cut = codes "cut file"
 input_name input.Delays = codes "delay file"
 input_name input.Graph = codes "graph file"
+input_name input.Proof = codes "proof file"
 
 -- the file that cannot be read, where the fault is of this kind
 abbrev pub unread_of : Fault → Option Input
@@ -50,6 +55,9 @@ unread_of (Read input) = Some input
 unread_of NoSafe = None
 unread_of (GraphFile fault) = None
 unread_of (Replay fault) = None
+unread_of (ProofFile fault) = None
+unread_of (ProofFails connection) = None
+unread_of (Unsafe place moment) = None
 unread_of Write = None
 unread_of NoMemory = None
 
@@ -59,18 +67,27 @@ is_input (input.Feed other) (input.Feed table) = rank_of other == rank_of table
 is_input (input.Feed other) input.Cut = false
 is_input (input.Feed other) input.Delays = false
 is_input (input.Feed other) input.Graph = false
+is_input (input.Feed other) input.Proof = false
 is_input input.Cut (input.Feed table) = false
 is_input input.Cut input.Cut = true
 is_input input.Cut input.Delays = false
 is_input input.Cut input.Graph = false
+is_input input.Cut input.Proof = false
 is_input input.Delays (input.Feed table) = false
 is_input input.Delays input.Cut = false
 is_input input.Delays input.Delays = true
 is_input input.Delays input.Graph = false
+is_input input.Delays input.Proof = false
 is_input input.Graph (input.Feed table) = false
 is_input input.Graph input.Cut = false
 is_input input.Graph input.Delays = false
 is_input input.Graph input.Graph = true
+is_input input.Graph input.Proof = false
+is_input input.Proof (input.Feed table) = false
+is_input input.Proof input.Cut = false
+is_input input.Proof input.Delays = false
+is_input input.Proof input.Graph = false
+is_input input.Proof input.Proof = true
 
 -- whether this file is the one that cannot be read
 abbrev pub is_unread : Option Input → Input → Bool

@@ -15,13 +15,15 @@ use Rattle.delay_table.specs.declared.faults.DelayFault.{DelayFault}
 use Rattle.delay_table.specs.declared.faults.DelayFault.TheVariants as delay
 use Rattle.graph_text.specs.declared.reader.TextFault.{TextFault}
 use Rattle.graph_text.specs.declared.reader.TextFault.TheVariants as text
+use Rattle.lower_proof.specs.declared.reader.ProofFault.{ProofFault}
+use Rattle.lower_proof.specs.declared.reader.ProofFault.TheVariants as proof
 use Rattle.trip_replay.specs.declared.ReplayFault.{ReplayFault}
 use Rattle.trip_replay.specs.declared.ReplayFault.TheVariants as replay
 use Rattle.fault_lines.specs.declared.faults.Which.TheVariants as which
 use Rattle.fault_lines.specs.declared.faults.LimitKind.{LimitKind}
 use Rattle.fault_lines.specs.declared.faults.LimitKind.TheVariants.{Bytes, Rows, CutRows, Connections, Entries}
 use Rattle.fault_lines.specs.declared.faults.Fault.{Fault}
-use Rattle.fault_lines.specs.declared.faults.Fault.TheVariants.{Words, Feed, Cut, Missing, Delays, UnknownStop, Limit, Read, NoSafe, GraphFile, Replay, Write, NoMemory}
+use Rattle.fault_lines.specs.declared.faults.Fault.TheVariants.{Words, Feed, Cut, Missing, Delays, UnknownStop, Limit, Read, NoSafe, GraphFile, Replay, ProofFile, ProofFails, Unsafe, Write, NoMemory}
 use Rattle.fault_lines.specs.Faults.{input_name}
 use Rattle.fault_lines.specs.Sites.{NamedParts, site_of, site_text_in}
 
@@ -85,6 +87,14 @@ replay_text (replay.TooMany ridden) = codes "too many delays: " ++ (decimal ridd
 replay_text (replay.Stuck place moment) = codes "stuck"
 replay_text replay.NoMemory = codes "out of memory"
 
+abbrev pub proof_text : ProofFault → List ℕ
+proof_text (proof.Row line) = codes "proof file line " ++ (decimal line ++ codes ": bad row")
+proof_text (proof.UnknownName line) = codes "proof file line " ++ (decimal line ++ codes ": unknown name")
+proof_text (proof.NoConnection line) = codes "proof file line " ++ (decimal line ++ codes ": does not agree")
+proof_text (proof.NotRising line) = codes "proof file line " ++ (decimal line ++ codes ": not rising")
+proof_text (proof.OtherQuery line) = codes "proof file line " ++ (decimal line ++ codes ": other query")
+proof_text proof.NoMemory = codes "out of memory"
+
 abbrev pub limit_text : LimitKind → ℕ → List ℕ
 limit_text (Bytes input) count = input_name input ++ codes " is too long"
 limit_text (Rows table) count = file_name table ++ (codes " has too many rows: " ++ decimal count)
@@ -106,6 +116,9 @@ plain_text (Read input) = codes "cannot read " ++ input_name input
 plain_text NoSafe = codes "no safe strategy"
 plain_text (GraphFile fault) = graph_text fault
 plain_text (Replay fault) = replay_text fault
+plain_text (ProofFile fault) = proof_text fault
+plain_text (ProofFails connection) = codes "proof fails"
+plain_text (Unsafe place moment) = codes "unsafe"
 plain_text Write = codes "cannot write"
 plain_text NoMemory = codes "out of memory"
 
@@ -126,5 +139,8 @@ IsFormatted (Read input) = ⊥
 IsFormatted NoSafe = Unit {0}
 IsFormatted (GraphFile fault) = Unit {0}
 IsFormatted (Replay fault) = Unit {0}
+IsFormatted (ProofFile fault) = Unit {0}
+IsFormatted (ProofFails connection) = Unit {0}
+IsFormatted (Unsafe place moment) = Unit {0}
 IsFormatted Write = ⊥
 IsFormatted NoMemory = ⊥

@@ -1,18 +1,19 @@
 -- Where in a timetable a fault is, and what is told of that.
-use Rattle.std.specs.Prelude.{ℕ, ◌<◌, ◌≤◌, List, [], ◌++◌, length, Option, None, Some, option_map, codes}
+use Rattle.std.specs.Prelude.{ℕ, ◌<◌, ◌≤◌, List, [], ◌++◌, length, Option, None, Some, option_map, codes, decimal}
 use Rattle.clock_text.specs.Civil.{moment_text}
 use Rattle.plan_model.specs.declared.model.Moment.{Moment}
 use Rattle.plan_model.specs.declared.model.PlaceId.{PlaceId}
 use Rattle.plan_model.specs.Parts.{Parts}
 use Rattle.plan_model.specs.NameLists.{NameLists}
-use Rattle.graph_text.specs.Texts.{place_name}
+use Rattle.plan_model.specs.Network.{count, run_of, step_of}
+use Rattle.graph_text.specs.Texts.{place_name, run_name}
 use Rattle.trip_replay.specs.declared.ReplayFault.{ReplayFault}
 use Rattle.trip_replay.specs.declared.ReplayFault.TheVariants as replay
 use Rattle.fault_lines.specs.declared.told.NamedNetwork.{NamedNetwork}
 use Rattle.fault_lines.specs.declared.faults.Site.{Site}
-use Rattle.fault_lines.specs.declared.faults.Site.TheVariants.{Arrival}
+use Rattle.fault_lines.specs.declared.faults.Site.TheVariants.{Arrival, Connection}
 use Rattle.fault_lines.specs.declared.faults.Fault.{Fault}
-use Rattle.fault_lines.specs.declared.faults.Fault.TheVariants.{Words, Feed, Cut, Missing, Delays, UnknownStop, Limit, Read, NoSafe, GraphFile, Replay, Write, NoMemory}
+use Rattle.fault_lines.specs.declared.faults.Fault.TheVariants.{Words, Feed, Cut, Missing, Delays, UnknownStop, Limit, Read, NoSafe, GraphFile, Replay, ProofFile, ProofFails, Unsafe, Write, NoMemory}
 
 -- the last moment that has a text: 9999-12-31T23:59:59
 abbrev pub last_printable : ℕ
@@ -50,6 +51,9 @@ site_of (Read input) = None
 site_of NoSafe = None
 site_of (GraphFile fault) = None
 site_of (Replay fault) = site_of_replay fault
+site_of (ProofFile fault) = None
+site_of (ProofFails connection) = Some (Connection connection)
+site_of (Unsafe place moment) = Some (Arrival place moment)
 site_of Write = None
 site_of NoMemory = None
 
@@ -57,9 +61,14 @@ site_of NoMemory = None
 abbrev pub arrival_text : NameLists → PlaceId → Moment → List ℕ
 arrival_text names place moment = codes " at " ++ (place_name names place.0 ++ (codes " at " ++ moment_text moment.0))
 
+-- the run and the step of a connection
+abbrev pub step_text : NamedParts → ℕ → List ℕ
+step_text known c = codes " at " ++ (run_name known.names (run_of known.network c) ++ (codes " step " ++ decimal (step_of known.network c)))
+
 -- what is told of a site
 abbrev pub site_text : NamedParts → Site → List ℕ
 site_text known (Arrival place moment) = arrival_text known.names place moment
+site_text known (Connection connection) = step_text known connection.0
 
 -- nothing, where a fault is at no site, or no timetable is known
 abbrev pub site_text_in : Option NamedParts → Option Site → List ℕ
@@ -67,9 +76,10 @@ site_text_in known None = []
 site_text_in None (Some site) = []
 site_text_in (Some known) (Some site) = site_text known site
 
--- the place has a name, and the moment a text
+-- the place has a name, and the moment a text; the connection is there, and its run has a name
 abbrev pub IsTellableSite : NamedParts → Site → Type 0
 IsTellableSite known (Arrival place moment) = (place.0 < length known.names.places) × (moment.0 ≤ last_printable)
+IsTellableSite known (Connection connection) = (connection.0 < count known.network) × (run_of known.network connection.0 < length known.names.runs)
 
 -- where a fault is at a site, a timetable is known that has this site
 abbrev pub IsTellableIn : Option NamedParts → Option Site → Type 0

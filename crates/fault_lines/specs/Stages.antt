@@ -8,15 +8,17 @@ use Rattle.delay_table.specs.declared.faults.DelayFault.{DelayFault}
 use Rattle.delay_table.specs.declared.faults.DelayFault.TheVariants as delay
 use Rattle.graph_text.specs.declared.reader.TextFault.{TextFault}
 use Rattle.graph_text.specs.declared.reader.TextFault.TheVariants as text
+use Rattle.lower_proof.specs.declared.reader.ProofFault.{ProofFault}
+use Rattle.lower_proof.specs.declared.reader.ProofFault.TheVariants as proof
 use Rattle.fault_lines.specs.declared.faults.Input.{Input}
 use Rattle.fault_lines.specs.declared.faults.Input.TheVariants as input
 use Rattle.fault_lines.specs.declared.faults.LimitKind.{LimitKind}
 use Rattle.fault_lines.specs.declared.faults.LimitKind.TheVariants.{Bytes, Rows, CutRows, Connections, Entries}
 use Rattle.fault_lines.specs.declared.faults.Fault.{Fault}
-use Rattle.fault_lines.specs.declared.faults.Fault.TheVariants.{Words, Feed, Cut, Missing, Delays, UnknownStop, Limit, Read, NoSafe, GraphFile, Replay, Write, NoMemory}
+use Rattle.fault_lines.specs.declared.faults.Fault.TheVariants.{Words, Feed, Cut, Missing, Delays, UnknownStop, Limit, Read, NoSafe, GraphFile, Replay, ProofFile, ProofFails, Unsafe, Write, NoMemory}
 
--- the words; the timetable, its delays, the stops of the journey and the window of the timetable; the graph file; what the
--- command comes to; the writing of the answer; and memory, which may be wanting at any time
+-- the words; the timetable, its delays, the stops of the journey and the window of the timetable; the graph file or the proof
+-- file; what the command comes to; the writing of the answer; and memory, which may be wanting at any time
 pub data Stage : Type 0 where
   AtWords : Stage
   AtTimetable : Stage
@@ -24,6 +26,7 @@ pub data Stage : Type 0 where
   AtStops : Stage
   AtWindow : Stage
   AtGraphFile : Stage
+  AtProofFile : Stage
   AtOutcome : Stage
   AtOutput : Stage
   AtMemory : Stage
@@ -34,6 +37,7 @@ stage_of_input (input.Feed table) = AtTimetable
 stage_of_input input.Cut = AtTimetable
 stage_of_input input.Delays = AtDelays
 stage_of_input input.Graph = AtGraphFile
+stage_of_input input.Proof = AtProofFile
 
 -- the stage that has a limit
 abbrev pub stage_of_limit : LimitKind → Stage
@@ -56,10 +60,13 @@ stage_of (Read input) = stage_of_input input
 stage_of NoSafe = AtOutcome
 stage_of (GraphFile fault) = AtGraphFile
 stage_of (Replay fault) = AtOutcome
+stage_of (ProofFile fault) = AtProofFile
+stage_of (ProofFails connection) = AtOutcome
+stage_of (Unsafe place moment) = AtOutcome
 stage_of Write = AtOutput
 stage_of NoMemory = AtMemory
 
--- it comes before the graph file and after the words, where a fault is of a timetable, of its delays, of the stops of a
+-- it comes before the files of a command and after the words, where a fault is of a timetable, of its delays, of the stops of a
 -- journey or of the window; or there was no memory
 abbrev pub IsEarlyStage : Stage → Type 0
 IsEarlyStage AtWords = ⊥
@@ -68,6 +75,7 @@ IsEarlyStage AtDelays = Unit {0}
 IsEarlyStage AtStops = Unit {0}
 IsEarlyStage AtWindow = Unit {0}
 IsEarlyStage AtGraphFile = ⊥
+IsEarlyStage AtProofFile = ⊥
 IsEarlyStage AtOutcome = ⊥
 IsEarlyStage AtOutput = ⊥
 IsEarlyStage AtMemory = Unit {0}
@@ -118,6 +126,15 @@ IsOfGraphText (text.NoLeg line) = Unit {0}
 IsOfGraphText (text.OtherQuery line) = Unit {0}
 IsOfGraphText text.NoMemory = ⊥
 
+-- the same of a proof file
+abbrev pub IsOfProofText : ProofFault → Type 0
+IsOfProofText (proof.Row line) = Unit {0}
+IsOfProofText (proof.UnknownName line) = Unit {0}
+IsOfProofText (proof.NoConnection line) = Unit {0}
+IsOfProofText (proof.NotRising line) = Unit {0}
+IsOfProofText (proof.OtherQuery line) = Unit {0}
+IsOfProofText proof.NoMemory = ⊥
+
 -- where it is told of a file it is of what the file holds
 abbrev pub IsOfText : Fault → Type 0
 IsOfText (Words fault) = Unit {0}
@@ -131,6 +148,9 @@ IsOfText (Read input) = Unit {0}
 IsOfText NoSafe = Unit {0}
 IsOfText (GraphFile fault) = IsOfGraphText fault
 IsOfText (Replay fault) = Unit {0}
+IsOfText (ProofFile fault) = IsOfProofText fault
+IsOfText (ProofFails connection) = Unit {0}
+IsOfText (Unsafe place moment) = Unit {0}
 IsOfText Write = Unit {0}
 IsOfText NoMemory = Unit {0}
 

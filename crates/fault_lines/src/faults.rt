@@ -8,7 +8,8 @@ use csv_rows::{FeedFault, Table};
 use cut_file::CutFault;
 use delay_table::DelayFault;
 use graph_text::TextFault;
-use plan_model::{Moment, NoMemory, PlaceId};
+use lower_proof::ProofFault;
+use plan_model::{ConnectionId, Moment, NoMemory, PlaceId};
 use trip_replay::ReplayFault;
 
 /// A file that a command reads.
@@ -22,6 +23,8 @@ pub enum Input {
     Delays,
     /// The graph file.
     Graph,
+    /// The proof file.
+    Proof,
 }
 
 /// A stop that the words name.
@@ -73,6 +76,12 @@ pub enum Fault {
     GraphFile(TextFault),
     /// The graph cannot be followed with these delays.
     Replay(ReplayFault),
+    /// The proof file is faulty.
+    ProofFile(ProofFault),
+    /// The certificate fails at this connection, whose value is too great.
+    ProofFails(ConnectionId),
+    /// The graph is not safe: who follows it may be stuck or too late at this place, since this moment.
+    Unsafe(PlaceId, Moment),
     /// The answer cannot be written.
     Write,
     /// There is no memory.
@@ -84,6 +93,8 @@ pub enum Fault {
 pub enum Site {
     /// At a place, since a moment.
     Arrival(PlaceId, Moment),
+    /// At a connection.
+    Connection(ConnectionId),
 }
 
 impl Input {
@@ -96,6 +107,7 @@ impl Input {
             Input::Cut => "cut file",
             Input::Delays => "delay file",
             Input::Graph => "graph file",
+            Input::Proof => "proof file",
         }
     }
 
@@ -107,6 +119,7 @@ impl Input {
             Input::Feed(_) | Input::Cut => 3,
             Input::Delays => 4,
             Input::Graph => 10,
+            Input::Proof => 14,
         }
     }
 }
@@ -140,14 +153,20 @@ impl Fault {
             Fault::NoMemory => 9,
             Fault::GraphFile(_) => 10,
             Fault::Replay(_) => 11,
+            Fault::ProofFails(_) => 13,
+            Fault::ProofFile(_) => 14,
+            Fault::Unsafe(_, _) => 15,
         }
     }
+
     /// Where in its timetable the fault is, for one that is at a place.
     pub fn site(self) -> Option<Site>
         ensures { result ≡ site_of self }
     {
         match self {
             Fault::Replay(fault) => site_of_replay(fault),
+            Fault::ProofFails(id) => Some(Site::Connection(id)),
+            Fault::Unsafe(place, moment) => Some(Site::Arrival(place, moment)),
             Fault::NoSafe
             | Fault::Words(_)
             | Fault::Feed(_)
@@ -159,7 +178,8 @@ impl Fault {
             | Fault::Read(_)
             | Fault::Write
             | Fault::NoMemory
-            | Fault::GraphFile(_) => None,
+            | Fault::GraphFile(_)
+            | Fault::ProofFile(_) => None,
         }
     }
 }

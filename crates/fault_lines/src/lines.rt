@@ -9,6 +9,7 @@ use csv_rows::{FeedFault, Table};
 use cut_file::CutFault;
 use delay_table::{ClassName, DelayFault};
 use graph_text::TextFault;
+use lower_proof::ProofFault;
 use std::fmt;
 use trip_replay::ReplayFault;
 
@@ -222,6 +223,27 @@ impl fmt::Display for ReplayText {
     }
 }
 
+/// The text of a fault of the proof file.
+#[derive(Clone, Copy)]
+struct ProofText(ProofFault);
+
+impl fmt::Display for ProofText {
+    ghost use Rattle.fault_lines.specs.Lines.{proof_text};
+
+    ghost output = { λ t. Some (proof_text t.0) };
+
+    fn fmt<W: fmt::Write>(&self, f: &mut fmt::Formatter<W>) -> fmt::Result {
+        match self.0 {
+            ProofFault::Row(line) => write!(f, "proof file line {line}: bad row"),
+            ProofFault::UnknownName(line) => write!(f, "proof file line {line}: unknown name"),
+            ProofFault::NoConnection(line) => write!(f, "proof file line {line}: does not agree"),
+            ProofFault::NotRising(line) => write!(f, "proof file line {line}: not rising"),
+            ProofFault::OtherQuery(line) => write!(f, "proof file line {line}: other query"),
+            ProofFault::NoMemory => write!(f, "out of memory"),
+        }
+    }
+}
+
 /// The text of too much of something.
 #[derive(Clone, Copy)]
 struct LimitText(LimitKind, u64);
@@ -299,6 +321,12 @@ impl fmt::Display for FaultText {
                 let text = ReplayText(fault);
                 write!(f, "{text}")
             }
+            Fault::ProofFile(fault) => {
+                let text = ProofText(fault);
+                write!(f, "{text}")
+            }
+            Fault::ProofFails(_) => write!(f, "proof fails"),
+            Fault::Unsafe(_, _) => write!(f, "unsafe"),
             Fault::Write => write!(f, "cannot write"),
             Fault::NoMemory => write!(f, "out of memory"),
         }
@@ -321,6 +349,7 @@ fn unread_line(input: Input) -> &'static str
         Input::Cut => "meat: cannot read cut file\n",
         Input::Delays => "meat: cannot read delay file\n",
         Input::Graph => "meat: cannot read graph file\n",
+        Input::Proof => "meat: cannot read proof file\n",
     }
 }
 

@@ -2,6 +2,7 @@
 use super::*;
 use command_line::WordsFault;
 use csv_rows::{FeedFault, Table};
+use lower_proof::ProofFault;
 use std::test::Fail;
 
 /// A line of each kind that is at no place of a timetable.
@@ -28,6 +29,12 @@ fn tells_faults_by_status_and_line(rt: HostRuntime) -> Result<(), Fail> {
             "too many entries: 4",
         ),
         (Fault::Read(Input::Graph), 7, "cannot read graph file"),
+        (Fault::Missing(Input::Proof), 14, "proof file is missing"),
+        (
+            Fault::ProofFile(ProofFault::NotRising(3)),
+            14,
+            "proof file line 3: not rising",
+        ),
     ] {
         let told = fault_line(rt.alloc(), fault, None)?;
         let wanted = format!(in rt.alloc(); "meat: {line}\n")?;

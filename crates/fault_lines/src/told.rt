@@ -1,12 +1,12 @@
 //! The line of a fault, by the names of its timetable.
 ghost use Rattle.std.specs.Prelude.{◌≡◌, ◌<◌, ◌≤◌, ◌++◌, length, IfOk, codes};
 ghost use Rattle.fault_lines.specs.Lines.{plain_text, line_of};
-ghost use Rattle.fault_lines.specs.Sites.{last_printable, arrival_text, known_parts, known_in, site_of, site_text, site_text_in, IsTellable, IsTellableSite};
+ghost use Rattle.fault_lines.specs.Sites.{last_printable, arrival_text, step_text, known_parts, known_in, site_of, site_text, site_text_in, IsTellable, IsTellableSite};
 
 use crate::faults::{Fault, Site};
 use crate::lines::FaultText;
 use clock_text::write_moment;
-use plan_model::{Moment, Names, Network, NoMemory, PlaceId};
+use plan_model::{ConnectionId, Moment, Names, Network, NoMemory, PlaceId};
 use std::alloc::Global;
 
 /// A timetable with its names, by which a line tells where a fault is.
@@ -39,14 +39,41 @@ fn with_arrival(
     Ok(line)
 }
 
+/// A line with the run and the step of a connection behind it.
+fn with_step(
+    alloc: Global,
+    line: Vec<u8>,
+    known: NamedNetwork,
+    id: ConnectionId,
+) -> Result<Vec<u8>, NoMemory>
+    requires { IsTellableSite (known_parts known) (Site.Connection id) }
+    ensures { IfOk result (λ text.
+        text.items ≡ line.items ++ step_text (known_parts known.entry) id.0) }
+{
+    let connection = known.network.get(id);
+    let step = format!(in alloc; "{}", connection.step)?;
+    let mut line = line;
+    line.extend_from_slice(b" at ")?;
+    line.extend_from_slice(known.names.run_name(connection.run).as_bytes())?;
+    line.extend_from_slice(b" step ")?;
+    line.extend_from_slice(step.as_bytes())?;
+    Ok(line)
+}
+
 /// A line with what is told of a site behind it.
-fn with_site(line: Vec<u8>, site: Site, known: NamedNetwork) -> Result<Vec<u8>, NoMemory>
+fn with_site(
+    alloc: Global,
+    line: Vec<u8>,
+    site: Site,
+    known: NamedNetwork,
+) -> Result<Vec<u8>, NoMemory>
     requires { IsTellableSite (known_parts known) site }
     ensures { IfOk result (λ text.
         text.items ≡ line.items ++ site_text (known_parts known.entry) site) }
 {
     match site {
         Site::Arrival(place, moment) => with_arrival(line, known.names, place, moment),
+        Site::Connection(id) => with_step(alloc, line, known, id),
     }
 }
 
@@ -59,7 +86,7 @@ fn front_of(alloc: Global, fault: Fault, known: Option<NamedNetwork>) -> Result<
     let text = FaultText(fault);
     let line = format!(in alloc; "meat: {text}")?.into_bytes();
     match (fault.site(), known) {
-        (Some(site), Some(known)) => with_site(line, site, known),
+        (Some(site), Some(known)) => with_site(alloc, line, site, known),
         _ => Ok(line),
     }
 }

@@ -14,6 +14,7 @@ early_stage timetable (input.Feed table) own = tt
 early_stage timetable input.Cut own = tt
 early_stage timetable input.Delays own = tt
 early_stage timetable input.Graph own = absurd own
+early_stage timetable input.Proof own = absurd own
 
 module _ (timetable : WantedTimetable) (file : Input) (own : IsInputOf timetable file) where
   pub early_read : IsEarly timetable (Read file)

@@ -29,6 +29,7 @@ own_unread (input.Feed table) = same_rank (rank_of table)
 own_unread input.Cut = refl
 own_unread input.Delays = refl
 own_unread input.Graph = refl
+own_unread input.Proof = refl
 
 -- a file that cannot be read
 pub bytes_of-unread : (most : ℕ) (file : Input) (bytes : Option (List ℕ)) → bytes_of most file (Some file) bytes ≡ Err (Read file)

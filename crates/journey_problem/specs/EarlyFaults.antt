@@ -4,7 +4,7 @@ use Rattle.fault_lines.specs.declared.faults.Input.TheVariants as input
 use Rattle.fault_lines.specs.declared.faults.LimitKind.{LimitKind}
 use Rattle.fault_lines.specs.declared.faults.LimitKind.TheVariants.{Bytes, Rows, CutRows, Connections, Entries}
 use Rattle.fault_lines.specs.declared.faults.Fault.{Fault}
-use Rattle.fault_lines.specs.declared.faults.Fault.TheVariants.{Words, Feed, Cut, Missing, Delays, UnknownStop, Limit, Read, NoSafe, GraphFile, Replay, Write, NoMemory}
+use Rattle.fault_lines.specs.declared.faults.Fault.TheVariants.{Words, Feed, Cut, Missing, Delays, UnknownStop, Limit, Read, NoSafe, GraphFile, Replay, ProofFile, ProofFails, Unsafe, Write, NoMemory}
 use Rattle.fault_lines.specs.Stages.{stage_of, IsEarlyStage, IsOfText}
 use Rattle.command_line.specs.Jobs.{WantedTimetable, CutFile, FeedFolder}
 
@@ -24,6 +24,7 @@ IsInputOf timetable (input.Feed table) = IsOfFeed timetable
 IsInputOf timetable input.Cut = IsOfCutFile timetable
 IsInputOf timetable input.Delays = Unit {0}
 IsInputOf timetable input.Graph = ⊥
+IsInputOf timetable input.Proof = ⊥
 
 -- the limit is one of a journey over this timetable
 abbrev pub IsLimitOf : WantedTimetable → LimitKind → Type 0
@@ -46,6 +47,9 @@ IsOfTimetable timetable (Read input) = IsInputOf timetable input
 IsOfTimetable timetable NoSafe = Unit {0}
 IsOfTimetable timetable (GraphFile fault) = Unit {0}
 IsOfTimetable timetable (Replay fault) = Unit {0}
+IsOfTimetable timetable (ProofFile fault) = Unit {0}
+IsOfTimetable timetable (ProofFails connection) = Unit {0}
+IsOfTimetable timetable (Unsafe place moment) = Unit {0}
 IsOfTimetable timetable Write = Unit {0}
 IsOfTimetable timetable NoMemory = Unit {0}
 

@@ -35,6 +35,7 @@ path_by timetable j own (input.Feed table) = feed_path timetable table
 path_by timetable j own input.Cut = cut_path timetable
 path_by timetable j own input.Delays = Some j.delays
 path_by timetable j own input.Graph = own input.Graph
+path_by timetable j own input.Proof = own input.Proof
 
 abbrev pub path_of : WantedJourney → OwnPaths → Input → Option (List ℕ)
 path_of j own = path_by j.timetable j own

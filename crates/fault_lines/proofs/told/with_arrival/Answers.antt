@@ -1,4 +1,5 @@
 use Rattle.std.proofs.Common.{◌∙◌}
+use Rattle.std.specs.Prelude.{codes}
 use Rattle.clock_text.specs.Civil.{moment_text}
 use Rattle.graph_text.specs.Texts.{place_name}
 use Rattle.graph_text.proofs.Fields.{name_is}
@@ -10,6 +11,6 @@ returns c =
     let place = c.as_bytes.ensures.value ∙ name_is c.args.names.now.places c.args.place.0 c.place_name.result.now c.place_name.ensures.name in
     let moment = c.as_slice.ensures ∙ c.write_moment-moment.ensures.text in
     placed c.args.line.items c.extend_from_slice.new.self.items c.extend_from_slice-2.new.self.items c.extend_from_slice-3.new.self.items c.extend_from_slice-4.new.self.items
-    c.as_bytes.result.now c.as_slice.result.now (place_name c.args.names.now c.args.place.0) (moment_text c.args.moment.0)
+    (codes " at ") (codes " at ") c.as_bytes.result.now c.as_slice.result.now (place_name c.args.names.now c.args.place.0) (moment_text c.args.moment.0)
     c.in_ok-extend_from_slice.ensures.items c.in_ok-extend_from_slice-2.ensures.items c.in_ok-extend_from_slice-3.ensures.items c.in_ok-extend_from_slice-4.ensures.items
     place moment
