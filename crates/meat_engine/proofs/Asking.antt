@@ -2,7 +2,7 @@
 use Rattle.std.proofs.Common.{◌≡◌, ℕ, List, Option, Some, None, Result, Ok, Err, inl, inr, refl, ap, sym, ◌∙◌, subst, arith}
 use Rattle.std.specs.Prelude.{◌≢◌, ◌⊎◌, IfErr, IfOk, option_map}
 use Rattle.file_ports.specs.Counts.{Rose}
-use Rattle.command_line.specs.Jobs.{WantedTimetable, WantedJourney, WantedAsk, Safe, Expand, Plan, Replay}
+use Rattle.command_line.specs.Jobs.{WantedTimetable, WantedJourney, WantedAsk, Safe, Expand, Plan, Replay, Certify, CheckProof}
 use Rattle.fault_lines.specs.declared.faults.Input.{Input}
 use Rattle.fault_lines.specs.declared.faults.Input.TheVariants as input
 use Rattle.fault_lines.specs.declared.faults.Fault.{Fault}
@@ -36,6 +36,7 @@ of_no_input (input.Feed table) same = cc
 of_no_input input.Cut same = cc
 of_no_input input.Delays same = cc
 of_no_input input.Graph same = cc
+of_no_input input.Proof same = cc
 
 tellable_or : (known : Option NamedParts) (file : Input) (fault : Fault) → (fault ≡ NoMemory) ⊎ (fault ≢ NoMemory) → (fault ≢ NoMemory → IsOfInput file fault) → IsTellable known fault
 tellable_or known file fault (inl is) of = subst (IsTellable known) (sym is) tt
@@ -98,3 +99,10 @@ beside (Replay graph late) j before_of now_of (input.Feed table) rose = absurd r
 beside (Replay graph late) j before_of now_of input.Cut rose = absurd rose
 beside (Replay graph late) j before_of now_of input.Delays rose = absurd rose
 beside (Replay graph late) j before_of now_of input.Graph rose = rose
+beside (Replay graph late) j before_of now_of input.Proof rose = absurd rose
+beside (Certify alpha) j before_of now_of file rose = absurd rose
+beside (CheckProof proof) j before_of now_of (input.Feed table) rose = absurd rose
+beside (CheckProof proof) j before_of now_of input.Cut rose = absurd rose
+beside (CheckProof proof) j before_of now_of input.Delays rose = absurd rose
+beside (CheckProof proof) j before_of now_of input.Graph rose = absurd rose
+beside (CheckProof proof) j before_of now_of input.Proof rose = rose

@@ -7,19 +7,22 @@ use Rattle.plan_model.specs.declared.model.Query.{Query}
 use Rattle.plan_model.specs.declared.model.Moment.{Moment}
 use Rattle.plan_model.specs.Parts.{Parts}
 use Rattle.plan_model.specs.Strategy.{Reaches, LeastWorst}
-use Rattle.command_line.specs.Jobs.{WantedJourney, WantedAsk, Safe, Expand, Plan, Replay as Replays}
+use Rattle.command_line.specs.Jobs.{WantedJourney, WantedAsk, Safe, Expand, Plan, Replay as Replays, Certify, CheckProof}
 use Rattle.fault_lines.specs.declared.faults.Input.{Input}
+use Rattle.fault_lines.specs.declared.faults.Input.TheVariants as input
 use Rattle.fault_lines.specs.declared.faults.Fault.{Fault}
 use Rattle.fault_lines.specs.declared.faults.Fault.TheVariants.{Read}
 use Rattle.fault_lines.specs.Faults.{status_of}
 use Rattle.fault_lines.specs.Sites.{NamedParts}
 use Rattle.journey_problem.specs.declared.problem.Problem.{Problem}
 use Rattle.journey_problem.specs.Problems.{IsProblem, IsProblemFault}
+use Rattle.journey_problem.specs.Files.{bytes_of}
 use Rattle.journey_problem.proofs.OneProblem.{one_problem}
 use Rattle.journey_problem.proofs.NoFaults.{none_unread}
 use Rattle.meat_engine.specs.Answers.{IsAsked, IsNoSafe}
 use Rattle.meat_engine.specs.Asks.{AnswersAsk, FailsAsk, EndsAsk, FailsJourney}
-use Rattle.meat_engine.specs.Ends.{HasSafe, EndsBySafety, EndsByGraphFile}
+use Rattle.meat_engine.specs.Checks.{FailsFile, FailsCheck}
+use Rattle.meat_engine.specs.Ends.{HasSafe, EndsBySafety, EndsByGraphFile, EndsByProofFile}
 use Rattle.meat_engine.specs.Findings.{Findings}
 use Rattle.meat_engine.specs.Replays.{graph_in, FailsReplay}
 
@@ -46,6 +49,8 @@ module _ (limits : Limits) (files : Folder) (start : ℕ) (p : Problem) where
   answers_end (Plan alpha) found text (q, w, asked, tells) = asked_ends p start alpha q w asked
   answers_end (Replays graph late) found text (head, plan, file, told) =
       inl (head, plan, file.reads, inl (told.trace, told.trip, refl))
+  answers_end (Certify alpha) found text (q, w, asked, tells) = asked_ends p start alpha q w asked
+  answers_end (CheckProof path) found text (q, proof, file, held) = inl (q, proof, file, inl (held.accepted, refl))
 
   replay_ends : (graph late : List ℕ) (fault : Fault) → ((i : Input) → fault ≡ Read i → ⊥)
       → FailsReplay (Some files) limits start graph late p fault → EndsByGraphFile limits files start graph late p (status_of (Some fault))
@@ -54,6 +59,13 @@ module _ (limits : Limits) (files : Folder) (start : ℕ) (p : Problem) where
   replay_ends graph late fault never (inr (head, plan, file, trip)) =
       inl (head, plan, file.reads, inr (trip.stop, trip.trip, ap (λ (f : Fault). status_of (Some f)) trip.fault_is))
 
+  check_ends : (path : List ℕ) (fault : Fault) → ((i : Input) → fault ≡ Read i → ⊥) → FailsCheck (Some files) limits start path p fault
+      → EndsByProofFile limits files start path p (status_of (Some fault))
+  check_ends path fault never (inl (of, fails)) =
+      inr (fault, subst (λ (u : Option Input). FailsFile p start (bytes_of limits.bytes input.Proof u (file_at files path)) fault) (none_unread fault never) fails, refl)
+  check_ends path fault never (inr (q, proof, file, (connection, is, last))) =
+      inl (q, proof, file, inr (connection.0, last, ap (λ (f : Fault). status_of (Some f)) is))
+
   -- a question with no answer
   pub fails_end : (ask : WantedAsk) (fault : Fault) → ((i : Input) → fault ≡ Read i → ⊥) → FailsAsk (Some files) limits start p ask fault
       → EndsAsk limits files start p ask (status_of (Some fault))
@@ -61,6 +73,8 @@ module _ (limits : Limits) (files : Folder) (start : ℕ) (p : Problem) where
   fails_end (Expand alpha) fault never fails = unsafe_ends p start fault fails
   fails_end (Plan alpha) fault never fails = unsafe_ends p start fault fails
   fails_end (Replays graph late) fault never fails = replay_ends graph late fault never fails
+  fails_end (Certify alpha) fault never fails = unsafe_ends p start fault fails
+  fails_end (CheckProof path) fault never fails = check_ends path fault never fails
 
 module _ (limits : Limits) (files : Folder) (j : WantedJourney) (a : WantedAsk) where
   -- over some problem of the files it ends so

@@ -2,6 +2,7 @@ pub mod Sought
 pub mod TextLemmas
 pub mod Asking
 pub mod Trips
+pub mod Checked
 pub mod Told
 pub mod Outcomes
 pub mod Undisturbed

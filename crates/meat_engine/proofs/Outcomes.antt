@@ -5,16 +5,16 @@ use Rattle.std.specs.Io.KnownBytes.{Keeps}
 use Rattle.file_ports.specs.Ports.{Folder}
 use Rattle.csv_rows.specs.declared.limits.Limits.{Limits}
 use Rattle.command_line.specs.declared.job.WordsFault.{WordsFault}
-use Rattle.command_line.specs.Jobs.{WantedAsk, Safe, Expand, Plan, Replay as Replays, Wanted, Ask, Sample, job_of}
+use Rattle.command_line.specs.Jobs.{WantedAsk, Safe, Expand, Plan, Replay as Replays, Certify, CheckProof, Wanted, Ask, Sample, job_of}
 use Rattle.fault_lines.specs.declared.faults.Input.{Input}
 use Rattle.fault_lines.specs.declared.faults.Input.TheVariants as input
 use Rattle.fault_lines.specs.declared.faults.LimitKind.{LimitKind}
 use Rattle.fault_lines.specs.declared.faults.LimitKind.TheVariants.{Bytes}
 use Rattle.fault_lines.specs.declared.faults.Fault.{Fault}
-use Rattle.fault_lines.specs.declared.faults.Fault.TheVariants.{Words, Missing, Limit, Read, Replay, Write, NoSafe, NoMemory}
+use Rattle.fault_lines.specs.declared.faults.Fault.TheVariants.{Words, Missing, Limit, Read, Replay, ProofFails, Write, NoSafe, NoMemory}
 use Rattle.fault_lines.specs.Lines.{line_of, IsFormatted}
 use Rattle.fault_lines.specs.Sites.{NamedParts}
-use Rattle.fault_lines.specs.Stages.{stage_of_input, stage_of_limit, AtOutput, AtGraphFile}
+use Rattle.fault_lines.specs.Stages.{stage_of_input, stage_of_limit, AtOutput, AtGraphFile, AtProofFile}
 use Rattle.journey_problem.specs.declared.problem.Problem.{Problem}
 use Rattle.meat_engine.specs.declared.report.Report.{Report}
 use Rattle.meat_engine.specs.Asks.{FailsAsk}
@@ -27,6 +27,7 @@ of_input (input.Feed table) = refl
 of_input input.Cut = refl
 of_input input.Delays = refl
 of_input input.Graph = refl
+of_input input.Proof = refl
 
 of_limit : (kind : LimitKind) → ending_at (stage_of_limit kind) ≡ Refused
 of_limit (Bytes file) = of_input file
@@ -48,6 +49,9 @@ module _ (told : Option Folder) (limits : Limits) (words : List (List ℕ)) wher
   ask_write start p (Plan alpha) (is, none) = absurd (cc)
   ask_write start p (Replays graph late) (inl of) = let late : AtOutput ≡ AtGraphFile = of.0.0 in cc
   ask_write start p (Replays graph late) (inr (head, more, file, trip)) = let is : Write ≡ Replay trip.stop = trip.fault_is in cc
+  ask_write start p (Certify alpha) (is, none) = absurd (cc)
+  ask_write start p (CheckProof proof) (inl of) = let late : AtOutput ≡ AtProofFile = of.0.0 in cc
+  ask_write start p (CheckProof proof) (inr (q, bounds, file, (connection, is, last))) = let same : Write ≡ ProofFails connection = is in cc
 
   pub write_fails : (wanted : Wanted) (known : Option NamedParts) → FailsJob told limits wanted known Write → ⊥
   write_fails (Ask j ask) known (inl (p, sound, problem, (is, why))) = ask_write j.start p ask why

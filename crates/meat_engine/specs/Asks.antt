@@ -2,7 +2,7 @@
 use Rattle.std.specs.Prelude.{◌≡◌, ◌⊎◌, ℕ, List, Option, None, Some}
 use Rattle.file_ports.specs.Ports.{Folder}
 use Rattle.csv_rows.specs.declared.limits.Limits.{Limits}
-use Rattle.command_line.specs.Jobs.{WantedJourney, WantedAsk, Safe, Expand, Plan, Replay}
+use Rattle.command_line.specs.Jobs.{WantedJourney, WantedAsk, Safe, Expand, Plan, Replay, Certify, CheckProof}
 use Rattle.fault_lines.specs.declared.faults.Input.{Input}
 use Rattle.fault_lines.specs.declared.faults.Input.TheVariants as input
 use Rattle.fault_lines.specs.declared.faults.Fault.{Fault}
@@ -13,7 +13,9 @@ use Rattle.journey_problem.specs.Problems.{FailsEarly, InProblem}
 use Rattle.meat_engine.specs.Findings.{Findings}
 use Rattle.meat_engine.specs.Answers.{InQuery, TellsWorst, TellsExpanded, TellsPlanned, IsNoSafe}
 use Rattle.meat_engine.specs.Replays.{InGraphFile, IsTripTold, FailsReplay}
-use Rattle.meat_engine.specs.Ends.{EndsBySafety, EndsByGraphFile}
+use Rattle.meat_engine.specs.Certified.{TellsCertificate}
+use Rattle.meat_engine.specs.Checks.{InProofFile, IsHeld, FailsCheck}
+use Rattle.meat_engine.specs.Ends.{EndsBySafety, EndsByGraphFile, EndsByProofFile}
 
 -- no file is read beside those of the journey
 abbrev pub no_path : OwnPaths
@@ -25,6 +27,15 @@ graph_path path (input.Feed table) = None
 graph_path path input.Cut = None
 graph_path path input.Delays = None
 graph_path path input.Graph = Some path
+graph_path path input.Proof = None
+
+-- a proof file is
+abbrev pub proof_path : List ℕ → OwnPaths
+proof_path path (input.Feed table) = None
+proof_path path input.Cut = None
+proof_path path input.Delays = None
+proof_path path input.Graph = None
+proof_path path input.Proof = Some path
 
 -- the paths of the files that are read beside those of the journey
 abbrev pub own_paths : WantedAsk → OwnPaths
@@ -32,6 +43,8 @@ own_paths (Safe alpha) = no_path
 own_paths (Expand alpha) = no_path
 own_paths (Plan alpha) = no_path
 own_paths (Replay graph late) = graph_path graph
+own_paths (Certify alpha) = no_path
+own_paths (CheckProof proof) = proof_path proof
 
 -- the findings and the text answer what is asked about a problem, from a start on
 abbrev pub AnswersAsk : Option Folder → Limits → ℕ → Problem → WantedAsk → Findings → List ℕ → Type 0
@@ -39,6 +52,8 @@ AnswersAsk told limits start p (Safe alpha) found text = InQuery p start alpha (
 AnswersAsk told limits start p (Expand alpha) found text = InQuery p start alpha (TellsExpanded p found text)
 AnswersAsk told limits start p (Plan alpha) found text = InQuery p start alpha (TellsPlanned p found text)
 AnswersAsk told limits start p (Replay graph late) found text = InGraphFile told limits start graph p (IsTripTold p late found text)
+AnswersAsk told limits start p (Certify alpha) found text = InQuery p start alpha (TellsCertificate p found text)
+AnswersAsk told limits start p (CheckProof proof) found text = InProofFile told limits start proof p (IsHeld p found text)
 
 -- why it has no answer, but for want of memory
 abbrev pub FailsAsk : Option Folder → Limits → ℕ → Problem → WantedAsk → Fault → Type 0
@@ -46,6 +61,8 @@ FailsAsk told limits start p (Safe alpha) fault = IsNoSafe p start fault
 FailsAsk told limits start p (Expand alpha) fault = IsNoSafe p start fault
 FailsAsk told limits start p (Plan alpha) fault = IsNoSafe p start fault
 FailsAsk told limits start p (Replay graph late) fault = FailsReplay told limits start graph late p fault
+FailsAsk told limits start p (Certify alpha) fault = IsNoSafe p start fault
+FailsAsk told limits start p (CheckProof proof) fault = FailsCheck told limits start proof p fault
 
 -- the status that it ends with, but for want of memory, where no file fails to be read and the answer is written
 abbrev pub EndsAsk : Limits → Folder → ℕ → Problem → WantedAsk → ℕ → Type 0
@@ -53,6 +70,8 @@ EndsAsk limits files start p (Safe alpha) status = EndsBySafety p start status
 EndsAsk limits files start p (Expand alpha) status = EndsBySafety p start status
 EndsAsk limits files start p (Plan alpha) status = EndsBySafety p start status
 EndsAsk limits files start p (Replay graph late) status = EndsByGraphFile limits files start graph late p status
+EndsAsk limits files start p (Certify alpha) status = EndsBySafety p start status
+EndsAsk limits files start p (CheckProof proof) status = EndsByProofFile limits files start proof p status
 
 -- a timetable with its names, by which the lines of faults are told
 abbrev pub parts_of : Problem → NamedParts

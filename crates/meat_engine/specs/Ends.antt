@@ -1,18 +1,24 @@
 -- The status that a question about a problem ends with.
-use Rattle.std.specs.Prelude.{◌≡◌, ◌⊎◌, ℕ, List, None, Some, Result, Ok, Err}
+use Rattle.std.specs.Prelude.{◌≡◌, ◌⊎◌, ℕ, List, Option, None, Some, Result, Ok, Err}
 use Rattle.file_ports.specs.Ports.{Folder, file_at}
 use Rattle.csv_rows.specs.declared.limits.Limits.{Limits}
 use Rattle.plan_model.specs.Parts.{Parts}
 use Rattle.plan_model.specs.Tree.{Tree}
 use Rattle.plan_model.specs.Strategy.{Reaches}
+use Rattle.plan_model.specs.declared.model.Query.{Query}
+use Rattle.lower_proof.specs.declared.LowerBounds.{LowerBounds}
+use Rattle.lower_proof.specs.Certificates.{IsAccepted, IsLastFault}
 use Rattle.plan_graph.specs.declared.PlanGraph.{PlanGraph}
 use Rattle.graph_text.specs.declared.Head.{Head}
 use Rattle.trip_replay.specs.declared.Trace.{Trace}
 use Rattle.trip_replay.specs.declared.ReplayFault.{ReplayFault}
+use Rattle.fault_lines.specs.declared.faults.Input.TheVariants as input
 use Rattle.fault_lines.specs.declared.faults.Fault.{Fault}
 use Rattle.fault_lines.specs.Faults.{status_of}
 use Rattle.journey_problem.specs.declared.problem.Problem.{Problem}
+use Rattle.journey_problem.specs.Files.{bytes_of}
 use Rattle.meat_engine.specs.Replays.{graph_in, trip_by}
+use Rattle.meat_engine.specs.Checks.{IsProofFile, FailsFile}
 
 -- some strategy always reaches the target
 abbrev pub HasSafe : Parts → (source target start : ℕ) → Type 0
@@ -37,3 +43,14 @@ EndsByGraphFile limits files start path late p status =
     ((head : Head) × (graph : PlanGraph) × (graph_in limits p start None (file_at files path) ≡ Ok (head, graph))
     × EndsByWalk (trip_by p head graph late) status)
     ⊎ ((fault : Fault) × (graph_in limits p start None (file_at files path) ≡ Err fault) × (status ≡ status_of (Some fault)))
+
+-- 0 where the certificate is accepted, and 13 where it fails at a connection
+abbrev pub EndsByVerdict : Parts → Query → List (Option ℕ) → ℕ → Type 0
+EndsByVerdict n q values status =
+    (IsAccepted n q values × (status ≡ 0)) ⊎ ((connection : ℕ) × IsLastFault n q values connection × (status ≡ 13))
+
+-- where the proof file reads, as its certificate says; and else the status of its fault
+abbrev pub EndsByProofFile : Limits → Folder → ℕ → List ℕ → Problem → ℕ → Type 0
+EndsByProofFile limits files start path p status =
+    ((q : Query) × (proof : LowerBounds) × IsProofFile (Some files) limits start path p q proof × EndsByVerdict p.network q proof.values status)
+    ⊎ ((fault : Fault) × FailsFile p start (bytes_of limits.bytes input.Proof None (file_at files path)) fault × (status ≡ status_of (Some fault)))

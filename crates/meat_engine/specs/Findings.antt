@@ -6,6 +6,7 @@ use Rattle.interval_fixed.specs.Interval.{Interval}
 use Rattle.plan_graph.specs.declared.ExpandedGraph.{ExpandedGraph}
 use Rattle.plan_graph.specs.declared.PlanGraph.{PlanGraph}
 use Rattle.trip_replay.specs.declared.Trace.{Trace}
+use Rattle.lower_proof.specs.declared.LowerBounds.{LowerBounds}
 use Rattle.meat_engine.specs.declared.report.Report.{Report}
 
 pub record Findings : Type 0 where
@@ -16,6 +17,8 @@ pub record Findings : Type 0 where
   pub bounds : Option Interval
   pub trace : Option Trace
   pub connections : Option ℕ
+  pub proof : Option LowerBounds
+  pub least : Option ℕ
 
 abbrev pub findings_of : Report → Findings
 findings_of r = record {
@@ -26,10 +29,22 @@ findings_of r = record {
   bounds = r.bounds;
   trace = r.trace;
   connections = r.connections;
+  proof = r.proof;
+  least = r.least;
 }
 
 abbrev pub no_findings : Findings
-no_findings = record { query = None; worst = None; expanded = None; graph = None; bounds = None; trace = None; connections = None }
+no_findings = record {
+  query = None;
+  worst = None;
+  expanded = None;
+  graph = None;
+  bounds = None;
+  trace = None;
+  connections = None;
+  proof = None;
+  least = None;
+}
 
 -- the least worst arrival and the deadline
 abbrev pub safe_findings : Query → Moment → Findings
@@ -50,3 +65,11 @@ sample_findings q worst graph bounds connections = record (plan_findings q worst
 -- the query of a graph, the graph, and the trip by it
 abbrev pub replay_findings : Query → PlanGraph → Trace → Findings
 replay_findings q graph trace = record no_findings { query = Some q; graph = Some graph; trace = Some trace }
+
+-- with a certificate
+abbrev pub certify_findings : Query → Moment → LowerBounds → Findings
+certify_findings q worst proof = record no_findings { query = Some q; worst = Some worst; proof = Some proof }
+
+-- the query of a certificate, the certificate, and its least value at the start
+abbrev pub check_findings : Query → LowerBounds → Option ℕ → Findings
+check_findings q proof least = record no_findings { query = Some q; proof = Some proof; least = least }

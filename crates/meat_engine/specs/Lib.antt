@@ -3,6 +3,8 @@ pub mod Findings
 pub mod Texts
 pub mod Answers
 pub mod Replays
+pub mod Certified
+pub mod Checks
 pub mod Ends
 pub mod Asks
 pub mod Samples

@@ -57,3 +57,14 @@ leg_count graph = start_count graph.start + sum_by (λ table. length table.rows)
 unfoldable pub sample_text : (size connections legs : ℕ) → Interval → List ℕ
 sample_text size connections legs bounds =
     row_text default_writer (codes "sample" ∷ decimal size ∷ decimal connections ∷ decimal legs ∷ nanos_text bounds.lo ∷ nanos_text bounds.hi ∷ [])
+
+-- the least value of a certificate, where it has one
+abbrev pub least_text : Option ℕ → List ℕ
+least_text None = codes "none"
+least_text (Some value) = nanos_text value
+
+-- one row: the source, the target, the start, the deadline and the least value
+unfoldable pub holds_text : List ℕ → List ℕ → Query → Option ℕ → List ℕ
+holds_text source target query least =
+    row_text default_writer
+    (codes "holds" ∷ source ∷ target ∷ moment_text query.start.0 ∷ moment_text query.deadline.0 ∷ least_text least ∷ [])

@@ -14,6 +14,8 @@ ghost use Rattle.meat_engine.specs.Refusals.{IsRefusalBy, by_fault};
 
 use crate::answer::{Answer, Refusal};
 use crate::answers::{expand_over, plan_over, safe_over};
+use crate::certificates::certify_over;
+use crate::checks::check_proof_over;
 use crate::replays::replay_over;
 use command_line::{Ask, Journey};
 use csv_rows::Limits;
@@ -55,6 +57,8 @@ fn ask_over<F: Files>(
         Ask::Replay { graph, late } => {
             replay_over(alloc, files, problem, start, graph, late, limits)
         }
+        Ask::Certify { alpha } => certify_over(alloc, problem, start, alpha),
+        Ask::CheckProof { proof } => check_proof_over(alloc, files, problem, start, proof, limits),
     }
 }
 

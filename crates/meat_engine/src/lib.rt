@@ -4,6 +4,8 @@
 mod answer;
 mod answers;
 mod asks;
+mod certificates;
+mod checks;
 mod replays;
 mod report;
 mod samples;

@@ -5,6 +5,7 @@ ghost use Rattle.meat_engine.specs.Findings.{findings_of, no_findings};
 
 use fault_lines::Fault;
 use interval_fixed::Span;
+use lower_proof::LowerBounds;
 use plan_graph::{ExpandedGraph, PlanGraph};
 use plan_model::{Moment, Query};
 use trip_replay::Trace;
@@ -35,6 +36,10 @@ pub struct Report {
     pub trace: Option<Trace>,
     /// How many connections the window has, of `sample`.
     pub connections: Option<u32>,
+    /// The certificate: of `certify` the one that was made, and of `check` the one that holds.
+    pub proof: Option<LowerBounds>,
+    /// The certificate's least value at the start, in nanoseconds, of `check`.
+    pub least: Option<u64>,
     /// Why there is no answer, or why it was not written.
     pub fault: Option<Fault>,
 }
@@ -55,6 +60,8 @@ impl Report {
             bounds: None,
             trace: None,
             connections: None,
+            proof: None,
+            least: None,
             fault: None,
         }
     }

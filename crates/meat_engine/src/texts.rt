@@ -3,7 +3,7 @@ ghost use Rattle.std.specs.Prelude.{◌≡◌, ◌≤◌, ◌<◌, ◌++◌, [],
 ghost use Rattle.csv.specs.Writing.{default_writer, row_text};
 ghost use Rattle.plan_model.specs.NameLists.{NamesFit};
 ghost use Rattle.trip_replay.specs.Rides.{IsRide};
-ghost use Rattle.meat_engine.specs.Texts.{safe_text, ride_text, rides_text, arrived_text, trace_text, leg_count, sample_text};
+ghost use Rattle.meat_engine.specs.Texts.{safe_text, ride_text, rides_text, arrived_text, trace_text, leg_count, sample_text, least_text, holds_text};
 ghost use Rattle.fault_lines.specs.Sites.{last_printable};
 
 use clock_text::{write_moment, write_nanos};
@@ -165,6 +165,50 @@ pub(crate) fn sample_text(
             legs.as_bytes(),
             lower.as_slice(),
             upper.as_slice(),
+        ],
+    )
+}
+
+/// A least value of a certificate, where it has one.
+fn least_text(alloc: Global, least: Option<u64>) -> Result<Vec<u8>, NoMemory>
+    ensures { IfOk result (λ text. text.items ≡ least_text least) }
+{
+    let mut text: Vec<u8> = Vec::new(alloc);
+    match least {
+        None => text.extend_from_slice(b"none")?,
+        Some(value) => {
+            let nanos = write_nanos(value);
+            text.extend_from_slice(nanos.as_slice())?;
+        }
+    }
+    Ok(text)
+}
+
+/// The text of a certificate that holds, with its least value at the start.
+pub(crate) fn holds_text(
+    alloc: Global,
+    source: &str,
+    target: &str,
+    query: &Query,
+    least: Option<u64>,
+) -> Result<Vec<u8>, NoMemory>
+    requires start { query.now.start.0 ≤ last_printable }
+    requires deadline { query.now.deadline.0 ≤ last_printable }
+    ensures { IfOk result (λ text.
+        text.items ≡ holds_text source.now target.now query.now least) }
+{
+    let start = write_moment(query.start);
+    let deadline = write_moment(query.deadline);
+    let least = least_text(alloc, least)?;
+    row(
+        alloc,
+        &[
+            b"holds".as_slice(),
+            source.as_bytes(),
+            target.as_bytes(),
+            start.as_slice(),
+            deadline.as_slice(),
+            least.as_slice(),
         ],
     )
 }
