@@ -8,6 +8,9 @@ command, divided by how the input did: 1 is linear. `reading` is `safe` with a s
 have: the program reads all tables, refuses with status 5, and plans nothing. Beside it stand the seconds of `wc -l`
 over the same files.
 
+`certify` prints a certificate, and `check` reads that from a file. With a program before, which may not have them,
+they are left out.
+
 With `--before PROGRAM` a second program runs in turn with the first on each line, and the last columns give its
 seconds and peak memory, and the seconds of the first divided by those of the second.
 
@@ -168,6 +171,16 @@ def cut_words(command, folder, source, at=CUT_MORNING):
             "--from", source, "--to", "S10", "--at", at]
 
 
+def measure_certificate(table, folder, lines, items):
+    """The certificate of a journey, and the check of it, which reads its text from a file beside the feed."""
+    words = feed_words("certify", folder, "H0")
+    table.line("certify", "`certify`, %d lines" % lines, items, words)
+    proof = os.path.join(folder, "proof.csv")
+    with open(proof, "wb") as file:
+        subprocess.run([table.options.program, *words], stdout=file, check=True)
+    table.line("check", "`check`, %d lines" % lines, items, feed_words("check", folder, "H0", more=("--proof", proof)))
+
+
 def measure_feed(table, lines, commands, cases):
     """A feed of so many lines: reading and these commands, and the further cases if they are wanted."""
     items = stop_times_of(lines)
@@ -177,6 +190,8 @@ def measure_feed(table, lines, commands, cases):
         table.line("reading", "reading, %d lines" % lines, items, feed_words("safe", folder, NO_STOP), files)
         for command in commands:
             table.line(command, "`%s`, %d lines" % (command, lines), items, feed_words(command, folder, "H0"))
+        if not table.options.before:
+            measure_certificate(table, folder, lines, items)
         if not cases:
             return
         for hours in (2, 24, 72):
