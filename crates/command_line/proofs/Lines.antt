@@ -8,7 +8,7 @@ use Rattle.std.proofs.lemmas.Slice.Eq.{bytes_eq-Decides}
 use Rattle.std.proofs.lemmas.List.Elements.{All-nil, All-cons, All-head, All-tail}
 use Rattle.std.proofs.lemmas.List.Kept.{AllPairs-cons}
 use Rattle.command_line.specs.declared.options.OptionName.{OptionName}
-use Rattle.command_line.specs.declared.options.OptionName.TheVariants.{Cut, Feed, Delays, From, To, At, Alpha, Horizon, Graph, Late, Size, Proof}
+use Rattle.command_line.specs.declared.options.OptionName.TheVariants.{Cut, Feed, Delays, From, To, At, Alpha, Horizon, Graph, Late, Size, Proof, By, Until, Last}
 use Rattle.command_line.specs.Options.{option_name, option_named, all_options}
 use Rattle.command_line.specs.Settings.{Setting, spelled, value_of, value_in, is_new, are_settings}
 
@@ -26,6 +26,9 @@ named Graph = refl
 named Late = refl
 named Size = refl
 named Proof = refl
+named By = refl
+named Until = refl
+named Last = refl
 
 -- options of one word are one
 same_option : (a b : OptionName) → option_name a ≡ option_name b → a ≡ b

@@ -3,13 +3,13 @@ use Rattle.std.specs.Prelude.{ℕ, List, [], ◌∷◌, Option, Some, None, Resu
 use Rattle.command_line.specs.declared.options.Command.{Command}
 use Rattle.command_line.specs.declared.options.Command.TheVariants as command
 use Rattle.command_line.specs.declared.options.OptionName.{OptionName}
-use Rattle.command_line.specs.declared.options.OptionName.TheVariants.{Cut, Feed, Delays, From, To, At, Alpha, Horizon, Graph, Late, Size, Proof}
+use Rattle.command_line.specs.declared.options.OptionName.TheVariants.{Cut, Feed, Delays, From, To, At, Alpha, Horizon, Graph, Late, Size, Proof, By, Until, Last}
 use Rattle.command_line.specs.declared.job.WordsFault.{WordsFault}
 use Rattle.command_line.specs.declared.job.WordsFault.TheVariants.{Line, UnknownCommand, NotUsed, Missing, BadValue}
 use Rattle.command_line.specs.Options.{all_options, option_number, command_named}
 use Rattle.command_line.specs.Settings.{value_of, text_of, are_settings}
 use Rattle.command_line.specs.Uses.{is_useless, is_missing}
-use Rattle.command_line.specs.Values.{first_start, default_alpha, default_horizon, least_size, start_at, alpha_at, horizon_at, size_at, late_at, is_bad}
+use Rattle.command_line.specs.Values.{default_alpha, default_horizon, least_size, start_of, promise_at, later_at, alpha_at, horizon_at, size_at, late_at, is_bad}
 
 -- where the connections come from: a cut file, or the folder of a feed, of which so many hours are looked at
 pub data WantedTimetable : Type 0 where
@@ -26,7 +26,9 @@ pub record WantedJourney : Type 0 where
 
 -- what is asked about a journey: the least worst arrival and the deadline, a decision graph ride by ride or by place, each by
 -- a percentage for the deadline; the trip by the graph of this path, with these delays; a certificate, by a percentage for the
--- deadline; or whether that of this path holds
+-- deadline; whether that of this path holds; the graph with the least chance of an arrival after a promised moment, by a
+-- percentage for the deadline; what each departure up to a last moment promises, by this deadline; or the latest moment at which
+-- one can leave, by this deadline
 pub data WantedAsk : Type 0 where
   Safe : (alpha : ℕ) → WantedAsk
   Expand : (alpha : ℕ) → WantedAsk
@@ -34,15 +36,22 @@ pub data WantedAsk : Type 0 where
   Replay : (graph : List ℕ) (late : List ℕ) → WantedAsk
   Certify : (alpha : ℕ) → WantedAsk
   CheckProof : (proof : List ℕ) → WantedAsk
+  Punctual : (alpha : ℕ) (promise : ℕ) → WantedAsk
+  Departures : (until : ℕ) (last : ℕ) → WantedAsk
+  Latest : (until : ℕ) → WantedAsk
 
 -- what the words ask for: something about a journey, or the plan of one over a timetable that is made
 pub data Wanted : Type 0 where
   Ask : (journey : WantedJourney) (ask : WantedAsk) → Wanted
   Sample : (size : ℕ) → Wanted
 
--- the moment that the journey begins at
-abbrev pub start_of : List (List ℕ) → ℕ
-start_of settings = unwrap_or (start_at (text_of settings At)) first_start
+-- the moment by which one has promised to be there
+abbrev pub promise_of : List (List ℕ) → ℕ
+promise_of settings = unwrap_or (promise_at settings) (start_of settings)
+
+-- the moment that an option tells
+abbrev pub later_of : List (List ℕ) → OptionName → ℕ
+later_of settings option = unwrap_or (later_at settings option) (start_of settings)
 
 -- the percentage of the deadline, 200 unless it is given
 abbrev pub alpha_of : List (List ℕ) → ℕ
@@ -75,14 +84,25 @@ journey_of settings = record {
   start = start_of settings;
 }
 
+-- what a command asks about a journey, if it is about one
+abbrev pub ask_of : Command → List (List ℕ) → Option WantedAsk
+ask_of command.Safe settings = Some (Safe (alpha_of settings))
+ask_of command.Expand settings = Some (Expand (alpha_of settings))
+ask_of command.Plan settings = Some (Plan (alpha_of settings))
+ask_of command.Replay settings = Some (Replay (text_of settings Graph) (late_in (text_of settings Late)))
+ask_of command.Certify settings = Some (Certify (alpha_of settings))
+ask_of command.Check settings = Some (CheckProof (text_of settings Proof))
+ask_of command.Punctual settings = Some (Punctual (alpha_of settings) (promise_of settings))
+ask_of command.Departures settings = Some (Departures (later_of settings Until) (later_of settings Last))
+ask_of command.Latest settings = Some (Latest (later_of settings Until))
+ask_of command.Sample settings = None
+
+abbrev pub wanted_by : Option WantedAsk → List (List ℕ) → Wanted
+wanted_by None settings = Sample (size_of settings)
+wanted_by (Some ask) settings = Ask (journey_of settings) ask
+
 abbrev pub wanted_of : Command → List (List ℕ) → Wanted
-wanted_of command.Safe settings = Ask (journey_of settings) (Safe (alpha_of settings))
-wanted_of command.Expand settings = Ask (journey_of settings) (Expand (alpha_of settings))
-wanted_of command.Plan settings = Ask (journey_of settings) (Plan (alpha_of settings))
-wanted_of command.Replay settings = Ask (journey_of settings) (Replay (text_of settings Graph) (late_in (text_of settings Late)))
-wanted_of command.Certify settings = Ask (journey_of settings) (Certify (alpha_of settings))
-wanted_of command.Check settings = Ask (journey_of settings) (CheckProof (text_of settings Proof))
-wanted_of command.Sample settings = Sample (size_of settings)
+wanted_of command settings = wanted_by (ask_of command settings) settings
 
 -- the refusal that the least option calls for, if one does
 abbrev pub refusal : (ℕ → WordsFault) → Option OptionName → Option WordsFault

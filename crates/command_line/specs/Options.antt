@@ -3,9 +3,9 @@ use Rattle.std.specs.Prelude.{ℕ, List, [], ◌∷◌, Option, Some, None, if�
 use Rattle.std.specs.Option.{option_map_or}
 use Rattle.std.specs.Str.{bytes_eq}
 use Rattle.command_line.specs.declared.options.Command.{Command}
-use Rattle.command_line.specs.declared.options.Command.TheVariants.{Safe, Expand, Plan, Replay, Certify, Check, Sample}
+use Rattle.command_line.specs.declared.options.Command.TheVariants.{Safe, Expand, Plan, Replay, Certify, Check, Punctual, Departures, Latest, Sample}
 use Rattle.command_line.specs.declared.options.OptionName.{OptionName}
-use Rattle.command_line.specs.declared.options.OptionName.TheVariants.{Cut, Feed, Delays, From, To, At, Alpha, Horizon, Graph, Late, Size, Proof}
+use Rattle.command_line.specs.declared.options.OptionName.TheVariants.{Cut, Feed, Delays, From, To, At, Alpha, Horizon, Graph, Late, Size, Proof, By, Until, Last}
 
 -- the word of an option
 abbrev pub option_name : OptionName → List ℕ
@@ -21,6 +21,9 @@ option_name Graph = codes "--graph"
 option_name Late = codes "--late"
 option_name Size = codes "--size"
 option_name Proof = codes "--proof"
+option_name By = codes "--by"
+option_name Until = codes "--until"
+option_name Last = codes "--last"
 
 -- the number of an option
 abbrev pub option_number : OptionName → ℕ
@@ -36,10 +39,13 @@ option_number Graph = 9
 option_number Late = 10
 option_number Size = 11
 option_number Proof = 12
+option_number By = 13
+option_number Until = 14
+option_number Last = 15
 
 -- the options by their numbers
 abbrev pub all_options : List OptionName
-all_options = Cut ∷ Feed ∷ Delays ∷ From ∷ To ∷ At ∷ Alpha ∷ Horizon ∷ Graph ∷ Late ∷ Size ∷ Proof ∷ []
+all_options = Cut ∷ Feed ∷ Delays ∷ From ∷ To ∷ At ∷ Alpha ∷ Horizon ∷ Graph ∷ Late ∷ Size ∷ Proof ∷ By ∷ Until ∷ Last ∷ []
 
 -- the option of this number
 abbrev pub option_numbered : ℕ → Option OptionName
@@ -62,5 +68,8 @@ command_named word =
     else if bytes_eq word (codes "replay") then Some Replay
     else if bytes_eq word (codes "certify") then Some Certify
     else if bytes_eq word (codes "check") then Some Check
+    else if bytes_eq word (codes "punctual") then Some Punctual
+    else if bytes_eq word (codes "departures") then Some Departures
+    else if bytes_eq word (codes "latest") then Some Latest
     else if bytes_eq word (codes "sample") then Some Sample
     else None

@@ -1,7 +1,7 @@
 -- The ranges of what a job asks for.
-use Rattle.std.specs.Prelude.{ℕ, ◌≤◌}
-use Rattle.command_line.specs.Values.{first_start, last_start, least_alpha, most_alpha, least_horizon, most_horizon, least_size, most_size}
-use Rattle.command_line.specs.Jobs.{WantedTimetable, CutFile, FeedFolder, WantedJourney, WantedAsk, Safe, Expand, Plan, Replay, Certify, CheckProof, Wanted, Ask, Sample}
+use Rattle.std.specs.Prelude.{ℕ, ◌≤◌, ◌+◌}
+use Rattle.command_line.specs.Values.{first_start, last_start, least_alpha, most_alpha, least_horizon, most_horizon, least_size, most_size, last_until, longest_promise}
+use Rattle.command_line.specs.Jobs.{WantedTimetable, CutFile, FeedFolder, WantedJourney, WantedAsk, Safe, Expand, Plan, Replay, Certify, CheckProof, Punctual, Departures, Latest, Wanted, Ask, Sample}
 
 abbrev pub HasHorizon : WantedTimetable → Type 0
 HasHorizon (CutFile path) = Unit {0}
@@ -17,15 +17,23 @@ pub record IsJourney (j : WantedJourney) : Type 0 where
 abbrev pub IsPercentage : ℕ → Type 0
 IsPercentage alpha = (least_alpha ≤ alpha) × (alpha ≤ most_alpha)
 
-abbrev pub IsAsk : WantedAsk → Type 0
-IsAsk (Safe alpha) = IsPercentage alpha
-IsAsk (Expand alpha) = IsPercentage alpha
-IsAsk (Plan alpha) = IsPercentage alpha
-IsAsk (Replay graph late) = Unit {0}
-IsAsk (Certify alpha) = IsPercentage alpha
-IsAsk (CheckProof proof) = Unit {0}
+-- a deadline, or the last moment of departures, is not before the start, and is at most 2400-12-31T23:59:59
+abbrev pub IsLater : ℕ → ℕ → Type 0
+IsLater start moment = (start ≤ moment) × (moment ≤ last_until)
+
+-- what is asked about a journey that begins at this moment; a promise is at most a week after it
+abbrev pub IsAsk : ℕ → WantedAsk → Type 0
+IsAsk start (Safe alpha) = IsPercentage alpha
+IsAsk start (Expand alpha) = IsPercentage alpha
+IsAsk start (Plan alpha) = IsPercentage alpha
+IsAsk start (Replay graph late) = Unit {0}
+IsAsk start (Certify alpha) = IsPercentage alpha
+IsAsk start (CheckProof proof) = Unit {0}
+IsAsk start (Punctual alpha promise) = IsPercentage alpha × (start ≤ promise) × (promise ≤ start + longest_promise)
+IsAsk start (Departures until last) = IsLater start until × IsLater start last
+IsAsk start (Latest until) = IsLater start until
 
 -- the size of a made timetable is from 10 to 400
 abbrev pub IsJob : Wanted → Type 0
-IsJob (Ask j a) = IsJourney j × IsAsk a
+IsJob (Ask j a) = IsJourney j × IsAsk j.start a
 IsJob (Sample size) = (least_size ≤ size) × (size ≤ most_size)

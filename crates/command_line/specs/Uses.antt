@@ -1,9 +1,9 @@
 -- What a command does with each option, and which options of a line it cannot take or lacks.
-use Rattle.std.specs.Prelude.{ℕ, List, Bool, true, false, not, ◌&&◌, nat_lt}
+use Rattle.std.specs.Prelude.{ℕ, List, Option, Some, None, Bool, true, false, not, ◌&&◌, nat_lt}
 use Rattle.command_line.specs.declared.options.Command.{Command}
 use Rattle.command_line.specs.declared.options.Command.TheVariants as command
 use Rattle.command_line.specs.declared.options.OptionName.{OptionName}
-use Rattle.command_line.specs.declared.options.OptionName.TheVariants.{Cut, Feed, Delays, From, To, At, Alpha, Horizon, Graph, Late, Size, Proof}
+use Rattle.command_line.specs.declared.options.OptionName.TheVariants.{Cut, Feed, Delays, From, To, At, Alpha, Horizon, Graph, Late, Size, Proof, By, Until, Last}
 use Rattle.command_line.specs.declared.options.OwnUses.{OwnUses}
 use Rattle.command_line.specs.declared.options.Use.{Use}
 use Rattle.command_line.specs.declared.options.Use.TheVariants.{Needed, Optional, Unused, OneOf, With}
@@ -12,7 +12,7 @@ use Rattle.command_line.specs.Settings.{is_given}
 
 -- a command about a journey that takes none of the options which not each such command takes
 abbrev pub no_own : OwnUses
-no_own = record { alpha = Unused; graph = Unused; late = Unused; proof = Unused }
+no_own = record { alpha = Unused; graph = Unused; late = Unused; proof = Unused; by = Unused; until = Unused; last = Unused }
 
 -- what a command about a journey does with an option
 abbrev pub on_journey : OwnUses → OptionName → Use
@@ -28,6 +28,9 @@ on_journey own Graph = own.graph
 on_journey own Late = own.late
 on_journey own Size = Unused
 on_journey own Proof = own.proof
+on_journey own By = own.by
+on_journey own Until = own.until
+on_journey own Last = own.last
 
 -- what a command about a made timetable does with an option
 abbrev pub on_made : OptionName → Use
@@ -43,16 +46,30 @@ on_made Graph = Unused
 on_made Late = Unused
 on_made Size = Needed
 on_made Proof = Unused
+on_made By = Unused
+on_made Until = Unused
+on_made Last = Unused
+
+-- what a command about a journey does with the options that not each such command takes; none where it is about a made timetable
+abbrev pub own_of : Command → Option OwnUses
+own_of command.Safe = Some (record no_own { alpha = Optional })
+own_of command.Expand = Some (record no_own { alpha = Optional })
+own_of command.Plan = Some (record no_own { alpha = Optional })
+own_of command.Replay = Some (record no_own { graph = Needed; late = Needed })
+own_of command.Certify = Some (record no_own { alpha = Optional })
+own_of command.Check = Some (record no_own { proof = Needed })
+own_of command.Punctual = Some (record no_own { alpha = Optional; by = Needed })
+own_of command.Departures = Some (record no_own { until = Needed; last = Needed })
+own_of command.Latest = Some (record no_own { until = Needed })
+own_of command.Sample = None
+
+abbrev pub use_by : Option OwnUses → OptionName → Use
+use_by None option = on_made option
+use_by (Some own) option = on_journey own option
 
 -- what a command does with an option
 abbrev pub use_of : Command → OptionName → Use
-use_of command.Safe option = on_journey (record no_own { alpha = Optional }) option
-use_of command.Expand option = on_journey (record no_own { alpha = Optional }) option
-use_of command.Plan option = on_journey (record no_own { alpha = Optional }) option
-use_of command.Replay option = on_journey (record no_own { graph = Needed; late = Needed }) option
-use_of command.Certify option = on_journey (record no_own { alpha = Optional }) option
-use_of command.Check option = on_journey (record no_own { proof = Needed }) option
-use_of command.Sample option = on_made option
+use_of command option = use_by (own_of command) option
 
 -- the number of an option is less than that of another
 abbrev pub is_before : OptionName → OptionName → Bool

@@ -1,12 +1,12 @@
 -- The forms of the values.
-use Rattle.std.specs.Prelude.{ℕ, List, [], ◌∷◌, Option, Some, None, Bool, true, false, not, ◌&&◌, is_some, if◌then◌else◌, nat_le, ◌==◌, map, length, codes, option_and_then, unwrap_or}
+use Rattle.std.specs.Prelude.{ℕ, ◌+◌, List, [], ◌∷◌, Option, Some, None, Bool, true, false, not, ◌&&◌, is_some, if◌then◌else◌, nat_le, ◌==◌, map, length, codes, option_and_then, unwrap_or}
 use Rattle.std.specs.List.{slice_split, list_all}
 use Rattle.std.specs.Str.{bytes_eq}
 use Rattle.clock_text.specs.Digits.{whole_of}
 use Rattle.clock_text.specs.Times.{moment_at}
 use Rattle.command_line.specs.Settings.{is_given, text_of}
 use Rattle.command_line.specs.declared.options.OptionName.{OptionName}
-use Rattle.command_line.specs.declared.options.OptionName.TheVariants.{Cut, Feed, Delays, From, To, At, Alpha, Horizon, Graph, Late, Size, Proof}
+use Rattle.command_line.specs.declared.options.OptionName.TheVariants.{Cut, Feed, Delays, From, To, At, Alpha, Horizon, Graph, Late, Size, Proof, By, Until, Last}
 
 -- the first moment at which a journey may begin, 1970-01-08T00:00:00, and the last, 2399-12-31T23:59:59
 abbrev pub first_start : ℕ
@@ -14,6 +14,14 @@ first_start = 604800
 
 abbrev pub last_start : ℕ
 last_start = 13569465599
+
+-- the last moment of a deadline, and at which departures are looked for: 2400-12-31T23:59:59
+abbrev pub last_until : ℕ
+last_until = 13601087999
+
+-- how long after the start one may promise to be there, in seconds: a week
+abbrev pub longest_promise : ℕ
+longest_promise = 604800
 
 -- the percentages of a deadline, and the one that is taken where none is given
 abbrev pub least_alpha : ℕ
@@ -58,9 +66,25 @@ from_on least n = if nat_le least n then Some n else None
 abbrev pub up_to : ℕ → ℕ → Option ℕ
 up_to most n = if nat_le n most then Some n else None
 
+-- a moment of a range
+abbrev pub moment_of : (first last : ℕ) → List ℕ → Option ℕ
+moment_of first last text = option_and_then (up_to last) (option_and_then (from_on first) (moment_at text))
+
 -- a moment at which a journey may begin
 abbrev pub start_at : List ℕ → Option ℕ
-start_at text = option_and_then (up_to last_start) (option_and_then (from_on first_start) (moment_at text))
+start_at text = moment_of first_start last_start text
+
+-- the moment that the journey of settings begins at
+abbrev pub start_of : List (List ℕ) → ℕ
+start_of settings = unwrap_or (start_at (text_of settings At)) first_start
+
+-- a moment by which the journey of settings may be promised to end
+abbrev pub promise_at : List (List ℕ) → Option ℕ
+promise_at settings = moment_of (start_of settings) (start_of settings + longest_promise) (text_of settings By)
+
+-- the moment that an option tells, which is not before the journey of settings begins
+abbrev pub later_at : List (List ℕ) → OptionName → Option ℕ
+later_at settings option = moment_of (start_of settings) last_until (text_of settings option)
 
 -- a whole number of a range
 abbrev pub number_at : (least most : ℕ) → List ℕ → Option ℕ
@@ -122,6 +146,9 @@ has_form settings Graph = not (is_empty (text_of settings Graph))
 has_form settings Late = is_some (late_at (text_of settings Late))
 has_form settings Size = is_some (size_at (text_of settings Size))
 has_form settings Proof = not (is_empty (text_of settings Proof))
+has_form settings By = is_some (promise_at settings)
+has_form settings Until = is_some (later_at settings Until)
+has_form settings Last = is_some (later_at settings Last)
 
 -- it is given, and not of its form
 abbrev pub is_bad : List (List ℕ) → OptionName → Bool

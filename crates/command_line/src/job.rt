@@ -1,15 +1,17 @@
 //! What a line of words asks for.
-ghost use Rattle.std.specs.Prelude.{◌≡◌, ◌≤◌, map, string_bytes, option_and_then, unwrap_or, IfOk};
-ghost use Rattle.command_line.specs.Jobs.{start_of, alpha_of, horizon_of, size_of, timetable_of, journey_of, wanted_of, job_of};
-ghost use Rattle.command_line.specs.Ranges.{HasHorizon, IsJourney, IsJob};
+ghost use Rattle.std.specs.Prelude.{◌≡◌, ◌≤◌, ◌+◌, map, string_bytes, option_map, option_and_then, unwrap_or, IfOk, IfSome};
+ghost use Rattle.command_line.specs.Jobs.{promise_of, later_of, alpha_of, horizon_of, size_of, timetable_of, journey_of, ask_of, wanted_of, job_of};
+ghost use Rattle.command_line.specs.Ranges.{HasHorizon, IsJourney, IsAsk, IsJob};
 ghost use Rattle.command_line.specs.Settings.{value_of};
-ghost use Rattle.command_line.specs.Shown.{timetable_shown, journey_shown, shown, answer_shown};
-ghost use Rattle.command_line.specs.Values.{number_at, first_start, last_start, least_alpha, most_alpha, least_horizon, most_horizon, least_size, most_size};
+ghost use Rattle.command_line.specs.Shown.{timetable_shown, journey_shown, ask_shown, shown, answer_shown};
+ghost use Rattle.command_line.specs.Values.{start_of, number_at, last_until, longest_promise, least_alpha, most_alpha, least_horizon, most_horizon, least_size, most_size};
 
 use crate::options::{Command, OptionName};
 use crate::refusals::{first_bad, first_missing, first_useless};
 use crate::settings::{are_settings, text_of, value_of};
-use crate::values::{ALPHA, FIRST_START, HORIZON, NumberRange, SIZE, read_number, read_start};
+use crate::values::{
+    ALPHA, HORIZON, NumberRange, SIZE, read_later, read_number, read_promise, start_of,
+};
 use plan_model::Moment;
 
 /// The percentage of a deadline where none is given.
@@ -74,6 +76,12 @@ pub enum Ask<'a> {
     Certify { alpha: u32 },
     /// Whether the lower bounds of a file hold.
     CheckProof { proof: &'a str },
+    /// The decision graph with the least chance of an arrival after the promised moment.
+    Punctual { alpha: u32, promise: Moment },
+    /// What each departure up to the last moment promises, where one has to arrive by the deadline.
+    Departures { until: Moment, last: Moment },
+    /// The latest moment at which one can leave and be sure to arrive by the deadline.
+    Latest { until: Moment },
 }
 
 /// What a line of words asks for.
@@ -83,18 +91,6 @@ pub enum Job<'a> {
     Journey(Journey<'a>, Ask<'a>),
     /// The plan of a journey over the timetable of this size that is made by rule.
     Sample(u32),
-}
-
-/// The moment that the journey begins at.
-fn start_of(settings: &[String]) -> Moment
-    ensures start { result.0 ≡ start_of (map string_bytes settings.now) }
-    ensures in_range { (first_start ≤ result.0) × (result.0 ≤ last_start) }
-{
-    let text = text_of(settings, OptionName::At);
-    match read_start(text.as_bytes()) {
-        None => Moment(FIRST_START),
-        Some(start) => start,
-    }
 }
 
 /// The number that an option tells, or another where it tells none.
@@ -161,50 +157,77 @@ fn journey_of(settings: &[String]) -> Journey<'_>
     }
 }
 
+/// The moment by which one has promised to be there.
+fn promise_of(settings: &[String]) -> Moment
+    ensures promise { result.0 ≡ promise_of (map string_bytes settings.now) }
+    ensures in_range { (start_of (map string_bytes settings.now) ≤ result.0)
+        × (result.0 ≤ start_of (map string_bytes settings.now) + longest_promise) }
+{
+    match read_promise(settings) {
+        None => start_of(settings),
+        Some(promise) => promise,
+    }
+}
+
+/// The moment that an option tells, which is not before the start.
+fn later_of(settings: &[String], option: OptionName) -> Moment
+    ensures later { result.0 ≡ later_of (map string_bytes settings.now) option }
+    ensures in_range { (start_of (map string_bytes settings.now) ≤ result.0) × (result.0 ≤ last_until) }
+{
+    match read_later(settings, option) {
+        None => start_of(settings),
+        Some(moment) => moment,
+    }
+}
+
+/// What a command with these settings asks about a journey, if it is about one.
+fn ask_of(command: Command, settings: &[String]) -> Option<Ask<'_>>
+    ensures asked { option_map ask_shown result ≡ ask_of command (map string_bytes settings.now) }
+    ensures in_range { IfSome result (λ ask. IsAsk (start_of (map string_bytes settings.now)) (ask_shown ask)) }
+{
+    match command {
+        Command::Safe => Some(Ask::Safe {
+            alpha: alpha_of(settings),
+        }),
+        Command::Expand => Some(Ask::Expand {
+            alpha: alpha_of(settings),
+        }),
+        Command::Plan => Some(Ask::Plan {
+            alpha: alpha_of(settings),
+        }),
+        Command::Replay => Some(Ask::Replay {
+            graph: text_of(settings, OptionName::Graph),
+            late: text_of(settings, OptionName::Late),
+        }),
+        Command::Certify => Some(Ask::Certify {
+            alpha: alpha_of(settings),
+        }),
+        Command::Check => Some(Ask::CheckProof {
+            proof: text_of(settings, OptionName::Proof),
+        }),
+        Command::Punctual => Some(Ask::Punctual {
+            alpha: alpha_of(settings),
+            promise: promise_of(settings),
+        }),
+        Command::Departures => Some(Ask::Departures {
+            until: later_of(settings, OptionName::Until),
+            last: later_of(settings, OptionName::Last),
+        }),
+        Command::Latest => Some(Ask::Latest {
+            until: later_of(settings, OptionName::Until),
+        }),
+        Command::Sample => None,
+    }
+}
+
 /// What a command with these settings asks for.
 fn job_of(command: Command, settings: &[String]) -> Job<'_>
     ensures wanted { shown result ≡ wanted_of command (map string_bytes settings.now) }
     ensures in_range { IsJob (shown result) }
 {
-    match command {
-        Command::Safe => Job::Journey(
-            journey_of(settings),
-            Ask::Safe {
-                alpha: alpha_of(settings),
-            },
-        ),
-        Command::Expand => Job::Journey(
-            journey_of(settings),
-            Ask::Expand {
-                alpha: alpha_of(settings),
-            },
-        ),
-        Command::Plan => Job::Journey(
-            journey_of(settings),
-            Ask::Plan {
-                alpha: alpha_of(settings),
-            },
-        ),
-        Command::Replay => Job::Journey(
-            journey_of(settings),
-            Ask::Replay {
-                graph: text_of(settings, OptionName::Graph),
-                late: text_of(settings, OptionName::Late),
-            },
-        ),
-        Command::Certify => Job::Journey(
-            journey_of(settings),
-            Ask::Certify {
-                alpha: alpha_of(settings),
-            },
-        ),
-        Command::Check => Job::Journey(
-            journey_of(settings),
-            Ask::CheckProof {
-                proof: text_of(settings, OptionName::Proof),
-            },
-        ),
-        Command::Sample => Job::Sample(size_of(settings)),
+    match ask_of(command, settings) {
+        None => Job::Sample(size_of(settings)),
+        Some(ask) => Job::Journey(journey_of(settings), ask),
     }
 }
 

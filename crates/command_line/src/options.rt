@@ -1,7 +1,7 @@
 //! The commands and the options by their words.
 ghost use Rattle.std.specs.Prelude.{◌≡◌, Some};
 ghost use Rattle.command_line.specs.Options.{option_name, option_number, option_word, option_numbered, option_named, command_named};
-ghost use Rattle.command_line.specs.Uses.{use_of, on_journey, on_made};
+ghost use Rattle.command_line.specs.Uses.{own_of, use_of, on_journey, on_made};
 
 /// What the program can be asked for.
 #[derive(Clone, Copy, Debug, PartialEq, Eq)]
@@ -18,6 +18,12 @@ pub enum Command {
     Certify,
     /// To check a certificate.
     Check,
+    /// To make the decision graph with the least chance of an arrival after a promised moment.
+    Punctual,
+    /// To tell what each departure of a stretch of time promises.
+    Departures,
+    /// To tell how late one can leave.
+    Latest,
     /// To plan a journey over a timetable that is made by rule.
     Sample,
 }
@@ -49,10 +55,16 @@ pub enum OptionName {
     Size,
     /// The path of a proof file, which has a certificate.
     Proof,
+    /// The moment by which one has promised to be there.
+    By,
+    /// The deadline, as a moment.
+    Until,
+    /// The last moment at which departures are looked for.
+    Last,
 }
 
 /// The options by their numbers.
-pub(crate) const OPTIONS: [OptionName; 12] = [
+pub(crate) const OPTIONS: [OptionName; 15] = [
     OptionName::Cut,
     OptionName::Feed,
     OptionName::Delays,
@@ -65,6 +77,9 @@ pub(crate) const OPTIONS: [OptionName; 12] = [
     OptionName::Late,
     OptionName::Size,
     OptionName::Proof,
+    OptionName::By,
+    OptionName::Until,
+    OptionName::Last,
 ];
 
 /// What a command does with an option.
@@ -90,6 +105,9 @@ struct OwnUses {
     graph: Use,
     late: Use,
     proof: Use,
+    by: Use,
+    until: Use,
+    last: Use,
 }
 
 /// None of them is taken.
@@ -98,6 +116,9 @@ const NO_OWN: OwnUses = OwnUses {
     graph: Use::Unused,
     late: Use::Unused,
     proof: Use::Unused,
+    by: Use::Unused,
+    until: Use::Unused,
+    last: Use::Unused,
 };
 
 impl Command {
@@ -123,40 +144,64 @@ impl Command {
         if word == "check" {
             return Some(Command::Check);
         }
+        if word == "punctual" {
+            return Some(Command::Punctual);
+        }
+        if word == "departures" {
+            return Some(Command::Departures);
+        }
+        if word == "latest" {
+            return Some(Command::Latest);
+        }
         if word == "sample" {
             return Some(Command::Sample);
         }
         None
     }
 
+    /// What a command about a journey does with the options that not each of them takes.
+    fn own_uses(self) -> Option<OwnUses>
+        ensures { result ≡ own_of self }
+    {
+        match self {
+            Command::Safe | Command::Expand | Command::Plan | Command::Certify => Some(OwnUses {
+                alpha: Use::Optional,
+                ..NO_OWN
+            }),
+            Command::Replay => Some(OwnUses {
+                graph: Use::Needed,
+                late: Use::Needed,
+                ..NO_OWN
+            }),
+            Command::Check => Some(OwnUses {
+                proof: Use::Needed,
+                ..NO_OWN
+            }),
+            Command::Punctual => Some(OwnUses {
+                alpha: Use::Optional,
+                by: Use::Needed,
+                ..NO_OWN
+            }),
+            Command::Departures => Some(OwnUses {
+                until: Use::Needed,
+                last: Use::Needed,
+                ..NO_OWN
+            }),
+            Command::Latest => Some(OwnUses {
+                until: Use::Needed,
+                ..NO_OWN
+            }),
+            Command::Sample => None,
+        }
+    }
+
     /// What the command does with an option.
     pub fn use_of(self, option: OptionName) -> Use
         ensures { result ≡ use_of self option }
     {
-        match self {
-            Command::Safe | Command::Expand | Command::Plan | Command::Certify => on_journey(
-                OwnUses {
-                    alpha: Use::Optional,
-                    ..NO_OWN
-                },
-                option,
-            ),
-            Command::Replay => on_journey(
-                OwnUses {
-                    graph: Use::Needed,
-                    late: Use::Needed,
-                    ..NO_OWN
-                },
-                option,
-            ),
-            Command::Check => on_journey(
-                OwnUses {
-                    proof: Use::Needed,
-                    ..NO_OWN
-                },
-                option,
-            ),
-            Command::Sample => on_made(option),
+        match self.own_uses() {
+            None => on_made(option),
+            Some(own) => on_journey(own, option),
         }
     }
 }
@@ -175,6 +220,9 @@ fn on_journey(own: OwnUses, option: OptionName) -> Use
         OptionName::Late => own.late,
         OptionName::Size => Use::Unused,
         OptionName::Proof => own.proof,
+        OptionName::By => own.by,
+        OptionName::Until => own.until,
+        OptionName::Last => own.last,
     }
 }
 
@@ -194,7 +242,10 @@ fn on_made(option: OptionName) -> Use
         | OptionName::Horizon
         | OptionName::Graph
         | OptionName::Late
-        | OptionName::Proof => Use::Unused,
+        | OptionName::Proof
+        | OptionName::By
+        | OptionName::Until
+        | OptionName::Last => Use::Unused,
     }
 }
 
@@ -216,6 +267,9 @@ impl OptionName {
             OptionName::Late => "--late",
             OptionName::Size => "--size",
             OptionName::Proof => "--proof",
+            OptionName::By => "--by",
+            OptionName::Until => "--until",
+            OptionName::Last => "--last",
         }
     }
 
@@ -236,6 +290,9 @@ impl OptionName {
             OptionName::Late => 10,
             OptionName::Size => 11,
             OptionName::Proof => 12,
+            OptionName::By => 13,
+            OptionName::Until => 14,
+            OptionName::Last => 15,
         }
     }
 }

@@ -54,6 +54,26 @@ fn seeks_over_a_cut_file(rt: HostRuntime) -> Result<(), Fail> {
         ("expand --cut c --alpha 0150", Ask::Expand { alpha: 150 }),
         ("plan --cut c --alpha 1000", Ask::Plan { alpha: 1_000 }),
         ("certify --cut c", Ask::Certify { alpha: 200 }),
+        (
+            "punctual --cut c --by 2024-06-03T09:00:00",
+            Ask::Punctual {
+                alpha: 200,
+                promise: Moment(1_717_405_200),
+            },
+        ),
+        (
+            "departures --cut c --until 2024-06-03T09:00:00 --last 2024-06-03T08:00:00",
+            Ask::Departures {
+                until: Moment(1_717_405_200),
+                last: Moment(1_717_401_600),
+            },
+        ),
+        (
+            "latest --cut c --until 2400-12-31T23:59:59",
+            Ask::Latest {
+                until: Moment(13_601_087_999),
+            },
+        ),
     ] {
         let words = words_of(rt.alloc(), &[line, JOURNEY])?;
         let Ok(Job::Journey(journey, ask)) = read_job(words.as_slice()) else {
@@ -219,6 +239,9 @@ fn refuses_useless_options(rt: HostRuntime) -> Result<(), Fail> {
         ("safe --size 10", 11),
         ("check --proof p --alpha 200", 7),
         ("certify --proof p", 12),
+        ("plan --by x", 13),
+        ("latest --until x --alpha 200", 7),
+        ("latest --until x --last x", 15),
     ] {
         let fault = fault_of(rt.alloc(), line)?;
         assert_eq!(rt; fault, Some(WordsFault::NotUsed(number)), "{line}");
@@ -239,6 +262,12 @@ fn asks_for_options(rt: HostRuntime) -> Result<(), Fail> {
         ),
         ("sample", 11),
         ("check --cut c --delays d --from A --to T --at x", 12),
+        ("punctual --cut c --delays d --from A --to T --at x", 13),
+        ("departures --cut c --delays d --from A --to T --at x", 14),
+        (
+            "departures --cut c --delays d --from A --to T --at x --until x",
+            15,
+        ),
     ] {
         let fault = fault_of(rt.alloc(), line)?;
         assert_eq!(rt; fault, Some(WordsFault::Missing(number)), "{line}");
@@ -255,6 +284,14 @@ fn refuses_values(rt: HostRuntime) -> Result<(), Fail> {
         ("safe --cut c --alpha 1001", 7),
         ("safe --feed f --horizon 0", 8),
         ("replay --cut c --graph g --late 300,", 10),
+        ("punctual --cut c --by 2024-06-03T07:59:59", 13),
+        ("punctual --cut c --by 2024-06-10T08:00:01", 13),
+        ("latest --cut c --until 2024-06-03T07:59:59", 14),
+        ("latest --cut c --until 2401-01-01T00:00:00", 14),
+        (
+            "departures --cut c --until 2024-06-03T08:00:00 --last 2024-06-03",
+            15,
+        ),
     ] {
         let words = words_of(rt.alloc(), &[line, JOURNEY])?;
         let fault = read_job(words.as_slice()).err();
@@ -310,7 +347,8 @@ fn names_options(rt: HostRuntime) {
         (10, "--late"),
         (11, "--size"),
         (12, "--proof"),
-        (13, ""),
+        (15, "--last"),
+        (16, ""),
         (255, ""),
     ] {
         assert_eq!(rt; option_word(number), word, "{number}");

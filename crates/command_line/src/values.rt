@@ -1,6 +1,6 @@
 //! The forms of the values.
-ghost use Rattle.std.specs.Prelude.{◌≡◌, ◌≤◌, option_map, map, string_bytes, is_some, IfSome, IfOk};
-ghost use Rattle.command_line.specs.Values.{first_start, last_start, start_at, number_at, late_at, pieces, is_delay, delay_in, are_delays, has_form};
+ghost use Rattle.std.specs.Prelude.{◌≡◌, ◌≤◌, ◌+◌, option_map, map, string_bytes, is_some, IfSome, IfOk};
+ghost use Rattle.command_line.specs.Values.{first_start, last_start, last_until, longest_promise, moment_of, start_of, promise_at, later_at, number_at, late_at, pieces, is_delay, delay_in, are_delays, has_form};
 ghost use Rattle.command_line.specs.Jobs.{late_in};
 
 use crate::options::OptionName;
@@ -10,10 +10,16 @@ use plan_model::Moment;
 use std::alloc::{AllocError, Global};
 
 /// The first moment at which a journey may begin: 1970-01-08T00:00:00.
-pub(crate) const FIRST_START: u64 = 604_800;
+const FIRST_START: u64 = 604_800;
 
 /// The last one: 2399-12-31T23:59:59.
 const LAST_START: u64 = 13_569_465_599;
+
+/// The last moment of a deadline, and at which departures are looked for: 2400-12-31T23:59:59.
+const LAST_UNTIL: u64 = 13_601_087_999;
+
+/// How long after the start one may promise to be there, in seconds: a week.
+const LONGEST_PROMISE: u64 = 604_800;
 
 /// The numbers from the least to the most.
 #[derive(Clone, Copy)]
@@ -43,20 +49,54 @@ const LONGEST_DELAY: u32 = 86_400;
 /// How many delays are taken at most.
 const MOST_DELAYS: usize = 4_096;
 
-/// The moment that a journey begins at.
-pub(crate) fn read_start(text: &[u8]) -> Option<Moment>
-    ensures start { option_map (λ moment. moment.0) result ≡ start_at text.now }
-    ensures in_range { IfSome result (λ moment. (first_start ≤ moment.0) × (moment.0 ≤ last_start)) }
+/// The moment that a text tells, if it is of this range.
+fn read_moment_of(text: &[u8], first: u64, last: u64) -> Option<Moment>
+    ensures moment { option_map (λ moment. moment.0) result ≡ moment_of first last text.now }
+    ensures in_range { IfSome result (λ moment. (first ≤ moment.0) × (moment.0 ≤ last)) }
 {
     match read_moment(text) {
         None => None,
         Some(moment) => {
-            if FIRST_START <= moment.0 && moment.0 <= LAST_START {
+            if first <= moment.0 && moment.0 <= last {
                 return Some(moment);
             }
             None
         }
     }
+}
+
+/// The moment that the journey begins at.
+pub(crate) fn start_of(settings: &[String]) -> Moment
+    ensures start { result.0 ≡ start_of (map string_bytes settings.now) }
+    ensures in_range { (first_start ≤ result.0) × (result.0 ≤ last_start) }
+{
+    let text = text_of(settings, OptionName::At);
+    match read_moment_of(text.as_bytes(), FIRST_START, LAST_START) {
+        None => Moment(FIRST_START),
+        Some(start) => start,
+    }
+}
+
+/// The moment by which one has promised to be there, if it is of its form.
+pub(crate) fn read_promise(settings: &[String]) -> Option<Moment>
+    ensures promise { option_map (λ moment. moment.0) result ≡ promise_at (map string_bytes settings.now) }
+    ensures in_range { IfSome result (λ moment. (start_of (map string_bytes settings.now) ≤ moment.0)
+        × (moment.0 ≤ start_of (map string_bytes settings.now) + longest_promise)) }
+{
+    let start = start_of(settings);
+    let text = text_of(settings, OptionName::By);
+    read_moment_of(text.as_bytes(), start.0, start.0 + LONGEST_PROMISE)
+}
+
+/// The moment that an option tells, if it is of its form: from the start of the journey on.
+pub(crate) fn read_later(settings: &[String], option: OptionName) -> Option<Moment>
+    ensures later { option_map (λ moment. moment.0) result ≡ later_at (map string_bytes settings.now) option }
+    ensures in_range { IfSome result (λ moment. (start_of (map string_bytes settings.now) ≤ moment.0)
+        × (moment.0 ≤ last_until)) }
+{
+    let start = start_of(settings);
+    let text = text_of(settings, option);
+    read_moment_of(text.as_bytes(), start.0, LAST_UNTIL)
 }
 
 /// A whole number of a range.
@@ -130,11 +170,13 @@ pub(crate) fn has_form(settings: &[String], option: OptionName) -> bool
 {
     let text = text_of(settings, option);
     match option {
-        OptionName::At => read_start(text.as_bytes()).is_some(),
+        OptionName::At => read_moment_of(text.as_bytes(), FIRST_START, LAST_START).is_some(),
         OptionName::Alpha => read_number(text.as_bytes(), ALPHA).is_some(),
         OptionName::Horizon => read_number(text.as_bytes(), HORIZON).is_some(),
         OptionName::Late => is_late(text),
         OptionName::Size => read_number(text.as_bytes(), SIZE).is_some(),
+        OptionName::By => read_promise(settings).is_some(),
+        OptionName::Until | OptionName::Last => read_later(settings, option).is_some(),
         OptionName::Cut
         | OptionName::Feed
         | OptionName::Delays
