@@ -2,7 +2,7 @@
 use Rattle.std.proofs.Common.{◌≡◌, ℕ, List, Option, Some, None, Result, Ok, Err, inl, inr, refl, ap, sym, ◌∙◌, subst, arith}
 use Rattle.std.specs.Prelude.{◌≢◌, ◌⊎◌, IfErr, IfOk, option_map}
 use Rattle.file_ports.specs.Counts.{Rose}
-use Rattle.command_line.specs.Jobs.{WantedTimetable, WantedJourney, WantedAsk, Safe, Expand, Plan, Replay, Certify, CheckProof}
+use Rattle.command_line.specs.Jobs.{WantedTimetable, WantedJourney, WantedAsk, Safe, Expand, Plan, Replay, Certify, CheckProof, Punctual, Departures, Latest}
 use Rattle.fault_lines.specs.declared.faults.Input.{Input}
 use Rattle.fault_lines.specs.declared.faults.Input.TheVariants as input
 use Rattle.fault_lines.specs.declared.faults.Fault.{Fault}
@@ -95,6 +95,9 @@ pub beside : (ask : WantedAsk) (j : WantedJourney) (before_of now_of : List ℕ 
 beside (Safe alpha) j before_of now_of file rose = absurd rose
 beside (Expand alpha) j before_of now_of file rose = absurd rose
 beside (Plan alpha) j before_of now_of file rose = absurd rose
+beside (Punctual alpha promise) j before_of now_of file rose = absurd rose
+beside (Departures until last) j before_of now_of file rose = absurd rose
+beside (Latest until) j before_of now_of file rose = absurd rose
 beside (Replay graph late) j before_of now_of (input.Feed table) rose = absurd rose
 beside (Replay graph late) j before_of now_of input.Cut rose = absurd rose
 beside (Replay graph late) j before_of now_of input.Delays rose = absurd rose

@@ -7,7 +7,7 @@ use Rattle.plan_model.specs.declared.model.Query.{Query}
 use Rattle.plan_model.specs.declared.model.Moment.{Moment}
 use Rattle.plan_model.specs.Parts.{Parts}
 use Rattle.plan_model.specs.Strategy.{Reaches, LeastWorst}
-use Rattle.command_line.specs.Jobs.{WantedJourney, WantedAsk, Safe, Expand, Plan, Replay as Replays, Certify, CheckProof}
+use Rattle.command_line.specs.Jobs.{WantedJourney, WantedAsk, Safe, Expand, Plan, Replay as Replays, Certify, CheckProof, Punctual, Departures, Latest}
 use Rattle.fault_lines.specs.declared.faults.Input.{Input}
 use Rattle.fault_lines.specs.declared.faults.Input.TheVariants as input
 use Rattle.fault_lines.specs.declared.faults.Fault.{Fault}
@@ -51,6 +51,9 @@ module _ (limits : Limits) (files : Folder) (start : ℕ) (p : Problem) where
       inl (head, plan, file.reads, inl (told.trace, told.trip, refl))
   answers_end (Certify alpha) found text (q, w, asked, tells) = asked_ends p start alpha q w asked
   answers_end (CheckProof path) found text (q, proof, file, held) = inl (q, proof, file, inl (held.accepted, refl))
+  answers_end (Punctual alpha promise) found text (q, w, asked, tells) = asked_ends p start alpha q w asked
+  answers_end (Departures until last) found text (rows, same, are, safe, told) = inl (refl, safe)
+  answers_end (Latest until) found text (moment, same, is, told) = inl (refl, (moment.0, is.1.0, is.0, is.1.1))
 
   replay_ends : (graph late : List ℕ) (fault : Fault) → ((i : Input) → fault ≡ Read i → ⊥)
       → FailsReplay (Some files) limits start graph late p fault → EndsByGraphFile limits files start graph late p (status_of (Some fault))
@@ -75,6 +78,9 @@ module _ (limits : Limits) (files : Folder) (start : ℕ) (p : Problem) where
   fails_end (Replays graph late) fault never fails = replay_ends graph late fault never fails
   fails_end (Certify alpha) fault never fails = unsafe_ends p start fault fails
   fails_end (CheckProof path) fault never fails = check_ends path fault never fails
+  fails_end (Punctual alpha promise) fault never fails = unsafe_ends p start fault fails
+  fails_end (Departures until last) fault never (is, none) = inr (ap (λ (f : Fault). status_of (Some f)) is, λ h. none h.0 h.1)
+  fails_end (Latest until) fault never (is, none) = inr (ap (λ (f : Fault). status_of (Some f)) is, λ h. none h.0 h.2 h.1 h.3)
 
 module _ (limits : Limits) (files : Folder) (j : WantedJourney) (a : WantedAsk) where
   -- over some problem of the files it ends so

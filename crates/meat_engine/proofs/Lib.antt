@@ -6,6 +6,9 @@ pub mod Checked
 pub mod Told
 pub mod Outcomes
 pub mod Undisturbed
+pub mod DepartureLines
+pub mod Departing
+pub mod Punctuality
 pub mod Ended
 pub mod Statuses
 pub mod Runs

@@ -5,7 +5,7 @@ use Rattle.std.specs.Io.KnownBytes.{Keeps}
 use Rattle.file_ports.specs.Ports.{Folder}
 use Rattle.csv_rows.specs.declared.limits.Limits.{Limits}
 use Rattle.command_line.specs.declared.job.WordsFault.{WordsFault}
-use Rattle.command_line.specs.Jobs.{WantedAsk, Safe, Expand, Plan, Replay as Replays, Certify, CheckProof, Wanted, Ask, Sample, job_of}
+use Rattle.command_line.specs.Jobs.{WantedAsk, Safe, Expand, Plan, Replay as Replays, Certify, CheckProof, Punctual, Departures, Latest, Wanted, Ask, Sample, job_of}
 use Rattle.fault_lines.specs.declared.faults.Input.{Input}
 use Rattle.fault_lines.specs.declared.faults.Input.TheVariants as input
 use Rattle.fault_lines.specs.declared.faults.LimitKind.{LimitKind}
@@ -47,6 +47,9 @@ module _ (told : Option Folder) (limits : Limits) (words : List (List ℕ)) wher
   ask_write start p (Safe alpha) (is, none) = absurd (cc)
   ask_write start p (Expand alpha) (is, none) = absurd (cc)
   ask_write start p (Plan alpha) (is, none) = absurd (cc)
+  ask_write start p (Punctual alpha promise) (is, none) = absurd (cc)
+  ask_write start p (Departures until last) (is, none) = absurd (cc)
+  ask_write start p (Latest until) (is, none) = absurd (cc)
   ask_write start p (Replays graph late) (inl of) = let late : AtOutput ≡ AtGraphFile = of.0.0 in cc
   ask_write start p (Replays graph late) (inr (head, more, file, trip)) = let is : Write ≡ Replay trip.stop = trip.fault_is in cc
   ask_write start p (Certify alpha) (is, none) = absurd (cc)

@@ -68,9 +68,13 @@ HasNoSafe p start = LeastWorst p.network p.source.0 p.target.0 start None
 abbrev pub IsNoSafe : Problem → ℕ → Fault → Type 0
 IsNoSafe p start fault = (fault ≡ NoSafe) × HasNoSafe p start
 
+-- this is why; or there was no memory
+abbrev pub OrNoMemory : (Fault → Type 0) → Fault → Type 0
+OrNoMemory Fails fault = Fails fault ⊎ (fault ≡ NoMemory)
+
 -- why strategies are not told: none is safe; or there was no memory
 abbrev pub FailsIn : Problem → ℕ → Fault → Type 0
-FailsIn p start fault = IsNoSafe p start fault ⊎ (fault ≡ NoMemory)
+FailsIn p start = OrNoMemory (IsNoSafe p start)
 
 -- its places are the network's, and its moments have texts
 pub record IsPrintable (n : Parts) (q : Query) (worst : Moment) : Type 0 where

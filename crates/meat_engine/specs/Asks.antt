@@ -2,7 +2,7 @@
 use Rattle.std.specs.Prelude.{◌≡◌, ◌⊎◌, ℕ, List, Option, None, Some}
 use Rattle.file_ports.specs.Ports.{Folder}
 use Rattle.csv_rows.specs.declared.limits.Limits.{Limits}
-use Rattle.command_line.specs.Jobs.{WantedJourney, WantedAsk, Safe, Expand, Plan, Replay, Certify, CheckProof}
+use Rattle.command_line.specs.Jobs.{WantedJourney, WantedAsk, Safe, Expand, Plan, Replay, Certify, CheckProof, Punctual, Departures, Latest}
 use Rattle.fault_lines.specs.declared.faults.Input.{Input}
 use Rattle.fault_lines.specs.declared.faults.Input.TheVariants as input
 use Rattle.fault_lines.specs.declared.faults.Fault.{Fault}
@@ -12,10 +12,12 @@ use Rattle.journey_problem.specs.Files.{OwnPaths}
 use Rattle.journey_problem.specs.Problems.{FailsEarly, InProblem}
 use Rattle.meat_engine.specs.Findings.{Findings}
 use Rattle.meat_engine.specs.Answers.{InQuery, TellsWorst, TellsExpanded, TellsPlanned, IsNoSafe}
+use Rattle.meat_engine.specs.Punctual.{TellsPunctual}
 use Rattle.meat_engine.specs.Replays.{InGraphFile, IsTripTold, FailsReplay}
 use Rattle.meat_engine.specs.Certified.{TellsCertificate}
 use Rattle.meat_engine.specs.Checks.{InProofFile, IsHeld, FailsCheck}
 use Rattle.meat_engine.specs.Ends.{EndsBySafety, EndsByGraphFile, EndsByProofFile}
+use Rattle.meat_engine.specs.Departures.{query_until, TellsDepartures, TellsLatest, FailsDepartures, FailsLatest, EndsByDepartures, EndsByLatest}
 
 -- no file is read beside those of the journey
 abbrev pub no_path : OwnPaths
@@ -45,6 +47,9 @@ own_paths (Plan alpha) = no_path
 own_paths (Replay graph late) = graph_path graph
 own_paths (Certify alpha) = no_path
 own_paths (CheckProof proof) = proof_path proof
+own_paths (Punctual alpha promise) = no_path
+own_paths (Departures until last) = no_path
+own_paths (Latest until) = no_path
 
 -- the findings and the text answer what is asked about a problem, from a start on
 abbrev pub AnswersAsk : Option Folder → Limits → ℕ → Problem → WantedAsk → Findings → List ℕ → Type 0
@@ -54,6 +59,9 @@ AnswersAsk told limits start p (Plan alpha) found text = InQuery p start alpha (
 AnswersAsk told limits start p (Replay graph late) found text = InGraphFile told limits start graph p (IsTripTold p late found text)
 AnswersAsk told limits start p (Certify alpha) found text = InQuery p start alpha (TellsCertificate p found text)
 AnswersAsk told limits start p (CheckProof proof) found text = InProofFile told limits start proof p (IsHeld p found text)
+AnswersAsk told limits start p (Punctual alpha promise) found text = InQuery p start alpha (TellsPunctual p promise found text)
+AnswersAsk told limits start p (Departures until last) found text = TellsDepartures p (query_until p start until) last found text
+AnswersAsk told limits start p (Latest until) found text = TellsLatest p (query_until p start until) found text
 
 -- why it has no answer, but for want of memory
 abbrev pub FailsAsk : Option Folder → Limits → ℕ → Problem → WantedAsk → Fault → Type 0
@@ -63,6 +71,9 @@ FailsAsk told limits start p (Plan alpha) fault = IsNoSafe p start fault
 FailsAsk told limits start p (Replay graph late) fault = FailsReplay told limits start graph late p fault
 FailsAsk told limits start p (Certify alpha) fault = IsNoSafe p start fault
 FailsAsk told limits start p (CheckProof proof) fault = FailsCheck told limits start proof p fault
+FailsAsk told limits start p (Punctual alpha promise) fault = IsNoSafe p start fault
+FailsAsk told limits start p (Departures until last) fault = FailsDepartures p (query_until p start until) fault
+FailsAsk told limits start p (Latest until) fault = FailsLatest p (query_until p start until) fault
 
 -- the status that it ends with, but for want of memory, where no file fails to be read and the answer is written
 abbrev pub EndsAsk : Limits → Folder → ℕ → Problem → WantedAsk → ℕ → Type 0
@@ -72,6 +83,9 @@ EndsAsk limits files start p (Plan alpha) status = EndsBySafety p start status
 EndsAsk limits files start p (Replay graph late) status = EndsByGraphFile limits files start graph late p status
 EndsAsk limits files start p (Certify alpha) status = EndsBySafety p start status
 EndsAsk limits files start p (CheckProof proof) status = EndsByProofFile limits files start proof p status
+EndsAsk limits files start p (Punctual alpha promise) status = EndsBySafety p start status
+EndsAsk limits files start p (Departures until last) status = EndsByDepartures p (query_until p start until) status
+EndsAsk limits files start p (Latest until) status = EndsByLatest p (query_until p start until) status
 
 -- a timetable with its names, by which the lines of faults are told
 abbrev pub parts_of : Problem → NamedParts

@@ -1,7 +1,8 @@
 -- What a report tells, besides its status and its fault.
-use Rattle.std.specs.Prelude.{ℕ, Option, None, Some}
+use Rattle.std.specs.Prelude.{ℕ, List, Option, None, Some}
 use Rattle.plan_model.specs.declared.model.Moment.{Moment}
 use Rattle.plan_model.specs.declared.model.Query.{Query}
+use Rattle.departure_table.specs.declared.DepartureRow.{DepartureRow}
 use Rattle.interval_fixed.specs.Interval.{Interval}
 use Rattle.plan_graph.specs.declared.ExpandedGraph.{ExpandedGraph}
 use Rattle.plan_graph.specs.declared.PlanGraph.{PlanGraph}
@@ -19,6 +20,9 @@ pub record Findings : Type 0 where
   pub connections : Option ℕ
   pub proof : Option LowerBounds
   pub least : Option ℕ
+  pub chance : Option Interval
+  pub departures : Option (List DepartureRow)
+  pub latest : Option Moment
 
 abbrev pub findings_of : Report → Findings
 findings_of r = record {
@@ -31,6 +35,9 @@ findings_of r = record {
   connections = r.connections;
   proof = r.proof;
   least = r.least;
+  chance = r.chance;
+  departures = r.departures;
+  latest = r.latest;
 }
 
 abbrev pub no_findings : Findings
@@ -44,6 +51,9 @@ no_findings = record {
   connections = None;
   proof = None;
   least = None;
+  chance = None;
+  departures = None;
+  latest = None;
 }
 
 -- the least worst arrival and the deadline
@@ -73,3 +83,15 @@ certify_findings q worst proof = record no_findings { query = Some q; worst = So
 -- the query of a certificate, the certificate, and its least value at the start
 abbrev pub check_findings : Query → LowerBounds → Option ℕ → Findings
 check_findings q proof least = record no_findings { query = Some q; proof = Some proof; least = least }
+
+-- with a graph by place, its bounds, and its chance of an arrival after a promised moment
+abbrev pub punctual_findings : Query → Moment → PlanGraph → Interval → Interval → Findings
+punctual_findings q worst graph bounds chance = record (plan_findings q worst graph bounds) { chance = Some chance }
+
+-- the query with its deadline, and the departures
+abbrev pub departures_findings : Query → List DepartureRow → Findings
+departures_findings q rows = record no_findings { query = Some q; departures = Some rows }
+
+-- the query with its deadline, and the latest moment
+abbrev pub latest_findings : Query → Moment → Findings
+latest_findings q moment = record no_findings { query = Some q; latest = Some moment }

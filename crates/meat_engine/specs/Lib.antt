@@ -4,7 +4,10 @@ pub mod Texts
 pub mod Answers
 pub mod Replays
 pub mod Certified
+pub mod Punctual
 pub mod Checks
+pub mod DepartureTexts
+pub mod Departures
 pub mod Ends
 pub mod Asks
 pub mod Samples

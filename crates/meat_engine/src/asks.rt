@@ -4,6 +4,7 @@ ghost use Rattle.csv_rows.specs.Limits.{AreWithin};
 ghost use Rattle.plan_model.specs.NameLists.{NamesFit};
 ghost use Rattle.command_line.specs.Ranges.{IsJourney, IsAsk};
 ghost use Rattle.command_line.specs.Shown.{journey_shown, ask_shown};
+ghost use Rattle.command_line.specs.Values.{first_start};
 ghost use Rattle.fault_lines.specs.Sites.{IsTellable};
 ghost use Rattle.journey_problem.specs.Files.{path_of, HasCauses};
 ghost use Rattle.journey_problem.specs.Problems.{InProblem};
@@ -16,6 +17,8 @@ use crate::answer::{Answer, Refusal};
 use crate::answers::{expand_over, plan_over, safe_over};
 use crate::certificates::certify_over;
 use crate::checks::check_proof_over;
+use crate::departures::{departures_over, latest_over};
+use crate::punctual::punctual_over;
 use crate::replays::replay_over;
 use command_line::{Ask, Journey};
 use csv_rows::Limits;
@@ -38,8 +41,9 @@ fn ask_over<F: Files>(
     requires fit { NamesFit problem.now.names problem.now.network }
     requires source { problem.now.source.0 < length problem.now.network.change }
     requires target { problem.now.target.0 < length problem.now.network.change }
+    requires first { first_start ≤ start.0 }
     requires start { start.0 ≤ last_start }
-    requires ask { IsAsk (ask_shown ask.now) }
+    requires ask { IsAsk start.0 (ask_shown ask.now) }
     ensures same { F.files files.new ≡ F.files files.old }
     ensures answer { IfOk result (λ a. AnswersAsk (F.files files.old) limits.now start.0
         problem.now (ask_shown ask.now) (findings_of a.report) a.text.items) }
@@ -59,6 +63,9 @@ fn ask_over<F: Files>(
         }
         Ask::Certify { alpha } => certify_over(alloc, problem, start, alpha),
         Ask::CheckProof { proof } => check_proof_over(alloc, files, problem, start, proof, limits),
+        Ask::Punctual { alpha, promise } => punctual_over(alloc, problem, start, alpha, promise),
+        Ask::Departures { until, last } => departures_over(alloc, problem, start, until, last),
+        Ask::Latest { until } => latest_over(alloc, problem, start, until),
     }
 }
 
@@ -72,7 +79,7 @@ pub(crate) fn journey_over<F: Files>(
 ) -> Result<Answer, Refusal>
     requires within { AreWithin limits.now }
     requires journey { IsJourney (journey_shown journey.now) }
-    requires ask { IsAsk (ask_shown ask.now) }
+    requires ask { IsAsk journey.now.start.0 (ask_shown ask.now) }
     ensures same { F.files files.new ≡ F.files files.old }
     ensures answer { IfOk result (λ a. InProblem (F.files files.old) limits.now
         (journey_shown journey.now) (λ p. AnswersAsk (F.files files.old) limits.now

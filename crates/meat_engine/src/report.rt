@@ -3,11 +3,13 @@ ghost use Rattle.std.specs.Prelude.{◌≡◌, Some, None};
 ghost use Rattle.fault_lines.specs.Faults.{status_of};
 ghost use Rattle.meat_engine.specs.Findings.{findings_of, no_findings};
 
+use departure_table::DepartureRow;
 use fault_lines::Fault;
 use interval_fixed::Span;
 use lower_proof::LowerBounds;
+use late_chance::LateChance;
 use plan_graph::{ExpandedGraph, PlanGraph};
-use plan_model::{Moment, Query};
+use plan_model::{List, Moment, Query};
 use trip_replay::Trace;
 
 /// The number that the process ends with.
@@ -40,6 +42,12 @@ pub struct Report {
     pub proof: Option<LowerBounds>,
     /// The certificate's least value at the start, in nanoseconds, of `check`.
     pub least: Option<u64>,
+    /// Bounds on the chance of an arrival after the promised moment, of `punctual`.
+    pub chance: Option<LateChance>,
+    /// The departures up to a last moment, of `departures`.
+    pub departures: Option<List<DepartureRow>>,
+    /// The latest moment at which one can leave, of `latest`.
+    pub latest: Option<Moment>,
     /// Why there is no answer, or why it was not written.
     pub fault: Option<Fault>,
 }
@@ -62,6 +70,9 @@ impl Report {
             connections: None,
             proof: None,
             least: None,
+            chance: None,
+            departures: None,
+            latest: None,
             fault: None,
         }
     }

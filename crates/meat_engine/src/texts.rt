@@ -15,7 +15,7 @@ use std::alloc::Global;
 use trip_replay::{Ridden, Trace};
 
 /// A row of fields, quoted where they need it, with its line end.
-fn row(alloc: Global, fields: &[&[u8]]) -> Result<Vec<u8>, NoMemory>
+pub(crate) fn row(alloc: Global, fields: &[&[u8]]) -> Result<Vec<u8>, NoMemory>
     ensures { IfOk result (λ text.
         text.items ≡ row_text default_writer (map (λ field. field.now) fields.now)) }
 {
