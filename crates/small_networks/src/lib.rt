@@ -8,7 +8,7 @@ ghost use Rattle.decision_graph.specs.Expanded.{IsExpanded};
 ghost use Rattle.decision_graph.specs.Planned.{IsPlanned};
 
 use csv_rows::{Limits, Rows};
-use cut_file::read_cut;
+use cut_file::{CutTable, read_cut};
 use decision_graph::{CompactPlan, ExpandedPlan, expand, plan};
 use delay_table::DelayTable;
 use interval_fixed::Span;
@@ -35,30 +35,54 @@ pub const ONE_WAY: &str =
 /// times.
 const DELAYS: &str = "class,delay,weight\n*,0,8000\n*,300,1500\n*,900,500\n";
 
+/// The rows of a text.
+fn rows_of(alloc: Global, text: &str) -> Result<Rows, Fail> {
+    match Rows::read(alloc, text.as_bytes()) {
+        Ok(rows) => Ok(rows),
+        Err(_) => Err("no rows".into()),
+    }
+}
+
+/// The usual delays.
+fn usual_delays(alloc: Global) -> Result<DelayTable, Fail> {
+    let rows = rows_of(alloc, DELAYS)?;
+    match DelayTable::read(alloc, &rows) {
+        Ok(delays) => Ok(delays),
+        Err(_) => Err("no delays".into()),
+    }
+}
+
+/// The rides that a text tells.
+fn cut_of(alloc: Global, text: &str) -> Result<CutTable, Fail> {
+    let rows = rows_of(alloc, text)?;
+    match read_cut(alloc, &rows, &Limits::standard()) {
+        Ok(cut) => Ok(cut),
+        Err(_) => Err("no cut".into()),
+    }
+}
+
+/// The network of these rides with these delays, and its names.
+fn parts_of(alloc: Global, cut: &CutTable, delays: &DelayTable) -> Result<(Network, Names), Fail>
+    ensures fit { IfOk result (λ parts. NamesFit parts.1 parts.0) }
+{
+    match cut.network(alloc, delays) {
+        Ok(parts) => Ok(parts),
+        Err(_) => Err("no network".into()),
+    }
+}
+
 /// The network of a cut file, which is to have so many places, with the usual delays, and its names.
 pub fn named_network(alloc: Global, cut: &str, places: u32) -> Result<(Network, Names), Fail>
     ensures fit { IfOk result (λ parts. NamesFit parts.1 parts.0) }
     ensures places { IfOk result (λ parts. length parts.0.change ≡ places) }
 {
-    let (Ok(rows), Ok(delays)) = (
-        Rows::read(alloc, cut.as_bytes()),
-        Rows::read(alloc, DELAYS.as_bytes()),
-    ) else {
-        return Err("no tables".into());
-    };
-    let (Ok(cut), Ok(delays)) = (
-        read_cut(alloc, &rows, &Limits::standard()),
-        DelayTable::read(alloc, &delays),
-    ) else {
-        return Err("no cut".into());
-    };
-    let Ok((network, names)) = cut.network(alloc, &delays) else {
-        return Err("no network".into());
-    };
-    if network.places() != places {
+    let cut = cut_of(alloc, cut)?;
+    let delays = usual_delays(alloc)?;
+    let parts = parts_of(alloc, &cut, &delays)?;
+    if parts.0.places() != places {
         return Err("another number of places".into());
     }
-    Ok((network, names))
+    Ok(parts)
 }
 
 /// The same network without its names.
