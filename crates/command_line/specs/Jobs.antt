@@ -26,7 +26,7 @@ pub record WantedJourney : Type 0 where
 
 -- what is asked about a journey: the least worst arrival and the deadline, a decision graph ride by ride or by place, each by
 -- a percentage for the deadline; the trip by the graph of this path, with these delays; a certificate, by a percentage for the
--- deadline; whether that of this path holds; the graph with the least chance of an arrival after a promised moment, by a
+-- deadline; whether that of this path holds; the bounds of the graph of this path; the graph with the least chance of an arrival after a promised moment, by a
 -- percentage for the deadline; what each departure up to a last moment promises, by this deadline; or the latest moment at which
 -- one can leave, by this deadline
 pub data WantedAsk : Type 0 where
@@ -36,6 +36,7 @@ pub data WantedAsk : Type 0 where
   Replay : (graph : List ℕ) (late : List ℕ) → WantedAsk
   Certify : (alpha : ℕ) → WantedAsk
   CheckProof : (proof : List ℕ) → WantedAsk
+  CheckGraph : (graph : List ℕ) → WantedAsk
   Punctual : (alpha : ℕ) (promise : ℕ) → WantedAsk
   Departures : (until : ℕ) (last : ℕ) → WantedAsk
   Latest : (until : ℕ) → WantedAsk
@@ -84,6 +85,14 @@ journey_of settings = record {
   start = start_of settings;
 }
 
+-- the graph of a path is checked where one is given, and else the certificate of one
+abbrev pub check_by : Option (List ℕ) → List ℕ → WantedAsk
+check_by None proof = CheckProof proof
+check_by (Some graph) proof = CheckGraph graph
+
+abbrev pub check_of : List (List ℕ) → WantedAsk
+check_of settings = check_by (value_of settings Graph) (text_of settings Proof)
+
 -- what a command asks about a journey, if it is about one
 abbrev pub ask_of : Command → List (List ℕ) → Option WantedAsk
 ask_of command.Safe settings = Some (Safe (alpha_of settings))
@@ -91,7 +100,7 @@ ask_of command.Expand settings = Some (Expand (alpha_of settings))
 ask_of command.Plan settings = Some (Plan (alpha_of settings))
 ask_of command.Replay settings = Some (Replay (text_of settings Graph) (late_in (text_of settings Late)))
 ask_of command.Certify settings = Some (Certify (alpha_of settings))
-ask_of command.Check settings = Some (CheckProof (text_of settings Proof))
+ask_of command.Check settings = Some (check_of settings)
 ask_of command.Punctual settings = Some (Punctual (alpha_of settings) (promise_of settings))
 ask_of command.Departures settings = Some (Departures (later_of settings Until) (later_of settings Last))
 ask_of command.Latest settings = Some (Latest (later_of settings Until))

@@ -1,7 +1,7 @@
 -- The ranges of what a job asks for.
 use Rattle.std.specs.Prelude.{ℕ, ◌≤◌, ◌+◌}
 use Rattle.command_line.specs.Values.{first_start, last_start, least_alpha, most_alpha, least_horizon, most_horizon, least_size, most_size, last_until, longest_promise}
-use Rattle.command_line.specs.Jobs.{WantedTimetable, CutFile, FeedFolder, WantedJourney, WantedAsk, Safe, Expand, Plan, Replay, Certify, CheckProof, Punctual, Departures, Latest, Wanted, Ask, Sample}
+use Rattle.command_line.specs.Jobs.{WantedTimetable, CutFile, FeedFolder, WantedJourney, WantedAsk, Safe, Expand, Plan, Replay, Certify, CheckProof, CheckGraph, Punctual, Departures, Latest, Wanted, Ask, Sample}
 
 abbrev pub HasHorizon : WantedTimetable → Type 0
 HasHorizon (CutFile path) = Unit {0}
@@ -29,6 +29,7 @@ IsAsk start (Plan alpha) = IsPercentage alpha
 IsAsk start (Replay graph late) = Unit {0}
 IsAsk start (Certify alpha) = IsPercentage alpha
 IsAsk start (CheckProof proof) = Unit {0}
+IsAsk start (CheckGraph graph) = Unit {0}
 IsAsk start (Punctual alpha promise) = IsPercentage alpha × (start ≤ promise) × (promise ≤ start + longest_promise)
 IsAsk start (Departures until last) = IsLater start until × IsLater start last
 IsAsk start (Latest until) = IsLater start until

@@ -8,7 +8,7 @@ use Rattle.command_line.specs.declared.job.Ask.{Ask}
 use Rattle.command_line.specs.declared.job.Ask.TheVariants as ask
 use Rattle.command_line.specs.declared.job.Job.{Job}
 use Rattle.command_line.specs.declared.job.Job.TheVariants as job
-use Rattle.command_line.specs.Jobs.{WantedTimetable, CutFile, FeedFolder, WantedJourney, WantedAsk, Safe, Expand, Plan, Replay, Certify, CheckProof, Punctual, Departures, Latest, Wanted, Ask as Asks, Sample, late_in}
+use Rattle.command_line.specs.Jobs.{WantedTimetable, CutFile, FeedFolder, WantedJourney, WantedAsk, Safe, Expand, Plan, Replay, Certify, CheckProof, CheckGraph, Punctual, Departures, Latest, Wanted, Ask as Asks, Sample, late_in}
 
 abbrev pub timetable_shown : Timetable → WantedTimetable
 timetable_shown (timetable.Cut path) = CutFile path.now
@@ -24,6 +24,7 @@ ask_shown (ask.Plan alpha) = Plan alpha
 ask_shown (ask.Replay graph late) = Replay graph.now (late_in late.now)
 ask_shown (ask.Certify alpha) = Certify alpha
 ask_shown (ask.CheckProof proof) = CheckProof proof.now
+ask_shown (ask.CheckGraph graph) = CheckGraph graph.now
 ask_shown (ask.Punctual alpha promise) = Punctual alpha promise.0
 ask_shown (ask.Departures until last) = Departures until.0 last.0
 ask_shown (ask.Latest until) = Latest until.0

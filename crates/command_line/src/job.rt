@@ -1,6 +1,6 @@
 //! What a line of words asks for.
 ghost use Rattle.std.specs.Prelude.{◌≡◌, ◌≤◌, ◌+◌, map, string_bytes, option_map, option_and_then, unwrap_or, IfOk, IfSome};
-ghost use Rattle.command_line.specs.Jobs.{promise_of, later_of, alpha_of, horizon_of, size_of, timetable_of, journey_of, ask_of, wanted_of, job_of};
+ghost use Rattle.command_line.specs.Jobs.{promise_of, later_of, alpha_of, horizon_of, size_of, timetable_of, journey_of, check_of, ask_of, wanted_of, job_of};
 ghost use Rattle.command_line.specs.Ranges.{HasHorizon, IsJourney, IsAsk, IsJob};
 ghost use Rattle.command_line.specs.Settings.{value_of};
 ghost use Rattle.command_line.specs.Shown.{timetable_shown, journey_shown, ask_shown, shown, answer_shown};
@@ -76,6 +76,8 @@ pub enum Ask<'a> {
     Certify { alpha: u32 },
     /// Whether the lower bounds of a file hold.
     CheckProof { proof: &'a str },
+    /// Bounds on the expected arrival of the decision graph of a file.
+    CheckGraph { graph: &'a str },
     /// The decision graph with the least chance of an arrival after the promised moment.
     Punctual { alpha: u32, promise: Moment },
     /// What each departure up to the last moment promises, where one has to arrive by the deadline.
@@ -180,6 +182,18 @@ fn later_of(settings: &[String], option: OptionName) -> Moment
     }
 }
 
+/// What is to be checked: the decision graph of a file, or else the certificate of one.
+fn check_of(settings: &[String]) -> Ask<'_>
+    ensures { ask_shown result ≡ check_of (map string_bytes settings.now) }
+{
+    match value_of(settings, OptionName::Graph) {
+        None => Ask::CheckProof {
+            proof: text_of(settings, OptionName::Proof),
+        },
+        Some(graph) => Ask::CheckGraph { graph },
+    }
+}
+
 /// What a command with these settings asks about a journey, if it is about one.
 fn ask_of(command: Command, settings: &[String]) -> Option<Ask<'_>>
     ensures asked { option_map ask_shown result ≡ ask_of command (map string_bytes settings.now) }
@@ -202,9 +216,7 @@ fn ask_of(command: Command, settings: &[String]) -> Option<Ask<'_>>
         Command::Certify => Some(Ask::Certify {
             alpha: alpha_of(settings),
         }),
-        Command::Check => Some(Ask::CheckProof {
-            proof: text_of(settings, OptionName::Proof),
-        }),
+        Command::Check => Some(check_of(settings)),
         Command::Punctual => Some(Ask::Punctual {
             alpha: alpha_of(settings),
             promise: promise_of(settings),

@@ -16,7 +16,7 @@ pub enum Command {
     Replay,
     /// To make a certificate: lower bounds on the expected arrival of every safe strategy.
     Certify,
-    /// To check a certificate.
+    /// To check a certificate, or to tell the bounds of a decision graph.
     Check,
     /// To make the decision graph with the least chance of an arrival after a promised moment.
     Punctual,
@@ -174,7 +174,8 @@ impl Command {
                 ..NO_OWN
             }),
             Command::Check => Some(OwnUses {
-                proof: Use::Needed,
+                graph: Use::OneOf(OptionName::Proof),
+                proof: Use::OneOf(OptionName::Graph),
                 ..NO_OWN
             }),
             Command::Punctual => Some(OwnUses {

@@ -179,6 +179,17 @@ fn checks_over_a_feed(rt: HostRuntime) -> Result<(), Fail> {
 }
 
 #[test]
+fn checks_a_graph(rt: HostRuntime) -> Result<(), Fail> {
+    let words = words_of(rt.alloc(), &["check --cut c --graph g", JOURNEY])?;
+    let Ok(Job::Journey(journey, Ask::CheckGraph { graph })) = read_job(words.as_slice()) else {
+        return Err("no check".into());
+    };
+    assert_eq!(rt; graph, "g");
+    assert!(rt; is_cut(journey.timetable, "c"));
+    Ok(())
+}
+
+#[test]
 fn makes_samples(rt: HostRuntime) -> Result<(), Fail> {
     for (line, size) in [("sample --size 10", 10), ("sample --size 400", 400)] {
         let words = words_of(rt.alloc(), &[line])?;
@@ -239,6 +250,7 @@ fn refuses_useless_options(rt: HostRuntime) -> Result<(), Fail> {
         ("safe --size 10", 11),
         ("check --proof p --alpha 200", 7),
         ("certify --proof p", 12),
+        ("check --proof p --graph g", 9),
         ("plan --by x", 13),
         ("latest --until x --alpha 200", 7),
         ("latest --until x --last x", 15),
