@@ -8,3 +8,4 @@ pub mod Printed
 pub mod ReadBack
 mod Leaving
 mod Versioned
+pub mod Deadlines

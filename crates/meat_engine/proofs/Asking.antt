@@ -2,7 +2,7 @@
 use Rattle.std.proofs.Common.{◌≡◌, ℕ, List, Option, Some, None, Result, Ok, Err, inl, inr, refl, ap, sym, ◌∙◌, subst, arith}
 use Rattle.std.specs.Prelude.{◌≢◌, ◌⊎◌, IfErr, IfOk, option_map}
 use Rattle.file_ports.specs.Counts.{Rose}
-use Rattle.command_line.specs.Jobs.{WantedTimetable, WantedJourney, WantedAsk, Safe, Expand, Plan, Replay, Certify, CheckProof, Punctual, Departures, Latest}
+use Rattle.command_line.specs.Jobs.{WantedTimetable, WantedJourney, WantedAsk, Safe, Expand, Plan, Replay, Certify, CheckProof, CheckGraph, Punctual, Departures, Latest}
 use Rattle.fault_lines.specs.declared.faults.Input.{Input}
 use Rattle.fault_lines.specs.declared.faults.Input.TheVariants as input
 use Rattle.fault_lines.specs.declared.faults.Fault.{Fault}
@@ -104,6 +104,11 @@ beside (Replay graph late) j before_of now_of input.Delays rose = absurd rose
 beside (Replay graph late) j before_of now_of input.Graph rose = rose
 beside (Replay graph late) j before_of now_of input.Proof rose = absurd rose
 beside (Certify alpha) j before_of now_of file rose = absurd rose
+beside (CheckGraph graph) j before_of now_of (input.Feed table) rose = absurd rose
+beside (CheckGraph graph) j before_of now_of input.Cut rose = absurd rose
+beside (CheckGraph graph) j before_of now_of input.Delays rose = absurd rose
+beside (CheckGraph graph) j before_of now_of input.Graph rose = rose
+beside (CheckGraph graph) j before_of now_of input.Proof rose = absurd rose
 beside (CheckProof proof) j before_of now_of (input.Feed table) rose = absurd rose
 beside (CheckProof proof) j before_of now_of input.Cut rose = absurd rose
 beside (CheckProof proof) j before_of now_of input.Delays rose = absurd rose

@@ -7,7 +7,7 @@ use Rattle.plan_model.specs.declared.model.Query.{Query}
 use Rattle.plan_model.specs.declared.model.Moment.{Moment}
 use Rattle.plan_model.specs.Parts.{Parts}
 use Rattle.plan_model.specs.Strategy.{Reaches, LeastWorst}
-use Rattle.command_line.specs.Jobs.{WantedJourney, WantedAsk, Safe, Expand, Plan, Replay as Replays, Certify, CheckProof, Punctual, Departures, Latest}
+use Rattle.command_line.specs.Jobs.{WantedJourney, WantedAsk, Safe, Expand, Plan, Replay as Replays, Certify, CheckProof, CheckGraph, Punctual, Departures, Latest}
 use Rattle.fault_lines.specs.declared.faults.Input.{Input}
 use Rattle.fault_lines.specs.declared.faults.Input.TheVariants as input
 use Rattle.fault_lines.specs.declared.faults.Fault.{Fault}
@@ -25,6 +25,7 @@ use Rattle.meat_engine.specs.Checks.{FailsFile, FailsCheck}
 use Rattle.meat_engine.specs.Ends.{HasSafe, EndsBySafety, EndsByGraphFile, EndsByProofFile}
 use Rattle.meat_engine.specs.Findings.{Findings}
 use Rattle.meat_engine.specs.Replays.{graph_in, FailsReplay}
+use Rattle.meat_engine.specs.Scores.{FailsScore, EndsByScore}
 
 -- a least worst arrival is that of a strategy
 has_tree : (n : Parts) (source target start a b c : ℕ) (w : Moment) → a ≡ source → b ≡ target → c ≡ start → LeastWorst n a b c (Some w) → HasSafe n source target start
@@ -51,6 +52,7 @@ module _ (limits : Limits) (files : Folder) (start : ℕ) (p : Problem) where
       inl (head, plan, file.reads, inl (told.trace, told.trip, refl))
   answers_end (Certify alpha) found text (q, w, asked, tells) = asked_ends p start alpha q w asked
   answers_end (CheckProof path) found text (q, proof, file, held) = inl (q, proof, file, inl (held.accepted, refl))
+  answers_end (CheckGraph path) found text (head, plan, file, told) = inl (head, plan, file.reads, inl (refl, told.scored.safe))
   answers_end (Punctual alpha promise) found text (q, w, asked, tells) = asked_ends p start alpha q w asked
   answers_end (Departures until last) found text (rows, same, are, safe, told) = inl (refl, safe)
   answers_end (Latest until) found text (moment, same, is, told) = inl (refl, (moment.0, is.1.0, is.0, is.1.1))
@@ -69,6 +71,13 @@ module _ (limits : Limits) (files : Folder) (start : ℕ) (p : Problem) where
   check_ends path fault never (inr (q, proof, file, (connection, is, last))) =
       inl (q, proof, file, inr (connection.0, last, ap (λ (f : Fault). status_of (Some f)) is))
 
+  score_ends : (path : List ℕ) (fault : Fault) → ((i : Input) → fault ≡ Read i → ⊥)
+      → FailsScore (Some files) limits start path p fault → EndsByScore limits files start path p (status_of (Some fault))
+  score_ends path fault never (inl (of, fails)) =
+      inr (fault, ap (λ (u : Option Input). graph_in limits p start u (file_at files path)) (sym (none_unread fault never)) ∙ fails, refl)
+  score_ends path fault never (inr (head, plan, file, (place, moment, is, why))) =
+      inl (head, plan, file.reads, inr (ap (λ (f : Fault). status_of (Some f)) is, why.unsafe))
+
   -- a question with no answer
   pub fails_end : (ask : WantedAsk) (fault : Fault) → ((i : Input) → fault ≡ Read i → ⊥) → FailsAsk (Some files) limits start p ask fault
       → EndsAsk limits files start p ask (status_of (Some fault))
@@ -78,6 +87,7 @@ module _ (limits : Limits) (files : Folder) (start : ℕ) (p : Problem) where
   fails_end (Replays graph late) fault never fails = replay_ends graph late fault never fails
   fails_end (Certify alpha) fault never fails = unsafe_ends p start fault fails
   fails_end (CheckProof path) fault never fails = check_ends path fault never fails
+  fails_end (CheckGraph path) fault never fails = score_ends path fault never fails
   fails_end (Punctual alpha promise) fault never fails = unsafe_ends p start fault fails
   fails_end (Departures until last) fault never (is, none) = inr (ap (λ (f : Fault). status_of (Some f)) is, λ h. none h.0 h.1)
   fails_end (Latest until) fault never (is, none) = inr (ap (λ (f : Fault). status_of (Some f)) is, λ h. none h.0 h.2 h.1 h.3)

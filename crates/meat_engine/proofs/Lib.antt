@@ -9,6 +9,7 @@ pub mod Undisturbed
 pub mod DepartureLines
 pub mod Departing
 pub mod Punctuality
+pub mod Unsafe
 pub mod Ended
 pub mod Statuses
 pub mod Runs

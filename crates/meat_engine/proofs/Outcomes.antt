@@ -5,13 +5,13 @@ use Rattle.std.specs.Io.KnownBytes.{Keeps}
 use Rattle.file_ports.specs.Ports.{Folder}
 use Rattle.csv_rows.specs.declared.limits.Limits.{Limits}
 use Rattle.command_line.specs.declared.job.WordsFault.{WordsFault}
-use Rattle.command_line.specs.Jobs.{WantedAsk, Safe, Expand, Plan, Replay as Replays, Certify, CheckProof, Punctual, Departures, Latest, Wanted, Ask, Sample, job_of}
+use Rattle.command_line.specs.Jobs.{WantedAsk, Safe, Expand, Plan, Replay as Replays, Certify, CheckProof, CheckGraph, Punctual, Departures, Latest, Wanted, Ask, Sample, job_of}
 use Rattle.fault_lines.specs.declared.faults.Input.{Input}
 use Rattle.fault_lines.specs.declared.faults.Input.TheVariants as input
 use Rattle.fault_lines.specs.declared.faults.LimitKind.{LimitKind}
 use Rattle.fault_lines.specs.declared.faults.LimitKind.TheVariants.{Bytes}
 use Rattle.fault_lines.specs.declared.faults.Fault.{Fault}
-use Rattle.fault_lines.specs.declared.faults.Fault.TheVariants.{Words, Missing, Limit, Read, Replay, ProofFails, Write, NoSafe, NoMemory}
+use Rattle.fault_lines.specs.declared.faults.Fault.TheVariants.{Words, Missing, Limit, Read, Replay, ProofFails, Unsafe, Write, NoSafe, NoMemory}
 use Rattle.fault_lines.specs.Lines.{line_of, IsFormatted}
 use Rattle.fault_lines.specs.Sites.{NamedParts}
 use Rattle.fault_lines.specs.Stages.{stage_of_input, stage_of_limit, AtOutput, AtGraphFile, AtProofFile}
@@ -47,6 +47,8 @@ module _ (told : Option Folder) (limits : Limits) (words : List (List ℕ)) wher
   ask_write start p (Safe alpha) (is, none) = absurd (cc)
   ask_write start p (Expand alpha) (is, none) = absurd (cc)
   ask_write start p (Plan alpha) (is, none) = absurd (cc)
+  ask_write start p (CheckGraph graph) (inl of) = let late : AtOutput ≡ AtGraphFile = of.0.0 in cc
+  ask_write start p (CheckGraph graph) (inr (head, more, file, (place, moment, is, unsafe))) = let same : Write ≡ Unsafe place moment = is in cc
   ask_write start p (Punctual alpha promise) (is, none) = absurd (cc)
   ask_write start p (Departures until last) (is, none) = absurd (cc)
   ask_write start p (Latest until) (is, none) = absurd (cc)

@@ -2,7 +2,7 @@
 use Rattle.std.specs.Prelude.{◌≡◌, ◌⊎◌, ℕ, List, Option, None, Some}
 use Rattle.file_ports.specs.Ports.{Folder}
 use Rattle.csv_rows.specs.declared.limits.Limits.{Limits}
-use Rattle.command_line.specs.Jobs.{WantedJourney, WantedAsk, Safe, Expand, Plan, Replay, Certify, CheckProof, Punctual, Departures, Latest}
+use Rattle.command_line.specs.Jobs.{WantedJourney, WantedAsk, Safe, Expand, Plan, Replay, Certify, CheckProof, CheckGraph, Punctual, Departures, Latest}
 use Rattle.fault_lines.specs.declared.faults.Input.{Input}
 use Rattle.fault_lines.specs.declared.faults.Input.TheVariants as input
 use Rattle.fault_lines.specs.declared.faults.Fault.{Fault}
@@ -14,6 +14,7 @@ use Rattle.meat_engine.specs.Findings.{Findings}
 use Rattle.meat_engine.specs.Answers.{InQuery, TellsWorst, TellsExpanded, TellsPlanned, IsNoSafe}
 use Rattle.meat_engine.specs.Punctual.{TellsPunctual}
 use Rattle.meat_engine.specs.Replays.{InGraphFile, IsTripTold, FailsReplay}
+use Rattle.meat_engine.specs.Scores.{IsEnclosed, FailsScore, EndsByScore}
 use Rattle.meat_engine.specs.Certified.{TellsCertificate}
 use Rattle.meat_engine.specs.Checks.{InProofFile, IsHeld, FailsCheck}
 use Rattle.meat_engine.specs.Ends.{EndsBySafety, EndsByGraphFile, EndsByProofFile}
@@ -47,6 +48,7 @@ own_paths (Plan alpha) = no_path
 own_paths (Replay graph late) = graph_path graph
 own_paths (Certify alpha) = no_path
 own_paths (CheckProof proof) = proof_path proof
+own_paths (CheckGraph graph) = graph_path graph
 own_paths (Punctual alpha promise) = no_path
 own_paths (Departures until last) = no_path
 own_paths (Latest until) = no_path
@@ -59,6 +61,7 @@ AnswersAsk told limits start p (Plan alpha) found text = InQuery p start alpha (
 AnswersAsk told limits start p (Replay graph late) found text = InGraphFile told limits start graph p (IsTripTold p late found text)
 AnswersAsk told limits start p (Certify alpha) found text = InQuery p start alpha (TellsCertificate p found text)
 AnswersAsk told limits start p (CheckProof proof) found text = InProofFile told limits start proof p (IsHeld p found text)
+AnswersAsk told limits start p (CheckGraph graph) found text = InGraphFile told limits start graph p (IsEnclosed p found text)
 AnswersAsk told limits start p (Punctual alpha promise) found text = InQuery p start alpha (TellsPunctual p promise found text)
 AnswersAsk told limits start p (Departures until last) found text = TellsDepartures p (query_until p start until) last found text
 AnswersAsk told limits start p (Latest until) found text = TellsLatest p (query_until p start until) found text
@@ -71,6 +74,7 @@ FailsAsk told limits start p (Plan alpha) fault = IsNoSafe p start fault
 FailsAsk told limits start p (Replay graph late) fault = FailsReplay told limits start graph late p fault
 FailsAsk told limits start p (Certify alpha) fault = IsNoSafe p start fault
 FailsAsk told limits start p (CheckProof proof) fault = FailsCheck told limits start proof p fault
+FailsAsk told limits start p (CheckGraph graph) fault = FailsScore told limits start graph p fault
 FailsAsk told limits start p (Punctual alpha promise) fault = IsNoSafe p start fault
 FailsAsk told limits start p (Departures until last) fault = FailsDepartures p (query_until p start until) fault
 FailsAsk told limits start p (Latest until) fault = FailsLatest p (query_until p start until) fault
@@ -83,6 +87,7 @@ EndsAsk limits files start p (Plan alpha) status = EndsBySafety p start status
 EndsAsk limits files start p (Replay graph late) status = EndsByGraphFile limits files start graph late p status
 EndsAsk limits files start p (Certify alpha) status = EndsBySafety p start status
 EndsAsk limits files start p (CheckProof proof) status = EndsByProofFile limits files start proof p status
+EndsAsk limits files start p (CheckGraph graph) status = EndsByScore limits files start graph p status
 EndsAsk limits files start p (Punctual alpha promise) status = EndsBySafety p start status
 EndsAsk limits files start p (Departures until last) status = EndsByDepartures p (query_until p start until) status
 EndsAsk limits files start p (Latest until) status = EndsByLatest p (query_until p start until) status

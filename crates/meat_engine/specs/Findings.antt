@@ -76,6 +76,10 @@ sample_findings q worst graph bounds connections = record (plan_findings q worst
 abbrev pub replay_findings : Query → PlanGraph → Trace → Findings
 replay_findings q graph trace = record no_findings { query = Some q; graph = Some graph; trace = Some trace }
 
+-- the query of a graph, the graph, and its bounds
+abbrev pub score_findings : Query → PlanGraph → Interval → Findings
+score_findings q graph bounds = record no_findings { query = Some q; graph = Some graph; bounds = Some bounds }
+
 -- with a certificate
 abbrev pub certify_findings : Query → Moment → LowerBounds → Findings
 certify_findings q worst proof = record no_findings { query = Some q; worst = Some worst; proof = Some proof }

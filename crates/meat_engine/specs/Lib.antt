@@ -3,6 +3,7 @@ pub mod Findings
 pub mod Texts
 pub mod Answers
 pub mod Replays
+pub mod Scores
 pub mod Certified
 pub mod Punctual
 pub mod Checks

@@ -68,3 +68,9 @@ unfoldable pub holds_text : List ℕ → List ℕ → Query → Option ℕ → L
 holds_text source target query least =
     row_text default_writer
     (codes "holds" ∷ source ∷ target ∷ moment_text query.start.0 ∷ moment_text query.deadline.0 ∷ least_text least ∷ [])
+
+-- one row: the source, the target, the start, the deadline and the two bounds
+unfoldable pub encloses_text : List ℕ → List ℕ → Query → Interval → List ℕ
+encloses_text source target query bounds =
+    row_text default_writer
+    (codes "encloses" ∷ source ∷ target ∷ moment_text query.start.0 ∷ moment_text query.deadline.0 ∷ nanos_text bounds.lo ∷ nanos_text bounds.hi ∷ [])

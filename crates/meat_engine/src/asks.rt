@@ -20,6 +20,7 @@ use crate::checks::check_proof_over;
 use crate::departures::{departures_over, latest_over};
 use crate::punctual::punctual_over;
 use crate::replays::replay_over;
+use crate::scores::check_graph_over;
 use command_line::{Ask, Journey};
 use csv_rows::Limits;
 use fault_lines::Fault;
@@ -63,6 +64,7 @@ fn ask_over<F: Files>(
         }
         Ask::Certify { alpha } => certify_over(alloc, problem, start, alpha),
         Ask::CheckProof { proof } => check_proof_over(alloc, files, problem, start, proof, limits),
+        Ask::CheckGraph { graph } => check_graph_over(alloc, files, problem, start, graph, limits),
         Ask::Punctual { alpha, promise } => punctual_over(alloc, problem, start, alpha, promise),
         Ask::Departures { until, last } => departures_over(alloc, problem, start, until, last),
         Ask::Latest { until } => latest_over(alloc, problem, start, until),

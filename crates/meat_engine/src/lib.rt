@@ -12,6 +12,7 @@ mod punctual;
 mod replays;
 mod report;
 mod samples;
+mod scores;
 mod texts;
 mod top;
 

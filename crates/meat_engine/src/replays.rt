@@ -8,7 +8,7 @@ ghost use Rattle.graph_text.specs.Reading.{graph_of};
 ghost use Rattle.file_ports.specs.Ports.{file_at};
 ghost use Rattle.command_line.specs.Jobs.{late_in};
 ghost use Rattle.fault_lines.specs.Faults.{MayBeUnread, unread_of};
-ghost use Rattle.fault_lines.specs.Sites.{IsTellable};
+ghost use Rattle.fault_lines.specs.Sites.{last_printable, IsTellable};
 ghost use Rattle.fault_lines.specs.Stages.{IsOfInput};
 ghost use Rattle.journey_problem.specs.Files.{Finds, HasCauses};
 ghost use Rattle.meat_engine.specs.Asks.{graph_path, parts_of};
@@ -78,6 +78,7 @@ pub(crate) fn read_graph_file<F: Files>(
     ensures fit { IfOk result (λ f. IsFit problem.now.network f.0.query f.1) }
     ensures head { IfOk result (λ f.
         IsHeadOf problem.now.source.0 problem.now.target.0 start.0 f.0) }
+    ensures deadline { IfOk result (λ f. f.0.query.deadline.0 ≤ last_printable) }
     ensures own { IfErr result (MayBeUnread Input.Graph) }
     ensures stage { IfErr result (λ fault. fault ≢ Fault.NoMemory → IsOfInput Input.Graph fault) }
     ensures causes { HasCauses (IsSome (F.files files.old)) (λ other. Some path.now)

@@ -3,7 +3,7 @@ ghost use Rattle.std.specs.Prelude.{◌≡◌, ◌≤◌, ◌<◌, ◌++◌, [],
 ghost use Rattle.csv.specs.Writing.{default_writer, row_text};
 ghost use Rattle.plan_model.specs.NameLists.{NamesFit};
 ghost use Rattle.trip_replay.specs.Rides.{IsRide};
-ghost use Rattle.meat_engine.specs.Texts.{safe_text, ride_text, rides_text, arrived_text, trace_text, leg_count, sample_text, least_text, holds_text};
+ghost use Rattle.meat_engine.specs.Texts.{safe_text, ride_text, rides_text, arrived_text, trace_text, leg_count, sample_text, least_text, holds_text, encloses_text};
 ghost use Rattle.fault_lines.specs.Sites.{last_printable};
 
 use clock_text::{write_moment, write_nanos};
@@ -209,6 +209,37 @@ pub(crate) fn holds_text(
             start.as_slice(),
             deadline.as_slice(),
             least.as_slice(),
+        ],
+    )
+}
+
+/// The text of the bounds of a graph.
+pub(crate) fn encloses_text(
+    alloc: Global,
+    source: &str,
+    target: &str,
+    query: &Query,
+    bounds: Span,
+) -> Result<Vec<u8>, NoMemory>
+    requires start { query.now.start.0 ≤ last_printable }
+    requires deadline { query.now.deadline.0 ≤ last_printable }
+    ensures { IfOk result (λ text.
+        text.items ≡ encloses_text source.now target.now query.now bounds) }
+{
+    let start = write_moment(query.start);
+    let deadline = write_moment(query.deadline);
+    let lower = write_nanos(bounds.lo());
+    let upper = write_nanos(bounds.hi());
+    row(
+        alloc,
+        &[
+            b"encloses".as_slice(),
+            source.as_bytes(),
+            target.as_bytes(),
+            start.as_slice(),
+            deadline.as_slice(),
+            lower.as_slice(),
+            upper.as_slice(),
         ],
     )
 }

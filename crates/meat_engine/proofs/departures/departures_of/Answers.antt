@@ -20,6 +20,7 @@ returns c =
     let found = c.in_ok-found.found in
     let says = c.says_of_source.ensures found.network found.query c.args.problem.now.network q.source.0 c.in_ok-found.ensures.extended in
     let table = same_table c.args.problem.now q found.query c.in_ok-found.ensures.target c.in_ok-found.ensures.deadline q.start.0 c.args.last.0 c.in_ok-rows.rows
-    (says.tables q.start.0 c.args.last.0 c.in_ok-rows.rows c.requires.until.first c.in_ok-rows.ensures) in
-    (departures_away c.args.problem.now q c.args.last.0 c.in_ok-rows.rows c.if-query.false table,
-    some_leaves c.args.problem.now q c.args.last.0 c.in_ok-rows.rows c.requires.last table (λ none. c.if-len-eq0.false (c.len.ensures ∙ none)))
+    (says.tables q.start.0 c.args.last.0 c.in_ok-rows.rows c.requires.until.first c.in_ok-rows.ensures) in (
+      departures_away c.args.problem.now q c.args.last.0 c.in_ok-rows.rows c.if-query.false table,
+      some_leaves c.args.problem.now q c.args.last.0 c.in_ok-rows.rows c.requires.last table (λ none. c.if-len-eq0.false (c.len.ensures ∙ none)),
+    )

@@ -9,6 +9,8 @@ use Rattle.journey_problem.specs.Files.{bytes_of}
 use Rattle.journey_problem.proofs.Causes.{causes-quiet}
 use Rattle.journey_problem.proofs.Loads.{if_some_then}
 use Rattle.meat_engine.proofs.Asking.{if_ok_then, if_err_then}
+use Rattle.graph_text.proofs.Deadlines.{graph_deadline}
+use Rattle.lower_proof.proofs.Range.{moment_range}
 use Rattle.meat_engine.proofs.Trips.{graph_finds}
 use Rattle.meat_engine.proofs.replays.read_graph_file.Goals as goal
 
@@ -30,6 +32,13 @@ pub returns-in-Ok-clause-head : goal.returns-in-Ok-clause-head
 returns-in-Ok-clause-head g c =
     if_ok_then c.graph_of_bytes.result _ _
     (λ f read. (c.read_fits.ensures c.args.problem.now.network c.args.problem.now.names c.as_slice.result.now c.args.problem.now.source.0 c.args.problem.now.target.0 c.args.start.0 f.0 f.1 read).1)
+    c.graph_of_bytes.ensures.graph
+
+pub returns-in-Ok-clause-deadline : goal.returns-in-Ok-clause-deadline
+returns-in-Ok-clause-deadline g c =
+    if_ok_then c.graph_of_bytes.result _ _
+    (λ f read. let told = graph_deadline c.args.problem.now.network c.args.problem.now.names c.args.problem.now.source.0 c.args.problem.now.target.0 c.args.start.0 c.as_slice.result.now f.0 f.1 read in
+    moment_range told.0 f.0.query.deadline.0 told.1)
     c.graph_of_bytes.ensures.graph
 
 pub returns-in-Ok-clause-own : goal.returns-in-Ok-clause-own
