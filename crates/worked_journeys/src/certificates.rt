@@ -142,3 +142,61 @@ fn each_field_is_looked_at(rt: HostRuntime) -> Result<(), Fail> {
     }
     Ok(())
 }
+
+/// The graph of the journey of `CHANGE`, up to the rows of B.
+const GRAPH_HEAD: &str =
+    "graph,1,A,T,2024-06-03T08:00:00,2024-06-03T10:42:00,2024-06-03T08:54:42.000000000,2024-06-03T08:54:42.000000000\nstart,2024-06-03T08:00:00,r1,1,2024-06-03T08:00:00,1,B,2024-06-03T08:20:00\n";
+
+/// What `check` tells of a graph with these rows of B.
+fn checked_graph(alloc: Global, rows: &str) -> Result<Told, Fail> {
+    let graph = format!(in alloc; "{GRAPH_HEAD}{rows}")?;
+    let mut files = MemoryFiles::new(alloc, 64);
+    files.add("c", cut_of(alloc, CHANGE.as_slice())?.as_bytes())?;
+    files.add("d", USUAL.as_bytes())?;
+    files.add("g", graph.as_bytes())?;
+    let words = [
+        "check",
+        "--cut",
+        "c",
+        "--delays",
+        "d",
+        "--from",
+        "A",
+        "--to",
+        "T",
+        "--at",
+        "2024-06-03T08:00:00",
+        "--graph",
+        "g",
+    ];
+    told_over(alloc, &mut files, words.as_slice())
+}
+
+#[test]
+fn tells_the_bounds_of_a_graph(rt: HostRuntime) -> Result<(), Fail> {
+    let told = checked_graph(
+        rt.alloc(),
+        "place,B,120,2,,,,\nleg,2024-06-03T08:22:00,r2,1,2024-06-03T08:24:00,1,T,2024-06-03T08:50:00\nleg,2024-06-03T08:38:00,r3,1,2024-06-03T08:40:00,1,T,2024-06-03T09:06:00\n",
+    )?;
+    assert_eq!(rt; told.status, 0);
+    assert_eq!(rt;
+        told.out.as_str(),
+        "encloses,A,T,2024-06-03T08:00:00,2024-06-03T10:42:00,2024-06-03T08:54:42.000000000,2024-06-03T08:54:42.000000000\n"
+    );
+    Ok(())
+}
+
+#[test]
+fn tells_where_a_graph_is_not_safe(rt: HostRuntime) -> Result<(), Fail> {
+    let told = checked_graph(
+        rt.alloc(),
+        "place,B,120,1,,,,\nleg,2024-06-03T08:22:00,r2,1,2024-06-03T08:24:00,1,T,2024-06-03T08:50:00\n",
+    )?;
+    assert_eq!(rt; told.status, 15);
+    assert_eq!(rt;
+        told.err.as_str(),
+        "meat: unsafe at B at 2024-06-03T08:25:00\n"
+    );
+    assert!(rt; told.out.is_empty());
+    Ok(())
+}
