@@ -35,6 +35,8 @@ TOP = os.path.dirname(os.path.dirname(os.path.abspath(__file__)))
 BUILT = [os.path.join(TOP, "out", "meat"), os.path.join(TOP, "crates", "meat_cli", "out", "meat_cli")]
 NO_STOP = "no such stop"
 MORNING = "2024-06-03T08:00:01"
+NEXT_MORNING = "2024-06-04T08:00:00"
+PROMISE = "2024-06-03T09:00:00"
 LATE = "2024-06-03T22:00:01"
 CUT_MORNING = "2024-06-03T08:00:00"
 EVENING_BEFORE = "2024-06-02T20:00:00"
@@ -181,6 +183,13 @@ def measure_certificate(table, folder, lines, items):
     table.line("check", "`check`, %d lines" % lines, items, feed_words("check", folder, "H0", more=("--proof", proof)))
 
 
+def measure_promises(table, folder, lines, items):
+    """The least chance of being late, the departures of a day, and the latest of them."""
+    until = ("--until", NEXT_MORNING)
+    for command, more in (("punctual", ("--by", PROMISE)), ("departures", (*until, "--last", NEXT_MORNING)), ("latest", until)):
+        table.line(command, "`%s`, %d lines" % (command, lines), items, feed_words(command, folder, "H0", more=more))
+
+
 def measure_feed(table, lines, commands, cases):
     """A feed of so many lines: reading and these commands, and the further cases if they are wanted."""
     items = stop_times_of(lines)
@@ -192,6 +201,7 @@ def measure_feed(table, lines, commands, cases):
             table.line(command, "`%s`, %d lines" % (command, lines), items, feed_words(command, folder, "H0"))
         if not table.options.before:
             measure_certificate(table, folder, lines, items)
+            measure_promises(table, folder, lines, items)
         if not cases:
             return
         for hours in (2, 24, 72):
