@@ -1,0 +1,5 @@
+//! Scores of graphs over small networks.
+#![tactic(auto)]
+
+#[cfg(test)]
+mod scores;
