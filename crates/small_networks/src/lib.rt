@@ -1,6 +1,8 @@
 //! Small networks for the tests of several crates, from the text of a cut file, and the graphs of
-//! one of them: a bus goes from A to B, and two go on from B to T.
+//! one of them: a bus goes from A to B, and two go on from B to T. Networks get links in `links`.
 #![tactic(auto)]
+
+mod links;
 
 ghost use Rattle.std.specs.Prelude.{◌≡◌, ◌+◌, ◌<◌, ◌≤◌, length, IfOk};
 ghost use Rattle.plan_model.specs.NameLists.{NamesFit};
@@ -12,6 +14,7 @@ use cut_file::{CutTable, read_cut};
 use decision_graph::{CompactPlan, ExpandedPlan, expand, plan};
 use delay_table::DelayTable;
 use interval_fixed::Span;
+pub use links::{APART, Link, five_minutes, linked, links_of, walk, walked_limits};
 use plan_graph::{GraphRow, PlanGraph};
 use plan_model::{ConnectionId, Leg, Moment, Names, Network, PlaceId, Query, SortedOrder};
 use std::alloc::Global;

@@ -5,3 +5,5 @@
 mod names_and_orders;
 #[cfg(test)]
 mod scans;
+#[cfg(test)]
+mod walks;

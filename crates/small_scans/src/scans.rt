@@ -36,7 +36,7 @@ fn two_ways_on(alloc: Global, dep: &str) -> Result<String, Fail> {
 }
 
 // What is asked, from a place to another at a moment.
-fn query(source: u32, target: u32, start: u64, deadline: Moment) -> Query
+pub(crate) fn query(source: u32, target: u32, start: u64, deadline: Moment) -> Query
     requires { start < 1000000 }
     ensures source { result.source.0 ≡ source }
     ensures target { result.target.0 ≡ target }
@@ -52,7 +52,11 @@ fn query(source: u32, target: u32, start: u64, deadline: Moment) -> Query
 }
 
 // What a scan finds, by any score.
-fn solved<V: Score>(alloc: Global, network: &Network, query: &Query) -> Result<Scanned<V>, Fail>
+pub(crate) fn solved<V: Score>(
+    alloc: Global,
+    network: &Network,
+    query: &Query,
+) -> Result<Scanned<V>, Fail>
     requires source { query.now.source.0 < length network.now.change }
     requires target { query.now.target.0 < length network.now.change }
     requires differ { query.now.source.0 ≢ query.now.target.0 }
@@ -91,14 +95,14 @@ fn worst_of(
 // The least worst arrival in seconds, the bounds on the expected arrival in nanoseconds, both
 // from eight o'clock, and the start leg.
 #[derive(Clone, Copy, Debug, PartialEq, Eq)]
-struct Planned {
+pub(crate) struct Planned {
     worst: u64,
     lo: u64,
     hi: u64,
     leg: Leg,
 }
 
-fn best_plan(
+pub(crate) fn best_plan(
     alloc: Global,
     network: &Network,
     source: u32,
@@ -181,7 +185,7 @@ fn plan_of(
 }
 
 // A plan whose expected arrival is a whole second.
-fn at(worst: u64, expected: u64, leg: Leg) -> Option<Planned>
+pub(crate) fn at(worst: u64, expected: u64, leg: Leg) -> Option<Planned>
     requires { expected < 1000000 }
 {
     Some(Planned {
