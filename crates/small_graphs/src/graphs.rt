@@ -51,7 +51,7 @@ fn extracted(alloc: Global, network: &Network, query: &Query) -> Result<Expanded
 }
 
 /// The extracted graph, pruned.
-fn pruned(alloc: Global, network: &Network, query: &Query) -> Result<ExpandedGraph, Fail>
+pub(crate) fn pruned(alloc: Global, network: &Network, query: &Query) -> Result<ExpandedGraph, Fail>
     requires source { query.now.source.0 < length network.now.change }
     requires target { query.now.target.0 < length network.now.change }
     requires differ { query.now.source.0 ≢ query.now.target.0 }
@@ -67,7 +67,7 @@ fn pruned(alloc: Global, network: &Network, query: &Query) -> Result<ExpandedGra
 }
 
 /// The rows of the first ride, which starts. Two others end at the target and have none.
-fn rows_by_ride(graph: &ExpandedGraph) -> Result<&[GraphRow], Fail> {
+pub(crate) fn rows_by_ride(graph: &ExpandedGraph) -> Result<&[GraphRow], Fail> {
     let [first, sooner, later] = graph.rides.as_slice() else {
         return Err("not three rides".into());
     };
@@ -82,7 +82,7 @@ fn rows_by_ride(graph: &ExpandedGraph) -> Result<&[GraphRow], Fail> {
 }
 
 /// Each arrival at place 1 that may happen.
-fn arrivals() -> [GraphRow; 3] {
+pub(crate) fn arrivals() -> [GraphRow; 3] {
     [row(1200, 1), row(1500, 2), row(2100, 2)]
 }
 
