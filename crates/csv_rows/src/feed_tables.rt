@@ -3,6 +3,8 @@ ghost use Rattle.std.specs.Prelude.{◌≡◌};
 ghost use Rattle.csv_rows.specs.FeedTables.{file_name};
 
 use crate::columns::Column;
+use plan_model::NoMemory;
+use std::alloc::AllocFailed;
 
 /// A table of a feed (GTFS Schedule reference), in the order in which they are read.
 #[derive(Clone, Copy, Debug, PartialEq, Eq)]
@@ -68,4 +70,26 @@ pub enum FeedFault {
     TooManyRows(Table, u64),
     /// There was no memory.
     NoMemory,
+}
+
+impl From<NoMemory> for FeedFault {
+    ghost use Rattle.std.specs.Prelude.{◌≡◌};
+    ghost use Rattle.csv_rows.specs.declared.feed_tables.FeedFault.TheVariants.{NoMemory as NoMemoryFault};
+
+    ghost from_gives = { λ _ fault. fault ≡ NoMemoryFault };
+
+    fn from(_: NoMemory) -> Self {
+        FeedFault::NoMemory
+    }
+}
+
+impl<T: Drop> From<AllocFailed<T>> for FeedFault {
+    ghost use Rattle.std.specs.Prelude.{◌≡◌};
+    ghost use Rattle.csv_rows.specs.declared.feed_tables.FeedFault.TheVariants.{NoMemory as NoMemoryFault};
+
+    ghost from_gives = { λ _ fault. fault ≡ NoMemoryFault };
+
+    fn from(_: AllocFailed<T>) -> Self {
+        FeedFault::NoMemory
+    }
 }
