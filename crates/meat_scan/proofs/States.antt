@@ -1,6 +1,5 @@
 -- What holds while the scan runs.
-use Rattle.std.proofs.Common.{◌≡◌, ◌≢◌, ℕ, zero, suc, get_or, map, ◌+◌, ◌<◌, ◌≤◌, List, [], ◌∷◌, ◌++◌, length, Option, None, arith, sym, subst, refl, ◌∙◌, ap, inl, inr, append_assoc, ◌⊎◌, cond}
-use Rattle.std.specs.Prelude.{Contains}
+use Rattle.std.proofs.Common.{◌≡◌, ◌≢◌, ℕ, zero, suc, get_or, map, ◌+◌, ◌<◌, ◌≤◌, List, [], ◌∷◌, ◌++◌, length, Option, None, arith, sym, subst, refl, ◌∙◌, ap, append_assoc, cond}
 use Rattle.std.proofs.lemmas.List.{append-nil}
 use Rattle.std.proofs.lemmas.List.Sums.{sum_by_push}
 use Rattle.plan_model.specs.declared.model.ConnectionId.{ConnectionId}
@@ -11,7 +10,7 @@ use Rattle.plan_model.specs.Parts.{Parts}
 use Rattle.plan_model.specs.Network.{count, from_of, run_of, IsValid}
 use Rattle.plan_model.specs.Tree.{Tree}
 use Rattle.plan_model.specs.Order.{IsScanOrder}
-use Rattle.plan_model.proofs.ScanOrders.{has_each_id}
+use Rattle.plan_model.proofs.ScanOrders.{has_each_id, Known, Never, whole_order, IsNext, next_of, all_known}
 use Rattle.value_laws.specs.ScoreLaws.{ScoreLaws}
 use Rattle.stop_profile.specs.declared.Row.{Row}
 use Rattle.stop_profile.specs.Shown.{Shown}
@@ -21,52 +20,18 @@ use Rattle.meat_scan.specs.Rules.{Kept, kept_next, kept_after, FollowsRules}
 use Rattle.meat_scan.specs.Tables.{rows_at, spare_at, exit_at, has_way, boardable, HasRoom, IsEmpty}
 use Rattle.meat_scan.specs.Found.{Found, found_rows}
 use Rattle.meat_scan.specs.Solves.{Answers}
-use Rattle.meat_scan.proofs.ScanStep.{ScanOk, IsNext, scan_ok_step}
+use Rattle.meat_scan.proofs.ScanStep.{ScanOk, scan_ok_step}
 use Rattle.meat_scan.proofs.Ends.{scan_ok_start, solves_end}
-use Rattle.meat_scan.proofs.Orders.{next_in_order, contains_cons}
 
 -- functions that agree everywhere are one
 pub same_function : {A B : Type 0} (f g : A → B) → ((x : A) → f x ≡ g x) → f ≡ g
 same_function f g h = λ i x. h x i
 
--- one of the ids that are taken
-abbrev pub Known : List ConnectionId → ℕ → Type 0
-Known [] id = ⊥
-Known (latest ∷ earlier) id = (id ≡ latest.0) ⊎ Known earlier id
-
-known_from_contains : (taken : List ConnectionId) (id : ℕ) → Contains taken (record { 0 = id }) → Known taken id
-known_from_contains [] id (k, within, at) = absurd (omega arith)
-known_from_contains (latest ∷ earlier) id there = elim (contains_cons earlier latest (record { 0 = id }) there) [
-  | inl is ↦ inl (ap (λ (i : ConnectionId). i.0) is)
-  | inr before ↦ inr (known_from_contains earlier id before)
-]
-
-contains_known : (taken : List ConnectionId) (id : ℕ) → Known taken id → Contains taken (record { 0 = id })
-contains_known [] id known = absurd known
-contains_known (latest ∷ earlier) id (inl is) = (0, omega arith, ap (λ (i : ℕ). record { 0 = i }) (sym is))
-contains_known (latest ∷ earlier) id (inr before) = let (k, within, at) = contains_known earlier id before in (suc k, omega arith, at)
-
--- the place of the next connection, over the ids that are known
-next_known : (network : Parts) (taken : List ConnectionId) (id : ℕ) → IsNext network (λ i. Contains taken (record { 0 = i })) id → IsNext network (Known taken) id
-next_known network taken id next = record {
-  there = next.there;
-  later = λ other there known. next.later other there (contains_known taken other known);
-  known = λ other there later. known_from_contains taken other (next.known other there later);
-  exits_known = λ other leg. elim (next.exits_known other leg) [
-    | inl is ↦ inl is
-    | inr before ↦ inr (known_from_contains taken other before)
-  ];
-  exits_after = λ other there known run. elim known [
-    | inl is ↦ next.exits_after other there (inl is) run
-    | inr before ↦ next.exits_after other there (inr (contains_known taken other before)) run
-  ];
-}
-
 -- the ids that are taken, and what is claimed of them
 pub record ScanState {V : Type 0} (below covers : V → Tree → Type 0) (gap rank : V → ℕ) (lowered : V → V → V) (arrived : ℕ → V) (blended : List Outcome → List V → V) (network : Parts) (query : Query) (order rest : List ConnectionId) (profiles : List (Shown V)) (exits : List (Option (Exit V))) (start : Option (V × Leg)) : Type 0 where
   pub taken : List ConnectionId
   pub split : rest ++ taken ≡ order
-  pub ok : ScanOk below covers gap rank network query (Known taken) (length taken) (rows_at profiles) (exit_at exits) start
+  pub ok : ScanOk below covers gap rank network query (Known Never taken) (length taken) (rows_at profiles) (exit_at exits) start
   pub kept : record { rows = rows_at profiles; exits = exit_at exits; start = start } ≡ kept_after rank lowered arrived blended network query taken
 
 -- what is kept, part for part
@@ -79,21 +44,19 @@ module _ {V : Type 0} {below covers : V → Tree → Type 0} {gap rank : V → �
   first_state profiles exits empty = record {
     taken = [];
     split = append-nil order;
-    ok = scan_ok_start below covers gap rank network query (Known []) (λ id known. known) (rows_at profiles) empty.no_rows (exit_at exits) empty.no_exits;
+    ok = scan_ok_start below covers gap rank network query (Known Never []) (λ id known. known) (rows_at profiles) empty.no_rows (exit_at exits) empty.no_exits;
     kept = kept_same (same_function (rows_at profiles) (λ place. []) empty.no_rows) (same_function (exit_at exits) (λ run. None) empty.no_exits) refl;
   }
 
-  next_of : (rest taken : List ConnectionId) (id : ConnectionId) → (rest ++ id ∷ []) ++ taken ≡ order → IsNext network (Known taken) id.0
-  next_of rest taken id split =
-      let same : rest ++ (id ∷ taken) ≡ order = sym (append_assoc rest (id ∷ []) taken) ∙ split in
-      next_known network taken id.0 (next_in_order network good rest taken id (subst (IsScanOrder network) (sym same) whole))
+  next_taken : (rest taken : List ConnectionId) (id : ConnectionId) → (rest ++ id ∷ []) ++ taken ≡ order → IsNext network (Known Never taken) id.0
+  next_taken rest taken id split = next_of network good Never order (whole_order network order whole) rest taken id split
 
   -- one more
   pub next_state : (rest : List ConnectionId) (id : ConnectionId) (profiles profiles' : List (Shown V)) (exits exits' : List (Option (Exit V))) (start start' : Option (V × Leg)) → ScanState below covers gap rank lowered arrived blended network query order (rest ++ id ∷ []) profiles exits start → ((place : ℕ) → rows_at profiles' place ≡ rows_next rank lowered arrived blended network query id.0 (rows_at profiles) (exit_at exits) place) → ((run : ℕ) → exit_at exits' run ≡ exits_next rank lowered arrived blended network query id.0 (rows_at profiles) (exit_at exits) run) → start' ≡ start_next rank lowered arrived blended network query id.0 (rows_at profiles) (exit_at exits) start → ScanState below covers gap rank lowered arrived blended network query order rest profiles' exits' start'
   next_state rest id profiles profiles' exits exits' start start' state rows_are exits_are start_is =
-      let known = Known (id ∷ state.taken) in
-      let next = next_of rest state.taken id state.split in
-      let stepped = scan_ok_step laws network good query (Known state.taken) (length state.taken) id.0 next (rows_at profiles) (exit_at exits) start state.ok in
+      let known = Known Never (id ∷ state.taken) in
+      let next = next_taken rest state.taken id state.split in
+      let stepped = scan_ok_step laws network good query (Known Never state.taken) (length state.taken) id.0 next (rows_at profiles) (exit_at exits) start state.ok in
       let counted = subst (λ n. ScanOk below covers gap rank network query known n (λ place. rows_next rank lowered arrived blended network query id.0 (rows_at profiles) (exit_at exits) place) (λ run. exits_next rank lowered arrived blended network query id.0 (rows_at profiles) (exit_at exits) run) (start_next rank lowered arrived blended network query id.0 (rows_at profiles) (exit_at exits) start)) (let e : length state.taken + 1 ≡ length (id ∷ state.taken) = omega arith in e) stepped in
       let rows_same = same_function (rows_at profiles') (λ place. rows_next rank lowered arrived blended network query id.0 (rows_at profiles) (exit_at exits) place) rows_are in
       let exits_same = same_function (exit_at exits') (λ run. exits_next rank lowered arrived blended network query id.0 (rows_at profiles) (exit_at exits) run) exits_are in
@@ -109,10 +72,10 @@ module _ {V : Type 0} {below covers : V → Tree → Type 0} {gap rank : V → �
   last_state rest profiles exits found differ none rows_are state =
       let all_taken : state.taken ≡ order = ap (λ (ids : List ConnectionId). ids ++ state.taken) (sym none) ∙ state.split in
       let all_count : length state.taken ≡ count network = ap length all_taken ∙ (has_each_id network order whole).as_many in
-      let known = λ (id : ℕ) (there : id < count network). known_from_contains state.taken id (subst (λ (ids : List ConnectionId). Contains ids (record { 0 = id })) (sym all_taken) ((has_each_id network order whole).all id there)) in
-      let counted = subst (λ n. ScanOk below covers gap rank network query (Known state.taken) n (rows_at profiles) (exit_at exits) found.start) all_count state.ok in
-      solves_end below covers gap rank network query (Known state.taken) known differ found (exit_at exits)
-      (subst (λ rows. ScanOk below covers gap rank network query (Known state.taken) (count network) rows (exit_at exits) found.start) (sym rows_are) counted)
+      let known = all_known network good Never order (whole_order network order whole) rest state.taken none state.split in
+      let counted = subst (λ n. ScanOk below covers gap rank network query (Known Never state.taken) n (rows_at profiles) (exit_at exits) found.start) all_count state.ok in
+      solves_end below covers gap rank network query (Known Never state.taken) known differ found (exit_at exits)
+      (subst (λ rows. ScanOk below covers gap rank network query (Known Never state.taken) (count network) rows (exit_at exits) found.start) (sym rows_are) counted)
 
   -- what was found follows the rules
   pub rules_end : (rest : List ConnectionId) (profiles : List (Shown V)) (exits : List (Option (Exit V))) (found : Found V) → rest ≡ [] → found_rows found ≡ rows_at profiles → ScanState below covers gap rank lowered arrived blended network query order rest profiles exits found.start → FollowsRules rank lowered arrived blended network query order found
@@ -126,7 +89,7 @@ module _ {V : Type 0} {below covers : V → Tree → Type 0} {gap rank : V → �
 
   -- the next id is one of the network's
   pub next_there : (rest : List ConnectionId) (id : ConnectionId) (profiles : List (Shown V)) (exits : List (Option (Exit V))) (start : Option (V × Leg)) → ScanState below covers gap rank lowered arrived blended network query order (rest ++ id ∷ []) profiles exits start → id.0 < count network
-  next_there rest id profiles exits start state = (next_of rest state.taken id state.split).there
+  next_there rest id profiles exits start state = (next_taken rest state.taken id state.split).there
 
 -- how many connections can be boarded from a place, with one more
 boardable-push : (network : Parts) (place : ℕ) (rest : List ConnectionId) (id : ConnectionId) → boardable network place (rest ++ id ∷ []) ≡ boardable network place rest + cond (has_way network place (from_of network id.0)) 1 0
