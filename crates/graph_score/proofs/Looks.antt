@@ -1,23 +1,22 @@
 -- What is known of the connections that were looked at, the last ones first.
-use Rattle.std.proofs.Common.{◌≡◌, ◌≢◌, ℕ, zero, suc, ◌+◌, ◌-◌, ◌<◌, ◌≤◌, true, false, List, [], ◌∷◌, ◌++◌, length, set, All, AllPairs, Option, Some, None, arith, sym, subst, refl, inl, inr, ◌∙◌, ap, append_assoc}
-use Rattle.std.specs.Prelude.{Contains, slice_index_or, ◌==◌, nat_le}
+use Rattle.std.proofs.Common.{◌≡◌, ◌≢◌, ℕ, zero, suc, ◌+◌, ◌-◌, ◌<◌, ◌≤◌, true, false, List, [], ◌∷◌, ◌++◌, length, set, Option, Some, None, arith, sym, subst, refl, inl, inr, ◌∙◌, ap, append_assoc}
+use Rattle.std.specs.Prelude.{slice_index_or, ◌==◌, nat_le}
 use Rattle.std.proofs.Common.{get_or-set_other, get_or-set_same}
 use Rattle.std.proofs.lemmas.Bool.{cases_lt, cases_eq}
 use Rattle.std.proofs.lemmas.Bool.Decides.{nat_tests}
 use Rattle.std.proofs.lemmas.List.{append-nil, length-set}
-use Rattle.std.proofs.lemmas.List.Elements.{Contains-append_cases, All-tail}
 use Rattle.plan_model.specs.declared.model.ConnectionId.{ConnectionId}
 use Rattle.plan_model.specs.declared.model.Leg.{Leg}
 use Rattle.plan_model.specs.declared.model.Outcome.{Outcome}
 use Rattle.plan_model.specs.declared.model.Query.{Query}
 use Rattle.plan_model.specs.Parts.{Parts}
 use Rattle.plan_model.specs.Network.{IsValid, count, dep_of, arr_of}
-use Rattle.plan_model.specs.Order.{IsScanOrder, IsEarlier}
+use Rattle.plan_model.specs.Order.{IsScanOrder}
 use Rattle.plan_model.specs.Rows.{EachKid}
 use Rattle.plan_model.specs.Tree.{Tree, Done, Stuck}
 use Rattle.plan_model.specs.Unfold.{end_of, outcomes_of, kids_after}
 use Rattle.plan_model.proofs.Boarding.{boards_later}
-use Rattle.plan_model.proofs.ScanOrders.{has_each_id}
+use Rattle.plan_model.proofs.ScanOrders.{has_each_id, Known, Never, whole_order, IsNext, next_of, all_known}
 use Rattle.plan_graph.specs.declared.PlaceTable.{PlaceTable}
 use Rattle.plan_graph.specs.Rows.{pick_at}
 use Rattle.plan_graph.specs.Ready.{IsLegOf}
@@ -27,26 +26,10 @@ use Rattle.graph_score.specs.Steps.{AreFitRows, AreOutlooks, ExitsWithin, IsOutl
 use Rattle.graph_score.proofs.Failures.{blend_told}
 use Rattle.graph_score.proofs.Trees.{taken_row, next_after, after-there, after-stuck, after-ride}
 
--- it is one of the ids
-abbrev pub Known : List ConnectionId → ℕ → Type 0
-Known ids i = Contains ids (record { 0 = i })
-
--- each of a list is before what comes after it
-before_middle : {X : Type 0} (R : X → X → Type 0) (xs ys : List X) (y z : X) → AllPairs R (xs ++ y ∷ ys) → Contains xs z → R z y
-before_middle R [] ys y z pairs (k, within, at) = absurd (omega (arith, within))
-before_middle R (x ∷ xs) ys y z pairs (zero, within, at) = subst (λ w. R w y) at (first (length xs) refl)
-  where
-    middle : {X : Type 0} (xs ys : List X) (y : X) → slice_index_or (xs ++ y ∷ ys) (length xs) y ≡ y
-    middle [] ys y = refl
-    middle (x ∷ xs) ys y = middle xs ys y
-
-    inside : {X : Type 0} (xs ys : List X) (y : X) → length xs < length (xs ++ y ∷ ys)
-    inside [] ys y = omega arith
-    inside (x ∷ xs) ys y = omega (arith, inside xs ys y)
-
-    first : (k : ℕ) → k ≡ length xs → R x y
-    first k is = subst (R x) (middle xs ys y) (pairs 0 (suc (length xs)) y (omega arith) (omega (arith, inside xs ys y)))
-before_middle R (x ∷ xs) ys y z pairs (suc k, within, at) = before_middle R xs ys y z (λ i j d less inside. pairs (suc i) (suc j) d (omega (arith, less)) (omega (arith, inside))) (k, omega (arith, within), at)
+-- one is known, so one was looked at
+some_known : (taken : List ConnectionId) (i : ℕ) → Known Never taken i → 1 ≤ length taken
+some_known [] i known = absurd known
+some_known (id ∷ taken) i known = omega arith
 
 -- where source and target are one place, or one has arrived
 pub arrived_told : (n : Parts) (q : Query) (p x : ℕ) → p ≡ q.target.0 → IsOutlook n q (arrived_by q.deadline.0 p x) (Done x)
@@ -65,7 +48,7 @@ stuck_told n q p x = record { fails = (refl, refl); first = λ r y fails. inr (s
 
 -- of each connection that was looked at it is known what comes of leaving by it, over enough rides
 abbrev AreRight : Parts → Query → List PlaceTable → List Outlook → List ConnectionId → Type 0
-AreRight n q tables outlooks taken = (leg : Leg) (rides : ℕ) → Known taken leg.exit.0 → length taken ≤ suc rides → IsOutlook n q (slice_index_or outlooks leg.exit.0 no_outlook) (ridden n q tables rides leg)
+AreRight n q tables outlooks taken = (leg : Leg) (rides : ℕ) → Known Never taken leg.exit.0 → length taken ≤ suc rides → IsOutlook n q (slice_index_or outlooks leg.exit.0 no_outlook) (ridden n q tables rides leg)
 
 -- the rest of the scan order was not looked at
 pub record AreTold (n : Parts) (q : Query) (tables : List PlaceTable) (order rest : List ConnectionId) (outlooks : List Outlook) : Type 0 where
@@ -80,23 +63,8 @@ module _ (n : Parts) (valid : IsValid n) (q : Query) (tables : List PlaceTable) 
   exits_within place moment leg is = (taken_row n tables fit place moment leg is).0.exit
 
   module _ (order : List ConnectionId) (whole : IsScanOrder n order) where
-    -- what departs later than the next connection was looked at
-    later_known : (rest taken : List ConnectionId) (id : ConnectionId) → (rest ++ id ∷ []) ++ taken ≡ order → (other : ℕ) → other < count n → dep_of n id.0 < dep_of n other → Known taken other
-    later_known rest taken id split other there later =
-        let has = has_each_id n order whole in
-        let same : rest ++ (id ∷ taken) ≡ order = sym (append_assoc rest (id ∷ []) taken) ∙ split in
-        let rising = subst (AllPairs (λ (a b : ConnectionId). IsEarlier n a.0 b.0)) (sym same) has.rising in
-        elim (Contains-append_cases rest (id ∷ taken) (record { 0 = other }) (subst (λ ids. Contains ids (record { 0 = other })) (sym same) (has.all other there))) [
-          | inl front ↦ absurd (elim (before_middle (λ (a b : ConnectionId). IsEarlier n a.0 b.0) rest taken id (record { 0 = other }) rising front) [
-            | inl less ↦ omega (arith, less, later)
-            | inr level ↦ omega (arith, level.0, later)
-          ])
-          | inr back ↦ in_back back
-        ]
-      where
-        in_back : Contains (id ∷ taken) (record { 0 = other }) → Known taken other
-        in_back (zero, within, at) = absurd (let e = ap (λ (i : ConnectionId). dep_of n i.0) at in omega (arith, e, later))
-        in_back (suc k, within, at) = (k, omega (arith, within), at)
+    next_taken : (rest taken : List ConnectionId) (id : ConnectionId) → (rest ++ id ∷ []) ++ taken ≡ order → IsNext n (Known Never taken) id.0
+    next_taken rest taken id split = next_of n valid Never order (whole_order n order whole) rest taken id split
 
     -- what comes of an arrival after the next connection
     arrival_told : (outlooks : List Outlook) (rest taken : List ConnectionId) (id : ConnectionId) → (rest ++ id ∷ []) ++ taken ≡ order → AreRight n q tables outlooks taken → id.0 < count n
@@ -122,8 +90,8 @@ module _ (n : Parts) (valid : IsValid n) (q : Query) (tables : List PlaceTable) 
           ]
         ]
 
-        over : (rides : ℕ) → length taken ≤ rides → end_of n leg ≢ q.target.0 → (next : Leg) → pick_at tables (end_of n leg) x ≡ Some next → Known taken next.exit.0 → IsOutlook n q (slice_index_or outlooks next.exit.0 no_outlook) (next_after n q tables fit rides leg x)
-        over zero enough away next is known = absurd (omega (arith, known.1, enough))
+        over : (rides : ℕ) → length taken ≤ rides → end_of n leg ≢ q.target.0 → (next : Leg) → pick_at tables (end_of n leg) x ≡ Some next → Known Never taken next.exit.0 → IsOutlook n q (slice_index_or outlooks next.exit.0 no_outlook) (next_after n q tables fit rides leg x)
+        over zero enough away next is known = absurd (omega (arith, some_known taken next.exit.0 known, enough))
         over (suc rides) enough away next is known = subst (IsOutlook n q (slice_index_or outlooks next.exit.0 no_outlook)) (sym (after-ride n q tables fit rides leg x next away is)) (right next rides known enough)
 
         by_next : (rides : ℕ) → length taken ≤ rides → end_of n leg ≢ q.target.0 → (next : Option Leg) → pick_at tables (end_of n leg) x ≡ next → IsOutlook n q (by_leg outlooks (end_of n leg) x next) (next_after n q tables fit rides leg x)
@@ -132,7 +100,7 @@ module _ (n : Parts) (valid : IsValid n) (q : Query) (tables : List PlaceTable) 
             let row = taken_row n tables fit (end_of n leg) x next is in
             let boards = boards_later n valid (end_of n leg) x next.enter.0 row.0.enter row.1 in
             let onward : dep_of n next.enter.0 ≤ dep_of n next.exit.0 = onward_in next row.0 in
-            let known = later_known rest taken id split next.exit.0 row.0.exit (omega (arith, boards, onward, late, (valid.connections id.0 there).forward)) in
+            let known = (next_taken rest taken id split).after next.exit.0 row.0.exit (inl (omega (arith, boards, onward, late, (valid.connections id.0 there).forward))) in
             over rides enough away next is known
 
     kids_told : (outlooks : List Outlook) (p scheduled : ℕ) (next : ℕ → Tree) → ((x : ℕ) → scheduled ≤ x → IsOutlook n q (outlook_at tables q outlooks p x) (next x)) → (row : List Outcome)
@@ -150,22 +118,12 @@ module _ (n : Parts) (valid : IsValid n) (q : Query) (tables : List PlaceTable) 
         let own = blend_told n q leg.enter.0 leg.exit.0 (outlooks_after tables q outlooks (end_of n leg) (arr_of n leg.exit.0) (outcomes_of n leg)) (kids_after (next_after n q tables fit rides leg) (arr_of n leg.exit.0) (outcomes_of n leg)) each in
         subst (λ j. IsOutlook n q (outlook_of n tables q outlooks j) (ridden n q tables rides leg)) of_id own
 
-    next_there : (rest taken : List ConnectionId) (id : ConnectionId) → (rest ++ id ∷ []) ++ taken ≡ order → id.0 < count n
-    next_there rest taken id split =
-        let has = has_each_id n order whole in
-        let same : rest ++ (id ∷ taken) ≡ order = sym (append_assoc rest (id ∷ []) taken) ∙ split in
-        middle (λ (i : ConnectionId). i.0 < count n) rest taken id (subst (All (λ (i : ConnectionId). i.0 < count n)) (sym same) has.within)
-      where
-        middle : {X : Type 0} (P : X → Type 0) (xs ys : List X) (y : X) → All P (xs ++ y ∷ ys) → P y
-        middle P [] ys y each = each 0 y (omega arith)
-        middle P (x ∷ xs) ys y each = middle P xs ys y (All-tail P x (xs ++ y ∷ ys) each)
-
     -- with the next connection
     right_next : (outlooks : List Outlook) (rest taken : List ConnectionId) (id : ConnectionId) → (rest ++ id ∷ []) ++ taken ≡ order → length outlooks ≡ count n → AreRight n q tables outlooks taken
         → AreRight n q tables (set outlooks id.0 (outlook_of n tables q outlooks id.0)) (id ∷ taken)
     right_next outlooks rest taken id split many right leg rides known enough = elim (cases_eq leg.exit.0 id.0) [
       | inl same ↦
-          let there = next_there rest taken id split in
+          let there = (next_taken rest taken id split).there in
           let own = ride_told outlooks rest taken id split right there leg rides same (omega (arith, enough)) in
           let at : slice_index_or (set outlooks id.0 (outlook_of n tables q outlooks id.0)) leg.exit.0 no_outlook ≡ outlook_of n tables q outlooks id.0 =
           ap (λ j. slice_index_or (set outlooks id.0 (outlook_of n tables q outlooks id.0)) j no_outlook) same ∙ get_or-set_same outlooks id.0 (outlook_of n tables q outlooks id.0) no_outlook (omega (arith, there, many)) in
@@ -174,23 +132,16 @@ module _ (n : Parts) (valid : IsValid n) (q : Query) (tables : List PlaceTable) 
           subst (λ o. IsOutlook n q o (ridden n q tables rides leg)) (sym (get_or-set_other outlooks id.0 leg.exit.0 (outlook_of n tables q outlooks id.0) no_outlook other)) (right leg rides (before known other) (omega (arith, enough)))
     ]
       where
-        before : Known (id ∷ taken) leg.exit.0 → leg.exit.0 ≢ id.0 → Known taken leg.exit.0
-        before (zero, within, at) other = absurd (other (sym (ap (λ (i : ConnectionId). i.0) at)))
-        before (suc k, within, at) other = (k, omega (arith, within), at)
-
-    -- after the last
-    right_last : (outlooks : List Outlook) (taken : List ConnectionId) → taken ≡ order → AreRight n q tables outlooks taken → AreOutlooks n q tables outlooks
-    right_last outlooks taken all right leg there =
-        let has = has_each_id n order whole in
-        let many = ap (λ (ids : List ConnectionId). length ids) all in
-        right leg (count n - 1) (subst (λ (ids : List ConnectionId). Known ids leg.exit.0) (sym all) (has.all leg.exit.0 there)) (omega (arith, many, has.as_many, there))
+        before : Known Never (id ∷ taken) leg.exit.0 → leg.exit.0 ≢ id.0 → Known Never taken leg.exit.0
+        before (inl is) other = absurd (other is)
+        before (inr earlier) other = earlier
 
     -- none was looked at
     pub told_first : (outlooks : List Outlook) → length outlooks ≡ count n → AreTold n q tables order order outlooks
-    told_first outlooks many = record { taken = []; split = append-nil order; as_many = many; right = λ leg rides known. absurd (omega (arith, known.1)) }
+    told_first outlooks many = record { taken = []; split = append-nil order; as_many = many; right = λ leg rides known. absurd known }
 
     pub told_there : (rest : List ConnectionId) (id : ConnectionId) (outlooks : List Outlook) → AreTold n q tables order (rest ++ id ∷ []) outlooks → id.0 < count n
-    told_there rest id outlooks told = next_there rest told.taken id told.split
+    told_there rest id outlooks told = (next_taken rest told.taken id told.split).there
 
     pub told_next : (rest : List ConnectionId) (id : ConnectionId) (outlooks : List Outlook) → AreTold n q tables order (rest ++ id ∷ []) outlooks → AreTold n q tables order rest (set outlooks id.0 (outlook_of n tables q outlooks id.0))
     told_next rest id outlooks told = record {
@@ -201,4 +152,8 @@ module _ (n : Parts) (valid : IsValid n) (q : Query) (tables : List PlaceTable) 
     }
 
     pub told_last : (rest : List ConnectionId) (outlooks : List Outlook) → rest ≡ [] → AreTold n q tables order rest outlooks → AreOutlooks n q tables outlooks
-    told_last rest outlooks none told = right_last outlooks told.taken (ap (λ (ids : List ConnectionId). ids ++ told.taken) (sym none) ∙ told.split) told.right
+    told_last rest outlooks none told leg there =
+        let taken_all : told.taken ≡ order = ap (λ (ids : List ConnectionId). ids ++ told.taken) (sym none) ∙ told.split in
+        let many = ap (λ (ids : List ConnectionId). length ids) taken_all in
+        let has = has_each_id n order whole in
+        told.right leg (count n - 1) (all_known n valid Never order (whole_order n order whole) rest told.taken none told.split leg.exit.0 there) (omega (arith, many, has.as_many, there))
