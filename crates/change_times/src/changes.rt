@@ -123,14 +123,8 @@ fn tell(
 {
     let mut told = nothing;
     for i in 0..rows.count() {
-        let transfer = match read_transfer(feed, rows, columns, i) {
-            Ok(transfer) => transfer,
-            Err(fault) => return Err(fault),
-        };
-        match note(&mut told, transfer) {
-            Ok(()) => {}
-            Err(_) => return Err(FeedFault::NoMemory),
-        }
+        let transfer = read_transfer(feed, rows, columns, i)?;
+        note(&mut told, transfer)?;
     }
     Ok(told)
 }
@@ -152,22 +146,14 @@ fn read_rows(
     ensures content { IfErr result (λ f. unread_of f ≡ None) }
     ensures own { IfErr result (IsFaultOf TransfersTable) }
 {
-    let nothing = match nothing_told(alloc, feed.stop_count()) {
-        Ok(nothing) => nothing,
-        Err(_) => return Err(FeedFault::NoMemory),
-    };
-    let told = match tell(nothing, feed, rows, columns) {
-        Ok(told) => told,
-        Err(fault) => return Err(fault),
-    };
-    match links_of(alloc, told.walks.as_slice()) {
-        Ok(links) => Ok(Changes {
-            seconds: told.seconds,
-            links,
-            passed: told.passed,
-        }),
-        Err(_) => Err(FeedFault::NoMemory),
-    }
+    let nothing = nothing_told(alloc, feed.stop_count())?;
+    let told = tell(nothing, feed, rows, columns)?;
+    let links = links_of(alloc, told.walks.as_slice())?;
+    Ok(Changes {
+        seconds: told.seconds,
+        links,
+        passed: told.passed,
+    })
 }
 
 /// What a table tells, or the first of its faults.
@@ -184,10 +170,7 @@ fn read_transfers(alloc: Global, feed: &Feed, rows: &Rows) -> Result<Changes, Fe
     if let Some(fault) = missing_column(columns) {
         return Err(fault);
     }
-    match read_rows(alloc, feed, rows, columns) {
-        Ok(changes) => Ok(changes),
-        Err(fault) => Err(fault),
-    }
+    read_rows(alloc, feed, rows, columns)
 }
 
 /// What a table with no rows tells: nothing, whatever the feed is.
@@ -213,10 +196,7 @@ fn changes_of(alloc: Global, feed: &Feed, loaded: &Loaded) -> Result<Changes, Fe
     ensures own { IfErr result (IsFaultOf TransfersTable) }
 {
     match loaded {
-        Loaded::Found(rows) => match read_transfers(alloc, feed, rows) {
-            Ok(changes) => Ok(changes),
-            Err(fault) => Err(fault),
-        },
+        Loaded::Found(rows) => read_transfers(alloc, feed, rows),
         Loaded::Absent => Ok(no_changes(alloc)),
         Loaded::NoRecord => Ok(no_changes(alloc)),
     }
@@ -247,14 +227,8 @@ impl Changes {
         ensures path_cause { HasFeedPathCause (IsSome (F.files files.old)) folder.now
             (F.faults_of files.old) (F.faults_of files.new) result }
     {
-        let loaded = match read_table(alloc, files, folder, Table::Transfers, limits) {
-            Ok(loaded) => loaded,
-            Err(fault) => return Err(fault),
-        };
-        match changes_of(alloc, feed, &loaded) {
-            Ok(changes) => Ok(changes),
-            Err(fault) => Err(fault),
-        }
+        let loaded = read_table(alloc, files, folder, Table::Transfers, limits)?;
+        changes_of(alloc, feed, &loaded)
     }
 
     /// The seconds that a change at a place takes: the greatest `min_transfer_time` of the rows of type 2 that name no route

@@ -106,15 +106,9 @@ fn read_timed(
 {
     let line = rows.line(row);
     let from = rows.field_at(row, columns.from);
-    let from = match read_place(feed, from, line, Column::FromStopId) {
-        Ok(place) => place,
-        Err(fault) => return Err(fault),
-    };
+    let from = read_place(feed, from, line, Column::FromStopId)?;
     let to = rows.field_at(row, columns.to);
-    let to = match read_place(feed, to, line, Column::ToStopId) {
-        Ok(place) => place,
-        Err(fault) => return Err(fault),
-    };
+    let to = read_place(feed, to, line, Column::ToStopId)?;
     let Some(seconds) = read_optional_seconds(rows.field_at(row, columns.seconds)) else {
         return Err(FeedFault::BadField(Table::Transfers, line, Column::MinTransferTime));
     };

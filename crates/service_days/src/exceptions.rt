@@ -106,14 +106,8 @@ fn read_rows(
         exceptions: IndexSet::new(alloc),
     };
     for i in 0..rows.count() {
-        let row = match read_exception(rows, columns, i) {
-            Ok(row) => row,
-            Err(fault) => return Err(fault),
-        };
-        match add(alloc, &mut numbered.ids, &mut numbered.exceptions, row) {
-            Ok(()) => {}
-            Err(_) => return Err(FeedFault::NoMemory),
-        }
+        let row = read_exception(rows, columns, i)?;
+        add(alloc, &mut numbered.ids, &mut numbered.exceptions, row)?;
     }
     Ok(numbered)
 }
@@ -132,8 +126,5 @@ pub(crate) fn read_exceptions(alloc: Global, rows: &Rows, ids: Ids) -> Result<Nu
     if let Some(fault) = missing_column(columns) {
         return Err(fault);
     }
-    match read_rows(alloc, rows, columns, ids) {
-        Ok(numbered) => Ok(numbered),
-        Err(fault) => Err(fault),
-    }
+    read_rows(alloc, rows, columns, ids)
 }

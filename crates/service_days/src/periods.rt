@@ -174,10 +174,7 @@ fn read_period(rows: &Rows, columns: PeriodColumns, row: usize) -> Result<Period
     let Some(_) = read_name(rows.field_at(row, columns.service)) else {
         return Err(FeedFault::BadField(Table::Calendar, line, Column::ServiceId));
     };
-    let week = match read_week(rows, columns, row) {
-        Ok(week) => week,
-        Err(fault) => return Err(fault),
-    };
+    let week = read_week(rows, columns, row)?;
     let Some(first) = read_date(rows.field_at(row, columns.first)) else {
         return Err(FeedFault::BadField(Table::Calendar, line, Column::StartDate));
     };
@@ -203,14 +200,8 @@ fn read_periods(
 {
     let mut periods: Vec<Period> = Vec::new(alloc);
     for i in 0..rows.count() {
-        let period = match read_period(rows, columns, i) {
-            Ok(period) => period,
-            Err(fault) => return Err(fault),
-        };
-        match periods.push(period) {
-            Ok(()) => {}
-            Err(_) => return Err(FeedFault::NoMemory),
-        }
+        let period = read_period(rows, columns, i)?;
+        periods.push(period)?;
     }
     Ok(periods)
 }
@@ -231,12 +222,7 @@ pub(crate) fn read_calendar(alloc: Global, rows: &Rows) -> Result<Calendar, Feed
     if let Some(fault) = missing_column(columns) {
         return Err(fault);
     }
-    let periods = match read_periods(alloc, rows, columns) {
-        Ok(periods) => periods,
-        Err(fault) => return Err(fault),
-    };
-    match read_ids(alloc, rows, Table::Calendar, columns.service) {
-        Ok(ids) => Ok(Calendar { ids, periods }),
-        Err(fault) => Err(fault),
-    }
+    let periods = read_periods(alloc, rows, columns)?;
+    let ids = read_ids(alloc, rows, Table::Calendar, columns.service)?;
+    Ok(Calendar { ids, periods })
 }

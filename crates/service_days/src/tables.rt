@@ -76,10 +76,7 @@ fn calendar_of(alloc: Global, loaded: &Loaded) -> Result<Calendar, FeedFault>
     ensures own { IfErr result (IsFaultOf CalendarTable) }
 {
     match loaded {
-        Loaded::Found(rows) => match read_calendar(alloc, rows) {
-            Ok(calendar) => Ok(calendar),
-            Err(fault) => Err(fault),
-        },
+        Loaded::Found(rows) => read_calendar(alloc, rows),
         Loaded::Absent => Ok(no_calendar(alloc)),
         Loaded::NoRecord => Ok(no_calendar(alloc)),
     }
@@ -97,10 +94,7 @@ fn exceptions_of(alloc: Global, loaded: &Loaded, ids: Ids) -> Result<Numbered, F
     ensures own { IfErr result (IsFaultOf DatesTable) }
 {
     match loaded {
-        Loaded::Found(rows) => match read_exceptions(alloc, rows, ids) {
-            Ok(numbered) => Ok(numbered),
-            Err(fault) => Err(fault),
-        },
+        Loaded::Found(rows) => read_exceptions(alloc, rows, ids),
         Loaded::Absent => Ok(no_exceptions(alloc, ids)),
         Loaded::NoRecord => Ok(no_exceptions(alloc, ids)),
     }
@@ -126,15 +120,10 @@ pub(crate) fn load_calendar<F: Files>(
     ensures path_cause { HasFeedPathCause (IsSome (F.files files.old)) folder.now
         (F.faults_of files.old) (F.faults_of files.new) result }
 {
-    let loaded = match read_table(alloc, files, folder, Table::Calendar, limits) {
-        Ok(loaded) => loaded,
-        Err(fault) => return Err(fault),
-    };
+    let loaded = read_table(alloc, files, folder, Table::Calendar, limits)?;
     let missing = is_missing(&loaded);
-    match calendar_of(alloc, &loaded) {
-        Ok(calendar) => Ok(LoadedCalendar { missing, calendar }),
-        Err(fault) => Err(fault),
-    }
+    let calendar = calendar_of(alloc, &loaded)?;
+    Ok(LoadedCalendar { missing, calendar })
 }
 
 /// The exceptions of the folder. The services that are there keep their numbers.
@@ -158,13 +147,8 @@ pub(crate) fn load_dates<F: Files>(
     ensures path_cause { HasFeedPathCause (IsSome (F.files files.old)) folder.now
         (F.faults_of files.old) (F.faults_of files.new) result }
 {
-    let loaded = match read_table(alloc, files, folder, Table::CalendarDates, limits) {
-        Ok(loaded) => loaded,
-        Err(fault) => return Err(fault),
-    };
+    let loaded = read_table(alloc, files, folder, Table::CalendarDates, limits)?;
     let missing = is_missing(&loaded);
-    match exceptions_of(alloc, &loaded, ids) {
-        Ok(numbered) => Ok(LoadedDates { missing, numbered }),
-        Err(fault) => Err(fault),
-    }
+    let numbered = exceptions_of(alloc, &loaded, ids)?;
+    Ok(LoadedDates { missing, numbered })
 }

@@ -1,5 +1,6 @@
 use Rattle.std.proofs.Common.{◌≡◌, ◌+◌, None, refl, is_none, nat_eq, sym, ap, ◌∙◌, arith}
 use Rattle.std.specs.HashMap.{get}
+use Rattle.csv_rows.proofs.FaultLemmas.{if_raised}
 use Rattle.csv_rows.specs.RowFaults.{fault_in, value_or}
 use Rattle.csv_rows.specs.Tables.{row_count}
 use Rattle.csv_rows.proofs.FirstLemmas.{first-zero, first-next, first-at}
@@ -13,12 +14,12 @@ use Rattle.change_times.proofs.changes.tell.Goals as goal
 pub loop-i-init : goal.loop-i-init
 loop-i-init c = record { told = c.requires.nothing; none = first-zero (bad_transfer c.args.feed.now c.args.rows.now) }
 
-pub returns-in-Err-clause-fault : goal.returns-in-Err-clause-fault
-returns-in-Err-clause-fault c = λ free.
+pub returns-in_err-transfer-clause-fault : goal.returns-in_err-transfer-clause-fault
+returns-in_err-transfer-clause-fault c = if_raised _ c.from_residual.result c.from_residual.ensures (λ free.
     let feed = c.args.feed.now in
     let t = c.args.rows.now in
-    first-at (bad_transfer feed t) c.loop-i.i (row_count t) c.in-Err.fault (omega arith) c.loop-i.invariant.none
-    (ap fault_in (transfer_is feed t c.args.columns c.loop-i.i _ c.requires.columns c.in-Err.ensures.fault))
+    first-at (bad_transfer feed t) c.loop-i.i (row_count t) _ (omega arith) c.loop-i.invariant.none
+    (ap fault_in (transfer_is feed t c.args.columns c.loop-i.i _ c.requires.columns c.in_err-transfer.ensures.fault)))
 
 pub loop-i-preserved : goal.loop-i-preserved
 loop-i-preserved c =
@@ -26,9 +27,9 @@ loop-i-preserved c =
     let t = c.args.rows.now in
     let i = c.loop-i.i in
     let old = c.loop-i.invariant.told in
-    let here = transfer_is feed t c.args.columns i _ c.requires.columns c.in-Ok.ensures.transfer in
-    let told : told_by feed t i ≡ c.in-Ok.transfer = ap (value_or None) here in
-    let step = c.in-Ok-note.ensures in
+    let here = transfer_is feed t c.args.columns i _ c.requires.columns c.in_ok-transfer.ensures.transfer in
+    let told : told_by feed t i ≡ c.in_ok-transfer.transfer = ap (value_or None) here in
+    let step = c.in_ok-note.ensures in
     let old_told = c.loop-i.told in
     let new_told = c.note.new.told in
     record {
@@ -36,20 +37,20 @@ loop-i-preserved c =
         size = step.size ∙ old.size;
         seconds = λ place.
             greatest-next (λ k. seconds_between place place (told_by feed t k)) i (get nat_eq old_told.seconds place) (get nat_eq new_told.seconds place)
-            (seconds_between place place c.in-Ok.transfer) (old.seconds place) (step.seconds place) (ap (seconds_between place place) told);
+            (seconds_between place place c.in_ok-transfer.transfer) (old.seconds place) (step.seconds place) (ap (seconds_between place place) told);
         walks = λ from to.
             greatest-next (λ k. link_between from to (told_by feed t k)) i (most_to to (walks_of old_told.walks.items from)) (most_to to (walks_of new_told.walks.items from))
-            (link_between from to c.in-Ok.transfer) (old.walks from to) (step.walks from to) (ap (link_between from to) told);
+            (link_between from to c.in_ok-transfer.transfer) (old.walks from to) (step.walks from to) (ap (link_between from to) told);
         short = λ place.
-            short_next (get nat_eq old_told.seconds place) (get nat_eq new_told.seconds place) (seconds_between place place c.in-Ok.transfer) (old.short place)
-            (short_between place place c.in-Ok.transfer c.in-Ok.ensures.short) (step.seconds place);
+            short_next (get nat_eq old_told.seconds place) (get nat_eq new_told.seconds place) (seconds_between place place c.in_ok-transfer.transfer) (old.short place)
+            (short_between place place c.in_ok-transfer.transfer c.in_ok-transfer.ensures.short) (step.seconds place);
         brief = λ from to.
-            short_next (greatest_link feed t i from to) (greatest_link feed t (i + 1) from to) (link_between from to c.in-Ok.transfer) (old.brief from to)
-            (short_link from to c.in-Ok.transfer c.in-Ok.ensures.short)
+            short_next (greatest_link feed t i from to) (greatest_link feed t (i + 1) from to) (link_between from to c.in_ok-transfer.transfer) (old.brief from to)
+            (short_link from to c.in_ok-transfer.transfer c.in_ok-transfer.ensures.short)
             (sym (greatest-next (λ k. link_between from to (told_by feed t k)) i (greatest_link feed t i from to) _
-            (link_between from to c.in-Ok.transfer) refl refl (ap (link_between from to) told)));
-        passed = count-next is_none (told_by feed t) i old_told.passed new_told.passed c.in-Ok.transfer old.passed step.passed told;
-        few = omega (arith, old.few, step.passed, one_at_most (is_none c.in-Ok.transfer));
+            (link_between from to c.in_ok-transfer.transfer) refl refl (ap (link_between from to) told)));
+        passed = count-next is_none (told_by feed t) i old_told.passed new_told.passed c.in_ok-transfer.transfer old.passed step.passed told;
+        few = omega (arith, old.few, step.passed, one_at_most (is_none c.in_ok-transfer.transfer));
       };
       none = first-next (bad_transfer feed t) i None c.loop-i.invariant.none (ap fault_in here);
     }

@@ -1,4 +1,5 @@
 use Rattle.std.proofs.Common.{None, sym, ap, subst, arith}
+use Rattle.csv_rows.proofs.FaultLemmas.{if_raised}
 use Rattle.csv_rows.specs.RowFaults.{fault_in}
 use Rattle.csv_rows.specs.Tables.{row_count}
 use Rattle.csv_rows.proofs.FirstLemmas.{first-zero, first-next, first-at}
@@ -18,24 +19,24 @@ loop-i-init c =
       few = omega arith;
     }
 
-pub returns-in-Err-clause-fault : goal.returns-in-Err-clause-fault
-returns-in-Err-clause-fault c = λ free.
+pub returns-in_err-row-clause-fault : goal.returns-in_err-row-clause-fault
+returns-in_err-row-clause-fault c = if_raised _ c.from_residual.result c.from_residual.ensures (λ free.
     let t = c.args.rows.now in
-    first-at (bad_date t) c.loop-i.i (row_count t) c.in-Err.fault (omega arith) c.loop-i.invariant.none
-    (ap fault_in (date_is t c.args.columns c.loop-i.i _ c.requires.columns c.in-Err.ensures.fault))
+    first-at (bad_date t) c.loop-i.i (row_count t) _ (omega arith) c.loop-i.invariant.none
+    (ap fault_in (date_is t c.args.columns c.loop-i.i _ c.requires.columns c.in_err-row.ensures.fault)))
 
 pub add-requires-clause-trimmed : goal.add-requires-clause-trimmed
 add-requires-clause-trimmed c =
-    service_trimmed c.args.rows.now c.args.columns c.loop-i.i _ c.count-i-end.ensures.trimmed c.in-Ok.ensures.exception
+    service_trimmed c.args.rows.now c.args.columns c.loop-i.i _ c.count-i-end.ensures.trimmed c.in_ok-row.ensures.exception
 
 pub loop-i-preserved : goal.loop-i-preserved
 loop-i-preserved c =
     let t = c.args.rows.now in
     let i = c.loop-i.i in
-    let here = date_is t c.args.columns i _ c.requires.columns c.in-Ok.ensures.exception in
+    let here = date_is t c.args.columns i _ c.requires.columns c.in_ok-row.ensures.exception in
     let old = c.loop-i.numbered in
     let P : ServiceDate → Type 0 = λ d. AddsDate old.ids c.add.new.ids old.exceptions.keys c.add.new.exceptions.keys d in
-    let added = subst P (sym (ap date_or_none here)) c.in-Ok-add.ensures in
+    let added = subst P (sym (ap date_or_none here)) c.in_ok-add.ensures in
     let size = length-adds old.ids c.add.new.ids (date_of t i).service added.new added.added in
     record {
       none = first-next (bad_date t) i None c.loop-i.invariant.none (ap fault_in here);

@@ -1,4 +1,5 @@
 use Rattle.std.proofs.Common.{None, sym, ap, ◌∙◌, arith}
+use Rattle.csv_rows.proofs.FaultLemmas.{if_raised}
 use Rattle.csv_rows.specs.RowFaults.{fault_in}
 use Rattle.csv_rows.specs.Tables.{row_count}
 use Rattle.csv_rows.proofs.FirstLemmas.{first-zero, first-next, first-at}
@@ -12,18 +13,18 @@ loop-i-init c =
     let t = c.args.rows.now in
     record { periods = c.new-periods.ensures.items ∙ sym (list_below-zero (period_of t)); none = first-zero (bad_period t) }
 
-pub returns-in-Err-clause-fault : goal.returns-in-Err-clause-fault
-returns-in-Err-clause-fault c = λ free.
+pub returns-in_err-period-clause-fault : goal.returns-in_err-period-clause-fault
+returns-in_err-period-clause-fault c = if_raised _ c.from_residual.result c.from_residual.ensures (λ free.
     let t = c.args.rows.now in
-    first-at (bad_period t) c.loop-i.i (row_count t) c.in-Err.fault (omega arith) c.loop-i.invariant.none
-    (ap fault_in (period_is t c.args.columns c.loop-i.i _ c.requires c.in-Err.ensures.fault))
+    first-at (bad_period t) c.loop-i.i (row_count t) _ (omega arith) c.loop-i.invariant.none
+    (ap fault_in (period_is t c.args.columns c.loop-i.i _ c.requires c.in_err-period.ensures.fault)))
 
 pub loop-i-preserved : goal.loop-i-preserved
 loop-i-preserved c =
     let t = c.args.rows.now in
-    let here = period_is t c.args.columns c.loop-i.i _ c.requires c.in-Ok.ensures.period in
+    let here = period_is t c.args.columns c.loop-i.i _ c.requires c.in_ok-period.ensures.period in
     record {
-      periods = list_below-next (period_of t) c.loop-i.i c.loop-i.periods.items c.push.new.self.items c.in-Ok.period c.loop-i.invariant.periods
-          c.in-Ok-push.ensures.items (sym (ap period_or_none here));
+      periods = list_below-next (period_of t) c.loop-i.i c.loop-i.periods.items c.push.new.self.items c.in_ok-period.period c.loop-i.invariant.periods
+          c.in_ok-push.ensures.items (sym (ap period_or_none here));
       none = first-next (bad_period t) c.loop-i.i None c.loop-i.invariant.none (ap fault_in here);
     }
