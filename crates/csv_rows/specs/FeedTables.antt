@@ -3,7 +3,7 @@ use Rattle.std.specs.Prelude.{◌≡◌, ℕ, ◌==◌, Bool, false, List, ◌�
 use Rattle.csv_rows.specs.declared.feed_tables.Table.{Table}
 use Rattle.csv_rows.specs.declared.feed_tables.Table.TheVariants.{Stops, Routes, Trips, StopTimes, Frequencies, Calendar, CalendarDates, Transfers}
 use Rattle.csv_rows.specs.declared.feed_tables.FeedFault.{FeedFault}
-use Rattle.csv_rows.specs.declared.feed_tables.FeedFault.TheVariants.{Read, TooLong, MissingTable, MissingColumn, BadField, UnknownKey, DuplicateKey, BackwardTime, FrequencyRows, TooManyRows, NoMemory}
+use Rattle.csv_rows.specs.declared.feed_tables.FeedFault.TheVariants.{Read, TooLong, MissingTable, MissingColumn, BadField, UnknownKey, DuplicateKey, BackwardTime, TooManyRows, NoMemory}
 
 -- the name of a table's file
 abbrev pub file_name : Table → List ℕ
@@ -51,7 +51,6 @@ table_of_fault (BadField table line column) = Some table
 table_of_fault (UnknownKey table line column) = Some table
 table_of_fault (DuplicateKey table line) = Some table
 table_of_fault (BackwardTime line) = Some StopTimes
-table_of_fault FrequencyRows = Some Frequencies
 table_of_fault (TooManyRows table count) = Some table
 table_of_fault NoMemory = None
 

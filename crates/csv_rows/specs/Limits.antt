@@ -36,13 +36,13 @@ pub record AreWithin (limits : Limits) : Type 0 where
   pub connections : limits.connections ≤ 8388608
   pub entries : limits.entries ≤ 67108864
 
--- the rows of a table; a file of the most bytes has no more rows than the number for frequencies
+-- the rows of a table
 abbrev pub rows_of : Limits → Table → ℕ
 rows_of limits Stops = limits.stops
 rows_of limits Routes = limits.routes
 rows_of limits Trips = limits.trips
 rows_of limits StopTimes = limits.stop_times
-rows_of limits Frequencies = 1073741824
+rows_of limits Frequencies = limits.frequencies
 rows_of limits Calendar = limits.calendar
 rows_of limits CalendarDates = limits.calendar_dates
 rows_of limits Transfers = limits.transfers

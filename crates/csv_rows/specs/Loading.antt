@@ -35,7 +35,8 @@ load_in files folder limits unread table = load_of unread limits table (file_at 
 -- the records, of which a table that is absent has none, and neither has one whose file has no record
 abbrev pub loaded_rows : Loaded → List (List (List ℕ))
 loaded_rows (Found t) = t
-loaded_rows _ = []
+loaded_rows Absent = []
+loaded_rows NoRecord = []
 
 -- there is no file
 abbrev pub IsAbsent : Loaded → Type 0

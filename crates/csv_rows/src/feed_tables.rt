@@ -17,7 +17,7 @@ pub enum Table {
     Trips,
     /// `stop_times.txt`: when each trip arrives at its stops and departs from them.
     StopTimes,
-    /// `frequencies.txt`: trips that run again and again. A feed that has any is refused.
+    /// `frequencies.txt`: trips that run again and again.
     Frequencies,
     /// `calendar.txt`: the weekdays on which a service runs, from a first day to a last one.
     Calendar,
@@ -64,8 +64,6 @@ pub enum FeedFault {
     DuplicateKey(Table, u64),
     /// The row of this line departs before it arrives, or arrives before the row before it in its trip departs.
     BackwardTime(u64),
-    /// The table of frequencies has a row.
-    FrequencyRows,
     /// The table has this number of rows, more than may be read.
     TooManyRows(Table, u64),
     /// There was no memory.

@@ -54,7 +54,7 @@ impl Limits {
         }
     }
 
-    /// The most rows of a table. The table of frequencies may have as many as a file can hold.
+    /// The most rows of a table.
     pub fn rows_of(&self, table: Table) -> u64
         ensures { result ≡ rows_of self.now table }
     {
@@ -63,7 +63,7 @@ impl Limits {
             Table::Routes => self.routes,
             Table::Trips => self.trips,
             Table::StopTimes => self.stop_times,
-            Table::Frequencies => 1 << 30,
+            Table::Frequencies => self.frequencies,
             Table::Calendar => self.calendar,
             Table::CalendarDates => self.calendar_dates,
             Table::Transfers => self.transfers,

@@ -41,7 +41,6 @@ feed_text (feed.BadField table line column) = file_name table ++ (codes " line "
 feed_text (feed.UnknownKey table line column) = file_name table ++ (codes " line " ++ (decimal line ++ (codes ": unknown " ++ name_of column)))
 feed_text (feed.DuplicateKey table line) = file_name table ++ (codes " line " ++ (decimal line ++ codes ": repeated key"))
 feed_text (feed.BackwardTime line) = codes "stop_times.txt line " ++ (decimal line ++ codes ": time goes back")
-feed_text feed.FrequencyRows = codes "frequencies.txt has rows"
 feed_text (feed.Read table) = codes "cannot read " ++ file_name table
 feed_text (feed.TooLong table) = file_name table ++ codes " is too long"
 feed_text (feed.TooManyRows table count) = file_name table ++ (codes " has too many rows: " ++ decimal count)

@@ -88,7 +88,6 @@ IsOfFeedText (feed.BadField table line column) = Unit {0}
 IsOfFeedText (feed.UnknownKey table line column) = Unit {0}
 IsOfFeedText (feed.DuplicateKey table line) = Unit {0}
 IsOfFeedText (feed.BackwardTime line) = Unit {0}
-IsOfFeedText feed.FrequencyRows = Unit {0}
 IsOfFeedText (feed.Read table) = ⊥
 IsOfFeedText (feed.TooLong table) = ⊥
 IsOfFeedText (feed.TooManyRows table count) = ⊥

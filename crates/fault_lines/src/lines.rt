@@ -79,7 +79,6 @@ impl fmt::Display for FeedText {
             FeedFault::BackwardTime(line) => {
                 write!(f, "stop_times.txt line {line}: time goes back")
             }
-            FeedFault::FrequencyRows => write!(f, "frequencies.txt has rows"),
             FeedFault::Read(table) => {
                 let file = table.file_name();
                 write!(f, "cannot read {file}")

@@ -10,17 +10,20 @@ use Rattle.csv_rows.specs.declared.feed_tables.Table.TheVariants.{Stops, Routes,
 use Rattle.csv_rows.specs.declared.feed_tables.FeedFault.{FeedFault}
 use Rattle.csv_rows.specs.declared.feed_tables.FeedFault.TheVariants.{Read, NoMemory}
 use Rattle.csv_rows.specs.declared.limits.Limits.{Limits}
+use Rattle.csv_rows.specs.declared.loading.Loaded.{Loaded}
 use Rattle.csv_rows.specs.FeedTables.{path_of, rank_of, unread_of, IsFaultOf}
-use Rattle.csv_rows.specs.Loading.{loaded_file, HasFeedCause, load_in}
+use Rattle.csv_rows.specs.Loading.{loaded_file, loaded_rows, HasFeedCause, load_in}
+use Rattle.csv_rows.specs.RowFaults.{and_then}
 use Rattle.csv_rows.specs.Tables.{row_count, field}
+use Rattle.gtfs_tables.specs.declared.frequencies.FrequencyRow.{FrequencyRow}
 use Rattle.gtfs_tables.specs.declared.stop_times.StopRow.{StopRow}
 use Rattle.gtfs_tables.specs.Stops.{stop_ids, stop_places, stops_fault}
 use Rattle.gtfs_tables.specs.Routes.{route_ids, routes_fault}
 use Rattle.gtfs_tables.specs.Trips.{trip_ids, trip_routes, trip_services, trip_types, trips_fault}
 use Rattle.gtfs_tables.specs.StopTimes.{timed_rows, stop_times_fault}
+use Rattle.gtfs_tables.specs.Frequencies.{frequency_rows, fault_of_frequencies, all_repeats_of}
 use Rattle.gtfs_tables.specs.Visits.{AreStopTimes}
-use Rattle.csv_rows.specs.RowFaults.{and_then, unless}
-use Rattle.gtfs_tables.specs.Feeds.{Records, stops_from, routes_from, trips_from, stop_times_from, frequencies_from, Tables, tables_by, tables_in, FeedParts, IsFeed, IsFeedOf, AreStops, AreRoutes, AreTrips, AreVisits, IsSound, IsSoundFeed}
+use Rattle.gtfs_tables.specs.Feeds.{Records, stops_from, routes_from, trips_from, stop_times_from, frequencies_from, Tables, tables_by, tables_in, FeedParts, IsFeed, IsFeedOf, AreStops, AreRoutes, AreTrips, AreVisits, AreFrequencies, IsSound, IsSoundFeed}
 use Rattle.csv_rows.proofs.ListLemmas.{length-list_below}
 
 pub if_same : {A : Type 0} (o o' : Option A) (P : A → Type 0) → o' ≡ o → IfSome o' P → IfSome o P
@@ -33,73 +36,36 @@ other_load m folder limits (Read t) table other e ne =
     ap (λ b. if b then Err (Read other) else loaded_file limits other (file_at m (path_of folder other))) (ap (λ x. rank_of x == rank_of other) e ∙ ne)
 other_load m folder limits _ table other e ne = refl
 
--- the steps of the tables
-abbrev times_step : (stop_times : (trips stops : List (List ℕ)) (places : List ℕ) → Result Records FeedFault) (q : Option FeedFault) (s r t : Records) → Result Tables FeedFault
-times_step x q s r t = and_then (x (trip_ids t) (stop_ids s) (stop_places s)) (λ x'. unless q (record { stops = s; routes = r; trips = t; stop_times = x' }))
+-- where something is so of what was read, and of no fault, it was read
+found : {T : Type 0} (P : Result T FeedFault → Type 0) → ((f : FeedFault) → P (Err f) → ⊥) → (r : Result T FeedFault) → P r → (t : T) × (r ≡ Ok t) × P (Ok t)
+found P never (Ok t) h = (t, refl, h)
+found P never (Err f) h = absurd (never f h)
 
-abbrev trips_step : (t : List (List ℕ) → Result Records FeedFault) (x : (trips stops : List (List ℕ)) (places : List ℕ) → Result Records FeedFault) (q : Option FeedFault)
-    (s r : Records) → Result Tables FeedFault
-trips_step t x q s r = and_then (t (route_ids r)) (times_step x q s r)
+after : {T U : Type 0} (r : Result T FeedFault) (t : T) (next : T → Result U FeedFault) → r ≡ Ok t → and_then r next ≡ next t
+after r t next e = ap (λ z. and_then z next) e
 
-abbrev routes_step : (r : Result Records FeedFault) (t : List (List ℕ) → Result Records FeedFault) (x : (trips stops : List (List ℕ)) (places : List ℕ) → Result Records FeedFault)
-    (q : Option FeedFault) (s : Records) → Result Tables FeedFault
-routes_step r t x q s = and_then r (trips_step t x q s)
-
-stops_stop : (s r : Result Records FeedFault) (t : List (List ℕ) → Result Records FeedFault) (x : (trips stops : List (List ℕ)) (places : List ℕ) → Result Records FeedFault)
-    (q : Option FeedFault) (f : FeedFault) → s ≡ Err f → tables_by s r t x q ≡ Err f
-stops_stop s r t x q f h = ap (λ z. and_then z (routes_step r t x q)) h
-
-routes_stop : (s r : Result Records FeedFault) (t : List (List ℕ) → Result Records FeedFault) (x : (trips stops : List (List ℕ)) (places : List ℕ) → Result Records FeedFault)
-    (q : Option FeedFault) (f : FeedFault) (ids : List (List ℕ)) (places : List ℕ) → AreStops s ids places → r ≡ Err f → tables_by s r t x q ≡ Err f
-routes_stop (Ok s) r t x q f ids places a h = ap (λ z. and_then z (trips_step t x q s)) h
-routes_stop (Err e) r t x q f ids places a h = absurd a
-
-trips_stop : (s r : Result Records FeedFault) (t : List (List ℕ) → Result Records FeedFault) (x : (trips stops : List (List ℕ)) (places : List ℕ) → Result Records FeedFault)
-    (q : Option FeedFault) (f : FeedFault) (ids routes : List (List ℕ)) (places types : List ℕ) → AreStops s ids places → AreRoutes r routes types → t routes ≡ Err f
-    → tables_by s r t x q ≡ Err f
-trips_stop (Ok s) (Ok r) t x q f ids routes places types a b h = ap (λ z. and_then z (times_step x q s r)) (ap t (sym b.0) ∙ h)
-trips_stop (Ok s) (Err e) t x q f ids routes places types a b h = absurd b
-trips_stop (Err e) r t x q f ids routes places types a b h = absurd a
-
--- the tables up to the trips are whole
-whole_trips : (s r : Records) (t : List (List ℕ) → Result Records FeedFault) (x : (trips stops : List (List ℕ)) (places : List ℕ) → Result Records FeedFault)
-    (q : Option FeedFault) (routes : List (List ℕ)) (t' : Records) → routes ≡ route_ids r → t routes ≡ Ok t' → trips_step t x q s r ≡ times_step x q s r t'
-whole_trips s r t x q routes t' b e = ap (λ z. and_then z (times_step x q s r)) (ap t (sym b) ∙ e)
-
-same_times : (x : (trips stops : List (List ℕ)) (places : List ℕ) → Result Records FeedFault) (trips trips' stops stops' : List (List ℕ)) (places places' : List ℕ)
-    → trips ≡ trips' → stops ≡ stops' → places ≡ places' → x trips' stops' places' ≡ x trips stops places
-same_times x trips trips' stops stops' places places' a b c = sym (ap₂ (λ u v. x u v places) a b ∙ ap (λ w. x trips' stops' w) c)
-
-times_stop : (s r : Result Records FeedFault) (t : List (List ℕ) → Result Records FeedFault) (x : (trips stops : List (List ℕ)) (places : List ℕ) → Result Records FeedFault)
-    (q : Option FeedFault) (f : FeedFault) (ids routes trips services : List (List ℕ)) (places types types_of routes_of : List ℕ) (found : Result Records FeedFault) → t routes ≡ found
-    → AreStops s ids places → AreRoutes r routes types → AreTrips routes types found trips services types_of routes_of → x trips ids places ≡ Err f
-    → tables_by s r t x q ≡ Err f
-times_stop (Ok s) (Ok r) t x q f ids routes trips services places types types_of routes_of (Ok t') e a b d h =
-    whole_trips s r t x q routes t' b.0 e
-    ∙ ap (λ z. and_then z (λ x'. unless q (record { stops = s; routes = r; trips = t'; stop_times = x' })))
-    (same_times x trips (trip_ids t') ids (stop_ids s) places (stop_places s) d.0 a.0 a.1 ∙ h)
-times_stop (Ok s) (Ok r) t x q f ids routes trips services places types types_of routes_of (Err z) e a b d h = absurd d
-times_stop (Ok s) (Err z) t x q f ids routes trips services places types types_of routes_of found e a b d h = absurd b
-times_stop (Err z) r t x q f ids routes trips services places types types_of routes_of found e a b d h = absurd a
-
--- all four tables are whole
-whole : (s r t' x' : Records) (t : List (List ℕ) → Result Records FeedFault) (x : (trips stops : List (List ℕ)) (places : List ℕ) → Result Records FeedFault) (q : Option FeedFault)
-    (ids routes trips : List (List ℕ)) (places : List ℕ) → routes ≡ route_ids r → t routes ≡ Ok t' → trips ≡ trip_ids t' → ids ≡ stop_ids s → places ≡ stop_places s
-    → x trips ids places ≡ Ok x' → tables_by (Ok s) (Ok r) t x q ≡ unless q (record { stops = s; routes = r; trips = t'; stop_times = x' })
-whole s r t' x' t x q ids routes trips places b e d a₀ a₁ h =
-    whole_trips s r t x q routes t' b e
-    ∙ ap (λ z. and_then z (λ y. unless q (record { stops = s; routes = r; trips = t'; stop_times = y })))
-    (same_times x trips (trip_ids t') ids (stop_ids s) places (stop_places s) d a₀ a₁ ∙ h)
+stop : {T U : Type 0} (r : Result T FeedFault) (f : FeedFault) (next : T → Result U FeedFault) → r ≡ Err f → and_then r next ≡ Err f
+stop r f next e = ap (λ z. and_then z next) e
 
 -- what was read is the feed of its tables
-is_feed : (s r t x : Records) (ids routes trips services : List (List ℕ)) (places types types_of routes_of : List ℕ) (visits : List (List StopRow))
+is_feed : (s r t x : Records) (q : Loaded) (ids routes trips services : List (List ℕ)) (places types types_of routes_of : List ℕ) (visits : List (List StopRow)) (rows : List (List FrequencyRow))
     → AreStops (Ok s) ids places → AreRoutes (Ok r) routes types → AreTrips routes types (Ok t) trips services types_of routes_of → AreVisits trips ids places (Ok x) visits
-    → IsFeed (record { stops = s; routes = r; trips = t; stop_times = x })
-    (record { stop_ids = ids; places = places; trip_ids = trips; services = services; route_types = types_of; route_ids = routes; routes = routes_of; stop_times = visits })
-is_feed s r t x ids routes trips services places types types_of routes_of visits a b d v =
+    → AreFrequencies trips (Ok q) rows
+    → IsFeed (record { stops = s; routes = r; trips = t; stop_times = x; frequencies = q }) (record {
+      stop_ids = ids;
+      places = places;
+      trip_ids = trips;
+      services = services;
+      route_types = types_of;
+      route_ids = routes;
+      routes = routes_of;
+      stop_times = visits;
+      frequencies = rows;
+    })
+is_feed s r t x q ids routes trips services places types types_of routes_of visits rows a b d v u =
     let count : length trips ≡ row_count t = ap length d.0 ∙ length-list_below (field t TripId) (row_count t) in
-    let rows : timed_rows trips ids places x ≡ timed_rows (trip_ids t) (stop_ids s) (stop_places s) x
-    = ap₂ (λ u w. timed_rows u w places x) d.0 a.0 ∙ ap (λ w. timed_rows (trip_ids t) (stop_ids s) w x) a.1 in
+    let timed : timed_rows trips ids places x ≡ timed_rows (trip_ids t) (stop_ids s) (stop_places s) x
+    = ap₂ (λ z w. timed_rows z w places x) d.0 a.0 ∙ ap (λ w. timed_rows (trip_ids t) (stop_ids s) w x) a.1 in
     record {
       stops = a.0;
       places_of_stops = a.1;
@@ -109,36 +75,137 @@ is_feed s r t x ids routes trips services places types types_of routes_of visits
       routes = b.0;
       routes_of_trips = d.3 ∙ ap (λ z. trip_routes z t) b.0;
       size = v.0 ∙ count;
-      times = λ trip h. subst (λ z. AreStopTimes z trip (slice_index_or visits trip [])) rows (v.1 trip (omega (arith, h, count)));
+      times = λ trip h. subst (λ z. AreStopTimes z trip (slice_index_or visits trip [])) timed (v.1 trip (omega (arith, h, count)));
+      frequencies_of_trips = u ∙ ap₂ (λ z n. all_repeats_of (frequency_rows z (loaded_rows q)) n) d.0 count;
     }
 
-frequencies_stop : (s r : Result Records FeedFault) (t : List (List ℕ) → Result Records FeedFault) (x : (trips stops : List (List ℕ)) (places : List ℕ) → Result Records FeedFault)
-    (q : Option FeedFault) (f : FeedFault) (ids routes trips services : List (List ℕ)) (places types types_of routes_of : List ℕ) (visits : List (List StopRow))
-    (found rows : Result Records FeedFault) → t routes ≡ found → x trips ids places ≡ rows
-    → AreStops s ids places → AreRoutes r routes types → AreTrips routes types found trips services types_of routes_of → AreVisits trips ids places rows visits → q ≡ Some f
-    → tables_by s r t x q ≡ Err f
-frequencies_stop (Ok s) (Ok r) t x q f ids routes trips services places types types_of routes_of visits (Ok t') (Ok x') e k a b d v h =
-    whole s r t' x' t x q ids routes trips places b.0 e d.0 a.0 a.1 k ∙ ap (λ z. unless z (record { stops = s; routes = r; trips = t'; stop_times = x' })) h
-frequencies_stop (Ok s) (Ok r) t x q f ids routes trips services places types types_of routes_of visits (Ok t') (Err z) e k a b d v h = absurd v
-frequencies_stop (Ok s) (Ok r) t x q f ids routes trips services places types types_of routes_of visits (Err z) rows e k a b d v h = absurd d
-frequencies_stop (Ok s) (Err z) t x q f ids routes trips services places types types_of routes_of visits found rows e k a b d v h = absurd b
-frequencies_stop (Err z) r t x q f ids routes trips services places types types_of routes_of visits found rows e k a b d v h = absurd a
+abbrev TripsBy : Type 0
+TripsBy = List (List ℕ) → Result Records FeedFault
 
-all_tables : (s r : Result Records FeedFault) (t : List (List ℕ) → Result Records FeedFault) (x : (trips stops : List (List ℕ)) (places : List ℕ) → Result Records FeedFault)
-    (q : Option FeedFault) (ids routes trips services : List (List ℕ)) (places types types_of routes_of : List ℕ) (visits : List (List StopRow))
-    (found rows : Result Records FeedFault) → t routes ≡ found → x trips ids places ≡ rows
-    → AreStops s ids places → AreRoutes r routes types → AreTrips routes types found trips services types_of routes_of → AreVisits trips ids places rows visits → q ≡ None
-    → IsFeedOf (tables_by s r t x q)
-    (record { stop_ids = ids; places = places; trip_ids = trips; services = services; route_types = types_of; route_ids = routes; routes = routes_of; stop_times = visits })
-all_tables (Ok s) (Ok r) t x q ids routes trips services places types types_of routes_of visits (Ok t') (Ok x') e k a b d v h =
-    let parts : FeedParts = record { stop_ids = ids; places = places; trip_ids = trips; services = services; route_types = types_of; route_ids = routes; routes = routes_of; stop_times = visits } in
-    subst (λ z. IsFeedOf z parts)
-    (sym (whole s r t' x' t x q ids routes trips places b.0 e d.0 a.0 a.1 k ∙ ap (λ z. unless z (record { stops = s; routes = r; trips = t'; stop_times = x' })) h))
-    (is_feed s r t' x' ids routes trips services places types types_of routes_of visits a b d v)
-all_tables (Ok s) (Ok r) t x q ids routes trips services places types types_of routes_of visits (Ok t') (Err z) e k a b d v h = absurd v
-all_tables (Ok s) (Ok r) t x q ids routes trips services places types types_of routes_of visits (Err z) rows e k a b d v h = absurd d
-all_tables (Ok s) (Err z) t x q ids routes trips services places types types_of routes_of visits found rows e k a b d v h = absurd b
-all_tables (Err z) r t x q ids routes trips services places types types_of routes_of visits found rows e k a b d v h = absurd a
+abbrev TimesBy : Type 0
+TimesBy = (trips stops : List (List ℕ)) (places : List ℕ) → Result Records FeedFault
+
+abbrev FrequenciesBy : Type 0
+FrequenciesBy = List (List ℕ) → Result Loaded FeedFault
+
+-- the steps of the tables
+abbrev frequencies_step : (q : FrequenciesBy) (s r t x : Records) → Result Tables FeedFault
+frequencies_step q s r t x = and_then (q (trip_ids t)) (λ l. Ok (record { stops = s; routes = r; trips = t; stop_times = x; frequencies = l }))
+
+abbrev times_step : (x : TimesBy) (q : FrequenciesBy) (s r t : Records) → Result Tables FeedFault
+times_step x q s r t = and_then (x (trip_ids t) (stop_ids s) (stop_places s)) (frequencies_step q s r t)
+
+abbrev trips_step : (t : TripsBy) (x : TimesBy) (q : FrequenciesBy) (s r : Records) → Result Tables FeedFault
+trips_step t x q s r = and_then (t (route_ids r)) (times_step x q s r)
+
+abbrev routes_step : (r : Result Records FeedFault) (t : TripsBy) (x : TimesBy) (q : FrequenciesBy) (s : Records) → Result Tables FeedFault
+routes_step r t x q s = and_then r (trips_step t x q s)
+
+module _ (s r : Result Records FeedFault) (t : TripsBy) (x : TimesBy) (q : FrequenciesBy) where
+  stops_stop : (f : FeedFault) → s ≡ Err f → tables_by s r t x q ≡ Err f
+  stops_stop f h = stop s f (routes_step r t x q) h
+
+  module _ (ids routes trips services : List (List ℕ)) (places types types_of routes_of : List ℕ) (a : AreStops s ids places) where
+    routes_stop : (f : FeedFault) → r ≡ Err f → tables_by s r t x q ≡ Err f
+    routes_stop f h =
+        let s' = found (λ z. AreStops z ids places) (λ e n. n) s a in
+        after s s'.0 (routes_step r t x q) s'.1 ∙ stop r f (trips_step t x q s'.0) h
+
+    module _ (b : AreRoutes r routes types) where
+      up_to_trips : (s' r' : Records) → s ≡ Ok s' → r ≡ Ok r' → tables_by s r t x q ≡ trips_step t x q s' r'
+      up_to_trips s' r' e k = after s s' (routes_step r t x q) e ∙ after r r' (trips_step t x q s') k
+
+      trips_stop : (f : FeedFault) → t routes ≡ Err f → tables_by s r t x q ≡ Err f
+      trips_stop f h =
+          let s' = found (λ z. AreStops z ids places) (λ e n. n) s a in
+          let r' = found (λ z. AreRoutes z routes types) (λ e n. n) r b in
+          up_to_trips s'.0 r'.0 s'.1 r'.1 ∙ stop (t (route_ids r'.0)) f (times_step x q s'.0 r'.0) (ap t (sym r'.2.0) ∙ h)
+
+      module _ (d : AreTrips routes types (t routes) trips services types_of routes_of) where
+        -- the tables up to the trips, and what they tell of the stop times
+        record ReadTrips : Type 0 where
+          stops : Records
+          routes_read : Records
+          trips_read : Records
+          stops_are : AreStops (Ok stops) ids places
+          routes_are : AreRoutes (Ok routes_read) routes types
+          trips_are : AreTrips routes types (Ok trips_read) trips services types_of routes_of
+          is : tables_by s r t x q ≡ times_step x q stops routes_read trips_read
+          times : x (trip_ids trips_read) (stop_ids stops) (stop_places stops) ≡ x trips ids places
+
+        same_times : (trips' stops' : List (List ℕ)) (places' : List ℕ) → trips ≡ trips' → ids ≡ stops' → places ≡ places' → x trips' stops' places' ≡ x trips ids places
+        same_times trips' stops' places' e k l = sym (ap₂ (λ u v. x u v places) e k ∙ ap (λ w. x trips' stops' w) l)
+
+        read_trips : ReadTrips
+        read_trips =
+            let s' = found (λ z. AreStops z ids places) (λ e n. n) s a in
+            let r' = found (λ z. AreRoutes z routes types) (λ e n. n) r b in
+            let t' = found (λ z. AreTrips routes types z trips services types_of routes_of) (λ e n. n) (t routes) d in
+            record {
+              stops = s'.0;
+              routes_read = r'.0;
+              trips_read = t'.0;
+              stops_are = s'.2;
+              routes_are = r'.2;
+              trips_are = t'.2;
+              is = up_to_trips s'.0 r'.0 s'.1 r'.1 ∙ after (t (route_ids r'.0)) t'.0 (times_step x q s'.0 r'.0) (ap t (sym r'.2.0) ∙ t'.1);
+              times = same_times (trip_ids t'.0) (stop_ids s'.0) (stop_places s'.0) t'.2.0 s'.2.0 s'.2.1;
+            }
+
+        times_stop : (f : FeedFault) → x trips ids places ≡ Err f → tables_by s r t x q ≡ Err f
+        times_stop f h =
+            let w = read_trips in
+            w.is ∙ stop (x (trip_ids w.trips_read) (stop_ids w.stops) (stop_places w.stops)) f (frequencies_step q w.stops w.routes_read w.trips_read) (w.times ∙ h)
+
+        module _ (visits : List (List StopRow)) (v : AreVisits trips ids places (x trips ids places) visits) where
+          up_to_frequencies : (x' : Records) → x trips ids places ≡ Ok x'
+              → tables_by s r t x q ≡ frequencies_step q read_trips.stops read_trips.routes_read read_trips.trips_read x'
+          unfolding read_trips
+          up_to_frequencies x' h =
+              let w = read_trips in
+              w.is ∙ after (x (trip_ids w.trips_read) (stop_ids w.stops) (stop_places w.stops)) x' (frequencies_step q w.stops w.routes_read w.trips_read) (w.times ∙ h)
+
+          frequencies_stop : (f : FeedFault) → q trips ≡ Err f → tables_by s r t x q ≡ Err f
+          frequencies_stop f h =
+              let w = read_trips in
+              let x' = found (λ z. AreVisits trips ids places z visits) (λ e n. n) (x trips ids places) v in
+              up_to_frequencies x'.0 x'.1
+              ∙ stop (q (trip_ids w.trips_read)) f (λ l. Ok (record { stops = w.stops; routes = w.routes_read; trips = w.trips_read; stop_times = x'.0; frequencies = l }))
+              (ap q (sym w.trips_are.0) ∙ h)
+
+          all_tables : (rows : List (List FrequencyRow)) → AreFrequencies trips (q trips) rows
+              → IsFeedOf (tables_by s r t x q) (record {
+                stop_ids = ids;
+                places = places;
+                trip_ids = trips;
+                services = services;
+                route_types = types_of;
+                route_ids = routes;
+                routes = routes_of;
+                stop_times = visits;
+                frequencies = rows;
+              })
+          all_tables rows u =
+              let w = read_trips in
+              let x' = found (λ z. AreVisits trips ids places z visits) (λ e n. n) (x trips ids places) v in
+              let q' = found (λ z. AreFrequencies trips z rows) (λ e n. n) (q trips) u in
+              let parts : FeedParts = record {
+                stop_ids = ids;
+                places = places;
+                trip_ids = trips;
+                services = services;
+                route_types = types_of;
+                route_ids = routes;
+                routes = routes_of;
+                stop_times = visits;
+                frequencies = rows;
+              } in
+              subst (λ z. IsFeedOf z parts)
+              (sym (up_to_frequencies x'.0 x'.1
+              ∙ after (q (trip_ids w.trips_read)) q'.0 (λ l. Ok (record { stops = w.stops; routes = w.routes_read; trips = w.trips_read; stop_times = x'.0; frequencies = l }))
+              (ap q (sym w.trips_are.0) ∙ q'.1)))
+              (is_feed w.stops w.routes_read w.trips_read x'.0 q'.0 ids routes trips services places types types_of routes_of visits rows
+              w.stops_are w.routes_are w.trips_are x'.2 q'.2)
 
 -- the same of a folder, where it is told
 module _ (folder : List ℕ) (limits : Limits) where
@@ -149,90 +216,112 @@ module _ (folder : List ℕ) (limits : Limits) where
   fault_at_stops (Some m) f h = λ free. let load = load_in m folder limits (unread_of f) in
       stops_stop (stops_from (load Stops)) (routes_from (load Routes)) (trips_from (load Trips)) (stop_times_from (load StopTimes)) (frequencies_from (load Frequencies)) f (h free)
 
-  pub fault_at_routes : (o : Option Folder) (f : FeedFault) (ids : List (List ℕ)) (places : List ℕ) → IsFaultOf Routes f
-      → IfSome o (λ m. AreStops (stops_from (load_in m folder limits None Stops)) ids places)
-      → IfSome o (λ m. f ≢ NoMemory → routes_from (load_in m folder limits (unread_of f) Routes) ≡ Err f)
-      → IfSome o (λ m. f ≢ NoMemory → tables_in m folder limits (unread_of f) ≡ Err f)
-  unfolding tables_in
-  fault_at_routes None f ids places own a h = tt
-  fault_at_routes (Some m) f ids places own a h = λ free. let load = load_in m folder limits (unread_of f) in
-      routes_stop (stops_from (load Stops)) (routes_from (load Routes)) (trips_from (load Trips)) (stop_times_from (load StopTimes)) (frequencies_from (load Frequencies)) f ids places
-      (subst (λ z. AreStops (stops_from z) ids places) (sym (other_load m folder limits f Routes Stops own refl)) a) (h free)
+  module _ (ids routes trips services : List (List ℕ)) (places types types_of routes_of : List ℕ) where
+    pub fault_at_routes : (o : Option Folder) (f : FeedFault) → IsFaultOf Routes f
+        → IfSome o (λ m. AreStops (stops_from (load_in m folder limits None Stops)) ids places)
+        → IfSome o (λ m. f ≢ NoMemory → routes_from (load_in m folder limits (unread_of f) Routes) ≡ Err f)
+        → IfSome o (λ m. f ≢ NoMemory → tables_in m folder limits (unread_of f) ≡ Err f)
+    unfolding tables_in
+    fault_at_routes None f own a h = tt
+    fault_at_routes (Some m) f own a h = λ free. let load = load_in m folder limits (unread_of f) in
+        routes_stop (stops_from (load Stops)) (routes_from (load Routes)) (trips_from (load Trips)) (stop_times_from (load StopTimes)) (frequencies_from (load Frequencies))
+        ids routes trips services places types types_of routes_of (subst (λ z. AreStops (stops_from z) ids places) (sym (other_load m folder limits f Routes Stops own refl)) a) f (h free)
 
-  pub fault_at_trips : (o : Option Folder) (f : FeedFault) (ids routes : List (List ℕ)) (places types : List ℕ) → IsFaultOf Trips f
-      → IfSome o (λ m. AreStops (stops_from (load_in m folder limits None Stops)) ids places)
-      → IfSome o (λ m. AreRoutes (routes_from (load_in m folder limits None Routes)) routes types)
-      → IfSome o (λ m. f ≢ NoMemory → trips_from (load_in m folder limits (unread_of f) Trips) routes ≡ Err f)
-      → IfSome o (λ m. f ≢ NoMemory → tables_in m folder limits (unread_of f) ≡ Err f)
-  unfolding tables_in
-  fault_at_trips None f ids routes places types own a b h = tt
-  fault_at_trips (Some m) f ids routes places types own a b h = λ free. let load = load_in m folder limits (unread_of f) in
-      trips_stop (stops_from (load Stops)) (routes_from (load Routes)) (trips_from (load Trips)) (stop_times_from (load StopTimes)) (frequencies_from (load Frequencies)) f ids routes
-      places types
-      (subst (λ z. AreStops (stops_from z) ids places) (sym (other_load m folder limits f Trips Stops own refl)) a)
-      (subst (λ z. AreRoutes (routes_from z) routes types) (sym (other_load m folder limits f Trips Routes own refl)) b) (h free)
+    pub fault_at_trips : (o : Option Folder) (f : FeedFault) → IsFaultOf Trips f
+        → IfSome o (λ m. AreStops (stops_from (load_in m folder limits None Stops)) ids places)
+        → IfSome o (λ m. AreRoutes (routes_from (load_in m folder limits None Routes)) routes types)
+        → IfSome o (λ m. f ≢ NoMemory → trips_from (load_in m folder limits (unread_of f) Trips) routes ≡ Err f)
+        → IfSome o (λ m. f ≢ NoMemory → tables_in m folder limits (unread_of f) ≡ Err f)
+    unfolding tables_in
+    fault_at_trips None f own a b h = tt
+    fault_at_trips (Some m) f own a b h = λ free. let load = load_in m folder limits (unread_of f) in
+        trips_stop (stops_from (load Stops)) (routes_from (load Routes)) (trips_from (load Trips)) (stop_times_from (load StopTimes)) (frequencies_from (load Frequencies))
+        ids routes trips services places types types_of routes_of
+        (subst (λ z. AreStops (stops_from z) ids places) (sym (other_load m folder limits f Trips Stops own refl)) a)
+        (subst (λ z. AreRoutes (routes_from z) routes types) (sym (other_load m folder limits f Trips Routes own refl)) b) f (h free)
 
-  pub fault_at_times : (o : Option Folder) (f : FeedFault) (ids routes trips services : List (List ℕ)) (places types types_of routes_of : List ℕ) → IsFaultOf StopTimes f
-      → IfSome o (λ m. AreStops (stops_from (load_in m folder limits None Stops)) ids places)
-      → IfSome o (λ m. AreRoutes (routes_from (load_in m folder limits None Routes)) routes types)
-      → IfSome o (λ m. AreTrips routes types (trips_from (load_in m folder limits None Trips) routes) trips services types_of routes_of)
-      → IfSome o (λ m. f ≢ NoMemory → stop_times_from (load_in m folder limits (unread_of f) StopTimes) trips ids places ≡ Err f)
-      → IfSome o (λ m. f ≢ NoMemory → tables_in m folder limits (unread_of f) ≡ Err f)
-  unfolding tables_in
-  fault_at_times None f ids routes trips services places types types_of routes_of own a b d h = tt
-  fault_at_times (Some m) f ids routes trips services places types types_of routes_of own a b d h = λ free. let load = load_in m folder limits (unread_of f) in
-      times_stop (stops_from (load Stops)) (routes_from (load Routes)) (trips_from (load Trips)) (stop_times_from (load StopTimes)) (frequencies_from (load Frequencies)) f ids routes trips
-      services places types types_of routes_of (trips_from (load_in m folder limits None Trips) routes) (ap (λ z. trips_from z routes) (other_load m folder limits f StopTimes Trips own refl))
-      (subst (λ z. AreStops (stops_from z) ids places) (sym (other_load m folder limits f StopTimes Stops own refl)) a)
-      (subst (λ z. AreRoutes (routes_from z) routes types) (sym (other_load m folder limits f StopTimes Routes own refl)) b) d (h free)
+    pub fault_at_times : (o : Option Folder) (f : FeedFault) → IsFaultOf StopTimes f
+        → IfSome o (λ m. AreStops (stops_from (load_in m folder limits None Stops)) ids places)
+        → IfSome o (λ m. AreRoutes (routes_from (load_in m folder limits None Routes)) routes types)
+        → IfSome o (λ m. AreTrips routes types (trips_from (load_in m folder limits None Trips) routes) trips services types_of routes_of)
+        → IfSome o (λ m. f ≢ NoMemory → stop_times_from (load_in m folder limits (unread_of f) StopTimes) trips ids places ≡ Err f)
+        → IfSome o (λ m. f ≢ NoMemory → tables_in m folder limits (unread_of f) ≡ Err f)
+    unfolding tables_in
+    fault_at_times None f own a b d h = tt
+    fault_at_times (Some m) f own a b d h = λ free. let load = load_in m folder limits (unread_of f) in
+        times_stop (stops_from (load Stops)) (routes_from (load Routes)) (trips_from (load Trips)) (stop_times_from (load StopTimes)) (frequencies_from (load Frequencies))
+        ids routes trips services places types types_of routes_of
+        (subst (λ z. AreStops (stops_from z) ids places) (sym (other_load m folder limits f StopTimes Stops own refl)) a)
+        (subst (λ z. AreRoutes (routes_from z) routes types) (sym (other_load m folder limits f StopTimes Routes own refl)) b)
+        (subst (λ z. AreTrips routes types (trips_from z routes) trips services types_of routes_of) (sym (other_load m folder limits f StopTimes Trips own refl)) d) f (h free)
 
-  pub fault_at_frequencies : (o : Option Folder) (f : FeedFault) (ids routes trips services : List (List ℕ)) (places types types_of routes_of : List ℕ) (visits : List (List StopRow))
-      → IsFaultOf Frequencies f
-      → IfSome o (λ m. AreStops (stops_from (load_in m folder limits None Stops)) ids places)
-      → IfSome o (λ m. AreRoutes (routes_from (load_in m folder limits None Routes)) routes types)
-      → IfSome o (λ m. AreTrips routes types (trips_from (load_in m folder limits None Trips) routes) trips services types_of routes_of)
-      → IfSome o (λ m. AreVisits trips ids places (stop_times_from (load_in m folder limits None StopTimes) trips ids places) visits)
-      → IfSome o (λ m. f ≢ NoMemory → frequencies_from (load_in m folder limits (unread_of f) Frequencies) ≡ Some f)
-      → IfSome o (λ m. f ≢ NoMemory → tables_in m folder limits (unread_of f) ≡ Err f)
-  unfolding tables_in
-  fault_at_frequencies None f ids routes trips services places types types_of routes_of visits own a b d v h = tt
-  fault_at_frequencies (Some m) f ids routes trips services places types types_of routes_of visits own a b d v h = λ free. let load = load_in m folder limits (unread_of f) in
-      frequencies_stop (stops_from (load Stops)) (routes_from (load Routes)) (trips_from (load Trips)) (stop_times_from (load StopTimes)) (frequencies_from (load Frequencies)) f ids routes
-      trips services places types types_of routes_of visits (trips_from (load_in m folder limits None Trips) routes)
-      (stop_times_from (load_in m folder limits None StopTimes) trips ids places)
-      (ap (λ z. trips_from z routes) (other_load m folder limits f Frequencies Trips own refl))
-      (ap (λ z. stop_times_from z trips ids places) (other_load m folder limits f Frequencies StopTimes own refl))
-      (subst (λ z. AreStops (stops_from z) ids places) (sym (other_load m folder limits f Frequencies Stops own refl)) a)
-      (subst (λ z. AreRoutes (routes_from z) routes types) (sym (other_load m folder limits f Frequencies Routes own refl)) b) d v (h free)
+    module _ (visits : List (List StopRow)) where
+      pub fault_at_frequencies : (o : Option Folder) (f : FeedFault) → IsFaultOf Frequencies f
+          → IfSome o (λ m. AreStops (stops_from (load_in m folder limits None Stops)) ids places)
+          → IfSome o (λ m. AreRoutes (routes_from (load_in m folder limits None Routes)) routes types)
+          → IfSome o (λ m. AreTrips routes types (trips_from (load_in m folder limits None Trips) routes) trips services types_of routes_of)
+          → IfSome o (λ m. AreVisits trips ids places (stop_times_from (load_in m folder limits None StopTimes) trips ids places) visits)
+          → IfSome o (λ m. f ≢ NoMemory → frequencies_from (load_in m folder limits (unread_of f) Frequencies) trips ≡ Err f)
+          → IfSome o (λ m. f ≢ NoMemory → tables_in m folder limits (unread_of f) ≡ Err f)
+      unfolding tables_in
+      fault_at_frequencies None f own a b d v h = tt
+      fault_at_frequencies (Some m) f own a b d v h = λ free. let load = load_in m folder limits (unread_of f) in
+          frequencies_stop (stops_from (load Stops)) (routes_from (load Routes)) (trips_from (load Trips)) (stop_times_from (load StopTimes)) (frequencies_from (load Frequencies))
+          ids routes trips services places types types_of routes_of
+          (subst (λ z. AreStops (stops_from z) ids places) (sym (other_load m folder limits f Frequencies Stops own refl)) a)
+          (subst (λ z. AreRoutes (routes_from z) routes types) (sym (other_load m folder limits f Frequencies Routes own refl)) b)
+          (subst (λ z. AreTrips routes types (trips_from z routes) trips services types_of routes_of) (sym (other_load m folder limits f Frequencies Trips own refl)) d)
+          visits (subst (λ z. AreVisits trips ids places (stop_times_from z trips ids places) visits) (sym (other_load m folder limits f Frequencies StopTimes own refl)) v) f (h free)
 
-  pub feed_of_tables : (o : Option Folder) (ids routes trips services : List (List ℕ)) (places types types_of routes_of : List ℕ) (visits : List (List StopRow))
-      → IfSome o (λ m. AreStops (stops_from (load_in m folder limits None Stops)) ids places)
-      → IfSome o (λ m. AreRoutes (routes_from (load_in m folder limits None Routes)) routes types)
-      → IfSome o (λ m. AreTrips routes types (trips_from (load_in m folder limits None Trips) routes) trips services types_of routes_of)
-      → IfSome o (λ m. AreVisits trips ids places (stop_times_from (load_in m folder limits None StopTimes) trips ids places) visits)
-      → IfSome o (λ m. frequencies_from (load_in m folder limits None Frequencies) ≡ None)
-      → IfSome o (λ m. IsFeedOf (tables_in m folder limits None)
-      (record { stop_ids = ids; places = places; trip_ids = trips; services = services; route_types = types_of; route_ids = routes; routes = routes_of; stop_times = visits }))
-  unfolding tables_in
-  feed_of_tables None ids routes trips services places types types_of routes_of visits a b d v h = tt
-  feed_of_tables (Some m) ids routes trips services places types types_of routes_of visits a b d v h = let load = load_in m folder limits None in
-      all_tables (stops_from (load Stops)) (routes_from (load Routes)) (trips_from (load Trips)) (stop_times_from (load StopTimes)) (frequencies_from (load Frequencies)) ids routes trips
-      services places types types_of routes_of visits (trips_from (load Trips) routes) (stop_times_from (load StopTimes) trips ids places) refl refl a b d v h
+      pub feed_of_tables : (o : Option Folder) (rows : List (List FrequencyRow))
+          → IfSome o (λ m. AreStops (stops_from (load_in m folder limits None Stops)) ids places)
+          → IfSome o (λ m. AreRoutes (routes_from (load_in m folder limits None Routes)) routes types)
+          → IfSome o (λ m. AreTrips routes types (trips_from (load_in m folder limits None Trips) routes) trips services types_of routes_of)
+          → IfSome o (λ m. AreVisits trips ids places (stop_times_from (load_in m folder limits None StopTimes) trips ids places) visits)
+          → IfSome o (λ m. AreFrequencies trips (frequencies_from (load_in m folder limits None Frequencies) trips) rows)
+          → IfSome o (λ m. IsFeedOf (tables_in m folder limits None) (record {
+            stop_ids = ids;
+            places = places;
+            trip_ids = trips;
+            services = services;
+            route_types = types_of;
+            route_ids = routes;
+            routes = routes_of;
+            stop_times = visits;
+            frequencies = rows;
+          }))
+      unfolding tables_in
+      feed_of_tables None rows a b d v u = tt
+      feed_of_tables (Some m) rows a b d v u = let load = load_in m folder limits None in
+          all_tables (stops_from (load Stops)) (routes_from (load Routes)) (trips_from (load Trips)) (stop_times_from (load StopTimes)) (frequencies_from (load Frequencies))
+          ids routes trips services places types types_of routes_of a b d visits v rows u
 
 -- whatever the files tell
-pub sound_feed : (ids routes trips services : List (List ℕ)) (places types types_of routes_of : List ℕ) (visits : List (List StopRow))
+pub sound_feed : (ids routes trips services : List (List ℕ)) (places types types_of routes_of : List ℕ) (visits : List (List StopRow)) (rows : List (List FrequencyRow))
     → IsSound stops_fault (λ t. AreStops (Ok t) ids places) → IsSound routes_fault (λ t. AreRoutes (Ok t) routes types)
     → IsSound (trips_fault routes) (λ t. AreTrips routes types (Ok t) trips services types_of routes_of)
     → IsSound (stop_times_fault trips ids places) (λ t. AreVisits trips ids places (Ok t) visits)
-    → IsSoundFeed (record { stop_ids = ids; places = places; trip_ids = trips; services = services; route_types = types_of; route_ids = routes; routes = routes_of; stop_times = visits })
-sound_feed ids routes trips services places types types_of routes_of visits s r t x = record {
-  tables = record { stops = s.0; routes = r.0; trips = t.0; stop_times = x.0 };
+    → IsSound (fault_of_frequencies trips) (λ l. AreFrequencies trips (Ok l) rows)
+    → IsSoundFeed (record {
+      stop_ids = ids;
+      places = places;
+      trip_ids = trips;
+      services = services;
+      route_types = types_of;
+      route_ids = routes;
+      routes = routes_of;
+      stop_times = visits;
+      frequencies = rows;
+    })
+sound_feed ids routes trips services places types types_of routes_of visits rows s r t x q = record {
+  tables = record { stops = s.0; routes = r.0; trips = t.0; stop_times = x.0; frequencies = q.0 };
   stops = s.1;
   routes = r.1;
   trips = ap (λ z. trips_fault z t.0) (sym r.2.0) ∙ t.1;
   stop_times =
       sym (ap₂ (λ u w. stop_times_fault u w places x.0) t.2.0 s.2.0 ∙ ap (λ w. stop_times_fault (trip_ids t.0) (stop_ids s.0) w x.0) s.2.1) ∙ x.1;
-  feed = is_feed s.0 r.0 t.0 x.0 ids routes trips services places types types_of routes_of visits s.2 r.2 t.2 x.2;
+  frequencies = ap (λ z. fault_of_frequencies z q.0) (sym t.2.0) ∙ q.1;
+  feed = is_feed s.0 r.0 t.0 x.0 q.0 ids routes trips services places types types_of routes_of visits rows s.2 r.2 t.2 x.2 q.2;
 }
 
 -- a step with no fault leaves the count

@@ -3,9 +3,12 @@ pub mod StopLemmas
 pub mod RouteLemmas
 pub mod TripLemmas
 pub mod TimeLemmas
+pub mod FrequencyLemmas
+pub mod RepeatLemmas
 pub mod BackLemmas
 pub mod VisitLemmas
 pub mod FeedLemmas
 pub mod RowForms
 pub mod Beside
 pub mod FeedFacts
+pub mod RepeatFacts

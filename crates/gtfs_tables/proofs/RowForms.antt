@@ -78,7 +78,7 @@ of_below k t n e =
     let hour = value_of (take k t) in let minute = value_of (take 2 (drop (k + 1) t)) in let second = value_of (take 2 (drop (k + 4) t)) in
     seconds_below hour minute second n (if_cases (has_marks k t) (seconds_at hour minute second) n e).1
 
-time_below : (text : List ℕ) (n : ℕ) → time_at text ≡ Some n → n < 604800
+pub time_below : (text : List ℕ) (n : ℕ) → time_at text ≡ Some n → n < 604800
 time_below text n e =
     of_below (length text - 6) text n (if_cases (nat_le 7 (length text) && nat_le (length text) 9) (time_of (length text - 6) text) n e).1
 

@@ -1,8 +1,10 @@
 -- The parts of a feed.
 use Rattle.std.specs.Prelude.{◌≡◌, ◌<◌, ◌≤◌, length, map, vec_items, All}
+use Rattle.std.specs.List.Sorted.{IsNonDecreasing}
 use Rattle.plan_model.specs.NameLists.{texts}
 use Rattle.gtfs_tables.specs.declared.feed.Feed.TheInside.{Inside}
 use Rattle.gtfs_tables.specs.Feeds.{FeedParts, IsSoundFeed}
+use Rattle.gtfs_tables.specs.Repeats.{all_repeats_in}
 
 abbrev pub parts_of : Inside → FeedParts
 parts_of f = record {
@@ -14,9 +16,11 @@ parts_of f = record {
   route_ids = f.routes.ids;
   routes = f.trips.of_trips.routes.items;
   stop_times = map vec_items f.visits.items;
+  frequencies = all_repeats_in f.repeats.trips.items f.repeats.rows.items (length f.trips.ids);
 }
 
--- each stop has a place, each trip has a service, a type, one of the routes and its rows, there are no more than tables may have, and the parts are a feed
+-- each stop has a place, each trip has a service, a type, one of the routes and its rows, the rows of frequencies are in the order of
+-- their trips, there are no more than tables may have, and the parts are a feed
 pub record IsWhole (f : Inside) : Type 0 where
   pub places : length f.stops.places.items ≡ length f.stops.ids
   pub services : length f.trips.of_trips.services.items ≡ length f.trips.ids
@@ -24,6 +28,8 @@ pub record IsWhole (f : Inside) : Type 0 where
   pub routes : length f.trips.of_trips.routes.items ≡ length f.trips.ids
   pub known : All (λ route. route < length f.routes.ids) f.trips.of_trips.routes.items
   pub visits : length f.visits.items ≡ length f.trips.ids
+  pub ordered : IsNonDecreasing f.repeats.trips.items
+  pub paired : length f.repeats.rows.items ≡ length f.repeats.trips.items
   pub few_stops : length f.stops.ids ≤ 1048576
   pub few_trips : length f.trips.ids ≤ 4194304
   pub sound : IsSoundFeed (parts_of f)

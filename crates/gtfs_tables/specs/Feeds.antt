@@ -1,25 +1,27 @@
 -- The feed of a folder, or the first of its faults: the tables come in their order, and each is whole before the next is looked at.
-use Rattle.std.specs.Prelude.{◌≡◌, ℕ, ◌<◌, ◌==◌, List, [], length, slice_index_or, Option, Some, None, Result, Ok, Err, IfSome, if◌then◌else◌}
+use Rattle.std.specs.Prelude.{◌≡◌, ℕ, ◌<◌, List, [], length, slice_index_or, Option, None, Result, Ok, Err, IfSome}
 use Rattle.file_ports.specs.Ports.{Folder}
 use Rattle.csv_rows.specs.declared.columns.Column.{Column}
 use Rattle.csv_rows.specs.declared.columns.Column.TheVariants.{StopId, RouteId, TripId}
 use Rattle.csv_rows.specs.declared.feed_tables.Table.{Table}
-use Rattle.csv_rows.specs.declared.feed_tables.Table.TheVariants.{Stops, Routes, Trips, StopTimes, Frequencies}
+use Rattle.csv_rows.specs.declared.feed_tables.Table.TheVariants.{Stops, Routes, Trips, StopTimes, Frequencies, Calendar, CalendarDates, Transfers}
 use Rattle.csv_rows.specs.declared.feed_tables.FeedFault.{FeedFault}
-use Rattle.csv_rows.specs.declared.feed_tables.FeedFault.TheVariants.{MissingTable, MissingColumn, FrequencyRows}
+use Rattle.csv_rows.specs.declared.feed_tables.FeedFault.TheVariants.{MissingTable, MissingColumn}
 use Rattle.csv_rows.specs.declared.limits.Limits.{Limits}
 use Rattle.csv_rows.specs.declared.loading.Loaded.{Loaded}
 use Rattle.csv_rows.specs.declared.loading.Loaded.TheVariants.{Absent, NoRecord, Found}
 use Rattle.csv_rows.specs.FeedTables.{table_of_fault}
-use Rattle.csv_rows.specs.Loading.{load_in}
+use Rattle.csv_rows.specs.Loading.{load_in, loaded_rows}
 use Rattle.csv_rows.specs.RowFaults.{and_then, unless}
 use Rattle.csv_rows.specs.Tables.{row_count}
+use Rattle.gtfs_tables.specs.declared.frequencies.FrequencyRow.{FrequencyRow}
 use Rattle.gtfs_tables.specs.declared.stop_times.StopRow.{StopRow}
 use Rattle.gtfs_tables.specs.Stops.{stop_ids, stop_places, stops_fault}
 use Rattle.gtfs_tables.specs.Routes.{route_ids, route_types, routes_fault}
 use Rattle.gtfs_tables.specs.Trips.{trip_ids, trip_routes, trip_services, trip_types, trips_fault}
 use Rattle.gtfs_tables.specs.StopTimes.{timed_rows, stop_times_fault}
 use Rattle.gtfs_tables.specs.Visits.{AreStopTimes}
+use Rattle.gtfs_tables.specs.Frequencies.{frequency_rows, fault_of_frequencies, all_repeats_of}
 
 -- the records of a table
 abbrev pub Records : Type 0
@@ -45,12 +47,9 @@ trips_from loaded routes = and_then (required Trips RouteId loaded) (λ t. unles
 abbrev pub stop_times_from : Result Loaded FeedFault → (trips stops : List (List ℕ)) (places : List ℕ) → Result Records FeedFault
 stop_times_from loaded trips stops places = and_then (required StopTimes TripId loaded) (λ t. unless (stop_times_fault trips stops places t) t)
 
--- a table of frequencies may be there, but has no row
-abbrev pub frequencies_from : Result Loaded FeedFault → Option FeedFault
-frequencies_from (Ok Absent) = None
-frequencies_from (Ok NoRecord) = None
-frequencies_from (Ok (Found t)) = if row_count t == 0 then None else Some FrequencyRows
-frequencies_from (Err fault) = Some fault
+-- the frequencies may be absent, or have no record
+abbrev pub frequencies_from : Result Loaded FeedFault → List (List ℕ) → Result Loaded FeedFault
+frequencies_from loaded trips = and_then loaded (λ l. unless (fault_of_frequencies trips l) l)
 
 -- the tables of a feed
 pub record Tables : Type 0 where
@@ -58,16 +57,19 @@ pub record Tables : Type 0 where
   pub routes : Records
   pub trips : Records
   pub stop_times : Records
+  pub frequencies : Loaded
 
 -- the tables one after the other
 abbrev pub tables_by : (stops routes : Result Records FeedFault) (trips : List (List ℕ) → Result Records FeedFault)
-    (stop_times : (trips stops : List (List ℕ)) (places : List ℕ) → Result Records FeedFault) (frequencies : Option FeedFault) → Result Tables FeedFault
+    (stop_times : (trips stops : List (List ℕ)) (places : List ℕ) → Result Records FeedFault) (frequencies : List (List ℕ) → Result Loaded FeedFault)
+    → Result Tables FeedFault
 tables_by stops routes trips stop_times frequencies =
     and_then stops (λ s.
     and_then routes (λ r.
     and_then (trips (route_ids r)) (λ t.
     and_then (stop_times (trip_ids t) (stop_ids s) (stop_places s)) (λ x.
-    unless frequencies (record { stops = s; routes = r; trips = t; stop_times = x })))))
+    and_then (frequencies (trip_ids t)) (λ q.
+    Ok (record { stops = s; routes = r; trips = t; stop_times = x; frequencies = q }))))))
 
 abbrev pub tables_from : (Table → Result Loaded FeedFault) → Result Tables FeedFault
 tables_from load =
@@ -78,7 +80,7 @@ unfoldable pub tables_in : Folder → List ℕ → Limits → Option Table → R
 tables_in files folder limits unread = tables_from (load_in files folder limits unread)
 
 -- a feed: the ids and places of its stops, the ids of its routes, the ids, services and route types of its trips and the number of
--- the route of each, and the kept rows of each trip
+-- the route of each, and the kept rows and the rows of frequencies of each trip
 pub record FeedParts : Type 0 where
   pub stop_ids : List (List ℕ)
   pub places : List ℕ
@@ -88,6 +90,7 @@ pub record FeedParts : Type 0 where
   pub route_ids : List (List ℕ)
   pub routes : List ℕ
   pub stop_times : List (List StopRow)
+  pub frequencies : List (List FrequencyRow)
 
 -- the feed of these tables
 pub record IsFeed (t : Tables) (f : FeedParts) : Type 0 where
@@ -101,6 +104,7 @@ pub record IsFeed (t : Tables) (f : FeedParts) : Type 0 where
   pub size : length f.stop_times ≡ row_count t.trips
   pub times : (trip : ℕ) → trip < row_count t.trips
       → AreStopTimes (timed_rows (trip_ids t.trips) (stop_ids t.stops) (stop_places t.stops) t.stop_times) trip (slice_index_or f.stop_times trip [])
+  pub frequencies_of_trips : f.frequencies ≡ all_repeats_of (frequency_rows (trip_ids t.trips) (loaded_rows t.frequencies)) (row_count t.trips)
 
 -- there is a feed, and this is it
 abbrev pub IsFeedOf : Result Tables FeedFault → FeedParts → Type 0
@@ -126,9 +130,13 @@ AreVisits trips stops places (Ok t) visits =
     (length visits ≡ length trips) × ((trip : ℕ) → trip < length trips → AreStopTimes (timed_rows trips stops places t) trip (slice_index_or visits trip []))
 AreVisits trips stops places (Err fault) visits = ⊥
 
+abbrev pub AreFrequencies : (trips : List (List ℕ)) → Result Loaded FeedFault → List (List FrequencyRow) → Type 0
+AreFrequencies trips (Ok l) rows = rows ≡ all_repeats_of (frequency_rows trips (loaded_rows l)) (length trips)
+AreFrequencies trips (Err fault) rows = ⊥
+
 -- it is so of a table that has no fault
-abbrev pub IsSound : (Records → Option FeedFault) → (Records → Type 0) → Type 0
-IsSound fault is = (t : Records) × (fault t ≡ None) × is t
+abbrev pub IsSound : {T : Type 0} → (T → Option FeedFault) → (T → Type 0) → Type 0
+IsSound {T} fault is = (t : T) × (fault t ≡ None) × is t
 
 -- whatever the files tell, a feed is that of some tables with no fault
 pub record IsSoundFeed (f : FeedParts) : Type 0 where
@@ -137,6 +145,7 @@ pub record IsSoundFeed (f : FeedParts) : Type 0 where
   pub routes : routes_fault tables.routes ≡ None
   pub trips : trips_fault (route_ids tables.routes) tables.trips ≡ None
   pub stop_times : stop_times_fault (trip_ids tables.trips) (stop_ids tables.stops) (stop_places tables.stops) tables.stop_times ≡ None
+  pub frequencies : fault_of_frequencies (trip_ids tables.trips) tables.frequencies ≡ None
   pub feed : IsFeed tables f
 
 -- the tables that make a feed
@@ -146,7 +155,9 @@ IsFeedTable Routes = Unit {0}
 IsFeedTable Trips = Unit {0}
 IsFeedTable StopTimes = Unit {0}
 IsFeedTable Frequencies = Unit {0}
-IsFeedTable _ = ⊥
+IsFeedTable Calendar = ⊥
+IsFeedTable CalendarDates = ⊥
+IsFeedTable Transfers = ⊥
 
 -- it is in one of these, or there was no memory
 abbrev pub IsFeedTableFault : FeedFault → Type 0

@@ -1,8 +1,11 @@
+pub mod Bounds
 pub mod Forms
 pub mod Stops
 pub mod Routes
 pub mod Trips
 pub mod StopTimes
+pub mod Frequencies
+pub mod Repeats
 pub mod Keys
 pub mod Visits
 pub mod Feeds

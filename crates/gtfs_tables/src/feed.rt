@@ -1,10 +1,12 @@
 //! A feed.
 ghost use Rattle.std.specs.Prelude.{◌≡◌};
 
+use crate::frequencies::FrequencyRow;
+use crate::repeats::Repeats;
 use crate::routes::Routes;
 use crate::stop_times::StopRow;
 use crate::stops::Stops;
-use crate::tables::{check_frequencies, load_routes, load_stop_times, load_stops, load_trips};
+use crate::tables::{load_frequencies, load_routes, load_stop_times, load_stops, load_trips};
 use crate::trips::Trips;
 use csv_rows::{FeedFault, Limits};
 use file_ports::Files;
@@ -12,14 +14,15 @@ use plan_model::PlaceId;
 use std::alloc::Global;
 use std::marker::Model;
 
-/// The stops, trips and stop times of a feed (GTFS Schedule reference). A time counts in seconds from noon minus
-/// twelve hours of the service day.
+/// The stops, trips, stop times and frequencies of a feed (GTFS Schedule reference). A time counts in seconds from noon
+/// minus twelve hours of the service day.
 #[derive(Drop)]
 pub struct Feed {
     stops: Stops,
     routes: Routes,
     trips: Trips,
     visits: Vec<Vec<StopRow>>,
+    repeats: Repeats,
 }
 
 impl Model for Feed {
@@ -42,6 +45,7 @@ impl Feed {
     ghost use Rattle.csv_rows.specs.Loading.{HasFeedCause, HasFeedPathCause};
     ghost use Rattle.csv_rows.specs.Tables.{place_in};
     ghost use Rattle.gtfs_tables.specs.Feeds.{tables_in, IsFeedOf, IsFeedTableFault, IsSoundFeed};
+    ghost use Rattle.gtfs_tables.specs.Repeats.{AreRepeating};
     ghost use Rattle.gtfs_tables.specs.Timed.{IsTimed};
 
     /// Reads the tables `stops.txt`, `routes.txt`, `trips.txt`, `stop_times.txt` and `frequencies.txt` of a folder, or
@@ -82,12 +86,13 @@ impl Feed {
             Ok(visits) => visits,
             Err(fault) => return Err(fault),
         };
-        match check_frequencies(alloc, files, folder, limits) {
-            Ok(()) => Ok(Feed {
+        match load_frequencies(alloc, files, folder, limits, &trips.ids) {
+            Ok(repeats) => Ok(Feed {
                 stops,
                 routes,
                 trips,
                 visits,
+                repeats,
             }),
             Err(fault) => Err(fault),
         }
@@ -137,6 +142,7 @@ impl Feed {
         ensures few { length self.now.trip_ids ≤ 4194304 }
         ensures sound { IsSoundFeed self.now }
         ensures timed { IsTimed self.now }
+        ensures repeats { AreRepeating self.now }
     {
         self.trips.ids.len()
     }
@@ -181,5 +187,13 @@ impl Feed {
         ensures { result.now ≡ slice_index_or self.now.stop_times trip [] }
     {
         self.visits[trip as usize].as_slice()
+    }
+
+    /// The rows of `frequencies.txt` by which a trip repeats, in the order of the file. A trip that does not repeat has none.
+    pub fn frequencies(&self, trip: u32) -> &[FrequencyRow]
+        requires { trip < length self.now.trip_ids }
+        ensures { result.now ≡ slice_index_or self.now.frequencies trip [] }
+    {
+        self.repeats.rows_of(trip)
     }
 }

@@ -1,8 +1,8 @@
-//! The forms of the fields of stops and stop times (GTFS Schedule reference).
+//! The forms of the fields of stops, stop times and frequencies (GTFS Schedule reference).
 ghost use Rattle.std.specs.Prelude.{◌≡◌, option_map};
-ghost use Rattle.gtfs_tables.specs.Forms.{is_stop_in, text_in, parent_in, allows_in, time_in};
+ghost use Rattle.gtfs_tables.specs.Forms.{is_stop_in, text_in, parent_in, allows_in, time_in, headway_in, is_exact_in};
 
-use clock_text::read_time;
+use clock_text::{read_time, read_whole};
 
 /// Whether a location is a stop or a platform, by its `location_type`.
 pub(crate) fn read_is_stop(text: &[u8]) -> Option<bool>
@@ -66,4 +66,31 @@ pub(crate) fn read_time_or_none(text: &[u8]) -> Option<Option<u32>>
         None => None,
         Some(seconds) => Some(Some(seconds)),
     }
+}
+
+/// As many seconds as there may be from one departure of a trip that repeats to the next.
+const MOST_HEADWAY: u32 = 86_400;
+
+/// The seconds from one departure to the next, which are one at least.
+pub(crate) fn read_headway(text: &[u8]) -> Option<u32>
+    ensures { result ≡ headway_in text.now }
+{
+    let headway = read_whole(text, MOST_HEADWAY)?;
+    if headway == 0 {
+        return None;
+    }
+    Some(headway)
+}
+
+/// Whether an `exact_times` tells the departures to the second.
+pub(crate) fn read_is_exact(text: &[u8]) -> Option<bool>
+    ensures { result ≡ is_exact_in text.now }
+{
+    if text.is_empty() || text == b"0".as_slice() {
+        return Some(false);
+    }
+    if text == b"1".as_slice() {
+        return Some(true);
+    }
+    None
 }

@@ -1,9 +1,11 @@
-//! The stops, routes, trips and stop times of a feed (GTFS Schedule reference).
+//! The stops, routes, trips, stop times and frequencies of a feed (GTFS Schedule reference).
 #![tactic(auto)]
 
 mod feed;
 mod forms;
+mod frequencies;
 mod keys;
+mod repeats;
 mod routes;
 mod stop_times;
 mod stops;
@@ -15,4 +17,5 @@ mod trips;
 mod visits;
 
 pub use feed::Feed;
+pub use frequencies::FrequencyRow;
 pub use stop_times::StopRow;

@@ -1,5 +1,6 @@
 //! The tables of a feed, each loaded and read.
-ghost use Rattle.std.specs.Prelude.{◌≡◌, ◌≢◌, ◌<◌, ◌≤◌, ℕ, length, map, vec_items, None, Some, Ok, Err, IfOk, IfErr, IfSome, IsSome, OnOk, All};
+ghost use Rattle.std.specs.Prelude.{◌≡◌, ◌≢◌, ◌<◌, ◌≤◌, ℕ, length, map, vec_items, None, Some, Ok, Err, IfOk, IfErr, IfSome, IsSome, All};
+ghost use Rattle.std.specs.List.Sorted.{IsNonDecreasing};
 ghost use Rattle.csv_rows.specs.declared.columns.Column.TheVariants.{StopId, RouteId, TripId};
 ghost use Rattle.csv_rows.specs.declared.feed_tables.Table.TheVariants.{Stops as StopsTable, Routes as RoutesTable, Trips as TripsTable, StopTimes as StopTimesTable, Frequencies as FrequenciesTable};
 ghost use Rattle.csv_rows.specs.FeedTables.{unread_of, IsFaultOf};
@@ -7,12 +8,15 @@ ghost use Rattle.csv_rows.specs.Limits.{AreWithin, rows_of};
 ghost use Rattle.csv_rows.specs.Loading.{HasFeedCause, HasFeedPathCause, load_in};
 ghost use Rattle.csv_rows.specs.Tables.{row_count};
 ghost use Rattle.plan_model.specs.NameLists.{texts};
-ghost use Rattle.gtfs_tables.specs.Feeds.{required, stops_from, routes_from, trips_from, stop_times_from, frequencies_from, AreStops, AreRoutes, AreTrips, AreVisits, IsSound};
+ghost use Rattle.gtfs_tables.specs.Feeds.{required, stops_from, routes_from, trips_from, stop_times_from, frequencies_from, AreStops, AreRoutes, AreTrips, AreVisits, AreFrequencies, IsSound};
 ghost use Rattle.gtfs_tables.specs.Stops.{stops_fault};
 ghost use Rattle.gtfs_tables.specs.Routes.{routes_fault};
 ghost use Rattle.gtfs_tables.specs.Trips.{trips_fault};
 ghost use Rattle.gtfs_tables.specs.StopTimes.{stop_times_fault};
+ghost use Rattle.gtfs_tables.specs.Frequencies.{fault_of_frequencies};
+ghost use Rattle.gtfs_tables.specs.Repeats.{all_repeats_in};
 
+use crate::repeats::{Repeats, repeats_from};
 use crate::routes::{Routes, read_routes};
 use crate::stop_times::StopRow;
 use crate::stops::{Stops, read_stops};
@@ -202,35 +206,37 @@ pub(crate) fn load_stop_times<F: Files>(
     }
 }
 
-/// A table of frequencies may be there, but has no row.
-pub(crate) fn check_frequencies<F: Files>(
+/// How these trips repeat.
+pub(crate) fn load_frequencies<F: Files>(
     alloc: Global,
     files: &mut F,
     folder: &str,
     limits: &Limits,
-) -> Result<(), FeedFault>
+    trips: &Ids,
+) -> Result<Repeats, FeedFault>
     requires { AreWithin limits.now }
     ensures same { F.files files.new ≡ F.files files.old }
-    ensures none { IfSome (F.files files.old) (λ m. OnOk result
-        (frequencies_from (load_in m folder.now limits.now None FrequenciesTable) ≡ None)) }
+    ensures repeats { IfSome (F.files files.old) (λ m. IfOk result (λ r. AreFrequencies trips.now
+        (frequencies_from (load_in m folder.now limits.now None FrequenciesTable) trips.now)
+        (all_repeats_in r.trips.items r.rows.items (length trips.now)))) }
     ensures fault { IfSome (F.files files.old) (λ m. IfErr result (λ f. f ≢ FeedFault.NoMemory
-        → frequencies_from (load_in m folder.now limits.now (unread_of f) FrequenciesTable)
-        ≡ Some f)) }
+        → frequencies_from (load_in m folder.now limits.now (unread_of f) FrequenciesTable) trips.now
+        ≡ Err f)) }
+    ensures sound { IfOk result (λ r. IsSound (fault_of_frequencies trips.now) (λ l.
+        AreFrequencies trips.now (Ok l) (all_repeats_in r.trips.items r.rows.items (length trips.now)))) }
+    ensures ordered { IfOk result (λ r. IsNonDecreasing r.trips.items) }
+    ensures paired { IfOk result (λ r. length r.rows.items ≡ length r.trips.items) }
     ensures own { IfErr result (IsFaultOf FrequenciesTable) }
     ensures cause { HasFeedCause (F.faults files.old) (F.faults files.new) result }
     ensures path_cause { HasFeedPathCause (IsSome (F.files files.old)) folder.now
         (F.faults_of files.old) (F.faults_of files.new) result }
 {
-    match read_table(alloc, files, folder, Table::Frequencies, limits) {
-        Ok(Loaded::Absent) => Ok(()),
-        Ok(Loaded::NoRecord) => Ok(()),
-        Ok(Loaded::Found(rows)) => {
-            if rows.count() == 0 {
-                Ok(())
-            } else {
-                Err(FeedFault::FrequencyRows)
-            }
-        }
+    let loaded = match read_table(alloc, files, folder, Table::Frequencies, limits) {
+        Ok(loaded) => loaded,
+        Err(fault) => return Err(fault),
+    };
+    match repeats_from(alloc, &loaded, trips) {
+        Ok(repeats) => Ok(repeats),
         Err(fault) => Err(fault),
     }
 }

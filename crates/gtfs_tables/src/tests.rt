@@ -59,7 +59,8 @@ fn fault_of_times(alloc: Global, rows: &str) -> Option<FeedFault> {
 
 /// The feed, with a table of frequencies that has no row.
 fn small_feed(alloc: Global) -> Result<Feed, FeedFault> {
-    match feed_with(alloc, "feed/frequencies.txt", "trip_id\n") {
+    let header = "trip_id,start_time,end_time,headway_secs\n";
+    match feed_with(alloc, "feed/frequencies.txt", header) {
         Ok(mut files) => Feed::read(alloc, &mut files, "feed", &Limits::standard()),
         Err(_) => Err(FeedFault::NoMemory),
     }
@@ -168,7 +169,7 @@ fn refuses_by_table(rt: HostRuntime) {
         (
             "feed/frequencies.txt",
             "trip_id\nx\n",
-            FeedFault::FrequencyRows,
+            FeedFault::MissingColumn(Table::Frequencies, Column::StartTime),
         ),
     ] {
         assert_eq!(rt; fault_with(rt.alloc(), path, text), Some(fault), "{text}");

@@ -53,6 +53,7 @@ one_feed t f g a b =
       route_ids = (a.routes ∙ sym b.routes) i;
       routes = (a.routes_of_trips ∙ sym b.routes_of_trips) i;
       stop_times = times i;
+      frequencies = (a.frequencies_of_trips ∙ sym b.frequencies_of_trips) i;
     }
 
 pub one_feed_of : (r : Result Tables FeedFault) (f g : FeedParts) → IsFeedOf r f → IsFeedOf r g → f ≡ g

@@ -33,7 +33,6 @@ feed_as limits (feed.BadField table line column) = Feed (feed.BadField table lin
 feed_as limits (feed.UnknownKey table line column) = Feed (feed.UnknownKey table line column)
 feed_as limits (feed.DuplicateKey table line) = Feed (feed.DuplicateKey table line)
 feed_as limits (feed.BackwardTime line) = Feed (feed.BackwardTime line)
-feed_as limits feed.FrequencyRows = Feed feed.FrequencyRows
 feed_as limits (feed.Read table) = Read (input.Feed table)
 feed_as limits (feed.TooLong table) = Limit (Bytes (input.Feed table)) (limits.bytes + 1)
 feed_as limits (feed.TooManyRows table count) = Limit (Rows table) count

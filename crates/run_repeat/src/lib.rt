@@ -1,10 +1,8 @@
 //! Trips that repeat: the runs of a row of `frequencies.txt`, by arithmetic, with no list of them.
 #![tactic(auto)]
 
-mod rows;
 mod runs;
 
-pub use rows::FrequencyRow;
 pub use runs::{count, departure, within};
 
 #[cfg(test)]

@@ -1,9 +1,9 @@
 //! The runs of a row.
 ghost use Rattle.std.specs.Prelude.{◌≡◌, ◌+◌, ◌<◌, ◌≤◌, ◌≤ℤ◌, ◌<ℤ◌, pos, ℕ};
-ghost use Rattle.run_repeat.specs.Bounds.{end_of_times};
+ghost use Rattle.gtfs_tables.specs.Bounds.{end_of_times};
 ghost use Rattle.run_repeat.specs.Runs.{AreBelow, AreTimes, IsRun, PassesBefore, PassesUpTo, departure};
 
-use crate::rows::FrequencyRow;
+use gtfs_tables::FrequencyRow;
 
 /// How many departures are before this second of the service day.
 fn departures_before(row: &FrequencyRow, second: u32) -> u32

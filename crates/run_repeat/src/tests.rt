@@ -1,4 +1,5 @@
 use super::*;
+use gtfs_tables::FrequencyRow;
 
 const ROW: FrequencyRow = FrequencyRow {
     first: 29_100,

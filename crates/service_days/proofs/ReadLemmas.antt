@@ -28,7 +28,6 @@ read_calendar (fault.BadField t n c) e = refl
 read_calendar (fault.UnknownKey t n c) e = refl
 read_calendar (fault.DuplicateKey t n) e = refl
 read_calendar (fault.BackwardTime n) e = refl
-read_calendar fault.FrequencyRows e = refl
 read_calendar (fault.TooManyRows t n) e = refl
 read_calendar fault.NoMemory e = refl
 

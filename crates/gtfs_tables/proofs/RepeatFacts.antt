@@ -1,0 +1,127 @@
+-- The rows of frequencies of a feed's trips are within their bounds, and their lines rise.
+use Rattle.std.proofs.Common.{◌≡◌, ℕ, ◌+◌, ◌<◌, ◌≤◌, ◌==◌, Bool, true, false, List, [], map, length, slice_index_or, Option, Some, None, if◌then◌else◌, filter, refl, sym, ap, ◌∙◌, subst, arith, ⊎_elim}
+use Rattle.std.specs.Prelude.{Result, Ok, Err, option_and_then}
+use Rattle.std.specs.List.{AllPairs}
+use Rattle.std.proofs.lemmas.Bool.{cases_lt}
+use Rattle.std.proofs.lemmas.List.{get_or-map, length-map}
+use Rattle.std.proofs.lemmas.List.Elements.{All-filter, All-map}
+use Rattle.std.proofs.lemmas.List.Kept.{AllPairs-filter}
+use Rattle.clock_text.specs.Digits.{whole_of}
+use Rattle.clock_text.specs.Times.{time_at}
+use Rattle.csv_rows.specs.declared.columns.Column.TheVariants.{TripId, StartTime, EndTime, HeadwaySecs, ExactTimes}
+use Rattle.csv_rows.specs.declared.feed_tables.Table.TheVariants.{Frequencies}
+use Rattle.csv_rows.specs.declared.feed_tables.FeedFault.{FeedFault}
+use Rattle.csv_rows.specs.declared.feed_tables.FeedFault.TheVariants.{BadField, UnknownKey}
+use Rattle.csv_rows.specs.declared.loading.Loaded.{Loaded}
+use Rattle.csv_rows.specs.declared.loading.Loaded.TheVariants.{Absent, NoRecord, Found}
+use Rattle.csv_rows.specs.First.{first_below}
+use Rattle.csv_rows.specs.Loading.{loaded_rows}
+use Rattle.csv_rows.specs.Names.{name_in}
+use Rattle.csv_rows.specs.RowFaults.{fault_in, value_or}
+use Rattle.csv_rows.specs.Tables.{row_count, place_in, field, field_at}
+use Rattle.csv_rows.proofs.FirstLemmas.{first-zero, none-both, none-each}
+use Rattle.csv_rows.proofs.ListLemmas.{length-list_below, get-list_below}
+use Rattle.csv_rows.proofs.RowLemmas.{read_is}
+use Rattle.csv_rows.proofs.TestLemmas.{eq_true}
+use Rattle.gtfs_tables.specs.declared.frequencies.FrequencyRow.{FrequencyRow}
+use Rattle.gtfs_tables.specs.declared.frequencies.TripFrequency.{TripFrequency}
+use Rattle.gtfs_tables.specs.Bounds.{most_headway}
+use Rattle.gtfs_tables.specs.Feeds.{FeedParts, IsSoundFeed}
+use Rattle.gtfs_tables.specs.Forms.{headway_in, is_exact_in}
+use Rattle.gtfs_tables.specs.Frequencies.{frequency_from, frequency_columns, frequency_at, frequency_rows, bad_frequency, no_frequency, frequencies_fault, fault_of_frequencies, repeats_of}
+use Rattle.gtfs_tables.specs.Repeats.{IsFrequency, AreRepeats, AreRepeating}
+use Rattle.gtfs_tables.specs.Trips.{trip_ids}
+use Rattle.gtfs_tables.proofs.FrequencyLemmas.{frequency_count}
+use Rattle.gtfs_tables.proofs.RowForms.{time_below}
+use Rattle.gtfs_tables.proofs.RowLemmas.{whole_bound}
+
+-- a row of this line that is within its bounds
+record IsFormed (line : ℕ) (r : TripFrequency) : Type 0 where
+  bounds : IsFrequency r.row
+  line_is : r.row.line ≡ line
+
+not_zero : (m n : ℕ) (b : Bool) → (m == 0) ≡ b → (if b then None else Some m) ≡ Some n → (m ≡ n) × (1 ≤ n)
+not_zero m n true e h = absurd (cc)
+not_zero m n false e h =
+    let same : m ≡ n = cc in
+    let some : 1 ≤ m = ⊎_elim (λ (less : 0 < m). less) (λ (le : m ≤ 0). absurd (let zero : (m == 0) ≡ true = eq_true m 0 (omega arith) in let never : true ≡ false = sym zero ∙ e in cc)) (cases_lt 0 m) in
+    (same, omega arith)
+
+headway_some : (o : Option ℕ) (n : ℕ) → option_and_then (λ seconds. if seconds == 0 then None else Some seconds) o ≡ Some n → (o ≡ Some n) × (1 ≤ n)
+headway_some None n h = absurd (cc)
+headway_some (Some m) n h = let w = not_zero m n (m == 0) refl h in (ap Some w.0, w.1)
+
+-- a row that has no fault by itself
+from_formed : (trips : List (List ℕ)) (line : ℕ) (trip start end headway exact : List ℕ) (r : TripFrequency) → frequency_from trips line trip start end headway exact ≡ Ok r → IsFormed line r
+from_formed trips line trip start end headway exact r h =
+    let a = read_is (name_in trip) (BadField Frequencies line TripId) _ r h in
+    let b = read_is (place_in a.0 trips) (UnknownKey Frequencies line TripId) _ r a.2 in
+    let c = read_is (time_at start) (BadField Frequencies line StartTime) _ r b.2 in
+    let d = read_is (time_at end) (BadField Frequencies line EndTime) _ r c.2 in
+    let e = read_is (headway_in headway) (BadField Frequencies line HeadwaySecs) _ r d.2 in
+    let g = read_is (is_exact_in exact) (BadField Frequencies line ExactTimes) _ r e.2 in
+    let some = headway_some (whole_of most_headway headway) e.0 e.1 in
+    let row : FrequencyRow = record { first = c.0; end = d.0; headway = e.0; line = line } in
+    let made : TripFrequency = record { trip = b.0; row = row } in
+    let same : made ≡ r = cc in
+    subst (IsFormed line) same (record {
+      bounds = record { some = some.1; most = whole_bound most_headway e.0 headway some.0; first = time_below start c.0 c.1; end = time_below end d.0 d.1 };
+      line_is = refl;
+    })
+
+ok_formed : (line : ℕ) (o : Result TripFrequency FeedFault) → fault_in o ≡ None → ((r : TripFrequency) → o ≡ Ok r → IsFormed line r) → IsFormed line (value_or no_frequency o)
+ok_formed line (Ok r) none k = k r refl
+ok_formed line (Err fault) none k = absurd (cc)
+
+row_formed : (trips : List (List ℕ)) (t : List (List (List ℕ))) (i : ℕ) → fault_in (frequency_at trips t i) ≡ None → IsFormed (i + 2) (value_or no_frequency (frequency_at trips t i))
+unfolding frequency_at
+row_formed trips t i none =
+    let c = frequency_columns t in
+    ok_formed (i + 2) (frequency_at trips t i) none
+    (from_formed trips (i + 2) (field_at t c.trip i) (field_at t c.start i) (field_at t c.end i) (field_at t c.headway i) (field_at t c.exact i))
+
+-- a table with no fault has no field that is not of its form
+fields_none : (trips : List (List ℕ)) (l : Loaded) → fault_of_frequencies trips l ≡ None → first_below (bad_frequency trips (loaded_rows l)) (row_count (loaded_rows l)) ≡ None
+unfolding frequencies_fault
+fields_none trips Absent h = first-zero (bad_frequency trips (loaded_rows Absent))
+fields_none trips NoRecord h = first-zero (bad_frequency trips (loaded_rows NoRecord))
+fields_none trips (Found t) h = (none-both _ _ (none-both _ _ h).1).0
+
+AreFormed : List TripFrequency → Type 0
+AreFormed rows = (i : ℕ) (d : TripFrequency) → i < length rows → IsFormed (i + 2) (slice_index_or rows i d)
+
+rows_formed : (trips : List (List ℕ)) (l : Loaded) → fault_of_frequencies trips l ≡ None → AreFormed (frequency_rows trips (loaded_rows l))
+unfolding AreFormed
+rows_formed trips l none = λ i d h.
+    let t = loaded_rows l in
+    let inside : i < row_count t = omega (arith, frequency_count trips t, h) in
+    subst (IsFormed (i + 2)) (sym (get-list_below (λ j. value_or no_frequency (frequency_at trips t j)) (row_count t) i d inside))
+    (row_formed trips t i (none-each (bad_frequency trips t) (row_count t) (fields_none trips l none) i inside))
+
+-- the rows of a trip
+repeats_are : (rows : List TripFrequency) (trip : ℕ) → AreFormed rows → AreRepeats (repeats_of rows trip)
+unfolding AreFormed
+repeats_are rows trip formed =
+    let own : TripFrequency → Bool = λ r. r.trip == trip in
+    let kept : List TripFrequency = filter own rows in
+    let row : TripFrequency → FrequencyRow = λ r. r.row in
+    let before : TripFrequency → TripFrequency → Type 0 = λ a b. a.row.line < b.row.line in
+    let pairs : AllPairs before rows = λ i j d less inside. omega (arith, less, (formed i d (omega arith)).line_is, (formed j d inside).line_is) in
+    let rising : AllPairs before kept = AllPairs-filter before own rows pairs in
+    record {
+      each = All-map IsFrequency row kept (All-filter own (λ r. IsFrequency r.row) rows (λ k d h. (formed k d h).bounds));
+      rising = λ k l less h.
+          let size : length (map row kept) ≡ length kept = length-map kept row in
+          let inside : l < length kept = omega (arith, size, h) in
+          let first = ap (λ (x : FrequencyRow). x.line) (get_or-map row kept k no_frequency no_frequency.row (omega arith)) in
+          let second = ap (λ (x : FrequencyRow). x.line) (get_or-map row kept l no_frequency no_frequency.row inside) in
+          omega (arith, rising k l no_frequency less inside, first, second);
+    }
+
+pub is_repeating : (f : FeedParts) → IsSoundFeed f → AreRepeating f
+is_repeating f s trip h =
+    let ids = trip_ids s.tables.trips in
+    let rows = frequency_rows ids (loaded_rows s.tables.frequencies) in
+    let inside : trip < row_count s.tables.trips = omega (arith, h, ap length s.feed.trips, length-list_below (field s.tables.trips TripId) (row_count s.tables.trips)) in
+    let here = ap (λ (xs : List (List FrequencyRow)). slice_index_or xs trip []) s.feed.frequencies_of_trips ∙ get-list_below (repeats_of rows) (row_count s.tables.trips) trip [] inside in
+    subst AreRepeats (sym here) (repeats_are rows trip (rows_formed ids s.tables.frequencies s.frequencies))

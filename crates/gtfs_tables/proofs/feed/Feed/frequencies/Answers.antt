@@ -1,0 +1,13 @@
+use Rattle.std.proofs.Common.{◌<◌, [], length, slice_index_or, sym, ap, ◌∙◌, arith}
+use Rattle.csv_rows.proofs.ListLemmas.{get-list_below}
+use Rattle.gtfs_tables.specs.Feeds.{FeedParts}
+use Rattle.gtfs_tables.specs.Repeats.{repeats_in}
+use Rattle.gtfs_tables.proofs.feed.Feed.frequencies.Goals as goal
+
+pub returns : goal.returns
+returns c =
+    let f = c.self.inside in
+    let trip = c.args.trip in
+    let inside : trip < length f.trips.ids = omega (arith, c.requires, ap (λ (p : FeedParts). length p.trip_ids) c.self.view_is) in
+    c.rows_of.ensures ∙ sym (get-list_below (repeats_in f.repeats.trips.items f.repeats.rows.items) (length f.trips.ids) trip [] inside)
+    ∙ ap (λ (p : FeedParts). slice_index_or p.frequencies trip []) c.self.view_is

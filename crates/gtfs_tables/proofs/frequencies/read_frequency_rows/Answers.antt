@@ -1,0 +1,35 @@
+use Rattle.std.proofs.Common.{None, sym, ap, ◌∙◌, arith}
+use Rattle.csv_rows.specs.Tables.{row_count}
+use Rattle.csv_rows.proofs.FirstLemmas.{first-zero, first-next, first-at}
+use Rattle.csv_rows.specs.RowFaults.{fault_in, value_or}
+use Rattle.gtfs_tables.specs.Frequencies.{bad_frequency, frequency_at, no_frequency}
+use Rattle.csv_rows.proofs.ListLemmas.{list_below-zero, list_below-next}
+use Rattle.gtfs_tables.proofs.FrequencyLemmas.{frequency_is}
+use Rattle.gtfs_tables.proofs.frequencies.read_frequency_rows.Goals as goal
+
+pub loop-i-init : goal.loop-i-init
+loop-i-init c =
+    let t = c.args.rows.now in
+    let trips = c.args.trips.now in
+    record {
+      rows = c.new-found.ensures.items ∙ sym (list_below-zero (λ i. value_or no_frequency (frequency_at trips t i)));
+      none = first-zero (bad_frequency trips t);
+    }
+
+pub returns-in-Err-clause-fault : goal.returns-in-Err-clause-fault
+returns-in-Err-clause-fault c = λ free.
+    let t = c.args.rows.now in
+    let trips = c.args.trips.now in
+    first-at (bad_frequency trips t) c.loop-i.i (row_count t) c.in-Err.fault (omega arith) c.loop-i.invariant.none
+    (ap fault_in (frequency_is trips t c.args.columns c.loop-i.i _ c.requires c.in-Err.ensures.fault))
+
+pub loop-i-preserved : goal.loop-i-preserved
+loop-i-preserved c =
+    let t = c.args.rows.now in
+    let trips = c.args.trips.now in
+    let here = frequency_is trips t c.args.columns c.loop-i.i _ c.requires c.in-Ok.ensures.row in
+    record {
+      rows = list_below-next (λ i. value_or no_frequency (frequency_at trips t i)) c.loop-i.i c.loop-i.found.items c.push.new.self.items c.in-Ok.row
+          c.loop-i.invariant.rows c.in-Ok-push.ensures.items (sym (ap (value_or no_frequency) here));
+      none = first-next (bad_frequency trips t) c.loop-i.i None c.loop-i.invariant.none (ap fault_in here);
+    }

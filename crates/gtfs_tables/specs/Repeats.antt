@@ -1,0 +1,44 @@
+-- What holds of the rows of frequencies of the trips of a feed, and how they are kept.
+use Rattle.std.specs.Prelude.{◌≡◌, ℕ, ◌==◌, ◌<◌, ◌≤◌, List, [], ◌∷◌, length, slice_index, slice_index_or, All, if◌then◌else◌}
+use Rattle.csv_rows.specs.Lists.{list_below}
+use Rattle.gtfs_tables.specs.declared.frequencies.FrequencyRow.{FrequencyRow}
+use Rattle.gtfs_tables.specs.Bounds.{end_of_times, most_headway}
+use Rattle.gtfs_tables.specs.Feeds.{FeedParts}
+use Rattle.gtfs_tables.specs.Frequencies.{no_frequency}
+
+-- its headway and its times are within their bounds
+pub record IsFrequency (row : FrequencyRow) : Type 0 where
+  pub some : 1 ≤ row.headway
+  pub most : row.headway ≤ most_headway
+  pub first : row.first < end_of_times
+  pub end : row.end < end_of_times
+
+abbrev pub repeat_at : List FrequencyRow → ℕ → FrequencyRow
+repeat_at rows k = slice_index_or rows k no_frequency.row
+
+-- the rows of a trip are within their bounds, and their lines rise
+pub record AreRepeats (rows : List FrequencyRow) : Type 0 where
+  pub each : All IsFrequency rows
+  pub rising : (k l : ℕ) → k < l → l < length rows → (repeat_at rows k).line < (repeat_at rows l).line
+
+-- this is so of each trip
+abbrev pub AreRepeating : FeedParts → Type 0
+AreRepeating f = (trip : ℕ) → trip < length f.trip_ids → AreRepeats (slice_index_or f.frequencies trip [])
+
+-- the trips from one place to another are this one, those before are earlier ones, and those after later ones
+pub record IsTripSpan (trips : List ℕ) (trip low high : ℕ) : Type 0 where
+  pub order : low ≤ high
+  pub inside : high ≤ length trips
+  pub before : (k : ℕ) → k < low → slice_index trips k < trip
+  pub here : (k : ℕ) → low ≤ k → k < high → slice_index trips k ≡ trip
+  pub after : (k : ℕ) → high ≤ k → k < length trips → trip < slice_index trips k
+
+-- the rows of a trip among rows that stand beside the numbers of their trips
+abbrev pub repeats_in : List ℕ → List FrequencyRow → ℕ → List FrequencyRow
+repeats_in [] rows trip = []
+repeats_in (t ∷ trips) [] trip = []
+repeats_in (t ∷ trips) (row ∷ rows) trip = if t == trip then row ∷ repeats_in trips rows trip else repeats_in trips rows trip
+
+-- the same of each of so many trips
+abbrev pub all_repeats_in : List ℕ → List FrequencyRow → ℕ → List (List FrequencyRow)
+all_repeats_in trips rows count = list_below (repeats_in trips rows) count
