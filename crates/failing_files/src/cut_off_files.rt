@@ -137,7 +137,7 @@ fn lengths_of_the_stop_times(rt: HostRuntime) -> Result<(), Fail> {
 
 #[test]
 fn lengths_of_the_frequencies(rt: HostRuntime) -> Result<(), Fail> {
-    let cases = all_lengths(&rt, rt.alloc(), PLAN, FREQUENCIES, &[])?;
+    let cases = all_lengths(&rt, rt.alloc(), PLAN, FREQUENCIES, &[3])?;
     println!(rt; "frequencies.txt: {cases} lengths")?;
     Ok(())
 }
