@@ -7,6 +7,3 @@ mod links;
 mod transfers;
 
 pub use changes::Changes;
-
-#[cfg(test)]
-mod tests;

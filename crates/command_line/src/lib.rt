@@ -5,8 +5,6 @@ mod job;
 mod options;
 mod refusals;
 mod settings;
-#[cfg(test)]
-mod tests;
 mod values;
 
 pub use job::{Ask, Job, Journey, Timetable, WordsFault, read_job};

@@ -12,6 +12,3 @@ mod types;
 
 pub use faults::{ClassName, DelayFault};
 pub use table::DelayTable;
-
-#[cfg(test)]
-mod tests;

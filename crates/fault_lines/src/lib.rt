@@ -8,6 +8,3 @@ mod told;
 pub use faults::{Fault, Input, LimitKind, Site, Which};
 pub use lines::known_line;
 pub use told::{NamedNetwork, fault_line};
-
-#[cfg(test)]
-mod tests;

@@ -10,6 +10,3 @@ mod services;
 mod tables;
 
 pub use services::Services;
-
-#[cfg(test)]
-mod tests;

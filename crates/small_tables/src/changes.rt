@@ -1,5 +1,5 @@
 //! A feed with a station of two platforms, and what its transfers tell.
-use crate::*;
+use change_times::Changes;
 use csv_rows::{Column, FeedFault, Limits, Table};
 use file_ports::SteadyFiles;
 use gtfs_tables::Feed;

@@ -1,5 +1,5 @@
-use super::*;
 use csv_rows::{Column, Rows};
+use delay_table::{ClassName, DelayFault, DelayTable};
 use plan_model::{ClassId, Moment};
 use std::alloc::Global;
 use std::test::Fail;

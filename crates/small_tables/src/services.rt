@@ -1,6 +1,6 @@
-use super::*;
 use csv_rows::{Column, FeedFault, Limits, Table};
 use file_ports::MemoryFiles;
+use service_days::Services;
 use std::alloc::Global;
 use std::test::Fail;
 

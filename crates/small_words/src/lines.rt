@@ -1,7 +1,7 @@
 //! A line of each kind, and the statuses.
-use super::*;
 use command_line::WordsFault;
 use csv_rows::{FeedFault, Table};
+use fault_lines::{Fault, Input, LimitKind, Which, fault_line, known_line};
 use lower_proof::ProofFault;
 use std::test::Fail;
 

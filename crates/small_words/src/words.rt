@@ -1,5 +1,8 @@
 //! Words with the jobs that they ask for, or with the reason why they are refused.
-use crate::*;
+use command_line::{
+    Ask, Command, Job, Journey, OptionName, Timetable, Use, WordsFault, option_word, read_job,
+    read_late,
+};
 use plan_model::Moment;
 use std::alloc::Global;
 use std::test::Fail;

@@ -14,6 +14,8 @@ mod limits;
 #[cfg(test)]
 mod links;
 #[cfg(test)]
+mod problems;
+#[cfg(test)]
 mod promises;
 #[cfg(test)]
 mod rides;

@@ -1,5 +1,5 @@
 //! The problem of a small cut file, and what is told where its delay file is missing.
-use super::*;
+use journey_problem::problem_of;
 use command_line::{Journey, Timetable};
 use csv_rows::Limits;
 use fault_lines::{Fault, Input};
