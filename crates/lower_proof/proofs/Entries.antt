@@ -15,6 +15,7 @@ use Rattle.plan_model.specs.Strategy.{IsBoardable}
 use Rattle.plan_model.proofs.Boarding.{way_of-listed, listed-way_of}
 use Rattle.lower_proof.specs.declared.board.Entry.{Entry}
 use Rattle.lower_proof.specs.Boards.{Shown, entry_at, IsEntry, AreEntries, Falls}
+use Rattle.lower_proof.specs.Departures.{NoneAfter}
 use Rattle.lower_proof.specs.Minima.{board_at, AreBoards, AllLate, HaveEntries}
 
 abbrev pub no_board : Shown
@@ -57,11 +58,11 @@ falls_reversed ys up zs is same i j d before within =
     rw (first, second) order
 
 -- the same entries in another order
-pub entries_permuted : (n : Parts) (p m : ℕ) (xs ys : List Entry) → IsPermutation xs ys → AreEntries n p m xs → AreEntries n p m ys
-entries_permuted n p m xs ys moved are = record {
+pub entries_permuted : (n : Parts) (last p m : ℕ) (xs ys : List Entry) → IsPermutation xs ys → AreEntries n last p m xs → AreEntries n last p m ys
+entries_permuted n last p m xs ys moved are = record {
   each = λ k within. All-permutation (IsEntry n p) xs ys moved (λ i d inside. subst (IsEntry n p) (get_or_default xs i no_entry d inside) (are.each i inside)) k no_entry within;
-  all = λ c x below board boards.
-      let (k, within, is) = are.all c x below board boards in
+  all = λ c x below soon board boards.
+      let (k, within, is) = are.all c x below soon board boards in
       let (i, inside, at) = Contains-permutation xs ys (entry_at xs k) moved (k, within, get_or_default xs k (entry_at xs k) no_entry within) in
       (i, inside, ap (λ (e : Entry). e.id.0) (get_or_default ys i no_entry (entry_at xs k) inside ∙ at) ∙ is);
 }
@@ -69,27 +70,27 @@ entries_permuted n p m xs ys moved are = record {
 -- ---- one way after the other
 
 -- a board with the first connections, and with this one by the first k ways into where it departs
-pub record HasWays (n : Parts) (id k p : ℕ) (board : Shown) : Type 0 where
-  pub entries : AreEntries n p id board.entries
+pub record HasWays (n : Parts) (last id k p : ℕ) (board : Shown) : Type 0 where
+  pub entries : AreEntries n last p id board.entries
   pub own : (x j : ℕ) (way : Way) → j < k → slice_get (ways_into n (from_of n id)) j ≡ Some way → way.from.0 ≡ p → IsBoardable n p x id → (i : ℕ)
       × (i < length board.entries) × ((entry_at board.entries i).id.0 ≡ id)
   pub fresh : board.least ≡ []
 
-abbrev pub HaveWays : Parts → ℕ → ℕ → List Shown → Type 0
-HaveWays n id k boards = (p : ℕ) → p < length boards → HasWays n id k p (board_at boards p)
+abbrev pub HaveWays : Parts → ℕ → ℕ → ℕ → List Shown → Type 0
+HaveWays n last id k boards = (p : ℕ) → p < length boards → HasWays n last id k p (board_at boards p)
 
-module _ (n : Parts) (id : ℕ) where
-  pub no_ways : (boards : List Shown) → HaveEntries n id boards → HaveWays n id 0 boards
+module _ (n : Parts) (last id : ℕ) where
+  pub no_ways : (boards : List Shown) → HaveEntries n last id boards → HaveWays n last id 0 boards
   no_ways boards have p within = record { entries = (have p within).0; own = λ x j way below. absurd (omega arith); fresh = (have p within).1 }
 
   -- all ways
-  pub all_ways : (boards : List Shown) (k : ℕ) → length (ways_into n (from_of n id)) ≤ k → HaveWays n id k boards → HaveEntries n (id + 1) boards
+  pub all_ways : (boards : List Shown) (k : ℕ) → length (ways_into n (from_of n id)) ≤ k → HaveWays n last id k boards → HaveEntries n last (id + 1) boards
   all_ways boards k whole have p within = (
     record {
       each = (have p within).entries.each;
-      all = λ c x below board boards. elim (cases_lt c id) [
-        | inl before ↦ (have p within).entries.all c x before board boards
-        | inr last ↦
+      all = λ c x below soon board boards. elim (cases_lt c id) [
+        | inl before ↦ (have p within).entries.all c x before soon board boards
+        | inr newest ↦
             let is : c ≡ id = omega arith in
             let own = subst (λ i. IsBoardable n p x i) is boards in
             let (j, listed, is_way) = listed-way_of n p (from_of n id) own.seconds own.way in
@@ -100,14 +101,16 @@ module _ (n : Parts) (id : ℕ) where
     (have p within).fresh,
   )
 
-  -- a connection that cannot be boarded
-  pub entries_skipped : (boards : List Shown) → (IsTrue (connection n id).can_board → ⊥) → HaveEntries n id boards → HaveEntries n (id + 1) boards
+  -- a connection that cannot be boarded, or departs later
+  pub entries_skipped : (boards : List Shown) → (IsTrue (connection n id).can_board → dep_of n id ≤ last → ⊥) → HaveEntries n last id boards → HaveEntries n last (id + 1) boards
   entries_skipped boards never have p within = (
     record {
       each = (have p within).0.each;
-      all = λ c x below board boards. elim (cases_lt c id) [
-        | inl before ↦ (have p within).0.all c x before board boards
-        | inr last ↦ let is : c ≡ id = omega arith in absurd (never (subst (λ i. IsTrue (connection n i).can_board) is board))
+      all = λ c x below soon board boards. elim (cases_lt c id) [
+        | inl before ↦ (have p within).0.all c x before soon board boards
+        | inr newest ↦
+            let is : c ≡ id = omega arith in
+            absurd (never (subst (λ i. IsTrue (connection n i).can_board) is board) (subst (λ i. dep_of n i ≤ last) is soon))
       ];
     },
     (have p within).1,
@@ -124,7 +127,7 @@ module _ (n : Parts) (id : ℕ) where
     seconds_are x board = let both = sym board.way ∙ way_of-listed n valid (from_of n id) departs_in k way listed in cc
 
     -- nobody can board by the way
-    pub way_passed : dep_of n id < way.seconds → (boards : List Shown) → HaveWays n id k boards → HaveWays n id (k + 1) boards
+    pub way_passed : dep_of n id < way.seconds → (boards : List Shown) → HaveWays n last id k boards → HaveWays n last id (k + 1) boards
     way_passed early boards have p within = record {
       entries = (have p within).entries;
       own = λ x j other below at from boards_by. elim (same_way j other below at) [
@@ -151,31 +154,31 @@ module _ (n : Parts) (id : ℕ) where
 
     -- one more entry
     entries_more : (by : ℕ) → id < count n → IsTrue (connection n id).can_board → by + way.seconds ≡ dep_of n id → (entries : List Entry)
-        → AreEntries n way.from.0 id entries → AreEntries n way.from.0 id (entries ++ new_entry by ∷ [])
+        → AreEntries n last way.from.0 id entries → AreEntries n last way.from.0 id (entries ++ new_entry by ∷ [])
     entries_more by there board sum entries are = record {
       each = λ i within. elim (cases_lt i (length entries)) [
         | inl before ↦ rw (get_or_append_left entries (new_entry by ∷ []) no_entry i before) (are.each i before)
         | inr last ↦ rw (get_or_at entries (new_entry by) [] no_entry i (omega (arith, length_push entries (new_entry by)))) (is_entry by there board sum)
       ];
-      all = λ c x below can boards.
-          let (i, within, is) = are.all c x below can boards in
+      all = λ c x below soon can boards.
+          let (i, within, is) = are.all c x below soon can boards in
           (i, omega (arith, length_push entries (new_entry by)), rw (get_or_append_left entries (new_entry by ∷ []) no_entry i within) is);
     }
 
     pub way_added : (by : ℕ) → id < count n → IsTrue (connection n id).can_board → by + way.seconds ≡ dep_of n id
         → (boards : List Shown) (board : Shown) → way.from.0 < length boards
-        → board.entries ≡ (board_at boards way.from.0).entries ++ new_entry by ∷ [] → board.least ≡ [] → HaveWays n id k boards → HaveWays n id (k + 1) (set boards way.from.0 board)
+        → board.entries ≡ (board_at boards way.from.0).entries ++ new_entry by ∷ [] → board.least ≡ [] → HaveWays n last id k boards → HaveWays n last id (k + 1) (set boards way.from.0 board)
     way_added by there can sum boards board inside is fresh have p within = elim (cases_eq p way.from.0) [
       | inl here ↦
           let old = (board_at boards way.from.0).entries in
           let at : board_at (set boards way.from.0 board) way.from.0 ≡ board = get_or-set_same boards way.from.0 board no_board inside in
-          let more : HasWays n id (k + 1) way.from.0 board = record {
+          let more : HasWays n last id (k + 1) way.from.0 board = record {
             entries = rw is (entries_more by there can sum old (have way.from.0 inside).entries);
             own = λ x j other below listed_at from boards_by. rw is
                 (length old, omega (arith, length_push old (new_entry by)), ap (λ (e : Entry). e.id.0) (get_or_at old (new_entry by) [] no_entry (length old) refl));
             fresh = fresh;
           } in
-          subst (λ r. HasWays n id (k + 1) r (board_at (set boards way.from.0 board) r)) (sym here) (rw at more)
+          subst (λ r. HasWays n last id (k + 1) r (board_at (set boards way.from.0 board) r)) (sym here) (rw at more)
       | inr away ↦
           let at : board_at (set boards way.from.0 board) p ≡ board_at boards p = get_or-set_other boards way.from.0 p board no_board away in
           let before = have p (omega (arith, length-set boards way.from.0 board)) in
@@ -192,21 +195,21 @@ module _ (n : Parts) (id : ℕ) where
 -- ---- all boards in order
 
 -- the first k boards are in order
-pub record AreSorted (n : Parts) (k : ℕ) (boards : List Shown) : Type 0 where
+pub record AreSorted (n : Parts) (last k : ℕ) (boards : List Shown) : Type 0 where
   pub len : length boards ≡ length n.change
-  pub entries : HaveEntries n (count n) boards
+  pub entries : HaveEntries n last (count n) boards
   pub falls : (p : ℕ) → p < k → Falls (board_at boards p).entries
 
-pub sorted_more : (n : Parts) (k : ℕ) (boards : List Shown) (board : Shown) → k < length boards
-    → IsPermutation (board_at boards k).entries board.entries → Falls board.entries → board.least ≡ [] → AreSorted n k boards → AreSorted n (k + 1) (set boards k board)
-sorted_more n k boards board inside moved falls fresh sorted =
+pub sorted_more : (n : Parts) (last k : ℕ) (boards : List Shown) (board : Shown) → k < length boards
+    → IsPermutation (board_at boards k).entries board.entries → Falls board.entries → board.least ≡ [] → AreSorted n last k boards → AreSorted n last (k + 1) (set boards k board)
+sorted_more n last k boards board inside moved falls fresh sorted =
     let here : board_at (set boards k board) k ≡ board = get_or-set_same boards k board no_board inside in
     let there : (p : ℕ) → p ≢ k → board_at (set boards k board) p ≡ board_at boards p = λ p differ. get_or-set_other boards k p board no_board differ in
     record {
       len = length-set boards k board ∙ sorted.len;
       entries = λ p within. elim (cases_eq p k) [
-        | inl is ↦ subst (λ r. AreEntries n r (count n) (board_at (set boards k board) r).entries
-            × ((board_at (set boards k board) r).least ≡ [])) (sym is) (rw here (entries_permuted n k (count n) (board_at boards k).entries board.entries moved (sorted.entries k inside).0, fresh))
+        | inl is ↦ subst (λ r. AreEntries n last r (count n) (board_at (set boards k board) r).entries
+            × ((board_at (set boards k board) r).least ≡ [])) (sym is) (rw here (entries_permuted n last k (count n) (board_at boards k).entries board.entries moved (sorted.entries k inside).0, fresh))
         | inr differ ↦ rw (there p differ) (sorted.entries p (omega (arith, length-set boards k board)))
       ];
       falls = λ p below. elim (cases_eq p k) [
@@ -216,8 +219,10 @@ sorted_more n k boards board inside moved falls fresh sorted =
     }
 
 -- no value is known yet, so what is known is right
-pub sorted_boards : (n : Parts) (boards : List Shown) (values : List (Option ℕ)) → length values ≡ count n → AreSorted n (length boards) boards → AreBoards n values boards
-sorted_boards n boards values as_many sorted = record {
+pub sorted_boards : (n : Parts) (last : ℕ) (boards : List Shown) (values : List (Option ℕ)) → length values ≡ count n → NoneAfter n values last
+    → AreSorted n last (length boards) boards → AreBoards n last values boards
+sorted_boards n last boards values as_many none_after sorted = record {
+  none_after = none_after;
   as_many = sorted.len;
   each = λ p within.
       let have = sorted.entries p within in
@@ -233,5 +238,5 @@ sorted_boards n boards values as_many sorted = record {
       };
 }
 
-pub sorted_late : (n : Parts) (boards : List Shown) (moment : ℕ) → AreSorted n (length boards) boards → AllLate moment boards
-sorted_late n boards moment sorted p within k below = let none : length (board_at boards p).least ≡ 0 = ap length (sorted.entries p within).1 in absurd (omega arith)
+pub sorted_late : (n : Parts) (last : ℕ) (boards : List Shown) (moment : ℕ) → AreSorted n last (length boards) boards → AllLate moment boards
+sorted_late n last boards moment sorted p within k below = let none : length (board_at boards p).least ≡ 0 = ap length (sorted.entries p within).1 in absurd (omega arith)

@@ -3,10 +3,11 @@ pub mod Vias
 pub mod Search
 pub mod Soundness
 pub mod Departures
+pub mod Departing
+pub mod NoVias
 pub mod Near
 pub mod Greatest
 pub mod Best
-pub mod Orders
 pub mod Exits
 pub mod Writes
 pub mod Minima

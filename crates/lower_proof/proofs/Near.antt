@@ -7,7 +7,7 @@ use Rattle.std.proofs.Math.Nat.{mul_assoc, mul-add}
 use Rattle.plan_model.specs.declared.model.Outcome.{Outcome}
 use Rattle.plan_model.specs.declared.model.Query.{Query}
 use Rattle.plan_model.specs.Parts.{Parts}
-use Rattle.plan_model.specs.Network.{IsValid, count, connection, from_of, to_of, dep_of, arr_of, outcomes}
+use Rattle.plan_model.specs.Network.{IsValid, count, connection, to_of, dep_of, arr_of, outcomes}
 use Rattle.plan_model.specs.Tree.{Tree, Kids, Done, Ride, Nil, Kid}
 use Rattle.plan_model.specs.Rows.{EachKid, IsValidRow}
 use Rattle.plan_model.specs.Strategy.{IsLeg, IsBoardable, Safe, SafeAll, IsSafeFor}

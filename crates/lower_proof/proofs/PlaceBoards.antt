@@ -1,44 +1,52 @@
 -- The boards of all places.
-use Rattle.std.proofs.Common.{◌≡◌, ◌≢◌, ℕ, ◌+◌, ◌<◌, List, length, set, Option, [], arith, inl, inr, sym, ◌∙◌, ap, subst, get_or-set_other, get_or-set_same}
-use Rattle.std.proofs.lemmas.Bool.{cases_eq}
+use Rattle.std.proofs.Common.{◌≡◌, ◌≢◌, ℕ, ◌+◌, ◌<◌, ◌≤◌, List, length, set, Option, Some, [], arith, inl, inr, sym, ◌∙◌, ap, subst, get_or-set_other, get_or-set_same}
+use Rattle.std.proofs.lemmas.Bool.{cases_eq, cases_lt}
 use Rattle.std.proofs.lemmas.List.{length-set}
 use Rattle.plan_model.specs.declared.model.Query.{Query}
 use Rattle.plan_model.specs.Parts.{Parts}
-use Rattle.plan_model.specs.Network.{count, IsValid}
+use Rattle.plan_model.specs.Network.{count, dep_of, IsValid}
 use Rattle.plan_model.specs.Strategy.{IsBoardable}
 use Rattle.lower_proof.specs.declared.board.Entry.{Entry}
 use Rattle.lower_proof.specs.Certificates.{value_of, IsLeastOf, Offers, IsLeastAt}
 use Rattle.lower_proof.specs.Boards.{Shown, entry_at, AreEntries, FrontValue, ValueInTime, least_of}
+use Rattle.lower_proof.specs.Departures.{NoneAfter}
 use Rattle.lower_proof.specs.Minima.{AreLate, IsBoard, board_at, IsBoardOf, AreBoards, AllLate}
 use Rattle.lower_proof.proofs.Leasts.{least_same}
 use Rattle.plan_model.proofs.Boarding.{boards_later}
 use Rattle.lower_proof.proofs.Writes.{Agree}
 
 -- the least value in time is the least value after the arrival
-pub board_least : (n : Parts) (q : Query) (values : List (Option ℕ)) (p x : ℕ) (entries : List Entry) → AreEntries n p (count n) entries
+pub board_least : (n : Parts) (last : ℕ) (q : Query) (values : List (Option ℕ)) (p x : ℕ) (entries : List Entry) → NoneAfter n values last → AreEntries n last p (count n) entries
     → p ≢ q.target.0 → (least : Option ℕ) → IsLeastOf (ValueInTime values entries x) least → IsLeastAt n q values p x least
-board_least n q values p x entries are away least is = record {
+board_least n last q values p x entries none_after are away least is = record {
   at_target = λ there. absurd (away there);
   elsewhere = λ e. least_same (ValueInTime values entries x) (λ v. (c : ℕ) × Offers n values (IsBoardable n p x) c v)
       (λ v t. let entry = are.each t.0 t.1 in ((entry_at entries t.0).id.0, record { there = entry.there; board = entry.board; boards = entry.early x t.2; value = t.3 }))
       least
       (λ v o.
-      let (k, within, is_c) = are.all o.0 x o.1.there o.1.board o.1.boards in
+      let (k, within, is_c) = are.all o.0 x o.1.there (soon o.0 v o.1.there o.1.value) o.1.board o.1.boards in
       let boards = subst (λ c. IsBoardable n p x c) (sym is_c) o.1.boards in
       (k, within, (are.each k within).late x boards, ap (value_of values) is_c ∙ o.1.value))
       is;
 }
+  where
+    soon : (c v : ℕ) → c < count n → value_of values c ≡ Some v → dep_of n c ≤ last
+    soon c v there value = elim (cases_lt last (dep_of n c)) [
+      | inl late ↦ let both = sym (none_after c there late) ∙ value in absurd (cc)
+      | inr by ↦ by
+    ]
 
 -- a board that was looked at
-pub boards_looked : (n : Parts) (values : List (Option ℕ)) (boards : List Shown) (p : ℕ) (board : Shown) → p < length boards
-    → AreBoards n values boards → board.entries ≡ (board_at boards p).entries → IsBoard values board → AreBoards n values (set boards p board)
-boards_looked n values boards p board within are same right = record {
+pub boards_looked : (n : Parts) (last : ℕ) (values : List (Option ℕ)) (boards : List Shown) (p : ℕ) (board : Shown) → p < length boards
+    → AreBoards n last values boards → board.entries ≡ (board_at boards p).entries → IsBoard values board → AreBoards n last values (set boards p board)
+boards_looked n last values boards p board within are same right = record {
+  none_after = are.none_after;
   as_many = length-set boards p board ∙ are.as_many;
   each = λ r inside. elim (cases_eq r p) [
     | inl is ↦
         let at : board_at (set boards p board) p ≡ board = get_or-set_same boards p board (record { entries = []; least = [] }) within in
-        subst (λ i. IsBoardOf n i values (board_at (set boards p board) i)) (sym is)
-        (rw at (record { entries = subst (AreEntries n p (count n)) (sym same) (are.each p within).entries; right = right }))
+        subst (λ i. IsBoardOf n last i values (board_at (set boards p board) i)) (sym is)
+        (rw at (record { entries = subst (AreEntries n last p (count n)) (sym same) (are.each p within).entries; right = right }))
     | inr differ ↦
         let at : board_at (set boards p board) r ≡ board_at boards r = get_or-set_other boards p r board (record { entries = []; least = [] }) differ in
         rw at (are.each r (omega (arith, length-set boards p board)))
@@ -56,9 +64,9 @@ late_looked boards p board moment within late all r inside = elim (cases_eq r p)
       rw at (all r (omega (arith, length-set boards p board)))
 ]
 
-module _ (n : Parts) (valid : IsValid n) (moment : ℕ) (values others : List (Option ℕ)) (agree : Agree n moment values others) (as_many : length others ≡ length values) where
+module _ (n : Parts) (valid : IsValid n) (last moment : ℕ) (values others : List (Option ℕ)) (agree : Agree n moment values others) (as_many : length others ≡ length values) where
   -- what is known stays right where only values of earlier departures change
-  board_agrees : (p : ℕ) (board : Shown) → AreLate moment board.entries (length board.least) → IsBoardOf n p values board → IsBoardOf n p others board
+  board_agrees : (p : ℕ) (board : Shown) → AreLate moment board.entries (length board.least) → IsBoardOf n last p values board → IsBoardOf n last p others board
   board_agrees p board late of = record {
     entries = of.entries;
     right = record {
@@ -79,5 +87,5 @@ module _ (n : Parts) (valid : IsValid n) (moment : ℕ) (values others : List (O
           let departs = boards_later n valid p (entry_at board.entries i).by.0 (entry_at board.entries i).id.0 entry.there (entry.early (entry_at board.entries i).by.0 (omega arith)) in
           agree (entry_at board.entries i).id.0 entry.there (omega arith)
 
-  pub boards_agree : (boards : List Shown) → AllLate moment boards → AreBoards n values boards → AreBoards n others boards
-  boards_agree boards late are = record { as_many = are.as_many; each = λ p within. board_agrees p (board_at boards p) (late p within) (are.each p within) }
+  pub boards_agree : (boards : List Shown) → NoneAfter n others last → AllLate moment boards → AreBoards n last values boards → AreBoards n last others boards
+  boards_agree boards none_after late are = record { none_after = none_after; as_many = are.as_many; each = λ p within. board_agrees p (board_at boards p) (late p within) (are.each p within) }

@@ -1,10 +1,10 @@
 -- Moments that a text tells are before the year 10000.
 use Rattle.std.proofs.Common.{◌≡◌, ℕ, ◌+◌, ◌*◌, ◌<◌, ◌≤◌, List, arith, subst, ℤ, pos, negsuc, ◌≤ℤ◌}
 use Rattle.std.specs.Prelude.{Some, unsigned_abs}
-use Rattle.jiff_core.specs.Calendar.{days_from_civil, day_count}
+use Rattle.jiff_core.specs.Calendar.{days_from_civil}
 use Rattle.jiff_core.proofs.SignedLemmas.{signed_arith}
 use Rattle.jiff_core.proofs.CalendarLemmas.{days_from_civil-day_count, day_count_bounds}
-use Rattle.clock_text.specs.Times.{Parts, parts_at, seconds_of, moment_of, moment_at}
+use Rattle.clock_text.specs.Times.{Parts, parts_at, seconds_of, moment_at}
 use Rattle.clock_text.proofs.DateFacts.{after_epoch}
 use Rattle.clock_text.proofs.OneText.{Holds, parts_hold, if_cases}
 

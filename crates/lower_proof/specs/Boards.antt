@@ -1,7 +1,7 @@
 -- The connections that can be boarded from each place.
 use Rattle.std.specs.Prelude.{◌≡◌, ℕ, ◌<◌, ◌≤◌, List, Option, Some, None, IsTrue, AllPairs, length, slice_index_or}
 use Rattle.plan_model.specs.Parts.{Parts}
-use Rattle.plan_model.specs.Network.{count, connection}
+use Rattle.plan_model.specs.Network.{count, connection, dep_of}
 use Rattle.plan_model.specs.Strategy.{IsBoardable}
 use Rattle.lower_proof.specs.declared.board.Entry.{Entry}
 use Rattle.lower_proof.specs.Certificates.{value_of}
@@ -17,10 +17,10 @@ pub record IsEntry (n : Parts) (p : ℕ) (e : Entry) : Type 0 where
   pub early : (x : ℕ) → x ≤ e.by.0 → IsBoardable n p x e.id.0
   pub late : (x : ℕ) → IsBoardable n p x e.id.0 → x ≤ e.by.0
 
--- these are the connections that can be boarded from a place, of the first m
-pub record AreEntries (n : Parts) (p m : ℕ) (entries : List Entry) : Type 0 where
+-- these are the connections that can be boarded from a place, of the first m; those that depart after a moment may be left out
+pub record AreEntries (n : Parts) (last p m : ℕ) (entries : List Entry) : Type 0 where
   pub each : (k : ℕ) → k < length entries → IsEntry n p (entry_at entries k)
-  pub all : (c x : ℕ) → c < m → IsTrue (connection n c).can_board → IsBoardable n p x c → (k : ℕ) × (k < length entries) × ((entry_at entries k).id.0 ≡ c)
+  pub all : (c x : ℕ) → c < m → dep_of n c ≤ last → IsTrue (connection n c).can_board → IsBoardable n p x c → (k : ℕ) × (k < length entries) × ((entry_at entries k).id.0 ≡ c)
 
 -- the later one may arrive, the sooner it stands
 abbrev pub Falls : List Entry → Type 0

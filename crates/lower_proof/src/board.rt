@@ -1,17 +1,18 @@
 //! The connections that can be boarded from a place, with the least of their values.
-ghost use Rattle.std.specs.Prelude.{◌≡◌, ℕ, ◌+◌, ◌<◌, ◌≤◌, length, max, IfOk, OnOk, IsTrue, [], ◌∷◌, ◌++◌, IsPermutation};
+ghost use Rattle.std.specs.Prelude.{◌≡◌, ℕ, ◌+◌, ◌<◌, ◌≤◌, ◌↔◌, length, max, IfOk, OnOk, IsTrue, [], ◌∷◌, ◌++◌, IsPermutation};
 ghost use Rattle.lower_proof.specs.Certificates.{IsLeastOf};
 ghost use Rattle.lower_proof.specs.Boards.{entry_at, Falls, ValueInTime};
+ghost use Rattle.lower_proof.specs.Departures.{NoneAfter};
 ghost use Rattle.lower_proof.specs.Minima.{AreMinima, AreLate, IsBoard, board_at, HaveEntries, AreBoards, AllLate};
 ghost use Rattle.std.specs.Prelude.{List as Sequence, Option as Maybe};
-ghost use Rattle.plan_model.specs.Network.{count, connection, IsValid};
+ghost use Rattle.plan_model.specs.Network.{count, connection, dep_of, IsValid};
 
 use crate::lesser;
 use plan_model::{ConnectionId, Moment, Network, NoMemory};
 use std::alloc::Global;
 use std::marker::Model;
 
-/// A connection that can be boarded by whoever arrives by a moment.
+/// A connection, by a moment: that of its departure, or the latest arrival that is in time to board it.
 #[derive(Clone, Copy, PartialEq, Eq, PartialOrd, Ord)]
 pub struct Entry {
     pub by: Moment,
@@ -157,9 +158,9 @@ fn add_entries(boards: &mut [Board], network: &Network, id: ConnectionId) -> Res
     requires there { id.0 < count network.now }
     requires board { IsTrue (connection network.now id.0).can_board }
     requires len { length boards.old ≡ length network.now.change }
-    requires entries { HaveEntries network.now id.0 boards.old }
     ensures len { OnOk result (length boards.new ≡ length network.now.change) }
-    ensures entries { OnOk result (HaveEntries network.now (id.0 + 1) boards.new) }
+    ensures entries { OnOk result ((last : ℕ) → HaveEntries network.now last id.0 boards.old
+        → HaveEntries network.now last (id.0 + 1) boards.new) }
 {
     let connection = network.get(id);
     for k in 0..network.way_count(connection.from) {
@@ -177,9 +178,10 @@ fn add_entries(boards: &mut [Board], network: &Network, id: ConnectionId) -> Res
 /// Puts the entries of each board in order.
 fn sort_boards(boards: &mut [Board], network: &Network)
     requires len { length boards.old ≡ length network.now.change }
-    requires entries { HaveEntries network.now (count network.now) boards.old }
-    ensures boards { (values : Sequence (Maybe ℕ)) → length values ≡ count network.now → AreBoards network.now values boards.new }
-    ensures late { (m : ℕ) → AllLate m boards.new }
+    ensures len { length boards.new ≡ length network.now.change }
+    ensures boards { (last : ℕ) (values : Sequence (Maybe ℕ)) → HaveEntries network.now last (count network.now) boards.old
+        → length values ≡ count network.now → NoneAfter network.now values last → AreBoards network.now last values boards.new }
+    ensures late { (last m : ℕ) → HaveEntries network.now last (count network.now) boards.old → AllLate m boards.new }
 {
     for p in 0..network.places() {
         let board = &mut boards[p as usize];
@@ -187,16 +189,26 @@ fn sort_boards(boards: &mut [Board], network: &Network)
     }
 }
 
-/// The boards of all places of a network.
-pub fn boards(alloc: Global, network: &Network) -> Result<Vec<Board>, NoMemory>
-    ensures boards { IfOk result (λ boards. (values : Sequence (Maybe ℕ)) → length values ≡ count network.now → AreBoards network.now values boards.items) }
+/// Whether a connection can be boarded, and departs by a moment.
+fn boards_by(network: &Network, id: ConnectionId, last: Moment) -> bool
+    requires { id.0 < count network.now }
+    ensures { IsTrue result ↔ IsTrue (connection network.now id.0).can_board × (dep_of network.now id.0 ≤ last.0) }
+{
+    let connection = network.get(id);
+    connection.can_board && connection.dep <= last
+}
+
+/// The boards of all places of a network, with the connections that depart by a moment.
+pub fn boards(alloc: Global, network: &Network, last: Moment) -> Result<Vec<Board>, NoMemory>
+    ensures boards { IfOk result (λ boards. (values : Sequence (Maybe ℕ)) → length values ≡ count network.now
+        → NoneAfter network.now values last.0 → AreBoards network.now last.0 values boards.items) }
     ensures late { IfOk result (λ boards. (m : ℕ) → AllLate m boards.items) }
     ensures valid { IfOk result (λ _. IsValid network.now) }
 {
     let mut boards = empty_boards(alloc, network.places())?;
     for i in 0..network.count() {
         let id = ConnectionId(i);
-        if network.get(id).can_board {
+        if boards_by(network, id, last) {
             add_entries(&mut boards, network, id)?;
         }
     }

@@ -6,24 +6,24 @@ ghost use Rattle.std.specs.Prelude.{◌≡◌, ℕ, ◌+◌, ◌<◌, ◌≤◌,
 ghost use Rattle.plan_model.specs.Parts.{Parts};
 ghost use Rattle.plan_model.specs.declared.model.Query.{Query as QueryParts};
 ghost use Rattle.plan_model.specs.Network.{IsValid, count, run_of, arr_of};
-ghost use Rattle.plan_model.specs.Order.{IsScanOrder};
 ghost use Rattle.plan_model.specs.Strategy.{IsBoardableAtStart};
 ghost use Rattle.lower_proof.specs.Certificates.{IsLeastOf, arrived_by, IsLeastAt, IsLeastAtStart, IsVia, IsTight, IsVerdict};
 ghost use Rattle.lower_proof.specs.Promises.{IsSound, IsBest};
 ghost use Rattle.lower_proof.specs.Steps.{lesser, KeepsTo, exit_of};
+ghost use Rattle.lower_proof.specs.Departures.{NoneAfter, AreDepartures};
 ghost use Rattle.lower_proof.specs.Minima.{IsBoard, board_at, AreBoards, AllLate};
 
 mod board;
 mod printer;
 mod reader;
+mod walk;
 
-use board::{Board, boards};
-use plan_model::{
-    BackwardOrder, ConnectionId, List, Moment, Network, NoMemory, PlaceId, Query, SortedOrder,
-};
+use board::{Board, Entry, boards};
+use plan_model::{ConnectionId, List, Moment, Network, NoMemory, PlaceId, Query};
 pub use printer::write_text;
 pub use reader::{ProofFault, read_text};
 use std::alloc::Global;
+use walk::{departures_by, last_departure};
 
 /// A lower bound for each connection that has one, in nanoseconds since 1970-01-01.
 #[derive(Drop)]
@@ -39,6 +39,13 @@ pub enum Verdict {
     Holds,
     /// The last connection of the scan order whose value is too great.
     Fails(ConnectionId),
+}
+
+/// What is asked, and the last departure that counts for it.
+#[derive(Clone, Copy)]
+struct Scope {
+    query: Query,
+    last: Moment,
 }
 
 /// The lesser of two values.
@@ -95,8 +102,8 @@ fn least_at(
     requires boards { (p : ℕ) → p < length boards.old → IsBoard values.now (board_at boards.old p) }
     requires place { place.0 < length boards.old }
     requires soon { moment.0 < 13601174401 }
-    ensures least { (n : Parts) → AreBoards n values.now boards.old → IsLeastAt n query.now values.now place.0 moment.0 result }
-    ensures boards { (n : Parts) → AreBoards n values.now boards.old → AreBoards n values.now boards.new }
+    ensures least { (n : Parts) (last : ℕ) → AreBoards n last values.now boards.old → IsLeastAt n query.now values.now place.0 moment.0 result }
+    ensures boards { (n : Parts) (last : ℕ) → AreBoards n last values.now boards.old → AreBoards n last values.now boards.new }
     ensures late { (m : ℕ) → m ≤ moment.0 → AllLate m boards.old → AllLate m boards.new }
 {
     if place == query.target {
@@ -111,14 +118,14 @@ fn via(
     boards: &mut [Board],
     values: &[Option<u64>],
     network: &Network,
-    query: &Query,
+    scope: &Scope,
     id: ConnectionId,
 ) -> Option<u64>
     requires valid { IsValid network.now }
-    requires boards { AreBoards network.now values.now boards.old }
+    requires boards { AreBoards network.now scope.now.last.0 values.now boards.old }
     requires there { id.0 < count network.now }
-    ensures via { IsLeastOf (IsVia network.now query.now values.now id.0) result }
-    ensures boards { AreBoards network.now values.now boards.new }
+    ensures via { IsLeastOf (IsVia network.now scope.now.query values.now id.0) result }
+    ensures boards { AreBoards network.now scope.now.last.0 values.now boards.new }
     ensures late { (m : ℕ) → m ≤ arr_of network.now id.0 → AllLate m boards.old → AllLate m boards.new }
 {
     let connection = network.get(id);
@@ -128,7 +135,7 @@ fn via(
     let mut sum: u128 = 0;
     for outcome in network.row(connection.class) {
         let moment = Moment(connection.arr.0 + u64::from(outcome.delay));
-        match least_at(boards, values, query, connection.to, moment) {
+        match least_at(boards, values, &scope.query, connection.to, moment) {
             None => return None,
             Some(value) => sum += u128::from(outcome.weight) * u128::from(value),
         }
@@ -150,45 +157,46 @@ fn offer(
     exits: &mut [Option<u64>],
     values: &[Option<u64>],
     network: &Network,
-    query: &Query,
+    scope: &Scope,
     id: ConnectionId,
 ) -> Option<u64>
     requires valid { IsValid network.now }
-    requires boards { AreBoards network.now values.now boards.old }
+    requires boards { AreBoards network.now scope.now.last.0 values.now boards.old }
     requires there { id.0 < count network.now }
     requires run { run_of network.now id.0 < length exits.old }
-    ensures best { (via : Maybe ℕ) × IsLeastOf (IsVia network.now query.now values.now id.0) via
+    ensures best { (via : Maybe ℕ) × IsLeastOf (IsVia network.now scope.now.query values.now id.0) via
         × (result ≡ lesser (exit_of exits.old (run_of network.now id.0)) via) }
     ensures exits { exits.new ≡ slice_set exits.old (run_of network.now id.0) result }
-    ensures boards { AreBoards network.now values.now boards.new }
+    ensures boards { AreBoards network.now scope.now.last.0 values.now boards.new }
     ensures late { (m : ℕ) → m ≤ arr_of network.now id.0 → AllLate m boards.old → AllLate m boards.new }
 {
     let run = network.get(id).run.0 as usize;
-    let best = lesser(exits[run], via(boards, values, network, query, id));
+    let best = lesser(exits[run], via(boards, values, network, scope, id));
     exits[run] = best;
     best
 }
 
-/// Checks each connection in the scan order, the last one first.
-fn check_all<B: BackwardOrder>(
-    order: &mut B,
+/// Checks each connection that counts, the last one first.
+fn check_all(
+    mut departures: Vec<Entry>,
     boards: &mut [Board],
     exits: &mut [Option<u64>],
     values: &[Option<u64>],
     network: &Network,
-    query: &Query,
+    scope: &Scope,
 ) -> Verdict
     requires valid { IsValid network.now }
-    requires fits { B.fits order.old network.now }
-    requires whole { IsScanOrder network.now (B.rest order.old network.now) }
+    requires departures { AreDepartures network.now scope.now.last.0 departures.items }
+    requires deadline { scope.now.query.deadline.0 ≤ scope.now.last.0 }
     requires values { length values.now ≡ count network.now }
-    requires boards { AreBoards network.now values.now boards.old }
+    requires boards { AreBoards network.now scope.now.last.0 values.now boards.old }
     requires runs { (i : ℕ) → i < count network.now → run_of network.now i < length exits.old }
     requires empty { (run : ℕ) → exit_of exits.old run ≡ Maybe.None }
-    ensures { IsVerdict network.now query.now values.now result }
+    ensures { IsVerdict network.now scope.now.query values.now result }
 {
-    while let Some(id) = order.next(network) {
-        let best = offer(boards, exits, values, network, query, id);
+    while let Some(departure) = departures.pop() {
+        let id = departure.id;
+        let best = offer(boards, exits, values, network, scope, id);
         if network.get(id).can_board && !keeps_to(values[id.0 as usize], best) {
             return Verdict::Fails(id);
         }
@@ -208,16 +216,21 @@ pub fn check(
     ensures verdict { IfOk result (IsVerdict network.now query.now proof.now.values) }
     ensures sound { IfOk result (λ verdict. verdict ≡ Verdict.Holds → IsSound network.now query.now proof.now.values) }
 {
-    let mut order = SortedOrder::new(alloc, network)?;
-    let mut boards = boards(alloc, network)?;
+    let values = proof.values.as_slice();
+    let last = last_departure(values, network, query.deadline);
+    let departures = departures_by(alloc, network, last)?;
+    let mut boards = boards(alloc, network, last)?;
     let mut exits = no_exits(alloc, network)?;
     Ok(check_all(
-        &mut order,
+        departures,
         &mut boards,
         &mut exits,
-        proof.values.as_slice(),
+        values,
         network,
-        query,
+        &Scope {
+            query: *query,
+            last,
+        },
     ))
 }
 
@@ -241,27 +254,28 @@ pub fn least(proof: &LowerBounds, network: &Network, query: &Query) -> Option<u6
     least
 }
 
-/// Gives each connection its value in the scan order, the last one first.
-fn write_all<B: BackwardOrder>(
-    order: &mut B,
+/// Gives each connection that departs by the deadline its value, the last one first. No other has one.
+fn write_all(
+    mut departures: Vec<Entry>,
     boards: &mut [Board],
     exits: &mut [Option<u64>],
     values: &mut [Option<u64>],
     network: &Network,
-    query: &Query,
+    scope: &Scope,
 )
     requires valid { IsValid network.now }
-    requires fits { B.fits order.old network.now }
-    requires whole { IsScanOrder network.now (B.rest order.old network.now) }
+    requires departures { AreDepartures network.now scope.now.last.0 departures.items }
+    requires deadline { scope.now.query.deadline.0 ≤ scope.now.last.0 }
     requires values { length values.old ≡ count network.now }
-    requires boards { AreBoards network.now values.old boards.old }
+    requires boards { AreBoards network.now scope.now.last.0 values.old boards.old }
     requires late { (m : ℕ) → AllLate m boards.old }
     requires runs { (i : ℕ) → i < count network.now → run_of network.now i < length exits.old }
     requires empty { (run : ℕ) → exit_of exits.old run ≡ Maybe.None }
-    ensures { IsTight network.now query.now values.new }
+    ensures { IsTight network.now scope.now.query values.new }
 {
-    while let Some(id) = order.next(network) {
-        let best = offer(boards, exits, values, network, query, id);
+    while let Some(departure) = departures.pop() {
+        let id = departure.id;
+        let best = offer(boards, exits, values, network, scope, id);
         values[id.0 as usize] = if network.get(id).can_board {
             best
         } else {
@@ -279,17 +293,21 @@ fn best_values(
     ensures valid { IfOk result (λ _. IsValid network.now) }
     ensures tight { IfOk result (λ values. IsTight network.now query.now values.items) }
 {
-    let mut order = SortedOrder::new(alloc, network)?;
-    let mut boards = boards(alloc, network)?;
+    let scope = Scope {
+        query: *query,
+        last: query.deadline,
+    };
+    let departures = departures_by(alloc, network, scope.last)?;
+    let mut boards = boards(alloc, network, scope.last)?;
     let mut exits = no_exits(alloc, network)?;
     let mut values: Vec<Option<u64>> = vec![in alloc; None; network.count() as usize]?;
     write_all(
-        &mut order,
+        departures,
         &mut boards,
         &mut exits,
         &mut values,
         network,
-        query,
+        &scope,
     );
     Ok(values)
 }

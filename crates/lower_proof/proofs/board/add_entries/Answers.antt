@@ -11,7 +11,7 @@ use Rattle.lower_proof.proofs.board.add_entries.Goals as goal
 use Rattle.lower_proof.proofs.board.add_entries.Goals.{then-seconds-connection+in_ok-add, else-seconds-connection}
 
 pub loop-k-init : goal.loop-k-init
-loop-k-init c = record { len = c.requires.len; ways = no_ways c.args.network.now c.args.id.0 c.args.boards.now c.requires.entries }
+loop-k-init c = record { len = c.requires.len; ways = λ last have. no_ways c.args.network.now last c.args.id.0 c.args.boards.now have }
 
 pub bounds-boards-way : goal.bounds-boards-way
 bounds-boards-way c =
@@ -47,18 +47,18 @@ loop-k-preserved c =
           ∙ ap (λ (b : Shown). b.entries ++ (record { by = record { 0 = by }; id = record { 0 = id } }) ∷ []) same in
           rw w.boards-is (record {
             len = length-set boards way.from.0 w.add.new.self ∙ loop.invariant.len;
-            ways = way_added n id c.requires.valid departs_in loop.k way listed by c.requires.there c.requires.board sum boards w.add.new.self inside is w.in_ok-add.ensures.least loop.invariant.ways;
+            ways = λ last have. way_added n last id c.requires.valid departs_in loop.k way listed by c.requires.there c.requires.board sum boards w.add.new.self inside is w.in_ok-add.ensures.least (loop.invariant.ways last have);
           })
       | else-seconds-connection w ↦
           let late = w.if-seconds-connection.false in
           rw w.boards-is (record {
             len = loop.invariant.len;
-            ways = way_passed n id c.requires.valid departs_in loop.k way listed (omega (arith, c.from-seconds.ensures, dep_is)) boards loop.invariant.ways;
+            ways = λ last have. way_passed n last id c.requires.valid departs_in loop.k way listed (omega (arith, c.from-seconds.ensures, dep_is)) boards (loop.invariant.ways last have);
           })
     ]
 
 pub returns-clause-entries : goal.returns-clause-entries
-returns-clause-entries c =
+returns-clause-entries c last have =
     let n = c.args.network.now in
     let ways_are = subst (λ (e : Connection). c.way_count-k-end.result ≡ length (ways_into n e.from.0)) c.get-connection.ensures.connection c.way_count-k-end.ensures in
-    all_ways n c.args.id.0 c.loop-k.boards c.loop-k.k (omega (arith, ways_are)) c.loop-k.invariant.ways
+    all_ways n last c.args.id.0 c.loop-k.boards c.loop-k.k (omega (arith, ways_are)) (c.loop-k.invariant.ways last have)

@@ -1,9 +1,10 @@
-use Rattle.std.proofs.Common.{◌≡◌, length}
+use Rattle.std.proofs.Common.{◌≡◌, ℕ, length}
+use Rattle.lower_proof.specs.Minima.{HaveEntries}
 use Rattle.lower_proof.proofs.Entries.{HaveWays}
 use Rattle.lower_proof.proofs.board.add_entries.Given as goal
 
 abbrev pub invariant-loop-k : goal.invariant-loop-k
 invariant-loop-k l = record {
   len : length l.boards ≡ length l.network.change;
-  ways : HaveWays l.network l.id.0 l.k l.boards;
+  ways : (last : ℕ) → HaveEntries l.network last l.id.0 l.initial.boards → HaveWays l.network last l.id.0 l.k l.boards;
 }

@@ -1,33 +1,47 @@
-use Rattle.std.proofs.Common.{◌≡◌, ◌∙◌, ℕ, arith, subst, sym, ap}
+use Rattle.std.proofs.Common.{◌≡◌, ℕ, arith, subst}
 use Rattle.std.proofs.lemmas.Bool.{both_ways}
-use Rattle.plan_model.specs.declared.model.Connection.{Connection}
-use Rattle.plan_model.specs.Network.{count, connection}
-use Rattle.lower_proof.specs.Minima.{HaveEntries}
+use Rattle.plan_model.specs.Network.{count}
+use Rattle.lower_proof.specs.Minima.{HaveEntries, AllLate}
 use Rattle.lower_proof.proofs.Minima.{written_back}
 use Rattle.lower_proof.proofs.Entries.{entries_skipped}
 use Rattle.lower_proof.proofs.board.boards.Goals as goal
-use Rattle.lower_proof.proofs.board.boards.Goals.{then-get+in_ok-add_entries, else-get}
+use Rattle.lower_proof.proofs.board.boards.Goals.{then-boards_by+in_ok-add_entries, else-boards_by}
 
 pub loop-i-preserved : goal.loop-i-preserved
 loop-i-preserved c =
     let n = c.args.network.now in
     let loop = c.loop-i in
-    let board_is = ap (λ (k : Connection). k.can_board) (sym c.get.ensures.connection) in
-    elim c.if-get.branch [
-      | then-get+in_ok-add_entries w ↦
+    elim c.if-boards_by.branch [
+      | then-boards_by+in_ok-add_entries w ↦
           let sizes = loop.boards.ok.0 in
           let added = w.in_ok-add_entries.ensures in
+          let given : HaveEntries n c.args.last.0 loop.i w.deref_mut.result.now = rw w.deref_mut.ensures.value loop.invariant.entries in
           let boards = written_back w.add_entries.new.boards loop.boards.items loop.boards.len (omega (arith, sizes, added.len, loop.invariant.len)) (omega (arith, sizes)) in
-          rw (w.boards-is, boards) (record { valid = loop.invariant.valid; len = added.len; entries = added.entries })
-      | else-get w ↦ rw w.boards-is (record {
+          rw (w.boards-is, boards) (record { valid = loop.invariant.valid; len = added.len; entries = added.entries c.args.last.0 given })
+      | else-boards_by w ↦ rw w.boards-is (record {
         valid = loop.invariant.valid;
         len = loop.invariant.len;
-        entries = entries_skipped n loop.i loop.boards.items (λ board. both_ways (connection n loop.i).can_board (board_is ∙ w.if-get.false) board) loop.invariant.entries;
+        entries = entries_skipped n c.args.last.0 loop.i loop.boards.items (λ board soon. both_ways c.boards_by.result w.if-boards_by.false (c.boards_by.ensures.1 (board, soon))) loop.invariant.entries;
       })
     ]
 
-pub sort_boards-requires-clause-entries : goal.sort_boards-requires-clause-entries
-sort_boards-requires-clause-entries c =
+pub returns-clause-boards : goal.returns-clause-boards
+returns-clause-boards c = λ values as_many none_after.
     let n = c.args.network.now in
+    let sizes = c.loop-i.boards.ok.0 in
     let whole : c.loop-i.i ≡ count n = omega (arith, c.count-i-end.ensures.count) in
-    rw c.deref_mut-2.ensures.value (subst (λ (m : ℕ). HaveEntries n m c.loop-i.boards.items) whole c.loop-i.invariant.entries)
+    let have = subst (λ (m : ℕ). HaveEntries n c.args.last.0 m c.loop-i.boards.items) whole c.loop-i.invariant.entries in
+    let given : HaveEntries n c.args.last.0 (count n) c.deref_mut-2.result.now = rw c.deref_mut-2.ensures.value have in
+    let back = written_back c.sort_boards.new.boards c.loop-i.boards.items c.loop-i.boards.len (omega (arith, sizes, c.sort_boards.ensures.len, c.loop-i.invariant.len)) (omega (arith, sizes)) in
+    rw back (c.sort_boards.ensures.boards c.args.last.0 values given as_many none_after)
+
+pub returns-clause-late : goal.returns-clause-late
+returns-clause-late c = λ m.
+    let n = c.args.network.now in
+    let sizes = c.loop-i.boards.ok.0 in
+    let whole : c.loop-i.i ≡ count n = omega (arith, c.count-i-end.ensures.count) in
+    let have = subst (λ (m : ℕ). HaveEntries n c.args.last.0 m c.loop-i.boards.items) whole c.loop-i.invariant.entries in
+    let given : HaveEntries n c.args.last.0 (count n) c.deref_mut-2.result.now = rw c.deref_mut-2.ensures.value have in
+    let back = written_back c.sort_boards.new.boards c.loop-i.boards.items c.loop-i.boards.len (omega (arith, sizes, c.sort_boards.ensures.len, c.loop-i.invariant.len)) (omega (arith, sizes)) in
+    let late : AllLate m c.sort_boards.new.boards = c.sort_boards.ensures.late c.args.last.0 m given in
+    rw back late

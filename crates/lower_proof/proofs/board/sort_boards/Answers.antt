@@ -1,8 +1,8 @@
-use Rattle.std.proofs.Common.{◌<◌, length, arith, subst}
+use Rattle.std.proofs.Common.{◌≡◌, ◌<◌, ◌∙◌, length, arith, subst}
 use Rattle.std.specs.List.Sorted.{IsPermutation}
-use Rattle.std.proofs.lemmas.List.{get_or_default}
+use Rattle.std.proofs.lemmas.List.{get_or_default, length-set}
 use Rattle.lower_proof.specs.Boards.{Shown}
-use Rattle.lower_proof.proofs.Entries.{no_board, sorted_more}
+use Rattle.lower_proof.proofs.Entries.{no_board, AreSorted, sorted_more, sorted_boards, sorted_late}
 use Rattle.lower_proof.proofs.board.sort_boards.Goals as goal
 
 pub loop-p-preserved : goal.loop-p-preserved
@@ -11,4 +11,21 @@ loop-p-preserved c =
     let p = c.loop-p.p in
     let inside : p < length boards = omega (arith, c.loop-p.invariant.len, c.requires.len) in
     let moved = subst (λ (b : Shown). IsPermutation b.entries c.sort.new.self.entries) (get_or_default boards p c.index-boards-p.result no_board inside) c.sort.ensures.permutation in
-    sorted_more c.args.network.now p boards c.sort.new.self inside moved c.sort.ensures.falls c.sort.ensures.least c.loop-p.invariant
+    record {
+      len = length-set boards p c.sort.new.self ∙ c.loop-p.invariant.len;
+      sorted = λ last have. sorted_more c.args.network.now last p boards c.sort.new.self inside moved c.sort.ensures.falls c.sort.ensures.least (c.loop-p.invariant.sorted last have);
+    }
+
+pub returns-clause-boards : goal.returns-clause-boards
+returns-clause-boards c = λ last values have as_many none_after.
+    let n = c.args.network.now in
+    let boards = c.loop-p.boards in
+    let whole : c.loop-p.p ≡ length boards = omega (arith, c.loop-p.invariant.len, c.places-p-end.ensures) in
+    sorted_boards n last boards values as_many none_after (subst (λ k. AreSorted n last k boards) whole (c.loop-p.invariant.sorted last have))
+
+pub returns-clause-late : goal.returns-clause-late
+returns-clause-late c = λ last m have.
+    let n = c.args.network.now in
+    let boards = c.loop-p.boards in
+    let whole : c.loop-p.p ≡ length boards = omega (arith, c.loop-p.invariant.len, c.places-p-end.ensures) in
+    sorted_late n last boards m (subst (λ k. AreSorted n last k boards) whole (c.loop-p.invariant.sorted last have))

@@ -1,0 +1,167 @@
+-- The connections that depart by a moment, sorted by departure and number, stand in the scan order.
+use Rattle.std.proofs.Common.{◌≡◌, ℕ, zero, suc, ◌+◌, ◌-◌, ◌<◌, ◌≤◌, ◌⊎◌, ◌∷◌, [], ◌++◌, List, Bool, false, length, get_or, map, All, AllPairs, eqb, ltb, true, arith, ⊎_elim, inl, inr, sym, ap, ◌∙◌, refl}
+use Rattle.std.specs.List.Sorted.{IsPermutation, IsSorted}
+use Rattle.std.specs.Ordering.{is_lt, nat_cmp, ordering_then}
+use Rattle.std.proofs.lemmas.Bool.{cases_lt}
+use Rattle.std.proofs.lemmas.Bool.Decides.{nat_tests}
+use Rattle.std.proofs.lemmas.List.{get_or-map, get_or_default, length-map, length_push, get_or_append_left, get_or_at}
+use Rattle.std.proofs.lemmas.List.Elements.{All-push}
+use Rattle.std.proofs.lemmas.List.Quantifiers.{all_pairs_push}
+use Rattle.std.proofs.lemmas.List.Sorted.{All-permutation, Contains-permutation}
+use Rattle.std.proofs.lemmas.Map.Keys.{IsDistinct-from_apart, IsDistinct-IsPermutation, apart_from_distinct}
+use Rattle.plan_model.specs.declared.model.ConnectionId.{ConnectionId}
+use Rattle.plan_model.specs.Parts.{Parts}
+use Rattle.plan_model.specs.Network.{IsValid, count, dep_of}
+use Rattle.plan_model.proofs.ScanOrders.{IsOrderBut}
+use Rattle.lower_proof.specs.declared.board.Entry.{Entry}
+use Rattle.lower_proof.specs.Boards.{entry_at}
+use Rattle.lower_proof.specs.Departures.{IsDeparture, AreDepartures}
+use Rattle.lower_proof.proofs.Entries.{entry_cmp, no_entry}
+
+-- ---- found one after the other
+
+-- those of the first m, by rising number
+pub record AreFound (n : Parts) (last m : ℕ) (entries : List Entry) : Type 0 where
+  pub each : All (IsDeparture n last) entries
+  pub below : All (λ e. e.id.0 < m) entries
+  pub all : (c : ℕ) → c < m → dep_of n c ≤ last → (k : ℕ) × (k < length entries) × ((entry_at entries k).id.0 ≡ c)
+  pub rising : AllPairs (λ a b. a.id.0 < b.id.0) entries
+
+pub found_none : (n : Parts) (last : ℕ) → AreFound n last 0 []
+found_none n last = record {
+  each = λ k d within. absurd (omega arith);
+  below = λ k d within. absurd (omega arith);
+  all = λ c less. absurd (omega arith);
+  rising = λ i j d less within. absurd (omega arith);
+}
+
+pub found_later : (n : Parts) (last m : ℕ) (entries : List Entry) → last < dep_of n m → AreFound n last m entries → AreFound n last (m + 1) entries
+found_later n last m entries late found = record {
+  each = found.each;
+  below = λ k d within. let less = found.below k d within in omega arith;
+  all = λ c less soon. elim (cases_lt c m) [
+    | inl before ↦ found.all c before soon
+    | inr newest ↦ let is : c ≡ m = omega arith in absurd (let same = ap (dep_of n) is in omega arith)
+  ];
+  rising = found.rising;
+}
+
+pub found_more : (n : Parts) (last m : ℕ) (entries : List Entry) (e : Entry) → m < count n → e.id.0 ≡ m → e.by.0 ≡ dep_of n m → e.by.0 ≤ last
+    → AreFound n last m entries → AreFound n last (m + 1) (entries ++ e ∷ [])
+found_more n last m entries e there is departs soon found = record {
+  each = All-push (IsDeparture n last) entries e found.each (omega arith, departs ∙ sym (ap (dep_of n) is), soon);
+  below = All-push (λ (x : Entry). x.id.0 < m + 1) entries e (λ k d within. let less = found.below k d within in omega arith) (omega arith);
+  all = λ c less by. elim (cases_lt c m) [
+    | inl before ↦
+        let (k, within, at) = found.all c before by in
+        (k, omega (arith, length_push entries e), ap (λ (x : Entry). x.id.0) (get_or_append_left entries (e ∷ []) no_entry k within) ∙ at)
+    | inr newest ↦
+        let same : m ≡ c = omega arith in
+        (length entries, omega (arith, length_push entries e), ap (λ (x : Entry). x.id.0) (get_or_at entries e [] no_entry (length entries) refl) ∙ is ∙ same)
+  ];
+  rising = all_pairs_push (λ (a b : Entry). a.id.0 < b.id.0) entries e found.rising (λ k d within. let less = found.below k d within in omega arith);
+}
+
+-- ---- sorted
+
+abbrev by_id : Entry → Entry → Bool
+by_id a b = eqb a.id.0 b.id.0
+
+eqb_flips : (a b : ℕ) → eqb a b ≡ eqb b a
+eqb_flips a b = grind (arith, nat_tests)
+
+-- a departs before b, or at once and has the smaller number
+abbrev InOrder : Entry → Entry → Type 0
+InOrder a b = (a.by.0 < b.by.0) ⊎ ((a.by.0 ≡ b.by.0) × (a.id.0 ≤ b.id.0))
+
+not_above : (x y u v : ℕ) → is_lt (ordering_then (nat_cmp y x) (nat_cmp v u)) ≡ false → (x < y) ⊎ ((x ≡ y) × (u ≤ v))
+not_above x y u v h =
+    ⊎_elim (λ less. inl less)
+    (λ ge. ⊎_elim (λ above. let t : ltb y x ≡ true = grind (arith, nat_tests) in absurd (cc (rw t at h)))
+    (λ le. let e : y ≡ x = omega arith in inr (sym e, ⊎_elim (λ lower. let s : ltb y x ≡ false = grind (arith, nat_tests) in let t : eqb y x ≡ true = grind (arith, nat_tests) in let w : ltb v u ≡ true = grind (arith, nat_tests) in absurd (cc (rw (s, t, w) at h))) (λ k. k) (cases_lt v u)))
+    (cases_lt y x))
+    (cases_lt x y)
+
+in_order : (a b : Entry) → is_lt (entry_cmp b a) ≡ false → InOrder a b
+in_order a b h = not_above a.by.0 b.by.0 a.id.0 b.id.0 h
+
+in_order_trans : (a b c : Entry) → InOrder a b → InOrder b c → InOrder a c
+in_order_trans a b c h k = ⊎_elim (λ x. ⊎_elim (λ y. inl (omega arith)) (λ y. inl (omega arith)) k) (λ x. ⊎_elim (λ y. inl (omega arith)) (λ y. inr (omega arith, omega arith)) k) h
+
+along : (ys : List Entry) → IsSorted entry_cmp ys → (d : Entry) (k m : ℕ) → k + suc m < length ys → InOrder (get_or ys k d) (get_or ys (k + suc m) d)
+along ys up d k zero h = in_order (get_or ys k d) (get_or ys (k + 1) d) (up k d (omega arith) h)
+along ys up d k (suc m) h =
+    let before = along ys up d k m (omega arith) in
+    let one : InOrder (get_or ys (k + suc m) d) (get_or ys (k + suc m + 1) d) = in_order (get_or ys (k + suc m) d) (get_or ys (k + suc m + 1) d) (up (k + suc m) d (omega arith) (omega arith)) in
+    let e : k + suc m + 1 ≡ k + suc (suc m) = omega arith in
+    rw (← e) (in_order_trans _ _ _ before one)
+
+strictly : (i j : ℕ) → i ≤ j → eqb i j ≡ false → i < j
+strictly i j h k = grind (arith, nat_tests)
+
+pub sorted_departures : (n : Parts) → IsValid n → (last : ℕ) (xs ys : List Entry) → AreFound n last (count n) xs → IsPermutation xs ys → IsSorted entry_cmp ys → AreDepartures n last ys
+sorted_departures n good last xs ys found moved up =
+    let each = All-permutation (IsDeparture n last) xs ys moved found.each in
+    let distinct = IsDistinct-from_apart by_id xs (λ i j d less inside. let rising = found.rising i j d less inside in let apart : eqb (get_or xs i d).id.0 (get_or xs j d).id.0 ≡ false = grind (arith, nat_tests) in apart) in
+    let apart = IsDistinct-IsPermutation by_id (λ x y. eqb_flips x.id.0 y.id.0) xs ys moved distinct in
+    record {
+      each = each;
+      all = λ c there soon.
+          let (k, within, at) = found.all c there soon in
+          let e = entry_at xs k in
+          let (i, inside, is) = Contains-permutation xs ys e moved (k, within, get_or_default xs k e no_entry within) in
+          (i, inside, ap (λ (x : Entry). x.id.0) (get_or_default ys i no_entry e inside ∙ is) ∙ at);
+      rising = λ k l d less h.
+          let a = get_or ys k d in
+          let b = get_or ys l d in
+          let first = each k d (omega arith) in
+          let second = each l d h in
+          let place : k + suc (l - k - 1) ≡ l = omega arith in
+          let order = rw place at (along ys up d k (l - k - 1) (omega arith)) in
+          let differ = apart_from_distinct by_id ys k l d apart less h in
+          ⊎_elim (λ sooner. inl (omega (arith, first.1, second.1)))
+          (λ level. inr (omega (arith, first.1, second.1), good.rising a.id.0 b.id.0 (strictly a.id.0 b.id.0 level.1 differ) second.0)) order;
+    }
+
+-- ---- the walk
+
+-- those that depart later are left out
+abbrev pub Late : Parts → ℕ → ℕ → Type 0
+Late n last c = last < dep_of n c
+
+-- the connections of entries
+abbrev pub ids_of : List Entry → List ConnectionId
+ids_of entries = map (λ e. e.id) entries
+
+pub departures_in_order : (n : Parts) (last : ℕ) (entries : List Entry) → AreDepartures n last entries → IsOrderBut n (Late n last) (ids_of entries)
+departures_in_order n last entries are =
+    let len : length (ids_of entries) ≡ length entries = length-map entries (λ (e : Entry). e.id) in
+    let at : (k : ℕ) (d : ConnectionId) → k < length entries → get_or (ids_of entries) k d ≡ (get_or entries k no_entry).id = λ k d h. get_or-map (λ (e : Entry). e.id) entries k no_entry d h in
+    record {
+      within = λ k d h. rw (at k d (omega arith)) ((are.each k no_entry (omega arith)).0);
+      all = λ c there. elim (cases_lt last (dep_of n c)) [
+        | inl late ↦ inl late
+        | inr soon ↦
+            let (k, within, is) = are.all c there soon in
+            inr (k, omega arith, at k (record { 0 = c }) within ∙ ap (λ (i : ℕ). record { 0 = i }) is)
+      ];
+      rising = λ i j d less h. rw (at i d (omega arith), at j d (omega arith)) (are.rising i j no_entry less (omega arith));
+      last = λ i j there late.
+          let (k, within, is) = there in
+          let one = are.each k no_entry (omega arith) in
+          let same : (get_or entries k no_entry).id.0 ≡ i = ap (λ (c : ConnectionId). c.0) (sym (at k (record { 0 = i }) (omega arith)) ∙ is) in
+          let departs = ap (dep_of n) same in
+          inl (omega (arith, one.1, one.2));
+    }
+
+-- one is taken
+pub ids_popped : (before after : List Entry) (e : Entry) → before ≡ after ++ e ∷ [] → ids_of before ≡ ids_of after ++ e.id ∷ []
+ids_popped before after e is = ap ids_of is ∙ pushed after
+  where
+    pushed : (xs : List Entry) → ids_of (xs ++ e ∷ []) ≡ ids_of xs ++ e.id ∷ []
+    pushed [] = refl
+    pushed (x ∷ xs) = ap (λ (ids : List ConnectionId). x.id ∷ ids) (pushed xs)
+
+pub no_ids : (entries : List Entry) → length entries ≡ 0 → ids_of entries ≡ []
+no_ids [] none = refl
+no_ids (e ∷ entries) none = absurd (omega arith)

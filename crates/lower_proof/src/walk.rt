@@ -1,0 +1,50 @@
+//! The connections that count, in the scan order.
+ghost use Rattle.std.specs.Prelude.{◌≡◌, ◌<◌, ◌≤◌, length, IfOk, Option as Maybe};
+ghost use Rattle.plan_model.specs.Network.{count, IsValid};
+ghost use Rattle.lower_proof.specs.Departures.{NoneAfter, AreDepartures};
+
+use crate::board::Entry;
+use plan_model::{ConnectionId, Moment, Network, NoMemory};
+use std::alloc::Global;
+
+/// The later of a moment and a departure, where its connection has a value.
+fn later(last: Moment, value: Option<u64>, dep: Moment) -> Moment
+    ensures at_least { last.0 ≤ result.0 }
+    ensures none { result.0 < dep.0 → value ≡ Maybe.None }
+{
+    match value {
+        None => last,
+        Some(_) => { if last < dep { dep } else { last } }
+    }
+}
+
+/// The last departure of a connection that has a value, or the deadline where that is later. Who
+/// departs later is too late, and has no value that may be too great.
+pub fn last_departure(values: &[Option<u64>], network: &Network, deadline: Moment) -> Moment
+    requires { length values.now ≡ count network.now }
+    ensures deadline { deadline.0 ≤ result.0 }
+    ensures none { NoneAfter network.now values.now result.0 }
+{
+    let mut last = deadline;
+    for i in 0..network.count() {
+        last = later(last, values[i as usize], network.get(ConnectionId(i)).dep);
+    }
+    last
+}
+
+/// The connections that depart by a moment, in the scan order.
+pub fn departures_by(alloc: Global, network: &Network, last: Moment) -> Result<Vec<Entry>, NoMemory>
+    ensures valid { IfOk result (λ _. IsValid network.now) }
+    ensures departures { IfOk result (λ departures. AreDepartures network.now last.0 departures.items) }
+{
+    let mut departures = Vec::new(alloc);
+    for i in 0..network.count() {
+        let id = ConnectionId(i);
+        let by = network.get(id).dep;
+        if by.0 <= last.0 {
+            departures.push(Entry { by, id })?;
+        }
+    }
+    departures.sort_unstable();
+    Ok(departures)
+}
