@@ -6,7 +6,7 @@ use Rattle.plan_model.specs.declared.model.PlaceId.{PlaceId}
 use Rattle.plan_model.specs.Parts.{Parts}
 use Rattle.plan_model.specs.NameLists.{NameLists}
 use Rattle.plan_model.specs.Network.{count, run_of, step_of}
-use Rattle.graph_text.specs.Texts.{place_name, run_name}
+use Rattle.printed_rows.specs.Writers.{place_name, run_name}
 use Rattle.trip_replay.specs.declared.ReplayFault.{ReplayFault}
 use Rattle.trip_replay.specs.declared.ReplayFault.TheVariants as replay
 use Rattle.fault_lines.specs.declared.told.NamedNetwork.{NamedNetwork}

@@ -11,7 +11,8 @@ use Rattle.graph_text.specs.declared.Head.{Head}
 use Rattle.graph_text.specs.declared.reader.HeadRow.{HeadRow}
 use Rattle.graph_text.specs.declared.reader.TextFault.{TextFault}
 use Rattle.graph_text.specs.declared.version.Version.{Version}
-use Rattle.graph_text.specs.Reading.{field, number_of, and_then, graph_in, are_in_order, is_query, is_head, head_numbers, head_row_in, head_named, head_of_numbers, head_in, version_in, graph_of_version, graph_of_records, graph_of}
+use Rattle.graph_text.specs.Reading.{and_then, graph_in, are_in_order, is_query, is_head, head_numbers, head_row_in, head_named, head_of_numbers, head_in, version_in, graph_of_version, graph_of_records, graph_of}
+use Rattle.printed_rows.specs.Fields.{field, number_of}
 
 deadline_in : Option HeadRow → Option ℕ
 deadline_in None = None

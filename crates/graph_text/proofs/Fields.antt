@@ -1,6 +1,6 @@
 -- The fields of printed rows.
-use Rattle.std.proofs.Common.{◌≡◌, ℕ, zero, suc, ◌+◌, ◌<◌, List, [], ◌∷◌, ◌++◌, length, drop, take, Some, Result, arith, sym, ◌∙◌, ap, refl, subst, append_assoc}
-use Rattle.std.specs.Prelude.{slice_get, slice_index_or, decimal, OnOk}
+use Rattle.std.proofs.Common.{◌≡◌, ℕ, ◌+◌, ◌<◌, List, [], ◌∷◌, ◌++◌, length, drop, take, sym, ◌∙◌, ap, refl}
+use Rattle.std.specs.Prelude.{slice_index_or, decimal}
 use Rattle.clock_text.specs.Civil.{moment_text}
 use Rattle.plan_model.specs.declared.model.Leg.{Leg}
 use Rattle.plan_model.specs.declared.model.Connection.{Connection}
@@ -10,16 +10,12 @@ use Rattle.plan_model.specs.Network.{connection}
 use Rattle.plan_graph.specs.declared.GraphRow.{GraphRow}
 use Rattle.plan_graph.specs.declared.Ride.{Ride}
 use Rattle.plan_graph.specs.declared.PlaceTable.{PlaceTable}
+use Rattle.printed_rows.proofs.Lines.{split_at, text_step}
 use Rattle.graph_text.specs.declared.version.Version.{Version}
 use Rattle.graph_text.specs.declared.version.Version.TheVariants.{First, Second}
 use Rattle.graph_text.specs.Versions.{width_of, ninth}
-use Rattle.graph_text.specs.Texts.{leg_fields, place_name, run_name, leg_row, rows_text, ride_text, rides_text, table_text, tables_text}
-
--- the name of this number
-pub name_is : (names : List (List ℕ)) (i : ℕ) (name : List ℕ) → slice_get names i ≡ Some name → name ≡ slice_index_or names i []
-name_is [] i name is = absurd (cc)
-name_is (head ∷ names) zero name is = cc
-name_is (head ∷ names) (suc i) name is = name_is names i name is
+use Rattle.graph_text.specs.Texts.{leg_fields, leg_row, rows_text, ride_text, rides_text, table_text, tables_text}
+use Rattle.printed_rows.specs.Writers.{place_name, run_name}
 
 pub eight : (a b c d e f g h a' b' c' d' e' f' g' h' : List ℕ) → a ≡ a' → b ≡ b' → c ≡ c' → d ≡ d' → e ≡ e' → f ≡ f' → g ≡ g' → h ≡ h' → ◌≡◌ {A = List (List ℕ)} (a ∷ b ∷ c ∷ d ∷ e ∷ f ∷ g ∷ h ∷ []) (a' ∷ b' ∷ c' ∷ d' ∷ e' ∷ f' ∷ g' ∷ h' ∷ [])
 eight a b c d e f g h a' b' c' d' e' f' g' h' = λ one two three four five six seven last. cc
@@ -45,25 +41,6 @@ leg_row_fields n names version leg enter exit kind second run entry_step dep exi
     (e ∙ ap (λ (k : Connection). place_name names k.to.0) at_exit)
     (f ∙ ap (λ (k : Connection). moment_text k.arr.0) at_exit)
     (g ∙ ap (λ (k : Connection). place_name names k.from.0) at_enter)
-
--- texts one after another
-pub append_twice : (new mid old a b : List ℕ) → mid ≡ old ++ a → mid ++ b ≡ old ++ (a ++ b)
-append_twice new mid old a b is = ap (λ (list : List ℕ). list ++ b) is ∙ append_assoc old a b
-
-pub append_ok : {T E : Type 0} (r : Result T E) (new mid old a b : List ℕ) → mid ≡ old ++ a → OnOk r (new ≡ mid ++ b) → OnOk r (new ≡ old ++ (a ++ b))
-append_ok r new mid old a b is ok = subst (λ (list : List ℕ). OnOk r (new ≡ list)) (append_twice new mid old a b is) ok
-
-split : {X : Type 0} (xs : List X) (i : ℕ) (d : X) → i < length xs → drop i xs ≡ slice_index_or xs i d ∷ drop (suc i) xs
-split [] i d within = absurd (omega (arith, within))
-split (x ∷ xs) zero d within = refl
-split (x ∷ xs) (suc i) d within = split xs i d (omega (arith, within))
-
--- after one element more
-pub split_at : {X : Type 0} (xs : List X) (i : ℕ) (d : X) → i < length xs → drop i xs ≡ slice_index_or xs i d ∷ drop (i + 1) xs
-split_at xs i d within = let one : suc i ≡ i + 1 = omega arith in subst (λ (k : ℕ). drop i xs ≡ slice_index_or xs i d ∷ drop k xs) one (split xs i d within)
-
-pub text_step : (new old a rest all : List ℕ) → new ≡ old ++ a → old ++ (a ++ rest) ≡ all → new ++ rest ≡ all
-text_step new old a rest all is before = append_twice new new old a rest is ∙ before
 
 pub rows_step : (n : Parts) (names : NameLists) (version : Version) (kind : List ℕ) (rows : List GraphRow) (i : ℕ) (d : GraphRow) (new old all second : List ℕ) → i < length rows → second ≡ moment_text (slice_index_or rows i d).by.0
     → new ≡ old ++ leg_row n names version kind second (slice_index_or rows i d).leg → old ++ rows_text n names version kind (drop i rows) ≡ all → new ++ rows_text n names version kind (drop (i + 1) rows) ≡ all

@@ -34,9 +34,10 @@ use Rattle.graph_text.specs.declared.reader.PlaceRow.{PlaceRow}
 use Rattle.graph_text.specs.declared.reader.HeadRow.{HeadRow}
 use Rattle.graph_text.specs.declared.reader.TableStart.{TableStart}
 use Rattle.graph_text.specs.declared.reader.Reading.{Reading}
-use Rattle.graph_text.specs.Reading.{connection_of, names_in, leg_between, leg_found, agrees, leg_of, number_of, is_limit, rises, can_start, is_by_limit, start_by, start_named, start_numbers, start_in, row_by_leg, row_named, row_numbers, row_in, leg_row_in, field, table_named, table_numbers, table_in, place_row_in, begun, extended, place_or_first, step, and_then, tables_from, no_tables, started_in, graph_in, are_in_order, is_query, is_head, head_numbers, head_row_in, head_named, head_of_numbers, head_in, version_in, graph_of_version, graph_of_records}
+use Rattle.graph_text.specs.Reading.{names_in, leg_between, leg_found, agrees, leg_of, is_limit, can_start, is_by_limit, start_by, start_named, start_numbers, start_in, row_by_leg, row_named, row_numbers, row_in, leg_row_in, table_named, table_numbers, table_in, place_row_in, begun, extended, place_or_first, step, and_then, tables_from, no_tables, started_in, graph_in, are_in_order, is_query, is_head, head_numbers, head_row_in, head_named, head_of_numbers, head_in, version_in, graph_of_version, graph_of_records}
+use Rattle.printed_rows.specs.Fields.{connection_of, number_of, rises, field}
 use Rattle.graph_text.specs.Asked.{IsAsked}
-use Rattle.graph_text.proofs.Found.{at_both}
+use Rattle.printed_rows.proofs.Found.{at_both}
 
 ok_same : {A : Type 0} (a b : A) → ◌≡◌ {A = Result A TextFault} (Ok a) (Ok b) → a ≡ b
 ok_same a b is = cc

@@ -1,5 +1,5 @@
 -- Whether the legs of rows leave their place, row by row.
-use Rattle.std.proofs.Common.{◌≡◌, ℕ, ◌+◌, ◌<◌, Bool, true, false, List, ◌∷◌, length, drop, arith, sym, ap, ◌∙◌}
+use Rattle.std.proofs.Common.{◌≡◌, ℕ, ◌+◌, ◌<◌, Bool, true, false, List, length, drop, sym, ap, ◌∙◌}
 use Rattle.std.specs.Prelude.{◌==◌, ◌&&◌, slice_index_or}
 use Rattle.plan_model.specs.Parts.{Parts}
 use Rattle.plan_model.specs.Network.{from_of}
@@ -8,7 +8,7 @@ use Rattle.plan_graph.specs.declared.GraphRow.{GraphRow}
 use Rattle.plan_graph.specs.declared.PlaceTable.{PlaceTable}
 use Rattle.plan_graph.specs.declared.Ride.{Ride}
 use Rattle.graph_text.specs.Versions.{rows_leave, tables_leave, rides_leave}
-use Rattle.graph_text.proofs.Fields.{split_at}
+use Rattle.printed_rows.proofs.Lines.{split_at}
 
 -- a conjunction by its first part
 pub and_not : (whole test own rest : Bool) → whole ≡ (own && rest) → test ≡ own → test ≡ false → whole ≡ false

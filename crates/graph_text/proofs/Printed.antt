@@ -1,62 +1,12 @@
--- The records of a printed text.
-use Rattle.std.proofs.Common.{◌≡◌, ℕ, zero, suc, ◌+◌, ◌≤◌, List, [], ◌∷◌, ◌++◌, length, map, arith, sym, refl, ap, ◌∙◌, append_assoc}
-use Rattle.std.proofs.lemmas.List.{length-append}
-use Rattle.csv.specs.Machine.{next_record}
-use Rattle.csv.specs.Reading.{default_config, records, records_from, strip_bom}
-use Rattle.csv.specs.Writing.{default_writer, row_text, row_body, read_back}
-use Rattle.csv.specs.declared.parser.State.TheVariants as st
-use Rattle.csv.proofs.RoundTrip.{read-write, rows_text as text_of_rows}
+-- The fields of printed rows stay as they are, and the texts of rows one after the other.
+use Rattle.std.proofs.Common.{◌≡◌, ℕ, List, [], ◌∷◌, ◌++◌, sym, refl, ap, ◌∙◌, append_assoc}
+use Rattle.csv.specs.Writing.{default_writer, row_text}
+use Rattle.csv.proofs.RoundTrip.{rows_text as text_of_rows}
 use Rattle.csv_rows.specs.Spaces.{trimmed}
-use Rattle.csv_rows.specs.Tables.{table_of}
+use Rattle.printed_rows.proofs.Printed.{IsKept}
 use Rattle.graph_text.specs.declared.version.Version.{Version}
 use Rattle.graph_text.specs.declared.version.Version.TheVariants.{First, Second}
 use Rattle.graph_text.specs.Versions.{ninth}
-
--- each record's text has a byte
-last_byte : (front mid : List ℕ) → 1 ≤ length (front ++ (mid ++ 10 ∷ []))
-last_byte front mid = simp length-append (omega arith)
-
-row_some : (row : List (List ℕ)) → 1 ≤ length (row_text default_writer row)
-row_some row = last_byte (row_body default_writer row) _
-
-few_rows : (rows : List (List (List ℕ))) → length rows ≤ length (text_of_rows rows)
-unfolding text_of_rows
-few_rows [] = omega arith
-few_rows (row ∷ rows) = omega (arith, row_some row, few_rows rows, length-append (row_text default_writer row) (text_of_rows rows))
-
--- what is printed are these records
-records_in : (rows : List (List (List ℕ))) (turns : ℕ) → length rows ≤ turns → records_from default_config turns st.StartRecord (text_of_rows rows) ≡ map read_back rows
-unfolding records_from text_of_rows next_record
-records_in [] zero enough = refl
-records_in [] (suc turns) enough = refl
-records_in (row ∷ rows) zero enough = absurd (omega (arith, enough))
-records_in (row ∷ rows) (suc turns) enough =
-    rw (read-write row (text_of_rows rows)) (ap (λ (rest : List (List (List ℕ))). read_back row ∷ rest) (records_in rows turns (omega (arith, enough))))
-
--- a record has a field, and no space stands at an end of one
-abbrev pub IsKept : List (List ℕ) → Type 0
-IsKept row = map trimmed (read_back row) ≡ row
-
-abbrev pub AreKept : List (List (List ℕ)) → Type 0
-AreKept [] = Unit {0}
-AreKept (row ∷ rows) = IsKept row × AreKept rows
-
-pub kept-append : (rows more : List (List (List ℕ))) → AreKept rows → AreKept more → AreKept (rows ++ more)
-kept-append [] more kept other = other
-kept-append (row ∷ rows) more kept other = (kept.0, kept-append rows more kept.1 other)
-
-kept_back : (rows : List (List (List ℕ))) → AreKept rows → map (λ row. map trimmed row) (map read_back rows) ≡ rows
-kept_back [] kept = refl
-kept_back (row ∷ rows) kept =
-    ap (λ (first : List (List ℕ)). first ∷ map (λ r. map trimmed r) (map read_back rows)) kept.0
-    ∙ ap (λ (rest : List (List (List ℕ))). row ∷ rest) (kept_back rows kept.1)
-
--- a text that begins with no byte-order mark is read as its records
-pub table_back : (rows : List (List (List ℕ))) → AreKept rows → strip_bom (text_of_rows rows) ≡ text_of_rows rows → table_of (text_of_rows rows) ≡ rows
-table_back rows kept plain =
-    ap (λ (text : List ℕ). map (λ row. map trimmed row) (records default_config text)) plain
-    ∙ ap (λ (raw : List (List (List ℕ))). map (λ row. map trimmed row) raw) (records_in rows (length (text_of_rows rows) + 1) (omega (arith, few_rows rows)))
-    ∙ kept_back rows kept
 
 pub fields_kept : (version : Version) (a b c d e f g h last : List ℕ) → trimmed a ≡ a → trimmed b ≡ b → trimmed c ≡ c → trimmed d ≡ d → trimmed e ≡ e → trimmed f ≡ f → trimmed g ≡ g → trimmed h ≡ h → trimmed last ≡ last
     → IsKept (a ∷ b ∷ c ∷ d ∷ e ∷ f ∷ g ∷ h ∷ ninth version last)

@@ -24,7 +24,7 @@ use Rattle.plan_model.specs.declared.model.PlaceId.{PlaceId}
 use Rattle.plan_model.specs.Parts.{Parts}
 use Rattle.plan_model.specs.NameLists.{NameLists, NamesFit, AreNames}
 use Rattle.plan_model.specs.Network.{IsValid, count, change_of, connection, run_of, step_of, from_of, to_of, dep_of, arr_of}
-use Rattle.plan_model.specs.Ways.{limit_of, way_of, earlier_by}
+use Rattle.plan_model.specs.Ways.{way_of, earlier_by}
 use Rattle.plan_graph.specs.declared.GraphRow.{GraphRow}
 use Rattle.plan_graph.specs.declared.PlaceTable.{PlaceTable}
 use Rattle.plan_graph.specs.declared.PlanGraph.{PlanGraph}
@@ -33,7 +33,7 @@ use Rattle.plan_graph.specs.Tidy.{IsFit, IsFitRow, IsFitTable, IsFitStart}
 use Rattle.graph_text.specs.declared.Head.{Head}
 use Rattle.graph_text.specs.declared.version.Version.{Version}
 use Rattle.graph_text.specs.declared.version.Version.TheVariants.{First, Second}
-use Rattle.graph_text.specs.Versions.{number_of_version, width_of, ninth, rows_leave, tables_leave, version_by}
+use Rattle.graph_text.specs.Versions.{number_of_version, ninth, rows_leave, tables_leave, version_by}
 use Rattle.graph_text.specs.declared.reader.LegRow.{LegRow}
 use Rattle.graph_text.specs.declared.reader.LegNames.{LegNames}
 use Rattle.graph_text.specs.declared.reader.HeadRow.{HeadRow}
@@ -44,13 +44,16 @@ use Rattle.graph_text.specs.declared.reader.TextFault.TheVariants as fault
 use Rattle.graph_text.specs.declared.reader.Reading.{Reading}
 use Rattle.graph_text.specs.Asked.{IsAsked}
 use Rattle.graph_text.specs.Printable.{IsPrintableQuery}
-use Rattle.graph_text.specs.Texts.{leg_fields, place_name, run_name, rows_text, start_text, tables_text, row_of_fields, graph_text_in, graph_text}
-use Rattle.graph_text.specs.Reading.{number_of, whole_at, connection_of, entry_in, leg_names, names_in, leg_numbers, leg_row_in, leg_found, leg_between, agrees, leg_of, is_limit, rises, start_by, start_named, start_numbers, start_in, is_by_limit, row_by_leg, row_named, row_numbers, row_in, place_numbers, place_row_in, table_named, table_numbers, table_in, begun, extended, step, and_then, tables_from, no_tables, graph_in, started_in, head_numbers, head_row_in, head_named, head_of_numbers, head_in, version_in, graph_of_version, graph_of_records, graph_of}
-use Rattle.graph_text.proofs.Found.{connection_number}
+use Rattle.graph_text.specs.Texts.{leg_fields, rows_text, start_text, tables_text, graph_text_in, graph_text}
+use Rattle.printed_rows.specs.Writers.{place_name, run_name, row_of_fields}
+use Rattle.graph_text.specs.Reading.{entry_in, leg_names, names_in, leg_numbers, leg_row_in, leg_found, leg_between, agrees, leg_of, is_limit, start_by, start_named, start_numbers, start_in, is_by_limit, row_by_leg, row_named, row_numbers, row_in, place_numbers, place_row_in, table_named, table_numbers, table_in, begun, extended, step, and_then, tables_from, no_tables, graph_in, started_in, head_numbers, head_row_in, head_named, head_of_numbers, head_in, version_in, graph_of_version, graph_of_records, graph_of}
+use Rattle.printed_rows.specs.Fields.{number_of, whole_at, connection_of, rises}
+use Rattle.printed_rows.proofs.Found.{connection_number}
 use Rattle.graph_text.proofs.Laws.{limit_soon, place_there}
 use Rattle.graph_text.proofs.Steps.{leg_step}
-use Rattle.graph_text.proofs.Plain.{moment_kept, nanos_kept, decimal_kept, whole_back, name_back, name_kept, le_holds}
-use Rattle.graph_text.proofs.Printed.{IsKept, AreKept, kept-append, fields_kept, table_back, rows-append}
+use Rattle.printed_rows.proofs.Plain.{moment_kept, nanos_kept, decimal_kept, whole_back, name_back, name_kept, le_holds}
+use Rattle.graph_text.proofs.Printed.{fields_kept, rows-append}
+use Rattle.printed_rows.proofs.Printed.{IsKept, AreKept, kept-append, table_back}
 
 eq_holds : (a b : ℕ) → a ≡ b → (a == b) ≡ true
 eq_holds a b same = grind (arith, nat_tests)

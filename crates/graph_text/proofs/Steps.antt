@@ -13,7 +13,7 @@ use Rattle.graph_text.specs.declared.version.Version.{Version}
 use Rattle.graph_text.specs.declared.reader.Reading.{Reading}
 use Rattle.graph_text.specs.declared.reader.TextFault.{TextFault}
 use Rattle.graph_text.specs.declared.reader.TextFault.TheVariants as f
-use Rattle.graph_text.proofs.Fields.{split_at}
+use Rattle.printed_rows.proofs.Lines.{split_at}
 use Rattle.graph_text.specs.Reading.{extended, row_in, step, IsRead, place_or_first, and_then, tables_from, graph_in, head_in, version_in, graph_of_version, graph_of_records}
 
 not_none : (left : ℕ) → (left ≡ 0 → ⊥) → (left == 0) ≡ false

@@ -1,9 +1,7 @@
 -- What a graph's text tells, or the first of its faults by line.
-use Rattle.std.specs.Prelude.{◌≡◌, ℕ, ◌+◌, ◌-◌, Bool, true, false, List, [], ◌∷◌, ◌++◌, length, ◌==◌, ◌&&◌, nat_le, nat_lt, if◌then◌else◌, slice_index_or, codes, Option, Some, None, Result, Ok, Err, ◌⊎◌, ◌<◌, IsSome, IfSome}
+use Rattle.std.specs.Prelude.{◌≡◌, ℕ, ◌+◌, ◌-◌, Bool, true, false, List, [], ◌∷◌, ◌++◌, length, ◌==◌, ◌&&◌, nat_le, if◌then◌else◌, codes, Option, Some, None, Result, Ok, Err, ◌⊎◌, ◌<◌, IsSome, IfSome}
 use Rattle.std.specs.Option.{option_map, option_and_then}
-use Rattle.std.specs.List.{position_from}
-use Rattle.std.specs.Str.{bytes_eq, is_utf8}
-use Rattle.clock_text.specs.Digits.{whole_of}
+use Rattle.std.specs.Str.{bytes_eq}
 use Rattle.clock_text.specs.Times.{moment_at, nanos_at}
 use Rattle.csv_rows.specs.Tables.{table_of}
 use Rattle.plan_model.specs.declared.model.Leg.{Leg}
@@ -14,6 +12,7 @@ use Rattle.plan_model.specs.Ways.{limit_of}
 use Rattle.plan_graph.specs.declared.GraphRow.{GraphRow}
 use Rattle.plan_graph.specs.declared.PlaceTable.{PlaceTable}
 use Rattle.plan_graph.specs.declared.PlanGraph.{PlanGraph}
+use Rattle.printed_rows.specs.Fields.{field, is_kind, whole_at, number_of, connection_of, rises}
 use Rattle.graph_text.specs.declared.Head.{Head}
 use Rattle.graph_text.specs.declared.reader.TextFault.{TextFault}
 use Rattle.graph_text.specs.declared.version.Version.{Version}
@@ -28,30 +27,10 @@ use Rattle.graph_text.specs.declared.reader.TableStart.{TableStart}
 use Rattle.graph_text.specs.declared.reader.Reading.{Reading}
 use Rattle.plan_model.specs.declared.model.PlaceId.{PlaceId}
 
--- a field of a record
-abbrev pub field : List (List ℕ) → ℕ → List ℕ
-field r k = slice_index_or r k []
-
--- whether it is a record of this kind, of as many fields as the version has
-abbrev pub is_kind : Version → List ℕ → List (List ℕ) → Bool
-is_kind version kind r = (length r == width_of version) && bytes_eq (field r 0) kind
-
 -- whether the field of the entry place is empty, where the version has one
 abbrev pub has_no_entry : Version → List (List ℕ) → Bool
 has_no_entry First r = true
 has_no_entry Second r = length (field r 8) == 0
-
--- a whole number: one to nine digits
-abbrev pub whole_at : List ℕ → Option ℕ
-whole_at text = whole_of 999999999 text
-
--- the number of a name; none where it is not among the names
-abbrev pub number_of : List (List ℕ) → List ℕ → Option ℕ
-number_of names text = if is_utf8 text then position_from (λ name. bytes_eq name text) 0 names else None
-
--- the connection of a run and step
-abbrev pub connection_of : Parts → ℕ → ℕ → Option ℕ
-connection_of n run step = position_from (λ c. (c.run.0 == run) && (c.step == step)) 0 n.connections
 
 -- the numbers of a leg's row, where each is of its form
 abbrev pub leg_numbers : Option ℕ → Option ℕ → Option ℕ → Option ℕ → Option ℕ → Option LegRow
@@ -61,7 +40,7 @@ leg_numbers _ _ _ _ _ = None
 
 abbrev pub leg_row_in : Version → List ℕ → List (List ℕ) → Option LegRow
 leg_row_in version kind r =
-    if is_kind version kind r
+    if is_kind kind (width_of version) r
     then leg_numbers (moment_at (field r 1)) (whole_at (field r 3)) (moment_at (field r 4)) (whole_at (field r 5)) (moment_at (field r 7))
     else None
 
@@ -102,11 +81,6 @@ leg_found n x known = leg_between n x known (connection_of n known.run.0 x.enter
 abbrev pub is_limit : Option ℕ → ℕ → Bool
 is_limit None moment = false
 is_limit (Some limit) moment = limit == moment
-
--- whether it is greater than the one before, if there is one
-abbrev pub rises : Option ℕ → ℕ → Bool
-rises None x = true
-rises (Some last) x = nat_lt last x
 
 -- whether a leg leaves the source at the start or later, and the row's moment is its departure
 abbrev pub can_start : Parts → ℕ → ℕ → ℕ → Leg → Bool
@@ -162,7 +136,7 @@ is_blank r = (length (field r 4) == 0) && ((length (field r 5) == 0) && ((length
 
 -- whether it is a place row, of which the fields after the numbers are empty
 abbrev pub is_place : Version → List (List ℕ) → Bool
-is_place version r = is_kind version (codes "place") r && (is_blank r && has_no_entry version r)
+is_place version r = is_kind (codes "place") (width_of version) r && (is_blank r && has_no_entry version r)
 
 abbrev pub place_row_in : Version → List (List ℕ) → Option PlaceRow
 place_row_in version r = if is_place version r then place_numbers (whole_at (field r 2)) (whole_at (field r 3)) else None
@@ -255,7 +229,7 @@ version_in r =
 
 -- whether it is the first row of a graph
 abbrev pub is_head : Version → List (List ℕ) → Bool
-is_head version r = is_kind version (codes "graph") r && has_no_entry version r
+is_head version r = is_kind (codes "graph") (width_of version) r && has_no_entry version r
 
 abbrev pub head_row_in : Version → List (List ℕ) → Option HeadRow
 head_row_in version r =

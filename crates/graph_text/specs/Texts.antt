@@ -1,6 +1,5 @@
 -- The texts of graphs.
-use Rattle.std.specs.Prelude.{ℕ, List, [], ◌∷◌, ◌++◌, Option, Some, None, ◌==◌, if◌then◌else◌, length, slice_index_or, codes, decimal}
-use Rattle.csv.specs.Writing.{default_writer, row_text}
+use Rattle.std.specs.Prelude.{ℕ, List, [], ◌∷◌, ◌++◌, Option, Some, None, ◌==◌, if◌then◌else◌, length, codes, decimal}
 use Rattle.clock_text.specs.Civil.{moment_text, nanos_text}
 use Rattle.plan_model.specs.declared.model.Leg.{Leg}
 use Rattle.plan_model.specs.Parts.{Parts}
@@ -11,19 +10,10 @@ use Rattle.plan_graph.specs.declared.Ride.{Ride}
 use Rattle.plan_graph.specs.declared.PlaceTable.{PlaceTable}
 use Rattle.plan_graph.specs.declared.ExpandedGraph.{ExpandedGraph}
 use Rattle.plan_graph.specs.declared.PlanGraph.{PlanGraph}
+use Rattle.printed_rows.specs.Writers.{row_of_fields, place_name, run_name}
 use Rattle.graph_text.specs.declared.Head.{Head}
 use Rattle.graph_text.specs.declared.version.Version.{Version}
 use Rattle.graph_text.specs.Versions.{number_of_version, ninth, tables_leave, rides_leave, version_by}
-
--- a printed row of fields
-unfoldable pub row_of_fields : List (List ℕ) → List ℕ
-row_of_fields fields = row_text default_writer fields
-
-abbrev pub place_name : NameLists → ℕ → List ℕ
-place_name names place = slice_index_or names.places place []
-
-abbrev pub run_name : NameLists → ℕ → List ℕ
-run_name names run = slice_index_or names.runs run []
 
 -- the fields of a leg: run, entry step, departure, exit step, exit place, scheduled arrival, and the entry place in the second version
 abbrev pub leg_fields : Parts → NameLists → Version → Leg → List (List ℕ)

@@ -1,6 +1,5 @@
 -- The two versions of a graph's text.
-use Rattle.std.specs.Prelude.{◌≡◌, ℕ, Bool, true, List, [], ◌∷◌, ◌==◌, ◌&&◌, if◌then◌else◌, codes}
-use Rattle.plan_model.specs.declared.model.Leg.{Leg}
+use Rattle.std.specs.Prelude.{ℕ, Bool, true, List, [], ◌∷◌, ◌==◌, ◌&&◌, if◌then◌else◌, codes}
 use Rattle.plan_model.specs.Parts.{Parts}
 use Rattle.plan_model.specs.Network.{from_of}
 use Rattle.plan_model.specs.Unfold.{end_of}

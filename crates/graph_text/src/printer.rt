@@ -3,19 +3,18 @@ ghost use Rattle.std.specs.Prelude.{◌≡◌, ◌<◌, ◌++◌, [], map, take,
 ghost use Rattle.plan_model.specs.NameLists.{NamesFit};
 ghost use Rattle.plan_model.specs.Network.{count};
 ghost use Rattle.plan_graph.specs.Ready.{IsLegOf};
-ghost use Rattle.graph_text.specs.Texts.{row_of_fields, leg_row, head_row, start_text, rows_text, ride_text, rides_text, place_row, table_text, tables_text};
+ghost use Rattle.graph_text.specs.Texts.{leg_row, head_row, start_text, rows_text, ride_text, rides_text, place_row, table_text, tables_text};
+ghost use Rattle.printed_rows.specs.Writers.{row_of_fields, written, IsBetweenRows};
 ghost use Rattle.graph_text.specs.Versions.{width_of};
-ghost use Rattle.graph_text.specs.Writers.{written, IsBetweenRows};
 ghost use Rattle.graph_text.specs.Printable.{IsPrintableQuery, IsPrintableRow, IsPrintableRide, IsPrintableTable};
 
 use crate::Head;
 use crate::version::{Version, digit, width};
 use clock_text::{write_moment, write_nanos};
-use csv::{Writer, WriterBuilder};
+use csv::Writer;
 use itoa::Buffer;
 use plan_graph::{GraphRow, PlaceTable, Ride};
 use plan_model::{Leg, Names, Network, NoMemory, PlaceId};
-use std::alloc::Global;
 
 /// What the rows of a graph tell of, a network with the names of its places and runs, and how.
 #[derive(Drop)]
@@ -26,7 +25,6 @@ pub(crate) struct Printer<'a> {
 }
 
 /// Writes a row of fields, of which the first version leaves out the ninth.
-#[tactic(auto, unfolding(crate::specs::Texts::row_of_fields))]
 fn put_row(writer: &mut Writer<Vec<u8>>, version: Version, fields: &[&[u8]]) -> Result<(), NoMemory>
     requires between { IsBetweenRows writer.old }
     requires nine { length fields.now ≡ 9 }
@@ -34,10 +32,7 @@ fn put_row(writer: &mut Writer<Vec<u8>>, version: Version, fields: &[&[u8]]) -> 
     ensures text { OnOk result (written writer.new ≡ written writer.old
         ++ row_of_fields (take (width_of version) (map (λ field. field.now) fields.now))) }
 {
-    match writer.write_fields(&fields[..width(version)]) {
-        Ok(()) => Ok(()),
-        Err(_) => Err(NoMemory),
-    }
+    printed_rows::put_row(writer, &fields[..width(version)])
 }
 
 /// Writes the row of a leg.
@@ -80,24 +75,6 @@ fn put_leg<'a>(
             names.place_name(enter.from).as_bytes(),
         ],
     )
-}
-
-/// The text that was written.
-pub(crate) fn text_of(writer: Writer<Vec<u8>>) -> Result<Vec<u8>, NoMemory>
-    ensures { IfOk result (λ text. text.items ≡ written writer) }
-{
-    match writer.into_inner() {
-        Ok(text) => Ok(text),
-        Err(_) => Err(NoMemory),
-    }
-}
-
-/// A writer of rows that has written nothing.
-pub(crate) fn new_writer(alloc: Global) -> Writer<Vec<u8>>
-    ensures between { IsBetweenRows result }
-    ensures text { written result ≡ [] }
-{
-    WriterBuilder::new().from_writer(Vec::new(alloc))
 }
 
 impl<'a> Printer<'a> {

@@ -4,17 +4,18 @@ ghost use Rattle.std.specs.Option.{option_map};
 ghost use Rattle.csv_rows.specs.Tables.{header, row_count};
 ghost use Rattle.plan_model.specs.NameLists.{NamesFit};
 ghost use Rattle.plan_model.specs.Network.{count};
-ghost use Rattle.graph_text.specs.Reading.{is_kind, whole_at, number_of, connection_of, leg_row_in, entry_in, names_in, leg_found, rises, can_start, start_in, is_limit, is_by_limit, row_in, is_blank, has_no_entry, is_place, place_row_in, table_in, begun, extended, place_or_first, IsPlaced, no_tables, step, tables_from, graph_in, version_in, is_head, are_in_order, head_row_in, is_query, head_in, started_in, graph_of, IsRead};
+ghost use Rattle.graph_text.specs.Reading.{leg_row_in, entry_in, names_in, leg_found, can_start, start_in, is_limit, is_by_limit, row_in, is_blank, has_no_entry, is_place, place_row_in, table_in, begun, extended, place_or_first, IsPlaced, no_tables, step, tables_from, graph_in, version_in, is_head, are_in_order, head_row_in, is_query, head_in, started_in, graph_of, IsRead};
+ghost use Rattle.graph_text.specs.Versions.{width_of};
+ghost use Rattle.printed_rows.specs.Fields.{is_kind};
 
 use crate::Head;
 use crate::version::{Version, width};
-use clock_text::{read_moment, read_nanos, read_whole};
+use clock_text::{read_moment, read_nanos};
 use csv_rows::{Rows, RowsFault};
 use interval_fixed::Span;
 use plan_graph::{GraphRow, PlaceTable, PlanGraph};
-use plan_model::{
-    ConnectionId, Leg, List, Moment, Names, Network, NoMemory, PlaceId, Query, RunId,
-};
+use plan_model::{Leg, List, Moment, Names, Network, NoMemory, PlaceId, Query, RunId};
+use printed_rows::{connection_of, is_kind, place_of, rises, run_of, whole};
 use std::alloc::Global;
 
 /// Why a text is no graph of a network and a question. A line is the number of a record, from 1 on.
@@ -93,23 +94,6 @@ struct Reader<'a> {
     rows: &'a Rows,
     network: &'a Network,
     names: &'a Names,
-}
-
-/// A whole number of one to nine digits.
-fn whole(text: &[u8]) -> Option<u32>
-    ensures { result ≡ whole_at text.now }
-{
-    read_whole(text, 999_999_999)
-}
-
-/// Whether it is greater than the one before, if there is one.
-fn rises(last: Option<u64>, x: u64) -> bool
-    ensures { result ≡ rises last x }
-{
-    match last {
-        Some(last) => last < x,
-        None => true,
-    }
 }
 
 /// Whether there is a limit, and it is this moment.
@@ -231,33 +215,12 @@ fn is_query(
 }
 
 impl<'a> Reader<'a> {
-    /// The place of this name.
-    fn place_of(&self, text: &[u8]) -> Option<PlaceId>
-        ensures number { option_map (λ id. id.0) result ≡ number_of self.now.names.now.places text.now }
-        ensures there { IfSome result (λ id. id.0 < length self.now.names.now.places) }
-    {
-        match std::str::from_utf8(text) {
-            Ok(name) => self.names.place(name),
-            Err(_) => None,
-        }
-    }
-
-    /// The run of this name.
-    fn run_of(&self, text: &[u8]) -> Option<RunId>
-        ensures { option_map (λ id. id.0) result ≡ number_of self.now.names.now.runs text.now }
-    {
-        match std::str::from_utf8(text) {
-            Ok(name) => self.names.run(name),
-            Err(_) => None,
-        }
-    }
-
     /// Whether a row is of this kind, with as many fields as the version has.
     fn is_kind(&self, row: usize, kind: &[u8]) -> bool
         requires { row < row_count self.now.rows.now }
-        ensures { result ≡ is_kind self.now.version kind.now (slice_index_or self.now.rows.now (row + 1) []) }
+        ensures { result ≡ is_kind kind.now (width_of self.now.version) (slice_index_or self.now.rows.now (row + 1) []) }
     {
-        self.rows.width(row) == width(self.version) && self.rows.field(row, 0) == kind
+        is_kind(self.rows, row, kind, width(self.version))
     }
 
     /// The numbers of a leg's row, where each field is of its form.
@@ -282,15 +245,6 @@ impl<'a> Reader<'a> {
         })
     }
 
-    /// The connection of a run and step.
-    fn connection_of(&self, run: RunId, step: u32) -> Option<ConnectionId>
-        ensures number { option_map (λ id. id.0) result ≡ connection_of self.now.network.now run.0 step }
-        ensures there { IfSome result (λ id. id.0 < count self.now.network.now) }
-    {
-        let _count = self.network.count();
-        self.network.find(run, step)
-    }
-
     /// The place where a row has its leg begin: its own place, or the one that it names.
     fn entry_of(&self, row: usize, here: PlaceId) -> Option<PlaceId>
         requires { row < row_count self.now.rows.now }
@@ -299,7 +253,7 @@ impl<'a> Reader<'a> {
     {
         match self.version {
             Version::First => Some(here),
-            Version::Second => self.place_of(self.rows.field(row, 8)),
+            Version::Second => place_of(self.names, self.rows.field(row, 8)),
         }
     }
 
@@ -309,8 +263,8 @@ impl<'a> Reader<'a> {
         ensures { result ≡ names_in self.now.version self.now.names.now here.0
             (slice_index_or self.now.rows.now (row + 1) []) }
     {
-        let run = self.run_of(self.rows.field(row, 2))?;
-        let exit = self.place_of(self.rows.field(row, 6))?;
+        let run = run_of(self.names, self.rows.field(row, 2))?;
+        let exit = place_of(self.names, self.rows.field(row, 6))?;
         let entry = self.entry_of(row, here)?;
         Some(LegNames { run, exit, entry })
     }
@@ -321,8 +275,8 @@ impl<'a> Reader<'a> {
         ensures there { IfSome result (λ leg. (leg.enter.0 < count self.now.network.now)
             × (leg.exit.0 < count self.now.network.now)) }
     {
-        let enter = self.connection_of(known.run, numbers.enter)?;
-        let exit = self.connection_of(known.run, numbers.exit)?;
+        let enter = connection_of(self.network, known.run, numbers.enter)?;
+        let exit = connection_of(self.network, known.run, numbers.exit)?;
         let entry = self.network.get(enter);
         let last = self.network.get(exit);
         if numbers.enter <= numbers.exit
@@ -473,7 +427,7 @@ impl<'a> Reader<'a> {
         let Some(numbers) = self.place_row(row) else {
             return Err(TextFault::Row(line));
         };
-        let Some(place) = self.place_of(self.rows.field(row, 1)) else {
+        let Some(place) = place_of(self.names, self.rows.field(row, 1)) else {
             return Err(TextFault::UnknownName(line));
         };
         if !rises(last.map(|last| u64::from(last)), u64::from(place.0)) {
@@ -618,8 +572,8 @@ impl<'a> Reader<'a> {
         let Some(numbers) = self.head_row() else {
             return Err(TextFault::Row(1));
         };
-        let from = self.place_of(self.rows.header_field(2));
-        let to = self.place_of(self.rows.header_field(3));
+        let from = place_of(self.names, self.rows.header_field(2));
+        let to = place_of(self.names, self.rows.header_field(3));
         let (Some(from), Some(to)) = (from, to) else {
             return Err(TextFault::UnknownName(1));
         };

@@ -29,7 +29,8 @@ pub(crate) fn digit(version: Version) -> u8
 
 /// How many fields each row has.
 pub(crate) fn width(version: Version) -> usize
-    ensures { result ≡ width_of version }
+    ensures value { result ≡ width_of version }
+    ensures some { 0 < result }
 {
     match version {
         Version::First => 8,

@@ -4,7 +4,7 @@ use Rattle.std.proofs.lemmas.List.{append-nil, at_drop_all}
 use Rattle.plan_model.specs.Parts.{Parts}
 use Rattle.plan_model.specs.NameLists.{NameLists}
 use Rattle.departure_table.specs.declared.DepartureRow.{DepartureRow}
-use Rattle.graph_text.proofs.Fields.{split_at, text_step}
+use Rattle.printed_rows.proofs.Lines.{split_at, text_step}
 use Rattle.meat_engine.specs.DepartureTexts.{departure_text, rows_text}
 
 module _ (n : Parts) (names : NameLists) (rows : List DepartureRow) where

@@ -12,8 +12,9 @@ use Rattle.plan_model.specs.Parts.{Parts}
 use Rattle.plan_model.specs.NameLists.{NameLists}
 use Rattle.plan_model.specs.Network.{connection, IsValid}
 use Rattle.plan_model.specs.Unfold.{outcomes_of}
-use Rattle.graph_text.specs.Texts.{place_name, run_name}
-use Rattle.graph_text.proofs.Fields.{eight, split_at, text_step}
+use Rattle.printed_rows.specs.Writers.{place_name, run_name}
+use Rattle.graph_text.proofs.Fields.{eight}
+use Rattle.printed_rows.proofs.Lines.{split_at, text_step}
 use Rattle.trip_replay.specs.declared.Ridden.{Ridden}
 use Rattle.trip_replay.specs.Rides.{IsRide, arrival_after, place_after}
 use Rattle.plan_model.specs.declared.model.Moment.{Moment}

@@ -11,7 +11,8 @@ use Rattle.decision_graph.specs.Expanded.{IsExpanded}
 use Rattle.decision_graph.specs.Planned.{IsPlanned}
 use Rattle.graph_text.specs.declared.Head.{Head}
 use Rattle.graph_text.specs.Reading.{IsReadAs}
-use Rattle.graph_text.specs.Texts.{place_name, expanded_text, graph_text}
+use Rattle.graph_text.specs.Texts.{expanded_text, graph_text}
+use Rattle.printed_rows.specs.Writers.{place_name}
 use Rattle.fault_lines.specs.declared.faults.Fault.{Fault}
 use Rattle.fault_lines.specs.declared.faults.Fault.TheVariants.{NoSafe, NoMemory}
 use Rattle.fault_lines.specs.Sites.{last_printable}

@@ -10,7 +10,7 @@ use Rattle.lower_proof.specs.declared.reader.ProofFault.{ProofFault}
 use Rattle.lower_proof.specs.Certificates.{IsLeastAtStart, IsAccepted, IsLastFault}
 use Rattle.lower_proof.specs.Promises.{IsSound}
 use Rattle.lower_proof.specs.Reading.{bounds_in, IsFaultAfter, IsTold}
-use Rattle.graph_text.specs.Texts.{place_name}
+use Rattle.printed_rows.specs.Writers.{place_name}
 use Rattle.fault_lines.specs.declared.faults.Input.TheVariants as input
 use Rattle.fault_lines.specs.declared.faults.Fault.{Fault}
 use Rattle.fault_lines.specs.declared.faults.Fault.TheVariants.{ProofFile, ProofFails}

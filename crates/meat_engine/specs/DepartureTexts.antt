@@ -8,7 +8,7 @@ use Rattle.plan_model.specs.Parts.{Parts}
 use Rattle.plan_model.specs.NameLists.{NameLists}
 use Rattle.plan_model.specs.Network.{run_of, step_of}
 use Rattle.departure_table.specs.declared.DepartureRow.{DepartureRow}
-use Rattle.graph_text.specs.Texts.{place_name, run_name}
+use Rattle.printed_rows.specs.Writers.{place_name, run_name}
 
 -- the first row: the version of the text, the source, the target, the first moment and the last, the deadline, and how many rows follow
 unfoldable pub departures_head : List ℕ → List ℕ → Query → (last count : ℕ) → List ℕ

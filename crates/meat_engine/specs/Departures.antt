@@ -6,7 +6,7 @@ use Rattle.plan_model.specs.Tree.{Tree}
 use Rattle.plan_model.specs.Strategy.{IsSafeFor}
 use Rattle.departure_table.specs.declared.DepartureRow.{DepartureRow}
 use Rattle.departure_table.specs.Departures.{SafeFrom, IsTable, IsGreatest}
-use Rattle.graph_text.specs.Texts.{place_name}
+use Rattle.printed_rows.specs.Writers.{place_name}
 use Rattle.fault_lines.specs.declared.faults.Fault.{Fault}
 use Rattle.fault_lines.specs.declared.faults.Fault.TheVariants.{NoSafe}
 use Rattle.journey_problem.specs.declared.problem.Problem.{Problem}

@@ -13,7 +13,7 @@ use Rattle.plan_graph.specs.declared.PlanGraph.{PlanGraph}
 use Rattle.plan_graph.specs.Unfold.{unfold_plan}
 use Rattle.graph_score.specs.Scores.{IsScored, IsUnsafe}
 use Rattle.graph_text.specs.declared.Head.{Head}
-use Rattle.graph_text.specs.Texts.{place_name}
+use Rattle.printed_rows.specs.Writers.{place_name}
 use Rattle.fault_lines.specs.declared.faults.Fault.{Fault}
 use Rattle.fault_lines.specs.declared.faults.Fault.TheVariants.{Unsafe}
 use Rattle.fault_lines.specs.Faults.{status_of}

@@ -10,7 +10,7 @@ use Rattle.plan_model.specs.NameLists.{NameLists}
 use Rattle.plan_model.specs.Network.{run_of, from_of, to_of, dep_of, arr_of}
 use Rattle.interval_fixed.specs.Interval.{Interval}
 use Rattle.plan_graph.specs.declared.PlanGraph.{PlanGraph}
-use Rattle.graph_text.specs.Texts.{place_name, run_name}
+use Rattle.printed_rows.specs.Writers.{place_name, run_name}
 use Rattle.trip_replay.specs.declared.Ridden.{Ridden}
 use Rattle.trip_replay.specs.declared.Trace.{Trace}
 

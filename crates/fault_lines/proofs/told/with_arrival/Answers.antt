@@ -1,8 +1,8 @@
 use Rattle.std.proofs.Common.{◌∙◌}
 use Rattle.std.specs.Prelude.{codes}
 use Rattle.clock_text.specs.Civil.{moment_text}
-use Rattle.graph_text.specs.Texts.{place_name}
-use Rattle.graph_text.proofs.Fields.{name_is}
+use Rattle.printed_rows.specs.Writers.{place_name}
+use Rattle.printed_rows.proofs.Lines.{name_is}
 use Rattle.fault_lines.proofs.Pieces.{placed}
 use Rattle.fault_lines.proofs.told.with_arrival.Goals as goal
 

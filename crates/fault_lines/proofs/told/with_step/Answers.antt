@@ -2,8 +2,8 @@ use Rattle.std.proofs.Common.{◌∙◌, ap}
 use Rattle.std.specs.Prelude.{codes, decimal}
 use Rattle.plan_model.specs.declared.model.Connection.{Connection}
 use Rattle.plan_model.specs.Network.{run_of, step_of}
-use Rattle.graph_text.specs.Texts.{run_name}
-use Rattle.graph_text.proofs.Fields.{name_is}
+use Rattle.printed_rows.specs.Writers.{run_name}
+use Rattle.printed_rows.proofs.Lines.{name_is}
 use Rattle.fault_lines.proofs.Pieces.{placed}
 use Rattle.fault_lines.proofs.told.with_step.Goals as goal
 

@@ -1,8 +1,8 @@
 use Rattle.std.proofs.Common.{◌≡◌, ◌++◌, ◌∙◌, ℕ, List, subst}
 use Rattle.std.specs.Prelude.{OnOk}
-use Rattle.graph_text.specs.Texts.{row_of_fields}
-use Rattle.graph_text.specs.Writers.{written}
-use Rattle.graph_text.proofs.Fields.{leg_row_fields, name_is}
+use Rattle.printed_rows.specs.Writers.{row_of_fields, written}
+use Rattle.graph_text.proofs.Fields.{leg_row_fields}
+use Rattle.printed_rows.proofs.Lines.{name_is}
 use Rattle.graph_text.proofs.printer.put_leg.Goals as goal
 
 pub returns-clause-text : goal.returns-clause-text

@@ -4,8 +4,8 @@ use Rattle.csv.specs.Writing.{default_writer, row_text}
 use Rattle.clock_text.specs.Civil.{moment_text, nanos_text}
 use Rattle.plan_model.specs.declared.model.Connection.{Connection}
 use Rattle.plan_model.specs.Network.{run_of, step_of}
-use Rattle.graph_text.proofs.Fields.{name_is}
-use Rattle.graph_text.specs.Texts.{run_name}
+use Rattle.printed_rows.proofs.Lines.{name_is}
+use Rattle.printed_rows.specs.Writers.{run_name}
 use Rattle.meat_engine.specs.DepartureTexts.{departure_text}
 use Rattle.meat_engine.proofs.departure_texts.departure_text.Goals as goal
 

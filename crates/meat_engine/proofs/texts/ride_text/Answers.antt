@@ -2,7 +2,7 @@ use Rattle.std.proofs.Common.{ℕ, ◌<◌, List, length, ◌∙◌, sym, subst,
 use Rattle.std.specs.Prelude.{IfOk}
 use Rattle.csv.specs.Writing.{default_writer, row_text}
 use Rattle.plan_model.specs.declared.model.Connection.{Connection}
-use Rattle.graph_text.proofs.Fields.{name_is}
+use Rattle.printed_rows.proofs.Lines.{name_is}
 use Rattle.meat_engine.specs.Texts.{ride_text}
 use Rattle.meat_engine.proofs.TextLemmas.{ride_arrival, ride_fields}
 use Rattle.meat_engine.proofs.texts.ride_text.Goals as goal

@@ -1,6 +1,6 @@
 use Rattle.std.proofs.Common.{◌∙◌, ◌≤◌, List, length, subst}
 use Rattle.trip_replay.specs.declared.Ridden.{Ridden}
-use Rattle.graph_text.proofs.Fields.{name_is}
+use Rattle.printed_rows.proofs.Lines.{name_is}
 use Rattle.meat_engine.proofs.TextLemmas.{trace_end}
 use Rattle.meat_engine.proofs.texts.trace_text.Goals as goal
 

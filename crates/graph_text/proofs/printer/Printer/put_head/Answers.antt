@@ -1,9 +1,9 @@
 use Rattle.std.proofs.Common.{◌≡◌, ◌++◌, ◌∙◌, ℕ, List, [], subst, ap, refl}
 use Rattle.std.specs.Prelude.{OnOk}
 use Rattle.clock_text.specs.Civil.{nanos_text}
-use Rattle.graph_text.specs.Texts.{row_of_fields}
-use Rattle.graph_text.specs.Writers.{written}
-use Rattle.graph_text.proofs.Fields.{take_nine, name_is}
+use Rattle.printed_rows.specs.Writers.{row_of_fields, written}
+use Rattle.graph_text.proofs.Fields.{take_nine}
+use Rattle.printed_rows.proofs.Lines.{name_is}
 use Rattle.graph_text.proofs.printer.Printer.put_head.Goals as goal
 
 pub returns-clause-text : goal.returns-clause-text

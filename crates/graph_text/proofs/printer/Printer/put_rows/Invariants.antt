@@ -1,6 +1,6 @@
 use Rattle.std.proofs.Common.{◌≡◌, ◌++◌, drop}
 use Rattle.graph_text.specs.Texts.{rows_text}
-use Rattle.graph_text.specs.Writers.{written, IsBetweenRows}
+use Rattle.printed_rows.specs.Writers.{written, IsBetweenRows}
 use Rattle.graph_text.proofs.printer.Printer.put_rows.Given as goal
 
 -- the text so far, and that of the rows that are left

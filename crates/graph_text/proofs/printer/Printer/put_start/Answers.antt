@@ -4,7 +4,7 @@ use Rattle.clock_text.specs.Civil.{moment_text}
 use Rattle.plan_model.specs.declared.model.Connection.{Connection}
 use Rattle.plan_model.specs.declared.model.Leg.{Leg}
 use Rattle.graph_text.specs.Texts.{leg_row, start_text}
-use Rattle.graph_text.specs.Writers.{written}
+use Rattle.printed_rows.specs.Writers.{written}
 use Rattle.graph_text.proofs.printer.Printer.put_start.Goals as goal
 
 pub returns-clause-text : goal.returns-clause-text

@@ -2,8 +2,8 @@ use Rattle.std.proofs.Common.{◌≡◌, ◌++◌, ◌∙◌, ℕ, List, subst, 
 use Rattle.std.specs.Prelude.{OnOk, codes}
 use Rattle.plan_graph.specs.declared.GraphRow.{GraphRow}
 use Rattle.graph_text.specs.Texts.{place_row, rows_text}
-use Rattle.graph_text.specs.Writers.{written}
-use Rattle.graph_text.proofs.Fields.{append_ok}
+use Rattle.printed_rows.specs.Writers.{written}
+use Rattle.printed_rows.proofs.Lines.{append_ok}
 use Rattle.graph_text.proofs.printer.Printer.put_table.Goals as goal
 
 pub returns-clause-text : goal.returns-clause-text

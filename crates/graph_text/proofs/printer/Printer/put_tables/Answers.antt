@@ -1,6 +1,6 @@
 use Rattle.std.proofs.Common.{◌++◌}
 use Rattle.graph_text.specs.Texts.{tables_text}
-use Rattle.graph_text.specs.Writers.{written}
+use Rattle.printed_rows.specs.Writers.{written}
 use Rattle.graph_text.proofs.Fields.{tables_step}
 use Rattle.graph_text.proofs.printer.Printer.put_tables.Goals as goal
 

@@ -1,6 +1,6 @@
 use Rattle.std.proofs.Common.{◌≡◌, ◌++◌, drop}
 use Rattle.graph_text.specs.Texts.{tables_text}
-use Rattle.graph_text.specs.Writers.{written, IsBetweenRows}
+use Rattle.printed_rows.specs.Writers.{written, IsBetweenRows}
 use Rattle.graph_text.proofs.printer.Printer.put_tables.Given as goal
 
 -- the text so far, and that of the tables that are left
