@@ -73,6 +73,8 @@ def feed(**tables):
         write(folder, "trips.txt", [b"route_id,service_id,trip_id\nR,D,t\n", *more["trips"]()])
         write(folder, "stop_times.txt", [b"trip_id,arrival_time,departure_time,stop_id,stop_sequence\n"
                                          b"t,8:10:00,8:10:00,A,1\nt,8:40:00,8:40:00,T,2\n", *more["stop_times"]()])
+        if "frequencies" in more:
+            write(folder, "frequencies.txt", [b"trip_id,start_time,end_time,headway_secs\n", *more["frequencies"]()])
         write(folder, "calendar.txt", [CALENDAR, b"D" + EACH_DAY, *more["calendar"]()])
         if "calendar_dates" in more:
             write(folder, "calendar_dates.txt", [b"service_id,date,exception_type\n", *more["calendar_dates"]()])
@@ -80,6 +82,16 @@ def feed(**tables):
             write(folder, "transfers.txt", [b"from_stop_id,to_stop_id,transfer_type\n", *more["transfers"]()])
         write(folder, "delays.csv", [DELAYS])
     return made
+
+
+def clock(second):
+    return b"%02d:%02d:%02d" % (second // 3600, second // 60 % 60, second % 60)
+
+
+def single_runs(count):
+    """So many rows of frequencies.txt, each with one run of the one trip, at another second of the day."""
+    for first in range(0, count, 65536):
+        yield b"".join(b"t,%s,%s,60\n" % (clock(k), clock(k + 1)) for k in range(first, min(first + 65536, count)))
 
 
 def dates(count):
@@ -101,9 +113,8 @@ def timed_rides(trips, visits):
         for k in range(first, min(first + 4096, trips)):
             begin = 29000 + k % 50000
             for v in range(visits):
-                at = begin + 60 * v
-                clock = b"%02d:%02d:%02d" % (at // 3600, at // 60 % 60, at % 60)
-                lines.append(b"x%d,%s,%s,%s,%d\n" % (k, clock, clock, b"AT"[v % 2:v % 2 + 1], v))
+                at = clock(begin + 60 * v)
+                lines.append(b"x%d,%s,%s,%s,%d\n" % (k, at, at, b"AT"[v % 2:v % 2 + 1], v))
         yield b"".join(lines)
 
 
@@ -157,6 +168,8 @@ LINES = [
     ("and one more", feed(trips=further_trips(2**22)), 6),
     ("2^25 stop times", feed(trips=further_trips(2**21), stop_times=lambda: unserved_times(2**25 - 2)), 0),
     ("and one more", feed(trips=further_trips(2**21), stop_times=lambda: unserved_times(2**25 - 1)), 6),
+    ("2^16 rows of frequencies.txt", feed(frequencies=lambda: single_runs(2**16)), 0),
+    ("and one more", feed(frequencies=lambda: single_runs(2**16 + 1)), 6),
     ("2^20 rows of calendar.txt", feed(calendar=lambda: numbered(b"c%d" + EACH_DAY, 2**20 - 1)), 0),
     ("and one more", feed(calendar=lambda: numbered(b"c%d" + EACH_DAY, 2**20)), 6),
     ("2^24 rows of calendar_dates.txt", feed(calendar_dates=lambda: dates(2**24)), 0),
