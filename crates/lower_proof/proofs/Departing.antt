@@ -16,7 +16,7 @@ use Rattle.plan_model.proofs.ScanOrders.{IsOrderBut}
 use Rattle.lower_proof.specs.declared.board.Entry.{Entry}
 use Rattle.lower_proof.specs.Boards.{entry_at}
 use Rattle.lower_proof.specs.Departures.{IsDeparture, AreDepartures}
-use Rattle.lower_proof.proofs.Entries.{entry_cmp, no_entry}
+use Rattle.lower_proof.proofs.Entries.{entry_cmp, no_entry, along}
 
 -- ---- found one after the other
 
@@ -70,39 +70,16 @@ by_id a b = eqb a.id.0 b.id.0
 eqb_flips : (a b : ℕ) → eqb a b ≡ eqb b a
 eqb_flips a b = grind (arith, nat_tests)
 
--- a departs before b, or at once and has the smaller number
-abbrev InOrder : Entry → Entry → Type 0
-InOrder a b = (a.by.0 < b.by.0) ⊎ ((a.by.0 ≡ b.by.0) × (a.id.0 ≤ b.id.0))
-
-not_above : (x y u v : ℕ) → is_lt (ordering_then (nat_cmp y x) (nat_cmp v u)) ≡ false → (x < y) ⊎ ((x ≡ y) × (u ≤ v))
-not_above x y u v h =
-    ⊎_elim (λ less. inl less)
-    (λ ge. ⊎_elim (λ above. let t : ltb y x ≡ true = grind (arith, nat_tests) in absurd (cc (rw t at h)))
-    (λ le. let e : y ≡ x = omega arith in inr (sym e, ⊎_elim (λ lower. let s : ltb y x ≡ false = grind (arith, nat_tests) in let t : eqb y x ≡ true = grind (arith, nat_tests) in let w : ltb v u ≡ true = grind (arith, nat_tests) in absurd (cc (rw (s, t, w) at h))) (λ k. k) (cases_lt v u)))
-    (cases_lt y x))
-    (cases_lt x y)
-
-in_order : (a b : Entry) → is_lt (entry_cmp b a) ≡ false → InOrder a b
-in_order a b h = not_above a.by.0 b.by.0 a.id.0 b.id.0 h
-
-in_order_trans : (a b c : Entry) → InOrder a b → InOrder b c → InOrder a c
-in_order_trans a b c h k = ⊎_elim (λ x. ⊎_elim (λ y. inl (omega arith)) (λ y. inl (omega arith)) k) (λ x. ⊎_elim (λ y. inl (omega arith)) (λ y. inr (omega arith, omega arith)) k) h
-
-along : (ys : List Entry) → IsSorted entry_cmp ys → (d : Entry) (k m : ℕ) → k + suc m < length ys → InOrder (get_or ys k d) (get_or ys (k + suc m) d)
-along ys up d k zero h = in_order (get_or ys k d) (get_or ys (k + 1) d) (up k d (omega arith) h)
-along ys up d k (suc m) h =
-    let before = along ys up d k m (omega arith) in
-    let one : InOrder (get_or ys (k + suc m) d) (get_or ys (k + suc m + 1) d) = in_order (get_or ys (k + suc m) d) (get_or ys (k + suc m + 1) d) (up (k + suc m) d (omega arith) (omega arith)) in
-    let e : k + suc m + 1 ≡ k + suc (suc m) = omega arith in
-    rw (← e) (in_order_trans _ _ _ before one)
-
 strictly : (i j : ℕ) → i ≤ j → eqb i j ≡ false → i < j
 strictly i j h k = grind (arith, nat_tests)
 
 pub sorted_departures : (n : Parts) → IsValid n → (last : ℕ) (xs ys : List Entry) → AreFound n last (count n) xs → IsPermutation xs ys → IsSorted entry_cmp ys → AreDepartures n last ys
 sorted_departures n good last xs ys found moved up =
     let each = All-permutation (IsDeparture n last) xs ys moved found.each in
-    let distinct = IsDistinct-from_apart by_id xs (λ i j d less inside. let rising = found.rising i j d less inside in let apart : eqb (get_or xs i d).id.0 (get_or xs j d).id.0 ≡ false = grind (arith, nat_tests) in apart) in
+    let distinct = IsDistinct-from_apart by_id xs (λ i j d less inside.
+    let rising = found.rising i j d less inside in
+    let apart : eqb (get_or xs i d).id.0 (get_or xs j d).id.0 ≡ false = grind (arith, nat_tests) in
+    apart) in
     let apart = IsDistinct-IsPermutation by_id (λ x y. eqb_flips x.id.0 y.id.0) xs ys moved distinct in
     record {
       each = each;

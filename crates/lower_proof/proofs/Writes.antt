@@ -183,7 +183,8 @@ module _ (n : Parts) (good : IsValid n) (q : Query) (last : ℕ) (order : List C
         taken = id ∷ state.taken;
         split = sym (append_assoc rest (id ∷ []) state.taken) ∙ state.split;
         as_many = length-set values id.0 (given (connection n id.0).can_board best) ∙ state.as_many;
-        are_exits = exits_agree n good q values written last state.taken id next agree (set exits (run_of n id.0) best) (exits_next n q values last state.taken id next exits via inside state.are_exits own);
+        are_exits = exits_agree n good q values written last state.taken id next agree (set exits (run_of n id.0) best)
+            (exits_next n q values last state.taken id next exits via inside state.are_exits own);
         boarded = boarded_now;
         none_after = none_after_now;
         others = others_now;

@@ -12,7 +12,8 @@ returns-in-None-clause-via c =
     let n = c.args.network.now in
     let k = c.loop-outcome.outcome-index in
     let none : IsLeastAt n c.args.scope.now.query c.args.values.now c.get-connection.result.to.0
-    (c.get-connection.result.arr.0 + (outcome_at c.row-outcome-items.result.now k).delay) None = rw (← c.from.ensures) (c.in-None.ensures.least n c.args.scope.now.last.0 c.loop-outcome.invariant.boards) in
+    (c.get-connection.result.arr.0 + (outcome_at c.row-outcome-items.result.now k).delay) None =
+    rw (← c.from.ensures) (c.in-None.ensures.least n c.args.scope.now.last.0 c.loop-outcome.invariant.boards) in
     let rows = c.row-outcome-items.ensures.outcomes in
     let at_row = subst (λ (row : List Outcome). (k < length row)
     × IsLeastAt n c.args.scope.now.query c.args.values.now c.get-connection.result.to.0 (c.get-connection.result.arr.0 + (outcome_at row k).delay) None) rows (c.loop-outcome-test.true, none) in

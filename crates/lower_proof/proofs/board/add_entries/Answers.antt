@@ -47,7 +47,8 @@ loop-k-preserved c =
           ∙ ap (λ (b : Shown). b.entries ++ (record { by = record { 0 = by }; id = record { 0 = id } }) ∷ []) same in
           rw w.boards-is (record {
             len = length-set boards way.from.0 w.add.new.self ∙ loop.invariant.len;
-            ways = λ last have. way_added n last id c.requires.valid departs_in loop.k way listed by c.requires.there c.requires.board sum boards w.add.new.self inside is w.in_ok-add.ensures.least (loop.invariant.ways last have);
+            ways = λ last have. way_added n last id c.requires.valid departs_in loop.k way listed by c.requires.there c.requires.board sum boards w.add.new.self
+                inside is w.in_ok-add.ensures.least (loop.invariant.ways last have);
           })
       | else-seconds-connection w ↦
           let late = w.if-seconds-connection.false in

@@ -21,7 +21,8 @@ loop-i-preserved c =
       | else-boards_by w ↦ rw w.boards-is (record {
         valid = loop.invariant.valid;
         len = loop.invariant.len;
-        entries = entries_skipped n c.args.last.0 loop.i loop.boards.items (λ board soon. both_ways c.boards_by.result w.if-boards_by.false (c.boards_by.ensures.1 (board, soon))) loop.invariant.entries;
+        entries = entries_skipped n c.args.last.0 loop.i loop.boards.items
+            (λ board soon. both_ways c.boards_by.result w.if-boards_by.false (c.boards_by.ensures.1 (board, soon))) loop.invariant.entries;
       })
     ]
 

@@ -16,7 +16,8 @@ loop-i-preserved c =
           let soon = w.if-by-last.true in
           rw (w.departures-is, w.in_ok-push.ensures.items) (record {
             valid = loop.invariant.valid;
-            found = found_more n c.args.last.0 loop.i entries (record { by = c.get.result.dep; id = record { 0 = loop.i } }) (omega (arith, c.count-i-end.ensures.count)) refl departs (omega arith) loop.invariant.found;
+            found = found_more n c.args.last.0 loop.i entries (record { by = c.get.result.dep; id = record { 0 = loop.i } })
+                (omega (arith, c.count-i-end.ensures.count)) refl departs (omega arith) loop.invariant.found;
           })
       | else-by-last w ↦
           let late = w.if-by-last.false in
