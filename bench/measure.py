@@ -9,7 +9,7 @@ have: the program reads all tables, refuses with status 5, and plans nothing. Be
 over the same files.
 
 `certify` prints a certificate, and `check` reads that from a file. With a program before, which may not have them,
-they are left out.
+they are left out, unless `--all` says that it has.
 
 With `--before PROGRAM` a second program runs in turn with the first on each line, and the last columns give its
 seconds and peak memory, and the seconds of the first divided by those of the second.
@@ -199,7 +199,7 @@ def measure_feed(table, lines, commands, cases):
         table.line("reading", "reading, %d lines" % lines, items, feed_words("safe", folder, NO_STOP), files)
         for command in commands:
             table.line(command, "`%s`, %d lines" % (command, lines), items, feed_words(command, folder, "H0"))
-        if not table.options.before:
+        if table.options.all or not table.options.before:
             measure_certificate(table, folder, lines, items)
             measure_promises(table, folder, lines, items)
         if not cases:
@@ -251,6 +251,7 @@ def options_of():
     built = next((program for program in BUILT if os.access(program, os.X_OK)), BUILT[0])
     parser.add_argument("--program", default=built, help="the program")
     parser.add_argument("--before", help="a second program, to compare with in the same run")
+    parser.add_argument("--all", action="store_true", help="the program before has all commands")
     parser.add_argument("--lines", default="100,200,400", help="lines of the feeds, by commas")
     parser.add_argument("--most-lines", type=int, default=2081, help="lines of the feed of 2^22 stop times, or 0")
     parser.add_argument("--linked", default="100,200,400", help="lines of the feeds with and without links, by commas")
