@@ -1,8 +1,8 @@
 -- The rides of runs are in order, fit their places and classes, and each run has one.
-use Rattle.std.proofs.Common.{◌≡◌, ℕ, zero, suc, ◌+◌, ◌-◌, ◌<◌, ◌≤◌, ◌⊎◌, inl, inr, nat_le, Bool, true, false, List, [], ◌∷◌, ◌++◌, length, map, get_or, slice_index, Some, All, refl, sym, ap, ◌∙◌, subst, arith, ⊎_elim, length-append, add-one}
-use Rattle.std.specs.Prelude.{AllPairs}
+use Rattle.std.proofs.Common.{◌≡◌, ℕ, zero, suc, ◌+◌, ◌-◌, ◌<◌, ◌≤◌, ◌⊎◌, inl, inr, ℤ, pos, negsuc, ◌≤ℤ◌, Bool, true, false, List, [], ◌∷◌, ◌++◌, length, map, get_or, slice_index, Some, All, refl, sym, ap, ◌∙◌, subst, arith, ⊎_elim, length-append}
+use Rattle.std.specs.Prelude.{AllPairs, int_le, unsigned_abs}
 use Rattle.std.proofs.lemmas.Bool.{cases_lt}
-use Rattle.std.proofs.lemmas.Bool.Decides.{nat_tests}
+use Rattle.std.proofs.lemmas.Int.{ints}
 use Rattle.std.proofs.lemmas.List.{get_or_append_left, get_or-append_right, get_or-map, length-map}
 use Rattle.std.proofs.lemmas.List.Elements.{All-push, All-append, All-weaker, All-nil, All-get_or, All-map}
 use Rattle.clock_text.proofs.DigitLemmas.{and_parts}
@@ -19,6 +19,7 @@ use Rattle.gtfs_tables.specs.declared.stop_times.StopRow.{StopRow}
 use Rattle.gtfs_tables.specs.Feeds.{FeedParts}
 use Rattle.csv_rows.specs.Ids.{AreIds}
 use Rattle.gtfs_tables.specs.Timed.{rows_of, kept_at, AreTimed, IsTimed}
+use Rattle.connections.specs.declared.origins.Origin.{Origin}
 use Rattle.connections.specs.declared.window.Window.{Window}
 use Rattle.connections.specs.declared.runs.Run.{Run}
 use Rattle.connections.specs.Joins.{only_if}
@@ -31,22 +32,27 @@ use Rattle.connections.proofs.CountLemmas.{rides-zero, rides-suc}
 use Rattle.connections.proofs.PairLemmas.{AllPairs-append, AllPairs-nil, AllPairs-one}
 use Rattle.connections.proofs.StepLemmas.{steps-zero, steps-suc}
 
-le_test : (a b : ℕ) → nat_le a b ≡ true → a ≤ b
-le_test a b h = grind (arith, nat_tests)
+le_is : (a b : ℤ) → int_le a b ≡ true → a ≤ℤ b
+le_is a b h = grind (arith, ints)
+
+-- a moment that is not before 1970
+pub not_before : (z : ℤ) → pos 0 ≤ℤ z → pos (unsigned_abs z) ≡ z
+not_before (pos n) h = refl
+not_before (negsuc n) h = absurd (omega (arith, ints, h))
 
 abbrev pub Less : ℕ → ℕ → Type 0
 Less a b = a < b
 
 -- a step whose row is left in the window
-pub record IsStep (w : Window) (rows : List StopRow) (day n k : ℕ) : Type 0 where
+pub record IsStep (w : Window) (rows : List StopRow) (o : Origin) (n k : ℕ) : Type 0 where
   pub inside : k < n
-  pub from : w.start ≤ departs rows day k
-  pub to : departs rows day k ≤ w.end
+  pub from : pos w.start ≤ℤ departs rows o k
+  pub to : departs rows o k ≤ℤ pos w.end
 
-module _ (w : Window) (rows : List StopRow) (day : ℕ) where
-  one_step : (n : ℕ) (b : Bool) → (b ≡ true → IsStep w rows day (n + 1) n) → All (IsStep w rows day (n + 1)) (only_if b n)
-  one_step n true h = All-push (IsStep w rows day (n + 1)) [] n (All-nil (IsStep w rows day (n + 1))) (h refl)
-  one_step n false h = All-nil (IsStep w rows day (n + 1))
+module _ (w : Window) (rows : List StopRow) (o : Origin) where
+  one_step : (n : ℕ) (b : Bool) → (b ≡ true → IsStep w rows o (n + 1) n) → All (IsStep w rows o (n + 1)) (only_if b n)
+  one_step n true h = All-push (IsStep w rows o (n + 1)) [] n (All-nil (IsStep w rows o (n + 1))) (h refl)
+  one_step n false h = All-nil (IsStep w rows o (n + 1))
 
   pairs_of : (n : ℕ) (b : Bool) → AllPairs Less (only_if b n)
   pairs_of n true = AllPairs-one Less n
@@ -56,31 +62,31 @@ module _ (w : Window) (rows : List StopRow) (day : ℕ) where
   one_at n true j d h = let z : j ≡ 0 = omega arith in ap (λ i. get_or (n ∷ []) i d) z
   one_at n false j d h = absurd (omega arith)
 
-  step_here : (n : ℕ) → holds w (departs rows day n) ≡ true → IsStep w rows day (n + 1) n
+  step_here : (n : ℕ) → holds w (departs rows o n) ≡ true → IsStep w rows o (n + 1) n
   step_here n t =
-      let p = and_parts (nat_le w.start (departs rows day n)) (nat_le (departs rows day n) w.end) t in
-      record { inside = omega arith; from = le_test w.start (departs rows day n) p.0; to = le_test (departs rows day n) w.end p.1 }
+      let p = and_parts (int_le (pos w.start) (departs rows o n)) (int_le (departs rows o n) (pos w.end)) t in
+      record { inside = omega arith; from = le_is (pos w.start) (departs rows o n) p.0; to = le_is (departs rows o n) (pos w.end) p.1 }
 
-  pub steps_are : (n : ℕ) → All (IsStep w rows day n) (steps_below w rows day n)
-  steps_are zero = subst (All (IsStep w rows day 0)) (sym (steps-zero w rows day)) (All-nil (IsStep w rows day 0))
+  pub steps_are : (n : ℕ) → All (IsStep w rows o n) (steps_below w rows o n)
+  steps_are zero = subst (All (IsStep w rows o 0)) (sym (steps-zero w rows o)) (All-nil (IsStep w rows o 0))
   steps_are (suc n) =
       let e : n + 1 ≡ suc n = omega arith in
-      let xs = steps_below w rows day n in
-      let b = holds w (departs rows day n) in
-      let P : ℕ → Type 0 = λ k. All (IsStep w rows day k) (steps_below w rows day (suc n)) in
-      subst P e (subst (All (IsStep w rows day (n + 1))) (sym (steps-suc w rows day n))
-      (All-append (IsStep w rows day (n + 1)) xs (only_if b n)
-      (All-weaker (IsStep w rows day n) (IsStep w rows day (n + 1)) (λ k s. record { inside = omega (arith, s.inside); from = s.from; to = s.to }) xs (steps_are n))
+      let xs = steps_below w rows o n in
+      let b = holds w (departs rows o n) in
+      let P : ℕ → Type 0 = λ k. All (IsStep w rows o k) (steps_below w rows o (suc n)) in
+      subst P e (subst (All (IsStep w rows o (n + 1))) (sym (steps-suc w rows o n))
+      (All-append (IsStep w rows o (n + 1)) xs (only_if b n)
+      (All-weaker (IsStep w rows o n) (IsStep w rows o (n + 1)) (λ k s. record { inside = omega (arith, s.inside); from = s.from; to = s.to }) xs (steps_are n))
       (one_step n b (step_here n))))
 
-  pub steps_rise : (n : ℕ) → AllPairs Less (steps_below w rows day n)
-  steps_rise zero = subst (AllPairs Less) (sym (steps-zero w rows day)) (AllPairs-nil Less)
+  pub steps_rise : (n : ℕ) → AllPairs Less (steps_below w rows o n)
+  steps_rise zero = subst (AllPairs Less) (sym (steps-zero w rows o)) (AllPairs-nil Less)
   steps_rise (suc n) =
-      let xs = steps_below w rows day n in
-      let b = holds w (departs rows day n) in
-      subst (AllPairs Less) (sym (steps-suc w rows day n))
+      let xs = steps_below w rows o n in
+      let b = holds w (departs rows o n) in
+      subst (AllPairs Less) (sym (steps-suc w rows o n))
       (AllPairs-append Less xs (only_if b n) (steps_rise n) (pairs_of n b) (λ i j d l h.
-      let s = All-get_or (IsStep w rows day n) xs i d l (steps_are n) in omega (arith, s.inside, one_at n b j d h)))
+      let s = All-get_or (IsStep w rows o n) xs i d l (steps_are n) in omega (arith, s.inside, one_at n b j d h)))
 
 -- times do not go back over several rows
 pub onward_to : (rows : List StopRow) (places : ℕ) → AreTimed rows places → (p m : ℕ) → p + suc m < length rows → (kept_at rows (p + 1)).arrival ≤ (kept_at rows (p + suc m)).departure
@@ -107,37 +113,41 @@ pub record IsGood (places classes runs : ℕ) (c : Connection) : Type 0 where
   pub step_in : c.step < 1000000000
   pub run_in : c.run.0 < runs
 
-module _ (w : Window) (v : IsWindow w) (rows : List StopRow) (places : ℕ) (t : AreTimed rows places) (day number : ℕ) (class : ℕ → ℕ) (classes : ℕ) (few : (arr : ℕ) → class arr < classes) where
+module _ (w : Window) (v : IsWindow w) (rows : List StopRow) (places : ℕ) (t : AreTimed rows places) (o : Origin) (number : ℕ) (class : ℕ → ℕ) (classes : ℕ) (few : (arr : ℕ) → class arr < classes) where
   abbrev steps : List ℕ
-  steps = steps_of w rows day
+  steps = steps_of w rows o
 
-  good_ride : (k : ℕ) → IsStep w rows day (length rows - 1) k → IsGood places classes (number + 1) (ride rows day number class k)
+  good_ride : (k : ℕ) → IsStep w rows o (length rows - 1) k → IsGood places classes (number + 1) (ride rows o number class k)
   good_ride k s =
       let here : k < length rows = omega (arith, s.inside) in
       let next : k + 1 < length rows = omega (arith, s.inside) in
+      let dep = not_before (departs rows o k) (omega (arith, ints, s.from)) in
+      let arr = not_before (arrives rows o k) (omega (arith, ints, s.from, t.onward k next)) in
       record {
-        forward = omega (arith, t.onward k next);
-        early = omega (arith, s.to, v.late, v.short, t.early (k + 1) next, t.forward (k + 1) next);
+        forward = omega (arith, ints, dep, arr, t.onward k next);
+        early = omega (arith, ints, arr, s.to, v.late, v.short, t.early (k + 1) next, t.forward (k + 1) next);
         from_in = t.place k here;
         to_in = t.place (k + 1) next;
-        class_in = few (arrives rows day k);
+        class_in = few (unsigned_abs (arrives rows o k));
         step_in = omega (arith, t.few, next);
         run_in = omega arith;
       }
 
-  pub good_rides : All (IsGood places classes (number + 1)) (map (ride rows day number class) steps)
-  good_rides = All-map (IsGood places classes (number + 1)) (ride rows day number class) steps
-      (All-weaker (IsStep w rows day (length rows - 1)) (λ k. IsGood places classes (number + 1) (ride rows day number class k)) good_ride steps (steps_are w rows day (length rows - 1)))
+  pub good_rides : All (IsGood places classes (number + 1)) (map (ride rows o number class) steps)
+  good_rides = All-map (IsGood places classes (number + 1)) (ride rows o number class) steps
+      (All-weaker (IsStep w rows o (length rows - 1)) (λ k. IsGood places classes (number + 1) (ride rows o number class k)) good_ride steps (steps_are w rows o (length rows - 1)))
 
-  follow : (a b : ℕ) → a < b → b < length rows - 1 → Follows (ride rows day number class a) (ride rows day number class b)
-  follow a b l h =
+  follow : (a b : ℕ) → a < b → IsStep w rows o (length rows - 1) a → IsStep w rows o (length rows - 1) b → Follows (ride rows o number class a) (ride rows o number class b)
+  follow a b l s h =
       let e : a + suc (b - a - 1) ≡ b = omega arith in
-      let on = onward_to rows places t a (b - a - 1) (omega arith) in
-      inr (refl, l, omega (arith, on, ap (λ k. (kept_at rows k).departure) e))
+      let on = onward_to rows places t a (b - a - 1) (omega (arith, h.inside)) in
+      let arr = not_before (arrives rows o a) (omega (arith, ints, s.from, t.onward a (omega (arith, s.inside)))) in
+      let dep = not_before (departs rows o b) (omega (arith, ints, h.from)) in
+      inr (refl, l, omega (arith, ints, arr, dep, on, ap (λ k. (kept_at rows k).departure) e))
 
-  pub rides_follow : AllPairs Follows (map (ride rows day number class) steps)
+  pub rides_follow : AllPairs Follows (map (ride rows o number class) steps)
   rides_follow i j d l h =
-      let f = ride rows day number class in
+      let f = ride rows o number class in
       let size = length-map steps f in
       let j' : j < length steps = omega (arith, size) in
       let i' : i < length steps = omega arith in
@@ -145,8 +155,9 @@ module _ (w : Window) (v : IsWindow w) (rows : List StopRow) (places : ℕ) (t :
       let P : Connection → Type 0 = λ x. Follows x (get_or (map f steps) j d) in
       subst P (sym (get_or-map f steps i 0 d i'))
       (subst (Follows (f a)) (sym (get_or-map f steps j 0 d j'))
-      (follow a b (steps_rise w rows day (length rows - 1) i j 0 l j')
-      (All-get_or (IsStep w rows day (length rows - 1)) steps j 0 j' (steps_are w rows day (length rows - 1))).inside))
+      (follow a b (steps_rise w rows o (length rows - 1) i j 0 l j')
+      (All-get_or (IsStep w rows o (length rows - 1)) steps i 0 i' (steps_are w rows o (length rows - 1)))
+      (All-get_or (IsStep w rows o (length rows - 1)) steps j 0 j' (steps_are w rows o (length rows - 1)))))
 
 -- the connections of the first n runs
 pub record AreGood (f : FeedParts) (w : Window) (rs : List Run) (places classes n : ℕ) (cs : List Connection) : Type 0 where
@@ -167,16 +178,16 @@ module _ (f : FeedParts) (delays : DelayLists) (w : Window) (v : IsWindow w) (ti
       let run = run_at rs n in
       let t = timed run.trip (runs.each n h).trip in
       let class = class_of_trip f delays run.trip in (
-        good_rides w v (rows_of f run.trip) places t run.day n class classes (few run.trip),
-        rides_follow w v (rows_of f run.trip) places t run.day n class classes (few run.trip),
-        length-map (run_steps f w run) (ride (rows_of f run.trip) run.day n class),
+        good_rides w v (rows_of f run.trip) places t run.origin n class classes (few run.trip),
+        rides_follow w v (rows_of f run.trip) places t run.origin n class classes (few run.trip),
+        length-map (run_steps f w run) (ride (rows_of f run.trip) run.origin n class),
       )
 
   own_run : (n j : ℕ) (d : Connection) → n < length rs → j < length (run_rides f delays w rs n) → (get_or (run_rides f delays w rs n) j d).run.0 ≡ n
   unfolding run_rides
   own_run n j d h l =
       let run = run_at rs n in
-      let g = ride (rows_of f run.trip) run.day n (class_of_trip f delays run.trip) in
+      let g = ride (rows_of f run.trip) run.origin n (class_of_trip f delays run.trip) in
       let size = length-map (run_steps f w run) g in
       ap (λ c. c.run.0) (get_or-map g (run_steps f w run) j 0 d (omega (arith, size)))
 

@@ -6,17 +6,18 @@ use Rattle.std.proofs.lemmas.Bool.Decides.{nat_tests}
 use Rattle.std.proofs.lemmas.List.{length-map, take_all, take_more}
 use Rattle.std.proofs.lemmas.List.Sums.{sum_by-append, sum_by-cons}
 use Rattle.plan_model.specs.declared.model.Connection.{Connection}
-use Rattle.plan_model.specs.declared.model.PlaceId.{PlaceId}
 use Rattle.delay_table.specs.DelayLists.{DelayLists}
 use Rattle.gtfs_tables.specs.declared.stop_times.StopRow.{StopRow}
 use Rattle.gtfs_tables.specs.Feeds.{FeedParts}
-use Rattle.gtfs_tables.specs.Timed.{rows_of, kept_at}
+use Rattle.gtfs_tables.specs.Timed.{rows_of}
 use Rattle.service_days.specs.Services.{ServiceParts}
+use Rattle.connections.specs.declared.origins.ServiceDay.{ServiceDay}
 use Rattle.connections.specs.declared.window.Window.{Window}
 use Rattle.connections.specs.declared.runs.Run.{Run}
 use Rattle.connections.specs.Joins.{join_below, only_if, sum_below}
-use Rattle.connections.specs.Window.{first_day}
-use Rattle.connections.specs.Rides.{is_active, rides, steps_of, day_runs, runs_below, runs_in, run_at, no_run, run_steps}
+use Rattle.connections.specs.Origins.{origin_of_day}
+use Rattle.connections.specs.Window.{day_at}
+use Rattle.connections.specs.Rides.{is_active, rides, steps_of, run_on, day_runs, runs_below, runs_in, run_at, no_run, run_steps}
 use Rattle.connections.specs.Counts.{trip_sum, day_sum, days_sum, count_in}
 use Rattle.connections.specs.Networks.{ride, run_rides, rides_below, class_of_trip}
 use Rattle.connections.proofs.JoinLemmas.{join-zero, join-suc}
@@ -77,27 +78,27 @@ module _ (f : FeedParts) (s : ServiceParts) (d : DelayLists) (w : Window) where
   abbrev own : Run → ℕ
   own run = length (run_steps f w run)
 
-  by_trip : (day trip : ℕ) → sum_by own (only_if (is_active f s day trip && rides w (rows_of f trip) day) (record { day = day; trip = trip })) ≡ trip_sum (λ place. 1) f s w day trip
+  by_trip : (day : ServiceDay) (trip : ℕ) → sum_by own (only_if (is_active f s day trip && rides w (rows_of f trip) (origin_of_day day)) (run_on day trip)) ≡ trip_sum (λ place. 1) f s w day trip
   by_trip day trip =
-      let steps = steps_of w (rows_of f trip) day in
-      sum-only (is_active f s day trip) (length steps) own (record { day = day; trip = trip }) refl
+      let steps = steps_of w (rows_of f trip) (origin_of_day day) in
+      sum-only (is_active f s day trip) (length steps) own (run_on day trip) refl
       ∙ ap (λ n. if is_active f s day trip then n else 0) (sym (sum_by-ones steps))
 
-  by_day : (day n : ℕ) → sum_by own (day_runs f s w day n) ≡ day_sum (λ place. 1) f s w day n
+  by_day : (day : ServiceDay) (n : ℕ) → sum_by own (day_runs f s w day n) ≡ day_sum (λ place. 1) f s w day n
   unfolding day_runs day_sum
   by_day day n =
-      sum_by-join own (λ trip. only_if (is_active f s day trip && rides w (rows_of f trip) day) (record { day = day; trip = trip })) n
+      sum_by-join own (λ trip. only_if (is_active f s day trip && rides w (rows_of f trip) (origin_of_day day)) (run_on day trip)) n
       ∙ ap (λ (g : ℕ → ℕ). sum_below g n) (fun_ext (by_trip day))
 
   by_days : (n : ℕ) → sum_by own (runs_below f s w n) ≡ days_sum (λ place. 1) f s w n
   unfolding runs_below days_sum
   by_days n =
-      sum_by-join own (λ d. day_runs f s w (first_day w + d) (length f.trip_ids)) n
-      ∙ ap (λ (g : ℕ → ℕ). sum_below g n) (fun_ext (λ d. by_day (first_day w + d) (length f.trip_ids)))
+      sum_by-join own (λ d. day_runs f s w (day_at w d) (length f.trip_ids)) n
+      ∙ ap (λ (g : ℕ → ℕ). sum_below g n) (fun_ext (λ d. by_day (day_at w d) (length f.trip_ids)))
 
   own_length : (rs : List Run) (r : ℕ) → length (run_rides f d w rs r) ≡ own (run_at rs r)
   unfolding run_rides
-  own_length rs r = length-map (run_steps f w (run_at rs r)) (ride (rows_of f (run_at rs r).trip) (run_at rs r).day r (class_of_trip f d (run_at rs r).trip))
+  own_length rs r = length-map (run_steps f w (run_at rs r)) (ride (rows_of f (run_at rs r).trip) (run_at rs r).origin r (class_of_trip f d (run_at rs r).trip))
 
   -- the rides of all runs are as many as the sum tells
   pub rides_counted : (rs : List Run) → rs ≡ runs_in f s w → length (rides_below f d w rs (length rs)) ≡ count_in f s w
@@ -120,13 +121,13 @@ rides-suc f d w rs n = join-suc (run_rides f d w rs) n
 -- the rides of one more run
 pub rides-next : (f : FeedParts) (d : DelayLists) (w : Window) (rs : List Run) (n : ℕ) (class : ℕ → ℕ) (rows : List StopRow) (old new : List Connection)
     → old ≡ rides_below f d w rs n → rows ≡ rows_of f (run_at rs n).trip → class ≡ class_of_trip f d (run_at rs n).trip
-    → new ≡ old ++ map (ride rows (run_at rs n).day n class) (steps_of w rows (run_at rs n).day) → new ≡ rides_below f d w rs (n + 1)
+    → new ≡ old ++ map (ride rows (run_at rs n).origin n class) (steps_of w rows (run_at rs n).origin) → new ≡ rides_below f d w rs (n + 1)
 unfolding run_rides
 rides-next f d w rs n class rows old new e same same' h =
-    let day = (run_at rs n).day in
+    let o = (run_at rs n).origin in
     let more : rides_below f d w rs (n + 1) ≡ rides_below f d w rs n ++ run_rides f d w rs n = rw add-one (rides-suc f d w rs n) in
     h
-    ∙ ap (λ (xs : List Connection). xs ++ map (ride rows day n class) (steps_of w rows day)) e
-    ∙ ap (λ (xs : List StopRow). rides_below f d w rs n ++ map (ride xs day n class) (steps_of w xs day)) same
-    ∙ ap (λ (k : ℕ → ℕ). rides_below f d w rs n ++ map (ride (rows_of f (run_at rs n).trip) day n k) (run_steps f w (run_at rs n))) same'
+    ∙ ap (λ (xs : List Connection). xs ++ map (ride rows o n class) (steps_of w rows o)) e
+    ∙ ap (λ (xs : List StopRow). rides_below f d w rs n ++ map (ride xs o n class) (steps_of w xs o)) same
+    ∙ ap (λ (k : ℕ → ℕ). rides_below f d w rs n ++ map (ride (rows_of f (run_at rs n).trip) o n k) (run_steps f w (run_at rs n))) same'
     ∙ sym more

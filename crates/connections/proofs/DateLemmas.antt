@@ -1,9 +1,11 @@
 -- The text of a date is eight digits, and the names of runs.
-use Rattle.std.proofs.Common.{◌≡◌, ℕ, zero, suc, ◌<◌, ◌≤◌, ◌&&◌, nat_eq, Bool, true, false, List, [], ◌∷◌, ◌++◌, length, take, drop, Some, ℤ, pos, refl, sym, ◌∙◌, subst, arith, IsAscii}
+use Rattle.std.proofs.Common.{◌≡◌, ℕ, zero, suc, ◌<◌, ◌&&◌, nat_eq, Bool, true, false, List, [], ◌∷◌, ◌++◌, length, take, drop, Some, ℤ, pos, negsuc, ◌+ℤ◌, ◌≤ℤ◌, refl, sym, ◌∙◌, subst, arith, IsAscii}
 use Rattle.std.specs.List.{list_all}
 use Rattle.std.specs.Char.{is_ascii_digit}
 use Rattle.std.proofs.lemmas.Bool.Decides.{nat_tests}
+use Rattle.std.proofs.lemmas.Int.{ints}
 use Rattle.std.proofs.lemmas.List.Folds.{list_all-append}
+use Rattle.jiff_core.specs.Calendar.{days_from_civil, day_count, days_of_years, days_of_months}
 use Rattle.clock_text.specs.Digits.{value_of}
 use Rattle.clock_text.specs.Times.{date_at, day_of, HasDate}
 use Rattle.clock_text.specs.Civil.{parts_of_day}
@@ -11,9 +13,27 @@ use Rattle.clock_text.proofs.DigitLemmas.{and_parts}
 use Rattle.clock_text.proofs.MomentLemmas.{eq_test}
 use Rattle.clock_text.proofs.OneText.{if_cases}
 use Rattle.clock_text.proofs.Walk.{found}
+use Rattle.connections.specs.declared.origins.ServiceDay.{ServiceDay}
+use Rattle.connections.specs.Runs.{IsDay}
 
-pub has_date : (day : ℕ) → day ≤ 2932896 → HasDate (pos day)
-has_date day h = let w = found day 0 h in let p = parts_of_day day 0 in (p.year, p.month, p.day, w.date)
+-- the days of 1969 are its last seven
+days_before : (k : ℕ) → k < 7 → HasDate (negsuc k)
+unfolding days_from_civil day_count days_of_years days_of_months
+days_before zero h = (1969, 12, 31, refl)
+days_before (suc zero) h = (1969, 12, 30, refl)
+days_before (suc (suc zero)) h = (1969, 12, 29, refl)
+days_before (suc (suc (suc zero))) h = (1969, 12, 28, refl)
+days_before (suc (suc (suc (suc zero)))) h = (1969, 12, 27, refl)
+days_before (suc (suc (suc (suc (suc zero))))) h = (1969, 12, 26, refl)
+days_before (suc (suc (suc (suc (suc (suc zero)))))) h = (1969, 12, 25, refl)
+days_before (suc (suc (suc (suc (suc (suc (suc k))))))) h = absurd (omega arith)
+
+date_of : (day : ℤ) → pos 0 ≤ℤ (day +ℤ pos 7) → day ≤ℤ pos 2932896 → HasDate day
+date_of (pos day) from to = let w = found day 0 (omega (arith, ints, to)) in let p = parts_of_day day 0 in (p.year, p.month, p.day, w.date)
+date_of (negsuc k) from to = days_before k (omega (arith, ints, from))
+
+pub has_date : (day : ServiceDay) → IsDay day → HasDate day.number
+has_date day is = date_of day.number is.from is.to
 
 eight : (t : List ℕ) → length t ≡ 8 → t ≡ take 4 t ++ (take 2 (drop 4 t) ++ take 2 (drop 6 t))
 eight (a ∷ b ∷ c ∷ d ∷ e ∷ f ∷ g ∷ h ∷ []) l = refl

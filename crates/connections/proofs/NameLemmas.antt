@@ -1,5 +1,5 @@
 -- The names of runs: no two runs have one name, and none begins or ends with a space.
-use Rattle.std.proofs.Common.{◌≡◌, ◌≢◌, ℕ, zero, suc, ◌+◌, ◌-◌, ◌<◌, ◌≤◌, Bool, true, false, List, [], ◌∷◌, ◌++◌, length, take, drop, get_or, slice_index_or, Some, pos, All, refl, sym, ap, ◌∙◌, subst, arith, ⊎_elim, length-append}
+use Rattle.std.proofs.Common.{◌≡◌, ◌≢◌, ℕ, zero, suc, ◌+◌, ◌-◌, ◌<◌, ◌≤◌, Bool, true, false, List, [], ◌∷◌, ◌++◌, length, take, drop, get_or, slice_index_or, Some, ℤ, All, refl, sym, ap, ◌∙◌, subst, arith, ⊎_elim, length-append}
 use Rattle.std.specs.List.{list_all}
 use Rattle.std.specs.Char.{is_ascii_digit}
 use Rattle.std.proofs.lemmas.Bool.{cases_lt}
@@ -17,11 +17,8 @@ use Rattle.connections.specs.Runs.{IsRunOf, AreRunsOf}
 use Rattle.connections.specs.Networks.{IsRunName, AreRunNames}
 use Rattle.connections.proofs.DateLemmas.{date_text}
 
-same_date : (d e : List ℕ) (a b : ℕ) → d ≡ e → date_at d ≡ Some (pos a) → date_at e ≡ Some (pos b) → a ≡ b
-same_date d e a b same h k =
-    let o : Some (pos a) ≡ Some (pos b) = sym h ∙ ap date_at same ∙ k in
-    let p : pos a ≡ pos b = cc in
-    cc
+same_date : (d e : List ℕ) (a b : ℤ) → d ≡ e → date_at d ≡ Some a → date_at e ≡ Some b → a ≡ b
+same_date d e a b same h k = let o : Some a ≡ Some b = sym h ∙ ap date_at same ∙ k in cc
 
 same_rest : (x : ℕ) (xs ys : List ℕ) → x ∷ xs ≡ x ∷ ys → xs ≡ ys
 same_rest x xs ys h = cc
@@ -33,15 +30,15 @@ one_id ids distinct i j h k same =
 
 -- two runs of one name are one
 pub one_run : (f : FeedParts) → AreIds f.trip_ids → (a b : Run) (name : List ℕ) → IsRunOf f a → IsRunOf f b → IsRunName f a name → IsRunName f b name
-    → (a.day ≡ b.day) × (a.trip ≡ b.trip)
+    → (a.origin.day.number ≡ b.origin.day.number) × (a.trip ≡ b.trip)
 one_run f ids a b name of_a of_b h k =
-    let x = date_text h.date (pos a.day) h.reads in
-    let y = date_text k.date (pos b.day) k.reads in
+    let x = date_text h.date a.origin.day.number h.reads in
+    let y = date_text k.date b.origin.day.number k.reads in
     let id = slice_index_or f.trip_ids a.trip [] in
     let id' = slice_index_or f.trip_ids b.trip [] in
     let dates : h.date ≡ k.date = sym (take_at h.date (58 ∷ id) 8 x.size) ∙ ap (take 8) (sym h.text ∙ k.text) ∙ take_at k.date (58 ∷ id') 8 y.size in
     let rests : 58 ∷ id ≡ 58 ∷ id' = sym (drop_at h.date (58 ∷ id) 8 x.size) ∙ ap (drop 8) (sym h.text ∙ k.text) ∙ drop_at k.date (58 ∷ id') 8 y.size in
-    (same_date h.date k.date a.day b.day dates h.reads k.reads, one_id f.trip_ids ids.names.distinct a.trip b.trip of_a.trip of_b.trip (same_rest 58 id id' rests))
+    (same_date h.date k.date a.origin.day.number b.origin.day.number dates h.reads k.reads, one_id f.trip_ids ids.names.distinct a.trip b.trip of_a.trip of_b.trip (same_rest 58 id id' rests))
 
 name_at : (f : FeedParts) (rs : List Run) (n : ℕ) (names : List (List ℕ)) → AreRunNames f rs n names → (k : ℕ) (d : List ℕ) → k < n → IsRunName f (run_at rs k) (get_or names k d)
 name_at f rs n names a k d h = subst (IsRunName f (run_at rs k)) (get_or_default names k [] d (omega (arith, a.size))) (a.each k h)
@@ -94,7 +91,7 @@ no_end xs (suc n) l e t = t (take n xs) (split_last xs n (omega arith) e)
 pub name_trimmed : (f : FeedParts) (run : Run) (name : List ℕ) → AreIds f.trip_ids → run.trip < length f.trip_ids → IsRunName f run name → IsTrimmed name
 name_trimmed f run name ids inside h =
     let id = slice_index_or f.trip_ids run.trip [] in
-    let d = date_text h.date (pos run.day) h.reads in
+    let d = date_text h.date run.origin.day.number h.reads in
     let id_trimmed : IsTrimmed id = All-get_or IsTrimmed f.trip_ids run.trip [] inside ids.trimmed in
     let one : length (58 ∷ id) - 1 ≡ length id = omega arith in
     record {

@@ -2,23 +2,24 @@
 use Rattle.std.proofs.Common.{◌≡◌, ℕ, suc, ◌+◌, Bool, true, false, List, [], ◌∷◌, ◌++◌, length, map, refl, sym, ap, ◌∙◌, length-append, add-one}
 use Rattle.std.proofs.lemmas.List.{map-append}
 use Rattle.gtfs_tables.specs.declared.stop_times.StopRow.{StopRow}
+use Rattle.connections.specs.declared.origins.Origin.{Origin}
 use Rattle.connections.specs.declared.window.Window.{Window}
 use Rattle.connections.specs.Joins.{only_if}
 use Rattle.connections.specs.Window.{holds}
 use Rattle.connections.specs.Rides.{steps_below, departs}
 use Rattle.connections.proofs.JoinLemmas.{join-zero, join-suc}
 
-pub steps-zero : (w : Window) (rows : List StopRow) (day : ℕ) → steps_below w rows day 0 ≡ []
+pub steps-zero : (w : Window) (rows : List StopRow) (o : Origin) → steps_below w rows o 0 ≡ []
 unfolding steps_below
-steps-zero w rows day = join-zero (λ k. only_if (holds w (departs rows day k)) k)
+steps-zero w rows o = join-zero (λ k. only_if (holds w (departs rows o k)) k)
 
-pub steps-suc : (w : Window) (rows : List StopRow) (day n : ℕ) → steps_below w rows day (suc n) ≡ steps_below w rows day n ++ only_if (holds w (departs rows day n)) n
+pub steps-suc : (w : Window) (rows : List StopRow) (o : Origin) (n : ℕ) → steps_below w rows o (suc n) ≡ steps_below w rows o n ++ only_if (holds w (departs rows o n)) n
 unfolding steps_below
-steps-suc w rows day n = join-suc (λ k. only_if (holds w (departs rows day k)) k) n
+steps-suc w rows o n = join-suc (λ k. only_if (holds w (departs rows o k)) k) n
 
 -- one more row
-pub steps-next : (w : Window) (rows : List StopRow) (day n : ℕ) (b : Bool) → b ≡ holds w (departs rows day n) → steps_below w rows day (n + 1) ≡ steps_below w rows day n ++ only_if b n
-steps-next w rows day n b h = (rw add-one (steps-suc w rows day n)) ∙ ap (λ x. steps_below w rows day n ++ only_if x n) (sym h)
+pub steps-next : (w : Window) (rows : List StopRow) (o : Origin) (n : ℕ) (b : Bool) → b ≡ holds w (departs rows o n) → steps_below w rows o (n + 1) ≡ steps_below w rows o n ++ only_if b n
+steps-next w rows o n b h = (rw add-one (steps-suc w rows o n)) ∙ ap (λ x. steps_below w rows o n ++ only_if x n) (sym h)
 
 pub append-nil : {A : Type 0} (xs : List A) → xs ++ [] ≡ xs
 append-nil [] = refl
@@ -31,14 +32,14 @@ pub length-none : (b : Bool) (n : ℕ) → b ≡ false → length (only_if b n) 
 length-none b n h = ap (λ x. length (only_if x n)) h
 
 -- how many there are, with one more row
-pub length-next : (w : Window) (rows : List StopRow) (day n : ℕ) (b : Bool) → b ≡ holds w (departs rows day n)
-    → length (steps_below w rows day (n + 1)) ≡ length (steps_below w rows day n) + length (only_if b n)
-length-next w rows day n b h = ap length (steps-next w rows day n b h) ∙ length-append (steps_below w rows day n) (only_if b n)
+pub length-next : (w : Window) (rows : List StopRow) (o : Origin) (n : ℕ) (b : Bool) → b ≡ holds w (departs rows o n)
+    → length (steps_below w rows o (n + 1)) ≡ length (steps_below w rows o n) + length (only_if b n)
+length-next w rows o n b h = ap length (steps-next w rows o n b h) ∙ length-append (steps_below w rows o n) (only_if b n)
 
 -- the same of what a function makes of them
-pub map-next : {A : Type 0} (f : ℕ → A) (w : Window) (rows : List StopRow) (day n : ℕ) (b : Bool) → b ≡ holds w (departs rows day n)
-    → map f (steps_below w rows day (n + 1)) ≡ map f (steps_below w rows day n) ++ map f (only_if b n)
-map-next f w rows day n b h = ap (map f) (steps-next w rows day n b h) ∙ map-append f (steps_below w rows day n) (only_if b n)
+pub map-next : {A : Type 0} (f : ℕ → A) (w : Window) (rows : List StopRow) (o : Origin) (n : ℕ) (b : Bool) → b ≡ holds w (departs rows o n)
+    → map f (steps_below w rows o (n + 1)) ≡ map f (steps_below w rows o n) ++ map f (only_if b n)
+map-next f w rows o n b h = ap (map f) (steps-next w rows o n b h) ∙ map-append f (steps_below w rows o n) (only_if b n)
 
 pub append-assoc : {A : Type 0} (xs ys zs : List A) → (xs ++ ys) ++ zs ≡ xs ++ (ys ++ zs)
 append-assoc [] ys zs = refl

@@ -1,5 +1,5 @@
 -- Sums over the steps, the trips and the days of a window.
-use Rattle.std.proofs.Common.{◌≡◌, ℕ, zero, suc, ◌+◌, ◌-◌, ◌*◌, ◌^◌, ◌<◌, ◌≤◌, min, Bool, true, false, List, [], ◌∷◌, ◌++◌, length, get_or, if◌then◌else◌, refl, sym, ap, ◌∙◌, arith}
+use Rattle.std.proofs.Common.{◌≡◌, ℕ, zero, suc, ◌+◌, ◌-◌, ◌*◌, ◌^◌, ◌<◌, ◌≤◌, min, Bool, true, false, List, [], ◌∷◌, length, get_or, if◌then◌else◌, refl, sym, ap, ◌∙◌, arith}
 use Rattle.std.specs.Prelude.{sum_by}
 use Rattle.std.proofs.lemmas.List.Sums.{sum_by-append, sum_by-cons}
 use Rattle.std.proofs.lemmas.List.Elements.{All-get_or}
@@ -12,13 +12,15 @@ use Rattle.gtfs_tables.specs.declared.stop_times.StopRow.{StopRow}
 use Rattle.gtfs_tables.specs.Feeds.{FeedParts}
 use Rattle.gtfs_tables.specs.Timed.{rows_of, kept_at, IsTimed}
 use Rattle.service_days.specs.Services.{ServiceParts}
+use Rattle.connections.specs.declared.origins.Origin.{Origin}
 use Rattle.connections.specs.declared.window.Window.{Window}
 use Rattle.connections.specs.Joins.{only_if, sum_below}
-use Rattle.connections.specs.Window.{holds, first_day}
+use Rattle.connections.specs.Origins.{origin_of_day}
+use Rattle.connections.specs.Window.{holds, day_at}
 use Rattle.connections.specs.Rides.{departs, is_active, steps_below, steps_of}
 use Rattle.connections.specs.Counts.{each_of, steps_sum, trip_sum, day_sum, days_sum, window_sum, count_in, entries_in}
 use Rattle.connections.proofs.CountLemmas.{sum-zero, sum-suc, sum_by-ones}
-use Rattle.connections.proofs.StepLemmas.{steps-zero, steps-suc, steps-next, length-next}
+use Rattle.connections.proofs.StepLemmas.{steps-zero, steps-next, length-next}
 
 pub step-in : (f : ℕ → ℕ) (b : Bool) (k x : ℕ) → b ≡ true → x ≡ f k → x ≡ sum_by f (only_if b k)
 step-in f true k x is e = let one : sum_by f (k ∷ []) ≡ f k = omega arith in e ∙ sym one
@@ -29,10 +31,10 @@ step-out f true k is = absurd (cc)
 step-out f false k is = refl
 
 -- one more row
-pub sum_by-next : (f : ℕ → ℕ) (w : Window) (rows : List StopRow) (day k : ℕ)
-    → sum_by f (steps_below w rows day (k + 1)) ≡ sum_by f (steps_below w rows day k) + sum_by f (only_if (holds w (departs rows day k)) k)
-sum_by-next f w rows day k =
-    ap (sum_by f) (steps-next w rows day k (holds w (departs rows day k)) refl) ∙ sum_by-append f (steps_below w rows day k) (only_if (holds w (departs rows day k)) k)
+pub sum_by-next : (f : ℕ → ℕ) (w : Window) (rows : List StopRow) (o : Origin) (k : ℕ)
+    → sum_by f (steps_below w rows o (k + 1)) ≡ sum_by f (steps_below w rows o k) + sum_by f (only_if (holds w (departs rows o k)) k)
+sum_by-next f w rows o k =
+    ap (sum_by f) (steps-next w rows o k (holds w (departs rows o k)) refl) ∙ sum_by-append f (steps_below w rows o k) (only_if (holds w (departs rows o k)) k)
 
 pub active-sum : (active : Bool) (n x : ℕ) → active ≡ true → x ≡ min n (2 ^ 64 - 1) → x ≡ min (if active then n else 0) (2 ^ 64 - 1)
 active-sum active n x is e = rw is e
@@ -57,21 +59,21 @@ module _ (f : FeedParts) (s : ServiceParts) (w : Window) where
   pub window-scale : (b : ℕ) (each : PlaceId → ℕ) → ((place : PlaceId) → each place ≤ b * 1) → window_sum each f s w ≤ b * window_sum (λ place. 1) f s w
   unfolding day_sum days_sum
   window-scale b each h =
-      sum-scale b (λ d. day_sum each f s w (first_day w + d) (length f.trip_ids)) (λ d. day_sum (λ place. 1) f s w (first_day w + d) (length f.trip_ids)) 11 (λ d less.
-      sum-scale b (trip_sum each f s w (first_day w + d)) (trip_sum (λ place. 1) f s w (first_day w + d)) (length f.trip_ids) (λ trip inside.
-      if_scale (is_active f s (first_day w + d) trip) b _ _
-      (sum_by-scale b (λ k. each (kept_at (rows_of f trip) k).place) (λ k. 1) (steps_of w (rows_of f trip) (first_day w + d)) (λ k. h (kept_at (rows_of f trip) k).place))))
+      sum-scale b (λ d. day_sum each f s w (day_at w d) (length f.trip_ids)) (λ d. day_sum (λ place. 1) f s w (day_at w d) (length f.trip_ids)) 11 (λ d less.
+      sum-scale b (trip_sum each f s w (day_at w d)) (trip_sum (λ place. 1) f s w (day_at w d)) (length f.trip_ids) (λ trip inside.
+      if_scale (is_active f s (day_at w d) trip) b _ _
+      (sum_by-scale b (λ k. each (kept_at (rows_of f trip) k).place) (λ k. 1) (steps_of w (rows_of f trip) (origin_of_day (day_at w d))) (λ k. h (kept_at (rows_of f trip) k).place))))
 
 length-only : (b : Bool) (n : ℕ) → length (only_if b n) ≤ 1
 length-only true n = omega arith
 length-only false n = omega arith
 
-steps-few : (w : Window) (rows : List StopRow) (day n : ℕ) → length (steps_below w rows day n) ≤ n
-steps-few w rows day zero = omega (arith, ap length (steps-zero w rows day))
-steps-few w rows day (suc n) =
+steps-few : (w : Window) (rows : List StopRow) (o : Origin) (n : ℕ) → length (steps_below w rows o n) ≤ n
+steps-few w rows o zero = omega (arith, ap length (steps-zero w rows o))
+steps-few w rows o (suc n) =
     let e : n + 1 ≡ suc n = omega arith in
-    let more = length-next w rows day n (holds w (departs rows day n)) refl in
-    omega (arith, ap (λ k. length (steps_below w rows day k)) e, more, length-only (holds w (departs rows day n)) n, steps-few w rows day n)
+    let more = length-next w rows o n (holds w (departs rows o n)) refl in
+    omega (arith, ap (λ k. length (steps_below w rows o k)) e, more, length-only (holds w (departs rows o n)) n, steps-few w rows o n)
 
 sum-few : (b : ℕ) (f : ℕ → ℕ) (n : ℕ) → ((k : ℕ) → k < n → f k ≤ b) → sum_below f n ≤ n * b
 sum-few b f zero h = omega (arith, sum-zero f)
@@ -85,12 +87,13 @@ if_few false b x h = omega arith
 pub window-few : (f : FeedParts) (s : ServiceParts) (w : Window) → IsTimed f → length f.trip_ids ≤ 4194304 → window_sum (λ place. 1) f s w ≤ 11 * 4194304000000000
 unfolding day_sum days_sum
 window-few f s w timed few =
-    sum-few 4194304000000000 (λ d. day_sum (λ place. 1) f s w (first_day w + d) (length f.trip_ids)) 11 (λ d less.
-    let day = first_day w + d in
+    sum-few 4194304000000000 (λ d. day_sum (λ place. 1) f s w (day_at w d) (length f.trip_ids)) 11 (λ d less.
+    let day = day_at w d in
     let trips = sum-few 1000000000 (trip_sum (λ place. 1) f s w day) (length f.trip_ids) (λ trip inside.
     let rows = rows_of f trip in
-    if_few (is_active f s day trip) 1000000000 (steps_sum (λ place. 1) w rows day)
-    (omega (arith, sum_by-ones (steps_of w rows day), steps-few w rows day (length rows - 1), (timed trip inside).few))) in
+    let o = origin_of_day day in
+    if_few (is_active f s day trip) 1000000000 (steps_sum (λ place. 1) w rows o)
+    (omega (arith, sum_by-ones (steps_of w rows o), steps-few w rows o (length rows - 1), (timed trip inside).few))) in
     omega (arith, trips, few))
 
 -- links that rise are at most as many as the places that they come from

@@ -8,27 +8,30 @@ use Rattle.service_days.specs.Services.{ServiceParts}
 use Rattle.change_times.specs.Changes.{ChangeParts, links_of}
 use Rattle.connections.specs.declared.counts.Counted.{Counted}
 use Rattle.connections.specs.declared.counts.Counted.TheVariants.{Connections, Entries}
+use Rattle.connections.specs.declared.origins.ServiceDay.{ServiceDay}
+use Rattle.connections.specs.declared.origins.Origin.{Origin}
 use Rattle.connections.specs.declared.window.Window.{Window}
 use Rattle.connections.specs.Joins.{sum_below}
-use Rattle.connections.specs.Window.{first_day}
+use Rattle.connections.specs.Origins.{origin_of_day}
+use Rattle.connections.specs.Window.{day_at}
 use Rattle.connections.specs.Rides.{is_active, steps_of}
 
--- what the connections of a trip with these kept rows add up to, by the places that they leave
-abbrev pub steps_sum : (PlaceId → ℕ) → Window → List StopRow → ℕ → ℕ
-steps_sum each w rows day = sum_by (λ k. each (kept_at rows k).place) (steps_of w rows day)
+-- what the connections of a run with these kept rows add up to, by the places that they leave
+abbrev pub steps_sum : (PlaceId → ℕ) → Window → List StopRow → Origin → ℕ
+steps_sum each w rows o = sum_by (λ k. each (kept_at rows k).place) (steps_of w rows o)
 
 module _ (each : PlaceId → ℕ) (f : FeedParts) (s : ServiceParts) (w : Window) where
   -- the same of a trip on a service day
-  abbrev pub trip_sum : (day trip : ℕ) → ℕ
-  trip_sum day trip = if is_active f s day trip then steps_sum each w (rows_of f trip) day else 0
+  abbrev pub trip_sum : (day : ServiceDay) (trip : ℕ) → ℕ
+  trip_sum day trip = if is_active f s day trip then steps_sum each w (rows_of f trip) (origin_of_day day) else 0
 
   -- the same of the first n trips
-  unfoldable pub day_sum : (day n : ℕ) → ℕ
+  unfoldable pub day_sum : (day : ServiceDay) (n : ℕ) → ℕ
   day_sum day n = sum_below (trip_sum day) n
 
   -- and of the first n service days
   unfoldable pub days_sum : (n : ℕ) → ℕ
-  days_sum n = sum_below (λ d. day_sum (first_day w + d) (length f.trip_ids)) n
+  days_sum n = sum_below (λ d. day_sum (day_at w d) (length f.trip_ids)) n
 
 -- what the connections of a window add up to
 abbrev pub window_sum : (PlaceId → ℕ) → FeedParts → ServiceParts → Window → ℕ

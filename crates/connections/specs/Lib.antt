@@ -1,5 +1,6 @@
 pub mod Joins
 pub mod Window
+pub mod Origins
 pub mod Rides
 pub mod Runs
 pub mod Counts

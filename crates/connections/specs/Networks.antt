@@ -1,5 +1,5 @@
 -- The network of a feed in a window of time, and its names.
-use Rattle.std.specs.Prelude.{◌≡◌, ℕ, ◌+◌, ◌*◌, ◌==◌, ◌<◌, ◌≤◌, List, [], ◌∷◌, ◌++◌, map, length, slice_index, slice_index_or, Some, None, if◌then◌else◌, unwrap_or, pos}
+use Rattle.std.specs.Prelude.{◌≡◌, ℕ, ℤ, ◌+◌, ◌<◌, ◌≤◌, List, [], ◌∷◌, ◌++◌, map, length, slice_index, slice_index_or, Some, unsigned_abs}
 use Rattle.clock_text.specs.Times.{date_at}
 use Rattle.plan_model.specs.declared.model.Connection.{Connection}
 use Rattle.plan_model.specs.declared.model.Way.{Way}
@@ -10,25 +10,28 @@ use Rattle.gtfs_tables.specs.declared.stop_times.StopRow.{StopRow}
 use Rattle.gtfs_tables.specs.Feeds.{FeedParts}
 use Rattle.gtfs_tables.specs.Timed.{rows_of, kept_at}
 use Rattle.service_days.specs.Services.{ServiceParts}
+use Rattle.connections.specs.declared.origins.Origin.{Origin}
 use Rattle.connections.specs.declared.window.Window.{Window}
 use Rattle.connections.specs.declared.runs.Run.{Run}
 use Rattle.connections.specs.Joins.{join_below}
+use Rattle.connections.specs.Origins.{moment_of}
 use Rattle.connections.specs.Rides.{departs, run_steps, run_at, runs_in}
 
 -- when the ride from the k-th kept row to the next arrives
-abbrev pub arrives : List StopRow → ℕ → ℕ → ℕ
-arrives rows day k = 86400 * day + (kept_at rows (k + 1)).arrival
+abbrev pub arrives : List StopRow → Origin → ℕ → ℤ
+arrives rows o k = moment_of o (kept_at rows (k + 1)).arrival
 
--- the ride of a trip on a day from its k-th kept row to the next, with the number of its run, and its class by its arrival
-abbrev pub ride : List StopRow → (day number : ℕ) → (class : ℕ → ℕ) → (k : ℕ) → Connection
-ride rows day number class k = record {
+-- the ride of a run from its k-th kept row to the next, with the number of the run, and its class by its arrival; it departs
+-- in a window, so no moment of it is before 1970
+abbrev pub ride : List StopRow → (o : Origin) → (number : ℕ) → (class : ℕ → ℕ) → (k : ℕ) → Connection
+ride rows o number class k = record {
   from = (kept_at rows k).place;
   to = (kept_at rows (k + 1)).place;
-  dep = record { 0 = departs rows day k };
-  arr = record { 0 = arrives rows day k };
+  dep = record { 0 = unsigned_abs (departs rows o k) };
+  arr = record { 0 = unsigned_abs (arrives rows o k) };
   run = record { 0 = number };
   step = k;
-  class = record { 0 = class (arrives rows day k) };
+  class = record { 0 = class (unsigned_abs (arrives rows o k)) };
   can_board = (kept_at rows k).can_board;
   can_exit = (kept_at rows (k + 1)).can_exit;
 }
@@ -44,7 +47,7 @@ class_of_trip f d trip arr = class_for d (Some (slice_index f.route_types trip))
 -- the rides of a run in the window
 unfoldable pub run_rides : FeedParts → DelayLists → Window → List Run → ℕ → List Connection
 run_rides f d w rs r =
-    map (ride (rows_of f (run_at rs r).trip) (run_at rs r).day r (class_of_trip f d (run_at rs r).trip)) (run_steps f w (run_at rs r))
+    map (ride (rows_of f (run_at rs r).trip) (run_at rs r).origin r (class_of_trip f d (run_at rs r).trip)) (run_steps f w (run_at rs r))
 
 -- the rides of the first n runs, by run and step
 unfoldable pub rides_below : FeedParts → DelayLists → Window → List Run → ℕ → List Connection
@@ -61,7 +64,7 @@ connections_in f s d w = rides_below f d w (runs_in f s w) (length (runs_in f s 
 -- the service date as YYYYMMDD, a colon, and the id of the trip
 pub record IsRunName (f : FeedParts) (run : Run) (name : List ℕ) : Type 0 where
   pub date : List ℕ
-  pub reads : date_at date ≡ Some (pos run.day)
+  pub reads : date_at date ≡ Some run.origin.day.number
   pub text : name ≡ date ++ 58 ∷ slice_index_or f.trip_ids run.trip []
 
 -- the names of the first n runs

@@ -1,17 +1,18 @@
 -- A window of time, and the service days whose trips may ride in it.
-use Rattle.std.specs.Prelude.{ℕ, ◌+◌, ◌*◌, ◌/◌, ◌-◌, ◌≤◌, ◌<◌, ◌&&◌, nat_le, Bool}
+use Rattle.std.specs.Prelude.{ℕ, ℤ, pos, ◌+◌, ◌*◌, ◌/◌, ◌-ℤ◌, ◌≤◌, ◌<◌, ◌&&◌, int_le, Bool}
+use Rattle.connections.specs.declared.origins.ServiceDay.{ServiceDay}
 use Rattle.connections.specs.declared.window.Window.{Window}
 
 -- from the start to so many hours later, both ends included
 abbrev pub window_of : ℕ → ℕ → Window
 window_of start horizon = record { start = start; end = start + 3600 * horizon }
 
-abbrev pub holds : Window → ℕ → Bool
-holds w moment = nat_le w.start moment && nat_le moment w.end
+abbrev pub holds : Window → ℤ → Bool
+holds w moment = int_le (pos w.start) moment && int_le moment (pos w.end)
 
--- 7 days before the date of the start
-abbrev pub first_day : Window → ℕ
-first_day w = w.start / 86400 - 7
+-- its service days, the first of which is 7 days before the date of the start
+abbrev pub day_at : Window → ℕ → ServiceDay
+day_at w d = record { number = pos (w.start / 86400 + d) -ℤ pos 7 }
 
 -- it starts from 1970-01-08 to 2399-12-31, and has at most 72 hours
 pub record IsWindow (w : Window) : Type 0 where

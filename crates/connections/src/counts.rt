@@ -2,12 +2,14 @@
 ghost use Rattle.std.specs.Prelude.{◌≡◌, ◌≤◌, ◌<◌, ◌^◌, ◌-◌, length, min, sum_by};
 ghost use Rattle.gtfs_tables.specs.Timed.{IsTimed, kept_at};
 ghost use Rattle.connections.specs.Joins.{only_if};
+ghost use Rattle.connections.specs.Origins.{origin_of_day};
 ghost use Rattle.connections.specs.Window.{holds, IsWindow};
 ghost use Rattle.connections.specs.Rides.{departs};
 ghost use Rattle.connections.specs.Counts.{each_of, steps_sum, trip_sum, day_sum, window_sum};
 
-use crate::runs::{DAYS, has_service, leaves, may_ride};
-use crate::window::Window;
+use crate::origins::{Origin, ServiceDay};
+use crate::runs::{has_service, leaves, may_ride};
+use crate::window::{DAYS, Window};
 use change_times::Changes;
 use gtfs_tables::{Feed, StopRow};
 use plan_model::PlaceId;
@@ -36,14 +38,14 @@ fn sum_step(
     counted: Counted,
     rows: &[StopRow],
     step: usize,
-    day: u32,
+    origin: Origin,
     window: Window,
 ) -> u64
     requires { step < length rows.now }
     ensures { result ≡ sum_by (λ k. each_of changes.now counted (kept_at rows.now k).place)
-        (only_if (holds window (departs rows.now day step)) step) }
+        (only_if (holds window (departs rows.now origin step)) step) }
 {
-    if leaves(rows, step, day, window) {
+    if leaves(rows, step, origin, window) {
         let row = rows[step];
         each(changes, counted, row.place)
     } else {
@@ -51,13 +53,19 @@ fn sum_step(
     }
 }
 
-/// What the connections of a trip with these kept rows count for on a day.
-fn sum_steps(changes: &Changes, counted: Counted, rows: &[StopRow], day: u32, window: Window) -> u64
-    ensures { result ≡ min (steps_sum (each_of changes.now counted) window rows.now day) (2 ^ 64 - 1) }
+/// What the connections of a run with these kept rows count for.
+fn sum_steps(
+    changes: &Changes,
+    counted: Counted,
+    rows: &[StopRow],
+    origin: Origin,
+    window: Window,
+) -> u64
+    ensures { result ≡ min (steps_sum (each_of changes.now counted) window rows.now origin) (2 ^ 64 - 1) }
 {
     let mut sum = 0u64;
     for k in 0..rows.len().saturating_sub(1) {
-        sum = sum.saturating_add(sum_step(changes, counted, rows, k, day, window));
+        sum = sum.saturating_add(sum_step(changes, counted, rows, k, origin, window));
     }
     sum
 }
@@ -69,20 +77,20 @@ fn sum_trip(
     changes: &Changes,
     counted: Counted,
     trip: u32,
-    day: u32,
+    day: ServiceDay,
     window: Window,
 ) -> u64
     requires trip { trip < length feed.now.trip_ids }
-    requires day { day ≤ 2_932_896 }
     requires timed { IsTimed feed.now }
     ensures { result ≡ min
         (trip_sum (each_of changes.now counted) feed.now services.now window day trip) (2 ^ 64 - 1) }
 {
     let rows = feed.stop_times(trip);
-    if !may_ride(rows, day, window) || !has_service(feed, services, trip, day) {
+    let origin = Origin::of_day(day);
+    if !may_ride(rows, origin, window) || !has_service(feed, services, trip, day) {
         return 0;
     }
-    sum_steps(changes, counted, rows, day, window)
+    sum_steps(changes, counted, rows, origin, window)
 }
 
 /// What the connections of all trips count for on a day.
@@ -91,10 +99,9 @@ fn sum_day(
     services: &Services,
     changes: &Changes,
     counted: Counted,
-    day: u32,
+    day: ServiceDay,
     window: Window,
 ) -> u64
-    requires { day ≤ 2_932_896 }
     ensures { result ≡ min (day_sum (each_of changes.now counted) feed.now services.now window day
         (length feed.now.trip_ids)) (2 ^ 64 - 1) }
 {
@@ -118,9 +125,8 @@ pub(crate) fn sum_window(
         (2 ^ 64 - 1) }
 {
     let mut sum = 0u64;
-    let first = window.first_day();
     for d in 0..DAYS {
-        let day = sum_day(feed, services, changes, counted, first + d, window);
+        let day = sum_day(feed, services, changes, counted, window.day(d), window);
         sum = sum.saturating_add(day);
     }
     sum

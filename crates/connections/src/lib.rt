@@ -6,6 +6,7 @@ mod counts;
 mod cuts;
 mod merged;
 mod names;
+mod origins;
 mod rides;
 mod runs;
 #[cfg(test)]

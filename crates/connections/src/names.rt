@@ -2,10 +2,10 @@
 ghost use Rattle.std.specs.Prelude.{◌≡◌, ◌≤◌, ◌<◌, [], length, string_bytes, OnOk, IfOk};
 ghost use Rattle.plan_model.specs.Bounds.{most_connections};
 ghost use Rattle.csv_rows.specs.Ids.{AreIds};
-ghost use Rattle.connections.specs.Runs.{AreRunsOf};
+ghost use Rattle.connections.specs.Runs.{IsDay, AreRunsOf};
 ghost use Rattle.connections.specs.Networks.{IsRunName, AreRunNames};
 
-use crate::runs::{Run, day_number};
+use crate::runs::Run;
 use clock_text::write_date;
 use gtfs_tables::Feed;
 use plan_model::{Names, NoMemory};
@@ -14,10 +14,10 @@ use std::alloc::Global;
 /// The name of a run: its service date as YYYYMMDD, a colon, and the id of its trip.
 fn run_name(alloc: Global, feed: &Feed, run: Run) -> Result<String, NoMemory>
     requires trip { run.trip < length feed.now.trip_ids }
-    requires day { run.day ≤ 2_932_896 }
+    requires day { IsDay run.origin.day }
     ensures { IfOk result (λ name. IsRunName feed.now run (string_bytes name)) }
 {
-    let date = write_date(day_number(run.day));
+    let date = write_date(run.origin.day.number);
     match std::str::from_utf8(&date) {
         Ok(date) => {
             let mut name = String::from_str(alloc, date)?;

@@ -7,17 +7,18 @@ ghost use Rattle.gtfs_tables.specs.Timed.{IsTimed};
 ghost use Rattle.connections.specs.Runs.{AreRunsOf};
 ghost use Rattle.connections.specs.Networks.{ride, rides_below};
 
-use crate::runs::{Run, leaves, moment_of};
+use crate::origins::Origin;
+use crate::runs::{Run, leaves};
 use crate::window::Window;
 use delay_table::{ClassName, DelayTable};
 use gtfs_tables::{Feed, StopRow};
 use plan_model::{ClassId, Connection, List, Moment, NoMemory, RunId};
 use std::alloc::Global;
 
-/// A run with its number, its route type and the id of its route.
+/// A run by its origin and its number, its route type and the id of its route.
 #[derive(Clone, Copy)]
 struct Numbered<'a> {
-    day: u32,
+    origin: Origin,
     number: u32,
     route_type: u16,
     route: &'a str,
@@ -32,20 +33,21 @@ fn class_of(delays: &DelayTable, run: &Numbered<'_>, arrival: u64) -> u16
     delays.class_for(class, Some(run.route), Moment(arrival)).0
 }
 
-/// The ride from one kept row to the next.
+/// The ride from one kept row to the next, where it departs in a window, whose moments are not before 1970.
 fn ride(rows: &[StopRow], step: usize, run: &Numbered<'_>, delays: &DelayTable) -> Connection
     requires inside { step + 1 < length rows.now }
     requires few { step ≤ 1_000_000_000 }
-    ensures { result ≡ ride rows.now run.now.day run.now.number
+    ensures { result ≡ ride rows.now run.now.origin run.now.number
         (class_for delays.now (Some run.now.route_type) (Some run.now.route.now)) step }
 {
     let from = rows[step];
     let to = rows[step + 1];
-    let arrival = moment_of(run.day, to.arrival);
+    let departure = run.origin.plus(from.departure).unsigned_abs();
+    let arrival = run.origin.plus(to.arrival).unsigned_abs();
     Connection {
         from: from.place,
         to: to.place,
-        dep: Moment(moment_of(run.day, from.departure)),
+        dep: Moment(departure),
         arr: Moment(arrival),
         run: RunId(run.number),
         step: step as u32,
@@ -65,12 +67,12 @@ fn add_rides(
 ) -> Result<(), NoMemory>
     requires { length rows.now ≤ 1_000_000_000 }
     ensures { OnOk result (connections.new
-        ≡ connections.old ++ map (ride rows.now run.now.day run.now.number
+        ≡ connections.old ++ map (ride rows.now run.now.origin run.now.number
         (class_for delays.now (Some run.now.route_type) (Some run.now.route.now)))
-        (steps_of window rows.now run.now.day)) }
+        (steps_of window rows.now run.now.origin)) }
 {
     for k in 0..rows.len().saturating_sub(1) {
-        if leaves(rows, k, run.day, window) {
+        if leaves(rows, k, run.origin, window) {
             connections.push(ride(rows, k, run, delays))?;
         }
     }
@@ -95,7 +97,7 @@ pub(crate) fn connections_of(
     for r in 0..runs.len() {
         let run = runs[r];
         let numbered = Numbered {
-            day: run.day,
+            origin: run.origin,
             number: r as u32,
             route_type: feed.route_type(run.trip),
             route: feed.route_id(run.trip),

@@ -1,75 +1,59 @@
 //! The runs that ride in a window.
-ghost use Rattle.std.specs.Prelude.{◌≡◌, ◌+◌, ◌*◌, ◌≤◌, ◌<◌, ◌++◌, ◌&&◌, length, pos, [], false, IfOk, OnOk};
+ghost use Rattle.std.specs.Prelude.{◌≡◌, ◌<◌, ◌++◌, ◌&&◌, length, [], false, IfOk, OnOk};
 ghost use Rattle.gtfs_tables.specs.Timed.{IsTimed, rows_of};
 ghost use Rattle.connections.specs.Window.{holds, IsWindow};
+ghost use Rattle.connections.specs.Origins.{origin_of_day};
 ghost use Rattle.connections.specs.Rides.{DepartInOrder, departs, is_active, rides, steps_of, day_runs, runs_in};
 
-use crate::window::Window;
+use crate::origins::{Origin, ServiceDay};
+use crate::window::{DAYS, Window};
 use gtfs_tables::{Feed, StopRow};
 use plan_model::NoMemory;
 use service_days::Services;
 use std::alloc::Global;
 
-/// How many service days there are: from 7 before the date of the start to 3 after it.
-pub(crate) const DAYS: u32 = 11;
-
-/// A trip on a service day, which counts from 1970-01-01.
+/// A trip, and the moment from which its times count.
 #[derive(Clone, Copy)]
 pub(crate) struct Run {
-    pub(crate) day: u32,
+    pub(crate) origin: Origin,
     pub(crate) trip: u32,
 }
 
-/// The moment that is so many seconds after the start of a service day.
-pub(crate) fn moment_of(day: u32, seconds: u32) -> u64
-    ensures { result ≡ 86400 * day + seconds }
-{
-    86_400 * u64::from(day) + u64::from(seconds)
-}
-
-/// The number of a service day.
-pub(crate) fn day_number(day: u32) -> i32
-    requires { day ≤ 2_932_896 }
-    ensures { result ≡ pos day }
-{
-    day as i32
-}
-
-/// When a trip leaves a kept row on a day.
-fn departure_of(rows: &[StopRow], row: usize, day: u32) -> u64
+/// When a run leaves a kept row.
+fn departure_of(rows: &[StopRow], row: usize, origin: Origin) -> i64
     requires { row < length rows.now }
-    ensures { result ≡ departs rows.now day row }
+    ensures { result ≡ departs rows.now origin row }
 {
-    moment_of(day, rows[row].departure)
+    origin.plus(rows[row].departure)
 }
 
-/// Whether a trip leaves a kept row in the window on a day.
-pub(crate) fn leaves(rows: &[StopRow], row: usize, day: u32, window: Window) -> bool
+/// Whether a run leaves a kept row in the window.
+pub(crate) fn leaves(rows: &[StopRow], row: usize, origin: Origin, window: Window) -> bool
     requires { row < length rows.now }
-    ensures { result ≡ holds window (departs rows.now day row) }
+    ensures { result ≡ holds window (departs rows.now origin row) }
 {
-    window.holds(departure_of(rows, row, day))
+    window.holds(departure_of(rows, row, origin))
 }
 
-/// Whether a trip with these kept rows may ride in the window on a day: not where its first ride departs after it, or its
-/// last one before it.
-pub(crate) fn may_ride(rows: &[StopRow], day: u32, window: Window) -> bool
+/// Whether a run with these kept rows may ride in the window: not where its first ride departs after it, or its last one
+/// before it.
+pub(crate) fn may_ride(rows: &[StopRow], origin: Origin, window: Window) -> bool
     requires { DepartInOrder rows.now }
-    ensures { result ≡ false → steps_of window rows.now day ≡ [] }
+    ensures { result ≡ false → steps_of window rows.now origin ≡ [] }
 {
     let rides = rows.len().saturating_sub(1);
-    if rides == 0 || window.end < departure_of(rows, 0, day) {
+    if rides == 0 || window.ends_before(departure_of(rows, 0, origin)) {
         return false;
     }
-    window.start <= departure_of(rows, rides - 1, day)
+    !window.starts_after(departure_of(rows, rides - 1, origin))
 }
 
-/// Whether a trip with these kept rows rides in the window on a day.
-fn rides(rows: &[StopRow], day: u32, window: Window) -> bool
-    ensures { result ≡ rides window rows.now day }
+/// Whether a run with these kept rows rides in the window.
+fn rides(rows: &[StopRow], origin: Origin, window: Window) -> bool
+    ensures { result ≡ rides window rows.now origin }
 {
     for k in 0..rows.len().saturating_sub(1) {
-        if leaves(rows, k, day, window) {
+        if leaves(rows, k, origin, window) {
             return true;
         }
     }
@@ -77,44 +61,43 @@ fn rides(rows: &[StopRow], day: u32, window: Window) -> bool
 }
 
 /// Whether the service of a trip is active on a day.
-pub(crate) fn has_service(feed: &Feed, services: &Services, trip: u32, day: u32) -> bool
-    requires trip { trip < length feed.now.trip_ids }
-    requires day { day ≤ 2_932_896 }
+pub(crate) fn has_service(feed: &Feed, services: &Services, trip: u32, day: ServiceDay) -> bool
+    requires { trip < length feed.now.trip_ids }
     ensures { result ≡ is_active feed.now services.now day trip }
 {
-    services.runs_on(feed.service_of(trip), day_number(day))
+    services.runs_on(feed.service_of(trip), day.number)
 }
 
 /// Whether a trip is active on a day and rides in the window then.
-fn rides_on(feed: &Feed, services: &Services, trip: u32, day: u32, window: Window) -> bool
+fn rides_on(feed: &Feed, services: &Services, trip: u32, day: ServiceDay, window: Window) -> bool
     requires trip { trip < length feed.now.trip_ids }
-    requires day { day ≤ 2_932_896 }
     requires timed { IsTimed feed.now }
     ensures { result ≡ (is_active feed.now services.now day trip
-        && rides window (rows_of feed.now trip) day) }
+        && rides window (rows_of feed.now trip) (origin_of_day day)) }
 {
     let rows = feed.stop_times(trip);
-    if !may_ride(rows, day, window) {
+    let origin = Origin::of_day(day);
+    if !may_ride(rows, origin, window) {
         return false;
     }
-    has_service(feed, services, trip, day) && rides(rows, day, window)
+    has_service(feed, services, trip, day) && rides(rows, origin, window)
 }
 
-/// Adds the trips that are active on a day and ride in the window then.
+/// Adds the runs of the trips that are active on a day and ride in the window then.
 fn add_day(
     runs: &mut Vec<Run>,
     feed: &Feed,
     services: &Services,
-    day: u32,
+    day: ServiceDay,
     window: Window,
 ) -> Result<(), NoMemory>
-    requires { day ≤ 2_932_896 }
     ensures { OnOk result (runs.new.items
         ≡ runs.old.items ++ day_runs feed.now services.now window day (length feed.now.trip_ids)) }
 {
     for trip in 0..feed.trip_count() {
         if rides_on(feed, services, trip, day, window) {
-            runs.push(Run { day, trip })?;
+            let origin = Origin::of_day(day);
+            runs.push(Run { origin, trip })?;
         }
     }
     Ok(())
@@ -131,9 +114,8 @@ pub(crate) fn runs_of(
     ensures { IfOk result (λ runs. runs.items ≡ runs_in feed.now services.now window) }
 {
     let mut runs: Vec<Run> = Vec::new(alloc);
-    let first = window.first_day();
     for d in 0..DAYS {
-        add_day(&mut runs, feed, services, first + d, window)?;
+        add_day(&mut runs, feed, services, window.day(d), window)?;
     }
     Ok(runs)
 }

@@ -1,6 +1,11 @@
 //! A window of time.
-ghost use Rattle.std.specs.Prelude.{◌≡◌, ◌+◌, ◌*◌, ◌≤◌, ◌<◌};
-ghost use Rattle.connections.specs.Window.{window_of, holds, first_day, IsWindow};
+ghost use Rattle.std.specs.Prelude.{◌≡◌, ◌+◌, ◌*◌, ◌≤◌, ◌<◌, pos, int_lt};
+ghost use Rattle.connections.specs.Window.{window_of, holds, day_at, IsWindow};
+
+use crate::origins::ServiceDay;
+
+/// How many service days a window has: from 7 before the date of its start to 3 after it.
+pub(crate) const DAYS: u32 = 11;
 
 /// The moments from a start to an end, both included, in seconds since 1970-01-01.
 #[derive(Clone, Copy)]
@@ -22,18 +27,39 @@ impl Window {
         }
     }
 
-    /// Whether a moment lies in the window.
-    pub(crate) fn holds(self, moment: u64) -> bool
+    /// Whether a moment lies in the window, which may be one before 1970.
+    pub(crate) fn holds(self, moment: i64) -> bool
         ensures { result ≡ holds self moment }
     {
+        if moment < 0 {
+            return false;
+        }
+        let moment = moment.unsigned_abs();
         self.start <= moment && moment <= self.end
     }
 
-    /// The first service day whose trips may ride in the window: 7 days before the date of the start.
-    pub(crate) fn first_day(self) -> u32
-        requires { IsWindow self }
-        ensures { result ≡ first_day self }
+    /// Whether the window is over before a moment.
+    pub(crate) fn ends_before(self, moment: i64) -> bool
+        ensures { result ≡ int_lt (pos self.end) moment }
     {
-        (self.start / 86_400 - 7) as u32
+        moment >= 0 && self.end < moment.unsigned_abs()
+    }
+
+    /// Whether the window begins after a moment.
+    pub(crate) fn starts_after(self, moment: i64) -> bool
+        ensures { result ≡ int_lt moment (pos self.start) }
+    {
+        moment < 0 || moment.unsigned_abs() < self.start
+    }
+
+    /// A service day whose trips may ride in the window, the first of which is 7 days before the date of the start.
+    pub(crate) fn day(self, d: u32) -> ServiceDay
+        requires window { IsWindow self }
+        requires inside { d < 11 }
+        ensures { result ≡ day_at self d }
+    {
+        ServiceDay {
+            number: (self.start / 86_400) as i32 + d as i32 - 7,
+        }
     }
 }

@@ -1,6 +1,6 @@
 -- The window of a feed has one network and one list of names.
 use Rattle.std.proofs.Common.{◌≡◌, ℕ, ◌+◌, ◌<◌, ◌++◌, ◌∷◌, [], sym, ap, ◌∙◌, subst, arith, List, length, Bool}
-use Rattle.std.specs.Prelude.{ℤ, pos, slice_index_or, ◌&&◌, if◌then◌else◌}
+use Rattle.std.specs.Prelude.{ℤ, slice_index_or, ◌&&◌, if◌then◌else◌}
 use mathlib.Core.Path.{fun_ext}
 use Rattle.std.proofs.lemmas.List.{ext_get_or}
 use Rattle.plan_model.specs.declared.model.PlaceId.{PlaceId}
@@ -16,8 +16,9 @@ use Rattle.gtfs_tables.specs.Feeds.{FeedParts}
 use Rattle.gtfs_tables.specs.Timed.{rows_of}
 use Rattle.service_days.specs.Services.{ServiceParts, runs}
 use Rattle.connections.specs.Joins.{join_below, only_if, sum_below}
-use Rattle.connections.specs.Window.{first_day, window_of}
-use Rattle.connections.specs.Rides.{rides, day_runs, runs_below, runs_in, run_at, no_run}
+use Rattle.connections.specs.Origins.{origin_of_day}
+use Rattle.connections.specs.Window.{day_at, window_of}
+use Rattle.connections.specs.Rides.{rides, run_on, day_runs, runs_below, runs_in, run_at, no_run}
 use Rattle.connections.specs.Counts.{steps_sum, day_sum, days_sum, window_sum}
 use Rattle.connections.specs.Networks.{IsRunName, AreRunNames, rides_below}
 use Rattle.connections.specs.Cut.{IsNetworkFrom, connection_count, entry_count}
@@ -31,16 +32,14 @@ pub same_runs : (f : FeedParts) (s t : ServiceParts) (w : _) → SameDays s t �
 unfolding runs_below day_runs
 same_runs f s t w e =
     ap (λ (r : List ℕ → ℤ → Bool). join_below (λ d. join_below (λ trip.
-    only_if (r (slice_index_or f.services trip []) (pos (first_day w + d)) && rides w (rows_of f trip) (first_day w + d)) (record no_run {
-      day = first_day w + d;
-      trip = trip;
-    })) (length f.trip_ids)) 11)
+    only_if (r (slice_index_or f.services trip []) (day_at w d).number && rides w (rows_of f trip) (origin_of_day (day_at w d))) (run_on (day_at w d) trip))
+    (length f.trip_ids)) 11)
     (fun_ext (λ x. fun_ext (e x)))
 
 -- a run has one name
 one_name : (f : FeedParts) (run : _) (a b : List ℕ) → IsRunName f run a → IsRunName f run b → a ≡ b
 one_name f run a b h k =
-    let date : h.date ≡ k.date = one_date h.date k.date (pos run.day) h.reads k.reads in
+    let date : h.date ≡ k.date = one_date h.date k.date run.origin.day.number h.reads k.reads in
     h.text ∙ ap (λ (d : List ℕ). d ++ 58 ∷ slice_index_or f.trip_ids run.trip []) date ∙ sym k.text
 
 one_names : (f : FeedParts) (rs : _) (n : ℕ) (a b : List (List ℕ)) → AreRunNames f rs n a → AreRunNames f rs n b → a ≡ b
@@ -52,8 +51,8 @@ same_sum : (each : PlaceId → ℕ) (f : FeedParts) (s t : ServiceParts) (w : _)
 unfolding days_sum day_sum
 same_sum each f s t w e =
     ap (λ (r : List ℕ → ℤ → Bool). sum_below (λ d. sum_below (λ trip.
-    if r (slice_index_or f.services trip []) (pos (first_day w + d))
-    then steps_sum each w (rows_of f trip) (first_day w + d) else 0) (length f.trip_ids)) 11)
+    if r (slice_index_or f.services trip []) (day_at w d).number
+    then steps_sum each w (rows_of f trip) (origin_of_day (day_at w d)) else 0) (length f.trip_ids)) 11)
     (fun_ext (λ x. fun_ext (e x)))
 
 pub same_count : (f : FeedParts) (s t : ServiceParts) (start horizon : ℕ) → SameDays s t → connection_count f s start horizon ≡ connection_count f t start horizon

@@ -1,4 +1,4 @@
-use Rattle.std.proofs.Common.{◌+◌, ◌-◌, ◌^◌, ℕ, min, sym, ap, arith}
+use Rattle.std.proofs.Common.{◌-◌, ◌^◌, ℕ, min, sym, ap, arith}
 use Rattle.connections.specs.Counts.{each_of, trip_sum, day_sum}
 use Rattle.connections.proofs.CountLemmas.{sum-zero, sum-next}
 use Rattle.connections.proofs.counts.sum_day.Goals as goal

@@ -6,4 +6,4 @@ use Rattle.connections.specs.Counts.{each_of}
 use Rattle.connections.proofs.counts.sum_steps.Given as goal
 
 abbrev pub invariant-loop-k : goal.invariant-loop-k
-invariant-loop-k l = l.sum ≡ min (sum_by (λ (k : ℕ). each_of l.changes l.counted (kept_at l.rows k).place) (steps_below l.window l.rows l.day l.k)) (2 ^ 64 - 1)
+invariant-loop-k l = l.sum ≡ min (sum_by (λ (k : ℕ). each_of l.changes l.counted (kept_at l.rows k).place) (steps_below l.window l.rows l.origin l.k)) (2 ^ 64 - 1)

@@ -1,4 +1,4 @@
-use Rattle.std.proofs.Common.{◌≡◌, ◌≤◌, arith}
+use Rattle.std.proofs.Common.{arith}
 use Rattle.connections.proofs.FaultLemmas.{not_many}
 use Rattle.connections.proofs.cuts.cut.Goals as goal
 

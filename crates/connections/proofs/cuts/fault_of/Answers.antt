@@ -1,5 +1,4 @@
-use Rattle.std.proofs.Common.{◌≡◌, ◌*◌, ◌≤◌, Some, ap, ◌∙◌, arith}
-use Rattle.csv_rows.specs.declared.limits.Limits.{Limits}
+use Rattle.std.proofs.Common.{◌≡◌, ◌≤◌, Some, ap, ◌∙◌, arith}
 use Rattle.connections.specs.Counts.{count_in, entries_in}
 use Rattle.connections.specs.declared.cuts.WindowFault.TheVariants.{TooMany, TooManyEntries}
 use Rattle.connections.proofs.FaultLemmas.{many_connections, many_entries, few_entries}

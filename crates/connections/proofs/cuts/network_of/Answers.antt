@@ -1,4 +1,4 @@
-use Rattle.std.proofs.Common.{◌≡◌, ◌≤◌, List, [], length, ap, sym, subst, ◌∙◌, arith}
+use Rattle.std.proofs.Common.{◌≡◌, List, [], length, ap, sym, subst, ◌∙◌, arith}
 use Rattle.std.specs.Prelude.{slice_index_or}
 use Rattle.csv_rows.specs.Lists.{list_below}
 use Rattle.csv_rows.proofs.ListLemmas.{length-list_below}
@@ -14,12 +14,12 @@ use Rattle.connections.proofs.cuts.network_of.Goals as goal
 
 pub network_of_runs-requires-clause-runs : goal.network_of_runs-requires-clause-runs
 network_of_runs-requires-clause-runs c =
-    (runs_are c.args.feed.now c.args.services.now c.args.window c.requires.window c.trip_count-trips.ensures.few c.as_slice.result.now
+    (runs_are c.args.feed.now c.args.services.now c.args.window c.requires.window c.as_slice.result.now
     (c.as_slice.ensures.value ∙ c.in_ok-runs.ensures)).0
 
 pub network_of_runs-requires-clause-rides : goal.network_of_runs-requires-clause-rides
 network_of_runs-requires-clause-rides c =
-    (runs_are c.args.feed.now c.args.services.now c.args.window c.requires.window c.trip_count-trips.ensures.few c.as_slice.result.now
+    (runs_are c.args.feed.now c.args.services.now c.args.window c.requires.window c.as_slice.result.now
     (c.as_slice.ensures.value ∙ c.in_ok-runs.ensures)).1
 
 pub network_of_runs-requires-clause-few : goal.network_of_runs-requires-clause-few

@@ -1,6 +1,6 @@
 use Rattle.std.proofs.Common.{◌+◌, ◌-◌, ◌/◌, arith, ap}
 use Rattle.plan_model.specs.declared.model.Connection.{Connection}
-use Rattle.connections.proofs.SkipLemmas.{IsParted-whole, IsParted-up, IsParted-down}
+use Rattle.connections.proofs.SkipLemmas.{IsParted-up, IsParted-down}
 use Rattle.connections.proofs.merged.end_by.Goals as goal
 
 pub loop-low-preserved-then-dep-last : goal.loop-low-preserved-then-dep-last

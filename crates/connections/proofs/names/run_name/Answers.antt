@@ -1,30 +1,30 @@
-use Rattle.std.proofs.Common.{◌++◌, ◌∷◌, [], ℤ, w32, Some, sym, ap, ◌∙◌, subst}
+use Rattle.std.proofs.Common.{◌++◌, ◌∷◌, [], ℤ, w32, SFits, Some, sym, ap, ◌∙◌, subst, rules}
+use Rattle.clock_text.specs.Times.{HasDate}
 use Rattle.std.proofs.lemmas.Int.{to_z-of_z}
 use Rattle.std.proofs.lemmas.Option.{get_or_from_slice_get}
 use Rattle.std.proofs.lemmas.Str.{IsUtf8-from_ascii}
-use Rattle.clock_text.specs.Times.{HasDate}
 use Rattle.connections.proofs.DateLemmas.{has_date, date_is_ascii}
 use Rattle.connections.proofs.StepLemmas.{append-assoc}
 use Rattle.connections.proofs.names.run_name.Goals as goal
 
 pub write_date-date-requires : goal.write_date-date-requires
 write_date-date-requires c =
-    let day = to_z-of_z w32 c.day_number.result (record { sfits = c.day_number.type_inv }) ∙ c.day_number.ensures in
+    let fits : SFits w32 c.args.run.origin.day.number = search rules in
     let P : ℤ → Type 0 = HasDate in
-    subst P (sym day) (has_date c.args.run.day c.requires.day)
+    subst P (sym (to_z-of_z w32 c.args.run.origin.day.number fits)) (has_date c.args.run.origin.day c.requires.day)
 
 pub unreachable-requires : goal.unreachable-requires
 unreachable-requires c = c.in-Err.ensures.cases.0 (IsUtf8-from_ascii c.write_date-date.result (date_is_ascii c.write_date-date.result _ c.write_date-date.ensures))
 
 pub returns : goal.returns
 returns c =
-    let day = to_z-of_z w32 c.day_number.result (record { sfits = c.day_number.type_inv }) ∙ c.day_number.ensures in
     let id = get_or_from_slice_get c.args.feed.now.trip_ids c.args.run.trip c.trip_id.result.now [] c.trip_id.ensures in
+    let fits : SFits w32 c.args.run.origin.day.number = search rules in
     let date = c.write_date-date.result in
     let text = c.in_ok-name-in-Ok.ensures.ok ∙ c.in-Ok.ensures.cases.0 in
     record {
       date = date;
-      reads = c.write_date-date.ensures ∙ ap Some day;
+      reads = c.write_date-date.ensures ∙ ap Some (to_z-of_z w32 c.args.run.origin.day.number fits);
       text =
           c.in_ok-push_str-in-Ok-2.ensures.bytes
           ∙ ap (λ x. x ++ c.trip_id.result.now) (c.in_ok-push_str-in-Ok.ensures.bytes ∙ ap (λ x. x ++ 58 ∷ []) text)

@@ -10,15 +10,15 @@ use Rattle.connections.proofs.rides.add_rides.Goals.{then-leaves+in_ok-push, els
 pub loop-k-init : goal.loop-k-init
 loop-k-init c =
     let rows = c.args.rows.now in let run = c.args.run.now in
-    sym (ap (λ xs. c.args.connections.now ++ map (ride rows run.day run.number (class_for c.args.delays.now (Some run.route_type) (Some run.route.now))) xs) (steps-zero c.args.window rows run.day) ∙ append-nil c.args.connections.now)
+    sym (ap (λ xs. c.args.connections.now ++ map (ride rows run.origin run.number (class_for c.args.delays.now (Some run.route_type) (Some run.route.now))) xs) (steps-zero c.args.window rows run.origin) ∙ append-nil c.args.connections.now)
 
 pub loop-k-preserved : goal.loop-k-preserved
 loop-k-preserved c =
     let rows = c.args.rows.now in let run = c.args.run.now in let k = c.loop-k.k in
-    let f = ride rows run.day run.number (class_for c.args.delays.now (Some run.route_type) (Some run.route.now)) in
-    let more = map-next f c.args.window rows run.day k c.leaves.result c.leaves.ensures in
-    let before = map f (steps_below c.args.window rows run.day k) in
-    let all = map f (steps_below c.args.window rows run.day (k + 1)) in
+    let f = ride rows run.origin run.number (class_for c.args.delays.now (Some run.route_type) (Some run.route.now)) in
+    let more = map-next f c.args.window rows run.origin k c.leaves.result c.leaves.ensures in
+    let before = map f (steps_below c.args.window rows run.origin k) in
+    let all = map f (steps_below c.args.window rows run.origin (k + 1)) in
     elim c.if-leaves.branch [
       | then-leaves+in_ok-push w ↦
           goes-on c.args.connections.now before (f k ∷ []) all c.if-leaves.connections (more ∙ ap (λ b. before ++ map f (only_if b k)) w.if-leaves.true)

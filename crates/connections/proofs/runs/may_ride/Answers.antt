@@ -1,21 +1,19 @@
-use Rattle.std.proofs.Common.{◌+◌, ◌-◌, ◌<◌, ◌≡◌, length, arith}
-use Rattle.std.proofs.lemmas.Bool.{leb-false}
-use Rattle.connections.specs.Rides.{departs}
+use Rattle.std.proofs.Common.{◌-◌, ◌≡◌, length, arith}
+use Rattle.std.proofs.lemmas.Int.{ints}
 use Rattle.connections.proofs.ReachLemmas.{none_at_all, none_late, none_early}
 use Rattle.connections.proofs.runs.may_ride.Goals as goal
-use Rattle.connections.proofs.runs.may_ride.Goals.{then-rides-eq0-via-then-rides-eq0, then-rides-eq0-via-else-rides-eq0+then-window-departure_of}
+use Rattle.connections.proofs.runs.may_ride.Goals.{then-rides-eq0-via-then-rides-eq0, then-rides-eq0-via-else-rides-eq0+then-ends_before}
 
 pub returns-then-rides-eq0 : goal.returns-then-rides-eq0
 returns-then-rides-eq0 c = λ is. elim c.then-rides-eq0.branch [
   | then-rides-eq0-via-then-rides-eq0 v ↦
-      none_at_all c.args.window c.args.rows.now c.args.day c.requires (omega (arith, v.if-rides-eq0.true, c.saturating_sub-rides.ensures))
-  | then-rides-eq0-via-else-rides-eq0+then-window-departure_of v ↦
-      none_late c.args.window c.args.rows.now c.args.day c.requires (omega (arith, v.if-window-departure_of.true, v.departure_of.ensures))
+      none_at_all c.args.window c.args.rows.now c.args.origin c.requires (omega (arith, v.if-rides-eq0.true, c.saturating_sub-rides.ensures))
+  | then-rides-eq0-via-else-rides-eq0+then-ends_before v ↦
+      none_late c.args.window c.args.rows.now c.args.origin c.requires (grind (arith, ints, v.if-ends_before.true, v.ends_before.ensures, v.departure_of.ensures))
 ]
 
 pub returns : goal.returns
 returns c = λ is.
-    let early = leb-false c.args.window.start c.departure_of-2.result is in
     let rides : c.saturating_sub-rides.result ≡ length c.args.rows.now - 1 = omega (arith, c.saturating_sub-rides.ensures) in
     let last = rw rides at c.departure_of-2.ensures in
-    none_early c.args.window c.args.rows.now c.args.day c.requires (omega (arith, early, last))
+    none_early c.args.window c.args.rows.now c.args.origin c.requires (grind (arith, ints, is, c.starts_after.ensures, last))

@@ -1,0 +1,12 @@
+-- The moments from which the times of runs count.
+use Rattle.std.specs.Prelude.{ℕ, ℤ, pos, ◌+ℤ◌, ◌*ℤ◌}
+use Rattle.connections.specs.declared.origins.ServiceDay.{ServiceDay}
+use Rattle.connections.specs.declared.origins.Origin.{Origin}
+
+-- the start of a service day
+abbrev pub origin_of_day : ServiceDay → Origin
+origin_of_day day = record { day = day; shift = pos 0 }
+
+-- so many seconds later, in seconds since 1970-01-01
+abbrev pub moment_of : Origin → ℕ → ℤ
+moment_of o seconds = ((pos 86400 *ℤ o.day.number) +ℤ o.shift) +ℤ pos seconds

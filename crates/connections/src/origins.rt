@@ -1,0 +1,35 @@
+//! The moments from which the times of runs count.
+ghost use Rattle.std.specs.Prelude.{◌≡◌};
+ghost use Rattle.connections.specs.Origins.{origin_of_day, moment_of};
+
+/// A service day.
+#[derive(Clone, Copy)]
+pub(crate) struct ServiceDay {
+    /// Its number, which counts from 1970-01-01 and is negative before it.
+    pub(crate) number: i32,
+}
+
+/// The moment from which the times of a run count: so many seconds after the start of a service day.
+#[derive(Clone, Copy)]
+pub(crate) struct Origin {
+    /// The service day.
+    pub(crate) day: ServiceDay,
+    /// The seconds after the start of the service day.
+    pub(crate) shift: i32,
+}
+
+impl Origin {
+    /// The start of a service day.
+    pub(crate) fn of_day(day: ServiceDay) -> Origin
+        ensures { result ≡ origin_of_day day }
+    {
+        Origin { day, shift: 0 }
+    }
+
+    /// So many seconds later, in seconds since 1970-01-01.
+    pub(crate) fn plus(self, seconds: u32) -> i64
+        ensures { result ≡ moment_of self seconds }
+    {
+        86_400 * i64::from(self.day.number) + i64::from(self.shift) + i64::from(seconds)
+    }
+}
