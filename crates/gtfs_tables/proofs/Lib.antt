@@ -12,3 +12,4 @@ pub mod RowForms
 pub mod Beside
 pub mod FeedFacts
 pub mod RepeatFacts
+pub mod SmallFacts

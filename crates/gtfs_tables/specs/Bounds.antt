@@ -8,3 +8,11 @@ end_of_times = 604800
 -- as many seconds as there may be from one departure of a trip that repeats to the next
 abbrev pub most_headway : ℕ
 most_headway = 86400
+
+-- as many rows as a table of stop times may have
+abbrev pub most_stop_times : ℕ
+most_stop_times = 33554432
+
+-- and one of frequencies
+abbrev pub most_frequencies : ℕ
+most_frequencies = 65536

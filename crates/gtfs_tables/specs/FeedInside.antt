@@ -1,8 +1,9 @@
 -- The parts of a feed.
-use Rattle.std.specs.Prelude.{◌≡◌, ◌<◌, ◌≤◌, length, map, vec_items, All}
+use Rattle.std.specs.Prelude.{◌≡◌, ℕ, ◌<◌, ◌≤◌, [], slice_index_or, length, map, vec_items, All}
 use Rattle.std.specs.List.Sorted.{IsNonDecreasing}
 use Rattle.plan_model.specs.NameLists.{texts}
 use Rattle.gtfs_tables.specs.declared.feed.Feed.TheInside.{Inside}
+use Rattle.gtfs_tables.specs.Bounds.{most_stop_times, most_frequencies}
 use Rattle.gtfs_tables.specs.Feeds.{FeedParts, IsSoundFeed}
 use Rattle.gtfs_tables.specs.Repeats.{all_repeats_in}
 
@@ -32,4 +33,6 @@ pub record IsWhole (f : Inside) : Type 0 where
   pub paired : length f.repeats.rows.items ≡ length f.repeats.trips.items
   pub few_stops : length f.stops.ids ≤ 1048576
   pub few_trips : length f.trips.ids ≤ 4194304
+  pub few_rows : (trip : ℕ) → trip < length f.trips.ids → length (slice_index_or (map vec_items f.visits.items) trip []) ≤ most_stop_times
+  pub few_frequencies : length f.repeats.rows.items ≤ most_frequencies
   pub sound : IsSoundFeed (parts_of f)

@@ -1,8 +1,8 @@
 -- What holds of the rows of frequencies of the trips of a feed, and how they are kept.
-use Rattle.std.specs.Prelude.{◌≡◌, ℕ, ◌==◌, ◌<◌, ◌≤◌, List, [], ◌∷◌, length, slice_index, slice_index_or, All, if◌then◌else◌}
+use Rattle.std.specs.Prelude.{◌≡◌, ℕ, ◌==◌, ◌<◌, ◌≤◌, List, [], ◌∷◌, length, slice_index, slice_index_or, All, sum_by, if◌then◌else◌}
 use Rattle.csv_rows.specs.Lists.{list_below}
 use Rattle.gtfs_tables.specs.declared.frequencies.FrequencyRow.{FrequencyRow}
-use Rattle.gtfs_tables.specs.Bounds.{end_of_times, most_headway}
+use Rattle.gtfs_tables.specs.Bounds.{end_of_times, most_headway, most_stop_times, most_frequencies}
 use Rattle.gtfs_tables.specs.Feeds.{FeedParts}
 use Rattle.gtfs_tables.specs.Frequencies.{no_frequency}
 
@@ -24,6 +24,12 @@ pub record AreRepeats (rows : List FrequencyRow) : Type 0 where
 -- this is so of each trip
 abbrev pub AreRepeating : FeedParts → Type 0
 AreRepeating f = (trip : ℕ) → trip < length f.trip_ids → AreRepeats (slice_index_or f.frequencies trip [])
+
+-- the tables of the feed are no larger than they may be
+pub record IsSmall (f : FeedParts) : Type 0 where
+  pub rows : (trip : ℕ) → trip < length f.trip_ids → length (slice_index_or f.stop_times trip []) ≤ most_stop_times
+  pub size : length f.frequencies ≡ length f.trip_ids
+  pub frequencies : sum_by length f.frequencies ≤ most_frequencies
 
 -- the trips from one place to another are this one, those before are earlier ones, and those after later ones
 pub record IsTripSpan (trips : List ℕ) (trip low high : ℕ) : Type 0 where

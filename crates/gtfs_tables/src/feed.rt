@@ -45,7 +45,7 @@ impl Feed {
     ghost use Rattle.csv_rows.specs.Loading.{HasFeedCause, HasFeedPathCause};
     ghost use Rattle.csv_rows.specs.Tables.{place_in};
     ghost use Rattle.gtfs_tables.specs.Feeds.{tables_in, IsFeedOf, IsFeedTableFault, IsSoundFeed};
-    ghost use Rattle.gtfs_tables.specs.Repeats.{AreRepeating};
+    ghost use Rattle.gtfs_tables.specs.Repeats.{AreRepeating, IsSmall};
     ghost use Rattle.gtfs_tables.specs.Timed.{IsTimed};
 
     /// Reads the tables `stops.txt`, `routes.txt`, `trips.txt`, `stop_times.txt` and `frequencies.txt` of a folder, or
@@ -143,6 +143,7 @@ impl Feed {
         ensures sound { IsSoundFeed self.now }
         ensures timed { IsTimed self.now }
         ensures repeats { AreRepeating self.now }
+        ensures small { IsSmall self.now }
     {
         self.trips.ids.len()
     }

@@ -24,7 +24,8 @@ pub(crate) fn sorted_keys(
     kept_alone: bool,
 ) -> Result<Vec<Key>, NoMemory>
     requires { length rows.now < 2 ^ 32 }
-    ensures { IfOk result (λ keys. AreKeysOf kept_alone rows.now keys.items) }
+    ensures keys { IfOk result (λ keys. AreKeysOf kept_alone rows.now keys.items) }
+    ensures few { IfOk result (λ keys. length keys.items ≤ length rows.now) }
 {
     let mut keys: Vec<Key> = Vec::new(alloc);
     for i in 0..rows.len() {

@@ -5,6 +5,7 @@ ghost use Rattle.csv_rows.specs.declared.feed_tables.Table.TheVariants.{Frequenc
 ghost use Rattle.csv_rows.specs.FeedTables.{unread_of, IsFaultOf};
 ghost use Rattle.csv_rows.specs.Loading.{HasAtMost};
 ghost use Rattle.csv_rows.specs.Tables.{row_count};
+ghost use Rattle.gtfs_tables.specs.Bounds.{most_frequencies};
 ghost use Rattle.gtfs_tables.specs.Feeds.{AreFrequencies};
 ghost use Rattle.gtfs_tables.specs.Frequencies.{frequency_rows, frequencies_fault, fault_of_frequencies, repeats_of, all_repeats_of};
 ghost use Rattle.gtfs_tables.specs.Repeats.{IsTripSpan, repeats_in, all_repeats_in};
@@ -50,6 +51,7 @@ fn by_trip(mut rows: Vec<TripFrequency>) -> Result<Vec<TripFrequency>, NoMemory>
     ensures ordered { IfOk result (λ sorted. IsNonDecreasingBy (λ r. r.trip) sorted.items) }
     ensures kept { IfOk result (λ sorted. (trip : ℕ)
         → repeats_of sorted.items trip ≡ repeats_of rows.items trip) }
+    ensures size { IfOk result (λ sorted. length sorted.items ≡ length rows.items) }
 {
     rows.sort_by_key(|r| r.trip)?;
     Ok(rows)
@@ -71,6 +73,7 @@ fn repeats_by(alloc: Global, rows: Vec<TripFrequency>) -> Result<Repeats, NoMemo
     ensures paired { IfOk result (λ r. length r.rows.items ≡ length r.trips.items) }
     ensures repeats { IfOk result (λ r. (count : ℕ)
         → all_repeats_in r.trips.items r.rows.items count ≡ all_repeats_of rows.items count) }
+    ensures size { IfOk result (λ r. length r.rows.items ≡ length rows.items) }
 {
     let sorted = by_trip(rows)?;
     parted(alloc, sorted.as_slice())
@@ -83,6 +86,7 @@ fn read_frequencies(alloc: Global, rows: &Rows, trips: &Ids) -> Result<Repeats, 
     ensures paired { IfOk result (λ r. length r.rows.items ≡ length r.trips.items) }
     ensures repeats { IfOk result (λ r. (count : ℕ) → all_repeats_in r.trips.items r.rows.items count
         ≡ all_repeats_of (frequency_rows trips.now rows.now) count) }
+    ensures few { IfOk result (λ r. length r.rows.items ≤ most_frequencies) }
     ensures none { OnOk result (frequencies_fault trips.now rows.now ≡ None) }
     ensures fault { IfErr result (λ f. f ≢ FeedFault.NoMemory
         → frequencies_fault trips.now rows.now ≡ Some f) }
@@ -133,6 +137,7 @@ pub(crate) fn repeats_from(
     ensures paired { IfOk result (λ r. length r.rows.items ≡ length r.trips.items) }
     ensures repeats { IfOk result (λ r. AreFrequencies trips.now (Ok loaded.now)
         (all_repeats_in r.trips.items r.rows.items (length trips.now))) }
+    ensures few { IfOk result (λ r. length r.rows.items ≤ most_frequencies) }
     ensures none { OnOk result (fault_of_frequencies trips.now loaded.now ≡ None) }
     ensures fault { IfErr result (λ f. f ≢ FeedFault.NoMemory
         → fault_of_frequencies trips.now loaded.now ≡ Some f) }

@@ -1,5 +1,5 @@
 //! The tables of a feed, each loaded and read.
-ghost use Rattle.std.specs.Prelude.{◌≡◌, ◌≢◌, ◌<◌, ◌≤◌, ℕ, length, map, vec_items, None, Some, Ok, Err, IfOk, IfErr, IfSome, IsSome, All};
+ghost use Rattle.std.specs.Prelude.{◌≡◌, ◌≢◌, ◌<◌, ◌≤◌, ℕ, [], length, map, vec_items, slice_index_or, None, Some, Ok, Err, IfOk, IfErr, IfSome, IsSome, All};
 ghost use Rattle.std.specs.List.Sorted.{IsNonDecreasing};
 ghost use Rattle.csv_rows.specs.declared.columns.Column.TheVariants.{StopId, RouteId, TripId};
 ghost use Rattle.csv_rows.specs.declared.feed_tables.Table.TheVariants.{Stops as StopsTable, Routes as RoutesTable, Trips as TripsTable, StopTimes as StopTimesTable, Frequencies as FrequenciesTable};
@@ -8,6 +8,7 @@ ghost use Rattle.csv_rows.specs.Limits.{AreWithin, rows_of};
 ghost use Rattle.csv_rows.specs.Loading.{HasFeedCause, HasFeedPathCause, load_in};
 ghost use Rattle.csv_rows.specs.Tables.{row_count};
 ghost use Rattle.plan_model.specs.NameLists.{texts};
+ghost use Rattle.gtfs_tables.specs.Bounds.{most_stop_times, most_frequencies};
 ghost use Rattle.gtfs_tables.specs.Feeds.{required, stops_from, routes_from, trips_from, stop_times_from, frequencies_from, AreStops, AreRoutes, AreTrips, AreVisits, AreFrequencies, IsSound};
 ghost use Rattle.gtfs_tables.specs.Stops.{stops_fault};
 ghost use Rattle.gtfs_tables.specs.Routes.{routes_fault};
@@ -183,6 +184,8 @@ pub(crate) fn load_stop_times<F: Files>(
     ensures sound { IfOk result (λ v.
         IsSound (stop_times_fault trips.now stops.now.ids stops.now.places.items)
         (λ t. AreVisits trips.now stops.now.ids stops.now.places.items (Ok t) (map vec_items v.items))) }
+    ensures few { IfOk result (λ v. (trip : ℕ) → trip < length trips.now
+        → length (slice_index_or (map vec_items v.items) trip []) ≤ most_stop_times) }
     ensures sized { IfOk result (λ v. length v.items ≡ length trips.now) }
     ensures own { IfErr result (IsFaultOf StopTimesTable) }
     ensures cause { HasFeedCause (F.faults files.old) (F.faults files.new) result }
@@ -226,6 +229,7 @@ pub(crate) fn load_frequencies<F: Files>(
         AreFrequencies trips.now (Ok l) (all_repeats_in r.trips.items r.rows.items (length trips.now)))) }
     ensures ordered { IfOk result (λ r. IsNonDecreasing r.trips.items) }
     ensures paired { IfOk result (λ r. length r.rows.items ≡ length r.trips.items) }
+    ensures few { IfOk result (λ r. length r.rows.items ≤ most_frequencies) }
     ensures own { IfErr result (IsFaultOf FrequenciesTable) }
     ensures cause { HasFeedCause (F.faults files.old) (F.faults files.new) result }
     ensures path_cause { HasFeedPathCause (IsSome (F.files files.old)) folder.now

@@ -4,6 +4,7 @@ ghost use Rattle.csv_rows.specs.declared.feed_tables.Table.TheVariants.{StopTime
 ghost use Rattle.csv_rows.specs.First.{first_below};
 ghost use Rattle.csv_rows.specs.FeedTables.{unread_of, IsFaultOf};
 ghost use Rattle.csv_rows.specs.Tables.{row_count};
+ghost use Rattle.gtfs_tables.specs.Bounds.{most_stop_times};
 ghost use Rattle.gtfs_tables.specs.Feeds.{IsSound, AreVisits};
 ghost use Rattle.gtfs_tables.specs.StopTimes.{timed_rows, repeated_time, order_fault, stop_times_fault};
 ghost use Rattle.gtfs_tables.specs.Visits.{AreStopTimes};
@@ -40,6 +41,8 @@ fn in_order(alloc: Global, rows: &[TimedRow], trips: u32) -> Result<Vec<Vec<Stop
     ensures size { IfOk result (λ visits. length visits.items ≡ trips) }
     ensures each { IfOk result (λ visits. (trip : ℕ) → trip < trips
         → AreStopTimes rows.now trip (slice_index_or (map vec_items visits.items) trip [])) }
+    ensures few { IfOk result (λ visits. (trip : ℕ) → trip < trips
+        → length (slice_index_or (map vec_items visits.items) trip []) ≤ most_stop_times) }
     ensures none { OnOk result (order_fault rows.now ≡ None) }
     ensures fault { IfErr result (λ f. f ≢ FeedFault.NoMemory → order_fault rows.now ≡ Some f) }
     ensures content { IfErr result (λ f. unread_of f ≡ None) }
@@ -72,6 +75,8 @@ pub(crate) fn read_stop_times(
 ) -> Result<Vec<Vec<StopRow>>, FeedFault>
     requires few { row_count rows ≤ 33554432 }
     requires places { length stops.now.places.items ≡ length stops.now.ids }
+    ensures few { IfOk result (λ visits. (trip : ℕ) → trip < length trips.now
+        → length (slice_index_or (map vec_items visits.items) trip []) ≤ most_stop_times) }
     ensures size { IfOk result (λ visits. length visits.items ≡ length trips.now) }
     ensures each { IfOk result (λ visits. (trip : ℕ) → trip < length trips.now → AreStopTimes
         (timed_rows trips.now stops.now.ids stops.now.places.items rows) trip

@@ -3,6 +3,7 @@ ghost use Rattle.std.specs.Prelude.{◌≡◌, ◌<◌, ◌≤◌, ◌+◌, ◌-
 ghost use Rattle.csv_rows.specs.First.{first_below};
 ghost use Rattle.csv_rows.specs.Keys.{key_at};
 ghost use Rattle.csv_rows.specs.Lists.{list_below};
+ghost use Rattle.gtfs_tables.specs.Bounds.{most_stop_times};
 ghost use Rattle.gtfs_tables.specs.Keys.{AreKeysOf};
 ghost use Rattle.gtfs_tables.specs.StopTimes.{row_at, is_kept, repeated_time};
 ghost use Rattle.gtfs_tables.specs.Visits.{visit_or_none, visit_at, AreStopTimes, IsSpanOf};
@@ -69,9 +70,12 @@ pub(crate) fn visits_of(
 ) -> Result<Vec<Vec<StopRow>>, NoMemory>
     requires sorted { AreKeysOf true rows.now keys.now }
     requires once { first_below (repeated_time rows.now) (length rows.now) ≡ None }
+    requires few { length keys.now ≤ most_stop_times }
     ensures size { IfOk result (λ visits. length visits.items ≡ trips) }
     ensures each { IfOk result (λ visits. (trip : ℕ) → trip < trips
         → AreStopTimes rows.now trip (slice_index_or (map vec_items visits.items) trip [])) }
+    ensures few { IfOk result (λ visits. (trip : ℕ) → trip < trips
+        → length (slice_index_or (map vec_items visits.items) trip []) ≤ most_stop_times) }
 {
     let mut all: Vec<Vec<StopRow>> = Vec::new(alloc);
     let mut start = 0;

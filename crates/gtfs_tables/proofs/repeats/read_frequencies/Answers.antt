@@ -38,3 +38,13 @@ returns-in-Ok-repeats_by-clause-none c =
     let same = c.as_slice.ensures.value ∙ c.in-Ok.ensures.rows in
     or_then _ _ _ (sym (ap missing_frequency_column c.frequency_columns-columns.ensures) ∙ sym c.in_default.ensures.fault) (or_then _ _ _ c.in-Ok.ensures.none
     (ap (λ (xs : List TripFrequency). first_below (repeated_start xs) (length xs)) (sym same) ∙ c.in-Ok-check_once.ensures.none))
+
+pub returns-in-Ok-repeats_by-clause-few : goal.returns-in-Ok-repeats_by-clause-few
+returns-in-Ok-repeats_by-clause-few c =
+    omega (
+      arith,
+      c.in-Ok-repeats_by.ensures.size,
+      ap (λ (xs : List TripFrequency). length xs) c.in-Ok.ensures.rows,
+      frequency_count c.args.trips.now c.args.rows.now,
+      c.requires,
+    )

@@ -50,6 +50,8 @@ invariant_of-result g c =
       paired = c.in-Ok-load_frequencies.ensures.paired;
       few_stops = c.in-Ok.ensures.few;
       few_trips = c.in-Ok-load_trips.ensures.few;
+      few_rows = c.in-Ok-load_stop_times.ensures.few;
+      few_frequencies = c.in-Ok-load_frequencies.ensures.few;
       sound = sound_feed c.in-Ok.stops.ids c.in-Ok-load_routes.routes.ids trips.ids (texts trips.of_trips.services.items) c.in-Ok.stops.places.items
           c.in-Ok-load_routes.routes.types.items trips.of_trips.types.items trips.of_trips.routes.items (map vec_items c.in-Ok-load_stop_times.visits.items)
           (all_repeats_in repeats.trips.items repeats.rows.items (length trips.ids))

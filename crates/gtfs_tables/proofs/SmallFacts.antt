@@ -1,0 +1,73 @@
+-- The tables of a feed are no larger than they may be.
+use Rattle.std.proofs.Common.{◌≡◌, ℕ, zero, suc, ◌+◌, ◌<◌, ◌≤◌, ◌==◌, Bool, true, false, List, [], ◌∷◌, ◌++◌, length, sum_by, if◌then◌else◌, refl, sym, ap, ◌∙◌, arith, ⊎_elim}
+use Rattle.std.proofs.lemmas.Bool.{cases_lt}
+use Rattle.std.proofs.lemmas.Bool.Decides.{nat_tests}
+use Rattle.std.proofs.lemmas.List.Sums.{sum_by_push}
+use Rattle.csv_rows.specs.Lists.{list_below}
+use Rattle.csv_rows.proofs.ListLemmas.{list_below-zero, list_below-next, length-list_below}
+use Rattle.gtfs_tables.specs.declared.frequencies.FrequencyRow.{FrequencyRow}
+use Rattle.gtfs_tables.specs.declared.feed.Feed.TheInside.{Inside}
+use Rattle.gtfs_tables.specs.Repeats.{IsSmall, repeats_in, all_repeats_in}
+use Rattle.gtfs_tables.specs.FeedInside.{parts_of, IsWhole}
+
+abbrev total : List ℕ → List FrequencyRow → ℕ → ℕ
+total trips rows n = sum_by length (all_repeats_in trips rows n)
+
+total-zero : (trips : List ℕ) (rows : List FrequencyRow) → total trips rows 0 ≡ 0
+total-zero trips rows = ap (λ (xs : List (List FrequencyRow)). sum_by length xs) (list_below-zero (repeats_in trips rows))
+
+total-suc : (trips : List ℕ) (rows : List FrequencyRow) (n : ℕ) → total trips rows (suc n) ≡ total trips rows n + length (repeats_in trips rows n)
+total-suc trips rows n =
+    let f = repeats_in trips rows in
+    let e : suc n ≡ n + 1 = omega arith in
+    let all = list_below f n in
+    ap (λ k. total trips rows k) e ∙ ap (λ (xs : List (List FrequencyRow)). sum_by length xs) (sym (list_below-next f n all (all ++ f n ∷ []) (f n) refl refl refl)) ∙ sum_by_push length all (f n)
+
+-- where no row is
+total-none : (rows : List FrequencyRow) (n : ℕ) → total [] rows n ≡ 0
+total-none rows zero = total-zero [] rows
+total-none rows (suc n) = omega (arith, total-suc [] rows n, total-none rows n)
+
+total-nothing : (t : ℕ) (trips : List ℕ) (n : ℕ) → total (t ∷ trips) [] n ≡ 0
+total-nothing t trips zero = total-zero (t ∷ trips) []
+total-nothing t trips (suc n) = omega (arith, total-suc (t ∷ trips) [] n, total-nothing t trips n)
+
+here : (same : Bool) (row : FrequencyRow) (rest : List FrequencyRow) → length (if same then row ∷ rest else rest) ≡ length rest + (if same then 1 else 0)
+here true row rest = omega arith
+here false row rest = omega arith
+
+-- one row more is of one trip at most, which is or is not among the first n
+abbrev once : ℕ → ℕ → ℕ
+once t n = if t == n then 1 else 0
+
+once_is : (t n : ℕ) (b : Bool) → b ≡ (t == n) → ((if b then 1 else 0) ≤ 1) × (n < t → (if b then 1 else 0) ≤ 0) × (t < n → (if b then 1 else 0) ≤ 0)
+once_is t n true e = let same : t ≡ n = grind (arith, nat_tests, e) in (omega arith, λ h. omega (arith, same, h), λ h. omega (arith, same, h))
+once_is t n false e = (omega arith, λ h. omega arith, λ h. omega arith)
+
+one_more : (t n a b c d e f : ℕ) → a ≡ b + c → d ≡ e + f → c ≡ f + once t n → b ≤ e + 1 → (n ≤ t → b ≤ e) → (a ≤ d + 1) × (suc n ≤ t → a ≤ d)
+one_more t n a b c d e f h k l m p =
+    let o = once_is t n (t == n) refl in (
+      ⊎_elim (λ (past : t < n). omega (arith, h, k, l, m, o.2 past)) (λ (soon : n ≤ t). omega (arith, h, k, l, p soon, o.0)) (cases_lt t n),
+      λ less. omega (arith, h, k, l, p (omega (arith, less)), o.1 (omega (arith, less))),
+    )
+
+total-more : (t : ℕ) (trips : List ℕ) (row : FrequencyRow) (rows : List FrequencyRow) (n : ℕ) → (total (t ∷ trips) (row ∷ rows) n ≤ total trips rows n + 1) × (n ≤ t → total (t ∷ trips) (row ∷ rows) n ≤ total trips rows n)
+total-more t trips row rows zero = (omega (arith, total-zero (t ∷ trips) (row ∷ rows)), λ h. omega (arith, total-zero (t ∷ trips) (row ∷ rows)))
+total-more t trips row rows (suc n) =
+    let more = total-suc (t ∷ trips) (row ∷ rows) n in
+    let less = total-suc trips rows n in
+    let one = here (t == n) row (repeats_in trips rows n) in
+    let before = total-more t trips row rows n in
+    one_more t n _ _ _ _ _ _ more less one before.0 before.1
+
+pub total_few : (trips : List ℕ) (rows : List FrequencyRow) (n : ℕ) → total trips rows n ≤ length rows
+total_few [] rows n = omega (arith, total-none rows n)
+total_few (t ∷ trips) [] n = omega (arith, total-nothing t trips n)
+total_few (t ∷ trips) (row ∷ rows) n = omega (arith, (total-more t trips row rows n).0, total_few trips rows n)
+
+pub is_small : (f : Inside) → IsWhole f → IsSmall (parts_of f)
+is_small f w = record {
+  rows = w.few_rows;
+  size = length-list_below (repeats_in f.repeats.trips.items f.repeats.rows.items) (length f.trips.ids);
+  frequencies = omega (arith, total_few f.repeats.trips.items f.repeats.rows.items (length f.trips.ids), w.few_frequencies);
+}
