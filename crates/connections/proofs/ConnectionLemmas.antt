@@ -1,11 +1,10 @@
 -- The rides of runs are in order, fit their places and classes, and each run has one.
 use Rattle.std.proofs.Common.{◌≡◌, ℕ, zero, suc, ◌+◌, ◌-◌, ◌<◌, ◌≤◌, ◌⊎◌, inl, inr, ℤ, pos, negsuc, ◌≤ℤ◌, Bool, true, false, List, [], ◌∷◌, ◌++◌, length, map, get_or, slice_index, Some, All, refl, sym, ap, ◌∙◌, subst, arith, ⊎_elim, length-append}
-use Rattle.std.specs.Prelude.{AllPairs, int_le, unsigned_abs}
+use Rattle.std.specs.Prelude.{AllPairs, unsigned_abs}
 use Rattle.std.proofs.lemmas.Bool.{cases_lt}
 use Rattle.std.proofs.lemmas.Int.{ints}
 use Rattle.std.proofs.lemmas.List.{get_or_append_left, get_or-append_right, get_or-map, length-map}
 use Rattle.std.proofs.lemmas.List.Elements.{All-push, All-append, All-weaker, All-nil, All-get_or, All-map}
-use Rattle.clock_text.proofs.DigitLemmas.{and_parts}
 use Rattle.plan_model.proofs.Links.{AreLinks-none}
 use Rattle.plan_model.specs.declared.model.Connection.{Connection}
 use Rattle.plan_model.specs.declared.model.Outcome.{Outcome}
@@ -24,16 +23,14 @@ use Rattle.connections.specs.declared.window.Window.{Window}
 use Rattle.connections.specs.declared.runs.Run.{Run}
 use Rattle.connections.specs.Joins.{only_if}
 use Rattle.connections.specs.Window.{holds, IsWindow}
-use Rattle.connections.specs.Rides.{departs, steps_below, steps_of, run_at, run_steps}
+use Rattle.connections.specs.Rides.{departs, steps_below, steps_of}
+use Rattle.connections.specs.TripRuns.{run_at, run_steps}
 use Rattle.connections.specs.Runs.{AreRunsOf, AllRide}
 use Rattle.connections.specs.Networks.{AreChanges, AreRunNames, arrives, ride, run_rides, rides_below, class_of_trip, route_of}
 use Rattle.connections.proofs.NameLemmas.{names_trimmed}
 use Rattle.connections.proofs.CountLemmas.{rides-zero, rides-suc}
 use Rattle.connections.proofs.PairLemmas.{AllPairs-append, AllPairs-nil, AllPairs-one}
-use Rattle.connections.proofs.StepLemmas.{steps-zero, steps-suc}
-
-le_is : (a b : ℤ) → int_le a b ≡ true → a ≤ℤ b
-le_is a b h = grind (arith, ints)
+use Rattle.connections.proofs.StepLemmas.{holds_parts, steps-zero, steps-suc}
 
 -- a moment that is not before 1970
 pub not_before : (z : ℤ) → pos 0 ≤ℤ z → pos (unsigned_abs z) ≡ z
@@ -64,8 +61,7 @@ module _ (w : Window) (rows : List StopRow) (o : Origin) where
 
   step_here : (n : ℕ) → holds w (departs rows o n) ≡ true → IsStep w rows o (n + 1) n
   step_here n t =
-      let p = and_parts (int_le (pos w.start) (departs rows o n)) (int_le (departs rows o n) (pos w.end)) t in
-      record { inside = omega arith; from = le_is (pos w.start) (departs rows o n) p.0; to = le_is (departs rows o n) (pos w.end) p.1 }
+      let p = holds_parts w (departs rows o n) t in record { inside = omega arith; from = p.0; to = p.1 }
 
   pub steps_are : (n : ℕ) → All (IsStep w rows o n) (steps_below w rows o n)
   steps_are zero = subst (All (IsStep w rows o 0)) (sym (steps-zero w rows o)) (All-nil (IsStep w rows o 0))

@@ -1,26 +1,33 @@
 -- How many rides runs have, and their rides, run by run.
-use Rattle.std.proofs.Common.{◌≡◌, ℕ, zero, suc, ◌+◌, ◌≤◌, ◌&&◌, Bool, true, false, List, [], ◌∷◌, ◌++◌, length, map, take, get_or, if◌then◌else◌, refl, sym, ap, ◌∙◌, arith, add-one, length-append}
+use Rattle.std.proofs.Common.{◌≡◌, ℕ, zero, suc, ◌+◌, ◌<◌, ◌≤◌, ◌&&◌, Bool, true, false, List, [], ◌∷◌, ◌++◌, length, map, take, get_or, All, if◌then◌else◌, refl, sym, ap, ◌∙◌, arith, add-one, length-append}
 use Rattle.std.specs.Prelude.{sum_by, nat_lt}
 use mathlib.Core.Path.{fun_ext}
 use Rattle.std.proofs.lemmas.Bool.Decides.{nat_tests}
 use Rattle.std.proofs.lemmas.List.{length-map, take_all, take_more}
+use Rattle.std.proofs.lemmas.List.Elements.{All-nil, All-cons, All-head, All-tail, All-map, All-weaker}
 use Rattle.std.proofs.lemmas.List.Sums.{sum_by-append, sum_by-cons}
 use Rattle.plan_model.specs.declared.model.Connection.{Connection}
 use Rattle.delay_table.specs.DelayLists.{DelayLists}
+use Rattle.gtfs_tables.specs.declared.frequencies.FrequencyRow.{FrequencyRow}
 use Rattle.gtfs_tables.specs.declared.stop_times.StopRow.{StopRow}
 use Rattle.gtfs_tables.specs.Feeds.{FeedParts}
+use Rattle.gtfs_tables.specs.Repeats.{repeat_at}
 use Rattle.gtfs_tables.specs.Timed.{rows_of}
 use Rattle.service_days.specs.Services.{ServiceParts}
 use Rattle.connections.specs.declared.origins.ServiceDay.{ServiceDay}
 use Rattle.connections.specs.declared.window.Window.{Window}
+use Rattle.connections.specs.declared.repeats.Repeat.{Repeat}
 use Rattle.connections.specs.declared.runs.Run.{Run}
 use Rattle.connections.specs.Joins.{join_below, only_if, sum_below}
 use Rattle.connections.specs.Origins.{origin_of_day}
 use Rattle.connections.specs.Window.{day_at}
-use Rattle.connections.specs.Rides.{is_active, rides, steps_of, run_on, day_runs, runs_below, runs_in, run_at, no_run, run_steps}
-use Rattle.connections.specs.Counts.{trip_sum, day_sum, days_sum, count_in}
+use Rattle.connections.specs.Rides.{is_active, rides, steps_of}
+use Rattle.connections.specs.Repeats.{origin_at, riding_by, riding_of, in_order}
+use Rattle.connections.specs.TripRuns.{frequencies_of, own_run, repeat_run, runs_by, trip_runs, day_runs, runs_below, runs_in, run_at, no_run, run_steps}
+use Rattle.connections.specs.Counts.{steps_sum, rows_sum, runs_sum, trip_sum, day_sum, days_sum, count_in}
 use Rattle.connections.specs.Networks.{ride, run_rides, rides_below, class_of_trip}
 use Rattle.connections.proofs.JoinLemmas.{join-zero, join-suc}
+use Rattle.connections.proofs.OrderLemmas.{in_order_sum}
 
 pub sum-zero : (f : ℕ → ℕ) → sum_below f 0 ≡ 0
 unfolding sum_below
@@ -38,7 +45,7 @@ pub sum_by-ones : {A : Type 0} (xs : List A) → sum_by (λ x. 1) xs ≡ length 
 sum_by-ones {A} [] = refl
 sum_by-ones {A} (x ∷ xs) = omega (arith, sum_by-cons (λ (y : A). 1) x xs, sum_by-ones xs)
 
-sum_by-join : {A : Type 0} (g : A → ℕ) (f : ℕ → List A) (n : ℕ) → sum_by g (join_below f n) ≡ sum_below (λ i. sum_by g (f i)) n
+pub sum_by-join : {A : Type 0} (g : A → ℕ) (f : ℕ → List A) (n : ℕ) → sum_by g (join_below f n) ≡ sum_below (λ i. sum_by g (f i)) n
 sum_by-join g f zero = ap (sum_by g) (join-zero f) ∙ sym (sum-zero (λ i. sum_by g (f i)))
 sum_by-join g f (suc n) =
     ap (sum_by g) (join-suc f n) ∙ sum_by-append g (join_below f n) (f n) ∙ ap (λ k. k + sum_by g (f n)) (sum_by-join g f n) ∙ sym (sum-suc (λ i. sum_by g (f i)) n)
@@ -58,36 +65,83 @@ sum_by-take g d xs (suc n) h =
     ap (sum_by g) more ∙ sum_by-append g (take n xs) (x ∷ []) ∙ ap (λ k. sum_by g (take n xs) + k) one
     ∙ ap (λ k. k + g x) (sum_by-take g d xs n (omega arith)) ∙ sym (sum-suc (λ i. g (get_or xs i d)) n)
 
-sum_by-at : {A : Type 0} (g : A → ℕ) (d : A) (xs : List A) → sum_by g xs ≡ sum_below (λ i. g (get_or xs i d)) (length xs)
+pub sum_by-at : {A : Type 0} (g : A → ℕ) (d : A) (xs : List A) → sum_by g xs ≡ sum_below (λ i. g (get_or xs i d)) (length xs)
 sum_by-at g d xs = ap (sum_by g) (sym (take_all (length xs) xs (omega arith))) ∙ sum_by-take g d xs (length xs) (omega arith)
 
--- the rides of one trip, where it is active; there are none where it does not ride
-sum-only : (active : Bool) (n : ℕ) (g : Run → ℕ) (run : Run) → g run ≡ n → sum_by g (only_if (active && nat_lt 0 n) run) ≡ (if active then n else 0)
-sum-only true zero g run e = refl
-sum-only true (suc n) g run e =
-    let some : nat_lt 0 (suc n) ≡ true = grind (arith, nat_tests) in
-    let one : sum_by g (run ∷ []) ≡ g run = omega arith in
-    ap (λ b. sum_by g (only_if (true && b) run)) some ∙ one ∙ e
-sum-only false n g run e = refl
+-- what a run adds that rides, where it is one; it has no steps where it does not ride
+pub sum-rides : {A : Type 0} (is : Bool) (each : ℕ → ℕ) (steps : List ℕ) (g : A → ℕ) (x : A) → g x ≡ sum_by each steps → sum_by g (only_if (is && nat_lt 0 (length steps)) x) ≡ (if is then sum_by each steps else 0)
+sum-rides true each [] g x e = refl
+sum-rides true each (k ∷ steps) g x e =
+    let some : nat_lt 0 (length (k ∷ steps)) ≡ true = let h : 0 < length (k ∷ steps) = omega arith in grind (arith, nat_tests) in
+    let one : sum_by g (x ∷ []) ≡ g x = omega arith in
+    ap (λ b. sum_by g (only_if (true && b) x)) some ∙ one ∙ e
+sum-rides false each steps g x e = refl
+
+sum_by-map : {A B : Type 0} (g : B → ℕ) (f : A → B) (xs : List A) → sum_by g (map f xs) ≡ sum_by (λ x. g (f x)) xs
+sum_by-map g f [] = refl
+sum_by-map g f (x ∷ xs) = omega (arith, sum_by-cons g (f x) (map f xs), sum_by-cons (λ y. g (f y)) x xs, sum_by-map g f xs)
 
 -- what an active trip adds
 pub trip-active : (active : Bool) (each : ℕ → ℕ) (steps : List ℕ) (n : ℕ) → active ≡ true → n ≡ sum_by each steps → n ≡ (if active then sum_by each steps else 0)
 trip-active active each steps n is e = rw is e
 
+module _ (w : Window) (rows : List StopRow) (day : ServiceDay) (trip : ℕ) where
+  -- how many rides a run of the trip has
+  abbrev ridden : Run → ℕ
+  ridden run = length (steps_of w rows run.origin)
+
+  own_counted : sum_by ridden (only_if (rides w rows (origin_of_day day)) (own_run day trip)) ≡ steps_sum (λ place. 1) w rows (origin_of_day day)
+  own_counted = sum-rides true (λ k. 1) (steps_of w rows (origin_of_day day)) ridden (own_run day trip) (sym (sum_by-ones (steps_of w rows (origin_of_day day))))
+
+  repeats_counted : (fs : List FrequencyRow) → sum_by ridden (map (repeat_run rows day trip) (in_order (riding_of w rows day fs))) ≡ rows_sum (λ place. 1) w rows day fs (length fs)
+  unfolding riding_of rows_sum
+  repeats_counted fs =
+      let each : Repeat → ℕ = λ r. steps_sum (λ place. 1) w rows (origin_at rows day r.departure) in
+      sum_by-map ridden (repeat_run rows day trip) (in_order (riding_of w rows day fs))
+      ∙ ap (λ (g : Repeat → ℕ). sum_by g (in_order (riding_of w rows day fs))) (fun_ext (λ r. sym (sum_by-ones (steps_of w rows (origin_at rows day r.departure)))))
+      ∙ in_order_sum each (riding_of w rows day fs)
+      ∙ sum_by-join each (λ i. riding_by w rows day (repeat_at fs i)) (length fs)
+
+  pub runs_counted : (fs : List FrequencyRow) → sum_by ridden (runs_by w rows fs day trip) ≡ runs_sum (λ place. 1) w rows fs day
+  runs_counted [] = own_counted
+  runs_counted (row ∷ more) = repeats_counted (row ∷ more)
+
+  only_of_trip : (b : Bool) → All (λ (run : Run). run.trip ≡ trip) (only_if b (own_run day trip))
+  only_of_trip true = All-cons (λ (run : Run). run.trip ≡ trip) (own_run day trip) [] refl (All-nil (λ (run : Run). run.trip ≡ trip))
+  only_of_trip false = All-nil (λ (run : Run). run.trip ≡ trip)
+
+  -- each run is of the trip
+  pub of_trip : (fs : List FrequencyRow) → All (λ (run : Run). run.trip ≡ trip) (runs_by w rows fs day trip)
+  of_trip [] = only_of_trip (rides w rows (origin_of_day day))
+  of_trip (row ∷ more) = All-map (λ (run : Run). run.trip ≡ trip) (repeat_run rows day trip) (in_order (riding_of w rows day (row ∷ more))) (λ k d h. refl)
+
+-- equal numbers add up to the same
+sum_by-all : {A : Type 0} (g h : A → ℕ) (xs : List A) → All (λ x. g x ≡ h x) xs → sum_by g xs ≡ sum_by h xs
+sum_by-all g h [] e = refl
+sum_by-all g h (x ∷ xs) e =
+    omega (arith, sum_by-cons g x xs, sum_by-cons h x xs, All-head (λ y. g y ≡ h y) x xs e, sum_by-all g h xs (All-tail (λ y. g y ≡ h y) x xs e))
+
+sum-where : {A : Type 0} (active : Bool) (g : A → ℕ) (xs : List A) (n : ℕ) → sum_by g xs ≡ n → sum_by g (if active then xs else []) ≡ (if active then n else 0)
+sum-where true g xs n e = e
+sum-where false g xs n e = refl
+
 module _ (f : FeedParts) (s : ServiceParts) (d : DelayLists) (w : Window) where
   abbrev own : Run → ℕ
   own run = length (run_steps f w run)
 
-  by_trip : (day : ServiceDay) (trip : ℕ) → sum_by own (only_if (is_active f s day trip && rides w (rows_of f trip) (origin_of_day day)) (run_on day trip)) ≡ trip_sum (λ place. 1) f s w day trip
+  by_trip : (day : ServiceDay) (trip : ℕ) → sum_by own (trip_runs f s w day trip) ≡ trip_sum (λ place. 1) f s w day trip
   by_trip day trip =
-      let steps = steps_of w (rows_of f trip) (origin_of_day day) in
-      sum-only (is_active f s day trip) (length steps) own (run_on day trip) refl
-      ∙ ap (λ n. if is_active f s day trip then n else 0) (sym (sum_by-ones steps))
+      let rs = runs_by w (rows_of f trip) (frequencies_of f trip) day trip in
+      sum-where (is_active f s day trip) own rs (runs_sum (λ place. 1) w (rows_of f trip) (frequencies_of f trip) day)
+      (sum_by-all own (ridden w (rows_of f trip) day trip) rs
+      (All-weaker (λ (run : Run). run.trip ≡ trip) (λ (run : Run). own run ≡ ridden w (rows_of f trip) day trip run)
+      (λ run e. ap (λ k. length (steps_of w (rows_of f k) run.origin)) e) rs (of_trip w (rows_of f trip) day trip (frequencies_of f trip)))
+      ∙ runs_counted w (rows_of f trip) day trip (frequencies_of f trip))
 
   by_day : (day : ServiceDay) (n : ℕ) → sum_by own (day_runs f s w day n) ≡ day_sum (λ place. 1) f s w day n
   unfolding day_runs day_sum
   by_day day n =
-      sum_by-join own (λ trip. only_if (is_active f s day trip && rides w (rows_of f trip) (origin_of_day day)) (run_on day trip)) n
+      sum_by-join own (trip_runs f s w day) n
       ∙ ap (λ (g : ℕ → ℕ). sum_below g n) (fun_ext (by_trip day))
 
   by_days : (n : ℕ) → sum_by own (runs_below f s w n) ≡ days_sum (λ place. 1) f s w n
@@ -108,7 +162,7 @@ module _ (f : FeedParts) (s : ServiceParts) (d : DelayLists) (w : Window) where
       ∙ ap (λ (g : ℕ → ℕ). sum_below g (length rs)) (fun_ext (own_length rs))
       ∙ sym (sum_by-at own no_run rs)
       ∙ ap (sum_by own) e
-      ∙ by_days 11
+      ∙ by_days 18
 
 pub rides-zero : (f : FeedParts) (d : DelayLists) (w : Window) (rs : List Run) → rides_below f d w rs 0 ≡ []
 unfolding rides_below

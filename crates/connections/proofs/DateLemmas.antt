@@ -39,7 +39,7 @@ eight : (t : List ℕ) → length t ≡ 8 → t ≡ take 4 t ++ (take 2 (drop 4 
 eight (a ∷ b ∷ c ∷ d ∷ e ∷ f ∷ g ∷ h ∷ []) l = refl
 eight t l = absurd (omega arith)
 
-and_both : (a b : Bool) → a ≡ true → b ≡ true → (a && b) ≡ true
+pub and_both : (a b : Bool) → a ≡ true → b ≡ true → (a && b) ≡ true
 and_both true b h k = k
 and_both false b h k = absurd (cc)
 

@@ -1,30 +1,47 @@
 -- The runs of a day, trip by trip, and of several days, day by day.
-use Rattle.std.proofs.Common.{◌≡◌, ℕ, suc, ◌+◌, ◌&&◌, Bool, [], ◌++◌, length, sym, ap, ◌∙◌, add-one}
+use Rattle.std.proofs.Common.{◌≡◌, ℕ, suc, ◌+◌, Bool, true, false, List, [], ◌∷◌, ◌++◌, length, refl, sym, add-one, if◌then◌else◌}
+use Rattle.gtfs_tables.specs.declared.frequencies.FrequencyRow.{FrequencyRow}
+use Rattle.gtfs_tables.specs.declared.stop_times.StopRow.{StopRow}
 use Rattle.gtfs_tables.specs.Feeds.{FeedParts}
-use Rattle.gtfs_tables.specs.Timed.{rows_of}
 use Rattle.service_days.specs.Services.{ServiceParts}
 use Rattle.connections.specs.declared.origins.ServiceDay.{ServiceDay}
+use Rattle.connections.specs.declared.runs.Run.{Run}
 use Rattle.connections.specs.declared.window.Window.{Window}
-use Rattle.connections.specs.Joins.{only_if}
 use Rattle.connections.specs.Origins.{origin_of_day}
 use Rattle.connections.specs.Window.{day_at}
-use Rattle.connections.specs.Rides.{is_active, rides, run_on, day_runs, runs_below}
+use Rattle.connections.specs.Rides.{steps_of}
+use Rattle.connections.specs.TripRuns.{runs_by, trip_runs, day_runs, runs_below}
 use Rattle.connections.proofs.JoinLemmas.{join-zero, join-suc}
 
-module _ (f : FeedParts) (s : ServiceParts) (w : Window) where
-  abbrev rides_on : ServiceDay → ℕ → Bool
-  rides_on day trip = is_active f s day trip && rides w (rows_of f trip) (origin_of_day day)
+-- the runs of an active trip
+pub active_runs : (active : Bool) (rs qs : List Run) → active ≡ true → rs ≡ qs → rs ≡ (if active then qs else [])
+active_runs true rs qs is e = e
+active_runs false rs qs is e = absurd (cc)
 
+-- and of one that is not
+pub idle_runs : (active : Bool) (qs : List Run) → active ≡ false → [] ≡ (if active then qs else [])
+idle_runs true qs is = absurd (cc)
+idle_runs false qs is = refl
+
+pub no_runs : (w : Window) (rows : List StopRow) (fs : List FrequencyRow) (day : ServiceDay) (trip : ℕ) → fs ≡ [] → steps_of w rows (origin_of_day day) ≡ [] → runs_by w rows fs day trip ≡ []
+no_runs w rows [] day trip e none = rw none refl
+no_runs w rows (row ∷ more) day trip e none = absurd (cc)
+
+pub where_none : (active : Bool) (qs : List Run) → qs ≡ [] → [] ≡ (if active then qs else [])
+where_none true qs e = sym e
+where_none false qs e = refl
+
+module _ (f : FeedParts) (s : ServiceParts) (w : Window) where
   pub day-zero : (day : ServiceDay) → day_runs f s w day 0 ≡ []
   unfolding day_runs
-  day-zero day = join-zero (λ trip. only_if (rides_on day trip) (run_on day trip))
+  day-zero day = join-zero (trip_runs f s w day)
 
-  pub day-suc : (day : ServiceDay) (n : ℕ) → day_runs f s w day (suc n) ≡ day_runs f s w day n ++ only_if (is_active f s day n && rides w (rows_of f n) (origin_of_day day)) (run_on day n)
+  pub day-suc : (day : ServiceDay) (n : ℕ) → day_runs f s w day (suc n) ≡ day_runs f s w day n ++ trip_runs f s w day n
   unfolding day_runs
-  day-suc day n = join-suc (λ trip. only_if (rides_on day trip) (run_on day trip)) n
+  day-suc day n = join-suc (trip_runs f s w day) n
 
-  pub day-next : (day : ServiceDay) (n : ℕ) (b : Bool) → b ≡ (is_active f s day n && rides w (rows_of f n) (origin_of_day day)) → day_runs f s w day (n + 1) ≡ day_runs f s w day n ++ only_if b (run_on day n)
-  day-next day n b h = (rw add-one (day-suc day n)) ∙ ap (λ x. day_runs f s w day n ++ only_if x (run_on day n)) (sym h)
+  pub day-next : (day : ServiceDay) (n : ℕ) → day_runs f s w day (n + 1) ≡ day_runs f s w day n ++ trip_runs f s w day n
+  day-next day n = rw add-one (day-suc day n)
 
   pub days-zero : runs_below f s w 0 ≡ []
   unfolding runs_below

@@ -1,6 +1,7 @@
 pub mod JoinLemmas
 pub mod PairLemmas
 pub mod StepLemmas
+pub mod OrderLemmas
 pub mod CountLemmas
 pub mod SumLemmas
 pub mod LinkLemmas
@@ -17,3 +18,5 @@ pub mod StretchLemmas
 pub mod TournamentLemmas
 pub mod SkipLemmas
 pub mod ReachLemmas
+pub mod RepeatLemmas
+pub mod LeavingLemmas

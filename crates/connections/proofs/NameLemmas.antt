@@ -1,21 +1,28 @@
 -- The names of runs: no two runs have one name, and none begins or ends with a space.
-use Rattle.std.proofs.Common.{◌≡◌, ◌≢◌, ℕ, zero, suc, ◌+◌, ◌-◌, ◌<◌, ◌≤◌, Bool, true, false, List, [], ◌∷◌, ◌++◌, length, take, drop, get_or, slice_index_or, Some, ℤ, All, refl, sym, ap, ◌∙◌, subst, arith, ⊎_elim, length-append}
+use Rattle.std.proofs.Common.{◌≡◌, ◌≢◌, ℕ, zero, suc, ◌+◌, ◌-◌, ◌<◌, ◌≤◌, Bool, true, false, List, [], ◌∷◌, ◌++◌, length, take, drop, get_or, slice_index_or, Some, None, Option, ℤ, All, decimal, ◌^◌, refl, sym, ap, ap₂, ◌∙◌, subst, arith, ⊎_elim, length-append}
 use Rattle.std.specs.List.{list_all}
 use Rattle.std.specs.Char.{is_ascii_digit}
 use Rattle.std.proofs.lemmas.Bool.{cases_lt}
 use Rattle.std.proofs.lemmas.Bool.Decides.{nat_tests}
 use Rattle.std.proofs.lemmas.List.{get_or_append_left, get_or-append_right, get_or_default, get_or_push, take_at, drop_at, take_all, take_more}
 use Rattle.std.proofs.lemmas.List.Elements.{All-get_or}
+use Rattle.std.specs.Str.Parse.{AllDigits}
+use Rattle.std.specs.Int.{IsInRange}
+use Rattle.std.proofs.lemmas.Fmt.{decimal_is_IsNumeral, decimal_injective}
+use Rattle.std.proofs.lemmas.Str.Parse.{digit_from_value}
 use Rattle.clock_text.specs.Times.{date_at}
 use Rattle.clock_text.proofs.DigitLemmas.{and_parts}
 use Rattle.plan_model.specs.NameLists.{Adds, AreDistinct, IsTrimmed}
 use Rattle.gtfs_tables.specs.Feeds.{FeedParts}
 use Rattle.csv_rows.specs.Ids.{AreIds}
+use Rattle.connections.specs.declared.repeats.Repeat.{Repeat}
 use Rattle.connections.specs.declared.runs.Run.{Run}
-use Rattle.connections.specs.Rides.{run_at}
+use Rattle.connections.specs.TripRuns.{run_at}
 use Rattle.connections.specs.Runs.{IsRunOf, AreRunsOf}
-use Rattle.connections.specs.Networks.{IsRunName, AreRunNames}
-use Rattle.connections.proofs.DateLemmas.{date_text}
+use Rattle.connections.specs.Networks.{start_text, IsRunName, AreRunNames}
+use Rattle.connections.specs.Runs.{IsSmallRepeat}
+use Rattle.connections.proofs.StepLemmas.{append-assoc}
+use Rattle.connections.proofs.DateLemmas.{date_text, and_both}
 
 same_date : (d e : List ℕ) (a b : ℤ) → d ≡ e → date_at d ≡ Some a → date_at e ≡ Some b → a ≡ b
 same_date d e a b same h k = let o : Some a ≡ Some b = sym h ∙ ap date_at same ∙ k in cc
@@ -28,25 +35,72 @@ one_id ids distinct i j h k same =
     ⊎_elim (λ (less : i < j). absurd (distinct i j less k same))
     (λ (ge : j ≤ i). ⊎_elim (λ (more : j < i). absurd (distinct j i more h (sym same))) (λ (le : i ≤ j). omega arith) (cases_lt j i)) (cases_lt i j)
 
+range_digit : (c : ℕ) → IsInRange 48 57 c → is_ascii_digit c ≡ true
+range_digit c h = grind (arith, nat_tests)
+
+numeral_digits : (ds : List ℕ) → AllDigits 10 ds → list_all is_ascii_digit ds ≡ true
+numeral_digits [] h = refl
+numeral_digits (c ∷ ds) h = and_both (is_ascii_digit c) (list_all is_ascii_digit ds) (range_digit c (digit_from_value c h.0)) (numeral_digits ds h.1)
+
+decimal_digits : (n : ℕ) → n < 2 ^ 64 → list_all is_ascii_digit (decimal n) ≡ true
+decimal_digits n h = numeral_digits (decimal n) (decimal_is_IsNumeral n h).0.1
+
+-- texts of digits that end in other marks
+digits_end : (xs ys us vs : List ℕ) (a b : ℕ) → list_all is_ascii_digit xs ≡ true → list_all is_ascii_digit ys ≡ true → is_ascii_digit a ≡ false → is_ascii_digit b ≡ false
+    → xs ++ a ∷ us ≡ ys ++ b ∷ vs → (xs ≡ ys) × (us ≡ vs)
+digits_end [] [] us vs a b h k n m e = let r : us ≡ vs = cc in (refl, r)
+digits_end [] (y ∷ ys) us vs a b h k n m e = let same : a ≡ y = cc in absurd (let t : is_ascii_digit a ≡ true = ap is_ascii_digit same ∙ (and_parts _ _ k).0 in cc)
+digits_end (x ∷ xs) [] us vs a b h k n m e = let same : x ≡ b = cc in absurd (let t : is_ascii_digit b ≡ true = ap is_ascii_digit (sym same) ∙ (and_parts _ _ h).0 in cc)
+digits_end (x ∷ xs) (y ∷ ys) us vs a b h k n m e =
+    let first : x ≡ y = cc in
+    let rest : xs ++ a ∷ us ≡ ys ++ b ∷ vs = cc in
+    let r = digits_end xs ys us vs a b (and_parts _ _ h).1 (and_parts _ _ k).1 n m rest in
+    (ap₂ (λ z zs. z ∷ zs) first r.0, r.1)
+
+heads_differ : (xs ys : List ℕ) → 58 ∷ xs ≡ 64 ∷ ys → ⊥
+heads_differ xs ys e = let first : ℕ = 58 in let second : ℕ = 64 in let x : first ≡ second = cc in omega (arith, x)
+
+-- how a run starts and what follows tell how it starts
+same_start : (a b : Option Repeat) → IsSmallRepeat a → IsSmallRepeat b → (us vs : List ℕ) → start_text a ++ 58 ∷ us ≡ start_text b ++ 58 ∷ vs → (a ≡ b) × (us ≡ vs)
+same_start None None h k us vs e = (refl, same_rest 58 us vs e)
+same_start None (Some r) h k us vs e = absurd (heads_differ _ _ e)
+same_start (Some r) None h k us vs e = absurd (heads_differ _ _ (sym e))
+same_start (Some r) (Some q) h k us vs e =
+    let texts : decimal r.departure ++ 46 ∷ (decimal r.line ++ 58 ∷ us) ≡ decimal q.departure ++ 46 ∷ (decimal q.line ++ 58 ∷ vs)
+    = sym (append-assoc (decimal r.departure) (46 ∷ decimal r.line) (58 ∷ us)) ∙ same_rest 64 _ _ e ∙ append-assoc (decimal q.departure) (46 ∷ decimal q.line) (58 ∷ vs) in
+    let x = digits_end (decimal r.departure) (decimal q.departure) _ _ 46 46 (decimal_digits r.departure h.0) (decimal_digits q.departure k.0) refl refl texts in
+    let y = digits_end (decimal r.line) (decimal q.line) _ _ 58 58 (decimal_digits r.line h.1) (decimal_digits q.line k.1) refl refl x.1 in
+    let departure = decimal_injective r.departure q.departure h.0 k.0 x.0 in
+    let line = decimal_injective r.line q.line h.1 k.1 y.0 in
+    (λ i. Some (record { departure = departure i; line = line i }), y.1)
+
 -- two runs of one name are one
-pub one_run : (f : FeedParts) → AreIds f.trip_ids → (a b : Run) (name : List ℕ) → IsRunOf f a → IsRunOf f b → IsRunName f a name → IsRunName f b name
-    → (a.origin.day.number ≡ b.origin.day.number) × (a.trip ≡ b.trip)
-one_run f ids a b name of_a of_b h k =
+pub one_run : (f : FeedParts) → AreIds f.trip_ids → (a b : Run) (name : List ℕ) → IsRunOf f a → IsRunOf f b → IsSmallRepeat a.repeat → IsSmallRepeat b.repeat → IsRunName f a name → IsRunName f b name
+    → (a.origin.day.number ≡ b.origin.day.number) × (a.trip ≡ b.trip) × (a.repeat ≡ b.repeat)
+one_run f ids a b name of_a of_b small small' h k =
     let x = date_text h.date a.origin.day.number h.reads in
     let y = date_text k.date b.origin.day.number k.reads in
     let id = slice_index_or f.trip_ids a.trip [] in
     let id' = slice_index_or f.trip_ids b.trip [] in
-    let dates : h.date ≡ k.date = sym (take_at h.date (58 ∷ id) 8 x.size) ∙ ap (take 8) (sym h.text ∙ k.text) ∙ take_at k.date (58 ∷ id') 8 y.size in
-    let rests : 58 ∷ id ≡ 58 ∷ id' = sym (drop_at h.date (58 ∷ id) 8 x.size) ∙ ap (drop 8) (sym h.text ∙ k.text) ∙ drop_at k.date (58 ∷ id') 8 y.size in
-    (same_date h.date k.date a.origin.day.number b.origin.day.number dates h.reads k.reads, one_id f.trip_ids ids.names.distinct a.trip b.trip of_a.trip of_b.trip (same_rest 58 id id' rests))
+    let rest = start_text a.repeat ++ 58 ∷ id in
+    let rest' = start_text b.repeat ++ 58 ∷ id' in
+    let text : name ≡ h.date ++ rest = h.text ∙ append-assoc h.date (start_text a.repeat) (58 ∷ id) in
+    let text' : name ≡ k.date ++ rest' = k.text ∙ append-assoc k.date (start_text b.repeat) (58 ∷ id') in
+    let dates : h.date ≡ k.date = sym (take_at h.date rest 8 x.size) ∙ ap (take 8) (sym text ∙ text') ∙ take_at k.date rest' 8 y.size in
+    let rests : rest ≡ rest' = sym (drop_at h.date rest 8 x.size) ∙ ap (drop 8) (sym text ∙ text') ∙ drop_at k.date rest' 8 y.size in
+    let same = same_start a.repeat b.repeat small small' id id' rests in (
+      same_date h.date k.date a.origin.day.number b.origin.day.number dates h.reads k.reads,
+      one_id f.trip_ids ids.names.distinct a.trip b.trip of_a.trip of_b.trip same.1,
+      same.0,
+    )
 
 name_at : (f : FeedParts) (rs : List Run) (n : ℕ) (names : List (List ℕ)) → AreRunNames f rs n names → (k : ℕ) (d : List ℕ) → k < n → IsRunName f (run_at rs k) (get_or names k d)
 name_at f rs n names a k d h = subst (IsRunName f (run_at rs k)) (get_or_default names k [] d (omega (arith, a.size))) (a.each k h)
 
 -- the name of one more run
-pub run_adds : (f : FeedParts) (rs : List Run) (r : ℕ) (old new : List (List ℕ)) (name : List ℕ) (added : Bool) → AreIds f.trip_ids → AreRunsOf f rs → r < length rs
+pub run_adds : (f : FeedParts) (rs : List Run) (r : ℕ) (old new : List (List ℕ)) (name : List ℕ) (added : Bool) → AreIds f.trip_ids → AreRunsOf f rs → ((k : ℕ) → k < r + 1 → IsSmallRepeat (run_at rs k).repeat) → r < length rs
     → AreRunNames f rs r old → IsRunName f (run_at rs r) name → Adds old new name added → AreRunNames f rs (r + 1) new
-run_adds f rs r old new name true ids runs inside a h k =
+run_adds f rs r old new name true ids runs small inside a h k =
     subst (AreRunNames f rs (r + 1)) (sym k.0) (record {
       size = omega (arith, a.size, length-append old (name ∷ []));
       each = λ i l.
@@ -56,12 +110,12 @@ run_adds f rs r old new name true ids runs inside a h k =
           subst (IsRunName f (run_at rs i)) (sym (get_or_push old name [] i (a.size ∙ e)))
           (let P : ℕ → Type 0 = λ j. IsRunName f (run_at rs j) name in subst P e h)) (cases_lt i r);
     })
-run_adds f rs r old new name false ids runs inside a h k =
+run_adds f rs r old new name false ids runs small inside a h k =
     let i = k.1.0 in
     let less : i < r = omega (arith, k.1.1, a.size) in
     let here = subst (IsRunName f (run_at rs i)) k.1.2 (name_at f rs r old a i name less) in
-    let same = one_run f ids (run_at rs i) (run_at rs r) name (runs.each i (omega arith)) (runs.each r inside) here h in
-    absurd (runs.apart i r less inside same.0 same.1)
+    let same = one_run f ids (run_at rs i) (run_at rs r) name (runs.each i (omega arith)) (runs.each r inside) (small i (omega arith)) (small r (omega arith)) here h in
+    absurd (runs.apart i r less inside same.0 same.1 same.2)
 
 digit_from : (c : ℕ) → is_ascii_digit c ≡ true → c ≡ 32 → ⊥
 digit_from c h e = grind (arith, nat_tests)
@@ -95,8 +149,8 @@ name_trimmed f run name ids inside h =
     let id_trimmed : IsTrimmed id = All-get_or IsTrimmed f.trip_ids run.trip [] inside ids.trimmed in
     let one : length (58 ∷ id) - 1 ≡ length id = omega arith in
     record {
-      start = λ rest e. first_is h.date d.size d.digits (58 ∷ id) rest (sym h.text ∙ e);
-      end = λ rest e. no_end id (length id) refl (sym (ap (λ i. get_or (58 ∷ id) i 0) one) ∙ last_is h.date (58 ∷ id) rest (sym h.text ∙ e) (omega arith)) id_trimmed.end;
+      start = λ rest e. first_is h.date d.size d.digits (start_text run.repeat ++ 58 ∷ id) rest (sym (append-assoc h.date (start_text run.repeat) (58 ∷ id)) ∙ sym h.text ∙ e);
+      end = λ rest e. no_end id (length id) refl (sym (ap (λ i. get_or (58 ∷ id) i 0) one) ∙ last_is (h.date ++ start_text run.repeat) (58 ∷ id) rest (sym h.text ∙ e) (omega arith)) id_trimmed.end;
     }
 
 pub names_trimmed : (f : FeedParts) (rs : List Run) (names : List (List ℕ)) → AreIds f.trip_ids → AreRunsOf f rs → AreRunNames f rs (length rs) names → All IsTrimmed names

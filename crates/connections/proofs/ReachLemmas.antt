@@ -9,8 +9,9 @@ use Rattle.gtfs_tables.specs.Timed.{AreTimed, kept_at}
 use Rattle.connections.specs.declared.origins.Origin.{Origin}
 use Rattle.connections.specs.declared.window.Window.{Window}
 use Rattle.connections.specs.Joins.{only_if}
+use Rattle.connections.specs.Origins.{moment_of}
 use Rattle.connections.specs.Window.{holds}
-use Rattle.connections.specs.Rides.{DepartInOrder, departs, rides, steps_below, steps_of}
+use Rattle.connections.specs.Rides.{DepartInOrder, AreDepartures, departs, rides, steps_below, steps_of}
 use Rattle.connections.proofs.StepLemmas.{steps-zero, steps-suc, length-next, length-one, append-nil}
 use Rattle.connections.proofs.ConnectionLemmas.{onward_to}
 
@@ -22,6 +23,10 @@ DepartInOrder-timed rows places timed i j ordered within = elim (cases_eq i j) [
       let e : i + suc between ≡ j = omega arith in
       omega (arith, timed.onward i (omega arith), onward_to rows places timed i between (omega arith), ap (λ k. (kept_at rows k).departure) e)
 ]
+
+-- the departures of a trip
+pub departures_are : (rows : List StopRow) (places : ℕ) → AreTimed rows places → AreDepartures rows
+departures_are rows places timed = record { ordered = DepartInOrder-timed rows places timed; early = timed.early }
 
 holds_late : (w : Window) (moment : ℤ) → pos w.end <ℤ moment → holds w moment ≡ false
 holds_late w moment late = grind (arith, ints)
@@ -47,6 +52,10 @@ module _ (w : Window) (rows : List StopRow) (o : Origin) (ordered : DepartInOrde
   -- where the last ride is early
   pub none_early : departs rows o (length rows - 1 - 1) <ℤ pos w.start → steps_of w rows o ≡ []
   none_early early = steps_none w rows o (length rows - 1) (λ k less. holds_early w (departs rows o k) (omega (arith, ints, early, ordered k (length rows - 1 - 1) (omega arith) (omega arith))))
+
+-- where even the end of times is early
+pub none_early_all : (w : Window) (rows : List StopRow) (o : Origin) → ((k : ℕ) → k < length rows → (kept_at rows k).departure < 604800) → moment_of o 604800 <ℤ pos w.start → steps_of w rows o ≡ []
+none_early_all w rows o few early = steps_none w rows o (length rows - 1) (λ k less. holds_early w (departs rows o k) (omega (arith, ints, early, few k (omega arith))))
 
 -- then the trip does not ride, whether it is active or not
 pub rides_not : (active : Bool) (w : Window) (rows : List StopRow) (o : Origin) → steps_of w rows o ≡ [] → false ≡ (active && rides w rows o)

@@ -1,6 +1,9 @@
 -- The steps of a trip in a window.
-use Rattle.std.proofs.Common.{◌≡◌, ℕ, suc, ◌+◌, Bool, true, false, List, [], ◌∷◌, ◌++◌, length, map, refl, sym, ap, ◌∙◌, length-append, add-one}
+use Rattle.std.proofs.Common.{◌≡◌, ℕ, suc, ◌+◌, Bool, true, false, List, [], ◌∷◌, ◌++◌, length, map, refl, sym, ap, ◌∙◌, length-append, add-one, arith}
+use Rattle.std.specs.Prelude.{ℤ, pos, ◌≤ℤ◌, int_le}
+use Rattle.std.proofs.lemmas.Int.{ints}
 use Rattle.std.proofs.lemmas.List.{map-append}
+use Rattle.clock_text.proofs.DigitLemmas.{and_parts}
 use Rattle.gtfs_tables.specs.declared.stop_times.StopRow.{StopRow}
 use Rattle.connections.specs.declared.origins.Origin.{Origin}
 use Rattle.connections.specs.declared.window.Window.{Window}
@@ -20,6 +23,15 @@ steps-suc w rows o n = join-suc (λ k. only_if (holds w (departs rows o k)) k) n
 -- one more row
 pub steps-next : (w : Window) (rows : List StopRow) (o : Origin) (n : ℕ) (b : Bool) → b ≡ holds w (departs rows o n) → steps_below w rows o (n + 1) ≡ steps_below w rows o n ++ only_if b n
 steps-next w rows o n b h = (rw add-one (steps-suc w rows o n)) ∙ ap (λ x. steps_below w rows o n ++ only_if x n) (sym h)
+
+le_is : (a b : ℤ) → int_le a b ≡ true → a ≤ℤ b
+le_is a b h = grind (arith, ints)
+
+-- a moment in the window
+pub holds_parts : (w : Window) (moment : ℤ) → holds w moment ≡ true → (pos w.start ≤ℤ moment) × (moment ≤ℤ pos w.end)
+holds_parts w moment h =
+    let p = and_parts (int_le (pos w.start) moment) (int_le moment (pos w.end)) h in
+    (le_is (pos w.start) moment p.0, le_is moment (pos w.end) p.1)
 
 pub append-nil : {A : Type 0} (xs : List A) → xs ++ [] ≡ xs
 append-nil [] = refl

@@ -1,6 +1,11 @@
 -- Sums over the steps, the trips and the days of a window.
-use Rattle.std.proofs.Common.{◌≡◌, ℕ, zero, suc, ◌+◌, ◌-◌, ◌*◌, ◌^◌, ◌<◌, ◌≤◌, min, Bool, true, false, List, [], ◌∷◌, length, get_or, if◌then◌else◌, refl, sym, ap, ◌∙◌, arith}
-use Rattle.std.specs.Prelude.{sum_by}
+use Rattle.std.proofs.Common.{◌≡◌, ℕ, zero, suc, ◌+◌, ◌-◌, ◌*◌, ◌^◌, ◌<◌, ◌≤◌, min, Bool, true, false, List, [], ◌∷◌, length, get_or, if◌then◌else◌, refl, sym, ap, ◌∙◌, arith, ◌⊎◌, inl, inr, ⊎_elim}
+use Rattle.std.specs.Prelude.{sum_by, nat_lt, ◌&&◌, pos, ◌≤ℤ◌}
+use mathlib.Core.Path.{fun_ext}
+use Rattle.std.proofs.Math.Nat.{le-mul_of_pos_right, suc-mul, add-mul, zero-mul}
+use Rattle.std.proofs.lemmas.Bool.{cases_lt}
+use Rattle.std.proofs.lemmas.Int.{ints}
+use Rattle.clock_text.proofs.DigitLemmas.{and_parts}
 use Rattle.std.proofs.lemmas.List.Sums.{sum_by-append, sum_by-cons}
 use Rattle.std.proofs.lemmas.List.Elements.{All-get_or}
 use Rattle.plan_model.specs.declared.model.PlaceId.{PlaceId}
@@ -8,18 +13,27 @@ use Rattle.plan_model.specs.declared.model.Way.{Way}
 use Rattle.change_times.specs.Changes.{ChangeParts, links_of}
 use Rattle.plan_model.specs.Network.{AreLinksInto}
 use Rattle.connections.specs.declared.counts.Counted.TheVariants.{Entries}
+use Rattle.gtfs_tables.specs.declared.frequencies.FrequencyRow.{FrequencyRow}
 use Rattle.gtfs_tables.specs.declared.stop_times.StopRow.{StopRow}
 use Rattle.gtfs_tables.specs.Feeds.{FeedParts}
-use Rattle.gtfs_tables.specs.Timed.{rows_of, kept_at, IsTimed}
+use Rattle.gtfs_tables.specs.Bounds.{end_of_times}
+use Rattle.gtfs_tables.specs.Repeats.{IsFrequency, AreRepeats, AreRepeating, IsSmall, repeat_at}
+use Rattle.gtfs_tables.specs.Timed.{rows_of, kept_at}
+use Rattle.run_repeat.specs.Runs.{departure}
 use Rattle.service_days.specs.Services.{ServiceParts}
+use Rattle.connections.specs.declared.origins.ServiceDay.{ServiceDay}
 use Rattle.connections.specs.declared.origins.Origin.{Origin}
+use Rattle.connections.specs.declared.repeats.Repeat.{Repeat}
 use Rattle.connections.specs.declared.window.Window.{Window}
 use Rattle.connections.specs.Joins.{only_if, sum_below}
 use Rattle.connections.specs.Origins.{origin_of_day}
-use Rattle.connections.specs.Window.{holds, day_at}
+use Rattle.connections.specs.Window.{holds, day_at, IsWindow}
 use Rattle.connections.specs.Rides.{departs, is_active, steps_below, steps_of}
-use Rattle.connections.specs.Counts.{each_of, steps_sum, trip_sum, day_sum, days_sum, window_sum, count_in, entries_in}
-use Rattle.connections.proofs.CountLemmas.{sum-zero, sum-suc, sum_by-ones}
+use Rattle.connections.specs.Repeats.{origin_at, run_of, rides_by, riding_by}
+use Rattle.connections.specs.TripRuns.{frequencies_of, days}
+use Rattle.connections.specs.Counts.{each_of, steps_sum, row_sum, rows_sum, runs_sum, leaving_sum, trip_sum, day_sum, days_sum, window_sum, count_in, entries_in}
+use Rattle.connections.proofs.CountLemmas.{sum-zero, sum-suc, sum_by-ones, sum_by-join, sum_by-at, sum-rides}
+use Rattle.connections.proofs.StepLemmas.{holds_parts}
 use Rattle.connections.proofs.StepLemmas.{steps-zero, steps-next, length-next}
 
 pub step-in : (f : ℕ → ℕ) (b : Bool) (k x : ℕ) → b ≡ true → x ≡ f k → x ≡ sum_by f (only_if b k)
@@ -39,6 +53,120 @@ sum_by-next f w rows o k =
 pub active-sum : (active : Bool) (n x : ℕ) → active ≡ true → x ≡ min n (2 ^ 64 - 1) → x ≡ min (if active then n else 0) (2 ^ 64 - 1)
 active-sum active n x is e = rw is e
 
+sum-same : (f g : ℕ → ℕ) (n : ℕ) → ((k : ℕ) → f k ≡ g k) → sum_below f n ≡ sum_below g n
+sum-same f g n h = ap (λ (x : ℕ → ℕ). sum_below x n) (fun_ext h)
+
+sum-none : (n : ℕ) → sum_below (λ k. 0) n ≡ 0
+sum-none zero = sum-zero (λ k. 0)
+sum-none (suc n) = omega (arith, sum-suc (λ k. 0) n, sum-none n)
+
+sum-plus : (f g : ℕ → ℕ) (n : ℕ) → sum_below (λ k. f k + g k) n ≡ sum_below f n + sum_below g n
+sum-plus f g zero = omega (arith, sum-zero (λ k. f k + g k), sum-zero f, sum-zero g)
+sum-plus f g (suc n) = omega (arith, sum-suc (λ k. f k + g k) n, sum-suc f n, sum-suc g n, sum-plus f g n)
+
+-- a sum of sums in the other order
+sum-swap : (F : ℕ → ℕ → ℕ) (m n : ℕ) → sum_below (λ i. sum_below (F i) n) m ≡ sum_below (λ k. sum_below (λ i. F i k) m) n
+sum-swap F zero n = sum-zero (λ i. sum_below (F i) n) ∙ sym (sum-same (λ k. sum_below (λ i. F i k) 0) (λ k. 0) n (λ k. sum-zero (λ i. F i k)) ∙ sum-none n)
+sum-swap F (suc m) n =
+    sum-suc (λ i. sum_below (F i) n) m ∙ ap (λ x. x + sum_below (F m) n) (sum-swap F m n)
+    ∙ sym (sum-same (λ k. sum_below (λ i. F i k) (suc m)) (λ k. sum_below (λ i. F i k) m + F m k) n (λ k. sum-suc (λ i. F i k) m)
+    ∙ sum-plus (λ k. sum_below (λ i. F i k) m) (F m) n)
+
+only-sum : (f : ℕ → ℕ) (b : Bool) (k : ℕ) → sum_by f (only_if b k) ≡ (if b then f k else 0)
+only-sum f true k = let one : sum_by f (k ∷ []) ≡ f k = omega arith in one
+only-sum f false k = refl
+
+steps-sum : (f : ℕ → ℕ) (w : Window) (rows : List StopRow) (o : Origin) (n : ℕ) → sum_by f (steps_below w rows o n) ≡ sum_below (λ k. if holds w (departs rows o k) then f k else 0) n
+steps-sum f w rows o zero = ap (sum_by f) (steps-zero w rows o) ∙ sym (sum-zero (λ k. if holds w (departs rows o k) then f k else 0))
+steps-sum f w rows o (suc n) =
+    let e : suc n ≡ n + 1 = omega arith in
+    ap (λ k. sum_by f (steps_below w rows o k)) e ∙ sum_by-next f w rows o n ∙ ap (λ x. x + sum_by f (only_if (holds w (departs rows o n)) n)) (steps-sum f w rows o n)
+    ∙ ap (λ x. sum_below (λ k. if holds w (departs rows o k) then f k else 0) n + x) (only-sum f (holds w (departs rows o n)) n)
+    ∙ sym (sum-suc (λ k. if holds w (departs rows o k) then f k else 0) n)
+
+where-sum : (is : Bool) (holds' : ℕ → Bool) (f : ℕ → ℕ) (n : ℕ) → (if is then sum_below (λ k. if holds' k then f k else 0) n else 0) ≡ sum_below (λ k. if is && holds' k then f k else 0) n
+where-sum true holds' f n = refl
+where-sum false holds' f n = sym (sum-none n)
+
+-- what the runs of a row add up to, by the kept rows that they leave
+pub row_sum-leaving : (each : PlaceId → ℕ) (w : Window) (rows : List StopRow) (day : ServiceDay) (row : FrequencyRow)
+    → row_sum each w rows day row ≡ sum_below (leaving_sum each w rows day row) (length rows - 1)
+unfolding riding_by leaving_sum
+row_sum-leaving each w rows day row =
+    let own : Repeat → ℕ = λ r. steps_sum each w rows (origin_at rows day r.departure) in
+    let f : ℕ → ℕ = λ k. each (kept_at rows k).place in
+    let o : ℕ → Origin = λ m. origin_at rows day (departure row m) in
+    let F : ℕ → ℕ → ℕ = λ m k. if nat_lt (departure row m) row.end && holds w (departs rows (o m) k) then f k else 0 in
+    sum_by-join own (λ m. only_if (rides_by w rows day row m) (run_of row m)) end_of_times
+    ∙ sum-same (λ m. sum_by own (only_if (rides_by w rows day row m) (run_of row m))) (λ m. sum_below (F m) (length rows - 1)) end_of_times (λ m.
+    sum-rides (nat_lt (departure row m) row.end) f (steps_of w rows (o m)) own (run_of row m) refl
+    ∙ ap (λ x. if nat_lt (departure row m) row.end then x else 0) (steps-sum f w rows (o m) (length rows - 1))
+    ∙ where-sum (nat_lt (departure row m) row.end) (λ k. holds w (departs rows (o m) k)) f (length rows - 1))
+    ∙ sum-swap F end_of_times (length rows - 1)
+
+one-step : (b : Bool) (x n a c : ℕ) (p : Bool) → b ≡ p → (p ≡ true → (a ≤ n) × (n < c)) → (a ≤ n → n < c → p ≡ true) → (min c n - a) * x + (if b then x else 0) ≡ (min c (suc n) - a) * x
+one-step true x n a c p e inside out =
+    let h = inside (sym e) in
+    let k : min c (suc n) - a ≡ suc (min c n - a) = omega (arith, h.0, h.1) in
+    sym (ap (λ y. y * x) k ∙ suc-mul (min c n - a) x)
+one-step false x n a c p e inside out =
+    let k : min c (suc n) - a ≡ min c n - a = ⊎_elim (λ (less : n < a). omega arith)
+    (λ (ge : a ≤ n). ⊎_elim (λ (below : n < c). absurd (let t : p ≡ true = out ge below in cc)) (λ (past : c ≤ n). omega arith) (cases_lt n c)) (cases_lt n a) in
+    let none : (min c n - a) * x + 0 ≡ (min c n - a) * x = omega arith in
+    none ∙ sym (ap (λ y. y * x) k)
+
+-- what holds from one number on to another adds up to so many times as much
+pub between-sum : (p : ℕ → Bool) (a c x n : ℕ) → ((m : ℕ) → p m ≡ true → (a ≤ m) × (m < c)) → ((m : ℕ) → a ≤ m → m < c → p m ≡ true) → sum_below (λ m. if p m then x else 0) n ≡ (min c n - a) * x
+between-sum p a c x zero inside out =
+    let k : min c 0 - a ≡ 0 = omega arith in
+    sum-zero (λ m. if p m then x else 0) ∙ sym (ap (λ y. y * x) k ∙ zero-mul x)
+between-sum p a c x (suc n) inside out =
+    sum-suc (λ m. if p m then x else 0) n ∙ ap (λ y. y + (if p n then x else 0)) (between-sum p a c x n inside out) ∙ one-step (p n) x n a c (p n) refl (inside n) (out n)
+
+-- the first and the last number of which a test holds
+abbrev one_if : Bool → ℕ
+one_if b = if b then 1 else 0
+
+abbrev Spread : (p : ℕ → Bool) (n : ℕ) → Type 0
+Spread p n = (sum_below (λ m. if p m then 1 else 0) n ≡ 0) ⊎ ((m : ℕ) × (k : ℕ) × (p m ≡ true) × (p k ≡ true) × (k < n) × (sum_below (λ m. if p m then 1 else 0) n + m ≤ k + 1))
+
+spread_more : (p : ℕ → Bool) (n : ℕ) (b : Bool) → b ≡ p n → Spread p n → Spread p (suc n)
+spread_more p n true e before =
+    let t : p n ≡ true = sym e in
+    let one : one_if (p n) ≡ 1 = ap one_if t in
+    let more = sum-suc (λ m. if p m then 1 else 0) n in
+    ⊎_elim (λ none. inr (n, n, t, t, omega arith, omega (arith, more, one, none)))
+    (λ x. inr (x.0, n, x.2, t, omega arith, omega (arith, more, one, x.4, x.5))) before
+spread_more p n false e before =
+    let none' : one_if (p n) ≡ 0 = ap one_if (sym e) in
+    let more = sum-suc (λ m. if p m then 1 else 0) n in
+    ⊎_elim (λ none. inl (omega (arith, more, none', none)))
+    (λ x. inr (x.0, x.1, x.2, x.3, omega (arith, x.4), omega (arith, more, none', x.5))) before
+
+spread : (p : ℕ → Bool) (n : ℕ) → Spread p n
+spread p zero = inl (sum-zero (λ m. if p m then 1 else 0))
+spread p (suc n) = spread_more p n (p n) refl (spread p n)
+
+-- where no two are farther apart than a limit, there are few
+near-few : (p : ℕ → Bool) (limit n : ℕ) → ((m k : ℕ) → p m ≡ true → p k ≡ true → k ≤ m + limit) → sum_below (λ m. if p m then 1 else 0) n ≤ limit + 1
+near-few p limit n near = ⊎_elim (λ none. omega (arith, none)) (λ x. omega (arith, x.5, near x.0 x.1 x.2 x.3)) (spread p n)
+
+-- at most as many runs of a row leave a kept row in the window as it has seconds
+leaving-few : (w : Window) → IsWindow w → (rows : List StopRow) (day : ServiceDay) (row : FrequencyRow) → 1 ≤ row.headway → (k : ℕ) → leaving_sum (λ place. 1) w rows day row k ≤ 259201
+unfolding leaving_sum
+leaving-few w v rows day row some k =
+    near-few (λ m. nat_lt (departure row m) row.end && holds w (departs rows (origin_at rows day (departure row m)) k)) 259200 end_of_times (λ m n p q.
+    let o : ℕ → Origin = λ i. origin_at rows day (departure row i) in
+    let first : (pos w.start ≤ℤ departs rows (o m) k) × (departs rows (o m) k ≤ℤ pos w.end) = holds_parts w (departs rows (o m) k) (and_parts (nat_lt (departure row m) row.end) (holds w (departs rows (o m) k)) p).1 in
+    let last : (pos w.start ≤ℤ departs rows (o n) k) × (departs rows (o n) k ≤ℤ pos w.end) = holds_parts w (departs rows (o n) k) (and_parts (nat_lt (departure row n) row.end) (holds w (departs rows (o n) k)) q).1 in
+    ⊎_elim (λ (less : m < n).
+    let d = n - m in
+    let far : d ≤ d * row.headway = le-mul_of_pos_right {m = row.headway} d (omega (arith, some)) in
+    let whole : n ≡ m + d = omega (arith, less) in
+    let apart : n * row.headway ≡ m * row.headway + d * row.headway = ap (λ x. x * row.headway) whole ∙ add-mul m d row.headway in
+    omega (arith, ints, far, apart, first.0, first.1, last.0, last.1, v.short))
+    (λ (le : n ≤ m). omega arith) (cases_lt m n))
+
 -- a sum of numbers that are at most so many times those of another sum
 sum-scale : (b : ℕ) (f g : ℕ → ℕ) (n : ℕ) → ((k : ℕ) → k < n → f k ≤ b * g k) → sum_below f n ≤ b * sum_below g n
 sum-scale b f g zero h = omega (arith, sum-zero f)
@@ -46,7 +174,7 @@ sum-scale b f g (suc n) h =
     let rest = sum-scale b f g n (λ k less. h k (omega arith)) in
     omega (arith, sum-suc f n, ap (λ x. b * x) (sum-suc g n), rest, h n (omega arith))
 
-sum_by-scale : (b : ℕ) (f g : ℕ → ℕ) (xs : List ℕ) → ((k : ℕ) → f k ≤ b * g k) → sum_by f xs ≤ b * sum_by g xs
+sum_by-scale : {A : Type 0} (b : ℕ) (f g : A → ℕ) (xs : List A) → ((x : A) → f x ≤ b * g x) → sum_by f xs ≤ b * sum_by g xs
 sum_by-scale b f g [] h = omega arith
 sum_by-scale b f g (x ∷ xs) h = omega (arith, sum_by-cons f x xs, ap (λ n. b * n) (sum_by-cons g x xs), sum_by-scale b f g xs h, h x)
 
@@ -54,15 +182,26 @@ if_scale : (active : Bool) (b x y : ℕ) → x ≤ b * y → (if active then x e
 if_scale true b x y h = h
 if_scale false b x y h = omega arith
 
-module _ (f : FeedParts) (s : ServiceParts) (w : Window) where
+module _ (w : Window) (b : ℕ) (each : PlaceId → ℕ) (h : (place : PlaceId) → each place ≤ b * 1) where
+  steps-scale : (rows : List StopRow) (o : Origin) → steps_sum each w rows o ≤ b * steps_sum (λ place. 1) w rows o
+  steps-scale rows o = sum_by-scale b (λ k. each (kept_at rows k).place) (λ k. 1) (steps_of w rows o) (λ k. h (kept_at rows k).place)
+
+  runs-scale : (rows : List StopRow) (fs : List FrequencyRow) (day : ServiceDay) → runs_sum each w rows fs day ≤ b * runs_sum (λ place. 1) w rows fs day
+  unfolding rows_sum
+  runs-scale rows [] day = steps-scale rows (origin_of_day day)
+  runs-scale rows (row ∷ more) day =
+      let fs = row ∷ more in
+      sum-scale b (λ i. row_sum each w rows day (repeat_at fs i)) (λ i. row_sum (λ place. 1) w rows day (repeat_at fs i)) (length fs) (λ i less.
+      sum_by-scale b (λ (r : Repeat). steps_sum each w rows (origin_at rows day r.departure)) (λ (r : Repeat). steps_sum (λ place. 1) w rows (origin_at rows day r.departure))
+      (riding_by w rows day (repeat_at fs i)) (λ r. steps-scale rows (origin_at rows day r.departure)))
+
   -- where each place counts for so many at most, the sum is at most so many times that of ones
-  pub window-scale : (b : ℕ) (each : PlaceId → ℕ) → ((place : PlaceId) → each place ≤ b * 1) → window_sum each f s w ≤ b * window_sum (λ place. 1) f s w
+  pub window-scale : (f : FeedParts) (s : ServiceParts) → window_sum each f s w ≤ b * window_sum (λ place. 1) f s w
   unfolding day_sum days_sum
-  window-scale b each h =
-      sum-scale b (λ d. day_sum each f s w (day_at w d) (length f.trip_ids)) (λ d. day_sum (λ place. 1) f s w (day_at w d) (length f.trip_ids)) 11 (λ d less.
+  window-scale f s =
+      sum-scale b (λ d. day_sum each f s w (day_at w d) (length f.trip_ids)) (λ d. day_sum (λ place. 1) f s w (day_at w d) (length f.trip_ids)) days (λ d less.
       sum-scale b (trip_sum each f s w (day_at w d)) (trip_sum (λ place. 1) f s w (day_at w d)) (length f.trip_ids) (λ trip inside.
-      if_scale (is_active f s (day_at w d) trip) b _ _
-      (sum_by-scale b (λ k. each (kept_at (rows_of f trip) k).place) (λ k. 1) (steps_of w (rows_of f trip) (origin_of_day (day_at w d))) (λ k. h (kept_at (rows_of f trip) k).place))))
+      if_scale (is_active f s (day_at w d) trip) b _ _ (runs-scale (rows_of f trip) (frequencies_of f trip) (day_at w d))))
 
 length-only : (b : Bool) (n : ℕ) → length (only_if b n) ≤ 1
 length-only true n = omega arith
@@ -83,18 +222,40 @@ if_few : (active : Bool) (b x : ℕ) → x ≤ b → (if active then x else 0) �
 if_few true b x h = h
 if_few false b x h = omega arith
 
+-- the same of numbers that are bounded by other numbers
+sum-linear : (a c : ℕ) (f g : ℕ → ℕ) (n : ℕ) → ((k : ℕ) → k < n → f k ≤ a + g k * c) → sum_below f n ≤ n * a + sum_below g n * c
+sum-linear a c f g zero h = omega (arith, sum-zero f)
+sum-linear a c f g (suc n) h =
+    let rest = sum-linear a c f g n (λ k less. h k (omega arith)) in
+    let whole : sum_below g (suc n) * c ≡ sum_below g n * c + g n * c = ap (λ x. x * c) (sum-suc g n) ∙ add-mul (sum_below g n) (g n) c in
+    omega (arith, sum-suc f n, suc-mul n a, whole, rest, h n (omega arith))
+
+runs-few : (w : Window) → IsWindow w → (rows : List StopRow) → length rows ≤ 33554432 → (fs : List FrequencyRow) → AreRepeats fs → (day : ServiceDay)
+    → runs_sum (λ place. 1) w rows fs day ≤ 33554432 + length fs * 8697342328832
+unfolding rows_sum
+runs-few w v rows few [] are day =
+    omega (arith, sum_by-ones (steps_of w rows (origin_of_day day)), steps-few w rows (origin_of_day day) (length rows - 1), few)
+runs-few w v rows few (row ∷ more) are day =
+    let fs = row ∷ more in
+    let all = sum-few 8697342328832 (λ i. row_sum (λ place. 1) w rows day (repeat_at fs i)) (length fs) (λ i less.
+    let some = (All-get_or IsFrequency fs i _ less are.each).some in
+    let here = sum-few 259201 (leaving_sum (λ place. 1) w rows day (repeat_at fs i)) (length rows - 1) (λ k l. leaving-few w v rows day (repeat_at fs i) some k) in
+    omega (arith, row_sum-leaving (λ place. 1) w rows day (repeat_at fs i), here, few)) in
+    omega (arith, all)
+
 -- the connections of a window are at most so many
-pub window-few : (f : FeedParts) (s : ServiceParts) (w : Window) → IsTimed f → length f.trip_ids ≤ 4194304 → window_sum (λ place. 1) f s w ≤ 11 * 4194304000000000
+pub window-few : (f : FeedParts) (s : ServiceParts) (w : Window) → IsWindow w → AreRepeating f → IsSmall f → length f.trip_ids ≤ 4194304 → window_sum (λ place. 1) f s w ≤ 10262335758312407040
 unfolding day_sum days_sum
-window-few f s w timed few =
-    sum-few 4194304000000000 (λ d. day_sum (λ place. 1) f s w (day_at w d) (length f.trip_ids)) 11 (λ d less.
+window-few f s w v repeats small few =
+    let all = sum-few 570129764350689280 (λ d. day_sum (λ place. 1) f s w (day_at w d) (length f.trip_ids)) days (λ d less.
     let day = day_at w d in
-    let trips = sum-few 1000000000 (trip_sum (λ place. 1) f s w day) (length f.trip_ids) (λ trip inside.
-    let rows = rows_of f trip in
-    let o = origin_of_day day in
-    if_few (is_active f s day trip) 1000000000 (steps_sum (λ place. 1) w rows o)
-    (omega (arith, sum_by-ones (steps_of w rows o), steps-few w rows o (length rows - 1), (timed trip inside).few))) in
-    omega (arith, trips, few))
+    let trips = sum-linear 33554432 8697342328832 (trip_sum (λ place. 1) f s w day) (λ trip. length (frequencies_of f trip)) (length f.trip_ids) (λ trip inside.
+    if_few (is_active f s day trip) (33554432 + length (frequencies_of f trip) * 8697342328832) (runs_sum (λ place. 1) w (rows_of f trip) (frequencies_of f trip) day)
+    (runs-few w v (rows_of f trip) (small.rows trip inside) (frequencies_of f trip) (repeats trip inside) day)) in
+    let total : sum_below (λ trip. length (frequencies_of f trip)) (length f.trip_ids) ≤ 65536
+    = omega (arith, sum_by-at length [] f.frequencies, ap (λ n. sum_below (λ trip. length (frequencies_of f trip)) n) small.size, small.frequencies) in
+    omega (arith, trips, total, few)) in
+    omega (arith, all)
 
 -- links that rise are at most as many as the places that they come from
 links_rise : (places to : ℕ) (links : List Way) (d : Way) → AreLinksInto places to links → (i : ℕ) → i < length links → i ≤ (get_or links i d).from.0
@@ -110,4 +271,4 @@ links_few places to (way ∷ links) are =
 -- the entries of a window by its connections
 pub entries-few : (f : FeedParts) (s : ServiceParts) (c : ChangeParts) (w : Window) → ((to : ℕ) → AreLinksInto 4294967296 to (links_of c to)) → entries_in f s c w ≤ 4294967297 * count_in f s w
 entries-few f s c w are =
-    window-scale f s w 4294967297 (each_of c Entries) (λ place. omega (arith, links_few 4294967296 place.0 (links_of c place.0) (are place.0)))
+    window-scale w 4294967297 (each_of c Entries) (λ place. omega (arith, links_few 4294967296 place.0 (links_of c place.0) (are place.0))) f s

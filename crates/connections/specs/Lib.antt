@@ -2,6 +2,8 @@ pub mod Joins
 pub mod Window
 pub mod Origins
 pub mod Rides
+pub mod Repeats
+pub mod TripRuns
 pub mod Runs
 pub mod Counts
 pub mod Networks

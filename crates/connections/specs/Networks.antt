@@ -1,5 +1,5 @@
 -- The network of a feed in a window of time, and its names.
-use Rattle.std.specs.Prelude.{◌≡◌, ℕ, ℤ, ◌+◌, ◌<◌, ◌≤◌, List, [], ◌∷◌, ◌++◌, map, length, slice_index, slice_index_or, Some, unsigned_abs}
+use Rattle.std.specs.Prelude.{◌≡◌, ℕ, ℤ, ◌+◌, ◌<◌, ◌≤◌, List, [], ◌∷◌, ◌++◌, map, length, slice_index, slice_index_or, Option, Some, None, decimal, unsigned_abs}
 use Rattle.clock_text.specs.Times.{date_at}
 use Rattle.plan_model.specs.declared.model.Connection.{Connection}
 use Rattle.plan_model.specs.declared.model.Way.{Way}
@@ -11,11 +11,13 @@ use Rattle.gtfs_tables.specs.Feeds.{FeedParts}
 use Rattle.gtfs_tables.specs.Timed.{rows_of, kept_at}
 use Rattle.service_days.specs.Services.{ServiceParts}
 use Rattle.connections.specs.declared.origins.Origin.{Origin}
+use Rattle.connections.specs.declared.repeats.Repeat.{Repeat}
 use Rattle.connections.specs.declared.window.Window.{Window}
 use Rattle.connections.specs.declared.runs.Run.{Run}
 use Rattle.connections.specs.Joins.{join_below}
 use Rattle.connections.specs.Origins.{moment_of}
-use Rattle.connections.specs.Rides.{departs, run_steps, run_at, runs_in}
+use Rattle.connections.specs.Rides.{departs}
+use Rattle.connections.specs.TripRuns.{run_steps, run_at, runs_in}
 
 -- when the ride from the k-th kept row to the next arrives
 abbrev pub arrives : List StopRow → Origin → ℕ → ℤ
@@ -61,11 +63,17 @@ AreChanges change = (p : ℕ) → p < length change → (1 ≤ slice_index chang
 abbrev pub connections_in : FeedParts → ServiceParts → DelayLists → Window → List Connection
 connections_in f s d w = rides_below f d w (runs_in f s w) (length (runs_in f s w))
 
--- the service date as YYYYMMDD, a colon, and the id of the trip
+-- of a run that a row of frequencies starts: an at sign, its departure from the first kept row in seconds of the service day, a
+-- point, and the line of the row
+abbrev pub start_text : Option Repeat → List ℕ
+start_text None = []
+start_text (Some r) = 64 ∷ decimal r.departure ++ 46 ∷ decimal r.line
+
+-- the service date as YYYYMMDD, how it starts where a row of frequencies says so, a colon, and the id of the trip
 pub record IsRunName (f : FeedParts) (run : Run) (name : List ℕ) : Type 0 where
   pub date : List ℕ
   pub reads : date_at date ≡ Some run.origin.day.number
-  pub text : name ≡ date ++ 58 ∷ slice_index_or f.trip_ids run.trip []
+  pub text : name ≡ (date ++ start_text run.repeat) ++ 58 ∷ slice_index_or f.trip_ids run.trip []
 
 -- the names of the first n runs
 pub record AreRunNames (f : FeedParts) (rs : List Run) (n : ℕ) (names : List (List ℕ)) : Type 0 where

@@ -1,15 +1,21 @@
 -- What holds of the runs of a feed.
-use Rattle.std.specs.Prelude.{◌≡◌, ℕ, pos, ◌+ℤ◌, ◌≤ℤ◌, ◌<◌, List, length}
+use Rattle.std.specs.Prelude.{◌≡◌, ℕ, pos, ◌+ℤ◌, ◌≤ℤ◌, ◌<◌, ◌^◌, List, length, Option, Some, None}
 use Rattle.gtfs_tables.specs.Feeds.{FeedParts}
 use Rattle.connections.specs.declared.origins.ServiceDay.{ServiceDay}
+use Rattle.connections.specs.declared.repeats.Repeat.{Repeat}
 use Rattle.connections.specs.declared.runs.Run.{Run}
 use Rattle.connections.specs.declared.window.Window.{Window}
-use Rattle.connections.specs.Rides.{run_at, run_steps}
+use Rattle.connections.specs.TripRuns.{run_at, run_steps}
 
 -- a day of the windows: from 1969-12-25 to 9999-12-31
 pub record IsDay (day : ServiceDay) : Type 0 where
   pub from : pos 0 ≤ℤ (day.number +ℤ pos 7)
   pub to : day.number ≤ℤ pos 2932896
+
+-- its numbers fit 64 bits
+abbrev pub IsSmallRepeat : Option Repeat → Type 0
+IsSmallRepeat None = Unit {0}
+IsSmallRepeat (Some r) = (r.departure < 2 ^ 64) × (r.line < 2 ^ 64)
 
 -- its trip is one of the feed, and its day is a date
 pub record IsRunOf (f : FeedParts) (run : Run) : Type 0 where
@@ -19,7 +25,7 @@ pub record IsRunOf (f : FeedParts) (run : Run) : Type 0 where
 -- no run stands twice
 pub record AreRunsOf (f : FeedParts) (rs : List Run) : Type 0 where
   pub each : (r : ℕ) → r < length rs → IsRunOf f (run_at rs r)
-  pub apart : (i j : ℕ) → i < j → j < length rs → (run_at rs i).origin.day.number ≡ (run_at rs j).origin.day.number → (run_at rs i).trip ≡ (run_at rs j).trip → ⊥
+  pub apart : (i j : ℕ) → i < j → j < length rs → (run_at rs i).origin.day.number ≡ (run_at rs j).origin.day.number → (run_at rs i).trip ≡ (run_at rs j).trip → (run_at rs i).repeat ≡ (run_at rs j).repeat → ⊥
 
 -- each has a ride in the window
 abbrev pub AllRide : FeedParts → Window → List Run → Type 0

@@ -1,17 +1,18 @@
 //! What the connections of a window add up to, before any of them stands.
 ghost use Rattle.std.specs.Prelude.{◌≡◌, ◌≤◌, ◌<◌, ◌^◌, ◌-◌, length, min, sum_by};
 ghost use Rattle.gtfs_tables.specs.Timed.{IsTimed, kept_at};
+ghost use Rattle.gtfs_tables.specs.Repeats.{IsFrequency, AreRepeats, AreRepeating};
 ghost use Rattle.connections.specs.Joins.{only_if};
-ghost use Rattle.connections.specs.Origins.{origin_of_day};
 ghost use Rattle.connections.specs.Window.{holds, IsWindow};
-ghost use Rattle.connections.specs.Rides.{departs};
-ghost use Rattle.connections.specs.Counts.{each_of, steps_sum, trip_sum, day_sum, window_sum};
+ghost use Rattle.connections.specs.Rides.{AreDepartures, departs};
+ghost use Rattle.connections.specs.Counts.{each_of, steps_sum, leaving_sum, row_sum, rows_sum, runs_sum, trip_sum, day_sum, window_sum};
 
 use crate::origins::{Origin, ServiceDay};
-use crate::runs::{has_service, leaves, may_ride};
+use crate::repeats::leaving;
+use crate::runs::{has_service, leaves, may_run};
 use crate::window::{DAYS, Window};
 use change_times::Changes;
-use gtfs_tables::{Feed, StopRow};
+use gtfs_tables::{Feed, FrequencyRow, StopRow};
 use plan_model::PlaceId;
 use service_days::Services;
 
@@ -70,6 +71,96 @@ fn sum_steps(
     sum
 }
 
+/// What the connections from one kept row of the runs of a row of frequencies count for.
+fn sum_leaving(
+    changes: &Changes,
+    counted: Counted,
+    rows: &[StopRow],
+    step: usize,
+    row: &FrequencyRow,
+    day: ServiceDay,
+    window: Window,
+) -> u64
+    requires window { IsWindow window }
+    requires departures { AreDepartures rows.now }
+    requires step { step < length rows.now }
+    requires row { IsFrequency row.now }
+    ensures { result ≡ min
+        (leaving_sum (each_of changes.now counted) window rows.now day row.now step) (2 ^ 64 - 1) }
+{
+    let (from, to) = leaving(rows, step, row, day, window);
+    let count = u64::from(to.saturating_sub(from));
+    let place = rows[step].place;
+    count.saturating_mul(each(changes, counted, place))
+}
+
+/// What the connections of the runs of a row of frequencies count for.
+fn sum_row(
+    changes: &Changes,
+    counted: Counted,
+    rows: &[StopRow],
+    row: &FrequencyRow,
+    day: ServiceDay,
+    window: Window,
+) -> u64
+    requires window { IsWindow window }
+    requires departures { AreDepartures rows.now }
+    requires row { IsFrequency row.now }
+    ensures { result ≡ min
+        (row_sum (each_of changes.now counted) window rows.now day row.now) (2 ^ 64 - 1) }
+{
+    let mut sum = 0u64;
+    for k in 0..rows.len().saturating_sub(1) {
+        sum = sum.saturating_add(sum_leaving(changes, counted, rows, k, row, day, window));
+    }
+    sum
+}
+
+/// What the connections of the runs of a trip that repeats count for on a day.
+fn sum_repeats(
+    changes: &Changes,
+    counted: Counted,
+    rows: &[StopRow],
+    frequencies: &[FrequencyRow],
+    day: ServiceDay,
+    window: Window,
+) -> u64
+    requires window { IsWindow window }
+    requires departures { AreDepartures rows.now }
+    requires repeats { AreRepeats frequencies.now }
+    ensures { result ≡ min
+        (rows_sum (each_of changes.now counted) window rows.now day frequencies.now (length frequencies.now))
+        (2 ^ 64 - 1) }
+{
+    let mut sum = 0u64;
+    for i in 0..frequencies.len() {
+        let row = &frequencies[i];
+        sum = sum.saturating_add(sum_row(changes, counted, rows, row, day, window));
+    }
+    sum
+}
+
+/// What the connections of the runs of a trip count for on a day.
+fn sum_runs(
+    changes: &Changes,
+    counted: Counted,
+    rows: &[StopRow],
+    frequencies: &[FrequencyRow],
+    day: ServiceDay,
+    window: Window,
+) -> u64
+    requires window { IsWindow window }
+    requires departures { AreDepartures rows.now }
+    requires repeats { AreRepeats frequencies.now }
+    ensures { result ≡ min
+        (runs_sum (each_of changes.now counted) window rows.now frequencies.now day) (2 ^ 64 - 1) }
+{
+    if frequencies.is_empty() {
+        return sum_steps(changes, counted, rows, Origin::of_day(day), window);
+    }
+    sum_repeats(changes, counted, rows, frequencies, day, window)
+}
+
 /// What the connections of a trip count for on a day.
 fn sum_trip(
     feed: &Feed,
@@ -80,17 +171,19 @@ fn sum_trip(
     day: ServiceDay,
     window: Window,
 ) -> u64
+    requires window { IsWindow window }
     requires trip { trip < length feed.now.trip_ids }
     requires timed { IsTimed feed.now }
+    requires repeats { AreRepeating feed.now }
     ensures { result ≡ min
         (trip_sum (each_of changes.now counted) feed.now services.now window day trip) (2 ^ 64 - 1) }
 {
     let rows = feed.stop_times(trip);
-    let origin = Origin::of_day(day);
-    if !may_ride(rows, origin, window) || !has_service(feed, services, trip, day) {
+    let frequencies = feed.frequencies(trip);
+    if !may_run(rows, frequencies, day, window) || !has_service(feed, services, trip, day) {
         return 0;
     }
-    sum_steps(changes, counted, rows, origin, window)
+    sum_runs(changes, counted, rows, frequencies, day, window)
 }
 
 /// What the connections of all trips count for on a day.
@@ -102,6 +195,7 @@ fn sum_day(
     day: ServiceDay,
     window: Window,
 ) -> u64
+    requires { IsWindow window }
     ensures { result ≡ min (day_sum (each_of changes.now counted) feed.now services.now window day
         (length feed.now.trip_ids)) (2 ^ 64 - 1) }
 {

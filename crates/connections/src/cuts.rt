@@ -152,10 +152,15 @@ fn network_of(
 }
 
 /// The network of the connections of a feed that depart from the start to so many hours later, both ends included, over
-/// the service days from 7 before the date of the start to 3 after it, and the names of its places and runs. A connection
-/// is the ride of a trip from one kept row to the next on a day on which its service is active. Runs are numbered by
-/// service day and then by the position of the trip; the name of a run is its service date as YYYYMMDD, a colon and the id
-/// of the trip, and that of a place is the id of its stop. The change seconds and the links are those of the changes.
+/// the service days from 14 before the date of the start to 3 after it, and the names of its places and runs. A connection
+/// is the ride of a run from one kept row of its trip to the next, on a day on which the trip's service is active. A trip
+/// with no rows of frequencies has one run on such a day. One with such rows has a run for each of them and each departure
+/// by it, from its start on, each headway later and before its end; the run leaves the first kept row then, and its other
+/// times are as much sooner or later. It has no other run. Runs are numbered by service day, position of the trip, departure
+/// from the first kept row and line of the row of frequencies. The name of a run is its service date as YYYYMMDD, a colon and
+/// the id of the trip; where a row of frequencies starts it, an at sign, its departure from the first kept row in seconds of
+/// the service day, a point and the line of the row stand before the colon. The name of a place is the id of its stop. The
+/// change seconds and the links are those of the changes.
 /// `TooMany` carries the count of all connections, and comes where it passes `limits.connections`; else `TooManyEntries`
 /// carries that of the pairs of a connection and a way into the place that it leaves, and comes where it passes
 /// `limits.entries`. Both are counted before anything is made.

@@ -7,6 +7,7 @@ mod cuts;
 mod merged;
 mod names;
 mod origins;
+mod repeats;
 mod rides;
 mod runs;
 #[cfg(test)]

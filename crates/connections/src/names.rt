@@ -1,26 +1,47 @@
 //! The names of places and runs.
-ghost use Rattle.std.specs.Prelude.{◌≡◌, ◌≤◌, ◌<◌, [], length, string_bytes, OnOk, IfOk};
+ghost use Rattle.std.specs.Prelude.{◌≡◌, ◌≤◌, ◌<◌, ◌++◌, [], length, string_bytes, OnOk, IfOk};
 ghost use Rattle.plan_model.specs.Bounds.{most_connections};
 ghost use Rattle.csv_rows.specs.Ids.{AreIds};
-ghost use Rattle.connections.specs.Runs.{IsDay, AreRunsOf};
-ghost use Rattle.connections.specs.Networks.{IsRunName, AreRunNames};
+ghost use Rattle.connections.specs.Runs.{IsDay, IsSmallRepeat, AreRunsOf};
+ghost use Rattle.connections.specs.Networks.{start_text, IsRunName, AreRunNames};
 
+use crate::repeats::Repeat;
 use crate::runs::Run;
 use clock_text::write_date;
 use gtfs_tables::Feed;
+use itoa::Buffer;
 use plan_model::{Names, NoMemory};
 use std::alloc::Global;
 
-/// The name of a run: its service date as YYYYMMDD, a colon, and the id of its trip.
+/// Adds how a run starts, where a row of frequencies says so: an at sign, its departure from the first kept row in seconds of
+/// the service day, a point, and the line of the row.
+fn push_start(name: &mut String, repeat: Option<Repeat>) -> Result<(), NoMemory>
+    ensures text { OnOk result (string_bytes name.new ≡ string_bytes name.old ++ start_text repeat) }
+    ensures small { IsSmallRepeat repeat }
+{
+    let Some(repeat) = repeat else {
+        return Ok(());
+    };
+    let mut digits = Buffer::new();
+    name.push_str("@")?;
+    name.push_str(digits.format(repeat.departure))?;
+    name.push_str(".")?;
+    name.push_str(digits.format(repeat.line))?;
+    Ok(())
+}
+
+/// The name of a run: its service date as YYYYMMDD, how it starts, a colon, and the id of its trip.
 fn run_name(alloc: Global, feed: &Feed, run: Run) -> Result<String, NoMemory>
     requires trip { run.trip < length feed.now.trip_ids }
     requires day { IsDay run.origin.day }
-    ensures { IfOk result (λ name. IsRunName feed.now run (string_bytes name)) }
+    ensures name { IfOk result (λ name. IsRunName feed.now run (string_bytes name)) }
+    ensures small { IfOk result (λ name. IsSmallRepeat run.repeat) }
 {
     let date = write_date(run.origin.day.number);
     match std::str::from_utf8(&date) {
         Ok(date) => {
             let mut name = String::from_str(alloc, date)?;
+            push_start(&mut name, run.repeat)?;
             name.push_str(":")?;
             name.push_str(feed.trip_id(run.trip))?;
             Ok(name)

@@ -1,22 +1,33 @@
 //! The runs that ride in a window.
-ghost use Rattle.std.specs.Prelude.{◌≡◌, ◌<◌, ◌++◌, ◌&&◌, length, [], false, IfOk, OnOk};
-ghost use Rattle.gtfs_tables.specs.Timed.{IsTimed, rows_of};
+ghost use Rattle.std.specs.Prelude.{◌≡◌, ◌<◌, ◌++◌, length, map, [], false, All, IfOk, OnOk};
+ghost use Rattle.gtfs_tables.specs.Bounds.{end_of_times};
+ghost use Rattle.gtfs_tables.specs.Repeats.{AreRepeats};
+ghost use Rattle.connections.specs.Joins.{only_if};
 ghost use Rattle.connections.specs.Window.{holds, IsWindow};
 ghost use Rattle.connections.specs.Origins.{origin_of_day};
-ghost use Rattle.connections.specs.Rides.{DepartInOrder, departs, is_active, rides, steps_of, day_runs, runs_in};
+ghost use Rattle.connections.specs.Rides.{DepartInOrder, AreDepartures, departs, is_active, rides, steps_of};
+ghost use Rattle.connections.specs.TripRuns.{own_run, repeat_run, runs_by, day_runs, runs_in};
 
 use crate::origins::{Origin, ServiceDay};
+use crate::repeats::{Repeat, origin_at, repeats_of};
 use crate::window::{DAYS, Window};
-use gtfs_tables::{Feed, StopRow};
+use gtfs_tables::{Feed, FrequencyRow, StopRow};
 use plan_model::NoMemory;
 use service_days::Services;
 use std::alloc::Global;
 
-/// A trip, and the moment from which its times count.
+/// Each time of a service day is before this second of it.
+const END_OF_TIMES: u32 = 604_800;
+
+/// A ride of a trip on a service day.
 #[derive(Clone, Copy)]
 pub(crate) struct Run {
+    /// The moment from which the times of the trip count.
     pub(crate) origin: Origin,
+    /// The position of the trip.
     pub(crate) trip: u32,
+    /// How it starts, where a row of frequencies of the trip says so.
+    pub(crate) repeat: Option<Repeat>,
 }
 
 /// When a run leaves a kept row.
@@ -48,6 +59,25 @@ pub(crate) fn may_ride(rows: &[StopRow], origin: Origin, window: Window) -> bool
     !window.starts_after(departure_of(rows, rides - 1, origin))
 }
 
+/// Whether some run of a trip may ride in the window on a day: no run of a trip that does not repeat rides after the end of
+/// times of its service day.
+pub(crate) fn may_run(
+    rows: &[StopRow],
+    frequencies: &[FrequencyRow],
+    day: ServiceDay,
+    window: Window,
+) -> bool
+    requires { AreDepartures rows.now }
+    ensures { result ≡ false
+        → (frequencies.now ≡ []) × (steps_of window rows.now (origin_of_day day) ≡ []) }
+{
+    if !frequencies.is_empty() {
+        return true;
+    }
+    let origin = Origin::of_day(day);
+    !window.starts_after(origin.plus(END_OF_TIMES)) && may_ride(rows, origin, window)
+}
+
 /// Whether a run with these kept rows rides in the window.
 fn rides(rows: &[StopRow], origin: Origin, window: Window) -> bool
     ensures { result ≡ rides window rows.now origin }
@@ -68,42 +98,101 @@ pub(crate) fn has_service(feed: &Feed, services: &Services, trip: u32, day: Serv
     services.runs_on(feed.service_of(trip), day.number)
 }
 
-/// Whether a trip is active on a day and rides in the window then.
-fn rides_on(feed: &Feed, services: &Services, trip: u32, day: ServiceDay, window: Window) -> bool
-    requires trip { trip < length feed.now.trip_ids }
-    requires timed { IsTimed feed.now }
-    ensures { result ≡ (is_active feed.now services.now day trip
-        && rides window (rows_of feed.now trip) (origin_of_day day)) }
+/// Adds the run of a trip that does not repeat, where it rides in the window.
+fn add_own(
+    runs: &mut Vec<Run>,
+    rows: &[StopRow],
+    day: ServiceDay,
+    trip: u32,
+    window: Window,
+) -> Result<(), NoMemory>
+    ensures { OnOk result (runs.new.items
+        ≡ runs.old.items ++ only_if (rides window rows.now (origin_of_day day)) (own_run day trip)) }
 {
-    let rows = feed.stop_times(trip);
     let origin = Origin::of_day(day);
-    if !may_ride(rows, origin, window) {
-        return false;
+    if rides(rows, origin, window) {
+        runs.push(Run {
+            origin,
+            trip,
+            repeat: None,
+        })?;
     }
-    has_service(feed, services, trip, day) && rides(rows, origin, window)
+    Ok(())
+}
+
+/// Adds these runs of a trip that repeats.
+fn add_repeats(
+    runs: &mut Vec<Run>,
+    rows: &[StopRow],
+    day: ServiceDay,
+    trip: u32,
+    repeats: &[Repeat],
+) -> Result<(), NoMemory>
+    requires departures { AreDepartures rows.now }
+    requires some { 0 < length repeats.now → 0 < length rows.now }
+    requires early { All (λ r. r.departure < end_of_times) repeats.now }
+    ensures { OnOk result (runs.new.items
+        ≡ runs.old.items ++ map (repeat_run rows.now day trip) repeats.now) }
+{
+    for k in 0..repeats.len() {
+        let repeat = repeats[k];
+        runs.push(Run {
+            origin: origin_at(rows, day, repeat.departure),
+            trip,
+            repeat: Some(repeat),
+        })?;
+    }
+    Ok(())
+}
+
+/// Adds the runs of an active trip that ride in the window.
+fn add_trip(
+    alloc: Global,
+    runs: &mut Vec<Run>,
+    rows: &[StopRow],
+    frequencies: &[FrequencyRow],
+    day: ServiceDay,
+    trip: u32,
+    window: Window,
+) -> Result<(), NoMemory>
+    requires window { IsWindow window }
+    requires departures { AreDepartures rows.now }
+    requires repeats { AreRepeats frequencies.now }
+    ensures { OnOk result (runs.new.items
+        ≡ runs.old.items ++ runs_by window rows.now frequencies.now day trip) }
+{
+    if frequencies.is_empty() {
+        return add_own(runs, rows, day, trip, window);
+    }
+    let repeats = repeats_of(alloc, rows, frequencies, day, window)?;
+    add_repeats(runs, rows, day, trip, repeats.as_slice())
 }
 
 /// Adds the runs of the trips that are active on a day and ride in the window then.
 fn add_day(
+    alloc: Global,
     runs: &mut Vec<Run>,
     feed: &Feed,
     services: &Services,
     day: ServiceDay,
     window: Window,
 ) -> Result<(), NoMemory>
+    requires { IsWindow window }
     ensures { OnOk result (runs.new.items
         ≡ runs.old.items ++ day_runs feed.now services.now window day (length feed.now.trip_ids)) }
 {
     for trip in 0..feed.trip_count() {
-        if rides_on(feed, services, trip, day, window) {
-            let origin = Origin::of_day(day);
-            runs.push(Run { origin, trip })?;
+        let rows = feed.stop_times(trip);
+        let frequencies = feed.frequencies(trip);
+        if may_run(rows, frequencies, day, window) && has_service(feed, services, trip, day) {
+            add_trip(alloc, runs, rows, frequencies, day, trip, window)?;
         }
     }
     Ok(())
 }
 
-/// The runs that ride in the window, by service day and position of the trip.
+/// The runs that ride in the window, by service day, position of the trip, departure from the first kept row and line of the
+/// row of frequencies.
 pub(crate) fn runs_of(
     alloc: Global,
     feed: &Feed,
@@ -115,7 +204,7 @@ pub(crate) fn runs_of(
 {
     let mut runs: Vec<Run> = Vec::new(alloc);
     for d in 0..DAYS {
-        add_day(&mut runs, feed, services, window.day(d), window)?;
+        add_day(alloc, &mut runs, feed, services, window.day(d), window)?;
     }
     Ok(runs)
 }

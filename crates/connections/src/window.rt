@@ -1,11 +1,15 @@
 //! A window of time.
 ghost use Rattle.std.specs.Prelude.{◌≡◌, ◌+◌, ◌*◌, ◌≤◌, ◌<◌, pos, int_lt};
+ghost use Rattle.connections.specs.TripRuns.{days};
 ghost use Rattle.connections.specs.Window.{window_of, holds, day_at, IsWindow};
 
 use crate::origins::ServiceDay;
 
-/// How many service days a window has: from 7 before the date of its start to 3 after it.
-pub(crate) const DAYS: u32 = 11;
+/// How many service days a window has: from 14 before the date of its start to 3 after it.
+pub(crate) const DAYS: u32 = 18;
+
+/// How many of them are before the date of its start.
+const DAYS_BEFORE: i32 = 14;
 
 /// The moments from a start to an end, both included, in seconds since 1970-01-01.
 #[derive(Clone, Copy)]
@@ -52,14 +56,14 @@ impl Window {
         moment < 0 || moment.unsigned_abs() < self.start
     }
 
-    /// A service day whose trips may ride in the window, the first of which is 7 days before the date of the start.
+    /// A service day whose trips may ride in the window, the first of which is 14 days before the date of the start.
     pub(crate) fn day(self, d: u32) -> ServiceDay
         requires window { IsWindow self }
-        requires inside { d < 11 }
+        requires inside { d < days }
         ensures { result ≡ day_at self d }
     {
         ServiceDay {
-            number: (self.start / 86_400) as i32 + d as i32 - 7,
+            number: (self.start / 86_400) as i32 + d as i32 - DAYS_BEFORE,
         }
     }
 }

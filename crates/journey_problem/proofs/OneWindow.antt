@@ -15,12 +15,11 @@ use Rattle.delay_table.specs.DelayLists.{DelayLists}
 use Rattle.gtfs_tables.specs.Feeds.{FeedParts}
 use Rattle.gtfs_tables.specs.Timed.{rows_of}
 use Rattle.service_days.specs.Services.{ServiceParts, runs}
-use Rattle.connections.specs.Joins.{join_below, only_if, sum_below}
-use Rattle.connections.specs.Origins.{origin_of_day}
+use Rattle.connections.specs.Joins.{join_below, sum_below}
 use Rattle.connections.specs.Window.{day_at, window_of}
-use Rattle.connections.specs.Rides.{rides, run_on, day_runs, runs_below, runs_in, run_at, no_run}
-use Rattle.connections.specs.Counts.{steps_sum, day_sum, days_sum, window_sum}
-use Rattle.connections.specs.Networks.{IsRunName, AreRunNames, rides_below}
+use Rattle.connections.specs.TripRuns.{frequencies_of, runs_by, day_runs, runs_below, runs_in, run_at, no_run, days}
+use Rattle.connections.specs.Counts.{runs_sum, day_sum, days_sum, window_sum}
+use Rattle.connections.specs.Networks.{start_text, IsRunName, AreRunNames, rides_below}
 use Rattle.connections.specs.Cut.{IsNetworkFrom, connection_count, entry_count}
 
 -- they run on the same days
@@ -32,15 +31,15 @@ pub same_runs : (f : FeedParts) (s t : ServiceParts) (w : _) → SameDays s t �
 unfolding runs_below day_runs
 same_runs f s t w e =
     ap (λ (r : List ℕ → ℤ → Bool). join_below (λ d. join_below (λ trip.
-    only_if (r (slice_index_or f.services trip []) (day_at w d).number && rides w (rows_of f trip) (origin_of_day (day_at w d))) (run_on (day_at w d) trip))
-    (length f.trip_ids)) 11)
+    if r (slice_index_or f.services trip []) (day_at w d).number then runs_by w (rows_of f trip) (frequencies_of f trip) (day_at w d) trip else [])
+    (length f.trip_ids)) days)
     (fun_ext (λ x. fun_ext (e x)))
 
 -- a run has one name
 one_name : (f : FeedParts) (run : _) (a b : List ℕ) → IsRunName f run a → IsRunName f run b → a ≡ b
 one_name f run a b h k =
     let date : h.date ≡ k.date = one_date h.date k.date run.origin.day.number h.reads k.reads in
-    h.text ∙ ap (λ (d : List ℕ). d ++ 58 ∷ slice_index_or f.trip_ids run.trip []) date ∙ sym k.text
+    h.text ∙ ap (λ (d : List ℕ). (d ++ start_text run.repeat) ++ 58 ∷ slice_index_or f.trip_ids run.trip []) date ∙ sym k.text
 
 one_names : (f : FeedParts) (rs : _) (n : ℕ) (a b : List (List ℕ)) → AreRunNames f rs n a → AreRunNames f rs n b → a ≡ b
 one_names f rs n a b h k = ext_get_or [] a b (h.size ∙ sym k.size) (λ r l.
@@ -52,7 +51,7 @@ unfolding days_sum day_sum
 same_sum each f s t w e =
     ap (λ (r : List ℕ → ℤ → Bool). sum_below (λ d. sum_below (λ trip.
     if r (slice_index_or f.services trip []) (day_at w d).number
-    then steps_sum each w (rows_of f trip) (origin_of_day (day_at w d)) else 0) (length f.trip_ids)) 11)
+    then runs_sum each w (rows_of f trip) (frequencies_of f trip) (day_at w d) else 0) (length f.trip_ids)) days)
     (fun_ext (λ x. fun_ext (e x)))
 
 pub same_count : (f : FeedParts) (s t : ServiceParts) (start horizon : ℕ) → SameDays s t → connection_count f s start horizon ≡ connection_count f t start horizon

@@ -5,7 +5,7 @@ use Rattle.csv_rows.proofs.ListLemmas.{length-list_below}
 use Rattle.plan_model.specs.Network.{AreLinksInto}
 use Rattle.change_times.specs.Changes.{seconds_of, links_of}
 use Rattle.connections.specs.declared.runs.Run.{Run}
-use Rattle.connections.specs.Rides.{runs_in}
+use Rattle.connections.specs.TripRuns.{runs_in}
 use Rattle.connections.specs.Networks.{rides_below, AreRunNames}
 use Rattle.connections.proofs.CountLemmas.{rides_counted}
 use Rattle.connections.proofs.LinkLemmas.{links_fit, names_fit}
@@ -14,12 +14,12 @@ use Rattle.connections.proofs.cuts.network_of.Goals as goal
 
 pub network_of_runs-requires-clause-runs : goal.network_of_runs-requires-clause-runs
 network_of_runs-requires-clause-runs c =
-    (runs_are c.args.feed.now c.args.services.now c.args.window c.requires.window c.as_slice.result.now
+    (runs_are c.args.feed.now c.args.services.now c.args.window c.trip_count-trips.ensures.repeats c.requires.window c.as_slice.result.now
     (c.as_slice.ensures.value ∙ c.in_ok-runs.ensures)).0
 
 pub network_of_runs-requires-clause-rides : goal.network_of_runs-requires-clause-rides
 network_of_runs-requires-clause-rides c =
-    (runs_are c.args.feed.now c.args.services.now c.args.window c.requires.window c.as_slice.result.now
+    (runs_are c.args.feed.now c.args.services.now c.args.window c.trip_count-trips.ensures.repeats c.requires.window c.as_slice.result.now
     (c.as_slice.ensures.value ∙ c.in_ok-runs.ensures)).1
 
 pub network_of_runs-requires-clause-few : goal.network_of_runs-requires-clause-few

@@ -3,6 +3,7 @@ use Rattle.clock_text.specs.Times.{HasDate}
 use Rattle.std.proofs.lemmas.Int.{to_z-of_z}
 use Rattle.std.proofs.lemmas.Option.{get_or_from_slice_get}
 use Rattle.std.proofs.lemmas.Str.{IsUtf8-from_ascii}
+use Rattle.connections.specs.Networks.{start_text}
 use Rattle.connections.proofs.DateLemmas.{has_date, date_is_ascii}
 use Rattle.connections.proofs.StepLemmas.{append-assoc}
 use Rattle.connections.proofs.names.run_name.Goals as goal
@@ -16,8 +17,8 @@ write_date-date-requires c =
 pub unreachable-requires : goal.unreachable-requires
 unreachable-requires c = c.in-Err.ensures.cases.0 (IsUtf8-from_ascii c.write_date-date.result (date_is_ascii c.write_date-date.result _ c.write_date-date.ensures))
 
-pub returns : goal.returns
-returns c =
+pub returns-clause-name : goal.returns-clause-name
+returns-clause-name c =
     let id = get_or_from_slice_get c.args.feed.now.trip_ids c.args.run.trip c.trip_id.result.now [] c.trip_id.ensures in
     let fits : SFits w32 c.args.run.origin.day.number = search rules in
     let date = c.write_date-date.result in
@@ -27,7 +28,7 @@ returns c =
       reads = c.write_date-date.ensures ∙ ap Some (to_z-of_z w32 c.args.run.origin.day.number fits);
       text =
           c.in_ok-push_str-in-Ok-2.ensures.bytes
-          ∙ ap (λ x. x ++ c.trip_id.result.now) (c.in_ok-push_str-in-Ok.ensures.bytes ∙ ap (λ x. x ++ 58 ∷ []) text)
-          ∙ append-assoc date (58 ∷ []) c.trip_id.result.now
-          ∙ ap (λ x. date ++ 58 ∷ x) (sym id);
+          ∙ ap (λ x. x ++ c.trip_id.result.now) (c.in_ok-push_str-in-Ok.ensures.bytes ∙ ap (λ x. x ++ 58 ∷ []) (c.in_ok-push_start-in-Ok.ensures.text ∙ ap (λ x. x ++ start_text c.args.run.repeat) text))
+          ∙ append-assoc (date ++ start_text c.args.run.repeat) (58 ∷ []) c.trip_id.result.now
+          ∙ ap (λ x. (date ++ start_text c.args.run.repeat) ++ 58 ∷ x) (sym id);
     }

@@ -1,29 +1,57 @@
-use Rattle.std.proofs.Common.{◌+◌, ◌++◌, [], ◌∷◌, sym, ap, ◌∙◌}
-use Rattle.connections.specs.declared.origins.Origin.{Origin}
-use Rattle.connections.specs.Joins.{only_if}
-use Rattle.connections.specs.Rides.{run_on, day_runs}
-use Rattle.connections.proofs.StepLemmas.{append-nil, goes-on}
-use Rattle.connections.proofs.DayLemmas.{day-zero, day-next}
+use Rattle.std.proofs.Common.{◌≡◌, ◌+◌, ◌++◌, [], List, length, sym, ap, ap₂, ◌∙◌, subst, rules}
+use Rattle.gtfs_tables.specs.declared.stop_times.StopRow.{StopRow}
+use Rattle.gtfs_tables.specs.Repeats.{AreRepeats}
+use Rattle.gtfs_tables.specs.Timed.{rows_of}
+use Rattle.connections.specs.declared.runs.Run.{Run}
+use Rattle.connections.specs.Rides.{AreDepartures, is_active, steps_of}
+use Rattle.connections.specs.Origins.{origin_of_day}
+use Rattle.connections.specs.TripRuns.{frequencies_of, runs_by, trip_runs, day_runs}
+use Rattle.connections.proofs.JoinLemmas.{nothing-after}
+use Rattle.connections.proofs.StepLemmas.{goes-on}
+use Rattle.connections.proofs.ReachLemmas.{departures_are}
+use Rattle.connections.proofs.DayLemmas.{day-zero, day-next, active_runs, idle_runs, no_runs, where_none}
 use Rattle.connections.proofs.runs.add_day.Goals as goal
-use Rattle.connections.proofs.runs.add_day.Goals.{then-rides_on+in_ok-push, else-rides_on}
+use Rattle.connections.proofs.runs.add_day.Goals.{then-may_run+then-has_service+in_ok-add_trip, else-may_run, else-may_run-via-then-may_run+else-has_service, else-may_run-via-else-may_run}
+
+pub may_run-requires : goal.may_run-requires
+may_run-requires c =
+    subst AreDepartures (sym c.stop_times-rows.ensures) (departures_are (rows_of c.args.feed.now c.loop-trip.trip) (length c.args.feed.now.stop_ids) (c.trip_count-trip-end.ensures.timed c.loop-trip.trip (search rules)))
 
 pub loop-trip-init : goal.loop-trip-init
-loop-trip-init c = sym (ap (λ xs. c.args.runs.now.items ++ xs) (day-zero c.args.feed.now c.args.services.now c.args.window c.args.day) ∙ append-nil c.args.runs.now.items)
+loop-trip-init c = sym (ap (λ xs. c.args.runs.now.items ++ xs) (day-zero c.args.feed.now c.args.services.now c.args.window c.args.day) ∙ nothing-after c.args.runs.now.items)
+
+pub add_trip-requires-clause-departures : goal.add_trip-requires-clause-departures
+add_trip-requires-clause-departures c =
+    subst AreDepartures (sym c.stop_times-rows.ensures) (departures_are (rows_of c.args.feed.now c.loop-trip.trip) (length c.args.feed.now.stop_ids) (c.trip_count-trip-end.ensures.timed c.loop-trip.trip (search rules)))
+
+pub add_trip-requires-clause-repeats : goal.add_trip-requires-clause-repeats
+add_trip-requires-clause-repeats c = subst AreRepeats (sym c.frequencies-frequencies.ensures) (c.trip_count-trip-end.ensures.repeats c.loop-trip.trip (search rules))
 
 pub loop-trip-preserved : goal.loop-trip-preserved
 loop-trip-preserved c =
     let f = c.args.feed.now in let s = c.args.services.now in let w = c.args.window in let day = c.args.day in let k = c.loop-trip.trip in
-    let more = day-next f s w day k c.rides_on.result c.rides_on.ensures in
+    let next = day-next f s w day k in
     let before = day_runs f s w day k in
     let all = day_runs f s w day (k + 1) in
     let old = c.args.runs.now.items in
-    elim c.if-rides_on.branch [
-      | then-rides_on+in_ok-push v ↦
-          goes-on old before (run_on day k ∷ []) all c.if-rides_on.runs.items (more ∙ ap (λ b. before ++ only_if b (run_on day k)) v.if-rides_on.true)
-          (ap (λ (x : _). x.items) v.runs-is ∙ v.in_ok-push.ensures.items
-          ∙ ap (λ (o : Origin). c.loop-trip.runs.items ++ record { origin = o; trip = k } ∷ []) v.of_day-origin.ensures
-          ∙ ap (λ xs. xs ++ run_on day k ∷ []) c.loop-trip.invariant)
-      | else-rides_on v ↦
-          goes-on old before [] all c.if-rides_on.runs.items (more ∙ ap (λ b. before ++ only_if b (run_on day k)) v.if-rides_on.false)
-          (ap (λ (x : _). x.items) v.runs-is ∙ c.loop-trip.invariant ∙ sym (append-nil (old ++ before)))
+    let own = runs_by w (rows_of f k) (frequencies_of f k) day k in
+    elim c.if-may_run.branch [
+      | then-may_run+then-has_service+in_ok-add_trip v ↦
+          let same : runs_by w c.stop_times-rows.result.now c.frequencies-frequencies.result.now day k ≡ own
+          = ap₂ (λ rows fs. runs_by w rows fs day k) c.stop_times-rows.ensures c.frequencies-frequencies.ensures in
+          let here : runs_by w c.stop_times-rows.result.now c.frequencies-frequencies.result.now day k ≡ trip_runs f s w day k
+          = active_runs (is_active f s day k) _ own (sym v.has_service.ensures ∙ v.if-has_service.true) same in
+          goes-on old before (trip_runs f s w day k) all c.if-may_run.runs.items next
+          (ap (λ (x : _). x.items) v.runs-is ∙ v.in_ok-add_trip.ensures ∙ ap (λ (xs : List Run). xs ++ runs_by w c.stop_times-rows.result.now c.frequencies-frequencies.result.now day k) c.loop-trip.invariant
+          ∙ ap (λ (xs : List Run). (old ++ before) ++ xs) here)
+      | else-may_run v ↦
+          let none : [] ≡ trip_runs f s w day k = elim v.else-may_run.branch [
+            | else-may_run-via-then-may_run+else-has_service u ↦ idle_runs (is_active f s day k) own (sym u.has_service.ensures ∙ u.if-has_service.false)
+            | else-may_run-via-else-may_run u ↦
+                let no = c.may_run.ensures u.if-may_run.false in
+                where_none (is_active f s day k) own (no_runs w (rows_of f k) (frequencies_of f k) day k (sym c.frequencies-frequencies.ensures ∙ no.0)
+                (subst (λ (rows : List StopRow). steps_of w rows (origin_of_day day) ≡ []) c.stop_times-rows.ensures no.1))
+          ] in
+          goes-on old before (trip_runs f s w day k) all c.if-may_run.runs.items next
+          (ap (λ (x : _). x.items) v.runs-is ∙ c.loop-trip.invariant ∙ sym (nothing-after (old ++ before)) ∙ ap (λ (xs : List Run). (old ++ before) ++ xs) none)
     ]

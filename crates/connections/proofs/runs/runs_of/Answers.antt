@@ -1,7 +1,7 @@
 use Rattle.std.proofs.Common.{◌++◌, List, length, sym, ap, ◌∙◌}
 use Rattle.connections.specs.declared.origins.ServiceDay.{ServiceDay}
 use Rattle.connections.specs.declared.runs.Run.{Run}
-use Rattle.connections.specs.Rides.{day_runs, runs_below}
+use Rattle.connections.specs.TripRuns.{day_runs, runs_below}
 use Rattle.connections.proofs.DayLemmas.{days-zero, days-next}
 use Rattle.connections.proofs.runs.runs_of.Goals as goal
 

@@ -1,0 +1,267 @@
+-- The runs of a row of frequencies that ride in a window, gathered from the last kept row to the first.
+use Rattle.std.proofs.Common.{◌≡◌, ℕ, ℤ, pos, zero, suc, ◌+◌, ◌-◌, ◌*◌, ◌<◌, ◌≤◌, ◌<ℤ◌, ◌≤ℤ◌, max, nat_lt, nat_le, Bool, true, false, List, [], ◌++◌, length, All, refl, sym, ap, ◌∙◌, subst, arith, ⊎_elim, if◌then◌else◌}
+use Rattle.std.specs.Prelude.{AllPairs}
+use Rattle.std.proofs.Math.Nat.{le-mul_of_pos_right, mul-le-mul_right, suc-mul}
+use Rattle.std.proofs.lemmas.Bool.{cases_lt}
+use Rattle.std.proofs.lemmas.Bool.Decides.{nat_tests}
+use Rattle.std.proofs.lemmas.Int.{ints, by_lt_z}
+use Rattle.std.proofs.lemmas.List.Elements.{All-nil, All-cons, All-get_or}
+use Rattle.clock_text.proofs.DigitLemmas.{and_parts}
+use Rattle.csv_rows.specs.Lists.{list_below}
+use Rattle.gtfs_tables.specs.declared.frequencies.FrequencyRow.{FrequencyRow}
+use Rattle.gtfs_tables.specs.declared.stop_times.StopRow.{StopRow}
+use Rattle.gtfs_tables.specs.Bounds.{end_of_times}
+use Rattle.gtfs_tables.specs.Frequencies.{no_frequency}
+use Rattle.gtfs_tables.specs.Repeats.{IsFrequency, AreRepeats, repeat_at}
+use Rattle.run_repeat.specs.Runs.{AreBelow, IsRun, departure}
+use Rattle.connections.specs.declared.origins.ServiceDay.{ServiceDay}
+use Rattle.connections.specs.declared.origins.Origin.{Origin}
+use Rattle.connections.specs.declared.repeats.Repeat.{Repeat}
+use Rattle.connections.specs.declared.window.Window.{Window}
+use Rattle.connections.specs.Joins.{join_below, only_if}
+use Rattle.connections.specs.Window.{holds}
+use Rattle.connections.specs.Rides.{AreDepartures, departs, rides, steps_below}
+use Rattle.connections.specs.Repeats.{run_of, origin_at, rides_by, riding_by, riding_of, in_order}
+use Rattle.connections.proofs.DateLemmas.{and_both}
+use Rattle.connections.proofs.JoinLemmas.{join-zero, join-suc, join-same, join-rest, join-on, All-join}
+use Rattle.connections.proofs.OrderLemmas.{Differ, All-in_order}
+use Rattle.connections.proofs.PairLemmas.{AllPairs-append, AllPairs-nil, AllPairs-one}
+use Rattle.connections.proofs.ReachLemmas.{rides_true}
+use Rattle.connections.proofs.StepLemmas.{holds_parts, steps-zero, length-next}
+
+pub lt_is : (a b : ℕ) → nat_lt a b ≡ true → a < b
+lt_is a b h = grind (arith, nat_tests)
+
+pub is_lt : (a b : ℕ) → a < b → nat_lt a b ≡ true
+is_lt a b h = grind (arith, nat_tests)
+
+not_lt : (a b : ℕ) → b ≤ a → nat_lt a b ≡ false
+not_lt a b h = grind (arith, nat_tests)
+
+is_le : (a b : ℕ) → a ≤ b → nat_le a b ≡ true
+is_le a b h = grind (arith, nat_tests)
+
+not_le : (a b : ℕ) → b < a → nat_le a b ≡ false
+not_le a b h = grind (arith, nat_tests)
+
+le_of : (a b : ℕ) → nat_le a b ≡ true → a ≤ b
+le_of a b h = grind (arith, nat_tests)
+
+same_bool : (a b : Bool) → (a ≡ true → b ≡ true) → (b ≡ true → a ≡ true) → a ≡ b
+same_bool true b h k = sym (h refl)
+same_bool false true h k = k refl
+same_bool false false h k = refl
+
+never : (b : Bool) → (b ≡ true → ⊥) → b ≡ false
+never true h = absurd (h refl)
+never false h = refl
+
+pub holds_in : (w : Window) (moment : ℤ) → pos w.start ≤ℤ moment → moment ≤ℤ pos w.end → holds w moment ≡ true
+holds_in w moment h k = grind (arith, ints)
+
+some_or : (w : Window) (rows : List StopRow) (o : Origin) (n : ℕ) (b : Bool) → b ≡ holds w (departs rows o n) → (0 < length (steps_below w rows o n) → (j : ℕ) × (j < n) × (holds w (departs rows o j) ≡ true))
+    → 0 < length (steps_below w rows o n) + length (only_if b n) → (j : ℕ) × (j < suc n) × (holds w (departs rows o j) ≡ true)
+some_or w rows o n true e before h = (n, omega arith, sym e)
+some_or w rows o n false e before h = let x = before (omega (arith, h)) in (x.0, omega (arith, x.1), x.2)
+
+-- a run that rides leaves some kept row in the window
+pub some_ride : (w : Window) (rows : List StopRow) (o : Origin) (n : ℕ) → 0 < length (steps_below w rows o n) → (j : ℕ) × (j < n) × (holds w (departs rows o j) ≡ true)
+some_ride w rows o zero h = absurd (omega (arith, h, ap length (steps-zero w rows o)))
+some_ride w rows o (suc n) h =
+    let e : suc n ≡ n + 1 = omega arith in
+    let size = ap (λ k. length (steps_below w rows o k)) e ∙ length-next w rows o n (holds w (departs rows o n)) refl in
+    some_or w rows o n (holds w (departs rows o n)) refl (some_ride w rows o n) (omega (arith, size, h))
+
+-- the first runs of a row that are taken
+abbrev pub taken_runs : FrequencyRow → (ℕ → Bool) → ℕ → List Repeat
+taken_runs row taken next = join_below (λ m. only_if (taken m) (run_of row m)) next
+
+-- the runs before next stay as they are, and those after it are taken from a number on
+abbrev pub more : (next from : ℕ) → (ℕ → Bool) → ℕ → Bool
+more next from taken m = if nat_lt m next then taken m else nat_le from m
+
+kept : (next from m : ℕ) (taken : ℕ → Bool) → m < next → more next from taken m ≡ taken m
+kept next from m taken h = rw (is_lt m next h) refl
+
+fresh : (next from m : ℕ) (taken : ℕ → Bool) → next ≤ m → more next from taken m ≡ nat_le from m
+fresh next from m taken h = rw (not_lt m next h) refl
+
+module _ (w : Window) (rows : List StopRow) (day : ServiceDay) (row : FrequencyRow) where
+  -- when run m leaves kept row k
+  abbrev at : (m k : ℕ) → ℤ
+  at m k = departs rows (origin_at rows day (departure row m)) k
+
+  -- how many runs leave kept row k before the window, and by its end
+  pub record AreLeaving (k from to : ℕ) : Type 0 where
+    pub before : AreBelow from (λ m. IsRun row m × (departs rows (origin_at rows day (departure row m)) k <ℤ pos w.start))
+    pub up_to : AreBelow to (λ m. IsRun row m × (departs rows (origin_at rows day (departure row m)) k ≤ℤ pos w.end))
+
+  -- which of the first runs are taken, when each kept row from k on was looked at
+  pub record AreTaken (k next : ℕ) (taken : ℕ → Bool) : Type 0 where
+    pub few : next ≤ end_of_times
+    pub sound : (m : ℕ) → m < next → taken m ≡ true → rides_by w rows day row m ≡ true
+    pub all : (m j : ℕ) → k ≤ j → j < length rows - 1 → IsRun row m → holds w (departs rows (origin_at rows day (departure row m)) j) ≡ true → (m < next) × (taken m ≡ true)
+    pub late : (m : ℕ) → m < next → pos w.start ≤ℤ departs rows (origin_at rows day (departure row m)) k → taken m ≡ true
+
+  pub none_taken : AreTaken (length rows - 1) 0 (λ m. false)
+  none_taken = record {
+    few = omega arith;
+    sound = λ m h t. absurd (omega arith);
+    all = λ m j ge h run t. absurd (omega arith);
+    late = λ m h t. absurd (omega arith);
+  }
+
+  module _ (deps : AreDepartures rows) (is : IsFrequency row) where
+    run_few : (m : ℕ) → IsRun row m → m < end_of_times
+    run_few m h = let a : m ≤ m * row.headway = le-mul_of_pos_right {m = row.headway} m (omega (arith, is.some)) in omega (arith, a, h, is.end)
+
+    pub to_few : (k from to : ℕ) → AreLeaving k from to → to ≤ end_of_times
+    to_few k from to l = ⊎_elim (λ (h : end_of_times < to). absurd (omega (arith, run_few end_of_times (l.up_to.hold end_of_times h).0))) (λ h. h) (cases_lt end_of_times to)
+
+    -- those between leave it in the window
+    pub between : (k from to m : ℕ) → AreLeaving k from to → from ≤ m → m < to → (IsRun row m) × (holds w (at m k) ≡ true)
+    between k from to m l low high =
+        let p = l.up_to.hold m high in
+        (p.0, by_lt_z (at m k) (pos w.start) (λ early. absurd (omega (arith, l.before.all m (p.0, early), low))) (λ late. holds_in w (at m k) late p.1))
+
+    -- and no others
+    pub inside : (k from to m : ℕ) → AreLeaving k from to → IsRun row m → holds w (at m k) ≡ true → (from ≤ m) × (m < to)
+    inside k from to m l run h =
+        let p = holds_parts w (at m k) h in (
+          ⊎_elim (λ (less : m < from). absurd (omega (arith, ints, (l.before.hold m less).1, p.0))) (λ ge. ge) (cases_lt m from),
+          l.up_to.all m (run, p.1),
+        )
+
+    module _ (k next from to : ℕ) (taken : ℕ → Bool) (step : k < length rows - 1) (l : AreLeaving k from to) (t : AreTaken (k + 1) next taken) where
+      later : (m : ℕ) → at m k ≤ℤ at m (k + 1)
+      later m = omega (arith, ints, deps.ordered k (k + 1) (omega arith) (omega arith))
+
+      starts : (m : ℕ) → m < max next to → pos w.start ≤ℤ at m k → more next from taken m ≡ true
+      starts m h start =
+          ⊎_elim (λ (less : m < next). kept next from m taken less ∙ t.late m less (omega (arith, ints, start, later m)))
+          (λ (ge : next ≤ m). fresh next from m taken ge ∙ is_le from m
+          (⊎_elim (λ (less : m < from). absurd (omega (arith, ints, (l.before.hold m less).1, start))) (λ le. le) (cases_lt m from)))
+          (cases_lt m next)
+
+      new_run : (m : ℕ) → next ≤ m → m < max next to → from ≤ m → rides_by w rows day row m ≡ true
+      new_run m ge h low =
+          let p = between k from to m l low (omega (arith, h, ge)) in
+          and_both _ _ (is_lt (departure row m) row.end p.0) (sym (rides_true w rows (origin_at rows day (departure row m)) k step p.1))
+
+      pub step_taken : AreTaken k (max next to) (more next from taken)
+      step_taken = record {
+        few = omega (arith, t.few, to_few k from to l);
+        sound = λ m h is_taken.
+            ⊎_elim (λ (less : m < next). t.sound m less (sym (kept next from m taken less) ∙ is_taken))
+            (λ (ge : next ≤ m). new_run m ge h (le_of from m (sym (fresh next from m taken ge) ∙ is_taken))) (cases_lt m next);
+        all = λ m j ge h run hold.
+            ⊎_elim (λ (after : k < j). let x = t.all m j (omega arith) h run hold in (omega (arith, x.0), kept next from m taken x.0 ∙ x.1))
+            (λ (here : j ≤ k).
+            let e : j ≡ k = omega arith in
+            let hold' : holds w (at m k) ≡ true = ap (λ i. holds w (at m i)) (sym e) ∙ hold in
+            let x = inside k from to m l run hold' in
+            let p = holds_parts w (at m k) hold' in
+            let few : m < max next to = omega (arith, x.1) in
+            (few, starts m few p.0)) (cases_lt k j);
+        late = starts;
+      }
+
+      pub step_list : taken_runs row (more next from taken) (max next to) ≡ taken_runs row taken next ++ list_below (λ i. run_of row (max from next + i)) (to - max from next)
+      step_list =
+          let j = max next to - next in
+          let e : next + j ≡ max next to = omega arith in
+          let size : next + j - max from next ≡ to - max from next = omega arith in
+          ap (taken_runs row (more next from taken)) (sym e)
+          ∙ join-on (λ m. only_if (taken m) (run_of row m)) (λ m. only_if (more next from taken m) (run_of row m)) (run_of row) next (max from next) j (omega arith)
+          (λ i h. ap (λ b. only_if b (run_of row i)) (kept next from i taken h))
+          (λ i ge h. ap (λ b. only_if b (run_of row i)) (fresh next from i taken ge ∙ not_le from i (omega (arith, h, ge))))
+          (λ i ge h. ap (λ b. only_if b (run_of row i)) (fresh next from i taken (omega (arith, ge)) ∙ is_le from i (omega (arith, ge))))
+          ∙ ap (λ n. taken_runs row taken next ++ list_below (λ i. run_of row (max from next + i)) n) size
+
+    -- when each was looked at, the runs that ride are taken
+    module _ (next : ℕ) (taken : ℕ → Bool) (t : AreTaken 0 next taken) where
+      found : (m : ℕ) → rides_by w rows day row m ≡ true → (m < next) × (taken m ≡ true)
+      found m h =
+          let p = and_parts (nat_lt (departure row m) row.end) (rides w rows (origin_at rows day (departure row m))) h in
+          let x = some_ride w rows (origin_at rows day (departure row m)) (length rows - 1) (lt_is 0 _ p.1) in
+          t.all m x.0 (omega arith) x.1 (lt_is (departure row m) row.end p.0) x.2
+
+      pub all_taken : taken_runs row taken next ≡ riding_by w rows day row
+      unfolding riding_by
+      all_taken =
+          let rest = end_of_times - next in
+          let e : next + rest ≡ end_of_times = omega (arith, t.few) in
+          let own : ℕ → List Repeat = λ m. only_if (rides_by w rows day row m) (run_of row m) in
+          join-same (λ m. only_if (taken m) (run_of row m)) own next
+          (λ m h. ap (λ b. only_if b (run_of row m)) (same_bool (taken m) (rides_by w rows day row m) (t.sound m h) (λ r. (found m r).1)))
+          ∙ sym (join-rest own next rest (λ m ge. ap (λ b. only_if b (run_of row m)) (never (rides_by w rows day row m) (λ r. omega (arith, (found m r).0, ge)))))
+          ∙ ap (join_below own) e
+
+one_all : (P : Repeat → Type 0) (b : Bool) (r : Repeat) → (b ≡ true → P r) → All P (only_if b r)
+one_all P true r h = All-cons P r [] (h refl) (All-nil P)
+one_all P false r h = All-nil P
+
+one_pair : (b : Bool) (r : Repeat) → AllPairs Differ (only_if b r)
+one_pair true r = AllPairs-one Differ r
+one_pair false r = AllPairs-nil Differ
+
+module _ (w : Window) (rows : List StopRow) (day : ServiceDay) where
+  -- what holds of each run of a row that rides
+  pub riding_by_all : (P : Repeat → Type 0) (row : FrequencyRow) → ((m : ℕ) → IsRun row m → rides w rows (origin_at rows day (departure row m)) ≡ true → P (run_of row m)) → All P (riding_by w rows day row)
+  unfolding riding_by
+  riding_by_all P row h = All-join P (λ m. only_if (rides_by w rows day row m) (run_of row m)) end_of_times (λ m l. one_all P (rides_by w rows day row m) (run_of row m) (λ r.
+      let p = and_parts (nat_lt (departure row m) row.end) (rides w rows (origin_at rows day (departure row m))) r in h m (lt_is (departure row m) row.end p.0) p.1))
+
+  pub riding_of_all : (P : Repeat → Type 0) (fs : List FrequencyRow) → ((i : ℕ) → i < length fs → All P (riding_by w rows day (repeat_at fs i))) → All P (riding_of w rows day fs)
+  unfolding riding_of
+  riding_of_all P fs h = All-join P (λ i. riding_by w rows day (repeat_at fs i)) (length fs) h
+
+  -- they depart on the service day, and their trip has kept rows
+  pub riding_early : (fs : List FrequencyRow) → AreRepeats fs → All (λ r. r.departure < end_of_times) (in_order (riding_of w rows day fs))
+  riding_early fs are =
+      let P : Repeat → Type 0 = λ r. r.departure < end_of_times in
+      All-in_order P (riding_of w rows day fs) (riding_of_all P fs (λ i l. riding_by_all P (repeat_at fs i) (λ m run h.
+      let is : IsFrequency (repeat_at fs i) = are.each i no_frequency.row l in omega (arith, run, is.end))))
+
+  pub riding_some : (fs : List FrequencyRow) → 0 < length (in_order (riding_of w rows day fs)) → 0 < length rows
+  riding_some fs some =
+      let P : Repeat → Type 0 = λ r. 0 < length rows in
+      let all : All P (in_order (riding_of w rows day fs)) = All-in_order P (riding_of w rows day fs) (riding_of_all P fs (λ i l. riding_by_all P (repeat_at fs i) (λ m run h.
+      let x = some_ride w rows (origin_at rows day (departure (repeat_at fs i) m)) (length rows - 1) (lt_is 0 _ h) in omega (arith, x.1)))) in
+      all 0 (record { departure = 0; line = 0 }) some
+
+  rising : (row : FrequencyRow) → 1 ≤ row.headway → (m n : ℕ) → m < n → departure row m < departure row n
+  rising row some m n h =
+      let a : suc m * row.headway ≤ n * row.headway = mul-le-mul_right row.headway (omega (arith, h)) in omega (arith, a, suc-mul m row.headway, some)
+
+  pairs_below : (row : FrequencyRow) → IsFrequency row → (n : ℕ) → AllPairs Differ (join_below (λ m. only_if (rides_by w rows day row m) (run_of row m)) n)
+  pairs_below row is zero = subst (AllPairs Differ) (sym (join-zero (λ m. only_if (rides_by w rows day row m) (run_of row m)))) (AllPairs-nil Differ)
+  pairs_below row is (suc n) =
+      let f : ℕ → List Repeat = λ m. only_if (rides_by w rows day row m) (run_of row m) in
+      let Sooner : Repeat → Type 0 = λ r. r.departure < departure row n in
+      let Here : Repeat → Type 0 = λ r. r.departure ≡ departure row n in
+      let before : All Sooner (join_below f n) = All-join Sooner f n (λ m l. one_all Sooner (rides_by w rows day row m) (run_of row m) (λ r. rising row is.some m n l)) in
+      let here : All Here (f n) = one_all Here (rides_by w rows day row n) (run_of row n) (λ r. refl) in
+      subst (AllPairs Differ) (sym (join-suc f n))
+      (AllPairs-append Differ (join_below f n) (f n) (pairs_below row is n) (one_pair (rides_by w rows day row n) (run_of row n)) (λ i j d l h e.
+      omega (arith, All-get_or Sooner (join_below f n) i d l before, All-get_or Here (f n) j d h here, ap (λ (r : Repeat). r.departure) e)))
+
+  pub riding_by_pairs : (row : FrequencyRow) → IsFrequency row → AllPairs Differ (riding_by w rows day row)
+  unfolding riding_by
+  riding_by_pairs row is = pairs_below row is end_of_times
+
+  rows_pairs : (fs : List FrequencyRow) → AreRepeats fs → (n : ℕ) → n ≤ length fs → AllPairs Differ (join_below (λ i. riding_by w rows day (repeat_at fs i)) n)
+  rows_pairs fs are zero le = subst (AllPairs Differ) (sym (join-zero (λ i. riding_by w rows day (repeat_at fs i)))) (AllPairs-nil Differ)
+  rows_pairs fs are (suc n) le =
+      let f : ℕ → List Repeat = λ i. riding_by w rows day (repeat_at fs i) in
+      let Sooner : Repeat → Type 0 = λ r. r.line < (repeat_at fs n).line in
+      let Here : Repeat → Type 0 = λ r. r.line ≡ (repeat_at fs n).line in
+      let before : All Sooner (join_below f n) = All-join Sooner f n (λ i l. riding_by_all Sooner (repeat_at fs i) (λ m run r. are.rising i n l (omega arith))) in
+      let here : All Here (f n) = riding_by_all Here (repeat_at fs n) (λ m run r. refl) in
+      subst (AllPairs Differ) (sym (join-suc f n))
+      (AllPairs-append Differ (join_below f n) (f n) (rows_pairs fs are n (omega arith)) (riding_by_pairs (repeat_at fs n) (are.each n no_frequency.row (omega arith))) (λ i j d l h e.
+      omega (arith, All-get_or Sooner (join_below f n) i d l before, All-get_or Here (f n) j d h here, ap (λ (r : Repeat). r.line) e)))
+
+  pub riding_of_pairs : (fs : List FrequencyRow) → AreRepeats fs → AllPairs Differ (riding_of w rows day fs)
+  unfolding riding_of
+  riding_of_pairs fs are = rows_pairs fs are (length fs) (omega arith)

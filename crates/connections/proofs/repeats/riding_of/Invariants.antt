@@ -1,0 +1,8 @@
+use Rattle.std.proofs.Common.{◌≡◌}
+use Rattle.gtfs_tables.specs.Repeats.{repeat_at}
+use Rattle.connections.specs.Joins.{join_below}
+use Rattle.connections.specs.Repeats.{riding_by}
+use Rattle.connections.proofs.repeats.riding_of.Given as goal
+
+abbrev pub invariant-loop-i : goal.invariant-loop-i
+invariant-loop-i l = l.repeats.items ≡ join_below (λ i. riding_by l.window l.rows l.day (repeat_at l.frequencies i)) l.i

@@ -1,0 +1,6 @@
+use Rattle.std.proofs.Common.{◌≡◌, ◌++◌, map, take}
+use Rattle.connections.specs.TripRuns.{repeat_run}
+use Rattle.connections.proofs.runs.add_repeats.Given as goal
+
+abbrev pub invariant-loop-k : goal.invariant-loop-k
+invariant-loop-k l = l.runs.items ≡ l.initial.runs.items ++ map (repeat_run l.rows l.day l.trip) (take l.k l.repeats)

@@ -1,0 +1,48 @@
+-- The runs that the rows of frequencies of a trip start on a service day (GTFS Schedule reference).
+use Rattle.std.specs.Prelude.{ℕ, pos, ◌-ℤ◌, ◌&&◌, ◌||◌, ◌==◌, nat_lt, Bool, List, [], ◌∷◌, length, if◌then◌else◌}
+use Rattle.gtfs_tables.specs.declared.frequencies.FrequencyRow.{FrequencyRow}
+use Rattle.gtfs_tables.specs.declared.stop_times.StopRow.{StopRow}
+use Rattle.gtfs_tables.specs.Bounds.{end_of_times}
+use Rattle.gtfs_tables.specs.Repeats.{repeat_at}
+use Rattle.gtfs_tables.specs.Timed.{kept_at}
+use Rattle.run_repeat.specs.Runs.{departure}
+use Rattle.connections.specs.declared.origins.ServiceDay.{ServiceDay}
+use Rattle.connections.specs.declared.origins.Origin.{Origin}
+use Rattle.connections.specs.declared.repeats.Repeat.{Repeat}
+use Rattle.connections.specs.declared.window.Window.{Window}
+use Rattle.connections.specs.Joins.{join_below, only_if}
+use Rattle.connections.specs.Rides.{rides}
+
+-- the m-th run of a row, from 0 on
+abbrev pub run_of : FrequencyRow → ℕ → Repeat
+run_of row m = record { departure = departure row m; line = row.line }
+
+-- the times of a trip with these kept rows count from where its first kept row is left at this second of the service day
+abbrev pub origin_at : List StopRow → ServiceDay → ℕ → Origin
+origin_at rows day second = record { day = day; shift = pos second -ℤ pos (kept_at rows 0).departure }
+
+-- whether the m-th run of a row is one, since it departs before the row's end, and rides in the window
+abbrev pub rides_by : Window → List StopRow → ServiceDay → FrequencyRow → ℕ → Bool
+rides_by w rows day row m = nat_lt (departure row m) row.end && rides w rows (origin_at rows day (departure row m))
+
+-- the runs of a row that ride in the window, in their order
+unfoldable pub riding_by : Window → List StopRow → ServiceDay → FrequencyRow → List Repeat
+riding_by w rows day row = join_below (λ m. only_if (rides_by w rows day row m) (run_of row m)) end_of_times
+
+-- the same of all rows, row by row
+unfoldable pub riding_of : Window → List StopRow → ServiceDay → List FrequencyRow → List Repeat
+riding_of w rows day fs = join_below (λ i. riding_by w rows day (repeat_at fs i)) (length fs)
+
+-- it departs sooner, or at the same time by an earlier line
+abbrev pub precedes : Repeat → Repeat → Bool
+precedes a b = nat_lt a.departure b.departure || (a.departure == b.departure && nat_lt a.line b.line)
+
+-- after those that precede it
+abbrev pub placed : Repeat → List Repeat → List Repeat
+placed r [] = r ∷ []
+placed r (x ∷ xs) = if precedes x r then x ∷ placed r xs else r ∷ x ∷ xs
+
+-- in the order of their departures, and where these are equal of their lines
+abbrev pub in_order : List Repeat → List Repeat
+in_order [] = []
+in_order (r ∷ rs) = placed r (in_order rs)

@@ -1,0 +1,149 @@
+//! The runs that the rows of frequencies of a trip start.
+ghost use Rattle.std.specs.Prelude.{◌≡◌, ℕ, ◌+◌, ◌-◌, ◌<◌, ◌≤◌, ◌++◌, ◌<ℤ◌, ◌≤ℤ◌, pos, length, All, OnOk, IfOk};
+ghost use Rattle.csv_rows.specs.Lists.{list_below};
+ghost use Rattle.gtfs_tables.specs.Bounds.{end_of_times};
+ghost use Rattle.gtfs_tables.specs.Repeats.{IsFrequency, AreRepeats};
+ghost use Rattle.run_repeat.specs.Runs.{AreBelow, IsRun, departure};
+ghost use Rattle.connections.specs.Window.{IsWindow};
+ghost use Rattle.connections.specs.Rides.{AreDepartures, departs};
+ghost use Rattle.connections.specs.Repeats.{run_of, origin_at, riding_by, riding_of, in_order};
+
+use crate::origins::{Origin, ServiceDay};
+use crate::window::Window;
+use gtfs_tables::{FrequencyRow, StopRow};
+use plan_model::NoMemory;
+use run_repeat::{departure, within};
+use std::alloc::Global;
+
+/// A run that a row of frequencies starts.
+#[derive(Clone, Copy, Debug, PartialEq, Eq, PartialOrd, Ord)]
+pub(crate) struct Repeat {
+    /// When it leaves the first kept row of its trip, in seconds of the service day.
+    pub(crate) departure: u32,
+    /// The line of the row.
+    pub(crate) line: u64,
+}
+
+/// The moment from which the times of a trip with these kept rows count, where it leaves the first of them at a second of
+/// the service day.
+pub(crate) fn origin_at(rows: &[StopRow], day: ServiceDay, second: u32) -> Origin
+    requires departures { AreDepartures rows.now }
+    requires some { 0 < length rows.now }
+    requires second { second < end_of_times }
+    ensures { result ≡ origin_at rows.now day second }
+{
+    Origin {
+        day,
+        shift: second as i32 - rows[0].departure as i32,
+    }
+}
+
+/// The runs of a row that leave a kept row in the window: those from the first number on, and below the second.
+pub(crate) fn leaving(
+    rows: &[StopRow],
+    step: usize,
+    row: &FrequencyRow,
+    day: ServiceDay,
+    window: Window,
+) -> (u32, u32)
+    requires window { IsWindow window }
+    requires departures { AreDepartures rows.now }
+    requires step { step < length rows.now }
+    requires row { IsFrequency row.now }
+    ensures before { AreBelow result.0 (λ m. IsRun row.now m
+        × (departs rows.now (origin_at rows.now day (departure row.now m)) step <ℤ pos window.start)) }
+    ensures up_to { AreBelow result.1 (λ m. IsRun row.now m
+        × (departs rows.now (origin_at rows.now day (departure row.now m)) step ≤ℤ pos window.end)) }
+{
+    let begin = Origin::of_day(day).plus(0);
+    let offset = rows[step].departure - rows[0].departure;
+    within(
+        row,
+        offset,
+        window.start as i64 - begin,
+        window.end as i64 - begin,
+    )
+}
+
+/// Adds the runs of a row from one number on to another.
+fn add_between(
+    repeats: &mut Vec<Repeat>,
+    row: &FrequencyRow,
+    from: u32,
+    to: u32,
+) -> Result<(), NoMemory>
+    requires { (m : ℕ) → m < to → IsRun row.now m }
+    ensures { OnOk result (repeats.new.items
+        ≡ repeats.old.items ++ list_below (λ i. run_of row.now (from + i)) (to - from)) }
+{
+    for m in from..to {
+        repeats.push(Repeat {
+            departure: departure(row, m),
+            line: row.line,
+        })?;
+    }
+    Ok(())
+}
+
+/// Adds the runs of a row that ride in the window, in their order: the later a kept row is left, the sooner run is the first
+/// to leave it in the window.
+fn add_riding(
+    repeats: &mut Vec<Repeat>,
+    rows: &[StopRow],
+    row: &FrequencyRow,
+    day: ServiceDay,
+    window: Window,
+) -> Result<(), NoMemory>
+    requires window { IsWindow window }
+    requires departures { AreDepartures rows.now }
+    requires row { IsFrequency row.now }
+    ensures { OnOk result (repeats.new.items
+        ≡ repeats.old.items ++ riding_by window rows.now day row.now) }
+{
+    let mut next = 0;
+    for step in (0..rows.len().saturating_sub(1)).rev() {
+        let (from, to) = leaving(rows, step, row, day, window);
+        add_between(repeats, row, from.max(next), to)?;
+        next = next.max(to);
+    }
+    Ok(())
+}
+
+/// The runs of these rows that ride in the window, row by row.
+fn riding_of(
+    alloc: Global,
+    rows: &[StopRow],
+    frequencies: &[FrequencyRow],
+    day: ServiceDay,
+    window: Window,
+) -> Result<Vec<Repeat>, NoMemory>
+    requires window { IsWindow window }
+    requires departures { AreDepartures rows.now }
+    requires repeats { AreRepeats frequencies.now }
+    ensures { IfOk result (λ found. found.items ≡ riding_of window rows.now day frequencies.now) }
+{
+    let mut repeats: Vec<Repeat> = Vec::new(alloc);
+    for i in 0..frequencies.len() {
+        add_riding(&mut repeats, rows, &frequencies[i], day, window)?;
+    }
+    Ok(repeats)
+}
+
+/// The runs of these rows that ride in the window, by departure and then by line.
+pub(crate) fn repeats_of(
+    alloc: Global,
+    rows: &[StopRow],
+    frequencies: &[FrequencyRow],
+    day: ServiceDay,
+    window: Window,
+) -> Result<Vec<Repeat>, NoMemory>
+    requires window { IsWindow window }
+    requires departures { AreDepartures rows.now }
+    requires repeats { AreRepeats frequencies.now }
+    ensures { IfOk result (λ found. found.items
+        ≡ in_order (riding_of window rows.now day frequencies.now)) }
+{
+    let mut repeats = riding_of(alloc, rows, frequencies, day, window)?;
+    repeats.sort_unstable();
+    Ok(repeats)
+}
