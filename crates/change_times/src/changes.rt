@@ -22,7 +22,7 @@ use crate::transfers::{
 use csv_rows::{FeedFault, Limits, Loaded, Rows, Table, read_table};
 use file_ports::Files;
 use gtfs_tables::Feed;
-use plan_model::{List, NoMemory, PlaceId, Way};
+use plan_model::{HashKey, List, NoMemory, PlaceId, Way};
 use std::alloc::Global;
 use std::collections::HashMap;
 use std::marker::Model;
@@ -30,7 +30,7 @@ use std::marker::Model;
 /// The change times of the places of a feed, and the links between them.
 #[derive(Drop)]
 pub struct Changes {
-    seconds: HashMap<u32, u32>,
+    seconds: HashMap<u32, u32, HashKey>,
     links: Vec<Ways>,
     passed: u64,
 }
@@ -50,13 +50,13 @@ impl Model for Changes {
 /// What rows tell: the change times of places, the walks from each place, and how many tell neither.
 #[derive(Drop)]
 pub(crate) struct Told {
-    seconds: HashMap<u32, u32>,
+    seconds: HashMap<u32, u32, HashKey>,
     walks: Vec<List<Walk>>,
     passed: u64,
 }
 
 /// Notes a transfer that stays at its place: its seconds, where the place has no greater ones.
-fn note_change(seconds: &mut HashMap<u32, u32>, transfer: Transfer) -> Result<(), NoMemory>
+fn note_change(seconds: &mut HashMap<u32, u32, HashKey>, transfer: Transfer) -> Result<(), NoMemory>
     requires { transfer.from ≡ transfer.to }
     ensures { OnOk result ((place : ℕ) → get nat_eq seconds.new place
         ≡ greater (get nat_eq seconds.old place) (seconds_between place place (Some transfer))) }
@@ -69,14 +69,14 @@ fn note_change(seconds: &mut HashMap<u32, u32>, transfer: Transfer) -> Result<()
     Ok(())
 }
 
-/// What no rows tell, over so many places.
-fn nothing_told(alloc: Global, places: u32) -> Result<Told, NoMemory>
+/// What no rows tell, over so many places, which will be hashed by a key.
+fn nothing_told(alloc: Global, places: u32, key: HashKey) -> Result<Told, NoMemory>
     ensures { IfOk result (λ told. (feed : FeedParts) → (t : Records) → length feed.stop_ids ≡ places
         → AreTold feed t 0 told) }
 {
     let walks = no_walks(alloc, places)?;
     Ok(Told {
-        seconds: HashMap::new(alloc),
+        seconds: HashMap::with_hasher(alloc, key),
         walks,
         passed: 0,
     })
@@ -146,7 +146,7 @@ fn read_rows(
     ensures content { IfErr result (λ f. unread_of f ≡ None) }
     ensures own { IfErr result (IsFaultOf TransfersTable) }
 {
-    let nothing = nothing_told(alloc, feed.stop_count())?;
+    let nothing = nothing_told(alloc, feed.stop_count(), rows.key())?;
     let told = tell(nothing, feed, rows, columns)?;
     let links = links_of(alloc, told.walks.as_slice())?;
     Ok(Changes {
@@ -179,7 +179,7 @@ fn no_changes(alloc: Global) -> Changes
     ensures links { (places : ℕ) → LinksComeFrom places result }
 {
     Changes {
-        seconds: HashMap::new(alloc),
+        seconds: HashMap::with_hasher(alloc, HashKey::fixed()),
         links: Vec::new(alloc),
         passed: 0,
     }

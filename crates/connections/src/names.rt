@@ -88,7 +88,7 @@ pub(crate) fn names_of(alloc: Global, feed: &Feed, runs: &[Run]) -> Result<Names
     ensures places { IfOk result (λ names. names.places ≡ feed.now.stop_ids) }
     ensures runs { IfOk result (λ names. AreRunNames feed.now runs.now (length runs.now) names.runs) }
 {
-    let mut names = Names::new(alloc);
+    let mut names = Names::with_key(alloc, feed.hash_key());
     add_places(&mut names, feed)?;
     add_runs(alloc, &mut names, feed, runs)?;
     Ok(names)

@@ -13,14 +13,14 @@ use crate::feed_tables::{FeedFault, Table};
 use crate::names::read_name;
 use crate::rows::Rows;
 use indexmap::IndexSet;
-use plan_model::NoMemory;
+use plan_model::{HashKey, NoMemory};
 use std::alloc::Global;
 use std::marker::Model;
 
 /// Distinct ids, of which each has its place as its number. None begins or ends with a space.
 #[derive(Drop)]
 pub struct Ids {
-    ids: IndexSet<String>,
+    ids: IndexSet<String, HashKey>,
 }
 
 impl Model for Ids {
@@ -36,13 +36,18 @@ impl Model for Ids {
 }
 
 impl Ids {
-    /// No ids.
-    pub fn new(alloc: Global) -> Ids
+    /// No ids, which will be hashed by a key.
+    pub fn with_key(alloc: Global, key: HashKey) -> Ids
         ensures { result ≡ [] }
     {
         Ids {
-            ids: IndexSet::new(alloc),
+            ids: IndexSet::with_hasher(alloc, key),
         }
+    }
+
+    /// The key by which they are hashed.
+    pub fn key(&self) -> HashKey {
+        *self.ids.hasher()
     }
 
     /// Adds an id at the end, and says whether it is new.
@@ -118,7 +123,7 @@ pub fn read_ids(
     ensures content { IfErr result (λ f. unread_of f ≡ None) }
     ensures own { IfErr result (IsFaultOf table) }
 {
-    let mut ids = Ids::new(alloc);
+    let mut ids = Ids::with_key(alloc, rows.key());
     for i in 0..rows.count() {
         match ids.add(alloc, name_at(rows, i, column)) {
             Err(_) => return Err(FeedFault::NoMemory),

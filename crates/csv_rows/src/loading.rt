@@ -10,7 +10,7 @@ use crate::feed_tables::{FeedFault, Table};
 use crate::limits::Limits;
 use crate::rows::{Rows, RowsFault};
 use file_ports::{Files, LoadFault, load};
-use plan_model::NoMemory;
+use plan_model::{HashKey, NoMemory};
 use std::alloc::Global;
 
 /// What a folder holds of a table.
@@ -35,8 +35,14 @@ fn path_of(alloc: Global, folder: &str, table: Table) -> Result<String, NoMemory
     }
 }
 
-/// The records of a table, at most so many after the header.
-fn records_of(alloc: Global, bytes: &[u8], table: Table, most: u64) -> Result<Loaded, FeedFault>
+/// The records of a table, at most so many after the header, with a key for their ids.
+fn records_of(
+    alloc: Global,
+    bytes: &[u8],
+    table: Table,
+    most: u64,
+    key: HashKey,
+) -> Result<Loaded, FeedFault>
     ensures loaded { IfOk result (λ l. loaded_from table most (table_of bytes.now) ≡ Ok l) }
     ensures fault { IfErr result (λ f. f ≢ FeedFault.NoMemory
         → loaded_from table most (table_of bytes.now) ≡ Err f) }
@@ -51,7 +57,7 @@ fn records_of(alloc: Global, bytes: &[u8], table: Table, most: u64) -> Result<Lo
             if most < count {
                 Err(FeedFault::TooManyRows(table, count))
             } else {
-                Ok(Loaded::Found(rows))
+                Ok(Loaded::Found(rows.with_key(key)))
             }
         }
         Err(RowsFault::NoHeader) => Ok(Loaded::NoRecord),
@@ -89,7 +95,13 @@ pub fn read_table<F: Files>(
     };
     match load(alloc, files, path.as_str(), limits.bytes) {
         Ok(None) => Ok(Loaded::Absent),
-        Ok(Some(bytes)) => records_of(alloc, bytes.as_slice(), table, limits.rows_of(table)),
+        Ok(Some(bytes)) => records_of(
+            alloc,
+            bytes.as_slice(),
+            table,
+            limits.rows_of(table),
+            files.hash_key(),
+        ),
         Err(LoadFault::Read) => Err(FeedFault::Read(table)),
         Err(LoadFault::TooLong) => Err(FeedFault::TooLong(table)),
         Err(LoadFault::NoMemory) => Err(FeedFault::NoMemory),

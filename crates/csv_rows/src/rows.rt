@@ -9,7 +9,7 @@ use crate::columns::Column;
 use crate::fields::{Fields, start_of};
 use crate::spaces::trimmed;
 use csv::{ByteRecord, ReaderBuilder};
-use plan_model::NoMemory;
+use plan_model::{HashKey, NoMemory};
 use std::alloc::{AllocError, Global};
 use std::marker::Model;
 
@@ -18,6 +18,7 @@ use std::marker::Model;
 pub struct Rows {
     fields: Fields,
     ends: Vec<u32>,
+    key: HashKey,
 }
 
 impl Model for Rows {
@@ -86,7 +87,8 @@ fn finished(fields: Fields, ends: Vec<u32>) -> Result<Rows, RowsFault>
     if ends.as_slice().is_empty() {
         return Err(RowsFault::NoHeader);
     }
-    Ok(Rows { fields, ends })
+    let key = HashKey::fixed();
+    Ok(Rows { fields, ends, key })
 }
 
 /// Why a text is no table.
@@ -136,6 +138,18 @@ impl Rows {
             }
         }
         Err(RowsFault::NoMemory)
+    }
+
+    /// The same rows, with a key by which their ids are hashed.
+    pub fn with_key(self, key: HashKey) -> Rows
+        ensures { result ≡ self }
+    {
+        Rows { key, ..self }
+    }
+
+    /// The key by which their ids are hashed: a fixed one, where no other was given.
+    pub fn key(&self) -> HashKey {
+        self.key
     }
 
     /// How many records there are after the header.

@@ -3,6 +3,7 @@ ghost use Rattle.csv_rows.specs.Names.{name_in};
 ghost use Rattle.csv_rows.specs.Tables.{row_count, field_at};
 
 use super::*;
+use plan_model::HashKey;
 use std::alloc::Global;
 use std::test::Fail;
 
@@ -95,7 +96,7 @@ fn tells_a_column_that_is_lacking(rt: HostRuntime) {
 
 #[test]
 fn numbers_ids(rt: HostRuntime) -> Result<(), Fail> {
-    let mut ids = Ids::new(rt.alloc());
+    let mut ids = Ids::with_key(rt.alloc(), HashKey::new(3, 5));
     assert!(rt; ids.add(rt.alloc(), "b")?);
     assert!(rt; ids.add(rt.alloc(), "a")?);
     assert!(rt; !ids.add(rt.alloc(), "b")?);

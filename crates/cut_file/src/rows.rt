@@ -179,7 +179,7 @@ pub(crate) fn read_rows(
     ensures err { IfErr result (λ f. f ≢ CutFault.NoMemory
         → first_below (bad_field rows.now) (row_count rows.now) ≡ Some f) }
 {
-    let mut names = Names::new(alloc);
+    let mut names = Names::with_key(alloc, rows.key());
     let mut cut: Vec<CutRow> = Vec::new(alloc);
     for i in 0..rows.count() {
         match read_row(rows, i, columns) {

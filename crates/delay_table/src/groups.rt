@@ -8,7 +8,7 @@ ghost use Rattle.delay_table.specs.Groups.{group_in, is_plain, place_of, plain_t
 
 use csv_rows::Ids;
 use indexmap::IndexSet;
-use plan_model::NoMemory;
+use plan_model::{HashKey, NoMemory};
 use std::alloc::Global;
 use std::marker::Model;
 
@@ -54,7 +54,7 @@ fn add_route(alloc: Global, routes: &mut Ids, route: Option<&str>) -> Result<Opt
 }
 
 /// The place of a group by the number of its route, if it is there.
-fn numbered_place(groups: &IndexSet<NumberedGroup>, group: &NumberedGroup) -> Option<usize>
+fn numbered_place(groups: &IndexSet<NumberedGroup, HashKey>, group: &NumberedGroup) -> Option<usize>
     ensures place { result ≡ position (same_numbered group.now) groups.now.keys }
     ensures found { is_some result ≡ list_any (same_numbered group.now) groups.now.keys }
 {
@@ -62,7 +62,10 @@ fn numbered_place(groups: &IndexSet<NumberedGroup>, group: &NumberedGroup) -> Op
 }
 
 /// Adds a group that is new.
-fn insert(groups: &mut IndexSet<NumberedGroup>, group: NumberedGroup) -> Result<(), NoMemory>
+fn insert(
+    groups: &mut IndexSet<NumberedGroup, HashKey>,
+    group: NumberedGroup,
+) -> Result<(), NoMemory>
     requires { list_any (same_numbered group) groups.old.keys ≡ false }
     ensures ok { OnOk result (groups.new.keys ≡ groups.old.keys ++ group ∷ []) }
     ensures err { OnErr result (groups.new.keys ≡ groups.old.keys) }
@@ -72,7 +75,7 @@ fn insert(groups: &mut IndexSet<NumberedGroup>, group: NumberedGroup) -> Result<
 }
 
 /// The group at a place.
-fn numbered_at(groups: &IndexSet<NumberedGroup>, place: usize) -> NumberedGroup
+fn numbered_at(groups: &IndexSet<NumberedGroup, HashKey>, place: usize) -> NumberedGroup
     requires { place < length groups.now.keys }
     ensures { result ≡ slice_index_or groups.now.keys place no_group }
 {
@@ -97,7 +100,7 @@ fn route_of(routes: &Ids, number: Option<u32>) -> Option<&str>
 #[derive(Drop)]
 pub(crate) struct Groups {
     routes: Ids,
-    groups: IndexSet<NumberedGroup>,
+    groups: IndexSet<NumberedGroup, HashKey>,
 }
 
 impl Model for Groups {
@@ -114,14 +117,19 @@ impl Model for Groups {
 }
 
 impl Groups {
-    /// No groups.
-    pub(crate) fn new(alloc: Global) -> Groups
+    /// No groups, which will be hashed by a key.
+    pub(crate) fn with_key(alloc: Global, key: HashKey) -> Groups
         ensures { result ≡ [] }
     {
         Groups {
-            routes: Ids::new(alloc),
-            groups: IndexSet::new(alloc),
+            routes: Ids::with_key(alloc, key),
+            groups: IndexSet::with_hasher(alloc, key),
         }
+    }
+
+    /// The key by which they are hashed.
+    pub(crate) fn key(&self) -> HashKey {
+        self.routes.key()
     }
 
     /// How many there are.

@@ -188,7 +188,7 @@ pub(crate) fn read_rows(
         → first_below (line_fault rows.now) (row_count rows.now) ≡ Some f) }
 {
     let mut read = ReadRows {
-        groups: Groups::new(alloc),
+        groups: Groups::with_key(alloc, rows.key()),
         rows: Vec::new(alloc),
     };
     for i in 0..rows.count() {

@@ -123,7 +123,7 @@ fn delays_in(alloc: Global, read: &ReadRows, types: Vec<u16>) -> Result<DelayTab
     ensures size { OnOk result (length (delays_in (rows_of read.now.groups read.now.rows.items)
         read.now.groups).classes ≡ length read.now.groups) }
 {
-    let mut others = Groups::new(alloc);
+    let mut others = Groups::with_key(alloc, read.groups.key());
     let mut classes: List<List<Outcome>> = List::new(alloc);
     let default = copied(alloc, read.class_rows(None))?;
     classes.push(default)?;

@@ -3,7 +3,9 @@
 ghost use Rattle.std.specs.Prelude.{◌≡◌, None};
 
 use crate::ports::{Failed, Files, Presence, Sink};
+use plan_model::HashKey;
 use std::io::{ErrorKind, Read, Write};
+use std::random::RandomSource;
 use std::{fs, rt};
 
 /// The host's files. Only a path that the system does not find is absent: every other error is a fault, one for a
@@ -13,18 +15,31 @@ pub struct HostFiles<R: rt::Files> {
     rt: R,
     file: Option<R::File>,
     faults: u64,
+    key: HashKey,
 }
 
-impl<R: rt::Files> HostFiles<R> {
-    /// No file is in hand, and nothing has failed. It takes no memory.
+/// A key of what the system draws, and the fixed one where it draws nothing.
+fn draw_key(source: &impl RandomSource) -> HashKey {
+    let mut bytes = [0; 16];
+    if source.fill_bytes(&mut bytes).is_err() {
+        return HashKey::fixed();
+    }
+    let drawn = u128::from_le_bytes(bytes);
+    HashKey::new((drawn & 0xFFFF_FFFF_FFFF_FFFF) as u64, (drawn >> 64) as u64)
+}
+
+impl<R: rt::Files + RandomSource> HostFiles<R> {
+    /// No file is in hand, and nothing has failed. The key of its hashes is drawn anew in each call. It takes no memory.
     pub fn new(rt: R) -> HostFiles<R>
         ensures hand { ⟦<HostFiles<R> as Files>⟧.in_hand result ≡ None }
         ensures faults { ⟦<HostFiles<R> as Files>⟧.faults result ≡ 0 }
     {
+        let key = draw_key(&rt);
         HostFiles {
             rt,
             file: None,
             faults: 0,
+            key,
         }
     }
 }
@@ -70,6 +85,10 @@ impl<R: rt::Files> Files for HostFiles<R> {
                 Err(Failed)
             }
         }
+    }
+
+    fn hash_key(&self) -> HashKey {
+        self.key
     }
 }
 

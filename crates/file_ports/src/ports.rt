@@ -5,6 +5,8 @@ ghost use Rattle.std.specs.Io.KnownBytes.{ReadConsumes, WriteAppends};
 ghost use Rattle.file_ports.specs.Counts.{HasCause, HasPathCause};
 ghost use Rattle.file_ports.specs.Ports.{Folder, Opens, TakesInHand};
 
+use plan_model::HashKey;
+
 /// Whether a path has a file.
 #[derive(Clone, Copy, Debug, PartialEq, Eq)]
 pub enum Presence {
@@ -55,6 +57,11 @@ pub trait Files {
         ensures cause { HasCause (faults self.old) (faults self.new) result }
         ensures path_cause { IfSome (in_hand self.old) (λ path.
             HasPathCause (IsSome (files self.old)) path (faults_of self.old) (faults_of self.new) result) };
+
+    /// The key by which ids that come from these files are hashed. It is one that nobody knows where the host draws it.
+    fn hash_key(&self) -> HashKey {
+        HashKey::fixed()
+    }
 }
 
 /// Something that takes bytes.

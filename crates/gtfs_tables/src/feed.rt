@@ -10,7 +10,7 @@ use crate::tables::{load_frequencies, load_routes, load_stop_times, load_stops, 
 use crate::trips::Trips;
 use csv_rows::{FeedFault, Limits};
 use file_ports::Files;
-use plan_model::PlaceId;
+use plan_model::{HashKey, PlaceId};
 use std::alloc::Global;
 use std::marker::Model;
 
@@ -106,6 +106,11 @@ impl Feed {
         ensures sound { IsSoundFeed self.now }
     {
         self.stops.ids.len()
+    }
+
+    /// The key by which the ids of the stops are hashed.
+    pub fn hash_key(&self) -> HashKey {
+        self.stops.ids.key()
     }
 
     /// The id of a stop.

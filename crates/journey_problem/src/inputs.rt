@@ -75,7 +75,7 @@ fn load_rows<F: Files>(
     match load_bytes(alloc, files, path, input, limits) {
         Err(fault) => Err(fault),
         Ok(bytes) => match Rows::read(alloc, bytes.as_slice()) {
-            Ok(rows) => Ok(rows),
+            Ok(rows) => Ok(rows.with_key(files.hash_key())),
             Err(RowsFault::NoHeader) => Err(headless),
             Err(RowsFault::NoMemory) => Err(Fault::NoMemory),
         },

@@ -13,7 +13,7 @@ ghost use Rattle.service_days.specs.Numbered.{AddsDate, AreNumbered};
 use crate::dates::{DateColumns, ServiceDate, date_columns, missing_column, read_exception};
 use csv_rows::{FeedFault, Ids, Rows};
 use indexmap::IndexSet;
-use plan_model::NoMemory;
+use plan_model::{HashKey, NoMemory};
 use std::alloc::Global;
 
 /// A day that is added to a service or removed, by the number of the service.
@@ -28,18 +28,21 @@ pub(crate) struct Exception {
 #[derive(Drop)]
 pub(crate) struct Numbered {
     pub(crate) ids: Ids,
-    pub(crate) exceptions: IndexSet<Exception>,
+    pub(crate) exceptions: IndexSet<Exception, HashKey>,
 }
 
 /// Whether there is this exception.
-pub(crate) fn has(exceptions: &IndexSet<Exception>, exception: &Exception) -> bool
+pub(crate) fn has(exceptions: &IndexSet<Exception, HashKey>, exception: &Exception) -> bool
     ensures { result ≡ has exceptions.now.keys exception.now }
 {
     exceptions.contains(exception)
 }
 
 /// Adds an exception.
-fn insert(exceptions: &mut IndexSet<Exception>, exception: Exception) -> Result<(), NoMemory>
+fn insert(
+    exceptions: &mut IndexSet<Exception, HashKey>,
+    exception: Exception,
+) -> Result<(), NoMemory>
     ensures { OnOk result ((e : Exception) → has exceptions.new.keys e
         ≡ (same exception e || has exceptions.old.keys e)) }
 {
@@ -65,7 +68,7 @@ fn number_of(alloc: Global, ids: &mut Ids, service: &str) -> Result<u32, NoMemor
 fn add(
     alloc: Global,
     ids: &mut Ids,
-    exceptions: &mut IndexSet<Exception>,
+    exceptions: &mut IndexSet<Exception, HashKey>,
     row: ServiceDate<'_>,
 ) -> Result<(), NoMemory>
     requires room { length ids.old < 2 ^ 32 - 1 }
@@ -103,7 +106,7 @@ fn read_rows(
 {
     let mut numbered = Numbered {
         ids,
-        exceptions: IndexSet::new(alloc),
+        exceptions: IndexSet::with_hasher(alloc, rows.key()),
     };
     for i in 0..rows.count() {
         let row = read_exception(rows, columns, i)?;

@@ -13,7 +13,7 @@ use crate::tables::{LoadedCalendar, load_calendar, load_dates};
 use csv_rows::{FeedFault, Ids, Limits, Table};
 use file_ports::Files;
 use indexmap::IndexSet;
-use plan_model::{List, NoMemory};
+use plan_model::{HashKey, List, NoMemory};
 use std::alloc::Global;
 use std::marker::Model;
 
@@ -22,7 +22,7 @@ use std::marker::Model;
 pub struct Services {
     ids: Ids,
     periods: Vec<Period>,
-    exceptions: IndexSet<Exception>,
+    exceptions: IndexSet<Exception, HashKey>,
 }
 
 impl Model for Services {

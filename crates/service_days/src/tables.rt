@@ -14,6 +14,7 @@ use crate::periods::{Calendar, read_calendar};
 use csv_rows::{FeedFault, Ids, Limits, Loaded, Table, read_table};
 use file_ports::Files;
 use indexmap::IndexSet;
+use plan_model::HashKey;
 use std::alloc::Global;
 
 /// The calendar, and whether its table is absent.
@@ -40,15 +41,15 @@ fn is_missing(loaded: &Loaded) -> bool
     }
 }
 
-/// A calendar of no rows.
-fn no_calendar(alloc: Global) -> Calendar
+/// A calendar of no rows, whose services will be hashed by a key.
+fn no_calendar(alloc: Global, key: HashKey) -> Calendar
     ensures ids { result.ids ≡ service_ids [] }
     ensures periods { result.periods.items ≡ periods_of [] }
     ensures distinct { AreDistinctRows [] }
     ensures few { length result.ids ≤ 2 ^ 20 }
 {
     Calendar {
-        ids: Ids::new(alloc),
+        ids: Ids::with_key(alloc, key),
         periods: Vec::new(alloc),
     }
 }
@@ -59,12 +60,12 @@ fn no_exceptions(alloc: Global, ids: Ids) -> Numbered
 {
     Numbered {
         ids,
-        exceptions: IndexSet::new(alloc),
+        exceptions: IndexSet::with_hasher(alloc, HashKey::fixed()),
     }
 }
 
-/// The calendar of what is loaded.
-fn calendar_of(alloc: Global, loaded: &Loaded) -> Result<Calendar, FeedFault>
+/// The calendar of what is loaded, with a key for the services where it has no rows.
+fn calendar_of(alloc: Global, loaded: &Loaded, key: HashKey) -> Result<Calendar, FeedFault>
     requires { HasAtMost (2 ^ 20) loaded.now }
     ensures ids { IfOk result (λ c. c.ids ≡ service_ids (loaded_rows loaded.now)) }
     ensures periods { IfOk result (λ c. c.periods.items ≡ periods_of (loaded_rows loaded.now)) }
@@ -77,8 +78,8 @@ fn calendar_of(alloc: Global, loaded: &Loaded) -> Result<Calendar, FeedFault>
 {
     match loaded {
         Loaded::Found(rows) => read_calendar(alloc, rows),
-        Loaded::Absent => Ok(no_calendar(alloc)),
-        Loaded::NoRecord => Ok(no_calendar(alloc)),
+        Loaded::Absent => Ok(no_calendar(alloc, key)),
+        Loaded::NoRecord => Ok(no_calendar(alloc, key)),
     }
 }
 
@@ -122,7 +123,7 @@ pub(crate) fn load_calendar<F: Files>(
 {
     let loaded = read_table(alloc, files, folder, Table::Calendar, limits)?;
     let missing = is_missing(&loaded);
-    let calendar = calendar_of(alloc, &loaded)?;
+    let calendar = calendar_of(alloc, &loaded, files.hash_key())?;
     Ok(LoadedCalendar { missing, calendar })
 }
 

@@ -1,4 +1,4 @@
-use Rattle.std.proofs.Common.{◌≡◌, ◌+◌, None, refl, is_none, nat_eq, sym, ap, ◌∙◌, arith}
+use Rattle.std.proofs.Common.{◌≡◌, ◌+◌, None, ℕ, refl, is_none, nat_eq, sym, ap, ◌∙◌, subst, arith}
 use Rattle.std.specs.HashMap.{get}
 use Rattle.csv_rows.proofs.FaultLemmas.{if_raised}
 use Rattle.csv_rows.specs.RowFaults.{fault_in, value_or}
@@ -7,6 +7,7 @@ use Rattle.csv_rows.proofs.FirstLemmas.{first-zero, first-next, first-at}
 use Rattle.change_times.specs.Transfers.{bad_transfer, told_by}
 use Rattle.change_times.specs.Walks.{seconds_between, link_between, walks_of, most_to}
 use Rattle.change_times.specs.Changes.{greatest_link}
+use Rattle.change_times.specs.Told.{AreTold}
 use Rattle.change_times.proofs.ChangeLemmas.{transfer_is, count-next, one_at_most, short_between, short_link}
 use Rattle.change_times.proofs.GreatestLemmas.{greatest-next, short_next}
 use Rattle.change_times.proofs.changes.tell.Goals as goal
@@ -20,6 +21,11 @@ returns-in_err-transfer-clause-fault c = if_raised _ c.from_residual.result c.fr
     let t = c.args.rows.now in
     first-at (bad_transfer feed t) c.loop-i.i (row_count t) _ (omega arith) c.loop-i.invariant.none
     (ap fault_in (transfer_is feed t c.args.columns c.loop-i.i _ c.requires.columns c.in_err-transfer.ensures.fault)))
+
+pub returns-clause-told : goal.returns-clause-told
+returns-clause-told c =
+    let end : c.loop-i.i ≡ row_count c.args.rows.now = omega (arith, c.loop-i-test.false, c.loop-i.auto.i-end, c.count-i-end.ensures.count) in
+    subst (λ n. AreTold c.args.feed.now c.args.rows.now n c.loop-i.told) end c.loop-i.invariant.told
 
 pub loop-i-preserved : goal.loop-i-preserved
 loop-i-preserved c =

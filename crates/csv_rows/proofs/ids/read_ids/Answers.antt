@@ -12,7 +12,7 @@ use Rattle.csv_rows.proofs.ids.read_ids.Goals as goal
 pub loop-i-init : goal.loop-i-init
 loop-i-init c =
     let id = field_at c.args.rows.now c.args.column in
-    record { ids = c.new-ids.ensures ∙ sym (list_below-zero id); none = first-zero (repeated_id c.args.table id) }
+    record { ids = c.with_key-ids.ensures ∙ sym (list_below-zero id); none = first-zero (repeated_id c.args.table id) }
 
 pub add-requires-clause-room : goal.add-requires-clause-room
 add-requires-clause-room c =

@@ -16,10 +16,10 @@ loop-i-init c =
       none = first-zero (bad_field t);
       size = ap length c.new-cut.ensures.items;
       each = λ k d l. absurd (omega arith);
-      runs = c.new-names.ensures.runs ∙ sym (run_names-zero t);
-      places = c.new-names.ensures.places ∙ sym (place_names-zero t);
-      few_runs = omega (arith, ap length c.new-names.ensures.runs);
-      few_places = omega (arith, ap length c.new-names.ensures.places);
+      runs = c.with_key-names.ensures.runs ∙ sym (run_names-zero t);
+      places = c.with_key-names.ensures.places ∙ sym (place_names-zero t);
+      few_runs = omega (arith, ap length c.with_key-names.ensures.runs);
+      few_places = omega (arith, ap length c.with_key-names.ensures.places);
     }
 
 pub returns-in-Err-clause-err : goal.returns-in-Err-clause-err

@@ -10,7 +10,7 @@ use Rattle.delay_table.proofs.reading.read_rows.Goals as goal
 
 pub loop-i-init : goal.loop-i-init
 loop-i-init c =
-    (first-zero (line_fault c.args.rows.now), read-nothing c.args.rows.now c.new.result c.new-2.result.items c.new.ensures c.new-2.ensures.items)
+    (first-zero (line_fault c.args.rows.now), read-nothing c.args.rows.now c.with_key.result c.new.result.items c.with_key.ensures c.new.ensures.items)
 
 pub returns-in_default-clause-err : goal.returns-in_default-clause-err
 returns-in_default-clause-err c = λ free.

@@ -14,7 +14,7 @@ loop-i-init c =
     let t = c.args.rows.now in
     record {
       none = first-zero (bad_date t);
-      numbered = numbered_none t c.args.ids c.new.result.keys c.new.ensures.empty;
+      numbered = numbered_none t c.args.ids c.with_hasher.result.keys c.with_hasher.ensures.empty;
       room = omega arith;
       few = omega arith;
     }

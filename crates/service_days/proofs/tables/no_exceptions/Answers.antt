@@ -3,4 +3,4 @@ use Rattle.service_days.proofs.NumberLemmas.{numbered_none}
 use Rattle.service_days.proofs.tables.no_exceptions.Goals as goal
 
 pub returns : goal.returns
-returns c = numbered_none [] c.args.ids c.new.result.keys c.new.ensures.empty
+returns c = numbered_none [] c.args.ids c.with_hasher.result.keys c.with_hasher.ensures.empty
