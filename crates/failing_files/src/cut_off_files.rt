@@ -177,6 +177,13 @@ fn lengths_of_the_cut(rt: HostRuntime) -> Result<(), Fail> {
     Ok(())
 }
 
+#[test]
+fn lengths_of_the_proof(rt: HostRuntime) -> Result<(), Fail> {
+    let cases = all_lengths(&rt, rt.alloc(), CHECK, PROOF, &[14])?;
+    println!(rt; "proof file: {cases} lengths")?;
+    Ok(())
+}
+
 /// Cuts the graph off at some of its lengths. It takes several tests.
 fn graph_part(rt: &impl Abort, alloc: Global, from: usize, to: usize) -> Result<(), Fail> {
     lengths_in(rt, alloc, REPLAY, GRAPH, from, to, &[10, 11])
@@ -233,6 +240,7 @@ fn empty_files(rt: HostRuntime) -> Result<(), Fail> {
         (REPLAY, GRAPH, 10, "meat: graph file line 1: bad row\n"),
         (SAFE, CUT, 3, "meat: cut file has no column run\n"),
         (SAFE, DELAYS, 4, "meat: delay file has no column class\n"),
+        (CHECK, PROOF, 14, "meat: proof file line 1: bad row\n"),
     ] {
         is_refused_empty(&rt, rt.alloc(), scene, source, status, line)?;
     }

@@ -174,3 +174,10 @@ fn calls_on_the_cut(rt: HostRuntime) -> Result<(), Fail> {
     println!(rt; "cut file: {cases} calls that fail")?;
     Ok(())
 }
+
+#[test]
+fn calls_on_the_proof(rt: HostRuntime) -> Result<(), Fail> {
+    let cases = all_fail(&rt, rt.alloc(), CHECK, PROOF)?;
+    println!(rt; "proof file: {cases} calls that fail")?;
+    Ok(())
+}

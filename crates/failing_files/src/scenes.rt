@@ -116,6 +116,13 @@ pub(crate) const CUT: Source = Source {
     text: "run,step,from,to,dep,arr\nr1,1,A,B,2024-06-03T08:00:00,2024-06-03T08:20:00\nr2,1,B,T,2024-06-03T08:24:00,2024-06-03T08:50:00\nr3,1,B,T,2024-06-03T08:40:00,2024-06-03T09:06:00\n",
 };
 
+pub(crate) const PROOF: Source = Source {
+    path: "p",
+    input: Input::Proof,
+    name: "proof file",
+    text: "bounds,1,A,T,2024-06-03T08:00:00,2024-06-03T10:42:00,3\nvalue,r1,1,2024-06-03T08:54:42.000000000\nvalue,r2,1,2024-06-03T08:51:30.000000000\nvalue,r3,1,2024-06-03T09:07:30.000000000\n",
+};
+
 const PLAN_WORDS: &str = "plan --feed f --delays d --from MIL --to AIR --at 2024-06-03T08:00:00";
 
 const PLAN_TEXT: &str =
@@ -157,6 +164,13 @@ pub(crate) const SAFE: Scene = Scene {
     words: "safe --cut c --delays d --from A --to T --at 2024-06-03T08:00:00",
     sources: &[CUT, DELAYS],
     text: "safe,A,T,2024-06-03T08:00:00,2024-06-03T09:21:00,2024-06-03T10:42:00\n",
+};
+
+/// A certificate over the same cut file.
+pub(crate) const CHECK: Scene = Scene {
+    words: "check --cut c --delays d --from A --to T --at 2024-06-03T08:00:00 --proof p",
+    sources: &[CUT, DELAYS, PROOF],
+    text: "holds,A,T,2024-06-03T08:00:00,2024-06-03T10:42:00,2024-06-03T08:54:42.000000000\n",
 };
 
 /// The files of a scene.
