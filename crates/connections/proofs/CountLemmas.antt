@@ -81,10 +81,6 @@ sum_by-map : {A B : Type 0} (g : B → ℕ) (f : A → B) (xs : List A) → sum_
 sum_by-map g f [] = refl
 sum_by-map g f (x ∷ xs) = omega (arith, sum_by-cons g (f x) (map f xs), sum_by-cons (λ y. g (f y)) x xs, sum_by-map g f xs)
 
--- what an active trip adds
-pub trip-active : (active : Bool) (each : ℕ → ℕ) (steps : List ℕ) (n : ℕ) → active ≡ true → n ≡ sum_by each steps → n ≡ (if active then sum_by each steps else 0)
-trip-active active each steps n is e = rw is e
-
 module _ (w : Window) (rows : List StopRow) (day : ServiceDay) (trip : ℕ) where
   -- how many rides a run of the trip has
   abbrev ridden : Run → ℕ

@@ -57,15 +57,6 @@ module _ (w : Window) (rows : List StopRow) (o : Origin) (ordered : DepartInOrde
 pub none_early_all : (w : Window) (rows : List StopRow) (o : Origin) → ((k : ℕ) → k < length rows → (kept_at rows k).departure < 604800) → moment_of o 604800 <ℤ pos w.start → steps_of w rows o ≡ []
 none_early_all w rows o few early = steps_none w rows o (length rows - 1) (λ k less. holds_early w (departs rows o k) (omega (arith, ints, early, few k (omega arith))))
 
--- then the trip does not ride, whether it is active or not
-pub rides_not : (active : Bool) (w : Window) (rows : List StopRow) (o : Origin) → steps_of w rows o ≡ [] → false ≡ (active && rides w rows o)
-rides_not true w rows o none = rw none refl
-rides_not false w rows o none = refl
-
--- where it is active, its rows tell
-pub rides_if : (active result : Bool) (w : Window) (rows : List StopRow) (o : Origin) → active ≡ true → result ≡ rides w rows o → result ≡ (active && rides w rows o)
-rides_if active result w rows o is same = rw is same
-
 -- a row that is left in the window is a ride
 some_step : (w : Window) (rows : List StopRow) (o : Origin) (n k : ℕ) → k < n → holds w (departs rows o k) ≡ true → 0 < length (steps_below w rows o n)
 some_step w rows o zero k h t = absurd (omega arith)
@@ -85,7 +76,3 @@ rides_true w rows o k h t = let some = some_step w rows o (length rows - 1) k h 
 
 pub rides_false : (w : Window) (rows : List StopRow) (o : Origin) → steps_of w rows o ≡ [] → false ≡ rides w rows o
 rides_false w rows o none = rw none refl
-
--- and where it is not, it does not ride
-pub rides_inactive : (result active : Bool) (w : Window) (rows : List StopRow) (o : Origin) → result ≡ active → result ≡ false → result ≡ (active && rides w rows o)
-rides_inactive result active w rows o is none = none ∙ ap (λ b. b && rides w rows o) (sym none ∙ is)

@@ -40,9 +40,6 @@ append-nil (x ∷ xs) = ap (λ ys. x ∷ ys) (append-nil xs)
 pub length-one : (b : Bool) (n : ℕ) → b ≡ true → length (only_if b n) ≡ 1
 length-one b n h = ap (λ x. length (only_if x n)) h
 
-pub length-none : (b : Bool) (n : ℕ) → b ≡ false → length (only_if b n) ≡ 0
-length-none b n h = ap (λ x. length (only_if x n)) h
-
 -- how many there are, with one more row
 pub length-next : (w : Window) (rows : List StopRow) (o : Origin) (n : ℕ) (b : Bool) → b ≡ holds w (departs rows o n)
     → length (steps_below w rows o (n + 1)) ≡ length (steps_below w rows o n) + length (only_if b n)
