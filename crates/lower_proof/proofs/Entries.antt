@@ -46,11 +46,14 @@ not_above x y u v h =
     (λ ge. ⊎_elim (λ above. let t : ltb y x ≡ true = grind (arith, nat_tests) in absurd (cc (rw t at h)))
     (λ le.
     let e : y ≡ x = omega arith in
-    inr (sym e, ⊎_elim (λ lower.
-    let s : ltb y x ≡ false = grind (arith, nat_tests) in
-    let t : eqb y x ≡ true = grind (arith, nat_tests) in
-    let w : ltb v u ≡ true = grind (arith, nat_tests) in
-    absurd (cc (rw (s, t, w) at h))) (λ k. k) (cases_lt v u)))
+    inr (
+      sym e,
+      ⊎_elim (λ lower.
+          let s : ltb y x ≡ false = grind (arith, nat_tests) in
+          let t : eqb y x ≡ true = grind (arith, nat_tests) in
+          let w : ltb v u ≡ true = grind (arith, nat_tests) in
+          absurd (cc (rw (s, t, w) at h))) (λ k. k) (cases_lt v u),
+    ))
     (cases_lt y x))
     (cases_lt x y)
 

@@ -1,9 +1,9 @@
 //! The problem of a small cut file, and what is told where its delay file is missing.
-use journey_problem::problem_of;
 use command_line::{Journey, Timetable};
 use csv_rows::Limits;
 use fault_lines::{Fault, Input};
 use file_ports::MemoryFiles;
+use journey_problem::problem_of;
 use plan_model::Moment;
 use std::test::Fail;
 
