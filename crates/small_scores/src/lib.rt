@@ -1,7 +1,5 @@
-//! Scores of graphs over small networks, and certificates of their journeys.
+//! Scores of graphs over small networks.
 #![tactic(auto)]
 
-#[cfg(test)]
-mod certificates;
 #[cfg(test)]
 mod scores;
