@@ -98,14 +98,8 @@ fn read_types(alloc: Global, rows: &Rows, columns: RouteColumns) -> Result<Vec<u
 {
     let mut types: Vec<u16> = Vec::new(alloc);
     for i in 0..rows.count() {
-        let route = match read_route(rows, columns, i) {
-            Ok(route) => route,
-            Err(fault) => return Err(fault),
-        };
-        match types.push(route.kind) {
-            Ok(()) => {}
-            Err(_) => return Err(FeedFault::NoMemory),
-        }
+        let route = read_route(rows, columns, i)?;
+        types.push(route.kind)?;
     }
     Ok(types)
 }
@@ -127,12 +121,7 @@ pub(crate) fn read_routes(alloc: Global, rows: &Rows) -> Result<Routes, FeedFaul
     if let Some(fault) = missing_column(columns) {
         return Err(fault);
     }
-    let types = match read_types(alloc, rows, columns) {
-        Ok(types) => types,
-        Err(fault) => return Err(fault),
-    };
-    match read_ids(alloc, rows, Table::Routes, columns.id) {
-        Ok(ids) => Ok(Routes { ids, types }),
-        Err(fault) => Err(fault),
-    }
+    let types = read_types(alloc, rows, columns)?;
+    let ids = read_ids(alloc, rows, Table::Routes, columns.id)?;
+    Ok(Routes { ids, types })
 }

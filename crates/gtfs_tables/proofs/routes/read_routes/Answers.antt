@@ -1,6 +1,8 @@
-use Rattle.std.proofs.Common.{None, sym, ap, ◌∙◌}
+use Rattle.std.proofs.Common.{Option, sym, ap, ◌∙◌}
+use Rattle.csv_rows.proofs.FaultLemmas.{if_raised}
 use Rattle.csv_rows.specs.Lists.{list_below}
 use Rattle.csv_rows.specs.declared.columns.Column.TheVariants.{RouteId, RouteType}
+use Rattle.csv_rows.specs.declared.feed_tables.FeedFault.{FeedFault}
 use Rattle.csv_rows.specs.declared.feed_tables.Table.TheVariants.{Routes}
 use Rattle.csv_rows.specs.First.{or_else}
 use Rattle.csv_rows.specs.Tables.{place_of, field_at, row_count}
@@ -12,46 +14,44 @@ use Rattle.csv_rows.proofs.ListLemmas.{same_length}
 use Rattle.gtfs_tables.proofs.RouteLemmas.{routes_named}
 use Rattle.gtfs_tables.proofs.routes.read_routes.Goals as goal
 
+abbrev missing_in : RouteColumns → Option FeedFault
+missing_in k = or_else (lack Routes RouteId k.id) (lack Routes RouteType k.kind)
+
 pub returns-in-Some-clause-fault : goal.returns-in-Some-clause-fault
 unfolding routes_fault
-returns-in-Some-clause-fault c = λ free.
-    or_first _ _ _ (sym (ap (λ (k : RouteColumns). or_else (lack Routes RouteId k.id) (lack Routes RouteType k.kind)) c.route_columns-columns.ensures) ∙ sym c.in-Some.ensures.fault)
+returns-in-Some-clause-fault c = λ free. or_first _ _ _ (sym (ap missing_in c.route_columns-columns.ensures) ∙ sym c.in-Some.ensures.fault)
 
-pub returns-in-Err-clause-fault : goal.returns-in-Err-clause-fault
+pub returns-in_err-types-clause-fault : goal.returns-in_err-types-clause-fault
 unfolding routes_fault
-returns-in-Err-clause-fault c = λ free.
-    let has = sym (ap (λ (k : RouteColumns). or_else (lack Routes RouteId k.id) (lack Routes RouteType k.kind)) c.route_columns-columns.ensures) ∙ sym c.in_default.ensures.fault in
-    or_then _ _ _ has (or_first _ _ _ (c.in-Err.ensures.fault free))
+returns-in_err-types-clause-fault c = if_raised _ c.from_residual.result c.from_residual.ensures (λ free.
+    or_then _ _ _ (sym (ap missing_in c.route_columns-columns.ensures) ∙ sym c.in_default.ensures.fault) (or_first _ _ _ (c.in_err-types.ensures.fault free)))
 
 pub read_ids-requires-clause-named : goal.read_ids-requires-clause-named
 read_ids-requires-clause-named c =
     let t = c.args.rows.now in
-    named_is t c.route_columns-columns.result.id (place_of RouteId t) (ap (λ (k : RouteColumns). k.id) c.route_columns-columns.ensures) (routes_named t c.in-Ok.ensures.none)
+    named_is t _ (place_of RouteId t) (ap (λ (k : RouteColumns). k.id) c.route_columns-columns.ensures) (routes_named t c.in_ok-types.ensures.none)
 
-pub returns-in-Ok-read_ids-clause-none : goal.returns-in-Ok-read_ids-clause-none
+pub returns-clause-none : goal.returns-clause-none
 unfolding routes_fault
-returns-in-Ok-read_ids-clause-none c =
-    let t = c.args.rows.now in
-    let has = sym (ap (λ (k : RouteColumns). or_else (lack Routes RouteId k.id) (lack Routes RouteType k.kind)) c.route_columns-columns.ensures) ∙ sym c.in_default.ensures.fault in
+returns-clause-none c =
     let place = ap (λ (k : RouteColumns). k.id) c.route_columns-columns.ensures in
-    or_then _ _ _ has (or_then _ _ _ c.in-Ok.ensures.none (ids_fault_is Routes t c.route_columns-columns.result.id (place_of RouteId t) None place c.in-Ok-read_ids.ensures.none))
+    or_then _ _ _ (sym (ap missing_in c.route_columns-columns.ensures) ∙ sym c.in_default.ensures.fault)
+    (or_then _ _ _ c.in_ok-types.ensures.none (ids_fault_is Routes c.args.rows.now _ _ _ place c.in_ok-ids.ensures.none))
 
-pub returns-in-Err-read_ids-clause-fault : goal.returns-in-Err-read_ids-clause-fault
+pub returns-in_err-ids-clause-fault : goal.returns-in_err-ids-clause-fault
 unfolding routes_fault
-returns-in-Err-read_ids-clause-fault c = λ free.
-    let t = c.args.rows.now in
-    let has = sym (ap (λ (k : RouteColumns). or_else (lack Routes RouteId k.id) (lack Routes RouteType k.kind)) c.route_columns-columns.ensures) ∙ sym c.in_default.ensures.fault in
+returns-in_err-ids-clause-fault c = if_raised _ c.from_residual-in_err-ids.result c.from_residual-in_err-ids.ensures (λ free.
     let place = ap (λ (k : RouteColumns). k.id) c.route_columns-columns.ensures in
-    or_then _ _ _ has (or_then _ _ _ c.in-Ok.ensures.none
-    (ids_fault_is Routes t c.route_columns-columns.result.id (place_of RouteId t) _ place (c.in-Err-read_ids.ensures.fault free)))
+    or_then _ _ _ (sym (ap missing_in c.route_columns-columns.ensures) ∙ sym c.in_default.ensures.fault)
+    (or_then _ _ _ c.in_ok-types.ensures.none (ids_fault_is Routes c.args.rows.now _ _ _ place (c.in_err-ids.ensures.fault free))))
 
-pub returns-in-Ok-read_ids-clause-sized : goal.returns-in-Ok-read_ids-clause-sized
-returns-in-Ok-read_ids-clause-sized c =
+pub returns-clause-sized : goal.returns-clause-sized
+returns-clause-sized c =
     let t = c.args.rows.now in
-    same_length (λ i. (route_or_none (route_at t i)).kind) (field_at t c.route_columns-columns.result.id) (row_count t) _ _ c.in-Ok.ensures.types c.in-Ok-read_ids.ensures.ids
+    same_length (λ i. (route_or_none (route_at t i)).kind) (field_at t c.route_columns-columns.result.id) (row_count t) _ _ c.in_ok-types.ensures.types c.in_ok-ids.ensures.ids
 
-pub returns-in-Ok-read_ids-clause-sound : goal.returns-in-Ok-read_ids-clause-sound
-returns-in-Ok-read_ids-clause-sound c =
+pub returns-clause-sound : goal.returns-clause-sound
+returns-clause-sound c =
     let t = c.args.rows.now in
     let place = ap (λ (k : RouteColumns). k.id) c.route_columns-columns.ensures in
-    (t, returns-in-Ok-read_ids-clause-none c, (c.in-Ok-read_ids.ensures.ids ∙ ap (λ p. list_below (field_at t p) (row_count t)) place, c.in-Ok.ensures.types))
+    (t, returns-clause-none c, (c.in_ok-ids.ensures.ids ∙ ap (λ p. list_below (field_at t p) (row_count t)) place, c.in_ok-types.ensures.types))
