@@ -76,10 +76,7 @@ fn check_stops(rows: &Rows, columns: StopColumns) -> Result<(), FeedFault>
     ensures own { IfErr result (IsFaultOf StopsTable) }
 {
     for i in 0..rows.count() {
-        match read_stop(rows, columns, i) {
-            Ok(_) => {}
-            Err(fault) => return Err(fault),
-        }
+        read_stop(rows, columns, i)?;
     }
     Ok(())
 }
@@ -96,10 +93,7 @@ fn read_place(rows: &Rows, columns: StopColumns, ids: &Ids, row: usize) -> Resul
     ensures content { IfErr result (λ f. unread_of f ≡ None) }
     ensures own { IfErr result (IsFaultOf StopsTable) }
 {
-    let stop = match read_stop(rows, columns, row) {
-        Ok(stop) => stop,
-        Err(fault) => return Err(fault),
-    };
+    let stop = read_stop(rows, columns, row)?;
     if stop.parent.is_empty() {
         return Ok(row as u32);
     }
@@ -129,14 +123,8 @@ fn read_places(
 {
     let mut places: Vec<u32> = Vec::new(alloc);
     for i in 0..rows.count() {
-        let place = match read_place(rows, columns, ids, i) {
-            Ok(place) => place,
-            Err(fault) => return Err(fault),
-        };
-        match places.push(place) {
-            Ok(()) => {}
-            Err(_) => return Err(FeedFault::NoMemory),
-        }
+        let place = read_place(rows, columns, ids, i)?;
+        places.push(place)?;
     }
     Ok(places)
 }
@@ -159,16 +147,8 @@ pub(crate) fn read_stops(alloc: Global, rows: &Rows) -> Result<Stops, FeedFault>
     if let Some(fault) = lack(Table::Stops, Column::StopId, columns.id) {
         return Err(fault);
     }
-    match check_stops(rows, columns) {
-        Ok(()) => {}
-        Err(fault) => return Err(fault),
-    }
-    let ids = match read_ids(alloc, rows, Table::Stops, columns.id) {
-        Ok(ids) => ids,
-        Err(fault) => return Err(fault),
-    };
-    match read_places(alloc, rows, columns, &ids) {
-        Ok(places) => Ok(Stops { ids, places }),
-        Err(fault) => Err(fault),
-    }
+    check_stops(rows, columns)?;
+    let ids = read_ids(alloc, rows, Table::Stops, columns.id)?;
+    let places = read_places(alloc, rows, columns, &ids)?;
+    Ok(Stops { ids, places })
 }

@@ -1,5 +1,5 @@
 use Rattle.std.proofs.Common.{None, ap, arith}
-use Rattle.csv_rows.specs.Tables.{row_count}
+use Rattle.csv_rows.proofs.FaultLemmas.{if_raised}
 use Rattle.csv_rows.proofs.FirstLemmas.{first-zero, first-next, first-at}
 use Rattle.csv_rows.specs.RowFaults.{fault_in}
 use Rattle.gtfs_tables.specs.Stops.{bad_stop}
@@ -9,13 +9,11 @@ use Rattle.gtfs_tables.proofs.stops.check_stops.Goals as goal
 pub loop-i-init : goal.loop-i-init
 loop-i-init c = first-zero (bad_stop c.args.rows.now)
 
-pub returns-in-Err-clause-fault : goal.returns-in-Err-clause-fault
-returns-in-Err-clause-fault c =
-    let t = c.args.rows.now in
-    first-at (bad_stop t) c.loop-i.i (row_count t) c.in-Err.fault (omega arith) c.loop-i.invariant
-    (ap fault_in (stop_is t c.args.columns c.loop-i.i _ c.requires c.in-Err.ensures.fault))
+pub returns-in_err-read_stop-clause-fault : goal.returns-in_err-read_stop-clause-fault
+returns-in_err-read_stop-clause-fault c = if_raised _ c.from_residual.result c.from_residual.ensures
+    (first-at _ c.loop-i.i _ _ (omega arith) c.loop-i.invariant (ap fault_in (stop_is _ c.args.columns _ _ c.requires c.in_err-read_stop.ensures.fault)))
 
 pub loop-i-preserved : goal.loop-i-preserved
 loop-i-preserved c =
     let t = c.args.rows.now in
-    first-next (bad_stop t) c.loop-i.i None c.loop-i.invariant (ap fault_in (stop_is t c.args.columns c.loop-i.i _ c.requires c.in-Ok.ensures.stop))
+    first-next (bad_stop t) c.loop-i.i None c.loop-i.invariant (ap fault_in (stop_is t c.args.columns c.loop-i.i _ c.requires c.in_ok-read_stop.ensures.stop))
