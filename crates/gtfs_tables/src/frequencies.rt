@@ -135,14 +135,8 @@ pub(crate) fn read_frequency_rows(
 {
     let mut found: Vec<TripFrequency> = Vec::new(alloc);
     for i in 0..rows.count() {
-        let row = match read_frequency(rows, columns, trips, i) {
-            Ok(row) => row,
-            Err(fault) => return Err(fault),
-        };
-        match found.push(row) {
-            Ok(()) => {}
-            Err(_) => return Err(FeedFault::NoMemory),
-        }
+        let row = read_frequency(rows, columns, trips, i)?;
+        found.push(row)?;
     }
     Ok(found)
 }
@@ -173,10 +167,7 @@ pub(crate) fn check_once(alloc: Global, rows: &[TripFrequency]) -> Result<(), Fe
     ensures content { IfErr result (λ f. unread_of f ≡ None) }
     ensures own { IfErr result (IsFaultOf FrequenciesTable) }
 {
-    let keys = match keys_by_start(alloc, rows) {
-        Ok(keys) => keys,
-        Err(_) => return Err(FeedFault::NoMemory),
-    };
+    let keys = keys_by_start(alloc, rows)?;
     match first_repeat(keys.as_slice()) {
         None => Ok(()),
         Some(row) => Err(FeedFault::DuplicateKey(Table::Frequencies, u64::from(row) + 2)),

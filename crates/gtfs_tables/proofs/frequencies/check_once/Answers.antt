@@ -10,14 +10,14 @@ use Rattle.gtfs_tables.proofs.frequencies.check_once.Goals as goal
 pub returns-in-None-clause-none : goal.returns-in-None-clause-none
 returns-in-None-clause-none c =
     let rows = c.args.rows.now in
-    let sorted = subst (λ (keys : List Key). AreSorted (λ i. true) (trip_of rows) (start_of rows) (length rows) keys) (sym c.as_slice.ensures.value) c.in-Ok.ensures in
+    let sorted = subst (λ (keys : List Key). AreSorted (λ i. true) (trip_of rows) (start_of rows) (length rows) keys) (sym c.as_slice.ensures.value) c.in_ok-keys.ensures in
     first_repeated rows c.as_slice.result.now c.first_repeat.result sorted c.first_repeat.ensures
     ∙ ap (option_map (λ row. DuplicateKey Frequencies (row + 2))) c.in-None.is
 
 pub returns-clause-fault : goal.returns-clause-fault
 returns-clause-fault c = λ free.
     let rows = c.args.rows.now in
-    let sorted = subst (λ (keys : List Key). AreSorted (λ i. true) (trip_of rows) (start_of rows) (length rows) keys) (sym c.as_slice.ensures.value) c.in-Ok.ensures in
+    let sorted = subst (λ (keys : List Key). AreSorted (λ i. true) (trip_of rows) (start_of rows) (length rows) keys) (sym c.as_slice.ensures.value) c.in_ok-keys.ensures in
     first_repeated rows c.as_slice.result.now c.first_repeat.result sorted c.first_repeat.ensures
     ∙ ap (option_map (λ row. DuplicateKey Frequencies (row + 2))) c.in-Some.is
     ∙ ap (λ row. Some (DuplicateKey Frequencies (row + 2))) (sym c.from.ensures)

@@ -1,5 +1,5 @@
 use Rattle.std.proofs.Common.{None, sym, ap, ◌∙◌, arith}
-use Rattle.csv_rows.specs.Tables.{row_count}
+use Rattle.csv_rows.proofs.FaultLemmas.{if_raised}
 use Rattle.csv_rows.proofs.FirstLemmas.{first-zero, first-next, first-at}
 use Rattle.csv_rows.specs.RowFaults.{fault_in, value_or}
 use Rattle.gtfs_tables.specs.Frequencies.{bad_frequency, frequency_at, no_frequency}
@@ -16,20 +16,17 @@ loop-i-init c =
       none = first-zero (bad_frequency trips t);
     }
 
-pub returns-in-Err-clause-fault : goal.returns-in-Err-clause-fault
-returns-in-Err-clause-fault c = λ free.
-    let t = c.args.rows.now in
-    let trips = c.args.trips.now in
-    first-at (bad_frequency trips t) c.loop-i.i (row_count t) c.in-Err.fault (omega arith) c.loop-i.invariant.none
-    (ap fault_in (frequency_is trips t c.args.columns c.loop-i.i _ c.requires c.in-Err.ensures.fault))
+pub returns-in_err-row-clause-fault : goal.returns-in_err-row-clause-fault
+returns-in_err-row-clause-fault c = if_raised _ c.from_residual.result c.from_residual.ensures (λ free.
+    first-at _ c.loop-i.i _ _ (omega arith) c.loop-i.invariant.none (ap fault_in (frequency_is _ _ c.args.columns _ _ c.requires c.in_err-row.ensures.fault)))
 
 pub loop-i-preserved : goal.loop-i-preserved
 loop-i-preserved c =
     let t = c.args.rows.now in
     let trips = c.args.trips.now in
-    let here = frequency_is trips t c.args.columns c.loop-i.i _ c.requires c.in-Ok.ensures.row in
+    let here = frequency_is trips t c.args.columns c.loop-i.i _ c.requires c.in_ok-row.ensures.row in
     record {
-      rows = list_below-next (λ i. value_or no_frequency (frequency_at trips t i)) c.loop-i.i c.loop-i.found.items c.push.new.self.items c.in-Ok.row
-          c.loop-i.invariant.rows c.in-Ok-push.ensures.items (sym (ap (value_or no_frequency) here));
+      rows = list_below-next (λ i. value_or no_frequency (frequency_at trips t i)) c.loop-i.i c.loop-i.found.items c.push.new.self.items c.in_ok-row.row
+          c.loop-i.invariant.rows c.in_ok-push.ensures.items (sym (ap (value_or no_frequency) here));
       none = first-next (bad_frequency trips t) c.loop-i.i None c.loop-i.invariant.none (ap fault_in here);
     }
