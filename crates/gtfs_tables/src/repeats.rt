@@ -97,18 +97,9 @@ fn read_frequencies(alloc: Global, rows: &Rows, trips: &Ids) -> Result<Repeats, 
     if let Some(fault) = missing_column(columns) {
         return Err(fault);
     }
-    let found = match read_frequency_rows(alloc, rows, columns, trips) {
-        Ok(found) => found,
-        Err(fault) => return Err(fault),
-    };
-    match check_once(alloc, found.as_slice()) {
-        Ok(()) => {}
-        Err(fault) => return Err(fault),
-    }
-    match repeats_by(alloc, found) {
-        Ok(repeats) => Ok(repeats),
-        Err(_) => Err(FeedFault::NoMemory),
-    }
+    let found = read_frequency_rows(alloc, rows, columns, trips)?;
+    check_once(alloc, found.as_slice())?;
+    Ok(repeats_by(alloc, found)?)
 }
 
 /// No trip repeats, as by a table with no row.
@@ -145,10 +136,7 @@ pub(crate) fn repeats_from(
     ensures own { IfErr result (IsFaultOf FrequenciesTable) }
 {
     match loaded {
-        Loaded::Found(rows) => match read_frequencies(alloc, rows, trips) {
-            Ok(repeats) => Ok(repeats),
-            Err(fault) => Err(fault),
-        },
+        Loaded::Found(rows) => read_frequencies(alloc, rows, trips),
         Loaded::Absent => Ok(no_repeats(alloc)),
         Loaded::NoRecord => Ok(no_repeats(alloc)),
     }
