@@ -1,16 +1,15 @@
 -- The text of a date is eight digits, and the names of runs.
-use Rattle.std.proofs.Common.{◌≡◌, ℕ, zero, suc, ◌<◌, ◌&&◌, nat_eq, Bool, true, false, List, [], ◌∷◌, ◌++◌, length, take, drop, Some, ℤ, pos, negsuc, ◌+ℤ◌, ◌≤ℤ◌, refl, sym, ◌∙◌, subst, arith, IsAscii}
+use Rattle.std.proofs.Common.{◌≡◌, ℕ, zero, suc, ◌<◌, ◌&&◌, nat_eq, true, List, [], ◌∷◌, ◌++◌, length, take, drop, Some, ℤ, pos, negsuc, ◌+ℤ◌, ◌≤ℤ◌, refl, sym, ◌∙◌, subst, arith, IsAscii}
 use Rattle.std.specs.List.{list_all}
 use Rattle.std.specs.Char.{is_ascii_digit}
 use Rattle.std.proofs.lemmas.Bool.Decides.{nat_tests}
 use Rattle.std.proofs.lemmas.Int.{ints}
 use Rattle.std.proofs.lemmas.List.Folds.{list_all-append}
+use Rattle.std.proofs.lemmas.Bool.{and_parts, eqb-true, and_from}
 use Rattle.jiff_core.specs.Calendar.{days_from_civil, day_count, days_of_years, days_of_months}
 use Rattle.clock_text.specs.Digits.{value_of}
 use Rattle.clock_text.specs.Times.{date_at, day_of, HasDate}
 use Rattle.clock_text.specs.Civil.{parts_of_day}
-use Rattle.clock_text.proofs.DigitLemmas.{and_parts}
-use Rattle.clock_text.proofs.MomentLemmas.{eq_test}
 use Rattle.clock_text.proofs.OneText.{if_cases}
 use Rattle.clock_text.proofs.Walk.{found}
 use Rattle.connections.specs.declared.origins.ServiceDay.{ServiceDay}
@@ -39,10 +38,6 @@ eight : (t : List ℕ) → length t ≡ 8 → t ≡ take 4 t ++ (take 2 (drop 4 
 eight (a ∷ b ∷ c ∷ d ∷ e ∷ f ∷ g ∷ h ∷ []) l = refl
 eight t l = absurd (omega arith)
 
-pub and_both : (a b : Bool) → a ≡ true → b ≡ true → (a && b) ≡ true
-and_both true b h k = k
-and_both false b h k = absurd (cc)
-
 pub record IsDateText (t : List ℕ) : Type 0 where
   pub size : length t ≡ 8
   pub digits : list_all is_ascii_digit t ≡ true
@@ -55,13 +50,13 @@ date_text t day h =
     let p = and_parts (nat_eq (length t) 8) all (if_cases (nat_eq (length t) 8 && all) (day_of (value_of year) (value_of month) (value_of day')) day h).0 in
     let q = and_parts (list_all is_ascii_digit year) rest p.1 in
     let r = and_parts (list_all is_ascii_digit month) (list_all is_ascii_digit day') q.1 in
-    let size = eq_test (length t) 8 p.0 in
+    let size = eqb-true (length t) 8 p.0 in
     record {
       size = size;
       digits = subst (λ (s : List ℕ). list_all is_ascii_digit s ≡ true) (sym (eight t size))
           (list_all-append is_ascii_digit year (month ++ day')
-          ∙ and_both (list_all is_ascii_digit year) (list_all is_ascii_digit (month ++ day')) q.0
-          (list_all-append is_ascii_digit month day' ∙ and_both (list_all is_ascii_digit month) (list_all is_ascii_digit day') r.0 r.1));
+          ∙ and_from (list_all is_ascii_digit year) (list_all is_ascii_digit (month ++ day')) q.0
+          (list_all-append is_ascii_digit month day' ∙ and_from (list_all is_ascii_digit month) (list_all is_ascii_digit day') r.0 r.1));
     }
 
 digit_few : (c : ℕ) → is_ascii_digit c ≡ true → c < 128

@@ -1,6 +1,6 @@
 -- What the connections of the runs of a row that leave one kept row add up to.
 use Rattle.std.proofs.Common.{◌≡◌, ℕ, ◌-◌, ◌*◌, ◌&&◌, min, nat_lt, Bool, List, ap, ◌∙◌, arith}
-use Rattle.clock_text.proofs.DigitLemmas.{and_parts}
+use Rattle.std.proofs.lemmas.Bool.{and_parts, and_from, ltb-true, lt-ltb}
 use Rattle.gtfs_tables.specs.declared.frequencies.FrequencyRow.{FrequencyRow}
 use Rattle.gtfs_tables.specs.declared.stop_times.StopRow.{StopRow}
 use Rattle.gtfs_tables.specs.Bounds.{end_of_times}
@@ -14,8 +14,7 @@ use Rattle.connections.specs.Window.{holds}
 use Rattle.connections.specs.Rides.{AreDepartures, departs}
 use Rattle.connections.specs.Repeats.{origin_at}
 use Rattle.connections.specs.Counts.{leaving_sum}
-use Rattle.connections.proofs.RepeatLemmas.{AreLeaving, between, inside, to_few, lt_is, is_lt}
-use Rattle.connections.proofs.DateLemmas.{and_both}
+use Rattle.connections.proofs.RepeatLemmas.{AreLeaving, between, inside, to_few}
 use Rattle.connections.proofs.SumLemmas.{between-sum}
 
 pub leaving_sum-is : (each : PlaceId → ℕ) (w : Window) (rows : List StopRow) (deps : AreDepartures rows) (day : ServiceDay) (row : FrequencyRow) (is : IsFrequency row) (k from to : ℕ)
@@ -25,6 +24,6 @@ leaving_sum-is each w rows deps day row is k from to l =
     let p : ℕ → Bool = λ m. nat_lt (departure row m) row.end && holds w (departs rows (origin_at rows day (departure row m)) k) in
     let few : min to end_of_times - from ≡ to - from = omega (arith, to_few w rows day row deps is k from to l) in
     between-sum p from to (each (kept_at rows k).place) end_of_times
-    (λ m h. let x = and_parts _ _ h in inside w rows day row deps is k from to m l (lt_is (departure row m) row.end x.0) x.1)
-    (λ m low high. let x = between w rows day row deps is k from to m l low high in and_both _ _ (is_lt (departure row m) row.end x.0) x.1)
+    (λ m h. let x = and_parts _ _ h in inside w rows day row deps is k from to m l (ltb-true (departure row m) row.end x.0) x.1)
+    (λ m low high. let x = between w rows day row deps is k from to m l low high in and_from _ _ (lt-ltb (departure row m) row.end x.0) x.1)
     ∙ ap (λ n. n * each (kept_at rows k).place) few

@@ -2,7 +2,7 @@
 use Rattle.std.proofs.Common.{◌≡◌, ◌≢◌, ℕ, zero, suc, ◌+◌, ◌-◌, ◌<◌, ◌≤◌, Bool, true, false, List, [], ◌∷◌, ◌++◌, length, take, drop, get_or, slice_index_or, Some, None, Option, ℤ, All, decimal, ◌^◌, refl, sym, ap, ap₂, ◌∙◌, subst, arith, ⊎_elim, length-append}
 use Rattle.std.specs.List.{list_all}
 use Rattle.std.specs.Char.{is_ascii_digit}
-use Rattle.std.proofs.lemmas.Bool.{cases_lt}
+use Rattle.std.proofs.lemmas.Bool.{cases_lt, and_parts, and_from}
 use Rattle.std.proofs.lemmas.Bool.Decides.{nat_tests}
 use Rattle.std.proofs.lemmas.List.{get_or_append_left, get_or-append_right, get_or_default, get_or_push, take_at, drop_at, take_all, take_more}
 use Rattle.std.proofs.lemmas.List.Elements.{All-get_or}
@@ -11,7 +11,6 @@ use Rattle.std.specs.Int.{IsInRange}
 use Rattle.std.proofs.lemmas.Fmt.{decimal_is_IsNumeral, decimal_injective}
 use Rattle.std.proofs.lemmas.Str.Parse.{digit_from_value}
 use Rattle.clock_text.specs.Times.{date_at}
-use Rattle.clock_text.proofs.DigitLemmas.{and_parts}
 use Rattle.plan_model.specs.NameLists.{Adds, AreDistinct, IsTrimmed}
 use Rattle.gtfs_tables.specs.Feeds.{FeedParts}
 use Rattle.csv_rows.specs.Ids.{AreIds}
@@ -22,7 +21,7 @@ use Rattle.connections.specs.Runs.{IsRunOf, AreRunsOf}
 use Rattle.connections.specs.Networks.{start_text, IsRunName, AreRunNames}
 use Rattle.connections.specs.Runs.{IsSmallRepeat}
 use Rattle.connections.proofs.StepLemmas.{append-assoc}
-use Rattle.connections.proofs.DateLemmas.{date_text, and_both}
+use Rattle.connections.proofs.DateLemmas.{date_text}
 
 same_date : (d e : List ℕ) (a b : ℤ) → d ≡ e → date_at d ≡ Some a → date_at e ≡ Some b → a ≡ b
 same_date d e a b same h k = let o : Some a ≡ Some b = sym h ∙ ap date_at same ∙ k in cc
@@ -40,7 +39,7 @@ range_digit c h = grind (arith, nat_tests)
 
 numeral_digits : (ds : List ℕ) → AllDigits 10 ds → list_all is_ascii_digit ds ≡ true
 numeral_digits [] h = refl
-numeral_digits (c ∷ ds) h = and_both (is_ascii_digit c) (list_all is_ascii_digit ds) (range_digit c (digit_from_value c h.0)) (numeral_digits ds h.1)
+numeral_digits (c ∷ ds) h = and_from (is_ascii_digit c) (list_all is_ascii_digit ds) (range_digit c (digit_from_value c h.0)) (numeral_digits ds h.1)
 
 decimal_digits : (n : ℕ) → n < 2 ^ 64 → list_all is_ascii_digit (decimal n) ≡ true
 decimal_digits n h = numeral_digits (decimal n) (decimal_is_IsNumeral n h).0.1

@@ -2,11 +2,9 @@
 use Rattle.std.proofs.Common.{◌≡◌, ℕ, ℤ, pos, zero, suc, ◌+◌, ◌-◌, ◌*◌, ◌<◌, ◌≤◌, ◌<ℤ◌, ◌≤ℤ◌, max, nat_lt, nat_le, Bool, true, false, List, [], ◌++◌, length, All, refl, sym, ap, ◌∙◌, subst, arith, ⊎_elim, if◌then◌else◌}
 use Rattle.std.specs.Prelude.{AllPairs}
 use Rattle.std.proofs.Math.Nat.{le-mul_of_pos_right, mul-le-mul_right, suc-mul}
-use Rattle.std.proofs.lemmas.Bool.{cases_lt}
-use Rattle.std.proofs.lemmas.Bool.Decides.{nat_tests}
+use Rattle.std.proofs.lemmas.Bool.{cases_lt, and_parts, and_from, lt-leb, le-ltb, leb-true, ltb-true, le-leb, lt-ltb}
 use Rattle.std.proofs.lemmas.Int.{ints, by_lt_z}
 use Rattle.std.proofs.lemmas.List.Elements.{All-nil, All-cons, All-get_or}
-use Rattle.clock_text.proofs.DigitLemmas.{and_parts}
 use Rattle.csv_rows.specs.Lists.{list_below}
 use Rattle.gtfs_tables.specs.declared.frequencies.FrequencyRow.{FrequencyRow}
 use Rattle.gtfs_tables.specs.declared.stop_times.StopRow.{StopRow}
@@ -22,30 +20,11 @@ use Rattle.connections.specs.Joins.{join_below, only_if}
 use Rattle.connections.specs.Window.{holds}
 use Rattle.connections.specs.Rides.{AreDepartures, departs, rides, steps_below}
 use Rattle.connections.specs.Repeats.{run_of, origin_at, rides_by, riding_by, riding_of, in_order}
-use Rattle.connections.proofs.DateLemmas.{and_both}
 use Rattle.connections.proofs.JoinLemmas.{join-zero, join-suc, join-same, join-rest, join-on, All-join}
 use Rattle.connections.proofs.OrderLemmas.{Differ, All-in_order}
 use Rattle.connections.proofs.PairLemmas.{AllPairs-append, AllPairs-nil, AllPairs-one}
 use Rattle.connections.proofs.ReachLemmas.{rides_true}
 use Rattle.connections.proofs.StepLemmas.{holds_parts, steps-zero, length-next}
-
-pub lt_is : (a b : ℕ) → nat_lt a b ≡ true → a < b
-lt_is a b h = grind (arith, nat_tests)
-
-pub is_lt : (a b : ℕ) → a < b → nat_lt a b ≡ true
-is_lt a b h = grind (arith, nat_tests)
-
-not_lt : (a b : ℕ) → b ≤ a → nat_lt a b ≡ false
-not_lt a b h = grind (arith, nat_tests)
-
-is_le : (a b : ℕ) → a ≤ b → nat_le a b ≡ true
-is_le a b h = grind (arith, nat_tests)
-
-not_le : (a b : ℕ) → b < a → nat_le a b ≡ false
-not_le a b h = grind (arith, nat_tests)
-
-le_of : (a b : ℕ) → nat_le a b ≡ true → a ≤ b
-le_of a b h = grind (arith, nat_tests)
 
 same_bool : (a b : Bool) → (a ≡ true → b ≡ true) → (b ≡ true → a ≡ true) → a ≡ b
 same_bool true b h k = sym (h refl)
@@ -81,10 +60,10 @@ abbrev pub more : (next from : ℕ) → (ℕ → Bool) → ℕ → Bool
 more next from taken m = if nat_lt m next then taken m else nat_le from m
 
 kept : (next from m : ℕ) (taken : ℕ → Bool) → m < next → more next from taken m ≡ taken m
-kept next from m taken h = rw (is_lt m next h) refl
+kept next from m taken h = rw (lt-ltb m next h) refl
 
 fresh : (next from m : ℕ) (taken : ℕ → Bool) → next ≤ m → more next from taken m ≡ nat_le from m
-fresh next from m taken h = rw (not_lt m next h) refl
+fresh next from m taken h = rw (le-ltb m next h) refl
 
 module _ (w : Window) (rows : List StopRow) (day : ServiceDay) (row : FrequencyRow) where
   -- when run m leaves kept row k
@@ -139,21 +118,21 @@ module _ (w : Window) (rows : List StopRow) (day : ServiceDay) (row : FrequencyR
       starts : (m : ℕ) → m < max next to → pos w.start ≤ℤ at m k → more next from taken m ≡ true
       starts m h start =
           ⊎_elim (λ (less : m < next). kept next from m taken less ∙ t.late m less (omega (arith, ints, start, later m)))
-          (λ (ge : next ≤ m). fresh next from m taken ge ∙ is_le from m
+          (λ (ge : next ≤ m). fresh next from m taken ge ∙ le-leb from m
           (⊎_elim (λ (less : m < from). absurd (omega (arith, ints, (l.before.hold m less).1, start))) (λ le. le) (cases_lt m from)))
           (cases_lt m next)
 
       new_run : (m : ℕ) → next ≤ m → m < max next to → from ≤ m → rides_by w rows day row m ≡ true
       new_run m ge h low =
           let p = between k from to m l low (omega (arith, h, ge)) in
-          and_both _ _ (is_lt (departure row m) row.end p.0) (sym (rides_true w rows (origin_at rows day (departure row m)) k step p.1))
+          and_from _ _ (lt-ltb (departure row m) row.end p.0) (sym (rides_true w rows (origin_at rows day (departure row m)) k step p.1))
 
       pub step_taken : AreTaken k (max next to) (more next from taken)
       step_taken = record {
         few = omega (arith, t.few, to_few k from to l);
         sound = λ m h is_taken.
             ⊎_elim (λ (less : m < next). t.sound m less (sym (kept next from m taken less) ∙ is_taken))
-            (λ (ge : next ≤ m). new_run m ge h (le_of from m (sym (fresh next from m taken ge) ∙ is_taken))) (cases_lt m next);
+            (λ (ge : next ≤ m). new_run m ge h (leb-true from m (sym (fresh next from m taken ge) ∙ is_taken))) (cases_lt m next);
         all = λ m j ge h run hold.
             ⊎_elim (λ (after : k < j). let x = t.all m j (omega arith) h run hold in (omega (arith, x.0), kept next from m taken x.0 ∙ x.1))
             (λ (here : j ≤ k).
@@ -174,8 +153,8 @@ module _ (w : Window) (rows : List StopRow) (day : ServiceDay) (row : FrequencyR
           ap (taken_runs row (more next from taken)) (sym e)
           ∙ join-on (λ m. only_if (taken m) (run_of row m)) (λ m. only_if (more next from taken m) (run_of row m)) (run_of row) next (max from next) j (omega arith)
           (λ i h. ap (λ b. only_if b (run_of row i)) (kept next from i taken h))
-          (λ i ge h. ap (λ b. only_if b (run_of row i)) (fresh next from i taken ge ∙ not_le from i (omega (arith, h, ge))))
-          (λ i ge h. ap (λ b. only_if b (run_of row i)) (fresh next from i taken (omega (arith, ge)) ∙ is_le from i (omega (arith, ge))))
+          (λ i ge h. ap (λ b. only_if b (run_of row i)) (fresh next from i taken ge ∙ lt-leb from i (omega (arith, h, ge))))
+          (λ i ge h. ap (λ b. only_if b (run_of row i)) (fresh next from i taken (omega (arith, ge)) ∙ le-leb from i (omega (arith, ge))))
           ∙ ap (λ n. taken_runs row taken next ++ list_below (λ i. run_of row (max from next + i)) n) size
 
     -- when each was looked at, the runs that ride are taken
@@ -183,8 +162,8 @@ module _ (w : Window) (rows : List StopRow) (day : ServiceDay) (row : FrequencyR
       found : (m : ℕ) → rides_by w rows day row m ≡ true → (m < next) × (taken m ≡ true)
       found m h =
           let p = and_parts (nat_lt (departure row m) row.end) (rides w rows (origin_at rows day (departure row m))) h in
-          let x = some_ride w rows (origin_at rows day (departure row m)) (length rows - 1) (lt_is 0 _ p.1) in
-          t.all m x.0 (omega arith) x.1 (lt_is (departure row m) row.end p.0) x.2
+          let x = some_ride w rows (origin_at rows day (departure row m)) (length rows - 1) (ltb-true 0 _ p.1) in
+          t.all m x.0 (omega arith) x.1 (ltb-true (departure row m) row.end p.0) x.2
 
       pub all_taken : taken_runs row taken next ≡ riding_by w rows day row
       unfolding riding_by
@@ -210,7 +189,7 @@ module _ (w : Window) (rows : List StopRow) (day : ServiceDay) where
   pub riding_by_all : (P : Repeat → Type 0) (row : FrequencyRow) → ((m : ℕ) → IsRun row m → rides w rows (origin_at rows day (departure row m)) ≡ true → P (run_of row m)) → All P (riding_by w rows day row)
   unfolding riding_by
   riding_by_all P row h = All-join P (λ m. only_if (rides_by w rows day row m) (run_of row m)) end_of_times (λ m l. one_all P (rides_by w rows day row m) (run_of row m) (λ r.
-      let p = and_parts (nat_lt (departure row m) row.end) (rides w rows (origin_at rows day (departure row m))) r in h m (lt_is (departure row m) row.end p.0) p.1))
+      let p = and_parts (nat_lt (departure row m) row.end) (rides w rows (origin_at rows day (departure row m))) r in h m (ltb-true (departure row m) row.end p.0) p.1))
 
   pub riding_of_all : (P : Repeat → Type 0) (fs : List FrequencyRow) → ((i : ℕ) → i < length fs → All P (riding_by w rows day (repeat_at fs i))) → All P (riding_of w rows day fs)
   unfolding riding_of
@@ -227,7 +206,7 @@ module _ (w : Window) (rows : List StopRow) (day : ServiceDay) where
   riding_some fs some =
       let P : Repeat → Type 0 = λ r. 0 < length rows in
       let all : All P (in_order (riding_of w rows day fs)) = All-in_order P (riding_of w rows day fs) (riding_of_all P fs (λ i l. riding_by_all P (repeat_at fs i) (λ m run h.
-      let x = some_ride w rows (origin_at rows day (departure (repeat_at fs i) m)) (length rows - 1) (lt_is 0 _ h) in omega (arith, x.1)))) in
+      let x = some_ride w rows (origin_at rows day (departure (repeat_at fs i) m)) (length rows - 1) (ltb-true 0 _ h) in omega (arith, x.1)))) in
       all 0 (record { departure = 0; line = 0 }) some
 
   rising : (row : FrequencyRow) → 1 ≤ row.headway → (m n : ℕ) → m < n → departure row m < departure row n

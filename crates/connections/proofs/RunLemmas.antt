@@ -1,10 +1,10 @@
 -- The runs that ride in a window, by service day, position of the trip, and how they start.
-use Rattle.std.proofs.Common.{◌≡◌, ℕ, ◌≤ℤ◌, ◌<ℤ◌, zero, suc, ◌+◌, ◌<◌, ◌≤◌, ◌⊎◌, inl, inr, nat_lt, Bool, true, false, List, [], ◌∷◌, ◌++◌, length, map, get_or, All, Some, refl, sym, ◌∙◌, subst, arith, ⊎_elim, if◌then◌else◌}
+use Rattle.std.proofs.Common.{◌≡◌, ℕ, ◌≤ℤ◌, ◌<ℤ◌, zero, suc, ◌+◌, ◌<◌, ◌≤◌, ◌⊎◌, inl, inr, Bool, true, false, List, [], ◌∷◌, ◌++◌, length, map, get_or, All, Some, refl, sym, ◌∙◌, subst, arith, ⊎_elim, if◌then◌else◌}
 use Rattle.std.specs.Prelude.{AllPairs}
-use Rattle.std.proofs.lemmas.Bool.Decides.{nat_tests}
 use Rattle.std.proofs.lemmas.Int.{ints}
 use Rattle.std.proofs.lemmas.List.{get_or-map, length-map}
 use Rattle.std.proofs.lemmas.List.Elements.{All-append, All-cons, All-weaker, All-nil, All-get_or, All-map}
+use Rattle.std.proofs.lemmas.Bool.{ltb-true}
 use Rattle.gtfs_tables.specs.declared.frequencies.FrequencyRow.{FrequencyRow}
 use Rattle.gtfs_tables.specs.declared.stop_times.StopRow.{StopRow}
 use Rattle.gtfs_tables.specs.Feeds.{FeedParts}
@@ -26,9 +26,6 @@ use Rattle.connections.proofs.DayLemmas.{day-zero, day-suc, days-zero, days-suc}
 use Rattle.connections.proofs.OrderLemmas.{All-in_order, pairs_in_order}
 use Rattle.connections.proofs.PairLemmas.{AllPairs-append, AllPairs-nil, AllPairs-one}
 use Rattle.connections.proofs.RepeatLemmas.{riding_by_all, riding_of_all, riding_of_pairs}
-
-lt_test : (a b : ℕ) → nat_lt a b ≡ true → a < b
-lt_test a b h = grind (arith, nat_tests)
 
 -- by day, then by trip, and of one trip and day apart by how they start
 abbrev pub Precedes : Run → Run → Type 0
@@ -53,7 +50,7 @@ module _ (w : Window) (rows : List StopRow) (day : ServiceDay) (trip : ℕ) wher
 
   own_rides : (b : Bool) → b ≡ rides w rows (origin_of_day day) → AreRides (only_if b (own_run day trip))
   own_rides true e = record {
-    each = All-cons Own (own_run day trip) [] (record { same = refl; trip_is = refl; rides = lt_test 0 _ (sym e) }) (All-nil Own);
+    each = All-cons Own (own_run day trip) [] (record { same = refl; trip_is = refl; rides = ltb-true 0 _ (sym e) }) (All-nil Own);
     order = AllPairs-one Precedes (own_run day trip);
   }
   own_rides false e = no_rides
@@ -67,7 +64,7 @@ module _ (w : Window) (rows : List StopRow) (day : ServiceDay) (trip : ℕ) wher
       let rs = in_order (riding_of w rows day fs) in
       let P : Repeat → Type 0 = λ r. Own (f r) in
       let all : All P rs = All-in_order P (riding_of w rows day fs) (riding_of_all w rows day P fs (λ i l. riding_by_all w rows day P _ (λ m run h.
-      record { same = refl; trip_is = refl; rides = lt_test 0 _ h }))) in
+      record { same = refl; trip_is = refl; rides = ltb-true 0 _ h }))) in
       let apart = pairs_in_order (riding_of w rows day fs) (riding_of_pairs w rows day fs are) in
       record {
         each = All-map Own f rs all;

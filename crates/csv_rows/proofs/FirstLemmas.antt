@@ -1,8 +1,8 @@
 -- The first fault below a number, step by step, and that it is the least of all that hold.
 use Rattle.std.proofs.Common.{◌≡◌, ℕ, zero, suc, ◌+◌, ◌<◌, ◌≤◌, Bool, true, false, ◌||◌, ◌&&◌, Option, Some, None, option_map, if◌then◌else◌, refl, sym, ap, ap₂, ◌∙◌, subst, arith, ⊎_elim, eq-or-lt_of_le, add-one, ◌⊎◌, inl, inr}
 use Rattle.std.proofs.lemmas.Option.{none-some}
+use Rattle.std.proofs.lemmas.Bool.{cases_Bool, or_right, and_from, and_parts}
 use Rattle.csv_rows.specs.First.{or_else, first_below, any_below}
-use Rattle.csv_rows.proofs.TestLemmas.{and_true, and_parts}
 
 pub first-zero : {F : Type 0} (f : ℕ → Option F) → first_below f 0 ≡ None
 unfolding first_below
@@ -68,20 +68,12 @@ first-is f (suc n) e h =
     (λ (w : (first_below f n ≡ None) × (f n ≡ Some e)). record { place = n; inside = omega arith; here = w.1; none = none-each f n w.0 })
     (some_one (first_below f n) (f n) e (sym (first-suc f n) ∙ h))
 
-pub true_or_false : (b : Bool) → (b ≡ true) ⊎ (b ≡ false)
-true_or_false true = inl refl
-true_or_false false = inr refl
-
-or_true : (a b : Bool) → b ≡ true → (a || b) ≡ true
-or_true true b h = refl
-or_true false b h = h
-
 -- it holds at k
 pub any-true : (p : ℕ → Bool) (n k : ℕ) → k < n → p k ≡ true → any_below p n ≡ true
 unfolding any_below
 any-true p zero k l h = absurd (omega arith)
 any-true p (suc n) k l h =
-    ⊎_elim (λ (e : k ≡ n). or_true (any_below p n) (p n) (subst (λ (i : ℕ). p i ≡ true) e h))
+    ⊎_elim (λ (e : k ≡ n). or_right (any_below p n) (p n) (subst (λ (i : ℕ). p i ≡ true) e h))
     (λ (less : k < n). ap (λ b. b || p n) (any-true p n k less h)) (eq-or-lt_of_le (omega arith))
 
 -- it holds nowhere
@@ -90,18 +82,18 @@ unfolding any_below
 any-false p zero h = refl
 any-false p (suc n) h =
     ⊎_elim (λ (t : p n ≡ true). absurd (h n (omega arith) t))
-    (λ (f : p n ≡ false). ap₂ (λ a b. a || b) (any-false p n (λ k l. h k (omega arith))) f) (true_or_false (p n))
+    (λ (f : p n ≡ false). ap₂ (λ a b. a || b) (any-false p n (λ k l. h k (omega arith))) f) (cases_Bool (p n))
 
 -- where p holds at one place alone, q is asked there alone
 pub any-one : (p q : ℕ → Bool) (n b : ℕ) → b < n → p b ≡ true → ((j : ℕ) → j < n → p j ≡ true → j ≡ b) → any_below (λ j. p j && q j) n ≡ q b
 any-one p q n b l here one =
-    ⊎_elim (λ (t : q b ≡ true). any-true (λ j. p j && q j) n b l (and_true (p b) (q b) here t) ∙ sym t)
+    ⊎_elim (λ (t : q b ≡ true). any-true (λ j. p j && q j) n b l (and_from (p b) (q b) here t) ∙ sym t)
     (λ (f : q b ≡ false).
     any-false (λ j. p j && q j) n (λ j less both.
     let same = one j less (and_parts (p j) (q j) both).0 in
     let P : ℕ → Type 0 = λ i. q i ≡ true in
     let t : q b ≡ true = subst P same (and_parts (p j) (q j) both).1 in cc) ∙ sym f)
-    (true_or_false (q b))
+    (cases_Bool (q b))
 
 -- where p holds nowhere, q is never asked
 pub any-none : (p q : ℕ → Bool) (n : ℕ) → ((j : ℕ) → j < n → p j ≡ true → ⊥) → any_below (λ j. p j && q j) n ≡ false

@@ -1,7 +1,7 @@
 -- Ids by their numbers, and ids that stand twice.
 use Rattle.std.proofs.Common.{◌≡◌, ℕ, ◌+◌, ◌<◌, ◌≤◌, ◌==◌, ◌&&◌, Bool, true, false, List, [], ◌∷◌, ◌++◌, length, slice_index_or, Option, Some, None, IfSome, IfNone, Contains, refl, sym, ap, ap₂, ◌∙◌, subst, arith, ⊎_elim, bytes_eq, if◌then◌else◌, add-one, length-append}
 use Rattle.std.specs.Prelude.{slice_get}
-use Rattle.std.proofs.lemmas.Bool.{cases_lt}
+use Rattle.std.proofs.lemmas.Bool.{cases_lt, cases_Bool, eq-eqb, ne_eqb}
 use Rattle.std.proofs.lemmas.List.{get_or_default, get_or_append_left, get_or_push}
 use Rattle.std.proofs.lemmas.Option.{slice_get_cases, none-some}
 use Rattle.std.proofs.lemmas.Slice.Eq.{bytes_eq-Decides}
@@ -10,9 +10,8 @@ use Rattle.csv_rows.specs.declared.feed_tables.FeedFault.{FeedFault}
 use Rattle.csv_rows.specs.declared.feed_tables.FeedFault.TheVariants.{DuplicateKey}
 use Rattle.csv_rows.specs.First.{or_else, first_below, any_below}
 use Rattle.csv_rows.specs.Tables.{place_in}
-use Rattle.csv_rows.proofs.FirstLemmas.{any-true, any-false, any-one, any-none, first-is, first-suc, first-same, none-each, true_or_false}
+use Rattle.csv_rows.proofs.FirstLemmas.{any-true, any-false, any-one, any-none, first-is, first-suc, first-same, none-each}
 use Rattle.csv_rows.proofs.PlaceLemmas.{place_is}
-use Rattle.csv_rows.proofs.TestLemmas.{eq_true, eq_false}
 use Rattle.plan_model.specs.NameLists.{AreDistinct}
 use Rattle.csv_rows.specs.RowFaults.{repeated_id}
 use Rattle.csv_rows.specs.Lists.{list_below}
@@ -139,10 +138,10 @@ place-same x y names m k h g =
     let e : x ≡ y = (bytes_eq-Decides x y).0 t in
     let s : Some m ≡ Some k = sym h ∙ ap (λ z. place_in z names) e ∙ g in
     let same : m ≡ k = cc in
-    eq_true m k same ∙ sym t)
+    eq-eqb m k same ∙ sym t)
     (λ (f : bytes_eq x y ≡ false).
-    eq_false m k (λ e.
+    ne_eqb m k (λ e.
     let P : ℕ → Type 0 = λ i. slice_index_or names i [] ≡ y in
     let same : x ≡ y = sym a.1 ∙ subst P (sym e) b.1 in
     let t = (bytes_eq-Decides x y).1 same in cc) ∙ sym f)
-    (true_or_false (bytes_eq x y))
+    (cases_Bool (bytes_eq x y))

@@ -1,11 +1,10 @@
 -- What the key before a key tells of the rows before its row in its group.
 use Rattle.std.proofs.Common.{◌≡◌, ◌≢◌, ℕ, ◌-◌, ◌<◌, ◌≤◌, ◌==◌, nat_lt, ◌⊎◌, inl, inr, Bool, true, false, not, ◌&&◌, List, length, Option, Some, None, IfSome, if◌then◌else◌, refl, sym, ap, ◌∙◌, subst, arith, ⊎_elim, eq-or-lt_of_le}
-use Rattle.std.proofs.lemmas.Bool.{cases_lt}
+use Rattle.std.proofs.lemmas.Bool.{cases_lt, cases_Bool, eqb-true, eq-eqb, ltb-true, lt-ltb, and_from, and_parts, not_from_false, not-true, true≢false}
 use Rattle.csv_rows.specs.First.{first_below, any_below}
 use Rattle.csv_rows.specs.declared.keys.Key.{Key}
 use Rattle.csv_rows.specs.Keys.{key_at, IsAtMost, AreSorted, IsBefore, has_twin, twin_at, repeated, precedes, just_precedes}
-use Rattle.csv_rows.proofs.FirstLemmas.{any-true, any-false, any-one, any-none, none-each, true_or_false}
-use Rattle.csv_rows.proofs.TestLemmas.{eq_test, eq_true, lt_test, lt_true, and_true, and_parts, not_from, not_to}
+use Rattle.csv_rows.proofs.FirstLemmas.{any-true, any-false, any-one, any-none, none-each}
 
 pub less_group : (a b : Key) → IsAtMost a b → a.group ≤ b.group
 less_group a b h = ⊎_elim (λ x. omega arith) (λ x. omega (arith, x.0)) h
@@ -31,7 +30,7 @@ AreApart group order n = (j i : ℕ) → j < i → i < n → group j ≡ group i
 pub no_twins : {F : Type 0} (fault : ℕ → F) (group order : ℕ → ℕ) (n : ℕ) → first_below (λ i. if has_twin group order i then Some (fault i) else None) n ≡ None → AreApart group order n
 unfolding twin
 no_twins fault group order n none j i less inside same same' =
-    let here : twin group order i j ≡ true = and_true (group j == group i) (order j == order i) (eq_true _ _ same) (eq_true _ _ same') in
+    let here : twin group order i j ≡ true = and_from (group j == group i) (order j == order i) (eq-eqb _ _ same) (eq-eqb _ _ same') in
     some_not (has_twin group order i) (fault i) (any-true (twin group order i) i j less here) (none-each (λ i. if has_twin group order i then Some (fault i) else None) n none i inside)
 
 abbrev pub asked : (ℕ → Bool) → Option Key → Bool
@@ -89,16 +88,16 @@ module _ (test : ℕ → Bool) (group order : ℕ → ℕ) (n : ℕ) (keys : Lis
   stands_from m k g h b =
       let j = (key_at keys m).row in let i = (key_at keys k).row in
       let p = and_parts (group j == group i) (nat_lt (order j) (order i)) (and_parts (test j && test i) ((group j == group i) && nat_lt (order j) (order i)) b).1 in (
-        s.groups m g ∙ eq_test (group j) (group i) p.0 ∙ sym (s.groups k h),
-        omega (arith, lt_test (order j) (order i) p.1, s.orders m g, s.orders k h),
+        s.groups m g ∙ eqb-true (group j) (group i) p.0 ∙ sym (s.groups k h),
+        omega (arith, ltb-true (order j) (order i) p.1, s.orders m g, s.orders k h),
       )
 
   stands_to : (m k : ℕ) → m < length keys → k < length keys → (key_at keys m).group ≡ (key_at keys k).group → (key_at keys m).order < (key_at keys k).order
       → stands (key_at keys m).row (key_at keys k).row ≡ true
   unfolding stands
   stands_to m k g h same less =
-      and_true _ _ (and_true _ _ (s.taken m g) (s.taken k h))
-      (and_true _ _ (eq_true _ _ (sym (s.groups m g) ∙ same ∙ s.groups k h)) (lt_true _ _ (omega (arith, less, s.orders m g, s.orders k h))))
+      and_from _ _ (and_from _ _ (s.taken m g) (s.taken k h))
+      (and_from _ _ (eq-eqb _ _ (sym (s.groups m g) ∙ same ∙ s.groups k h)) (lt-ltb _ _ (omega (arith, less, s.orders m g, s.orders k h))))
 
   -- the test holds of a row that stands before, and so it has a key
   key_of_first : (x i : ℕ) → x < n → stands x i ≡ true → (k : ℕ) × (k < length keys) × ((key_at keys k).row ≡ x)
@@ -116,8 +115,8 @@ module _ (test : ℕ → Bool) (group order : ℕ → ℕ) (n : ℕ) (keys : Lis
   unfolding just between
   just_to apart k some h same =
       let i = (key_at keys k).row in let j = (key_at keys (k - 1)).row in
-      and_true _ _ (stands_to (k - 1) k (omega arith) h same (rises apart (k - 1) k (omega arith) h same))
-      (not_to _ (any-false (between j i) n (λ x less b.
+      and_from _ _ (stands_to (k - 1) k (omega arith) h same (rises apart (k - 1) k (omega arith) h same))
+      (not_from_false _ (any-false (between j i) n (λ x less b.
       let p = and_parts (stands j x) (stands x i) b in
       let w = key_of_first x i less p.1 in
       let first = stands_from (k - 1) w.0 (omega arith) w.1 (subst (λ (y : ℕ). stands j y ≡ true) (sym w.2) p.0) in
@@ -142,8 +141,8 @@ module _ (test : ℕ → Bool) (group order : ℕ → ℕ) (n : ℕ) (keys : Lis
             let c = (key_at keys (k - 1)).row in
             let first = stands_to m (k - 1) w.1 (omega arith) (q.0 ∙ sym e.0) (rises apart m (k - 1) early (omega arith) (q.0 ∙ sym e.0)) in
             let second = stands_to (k - 1) k (omega arith) h e.0 (rises apart (k - 1) k (omega arith) h e.0) in
-            let there = and_true (stands x c) (stands c i) (subst (λ (y : ℕ). stands y c ≡ true) w.2 first) second in
-            absurd (not_from (any_below (between x i) n) p.1 (any-true (between x i) n c (s.inside (k - 1) (omega arith)) there))) e.2),
+            let there = and_from (stands x c) (stands c i) (subst (λ (y : ℕ). stands y c ≡ true) w.2 first) second in
+            absurd (true≢false (sym (any-true (between x i) n c (s.inside (k - 1) (omega arith)) there) ∙ not-true (any_below (between x i) n) p.1))) e.2),
         e.0,
       )
 
@@ -168,8 +167,8 @@ module _ (group order : ℕ → ℕ) (n : ℕ) (keys : List Key) (s : AreSorted 
       let w = s.all j (omega (arith, s.inside k h)) refl in
       let m = w.0 in
       let p = and_parts (group j == group i) (order j == order i) b in
-      let same : (key_at keys m).group ≡ (key_at keys k).group = s.groups m w.1 ∙ ap group w.2 ∙ eq_test (group j) (group i) p.0 ∙ sym (s.groups k h) in
-      let same' : (key_at keys m).order ≡ (key_at keys k).order = s.orders m w.1 ∙ ap order w.2 ∙ eq_test (order j) (order i) p.1 ∙ sym (s.orders k h) in
+      let same : (key_at keys m).group ≡ (key_at keys k).group = s.groups m w.1 ∙ ap group w.2 ∙ eqb-true (group j) (group i) p.0 ∙ sym (s.groups k h) in
+      let same' : (key_at keys m).order ≡ (key_at keys k).order = s.orders m w.1 ∙ ap order w.2 ∙ eqb-true (order j) (order i) p.1 ∙ sym (s.orders k h) in
       ⊎_elim (λ (low : m < k).
       let e = earlier_key (λ i. true) group order n keys s m k low h same in
       (omega arith, e.0, omega (arith, e.1, same', less_orders (key_at keys (k - 1)) (key_at keys k) (s.rising (k - 1) k (omega arith) h) e.0)))
@@ -191,13 +190,13 @@ module _ (group order : ℕ → ℕ) (n : ℕ) (keys : List Key) (s : AreSorted 
       let same : (key_at keys (k - 1)).group ≡ (key_at keys k).group = ap (λ (y : Key). y.group) (sym b.1) ∙ b.2 in
       ap (λ t. told t i)
       (⊎_elim (λ (t : (x.order == (key_at keys k).order) ≡ true).
-      let same' : (key_at keys (k - 1)).order ≡ (key_at keys k).order = sym e ∙ eq_test x.order (key_at keys k).order t in
+      let same' : (key_at keys (k - 1)).order ≡ (key_at keys k).order = sym e ∙ eqb-true x.order (key_at keys k).order t in
       let g : k - 1 < length keys = omega arith in
       any-true (twin group order i) i j (earlier_place (λ i. true) group order n keys s (k - 1) k (omega (arith, b.0)) h same same')
-      (and_true (group j == group i) (order j == order i) (eq_true _ _ (sym (s.groups (k - 1) g) ∙ same ∙ s.groups k h)) (eq_true _ _ (sym (s.orders (k - 1) g) ∙ same' ∙ s.orders k h)))
+      (and_from (group j == group i) (order j == order i) (eq-eqb _ _ (sym (s.groups (k - 1) g) ∙ same ∙ s.groups k h)) (eq-eqb _ _ (sym (s.orders (k - 1) g) ∙ same' ∙ s.orders k h)))
       ∙ sym t)
       (λ (f : (x.order == (key_at keys k).order) ≡ false).
       any-false (twin group order i) i (λ y less t.
       let w = twin_before k y h less t in
-      let never : true ≡ false = sym (eq_true x.order (key_at keys k).order (e ∙ w.2)) ∙ f in cc) ∙ sym f)
-      (true_or_false (x.order == (key_at keys k).order)))
+      let never : true ≡ false = sym (eq-eqb x.order (key_at keys k).order (e ∙ w.2)) ∙ f in cc) ∙ sym f)
+      (cases_Bool (x.order == (key_at keys k).order)))

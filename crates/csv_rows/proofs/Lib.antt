@@ -12,4 +12,3 @@ pub mod SoonestLemmas
 pub mod SortLemmas
 pub mod SpaceLemmas
 pub mod TableLemmas
-pub mod TestLemmas

@@ -2,7 +2,7 @@
 use Rattle.std.proofs.Common.{◌≡◌, ℕ, Bool, true, false, ◌==◌, List, length, Option, Some, None, if◌then◌else◌, IsUtf8, sym, ap, ◌∙◌, ⊎_elim}
 use Rattle.std.specs.Str.{is_utf8}
 use Rattle.std.proofs.lemmas.Str.{IsUtf8-from_is_utf8, is_utf8-from_IsUtf8}
-use Rattle.csv_rows.proofs.FirstLemmas.{true_or_false}
+use Rattle.std.proofs.lemmas.Bool.{cases_Bool}
 use Rattle.csv_rows.specs.Names.{name_in}
 
 abbrev name_if : Bool → Bool → List ℕ → Option (List ℕ)
@@ -15,4 +15,4 @@ pub name_none : (text : List ℕ) → false ≡ (length text == 0) → (IsUtf8 t
 name_none text some u =
     ⊎_elim (λ (t : is_utf8 text ≡ true). absurd (u (IsUtf8-from_is_utf8 text t)))
     (λ (f : is_utf8 text ≡ false). ap (λ a. name_if a false text) some ∙ ap (λ b. name_if (length text == 0) b text) (sym f))
-    (true_or_false (is_utf8 text))
+    (cases_Bool (is_utf8 text))

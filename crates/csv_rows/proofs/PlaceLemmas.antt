@@ -1,11 +1,12 @@
 -- The place of a name in a header.
 use Rattle.std.proofs.Common.{◌≡◌, ℕ, ◌+◌, ◌<◌, true, false, List, [], length, slice_index_or, Option, Some, None, IfSome, IfNone, if◌then◌else◌, sym, ap, ◌∙◌, ⊎_elim, bytes_eq}
 use Rattle.std.proofs.lemmas.Slice.Eq.{bytes_eq-Decides}
+use Rattle.std.proofs.lemmas.Bool.{cases_Bool}
 use Rattle.csv_rows.specs.Tables.{place_in, field_at}
-use Rattle.csv_rows.proofs.FirstLemmas.{first-none, first-at, true_or_false}
+use Rattle.csv_rows.proofs.FirstLemmas.{first-none, first-at}
 
 pub bytes_ne : (a b : List ℕ) → (a ≡ b → ⊥) → bytes_eq a b ≡ false
-bytes_ne a b h = ⊎_elim (λ (t : bytes_eq a b ≡ true). absurd (h ((bytes_eq-Decides a b).0 t))) (λ (f : bytes_eq a b ≡ false). f) (true_or_false (bytes_eq a b))
+bytes_ne a b h = ⊎_elim (λ (t : bytes_eq a b ≡ true). absurd (h ((bytes_eq-Decides a b).0 t))) (λ (f : bytes_eq a b ≡ false). f) (cases_Bool (bytes_eq a b))
 
 -- what a search of the header finds
 pub place_is : (o : Option ℕ) (name : List ℕ) (names : List (List ℕ))

@@ -1,10 +1,10 @@
 -- The soonest of the faults of rows, key by key, and that it is the first.
 use Rattle.std.proofs.Common.{◌≡◌, ℕ, ◌+◌, ◌<◌, ◌≤◌, nat_lt, Bool, true, false, ◌⊎◌, inl, inr, List, length, Option, Some, None, option_map, if◌then◌else◌, refl, sym, subst, arith, ⊎_elim, eq-or-lt_of_le}
+use Rattle.std.proofs.lemmas.Bool.{cases_Bool, ltb-true, ltb-false}
 use Rattle.csv_rows.specs.First.{first_below}
 use Rattle.csv_rows.specs.declared.keys.Key.{Key}
 use Rattle.csv_rows.specs.Keys.{key_at, AreSorted, sooner}
-use Rattle.csv_rows.proofs.FirstLemmas.{first-none, first-at, true_or_false}
-use Rattle.csv_rows.proofs.TestLemmas.{lt_test, le_test}
+use Rattle.csv_rows.proofs.FirstLemmas.{first-none, first-at}
 
 -- of the rows of the first m keys this one is the first that has a fault, or none has
 abbrev pub IsSoonest : {F : Type 0} → (ℕ → Option F) → ℕ → List Key → ℕ → Option (ℕ × F) → Type 0
@@ -22,12 +22,12 @@ module _ {F : Type 0} (f : ℕ → Option F) (n : ℕ) (keys : List Key) where
       → IsSoonest f n keys (m + 1) (if b then Some x else Some (row m, e))
   unfolding row
   nearer m x e true less inside here h =
-      (h.0, h.1, more m (λ k. (f (row k) ≡ None) ⊎ (x.0 ≤ row k)) h.2 (inr (omega (arith, lt_test x.0 (row m) less))))
+      (h.0, h.1, more m (λ k. (f (row k) ≡ None) ⊎ (x.0 ≤ row k)) h.2 (inr (omega (arith, ltb-true x.0 (row m) less))))
   nearer m x e false less inside here h = (
     here,
     inside,
     more m (λ k. (f (row k) ≡ None) ⊎ (row m ≤ row k))
-        (λ k l. ⊎_elim (λ none. inl none) (λ (r : x.0 ≤ row k). inr (omega (arith, le_test x.0 (row m) less, r))) (h.2 k l)) (inr (omega arith)),
+        (λ k l. ⊎_elim (λ none. inl none) (λ (r : x.0 ≤ row k). inr (omega (arith, ltb-false x.0 (row m) less, r))) (h.2 k l)) (inr (omega arith)),
   )
 
   step : (m : ℕ) (first : Option (ℕ × F)) (o : Option F) → row m < n → f (row m) ≡ o → IsSoonest f n keys m first → IsSoonest f n keys (m + 1) (sooner first (row m) o)
@@ -48,7 +48,7 @@ module _ {F : Type 0} (f : ℕ → Option F) (n : ℕ) (keys : List Key) where
       → (m : ℕ) → length keys ≤ m → (first : Option (ℕ × F)) → IsSoonest f n keys m first → first_below f n ≡ option_map (λ x. x.1) first
   soonest-first test group order s quiet m long None h = first-none f n (λ i l.
       ⊎_elim (λ (t : test i ≡ true). let w = s.all i l t in let P : ℕ → Type 0 = λ j. f j ≡ None in subst P w.2 (h w.0 (omega (arith, w.1))))
-      (λ (p : test i ≡ false). quiet i p) (true_or_false (test i)))
+      (λ (p : test i ≡ false). quiet i p) (cases_Bool (test i)))
   soonest-first test group order s quiet m long (Some x) h =
       first-at f x.0 n x.1 h.1
       (first-none f x.0 (λ i l.
@@ -56,5 +56,5 @@ module _ {F : Type 0} (f : ℕ → Option F) (n : ℕ) (keys : List Key) where
       let w = s.all i (omega (arith, h.1)) t in
       ⊎_elim (λ (none : f (key_at keys w.0).row ≡ None). let P : ℕ → Type 0 = λ j. f j ≡ None in subst P w.2 none)
       (λ (late : x.0 ≤ (key_at keys w.0).row). absurd (omega (arith, late, w.2))) (h.2 w.0 (omega (arith, w.1))))
-      (λ (p : test i ≡ false). quiet i p) (true_or_false (test i))))
+      (λ (p : test i ≡ false). quiet i p) (cases_Bool (test i))))
       h.0

@@ -1,7 +1,6 @@
 -- The longest change of each place, one row more.
 use Rattle.std.proofs.Common.{◌≡◌, ℕ, suc, ◌+◌, ◌<◌, ◌==◌, max, true, false, List, length, get_or, set, refl, sym, ap, ◌∙◌, subst, arith, ⊎_elim, add-one, get_or-set_same, get_or-set_other}
-use Rattle.std.proofs.lemmas.Bool.Decides.{nat_tests}
-use Rattle.csv_rows.proofs.FirstLemmas.{true_or_false}
+use Rattle.std.proofs.lemmas.Bool.{cases_Bool, eqb-true, eqb-false}
 use Rattle.cut_file.specs.declared.rows.CutRow.{CutRow}
 use Rattle.cut_file.specs.Keys.{cut_row}
 use Rattle.cut_file.specs.Networks.{longest, change_by, seconds_of}
@@ -14,12 +13,6 @@ pub longest-suc : (rows : List CutRow) (n p : ℕ) → longest rows (suc n) p �
 unfolding longest
 longest-suc rows n p = refl
 
-eq_test : (a b : ℕ) → (a == b) ≡ true → a ≡ b
-eq_test a b h = grind (arith, nat_tests)
-
-ne_test : (a b : ℕ) → (a == b) ≡ false → a ≡ b → ⊥
-ne_test a b h e = grind (arith, nat_tests)
-
 max_zero : (a : ℕ) → max a 0 ≡ a
 max_zero a = omega arith
 
@@ -30,12 +23,12 @@ longest_next rows i times places m size each inside e p l =
     let f = (cut_row rows i).from in
     rw add-one
     (⊎_elim (λ (t : (f == p) ≡ true).
-    let same : f ≡ p = eq_test f p t in
+    let same : f ≡ p = eqb-true f p t in
     let P : ℕ → Type 0 = λ x. get_or (set times f m) x 0 ≡ max (longest rows i x) (seconds_of (cut_row rows i).change) in
     let here : get_or (set times f m) f 0 ≡ max (longest rows i f) (seconds_of (cut_row rows i).change) =
     get_or-set_same times f m 0 (omega arith) ∙ e ∙ ap (λ x. max x (seconds_of (cut_row rows i).change)) (each f inside) in
     subst P same here ∙ ap (λ b. max (longest rows i p) (change_by b (cut_row rows i))) (sym t) ∙ sym (longest-suc rows i p))
     (λ (g : (f == p) ≡ false).
-    get_or-set_other times f p m 0 (λ e. ne_test f p g (sym e)) ∙ each p l ∙ sym (max_zero (longest rows i p))
+    get_or-set_other times f p m 0 (λ e. eqb-false f p g (sym e)) ∙ each p l ∙ sym (max_zero (longest rows i p))
     ∙ ap (λ b. max (longest rows i p) (change_by b (cut_row rows i))) (sym g) ∙ sym (longest-suc rows i p))
-    (true_or_false (f == p)))
+    (cases_Bool (f == p)))

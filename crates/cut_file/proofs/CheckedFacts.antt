@@ -1,10 +1,9 @@
 -- The first fault of a table, by the step that finds it.
-use Rattle.std.proofs.Common.{◌≡◌, ℕ, ◌<◌, ◌≤◌, nat_lt, false, List, length, Option, Some, None, slice_index_or, if◌then◌else◌, refl, sym, ap, ◌∙◌, subst, arith}
-use Rattle.std.proofs.lemmas.Bool.Decides.{nat_tests}
+use Rattle.std.proofs.Common.{◌≡◌, ℕ, ◌<◌, ◌≤◌, List, length, Option, Some, None, slice_index_or, if◌then◌else◌, refl, sym, ap, ◌∙◌, subst}
+use Rattle.std.proofs.lemmas.Bool.{lt-ltb, le-ltb}
 use Rattle.csv_rows.specs.First.{or_else, first_below}
 use Rattle.csv_rows.specs.declared.columns.Column.TheVariants.{Run, Step, From, To, Dep, Arr}
 use Rattle.csv_rows.specs.Tables.{place_of, row_count}
-use Rattle.csv_rows.proofs.TestLemmas.{lt_true}
 use Rattle.cut_file.specs.declared.rows.CutRow.{CutRow}
 use Rattle.cut_file.specs.declared.rows.Columns.{Columns}
 use Rattle.csv_rows.specs.declared.keys.Key.{Key}
@@ -41,20 +40,17 @@ pub column_first : (t : List (List (List ℕ))) (limit : ℕ) (c : Columns) (f :
 column_first t limit c f h e =
     first_is t limit ∙ ap (λ a. all_faults a (too_many_rows t limit) (first_below (bad_field t) (row_count t)) (runs_of t)) (missing_is t c h ∙ sym e)
 
-lt_false : (a b : ℕ) → b ≤ a → nat_lt a b ≡ false
-lt_false a b h = grind (arith, nat_tests)
-
 pub count_first : (t : List (List (List ℕ))) (limit : ℕ) (c : Columns) → AreColumns t c → None ≡ missing_in c → limit < row_count t → first_fault t limit ≡ Some (TooManyRows (row_count t))
 count_first t limit c h e l =
     first_is t limit ∙ ap (λ a. all_faults a (too_many_rows t limit) (first_below (bad_field t) (row_count t)) (runs_of t)) (missing_is t c h ∙ sym e)
-    ∙ ap (λ b. or_else (if b then Some (TooManyRows (row_count t)) else None) (or_else (first_below (bad_field t) (row_count t)) (runs_of t))) (lt_true limit (row_count t) l)
+    ∙ ap (λ b. or_else (if b then Some (TooManyRows (row_count t)) else None) (or_else (first_below (bad_field t) (row_count t)) (runs_of t))) (lt-ltb limit (row_count t) l)
 
 -- with its columns, and few enough rows
 pub rows_first : (t : List (List (List ℕ))) (limit : ℕ) (c : Columns) → AreColumns t c → None ≡ missing_in c → row_count t ≤ limit
     → first_fault t limit ≡ or_else (first_below (bad_field t) (row_count t)) (runs_of t)
 rows_first t limit c h e l =
     first_is t limit ∙ ap (λ a. all_faults a (too_many_rows t limit) (first_below (bad_field t) (row_count t)) (runs_of t)) (missing_is t c h ∙ sym e)
-    ∙ ap (λ b. or_else (if b then Some (TooManyRows (row_count t)) else None) (or_else (first_below (bad_field t) (row_count t)) (runs_of t))) (lt_false limit (row_count t) l)
+    ∙ ap (λ b. or_else (if b then Some (TooManyRows (row_count t)) else None) (or_else (first_below (bad_field t) (row_count t)) (runs_of t))) (le-ltb limit (row_count t) l)
 
 pub field_first : (t : List (List (List ℕ))) (o : Option CutFault) (f : CutFault) → first_below (bad_field t) (row_count t) ≡ Some f → or_else (first_below (bad_field t) (row_count t)) o ≡ Some f
 field_first t o f h = ap (λ a. or_else a o) h

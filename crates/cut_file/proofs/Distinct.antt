@@ -1,13 +1,11 @@
 -- Numbers of names: one for each name.
 use Rattle.std.proofs.Common.{◌≡◌, ℕ, zero, suc, ◌<◌, ◌≤◌, ◌==◌, Bool, true, false, List, [], ◌∷◌, ◌++◌, get_or, slice_get, Some, is_some, if◌then◌else◌, refl, sym, ap, ◌∙◌, subst, arith, ⊎_elim, Contains, bytes_eq}
-use Rattle.std.proofs.lemmas.Bool.{cases_lt}
+use Rattle.std.proofs.lemmas.Bool.{cases_lt, cases_Bool, eq-eqb, ne_eqb}
 use Rattle.std.proofs.lemmas.Slice.Eq.{bytes_eq-Decides}
 use Rattle.std.proofs.lemmas.Option.{slice_get_within, get_or_from_slice_get, same_Some}
 use Rattle.plan_model.specs.NameLists.{AreDistinct}
 use Rattle.plan_model.proofs.Texts.{AreDistinct-push}
 use Rattle.csv_rows.specs.Tables.{place_in}
-use Rattle.csv_rows.proofs.FirstLemmas.{true_or_false}
-use Rattle.csv_rows.proofs.TestLemmas.{eq_true, eq_false}
 use Rattle.cut_file.specs.Faults.{row}
 use Rattle.cut_file.specs.Cut.{add_new, run_names, place_names}
 use Rattle.cut_file.proofs.NumberFacts.{there_place}
@@ -52,10 +50,10 @@ pub same_name : (names : List (List ℕ)) → AreDistinct names → (a b : ℕ) 
 same_name names d a b x y h k =
     ⊎_elim (λ (t : bytes_eq x y ≡ true).
     let e : x ≡ y = (bytes_eq-Decides x y).0 t in
-    t ∙ sym (eq_true a b (one_number names d a b y (h ∙ ap Some e) k)))
+    t ∙ sym (eq-eqb a b (one_number names d a b y (h ∙ ap Some e) k)))
     (λ (f : bytes_eq x y ≡ false).
-    f ∙ sym (eq_false a b (λ e.
+    f ∙ sym (ne_eqb a b (λ e.
     let P : ℕ → Type 0 = λ i. slice_get names i ≡ Some y in
     let s : x ≡ y = same_Some x y (sym h ∙ subst P (sym e) k) in
     true_is_not (bytes_eq x y) ((bytes_eq-Decides x y).1 s) f)))
-    (true_or_false (bytes_eq x y))
+    (cases_Bool (bytes_eq x y))

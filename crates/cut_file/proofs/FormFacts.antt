@@ -1,6 +1,5 @@
 -- What the forms of the fields bound.
 use Rattle.std.proofs.Common.{◌≡◌, ℕ, ◌+◌, ◌<◌, ◌≤◌, Bool, true, false, ◌==◌, nat_lt, List, length, Option, Some, None, Result, Ok, Err, IfSome, option_map, if◌then◌else◌, refl, subst, arith}
-use Rattle.std.proofs.lemmas.Bool.Decides.{nat_tests}
 use Rattle.csv_rows.specs.declared.columns.Column.{Column}
 use Rattle.csv_rows.specs.declared.columns.Column.TheVariants.{Class, Run, Step, From, To, Dep, Arr, Board, Exit, Change}
 use Rattle.delay_table.proofs.LineFacts.{whole_bound}
@@ -8,6 +7,7 @@ use Rattle.clock_text.specs.Digits.{optional_seconds_of, whole_of}
 use Rattle.clock_text.specs.Times.{moment_at}
 use Rattle.csv_rows.specs.First.{read}
 use Rattle.std.specs.Str.{is_utf8}
+use Rattle.std.proofs.lemmas.Bool.{ltb-true}
 use Rattle.csv_rows.specs.Names.{name_in}
 use Rattle.cut_file.specs.Forms.{before_end, early, class_in, flag_in}
 use Rattle.cut_file.specs.Rows.{Row, row_from, row_at}
@@ -36,16 +36,13 @@ name_if false false text x h = absurd (cc)
 name_is : (text x : List ℕ) → name_in text ≡ Some x → x ≡ text
 name_is text x h = name_if (length text == 0) (is_utf8 text) text x h
 
-lt_test : (a b : ℕ) → nat_lt a b ≡ true → a < b
-lt_test a b h = grind (arith, nat_tests)
-
 end_if : (b : Bool) (m : ℕ) → (b ≡ true → m < 13601088000) → IfSome (if b then Some m else None) (λ x. x < 13601088000)
 end_if true m h = h refl
 end_if false m h = tt
 
 end_bound : (o : Option ℕ) → IfSome (before_end o) (λ x. x < 13601088000)
 end_bound None = tt
-end_bound (Some m) = end_if (nat_lt m 13601088000) m (lt_test m 13601088000)
+end_bound (Some m) = end_if (nat_lt m 13601088000) m (ltb-true m 13601088000)
 
 change_some : (o : Option ℕ) → IfSome o (λ s. s ≤ 86400) → IfSome (option_map Some o) (λ x. IfSome x (λ s. s ≤ 86400))
 change_some None h = tt

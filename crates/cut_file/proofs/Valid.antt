@@ -1,6 +1,6 @@
 -- The network of a cut file with no fault is valid.
 use Rattle.std.proofs.Common.{◌≡◌, ℕ, zero, suc, ◌+◌, ◌-◌, ◌<◌, ◌≤◌, ◌==◌, inl, inr, nat_lt, Bool, true, false, ◌&&◌, List, [], length, slice_get, slice_index_or, Option, Some, None, IfSome, if◌then◌else◌, refl, sym, ap, ◌∙◌, subst, arith, ⊎_elim}
-use Rattle.std.proofs.lemmas.Bool.{cases_lt}
+use Rattle.std.proofs.lemmas.Bool.{cases_lt, ltb-false, or_parts}
 use Rattle.std.proofs.lemmas.Bool.Decides.{nat_tests}
 use Rattle.std.proofs.lemmas.Option.{slice_get_within}
 use Rattle.plan_model.proofs.Links.{AreLinks-none}
@@ -14,7 +14,6 @@ use Rattle.delay_table.specs.Slots.{AreDelays}
 use Rattle.delay_table.proofs.ClassBounds.{class_for-inside}
 use Rattle.csv_rows.specs.Tables.{row_count}
 use Rattle.csv_rows.proofs.FirstLemmas.{none-each}
-use Rattle.csv_rows.proofs.TestLemmas.{le_test, or_false}
 use Rattle.cut_file.specs.declared.rows.CutRow.{CutRow}
 use Rattle.csv_rows.specs.declared.keys.Key.{Key}
 use Rattle.csv_rows.specs.Keys.{key_at, IsBefore}
@@ -54,20 +53,20 @@ has_none t limit h =
     let b = none_both (too_many_rows t limit) (or_else (first_below (bad_field t) (row_count t)) (or_else (first_below (repeated_step t) (row_count t)) (first_below (run_fault t) (row_count t)))) a.1 in
     let c = none_both (first_below (bad_field t) (row_count t)) (or_else (first_below (repeated_step t) (row_count t)) (first_below (run_fault t) (row_count t))) b.1 in
     let d = none_both (first_below (repeated_step t) (row_count t)) (first_below (run_fault t) (row_count t)) c.1 in
-    record { few = le_test limit (row_count t) (if_none (nat_lt limit (row_count t)) (TooManyRows (row_count t)) None b.0).0; fields = c.0; steps = d.0; runs = d.1 }
+    record { few = ltb-false limit (row_count t) (if_none (nat_lt limit (row_count t)) (TooManyRows (row_count t)) None b.0).0; fields = c.0; steps = d.0; runs = d.1 }
 
 -- what a row without a fault beside the row before it tells
 forward_own : (t : List (List (List ℕ))) (i : ℕ) → run_fault t i ≡ None → (row t i).dep ≤ (row t i).arr
 unfolding run_fault
 forward_own t i h =
-    le_test (row t i).arr (row t i).dep (or_false (nat_lt (row t i).arr (row t i).dep) (any_below (λ j. just_precedes t j i && nat_lt (row t i).dep (row t j).arr) (row_count t))
+    ltb-false (row t i).arr (row t i).dep (or_parts (nat_lt (row t i).arr (row t i).dep) (any_below (λ j. just_precedes t j i && nat_lt (row t i).dep (row t j).arr) (row_count t))
     (if_none (goes_back t i) (Backward (i + 2)) (if is_broken t i then Some (Broken (i + 2)) else None) h).0).0
 
 after_last : (rows : List CutRow) (b : Key) (i : ℕ) → beside rows (Some b) i ≡ None → (cut_row rows b.row).arr ≤ (cut_row rows i).dep
 after_last rows b i h =
     let a = if_none (nat_lt (cut_row rows i).arr (cut_row rows i).dep) (Backward (i + 2)) (misfit (cut_row rows i) (cut_row rows b.row) (i + 2)) h in
     let c = if_none (nat_lt (cut_row rows i).dep (cut_row rows b.row).arr) (Backward (i + 2)) (if (cut_row rows i).from == (cut_row rows b.row).to then None else Some (Broken (i + 2))) a.1 in
-    le_test (cut_row rows i).dep (cut_row rows b.row).arr c.0
+    ltb-false (cut_row rows i).dep (cut_row rows b.row).arr c.0
 
 seconds_few : (o : Option ℕ) → IfSome o (λ s. s ≤ 86400) → seconds_of o ≤ 86400
 seconds_few None h = omega arith

@@ -1,12 +1,11 @@
 -- Groups that are the same, and where a group stands among others.
 use Rattle.std.proofs.Common.{◌≡◌, ℕ, ◌+◌, ◌<◌, ◌≤◌, Bool, true, false, ◌&&◌, List, [], ◌∷◌, ◌++◌, length, Option, Some, None, if◌then◌else◌, refl, sym, ap, ap₂, ◌∙◌, subst, arith, ⊎_elim, add-one, length-append}
 use Rattle.std.specs.Str.{bytes_eq}
-use Rattle.std.proofs.lemmas.Bool.{cases_lt}
+use Rattle.std.proofs.lemmas.Bool.{cases_lt, cases_Bool, eqb-true, eq-eqb, and_from, and_parts}
 use Rattle.std.proofs.lemmas.List.{get_or_append_left, get_or_push}
 use Rattle.std.proofs.lemmas.Slice.Eq.{bytes_eq-Decides}
 use Rattle.csv_rows.specs.First.{or_else, first_below}
-use Rattle.csv_rows.proofs.FirstLemmas.{first-at, first-is, first-none, first-same, first-suc, none-each, true_or_false}
-use Rattle.csv_rows.proofs.TestLemmas.{eq_test, eq_true, and_parts, and_true}
+use Rattle.csv_rows.proofs.FirstLemmas.{first-at, first-is, first-none, first-same, first-suc, none-each}
 use Rattle.delay_table.specs.Groups.{Group, same_if, same_number, same_group, of_class, group_in, place_of}
 use Rattle.delay_table.specs.Read.{AreApart}
 
@@ -25,24 +24,24 @@ unfolding same_group
 same-equal a b h =
     let p = and_parts (same_if same_number a.class b.class) (same_if bytes_eq a.route b.route && same_if same_number a.hour b.hour) h in
     let q = and_parts (same_if bytes_eq a.route b.route) (same_if same_number a.hour b.hour) p.1 in
-    let class : a.class ≡ b.class = same_if-equal same_number eq_test a.class b.class p.0 in
+    let class : a.class ≡ b.class = same_if-equal same_number eqb-true a.class b.class p.0 in
     let route : a.route ≡ b.route = same_if-equal bytes_eq (λ x y. (bytes_eq-Decides x y).0) a.route b.route q.0 in
-    let hour : a.hour ≡ b.hour = same_if-equal same_number eq_test a.hour b.hour q.1 in
+    let hour : a.hour ≡ b.hour = same_if-equal same_number eqb-true a.hour b.hour q.1 in
     λ i. record { class = class i; route = route i; hour = hour i }
 
 pub same-self : (a : Group) → same_group a a ≡ true
 unfolding same_group
 same-self a =
-    let number : (n : ℕ) → same_number n n ≡ true = λ n. eq_true n n refl in
-    and_true (same_if same_number a.class a.class) (same_if bytes_eq a.route a.route && same_if same_number a.hour a.hour) (same_if-self same_number number a.class)
-    (and_true (same_if bytes_eq a.route a.route) (same_if same_number a.hour a.hour) (same_if-self bytes_eq (λ x. (bytes_eq-Decides x x).1 refl) a.route)
+    let number : (n : ℕ) → same_number n n ≡ true = λ n. eq-eqb n n refl in
+    and_from (same_if same_number a.class a.class) (same_if bytes_eq a.route a.route && same_if same_number a.hour a.hour) (same_if-self same_number number a.class)
+    (and_from (same_if bytes_eq a.route a.route) (same_if same_number a.hour a.hour) (same_if-self bytes_eq (λ x. (bytes_eq-Decides x x).1 refl) a.route)
     (same_if-self same_number number a.hour))
 
 pub same-true : (a b : Group) → a ≡ b → same_group a b ≡ true
 same-true a b e = subst (λ (x : Group). same_group a x ≡ true) e (same-self a)
 
 pub same-false : (a b : Group) → (a ≡ b → ⊥) → same_group a b ≡ false
-same-false a b h = ⊎_elim (λ (t : same_group a b ≡ true). absurd (h (same-equal a b t))) (λ (f : same_group a b ≡ false). f) (true_or_false (same_group a b))
+same-false a b h = ⊎_elim (λ (t : same_group a b ≡ true). absurd (h (same-equal a b t))) (λ (f : same_group a b ≡ false). f) (cases_Bool (same_group a b))
 
 pub false-same : (a b : Group) → same_group a b ≡ false → a ≡ b → ⊥
 false-same a b f e = let t = same-true a b e in absurd (cc)

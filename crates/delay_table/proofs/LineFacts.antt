@@ -5,6 +5,7 @@ use Rattle.std.specs.List.{list_all}
 use Rattle.std.specs.Prelude.{codes}
 use Rattle.std.specs.Str.{bytes_eq, is_utf8}
 use Rattle.std.specs.Char.{is_ascii_digit}
+use Rattle.std.proofs.lemmas.Bool.{leb-true}
 use Rattle.clock_text.specs.Digits.{whole_of, value_of}
 use Rattle.csv_rows.specs.declared.columns.Column.TheVariants.{Class, Delay, Weight, RouteId, Hour}
 use Rattle.csv_rows.specs.Names.{name_in}
@@ -15,15 +16,12 @@ use Rattle.delay_table.specs.Bounds.{end_of_types, last_type, whole_weight}
 use Rattle.delay_table.specs.declared.lines.DelayLine.{DelayLine}
 use Rattle.delay_table.specs.Delays.{Line, class_in, not_zero, route_in, hour_in, given, line_of, line_at}
 
-le_test : (a b : ℕ) → nat_le a b ≡ true → a ≤ b
-le_test a b h = grind (arith, nat_tests)
-
 some_at : (b : Bool) (v most : ℕ) → (b ≡ true → v ≤ most) → IfSome (if b then Some v else None) (λ n. n ≤ most)
 some_at true v most h = h refl
 some_at false v most h = tt
 
 bounded : (a : Bool) (v most : ℕ) → IfSome (if a && nat_le v most then Some v else None) (λ n. n ≤ most)
-bounded true v most = some_at (nat_le v most) v most (le_test v most)
+bounded true v most = some_at (nat_le v most) v most (leb-true v most)
 bounded false v most = tt
 
 -- a whole number is within its bound

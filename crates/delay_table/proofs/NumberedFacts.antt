@@ -2,7 +2,7 @@
 use Rattle.std.proofs.Common.{◌≡◌, ℕ, suc, ◌+◌, ◌<◌, ◌≤◌, ◌&&◌, Bool, true, false, List, [], ◌∷◌, ◌++◌, length, map, slice_index_or, Option, Some, None, IfSome, option_map, is_some, refl, sym, ap, ap₂, ◌∙◌, subst, arith, ⊎_elim, length-append}
 use Rattle.std.specs.Prelude.{position}
 use Rattle.std.specs.List.{list_any}
-use Rattle.std.proofs.lemmas.Bool.{cases_lt}
+use Rattle.std.proofs.lemmas.Bool.{cases_lt, cases_Bool, eqb-true, eq-eqb, and_from, and_parts}
 use Rattle.std.proofs.lemmas.List.{get_or_default, get_or_append_left, get_or_push, get_or-map, length-map, map-append}
 use Rattle.std.proofs.lemmas.List.Folds.{Any-from_list_any, list_any_at}
 use Rattle.std.proofs.lemmas.List.Quantifiers.{position-Some}
@@ -10,9 +10,7 @@ use Rattle.std.proofs.lemmas.Slice.Eq.{bytes_eq-Decides}
 use Rattle.plan_model.specs.NameLists.{Adds, AreDistinct}
 use Rattle.plan_model.proofs.Texts.{AreDistinct-push}
 use Rattle.csv_rows.specs.Tables.{place_in}
-use Rattle.csv_rows.proofs.FirstLemmas.{true_or_false}
 use Rattle.csv_rows.proofs.IdLemmas.{place-here, place-none}
-use Rattle.csv_rows.proofs.TestLemmas.{eq_test, eq_true, and_parts, and_true}
 use Rattle.delay_table.specs.declared.groups.NumberedGroup.{NumberedGroup}
 use Rattle.delay_table.specs.Groups.{Group, same_if, same_number, of_class, group_in, place_of}
 use Rattle.delay_table.specs.Numbered.{no_group, named_group, same_numbered, AreNumbers, IsNumber, StaysSo}
@@ -36,11 +34,11 @@ option_same : (a b : Option ℕ) → same_if same_number a b ≡ true → a ≡ 
 option_same None None h = refl
 option_same None (Some b) h = absurd (cc)
 option_same (Some a) None h = absurd (cc)
-option_same (Some a) (Some b) h = ap Some (eq_test a b h)
+option_same (Some a) (Some b) h = ap Some (eqb-true a b h)
 
 option_self : (a : Option ℕ) → same_if same_number a a ≡ true
 option_self None = refl
-option_self (Some a) = eq_true a a refl
+option_self (Some a) = eq-eqb a a refl
 
 numbered-equal : (a b : NumberedGroup) → same_numbered a b ≡ true → a ≡ b
 numbered-equal a b h =
@@ -53,8 +51,8 @@ numbered-equal a b h =
 
 numbered-true : (a b : NumberedGroup) → a ≡ b → same_numbered a b ≡ true
 numbered-true a b e =
-    let self : same_numbered a a ≡ true = and_true (same_if same_number a.class a.class) (same_if same_number a.route a.route && same_if same_number a.hour a.hour) (option_self a.class)
-    (and_true (same_if same_number a.route a.route) (same_if same_number a.hour a.hour) (option_self a.route) (option_self a.hour)) in
+    let self : same_numbered a a ≡ true = and_from (same_if same_number a.class a.class) (same_if same_number a.route a.route && same_if same_number a.hour a.hour) (option_self a.class)
+    (and_from (same_if same_number a.route a.route) (same_if same_number a.hour a.hour) (option_self a.route) (option_self a.hour)) in
     subst (λ (x : NumberedGroup). same_numbered a x ≡ true) e self
 
 some_inj : (a b : List ℕ) → Some a ≡ Some b → a ≡ b
@@ -128,7 +126,7 @@ module _ (routes : List (List ℕ)) (keys : List NumberedGroup) (distinct : AreD
         let inside : w.0 < length keys = w.2 in
         let e : key_at w.0 ≡ w.1 = get_or_default keys w.0 no_group w.1 inside ∙ w.3 in
         absurd (nowhere group groups h w.0 (omega (arith, size)) (forth w.0 inside (numbered-equal key w.1 w.4 ∙ sym e))))
-        (λ (f : list_any (same_numbered key) keys ≡ false). f) (true_or_false (list_any (same_numbered key) keys))
+        (λ (f : list_any (same_numbered key) keys ≡ false). f) (cases_Bool (list_any (same_numbered key) keys))
 
     -- and goes last
     pub keys-last : (keys' : List NumberedGroup) → keys' ≡ keys ++ key ∷ [] → map (named_group routes) keys' ≡ groups ++ group ∷ []

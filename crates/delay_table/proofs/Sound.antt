@@ -2,11 +2,11 @@
 use Rattle.std.proofs.Common.{◌≡◌, ℕ, ◌+◌, ◌<◌, ◌≤◌, ◌==◌, nat_lt, Bool, true, false, List, [], ◌∷◌, ◌++◌, length, map, get_or, sum_by, Option, Some, None, IfSome, option_map, if◌then◌else◌, refl, sym, ap, ◌∙◌, subst, arith, All, length-append}
 use Rattle.std.proofs.lemmas.List.{get_or_default, length-map}
 use Rattle.std.proofs.lemmas.List.Elements.{All-cons, All-append, All-map}
+use Rattle.std.proofs.lemmas.Bool.{eqb-true, ltb-false}
 use Rattle.plan_model.specs.declared.model.Outcome.{Outcome}
 use Rattle.plan_model.specs.Rows.{IsValidRow}
 use Rattle.csv_rows.specs.First.{or_else, first_below}
 use Rattle.csv_rows.proofs.FirstLemmas.{none-both, none-each}
-use Rattle.csv_rows.proofs.TestLemmas.{eq_test, le_test}
 use Rattle.delay_table.specs.declared.faults.DelayFault.{DelayFault}
 use Rattle.delay_table.specs.declared.faults.DelayFault.TheVariants.{TooManyClasses, WeightSum, GroupSum}
 use Rattle.delay_table.specs.declared.reading.GroupRows.{GroupRows}
@@ -46,7 +46,7 @@ sum_if false n h = absurd (cc)
 
 sum_right : (r : List Outcome) → 0 < length r → other_sum r ≡ None → sum_by (λ o. o.weight) r ≡ whole_weight
 sum_right [] some h = absurd (omega arith)
-sum_right (o ∷ os) some h = eq_test (sum_by (λ o. o.weight) (o ∷ os)) whole_weight (sum_if (sum_by (λ o. o.weight) (o ∷ os) == whole_weight) (sum_by (λ o. o.weight) (o ∷ os)) h)
+sum_right (o ∷ os) some h = eqb-true (sum_by (λ o. o.weight) (o ∷ os)) whole_weight (sum_if (sum_by (λ o. o.weight) (o ∷ os) == whole_weight) (sum_by (λ o. o.weight) (o ∷ os)) h)
 
 valid_row : (r : List Outcome) → IsStart r → 0 < length r → other_sum r ≡ None → IsValidRow r
 valid_row r s some h = record { some = some; few = s.few; rising = s.rising; delays = s.delays; weights = s.weights; total = sum_right r some h }
@@ -110,7 +110,7 @@ module _ (groups : List Group) (read : List GroupRows) (is : IsRead groups read)
   default_valid = valid_row (class_rows own None) (is.starts (of_class None)) default_there (none_mapped (WeightSum (class_name None)) (other_sum (class_rows own None)) parts.1)
 
   few : length groups ≤ most_groups
-  few = le_test most_groups (length groups) (few_if (nat_lt most_groups (length groups)) (TooManyClasses (length groups)) parts.0)
+  few = ltb-false most_groups (length groups) (few_if (nat_lt most_groups (length groups)) (TooManyClasses (length groups)) parts.0)
 
   counted : length types + 1 + length (others groups (length groups)) ≡ length groups
   counted = groups-are groups read is size default_there

@@ -1,7 +1,6 @@
 -- The outcomes of one group, one more at a time.
-use Rattle.std.proofs.Common.{◌≡◌, ◌+◌, ◌-◌, ◌<◌, ◌≤◌, Bool, true, false, nat_le, nat_lt, List, [], ◌∷◌, ◌++◌, length, slice_get, slice_index_or, Option, Some, None, if◌then◌else◌, refl, sym, subst, arith, ⊎_elim, length-append, append-nil, zero, suc, ℕ, IfSome, add-one, ap, ◌∙◌}
-use Rattle.std.proofs.lemmas.Bool.{cases_lt}
-use Rattle.std.proofs.lemmas.Bool.Decides.{nat_tests}
+use Rattle.std.proofs.Common.{◌≡◌, ◌+◌, ◌-◌, ◌<◌, ◌≤◌, Bool, true, false, nat_le, List, [], ◌∷◌, ◌++◌, length, slice_get, slice_index_or, Option, Some, None, if◌then◌else◌, refl, sym, subst, arith, ⊎_elim, length-append, append-nil, zero, suc, ℕ, IfSome, add-one, ap, ◌∙◌}
+use Rattle.std.proofs.lemmas.Bool.{cases_lt, leb-false, ltb-true}
 use Rattle.std.proofs.lemmas.List.Elements.{All-push}
 use Rattle.std.proofs.lemmas.Option.{slice_get-get_or}
 use Rattle.std.proofs.lemmas.List.Quantifiers.{all_pairs_push}
@@ -25,18 +24,12 @@ none_cases true b x y h = absurd (cc)
 none_cases false true x y h = (refl, refl)
 none_cases false false x y h = absurd (cc)
 
-lt_test : (a b : ℕ) → nat_lt a b ≡ true → a < b
-lt_test a b h = grind (arith, nat_tests)
-
-not_le_test : (a b : ℕ) → nat_le a b ≡ false → b < a
-not_le_test a b h = grind (arith, nat_tests)
-
 -- the last delay is below one that rises
 rises_last : (r : List Outcome) (delay : ℕ) (d : Outcome) → rises (slice_get r (length r - 1)) delay ≡ true → 0 < length r → (slice_index_or r (length r - 1) d).delay < delay
 rises_last r delay d h some =
     let e = slice_get-get_or r (length r - 1) d (omega arith) in
     let P : Option Outcome → Type 0 = λ o. rises o delay ≡ true in
-    lt_test (slice_index_or r (length r - 1) d).delay delay (subst P e h)
+    ltb-true (slice_index_or r (length r - 1) d).delay delay (subst P e h)
 
 -- and so is each
 rises_each : (r : List Outcome) (delay : ℕ) → IsStart r → rises (slice_get r (length r - 1)) delay ≡ true → (k : ℕ) (d : Outcome) → k < length r → (slice_index_or r k d).delay < delay
@@ -53,7 +46,7 @@ start_next : (r : List Outcome) (line : Line) (number : ℕ) → IsStart r → f
 start_next r line number s none d w =
     let o = line.outcome in
     let t = none_cases (nat_le 64 (length r)) (rises (slice_get r (length r - 1)) o.delay) (too_many line.group number) (NotRising number) none in
-    let room : length r < 64 = not_le_test 64 (length r) t.0 in
+    let room : length r < 64 = leb-false 64 (length r) t.0 in
     let size : length (r ++ o ∷ []) ≡ length r + 1 = length-append r (o ∷ []) in
     record {
       few = omega arith;

@@ -5,7 +5,7 @@ use Rattle.std.specs.Ordering.{nat_cmp, ordering_then, match_ordering}
 use Rattle.std.specs.declared.cmp.Ordering.{Ordering}
 use Rattle.std.specs.declared.cmp.Ordering.TheVariants.{Less, Equal, Greater}
 use Rattle.std.specs.BTreeSet.{BTreeSet, insert_key}
-use Rattle.std.proofs.lemmas.Bool.{cases_lt, cases_eq}
+use Rattle.std.proofs.lemmas.Bool.{cases_lt, cases_eq, ne_eqb, eq-eqb}
 use Rattle.std.proofs.lemmas.Bool.Decides.{nat_tests}
 use Rattle.plan_model.specs.declared.model.Leg.{Leg}
 use Rattle.plan_model.specs.Parts.{Parts}
@@ -19,7 +19,6 @@ use Rattle.plan_graph.proofs.Searches.{precedes_trans}
 use Rattle.leg_walk.specs.Placed.{Has}
 use Rattle.leg_walk.specs.Tables.{leg_cmp}
 use Rattle.leg_walk.proofs.Lists.{Later}
-use Rattle.leg_walk.proofs.Places.{other_place, same_place}
 use Rattle.leg_walk.proofs.Sets.{kept_with, there_with, only_with}
 use Rattle.leg_walk.proofs.Orders.{nat_cmp_equal, nat_cmp_less, then_equal, then_less, leg_equal, leg_less}
 use Rattle.graph_compact.specs.Tables.{row_cmp, put_rows, with_ride, gathered, rows_in, with_table}
@@ -118,10 +117,10 @@ rows_rise (row ∷ more) rows later = rows_rise more (insert_key row_cmp rows ro
 
 module _ (n : Parts) (place : ℕ) where
   pub ride_there : (r : Ride) (rows : List GraphRow) → end_of n r.leg ≡ place → with_ride n place r rows ≡ put_rows r.after rows
-  ride_there r rows is = rw (same_place (end_of n r.leg) place is)
+  ride_there r rows is = rw (eq-eqb (end_of n r.leg) place is)
 
   pub ride_away : (r : Ride) (rows : List GraphRow) → end_of n r.leg ≢ place → with_ride n place r rows ≡ rows
-  ride_away r rows away = rw (other_place (end_of n r.leg) place away)
+  ride_away r rows away = rw (ne_eqb (end_of n r.leg) place away)
 
   -- a row stands after a ride that ends there
   pub record IsOf (rides : List Ride) (x : GraphRow) : Type 0 where

@@ -1,7 +1,7 @@
 -- The graph by place unfolds to the same tree, and is tidy.
 use Rattle.std.proofs.Common.{◌≡◌, ◌≢◌, ℕ, suc, ◌+◌, ◌≤◌, ◌<◌, Bool, false, List, [], ◌∷◌, length, Option, Some, Contains, All, AllPairs, arith, sym, subst, refl, inl, inr, ◌∙◌, ap}
 use Rattle.std.specs.Prelude.{◌==◌, if◌then◌else◌, slice_index_or, MatchOption}
-use Rattle.std.proofs.lemmas.Bool.{cases_eq, cases_lt}
+use Rattle.std.proofs.lemmas.Bool.{cases_eq, cases_lt, ne_eqb, eq-eqb}
 use Rattle.std.proofs.lemmas.Bool.Decides.{nat_tests}
 use Rattle.plan_model.specs.declared.model.Leg.{Leg}
 use Rattle.plan_model.specs.declared.model.Outcome.{Outcome}
@@ -26,7 +26,7 @@ use Rattle.plan_graph.specs.Tidy.{IsFit, IsFitRow, IsFitTable, IsFitStart, IsTid
 use Rattle.plan_graph.proofs.Searches.{precedes_itself}
 use Rattle.leg_walk.specs.Placed.{Has, IsPlaced}
 use Rattle.leg_walk.proofs.Lists.{Later, all_from_has, all_at_has, contains_from_has, has_from_contains, pairs_from_later}
-use Rattle.leg_walk.proofs.Places.{other_place, same_place, IsPlacedNext, next_after}
+use Rattle.leg_walk.proofs.Places.{IsPlacedNext, next_after}
 use Rattle.leg_walk.proofs.Reaching.{starts_by, start_placed}
 use Rattle.leg_walk.proofs.Tables.{first_pick, first_there, same_next, same_limit}
 use Rattle.leg_walk.proofs.Rides.{ride_there}
@@ -38,7 +38,7 @@ no_rows : (place base : ℕ) (lists : List (List GraphRow)) → place < base →
 no_rows place base [] less = refl
 no_rows place base ([] ∷ more) less = no_rows place (base + 1) more (omega (arith, less))
 no_rows place base ((row ∷ rows) ∷ more) less =
-    let other : (base == place) ≡ false = other_place base place (λ is. omega (arith, is, less)) in
+    let other : (base == place) ≡ false = ne_eqb base place (λ is. omega (arith, is, less)) in
     ap (λ (test : Bool). if test then row ∷ rows else rows_of_place (tables_of (base + 1) more) place) other
     ∙ no_rows place (base + 1) more (omega (arith, less))
 
@@ -53,11 +53,11 @@ rows_found T place base ([] ∷ more) each from within = elim (cases_eq base pla
 ]
 rows_found T place base ((row ∷ rows) ∷ more) each from within = elim (cases_eq base place) [
   | inl is ↦
-      ap (λ (test : Bool). if test then row ∷ rows else rows_of_place (tables_of (base + 1) more) place) (same_place base place is)
+      ap (λ (test : Bool). if test then row ∷ rows else rows_of_place (tables_of (base + 1) more) place) (eq-eqb base place is)
       ∙ each 0 (omega arith)
       ∙ ap T (let e : base + 0 ≡ place = omega (arith, is) in e)
   | inr differ ↦
-      ap (λ (test : Bool). if test then row ∷ rows else rows_of_place (tables_of (base + 1) more) place) (other_place base place differ)
+      ap (λ (test : Bool). if test then row ∷ rows else rows_of_place (tables_of (base + 1) more) place) (ne_eqb base place differ)
       ∙ rows_found T place (base + 1) more (λ i inside. each (suc i) (omega (arith, inside)) ∙ ap T (let e : base + suc i ≡ base + 1 + i = omega arith in e)) (omega (arith, from, differ)) (omega (arith, within))
 ]
 

@@ -3,7 +3,7 @@ use Rattle.std.proofs.Common.{◌≡◌, ℕ, zero, suc, ◌<◌, ◌≤◌, Boo
 use Rattle.std.specs.Prelude.{nat_lt, nat_le, slice_index_or, if◌then◌else◌}
 use Rattle.std.specs.List.{AllWithin}
 use Rattle.std.specs.List.Sorted.{IsPartitionedBy, IsPartitionPoint}
-use Rattle.std.proofs.lemmas.Bool.{cases_lt, cases_eq}
+use Rattle.std.proofs.lemmas.Bool.{cases_lt, cases_eq, lt-ltb, ltb-true, ltb-false}
 use Rattle.std.proofs.lemmas.Bool.Decides.{nat_tests}
 use Rattle.std.proofs.lemmas.List.Elements.{All-tail}
 use Rattle.plan_model.specs.declared.model.Leg.{Leg}
@@ -11,19 +11,10 @@ use Rattle.plan_graph.specs.declared.GraphRow.{GraphRow}
 use Rattle.plan_graph.specs.declared.PlaceTable.{PlaceTable}
 use Rattle.plan_graph.specs.Rows.{pick_row, rows_of_place, is_table_of}
 
-lt_true : (x y : ℕ) → nat_lt x y ≡ true → x < y
-lt_true x y is = grind (arith, nat_tests)
-
-lt_false : (x y : ℕ) → nat_lt x y ≡ false → y ≤ x
-lt_false x y is = grind (arith, nat_tests)
-
-lt_is : (x y : ℕ) → x < y → nat_lt x y ≡ true
-lt_is x y less = grind (arith, nat_tests)
-
 -- a list that rises is parted by a number
 pub parted : {X : Type 0} (f : X → ℕ) (xs : List X) (t : ℕ) → AllPairs (λ a b. f a < f b) xs → IsPartitionedBy (λ x. nat_lt (f x) t) xs
 parted f xs t rise i j d before within is = elim (cases_lt i j) [
-  | inl less ↦ lt_is (f (slice_index_or xs i d)) t (omega (arith, rise i j d less within, lt_true (f (slice_index_or xs j d)) t is))
+  | inl less ↦ lt-ltb (f (slice_index_or xs i d)) t (omega (arith, rise i j d less within, ltb-true (f (slice_index_or xs j d)) t is))
   | inr same ↦ let e : j ≡ i = omega (arith, before, same) in subst (λ (k : ℕ). nat_lt (f (slice_index_or xs k d)) t ≡ true) e is
 ]
 
@@ -36,15 +27,15 @@ pick_further row rows x late = let e : nat_le x row.by.0 ≡ false = grind (arit
 -- what is picked is the row at which those before an arrival end
 pub pick_row-at : (rows : List GraphRow) (x i : ℕ) (d : GraphRow) → AllWithin (λ r. nat_lt r.by.0 x ≡ true) rows 0 i → i < length rows → nat_lt (slice_index_or rows i d).by.0 x ≡ false → pick_row rows x ≡ Some (slice_index_or rows i d).leg
 pick_row-at [] x i d before within from = absurd (omega (arith, within))
-pick_row-at (row ∷ rows) x zero d before within from = pick_here row rows x (lt_false row.by.0 x from)
+pick_row-at (row ∷ rows) x zero d before within from = pick_here row rows x (ltb-false row.by.0 x from)
 pick_row-at (row ∷ rows) x (suc i) d before within from =
-    pick_further row rows x (lt_true row.by.0 x (before 0 row (omega arith) (omega arith)))
+    pick_further row rows x (ltb-true row.by.0 x (before 0 row (omega arith) (omega arith)))
     ∙ pick_row-at rows x i d (λ k e low below. before (suc k) e (omega arith) (omega (arith, below))) (omega (arith, within)) from
 
 pub pick_row-none : (rows : List GraphRow) (x : ℕ) → AllWithin (λ r. nat_lt r.by.0 x ≡ true) rows 0 (length rows) → pick_row rows x ≡ None
 pick_row-none [] x before = refl
 pick_row-none (row ∷ rows) x before =
-    pick_further row rows x (lt_true row.by.0 x (before 0 row (omega arith) (omega arith)))
+    pick_further row rows x (ltb-true row.by.0 x (before 0 row (omega arith) (omega arith)))
     ∙ pick_row-none rows x (λ k e low below. before (suc k) e (omega arith) (omega (arith, below)))
 
 rows_here : (table : PlaceTable) (tables : List PlaceTable) (p : ℕ) → table.place.0 ≡ p → rows_of_place (table ∷ tables) p ≡ table.rows
@@ -58,7 +49,7 @@ pub rows_of_place-at : (tables : List PlaceTable) (p i : ℕ) (d : PlaceTable) �
 rows_of_place-at [] p i d before within is = absurd (omega (arith, within))
 rows_of_place-at (table ∷ tables) p zero d before within is = rows_here table tables p is
 rows_of_place-at (table ∷ tables) p (suc i) d before within is =
-    let less = lt_true table.place.0 p (before 0 table (omega arith) (omega arith)) in
+    let less = ltb-true table.place.0 p (before 0 table (omega arith) (omega arith)) in
     rows_further table tables p (λ same. omega (arith, less, same))
     ∙ rows_of_place-at tables p i d (λ k e low below. before (suc k) e (omega arith) (omega (arith, below))) (omega (arith, within)) is
 
@@ -72,11 +63,11 @@ rows_of_place-absent (table ∷ tables) p away =
 pub rows_of_place-none : (tables : List PlaceTable) (p i : ℕ) → AllPairs (λ a b. a.place.0 < b.place.0) tables → IsPartitionPoint (λ t. nat_lt t.place.0 p ≡ true) (λ t. nat_lt t.place.0 p ≡ false) tables i
     → ((d : PlaceTable) → i < length tables → (slice_index_or tables i d).place.0 ≡ p → ⊥) → rows_of_place tables p ≡ []
 rows_of_place-none tables p i rise point other = rows_of_place-absent tables p (λ k d within is. elim (cases_lt k i) [
-  | inl less ↦ let before = lt_true (slice_index_or tables k d).place.0 p (point.0 k d (omega arith) less) in omega (arith, before, is)
+  | inl less ↦ let before = ltb-true (slice_index_or tables k d).place.0 p (point.0 k d (omega arith) less) in omega (arith, before, is)
   | inr from ↦ elim (cases_lt i k) [
     | inl more ↦
         let rises = rise i k d more within in
-        let past = lt_false (slice_index_or tables i d).place.0 p (point.1 i d (omega arith) (omega (arith, more, within))) in
+        let past = ltb-false (slice_index_or tables i d).place.0 p (point.1 i d (omega arith) (omega (arith, more, within))) in
         omega (arith, rises, past, is)
     | inr same ↦ let e : k ≡ i = omega (arith, from, same) in other d (omega (arith, e, within)) (subst (λ (m : ℕ). (slice_index_or tables m d).place.0 ≡ p) e is)
   ]

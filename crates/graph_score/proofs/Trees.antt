@@ -1,8 +1,6 @@
 -- A tree by rows that fit is safe exactly where the traveller cannot fail.
-use Rattle.std.proofs.Common.{◌≡◌, ◌≢◌, ℕ, zero, suc, ◌+◌, ◌-◌, ◌≤◌, List, [], ◌∷◌, true, false, Option, Some, None, All, arith, sym, subst, refl, inl, inr, ap}
-use Rattle.std.specs.Prelude.{◌==◌}
-use Rattle.std.proofs.lemmas.Bool.{cases_lt, cases_eq}
-use Rattle.std.proofs.lemmas.Bool.Decides.{nat_tests}
+use Rattle.std.proofs.Common.{◌≡◌, ◌≢◌, ℕ, zero, suc, ◌+◌, ◌-◌, ◌≤◌, List, [], ◌∷◌, Option, Some, None, All, arith, sym, subst, refl, inl, inr, ap}
+use Rattle.std.proofs.lemmas.Bool.{cases_lt, cases_eq, eq-eqb, ne_eqb}
 use Rattle.plan_model.specs.declared.model.Leg.{Leg}
 use Rattle.plan_model.specs.declared.model.Outcome.{Outcome}
 use Rattle.plan_model.specs.declared.model.Query.{Query}
@@ -21,12 +19,6 @@ use Rattle.plan_graph.specs.Unfold.{unfold_plan}
 use Rattle.graph_score.specs.Failures.{Fails, FailsIn}
 use Rattle.graph_score.specs.Steps.{AreFitRows, ridden}
 use Rattle.graph_score.proofs.Picks.{rows_of_place-by, picked}
-
-same_is : (a b : ℕ) → a ≡ b → (a == b) ≡ true
-same_is a b is = grind (arith, nat_tests)
-
-other_is : (a b : ℕ) → a ≢ b → (a == b) ≡ false
-other_is a b differ = grind (arith, nat_tests)
 
 mutual
   -- who is safe cannot fail
@@ -71,21 +63,21 @@ module _ (n : Parts) (q : Query) (tables : List PlaceTable) (fit : AreFitRows n 
 
   -- at the target
   pub after-there : (rides : ℕ) (leg : Leg) (x : ℕ) → end_of n leg ≡ q.target.0 → next_after rides leg x ≡ Done x
-  after-there zero leg x there = rw (same_is (end_of n leg) q.target.0 there) refl
-  after-there (suc rides) leg x there = rw (same_is (end_of n leg) q.target.0 there) refl
+  after-there zero leg x there = rw (eq-eqb (end_of n leg) q.target.0 there) refl
+  after-there (suc rides) leg x there = rw (eq-eqb (end_of n leg) q.target.0 there) refl
 
   -- where no leg is taken
   pub after-stuck : (rides : ℕ) (leg : Leg) (x : ℕ) → end_of n leg ≢ q.target.0 → pick_at tables (end_of n leg) x ≡ None → next_after rides leg x ≡ Stuck (end_of n leg) x
-  after-stuck zero leg x away none = rw (other_is (end_of n leg) q.target.0 away) refl
-  after-stuck (suc rides) leg x away none = rw (other_is (end_of n leg) q.target.0 away) (ap (λ next. ride_or_stuck n (next_after rides) next (end_of n leg) x) none)
+  after-stuck zero leg x away none = rw (ne_eqb (end_of n leg) q.target.0 away) refl
+  after-stuck (suc rides) leg x away none = rw (ne_eqb (end_of n leg) q.target.0 away) (ap (λ next. ride_or_stuck n (next_after rides) next (end_of n leg) x) none)
 
   -- where one is taken, and no more rides may follow
   after-over : (leg : Leg) (x : ℕ) → end_of n leg ≢ q.target.0 → next_after zero leg x ≡ Stuck (end_of n leg) x
-  after-over leg x away = rw (other_is (end_of n leg) q.target.0 away) refl
+  after-over leg x away = rw (ne_eqb (end_of n leg) q.target.0 away) refl
 
   -- where one is taken
   pub after-ride : (rides : ℕ) (leg : Leg) (x : ℕ) (next : Leg) → end_of n leg ≢ q.target.0 → pick_at tables (end_of n leg) x ≡ Some next → next_after (suc rides) leg x ≡ ridden n q tables rides next
-  after-ride rides leg x next away some = rw (other_is (end_of n leg) q.target.0 away) (ap (λ next. ride_or_stuck n (next_after rides) next (end_of n leg) x) some)
+  after-ride rides leg x next away some = rw (ne_eqb (end_of n leg) q.target.0 away) (ap (λ next. ride_or_stuck n (next_after rides) next (end_of n leg) x) some)
 
   in_time : (p x : ℕ) → p ≡ q.target.0 → Never (Done x) → SafeHere (Done x) p x
   in_time p x there never = elim (cases_lt q.deadline.0 x) [
@@ -152,13 +144,13 @@ module _ (n : Parts) (q : Query) (tables : List PlaceTable) (fit : AreFitRows n 
 -- by a graph one takes the start leg
 pub unfold-start : (n : Parts) (q : Query) (graph : PlanGraph) (leg : Leg) → q.source.0 ≢ q.target.0 → graph.start ≡ Some leg → unfold_plan graph n q ≡ ridden n q graph.tables (count n - 1) leg
 unfold-start n q graph leg away is =
-    rw (other_is q.source.0 q.target.0 away) (ap (λ first. ride_or_stuck n (unfold_after n q.target.0 (by_place n (pick_at graph.tables)) (count n - 1)) first q.source.0 q.start.0) is)
+    rw (ne_eqb q.source.0 q.target.0 away) (ap (λ first. ride_or_stuck n (unfold_after n q.target.0 (by_place n (pick_at graph.tables)) (count n - 1)) first q.source.0 q.start.0) is)
 
 -- and is stuck without one
 pub unfold-none : (n : Parts) (q : Query) (graph : PlanGraph) → q.source.0 ≢ q.target.0 → graph.start ≡ None → unfold_plan graph n q ≡ Stuck q.source.0 q.start.0
 unfold-none n q graph away is =
-    rw (other_is q.source.0 q.target.0 away) (ap (λ first. ride_or_stuck n (unfold_after n q.target.0 (by_place n (pick_at graph.tables)) (count n - 1)) first q.source.0 q.start.0) is)
+    rw (ne_eqb q.source.0 q.target.0 away) (ap (λ first. ride_or_stuck n (unfold_after n q.target.0 (by_place n (pick_at graph.tables)) (count n - 1)) first q.source.0 q.start.0) is)
 
 -- where source and target are one place one has arrived
 pub unfold-there : (n : Parts) (q : Query) (graph : PlanGraph) → q.source.0 ≡ q.target.0 → unfold_plan graph n q ≡ Done q.start.0
-unfold-there n q graph there = rw (same_is q.source.0 q.target.0 there) refl
+unfold-there n q graph there = rw (eq-eqb q.source.0 q.target.0 there) refl

@@ -1,9 +1,9 @@
 -- A graph that was read fits the network and the question.
 use Rattle.std.proofs.Common.{◌≡◌, ◌≢◌, ℕ, suc, ◌+◌, ◌-◌, ◌<◌, ◌≤◌, Bool, true, false, List, [], ◌∷◌, ◌++◌, length, Option, Some, None, Ok, Err, Result, All, AllPairs, arith, sym, subst, refl, ◌∙◌, ap}
-use Rattle.std.specs.Prelude.{◌==◌, ◌&&◌, nat_le, nat_lt, cond, if◌then◌else◌, slice_index_or, IsSome, codes}
+use Rattle.std.specs.Prelude.{◌==◌, ◌&&◌, nat_le, cond, if◌then◌else◌, slice_index_or, IsSome, codes}
 use Rattle.std.specs.Option.{option_map}
 use Rattle.std.specs.List.{position_from}
-use Rattle.std.proofs.lemmas.Bool.{false≢true}
+use Rattle.std.proofs.lemmas.Bool.{false≢true, eqb-true, ltb-true, and_parts, leb-true}
 use Rattle.std.proofs.lemmas.List.Elements.{All-append, All-cons, All-nil, All-head, All-tail}
 use Rattle.std.proofs.lemmas.List.Kept.{AllPairs-cons}
 use Rattle.std.proofs.lemmas.Bool.Decides.{nat_tests}
@@ -42,19 +42,6 @@ use Rattle.printed_rows.proofs.Found.{at_both}
 ok_same : {A : Type 0} (a b : A) → ◌≡◌ {A = Result A TextFault} (Ok a) (Ok b) → a ≡ b
 ok_same a b is = cc
 
-and_true : (a b : Bool) → (a && b) ≡ true → (a ≡ true) × (b ≡ true)
-and_true true b is = (refl, is)
-and_true false b is = absurd (false≢true is)
-
-eq_true : (a b : ℕ) → (a == b) ≡ true → a ≡ b
-eq_true a b is = grind (arith, nat_tests)
-
-le_true : (a b : ℕ) → nat_le a b ≡ true → a ≤ b
-le_true a b is = grind (arith, nat_tests)
-
-lt_true : (a b : ℕ) → nat_lt a b ≡ true → a < b
-lt_true a b is = grind (arith, nat_tests)
-
 -- the test holds where a place was found
 found_holds : {X : Type 0} (t : X → Bool) (xs : List X) (from k : ℕ) (d : X) → position_from t from xs ≡ Some k → (j : ℕ) × (k ≡ from + j) × (j < length xs) × (t (slice_index_or xs j d) ≡ true)
 found_holds t [] from k d is = absurd (cc)
@@ -78,9 +65,9 @@ connection_holds n run step i is =
 leg_if : (n : Parts) (x : LegRow) (known : LegNames) (i j : ℕ) (test : Bool) (leg : Leg) → agrees n i j x known ≡ test → connection_of n known.run.0 x.enter ≡ Some i → connection_of n known.run.0 x.exit ≡ Some j → (if test then Some (leg_of i j) else None) ≡ Some leg → IsLegOf n leg
 leg_if n x known i j false leg is enter exit found = absurd (cc)
 leg_if n x known i j true leg is enter exit found =
-    let first = and_true (nat_le x.enter x.exit) _ is in
-    let second = and_true (connection n i).can_board _ first.1 in
-    let third = and_true (connection n j).can_exit _ second.1 in
+    let first = and_parts (nat_le x.enter x.exit) _ is in
+    let second = and_parts (connection n i).can_board _ first.1 in
+    let third = and_parts (connection n j).can_exit _ second.1 in
     let a = connection_holds n known.run.0 x.enter i enter in
     let b = connection_holds n known.run.0 x.exit j exit in
     let one : leg_of i j ≡ leg = (cc) in
@@ -88,7 +75,7 @@ leg_if n x known i j true leg is enter exit found =
       enter = a.0;
       exit = b.0;
       one_run = a.1 ∙ sym b.1;
-      onward = let le = le_true x.enter x.exit first.0 in omega (arith, le, a.2, b.2);
+      onward = let le = leb-true x.enter x.exit first.0 in omega (arith, le, a.2, b.2);
       board = second.0;
       leave = third.0;
     })
@@ -118,7 +105,7 @@ one_more (y ∷ xs) x = let more = one_more xs x in omega (arith, more)
 
 limit_is : (found : Option ℕ) (moment : ℕ) → is_limit found moment ≡ true → found ≡ Some moment
 limit_is None moment is = absurd (false≢true is)
-limit_is (Some limit) moment is = ap (λ (m : ℕ). Some m) (eq_true limit moment is)
+limit_is (Some limit) moment is = ap (λ (m : ℕ). Some m) (eqb-true limit moment is)
 
 -- a row that is read fits its place, and rises
 row_if : (n : Parts) (line place : ℕ) (x : LegRow) (leg : Leg) (row : GraphRow) (test : Bool) → is_by_limit n place x.moment.0 leg ≡ test → IsLegOf n leg
@@ -153,10 +140,10 @@ start_if : (n : Parts) (line source start : ℕ) (x : LegRow) (leg own : Leg) (t
     → ◌≡◌ {A = Result Leg TextFault} (if test then Ok leg else Err (fault.NoLeg line)) (Ok own) → IsLegOf n own × (from_of n own.enter.0 ≡ source) × (start ≤ dep_of n own.enter.0)
 start_if n line source start x leg own false is is_leg found = absurd (cc)
 start_if n line source start x leg own true is is_leg found =
-    let first = and_true (from_of n leg.enter.0 == source) _ is in
-    let second = and_true (x.moment.0 == dep_of n leg.enter.0) _ first.1 in
+    let first = and_parts (from_of n leg.enter.0 == source) _ is in
+    let second = and_parts (x.moment.0 == dep_of n leg.enter.0) _ first.1 in
     let same : leg ≡ own = (cc) in
-    subst (λ (l : Leg). IsLegOf n l × (from_of n l.enter.0 ≡ source) × (start ≤ dep_of n l.enter.0)) same (is_leg, eq_true (from_of n leg.enter.0) source first.0, le_true start (dep_of n leg.enter.0) second.1)
+    subst (λ (l : Leg). IsLegOf n l × (from_of n l.enter.0 ≡ source) × (start ≤ dep_of n l.enter.0)) same (is_leg, eqb-true (from_of n leg.enter.0) source first.0, leb-true start (dep_of n leg.enter.0) second.1)
 
 start_leg : (n : Parts) (line source start : ℕ) (x : LegRow) (found : Option Leg) (own : Leg) → ((leg : Leg) → found ≡ Some leg → IsLegOf n leg) → start_by n line source start x found ≡ Ok own → IsLegOf n own × (from_of n own.enter.0 ≡ source) × (start ≤ dep_of n own.enter.0)
 start_leg n line source start x None own legs is = absurd (cc)
@@ -192,7 +179,7 @@ IsUpTo (Some last) x = x ≤ last
 
 up_to_less : (last : Option ℕ) (x y : ℕ) → IsUpTo last x → rises last y ≡ true → x < y
 up_to_less None x y up rising = absurd up
-up_to_less (Some last) x y up rising = let less = lt_true last y rising in omega (arith, up, less)
+up_to_less (Some last) x y up rising = let less = ltb-true last y rising in omega (arith, up, less)
 
 -- what holds of the tables so far
 pub record IsFitting (n : Parts) (s : Reading) : Type 0 where
@@ -342,7 +329,7 @@ graph_fits n names version q [] graph is = by_test (q.source.0 == q.target.0) re
   where
     by_test : (test : Bool) → (q.source.0 == q.target.0) ≡ test → ◌≡◌ {A = Result PlanGraph TextFault} (if test then Ok (record { start = None; tables = [] }) else Err (fault.Row 2)) (Ok graph) → IsFit n q graph
     by_test true here is =
-        let fit : IsFit n q (record { start = None; tables = [] }) = record { starts = (eq_true q.source.0 q.target.0 here, refl); tables = All-nil (IsFitTable n); rising = λ i j d less within. absurd (omega (arith, less, within)) } in
+        let fit : IsFit n q (record { start = None; tables = [] }) = record { starts = (eqb-true q.source.0 q.target.0 here, refl); tables = All-nil (IsFitTable n); rising = λ i j d less within. absurd (omega (arith, less, within)) } in
         subst (λ (g : PlanGraph). IsFit n q g) (ok_same _ graph is) fit
     by_test false away is = absurd (cc)
 graph_fits n names version q (r ∷ rs) graph is = by_test (q.source.0 == q.target.0) refl is
@@ -356,16 +343,16 @@ head_if : (source target start from to : ℕ) (x : HeadRow) (head : Head) (test 
     → ◌≡◌ {A = Result Head TextFault} (if test then Ok (record { query = record { source = record { 0 = source }; target = record { 0 = target }; start = record { 0 = start }; deadline = x.deadline }; bounds = record { lo = x.lo; hi = x.hi } }) else Err (fault.OtherQuery 1)) (Ok head) → IsAsked source target start head
 head_if source target start from to x head false asked order is = absurd (cc)
 head_if source target start from to x head true asked order is =
-    let both = and_true (nat_le x.start.0 x.deadline.0) (nat_le x.lo x.hi) order in
-    let first = and_true (from == source) ((to == target) && (x.start.0 == start)) asked in
-    let second = and_true (to == target) (x.start.0 == start) first.1 in
-    let begins = eq_true x.start.0 start second.1 in
+    let both = and_parts (nat_le x.start.0 x.deadline.0) (nat_le x.lo x.hi) order in
+    let first = and_parts (from == source) ((to == target) && (x.start.0 == start)) asked in
+    let second = and_parts (to == target) (x.start.0 == start) first.1 in
+    let begins = eqb-true x.start.0 start second.1 in
     let here : IsAsked source target start (record { query = record { source = record { 0 = source }; target = record { 0 = target }; start = record { 0 = start }; deadline = x.deadline }; bounds = record { lo = x.lo; hi = x.hi } }) = record {
       source = refl;
       target = refl;
       start = refl;
-      in_time = let le = le_true x.start.0 x.deadline.0 both.0 in omega (arith, le, begins);
-      bounds = le_true x.lo x.hi both.1;
+      in_time = let le = leb-true x.start.0 x.deadline.0 both.0 in omega (arith, le, begins);
+      bounds = leb-true x.lo x.hi both.1;
     } in
     subst (λ (h : Head). IsAsked source target start h) (ok_same _ head is) here
 

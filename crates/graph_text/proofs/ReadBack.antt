@@ -1,11 +1,11 @@
 -- What was printed is read back.
 use Rattle.std.proofs.Common.{◌≡◌, ◌≢◌, ℕ, suc, ◌+◌, ◌-◌, ◌<◌, ◌≤◌, ◌^◌, List, [], ◌∷◌, ◌++◌, length, Option, Some, None, Ok, Err, Result, Bool, true, false, All, AllPairs, arith, sym, refl, ap, ◌∙◌, append_assoc}
-use Rattle.std.specs.Prelude.{◌==◌, ◌&&◌, ◌||◌, nat_le, nat_lt, if◌then◌else◌, slice_index_or, decimal, codes, eqb}
+use Rattle.std.specs.Prelude.{◌==◌, ◌&&◌, ◌||◌, nat_le, if◌then◌else◌, slice_index_or, decimal, codes, eqb}
 use Rattle.std.specs.Option.{option_map, option_and_then}
 use Rattle.std.specs.Cmp.Lexicographic.{bytes_decides}
 use Rattle.std.specs.List.{list_any, IsDistinct, AllByRecursion}
 use Rattle.std.proofs.lemmas.Bool.Decides.{nat_tests}
-use Rattle.std.proofs.lemmas.Bool.{false≢true}
+use Rattle.std.proofs.lemmas.Bool.{false≢true, and_parts, eqb-true, lt-ltb, eq-eqb, ne_eqb, le-leb}
 use Rattle.std.proofs.lemmas.List.{append-nil}
 use Rattle.std.proofs.lemmas.List.Elements.{All-cons, All-nil, All-head, All-tail}
 use Rattle.std.proofs.lemmas.Map.Steps.{length-le_from_distinct_below}
@@ -13,7 +13,6 @@ use Rattle.csv.proofs.RoundTrip.{rows_text as text_of_rows}
 use Rattle.csv.specs.Reading.{strip_bom}
 use Rattle.clock_text.specs.Civil.{moment_text, nanos_text}
 use Rattle.clock_text.specs.Times.{moment_at, nanos_at}
-use Rattle.clock_text.proofs.DigitLemmas.{and_parts}
 use Rattle.clock_text.proofs.Walk.{text_tells}
 use Rattle.clock_text.proofs.NanosLemmas.{nanos_tell}
 use Rattle.csv_rows.specs.Spaces.{trimmed}
@@ -51,21 +50,9 @@ use Rattle.printed_rows.specs.Fields.{number_of, whole_at, connection_of, rises}
 use Rattle.printed_rows.proofs.Found.{connection_number}
 use Rattle.graph_text.proofs.Laws.{limit_soon, place_there}
 use Rattle.graph_text.proofs.Steps.{leg_step}
-use Rattle.printed_rows.proofs.Plain.{moment_kept, nanos_kept, decimal_kept, whole_back, name_back, name_kept, le_holds}
+use Rattle.printed_rows.proofs.Plain.{moment_kept, nanos_kept, decimal_kept, whole_back, name_back, name_kept}
 use Rattle.graph_text.proofs.Printed.{fields_kept, rows-append}
 use Rattle.printed_rows.proofs.Printed.{IsKept, AreKept, kept-append, table_back}
-
-eq_holds : (a b : ℕ) → a ≡ b → (a == b) ≡ true
-eq_holds a b same = grind (arith, nat_tests)
-
-eq_fails : (a b : ℕ) → a ≢ b → (a == b) ≡ false
-eq_fails a b other = grind (arith, nat_tests)
-
-eq_true : (a b : ℕ) → (a == b) ≡ true → a ≡ b
-eq_true a b is = grind (arith, nat_tests)
-
-lt_holds : (a b : ℕ) → a < b → nat_lt a b ≡ true
-lt_holds a b less = grind (arith, nat_tests)
 
 -- the records of a leg, of a table's rows, of a place, and of all tables
 abbrev leg_record : Parts → NameLists → Version → List ℕ → List ℕ → Leg → List (List ℕ)
@@ -130,7 +117,7 @@ place_row_by version name a b change number one two some =
     place_row_is version name a b
     ∙ ap (λ (x : Option ℕ). place_numbers x (whole_at b)) one
     ∙ ap (λ (x : Option ℕ). place_numbers (Some change) x) two
-    ∙ ap (λ (test : Bool). if test then Some (record { change = change; count = number }) else None) (le_holds 1 number some)
+    ∙ ap (λ (test : Bool). if test then Some (record { change = change; count = number }) else None) (le-leb 1 number some)
 
 -- the numbers of the first row
 head_row_is : (version : Version) (from to a b c d : List ℕ) → head_row_in version (codes "graph" ∷ number_of_version version ∷ from ∷ to ∷ a ∷ b ∷ c ∷ d ∷ ninth version [])
@@ -145,7 +132,7 @@ head_row_by version from to a b c d start deadline lo hi one two three four in_t
   where
     four_by : (p q r s : Option ℕ) → p ≡ Some start → q ≡ Some deadline → r ≡ Some lo → s ≡ Some hi
         → head_numbers p q r s ≡ Some (record { start = record { 0 = start }; deadline = record { 0 = deadline }; lo = lo; hi = hi })
-    four_by p q r s e f g h = rw (e, f, g, h, le_holds start deadline in_time, le_holds lo hi bounds) refl
+    four_by p q r s e f g h = rw (e, f, g, h, le-leb start deadline in_time, le-leb lo hi bounds) refl
 
 -- the version of the first row
 version_back : (version : Version) (rest : List (List ℕ)) → version_in (codes "graph" ∷ number_of_version version ∷ rest) ≡ Some version
@@ -166,7 +153,7 @@ head_by names version source target start deadline lo hi from to a b c d is_from
   where
     asked : head_named source target start (record { start = record { 0 = start }; deadline = record { 0 = deadline }; lo = lo; hi = hi }) (Some source) (Some target)
         ≡ Ok (record { query = record { source = record { 0 = source }; target = record { 0 = target }; start = record { 0 = start }; deadline = record { 0 = deadline } }; bounds = record { lo = lo; hi = hi } })
-    asked = rw (eq_holds source source refl, eq_holds target target refl, eq_holds start start refl) refl
+    asked = rw (eq-eqb source source refl, eq-eqb target target refl, eq-eqb start start refl) refl
 
 -- where moments or places rise
 abbrev Follows : Option Moment → List GraphRow → Type 0
@@ -258,9 +245,9 @@ module _ (n : Parts) (names : NameLists) (version : Version) (valid : IsValid n)
   all_agree moment leg is_leg =
       seven_hold (nat_le (step_of n leg.enter.0) (step_of n leg.exit.0)) (connection n leg.enter.0).can_board (connection n leg.exit.0).can_exit
       (dep_of n leg.enter.0 == dep_of n leg.enter.0) (from_of n leg.enter.0 == from_of n leg.enter.0) (to_of n leg.exit.0 == to_of n leg.exit.0) (arr_of n leg.exit.0 == arr_of n leg.exit.0)
-      (le_holds (step_of n leg.enter.0) (step_of n leg.exit.0) is_leg.onward) is_leg.board is_leg.leave
-      (eq_holds (dep_of n leg.enter.0) (dep_of n leg.enter.0) refl) (eq_holds (from_of n leg.enter.0) (from_of n leg.enter.0) refl) (eq_holds (to_of n leg.exit.0) (to_of n leg.exit.0) refl)
-      (eq_holds (arr_of n leg.exit.0) (arr_of n leg.exit.0) refl)
+      (le-leb (step_of n leg.enter.0) (step_of n leg.exit.0) is_leg.onward) is_leg.board is_leg.leave
+      (eq-eqb (dep_of n leg.enter.0) (dep_of n leg.enter.0) refl) (eq-eqb (from_of n leg.enter.0) (from_of n leg.enter.0) refl) (eq-eqb (to_of n leg.exit.0) (to_of n leg.exit.0) refl)
+      (eq-eqb (arr_of n leg.exit.0) (arr_of n leg.exit.0) refl)
     where
       seven_hold : (a b c d e f g : Bool) → a ≡ true → b ≡ true → c ≡ true → d ≡ true → e ≡ true → f ≡ true → g ≡ true → (a && (b && (c && (d && (e && (f && g)))))) ≡ true
       seven_hold a b c d e f g one two three four five six seven = rw (one, two, three, four, five, six, seven) refl
@@ -289,11 +276,11 @@ module _ (n : Parts) (names : NameLists) (version : Version) (valid : IsValid n)
       told Second = tt
 
       starts : start_by n line source start (numbers (dep_of n leg.enter.0) leg) (Some leg) ≡ Ok leg
-      starts = rw (eq_holds (from_of n leg.enter.0) source leaves, eq_holds (dep_of n leg.enter.0) (dep_of n leg.enter.0) refl, le_holds start (dep_of n leg.enter.0) in_time) refl
+      starts = rw (eq-eqb (from_of n leg.enter.0) source leaves, eq-eqb (dep_of n leg.enter.0) (dep_of n leg.enter.0) refl, le-leb start (dep_of n leg.enter.0) in_time) refl
 
   -- a row of a table
   limit_back : (place : ℕ) (row : GraphRow) → IsFitRow n place row → is_by_limit n place row.by.0 row.leg ≡ true
-  limit_back place row own_row = ap (λ (limit : Option ℕ). is_limit limit row.by.0) own_row.by ∙ eq_holds row.by.0 row.by.0 refl
+  limit_back place row own_row = ap (λ (limit : Option ℕ). is_limit limit row.by.0) own_row.by ∙ eq-eqb row.by.0 row.by.0 refl
 
   row_back : (line place : ℕ) (last : Option ℕ) (row : GraphRow) → IsToldRow n version place row → rises last row.by.0 ≡ true
       → row_in n names version line place last (leg_record n names version (codes "leg") (moment_text row.by.0) row.leg) ≡ Ok row
@@ -322,7 +309,7 @@ module _ (n : Parts) (names : NameLists) (version : Version) (valid : IsValid n)
       ∙ begins
     where
       begins : table_named n line last (record { change = change_of n t.place.0; count = length t.rows }) (Some t.place.0) ≡ Ok (record { place = t.place; count = length t.rows })
-      begins = rw (later, eq_holds (change_of n t.place.0) (change_of n t.place.0) refl) refl
+      begins = rw (later, eq-eqb (change_of n t.place.0) (change_of n t.place.0) refl) refl
 
   -- a table has at most a row for each connection, since rows of one entry have one limit
   abbrev entries : List GraphRow → List ℕ
@@ -345,7 +332,7 @@ module _ (n : Parts) (names : NameLists) (version : Version) (valid : IsValid n)
   other_entries place row (next ∷ rows) own_row fits later =
       let first = All-head (IsFitRow n place) next rows fits in
       let less = All-head (λ x. row.by.0 < x.by.0) next rows later in (
-        eq_fails row.leg.enter.0 next.leg.enter.0 (λ same. omega (arith, by_entry place row next own_row first same, less)),
+        ne_eqb row.leg.enter.0 next.leg.enter.0 (λ same. omega (arith, by_entry place row next own_row first same, less)),
         other_entries place row rows own_row (All-tail (IsFitRow n place) next rows fits) (All-tail (λ x. row.by.0 < x.by.0) next rows later),
       )
 
@@ -421,11 +408,11 @@ module _ (n : Parts) (names : NameLists) (version : Version) (valid : IsValid n)
 
   last_row : (done : List PlaceTable) (place : PlaceId) (before : List GraphRow) (last : Option Moment) (left : ℕ) (row : GraphRow) → left ≡ 1
       → extended (with_rows done place before last left) (Ok row) ≡ Ok (after_table done place (before ++ row ∷ []))
-  last_row done place before last left row one = rw (eq_holds left 1 one) refl
+  last_row done place before last left row one = rw (eq-eqb left 1 one) refl
 
   more_rows : (done : List PlaceTable) (place : PlaceId) (before : List GraphRow) (last : Option Moment) (left : ℕ) (row : GraphRow) → left ≢ 1
       → extended (with_rows done place before last left) (Ok row) ≡ Ok (with_rows done place (before ++ row ∷ []) (Some row.by) (left - 1))
-  more_rows done place before last left row many = rw (eq_fails left 1 many) refl
+  more_rows done place before last left row many = rw (ne_eqb left 1 many) refl
 
   rows_back : (rows : List GraphRow) (rest : List (List (List ℕ))) (line : ℕ) (done : List PlaceTable) (place : PlaceId) (before : List GraphRow) (last : Option Moment) (left : ℕ) (all : List PlaceTable)
       → left ≡ length rows → 1 ≤ left → All (IsToldRow n version place.0) rows → AllPairs (λ a b. a.by.0 < b.by.0) rows → Follows last rows
@@ -444,7 +431,7 @@ module _ (n : Parts) (names : NameLists) (version : Version) (valid : IsValid n)
       ∙ rows_back (next ∷ rows) rest (line + 1) done place (before ++ row ∷ []) (Some row.by) (left - 1) all (omega (arith, size)) (omega (arith, size))
       (All-tail (IsToldRow n version place.0) row (next ∷ rows) fits)
       (λ i j d less within. rising (suc i) (suc j) d (omega (arith, less)) (omega (arith, within)))
-      (lt_holds row.by.0 next.by.0 (rising 0 1 row (omega arith) (omega arith)))
+      (lt-ltb row.by.0 next.by.0 (rising 0 1 row (omega arith) (omega arith)))
       (λ later. ap (λ (list : List GraphRow). tables_from n names version rest later (after_table done place list)) (append_assoc before (row ∷ []) (next ∷ rows)) ∙ goes_on later)
 
   -- all tables
@@ -468,7 +455,7 @@ module _ (n : Parts) (names : NameLists) (version : Version) (valid : IsValid n)
 
       places_follow : (t : PlaceTable) (tables : List PlaceTable) → AllPairs (λ a b. a.place.0 < b.place.0) (t ∷ tables) → FollowsPlace (Some t.place) tables
       places_follow t [] rising = tt
-      places_follow t (next ∷ tables) rising = lt_holds t.place.0 next.place.0 (rising 0 1 t (omega arith) (omega arith))
+      places_follow t (next ∷ tables) rising = lt-ltb t.place.0 next.place.0 (rising 0 1 t (omega arith) (omega arith))
 
   -- the first row
   head_kept : (head : Head) → IsPrintableQuery n head.query → IsKept (head_record names version head)
@@ -515,11 +502,11 @@ module _ (n : Parts) (names : NameLists) (version : Version) (valid : IsValid n)
     here_printed : (graph : PlanGraph) → head.query.source.0 ≡ head.query.target.0 → graph_text_in n names version head graph ≡ text_of_rows (head_record names version head ∷ [])
     unfolding text_of_rows row_of_fields
     here_printed graph here =
-        ap (λ (test : Bool). row_of_fields (head_record names version head) ++ (if test then [] else start_text n names version graph.start ++ tables_text n names version graph.tables)) (eq_holds head.query.source.0 head.query.target.0 here)
+        ap (λ (test : Bool). row_of_fields (head_record names version head) ++ (if test then [] else start_text n names version graph.start ++ tables_text n names version graph.tables)) (eq-eqb head.query.source.0 head.query.target.0 here)
 
     here_read : (tables : List PlaceTable) → head.query.source.0 ≡ head.query.target.0 → tables ≡ [] → graph_in n names version head.query.source.0 head.query.target.0 head.query.start.0 [] ≡ Ok (record { start = None; tables = tables })
     here_read tables here none =
-        ap (λ (test : Bool). if test then Ok (record { start = None; tables = [] }) else Err (fault.Row 2)) (eq_holds head.query.source.0 head.query.target.0 here)
+        ap (λ (test : Bool). if test then Ok (record { start = None; tables = [] }) else Err (fault.Row 2)) (eq-eqb head.query.source.0 head.query.target.0 here)
         ∙ ap (λ (list : List PlaceTable). Ok (record { start = None; tables = list })) (sym none)
 
     -- and else the start leg and the tables
@@ -530,7 +517,7 @@ module _ (n : Parts) (names : NameLists) (version : Version) (valid : IsValid n)
     away_printed leg tables away =
         let first = row_of_fields (head_record names version head) in
         let second = row_of_fields (leg_record n names version (codes "start") (moment_text (dep_of n leg.enter.0)) leg) in
-        ap (λ (test : Bool). first ++ (if test then [] else second ++ tables_text n names version tables)) (eq_fails head.query.source.0 head.query.target.0 away)
+        ap (λ (test : Bool). first ++ (if test then [] else second ++ tables_text n names version tables)) (ne_eqb head.query.source.0 head.query.target.0 away)
         ∙ ap (λ (text : List ℕ). first ++ (second ++ text)) (tables_printed n names version tables)
 
     away_read : (leg : Leg) (tables : List PlaceTable) → IsFitStart n head.query leg → All (IsToldTable n version) tables → AllPairs (λ a b. a.place.0 < b.place.0) tables
@@ -539,7 +526,7 @@ module _ (n : Parts) (names : NameLists) (version : Version) (valid : IsValid n)
     away_read leg tables begins all rising =
         let second = leg_record n names version (codes "start") (moment_text (dep_of n leg.enter.0)) leg in
         let rows = table_records n names version tables in
-        ap (λ (test : Bool). if test then Err (fault.Row 2) else started_in n names version head.query.source.0 head.query.start.0 second rows) (eq_fails head.query.source.0 head.query.target.0 begins.differ)
+        ap (λ (test : Bool). if test then Err (fault.Row 2) else started_in n names version head.query.source.0 head.query.start.0 second rows) (ne_eqb head.query.source.0 head.query.target.0 begins.differ)
         ∙ ap (λ (told : Result Leg TextFault). and_then told (λ l. and_then (tables_from n names version rows 3 no_tables) (λ ts. Ok (record { start = Some l; tables = ts }))))
         (start_back 2 head.query.source.0 head.query.start.0 leg begins.is_leg begins.leaves begins.in_time)
         ∙ ap (λ (told : Result (List PlaceTable) TextFault). and_then told (λ ts. Ok (record { start = Some leg; tables = ts })))
@@ -565,7 +552,7 @@ rows_told : (n : Parts) (place : ℕ) (rows : List GraphRow) → rows_leave n pl
 rows_told n place [] leave fits = All-nil (IsToldRow n First place)
 rows_told n place (row ∷ rows) leave fits =
     let both = and_parts (from_of n row.leg.enter.0 == place) (rows_leave n place rows) leave in
-    All-cons (IsToldRow n First place) row rows (All-head (IsFitRow n place) row rows fits, eq_true (from_of n row.leg.enter.0) place both.0) (rows_told n place rows both.1 (All-tail (IsFitRow n place) row rows fits))
+    All-cons (IsToldRow n First place) row rows (All-head (IsFitRow n place) row rows fits, eqb-true (from_of n row.leg.enter.0) place both.0) (rows_told n place rows both.1 (All-tail (IsFitRow n place) row rows fits))
 
 tables_told : (n : Parts) (tables : List PlaceTable) → tables_leave n tables ≡ true → All (IsFitTable n) tables → All (IsToldTable n First) tables
 tables_told n [] leave fits = All-nil (IsToldTable n First)

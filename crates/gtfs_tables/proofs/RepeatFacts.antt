@@ -2,7 +2,7 @@
 use Rattle.std.proofs.Common.{◌≡◌, ℕ, ◌+◌, ◌<◌, ◌≤◌, ◌==◌, Bool, true, false, List, [], map, length, slice_index_or, Option, Some, None, if◌then◌else◌, filter, refl, sym, ap, ◌∙◌, subst, arith, ⊎_elim}
 use Rattle.std.specs.Prelude.{Result, Ok, Err, option_and_then}
 use Rattle.std.specs.List.{AllPairs}
-use Rattle.std.proofs.lemmas.Bool.{cases_lt}
+use Rattle.std.proofs.lemmas.Bool.{cases_lt, eq-eqb}
 use Rattle.std.proofs.lemmas.List.{get_or-map, length-map}
 use Rattle.std.proofs.lemmas.List.Elements.{All-filter, All-map}
 use Rattle.std.proofs.lemmas.List.Kept.{AllPairs-filter}
@@ -22,7 +22,6 @@ use Rattle.csv_rows.specs.Tables.{row_count, place_in, field, field_at}
 use Rattle.csv_rows.proofs.FirstLemmas.{first-zero, none-both, none-each}
 use Rattle.csv_rows.proofs.ListLemmas.{length-list_below, get-list_below}
 use Rattle.csv_rows.proofs.RowLemmas.{read_is}
-use Rattle.csv_rows.proofs.TestLemmas.{eq_true}
 use Rattle.gtfs_tables.specs.declared.frequencies.FrequencyRow.{FrequencyRow}
 use Rattle.gtfs_tables.specs.declared.frequencies.TripFrequency.{TripFrequency}
 use Rattle.gtfs_tables.specs.Bounds.{most_headway}
@@ -44,7 +43,7 @@ not_zero : (m n : ℕ) (b : Bool) → (m == 0) ≡ b → (if b then None else So
 not_zero m n true e h = absurd (cc)
 not_zero m n false e h =
     let same : m ≡ n = cc in
-    let some : 1 ≤ m = ⊎_elim (λ (less : 0 < m). less) (λ (le : m ≤ 0). absurd (let zero : (m == 0) ≡ true = eq_true m 0 (omega arith) in let never : true ≡ false = sym zero ∙ e in cc)) (cases_lt 0 m) in
+    let some : 1 ≤ m = ⊎_elim (λ (less : 0 < m). less) (λ (le : m ≤ 0). absurd (let zero : (m == 0) ≡ true = eq-eqb m 0 (omega arith) in let never : true ≡ false = sym zero ∙ e in cc)) (cases_lt 0 m) in
     (same, omega arith)
 
 headway_some : (o : Option ℕ) (n : ℕ) → option_and_then (λ seconds. if seconds == 0 then None else Some seconds) o ≡ Some n → (o ≡ Some n) × (1 ≤ n)

@@ -1,12 +1,11 @@
 -- The rows of a trip among rows by trip.
 use Rattle.std.proofs.Common.{◌≡◌, ℕ, zero, suc, ◌-◌, ◌<◌, ◌≤◌, ◌==◌, Bool, true, false, not, ◌&&◌, cond, List, [], ◌∷◌, map, length, take, drop, slice_index, slice_range, if◌then◌else◌, leb, ltb, leb-true, leb-false, ltb-true, ltb-false, nat_cmp, is_lt, refl, sym, ap, ◌∙◌, arith, ⊎_elim}
-use Rattle.std.proofs.lemmas.Bool.{cases_lt}
+use Rattle.std.proofs.lemmas.Bool.{cases_lt, eq-eqb, ne_eqb}
 use Rattle.std.proofs.lemmas.Bool.Decides.{nat_tests}
 use Rattle.std.proofs.lemmas.List.{get_or-map, length-map}
 use Rattle.std.proofs.lemmas.List.Elements.{filter_agree}
 use Rattle.std.specs.List.Sorted.{ties, IsStableByKey, IsPartitionPoint, IsNonDecreasing, IsNonDecreasingBy}
 use Rattle.csv_rows.specs.Lists.{list_below}
-use Rattle.csv_rows.proofs.TestLemmas.{eq_true, eq_false}
 use Rattle.gtfs_tables.specs.declared.frequencies.FrequencyRow.{FrequencyRow}
 use Rattle.gtfs_tables.specs.declared.frequencies.TripFrequency.{TripFrequency}
 use Rattle.gtfs_tables.specs.Frequencies.{no_frequency, repeats_of, all_repeats_of}
@@ -113,15 +112,15 @@ repeats_in-span [] rows trip low high size s = let none : high - low ≡ 0 = ome
 repeats_in-span (t ∷ trips) [] trip low high size s = absurd (omega (arith, size))
 repeats_in-span (t ∷ trips) (row ∷ rows) trip (suc low) zero size s = absurd (omega (arith, s.order))
 repeats_in-span (t ∷ trips) (row ∷ rows) trip (suc low) (suc high) size s =
-    let apart = eq_false t trip (λ e. omega (arith, e, s.before 0 (omega arith))) in
+    let apart = ne_eqb t trip (λ e. omega (arith, e, s.before 0 (omega arith))) in
     let less : suc high - suc low ≡ high - low = omega arith in
     ap (λ n. take n (drop low rows)) less
     ∙ repeats_in-span trips rows trip low high (omega (arith, size)) (next_span t trip low high trips s) ∙ sym (passed (t == trip) row _ apart)
 repeats_in-span (t ∷ trips) (row ∷ rows) trip zero zero size s =
-    let apart = eq_false t trip (λ e. omega (arith, e, s.after 0 (omega arith) (omega arith))) in
+    let apart = ne_eqb t trip (λ e. omega (arith, e, s.after 0 (omega arith) (omega arith))) in
     repeats_in-span trips rows trip 0 0 (omega (arith, size)) (empty_span t trip trips s) ∙ sym (passed (t == trip) row _ apart)
 repeats_in-span (t ∷ trips) (row ∷ rows) trip zero (suc high) size s =
-    let same = eq_true t trip (s.here 0 (omega arith) (omega arith)) in
+    let same = eq-eqb t trip (s.here 0 (omega arith) (omega arith)) in
     let more : suc high - 0 ≡ suc (high - 0) = omega arith in
     ap (λ n. take n (row ∷ rows)) more
     ∙ ap (λ xs. row ∷ xs) (repeats_in-span trips rows trip 0 high (omega (arith, size)) (first_span t trip high trips s)) ∙ sym (kept (t == trip) row _ same)

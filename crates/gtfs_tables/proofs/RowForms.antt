@@ -3,7 +3,7 @@ use Rattle.std.proofs.Common.{◌≡◌, ℕ, ◌+◌, ◌*◌, ◌<◌, ◌≤�
 use Rattle.std.specs.Prelude.{Result, Ok, Err}
 use Rattle.std.specs.List.{list_all}
 use Rattle.std.specs.Char.{is_ascii_digit}
-use Rattle.std.proofs.lemmas.Bool.Decides.{nat_tests}
+use Rattle.std.proofs.lemmas.Bool.{ltb-true, and_parts, leb-true}
 use Rattle.clock_text.specs.Digits.{value_of, whole_of}
 use Rattle.clock_text.specs.Times.{time_at, time_of, seconds_at}
 use Rattle.clock_text.proofs.OneText.{if_cases, some_cases}
@@ -21,7 +21,6 @@ use Rattle.gtfs_tables.specs.Forms.{text_in, allows_in, time_in}
 use Rattle.gtfs_tables.specs.StopTimes.{time_columns, number_in, times_of, visit_of, timed_from, timed_at, no_row}
 use Rattle.gtfs_tables.proofs.RowLemmas.{whole_bound}
 use Rattle.csv_rows.proofs.RowLemmas.{place_inside}
-use Rattle.csv_rows.proofs.TestLemmas.{lt_test, and_parts}
 
 -- a kept row stands at the place of a stop, at times of at most 167 hours
 pub record IsAtStop (stops : ℕ) (places : List ℕ) (v : StopRow) : Type 0 where
@@ -57,15 +56,12 @@ or_none true p n o h e = let same : None ≡ o = cc in subst (IsBelow n) same tt
 or_none false None n o h e = absurd (cc)
 or_none false (Some k) n o h e = let same : Some k ≡ o = cc in subst (IsBelow n) same h
 
-le_test : (a b : ℕ) → nat_le a b ≡ true → a ≤ b
-le_test a b h = grind (arith, nat_tests)
-
 seconds_below : (h m s n : ℕ) → seconds_at h m s ≡ Some n → n < 604800
 seconds_below h m s n e =
     let parts = some_cases (nat_le h 167 && (nat_lt m 60 && nat_lt s 60)) (3600 * h + (60 * m + s)) n e in
     let hours = and_parts (nat_le h 167) (nat_lt m 60 && nat_lt s 60) parts.0 in
     let rest = and_parts (nat_lt m 60) (nat_lt s 60) hours.1 in
-    omega (arith, le_test h 167 hours.0, lt_test m 60 rest.0, lt_test s 60 rest.1, parts.1)
+    omega (arith, leb-true h 167 hours.0, ltb-true m 60 rest.0, ltb-true s 60 rest.1, parts.1)
 
 has_marks : ℕ → List ℕ → Bool
 has_marks k t =

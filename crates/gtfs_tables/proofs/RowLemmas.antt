@@ -1,12 +1,11 @@
 -- Texts and whole numbers in fields.
-use Rattle.std.proofs.Common.{◌≡◌, ℕ, ◌≤◌, ◌&&◌, nat_le, Bool, true, false, List, length, Some, None, if◌then◌else◌, IsUtf8, refl, sym, ap, ◌∙◌, subst, arith, ⊎_elim}
+use Rattle.std.proofs.Common.{◌≡◌, ℕ, ◌≤◌, ◌&&◌, nat_le, Bool, true, false, List, length, Some, None, if◌then◌else◌, IsUtf8, refl, sym, ap, ◌∙◌, subst, ⊎_elim}
 use Rattle.std.specs.Str.{is_utf8}
 use Rattle.std.specs.List.{list_all}
 use Rattle.std.specs.Char.{is_ascii_digit}
-use Rattle.std.proofs.lemmas.Bool.Decides.{nat_tests}
 use Rattle.std.proofs.lemmas.Str.{IsUtf8-from_is_utf8, is_utf8-from_IsUtf8}
+use Rattle.std.proofs.lemmas.Bool.{cases_Bool, leb-true}
 use Rattle.clock_text.specs.Digits.{value_of, whole_of}
-use Rattle.csv_rows.proofs.FirstLemmas.{true_or_false}
 use Rattle.gtfs_tables.specs.Forms.{text_in}
 
 -- a text that is UTF-8, and one that is not
@@ -17,7 +16,7 @@ pub text_none : (text : List ℕ) → (IsUtf8 text → ⊥) → None ≡ text_in
 text_none text u =
     ⊎_elim (λ (t : is_utf8 text ≡ true). absurd (u (IsUtf8-from_is_utf8 text t)))
     (λ (f : is_utf8 text ≡ false). ap (λ b. if b then Some text else None) (sym f))
-    (true_or_false (is_utf8 text))
+    (cases_Bool (is_utf8 text))
 
 whole_if : (b : Bool) (n m most : ℕ) → (b ≡ true → n ≤ most) → (if b then Some n else None) ≡ Some m → m ≤ most
 whole_if true n m most low h = let e : n ≡ m = cc in subst (λ (k : ℕ). k ≤ most) e (low refl)
@@ -27,11 +26,8 @@ last_test : (a b : Bool) → (a && b) ≡ true → b ≡ true
 last_test true b h = h
 last_test false b h = absurd (cc)
 
-le_test : (a b : ℕ) → nat_le a b ≡ true → a ≤ b
-le_test a b h = grind (arith, nat_tests)
-
 -- a whole number is at most the most
 pub whole_bound : (most m : ℕ) (text : List ℕ) → whole_of most text ≡ Some m → m ≤ most
 whole_bound most m text h =
     whole_if (nat_le 1 (length text) && nat_le (length text) 9 && list_all is_ascii_digit text && nat_le (value_of text) most) (value_of text) m most
-    (λ t. le_test (value_of text) most (last_test (nat_le 1 (length text) && nat_le (length text) 9 && list_all is_ascii_digit text) (nat_le (value_of text) most) t)) h
+    (λ t. leb-true (value_of text) most (last_test (nat_le 1 (length text) && nat_le (length text) 9 && list_all is_ascii_digit text) (nat_le (value_of text) most) t)) h

@@ -2,7 +2,7 @@
 use Rattle.std.proofs.Common.{◌≡◌, ◌≢◌, ℕ, List, [], map, Option, Some, None, Contains, sym, subst, refl, inl, inr, ◌∙◌, ap}
 use Rattle.std.specs.Prelude.{◌==◌, if◌then◌else◌, MatchOption}
 use Rattle.std.specs.Option.{option_map}
-use Rattle.std.proofs.lemmas.Bool.{cases_eq}
+use Rattle.std.proofs.lemmas.Bool.{cases_eq, ne_eqb, eq-eqb}
 use Rattle.plan_model.specs.declared.model.Leg.{Leg}
 use Rattle.plan_model.specs.declared.model.Query.{Query}
 use Rattle.plan_model.specs.Parts.{Parts}
@@ -17,7 +17,6 @@ use Rattle.plan_graph.specs.Ready.{IsLegOf, Stands}
 use Rattle.plan_graph.specs.Follows.{Follows, IsSteady}
 use Rattle.leg_walk.specs.Walked.{IsWalked}
 use Rattle.leg_walk.proofs.Lists.{contains_from_has, has_from_contains, all_at_has}
-use Rattle.leg_walk.proofs.Places.{other_place, same_place}
 use Rattle.leg_walk.proofs.Tables.{table_away, table_there, by_for}
 use Rattle.leg_walk.proofs.Graphs.{IsKeptAfter, ready, busy, all_rides, table_of_ride, picks_taken}
 use Rattle.meat_scan.specs.Found.{Found, choice_of, leg_choice, chosen_by}
@@ -72,10 +71,10 @@ module _ {V : Type 0} {below covers : V → Tree → Type 0} {gap : V → ℕ} (
         let table = table_of_ride n valid q choice start.1 rides walked r there in
         elim (cases_eq (end_of n r.leg) target) [
           | inl is ↦
-              let right : (if end_of n r.leg == target then [] else arrivals) ≡ [] = rw (same_place (end_of n r.leg) target is) refl in
+              let right : (if end_of n r.leg == target then [] else arrivals) ≡ [] = rw (eq-eqb (end_of n r.leg) target is) refl in
               ap (λ (list : List GraphRow). map (λ row. row.by.0) list) (table ∙ table_there n target choice r.leg is) ∙ sym right
           | inr away ↦
-              let right : (if end_of n r.leg == target then [] else arrivals) ≡ arrivals = rw (other_place (end_of n r.leg) target away) refl in
+              let right : (if end_of n r.leg == target then [] else arrivals) ≡ arrivals = rw (ne_eqb (end_of n r.leg) target away) refl in
               ap (λ (list : List GraphRow). map (λ row. row.by.0) list) (table ∙ table_away n target choice r.leg away)
               ∙ by_for (choice r.leg) (arr_of n r.leg.exit.0) os (λ o has. let t = walked.taken r there away o (contains_from_has os o has) in (t.next, t.is_chosen))
               ∙ sym right

@@ -1,7 +1,6 @@
 -- From a placed leg to those that are chosen after it.
-use Rattle.std.proofs.Common.{◌≡◌, ◌≢◌, ℕ, zero, suc, ◌+◌, true, false, List, [], ◌∷◌, Option, Some, None, arith, sym, subst, refl, inl, inr}
-use Rattle.std.specs.Prelude.{◌==◌}
-use Rattle.std.proofs.lemmas.Bool.Decides.{nat_tests}
+use Rattle.std.proofs.Common.{◌≡◌, ◌≢◌, ℕ, zero, suc, ◌+◌, List, [], ◌∷◌, Option, Some, None, sym, subst, refl, inl, inr}
+use Rattle.std.proofs.lemmas.Bool.{ne_eqb}
 use Rattle.plan_model.specs.declared.model.Leg.{Leg}
 use Rattle.plan_model.specs.declared.model.Outcome.{Outcome}
 use Rattle.plan_model.specs.Parts.{Parts}
@@ -11,12 +10,6 @@ use Rattle.plan_model.specs.Strategy.{IsBoardable, Safe, SafeAll}
 use Rattle.plan_model.specs.Unfold.{end_of, arrival_of, outcomes_of, kids_after, ride_or_stuck, unfold_after}
 use Rattle.plan_graph.specs.Ready.{Stands, StandsIn}
 use Rattle.leg_walk.specs.Placed.{Has, IsPlaced}
-
-pub other_place : (a b : ℕ) → a ≢ b → (a == b) ≡ false
-other_place a b differ = grind (arith, nat_tests)
-
-pub same_place : (a b : ℕ) → a ≡ b → (a == b) ≡ true
-same_place a b is = grind (arith, nat_tests)
 
 -- the leg that is chosen after a leg that arrives at a moment is placed
 pub record IsPlacedNext (n : Parts) (target : ℕ) (by : Option ℕ) (choice : Leg → ℕ → Option Leg) (whole : Tree) (leg : Leg) (arrival : ℕ) : Type 0 where
@@ -57,11 +50,11 @@ module _ (n : Parts) (target : ℕ) (by : Option ℕ) (choice : Leg → ℕ → 
   next_at : (whole : Tree) (rides : ℕ) (leg : Leg) (arrival : ℕ) → end_of n leg ≢ target → Safe n target by (unfold_after n target choice rides leg arrival) (end_of n leg) arrival → ((other : Leg) → Stands other (unfold_after n target choice rides leg arrival) → Stands other whole) → IsPlacedNext n target by choice whole leg arrival
   next_at whole zero leg arrival away safe stands =
       let place = end_of n leg in
-      let is : unfold_after n target choice 0 leg arrival ≡ Stuck place arrival = rw (other_place place target away) in
+      let is : unfold_after n target choice 0 leg arrival ≡ Stuck place arrival = rw (ne_eqb place target away) in
       absurd (subst (λ (tree : Tree). Safe n target by tree place arrival) is safe)
   next_at whole (suc rides) leg arrival away safe stands =
       let place = end_of n leg in
-      let is : unfold_after n target choice (suc rides) leg arrival ≡ ride_or_stuck n (unfold_after n target choice rides) (choice leg arrival) place arrival = rw (other_place place target away) in
+      let is : unfold_after n target choice (suc rides) leg arrival ≡ ride_or_stuck n (unfold_after n target choice rides) (choice leg arrival) place arrival = rw (ne_eqb place target away) in
       next_by whole rides leg arrival (choice leg arrival) refl
       (subst (λ (tree : Tree). Safe n target by tree place arrival) is safe)
       (λ other there. stands other (subst (λ (tree : Tree). Stands other tree) (sym is) there))

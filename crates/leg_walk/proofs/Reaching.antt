@@ -3,6 +3,7 @@ use Rattle.std.proofs.Common.{◌≡◌, ◌≢◌, ℕ, ◌-◌, ◌<◌, ◌�
 use Rattle.std.specs.Prelude.{MatchBool}
 use Rattle.std.specs.BTreeMap.{is_at}
 use Rattle.std.specs.List.{list_any}
+use Rattle.std.proofs.lemmas.Bool.{ne_eqb}
 use Rattle.plan_model.specs.declared.model.Leg.{Leg}
 use Rattle.plan_model.specs.declared.model.Query.{Query}
 use Rattle.plan_model.specs.Parts.{Parts}
@@ -17,7 +18,7 @@ use Rattle.leg_walk.specs.Placed.{Has, IsPlaced}
 use Rattle.leg_walk.proofs.Lists.{has_append, has_append_right, has_split, has_map, has_from_map}
 use Rattle.leg_walk.proofs.Sets.{kept_with, there_with, only_with, there_if}
 use Rattle.leg_walk.proofs.Orders.{leg_equal}
-use Rattle.leg_walk.proofs.Places.{other_place, next_after}
+use Rattle.leg_walk.proofs.Places.{next_after}
 use Rattle.leg_walk.proofs.Tables.{same_next, table_row}
 
 -- the leg is to do, or was seen
@@ -31,7 +32,7 @@ pub record IsReaching (n : Parts) (target : ℕ) (by : Option ℕ) (choice : Leg
 
 -- the tree of a choice begins with its start leg
 pub starts_by : (n : Parts) (q : Query) (choice : Leg → ℕ → Option Leg) (start : Leg) → q.source.0 ≢ q.target.0 → unfolded n q choice (Some start) ≡ ride_of n (unfold_after n q.target.0 choice (count n - 1)) start
-starts_by n q choice start differ = rw (other_place q.source.0 q.target.0 differ) refl
+starts_by n q choice start differ = rw (ne_eqb q.source.0 q.target.0 differ) refl
 
 pub start_placed : (n : Parts) (q : Query) (choice : Leg → ℕ → Option Leg) (start : Leg) → q.source.0 ≢ q.target.0 → (safe : IsSafeForSome n q (unfolded n q choice (Some start))) → IsPlaced n q.target.0 (Some safe.0) choice (unfolded n q choice (Some start)) start
 start_placed n q choice start differ safe =

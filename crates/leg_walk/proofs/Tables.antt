@@ -1,7 +1,7 @@
 -- The rows of a table, and what they pick.
 use Rattle.std.proofs.Common.{◌≡◌, ◌≢◌, ℕ, ◌+◌, ◌≤◌, ◌<◌, Bool, true, false, List, [], ◌∷◌, map, Option, Some, None, arith, sym, subst, refl, inl, inr, ◌∙◌, ap}
-use Rattle.std.specs.Prelude.{nat_le, if◌then◌else◌}
-use Rattle.std.proofs.lemmas.Bool.{cases_lt, cases_eq}
+use Rattle.std.specs.Prelude.{if◌then◌else◌}
+use Rattle.std.proofs.lemmas.Bool.{cases_lt, cases_eq, ne_eqb, eq-eqb, le-leb, lt-leb}
 use Rattle.std.proofs.lemmas.Bool.Decides.{nat_tests}
 use Rattle.plan_model.specs.declared.model.Leg.{Leg}
 use Rattle.plan_model.specs.declared.model.Outcome.{Outcome}
@@ -15,7 +15,6 @@ use Rattle.plan_graph.specs.Ready.{IsFirst, IsBefore, is_within, pick_in_time}
 use Rattle.leg_walk.specs.Tables.{row_by, with_row, rows_for, table_of}
 use Rattle.leg_walk.specs.Placed.{Has}
 use Rattle.leg_walk.proofs.Lists.{Later}
-use Rattle.leg_walk.proofs.Places.{other_place, same_place}
 
 some_same : (a b : Leg) → ◌≡◌ {A = Option Leg} (Some a) (Some b) → a ≡ b
 some_same a b is = cc
@@ -52,20 +51,14 @@ picked_has (row ∷ rows) x leg is = elim (cases_lt row.by.0 x) [
       (row, inl refl, same_next (pick_row (row ∷ rows) x) row.leg leg e is)
 ]
 
-le_is : (x y : ℕ) → x ≤ y → nat_le x y ≡ true
-le_is x y le = grind (arith, nat_tests)
-
-le_is_not : (x y : ℕ) → y < x → nat_le x y ≡ false
-le_is_not x y less = grind (arith, nat_tests)
-
 pub in_time_here : (n : Parts) (place : ℕ) (row : GraphRow) (rows : List GraphRow) (x limit : ℕ) → limit_of n place row.leg ≡ Some limit → x ≤ limit → pick_in_time n place (row ∷ rows) x ≡ Some row.leg
 in_time_here n place row rows x limit is early =
-    let test : is_within (limit_of n place row.leg) x ≡ true = ap (λ (l : Option ℕ). is_within l x) is ∙ le_is x limit early in
+    let test : is_within (limit_of n place row.leg) x ≡ true = ap (λ (l : Option ℕ). is_within l x) is ∙ le-leb x limit early in
     ap (λ (b : Bool). if b then Some row.leg else pick_in_time n place rows x) test
 
 pub in_time_next : (n : Parts) (place : ℕ) (row : GraphRow) (rows : List GraphRow) (x limit : ℕ) → limit_of n place row.leg ≡ Some limit → limit < x → pick_in_time n place (row ∷ rows) x ≡ pick_in_time n place rows x
 in_time_next n place row rows x limit is late =
-    let test : is_within (limit_of n place row.leg) x ≡ false = ap (λ (l : Option ℕ). is_within l x) is ∙ le_is_not x limit late in
+    let test : is_within (limit_of n place row.leg) x ≡ false = ap (λ (l : Option ℕ). is_within l x) is ∙ lt-leb x limit late in
     ap (λ (b : Bool). if b then Some row.leg else pick_in_time n place rows x) test
 
 -- what is chosen at an arrival can be reached, and is chosen at each later arrival of the outcomes up to its limit
@@ -189,10 +182,10 @@ module _ (choice : ℕ → Option Leg) (scheduled : ℕ) where
 
 module _ (n : Parts) (target : ℕ) (choice : Leg → ℕ → Option Leg) (leg : Leg) where
   pub table_away : end_of n leg ≢ target → table_of n target choice leg ≡ rows_for (choice leg) (arr_of n leg.exit.0) (outcomes_of n leg)
-  table_away away = rw (other_place (end_of n leg) target away)
+  table_away away = rw (ne_eqb (end_of n leg) target away)
 
   pub table_there : end_of n leg ≡ target → table_of n target choice leg ≡ []
-  table_there is = rw (same_place (end_of n leg) target is)
+  table_there is = rw (eq-eqb (end_of n leg) target is)
 
   -- a row of a table, by its outcome
   pub record IsTableRow (row : GraphRow) : Type 0 where

@@ -1,6 +1,6 @@
 -- Each leg that stands in the tree that rides fix has a ride.
 use Rattle.std.proofs.Common.{◌≡◌, ℕ, zero, suc, ◌+◌, ◌-◌, List, [], ◌∷◌, Option, Some, None, Contains, ap, subst, sym, refl, inl, inr, ◌∙◌}
-use Rattle.std.proofs.lemmas.Bool.{cases_eq}
+use Rattle.std.proofs.lemmas.Bool.{cases_eq, ne_eqb, eq-eqb}
 use Rattle.plan_model.specs.declared.model.Leg.{Leg}
 use Rattle.plan_model.specs.declared.model.Outcome.{Outcome}
 use Rattle.plan_model.specs.Parts.{Parts}
@@ -13,7 +13,6 @@ use Rattle.plan_graph.specs.Rows.{pick_row, pick_after}
 use Rattle.plan_graph.specs.Ready.{Stands, StandsIn}
 use Rattle.leg_walk.specs.Walked.{HasRideOf}
 use Rattle.leg_walk.proofs.Lists.{contains_from_has}
-use Rattle.leg_walk.proofs.Places.{other_place, same_place}
 use Rattle.leg_walk.proofs.Rides.{ride_there}
 use Rattle.leg_walk.proofs.Tables.{picked_has}
 
@@ -56,19 +55,19 @@ module _ (n : Parts) (target : ℕ) (rides : List Ride)
   ride_after : (leg : Leg) (more : ℕ) (own : Leg) (x : ℕ) → Stands leg (unfold_after n target (pick_after rides) more own x) → HasRideOf rides leg
   ride_after leg zero own x there = elim (cases_eq (end_of n own) target) [
     | inl is ↦
-        let e : unfold_after n target (pick_after rides) 0 own x ≡ Done x = rw (same_place (end_of n own) target is) refl in
+        let e : unfold_after n target (pick_after rides) 0 own x ≡ Done x = rw (eq-eqb (end_of n own) target is) refl in
         absurd (subst (λ (tree : Tree). Stands leg tree) e there)
     | inr away ↦
-        let e : unfold_after n target (pick_after rides) 0 own x ≡ Stuck (end_of n own) x = rw (other_place (end_of n own) target away) refl in
+        let e : unfold_after n target (pick_after rides) 0 own x ≡ Stuck (end_of n own) x = rw (ne_eqb (end_of n own) target away) refl in
         absurd (subst (λ (tree : Tree). Stands leg tree) e there)
   ]
   ride_after leg (suc more) own x there = elim (cases_eq (end_of n own) target) [
     | inl is ↦
-        let e : unfold_after n target (pick_after rides) (suc more) own x ≡ Done x = rw (same_place (end_of n own) target is) refl in
+        let e : unfold_after n target (pick_after rides) (suc more) own x ≡ Done x = rw (eq-eqb (end_of n own) target is) refl in
         absurd (subst (λ (tree : Tree). Stands leg tree) e there)
     | inr away ↦
         let next = unfold_after n target (pick_after rides) more in
-        let e : unfold_after n target (pick_after rides) (suc more) own x ≡ ride_or_stuck n next (pick_after rides own x) (end_of n own) x = rw (other_place (end_of n own) target away) refl in
+        let e : unfold_after n target (pick_after rides) (suc more) own x ≡ ride_or_stuck n next (pick_after rides own x) (end_of n own) x = rw (ne_eqb (end_of n own) target away) refl in
         ride_of_first leg next (end_of n own) x (pick_after rides own x) (picked_ride own x) (ride_after leg more) (subst (λ (tree : Tree). Stands leg tree) e there)
   ]
 
@@ -77,10 +76,10 @@ module _ (n : Parts) (target : ℕ) (rides : List Ride)
       → Stands leg (unfold_from n target (pick_after rides) first p x) → HasRideOf rides leg
   ride_from leg first p x begins there = elim (cases_eq p target) [
     | inl is ↦
-        let e : unfold_from n target (pick_after rides) first p x ≡ Done x = rw (same_place p target is) refl in
+        let e : unfold_from n target (pick_after rides) first p x ≡ Done x = rw (eq-eqb p target is) refl in
         absurd (subst (λ (tree : Tree). Stands leg tree) e there)
     | inr away ↦
         let next = unfold_after n target (pick_after rides) (count n - 1) in
-        let e : unfold_from n target (pick_after rides) first p x ≡ ride_or_stuck n next first p x = rw (other_place p target away) refl in
+        let e : unfold_from n target (pick_after rides) first p x ≡ ride_or_stuck n next first p x = rw (ne_eqb p target away) refl in
         ride_of_first leg next p x first begins (ride_after leg (count n - 1)) (subst (λ (tree : Tree). Stands leg tree) e there)
   ]

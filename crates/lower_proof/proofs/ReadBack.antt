@@ -1,12 +1,12 @@
 -- What was printed of a certificate is read back.
 use Rattle.std.proofs.Common.{◌≡◌, ◌≢◌, ℕ, zero, suc, ◌+◌, ◌<◌, ◌≤◌, ◌^◌, Bool, true, List, [], ◌∷◌, length, Option, Some, None, Ok, Err, Result, arith, inl, inr, sym, ◌∙◌, ap, subst, refl}
-use Rattle.std.specs.Prelude.{◌==◌, cond, nat_lt, is_some, codes, decimal, if◌then◌else◌, slice_index_or}
+use Rattle.std.specs.Prelude.{cond, is_some, codes, decimal, if◌then◌else◌, slice_index_or}
 use Rattle.std.specs.List.{count_by}
 use Rattle.std.specs.Option.{option_map}
 use Rattle.std.proofs.Math.Nat.{max-le}
-use Rattle.std.proofs.lemmas.Bool.Decides.{nat_tests}
 use Rattle.std.proofs.lemmas.List.Sums.{sum_by-cons}
 use Rattle.std.proofs.lemmas.List.{ext_get_or}
+use Rattle.std.proofs.lemmas.Bool.{eq-eqb, lt-ltb, le-leb}
 use Rattle.csv.proofs.RoundTrip.{rows_text as text_of_rows}
 use Rattle.csv.specs.Reading.{strip_bom}
 use Rattle.clock_text.specs.Civil.{moment_text, nanos_text}
@@ -25,7 +25,7 @@ use Rattle.printed_rows.specs.Fields.{number_of, whole_at, connection_of, rises}
 use Rattle.printed_rows.specs.Writers.{place_name, run_name}
 use Rattle.printed_rows.proofs.Found.{connection_number}
 use Rattle.printed_rows.proofs.Lines.{records_printed}
-use Rattle.printed_rows.proofs.Plain.{moment_kept, nanos_kept, decimal_kept, whole_back, name_back, name_kept, le_holds}
+use Rattle.printed_rows.proofs.Plain.{moment_kept, nanos_kept, decimal_kept, whole_back, name_back, name_kept}
 use Rattle.printed_rows.proofs.Printed.{IsKept, AreKept, seven_kept, four_kept, table_back}
 use Rattle.lower_proof.specs.declared.LowerBounds.{LowerBounds}
 use Rattle.lower_proof.specs.declared.reader.BoundsRow.{BoundsRow}
@@ -35,12 +35,6 @@ use Rattle.lower_proof.specs.declared.reader.ProofFault.TheVariants.{Row, NotRis
 use Rattle.lower_proof.specs.Certificates.{value_of}
 use Rattle.lower_proof.specs.Texts.{bounds_record, value_record, value_records, proof_text}
 use Rattle.lower_proof.specs.Reading.{bounds_numbers, bounds_row_in, bounds_by, bounds_in, value_numbers, value_row_in, connection_by, connection_in, value_in, told_after, told_by, told_in, value_row, connection_before, fault_of, value_fault, IsFaultAfter, AreTold, IsTold, IsReadAs, IsReadBack}
-
-lt_holds : (a b : ℕ) → a < b → nat_lt a b ≡ true
-lt_holds a b less = grind (arith, nat_tests)
-
-eq_holds : (a b : ℕ) → a ≡ b → (a == b) ≡ true
-eq_holds a b same = grind (arith, nat_tests)
 
 abbrev query_of : PlaceId → PlaceId → Moment → Moment → Query
 query_of source target start deadline = record { source = source; target = target; start = start; deadline = deadline }
@@ -211,13 +205,13 @@ module _ (n : Parts) (names : NameLists) (valid : IsValid n) (fit : NamesFit nam
     row_rises zero within = refl
     row_rises (suc i) within =
         ap (λ (last : Option ℕ). rises last (offset_at values (suc i))) (row_connection i (omega (arith, within)))
-        ∙ lt_holds (offset_at values i) (offset_at values (suc i)) (offsets_rise n names 0 values i within)
+        ∙ lt-ltb (offset_at values i) (offset_at values (suc i)) (offsets_rise n names 0 values i within)
 
     row_faultless : (stated i : ℕ) → i < stated → i < length rows → value_fault n names table stated i ≡ None
     row_faultless stated i inside within =
         let r = row_told i within in
         let c = offset_at values i in
-        ap (λ (b : Bool). if b then fault_of (told_in n names (i + 2) (connection_before n names table i) (value_row table i)) else Some (Row (i + 2))) (lt_holds i stated inside)
+        ap (λ (b : Bool). if b then fault_of (told_in n names (i + 2) (connection_before n names table i) (value_row table i)) else Some (Row (i + 2))) (lt-ltb i stated inside)
         ∙ ap (λ (fields : List (List ℕ)). fault_of (told_in n names (i + 2) (connection_before n names table i) fields)) r.1.row
         ∙ ap fault_of (told_back c r.0 (i + 2) (connection_before n names table i) r.1.there (small c r.0 r.1.value) (row_rises i within))
 
@@ -290,7 +284,7 @@ module _ (n : Parts) (names : NameLists) (valid : IsValid n) (fit : NamesFit nam
         (text_tells q.start.0 start) (text_tells q.deadline.0 deadline) (whole_back (count_by is_some values) few)
       where
         three : (a b d : Option ℕ) → a ≡ Some q.start.0 → b ≡ Some q.deadline.0 → d ≡ Some (count_by is_some values) → bounds_numbers a b d ≡ Some bounds
-        three a b d one two more = rw (one, two, more, le_holds q.start.0 q.deadline.0 in_time) refl
+        three a b d one two more = rw (one, two, more, le-leb q.start.0 q.deadline.0 in_time) refl
 
     bounds_back : bounds_in names q.source.0 q.target.0 q.start.0 (bounds_record names q values) ≡ Ok bounds
     bounds_back =
@@ -301,7 +295,7 @@ module _ (n : Parts) (names : NameLists) (valid : IsValid n) (fit : NamesFit nam
         ∙ asked
       where
         asked : bounds_by q.source.0 q.target.0 q.start.0 (Some bounds) (Some q.source.0) (Some q.target.0) ≡ Ok bounds
-        asked = rw (eq_holds q.source.0 q.source.0 refl, eq_holds q.target.0 q.target.0 refl, eq_holds q.start.0 q.start.0 refl) refl
+        asked = rw (eq-eqb q.source.0 q.source.0 refl, eq-eqb q.target.0 q.target.0 refl, eq-eqb q.start.0 q.start.0 refl) refl
 
     no_mark : (rest : List (List ℕ)) (others : List (List (List ℕ))) → strip_bom (text_of_rows ((codes "bounds" ∷ rest) ∷ others)) ≡ text_of_rows ((codes "bounds" ∷ rest) ∷ others)
     unfolding strip_bom text_of_rows

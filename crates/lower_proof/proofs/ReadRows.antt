@@ -1,10 +1,9 @@
 -- What is read of the value rows so far.
 use Rattle.std.proofs.Common.{◌≡◌, ◌≢◌, ℕ, suc, ◌+◌, ◌<◌, ◌≤◌, ◌⊎◌, Bool, true, false, List, [], length, set, Option, Some, None, Ok, Err, Result, arith, inl, inr, sym, ◌∙◌, ap, subst, refl, get_or-set_other, get_or-set_same}
-use Rattle.std.specs.Prelude.{nat_lt, max, if◌then◌else◌}
+use Rattle.std.specs.Prelude.{max, if◌then◌else◌}
 use Rattle.std.specs.Option.{option_map}
 use Rattle.std.proofs.Math.Nat.{le-max_left}
-use Rattle.std.proofs.lemmas.Bool.{cases_lt}
-use Rattle.std.proofs.lemmas.Bool.Decides.{nat_tests}
+use Rattle.std.proofs.lemmas.Bool.{cases_lt, lt-ltb, ltb-true, le-ltb}
 use Rattle.std.proofs.lemmas.List.{length-set, get_or_past}
 use Rattle.csv_rows.specs.Tables.{row_count}
 use Rattle.plan_model.specs.Parts.{Parts}
@@ -17,15 +16,6 @@ use Rattle.lower_proof.specs.declared.reader.ProofFault.{ProofFault}
 use Rattle.lower_proof.specs.declared.reader.ProofFault.TheVariants.{Row, NotRising}
 use Rattle.lower_proof.specs.Certificates.{value_of}
 use Rattle.lower_proof.specs.Reading.{value_row_in, connection_by, connection_in, value_in, told_after, told_by, told_in, value_row, connection_before, fault_of, value_fault, IsFirstFault, AreTold}
-
-lt_holds : (a b : ℕ) → a < b → nat_lt a b ≡ true
-lt_holds a b less = grind (arith, nat_tests)
-
-lt_fails : (a b : ℕ) → b ≤ a → nat_lt a b ≡ false
-lt_fails a b le = grind (arith, nat_tests)
-
-lt_means : (a b : ℕ) → nat_lt a b ≡ true → a < b
-lt_means a b less = grind (arith, nat_tests)
 
 -- ---- a row that tells
 
@@ -57,7 +47,7 @@ tells n line before (Some x) (Some run) told is =
 
 above : (last : Option ℕ) (l c : ℕ) → last ≡ Some l → rises last c ≡ true → l < c
 above None l c is rise = absurd (cc)
-above (Some k) l c is rise = let same : k ≡ l = cc in subst (λ (m : ℕ). m < c) same (lt_means k c rise)
+above (Some k) l c is rise = let same : k ≡ l = cc in subst (λ (m : ℕ). m < c) same (ltb-true k c rise)
 
 -- ---- the rows below i
 
@@ -88,7 +78,7 @@ read_first n names t stated values as_many none = record {
 fault_is : (n : Parts) (names : NameLists) (t : List (List (List ℕ))) (stated i : ℕ) (last : Option ℕ) (told : Result Told ProofFault) → i < stated → last ≡ connection_before n names t i
     → told ≡ told_in n names (i + 2) last (value_row t i) → value_fault n names t stated i ≡ fault_of told
 fault_is n names t stated i last told inside before is =
-    ap (λ (b : Bool). if b then fault_of (told_in n names (i + 2) (connection_before n names t i) (value_row t i)) else Some (Row (i + 2))) (lt_holds i stated inside)
+    ap (λ (b : Bool). if b then fault_of (told_in n names (i + 2) (connection_before n names t i) (value_row t i)) else Some (Row (i + 2))) (lt-ltb i stated inside)
     ∙ ap (λ (x : Option ℕ). fault_of (told_in n names (i + 2) x (value_row t i))) (sym before)
     ∙ ap fault_of (sym is)
 
@@ -158,7 +148,7 @@ module _ (n : Parts) (names : NameLists) (t : List (List (List ℕ))) (stated i 
     within = within;
     here = elim (cases_lt i stated) [
       | inr too_many ↦
-          ap (λ (b : Bool). if b then fault_of (told_in n names (i + 2) (connection_before n names t i) (value_row t i)) else Some (Row (i + 2))) (lt_fails i stated too_many)
+          ap (λ (b : Bool). if b then fault_of (told_in n names (i + 2) (connection_before n names t i) (value_row t i)) else Some (Row (i + 2))) (le-ltb i stated too_many)
       | inl stated_more ↦ missing stated_more (elim ends [ inl past ↦ past | inr more ↦ absurd (omega (arith, more, stated_more)) ])
     ];
     first = so_far.faultless;
@@ -166,7 +156,7 @@ module _ (n : Parts) (names : NameLists) (t : List (List (List ℕ))) (stated i 
     where
       missing : i < stated → row_count t ≤ i → value_fault n names t stated i ≡ Some (Row (i + 2))
       missing inside past =
-          ap (λ (b : Bool). if b then fault_of (told_in n names (i + 2) (connection_before n names t i) (value_row t i)) else Some (Row (i + 2))) (lt_holds i stated inside)
+          ap (λ (b : Bool). if b then fault_of (told_in n names (i + 2) (connection_before n names t i) (value_row t i)) else Some (Row (i + 2))) (lt-ltb i stated inside)
           ∙ ap (λ (r : List (List ℕ)). fault_of (told_in n names (i + 2) (connection_before n names t i) r)) (get_or_past t (i + 1) [] (omega (arith, past)))
 
   -- all rows

@@ -1,6 +1,6 @@
 -- Searches by halving find what comes first in a list that rises.
-use Rattle.std.proofs.Common.{◌≡◌, ℕ, zero, suc, ◌<◌, ◌≤◌, Bool, true, false, not, List, [], ◌∷◌, length, None, AllPairs, arith, sym, subst, refl, inl, inr, ◌∙◌, ap}
-use Rattle.std.specs.Prelude.{nat_lt, ◌==◌, ◌&&◌, slice_index_or}
+use Rattle.std.proofs.Common.{◌≡◌, ℕ, zero, suc, ◌<◌, Bool, true, false, not, List, [], ◌∷◌, length, None, AllPairs, arith, sym, subst, refl, inl, inr, ◌∙◌, ap}
+use Rattle.std.specs.Prelude.{◌==◌, ◌&&◌, slice_index_or}
 use Rattle.std.specs.List.{AllWithin}
 use Rattle.std.specs.List.Sorted.{IsPartitionedBy, IsPartitionPoint}
 use Rattle.std.proofs.lemmas.Bool.{cases_lt, false≢true}
@@ -9,15 +9,6 @@ use Rattle.plan_model.specs.declared.model.Leg.{Leg}
 use Rattle.plan_graph.specs.declared.GraphRow.{GraphRow}
 use Rattle.plan_graph.specs.declared.Ride.{Ride}
 use Rattle.plan_graph.specs.Rows.{pick_row, rows_after, Precedes, leg_lt}
-
-lt_true : (x y : ℕ) → nat_lt x y ≡ true → x < y
-lt_true x y is = grind (arith, nat_tests)
-
-lt_false : (x y : ℕ) → nat_lt x y ≡ false → y ≤ x
-lt_false x y is = grind (arith, nat_tests)
-
-lt_is : (x y : ℕ) → x < y → nat_lt x y ≡ true
-lt_is x y less = grind (arith, nat_tests)
 
 -- rides that rise are parted by a leg
 leg_before : (a b : Leg) → Precedes a b → leg_lt a b ≡ true

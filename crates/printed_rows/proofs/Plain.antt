@@ -1,11 +1,11 @@
 -- Printed fields: no space stands at their ends, and they tell their numbers.
 use Rattle.std.proofs.Common.{◌≡◌, ℕ, ◌+◌, ◌-◌, ◌*◌, ◌/◌, ◌%◌, ◌<◌, ◌≤◌, ◌^◌, Bool, true, List, [], ◌∷◌, length, Some, All, arith, sym, refl, ap, ◌∙◌}
-use Rattle.std.specs.Prelude.{nat_le, nat_lt, decimal, slice_index_or}
+use Rattle.std.specs.Prelude.{nat_lt, decimal, slice_index_or}
 use Rattle.std.specs.List.{list_all}
 use Rattle.std.specs.Char.{is_ascii_digit}
 use Rattle.std.specs.Str.{bytes_eq, IsUtf8}
 use Rattle.std.specs.Cmp.Lexicographic.{bytes_decides}
-use Rattle.std.proofs.lemmas.Bool.{false≢true}
+use Rattle.std.proofs.lemmas.Bool.{false≢true, and_parts, le-leb}
 use Rattle.std.proofs.lemmas.Bool.Decides.{nat_tests}
 use Rattle.std.proofs.lemmas.Fmt.{decimal_by_steps, decimal_nonempty, length-decimal-le}
 use Rattle.std.proofs.lemmas.List.Folds.{list_all-append}
@@ -13,7 +13,6 @@ use Rattle.std.proofs.lemmas.List.Sums.{fold-append}
 use Rattle.clock_text.specs.Civil.{moment_text, nanos_text, parts_of_day}
 use Rattle.clock_text.specs.Digits.{digits, value_of}
 use Rattle.clock_text.specs.Times.{Parts, text_of}
-use Rattle.clock_text.proofs.DigitLemmas.{and_parts}
 use Rattle.plan_model.specs.NameLists.{AreDistinct, IsTrimmed}
 use Rattle.csv_rows.specs.Spaces.{trimmed}
 use Rattle.csv_rows.proofs.SpaceLemmas.{trimmed-IsTrimmed}
@@ -82,12 +81,9 @@ decimal_is n below = decimal_by_steps IsDecimal
 pub decimal_kept : (n : ℕ) → n < 2 ^ 64 → trimmed (decimal n) ≡ decimal n
 decimal_kept n below = plain_kept (decimal n) (digits_plain (decimal n) (decimal_is n below).digits)
 
-pub le_holds : (a b : ℕ) → a ≤ b → nat_le a b ≡ true
-le_holds a b le = grind (arith, nat_tests)
-
 whole_by : (text : List ℕ) (n : ℕ) → 1 ≤ length text → length text ≤ 9 → IsDecimal n text → n ≤ 999999999 → whole_at text ≡ Some n
 whole_by text n some few by below =
-    rw (le_holds 1 (length text) some, le_holds (length text) 9 few, by.digits, by.value, le_holds n 999999999 below) refl
+    rw (le-leb 1 (length text) some, le-leb (length text) 9 few, by.digits, by.value, le-leb n 999999999 below) refl
 
 pub whole_back : (n : ℕ) → n ≤ 999999999 → whole_at (decimal n) ≡ Some n
 whole_back n below =

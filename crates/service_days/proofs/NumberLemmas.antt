@@ -1,14 +1,13 @@
 -- Exceptions by the numbers of their services, one more at a time.
-use Rattle.std.proofs.Common.{◌≡◌, ℕ, ℤ, ◌+◌, ◌<◌, ◌≤◌, ◌==◌, ◌&&◌, ◌||◌, Bool, true, false, List, [], ◌∷◌, length, slice_index_or, Option, Some, None, if◌then◌else◌, refl, sym, ap, ◌∙◌, subst, arith, ⊎_elim, bytes_eq, add-one, length-append}
+use Rattle.std.proofs.Common.{◌≡◌, ℕ, ℤ, ◌+◌, ◌<◌, ◌≤◌, ◌&&◌, ◌||◌, Bool, true, false, List, [], ◌∷◌, length, slice_index_or, Option, Some, None, if◌then◌else◌, refl, sym, ap, ◌∙◌, subst, arith, ⊎_elim, bytes_eq, add-one, length-append}
 use Rattle.std.specs.Ordering.{int_eq}
 use mathlib.Core.Bool.{beq}
-use Rattle.std.proofs.lemmas.Bool.Decides.{nat_tests}
 use Rattle.plan_model.specs.NameLists.{Adds}
 use Rattle.csv_rows.specs.First.{any_below, or_else}
 use Rattle.csv_rows.specs.Tables.{place_in}
 use Rattle.std.proofs.lemmas.List.{get_or_default, get_or_push}
 use Rattle.std.proofs.lemmas.Slice.Eq.{bytes_eq-Decides}
-use Rattle.csv_rows.proofs.FirstLemmas.{true_or_false}
+use Rattle.std.proofs.lemmas.Bool.{cases_Bool, or_from, ne_eqb}
 use Rattle.csv_rows.proofs.IdLemmas.{place-push, place-same, place-here, place-none}
 use Rattle.service_days.specs.declared.exceptions.Exception.{Exception}
 use Rattle.service_days.specs.Dates.{is_for, is_excepted, date_of}
@@ -39,19 +38,12 @@ or_swap true false = refl
 or_swap false true = refl
 or_swap false false = refl
 
-or_false : (a b : Bool) → a ≡ false → b ≡ false → (a || b) ≡ false
-or_false true b h k = absurd (cc)
-or_false false b h k = k
-
-num_ne : (a b : ℕ) → (a ≡ b → ⊥) → (a == b) ≡ false
-num_ne a b h = grind (arith, nat_tests)
-
 bytes_self : (x y : List ℕ) (ids : List (List ℕ)) (m : ℕ) → place_in x ids ≡ Some m → place_in y ids ≡ None → bytes_eq x y ≡ false
 bytes_self x y ids m h g =
     ⊎_elim (λ (t : bytes_eq x y ≡ true).
     let e : x ≡ y = (bytes_eq-Decides x y).0 t in
     let s : Some m ≡ None = sym h ∙ ap (λ z. place_in z ids) e ∙ g in absurd (cc))
-    (λ (f : bytes_eq x y ≡ false). f) (true_or_false (bytes_eq x y))
+    (λ (f : bytes_eq x y ≡ false). f) (cases_Bool (bytes_eq x y))
 
 -- the exceptions of a service after one more
 excepts : (ids : List (List ℕ)) (before after : List Exception) (x : List ℕ) (m : ℕ) (d : ℤ) (a : Bool) → place_in x ids ≡ Some m
@@ -80,8 +72,8 @@ numbered_next t i first old ids before after n room a =
           ∙ or_swap (is_for d name day adds) (is_excepted t i name day adds));
       fresh = λ e l.
           a.exceptions e
-          ∙ or_false (same (record { service = a.number; day = d.day; adds = d.adds }) e) (has before e)
-          (ap (λ b. b && (int_eq d.day e.day && beq d.adds e.adds)) (num_ne a.number e.service (λ s. let w = place-here d.service ids a.number a.place in absurd (omega (arith, w.0, s, l)))))
+          ∙ or_from (same (record { service = a.number; day = d.day; adds = d.adds }) e) (has before e)
+          (ap (λ b. b && (int_eq d.day e.day && beq d.adds e.adds)) (ne_eqb a.number e.service (λ s. let w = place-here d.service ids a.number a.place in absurd (omega (arith, w.0, s, l)))))
           (n.fresh e (omega (arith, size.0, l)));
       kept = λ name asks h g.
           asks-adds old ids d.service a.new asks name a.added h (g (length old) room) ∙ n.kept name asks h g;

@@ -126,15 +126,3 @@ module _ (files : Option Folder) (folder : List ℕ) (limits : Limits) (missing 
           subst P (sym found) (λ service day.
           ap (λ (x : ServiceParts). runs x service day) (same ∙ ap (λ p. record { ids = ids'; periods = p; exceptions = exceptions }) w.3.2)
           ∙ runs_is (loaded_rows w.0) (loaded_rows w.1) ids' exceptions w.3.3 (subst Q w.3.1 w.4.1) service day)
-
-pub both_true : (a b : Bool) → a ≡ true → b ≡ true → (a && b) ≡ true
-both_true true b h k = k
-both_true false b h k = absurd (cc)
-
-pub first_false : (a b : Bool) → a ≡ false → (a && b) ≡ false
-first_false true b h = absurd (cc)
-first_false false b h = refl
-
-pub second_false : (a b : Bool) → b ≡ false → (a && b) ≡ false
-second_false true b h = h
-second_false false b h = refl

@@ -1,7 +1,7 @@
 -- The walk down the tree of a graph.
 use Rattle.std.proofs.Common.{◌≡◌, ◌≢◌, ℕ, zero, suc, ◌+◌, ◌-◌, ◌≤◌, ◌<◌, ◌⊎◌, Bool, true, false, List, [], ◌∷◌, ◌++◌, length, drop, Option, Some, None, Ok, Err, Result, All, arith, sym, subst, refl, inl, inr, ◌∙◌, ap}
 use Rattle.std.specs.Prelude.{◌==◌, if◌then◌else◌, slice_index_or, IfSome, OnOk, is_ok}
-use Rattle.std.proofs.lemmas.Bool.{cases_eq, cases_lt}
+use Rattle.std.proofs.lemmas.Bool.{cases_eq, cases_lt, eq-eqb, ne_eqb}
 use Rattle.std.proofs.lemmas.Bool.Decides.{nat_tests}
 use Rattle.plan_model.specs.declared.model.Leg.{Leg}
 use Rattle.plan_model.specs.declared.model.Outcome.{Outcome}
@@ -24,26 +24,20 @@ use Rattle.trip_replay.specs.declared.ReplayFault.TheVariants as fault
 use Rattle.trip_replay.specs.Walk.{ridden, trace_of, walk, walk_kid, IsAnswer, IsSafeAnswer}
 use Rattle.trip_replay.specs.Stops.{has_delay, delayed, tree_at}
 
-same_delay : (a b : ℕ) → a ≡ b → (a == b) ≡ true
-same_delay a b is = grind (arith, nat_tests)
-
-other_delay : (a b : ℕ) → (a ≡ b → ⊥) → (a == b) ≡ false
-other_delay a b differ = grind (arith, nat_tests)
-
 -- the walk after a ride, by whether the delay is one of its outcomes
 pub kid_walk : (n : Parts) (f : ℕ → Tree) (scheduled : ℕ) (row : List Outcome) (i j delay : ℕ) (delays : List ℕ) (behind : List Ridden)
     → walk_kid n (kids_after f scheduled row) row i j delay delays behind ≡ (if has_delay row delay then walk n (f (scheduled + delay)) delays (behind ++ ridden n i j delay ∷ []) else Err (fault.NotADelay (length behind + 1)))
 kid_walk n f scheduled [] i j delay delays behind = refl
 kid_walk n f scheduled (o ∷ row) i j delay delays behind = elim (cases_eq o.delay delay) [
-  | inl is ↦ rw (same_delay o.delay delay is) (ap (λ (d : ℕ). walk n (f (scheduled + d)) delays (behind ++ ridden n i j delay ∷ [])) is)
-  | inr differ ↦ rw (other_delay o.delay delay differ) (kid_walk n f scheduled row i j delay delays behind)
+  | inl is ↦ rw (eq-eqb o.delay delay is) (ap (λ (d : ℕ). walk n (f (scheduled + d)) delays (behind ++ ridden n i j delay ∷ [])) is)
+  | inr differ ↦ rw (ne_eqb o.delay delay differ) (kid_walk n f scheduled row i j delay delays behind)
 ]
 
 from_test : (a b : ℕ) (test : Bool) → test ≡ (a == b) → test ≡ true → a ≡ b
 from_test a b test is holds = grind (arith, nat_tests)
 
 from_other : (a b : ℕ) (test : Bool) → test ≡ (a == b) → test ≡ false → a ≢ b
-from_other a b test is fails same = let e = same_delay a b same in absurd (true_is_not_false (sym e ∙ sym is ∙ fails))
+from_other a b test is fails same = let e = eq-eqb a b same in absurd (true_is_not_false (sym e ∙ sym is ∙ fails))
   where
     true_is_not_false : true ≡ false → ⊥
     true_is_not_false e = cc e
@@ -70,10 +64,10 @@ drop_all (head ∷ delays) (suc i) over = drop_all delays i (omega (arith, over)
 
 module _ (n : Parts) (target : ℕ) (choice : Leg → ℕ → Option Leg) (s : Stop) (behind : List Ridden) (delays : List ℕ) (i : ℕ) where
   at_target : s.place.0 ≡ target → tree_at n target choice s ≡ Done s.moment.0
-  at_target is = rw (same_delay s.place.0 target is) refl
+  at_target is = rw (eq-eqb s.place.0 target is) refl
 
   on_the_way : (next : Option Leg) → s.place.0 ≢ target → s.next ≡ next → tree_at n target choice s ≡ ride_or_stuck n (unfold_after n target choice s.left) next s.place.0 s.moment.0
-  on_the_way next away is = rw (other_delay s.place.0 target away) (ap (λ (o : Option Leg). ride_or_stuck n (unfold_after n target choice s.left) o s.place.0 s.moment.0) is)
+  on_the_way next away is = rw (ne_eqb s.place.0 target away) (ap (λ (o : Option Leg). ride_or_stuck n (unfold_after n target choice s.left) o s.place.0 s.moment.0) is)
 
   pub too_many : s.place.0 ≡ target → i < length delays → walk n (tree_at n target choice s) (drop i delays) behind ≡ Err (fault.TooMany (length behind))
   too_many is within =
