@@ -133,26 +133,14 @@ fn read_of_trips(
     let mut numbers: Vec<u32> = Vec::new(alloc);
     let types_of_routes: &[u16] = &routes.types;
     for i in 0..rows.count() {
-        let trip = match read_trip(rows, columns, &routes.ids, i) {
-            Ok(trip) => trip,
-            Err(fault) => return Err(fault),
-        };
+        let trip = read_trip(rows, columns, &routes.ids, i)?;
         let service = match String::from_str(alloc, trip.service) {
             Ok(service) => service,
             Err(_) => return Err(FeedFault::NoMemory),
         };
-        match services.push(service) {
-            Ok(()) => {}
-            Err(_) => return Err(FeedFault::NoMemory),
-        }
-        match types.push(types_of_routes[trip.route as usize]) {
-            Ok(()) => {}
-            Err(_) => return Err(FeedFault::NoMemory),
-        }
-        match numbers.push(trip.route) {
-            Ok(()) => {}
-            Err(_) => return Err(FeedFault::NoMemory),
-        }
+        services.push(service)?;
+        types.push(types_of_routes[trip.route as usize])?;
+        numbers.push(trip.route)?;
     }
     Ok(OfTrips {
         services,
@@ -195,12 +183,7 @@ pub(crate) fn read_trips(alloc: Global, rows: &Rows, routes: &Routes) -> Result<
     if let Some(fault) = missing_column(columns) {
         return Err(fault);
     }
-    let of_trips = match read_of_trips(alloc, rows, columns, routes) {
-        Ok(of_trips) => of_trips,
-        Err(fault) => return Err(fault),
-    };
-    match read_ids(alloc, rows, Table::Trips, columns.id) {
-        Ok(ids) => Ok(Trips { ids, of_trips }),
-        Err(fault) => Err(fault),
-    }
+    let of_trips = read_of_trips(alloc, rows, columns, routes)?;
+    let ids = read_ids(alloc, rows, Table::Trips, columns.id)?;
+    Ok(Trips { ids, of_trips })
 }

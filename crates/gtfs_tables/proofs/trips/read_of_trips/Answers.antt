@@ -1,6 +1,6 @@
 use Rattle.std.proofs.Common.{ℕ, ◌<◌, None, sym, subst, ap, ◌∙◌, arith, length, slice_index_or, string_bytes, List, All}
 use Rattle.std.proofs.lemmas.List.Elements.{All-push, All-nil}
-use Rattle.csv_rows.specs.Tables.{row_count}
+use Rattle.csv_rows.proofs.FaultLemmas.{if_raised}
 use Rattle.csv_rows.proofs.FirstLemmas.{first-zero, first-next, first-at}
 use Rattle.plan_model.specs.NameLists.{texts}
 use Rattle.plan_model.proofs.Texts.{texts-push}
@@ -22,30 +22,27 @@ loop-i-init c =
       none = first-zero (bad_trip ids t);
     }
 
-pub returns-in-Err-clause-fault : goal.returns-in-Err-clause-fault
-returns-in-Err-clause-fault c = λ free.
-    let t = c.args.rows.now in
-    let ids = c.args.routes.now.ids in
-    first-at (bad_trip ids t) c.loop-i.i (row_count t) c.in-Err.fault (omega arith) c.loop-i.invariant.none
-    (ap fault_in (trip_is ids t c.args.columns c.loop-i.i _ c.requires.columns c.in-Err.ensures.fault))
+pub returns-in_err-trip-clause-fault : goal.returns-in_err-trip-clause-fault
+returns-in_err-trip-clause-fault c = if_raised _ c.from_residual.result c.from_residual.ensures (λ free.
+    first-at _ c.loop-i.i _ _ (omega arith) c.loop-i.invariant.none (ap fault_in (trip_is _ _ c.args.columns _ _ c.requires.columns c.in_err-trip.ensures.fault)))
 
 pub loop-i-preserved : goal.loop-i-preserved
 loop-i-preserved c =
     let t = c.args.rows.now in
     let ids = c.args.routes.now.ids in
     let types = c.args.routes.now.types.items in
-    let here = trip_is ids t c.args.columns c.loop-i.i _ c.requires.columns c.in-Ok.ensures.trip in
+    let here = trip_is ids t c.args.columns c.loop-i.i _ c.requires.columns c.in_ok-trip.ensures.trip in
     record {
       services = list_below-next (λ i. (trip_or_none (trip_at ids t i)).service) c.loop-i.i (texts c.loop-i.services.items) (texts c.push.new.self.items)
-          (string_bytes c.in-Ok-from_str.service) c.loop-i.invariant.services (ap texts c.in-Ok-push.ensures.items ∙ texts-push c.loop-i.services.items c.in-Ok-from_str.service)
-          (c.in-Ok-from_str.ensures.ok ∙ sym (ap (λ r. (trip_or_none r).service) here));
+          (string_bytes c.in-Ok.service) c.loop-i.invariant.services (ap texts c.in_ok-push.ensures.items ∙ texts-push c.loop-i.services.items c.in-Ok.service)
+          (c.in-Ok.ensures.ok ∙ sym (ap (λ r. (trip_or_none r).service) here));
       types = list_below-next (λ i. slice_index_or types (trip_or_none (trip_at ids t i)).route 0) c.loop-i.i c.loop-i.types.items c.push-in-loop-i.new.self.items
-          (slice_index_or c.deref-types_of_routes.result.now c.in-Ok.trip.route 0) c.loop-i.invariant.types c.in-Ok-push-2.ensures.items
-          (ap (λ (xs : List ℕ). slice_index_or xs c.in-Ok.trip.route 0) c.deref-types_of_routes.ensures.value
+          (slice_index_or c.deref-types_of_routes.result.now c.in_ok-trip.trip.route 0) c.loop-i.invariant.types c.in_ok-push-2.ensures.items
+          (ap (λ (xs : List ℕ). slice_index_or xs c.in_ok-trip.trip.route 0) c.deref-types_of_routes.ensures.value
           ∙ sym (ap (λ r. slice_index_or types (trip_or_none r).route 0) here));
       routes = list_below-next (λ i. (trip_or_none (trip_at ids t i)).route) c.loop-i.i c.loop-i.numbers.items c.push-in-loop-i-2.new.self.items
-          c.in-Ok.trip.route c.loop-i.invariant.routes c.in-Ok-push-3.ensures.items (sym (ap (λ r. (trip_or_none r).route) here));
-      known = subst (All (λ route. route < length ids)) (sym c.in-Ok-push-3.ensures.items)
-          (All-push (λ route. route < length ids) c.loop-i.numbers.items c.in-Ok.trip.route c.loop-i.invariant.known c.in-Ok.ensures.route);
+          c.in_ok-trip.trip.route c.loop-i.invariant.routes c.in_ok-push-3.ensures.items (sym (ap (λ r. (trip_or_none r).route) here));
+      known = subst (All (λ route. route < length ids)) (sym c.in_ok-push-3.ensures.items)
+          (All-push (λ route. route < length ids) c.loop-i.numbers.items c.in_ok-trip.trip.route c.loop-i.invariant.known c.in_ok-trip.ensures.route);
       none = first-next (bad_trip ids t) c.loop-i.i None c.loop-i.invariant.none (ap fault_in here);
     }

@@ -1,7 +1,9 @@
-use Rattle.std.proofs.Common.{None, length, sym, ap, ◌∙◌, arith, slice_index_or, string_bytes}
+use Rattle.std.proofs.Common.{Option, length, sym, ap, ◌∙◌, arith, slice_index_or, string_bytes}
 use Rattle.csv_rows.specs.Lists.{list_below}
 use Rattle.std.proofs.lemmas.List.{length-map}
+use Rattle.csv_rows.proofs.FaultLemmas.{if_raised}
 use Rattle.csv_rows.specs.declared.columns.Column.TheVariants.{RouteId, ServiceId, TripId}
+use Rattle.csv_rows.specs.declared.feed_tables.FeedFault.{FeedFault}
 use Rattle.csv_rows.specs.declared.feed_tables.Table.TheVariants.{Trips}
 use Rattle.csv_rows.specs.First.{or_else}
 use Rattle.csv_rows.specs.Tables.{place_of, field_at, row_count}
@@ -13,68 +15,66 @@ use Rattle.csv_rows.proofs.ListLemmas.{same_length, length-list_below}
 use Rattle.gtfs_tables.proofs.TripLemmas.{trips_named}
 use Rattle.gtfs_tables.proofs.trips.read_trips.Goals as goal
 
+abbrev missing_in : TripColumns → Option FeedFault
+missing_in k = or_else (lack Trips RouteId k.route) (or_else (lack Trips ServiceId k.service) (lack Trips TripId k.id))
+
 pub returns-in-Some-clause-fault : goal.returns-in-Some-clause-fault
 unfolding trips_fault
-returns-in-Some-clause-fault c = λ free.
-    or_first _ _ _ (sym (ap (λ (k : TripColumns). or_else (lack Trips RouteId k.route) (or_else (lack Trips ServiceId k.service) (lack Trips TripId k.id))) c.trip_columns-columns.ensures) ∙ sym c.in-Some.ensures.fault)
+returns-in-Some-clause-fault c = λ free. or_first _ _ _ (sym (ap missing_in c.trip_columns-columns.ensures) ∙ sym c.in-Some.ensures.fault)
 
-pub returns-in-Err-clause-fault : goal.returns-in-Err-clause-fault
+pub returns-in_err-of_trips-clause-fault : goal.returns-in_err-of_trips-clause-fault
 unfolding trips_fault
-returns-in-Err-clause-fault c = λ free.
-    let has = sym (ap (λ (k : TripColumns). or_else (lack Trips RouteId k.route) (or_else (lack Trips ServiceId k.service) (lack Trips TripId k.id))) c.trip_columns-columns.ensures) ∙ sym c.in_default.ensures.fault in
-    or_then _ _ _ has (or_first _ _ _ (c.in-Err.ensures.fault free))
+returns-in_err-of_trips-clause-fault c = if_raised _ c.from_residual.result c.from_residual.ensures (λ free.
+    or_then _ _ _ (sym (ap missing_in c.trip_columns-columns.ensures) ∙ sym c.in_default.ensures.fault) (or_first _ _ _ (c.in_err-of_trips.ensures.fault free)))
 
 pub read_ids-requires-clause-named : goal.read_ids-requires-clause-named
 read_ids-requires-clause-named c =
     let t = c.args.rows.now in
-    named_is t c.trip_columns-columns.result.id (place_of TripId t) (ap (λ (k : TripColumns). k.id) c.trip_columns-columns.ensures) (trips_named c.args.routes.now.ids t c.in-Ok.ensures.none)
+    named_is t _ (place_of TripId t) (ap (λ (k : TripColumns). k.id) c.trip_columns-columns.ensures) (trips_named c.args.routes.now.ids t c.in_ok-of_trips.ensures.none)
 
-pub returns-in-Ok-read_ids-clause-none : goal.returns-in-Ok-read_ids-clause-none
+pub returns-clause-none : goal.returns-clause-none
 unfolding trips_fault
-returns-in-Ok-read_ids-clause-none c =
-    let t = c.args.rows.now in
-    let has = sym (ap (λ (k : TripColumns). or_else (lack Trips RouteId k.route) (or_else (lack Trips ServiceId k.service) (lack Trips TripId k.id))) c.trip_columns-columns.ensures) ∙ sym c.in_default.ensures.fault in
+returns-clause-none c =
     let place = ap (λ (k : TripColumns). k.id) c.trip_columns-columns.ensures in
-    or_then _ _ _ has (or_then _ _ _ c.in-Ok.ensures.none (ids_fault_is Trips t c.trip_columns-columns.result.id (place_of TripId t) None place c.in-Ok-read_ids.ensures.none))
+    or_then _ _ _ (sym (ap missing_in c.trip_columns-columns.ensures) ∙ sym c.in_default.ensures.fault)
+    (or_then _ _ _ c.in_ok-of_trips.ensures.none (ids_fault_is Trips c.args.rows.now _ _ _ place c.in_ok-ids.ensures.none))
 
-pub returns-in-Err-read_ids-clause-fault : goal.returns-in-Err-read_ids-clause-fault
+pub returns-in_err-ids-clause-fault : goal.returns-in_err-ids-clause-fault
 unfolding trips_fault
-returns-in-Err-read_ids-clause-fault c = λ free.
-    let t = c.args.rows.now in
-    let has = sym (ap (λ (k : TripColumns). or_else (lack Trips RouteId k.route) (or_else (lack Trips ServiceId k.service) (lack Trips TripId k.id))) c.trip_columns-columns.ensures) ∙ sym c.in_default.ensures.fault in
+returns-in_err-ids-clause-fault c = if_raised _ c.from_residual-in_err-ids.result c.from_residual-in_err-ids.ensures (λ free.
     let place = ap (λ (k : TripColumns). k.id) c.trip_columns-columns.ensures in
-    or_then _ _ _ has (or_then _ _ _ c.in-Ok.ensures.none
-    (ids_fault_is Trips t c.trip_columns-columns.result.id (place_of TripId t) _ place (c.in-Err-read_ids.ensures.fault free)))
+    or_then _ _ _ (sym (ap missing_in c.trip_columns-columns.ensures) ∙ sym c.in_default.ensures.fault)
+    (or_then _ _ _ c.in_ok-of_trips.ensures.none (ids_fault_is Trips c.args.rows.now _ _ _ place (c.in_err-ids.ensures.fault free))))
 
-pub returns-in-Ok-read_ids-clause-types_sized : goal.returns-in-Ok-read_ids-clause-types_sized
-returns-in-Ok-read_ids-clause-types_sized c =
+pub returns-clause-types_sized : goal.returns-clause-types_sized
+returns-clause-types_sized c =
     let t = c.args.rows.now in
     same_length (λ i. slice_index_or c.args.routes.now.types.items (trip_or_none (trip_at c.args.routes.now.ids t i)).route 0) (field_at t c.trip_columns-columns.result.id) (row_count t)
-    _ _ c.in-Ok.ensures.types c.in-Ok-read_ids.ensures.ids
+    _ _ c.in_ok-of_trips.ensures.types c.in_ok-ids.ensures.ids
 
-pub returns-in-Ok-read_ids-clause-routes_sized : goal.returns-in-Ok-read_ids-clause-routes_sized
-returns-in-Ok-read_ids-clause-routes_sized c =
+pub returns-clause-routes_sized : goal.returns-clause-routes_sized
+returns-clause-routes_sized c =
     let t = c.args.rows.now in
     same_length (λ i. (trip_or_none (trip_at c.args.routes.now.ids t i)).route) (field_at t c.trip_columns-columns.result.id) (row_count t)
-    _ _ c.in-Ok.ensures.routes c.in-Ok-read_ids.ensures.ids
+    _ _ c.in_ok-of_trips.ensures.routes c.in_ok-ids.ensures.ids
 
-pub returns-in-Ok-read_ids-clause-services_sized : goal.returns-in-Ok-read_ids-clause-services_sized
-returns-in-Ok-read_ids-clause-services_sized c =
+pub returns-clause-services_sized : goal.returns-clause-services_sized
+returns-clause-services_sized c =
     let t = c.args.rows.now in
-    sym (length-map c.in-Ok.of_trips.services.items string_bytes)
+    sym (length-map c.in_ok-of_trips.of_trips.services.items string_bytes)
     ∙ same_length (λ i. (trip_or_none (trip_at c.args.routes.now.ids t i)).service) (field_at t c.trip_columns-columns.result.id) (row_count t)
-    _ _ c.in-Ok.ensures.services c.in-Ok-read_ids.ensures.ids
+    _ _ c.in_ok-of_trips.ensures.services c.in_ok-ids.ensures.ids
 
-pub returns-in-Ok-read_ids-clause-few : goal.returns-in-Ok-read_ids-clause-few
-returns-in-Ok-read_ids-clause-few c =
+pub returns-clause-few : goal.returns-clause-few
+returns-clause-few c =
     let t = c.args.rows.now in
-    omega (arith, ap length c.in-Ok-read_ids.ensures.ids, length-list_below (field_at t c.trip_columns-columns.result.id) (row_count t), c.requires.few)
+    omega (arith, ap length c.in_ok-ids.ensures.ids, length-list_below (field_at t c.trip_columns-columns.result.id) (row_count t), c.requires.few)
 
-pub returns-in-Ok-read_ids-clause-sound : goal.returns-in-Ok-read_ids-clause-sound
-returns-in-Ok-read_ids-clause-sound c =
+pub returns-clause-sound : goal.returns-clause-sound
+returns-clause-sound c =
     let t = c.args.rows.now in
     let place = ap (λ (k : TripColumns). k.id) c.trip_columns-columns.ensures in (
       t,
-      returns-in-Ok-read_ids-clause-none c,
-      (c.in-Ok-read_ids.ensures.ids ∙ ap (λ p. list_below (field_at t p) (row_count t)) place, c.in-Ok.ensures.services, c.in-Ok.ensures.types, c.in-Ok.ensures.routes),
+      returns-clause-none c,
+      (c.in_ok-ids.ensures.ids ∙ ap (λ p. list_below (field_at t p) (row_count t)) place, c.in_ok-of_trips.ensures.services, c.in_ok-of_trips.ensures.types, c.in_ok-of_trips.ensures.routes),
     )
