@@ -48,11 +48,10 @@ fn load_required<F: Files>(
     ensures path_cause { HasFeedPathCause (IsSome (F.files files.old)) folder.now
         (F.faults_of files.old) (F.faults_of files.new) result }
 {
-    match read_table(alloc, files, folder, table, limits) {
-        Ok(Loaded::Found(rows)) => Ok(rows),
-        Ok(Loaded::Absent) => Err(FeedFault::MissingTable(table)),
-        Ok(Loaded::NoRecord) => Err(FeedFault::MissingColumn(table, first)),
-        Err(fault) => Err(fault),
+    match read_table(alloc, files, folder, table, limits)? {
+        Loaded::Found(rows) => Ok(rows),
+        Loaded::Absent => Err(FeedFault::MissingTable(table)),
+        Loaded::NoRecord => Err(FeedFault::MissingColumn(table, first)),
     }
 }
 
@@ -78,14 +77,8 @@ pub(crate) fn load_stops<F: Files>(
     ensures path_cause { HasFeedPathCause (IsSome (F.files files.old)) folder.now
         (F.faults_of files.old) (F.faults_of files.new) result }
 {
-    let rows = match load_required(alloc, files, folder, Table::Stops, Column::StopId, limits) {
-        Ok(rows) => rows,
-        Err(fault) => return Err(fault),
-    };
-    match read_stops(alloc, &rows) {
-        Ok(stops) => Ok(stops),
-        Err(fault) => Err(fault),
-    }
+    let rows = load_required(alloc, files, folder, Table::Stops, Column::StopId, limits)?;
+    read_stops(alloc, &rows)
 }
 
 /// The routes of the feed.
@@ -109,14 +102,8 @@ pub(crate) fn load_routes<F: Files>(
     ensures path_cause { HasFeedPathCause (IsSome (F.files files.old)) folder.now
         (F.faults_of files.old) (F.faults_of files.new) result }
 {
-    let rows = match load_required(alloc, files, folder, Table::Routes, Column::RouteId, limits) {
-        Ok(rows) => rows,
-        Err(fault) => return Err(fault),
-    };
-    match read_routes(alloc, &rows) {
-        Ok(routes) => Ok(routes),
-        Err(fault) => Err(fault),
-    }
+    let rows = load_required(alloc, files, folder, Table::Routes, Column::RouteId, limits)?;
+    read_routes(alloc, &rows)
 }
 
 /// The trips of the feed, which are of these routes.
@@ -151,14 +138,8 @@ pub(crate) fn load_trips<F: Files>(
     ensures path_cause { HasFeedPathCause (IsSome (F.files files.old)) folder.now
         (F.faults_of files.old) (F.faults_of files.new) result }
 {
-    let rows = match load_required(alloc, files, folder, Table::Trips, Column::RouteId, limits) {
-        Ok(rows) => rows,
-        Err(fault) => return Err(fault),
-    };
-    match read_trips(alloc, &rows, routes) {
-        Ok(trips) => Ok(trips),
-        Err(fault) => Err(fault),
-    }
+    let rows = load_required(alloc, files, folder, Table::Trips, Column::RouteId, limits)?;
+    read_trips(alloc, &rows, routes)
 }
 
 /// The kept rows of these trips, which stop at these stops.
@@ -192,21 +173,15 @@ pub(crate) fn load_stop_times<F: Files>(
     ensures path_cause { HasFeedPathCause (IsSome (F.files files.old)) folder.now
         (F.faults_of files.old) (F.faults_of files.new) result }
 {
-    let rows = match load_required(
+    let rows = load_required(
         alloc,
         files,
         folder,
         Table::StopTimes,
         Column::TripId,
         limits,
-    ) {
-        Ok(rows) => rows,
-        Err(fault) => return Err(fault),
-    };
-    match read_stop_times(alloc, rows, trips, stops) {
-        Ok(visits) => Ok(visits),
-        Err(fault) => Err(fault),
-    }
+    )?;
+    read_stop_times(alloc, rows, trips, stops)
 }
 
 /// How these trips repeat.
@@ -235,12 +210,6 @@ pub(crate) fn load_frequencies<F: Files>(
     ensures path_cause { HasFeedPathCause (IsSome (F.files files.old)) folder.now
         (F.faults_of files.old) (F.faults_of files.new) result }
 {
-    let loaded = match read_table(alloc, files, folder, Table::Frequencies, limits) {
-        Ok(loaded) => loaded,
-        Err(fault) => return Err(fault),
-    };
-    match repeats_from(alloc, &loaded, trips) {
-        Ok(repeats) => Ok(repeats),
-        Err(fault) => Err(fault),
-    }
+    let loaded = read_table(alloc, files, folder, Table::Frequencies, limits)?;
+    repeats_from(alloc, &loaded, trips)
 }
