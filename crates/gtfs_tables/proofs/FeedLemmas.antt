@@ -1,6 +1,7 @@
 -- The tables of a feed, one after the other.
-use Rattle.std.proofs.Common.{◌≡◌, ◌≢◌, ℕ, ◌<◌, ◌≤◌, ◌==◌, false, List, [], length, slice_index_or, Option, Some, None, IfSome, refl, sym, ap, ap₂, ◌∙◌, subst, arith, ⊎_elim, if◌then◌else◌}
-use Rattle.std.specs.Prelude.{Result, Ok, Err, IsErrOf}
+use Rattle.std.proofs.Common.{◌≡◌, ◌≢◌, ℕ, ◌<◌, ◌≤◌, ◌==◌, false, List, [], length, slice_index_or, Option, Some, None, IfSome, IfErr, refl, sym, ap, ap₂, ◌∙◌, subst, arith, ⊎_elim, if◌then◌else◌}
+use Rattle.std.specs.Prelude.{Result, Ok, Err}
+use Rattle.std.specs.Result.{IsErr, IsErrAnd}
 use Rattle.std.proofs.lemmas.Bool.{cases_lt}
 use Rattle.file_ports.specs.Ports.{Folder, file_at}
 use Rattle.file_ports.specs.Counts.{Rose}
@@ -12,7 +13,7 @@ use Rattle.csv_rows.specs.declared.feed_tables.FeedFault.TheVariants.{Read, NoMe
 use Rattle.csv_rows.specs.declared.limits.Limits.{Limits}
 use Rattle.csv_rows.specs.declared.loading.Loaded.{Loaded}
 use Rattle.csv_rows.specs.FeedTables.{path_of, rank_of, unread_of, IsFaultOf}
-use Rattle.csv_rows.specs.Loading.{loaded_file, loaded_rows, HasFeedCause, load_in}
+use Rattle.csv_rows.specs.Loading.{loaded_file, loaded_rows, HasFeedCause, IsUnread, load_in}
 use Rattle.csv_rows.specs.RowFaults.{and_then}
 use Rattle.csv_rows.specs.Tables.{row_count, field}
 use Rattle.gtfs_tables.specs.declared.frequencies.FrequencyRow.{FrequencyRow}
@@ -24,10 +25,17 @@ use Rattle.gtfs_tables.specs.StopTimes.{timed_rows, stop_times_fault}
 use Rattle.gtfs_tables.specs.Frequencies.{frequency_rows, fault_of_frequencies, all_repeats_of}
 use Rattle.gtfs_tables.specs.Visits.{AreStopTimes}
 use Rattle.gtfs_tables.specs.Feeds.{Records, stops_from, routes_from, trips_from, stop_times_from, frequencies_from, Tables, tables_by, tables_in, FeedParts, IsFeed, IsFeedOf, AreStops, AreRoutes, AreTrips, AreVisits, AreFrequencies, IsSound, IsSoundFeed}
+use Rattle.csv_rows.proofs.FaultLemmas.{if_raised}
 use Rattle.csv_rows.proofs.ListLemmas.{length-list_below}
 
 pub if_same : {A : Type 0} (o o' : Option A) (P : A → Type 0) → o' ≡ o → IfSome o' P → IfSome o P
 if_same o o' P e h = subst (λ (z : Option _). IfSome z P) e h
+
+-- where the files are told, what a step that failed tells of its error holds of what `?` raises again
+pub some_raised : {A : Type 0} (o : Option Folder) (f : FeedFault) (P : Folder → FeedFault → Type 0) (r : Result A FeedFault) → IsErr r × IsErrAnd r (λ raised. raised ≡ f)
+    → IfSome o (λ m. P m f) → IfSome o (λ m. IfErr r (P m))
+some_raised None f P r h p = tt
+some_raised (Some m) f P r h p = if_raised (P m) r h p
 
 -- what is loaded of another table than the one that may not have been read
 other_load : (m : Folder) (folder : List ℕ) (limits : Limits) (f : FeedFault) (table other : Table) → IsFaultOf table f → (rank_of table == rank_of other) ≡ false
@@ -328,13 +336,16 @@ sound_feed ids routes trips services places types types_of routes_of visits rows
 pub quiet : {T : Type 0} (before now : ℕ) (x : T) → HasFeedCause before now (Ok x) → now ≡ before
 quiet before now x c = ⊎_elim (λ (less : before < now). absurd (c.grew less)) (λ (ge : now ≤ before). omega (arith, ge, c.later)) (cases_lt before now)
 
-same_error : {T U : Type 0} (f e : FeedFault) → IsErrOf {T = U} (Err f) e → IsErrOf {T = T} (Err f) e
-same_error f e h = let k : f ≡ e = cc in ap Err k
-
--- and the fault of the next step has its cause
-pub cause_then : {T U : Type 0} (before mid now : ℕ) (f : FeedFault) → mid ≡ before → HasFeedCause {T = T} mid now (Err f) → HasFeedCause {T = U} before now (Err f)
-cause_then {T} {U} before mid now f e c = record {
+-- and the fault of the next step, which `?` raises again, has its cause
+pub cause_then : {T U : Type 0} (before mid now : ℕ) {f : FeedFault} (r : Result U FeedFault) → IsErr r × IsErrAnd r (λ raised. raised ≡ f) → mid ≡ before
+    → HasFeedCause {T = T} mid now (Err f) → HasFeedCause before now r
+cause_then before mid now (Ok x) h e c = absurd h.1
+cause_then {T} {U} before mid now {f} (Err raised) h e c = record {
   later = omega (arith, e, c.later);
-  read = λ table h. let P : ℕ → Type 0 = λ z. Rose z now in subst P e (c.read table (same_error {T = T} {U = U} f (Read table) h));
-  grew = λ less. c.grew (omega (arith, e, less));
+  read = λ table is.
+      let P : ℕ → Type 0 = λ z. Rose z now in
+      let same : raised ≡ f = h.1 in
+      let read : f ≡ Read table = cc in
+      subst P e (c.read table (ap Err read));
+  grew = λ less. subst (λ z. IsUnread {T = U} (Err z)) (sym h.1) (c.grew (omega (arith, e, less)));
 }

@@ -70,32 +70,18 @@ impl Feed {
         ensures path_cause { HasFeedPathCause (IsSome (F.files files.old)) folder.now
             (F.faults_of files.old) (F.faults_of files.new) result }
     {
-        let stops = match load_stops(alloc, files, folder, limits) {
-            Ok(stops) => stops,
-            Err(fault) => return Err(fault),
-        };
-        let routes = match load_routes(alloc, files, folder, limits) {
-            Ok(routes) => routes,
-            Err(fault) => return Err(fault),
-        };
-        let trips = match load_trips(alloc, files, folder, limits, &routes) {
-            Ok(trips) => trips,
-            Err(fault) => return Err(fault),
-        };
-        let visits = match load_stop_times(alloc, files, folder, limits, &trips.ids, &stops) {
-            Ok(visits) => visits,
-            Err(fault) => return Err(fault),
-        };
-        match load_frequencies(alloc, files, folder, limits, &trips.ids) {
-            Ok(repeats) => Ok(Feed {
-                stops,
-                routes,
-                trips,
-                visits,
-                repeats,
-            }),
-            Err(fault) => Err(fault),
-        }
+        let stops = load_stops(alloc, files, folder, limits)?;
+        let routes = load_routes(alloc, files, folder, limits)?;
+        let trips = load_trips(alloc, files, folder, limits, &routes)?;
+        let visits = load_stop_times(alloc, files, folder, limits, &trips.ids, &stops)?;
+        let repeats = load_frequencies(alloc, files, folder, limits, &trips.ids)?;
+        Ok(Feed {
+            stops,
+            routes,
+            trips,
+            visits,
+            repeats,
+        })
     }
 
     /// How many stops there are.
