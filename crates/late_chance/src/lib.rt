@@ -20,8 +20,6 @@ ghost use Rattle.late_chance.specs.Punctual.{PunctualAlike, TellsOfNetwork};
 
 mod chance;
 mod shift;
-#[cfg(test)]
-mod tests;
 mod text;
 
 pub use chance::LateChance;

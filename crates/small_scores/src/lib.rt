@@ -1,5 +1,11 @@
-//! Scores of graphs over small networks.
+//! Spans, scores and chances, what is kept by them, and the scores of graphs over small networks.
 #![tactic(auto)]
 
 #[cfg(test)]
+mod profiles;
+#[cfg(test)]
 mod scores;
+#[cfg(test)]
+mod spans;
+#[cfg(test)]
+mod values;

@@ -1,10 +1,12 @@
+//! Scores through their bound, and the chance of being late.
 ghost use Rattle.std.specs.Prelude.{◌≡◌, length};
 ghost use Rattle.plan_model.specs.Rows.{IsValidRow};
 
-use crate::{LateChance, sooner, write_chance};
+use late_chance::{LateChance, sooner, write_chance};
 use plan_model::{Moment, Outcome, PlaceId, Query};
+use std::alloc::Global;
 use std::test::Fail;
-use value_laws::Score;
+use value_laws::{MeanSpan, Score, WorstMoment};
 
 // The usual delays.
 fn usual() -> [Outcome; 3]
@@ -25,6 +27,38 @@ fn usual() -> [Outcome; 3]
             weight: 500,
         },
     ]
+}
+
+/// Each call of a score, through the bound: the blend of three arrivals, lowered to the last
+/// of them where that is not better, and whether the last is better than the blend.
+fn through_the_bound<V: Score>(alloc: Global) -> Result<(V, bool), Fail> {
+    let mut kids = Vec::new(alloc);
+    for moment in [5, 9, 7] {
+        kids.push(V::arrive(Moment(moment)))?;
+    }
+    let row = usual();
+    if kids.len() != row.len() {
+        return Err("as many kids as outcomes".into());
+    }
+    let blend = V::blend(&row, &kids);
+    let last = kids[2];
+    if last.better(&blend) {
+        Ok((blend, true))
+    } else {
+        Ok((blend.lower_to(&last), false))
+    }
+}
+
+#[test]
+fn each_score_blends_and_compares(rt: HostRuntime) -> Result<(), Fail> {
+    let (MeanSpan(span), better) = through_the_bound::<MeanSpan>(rt.alloc())?;
+    assert_eq!(rt;
+        (span.lo(), span.hi(), better),
+        (5_700_000_000, 5_700_000_000, false)
+    );
+    let (WorstMoment(moment), better) = through_the_bound::<WorstMoment>(rt.alloc())?;
+    assert_eq!(rt; (moment, better), (Moment(9), true));
+    Ok(())
 }
 
 // Both bounds, the lower one first.
