@@ -23,8 +23,3 @@ pub use loading::{Loaded, read_table};
 pub use names::read_name;
 pub use row_faults::lack;
 pub use rows::{Rows, RowsFault};
-
-#[cfg(test)]
-mod key_tests;
-#[cfg(test)]
-mod tests;

@@ -8,8 +8,6 @@ ghost use Rattle.feed_maker.specs.Made.{made, SameFolder};
 mod lines;
 mod names;
 mod tables;
-#[cfg(test)]
-mod tests;
 
 use file_ports::SteadyFiles;
 use plan_model::NoMemory;

@@ -13,8 +13,6 @@ mod named;
 mod ports;
 mod shelf;
 mod steady;
-#[cfg(test)]
-mod tests;
 
 pub use host::{HostFiles, HostSink};
 pub use loading::{LoadFault, load, put_all};

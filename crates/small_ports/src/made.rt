@@ -1,5 +1,5 @@
 //! Made timetables, against rows worked out by hand.
-use crate::make;
+use feed_maker::make;
 use file_ports::{SteadyFiles, load};
 use std::alloc::Global;
 use std::test::Fail;

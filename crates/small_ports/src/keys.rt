@@ -1,4 +1,5 @@
-use super::*;
+//! Keys of rows, in order and repeated.
+use csv_rows::{Key, before_at, first_repeat, in_order};
 use std::test::Fail;
 
 /// The keys of these groups, orders and places, in their order.

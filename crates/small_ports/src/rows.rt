@@ -1,8 +1,5 @@
-ghost use Rattle.std.specs.Prelude.{◌≡◌, ◌<◌, ℕ, Some, IsTrue};
-ghost use Rattle.csv_rows.specs.Names.{name_in};
-ghost use Rattle.csv_rows.specs.Tables.{row_count, field_at};
-
-use super::*;
+//! The rows and ids of small tables.
+use csv_rows::{Column, FeedFault, Ids, Rows, RowsFault, Table, lack, read_name};
 use plan_model::HashKey;
 use std::alloc::Global;
 use std::test::Fail;
@@ -106,46 +103,5 @@ fn numbers_ids(rt: HostRuntime) -> Result<(), Fail> {
     assert_eq!(rt; ids.number("c"), None);
     assert_eq!(rt; ids.get(0), "b");
     assert_eq!(rt; ids.get(1), "a");
-    Ok(())
-}
-
-/// Whether each row has a name in this column.
-fn are_named(rows: &Rows, column: Option<usize>) -> bool
-    ensures { IsTrue result → (i : ℕ) → i < row_count rows.now
-        → name_in (field_at rows.now column i) ≡ Some (field_at rows.now column i) }
-{
-    for i in 0..rows.count() {
-        if read_name(rows.field_at(i, column)).is_none() {
-            return false;
-        }
-    }
-    true
-}
-
-#[test]
-fn reads_ids(rt: HostRuntime) -> Result<(), Fail> {
-    let Ok(rows) = Rows::read(rt.alloc(), b"stop_name,stop_id\nx,b\nx,a\n") else {
-        return Err("no rows".into());
-    };
-    assert!(rt; rows.count() == 2 && are_named(&rows, Some(1)));
-    let Ok(ids) = read_ids(rt.alloc(), &rows, Table::Stops, Some(1)) else {
-        return Err("no ids".into());
-    };
-    assert_eq!(rt; ids.len(), 2);
-    assert_eq!(rt; ids.get(0), "b");
-    assert_eq!(rt; ids.number("a"), Some(1));
-    Ok(())
-}
-
-#[test]
-fn tells_an_id_that_stands_twice(rt: HostRuntime) -> Result<(), Fail> {
-    let Ok(rows) = Rows::read(rt.alloc(), b"trip_id\nb\na\nb\na\n") else {
-        return Err("no rows".into());
-    };
-    assert!(rt; rows.count() == 4 && are_named(&rows, Some(0)));
-    let Err(fault) = read_ids(rt.alloc(), &rows, Table::Trips, Some(0)) else {
-        return Err("no fault".into());
-    };
-    assert_eq!(rt; fault, FeedFault::DuplicateKey(Table::Trips, 4));
     Ok(())
 }

@@ -1,7 +1,9 @@
 //! The ports in use.
 ghost use Rattle.std.specs.Prelude.{IsErrOf};
 
-use crate::*;
+use file_ports::{
+    Files, HostFiles, HostSink, LoadFault, MemoryFiles, MemorySink, SteadyFiles, load, put_all,
+};
 use plan_model::List;
 use std::alloc::Global;
 use std::fs;

@@ -1,0 +1,11 @@
+//! Files and sinks in use, the rows, ids and keys of small tables, and made files.
+#![tactic(auto)]
+
+#[cfg(test)]
+mod keys;
+#[cfg(test)]
+mod made;
+#[cfg(test)]
+mod ports;
+#[cfg(test)]
+mod rows;
