@@ -4,8 +4,6 @@
 mod dates;
 mod digits;
 mod moments;
-#[cfg(test)]
-mod tests;
 
 pub use dates::{one_text_for_each_date, read_date, read_time, weekday, write_date};
 pub use digits::{read_optional_seconds, read_whole};

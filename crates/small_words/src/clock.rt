@@ -1,5 +1,8 @@
 //! Texts with the values that they tell.
-use crate::*;
+use clock_text::{
+    read_date, read_moment, read_nanos, read_optional_seconds, read_time, read_whole, weekday,
+    write_moment, write_nanos,
+};
 use plan_model::Moment;
 
 #[test]
