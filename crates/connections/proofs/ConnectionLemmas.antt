@@ -31,6 +31,7 @@ use Rattle.connections.proofs.NameLemmas.{names_trimmed}
 use Rattle.connections.proofs.CountLemmas.{rides-zero, rides-suc}
 use Rattle.connections.proofs.PairLemmas.{AllPairs-append, AllPairs-nil, AllPairs-one}
 use Rattle.connections.proofs.StepLemmas.{holds_parts, steps-zero, steps-suc}
+use Rattle.plan_model.specs.Bounds.{end_of_arrivals, most_connections}
 
 -- a moment that is not before 1970
 pub not_before : (z : ℤ) → pos 0 ≤ℤ z → pos (unsigned_abs z) ≡ z
@@ -102,7 +103,7 @@ Follows a b = (a.run.0 < b.run.0) ⊎ ((a.run.0 ≡ b.run.0) × (a.step < b.step
 
 pub record IsGood (places classes runs : ℕ) (c : Connection) : Type 0 where
   pub forward : c.dep.0 ≤ c.arr.0
-  pub early : c.arr.0 < 13601088000
+  pub early : c.arr.0 < end_of_arrivals
   pub from_in : c.from.0 < places
   pub to_in : c.to.0 < places
   pub class_in : c.class.0 < classes
@@ -234,7 +235,7 @@ module _ (f : FeedParts) (delays : DelayLists) (w : Window) (v : IsWindow w) (ti
 
 -- what the parts of a network are made of
 module _ (f : FeedParts) (d : DelayLists) (delays : AreDelays d) (w : Window) (v : IsWindow w) (timed : IsTimed f) (rs : List Run) (runs : AreRunsOf f rs) (some : AllRide f w rs)
-    (few : length (rides_below f d w rs (length rs)) ≤ 8388608) (change : List ℕ) (changes : AreChanges change) (size : length change ≡ length f.stop_ids) (stops : length f.stop_ids < 4294967296) where
+    (few : length (rides_below f d w rs (length rs)) ≤ most_connections) (change : List ℕ) (changes : AreChanges change) (size : length change ≡ length f.stop_ids) (stops : length f.stop_ids < 4294967296) where
   abbrev cs : List Connection
   cs = rides_below f d w rs (length rs)
 
@@ -297,5 +298,5 @@ module _ (f : FeedParts) (d : DelayLists) (delays : AreDelays d) (w : Window) (v
         run_names = names_trimmed f rs names.runs ids runs named;
       }
 
-  pub few_runs : length rs ≤ 8388608
+  pub few_runs : length rs ≤ most_connections
   few_runs = omega (arith, good.many, few)

@@ -14,9 +14,20 @@ holds w moment = int_le (pos w.start) moment && int_le moment (pos w.end)
 abbrev pub day_at : Window → ℕ → ServiceDay
 day_at w d = record { number = pos (w.start / 86400 + d) -ℤ pos 14 }
 
--- it starts from 1970-01-08 to 2399-12-31, and has at most 72 hours
+-- 1970-01-08T00:00:00 and 2400-01-01T00:00:00
+abbrev pub first_start : ℕ
+first_start = 604800
+
+abbrev pub end_of_starts : ℕ
+end_of_starts = 13569465600
+
+-- 72 hours
+abbrev pub longest_window : ℕ
+longest_window = 259200
+
+-- it starts from the one of these moments on and before the other one, and is not too long
 pub record IsWindow (w : Window) : Type 0 where
-  pub early : 604800 ≤ w.start
-  pub late : w.start < 13569465600
+  pub early : first_start ≤ w.start
+  pub late : w.start < end_of_starts
   pub ordered : w.start ≤ w.end
-  pub short : w.end ≤ w.start + 259200
+  pub short : w.end ≤ w.start + longest_window

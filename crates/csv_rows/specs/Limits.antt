@@ -23,18 +23,18 @@ standard = record {
 
 -- none is above the standard one
 pub record AreWithin (limits : Limits) : Type 0 where
-  pub bytes : limits.bytes ≤ 1073741824
-  pub stops : limits.stops ≤ 1048576
-  pub routes : limits.routes ≤ 65536
-  pub trips : limits.trips ≤ 4194304
-  pub stop_times : limits.stop_times ≤ 33554432
-  pub frequencies : limits.frequencies ≤ 65536
-  pub calendar : limits.calendar ≤ 1048576
-  pub calendar_dates : limits.calendar_dates ≤ 16777216
-  pub transfers : limits.transfers ≤ 4194304
-  pub cut_rows : limits.cut_rows ≤ 8388608
-  pub connections : limits.connections ≤ 8388608
-  pub entries : limits.entries ≤ 67108864
+  pub bytes : limits.bytes ≤ standard.bytes
+  pub stops : limits.stops ≤ standard.stops
+  pub routes : limits.routes ≤ standard.routes
+  pub trips : limits.trips ≤ standard.trips
+  pub stop_times : limits.stop_times ≤ standard.stop_times
+  pub frequencies : limits.frequencies ≤ standard.frequencies
+  pub calendar : limits.calendar ≤ standard.calendar
+  pub calendar_dates : limits.calendar_dates ≤ standard.calendar_dates
+  pub transfers : limits.transfers ≤ standard.transfers
+  pub cut_rows : limits.cut_rows ≤ standard.cut_rows
+  pub connections : limits.connections ≤ standard.connections
+  pub entries : limits.entries ≤ standard.entries
 
 -- the rows of a table
 abbrev pub rows_of : Limits → Table → ℕ

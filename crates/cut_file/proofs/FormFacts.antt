@@ -13,6 +13,7 @@ use Rattle.cut_file.specs.Forms.{before_end, early, class_in, flag_in}
 use Rattle.cut_file.specs.Rows.{Row, row_from, row_at}
 use Rattle.cut_file.specs.Faults.{bad_of, bad_field, row_of, row}
 use Rattle.csv_rows.specs.Tables.{field}
+use Rattle.plan_model.specs.Bounds.{end_of_arrivals}
 
 -- what the fields of a row in form say of it
 pub record InForm (run from to : List ℕ) (r : Row) : Type 0 where
@@ -20,7 +21,7 @@ pub record InForm (run from to : List ℕ) (r : Row) : Type 0 where
   pub from_name : r.from ≡ from
   pub to_name : r.to ≡ to
   pub step : r.step < 1000000000
-  pub arr : r.arr < 13601088000
+  pub arr : r.arr < end_of_arrivals
   pub change : IfSome r.change (λ s. s ≤ 86400)
 
 read_inv : {A : Type 0} (P : Row → Type 0) (o : Option A) (column : Column) (rest : A → Result Row Column) → ((a : A) → o ≡ Some a → (r : Row) → rest a ≡ Ok r → P r) → (r : Row) → read o column rest ≡ Ok r → P r
@@ -36,13 +37,13 @@ name_if false false text x h = absurd (cc)
 name_is : (text x : List ℕ) → name_in text ≡ Some x → x ≡ text
 name_is text x h = name_if (length text == 0) (is_utf8 text) text x h
 
-end_if : (b : Bool) (m : ℕ) → (b ≡ true → m < 13601088000) → IfSome (if b then Some m else None) (λ x. x < 13601088000)
+end_if : (b : Bool) (m : ℕ) → (b ≡ true → m < end_of_arrivals) → IfSome (if b then Some m else None) (λ x. x < end_of_arrivals)
 end_if true m h = h refl
 end_if false m h = tt
 
-end_bound : (o : Option ℕ) → IfSome (before_end o) (λ x. x < 13601088000)
+end_bound : (o : Option ℕ) → IfSome (before_end o) (λ x. x < end_of_arrivals)
 end_bound None = tt
-end_bound (Some m) = end_if (nat_lt m 13601088000) m (ltb-true m 13601088000)
+end_bound (Some m) = end_if (nat_lt m end_of_arrivals) m (ltb-true m end_of_arrivals)
 
 change_some : (o : Option ℕ) → IfSome o (λ s. s ≤ 86400) → IfSome (option_map Some o) (λ x. IfSome x (λ s. s ≤ 86400))
 change_some None h = tt
@@ -71,7 +72,7 @@ row_form a b c d e f g h j k =
     read_inv (InForm a c d) (flag_in j) Exit _ (λ exit p9.
     read_inv (InForm a c d) (optional_seconds_of k) Change _ (λ change p10 r q.
     let low : step ≤ 999999999 = at_some (λ (n : ℕ). n ≤ 999999999) (whole_of 999999999 b) step (whole_bound 999999999 b) p2 in
-    let early_arr : arr < 13601088000 = at_some (λ (n : ℕ). n < 13601088000) (early f) arr (end_bound (moment_at f)) p6 in
+    let early_arr : arr < end_of_arrivals = at_some (λ (n : ℕ). n < end_of_arrivals) (early f) arr (end_bound (moment_at f)) p6 in
     let small = at_some (λ (x : Option ℕ). IfSome x (λ s. s ≤ 86400)) (optional_seconds_of k) change (change_if (length k == 0) (whole_of 86400 k) (whole_bound 86400 k)) p10 in
     subst (InForm a c d) (same_ok _ r q) (record { run_name = name_is a run p1; from_name = name_is c from p3; to_name = name_is d to p4; step = omega arith; arr = early_arr; change = small })))))))))))
 

@@ -3,10 +3,11 @@ use Rattle.std.specs.Prelude.{ℕ, ◌==◌, nat_lt, Bool, true, false, ◌||◌
 use Rattle.std.specs.Str.{bytes_eq}
 use Rattle.clock_text.specs.Digits.{whole_of}
 use Rattle.clock_text.specs.Times.{moment_at}
+use Rattle.plan_model.specs.Bounds.{end_of_arrivals}
 
 abbrev pub before_end : Option ℕ → Option ℕ
 before_end None = None
-before_end (Some m) = if nat_lt m 13601088000 then Some m else None
+before_end (Some m) = if nat_lt m end_of_arrivals then Some m else None
 
 -- a moment before 2401-01-01
 abbrev pub early : List ℕ → Option ℕ

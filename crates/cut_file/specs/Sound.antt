@@ -3,12 +3,13 @@ use Rattle.std.specs.Prelude.{◌≡◌, ℕ, ◌≤◌, List, None}
 use Rattle.csv_rows.specs.Spaces.{AreTrimmed}
 use Rattle.cut_file.specs.Faults.{first_fault}
 use Rattle.cut_file.specs.Read.{Cut, IsRead}
+use Rattle.plan_model.specs.Bounds.{most_connections}
 
 -- it was read from a table of trimmed fields with no fault
 pub record IsSound (c : Cut) : Type 0 where
   pub table : List (List (List ℕ))
   pub limit : ℕ
-  pub few : limit ≤ 8388608
+  pub few : limit ≤ most_connections
   pub trimmed : AreTrimmed table
   pub none : first_fault table limit ≡ None
   pub read : IsRead table c.runs c.places c.rows c.keys

@@ -2,6 +2,7 @@
 ghost use Rattle.std.specs.Prelude.{◌≡◌, ◌≢◌, ◌<◌, ◌≤◌, length, IfOk, IfSome, MatchOption};
 ghost use Rattle.plan_model.specs.Order.{IsScanOrder};
 ghost use Rattle.decision_graph.specs.Expanded.{NoneSafe, IsExpanded, IsExpandedBy, HasSteadyChoice};
+ghost use Rattle.interval_fixed.specs.Interval.{end_of_nanos};
 
 use interval_fixed::Span;
 use leg_extract::extract;
@@ -70,7 +71,7 @@ pub fn expand<B: BackwardOrder>(
     requires whole { IsScanOrder network.now (B.rest order.old network.now) }
     requires source { query.now.source.0 < length network.now.change }
     requires target { query.now.target.0 < length network.now.change }
-    requires start { query.now.start.0 < 18446744073 }
+    requires start { query.now.start.0 < end_of_nanos }
     requires deadline { query.now.start.0 ≤ query.now.deadline.0 }
     ensures plan { IfOk result (λ found. MatchOption found (NoneSafe network.now query.now)
         (λ p. IsExpanded network.now query.now p.graph p.bounds)) }

@@ -4,6 +4,7 @@ ghost use Rattle.plan_model.specs.Bounds.{end_of_time};
 ghost use Rattle.plan_model.specs.Order.{IsScanOrder};
 ghost use Rattle.decision_graph.specs.Expanded.{NoneSafe};
 ghost use Rattle.decision_graph.specs.Planned.{IsPlanned, IsPlannedBy};
+ghost use Rattle.interval_fixed.specs.Interval.{end_of_nanos};
 
 use crate::expanded::expand_away;
 use graph_compact::compact;
@@ -113,7 +114,7 @@ pub fn plan<B: BackwardOrder>(
     requires whole { IsScanOrder network.now (B.rest order.old network.now) }
     requires source { query.now.source.0 < length network.now.change }
     requires target { query.now.target.0 < length network.now.change }
-    requires start { query.now.start.0 < 18446744073 }
+    requires start { query.now.start.0 < end_of_nanos }
     requires deadline { query.now.start.0 ≤ query.now.deadline.0 }
     ensures plan { IfOk result (λ found. MatchOption found (NoneSafe network.now query.now)
         (λ p. IsPlanned network.now query.now p.graph p.bounds)) }

@@ -19,6 +19,7 @@ use Rattle.meat_scan.specs.Found.{Found, choice_of, leg_choice, chosen_at}
 use Rattle.meat_scan.specs.Solves.{Solves, IsAnswer, IsSafeAt}
 use Rattle.departure_table.specs.declared.DepartureRow.{DepartureRow}
 use Rattle.departure_table.specs.Departures.{IsASecondAway, SafeAfter, NoneSafe, BeginsWith, IsBestFrom, IsDeparture, LooksAhead}
+use Rattle.plan_model.specs.Bounds.{end_of_arrivals}
 
 module _ (n : Parts) (q : Query) (found : Found MeanSpan) (valid : IsValid n) (solves : Solves mean_below mean_covers mean_gap found n q) (second : IsASecondAway n q.source.0) where
   abbrev here : ℕ
@@ -68,7 +69,7 @@ module _ (n : Parts) (q : Query) (found : Found MeanSpan) (valid : IsValid n) (s
           let one = second enter safe_ride.2.seconds safe_ride.1.enter safe_ride.2.way in
           omega (arith, one, safe_ride.2.in_time)
 
-      pub departs_early : dep_of n enter < 13601088000
+      pub departs_early : dep_of n enter < end_of_arrivals
       departs_early = let v = valid.connections enter safe_ride.1.enter in omega (arith, v.forward, v.early)
 
       pub departure : (row : DepartureRow) → row.leg ≡ choice.1 → row.by.0 ≡ dep_of n enter → IsDeparture n row

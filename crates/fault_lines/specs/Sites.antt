@@ -1,6 +1,7 @@
 -- Where in a timetable a fault is, and what is told of that.
 use Rattle.std.specs.Prelude.{ℕ, ◌<◌, ◌≤◌, List, [], ◌++◌, length, Option, None, Some, option_map, codes, decimal}
 use Rattle.clock_text.specs.Civil.{moment_text}
+pub use Rattle.clock_text.specs.Civil.{last_printable}
 use Rattle.plan_model.specs.declared.model.Moment.{Moment}
 use Rattle.plan_model.specs.declared.model.PlaceId.{PlaceId}
 use Rattle.plan_model.specs.Parts.{Parts}
@@ -14,10 +15,6 @@ use Rattle.fault_lines.specs.declared.faults.Site.{Site}
 use Rattle.fault_lines.specs.declared.faults.Site.TheVariants.{Arrival, Connection}
 use Rattle.fault_lines.specs.declared.faults.Fault.{Fault}
 use Rattle.fault_lines.specs.declared.faults.Fault.TheVariants.{Words, Feed, Cut, Missing, Delays, UnknownStop, Limit, Read, NoSafe, GraphFile, Replay, ProofFile, ProofFails, Unsafe, Write, NoMemory}
-
--- the last moment that has a text: 9999-12-31T23:59:59
-abbrev pub last_printable : ℕ
-last_printable = 253402300799
 
 -- a timetable with its names, by which a line tells where a fault is
 pub record NamedParts : Type 0 where

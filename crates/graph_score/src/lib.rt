@@ -10,6 +10,7 @@ ghost use Rattle.plan_graph.specs.Unfold.{unfold_plan};
 ghost use Rattle.graph_score.specs.Legs.{IsRising, Fits, IsFirstWrong, legs_of};
 ghost use Rattle.graph_score.specs.Scores.{IsScore};
 ghost use Rattle.graph_score.specs.Steps.{IsOutlook};
+ghost use Rattle.interval_fixed.specs.Interval.{end_of_nanos};
 
 mod legs;
 mod outlooks;
@@ -44,7 +45,7 @@ fn outlook(
 ) -> Result<Outlook, NoMemory>
     requires rising { IsRising graph.now }
     requires fit { All (Fits network.now query.now) (legs_of graph.now) }
-    requires start { query.now.source.0 ≡ query.now.target.0 → query.now.start.0 < 18446744073 }
+    requires start { query.now.source.0 ≡ query.now.target.0 → query.now.start.0 < end_of_nanos }
     ensures { IfOk result (λ outlook. IsOutlook network.now query.now outlook (unfold_plan graph.now network.now query.now)) }
 {
     if query.source.0 == query.target.0 {
@@ -78,7 +79,7 @@ pub fn score(
     query: &Query,
 ) -> Result<Span, ScoreFault>
     requires rising { IsRising graph.now }
-    requires start { query.now.source.0 ≡ query.now.target.0 → query.now.start.0 < 18446744073 }
+    requires start { query.now.source.0 ≡ query.now.target.0 → query.now.start.0 < end_of_nanos }
     ensures { IsScore network.now query.now graph.now result }
 {
     let _count = network.count();

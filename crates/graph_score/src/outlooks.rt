@@ -9,6 +9,7 @@ ghost use Rattle.interval_fixed.specs.Means.{mean_of};
 ghost use Rattle.plan_graph.specs.Rows.{pick_row, pick_at, rows_of_place};
 ghost use Rattle.graph_score.specs.Legs.{IsRising};
 ghost use Rattle.graph_score.specs.Steps.{no_outlook, is_sooner, sooner, first_of, spans_in, blended, arrived_by, outlook_at, outlooks_after, outlook_of, ExitsWithin, AreFitRows, AreOutlooks};
+ghost use Rattle.interval_fixed.specs.Interval.{end_of_nanos};
 
 use arrayvec::ArrayVec;
 use interval_fixed::Span;
@@ -129,7 +130,7 @@ fn blend(row: &[Outcome], kids: &[Outlook]) -> Outlook
 
 /// What comes of having arrived at the target.
 pub fn arrived(deadline: Moment, place: PlaceId, moment: Moment) -> Outlook
-    requires { moment.0 < 18446744073 }
+    requires { moment.0 < end_of_nanos }
     ensures { result ≡ arrived_by deadline.0 place.0 moment.0 }
 {
     if moment.0 <= deadline.0 {

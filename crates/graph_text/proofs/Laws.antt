@@ -13,10 +13,11 @@ use Rattle.plan_graph.specs.declared.PlanGraph.{PlanGraph}
 use Rattle.plan_graph.specs.Ready.{IsLegOf, IsReady}
 use Rattle.plan_graph.specs.Tidy.{IsFit, IsFitStart}
 use Rattle.graph_text.specs.Printable.{IsPrintable, IsPrintablePlan}
+use Rattle.plan_model.specs.Bounds.{end_of_arrivals}
 
 module _ (n : Parts) (valid : IsValid n) where
   -- a limit is before the departure
-  pub limit_soon : (place limit : ℕ) (leg : Leg) → IsLegOf n leg → limit_of n place leg ≡ Some limit → limit < 13601088000
+  pub limit_soon : (place limit : ℕ) (leg : Leg) → IsLegOf n leg → limit_of n place leg ≡ Some limit → limit < end_of_arrivals
   limit_soon place limit leg is_leg is =
       let way = limit_of-some n place leg limit is in
       let own = valid.connections leg.enter.0 is_leg.enter in

@@ -11,7 +11,7 @@ use Rattle.std.proofs.lemmas.List.Elements.{All-cons, All-nil, All-head, All-tai
 use Rattle.std.proofs.lemmas.Map.Steps.{length-le_from_distinct_below}
 use Rattle.csv.proofs.RoundTrip.{rows_text as text_of_rows}
 use Rattle.csv.specs.Reading.{strip_bom}
-use Rattle.clock_text.specs.Civil.{moment_text, nanos_text}
+use Rattle.clock_text.specs.Civil.{moment_text, nanos_text, last_printable}
 use Rattle.clock_text.specs.Times.{moment_at, nanos_at}
 use Rattle.clock_text.proofs.Walk.{text_tells}
 use Rattle.clock_text.proofs.NanosLemmas.{nanos_tell}
@@ -53,6 +53,7 @@ use Rattle.graph_text.proofs.Steps.{leg_step}
 use Rattle.printed_rows.proofs.Plain.{moment_kept, nanos_kept, decimal_kept, whole_back, name_back, name_kept}
 use Rattle.graph_text.proofs.Printed.{fields_kept, rows-append}
 use Rattle.printed_rows.proofs.Printed.{IsKept, AreKept, kept-append, table_back}
+use Rattle.plan_model.specs.Bounds.{most_connections}
 
 -- the records of a leg, of a table's rows, of a place, and of all tables
 abbrev leg_record : Parts → NameLists → Version → List ℕ → List ℕ → Leg → List (List ℕ)
@@ -205,7 +206,7 @@ module _ (n : Parts) (names : NameLists) (version : Version) (valid : IsValid n)
   abbrev numbers : ℕ → Leg → LegRow
   numbers moment leg = record { moment = record { 0 = moment }; enter = step_of n leg.enter.0; dep = record { 0 = dep_of n leg.enter.0 }; exit = step_of n leg.exit.0; arr = record { 0 = arr_of n leg.exit.0 } }
 
-  leg_numbers_back : (kind : List ℕ) (moment : ℕ) (leg : Leg) → IsLegOf n leg → moment ≤ 253402300799
+  leg_numbers_back : (kind : List ℕ) (moment : ℕ) (leg : Leg) → IsLegOf n leg → moment ≤ last_printable
       → leg_row_in version kind (leg_record n names version kind (moment_text moment) leg) ≡ Some (numbers moment leg)
   leg_numbers_back kind moment leg is_leg soon =
       let enter = valid.connections leg.enter.0 is_leg.enter in
@@ -354,7 +355,7 @@ module _ (n : Parts) (names : NameLists) (version : Version) (valid : IsValid n)
       entry_if (eqb q row.leg.enter.0) (list_any (eqb q) (entries rows)) q row.leg.enter.0 refl (All-head (IsFitRow n place) row rows fits).is_leg.enter
       (entries_there place rows (All-tail (IsFitRow n place) row rows fits) q) found
 
-  few_legs : (t : PlaceTable) → IsFitTable n t → length t.rows ≤ 8388608
+  few_legs : (t : PlaceTable) → IsFitTable n t → length t.rows ≤ most_connections
   few_legs t own_table =
       let few = length-le_from_distinct_below (entries t.rows) (count n) (entries_differ t.place.0 t.rows own_table.rows own_table.rising) (entries_there t.place.0 t.rows own_table.rows) in
       omega (arith, few, entries_length t.rows, valid.few_connections)

@@ -8,10 +8,11 @@ use Rattle.plan_graph.specs.declared.PlaceTable.{PlaceTable}
 use Rattle.plan_graph.specs.declared.ExpandedGraph.{ExpandedGraph}
 use Rattle.plan_graph.specs.declared.PlanGraph.{PlanGraph}
 use Rattle.plan_graph.specs.Ready.{IsLegOf}
+use Rattle.clock_text.specs.Civil.{last_printable}
 
 -- a moment before the year 10000
 abbrev pub IsPrintableMoment : ℕ → Type 0
-IsPrintableMoment moment = moment ≤ 253402300799
+IsPrintableMoment moment = moment ≤ last_printable
 
 -- its places are the network's, and its moments have texts
 pub record IsPrintableQuery (n : Parts) (q : Query) : Type 0 where

@@ -21,14 +21,15 @@ use Rattle.gtfs_tables.specs.Forms.{text_in, allows_in, time_in}
 use Rattle.gtfs_tables.specs.StopTimes.{time_columns, number_in, times_of, visit_of, timed_from, timed_at, no_row}
 use Rattle.gtfs_tables.proofs.RowLemmas.{whole_bound}
 use Rattle.csv_rows.proofs.RowLemmas.{place_inside}
+use Rattle.gtfs_tables.specs.Bounds.{end_of_times}
 
 -- a kept row stands at the place of a stop, at times of at most 167 hours
 pub record IsAtStop (stops : ℕ) (places : List ℕ) (v : StopRow) : Type 0 where
   pub stop : ℕ
   pub inside : stop < stops
   pub place : v.place.0 ≡ slice_index places stop
-  pub arrival : v.arrival < 604800
-  pub departure : v.departure < 604800
+  pub arrival : v.arrival < end_of_times
+  pub departure : v.departure < end_of_times
 
 pub record InForm (stops : ℕ) (places : List ℕ) (r : TimedRow) : Type 0 where
   pub sequence : r.sequence ≤ 999999999
@@ -56,7 +57,7 @@ or_none true p n o h e = let same : None ≡ o = cc in subst (IsBelow n) same tt
 or_none false None n o h e = absurd (cc)
 or_none false (Some k) n o h e = let same : Some k ≡ o = cc in subst (IsBelow n) same h
 
-seconds_below : (h m s n : ℕ) → seconds_at h m s ≡ Some n → n < 604800
+seconds_below : (h m s n : ℕ) → seconds_at h m s ≡ Some n → n < end_of_times
 seconds_below h m s n e =
     let parts = some_cases (nat_le h 167 && (nat_lt m 60 && nat_lt s 60)) (3600 * h + (60 * m + s)) n e in
     let hours = and_parts (nat_le h 167) (nat_lt m 60 && nat_lt s 60) parts.0 in
@@ -68,13 +69,13 @@ has_marks k t =
     nat_eq (slice_index t k) 58 && (nat_eq (slice_index t (k + 3)) 58 && (list_all is_ascii_digit (take k t)
     && (list_all is_ascii_digit (take 2 (drop (k + 1) t)) && list_all is_ascii_digit (take 2 (drop (k + 4) t)))))
 
-of_below : (k : ℕ) (t : List ℕ) (n : ℕ) → time_of k t ≡ Some n → n < 604800
+of_below : (k : ℕ) (t : List ℕ) (n : ℕ) → time_of k t ≡ Some n → n < end_of_times
 unfolding has_marks
 of_below k t n e =
     let hour = value_of (take k t) in let minute = value_of (take 2 (drop (k + 1) t)) in let second = value_of (take 2 (drop (k + 4) t)) in
     seconds_below hour minute second n (if_cases (has_marks k t) (seconds_at hour minute second) n e).1
 
-pub time_below : (text : List ℕ) (n : ℕ) → time_at text ≡ Some n → n < 604800
+pub time_below : (text : List ℕ) (n : ℕ) → time_at text ≡ Some n → n < end_of_times
 time_below text n e =
     of_below (length text - 6) text n (if_cases (nat_le 7 (length text) && nat_le (length text) 9) (time_of (length text - 6) text) n e).1
 
@@ -82,10 +83,10 @@ below_if : (o : Option ℕ) (n : ℕ) → ((m : ℕ) → o ≡ Some m → m < n)
 below_if None n h = tt
 below_if (Some m) n h = h m refl
 
-time_few : (text : List ℕ) → IsBelow 604800 (time_at text)
-time_few text = below_if (time_at text) 604800 (time_below text)
+time_few : (text : List ℕ) → IsBelow end_of_times (time_at text)
+time_few text = below_if (time_at text) end_of_times (time_below text)
 
-visit_form : (stops : ℕ) (places : List ℕ) (o a d : Option ℕ) (board exit : Bool) → IsBelow stops o → IsBelow 604800 a → IsBelow 604800 d
+visit_form : (stops : ℕ) (places : List ℕ) (o a d : Option ℕ) (board exit : Bool) → IsBelow stops o → IsBelow end_of_times a → IsBelow end_of_times d
     → IfSome (visit_of places o (times_of a d) board exit) (IsAtStop stops places)
 visit_form stops places None None None board exit h k l = tt
 visit_form stops places None None (Some y) board exit h k l = tt
@@ -114,8 +115,8 @@ from_in_form trips stops places line trip stop sequence arrival departure pickup
       sequence = whole_bound 999999999 sequence' sequence e4;
       visit = visit_form (length stops) places stop_number arrival' departure' board exit
           (or_none (length stop' == 0) (place_in stop' stops) (length stops) stop_number (place_few stop' stops (place_in stop' stops) refl) e3)
-          (or_none (length arrival == 0) (time_at arrival) 604800 arrival' (time_few arrival) e5)
-          (or_none (length departure == 0) (time_at departure) 604800 departure' (time_few departure) e6);
+          (or_none (length arrival == 0) (time_at arrival) end_of_times arrival' (time_few arrival) e5)
+          (or_none (length departure == 0) (time_at departure) end_of_times departure' (time_few departure) e6);
     }))))))))))
 
 ok_form : (P : TimedRow → Type 0) (o : Result TimedRow FeedFault) → fault_in o ≡ None → ((r : TimedRow) → o ≡ Ok r → P r) → P (value_or no_row o)

@@ -3,6 +3,7 @@ use Rattle.std.specs.Prelude.{ℕ, ◌+◌, ◌<◌, ◌≤◌, List, [], length
 use Rattle.gtfs_tables.specs.declared.stop_times.StopRow.{StopRow}
 use Rattle.gtfs_tables.specs.Feeds.{FeedParts}
 use Rattle.gtfs_tables.specs.Visits.{no_visit}
+use Rattle.gtfs_tables.specs.Bounds.{end_of_times}
 
 -- the kept rows of a trip
 abbrev pub rows_of : FeedParts → ℕ → List StopRow
@@ -16,7 +17,7 @@ pub record AreTimed (rows : List StopRow) (places : ℕ) : Type 0 where
   pub few : length rows ≤ 1000000000
   pub place : (k : ℕ) → k < length rows → (kept_at rows k).place.0 < places
   pub forward : (k : ℕ) → k < length rows → (kept_at rows k).arrival ≤ (kept_at rows k).departure
-  pub early : (k : ℕ) → k < length rows → (kept_at rows k).departure < 604800
+  pub early : (k : ℕ) → k < length rows → (kept_at rows k).departure < end_of_times
   pub onward : (k : ℕ) → k + 1 < length rows → (kept_at rows k).departure ≤ (kept_at rows (k + 1)).arrival
 
 -- this is so of each trip

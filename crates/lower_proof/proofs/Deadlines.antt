@@ -13,6 +13,7 @@ use Rattle.lower_proof.specs.declared.reader.BoundsRow.{BoundsRow}
 use Rattle.lower_proof.specs.declared.reader.ProofFault.{ProofFault}
 use Rattle.lower_proof.specs.declared.reader.ProofFault.TheVariants.{OtherQuery}
 use Rattle.lower_proof.specs.Reading.{bounds_numbers, is_bounds, bounds_row_in, is_query, bounds_by, bounds_in, IsTold}
+use Rattle.clock_text.specs.Civil.{last_printable}
 
 deadline_in : Option BoundsRow → ℕ
 deadline_in None = 0
@@ -45,7 +46,7 @@ by_names source target start (Some x) (Some from) (Some to) y is =
     ap Some (by_query (is_query from to x.start.0 source target start) x y (OtherQuery 1) is)
 
 -- the deadline of a first row
-pub row_deadline : (names : NameLists) (source target start : ℕ) (r : List (List ℕ)) (y : BoundsRow) → bounds_in names source target start r ≡ Ok y → y.deadline.0 ≤ 253402300799
+pub row_deadline : (names : NameLists) (source target start : ℕ) (r : List (List ℕ)) (y : BoundsRow) → bounds_in names source target start r ≡ Ok y → y.deadline.0 ≤ last_printable
 row_deadline names source target start r y is =
     let row : bounds_row_in r ≡ Some y = by_names source target start (bounds_row_in r) (number_of names.places (field r 2)) (number_of names.places (field r 3)) y is in
     let numbers = by_test (is_bounds r) (bounds_numbers (moment_at (field r 4)) (moment_at (field r 5)) (whole_at (field r 6))) y row in
@@ -53,6 +54,6 @@ row_deadline names source target start r y is =
 
 -- the deadline of a query that a text tells
 pub told_deadline : (n : Parts) (names : NameLists) (source target start : ℕ) (t : List (List (List ℕ))) (q : Query) (values : List (Option ℕ))
-    → IsTold n names source target start t q values → q.deadline.0 ≤ 253402300799
+    → IsTold n names source target start t q values → q.deadline.0 ≤ last_printable
 told_deadline n names source target start t q values is =
-    subst (λ (m : Moment). m.0 ≤ 253402300799) (sym is.until) (row_deadline names source target start (header t) is.bounds is.head)
+    subst (λ (m : Moment). m.0 ≤ last_printable) (sym is.until) (row_deadline names source target start (header t) is.bounds is.head)

@@ -9,7 +9,7 @@ use Rattle.std.proofs.lemmas.List.{ext_get_or}
 use Rattle.std.proofs.lemmas.Bool.{eq-eqb, lt-ltb, le-leb}
 use Rattle.csv.proofs.RoundTrip.{rows_text as text_of_rows}
 use Rattle.csv.specs.Reading.{strip_bom}
-use Rattle.clock_text.specs.Civil.{moment_text, nanos_text}
+use Rattle.clock_text.specs.Civil.{moment_text, nanos_text, last_printable}
 use Rattle.clock_text.specs.Times.{moment_at, nanos_at}
 use Rattle.clock_text.proofs.Walk.{text_tells}
 use Rattle.clock_text.proofs.NanosLemmas.{nanos_tell}
@@ -268,7 +268,7 @@ module _ (n : Parts) (names : NameLists) (valid : IsValid n) (fit : NamesFit nam
   -- ---- the first row
 
   module _ (q : Query) (values : List (Option ℕ)) (source : q.source.0 < length n.change) (target : q.target.0 < length n.change)
-      (start : q.start.0 ≤ 253402300799) (deadline : q.deadline.0 ≤ 253402300799) (in_time : q.start.0 ≤ q.deadline.0) (few : count_by is_some values ≤ 999999999) where
+      (start : q.start.0 ≤ last_printable) (deadline : q.deadline.0 ≤ last_printable) (in_time : q.start.0 ≤ q.deadline.0) (few : count_by is_some values ≤ 999999999) where
     bounds_kept : IsKept (bounds_record names q values)
     bounds_kept =
         seven_kept (codes "bounds") (codes "1") (place_name names q.source.0) (place_name names q.target.0) (moment_text q.start.0) (moment_text q.deadline.0)

@@ -12,6 +12,8 @@ ghost use Rattle.lower_proof.specs.Promises.{IsSound, IsBest};
 ghost use Rattle.lower_proof.specs.Steps.{lesser, KeepsTo, exit_of};
 ghost use Rattle.lower_proof.specs.Departures.{NoneAfter, AreDepartures};
 ghost use Rattle.lower_proof.specs.Minima.{IsBoard, board_at, AreBoards, AllLate};
+ghost use Rattle.interval_fixed.specs.Interval.{end_of_nanos};
+ghost use Rattle.plan_model.specs.Bounds.{end_of_time};
 
 mod board;
 mod printer;
@@ -72,7 +74,7 @@ fn keeps_to(own: Option<u64>, best: Option<u64>) -> bool
 
 /// The arrival in nanoseconds, where it is by the deadline.
 fn arrived(deadline: Moment, moment: Moment) -> Option<u64>
-    requires { moment.0 < 18446744073 }
+    requires { moment.0 < end_of_nanos }
     ensures { result ≡ arrived_by deadline.0 moment.0 }
 {
     if moment <= deadline {
@@ -101,7 +103,7 @@ fn least_at(
 ) -> Option<u64>
     requires boards { (p : ℕ) → p < length boards.old → IsBoard values.now (board_at boards.old p) }
     requires place { place.0 < length boards.old }
-    requires soon { moment.0 < 13601174401 }
+    requires soon { moment.0 < end_of_time }
     ensures least { (n : Parts) (last : ℕ) → AreBoards n last values.now boards.old → IsLeastAt n query.now values.now place.0 moment.0 result }
     ensures boards { (n : Parts) (last : ℕ) → AreBoards n last values.now boards.old → AreBoards n last values.now boards.new }
     ensures late { (m : ℕ) → m ≤ moment.0 → AllLate m boards.old → AllLate m boards.new }
@@ -237,7 +239,7 @@ pub fn check(
 /// The least value at the start.
 pub fn least(proof: &LowerBounds, network: &Network, query: &Query) -> Option<u64>
     requires values { length proof.now.values ≡ count network.now }
-    requires start { query.now.source.0 ≡ query.now.target.0 → query.now.start.0 < 18446744073 }
+    requires start { query.now.source.0 ≡ query.now.target.0 → query.now.start.0 < end_of_nanos }
     ensures { IsLeastAtStart network.now query.now proof.now.values result }
 {
     if query.source == query.target {

@@ -7,6 +7,7 @@ ghost use Rattle.printed_rows.specs.Writers.{row_of_fields, text_of_records, wri
 ghost use Rattle.lower_proof.specs.Steps.{AllFit};
 ghost use Rattle.lower_proof.specs.Reading.{ReadsBack};
 ghost use Rattle.lower_proof.specs.Texts.{bounds_record, value_record, entry_text, value_records, proof_text};
+ghost use Rattle.clock_text.specs.Civil.{last_printable};
 
 use crate::LowerBounds;
 use clock_text::{write_moment, write_nanos};
@@ -33,8 +34,8 @@ fn put_bounds(
     requires between { IsBetweenRows writer.old }
     requires source { query.now.source.0 < length names.now.places }
     requires target { query.now.target.0 < length names.now.places }
-    requires start { query.now.start.0 ≤ 253402300799 }
-    requires deadline { query.now.deadline.0 ≤ 253402300799 }
+    requires start { query.now.start.0 ≤ last_printable }
+    requires deadline { query.now.deadline.0 ≤ last_printable }
     ensures between { OnOk result (IsBetweenRows writer.new) }
     ensures text { OnOk result (written writer.new ≡ written writer.old
         ++ row_of_fields (bounds_record names.now query.now values.now)) }
@@ -65,8 +66,8 @@ fn bounds_text(
 ) -> Result<Vec<u8>, NoMemory>
     requires source { query.now.source.0 < length names.now.places }
     requires target { query.now.target.0 < length names.now.places }
-    requires start { query.now.start.0 ≤ 253402300799 }
-    requires deadline { query.now.deadline.0 ≤ 253402300799 }
+    requires start { query.now.start.0 ≤ last_printable }
+    requires deadline { query.now.deadline.0 ≤ last_printable }
     ensures { IfOk result (λ text.
         text.items ≡ row_of_fields (bounds_record names.now query.now values.now)) }
 {
@@ -160,8 +161,8 @@ pub fn write_text(
     requires names { NamesFit names.now network.now }
     requires source { query.now.source.0 < length network.now.change }
     requires target { query.now.target.0 < length network.now.change }
-    requires start { query.now.start.0 ≤ 253402300799 }
-    requires deadline { query.now.deadline.0 ≤ 253402300799 }
+    requires start { query.now.start.0 ≤ last_printable }
+    requires deadline { query.now.deadline.0 ≤ last_printable }
     ensures text { IfOk result (λ text. text.items ≡ proof_text network.now names.now query.now proof.now.values) }
     ensures reads_back { IfOk result (λ text. query.now.start.0 ≤ query.now.deadline.0
         → ReadsBack network.now names.now query.now proof.now.values text.items) }

@@ -1,5 +1,7 @@
 //! The plain values against those of the scans and the plans.
 ghost use Rattle.std.specs.Prelude.{◌<◌, ◌≤◌, length};
+ghost use Rattle.interval_fixed.specs.Interval.{end_of_nanos};
+ghost use Rattle.plan_model.specs.Bounds.{end_of_time};
 
 use crate::made::{Numbers, cut_text, delay_text, network_of};
 use crate::strategies::{Goal, best, scale_of};
@@ -41,7 +43,7 @@ fn encloses(bounds: Span, expected: u128, rides: u32) -> bool {
 fn compare_plan(alloc: Global, network: &Network, query: &Query) -> Result<bool, Fail>
     requires source { query.now.source.0 < length network.now.change }
     requires target { query.now.target.0 < length network.now.change }
-    requires start { query.now.start.0 < 18446744073 }
+    requires start { query.now.start.0 < end_of_nanos }
     requires deadline { query.now.start.0 ≤ query.now.deadline.0 }
 {
     let mut order = SortedOrder::new(alloc, network)?;
@@ -70,7 +72,7 @@ fn compare_worst(
 ) -> Result<Option<Moment>, Fail>
     requires source { source.0 < length network.now.change }
     requires target { target.0 < length network.now.change }
-    requires start { start.0 < 13601174401 }
+    requires start { start.0 < end_of_time }
 {
     let mut order = SortedOrder::new(alloc, network)?;
     let tables = ScanTables::reserve(alloc, network)?;

@@ -1,6 +1,8 @@
 //! Windows of small feeds whose trips repeat, against runs worked by hand.
 ghost use Rattle.std.specs.Prelude.{◌≤◌, length, IfSome};
 ghost use Rattle.change_times.specs.Changes.{LinksComeFrom};
+ghost use Rattle.plan_model.specs.Bounds.{most_connections};
+ghost use Rattle.connections.specs.Window.{first_start};
 
 use change_times::Changes;
 use connections::{WindowFault, cut};
@@ -58,10 +60,10 @@ fn window(
     horizon: u32,
     most: u64,
 ) -> Option<Result<(Network, Names), WindowFault>>
-    requires early { 604800 ≤ start }
+    requires early { first_start ≤ start }
     requires late { start ≤ 2000000000 }
     requires horizon { horizon ≤ 72 }
-    requires most { most ≤ 8388608 }
+    requires most { most ≤ most_connections }
 {
     let mut files = files_of(alloc, stop_times, frequencies).ok()?;
     let limits = Limits::standard();
@@ -96,7 +98,7 @@ fn network_of(
     start: u64,
     horizon: u32,
 ) -> Result<(Network, Names), Fail>
-    requires early { 604800 ≤ start }
+    requires early { first_start ≤ start }
     requires late { start ≤ 2000000000 }
     requires horizon { horizon ≤ 72 }
 {

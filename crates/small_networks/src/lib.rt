@@ -8,6 +8,7 @@ ghost use Rattle.std.specs.Prelude.{◌≡◌, ◌+◌, ◌<◌, ◌≤◌, leng
 ghost use Rattle.plan_model.specs.NameLists.{NamesFit};
 ghost use Rattle.decision_graph.specs.Expanded.{IsExpanded};
 ghost use Rattle.decision_graph.specs.Planned.{IsPlanned};
+ghost use Rattle.interval_fixed.specs.Interval.{end_of_nanos};
 
 use csv_rows::{Limits, Rows};
 use cut_file::{CutTable, read_cut};
@@ -162,7 +163,7 @@ pub fn rows_by_place(graph: &PlanGraph) -> Result<&[GraphRow], Fail> {
 pub fn expanded(alloc: Global, network: &Network, query: &Query) -> Result<ExpandedPlan, Fail>
     requires source { query.now.source.0 < length network.now.change }
     requires target { query.now.target.0 < length network.now.change }
-    requires start { query.now.start.0 < 18446744073 }
+    requires start { query.now.start.0 < end_of_nanos }
     requires deadline { query.now.start.0 ≤ query.now.deadline.0 }
     ensures { IfOk result (λ found. IsExpanded network.now query.now found.graph found.bounds) }
 {
@@ -177,7 +178,7 @@ pub fn expanded(alloc: Global, network: &Network, query: &Query) -> Result<Expan
 pub fn planned(alloc: Global, network: &Network, query: &Query) -> Result<CompactPlan, Fail>
     requires source { query.now.source.0 < length network.now.change }
     requires target { query.now.target.0 < length network.now.change }
-    requires start { query.now.start.0 < 18446744073 }
+    requires start { query.now.start.0 < end_of_nanos }
     requires deadline { query.now.start.0 ≤ query.now.deadline.0 }
     ensures { IfOk result (λ found. IsPlanned network.now query.now found.graph found.bounds) }
 {

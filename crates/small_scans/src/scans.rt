@@ -2,6 +2,7 @@
 //! worked out by hand.
 ghost use Rattle.std.specs.Prelude.{◌≡◌, ◌≢◌, ◌<◌, ◌≤◌, ◌+◌, length, IfOk, IfSome};
 ghost use Rattle.meat_scan.specs.Solves.{Solves};
+ghost use Rattle.plan_model.specs.Bounds.{end_of_time};
 
 use meat_scan::{ScanTables, Scanned, scan};
 use plan_model::{Leg, Moment, Network, PlaceId, Query, SortedOrder};
@@ -83,7 +84,7 @@ fn worst_of(
     requires start { start < 1000000 }
     ensures order { IfOk result (λ worst. IfSome worst (λ moment.
         1717401600 + start ≤ moment.0)) }
-    ensures early { IfOk result (λ worst. IfSome worst (λ moment. moment.0 < 13601174401)) }
+    ensures early { IfOk result (λ worst. IfSome worst (λ moment. moment.0 < end_of_time)) }
 {
     let (source, target, start) = (PlaceId(source), PlaceId(target), Moment(EIGHT + start));
     let mut order = SortedOrder::new(alloc, network)?;

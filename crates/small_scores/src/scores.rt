@@ -1,6 +1,7 @@
 //! Scores of graphs over three buses, and of one whose trips are many more than its legs.
 ghost use Rattle.std.specs.Prelude.{◌≡◌, ◌≢◌, ◌<◌, Some, None, IfOk, IfSome, length};
 ghost use Rattle.graph_score.specs.Legs.{IsRising};
+ghost use Rattle.interval_fixed.specs.Interval.{end_of_nanos};
 
 use graph_score::{ScoreFault, fit_is_scored, score};
 use plan_graph::{GraphRow, PlaceTable, PlanGraph};
@@ -77,7 +78,7 @@ fn scored(
     query: &Query,
 ) -> Result<Result<(u64, u64), ScoreFault>, Fail>
     requires rising { IsRising graph.now }
-    requires start { query.now.source.0 ≡ query.now.target.0 → query.now.start.0 < 18446744073 }
+    requires start { query.now.source.0 ≡ query.now.target.0 → query.now.start.0 < end_of_nanos }
 {
     let network = network_of(alloc, BUSES, 3)?;
     Ok(match score(alloc, graph, &network, query) {

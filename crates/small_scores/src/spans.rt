@@ -1,5 +1,6 @@
 //! Spans against means worked out by hand.
 ghost use Rattle.std.specs.Prelude.{◌≡◌, ◌<◌};
+ghost use Rattle.interval_fixed.specs.Interval.{end_of_nanos};
 
 use interval_fixed::Span;
 use plan_model::{Moment, Outcome};
@@ -11,7 +12,7 @@ fn outcome(delay: u32, weight: u16) -> Outcome
 }
 
 fn second(moment: u64) -> Span
-    requires { moment < 18446744073 }
+    requires { moment < end_of_nanos }
 {
     Span::exact(Moment(moment))
 }

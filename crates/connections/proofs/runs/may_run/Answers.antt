@@ -5,6 +5,7 @@ use Rattle.gtfs_tables.specs.declared.frequencies.FrequencyRow.{FrequencyRow}
 use Rattle.connections.specs.Origins.{origin_of_day, moment_of}
 use Rattle.connections.proofs.ReachLemmas.{none_early_all}
 use Rattle.connections.proofs.runs.may_run.Goals as goal
+use Rattle.connections.specs.Window.{first_start}
 
 empty_is : (fs : List FrequencyRow) → length fs ≡ 0 → fs ≡ []
 empty_is [] h = refl
@@ -12,6 +13,6 @@ empty_is (row ∷ fs) h = absurd (omega arith)
 
 pub returns-else-not-starts_after : goal.returns-else-not-starts_after
 returns-else-not-starts_after c = λ is.
-    let early : moment_of (origin_of_day c.args.day) 604800 <ℤ pos c.args.window.start = grind (arith, ints, is, c.starts_after.ensures, c.plus.ensures, c.of_day-origin.ensures) in
+    let early : moment_of (origin_of_day c.args.day) first_start <ℤ pos c.args.window.start = grind (arith, ints, is, c.starts_after.ensures, c.plus.ensures, c.of_day-origin.ensures) in
     let none : length c.args.frequencies.now ≡ 0 = grind (arith, nat_tests, c.is_empty.ensures, c.if-not-is_empty.false) in
     (empty_is c.args.frequencies.now none, none_early_all c.args.window c.args.rows.now (origin_of_day c.args.day) (λ k h. c.requires.early k h) early)
