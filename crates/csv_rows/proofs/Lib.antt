@@ -3,6 +3,7 @@ pub mod FirstLemmas
 pub mod IdLemmas
 pub mod KeyLemmas
 pub mod ListLemmas
+pub mod MachineLemmas
 pub mod NameLemmas
 pub mod PartsLemmas
 pub mod PlaceLemmas

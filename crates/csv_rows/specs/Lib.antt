@@ -8,6 +8,7 @@ pub mod Limits
 pub mod Lists
 pub mod Loading
 pub mod Names
+pub mod NextField
 pub mod Parts
 pub mod RowFaults
 pub mod Rows

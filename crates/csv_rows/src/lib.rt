@@ -4,12 +4,14 @@
 
 mod columns;
 mod feed_tables;
+mod field_text;
 mod fields;
 mod ids;
 mod keys;
 mod limits;
 mod loading;
 mod names;
+mod record_text;
 mod row_faults;
 mod rows;
 mod spaces;
