@@ -1,5 +1,5 @@
 -- The rows of stop times. Those that name a stop and a time are kept.
-use Rattle.std.specs.Prelude.{ℕ, ◌+◌, ◌==◌, nat_lt, Bool, ◌&&◌, ◌||◌, List, length, slice_index, slice_index_or, Option, Some, None, Result, Ok, option_map, is_some, if◌then◌else◌}
+use Rattle.std.specs.Prelude.{◌≡◌, ℕ, ◌+◌, ◌==◌, nat_lt, Bool, ◌&&◌, ◌||◌, List, length, slice_index, slice_index_or, Option, Some, None, Result, Ok, option_map, is_some, if◌then◌else◌}
 use Rattle.clock_text.specs.Digits.{whole_of}
 use Rattle.csv_rows.specs.declared.columns.Column.TheVariants.{TripId, StopId, StopSequence, ArrivalTime, DepartureTime, PickupType, DropOffType}
 use Rattle.csv_rows.specs.declared.feed_tables.Table.TheVariants.{StopTimes}
@@ -34,12 +34,19 @@ visit_of places (Some stop) None board exit = None
 visit_of places (Some stop) (Some times) board exit =
     Some (record { stop = stop; place = record { 0 = slice_index places stop }; arrival = times.0; departure = times.1; can_board = board; can_exit = exit })
 
+-- this field names the trip of this number
+abbrev pub IsTripOf : (trips : List (List ℕ)) (id : List ℕ) → ℕ → Type 0
+IsTripOf trips id trip = (name_in id ≡ Some id) × (place_in id trips ≡ Some trip)
+
+-- what is read from there on with the number of the trip that this field names, or its fault
+abbrev pub trip_from : (trips : List (List ℕ)) (line : ℕ) (id : List ℕ) → (ℕ → Result TimedRow FeedFault) → Result TimedRow FeedFault
+trip_from trips line id rest = read (name_in id) (BadField StopTimes line TripId) (λ id'. read (place_in id' trips) (UnknownKey StopTimes line TripId) rest)
+
 -- the row of these fields, or the first that is not of its form or names nothing
 abbrev pub timed_from : (trips stops : List (List ℕ)) (places : List ℕ) (line : ℕ) (trip stop sequence arrival departure pickup drop_off : List ℕ)
     → Result TimedRow FeedFault
 timed_from trips stops places line trip stop sequence arrival departure pickup drop_off =
-    read (name_in trip) (BadField StopTimes line TripId) (λ trip'.
-    read (place_in trip' trips) (UnknownKey StopTimes line TripId) (λ trip_number.
+    trip_from trips line trip (λ trip_number.
     read (text_in stop) (BadField StopTimes line StopId) (λ stop'.
     read (number_in stops stop') (UnknownKey StopTimes line StopId) (λ stop_number.
     read (whole_of 999999999 sequence) (BadField StopTimes line StopSequence) (λ sequence'.
@@ -47,7 +54,7 @@ timed_from trips stops places line trip stop sequence arrival departure pickup d
     read (time_in departure) (BadField StopTimes line DepartureTime) (λ departure'.
     read (allows_in pickup) (BadField StopTimes line PickupType) (λ board.
     read (allows_in drop_off) (BadField StopTimes line DropOffType) (λ exit.
-    Ok (record { trip = trip_number; sequence = sequence'; visit = visit_of places stop_number (times_of arrival' departure') board exit }))))))))))
+    Ok (record { trip = trip_number; sequence = sequence'; visit = visit_of places stop_number (times_of arrival' departure') board exit })))))))))
 
 -- where the columns stand
 abbrev pub time_columns : List (List (List ℕ)) → TimeColumns

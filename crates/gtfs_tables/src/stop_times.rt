@@ -1,10 +1,12 @@
 //! The rows of stop times.
-ghost use Rattle.std.specs.Prelude.{◌≡◌, ◌≢◌, ◌<◌, ◌≤◌, ℕ, length, None, Some, Ok, Err, IfOk, IfErr, IfSome, OnOk};
+ghost use Rattle.std.specs.Prelude.{◌≡◌, ◌≢◌, ◌<◌, ◌≤◌, ℕ, length, None, Some, Ok, Err, Result, IfOk, IfErr, IfSome, OnOk};
 ghost use Rattle.csv_rows.specs.declared.feed_tables.Table.TheVariants.{StopTimes as StopTimesTable};
 ghost use Rattle.csv_rows.specs.First.{first_below};
 ghost use Rattle.csv_rows.specs.FeedTables.{unread_of, IsFaultOf};
-ghost use Rattle.csv_rows.specs.Tables.{row_count};
-ghost use Rattle.gtfs_tables.specs.StopTimes.{number_in, times_of, visit_of, time_columns, timed_in, bad_time, timed_rows, missing_time_column};
+ghost use Rattle.csv_rows.specs.Tables.{row_count, field_at};
+ghost use Rattle.csv_rows.specs.declared.feed_tables.FeedFault.{FeedFault};
+ghost use Rattle.gtfs_tables.specs.declared.stop_times.TimedRow.{TimedRow};
+ghost use Rattle.gtfs_tables.specs.StopTimes.{number_in, times_of, visit_of, time_columns, timed_in, bad_time, timed_rows, missing_time_column, trip_from, IsTripOf};
 
 use crate::forms::{read_allows, read_text, read_time_or_none};
 use crate::stops::Stops;
@@ -133,6 +135,41 @@ fn visit_of(
     })
 }
 
+/// A field that names a trip, and the number of that trip.
+#[derive(Clone, Copy)]
+struct NamedTrip<'a> {
+    id: &'a [u8],
+    trip: u32,
+}
+
+/// The number of the trip that a field names. It is looked up only where the field is not that of a trip that is known.
+fn read_trip_number(
+    trips: &Ids,
+    line: u64,
+    id: &[u8],
+    known: Option<NamedTrip<'_>>,
+) -> Result<u32, FeedFault>
+    requires { IfSome known (λ k. IsTripOf trips.now k.id.now k.trip) }
+    ensures trip { IfOk result (IsTripOf trips.now id.now) }
+    ensures fault { IfErr result (λ f. (rest : ℕ → Result TimedRow FeedFault)
+        → trip_from trips.now line id.now rest ≡ Err f) }
+    ensures content { IfErr result (λ f. unread_of f ≡ None) }
+    ensures own { IfErr result (IsFaultOf StopTimesTable) }
+{
+    if let Some(known) = known {
+        if known.id == id {
+            return Ok(known.trip);
+        }
+    }
+    let Some(name) = read_name(id) else {
+        return Err(FeedFault::BadField(Table::StopTimes, line, Column::TripId));
+    };
+    match trips.number(name) {
+        Some(trip) => Ok(trip),
+        None => Err(FeedFault::UnknownKey(Table::StopTimes, line, Column::TripId)),
+    }
+}
+
 /// A row, or the first field that is not of its form or names nothing.
 fn read_timed_row(
     rows: &Rows,
@@ -140,22 +177,23 @@ fn read_timed_row(
     trips: &Ids,
     stops: &Stops,
     row: usize,
+    known: Option<NamedTrip<'_>>,
 ) -> Result<TimedRow, FeedFault>
     requires inside { row < row_count rows.now }
+    requires known { IfSome known (λ k. IsTripOf trips.now k.id.now k.trip) }
     requires places { length stops.now.places.items ≡ length stops.now.ids }
     ensures row { IfOk result (λ r.
         timed_in trips.now stops.now.ids stops.now.places.items rows.now columns row ≡ Ok r) }
+    ensures trip { IfOk result (λ r. IsTripOf trips.now (field_at rows.now columns.trip row) r.trip) }
     ensures fault { IfErr result (λ f.
         timed_in trips.now stops.now.ids stops.now.places.items rows.now columns row ≡ Err f) }
     ensures content { IfErr result (λ f. unread_of f ≡ None) }
     ensures own { IfErr result (IsFaultOf StopTimesTable) }
 {
     let line = rows.line(row);
-    let Some(trip_id) = read_name(rows.field_at(row, columns.trip)) else {
-        return Err(FeedFault::BadField(Table::StopTimes, line, Column::TripId));
-    };
-    let Some(trip) = trips.number(trip_id) else {
-        return Err(FeedFault::UnknownKey(Table::StopTimes, line, Column::TripId));
+    let trip = match read_trip_number(trips, line, rows.field_at(row, columns.trip), known) {
+        Ok(trip) => trip,
+        Err(fault) => return Err(fault),
     };
     let Some(stop_id) = read_text(rows.field_at(row, columns.stop)) else {
         return Err(FeedFault::BadField(Table::StopTimes, line, Column::StopId));
@@ -213,11 +251,16 @@ pub(crate) fn read_timed_rows(
     ensures own { IfErr result (IsFaultOf StopTimesTable) }
 {
     let mut timed: Vec<TimedRow> = Vec::new(alloc);
+    let mut known: Option<NamedTrip<'_>> = None;
     for i in 0..rows.count() {
-        let row = match read_timed_row(rows, columns, trips, stops, i) {
+        let row = match read_timed_row(rows, columns, trips, stops, i, known) {
             Ok(row) => row,
             Err(fault) => return Err(fault),
         };
+        known = Some(NamedTrip {
+            id: rows.field_at(i, columns.trip),
+            trip: row.trip,
+        });
         match timed.push(row) {
             Ok(()) => {}
             Err(_) => return Err(FeedFault::NoMemory),
