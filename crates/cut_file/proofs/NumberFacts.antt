@@ -1,8 +1,8 @@
 -- Names that are numbered as they come.
-use Rattle.std.proofs.Common.{◌≡◌, ℕ, zero, suc, ◌+◌, ◌≤◌, Bool, true, false, List, [], ◌∷◌, ◌++◌, length, get_or, slice_get, Option, Some, None, is_some, if◌then◌else◌, refl, sym, ap, ◌∙◌, arith, Contains, length-append, bytes_eq}
+use Rattle.std.proofs.Common.{◌≡◌, ℕ, zero, suc, ◌+◌, ◌≤◌, Bool, true, false, List, [], ◌∷◌, ◌++◌, length, get_or, slice_get, Option, Some, None, is_some, if◌then◌else◌, refl, sym, ap, ◌∙◌, subst, arith, Contains, length-append, bytes_eq}
 use Rattle.std.proofs.lemmas.Slice.Eq.{bytes_eq-Decides}
-use Rattle.std.proofs.lemmas.List.{get_or_default}
-use Rattle.std.proofs.lemmas.Option.{none-some}
+use Rattle.std.proofs.lemmas.List.{get_or_default, get_or_push}
+use Rattle.std.proofs.lemmas.Option.{none-some, slice_get_within, get_or_from_slice_get}
 use Rattle.plan_model.specs.NameLists.{Adds}
 use Rattle.csv_rows.specs.First.{first_below}
 use Rattle.csv_rows.specs.Tables.{place_in}
@@ -39,6 +39,18 @@ pub add_new-from_adds : (old new : List (List ℕ)) (name : List ℕ) (added : B
 unfolding add_new
 add_new-from_adds old new name true h = h.0 ∙ ap (λ o. add_if (is_some o) old name) (sym (absent_place old name h.1))
 add_new-from_adds old new name false h = h.0 ∙ ap (λ b. add_if b old name) (sym (there_place old name h.1))
+
+-- a name that was added is there
+pub adds_there : (old new : List (List ℕ)) (name : List ℕ) (added : Bool) → Adds old new name added → Contains new name
+adds_there old new name true h =
+    let P : List (List ℕ) → Type 0 = λ names. Contains names name in
+    subst P (sym h.0) (length old, omega (arith, length-append old (name ∷ [])), get_or_push old name name (length old) refl)
+adds_there old new name false h = let P : List (List ℕ) → Type 0 = λ names. Contains names name in subst P (sym h.0) h.1
+
+-- a name that has a number is there already
+pub add_new_there : (names : List (List ℕ)) (name : List ℕ) (k : ℕ) → slice_get names k ≡ Some name → names ≡ add_new names name
+add_new_there names name k h =
+    add_new-from_adds names names name false (refl, (k, slice_get_within names k name h, get_or_from_slice_get names k name name h))
 
 length_if : (b : Bool) (names : List (List ℕ)) (name : List ℕ) → length (add_if b names name) ≤ length names + 1
 length_if true names name = omega arith

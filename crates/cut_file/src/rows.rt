@@ -1,5 +1,5 @@
 //! The rows of a cut file by the numbers of their names.
-ghost use Rattle.std.specs.Prelude.{◌≡◌, ◌≢◌, ℕ, ◌+◌, ◌-◌, ◌<◌, ◌≤◌, ◌^◌, length, slice_index_or, Some, None, Ok, Err, OnOk, IfOk, IfErr};
+ghost use Rattle.std.specs.Prelude.{◌≡◌, ◌≢◌, ℕ, ◌+◌, ◌-◌, ◌<◌, ◌≤◌, ◌^◌, length, slice_index_or, Some, None, Ok, Err, OnOk, IfOk, IfErr, IfSome};
 ghost use Rattle.csv_rows.specs.declared.columns.Column.TheVariants.{Class, Run, Step, From, To, Dep, Arr, Board, Exit, Change};
 ghost use Rattle.csv_rows.specs.First.{first_below};
 ghost use Rattle.csv_rows.specs.Tables.{row_count, field};
@@ -10,7 +10,7 @@ ghost use Rattle.cut_file.specs.Cut.{add_new, run_names, place_names, IsNumbered
 
 use crate::faults::CutFault;
 use crate::lines::{Fields, NamedRow, read_fields};
-use crate::numbers::{place_number, run_number};
+use crate::numbers::{place_after, place_number, run_number};
 use csv_rows::{Column, Rows};
 use plan_model::{Names, NoMemory};
 use std::alloc::Global;
@@ -124,10 +124,37 @@ fn read_row<'a>(rows: &'a Rows, row: usize, columns: &Columns) -> Result<NamedRo
     }
 }
 
-/// The row with numbers for its names.
-fn numbered(names: &mut Names, row: &NamedRow<'_>) -> Result<CutRow, NoMemory>
+/// The run of the row before, if there is one.
+fn run_of(before: Option<CutRow>) -> Option<u32>
+    ensures { (runs : ℕ) → IfSome before (λ b. b.run < runs) → IfSome result (λ k. k < runs) }
+{
+    match before {
+        None => None,
+        Some(before) => Some(before.run),
+    }
+}
+
+/// Where the row before ends, if there is one.
+fn end_of(before: Option<CutRow>) -> Option<u32>
+    ensures { (places : ℕ) → IfSome before (λ b. b.to < places) → IfSome result (λ k. k < places) }
+{
+    match before {
+        None => None,
+        Some(before) => Some(before.to),
+    }
+}
+
+/// The row with numbers for its names. Mostly it is of the run of the row before, and from where that ends to the place that
+/// was numbered next.
+fn numbered(
+    names: &mut Names,
+    row: &NamedRow<'_>,
+    before: Option<CutRow>,
+) -> Result<CutRow, NoMemory>
     requires runs { length names.old.runs < 2 ^ 32 - 1 }
     requires places { length names.old.places < 2 ^ 32 - 2 }
+    requires run_before { IfSome before (λ b. b.run < length names.old.runs) }
+    requires end_before { IfSome before (λ b. b.to < length names.old.places) }
     ensures runs { OnOk result (names.new.runs ≡ add_new names.old.runs row.now.run.now) }
     ensures places { OnOk result (names.new.places
         ≡ add_new (add_new names.old.places row.now.from.now) row.now.to.now) }
@@ -145,9 +172,10 @@ fn numbered(names: &mut Names, row: &NamedRow<'_>) -> Result<CutRow, NoMemory>
           change = row.now.change;
         }) c) }
 {
-    let run = run_number(names, row.run)?;
-    let from = place_number(names, row.from)?;
-    let to = place_number(names, row.to)?;
+    let run = run_number(names, row.run, run_of(before))?;
+    let from = place_number(names, row.from, end_of(before))?;
+    let next = place_after(names, from);
+    let to = place_number(names, row.to, next)?;
     Ok(CutRow {
         run,
         step: row.step,
@@ -181,14 +209,15 @@ pub(crate) fn read_rows(
 {
     let mut names = Names::with_key(alloc, rows.key());
     let mut cut: Vec<CutRow> = Vec::new(alloc);
+    let mut before: Option<CutRow> = None;
     for i in 0..rows.count() {
         match read_row(rows, i, columns) {
             Err(column) => return Err(CutFault::BadField(rows.line(i), column)),
-            Ok(row) => match numbered(&mut names, &row) {
+            Ok(row) => match numbered(&mut names, &row, before) {
                 Err(_) => return Err(CutFault::NoMemory),
                 Ok(row) => match cut.push(row) {
                     Err(_) => return Err(CutFault::NoMemory),
-                    Ok(()) => {}
+                    Ok(()) => before = Some(row),
                 },
             },
         }

@@ -1,4 +1,5 @@
 use Rattle.std.proofs.Common.{◌∷◌, [], ◌∙◌, sym, ap, arith, length, Some, None, length-append}
+use Rattle.std.proofs.lemmas.Option.{slice_get_within}
 use Rattle.csv_rows.specs.Tables.{row_count}
 use Rattle.csv_rows.proofs.FirstLemmas.{first-zero, first-next, first-at}
 use Rattle.cut_file.specs.declared.faults.CutFault.TheVariants.{BadField}
@@ -20,6 +21,8 @@ loop-i-init c =
       places = c.with_key-names.ensures.places ∙ sym (place_names-zero t);
       few_runs = omega (arith, ap length c.with_key-names.ensures.runs);
       few_places = omega (arith, ap length c.with_key-names.ensures.places);
+      run_before = tt;
+      end_before = tt;
     }
 
 pub returns-in-Err-clause-err : goal.returns-in-Err-clause-err
@@ -49,4 +52,6 @@ loop-i-preserved c =
       places = place_names-next t i r old.places new.places h c.loop-i.invariant.places n.places;
       few_runs = omega (arith, ap length n.runs, length_add old.runs r.run, c.loop-i.invariant.few_runs);
       few_places = omega (arith, ap length n.places, length_add (add_new old.places r.from) r.to, length_add old.places r.from, c.loop-i.invariant.few_places);
+      run_before = slice_get_within new.runs row.run r.run n.row.run;
+      end_before = slice_get_within new.places row.to r.to n.row.to;
     }

@@ -1,4 +1,5 @@
 use Rattle.std.proofs.Common.{◌≡◌, ℕ, ◌<◌, ◌≤◌, ◌*◌, length, None, slice_index_or}
+use Rattle.std.specs.Prelude.{IfSome}
 use Rattle.csv_rows.specs.First.{first_below}
 use Rattle.cut_file.specs.declared.rows.CutRow.{CutRow}
 use Rattle.cut_file.specs.Faults.{bad_field, row}
@@ -14,4 +15,6 @@ invariant-loop-i l = record {
   places : l.names.places ≡ place_names l.rows l.i;
   few_runs : length l.names.runs ≤ l.i;
   few_places : length l.names.places ≤ 2 * l.i;
+  run_before : IfSome l.before (λ b. b.run < length l.names.runs);
+  end_before : IfSome l.before (λ b. b.to < length l.names.places);
 }
