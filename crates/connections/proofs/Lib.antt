@@ -12,11 +12,6 @@ pub mod NameLemmas
 pub mod RunLemmas
 pub mod ConnectionLemmas
 pub mod ChangeLemmas
-pub mod StartLemmas
-pub mod ScanLemmas
-pub mod StretchLemmas
-pub mod TournamentLemmas
-pub mod SkipLemmas
 pub mod ReachLemmas
 pub mod RepeatLemmas
 pub mod LeavingLemmas

@@ -9,4 +9,3 @@ pub mod Counts
 pub mod Networks
 pub mod Faults
 pub mod Cut
-pub mod Merged

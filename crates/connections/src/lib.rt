@@ -1,10 +1,8 @@
-//! The connections of a feed in a window of time (GTFS Schedule reference), as a network, and the scan order of a network,
-//! merged from its runs.
+//! The connections of a feed in a window of time (GTFS Schedule reference), as a network.
 #![tactic(auto)]
 
 mod counts;
 mod cuts;
-mod merged;
 mod names;
 mod origins;
 mod repeats;
@@ -15,4 +13,3 @@ mod tests;
 mod window;
 
 pub use cuts::{WindowFault, cut};
-pub use merged::MergedRuns;

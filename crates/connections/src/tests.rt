@@ -8,6 +8,7 @@ use csv_rows::{Limits, Rows};
 use delay_table::DelayTable;
 use file_ports::SteadyFiles;
 use gtfs_tables::Feed;
+use merged_runs::MergedRuns;
 use plan_model::{
     BackwardOrder, ConnectionId, Moment, Names, Network, NoMemory, PlaceId, RunId, SortedOrder,
 };

@@ -20,7 +20,6 @@ use crate::answers::{Asked, asked_of};
 use crate::report::Report;
 use crate::texts::row;
 use clock_text::write_moment;
-use connections::MergedRuns;
 use decision_graph::{ScoredPlan, plan_by};
 use fault_lines::Fault;
 use graph_score::{ScoreFault, fit_is_scored, score};
@@ -30,6 +29,7 @@ use journey_problem::Problem;
 use late_chance::{
     LateChance, punctual_by_shift, shifted, shifted_is_view, sooner, unshifted, write_chance,
 };
+use merged_runs::MergedRuns;
 use plan_graph::PlanGraph;
 use plan_model::{BackwardOrder, Moment, NoMemory, Query};
 use std::alloc::Global;

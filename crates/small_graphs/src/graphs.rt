@@ -6,12 +6,12 @@ ghost use Rattle.decision_graph.specs.Expanded.{HasSteadyChoice};
 ghost use Rattle.value_laws.specs.Means.{mean_below, mean_covers, mean_gap};
 ghost use Rattle.meat_scan.specs.Solves.{Solves};
 
-use connections::MergedRuns;
 use decision_graph::{expand, plan};
 use graph_compact::compact;
 use graph_prune::{prune, steady_is_coherent};
 use leg_extract::extract;
 use meat_scan::{ScanTables, Scanned, scan};
+use merged_runs::MergedRuns;
 use plan_graph::{ExpandedGraph, GraphRow};
 use plan_model::{Network, Query, SortedOrder};
 use small_networks::{

@@ -1,0 +1,5 @@
+pub mod ScanLemmas
+pub mod StretchLemmas
+pub mod StartLemmas
+pub mod TournamentLemmas
+pub mod SkipLemmas

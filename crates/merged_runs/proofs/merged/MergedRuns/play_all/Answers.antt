@@ -1,0 +1,11 @@
+use Rattle.std.proofs.Common.{◌≡◌, ◌≤◌, length, arith}
+use Rattle.merged_runs.proofs.TournamentLemmas.{IsPlayedFrom-runs}
+use Rattle.merged_runs.proofs.merged.MergedRuns.play_all.Goals as goal
+
+pub loop-node-init : goal.loop-node-init
+loop-node-init c =
+    let s = c.args.self.now in
+    let inv = c.loop-run.invariant in
+    let all : c.len-runs.result ≡ length s.left.items = omega (arith, c.len-runs.ensures, s.left.ok.0) in
+    let done : length s.left.items ≤ c.loop-run.run = omega (arith, all, c.loop-run-test.false) in
+    record { starts = inv.starts; left = inv.left; played = rw all (IsPlayedFrom-runs c.args.network.now s.starts.items s.left.items c.loop-run.self.keys.items c.loop-run.run done inv.read) }

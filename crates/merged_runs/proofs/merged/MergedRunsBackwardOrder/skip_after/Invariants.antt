@@ -1,0 +1,10 @@
+use Rattle.std.proofs.Common.{◌≡◌}
+use Rattle.merged_runs.proofs.SkipLemmas.{AreLowered}
+use Rattle.merged_runs.proofs.merged.MergedRunsBackwardOrder.skip_after.Given as goal
+
+abbrev pub invariant-loop-run : goal.invariant-loop-run
+invariant-loop-run l = record {
+  starts : l.self.starts.items ≡ l.initial.self.starts.items;
+  keys : l.self.keys.items ≡ l.initial.self.keys.items;
+  lowered : AreLowered l.network l.last.0 l.initial.self.starts.items l.initial.self.left.items l.run l.self.left.items;
+}

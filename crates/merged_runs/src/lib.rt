@@ -1,0 +1,6 @@
+//! The scan order of a network backwards, merged from its runs.
+#![tactic(auto)]
+
+mod merged;
+
+pub use merged::MergedRuns;

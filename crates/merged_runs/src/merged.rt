@@ -1,0 +1,189 @@
+//! The scan order of a network, merged from its runs.
+ghost use Rattle.std.specs.Prelude.{◌≡◌, ℕ, ◌+◌, ◌-◌, ◌*◌, ◌<◌, ◌≤◌, length, slice_index, slice_set, IfOk, MatchBool};
+ghost use Rattle.plan_model.specs.Bounds.{most_connections};
+ghost use Rattle.plan_model.specs.Order.{IsScanOrder};
+ghost use Rattle.merged_runs.specs.Merged.{AreStarts, AreStretches, IsWinner, IsTournament, IsMerge, DepartsInOrder, IsParted, key_of, rest_of};
+ghost use Rattle.plan_model.specs.Network.{count};
+
+use plan_model::{BackwardOrder, ConnectionId, Moment, Network, NoMemory};
+use std::alloc::Global;
+
+/// As many connections as a network may have.
+const MOST_CONNECTIONS: u64 = 8_388_608;
+
+/// The scan order backwards, by a tournament over the runs: each run shows the key of the last of its connections that was
+/// not given yet, and the greatest key wins. A step plays the rounds above one run again, and takes no memory.
+#[derive(Drop)]
+pub struct MergedRuns {
+    /// Where the connections of each run begin, and after the last run their count.
+    starts: Vec<u32>,
+    /// Up to where the connections of each run are not given yet.
+    left: Vec<u32>,
+    /// The greatest key below each node, and 0 where nothing is left. A key rises with the departure of a connection, and at
+    /// equal departures with its number. Node 1 is the final, node k is between the nodes 2 k and 2 k + 1, and from the count
+    /// of runs on the nodes are the runs themselves.
+    keys: Vec<u64>,
+}
+
+/// Where the connections of each run begin, and after the last run their count.
+fn starts_of(alloc: Global, network: &Network) -> Result<Vec<u32>, NoMemory>
+    ensures { IfOk result (λ starts. AreStarts network.now starts.items) }
+{
+    let mut starts: Vec<u32> = Vec::new(alloc);
+    for i in 0..network.count() {
+        if network.get(ConnectionId(i)).run.0 as usize == starts.len() {
+            starts.push(i)?;
+        }
+    }
+    starts.push(network.count())?;
+    Ok(starts)
+}
+
+/// A tournament of so many runs that was not played yet.
+fn unplayed(alloc: Global, runs: u32) -> Result<Vec<u64>, NoMemory>
+    requires { runs ≤ most_connections }
+    ensures { IfOk result (λ keys. length keys.items ≡ 2 * runs) }
+{
+    let keys: Vec<u64> = vec![in alloc; 0; 2 * runs as usize]?;
+    Ok(keys)
+}
+
+/// Up to where connections of one run depart by a moment. Mostly all do, and then the last one tells.
+fn end_by(network: &Network, from: u32, to: u32, last: Moment) -> u32
+    requires ordered { from ≤ to }
+    requires within { to ≤ count network.now }
+    requires rising { DepartsInOrder network.now from to }
+    ensures { IsParted network.now last.0 from result result to }
+{
+    if from == to || network.get(ConnectionId(to - 1)).dep.0 <= last.0 {
+        return to;
+    }
+    let mut low = from;
+    let mut high = to;
+    while low < high {
+        let middle = low + (high - low) / 2;
+        let dep = network.get(ConnectionId(middle)).dep;
+        if dep.0 <= last.0 {
+            low = middle + 1;
+        } else {
+            high = middle;
+        }
+    }
+    low
+}
+
+impl MergedRuns {
+    /// The whole scan order of this network.
+    pub fn new(alloc: Global, network: &Network) -> Result<MergedRuns, NoMemory>
+        ensures fits { IfOk result (λ order. ⟦<MergedRuns as BackwardOrder>⟧.fits order network.now) }
+        ensures rest { IfOk result (λ order. IsScanOrder network.now (⟦<MergedRuns as BackwardOrder>⟧.rest order network.now)) }
+    {
+        let starts = starts_of(alloc, network)?;
+        let left = Vec::from_slice(alloc, &starts[1..])?;
+        let keys = unplayed(alloc, left.len() as u32)?;
+        let mut order = MergedRuns { starts, left, keys };
+        order.play_all(network);
+        Ok(order)
+    }
+
+    /// The key of the last connection that is left of a run, and 0 where none is left.
+    fn key(&self, network: &Network, run: usize) -> u64
+        requires stretches { AreStretches network.now self.now.starts.items self.now.left.items }
+        requires run { run < length self.now.left.items }
+        ensures { result ≡ key_of network.now self.now.starts.items self.now.left.items run }
+    {
+        let end = self.left[run];
+        if end == self.starts[run] {
+            return 0;
+        }
+        let dep = network.get(ConnectionId(end - 1)).dep;
+        dep.0 * MOST_CONNECTIONS + u64::from(end)
+    }
+
+    /// The greatest key below a node, by those of the two nodes below it.
+    fn winner(&self, network: &Network, node: usize) -> u64
+        requires size { length self.now.keys.items ≡ 2 * length self.now.left.items }
+        requires low { 0 < node }
+        requires high { node < length self.now.left.items }
+        requires first { IsWinner network.now self.now.starts.items self.now.left.items (2 * node)
+            (slice_index self.now.keys.items (2 * node)) }
+        requires second { IsWinner network.now self.now.starts.items self.now.left.items (2 * node + 1)
+            (slice_index self.now.keys.items (2 * node + 1)) }
+        ensures { IsWinner network.now self.now.starts.items self.now.left.items node result }
+    {
+        let _ = network;
+        let first = self.keys[2 * node];
+        let second = self.keys[2 * node + 1];
+        if first < second { second } else { first }
+    }
+
+    /// Plays all nodes, the final at last.
+    fn play_all(&mut self, network: &Network)
+        requires stretches { AreStretches network.now self.old.starts.items self.old.left.items }
+        requires size { length self.old.keys.items ≡ 2 * length self.old.left.items }
+        ensures tournament { IsTournament network.now self.new.starts.items self.new.left.items self.new.keys.items }
+        ensures starts { self.new.starts.items ≡ self.old.starts.items }
+        ensures left { self.new.left.items ≡ self.old.left.items }
+    {
+        let runs = self.left.len();
+        for run in 0..runs {
+            self.keys[runs + run] = self.key(network, run);
+        }
+        for node in (1..runs).rev() {
+            self.keys[node] = self.winner(network, node);
+        }
+    }
+
+    /// Takes the last connection that is left of a run, and plays the nodes above it again.
+    fn give(&mut self, network: &Network, run: usize)
+        requires merge { IsMerge network.now self.old.starts.items self.old.left.items self.old.keys.items }
+        requires run { run < length self.old.left.items }
+        requires some { slice_index self.old.starts.items run < slice_index self.old.left.items run }
+        ensures merge { IsMerge network.now self.new.starts.items self.new.left.items self.new.keys.items }
+        ensures left { self.new.left.items
+            ≡ slice_set self.old.left.items run (slice_index self.old.left.items run - 1) }
+    {
+        self.left[run] -= 1;
+        let mut node = self.left.len() + run;
+        self.keys[node] = self.key(network, run);
+        while node > 1 {
+            node /= 2;
+            self.keys[node] = self.winner(network, node);
+        }
+    }
+}
+
+impl BackwardOrder for MergedRuns {
+    ghost use Rattle.merged_runs.specs.Merged.{IsMerge, rest_of};
+
+    ghost fits = { λ order n. IsMerge n order.starts.items order.left.items order.keys.items };
+
+    ghost rest = { λ order n. rest_of n order.left.items };
+
+    fn rewind(&mut self, network: &Network) {
+        self.left.copy_from_slice(&self.starts[1..]);
+        self.play_all(network);
+    }
+
+    fn next(&mut self, network: &Network) -> Option<ConnectionId> {
+        if self.left.is_empty() {
+            return None;
+        }
+        let key = self.keys[1];
+        if key == 0 {
+            return None;
+        }
+        let last = ConnectionId(((key - 1) % MOST_CONNECTIONS) as u32);
+        let run = network.get(last).run.0 as usize;
+        self.give(network, run);
+        Some(last)
+    }
+
+    fn skip_after(&mut self, network: &Network, last: Moment) {
+        for run in 0..self.left.len() {
+            let end = end_by(network, self.starts[run], self.left[run], last);
+            self.left[run] = end;
+        }
+        self.play_all(network);
+    }
+}
