@@ -1,0 +1,88 @@
+-- The rows of a trip.
+use Rattle.std.proofs.Common.{◌≡◌, ℕ, ◌+◌, ◌<◌, ◌≤◌, List, [], ◌∷◌, ◌++◌, length, drop, Bool, true, false, arith, refl, sym, ap, ◌∙◌, slice_index_or}
+use Rattle.std.specs.Prelude.{All, codes, decimal, ◌==◌, ◌||◌}
+use Rattle.std.specs.List.{list_any}
+use Rattle.std.proofs.lemmas.Bool.Decides.{nat_tests}
+use Rattle.std.proofs.lemmas.List.{append-nil, at_drop_all}
+use Rattle.std.proofs.lemmas.List.Elements.{All-head, All-tail}
+use Rattle.clock_text.specs.Civil.{moment_text}
+use Rattle.plan_model.specs.declared.model.Connection.{Connection}
+use Rattle.plan_model.specs.declared.model.Outcome.{Outcome}
+use Rattle.plan_model.specs.Parts.{Parts}
+use Rattle.plan_model.specs.NameLists.{NameLists}
+use Rattle.plan_model.specs.Network.{connection, IsValid}
+use Rattle.plan_model.specs.Unfold.{outcomes_of}
+use Rattle.printed_rows.specs.Writers.{place_name, run_name}
+use Rattle.graph_text.proofs.Fields.{eight}
+use Rattle.printed_rows.proofs.Lines.{split_at, text_step}
+use Rattle.trip_replay.specs.declared.Ridden.{Ridden}
+use Rattle.trip_replay.specs.Rides.{IsRide, arrival_after, place_after}
+use Rattle.plan_model.specs.declared.model.Moment.{Moment}
+use Rattle.journey_report.specs.Texts.{ride_text, rides_text, arrived_text}
+use Rattle.fault_lines.specs.Sites.{last_printable}
+
+delay_at : (o : Outcome) (row : List Outcome) (d : ℕ) (b : Bool) → (o.delay == d) ≡ b → o.delay ≤ 86400 → (list_any (λ x. x.delay == d) row ≡ true → d ≤ 86400)
+    → (b || list_any (λ x. x.delay == d) row) ≡ true → d ≤ 86400
+delay_at o row d true same few rest any = grind (arith, nat_tests)
+delay_at o row d false same few rest any = rest any
+
+-- a delay of a valid row is at most a day
+delay_few : (row : List Outcome) (d : ℕ) → All (λ o. o.delay ≤ 86400) row → list_any (λ o. o.delay == d) row ≡ true → d ≤ 86400
+delay_few [] d all any = absurd (cc)
+delay_few (o ∷ row) d all any =
+    delay_at o row d (o.delay == d) refl (All-head (λ (x : Outcome). x.delay ≤ 86400) o row all) (delay_few row d (All-tail (λ (x : Outcome). x.delay ≤ 86400) o row all)) any
+
+module _ (n : Parts) (valid : IsValid n) where
+  -- the arrival of a ride has a text
+  pub ride_arrival : (r : Ridden) → IsRide n r → r.arrival.0 ≤ last_printable
+  ride_arrival r is =
+      let c = valid.connections r.leg.exit.0 is.is_leg.exit in
+      let row = valid.rows (connection n r.leg.exit.0).class.0 c.class_in in
+      let few = delay_few (outcomes_of n r.leg) r.delay row.delays is.is_delay in
+      omega (arith, is.late, c.early, few)
+
+  pub arrivals : (start : ℕ) (rides : List Ridden) → start ≤ last_printable → All (IsRide n) rides → arrival_after start rides ≤ last_printable
+  arrivals start [] early all = early
+  arrivals start (r ∷ rides) early all = arrivals r.arrival.0 rides (ride_arrival r (All-head (IsRide n) r rides all)) (All-tail (IsRide n) r rides all)
+
+  pub places : (source : ℕ) (rides : List Ridden) → source < length n.change → All (IsRide n) rides → place_after n source rides < length n.change
+  places source [] inside all = inside
+  places source (r ∷ rides) inside all =
+      let is = All-head (IsRide n) r rides all in
+      places (connection n r.leg.exit.0).to.0 rides (valid.connections r.leg.exit.0 is.is_leg.exit).to_in (All-tail (IsRide n) r rides all)
+
+-- the fields of a ride, from its connections
+pub ride_fields : (n : Parts) (names : NameLists) (r : Ridden) (enter exit : Connection) (kind run from dep to arr delay arrival : List ℕ)
+    → enter ≡ connection n r.leg.enter.0 → exit ≡ connection n r.leg.exit.0
+    → kind ≡ codes "ride" → run ≡ run_name names enter.run.0 → from ≡ place_name names enter.from.0 → dep ≡ moment_text enter.dep.0
+    → to ≡ place_name names exit.to.0 → arr ≡ moment_text exit.arr.0 → delay ≡ decimal r.delay → arrival ≡ moment_text r.arrival.0
+    → ◌≡◌ {A = List (List ℕ)} (kind ∷ run ∷ from ∷ dep ∷ to ∷ arr ∷ delay ∷ arrival ∷ [])
+    (codes "ride" ∷ run_name names (connection n r.leg.enter.0).run.0 ∷ place_name names (connection n r.leg.enter.0).from.0 ∷ moment_text (connection n r.leg.enter.0).dep.0
+    ∷ place_name names (connection n r.leg.exit.0).to.0 ∷ moment_text (connection n r.leg.exit.0).arr.0 ∷ decimal r.delay ∷ moment_text r.arrival.0 ∷ [])
+ride_fields n names r enter exit kind run from dep to arr delay arrival at_enter at_exit a b c d e f g h =
+    eight kind run from dep to arr delay arrival _ _ _ _ _ _ _ _ a
+    (b ∙ ap (λ (k : Connection). run_name names k.run.0) at_enter)
+    (c ∙ ap (λ (k : Connection). place_name names k.from.0) at_enter)
+    (d ∙ ap (λ (k : Connection). moment_text k.dep.0) at_enter)
+    (e ∙ ap (λ (k : Connection). place_name names k.to.0) at_exit)
+    (f ∙ ap (λ (k : Connection). moment_text k.arr.0) at_exit)
+    g h
+
+pub six : (a b c d e f a' b' c' d' e' f' : List ℕ) → a ≡ a' → b ≡ b' → c ≡ c' → d ≡ d' → e ≡ e' → f ≡ f' → ◌≡◌ {A = List (List ℕ)} (a ∷ b ∷ c ∷ d ∷ e ∷ f ∷ []) (a' ∷ b' ∷ c' ∷ d' ∷ e' ∷ f' ∷ [])
+six a b c d e f a' b' c' d' e' f' = λ one two three four five last. cc
+
+-- after one ride more
+pub rides_step : (n : Parts) (names : NameLists) (rides : List Ridden) (i : ℕ) (d : Ridden) (new old all : List ℕ) → i < length rides
+    → new ≡ old ++ ride_text n names (slice_index_or rides i d) → old ++ rides_text n names (drop i rides) ≡ all → new ++ rides_text n names (drop (i + 1) rides) ≡ all
+rides_step n names rides i d new old all within is before =
+    text_step new old (ride_text n names (slice_index_or rides i d)) (rides_text n names (drop (i + 1) rides)) all is
+    (sym (ap (λ (list : List Ridden). old ++ rides_text n names list) (split_at rides i d within)) ∙ before)
+
+-- the rides, and then the arrival
+pub trace_end : (n : Parts) (names : NameLists) (rides : List Ridden) (i : ℕ) (old row new target target' : List ℕ) (arrival : Moment) → length rides ≤ i
+    → old ++ rides_text n names (drop i rides) ≡ rides_text n names rides → new ≡ old ++ row → row ≡ arrived_text target arrival → target ≡ target'
+    → new ≡ rides_text n names rides ++ arrived_text target' arrival
+trace_end n names rides i old row new target target' arrival all before is row_is same =
+    let whole : old ≡ rides_text n names rides = sym (append-nil old) ∙ (sym (ap (λ (rest : List ℕ). old ++ rest)
+    (at_drop_all (λ (rest : List Ridden). rides_text n names rest) rides i all)) ∙ before) in
+    is ∙ (ap (λ (text : List ℕ). text ++ row) whole ∙ ap (λ (end : List ℕ). rides_text n names rides ++ end) (row_is ∙ ap (λ (name : List ℕ). arrived_text name arrival) same))

@@ -1,0 +1,6 @@
+pub mod Moments
+pub mod Known
+pub mod Wants
+pub mod Findings
+pub mod Texts
+pub mod DepartureTexts

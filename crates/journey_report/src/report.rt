@@ -1,0 +1,92 @@
+//! What a run came to.
+ghost use Rattle.std.specs.Prelude.{◌≡◌, Some, None};
+ghost use Rattle.fault_lines.specs.Faults.{status_of};
+ghost use Rattle.journey_report.specs.Findings.{findings_of, no_findings};
+
+use departure_table::DepartureRow;
+use fault_lines::Fault;
+use interval_fixed::Span;
+use late_chance::LateChance;
+use lower_proof::LowerBounds;
+use plan_graph::{ExpandedGraph, PlanGraph};
+use plan_model::{List, Moment, Query};
+use trip_replay::Trace;
+
+/// The number that the process ends with.
+#[derive(Clone, Copy, Debug, PartialEq, Eq)]
+pub struct Status(pub u8);
+
+/// What a run came to. At status 0 and at status 8 the fields of the command are there, and else
+/// the fault alone.
+#[derive(Drop)]
+pub struct Report {
+    /// The number that the process ends with.
+    pub status: Status,
+    /// The journey and its deadline.
+    pub query: Option<Query>,
+    /// The least worst arrival.
+    pub worst: Option<Moment>,
+    /// The decision graph ride by ride, of `expand`.
+    pub expanded: Option<ExpandedGraph>,
+    /// The decision graph with one table for each place: of `plan` and of `sample` the one that was
+    /// found, and of `replay` the one that was followed.
+    pub graph: Option<PlanGraph>,
+    /// Bounds on the expected arrival of the graph and on the least of all safe strategies, in
+    /// nanoseconds.
+    pub bounds: Option<Span>,
+    /// The trip by the graph, of `replay`.
+    pub trace: Option<Trace>,
+    /// How many connections the window has, of `sample`.
+    pub connections: Option<u32>,
+    /// The certificate: of `certify` the one that was made, and of `check` the one that holds.
+    pub proof: Option<LowerBounds>,
+    /// The certificate's least value at the start, in nanoseconds, of `check`.
+    pub least: Option<u64>,
+    /// Bounds on the chance of an arrival after the promised moment, of `punctual`.
+    pub chance: Option<LateChance>,
+    /// The departures up to a last moment, of `departures`.
+    pub departures: Option<List<DepartureRow>>,
+    /// The latest moment at which one can leave, of `latest`.
+    pub latest: Option<Moment>,
+    /// Why there is no answer, or why it was not written.
+    pub fault: Option<Fault>,
+}
+
+impl Report {
+    /// A report of nothing, at status 0.
+    pub fn empty() -> Report
+        ensures findings { findings_of result ≡ no_findings }
+        ensures status { result.status.0 ≡ 0 }
+        ensures fault { result.fault ≡ None }
+    {
+        Report {
+            status: Status(0),
+            query: None,
+            worst: None,
+            expanded: None,
+            graph: None,
+            bounds: None,
+            trace: None,
+            connections: None,
+            proof: None,
+            least: None,
+            chance: None,
+            departures: None,
+            latest: None,
+            fault: None,
+        }
+    }
+
+    /// A report of a fault alone.
+    pub fn bare(fault: Fault) -> Report
+        ensures findings { findings_of result ≡ no_findings }
+        ensures status { result.status.0 ≡ status_of result.fault }
+        ensures fault { result.fault ≡ Some fault }
+    {
+        Report {
+            status: Status(fault.status()),
+            fault: Some(fault),
+            ..Report::empty()
+        }
+    }
+}

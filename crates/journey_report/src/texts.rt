@@ -1,0 +1,266 @@
+//! The printed texts of the answers that are no graphs.
+ghost use Rattle.std.specs.Prelude.{◌≡◌, ◌≤◌, ◌<◌, ◌++◌, [], ◌∷◌, map, length, sum_by, All, IfOk};
+ghost use Rattle.csv.specs.Writing.{default_writer, row_text};
+ghost use Rattle.plan_model.specs.NameLists.{NamesFit};
+ghost use Rattle.trip_replay.specs.Rides.{IsRide};
+ghost use Rattle.journey_report.specs.Texts.{safe_text, ride_text, rides_text, arrived_text, trace_text, leg_count, sample_text, least_text, holds_text, encloses_text, punctual_row};
+ghost use Rattle.fault_lines.specs.Sites.{last_printable};
+
+use clock_text::{write_moment, write_nanos};
+use csv::WriterBuilder;
+use interval_fixed::Span;
+use late_chance::{LateChance, write_chance};
+use plan_graph::PlanGraph;
+use plan_model::{Moment, Names, Network, NoMemory, PlaceId, Query};
+use std::alloc::Global;
+use trip_replay::{Ridden, Trace};
+
+/// A row of fields, quoted where they need it, with its line end.
+pub(crate) fn row(alloc: Global, fields: &[&[u8]]) -> Result<Vec<u8>, NoMemory>
+    ensures { IfOk result (λ text.
+        text.items ≡ row_text default_writer (map (λ field. field.now) fields.now)) }
+{
+    let mut writer = WriterBuilder::new().from_writer(Vec::new(alloc));
+    if writer.write_fields(fields).is_err() {
+        return Err(NoMemory);
+    }
+    match writer.into_inner() {
+        Ok(text) => Ok(text),
+        Err(_) => Err(NoMemory),
+    }
+}
+
+/// The text of the least worst arrival and the deadline.
+pub fn safe_text(
+    alloc: Global,
+    source: &str,
+    target: &str,
+    query: &Query,
+    worst: Moment,
+) -> Result<Vec<u8>, NoMemory>
+    requires start { query.now.start.0 ≤ last_printable }
+    requires worst { worst.0 ≤ last_printable }
+    requires deadline { query.now.deadline.0 ≤ last_printable }
+    ensures { IfOk result (λ text. text.items ≡ safe_text source.now target.now query.now worst) }
+{
+    let start = write_moment(query.start);
+    let worst = write_moment(worst);
+    let deadline = write_moment(query.deadline);
+    row(
+        alloc,
+        &[
+            b"safe".as_slice(),
+            source.as_bytes(),
+            target.as_bytes(),
+            start.as_slice(),
+            worst.as_slice(),
+            deadline.as_slice(),
+        ],
+    )
+}
+
+/// The row of a ride.
+fn ride_text(
+    alloc: Global,
+    network: &Network,
+    names: &Names,
+    ride: &Ridden,
+) -> Result<Vec<u8>, NoMemory>
+    requires fit { NamesFit names.now network.now }
+    requires ride { IsRide network.now ride.now }
+    ensures { IfOk result (λ text. text.items ≡ ride_text network.now names.now ride.now) }
+{
+    let _count = network.count();
+    let enter = network.get(ride.leg.enter);
+    let exit = network.get(ride.leg.exit);
+    let dep = write_moment(enter.dep);
+    let arr = write_moment(exit.arr);
+    let arrival = write_moment(ride.arrival);
+    let delay = format!(in alloc; "{}", ride.delay)?;
+    row(
+        alloc,
+        &[
+            b"ride".as_slice(),
+            names.run_name(enter.run).as_bytes(),
+            names.place_name(enter.from).as_bytes(),
+            dep.as_slice(),
+            names.place_name(exit.to).as_bytes(),
+            arr.as_slice(),
+            delay.as_bytes(),
+            arrival.as_slice(),
+        ],
+    )
+}
+
+/// The row of an arrival at the target.
+fn arrived_text(alloc: Global, target: &str, arrival: Moment) -> Result<Vec<u8>, NoMemory>
+    requires { arrival.0 ≤ last_printable }
+    ensures { IfOk result (λ text. text.items ≡ arrived_text target.now arrival) }
+{
+    let moment = write_moment(arrival);
+    row(
+        alloc,
+        &[b"arrived".as_slice(), target.as_bytes(), moment.as_slice()],
+    )
+}
+
+/// The text of a trip: a row for each ride, and then the arrival at the target.
+pub fn trace_text(
+    alloc: Global,
+    network: &Network,
+    names: &Names,
+    target: PlaceId,
+    trace: &Trace,
+) -> Result<Vec<u8>, NoMemory>
+    requires fit { NamesFit names.now network.now }
+    requires target { target.0 < length network.now.change }
+    requires rides { All (IsRide network.now) trace.now.rides }
+    requires arrival { trace.now.arrival.0 ≤ last_printable }
+    ensures { IfOk result (λ text.
+        text.items ≡ trace_text network.now names.now target.0 trace.now) }
+{
+    let mut text: Vec<u8> = Vec::new(alloc);
+    for ride in trace.rides.as_slice() {
+        let row = ride_text(alloc, network, names, ride)?;
+        text.extend_from_slice(row.as_slice())?;
+    }
+    let row = arrived_text(alloc, names.place_name(target), trace.arrival)?;
+    text.extend_from_slice(row.as_slice())?;
+    Ok(text)
+}
+
+/// How many legs a graph has: the start leg and the rows of its tables.
+fn leg_count(graph: &PlanGraph) -> u128
+    ensures { result ≡ leg_count graph.now }
+{
+    let mut legs = if graph.start.is_some() { 1 } else { 0 };
+    for table in graph.tables.as_slice() {
+        legs += table.rows.len() as u128;
+    }
+    legs
+}
+
+/// The text of a made timetable and the graph that was found in it.
+pub fn sample_text(
+    alloc: Global,
+    size: u32,
+    connections: u32,
+    graph: &PlanGraph,
+    bounds: Span,
+) -> Result<Vec<u8>, NoMemory>
+    ensures { IfOk result (λ text.
+        text.items ≡ sample_text size connections (leg_count graph.now) bounds) }
+{
+    let size = format!(in alloc; "{size}")?;
+    let connections = format!(in alloc; "{connections}")?;
+    let legs = leg_count(graph);
+    let legs = format!(in alloc; "{legs}")?;
+    let lower = write_nanos(bounds.lo());
+    let upper = write_nanos(bounds.hi());
+    row(
+        alloc,
+        &[
+            b"sample".as_slice(),
+            size.as_bytes(),
+            connections.as_bytes(),
+            legs.as_bytes(),
+            lower.as_slice(),
+            upper.as_slice(),
+        ],
+    )
+}
+
+/// A least value of a certificate, where it has one.
+fn least_text(alloc: Global, least: Option<u64>) -> Result<Vec<u8>, NoMemory>
+    ensures { IfOk result (λ text. text.items ≡ least_text least) }
+{
+    let mut text: Vec<u8> = Vec::new(alloc);
+    match least {
+        None => text.extend_from_slice(b"none")?,
+        Some(value) => {
+            let nanos = write_nanos(value);
+            text.extend_from_slice(nanos.as_slice())?;
+        }
+    }
+    Ok(text)
+}
+
+/// The text of a certificate that holds, with its least value at the start.
+pub fn holds_text(
+    alloc: Global,
+    source: &str,
+    target: &str,
+    query: &Query,
+    least: Option<u64>,
+) -> Result<Vec<u8>, NoMemory>
+    requires start { query.now.start.0 ≤ last_printable }
+    requires deadline { query.now.deadline.0 ≤ last_printable }
+    ensures { IfOk result (λ text.
+        text.items ≡ holds_text source.now target.now query.now least) }
+{
+    let start = write_moment(query.start);
+    let deadline = write_moment(query.deadline);
+    let least = least_text(alloc, least)?;
+    row(
+        alloc,
+        &[
+            b"holds".as_slice(),
+            source.as_bytes(),
+            target.as_bytes(),
+            start.as_slice(),
+            deadline.as_slice(),
+            least.as_slice(),
+        ],
+    )
+}
+
+/// The text of the bounds of a graph.
+pub fn encloses_text(
+    alloc: Global,
+    source: &str,
+    target: &str,
+    query: &Query,
+    bounds: Span,
+) -> Result<Vec<u8>, NoMemory>
+    requires start { query.now.start.0 ≤ last_printable }
+    requires deadline { query.now.deadline.0 ≤ last_printable }
+    ensures { IfOk result (λ text.
+        text.items ≡ encloses_text source.now target.now query.now bounds) }
+{
+    let start = write_moment(query.start);
+    let deadline = write_moment(query.deadline);
+    let lower = write_nanos(bounds.lo());
+    let upper = write_nanos(bounds.hi());
+    row(
+        alloc,
+        &[
+            b"encloses".as_slice(),
+            source.as_bytes(),
+            target.as_bytes(),
+            start.as_slice(),
+            deadline.as_slice(),
+            lower.as_slice(),
+            upper.as_slice(),
+        ],
+    )
+}
+
+/// The row of a promise and of the chance to arrive after it.
+pub fn punctual_row(alloc: Global, promise: Moment, chance: LateChance) -> Result<Vec<u8>, NoMemory>
+    requires { promise.0 ≤ last_printable }
+    ensures { IfOk result (λ text. text.items ≡ punctual_row promise.0 chance) }
+{
+    let promise = write_moment(promise);
+    let lower = write_chance(chance.lo());
+    let upper = write_chance(chance.hi());
+    row(
+        alloc,
+        &[
+            b"punctual".as_slice(),
+            b"1".as_slice(),
+            promise.as_slice(),
+            lower.as_slice(),
+            upper.as_slice(),
+        ],
+    )
+}
