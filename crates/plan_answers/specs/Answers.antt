@@ -1,0 +1,85 @@
+-- What is told of the strategies of a journey.
+use Rattle.std.specs.Prelude.{◌≡◌, ℕ, ◌<◌, ◌≤◌, List, length, None, Some}
+use Rattle.plan_model.specs.declared.model.Moment.{Moment}
+use Rattle.plan_model.specs.declared.model.Query.{Query}
+use Rattle.plan_model.specs.Parts.{Parts}
+use Rattle.plan_model.specs.Strategy.{LeastWorst, deadline_of}
+use Rattle.interval_fixed.specs.Interval.{Interval}
+use Rattle.plan_graph.specs.declared.ExpandedGraph.{ExpandedGraph}
+use Rattle.plan_graph.specs.declared.PlanGraph.{PlanGraph}
+use Rattle.decision_graph.specs.Expanded.{IsExpanded}
+use Rattle.decision_graph.specs.Planned.{IsPlanned}
+use Rattle.graph_text.specs.declared.Head.{Head}
+use Rattle.graph_text.specs.Reading.{IsReadAs}
+use Rattle.graph_text.specs.Texts.{expanded_text, graph_text}
+use Rattle.printed_rows.specs.Writers.{place_name}
+use Rattle.fault_lines.specs.declared.faults.Fault.{Fault}
+use Rattle.fault_lines.specs.declared.faults.Fault.TheVariants.{NoSafe}
+use Rattle.fault_lines.specs.Sites.{last_printable}
+use Rattle.journey_report.specs.declared.problem.Problem.{Problem}
+use Rattle.journey_report.specs.Findings.{Findings, safe_findings, expand_findings, plan_findings}
+use Rattle.journey_report.specs.Texts.{safe_text}
+use Rattle.journey_report.specs.Moments.{after_arrivals, last_start}
+use Rattle.journey_report.specs.Wants.{OrNoMemory}
+
+-- this is the least worst arrival of the query
+abbrev pub IsWorst : Parts → Query → Moment → Type 0
+IsWorst n q worst = LeastWorst n q.source.0 q.target.0 q.start.0 (Some worst)
+
+-- this is the query of a journey that starts then, by a percentage for the deadline: it goes from the source of the problem to
+-- its target, from the start on; the least worst arrival is this one, and the deadline follows from it
+pub record IsAsked (p : Problem) (start alpha : ℕ) (q : Query) (worst : Moment) : Type 0 where
+  pub source : q.source.0 ≡ p.source.0
+  pub target : q.target.0 ≡ p.target.0
+  pub start_is : q.start.0 ≡ start
+  pub least : IsWorst p.network q worst
+  pub deadline : q.deadline.0 ≡ deadline_of q.start.0 worst.0 alpha
+
+-- this holds of the query of the journey and of its least worst arrival
+abbrev pub InQuery : Problem → (start alpha : ℕ) → (Query → Moment → Type 0) → Type 0
+InQuery p start alpha P = (q : Query) × (worst : Moment) × IsAsked p start alpha q worst × P q worst
+
+-- the head of a graph's text
+abbrev pub head_of : Query → Interval → Head
+head_of q bounds = record { query = q; bounds = bounds }
+
+-- the least worst arrival and the deadline are told
+abbrev pub TellsWorst : Problem → Findings → List ℕ → Query → Moment → Type 0
+TellsWorst p found text q worst =
+    (found ≡ safe_findings q worst)
+    × (text ≡ safe_text (place_name p.names q.source.0) (place_name p.names q.target.0) q worst)
+
+-- a decision graph ride by ride is told, with its bounds
+abbrev pub TellsExpanded : Problem → Findings → List ℕ → Query → Moment → Type 0
+TellsExpanded p found text q worst =
+    (graph : ExpandedGraph) × (bounds : Interval) × (found ≡ expand_findings q worst graph bounds)
+    × IsExpanded p.network q graph bounds × (text ≡ expanded_text p.network p.names (head_of q bounds) graph)
+
+-- a decision graph by place is told, with its bounds; the text reads back
+abbrev pub TellsPlanned : Problem → Findings → List ℕ → Query → Moment → Type 0
+TellsPlanned p found text q worst =
+    (graph : PlanGraph) × (bounds : Interval) × (found ≡ plan_findings q worst graph bounds)
+    × IsPlanned p.network q graph bounds × (text ≡ graph_text p.network p.names (head_of q bounds) graph)
+    × IsReadAs p.network p.names (head_of q bounds) graph text
+
+-- no strategy always reaches the target
+abbrev pub HasNoSafe : Problem → ℕ → Type 0
+HasNoSafe p start = LeastWorst p.network p.source.0 p.target.0 start None
+
+-- the fault is that no strategy is safe, and none is
+abbrev pub IsNoSafe : Problem → ℕ → Fault → Type 0
+IsNoSafe p start fault = (fault ≡ NoSafe) × HasNoSafe p start
+
+-- why strategies are not told: none is safe; or there was no memory
+abbrev pub FailsIn : Problem → ℕ → Fault → Type 0
+FailsIn p start = OrNoMemory (IsNoSafe p start)
+
+-- its places are the network's, and its moments have texts
+pub record IsPrintable (n : Parts) (q : Query) (worst : Moment) : Type 0 where
+  pub source : q.source.0 < length n.change
+  pub target : q.target.0 < length n.change
+  pub start : q.start.0 ≤ last_start
+  pub order : q.start.0 ≤ worst.0
+  pub early : worst.0 < after_arrivals
+  pub deadline : worst.0 ≤ q.deadline.0
+  pub late : q.deadline.0 ≤ last_printable

@@ -1,0 +1,21 @@
+-- What `certify` answers: a certificate of the query.
+use Rattle.std.specs.Prelude.{◌≡◌, ℕ, List}
+use Rattle.plan_model.specs.declared.model.Moment.{Moment}
+use Rattle.plan_model.specs.declared.model.Query.{Query}
+use Rattle.lower_proof.specs.declared.LowerBounds.{LowerBounds}
+use Rattle.lower_proof.specs.Certificates.{IsTight}
+use Rattle.lower_proof.specs.Promises.{IsBest}
+use Rattle.lower_proof.specs.Reading.{ReadsBack}
+use Rattle.lower_proof.specs.Texts.{proof_text}
+use Rattle.journey_report.specs.declared.problem.Problem.{Problem}
+use Rattle.journey_report.specs.Findings.{Findings, certify_findings}
+
+-- a certificate of the query is told: the greatest that is accepted, with the least value of the ways to leave its run at each
+-- connection that can be boarded; the text reads back
+pub record TellsCertificate (p : Problem) (found : Findings) (text : List ℕ) (q : Query) (worst : Moment) : Type 0 where
+  pub proof : LowerBounds
+  pub found_is : found ≡ certify_findings q worst proof
+  pub tight : IsTight p.network q proof.values
+  pub best : IsBest p.network q proof.values
+  pub text_is : text ≡ proof_text p.network p.names q proof.values
+  pub reads_back : ReadsBack p.network p.names q proof.values text

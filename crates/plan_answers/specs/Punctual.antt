@@ -1,0 +1,22 @@
+-- What is told of the least chance of an arrival after a promised moment.
+use Rattle.std.specs.Prelude.{◌≡◌, ℕ, List, ◌++◌}
+use Rattle.plan_model.specs.declared.model.Moment.{Moment}
+use Rattle.plan_model.specs.declared.model.Query.{Query}
+use Rattle.interval_fixed.specs.Interval.{Interval}
+use Rattle.plan_graph.specs.declared.PlanGraph.{PlanGraph}
+use Rattle.plan_graph.specs.Unfold.{unfold_plan}
+use Rattle.graph_text.specs.Texts.{graph_text}
+use Rattle.graph_score.specs.Scores.{IsScored}
+use Rattle.late_chance.specs.Punctual.{IsPunctual}
+use Rattle.journey_report.specs.declared.problem.Problem.{Problem}
+use Rattle.plan_answers.specs.Answers.{head_of}
+use Rattle.journey_report.specs.Findings.{Findings, punctual_findings}
+use Rattle.journey_report.specs.Texts.{punctual_row}
+
+-- a decision graph by place is told with bounds of its chance to arrive after the promised moment, which is the least, and of its
+-- expected arrival
+abbrev pub TellsPunctual : Problem → ℕ → Findings → List ℕ → Query → Moment → Type 0
+TellsPunctual p promise found text q worst =
+    (graph : PlanGraph) × (chance : Interval) × (bounds : Interval) × (found ≡ punctual_findings q worst graph bounds chance)
+    × IsPunctual p.network q promise graph chance × IsScored p.network q (unfold_plan graph p.network q) bounds
+    × (text ≡ punctual_row promise chance ++ graph_text p.network p.names (head_of q bounds) graph)
