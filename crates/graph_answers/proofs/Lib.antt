@@ -1,0 +1,2 @@
+pub mod TripFaults
+pub mod Unsafe

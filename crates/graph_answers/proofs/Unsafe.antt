@@ -1,0 +1,101 @@
+-- Where one may fail by a graph: at a place of the network, at a moment that has a text.
+use Rattle.std.proofs.Common.{◌≡◌, ℕ, zero, suc, ◌+◌, ◌-◌, ◌<◌, ◌≤◌, List, [], ◌∷◌, length, Bool, true, false, Option, Some, None, Err, inl, inr, refl, sym, subst, arith}
+use Rattle.std.specs.Prelude.{◌⊎◌, All, if◌then◌else◌, ◌==◌}
+use Rattle.std.proofs.lemmas.List.Elements.{All-head, All-tail}
+use Rattle.std.proofs.lemmas.Option.{MatchOption-at_some}
+use Rattle.plan_model.specs.declared.model.Leg.{Leg}
+use Rattle.plan_model.specs.declared.model.Outcome.{Outcome}
+use Rattle.plan_model.specs.declared.model.Query.{Query}
+use Rattle.plan_model.specs.Parts.{Parts}
+use Rattle.plan_model.specs.NameLists.{NamesFit}
+use Rattle.plan_model.specs.Network.{IsValid, count, connection, arr_of}
+use Rattle.plan_model.specs.Tree.{Tree, Done, Stuck}
+use Rattle.plan_model.specs.Unfold.{end_of, outcomes_of, kids_after, ride_or_stuck, unfold_after, unfold_from, by_place}
+use Rattle.plan_graph.specs.declared.PlanGraph.{PlanGraph}
+use Rattle.plan_graph.specs.Rows.{pick_at}
+use Rattle.plan_graph.specs.Tidy.{IsFit}
+use Rattle.plan_graph.specs.Unfold.{unfold_plan}
+use Rattle.trip_replay.proofs.Walks.{picked_leg}
+use Rattle.graph_score.specs.Failures.{Fails, FailsIn}
+use Rattle.graph_score.specs.Scores.{IsUnsafe, IsScore}
+use Rattle.graph_score.specs.declared.ScoreFault.{ScoreFault}
+use Rattle.graph_score.specs.declared.ScoreFault.TheVariants.{NoSuchLeg, Unsafe, NoMemory}
+use Rattle.journey_report.specs.declared.problem.Problem.{Problem}
+use Rattle.journey_report.specs.Moments.{last_start}
+use Rattle.fault_lines.specs.Sites.{last_printable}
+
+module _ (n : Parts) (valid : IsValid n) (q : Query) (target_in : q.target.0 < length n.change)
+    (choice : Leg → ℕ → Option Leg) (there : (leg : Leg) (x : ℕ) (next : Leg) → choice leg x ≡ Some next → next.exit.0 < count n) where
+  -- a place of the network, and a moment that has a text
+  abbrev IsPrinted : ℕ → ℕ → Type 0
+  IsPrinted p x = (p < length n.change) × (x ≤ last_printable)
+
+  abbrev FailsPrinted : Tree → Type 0
+  FailsPrinted tree = (p x : ℕ) → Fails q tree p x → IsPrinted p x
+
+  stuck_printed : (place moment : ℕ) → IsPrinted place moment → FailsPrinted (Stuck place moment)
+  stuck_printed place moment is p x (at, since) = (subst (λ (k : ℕ). k < length n.change) (sym at) is.0, subst (λ (k : ℕ). k ≤ last_printable) (sym since) is.1)
+
+  done_printed : (moment : ℕ) → moment ≤ last_printable → FailsPrinted (Done moment)
+  done_printed moment early p x (at, since, late) = (subst (λ (k : ℕ). k < length n.change) (sym at) target_in, subst (λ (k : ℕ). k ≤ last_printable) (sym since) early)
+
+  by_test : (b : Bool) (moment : ℕ) (other : Tree) → moment ≤ last_printable → FailsPrinted other → FailsPrinted (if b then Done moment else other)
+  by_test true moment other early printed = done_printed moment early
+  by_test false moment other early printed = printed
+
+  kids_printed : (next : ℕ → Tree) → ((x : ℕ) → x ≤ last_printable → FailsPrinted (next x)) → (scheduled : ℕ) → scheduled + 86400 ≤ last_printable → (row : List Outcome) → All (λ o. o.delay ≤ 86400) row
+      → (p x : ℕ) → FailsIn q (kids_after next scheduled row) p x → IsPrinted p x
+  kids_printed next goes scheduled early [] few p x none = absurd none
+  kids_printed next goes scheduled early (o ∷ row) few p x (inl fails) =
+      let short = All-head (λ (k : Outcome). k.delay ≤ 86400) o row few in
+      goes (scheduled + o.delay) (omega (arith, early, short)) p x fails
+  kids_printed next goes scheduled early (o ∷ row) few p x (inr fails) =
+      kids_printed next goes scheduled early row (All-tail (λ (k : Outcome). k.delay ≤ 86400) o row few) p x fails
+
+  ride_printed : (next : Leg → ℕ → Tree) (leg : Leg) → leg.exit.0 < count n → ((x : ℕ) → x ≤ last_printable → FailsPrinted (next leg x))
+      → (p x : ℕ) → FailsIn q (kids_after (next leg) (arr_of n leg.exit.0) (outcomes_of n leg)) p x → IsPrinted p x
+  ride_printed next leg within goes =
+      let c = valid.connections leg.exit.0 within in
+      let row = valid.rows (connection n leg.exit.0).class.0 c.class_in in
+      kids_printed (next leg) goes (arr_of n leg.exit.0) (omega (arith, c.early)) (outcomes_of n leg) row.delays
+
+  or_stuck : (next : Leg → ℕ → Tree) (first : Option Leg) (p x : ℕ) → ((leg : Leg) → first ≡ Some leg → leg.exit.0 < count n) → ((leg : Leg) → leg.exit.0 < count n → (y : ℕ) → y ≤ last_printable → FailsPrinted (next leg y))
+      → IsPrinted p x → FailsPrinted (ride_or_stuck n next first p x)
+  or_stuck next None p x within goes is = stuck_printed p x is
+  or_stuck next (Some leg) p x within goes is = ride_printed next leg (within leg refl) (goes leg (within leg refl))
+
+  after_printed : (rides : ℕ) (leg : Leg) → leg.exit.0 < count n → (x : ℕ) → x ≤ last_printable → FailsPrinted (unfold_after n q.target.0 choice rides leg x)
+  after_printed zero leg within x early =
+      by_test (end_of n leg == q.target.0) x (Stuck (end_of n leg) x) early (stuck_printed (end_of n leg) x ((valid.connections leg.exit.0 within).to_in, early))
+  after_printed (suc rides) leg within x early =
+      by_test (end_of n leg == q.target.0) x (ride_or_stuck n (unfold_after n q.target.0 choice rides) (choice leg x) (end_of n leg) x) early
+      (or_stuck (unfold_after n q.target.0 choice rides) (choice leg x) (end_of n leg) x (there leg x) (after_printed rides) ((valid.connections leg.exit.0 within).to_in, early))
+
+  -- by a start leg and the choices
+  pub from_printed : (first : Option Leg) → ((leg : Leg) → first ≡ Some leg → leg.exit.0 < count n) → (p x : ℕ) → IsPrinted p x → FailsPrinted (unfold_from n q.target.0 choice first p x)
+  from_printed first within p x is =
+      by_test (p == q.target.0) x (ride_or_stuck n (unfold_after n q.target.0 choice (count n - 1)) first p x) is.1
+      (or_stuck (unfold_after n q.target.0 choice (count n - 1)) first p x within (after_printed (count n - 1)) is)
+
+-- the place where one may fail first has a name, and the moment a text
+pub unsafe_tellable : (p : Problem) (q : Query) (graph : PlanGraph) → NamesFit p.names p.network → IsValid p.network → IsFit p.network q graph → q.source.0 < length p.network.change → q.target.0 < length p.network.change
+    → q.start.0 ≤ last_start → (place moment : ℕ) → IsUnsafe p.network q (unfold_plan graph p.network q) place moment → (place < length p.names.places) × (moment ≤ last_printable)
+unsafe_tellable p q graph names valid fit source target early place moment unsafe =
+    let n = p.network in
+    let chosen : (leg : Leg) (x : ℕ) (next : Leg) → by_place n (pick_at graph.tables) leg x ≡ Some next → next.exit.0 < count n = λ leg x next is. (picked_leg n graph.tables fit.tables (end_of n leg) x next is).exit in
+    let first : (leg : Leg) → graph.start ≡ Some leg → leg.exit.0 < count n = λ leg is. (MatchOption-at_some _ _ _ is fit.starts).is_leg.exit in
+    let printed = from_printed n valid q target (by_place n (pick_at graph.tables)) chosen graph.start first q.source.0 q.start.0 (source, omega (arith, early)) place moment unsafe.first.fails in
+    (subst (λ (k : ℕ). place < k) (sym names.places) printed.0, printed.1)
+
+module _ (p : Problem) where
+  -- the place of a fault has a name, and its moment a text
+  abbrev pub IsPrintedFault : ScoreFault → Type 0
+  IsPrintedFault (NoSuchLeg k) = Unit {0}
+  IsPrintedFault (Unsafe place moment) = (place.0 < length p.names.places) × (moment.0 ≤ last_printable)
+  IsPrintedFault NoMemory = Unit {0}
+
+  pub fault_printed : (q : Query) (graph : PlanGraph) → NamesFit p.names p.network → IsValid p.network → IsFit p.network q graph → q.source.0 < length p.network.change → q.target.0 < length p.network.change
+      → q.start.0 ≤ last_start → (fault : ScoreFault) → IsScore p.network q graph (Err fault) → IsPrintedFault fault
+  fault_printed q graph names valid fit source target early (NoSuchLeg k) is = tt
+  fault_printed q graph names valid fit source target early (Unsafe place moment) (fits, unsafe) = unsafe_tellable p q graph names valid fit source target early place.0 moment.0 unsafe
+  fault_printed q graph names valid fit source target early NoMemory is = tt

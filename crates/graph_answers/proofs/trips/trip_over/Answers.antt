@@ -1,0 +1,35 @@
+use Rattle.std.proofs.Common.{◌≡◌, ℕ, List, Some, None, Err, ◌≤◌, ◌∙◌, sym, subst, arith}
+use Rattle.std.specs.Prelude.{◌≢◌}
+use Rattle.trip_replay.specs.Walk.{IsAnswer}
+use Rattle.fault_lines.specs.declared.faults.Fault.{Fault}
+use Rattle.fault_lines.specs.declared.faults.Fault.TheVariants.{NoMemory}
+use Rattle.fault_lines.specs.Faults.{unread_of}
+use Rattle.fault_lines.specs.Sites.{last_printable, IsTellable}
+use Rattle.journey_report.specs.Known.{parts_of}
+use Rattle.command_line.specs.Jobs.{late_in}
+use Rattle.graph_answers.specs.Trips.{replay_as, trip_by, IsTripFault}
+use Rattle.journey_report.proofs.TextLemmas.{arrivals}
+use Rattle.graph_answers.proofs.TripFaults.{stuck_tellable, trip_fault, replay_unread}
+use Rattle.graph_answers.proofs.trips.trip_over.Goals as goal
+
+pub returns-in-Err : goal.returns-in-Err
+returns-in-Err c =
+    let p = c.args.problem.now in
+    let late : List ℕ = late_in c.args.late.now in
+    let fault = c.in-Err.fault in
+    let is : IsAnswer (Err fault) (trip_by p c.args.head c.args.graph late) =
+    subst (λ (delays : List ℕ). IsAnswer (Err fault) (trip_by p c.args.head c.args.graph delays)) (c.as_slice.ensures.value ∙ c.in-Ok.ensures) c.in-Err.ensures.walk in
+    let named : replay_as fault ≡ c.fault_of.result = sym c.fault_of.ensures in
+    record {
+      told = tt;
+      fault = subst (λ (f : Fault). f ≢ NoMemory → IsTripFault p late f c.args.head c.args.graph) named (trip_fault p c.args.head c.args.graph late fault is c.in-Err.ensures.safe);
+      tellable = subst (IsTellable (Some (parts_of p))) named
+          (stuck_tellable p c.args.head.query c.requires.fit c.count-count.ensures.valid c.requires.source c.requires.start fault c.in-Err.ensures.stuck);
+      read = subst (λ (f : Fault). unread_of f ≡ None) named (replay_unread fault);
+    }
+
+pub trace_text-requires-clause-arrival : goal.trace_text-requires-clause-arrival
+trace_text-requires-clause-arrival c =
+    subst (λ (k : ℕ). k ≤ last_printable) (sym c.in-Ok-replay.ensures.arrival)
+    (arrivals c.args.problem.now.network c.count-count.ensures.valid c.args.head.query.start.0 c.in-Ok-replay.trace.rides
+    (omega (arith, c.requires.start)) c.in-Ok-replay.ensures.rides)

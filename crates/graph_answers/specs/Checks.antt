@@ -1,0 +1,26 @@
+-- What is told of a certificate: that it holds.
+use Rattle.std.specs.Prelude.{◌≡◌, ℕ, List, Option}
+use Rattle.plan_model.specs.declared.model.ConnectionId.{ConnectionId}
+use Rattle.plan_model.specs.declared.model.Query.{Query}
+use Rattle.lower_proof.specs.declared.LowerBounds.{LowerBounds}
+use Rattle.lower_proof.specs.Certificates.{IsLeastAtStart, IsAccepted, IsLastFault}
+use Rattle.lower_proof.specs.Promises.{IsSound}
+use Rattle.printed_rows.specs.Writers.{place_name}
+use Rattle.fault_lines.specs.declared.faults.Fault.{Fault}
+use Rattle.fault_lines.specs.declared.faults.Fault.TheVariants.{ProofFails}
+use Rattle.journey_report.specs.declared.problem.Problem.{Problem}
+use Rattle.journey_report.specs.Findings.{Findings, check_findings}
+use Rattle.journey_report.specs.Texts.{holds_text}
+
+-- that a certificate holds is told, with its least value at the start, which is below each strategy that is safe for its query
+pub record IsHeld (p : Problem) (found : Findings) (text : List ℕ) (q : Query) (proof : LowerBounds) : Type 0 where
+  pub accepted : IsAccepted p.network q proof.values
+  pub sound : IsSound p.network q proof.values
+  pub least : Option ℕ
+  pub least_is : IsLeastAtStart p.network q proof.values least
+  pub found_is : found ≡ check_findings q proof least
+  pub text_is : text ≡ holds_text (place_name p.names p.source.0) (place_name p.names p.target.0) q least
+
+-- the fault is that a certificate fails, and at the last connection of the scan order whose value is too great
+abbrev pub IsBroken : Problem → Fault → Query → LowerBounds → Type 0
+IsBroken p fault q proof = (connection : ConnectionId) × (fault ≡ ProofFails connection) × IsLastFault p.network q proof.values connection.0

@@ -1,0 +1,28 @@
+-- What is told of a graph: bounds on the expected arrival of its strategy.
+use Rattle.std.specs.Prelude.{◌≡◌, List, ℕ}
+use Rattle.plan_model.specs.declared.model.Moment.{Moment}
+use Rattle.plan_model.specs.declared.model.PlaceId.{PlaceId}
+use Rattle.interval_fixed.specs.Interval.{Interval}
+use Rattle.plan_graph.specs.declared.PlanGraph.{PlanGraph}
+use Rattle.plan_graph.specs.Unfold.{unfold_plan}
+use Rattle.graph_score.specs.Scores.{IsScored, IsUnsafe}
+use Rattle.graph_text.specs.declared.Head.{Head}
+use Rattle.printed_rows.specs.Writers.{place_name}
+use Rattle.fault_lines.specs.declared.faults.Fault.{Fault}
+use Rattle.fault_lines.specs.declared.faults.Fault.TheVariants.{Unsafe}
+use Rattle.journey_report.specs.declared.problem.Problem.{Problem}
+use Rattle.journey_report.specs.Findings.{Findings, score_findings}
+use Rattle.journey_report.specs.Texts.{encloses_text}
+
+-- the bounds of a graph are told, whose strategy is safe for its own query
+pub record IsEnclosed (p : Problem) (found : Findings) (text : List ℕ) (head : Head) (graph : PlanGraph) : Type 0 where
+  pub bounds : Interval
+  pub scored : IsScored p.network head.query (unfold_plan graph p.network head.query) bounds
+  pub found_is : found ≡ score_findings head.query graph bounds
+  pub text_is : text ≡ encloses_text (place_name p.names p.source.0) (place_name p.names p.target.0) head.query bounds
+
+-- the fault is that a graph is not safe, with the first place and moment at which one may fail
+abbrev pub IsUnsafeGraph : Problem → Fault → Head → PlanGraph → Type 0
+IsUnsafeGraph p fault head graph =
+    (place : PlaceId) × (moment : Moment) × (fault ≡ Unsafe place moment)
+    × IsUnsafe p.network head.query (unfold_plan graph p.network head.query) place.0 moment.0

@@ -1,0 +1,46 @@
+-- What is told of the trip by a graph, as the delays come.
+use Rattle.std.specs.Prelude.{◌≡◌, ℕ, List, [], Result, Ok, Err}
+use Rattle.plan_model.specs.Strategy.{IsSafeFor}
+use Rattle.plan_graph.specs.declared.PlanGraph.{PlanGraph}
+use Rattle.plan_graph.specs.Unfold.{unfold_plan}
+use Rattle.graph_text.specs.declared.Head.{Head}
+use Rattle.trip_replay.specs.declared.Trace.{Trace}
+use Rattle.trip_replay.specs.declared.ReplayFault.{ReplayFault}
+use Rattle.trip_replay.specs.declared.ReplayFault.TheVariants as replay
+use Rattle.trip_replay.specs.Walk.{walk, IsSafeAnswer}
+use Rattle.fault_lines.specs.declared.faults.Fault.{Fault}
+use Rattle.fault_lines.specs.declared.faults.Fault.TheVariants.{Replay, NoMemory}
+use Rattle.journey_report.specs.declared.problem.Problem.{Problem}
+use Rattle.journey_report.specs.Findings.{Findings, replay_findings}
+use Rattle.journey_report.specs.Texts.{trace_text}
+
+-- a fault of a trip as one of the run
+abbrev pub replay_as : ReplayFault → Fault
+replay_as (replay.NotADelay number) = Replay (replay.NotADelay number)
+replay_as (replay.TooFew ridden) = Replay (replay.TooFew ridden)
+replay_as (replay.TooMany ridden) = Replay (replay.TooMany ridden)
+replay_as (replay.Stuck place moment) = Replay (replay.Stuck place moment)
+replay_as replay.NoMemory = NoMemory
+
+-- the trip by a graph with these delays
+abbrev pub trip_by : Problem → Head → PlanGraph → List ℕ → Result Trace ReplayFault
+trip_by p head graph late = walk p.network (unfold_plan graph p.network head.query) late []
+
+-- where the graph unfolds to a safe strategy, the trip is never stuck, and arrives by the deadline
+abbrev pub IsSafeTrip : Problem → Head → PlanGraph → Result Trace ReplayFault → Type 0
+IsSafeTrip p head graph trip = IsSafeFor p.network head.query (unfold_plan graph p.network head.query) → IsSafeAnswer head.query.deadline.0 trip
+
+-- the trip by a graph is told
+pub record IsTripTold (p : Problem) (late : List ℕ) (found : Findings) (text : List ℕ) (head : Head) (graph : PlanGraph) : Type 0 where
+  pub trace : Trace
+  pub trip : trip_by p head graph late ≡ Ok trace
+  pub safe : IsSafeTrip p head graph (Ok trace)
+  pub found_is : found ≡ replay_findings head.query graph trace
+  pub text_is : text ≡ trace_text p.network p.names p.target.0 trace
+
+-- the fault is that of the trip by a graph
+pub record IsTripFault (p : Problem) (late : List ℕ) (fault : Fault) (head : Head) (graph : PlanGraph) : Type 0 where
+  pub stop : ReplayFault
+  pub fault_is : fault ≡ Replay stop
+  pub trip : trip_by p head graph late ≡ Err stop
+  pub safe : IsSafeTrip p head graph (Err stop)

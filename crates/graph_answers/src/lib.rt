@@ -1,0 +1,11 @@
+//! What is told of a graph and of a certificate that were read: the trip by the graph, bounds on its expected arrival, and
+//! whether the certificate holds.
+#![tactic(auto)]
+
+mod checks;
+mod scores;
+mod trips;
+
+pub use checks::check_over;
+pub use scores::score_over;
+pub use trips::trip_over;

@@ -1,0 +1,83 @@
+//! The trip by a graph, as the delays come.
+ghost use Rattle.std.specs.Prelude.{◌≡◌, ◌≢◌, ◌<◌, ◌≤◌, length, Some, None, IfOk, IfErr};
+ghost use Rattle.plan_model.specs.NameLists.{NamesFit};
+ghost use Rattle.plan_graph.specs.Tidy.{IsFit};
+ghost use Rattle.command_line.specs.Jobs.{late_in};
+ghost use Rattle.fault_lines.specs.Faults.{unread_of};
+ghost use Rattle.fault_lines.specs.Sites.{IsTellable};
+ghost use Rattle.journey_report.specs.Known.{parts_of};
+ghost use Rattle.journey_report.specs.Findings.{findings_of};
+ghost use Rattle.journey_report.specs.Moments.{last_start};
+ghost use Rattle.graph_answers.specs.Trips.{replay_as, IsTripTold, IsTripFault};
+
+use command_line::read_late;
+use fault_lines::Fault;
+use graph_text::Head;
+use journey_report::{Answer, Problem, Report, trace_text};
+use plan_graph::PlanGraph;
+use std::alloc::Global;
+use trip_replay::{ReplayFault, replay};
+
+/// A fault of a trip as one of the run.
+fn fault_of(fault: ReplayFault) -> Fault
+    ensures { result ≡ replay_as fault }
+{
+    match fault {
+        ReplayFault::NoMemory => Fault::NoMemory,
+        ReplayFault::NotADelay(_)
+        | ReplayFault::TooFew(_)
+        | ReplayFault::TooMany(_)
+        | ReplayFault::Stuck(_, _) => Fault::Replay(fault),
+    }
+}
+
+/// The trip by a graph with the delays that were met.
+pub fn trip_over(
+    alloc: Global,
+    problem: &Problem,
+    head: Head,
+    graph: PlanGraph,
+    late: &str,
+) -> Result<Answer, Fault>
+    requires fit { NamesFit problem.now.names problem.now.network }
+    requires graph { IsFit problem.now.network head.query graph }
+    requires source { head.query.source.0 < length problem.now.network.change }
+    requires target { problem.now.target.0 < length problem.now.network.change }
+    requires start { head.query.start.0 ≤ last_start }
+    ensures told { IfOk result (λ a. IsTripTold problem.now (late_in late.now)
+        (findings_of a.report) a.text.items head graph) }
+    ensures fault { IfErr result (λ fault. fault ≢ Fault.NoMemory
+        → IsTripFault problem.now (late_in late.now) fault head graph) }
+    ensures tellable { IfErr result (IsTellable (Some (parts_of problem.now))) }
+    ensures read { IfErr result (λ fault. unread_of fault ≡ None) }
+{
+    // That the network is valid is known from its count.
+    let _count = problem.network.count();
+    let Ok(delays) = read_late(alloc, late) else {
+        return Err(Fault::NoMemory);
+    };
+    let trace = match replay(
+        alloc,
+        &graph,
+        &problem.network,
+        &head.query,
+        delays.as_slice(),
+    ) {
+        Err(fault) => return Err(fault_of(fault)),
+        Ok(trace) => trace,
+    };
+    let text = trace_text(
+        alloc,
+        &problem.network,
+        &problem.names,
+        problem.target,
+        &trace,
+    )?;
+    let report = Report {
+        query: Some(head.query),
+        graph: Some(graph),
+        trace: Some(trace),
+        ..Report::empty()
+    };
+    Ok(Answer { report, text })
+}
