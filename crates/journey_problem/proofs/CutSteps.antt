@@ -15,7 +15,7 @@ use Rattle.delay_table.specs.Slots.{AreDelays}
 use Rattle.plan_model.specs.Network.{IsValid}
 use Rattle.command_line.specs.Jobs.{WantedJourney}
 use Rattle.fault_lines.specs.declared.faults.Fault.{Fault}
-use Rattle.journey_problem.specs.declared.problem.Problem.{Problem}
+use Rattle.journey_report.specs.declared.problem.Problem.{Problem}
 use Rattle.journey_problem.specs.Files.{Records}
 use Rattle.journey_problem.specs.CutProblems.{cut_fault, cut_records, delay_fault, places_in, stop_fault, cut_problem_fault, IsCutOf, IsCutOfSome, AreDelaysOf, IsNamed, IsCutProblem, HasCutTimetable}
 

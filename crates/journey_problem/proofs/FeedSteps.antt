@@ -11,7 +11,7 @@ use Rattle.gtfs_tables.specs.Feeds.{IsSoundFeed}
 use Rattle.command_line.specs.Jobs.{WantedJourney}
 use Rattle.fault_lines.specs.declared.faults.Fault.{Fault}
 use Rattle.fault_lines.specs.declared.faults.Fault.TheVariants.{NoMemory}
-use Rattle.journey_problem.specs.declared.problem.Problem.{Problem}
+use Rattle.journey_report.specs.declared.problem.Problem.{Problem}
 use Rattle.fault_lines.specs.Faults.{IsFirst}
 use Rattle.journey_problem.specs.CutProblems.{AreDelaysOf, delay_fault}
 use Rattle.journey_problem.specs.FeedProblems.{FolderParts, IsFolder, IsWindowFault, IsFeedProblem, IsFeedProblemFault, HasFeedTimetable, window_fault_of}

@@ -27,7 +27,7 @@ use Rattle.fault_lines.specs.declared.faults.Which.TheVariants as which
 use Rattle.fault_lines.specs.declared.faults.LimitKind.TheVariants.{CutRows}
 use Rattle.fault_lines.specs.declared.faults.Fault.{Fault}
 use Rattle.fault_lines.specs.declared.faults.Fault.TheVariants.{Cut, Delays, UnknownStop, Limit, NoMemory}
-use Rattle.journey_problem.specs.declared.problem.Problem.{Problem}
+use Rattle.journey_report.specs.declared.problem.Problem.{Problem}
 use Rattle.fault_lines.specs.Faults.{IsFirst}
 use Rattle.journey_problem.specs.Files.{Records, records_of}
 

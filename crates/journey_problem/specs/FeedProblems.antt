@@ -21,7 +21,7 @@ use Rattle.fault_lines.specs.declared.faults.Which.TheVariants as which
 use Rattle.fault_lines.specs.declared.faults.LimitKind.TheVariants.{Bytes, Rows, Connections, Entries}
 use Rattle.fault_lines.specs.declared.faults.Fault.{Fault}
 use Rattle.fault_lines.specs.declared.faults.Fault.TheVariants.{Feed, UnknownStop, Limit, Read, NoMemory}
-use Rattle.journey_problem.specs.declared.problem.Problem.{Problem}
+use Rattle.journey_report.specs.declared.problem.Problem.{Problem}
 use Rattle.fault_lines.specs.Faults.{unread_of}
 use Rattle.journey_problem.specs.CutProblems.{AreDelaysOf, delay_fault}
 

@@ -7,7 +7,7 @@ use Rattle.plan_model.specs.NameLists.{NamesFit}
 use Rattle.command_line.specs.Jobs.{WantedTimetable, CutFile, FeedFolder, WantedJourney}
 use Rattle.fault_lines.specs.declared.faults.Fault.{Fault}
 use Rattle.fault_lines.specs.declared.faults.Fault.TheVariants.{NoMemory}
-use Rattle.journey_problem.specs.declared.problem.Problem.{Problem}
+use Rattle.journey_report.specs.declared.problem.Problem.{Problem}
 use Rattle.fault_lines.specs.Faults.{unread_of, IsUndisturbed}
 use Rattle.journey_problem.specs.EarlyFaults.{IsEarly}
 use Rattle.journey_problem.specs.CutProblems.{cut_problem_fault, IsCutProblem, HasCutTimetable}

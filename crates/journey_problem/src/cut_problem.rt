@@ -13,13 +13,13 @@ ghost use Rattle.journey_problem.specs.EarlyFaults.{IsEarly};
 ghost use Rattle.journey_problem.specs.CutProblems.{cut_problem_fault, IsCutProblem, HasCutTimetable, IsNamed, stop_fault};
 
 use crate::inputs::{read_cut_file, read_delay_file};
-use crate::problem::{Ends, Problem};
 use command_line::Journey;
 use csv_rows::Limits;
 use cut_file::CutTable;
 use delay_table::DelayTable;
 use fault_lines::{Fault, Which};
 use file_ports::Files;
+use journey_report::{Ends, Problem};
 use plan_model::Names;
 use std::alloc::Global;
 

@@ -18,7 +18,6 @@ ghost use Rattle.journey_problem.specs.FeedProblems.{feed_as, feed_stop_fault, w
 ghost use Rattle.journey_problem.specs.Folders.{parts_of};
 
 use crate::inputs::read_delay_file;
-use crate::problem::{Ends, Problem};
 use change_times::Changes;
 use command_line::Journey;
 use connections::{WindowFault, cut};
@@ -27,6 +26,7 @@ use delay_table::DelayTable;
 use fault_lines::{Fault, Input, LimitKind, Which};
 use file_ports::Files;
 use gtfs_tables::Feed;
+use journey_report::{Ends, Problem};
 use service_days::Services;
 use std::alloc::Global;
 

@@ -7,9 +7,7 @@ mod feed_problem;
 mod inputs;
 mod journey;
 mod laws;
-mod problem;
 
 pub use inputs::load_bytes;
 pub use journey::problem_of;
 pub use laws::{files_have_one_problem, files_of_a_problem_have_no_fault};
-pub use problem::Problem;

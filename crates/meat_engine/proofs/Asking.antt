@@ -1,5 +1,5 @@
 -- Answers and faults, one from another.
-use Rattle.std.proofs.Common.{◌≡◌, ℕ, List, Option, Some, None, Result, Ok, Err, inl, inr, refl, ap, sym, ◌∙◌, subst, arith}
+use Rattle.std.proofs.Common.{◌≡◌, ℕ, List, Option, None, Result, Ok, Err, inl, inr, refl, ap, sym, ◌∙◌, subst, arith}
 use Rattle.std.specs.Prelude.{◌≢◌, ◌⊎◌, IfErr, IfOk, option_map}
 use Rattle.file_ports.specs.Counts.{Rose}
 use Rattle.command_line.specs.Jobs.{WantedTimetable, WantedJourney, WantedAsk, Safe, Expand, Plan, Replay, Certify, CheckProof, CheckGraph, Punctual, Departures, Latest}
@@ -11,12 +11,13 @@ use Rattle.fault_lines.specs.Faults.{unread_of}
 use Rattle.fault_lines.specs.Sites.{NamedParts, IsTellable}
 use Rattle.fault_lines.specs.Stages.{stage_of_input, IsEarlyStage, IsOfInput, AtOutcome}
 use Rattle.fault_lines.proofs.Sited.{tellable}
-use Rattle.journey_problem.specs.declared.problem.Problem.{Problem}
+use Rattle.journey_report.specs.declared.problem.Problem.{Problem}
 use Rattle.journey_problem.specs.EarlyFaults.{IsEarly}
 use Rattle.journey_problem.specs.Files.{RoseAt, path_of, HasCauses}
-use Rattle.meat_engine.specs.declared.answer.Refusal.{Refusal}
-use Rattle.meat_engine.specs.Answers.{FailsIn, IsNoSafe}
-use Rattle.meat_engine.specs.Asks.{own_paths, parts_of}
+use Rattle.meat_engine.specs.declared.refusal.Refusal.{Refusal}
+use Rattle.plan_answers.specs.Answers.{FailsIn, IsNoSafe}
+use Rattle.meat_engine.specs.Asks.{own_paths}
+use Rattle.journey_report.specs.Known.{parts_of}
 use Rattle.meat_engine.specs.Refusals.{IsRefusalBy}
 
 pub if_ok_then : {A E : Type 0} (r : Result A E) (P Q : A → Type 0) → ((a : A) → P a → Q a) → IfOk r P → IfOk r Q

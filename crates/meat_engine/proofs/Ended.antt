@@ -1,6 +1,6 @@
 -- A question about a problem ends as the problem says.
-use Rattle.std.proofs.Common.{◌≡◌, ℕ, refl, sym, ap, ◌∙◌, subst, inl, inr, List, Option, Some, None, Ok, Err}
-use Rattle.std.specs.Prelude.{◌≢◌, ◌⊎◌}
+use Rattle.std.proofs.Common.{◌≡◌, ℕ, refl, sym, ap, ◌∙◌, subst, inl, inr, List, Option, Some}
+use Rattle.std.specs.Prelude.{◌⊎◌}
 use Rattle.file_ports.specs.Ports.{Folder, file_at}
 use Rattle.csv_rows.specs.declared.limits.Limits.{Limits}
 use Rattle.plan_model.specs.declared.model.Query.{Query}
@@ -14,18 +14,17 @@ use Rattle.fault_lines.specs.declared.faults.Fault.{Fault}
 use Rattle.fault_lines.specs.declared.faults.Fault.TheVariants.{Read}
 use Rattle.fault_lines.specs.Faults.{status_of}
 use Rattle.fault_lines.specs.Sites.{NamedParts}
-use Rattle.journey_problem.specs.declared.problem.Problem.{Problem}
+use Rattle.journey_report.specs.declared.problem.Problem.{Problem}
 use Rattle.journey_problem.specs.Problems.{IsProblem, IsProblemFault}
 use Rattle.journey_problem.specs.Files.{bytes_of}
 use Rattle.journey_problem.proofs.OneProblem.{one_problem}
 use Rattle.journey_problem.proofs.NoFaults.{none_unread}
-use Rattle.meat_engine.specs.Answers.{IsAsked, IsNoSafe}
+use Rattle.plan_answers.specs.Answers.{IsAsked, IsNoSafe}
 use Rattle.meat_engine.specs.Asks.{AnswersAsk, FailsAsk, EndsAsk, FailsJourney}
-use Rattle.meat_engine.specs.Checks.{FailsFile, FailsCheck}
-use Rattle.meat_engine.specs.Ends.{HasSafe, EndsBySafety, EndsByGraphFile, EndsByProofFile}
-use Rattle.meat_engine.specs.Findings.{Findings}
-use Rattle.meat_engine.specs.Replays.{graph_in, FailsReplay}
-use Rattle.meat_engine.specs.Scores.{FailsScore, EndsByScore}
+use Rattle.meat_engine.specs.ProofFiles.{FailsFile, FailsCheck}
+use Rattle.meat_engine.specs.Ends.{HasSafe, EndsBySafety, EndsByGraphFile, EndsByProofFile, EndsByScore}
+use Rattle.journey_report.specs.Findings.{Findings}
+use Rattle.meat_engine.specs.GraphFiles.{graph_in, FailsReplay, FailsScore}
 
 -- a least worst arrival is that of a strategy
 has_tree : (n : Parts) (source target start a b c : ℕ) (w : Moment) → a ≡ source → b ≡ target → c ≡ start → LeastWorst n a b c (Some w) → HasSafe n source target start

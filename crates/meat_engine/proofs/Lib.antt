@@ -1,15 +1,9 @@
-pub mod Sought
-pub mod TextLemmas
 pub mod Asking
-pub mod Trips
-pub mod Checked
+pub mod GraphFiles
+pub mod ProofFiles
 pub mod Told
 pub mod Outcomes
 pub mod Undisturbed
-pub mod DepartureLines
-pub mod Departing
-pub mod Punctuality
-pub mod Unsafe
 pub mod Ended
 pub mod Statuses
 pub mod Runs

@@ -15,10 +15,10 @@ use Rattle.fault_lines.specs.declared.faults.Fault.TheVariants.{Words, Missing, 
 use Rattle.fault_lines.specs.Lines.{line_of, IsFormatted}
 use Rattle.fault_lines.specs.Sites.{NamedParts}
 use Rattle.fault_lines.specs.Stages.{stage_of_input, stage_of_limit, AtOutput, AtGraphFile, AtProofFile}
-use Rattle.journey_problem.specs.declared.problem.Problem.{Problem}
-use Rattle.meat_engine.specs.declared.report.Report.{Report}
+use Rattle.journey_report.specs.declared.problem.Problem.{Problem}
+use Rattle.journey_report.specs.declared.report.Report.{Report}
 use Rattle.meat_engine.specs.Asks.{FailsAsk}
-use Rattle.meat_engine.specs.Findings.{Findings, findings_of, no_findings}
+use Rattle.journey_report.specs.Findings.{Findings, findings_of, no_findings}
 use Rattle.meat_engine.specs.Received.{Ending, Refused, ending_at, ending_of, AnswersJob, FailsJob, HasCause, IsRefused, IsRefusedWith, IsWritten, IsWrittenBy, IsTold, Outcome, OutcomeBy}
 
 -- a fault of an input ends a run with nothing but the fault

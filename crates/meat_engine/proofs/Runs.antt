@@ -12,8 +12,8 @@ use Rattle.fault_lines.specs.Faults.{status_of}
 use Rattle.fault_lines.specs.Lines.{line_of, IsFormatted}
 use Rattle.fault_lines.specs.Sites.{NamedParts}
 use Rattle.journey_problem.specs.Files.{RoseAt}
-use Rattle.meat_engine.specs.declared.report.Report.{Report}
-use Rattle.meat_engine.specs.Findings.{Findings, findings_of, no_findings}
+use Rattle.journey_report.specs.declared.report.Report.{Report}
+use Rattle.journey_report.specs.Findings.{Findings, findings_of, no_findings}
 use Rattle.meat_engine.specs.Received.{Ending, AnswersJob, HasCause, IsRefusedWith, IsWritten, IsWrittenBy, Outcome, path_in}
 use Rattle.meat_engine.specs.Runs.{FilesState, SinkState, Tells, IsRun}
 use Rattle.meat_engine.proofs.Outcomes.{refused_ending, keeps_same, refused_outcome, answered_outcome, refused_some, refused_is, refused_read}

@@ -10,15 +10,15 @@ use Rattle.fault_lines.specs.declared.faults.Fault.{Fault}
 use Rattle.fault_lines.specs.declared.faults.Fault.TheVariants.{Read, NoMemory}
 use Rattle.fault_lines.specs.Faults.{status_of, IsUndisturbed}
 use Rattle.fault_lines.specs.Sites.{NamedParts}
-use Rattle.journey_problem.specs.declared.problem.Problem.{Problem}
+use Rattle.journey_report.specs.declared.problem.Problem.{Problem}
 use Rattle.journey_problem.specs.Problems.{IsProblem, IsProblemFault, IsFaultless}
 use Rattle.journey_problem.proofs.NoFaults.{no_fault}
 use Rattle.journey_problem.proofs.SameFiles.{same_feed_problem}
-use Rattle.meat_engine.specs.declared.report.Report.{Report}
+use Rattle.journey_report.specs.declared.report.Report.{Report}
 use Rattle.meat_engine.specs.Asks.{EndsAsk}
 use Rattle.meat_engine.specs.Completeness.{IsComplete}
 use Rattle.meat_engine.specs.Ends.{EndsBySafety}
-use Rattle.meat_engine.specs.Findings.{findings_of}
+use Rattle.journey_report.specs.Findings.{findings_of}
 use Rattle.meat_engine.specs.Received.{Outcome}
 use Rattle.meat_engine.specs.Samples.{sample_journey, sample_alpha, FailsSample}
 use Rattle.meat_engine.proofs.Ended.{asked_ends, answers_end, EndsOver, ends_in, fails_over}

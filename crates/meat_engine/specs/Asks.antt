@@ -3,22 +3,24 @@ use Rattle.std.specs.Prelude.{◌≡◌, ◌⊎◌, ℕ, List, Option, None, Som
 use Rattle.file_ports.specs.Ports.{Folder}
 use Rattle.csv_rows.specs.declared.limits.Limits.{Limits}
 use Rattle.command_line.specs.Jobs.{WantedJourney, WantedAsk, Safe, Expand, Plan, Replay, Certify, CheckProof, CheckGraph, Punctual, Departures, Latest}
-use Rattle.fault_lines.specs.declared.faults.Input.{Input}
 use Rattle.fault_lines.specs.declared.faults.Input.TheVariants as input
 use Rattle.fault_lines.specs.declared.faults.Fault.{Fault}
 use Rattle.fault_lines.specs.Sites.{NamedParts}
-use Rattle.journey_problem.specs.declared.problem.Problem.{Problem}
+use Rattle.journey_report.specs.declared.problem.Problem.{Problem}
 use Rattle.journey_problem.specs.Files.{OwnPaths}
 use Rattle.journey_problem.specs.Problems.{FailsEarly, InProblem}
-use Rattle.meat_engine.specs.Findings.{Findings}
-use Rattle.meat_engine.specs.Answers.{InQuery, TellsWorst, TellsExpanded, TellsPlanned, IsNoSafe}
-use Rattle.meat_engine.specs.Punctual.{TellsPunctual}
-use Rattle.meat_engine.specs.Replays.{InGraphFile, IsTripTold, FailsReplay}
-use Rattle.meat_engine.specs.Scores.{IsEnclosed, FailsScore, EndsByScore}
-use Rattle.meat_engine.specs.Certified.{TellsCertificate}
-use Rattle.meat_engine.specs.Checks.{InProofFile, IsHeld, FailsCheck}
-use Rattle.meat_engine.specs.Ends.{EndsBySafety, EndsByGraphFile, EndsByProofFile}
-use Rattle.meat_engine.specs.Departures.{query_until, TellsDepartures, TellsLatest, FailsDepartures, FailsLatest, EndsByDepartures, EndsByLatest}
+use Rattle.journey_report.specs.Findings.{Findings}
+use Rattle.journey_report.specs.Known.{parts_of}
+use Rattle.plan_answers.specs.Answers.{InQuery, TellsWorst, TellsExpanded, TellsPlanned, IsNoSafe}
+use Rattle.plan_answers.specs.Punctual.{TellsPunctual}
+use Rattle.meat_engine.specs.GraphFiles.{InGraphFile, FailsReplay, FailsScore}
+use Rattle.graph_answers.specs.Trips.{IsTripTold}
+use Rattle.graph_answers.specs.Scores.{IsEnclosed}
+use Rattle.meat_engine.specs.Ends.{EndsByScore, EndsBySafety, EndsByGraphFile, EndsByProofFile, EndsByDepartures, EndsByLatest}
+use Rattle.plan_answers.specs.Certified.{TellsCertificate}
+use Rattle.meat_engine.specs.ProofFiles.{InProofFile, FailsCheck}
+use Rattle.graph_answers.specs.Checks.{IsHeld}
+use Rattle.departure_answers.specs.Departures.{query_until, TellsDepartures, TellsLatest, FailsDepartures, FailsLatest}
 
 -- no file is read beside those of the journey
 abbrev pub no_path : OwnPaths
@@ -91,10 +93,6 @@ EndsAsk limits files start p (CheckGraph graph) status = EndsByScore limits file
 EndsAsk limits files start p (Punctual alpha promise) status = EndsBySafety p start status
 EndsAsk limits files start p (Departures until last) status = EndsByDepartures p (query_until p start until) status
 EndsAsk limits files start p (Latest until) status = EndsByLatest p (query_until p start until) status
-
--- a timetable with its names, by which the lines of faults are told
-abbrev pub parts_of : Problem → NamedParts
-parts_of p = record { network = p.network; names = p.names }
 
 -- why what is asked about a journey has no answer, but for want of memory, where this timetable is known: it has none over the
 -- problem of the journey, whose timetable that is; or it is the first fault of the files of the journey

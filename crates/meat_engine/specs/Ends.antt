@@ -1,24 +1,27 @@
 -- The status that a question about a problem ends with.
-use Rattle.std.specs.Prelude.{◌≡◌, ◌⊎◌, ℕ, List, Option, None, Some, Result, Ok, Err}
+use Rattle.std.specs.Prelude.{◌≡◌, ◌⊎◌, ℕ, ◌≤◌, List, Option, None, Some, Result, Ok, Err}
 use Rattle.file_ports.specs.Ports.{Folder, file_at}
 use Rattle.csv_rows.specs.declared.limits.Limits.{Limits}
 use Rattle.plan_model.specs.Parts.{Parts}
 use Rattle.plan_model.specs.Tree.{Tree}
-use Rattle.plan_model.specs.Strategy.{Reaches}
+use Rattle.plan_model.specs.Strategy.{Reaches, IsSafeFor}
 use Rattle.plan_model.specs.declared.model.Query.{Query}
 use Rattle.lower_proof.specs.declared.LowerBounds.{LowerBounds}
 use Rattle.lower_proof.specs.Certificates.{IsAccepted, IsLastFault}
 use Rattle.plan_graph.specs.declared.PlanGraph.{PlanGraph}
+use Rattle.plan_graph.specs.Unfold.{unfold_plan}
 use Rattle.graph_text.specs.declared.Head.{Head}
 use Rattle.trip_replay.specs.declared.Trace.{Trace}
 use Rattle.trip_replay.specs.declared.ReplayFault.{ReplayFault}
 use Rattle.fault_lines.specs.declared.faults.Input.TheVariants as input
 use Rattle.fault_lines.specs.declared.faults.Fault.{Fault}
 use Rattle.fault_lines.specs.Faults.{status_of}
-use Rattle.journey_problem.specs.declared.problem.Problem.{Problem}
+use Rattle.journey_report.specs.declared.problem.Problem.{Problem}
 use Rattle.journey_problem.specs.Files.{bytes_of}
-use Rattle.meat_engine.specs.Replays.{graph_in, trip_by}
-use Rattle.meat_engine.specs.Checks.{IsProofFile, FailsFile}
+use Rattle.meat_engine.specs.GraphFiles.{graph_in}
+use Rattle.graph_answers.specs.Trips.{trip_by}
+use Rattle.departure_answers.specs.Departures.{SafeOf, HasSafeFor}
+use Rattle.meat_engine.specs.ProofFiles.{IsProofFile, FailsFile}
 
 -- some strategy always reaches the target
 abbrev pub HasSafe : Parts → (source target start : ℕ) → Type 0
@@ -54,3 +57,26 @@ abbrev pub EndsByProofFile : Limits → Folder → ℕ → List ℕ → Problem 
 EndsByProofFile limits files start path p status =
     ((q : Query) × (proof : LowerBounds) × IsProofFile (Some files) limits start path p q proof × EndsByVerdict p.network q proof.values status)
     ⊎ ((fault : Fault) × FailsFile p start (bytes_of limits.bytes input.Proof None (file_at files path)) fault × (status ≡ status_of (Some fault)))
+
+-- 0 where the tree is safe, and 15 where it is not
+abbrev pub EndsByTree : Parts → Query → Tree → ℕ → Type 0
+EndsByTree n q tree status = ((status ≡ 0) × IsSafeFor n q tree) ⊎ ((status ≡ 15) × ¬ IsSafeFor n q tree)
+
+-- where the graph file reads, as its graph says; and else the status of its fault
+abbrev pub EndsByScore : Limits → Folder → ℕ → List ℕ → Problem → ℕ → Type 0
+EndsByScore limits files start path p status =
+    ((head : Head) × (graph : PlanGraph) × (graph_in limits p start None (file_at files path) ≡ Ok (head, graph))
+    × EndsByTree p.network head.query (unfold_plan graph p.network head.query) status)
+    ⊎ ((fault : Fault) × (graph_in limits p start None (file_at files path) ≡ Err fault) × (status ≡ status_of (Some fault)))
+
+-- some tree is safe from the start of the query or from a later moment
+abbrev pub HasLater : Problem → Query → Type 0
+HasLater p q = (moment : ℕ) × (tree : Tree) × (q.start.0 ≤ moment) × SafeOf p q moment tree
+
+-- 0 where some tree is safe from the first moment, and 1 where none is
+abbrev pub EndsByDepartures : Problem → Query → ℕ → Type 0
+EndsByDepartures p q status = EndsBy (HasSafeFor p q) status
+
+-- 0 where some tree is safe from some moment on, and 1 where none is
+abbrev pub EndsByLatest : Problem → Query → ℕ → Type 0
+EndsByLatest p q status = EndsBy (HasLater p q) status

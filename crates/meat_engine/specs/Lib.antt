@@ -1,14 +1,5 @@
-pub mod Moments
-pub mod Findings
-pub mod Texts
-pub mod Answers
-pub mod Replays
-pub mod Scores
-pub mod Certified
-pub mod Punctual
-pub mod Checks
-pub mod DepartureTexts
-pub mod Departures
+pub mod GraphFiles
+pub mod ProofFiles
 pub mod Ends
 pub mod Asks
 pub mod Samples

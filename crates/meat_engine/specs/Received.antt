@@ -15,9 +15,9 @@ use Rattle.fault_lines.specs.Sites.{NamedParts}
 use Rattle.fault_lines.specs.Stages.{Stage, stage_of, AtWords, AtTimetable, AtDelays, AtStops, AtWindow, AtGraphFile, AtProofFile, AtOutcome, AtOutput, AtMemory}
 use Rattle.journey_problem.specs.Files.{path_of}
 use Rattle.journey_problem.specs.Problems.{InProblem}
-use Rattle.meat_engine.specs.declared.report.Report.{Report}
+use Rattle.journey_report.specs.declared.report.Report.{Report}
 use Rattle.meat_engine.specs.Asks.{own_paths, no_path, AnswersAsk, FailsJourney}
-use Rattle.meat_engine.specs.Findings.{Findings, findings_of, no_findings}
+use Rattle.journey_report.specs.Findings.{Findings, findings_of, no_findings}
 use Rattle.meat_engine.specs.Samples.{AnswersSample, FailsSample}
 
 -- the path of an input of a job, where it has one; a made timetable has none that is read

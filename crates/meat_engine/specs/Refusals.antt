@@ -3,8 +3,8 @@ use Rattle.std.specs.Prelude.{◌≢◌, Option, option_map, Result, Ok, Err}
 use Rattle.fault_lines.specs.declared.faults.Fault.{Fault}
 use Rattle.fault_lines.specs.declared.faults.Fault.TheVariants.{NoMemory}
 use Rattle.fault_lines.specs.Sites.{NamedParts, IsTellable}
-use Rattle.meat_engine.specs.declared.answer.Refusal.{Refusal}
-use Rattle.meat_engine.specs.Asks.{parts_of}
+use Rattle.meat_engine.specs.declared.refusal.Refusal.{Refusal}
+use Rattle.journey_report.specs.Known.{parts_of}
 
 -- the timetable that is known
 abbrev pub known_of : Refusal → Option NamedParts

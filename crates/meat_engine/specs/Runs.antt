@@ -8,7 +8,7 @@ use Rattle.command_line.specs.Jobs.{Wanted, job_of}
 use Rattle.fault_lines.specs.declared.faults.Input.{Input}
 use Rattle.fault_lines.specs.declared.faults.Fault.TheVariants.{Read, Write}
 use Rattle.fault_lines.specs.Faults.{status_of}
-use Rattle.meat_engine.specs.declared.report.Report.{Report}
+use Rattle.journey_report.specs.declared.report.Report.{Report}
 use Rattle.journey_problem.specs.Files.{RoseAt}
 use Rattle.meat_engine.specs.Received.{Outcome, IsTold, path_in}
 use Rattle.meat_engine.specs.Completeness.{IsComplete}

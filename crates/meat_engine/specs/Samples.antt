@@ -13,12 +13,12 @@ use Rattle.command_line.specs.Jobs.{WantedJourney, FeedFolder, Plan}
 use Rattle.fault_lines.specs.declared.faults.Fault.{Fault}
 use Rattle.fault_lines.specs.Faults.{unread_of}
 use Rattle.fault_lines.specs.Sites.{NamedParts}
-use Rattle.journey_problem.specs.declared.problem.Problem.{Problem}
+use Rattle.journey_report.specs.declared.problem.Problem.{Problem}
 use Rattle.journey_problem.specs.Problems.{InProblem}
-use Rattle.meat_engine.specs.Answers.{InQuery}
+use Rattle.plan_answers.specs.Answers.{InQuery}
 use Rattle.meat_engine.specs.Asks.{FailsJourney}
-use Rattle.meat_engine.specs.Findings.{Findings, sample_findings}
-use Rattle.meat_engine.specs.Texts.{leg_count, sample_text}
+use Rattle.journey_report.specs.Findings.{Findings, sample_findings}
+use Rattle.journey_report.specs.Texts.{leg_count, sample_text}
 
 -- from the hub H0 to the hub H5, from 2024-06-03T08:00:01 on, in a window of 24 hours
 abbrev pub sample_journey : WantedJourney

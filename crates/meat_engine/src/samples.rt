@@ -3,20 +3,19 @@ ghost use Rattle.std.specs.Prelude.{◌≡◌, ◌<◌, ◌≤◌, length, None,
 ghost use Rattle.csv_rows.specs.Limits.{AreWithin};
 ghost use Rattle.command_line.specs.Shown.{journey_shown};
 ghost use Rattle.fault_lines.specs.Faults.{unread_of};
-ghost use Rattle.meat_engine.specs.Answers.{FailsIn};
-ghost use Rattle.meat_engine.specs.Findings.{findings_of};
+ghost use Rattle.plan_answers.specs.Answers.{FailsIn};
+ghost use Rattle.journey_report.specs.Findings.{findings_of};
 ghost use Rattle.meat_engine.specs.Refusals.{IsRefusalBy};
 ghost use Rattle.meat_engine.specs.Samples.{sample_journey, IsSampled, AnswersSample, FailsSample};
 
-use crate::answer::{Answer, Refusal};
-use crate::answers::{asked_of, planned_of};
-use crate::report::Report;
-use crate::texts::sample_text;
+use crate::refusal::Refusal;
 use command_line::{Journey, Timetable};
 use csv_rows::Limits;
 use fault_lines::Fault;
 use feed_maker::make;
-use journey_problem::{Problem, problem_of};
+use journey_problem::problem_of;
+use journey_report::{Answer, Problem, Report, sample_text};
+use plan_answers::{asked_of, planned_of};
 use plan_model::Moment;
 use std::alloc::Global;
 

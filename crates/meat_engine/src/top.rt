@@ -9,21 +9,20 @@ ghost use Rattle.fault_lines.specs.Faults.{status_of};
 ghost use Rattle.fault_lines.specs.Lines.{line_of};
 ghost use Rattle.fault_lines.specs.Sites.{NamedParts, known_in, IsTellable};
 ghost use Rattle.journey_problem.specs.Files.{HasCauses};
-ghost use Rattle.meat_engine.specs.Asks.{parts_of};
-ghost use Rattle.meat_engine.specs.Findings.{findings_of, no_findings};
+ghost use Rattle.journey_report.specs.Known.{parts_of};
+ghost use Rattle.journey_report.specs.Findings.{findings_of, no_findings};
 ghost use Rattle.meat_engine.specs.Refusals.{known_of, IsRefusalBy, by_fault};
 ghost use Rattle.meat_engine.specs.Received.{path_in, AnswersJob, FailsJob, IsTold, IsWritten, IsRefusedWith};
 ghost use Rattle.meat_engine.specs.Runs.{IsRun, files_state, sink_state};
 
-use crate::answer::{Answer, Refusal};
 use crate::asks::journey_over;
-use crate::report::{Report, Status};
+use crate::refusal::Refusal;
 use crate::samples::sample;
 use command_line::{Job, read_job};
 use csv_rows::Limits;
 use fault_lines::{Fault, NamedNetwork, fault_line, known_line};
 use file_ports::{Files, Sink, put_all};
-use journey_problem::Problem;
+use journey_report::{Answer, Problem, Report, Status};
 use plan_model::NoMemory;
 use std::alloc::Global;
 

@@ -1,4 +1,4 @@
-use Rattle.std.proofs.Common.{◌≡◌, Option, Ok, Err, sym, subst}
+use Rattle.std.proofs.Common.{Option, Ok, Err, sym, subst}
 use Rattle.std.specs.Prelude.{IsSome}
 use Rattle.file_ports.specs.Ports.{Folder}
 use Rattle.command_line.specs.Shown.{journey_shown, ask_shown}

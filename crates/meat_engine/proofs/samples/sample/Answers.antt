@@ -1,13 +1,12 @@
 use Rattle.std.proofs.Common.{◌≡◌, None, Some, inl, inr, refl, sym, subst}
 use Rattle.file_ports.specs.Steady.{folder_of}
 use Rattle.command_line.specs.Jobs.{WantedJourney}
-use Rattle.fault_lines.specs.declared.faults.Input.{Input}
 use Rattle.fault_lines.specs.declared.faults.Fault.{Fault}
-use Rattle.fault_lines.specs.declared.faults.Fault.TheVariants.{Read}
 use Rattle.fault_lines.specs.Faults.{unread_of}
 use Rattle.journey_problem.specs.EarlyFaults.{IsEarly}
 use Rattle.journey_problem.specs.Problems.{IsProblem, IsProblemFault, IsSound}
-use Rattle.meat_engine.specs.Asks.{no_path, parts_of}
+use Rattle.meat_engine.specs.Asks.{no_path}
+use Rattle.journey_report.specs.Known.{parts_of}
 use Rattle.meat_engine.specs.Samples.{sample_journey, FailsSample}
 use Rattle.meat_engine.proofs.Asking.{early_tellable, fails_tellable, fails_unread, fails_safe, plain_refusal, never_unread, none_rises}
 use Rattle.meat_engine.proofs.samples.sample.Goals as goal

@@ -5,7 +5,7 @@ use Rattle.fault_lines.specs.declared.faults.Input.{Input}
 use Rattle.fault_lines.specs.declared.faults.Fault.{Fault}
 use Rattle.fault_lines.specs.declared.faults.Fault.TheVariants.{Words, Read, Write, NoMemory}
 use Rattle.fault_lines.specs.Sites.{IsTellable}
-use Rattle.meat_engine.specs.Findings.{findings_of}
+use Rattle.journey_report.specs.Findings.{findings_of}
 use Rattle.meat_engine.specs.Received.{FailsJob}
 use Rattle.meat_engine.specs.Runs.{files_state, sink_state}
 use Rattle.meat_engine.specs.Refusals.{known_of}

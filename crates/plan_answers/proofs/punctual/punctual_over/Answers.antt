@@ -12,6 +12,9 @@ unreachable-requires c =
 pub returns-clause-answer : goal.returns-clause-answer
 returns-clause-answer c =
     let asked = c.in_ok-asked.asked in
-    let found = c.in-Some.found in
-    (asked.query, asked.worst, c.in_ok-asked.ensures.asked,
-    (found.graph, found.chance, c.in_ok-bounds.bounds, c.in_ok-answer.ensures.found, MatchOption-at_some _ _ _ c.in-Some.is c.in_ok-found.ensures, c.in_ok-bounds.ensures, c.in_ok-answer.ensures.text))
+    let found = c.in-Some.found in (
+      asked.query,
+      asked.worst,
+      c.in_ok-asked.ensures.asked,
+      (found.graph, found.chance, c.in_ok-bounds.bounds, c.in_ok-answer.ensures.found, MatchOption-at_some _ _ _ c.in-Some.is c.in_ok-found.ensures, c.in_ok-bounds.ensures, c.in_ok-answer.ensures.text),
+    )

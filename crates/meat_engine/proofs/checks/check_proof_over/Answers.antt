@@ -1,8 +1,0 @@
-use Rattle.csv_rows.specs.Tables.{table_of}
-use Rattle.lower_proof.proofs.Deadlines.{told_deadline}
-use Rattle.meat_engine.proofs.checks.check_proof_over.Goals as goal
-
-pub checked-requires-clause-deadline : goal.checked-requires-clause-deadline
-checked-requires-clause-deadline g c =
-    let p = c.args.problem.now in
-    told_deadline p.network p.names p.source.0 p.target.0 c.args.start.0 (table_of c.in-Ok.ensures.proof.text) c.in-Ok.query c.in-Ok.proof.values c.in-Ok.ensures.proof.tells

@@ -1,0 +1,48 @@
+use Rattle.std.proofs.Common.{◌≡◌, Ok, None, Option, sym, subst}
+use Rattle.std.specs.Prelude.{IfSome}
+use Rattle.file_ports.specs.Ports.{Folder, file_at}
+use Rattle.fault_lines.specs.declared.faults.Input.{Input}
+use Rattle.fault_lines.specs.declared.faults.Input.TheVariants as input
+use Rattle.journey_problem.specs.Files.{bytes_of}
+use Rattle.journey_problem.proofs.Causes.{causes-quiet}
+use Rattle.journey_problem.proofs.Loads.{if_some_then}
+use Rattle.meat_engine.proofs.Asking.{if_ok_then, if_err_then}
+use Rattle.graph_text.proofs.Deadlines.{graph_deadline}
+use Rattle.lower_proof.proofs.Range.{moment_range}
+use Rattle.meat_engine.proofs.GraphFiles.{graph_finds}
+use Rattle.meat_engine.proofs.graph_files.read_graph_file.Goals as goal
+
+pub returns-in-Ok-clause-graph : goal.returns-in-Ok-clause-graph
+returns-in-Ok-clause-graph g c =
+    let bytes = c.in-Ok.bytes.items in
+    if_some_then (g.F.Files.files c.args.files.now) (λ (m : Folder). bytes_of c.args.limits.now.bytes input.Graph None (file_at m c.args.path.now) ≡ Ok bytes) _
+    (λ m there. graph_finds c.args.limits.now c.args.problem.now c.args.start.0 (file_at m c.args.path.now) bytes c.as_slice.result.now there c.as_slice.ensures.value
+    c.graph_of_bytes.result c.graph_of_bytes.ensures.graph c.graph_of_bytes.ensures.fault c.graph_of_bytes.ensures.read)
+    c.in-Ok.ensures.bytes
+
+pub returns-in-Ok-clause-fit : goal.returns-in-Ok-clause-fit
+returns-in-Ok-clause-fit g c =
+    if_ok_then c.graph_of_bytes.result _ _
+    (λ f read. (c.read_fits.ensures c.args.problem.now.network c.args.problem.now.names c.as_slice.result.now c.args.problem.now.source.0 c.args.problem.now.target.0 c.args.start.0 f.0 f.1 read).0)
+    c.graph_of_bytes.ensures.graph
+
+pub returns-in-Ok-clause-head : goal.returns-in-Ok-clause-head
+returns-in-Ok-clause-head g c =
+    if_ok_then c.graph_of_bytes.result _ _
+    (λ f read. (c.read_fits.ensures c.args.problem.now.network c.args.problem.now.names c.as_slice.result.now c.args.problem.now.source.0 c.args.problem.now.target.0 c.args.start.0 f.0 f.1 read).1)
+    c.graph_of_bytes.ensures.graph
+
+pub returns-in-Ok-clause-deadline : goal.returns-in-Ok-clause-deadline
+returns-in-Ok-clause-deadline g c =
+    if_ok_then c.graph_of_bytes.result _ _
+    (λ f read. let told = graph_deadline c.args.problem.now.network c.args.problem.now.names c.args.problem.now.source.0 c.args.problem.now.target.0 c.args.start.0 c.as_slice.result.now f.0 f.1 read in
+    moment_range told.0 f.0.query.deadline.0 told.1)
+    c.graph_of_bytes.ensures.graph
+
+pub returns-in-Ok-clause-own : goal.returns-in-Ok-clause-own
+returns-in-Ok-clause-own g c =
+    if_err_then c.graph_of_bytes.result _ _
+    (λ fault none. subst (λ (u : Option Input). IfSome u (λ other. other ≡ input.Graph)) (sym none) tt) c.graph_of_bytes.ensures.read
+
+pub returns-in-Ok-clause-causes : goal.returns-in-Ok-clause-causes
+returns-in-Ok-clause-causes g c = causes-quiet c.in-Ok.bytes _ c.in-Ok.ensures.causes c.graph_of_bytes.ensures.read

@@ -1,7 +1,0 @@
-use Rattle.std.proofs.Common.{◌≡◌, ◌++◌, drop}
-use Rattle.meat_engine.specs.Texts.{rides_text}
-use Rattle.meat_engine.proofs.texts.trace_text.Given as goal
-
--- the text so far, and that of the rides that are left
-abbrev pub invariant-loop-ride : goal.invariant-loop-ride
-invariant-loop-ride l = l.text.items ++ rides_text l.network l.names (drop l.ride-index l.trace.rides) ≡ rides_text l.network l.names l.trace.rides
