@@ -13,6 +13,3 @@ mod table;
 
 pub use faults::CutFault;
 pub use table::{CutTable, read_cut};
-
-#[cfg(test)]
-mod tests;

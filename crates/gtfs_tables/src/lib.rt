@@ -10,8 +10,6 @@ mod routes;
 mod stop_times;
 mod stops;
 mod tables;
-#[cfg(test)]
-mod tests;
 mod timetable;
 mod trips;
 mod visits;

@@ -1,5 +1,6 @@
-use super::*;
+//! Small cut files, and what is read of them.
 use csv_rows::{Column, Limits, Rows};
+use cut_file::{CutFault, CutTable, read_cut};
 use delay_table::DelayTable;
 use plan_model::{ClassId, ConnectionId, Names, Network, PlaceId, RunId};
 use std::alloc::Global;

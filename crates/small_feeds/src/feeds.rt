@@ -1,7 +1,7 @@
 //! A small feed, and what becomes of it where a table is another.
-use crate::*;
 use csv_rows::{Column, FeedFault, Limits, Table};
 use file_ports::SteadyFiles;
+use gtfs_tables::{Feed, StopRow};
 use plan_model::{NoMemory, PlaceId};
 use std::alloc::Global;
 use std::test::Fail;
