@@ -35,79 +35,105 @@ fn loaded_steadily(
     load(alloc, files, path, 99)
 }
 
-#[test]
-fn memory_files_fail_where_told(rt: HostRuntime) -> Result<(), Fail> {
-    let alloc = rt.alloc();
+/// Whether a file is loaded as these bytes.
+fn gives<F: Files>(alloc: Global, files: &mut F, path: &str, most: u32, bytes: &str) -> bool {
+    match loaded(alloc, files, path, most) {
+        Ok(found) => found.as_slice() == bytes.as_bytes(),
+        Err(_) => false,
+    }
+}
+
+/// Whether a file is not loaded for this cause.
+fn refuses<F: Files>(alloc: Global, files: &mut F, path: &str, most: u32, cause: &str) -> bool {
+    match loaded(alloc, files, path, most) {
+        Ok(_) => false,
+        Err(found) => found == cause,
+    }
+}
+
+/// Files of nine bytes at most, of which a read gives two.
+fn short_files(alloc: Global) -> Result<MemoryFiles, Fail> {
     let mut files = MemoryFiles::new(alloc, 2);
-    files.add("a", b"hello")?;
-    files.add("b", b"")?;
-    files.add("eight", b"12345678")?;
-    files.add("nine", b"123456789")?;
-    assert_eq!(rt;
-        loaded(alloc, &mut files, "a", 5)?.as_slice(),
-        b"hello".as_slice()
-    );
-    assert_eq!(rt;
-        loaded(alloc, &mut files, "eight", 8)?.as_slice(),
-        b"12345678".as_slice()
-    );
-    assert_eq!(rt;
-        loaded(alloc, &mut files, "b", 0)?.as_slice(),
-        b"".as_slice()
-    );
-    for (path, most, fault) in [
+    for (path, text) in [
+        ("a", "hello"),
+        ("b", ""),
+        ("eight", "12345678"),
+        ("nine", "123456789"),
+    ] {
+        files.add(path, text.as_bytes())?;
+    }
+    Ok(files)
+}
+
+/// The short files, of which those at these paths fail at these calls.
+fn failing_files(alloc: Global, calls: &[(&str, u32)]) -> Result<MemoryFiles, Fail> {
+    let mut files = short_files(alloc)?;
+    for (path, call) in calls {
+        files.fail(path, *call)?;
+    }
+    Ok(files)
+}
+
+#[test]
+fn memory_files_are_whole(rt: HostRuntime) -> Result<(), Fail> {
+    let mut files = short_files(rt.alloc())?;
+    for (path, most, text) in [("a", 5, "hello"), ("eight", 8, "12345678"), ("b", 0, "")] {
+        assert!(rt; gives(rt.alloc(), &mut files, path, most, text), "{path}");
+    }
+    for (path, most, cause) in [
         ("nine", 8, "too long"),
         ("a", 4, "too long"),
         ("c", 9, "absent"),
     ] {
-        assert_eq!(rt; loaded(alloc, &mut files, path, most).err(), Some(fault));
-    }
-    assert_eq!(rt; files.fault_count(), 0);
-    files.fail("a", 3)?;
-    files.fail("c", 0)?;
-    for path in ["a", "c"] {
-        assert_eq!(rt;
-            loaded(alloc, &mut files, path, 5).err(),
-            Some("cannot read")
+        assert!(rt;
+            refuses(rt.alloc(), &mut files, path, most, cause),
+            "{path}"
         );
     }
-    assert_eq!(rt; files.fault_count(), 2);
+    assert!(rt; files.fault_count() == 0);
+    Ok(())
+}
+
+#[test]
+fn memory_files_fail_where_told(rt: HostRuntime) -> Result<(), Fail> {
+    let mut files = failing_files(rt.alloc(), &[("a", 3), ("c", 0)])?;
+    for path in ["a", "c"] {
+        assert!(rt;
+            refuses(rt.alloc(), &mut files, path, 5, "cannot read"),
+            "{path}"
+        );
+    }
+    assert!(rt; files.fault_count() == 2);
     Ok(())
 }
 
 #[test]
 fn memory_files_heal(rt: HostRuntime) -> Result<(), Fail> {
-    let alloc = rt.alloc();
-    let mut files = MemoryFiles::new(alloc, 2);
-    files.add("a", b"hello")?;
-    files.add("b", b"there")?;
-    for (path, call) in [("a", 0), ("a", 2), ("b", 1), ("c", 0)] {
-        files.fail(path, call)?;
-    }
-    for path in ["a", "b", "c"] {
-        assert_eq!(rt;
-            loaded(alloc, &mut files, path, 9).err(),
-            Some("cannot read"),
+    let mut files = failing_files(rt.alloc(), &[("a", 0), ("a", 2), ("eight", 1), ("c", 0)])?;
+    for path in ["a", "eight", "c"] {
+        assert!(rt;
+            refuses(rt.alloc(), &mut files, path, 9, "cannot read"),
             "{path}"
         );
     }
-    assert_eq!(rt; files.fault_count(), 3);
+    assert!(rt; files.fault_count() == 3);
     files.heal();
-    for (path, bytes) in [("a", b"hello".as_slice()), ("b", b"there".as_slice())] {
-        assert_eq!(rt;
-            loaded(alloc, &mut files, path, 9)?.as_slice(),
-            bytes,
-            "{path}"
-        );
+    for (path, text) in [("a", "hello"), ("eight", "12345678")] {
+        assert!(rt; gives(rt.alloc(), &mut files, path, 9, text), "{path}");
     }
-    assert_eq!(rt; loaded(alloc, &mut files, "c", 9).err(), Some("absent"));
-    assert_eq!(rt; files.fault_count(), 3);
-    files.fail("b", 0)?;
-    assert_eq!(rt;
-        loaded(alloc, &mut files, "b", 9).err(),
-        Some("cannot read")
-    );
-    assert_eq!(rt; files.fault_count(), 4);
+    assert!(rt; refuses(rt.alloc(), &mut files, "c", 9, "absent"));
+    assert!(rt; files.fault_count() == 3);
+    Ok(())
+}
+
+#[test]
+fn memory_files_fail_once_more(rt: HostRuntime) -> Result<(), Fail> {
+    let mut files = failing_files(rt.alloc(), &[("eight", 1)])?;
+    assert!(rt; refuses(rt.alloc(), &mut files, "eight", 9, "cannot read"));
+    files.heal();
+    files.fail("eight", 0)?;
+    assert!(rt; refuses(rt.alloc(), &mut files, "eight", 9, "cannot read"));
+    assert!(rt; files.fault_count() == 2);
     Ok(())
 }
 
