@@ -13,3 +13,4 @@ pub mod Beside
 pub mod FeedFacts
 pub mod RepeatFacts
 pub mod SmallFacts
+pub mod KeptLemmas

@@ -1,43 +1,58 @@
 //! The rows of stop times by trip and sequence, and the first of them whose times go back.
-ghost use Rattle.std.specs.Prelude.{◌≡◌, ◌<◌, ◌≤◌, ◌^◌, length, true, None, IfOk, IfSome};
+ghost use Rattle.std.specs.Prelude.{◌≡◌, ◌<◌, ◌≤◌, ◌^◌, ℕ, length, true, false, None, IfOk, IfSome};
+ghost use Rattle.std.specs.List.{filter};
 ghost use Rattle.csv_rows.specs.First.{first_below};
-ghost use Rattle.gtfs_tables.specs.Keys.{AreKeysOf, is_taken, goes_back_after, backward_after};
-ghost use Rattle.gtfs_tables.specs.StopTimes.{times_in, row_at, repeated_time, backward_time};
+ghost use Rattle.gtfs_tables.specs.Keys.{AreKeysOf, goes_back_after, backward_after};
+ghost use Rattle.gtfs_tables.specs.StopTimes.{times_in, row_at, is_kept, repeated_time, backward_time};
 
 use crate::stop_times::TimedRow;
 use csv_rows::{FeedFault, Key, before_at, in_order, sooner};
 use plan_model::NoMemory;
 use std::alloc::Global;
 
-/// Whether a row is taken: each is, or the kept ones alone are.
-fn is_taken(rows: &[TimedRow], row: usize, kept_alone: bool) -> bool
-    requires { row < length rows.now }
-    ensures { result ≡ is_taken kept_alone rows.now row }
-{
-    !kept_alone || rows[row].visit.is_some()
-}
-
-/// All rows, or the kept ones alone, in the order of trip, sequence and place in the file.
-pub(crate) fn sorted_keys(
-    alloc: Global,
-    rows: &[TimedRow],
-    kept_alone: bool,
-) -> Result<Vec<Key>, NoMemory>
+/// All rows, in the order of trip, sequence and place in the file.
+pub(crate) fn sorted_keys(alloc: Global, rows: &[TimedRow]) -> Result<Vec<Key>, NoMemory>
     requires { length rows.now < 2 ^ 32 }
-    ensures keys { IfOk result (λ keys. AreKeysOf kept_alone rows.now keys.items) }
+    ensures keys { IfOk result (λ keys. AreKeysOf false rows.now keys.items) }
     ensures few { IfOk result (λ keys. length keys.items ≤ length rows.now) }
 {
     let mut keys: Vec<Key> = Vec::new(alloc);
     for i in 0..rows.len() {
-        if is_taken(rows, i, kept_alone) {
-            keys.push(Key {
-                group: rows[i].trip,
-                order: rows[i].sequence,
-                row: i as u32,
-            })?;
-        }
+        keys.push(Key {
+            group: rows[i].trip,
+            order: rows[i].sequence,
+            row: i as u32,
+        })?;
     }
     Ok(in_order(keys))
+}
+
+/// Whether the row of a key is kept.
+fn is_kept(rows: &[TimedRow], key: Key) -> bool
+    ensures { result ≡ is_kept rows.now key.row }
+{
+    match rows.get(key.row as usize) {
+        None => false,
+        Some(row) => row.visit.is_some(),
+    }
+}
+
+/// Leaves the keys of the kept rows.
+fn retain_kept(rows: &[TimedRow], keys: &mut Vec<Key>)
+    ensures kept { keys.new.items ≡ filter (λ key. is_kept rows.now key.row) keys.old.items }
+    ensures few { length keys.new.items ≤ length keys.old.items }
+{
+    keys.retain(|key| is_kept(rows, *key));
+}
+
+/// The keys of the kept rows, by those of all rows, in the same order.
+pub(crate) fn kept_keys(rows: &[TimedRow], mut keys: Vec<Key>) -> Vec<Key>
+    requires { AreKeysOf false rows.now keys.items }
+    ensures keys { AreKeysOf true rows.now result.items }
+    ensures few { length result.items ≤ length keys.items }
+{
+    retain_kept(rows, &mut keys);
+    keys
 }
 
 /// When a kept row arrives and departs.

@@ -1,35 +1,32 @@
 //! The stop times of a feed.
-ghost use Rattle.std.specs.Prelude.{◌≡◌, ◌≢◌, ◌<◌, ◌≤◌, ℕ, length, map, vec_items, slice_index_or, [], None, Some, Ok, IfOk, IfErr, OnOk};
+ghost use Rattle.std.specs.Prelude.{◌≡◌, ◌≢◌, ◌<◌, ◌≤◌, ℕ, length, map, vec_items, slice_index_or, [], false, None, Some, Ok, IfOk, IfErr, OnOk};
 ghost use Rattle.csv_rows.specs.declared.feed_tables.Table.TheVariants.{StopTimes as StopTimesTable};
 ghost use Rattle.csv_rows.specs.First.{first_below};
 ghost use Rattle.csv_rows.specs.FeedTables.{unread_of, IsFaultOf};
 ghost use Rattle.csv_rows.specs.Tables.{row_count};
 ghost use Rattle.gtfs_tables.specs.Bounds.{most_stop_times};
+ghost use Rattle.gtfs_tables.specs.Keys.{AreKeysOf};
 ghost use Rattle.gtfs_tables.specs.Feeds.{IsSound, AreVisits};
 ghost use Rattle.gtfs_tables.specs.StopTimes.{timed_rows, repeated_time, order_fault, stop_times_fault};
 ghost use Rattle.gtfs_tables.specs.Visits.{AreStopTimes};
 
-use crate::keys::{first_backward, sorted_keys};
+use crate::keys::{first_backward, kept_keys, sorted_keys};
 use crate::stop_times::{StopRow, TimedRow, missing_column, read_timed_rows, time_columns};
 use crate::stops::Stops;
 use crate::visits::visits_of;
-use csv_rows::{FeedFault, Ids, Rows, Table, first_repeat};
+use csv_rows::{FeedFault, Ids, Key, Rows, Table, first_repeat};
 use std::alloc::Global;
 
-/// The first row that has the trip and the sequence of an earlier one.
-fn check_once(alloc: Global, rows: &[TimedRow]) -> Result<(), FeedFault>
-    requires { length rows.now ≤ 33554432 }
+/// The first row that has the trip and the sequence of an earlier one, by the keys of all rows in their order.
+fn check_once(rows: &[TimedRow], keys: &[Key]) -> Result<(), FeedFault>
+    requires { AreKeysOf false rows.now keys.now }
     ensures none { OnOk result (first_below (repeated_time rows.now) (length rows.now) ≡ None) }
     ensures fault { IfErr result (λ f. f ≢ FeedFault.NoMemory
         → first_below (repeated_time rows.now) (length rows.now) ≡ Some f) }
     ensures content { IfErr result (λ f. unread_of f ≡ None) }
     ensures own { IfErr result (IsFaultOf StopTimesTable) }
 {
-    let keys = match sorted_keys(alloc, rows, false) {
-        Ok(keys) => keys,
-        Err(_) => return Err(FeedFault::NoMemory),
-    };
-    match first_repeat(keys.as_slice()) {
+    match first_repeat(keys) {
         None => Ok(()),
         Some(row) => Err(FeedFault::DuplicateKey(Table::StopTimes, u64::from(row) + 2)),
     }
@@ -48,14 +45,12 @@ fn in_order(alloc: Global, rows: &[TimedRow], trips: u32) -> Result<Vec<Vec<Stop
     ensures content { IfErr result (λ f. unread_of f ≡ None) }
     ensures own { IfErr result (IsFaultOf StopTimesTable) }
 {
-    match check_once(alloc, rows) {
-        Ok(()) => {}
-        Err(fault) => return Err(fault),
-    }
-    let keys = match sorted_keys(alloc, rows, true) {
+    let keys = match sorted_keys(alloc, rows) {
         Ok(keys) => keys,
         Err(_) => return Err(FeedFault::NoMemory),
     };
+    check_once(rows, keys.as_slice())?;
+    let keys = kept_keys(rows, keys);
     if let Some(fault) = first_backward(rows, keys.as_slice()) {
         return Err(fault);
     }

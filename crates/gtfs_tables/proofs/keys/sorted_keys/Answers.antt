@@ -1,12 +1,11 @@
-use Rattle.std.proofs.Common.{◌≡◌, ◌≤◌, ap, sym, ◌∙◌, refl, arith, subst, ℕ, List, [], ◌∷◌, ◌++◌, length, ◌+◌, Vec, Global}
+use Rattle.std.proofs.Common.{◌≡◌, false, ap, refl, arith, subst, ℕ, List, [], ◌∷◌, ◌++◌, length, ◌+◌, ◌∙◌}
 use Rattle.std.proofs.lemmas.List.{length_push}
 use Rattle.std.proofs.lemmas.List.Sorted.{length_permutation}
 use Rattle.csv_rows.specs.declared.keys.Key.{Key}
-use Rattle.csv_rows.proofs.SortLemmas.{AreKeys, key_of, sorted_are, keys-none, keys-passed, keys-taken}
+use Rattle.csv_rows.proofs.SortLemmas.{AreKeys, key_of, sorted_are, keys-none, keys-taken}
 use Rattle.gtfs_tables.specs.StopTimes.{trip_of, sequence_of}
 use Rattle.gtfs_tables.specs.Keys.{is_taken}
 use Rattle.gtfs_tables.proofs.keys.sorted_keys.Goals as goal
-use Rattle.gtfs_tables.proofs.keys.sorted_keys.Goals.{then-is_taken+in_ok-push, else-is_taken}
 
 pushed : (xs ys : List Key) (x : Key) → ys ≡ xs ++ x ∷ [] → length ys ≡ length xs + 1
 pushed xs ys x e = ap length e ∙ length_push xs x
@@ -14,27 +13,19 @@ pushed xs ys x e = ap length e ∙ length_push xs x
 pub loop-i-init : goal.loop-i-init
 loop-i-init c =
     let rows = c.args.rows.now in
-    (keys-none (is_taken c.args.kept_alone rows) (trip_of rows) (sequence_of rows) c.new-keys.result.items c.new-keys.ensures.items, omega (arith, ap length c.new-keys.ensures.items))
+    (keys-none (is_taken false rows) (trip_of rows) (sequence_of rows) c.new-keys.result.items c.new-keys.ensures.items, omega (arith, ap length c.new-keys.ensures.items))
 
 pub loop-i-preserved : goal.loop-i-preserved
 unfolding key_of
 loop-i-preserved c =
     let rows = c.args.rows.now in
-    let test = is_taken c.args.kept_alone rows in
-    let trip = trip_of rows in
-    let sequence = sequence_of rows in
     let i = c.loop-i.i in
     let old = c.loop-i.keys.items in
-    let P : Vec Key Global → Type 0 = λ v. AreKeys test trip sequence (i + 1) v.items × (length v.items ≤ i + 1) in
-    elim c.if-is_taken.branch [
-      | then-is_taken+in_ok-push w ↦
-          subst P (sym w.keys-is) (
-            keys-taken test trip sequence i old w.push.new.self.items _ c.loop-i.invariant.0 (sym c.is_taken.ensures ∙ w.if-is_taken.true) w.in_ok-push.ensures.items refl,
-            let size = pushed old w.push.new.self.items _ w.in_ok-push.ensures.items in omega (arith, size, c.loop-i.invariant.1),
-          )
-      | else-is_taken w ↦
-          subst P (sym w.keys-is) (keys-passed test trip sequence i old c.loop-i.invariant.0 (sym c.is_taken.ensures ∙ w.if-is_taken.false), omega (arith, c.loop-i.invariant.1))
-    ]
+    let new = c.push.new.self.items in
+    let size = pushed old new _ c.in_ok-push.ensures.items in (
+      keys-taken (is_taken false rows) (trip_of rows) (sequence_of rows) i old new _ c.loop-i.invariant.0 refl c.in_ok-push.ensures.items refl,
+      omega (arith, size, c.loop-i.invariant.1),
+    )
 
 pub returns-clause-few : goal.returns-clause-few
 returns-clause-few c = omega (arith, length_permutation c.loop-i.keys.items c.in_order.result.items c.in_order.ensures.same, c.loop-i.invariant.1)
@@ -42,7 +33,7 @@ returns-clause-few c = omega (arith, length_permutation c.loop-i.keys.items c.in
 pub returns-clause-keys : goal.returns-clause-keys
 returns-clause-keys c =
     let rows = c.args.rows.now in
-    let test = is_taken c.args.kept_alone rows in
+    let test = is_taken false rows in
     let P : ℕ → Type 0 = λ m. AreKeys test (trip_of rows) (sequence_of rows) m c.loop-i.keys.items in
     let end : c.loop-i.i ≡ length rows = omega arith in
     sorted_are test (trip_of rows) (sequence_of rows) (length rows) c.loop-i.keys.items c.in_order.result.items (subst P end c.loop-i.invariant.0) c.in_order.ensures.same c.in_order.ensures.rising

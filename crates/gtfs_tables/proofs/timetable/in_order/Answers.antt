@@ -6,17 +6,17 @@ use Rattle.gtfs_tables.proofs.BackLemmas.{backward_is}
 use Rattle.gtfs_tables.proofs.timetable.in_order.Goals as goal
 
 pub returns-in-Some-clause-fault : goal.returns-in-Some-clause-fault
-returns-in-Some-clause-fault c = λ free. or_then _ _ _ c.in-Ok.ensures.none (c.first_backward.ensures c.in-Ok.ensures.none ∙ c.in-Some.is)
+returns-in-Some-clause-fault c = λ free. or_then _ _ _ c.in_ok-check_once.ensures.none (c.first_backward.ensures c.in_ok-check_once.ensures.none ∙ c.in-Some.is)
 
 pub returns-in-Some-clause-content : goal.returns-in-Some-clause-content
 returns-in-Some-clause-content c =
-    let w = backward_is c.args.rows.now c.in-Some.fault (c.first_backward.ensures c.in-Ok.ensures.none ∙ c.in-Some.is) in
+    let w = backward_is c.args.rows.now c.in-Some.fault (c.first_backward.ensures c.in_ok-check_once.ensures.none ∙ c.in-Some.is) in
     ap unread_of w.1
 
 pub returns-in-Some-clause-own : goal.returns-in-Some-clause-own
 returns-in-Some-clause-own c =
-    let w = backward_is c.args.rows.now c.in-Some.fault (c.first_backward.ensures c.in-Ok.ensures.none ∙ c.in-Some.is) in
+    let w = backward_is c.args.rows.now c.in-Some.fault (c.first_backward.ensures c.in_ok-check_once.ensures.none ∙ c.in-Some.is) in
     subst (IsFaultOf StopTimes) (sym w.1) refl
 
 pub returns-in-Ok-visits_of-clause-none : goal.returns-in-Ok-visits_of-clause-none
-returns-in-Ok-visits_of-clause-none c = or_then _ _ _ c.in-Ok.ensures.none (c.first_backward.ensures c.in-Ok.ensures.none ∙ c.in_default.is)
+returns-in-Ok-visits_of-clause-none c = or_then _ _ _ c.in_ok-check_once.ensures.none (c.first_backward.ensures c.in_ok-check_once.ensures.none ∙ c.in_default.is)
