@@ -7,6 +7,7 @@ use file_ports::{
 use plan_model::List;
 use std::alloc::Global;
 use std::fs;
+use std::hash::{BuildHasher, Hasher};
 use std::test::Fail;
 
 fn loaded<F: Files>(
@@ -181,6 +182,23 @@ fn host_files_read(rt: HostRuntime) -> Result<(), Fail> {
     }
     fs::remove_file(&rt, "found.txt")?;
     Ok(())
+}
+
+/// What a key makes of one number.
+fn hash_of<F: Files>(files: &F) -> u64 {
+    let mut hasher = files.hash_key().build_hasher();
+    hasher.write_u64(1);
+    hasher.finish()
+}
+
+#[test]
+fn each_start_draws_a_key(rt: HostRuntime) {
+    let alloc = rt.alloc();
+    let first = hash_of(&HostFiles::new(&rt));
+    assert!(rt; first != hash_of(&HostFiles::new(&rt)));
+    let fixed = hash_of(&SteadyFiles::new(alloc, 4_096));
+    assert_eq!(rt; fixed, hash_of(&SteadyFiles::new(alloc, 4_096)));
+    assert!(rt; fixed != first);
 }
 
 #[test]
