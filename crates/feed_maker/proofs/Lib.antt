@@ -1,3 +1,5 @@
 pub mod JoinedLemmas
 pub mod DigitLemmas
 pub mod FolderLemmas
+pub mod StopTimeLemmas
+pub mod HandLemmas

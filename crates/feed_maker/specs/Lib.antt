@@ -3,3 +3,5 @@ pub mod Names
 pub mod Tables
 pub mod Made
 pub mod Pieces
+pub mod StopTimes
+pub mod Files

@@ -14,6 +14,16 @@ made lines =
     ∷ (codes "delays.csv", delays_text)
     ∷ []
 
+-- all of them but the stop times
+unfoldable pub other_files : ℕ → Folder
+other_files lines =
+    (codes "feed/stops.txt", stops_text lines)
+    ∷ (codes "feed/routes.txt", routes_text lines)
+    ∷ (codes "feed/trips.txt", trips_text lines)
+    ∷ (codes "feed/calendar.txt", calendar_text)
+    ∷ (codes "delays.csv", delays_text)
+    ∷ []
+
 -- both have the same files, each with the same bytes
 abbrev pub SameFolder : Folder → Folder → Type 0
 SameFolder folder other = (path : List ℕ) → file_at other path ≡ file_at folder path

@@ -3,18 +3,42 @@
 
 ghost use Rattle.std.specs.Prelude.{◌≡◌, ◌≤◌, None, IfOk};
 ghost use Rattle.file_ports.specs.Steady.{folder_of, hand_of, piece_of};
-ghost use Rattle.feed_maker.specs.Made.{made, SameFolder};
+ghost use Rattle.feed_maker.specs.Made.{made, other_files, SameFolder};
 
+mod files;
 mod lines;
 mod names;
+mod stop_times;
 mod tables;
 
 use file_ports::SteadyFiles;
+pub use files::MadeFiles;
 use plan_model::NoMemory;
 use std::alloc::Global;
 
 /// The most bytes that a read gives.
 const PIECE: usize = 65_536;
+
+/// The path of the stop times.
+const STOP_TIMES: &str = "feed/stop_times.txt";
+
+/// The files of a made timetable, but for the stop times.
+fn other_files(alloc: Global, size: u32) -> Result<SteadyFiles, NoMemory>
+    ensures files { IfOk result (λ files. SameFolder (other_files size) (folder_of files)) }
+    ensures piece { IfOk result (λ files. piece_of files ≡ 65536) }
+    ensures hand { IfOk result (λ files. hand_of files ≡ None) }
+{
+    let mut files = SteadyFiles::new(alloc, PIECE);
+    let stops = tables::stops(alloc, size)?;
+    let routes = tables::routes(alloc, size)?;
+    let trips = tables::trips(alloc, size)?;
+    files.add("delays.csv", tables::delays().as_bytes())?;
+    files.add("feed/calendar.txt", tables::calendar().as_bytes())?;
+    files.add("feed/trips.txt", trips.as_bytes())?;
+    files.add("feed/routes.txt", routes.as_bytes())?;
+    files.add("feed/stops.txt", stops.as_bytes())?;
+    Ok(files)
+}
 
 /// A feed of `size` lines in the folder `feed`, in the form of the GTFS Schedule reference, and the
 /// delays of its classes in `delays.csv`, which is no part of that reference. No file is in hand,
@@ -24,7 +48,7 @@ const PIECE: usize = 65_536;
 /// 20 hops of `60 + 5 * (a % 7)` seconds each. It has a run every 15 minutes, 96 a day, the first at
 /// `35 * a % 900` seconds after midnight, and its route is of type `a % 4`.
 ///
-/// `NoMemory` comes only for want of memory.
+/// `NoMemory` comes only for want of memory. `MadeFiles` are the same files in less of it.
 pub fn make(alloc: Global, size: u32) -> Result<SteadyFiles, NoMemory>
     requires low { 10 ≤ size }
     requires high { size ≤ 400 }
@@ -32,16 +56,8 @@ pub fn make(alloc: Global, size: u32) -> Result<SteadyFiles, NoMemory>
     ensures piece { IfOk result (λ files. piece_of files ≡ 65536) }
     ensures hand { IfOk result (λ files. hand_of files ≡ None) }
 {
-    let mut files = SteadyFiles::new(alloc, PIECE);
-    let stops = tables::stops(alloc, size)?;
-    let routes = tables::routes(alloc, size)?;
-    let trips = tables::trips(alloc, size)?;
-    let stop_times = tables::stop_times(alloc, size)?;
-    files.add("delays.csv", tables::delays().as_bytes())?;
-    files.add("feed/calendar.txt", tables::calendar().as_bytes())?;
-    files.add("feed/stop_times.txt", stop_times.as_slice())?;
-    files.add("feed/trips.txt", trips.as_bytes())?;
-    files.add("feed/routes.txt", routes.as_bytes())?;
-    files.add("feed/stops.txt", stops.as_bytes())?;
+    let mut files = other_files(alloc, size)?;
+    let times = stop_times::stop_times(alloc, size)?;
+    files.add(STOP_TIMES, times.as_slice())?;
     Ok(files)
 }

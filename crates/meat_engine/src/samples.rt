@@ -12,7 +12,7 @@ use crate::refusal::Refusal;
 use command_line::{Journey, Timetable};
 use csv_rows::Limits;
 use fault_lines::Fault;
-use feed_maker::make;
+use feed_maker::MadeFiles;
 use journey_problem::problem_of;
 use journey_report::{Answer, Problem, Report, sample_text};
 use plan_answers::{asked_of, planned_of};
@@ -70,7 +70,7 @@ pub(crate) fn sample(alloc: Global, size: u32, limits: &Limits) -> Result<Answer
     ensures fault { IfErr result (IsRefusalBy (FailsSample limits.now size)) }
     ensures read { IfErr result (λ r. unread_of r.fault ≡ None) }
 {
-    let Ok(mut files) = make(alloc, size) else {
+    let Ok(mut files) = MadeFiles::new(alloc, size) else {
         return Err(Refusal::plain(Fault::NoMemory));
     };
     let journey = sample_journey();

@@ -1,10 +1,10 @@
 //! Made timetables, against rows worked out by hand.
-use feed_maker::make;
-use file_ports::{SteadyFiles, load};
+use feed_maker::{MadeFiles, make};
+use file_ports::{Files, load};
 use std::alloc::Global;
 use std::test::Fail;
 
-fn bytes_of(alloc: Global, files: &mut SteadyFiles, path: &str) -> Result<Vec<u8>, &'static str> {
+fn bytes_of<F: Files>(alloc: Global, files: &mut F, path: &str) -> Result<Vec<u8>, &'static str> {
     match load(alloc, files, path, 1_000_000_000) {
         Ok(Some(bytes)) => Ok(bytes),
         Ok(None) => Err("absent"),
@@ -15,7 +15,8 @@ fn bytes_of(alloc: Global, files: &mut SteadyFiles, path: &str) -> Result<Vec<u8
 #[test]
 fn ten_lines(rt: HostRuntime) -> Result<(), Fail> {
     let alloc = rt.alloc();
-    let mut files = make(alloc, 10)?;
+    let mut files = MadeFiles::new(alloc, 10)?;
+    let mut whole = make(alloc, 10)?;
     for (path, rows, front, end) in [
         (
             "feed/stops.txt",
@@ -60,6 +61,7 @@ fn ten_lines(rt: HostRuntime) -> Result<(), Fail> {
         assert_eq!(rt; bytes.iter().filter(|byte| **byte == b'\n').count(), rows);
         assert!(rt; bytes.starts_with(front.as_bytes()));
         assert!(rt; bytes.ends_with(end.as_bytes()));
+        assert!(rt; bytes == bytes_of(alloc, &mut whole, path)?);
     }
     Ok(())
 }
@@ -72,7 +74,7 @@ fn last_times(rt: HostRuntime) -> Result<(), Fail> {
         (21, "\nT30_95,24:10:50,24:10:50,H1,21\n"),
         (95, "\nT104_95,24:15:40,24:15:40,H6,21\n"),
     ] {
-        let mut files = make(alloc, 10 + more % 391)?;
+        let mut files = MadeFiles::new(alloc, 10 + more % 391)?;
         let bytes = bytes_of(alloc, &mut files, "feed/stop_times.txt")?;
         assert!(rt; bytes.ends_with(end.as_bytes()));
     }

@@ -1,23 +1,12 @@
-use Rattle.std.proofs.Common.{[], ◌∷◌, ◌∙◌, codes}
-use Rattle.file_ports.specs.Ports.{Folder}
+use Rattle.std.proofs.Common.{◌∙◌, codes}
 use Rattle.file_ports.specs.Steady.{folder_of}
-use Rattle.feed_maker.specs.Tables.{stops_text, routes_text, trips_text, stop_times_text, calendar_text, delays_text}
-use Rattle.feed_maker.specs.Made.{made}
-use Rattle.feed_maker.proofs.FolderLemmas.{folder_none, folder_more}
+use Rattle.feed_maker.specs.Tables.{stop_times_text}
+use Rattle.feed_maker.specs.Made.{other_files}
+use Rattle.feed_maker.proofs.FolderLemmas.{folder_more, stop_times_first}
 use Rattle.feed_maker.proofs.make.Goals as goal
 
 pub returns-clause-files : goal.returns-clause-files
-unfolding made
 returns-clause-files c =
-    let new = folder_none (folder_of c.new-files.result) c.new-files.ensures.files in
-    let delays_on = folder_more [] (folder_of c.new-files.result) (folder_of c.add.new.self) (codes "delays.csv") c.as_bytes.result.now delays_text new (c.as_bytes.ensures.value ∙ c.delays.ensures) c.in_ok-add.ensures.ok in
-    let with_delays : Folder = (codes "delays.csv", delays_text) ∷ [] in
-    let calendar_on = folder_more with_delays (folder_of c.add.new.self) (folder_of c.add-2.new.self) (codes "feed/calendar.txt") c.as_bytes-2.result.now calendar_text delays_on (c.as_bytes-2.ensures.value ∙ c.calendar.ensures) c.in_ok-add-2.ensures.ok in
-    let with_calendar : Folder = (codes "feed/calendar.txt", calendar_text) ∷ with_delays in
-    let stop_times_on = folder_more with_calendar (folder_of c.add-2.new.self) (folder_of c.add-3.new.self) (codes "feed/stop_times.txt") c.as_slice.result.now (stop_times_text c.args.size) calendar_on (c.as_slice.ensures.value ∙ c.in_ok-stop_times.ensures) c.in_ok-add-3.ensures.ok in
-    let with_stop_times : Folder = (codes "feed/stop_times.txt", stop_times_text c.args.size) ∷ with_calendar in
-    let trips_on = folder_more with_stop_times (folder_of c.add-3.new.self) (folder_of c.add-4.new.self) (codes "feed/trips.txt") c.as_bytes-3.result.now (trips_text c.args.size) stop_times_on (c.as_bytes-3.ensures.value ∙ c.in_ok-trips.ensures) c.in_ok-add-4.ensures.ok in
-    let with_trips : Folder = (codes "feed/trips.txt", trips_text c.args.size) ∷ with_stop_times in
-    let routes_on = folder_more with_trips (folder_of c.add-4.new.self) (folder_of c.add-5.new.self) (codes "feed/routes.txt") c.as_bytes-4.result.now (routes_text c.args.size) trips_on (c.as_bytes-4.ensures.value ∙ c.in_ok-routes.ensures) c.in_ok-add-5.ensures.ok in
-    let with_routes : Folder = (codes "feed/routes.txt", routes_text c.args.size) ∷ with_trips in
-    folder_more with_routes (folder_of c.add-5.new.self) (folder_of c.add-6.new.self) (codes "feed/stops.txt") c.as_bytes-5.result.now (stops_text c.args.size) routes_on (c.as_bytes-5.ensures.value ∙ c.in_ok-stops.ensures) c.in_ok-add-6.ensures.ok
+    let size = c.args.size in
+    let times_on = folder_more (other_files size) (folder_of c.in_ok-files.files) (folder_of c.add.new.self) (codes "feed/stop_times.txt") c.as_slice.result.now (stop_times_text size) c.in_ok-files.ensures.files (c.as_slice.ensures.value ∙ c.in_ok-times.ensures) c.in_ok-add.ensures.ok in
+    λ path. times_on path ∙ stop_times_first size path

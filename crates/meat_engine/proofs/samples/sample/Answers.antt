@@ -1,5 +1,5 @@
 use Rattle.std.proofs.Common.{◌≡◌, None, Some, inl, inr, refl, sym, subst}
-use Rattle.file_ports.specs.Steady.{folder_of}
+use Rattle.feed_maker.specs.Files.{folder_of}
 use Rattle.command_line.specs.Jobs.{WantedJourney}
 use Rattle.fault_lines.specs.declared.faults.Fault.{Fault}
 use Rattle.fault_lines.specs.Faults.{unread_of}

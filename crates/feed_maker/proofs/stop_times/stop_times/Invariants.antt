@@ -1,6 +1,6 @@
 use Rattle.std.proofs.Common.{◌≡◌, ◌++◌, codes}
 use Rattle.feed_maker.specs.Tables.{joined, line_rows}
-use Rattle.feed_maker.proofs.tables.stop_times.Given as goal
+use Rattle.feed_maker.proofs.stop_times.stop_times.Given as goal
 
 -- the rows of the lines so far
 abbrev pub invariant-loop-line : goal.invariant-loop-line

@@ -1,0 +1,19 @@
+-- What the files of a made timetable stand for.
+use Rattle.std.specs.Prelude.{ℕ, List, ◌∷◌, Option, Some, codes, if◌then◌else◌}
+use Rattle.file_ports.specs.Ports.{Folder}
+use Rattle.file_ports.specs.Steady.{folder_of as others_on, hand_of as hand_on, left_of as left_on}
+use Rattle.feed_maker.specs.StopTimes.{left_of as times_left, lines_of}
+use Rattle.feed_maker.specs.Tables.{stop_times_text}
+use Rattle.feed_maker.specs.declared.files.MadeFiles.{MadeFiles}
+
+-- the files by their paths
+abbrev pub folder_of : MadeFiles → Folder
+folder_of f = (codes "feed/stop_times.txt", stop_times_text (lines_of f.times)) ∷ others_on f.others
+
+-- the path of the file in hand
+abbrev pub hand_of : MadeFiles → Option (List ℕ)
+hand_of f = if f.in_times then Some (codes "feed/stop_times.txt") else hand_on f.others
+
+-- what is unread of it
+abbrev pub left_of : MadeFiles → Option (List ℕ)
+left_of f = if f.in_times then Some (times_left f.times) else left_on f.others

@@ -1,0 +1,17 @@
+-- What stop times that are made as they are read stand for.
+use Rattle.std.specs.Prelude.{ℕ, ◌-◌, List, ◌++◌, drop, flat_map}
+use Rattle.std.specs.List.{range_with_len}
+use Rattle.feed_maker.specs.Tables.{line_rows}
+use Rattle.feed_maker.specs.declared.stop_times.StopTimes.{StopTimes}
+
+-- the rows of so many lines from one on
+abbrev pub rows_from : ℕ → ℕ → List ℕ
+rows_from line count = flat_map line_rows (range_with_len line count)
+
+-- how many lines have rows
+abbrev pub lines_of : StopTimes → ℕ
+lines_of t = t.lines
+
+-- what is unread: the rest of what was made, and the lines that come
+abbrev pub left_of : StopTimes → List ℕ
+left_of t = drop t.place t.text.items ++ rows_from t.next (t.lines - t.next)

@@ -1,0 +1,240 @@
+//! The stop times of a made timetable, made line by line as they are read.
+ghost use Rattle.std.specs.Prelude.{◌≡◌, ◌+◌, ◌<◌, ◌≤◌, ◌++◌, min, length, take, vec_len, vec_capacity, IfOk};
+ghost use Rattle.arrayvec.specs.ArrayString.{array_string_len};
+ghost use Rattle.feed_maker.specs.Names.{stop_name};
+ghost use Rattle.feed_maker.specs.Pieces.{run_piece, place_piece, ArePlacePieces};
+ghost use Rattle.feed_maker.specs.Tables.{stop_time_row, run_rows, line_rows, stop_times_text};
+
+use crate::lines::{PLACES, RUNS, seconds_at, stop_at};
+use crate::names::{Stop, Trip, clock};
+use arrayvec::{ArrayString, ArrayVec};
+use itoa::Buffer;
+use plan_model::NoMemory;
+use std::alloc::Global;
+
+/// The first row.
+const HEADER: &str = "trip_id,arrival_time,departure_time,stop_id,stop_sequence\n";
+
+/// A piece of a row has no more bytes.
+const PIECE_ROOM: usize = 40;
+
+/// The rows of a line have no more bytes, and neither has the first row.
+const LINE_ROOM: usize = 201_600;
+
+/// The stop of a row.
+fn stop_piece(stop: Stop) -> ArrayString<PIECE_ROOM>
+    ensures text { result.bytes ≡ stop_name stop }
+    ensures short { array_string_len result ≤ 22 }
+{
+    let mut digits = Buffer::new();
+    let mut piece = ArrayString::new();
+    match stop {
+        Stop::Hub(hub) => {
+            piece.push_str("H");
+            piece.push_str(digits.format(hub));
+        }
+        Stop::Own(line, place) => {
+            piece.push_str("L");
+            piece.push_str(digits.format(line));
+            piece.push_str("_");
+            piece.push_str(digits.format(place));
+        }
+    }
+    piece
+}
+
+/// The front of the rows of a run.
+fn run_piece(trip: Trip) -> ArrayString<PIECE_ROOM>
+    ensures { result.bytes ≡ run_piece trip.line trip.run }
+{
+    let mut digits = Buffer::new();
+    let mut piece = ArrayString::new();
+    piece.push_str("T");
+    piece.push_str(digits.format(trip.line));
+    piece.push_str("_");
+    piece.push_str(digits.format(trip.run));
+    piece.push_str(",");
+    piece
+}
+
+/// The end of the rows at a place of a line.
+fn place_piece(line: u32, place: u32) -> ArrayString<PIECE_ROOM>
+    requires line { line ≤ 400 }
+    requires place { place ≤ 20 }
+    ensures { result.bytes ≡ place_piece line place }
+{
+    let mut digits = Buffer::new();
+    let mut piece = stop_piece(stop_at(line, place));
+    piece.push_str(",");
+    piece.push_str(digits.format(place + 1));
+    piece.push_str("\n");
+    piece
+}
+
+/// The ends of the rows at the places of a line, for each run alike.
+fn place_pieces(line: u32) -> ArrayVec<ArrayString<PIECE_ROOM>, 21>
+    requires { line ≤ 400 }
+    ensures { ArePlacePieces line result.items }
+{
+    let mut ends = ArrayVec::new();
+    for place in 0..PLACES {
+        ends.push(place_piece(line, place));
+    }
+    ends
+}
+
+/// Adds the row of a run at a place of its line, by the front and the end that it has.
+#[tactic(auto, unfolding(crate::specs::Tables::stop_time_row))]
+fn add_stop_time(text: &mut Vec<u8>, front: &str, trip: Trip, place: u32, end: &str)
+    requires line { trip.line ≤ 400 }
+    requires run { trip.run < 96 }
+    requires place { place ≤ 20 }
+    requires front { front.now ≡ run_piece trip.line trip.run }
+    requires end { end.now ≡ place_piece trip.line place }
+    requires front_room { length front.now ≤ 40 }
+    requires end_room { length end.now ≤ 40 }
+    requires room { vec_len text.old + 100 ≤ vec_capacity text.old }
+    ensures row { text.new.items ≡ text.old.items ++ stop_time_row trip.line trip.run place }
+    ensures longer { vec_len text.old < vec_len text.new }
+    ensures short { vec_len text.new ≤ vec_len text.old + 100 }
+    ensures capacity { vec_capacity text.old ≤ vec_capacity text.new }
+{
+    let time = clock(seconds_at(trip.line, trip.run, place));
+    text.extend_from_slice(front.as_bytes()).unwrap();
+    text.extend_from_slice(&time).unwrap();
+    text.extend_from_slice(&time).unwrap();
+    text.extend_from_slice(end.as_bytes()).unwrap();
+}
+
+/// Adds the rows of a run, by the ends of the rows at its places.
+#[tactic(auto, unfolding(crate::specs::Tables::run_rows))]
+fn add_run(text: &mut Vec<u8>, trip: Trip, ends: &[ArrayString<PIECE_ROOM>])
+    requires line { trip.line ≤ 400 }
+    requires run { trip.run < 96 }
+    requires ends { ArePlacePieces trip.line ends.now }
+    requires room { vec_len text.old + 2100 ≤ vec_capacity text.old }
+    ensures rows { text.new.items ≡ text.old.items ++ run_rows trip.line trip.run }
+    ensures longer { vec_len text.old < vec_len text.new }
+    ensures short { vec_len text.new ≤ vec_len text.old + 2100 }
+    ensures capacity { vec_capacity text.old ≤ vec_capacity text.new }
+{
+    let front = run_piece(trip);
+    for place in 0..PLACES {
+        let end = &ends[place as usize];
+        add_stop_time(text, front.as_str(), trip, place, end.as_str());
+    }
+}
+
+/// Adds the rows of a line's runs.
+#[tactic(auto, unfolding(crate::specs::Tables::line_rows))]
+fn add_line(text: &mut Vec<u8>, line: u32)
+    requires line { line ≤ 400 }
+    requires room { vec_len text.old + 201600 ≤ vec_capacity text.old }
+    ensures rows { text.new.items ≡ text.old.items ++ line_rows line }
+    ensures longer { vec_len text.old < vec_len text.new }
+    ensures capacity { vec_capacity text.old ≤ vec_capacity text.new }
+{
+    let ends = place_pieces(line);
+    for run in 0..RUNS {
+        add_run(text, Trip { line, run }, ends.as_slice());
+    }
+}
+
+/// The times of so many lines' runs at their places.
+#[tactic(auto, unfolding(crate::specs::Tables::stop_times_text))]
+pub(crate) fn stop_times(alloc: Global, lines: u32) -> Result<Vec<u8>, NoMemory>
+    requires { lines ≤ 400 }
+    ensures { IfOk result (λ text. text.items ≡ stop_times_text lines) }
+{
+    let mut text = Vec::from_slice(alloc, HEADER.as_bytes())?;
+    for line in 0..lines {
+        text.reserve(LINE_ROOM)?;
+        add_line(&mut text, line);
+    }
+    Ok(text)
+}
+
+/// The stop times of so many lines: the text that was made last, how much of it was read, and the line whose rows are
+/// made next. No call on them takes memory.
+#[derive(Drop)]
+pub(crate) struct StopTimes {
+    lines: u32,
+    next: u32,
+    text: Vec<u8>,
+    place: usize,
+    ghost few: { lines ≤ 400 },
+    ghost inside: { next ≤ lines },
+    ghost room: { 201600 ≤ vec_capacity text },
+    ghost within: { place ≤ vec_len text },
+}
+
+impl StopTimes {
+    ghost use Rattle.std.specs.Prelude.{◌≡◌, ◌+◌, ◌<◌, ◌≤◌, ◌++◌, min, length, take, [], IfOk};
+    ghost use Rattle.feed_maker.specs.StopTimes.{left_of, lines_of};
+    ghost use Rattle.feed_maker.specs.Tables.{stop_times_text};
+
+    /// The stop times of so many lines, none of them read.
+    pub(crate) fn new(alloc: Global, lines: u32) -> Result<StopTimes, NoMemory>
+        requires { lines ≤ 400 }
+        ensures lines { IfOk result (λ times. lines_of times ≡ lines) }
+    {
+        let text = Vec::with_capacity(alloc, LINE_ROOM)?;
+        Ok(StopTimes {
+            lines,
+            next: 0,
+            text,
+            place: 0,
+        })
+    }
+
+    /// From now on they are read from the start.
+    #[tactic(auto, unfolding(crate::specs::Tables::stop_times_text))]
+    pub(crate) fn rewind(&mut self)
+        ensures lines { lines_of self.new ≡ lines_of self.old }
+        ensures left { left_of self.new ≡ stop_times_text (lines_of self.old) }
+    {
+        self.next = 0;
+        self.place = 0;
+        self.text.clear();
+        self.text.extend_from_slice(HEADER.as_bytes()).unwrap();
+    }
+
+    /// Makes the rows of the next line, where all that was made is read.
+    fn fill(&mut self)
+        ensures lines { lines_of self.new ≡ lines_of self.old }
+        ensures left { left_of self.new ≡ left_of self.old }
+        ensures some { self.new.place ≡ vec_len self.new.text → left_of self.new ≡ [] }
+    {
+        if self.place < self.text.len() || self.next == self.lines {
+            return;
+        }
+        self.place = 0;
+        self.text.clear();
+        add_line(&mut self.text, self.next);
+        self.next += 1;
+    }
+
+    /// Moves some bytes of what is left to the front of the buffer, none only at its end.
+    pub(crate) fn read(&mut self, buffer: &mut [u8]) -> usize
+        requires { 0 < length buffer.old }
+        ensures lines { lines_of self.new ≡ lines_of self.old }
+        ensures bound { result ≤ length buffer.old }
+        ensures bytes { left_of self.old ≡ take result buffer.new ++ left_of self.new }
+        ensures end { result ≡ 0 → left_of self.new ≡ [] }
+    {
+        self.fill();
+        let count = copy_front(buffer, &self.text[self.place..]);
+        self.place += count;
+        count
+    }
+}
+
+/// Copies the front of `rest`, as much as fits.
+fn copy_front(buffer: &mut [u8], rest: &[u8]) -> usize
+    ensures count { result ≡ min (length buffer.old) (length rest.now) }
+    ensures front { take result buffer.new ≡ take result rest.now }
+{
+    let count = buffer.len().min(rest.len());
+    buffer[..count].copy_from_slice(&rest[..count]);
+    count
+}
