@@ -8,8 +8,6 @@ mod origins;
 mod repeats;
 mod rides;
 mod runs;
-#[cfg(test)]
-mod tests;
 mod window;
 
 pub use cuts::{WindowFault, cut};

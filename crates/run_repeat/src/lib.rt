@@ -4,6 +4,3 @@
 mod runs;
 
 pub use runs::{count, departure, within};
-
-#[cfg(test)]
-mod tests;

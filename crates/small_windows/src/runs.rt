@@ -1,5 +1,6 @@
-use super::*;
+//! The runs of a row of frequencies.
 use gtfs_tables::FrequencyRow;
+use run_repeat::{count, departure, within};
 
 const ROW: FrequencyRow = FrequencyRow {
     first: 29_100,

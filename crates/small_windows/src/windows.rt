@@ -1,18 +1,14 @@
 //! Windows of small feeds, and the scan order of one of them.
-ghost use Rattle.std.specs.Prelude.{◌≤◌, length, IfSome};
-ghost use Rattle.change_times.specs.Changes.{LinksComeFrom};
+ghost use Rattle.std.specs.Prelude.{◌≤◌};
+ghost use Rattle.plan_model.specs.Bounds.{most_connections};
 
-use crate::*;
-use change_times::Changes;
-use csv_rows::{Limits, Rows};
-use delay_table::DelayTable;
+use crate::feeds::{FIRST_START, MONDAY, window};
+use connections::WindowFault;
 use file_ports::SteadyFiles;
-use gtfs_tables::Feed;
 use merged_runs::MergedRuns;
 use plan_model::{
     BackwardOrder, ConnectionId, Moment, Names, Network, NoMemory, PlaceId, RunId, SortedOrder,
 };
-use service_days::Services;
 use std::alloc::Global;
 use std::test::Fail;
 
@@ -79,60 +75,33 @@ const LEVEL: Tables<'_> = Tables {
 
 fn files_of(alloc: Global, tables: &Tables<'_>) -> Result<SteadyFiles, NoMemory> {
     let mut files = SteadyFiles::new(alloc, 64);
-    files.add("feed/stops.txt", tables.stops.as_bytes())?;
-    files.add("feed/routes.txt", b"route_id,route_type\nR,3\n")?;
-    files.add("feed/trips.txt", tables.trips.as_bytes())?;
-    files.add("feed/stop_times.txt", tables.stop_times.as_bytes())?;
-    files.add("feed/calendar.txt", CALENDAR.as_bytes())?;
-    files.add("feed/calendar_dates.txt", tables.dates.as_bytes())?;
-    files.add("feed/transfers.txt", tables.transfers.as_bytes())?;
+    for (path, text) in [
+        ("feed/stops.txt", tables.stops),
+        ("feed/routes.txt", "route_id,route_type\nR,3\n"),
+        ("feed/trips.txt", tables.trips),
+        ("feed/stop_times.txt", tables.stop_times),
+        ("feed/calendar.txt", CALENDAR),
+        ("feed/calendar_dates.txt", tables.dates),
+        ("feed/transfers.txt", tables.transfers),
+    ] {
+        files.add(path, text.as_bytes())?;
+    }
     Ok(files)
 }
 
-fn feed_of(alloc: Global, files: &mut SteadyFiles) -> Option<Feed> {
-    Feed::read(alloc, files, "feed", &Limits::standard()).ok()
-}
-
-fn services_of(alloc: Global, files: &mut SteadyFiles) -> Option<Services> {
-    Services::read(alloc, files, "feed", &Limits::standard()).ok()
-}
-
-fn changes_of(alloc: Global, files: &mut SteadyFiles, feed: &Feed) -> Option<Changes>
-    ensures { IfSome result (LinksComeFrom (length feed.now.stop_ids)) }
-{
-    Changes::read(alloc, files, "feed", feed, &Limits::standard()).ok()
-}
-
-fn delays_of(alloc: Global) -> Option<DelayTable> {
-    let rows = Rows::read(alloc, b"class,delay,weight\n*,0,10000\n").ok()?;
-    DelayTable::read(alloc, &rows).ok()
-}
-
-/// 2024-06-03T00:00:00, a Monday.
-const MONDAY: u64 = 19_877 * 86_400;
-
 /// The window of a feed from so many seconds after Monday's begin on, if its tables are read.
-fn window(
+fn window_from(
     alloc: Global,
     tables: &Tables<'_>,
     seconds: u32,
     horizon: u32,
     most: u64,
 ) -> Option<Result<(Network, Names), WindowFault>>
-    requires horizon { horizon ≤ 72 }
-    requires most { most ≤ 8388608 }
+    requires { most ≤ most_connections }
 {
     let mut files = files_of(alloc, tables).ok()?;
-    let feed = feed_of(alloc, &mut files)?;
-    let services = services_of(alloc, &mut files)?;
-    let changes = changes_of(alloc, &mut files, &feed)?;
-    let delays = delays_of(alloc)?;
-    let mut limits = Limits::standard();
-    limits.connections = most;
-    let start = Moment(MONDAY + u64::from(seconds));
-    Some(cut(
-        alloc, &feed, &services, &changes, &delays, start, horizon, &limits,
-    ))
+    let seconds = MONDAY.saturating_add(seconds);
+    window(alloc, &mut files, seconds, horizon, most)
 }
 
 /// The network of a window of a feed, and its names.
@@ -141,10 +110,8 @@ fn window_of(
     tables: &Tables<'_>,
     seconds: u32,
     horizon: u32,
-) -> Result<(Network, Names), Fail>
-    requires { horizon ≤ 72 }
-{
-    match window(alloc, tables, seconds, horizon, 8) {
+) -> Result<(Network, Names), Fail> {
+    match window_from(alloc, tables, seconds, horizon, 8) {
         None => Err("no feed".into()),
         Some(Err(_)) => Err("no window".into()),
         Some(Ok(parts)) => Ok(parts),
@@ -152,11 +119,9 @@ fn window_of(
 }
 
 /// How many connections a window of the feed of a night has.
-fn night_count(alloc: Global, seconds: u32, horizon: u32) -> Result<u32, Fail>
-    requires { horizon ≤ 72 }
-{
-    let (network, _) = window_of(alloc, &NIGHT, seconds, horizon)?;
-    Ok(network.count())
+fn night_count(alloc: Global, seconds: u32, horizon: u32) -> Result<u32, Fail> {
+    let parts = window_of(alloc, &NIGHT, seconds, horizon)?;
+    Ok(parts.0.count())
 }
 
 #[test]
@@ -194,7 +159,7 @@ fn days_of_a_window(rt: HostRuntime) -> Result<(), Fail> {
 #[test]
 fn counts_all_connections(rt: HostRuntime) -> Result<(), Fail> {
     for (most, fault) in [(4, None), (3, Some(WindowFault::TooMany(4)))] {
-        let Some(found) = window(rt.alloc(), &MILL, 8 * 3600, 24, most) else {
+        let Some(found) = window_from(rt.alloc(), &MILL, 8 * 3600, 24, most) else {
             return Err("no feed".into());
         };
         assert_eq!(rt; found.err(), fault);
@@ -204,9 +169,9 @@ fn counts_all_connections(rt: HostRuntime) -> Result<(), Fail> {
 
 #[test]
 fn names_places_and_runs(rt: HostRuntime) -> Result<(), Fail> {
-    let (_, names) = window_of(rt.alloc(), &MILL, 8 * 3600, 24)?;
+    let parts = window_of(rt.alloc(), &MILL, 8 * 3600, 24)?;
     for (name, place) in [("S,1", 0), ("AIR", 3), ("HLF", 5)] {
-        assert_eq!(rt; names.place(name), Some(PlaceId(place)), "{name}");
+        assert_eq!(rt; parts.1.place(name), Some(PlaceId(place)), "{name}");
     }
     for (name, run) in [
         ("20240603:t100", Some(RunId(0))),
@@ -214,22 +179,22 @@ fn names_places_and_runs(rt: HostRuntime) -> Result<(), Fail> {
         ("20240604:t100", Some(RunId(3))),
         ("20240604:b200", None),
     ] {
-        assert_eq!(rt; names.run(name), run, "{name}");
+        assert_eq!(rt; parts.1.run(name), run, "{name}");
     }
     Ok(())
 }
 
 #[test]
 fn platforms_are_one_place(rt: HostRuntime) -> Result<(), Fail> {
-    let (network, _) = window_of(rt.alloc(), &PLATFORMS, 8 * 3600, 24)?;
-    assert!(rt; network.count() == 3);
-    assert!(rt; network.places() == 5);
+    let parts = window_of(rt.alloc(), &PLATFORMS, 8 * 3600, 24)?;
+    assert!(rt; parts.0.count() == 3);
+    assert!(rt; parts.0.places() == 5);
     for (i, from, to) in [(0, 0, 1), (1, 1, 4), (2, 0, 1)] {
-        let ride = network.get(ConnectionId(i));
+        let ride = parts.0.get(ConnectionId(i));
         assert_eq!(rt; (ride.from.0, ride.to.0), (from, to), "{i}");
     }
-    assert_eq!(rt; network.change(PlaceId(1)), 1);
-    assert_eq!(rt; network.change(PlaceId(0)), 120);
+    assert_eq!(rt; parts.0.change(PlaceId(1)), 1);
+    assert_eq!(rt; parts.0.change(PlaceId(0)), 120);
     Ok(())
 }
 
@@ -251,18 +216,18 @@ fn given<O: BackwardOrder>(
     Ok(ids)
 }
 
-/// Whether both orders give these connections, and the merged one once more after a rewind.
-fn both_give(alloc: Global, network: &Network, ids: &[u32]) -> Result<bool, NoMemory> {
-    let mut sorted = SortedOrder::new(alloc, network)?;
-    if given(alloc, network, &mut sorted)?.as_slice() != ids {
-        return Ok(false);
-    }
-    let mut merged = MergedRuns::new(alloc, network)?;
-    if given(alloc, network, &mut merged)?.as_slice() != ids {
-        return Ok(false);
-    }
-    merged.rewind(network);
-    Ok(given(alloc, network, &mut merged)?.as_slice() == ids)
+/// Whether the sorted order gives these connections.
+fn sorted_gives(alloc: Global, network: &Network, ids: &[u32]) -> Result<bool, NoMemory> {
+    let mut order = SortedOrder::new(alloc, network)?;
+    Ok(given(alloc, network, &mut order)?.as_slice() == ids)
+}
+
+/// Whether the merged order gives them, after a rewind of what it gave before.
+fn merged_gives(alloc: Global, network: &Network, ids: &[u32]) -> Result<bool, NoMemory> {
+    let mut order = MergedRuns::new(alloc, network)?;
+    let first = given(alloc, network, &mut order)?.as_slice() == ids;
+    order.rewind(network);
+    Ok(first && given(alloc, network, &mut order)?.as_slice() == ids)
 }
 
 #[test]
@@ -273,8 +238,9 @@ fn merges_runs(rt: HostRuntime) -> Result<(), Fail> {
         (&NIGHT, 86_400, [0].as_slice()),
         (&NIGHT, 0, [].as_slice()),
     ] {
-        let (network, _) = window_of(rt.alloc(), tables, seconds, 2)?;
-        assert!(rt; both_give(rt.alloc(), &network, ids)?, "{ids:?}");
+        let parts = window_of(rt.alloc(), tables, seconds, 2)?;
+        assert!(rt; sorted_gives(rt.alloc(), &parts.0, ids)?, "{ids:?}");
+        assert!(rt; merged_gives(rt.alloc(), &parts.0, ids)?, "{ids:?}");
     }
     Ok(())
 }
@@ -292,35 +258,49 @@ fn given_by<O: BackwardOrder>(
     given(alloc, network, order)
 }
 
-/// Whether both orders give these connections of those that depart by a moment.
-fn both_give_by(
+/// Whether the sorted order gives these connections of those that depart by a moment.
+fn sorted_gives_by(
     alloc: Global,
     network: &Network,
     last: Moment,
     ids: &[u32],
 ) -> Result<bool, NoMemory> {
-    let mut sorted = SortedOrder::new(alloc, network)?;
-    if given_by(alloc, network, &mut sorted, last)?.as_slice() != ids {
-        return Ok(false);
-    }
-    let mut merged = MergedRuns::new(alloc, network)?;
-    Ok(given_by(alloc, network, &mut merged, last)?.as_slice() == ids)
+    let mut order = SortedOrder::new(alloc, network)?;
+    Ok(given_by(alloc, network, &mut order, last)?.as_slice() == ids)
 }
+
+/// Whether the merged order gives them.
+fn merged_gives_by(
+    alloc: Global,
+    network: &Network,
+    last: Moment,
+    ids: &[u32],
+) -> Result<bool, NoMemory> {
+    let mut order = MergedRuns::new(alloc, network)?;
+    Ok(given_by(alloc, network, &mut order, last)?.as_slice() == ids)
+}
+
+/// 2024-06-03T08:00:00.
+const EIGHT: u64 = FIRST_START + MONDAY as u64 + 8 * 3600;
 
 #[test]
 fn skips_what_departs_later(rt: HostRuntime) -> Result<(), Fail> {
-    let (network, _) = window_of(rt.alloc(), &LEVEL, 8 * 3600, 2)?;
+    let parts = window_of(rt.alloc(), &LEVEL, 8 * 3600, 2)?;
     // Two depart at 08:00, and four at 08:10.
     for (last, ids) in [
-        (Moment(MONDAY + 8 * 3600 - 1), [].as_slice()),
-        (Moment(MONDAY + 8 * 3600), [2, 0].as_slice()),
-        (Moment(MONDAY + 8 * 3600 + 599), [2, 0].as_slice()),
-        (
-            Moment(MONDAY + 8 * 3600 + 600),
-            [5, 4, 3, 1, 2, 0].as_slice(),
-        ),
+        (Moment(EIGHT - 1), [].as_slice()),
+        (Moment(EIGHT), [2, 0].as_slice()),
+        (Moment(EIGHT + 599), [2, 0].as_slice()),
+        (Moment(EIGHT + 600), [5, 4, 3, 1, 2, 0].as_slice()),
     ] {
-        assert!(rt; both_give_by(rt.alloc(), &network, last, ids)?, "{ids:?}");
+        assert!(rt;
+            sorted_gives_by(rt.alloc(), &parts.0, last, ids)?,
+            "{ids:?}"
+        );
+        assert!(rt;
+            merged_gives_by(rt.alloc(), &parts.0, last, ids)?,
+            "{ids:?}"
+        );
     }
     Ok(())
 }
