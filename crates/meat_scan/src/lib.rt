@@ -571,6 +571,3 @@ pub fn start_value<V: Score, B: BackwardOrder>(
     let value = leg_value(start);
     (emptied(tables), value)
 }
-
-#[cfg(test)]
-mod tests;

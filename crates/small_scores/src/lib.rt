@@ -1,4 +1,4 @@
-//! Spans, scores and chances, what is kept by them, and the scores of graphs over small networks.
+//! Spans, scores and chances, what is kept by them, scans by one table, and the scores of graphs over small networks.
 #![tactic(auto)]
 
 #[cfg(test)]
@@ -7,5 +7,7 @@ mod profiles;
 mod scores;
 #[cfg(test)]
 mod spans;
+#[cfg(test)]
+mod tables;
 #[cfg(test)]
 mod values;
