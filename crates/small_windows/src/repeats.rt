@@ -10,7 +10,11 @@ use std::alloc::Global;
 use std::test::Fail;
 
 /// A trip of a day of weekdays in 2024 and of each day around the new year of 1970.
-fn files_of(alloc: Global, stop_times: &str, frequencies: &str) -> Result<SteadyFiles, NoMemory> {
+fn files_of<'a>(
+    alloc: Global,
+    stop_times: &'a str,
+    frequencies: &'a str,
+) -> Result<SteadyFiles, NoMemory> {
     let mut files = SteadyFiles::new(alloc, 64);
     for (path, text) in [
         ("feed/stops.txt", "stop_id\nA\nB\nT\n"),
