@@ -61,7 +61,8 @@ none_is (Some v) is = absurd (false≢true is)
 abbrev Lacks : List Setting → OptionName → Type 0
 Lacks given option = All (λ s. option ≢ s.option) given
 
-lacks_at : (s : Setting) (given : List Setting) (option : OptionName) (b : Bool) → bytes_eq (option_name s.option) (option_name option) ≡ b → Lacks (s ∷ given) option → value_in given option ≡ None → value_in (s ∷ given) option ≡ None
+lacks_at : (s : Setting) (given : List Setting) (option : OptionName) (b : Bool) → bytes_eq (option_name s.option) (option_name option) ≡ b
+    → Lacks (s ∷ given) option → value_in given option ≡ None → value_in (s ∷ given) option ≡ None
 unfolding value_in
 lacks_at s given option true e none rest =
     absurd (All-head (λ (t : Setting). option ≢ t.option) s given none (same_option option s.option (sym ((bytes_eq-Decides (option_name s.option) (option_name option)).0 e))))
@@ -70,9 +71,11 @@ lacks_at s given option false e none rest = ap (λ (c : Bool). if c then Some s.
 lacks : (given : List Setting) (option : OptionName) → Lacks given option → value_in given option ≡ None
 unfolding value_in
 lacks [] option none = refl
-lacks (s ∷ given) option none = lacks_at s given option (bytes_eq (option_name s.option) (option_name option)) refl none (lacks given option (All-tail (λ (t : Setting). option ≢ t.option) s given none))
+lacks (s ∷ given) option none = lacks_at s given option (bytes_eq (option_name s.option) (option_name option)) refl none
+    (lacks given option (All-tail (λ (t : Setting). option ≢ t.option) s given none))
 
-lacking_at : (s : Setting) (given : List Setting) (option : OptionName) (b : Bool) → bytes_eq (option_name s.option) (option_name option) ≡ b → value_in (s ∷ given) option ≡ None → (value_in given option ≡ None → Lacks given option) → Lacks (s ∷ given) option
+lacking_at : (s : Setting) (given : List Setting) (option : OptionName) (b : Bool) → bytes_eq (option_name s.option) (option_name option) ≡ b
+    → value_in (s ∷ given) option ≡ None → (value_in given option ≡ None → Lacks given option) → Lacks (s ∷ given) option
 unfolding value_in
 lacking_at s given option true e none rest = let some = sym (ap (λ (c : Bool). if c then Some s.value else value_in given option) e) ∙ none in absurd (cc)
 lacking_at s given option false e none rest =
@@ -93,7 +96,8 @@ settings_hold [] once = (refl, λ option. refl)
 settings_hold (s ∷ given) once =
     let rest = settings_hold given (λ i j d before within. once (suc i) (suc j) d (omega arith) (omega arith)) in
     let none : Lacks given s.option = λ k d within. once 0 (suc k) d (omega arith) (omega arith) in
-    let fresh : is_new (option_named (option_name s.option)) (flat_map spelled given) ≡ true = ap (λ (o : Option OptionName). is_new o (flat_map spelled given)) (named s.option) ∙ ap is_none (rest.1 s.option ∙ lacks given s.option none) in
+    let fresh : is_new (option_named (option_name s.option)) (flat_map spelled given) ≡ true =
+    ap (λ (o : Option OptionName). is_new o (flat_map spelled given)) (named s.option) ∙ ap is_none (rest.1 s.option ∙ lacks given s.option none) in
     (rw (fresh, rest.0) refl, λ option. ap (λ (o : Option (List ℕ)). if bytes_eq (option_name s.option) (option_name option) then Some s.value else o) (rest.1 option))
 
 -- the settings of words
@@ -102,7 +106,8 @@ pub record AreRead (words : List (List ℕ)) (given : List Setting) : Type 0 whe
   pub once : AllPairs (λ a b. a.option ≢ b.option) given
   pub values : (option : OptionName) → value_of words option ≡ value_in given option
 
-read_pair : (name value : List ℕ) (others : List (List ℕ)) (o : Option OptionName) → option_named name ≡ o → IsTrue (is_new o others) → (given : List Setting) → AreRead others given → (all : List Setting) × AreRead (name ∷ value ∷ others) all
+read_pair : (name value : List ℕ) (others : List (List ℕ)) (o : Option OptionName) → option_named name ≡ o → IsTrue (is_new o others)
+    → (given : List Setting) → AreRead others given → (all : List Setting) × AreRead (name ∷ value ∷ others) all
 unfolding value_of value_in
 read_pair name value others None e fresh given read = absurd (false≢true fresh)
 read_pair name value others (Some option) e fresh given read =
@@ -114,7 +119,8 @@ read_pair name value others (Some option) e fresh given read =
       record {
         words_are = ap (λ (w : List ℕ). w ∷ value ∷ others) word ∙ ap (λ (rest : List (List ℕ)). option_name option ∷ value ∷ rest) read.words_are;
         once = AllPairs-cons (λ (a b : Setting). a.option ≢ b.option) s given none read.once;
-        values = λ other. ap (λ (w : List ℕ). if bytes_eq w (option_name other) then Some value else value_of others other) word ∙ ap (λ (v : Option (List ℕ)). if bytes_eq (option_name option) (option_name other) then Some value else v) (read.values other);
+        values = λ other. ap (λ (w : List ℕ). if bytes_eq w (option_name other) then Some value else value_of others other) word
+            ∙ ap (λ (v : Option (List ℕ)). if bytes_eq (option_name option) (option_name other) then Some value else v) (read.values other);
       },
     )
 

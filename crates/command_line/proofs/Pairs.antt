@@ -21,7 +21,8 @@ pair_first (a ∷ b ∷ others) name value two n v =
     let second : string_bytes value ≡ string_bytes b = ap string_bytes v in
     cc
 
-pub value_of-pair : (name value : List ℕ) (others : List (List ℕ)) (option : OptionName) → value_of (name ∷ value ∷ others) option ≡ (if bytes_eq name (option_name option) then Some value else value_of others option)
+pub value_of-pair : (name value : List ℕ) (others : List (List ℕ)) (option : OptionName)
+    → value_of (name ∷ value ∷ others) option ≡ (if bytes_eq name (option_name option) then Some value else value_of others option)
 unfolding value_of
 value_of-pair name value others option = refl
 
@@ -36,7 +37,8 @@ unfolding are_settings
 are_settings-pair name value others = refl
 
 -- the first pair has the option
-pub value_of-found : (words : List (String Global)) (name value : String Global) (option : OptionName) (word known text : List ℕ) → 2 ≤ length words → name ≡ get_or words 0 name → value ≡ get_or words 1 value →
+pub value_of-found : (words : List (String Global)) (name value : String Global) (option : OptionName) (word known text : List ℕ) → 2 ≤ length words
+    → name ≡ get_or words 0 name → value ≡ get_or words 1 value →
     word ≡ string_bytes name → known ≡ option_name option → true ≡ bytes_eq word known → text ≡ string_bytes value → Some text ≡ value_of (map string_bytes words) option
 value_of-found words name value option word known text two n v w k same t =
     let whole = ap (λ (xs : List (List ℕ)). value_of xs option) (pair_first words name value two n v) in
@@ -46,8 +48,10 @@ value_of-found words name value option word known text two n v w k same t =
     ap (λ (bytes : List ℕ). Some bytes) t ∙ sym (whole ∙ pair ∙ found)
 
 -- the first pair has another one
-pub value_of-other : (words : List (String Global)) (name value : String Global) (option : OptionName) (word known : List ℕ) (answer : Option (List ℕ)) → 2 ≤ length words → name ≡ get_or words 0 name → value ≡ get_or words 1 value →
-    word ≡ string_bytes name → known ≡ option_name option → false ≡ bytes_eq word known → answer ≡ value_of (map string_bytes (take (length words - 2) (drop 2 words))) option → answer ≡ value_of (map string_bytes words) option
+pub value_of-other : (words : List (String Global)) (name value : String Global) (option : OptionName) (word known : List ℕ)
+    (answer : Option (List ℕ)) → 2 ≤ length words → name ≡ get_or words 0 name → value ≡ get_or words 1 value →
+    word ≡ string_bytes name → known ≡ option_name option → false ≡ bytes_eq word known
+    → answer ≡ value_of (map string_bytes (take (length words - 2) (drop 2 words))) option → answer ≡ value_of (map string_bytes words) option
 value_of-other words name value option word known answer two n v w k same is =
     let whole = ap (λ (xs : List (List ℕ)). value_of xs option) (pair_first words name value two n v) in
     let pair = value_of-pair (string_bytes name) (string_bytes value) (map string_bytes (take (length words - 2) (drop 2 words))) option in
@@ -62,8 +66,10 @@ are_settings-short (a ∷ []) none short is = is
 are_settings-short (a ∷ b ∷ others) none short is = absurd (omega arith)
 
 -- of a pair and the others
-pub are_settings-of : (words : List (String Global)) (name value : String Global) (word : List ℕ) → 2 ≤ length words → name ≡ get_or words 0 name → value ≡ get_or words 1 value → word ≡ string_bytes name →
-    are_settings (map string_bytes words) ≡ (is_new (option_named word) (map string_bytes (take (length words - 2) (drop 2 words))) && are_settings (map string_bytes (take (length words - 2) (drop 2 words))))
+pub are_settings-of : (words : List (String Global)) (name value : String Global) (word : List ℕ) → 2 ≤ length words → name ≡ get_or words 0 name
+    → value ≡ get_or words 1 value → word ≡ string_bytes name →
+    are_settings (map string_bytes words) ≡ (is_new (option_named word) (map string_bytes (take (length words - 2) (drop 2 words))) && are_settings
+    (map string_bytes (take (length words - 2) (drop 2 words))))
 are_settings-of words name value word two n v w =
     let whole = ap are_settings (pair_first words name value two n v) in
     let pair = are_settings-pair (string_bytes name) (string_bytes value) (map string_bytes (take (length words - 2) (drop 2 words))) in
@@ -75,14 +81,16 @@ is_none-map f None = refl
 is_none-map f (Some v) = refl
 
 -- a first word that names no option
-pub are_settings-unknown : (words : List (String Global)) (name value : String Global) (word : List ℕ) → 2 ≤ length words → name ≡ get_or words 0 name → value ≡ get_or words 1 value → word ≡ string_bytes name →
+pub are_settings-unknown : (words : List (String Global)) (name value : String Global) (word : List ℕ) → 2 ≤ length words → name ≡ get_or words 0 name
+    → value ≡ get_or words 1 value → word ≡ string_bytes name →
     option_named word ≡ None → false ≡ are_settings (map string_bytes words)
 are_settings-unknown words name value word two n v w none =
     let others = map string_bytes (take (length words - 2) (drop 2 words)) in
     sym (are_settings-of words name value word two n v w ∙ ap (λ (o : Option OptionName). is_new o others && are_settings others) none)
 
 -- a first word that names an option, by what the others give to it
-pub are_settings-known : {T : Type 0} (shown : T → List ℕ) (found : Option T) (words : List (String Global)) (name value : String Global) (word : List ℕ) (option : OptionName) → 2 ≤ length words → name ≡ get_or words 0 name → value ≡ get_or words 1 value → word ≡ string_bytes name →
+pub are_settings-known : {T : Type 0} (shown : T → List ℕ) (found : Option T) (words : List (String Global)) (name value : String Global)
+    (word : List ℕ) (option : OptionName) → 2 ≤ length words → name ≡ get_or words 0 name → value ≡ get_or words 1 value → word ≡ string_bytes name →
     option_named word ≡ Some option → option_map shown found ≡ value_of (map string_bytes (take (length words - 2) (drop 2 words))) option →
     are_settings (map string_bytes words) ≡ (not (is_some found) && are_settings (map string_bytes (take (length words - 2) (drop 2 words))))
 are_settings-known shown found words name value word option two n v w some is =

@@ -1,7 +1,8 @@
 -- The ranges of what a job asks for.
 use Rattle.std.specs.Prelude.{ℕ, ◌≤◌, ◌+◌}
 use Rattle.command_line.specs.Values.{first_start, last_start, least_alpha, most_alpha, least_horizon, most_horizon, least_size, most_size, last_until, longest_promise}
-use Rattle.command_line.specs.Jobs.{WantedTimetable, CutFile, FeedFolder, WantedJourney, WantedAsk, Safe, Expand, Plan, Replay, Certify, CheckProof, CheckGraph, Punctual, Departures, Latest, Wanted, Ask, Sample}
+use Rattle.command_line.specs.Jobs.{WantedTimetable, CutFile, FeedFolder, WantedJourney, WantedAsk, Safe, Expand, Plan, Replay, Certify, CheckProof, CheckGraph}
+use Rattle.command_line.specs.Jobs.{Punctual, Departures, Latest, Wanted, Ask, Sample}
 
 abbrev pub HasHorizon : WantedTimetable → Type 0
 HasHorizon (CutFile path) = Unit {0}

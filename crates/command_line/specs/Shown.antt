@@ -8,7 +8,8 @@ use Rattle.command_line.specs.declared.job.Ask.{Ask}
 use Rattle.command_line.specs.declared.job.Ask.TheVariants as ask
 use Rattle.command_line.specs.declared.job.Job.{Job}
 use Rattle.command_line.specs.declared.job.Job.TheVariants as job
-use Rattle.command_line.specs.Jobs.{WantedTimetable, CutFile, FeedFolder, WantedJourney, WantedAsk, Safe, Expand, Plan, Replay, Certify, CheckProof, CheckGraph, Punctual, Departures, Latest, Wanted, Ask as Asks, Sample, late_in}
+use Rattle.command_line.specs.Jobs.{WantedTimetable, CutFile, FeedFolder, WantedJourney, WantedAsk, Safe, Expand, Plan, Replay, Certify, CheckProof, CheckGraph}
+use Rattle.command_line.specs.Jobs.{Punctual, Departures, Latest, Wanted, Ask as Asks, Sample, late_in}
 
 abbrev pub timetable_shown : Timetable → WantedTimetable
 timetable_shown (timetable.Cut path) = CutFile path.now

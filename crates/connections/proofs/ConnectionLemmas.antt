@@ -1,5 +1,6 @@
 -- The rides of runs are in order, fit their places and classes, and each run has one.
-use Rattle.std.proofs.Common.{◌≡◌, ℕ, zero, suc, ◌+◌, ◌-◌, ◌<◌, ◌≤◌, ◌⊎◌, inl, inr, ℤ, pos, negsuc, ◌≤ℤ◌, Bool, true, false, List, [], ◌∷◌, ◌++◌, length, map, get_or, slice_index, Some, All, refl, sym, ap, ◌∙◌, subst, arith, ⊎_elim, length-append}
+use Rattle.std.proofs.Common.{◌≡◌, ℕ, zero, suc, ◌+◌, ◌-◌, ◌<◌, ◌≤◌, ◌⊎◌, inl, inr, ℤ, pos, negsuc, ◌≤ℤ◌, Bool, true, false, List, [], ◌∷◌, ◌++◌, length, map, get_or}
+use Rattle.std.proofs.Common.{slice_index, Some, All, refl, sym, ap, ◌∙◌, subst, arith, ⊎_elim, length-append}
 use Rattle.std.specs.Prelude.{AllPairs, unsigned_abs}
 use Rattle.std.proofs.lemmas.Bool.{cases_lt}
 use Rattle.std.proofs.lemmas.Int.{ints}
@@ -110,7 +111,8 @@ pub record IsGood (places classes runs : ℕ) (c : Connection) : Type 0 where
   pub step_in : c.step < 1000000000
   pub run_in : c.run.0 < runs
 
-module _ (w : Window) (v : IsWindow w) (rows : List StopRow) (places : ℕ) (t : AreTimed rows places) (o : Origin) (number : ℕ) (class : ℕ → ℕ) (classes : ℕ) (few : (arr : ℕ) → class arr < classes) where
+module _ (w : Window) (v : IsWindow w) (rows : List StopRow) (places : ℕ) (t : AreTimed rows places) (o : Origin) (number : ℕ) (class : ℕ → ℕ)
+    (classes : ℕ) (few : (arr : ℕ) → class arr < classes) where
   abbrev steps : List ℕ
   steps = steps_of w rows o
 
@@ -214,8 +216,12 @@ module _ (f : FeedParts) (delays : DelayLists) (w : Window) (v : IsWindow w) (ti
             ⊎_elim (λ (less : r < n).
             let x = a.each r d less in
             (x.0, omega (arith, size, x.1), ap (λ c. c.run.0) (get_or_append_left cs ds d x.0 x.1) ∙ x.2))
-            (λ (from : n ≤ r).
-            (length cs, omega (arith, size, o.2, has), ap (λ c. c.run.0) (get_or-append_right cs ds (length cs) (length cs) d refl (omega arith)) ∙ own_here n r d h (omega arith) (length cs - length cs) (omega (arith, o.2, has)) (omega arith)))
+            (λ (from : n ≤ r). (
+              length cs,
+              omega (arith, size, o.2, has),
+              ap (λ c. c.run.0) (get_or-append_right cs ds (length cs) (length cs) d refl (omega arith))
+                  ∙ own_here n r d h (omega arith) (length cs - length cs) (omega (arith, o.2, has)) (omega arith),
+            ))
             (cases_lt r n);
         many = omega (arith, a.many, size, o.2, has);
       }
@@ -235,7 +241,8 @@ module _ (f : FeedParts) (delays : DelayLists) (w : Window) (v : IsWindow w) (ti
 
 -- what the parts of a network are made of
 module _ (f : FeedParts) (d : DelayLists) (delays : AreDelays d) (w : Window) (v : IsWindow w) (timed : IsTimed f) (rs : List Run) (runs : AreRunsOf f rs) (some : AllRide f w rs)
-    (few : length (rides_below f d w rs (length rs)) ≤ most_connections) (change : List ℕ) (changes : AreChanges change) (size : length change ≡ length f.stop_ids) (stops : length f.stop_ids < 4294967296) where
+    (few : length (rides_below f d w rs (length rs)) ≤ most_connections) (change : List ℕ) (changes : AreChanges change)
+    (size : length change ≡ length f.stop_ids) (stops : length f.stop_ids < 4294967296) where
   abbrev cs : List Connection
   cs = rides_below f d w rs (length rs)
 

@@ -1,5 +1,6 @@
 -- How many rides runs have, and their rides, run by run.
-use Rattle.std.proofs.Common.{◌≡◌, ℕ, zero, suc, ◌+◌, ◌<◌, ◌≤◌, ◌&&◌, Bool, true, false, List, [], ◌∷◌, ◌++◌, length, map, take, get_or, All, if◌then◌else◌, refl, sym, ap, ◌∙◌, arith, add-one, length-append}
+use Rattle.std.proofs.Common.{◌≡◌, ℕ, zero, suc, ◌+◌, ◌<◌, ◌≤◌, ◌&&◌, Bool, true, false, List, [], ◌∷◌, ◌++◌, length, map, take, get_or, All, if◌then◌else◌, refl, sym}
+use Rattle.std.proofs.Common.{ap, ◌∙◌, arith, add-one, length-append}
 use Rattle.std.specs.Prelude.{sum_by, nat_lt}
 use mathlib.Core.Path.{fun_ext}
 use Rattle.std.proofs.lemmas.Bool.Decides.{nat_tests}
@@ -69,7 +70,8 @@ pub sum_by-at : {A : Type 0} (g : A → ℕ) (d : A) (xs : List A) → sum_by g 
 sum_by-at g d xs = ap (sum_by g) (sym (take_all (length xs) xs (omega arith))) ∙ sum_by-take g d xs (length xs) (omega arith)
 
 -- what a run adds that rides, where it is one; it has no steps where it does not ride
-pub sum-rides : {A : Type 0} (is : Bool) (each : ℕ → ℕ) (steps : List ℕ) (g : A → ℕ) (x : A) → g x ≡ sum_by each steps → sum_by g (only_if (is && nat_lt 0 (length steps)) x) ≡ (if is then sum_by each steps else 0)
+pub sum-rides : {A : Type 0} (is : Bool) (each : ℕ → ℕ) (steps : List ℕ) (g : A → ℕ) (x : A) → g x ≡ sum_by each steps
+    → sum_by g (only_if (is && nat_lt 0 (length steps)) x) ≡ (if is then sum_by each steps else 0)
 sum-rides true each [] g x e = refl
 sum-rides true each (k ∷ steps) g x e =
     let some : nat_lt 0 (length (k ∷ steps)) ≡ true = let h : 0 < length (k ∷ steps) = omega arith in grind (arith, nat_tests) in

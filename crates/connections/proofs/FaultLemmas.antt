@@ -20,7 +20,8 @@ pub many_connections : (limits : Limits) (count entries : ℕ) → limits.connec
 many_connections limits count entries h =
     sym (ap (λ b. or_else (if b then Some (TooMany count) else None) (if nat_lt limits.entries entries then Some (TooManyEntries entries) else None)) (lt-ltb limits.connections count h))
 
-few_connections : (limits : Limits) (count entries : ℕ) → count ≤ limits.connections → window_fault limits count entries ≡ (if nat_lt limits.entries entries then Some (TooManyEntries entries) else None)
+few_connections : (limits : Limits) (count entries : ℕ) → count ≤ limits.connections
+    → window_fault limits count entries ≡ (if nat_lt limits.entries entries then Some (TooManyEntries entries) else None)
 few_connections limits count entries h =
     ap (λ b. or_else (if b then Some (TooMany count) else None) (if nat_lt limits.entries entries then Some (TooManyEntries entries) else None)) (le-ltb limits.connections count h)
 

@@ -1,5 +1,6 @@
 -- The names of runs: no two runs have one name, and none begins or ends with a space.
-use Rattle.std.proofs.Common.{◌≡◌, ◌≢◌, ℕ, zero, suc, ◌+◌, ◌-◌, ◌<◌, ◌≤◌, Bool, true, false, List, [], ◌∷◌, ◌++◌, length, take, drop, get_or, slice_index_or, Some, None, Option, ℤ, All, decimal, ◌^◌, refl, sym, ap, ap₂, ◌∙◌, subst, arith, ⊎_elim, length-append}
+use Rattle.std.proofs.Common.{◌≡◌, ◌≢◌, ℕ, zero, suc, ◌+◌, ◌-◌, ◌<◌, ◌≤◌, Bool, true, false, List, [], ◌∷◌, ◌++◌, length, take, drop, get_or, slice_index_or, Some, None}
+use Rattle.std.proofs.Common.{Option, ℤ, All, decimal, ◌^◌, refl, sym, ap, ap₂, ◌∙◌, subst, arith, ⊎_elim, length-append}
 use Rattle.std.specs.List.{list_all}
 use Rattle.std.specs.Char.{is_ascii_digit}
 use Rattle.std.proofs.lemmas.Bool.{cases_lt, and_parts, and_from}
@@ -97,7 +98,8 @@ name_at : (f : FeedParts) (rs : List Run) (n : ℕ) (names : List (List ℕ)) �
 name_at f rs n names a k d h = subst (IsRunName f (run_at rs k)) (get_or_default names k [] d (omega (arith, a.size))) (a.each k h)
 
 -- the name of one more run
-pub run_adds : (f : FeedParts) (rs : List Run) (r : ℕ) (old new : List (List ℕ)) (name : List ℕ) (added : Bool) → AreIds f.trip_ids → AreRunsOf f rs → ((k : ℕ) → k < r + 1 → IsSmallRepeat (run_at rs k).repeat) → r < length rs
+pub run_adds : (f : FeedParts) (rs : List Run) (r : ℕ) (old new : List (List ℕ)) (name : List ℕ) (added : Bool) → AreIds f.trip_ids → AreRunsOf f rs
+    → ((k : ℕ) → k < r + 1 → IsSmallRepeat (run_at rs k).repeat) → r < length rs
     → AreRunNames f rs r old → IsRunName f (run_at rs r) name → Adds old new name added → AreRunNames f rs (r + 1) new
 run_adds f rs r old new name true ids runs small inside a h k =
     subst (AreRunNames f rs (r + 1)) (sym k.0) (record {

@@ -96,7 +96,8 @@ first_placed x r (y ∷ ys) h first d some =
       | false ↦ h
     ]
 
-placed_by : (r x : Repeat) (xs : List Repeat) (b : Bool) → b ≡ precedes x r → IsSortedBy precedes (x ∷ xs) → IsSortedBy precedes (placed r xs) → IsSortedBy precedes (if b then x ∷ placed r xs else r ∷ x ∷ xs)
+placed_by : (r x : Repeat) (xs : List Repeat) (b : Bool) → b ≡ precedes x r → IsSortedBy precedes (x ∷ xs) → IsSortedBy precedes (placed r xs)
+    → IsSortedBy precedes (if b then x ∷ placed r xs else r ∷ x ∷ xs)
 placed_by r x xs true e up rest = cons_sorted x (placed r xs) (first_placed x r xs (order.one_way x r (sym e)) (first_of x xs up)) rest
 placed_by r x xs false e up rest = cons_sorted r (x ∷ xs) (λ d some. sym e) up
 

@@ -1,5 +1,6 @@
 -- The runs of a row of frequencies that ride in a window, gathered from the last kept row to the first.
-use Rattle.std.proofs.Common.{◌≡◌, ℕ, ℤ, pos, zero, suc, ◌+◌, ◌-◌, ◌*◌, ◌<◌, ◌≤◌, ◌<ℤ◌, ◌≤ℤ◌, max, nat_lt, nat_le, Bool, true, false, List, [], ◌++◌, length, All, refl, sym, ap, ◌∙◌, subst, arith, ⊎_elim, if◌then◌else◌}
+use Rattle.std.proofs.Common.{◌≡◌, ℕ, ℤ, pos, zero, suc, ◌+◌, ◌-◌, ◌*◌, ◌<◌, ◌≤◌, ◌<ℤ◌, ◌≤ℤ◌, max, nat_lt, nat_le, Bool, true, false, List, [], ◌++◌, length, All, refl}
+use Rattle.std.proofs.Common.{sym, ap, ◌∙◌, subst, arith, ⊎_elim, if◌then◌else◌}
 use Rattle.std.specs.Prelude.{AllPairs}
 use Rattle.std.proofs.Math.Nat.{le-mul_of_pos_right, mul-le-mul_right, suc-mul}
 use Rattle.std.proofs.lemmas.Bool.{cases_lt, and_parts, and_from, lt-leb, le-ltb, leb-true, ltb-true, le-leb, lt-ltb}
@@ -38,7 +39,8 @@ never false h = refl
 pub holds_in : (w : Window) (moment : ℤ) → pos w.start ≤ℤ moment → moment ≤ℤ pos w.end → holds w moment ≡ true
 holds_in w moment h k = grind (arith, ints)
 
-some_or : (w : Window) (rows : List StopRow) (o : Origin) (n : ℕ) (b : Bool) → b ≡ holds w (departs rows o n) → (0 < length (steps_below w rows o n) → (j : ℕ) × (j < n) × (holds w (departs rows o j) ≡ true))
+some_or : (w : Window) (rows : List StopRow) (o : Origin) (n : ℕ) (b : Bool) → b ≡ holds w (departs rows o n)
+    → (0 < length (steps_below w rows o n) → (j : ℕ) × (j < n) × (holds w (departs rows o j) ≡ true))
     → 0 < length (steps_below w rows o n) + length (only_if b n) → (j : ℕ) × (j < suc n) × (holds w (departs rows o j) ≡ true)
 some_or w rows o n true e before h = (n, omega arith, sym e)
 some_or w rows o n false e before h = let x = before (omega (arith, h)) in (x.0, omega (arith, x.1), x.2)
@@ -186,7 +188,8 @@ one_pair false r = AllPairs-nil Differ
 
 module _ (w : Window) (rows : List StopRow) (day : ServiceDay) where
   -- what holds of each run of a row that rides
-  pub riding_by_all : (P : Repeat → Type 0) (row : FrequencyRow) → ((m : ℕ) → IsRun row m → rides w rows (origin_at rows day (departure row m)) ≡ true → P (run_of row m)) → All P (riding_by w rows day row)
+  pub riding_by_all : (P : Repeat → Type 0) (row : FrequencyRow)
+      → ((m : ℕ) → IsRun row m → rides w rows (origin_at rows day (departure row m)) ≡ true → P (run_of row m)) → All P (riding_by w rows day row)
   unfolding riding_by
   riding_by_all P row h = All-join P (λ m. only_if (rides_by w rows day row m) (run_of row m)) end_of_times (λ m l. one_all P (rides_by w rows day row m) (run_of row m) (λ r.
       let p = and_parts (nat_lt (departure row m) row.end) (rides w rows (origin_at rows day (departure row m))) r in h m (ltb-true (departure row m) row.end p.0) p.1))

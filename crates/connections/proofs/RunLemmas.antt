@@ -1,5 +1,6 @@
 -- The runs that ride in a window, by service day, position of the trip, and how they start.
-use Rattle.std.proofs.Common.{◌≡◌, ℕ, ◌≤ℤ◌, ◌<ℤ◌, zero, suc, ◌+◌, ◌<◌, ◌≤◌, ◌⊎◌, inl, inr, Bool, true, false, List, [], ◌∷◌, ◌++◌, length, map, get_or, All, Some, refl, sym, ◌∙◌, subst, arith, ⊎_elim, if◌then◌else◌}
+use Rattle.std.proofs.Common.{◌≡◌, ℕ, ◌≤ℤ◌, ◌<ℤ◌, zero, suc, ◌+◌, ◌<◌, ◌≤◌, ◌⊎◌, inl, inr, Bool, true, false, List, [], ◌∷◌, ◌++◌, length, map, get_or, All, Some, refl}
+use Rattle.std.proofs.Common.{sym, ◌∙◌, subst, arith, ⊎_elim, if◌then◌else◌}
 use Rattle.std.specs.Prelude.{AllPairs}
 use Rattle.std.proofs.lemmas.Int.{ints}
 use Rattle.std.proofs.lemmas.List.{get_or-map, length-map}
@@ -135,11 +136,13 @@ module _ (f : FeedParts) (s : ServiceParts) (w : Window) (repeats : AreRepeating
       let rides = rides_where w (rows_of f n) day n (is_active f s day n) _ (rides_of_trip w (rows_of f n) day n (frequencies_of f n) (repeats n (omega arith))) in
       subst P e (subst (AreRunsOn day (n + 1)) (sym (day-suc f s w day n)) (one_more day n (day_runs f s w day n) _ (of_day day n (omega arith)) rides))
 
-  two_days : (low day high : ServiceDay) (trips : ℕ) (xs ys : List Run) → low.number ≤ℤ day.number → day.number <ℤ high.number → AreRuns low day trips xs → AreRunsOn day trips ys → AreRuns low high trips (xs ++ ys)
+  two_days : (low day high : ServiceDay) (trips : ℕ) (xs ys : List Run) → low.number ≤ℤ day.number → day.number <ℤ high.number
+      → AreRuns low day trips xs → AreRunsOn day trips ys → AreRuns low high trips (xs ++ ys)
   two_days low day high trips xs ys l h a b = record {
     each = All-append (IsRun low high trips) xs ys
         (All-weaker (IsRun low day trips) (IsRun low high trips) (λ run r. record { from = r.from; to = omega (arith, ints, r.to, h); trip = r.trip; rides = r.rides }) xs a.each)
-        (All-weaker (IsRunOn day trips) (IsRun low high trips) (λ run r. record { from = omega (arith, ints, r.same, l); to = omega (arith, ints, r.same, h); trip = r.trip; rides = r.rides }) ys b.each);
+        (All-weaker (IsRunOn day trips) (IsRun low high trips)
+        (λ run r. record { from = omega (arith, ints, r.same, l); to = omega (arith, ints, r.same, h); trip = r.trip; rides = r.rides }) ys b.each);
     order = AllPairs-append Precedes xs ys a.order b.order (λ i j d m k.
         inl (omega (arith, ints, (All-get_or (IsRun low day trips) xs i d m a.each).to, (All-get_or (IsRunOn day trips) ys j d k b.each).same)));
   }
@@ -149,7 +152,8 @@ module _ (f : FeedParts) (s : ServiceParts) (w : Window) (repeats : AreRepeating
   of_days (suc n) =
       let trips = length f.trip_ids in
       subst (AreRuns (day_at w 0) (day_at w (suc n)) trips) (sym (days-suc f s w n))
-      (two_days (day_at w 0) (day_at w n) (day_at w (suc n)) trips (runs_below f s w n) (day_runs f s w (day_at w n) trips) (omega (arith, ints)) (omega (arith, ints)) (of_days n) (of_day (day_at w n) trips (omega arith)))
+      (two_days (day_at w 0) (day_at w n) (day_at w (suc n)) trips (runs_below f s w n) (day_runs f s w (day_at w n) trips) (omega (arith, ints))
+      (omega (arith, ints)) (of_days n) (of_day (day_at w n) trips (omega arith)))
 
   -- the runs of a window
   pub runs_are : IsWindow w → (rs : List Run) → rs ≡ runs_in f s w → AreRunsOf f rs × AllRide f w rs

@@ -156,8 +156,10 @@ unfolding leaving_sum
 leaving-few w v rows day row some k =
     near-few (λ m. nat_lt (departure row m) row.end && holds w (departs rows (origin_at rows day (departure row m)) k)) 259200 end_of_times (λ m n p q.
     let o : ℕ → Origin = λ i. origin_at rows day (departure row i) in
-    let first : (pos w.start ≤ℤ departs rows (o m) k) × (departs rows (o m) k ≤ℤ pos w.end) = holds_parts w (departs rows (o m) k) (and_parts (nat_lt (departure row m) row.end) (holds w (departs rows (o m) k)) p).1 in
-    let last : (pos w.start ≤ℤ departs rows (o n) k) × (departs rows (o n) k ≤ℤ pos w.end) = holds_parts w (departs rows (o n) k) (and_parts (nat_lt (departure row n) row.end) (holds w (departs rows (o n) k)) q).1 in
+    let first : (pos w.start ≤ℤ departs rows (o m) k) × (departs rows (o m) k ≤ℤ pos w.end) =
+    holds_parts w (departs rows (o m) k) (and_parts (nat_lt (departure row m) row.end) (holds w (departs rows (o m) k)) p).1 in
+    let last : (pos w.start ≤ℤ departs rows (o n) k) × (departs rows (o n) k ≤ℤ pos w.end) =
+    holds_parts w (departs rows (o n) k) (and_parts (nat_lt (departure row n) row.end) (holds w (departs rows (o n) k)) q).1 in
     ⊎_elim (λ (less : m < n).
     let d = n - m in
     let far : d ≤ d * row.headway = le-mul_of_pos_right {m = row.headway} d (omega (arith, some)) in

@@ -25,7 +25,8 @@ pub record IsRunOf (f : FeedParts) (run : Run) : Type 0 where
 -- no run stands twice
 pub record AreRunsOf (f : FeedParts) (rs : List Run) : Type 0 where
   pub each : (r : ℕ) → r < length rs → IsRunOf f (run_at rs r)
-  pub apart : (i j : ℕ) → i < j → j < length rs → (run_at rs i).origin.day.number ≡ (run_at rs j).origin.day.number → (run_at rs i).trip ≡ (run_at rs j).trip → (run_at rs i).repeat ≡ (run_at rs j).repeat → ⊥
+  pub apart : (i j : ℕ) → i < j → j < length rs → (run_at rs i).origin.day.number ≡ (run_at rs j).origin.day.number
+      → (run_at rs i).trip ≡ (run_at rs j).trip → (run_at rs i).repeat ≡ (run_at rs j).repeat → ⊥
 
 -- each has a ride in the window
 abbrev pub AllRide : FeedParts → Window → List Run → Type 0

@@ -65,7 +65,8 @@ runs_here t runs places rows rows' keys keys' o e f h none told =
     ∙ told t runs places (subst (λ (x : List CutRow). IsRead t runs places x keys') (sym e) (subst (λ (x : List Key). IsRead t runs places rows x) (sym f) h))
 
 pub read_here : (t : List (List (List ℕ))) (runs places : List (List ℕ)) (rows rows' : List CutRow) (keys : List Key) → runs ≡ run_names t (row_count t) → places ≡ place_names t (row_count t)
-    → length rows ≡ row_count t → ((k : ℕ) (d : CutRow) → k < row_count t → IsNumbered runs places (row t k) (slice_index_or rows k d)) → rows' ≡ rows → length keys ≡ length rows' → AreKeysOf rows' keys
+    → length rows ≡ row_count t → ((k : ℕ) (d : CutRow) → k < row_count t → IsNumbered runs places (row t k) (slice_index_or rows k d)) → rows' ≡ rows
+    → length keys ≡ length rows' → AreKeysOf rows' keys
     → IsRead t runs places rows keys
 read_here t runs places rows rows' keys a b size each e count s =
     record {

@@ -24,7 +24,8 @@ pub record InForm (run from to : List ℕ) (r : Row) : Type 0 where
   pub arr : r.arr < end_of_arrivals
   pub change : IfSome r.change (λ s. s ≤ 86400)
 
-read_inv : {A : Type 0} (P : Row → Type 0) (o : Option A) (column : Column) (rest : A → Result Row Column) → ((a : A) → o ≡ Some a → (r : Row) → rest a ≡ Ok r → P r) → (r : Row) → read o column rest ≡ Ok r → P r
+read_inv : {A : Type 0} (P : Row → Type 0) (o : Option A) (column : Column) (rest : A → Result Row Column)
+    → ((a : A) → o ≡ Some a → (r : Row) → rest a ≡ Ok r → P r) → (r : Row) → read o column rest ≡ Ok r → P r
 read_inv P None column rest h r e = absurd (cc)
 read_inv P (Some a) column rest h r e = h a refl r e
 
@@ -74,7 +75,15 @@ row_form a b c d e f g h j k =
     let low : step ≤ 999999999 = at_some (λ (n : ℕ). n ≤ 999999999) (whole_of 999999999 b) step (whole_bound 999999999 b) p2 in
     let early_arr : arr < end_of_arrivals = at_some (λ (n : ℕ). n < end_of_arrivals) (early f) arr (end_bound (moment_at f)) p6 in
     let small = at_some (λ (x : Option ℕ). IfSome x (λ s. s ≤ 86400)) (optional_seconds_of k) change (change_if (length k == 0) (whole_of 86400 k) (whole_bound 86400 k)) p10 in
-    subst (InForm a c d) (same_ok _ r q) (record { run_name = name_is a run p1; from_name = name_is c from p3; to_name = name_is d to p4; step = omega arith; arr = early_arr; change = small })))))))))))
+    subst (InForm a c d) (same_ok _ r q) (record {
+      run_name = name_is a run p1;
+      from_name = name_is c from p3;
+      to_name = name_is d to p4;
+      step =
+          omega arith;
+      arr = early_arr;
+      change = small;
+    })))))))))))
 
 ok_form : (P : Row → Type 0) (o : Result Row Column) (line : ℕ) → bad_of o line ≡ None → ((r : Row) → o ≡ Ok r → P r) → P (row_of o)
 ok_form P (Ok r) line h k = k r refl
@@ -84,4 +93,6 @@ ok_form P (Err column) line h k = absurd (cc)
 pub row_in_form : (t : List (List (List ℕ))) (i : ℕ) → bad_field t i ≡ None → InForm (field t Run i) (field t From i) (field t To i) (row t i)
 unfolding row_at bad_field row
 row_in_form t i h =
-    ok_form (InForm (field t Run i) (field t From i) (field t To i)) (row_at t i) (i + 2) h (λ r e. row_form (field t Run i) (field t Step i) (field t From i) (field t To i) (field t Dep i) (field t Arr i) (field t Class i) (field t Board i) (field t Exit i) (field t Change i) r e)
+    ok_form (InForm (field t Run i) (field t From i) (field t To i)) (row_at t i) (i + 2) h
+    (λ r e. row_form (field t Run i) (field t Step i) (field t From i) (field t To i) (field t Dep i) (field t Arr i) (field t Class i)
+    (field t Board i) (field t Exit i) (field t Change i) r e)

@@ -49,7 +49,8 @@ pub run_names-next : (t : List (List (List ℕ))) (i : ℕ) (r : Row) (old new :
 unfolding run_names
 run_names-next t i r old new h e f = rw add-one (f ∙ ap (λ x. add_new x r.run) e ∙ ap (λ (x : Row). add_new (run_names t i) x.run) (sym (row_is t i r h)))
 
-pub place_names-next : (t : List (List (List ℕ))) (i : ℕ) (r : Row) (old new : List (List ℕ)) → row_at t i ≡ Ok r → old ≡ place_names t i → new ≡ add_new (add_new old r.from) r.to → new ≡ place_names t (i + 1)
+pub place_names-next : (t : List (List (List ℕ))) (i : ℕ) (r : Row) (old new : List (List ℕ)) → row_at t i ≡ Ok r → old ≡ place_names t i
+    → new ≡ add_new (add_new old r.from) r.to → new ≡ place_names t (i + 1)
 unfolding place_names
 place_names-next t i r old new h e f =
     rw add-one (f ∙ ap (λ x. add_new (add_new x r.from) r.to) e ∙ ap (λ (x : Row). add_new (add_new (place_names t i) x.from) x.to) (sym (row_is t i r h)))

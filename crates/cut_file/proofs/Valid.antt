@@ -1,5 +1,6 @@
 -- The network of a cut file with no fault is valid.
-use Rattle.std.proofs.Common.{◌≡◌, ℕ, zero, suc, ◌+◌, ◌-◌, ◌<◌, ◌≤◌, ◌==◌, inl, inr, nat_lt, Bool, true, false, ◌&&◌, List, [], length, slice_get, slice_index_or, Option, Some, None, IfSome, if◌then◌else◌, refl, sym, ap, ◌∙◌, subst, arith, ⊎_elim}
+use Rattle.std.proofs.Common.{◌≡◌, ℕ, zero, suc, ◌+◌, ◌-◌, ◌<◌, ◌≤◌, ◌==◌, inl, inr, nat_lt, Bool, true, false, ◌&&◌, List, [], length, slice_get, slice_index_or}
+use Rattle.std.proofs.Common.{Option, Some, None, IfSome, if◌then◌else◌, refl, sym, ap, ◌∙◌, subst, arith, ⊎_elim}
 use Rattle.std.proofs.lemmas.Bool.{cases_lt, ltb-false, or_parts}
 use Rattle.std.proofs.lemmas.Bool.Decides.{nat_tests}
 use Rattle.std.proofs.lemmas.Option.{slice_get_within}
@@ -49,8 +50,10 @@ pub record HasNone (t : List (List (List ℕ))) (limit : ℕ) : Type 0 where
 has_none : (t : List (List (List ℕ))) (limit : ℕ) → first_fault t limit ≡ None → HasNone t limit
 unfolding first_fault
 has_none t limit h =
-    let a = none_both (missing_column t) (or_else (too_many_rows t limit) (or_else (first_below (bad_field t) (row_count t)) (or_else (first_below (repeated_step t) (row_count t)) (first_below (run_fault t) (row_count t))))) h in
-    let b = none_both (too_many_rows t limit) (or_else (first_below (bad_field t) (row_count t)) (or_else (first_below (repeated_step t) (row_count t)) (first_below (run_fault t) (row_count t)))) a.1 in
+    let a = none_both (missing_column t) (or_else (too_many_rows t limit)
+    (or_else (first_below (bad_field t) (row_count t)) (or_else (first_below (repeated_step t) (row_count t)) (first_below (run_fault t) (row_count t))))) h in
+    let b = none_both (too_many_rows t limit) (or_else (first_below (bad_field t) (row_count t))
+    (or_else (first_below (repeated_step t) (row_count t)) (first_below (run_fault t) (row_count t)))) a.1 in
     let c = none_both (first_below (bad_field t) (row_count t)) (or_else (first_below (repeated_step t) (row_count t)) (first_below (run_fault t) (row_count t))) b.1 in
     let d = none_both (first_below (repeated_step t) (row_count t)) (first_below (run_fault t) (row_count t)) c.1 in
     record { few = ltb-false limit (row_count t) (if_none (nat_lt limit (row_count t)) (TooManyRows (row_count t)) None b.0).0; fields = c.0; steps = d.0; runs = d.1 }

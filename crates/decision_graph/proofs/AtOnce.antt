@@ -39,7 +39,8 @@ abbrev no_tables : PlanGraph
 no_tables = record { start = None; tables = [] }
 
 -- to have arrived is the one safe strategy
-module _ {V : Type 0} (below covers : V → Tree → Type 0) (gap rank : V → ℕ) (arrived : ℕ → V) (blended : List Outcome → List V → V) (lowered : V → V → V) (laws : ScoreLaws below covers gap rank arrived blended lowered) where
+module _ {V : Type 0} (below covers : V → Tree → Type 0) (gap rank : V → ℕ) (arrived : ℕ → V) (blended : List Outcome → List V → V)
+    (lowered : V → V → V) (laws : ScoreLaws below covers gap rank arrived blended lowered) where
   below_all : (n : Parts) (q : Query) → q.source.0 ≡ q.target.0 → (tree : Tree) → IsSafeFor n q tree → below (arrived q.start.0) tree
   below_all n q same (Done moment) safe = subst (λ (m : ℕ). below (arrived q.start.0) (Done m)) (sym safe.0) (laws.arrived_below q.start.0)
   below_all n q same (Ride i j kids) safe = absurd (safe.0 same)
@@ -54,7 +55,8 @@ module _ {V : Type 0} (below covers : V → Tree → Type 0) (gap rank : V → �
     at_once = λ same. refl;
   }
 
-  pub expanded_at_once : (n : Parts) (q : Query) (graph : ExpandedGraph) (value : V) → q.source.0 ≡ q.target.0 → q.start.0 ≤ q.deadline.0 → graph ≡ no_rides → value ≡ arrived q.start.0 → IsExpandedBy below covers gap arrived n q graph value
+  pub expanded_at_once : (n : Parts) (q : Query) (graph : ExpandedGraph) (value : V) → q.source.0 ≡ q.target.0 → q.start.0 ≤ q.deadline.0
+      → graph ≡ no_rides → value ≡ arrived q.start.0 → IsExpandedBy below covers gap arrived n q graph value
   expanded_at_once n q graph value same early is exact =
       let best = subst (λ (t : Tree). IsBestBy below covers gap arrived n q t (arrived q.start.0)) (sym (unfolds n q (pick_after []) same)) (best_at_once n q same early) in
       let whole : IsExpandedBy below covers gap arrived n q no_rides (arrived q.start.0) = record {
@@ -66,7 +68,8 @@ module _ {V : Type 0} (below covers : V → Tree → Type 0) (gap rank : V → �
       } in
       rw (is, exact) whole
 
-  pub planned_at_once : (n : Parts) (q : Query) (graph : PlanGraph) (value : V) → q.source.0 ≡ q.target.0 → q.start.0 ≤ q.deadline.0 → graph ≡ no_tables → value ≡ arrived q.start.0 → IsPlannedBy below covers gap arrived n q graph value
+  pub planned_at_once : (n : Parts) (q : Query) (graph : PlanGraph) (value : V) → q.source.0 ≡ q.target.0 → q.start.0 ≤ q.deadline.0
+      → graph ≡ no_tables → value ≡ arrived q.start.0 → IsPlannedBy below covers gap arrived n q graph value
   planned_at_once n q graph value same early is exact =
       let best = subst (λ (t : Tree). IsBestBy below covers gap arrived n q t (arrived q.start.0)) (sym (unfolds n q (by_place n (pick_at [])) same)) (best_at_once n q same early) in
       let whole : IsPlannedBy below covers gap arrived n q no_tables (arrived q.start.0) = record {

@@ -25,7 +25,8 @@ module _ {V : Type 0} (below covers : V → Tree → Type 0) (gap : V → ℕ) (
       subst P some solves.answers.begins
 
   -- the strategy of the start is a best one
-  best_strategy : (n : Parts) (q : Query) (found : Found V) (start : V × Leg) → q.source.0 ≢ q.target.0 → IsStartAnswer below covers gap n q found start → IsBestBy below covers gap arrived n q (chosen_by n q found start.1) start.0
+  best_strategy : (n : Parts) (q : Query) (found : Found V) (start : V × Leg) → q.source.0 ≢ q.target.0
+      → IsStartAnswer below covers gap n q found start → IsBestBy below covers gap arrived n q (chosen_by n q found start.1) start.0
   best_strategy n q found start differ answer = record {
     safe = answer.safe;
     covers_own = answer.covers_chosen;
@@ -35,7 +36,8 @@ module _ {V : Type 0} (below covers : V → Tree → Type 0) (gap : V → ℕ) (
   }
 
   -- the graph that was extracted
-  pub expanded : (n : Parts) (q : Query) (found : Found V) (start : V × Leg) (graph : ExpandedGraph) → Solves below covers gap found n q → found.start ≡ Some start → IsExtracted n q found start.1 graph → IsExpandedBy below covers gap arrived n q graph start.0
+  pub expanded : (n : Parts) (q : Query) (found : Found V) (start : V × Leg) (graph : ExpandedGraph) → Solves below covers gap found n q
+      → found.start ≡ Some start → IsExtracted n q found start.1 graph → IsExpandedBy below covers gap arrived n q graph start.0
   expanded n q found start graph solves some extracted = record {
     best = subst (λ (t : Tree). IsBestBy below covers gap arrived n q t start.0) (sym extracted.unfolds) (best_strategy n q found start solves.differ (started n q found start solves some));
     ready = extracted.ready;

@@ -21,7 +21,9 @@ match_some None a N P is p = absurd (cc)
 match_some (Some b) a N P is p = let same : b ≡ a = (cc) in subst P same p
 
 -- the plan unfolds to the strategy of the graph
-pub planned : {V : Type 0} (below covers : V → Tree → Type 0) (gap : V → ℕ) (arrived : ℕ → V) (n : Parts) (q : Query) (graph pruned : ExpandedGraph) (plan : PlanGraph) (value : V) → IsExpandedBy below covers gap arrived n q graph value → unfold_expanded pruned n q ≡ unfold_expanded graph n q → unfold_plan plan n q ≡ unfold_expanded pruned n q → IsTidy n q plan → IsPlannedBy below covers gap arrived n q plan value
+pub planned : {V : Type 0} (below covers : V → Tree → Type 0) (gap : V → ℕ) (arrived : ℕ → V) (n : Parts) (q : Query) (graph pruned : ExpandedGraph)
+    (plan : PlanGraph) (value : V) → IsExpandedBy below covers gap arrived n q graph value → unfold_expanded pruned n q ≡ unfold_expanded graph n q
+    → unfold_plan plan n q ≡ unfold_expanded pruned n q → IsTidy n q plan → IsPlannedBy below covers gap arrived n q plan value
 planned below covers gap arrived n q graph pruned plan value expanded prunes compacts tidy = record {
   best = subst (λ (t : Tree). IsBestBy below covers gap arrived n q t value) (sym (compacts ∙ prunes)) expanded.best;
   tidy = tidy;

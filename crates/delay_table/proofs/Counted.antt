@@ -12,7 +12,8 @@ use Rattle.delay_table.specs.declared.faults.DelayFault.{DelayFault}
 use Rattle.delay_table.specs.declared.faults.DelayFault.TheVariants.{MissingColumn, TooManyRows, GroupRows, NotRising, TooManyClasses, WeightSum, GroupSum}
 use Rattle.delay_table.specs.Bounds.{end_of_types, most_groups, most_rows}
 use Rattle.delay_table.specs.Groups.{Group, is_plain, group_in}
-use Rattle.delay_table.specs.Delays.{Line, class_name, class_rows, class_sum, fault_of, group_sum_at, groups_fault, lacks, line_at, line_fault, missing_column, named, no_default_of, other_sum, outcomes, type_sum_at, rises}
+use Rattle.delay_table.specs.Delays.{Line, class_name, class_rows, class_sum, fault_of, group_sum_at, groups_fault, lacks, line_at, line_fault, missing_column, named}
+use Rattle.delay_table.specs.Delays.{no_default_of, other_sum, outcomes, type_sum_at, rises}
 
 -- a fault that tells no number of groups, or none
 abbrev pub IsOther : Option DelayFault → Type 0
@@ -70,7 +71,8 @@ column-other t =
     either (lacks t Class) (or_else (lacks t Delay) (lacks t Weight)) (column_if (is_none (place_of Class t)) Class)
     (either (lacks t Delay) (lacks t Weight) (column_if (is_none (place_of Delay t)) Delay) (column_if (is_none (place_of Weight t)) Weight))
 
-row_if : (many rising plain : Bool) (a b c : DelayFault) → IsOther (Some a) → IsOther (Some b) → IsOther (Some c) → IsOther (if many then Some (if plain then a else b) else if rising then None else Some c)
+row_if : (many rising plain : Bool) (a b c : DelayFault) → IsOther (Some a) → IsOther (Some b) → IsOther (Some c)
+    → IsOther (if many then Some (if plain then a else b) else if rising then None else Some c)
 row_if true rising true a b c h k m n e = h n e
 row_if true rising false a b c h k m n e = k n e
 row_if false true plain a b c h k m n e = absurd (cc)

@@ -1,5 +1,6 @@
 -- Groups by the numbers of their routes.
-use Rattle.std.proofs.Common.{◌≡◌, ℕ, suc, ◌+◌, ◌<◌, ◌≤◌, ◌&&◌, Bool, true, false, List, [], ◌∷◌, ◌++◌, length, map, slice_index_or, Option, Some, None, IfSome, option_map, is_some, refl, sym, ap, ap₂, ◌∙◌, subst, arith, ⊎_elim, length-append}
+use Rattle.std.proofs.Common.{◌≡◌, ℕ, suc, ◌+◌, ◌<◌, ◌≤◌, ◌&&◌, Bool, true, false, List, [], ◌∷◌, ◌++◌, length, map, slice_index_or, Option, Some, None, IfSome}
+use Rattle.std.proofs.Common.{option_map, is_some, refl, sym, ap, ap₂, ◌∙◌, subst, arith, ⊎_elim, length-append}
 use Rattle.std.specs.Prelude.{position}
 use Rattle.std.specs.List.{list_any}
 use Rattle.std.proofs.lemmas.Bool.{cases_lt, cases_Bool, eqb-true, eq-eqb, and_from, and_parts}
@@ -220,7 +221,8 @@ module _ (routes : List (List ℕ)) (keys : List NumberedGroup) (distinct : AreD
 
 -- the group at a place, by its key
 pub group-at : (routes : List (List ℕ)) (keys : List NumberedGroup) (all : List Group) (key : NumberedGroup) (route : Option (List ℕ)) (k : ℕ) → map (named_group routes) keys ≡ all → k < length keys
-    → key ≡ slice_index_or keys k no_group → route ≡ option_map (λ n. slice_index_or routes n []) key.route → ◌≡◌ {A = Group} (record { class = key.class; route = route; hour = key.hour }) (group_in all k)
+    → key ≡ slice_index_or keys k no_group → route ≡ option_map (λ n. slice_index_or routes n []) key.route
+    → ◌≡◌ {A = Group} (record { class = key.class; route = route; hour = key.hour }) (group_in all k)
 group-at routes keys all key route k view l e is =
     let same : ◌≡◌ {A = Group} (record { class = key.class; route = route; hour = key.hour }) (named_group routes key) = λ i. record { class = key.class; route = is i; hour = key.hour } in
     same ∙ ap (named_group routes) e ∙ sym (get_or-map (named_group routes) keys k no_group (of_class None) l) ∙ ap (λ gs. group_in gs k) view

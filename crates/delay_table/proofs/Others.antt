@@ -46,7 +46,8 @@ if_from groups n false e = All-cons (IsFrom groups (n + 1)) (group_in groups n) 
 pub others-from : (groups : List Group) (n : ℕ) → All (IsFrom groups n) (others groups n)
 others-from groups zero = subst (All (IsFrom groups 0)) (sym (others-zero groups)) (All-nil (IsFrom groups 0))
 others-from groups (suc n) =
-    let wider : All (IsFrom groups (n + 1)) (others groups n) = λ k d l. let w = others-from groups n k d l in record { place = w.place; inside = omega (arith, w.inside); is = w.is; other = w.other } in
+    let wider : All (IsFrom groups (n + 1)) (others groups n) = λ k d l. let w =
+    others-from groups n k d l in record { place = w.place; inside = omega (arith, w.inside); is = w.is; other = w.other } in
     let all : All (IsFrom groups (n + 1)) (others groups (n + 1)) = subst (All (IsFrom groups (n + 1))) (sym (others-next groups n))
     (All-append (IsFrom groups (n + 1)) (others groups n) (if_other (group_in groups n) (group_in groups n)) wider (if_from groups n (is_plain (group_in groups n)) refl)) in
     subst (λ (m : ℕ). All (IsFrom groups m) (others groups m)) (add-one n) all

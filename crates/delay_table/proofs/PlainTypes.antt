@@ -1,5 +1,6 @@
 -- The route types of the groups of a route type alone, in the order of the groups: sorted, they are those that are named.
-use Rattle.std.proofs.Common.{◌≡◌, ℕ, zero, suc, ◌+◌, ◌<◌, ◌≤◌, Bool, true, false, ◌&&◌, eqb, List, [], ◌∷◌, ◌++◌, length, get_or, Option, Some, None, IfSome, if◌then◌else◌, refl, sym, ap, ◌∙◌, subst, arith, ⊎_elim, length-append, append-nil, add-one, nat_cmp}
+use Rattle.std.proofs.Common.{◌≡◌, ℕ, zero, suc, ◌+◌, ◌<◌, ◌≤◌, Bool, true, false, ◌&&◌, eqb, List, [], ◌∷◌, ◌++◌, length, get_or, Option, Some, None, IfSome}
+use Rattle.std.proofs.Common.{if◌then◌else◌, refl, sym, ap, ◌∙◌, subst, arith, ⊎_elim, length-append, append-nil, add-one, nat_cmp}
 use Rattle.std.specs.Prelude.{is_none}
 use Rattle.std.specs.List.{IsDistinct}
 use Rattle.std.specs.List.Sorted.{IsPermutation, IsSorted}
@@ -30,7 +31,8 @@ pub plain-none : (groups : List Group) → [] ≡ plain_types groups 0
 plain-none groups = sym (plain-zero groups)
 
 -- a group of a route type alone
-type-alone : (class : Option ℕ) (route : Option (List ℕ)) (hour : Option ℕ) (r : ℕ) → (if is_none route && is_none hour then class else None) ≡ Some r → ◌≡◌ {A = Group} (record { class = class; route = route; hour = hour }) (of_class (Some r))
+type-alone : (class : Option ℕ) (route : Option (List ℕ)) (hour : Option ℕ) (r : ℕ) → (if is_none route && is_none hour then class else None) ≡ Some r
+    → ◌≡◌ {A = Group} (record { class = class; route = route; hour = hour }) (of_class (Some r))
 type-alone class None None r e = λ i. record { class = e i; route = None; hour = None }
 type-alone class None (Some h) r e = absurd (cc)
 type-alone class (Some s) None r e = absurd (cc)
@@ -132,7 +134,8 @@ module _ (groups : List Group) (apart : AreApart groups) where
   both-next : (n : ℕ) → both (n + 1) ≡ both n + (length (listed (plain_type (group_in groups n))) + length (if_other (group_in groups n) (group_in groups n)))
   both-next n =
       let g = group_in groups n in
-      let types : length (plain_types groups (n + 1)) ≡ length (plain_types groups n) + length (listed (plain_type g)) = ap length (plain-next groups n) ∙ length-append (plain_types groups n) (listed (plain_type g)) in
+      let types : length (plain_types groups (n + 1)) ≡ length (plain_types groups n) + length (listed (plain_type g)) =
+      ap length (plain-next groups n) ∙ length-append (plain_types groups n) (listed (plain_type g)) in
       let rest : length (others groups (n + 1)) ≡ length (others groups n) + length (if_other g g) = ap length (others-next groups n) ∙ length-append (others groups n) (if_other g g) in
       omega (arith, types, rest)
 
@@ -212,7 +215,8 @@ module _ (groups : List Group) (rows : List GroupRows) (is : IsRead groups rows)
         rising = λ i j less l.
             let le = IsNonDecreasingBy-from_sort (λ x. x) sorted up i j 0 (omega arith) l in
             let ne = eqb-false (get_or sorted i 0) (get_or sorted j 0) (apart_from_distinct eqb sorted i j 0 distinct less l) in
-            ⊎_elim (λ (lt : get_or sorted i 0 < get_or sorted j 0). lt) (λ (ge : get_or sorted j 0 ≤ get_or sorted i 0). absurd (ne (omega (arith, le)))) (cases_lt (get_or sorted i 0) (get_or sorted j 0));
+            ⊎_elim (λ (lt : get_or sorted i 0 < get_or sorted j 0). lt)
+            (λ (ge : get_or sorted j 0 ≤ get_or sorted i 0). absurd (ne (omega (arith, le)))) (cases_lt (get_or sorted i 0) (get_or sorted j 0));
         some = λ k l. let p = place k l in subst P p.2 (is.some p.0 p.1);
       }
 

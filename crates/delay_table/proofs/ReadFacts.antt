@@ -1,5 +1,6 @@
 -- The groups of the rows that are read, one row more at a time.
-use Rattle.std.proofs.Common.{◌≡◌, ℕ, ◌+◌, ◌<◌, ◌≤◌, List, [], ◌∷◌, ◌++◌, length, slice_index, Option, Some, None, IfSome, Result, Ok, Err, if◌then◌else◌, refl, sym, ap, ap₂, ◌∙◌, subst, arith, ⊎_elim, add-one, length-append, append-nil}
+use Rattle.std.proofs.Common.{◌≡◌, ℕ, ◌+◌, ◌<◌, ◌≤◌, List, [], ◌∷◌, ◌++◌, length, slice_index, Option, Some, None, IfSome, Result, Ok, Err, if◌then◌else◌, refl, sym, ap}
+use Rattle.std.proofs.Common.{ap₂, ◌∙◌, subst, arith, ⊎_elim, add-one, length-append, append-nil}
 use Rattle.std.specs.Prelude.{OnOk}
 use Rattle.std.proofs.lemmas.Bool.{cases_lt}
 use Rattle.std.proofs.lemmas.List.{get_or_append_left, get_or_push, get_or-map, length-map, map-append}
@@ -49,7 +50,8 @@ begins-some : (r : List Outcome) (i : ℕ) → 0 < length r → if_begins r i �
 begins-some [] i h = absurd (omega arith)
 begins-some (o ∷ os) i h = refl
 
-rows_by : (t : List (List (List ℕ))) (n : ℕ) (groups : List Group) (rows : List GroupRows) → IsReadTo t n groups rows → (group : Group) (o : Option ℕ) → place_of group groups ≡ o → outcomes_at rows o ≡ outcomes t n group
+rows_by : (t : List (List (List ℕ))) (n : ℕ) (groups : List Group) (rows : List GroupRows) → IsReadTo t n groups rows → (group : Group) (o : Option ℕ)
+    → place_of group groups ≡ o → outcomes_at rows o ≡ outcomes t n group
 rows_by t n groups rows r group None e = sym (r.absent group e)
 rows_by t n groups rows r group (Some k) e = let w = group-here group groups k e in r.each k w.0 ∙ ap (outcomes t n) w.1
 
@@ -234,4 +236,5 @@ unfolding groups_at
 types-bounded t rows k l =
     let i = slice_index rows k in
     let inside : k < length rows = omega (arith, length-groups t rows) in
-    subst (λ (g : Group). IfSome g.class (λ route. route < end_of_types)) (sym (get_or-map (λ j. group_of (line_at t j)) rows k 0 (of_class None) inside)) (type-bounded t i (line_at t i) (formed_at t i))
+    subst (λ (g : Group). IfSome g.class (λ route. route < end_of_types))
+    (sym (get_or-map (λ j. group_of (line_at t j)) rows k 0 (of_class None) inside)) (type-bounded t i (line_at t i) (formed_at t i))

@@ -1,5 +1,6 @@
 -- The classes of a table without a fault are valid.
-use Rattle.std.proofs.Common.{◌≡◌, ℕ, ◌+◌, ◌<◌, ◌≤◌, ◌==◌, nat_lt, Bool, true, false, List, [], ◌∷◌, ◌++◌, length, map, get_or, sum_by, Option, Some, None, IfSome, option_map, if◌then◌else◌, refl, sym, ap, ◌∙◌, subst, arith, All, length-append}
+use Rattle.std.proofs.Common.{◌≡◌, ℕ, ◌+◌, ◌<◌, ◌≤◌, ◌==◌, nat_lt, Bool, true, false, List, [], ◌∷◌, ◌++◌, length, map, get_or, sum_by, Option, Some, None, IfSome}
+use Rattle.std.proofs.Common.{option_map, if◌then◌else◌, refl, sym, ap, ◌∙◌, subst, arith, All, length-append}
 use Rattle.std.proofs.lemmas.List.{get_or_default, length-map}
 use Rattle.std.proofs.lemmas.List.Elements.{All-cons, All-append, All-map}
 use Rattle.std.proofs.lemmas.Bool.{eqb-true, ltb-false}
@@ -13,7 +14,8 @@ use Rattle.delay_table.specs.declared.reading.GroupRows.{GroupRows}
 use Rattle.delay_table.specs.DelayLists.{DelayLists}
 use Rattle.delay_table.specs.Bounds.{end_of_types, most_groups, whole_weight}
 use Rattle.delay_table.specs.Groups.{Group, group_in, is_plain, of_class, plain_types}
-use Rattle.delay_table.specs.Delays.{class_name, class_rows, class_sum, delays_in, group_sum, group_sum_at, groups_fault, groups_of, named, no_default_of, other_sum, others, too_many_classes, type_rows, type_sum_at}
+use Rattle.delay_table.specs.Delays.{class_name, class_rows, class_sum, delays_in, group_sum, group_sum_at, groups_fault, groups_of, named, no_default_of, other_sum}
+use Rattle.delay_table.specs.Delays.{others, too_many_classes, type_rows, type_sum_at}
 use Rattle.delay_table.specs.Read.{IsRead, line_at, rows_of}
 use Rattle.delay_table.specs.Slots.{AreDelays, IsStart}
 use mathlib.Core.Path.{fun_ext}
@@ -55,7 +57,9 @@ default_some : (r : List Outcome) → no_default_of r ≡ None → 0 < length r
 default_some [] h = absurd (cc)
 default_some (o ∷ os) h = omega arith
 
-module _ (groups : List Group) (read : List GroupRows) (is : IsRead groups read) (sound : groups_fault (rows_of groups read) groups (line_at read) ≡ None) (size : length (named (rows_of groups read) end_of_types) ≡ length (plain_types groups (length groups))) where
+module _ (groups : List Group) (read : List GroupRows) (is : IsRead groups read)
+    (sound : groups_fault (rows_of groups read) groups (line_at read) ≡ None)
+    (size : length (named (rows_of groups read) end_of_types) ≡ length (plain_types groups (length groups))) where
   abbrev own : Group → List Outcome
   own = rows_of groups read
 
@@ -137,8 +141,10 @@ module _ (groups : List Group) (read : List GroupRows) (is : IsRead groups read)
   classes-are = class-count ∙ counted
 
 -- what is made of these groups
-pub made-is : (rows : Group → List Outcome) (groups : List Group) (route_types : List ℕ) (os : List Group) (classes : List (List Outcome)) → route_types ≡ named rows end_of_types → os ≡ others groups (length groups)
-    → classes ≡ class_rows rows None ∷ map (type_rows rows) (named rows end_of_types) ++ map rows (others groups (length groups)) → ◌≡◌ {A = DelayLists} (record { types = route_types; others = os; classes = classes }) (delays_in rows groups)
+pub made-is : (rows : Group → List Outcome) (groups : List Group) (route_types : List ℕ) (os : List Group) (classes : List (List Outcome))
+    → route_types ≡ named rows end_of_types → os ≡ others groups (length groups)
+    → classes ≡ class_rows rows None ∷ map (type_rows rows) (named rows end_of_types) ++ map rows (others groups (length groups))
+    → ◌≡◌ {A = DelayLists} (record { types = route_types; others = os; classes = classes }) (delays_in rows groups)
 unfolding delays_in
 made-is rows groups route_types os classes e f g = λ i. record { types = e i; others = f i; classes = g i }
 
@@ -163,7 +169,8 @@ groups-same t n groups rows r =
     (λ k l. ap (λ m. group_sum (group_in groups k) m (outcomes t n (group_in groups k))) (r.lines k l)) in
     ap (λ rs. groups_fault rs groups (line_at rows)) same
     ∙ ap (λ o. or_else (too_many_classes (length groups)) (or_else (class_sum (outcomes t n) None)
-    (or_else (first_below (type_sum_at (outcomes t n) (named (outcomes t n) end_of_types)) (length (named (outcomes t n) end_of_types))) (or_else o (no_default_of (class_rows (outcomes t n) None)))))) lines
+    (or_else (first_below (type_sum_at (outcomes t n) (named (outcomes t n) end_of_types)) (length (named (outcomes t n) end_of_types)))
+    (or_else o (no_default_of (class_rows (outcomes t n) None)))))) lines
     ∙ ap (λ gs. groups_fault (outcomes t n) gs (first_line t n)) r.are
 
 groups-of : (t : List (List (List ℕ))) → groups_at t (firsts t (row_count t)) ≡ groups_of t
@@ -187,7 +194,8 @@ unfolding first_fault
 line-first t e h k =
     ap (λ o. or_else o (or_else (first_below (line_fault t) (row_count t)) (last_fault t))) (sym h) ∙ ap (λ o. or_else o (last_fault t)) k
 
-pub fault-same : (t : List (List (List ℕ))) (groups : List Group) (rows : List GroupRows) → None ≡ missing_column t → first_below (line_fault t) (row_count t) ≡ None → IsReadTo t (row_count t) groups rows
+pub fault-same : (t : List (List (List ℕ))) (groups : List Group) (rows : List GroupRows) → None ≡ missing_column t
+    → first_below (line_fault t) (row_count t) ≡ None → IsReadTo t (row_count t) groups rows
     → groups_fault (rows_of groups rows) groups (line_at rows) ≡ first_fault t
 unfolding first_fault
 fault-same t groups rows h k r =

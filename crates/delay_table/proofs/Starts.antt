@@ -1,5 +1,6 @@
 -- The outcomes of one group, one more at a time.
-use Rattle.std.proofs.Common.{◌≡◌, ◌+◌, ◌-◌, ◌<◌, ◌≤◌, Bool, true, false, nat_le, List, [], ◌∷◌, ◌++◌, length, slice_get, slice_index_or, Option, Some, None, if◌then◌else◌, refl, sym, subst, arith, ⊎_elim, length-append, append-nil, zero, suc, ℕ, IfSome, add-one, ap, ◌∙◌}
+use Rattle.std.proofs.Common.{◌≡◌, ◌+◌, ◌-◌, ◌<◌, ◌≤◌, Bool, true, false, nat_le, List, [], ◌∷◌, ◌++◌, length, slice_get, slice_index_or, Option, Some, None}
+use Rattle.std.proofs.Common.{if◌then◌else◌, refl, sym, subst, arith, ⊎_elim, length-append, append-nil, zero, suc, ℕ, IfSome, add-one, ap, ◌∙◌}
 use Rattle.std.proofs.lemmas.Bool.{cases_lt, leb-false, ltb-true}
 use Rattle.std.proofs.lemmas.List.Elements.{All-push}
 use Rattle.std.proofs.lemmas.Option.{slice_get-get_or}
@@ -42,7 +43,8 @@ rises_each r delay s h k d l =
     (cases_lt k (length r - 1))
 
 -- one more row with no fault
-start_next : (r : List Outcome) (line : Line) (number : ℕ) → IsStart r → fault_after r line number ≡ None → line.outcome.delay ≤ seconds_per_day → 1 ≤ line.outcome.weight → IsStart (r ++ line.outcome ∷ [])
+start_next : (r : List Outcome) (line : Line) (number : ℕ) → IsStart r → fault_after r line number ≡ None → line.outcome.delay ≤ seconds_per_day
+    → 1 ≤ line.outcome.weight → IsStart (r ++ line.outcome ∷ [])
 start_next r line number s none d w =
     let o = line.outcome in
     let t = none_cases (nat_le 64 (length r)) (rises (slice_get r (length r - 1)) o.delay) (too_many line.group number) (NotRising number) none in

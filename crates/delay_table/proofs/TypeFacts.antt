@@ -1,5 +1,6 @@
 -- The place of a route type among those that are named, and the greatest delay of a class.
-use Rattle.std.proofs.Common.{◌≡◌, slice_get, ℕ, zero, suc, ◌+◌, ◌-◌, ◌<◌, ◌≤◌, ◌==◌, List, length, get_or, slice_index, slice_index_or, Option, Some, None, option_map, if◌then◌else◌, sym, ap, ap₂, ◌∙◌, subst, arith, ⊎_elim, eq-or-lt_of_le, Contains, All}
+use Rattle.std.proofs.Common.{◌≡◌, slice_get, ℕ, zero, suc, ◌+◌, ◌-◌, ◌<◌, ◌≤◌, ◌==◌, List, length, get_or, slice_index, slice_index_or, Option, Some, None, option_map}
+use Rattle.std.proofs.Common.{if◌then◌else◌, sym, ap, ap₂, ◌∙◌, subst, arith, ⊎_elim, eq-or-lt_of_le, Contains, All}
 use Rattle.std.proofs.lemmas.Bool.{cases_lt, eq-eqb, ne_eqb}
 use Rattle.std.proofs.lemmas.List.{get_or_default}
 use Rattle.std.proofs.lemmas.Option.{slice_get_within, get_or_from_slice_get}
@@ -52,9 +53,14 @@ own_place types rising route j h =
     first-at f j (length types) j inside none (ap (λ b. if b then Some j else None) (eq-eqb (slice_index types j) route here))
 
 -- the place of a route type, by its class
-pub class-place : (types : List ℕ) → ((i j : ℕ) → i < j → j < length types → get_or types i 0 < get_or types j 0) → (route k : ℕ) → IsClassOf types route k → (k ≡ 0 → type_place types route ≡ None) × ((j : ℕ) → k ≡ j + 1 → type_place types route ≡ Some j)
+pub class-place : (types : List ℕ) → ((i j : ℕ) → i < j → j < length types → get_or types i 0 < get_or types j 0) → (route k : ℕ)
+    → IsClassOf types route k → (k ≡ 0 → type_place types route ≡ None) × ((j : ℕ) → k ≡ j + 1 → type_place types route ≡ Some j)
 class-place types rising route zero h = (λ e. no_place types route h, λ j e. absurd (omega (arith, e)))
-class-place types rising route (suc j) h = (λ e. absurd (omega (arith, e)), λ i e. let same : j ≡ i = omega (arith, e) in subst (λ (x : ℕ). type_place types route ≡ Some x) same (own_place types rising route j h))
+class-place types rising route (suc j) h = (
+  λ e. absurd (omega (arith, e)),
+  λ i e. let same : j ≡ i =
+      omega (arith, e) in subst (λ (x : ℕ). type_place types route ≡ Some x) same (own_place types rising route j h),
+)
 
 pub class-none : (d : DelayLists) → AreDelays d → (route k : ℕ) → IsClassOf d.types route k → k ≡ 0 → None ≡ type_class d (Some route)
 class-none d s route k h e = sym (ap (option_map (λ n. n + 1)) ((class-place d.types s.rising route k h).0 e))

@@ -1,5 +1,6 @@
 -- What a delay table is, and which of its faults comes first.
-use Rattle.std.specs.Prelude.{ℕ, zero, suc, ◌+◌, ◌-◌, ◌==◌, nat_lt, nat_le, true, Bool, List, [], ◌∷◌, ◌++◌, length, map, sum_by, slice_get, slice_index, Option, Some, None, option_map, is_none, if◌then◌else◌, codes}
+use Rattle.std.specs.Prelude.{ℕ, zero, suc, ◌+◌, ◌-◌, ◌==◌, nat_lt, nat_le, true, Bool, List, [], ◌∷◌, ◌++◌, length, map, sum_by, slice_get, slice_index, Option, Some}
+use Rattle.std.specs.Prelude.{None, option_map, is_none, if◌then◌else◌, codes}
 use Rattle.std.specs.Str.{bytes_eq}
 use Rattle.clock_text.specs.Digits.{whole_of}
 use Rattle.plan_model.specs.declared.model.Outcome.{Outcome}

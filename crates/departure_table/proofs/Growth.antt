@@ -52,7 +52,8 @@ module _ (m : Parts) (Safe : ℕ → Tree → Type 0) (first last : ℕ) where
   }
 
   module _ (next : ℕ) (rows : List DepartureRow) (t : IsTableTo m Safe first last next rows) where
-    module _ (row : DepartureRow) (soon : next ≤ last) (ahead : next ≤ row.by.0) (departure : IsDeparture m row) (best : (moment : ℕ) → next ≤ moment → moment ≤ row.by.0 → IsBestFrom m Safe moment row) where
+    module _ (row : DepartureRow) (soon : next ≤ last) (ahead : next ≤ row.by.0) (departure : IsDeparture m row)
+        (best : (moment : ℕ) → next ≤ moment → moment ≤ row.by.0 → IsBestFrom m Safe moment row) where
       abbrev Found : ℕ → Type 0
       Found moment = (r : DepartureRow) × (row_by moment (rows ++ row ∷ []) ≡ Some r) × IsBestFrom m Safe moment r
 

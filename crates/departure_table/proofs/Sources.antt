@@ -15,7 +15,8 @@ use Rattle.departure_table.specs.Departures.{IsASecondAway, SafeAfter, SafeFrom,
 use Rattle.departure_table.proofs.Empty.{empty_exactly}
 
 -- answers for one kind of safety are answers for the same kind told otherwise
-module _ (n m : Parts) (S T : ℕ → Tree → Type 0) (many : count n ≡ count m) (to : (moment : ℕ) (tree : Tree) → 1 ≤ moment → S moment tree → T moment tree) (from : (moment : ℕ) (tree : Tree) → 1 ≤ moment → T moment tree → S moment tree) where
+module _ (n m : Parts) (S T : ℕ → Tree → Type 0) (many : count n ≡ count m)
+    (to : (moment : ℕ) (tree : Tree) → 1 ≤ moment → S moment tree → T moment tree) (from : (moment : ℕ) (tree : Tree) → 1 ≤ moment → T moment tree → S moment tree) where
   best_told : (moment : ℕ) (row : DepartureRow) → 1 ≤ moment → IsBestFrom n S moment row → IsBestFrom m T moment row
   best_told moment row some b = record {
     below_safe = λ tree safe. b.below_safe tree (from moment tree some safe);
@@ -64,7 +65,8 @@ module _ (n : Parts) (q : Query) (m : Parts) (source : ℕ) (e : IsExtendedFor n
 
   table_told : (first last : ℕ) (rows : List DepartureRow) → 1 ≤ first → IsTable n (SafeAfter n q) first last rows → IsTable m (SafeFrom m source q) first last rows
   table_told first last rows some t = record {
-    answers = λ moment later within. answer_told n m (SafeAfter n q) (SafeFrom m source q) e.extends.view.as_many to_source from_source moment (row_by moment rows) (omega arith) (t.answers moment later within);
+    answers = λ moment later within. answer_told n m (SafeAfter n q) (SafeFrom m source q) e.extends.view.as_many to_source from_source moment
+        (row_by moment rows) (omega arith) (t.answers moment later within);
     departures = λ k d h. departure_told _ (t.departures k d h);
     from_first = t.from_first;
     rising = t.rising;

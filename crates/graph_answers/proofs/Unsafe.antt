@@ -43,7 +43,8 @@ module _ (n : Parts) (valid : IsValid n) (q : Query) (target_in : q.target.0 < l
   by_test true moment other early printed = done_printed moment early
   by_test false moment other early printed = printed
 
-  kids_printed : (next : ℕ → Tree) → ((x : ℕ) → x ≤ last_printable → FailsPrinted (next x)) → (scheduled : ℕ) → scheduled + 86400 ≤ last_printable → (row : List Outcome) → All (λ o. o.delay ≤ 86400) row
+  kids_printed : (next : ℕ → Tree) → ((x : ℕ) → x ≤ last_printable → FailsPrinted (next x)) → (scheduled : ℕ) → scheduled + 86400 ≤ last_printable
+      → (row : List Outcome) → All (λ o. o.delay ≤ 86400) row
       → (p x : ℕ) → FailsIn q (kids_after next scheduled row) p x → IsPrinted p x
   kids_printed next goes scheduled early [] few p x none = absurd none
   kids_printed next goes scheduled early (o ∷ row) few p x (inl fails) =
@@ -59,7 +60,8 @@ module _ (n : Parts) (valid : IsValid n) (q : Query) (target_in : q.target.0 < l
       let row = valid.rows (connection n leg.exit.0).class.0 c.class_in in
       kids_printed (next leg) goes (arr_of n leg.exit.0) (omega (arith, c.early)) (outcomes_of n leg) row.delays
 
-  or_stuck : (next : Leg → ℕ → Tree) (first : Option Leg) (p x : ℕ) → ((leg : Leg) → first ≡ Some leg → leg.exit.0 < count n) → ((leg : Leg) → leg.exit.0 < count n → (y : ℕ) → y ≤ last_printable → FailsPrinted (next leg y))
+  or_stuck : (next : Leg → ℕ → Tree) (first : Option Leg) (p x : ℕ) → ((leg : Leg) → first ≡ Some leg → leg.exit.0 < count n)
+      → ((leg : Leg) → leg.exit.0 < count n → (y : ℕ) → y ≤ last_printable → FailsPrinted (next leg y))
       → IsPrinted p x → FailsPrinted (ride_or_stuck n next first p x)
   or_stuck next None p x within goes is = stuck_printed p x is
   or_stuck next (Some leg) p x within goes is = ride_printed next leg (within leg refl) (goes leg (within leg refl))
@@ -78,11 +80,13 @@ module _ (n : Parts) (valid : IsValid n) (q : Query) (target_in : q.target.0 < l
       (or_stuck (unfold_after n q.target.0 choice (count n - 1)) first p x within (after_printed (count n - 1)) is)
 
 -- the place where one may fail first has a name, and the moment a text
-pub unsafe_tellable : (p : Problem) (q : Query) (graph : PlanGraph) → NamesFit p.names p.network → IsValid p.network → IsFit p.network q graph → q.source.0 < length p.network.change → q.target.0 < length p.network.change
+pub unsafe_tellable : (p : Problem) (q : Query) (graph : PlanGraph) → NamesFit p.names p.network → IsValid p.network → IsFit p.network q graph
+    → q.source.0 < length p.network.change → q.target.0 < length p.network.change
     → q.start.0 ≤ last_start → (place moment : ℕ) → IsUnsafe p.network q (unfold_plan graph p.network q) place moment → (place < length p.names.places) × (moment ≤ last_printable)
 unsafe_tellable p q graph names valid fit source target early place moment unsafe =
     let n = p.network in
-    let chosen : (leg : Leg) (x : ℕ) (next : Leg) → by_place n (pick_at graph.tables) leg x ≡ Some next → next.exit.0 < count n = λ leg x next is. (picked_leg n graph.tables fit.tables (end_of n leg) x next is).exit in
+    let chosen : (leg : Leg) (x : ℕ) (next : Leg) → by_place n (pick_at graph.tables) leg x ≡ Some next
+    → next.exit.0 < count n = λ leg x next is. (picked_leg n graph.tables fit.tables (end_of n leg) x next is).exit in
     let first : (leg : Leg) → graph.start ≡ Some leg → leg.exit.0 < count n = λ leg is. (MatchOption-at_some _ _ _ is fit.starts).is_leg.exit in
     let printed = from_printed n valid q target (by_place n (pick_at graph.tables)) chosen graph.start first q.source.0 q.start.0 (source, omega (arith, early)) place moment unsafe.first.fails in
     (subst (λ (k : ℕ). place < k) (sym names.places) printed.0, printed.1)
@@ -94,7 +98,8 @@ module _ (p : Problem) where
   IsPrintedFault (Unsafe place moment) = (place.0 < length p.names.places) × (moment.0 ≤ last_printable)
   IsPrintedFault NoMemory = Unit {0}
 
-  pub fault_printed : (q : Query) (graph : PlanGraph) → NamesFit p.names p.network → IsValid p.network → IsFit p.network q graph → q.source.0 < length p.network.change → q.target.0 < length p.network.change
+  pub fault_printed : (q : Query) (graph : PlanGraph) → NamesFit p.names p.network → IsValid p.network → IsFit p.network q graph
+      → q.source.0 < length p.network.change → q.target.0 < length p.network.change
       → q.start.0 ≤ last_start → (fault : ScoreFault) → IsScore p.network q graph (Err fault) → IsPrintedFault fault
   fault_printed q graph names valid fit source target early (NoSuchLeg k) is = tt
   fault_printed q graph names valid fit source target early (Unsafe place moment) (fits, unsafe) = unsafe_tellable p q graph names valid fit source target early place.0 moment.0 unsafe

@@ -108,7 +108,8 @@ rows_keep (row ∷ more) rows x has = rows_keep more (insert_key row_cmp rows ro
 
 pub rows_there : (more rows : List GraphRow) (x : GraphRow) → Has more x → Has (put_rows more rows) x
 rows_there [] rows x has = absurd has
-rows_there (row ∷ more) rows x (inl is) = rows_keep more (insert_key row_cmp rows row) x (subst (λ (y : GraphRow). Has (insert_key row_cmp rows row) y) (sym is) (there_with row_cmp row_equal rows row))
+rows_there (row ∷ more) rows x (inl is) = rows_keep more (insert_key row_cmp rows row) x
+    (subst (λ (y : GraphRow). Has (insert_key row_cmp rows row) y) (sym is) (there_with row_cmp row_equal rows row))
 rows_there (row ∷ more) rows x (inr has) = rows_there more (insert_key row_cmp rows row) x has
 
 pub rows_rise : (more rows : List GraphRow) → Later RowBefore rows → Later RowBefore (put_rows more rows)
@@ -176,7 +177,8 @@ some_first (head ∷ rows) later x row has after = elim (cases_lt head.by.0 x) [
     not_head (inl is) late = absurd (let same = ap (λ (r : GraphRow). r.by.0) is in omega (arith, same, late, after))
     not_head (inr there) late = there
 
-pub first_least : (rows : List GraphRow) → Later (λ a b. a.by.0 < b.by.0) rows → (x : ℕ) (e : GraphRow) → IsFirst rows x e → Has rows e × (x ≤ e.by.0) × ((other : GraphRow) → Has rows other → x ≤ other.by.0 → e.by.0 ≤ other.by.0)
+pub first_least : (rows : List GraphRow) → Later (λ a b. a.by.0 < b.by.0) rows → (x : ℕ) (e : GraphRow) → IsFirst rows x e → Has rows e × (x ≤ e.by.0)
+    × ((other : GraphRow) → Has rows other → x ≤ other.by.0 → e.by.0 ≤ other.by.0)
 first_least [] later x e first = absurd first
 first_least (head ∷ rows) later x e (inl both) = (inl both.1, subst (λ (r : GraphRow). x ≤ r.by.0) (sym both.1) both.0, λ other has after. least other has)
   where
@@ -210,7 +212,9 @@ drop_at (head ∷ rides) zero r within is = ap (λ (h : Ride). h ∷ rides) (sym
 drop_at (head ∷ rides) (suc i) r within is = drop_at rides i r (omega (arith, within)) is
 
 -- after one ride more
-pub gather_step : (n : Parts) (rides : List Ride) (i : ℕ) (r : Ride) (tables : List (BTreeSet GraphRow)) (end : ℕ) (table : BTreeSet GraphRow) (goal : List GraphRow) (place : ℕ) → i < length rides → r ≡ slice_index_or rides i r → end ≡ end_of n r.leg → end < length tables → table.keys ≡ put_rows r.after (rows_in tables end)
+pub gather_step : (n : Parts) (rides : List Ride) (i : ℕ) (r : Ride) (tables : List (BTreeSet GraphRow)) (end : ℕ) (table : BTreeSet GraphRow)
+    (goal : List GraphRow) (place : ℕ) → i < length rides → r ≡ slice_index_or rides i r → end ≡ end_of n r.leg → end < length tables
+    → table.keys ≡ put_rows r.after (rows_in tables end)
     → gathered n place (drop i rides) (rows_in tables place) ≡ goal → gathered n place (drop (i + 1) rides) (rows_in (slice_set tables end table) place) ≡ goal
 gather_step n rides i r tables end table goal place within is ends inside puts before =
     let now = rows_in (slice_set tables end table) place in
@@ -239,7 +243,8 @@ map_length f [] = refl
 map_length f (x ∷ xs) = ap (λ (n : ℕ). suc n) (map_length f xs)
 
 -- after one row more
-pub put_step : (rows : List GraphRow) (i : ℕ) (d : GraphRow) (old now : List GraphRow) (goal : List GraphRow) → i < length rows → now ≡ insert_key row_cmp old (slice_index_or rows i d) → put_rows (drop i rows) old ≡ goal → put_rows (drop (i + 1) rows) now ≡ goal
+pub put_step : (rows : List GraphRow) (i : ℕ) (d : GraphRow) (old now : List GraphRow) (goal : List GraphRow) → i < length rows
+    → now ≡ insert_key row_cmp old (slice_index_or rows i d) → put_rows (drop i rows) old ≡ goal → put_rows (drop (i + 1) rows) now ≡ goal
 put_step rows i d old now goal within is before =
     let one : suc i ≡ i + 1 = omega arith in
     let split : drop i rows ≡ slice_index_or rows i d ∷ drop (i + 1) rows = subst (λ (k : ℕ). drop i rows ≡ slice_index_or rows i d ∷ drop k rows) one (drop_row rows i d within) in

@@ -42,14 +42,17 @@ no_rows place base ((row ∷ rows) ∷ more) less =
     ap (λ (test : Bool). if test then row ∷ rows else rows_of_place (tables_of (base + 1) more) place) other
     ∙ no_rows place (base + 1) more (omega (arith, less))
 
-pub rows_found : (T : ℕ → List GraphRow) (place base : ℕ) (lists : List (List GraphRow)) → ((i : ℕ) → i < length lists → slice_index_or lists i [] ≡ T (base + i)) → base ≤ place → place < base + length lists → rows_of_place (tables_of base lists) place ≡ T place
+pub rows_found : (T : ℕ → List GraphRow) (place base : ℕ) (lists : List (List GraphRow))
+    → ((i : ℕ) → i < length lists → slice_index_or lists i [] ≡ T (base + i)) → base ≤ place → place < base + length lists
+    → rows_of_place (tables_of base lists) place ≡ T place
 rows_found T place base [] each from within = absurd (omega (arith, from, within))
 rows_found T place base ([] ∷ more) each from within = elim (cases_eq base place) [
   | inl is ↦
       no_rows place (base + 1) more (omega (arith, is))
       ∙ each 0 (omega arith)
       ∙ ap T (let e : base + 0 ≡ place = omega (arith, is) in e)
-  | inr differ ↦ rows_found T place (base + 1) more (λ i inside. each (suc i) (omega (arith, inside)) ∙ ap T (let e : base + suc i ≡ base + 1 + i = omega arith in e)) (omega (arith, from, differ)) (omega (arith, within))
+  | inr differ ↦ rows_found T place (base + 1) more (λ i inside. each (suc i) (omega (arith, inside))
+      ∙ ap T (let e : base + suc i ≡ base + 1 + i = omega arith in e)) (omega (arith, from, differ)) (omega (arith, within))
 ]
 rows_found T place base ((row ∷ rows) ∷ more) each from within = elim (cases_eq base place) [
   | inl is ↦
@@ -58,7 +61,8 @@ rows_found T place base ((row ∷ rows) ∷ more) each from within = elim (cases
       ∙ ap T (let e : base + 0 ≡ place = omega (arith, is) in e)
   | inr differ ↦
       ap (λ (test : Bool). if test then row ∷ rows else rows_of_place (tables_of (base + 1) more) place) (ne_eqb base place differ)
-      ∙ rows_found T place (base + 1) more (λ i inside. each (suc i) (omega (arith, inside)) ∙ ap T (let e : base + suc i ≡ base + 1 + i = omega arith in e)) (omega (arith, from, differ)) (omega (arith, within))
+      ∙ rows_found T place (base + 1) more (λ i inside. each (suc i) (omega (arith, inside))
+      ∙ ap T (let e : base + suc i ≡ base + 1 + i = omega arith in e)) (omega (arith, from, differ)) (omega (arith, within))
 ]
 
 -- a table of the list is that of a place, and is not empty
@@ -67,7 +71,8 @@ pub record IsTableOf (T : ℕ → List GraphRow) (base : ℕ) (table : PlaceTabl
   pub rows : table.rows ≡ T table.place.0
   pub some : 1 ≤ length table.rows
 
-pub table_found : (T : ℕ → List GraphRow) (base : ℕ) (lists : List (List GraphRow)) → ((i : ℕ) → i < length lists → slice_index_or lists i [] ≡ T (base + i)) → (table : PlaceTable) → Has (tables_of base lists) table → IsTableOf T base table
+pub table_found : (T : ℕ → List GraphRow) (base : ℕ) (lists : List (List GraphRow))
+    → ((i : ℕ) → i < length lists → slice_index_or lists i [] ≡ T (base + i)) → (table : PlaceTable) → Has (tables_of base lists) table → IsTableOf T base table
 table_found T base [] each table has = absurd has
 table_found T base ([] ∷ more) each table has =
     let rest = table_found T (base + 1) more (λ i inside. each (suc i) (omega (arith, inside)) ∙ ap T (let e : base + suc i ≡ base + 1 + i = omega arith in e)) table has in
@@ -80,7 +85,8 @@ table_found T base ((row ∷ rows) ∷ more) each table (inr has) =
     let rest = table_found T (base + 1) more (λ i inside. each (suc i) (omega (arith, inside)) ∙ ap T (let e : base + suc i ≡ base + 1 + i = omega arith in e)) table has in
     record { from = omega (arith, rest.from); rows = rest.rows; some = rest.some }
 
-pub tables_rise : (T : ℕ → List GraphRow) (base : ℕ) (lists : List (List GraphRow)) → ((i : ℕ) → i < length lists → slice_index_or lists i [] ≡ T (base + i)) → Later (λ a b. a.place.0 < b.place.0) (tables_of base lists)
+pub tables_rise : (T : ℕ → List GraphRow) (base : ℕ) (lists : List (List GraphRow))
+    → ((i : ℕ) → i < length lists → slice_index_or lists i [] ≡ T (base + i)) → Later (λ a b. a.place.0 < b.place.0) (tables_of base lists)
 tables_rise T base [] each = tt
 tables_rise T base ([] ∷ more) each = tables_rise T (base + 1) more (λ i inside. each (suc i) (omega (arith, inside)) ∙ ap T (let e : base + suc i ≡ base + 1 + i = omega arith in e))
 tables_rise T base ((row ∷ rows) ∷ more) each =
@@ -128,7 +134,8 @@ module _ (n : Parts) (valid : IsValid n) (q : Query) (graph : ExpandedGraph) (pr
     where
       by_moment : (other : GraphRow) → Has rows other → RowBefore row other → row.by.0 < other.by.0
       by_moment other has (inl less) = less
-      by_moment other has (inr both) = absurd (precedes_itself row.leg other.leg both.1 (coherent.agree place row other (row_at place row (own row (inl refl))) (row_at place other (own other (inr has))) both.0))
+      by_moment other has (inr both) = absurd (precedes_itself row.leg other.leg both.1
+          (coherent.agree place row other (row_at place row (own row (inl refl))) (row_at place other (own other (inr has))) both.0))
 
   rises : (place : ℕ) → Later (λ a b. a.by.0 < b.by.0) (T place)
   rises place = rising_from place (T place) (λ x has. has) (gathered_rise n place graph.rides [] tt)
@@ -151,7 +158,8 @@ module _ (n : Parts) (valid : IsValid n) (q : Query) (graph : ExpandedGraph) (pr
     has : Has (T (end_of n r.leg)) e
     picks : pick_row r.after x ≡ Some e.leg
 
-  same_first : (r : Ride) → Has graph.rides r → (o : Outcome) → Has (outcomes_of n r.leg) o → (row : GraphRow) → Has r.after row → arrival_of n r.leg o.delay ≤ row.by.0 → IsSameFirst r (arrival_of n r.leg o.delay)
+  same_first : (r : Ride) → Has graph.rides r → (o : Outcome) → Has (outcomes_of n r.leg) o → (row : GraphRow) → Has r.after row
+      → arrival_of n r.leg o.delay ≤ row.by.0 → IsSameFirst r (arrival_of n r.leg o.delay)
   same_first r has o outcome row there after =
       let place = end_of n r.leg in
       let x = arrival_of n r.leg o.delay in
@@ -171,7 +179,8 @@ module _ (n : Parts) (valid : IsValid n) (q : Query) (graph : ExpandedGraph) (pr
         picks = coherent.picks r (contains_from_has graph.rides r has) o (contains_from_has (outcomes_of n r.leg) o outcome) e earliest;
       }
 
-  module _ (start : Leg) (starts : graph.start ≡ Some start) (lists : List (List GraphRow)) (many : length lists ≡ length n.change) (each : (i : ℕ) → i < length n.change → slice_index_or lists i [] ≡ T i) where
+  module _ (start : Leg) (starts : graph.start ≡ Some start) (lists : List (List GraphRow)) (many : length lists ≡ length n.change)
+      (each : (i : ℕ) → i < length n.change → slice_index_or lists i [] ≡ T i) where
     abbrev tables : List PlaceTable
     tables = tables_of 0 lists
 
@@ -205,20 +214,23 @@ module _ (n : Parts) (valid : IsValid n) (q : Query) (graph : ExpandedGraph) (pr
     ends_inside : (leg : Leg) → IsLegOf n leg → end_of n leg < length n.change
     ends_inside leg is_leg = (valid.connections leg.exit.0 is_leg.exit).to_in
 
-    next : (leg : Leg) → IsPlaced n target (Some safe.0) choice whole leg → end_of n leg ≢ target → (o : Outcome) → Has (outcomes_of n leg) o → IsPlacedNext n target (Some safe.0) choice whole leg (arrival_of n leg o.delay)
+    next : (leg : Leg) → IsPlaced n target (Some safe.0) choice whole leg → end_of n leg ≢ target → (o : Outcome) → Has (outcomes_of n leg) o
+        → IsPlacedNext n target (Some safe.0) choice whole leg (arrival_of n leg o.delay)
     next leg placed = next_after n target (Some safe.0) choice whole leg placed
 
     -- a row that is picked is not before the arrival
     in_time : (rows : List GraphRow) (x : ℕ) (leg : Leg) → pick_row rows x ≡ Some leg → (row : GraphRow) × Has rows row × (row.leg ≡ leg) × (x ≤ row.by.0)
     in_time rows x leg is = let found = picked_first rows x leg is in (found.0, (first_there rows x found.0 found.1).1, found.2, (first_there rows x found.0 found.1).0)
 
-    picks_same : (leg : Leg) → IsPlaced n target (Some safe.0) choice whole leg → (o : Outcome) → Has (outcomes_of n leg) o → (t : IsPlacedNext n target (Some safe.0) choice whole leg (arrival_of n leg o.delay)) → plan_choice leg (arrival_of n leg o.delay) ≡ Some t.next
+    picks_same : (leg : Leg) → IsPlaced n target (Some safe.0) choice whole leg → (o : Outcome) → Has (outcomes_of n leg) o
+        → (t : IsPlacedNext n target (Some safe.0) choice whole leg (arrival_of n leg o.delay)) → plan_choice leg (arrival_of n leg o.delay) ≡ Some t.next
     picks_same leg placed o outcome t =
         let x = arrival_of n leg o.delay in
         let r = ride_there graph.rides leg x t.next t.is_chosen in
         let picks : pick_row r.found.after x ≡ Some t.next = ap (λ (list : List GraphRow). pick_row list x) (sym r.same_rows) ∙ t.is_chosen in
         let row = in_time r.found.after x t.next picks in
-        let find = subst (λ (l : Leg). (u : Outcome) → Has (outcomes_of n l) u → arrival_of n l u.delay ≤ row.0.by.0 → (e : GraphRow) × IsFirst (T (end_of n l)) (arrival_of n l u.delay) e × (pick_row r.found.after (arrival_of n l u.delay) ≡ Some e.leg)) r.same_leg
+        let find = subst (λ (l : Leg). (u : Outcome) → Has (outcomes_of n l) u → arrival_of n l u.delay ≤ row.0.by.0 → (e : GraphRow)
+        × IsFirst (T (end_of n l)) (arrival_of n l u.delay) e × (pick_row r.found.after (arrival_of n l u.delay) ≡ Some e.leg)) r.same_leg
         (λ u h a. let s = same_first r.found r.has u h row.0 row.1 a in (s.e, s.first, s.picks)) in
         let f = find o outcome row.3 in
         ap (λ (list : List GraphRow). pick_row list x) (rows_at (end_of n leg) (ends_inside leg placed.is_leg))
@@ -245,7 +257,8 @@ module _ (n : Parts) (valid : IsValid n) (q : Query) (graph : ExpandedGraph) (pr
         let t = next leg c.placed away c.o outcome in
         subst (λ (y : ℕ). IsPicked leg y) (sym c.at) (record { own = t.next; before = t.is_chosen; after = picks_same leg c.placed c.o outcome t; placed_too = t.placed })
 
-    goes_on : (leg : Leg) (x : ℕ) (own : Leg) → IsComing leg x → end_of n leg ≢ target → plan_choice leg x ≡ Some own → (o : Outcome) → Contains (outcomes_of n own) o → IsComing own (arrival_of n own o.delay)
+    goes_on : (leg : Leg) (x : ℕ) (own : Leg) → IsComing leg x → end_of n leg ≢ target → plan_choice leg x ≡ Some own → (o : Outcome)
+        → Contains (outcomes_of n own) o → IsComing own (arrival_of n own o.delay)
     goes_on leg x own c away is o there =
         let p = picked leg x c away in
         record { placed = subst (λ (l : Leg). IsPlaced n target (Some safe.0) choice whole l) (same_next (plan_choice leg x) p.own own p.after is) p.placed_too; o = o; there = there; at = refl }

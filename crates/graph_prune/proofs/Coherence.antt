@@ -39,7 +39,8 @@ module _ (n : Parts) (q : Query) (graph : ExpandedGraph) (at : ℕ → ℕ → O
       subst (λ (p : ℕ). (p ≢ q.target.0) × (at p row.by.0 ≡ Some row.leg)) stands.2
       (at_own stands.0 (has_from_contains graph.rides stands.0 stands.1) row (has_from_contains stands.0.after row stands.3))
 
-  coherent_picks : (r : Ride) → Contains graph.rides r → (o : Outcome) → Contains (outcomes_of n r.leg) o → (row : GraphRow) → IsEarliest n graph (end_of n r.leg) (arrival_of n r.leg o.delay) row → pick_row r.after (arrival_of n r.leg o.delay) ≡ Some row.leg
+  coherent_picks : (r : Ride) → Contains graph.rides r → (o : Outcome) → Contains (outcomes_of n r.leg) o → (row : GraphRow)
+      → IsEarliest n graph (end_of n r.leg) (arrival_of n r.leg o.delay) row → pick_row r.after (arrival_of n r.leg o.delay) ≡ Some row.leg
   coherent_picks r contains o outcome row earliest =
       let place = end_of n r.leg in
       let x = arrival_of n r.leg o.delay in

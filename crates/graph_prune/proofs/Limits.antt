@@ -33,7 +33,9 @@ pub record IsLimitOf (n : Parts) (place : ℕ) (rows : List GraphRow) (y : Graph
 
 module _ (n : Parts) (place : ℕ) where
   -- the rows where the first limit is that of the row before, and where it is another
-  limits_head : (row : GraphRow) (rows : List GraphRow) (limit : ℕ) (last : Option ℕ) (test : Bool) → limit_of n place row.leg ≡ Some limit → is_last last limit ≡ test → by_limits n place (row ∷ rows) last ≡ (if test then by_limits n place rows last else row_by limit row.leg ∷ by_limits n place rows (Some limit))
+  limits_head : (row : GraphRow) (rows : List GraphRow) (limit : ℕ) (last : Option ℕ) (test : Bool) → limit_of n place row.leg ≡ Some limit
+      → is_last last limit ≡ test → by_limits n place (row ∷ rows) last ≡
+      (if test then by_limits n place rows last else row_by limit row.leg ∷ by_limits n place rows (Some limit))
   limits_head row rows limit last test is same =
       ap (λ (l : Option ℕ). with_limit l row.leg (by_limits n place rows) last) is
       ∙ ap (λ (b : Bool). if b then by_limits n place rows last else row_by limit row.leg ∷ by_limits n place rows (Some limit)) same
@@ -43,7 +45,9 @@ module _ (n : Parts) (place : ℕ) where
   apart_last (Some moment) x limit apart within = let less : moment < limit = omega (arith, apart, within) in grind (arith, nat_tests)
 
   -- the first by its limit has the leg of the first in time
-  pub first_by_limits : (rows : List GraphRow) (last : Option ℕ) (x : ℕ) (leg : Leg) (limit : ℕ) → ((row : GraphRow) → Has rows row → IsReadyRow n place row) → IsApart last x → pick_in_time n place rows x ≡ Some leg → limit_of n place leg ≡ Some limit → IsFirst (by_limits n place rows last) x (row_by limit leg)
+  pub first_by_limits : (rows : List GraphRow) (last : Option ℕ) (x : ℕ) (leg : Leg) (limit : ℕ)
+      → ((row : GraphRow) → Has rows row → IsReadyRow n place row) → IsApart last x → pick_in_time n place rows x ≡ Some leg
+      → limit_of n place leg ≡ Some limit → IsFirst (by_limits n place rows last) x (row_by limit leg)
   first_by_limits [] last x leg limit ready apart is its = absurd (cc)
   first_by_limits (row ∷ rows) last x leg limit ready apart is its =
       let r = ready row (inl refl) in
@@ -62,13 +66,15 @@ module _ (n : Parts) (place : ℕ) where
             subst (λ (list : List GraphRow). IsFirst list x (row_by limit leg)) (sym (limits_head row rows r.limit last false r.is_limit (apart_last last x r.limit apart early))) first
       ]
     where
-      late_by : (test : Bool) → (ready row (inl refl)).limit < x → IsFirst (by_limits n place rows last) x (row_by limit leg) → IsFirst (by_limits n place rows (Some (ready row (inl refl)).limit)) x (row_by limit leg)
+      late_by : (test : Bool) → (ready row (inl refl)).limit < x → IsFirst (by_limits n place rows last) x (row_by limit leg)
+          → IsFirst (by_limits n place rows (Some (ready row (inl refl)).limit)) x (row_by limit leg)
           → IsFirst (if test then by_limits n place rows last else row_by (ready row (inl refl)).limit row.leg ∷ by_limits n place rows (Some (ready row (inl refl)).limit)) x (row_by limit leg)
       late_by true late one two = one
       late_by false late one two = inr (late, two)
 
   -- each row comes from one of the same leg
-  pub limit_member : (rows : List GraphRow) (last : Option ℕ) (y : GraphRow) → ((row : GraphRow) → Has rows row → IsReadyRow n place row) → Has (by_limits n place rows last) y → IsLimitOf n place rows y
+  pub limit_member : (rows : List GraphRow) (last : Option ℕ) (y : GraphRow) → ((row : GraphRow) → Has rows row → IsReadyRow n place row)
+      → Has (by_limits n place rows last) y → IsLimitOf n place rows y
   limit_member [] last y ready has = absurd has
   limit_member (row ∷ rows) last y ready has =
       let r = ready row (inl refl) in
@@ -79,13 +85,17 @@ module _ (n : Parts) (place : ℕ) where
       wider m = record { row = m.row; has = inr m.has; limit = m.limit; is_limit = m.is_limit; is = m.is }
 
       member_by : (test : Bool) → ((before : Option ℕ) → Has (by_limits n place rows before) y → IsLimitOf n place rows y)
-          → Has (if test then by_limits n place rows last else row_by (ready row (inl refl)).limit row.leg ∷ by_limits n place rows (Some (ready row (inl refl)).limit)) y → IsLimitOf n place (row ∷ rows) y
+          → Has (if test then by_limits n place rows last else row_by (ready row (inl refl)).limit row.leg ∷ by_limits n place rows
+          (Some (ready row (inl refl)).limit)) y → IsLimitOf n place (row ∷ rows) y
       member_by true more there = wider (more last there)
       member_by false more (inl is) = record { row = row; has = inl refl; limit = (ready row (inl refl)).limit; is_limit = (ready row (inl refl)).is_limit; is = is }
       member_by false more (inr there) = wider (more (Some (ready row (inl refl)).limit) there)
 
   -- the rows after a row by a limit are later, where limits do not fall
-  above : (rows : List GraphRow) → Later (IsBefore n place) rows → (bound : ℕ) (y : GraphRow) → ((row : GraphRow) → Has rows row → IsReadyRow n place row) → ((row : GraphRow) (limit : ℕ) → Has rows row → limit_of n place row.leg ≡ Some limit → bound ≤ limit) → Has (by_limits n place rows (Some bound)) y → bound < y.by.0
+  above : (rows : List GraphRow) → Later (IsBefore n place) rows → (bound : ℕ) (y : GraphRow)
+      → ((row : GraphRow) → Has rows row → IsReadyRow n place row)
+      → ((row : GraphRow) (limit : ℕ) → Has rows row → limit_of n place row.leg ≡ Some limit → bound ≤ limit)
+      → Has (by_limits n place rows (Some bound)) y → bound < y.by.0
   above [] later bound y ready least has = absurd has
   above (row ∷ rows) later bound y ready least has =
       let r = ready row (inl refl) in
@@ -97,15 +107,19 @@ module _ (n : Parts) (place : ℕ) where
             (subst (λ (list : List GraphRow). Has list y) (limits_head row rows r.limit (Some bound) false r.is_limit other) has)
         | inr more ↦
             let same : is_last (Some bound) r.limit ≡ true = grind (arith, nat_tests) in
-            above rows later.1 bound y (λ s h. ready s (inr h)) (λ s limit h its. least s limit (inr h) its) (subst (λ (list : List GraphRow). Has list y) (limits_head row rows r.limit (Some bound) true r.is_limit same) has)
+            above rows later.1 bound y (λ s h. ready s (inr h)) (λ s limit h its. least s limit (inr h) its)
+            (subst (λ (list : List GraphRow). Has list y) (limits_head row rows r.limit (Some bound) true r.is_limit same) has)
       ]
     where
-      first_or : bound < (ready row (inl refl)).limit → (Has (by_limits n place rows (Some (ready row (inl refl)).limit)) y → (ready row (inl refl)).limit < y.by.0) → Has (row_by (ready row (inl refl)).limit row.leg ∷ by_limits n place rows (Some (ready row (inl refl)).limit)) y → bound < y.by.0
+      first_or : bound < (ready row (inl refl)).limit → (Has (by_limits n place rows (Some (ready row (inl refl)).limit)) y
+          → (ready row (inl refl)).limit < y.by.0) → Has (row_by (ready row (inl refl)).limit row.leg ∷ by_limits n place rows
+          (Some (ready row (inl refl)).limit)) y → bound < y.by.0
       first_or less more (inl is) = subst (λ (w : GraphRow). bound < w.by.0) (sym is) less
       first_or less more (inr there) = omega (arith, less, more there)
 
   -- the rows rise
-  pub limits_rise : (rows : List GraphRow) → Later (IsBefore n place) rows → ((row : GraphRow) → Has rows row → IsReadyRow n place row) → (last : Option ℕ) → Later (λ a b. a.by.0 < b.by.0) (by_limits n place rows last)
+  pub limits_rise : (rows : List GraphRow) → Later (IsBefore n place) rows → ((row : GraphRow) → Has rows row → IsReadyRow n place row)
+      → (last : Option ℕ) → Later (λ a b. a.by.0 < b.by.0) (by_limits n place rows last)
   limits_rise [] later ready last = tt
   limits_rise (row ∷ rows) later ready last =
       let r = ready row (inl refl) in
@@ -161,6 +175,8 @@ pub rows_after-limits : (n : Parts) (rides : List Ride) (leg : Leg) → rows_aft
 rows_after-limits n [] leg = refl
 rows_after-limits n (r ∷ rides) leg = by_test ((r.leg.enter.0 == leg.enter.0) && (r.leg.exit.0 == leg.exit.0)) refl (rows_after-limits n rides leg)
   where
-    by_test : (test : Bool) → ((r.leg.enter.0 == leg.enter.0) && (r.leg.exit.0 == leg.exit.0)) ≡ test → rows_after (map (ride_by_limits n) rides) leg ≡ by_limits n (end_of n leg) (rows_after rides leg) None → rows_after (map (ride_by_limits n) (r ∷ rides)) leg ≡ by_limits n (end_of n leg) (rows_after (r ∷ rides) leg) None
+    by_test : (test : Bool) → ((r.leg.enter.0 == leg.enter.0) && (r.leg.exit.0 == leg.exit.0)) ≡ test
+        → rows_after (map (ride_by_limits n) rides) leg ≡ by_limits n (end_of n leg) (rows_after rides leg) None
+        → rows_after (map (ride_by_limits n) (r ∷ rides)) leg ≡ by_limits n (end_of n leg) (rows_after (r ∷ rides) leg) None
     by_test true is more = rw is (ap (λ (l : Leg). by_limits n (end_of n l) r.after None) (leg_test r.leg leg is))
     by_test false is more = rw is more

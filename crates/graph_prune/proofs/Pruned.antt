@@ -79,7 +79,9 @@ module _ (n : Parts) (valid : IsValid n) (q : Query) (source : ExpandedGraph) (s
     its_rows row there = all_at_has (IsReadyRow n place) r.after row its.rows there
 
     -- the row by its limit is the first, where the row was
-    first_limit : place ≢ target → (o : Outcome) → Contains (outcomes_of n r.leg) o → (next : Leg) → pick_row r.after (arrival_of n r.leg o.delay) ≡ Some next → (limit : ℕ) → limit_of n place next ≡ Some limit → IsFirst own.after (arrival_of n r.leg o.delay) (row_by limit next)
+    first_limit : place ≢ target → (o : Outcome) → Contains (outcomes_of n r.leg) o → (next : Leg)
+        → pick_row r.after (arrival_of n r.leg o.delay) ≡ Some next → (limit : ℕ) → limit_of n place next ≡ Some limit
+        → IsFirst own.after (arrival_of n r.leg o.delay) (row_by limit next)
     first_limit away o outcome next is limit its_limit =
         first_by_limits n place r.after _ (arrival_of n r.leg o.delay) next limit its_rows tt (sym (its.picks away o outcome) ∙ is) its_limit
 
@@ -90,7 +92,8 @@ module _ (n : Parts) (valid : IsValid n) (q : Query) (source : ExpandedGraph) (s
         (good.limit, ap (limit_of n place) (sym found.2) ∙ good.is_limit)
 
     -- after each outcome the same leg is picked
-    pub picks_same : place ≢ target → (o : Outcome) → Contains (outcomes_of n r.leg) o → (next : Leg) → pick_row r.after (arrival_of n r.leg o.delay) ≡ Some next → pick_row own.after (arrival_of n r.leg o.delay) ≡ Some next
+    pub picks_same : place ≢ target → (o : Outcome) → Contains (outcomes_of n r.leg) o → (next : Leg)
+        → pick_row r.after (arrival_of n r.leg o.delay) ≡ Some next → pick_row own.after (arrival_of n r.leg o.delay) ≡ Some next
     picks_same away o outcome next is =
         let limit = limit_there (arrival_of n r.leg o.delay) next is in
         first_pick own.after (arrival_of n r.leg o.delay) (row_by limit.0 next) (first_limit away o outcome next is limit.0 limit.1)
@@ -179,7 +182,9 @@ module _ (n : Parts) (valid : IsValid n) (q : Query) (source : ExpandedGraph) (s
       record {
         next = t.next;
         before = ap (λ (list : List GraphRow). pick_row list x) (rows_after-own rides rising r has) ∙ picks;
-        after = ap (λ (list : List GraphRow). pick_row list x) (rows_after-limits n rides r.leg ∙ ap (λ (list : List GraphRow). by_limits n (end_of n r.leg) list None) (rows_after-own rides rising r has)) ∙ picks_same r has away o outcome t.next picks;
+        after = ap (λ (list : List GraphRow). pick_row list x)
+            (rows_after-limits n rides r.leg ∙ ap (λ (list : List GraphRow). by_limits n (end_of n r.leg) list None)
+            (rows_after-own rides rising r has)) ∙ picks_same r has away o outcome t.next picks;
         ride = further.0;
         ride_has = has_from_contains rides further.0 further.1;
         ride_of = further.2 ∙ row.2;
@@ -190,7 +195,8 @@ module _ (n : Parts) (valid : IsValid n) (q : Query) (source : ExpandedGraph) (s
       let here = subst (λ (l : Leg). end_of n l ≢ target → (o : Outcome) → Contains (outcomes_of n l) o → IsPicked l (arrival_of n l o.delay)) c.same (picked_own_leg c.r c.has) in
       subst (λ (y : ℕ). IsPicked leg y) (sym c.at) (here away c.o c.there)
 
-  goes_on : (leg : Leg) (x : ℕ) (next : Leg) → IsComing leg x → end_of n leg ≢ target → pick_after pruned_rides leg x ≡ Some next → (o : Outcome) → Contains (outcomes_of n next) o → IsComing next (arrival_of n next o.delay)
+  goes_on : (leg : Leg) (x : ℕ) (next : Leg) → IsComing leg x → end_of n leg ≢ target → pick_after pruned_rides leg x ≡ Some next → (o : Outcome)
+      → Contains (outcomes_of n next) o → IsComing next (arrival_of n next o.delay)
   goes_on leg x next c away is o there =
       let p = picked leg x c away in
       record { r = p.ride; has = p.ride_has; same = p.ride_of ∙ same_next (pick_after pruned_rides leg x) p.next next p.after is; o = o; there = there; at = refl }
@@ -199,7 +205,15 @@ module _ (n : Parts) (valid : IsValid n) (q : Query) (source : ExpandedGraph) (s
   same_between = unfold_from-same n target (pick_after pruned_rides) (pick_after rides) IsComing
       (λ leg x c away. let p = picked leg x c away in p.after ∙ sym p.before)
       goes_on (Some start) q.source.0 q.start.0
-      (λ leg is o there. record { r = walked.begins.0; has = has_from_contains rides walked.begins.0 walked.begins.1; same = walked.begins.2 ∙ same_next (Some start) start leg refl is; o = o; there = there; at = refl })
+      (λ leg is o there. record {
+        r = walked.begins.0;
+        has = has_from_contains rides walked.begins.0 walked.begins.1;
+        same = walked.begins.2
+            ∙ same_next (Some start) start leg refl is;
+        o = o;
+        there = there;
+        at = refl;
+      })
 
   pub unfolds : unfold_expanded graph n q ≡ unfold_expanded source n q
   unfolds = same_between ∙ walked.unfolds ∙ sym starts_as
@@ -215,17 +229,23 @@ module _ (n : Parts) (valid : IsValid n) (q : Query) (source : ExpandedGraph) (s
     by = all_own (IsByLimits n) (λ r has. all_from_has (λ row. limit_of n (end_of n r.leg) row.leg ≡ Some row.by.0) (ride_by_limits n r).after (by_limit r has));
     busy = record {
       picked = all_own (λ r. All (IsPickedAfter n target r) r.after) (λ r has. all_from_has (IsPickedAfter n target (ride_by_limits n r)) (ride_by_limits n r).after (picked_own r has));
-      stands = all_own (λ r. Stands r.leg (unfold_expanded graph n q)) (λ r has. subst (λ (tree : Tree). Stands r.leg tree) (sym same_between) (all_at_has (λ s. Stands s.leg (unfold_expanded between n q)) rides r between_busy.stands has));
+      stands = all_own (λ r. Stands r.leg (unfold_expanded graph n q))
+          (λ r has. subst (λ (tree : Tree). Stands r.leg tree) (sym same_between)
+          (all_at_has (λ s. Stands s.leg (unfold_expanded between n q)) rides r between_busy.stands has));
     };
   }
 
-  follows_own : (at : ℕ → ℕ → Option Leg) → Follows n target at source → (r : Ride) → Has rides r → end_of n r.leg ≢ target → (o : Outcome) → Contains (outcomes_of n r.leg) o → (next : Leg) × (pick_row (ride_by_limits n r).after (arrival_of n r.leg o.delay) ≡ Some next) × (at (end_of n r.leg) (arrival_of n r.leg o.delay) ≡ Some next)
+  follows_own : (at : ℕ → ℕ → Option Leg) → Follows n target at source → (r : Ride) → Has rides r → end_of n r.leg ≢ target → (o : Outcome)
+      → Contains (outcomes_of n r.leg) o → (next : Leg) × (pick_row (ride_by_limits n r).after (arrival_of n r.leg o.delay) ≡ Some next)
+      × (at (end_of n r.leg) (arrival_of n r.leg o.delay) ≡ Some next)
   follows_own at follows r has away o outcome =
       let x = arrival_of n r.leg o.delay in
       let there = contains_from_has rides r has in
       let t = walked.taken r there away o outcome in
       let s = ride_there source.rides r.leg x t.next t.is_chosen in
-      let before = subst (λ (l : Leg). end_of n l ≢ target → (u : Outcome) → Contains (outcomes_of n l) u → (next : Leg) × (pick_row s.found.after (arrival_of n l u.delay) ≡ Some next) × (at (end_of n l) (arrival_of n l u.delay) ≡ Some next)) s.same_leg (follows s.found (contains_from_has source.rides s.found s.has)) in
+      let before = subst (λ (l : Leg). end_of n l ≢ target → (u : Outcome) → Contains (outcomes_of n l) u → (next : Leg)
+      × (pick_row s.found.after (arrival_of n l u.delay) ≡ Some next) × (at (end_of n l) (arrival_of n l u.delay) ≡ Some next)) s.same_leg
+      (follows s.found (contains_from_has source.rides s.found s.has)) in
       let f = before away o outcome in
       let same : f.0 ≡ t.next = same_next (pick_row s.found.after x) f.0 t.next f.1 (ap (λ (list : List GraphRow). pick_row list x) (sym s.same_rows) ∙ t.is_chosen) in
       (t.next, picks_same r has away o outcome t.next (picks_taken n valid q choice start rides walked r there away o outcome), f.2 ∙ ap (λ (l : Leg). Some l) same)
@@ -233,5 +253,6 @@ module _ (n : Parts) (valid : IsValid n) (q : Query) (source : ExpandedGraph) (s
   pub follows_on : (at : ℕ → ℕ → Option Leg) → Follows n target at source → Follows n target at graph
   follows_on at follows s contains =
       let found = has_from_map (ride_by_limits n) rides s (has_from_contains pruned_rides s contains) in
-      subst (λ (r : Ride). end_of n r.leg ≢ target → (o : Outcome) → Contains (outcomes_of n r.leg) o → (next : Leg) × (pick_row r.after (arrival_of n r.leg o.delay) ≡ Some next) × (at (end_of n r.leg) (arrival_of n r.leg o.delay) ≡ Some next))
+      subst (λ (r : Ride). end_of n r.leg ≢ target → (o : Outcome) → Contains (outcomes_of n r.leg) o → (next : Leg)
+      × (pick_row r.after (arrival_of n r.leg o.delay) ≡ Some next) × (at (end_of n r.leg) (arrival_of n r.leg o.delay) ≡ Some next))
       (sym found.2) (follows_own at follows found.0 found.1)

@@ -34,9 +34,12 @@ module _ (n : Parts) (q : Query) (graph : ExpandedGraph) (ready : IsReady n q gr
       let x = arrival_of n leg o.delay in
       let r = ride_there graph.rides leg x next is in
       let good = ready_ride r.found r.has in
-      let picks = subst (λ (l : Leg). end_of n l ≢ q.target.0 → (u : Outcome) → Contains (outcomes_of n l) u → pick_row r.found.after (arrival_of n l u.delay) ≡ pick_in_time n (end_of n l) r.found.after (arrival_of n l u.delay)) r.same_leg good.picks in
+      let picks = subst (λ (l : Leg). end_of n l ≢ q.target.0 → (u : Outcome) → Contains (outcomes_of n l) u
+      → pick_row r.found.after (arrival_of n l u.delay) ≡ pick_in_time n (end_of n l) r.found.after (arrival_of n l u.delay)) r.same_leg good.picks in
       let rows : All (IsReadyRow n (end_of n leg)) r.found.after = subst (λ (l : Leg). All (IsReadyRow n (end_of n l)) r.found.after) r.same_leg good.rows in
-      let first = in_time_kept n (end_of n leg) r.found.after x next (λ row there. all_at_has (IsReadyRow n (end_of n leg)) r.found.after row rows there) (sym (picks away o (contains_from_has (outcomes_of n leg) o has)) ∙ ap (λ (list : List GraphRow). pick_row list x) (sym r.same_rows) ∙ is) in
+      let first = in_time_kept n (end_of n leg) r.found.after x next
+      (λ row there. all_at_has (IsReadyRow n (end_of n leg)) r.found.after row rows there)
+      (sym (picks away o (contains_from_has (outcomes_of n leg) o has)) ∙ ap (λ (list : List GraphRow). pick_row list x) (sym r.same_rows) ∙ is) in
       record {
         next = next;
         is_chosen = is;

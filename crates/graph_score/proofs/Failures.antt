@@ -89,7 +89,8 @@ module _ (n : Parts) (q : Query) where
   ]) own
   with_tree (Some a) (Failing f) tree F is own = first_both a f F (Fails q tree) is own
 
-  first_told : (row : List Outcome) (values : List Outlook) (kids : Kids) (first : Option Failure) (F : May) → EachKid (IsOutlook n q) row values kids → IsFirst first F → IsFirst (first_of first values) (λ p x. F p x ⊎ FailsIn q kids p x)
+  first_told : (row : List Outcome) (values : List Outlook) (kids : Kids) (first : Option Failure) (F : May) → EachKid (IsOutlook n q) row values kids
+      → IsFirst first F → IsFirst (first_of first values) (λ p x. F p x ⊎ FailsIn q kids p x)
   first_told [] [] Nil first F each is = told_as first F (λ p x. F p x ⊎ ⊥) (λ p x may. inl may) (λ p x may. elim may [
     | inl here ↦ here
     | inr there ↦ absurd there

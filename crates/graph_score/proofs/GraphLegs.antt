@@ -39,7 +39,8 @@ take_each P [] (suc k) each within = All-nil P
 take_each P (x ∷ xs) (suc k) each within =
     All-cons P x (take k xs) (each 0 x (omega arith) (omega arith)) (take_each P xs k (λ i d low below. each (suc i) d (omega arith) (omega (arith, below))) (omega (arith, within)))
 
-pub first_wrong_is : (n : Parts) (q : Query) (legs : List GraphLeg) (k : ℕ) (d : GraphLeg) → k < length legs → AllWithin (Fits n q) legs 0 k → (Fits n q (slice_index_or legs k d) → ⊥) → IsFirstWrong n q legs (k + 1)
+pub first_wrong_is : (n : Parts) (q : Query) (legs : List GraphLeg) (k : ℕ) (d : GraphLeg) → k < length legs → AllWithin (Fits n q) legs 0 k
+    → (Fits n q (slice_index_or legs k d) → ⊥) → IsFirstWrong n q legs (k + 1)
 first_wrong_is n q legs k d within fit breaks = record {
   before = take k legs;
   wrong = slice_index_or legs k d;
@@ -97,7 +98,9 @@ pub fit_legs : (n : Parts) (q : Query) (graph : PlanGraph) → IsFit n q graph �
 fit_legs n q graph fit = by_start graph.start fit.starts
   where
     away : (leg : Leg) → IsFitStart n q leg → All (Fits n q) (flat_map legs_in graph.tables)
-    away leg start = each_flat (Fits n q) legs_in graph.tables (λ k d within. All-map (Fits n q) (λ row. Row (slice_index_or graph.tables k d).place row) (slice_index_or graph.tables k d).rows (λ i e inside. (start.differ, (fit.tables k d within).rows i e inside)))
+    away leg start = each_flat (Fits n q) legs_in graph.tables
+        (λ k d within. All-map (Fits n q) (λ row. Row (slice_index_or graph.tables k d).place row) (slice_index_or graph.tables k d).rows
+        (λ i e inside. (start.differ, (fit.tables k d within).rows i e inside)))
 
     by_start : (start : Option Leg) → MatchOption start ((q.source.0 ≡ q.target.0) × (graph.tables ≡ [])) (IsFitStart n q) → All (Fits n q) (start_leg start ++ flat_map legs_in graph.tables)
     by_start None is = subst (λ (tables : List PlaceTable). All (Fits n q) (flat_map legs_in tables)) (sym is.1) (All-nil (Fits n q))

@@ -48,7 +48,8 @@ stuck_told n q p x = record { fails = (refl, refl); first = λ r y fails. inr (s
 
 -- of each connection that was looked at it is known what comes of leaving by it, over enough rides
 abbrev AreRight : Parts → Query → List PlaceTable → List Outlook → List ConnectionId → Type 0
-AreRight n q tables outlooks taken = (leg : Leg) (rides : ℕ) → Known Never taken leg.exit.0 → length taken ≤ suc rides → IsOutlook n q (slice_index_or outlooks leg.exit.0 no_outlook) (ridden n q tables rides leg)
+AreRight n q tables outlooks taken = (leg : Leg) (rides : ℕ) → Known Never taken leg.exit.0 → length taken ≤ suc rides
+    → IsOutlook n q (slice_index_or outlooks leg.exit.0 no_outlook) (ridden n q tables rides leg)
 
 -- the rest of the scan order was not looked at
 pub record AreTold (n : Parts) (q : Query) (tables : List PlaceTable) (order rest : List ConnectionId) (outlooks : List Outlook) : Type 0 where
@@ -68,7 +69,8 @@ module _ (n : Parts) (valid : IsValid n) (q : Query) (tables : List PlaceTable) 
 
     -- what comes of an arrival after the next connection
     arrival_told : (outlooks : List Outlook) (rest taken : List ConnectionId) (id : ConnectionId) → (rest ++ id ∷ []) ++ taken ≡ order → AreRight n q tables outlooks taken → id.0 < count n
-        → (leg : Leg) (rides x : ℕ) → leg.exit.0 ≡ id.0 → length taken ≤ rides → arr_of n id.0 ≤ x → IsOutlook n q (outlook_at tables q outlooks (end_of n leg) x) (next_after n q tables fit rides leg x)
+        → (leg : Leg) (rides x : ℕ) → leg.exit.0 ≡ id.0 → length taken ≤ rides → arr_of n id.0 ≤ x
+        → IsOutlook n q (outlook_at tables q outlooks (end_of n leg) x) (next_after n q tables fit rides leg x)
     arrival_told outlooks rest taken id split right there leg rides x of_id enough late = elim (cases_eq (end_of n leg) q.target.0) [
       | inl here ↦
           let e : (end_of n leg == q.target.0) ≡ true = grind (arith, nat_tests) in
@@ -90,11 +92,14 @@ module _ (n : Parts) (valid : IsValid n) (q : Query) (tables : List PlaceTable) 
           ]
         ]
 
-        over : (rides : ℕ) → length taken ≤ rides → end_of n leg ≢ q.target.0 → (next : Leg) → pick_at tables (end_of n leg) x ≡ Some next → Known Never taken next.exit.0 → IsOutlook n q (slice_index_or outlooks next.exit.0 no_outlook) (next_after n q tables fit rides leg x)
+        over : (rides : ℕ) → length taken ≤ rides → end_of n leg ≢ q.target.0 → (next : Leg) → pick_at tables (end_of n leg) x ≡ Some next
+            → Known Never taken next.exit.0 → IsOutlook n q (slice_index_or outlooks next.exit.0 no_outlook) (next_after n q tables fit rides leg x)
         over zero enough away next is known = absurd (omega (arith, some_known taken next.exit.0 known, enough))
-        over (suc rides) enough away next is known = subst (IsOutlook n q (slice_index_or outlooks next.exit.0 no_outlook)) (sym (after-ride n q tables fit rides leg x next away is)) (right next rides known enough)
+        over (suc rides) enough away next is known = subst (IsOutlook n q (slice_index_or outlooks next.exit.0 no_outlook))
+            (sym (after-ride n q tables fit rides leg x next away is)) (right next rides known enough)
 
-        by_next : (rides : ℕ) → length taken ≤ rides → end_of n leg ≢ q.target.0 → (next : Option Leg) → pick_at tables (end_of n leg) x ≡ next → IsOutlook n q (by_leg outlooks (end_of n leg) x next) (next_after n q tables fit rides leg x)
+        by_next : (rides : ℕ) → length taken ≤ rides → end_of n leg ≢ q.target.0 → (next : Option Leg) → pick_at tables (end_of n leg) x ≡ next
+            → IsOutlook n q (by_leg outlooks (end_of n leg) x next) (next_after n q tables fit rides leg x)
         by_next rides enough away None is = subst (IsOutlook n q (Failing (failure (end_of n leg) x))) (sym (after-stuck n q tables fit rides leg x away is)) (stuck_told n q (end_of n leg) x)
         by_next rides enough away (Some next) is =
             let row = taken_row n tables fit (end_of n leg) x next is in
@@ -115,7 +120,8 @@ module _ (n : Parts) (valid : IsValid n) (q : Query) (tables : List PlaceTable) 
         let late = ap (arr_of n) of_id in
         let each = kids_told outlooks (end_of n leg) (arr_of n leg.exit.0) (next_after n q tables fit rides leg)
         (λ x from. arrival_told outlooks rest taken id split right there leg rides x of_id enough (omega (arith, late, from))) (outcomes_of n leg) in
-        let own = blend_told n q leg.enter.0 leg.exit.0 (outlooks_after tables q outlooks (end_of n leg) (arr_of n leg.exit.0) (outcomes_of n leg)) (kids_after (next_after n q tables fit rides leg) (arr_of n leg.exit.0) (outcomes_of n leg)) each in
+        let own = blend_told n q leg.enter.0 leg.exit.0 (outlooks_after tables q outlooks (end_of n leg) (arr_of n leg.exit.0) (outcomes_of n leg))
+        (kids_after (next_after n q tables fit rides leg) (arr_of n leg.exit.0) (outcomes_of n leg)) each in
         subst (λ j. IsOutlook n q (outlook_of n tables q outlooks j) (ridden n q tables rides leg)) of_id own
 
     -- with the next connection
@@ -126,10 +132,13 @@ module _ (n : Parts) (valid : IsValid n) (q : Query) (tables : List PlaceTable) 
           let there = (next_taken rest taken id split).there in
           let own = ride_told outlooks rest taken id split right there leg rides same (omega (arith, enough)) in
           let at : slice_index_or (set outlooks id.0 (outlook_of n tables q outlooks id.0)) leg.exit.0 no_outlook ≡ outlook_of n tables q outlooks id.0 =
-          ap (λ j. slice_index_or (set outlooks id.0 (outlook_of n tables q outlooks id.0)) j no_outlook) same ∙ get_or-set_same outlooks id.0 (outlook_of n tables q outlooks id.0) no_outlook (omega (arith, there, many)) in
+          ap (λ j. slice_index_or (set outlooks id.0 (outlook_of n tables q outlooks id.0)) j no_outlook) same
+          ∙ get_or-set_same outlooks id.0 (outlook_of n tables q outlooks id.0) no_outlook (omega (arith, there, many)) in
           subst (λ o. IsOutlook n q o (ridden n q tables rides leg)) (sym at) own
       | inr other ↦
-          subst (λ o. IsOutlook n q o (ridden n q tables rides leg)) (sym (get_or-set_other outlooks id.0 leg.exit.0 (outlook_of n tables q outlooks id.0) no_outlook other)) (right leg rides (before known other) (omega (arith, enough)))
+          subst (λ o. IsOutlook n q o (ridden n q tables rides leg))
+          (sym (get_or-set_other outlooks id.0 leg.exit.0 (outlook_of n tables q outlooks id.0) no_outlook other))
+          (right leg rides (before known other) (omega (arith, enough)))
     ]
       where
         before : Known Never (id ∷ taken) leg.exit.0 → leg.exit.0 ≢ id.0 → Known Never taken leg.exit.0
@@ -143,7 +152,8 @@ module _ (n : Parts) (valid : IsValid n) (q : Query) (tables : List PlaceTable) 
     pub told_there : (rest : List ConnectionId) (id : ConnectionId) (outlooks : List Outlook) → AreTold n q tables order (rest ++ id ∷ []) outlooks → id.0 < count n
     told_there rest id outlooks told = (next_taken rest told.taken id told.split).there
 
-    pub told_next : (rest : List ConnectionId) (id : ConnectionId) (outlooks : List Outlook) → AreTold n q tables order (rest ++ id ∷ []) outlooks → AreTold n q tables order rest (set outlooks id.0 (outlook_of n tables q outlooks id.0))
+    pub told_next : (rest : List ConnectionId) (id : ConnectionId) (outlooks : List Outlook) → AreTold n q tables order (rest ++ id ∷ []) outlooks
+        → AreTold n q tables order rest (set outlooks id.0 (outlook_of n tables q outlooks id.0))
     told_next rest id outlooks told = record {
       taken = id ∷ told.taken;
       split = sym (append_assoc rest (id ∷ []) told.taken) ∙ told.split;

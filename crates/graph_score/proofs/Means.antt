@@ -43,7 +43,8 @@ module _ (n : Parts) (target : ℕ) (by : Option ℕ) where
         let more = kids_enclosed kids row p scheduled safe.2 in
         ((safe.0, here.0, more.0), (safe.0, here.1, more.1))
 
-  pub ride_enclosed : (i j : ℕ) (kids : Kids) → SafeAll n target by kids (outcomes n j) (to_of n j) (arr_of n j) → Encloses (span_of n (Ride i j kids)).lo (span_of n (Ride i j kids)).hi (Ride i j kids)
+  pub ride_enclosed : (i j : ℕ) (kids : Kids) → SafeAll n target by kids (outcomes n j) (to_of n j) (arr_of n j)
+      → Encloses (span_of n (Ride i j kids)).lo (span_of n (Ride i j kids)).hi (Ride i j kids)
   ride_enclosed i j kids safe =
       let each = kids_enclosed kids (outcomes n j) (to_of n j) (arr_of n j) safe in (
         mean_below nanos_per_second arrival (outcomes n j) (map (λ s. s.lo) (spans_of n kids)) kids i j each.0,
@@ -69,7 +70,8 @@ module _ (n : Parts) (target : ℕ) (by : Option ℕ) where
           let more = kids_near kids row p scheduled most (omega (arith, low)) safe.2 in
           (ap suc more.0, All-cons (λ (s : Interval). s.hi - s.lo ≤ most) (span_of n tree) (spans_of n kids) (omega (arith, here, low)) more.1)
 
-    pub ride_near : (i j : ℕ) (kids : Kids) → j < count n → SafeAll n target by kids (outcomes n j) (to_of n j) (arr_of n j) → (span_of n (Ride i j kids)).hi - (span_of n (Ride i j kids)).lo ≤ height (Ride i j kids)
+    pub ride_near : (i j : ℕ) (kids : Kids) → j < count n → SafeAll n target by kids (outcomes n j) (to_of n j) (arr_of n j)
+        → (span_of n (Ride i j kids)).hi - (span_of n (Ride i j kids)).lo ≤ height (Ride i j kids)
     ride_near i j kids there safe =
         let each = kids_near kids (outcomes n j) (to_of n j) (arr_of n j) (height_of kids) (omega arith) safe in
         mean_gap_within (outcomes n j) (spans_of n kids) (height_of kids) (row_is n valid j there) each.0 each.1

@@ -25,7 +25,8 @@ pick_further : (row : GraphRow) (rows : List GraphRow) (x : ℕ) → row.by.0 < 
 pick_further row rows x late = let e : nat_le x row.by.0 ≡ false = grind (arith, nat_tests) in rw e refl
 
 -- what is picked is the row at which those before an arrival end
-pub pick_row-at : (rows : List GraphRow) (x i : ℕ) (d : GraphRow) → AllWithin (λ r. nat_lt r.by.0 x ≡ true) rows 0 i → i < length rows → nat_lt (slice_index_or rows i d).by.0 x ≡ false → pick_row rows x ≡ Some (slice_index_or rows i d).leg
+pub pick_row-at : (rows : List GraphRow) (x i : ℕ) (d : GraphRow) → AllWithin (λ r. nat_lt r.by.0 x ≡ true) rows 0 i → i < length rows
+    → nat_lt (slice_index_or rows i d).by.0 x ≡ false → pick_row rows x ≡ Some (slice_index_or rows i d).leg
 pick_row-at [] x i d before within from = absurd (omega (arith, within))
 pick_row-at (row ∷ rows) x zero d before within from = pick_here row rows x (ltb-false row.by.0 x from)
 pick_row-at (row ∷ rows) x (suc i) d before within from =
@@ -45,7 +46,8 @@ rows_further : (table : PlaceTable) (tables : List PlaceTable) (p : ℕ) → (ta
 rows_further table tables p away = let e : is_table_of p table ≡ false = grind (arith, nat_tests) in rw e refl
 
 -- the rows of a place are those of the table at which the places before it end
-pub rows_of_place-at : (tables : List PlaceTable) (p i : ℕ) (d : PlaceTable) → AllWithin (λ t. nat_lt t.place.0 p ≡ true) tables 0 i → i < length tables → (slice_index_or tables i d).place.0 ≡ p → rows_of_place tables p ≡ (slice_index_or tables i d).rows
+pub rows_of_place-at : (tables : List PlaceTable) (p i : ℕ) (d : PlaceTable) → AllWithin (λ t. nat_lt t.place.0 p ≡ true) tables 0 i
+    → i < length tables → (slice_index_or tables i d).place.0 ≡ p → rows_of_place tables p ≡ (slice_index_or tables i d).rows
 rows_of_place-at [] p i d before within is = absurd (omega (arith, within))
 rows_of_place-at (table ∷ tables) p zero d before within is = rows_here table tables p is
 rows_of_place-at (table ∷ tables) p (suc i) d before within is =
@@ -60,7 +62,8 @@ rows_of_place-absent (table ∷ tables) p away =
     ∙ rows_of_place-absent tables p (λ k d within. away (suc k) d (omega (arith, within)))
 
 -- where the table at which they end is not the place's, no table is
-pub rows_of_place-none : (tables : List PlaceTable) (p i : ℕ) → AllPairs (λ a b. a.place.0 < b.place.0) tables → IsPartitionPoint (λ t. nat_lt t.place.0 p ≡ true) (λ t. nat_lt t.place.0 p ≡ false) tables i
+pub rows_of_place-none : (tables : List PlaceTable) (p i : ℕ) → AllPairs (λ a b. a.place.0 < b.place.0) tables
+    → IsPartitionPoint (λ t. nat_lt t.place.0 p ≡ true) (λ t. nat_lt t.place.0 p ≡ false) tables i
     → ((d : PlaceTable) → i < length tables → (slice_index_or tables i d).place.0 ≡ p → ⊥) → rows_of_place tables p ≡ []
 rows_of_place-none tables p i rise point other = rows_of_place-absent tables p (λ k d within is. elim (cases_lt k i) [
   | inl less ↦ let before = ltb-true (slice_index_or tables k d).place.0 p (point.0 k d (omega arith) less) in omega (arith, before, is)

@@ -42,7 +42,8 @@ module _ (n : Parts) (valid : IsValid n) (q : Query) (graph : PlanGraph) (fit : 
       in_time (inl late) = absurd (never q.target.0 q.start.0 (refl, refl, late))
       in_time (inr soon) = soon
 
-  ride_scored : (leg : Leg) → IsFitStart n q leg → Never (ridden n q graph.tables (count n - 1) leg) → IsScored n q (ridden n q graph.tables (count n - 1) leg) (span_of n (ridden n q graph.tables (count n - 1) leg))
+  ride_scored : (leg : Leg) → IsFitStart n q leg → Never (ridden n q graph.tables (count n - 1) leg)
+      → IsScored n q (ridden n q graph.tables (count n - 1) leg) (span_of n (ridden n q graph.tables (count n - 1) leg))
   ride_scored leg start never =
       let rides = count n - 1 in
       let rows = rows_fit n q graph fit in
@@ -56,7 +57,8 @@ module _ (n : Parts) (valid : IsValid n) (q : Query) (graph : PlanGraph) (fit : 
         gap = omega (arith, near, height_ridden n q graph.tables rows rides leg, start.is_leg.exit);
       }
 
-  as_told : (tree : Tree) → (Never tree → IsScored n q tree (span_of n tree)) → unfold_plan graph n q ≡ tree → (span : Interval) → IsOutlook n q (Safe span) (unfold_plan graph n q) → IsScored n q (unfold_plan graph n q) span
+  as_told : (tree : Tree) → (Never tree → IsScored n q tree (span_of n tree)) → unfold_plan graph n q ≡ tree → (span : Interval)
+      → IsOutlook n q (Safe span) (unfold_plan graph n q) → IsScored n q (unfold_plan graph n q) span
   as_told tree scored is span told =
       subst (IsScored n q (unfold_plan graph n q)) (sym told.1)
       (subst (λ t. IsScored n q t (span_of n t)) (sym is) (scored (subst Never is told.0)))

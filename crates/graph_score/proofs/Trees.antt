@@ -44,7 +44,8 @@ safe_never_fails n q (Stuck place moment) safe r y fails = absurd safe
 -- the row whose leg is taken
 pub taken_row : (n : Parts) (tables : List PlaceTable) → AreFitRows n tables → (p x : ℕ) (leg : Leg) → pick_at tables p x ≡ Some leg → IsLegOf n leg × IsBoardable n p x leg.enter.0
 taken_row n tables fit p x leg is =
-    let (row, fits, soon, same) = picked (IsFitRow n p) (rows_of_place tables p) x leg (rows_of_place-by (λ p rows. All (IsFitRow n p) rows) tables p (λ k d within. absurd (omega (arith, within))) fit) is in
+    let (row, fits, soon, same) = picked (IsFitRow n p) (rows_of_place tables p) x leg
+    (rows_of_place-by (λ p rows. All (IsFitRow n p) rows) tables p (λ k d within. absurd (omega (arith, within))) fit) is in
     let some = limit_of-some n p row.leg row.by.0 fits.by in
     let boards : IsBoardable n p x row.leg.enter.0 = record { seconds = some.0; way = some.1; in_time = omega (arith, soon, some.2) } in
     (subst (IsLegOf n) same fits.is_leg, subst (λ (l : Leg). IsBoardable n p x l.enter.0) same boards)
@@ -102,7 +103,8 @@ module _ (n : Parts) (q : Query) (tables : List PlaceTable) (fit : AreFitRows n 
     | inr away ↦ by_leg (λ next y now. safe_after rides next y now) away (pick_at tables (end_of n leg) x) refl
   ]
     where
-      by_leg : ((next : Leg) (y : ℕ) → Never (next_after rides next y) → SafeHere (next_after rides next y) (end_of n next) y) → end_of n leg ≢ q.target.0 → (next : Option Leg) → pick_at tables (end_of n leg) x ≡ next → SafeHere (next_after (suc rides) leg x) (end_of n leg) x
+      by_leg : ((next : Leg) (y : ℕ) → Never (next_after rides next y) → SafeHere (next_after rides next y) (end_of n next) y)
+          → end_of n leg ≢ q.target.0 → (next : Option Leg) → pick_at tables (end_of n leg) x ≡ next → SafeHere (next_after (suc rides) leg x) (end_of n leg) x
       by_leg onward away None is = absurd (subst Never (after-stuck (suc rides) leg x away is) never (end_of n leg) x (refl, refl))
       by_leg onward away (Some next) is =
           let e = after-ride rides leg x next away is in
@@ -134,7 +136,8 @@ module _ (n : Parts) (q : Query) (tables : List PlaceTable) (fit : AreFitRows n 
     | inr away ↦ by_next (λ next. height_ride rides next (λ y. height_after rides next y)) away (pick_at tables (end_of n leg) x) refl
   ]
     where
-      by_next : ((next : Leg) → height (ridden n q tables rides next) ≤ suc rides) → end_of n leg ≢ q.target.0 → (next : Option Leg) → pick_at tables (end_of n leg) x ≡ next → height (next_after (suc rides) leg x) ≤ suc rides
+      by_next : ((next : Leg) → height (ridden n q tables rides next) ≤ suc rides) → end_of n leg ≢ q.target.0 → (next : Option Leg)
+          → pick_at tables (end_of n leg) x ≡ next → height (next_after (suc rides) leg x) ≤ suc rides
       by_next onward away None is = rw (after-stuck (suc rides) leg x away is) (omega arith)
       by_next onward away (Some next) is = rw (after-ride rides leg x next away is) (onward next)
 

@@ -11,14 +11,16 @@ use Rattle.graph_text.specs.declared.Head.{Head}
 use Rattle.graph_text.specs.declared.reader.HeadRow.{HeadRow}
 use Rattle.graph_text.specs.declared.reader.TextFault.{TextFault}
 use Rattle.graph_text.specs.declared.version.Version.{Version}
-use Rattle.graph_text.specs.Reading.{and_then, graph_in, are_in_order, is_query, is_head, head_numbers, head_row_in, head_named, head_of_numbers, head_in, version_in, graph_of_version, graph_of_records, graph_of}
+use Rattle.graph_text.specs.Reading.{and_then, graph_in, are_in_order, is_query, is_head, head_numbers, head_row_in, head_named, head_of_numbers, head_in, version_in}
+use Rattle.graph_text.specs.Reading.{graph_of_version, graph_of_records, graph_of}
 use Rattle.printed_rows.specs.Fields.{field, number_of}
 
 deadline_in : Option HeadRow → Option ℕ
 deadline_in None = None
 deadline_in (Some x) = Some x.deadline.0
 
-by_order : (b : Bool) (s d lo hi : ℕ) (x : HeadRow) → (if b then Some (record { start = record { 0 = s }; deadline = record { 0 = d }; lo = lo; hi = hi }) else None) ≡ Some x → Some d ≡ Some x.deadline.0
+by_order : (b : Bool) (s d lo hi : ℕ) (x : HeadRow) →
+    (if b then Some (record { start = record { 0 = s }; deadline = record { 0 = d }; lo = lo; hi = hi }) else None) ≡ Some x → Some d ≡ Some x.deadline.0
 unfolding deadline_in
 by_order true s d lo hi x is = ap deadline_in is
 by_order false s d lo hi x is = absurd (cc)
@@ -48,7 +50,8 @@ abbrev pub IsTold : Moment → Type 0
 IsTold moment = (text : List ℕ) × (moment_at text ≡ Some moment.0)
 
 -- the deadline of a first row
-row_deadline : (names : NameLists) (version : Version) (source target start : ℕ) (r : List (List ℕ)) (o : Option HeadRow) (head : Head) → head_row_in version r ≡ o → head_of_numbers names source target start r o ≡ Ok head
+row_deadline : (names : NameLists) (version : Version) (source target start : ℕ) (r : List (List ℕ)) (o : Option HeadRow) (head : Head)
+    → head_row_in version r ≡ o → head_of_numbers names source target start r o ≡ Ok head
     → IsTold head.query.deadline
 row_deadline names version source target start r None head row is = absurd (cc)
 row_deadline names version source target start r (Some x) head row is =
@@ -65,7 +68,8 @@ module _ (n : Parts) (names : NameLists) (source target start : ℕ) (r : List (
   same_head (Err e) own is = absurd (cc)
 
   by_head : (version : Version) (told : Result Head TextFault) → head_in names version source target start r ≡ told
-      → ◌≡◌ {A = Result (Head × PlanGraph) TextFault} (and_then told (λ own. and_then (graph_in n names version source target start rs) (λ g. Ok (own, g)))) (Ok (head, graph)) → IsTold head.query.deadline
+      → ◌≡◌ {A = Result (Head × PlanGraph) TextFault} (and_then told
+      (λ own. and_then (graph_in n names version source target start rs) (λ g. Ok (own, g)))) (Ok (head, graph)) → IsTold head.query.deadline
   by_head version (Ok own) told is =
       subst (λ (h : Head). IsTold h.query.deadline) (same_head (graph_in n names version source target start rs) own is)
       (row_deadline names version source target start r (head_row_in version r) own refl told)
@@ -75,11 +79,13 @@ module _ (n : Parts) (names : NameLists) (source target start : ℕ) (r : List (
   by_version (Some version) is = by_head version (head_in names version source target start r) refl is
   by_version None is = absurd (cc)
 
-by_records : (n : Parts) (names : NameLists) (source target start : ℕ) (rows : List (List (List ℕ))) (head : Head) (graph : PlanGraph) → graph_of_records n names source target start rows ≡ Ok (head, graph)
+by_records : (n : Parts) (names : NameLists) (source target start : ℕ) (rows : List (List (List ℕ))) (head : Head) (graph : PlanGraph)
+    → graph_of_records n names source target start rows ≡ Ok (head, graph)
     → IsTold head.query.deadline
 by_records n names source target start [] head graph is = absurd (cc)
 by_records n names source target start (r ∷ rs) head graph is = by_version n names source target start r rs head graph (version_in r) is
 
 -- the deadline of a graph that a text tells
-pub graph_deadline : (n : Parts) (names : NameLists) (source target start : ℕ) (text : List ℕ) (head : Head) (graph : PlanGraph) → graph_of text n names source target start ≡ Ok (head, graph) → IsTold head.query.deadline
+pub graph_deadline : (n : Parts) (names : NameLists) (source target start : ℕ) (text : List ℕ) (head : Head) (graph : PlanGraph)
+    → graph_of text n names source target start ≡ Ok (head, graph) → IsTold head.query.deadline
 graph_deadline n names source target start text head graph is = by_records n names source target start (table_of text) head graph is

@@ -17,7 +17,8 @@ use Rattle.graph_text.specs.Versions.{width_of, ninth}
 use Rattle.graph_text.specs.Texts.{leg_fields, leg_row, rows_text, ride_text, rides_text, table_text, tables_text}
 use Rattle.printed_rows.specs.Writers.{place_name, run_name}
 
-pub eight : (a b c d e f g h a' b' c' d' e' f' g' h' : List ℕ) → a ≡ a' → b ≡ b' → c ≡ c' → d ≡ d' → e ≡ e' → f ≡ f' → g ≡ g' → h ≡ h' → ◌≡◌ {A = List (List ℕ)} (a ∷ b ∷ c ∷ d ∷ e ∷ f ∷ g ∷ h ∷ []) (a' ∷ b' ∷ c' ∷ d' ∷ e' ∷ f' ∷ g' ∷ h' ∷ [])
+pub eight : (a b c d e f g h a' b' c' d' e' f' g' h' : List ℕ) → a ≡ a' → b ≡ b' → c ≡ c' → d ≡ d' → e ≡ e' → f ≡ f' → g ≡ g' → h ≡ h'
+    → ◌≡◌ {A = List (List ℕ)} (a ∷ b ∷ c ∷ d ∷ e ∷ f ∷ g ∷ h ∷ []) (a' ∷ b' ∷ c' ∷ d' ∷ e' ∷ f' ∷ g' ∷ h' ∷ [])
 eight a b c d e f g h a' b' c' d' e' f' g' h' = λ one two three four five six seven last. cc
 
 -- the fields that a version has of nine
@@ -29,7 +30,8 @@ take_nine Second a b c d e f g h last a' b' c' d' e' f' g' h' last' = λ one two
 -- the fields of a leg's row, from its connections
 pub leg_row_fields : (n : Parts) (names : NameLists) (version : Version) (leg : Leg) (enter exit : Connection) (kind second run entry_step dep exit_step place arr from : List ℕ)
     → enter ≡ connection n leg.enter.0 → exit ≡ connection n leg.exit.0
-    → run ≡ run_name names enter.run.0 → entry_step ≡ decimal enter.step → dep ≡ moment_text enter.dep.0 → exit_step ≡ decimal exit.step → place ≡ place_name names exit.to.0 → arr ≡ moment_text exit.arr.0
+    → run ≡ run_name names enter.run.0 → entry_step ≡ decimal enter.step → dep ≡ moment_text enter.dep.0 → exit_step ≡ decimal exit.step
+    → place ≡ place_name names exit.to.0 → arr ≡ moment_text exit.arr.0
     → from ≡ place_name names enter.from.0
     → ◌≡◌ {A = List (List ℕ)} (take (width_of version) (kind ∷ second ∷ run ∷ entry_step ∷ dep ∷ exit_step ∷ place ∷ arr ∷ from ∷ [])) (kind ∷ second ∷ leg_fields n names version leg)
 leg_row_fields n names version leg enter exit kind second run entry_step dep exit_step place arr from at_enter at_exit a b c d e f g =
@@ -42,8 +44,10 @@ leg_row_fields n names version leg enter exit kind second run entry_step dep exi
     (f ∙ ap (λ (k : Connection). moment_text k.arr.0) at_exit)
     (g ∙ ap (λ (k : Connection). place_name names k.from.0) at_enter)
 
-pub rows_step : (n : Parts) (names : NameLists) (version : Version) (kind : List ℕ) (rows : List GraphRow) (i : ℕ) (d : GraphRow) (new old all second : List ℕ) → i < length rows → second ≡ moment_text (slice_index_or rows i d).by.0
-    → new ≡ old ++ leg_row n names version kind second (slice_index_or rows i d).leg → old ++ rows_text n names version kind (drop i rows) ≡ all → new ++ rows_text n names version kind (drop (i + 1) rows) ≡ all
+pub rows_step : (n : Parts) (names : NameLists) (version : Version) (kind : List ℕ) (rows : List GraphRow) (i : ℕ) (d : GraphRow)
+    (new old all second : List ℕ) → i < length rows → second ≡ moment_text (slice_index_or rows i d).by.0
+    → new ≡ old ++ leg_row n names version kind second (slice_index_or rows i d).leg → old ++ rows_text n names version kind (drop i rows) ≡ all
+    → new ++ rows_text n names version kind (drop (i + 1) rows) ≡ all
 rows_step n names version kind rows i d new old all second within by is before =
     text_step new old (leg_row n names version kind second (slice_index_or rows i d).leg) (rows_text n names version kind (drop (i + 1) rows)) all is
     (ap (λ (bytes : List ℕ). old ++ (leg_row n names version kind bytes (slice_index_or rows i d).leg ++ rows_text n names version kind (drop (i + 1) rows))) by

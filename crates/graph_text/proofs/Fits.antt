@@ -1,5 +1,6 @@
 -- A graph that was read fits the network and the question.
-use Rattle.std.proofs.Common.{◌≡◌, ◌≢◌, ℕ, suc, ◌+◌, ◌-◌, ◌<◌, ◌≤◌, Bool, true, false, List, [], ◌∷◌, ◌++◌, length, Option, Some, None, Ok, Err, Result, All, AllPairs, arith, sym, subst, refl, ◌∙◌, ap}
+use Rattle.std.proofs.Common.{◌≡◌, ◌≢◌, ℕ, suc, ◌+◌, ◌-◌, ◌<◌, ◌≤◌, Bool, true, false, List, [], ◌∷◌, ◌++◌, length, Option, Some, None, Ok, Err, Result, All, AllPairs}
+use Rattle.std.proofs.Common.{arith, sym, subst, refl, ◌∙◌, ap}
 use Rattle.std.specs.Prelude.{◌==◌, ◌&&◌, nat_le, cond, if◌then◌else◌, slice_index_or, IsSome, codes}
 use Rattle.std.specs.Option.{option_map}
 use Rattle.std.specs.List.{position_from}
@@ -34,7 +35,10 @@ use Rattle.graph_text.specs.declared.reader.PlaceRow.{PlaceRow}
 use Rattle.graph_text.specs.declared.reader.HeadRow.{HeadRow}
 use Rattle.graph_text.specs.declared.reader.TableStart.{TableStart}
 use Rattle.graph_text.specs.declared.reader.Reading.{Reading}
-use Rattle.graph_text.specs.Reading.{names_in, leg_between, leg_found, agrees, leg_of, is_limit, can_start, is_by_limit, start_by, start_named, start_numbers, start_in, row_by_leg, row_named, row_numbers, row_in, leg_row_in, table_named, table_numbers, table_in, place_row_in, begun, extended, place_or_first, step, and_then, tables_from, no_tables, started_in, graph_in, are_in_order, is_query, is_head, head_numbers, head_row_in, head_named, head_of_numbers, head_in, version_in, graph_of_version, graph_of_records}
+use Rattle.graph_text.specs.Reading.{names_in, leg_between, leg_found, agrees, leg_of, is_limit, can_start, is_by_limit, start_by, start_named, start_numbers, start_in}
+use Rattle.graph_text.specs.Reading.{row_by_leg, row_named, row_numbers, row_in, leg_row_in, table_named, table_numbers, table_in, place_row_in, begun, extended}
+use Rattle.graph_text.specs.Reading.{place_or_first, step, and_then, tables_from, no_tables, started_in, graph_in, are_in_order, is_query, is_head, head_numbers}
+use Rattle.graph_text.specs.Reading.{head_row_in, head_named, head_of_numbers, head_in, version_in, graph_of_version, graph_of_records}
 use Rattle.printed_rows.specs.Fields.{connection_of, number_of, rises, field}
 use Rattle.graph_text.specs.Asked.{IsAsked}
 use Rattle.printed_rows.proofs.Found.{at_both}
@@ -47,7 +51,9 @@ found_holds : {X : Type 0} (t : X → Bool) (xs : List X) (from k : ℕ) (d : X)
 found_holds t [] from k d is = absurd (cc)
 found_holds {X} t (x ∷ xs) from k d is = by_test (t x) refl is (λ more. found_holds t xs (from + 1) k d more)
   where
-    by_test : (b : Bool) → t x ≡ b → cond b (Some from) (position_from t (from + 1) xs) ≡ Some k → (position_from t (from + 1) xs ≡ Some k → (j : ℕ) × (k ≡ from + 1 + j) × (j < length xs) × (t (slice_index_or xs j d) ≡ true)) → (j : ℕ) × (k ≡ from + j) × (j < length (x ∷ xs)) × (t (slice_index_or (x ∷ xs) j d) ≡ true)
+    by_test : (b : Bool) → t x ≡ b → cond b (Some from) (position_from t (from + 1) xs) ≡ Some k
+        → (position_from t (from + 1) xs ≡ Some k → (j : ℕ) × (k ≡ from + 1 + j) × (j < length xs) × (t (slice_index_or xs j d) ≡ true)) → (j : ℕ)
+        × (k ≡ from + j) × (j < length (x ∷ xs)) × (t (slice_index_or (x ∷ xs) j d) ≡ true)
     by_test true holds first more = (0, (let e : from ≡ k = (cc) in omega (arith, e)), omega arith, holds)
     by_test false fails later more = let rest = more later in (suc rest.0, omega (arith, rest.1), omega (arith, rest.2), rest.3)
 
@@ -62,7 +68,8 @@ connection_holds n run step i is =
       ap (step_of n) (sym same) ∙ ap (λ (c : Connection). c.step) (sym (connection_is n found.0)) ∙ both.1,
     )
 
-leg_if : (n : Parts) (x : LegRow) (known : LegNames) (i j : ℕ) (test : Bool) (leg : Leg) → agrees n i j x known ≡ test → connection_of n known.run.0 x.enter ≡ Some i → connection_of n known.run.0 x.exit ≡ Some j → (if test then Some (leg_of i j) else None) ≡ Some leg → IsLegOf n leg
+leg_if : (n : Parts) (x : LegRow) (known : LegNames) (i j : ℕ) (test : Bool) (leg : Leg) → agrees n i j x known ≡ test
+    → connection_of n known.run.0 x.enter ≡ Some i → connection_of n known.run.0 x.exit ≡ Some j → (if test then Some (leg_of i j) else None) ≡ Some leg → IsLegOf n leg
 leg_if n x known i j false leg is enter exit found = absurd (cc)
 leg_if n x known i j true leg is enter exit found =
     let first = and_parts (nat_le x.enter x.exit) _ is in
@@ -80,7 +87,8 @@ leg_if n x known i j true leg is enter exit found =
       leave = third.0;
     })
 
-leg_by : (n : Parts) (x : LegRow) (known : LegNames) (enter exit : Option ℕ) (leg : Leg) → connection_of n known.run.0 x.enter ≡ enter → connection_of n known.run.0 x.exit ≡ exit → leg_between n x known enter exit ≡ Some leg → IsLegOf n leg
+leg_by : (n : Parts) (x : LegRow) (known : LegNames) (enter exit : Option ℕ) (leg : Leg) → connection_of n known.run.0 x.enter ≡ enter
+    → connection_of n known.run.0 x.exit ≡ exit → leg_between n x known enter exit ≡ Some leg → IsLegOf n leg
 leg_by n x known (Some i) (Some j) leg enter exit is = leg_if n x known i j (agrees n i j x known) leg refl enter exit is
 leg_by n x known (Some i) None leg enter exit is = absurd (cc)
 leg_by n x known None exit leg enter e is = absurd (cc)
@@ -116,7 +124,8 @@ row_if n line place x leg row true is is_leg found =
     let same : record { by = x.moment; leg = leg } ≡ row = (cc) in
     (subst (λ (r : GraphRow). IsFitRow n place r) same fit, ap (λ (r : GraphRow). r.by) same)
 
-row_leg : (n : Parts) (line place : ℕ) (x : LegRow) (found : Option Leg) (row : GraphRow) → ((leg : Leg) → found ≡ Some leg → IsLegOf n leg) → row_by_leg n line place x found ≡ Ok row → IsFitRow n place row × (x.moment ≡ row.by)
+row_leg : (n : Parts) (line place : ℕ) (x : LegRow) (found : Option Leg) (row : GraphRow) → ((leg : Leg) → found ≡ Some leg → IsLegOf n leg)
+    → row_by_leg n line place x found ≡ Ok row → IsFitRow n place row × (x.moment ≡ row.by)
 row_leg n line place x None row legs is = absurd (cc)
 row_leg n line place x (Some leg) row legs is = row_if n line place x leg row (is_by_limit n place x.moment.0 leg) refl (legs leg refl) is
 
@@ -127,11 +136,13 @@ row_rises n line place last x known row true is found =
     let both = row_leg n line place x (leg_found n x known) row (λ leg e. leg_found_is n x known leg e) found in
     (both.0, ap (λ (m : Moment). rises last m.0) (sym both.1) ∙ is)
 
-row_names : (n : Parts) (line place : ℕ) (last : Option ℕ) (x : LegRow) (known : Option LegNames) (row : GraphRow) → row_named n line place last x known ≡ Ok row → IsFitRow n place row × (rises last row.by.0 ≡ true)
+row_names : (n : Parts) (line place : ℕ) (last : Option ℕ) (x : LegRow) (known : Option LegNames) (row : GraphRow)
+    → row_named n line place last x known ≡ Ok row → IsFitRow n place row × (rises last row.by.0 ≡ true)
 row_names n line place last x (Some known) row is = row_rises n line place last x known row (rises last x.moment.0) refl is
 row_names n line place last x None row is = absurd (cc)
 
-row_reads : (n : Parts) (names : NameLists) (version : Version) (line place : ℕ) (last : Option ℕ) (r : List (List ℕ)) (x : Option LegRow) (row : GraphRow) → row_numbers n names version line place last r x ≡ Ok row → IsFitRow n place row × (rises last row.by.0 ≡ true)
+row_reads : (n : Parts) (names : NameLists) (version : Version) (line place : ℕ) (last : Option ℕ) (r : List (List ℕ)) (x : Option LegRow)
+    (row : GraphRow) → row_numbers n names version line place last r x ≡ Ok row → IsFitRow n place row × (rises last row.by.0 ≡ true)
 row_reads n names version line place last r None row is = absurd (cc)
 row_reads n names version line place last r (Some x) row is = row_names n line place last x (names_in version names place r) row is
 
@@ -143,23 +154,29 @@ start_if n line source start x leg own true is is_leg found =
     let first = and_parts (from_of n leg.enter.0 == source) _ is in
     let second = and_parts (x.moment.0 == dep_of n leg.enter.0) _ first.1 in
     let same : leg ≡ own = (cc) in
-    subst (λ (l : Leg). IsLegOf n l × (from_of n l.enter.0 ≡ source) × (start ≤ dep_of n l.enter.0)) same (is_leg, eqb-true (from_of n leg.enter.0) source first.0, leb-true start (dep_of n leg.enter.0) second.1)
+    subst (λ (l : Leg). IsLegOf n l × (from_of n l.enter.0 ≡ source) × (start ≤ dep_of n l.enter.0)) same
+    (is_leg, eqb-true (from_of n leg.enter.0) source first.0, leb-true start (dep_of n leg.enter.0) second.1)
 
-start_leg : (n : Parts) (line source start : ℕ) (x : LegRow) (found : Option Leg) (own : Leg) → ((leg : Leg) → found ≡ Some leg → IsLegOf n leg) → start_by n line source start x found ≡ Ok own → IsLegOf n own × (from_of n own.enter.0 ≡ source) × (start ≤ dep_of n own.enter.0)
+start_leg : (n : Parts) (line source start : ℕ) (x : LegRow) (found : Option Leg) (own : Leg) → ((leg : Leg) → found ≡ Some leg → IsLegOf n leg)
+    → start_by n line source start x found ≡ Ok own → IsLegOf n own × (from_of n own.enter.0 ≡ source) × (start ≤ dep_of n own.enter.0)
 start_leg n line source start x None own legs is = absurd (cc)
 start_leg n line source start x (Some leg) own legs is = start_if n line source start x leg own (can_start n source start x.moment.0 leg) refl (legs leg refl) is
 
-start_names : (n : Parts) (line source start : ℕ) (x : LegRow) (known : Option LegNames) (own : Leg) → start_named n line source start x known ≡ Ok own → IsLegOf n own × (from_of n own.enter.0 ≡ source) × (start ≤ dep_of n own.enter.0)
+start_names : (n : Parts) (line source start : ℕ) (x : LegRow) (known : Option LegNames) (own : Leg)
+    → start_named n line source start x known ≡ Ok own → IsLegOf n own × (from_of n own.enter.0 ≡ source) × (start ≤ dep_of n own.enter.0)
 start_names n line source start x (Some known) own is = start_leg n line source start x (leg_found n x known) own (λ leg e. leg_found_is n x known leg e) is
 start_names n line source start x None own is = absurd (cc)
 
-start_reads : (n : Parts) (names : NameLists) (version : Version) (line source start : ℕ) (r : List (List ℕ)) (x : Option LegRow) (own : Leg) → start_numbers n names version line source start r x ≡ Ok own → IsLegOf n own × (from_of n own.enter.0 ≡ source) × (start ≤ dep_of n own.enter.0)
+start_reads : (n : Parts) (names : NameLists) (version : Version) (line source start : ℕ) (r : List (List ℕ)) (x : Option LegRow) (own : Leg)
+    → start_numbers n names version line source start r x ≡ Ok own → IsLegOf n own × (from_of n own.enter.0 ≡ source) × (start ≤ dep_of n own.enter.0)
 start_reads n names version line source start r None own is = absurd (cc)
 start_reads n names version line source start r (Some x) own is = start_names n line source start x (names_in version names source r) own is
 
 -- a table that begins rises
 table_if : (n : Parts) (line : ℕ) (last : Option ℕ) (x : PlaceRow) (place : ℕ) (t : TableStart) (rising same : Bool) → rises last place ≡ rising
-    → ◌≡◌ {A = Result TableStart TextFault} (if rising then (if same then Ok (record { place = record { 0 = place }; count = x.count }) else Err (fault.NoLeg line)) else Err (fault.NotRising line)) (Ok t) → rises last t.place.0 ≡ true
+    → ◌≡◌ {A = Result TableStart TextFault} (if rising then
+    (if same then Ok (record { place = record { 0 = place }; count = x.count }) else Err (fault.NoLeg line)) else Err (fault.NotRising line))
+    (Ok t) → rises last t.place.0 ≡ true
 table_if n line last x place t false same is found = absurd (cc)
 table_if n line last x place t true false is found = absurd (cc)
 table_if n line last x place t true true is found = let one : record { place = record { 0 = place }; count = x.count } ≡ t = (cc) in ap (λ (s : TableStart). rises last s.place.0) (sym one) ∙ is
@@ -168,7 +185,8 @@ table_names : (n : Parts) (line : ℕ) (last : Option ℕ) (x : PlaceRow) (found
 table_names n line last x None t is = absurd (cc)
 table_names n line last x (Some place) t is = table_if n line last x place t (rises last place) (x.change == change_of n place) refl is
 
-table_reads : (n : Parts) (names : NameLists) (line : ℕ) (last : Option ℕ) (r : List (List ℕ)) (x : Option PlaceRow) (t : TableStart) → table_numbers n names line last r x ≡ Ok t → rises last t.place.0 ≡ true
+table_reads : (n : Parts) (names : NameLists) (line : ℕ) (last : Option ℕ) (r : List (List ℕ)) (x : Option PlaceRow) (t : TableStart)
+    → table_numbers n names line last r x ≡ Ok t → rises last t.place.0 ≡ true
 table_reads n names line last r None t is = absurd (cc)
 table_reads n names line last r (Some x) t is = table_names n line last x (number_of names.places (field r 1)) t is
 
@@ -192,7 +210,8 @@ pub record IsFitting (n : Parts) (s : Reading) : Type 0 where
   pub rows_rise : (s.left ≡ 0 → ⊥) → AllPairs (λ a b. a.by.0 < b.by.0) s.rows
   pub moments : (s.left ≡ 0 → ⊥) → All (λ row. IsUpTo (option_map (λ m. m.0) s.by) row.by.0) s.rows
 
-begun_fits : (n : Parts) (names : NameLists) (version : Version) (line : ℕ) (r : List (List ℕ)) (s now : Reading) (t : Result TableStart TextFault) → t ≡ table_in n names version line (option_map (λ p. p.0) s.place) r → IsFitting n s → begun s t ≡ Ok now → IsFitting n now
+begun_fits : (n : Parts) (names : NameLists) (version : Version) (line : ℕ) (r : List (List ℕ)) (s now : Reading) (t : Result TableStart TextFault)
+    → t ≡ table_in n names version line (option_map (λ p. p.0) s.place) r → IsFitting n s → begun s t ≡ Ok now → IsFitting n now
 begun_fits n names version line r s now (Err e) told fits is = absurd (cc)
 begun_fits n names version line r s now (Ok t) told fits is =
     let rising = table_reads n names line (option_map (λ p. p.0) s.place) r (place_row_in version r) t (sym told) in
@@ -210,7 +229,8 @@ begun_fits n names version line r s now (Ok t) told fits is =
     let same : record { done = s.done; place = Some t.place; rows = []; by = None; left = t.count } ≡ now = (cc) in
     subst (λ (u : Reading). IsFitting n u) same here
 
-module _ (n : Parts) (s : Reading) (some : s.left ≡ 0 → ⊥) (fits : IsFitting n s) (row : GraphRow) (fit : IsFitRow n (place_or_first s.place).0 row) (rising : rises (option_map (λ m. m.0) s.by) row.by.0 ≡ true) where
+module _ (n : Parts) (s : Reading) (some : s.left ≡ 0 → ⊥) (fits : IsFitting n s) (row : GraphRow) (fit : IsFitRow n (place_or_first s.place).0 row)
+    (rising : rises (option_map (λ m. m.0) s.by) row.by.0 ≡ true) where
   all_rows : All (IsFitRow n (place_or_first s.place).0) (s.rows ++ row ∷ [])
   all_rows = all_push (IsFitRow n (place_or_first s.place).0) s.rows row (fits.rows some) fit
 
@@ -225,9 +245,11 @@ module _ (n : Parts) (s : Reading) (some : s.left ≡ 0 → ⊥) (fits : IsFitti
 
   last_fits : IsFitting n (record { done = s.done ++ (record { place = place_or_first s.place; rows = s.rows ++ row ∷ [] }) ∷ []; place = s.place; rows = []; by = None; left = 0 })
   last_fits = record {
-    done = all_push (IsFitTable n) s.done (record { place = place_or_first s.place; rows = s.rows ++ row ∷ [] }) fits.done (record { some = one_more s.rows row; rows = all_rows; rising = rows_rising });
+    done = all_push (IsFitTable n) s.done (record { place = place_or_first s.place; rows = s.rows ++ row ∷ [] }) fits.done
+        (record { some = one_more s.rows row; rows = all_rows; rising = rows_rising });
     rising = pairs_push (λ a b. a.place.0 < b.place.0) s.done (record { place = place_or_first s.place; rows = s.rows ++ row ∷ [] }) fits.rising (fits.before some);
-    places = all_push (λ t. IsUpTo (option_map (λ p. p.0) s.place) t.place.0) s.done (record { place = place_or_first s.place; rows = s.rows ++ row ∷ [] }) fits.places (own_place s.place (fits.some some));
+    places = all_push (λ t. IsUpTo (option_map (λ p. p.0) s.place) t.place.0) s.done
+        (record { place = place_or_first s.place; rows = s.rows ++ row ∷ [] }) fits.places (own_place s.place (fits.some some));
     some = λ none. absurd (none refl);
     before = λ none. absurd (none refl);
     rows = λ none. absurd (none refl);
@@ -259,7 +281,9 @@ module _ (n : Parts) (s : Reading) (some : s.left ≡ 0 → ⊥) (fits : IsFitti
   extended_if now true is = subst (λ (u : Reading). IsFitting n u) (ok_same _ now is) last_fits
   extended_if now false is = subst (λ (u : Reading). IsFitting n u) (ok_same _ now is) further_fits
 
-extended_fits : (n : Parts) (names : NameLists) (version : Version) (line : ℕ) (r : List (List ℕ)) (s now : Reading) (read : Result GraphRow TextFault) → (s.left ≡ 0 → ⊥) → read ≡ row_in n names version line (place_or_first s.place).0 (option_map (λ m. m.0) s.by) r → IsFitting n s → extended s read ≡ Ok now → IsFitting n now
+extended_fits : (n : Parts) (names : NameLists) (version : Version) (line : ℕ) (r : List (List ℕ)) (s now : Reading)
+    (read : Result GraphRow TextFault) → (s.left ≡ 0 → ⊥)
+    → read ≡ row_in n names version line (place_or_first s.place).0 (option_map (λ m. m.0) s.by) r → IsFitting n s → extended s read ≡ Ok now → IsFitting n now
 extended_fits n names version line r s now (Err e) some told fits is = absurd (cc)
 extended_fits n names version line r s now (Ok row) some told fits is =
     let both = row_reads n names version line (place_or_first s.place).0 (option_map (λ m. m.0) s.by) r (leg_row_in version (codes "leg") r) row (sym told) in
@@ -272,21 +296,26 @@ step_fits n names version line r s now fits is = by_test (s.left == 0) refl is
     not_zero left some zero_left = let e : (left == 0) ≡ true = grind (arith, nat_tests) in false≢true (sym some ∙ e)
 
     by_test : (test : Bool) → (s.left == 0) ≡ test
-        → (if test then begun s (table_in n names version line (option_map (λ place. place.0) s.place) r) else extended s (row_in n names version line (place_or_first s.place).0 (option_map (λ moment. moment.0) s.by) r)) ≡ Ok now → IsFitting n now
+        → (if test then begun s (table_in n names version line (option_map (λ place. place.0) s.place) r) else extended s
+        (row_in n names version line (place_or_first s.place).0 (option_map (λ moment. moment.0) s.by) r)) ≡ Ok now → IsFitting n now
     by_test true none is = begun_fits n names version line r s now (table_in n names version line (option_map (λ place. place.0) s.place) r) refl fits is
-    by_test false some is = extended_fits n names version line r s now (row_in n names version line (place_or_first s.place).0 (option_map (λ moment. moment.0) s.by) r) (not_zero s.left some) refl fits is
+    by_test false some is = extended_fits n names version line r s now
+        (row_in n names version line (place_or_first s.place).0 (option_map (λ moment. moment.0) s.by) r) (not_zero s.left some) refl fits is
 
 -- the tables that are read fit
-pub tables_fit : (n : Parts) (names : NameLists) (version : Version) (rs : List (List (List ℕ))) (line : ℕ) (s : Reading) (tables : List PlaceTable) → IsFitting n s → tables_from n names version rs line s ≡ Ok tables → All (IsFitTable n) tables × AllPairs (λ a b. a.place.0 < b.place.0) tables
+pub tables_fit : (n : Parts) (names : NameLists) (version : Version) (rs : List (List (List ℕ))) (line : ℕ) (s : Reading) (tables : List PlaceTable)
+    → IsFitting n s → tables_from n names version rs line s ≡ Ok tables → All (IsFitTable n) tables × AllPairs (λ a b. a.place.0 < b.place.0) tables
 tables_fit n names version [] line s tables fits is = by_test (s.left == 0) is
   where
-    by_test : (test : Bool) → ◌≡◌ {A = Result (List PlaceTable) TextFault} (if test then Ok s.done else Err (fault.Row line)) (Ok tables) → All (IsFitTable n) tables × AllPairs (λ a b. a.place.0 < b.place.0) tables
+    by_test : (test : Bool) → ◌≡◌ {A = Result (List PlaceTable) TextFault} (if test then Ok s.done else Err (fault.Row line)) (Ok tables)
+        → All (IsFitTable n) tables × AllPairs (λ a b. a.place.0 < b.place.0) tables
     by_test true is = subst (λ (ts : List PlaceTable). All (IsFitTable n) ts × AllPairs (λ a b. a.place.0 < b.place.0) ts) (ok_same s.done tables is) (fits.done, fits.rising)
     by_test false is = absurd (cc)
 tables_fit n names version (r ∷ rs) line s tables fits is = by_step (step n names version line r s) refl is (λ now fit told. tables_fit n names version rs (line + 1) now tables fit told)
   where
     by_step : (after : Result Reading TextFault) → step n names version line r s ≡ after → and_then after (tables_from n names version rs (line + 1)) ≡ Ok tables
-        → ((now : Reading) → IsFitting n now → tables_from n names version rs (line + 1) now ≡ Ok tables → All (IsFitTable n) tables × AllPairs (λ a b. a.place.0 < b.place.0) tables) → All (IsFitTable n) tables × AllPairs (λ a b. a.place.0 < b.place.0) tables
+        → ((now : Reading) → IsFitting n now → tables_from n names version rs (line + 1) now ≡ Ok tables → All (IsFitTable n) tables
+        × AllPairs (λ a b. a.place.0 < b.place.0) tables) → All (IsFitTable n) tables × AllPairs (λ a b. a.place.0 < b.place.0) tables
     by_step (Err e) told is more = absurd (cc)
     by_step (Ok now) told is more = more now (step_fits n names version line r s now fits told) is
 
@@ -303,7 +332,8 @@ no_tables_fit n = record {
 }
 
 -- the graph that is read fits a question of this source, target and start
-started_fits : (n : Parts) (names : NameLists) (version : Version) (q : Query) (r : List (List ℕ)) (rs : List (List (List ℕ))) (graph : PlanGraph) → q.source.0 ≢ q.target.0 → started_in n names version q.source.0 q.start.0 r rs ≡ Ok graph → IsFit n q graph
+started_fits : (n : Parts) (names : NameLists) (version : Version) (q : Query) (r : List (List ℕ)) (rs : List (List (List ℕ))) (graph : PlanGraph)
+    → q.source.0 ≢ q.target.0 → started_in n names version q.source.0 q.start.0 r rs ≡ Ok graph → IsFit n q graph
 started_fits n names version q r rs graph differ is = by_leg (start_in n names version 2 q.source.0 q.start.0 r) refl is
   where
     by_tables : (leg : Leg) → start_in n names version 2 q.source.0 q.start.0 r ≡ Ok leg → (told : Result (List PlaceTable) TextFault) → tables_from n names version rs 3 no_tables ≡ told
@@ -320,34 +350,58 @@ started_fits n names version q r rs graph differ is = by_leg (start_in n names v
         subst (λ (g : PlanGraph). IsFit n q g) (ok_same _ graph is) here
 
     by_leg : (told : Result Leg TextFault) → start_in n names version 2 q.source.0 q.start.0 r ≡ told
-        → ◌≡◌ {A = Result PlanGraph TextFault} (and_then told (λ leg. and_then (tables_from n names version rs 3 no_tables) (λ tables. Ok (record { start = Some leg; tables = tables })))) (Ok graph) → IsFit n q graph
+        → ◌≡◌ {A = Result PlanGraph TextFault} (and_then told
+        (λ leg. and_then (tables_from n names version rs 3 no_tables) (λ tables. Ok (record { start = Some leg; tables = tables })))) (Ok graph) → IsFit n q graph
     by_leg (Err e) begins is = absurd (cc)
     by_leg (Ok leg) begins is = by_tables leg begins (tables_from n names version rs 3 no_tables) refl is
 
-graph_fits : (n : Parts) (names : NameLists) (version : Version) (q : Query) (rs : List (List (List ℕ))) (graph : PlanGraph) → graph_in n names version q.source.0 q.target.0 q.start.0 rs ≡ Ok graph → IsFit n q graph
+graph_fits : (n : Parts) (names : NameLists) (version : Version) (q : Query) (rs : List (List (List ℕ))) (graph : PlanGraph)
+    → graph_in n names version q.source.0 q.target.0 q.start.0 rs ≡ Ok graph → IsFit n q graph
 graph_fits n names version q [] graph is = by_test (q.source.0 == q.target.0) refl is
   where
-    by_test : (test : Bool) → (q.source.0 == q.target.0) ≡ test → ◌≡◌ {A = Result PlanGraph TextFault} (if test then Ok (record { start = None; tables = [] }) else Err (fault.Row 2)) (Ok graph) → IsFit n q graph
+    by_test : (test : Bool) → (q.source.0 == q.target.0) ≡ test
+        → ◌≡◌ {A = Result PlanGraph TextFault} (if test then Ok (record { start = None; tables = [] }) else Err (fault.Row 2)) (Ok graph) → IsFit n q graph
     by_test true here is =
-        let fit : IsFit n q (record { start = None; tables = [] }) = record { starts = (eqb-true q.source.0 q.target.0 here, refl); tables = All-nil (IsFitTable n); rising = λ i j d less within. absurd (omega (arith, less, within)) } in
+        let fit : IsFit n q (record { start = None; tables = [] }) =
+        record {
+          starts = (eqb-true q.source.0 q.target.0 here, refl);
+          tables = All-nil (IsFitTable n);
+          rising =
+              λ i j d less within. absurd (omega (arith, less, within));
+        } in
         subst (λ (g : PlanGraph). IsFit n q g) (ok_same _ graph is) fit
     by_test false away is = absurd (cc)
 graph_fits n names version q (r ∷ rs) graph is = by_test (q.source.0 == q.target.0) refl is
   where
-    by_test : (test : Bool) → (q.source.0 == q.target.0) ≡ test → ◌≡◌ {A = Result PlanGraph TextFault} (if test then Err (fault.Row 2) else started_in n names version q.source.0 q.start.0 r rs) (Ok graph) → IsFit n q graph
+    by_test : (test : Bool) → (q.source.0 == q.target.0) ≡ test
+        → ◌≡◌ {A = Result PlanGraph TextFault} (if test then Err (fault.Row 2) else started_in n names version q.source.0 q.start.0 r rs) (Ok graph) → IsFit n q graph
     by_test true here is = absurd (cc)
     by_test false away is = started_fits n names version q r rs graph (λ same. let e : (q.source.0 == q.target.0) ≡ true = grind (arith, nat_tests) in false≢true (sym away ∙ e)) is
 
 -- the head that is read is of the source, target and start that were asked for
 head_if : (source target start from to : ℕ) (x : HeadRow) (head : Head) (test : Bool) → is_query from to x.start.0 source target start ≡ test → are_in_order x.start.0 x.deadline.0 x.lo x.hi ≡ true
-    → ◌≡◌ {A = Result Head TextFault} (if test then Ok (record { query = record { source = record { 0 = source }; target = record { 0 = target }; start = record { 0 = start }; deadline = x.deadline }; bounds = record { lo = x.lo; hi = x.hi } }) else Err (fault.OtherQuery 1)) (Ok head) → IsAsked source target start head
+    → ◌≡◌ {A = Result Head TextFault} (if test then Ok (record {
+      query = record {
+        source = record { 0 = source };
+        target = record { 0 = target };
+        start = record { 0 = start };
+        deadline =
+            x.deadline;
+      };
+      bounds = record { lo = x.lo; hi = x.hi };
+    }) else Err (fault.OtherQuery 1)) (Ok head) → IsAsked source target start head
 head_if source target start from to x head false asked order is = absurd (cc)
 head_if source target start from to x head true asked order is =
     let both = and_parts (nat_le x.start.0 x.deadline.0) (nat_le x.lo x.hi) order in
     let first = and_parts (from == source) ((to == target) && (x.start.0 == start)) asked in
     let second = and_parts (to == target) (x.start.0 == start) first.1 in
     let begins = eqb-true x.start.0 start second.1 in
-    let here : IsAsked source target start (record { query = record { source = record { 0 = source }; target = record { 0 = target }; start = record { 0 = start }; deadline = x.deadline }; bounds = record { lo = x.lo; hi = x.hi } }) = record {
+    let here : IsAsked source target start (record {
+      query =
+          record { source = record { 0 = source }; target = record { 0 = target }; start = record { 0 = start }; deadline = x.deadline };
+      bounds =
+          record { lo = x.lo; hi = x.hi };
+    }) = record {
       source = refl;
       target = refl;
       start = refl;
@@ -356,7 +410,8 @@ head_if source target start from to x head true asked order is =
     } in
     subst (λ (h : Head). IsAsked source target start h) (ok_same _ head is) here
 
-head_names : (source target start : ℕ) (x : HeadRow) (from to : Option ℕ) (head : Head) → are_in_order x.start.0 x.deadline.0 x.lo x.hi ≡ true → head_named source target start x from to ≡ Ok head → IsAsked source target start head
+head_names : (source target start : ℕ) (x : HeadRow) (from to : Option ℕ) (head : Head) → are_in_order x.start.0 x.deadline.0 x.lo x.hi ≡ true
+    → head_named source target start x from to ≡ Ok head → IsAsked source target start head
 head_names source target start x (Some from) (Some to) head order is = head_if source target start from to x head (is_query from to x.start.0 source target start) refl order is
 head_names source target start x (Some from) None head order is = absurd (cc)
 head_names source target start x None (Some to) head order is = absurd (cc)
@@ -368,24 +423,31 @@ some_is y z e = cc
 numbers_in_order : (a b c d : Option ℕ) (x : HeadRow) → head_numbers a b c d ≡ Some x → are_in_order x.start.0 x.deadline.0 x.lo x.hi ≡ true
 numbers_in_order (Some a) (Some b) (Some c) (Some d) x is = by_test (are_in_order a b c d) refl is
   where
-    by_test : (test : Bool) → are_in_order a b c d ≡ test → ◌≡◌ {A = Option HeadRow} (if test then Some (record { start = record { 0 = a }; deadline = record { 0 = b }; lo = c; hi = d }) else None) (Some x) → are_in_order x.start.0 x.deadline.0 x.lo x.hi ≡ true
-    by_test true order found = let same : record { start = record { 0 = a }; deadline = record { 0 = b }; lo = c; hi = d } ≡ x = some_is _ x found in subst (λ (y : HeadRow). are_in_order y.start.0 y.deadline.0 y.lo y.hi ≡ true) same order
+    by_test : (test : Bool) → are_in_order a b c d ≡ test
+        → ◌≡◌ {A = Option HeadRow} (if test then Some (record { start = record { 0 = a }; deadline = record { 0 = b }; lo = c; hi = d }) else None)
+        (Some x) → are_in_order x.start.0 x.deadline.0 x.lo x.hi ≡ true
+    by_test true order found = let same : record { start = record { 0 = a }; deadline = record { 0 = b }; lo = c; hi = d } ≡ x =
+        some_is _ x found in subst (λ (y : HeadRow). are_in_order y.start.0 y.deadline.0 y.lo y.hi ≡ true) same order
     by_test false order found = absurd (cc)
 numbers_in_order None b c d x is = absurd (cc)
 numbers_in_order (Some a) None c d x is = absurd (cc)
 numbers_in_order (Some a) (Some b) None d x is = absurd (cc)
 numbers_in_order (Some a) (Some b) (Some c) None x is = absurd (cc)
 
-head_reads : (names : NameLists) (version : Version) (source target start : ℕ) (r : List (List ℕ)) (x : Option HeadRow) (head : Head) → x ≡ head_row_in version r → head_of_numbers names source target start r x ≡ Ok head → IsAsked source target start head
+head_reads : (names : NameLists) (version : Version) (source target start : ℕ) (r : List (List ℕ)) (x : Option HeadRow) (head : Head)
+    → x ≡ head_row_in version r → head_of_numbers names source target start r x ≡ Ok head → IsAsked source target start head
 head_reads names version source target start r None head told is = absurd (cc)
-head_reads names version source target start r (Some x) head told is = head_names source target start x (number_of names.places (field r 2)) (number_of names.places (field r 3)) head (by_test (is_head version r) (sym told)) is
+head_reads names version source target start r (Some x) head told is =
+    head_names source target start x (number_of names.places (field r 2)) (number_of names.places (field r 3)) head (by_test (is_head version r) (sym told)) is
   where
-    by_test : (test : Bool) → (if test then head_numbers (moment_at (field r 4)) (moment_at (field r 5)) (nanos_at (field r 6)) (nanos_at (field r 7)) else None) ≡ Some x → are_in_order x.start.0 x.deadline.0 x.lo x.hi ≡ true
+    by_test : (test : Bool) → (if test then head_numbers (moment_at (field r 4)) (moment_at (field r 5)) (nanos_at (field r 6))
+        (nanos_at (field r 7)) else None) ≡ Some x → are_in_order x.start.0 x.deadline.0 x.lo x.hi ≡ true
     by_test true found = numbers_in_order (moment_at (field r 4)) (moment_at (field r 5)) (nanos_at (field r 6)) (nanos_at (field r 7)) x found
     by_test false found = absurd (cc)
 
 -- what is read fits the network and the question
-pub told_fits : (n : Parts) (names : NameLists) (source target start : ℕ) (rows : List (List (List ℕ))) (head : Head) (graph : PlanGraph) → graph_of_records n names source target start rows ≡ Ok (head, graph) → IsFit n head.query graph × IsAsked source target start head
+pub told_fits : (n : Parts) (names : NameLists) (source target start : ℕ) (rows : List (List (List ℕ))) (head : Head) (graph : PlanGraph)
+    → graph_of_records n names source target start rows ≡ Ok (head, graph) → IsFit n head.query graph × IsAsked source target start head
 told_fits n names source target start [] head graph is = absurd (cc)
 told_fits n names source target start (r ∷ rs) head graph is = by_version (version_in r) is
   where
@@ -405,9 +467,12 @@ told_fits n names source target start (r ∷ rs) head graph is = by_version (ver
         (subst (λ (h : Head). IsFit n h.query graph) both.0 (subst (λ (k : PlanGraph). IsFit n own.query k) both.1 fit), subst (λ (h : Head). IsAsked source target start h) both.0 asked)
 
     by_head : (version : Version) (told : Result Head TextFault) → head_in names version source target start r ≡ told
-        → ◌≡◌ {A = Result (Head × PlanGraph) TextFault} (and_then told (λ own. and_then (graph_in n names version source target start rs) (λ g. Ok (own, g)))) (Ok (head, graph)) → IsFit n head.query graph × IsAsked source target start head
+        → ◌≡◌ {A = Result (Head × PlanGraph) TextFault} (and_then told
+        (λ own. and_then (graph_in n names version source target start rs) (λ g. Ok (own, g)))) (Ok (head, graph)) → IsFit n head.query graph
+        × IsAsked source target start head
     by_head version (Err e) told is = absurd (cc)
-    by_head version (Ok own) told is = by_graph version own (head_reads names version source target start r (head_row_in version r) own refl told) (graph_in n names version source target start rs) refl is
+    by_head version (Ok own) told is = by_graph version own (head_reads names version source target start r (head_row_in version r) own refl told)
+        (graph_in n names version source target start rs) refl is
 
     by_version : (version : Option Version) → graph_of_version n names source target start r rs version ≡ Ok (head, graph) → IsFit n head.query graph × IsAsked source target start head
     by_version None is = absurd (cc)

@@ -46,7 +46,11 @@ module _ (n : Parts) (valid : IsValid n) where
     start = start_by graph.start fit.starts;
     tables = λ k d within. let t = fit.tables k d within in let table = slice_index_or graph.tables k d in let first = t.rows 0 default (omega (arith, t.some)) in record {
       place = place_there table.place.0 (slice_index_or table.rows 0 default).by.0 (slice_index_or table.rows 0 default).leg first.is_leg first.by;
-      rows = λ i e inside. let row = t.rows i e inside in record { is_leg = row.is_leg; by = let soon = limit_soon table.place.0 (slice_index_or table.rows i e).by.0 (slice_index_or table.rows i e).leg row.is_leg row.by in omega (arith, soon) };
+      rows = λ i e inside. let row = t.rows i e inside in record {
+        is_leg = row.is_leg;
+        by = let soon = limit_soon table.place.0 (slice_index_or table.rows i e).by.0
+            (slice_index_or table.rows i e).leg row.is_leg row.by in omega (arith, soon);
+      };
     };
   }
     where

@@ -18,13 +18,16 @@ pub and_next : (whole test own rest : Bool) → whole ≡ (own && rest) → test
 and_next whole test own rest split is holds = split ∙ ap (λ (t : Bool). t && rest) (sym is ∙ holds)
 
 module _ (n : Parts) where
-  pub rows_leave-split : (place : ℕ) (rows : List GraphRow) (i : ℕ) (d : GraphRow) → i < length rows → rows_leave n place (drop i rows) ≡ ((from_of n (slice_index_or rows i d).leg.enter.0 == place) && rows_leave n place (drop (i + 1) rows))
+  pub rows_leave-split : (place : ℕ) (rows : List GraphRow) (i : ℕ) (d : GraphRow) → i < length rows
+      → rows_leave n place (drop i rows) ≡ ((from_of n (slice_index_or rows i d).leg.enter.0 == place) && rows_leave n place (drop (i + 1) rows))
   rows_leave-split place rows i d within = ap (rows_leave n place) (split_at rows i d within)
 
-  pub tables_leave-split : (tables : List PlaceTable) (i : ℕ) (t : PlaceTable) → i < length tables → t ≡ slice_index_or tables i t → tables_leave n (drop i tables) ≡ (rows_leave n t.place.0 t.rows && tables_leave n (drop (i + 1) tables))
+  pub tables_leave-split : (tables : List PlaceTable) (i : ℕ) (t : PlaceTable) → i < length tables → t ≡ slice_index_or tables i t
+      → tables_leave n (drop i tables) ≡ (rows_leave n t.place.0 t.rows && tables_leave n (drop (i + 1) tables))
   tables_leave-split tables i t within at =
       ap (tables_leave n) (split_at tables i t within) ∙ ap (λ (u : PlaceTable). rows_leave n u.place.0 u.rows && tables_leave n (drop (i + 1) tables)) (sym at)
 
-  pub rides_leave-split : (rides : List Ride) (i : ℕ) (r : Ride) → i < length rides → r ≡ slice_index_or rides i r → rides_leave n (drop i rides) ≡ (rows_leave n (end_of n r.leg) r.after && rides_leave n (drop (i + 1) rides))
+  pub rides_leave-split : (rides : List Ride) (i : ℕ) (r : Ride) → i < length rides → r ≡ slice_index_or rides i r
+      → rides_leave n (drop i rides) ≡ (rows_leave n (end_of n r.leg) r.after && rides_leave n (drop (i + 1) rides))
   rides_leave-split rides i r within at =
       ap (rides_leave n) (split_at rides i r within) ∙ ap (λ (s : Ride). rows_leave n (end_of n s.leg) s.after && rides_leave n (drop (i + 1) rides)) (sym at)

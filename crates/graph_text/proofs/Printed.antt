@@ -8,7 +8,8 @@ use Rattle.graph_text.specs.declared.version.Version.{Version}
 use Rattle.graph_text.specs.declared.version.Version.TheVariants.{First, Second}
 use Rattle.graph_text.specs.Versions.{ninth}
 
-pub fields_kept : (version : Version) (a b c d e f g h last : List ℕ) → trimmed a ≡ a → trimmed b ≡ b → trimmed c ≡ c → trimmed d ≡ d → trimmed e ≡ e → trimmed f ≡ f → trimmed g ≡ g → trimmed h ≡ h → trimmed last ≡ last
+pub fields_kept : (version : Version) (a b c d e f g h last : List ℕ) → trimmed a ≡ a → trimmed b ≡ b → trimmed c ≡ c → trimmed d ≡ d → trimmed e ≡ e
+    → trimmed f ≡ f → trimmed g ≡ g → trimmed h ≡ h → trimmed last ≡ last
     → IsKept (a ∷ b ∷ c ∷ d ∷ e ∷ f ∷ g ∷ h ∷ ninth version last)
 fields_kept First a b c d e f g h last one two three four five six seven eight nine = cc
 fields_kept Second a b c d e f g h last one two three four five six seven eight nine = cc

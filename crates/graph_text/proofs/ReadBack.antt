@@ -1,5 +1,6 @@
 -- What was printed is read back.
-use Rattle.std.proofs.Common.{◌≡◌, ◌≢◌, ℕ, suc, ◌+◌, ◌-◌, ◌<◌, ◌≤◌, ◌^◌, List, [], ◌∷◌, ◌++◌, length, Option, Some, None, Ok, Err, Result, Bool, true, false, All, AllPairs, arith, sym, refl, ap, ◌∙◌, append_assoc}
+use Rattle.std.proofs.Common.{◌≡◌, ◌≢◌, ℕ, suc, ◌+◌, ◌-◌, ◌<◌, ◌≤◌, ◌^◌, List, [], ◌∷◌, ◌++◌, length, Option, Some, None, Ok, Err, Result, Bool, true, false, All}
+use Rattle.std.proofs.Common.{AllPairs, arith, sym, refl, ap, ◌∙◌, append_assoc}
 use Rattle.std.specs.Prelude.{◌==◌, ◌&&◌, ◌||◌, nat_le, if◌then◌else◌, slice_index_or, decimal, codes, eqb}
 use Rattle.std.specs.Option.{option_map, option_and_then}
 use Rattle.std.specs.Cmp.Lexicographic.{bytes_decides}
@@ -45,7 +46,10 @@ use Rattle.graph_text.specs.Asked.{IsAsked}
 use Rattle.graph_text.specs.Printable.{IsPrintableQuery}
 use Rattle.graph_text.specs.Texts.{leg_fields, rows_text, start_text, tables_text, graph_text_in, graph_text}
 use Rattle.printed_rows.specs.Writers.{place_name, run_name, row_of_fields}
-use Rattle.graph_text.specs.Reading.{entry_in, leg_names, names_in, leg_numbers, leg_row_in, leg_found, leg_between, agrees, leg_of, is_limit, start_by, start_named, start_numbers, start_in, is_by_limit, row_by_leg, row_named, row_numbers, row_in, place_numbers, place_row_in, table_named, table_numbers, table_in, begun, extended, step, and_then, tables_from, no_tables, graph_in, started_in, head_numbers, head_row_in, head_named, head_of_numbers, head_in, version_in, graph_of_version, graph_of_records, graph_of}
+use Rattle.graph_text.specs.Reading.{entry_in, leg_names, names_in, leg_numbers, leg_row_in, leg_found, leg_between, agrees, leg_of, is_limit, start_by, start_named}
+use Rattle.graph_text.specs.Reading.{start_numbers, start_in, is_by_limit, row_by_leg, row_named, row_numbers, row_in, place_numbers, place_row_in, table_named}
+use Rattle.graph_text.specs.Reading.{table_numbers, table_in, begun, extended, step, and_then, tables_from, no_tables, graph_in, started_in, head_numbers, head_row_in}
+use Rattle.graph_text.specs.Reading.{head_named, head_of_numbers, head_in, version_in, graph_of_version, graph_of_records, graph_of}
 use Rattle.printed_rows.specs.Fields.{number_of, whole_at, connection_of, rises}
 use Rattle.printed_rows.proofs.Found.{connection_number}
 use Rattle.graph_text.proofs.Laws.{limit_soon, place_there}
@@ -97,7 +101,8 @@ numbers_by : (a b c d e : Option ℕ) (moment enter dep exit arr : ℕ) → a �
     → leg_numbers a b c d e ≡ Some (record { moment = record { 0 = moment }; enter = enter; dep = record { 0 = dep }; exit = exit; arr = record { 0 = arr } })
 numbers_by a b c d e moment enter dep exit arr one two three four five = rw (one, two, three, four, five) refl
 
-leg_row_by : (version : Version) (kind second run a b c place d from : List ℕ) (moment enter dep exit arr : ℕ) → moment_at second ≡ Some moment → whole_at a ≡ Some enter → moment_at b ≡ Some dep → whole_at c ≡ Some exit → moment_at d ≡ Some arr
+leg_row_by : (version : Version) (kind second run a b c place d from : List ℕ) (moment enter dep exit arr : ℕ) → moment_at second ≡ Some moment
+    → whole_at a ≡ Some enter → moment_at b ≡ Some dep → whole_at c ≡ Some exit → moment_at d ≡ Some arr
     → leg_row_in version kind (kind ∷ second ∷ run ∷ a ∷ b ∷ c ∷ place ∷ d ∷ ninth version from)
     ≡ Some (record { moment = record { 0 = moment }; enter = enter; dep = record { 0 = dep }; exit = exit; arr = record { 0 = arr } })
 leg_row_by First kind second run a b c place d from moment enter dep exit arr one two three four five =
@@ -126,8 +131,10 @@ head_row_is : (version : Version) (from to a b c d : List ℕ) → head_row_in v
 head_row_is First from to a b c d = refl
 head_row_is Second from to a b c d = refl
 
-head_row_by : (version : Version) (from to a b c d : List ℕ) (start deadline lo hi : ℕ) → moment_at a ≡ Some start → moment_at b ≡ Some deadline → nanos_at c ≡ Some lo → nanos_at d ≡ Some hi → start ≤ deadline → lo ≤ hi
-    → head_row_in version (codes "graph" ∷ number_of_version version ∷ from ∷ to ∷ a ∷ b ∷ c ∷ d ∷ ninth version []) ≡ Some (record { start = record { 0 = start }; deadline = record { 0 = deadline }; lo = lo; hi = hi })
+head_row_by : (version : Version) (from to a b c d : List ℕ) (start deadline lo hi : ℕ) → moment_at a ≡ Some start → moment_at b ≡ Some deadline
+    → nanos_at c ≡ Some lo → nanos_at d ≡ Some hi → start ≤ deadline → lo ≤ hi
+    → head_row_in version (codes "graph" ∷ number_of_version version ∷ from ∷ to ∷ a ∷ b ∷ c ∷ d ∷ ninth version []) ≡ Some
+    (record { start = record { 0 = start }; deadline = record { 0 = deadline }; lo = lo; hi = hi })
 head_row_by version from to a b c d start deadline lo hi one two three four in_time bounds =
     head_row_is version from to a b c d ∙ four_by (moment_at a) (moment_at b) (nanos_at c) (nanos_at d) one two three four
   where
@@ -140,10 +147,20 @@ version_back : (version : Version) (rest : List (List ℕ)) → version_in (code
 version_back First rest = refl
 version_back Second rest = refl
 
-head_by : (names : NameLists) (version : Version) (source target start deadline lo hi : ℕ) (from to a b c d : List ℕ) → number_of names.places from ≡ Some source → number_of names.places to ≡ Some target
+head_by : (names : NameLists) (version : Version) (source target start deadline lo hi : ℕ) (from to a b c d : List ℕ)
+    → number_of names.places from ≡ Some source → number_of names.places to ≡ Some target
     → moment_at a ≡ Some start → moment_at b ≡ Some deadline → nanos_at c ≡ Some lo → nanos_at d ≡ Some hi → start ≤ deadline → lo ≤ hi
     → head_in names version source target start (codes "graph" ∷ number_of_version version ∷ from ∷ to ∷ a ∷ b ∷ c ∷ d ∷ ninth version [])
-    ≡ Ok (record { query = record { source = record { 0 = source }; target = record { 0 = target }; start = record { 0 = start }; deadline = record { 0 = deadline } }; bounds = record { lo = lo; hi = hi } })
+    ≡ Ok (record {
+      query = record {
+        source = record { 0 = source };
+        target = record { 0 = target };
+        start = record { 0 = start };
+        deadline =
+            record { 0 = deadline };
+      };
+      bounds = record { lo = lo; hi = hi };
+    })
 head_by names version source target start deadline lo hi from to a b c d is_from is_to one two three four in_time bounds =
     let x : HeadRow = record { start = record { 0 = start }; deadline = record { 0 = deadline }; lo = lo; hi = hi } in
     ap (λ (numbers : Option HeadRow). head_of_numbers names source target start (codes "graph" ∷ number_of_version version ∷ from ∷ to ∷ a ∷ b ∷ c ∷ d ∷ ninth version []) numbers)
@@ -153,7 +170,16 @@ head_by names version source target start deadline lo hi from to a b c d is_from
     ∙ asked
   where
     asked : head_named source target start (record { start = record { 0 = start }; deadline = record { 0 = deadline }; lo = lo; hi = hi }) (Some source) (Some target)
-        ≡ Ok (record { query = record { source = record { 0 = source }; target = record { 0 = target }; start = record { 0 = start }; deadline = record { 0 = deadline } }; bounds = record { lo = lo; hi = hi } })
+        ≡ Ok (record {
+          query = record {
+            source = record { 0 = source };
+            target = record { 0 = target };
+            start = record { 0 = start };
+            deadline =
+                record { 0 = deadline };
+          };
+          bounds = record { lo = lo; hi = hi };
+        })
     asked = rw (eq-eqb source source refl, eq-eqb target target refl, eq-eqb start start refl) refl
 
 -- where moments or places rise
@@ -204,7 +230,14 @@ module _ (n : Parts) (names : NameLists) (version : Version) (valid : IsValid n)
       (place_kept (from_of n leg.enter.0) (valid.connections leg.enter.0 is_leg.enter).from_in)
 
   abbrev numbers : ℕ → Leg → LegRow
-  numbers moment leg = record { moment = record { 0 = moment }; enter = step_of n leg.enter.0; dep = record { 0 = dep_of n leg.enter.0 }; exit = step_of n leg.exit.0; arr = record { 0 = arr_of n leg.exit.0 } }
+  numbers moment leg = record {
+    moment = record { 0 = moment };
+    enter = step_of n leg.enter.0;
+    dep = record { 0 = dep_of n leg.enter.0 };
+    exit =
+        step_of n leg.exit.0;
+    arr = record { 0 = arr_of n leg.exit.0 };
+  }
 
   leg_numbers_back : (kind : List ℕ) (moment : ℕ) (leg : Leg) → IsLegOf n leg → moment ≤ last_printable
       → leg_row_in version kind (leg_record n names version kind (moment_text moment) leg) ≡ Some (numbers moment leg)
@@ -212,7 +245,8 @@ module _ (n : Parts) (names : NameLists) (version : Version) (valid : IsValid n)
       let enter = valid.connections leg.enter.0 is_leg.enter in
       let exit = valid.connections leg.exit.0 is_leg.exit in
       leg_row_by version kind (moment_text moment) (run_name names (run_of n leg.enter.0)) (decimal (step_of n leg.enter.0)) (moment_text (dep_of n leg.enter.0)) (decimal (step_of n leg.exit.0))
-      (place_name names (to_of n leg.exit.0)) (moment_text (arr_of n leg.exit.0)) (place_name names (from_of n leg.enter.0)) moment (step_of n leg.enter.0) (dep_of n leg.enter.0) (step_of n leg.exit.0) (arr_of n leg.exit.0)
+      (place_name names (to_of n leg.exit.0)) (moment_text (arr_of n leg.exit.0)) (place_name names (from_of n leg.enter.0)) moment
+      (step_of n leg.enter.0) (dep_of n leg.enter.0) (step_of n leg.exit.0) (arr_of n leg.exit.0)
       (text_tells moment soon)
       (whole_back (step_of n leg.enter.0) (omega (arith, enter.step_in)))
       (text_tells (dep_of n leg.enter.0) (omega (arith, enter.forward, enter.early)))
@@ -228,7 +262,8 @@ module _ (n : Parts) (names : NameLists) (version : Version) (valid : IsValid n)
   abbrev known : Leg → LegNames
   known leg = leg_names (run_of n leg.enter.0) (to_of n leg.exit.0) (from_of n leg.enter.0)
 
-  entry_back : (v : Version) (place : ℕ) (kind second : List ℕ) (leg : Leg) → IsLegOf n leg → IsTold n v place leg → entry_in v names place (leg_record n names v kind second leg) ≡ Some (from_of n leg.enter.0)
+  entry_back : (v : Version) (place : ℕ) (kind second : List ℕ) (leg : Leg) → IsLegOf n leg → IsTold n v place leg
+      → entry_in v names place (leg_record n names v kind second leg) ≡ Some (from_of n leg.enter.0)
   entry_back First place kind second leg is_leg told = ap (λ (p : ℕ). Some p) (sym told)
   entry_back Second place kind second leg is_leg told = place_named (from_of n leg.enter.0) (valid.connections leg.enter.0 is_leg.enter).from_in
 
@@ -236,9 +271,11 @@ module _ (n : Parts) (names : NameLists) (version : Version) (valid : IsValid n)
       → option_and_then (λ a. option_and_then (λ b. option_map (λ c. leg_names a b c) entry) exit) run ≡ Some (leg_names i j k)
   names_by run exit entry i j k one two three = rw (one, two, three) refl
 
-  names_back : (place : ℕ) (kind second : List ℕ) (leg : Leg) → IsLegOf n leg → IsTold n version place leg → names_in version names place (leg_record n names version kind second leg) ≡ Some (known leg)
+  names_back : (place : ℕ) (kind second : List ℕ) (leg : Leg) → IsLegOf n leg → IsTold n version place leg
+      → names_in version names place (leg_record n names version kind second leg) ≡ Some (known leg)
   names_back place kind second leg is_leg told =
-      names_by (number_of names.runs (run_name names (run_of n leg.enter.0))) (number_of names.places (place_name names (to_of n leg.exit.0))) (entry_in version names place (leg_record n names version kind second leg))
+      names_by (number_of names.runs (run_name names (run_of n leg.enter.0))) (number_of names.places (place_name names (to_of n leg.exit.0)))
+      (entry_in version names place (leg_record n names version kind second leg))
       (run_of n leg.enter.0) (to_of n leg.exit.0) (from_of n leg.enter.0) (run_back leg is_leg) (exit_back leg is_leg) (entry_back version place kind second leg is_leg told)
 
   -- the network has the leg of the row
@@ -267,7 +304,8 @@ module _ (n : Parts) (names : NameLists) (version : Version) (valid : IsValid n)
       let own_row = leg_record n names version (codes "start") (moment_text (dep_of n leg.enter.0)) leg in
       let enter = valid.connections leg.enter.0 is_leg.enter in
       let x = numbers (dep_of n leg.enter.0) leg in
-      ap (λ (found : Option LegRow). start_numbers n names version line source start own_row found) (leg_numbers_back (codes "start") (dep_of n leg.enter.0) leg is_leg (omega (arith, enter.forward, enter.early)))
+      ap (λ (found : Option LegRow). start_numbers n names version line source start own_row found)
+      (leg_numbers_back (codes "start") (dep_of n leg.enter.0) leg is_leg (omega (arith, enter.forward, enter.early)))
       ∙ ap (λ (found : Option LegNames). start_named n line source start x found) (names_back source (codes "start") (moment_text (dep_of n leg.enter.0)) leg is_leg (told version))
       ∙ ap (λ (found : Option Leg). start_by n line source start x found) (leg_back (dep_of n leg.enter.0) leg is_leg)
       ∙ starts
@@ -402,7 +440,8 @@ module _ (n : Parts) (names : NameLists) (version : Version) (valid : IsValid n)
 
   one_row : (line : ℕ) (done : List PlaceTable) (place : PlaceId) (before : List GraphRow) (last : Option Moment) (left : ℕ) (row : GraphRow) → (left ≡ 0 → ⊥) → IsToldRow n version place.0 row
       → rises (option_map (λ m. m.0) last) row.by.0 ≡ true
-      → step n names version line (leg_record n names version (codes "leg") (moment_text row.by.0) row.leg) (with_rows done place before last left) ≡ extended (with_rows done place before last left) (Ok row)
+      → step n names version line (leg_record n names version (codes "leg") (moment_text row.by.0) row.leg)
+      (with_rows done place before last left) ≡ extended (with_rows done place before last left) (Ok row)
   one_row line done place before last left row some own_row later =
       sym (leg_step n names version line (leg_record n names version (codes "leg") (moment_text row.by.0) row.leg) (with_rows done place before last left) place some refl)
       ∙ ap (λ (told : Result GraphRow TextFault). extended (with_rows done place before last left) told) (row_back line place.0 (option_map (λ m. m.0) last) row own_row later)
@@ -415,7 +454,8 @@ module _ (n : Parts) (names : NameLists) (version : Version) (valid : IsValid n)
       → extended (with_rows done place before last left) (Ok row) ≡ Ok (with_rows done place (before ++ row ∷ []) (Some row.by) (left - 1))
   more_rows done place before last left row many = rw (ne_eqb left 1 many) refl
 
-  rows_back : (rows : List GraphRow) (rest : List (List (List ℕ))) (line : ℕ) (done : List PlaceTable) (place : PlaceId) (before : List GraphRow) (last : Option Moment) (left : ℕ) (all : List PlaceTable)
+  rows_back : (rows : List GraphRow) (rest : List (List (List ℕ))) (line : ℕ) (done : List PlaceTable) (place : PlaceId) (before : List GraphRow)
+      (last : Option Moment) (left : ℕ) (all : List PlaceTable)
       → left ≡ length rows → 1 ≤ left → All (IsToldRow n version place.0) rows → AllPairs (λ a b. a.by.0 < b.by.0) rows → Follows last rows
       → ((later : ℕ) → tables_from n names version rest later (after_table done place (before ++ rows)) ≡ Ok all)
       → tables_from n names version (leg_records n names version rows ++ rest) line (with_rows done place before last left) ≡ Ok all
@@ -436,13 +476,15 @@ module _ (n : Parts) (names : NameLists) (version : Version) (valid : IsValid n)
       (λ later. ap (λ (list : List GraphRow). tables_from n names version rest later (after_table done place list)) (append_assoc before (row ∷ []) (next ∷ rows)) ∙ goes_on later)
 
   -- all tables
-  tables_back : (tables : List PlaceTable) (line : ℕ) (done : List PlaceTable) (last : Option PlaceId) → All (IsToldTable n version) tables → AllPairs (λ a b. a.place.0 < b.place.0) tables → FollowsPlace last tables
+  tables_back : (tables : List PlaceTable) (line : ℕ) (done : List PlaceTable) (last : Option PlaceId) → All (IsToldTable n version) tables
+      → AllPairs (λ a b. a.place.0 < b.place.0) tables → FollowsPlace last tables
       → tables_from n names version (table_records n names version tables) line (record { done = done; place = last; rows = []; by = None; left = 0 }) ≡ Ok (done ++ tables)
   tables_back [] line done last fits rising follows = ap (λ (list : List PlaceTable). Ok list) (sym (append-nil done))
   tables_back (t ∷ tables) line done last fits rising follows =
       let first = All-head (IsToldTable n version) t tables fits in
       let few = few_legs t first.0 in
-      ap (λ (told : Result TableStart TextFault). and_then (begun (record { done = done; place = last; rows = []; by = None; left = 0 }) told) (tables_from n names version (leg_records n names version t.rows ++ table_records n names version tables) (line + 1)))
+      ap (λ (told : Result TableStart TextFault). and_then (begun (record { done = done; place = last; rows = []; by = None; left = 0 }) told)
+      (tables_from n names version (leg_records n names version t.rows ++ table_records n names version tables) (line + 1)))
       (place_back line (option_map (λ p. p.0) last) t (table_there t first.0) first.0.some (omega (arith, few)) follows)
       ∙ rows_back t.rows (table_records n names version tables) (line + 1) done t.place [] None (length t.rows) (done ++ t ∷ tables) refl first.0.some first.1 first.0.rising (first_follows t.rows)
       (λ later. tables_back tables later (done ++ t ∷ []) (Some t.place) (All-tail (IsToldTable n version) t tables fits)
@@ -474,7 +516,8 @@ module _ (n : Parts) (names : NameLists) (version : Version) (valid : IsValid n)
       → head_in names version head.query.source.0 head.query.target.0 head.query.start.0 (head_record names version head) ≡ Ok head
   head_back head asked in_time bounds fits =
       head_by names version head.query.source.0 head.query.target.0 head.query.start.0 head.query.deadline.0 head.bounds.lo head.bounds.hi
-      (place_name names head.query.source.0) (place_name names head.query.target.0) (moment_text head.query.start.0) (moment_text head.query.deadline.0) (nanos_text head.bounds.lo) (nanos_text head.bounds.hi)
+      (place_name names head.query.source.0) (place_name names head.query.target.0) (moment_text head.query.start.0)
+      (moment_text head.query.deadline.0) (nanos_text head.bounds.lo) (nanos_text head.bounds.hi)
       (place_named head.query.source.0 asked.source) (place_named head.query.target.0 asked.target)
       (text_tells head.query.start.0 asked.start) (text_tells head.query.deadline.0 asked.deadline)
       (nanos_tell head.bounds.lo (omega (arith, bounds, fits))) (nanos_tell head.bounds.hi fits) in_time bounds
@@ -485,7 +528,8 @@ module _ (n : Parts) (names : NameLists) (version : Version) (valid : IsValid n)
   no_mark rest rows = refl
 
   -- the first row, and then the records after it
-  module _ (head : Head) (asked : IsPrintableQuery n head.query) (in_time : head.query.start.0 ≤ head.query.deadline.0) (bounds : head.bounds.lo ≤ head.bounds.hi) (fits : head.bounds.hi < 2 ^ 64) where
+  module _ (head : Head) (asked : IsPrintableQuery n head.query) (in_time : head.query.start.0 ≤ head.query.deadline.0)
+      (bounds : head.bounds.lo ≤ head.bounds.hi) (fits : head.bounds.hi < 2 ^ 64) where
     with_head : (rows : List (List (List ℕ))) (graph : PlanGraph) (text : List ℕ) → AreKept rows → text ≡ text_of_rows (head_record names version head ∷ rows)
         → graph_in n names version head.query.source.0 head.query.target.0 head.query.start.0 rows ≡ Ok graph
         → graph_of text n names head.query.source.0 head.query.target.0 head.query.start.0 ≡ Ok (head, graph)
@@ -493,7 +537,9 @@ module _ (n : Parts) (names : NameLists) (version : Version) (valid : IsValid n)
         ap (λ (bytes : List ℕ). graph_of bytes n names head.query.source.0 head.query.target.0 head.query.start.0) printed
         ∙ ap (λ (records : List (List (List ℕ))). graph_of_records n names head.query.source.0 head.query.target.0 head.query.start.0 records)
         (table_back (head_record names version head ∷ rows) (head_kept head asked, kept) (no_mark _ rows))
-        ∙ ap (λ (found : Option Version). graph_of_version n names head.query.source.0 head.query.target.0 head.query.start.0 (head_record names version head) rows found) (version_back version (place_name names head.query.source.0 ∷ place_name names head.query.target.0 ∷ moment_text head.query.start.0 ∷ moment_text head.query.deadline.0
+        ∙ ap (λ (found : Option Version). graph_of_version n names head.query.source.0 head.query.target.0 head.query.start.0
+        (head_record names version head) rows found) (version_back version
+        (place_name names head.query.source.0 ∷ place_name names head.query.target.0 ∷ moment_text head.query.start.0 ∷ moment_text head.query.deadline.0
         ∷ nanos_text head.bounds.lo ∷ nanos_text head.bounds.hi ∷ ninth version []))
         ∙ ap (λ (first : Result Head TextFault). and_then first (λ h. and_then (graph_in n names version head.query.source.0 head.query.target.0 head.query.start.0 rows) (λ g. Ok (h, g))))
         (head_back head asked in_time bounds fits)
@@ -503,9 +549,12 @@ module _ (n : Parts) (names : NameLists) (version : Version) (valid : IsValid n)
     here_printed : (graph : PlanGraph) → head.query.source.0 ≡ head.query.target.0 → graph_text_in n names version head graph ≡ text_of_rows (head_record names version head ∷ [])
     unfolding text_of_rows row_of_fields
     here_printed graph here =
-        ap (λ (test : Bool). row_of_fields (head_record names version head) ++ (if test then [] else start_text n names version graph.start ++ tables_text n names version graph.tables)) (eq-eqb head.query.source.0 head.query.target.0 here)
+        ap (λ (test : Bool). row_of_fields (head_record names version head) ++
+        (if test then [] else start_text n names version graph.start ++ tables_text n names version graph.tables))
+        (eq-eqb head.query.source.0 head.query.target.0 here)
 
-    here_read : (tables : List PlaceTable) → head.query.source.0 ≡ head.query.target.0 → tables ≡ [] → graph_in n names version head.query.source.0 head.query.target.0 head.query.start.0 [] ≡ Ok (record { start = None; tables = tables })
+    here_read : (tables : List PlaceTable) → head.query.source.0 ≡ head.query.target.0 → tables ≡ []
+        → graph_in n names version head.query.source.0 head.query.target.0 head.query.start.0 [] ≡ Ok (record { start = None; tables = tables })
     here_read tables here none =
         ap (λ (test : Bool). if test then Ok (record { start = None; tables = [] }) else Err (fault.Row 2)) (eq-eqb head.query.source.0 head.query.target.0 here)
         ∙ ap (λ (list : List PlaceTable). Ok (record { start = None; tables = list })) (sym none)
@@ -522,12 +571,14 @@ module _ (n : Parts) (names : NameLists) (version : Version) (valid : IsValid n)
         ∙ ap (λ (text : List ℕ). first ++ (second ++ text)) (tables_printed n names version tables)
 
     away_read : (leg : Leg) (tables : List PlaceTable) → IsFitStart n head.query leg → All (IsToldTable n version) tables → AllPairs (λ a b. a.place.0 < b.place.0) tables
-        → graph_in n names version head.query.source.0 head.query.target.0 head.query.start.0 (leg_record n names version (codes "start") (moment_text (dep_of n leg.enter.0)) leg ∷ table_records n names version tables)
+        → graph_in n names version head.query.source.0 head.query.target.0 head.query.start.0
+        (leg_record n names version (codes "start") (moment_text (dep_of n leg.enter.0)) leg ∷ table_records n names version tables)
         ≡ Ok (record { start = Some leg; tables = tables })
     away_read leg tables begins all rising =
         let second = leg_record n names version (codes "start") (moment_text (dep_of n leg.enter.0)) leg in
         let rows = table_records n names version tables in
-        ap (λ (test : Bool). if test then Err (fault.Row 2) else started_in n names version head.query.source.0 head.query.start.0 second rows) (ne_eqb head.query.source.0 head.query.target.0 begins.differ)
+        ap (λ (test : Bool). if test then Err (fault.Row 2) else started_in n names version head.query.source.0 head.query.start.0 second rows)
+        (ne_eqb head.query.source.0 head.query.target.0 begins.differ)
         ∙ ap (λ (told : Result Leg TextFault). and_then told (λ l. and_then (tables_from n names version rows 3 no_tables) (λ ts. Ok (record { start = Some l; tables = ts }))))
         (start_back 2 head.query.source.0 head.query.start.0 leg begins.is_leg begins.leaves begins.in_time)
         ∙ ap (λ (told : Result (List PlaceTable) TextFault). and_then told (λ ts. Ok (record { start = Some leg; tables = ts })))
@@ -538,7 +589,8 @@ module _ (n : Parts) (names : NameLists) (version : Version) (valid : IsValid n)
         first_follows (t ∷ tables) = refl
 
     graph_back : (start : Option Leg) (tables : List PlaceTable) → IsFit n head.query (record { start = start; tables = tables }) → All (IsToldTable n version) tables
-        → graph_of (graph_text_in n names version head (record { start = start; tables = tables })) n names head.query.source.0 head.query.target.0 head.query.start.0 ≡ Ok (head, record { start = start; tables = tables })
+        → graph_of (graph_text_in n names version head (record
+        { start = start; tables = tables })) n names head.query.source.0 head.query.target.0 head.query.start.0 ≡ Ok (head, record { start = start; tables = tables })
     graph_back None tables own_graph told =
         with_head [] (record { start = None; tables = tables }) (graph_text_in n names version head (record { start = None; tables = tables })) tt
         (here_printed (record { start = None; tables = tables }) own_graph.starts.0) (here_read tables own_graph.starts.0 own_graph.starts.1)
@@ -553,7 +605,8 @@ rows_told : (n : Parts) (place : ℕ) (rows : List GraphRow) → rows_leave n pl
 rows_told n place [] leave fits = All-nil (IsToldRow n First place)
 rows_told n place (row ∷ rows) leave fits =
     let both = and_parts (from_of n row.leg.enter.0 == place) (rows_leave n place rows) leave in
-    All-cons (IsToldRow n First place) row rows (All-head (IsFitRow n place) row rows fits, eqb-true (from_of n row.leg.enter.0) place both.0) (rows_told n place rows both.1 (All-tail (IsFitRow n place) row rows fits))
+    All-cons (IsToldRow n First place) row rows (All-head (IsFitRow n place) row rows fits, eqb-true (from_of n row.leg.enter.0) place both.0)
+    (rows_told n place rows both.1 (All-tail (IsFitRow n place) row rows fits))
 
 tables_told : (n : Parts) (tables : List PlaceTable) → tables_leave n tables ≡ true → All (IsFitTable n) tables → All (IsToldTable n First) tables
 tables_told n [] leave fits = All-nil (IsToldTable n First)
@@ -567,11 +620,14 @@ told_by_version n tables true leave fits = tables_told n tables leave fits
 told_by_version n tables false leave fits = λ k d within. let t = fits k d within in (t, λ i e inside. (t.rows i e inside, tt))
 
 -- a graph that fits is printed, and read back
-pub reads_back : (n : Parts) (names : NameLists) (source target start : ℕ) (head : Head) (graph : PlanGraph) → IsValid n → NamesFit names n → AreNames names → IsPrintableQuery n head.query → head.bounds.hi < 2 ^ 64
+pub reads_back : (n : Parts) (names : NameLists) (source target start : ℕ) (head : Head) (graph : PlanGraph) → IsValid n → NamesFit names n
+    → AreNames names → IsPrintableQuery n head.query → head.bounds.hi < 2 ^ 64
     → IsFit n head.query graph → IsAsked source target start head → graph_of (graph_text n names head graph) n names source target start ≡ Ok (head, graph)
 reads_back n names source target start head graph valid fit own asked fits own_graph of =
     let leave = tables_leave n graph.tables in
-    let back = graph_back n names (version_by leave) valid fit own head asked (let le = of.in_time in omega (arith, le, of.start)) of.bounds fits graph.start graph.tables own_graph (told_by_version n graph.tables leave refl own_graph.tables) in
+    let back = graph_back n names (version_by leave) valid fit own head asked
+    (let le = of.in_time in omega (arith, le, of.start)) of.bounds fits graph.start graph.tables own_graph
+    (told_by_version n graph.tables leave refl own_graph.tables) in
     let told = graph_of_records n names in
     ap (λ (x : ℕ). told x target start (table_of (graph_text n names head graph))) (sym of.source)
     ∙ ap (λ (x : ℕ). told head.query.source.0 x start (table_of (graph_text n names head graph))) (sym of.target)

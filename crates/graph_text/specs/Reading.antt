@@ -244,7 +244,16 @@ is_query from to moment source target start = (from == source) && ((to == target
 abbrev pub head_named : ℕ → ℕ → ℕ → HeadRow → Option ℕ → Option ℕ → Result Head TextFault
 head_named source target start x (Some from) (Some to) =
     if is_query from to x.start.0 source target start
-    then Ok (record { query = record { source = record { 0 = source }; target = record { 0 = target }; start = record { 0 = start }; deadline = x.deadline }; bounds = record { lo = x.lo; hi = x.hi } })
+    then Ok (record {
+      query = record {
+        source = record { 0 = source };
+        target = record { 0 = target };
+        start = record { 0 = start };
+        deadline =
+            x.deadline;
+      };
+      bounds = record { lo = x.lo; hi = x.hi };
+    })
     else Err (OtherQuery 1)
 head_named source target start x _ _ = Err (UnknownName 1)
 

@@ -24,7 +24,8 @@ use Rattle.gtfs_tables.specs.Trips.{trip_ids, trip_routes, trip_services, trip_t
 use Rattle.gtfs_tables.specs.StopTimes.{timed_rows, stop_times_fault}
 use Rattle.gtfs_tables.specs.Frequencies.{frequency_rows, fault_of_frequencies, all_repeats_of}
 use Rattle.gtfs_tables.specs.Visits.{AreStopTimes}
-use Rattle.gtfs_tables.specs.Feeds.{Records, stops_from, routes_from, trips_from, stop_times_from, frequencies_from, Tables, tables_by, tables_in, FeedParts, IsFeed, IsFeedOf, AreStops, AreRoutes, AreTrips, AreVisits, AreFrequencies, IsSound, IsSoundFeed}
+use Rattle.gtfs_tables.specs.Feeds.{Records, stops_from, routes_from, trips_from, stop_times_from, frequencies_from, Tables, tables_by, tables_in, FeedParts, IsFeed}
+use Rattle.gtfs_tables.specs.Feeds.{IsFeedOf, AreStops, AreRoutes, AreTrips, AreVisits, AreFrequencies, IsSound, IsSoundFeed}
 use Rattle.csv_rows.proofs.FaultLemmas.{if_raised}
 use Rattle.csv_rows.proofs.ListLemmas.{length-list_below}
 

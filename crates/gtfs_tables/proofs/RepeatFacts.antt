@@ -1,5 +1,6 @@
 -- The rows of frequencies of a feed's trips are within their bounds, and their lines rise.
-use Rattle.std.proofs.Common.{◌≡◌, ℕ, ◌+◌, ◌<◌, ◌≤◌, ◌==◌, Bool, true, false, List, [], map, length, slice_index_or, Option, Some, None, if◌then◌else◌, filter, refl, sym, ap, ◌∙◌, subst, arith, ⊎_elim}
+use Rattle.std.proofs.Common.{◌≡◌, ℕ, ◌+◌, ◌<◌, ◌≤◌, ◌==◌, Bool, true, false, List, [], map, length, slice_index_or, Option, Some, None, if◌then◌else◌, filter, refl}
+use Rattle.std.proofs.Common.{sym, ap, ◌∙◌, subst, arith, ⊎_elim}
 use Rattle.std.specs.Prelude.{Result, Ok, Err, option_and_then}
 use Rattle.std.specs.List.{AllPairs}
 use Rattle.std.proofs.lemmas.Bool.{cases_lt, eq-eqb}
@@ -43,7 +44,8 @@ not_zero : (m n : ℕ) (b : Bool) → (m == 0) ≡ b → (if b then None else So
 not_zero m n true e h = absurd (cc)
 not_zero m n false e h =
     let same : m ≡ n = cc in
-    let some : 1 ≤ m = ⊎_elim (λ (less : 0 < m). less) (λ (le : m ≤ 0). absurd (let zero : (m == 0) ≡ true = eq-eqb m 0 (omega arith) in let never : true ≡ false = sym zero ∙ e in cc)) (cases_lt 0 m) in
+    let some : 1 ≤ m = ⊎_elim (λ (less : 0 < m). less) (λ (le : m ≤ 0). absurd
+    (let zero : (m == 0) ≡ true = eq-eqb m 0 (omega arith) in let never : true ≡ false = sym zero ∙ e in cc)) (cases_lt 0 m) in
     (same, omega arith)
 
 headway_some : (o : Option ℕ) (n : ℕ) → option_and_then (λ seconds. if seconds == 0 then None else Some seconds) o ≡ Some n → (o ≡ Some n) × (1 ≤ n)

@@ -51,7 +51,8 @@ one_more t n a b c d e f h k l m p =
       λ less. omega (arith, h, k, l, p (omega (arith, less)), o.1 (omega (arith, less))),
     )
 
-total-more : (t : ℕ) (trips : List ℕ) (row : FrequencyRow) (rows : List FrequencyRow) (n : ℕ) → (total (t ∷ trips) (row ∷ rows) n ≤ total trips rows n + 1) × (n ≤ t → total (t ∷ trips) (row ∷ rows) n ≤ total trips rows n)
+total-more : (t : ℕ) (trips : List ℕ) (row : FrequencyRow) (rows : List FrequencyRow) (n : ℕ)
+    → (total (t ∷ trips) (row ∷ rows) n ≤ total trips rows n + 1) × (n ≤ t → total (t ∷ trips) (row ∷ rows) n ≤ total trips rows n)
 total-more t trips row rows zero = (omega (arith, total-zero (t ∷ trips) (row ∷ rows)), λ h. omega (arith, total-zero (t ∷ trips) (row ∷ rows)))
 total-more t trips row rows (suc n) =
     let more = total-suc (t ∷ trips) (row ∷ rows) n in

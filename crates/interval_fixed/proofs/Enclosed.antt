@@ -36,7 +36,8 @@ widened w lo hi most l u s here rest =
     omega (arith, scaled, mul-add w lo most, mul-add most w s, mul_comm w most)
 
 -- the sums are as far apart as the gap times the weights
-gap_sum : (row : List Outcome) (spans : List Interval) (most : ℕ) → length row ≡ length spans → All (λ span. span.hi - span.lo ≤ most) spans → weighted_hi row spans ≤ weighted_lo row spans + most * sum_by (λ o. o.weight) row
+gap_sum : (row : List Outcome) (spans : List Interval) (most : ℕ) → length row ≡ length spans → All (λ span. span.hi - span.lo ≤ most) spans
+    → weighted_hi row spans ≤ weighted_lo row spans + most * sum_by (λ o. o.weight) row
 gap_sum [] [] most same gaps = omega arith
 gap_sum (o ∷ row) (span ∷ spans) most same gaps =
     rw (sum_by-cons (λ o. o.weight) o row)
@@ -45,7 +46,8 @@ gap_sum (o ∷ row) (span ∷ spans) most same gaps =
 gap_sum [] (span ∷ spans) most same gaps = absurd (omega arith)
 gap_sum (o ∷ row) [] most same gaps = absurd (omega arith)
 
-pub mean_gap_within : (row : List Outcome) (spans : List Interval) (most : ℕ) → IsValidRow row → length row ≡ length spans → All (λ span. span.hi - span.lo ≤ most) spans → (mean_of row spans).hi - (mean_of row spans).lo ≤ most + 1
+pub mean_gap_within : (row : List Outcome) (spans : List Interval) (most : ℕ) → IsValidRow row → length row ≡ length spans
+    → All (λ span. span.hi - span.lo ≤ most) spans → (mean_of row spans).hi - (mean_of row spans).lo ≤ most + 1
 mean_gap_within row spans most good same gaps =
     let sums = rw good.total at (gap_sum row spans most same gaps) in
     omega (arith, sums)

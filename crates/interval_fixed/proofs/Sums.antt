@@ -44,7 +44,8 @@ rounded_covers u p n covers =
     rw turned (omega (arith, split, scaled, covers))
 
 -- what holds of what f gives for each value holds of each of these
-pub each_mapped : {A B : Type 0} (f : A → B) (P : B → Tree → Type 0) (row : List Outcome) (values : List A) (kids : Kids) → EachKid (λ v t. P (f v) t) row values kids → EachKid P row (map f values) kids
+pub each_mapped : {A B : Type 0} (f : A → B) (P : B → Tree → Type 0) (row : List Outcome) (values : List A) (kids : Kids)
+    → EachKid (λ v t. P (f v) t) row values kids → EachKid P row (map f values) kids
 each_mapped f P [] [] Nil each = each
 each_mapped f P (o ∷ row) (v ∷ values) (Kid w t kids) each = (each.0, each.1, each_mapped f P row values kids each.2)
 each_mapped f P _ _ _ each = absurd each
@@ -52,25 +53,31 @@ each_mapped f P _ _ _ each = absurd each
 -- of whatever leaf gives for the arrivals, in units of which there are scale in one
 module _ (scale : ℕ) (leaf : ℕ → ℕ) where
   -- the sum of lower bounds is below the kids
-  pub below_sum : (row : List Outcome) (values : List ℕ) (kids : Kids) (h : ℕ) → height_of kids ≤ h → EachKid (BelowBy scale leaf) row values kids → weighted row values * 10000 ^ h ≤ scale * weighted_kids leaf kids h
+  pub below_sum : (row : List Outcome) (values : List ℕ) (kids : Kids) (h : ℕ) → height_of kids ≤ h → EachKid (BelowBy scale leaf) row values kids
+      → weighted row values * 10000 ^ h ≤ scale * weighted_kids leaf kids h
   below_sum [] [] Nil h tall each = omega arith
   below_sum (o ∷ row) (v ∷ values) (Kid w t kids) h tall each =
-      rw each.0 (below_step scale o.weight v (weighted_by leaf t h) (weighted row values) (weighted_kids leaf kids h) (10000 ^ h) (each.1 h (omega arith)) (below_sum row values kids h (omega arith) each.2))
+      rw each.0 (below_step scale o.weight v (weighted_by leaf t h) (weighted row values) (weighted_kids leaf kids h) (10000 ^ h)
+      (each.1 h (omega arith)) (below_sum row values kids h (omega arith) each.2))
   below_sum _ _ _ h tall each = absurd each
 
   -- the sum of upper bounds covers the kids
-  pub covers_sum : (row : List Outcome) (values : List ℕ) (kids : Kids) (h : ℕ) → height_of kids ≤ h → EachKid (CoversBy scale leaf) row values kids → scale * weighted_kids leaf kids h ≤ weighted row values * 10000 ^ h
+  pub covers_sum : (row : List Outcome) (values : List ℕ) (kids : Kids) (h : ℕ) → height_of kids ≤ h → EachKid (CoversBy scale leaf) row values kids
+      → scale * weighted_kids leaf kids h ≤ weighted row values * 10000 ^ h
   covers_sum [] [] Nil h tall each = omega arith
   covers_sum (o ∷ row) (v ∷ values) (Kid w t kids) h tall each =
-      rw each.0 (covers_step scale o.weight v (weighted_by leaf t h) (weighted row values) (weighted_kids leaf kids h) (10000 ^ h) (each.1 h (omega arith)) (covers_sum row values kids h (omega arith) each.2))
+      rw each.0 (covers_step scale o.weight v (weighted_by leaf t h) (weighted row values) (weighted_kids leaf kids h) (10000 ^ h)
+      (each.1 h (omega arith)) (covers_sum row values kids h (omega arith) each.2))
   covers_sum _ _ _ h tall each = absurd each
 
   -- the mean rounded down is below the ride
-  pub mean_below : (row : List Outcome) (values : List ℕ) (kids : Kids) (enter exit : ℕ) → EachKid (BelowBy scale leaf) row values kids → BelowBy scale leaf (weighted row values / 10000) (Ride enter exit kids)
+  pub mean_below : (row : List Outcome) (values : List ℕ) (kids : Kids) (enter exit : ℕ) → EachKid (BelowBy scale leaf) row values kids
+      → BelowBy scale leaf (weighted row values / 10000) (Ride enter exit kids)
   mean_below row values kids enter exit each h tall =
       rw (pow_down h (omega arith)) (rounded_below (weighted row values) (10000 ^ (h - 1)) _ (below_sum row values kids (h - 1) (omega arith) each))
 
   -- the mean rounded up covers the ride
-  pub mean_covers : (row : List Outcome) (values : List ℕ) (kids : Kids) (enter exit : ℕ) → EachKid (CoversBy scale leaf) row values kids → CoversBy scale leaf ((weighted row values + 9999) / 10000) (Ride enter exit kids)
+  pub mean_covers : (row : List Outcome) (values : List ℕ) (kids : Kids) (enter exit : ℕ) → EachKid (CoversBy scale leaf) row values kids
+      → CoversBy scale leaf ((weighted row values + 9999) / 10000) (Ride enter exit kids)
   mean_covers row values kids enter exit each h tall =
       rw (pow_down h (omega arith)) (rounded_covers (weighted row values) (10000 ^ (h - 1)) _ (covers_sum row values kids (h - 1) (omega arith) each))

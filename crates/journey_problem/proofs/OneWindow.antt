@@ -64,7 +64,8 @@ same_entries f s t c d start horizon e links =
     same_sum (λ place. length (links_of c place.0) + 1) f s t w e
     ∙ ap (λ (each : PlaceId → ℕ). window_sum each f t w) (fun_ext (λ place. ap (λ (ls : List Way). length ls + 1) (links place.0)))
 
-module _ (f : FeedParts) (s t : ServiceParts) (c d : ChangeParts) (lists : DelayLists) (start horizon : ℕ) (days : SameDays s t) (changes : (place : ℕ) → seconds_of c place ≡ seconds_of d place) (links : (place : ℕ) → links_of c place ≡ links_of d place) where
+module _ (f : FeedParts) (s t : ServiceParts) (c d : ChangeParts) (lists : DelayLists) (start horizon : ℕ) (days : SameDays s t)
+    (changes : (place : ℕ) → seconds_of c place ≡ seconds_of d place) (links : (place : ℕ) → links_of c place ≡ links_of d place) where
   pub one_window : (n m : Parts) (names more : NameLists) → IsNetworkFrom f s c lists start horizon n names → IsNetworkFrom f t d lists start horizon m more → (n ≡ m) × (names ≡ more)
   one_window n m names more a b =
       let w = window_of start horizon in

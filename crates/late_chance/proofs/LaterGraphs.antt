@@ -1,5 +1,6 @@
 -- A graph for a view, with all moments greater by the shift, is one for the network.
-use Rattle.std.proofs.Common.{◌≡◌, ◌≢◌, ℕ, zero, suc, ◌+◌, ◌-◌, ◌<◌, ◌≤◌, Bool, true, false, Option, Some, None, List, [], ◌∷◌, length, map, All, Contains, refl, sym, ap, ◌∙◌, subst, inl, inr, ⊎_elim, arith}
+use Rattle.std.proofs.Common.{◌≡◌, ◌≢◌, ℕ, zero, suc, ◌+◌, ◌-◌, ◌<◌, ◌≤◌, Bool, true, false, Option, Some, None, List, [], ◌∷◌, length, map, All, Contains, refl, sym}
+use Rattle.std.proofs.Common.{ap, ◌∙◌, subst, inl, inr, ⊎_elim, arith}
 use Rattle.std.specs.Prelude.{◌==◌, nat_le, if◌then◌else◌, AllPairs, MatchOption}
 use Rattle.std.proofs.lemmas.Bool.{cases_lt}
 use Rattle.std.proofs.lemmas.List.{length-map}
@@ -173,7 +174,8 @@ module _ (n m : Parts) (shift first : ℕ) (q : Query) (shown : IsShown n m shif
     unfolds fit =
         unfold_from-later n m shift first shown.view shown.valid q.target.0
         (by_place n (pick_at graph.tables)) (by_place m (pick_at (map (later_table shift) graph.tables)))
-        (λ leg x is. ap (λ (p : ℕ). pick_at (map (later_table shift) graph.tables) p (x + shift)) (sym (same_end n m shift first shown.view shown.valid q.target.0 leg is)) ∙ pick_at-later shift graph.tables (end_of n leg) x)
+        (λ leg x is. ap (λ (p : ℕ). pick_at (map (later_table shift) graph.tables) p (x + shift))
+        (sym (same_end n m shift first shown.view shown.valid q.target.0 leg is)) ∙ pick_at-later shift graph.tables (end_of n leg) x)
         (legs fit)
         graph.start q.source.0 q.start.0 (begins fit)
 

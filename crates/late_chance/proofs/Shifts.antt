@@ -22,7 +22,8 @@ use Rattle.late_chance.proofs.SeenFrom.{valid, view}
 use Rattle.late_chance.proofs.Punctual.{punctual_alike}
 
 same_query : (source target : PlaceId) (a b c d : ℕ) → a ≡ b → c ≡ d →
-    ◌≡◌ {A = Query} (record { source = source; target = target; start = record { 0 = a }; deadline = record { 0 = c } }) (record { source = source; target = target; start = record { 0 = b }; deadline = record { 0 = d } })
+    ◌≡◌ {A = Query} (record { source = source; target = target; start = record { 0 = a }; deadline = record { 0 = c } })
+    (record { source = source; target = target; start = record { 0 = b }; deadline = record { 0 = d } })
 same_query source target a b c d e f = rw (e, f) refl
 
 -- a row of a graph that fits is before the last departure

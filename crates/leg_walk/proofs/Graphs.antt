@@ -52,13 +52,15 @@ module _ (n : Parts) (valid : IsValid n) (q : Query) (choice : Leg → ℕ → O
     delays = delays_rise n valid r.leg (leg_of_ride r there)
 
     -- the first row at an outcome's arrival is what is chosen
-    pub first_row : end_of n r.leg ≢ target → (o : Outcome) → Has (outcomes_of n r.leg) o → (next : Leg) → choice r.leg (arrival_of n r.leg o.delay) ≡ Some next → IsFirst r.after (arrival_of n r.leg o.delay) (row_by (arrival_of n r.leg o.delay) next)
+    pub first_row : end_of n r.leg ≢ target → (o : Outcome) → Has (outcomes_of n r.leg) o → (next : Leg)
+        → choice r.leg (arrival_of n r.leg o.delay) ≡ Some next → IsFirst r.after (arrival_of n r.leg o.delay) (row_by (arrival_of n r.leg o.delay) next)
     first_row away o has next is =
         subst (λ (list : List GraphRow). IsFirst list (arrival_of n r.leg o.delay) (row_by (arrival_of n r.leg o.delay) next)) (sym (table_of_ride r there))
         (first_in_table n target choice r.leg delays away o has next is)
 
     -- and what is picked
-    pub picks_taken : (away : end_of n r.leg ≢ target) (o : Outcome) (outcome : Contains (outcomes_of n r.leg) o) → pick_row r.after (arrival_of n r.leg o.delay) ≡ Some (walked.taken r there away o outcome).next
+    pub picks_taken : (away : end_of n r.leg ≢ target) (o : Outcome) (outcome : Contains (outcomes_of n r.leg) o)
+        → pick_row r.after (arrival_of n r.leg o.delay) ≡ Some (walked.taken r there away o outcome).next
     picks_taken away o outcome =
         let t = walked.taken r there away o outcome in
         first_pick r.after (arrival_of n r.leg o.delay) (row_by (arrival_of n r.leg o.delay) t.next) (first_row away o (has_from_contains (outcomes_of n r.leg) o outcome) t.next t.is_chosen)
@@ -81,7 +83,8 @@ module _ (n : Parts) (valid : IsValid n) (q : Query) (choice : Leg → ℕ → O
         )
 
     module _ (kept : IsKeptAfter n target choice r.leg) where
-      each : end_of n r.leg ≢ target → (o : Outcome) → Has (outcomes_of n r.leg) o → IsChosenAt n (end_of n r.leg) (choice r.leg) (arr_of n r.leg.exit.0) (outcomes_of n r.leg) (arrival_of n r.leg o.delay)
+      each : end_of n r.leg ≢ target → (o : Outcome) → Has (outcomes_of n r.leg) o
+          → IsChosenAt n (end_of n r.leg) (choice r.leg) (arr_of n r.leg.exit.0) (outcomes_of n r.leg) (arrival_of n r.leg o.delay)
       each away o has = let t = walked.taken r there away o (contains_from_has (outcomes_of n r.leg) o has) in kept away o has t.next t.is_chosen
 
       ready_row : (row : GraphRow) → Has r.after row → IsReadyRow n (end_of n r.leg) row
@@ -108,7 +111,8 @@ module _ (n : Parts) (valid : IsValid n) (q : Query) (choice : Leg → ℕ → O
             (before_for (choice r.leg) (arr_of n r.leg.exit.0) n (end_of n r.leg) (outcomes_of n r.leg) delays (each away))
       ]
 
-      picks_first : end_of n r.leg ≢ target → (o : Outcome) → Contains (outcomes_of n r.leg) o → pick_row r.after (arrival_of n r.leg o.delay) ≡ pick_in_time n (end_of n r.leg) r.after (arrival_of n r.leg o.delay)
+      picks_first : end_of n r.leg ≢ target → (o : Outcome) → Contains (outcomes_of n r.leg) o
+          → pick_row r.after (arrival_of n r.leg o.delay) ≡ pick_in_time n (end_of n r.leg) r.after (arrival_of n r.leg o.delay)
       picks_first away o outcome =
           let x = arrival_of n r.leg o.delay in
           let has = has_from_contains (outcomes_of n r.leg) o outcome in
@@ -121,7 +125,8 @@ module _ (n : Parts) (valid : IsValid n) (q : Query) (choice : Leg → ℕ → O
       ready_ride = record {
         is_leg = leg_of_ride r there;
         rows = all_from_has (IsReadyRow n (end_of n r.leg)) r.after ready_row;
-        rising = subst (λ (list : List GraphRow). AllPairs (IsBefore n (end_of n r.leg)) list) (sym (table_of_ride r there)) (pairs_from_later (IsBefore n (end_of n r.leg)) (table_of n target choice r.leg) rows_rise);
+        rising = subst (λ (list : List GraphRow). AllPairs (IsBefore n (end_of n r.leg)) list) (sym (table_of_ride r there))
+            (pairs_from_later (IsBefore n (end_of n r.leg)) (table_of n target choice r.leg) rows_rise);
         picks = picks_first;
       }
 

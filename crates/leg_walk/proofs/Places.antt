@@ -19,7 +19,8 @@ pub record IsPlacedNext (n : Parts) (target : ℕ) (by : Option ℕ) (choice : L
   pub placed : IsPlaced n target by choice whole next
 
 module _ (n : Parts) (target : ℕ) (by : Option ℕ) (choice : Leg → ℕ → Option Leg) where
-  pub safe_kid : (f : ℕ → Tree) (row : List Outcome) (place scheduled : ℕ) → SafeAll n target by (kids_after f scheduled row) row place scheduled → (o : Outcome) → Has row o → Safe n target by (f (scheduled + o.delay)) place (scheduled + o.delay)
+  pub safe_kid : (f : ℕ → Tree) (row : List Outcome) (place scheduled : ℕ) → SafeAll n target by (kids_after f scheduled row) row place scheduled
+      → (o : Outcome) → Has row o → Safe n target by (f (scheduled + o.delay)) place (scheduled + o.delay)
   safe_kid f [] place scheduled safe o has = absurd has
   safe_kid f (head ∷ row) place scheduled safe o (inl is) = subst (λ (u : Outcome). Safe n target by (f (scheduled + u.delay)) place (scheduled + u.delay)) (sym is) safe.1
   safe_kid f (head ∷ row) place scheduled safe o (inr has) = safe_kid f row place scheduled safe.2 o has
@@ -47,7 +48,9 @@ module _ (n : Parts) (target : ℕ) (by : Option ℕ) (choice : Leg → ℕ → 
     };
   }
 
-  next_at : (whole : Tree) (rides : ℕ) (leg : Leg) (arrival : ℕ) → end_of n leg ≢ target → Safe n target by (unfold_after n target choice rides leg arrival) (end_of n leg) arrival → ((other : Leg) → Stands other (unfold_after n target choice rides leg arrival) → Stands other whole) → IsPlacedNext n target by choice whole leg arrival
+  next_at : (whole : Tree) (rides : ℕ) (leg : Leg) (arrival : ℕ) → end_of n leg ≢ target
+      → Safe n target by (unfold_after n target choice rides leg arrival) (end_of n leg) arrival
+      → ((other : Leg) → Stands other (unfold_after n target choice rides leg arrival) → Stands other whole) → IsPlacedNext n target by choice whole leg arrival
   next_at whole zero leg arrival away safe stands =
       let place = end_of n leg in
       let is : unfold_after n target choice 0 leg arrival ≡ Stuck place arrival = rw (ne_eqb place target away) in
@@ -60,7 +63,8 @@ module _ (n : Parts) (target : ℕ) (by : Option ℕ) (choice : Leg → ℕ → 
       (λ other there. stands other (subst (λ (tree : Tree). Stands other tree) (sym is) there))
 
   -- after each outcome of a placed leg a placed leg is chosen
-  pub next_after : (whole : Tree) (leg : Leg) → IsPlaced n target by choice whole leg → end_of n leg ≢ target → (o : Outcome) → Has (outcomes_of n leg) o → IsPlacedNext n target by choice whole leg (arrival_of n leg o.delay)
+  pub next_after : (whole : Tree) (leg : Leg) → IsPlaced n target by choice whole leg → end_of n leg ≢ target → (o : Outcome)
+      → Has (outcomes_of n leg) o → IsPlacedNext n target by choice whole leg (arrival_of n leg o.delay)
   next_after whole leg placed away o has =
       let f = unfold_after n target choice placed.rides leg in
       next_at whole placed.rides leg (arrival_of n leg o.delay) away

@@ -31,10 +31,12 @@ pub record IsReaching (n : Parts) (target : ℕ) (by : Option ℕ) (choice : Leg
   pub closed : (leg : Leg) → Has seen leg → (row : GraphRow) → Has (table_of n target choice leg) row → Known todo seen row.leg
 
 -- the tree of a choice begins with its start leg
-pub starts_by : (n : Parts) (q : Query) (choice : Leg → ℕ → Option Leg) (start : Leg) → q.source.0 ≢ q.target.0 → unfolded n q choice (Some start) ≡ ride_of n (unfold_after n q.target.0 choice (count n - 1)) start
+pub starts_by : (n : Parts) (q : Query) (choice : Leg → ℕ → Option Leg) (start : Leg) → q.source.0 ≢ q.target.0
+    → unfolded n q choice (Some start) ≡ ride_of n (unfold_after n q.target.0 choice (count n - 1)) start
 starts_by n q choice start differ = rw (ne_eqb q.source.0 q.target.0 differ) refl
 
-pub start_placed : (n : Parts) (q : Query) (choice : Leg → ℕ → Option Leg) (start : Leg) → q.source.0 ≢ q.target.0 → (safe : IsSafeForSome n q (unfolded n q choice (Some start))) → IsPlaced n q.target.0 (Some safe.0) choice (unfolded n q choice (Some start)) start
+pub start_placed : (n : Parts) (q : Query) (choice : Leg → ℕ → Option Leg) (start : Leg) → q.source.0 ≢ q.target.0
+    → (safe : IsSafeForSome n q (unfolded n q choice (Some start))) → IsPlaced n q.target.0 (Some safe.0) choice (unfolded n q choice (Some start)) start
 start_placed n q choice start differ safe =
     let begins = starts_by n q choice start differ in
     let own = subst (λ (tree : Tree). SafeStart n q.target.0 (Some safe.0) tree q.source.0 q.start.0) begins safe.1 in
@@ -135,7 +137,8 @@ module _ (n : Parts) (target : ℕ) (by : Option ℕ) (choice : Leg → ℕ → 
     visited todo after seen leg old moved = visited_by todo after seen leg (list_any (is_at (leg_cmp leg)) seen) refl old moved
 
     -- before a visit
-    pub popped : (all todo : List Leg) (seen : List Leg) (leg : Leg) → IsReaching n target by choice whole start all seen → all ≡ todo ++ leg ∷ [] → IsReaching n target by choice whole start (todo ++ leg ∷ []) seen
+    pub popped : (all todo : List Leg) (seen : List Leg) (leg : Leg) → IsReaching n target by choice whole start all seen → all ≡ todo ++ leg ∷ []
+        → IsReaching n target by choice whole start (todo ++ leg ∷ []) seen
     popped all todo seen leg at is = subst (λ (list : List Leg). IsReaching n target by choice whole start list seen) is at
 
     pub popped_there : (todo : List Leg) (seen : List Leg) (leg : Leg) → IsReaching n target by choice whole start (todo ++ leg ∷ []) seen → leg.exit.0 < count n

@@ -20,7 +20,8 @@ pub ride_there : (rides : List Ride) (leg : Leg) (x : ℕ) (next : Leg) → pick
 ride_there [] leg x next picks = absurd (cc)
 ride_there (r ∷ rides) leg x next picks = by_test ((r.leg.enter.0 == leg.enter.0) && (r.leg.exit.0 == leg.exit.0)) refl (ride_there rides leg x next) picks
   where
-    by_test : (test : Bool) → ((r.leg.enter.0 == leg.enter.0) && (r.leg.exit.0 == leg.exit.0)) ≡ test → (pick_after rides leg x ≡ Some next → IsRideOf rides leg) → pick_row (if test then r.after else rows_after rides leg) x ≡ Some next → IsRideOf (r ∷ rides) leg
+    by_test : (test : Bool) → ((r.leg.enter.0 == leg.enter.0) && (r.leg.exit.0 == leg.exit.0)) ≡ test
+        → (pick_after rides leg x ≡ Some next → IsRideOf rides leg) → pick_row (if test then r.after else rows_after rides leg) x ≡ Some next → IsRideOf (r ∷ rides) leg
     by_test true is more picks = record { found = r; has = inl refl; same_leg = leg_test r.leg leg is; same_rows = ap (λ (test : Bool). if test then r.after else rows_after rides leg) is }
     by_test false is more picks =
         let rest = more picks in

@@ -51,12 +51,14 @@ picked_has (row ∷ rows) x leg is = elim (cases_lt row.by.0 x) [
       (row, inl refl, same_next (pick_row (row ∷ rows) x) row.leg leg e is)
 ]
 
-pub in_time_here : (n : Parts) (place : ℕ) (row : GraphRow) (rows : List GraphRow) (x limit : ℕ) → limit_of n place row.leg ≡ Some limit → x ≤ limit → pick_in_time n place (row ∷ rows) x ≡ Some row.leg
+pub in_time_here : (n : Parts) (place : ℕ) (row : GraphRow) (rows : List GraphRow) (x limit : ℕ) → limit_of n place row.leg ≡ Some limit → x ≤ limit
+    → pick_in_time n place (row ∷ rows) x ≡ Some row.leg
 in_time_here n place row rows x limit is early =
     let test : is_within (limit_of n place row.leg) x ≡ true = ap (λ (l : Option ℕ). is_within l x) is ∙ le-leb x limit early in
     ap (λ (b : Bool). if b then Some row.leg else pick_in_time n place rows x) test
 
-pub in_time_next : (n : Parts) (place : ℕ) (row : GraphRow) (rows : List GraphRow) (x limit : ℕ) → limit_of n place row.leg ≡ Some limit → limit < x → pick_in_time n place (row ∷ rows) x ≡ pick_in_time n place rows x
+pub in_time_next : (n : Parts) (place : ℕ) (row : GraphRow) (rows : List GraphRow) (x limit : ℕ) → limit_of n place row.leg ≡ Some limit → limit < x
+    → pick_in_time n place (row ∷ rows) x ≡ pick_in_time n place rows x
 in_time_next n place row rows x limit is late =
     let test : is_within (limit_of n place row.leg) x ≡ false = ap (λ (l : Option ℕ). is_within l x) is ∙ lt-leb x limit late in
     ap (λ (b : Bool). if b then Some row.leg else pick_in_time n place rows x) test
@@ -82,7 +84,9 @@ module _ (choice : ℕ → Option Leg) (scheduled : ℕ) where
   wider : (head : Outcome) (os : List Outcome) (row : GraphRow) → IsRowOf choice scheduled os row → IsRowOf choice scheduled (head ∷ os) row
   wider head os row m = record { o = m.o; has = inr m.has; next = m.next; is_chosen = m.is_chosen; is = m.is }
 
-  member_by : (head : Outcome) (os : List Outcome) (row : GraphRow) (found : Option Leg) → choice (scheduled + head.delay) ≡ found → (Has (rows_for choice scheduled os) row → IsRowOf choice scheduled os row) → Has (with_row (scheduled + head.delay) found (rows_for choice scheduled os)) row → IsRowOf choice scheduled (head ∷ os) row
+  member_by : (head : Outcome) (os : List Outcome) (row : GraphRow) (found : Option Leg) → choice (scheduled + head.delay) ≡ found
+      → (Has (rows_for choice scheduled os) row → IsRowOf choice scheduled os row)
+      → Has (with_row (scheduled + head.delay) found (rows_for choice scheduled os)) row → IsRowOf choice scheduled (head ∷ os) row
   member_by head os row None is more has = wider head os row (more has)
   member_by head os row (Some next) is more (inl same) = record { o = head; has = inl refl; next = next; is_chosen = is; is = same }
   member_by head os row (Some next) is more (inr has) = wider head os row (more has)
@@ -91,11 +95,13 @@ module _ (choice : ℕ → Option Leg) (scheduled : ℕ) where
   member [] row has = absurd has
   member (head ∷ os) row has = member_by head os row (choice (scheduled + head.delay)) refl (member os row) has
 
-  head_row : (head : Outcome) (os : List Outcome) (found : Option Leg) → choice (scheduled + head.delay) ≡ found → rows_for choice scheduled (head ∷ os) ≡ with_row (scheduled + head.delay) found (rows_for choice scheduled os)
+  head_row : (head : Outcome) (os : List Outcome) (found : Option Leg) → choice (scheduled + head.delay) ≡ found
+      → rows_for choice scheduled (head ∷ os) ≡ with_row (scheduled + head.delay) found (rows_for choice scheduled os)
   head_row head os found is = ap (λ (f : Option Leg). with_row (scheduled + head.delay) f (rows_for choice scheduled os)) is
 
   -- the table's rows are picked at their own arrivals
-  pub first_for : (os : List Outcome) → Later (λ a b. a.delay < b.delay) os → (o : Outcome) → Has os o → (leg : Leg) → choice (scheduled + o.delay) ≡ Some leg → IsFirst (rows_for choice scheduled os) (scheduled + o.delay) (row_by (scheduled + o.delay) leg)
+  pub first_for : (os : List Outcome) → Later (λ a b. a.delay < b.delay) os → (o : Outcome) → Has os o → (leg : Leg)
+      → choice (scheduled + o.delay) ≡ Some leg → IsFirst (rows_for choice scheduled os) (scheduled + o.delay) (row_by (scheduled + o.delay) leg)
   first_for [] rising o has leg is = absurd has
   first_for (head ∷ os) rising o (inl same) leg is =
       let here : choice (scheduled + head.delay) ≡ Some leg = subst (λ (u : Outcome). choice (scheduled + u.delay) ≡ Some leg) same is in
@@ -107,7 +113,8 @@ module _ (choice : ℕ → Option Leg) (scheduled : ℕ) where
       subst (λ (list : List GraphRow). IsFirst list (scheduled + o.delay) (row_by (scheduled + o.delay) leg)) (sym (head_row head os (choice (scheduled + head.delay)) refl))
       (by_found (choice (scheduled + head.delay)) (first_for os rising.1 o has leg is))
     where
-      by_found : (found : Option Leg) → IsFirst (rows_for choice scheduled os) (scheduled + o.delay) (row_by (scheduled + o.delay) leg) → IsFirst (with_row (scheduled + head.delay) found (rows_for choice scheduled os)) (scheduled + o.delay) (row_by (scheduled + o.delay) leg)
+      by_found : (found : Option Leg) → IsFirst (rows_for choice scheduled os) (scheduled + o.delay) (row_by (scheduled + o.delay) leg)
+          → IsFirst (with_row (scheduled + head.delay) found (rows_for choice scheduled os)) (scheduled + o.delay) (row_by (scheduled + o.delay) leg)
       by_found None more = more
       by_found (Some other) more = inr (omega (arith, rising.0 o has), more)
 
@@ -116,7 +123,9 @@ module _ (choice : ℕ → Option Leg) (scheduled : ℕ) where
     fewer head os x c = record { next = c.next; is_chosen = c.is_chosen; limit = c.limit; is_limit = c.is_limit; in_time = c.in_time; kept = λ o has after within. c.kept o (inr has) after within }
 
     -- the first row that is in time has the leg that is chosen
-    pub in_time_for : (os : List Outcome) → Later (λ a b. a.delay < b.delay) os → ((o : Outcome) → Has os o → IsChosenAt n place choice scheduled os (scheduled + o.delay)) → (o : Outcome) → Has os o → (leg : Leg) → choice (scheduled + o.delay) ≡ Some leg → pick_in_time n place (rows_for choice scheduled os) (scheduled + o.delay) ≡ Some leg
+    pub in_time_for : (os : List Outcome) → Later (λ a b. a.delay < b.delay) os
+        → ((o : Outcome) → Has os o → IsChosenAt n place choice scheduled os (scheduled + o.delay)) → (o : Outcome) → Has os o → (leg : Leg)
+        → choice (scheduled + o.delay) ≡ Some leg → pick_in_time n place (rows_for choice scheduled os) (scheduled + o.delay) ≡ Some leg
     in_time_for [] rising each o has leg is = absurd has
     in_time_for (head ∷ os) rising each o (inl same) leg is =
         let c = each o (inl same) in
@@ -136,7 +145,9 @@ module _ (choice : ℕ → Option Leg) (scheduled : ℕ) where
           | inr early ↦ in_time_here n place row (rows_for choice scheduled os) (scheduled + o.delay) before.limit before.is_limit early ∙ sym (before.kept o (inr has) later early) ∙ is
         ]
 
-    before_row : (os : List Outcome) (x : ℕ) (c : IsChosenAt n place choice scheduled os x) (o : Outcome) → Has os o → x < scheduled + o.delay → IsChosenAt n place choice scheduled os (scheduled + o.delay) → (next : Leg) → choice (scheduled + o.delay) ≡ Some next → IsBefore n place (row_by x c.next) (row_by (scheduled + o.delay) next)
+    before_row : (os : List Outcome) (x : ℕ) (c : IsChosenAt n place choice scheduled os x) (o : Outcome) → Has os o → x < scheduled + o.delay
+        → IsChosenAt n place choice scheduled os (scheduled + o.delay) → (next : Leg) → choice (scheduled + o.delay) ≡ Some next
+        → IsBefore n place (row_by x c.next) (row_by (scheduled + o.delay) next)
     before_row os x c o has later other next is =
         let two : other.next ≡ next = same_next (choice (scheduled + o.delay)) other.next next other.is_chosen is in
         let its : limit_of n place next ≡ Some other.limit = ap (limit_of n place) (sym two) ∙ other.is_limit in
@@ -161,7 +172,8 @@ module _ (choice : ℕ → Option Leg) (scheduled : ℕ) where
         ]
 
     -- the table's rows stand as they may
-    pub before_for : (os : List Outcome) → Later (λ a b. a.delay < b.delay) os → ((o : Outcome) → Has os o → IsChosenAt n place choice scheduled os (scheduled + o.delay)) → Later (IsBefore n place) (rows_for choice scheduled os)
+    pub before_for : (os : List Outcome) → Later (λ a b. a.delay < b.delay) os
+        → ((o : Outcome) → Has os o → IsChosenAt n place choice scheduled os (scheduled + o.delay)) → Later (IsBefore n place) (rows_for choice scheduled os)
     before_for [] rising each = tt
     before_for (head ∷ os) rising each =
         let c = each head (inl refl) in
@@ -169,11 +181,13 @@ module _ (choice : ℕ → Option Leg) (scheduled : ℕ) where
         let m = member os y has in
         subst (λ (z : GraphRow). IsBefore n place (row_by (scheduled + head.delay) c.next) z) (sym m.is)
         (before_row (head ∷ os) (scheduled + head.delay) c m.o (inr m.has) (omega (arith, rising.0 m.o m.has)) (each m.o (inr m.has)) m.next m.is_chosen) in
-        let all : Later (IsBefore n place) (row_by (scheduled + head.delay) c.next ∷ rows_for choice scheduled os) = (first, before_for os rising.1 (λ u h. fewer head os (scheduled + u.delay) (each u (inr h)))) in
+        let all : Later (IsBefore n place) (row_by (scheduled + head.delay) c.next ∷ rows_for choice scheduled os) =
+        (first, before_for os rising.1 (λ u h. fewer head os (scheduled + u.delay) (each u (inr h)))) in
         subst (λ (list : List GraphRow). Later (IsBefore n place) list) (sym (head_row head os (Some c.next) c.is_chosen)) all
 
   -- one row for each outcome, by its arrival, where a leg is chosen after each
-  pub by_for : (os : List Outcome) → ((o : Outcome) → Has os o → (leg : Leg) × (choice (scheduled + o.delay) ≡ Some leg)) → map (λ row. row.by.0) (rows_for choice scheduled os) ≡ map (λ o. scheduled + o.delay) os
+  pub by_for : (os : List Outcome) → ((o : Outcome) → Has os o → (leg : Leg) × (choice (scheduled + o.delay) ≡ Some leg))
+      → map (λ row. row.by.0) (rows_for choice scheduled os) ≡ map (λ o. scheduled + o.delay) os
   by_for [] each = refl
   by_for (head ∷ os) each =
       let c = each head (inl refl) in
@@ -202,7 +216,9 @@ module _ (n : Parts) (target : ℕ) (choice : Leg → ℕ → Option Leg) (leg :
   ]
 
   -- the table picks what is chosen after an outcome
-  pub first_in_table : Later (λ a b. a.delay < b.delay) (outcomes_of n leg) → end_of n leg ≢ target → (o : Outcome) → Has (outcomes_of n leg) o → (next : Leg) → choice leg (arr_of n leg.exit.0 + o.delay) ≡ Some next → IsFirst (table_of n target choice leg) (arr_of n leg.exit.0 + o.delay) (row_by (arr_of n leg.exit.0 + o.delay) next)
+  pub first_in_table : Later (λ a b. a.delay < b.delay) (outcomes_of n leg) → end_of n leg ≢ target → (o : Outcome) → Has (outcomes_of n leg) o
+      → (next : Leg) → choice leg (arr_of n leg.exit.0 + o.delay) ≡ Some next
+      → IsFirst (table_of n target choice leg) (arr_of n leg.exit.0 + o.delay) (row_by (arr_of n leg.exit.0 + o.delay) next)
   first_in_table rising away o has next is =
       subst (λ (list : List GraphRow). IsFirst list (arr_of n leg.exit.0 + o.delay) (row_by (arr_of n leg.exit.0 + o.delay) next)) (sym (table_away away))
       (first_for (choice leg) (arr_of n leg.exit.0) (outcomes_of n leg) rising o has next is)

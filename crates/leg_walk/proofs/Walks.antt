@@ -99,7 +99,8 @@ module _ (n : Parts) (valid : IsValid n) (q : Query) (choice : Leg → ℕ → O
   picked : (leg : Leg) (x : ℕ) → IsComing leg x → end_of n leg ≢ target → IsPicked leg x
   picked leg x coming away = subst (λ (y : ℕ). IsPicked leg y) (sym coming.at) (picked_at leg coming.has away coming.o (has_from_contains (outcomes_of n leg) coming.o coming.there))
 
-  goes_on : (leg : Leg) (x : ℕ) (own : Leg) → IsComing leg x → end_of n leg ≢ target → pick_after rides leg x ≡ Some own → (o : Outcome) → Contains (outcomes_of n own) o → IsComing own (arrival_of n own o.delay)
+  goes_on : (leg : Leg) (x : ℕ) (own : Leg) → IsComing leg x → end_of n leg ≢ target → pick_after rides leg x ≡ Some own → (o : Outcome)
+      → Contains (outcomes_of n own) o → IsComing own (arrival_of n own o.delay)
   goes_on leg x own coming away is o there =
       let p = picked leg x coming away in
       let same : p.own ≡ own = same_next (pick_after rides leg x) p.own own p.is_picked is in
@@ -127,7 +128,8 @@ module _ (n : Parts) (valid : IsValid n) (q : Query) (choice : Leg → ℕ → O
       record { next = t.next; is_chosen = t.is_chosen; is_leg = t.placed.is_leg; boards = t.boards }
 
   closed : (r : Ride) → Contains rides r → (row : GraphRow) → Contains r.after row → HasRideOf rides row.leg
-  closed = at_ride (λ r. (row : GraphRow) → Contains r.after row → HasRideOf rides row.leg) (λ leg has row there. has_ride row.leg (reached.closed leg has row (has_from_contains (table_of n target choice leg) row there)))
+  closed = at_ride (λ r. (row : GraphRow) → Contains r.after row → HasRideOf rides row.leg)
+      (λ leg has row there. has_ride row.leg (reached.closed leg has row (has_from_contains (table_of n target choice leg) row there)))
 
   covered : (leg : Leg) → Stands leg whole → HasRideOf rides leg
   covered leg there =

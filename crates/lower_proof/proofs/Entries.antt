@@ -1,5 +1,6 @@
 -- The entries of a board, one connection and one way after the other, and in order.
-use Rattle.std.proofs.Common.{◌≡◌, ◌≢◌, ℕ, zero, suc, ◌+◌, ◌-◌, ◌<◌, ◌≤◌, ◌⊎◌, List, [], ◌∷◌, ◌++◌, length, get_or, set, reverse, slice_get, Option, Some, IsTrue, true, false, ltb, eqb, arith, ⊎_elim, inl, inr, sym, ◌∙◌, ap, subst, refl, get_or-set_other, get_or-set_same, zero}
+use Rattle.std.proofs.Common.{◌≡◌, ◌≢◌, ℕ, zero, suc, ◌+◌, ◌-◌, ◌<◌, ◌≤◌, ◌⊎◌, List, [], ◌∷◌, ◌++◌, length, get_or, set, reverse, slice_get, Option, Some, IsTrue, true}
+use Rattle.std.proofs.Common.{false, ltb, eqb, arith, ⊎_elim, inl, inr, sym, ◌∙◌, ap, subst, refl, get_or-set_other, get_or-set_same, zero}
 use Rattle.std.specs.declared.cmp.Ordering.{Ordering}
 use Rattle.std.specs.Ordering.{is_lt, nat_cmp, ordering_then}
 use Rattle.std.specs.List.Sorted.{IsPermutation, IsSorted}
@@ -235,7 +236,8 @@ sorted_more n last k boards board inside moved falls fresh sorted =
       len = length-set boards k board ∙ sorted.len;
       entries = λ p within. elim (cases_eq p k) [
         | inl is ↦ subst (λ r. AreEntries n last r (count n) (board_at (set boards k board) r).entries
-            × ((board_at (set boards k board) r).least ≡ [])) (sym is) (rw here (entries_permuted n last k (count n) (board_at boards k).entries board.entries moved (sorted.entries k inside).0, fresh))
+            × ((board_at (set boards k board) r).least ≡ [])) (sym is)
+            (rw here (entries_permuted n last k (count n) (board_at boards k).entries board.entries moved (sorted.entries k inside).0, fresh))
         | inr differ ↦ rw (there p differ) (sorted.entries p (omega (arith, length-set boards k board)))
       ];
       falls = λ p below. elim (cases_eq p k) [

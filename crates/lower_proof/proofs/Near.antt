@@ -86,8 +86,14 @@ module _ (n : Parts) (valid : IsValid n) (q : Query) (values : List (Option ℕ)
       let good : IsValidRow (outcomes n j) = valid.rows (connection n j).class.0 (valid.connections j leg.exit).class_in in
       let all = near_all m k near few (to_of n j) (arr_of n j) later (outcomes n j) via.least via.are_least in
       let covers = mean_covers nanos_per_second arrival_of (outcomes n j) (map (λ w. w + k) via.least) all.0 c j all.2 in
-      let near_mean = raised_mean (outcomes n j) via.least k good (as_many (to_of n j) (arr_of n j) (outcomes n j) via.least via.are_least) in
-      (j, all.0, leg, all.1, covers_more nanos_per_second arrival_of ((weighted (outcomes n j) (map (λ w. w + k) via.least) + 9999) / 10000) (v + (k + 1)) (Ride c j all.0) (omega (arith, near_mean, via.mean)) covers)
+      let near_mean = raised_mean (outcomes n j) via.least k good (as_many (to_of n j) (arr_of n j) (outcomes n j) via.least via.are_least) in (
+        j,
+        all.0,
+        leg,
+        all.1,
+        covers_more nanos_per_second arrival_of ((weighted (outcomes n j) (map (λ w. w + k) via.least) + 9999) / 10000)
+            (v + (k + 1)) (Ride c j all.0) (omega (arith, near_mean, via.mean)) covers,
+      )
 
   done_near : (x v more : ℕ) → v ≡ 1000000000 * x → Covers (v + more) (Done x)
   done_near x v more is = covers_more nanos_per_second arrival_of v (v + more) (Done x) (omega arith) (λ h tall. rw is (omega (arith, mul_assoc 1000000000 x (10000 ^ h))))

@@ -34,7 +34,9 @@ use Rattle.lower_proof.specs.declared.reader.ProofFault.{ProofFault}
 use Rattle.lower_proof.specs.declared.reader.ProofFault.TheVariants.{Row, NotRising}
 use Rattle.lower_proof.specs.Certificates.{value_of}
 use Rattle.lower_proof.specs.Texts.{bounds_record, value_record, value_records, proof_text}
-use Rattle.lower_proof.specs.Reading.{bounds_numbers, bounds_row_in, bounds_by, bounds_in, value_numbers, value_row_in, connection_by, connection_in, value_in, told_after, told_by, told_in, value_row, connection_before, fault_of, value_fault, IsFaultAfter, AreTold, IsTold, IsReadAs, IsReadBack}
+use Rattle.lower_proof.specs.Reading.{bounds_numbers, bounds_row_in, bounds_by, bounds_in, value_numbers, value_row_in, connection_by, connection_in, value_in}
+use Rattle.lower_proof.specs.Reading.{told_after, told_by, told_in, value_row, connection_before, fault_of, value_fault, IsFaultAfter, AreTold, IsTold, IsReadAs}
+use Rattle.lower_proof.specs.Reading.{IsReadBack}
 
 abbrev query_of : PlaceId → PlaceId → Moment → Moment → Query
 query_of source target start deadline = record { source = source; target = target; start = start; deadline = deadline }

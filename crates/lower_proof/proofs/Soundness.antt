@@ -55,8 +55,12 @@ module _ (n : Parts) (q : Query) (values : List (Option ℕ)) where
           let all = bound_all kids (outcomes n j) (to_of n j) (arr_of n j) safe.3 in
           let search = least_boardable n values p x in
           let via : IsVia n q values j (weighted (outcomes n j) all.0 / 10000) = record { leave = safe.1.leave; least = all.0; are_least = all.1; mean = refl } in
-          let ride = ride_bound (IsBoardable n p x) p x i j (weighted (outcomes n j) all.0 / 10000) search.0 safe.0 search.1 safe.1 safe.2 via in
-          (ride.0, ride.1, below_less nanos_per_second arrival ride.0 (weighted (outcomes n j) all.0 / 10000) (Ride i j kids) ride.2 (mean_below nanos_per_second arrival (outcomes n j) all.0 kids i j all.2))
+          let ride = ride_bound (IsBoardable n p x) p x i j (weighted (outcomes n j) all.0 / 10000) search.0 safe.0 search.1 safe.1 safe.2 via in (
+            ride.0,
+            ride.1,
+            below_less nanos_per_second arrival ride.0 (weighted (outcomes n j) all.0 / 10000) (Ride i j kids) ride.2
+                (mean_below nanos_per_second arrival (outcomes n j) all.0 kids i j all.2),
+          )
       bound_at (Stuck at y) p x safe = absurd safe
 
       -- after each outcome
@@ -77,6 +81,10 @@ module _ (n : Parts) (q : Query) (values : List (Option ℕ)) where
         let all = bound_all kids (outcomes n j) (to_of n j) (arr_of n j) safe.3 in
         let search = least_at_start n values q.source.0 q.start.0 in
         let via : IsVia n q values j (weighted (outcomes n j) all.0 / 10000) = record { leave = safe.1.leave; least = all.0; are_least = all.1; mean = refl } in
-        let ride = ride_bound (IsBoardableAtStart n q.source.0 q.start.0) q.source.0 q.start.0 i j (weighted (outcomes n j) all.0 / 10000) search.0 safe.0 search.1 safe.1 safe.2 via in
-        (ride.0, ride.1, below_less nanos_per_second arrival ride.0 (weighted (outcomes n j) all.0 / 10000) (Ride i j kids) ride.2 (mean_below nanos_per_second arrival (outcomes n j) all.0 kids i j all.2))
+        let ride = ride_bound (IsBoardableAtStart n q.source.0 q.start.0) q.source.0 q.start.0 i j (weighted (outcomes n j) all.0 / 10000) search.0 safe.0 search.1 safe.1 safe.2 via in (
+          ride.0,
+          ride.1,
+          below_less nanos_per_second arrival ride.0 (weighted (outcomes n j) all.0 / 10000) (Ride i j kids) ride.2
+              (mean_below nanos_per_second arrival (outcomes n j) all.0 kids i j all.2),
+        )
     sound (Stuck at y) safe = absurd safe

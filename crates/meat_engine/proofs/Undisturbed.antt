@@ -27,7 +27,8 @@ module _ (told : Option Folder) (limits : Limits) (words : List (List ℕ)) (rep
   refused : (fault : Fault) → Outcome told limits words report old new Tells (Some fault) → fault ≢ Write → IsRefused told limits words report Tells fault
   refused fault o n = (subst (λ (e : Ending). OutcomeBy e told limits words report old new Tells (Some fault)) (refused_ending fault n) o).1
 
-  caused : (fault : Fault) → fault ≢ NoMemory → (wanted : Wanted) → job_of words ≡ Ok wanted → (known : Option NamedParts) → HasCause told limits words known fault → FailsJob told limits wanted known fault
+  caused : (fault : Fault) → fault ≢ NoMemory → (wanted : Wanted) → job_of words ≡ Ok wanted → (known : Option NamedParts)
+      → HasCause told limits words known fault → FailsJob told limits wanted known fault
   caused fault m wanted h known (inl e) = absurd (m e)
   caused fault m wanted h known (inr (inl (refusal, e, k))) = absurd (no_refusal words wanted refusal h k)
   caused fault m wanted h known (inr (inr (other, k, why))) = subst (λ (w : Wanted). FailsJob told limits w known fault) (one_job words other wanted k h) why

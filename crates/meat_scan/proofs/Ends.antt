@@ -44,32 +44,40 @@ option_map-option_map : {V : Type 0} (o : Option (Row V)) → option_map (λ (ch
 option_map-option_map None = refl
 option_map-option_map (Some row) = refl
 
-module _ {V : Type 0} (n : Parts) (target deadline : ℕ) (choice : ℕ → ℕ → Option Leg) (rows : ℕ → List (Row V)) (by_rows : (place arrival : ℕ) → choice place arrival ≡ option_map (λ row. row.leg) (picked arrival (rows place))) where
+module _ {V : Type 0} (n : Parts) (target deadline : ℕ) (choice : ℕ → ℕ → Option Leg) (rows : ℕ → List (Row V))
+    (by_rows : (place arrival : ℕ) → choice place arrival ≡ option_map (λ row. row.leg) (picked arrival (rows place))) where
   -- what is unfolded after a leg, over so many rides
   abbrev after_leg : ℕ → Leg → ℕ → Tree
   after_leg rides leg arrival = unfold_after n target (by_place n choice) rides leg arrival
 
   -- the ride of a leg, by what its kids are
-  ride_of-kids : (enter exit : ℕ) (kids : Kids) (rides : ℕ) (leg : Leg) → leg.enter.0 ≡ enter → leg.exit.0 ≡ exit → kids_after (after_leg rides leg) (arr_of n exit) (outcomes n exit) ≡ kids → ride_of n (after_leg rides) leg ≡ Ride enter exit kids
+  ride_of-kids : (enter exit : ℕ) (kids : Kids) (rides : ℕ) (leg : Leg) → leg.enter.0 ≡ enter → leg.exit.0 ≡ exit
+      → kids_after (after_leg rides leg) (arr_of n exit) (outcomes n exit) ≡ kids → ride_of n (after_leg rides) leg ≡ Ride enter exit kids
   ride_of-kids enter exit kids rides leg enters exits same =
       let after = λ (leave : ℕ). kids_after (after_leg rides leg) (arr_of n leave) (outcomes n leave) in
       ap (λ i. Ride i leg.exit.0 (after leg.exit.0)) enters ∙ ap (λ j. Ride enter j (after j)) exits ∙ ap (Ride enter exit) same
 
   mutual
     -- a chosen and safe tree of at most so many rides is what is unfolded
-    pub unfold_after-chosen : (tree : Tree) (rides : ℕ) (leg : Leg) (place arrival : ℕ) → end_of n leg ≡ place → height tree ≤ rides → Safe n target (Some deadline) tree place arrival → IsChosen n target rows tree place arrival → after_leg rides leg arrival ≡ tree
-    unfold_after-chosen (Done moment) zero leg place arrival ends low safe is = let at = ends ∙ is.0 in let e : after_leg zero leg arrival ≡ Done arrival = grind (arith, nat_tests) in e ∙ ap Done (sym is.1)
-    unfold_after-chosen (Done moment) (suc rides) leg place arrival ends low safe is = let at = ends ∙ is.0 in let e : after_leg (suc rides) leg arrival ≡ Done arrival = grind (arith, nat_tests) in e ∙ ap Done (sym is.1)
+    pub unfold_after-chosen : (tree : Tree) (rides : ℕ) (leg : Leg) (place arrival : ℕ) → end_of n leg ≡ place → height tree ≤ rides
+        → Safe n target (Some deadline) tree place arrival → IsChosen n target rows tree place arrival → after_leg rides leg arrival ≡ tree
+    unfold_after-chosen (Done moment) zero leg place arrival ends low safe is = let at = ends
+        ∙ is.0 in let e : after_leg zero leg arrival ≡ Done arrival = grind (arith, nat_tests) in e ∙ ap Done (sym is.1)
+    unfold_after-chosen (Done moment) (suc rides) leg place arrival ends low safe is = let at = ends
+        ∙ is.0 in let e : after_leg (suc rides) leg arrival ≡ Done arrival = grind (arith, nat_tests) in e ∙ ap Done (sym is.1)
     unfold_after-chosen (Ride enter exit kids) zero leg place arrival ends low safe is = absurd (omega arith)
     unfold_after-chosen (Ride enter exit kids) (suc rides) leg place arrival ends low safe is =
         let away : end_of n leg ≢ target = λ at. is.0 (sym ends ∙ at) in
         let e : after_leg (suc rides) leg arrival ≡ ride_or_stuck n (after_leg rides) (by_place n choice leg arrival) (end_of n leg) arrival = grind (arith, nat_tests) in
         let picks : by_place n choice leg arrival ≡ Some is.1.row.leg = ap (λ p. choice p arrival) ends ∙ by_rows place arrival ∙ ap (option_map (λ row. row.leg)) is.1.is_picked in
         e ∙ ap (λ (first : Option Leg). ride_or_stuck n (after_leg rides) first (end_of n leg) arrival) picks
-        ∙ ride_of-kids enter exit kids rides is.1.row.leg is.1.enters is.1.exits (kids_after-chosen kids rides is.1.row.leg (outcomes n exit) (to_of n exit) (arr_of n exit) (ap (to_of n) is.1.exits) (omega arith) safe.3 is.2)
+        ∙ ride_of-kids enter exit kids rides is.1.row.leg is.1.enters is.1.exits
+        (kids_after-chosen kids rides is.1.row.leg (outcomes n exit) (to_of n exit) (arr_of n exit) (ap (to_of n) is.1.exits) (omega arith) safe.3 is.2)
     unfold_after-chosen (Stuck at moment) rides leg place arrival ends low safe is = absurd is
 
-    pub kids_after-chosen : (kids : Kids) (rides : ℕ) (leg : Leg) (row : List Outcome) (place scheduled : ℕ) → end_of n leg ≡ place → height_of kids ≤ rides → SafeAll n target (Some deadline) kids row place scheduled → ChosenKids n target rows kids row place scheduled → kids_after (after_leg rides leg) scheduled row ≡ kids
+    pub kids_after-chosen : (kids : Kids) (rides : ℕ) (leg : Leg) (row : List Outcome) (place scheduled : ℕ) → end_of n leg ≡ place
+        → height_of kids ≤ rides → SafeAll n target (Some deadline) kids row place scheduled → ChosenKids n target rows kids row place scheduled
+        → kids_after (after_leg rides leg) scheduled row ≡ kids
     kids_after-chosen Nil rides leg [] place scheduled ends low safe is = refl
     kids_after-chosen (Kid weight tree kids) rides leg (o ∷ row) place scheduled ends low safe is =
         ap (λ w. Kid w (after_leg rides leg (scheduled + o.delay)) (kids_after (after_leg rides leg) scheduled row)) (sym safe.0)
@@ -79,23 +87,35 @@ module _ {V : Type 0} (n : Parts) (target deadline : ℕ) (choice : ℕ → ℕ 
     kids_after-chosen (Kid weight tree kids) rides leg [] place scheduled ends low safe is = absurd is
 
   -- the ride of a first leg from elsewhere than the target
-  pub unfold_from-chosen : (enter exit : ℕ) (kids : Kids) (leg : Leg) (place arrival : ℕ) → place ≢ target → leg.enter.0 ≡ enter → leg.exit.0 ≡ exit → height_of kids + 1 ≤ count n → SafeAll n target (Some deadline) kids (outcomes n exit) (to_of n exit) (arr_of n exit) → ChosenKids n target rows kids (outcomes n exit) (to_of n exit) (arr_of n exit) → unfold_from n target (by_place n choice) (Some leg) place arrival ≡ Ride enter exit kids
+  pub unfold_from-chosen : (enter exit : ℕ) (kids : Kids) (leg : Leg) (place arrival : ℕ) → place ≢ target → leg.enter.0 ≡ enter → leg.exit.0 ≡ exit
+      → height_of kids + 1 ≤ count n → SafeAll n target (Some deadline) kids (outcomes n exit) (to_of n exit) (arr_of n exit)
+      → ChosenKids n target rows kids (outcomes n exit) (to_of n exit) (arr_of n exit)
+      → unfold_from n target (by_place n choice) (Some leg) place arrival ≡ Ride enter exit kids
   unfold_from-chosen enter exit kids leg place arrival away enters exits low safe is =
       let e : unfold_from n target (by_place n choice) (Some leg) place arrival ≡ ride_of n (after_leg (count n - 1)) leg = grind (arith, nat_tests) in
-      e ∙ ride_of-kids enter exit kids (count n - 1) leg enters exits (kids_after-chosen kids (count n - 1) leg (outcomes n exit) (to_of n exit) (arr_of n exit) (ap (to_of n) exits) (omega arith) safe is)
+      e ∙ ride_of-kids enter exit kids (count n - 1) leg enters exits
+      (kids_after-chosen kids (count n - 1) leg (outcomes n exit) (to_of n exit) (arr_of n exit) (ap (to_of n) exits) (omega arith) safe is)
 
-module _ {V : Type 0} (below covers : V → Tree → Type 0) (gap rank : V → ℕ) (n : Parts) (q : Query) (scanned : ℕ → Type 0) (all : (id : ℕ) → id < count n → scanned id) (differ : q.source.0 ≢ q.target.0) (found : Found V) (exits : ℕ → Option (Exit V)) (ok : ScanOk below covers gap rank n q scanned (count n) (found_rows found) exits found.start) where
+module _ {V : Type 0} (below covers : V → Tree → Type 0) (gap rank : V → ℕ) (n : Parts) (q : Query) (scanned : ℕ → Type 0)
+    (all : (id : ℕ) → id < count n → scanned id) (differ : q.source.0 ≢ q.target.0) (found : Found V) (exits : ℕ → Option (Exit V))
+    (ok : ScanOk below covers gap rank n q scanned (count n) (found_rows found) exits found.start) where
   -- the leg of the row that is picked
   leg_choice-picked : (place arrival : ℕ) → leg_choice found place arrival ≡ option_map (λ row. row.leg) (picked arrival (found_rows found place))
   leg_choice-picked place arrival = option_map-option_map (picked arrival (found_rows found place))
 
-  answer : (place arrival : ℕ) → place ≢ q.target.0 → (row : Row V) → picked arrival (found_rows found place) ≡ Some row → IsRowFor below covers gap n q.target.0 q.deadline.0 scanned (found_rows found) (count n) place arrival row → IsAnswer below covers gap n q found place arrival (row.value, row.leg)
+  answer : (place arrival : ℕ) → place ≢ q.target.0 → (row : Row V) → picked arrival (found_rows found place) ≡ Some row
+      → IsRowFor below covers gap n q.target.0 q.deadline.0 scanned (found_rows found) (count n) place arrival row
+      → IsAnswer below covers gap n q found place arrival (row.value, row.leg)
   answer place arrival away row is claim =
       let tree = Ride row.leg.enter.0 row.leg.exit.0 claim.kids in
       let in_time = picked_in_time arrival (found_rows found place) row is in
       let safe : IsSafeAt n q place arrival tree = (away, claim.leg, boards-limit_of n place arrival row.by.0 row.leg claim.limit in_time, claim.safe) in
-      let chooses : (later : ℕ) → picked later (found_rows found place) ≡ Some row → leg_choice found place later ≡ Some row.leg = λ later there. leg_choice-picked place later ∙ ap (option_map (λ row. row.leg)) there in
-      let chosen_is : chosen_at n q found place arrival ≡ tree = ap (λ (first : Option Leg). unfold_from n q.target.0 (by_place n (leg_choice found)) first place arrival) (chooses arrival is) ∙ unfold_from-chosen n q.target.0 q.deadline.0 (leg_choice found) (found_rows found) leg_choice-picked row.leg.enter.0 row.leg.exit.0 claim.kids row.leg place arrival away refl refl claim.low claim.safe claim.chosen in
+      let chooses : (later : ℕ) → picked later (found_rows found place) ≡ Some row
+      → leg_choice found place later ≡ Some row.leg = λ later there. leg_choice-picked place later ∙ ap (option_map (λ row. row.leg)) there in
+      let chosen_is : chosen_at n q found place arrival ≡ tree =
+      ap (λ (first : Option Leg). unfold_from n q.target.0 (by_place n (leg_choice found)) first place arrival) (chooses arrival is)
+      ∙ unfold_from-chosen n q.target.0 q.deadline.0 (leg_choice found)
+      (found_rows found) leg_choice-picked row.leg.enter.0 row.leg.exit.0 claim.kids row.leg place arrival away refl refl claim.low claim.safe claim.chosen in
       record {
         safe = subst (IsSafeAt n q place arrival) (sym chosen_is) safe;
         covers_chosen = subst (covers row.value) (sym chosen_is) claim.covers_ride;
@@ -114,7 +134,9 @@ module _ {V : Type 0} (below covers : V → Tree → Type 0) (gap rank : V → �
       below_safe (Ride enter exit others) safe = claim.below_all enter exit others (all enter safe.1.enter) safe
       below_safe (Stuck at moment) safe = absurd safe
 
-  answers : (place arrival : ℕ) → place ≢ q.target.0 → (o : Option (Row V)) → picked arrival (found_rows found place) ≡ o → PlaceOk below covers gap n q.target.0 q.deadline.0 scanned (found_rows found) (count n) place arrival o → MatchOption (option_map (λ row. (row.value, row.leg)) o) ((tree : Tree) → IsSafeAt n q place arrival tree → ⊥) (IsAnswer below covers gap n q found place arrival)
+  answers : (place arrival : ℕ) → place ≢ q.target.0 → (o : Option (Row V)) → picked arrival (found_rows found place) ≡ o
+      → PlaceOk below covers gap n q.target.0 q.deadline.0 scanned (found_rows found) (count n) place arrival o
+      → MatchOption (option_map (λ row. (row.value, row.leg)) o) ((tree : Tree) → IsSafeAt n q place arrival tree → ⊥) (IsAnswer below covers gap n q found place arrival)
   answers place arrival away None is claim = nothing
     where
       nothing : (tree : Tree) → IsSafeAt n q place arrival tree → ⊥
@@ -123,7 +145,8 @@ module _ {V : Type 0} (below covers : V → Tree → Type 0) (gap rank : V → �
       nothing (Stuck at moment) safe = safe
   answers place arrival away (Some row) is claim = answer place arrival away row is claim
 
-  start_answers : (o : Option (V × Leg)) → StartOk below covers gap n q scanned (found_rows found) (count n) o → MatchOption o ((tree : Tree) → IsSafeFor n q tree → ⊥) (IsStartAnswer below covers gap n q found)
+  start_answers : (o : Option (V × Leg)) → StartOk below covers gap n q scanned (found_rows found) (count n) o
+      → MatchOption o ((tree : Tree) → IsSafeFor n q tree → ⊥) (IsStartAnswer below covers gap n q found)
   start_answers None claim = nothing
     where
       nothing : (tree : Tree) → IsSafeFor n q tree → ⊥
@@ -132,7 +155,9 @@ module _ {V : Type 0} (below covers : V → Tree → Type 0) (gap rank : V → �
       nothing (Stuck at moment) safe = safe
   start_answers (Some begin) claim =
       let tree = Ride begin.1.enter.0 begin.1.exit.0 claim.kids in
-      let tree_is : chosen_by n q found begin.1 ≡ tree = unfold_from-chosen n q.target.0 q.deadline.0 (leg_choice found) (found_rows found) leg_choice-picked begin.1.enter.0 begin.1.exit.0 claim.kids begin.1 q.source.0 q.start.0 differ refl refl claim.low claim.safe claim.chosen in
+      let tree_is : chosen_by n q found begin.1 ≡ tree = unfold_from-chosen n q.target.0 q.deadline.0 (leg_choice found)
+      (found_rows found) leg_choice-picked begin.1.enter.0 begin.1.exit.0 claim.kids begin.1 q.source.0 q.start.0 differ refl refl claim.low
+      claim.safe claim.chosen in
       let safe : IsSafeFor n q tree = (differ, claim.leg, (claim.from, claim.in_time), claim.safe) in
       record {
         safe = subst (IsSafeFor n q) (sym tree_is) safe;
@@ -154,10 +179,14 @@ module _ {V : Type 0} (below covers : V → Tree → Type 0) (gap rank : V → �
   }
 
 -- before any connection is scanned
-module _ {V : Type 0} (below covers : V → Tree → Type 0) (gap rank : V → ℕ) (network : Parts) (query : Query) (scanned : ℕ → Type 0) (none : (id : ℕ) → scanned id → ⊥) (rows : ℕ → List (Row V)) (empty : (place : ℕ) → rows place ≡ []) (exits : ℕ → Option (Exit V)) (no_exits : (run : ℕ) → exits run ≡ None) where
+module _ {V : Type 0} (below covers : V → Tree → Type 0) (gap rank : V → ℕ) (network : Parts) (query : Query) (scanned : ℕ → Type 0)
+    (none : (id : ℕ) → scanned id → ⊥) (rows : ℕ → List (Row V)) (empty : (place : ℕ) → rows place ≡ []) (exits : ℕ → Option (Exit V))
+    (no_exits : (run : ℕ) → exits run ≡ None) where
   pub scan_ok_start : ScanOk below covers gap rank network query scanned 0 rows exits None
   scan_ok_start = record {
-    places = λ place arrival. subst (λ (list : List (Row V)). PlaceOk below covers gap network query.target.0 query.deadline.0 scanned rows 0 place arrival (picked arrival list)) (sym (empty place)) (λ enter exit others known safe. none enter known);
+    places = λ place arrival. subst
+        (λ (list : List (Row V)). PlaceOk below covers gap network query.target.0 query.deadline.0 scanned rows 0 place arrival (picked arrival list))
+        (sym (empty place)) (λ enter exit others known safe. none enter known);
     runs = λ run. subst (RunOk below covers gap network query.target.0 query.deadline.0 scanned rows 0 run) (sym (no_exits run)) (λ other others can. none other can.known);
     begins = λ enter exit others known safe. none enter known;
     rises = λ place. subst (Rises rank) (sym (empty place)) tt;

@@ -13,7 +13,8 @@ use Rattle.trip_exit.specs.Offers.{Exit}
 use Rattle.meat_scan.specs.Tables.{rows_at, spare_at, exit_at, has_way, FitsTables}
 
 -- one connection more is counted, where it passes
-pub count_by-take_more : (p : Connection → Bool) (connections : List Connection) (i : ℕ) → i < length connections → count_by p (take (i + 1) connections) ≡ count_by p (take i connections) + cond (p (get_or connections i no_connection)) 1 0
+pub count_by-take_more : (p : Connection → Bool) (connections : List Connection) (i : ℕ) → i < length connections
+    → count_by p (take (i + 1) connections) ≡ count_by p (take i connections) + cond (p (get_or connections i no_connection)) 1 0
 count_by-take_more p connections i within =
     ap (count_by p) (take_more connections i no_connection within)
     ∙ sum_by_push (λ (c : Connection). cond (p c) 1 0) (take i connections) (get_or connections i no_connection)
@@ -22,13 +23,16 @@ pub count_by-take-le : (p : Connection → Bool) (connections : List Connection)
 count_by-take-le p connections i within = omega (arith, count_by-le-length p (take i connections), length-take-le i connections within)
 
 -- an empty profile more
-pub rows_pushed : {V : Type 0} (profiles : List (Shown V)) (profile : Shown V) → ((place : ℕ) → rows_at profiles place ≡ []) → profile.rows ≡ [] → (place : ℕ) → rows_at (profiles ++ profile ∷ []) place ≡ []
+pub rows_pushed : {V : Type 0} (profiles : List (Shown V)) (profile : Shown V) → ((place : ℕ) → rows_at profiles place ≡ []) → profile.rows ≡ []
+    → (place : ℕ) → rows_at (profiles ++ profile ∷ []) place ≡ []
 rows_pushed [] profile empty none zero = none
 rows_pushed [] profile empty none (suc place) = refl
 rows_pushed (first ∷ profiles) profile empty none zero = empty 0
 rows_pushed (first ∷ profiles) profile empty none (suc place) = rows_pushed profiles profile (λ p. empty (suc p)) none place
 
-pub spare_pushed : {V : Type 0} (profiles : List (Shown V)) (profile : Shown V) (room : List ℕ) (i rows : ℕ) → length profiles ≡ i → rows ≡ get_or room i 0 → rows ≤ profile.spare → ((place : ℕ) → place < i → get_or room place 0 ≤ spare_at profiles place) → (place : ℕ) → place < i + 1 → get_or room place 0 ≤ spare_at (profiles ++ profile ∷ []) place
+pub spare_pushed : {V : Type 0} (profiles : List (Shown V)) (profile : Shown V) (room : List ℕ) (i rows : ℕ) → length profiles ≡ i
+    → rows ≡ get_or room i 0 → rows ≤ profile.spare → ((place : ℕ) → place < i → get_or room place 0 ≤ spare_at profiles place) → (place : ℕ)
+    → place < i + 1 → get_or room place 0 ≤ spare_at (profiles ++ profile ∷ []) place
 spare_pushed {V} profiles profile room i rows long read enough before place inside = elim (cases_lt place i) [
   | inl earlier ↦ rw (get_or_append_left profiles (profile ∷ []) (record { spare = 0; rows = [] }) place (omega arith), spare_at) (before place earlier)
   | inr last ↦ let same : place ≡ i = omega arith in rw (get_or_at profiles profile [] (record { spare = 0; rows = [] }) place (omega arith), spare_at) (rw same (omega arith))
@@ -40,7 +44,13 @@ no_exits (suc n) zero = refl
 no_exits (suc n) (suc run) = no_exits n run
 
 -- what was reserved fits the network
-pub fits : {V : Type 0} (network : Parts) → IsValid network → (runs : ℕ) (below : (i : ℕ) → i < count network → run_of network i < runs) (room : List ℕ) (profiles : List (Shown V)) (exits : List (Option (Exit V))) (kids : List V) → length room ≡ length network.change → ((place : ℕ) → place < length network.change → get_or room place 0 ≡ count_by (λ c. has_way network place c.from.0) network.connections) → length profiles ≡ length room → ((place : ℕ) → rows_at profiles place ≡ []) → ((place : ℕ) → place < length room → get_or room place 0 ≤ spare_at profiles place) → exits ≡ replicate runs None → length kids ≡ 64 → FitsTables network (record { profiles = profiles; exits = exits; kids = kids })
+pub fits : {V : Type 0} (network : Parts) → IsValid network
+    → (runs : ℕ) (below : (i : ℕ) → i < count network → run_of network i < runs) (room : List ℕ) (profiles : List (Shown V))
+    (exits : List (Option (Exit V))) (kids : List V) → length room ≡ length network.change
+    → ((place : ℕ) → place < length network.change → get_or room place 0 ≡ count_by (λ c. has_way network place c.from.0) network.connections)
+    → length profiles ≡ length room → ((place : ℕ) → rows_at profiles place ≡ [])
+    → ((place : ℕ) → place < length room → get_or room place 0 ≤ spare_at profiles place) → exits ≡ replicate runs None → length kids ≡ 64
+    → FitsTables network (record { profiles = profiles; exits = exits; kids = kids })
 fits {V} network valid runs below room profiles exits kids long counts as_many empty enough none kids_there = record {
   valid = valid;
   empty = record { no_rows = empty; no_exits = λ run. rw none (no_exits runs run) };

@@ -1,5 +1,6 @@
 -- One way after the other.
-use Rattle.std.proofs.Common.{◌≡◌, ◌≢◌, ℕ, zero, suc, ◌+◌, ◌<◌, ◌≤◌, true, List, [], ◌∷◌, ◌++◌, Option, Some, None, AllPairs, length, get_or, take, cond, slice_get, arith, sym, ap, ◌∙◌, refl, inl, inr, subst, set, length-take-le, get_or-set_same, get_or-set_other}
+use Rattle.std.proofs.Common.{◌≡◌, ◌≢◌, ℕ, zero, suc, ◌+◌, ◌<◌, ◌≤◌, true, List, [], ◌∷◌, ◌++◌, Option, Some, None, AllPairs, length, get_or, take, cond, slice_get}
+use Rattle.std.proofs.Common.{arith, sym, ap, ◌∙◌, refl, inl, inr, subst, set, length-take-le, get_or-set_same, get_or-set_other}
 use Rattle.std.specs.Prelude.{find, ◌==◌, is_some}
 use Rattle.std.specs.Option.{option_map}
 use Rattle.std.specs.List.{AllByRecursion}
@@ -47,7 +48,8 @@ elsewhere_of : (ways : List Way) (place : ℕ) → ((j : ℕ) (d : Way) → j < 
 elsewhere_of [] place all = tt
 elsewhere_of (way ∷ ways) place all = (all 0 way (omega arith), elsewhere_of ways place (λ j d within. all (suc j) d (omega arith)))
 
-with_way-none : {V : Type 0} (rank : V → ℕ) (lowered : V → V → V) (target dep : ℕ) (value : V) (leg : Leg) (place : ℕ) (rows : List (Row V)) → with_way rank lowered target dep value leg None place rows ≡ rows
+with_way-none : {V : Type 0} (rank : V → ℕ) (lowered : V → V → V) (target dep : ℕ) (value : V) (leg : Leg) (place : ℕ) (rows : List (Row V))
+    → with_way rank lowered target dep value leg None place rows ≡ rows
 with_way-none rank lowered target dep value leg place rows = elim (cases_eq place target) [
   | inl here ↦ grind (arith, nat_tests)
   | inr away ↦ grind (arith, nat_tests)
@@ -91,7 +93,10 @@ module _ (ways : List Way) (distinct : AllPairs (λ a b. a.from.0 ≢ b.from.0) 
   ]
 
   -- the rows of a place after one way more
-  pub rows_next : {V : Type 0} (rank : V → ℕ) (lowered : V → V → V) (target dep : ℕ) (value : V) (leg : Leg) (place : ℕ) (old now new : List (Row V)) → now ≡ with_way rank lowered target dep value leg (way_in (take k ways) place) place old → new ≡ with_way rank lowered target dep value leg (way_from way place) place now → new ≡ with_way rank lowered target dep value leg (way_in (take (k + 1) ways) place) place old
+  pub rows_next : {V : Type 0} (rank : V → ℕ) (lowered : V → V → V) (target dep : ℕ) (value : V) (leg : Leg) (place : ℕ) (old now new : List (Row V))
+      → now ≡ with_way rank lowered target dep value leg (way_in (take k ways) place) place old
+      → new ≡ with_way rank lowered target dep value leg (way_from way place) place now
+      → new ≡ with_way rank lowered target dep value leg (way_in (take (k + 1) ways) place) place old
   rows_next rank lowered target dep value leg place old now new is_now is_new = elim (way_case place) [
     | comes here none some ↦
         let from : way_from way place ≡ Some way = grind (arith, nat_tests) in
@@ -105,7 +110,8 @@ module _ (ways : List Way) (distinct : AllPairs (λ a b. a.from.0 ≢ b.from.0) 
   ]
 
   -- the room of a place after one way more
-  pub spare_next : (place old now new : ℕ) → old ≤ now + way_number (way_in (take k ways) place) → now ≤ new + cond (way.from.0 == place) 1 0 → old ≤ new + way_number (way_in (take (k + 1) ways) place)
+  pub spare_next : (place old now new : ℕ) → old ≤ now + way_number (way_in (take k ways) place) → now ≤ new + cond (way.from.0 == place) 1 0
+      → old ≤ new + way_number (way_in (take (k + 1) ways) place)
   spare_next place old now new before_now now_new = elim (way_case place) [
     | comes here none some ↦
         let was : way_number (way_in (take k ways) place) ≡ 0 = ap way_number none in
@@ -119,7 +125,9 @@ module _ (ways : List Way) (distinct : AllPairs (λ a b. a.from.0 ≢ b.from.0) 
   ]
 
   -- a count for each place after one way more
-  pub count_next : (room : List ℕ) (place : ℕ) (old : ℕ) → way.from.0 < length room → get_or room place 0 ≡ old + way_number (way_in (take k ways) place) → get_or (set room way.from.0 (get_or room way.from.0 0 + 1)) place 0 ≡ old + way_number (way_in (take (k + 1) ways) place)
+  pub count_next : (room : List ℕ) (place : ℕ) (old : ℕ) → way.from.0 < length room
+      → get_or room place 0 ≡ old + way_number (way_in (take k ways) place)
+      → get_or (set room way.from.0 (get_or room way.from.0 0 + 1)) place 0 ≡ old + way_number (way_in (take (k + 1) ways) place)
   count_next room place old inside is_now = elim (way_case place) [
     | comes here none some ↦
         let was : way_number (way_in (take k ways) place) ≡ 0 = ap way_number none in
@@ -147,7 +155,9 @@ pub from_in : (n : Parts) → IsValid n → (r k : ℕ) (way : Way) → r < leng
 from_in n valid r k way inside is = (way_takes n valid way.from.0 r way.seconds inside (way_of-listed n valid r inside k way is)).0
 
 -- where one row for each way has room, there is room for the row of a way after those before it
-pub room_left : (n : Parts) → IsValid n → (r k : ℕ) → r < length n.change → k < length (ways_into n r) → (way : Way) → slice_get (ways_into n r) k ≡ Some way → (old now : ℕ) → cond (has_way n way.from.0 r) 1 0 ≤ old → old ≤ now + way_number (way_in (take k (ways_into n r)) way.from.0) → 1 ≤ now
+pub room_left : (n : Parts) → IsValid n → (r k : ℕ) → r < length n.change → k < length (ways_into n r) → (way : Way)
+    → slice_get (ways_into n r) k ≡ Some way → (old now : ℕ) → cond (has_way n way.from.0 r) 1 0 ≤ old
+    → old ≤ now + way_number (way_in (take k (ways_into n r)) way.from.0) → 1 ≤ now
 room_left n valid r k inside within way is old now room so_far =
     let none : way_number (way_in (take k (ways_into n r)) way.from.0) ≡ 0 = ap way_number (none_before (ways_into n r) (ways_into-distinct n valid r inside) k within way is) in
     let one : ◌≡◌ {A = ℕ} (cond (has_way n way.from.0 r) 1 0) 1 = ap (λ b. cond b 1 0) (has_way-listed n valid r k way inside is) in

@@ -32,6 +32,7 @@ kept_after rank lowered arrived blended network query (id ∷ later) =
 
 -- what was found is what the rules keep of all connections, in the scan order: so the better value is kept, on a tie the one
 -- that the scan took earlier, and a connection is a row of each place from which a way leads to it, up to its limit there
-pub record FollowsRules {V : Type 0} (rank : V → ℕ) (lowered : V → V → V) (arrived : ℕ → V) (blended : List Outcome → List V → V) (network : Parts) (query : Query) (order : List ConnectionId) (found : Found V) : Type 0 where
+pub record FollowsRules {V : Type 0} (rank : V → ℕ) (lowered : V → V → V) (arrived : ℕ → V) (blended : List Outcome → List V → V) (network : Parts)
+    (query : Query) (order : List ConnectionId) (found : Found V) : Type 0 where
   pub rows : (place : ℕ) → found_rows found place ≡ (kept_after rank lowered arrived blended network query order).rows place
   pub start : found.start ≡ (kept_after rank lowered arrived blended network query order).start

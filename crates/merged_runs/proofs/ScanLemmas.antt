@@ -22,18 +22,22 @@ IsPermutation-placed n i (id ∷ ids) =
     let new : ConnectionId = record { 0 = i } in
     cond_both (ltb (rank n i) (rank n id.0)) (new ∷ id ∷ ids) (id ∷ placed n i ids) (λ (zs : List ConnectionId). IsPermutation (new ∷ id ∷ ids) zs)
     (λ e. IsPermutation-refl (new ∷ id ∷ ids))
-    (λ e. IsPermutation-trans (new ∷ id ∷ ids) (id ∷ new ∷ ids) (id ∷ placed n i ids) (IsPermutation-sym (id ∷ new ∷ ids) (new ∷ id ∷ ids) (IsPermutation-middle (id ∷ []) new ids)) (IsPermutation-cons id (new ∷ ids) (placed n i ids) (IsPermutation-placed n i ids)))
+    (λ e. IsPermutation-trans (new ∷ id ∷ ids) (id ∷ new ∷ ids) (id ∷ placed n i ids)
+    (IsPermutation-sym (id ∷ new ∷ ids) (new ∷ id ∷ ids) (IsPermutation-middle (id ∷ []) new ids))
+    (IsPermutation-cons id (new ∷ ids) (placed n i ids) (IsPermutation-placed n i ids)))
 
 IsPermutation-in_order : (n : Parts) (m : ℕ) → IsPermutation (ids_below m) (in_order n m)
 IsPermutation-in_order n zero = IsPermutation-refl []
 IsPermutation-in_order n (suc m) =
     let new : ConnectionId = record { 0 = m } in
     IsPermutation-trans (ids_below m ++ new ∷ []) (new ∷ ids_below m) (placed n m (in_order n m)) (IsPermutation-to_front (ids_below m) new)
-    (IsPermutation-trans (new ∷ ids_below m) (new ∷ in_order n m) (placed n m (in_order n m)) (IsPermutation-cons new (ids_below m) (in_order n m) (IsPermutation-in_order n m)) (IsPermutation-placed n m (in_order n m)))
+    (IsPermutation-trans (new ∷ ids_below m) (new ∷ in_order n m) (placed n m (in_order n m))
+    (IsPermutation-cons new (ids_below m) (in_order n m) (IsPermutation-in_order n m)) (IsPermutation-placed n m (in_order n m)))
 
 pub All-in_order : (n : Parts) (m : ℕ) → All (λ id. id.0 < m) (in_order n m)
 All-in_order n m =
-    All-permutation (λ id. id.0 < m) (ids_below m) (in_order n m) (IsPermutation-in_order n m) (λ k d within. let below : k < m = omega (arith, length_ids m) in subst (λ (id : ConnectionId). id.0 < m) (sym (get_ids m k d below)) below)
+    All-permutation (λ id. id.0 < m) (ids_below m) (in_order n m) (IsPermutation-in_order n m)
+    (λ k d within. let below : k < m = omega (arith, length_ids m) in subst (λ (id : ConnectionId). id.0 < m) (sym (get_ids m k d below)) below)
 
 AllPairs-tail : (R : ConnectionId → ConnectionId → Type 0) (x : ConnectionId) (xs : List ConnectionId) → AllPairs R (x ∷ xs) → AllPairs R xs
 AllPairs-tail R x xs h = λ i j d less within. h (suc i) (suc j) d (omega arith) (omega arith)
@@ -51,7 +55,8 @@ AllPairs-placed n i (id ∷ ids) other pairs =
     (λ e. let less : rank n i < rank n id.0 = ltb-true (rank n i) (rank n id.0) e in
     AllPairs-cons (Scanned n) new (id ∷ ids) (All-cons (Scanned n new) id ids less (λ k d within. omega (arith, less, after k d within))) pairs)
     (λ e. let le : rank n id.0 ≤ rank n i = ltb-false (rank n i) (rank n id.0) e in
-    AllPairs-cons (Scanned n) id (placed n i ids) (All-permutation (Scanned n id) (new ∷ ids) (placed n i ids) (IsPermutation-placed n i ids) (All-cons (Scanned n id) new ids (omega (arith, le, apart)) after))
+    AllPairs-cons (Scanned n) id (placed n i ids) (All-permutation (Scanned n id) (new ∷ ids) (placed n i ids) (IsPermutation-placed n i ids)
+    (All-cons (Scanned n id) new ids (omega (arith, le, apart)) after))
     (AllPairs-placed n i ids (All-tail (λ (x : ConnectionId). rank n x.0 ≡ rank n i → ⊥) id ids other) (AllPairs-tail (Scanned n) id ids pairs)))
 
 rank_apart : (n : Parts) (i j : ℕ) → i < j → j < 8388608 → rank n i ≡ rank n j → ⊥
@@ -65,7 +70,8 @@ AllPairs-in_order n (suc m) few =
 earlier : (n : Parts) → IsValid n → (i j : ℕ) → i < count n → j < count n → rank n i < rank n j → IsEarlier n i j
 earlier n v i j h k less =
     let few = v.few_connections in
-    ⊎_elim (λ departs. inl departs) (λ ge. let same : dep_of n i ≡ dep_of n j = omega arith in let before : i < j = omega arith in inr (same, v.rising i j before k)) (cases_lt (dep_of n i) (dep_of n j))
+    ⊎_elim (λ departs. inl departs) (λ ge. let same : dep_of n i ≡ dep_of n j = omega arith in let before : i < j =
+    omega arith in inr (same, v.rising i j before k)) (cases_lt (dep_of n i) (dep_of n j))
 
 pub IsScanOrder-in_order : (n : Parts) → IsValid n → IsScanOrder n (in_order n (count n))
 IsScanOrder-in_order n v =

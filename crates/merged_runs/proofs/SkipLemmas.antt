@@ -41,9 +41,12 @@ late_alike p late [] all = refl
 late_alike p late (id ∷ ids) all =
     let is_late : late id ≡ true = All-head (λ (x : ConnectionId). late x ≡ true) id ids all in
     let more = late_alike p late ids (All-tail (λ (x : ConnectionId). late x ≡ true) id ids all) in
-    rw (is_late, more) (elim (p id) as (λ b. cond b (id ∷ filter (λ x. cond (p x) (late x) false) ids) (filter (λ x. cond (p x) (late x) false) ids) ≡ cond (cond b true false) (id ∷ filter (λ x. cond (p x) (late x) false) ids) (filter (λ x. cond (p x) (late x) false) ids)) [ true ↦ refl | false ↦ refl ])
+    rw (is_late, more) (elim (p id) as (λ b. cond b (id ∷ filter (λ x. cond (p x) (late x) false) ids)
+    (filter (λ x. cond (p x) (late x) false) ids) ≡ cond (cond b true false) (id ∷ filter (λ x. cond (p x) (late x) false) ids)
+    (filter (λ x. cond (p x) (late x) false) ids)) [ true ↦ refl | false ↦ refl ])
 
-filter_parts : (p q late : ConnectionId → Bool) → FilterParts p q late → (ids : List ConnectionId) → AllPairs (λ a b. late a ≡ true → late b ≡ true) ids → filter p ids ≡ filter q ids ++ filter (λ id. cond (p id) (late id) false) ids
+filter_parts : (p q late : ConnectionId → Bool) → FilterParts p q late → (ids : List ConnectionId)
+    → AllPairs (λ a b. late a ≡ true → late b ≡ true) ids → filter p ids ≡ filter q ids ++ filter (λ id. cond (p id) (late id) false) ids
 filter_parts p q late f [] up = refl
 filter_parts p q late f (id ∷ ids) up = elim (cases_Bool (late id)) [
   | inl is_late ↦
@@ -112,10 +115,12 @@ module _ (n : Parts) (last : ℕ) (starts left : List ℕ) where
   pub AreLowered-none : AreLowered n last starts left 0 left
   AreLowered-none = record { size = refl; done = λ r less h. absurd (omega arith); same = λ r ge. refl }
 
-  pub AreLowered-more : (run by : ℕ) (new : List ℕ) → run < length left → AreLowered n last starts left run new → IsParted n last (get_or starts run 0) by by (get_or left run 0) → AreLowered n last starts left (run + 1) (set new run by)
+  pub AreLowered-more : (run by : ℕ) (new : List ℕ) → run < length left → AreLowered n last starts left run new
+      → IsParted n last (get_or starts run 0) by by (get_or left run 0) → AreLowered n last starts left (run + 1) (set new run by)
   AreLowered-more run by new h l parted = record {
     size = omega (arith, length-set new run by, l.size);
-    done = λ r less within. ⊎_elim (λ (e : r ≡ run). rw (e, get_or-set_same new run by 0 (omega (arith, l.size))) parted) (λ other. rw (get_or-set_other new run r by 0 other) (l.done r (omega arith) within)) (cases_eq r run);
+    done = λ r less within. ⊎_elim (λ (e : r ≡ run). rw (e, get_or-set_same new run by 0 (omega (arith, l.size))) parted)
+        (λ other. rw (get_or-set_other new run r by 0 other) (l.done r (omega arith) within)) (cases_eq r run);
     same = λ r ge. get_or-set_other new run r by 0 (λ e. omega arith) ∙ l.same r (omega arith);
   }
 
@@ -130,7 +135,9 @@ module _ (n : Parts) (last : ℕ) (starts left new : List ℕ) (run : ℕ) (s : 
     within = λ r h. let within : r < length left = omega (arith, l.size) in let p = parted r within in (p.begin, omega (arith, p.end, (s.within r within).1));
   }
 
-  own : (id : ConnectionId) → id.0 < get_or left (run_of n id.0) 0 → IsParted n last (get_or starts (run_of n id.0) 0) (get_or new (run_of n id.0) 0) (get_or new (run_of n id.0) 0) (get_or left (run_of n id.0) 0) × (get_or starts (run_of n id.0) 0 ≤ id.0)
+  own : (id : ConnectionId) → id.0 < get_or left (run_of n id.0) 0
+      → IsParted n last (get_or starts (run_of n id.0) 0) (get_or new (run_of n id.0) 0) (get_or new (run_of n id.0) 0)
+      (get_or left (run_of n id.0) 0) × (get_or starts (run_of n id.0) 0 ≤ id.0)
   own id h =
       let within : run_of n id.0 < length left = waiting n left id.0 h in
       let there : id.0 < count n = omega (arith, h, left_within n starts left s (run_of n id.0) within) in
@@ -155,7 +162,10 @@ module _ (n : Parts) (last : ℕ) (starts left new : List ℕ) (run : ℕ) (s : 
             (cases_lt id.0 (new_end id));
         never = λ id h.
             let ge : get_or left (run_of n id.0) 0 ≤ id.0 = ltb-false id.0 (old_end id) h in
-            let less : get_or new (run_of n id.0) 0 ≤ get_or left (run_of n id.0) 0 = ⊎_elim (λ (within : run_of n id.0 < length left). (parted (run_of n id.0) within).end) (λ (past : length left ≤ run_of n id.0). omega (arith, get_or_past new (run_of n id.0) 0 (omega (arith, past, l.size)))) (cases_lt (run_of n id.0) (length left)) in
+            let less : get_or new (run_of n id.0) 0 ≤ get_or left (run_of n id.0) 0 =
+            ⊎_elim (λ (within : run_of n id.0 < length left). (parted (run_of n id.0) within).end)
+            (λ (past : length left ≤ run_of n id.0). omega (arith, get_or_past new (run_of n id.0) 0 (omega (arith, past, l.size))))
+            (cases_lt (run_of n id.0) (length left)) in
             le-ltb id.0 (new_end id) (omega (arith, ge, less));
       }
 
@@ -172,6 +182,8 @@ module _ (n : Parts) (last : ℕ) (starts left new : List ℕ) (run : ℕ) (s : 
       record {
         skipped = filter (λ id. cond (p id) (late id) false) ids;
         split = filter_parts p q late rest_of-parted ids up;
-        late = λ k d within. ltb-true last (dep_of n (get_or (filter (λ id. cond (p id) (late id) false) ids) k d).0) (both_late (p (get_or (filter (λ id. cond (p id) (late id) false) ids) k d)) (late (get_or (filter (λ id. cond (p id) (late id) false) ids) k d)) (filter_passes (λ id. cond (p id) (late id) false) ids k d within));
+        late = λ k d within. ltb-true last (dep_of n (get_or (filter (λ id. cond (p id) (late id) false) ids) k d).0)
+            (both_late (p (get_or (filter (λ id. cond (p id) (late id) false) ids) k d))
+            (late (get_or (filter (λ id. cond (p id) (late id) false) ids) k d)) (filter_passes (λ id. cond (p id) (late id) false) ids k d within));
         soon = λ k d within. ltb-false last (dep_of n (get_or (filter q ids) k d).0) (kept_soon p q late rest_of-parted (get_or (filter q ids) k d) (filter_passes q ids k d within));
       }

@@ -22,7 +22,8 @@ AreStartsBelow-none n = record {
   coming = λ j h k. omega arith;
 }
 
-each_push : (n : Parts) (starts : List ℕ) (s : ℕ) → ((r : ℕ) → r < length starts → IsStart n r (get_or starts r 0)) → IsStart n (length starts) s → (r : ℕ) → r < length (starts ++ s ∷ []) → IsStart n r (get_or (starts ++ s ∷ []) r 0)
+each_push : (n : Parts) (starts : List ℕ) (s : ℕ) → ((r : ℕ) → r < length starts → IsStart n r (get_or starts r 0)) → IsStart n (length starts) s
+    → (r : ℕ) → r < length (starts ++ s ∷ []) → IsStart n r (get_or (starts ++ s ∷ []) r 0)
 each_push n starts s each last r h =
     ⊎_elim (λ less. rw (get_or_append_left starts (s ∷ []) 0 r less) (each r less))
     (λ ge. let e : length starts ≡ r = omega (arith, length_push starts s) in rw (get_or_push starts s 0 r e, ← e) last)

@@ -1,5 +1,6 @@
 -- What is left of the runs of a network.
-use Rattle.std.proofs.Common.{◌≡◌, ℕ, zero, suc, ◌+◌, ◌-◌, ◌<◌, ◌≤◌, ⊎_elim, Bool, true, false, cond, ltb, List, [], ◌∷◌, ◌++◌, length, get_or, set, take, drop, add-one, All, AllPairs, arith, refl, sym, ap, ◌∙◌, subst}
+use Rattle.std.proofs.Common.{◌≡◌, ℕ, zero, suc, ◌+◌, ◌-◌, ◌<◌, ◌≤◌, ⊎_elim, Bool, true, false, cond, ltb, List, [], ◌∷◌, ◌++◌, length, get_or, set, take, drop, add-one}
+use Rattle.std.proofs.Common.{All, AllPairs, arith, refl, sym, ap, ◌∙◌, subst}
 use Rattle.std.specs.Prelude.{Contains, filter}
 use Rattle.std.proofs.lemmas.Bool.{cases_lt, cases_eq, lt-ltb, le-ltb, ltb-true, cond-true, cond-false, false_from_ne_true}
 use Rattle.std.proofs.lemmas.List.{get_or-set_same, get_or-set_other, get_or_past, length-set, take_all}
@@ -72,13 +73,16 @@ module _ (n : Parts) (starts left : List ℕ) (run : ℕ) where
       record {
         begin = s.begin;
         size = omega (arith, s.size, len);
-        within = λ r k. ⊎_elim (λ (same : r ≡ run). let now : get_or (set left run (end - 1)) run 0 ≡ end - 1 = get_or-set_same left run (end - 1) 0 h in let there = s.within run h in rw (same, now) (omega (arith, some), omega (arith, there.1))) (λ other. rw (get_or-set_other left run r (end - 1) 0 other) (s.within r (omega (arith, len)))) (cases_eq r run);
+        within = λ r k. ⊎_elim (λ (same : r ≡ run). let now : get_or (set left run (end - 1)) run 0 ≡ end - 1 =
+            get_or-set_same left run (end - 1) 0 h in let there = s.within run h in rw (same, now) (omega (arith, some), omega (arith, there.1)))
+            (λ other. rw (get_or-set_other left run r (end - 1) 0 other) (s.within r (omega (arith, len)))) (cases_eq r run);
       }
 
 filter_all : (p : ConnectionId → Bool) (ids : List ConnectionId) → All (λ id. p id ≡ true) ids → filter p ids ≡ ids
 filter_all p [] all = refl
 filter_all p (id ∷ ids) all =
-    cond-true (p id) (id ∷ filter p ids) (filter p ids) (All-head (λ (x : ConnectionId). p x ≡ true) id ids all) ∙ ap (λ (zs : List ConnectionId). id ∷ zs) (filter_all p ids (All-tail (λ (x : ConnectionId). p x ≡ true) id ids all))
+    cond-true (p id) (id ∷ filter p ids) (filter p ids) (All-head (λ (x : ConnectionId). p x ≡ true) id ids all)
+    ∙ ap (λ (zs : List ConnectionId). id ∷ zs) (filter_all p ids (All-tail (λ (x : ConnectionId). p x ≡ true) id ids all))
 
 pub filter_none : (p : ConnectionId → Bool) (ids : List ConnectionId) → All (λ id. p id ≡ false) ids → filter p ids ≡ []
 filter_none p [] none = refl
@@ -86,10 +90,13 @@ filter_none p (id ∷ ids) none =
     cond-false (p id) (id ∷ filter p ids) (filter p ids) (All-head (λ (x : ConnectionId). p x ≡ false) id ids none) ∙ filter_none p ids (All-tail (λ (x : ConnectionId). p x ≡ false) id ids none)
 
 -- a filter that leaves out the greatest of what another one keeps
-filter_last : (p q : ConnectionId → Bool) (key : ConnectionId → ℕ) (last : ConnectionId) → p last ≡ true → q last ≡ false → ((id : ConnectionId) → (key id ≡ key last → ⊥) → q id ≡ p id) → ((id : ConnectionId) → p id ≡ true → key id ≤ key last) → (ids : List ConnectionId) → AllPairs (λ a b. key a < key b) ids → Contains ids last → filter p ids ≡ filter q ids ++ last ∷ []
+filter_last : (p q : ConnectionId → Bool) (key : ConnectionId → ℕ) (last : ConnectionId) → p last ≡ true → q last ≡ false
+    → ((id : ConnectionId) → (key id ≡ key last → ⊥) → q id ≡ p id) → ((id : ConnectionId) → p id ≡ true → key id ≤ key last)
+    → (ids : List ConnectionId) → AllPairs (λ a b. key a < key b) ids → Contains ids last → filter p ids ≡ filter q ids ++ last ∷ []
 filter_last p q key last kept left same most [] up (k, within, e) = absurd (omega arith)
 filter_last p q key last kept left same most (id ∷ ids) up (zero, within, e) =
-    let none : All (λ x. p x ≡ false) ids = λ k d h. false_from_ne_true (p (get_or ids k d)) (λ t. let less = up 0 (suc k) d (omega arith) (omega arith) in omega (arith, most (get_or ids k d) t, less, ap key e)) in
+    let none : All (λ x. p x ≡ false) ids = λ k d h. false_from_ne_true (p (get_or ids k d))
+    (λ t. let less = up 0 (suc k) d (omega arith) (omega arith) in omega (arith, most (get_or ids k d) t, less, ap key e)) in
     let other : All (λ x. q x ≡ false) ids = λ k d h. let less = up 0 (suc k) d (omega arith) (omega arith) in same (get_or ids k d) (λ t. omega (arith, t, less, ap key e)) ∙ none k d h in
     rw (e, cond-true (p last) (last ∷ filter p ids) (filter p ids) kept, cond-false (q last) (last ∷ filter q ids) (filter q ids) left, filter_none p ids none, filter_none q ids other) refl
 filter_last p q key last kept left same most (id ∷ ids) up (suc k, within, e) =
@@ -98,7 +105,8 @@ filter_last p q key last kept left same most (id ∷ ids) up (suc k, within, e) 
     let agree = same id (λ t. omega arith) in
     rw (agree, ih) (elim (p id) as (λ b. cond b (id ∷ filter q ids ++ last ∷ []) (filter q ids ++ last ∷ []) ≡ cond b (id ∷ filter q ids) (filter q ids) ++ last ∷ []) [ true ↦ refl | false ↦ refl ])
 
-pub rest_of-all : (n : Parts) → IsValid n → (starts left : List ℕ) → AreStretches n starts left → ((r : ℕ) → r < length left → get_or left r 0 ≡ get_or starts (r + 1) 0) → IsScanOrder n (rest_of n left)
+pub rest_of-all : (n : Parts) → IsValid n → (starts left : List ℕ) → AreStretches n starts left
+    → ((r : ℕ) → r < length left → get_or left r 0 ≡ get_or starts (r + 1) 0) → IsScanOrder n (rest_of n left)
 unfolding rest_of
 rest_of-all n v starts left s all =
     let each : All (λ id. ltb id.0 (get_or left (run_of n id.0) 0) ≡ true) (in_order n (count n)) = λ k d within.
@@ -133,7 +141,9 @@ rank_at_most_key n v starts left s i h =
     let last = run_between n starts s.begin r (get_or left r 0 - 1) (omega (arith, s.size)) (omega (arith, own.from)) (omega (arith, bounds.1)) in
     omega (arith, rank_along n v i (get_or left r 0 - 1) (omega arith) last.0 (sym last.1), key_of-some n starts left r (omega (arith, own.from)))
 
-pub rest_of-last : (n : Parts) → IsValid n → (starts left : List ℕ) → AreStretches n starts left → (run : ℕ) → run < length left → get_or starts run 0 < get_or left run 0 → ((r : ℕ) → r < length left → key_of n starts left r ≤ key_of n starts left run) → rest_of n left ≡ rest_of n (set left run (get_or left run 0 - 1)) ++ record { 0 = get_or left run 0 - 1 } ∷ []
+pub rest_of-last : (n : Parts) → IsValid n → (starts left : List ℕ) → AreStretches n starts left → (run : ℕ) → run < length left
+    → get_or starts run 0 < get_or left run 0 → ((r : ℕ) → r < length left → key_of n starts left r ≤ key_of n starts left run)
+    → rest_of n left ≡ rest_of n (set left run (get_or left run 0 - 1)) ++ record { 0 = get_or left run 0 - 1 } ∷ []
 unfolding rest_of
 rest_of-last n v starts left s run h some most =
     let end : ℕ = get_or left run 0 in
@@ -145,8 +155,15 @@ rest_of-last n v starts left s run h some most =
     filter_last (λ id. ltb id.0 (get_or left (run_of n id.0) 0)) (λ id. ltb id.0 (get_or less (run_of n id.0) 0)) (λ id. rank n id.0) last
     (rw own.1 (lt-ltb (end - 1) end (omega arith)))
     (rw (own.1, now) (le-ltb (end - 1) (end - 1) (omega arith)))
-    (λ id other. ⊎_elim (λ (same : run_of n id.0 ≡ run). rw (same, now) (same_test id.0 end (λ e. other (ap (rank n) e)))) (λ apart. rw (get_or-set_other left run (run_of n id.0) (end - 1) 0 apart) refl) (cases_eq (run_of n id.0) run))
-    (λ id t. omega (arith, rank_at_most_key n v starts left s id.0 (ltb-true id.0 (get_or left (run_of n id.0) 0) t), most (run_of n id.0) (waiting n left id.0 (ltb-true id.0 (get_or left (run_of n id.0) 0) t)), key_of-some n starts left run some))
+    (λ id other. ⊎_elim (λ (same : run_of n id.0 ≡ run). rw (same, now) (same_test id.0 end (λ e. other (ap (rank n) e))))
+    (λ apart. rw (get_or-set_other left run (run_of n id.0) (end - 1) 0 apart) refl) (cases_eq (run_of n id.0) run))
+    (λ id t. omega (
+      arith,
+      rank_at_most_key n v starts left s id.0 (ltb-true id.0 (get_or left (run_of n id.0) 0) t),
+      most (run_of n id.0)
+          (waiting n left id.0 (ltb-true id.0 (get_or left (run_of n id.0) 0) t)),
+      key_of-some n starts left run some,
+    ))
     ids (AllPairs-in_order n (count n) v.few_connections)
     ((has_each_id n ids (IsScanOrder-in_order n v)).all (end - 1) own.0)
 

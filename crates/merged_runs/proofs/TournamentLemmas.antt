@@ -64,11 +64,13 @@ module _ (n : Parts) (starts left : List ℕ) where
     within = h;
     below = (0, refl);
     own = refl;
-    best = λ other inside over. let same : other ≡ r = omega (arith, IsOver-leaf (length left) (length left + r) (length left + other) (omega arith) (omega arith) over) in omega (arith, ap (key_of n starts left) same);
+    best = λ other inside over. let same : other ≡ r = omega
+        (arith, IsOver-leaf (length left) (length left + r) (length left + other) (omega arith) (omega arith) over) in omega (arith, ap (key_of n starts left) same);
   }
 
   -- at a node the greater of the keys of its children wins
-  pub IsWinner-first : (k first second : ℕ) → 0 < k → k < length left → IsWinner n starts left (2 * k) first → IsWinner n starts left (2 * k + 1) second → second ≤ first → IsWinner n starts left k first
+  pub IsWinner-first : (k first second : ℕ) → 0 < k → k < length left → IsWinner n starts left (2 * k) first
+      → IsWinner n starts left (2 * k + 1) second → second ≤ first → IsWinner n starts left k first
   IsWinner-first k first second some h a b most = record {
     run = a.run;
     within = a.within;
@@ -77,7 +79,8 @@ module _ (n : Parts) (starts left : List ℕ) where
     best = λ r inside over. ⊎_elim (λ over_first. a.best r inside over_first) (λ over_second. omega (arith, b.best r inside over_second, most)) (IsOver-cases k (length left + r) (omega arith) over);
   }
 
-  pub IsWinner-second : (k first second : ℕ) → 0 < k → k < length left → IsWinner n starts left (2 * k) first → IsWinner n starts left (2 * k + 1) second → first ≤ second → IsWinner n starts left k second
+  pub IsWinner-second : (k first second : ℕ) → 0 < k → k < length left → IsWinner n starts left (2 * k) first
+      → IsWinner n starts left (2 * k + 1) second → first ≤ second → IsWinner n starts left k second
   IsWinner-second k first second some h a b most = record {
     run = b.run;
     within = b.within;
@@ -111,7 +114,9 @@ module _ (n : Parts) (starts left keys : List ℕ) where
   pub AreRead-more : (run key : ℕ) → run < length left → AreRead n starts left run keys → key ≡ key_of n starts left run → AreRead n starts left (run + 1) (set keys (length left + run) key)
   AreRead-more run key h read own = record {
     size = omega (arith, length-set keys (length left + run) key, read.size);
-    each = λ r less within. ⊎_elim (λ (same : r ≡ run). rw (same, get_or-set_same keys (length left + run) key 0 (omega (arith, read.size))) own) (λ other. rw (get_or-set_other keys (length left + run) (length left + r) key 0 (λ e. other (omega (arith, e)))) (read.each r (omega (arith, less, other)) within)) (cases_eq r run);
+    each = λ r less within. ⊎_elim (λ (same : r ≡ run). rw (same, get_or-set_same keys (length left + run) key 0 (omega (arith, read.size))) own)
+        (λ other. rw (get_or-set_other keys (length left + run) (length left + r) key 0 (λ e. other (omega (arith, e))))
+        (read.each r (omega (arith, less, other)) within)) (cases_eq r run);
   }
 
   pub IsPlayedFrom-runs : (run : ℕ) → length left ≤ run → AreRead n starts left run keys → IsPlayedFrom n starts left (length left) keys
@@ -122,10 +127,12 @@ module _ (n : Parts) (starts left keys : List ℕ) where
         rw leaf (subst (λ m. IsWinner n starts left m (key_of n starts left (k - length left))) e (IsWinner-leaf n starts left (k - length left) (omega arith)));
   }
 
-  pub IsPlayedFrom-more : (node key : ℕ) → 0 < node → node < length left → IsPlayedFrom n starts left (node + 1) keys → IsWinner n starts left node key → IsPlayedFrom n starts left node (set keys node key)
+  pub IsPlayedFrom-more : (node key : ℕ) → 0 < node → node < length left → IsPlayedFrom n starts left (node + 1) keys
+      → IsWinner n starts left node key → IsPlayedFrom n starts left node (set keys node key)
   IsPlayedFrom-more node key some few p won = record {
     size = omega (arith, length-set keys node key, p.size);
-    each = λ k ge k_some k_few. ⊎_elim (λ (same : k ≡ node). rw (same, get_or-set_same keys node key 0 (omega (arith, p.size))) won) (λ other. rw (get_or-set_other keys node k key 0 other) (p.each k (omega arith) k_some k_few)) (cases_eq k node);
+    each = λ k ge k_some k_few. ⊎_elim (λ (same : k ≡ node). rw (same, get_or-set_same keys node key 0 (omega (arith, p.size))) won)
+        (λ other. rw (get_or-set_other keys node k key 0 other) (p.each k (omega arith) k_some k_few)) (cases_eq k node);
   }
 
   -- the final has the greatest key of all
@@ -149,7 +156,8 @@ IsWinner-apart n starts left run end k key never won =
     }
 
 -- where the last connection of a run is given and its key is read again, the nodes that are not above the run keep theirs
-pub IsPlayedAround-run : (n : Parts) → (starts left keys : List ℕ) (run end key : ℕ) → IsTournament n starts left keys → run < length left → key ≡ key_of n starts (set left run end) run → IsPlayedAround n starts (set left run end) run (length left + run) (set keys (length left + run) key)
+pub IsPlayedAround-run : (n : Parts) → (starts left keys : List ℕ) (run end key : ℕ) → IsTournament n starts left keys → run < length left
+    → key ≡ key_of n starts (set left run end) run → IsPlayedAround n starts (set left run end) run (length left + run) (set keys (length left + run) key)
 IsPlayedAround-run n starts left keys run end key t h own =
     let less : List ℕ = set left run end in
     let leaf : ℕ = length left + run in
@@ -182,7 +190,10 @@ module _ (n : Parts) (starts left : List ℕ) (run node : ℕ) (keys : List ℕ)
     some = omega arith;
     few = omega (arith, p.few);
     over = IsOver-child (node / 2) node (length left + run) refl p.over;
-    each = λ k some few outside. ⊎_elim (λ (same : k ≡ node / 2). rw (same, get_or-set_same keys (node / 2) key 0 (omega (arith, p.size, p.few))) won) (λ other. rw (get_or-set_other keys (node / 2) k key 0 other) (p.each k some few (λ over. ⊎_elim (λ less. absurd (omega (arith, outside over, other, IsOver-both k node (length left + run) over p.over less))) (λ ge. ge) (cases_lt k node)))) (cases_eq k (node / 2));
+    each = λ k some few outside. ⊎_elim (λ (same : k ≡ node / 2). rw (same, get_or-set_same keys (node / 2) key 0 (omega (arith, p.size, p.few))) won)
+        (λ other. rw (get_or-set_other keys (node / 2) k key 0 other)
+        (p.each k some few (λ over. ⊎_elim (λ less. absurd
+        (omega (arith, outside over, other, IsOver-both k node (length left + run) over p.over less))) (λ ge. ge) (cases_lt k node)))) (cases_eq k (node / 2));
   }
 
   pub IsTournament-played : node ≤ 1 → IsTournament n starts left keys
@@ -205,13 +216,16 @@ module _ (n : Parts) (starts left keys : List ℕ) (m : IsMerge n starts left ke
   -- where the final has no key nothing is left at all
   pub rest_of-exhausted : key ≡ 0 → rest_of n left ≡ []
   rest_of-exhausted none =
-      rest_of-none n starts left m.stretches (λ r h. ⊎_elim (λ less. absurd (omega (arith, best_of_all n starts left keys m.tournament r h, final, key_of-some n starts left r less))) (λ ge. ge) (cases_lt (get_or starts r 0) (get_or left r 0)))
+      rest_of-none n starts left m.stretches (λ r h. ⊎_elim
+      (λ less. absurd (omega (arith, best_of_all n starts left keys m.tournament r h, final, key_of-some n starts left r less))) (λ ge. ge)
+      (cases_lt (get_or starts r 0) (get_or left r 0)))
 
   pub won : 0 < length left → 0 < key → HasWon n starts left key
   won any more =
       let w = m.tournament.each 1 (omega arith) (omega (arith, any)) in
       let run : ℕ = w.run in
-      let some : get_or starts run 0 < get_or left run 0 = ⊎_elim (λ less. less) (λ ge. absurd (omega (arith, final, w.own, key_of-none n starts left run ge))) (cases_lt (get_or starts run 0) (get_or left run 0)) in
+      let some : get_or starts run 0 < get_or left run 0 =
+      ⊎_elim (λ less. less) (λ ge. absurd (omega (arith, final, w.own, key_of-none n starts left run ge))) (cases_lt (get_or starts run 0) (get_or left run 0)) in
       let last : key - 1 ≡ rank n (get_or left run 0 - 1) = omega (arith, final, w.own, key_of-some n starts left run some) in
       let own = run_between n starts m.stretches.begin run (get_or left run 0 - 1) (omega (arith, w.within, m.stretches.size)) (omega arith) (omega (arith, (m.stretches.within run w.within).1)) in
       let few = within_count n starts left m.stretches run w.within in
@@ -228,4 +242,5 @@ module _ (n : Parts) (starts left keys : List ℕ) (m : IsMerge n starts left ke
   -- the last connection that is left of the run that won is the last one of all
   pub rest_of-given : (h : HasWon n starts left key) → rest_of n left ≡ rest_of n (set left h.run (get_or left h.run 0 - 1)) ++ record { 0 = get_or left h.run 0 - 1 } ∷ []
   rest_of-given h =
-      rest_of-last n m.stretches.begin.valid starts left m.stretches h.run h.within h.some (λ r k. omega (arith, best_of_all n starts left keys m.tournament r k, final, h.last, h.some, key_of-some n starts left h.run h.some))
+      rest_of-last n m.stretches.begin.valid starts left m.stretches h.run h.within h.some
+      (λ r k. omega (arith, best_of_all n starts left keys m.tournament r k, final, h.last, h.some, key_of-some n starts left h.run h.some))

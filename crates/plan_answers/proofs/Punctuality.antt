@@ -17,7 +17,8 @@ never_late moment early =
     let test : nat_le moment promised ≡ true = grind (arith, nat_tests) in
     rw test refl
 
-pub planned_is_punctual : (n : Parts) (q : Query) (graph : PlanGraph) (chance : Interval) → IsPlannedBy chance_below chance_covers chance_gap chance_arrived n q graph chance → IsPunctual n q promised graph chance
+pub planned_is_punctual : (n : Parts) (q : Query) (graph : PlanGraph) (chance : Interval)
+    → IsPlannedBy chance_below chance_covers chance_gap chance_arrived n q graph chance → IsPunctual n q promised graph chance
 planned_is_punctual n q graph chance is = record {
   tidy = is.tidy;
   safe = is.best.safe;

@@ -37,7 +37,8 @@ precedes_itself a b (inr both) same = let e = ap (λ (l : Leg). l.exit.0) same i
 
 pub rides_parted : (rides : List Ride) (leg : Leg) → AllPairs (λ a b. Precedes a.leg b.leg) rides → IsPartitionedBy (λ r. leg_lt r.leg leg) rides
 rides_parted rides leg rise i j d before within is = elim (cases_lt i j) [
-  | inl less ↦ leg_before (slice_index_or rides i d).leg leg (precedes_trans (slice_index_or rides i d).leg (slice_index_or rides j d).leg leg (rise i j d less within) (leg_precedes (slice_index_or rides j d).leg leg is))
+  | inl less ↦ leg_before (slice_index_or rides i d).leg leg
+      (precedes_trans (slice_index_or rides i d).leg (slice_index_or rides j d).leg leg (rise i j d less within) (leg_precedes (slice_index_or rides j d).leg leg is))
   | inr same ↦ let e : j ≡ i = omega (arith, before, same) in subst (λ (k : ℕ). leg_lt (slice_index_or rides k d).leg leg ≡ true) e is
 ]
 
@@ -69,7 +70,8 @@ rows_further r rides leg other = by_test ((r.leg.enter.0 == leg.enter.0) && (r.l
     by_test true is = absurd (other (leg_test r.leg leg is))
     by_test false is = rw is refl
 
-pub rows_after-at : (rides : List Ride) (leg : Leg) (i : ℕ) (d : Ride) → AllWithin (λ r. leg_lt r.leg leg ≡ true) rides 0 i → i < length rides → (slice_index_or rides i d).leg ≡ leg → rows_after rides leg ≡ (slice_index_or rides i d).after
+pub rows_after-at : (rides : List Ride) (leg : Leg) (i : ℕ) (d : Ride) → AllWithin (λ r. leg_lt r.leg leg ≡ true) rides 0 i → i < length rides
+    → (slice_index_or rides i d).leg ≡ leg → rows_after rides leg ≡ (slice_index_or rides i d).after
 rows_after-at [] leg i d before within is = absurd (omega (arith, within))
 rows_after-at (r ∷ rides) leg zero d before within is = rows_here r rides leg is
 rows_after-at (r ∷ rides) leg (suc i) d before within is =
@@ -81,22 +83,29 @@ rows_after-absent [] leg other = refl
 rows_after-absent (r ∷ rides) leg other = rows_further r rides leg (other 0 r (omega arith)) ∙ rows_after-absent rides leg (λ k d within. other (suc k) d (omega (arith, within)))
 
 -- where the ride at the parting is not the leg's, no ride is
-pub rows_after-none : (rides : List Ride) (leg : Leg) (i : ℕ) → AllPairs (λ a b. Precedes a.leg b.leg) rides → IsPartitionPoint (λ r. leg_lt r.leg leg ≡ true) (λ r. leg_lt r.leg leg ≡ false) rides i → ((d : Ride) → i < length rides → (slice_index_or rides i d).leg ≡ leg → ⊥) → rows_after rides leg ≡ []
+pub rows_after-none : (rides : List Ride) (leg : Leg) (i : ℕ) → AllPairs (λ a b. Precedes a.leg b.leg) rides
+    → IsPartitionPoint (λ r. leg_lt r.leg leg ≡ true) (λ r. leg_lt r.leg leg ≡ false) rides i
+    → ((d : Ride) → i < length rides → (slice_index_or rides i d).leg ≡ leg → ⊥) → rows_after rides leg ≡ []
 rows_after-none rides leg i rise point other = rows_after-absent rides leg (λ k d within is. elim (cases_lt k i) [
   | inl less ↦ precedes_itself (slice_index_or rides k d).leg leg (leg_precedes (slice_index_or rides k d).leg leg (point.0 k d (omega arith) less)) is
   | inr from ↦ elim (cases_lt i k) [
-    | inl more ↦ false≢true (sym (point.1 i d (omega arith) (omega (arith, more, within))) ∙ leg_before (slice_index_or rides i d).leg leg (subst (λ (l : Leg). Precedes (slice_index_or rides i d).leg l) is (rise i k d more within)))
+    | inl more ↦ false≢true (sym (point.1 i d (omega arith) (omega (arith, more, within)))
+        ∙ leg_before (slice_index_or rides i d).leg leg (subst (λ (l : Leg). Precedes (slice_index_or rides i d).leg l) is (rise i k d more within)))
     | inr same ↦ let e : i ≡ k = omega (arith, from, same) in other d (omega (arith, e, within)) (subst (λ (n : ℕ). (slice_index_or rides n d).leg ≡ leg) (sym e) is)
   ]
 ])
 
 -- the same of a slice of the rides of a graph
-pub pick_after-at : (own rides : List Ride) (leg : Leg) (x i : ℕ) (r : Ride) → rides ≡ own → IsPartitionPoint (λ r. leg_lt r.leg leg ≡ true) (λ r. leg_lt r.leg leg ≡ false) rides i → i < length rides → r ≡ slice_index_or rides i r → r.leg ≡ leg → pick_row (rows_after own leg) x ≡ pick_row r.after x
+pub pick_after-at : (own rides : List Ride) (leg : Leg) (x i : ℕ) (r : Ride) → rides ≡ own
+    → IsPartitionPoint (λ r. leg_lt r.leg leg ≡ true) (λ r. leg_lt r.leg leg ≡ false) rides i → i < length rides → r ≡ slice_index_or rides i r
+    → r.leg ≡ leg → pick_row (rows_after own leg) x ≡ pick_row r.after x
 pick_after-at own rides leg x i r same point within is here =
     ap (λ (list : List Ride). pick_row (rows_after list leg) x) (sym same)
     ∙ ap (λ (rows : List GraphRow). pick_row rows x) (rows_after-at rides leg i r point.0 within (ap (λ (s : Ride). s.leg) (sym is) ∙ here) ∙ ap (λ (s : Ride). s.after) (sym is))
 
-pub pick_after-none : (own rides : List Ride) (leg : Leg) (x i : ℕ) → rides ≡ own → AllPairs (λ a b. Precedes a.leg b.leg) own → IsPartitionPoint (λ r. leg_lt r.leg leg ≡ true) (λ r. leg_lt r.leg leg ≡ false) rides i → ((d : Ride) → i < length rides → (slice_index_or rides i d).leg ≡ leg → ⊥) → pick_row (rows_after own leg) x ≡ None
+pub pick_after-none : (own rides : List Ride) (leg : Leg) (x i : ℕ) → rides ≡ own → AllPairs (λ a b. Precedes a.leg b.leg) own
+    → IsPartitionPoint (λ r. leg_lt r.leg leg ≡ true) (λ r. leg_lt r.leg leg ≡ false) rides i
+    → ((d : Ride) → i < length rides → (slice_index_or rides i d).leg ≡ leg → ⊥) → pick_row (rows_after own leg) x ≡ None
 pick_after-none own rides leg x i same rise point other =
     ap (λ (list : List Ride). pick_row (rows_after list leg) x) (sym same)
     ∙ ap (λ (rows : List GraphRow). pick_row rows x) (rows_after-none rides leg i (subst (λ (list : List Ride). AllPairs (λ a b. Precedes a.leg b.leg) list) (sym same) rise) point other)

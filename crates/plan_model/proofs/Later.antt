@@ -129,7 +129,8 @@ module _ (n : Parts) (v : IsValid n) (target : ℕ) (by : Option ℕ) (shift : �
         ∙ ap (λ (k : ℕ). weighted_kids arrival kids (h - 1) + k) (whole_row shift (10000 ^ (h - 1)) (10000 ^ h) _ (row_is n v j safe.1.exit).total (pow_down h (omega arith)))
     num-later (Stuck q y) p x h safe tall = absurd safe
 
-    nums-later : (kids : Kids) (row : List Outcome) (p a h : ℕ) → SafeAll n target by kids row p a → height_of kids ≤ h → weighted_kids arrival (all_later_by shift kids) h ≡ weighted_kids arrival kids h + shift * 10000 ^ h * sum_by (λ o. o.weight) row
+    nums-later : (kids : Kids) (row : List Outcome) (p a h : ℕ) → SafeAll n target by kids row p a → height_of kids ≤ h
+        → weighted_kids arrival (all_later_by shift kids) h ≡ weighted_kids arrival kids h + shift * 10000 ^ h * sum_by (λ o. o.weight) row
     nums-later Nil [] p a h safe tall = omega arith
     nums-later Nil (o ∷ os) p a h safe tall = absurd safe
     nums-later (Kid w tree kids) [] p a h safe tall = absurd safe

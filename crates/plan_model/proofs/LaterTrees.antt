@@ -64,7 +64,8 @@ module _ (n m : Parts) (shift first : ℕ) (view : IsView n m shift first) (vali
         ∙ goes_later (unfold_after n target f k) (unfold_after m target g k) (end_of n leg) x (f leg x) (legs leg x) (unfold_after-later k))
 
     -- the same from a place, with one first leg
-    pub unfold_from-later : (o : Option Leg) (p x : ℕ) → ((leg : Leg) → o ≡ Some leg → IsLeg n leg.enter.0 leg.exit.0) → unfold_from m target g o p (x + shift) ≡ later_by shift (unfold_from n target f o p x)
+    pub unfold_from-later : (o : Option Leg) (p x : ℕ) → ((leg : Leg) → o ≡ Some leg → IsLeg n leg.enter.0 leg.exit.0)
+        → unfold_from m target g o p (x + shift) ≡ later_by shift (unfold_from n target f o p x)
     unfold_from-later o p x begins =
         let many : count m - 1 ≡ count n - 1 = omega (arith, view.as_many) in
         ap (λ (k : ℕ). if p == target then Done (x + shift) else ride_or_stuck m (unfold_after m target g k) o p (x + shift)) many

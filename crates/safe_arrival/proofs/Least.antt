@@ -31,7 +31,8 @@ module _ (n : Parts) (v : IsValid n) (q : Query) (early : q.start.0 < end_of_tim
   safe_from : (tree : Tree) → Reaches n q.source.0 q.target.0 q.start.0 tree → IsSafeFor n q tree
   safe_from tree reaches = safe_from_reaches n q.source.0 q.target.0 q.start.0 q.deadline.0 tree reaches (omega (arith, last, before_last n v q.source.0 q.target.0 q.start.0 tree reaches early))
 
-  pub least_by_last : (result : Option Moment) → MatchOption result ((tree : Tree) → IsSafeFor n q tree → ⊥) (λ w. LeastWorst n q.source.0 q.target.0 q.start.0 (Some w)) → LeastWorst n q.source.0 q.target.0 q.start.0 result
+  pub least_by_last : (result : Option Moment) → MatchOption result ((tree : Tree) → IsSafeFor n q tree → ⊥)
+      (λ w. LeastWorst n q.source.0 q.target.0 q.start.0 (Some w)) → LeastWorst n q.source.0 q.target.0 q.start.0 result
   least_by_last None none = λ tree reaches. none tree (safe_from tree reaches)
   least_by_last (Some w) least = least
 

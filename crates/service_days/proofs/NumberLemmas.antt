@@ -1,5 +1,6 @@
 -- Exceptions by the numbers of their services, one more at a time.
-use Rattle.std.proofs.Common.{◌≡◌, ℕ, ℤ, ◌+◌, ◌<◌, ◌≤◌, ◌&&◌, ◌||◌, Bool, true, false, List, [], ◌∷◌, length, slice_index_or, Option, Some, None, if◌then◌else◌, refl, sym, ap, ◌∙◌, subst, arith, ⊎_elim, bytes_eq, add-one, length-append}
+use Rattle.std.proofs.Common.{◌≡◌, ℕ, ℤ, ◌+◌, ◌<◌, ◌≤◌, ◌&&◌, ◌||◌, Bool, true, false, List, [], ◌∷◌, length, slice_index_or, Option, Some, None, if◌then◌else◌, refl}
+use Rattle.std.proofs.Common.{sym, ap, ◌∙◌, subst, arith, ⊎_elim, bytes_eq, add-one, length-append}
 use Rattle.std.specs.Ordering.{int_eq}
 use mathlib.Core.Bool.{beq}
 use Rattle.plan_model.specs.NameLists.{Adds}
@@ -63,7 +64,8 @@ unfolding any_below
 numbered_next t i first old ids before after n room a =
     let d = date_of t i in
     let size = length-adds old ids d.service a.new a.added in
-    let free : (day : ℤ) (adds : Bool) → has before (record { service = length old; day = day; adds = adds }) ≡ false = λ day adds. n.fresh (record { service = length old; day = day; adds = adds }) (omega arith) in
+    let free : (day : ℤ) (adds : Bool) → has before (record { service = length old; day = day; adds = adds }) ≡ false =
+    λ day adds. n.fresh (record { service = length old; day = day; adds = adds }) (omega arith) in
     record {
       is = λ name day adds.
           rw add-one

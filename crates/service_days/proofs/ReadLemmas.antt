@@ -50,7 +50,8 @@ record WereDates (r : Result Loaded FeedFault) (before : List (List ℕ)) (missi
   is : r ≡ Ok loaded
   dates : AreDates (Ok loaded) before missing ids exceptions
 
-were_dates : (r : Result Loaded FeedFault) (before : List (List ℕ)) (missing : Bool) (ids : List (List ℕ)) (exceptions : List Exception) → AreDates r before missing ids exceptions → WereDates r before missing ids exceptions
+were_dates : (r : Result Loaded FeedFault) (before : List (List ℕ)) (missing : Bool) (ids : List (List ℕ)) (exceptions : List Exception)
+    → AreDates r before missing ids exceptions → WereDates r before missing ids exceptions
 were_dates (Ok l) before missing ids exceptions h = record { loaded = l; is = refl; dates = h }
 were_dates (Err f) before missing ids exceptions h = absurd h
 

@@ -110,7 +110,8 @@ runs_in_row t service day i = bytes_eq (field t ServiceId i) service && runs_by 
 -- the first required column that is not there
 abbrev pub missing_in : PeriodColumns → Option FeedFault
 missing_in c =
-    option_or (option_or (option_or (option_or (option_or (option_or (option_or (option_or (option_or (lack Calendar ServiceId c.service) (lack Calendar Monday c.monday)) (lack Calendar Tuesday c.tuesday))
+    option_or (option_or (option_or (option_or (option_or
+    (option_or (option_or (option_or (option_or (lack Calendar ServiceId c.service) (lack Calendar Monday c.monday)) (lack Calendar Tuesday c.tuesday))
     (lack Calendar Wednesday c.wednesday)) (lack Calendar Thursday c.thursday))
     (lack Calendar Friday c.friday)) (lack Calendar Saturday c.saturday))
     (lack Calendar Sunday c.sunday)) (lack Calendar StartDate c.first))

@@ -156,11 +156,15 @@ module _ {V : Type 0} (rank : V → ℕ) (lowered : V → V → V) where
   pub rises-inserted : ((a b : V) → rank (lowered a b) ≡ rank a) → (new : Row V) (rows : List (Row V)) → Rises rank rows → Rises rank (inserted rank lowered new rows)
   rises-inserted same_rank new rows rises = subst (Rises rank) (sym (inserted-along same_rank new rows rises)) (rises-inserted_along rank lowered same_rank new rows rises)
 
-module _ {V : Type 0} {below covers : V → Tree → Type 0} {gap rank : V → ℕ} {arrived : ℕ → V} {blended : List Outcome → List V → V} {lowered : V → V → V} (laws : ScoreLaws below covers gap rank arrived blended lowered) where
+module _ {V : Type 0} {below covers : V → Tree → Type 0} {gap rank : V → ℕ} {arrived : ℕ → V} {blended : List Outcome → List V → V}
+    {lowered : V → V → V} (laws : ScoreLaws below covers gap rank arrived blended lowered) where
   -- what an insert does to a look
   pub look_step : (arrival : ℕ) (new : Row V) (rows : List (Row V)) → Rises rank rows → LookStep below covers rank arrival new (picked arrival rows) (picked arrival (inserted rank lowered new rows))
-  look_step arrival new rows rises = subst (λ (list : List (Row V)). LookStep below covers rank arrival new (picked arrival rows) (picked arrival list)) (sym (inserted-along rank lowered laws.lowered_rank new rows rises)) (look_step_along laws arrival new rows rises)
+  look_step arrival new rows rises = subst (λ (list : List (Row V)). LookStep below covers rank arrival new (picked arrival rows)
+      (picked arrival list)) (sym (inserted-along rank lowered laws.lowered_rank new rows rises)) (look_step_along laws arrival new rows rises)
 
   -- gaps stay within a bound
-  pub gaps-inserted : (most : ℕ) (new : Row V) (rows : List (Row V)) → Rises rank rows → gap new.value ≤ most → AllByRecursion (λ row. gap row.value ≤ most) rows → AllByRecursion (λ row. gap row.value ≤ most) (inserted rank lowered new rows)
-  gaps-inserted most new rows rises here all = subst (λ (list : List (Row V)). AllByRecursion (λ row. gap row.value ≤ most) list) (sym (inserted-along rank lowered laws.lowered_rank new rows rises)) (gaps-inserted_along laws most new rows here all)
+  pub gaps-inserted : (most : ℕ) (new : Row V) (rows : List (Row V)) → Rises rank rows → gap new.value ≤ most
+      → AllByRecursion (λ row. gap row.value ≤ most) rows → AllByRecursion (λ row. gap row.value ≤ most) (inserted rank lowered new rows)
+  gaps-inserted most new rows rises here all = subst (λ (list : List (Row V)). AllByRecursion (λ row. gap row.value ≤ most) list)
+      (sym (inserted-along rank lowered laws.lowered_rank new rows rises)) (gaps-inserted_along laws most new rows here all)

@@ -14,7 +14,8 @@ pub leg_at : (n : Parts) (most behind left : ℕ) (next : Option Leg) (leg : Leg
 leg_at n most behind left None leg is there = absurd (cc)
 leg_at n most behind left (Some l) leg is there = let same : l ≡ leg = (cc) in subst (λ (x : Leg). IsLegOf n x) same there.0
 
-ride_by : (n : Parts) (leg : Leg) (delay x : ℕ) (b : Bool) → has_delay (outcomes_of n leg) delay ≡ b → IsLegOf n leg → (if b then Some (arr_of n leg.exit.0 + delay) else None) ≡ Some x → IsRide n (record { leg = leg; delay = delay; arrival = record { 0 = x } })
+ride_by : (n : Parts) (leg : Leg) (delay x : ℕ) (b : Bool) → has_delay (outcomes_of n leg) delay ≡ b → IsLegOf n leg
+    → (if b then Some (arr_of n leg.exit.0 + delay) else None) ≡ Some x → IsRide n (record { leg = leg; delay = delay; arrival = record { 0 = x } })
 ride_by n leg delay x true has is some = record { is_leg = is; is_delay = has; late = (cc) }
 ride_by n leg delay x false has is some = absurd (cc)
 

@@ -1,5 +1,6 @@
 -- The walk down the tree of a graph.
-use Rattle.std.proofs.Common.{◌≡◌, ◌≢◌, ℕ, zero, suc, ◌+◌, ◌-◌, ◌≤◌, ◌<◌, ◌⊎◌, Bool, true, false, List, [], ◌∷◌, ◌++◌, length, drop, Option, Some, None, Ok, Err, Result, All, arith, sym, subst, refl, inl, inr, ◌∙◌, ap}
+use Rattle.std.proofs.Common.{◌≡◌, ◌≢◌, ℕ, zero, suc, ◌+◌, ◌-◌, ◌≤◌, ◌<◌, ◌⊎◌, Bool, true, false, List, [], ◌∷◌, ◌++◌, length, drop, Option, Some, None, Ok, Err, Result}
+use Rattle.std.proofs.Common.{All, arith, sym, subst, refl, inl, inr, ◌∙◌, ap}
 use Rattle.std.specs.Prelude.{◌==◌, if◌then◌else◌, slice_index_or, IfSome, OnOk, is_ok}
 use Rattle.std.proofs.lemmas.Bool.{cases_eq, cases_lt, eq-eqb, ne_eqb}
 use Rattle.std.proofs.lemmas.Bool.Decides.{nat_tests}
@@ -26,7 +27,8 @@ use Rattle.trip_replay.specs.Stops.{has_delay, delayed, tree_at}
 
 -- the walk after a ride, by whether the delay is one of its outcomes
 pub kid_walk : (n : Parts) (f : ℕ → Tree) (scheduled : ℕ) (row : List Outcome) (i j delay : ℕ) (delays : List ℕ) (behind : List Ridden)
-    → walk_kid n (kids_after f scheduled row) row i j delay delays behind ≡ (if has_delay row delay then walk n (f (scheduled + delay)) delays (behind ++ ridden n i j delay ∷ []) else Err (fault.NotADelay (length behind + 1)))
+    → walk_kid n (kids_after f scheduled row) row i j delay delays behind ≡
+    (if has_delay row delay then walk n (f (scheduled + delay)) delays (behind ++ ridden n i j delay ∷ []) else Err (fault.NotADelay (length behind + 1)))
 kid_walk n f scheduled [] i j delay delays behind = refl
 kid_walk n f scheduled (o ∷ row) i j delay delays behind = elim (cases_eq o.delay delay) [
   | inl is ↦ rw (eq-eqb o.delay delay is) (ap (λ (d : ℕ). walk n (f (scheduled + d)) delays (behind ++ ridden n i j delay ∷ [])) is)
@@ -88,31 +90,39 @@ module _ (n : Parts) (target : ℕ) (choice : Leg → ℕ → Option Leg) (s : S
       ∙ ap (λ (list : List ℕ). walk n (ride_or_stuck n (unfold_after n target choice s.left) (Some leg) s.place.0 s.moment.0) list behind) (drop_all delays i over)
 
   rides_on : (leg : Leg) (d : ℕ) → s.place.0 ≢ target → s.next ≡ Some leg → i < length delays
-      → walk n (tree_at n target choice s) (drop i delays) behind ≡ (if has_delay (outcomes_of n leg) (slice_index_or delays i d) then walk n (unfold_after n target choice s.left leg (arr_of n leg.exit.0 + slice_index_or delays i d)) (drop (i + 1) delays) (behind ++ ridden n leg.enter.0 leg.exit.0 (slice_index_or delays i d) ∷ []) else Err (fault.NotADelay (length behind + 1)))
+      → walk n (tree_at n target choice s) (drop i delays) behind ≡
+      (if has_delay (outcomes_of n leg) (slice_index_or delays i d) then walk n
+      (unfold_after n target choice s.left leg (arr_of n leg.exit.0 + slice_index_or delays i d)) (drop (i + 1) delays)
+      (behind ++ ridden n leg.enter.0 leg.exit.0 (slice_index_or delays i d) ∷ []) else Err (fault.NotADelay (length behind + 1)))
   rides_on leg d away is within =
       ap (λ (tree : Tree). walk n tree (drop i delays) behind) (on_the_way (Some leg) away is)
       ∙ ap (λ (list : List ℕ). walk n (ride_or_stuck n (unfold_after n target choice s.left) (Some leg) s.place.0 s.moment.0) list behind) (split_at delays i d within)
       ∙ kid_walk n (unfold_after n target choice s.left leg) (arr_of n leg.exit.0) (outcomes_of n leg) leg.enter.0 leg.exit.0 (slice_index_or delays i d) (drop (i + 1) delays) behind
 
-  delay_none : (leg : Leg) (delay : ℕ) (test : Bool) → has_delay (outcomes_of n leg) delay ≡ test → (if test then Some (arr_of n leg.exit.0 + delay) else None) ≡ None → has_delay (outcomes_of n leg) delay ≡ false
+  delay_none : (leg : Leg) (delay : ℕ) (test : Bool) → has_delay (outcomes_of n leg) delay ≡ test
+      → (if test then Some (arr_of n leg.exit.0 + delay) else None) ≡ None → has_delay (outcomes_of n leg) delay ≡ false
   delay_none leg delay true is none = absurd (cc)
   delay_none leg delay false is none = is
 
-  delay_some : (leg : Leg) (delay x : ℕ) (test : Bool) → has_delay (outcomes_of n leg) delay ≡ test → (if test then Some (arr_of n leg.exit.0 + delay) else None) ≡ Some x → (has_delay (outcomes_of n leg) delay ≡ true) × (arr_of n leg.exit.0 + delay ≡ x)
+  delay_some : (leg : Leg) (delay x : ℕ) (test : Bool) → has_delay (outcomes_of n leg) delay ≡ test
+      → (if test then Some (arr_of n leg.exit.0 + delay) else None) ≡ Some x → (has_delay (outcomes_of n leg) delay ≡ true) × (arr_of n leg.exit.0 + delay ≡ x)
   delay_some leg delay x true is some = (is, (cc))
   delay_some leg delay x false is some = absurd (cc)
 
-  pub not_a_delay : (leg : Leg) (d : ℕ) → s.place.0 ≢ target → s.next ≡ Some leg → i < length delays → delayed n leg (slice_index_or delays i d) ≡ None → walk n (tree_at n target choice s) (drop i delays) behind ≡ Err (fault.NotADelay (length behind + 1))
+  pub not_a_delay : (leg : Leg) (d : ℕ) → s.place.0 ≢ target → s.next ≡ Some leg → i < length delays
+      → delayed n leg (slice_index_or delays i d) ≡ None → walk n (tree_at n target choice s) (drop i delays) behind ≡ Err (fault.NotADelay (length behind + 1))
   not_a_delay leg d away is within none =
       rides_on leg d away is within ∙ rw (delay_none leg (slice_index_or delays i d) (has_delay (outcomes_of n leg) (slice_index_or delays i d)) refl none) refl
 
   -- after a ride
   pub after_ride : (leg : Leg) (d x : ℕ) → s.place.0 ≢ target → s.next ≡ Some leg → i < length delays → delayed n leg (slice_index_or delays i d) ≡ Some x
-      → walk n (tree_at n target choice s) (drop i delays) behind ≡ walk n (unfold_after n target choice s.left leg x) (drop (i + 1) delays) (behind ++ (record { leg = leg; delay = slice_index_or delays i d; arrival = record { 0 = x } }) ∷ [])
+      → walk n (tree_at n target choice s) (drop i delays) behind ≡ walk n (unfold_after n target choice s.left leg x) (drop (i + 1) delays)
+      (behind ++ (record { leg = leg; delay = slice_index_or delays i d; arrival = record { 0 = x } }) ∷ [])
   after_ride leg d x away is within some =
       let both = delay_some leg (slice_index_or delays i d) x (has_delay (outcomes_of n leg) (slice_index_or delays i d)) refl some in
       rides_on leg d away is within
-      ∙ rw both.0 (ap (λ (y : ℕ). walk n (unfold_after n target choice s.left leg y) (drop (i + 1) delays) (behind ++ (record { leg = leg; delay = slice_index_or delays i d; arrival = record { 0 = y } }) ∷ [])) both.1)
+      ∙ rw both.0 (ap (λ (y : ℕ). walk n (unfold_after n target choice s.left leg y) (drop (i + 1) delays)
+      (behind ++ (record { leg = leg; delay = slice_index_or delays i d; arrival = record { 0 = y } }) ∷ [])) both.1)
 
 -- a safe tree ends no walk as stuck, nor too late
 module _ (n : Parts) (target deadline : ℕ) where
@@ -128,7 +138,8 @@ module _ (n : Parts) (target deadline : ℕ) where
     safe_walk (Ride i j kids) p x [] behind safe = tt
     safe_walk (Ride i j kids) p x (delay ∷ delays) behind safe = safe_kids kids (outcomes n j) (to_of n j) (arr_of n j) i j delay delays behind safe.3
 
-    safe_kids : (kids : Kids) (row : List Outcome) (p scheduled i j delay : ℕ) (delays : List ℕ) (behind : List Ridden) → SafeAll n target (Some deadline) kids row p scheduled → IsSafeAnswer deadline (walk_kid n kids row i j delay delays behind)
+    safe_kids : (kids : Kids) (row : List Outcome) (p scheduled i j delay : ℕ) (delays : List ℕ) (behind : List Ridden)
+        → SafeAll n target (Some deadline) kids row p scheduled → IsSafeAnswer deadline (walk_kid n kids row i j delay delays behind)
     safe_kids Nil row p scheduled i j delay delays behind safe = tt
     safe_kids (Kid w tree kids) [] p scheduled i j delay delays behind safe = absurd safe
     safe_kids (Kid w tree kids) (o ∷ row) p scheduled i j delay delays behind safe =
@@ -142,7 +153,8 @@ safe_start n q (Stuck p y) delays safe = absurd safe
 safe_start n q (Ride i j kids) [] safe = tt
 safe_start n q (Ride i j kids) (delay ∷ delays) safe = safe_kids n q.target.0 q.deadline.0 kids (outcomes n j) (to_of n j) (arr_of n j) i j delay delays [] safe.3
 
-pub safe_answer : (n : Parts) (q : Query) (tree : Tree) (delays : List ℕ) (result : Result Trace ReplayFault) → IsAnswer result (walk n tree delays []) → IsSafeFor n q tree → IsSafeAnswer q.deadline.0 result
+pub safe_answer : (n : Parts) (q : Query) (tree : Tree) (delays : List ℕ) (result : Result Trace ReplayFault)
+    → IsAnswer result (walk n tree delays []) → IsSafeFor n q tree → IsSafeAnswer q.deadline.0 result
 safe_answer n q tree delays (Err fault.NoMemory) is safe = tt
 safe_answer n q tree delays (Ok trace) is safe = subst (λ (r : Result Trace ReplayFault). IsSafeAnswer q.deadline.0 r) is (safe_start n q tree delays safe)
 safe_answer n q tree delays (Err (fault.Stuck place moment)) is safe = subst (λ (r : Result Trace ReplayFault). IsSafeAnswer q.deadline.0 r) is (safe_start n q tree delays safe)
@@ -175,7 +187,8 @@ picked_leg n (table ∷ tables) fit place x leg is = by_test (table.place.0 == p
     by_test true more picks = picked_row n table.place.0 table.rows (fit 0 table (omega arith)).rows x leg picks
     by_test false more picks = more picks
 
-pub next_leg : (n : Parts) (tables : List PlaceTable) → All (IsFitTable n) tables → (place x left : ℕ) (found : Option Leg) → found ≡ pick_at tables place x → 0 < left → IfSome found (λ next. IsLegOf n next × (left - 1 < left))
+pub next_leg : (n : Parts) (tables : List PlaceTable) → All (IsFitTable n) tables → (place x left : ℕ) (found : Option Leg)
+    → found ≡ pick_at tables place x → 0 < left → IfSome found (λ next. IsLegOf n next × (left - 1 < left))
 next_leg n tables fit place x left None is some = tt
 next_leg n tables fit place x left (Some leg) is some = (picked_leg n tables fit place x leg (sym is), omega (arith, some))
 
@@ -189,7 +202,8 @@ one_more [] x = refl
 one_more (y ∷ xs) x = let more = one_more xs x in omega (arith, more)
 
 -- a leg that is next leaves fewer rides
-pub next_step : (n : Parts) (most before left new_left : ℕ) (next : Option Leg) → IfSome next (λ leg. IsLegOf n leg × (new_left < left)) → before + left < most → IfSome next (λ leg. IsLegOf n leg × (before + 1 + new_left < most))
+pub next_step : (n : Parts) (most before left new_left : ℕ) (next : Option Leg) → IfSome next (λ leg. IsLegOf n leg × (new_left < left))
+    → before + left < most → IfSome next (λ leg. IsLegOf n leg × (before + 1 + new_left < most))
 next_step n most before left new_left None said few = tt
 next_step n most before left new_left (Some leg) said few = (said.0, omega (arith, said.1, few))
 

@@ -29,37 +29,44 @@ module _ {V : Type 0} (scale : ℕ) (leaf : ℕ → ℕ) (span : V → Interval)
   at_value : (P : Interval → Type 0) (s : Interval) → P s → P (span (value s))
   at_value P s p = rw (same s) p
 
-  blended_below : (row : List Outcome) (values : List V) (kids : Kids) (enter exit : ℕ) → EachKid (span_below scale leaf span) row values kids → BelowBy scale leaf (mean_of row (map span values)).lo (Ride enter exit kids)
+  blended_below : (row : List Outcome) (values : List V) (kids : Kids) (enter exit : ℕ) → EachKid (span_below scale leaf span) row values kids
+      → BelowBy scale leaf (mean_of row (map span values)).lo (Ride enter exit kids)
   blended_below row values kids enter exit each =
       mean_below scale leaf row (map (λ s. s.lo) (map span values)) kids enter exit
       (each_mapped (λ (s : Interval). s.lo) (BelowBy scale leaf) row (map span values) kids (each_mapped span (λ s t. BelowBy scale leaf s.lo t) row values kids each))
 
-  blended_covers : (row : List Outcome) (values : List V) (kids : Kids) (enter exit : ℕ) → EachKid (span_covers scale leaf span) row values kids → CoversBy scale leaf (mean_of row (map span values)).hi (Ride enter exit kids)
+  blended_covers : (row : List Outcome) (values : List V) (kids : Kids) (enter exit : ℕ) → EachKid (span_covers scale leaf span) row values kids
+      → CoversBy scale leaf (mean_of row (map span values)).hi (Ride enter exit kids)
   blended_covers row values kids enter exit each =
       mean_covers scale leaf row (map (λ s. s.hi) (map span values)) kids enter exit
       (each_mapped (λ (s : Interval). s.hi) (CoversBy scale leaf) row (map span values) kids (each_mapped span (λ s t. CoversBy scale leaf s.hi t) row values kids each))
 
-  blended_gap : (row : List Outcome) (values : List V) (most : ℕ) → IsValidRow row → length row ≡ length values → All (λ v. span_gap span v ≤ most) values → (mean_of row (map span values)).hi - (mean_of row (map span values)).lo ≤ most + 1
+  blended_gap : (row : List Outcome) (values : List V) (most : ℕ) → IsValidRow row → length row ≡ length values
+      → All (λ v. span_gap span v ≤ most) values → (mean_of row (map span values)).hi - (mean_of row (map span values)).lo ≤ most + 1
   blended_gap row values most good as_many gaps =
       mean_gap_within row (map span values) most good (omega (arith, as_many, length-map values span)) (All-map (λ (s : Interval). s.hi - s.lo ≤ most) span values gaps)
 
   abbrev lesser : V → V → Interval
   lesser a b = record { lo = min (span a).lo (span b).lo; hi = (span a).hi }
 
-  lowered_below : (a b : V) (tree : Tree) → span_rank span a ≤ span_rank span b → span_below scale leaf span a tree ⊎ span_below scale leaf span b tree → span_below scale leaf span (span_lowered span value a b) tree
+  lowered_below : (a b : V) (tree : Tree) → span_rank span a ≤ span_rank span b → span_below scale leaf span a tree
+      ⊎ span_below scale leaf span b tree → span_below scale leaf span (span_lowered span value a b) tree
   lowered_below a b tree better (inl own) = at_value (λ s. BelowBy scale leaf s.lo tree) (lesser a b) (λ h tall. lesser_below (span a).lo (span b).lo (10000 ^ h) _ (inl (own h tall)))
   lowered_below a b tree better (inr other) = at_value (λ s. BelowBy scale leaf s.lo tree) (lesser a b) (λ h tall. lesser_below (span a).lo (span b).lo (10000 ^ h) _ (inr (other h tall)))
 
   abbrev exact : ℕ → Interval
   exact moment = record { lo = scale * leaf moment; hi = scale * leaf moment }
 
-  pub span_laws : ScoreLaws (span_below scale leaf span) (span_covers scale leaf span) (span_gap span) (span_rank span) (span_arrived scale leaf value) (span_blended span value) (span_lowered span value)
+  pub span_laws : ScoreLaws (span_below scale leaf span) (span_covers scale leaf span) (span_gap span) (span_rank span)
+      (span_arrived scale leaf value) (span_blended span value) (span_lowered span value)
   span_laws = record {
     arrived_below = λ moment. at_value (λ s. BelowBy scale leaf s.lo (Done moment)) (exact moment) (λ h tall. omega (arith, mul_assoc scale (leaf moment) (10000 ^ h)));
     arrived_covers = λ moment. at_value (λ s. CoversBy scale leaf s.hi (Done moment)) (exact moment) (λ h tall. omega (arith, mul_assoc scale (leaf moment) (10000 ^ h)));
     arrived_gap = λ moment. at_value (λ s. s.hi - s.lo ≡ 0) (exact moment) (omega arith);
-    blended_below = λ row values kids enter exit good each. at_value (λ s. BelowBy scale leaf s.lo (Ride enter exit kids)) (mean_of row (map span values)) (blended_below row values kids enter exit each);
-    blended_covers = λ row values kids enter exit good each. at_value (λ s. CoversBy scale leaf s.hi (Ride enter exit kids)) (mean_of row (map span values)) (blended_covers row values kids enter exit each);
+    blended_below = λ row values kids enter exit good each. at_value (λ s. BelowBy scale leaf s.lo (Ride enter exit kids))
+        (mean_of row (map span values)) (blended_below row values kids enter exit each);
+    blended_covers = λ row values kids enter exit good each. at_value (λ s. CoversBy scale leaf s.hi (Ride enter exit kids))
+        (mean_of row (map span values)) (blended_covers row values kids enter exit each);
     blended_gap = λ row values most good as_many gaps. at_value (λ s. s.hi - s.lo ≤ most + 1) (mean_of row (map span values)) (blended_gap row values most good as_many gaps);
     lowered_below = lowered_below;
     lowered_covers = λ a b tree better covers. at_value (λ s. CoversBy scale leaf s.hi tree) (lesser a b) covers;

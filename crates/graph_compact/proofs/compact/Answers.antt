@@ -12,11 +12,19 @@ use Rattle.graph_compact.proofs.compact.Goals as goal
 pub returns-in_ok-tables-in-Some-clause-unfolds : goal.returns-in_ok-tables-in-Some-clause-unfolds
 returns-in_ok-tables-in-Some-clause-unfolds c =
     let tables = c.in_ok-rows-in-Some.rows.items in
-    subst (λ (all : List PlaceTable). unfold_plan (record { start = Some c.in-Some.start; tables = all }) c.args.network.now c.args.query.now ≡ unfold_expanded c.args.graph.now c.args.network.now c.args.query.now) (sym (c.in_ok-tables-in-Some.ensures ∙ ap (λ (list : List (BTreeSet GraphRow)). tables_of 0 (lists_of list)) c.deref.ensures.value))
-    (unfolds c.args.network.now c.count-count.ensures.valid c.args.query.now c.args.graph.now c.requires.pruned c.requires.coherent c.in-Some.start c.in-Some.is (lists_of tables) (map_length (λ table. table.keys) tables ∙ c.in_ok-rows-in-Some.ensures.len) c.in_ok-rows-in-Some.ensures.rows)
+    subst (λ (all : List PlaceTable). unfold_plan (record {
+      start = Some c.in-Some.start;
+      tables =
+          all;
+    }) c.args.network.now c.args.query.now ≡ unfold_expanded c.args.graph.now c.args.network.now c.args.query.now)
+    (sym (c.in_ok-tables-in-Some.ensures ∙ ap (λ (list : List (BTreeSet GraphRow)). tables_of 0 (lists_of list)) c.deref.ensures.value))
+    (unfolds c.args.network.now c.count-count.ensures.valid c.args.query.now c.args.graph.now c.requires.pruned c.requires.coherent c.in-Some.start
+    c.in-Some.is (lists_of tables) (map_length (λ table. table.keys) tables ∙ c.in_ok-rows-in-Some.ensures.len) c.in_ok-rows-in-Some.ensures.rows)
 
 pub returns-in_ok-tables-in-Some-clause-tidy : goal.returns-in_ok-tables-in-Some-clause-tidy
 returns-in_ok-tables-in-Some-clause-tidy c =
     let tables = c.in_ok-rows-in-Some.rows.items in
-    subst (λ (all : List PlaceTable). IsTidy c.args.network.now c.args.query.now (record { start = Some c.in-Some.start; tables = all })) (sym (c.in_ok-tables-in-Some.ensures ∙ ap (λ (list : List (BTreeSet GraphRow)). tables_of 0 (lists_of list)) c.deref.ensures.value))
-    (tidy c.args.network.now c.count-count.ensures.valid c.args.query.now c.args.graph.now c.requires.pruned c.requires.coherent c.in-Some.start c.in-Some.is (lists_of tables) (map_length (λ table. table.keys) tables ∙ c.in_ok-rows-in-Some.ensures.len) c.in_ok-rows-in-Some.ensures.rows)
+    subst (λ (all : List PlaceTable). IsTidy c.args.network.now c.args.query.now (record { start = Some c.in-Some.start; tables = all }))
+    (sym (c.in_ok-tables-in-Some.ensures ∙ ap (λ (list : List (BTreeSet GraphRow)). tables_of 0 (lists_of list)) c.deref.ensures.value))
+    (tidy c.args.network.now c.count-count.ensures.valid c.args.query.now c.args.graph.now c.requires.pruned c.requires.coherent c.in-Some.start
+    c.in-Some.is (lists_of tables) (map_length (λ table. table.keys) tables ∙ c.in_ok-rows-in-Some.ensures.len) c.in_ok-rows-in-Some.ensures.rows)

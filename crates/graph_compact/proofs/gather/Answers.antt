@@ -22,7 +22,8 @@ loop-ride-preserved c =
     let ends : end ≡ end_of c.args.network.now r.leg = ap (λ (conn : Connection). conn.to.0) c.get-end.ensures.connection in
     let leg : IsLegOf c.args.network.now r.leg =
     subst (λ (x : Ride). IsLegOf c.args.network.now x.leg) (sym c.ride-item.is)
-    (subst (λ (list : List Ride). (k : ℕ) (d : Ride) → k < length list → IsLegOf c.args.network.now (slice_index_or list k d).leg) (sym c.as_slice-ride-items.ensures) c.requires c.loop-ride.ride-index r within) in
+    (subst (λ (list : List Ride). (k : ℕ) (d : Ride) → k < length list → IsLegOf c.args.network.now (slice_index_or list k d).leg)
+    (sym c.as_slice-ride-items.ensures) c.requires c.loop-ride.ride-index r within) in
     let there = (c.count-count.ensures.valid.connections r.leg.exit.0 leg.exit).to_in in
     let inside : end < length tables = omega (arith, inv.len, there, ends) in
     let puts : c.put_all.new.table.keys ≡ put_rows r.after (rows_in tables end) =
@@ -31,5 +32,6 @@ loop-ride-preserved c =
     ∙ ap (λ (rows : List GraphRow). put_rows r.after rows) (ap (λ (v : BTreeSet GraphRow). v.keys) c.index_mut.ensures.value ∙ sym (rows_in_at tables end c.index_mut.result.now inside)) in
     record {
       len = grind (arith, common_steps, inv.len);
-      rows = λ place small. gather_step c.args.network.now rides c.loop-ride.ride-index r tables end c.put_all.new.table (gathered c.args.network.now place c.args.graph.now.rides []) place within c.ride-item.is ends inside puts (inv.rows place small);
+      rows = λ place small. gather_step c.args.network.now rides c.loop-ride.ride-index r tables end c.put_all.new.table
+          (gathered c.args.network.now place c.args.graph.now.rides []) place within c.ride-item.is ends inside puts (inv.rows place small);
     }

@@ -25,7 +25,8 @@ returns c =
     let list = c.as_slice.result.now in
     let kept = c.fill.new.outlooks in
     let many : c.in_ok-outlooks.outlooks.len ≡ length kept = omega (arith, c.in_ok-outlooks.ensures.len, c.count.ensures.count, c.fill.ensures.as_many) in
-    let same : list ≡ kept = c.as_slice.ensures.value ∙ take-append-le c.in_ok-outlooks.outlooks.len kept (drop (length kept) c.in_ok-outlooks.outlooks.items) (omega (arith, many)) ∙ take_all c.in_ok-outlooks.outlooks.len kept (omega (arith, many)) in
+    let same : list ≡ kept = c.as_slice.ensures.value ∙ take-append-le c.in_ok-outlooks.outlooks.len kept
+    (drop (length kept) c.in_ok-outlooks.outlooks.items) (omega (arith, many)) ∙ take_all c.in_ok-outlooks.outlooks.len kept (omega (arith, many)) in
     let at = subst (λ (outlooks : List Outlook). IsOutlook n q (slice_index_or outlooks leg.exit.0 no_outlook) tree) (sym same) told in
     let within : leg.exit.0 < length list = let size = ap (λ (outlooks : List Outlook). length outlooks) same in omega (arith, size, c.fill.ensures.as_many, there) in
     let own : c.index-as_slice-start.result ≡ slice_index_or list leg.exit.0 no_outlook = c.index-as_slice-start.is ∙ at_default list leg.exit.0 c.index-as_slice-start.result no_outlook within in

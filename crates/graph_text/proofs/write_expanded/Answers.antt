@@ -8,4 +8,6 @@ use Rattle.graph_text.proofs.write_expanded.Goals as goal
 
 pub returns : goal.returns
 returns c =
-    subst (λ (version : Version). IfOk c.text_by_ride.result (λ text. text.items ≡ expanded_text_in c.args.network.now c.args.names.now version c.args.head.now c.args.graph.now)) (c.version_of_rides.ensures ∙ ap (λ (rides : List Ride). version_by (rides_leave c.args.network.now rides)) c.as_slice.ensures) c.text_by_ride.ensures
+    subst (λ (version : Version). IfOk c.text_by_ride.result
+    (λ text. text.items ≡ expanded_text_in c.args.network.now c.args.names.now version c.args.head.now c.args.graph.now))
+    (c.version_of_rides.ensures ∙ ap (λ (rides : List Ride). version_by (rides_leave c.args.network.now rides)) c.as_slice.ensures) c.text_by_ride.ensures

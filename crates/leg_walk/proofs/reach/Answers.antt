@@ -44,10 +44,14 @@ loop-preserved g c =
     let choice = g.C.LegChoice.chosen c.args.choice.now c.args.network.now in
     let whole = unfolded c.args.network.now c.args.query.now choice (Some c.args.start) in
     let inv = c.loop.invariant in
-    let at = popped c.args.network.now c.args.query.now.target.0 inv.by choice whole c.args.start c.loop.todo.items c.pop.new.self.items c.loop.seen.keys c.in-Some.leg inv.reaching c.in-Some.ensures.items in
-    let after = visited c.args.network.now c.args.query.now.target.0 inv.by choice whole c.args.start c.pop.new.self.items c.visit.new.todo.items c.loop.seen.keys c.in-Some.leg at c.in_ok-visit-in-Some.ensures.todo in
+    let at = popped c.args.network.now c.args.query.now.target.0 inv.by choice whole c.args.start c.loop.todo.items c.pop.new.self.items
+    c.loop.seen.keys c.in-Some.leg inv.reaching c.in-Some.ensures.items in
+    let after = visited c.args.network.now c.args.query.now.target.0 inv.by choice whole c.args.start c.pop.new.self.items c.visit.new.todo.items
+    c.loop.seen.keys c.in-Some.leg at c.in_ok-visit-in-Some.ensures.todo in
     record {
       by = inv.by;
-      reaching = subst (λ (seen : List Leg). IsReaching c.args.network.now c.args.query.now.target.0 inv.by choice whole c.args.start c.visit.new.todo.items seen) (sym c.in_ok-visit-in-Some.ensures.seen) after;
+      reaching = subst
+          (λ (seen : List Leg). IsReaching c.args.network.now c.args.query.now.target.0 inv.by choice whole c.args.start c.visit.new.todo.items seen)
+          (sym c.in_ok-visit-in-Some.ensures.seen) after;
       ordered = c.in_ok-visit-in-Some.ensures.ordered;
     }

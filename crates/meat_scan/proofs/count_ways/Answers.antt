@@ -23,5 +23,7 @@ loop-k-preserved c =
     let inside = from_in network c.requires.valid c.args.place.0 loop.k way c.requires.place c.way_at-way.ensures in
     record {
       len = length-set loop.room way.from.0 _ ∙ loop.invariant.len;
-      counts = λ from there. count_next (ways_into network c.args.place.0) (ways_into-distinct network c.requires.valid c.args.place.0 c.requires.place) loop.k (omega arith) way c.way_at-way.ensures loop.room from _ (omega (arith, inside, loop.invariant.len, c.requires.len)) (loop.invariant.counts from there);
+      counts = λ from there. count_next (ways_into network c.args.place.0)
+          (ways_into-distinct network c.requires.valid c.args.place.0 c.requires.place) loop.k (omega arith) way c.way_at-way.ensures loop.room from _
+          (omega (arith, inside, loop.invariant.len, c.requires.len)) (loop.invariant.counts from there);
     }

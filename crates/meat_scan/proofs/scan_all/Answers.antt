@@ -24,14 +24,18 @@ pub scan_one-exit-requires-clause-there : goal.scan_one-exit-requires-clause-the
 scan_one-exit-requires-clause-there g c =
     let loop = c.loop-id.invariant in
     let state = rw c.in-Some.ensures.last at loop.state in
-    next_there g.V.Score.laws c.args.network.now loop.valid c.args.query.now (g.B.BackwardOrder.rest c.args.order.now c.args.network.now) c.requires.whole (g.B.BackwardOrder.rest c.next.new.self c.args.network.now) c.in-Some.id c.loop-id.profiles.items c.loop-id.exits c.loop-id.start state
+    next_there g.V.Score.laws c.args.network.now loop.valid c.args.query.now
+    (g.B.BackwardOrder.rest c.args.order.now c.args.network.now) c.requires.whole
+    (g.B.BackwardOrder.rest c.next.new.self c.args.network.now) c.in-Some.id c.loop-id.profiles.items c.loop-id.exits c.loop-id.start state
 
 pub scan_one-exit-requires-clause-run : goal.scan_one-exit-requires-clause-run
 scan_one-exit-requires-clause-run g c =
     let loop = c.loop-id.invariant in
     let room = rw c.in-Some.ensures.last at loop.room in
     let state = rw c.in-Some.ensures.last at loop.state in
-    let there = next_there g.V.Score.laws c.args.network.now loop.valid c.args.query.now (g.B.BackwardOrder.rest c.args.order.now c.args.network.now) c.requires.whole (g.B.BackwardOrder.rest c.next.new.self c.args.network.now) c.in-Some.id c.loop-id.profiles.items c.loop-id.exits c.loop-id.start state in
+    let there = next_there g.V.Score.laws c.args.network.now loop.valid c.args.query.now
+    (g.B.BackwardOrder.rest c.args.order.now c.args.network.now) c.requires.whole
+    (g.B.BackwardOrder.rest c.next.new.self c.args.network.now) c.in-Some.id c.loop-id.profiles.items c.loop-id.exits c.loop-id.start state in
     room_for_run c.args.network.now (g.B.BackwardOrder.rest c.next.new.self c.args.network.now) c.in-Some.id there c.loop-id.profiles.items c.loop-id.exits c.loop-id.kids.items room
 
 pub scan_one-exit-requires-clause-room : goal.scan_one-exit-requires-clause-room
@@ -39,14 +43,19 @@ scan_one-exit-requires-clause-room g c =
     let loop = c.loop-id.invariant in
     let room = rw c.in-Some.ensures.last at loop.room in
     let state = rw c.in-Some.ensures.last at loop.state in
-    let there = next_there g.V.Score.laws c.args.network.now loop.valid c.args.query.now (g.B.BackwardOrder.rest c.args.order.now c.args.network.now) c.requires.whole (g.B.BackwardOrder.rest c.next.new.self c.args.network.now) c.in-Some.id c.loop-id.profiles.items c.loop-id.exits c.loop-id.start state in
-    rw c.deref_mut.ensures.value (room_for_rows c.args.network.now (g.B.BackwardOrder.rest c.next.new.self c.args.network.now) c.in-Some.id there c.loop-id.profiles.items c.loop-id.exits c.loop-id.kids.items room)
+    let there = next_there g.V.Score.laws c.args.network.now loop.valid c.args.query.now
+    (g.B.BackwardOrder.rest c.args.order.now c.args.network.now) c.requires.whole
+    (g.B.BackwardOrder.rest c.next.new.self c.args.network.now) c.in-Some.id c.loop-id.profiles.items c.loop-id.exits c.loop-id.start state in
+    rw c.deref_mut.ensures.value (room_for_rows c.args.network.now
+    (g.B.BackwardOrder.rest c.next.new.self c.args.network.now) c.in-Some.id there c.loop-id.profiles.items c.loop-id.exits c.loop-id.kids.items room)
 
 pub begin-start-requires : goal.begin-start-requires
 begin-start-requires g c =
     let loop = c.loop-id.invariant in
     let state = rw c.in-Some.ensures.last at loop.state in
-    next_there g.V.Score.laws c.args.network.now loop.valid c.args.query.now (g.B.BackwardOrder.rest c.args.order.now c.args.network.now) c.requires.whole (g.B.BackwardOrder.rest c.next.new.self c.args.network.now) c.in-Some.id c.loop-id.profiles.items c.loop-id.exits c.loop-id.start state
+    next_there g.V.Score.laws c.args.network.now loop.valid c.args.query.now
+    (g.B.BackwardOrder.rest c.args.order.now c.args.network.now) c.requires.whole
+    (g.B.BackwardOrder.rest c.next.new.self c.args.network.now) c.in-Some.id c.loop-id.profiles.items c.loop-id.exits c.loop-id.start state
 
 pub loop-id-preserved : goal.loop-id-preserved
 loop-id-preserved g c =
@@ -55,7 +64,8 @@ loop-id-preserved g c =
     let rest = g.B.BackwardOrder.rest c.next.new.self c.args.network.now in
     let room = rw c.in-Some.ensures.last at loop.room in
     let state = rw c.in-Some.ensures.last at loop.state in
-    let there = next_there g.V.Score.laws c.args.network.now loop.valid c.args.query.now (g.B.BackwardOrder.rest c.args.order.now c.args.network.now) c.requires.whole rest c.in-Some.id c.loop-id.profiles.items c.loop-id.exits c.loop-id.start state in
+    let there = next_there g.V.Score.laws c.args.network.now loop.valid c.args.query.now
+    (g.B.BackwardOrder.rest c.args.order.now c.args.network.now) c.requires.whole rest c.in-Some.id c.loop-id.profiles.items c.loop-id.exits c.loop-id.start state in
     let profiles_whole = c.loop-id.profiles.ok.0 in
     let kids_whole = c.loop-id.kids.ok.0 in
     let profiles_are = written_back one.new.profiles c.loop-id.profiles.items c.loop-id.profiles.len (omega arith) (omega arith) in
@@ -65,8 +75,12 @@ loop-id-preserved g c =
     rw (profiles_are, kids_are) (record {
       valid = loop.valid;
       fits = c.in-Some.ensures.fits;
-      room = room_next c.args.network.now rest c.in-Some.id there c.loop-id.profiles.items c.loop-id.exits c.loop-id.kids.items room one.new.profiles one.new.exits one.new.kids (rw old at one.ensures.spare) (rw old at one.ensures.places) one.ensures.runs (omega arith);
-      state = next_state g.V.Score.laws c.args.network.now loop.valid c.args.query.now (g.B.BackwardOrder.rest c.args.order.now c.args.network.now) c.requires.whole rest c.in-Some.id c.loop-id.profiles.items one.new.profiles c.loop-id.exits one.new.exits c.loop-id.start c.begin-start.result state (rw old at one.ensures.rows) (rw old at one.ensures.exits) (rw exit at c.begin-start.ensures);
+      room = room_next c.args.network.now rest c.in-Some.id there c.loop-id.profiles.items c.loop-id.exits c.loop-id.kids.items room one.new.profiles
+          one.new.exits one.new.kids (rw old at one.ensures.spare) (rw old at one.ensures.places) one.ensures.runs (omega arith);
+      state = next_state g.V.Score.laws c.args.network.now loop.valid c.args.query.now
+          (g.B.BackwardOrder.rest c.args.order.now c.args.network.now) c.requires.whole rest c.in-Some.id c.loop-id.profiles.items one.new.profiles
+          c.loop-id.exits one.new.exits c.loop-id.start c.begin-start.result state (rw old at one.ensures.rows) (rw old at one.ensures.exits)
+          (rw exit at c.begin-start.ensures);
       same_capacity = λ place. rw old at (one.ensures.capacity place) ∙ loop.same_capacity place;
       same_runs = one.ensures.runs ∙ loop.same_runs;
       same_outcomes = omega (arith, loop.same_outcomes);
@@ -77,11 +91,15 @@ returns-clause-answers g c =
     let loop = c.loop-id.invariant in
     let told = c.in_default.ensures.none.0 refl in
     let rows_are = found_rows-profiles c.loop-id.start c.args.query.now.target.0 c.loop-id.profiles.items in
-    last_state g.V.Score.laws c.args.network.now loop.valid c.args.query.now (g.B.BackwardOrder.rest c.args.order.now c.args.network.now) c.requires.whole (g.B.BackwardOrder.rest c.loop-id.order c.args.network.now) c.loop-id.profiles.items c.loop-id.exits _ c.requires.differ told rows_are loop.state
+    last_state g.V.Score.laws c.args.network.now loop.valid c.args.query.now
+    (g.B.BackwardOrder.rest c.args.order.now c.args.network.now) c.requires.whole
+    (g.B.BackwardOrder.rest c.loop-id.order c.args.network.now) c.loop-id.profiles.items c.loop-id.exits _ c.requires.differ told rows_are loop.state
 
 pub returns-clause-rules : goal.returns-clause-rules
 returns-clause-rules g c =
     let loop = c.loop-id.invariant in
     let told = c.in_default.ensures.none.0 refl in
     let rows_are = found_rows-profiles c.loop-id.start c.args.query.now.target.0 c.loop-id.profiles.items in
-    rules_end g.V.Score.laws c.args.network.now loop.valid c.args.query.now (g.B.BackwardOrder.rest c.args.order.now c.args.network.now) c.requires.whole (g.B.BackwardOrder.rest c.loop-id.order c.args.network.now) c.loop-id.profiles.items c.loop-id.exits _ told rows_are loop.state
+    rules_end g.V.Score.laws c.args.network.now loop.valid c.args.query.now
+    (g.B.BackwardOrder.rest c.args.order.now c.args.network.now) c.requires.whole
+    (g.B.BackwardOrder.rest c.loop-id.order c.args.network.now) c.loop-id.profiles.items c.loop-id.exits _ told rows_are loop.state

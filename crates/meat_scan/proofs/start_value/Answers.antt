@@ -7,10 +7,13 @@ pub returns-clause-solves : goal.returns-clause-solves
 returns-clause-solves g c =
     let score = g.V.Score in
     let scanned = c.scan_all-tables in
-    value_solved score.below score.covers score.gap c.args.network.now c.args.query.now (found_in scanned.result.0 scanned.result.1 c.args.query.now.target.0) scanned.result.1 c.leg_value-value.result scanned.ensures.answers.begins c.leg_value-value.ensures
+    value_solved score.below score.covers score.gap c.args.network.now c.args.query.now
+    (found_in scanned.result.0 scanned.result.1 c.args.query.now.target.0) scanned.result.1 c.leg_value-value.result
+    scanned.ensures.answers.begins c.leg_value-value.ensures
 
 pub returns-clause-tables_fit : goal.returns-clause-tables_fit
 returns-clause-tables_fit g c =
     let used = c.scan_all-tables in
     let made = c.emptied.ensures in
-    fits_again c.args.network.now c.args.tables c.emptied.result used.result.0.profiles c.requires.tables_fit made.empty made.spare used.ensures.capacity (made.places ∙ used.ensures.places) (made.runs ∙ used.ensures.runs) (made.outcomes ∙ used.ensures.outcomes)
+    fits_again c.args.network.now c.args.tables c.emptied.result used.result.0.profiles c.requires.tables_fit made.empty made.spare
+    used.ensures.capacity (made.places ∙ used.ensures.places) (made.runs ∙ used.ensures.runs) (made.outcomes ∙ used.ensures.outcomes)

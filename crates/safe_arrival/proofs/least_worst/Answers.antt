@@ -20,7 +20,14 @@ returns-then-is_some-clause-early g c =
 pub returns-clause-least : goal.returns-clause-least
 returns-clause-least g c =
     let found = c.least_worst_by-tables in
-    least_by_last c.args.network.now found.ensures.valid (record { source = c.args.source; target = c.args.target; start = c.args.start; deadline = record { 0 = last_moment } }) c.requires.start refl found.result.1 found.ensures.least
+    least_by_last c.args.network.now found.ensures.valid
+    (record {
+      source = c.args.source;
+      target = c.args.target;
+      start = c.args.start;
+      deadline =
+          record { 0 = last_moment };
+    }) c.requires.start refl found.result.1 found.ensures.least
 
 pub returns-clause-order : goal.returns-clause-order
 returns-clause-order g c =

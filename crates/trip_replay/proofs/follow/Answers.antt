@@ -34,7 +34,8 @@ returns-in_default-arrival_of-clause-walk c =
     let target = c.args.query.now.target.0 in
     let none = sym c.arrival_of.ensures ∙ ap (λ (o : Option Moment). option_map (λ moment. moment.0) o) c.in_default-arrival_of.is in
     c.loop-delay.invariant.walk
-    ∙ not_a_delay n target choice s c.loop-delay.rides c.args.delays.now c.loop-delay.delay-index c.in-Some.leg 0 (target_away s.place.0 target c.eq.result c.eq.ensures c.if-eq.false) c.in-Some.is c.loop-delay-test.true none
+    ∙ not_a_delay n target choice s c.loop-delay.rides c.args.delays.now c.loop-delay.delay-index c.in-Some.leg 0
+    (target_away s.place.0 target c.eq.result c.eq.ensures c.if-eq.false) c.in-Some.is c.loop-delay-test.true none
     ∙ ap (λ (k : ℕ). Err (fault.NotADelay (k + 1))) (sym c.len-in_default-arrival_of.ensures)
 
 pub loop-delay-preserved : goal.loop-delay-preserved
@@ -51,7 +52,8 @@ loop-delay-preserved c =
     let few : length behind + s.left < count n = at_some n (count n) (length behind) s.left s.next c.in-Some.leg c.in-Some.is c.loop-delay.invariant.next in
     record {
       walk = c.loop-delay.invariant.walk
-          ∙ after_ride n target choice s behind c.args.delays.now c.loop-delay.delay-index c.in-Some.leg 0 c.in-Some-arrival_of.arrival.0 (target_away s.place.0 target c.eq.result c.eq.ensures c.if-eq.false) c.in-Some.is c.loop-delay-test.true some
+          ∙ after_ride n target choice s behind c.args.delays.now c.loop-delay.delay-index c.in-Some.leg 0 c.in-Some-arrival_of.arrival.0
+          (target_away s.place.0 target c.eq.result c.eq.ensures c.if-eq.false) c.in-Some.is c.loop-delay-test.true some
           ∙ ap (λ (list : List Ridden). walk n (unfold_after n target choice s.left c.in-Some.leg c.in-Some-arrival_of.arrival.0) rest list) (sym pushed)
           ∙ ap (λ (tree : Tree). walk n tree rest c.push.new.self) (sym c.stop_after-stop.ensures.tree);
       next = subst (λ (k : ℕ). IfSome c.stop_after-stop.result.next (λ leg. IsLegOf n leg × (k + c.stop_after-stop.result.left < count n))) (sym more)

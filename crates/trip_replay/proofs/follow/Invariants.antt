@@ -13,7 +13,8 @@ use Rattle.trip_replay.proofs.follow.Given as goal
 -- the walk goes on from the stop, with the delays that are left and the rides so far behind
 abbrev pub invariant-loop-delay : goal.invariant-loop-delay
 invariant-loop-delay l = record {
-  walk : walk l.network (unfold_plan l.graph l.network l.query) l.delays [] ≡ walk l.network (tree_at l.network l.query.target.0 (by_place l.network (pick_at l.graph.tables)) l.stop) (drop l.delay-index l.delays) l.rides;
+  walk : walk l.network (unfold_plan l.graph l.network l.query) l.delays [] ≡ walk l.network
+      (tree_at l.network l.query.target.0 (by_place l.network (pick_at l.graph.tables)) l.stop) (drop l.delay-index l.delays) l.rides;
   next : IfSome l.stop.next (λ leg. IsLegOf l.network leg × (length l.rides + l.stop.left < count l.network));
   few : length l.rides + l.stop.left ≤ count l.network;
   rides : All (IsRide l.network) l.rides;

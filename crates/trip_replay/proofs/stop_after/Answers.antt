@@ -10,7 +10,9 @@ use Rattle.trip_replay.proofs.Walks.{next_leg}
 use Rattle.trip_replay.proofs.stop_after.Goals as goal
 
 pub returns-clause-next : goal.returns-clause-next
-returns-clause-next c = next_leg c.args.network.now c.args.graph.now.tables c.requires.fit.tables c.get.result.to.0 c.args.arrival.0 c.args.left c.pick.result c.pick.ensures (omega (arith, c.if-left-eq0.false))
+returns-clause-next c =
+    next_leg c.args.network.now c.args.graph.now.tables c.requires.fit.tables c.get.result.to.0 c.args.arrival.0 c.args.left c.pick.result
+    c.pick.ensures (omega (arith, c.if-left-eq0.false))
 
 -- with one more ride to come
 one_more : (n : Parts) (target : ℕ) (choice : Leg → ℕ → Option Leg) (fewer left : ℕ) (leg : Leg) (arrival : ℕ) → left ≡ suc fewer

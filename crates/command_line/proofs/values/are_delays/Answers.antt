@@ -24,7 +24,10 @@ returns-then-count-le-MOST_DELAYS c =
     few (pieces c.args.text.now) c.count.result c.all.result
     (count_from_yields_List _ _ c.count.ensures.ran (YieldsList-from_str_split 44 c.args.text.now (lit< tt) c.split.ensures.text c.split.ensures.has_more c.split.ensures.pattern))
     c.if-count-le-MOST_DELAYS.true
-    (all_from_yields_List is_delay _ _ _ c.all.ensures.ran (YieldsList-from_str_split 44 c.args.text.now (lit< tt) c.split-then-count-le-MOST_DELAYS.ensures.text c.split-then-count-le-MOST_DELAYS.ensures.has_more c.split-then-count-le-MOST_DELAYS.ensures.pattern) (λ x b q k. search (rules, tests)))
+    (all_from_yields_List is_delay _ _ _ c.all.ensures.ran
+    (YieldsList-from_str_split 44 c.args.text.now
+    (lit< tt) c.split-then-count-le-MOST_DELAYS.ensures.text c.split-then-count-le-MOST_DELAYS.ensures.has_more
+    c.split-then-count-le-MOST_DELAYS.ensures.pattern) (λ x b q k. search (rules, tests)))
 
 pub returns-else-count-le-MOST_DELAYS : goal.returns-else-count-le-MOST_DELAYS
 returns-else-count-le-MOST_DELAYS c =

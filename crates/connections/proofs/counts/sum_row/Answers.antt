@@ -18,4 +18,5 @@ pub returns : goal.returns
 returns c =
     let f = leaving_sum (each_of c.args.changes.now c.args.counted) c.args.window c.args.rows.now c.args.day c.args.row.now in
     let end : c.loop-k.k ≡ length c.args.rows.now - 1 = omega (arith, c.saturating_sub-k-end.ensures) in
-    c.loop-k.invariant ∙ ap (λ (n : ℕ). min n (2 ^ 64 - 1)) (ap (sum_below f) end ∙ sym (row_sum-leaving (each_of c.args.changes.now c.args.counted) c.args.window c.args.rows.now c.args.day c.args.row.now))
+    c.loop-k.invariant ∙ ap (λ (n : ℕ). min n (2 ^ 64 - 1))
+    (ap (sum_below f) end ∙ sym (row_sum-leaving (each_of c.args.changes.now c.args.counted) c.args.window c.args.rows.now c.args.day c.args.row.now))

@@ -11,16 +11,20 @@ use Rattle.connections.proofs.SumLemmas.{active-sum}
 use Rattle.connections.proofs.counts.sum_trip.Goals as goal
 
 pub may_run-requires : goal.may_run-requires
-may_run-requires c = subst AreDepartures (sym c.stop_times-rows.ensures) (departures_are (rows_of c.args.feed.now c.args.trip) (length c.args.feed.now.stop_ids) (c.requires.timed c.args.trip c.requires.trip))
+may_run-requires c = subst AreDepartures (sym c.stop_times-rows.ensures)
+    (departures_are (rows_of c.args.feed.now c.args.trip) (length c.args.feed.now.stop_ids) (c.requires.timed c.args.trip c.requires.trip))
 
 pub sum_runs-requires-clause-departures : goal.sum_runs-requires-clause-departures
-sum_runs-requires-clause-departures c = subst AreDepartures (sym c.stop_times-rows.ensures) (departures_are (rows_of c.args.feed.now c.args.trip) (length c.args.feed.now.stop_ids) (c.requires.timed c.args.trip c.requires.trip))
+sum_runs-requires-clause-departures c = subst AreDepartures (sym c.stop_times-rows.ensures)
+    (departures_are (rows_of c.args.feed.now c.args.trip) (length c.args.feed.now.stop_ids) (c.requires.timed c.args.trip c.requires.trip))
 
 pub sum_runs-requires-clause-repeats : goal.sum_runs-requires-clause-repeats
 sum_runs-requires-clause-repeats c = subst AreRepeats (sym c.frequencies-frequencies.ensures) (c.requires.repeats c.args.trip c.requires.trip)
 
 pub returns : goal.returns
 returns c =
-    active-sum (is_active c.args.feed.now c.args.services.now c.args.day c.args.trip) (runs_sum (each_of c.args.changes.now c.args.counted) c.args.window (rows_of c.args.feed.now c.args.trip) (frequencies_of c.args.feed.now c.args.trip) c.args.day)
+    active-sum (is_active c.args.feed.now c.args.services.now c.args.day c.args.trip)
+    (runs_sum (each_of c.args.changes.now c.args.counted) c.args.window (rows_of c.args.feed.now c.args.trip) (frequencies_of c.args.feed.now c.args.trip) c.args.day)
     c.sum_runs.result (sym c.has_service.ensures ∙ c.if-not-has_service.false)
-    (c.sum_runs.ensures ∙ ap₂ (λ (rows : List StopRow) (fs : List FrequencyRow). min (runs_sum (each_of c.args.changes.now c.args.counted) c.args.window rows fs c.args.day) (2 ^ 64 - 1)) c.stop_times-rows.ensures c.frequencies-frequencies.ensures)
+    (c.sum_runs.ensures ∙ ap₂ (λ (rows : List StopRow) (fs : List FrequencyRow). min
+    (runs_sum (each_of c.args.changes.now c.args.counted) c.args.window rows fs c.args.day) (2 ^ 64 - 1)) c.stop_times-rows.ensures c.frequencies-frequencies.ensures)

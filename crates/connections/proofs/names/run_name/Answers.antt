@@ -28,7 +28,8 @@ returns-clause-name c =
       reads = c.write_date-date.ensures ∙ ap Some (to_z-of_z w32 c.args.run.origin.day.number fits);
       text =
           c.in_ok-push_str-in-Ok-2.ensures.bytes
-          ∙ ap (λ x. x ++ c.trip_id.result.now) (c.in_ok-push_str-in-Ok.ensures.bytes ∙ ap (λ x. x ++ 58 ∷ []) (c.in_ok-push_start-in-Ok.ensures.text ∙ ap (λ x. x ++ start_text c.args.run.repeat) text))
+          ∙ ap (λ x. x ++ c.trip_id.result.now) (c.in_ok-push_str-in-Ok.ensures.bytes
+          ∙ ap (λ x. x ++ 58 ∷ []) (c.in_ok-push_start-in-Ok.ensures.text ∙ ap (λ x. x ++ start_text c.args.run.repeat) text))
           ∙ append-assoc (date ++ start_text c.args.run.repeat) (58 ∷ []) c.trip_id.result.now
           ∙ ap (λ x. (date ++ start_text c.args.run.repeat) ++ 58 ∷ x) (sym id);
     }

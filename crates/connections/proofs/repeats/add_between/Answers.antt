@@ -21,7 +21,8 @@ loop-m-preserved c =
     let before = list_below f (m - c.args.from) in
     let here : m ≡ c.args.from + (m - c.args.from) = omega (arith, c.loop-m.auto.m) in
     let more : m - c.args.from + 1 ≡ m + 1 - c.args.from = omega (arith, c.loop-m.auto.m) in
-    let all : before ++ run_of row m ∷ [] ≡ list_below f (m - c.args.from + 1) = list_below-next f (m - c.args.from) before (before ++ run_of row m ∷ []) (run_of row m) refl refl (ap (run_of row) here) in (
+    let all : before ++ run_of row m ∷ [] ≡ list_below f (m - c.args.from + 1) =
+    list_below-next f (m - c.args.from) before (before ++ run_of row m ∷ []) (run_of row m) refl refl (ap (run_of row) here) in (
       c.in_ok-push.ensures.items
           ∙ ap (λ (d : ℕ). c.loop-m.repeats.items ++ record { departure = d; line = row.line } ∷ []) c.departure.ensures
           ∙ ap (λ (xs : List Repeat). xs ++ run_of row m ∷ []) c.loop-m.invariant.0

@@ -10,7 +10,8 @@ use Rattle.connections.proofs.rides.add_rides.Goals.{then-leaves+in_ok-push, els
 pub loop-k-init : goal.loop-k-init
 loop-k-init c =
     let rows = c.args.rows.now in let run = c.args.run.now in
-    sym (ap (λ xs. c.args.connections.now ++ map (ride rows run.origin run.number (class_for c.args.delays.now (Some run.route_type) (Some run.route.now))) xs) (steps-zero c.args.window rows run.origin) ∙ append-nil c.args.connections.now)
+    sym (ap (λ xs. c.args.connections.now ++ map (ride rows run.origin run.number
+    (class_for c.args.delays.now (Some run.route_type) (Some run.route.now))) xs) (steps-zero c.args.window rows run.origin) ∙ append-nil c.args.connections.now)
 
 pub loop-k-preserved : goal.loop-k-preserved
 loop-k-preserved c =

@@ -15,14 +15,16 @@ use Rattle.connections.proofs.runs.add_day.Goals.{then-may_run+then-has_service+
 
 pub may_run-requires : goal.may_run-requires
 may_run-requires c =
-    subst AreDepartures (sym c.stop_times-rows.ensures) (departures_are (rows_of c.args.feed.now c.loop-trip.trip) (length c.args.feed.now.stop_ids) (c.trip_count-trip-end.ensures.timed c.loop-trip.trip (search rules)))
+    subst AreDepartures (sym c.stop_times-rows.ensures) (departures_are (rows_of c.args.feed.now c.loop-trip.trip) (length c.args.feed.now.stop_ids)
+    (c.trip_count-trip-end.ensures.timed c.loop-trip.trip (search rules)))
 
 pub loop-trip-init : goal.loop-trip-init
 loop-trip-init c = sym (ap (λ xs. c.args.runs.now.items ++ xs) (day-zero c.args.feed.now c.args.services.now c.args.window c.args.day) ∙ nothing-after c.args.runs.now.items)
 
 pub add_trip-requires-clause-departures : goal.add_trip-requires-clause-departures
 add_trip-requires-clause-departures c =
-    subst AreDepartures (sym c.stop_times-rows.ensures) (departures_are (rows_of c.args.feed.now c.loop-trip.trip) (length c.args.feed.now.stop_ids) (c.trip_count-trip-end.ensures.timed c.loop-trip.trip (search rules)))
+    subst AreDepartures (sym c.stop_times-rows.ensures) (departures_are (rows_of c.args.feed.now c.loop-trip.trip) (length c.args.feed.now.stop_ids)
+    (c.trip_count-trip-end.ensures.timed c.loop-trip.trip (search rules)))
 
 pub add_trip-requires-clause-repeats : goal.add_trip-requires-clause-repeats
 add_trip-requires-clause-repeats c = subst AreRepeats (sym c.frequencies-frequencies.ensures) (c.trip_count-trip-end.ensures.repeats c.loop-trip.trip (search rules))
@@ -42,7 +44,8 @@ loop-trip-preserved c =
           let here : runs_by w c.stop_times-rows.result.now c.frequencies-frequencies.result.now day k ≡ trip_runs f s w day k
           = active_runs (is_active f s day k) _ own (sym v.has_service.ensures ∙ v.if-has_service.true) same in
           goes-on old before (trip_runs f s w day k) all c.if-may_run.runs.items next
-          (ap (λ (x : _). x.items) v.runs-is ∙ v.in_ok-add_trip.ensures ∙ ap (λ (xs : List Run). xs ++ runs_by w c.stop_times-rows.result.now c.frequencies-frequencies.result.now day k) c.loop-trip.invariant
+          (ap (λ (x : _). x.items) v.runs-is ∙ v.in_ok-add_trip.ensures
+          ∙ ap (λ (xs : List Run). xs ++ runs_by w c.stop_times-rows.result.now c.frequencies-frequencies.result.now day k) c.loop-trip.invariant
           ∙ ap (λ (xs : List Run). (old ++ before) ++ xs) here)
       | else-may_run v ↦
           let none : [] ≡ trip_runs f s w day k = elim v.else-may_run.branch [

@@ -26,4 +26,5 @@ returns-clause-sorted c =
     let rows = c.args.rows.now in
     let P : ℕ → Type 0 = λ m. AreKeys (λ i. true) (run_of rows) (step_of rows) m c.loop-i.keys.items in
     let end : c.loop-i.i ≡ length rows = omega arith in
-    sorted_are (λ i. true) (run_of rows) (step_of rows) (length rows) c.loop-i.keys.items c.in_order.result.items (subst P end c.loop-i.invariant.keys) c.in_order.ensures.same c.in_order.ensures.rising
+    sorted_are (λ i. true) (run_of rows) (step_of rows) (length rows) c.loop-i.keys.items c.in_order.result.items
+    (subst P end c.loop-i.invariant.keys) c.in_order.ensures.same c.in_order.ensures.rising

@@ -17,4 +17,6 @@ unfolding graph_of
 returns-clause-plan g c =
     let value : MeanSpan = record { 0 = c.exact.result } in
     planned_by_mean c.args.network.now c.args.query.now (graph_of c.new.result) value
-    (planned_at_once mean_below mean_covers mean_gap mean_rank mean_arrived mean_blended mean_lowered mean_laws c.args.network.now c.args.query.now (graph_of c.new.result) value c.if-query.false c.requires.deadline (ap graph_of c.new.ensures) (exact_value c.args.query.now.start.0 c.exact.result c.exact.ensures))
+    (planned_at_once mean_below mean_covers mean_gap mean_rank mean_arrived mean_blended mean_lowered mean_laws c.args.network.now c.args.query.now
+    (graph_of c.new.result) value c.if-query.false c.requires.deadline (ap graph_of c.new.ensures)
+    (exact_value c.args.query.now.start.0 c.exact.result c.exact.ensures))

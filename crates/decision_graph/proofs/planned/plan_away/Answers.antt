@@ -9,6 +9,9 @@ compact-requires-clause-coherent g c =
 
 pub returns-clause-plan : goal.returns-clause-plan
 returns-clause-plan g c =
-    planned g.V.Score.below g.V.Score.covers g.V.Score.gap g.V.Score.arrived c.args.network.now c.args.query.now c.in-Ok-Some.expanded.graph c.in-Ok.pruned c.in-Ok-compact.graph c.in-Ok-Some.expanded.value
-    (match_some c.in-Ok-Some.field-0 c.in-Ok-Some.expanded (NoneSafe c.args.network.now c.args.query.now) (λ p. IsExpandedBy g.V.Score.below g.V.Score.covers g.V.Score.gap g.V.Score.arrived c.args.network.now c.args.query.now p.graph p.value) c.in-Ok-Some.field-0-is c.in-Ok-Some.ensures.plan)
+    planned g.V.Score.below g.V.Score.covers g.V.Score.gap g.V.Score.arrived c.args.network.now c.args.query.now c.in-Ok-Some.expanded.graph
+    c.in-Ok.pruned c.in-Ok-compact.graph c.in-Ok-Some.expanded.value
+    (match_some c.in-Ok-Some.field-0 c.in-Ok-Some.expanded (NoneSafe c.args.network.now c.args.query.now)
+    (λ p. IsExpandedBy g.V.Score.below g.V.Score.covers g.V.Score.gap g.V.Score.arrived c.args.network.now c.args.query.now p.graph p.value)
+    c.in-Ok-Some.field-0-is c.in-Ok-Some.ensures.plan)
     c.in-Ok.ensures.unfolds c.in-Ok-compact.ensures.unfolds c.in-Ok-compact.ensures.tidy

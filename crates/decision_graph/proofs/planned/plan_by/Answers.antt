@@ -9,4 +9,6 @@ graph_of tables = record { start = None; tables = tables }
 
 pub returns-clause-plan : goal.returns-clause-plan
 unfolding graph_of
-returns-clause-plan g c = planned_at_once g.V.Score.below g.V.Score.covers g.V.Score.gap g.V.Score.rank g.V.Score.arrived g.V.Score.blended g.V.Score.lowered g.V.Score.laws c.args.network.now c.args.query.now (graph_of c.new.result) c.arrive.result c.if-query.false c.requires.deadline (ap graph_of c.new.ensures) c.arrive.ensures
+returns-clause-plan g c =
+    planned_at_once g.V.Score.below g.V.Score.covers g.V.Score.gap g.V.Score.rank g.V.Score.arrived g.V.Score.blended g.V.Score.lowered g.V.Score.laws
+    c.args.network.now c.args.query.now (graph_of c.new.result) c.arrive.result c.if-query.false c.requires.deadline (ap graph_of c.new.ensures) c.arrive.ensures

@@ -9,8 +9,11 @@ loop-place-init c = first-zero (group_sum_at (rows_of c.args.read.now.groups c.a
 
 pub returns-in-Some : goal.returns-in-Some
 returns-in-Some c =
-    sym (first-at (group_sum_at (rows_of c.args.read.now.groups c.args.read.now.rows.items) c.args.read.now.groups (line_at c.args.read.now.rows.items)) c.loop-place.place (length c.args.read.now.groups) c.in-Some.fault (omega arith) c.loop-place.invariant (sym c.in-Some.ensures))
+    sym (first-at (group_sum_at (rows_of c.args.read.now.groups c.args.read.now.rows.items) c.args.read.now.groups
+    (line_at c.args.read.now.rows.items)) c.loop-place.place (length c.args.read.now.groups) c.in-Some.fault (omega arith) c.loop-place.invariant
+    (sym c.in-Some.ensures))
 
 pub loop-place-preserved : goal.loop-place-preserved
 loop-place-preserved c =
-    first-next (group_sum_at (rows_of c.args.read.now.groups c.args.read.now.rows.items) c.args.read.now.groups (line_at c.args.read.now.rows.items)) c.loop-place.place None c.loop-place.invariant (sym c.in_default.ensures)
+    first-next (group_sum_at (rows_of c.args.read.now.groups c.args.read.now.rows.items) c.args.read.now.groups
+    (line_at c.args.read.now.rows.items)) c.loop-place.place None c.loop-place.invariant (sym c.in_default.ensures)

@@ -9,7 +9,8 @@ loop-place-init c = first-zero (type_sum_at (rows_of c.args.read.now.groups c.ar
 
 pub returns-in-Some : goal.returns-in-Some
 returns-in-Some c =
-    sym (first-at (type_sum_at (rows_of c.args.read.now.groups c.args.read.now.rows.items) c.args.types.now) c.loop-place.place (length c.args.types.now) c.in-Some.fault (omega arith) c.loop-place.invariant (sym c.in-Some.ensures))
+    sym (first-at (type_sum_at (rows_of c.args.read.now.groups c.args.read.now.rows.items) c.args.types.now) c.loop-place.place
+    (length c.args.types.now) c.in-Some.fault (omega arith) c.loop-place.invariant (sym c.in-Some.ensures))
 
 pub loop-place-preserved : goal.loop-place-preserved
 loop-place-preserved c =

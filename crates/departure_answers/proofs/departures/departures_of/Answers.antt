@@ -3,7 +3,11 @@ use Rattle.departure_answers.proofs.Departing.{safe_at_once, departures_at_once,
 use Rattle.departure_answers.proofs.departures.departures_of.Goals as goal
 
 pub returns-then-query : goal.returns-then-query
-returns-then-query c = (departures_at_once c.args.problem.now c.args.query.now c.args.last.0 c.new.result c.new.ensures c.if-query.true, safe_at_once c.args.problem.now c.args.query.now c.if-query.true c.requires.until.order)
+returns-then-query c = (
+  departures_at_once c.args.problem.now c.args.query.now c.args.last.0 c.new.result c.new.ensures c.if-query.true,
+  safe_at_once c.args.problem.now
+      c.args.query.now c.if-query.true c.requires.until.order,
+)
 
 pub returns-then-len-eq0 : goal.returns-then-len-eq0
 returns-then-len-eq0 c =

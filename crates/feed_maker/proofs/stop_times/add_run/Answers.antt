@@ -17,7 +17,9 @@ loop-place-init c = record {
 
 pub loop-place-preserved : goal.loop-place-preserved
 loop-place-preserved c = record {
-  rows = joined_more (stop_time_row c.args.trip.line c.args.trip.run) c.loop-place.place c.args.text.now.items c.loop-place.text.items c.add_stop_time.new.text.items c.loop-place.invariant.rows c.add_stop_time.ensures.row;
+  rows = joined_more
+      (stop_time_row c.args.trip.line c.args.trip.run) c.loop-place.place c.args.text.now.items c.loop-place.text.items c.add_stop_time.new.text.items
+      c.loop-place.invariant.rows c.add_stop_time.ensures.row;
   longer = omega arith;
   short = omega arith;
   capacity = omega arith;

@@ -8,4 +8,5 @@ loop-line-init c = c.in_ok-write_hubs.ensures ∙ ap (λ (text : List ℕ). text
 
 pub loop-line-preserved : goal.loop-line-preserved
 loop-line-preserved c =
-    joined_more own_rows c.loop-line.line (codes "stop_id\n" ++ joined hub_row 10) (string_bytes c.loop-line.text) (string_bytes c.write_own_stops.new.text) c.loop-line.invariant c.in_ok-write_own_stops.ensures
+    joined_more own_rows c.loop-line.line (codes "stop_id\n" ++ joined hub_row 10) (string_bytes c.loop-line.text)
+    (string_bytes c.write_own_stops.new.text) c.loop-line.invariant c.in_ok-write_own_stops.ensures

@@ -8,4 +8,5 @@ loop-line-init c = c.in_ok-text.ensures.ok ∙ joined_none trip_rows (codes "rou
 
 pub loop-line-preserved : goal.loop-line-preserved
 loop-line-preserved c =
-    joined_more trip_rows c.loop-line.line (codes "route_id,service_id,trip_id\n") (string_bytes c.loop-line.text) (string_bytes c.write_trips.new.text) c.loop-line.invariant c.in_ok-write_trips.ensures
+    joined_more trip_rows c.loop-line.line (codes "route_id,service_id,trip_id\n") (string_bytes c.loop-line.text)
+    (string_bytes c.write_trips.new.text) c.loop-line.invariant c.in_ok-write_trips.ensures

@@ -8,4 +8,5 @@ loop-index-init c = joined_none (own_row c.args.line) (string_bytes c.args.text.
 
 pub loop-index-preserved : goal.loop-index-preserved
 loop-index-preserved c =
-    joined_more (own_row c.args.line) c.loop-index.index (string_bytes c.args.text.now) (string_bytes c.loop-index.text) (string_bytes c.writeln.new.self) c.loop-index.invariant c.in_ok-writeln.ensures.bytes
+    joined_more (own_row c.args.line) c.loop-index.index (string_bytes c.args.text.now) (string_bytes c.loop-index.text)
+    (string_bytes c.writeln.new.self) c.loop-index.invariant c.in_ok-writeln.ensures.bytes

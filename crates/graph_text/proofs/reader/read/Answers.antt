@@ -35,7 +35,8 @@ returns c =
     let fault = c.in-Err-read_graph.fault in
     let rows = c.in-Ok.rows in
     let query = c.in-Ok-read_head.ensures.query in
-    let same : graph_in n names version head.query.source.0 head.query.target.0 head.query.start.0 (drop 1 rows) ≡ graph_in n names version c.args.source.0 c.args.target.0 c.args.start.0 (drop 1 rows) =
+    let same : graph_in n names version head.query.source.0 head.query.target.0 head.query.start.0
+    (drop 1 rows) ≡ graph_in n names version c.args.source.0 c.args.target.0 c.args.start.0 (drop 1 rows) =
     ap (λ (p : PlaceId). graph_in n names version p.0 head.query.target.0 head.query.start.0 (drop 1 rows)) query.0
     ∙ ap (λ (p : PlaceId). graph_in n names version c.args.source.0 p.0 head.query.start.0 (drop 1 rows)) query.1
     ∙ ap (λ (m : Moment). graph_in n names version c.args.source.0 c.args.target.0 m.0 (drop 1 rows)) query.2 in

@@ -35,7 +35,9 @@ returns-in-Ok-clause-head g c =
 pub returns-in-Ok-clause-deadline : goal.returns-in-Ok-clause-deadline
 returns-in-Ok-clause-deadline g c =
     if_ok_then c.graph_of_bytes.result _ _
-    (λ f read. let told = graph_deadline c.args.problem.now.network c.args.problem.now.names c.args.problem.now.source.0 c.args.problem.now.target.0 c.args.start.0 c.as_slice.result.now f.0 f.1 read in
+    (λ f read. let told =
+    graph_deadline c.args.problem.now.network c.args.problem.now.names c.args.problem.now.source.0 c.args.problem.now.target.0 c.args.start.0
+    c.as_slice.result.now f.0 f.1 read in
     moment_range told.0 f.0.query.deadline.0 told.1)
     c.graph_of_bytes.ensures.graph
 

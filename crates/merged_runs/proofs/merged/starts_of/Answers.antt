@@ -9,8 +9,11 @@ loop-i-preserved c =
     let run = ap (λ (x : Connection). x.run.0) c.get.ensures.connection in
     let len = c.loop-i.starts.ok.0 in
     elim c.if-get-len.branch [
-      | then-get-len+in_ok-push w ↦ rw (w.starts-is, w.in_ok-push.ensures.items) (AreStartsBelow-start c.args.network.now c.count-i-end.ensures.valid c.loop-i.i c.loop-i.starts.items (omega (arith, c.count-i-end.ensures.count)) (omega (arith, run, c.len.ensures, w.if-get-len.true)) c.loop-i.invariant)
-      | else-get-len w ↦ rw w.starts-is (AreStartsBelow-within c.args.network.now c.count-i-end.ensures.valid c.loop-i.i c.loop-i.starts.items (omega (arith, c.count-i-end.ensures.count)) (λ e. w.if-get-len.false (omega (arith, run, c.len.ensures, e))) c.loop-i.invariant)
+      | then-get-len+in_ok-push w ↦ rw (w.starts-is, w.in_ok-push.ensures.items)
+          (AreStartsBelow-start c.args.network.now c.count-i-end.ensures.valid c.loop-i.i c.loop-i.starts.items
+          (omega (arith, c.count-i-end.ensures.count)) (omega (arith, run, c.len.ensures, w.if-get-len.true)) c.loop-i.invariant)
+      | else-get-len w ↦ rw w.starts-is (AreStartsBelow-within c.args.network.now c.count-i-end.ensures.valid c.loop-i.i c.loop-i.starts.items
+          (omega (arith, c.count-i-end.ensures.count)) (λ e. w.if-get-len.false (omega (arith, run, c.len.ensures, e))) c.loop-i.invariant)
     ]
 
 pub returns : goal.returns

@@ -29,5 +29,6 @@ returns c =
     let tells = c.punctual_by_shift.ensures m q c.args.promise.0 c.count-count.ensures.valid (omega (arith, r.start)) r.deadline (omega (arith, r.week, r.later)) r.later r.soon in
     let planned = MatchOption-at_some _ _ _ c.in-Some.is c.in_ok-found.ensures.plan in
     let there = planned_is_punctual c.in_ok-seen.seen c.sooner-sought.result graph chance planned in
-    let here = subst (λ (n : Parts). IsPunctual n (asked_for q c.args.promise.0) promised graph chance) c.in_ok-seen.ensures.parts (subst (λ (s : Query). IsPunctual c.in_ok-seen.seen s promised graph chance) c.sooner-sought.ensures there) in
+    let here = subst (λ (n : Parts). IsPunctual n (asked_for q c.args.promise.0) promised graph chance) c.in_ok-seen.ensures.parts
+    (subst (λ (s : Query). IsPunctual c.in_ok-seen.seen s promised graph chance) c.sooner-sought.ensures there) in
     subst (λ (g : PlanGraph). IsPunctual m q c.args.promise.0 g chance) (sym c.in_ok-graph.ensures) (tells.graphs graph chance here)

@@ -16,5 +16,13 @@ returns-clause-answer c =
       asked.query,
       asked.worst,
       c.in_ok-asked.ensures.asked,
-      (found.graph, found.chance, c.in_ok-bounds.bounds, c.in_ok-answer.ensures.found, MatchOption-at_some _ _ _ c.in-Some.is c.in_ok-found.ensures, c.in_ok-bounds.ensures, c.in_ok-answer.ensures.text),
+      (
+        found.graph,
+        found.chance,
+        c.in_ok-bounds.bounds,
+        c.in_ok-answer.ensures.found,
+        MatchOption-at_some _ _ _ c.in-Some.is c.in_ok-found.ensures,
+        c.in_ok-bounds.ensures,
+        c.in_ok-answer.ensures.text,
+      ),
     )

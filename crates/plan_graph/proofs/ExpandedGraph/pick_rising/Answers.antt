@@ -10,25 +10,31 @@ pub returns-then-at-rides : goal.returns-then-at-rides
 returns-then-at-rides c =
     let same = c.as_slice-rides.ensures in
     let rise = subst (λ (list : List Ride). AllPairs (λ a b. Precedes a.leg b.leg) list) (sym same) c.requires in
-    let point = IsPartitionPoint-from_clause (λ x. leg_lt x.leg c.args.leg) _ _ c.partition_point-at.ensures.partitioned (rides_parted c.as_slice-rides.result.now c.args.leg rise) (λ a r q k. search rules) in
-    sym (pick_after-none c.args.self.now.rides c.as_slice-rides.result.now c.args.leg c.args.arrival.0 c.partition_point-at.result same c.requires point (λ d within is. omega (arith, within, c.if-at-rides.true)))
+    let point = IsPartitionPoint-from_clause (λ x. leg_lt x.leg c.args.leg) _ _ c.partition_point-at.ensures.partitioned
+    (rides_parted c.as_slice-rides.result.now c.args.leg rise) (λ a r q k. search rules) in
+    sym (pick_after-none c.args.self.now.rides c.as_slice-rides.result.now c.args.leg c.args.arrival.0 c.partition_point-at.result same c.requires
+    point (λ d within is. omega (arith, within, c.if-at-rides.true)))
 
 pub returns-then-ne : goal.returns-then-ne
 returns-then-ne c =
     let same = c.as_slice-rides.ensures in
     let rise = subst (λ (list : List Ride). AllPairs (λ a b. Precedes a.leg b.leg) list) (sym same) c.requires in
-    let point = IsPartitionPoint-from_clause (λ x. leg_lt x.leg c.args.leg) _ _ c.partition_point-at.ensures.partitioned (rides_parted c.as_slice-rides.result.now c.args.leg rise) (λ a r q k. search rules) in
+    let point = IsPartitionPoint-from_clause (λ x. leg_lt x.leg c.args.leg) _ _ c.partition_point-at.ensures.partitioned
+    (rides_parted c.as_slice-rides.result.now c.args.leg rise) (λ a r q k. search rules) in
     let own = c.index-rides-at.result in
     sym (pick_after-none c.args.self.now.rides c.as_slice-rides.result.now c.args.leg c.args.arrival.0 c.partition_point-at.result same c.requires point (λ d within is.
-    leg_other own.leg c.args.leg c.ne.result c.ne.ensures c.if-ne.true (ap (λ (x : Ride). x.leg) (c.index-rides-at.is ∙ at_default c.as_slice-rides.result.now c.partition_point-at.result own d within) ∙ is)))
+    leg_other own.leg c.args.leg c.ne.result c.ne.ensures c.if-ne.true
+    (ap (λ (x : Ride). x.leg) (c.index-rides-at.is ∙ at_default c.as_slice-rides.result.now c.partition_point-at.result own d within) ∙ is)))
 
 pub returns : goal.returns
 returns c =
     let same = c.as_slice-rides.ensures in
     let rise = subst (λ (list : List Ride). AllPairs (λ a b. Precedes a.leg b.leg) list) (sym same) c.requires in
-    let point = IsPartitionPoint-from_clause (λ x. leg_lt x.leg c.args.leg) _ _ c.partition_point-at.ensures.partitioned (rides_parted c.as_slice-rides.result.now c.args.leg rise) (λ a r q k. search rules) in
+    let point = IsPartitionPoint-from_clause (λ x. leg_lt x.leg c.args.leg) _ _ c.partition_point-at.ensures.partitioned
+    (rides_parted c.as_slice-rides.result.now c.args.leg rise) (λ a r q k. search rules) in
     let own = c.index-rides-at.result in
     let here = leg_same own.leg c.args.leg c.ne.result c.ne.ensures c.if-ne.false in
     c.first_leg.ensures
     ∙ ap (λ (rows : List GraphRow). pick_row rows c.args.arrival.0) c.as_slice.ensures
-    ∙ sym (pick_after-at c.args.self.now.rides c.as_slice-rides.result.now c.args.leg c.args.arrival.0 c.partition_point-at.result own same point (omega (arith, c.partition_point-at.ensures.bound, c.if-at-rides.false)) c.index-rides-at.is here)
+    ∙ sym (pick_after-at c.args.self.now.rides c.as_slice-rides.result.now c.args.leg c.args.arrival.0 c.partition_point-at.result own same point
+    (omega (arith, c.partition_point-at.ensures.bound, c.if-at-rides.false)) c.index-rides-at.is here)

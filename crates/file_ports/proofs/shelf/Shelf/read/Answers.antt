@@ -20,4 +20,5 @@ pub returns-clause-count : goal.returns-clause-count
 returns-clause-count c =
     let h = holds c.args.self.now.held.items c.args.self.now.hand c.in-Some.index c.index-file.result.now c.in-Some.is c.requires.in_hand c.index-file.ensures in
     if_some_at (left_of c.args.self.now) (drop c.args.self.now.place c.index-file.result.now.value.items) _ (hand_left vec_items _ c.args.self.now.place _ _ c.index-file.result.now h)
-    (read_count c.index-file.result.now.value.items c.deref.result.now c.args.self.now.place c.min-from.result _ _ _ _ c.deref.ensures.value c.min-from.ensures (c.len.ensures ∙ sym c.deref.ensures.len) c.copy_front-count.ensures.count)
+    (read_count c.index-file.result.now.value.items c.deref.result.now c.args.self.now.place c.min-from.result _ _ _ _ c.deref.ensures.value
+    c.min-from.ensures (c.len.ensures ∙ sym c.deref.ensures.len) c.copy_front-count.ensures.count)

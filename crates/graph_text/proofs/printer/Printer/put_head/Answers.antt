@@ -8,7 +8,9 @@ use Rattle.graph_text.proofs.printer.Printer.put_head.Goals as goal
 
 pub returns-clause-text : goal.returns-clause-text
 returns-clause-text c =
-    let fields = take_nine c.args.self.now.version c.args.kind.now c.as_slice.result.now c.as_bytes.result.now c.as_bytes-2.result.now c.as_slice-2.result.now c.as_slice-3.result.now c.as_slice-4.result.now c.as_slice-5.result.now c.as_slice-6.result.now
+    let fields =
+    take_nine c.args.self.now.version c.args.kind.now c.as_slice.result.now c.as_bytes.result.now c.as_bytes-2.result.now c.as_slice-2.result.now
+    c.as_slice-3.result.now c.as_slice-4.result.now c.as_slice-5.result.now c.as_slice-6.result.now
     _ _ _ _ _ _ _ _ []
     refl
     (c.as_slice.ensures ∙ c.digit.ensures)

@@ -14,5 +14,7 @@ returns-clause-text c =
     let r = c.args.ride.now in
     let second = c.as_bytes-number.ensures.value ∙ c.format.ensures.text ∙ ap decimal c.len.ensures in
     let first = c.in_ok-put_leg.ensures.text ∙ ap (λ (bytes : List ℕ). written c.args.writer.now ++ leg_row n names version (codes "ride") bytes r.leg) second in
-    append_ok c.put_rows.result (written c.put_rows.new.writer) (written c.put_leg.new.writer) (written c.args.writer.now) (leg_row n names version (codes "ride") (decimal (length r.after)) r.leg) (rows_text n names version (codes "next") r.after) first
-    (subst (λ (rows : List GraphRow). OnOk c.put_rows.result (written c.put_rows.new.writer ≡ written c.put_leg.new.writer ++ rows_text n names version (codes "next") rows)) c.as_slice.ensures c.put_rows.ensures.text)
+    append_ok c.put_rows.result (written c.put_rows.new.writer) (written c.put_leg.new.writer) (written c.args.writer.now)
+    (leg_row n names version (codes "ride") (decimal (length r.after)) r.leg) (rows_text n names version (codes "next") r.after) first
+    (subst (λ (rows : List GraphRow). OnOk c.put_rows.result
+    (written c.put_rows.new.writer ≡ written c.put_leg.new.writer ++ rows_text n names version (codes "next") rows)) c.as_slice.ensures c.put_rows.ensures.text)

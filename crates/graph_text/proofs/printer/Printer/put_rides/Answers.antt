@@ -7,6 +7,8 @@ use Rattle.graph_text.proofs.printer.Printer.put_rides.Goals as goal
 pub loop-ride-preserved : goal.loop-ride-preserved
 loop-ride-preserved c = record {
   between = c.in_ok-put_ride.ensures.between;
-  text = rides_step c.args.self.now.network.now c.args.self.now.names.now c.args.self.now.version c.args.rides.now c.loop-ride.ride-index c.ride-item.result (written c.put_ride.new.writer) (written c.loop-ride.writer) (written c.args.writer.now ++ rides_text c.args.self.now.network.now c.args.self.now.names.now c.args.self.now.version c.args.rides.now)
+  text = rides_step c.args.self.now.network.now c.args.self.now.names.now c.args.self.now.version c.args.rides.now c.loop-ride.ride-index
+      c.ride-item.result (written c.put_ride.new.writer) (written c.loop-ride.writer)
+      (written c.args.writer.now ++ rides_text c.args.self.now.network.now c.args.self.now.names.now c.args.self.now.version c.args.rides.now)
       c.loop-ride-test.true c.ride-item.is c.in_ok-put_ride.ensures.text c.loop-ride.invariant.text;
 }

@@ -7,5 +7,6 @@ use Rattle.graph_text.proofs.printer.Printer.put_rides.Given as goal
 abbrev pub invariant-loop-ride : goal.invariant-loop-ride
 invariant-loop-ride l = record {
   between : IsBetweenRows l.writer;
-  text : written l.writer ++ rides_text l.self.network.now l.self.names.now l.self.version (drop l.ride-index l.rides) ≡ written l.initial.writer ++ rides_text l.self.network.now l.self.names.now l.self.version l.rides;
+  text : written l.writer ++ rides_text l.self.network.now l.self.names.now l.self.version
+      (drop l.ride-index l.rides) ≡ written l.initial.writer ++ rides_text l.self.network.now l.self.names.now l.self.version l.rides;
 }

@@ -7,5 +7,6 @@ use Rattle.graph_text.proofs.printer.Printer.put_rows.Given as goal
 abbrev pub invariant-loop-row : goal.invariant-loop-row
 invariant-loop-row l = record {
   between : IsBetweenRows l.writer;
-  text : written l.writer ++ rows_text l.self.network.now l.self.names.now l.self.version l.kind (drop l.row-index l.rows) ≡ written l.initial.writer ++ rows_text l.self.network.now l.self.names.now l.self.version l.kind l.rows;
+  text : written l.writer ++ rows_text l.self.network.now l.self.names.now l.self.version l.kind
+      (drop l.row-index l.rows) ≡ written l.initial.writer ++ rows_text l.self.network.now l.self.names.now l.self.version l.kind l.rows;
 }

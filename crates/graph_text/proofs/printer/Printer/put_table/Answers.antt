@@ -13,5 +13,7 @@ returns-clause-text c =
     let version = c.args.self.now.version in
     let t = c.args.table.now in
     let first = c.in_ok-put_place.ensures.text ∙ ap (λ (count : ℕ). written c.args.writer.now ++ place_row n names version t.place.0 count) c.len.ensures in
-    append_ok c.put_rows.result (written c.put_rows.new.writer) (written c.put_place.new.writer) (written c.args.writer.now) (place_row n names version t.place.0 (length t.rows)) (rows_text n names version (codes "leg") t.rows) first
-    (subst (λ (rows : List GraphRow). OnOk c.put_rows.result (written c.put_rows.new.writer ≡ written c.put_place.new.writer ++ rows_text n names version (codes "leg") rows)) c.as_slice.ensures c.put_rows.ensures.text)
+    append_ok c.put_rows.result (written c.put_rows.new.writer) (written c.put_place.new.writer) (written c.args.writer.now)
+    (place_row n names version t.place.0 (length t.rows)) (rows_text n names version (codes "leg") t.rows) first
+    (subst (λ (rows : List GraphRow). OnOk c.put_rows.result
+    (written c.put_rows.new.writer ≡ written c.put_place.new.writer ++ rows_text n names version (codes "leg") rows)) c.as_slice.ensures c.put_rows.ensures.text)

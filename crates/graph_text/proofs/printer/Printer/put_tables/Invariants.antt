@@ -7,5 +7,6 @@ use Rattle.graph_text.proofs.printer.Printer.put_tables.Given as goal
 abbrev pub invariant-loop-table : goal.invariant-loop-table
 invariant-loop-table l = record {
   between : IsBetweenRows l.writer;
-  text : written l.writer ++ tables_text l.self.network.now l.self.names.now l.self.version (drop l.table-index l.tables) ≡ written l.initial.writer ++ tables_text l.self.network.now l.self.names.now l.self.version l.tables;
+  text : written l.writer ++ tables_text l.self.network.now l.self.names.now l.self.version
+      (drop l.table-index l.tables) ≡ written l.initial.writer ++ tables_text l.self.network.now l.self.names.now l.self.version l.tables;
 }

@@ -15,9 +15,11 @@ pub loop-row-preserved : goal.loop-row-preserved
 loop-row-preserved c =
     let line : c.loop-row.row + 2 + 1 ≡ c.loop-row.row + 1 + 2 = omega arith in
     record {
-      told = c.loop-row.invariant.told ∙ subst (λ (k : ℕ). tables_from c.args.self.now.network.now c.args.self.now.names.now c.args.self.now.version (drop (c.loop-row.row + 1) c.args.self.now.rows.now) (c.loop-row.row + 2) c.loop-row.reading
+      told = c.loop-row.invariant.told ∙ subst (λ (k : ℕ). tables_from c.args.self.now.network.now c.args.self.now.names.now c.args.self.now.version
+          (drop (c.loop-row.row + 1) c.args.self.now.rows.now) (c.loop-row.row + 2) c.loop-row.reading
           ≡ tables_from c.args.self.now.network.now c.args.self.now.names.now c.args.self.now.version (drop (c.loop-row.row + 1 + 1) c.args.self.now.rows.now) k c.in-Ok.reading) line
-          (tables_after c.args.self.now.network.now c.args.self.now.names.now c.args.self.now.version c.args.self.now.rows.now (c.loop-row.row + 2) (c.loop-row.row + 1) c.loop-row.reading c.in-Ok.reading
+          (tables_after c.args.self.now.network.now c.args.self.now.names.now c.args.self.now.version c.args.self.now.rows.now (c.loop-row.row + 2)
+          (c.loop-row.row + 1) c.loop-row.reading c.in-Ok.reading
           (omega (arith, c.count-count.ensures.count, c.loop-row-test.true)) c.in-Ok.ensures.told);
       place = c.in-Ok.ensures.place;
     }

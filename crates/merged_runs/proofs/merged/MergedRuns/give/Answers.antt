@@ -12,13 +12,15 @@ loop-node-init c =
     record {
       starts = refl;
       left = refl;
-      played = rw all (IsPlayedAround-run c.args.network.now s.starts.items s.left.items s.keys.items c.args.run (c.index_mut.result.now - 1) c.key.result merge.tournament c.requires.run c.key.ensures);
+      played = rw all (IsPlayedAround-run c.args.network.now s.starts.items s.left.items s.keys.items c.args.run
+          (c.index_mut.result.now - 1) c.key.result merge.tournament c.requires.run c.key.ensures);
     }
 
 pub winner-requires-clause-first : goal.winner-requires-clause-first
 winner-requires-clause-first c =
     let inv = c.loop-node.invariant in
-    rw (inv.starts, inv.left) (IsPlayedAround-child _ _ _ c.args.run c.loop-node.node c.loop-node.self.keys.items inv.played (2 * (c.loop-node.node / 2)) (omega arith) c.loop-node-test.true (omega (arith, inv.played.few)))
+    rw (inv.starts, inv.left) (IsPlayedAround-child _ _ _ c.args.run c.loop-node.node c.loop-node.self.keys.items inv.played
+    (2 * (c.loop-node.node / 2)) (omega arith) c.loop-node-test.true (omega (arith, inv.played.few)))
 
 pub loop-node-preserved : goal.loop-node-preserved
 loop-node-preserved c =

@@ -57,7 +57,10 @@ give-requires-clause-some c =
     rw (run_is at.After-get-run w) w.some
 
 -- what one step leaves
-step : (c : After-get-run) (after : List ℕ) → c.index-key.result.now ≡ get_or c.args.self.now.keys.items 1 0 → HasWon c.args.network.now c.args.self.now.starts.items c.args.self.now.left.items c.index-key.result.now → after ≡ set c.args.self.now.left.items c.get-run.result.run.0 (get_or c.args.self.now.left.items c.get-run.result.run.0 0 - 1) → rest_of c.args.network.now c.args.self.now.left.items ≡ rest_of c.args.network.now after ++ record { 0 = (c.index-key.result.now - 1) % 8388608 } ∷ []
+step : (c : After-get-run) (after : List ℕ) → c.index-key.result.now ≡ get_or c.args.self.now.keys.items 1 0
+    → HasWon c.args.network.now c.args.self.now.starts.items c.args.self.now.left.items c.index-key.result.now
+    → after ≡ set c.args.self.now.left.items c.get-run.result.run.0 (get_or c.args.self.now.left.items c.get-run.result.run.0 0 - 1)
+    → rest_of c.args.network.now c.args.self.now.left.items ≡ rest_of c.args.network.now after ++ record { 0 = (c.index-key.result.now - 1) % 8388608 } ∷ []
 step c after greatest w all =
     let s = c.args.self.now in
     rw (all, run_is c w, w.id) (rest_of-given c.args.network.now s.starts.items s.left.items s.keys.items c.requires c.index-key.result.now greatest w)
@@ -65,8 +68,16 @@ step c after greatest w all =
 pub returns-clause-none : goal.returns-clause-none
 returns-clause-none c =
     let at = goal.at.returns-clause-none c in
-    let left = step at.After-get-run c.give.new.self.left.items (final at.After-index-key) (has_won at.After-index-key c.if-key-eq0.false) c.give.ensures.left in
-    (λ e. absurd (cc), λ none. absurd (omega (arith, ap length none, ap length left, length_push (rest_of c.args.network.now c.give.new.self.left.items) (record { 0 = (c.index-key.result.now - 1) % 8388608 }))))
+    let left = step at.After-get-run c.give.new.self.left.items (final at.After-index-key) (has_won at.After-index-key c.if-key-eq0.false) c.give.ensures.left in (
+      λ e. absurd (cc),
+      λ none. absurd (omega (
+        arith,
+        ap length none,
+        ap length left,
+        length_push
+            (rest_of c.args.network.now c.give.new.self.left.items) (record { 0 = (c.index-key.result.now - 1) % 8388608 }),
+      )),
+    )
 
 pub returns-clause-last : goal.returns-clause-last
 returns-clause-last c =

@@ -12,5 +12,7 @@ invariant_of-result c =
       classes = c.in_ok-copied_classes.field-0;
       links = c.in_ok-copied_links.field-0;
     } in
-    let same : copy ≡ c.args.self.now = same_parts copy c.args.self.now c.in_ok-copied_connections.ensures.connections c.in_ok-copied_change.ensures c.in_ok-copied_classes.ensures c.in_ok-copied_links.ensures in
+    let same : copy ≡ c.args.self.now =
+    same_parts copy c.args.self.now c.in_ok-copied_connections.ensures.connections c.in_ok-copied_change.ensures c.in_ok-copied_classes.ensures
+    c.in_ok-copied_links.ensures in
     subst IsValid (sym same) c.copied_connections.ensures.valid

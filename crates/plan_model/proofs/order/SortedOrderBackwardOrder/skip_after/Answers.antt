@@ -32,14 +32,19 @@ pub loop-low-preserved-then-dep-last : goal.loop-low-preserved-then-dep-last
 loop-low-preserved-then-dep-last c =
     let at = (goal.at.loop-low-preserved-then-dep-last c).After-index in
     let dep = ap (λ (x : Connection). x.dep.0) c.get.ensures.connection in
-    IsHalved-up c.args.network.now c.args.self.now.ids.items c.args.last.0 c.args.self.now.left c.loop-low.low c.loop-low.high c.requires.0 c.loop-low.invariant (middle_of at) (omega arith) (omega (arith, c.loop-low-test.true)) c.requires.1 (λ d. omega (arith, dep_is at c.get.result.dep.0 dep d, c.if-dep-last.true))
+    IsHalved-up c.args.network.now c.args.self.now.ids.items c.args.last.0 c.args.self.now.left c.loop-low.low c.loop-low.high c.requires.0
+    c.loop-low.invariant (middle_of at) (omega arith) (omega (arith, c.loop-low-test.true)) c.requires.1
+    (λ d. omega (arith, dep_is at c.get.result.dep.0 dep d, c.if-dep-last.true))
 
 pub loop-low-preserved : goal.loop-low-preserved
 loop-low-preserved c =
     let at = (goal.at.loop-low-preserved c).After-index in
     let dep = ap (λ (x : Connection). x.dep.0) c.get.ensures.connection in
-    IsHalved-down c.args.network.now c.args.self.now.ids.items c.args.last.0 c.args.self.now.left c.loop-low.low c.loop-low.high c.requires.0 c.loop-low.invariant (middle_of at) (omega arith) (omega (arith, c.loop-low-test.true)) c.requires.1 (λ d. omega (arith, dep_is at c.get.result.dep.0 dep d, c.if-dep-last.false))
+    IsHalved-down c.args.network.now c.args.self.now.ids.items c.args.last.0 c.args.self.now.left c.loop-low.low c.loop-low.high c.requires.0
+    c.loop-low.invariant (middle_of at) (omega arith) (omega (arith, c.loop-low-test.true)) c.requires.1
+    (λ d. omega (arith, dep_is at c.get.result.dep.0 dep d, c.if-dep-last.false))
 
 pub returns-clause-up_to : goal.returns-clause-up_to
 returns-clause-up_to c =
-    IsPrefixUpTo-halved c.args.network.now c.args.self.now.ids.items c.args.last.0 c.args.self.now.left c.loop-low.low c.loop-low.high c.requires.0 c.loop-low.invariant (omega (arith, c.loop-low-test.false)) c.requires.1
+    IsPrefixUpTo-halved c.args.network.now c.args.self.now.ids.items c.args.last.0 c.args.self.now.left c.loop-low.low c.loop-low.high c.requires.0
+    c.loop-low.invariant (omega (arith, c.loop-low-test.false)) c.requires.1
