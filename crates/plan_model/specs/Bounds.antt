@@ -21,6 +21,14 @@ last_moment = 13601174400
 abbrev pub end_of_time : ℕ
 end_of_time = 13601174401
 
+-- 1970-01-08T00:00:00: no journey starts before it
+abbrev pub first_start : ℕ
+first_start = 604800
+
+-- 2399-12-31T23:59:59: no journey starts after it
+abbrev pub last_start : ℕ
+last_start = 13569465599
+
 abbrev pub nanos_per_second : ℕ
 nanos_per_second = 1000000000
 

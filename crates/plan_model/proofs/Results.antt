@@ -1,0 +1,28 @@
+-- What is known of a chain of results is known of its parts.
+use Rattle.std.proofs.Common.{◌≡◌, Option, Some, None, Result, Ok, Err, ap, refl}
+use Rattle.std.specs.Result.{result_err}
+use Rattle.plan_model.specs.Results.{and_then, require}
+
+pub and_then-ok : {A B E : Type 0} (r : Result A E) (a : A) (next : A → Result B E) → r ≡ Ok a → and_then r next ≡ next a
+and_then-ok r a next is = ap (λ z. and_then z next) is
+
+pub and_then-err : {A B E : Type 0} (r : Result A E) (fault : E) (next : A → Result B E) → r ≡ Err fault → and_then r next ≡ Err fault
+and_then-err r fault next is = ap (λ z. and_then z next) is
+
+-- where a chain has no fault, its first part is there, and the rest has none
+pub result_err-require : {A B E : Type 0} (o : Option A) (fault : E) (next : A → Result B E) → result_err (require o fault next) ≡ None
+    → (a : A) × (o ≡ Some a) × (result_err (next a) ≡ None)
+result_err-require None fault next none = absurd (cc)
+result_err-require (Some a) fault next none = (a, refl, none)
+
+-- where it has a value, its first part is there, and the rest has that value
+pub require-ok : {A B E : Type 0} (o : Option A) (fault : E) (next : A → Result B E) (b : B) → require o fault next ≡ Ok b
+    → (a : A) × (o ≡ Some a) × (next a ≡ Ok b)
+require-ok None fault next b is = absurd (cc)
+require-ok (Some a) fault next b is = (a, refl, is)
+
+-- of its value is so what is so of each value of the rest
+pub require-each : {A B E : Type 0} (P : B → Type 0) (o : Option A) (fault : E) (next : A → Result B E)
+    → ((a : A) → o ≡ Some a → (b : B) → next a ≡ Ok b → P b) → (b : B) → require o fault next ≡ Ok b → P b
+require-each P None fault next each b is = absurd (cc)
+require-each P (Some a) fault next each b is = each a refl b is
