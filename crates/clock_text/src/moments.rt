@@ -2,13 +2,17 @@
 ghost use Rattle.std.specs.Prelude.{◌≡◌, ◌<◌, ◌≤◌, option_map, IfSome, Some, pos, ◌≤ℤ◌, ℕ, List};
 ghost use Rattle.jiff_core.specs.Calendar.{days_from_civil};
 ghost use Rattle.jiff_core.specs.Date.{epoch_day};
-ghost use Rattle.clock_text.specs.Civil.{moment_text, nanos_text};
+ghost use Rattle.clock_text.specs.Civil.{last_day, last_printable, moment_text, nanos_text};
 ghost use Rattle.clock_text.specs.Times.{as_parts, day_of, has_marks, moment_of, moment_at, nanos_at, nanos_of};
 
 use crate::dates::date_from;
 use crate::digits::{four, nine, read_digits, two};
 use jiff::civil::Date;
 use plan_model::Moment;
+
+const NANOS_PER_SECOND: u64 = 1_000_000_000;
+
+const SECONDS_PER_DAY: u64 = 86_400;
 
 /// Whether a text has the length and the marks of a moment.
 fn has_marks(text: &[u8]) -> bool
@@ -29,7 +33,7 @@ pub(crate) fn day_of(year: u32, month: u32, day: u32) -> Option<i32>
     requires day { day < 100 }
     ensures value { result ≡ day_of year month day }
     ensures after { IfSome result (λ n. 1970 ≤ year → pos 0 ≤ℤ n) }
-    ensures bound { IfSome result (λ n. n ≤ℤ pos 2_932_896) }
+    ensures bound { IfSome result (λ n. n ≤ℤ pos last_day) }
 {
     match Date::new(year as i16, month as i8, day as i8) {
         Ok(date) => Some(date.to_plain().to_unix_epoch_day()),
@@ -60,7 +64,7 @@ fn moment_of(w: &Written) -> Option<Moment>
     }
     let day = day_of(w.year, w.month, w.day)? as u64;
     let second = u64::from(3600 * w.hour + 60 * w.minute + w.second);
-    Some(Moment(86400 * day + second))
+    Some(Moment(SECONDS_PER_DAY * day + second))
 }
 
 /// The moment of a text YYYY-MM-DDTHH:MM:SS of the years 1970 to 9999, or none where it has another form.
@@ -88,7 +92,7 @@ pub fn read_moment(text: &[u8]) -> Option<Moment>
 
 /// The date that is so many days after the first of 1970.
 fn date_since_1970(days: u32) -> Date
-    requires { days ≤ 2_932_896 }
+    requires { days ≤ last_day }
     ensures value { epoch_day result ≡ pos days }
     ensures year { pos 1970 ≤ℤ result.year }
 {
@@ -97,7 +101,7 @@ fn date_since_1970(days: u32) -> Date
 
 /// The parts of a moment before the year 10000.
 fn parts_of(moment: u64) -> Written
-    requires { moment ≤ 253_402_300_799 }
+    requires { moment ≤ last_printable }
     ensures year { result.year < 10000 }
     ensures month { result.month < 100 }
     ensures day { result.day < 100 }
@@ -106,8 +110,8 @@ fn parts_of(moment: u64) -> Written
     ensures second { result.second < 100 }
     ensures moment { moment_of (as_parts result) ≡ Some moment }
 {
-    let date = date_since_1970((moment / 86400) as u32).to_plain();
-    let second = (moment % 86400) as u32;
+    let date = date_since_1970((moment / SECONDS_PER_DAY) as u32).to_plain();
+    let second = (moment % SECONDS_PER_DAY) as u32;
     Written {
         year: date.year as u32,
         month: u32::from(date.month),
@@ -120,7 +124,7 @@ fn parts_of(moment: u64) -> Written
 
 /// A text that tells a moment before the year 10000.
 fn moment_bytes(moment: Moment) -> [u8; 19]
-    requires { moment.0 ≤ 253_402_300_799 }
+    requires { moment.0 ≤ last_printable }
     ensures { moment_at result ≡ Some moment.0 }
 {
     let parts = parts_of(moment.0);
@@ -138,7 +142,7 @@ fn moment_bytes(moment: Moment) -> [u8; 19]
 
 /// The text YYYY-MM-DDTHH:MM:SS of a moment before the year 10000.
 pub fn write_moment(moment: Moment) -> [u8; 19]
-    requires { moment.0 ≤ 253_402_300_799 }
+    requires { moment.0 ≤ last_printable }
     ensures text { result ≡ moment_text moment.0 }
     ensures reads { moment_at result ≡ Some moment.0 }
 {
@@ -155,7 +159,7 @@ fn nanos_of(moment: u64, fraction: u32) -> Option<u64>
     ensures { result ≡ nanos_of moment fraction }
 {
     moment
-        .checked_mul(1_000_000_000)?
+        .checked_mul(NANOS_PER_SECOND)?
         .checked_add(u64::from(fraction))
 }
 
@@ -184,8 +188,8 @@ pub fn write_nanos(nanos: u64) -> [u8; 29]
 fn nanos_bytes(nanos: u64) -> [u8; 29]
     ensures { nanos_at result ≡ Some nanos }
 {
-    let m = write_moment(Moment(nanos / 1_000_000_000));
-    let f = nine((nanos % 1_000_000_000) as u32);
+    let m = write_moment(Moment(nanos / NANOS_PER_SECOND));
+    let f = nine((nanos % NANOS_PER_SECOND) as u32);
     [
         m[0], m[1], m[2], m[3], m[4], m[5], m[6], m[7], m[8], m[9], m[10], m[11], m[12], m[13],
         m[14], m[15], m[16], m[17], m[18], b'.', f[0], f[1], f[2], f[3], f[4], f[5], f[6], f[7],
