@@ -82,10 +82,7 @@ pub fn load<F: Files>(
     match files.open_file(path) {
         Err(Failed) => Err(LoadFault::Read),
         Ok(Presence::Absent) => Ok(None),
-        Ok(Presence::Present) => match read_rest(alloc, files, most as usize) {
-            Ok(bytes) => Ok(Some(bytes)),
-            Err(fault) => Err(fault),
-        },
+        Ok(Presence::Present) => Ok(Some(read_rest(alloc, files, most as usize)?)),
     }
 }
 
