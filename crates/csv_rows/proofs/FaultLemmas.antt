@@ -15,3 +15,9 @@ first_own table (Some f) b o e h k = let P : Option FeedFault → Type 0 = λ z.
 pub if_raised : {A E : Type 0} {e : E} (P : E → Type 0) (r : Result A E) → IsErr r × IsErrAnd r (λ raised. raised ≡ e) → P e → IfErr r P
 if_raised P (Ok value) h p = absurd h.1
 if_raised P (Err raised) h p = subst P (sym h.1) p
+
+-- the same where something else is told
+pub some_raised : {F A E : Type 0} (o : Option F) (e : E) (P : F → E → Type 0) (r : Result A E) → IsErr r × IsErrAnd r (λ raised. raised ≡ e)
+    → IfSome o (λ m. P m e) → IfSome o (λ m. IfErr r (P m))
+some_raised None e P r h p = tt
+some_raised (Some m) e P r h p = if_raised (P m) r h p

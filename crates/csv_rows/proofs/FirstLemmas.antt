@@ -3,24 +3,25 @@ use Rattle.std.proofs.Common.{◌≡◌, ℕ, zero, suc, ◌+◌, ◌<◌, ◌�
 use Rattle.std.proofs.Common.{subst, arith, ⊎_elim, eq-or-lt_of_le, add-one, ◌⊎◌, inl, inr}
 use Rattle.std.proofs.lemmas.Option.{none-some}
 use Rattle.std.proofs.lemmas.Bool.{cases_Bool, or_right, and_from, and_parts}
-use Rattle.csv_rows.specs.First.{or_else, first_below, any_below}
+use Rattle.std.specs.Option.{option_or}
+use Rattle.csv_rows.specs.First.{first_below, any_below}
 
 pub first-zero : {F : Type 0} (f : ℕ → Option F) → first_below f 0 ≡ None
 unfolding first_below
 first-zero f = refl
 
-pub first-suc : {F : Type 0} (f : ℕ → Option F) (n : ℕ) → first_below f (suc n) ≡ or_else (first_below f n) (f n)
+pub first-suc : {F : Type 0} (f : ℕ → Option F) (n : ℕ) → first_below f (suc n) ≡ option_or (first_below f n) (f n)
 unfolding first_below
 first-suc f n = refl
 
 -- where none holds there is none
 pub first-none : {F : Type 0} (f : ℕ → Option F) (n : ℕ) → ((k : ℕ) → k < n → f k ≡ None) → first_below f n ≡ None
 first-none f zero h = first-zero f
-first-none f (suc n) h = first-suc f n ∙ ap₂ or_else (first-none f n (λ k l. h k (omega arith))) (h n (omega arith))
+first-none f (suc n) h = first-suc f n ∙ ap₂ option_or (first-none f n (λ k l. h k (omega arith))) (h n (omega arith))
 
 -- one more
 pub first-next : {F : Type 0} (f : ℕ → Option F) (n : ℕ) (o : Option F) → first_below f n ≡ None → f n ≡ o → first_below f (n + 1) ≡ o
-first-next f n o h e = rw add-one (first-suc f n ∙ ap (λ x. or_else x (f n)) h ∙ e)
+first-next f n o h e = rw add-one (first-suc f n ∙ ap (λ x. option_or x (f n)) h ∙ e)
 
 -- what comes first stays first
 pub first-stays : {F : Type 0} (f : ℕ → Option F) (n m : ℕ) (e : F) → n ≤ m → first_below f n ≡ Some e → first_below f m ≡ Some e
@@ -29,14 +30,14 @@ first-stays f n zero e l h =
     let P : ℕ → Type 0 = λ k. first_below f k ≡ Some e in subst P z h
 first-stays f n (suc m) e l h =
     ⊎_elim (λ (same : n ≡ suc m). let P : ℕ → Type 0 = λ k. first_below f k ≡ Some e in subst P same h)
-    (λ (less : n < suc m). first-suc f m ∙ ap (λ x. or_else x (f m)) (first-stays f n m e (omega arith) h))
+    (λ (less : n < suc m). first-suc f m ∙ ap (λ x. option_or x (f m)) (first-stays f n m e (omega arith) h))
     (eq-or-lt_of_le l)
 
 -- the one that holds at k, where none holds before
 pub first-at : {F : Type 0} (f : ℕ → Option F) (k n : ℕ) (e : F) → k < n → first_below f k ≡ None → f k ≡ Some e → first_below f n ≡ Some e
 first-at f k n e l none here = first-stays f (k + 1) n e (omega arith) (first-next f k (Some e) none here)
 
-pub none-both : {F : Type 0} (a b : Option F) → or_else a b ≡ None → (a ≡ None) × (b ≡ None)
+pub none-both : {F : Type 0} (a b : Option F) → option_or a b ≡ None → (a ≡ None) × (b ≡ None)
 none-both None b h = (refl, h)
 none-both (Some x) b h = absurd (cc)
 
@@ -56,7 +57,7 @@ pub record IsFirst {F : Type 0} (f : ℕ → Option F) (n : ℕ) (e : F) : Type 
   pub here : f place ≡ Some e
   pub none : (j : ℕ) → j < place → f j ≡ None
 
-some_one : {F : Type 0} (a b : Option F) (e : F) → or_else a b ≡ Some e → (a ≡ Some e) ⊎ ((a ≡ None) × (b ≡ Some e))
+some_one : {F : Type 0} (a b : Option F) (e : F) → option_or a b ≡ Some e → (a ≡ Some e) ⊎ ((a ≡ None) × (b ≡ Some e))
 some_one None b e h = inr (refl, h)
 some_one (Some x) b e h = inl h
 
@@ -109,10 +110,10 @@ any-same p q (suc n) h = ap₂ (λ a b. a || b) (any-same p q n (λ k l. h k (om
 -- the same faults, the same first
 pub first-same : {F : Type 0} (f g : ℕ → Option F) (n : ℕ) → ((k : ℕ) → k < n → f k ≡ g k) → first_below f n ≡ first_below g n
 first-same f g zero h = first-zero f ∙ sym (first-zero g)
-first-same f g (suc n) h = first-suc f n ∙ ap₂ or_else (first-same f g n (λ k l. h k (omega arith))) (h n (omega arith)) ∙ sym (first-suc g n)
+first-same f g (suc n) h = first-suc f n ∙ ap₂ option_or (first-same f g n (λ k l. h k (omega arith))) (h n (omega arith)) ∙ sym (first-suc g n)
 
 told-if : {F : Type 0} (fault : ℕ → F) (b : Bool) (i : ℕ) (o : Option ℕ)
-    → or_else (option_map fault o) (if b then Some (fault i) else None) ≡ option_map fault (or_else o (if b then Some i else None))
+    → option_or (option_map fault o) (if b then Some (fault i) else None) ≡ option_map fault (option_or o (if b then Some i else None))
 told-if fault true i None = refl
 told-if fault false i None = refl
 told-if fault b i (Some k) = refl
@@ -123,6 +124,6 @@ pub first-told : {F : Type 0} (fault : ℕ → F) (p : ℕ → Bool) (n : ℕ)
 first-told fault p zero = first-zero (λ i. if p i then Some (fault i) else None) ∙ sym (ap (option_map fault) (first-zero (λ i. if p i then Some i else None)))
 first-told fault p (suc n) =
     first-suc (λ i. if p i then Some (fault i) else None) n
-    ∙ ap (λ o. or_else o (if p n then Some (fault n) else None)) (first-told fault p n)
+    ∙ ap (λ o. option_or o (if p n then Some (fault n) else None)) (first-told fault p n)
     ∙ told-if fault (p n) n (first_below (λ i. if p i then Some i else None) n)
     ∙ sym (ap (option_map fault) (first-suc (λ i. if p i then Some i else None) n))

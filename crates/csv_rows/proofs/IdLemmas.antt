@@ -6,10 +6,11 @@ use Rattle.std.proofs.lemmas.Bool.{cases_lt, cases_Bool, eq-eqb, ne_eqb}
 use Rattle.std.proofs.lemmas.List.{get_or_default, get_or_append_left, get_or_push}
 use Rattle.std.proofs.lemmas.Option.{slice_get_cases, none-some}
 use Rattle.std.proofs.lemmas.Slice.Eq.{bytes_eq-Decides}
+use Rattle.std.specs.Option.{option_or}
 use Rattle.csv_rows.specs.declared.feed_tables.Table.{Table}
 use Rattle.csv_rows.specs.declared.feed_tables.FeedFault.{FeedFault}
 use Rattle.csv_rows.specs.declared.feed_tables.FeedFault.TheVariants.{DuplicateKey}
-use Rattle.csv_rows.specs.First.{or_else, first_below, any_below}
+use Rattle.csv_rows.specs.First.{first_below, any_below}
 use Rattle.csv_rows.specs.Tables.{place_in}
 use Rattle.csv_rows.proofs.FirstLemmas.{any-true, any-false, any-one, any-none, first-is, first-suc, first-same, none-each}
 use Rattle.csv_rows.proofs.PlaceLemmas.{place_is}
@@ -101,7 +102,7 @@ unfolding place_in place_test
 place-none name names h k l = none_test (bytes_eq (slice_index_or names k []) name) k (none-each (place_test names name) (length names) h k l)
 
 -- one more name
-pub place-push : (name : List ℕ) (names : List (List ℕ)) (x : List ℕ) → place_in name (names ++ x ∷ []) ≡ or_else (place_in name names) (if bytes_eq x name then Some (length names) else None)
+pub place-push : (name : List ℕ) (names : List (List ℕ)) (x : List ℕ) → place_in name (names ++ x ∷ []) ≡ option_or (place_in name names) (if bytes_eq x name then Some (length names) else None)
 unfolding place_in place_test
 place-push name names x =
     let n = length names in
@@ -109,7 +110,7 @@ place-push name names x =
     let f : ℕ → Option ℕ = place_test (names ++ x ∷ []) name in
     ap (first_below f) size
     ∙ rw add-one (first-suc f n)
-    ∙ ap₂ or_else
+    ∙ ap₂ option_or
     (first-same f (place_test names name) n (λ k l. ap (λ (y : List ℕ). if bytes_eq y name then Some k else None) (get_or_append_left names (x ∷ []) [] k l)))
     (ap (λ (y : List ℕ). if bytes_eq y name then Some n else None) (get_or_push names x [] n refl))
 

@@ -7,7 +7,8 @@ pub mod MachineLemmas
 pub mod NameLemmas
 pub mod PartsLemmas
 pub mod PlaceLemmas
-pub mod Records
+pub mod ReachedRecords
+pub mod RecordLemmas
 pub mod RowLemmas
 pub mod SoonestLemmas
 pub mod SortLemmas

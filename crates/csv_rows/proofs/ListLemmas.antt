@@ -1,7 +1,7 @@
 -- The list of a function's values.
-use Rattle.std.proofs.Common.{◌≡◌, ℕ, zero, suc, ◌+◌, ◌-◌, ◌<◌, take, drop, length-drop, get_or-drop, List, [], ◌∷◌, ◌++◌, length, slice_index_or, refl, sym, ap, ◌∙◌}
+use Rattle.std.proofs.Common.{◌≡◌, ℕ, zero, suc, ◌+◌, ◌-◌, ◌<◌, ◌≤◌, take, drop, length-drop, get_or-drop, List, [], ◌∷◌, ◌++◌, length, slice_index_or, refl, sym, ap, ◌∙◌}
 use Rattle.std.proofs.Common.{subst, arith, ⊎_elim, add-one, length-append, eq-or-lt_of_le}
-use Rattle.std.proofs.lemmas.List.{get_or_append_left, get_or_push, take_all, take_more}
+use Rattle.std.proofs.lemmas.List.{get_or_append_left, get_or_push, take_all, take_more, drop-drop}
 use Rattle.csv_rows.specs.Lists.{list_below}
 
 pub list_below-zero : {A : Type 0} (f : ℕ → A) → list_below f 0 ≡ []
@@ -47,3 +47,17 @@ take-next xs n x rest e =
     let same : n ≡ n + 0 = omega arith in
     take_more xs n 0 inside
     ∙ ap (λ v. take n xs ++ v ∷ []) (ap (λ k. slice_index_or xs k 0) same ∙ sym (get_or-drop n xs 0 0) ∙ ap (λ l. slice_index_or l 0 0) e)
+
+-- what stands next in a list, and what is left after it
+pub drop-next : {A : Type 0} (xs : List A) (n : ℕ) (x : A) (rest : List A) (d : A) → drop n xs ≡ x ∷ rest
+    → (slice_index_or xs n d ≡ x) × (drop (n + 1) xs ≡ rest) × (length xs ≡ n + 1 + length rest)
+drop-next xs n x rest d e =
+    let same : n ≡ n + 0 = omega arith in (
+      ap (λ k. slice_index_or xs k d) same ∙ sym (get_or-drop n xs 0 d) ∙ ap (λ l. slice_index_or l 0 d) e,
+      sym (drop-drop 1 n xs) ∙ ap (drop 1) e,
+      omega (arith, length-drop n xs, ap length e),
+    )
+
+-- nothing is left
+pub drop-none : {A : Type 0} (xs : List A) (n : ℕ) → drop n xs ≡ [] → length xs ≤ n
+drop-none xs n e = omega (arith, length-drop n xs, ap length e)

@@ -1,32 +1,21 @@
 -- Fields, and the rows that they make.
 use Rattle.std.proofs.Common.{◌≡◌, ℕ, ◌<◌, ◌==◌, Bool, true, false, List, [], length, slice_index_or, Option, Some, None, if◌then◌else◌, refl, sym, ap, ◌∙◌, subst, arith, bytes_eq}
-use Rattle.std.specs.Prelude.{Result, Ok}
 use Rattle.std.specs.Str.{is_utf8}
+use Rattle.std.specs.Option.{option_or}
 use Rattle.csv_rows.specs.declared.feed_tables.FeedFault.{FeedFault}
 use Rattle.csv_rows.specs.declared.feed_tables.Table.{Table}
-use Rattle.csv_rows.specs.First.{or_else, first_below, read}
+use Rattle.csv_rows.specs.First.{first_below}
 use Rattle.csv_rows.specs.Names.{name_in}
 use Rattle.csv_rows.specs.Tables.{place_in, field_at, row_count}
 use Rattle.csv_rows.proofs.FirstLemmas.{first-is}
-use Rattle.csv_rows.specs.RowFaults.{fault_in, repeated_id}
+use Rattle.csv_rows.specs.RowFaults.{repeated_id}
 
 -- the first of two faults
-pub or_first : {F : Type 0} (a b : Option F) (f : F) → a ≡ Some f → or_else a b ≡ Some f
-or_first a b f h = ap (λ x. or_else x b) h
+pub or_first : {F : Type 0} (a b : Option F) (f : F) → a ≡ Some f → option_or a b ≡ Some f
+or_first a b f h = ap (λ x. option_or x b) h
 
-pub or_then : {F : Type 0} (a b o : Option F) → a ≡ None → b ≡ o → or_else a b ≡ o
-or_then a b o none h = ap (λ x. or_else x b) none ∙ h
-
--- where a chain of fields has no fault, its first field is of its form, and the rest has none
-pub read_ok : {A R : Type 0} (o : Option A) (e : FeedFault) (rest : A → Result R FeedFault) → fault_in (read o e rest) ≡ None
-    → (a : A) × (o ≡ Some a) × (fault_in (rest a) ≡ None)
-read_ok None e rest h = absurd (cc)
-read_ok (Some a) e rest h = (a, refl, h)
-
--- where it has a value, so has its first field
-pub read_is : {A R : Type 0} (o : Option A) (e : FeedFault) (rest : A → Result R FeedFault) (r : R) → read o e rest ≡ Ok r → (a : A) × (o ≡ Some a) × (rest a ≡ Ok r)
-read_is None e rest r h = absurd (cc)
-read_is (Some a) e rest r h = (a, refl, h)
+pub or_then : {F : Type 0} (a b o : Option F) → a ≡ None → b ≡ o → option_or a b ≡ o
+or_then a b o none h = ap (λ x. option_or x b) none ∙ h
 
 abbrev name_if : Bool → Bool → List ℕ → Option (List ℕ)
 name_if a b text = if a then None else if b then Some text else None

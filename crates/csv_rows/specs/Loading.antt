@@ -24,6 +24,11 @@ loaded_file limits table None = Ok Absent
 loaded_file limits table (Some bytes) =
     if nat_lt limits.bytes (length bytes) then Err (TooLong table) else loaded_from table (rows_of limits table) (table_of bytes)
 
+-- what the bytes of a file are as a table, where they are not too many, or none where there is no file
+abbrev pub loaded_bytes : Limits → Table → Option (List ℕ) → Result Loaded FeedFault
+loaded_bytes limits table None = Ok Absent
+loaded_bytes limits table (Some bytes) = loaded_from table (rows_of limits table) (table_of bytes)
+
 -- what is loaded of a file, where at most this table could not be read
 abbrev pub load_of : Option Table → Limits → Table → Option (List ℕ) → Result Loaded FeedFault
 load_of unread limits table file = if is_unread unread table then Err (Read table) else loaded_file limits table file

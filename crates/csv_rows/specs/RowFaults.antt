@@ -1,5 +1,5 @@
 -- The faults that tables have alike. Row i stands in line i + 2.
-use Rattle.std.specs.Prelude.{ℕ, ◌+◌, List, Option, None, Some, Result, Ok, Err, is_none, if◌then◌else◌}
+use Rattle.std.specs.Prelude.{ℕ, ◌+◌, List, Option, None, Some, is_none, if◌then◌else◌}
 use Rattle.std.specs.Str.{bytes_eq}
 use Rattle.csv_rows.specs.declared.columns.Column.{Column}
 use Rattle.csv_rows.specs.declared.feed_tables.Table.{Table}
@@ -7,26 +7,6 @@ use Rattle.csv_rows.specs.declared.feed_tables.FeedFault.{FeedFault}
 use Rattle.csv_rows.specs.declared.feed_tables.FeedFault.TheVariants.{MissingColumn, DuplicateKey}
 use Rattle.csv_rows.specs.First.{any_below}
 use Rattle.csv_rows.specs.Tables.{place_of}
-
--- the fault, where there is no value
-abbrev pub fault_in : {A : Type 0} → Result A FeedFault → Option FeedFault
-fault_in (Ok a) = None
-fault_in (Err fault) = Some fault
-
--- the value, or else this one
-abbrev pub value_or : {A : Type 0} → A → Result A FeedFault → A
-value_or default (Ok a) = a
-value_or default (Err fault) = default
-
--- what comes next, where there is no fault so far
-abbrev pub and_then : {A B : Type 0} → Result A FeedFault → (A → Result B FeedFault) → Result B FeedFault
-and_then (Ok a) next = next a
-and_then (Err fault) next = Err fault
-
--- the value, unless there is a fault
-abbrev pub unless : {A : Type 0} → Option FeedFault → A → Result A FeedFault
-unless None a = Ok a
-unless (Some fault) a = Err fault
 
 -- a required column is not in the header
 abbrev pub lack : Table → Column → Option ℕ → Option FeedFault

@@ -1,9 +1,9 @@
 //! The tables of a feed from its folder.
-ghost use Rattle.std.specs.Prelude.{◌≡◌, ◌≢◌, ◌≤◌, ◌^◌, ◌↔◌, None, Ok, Err, IfOk, IfErr, IfSome, IsSome, OnOk, string_bytes};
+ghost use Rattle.std.specs.Prelude.{◌≡◌, ◌≢◌, ◌≤◌, ◌^◌, ◌↔◌, None, Ok, Err, IfOk, IfErr, IfSome, IsSome, IsNone, OnOk, option_map, vec_items, string_bytes};
 ghost use Rattle.file_ports.specs.Ports.{file_at};
 ghost use Rattle.csv_rows.specs.FeedTables.{path_of, unread_of, is_unread};
 ghost use Rattle.csv_rows.specs.Limits.{AreWithin, rows_of};
-ghost use Rattle.csv_rows.specs.Loading.{load_of, loaded_from, HasAtMost, IsAbsent, IsLoadFault, HasTableCause, HasPathTableCause};
+ghost use Rattle.csv_rows.specs.Loading.{load_of, loaded_from, loaded_bytes, HasAtMost, IsAbsent, IsLoadFault, HasTableCause, HasPathTableCause};
 ghost use Rattle.csv_rows.specs.Tables.{table_of};
 
 use crate::feed_tables::{FeedFault, Table};
@@ -65,6 +65,43 @@ fn records_of(
     }
 }
 
+/// Reads the file of a table in this folder, or nothing where there is no such file. Its faults are `Read`, `TooLong` and
+/// `NoMemory`.
+pub fn read_file<F: Files>(
+    alloc: Global,
+    files: &mut F,
+    folder: &str,
+    table: Table,
+    limits: &Limits,
+) -> Result<Option<Vec<u8>>, FeedFault>
+    requires { AreWithin limits.now }
+    ensures same { F.files files.new ≡ F.files files.old }
+
+    // Where the files are told: the bytes, or the fault of this file.
+    ensures loaded { IfSome (F.files files.old) (λ m. IfOk result (λ o.
+        load_of None limits.now table (file_at m (path_of folder.now table))
+        ≡ loaded_bytes limits.now table (option_map vec_items o))) }
+    ensures fault { IfSome (F.files files.old) (λ m. IfErr result (λ f. f ≢ FeedFault.NoMemory
+        → load_of (unread_of f) limits.now table (file_at m (path_of folder.now table)) ≡ Err f)) }
+    ensures own { IfErr result (IsLoadFault table) }
+    ensures absent { IfOk result (λ o. IsNone o ↔ (F.in_hand files.new ≡ None)) }
+    ensures cause { HasTableCause table (F.faults files.old) (F.faults files.new) result }
+    ensures path_cause { HasPathTableCause
+        (IsSome (F.files files.old)) table (path_of folder.now table)
+        (F.faults_of files.old) (F.faults_of files.new) result }
+{
+    let path = match path_of(alloc, folder, table) {
+        Ok(path) => path,
+        Err(_) => return Err(FeedFault::NoMemory),
+    };
+    match load(alloc, files, path.as_str(), limits.bytes) {
+        Ok(bytes) => Ok(bytes),
+        Err(LoadFault::Read) => Err(FeedFault::Read(table)),
+        Err(LoadFault::TooLong) => Err(FeedFault::TooLong(table)),
+        Err(LoadFault::NoMemory) => Err(FeedFault::NoMemory),
+    }
+}
+
 /// Reads a table of the feed in this folder. Its faults are `Read`, `TooLong`, `TooManyRows` and `NoMemory`.
 pub fn read_table<F: Files>(
     alloc: Global,
@@ -89,21 +126,14 @@ pub fn read_table<F: Files>(
         (IsSome (F.files files.old)) table (path_of folder.now table)
         (F.faults_of files.old) (F.faults_of files.new) result }
 {
-    let path = match path_of(alloc, folder, table) {
-        Ok(path) => path,
-        Err(_) => return Err(FeedFault::NoMemory),
-    };
-    match load(alloc, files, path.as_str(), limits.bytes) {
-        Ok(None) => Ok(Loaded::Absent),
-        Ok(Some(bytes)) => records_of(
+    match read_file(alloc, files, folder, table, limits)? {
+        None => Ok(Loaded::Absent),
+        Some(bytes) => records_of(
             alloc,
             bytes.as_slice(),
             table,
             limits.rows_of(table),
             files.hash_key(),
         ),
-        Err(LoadFault::Read) => Err(FeedFault::Read(table)),
-        Err(LoadFault::TooLong) => Err(FeedFault::TooLong(table)),
-        Err(LoadFault::NoMemory) => Err(FeedFault::NoMemory),
     }
 }
