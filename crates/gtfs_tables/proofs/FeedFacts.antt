@@ -2,13 +2,13 @@
 use Rattle.std.proofs.Common.{◌≡◌, ℕ, ◌-◌, ◌<◌, ◌≤◌, ◌==◌, Bool, true, false, List, length, slice_index, Option, Some, None, IfSome, if◌then◌else◌, refl, sym, ap, subst, arith, ⊎_elim}
 use Rattle.std.specs.Prelude.{unwrap_or}
 use Rattle.std.proofs.lemmas.Bool.{cases_lt}
+use Rattle.plan_model.specs.Results.{value_or}
 use Rattle.csv_rows.specs.First.{first_below}
 use Rattle.csv_rows.specs.Tables.{place_in, row_count, field}
 use Rattle.csv_rows.specs.declared.columns.Column.TheVariants.{StopId, TripId}
 use Rattle.csv_rows.proofs.FirstLemmas.{none-each, none-both}
 use Rattle.gtfs_tables.specs.declared.stop_times.StopRow.{StopRow}
 use Rattle.gtfs_tables.specs.declared.stop_times.TimedRow.{TimedRow}
-use Rattle.csv_rows.specs.RowFaults.{value_or}
 use Rattle.gtfs_tables.specs.Feeds.{FeedParts, IsSoundFeed}
 use Rattle.gtfs_tables.specs.Stops.{stop_ids, stop_places, place_from, parent_of}
 use Rattle.gtfs_tables.specs.Trips.{trip_ids}

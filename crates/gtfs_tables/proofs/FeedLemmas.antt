@@ -1,8 +1,9 @@
 -- The tables of a feed, one after the other.
-use Rattle.std.proofs.Common.{◌≡◌, ◌≢◌, ℕ, ◌<◌, ◌≤◌, ◌==◌, false, List, [], length, slice_index_or, Option, Some, None, IfSome, IfErr, refl, sym, ap, ap₂, ◌∙◌, subst, arith, ⊎_elim, if◌then◌else◌}
+use Rattle.std.proofs.Common.{◌≡◌, ◌≢◌, ℕ, ◌<◌, ◌≤◌, ◌==◌, false, List, [], length, slice_index_or, Option, Some, None, IfSome, refl, sym, ap, ap₂, ◌∙◌, subst, arith, ⊎_elim, if◌then◌else◌}
 use Rattle.std.specs.Prelude.{Result, Ok, Err}
 use Rattle.std.specs.Result.{IsErr, IsErrAnd}
 use Rattle.std.proofs.lemmas.Bool.{cases_lt}
+use Rattle.plan_model.specs.Results.{and_then}
 use Rattle.file_ports.specs.Ports.{Folder, file_at}
 use Rattle.file_ports.specs.Counts.{Rose}
 use Rattle.csv_rows.specs.declared.columns.Column.TheVariants.{TripId}
@@ -14,7 +15,6 @@ use Rattle.csv_rows.specs.declared.limits.Limits.{Limits}
 use Rattle.csv_rows.specs.declared.loading.Loaded.{Loaded}
 use Rattle.csv_rows.specs.FeedTables.{path_of, rank_of, unread_of, IsFaultOf}
 use Rattle.csv_rows.specs.Loading.{loaded_file, loaded_rows, HasFeedCause, IsUnread, load_in}
-use Rattle.csv_rows.specs.RowFaults.{and_then}
 use Rattle.csv_rows.specs.Tables.{row_count, field}
 use Rattle.gtfs_tables.specs.declared.frequencies.FrequencyRow.{FrequencyRow}
 use Rattle.gtfs_tables.specs.declared.stop_times.StopRow.{StopRow}
@@ -26,17 +26,11 @@ use Rattle.gtfs_tables.specs.Frequencies.{frequency_rows, fault_of_frequencies, 
 use Rattle.gtfs_tables.specs.Visits.{AreStopTimes}
 use Rattle.gtfs_tables.specs.Feeds.{Records, stops_from, routes_from, trips_from, stop_times_from, frequencies_from, Tables, tables_by, tables_in, FeedParts, IsFeed}
 use Rattle.gtfs_tables.specs.Feeds.{IsFeedOf, AreStops, AreRoutes, AreTrips, AreVisits, AreFrequencies, IsSound, IsSoundFeed}
-use Rattle.csv_rows.proofs.FaultLemmas.{if_raised}
 use Rattle.csv_rows.proofs.ListLemmas.{length-list_below}
+use Rattle.plan_model.proofs.Results.{and_then-ok, and_then-err}
 
 pub if_same : {A : Type 0} (o o' : Option A) (P : A → Type 0) → o' ≡ o → IfSome o' P → IfSome o P
 if_same o o' P e h = subst (λ (z : Option _). IfSome z P) e h
-
--- where the files are told, what a step that failed tells of its error holds of what `?` raises again
-pub some_raised : {A : Type 0} (o : Option Folder) (f : FeedFault) (P : Folder → FeedFault → Type 0) (r : Result A FeedFault) → IsErr r × IsErrAnd r (λ raised. raised ≡ f)
-    → IfSome o (λ m. P m f) → IfSome o (λ m. IfErr r (P m))
-some_raised None f P r h p = tt
-some_raised (Some m) f P r h p = if_raised (P m) r h p
 
 -- what is loaded of another table than the one that may not have been read
 other_load : (m : Folder) (folder : List ℕ) (limits : Limits) (f : FeedFault) (table other : Table) → IsFaultOf table f → (rank_of table == rank_of other) ≡ false
@@ -49,12 +43,6 @@ other_load m folder limits _ table other e ne = refl
 found : {T : Type 0} (P : Result T FeedFault → Type 0) → ((f : FeedFault) → P (Err f) → ⊥) → (r : Result T FeedFault) → P r → (t : T) × (r ≡ Ok t) × P (Ok t)
 found P never (Ok t) h = (t, refl, h)
 found P never (Err f) h = absurd (never f h)
-
-after : {T U : Type 0} (r : Result T FeedFault) (t : T) (next : T → Result U FeedFault) → r ≡ Ok t → and_then r next ≡ next t
-after r t next e = ap (λ z. and_then z next) e
-
-stop : {T U : Type 0} (r : Result T FeedFault) (f : FeedFault) (next : T → Result U FeedFault) → r ≡ Err f → and_then r next ≡ Err f
-stop r f next e = ap (λ z. and_then z next) e
 
 -- what was read is the feed of its tables
 is_feed : (s r t x : Records) (q : Loaded) (ids routes trips services : List (List ℕ)) (places types types_of routes_of : List ℕ) (visits : List (List StopRow)) (rows : List (List FrequencyRow))
@@ -112,23 +100,23 @@ routes_step r t x q s = and_then r (trips_step t x q s)
 
 module _ (s r : Result Records FeedFault) (t : TripsBy) (x : TimesBy) (q : FrequenciesBy) where
   stops_stop : (f : FeedFault) → s ≡ Err f → tables_by s r t x q ≡ Err f
-  stops_stop f h = stop s f (routes_step r t x q) h
+  stops_stop f h = and_then-err s f (routes_step r t x q) h
 
   module _ (ids routes trips services : List (List ℕ)) (places types types_of routes_of : List ℕ) (a : AreStops s ids places) where
     routes_stop : (f : FeedFault) → r ≡ Err f → tables_by s r t x q ≡ Err f
     routes_stop f h =
         let s' = found (λ z. AreStops z ids places) (λ e n. n) s a in
-        after s s'.0 (routes_step r t x q) s'.1 ∙ stop r f (trips_step t x q s'.0) h
+        and_then-ok s s'.0 (routes_step r t x q) s'.1 ∙ and_then-err r f (trips_step t x q s'.0) h
 
     module _ (b : AreRoutes r routes types) where
       up_to_trips : (s' r' : Records) → s ≡ Ok s' → r ≡ Ok r' → tables_by s r t x q ≡ trips_step t x q s' r'
-      up_to_trips s' r' e k = after s s' (routes_step r t x q) e ∙ after r r' (trips_step t x q s') k
+      up_to_trips s' r' e k = and_then-ok s s' (routes_step r t x q) e ∙ and_then-ok r r' (trips_step t x q s') k
 
       trips_stop : (f : FeedFault) → t routes ≡ Err f → tables_by s r t x q ≡ Err f
       trips_stop f h =
           let s' = found (λ z. AreStops z ids places) (λ e n. n) s a in
           let r' = found (λ z. AreRoutes z routes types) (λ e n. n) r b in
-          up_to_trips s'.0 r'.0 s'.1 r'.1 ∙ stop (t (route_ids r'.0)) f (times_step x q s'.0 r'.0) (ap t (sym r'.2.0) ∙ h)
+          up_to_trips s'.0 r'.0 s'.1 r'.1 ∙ and_then-err (t (route_ids r'.0)) f (times_step x q s'.0 r'.0) (ap t (sym r'.2.0) ∙ h)
 
       module _ (d : AreTrips routes types (t routes) trips services types_of routes_of) where
         -- the tables up to the trips, and what they tell of the stop times
@@ -157,14 +145,14 @@ module _ (s r : Result Records FeedFault) (t : TripsBy) (x : TimesBy) (q : Frequ
               stops_are = s'.2;
               routes_are = r'.2;
               trips_are = t'.2;
-              is = up_to_trips s'.0 r'.0 s'.1 r'.1 ∙ after (t (route_ids r'.0)) t'.0 (times_step x q s'.0 r'.0) (ap t (sym r'.2.0) ∙ t'.1);
+              is = up_to_trips s'.0 r'.0 s'.1 r'.1 ∙ and_then-ok (t (route_ids r'.0)) t'.0 (times_step x q s'.0 r'.0) (ap t (sym r'.2.0) ∙ t'.1);
               times = same_times (trip_ids t'.0) (stop_ids s'.0) (stop_places s'.0) t'.2.0 s'.2.0 s'.2.1;
             }
 
         times_stop : (f : FeedFault) → x trips ids places ≡ Err f → tables_by s r t x q ≡ Err f
         times_stop f h =
             let w = read_trips in
-            w.is ∙ stop (x (trip_ids w.trips_read) (stop_ids w.stops) (stop_places w.stops)) f (frequencies_step q w.stops w.routes_read w.trips_read) (w.times ∙ h)
+            w.is ∙ and_then-err (x (trip_ids w.trips_read) (stop_ids w.stops) (stop_places w.stops)) f (frequencies_step q w.stops w.routes_read w.trips_read) (w.times ∙ h)
 
         module _ (visits : List (List StopRow)) (v : AreVisits trips ids places (x trips ids places) visits) where
           up_to_frequencies : (x' : Records) → x trips ids places ≡ Ok x'
@@ -172,14 +160,14 @@ module _ (s r : Result Records FeedFault) (t : TripsBy) (x : TimesBy) (q : Frequ
           unfolding read_trips
           up_to_frequencies x' h =
               let w = read_trips in
-              w.is ∙ after (x (trip_ids w.trips_read) (stop_ids w.stops) (stop_places w.stops)) x' (frequencies_step q w.stops w.routes_read w.trips_read) (w.times ∙ h)
+              w.is ∙ and_then-ok (x (trip_ids w.trips_read) (stop_ids w.stops) (stop_places w.stops)) x' (frequencies_step q w.stops w.routes_read w.trips_read) (w.times ∙ h)
 
           frequencies_stop : (f : FeedFault) → q trips ≡ Err f → tables_by s r t x q ≡ Err f
           frequencies_stop f h =
               let w = read_trips in
               let x' = found (λ z. AreVisits trips ids places z visits) (λ e n. n) (x trips ids places) v in
               up_to_frequencies x'.0 x'.1
-              ∙ stop (q (trip_ids w.trips_read)) f (λ l. Ok (record { stops = w.stops; routes = w.routes_read; trips = w.trips_read; stop_times = x'.0; frequencies = l }))
+              ∙ and_then-err (q (trip_ids w.trips_read)) f (λ l. Ok (record { stops = w.stops; routes = w.routes_read; trips = w.trips_read; stop_times = x'.0; frequencies = l }))
               (ap q (sym w.trips_are.0) ∙ h)
 
           all_tables : (rows : List (List FrequencyRow)) → AreFrequencies trips (q trips) rows
@@ -211,7 +199,7 @@ module _ (s r : Result Records FeedFault) (t : TripsBy) (x : TimesBy) (q : Frequ
               } in
               subst (λ z. IsFeedOf z parts)
               (sym (up_to_frequencies x'.0 x'.1
-              ∙ after (q (trip_ids w.trips_read)) q'.0 (λ l. Ok (record { stops = w.stops; routes = w.routes_read; trips = w.trips_read; stop_times = x'.0; frequencies = l }))
+              ∙ and_then-ok (q (trip_ids w.trips_read)) q'.0 (λ l. Ok (record { stops = w.stops; routes = w.routes_read; trips = w.trips_read; stop_times = x'.0; frequencies = l }))
               (ap q (sym w.trips_are.0) ∙ q'.1)))
               (is_feed w.stops w.routes_read w.trips_read x'.0 q'.0 ids routes trips services places types types_of routes_of visits rows
               w.stops_are w.routes_are w.trips_are x'.2 q'.2)

@@ -1,13 +1,13 @@
 -- The rows of frequencies.
 use Rattle.std.proofs.Common.{◌≡◌, ℕ, ◌+◌, true, List, length, Option, option_map, sym, ap, ◌∙◌}
 use Rattle.std.specs.Prelude.{Result}
+use Rattle.plan_model.specs.Results.{value_or}
 use Rattle.csv_rows.specs.declared.feed_tables.FeedFault.{FeedFault}
 use Rattle.csv_rows.specs.declared.feed_tables.FeedFault.TheVariants.{DuplicateKey}
 use Rattle.csv_rows.specs.declared.feed_tables.Table.TheVariants.{Frequencies}
 use Rattle.csv_rows.specs.declared.keys.Key.{Key}
 use Rattle.csv_rows.specs.First.{first_below}
 use Rattle.csv_rows.specs.Keys.{AreSorted, has_twin, twin_at}
-use Rattle.csv_rows.specs.RowFaults.{value_or}
 use Rattle.csv_rows.specs.Tables.{row_count}
 use Rattle.csv_rows.proofs.FirstLemmas.{first-told}
 use Rattle.csv_rows.proofs.ListLemmas.{length-list_below}

@@ -7,6 +7,8 @@ use Rattle.std.proofs.lemmas.Bool.{cases_lt, eq-eqb}
 use Rattle.std.proofs.lemmas.List.{get_or-map, length-map}
 use Rattle.std.proofs.lemmas.List.Elements.{All-filter, All-map}
 use Rattle.std.proofs.lemmas.List.Kept.{AllPairs-filter}
+use Rattle.std.specs.Result.{result_err}
+use Rattle.plan_model.specs.Results.{value_or}
 use Rattle.clock_text.specs.Digits.{whole_of}
 use Rattle.clock_text.specs.Times.{time_at}
 use Rattle.csv_rows.specs.declared.columns.Column.TheVariants.{TripId, StartTime, EndTime, HeadwaySecs, ExactTimes}
@@ -18,11 +20,9 @@ use Rattle.csv_rows.specs.declared.loading.Loaded.TheVariants.{Absent, NoRecord,
 use Rattle.csv_rows.specs.First.{first_below}
 use Rattle.csv_rows.specs.Loading.{loaded_rows}
 use Rattle.csv_rows.specs.Names.{name_in}
-use Rattle.csv_rows.specs.RowFaults.{fault_in, value_or}
 use Rattle.csv_rows.specs.Tables.{row_count, place_in, field, field_at}
 use Rattle.csv_rows.proofs.FirstLemmas.{first-zero, none-both, none-each}
 use Rattle.csv_rows.proofs.ListLemmas.{length-list_below, get-list_below}
-use Rattle.csv_rows.proofs.RowLemmas.{read_is}
 use Rattle.gtfs_tables.specs.declared.frequencies.FrequencyRow.{FrequencyRow}
 use Rattle.gtfs_tables.specs.declared.frequencies.TripFrequency.{TripFrequency}
 use Rattle.gtfs_tables.specs.Bounds.{most_headway}
@@ -34,6 +34,7 @@ use Rattle.gtfs_tables.specs.Trips.{trip_ids}
 use Rattle.gtfs_tables.proofs.FrequencyLemmas.{frequency_count}
 use Rattle.gtfs_tables.proofs.RowForms.{time_below}
 use Rattle.gtfs_tables.proofs.RowLemmas.{whole_bound}
+use Rattle.plan_model.proofs.Results.{require-ok}
 
 -- a row of this line that is within its bounds
 record IsFormed (line : ℕ) (r : TripFrequency) : Type 0 where
@@ -55,12 +56,12 @@ headway_some (Some m) n h = let w = not_zero m n (m == 0) refl h in (ap Some w.0
 -- a row that has no fault by itself
 from_formed : (trips : List (List ℕ)) (line : ℕ) (trip start end headway exact : List ℕ) (r : TripFrequency) → frequency_from trips line trip start end headway exact ≡ Ok r → IsFormed line r
 from_formed trips line trip start end headway exact r h =
-    let a = read_is (name_in trip) (BadField Frequencies line TripId) _ r h in
-    let b = read_is (place_in a.0 trips) (UnknownKey Frequencies line TripId) _ r a.2 in
-    let c = read_is (time_at start) (BadField Frequencies line StartTime) _ r b.2 in
-    let d = read_is (time_at end) (BadField Frequencies line EndTime) _ r c.2 in
-    let e = read_is (headway_in headway) (BadField Frequencies line HeadwaySecs) _ r d.2 in
-    let g = read_is (is_exact_in exact) (BadField Frequencies line ExactTimes) _ r e.2 in
+    let a = require-ok (name_in trip) (BadField Frequencies line TripId) _ r h in
+    let b = require-ok (place_in a.0 trips) (UnknownKey Frequencies line TripId) _ r a.2 in
+    let c = require-ok (time_at start) (BadField Frequencies line StartTime) _ r b.2 in
+    let d = require-ok (time_at end) (BadField Frequencies line EndTime) _ r c.2 in
+    let e = require-ok (headway_in headway) (BadField Frequencies line HeadwaySecs) _ r d.2 in
+    let g = require-ok (is_exact_in exact) (BadField Frequencies line ExactTimes) _ r e.2 in
     let some = headway_some (whole_of most_headway headway) e.0 e.1 in
     let row : FrequencyRow = record { first = c.0; end = d.0; headway = e.0; line = line } in
     let made : TripFrequency = record { trip = b.0; row = row } in
@@ -70,11 +71,11 @@ from_formed trips line trip start end headway exact r h =
       line_is = refl;
     })
 
-ok_formed : (line : ℕ) (o : Result TripFrequency FeedFault) → fault_in o ≡ None → ((r : TripFrequency) → o ≡ Ok r → IsFormed line r) → IsFormed line (value_or no_frequency o)
+ok_formed : (line : ℕ) (o : Result TripFrequency FeedFault) → result_err o ≡ None → ((r : TripFrequency) → o ≡ Ok r → IsFormed line r) → IsFormed line (value_or no_frequency o)
 ok_formed line (Ok r) none k = k r refl
 ok_formed line (Err fault) none k = absurd (cc)
 
-row_formed : (trips : List (List ℕ)) (t : List (List (List ℕ))) (i : ℕ) → fault_in (frequency_at trips t i) ≡ None → IsFormed (i + 2) (value_or no_frequency (frequency_at trips t i))
+row_formed : (trips : List (List ℕ)) (t : List (List (List ℕ))) (i : ℕ) → result_err (frequency_at trips t i) ≡ None → IsFormed (i + 2) (value_or no_frequency (frequency_at trips t i))
 unfolding frequency_at
 row_formed trips t i none =
     let c = frequency_columns t in

@@ -1,10 +1,12 @@
 -- What the form of a row of stop times tells.
-use Rattle.std.proofs.Common.{◌≡◌, ℕ, ◌+◌, ◌*◌, ◌<◌, ◌≤◌, ◌-◌, ◌==◌, nat_eq, nat_le, nat_lt, ◌&&◌, Bool, true, false, List, length, take, drop, slice_index, Option}
+use Rattle.std.proofs.Common.{◌≡◌, ℕ, ◌+◌, ◌*◌, ◌<◌, ◌≤◌, ◌-◌, ◌==◌, nat_eq, nat_le, nat_lt, ◌&&◌, Bool, true, false, List, [], length, take, drop, slice_index, slice_index_or, Option}
 use Rattle.std.proofs.Common.{Some, None, IfSome, option_map, if◌then◌else◌, refl, sym, subst, arith}
 use Rattle.std.specs.Prelude.{Result, Ok, Err}
 use Rattle.std.specs.List.{list_all}
 use Rattle.std.specs.Char.{is_ascii_digit}
 use Rattle.std.proofs.lemmas.Bool.{ltb-true, and_parts, leb-true}
+use Rattle.std.specs.Result.{result_err}
+use Rattle.plan_model.specs.Results.{value_or}
 use Rattle.clock_text.specs.Digits.{value_of, whole_of}
 use Rattle.clock_text.specs.Times.{time_at, time_of, seconds_at}
 use Rattle.clock_text.proofs.OneText.{if_cases, some_cases}
@@ -12,17 +14,17 @@ use Rattle.csv_rows.specs.declared.columns.Column.TheVariants.{TripId, StopId, S
 use Rattle.csv_rows.specs.declared.feed_tables.Table.TheVariants.{StopTimes}
 use Rattle.csv_rows.specs.declared.feed_tables.FeedFault.{FeedFault}
 use Rattle.csv_rows.specs.declared.feed_tables.FeedFault.TheVariants.{BadField, UnknownKey}
-use Rattle.csv_rows.specs.First.{read}
 use Rattle.csv_rows.specs.Names.{name_in}
-use Rattle.csv_rows.specs.Tables.{place_in, field_at}
+use Rattle.csv_rows.specs.Records.{field_of}
+use Rattle.csv_rows.specs.Tables.{place_in}
 use Rattle.gtfs_tables.specs.declared.stop_times.StopRow.{StopRow}
 use Rattle.gtfs_tables.specs.declared.stop_times.TimedRow.{TimedRow}
-use Rattle.csv_rows.specs.RowFaults.{fault_in, value_or}
 use Rattle.gtfs_tables.specs.Forms.{text_in, allows_in, time_in}
 use Rattle.gtfs_tables.specs.StopTimes.{time_columns, number_in, times_of, visit_of, timed_from, timed_at, no_row}
 use Rattle.gtfs_tables.proofs.RowLemmas.{whole_bound}
 use Rattle.csv_rows.proofs.RowLemmas.{place_inside}
 use Rattle.gtfs_tables.specs.Bounds.{end_of_times}
+use Rattle.plan_model.proofs.Results.{require-each}
 
 -- a kept row stands at the place of a stop, at times of at most 167 hours
 pub record IsAtStop (stops : ℕ) (places : List ℕ) (v : StopRow) : Type 0 where
@@ -35,12 +37,6 @@ pub record IsAtStop (stops : ℕ) (places : List ℕ) (v : StopRow) : Type 0 whe
 pub record InForm (stops : ℕ) (places : List ℕ) (r : TimedRow) : Type 0 where
   pub sequence : r.sequence ≤ 999999999
   pub visit : IfSome r.visit (IsAtStop stops places)
-
--- what is read is what the rest makes of its parts
-read_inv : {A R : Type 0} (P : R → Type 0) (o : Option A) (e : FeedFault) (rest : A → Result R FeedFault)
-    → ((a : A) → o ≡ Some a → (r : R) → rest a ≡ Ok r → P r) → (r : R) → read o e rest ≡ Ok r → P r
-read_inv P None e rest k r h = absurd (cc)
-read_inv P (Some a) e rest k r h = k a refl r h
 
 same_ok : (x r : TimedRow) → ◌≡◌ {A = Result TimedRow FeedFault} (Ok x) (Ok r) → x ≡ r
 same_ok x r e = cc
@@ -103,15 +99,15 @@ from_in_form : (trips stops : List (List ℕ)) (places : List ℕ) (line : ℕ) 
     → timed_from trips stops places line trip stop sequence arrival departure pickup drop_off ≡ Ok r → InForm (length stops) places r
 from_in_form trips stops places line trip stop sequence arrival departure pickup drop_off =
     let P : TimedRow → Type 0 = InForm (length stops) places in
-    read_inv P (name_in trip) (BadField StopTimes line TripId) _ (λ trip' e0.
-    read_inv P (place_in trip' trips) (UnknownKey StopTimes line TripId) _ (λ number e1.
-    read_inv P (text_in stop) (BadField StopTimes line StopId) _ (λ stop' e2.
-    read_inv P (number_in stops stop') (UnknownKey StopTimes line StopId) _ (λ stop_number e3.
-    read_inv P (whole_of 999999999 sequence) (BadField StopTimes line StopSequence) _ (λ sequence' e4.
-    read_inv P (time_in arrival) (BadField StopTimes line ArrivalTime) _ (λ arrival' e5.
-    read_inv P (time_in departure) (BadField StopTimes line DepartureTime) _ (λ departure' e6.
-    read_inv P (allows_in pickup) (BadField StopTimes line PickupType) _ (λ board e7.
-    read_inv P (allows_in drop_off) (BadField StopTimes line DropOffType) _ (λ exit e8 r q.
+    require-each P (name_in trip) (BadField StopTimes line TripId) _ (λ trip' e0.
+    require-each P (place_in trip' trips) (UnknownKey StopTimes line TripId) _ (λ number e1.
+    require-each P (text_in stop) (BadField StopTimes line StopId) _ (λ stop' e2.
+    require-each P (number_in stops stop') (UnknownKey StopTimes line StopId) _ (λ stop_number e3.
+    require-each P (whole_of 999999999 sequence) (BadField StopTimes line StopSequence) _ (λ sequence' e4.
+    require-each P (time_in arrival) (BadField StopTimes line ArrivalTime) _ (λ arrival' e5.
+    require-each P (time_in departure) (BadField StopTimes line DepartureTime) _ (λ departure' e6.
+    require-each P (allows_in pickup) (BadField StopTimes line PickupType) _ (λ board e7.
+    require-each P (allows_in drop_off) (BadField StopTimes line DropOffType) _ (λ exit e8 r q.
     subst P (same_ok _ r q) (record {
       sequence = whole_bound 999999999 sequence' sequence e4;
       visit = visit_form (length stops) places stop_number arrival' departure' board exit
@@ -120,15 +116,16 @@ from_in_form trips stops places line trip stop sequence arrival departure pickup
           (or_none (length departure == 0) (time_at departure) end_of_times departure' (time_few departure) e6);
     }))))))))))
 
-ok_form : (P : TimedRow → Type 0) (o : Result TimedRow FeedFault) → fault_in o ≡ None → ((r : TimedRow) → o ≡ Ok r → P r) → P (value_or no_row o)
+ok_form : (P : TimedRow → Type 0) (o : Result TimedRow FeedFault) → result_err o ≡ None → ((r : TimedRow) → o ≡ Ok r → P r) → P (value_or no_row o)
 ok_form P (Ok r) h k = k r refl
 ok_form P (Err fault) h k = absurd (cc)
 
-pub row_in_form : (trips stops : List (List ℕ)) (places : List ℕ) (t : List (List (List ℕ))) (i : ℕ) → fault_in (timed_at trips stops places t i) ≡ None
+pub row_in_form : (trips stops : List (List ℕ)) (places : List ℕ) (t : List (List (List ℕ))) (i : ℕ) → result_err (timed_at trips stops places t i) ≡ None
     → InForm (length stops) places (value_or no_row (timed_at trips stops places t i))
 unfolding timed_at
 row_in_form trips stops places t i none =
     let c = time_columns t in
+    let row = slice_index_or t (i + 1) [] in
     ok_form (InForm (length stops) places) (timed_at trips stops places t i) none
-    (from_in_form trips stops places (i + 2) (field_at t c.trip i) (field_at t c.stop i) (field_at t c.sequence i) (field_at t c.arrival i)
-    (field_at t c.departure i) (field_at t c.pickup i) (field_at t c.drop_off i))
+    (from_in_form trips stops places (i + 2) (field_of row c.trip) (field_of row c.stop) (field_of row c.sequence) (field_of row c.arrival)
+    (field_of row c.departure) (field_of row c.pickup) (field_of row c.drop_off))

@@ -1,6 +1,13 @@
 -- The bounds of the times of a feed, as numbers.
 use Rattle.std.specs.Prelude.{ℕ}
 
+-- as many stops and trips as a feed may have
+abbrev pub most_stops : ℕ
+most_stops = 1048576
+
+abbrev pub most_trips : ℕ
+most_trips = 4194304
+
 -- 168 hours: each time of a service day is before it
 abbrev pub end_of_times : ℕ
 end_of_times = 604800

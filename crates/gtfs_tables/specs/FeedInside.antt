@@ -3,7 +3,7 @@ use Rattle.std.specs.Prelude.{◌≡◌, ℕ, ◌<◌, ◌≤◌, [], slice_inde
 use Rattle.std.specs.List.Sorted.{IsNonDecreasing}
 use Rattle.plan_model.specs.NameLists.{texts}
 use Rattle.gtfs_tables.specs.declared.feed.Feed.TheInside.{Inside}
-use Rattle.gtfs_tables.specs.Bounds.{most_stop_times, most_frequencies}
+use Rattle.gtfs_tables.specs.Bounds.{most_stop_times, most_frequencies, most_stops, most_trips}
 use Rattle.gtfs_tables.specs.Feeds.{FeedParts, IsSoundFeed}
 use Rattle.gtfs_tables.specs.Repeats.{all_repeats_in}
 
@@ -31,8 +31,8 @@ pub record IsWhole (f : Inside) : Type 0 where
   pub visits : length f.visits.items ≡ length f.trips.ids
   pub ordered : IsNonDecreasing f.repeats.trips.items
   pub paired : length f.repeats.rows.items ≡ length f.repeats.trips.items
-  pub few_stops : length f.stops.ids ≤ 1048576
-  pub few_trips : length f.trips.ids ≤ 4194304
+  pub few_stops : length f.stops.ids ≤ most_stops
+  pub few_trips : length f.trips.ids ≤ most_trips
   pub few_rows : (trip : ℕ) → trip < length f.trips.ids → length (slice_index_or (map vec_items f.visits.items) trip []) ≤ most_stop_times
   pub few_frequencies : length f.repeats.rows.items ≤ most_frequencies
   pub sound : IsSoundFeed (parts_of f)

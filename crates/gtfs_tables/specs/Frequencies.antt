@@ -1,6 +1,9 @@
 -- The rows of frequencies, and how each trip repeats by them (GTFS Schedule reference).
 use Rattle.std.specs.Prelude.{ℕ, ◌+◌, ◌==◌, List, map, length, slice_index_or, Option, Some, None, Result, Ok, if◌then◌else◌}
 use Rattle.std.specs.List.{filter}
+use Rattle.std.specs.Option.{option_or}
+use Rattle.std.specs.Result.{result_err}
+use Rattle.plan_model.specs.Results.{require, value_or}
 use Rattle.clock_text.specs.Times.{time_at}
 use Rattle.csv_rows.specs.declared.columns.Column.TheVariants.{TripId, StartTime, EndTime, HeadwaySecs, ExactTimes}
 use Rattle.csv_rows.specs.declared.feed_tables.Table.TheVariants.{Frequencies}
@@ -8,11 +11,11 @@ use Rattle.csv_rows.specs.declared.feed_tables.FeedFault.{FeedFault}
 use Rattle.csv_rows.specs.declared.feed_tables.FeedFault.TheVariants.{BadField, UnknownKey, DuplicateKey}
 use Rattle.csv_rows.specs.declared.loading.Loaded.{Loaded}
 use Rattle.csv_rows.specs.declared.loading.Loaded.TheVariants.{Absent, NoRecord, Found}
-use Rattle.csv_rows.specs.First.{or_else, first_below, read}
+use Rattle.csv_rows.specs.First.{first_below}
 use Rattle.csv_rows.specs.Keys.{has_twin}
 use Rattle.csv_rows.specs.Lists.{list_below}
 use Rattle.csv_rows.specs.Names.{name_in}
-use Rattle.csv_rows.specs.RowFaults.{fault_in, value_or, lack}
+use Rattle.csv_rows.specs.RowFaults.{lack}
 use Rattle.csv_rows.specs.Tables.{row_count, place_in, place_of, field_at}
 use Rattle.gtfs_tables.specs.declared.frequencies.FrequencyRow.{FrequencyRow}
 use Rattle.gtfs_tables.specs.declared.frequencies.TripFrequency.{TripFrequency}
@@ -22,12 +25,12 @@ use Rattle.gtfs_tables.specs.Forms.{headway_in, is_exact_in}
 -- the row of these fields, or the first that is not of its form or names no trip; both kinds of `exact_times` are read alike
 abbrev pub frequency_from : (trips : List (List ℕ)) (line : ℕ) (trip start end headway exact : List ℕ) → Result TripFrequency FeedFault
 frequency_from trips line trip start end headway exact =
-    read (name_in trip) (BadField Frequencies line TripId) (λ trip'.
-    read (place_in trip' trips) (UnknownKey Frequencies line TripId) (λ number.
-    read (time_at start) (BadField Frequencies line StartTime) (λ start'.
-    read (time_at end) (BadField Frequencies line EndTime) (λ end'.
-    read (headway_in headway) (BadField Frequencies line HeadwaySecs) (λ headway'.
-    read (is_exact_in exact) (BadField Frequencies line ExactTimes) (λ exact'.
+    require (name_in trip) (BadField Frequencies line TripId) (λ trip'.
+    require (place_in trip' trips) (UnknownKey Frequencies line TripId) (λ number.
+    require (time_at start) (BadField Frequencies line StartTime) (λ start'.
+    require (time_at end) (BadField Frequencies line EndTime) (λ end'.
+    require (headway_in headway) (BadField Frequencies line HeadwaySecs) (λ headway'.
+    require (is_exact_in exact) (BadField Frequencies line ExactTimes) (λ exact'.
     Ok (record { trip = number; row = record { first = start'; end = end'; headway = headway'; line = line } })))))))
 
 -- where the columns stand
@@ -50,7 +53,7 @@ frequency_at trips t i = frequency_in trips t (frequency_columns t) i
 
 -- the first fault of row i by itself
 abbrev pub bad_frequency : List (List ℕ) → List (List (List ℕ)) → ℕ → Option FeedFault
-bad_frequency trips t i = fault_in (frequency_at trips t i)
+bad_frequency trips t i = result_err (frequency_at trips t i)
 
 abbrev pub no_frequency : TripFrequency
 no_frequency = record { trip = 0; row = record { first = 0; end = 0; headway = 0; line = 0 } }
@@ -72,14 +75,14 @@ repeated_start rows i = if has_twin (trip_of rows) (start_of rows) i then Some (
 -- the first required column that is not in the header
 abbrev pub missing_frequency_column : FrequencyColumns → Option FeedFault
 missing_frequency_column c =
-    or_else (lack Frequencies TripId c.trip) (or_else (lack Frequencies StartTime c.start)
-    (or_else (lack Frequencies EndTime c.end) (lack Frequencies HeadwaySecs c.headway)))
+    option_or (lack Frequencies TripId c.trip) (option_or (lack Frequencies StartTime c.start)
+    (option_or (lack Frequencies EndTime c.end) (lack Frequencies HeadwaySecs c.headway)))
 
 -- the first fault of the frequencies
 unfoldable pub frequencies_fault : List (List ℕ) → List (List (List ℕ)) → Option FeedFault
 frequencies_fault trips t =
-    or_else (missing_frequency_column (frequency_columns t))
-    (or_else (first_below (bad_frequency trips t) (row_count t))
+    option_or (missing_frequency_column (frequency_columns t))
+    (option_or (first_below (bad_frequency trips t) (row_count t))
     (first_below (repeated_start (frequency_rows trips t)) (length (frequency_rows trips t))))
 
 -- the rows of a trip, in the order of the file

@@ -1,18 +1,24 @@
 -- The rows of stop times. Those that name a stop and a time are kept.
-use Rattle.std.specs.Prelude.{◌≡◌, ℕ, ◌+◌, ◌==◌, nat_lt, Bool, ◌&&◌, ◌||◌, List, length, slice_index, slice_index_or, Option, Some, None, Result, Ok, option_map, is_some, if◌then◌else◌}
+use Rattle.std.specs.Prelude.{◌≡◌, ℕ, ◌+◌, ◌==◌, nat_lt, Bool, ◌&&◌, ◌||◌, List, [], length, slice_index, slice_index_or, Option, Some, None, IfSome, Result, Ok, option_map, is_some, if◌then◌else◌}
+use Rattle.std.specs.Option.{option_or}
+use Rattle.std.specs.Result.{result_err}
+use Rattle.plan_model.specs.Results.{require, value_or}
 use Rattle.clock_text.specs.Digits.{whole_of}
 use Rattle.csv_rows.specs.declared.columns.Column.TheVariants.{TripId, StopId, StopSequence, ArrivalTime, DepartureTime, PickupType, DropOffType}
 use Rattle.csv_rows.specs.declared.feed_tables.Table.TheVariants.{StopTimes}
 use Rattle.csv_rows.specs.declared.feed_tables.FeedFault.{FeedFault}
-use Rattle.csv_rows.specs.declared.feed_tables.FeedFault.TheVariants.{BadField, UnknownKey, DuplicateKey, BackwardTime}
-use Rattle.csv_rows.specs.First.{or_else, first_below, any_below, read}
+use Rattle.csv_rows.specs.declared.feed_tables.FeedFault.TheVariants.{BadField, UnknownKey, DuplicateKey, BackwardTime, TooManyRows}
+use Rattle.csv_rows.specs.Columns.{name_of}
+use Rattle.csv_rows.specs.First.{first_below, any_below}
 use Rattle.csv_rows.specs.Keys.{has_twin, just_precedes}
 use Rattle.csv_rows.specs.Names.{name_in}
-use Rattle.csv_rows.specs.Tables.{row_count, place_in, place_of, field_at}
+use Rattle.csv_rows.specs.Records.{field_of}
+use Rattle.csv_rows.specs.Tables.{header, row_count, place_in}
+use Rattle.gtfs_tables.specs.declared.stop_times.KnownTrip.{KnownTrip}
 use Rattle.gtfs_tables.specs.declared.stop_times.StopRow.{StopRow}
 use Rattle.gtfs_tables.specs.declared.stop_times.TimedRow.{TimedRow}
 use Rattle.gtfs_tables.specs.declared.stop_times.TimeColumns.{TimeColumns}
-use Rattle.csv_rows.specs.RowFaults.{fault_in, value_or, lack}
+use Rattle.csv_rows.specs.RowFaults.{lack}
 use Rattle.gtfs_tables.specs.Forms.{text_in, allows_in, time_in}
 use Rattle.csv_rows.specs.Lists.{list_below}
 
@@ -38,51 +44,67 @@ visit_of places (Some stop) (Some times) board exit =
 abbrev pub IsTripOf : (trips : List (List ℕ)) (id : List ℕ) → ℕ → Type 0
 IsTripOf trips id trip = (name_in id ≡ Some id) × (place_in id trips ≡ Some trip)
 
+-- the trip that is known is one of these, and this is its id
+abbrev pub IsKnownIn : (trips : List (List ℕ)) → KnownTrip → Type 0
+IsKnownIn trips known = IfSome known.trip (λ trip. IsTripOf trips known.id.items trip)
+
 -- what is read from there on with the number of the trip that this field names, or its fault
 abbrev pub trip_from : (trips : List (List ℕ)) (line : ℕ) (id : List ℕ) → (ℕ → Result TimedRow FeedFault) → Result TimedRow FeedFault
-trip_from trips line id rest = read (name_in id) (BadField StopTimes line TripId) (λ id'. read (place_in id' trips) (UnknownKey StopTimes line TripId) rest)
+trip_from trips line id rest = require (name_in id) (BadField StopTimes line TripId) (λ id'. require (place_in id' trips) (UnknownKey StopTimes line TripId) rest)
 
 -- the row of these fields, or the first that is not of its form or names nothing
 abbrev pub timed_from : (trips stops : List (List ℕ)) (places : List ℕ) (line : ℕ) (trip stop sequence arrival departure pickup drop_off : List ℕ)
     → Result TimedRow FeedFault
 timed_from trips stops places line trip stop sequence arrival departure pickup drop_off =
     trip_from trips line trip (λ trip_number.
-    read (text_in stop) (BadField StopTimes line StopId) (λ stop'.
-    read (number_in stops stop') (UnknownKey StopTimes line StopId) (λ stop_number.
-    read (whole_of 999999999 sequence) (BadField StopTimes line StopSequence) (λ sequence'.
-    read (time_in arrival) (BadField StopTimes line ArrivalTime) (λ arrival'.
-    read (time_in departure) (BadField StopTimes line DepartureTime) (λ departure'.
-    read (allows_in pickup) (BadField StopTimes line PickupType) (λ board.
-    read (allows_in drop_off) (BadField StopTimes line DropOffType) (λ exit.
+    require (text_in stop) (BadField StopTimes line StopId) (λ stop'.
+    require (number_in stops stop') (UnknownKey StopTimes line StopId) (λ stop_number.
+    require (whole_of 999999999 sequence) (BadField StopTimes line StopSequence) (λ sequence'.
+    require (time_in arrival) (BadField StopTimes line ArrivalTime) (λ arrival'.
+    require (time_in departure) (BadField StopTimes line DepartureTime) (λ departure'.
+    require (allows_in pickup) (BadField StopTimes line PickupType) (λ board.
+    require (allows_in drop_off) (BadField StopTimes line DropOffType) (λ exit.
     Ok (record { trip = trip_number; sequence = sequence'; visit = visit_of places stop_number (times_of arrival' departure') board exit })))))))))
 
--- where the columns stand
-abbrev pub time_columns : List (List (List ℕ)) → TimeColumns
-time_columns t = record {
-  trip = place_of TripId t;
-  stop = place_of StopId t;
-  sequence = place_of StopSequence t;
-  arrival = place_of ArrivalTime t;
-  departure = place_of DepartureTime t;
-  pickup = place_of PickupType t;
-  drop_off = place_of DropOffType t;
+-- where the columns of a header stand
+abbrev pub columns_of : List (List ℕ) → TimeColumns
+columns_of names = record {
+  trip = place_in (name_of TripId) names;
+  stop = place_in (name_of StopId) names;
+  sequence = place_in (name_of StopSequence) names;
+  arrival = place_in (name_of ArrivalTime) names;
+  departure = place_in (name_of DepartureTime) names;
+  pickup = place_in (name_of PickupType) names;
+  drop_off = place_in (name_of DropOffType) names;
 }
 
--- row i, where these are the ids of the trips and of the stops, and the places of the stops
+-- and those of a table
+abbrev pub time_columns : List (List (List ℕ)) → TimeColumns
+time_columns t = columns_of (header t)
+
+-- the row in a line with these fields, where these are the ids of the trips and of the stops, and the places of the stops
+abbrev pub timed_of : (trips stops : List (List ℕ)) (places : List ℕ) (line : ℕ) → TimeColumns → List (List ℕ) → Result TimedRow FeedFault
+timed_of trips stops places line c fields =
+    timed_from trips stops places line (field_of fields c.trip) (field_of fields c.stop) (field_of fields c.sequence) (field_of fields c.arrival)
+    (field_of fields c.departure) (field_of fields c.pickup) (field_of fields c.drop_off)
+
+-- row i
 abbrev pub timed_in : (trips stops : List (List ℕ)) (places : List ℕ) → List (List (List ℕ)) → TimeColumns → ℕ → Result TimedRow FeedFault
-timed_in trips stops places t c i =
-    timed_from trips stops places (i + 2) (field_at t c.trip i) (field_at t c.stop i) (field_at t c.sequence i) (field_at t c.arrival i)
-    (field_at t c.departure i) (field_at t c.pickup i) (field_at t c.drop_off i)
+timed_in trips stops places t c i = timed_of trips stops places (i + 2) c (slice_index_or t (i + 1) [])
 
 unfoldable pub timed_at : (trips stops : List (List ℕ)) (places : List ℕ) → List (List (List ℕ)) → ℕ → Result TimedRow FeedFault
 timed_at trips stops places t i = timed_in trips stops places t (time_columns t) i
 
 -- the first fault of row i by itself
 abbrev pub bad_time : (trips stops : List (List ℕ)) (places : List ℕ) → List (List (List ℕ)) → ℕ → Option FeedFault
-bad_time trips stops places t i = fault_in (timed_at trips stops places t i)
+bad_time trips stops places t i = result_err (timed_at trips stops places t i)
 
 abbrev pub no_row : TimedRow
 no_row = record { trip = 0; sequence = 0; visit = None }
+
+-- this fault, but where there are more than so many rows, that they are so many comes first
+abbrev pub counted_fault : (most count : ℕ) → Option FeedFault → Option FeedFault
+counted_fault most count fault = if nat_lt most count then Some (TooManyRows StopTimes count) else fault
 
 -- the rows, where they have no fault by themselves
 abbrev pub timed_rows : (trips stops : List (List ℕ)) (places : List ℕ) → List (List (List ℕ)) → List TimedRow
@@ -131,15 +153,15 @@ backward_time rows i = if goes_back rows i then Some (BackwardTime (i + 2)) else
 -- the first required column that is not in the header
 abbrev pub missing_time_column : TimeColumns → Option FeedFault
 missing_time_column c =
-    or_else (lack StopTimes TripId c.trip) (or_else (lack StopTimes StopId c.stop) (or_else (lack StopTimes StopSequence c.sequence)
-    (or_else (lack StopTimes ArrivalTime c.arrival) (lack StopTimes DepartureTime c.departure))))
+    option_or (lack StopTimes TripId c.trip) (option_or (lack StopTimes StopId c.stop) (option_or (lack StopTimes StopSequence c.sequence)
+    (option_or (lack StopTimes ArrivalTime c.arrival) (lack StopTimes DepartureTime c.departure))))
 
 -- the first fault of the rows beside each other
 abbrev pub order_fault : List TimedRow → Option FeedFault
-order_fault rows = or_else (first_below (repeated_time rows) (length rows)) (first_below (backward_time rows) (length rows))
+order_fault rows = option_or (first_below (repeated_time rows) (length rows)) (first_below (backward_time rows) (length rows))
 
 -- the first fault of the stop times
 unfoldable pub stop_times_fault : (trips stops : List (List ℕ)) (places : List ℕ) → List (List (List ℕ)) → Option FeedFault
 stop_times_fault trips stops places t =
-    or_else (missing_time_column (time_columns t))
-    (or_else (first_below (bad_time trips stops places t) (row_count t)) (order_fault (timed_rows trips stops places t)))
+    option_or (missing_time_column (time_columns t))
+    (option_or (first_below (bad_time trips stops places t) (row_count t)) (order_fault (timed_rows trips stops places t)))

@@ -1,14 +1,17 @@
 -- The stops of a feed: their ids, and the place of each.
 use Rattle.std.specs.Prelude.{ℕ, ◌+◌, ◌==◌, List, [], length, Option, Some, None, Result, Ok, is_some, unwrap_or, if◌then◌else◌}
+use Rattle.std.specs.Option.{option_or}
+use Rattle.std.specs.Result.{result_err}
+use Rattle.plan_model.specs.Results.{require, value_or}
 use Rattle.csv_rows.specs.declared.columns.Column.TheVariants.{StopId, LocationType, ParentStation}
 use Rattle.csv_rows.specs.declared.feed_tables.Table.TheVariants.{Stops}
 use Rattle.csv_rows.specs.declared.feed_tables.FeedFault.{FeedFault}
 use Rattle.csv_rows.specs.declared.feed_tables.FeedFault.TheVariants.{BadField, UnknownKey}
-use Rattle.csv_rows.specs.First.{or_else, first_below, read}
+use Rattle.csv_rows.specs.First.{first_below}
 use Rattle.csv_rows.specs.Names.{name_in}
 use Rattle.csv_rows.specs.Tables.{row_count, place_in, place_of, field_at, field}
 use Rattle.gtfs_tables.specs.declared.stops.StopColumns.{StopColumns}
-use Rattle.csv_rows.specs.RowFaults.{fault_in, value_or, lacks, repeated_id}
+use Rattle.csv_rows.specs.RowFaults.{lacks, repeated_id}
 use Rattle.gtfs_tables.specs.Forms.{is_stop_in, parent_in}
 use Rattle.csv_rows.specs.Lists.{list_below}
 
@@ -20,9 +23,9 @@ pub record Stop : Type 0 where
 -- the stop of these fields, or the first that is not of its form
 abbrev pub stop_from : ℕ → (id kind parent : List ℕ) → Result Stop FeedFault
 stop_from line id kind parent =
-    read (name_in id) (BadField Stops line StopId) (λ id'.
-    read (is_stop_in kind) (BadField Stops line LocationType) (λ is_stop.
-    read (parent_in is_stop parent) (BadField Stops line ParentStation) (λ parent'.
+    require (name_in id) (BadField Stops line StopId) (λ id'.
+    require (is_stop_in kind) (BadField Stops line LocationType) (λ is_stop.
+    require (parent_in is_stop parent) (BadField Stops line ParentStation) (λ parent'.
     Ok (record { id = id'; parent = parent' }))))
 
 -- where the columns stand
@@ -38,7 +41,7 @@ stop_at t i = stop_in t (stop_columns t) i
 
 -- the first field of row i that is not of its form
 abbrev pub bad_stop : List (List (List ℕ)) → ℕ → Option FeedFault
-bad_stop t i = fault_in (stop_at t i)
+bad_stop t i = result_err (stop_at t i)
 
 -- the parent station of a row
 abbrev pub parent_in_row : Result Stop FeedFault → List ℕ
@@ -62,7 +65,7 @@ unknown_parent t i = unknown_in (stop_ids t) (parent_of t i) i
 
 -- what keeps a row from having a place among these ids
 abbrev pub place_fault : List (List ℕ) → Result Stop FeedFault → ℕ → Option FeedFault
-place_fault ids s i = or_else (fault_in s) (unknown_in ids (parent_in_row s) i)
+place_fault ids s i = option_or (result_err s) (unknown_in ids (parent_in_row s) i)
 
 -- the place of a stop is its parent, and itself where it has none; the parent's own parent does not matter
 abbrev pub place_from : List (List ℕ) → List ℕ → ℕ → ℕ
@@ -74,7 +77,7 @@ stop_places t = list_below (λ i. place_from (stop_ids t) (parent_of t i) i) (ro
 -- the first fault of the stops
 unfoldable pub stops_fault : List (List (List ℕ)) → Option FeedFault
 stops_fault t =
-    or_else (lacks Stops t StopId)
-    (or_else (first_below (bad_stop t) (row_count t))
-    (or_else (first_below (repeated_id Stops (field t StopId)) (row_count t))
+    option_or (lacks Stops t StopId)
+    (option_or (first_below (bad_stop t) (row_count t))
+    (option_or (first_below (repeated_id Stops (field t StopId)) (row_count t))
     (first_below (unknown_parent t) (row_count t))))

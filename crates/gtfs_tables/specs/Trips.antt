@@ -1,14 +1,17 @@
 -- The trips of a feed: their ids, services, routes and route types.
 use Rattle.std.specs.Prelude.{ℕ, ◌+◌, List, [], slice_index, Option, Result, Ok}
+use Rattle.std.specs.Option.{option_or}
+use Rattle.std.specs.Result.{result_err}
+use Rattle.plan_model.specs.Results.{require, value_or}
 use Rattle.csv_rows.specs.declared.columns.Column.TheVariants.{RouteId, ServiceId, TripId}
 use Rattle.csv_rows.specs.declared.feed_tables.Table.TheVariants.{Trips}
 use Rattle.csv_rows.specs.declared.feed_tables.FeedFault.{FeedFault}
 use Rattle.csv_rows.specs.declared.feed_tables.FeedFault.TheVariants.{BadField, UnknownKey}
-use Rattle.csv_rows.specs.First.{or_else, first_below, read}
+use Rattle.csv_rows.specs.First.{first_below}
 use Rattle.csv_rows.specs.Names.{name_in}
 use Rattle.csv_rows.specs.Tables.{row_count, place_in, place_of, field_at, field}
 use Rattle.gtfs_tables.specs.declared.trips.TripColumns.{TripColumns}
-use Rattle.csv_rows.specs.RowFaults.{fault_in, value_or, lacks, repeated_id}
+use Rattle.csv_rows.specs.RowFaults.{lacks, repeated_id}
 use Rattle.csv_rows.specs.Lists.{list_below}
 
 -- a trip by the number of its route, its service and its id
@@ -20,10 +23,10 @@ pub record Trip : Type 0 where
 -- the trip of these fields, or the first that is not of its form or names no route
 abbrev pub trip_from : List (List ℕ) → ℕ → (route service id : List ℕ) → Result Trip FeedFault
 trip_from routes line route service id =
-    read (name_in route) (BadField Trips line RouteId) (λ route'.
-    read (place_in route' routes) (UnknownKey Trips line RouteId) (λ number.
-    read (name_in service) (BadField Trips line ServiceId) (λ service'.
-    read (name_in id) (BadField Trips line TripId) (λ id'.
+    require (name_in route) (BadField Trips line RouteId) (λ route'.
+    require (place_in route' routes) (UnknownKey Trips line RouteId) (λ number.
+    require (name_in service) (BadField Trips line ServiceId) (λ service'.
+    require (name_in id) (BadField Trips line TripId) (λ id'.
     Ok (record { route = number; service = service'; id = id' })))))
 
 -- where the columns stand
@@ -39,7 +42,7 @@ trip_at routes t i = trip_in routes t (trip_columns t) i
 
 -- the first fault of row i
 abbrev pub bad_trip : List (List ℕ) → List (List (List ℕ)) → ℕ → Option FeedFault
-bad_trip routes t i = fault_in (trip_at routes t i)
+bad_trip routes t i = result_err (trip_at routes t i)
 
 -- the trip of a row that has no fault
 abbrev pub trip_or_none : Result Trip FeedFault → Trip
@@ -62,6 +65,6 @@ trip_routes routes t = list_below (λ i. (trip_or_none (trip_at routes t i)).rou
 -- the first fault of the trips
 unfoldable pub trips_fault : List (List ℕ) → List (List (List ℕ)) → Option FeedFault
 trips_fault routes t =
-    or_else (or_else (lacks Trips t RouteId) (or_else (lacks Trips t ServiceId) (lacks Trips t TripId)))
-    (or_else (first_below (bad_trip routes t) (row_count t))
+    option_or (option_or (lacks Trips t RouteId) (option_or (lacks Trips t ServiceId) (lacks Trips t TripId)))
+    (option_or (first_below (bad_trip routes t) (row_count t))
     (first_below (repeated_id Trips (field t TripId)) (row_count t)))

@@ -1,5 +1,6 @@
 //! A feed.
 ghost use Rattle.std.specs.Prelude.{◌≡◌};
+ghost use Rattle.gtfs_tables.specs.Bounds.{most_stops, most_trips};
 
 use crate::frequencies::FrequencyRow;
 use crate::repeats::Repeats;
@@ -88,7 +89,7 @@ impl Feed {
     pub fn stop_count(&self) -> u32
         ensures count { result ≡ length self.now.stop_ids }
         ensures names { AreIds self.now.stop_ids }
-        ensures few { length self.now.stop_ids ≤ 1048576 }
+        ensures few { length self.now.stop_ids ≤ most_stops }
         ensures sound { IsSoundFeed self.now }
     {
         self.stops.ids.len()
@@ -130,7 +131,7 @@ impl Feed {
     pub fn trip_count(&self) -> u32
         ensures count { result ≡ length self.now.trip_ids }
         ensures names { AreIds self.now.trip_ids }
-        ensures few { length self.now.trip_ids ≤ 4194304 }
+        ensures few { length self.now.trip_ids ≤ most_trips }
         ensures sound { IsSoundFeed self.now }
         ensures timed { IsTimed self.now }
         ensures repeats { AreRepeating self.now }

@@ -1,9 +1,10 @@
 //! The routes of a feed.
 ghost use Rattle.std.specs.Prelude.{◌≡◌, ◌≢◌, ◌<◌, ◌≤◌, None, Some, Ok, Err, IfOk, IfErr, IfSome, OnOk, length};
+ghost use Rattle.std.specs.Option.{option_or};
 ghost use Rattle.clock_text.specs.Digits.{whole_of};
 ghost use Rattle.csv_rows.specs.declared.columns.Column.TheVariants.{RouteId, RouteType};
 ghost use Rattle.csv_rows.specs.declared.feed_tables.Table.TheVariants.{Routes as RoutesTable};
-ghost use Rattle.csv_rows.specs.First.{first_below, or_else};
+ghost use Rattle.csv_rows.specs.First.{first_below};
 ghost use Rattle.csv_rows.specs.FeedTables.{unread_of, IsFaultOf};
 ghost use Rattle.csv_rows.specs.Tables.{row_count};
 ghost use Rattle.csv_rows.specs.RowFaults.{lack as lack_of};
@@ -47,7 +48,7 @@ fn route_columns(rows: &Rows) -> RouteColumns
 
 /// The first required column that stands nowhere in the header.
 fn missing_column(columns: RouteColumns) -> Option<FeedFault>
-    ensures fault { result ≡ or_else (lack_of RoutesTable RouteId columns.id)
+    ensures fault { result ≡ option_or (lack_of RoutesTable RouteId columns.id)
         (lack_of RoutesTable RouteType columns.kind) }
     ensures own { IfSome result (IsFaultOf RoutesTable) }
 {

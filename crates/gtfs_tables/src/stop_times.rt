@@ -1,18 +1,22 @@
 //! The rows of stop times.
-ghost use Rattle.std.specs.Prelude.{◌≡◌, ◌≢◌, ◌<◌, ◌≤◌, ℕ, length, None, Some, Ok, Err, Result, IfOk, IfErr, IfSome, OnOk};
+ghost use Rattle.std.specs.Prelude.{◌≡◌, ◌≢◌, ◌<◌, ◌≤◌, ◌+◌, ◌^◌, ◌∷◌, ◌++◌, ℕ, List, [], length, None, Some, Ok, Err, Result, IfOk, IfErr, IfSome, OnOk};
 ghost use Rattle.csv_rows.specs.declared.feed_tables.Table.TheVariants.{StopTimes as StopTimesTable};
 ghost use Rattle.csv_rows.specs.First.{first_below};
 ghost use Rattle.csv_rows.specs.FeedTables.{unread_of, IsFaultOf};
-ghost use Rattle.csv_rows.specs.Tables.{row_count, field_at};
+ghost use Rattle.csv_rows.specs.Loading.{loaded_from};
+ghost use Rattle.csv_rows.specs.Records.{field_of};
+ghost use Rattle.csv_rows.specs.Tables.{table_of};
 ghost use Rattle.csv_rows.specs.declared.feed_tables.FeedFault.{FeedFault};
 ghost use Rattle.gtfs_tables.specs.declared.stop_times.TimedRow.{TimedRow};
-ghost use Rattle.gtfs_tables.specs.StopTimes.{number_in, times_of, visit_of, time_columns, timed_in, bad_time, timed_rows, missing_time_column, trip_from, IsTripOf};
+ghost use Rattle.gtfs_tables.specs.Feeds.{stop_times_from};
+ghost use Rattle.gtfs_tables.specs.StopTimes.{number_in, times_of, visit_of, columns_of, timed_of, bad_time, counted_fault, timed_rows, missing_time_column, order_fault, stop_times_fault, trip_from, IsTripOf, IsKnownIn};
+ghost use Rattle.gtfs_tables.specs.Bounds.{most_stop_times};
 
 use crate::forms::{read_allows, read_text, read_time_or_none};
 use crate::stops::Stops;
 use clock_text::read_whole;
-use csv_rows::{Column, FeedFault, Ids, Rows, Table, lack, read_name};
-use plan_model::PlaceId;
+use csv_rows::{Column, FeedFault, Ids, Record, Records, Table, lack, read_name};
+use plan_model::{NoMemory, PlaceId};
 use std::alloc::Global;
 
 /// A stop of a trip, with its times in seconds from noon minus twelve hours of the service day.
@@ -42,7 +46,7 @@ pub(crate) struct TimedRow {
 
 /// Where the columns stand.
 #[derive(Clone, Copy)]
-pub(crate) struct TimeColumns {
+struct TimeColumns {
     trip: Option<usize>,
     stop: Option<usize>,
     sequence: Option<usize>,
@@ -52,23 +56,23 @@ pub(crate) struct TimeColumns {
     drop_off: Option<usize>,
 }
 
-/// Where the columns of the stop times stand.
-pub(crate) fn time_columns(rows: &Rows) -> TimeColumns
-    ensures { result ≡ time_columns rows.now }
+/// Where the columns of a header stand.
+fn columns_of(header: &Record) -> TimeColumns
+    ensures { result ≡ columns_of header.now }
 {
     TimeColumns {
-        trip: rows.place_of(Column::TripId),
-        stop: rows.place_of(Column::StopId),
-        sequence: rows.place_of(Column::StopSequence),
-        arrival: rows.place_of(Column::ArrivalTime),
-        departure: rows.place_of(Column::DepartureTime),
-        pickup: rows.place_of(Column::PickupType),
-        drop_off: rows.place_of(Column::DropOffType),
+        trip: header.place_of(Column::TripId),
+        stop: header.place_of(Column::StopId),
+        sequence: header.place_of(Column::StopSequence),
+        arrival: header.place_of(Column::ArrivalTime),
+        departure: header.place_of(Column::DepartureTime),
+        pickup: header.place_of(Column::PickupType),
+        drop_off: header.place_of(Column::DropOffType),
     }
 }
 
 /// The first required column that stands nowhere in the header.
-pub(crate) fn missing_column(columns: TimeColumns) -> Option<FeedFault>
+fn missing_column(columns: TimeColumns) -> Option<FeedFault>
     ensures fault { result ≡ missing_time_column columns }
     ensures own { IfSome result (IsFaultOf StopTimesTable) }
 {
@@ -170,50 +174,86 @@ fn read_trip_number(
     }
 }
 
-/// A row, or the first field that is not of its form or names nothing.
+/// The trip of a row, kept for the rows after it: its id and its number, where there was a row.
+#[derive(Drop)]
+struct KnownTrip {
+    id: Vec<u8>,
+    trip: Option<u32>,
+}
+
+/// The trip that is known.
+fn named_trip(known: &KnownTrip) -> Option<NamedTrip<'_>>
+    ensures { (trips : List (List ℕ)) → IsKnownIn trips known.now
+        → IfSome result (λ k. IsTripOf trips k.id.now k.trip) }
+{
+    match known.trip {
+        Some(trip) => Some(NamedTrip {
+            id: known.id.as_slice(),
+            trip,
+        }),
+        None => None,
+    }
+}
+
+/// Keeps this trip, where it is not the one that is known. Its id is copied, since the fields of a record are let go.
+fn keep_trip(known: &mut KnownTrip, id: &[u8], trip: u32) -> Result<(), NoMemory>
+    ensures { OnOk result ((trips : List (List ℕ)) → IsTripOf trips id.now trip → IsKnownIn trips known.old
+        → IsKnownIn trips known.new) }
+{
+    if let Some(last) = known.trip {
+        if last == trip {
+            return Ok(());
+        }
+    }
+    known.id.clear();
+    match known.id.extend_from_slice(id) {
+        Ok(()) => {
+            known.trip = Some(trip);
+            Ok(())
+        }
+        Err(_) => Err(NoMemory),
+    }
+}
+
+/// The row of a record, or the first field that is not of its form or names nothing.
 fn read_timed_row(
-    rows: &Rows,
+    row: &Record,
     columns: TimeColumns,
     trips: &Ids,
     stops: &Stops,
-    row: usize,
+    line: u64,
     known: Option<NamedTrip<'_>>,
 ) -> Result<TimedRow, FeedFault>
-    requires inside { row < row_count rows.now }
     requires known { IfSome known (λ k. IsTripOf trips.now k.id.now k.trip) }
     requires places { length stops.now.places.items ≡ length stops.now.ids }
     ensures row { IfOk result (λ r.
-        timed_in trips.now stops.now.ids stops.now.places.items rows.now columns row ≡ Ok r) }
-    ensures trip { IfOk result (λ r. IsTripOf trips.now (field_at rows.now columns.trip row) r.trip) }
+        timed_of trips.now stops.now.ids stops.now.places.items line columns row.now ≡ Ok r) }
+    ensures trip { IfOk result (λ r. IsTripOf trips.now (field_of row.now columns.trip) r.trip) }
     ensures fault { IfErr result (λ f.
-        timed_in trips.now stops.now.ids stops.now.places.items rows.now columns row ≡ Err f) }
+        timed_of trips.now stops.now.ids stops.now.places.items line columns row.now ≡ Err f) }
     ensures content { IfErr result (λ f. unread_of f ≡ None) }
     ensures own { IfErr result (IsFaultOf StopTimesTable) }
 {
-    let line = rows.line(row);
-    let trip = match read_trip_number(trips, line, rows.field_at(row, columns.trip), known) {
-        Ok(trip) => trip,
-        Err(fault) => return Err(fault),
-    };
-    let Some(stop_id) = read_text(rows.field_at(row, columns.stop)) else {
+    let trip = read_trip_number(trips, line, row.field_at(columns.trip), known)?;
+    let Some(stop_id) = read_text(row.field_at(columns.stop)) else {
         return Err(FeedFault::BadField(Table::StopTimes, line, Column::StopId));
     };
     let Some(stop) = number_of(&stops.ids, stop_id) else {
         return Err(FeedFault::UnknownKey(Table::StopTimes, line, Column::StopId));
     };
-    let Some(sequence) = read_whole(rows.field_at(row, columns.sequence), 999_999_999) else {
+    let Some(sequence) = read_whole(row.field_at(columns.sequence), 999_999_999) else {
         return Err(FeedFault::BadField(Table::StopTimes, line, Column::StopSequence));
     };
-    let Some(arrival) = read_time_or_none(rows.field_at(row, columns.arrival)) else {
+    let Some(arrival) = read_time_or_none(row.field_at(columns.arrival)) else {
         return Err(FeedFault::BadField(Table::StopTimes, line, Column::ArrivalTime));
     };
-    let Some(departure) = read_time_or_none(rows.field_at(row, columns.departure)) else {
+    let Some(departure) = read_time_or_none(row.field_at(columns.departure)) else {
         return Err(FeedFault::BadField(Table::StopTimes, line, Column::DepartureTime));
     };
-    let Some(can_board) = read_allows(rows.field_at(row, columns.pickup)) else {
+    let Some(can_board) = read_allows(row.field_at(columns.pickup)) else {
         return Err(FeedFault::BadField(Table::StopTimes, line, Column::PickupType));
     };
-    let Some(can_exit) = read_allows(rows.field_at(row, columns.drop_off)) else {
+    let Some(can_exit) = read_allows(row.field_at(columns.drop_off)) else {
         return Err(FeedFault::BadField(Table::StopTimes, line, Column::DropOffType));
     };
     let visit = visit_of(
@@ -230,41 +270,147 @@ fn read_timed_row(
     })
 }
 
-/// The rows, or the first fault of one by itself.
-pub(crate) fn read_timed_rows(
-    alloc: Global,
-    rows: &Rows,
+/// Takes the row of a record after those that were taken, and keeps its trip, or gives its fault.
+fn take_row(
+    timed: &mut Vec<TimedRow>,
+    row: &Record,
     columns: TimeColumns,
     trips: &Ids,
     stops: &Stops,
-) -> Result<Vec<TimedRow>, FeedFault>
-    requires columns { columns ≡ time_columns rows.now }
+    known: &mut KnownTrip,
+) -> Result<(), FeedFault>
+    requires known { IsKnownIn trips.now known.old }
     requires places { length stops.now.places.items ≡ length stops.now.ids }
+    ensures row { OnOk result ((r : TimedRow) × (timed_of trips.now stops.now.ids stops.now.places.items
+        (length timed.old.items + 2) columns row.now ≡ Ok r) × (timed.new.items ≡ timed.old.items ++ r ∷ [])) }
+    ensures known { OnOk result (IsKnownIn trips.now known.new) }
+    ensures fault { IfErr result (λ f. f ≢ FeedFault.NoMemory → timed_of trips.now stops.now.ids stops.now.places.items
+        (length timed.old.items + 2) columns row.now ≡ Err f) }
+    ensures content { IfErr result (λ f. unread_of f ≡ None) }
+    ensures own { IfErr result (IsFaultOf StopTimesTable) }
+{
+    let line = timed.len() as u64 + 2;
+    let taken = read_timed_row(row, columns, trips, stops, line, named_trip(known))?;
+    match keep_trip(known, row.field_at(columns.trip), taken.trip) {
+        Ok(()) => {}
+        Err(_) => return Err(FeedFault::NoMemory),
+    }
+    match timed.push(taken) {
+        Ok(()) => Ok(()),
+        Err(_) => Err(FeedFault::NoMemory),
+    }
+}
+
+/// The fault of a table that has this one, where so many rows stand before the records that are left: where there are too
+/// many, that comes first.
+fn counted_fault(
+    records: &Records<'_>,
+    row: &mut Record,
+    taken: u64,
+    most: u64,
+    fault: FeedFault,
+) -> FeedFault
+    requires { taken ≤ 2 ^ 32 }
+    ensures fault { result ≢ FeedFault.NoMemory
+        → counted_fault most (taken + length records.now) (Some fault) ≡ Some result }
+    ensures content { unread_of fault ≡ None → unread_of result ≡ None }
+    ensures own { IsFaultOf StopTimesTable fault → IsFaultOf StopTimesTable result }
+{
+    match records.count(row) {
+        Ok(left) => {
+            let count = taken + left;
+            if most < count {
+                FeedFault::TooManyRows(Table::StopTimes, count)
+            } else {
+                fault
+            }
+        }
+        Err(_) => FeedFault::NoMemory,
+    }
+}
+
+/// The rows of the records after a header, or their first fault: that there are too many, and then the first of one by itself.
+fn rows_after(
+    alloc: Global,
+    records: &mut Records<'_>,
+    row: &mut Record,
+    columns: TimeColumns,
+    trips: &Ids,
+    stops: &Stops,
+    most: u64,
+) -> Result<Vec<TimedRow>, FeedFault>
+    requires columns { columns ≡ columns_of row.old }
+    requires places { length stops.now.places.items ≡ length stops.now.ids }
+    requires most { most ≤ most_stop_times }
     ensures rows { IfOk result (λ timed. timed.items
-        ≡ timed_rows trips.now stops.now.ids stops.now.places.items rows.now) }
-    ensures none { OnOk result (first_below (bad_time trips.now stops.now.ids stops.now.places.items rows.now)
-        (row_count rows.now) ≡ None) }
-    ensures fault { IfErr result (λ f. f ≢ FeedFault.NoMemory
-        → first_below (bad_time trips.now stops.now.ids stops.now.places.items rows.now)
-        (row_count rows.now) ≡ Some f) }
+        ≡ timed_rows trips.now stops.now.ids stops.now.places.items (row.old ∷ records.old)) }
+    ensures few { IfOk result (λ timed. length timed.items ≤ most) }
+    ensures none { OnOk result (first_below
+        (bad_time trips.now stops.now.ids stops.now.places.items (row.old ∷ records.old))
+        (length records.old) ≡ None) }
+    ensures fault { IfErr result (λ f. f ≢ FeedFault.NoMemory → counted_fault most (length records.old)
+        (first_below (bad_time trips.now stops.now.ids stops.now.places.items (row.old ∷ records.old))
+        (length records.old)) ≡ Some f) }
     ensures content { IfErr result (λ f. unread_of f ≡ None) }
     ensures own { IfErr result (IsFaultOf StopTimesTable) }
 {
     let mut timed: Vec<TimedRow> = Vec::new(alloc);
-    let mut known: Option<NamedTrip<'_>> = None;
-    for i in 0..rows.count() {
-        let row = match read_timed_row(rows, columns, trips, stops, i, known) {
-            Ok(row) => row,
-            Err(fault) => return Err(fault),
-        };
-        known = Some(NamedTrip {
-            id: rows.field_at(i, columns.trip),
-            trip: row.trip,
-        });
-        match timed.push(row) {
-            Ok(()) => {}
+    let mut known = KnownTrip {
+        id: Vec::new(alloc),
+        trip: None,
+    };
+    loop {
+        match records.next(row) {
+            Ok(true) => {}
+            Ok(false) => return Ok(timed),
             Err(_) => return Err(FeedFault::NoMemory),
         }
+        let taken = timed.len() as u64 + 1;
+        if most < taken {
+            let fault = FeedFault::TooManyRows(Table::StopTimes, taken);
+            return Err(counted_fault(records, row, taken, most, fault));
+        }
+        match take_row(&mut timed, row, columns, trips, stops, &mut known) {
+            Ok(()) => {}
+            Err(fault) => return Err(counted_fault(records, row, taken, most, fault)),
+        }
     }
-    Ok(timed)
+}
+
+/// The rows of the stop times with this text, or the first of its faults: that it has no record, that it has too many rows,
+/// that it lacks a column, and then the first fault of a row by itself.
+pub(crate) fn read_timed_rows(
+    alloc: Global,
+    bytes: &[u8],
+    trips: &Ids,
+    stops: &Stops,
+    most: u64,
+) -> Result<Vec<TimedRow>, FeedFault>
+    requires places { length stops.now.places.items ≡ length stops.now.ids }
+    requires most { most ≤ most_stop_times }
+    ensures rows { IfOk result (λ timed. timed.items
+        ≡ timed_rows trips.now stops.now.ids stops.now.places.items (table_of bytes.now)) }
+    ensures few { IfOk result (λ timed. length timed.items ≤ most) }
+    ensures header { OnOk result (0 < length (table_of bytes.now)) }
+    ensures rest { OnOk result
+        (stop_times_fault trips.now stops.now.ids stops.now.places.items (table_of bytes.now)
+        ≡ order_fault (timed_rows trips.now stops.now.ids stops.now.places.items (table_of bytes.now))) }
+    ensures fault { IfErr result (λ f. f ≢ FeedFault.NoMemory
+        → stop_times_from (loaded_from StopTimesTable most (table_of bytes.now))
+        trips.now stops.now.ids stops.now.places.items ≡ Err f) }
+    ensures content { IfErr result (λ f. unread_of f ≡ None) }
+    ensures own { IfErr result (IsFaultOf StopTimesTable) }
+{
+    let mut records = Records::of(bytes);
+    let mut row = Record::new(alloc);
+    match records.next(&mut row) {
+        Ok(true) => {}
+        Ok(false) => return Err(FeedFault::MissingColumn(Table::StopTimes, Column::TripId)),
+        Err(_) => return Err(FeedFault::NoMemory),
+    }
+    let columns = columns_of(&row);
+    if let Some(fault) = missing_column(columns) {
+        return Err(counted_fault(&records, &mut row, 0, most, fault));
+    }
+    rows_after(alloc, &mut records, &mut row, columns, trips, stops, most)
 }

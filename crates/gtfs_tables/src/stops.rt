@@ -6,6 +6,7 @@ ghost use Rattle.csv_rows.specs.FeedTables.{unread_of, IsFaultOf};
 ghost use Rattle.csv_rows.specs.Tables.{row_count};
 ghost use Rattle.gtfs_tables.specs.Feeds.{IsSound, AreStops};
 ghost use Rattle.gtfs_tables.specs.Stops.{stop_columns, stop_in, bad_stop, parent_in_row, stop_ids, place_fault, unknown_parent, place_from, stop_places, stops_fault};
+ghost use Rattle.gtfs_tables.specs.Bounds.{most_stops};
 
 use crate::forms::{read_is_stop, read_parent};
 use csv_rows::{Column, FeedFault, Ids, Rows, Table, lack, read_ids, read_name};
@@ -84,7 +85,7 @@ fn check_stops(rows: &Rows, columns: StopColumns) -> Result<(), FeedFault>
 /// The place of the stop of a row, where its parent is one of these.
 fn read_place(rows: &Rows, columns: StopColumns, ids: &Ids, row: usize) -> Result<u32, FeedFault>
     requires inside { row < row_count rows.now }
-    requires few { row_count rows.now ≤ 1048576 }
+    requires few { row_count rows.now ≤ most_stops }
     ensures place { IfOk result
         (λ p. place_from ids.now (parent_in_row (stop_in rows.now columns row)) row ≡ p) }
     ensures none { OnOk result (place_fault ids.now (stop_in rows.now columns row) row ≡ None) }
@@ -110,7 +111,7 @@ fn read_places(
     columns: StopColumns,
     ids: &Ids,
 ) -> Result<Vec<u32>, FeedFault>
-    requires few { row_count rows.now ≤ 1048576 }
+    requires few { row_count rows.now ≤ most_stops }
     requires columns { columns ≡ stop_columns rows.now }
     requires ids { ids.now ≡ stop_ids rows.now }
     requires formed { first_below (bad_stop rows.now) (row_count rows.now) ≡ None }
@@ -131,13 +132,13 @@ fn read_places(
 
 /// The stops of a table, or the first of its faults.
 pub(crate) fn read_stops(alloc: Global, rows: &Rows) -> Result<Stops, FeedFault>
-    requires { row_count rows.now ≤ 1048576 }
+    requires { row_count rows.now ≤ most_stops }
     ensures ids { IfOk result (λ stops. stops.ids ≡ stop_ids rows.now) }
     ensures places { IfOk result (λ stops. stops.places.items ≡ stop_places rows.now) }
     ensures sound { IfOk result (λ stops. IsSound stops_fault
         (λ t. AreStops (Ok t) stops.ids stops.places.items)) }
     ensures sized { IfOk result (λ stops. length stops.places.items ≡ length stops.ids) }
-    ensures few { IfOk result (λ stops. length stops.ids ≤ 1048576) }
+    ensures few { IfOk result (λ stops. length stops.ids ≤ most_stops) }
     ensures none { OnOk result (stops_fault rows.now ≡ None) }
     ensures fault { IfErr result (λ f. f ≢ FeedFault.NoMemory → stops_fault rows.now ≡ Some f) }
     ensures content { IfErr result (λ f. unread_of f ≡ None) }

@@ -5,10 +5,10 @@ ghost use Rattle.csv_rows.specs.declared.columns.Column.TheVariants.{StopId, Rou
 ghost use Rattle.csv_rows.specs.declared.feed_tables.Table.TheVariants.{Stops as StopsTable, Routes as RoutesTable, Trips as TripsTable, StopTimes as StopTimesTable, Frequencies as FrequenciesTable};
 ghost use Rattle.csv_rows.specs.FeedTables.{unread_of, IsFaultOf};
 ghost use Rattle.csv_rows.specs.Limits.{AreWithin, rows_of};
-ghost use Rattle.csv_rows.specs.Loading.{HasFeedCause, HasFeedPathCause, load_in};
-ghost use Rattle.csv_rows.specs.Tables.{row_count};
+ghost use Rattle.csv_rows.specs.Loading.{HasFeedCause, HasFeedPathCause, load_in, loaded_from};
+ghost use Rattle.csv_rows.specs.Tables.{row_count, table_of};
 ghost use Rattle.plan_model.specs.NameLists.{texts};
-ghost use Rattle.gtfs_tables.specs.Bounds.{most_stop_times, most_frequencies};
+ghost use Rattle.gtfs_tables.specs.Bounds.{most_stop_times, most_frequencies, most_stops, most_trips};
 ghost use Rattle.gtfs_tables.specs.Feeds.{required, stops_from, routes_from, trips_from, stop_times_from, frequencies_from, AreStops, AreRoutes, AreTrips, AreVisits, AreFrequencies, IsSound};
 ghost use Rattle.gtfs_tables.specs.Stops.{stops_fault};
 ghost use Rattle.gtfs_tables.specs.Routes.{routes_fault};
@@ -23,7 +23,7 @@ use crate::stop_times::StopRow;
 use crate::stops::{Stops, read_stops};
 use crate::timetable::read_stop_times;
 use crate::trips::{Trips, read_trips};
-use csv_rows::{Column, FeedFault, Ids, Limits, Loaded, Rows, Table, read_table};
+use csv_rows::{Column, FeedFault, Ids, Limits, Loaded, Rows, Table, read_file, read_table};
 use file_ports::Files;
 use std::alloc::Global;
 
@@ -55,6 +55,31 @@ fn load_required<F: Files>(
     }
 }
 
+/// The text of the stop times.
+fn load_times_text<F: Files>(
+    alloc: Global,
+    files: &mut F,
+    folder: &str,
+    limits: &Limits,
+) -> Result<Vec<u8>, FeedFault>
+    requires { AreWithin limits.now }
+    ensures same { F.files files.new ≡ F.files files.old }
+    ensures text { IfSome (F.files files.old) (λ m. IfOk result (λ text.
+        load_in m folder.now limits.now None StopTimesTable
+        ≡ loaded_from StopTimesTable (rows_of limits.now StopTimesTable) (table_of text.items))) }
+    ensures fault { IfSome (F.files files.old) (λ m. IfErr result (λ f. f ≢ FeedFault.NoMemory
+        → required StopTimesTable TripId (load_in m folder.now limits.now (unread_of f) StopTimesTable) ≡ Err f)) }
+    ensures own { IfErr result (IsFaultOf StopTimesTable) }
+    ensures cause { HasFeedCause (F.faults files.old) (F.faults files.new) result }
+    ensures path_cause { HasFeedPathCause (IsSome (F.files files.old)) folder.now
+        (F.faults_of files.old) (F.faults_of files.new) result }
+{
+    match read_file(alloc, files, folder, Table::StopTimes, limits)? {
+        Some(text) => Ok(text),
+        None => Err(FeedFault::MissingTable(Table::StopTimes)),
+    }
+}
+
 /// The stops of the feed.
 pub(crate) fn load_stops<F: Files>(
     alloc: Global,
@@ -71,7 +96,7 @@ pub(crate) fn load_stops<F: Files>(
     ensures sound { IfOk result (λ s. IsSound stops_fault
         (λ t. AreStops (Ok t) s.ids s.places.items)) }
     ensures sized { IfOk result (λ s. length s.places.items ≡ length s.ids) }
-    ensures few { IfOk result (λ s. length s.ids ≤ 1048576) }
+    ensures few { IfOk result (λ s. length s.ids ≤ most_stops) }
     ensures own { IfErr result (IsFaultOf StopsTable) }
     ensures cause { HasFeedCause (F.faults files.old) (F.faults files.new) result }
     ensures path_cause { HasFeedPathCause (IsSome (F.files files.old)) folder.now
@@ -132,7 +157,7 @@ pub(crate) fn load_trips<F: Files>(
     ensures routes_sized { IfOk result (λ t. length t.of_trips.routes.items ≡ length t.ids) }
     ensures known { IfOk result (λ t.
         All (λ route. route < length routes.now.ids) t.of_trips.routes.items) }
-    ensures few { IfOk result (λ t. length t.ids ≤ 4194304) }
+    ensures few { IfOk result (λ t. length t.ids ≤ most_trips) }
     ensures own { IfErr result (IsFaultOf TripsTable) }
     ensures cause { HasFeedCause (F.faults files.old) (F.faults files.new) result }
     ensures path_cause { HasFeedPathCause (IsSome (F.files files.old)) folder.now
@@ -173,15 +198,8 @@ pub(crate) fn load_stop_times<F: Files>(
     ensures path_cause { HasFeedPathCause (IsSome (F.files files.old)) folder.now
         (F.faults_of files.old) (F.faults_of files.new) result }
 {
-    let rows = load_required(
-        alloc,
-        files,
-        folder,
-        Table::StopTimes,
-        Column::TripId,
-        limits,
-    )?;
-    read_stop_times(alloc, rows, trips, stops)
+    let text = load_times_text(alloc, files, folder, limits)?;
+    read_stop_times(alloc, text, trips, stops, limits.rows_of(Table::StopTimes))
 }
 
 /// How these trips repeat.

@@ -3,18 +3,19 @@ ghost use Rattle.std.specs.Prelude.{◌≡◌, ◌≢◌, ◌<◌, ◌≤◌, �
 ghost use Rattle.csv_rows.specs.declared.feed_tables.Table.TheVariants.{StopTimes as StopTimesTable};
 ghost use Rattle.csv_rows.specs.First.{first_below};
 ghost use Rattle.csv_rows.specs.FeedTables.{unread_of, IsFaultOf};
-ghost use Rattle.csv_rows.specs.Tables.{row_count};
+ghost use Rattle.csv_rows.specs.Loading.{loaded_from};
+ghost use Rattle.csv_rows.specs.Tables.{table_of};
 ghost use Rattle.gtfs_tables.specs.Bounds.{most_stop_times};
 ghost use Rattle.gtfs_tables.specs.Keys.{AreKeysOf};
-ghost use Rattle.gtfs_tables.specs.Feeds.{IsSound, AreVisits};
-ghost use Rattle.gtfs_tables.specs.StopTimes.{timed_rows, repeated_time, order_fault, stop_times_fault};
+ghost use Rattle.gtfs_tables.specs.Feeds.{stop_times_from, IsSound, AreVisits};
+ghost use Rattle.gtfs_tables.specs.StopTimes.{repeated_time, order_fault, stop_times_fault};
 ghost use Rattle.gtfs_tables.specs.Visits.{AreStopTimes};
 
 use crate::keys::{first_backward, kept_keys, sorted_keys};
-use crate::stop_times::{StopRow, TimedRow, missing_column, read_timed_rows, time_columns};
+use crate::stop_times::{StopRow, TimedRow, read_timed_rows};
 use crate::stops::Stops;
 use crate::visits::visits_of;
-use csv_rows::{FeedFault, Ids, Key, Rows, Table, first_repeat};
+use csv_rows::{FeedFault, Ids, Key, Table, first_repeat};
 use std::alloc::Global;
 
 /// The first row that has the trip and the sequence of an earlier one, by the keys of all rows in their order.
@@ -34,7 +35,7 @@ fn check_once(rows: &[TimedRow], keys: &[Key]) -> Result<(), FeedFault>
 
 /// The kept rows of each trip, or the first fault of the rows beside each other.
 fn in_order(alloc: Global, rows: &[TimedRow], trips: u32) -> Result<Vec<Vec<StopRow>>, FeedFault>
-    requires { length rows.now ≤ 33554432 }
+    requires { length rows.now ≤ most_stop_times }
     ensures size { IfOk result (λ visits. length visits.items ≡ trips) }
     ensures each { IfOk result (λ visits. (trip : ℕ) → trip < trips
         → AreStopTimes rows.now trip (slice_index_or (map vec_items visits.items) trip [])) }
@@ -60,42 +61,37 @@ fn in_order(alloc: Global, rows: &[TimedRow], trips: u32) -> Result<Vec<Vec<Stop
     }
 }
 
-/// The kept rows of each trip, in rising order of their sequences, or the first fault of the table. The records are let go
-/// before the rows are put in order, so that both do not stand in memory at once.
+/// The kept rows of each trip, in rising order of their sequences, or the first fault of the stop times with this text, which
+/// may have so many rows at most. The text is let go before the rows are put in order, so that both do not stand in memory at
+/// once.
 pub(crate) fn read_stop_times(
     alloc: Global,
-    rows: Rows,
+    bytes: Vec<u8>,
     trips: &Ids,
     stops: &Stops,
+    most: u64,
 ) -> Result<Vec<Vec<StopRow>>, FeedFault>
-    requires few { row_count rows ≤ 33554432 }
+    requires most { most ≤ most_stop_times }
     requires places { length stops.now.places.items ≡ length stops.now.ids }
     ensures few { IfOk result (λ visits. (trip : ℕ) → trip < length trips.now
         → length (slice_index_or (map vec_items visits.items) trip []) ≤ most_stop_times) }
     ensures size { IfOk result (λ visits. length visits.items ≡ length trips.now) }
-    ensures each { IfOk result (λ visits. (trip : ℕ) → trip < length trips.now → AreStopTimes
-        (timed_rows trips.now stops.now.ids stops.now.places.items rows) trip
-        (slice_index_or (map vec_items visits.items) trip [])) }
+    ensures visits { IfOk result (λ visits. AreVisits trips.now stops.now.ids stops.now.places.items
+        (stop_times_from (loaded_from StopTimesTable most (table_of bytes.items))
+        trips.now stops.now.ids stops.now.places.items)
+        (map vec_items visits.items)) }
     ensures sound { IfOk result (λ visits.
         IsSound (stop_times_fault trips.now stops.now.ids stops.now.places.items)
         (λ t. AreVisits trips.now stops.now.ids stops.now.places.items (Ok t)
         (map vec_items visits.items))) }
-    ensures none { OnOk result
-        (stop_times_fault trips.now stops.now.ids stops.now.places.items rows ≡ None) }
     ensures fault { IfErr result (λ f. f ≢ FeedFault.NoMemory
-        → stop_times_fault trips.now stops.now.ids stops.now.places.items rows ≡ Some f) }
+        → stop_times_from (loaded_from StopTimesTable most (table_of bytes.items))
+        trips.now stops.now.ids stops.now.places.items ≡ Err f) }
     ensures content { IfErr result (λ f. unread_of f ≡ None) }
     ensures own { IfErr result (IsFaultOf StopTimesTable) }
 {
-    let columns = time_columns(&rows);
-    if let Some(fault) = missing_column(columns) {
-        return Err(fault);
-    }
-    let timed = match read_timed_rows(alloc, &rows, columns, trips, stops) {
-        Ok(timed) => timed,
-        Err(fault) => return Err(fault),
-    };
-    drop(rows);
+    let timed = read_timed_rows(alloc, bytes.as_slice(), trips, stops, most)?;
+    drop(bytes);
     match in_order(alloc, timed.as_slice(), trips.len()) {
         Ok(visits) => Ok(visits),
         Err(fault) => Err(fault),

@@ -1,14 +1,16 @@
 //! The trips of a feed.
 ghost use Rattle.std.specs.Prelude.{◌≡◌, ◌≢◌, ◌<◌, ◌≤◌, None, Some, Ok, Err, IfOk, IfErr, IfSome, OnOk, length, All};
+ghost use Rattle.std.specs.Option.{option_or};
 ghost use Rattle.csv_rows.specs.declared.columns.Column.TheVariants.{RouteId, ServiceId, TripId};
 ghost use Rattle.csv_rows.specs.declared.feed_tables.Table.TheVariants.{Trips as TripsTable};
-ghost use Rattle.csv_rows.specs.First.{first_below, or_else};
+ghost use Rattle.csv_rows.specs.First.{first_below};
 ghost use Rattle.csv_rows.specs.FeedTables.{unread_of, IsFaultOf};
 ghost use Rattle.csv_rows.specs.Tables.{row_count};
 ghost use Rattle.plan_model.specs.NameLists.{texts};
 ghost use Rattle.csv_rows.specs.RowFaults.{lack as lack_of};
 ghost use Rattle.gtfs_tables.specs.Feeds.{IsSound, AreTrips};
 ghost use Rattle.gtfs_tables.specs.Trips.{trip_columns, trip_in, bad_trip, trip_ids, trip_routes, trip_services, trip_types, trips_fault};
+ghost use Rattle.gtfs_tables.specs.Bounds.{most_trips};
 
 use crate::routes::Routes;
 use csv_rows::{Column, FeedFault, Ids, Rows, Table, lack, read_ids, read_name};
@@ -58,8 +60,8 @@ fn trip_columns(rows: &Rows) -> TripColumns
 
 /// The first required column that stands nowhere in the header.
 fn missing_column(columns: TripColumns) -> Option<FeedFault>
-    ensures fault { result ≡ or_else (lack_of TripsTable RouteId columns.route)
-        (or_else (lack_of TripsTable ServiceId columns.service) (lack_of TripsTable TripId columns.id)) }
+    ensures fault { result ≡ option_or (lack_of TripsTable RouteId columns.route)
+        (option_or (lack_of TripsTable ServiceId columns.service) (lack_of TripsTable TripId columns.id)) }
     ensures own { IfSome result (IsFaultOf TripsTable) }
 {
     match lack(Table::Trips, Column::RouteId, columns.route) {
@@ -151,7 +153,7 @@ fn read_of_trips(
 
 /// The trips of a table, or the first of its faults.
 pub(crate) fn read_trips(alloc: Global, rows: &Rows, routes: &Routes) -> Result<Trips, FeedFault>
-    requires few { row_count rows.now ≤ 4194304 }
+    requires few { row_count rows.now ≤ most_trips }
     requires types { length routes.now.types.items ≡ length routes.now.ids }
     ensures ids { IfOk result (λ trips. trips.ids ≡ trip_ids rows.now) }
     ensures services { IfOk result (λ trips. texts trips.of_trips.services.items
@@ -172,7 +174,7 @@ pub(crate) fn read_trips(alloc: Global, rows: &Rows, routes: &Routes) -> Result<
         ≡ length trips.ids) }
     ensures known { IfOk result (λ trips.
         All (λ route. route < length routes.now.ids) trips.of_trips.routes.items) }
-    ensures few { IfOk result (λ trips. length trips.ids ≤ 4194304) }
+    ensures few { IfOk result (λ trips. length trips.ids ≤ most_trips) }
     ensures none { OnOk result (trips_fault routes.now.ids rows.now ≡ None) }
     ensures fault { IfErr result (λ f. f ≢ FeedFault.NoMemory
         → trips_fault routes.now.ids rows.now ≡ Some f) }

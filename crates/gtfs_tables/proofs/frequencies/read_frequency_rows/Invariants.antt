@@ -1,6 +1,6 @@
 use Rattle.std.proofs.Common.{◌≡◌, None}
+use Rattle.plan_model.specs.Results.{value_or}
 use Rattle.csv_rows.specs.First.{first_below}
-use Rattle.csv_rows.specs.RowFaults.{value_or}
 use Rattle.csv_rows.specs.Lists.{list_below}
 use Rattle.gtfs_tables.specs.Frequencies.{bad_frequency, frequency_at, no_frequency}
 use Rattle.gtfs_tables.proofs.frequencies.read_frequency_rows.Given as goal

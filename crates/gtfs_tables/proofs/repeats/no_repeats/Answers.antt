@@ -1,5 +1,5 @@
 use Rattle.std.proofs.Common.{ℕ, List, [], sym, ap, ◌∙◌}
-use Rattle.csv_rows.specs.RowFaults.{value_or}
+use Rattle.plan_model.specs.Results.{value_or}
 use Rattle.csv_rows.proofs.ListLemmas.{list_below-zero}
 use Rattle.gtfs_tables.specs.declared.frequencies.TripFrequency.{TripFrequency}
 use Rattle.gtfs_tables.specs.Frequencies.{frequency_at, no_frequency, all_repeats_of}

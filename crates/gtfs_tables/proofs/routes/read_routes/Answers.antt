@@ -1,10 +1,10 @@
 use Rattle.std.proofs.Common.{Option, sym, ap, ◌∙◌}
+use Rattle.std.specs.Option.{option_or}
 use Rattle.csv_rows.proofs.FaultLemmas.{if_raised}
 use Rattle.csv_rows.specs.Lists.{list_below}
 use Rattle.csv_rows.specs.declared.columns.Column.TheVariants.{RouteId, RouteType}
 use Rattle.csv_rows.specs.declared.feed_tables.FeedFault.{FeedFault}
 use Rattle.csv_rows.specs.declared.feed_tables.Table.TheVariants.{Routes}
-use Rattle.csv_rows.specs.First.{or_else}
 use Rattle.csv_rows.specs.Tables.{place_of, field_at, row_count}
 use Rattle.gtfs_tables.specs.declared.routes.RouteColumns.{RouteColumns}
 use Rattle.csv_rows.specs.RowFaults.{lack}
@@ -15,7 +15,7 @@ use Rattle.gtfs_tables.proofs.RouteLemmas.{routes_named}
 use Rattle.gtfs_tables.proofs.routes.read_routes.Goals as goal
 
 abbrev missing_in : RouteColumns → Option FeedFault
-missing_in k = or_else (lack Routes RouteId k.id) (lack Routes RouteType k.kind)
+missing_in k = option_or (lack Routes RouteId k.id) (lack Routes RouteType k.kind)
 
 pub returns-in-Some-clause-fault : goal.returns-in-Some-clause-fault
 unfolding routes_fault

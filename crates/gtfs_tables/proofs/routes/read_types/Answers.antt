@@ -1,7 +1,7 @@
 use Rattle.std.proofs.Common.{None, sym, ap, ◌∙◌, arith}
+use Rattle.std.specs.Result.{result_err}
 use Rattle.csv_rows.proofs.FaultLemmas.{if_raised}
 use Rattle.csv_rows.proofs.FirstLemmas.{first-zero, first-next, first-at}
-use Rattle.csv_rows.specs.RowFaults.{fault_in}
 use Rattle.gtfs_tables.specs.Routes.{bad_route, route_at, route_or_none}
 use Rattle.csv_rows.proofs.ListLemmas.{list_below-zero, list_below-next}
 use Rattle.gtfs_tables.proofs.RouteLemmas.{route_is}
@@ -14,7 +14,7 @@ loop-i-init c =
 
 pub returns-in_err-route-clause-fault : goal.returns-in_err-route-clause-fault
 returns-in_err-route-clause-fault c = if_raised _ c.from_residual.result c.from_residual.ensures (λ free.
-    first-at _ c.loop-i.i _ _ (omega arith) c.loop-i.invariant.none (ap fault_in (route_is _ c.args.columns _ _ c.requires c.in_err-route.ensures.fault)))
+    first-at _ c.loop-i.i _ _ (omega arith) c.loop-i.invariant.none (ap result_err (route_is _ c.args.columns _ _ c.requires c.in_err-route.ensures.fault)))
 
 pub loop-i-preserved : goal.loop-i-preserved
 loop-i-preserved c =
@@ -23,5 +23,5 @@ loop-i-preserved c =
     record {
       types = list_below-next (λ i. (route_or_none (route_at t i)).kind) c.loop-i.i c.loop-i.types.items c.push.new.self.items c.in_ok-route.route.kind c.loop-i.invariant.types
           c.in_ok-push.ensures.items (sym (ap (λ r. (route_or_none r).kind) here));
-      none = first-next (bad_route t) c.loop-i.i None c.loop-i.invariant.none (ap fault_in here);
+      none = first-next (bad_route t) c.loop-i.i None c.loop-i.invariant.none (ap result_err here);
     }

@@ -1,43 +1,59 @@
-use Rattle.std.proofs.Common.{None, sym, ap, ◌∙◌, subst, arith}
-use Rattle.csv_rows.specs.Tables.{row_count}
-use Rattle.csv_rows.proofs.FirstLemmas.{first-zero, first-next, first-at}
-use Rattle.csv_rows.specs.RowFaults.{fault_in, value_or}
-use Rattle.gtfs_tables.specs.StopTimes.{bad_time, timed_at, no_row, IsTripOf}
-use Rattle.csv_rows.proofs.ListLemmas.{list_below-zero, list_below-next}
-use Rattle.gtfs_tables.proofs.TimeLemmas.{timed_is}
+use Rattle.std.proofs.Common.{◌≡◌, ◌<◌, ◌+◌, ◌∷◌, ◌∙◌, List, ℕ, None, Some, sym, ap, subst, arith, length}
+use Rattle.std.specs.Prelude.{Err}
+use Rattle.std.proofs.lemmas.Result.{IfErr-weaker, on_ok_weaker}
+use Rattle.csv_rows.specs.declared.feed_tables.Table.TheVariants.{StopTimes}
+use Rattle.csv_rows.specs.First.{first_below}
+use Rattle.csv_rows.specs.Loading.{loaded_from}
+use Rattle.csv_rows.specs.Tables.{row_count, table_of}
+use Rattle.gtfs_tables.specs.Feeds.{stop_times_from}
+use Rattle.gtfs_tables.specs.StopTimes.{bad_time, counted_fault, missing_time_column, order_fault, stop_times_fault, time_columns, timed_rows}
+use Rattle.gtfs_tables.proofs.TimeLemmas.{counted_same, times_fault, fault_of_header, fault_of_row, fault_of_order}
 use Rattle.gtfs_tables.proofs.stop_times.read_timed_rows.Goals as goal
 
-pub loop-i-init : goal.loop-i-init
-loop-i-init c =
-    let t = c.args.rows.now in
+pub returns-in-Some-clause-fault : goal.returns-in-Some-clause-fault
+returns-in-Some-clause-fault c = λ free.
     let trips = c.args.trips.now in
     let stops = c.args.stops.now.ids in
     let places = c.args.stops.now.places.items in
-    record {
-      rows = c.new-timed.ensures.items ∙ sym (list_below-zero (λ i. value_or no_row (timed_at trips stops places t i)));
-      none = first-zero (bad_time trips stops places t);
-      known = tt;
-    }
+    let t = c.next.new.fields ∷ c.next.new.self in
+    let all : t ≡ table_of c.args.bytes.now = sym (sym c.of-records.ensures ∙ c.in-Ok-true.ensures.some c.in-Ok-true.field-0-test) in
+    let first : stop_times_fault trips stops places t ≡ Some c.in-Some.fault
+    = fault_of_header trips stops places t c.in-Some.fault (sym (ap missing_time_column c.columns_of-columns.ensures) ∙ sym c.in-Some.ensures.fault) in
+    let count : row_count t ≡ 0 + length c.next.new.self = omega arith in
+    let some : 0 < length t = omega arith in
+    let P : List (List (List ℕ)) → Type 0 = λ x. stop_times_from (loaded_from StopTimes c.args.most x) trips stops places ≡ Err c.counted_fault.result in
+    subst P all (times_fault trips stops places c.args.most t c.counted_fault.result some
+    (ap (counted_fault c.args.most (row_count t)) first ∙ ap (λ (k : ℕ). counted_fault c.args.most k (Some c.in-Some.fault)) count ∙ c.counted_fault.ensures.fault free))
 
-pub returns-in-Err-clause-fault : goal.returns-in-Err-clause-fault
-returns-in-Err-clause-fault c = λ free.
-    let t = c.args.rows.now in
+pub returns-clause-rest : goal.returns-clause-rest
+returns-clause-rest c =
     let trips = c.args.trips.now in
     let stops = c.args.stops.now.ids in
     let places = c.args.stops.now.places.items in
-    first-at (bad_time trips stops places t) c.loop-i.i (row_count t) c.in-Err.fault (omega arith) c.loop-i.invariant.none
-    (ap fault_in (timed_is trips stops places t c.args.columns c.loop-i.i _ c.requires.columns c.in-Err.ensures.fault))
+    let t = c.next.new.fields ∷ c.next.new.self in
+    let all : t ≡ table_of c.args.bytes.now = sym (sym c.of-records.ensures ∙ c.in-Ok-true.ensures.some c.in-Ok-true.field-0-test) in
+    let whole : missing_time_column (time_columns t) ≡ None = sym (ap missing_time_column c.columns_of-columns.ensures) ∙ sym c.in_default.ensures.fault in
+    let count : row_count t ≡ length c.next.new.self = omega arith in
+    let P : List (List (List ℕ)) → Type 0 = λ x. stop_times_fault trips stops places x ≡ order_fault (timed_rows trips stops places x) in
+    on_ok_weaker c.rows_after.result
+    (λ none. subst P all (fault_of_order trips stops places t whole (ap (first_below (bad_time trips stops places t)) count ∙ none)))
+    c.rows_after.ensures.none
 
-pub loop-i-preserved : goal.loop-i-preserved
-loop-i-preserved c =
-    let t = c.args.rows.now in
+pub returns-clause-fault : goal.returns-clause-fault
+returns-clause-fault c =
     let trips = c.args.trips.now in
     let stops = c.args.stops.now.ids in
     let places = c.args.stops.now.places.items in
-    let here = timed_is trips stops places t c.args.columns c.loop-i.i _ c.requires.columns c.in-Ok.ensures.row in
-    record {
-      rows = list_below-next (λ i. value_or no_row (timed_at trips stops places t i)) c.loop-i.i c.loop-i.timed.items c.push.new.self.items c.in-Ok.row
-          c.loop-i.invariant.rows c.in-Ok-push.ensures.items (sym (ap (value_or no_row) here));
-      none = first-next (bad_time trips stops places t) c.loop-i.i None c.loop-i.invariant.none (ap fault_in here);
-      known = subst (λ id. IsTripOf trips id c.in-Ok.row.trip) (sym c.field_at.ensures) c.in-Ok.ensures.trip;
-    }
+    let t = c.next.new.fields ∷ c.next.new.self in
+    let all : t ≡ table_of c.args.bytes.now = sym (sym c.of-records.ensures ∙ c.in-Ok-true.ensures.some c.in-Ok-true.field-0-test) in
+    let whole : missing_time_column (time_columns t) ≡ None = sym (ap missing_time_column c.columns_of-columns.ensures) ∙ sym c.in_default.ensures.fault in
+    let count : row_count t ≡ length c.next.new.self = omega arith in
+    let some : 0 < length t = omega arith in
+    IfErr-weaker c.rows_after.result _ _
+    (λ f h free.
+    let P : List (List (List ℕ)) → Type 0 = λ x. stop_times_from (loaded_from StopTimes c.args.most x) trips stops places ≡ Err f in
+    subst P all (times_fault trips stops places c.args.most t f some
+    (counted_same c.args.most (row_count t) (first_below (bad_time trips stops places t) (row_count t)) (stop_times_fault trips stops places t) f
+    (λ x e. fault_of_row trips stops places t x whole e)
+    (ap (λ (k : ℕ). counted_fault c.args.most k (first_below (bad_time trips stops places t) k)) count ∙ h free))))
+    c.rows_after.ensures.fault

@@ -1,54 +1,59 @@
-use Rattle.std.proofs.Common.{List, [], length, map, slice_index_or, sym, ap, ◌∙◌, subst, arith}
-use Rattle.std.specs.Prelude.{vec_items}
+use Rattle.std.proofs.Common.{◌≡◌, List, ℕ, length, map, ap, ◌∙◌, subst, arith}
+use Rattle.std.specs.Prelude.{vec_items, Err}
 use Rattle.std.proofs.lemmas.List.{length-map}
-use Rattle.gtfs_tables.specs.Visits.{AreStopTimes}
-use Rattle.gtfs_tables.specs.declared.stop_times.TimedRow.{TimedRow}
-use Rattle.gtfs_tables.specs.StopTimes.{missing_time_column, order_fault, stop_times_fault}
-use Rattle.csv_rows.proofs.RowLemmas.{or_first, or_then}
-use Rattle.gtfs_tables.proofs.TimeLemmas.{timed_count}
+use Rattle.csv_rows.specs.declared.feed_tables.Table.TheVariants.{StopTimes}
+use Rattle.csv_rows.specs.Loading.{loaded_from}
+use Rattle.csv_rows.specs.Tables.{table_of}
+use Rattle.gtfs_tables.specs.Feeds.{stop_times_from, AreVisits}
+use Rattle.gtfs_tables.proofs.TimeLemmas.{timed_rows_are, order_faulty, order_sound, visits_of_rows, visits_of_text}
 use Rattle.gtfs_tables.proofs.timetable.read_stop_times.Goals as goal
 
-pub returns-in-Some-clause-fault : goal.returns-in-Some-clause-fault
-unfolding stop_times_fault
-returns-in-Some-clause-fault c = λ free.
-    or_first _ _ _ (sym (ap missing_time_column c.time_columns-columns.ensures) ∙ sym c.in-Some.ensures.fault)
-
-pub returns-in-Err-clause-fault : goal.returns-in-Err-clause-fault
-unfolding stop_times_fault
-returns-in-Err-clause-fault c = λ free.
-    or_then _ _ _ (sym (ap missing_time_column c.time_columns-columns.ensures) ∙ sym c.in_default.ensures.fault) (or_first _ _ _ (c.in-Err.ensures.fault free))
-
 pub in_order-requires : goal.in_order-requires
-in_order-requires c =
-    omega (
-      arith,
-      ap length c.as_slice.ensures.value,
-      ap length c.in-Ok.ensures.rows,
-      timed_count c.args.trips.now c.args.stops.now.ids c.args.stops.now.places.items c.args.rows,
-      c.requires.few,
-    )
+in_order-requires c = omega (arith, ap length c.as_slice-2.ensures.value, c.in_ok-timed.ensures.few, c.requires.most)
 
-pub returns-in-Ok-in_order-clause-none : goal.returns-in-Ok-in_order-clause-none
-unfolding stop_times_fault
-returns-in-Ok-in_order-clause-none c =
-    or_then _ _ _ (sym (ap missing_time_column c.time_columns-columns.ensures) ∙ sym c.in_default.ensures.fault) (or_then _ _ _ c.in-Ok.ensures.none
-    (ap order_fault (sym (c.as_slice.ensures.value ∙ c.in-Ok.ensures.rows)) ∙ c.in-Ok-in_order.ensures.none))
+pub returns-in-Ok-clause-visits : goal.returns-in-Ok-clause-visits
+returns-in-Ok-clause-visits c =
+    let trips = c.args.trips.now in
+    let stops = c.args.stops.now.ids in
+    let places = c.args.stops.now.places.items in
+    let most = c.args.most in
+    let t = table_of c.as_slice.result.now in
+    let rows = c.as_slice-2.result.now in
+    let visits = map vec_items c.in-Ok.visits.items in
+    let same = c.as_slice-2.ensures.value in
+    let read = timed_rows_are trips stops places most t c.in_ok-timed.timed.items rows same c.in_ok-timed.ensures.rows c.in_ok-timed.ensures.header
+    c.in_ok-timed.ensures.few c.in_ok-timed.ensures.rest in
+    let size : length visits ≡ length trips = length-map c.in-Ok.visits.items vec_items ∙ c.in-Ok.ensures.size ∙ c.len.ensures.count in
+    let are = visits_of_rows trips stops places most t rows visits read size (λ trip h. c.in-Ok.ensures.each trip (omega (arith, h, c.len.ensures.count))) in
+    subst (λ (bytes : List ℕ). AreVisits trips stops places (stop_times_from (loaded_from StopTimes most (table_of bytes)) trips stops places) visits)
+    c.as_slice.ensures.value (visits_of_text trips stops places most t rows visits read c.in-Ok.ensures.none are)
+
+pub returns-in-Ok-clause-sound : goal.returns-in-Ok-clause-sound
+returns-in-Ok-clause-sound c =
+    let trips = c.args.trips.now in
+    let stops = c.args.stops.now.ids in
+    let places = c.args.stops.now.places.items in
+    let most = c.args.most in
+    let t = table_of c.as_slice.result.now in
+    let rows = c.as_slice-2.result.now in
+    let visits = map vec_items c.in-Ok.visits.items in
+    let same = c.as_slice-2.ensures.value in
+    let read = timed_rows_are trips stops places most t c.in_ok-timed.timed.items rows same c.in_ok-timed.ensures.rows c.in_ok-timed.ensures.header
+    c.in_ok-timed.ensures.few c.in_ok-timed.ensures.rest in
+    let size : length visits ≡ length trips = length-map c.in-Ok.visits.items vec_items ∙ c.in-Ok.ensures.size ∙ c.len.ensures.count in
+    let are = visits_of_rows trips stops places most t rows visits read size (λ trip h. c.in-Ok.ensures.each trip (omega (arith, h, c.len.ensures.count))) in
+    (t, order_sound trips stops places most t rows read c.in-Ok.ensures.none, are)
 
 pub returns-clause-fault : goal.returns-clause-fault
-unfolding stop_times_fault
 returns-clause-fault c = λ free.
-    or_then _ _ _ (sym (ap missing_time_column c.time_columns-columns.ensures) ∙ sym c.in_default.ensures.fault) (or_then _ _ _ c.in-Ok.ensures.none
-    (ap order_fault (sym (c.as_slice.ensures.value ∙ c.in-Ok.ensures.rows)) ∙ c.in-Err-in_order.ensures.fault free))
-
-pub returns-in-Ok-in_order-clause-sound : goal.returns-in-Ok-in_order-clause-sound
-returns-in-Ok-in_order-clause-sound c =
-    let v = c.in-Ok-in_order.visits.items in
-    let same = c.as_slice.ensures.value ∙ c.in-Ok.ensures.rows in
-    let size = c.in-Ok-in_order.ensures.size ∙ c.len.ensures.count in (
-      c.args.rows,
-      returns-in-Ok-in_order-clause-none c,
-      (
-        length-map v vec_items ∙ size,
-        λ trip h. subst (λ (xs : List TimedRow). AreStopTimes xs trip (slice_index_or (map vec_items v) trip [])) same (c.in-Ok-in_order.ensures.each trip (omega (arith, h, c.len.ensures.count))),
-      ),
-    )
+    let trips = c.args.trips.now in
+    let stops = c.args.stops.now.ids in
+    let places = c.args.stops.now.places.items in
+    let most = c.args.most in
+    let t = table_of c.as_slice.result.now in
+    let rows = c.as_slice-2.result.now in
+    let same = c.as_slice-2.ensures.value in
+    let read = timed_rows_are trips stops places most t c.in_ok-timed.timed.items rows same c.in_ok-timed.ensures.rows c.in_ok-timed.ensures.header
+    c.in_ok-timed.ensures.few c.in_ok-timed.ensures.rest in
+    subst (λ (bytes : List ℕ). stop_times_from (loaded_from StopTimes most (table_of bytes)) trips stops places ≡ Err c.in-Err.fault)
+    c.as_slice.ensures.value (order_faulty trips stops places most t rows c.in-Err.fault read (c.in-Err.ensures.fault free))

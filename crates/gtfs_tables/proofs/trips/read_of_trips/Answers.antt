@@ -1,10 +1,10 @@
 use Rattle.std.proofs.Common.{ℕ, ◌<◌, None, sym, subst, ap, ◌∙◌, arith, length, slice_index_or, string_bytes, List, All}
 use Rattle.std.proofs.lemmas.List.Elements.{All-push, All-nil}
+use Rattle.std.specs.Result.{result_err}
 use Rattle.csv_rows.proofs.FaultLemmas.{if_raised}
 use Rattle.csv_rows.proofs.FirstLemmas.{first-zero, first-next, first-at}
 use Rattle.plan_model.specs.NameLists.{texts}
 use Rattle.plan_model.proofs.Texts.{texts-push}
-use Rattle.csv_rows.specs.RowFaults.{fault_in}
 use Rattle.gtfs_tables.specs.Trips.{bad_trip, trip_at, trip_or_none}
 use Rattle.csv_rows.proofs.ListLemmas.{list_below-zero, list_below-next}
 use Rattle.gtfs_tables.proofs.TripLemmas.{trip_is}
@@ -24,7 +24,7 @@ loop-i-init c =
 
 pub returns-in_err-trip-clause-fault : goal.returns-in_err-trip-clause-fault
 returns-in_err-trip-clause-fault c = if_raised _ c.from_residual.result c.from_residual.ensures (λ free.
-    first-at _ c.loop-i.i _ _ (omega arith) c.loop-i.invariant.none (ap fault_in (trip_is _ _ c.args.columns _ _ c.requires.columns c.in_err-trip.ensures.fault)))
+    first-at _ c.loop-i.i _ _ (omega arith) c.loop-i.invariant.none (ap result_err (trip_is _ _ c.args.columns _ _ c.requires.columns c.in_err-trip.ensures.fault)))
 
 pub loop-i-preserved : goal.loop-i-preserved
 loop-i-preserved c =
@@ -44,5 +44,5 @@ loop-i-preserved c =
           c.in_ok-trip.trip.route c.loop-i.invariant.routes c.in_ok-push-3.ensures.items (sym (ap (λ r. (trip_or_none r).route) here));
       known = subst (All (λ route. route < length ids)) (sym c.in_ok-push-3.ensures.items)
           (All-push (λ route. route < length ids) c.loop-i.numbers.items c.in_ok-trip.trip.route c.loop-i.invariant.known c.in_ok-trip.ensures.route);
-      none = first-next (bad_trip ids t) c.loop-i.i None c.loop-i.invariant.none (ap fault_in here);
+      none = first-next (bad_trip ids t) c.loop-i.i None c.loop-i.invariant.none (ap result_err here);
     }

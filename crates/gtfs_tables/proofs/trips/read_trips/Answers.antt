@@ -1,11 +1,11 @@
 use Rattle.std.proofs.Common.{Option, length, sym, ap, ◌∙◌, arith, slice_index_or, string_bytes}
 use Rattle.csv_rows.specs.Lists.{list_below}
 use Rattle.std.proofs.lemmas.List.{length-map}
+use Rattle.std.specs.Option.{option_or}
 use Rattle.csv_rows.proofs.FaultLemmas.{if_raised}
 use Rattle.csv_rows.specs.declared.columns.Column.TheVariants.{RouteId, ServiceId, TripId}
 use Rattle.csv_rows.specs.declared.feed_tables.FeedFault.{FeedFault}
 use Rattle.csv_rows.specs.declared.feed_tables.Table.TheVariants.{Trips}
-use Rattle.csv_rows.specs.First.{or_else}
 use Rattle.csv_rows.specs.Tables.{place_of, field_at, row_count}
 use Rattle.gtfs_tables.specs.declared.trips.TripColumns.{TripColumns}
 use Rattle.csv_rows.specs.RowFaults.{lack}
@@ -16,7 +16,7 @@ use Rattle.gtfs_tables.proofs.TripLemmas.{trips_named}
 use Rattle.gtfs_tables.proofs.trips.read_trips.Goals as goal
 
 abbrev missing_in : TripColumns → Option FeedFault
-missing_in k = or_else (lack Trips RouteId k.route) (or_else (lack Trips ServiceId k.service) (lack Trips TripId k.id))
+missing_in k = option_or (lack Trips RouteId k.route) (option_or (lack Trips ServiceId k.service) (lack Trips TripId k.id))
 
 pub returns-in-Some-clause-fault : goal.returns-in-Some-clause-fault
 unfolding trips_fault

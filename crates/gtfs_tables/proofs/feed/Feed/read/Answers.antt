@@ -2,7 +2,8 @@ use Rattle.std.proofs.Common.{◌∙◌, map, length, []}
 use Rattle.std.specs.Prelude.{vec_items}
 use Rattle.plan_model.specs.NameLists.{texts}
 use Rattle.gtfs_tables.specs.Repeats.{all_repeats_in}
-use Rattle.gtfs_tables.proofs.FeedLemmas.{if_same, some_raised, fault_at_stops, fault_at_routes, fault_at_trips, fault_at_times, fault_at_frequencies, feed_of_tables, sound_feed, quiet, cause_then}
+use Rattle.csv_rows.proofs.FaultLemmas.{some_raised}
+use Rattle.gtfs_tables.proofs.FeedLemmas.{if_same, fault_at_stops, fault_at_routes, fault_at_trips, fault_at_times, fault_at_frequencies, feed_of_tables, sound_feed, quiet, cause_then}
 use Rattle.gtfs_tables.proofs.feed.Feed.read.Goals as goal
 
 pub returns-in_err-stops-clause-fault : goal.returns-in_err-stops-clause-fault
