@@ -1,6 +1,7 @@
 -- The change time of each place of a feed, and the links between places.
 use Rattle.std.specs.Prelude.{◌≡◌, ℕ, ◌<◌, ◌≤◌, max, nat_eq, List, length, All, count_by, is_none, Option, None, Some, Result}
 use Rattle.std.specs.Map.{lookup}
+use Rattle.plan_model.specs.Results.{and_then, unless}
 use Rattle.file_ports.specs.Ports.{Folder}
 use Rattle.csv_rows.specs.declared.feed_tables.Table.{Table}
 use Rattle.csv_rows.specs.declared.feed_tables.Table.TheVariants.{Transfers}
@@ -10,7 +11,6 @@ use Rattle.csv_rows.specs.declared.loading.Loaded.TheVariants.{Found}
 use Rattle.csv_rows.specs.declared.limits.Limits.{Limits}
 use Rattle.csv_rows.specs.Lists.{list_below}
 use Rattle.csv_rows.specs.Tables.{row_count}
-use Rattle.csv_rows.specs.RowFaults.{and_then, unless}
 use Rattle.csv_rows.specs.Loading.{load_in, loaded_rows}
 use Rattle.plan_model.specs.declared.model.Way.{Way}
 use Rattle.gtfs_tables.specs.Feeds.{FeedParts, Records}

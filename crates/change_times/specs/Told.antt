@@ -1,5 +1,6 @@
 -- What the first rows of a table tell, as it is noted.
 use Rattle.std.specs.Prelude.{◌≡◌, ℕ, ◌≤◌, nat_eq, length, IfSome}
+use Rattle.plan_model.specs.Bounds.{seconds_per_day}
 use Rattle.std.specs.HashMap.{get}
 use Rattle.gtfs_tables.specs.Feeds.{FeedParts, Records}
 use Rattle.change_times.specs.declared.changes.Told.{Told}
@@ -11,7 +12,7 @@ pub record AreTold (feed : FeedParts) (t : Records) (n : ℕ) (told : Told) : Ty
   pub size : length told.walks.items ≡ length feed.stop_ids
   pub seconds : (place : ℕ) → get nat_eq told.seconds place ≡ greatest_change feed t n place
   pub walks : (from to : ℕ) → most_to to (walks_of told.walks.items from) ≡ greatest_link feed t n from to
-  pub short : (place : ℕ) → IfSome (get nat_eq told.seconds place) (λ seconds. seconds ≤ 86400)
-  pub brief : (from to : ℕ) → IfSome (greatest_link feed t n from to) (λ seconds. seconds ≤ 86400)
+  pub short : (place : ℕ) → IfSome (get nat_eq told.seconds place) (λ seconds. seconds ≤ seconds_per_day)
+  pub brief : (from to : ℕ) → IfSome (greatest_link feed t n from to) (λ seconds. seconds ≤ seconds_per_day)
   pub passed : told.passed ≡ passed_below feed t n
   pub few : told.passed ≤ n

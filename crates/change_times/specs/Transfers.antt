@@ -1,15 +1,17 @@
 -- The rows of `transfers.txt`: their transfers between places, and their faults. Row i stands in line i + 2.
 use Rattle.std.specs.Prelude.{ℕ, ◌+◌, ◌==◌, ◌&&◌, Bool, List, length, slice_index, Option, None, Result, Ok, option_map, if◌then◌else◌}
 use Rattle.std.specs.Option.{option_or}
+use Rattle.std.specs.Result.{result_err}
+use Rattle.plan_model.specs.Results.{and_then, require, value_or}
 use Rattle.clock_text.specs.Digits.{optional_seconds_of}
 use Rattle.csv_rows.specs.declared.columns.Column.{Column}
 use Rattle.csv_rows.specs.declared.columns.Column.TheVariants.{FromStopId, ToStopId, TransferType, MinTransferTime, FromRouteId, ToRouteId, FromTripId, ToTripId}
 use Rattle.csv_rows.specs.declared.feed_tables.Table.TheVariants.{Transfers}
 use Rattle.csv_rows.specs.declared.feed_tables.FeedFault.{FeedFault}
 use Rattle.csv_rows.specs.declared.feed_tables.FeedFault.TheVariants.{BadField, UnknownKey}
-use Rattle.csv_rows.specs.First.{or_else, first_below, read}
+use Rattle.csv_rows.specs.First.{first_below}
 use Rattle.csv_rows.specs.Names.{name_in}
-use Rattle.csv_rows.specs.RowFaults.{fault_in, value_or, lack, and_then}
+use Rattle.csv_rows.specs.RowFaults.{lack}
 use Rattle.csv_rows.specs.Tables.{row_count, place_in, place_of, field_at}
 use Rattle.gtfs_tables.specs.Feeds.{FeedParts}
 use Rattle.change_times.specs.declared.transfers.Transfer.{Transfer}
@@ -23,8 +25,8 @@ place_of_stop feed id = option_map (λ stop. slice_index feed.places stop) (plac
 -- the place of the stop that a field names
 abbrev pub place_from : FeedParts → ℕ → Column → List ℕ → Result ℕ FeedFault
 place_from feed line column text =
-    read (name_in text) (BadField Transfers line column) (λ id.
-    read (place_of_stop feed id) (UnknownKey Transfers line column) (λ place. Ok place))
+    require (name_in text) (BadField Transfers line column) (λ id.
+    require (place_of_stop feed id) (UnknownKey Transfers line column) (λ place. Ok place))
 
 -- the transfer from the place of the first stop to that of the second, where it has seconds
 abbrev pub transfer_between : (from to : ℕ) → Option ℕ → Option Transfer
@@ -35,7 +37,7 @@ abbrev pub timed_from : FeedParts → ℕ → (from to seconds : List ℕ) → R
 timed_from feed line from to seconds =
     and_then (place_from feed line FromStopId from) (λ from'.
     and_then (place_from feed line ToStopId to) (λ to'.
-    read (optional_seconds_of seconds) (BadField Transfers line MinTransferTime) (λ seconds'.
+    require (optional_seconds_of seconds) (BadField Transfers line MinTransferTime) (λ seconds'.
     Ok (transfer_between from' to' seconds'))))
 
 -- whether a row is for each route and each trip
@@ -46,7 +48,7 @@ is_general from_route to_route from_trip to_trip =
 -- a row of another type than 2, or for some routes or trips, has no transfer, and its other fields are not looked at
 abbrev pub transfer_from : (kind : List ℕ) → ℕ → Bool → Result (Option Transfer) FeedFault → Result (Option Transfer) FeedFault
 transfer_from kind line general timed =
-    read (is_timed_in kind) (BadField Transfers line TransferType) (λ is_timed.
+    require (is_timed_in kind) (BadField Transfers line TransferType) (λ is_timed.
     if is_timed && general then timed else Ok None)
 
 -- where the columns stand
@@ -77,7 +79,7 @@ transfer_at feed t i = transfer_in feed t (transfer_columns t) i
 
 -- the fault of row i
 abbrev pub bad_transfer : FeedParts → List (List (List ℕ)) → ℕ → Option FeedFault
-bad_transfer feed t i = fault_in (transfer_at feed t i)
+bad_transfer feed t i = result_err (transfer_at feed t i)
 
 -- the transfer of row i, where it has one
 abbrev pub told_by : FeedParts → List (List (List ℕ)) → ℕ → Option Transfer
@@ -90,4 +92,4 @@ missing_in c =
 
 -- the first fault of the transfers
 unfoldable pub transfers_fault : FeedParts → List (List (List ℕ)) → Option FeedFault
-transfers_fault feed t = or_else (missing_in (transfer_columns t)) (first_below (bad_transfer feed t) (row_count t))
+transfers_fault feed t = option_or (missing_in (transfer_columns t)) (first_below (bad_transfer feed t) (row_count t))

@@ -1,5 +1,6 @@
 //! The change times of the places of a feed, and the links between them.
 ghost use Rattle.std.specs.Prelude.{◌≡◌, ◌≢◌, ◌<◌, ◌≤◌, ◌+◌, ◌-◌, ◌^◌, ℕ, None, Some, Ok, Err, IfOk, IfErr, IfSome, IsOkAnd, IsSome, OnOk, is_none, nat_eq, length, if◌then◌else◌, []};
+ghost use Rattle.plan_model.specs.Bounds.{seconds_per_day};
 ghost use Rattle.std.specs.HashMap.{get};
 ghost use Rattle.csv_rows.specs.declared.feed_tables.Table.TheVariants.{Transfers as TransfersTable};
 ghost use Rattle.csv_rows.specs.FeedTables.{unread_of, IsFaultOf};
@@ -236,7 +237,7 @@ impl Changes {
     pub fn seconds(&self, place: PlaceId) -> u32
         ensures value { result ≡ seconds_of self.now place.0 }
         ensures least { 1 ≤ result }
-        ensures most { result ≤ 86400 }
+        ensures most { result ≤ seconds_per_day }
     {
         match self.seconds.get(&place.0) {
             Some(seconds) => 1u32.max(*seconds),

@@ -1,5 +1,6 @@
 //! The rows of `transfers.txt`.
 ghost use Rattle.std.specs.Prelude.{◌≡◌, ◌<◌, ◌≤◌, length, None, Ok, Err, IfOk, IfErr, IfSome};
+ghost use Rattle.plan_model.specs.Bounds.{seconds_per_day};
 ghost use Rattle.csv_rows.specs.declared.feed_tables.Table.TheVariants.{Transfers as TransfersTable};
 ghost use Rattle.csv_rows.specs.FeedTables.{unread_of, IsFaultOf};
 ghost use Rattle.csv_rows.specs.Tables.{row_count};
@@ -99,7 +100,7 @@ fn read_timed(
     requires { row < row_count rows.now }
     ensures transfer { IfOk result (λ t. timed_in feed.now rows.now columns row ≡ Ok t) }
     ensures from { IfOk result (λ t. IfSome t (λ transfer. transfer.from < length feed.now.stop_ids)) }
-    ensures short { IfOk result (λ t. IfSome t (λ transfer. transfer.seconds ≤ 86400)) }
+    ensures short { IfOk result (λ t. IfSome t (λ transfer. transfer.seconds ≤ seconds_per_day)) }
     ensures fault { IfErr result (λ f. timed_in feed.now rows.now columns row ≡ Err f) }
     ensures content { IfErr result (λ f. unread_of f ≡ None) }
     ensures own { IfErr result (IsFaultOf TransfersTable) }
@@ -137,7 +138,7 @@ pub(crate) fn read_transfer(
     requires { row < row_count rows.now }
     ensures transfer { IfOk result (λ t. transfer_in feed.now rows.now columns row ≡ Ok t) }
     ensures from { IfOk result (λ t. IfSome t (λ transfer. transfer.from < length feed.now.stop_ids)) }
-    ensures short { IfOk result (λ t. IfSome t (λ transfer. transfer.seconds ≤ 86400)) }
+    ensures short { IfOk result (λ t. IfSome t (λ transfer. transfer.seconds ≤ seconds_per_day)) }
     ensures fault { IfErr result (λ f. transfer_in feed.now rows.now columns row ≡ Err f) }
     ensures content { IfErr result (λ f. unread_of f ≡ None) }
     ensures own { IfErr result (IsFaultOf TransfersTable) }

@@ -1,5 +1,6 @@
 -- The network of a feed in a window of time, and its names.
 use Rattle.std.specs.Prelude.{◌≡◌, ℕ, ℤ, ◌+◌, ◌<◌, ◌≤◌, List, [], ◌∷◌, ◌++◌, map, length, slice_index, slice_index_or, Option, Some, None, decimal, unsigned_abs}
+use Rattle.plan_model.specs.Bounds.{seconds_per_day}
 use Rattle.clock_text.specs.Times.{date_at}
 use Rattle.plan_model.specs.declared.model.Connection.{Connection}
 use Rattle.plan_model.specs.declared.model.Way.{Way}
@@ -57,7 +58,7 @@ rides_below f d w rs n = join_below (run_rides f d w rs) n
 
 -- a change takes from a second to a day
 abbrev pub AreChanges : List ℕ → Type 0
-AreChanges change = (p : ℕ) → p < length change → (1 ≤ slice_index change p) × (slice_index change p ≤ 86400)
+AreChanges change = (p : ℕ) → p < length change → (1 ≤ slice_index change p) × (slice_index change p ≤ seconds_per_day)
 
 -- the connections of the window
 abbrev pub connections_in : FeedParts → ServiceParts → DelayLists → Window → List Connection

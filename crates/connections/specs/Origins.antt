@@ -1,5 +1,6 @@
 -- The moments from which the times of runs count.
 use Rattle.std.specs.Prelude.{ℕ, ℤ, pos, ◌+ℤ◌, ◌*ℤ◌}
+use Rattle.plan_model.specs.Bounds.{seconds_per_day}
 use Rattle.connections.specs.declared.origins.ServiceDay.{ServiceDay}
 use Rattle.connections.specs.declared.origins.Origin.{Origin}
 
@@ -9,4 +10,4 @@ origin_of_day day = record { day = day; shift = pos 0 }
 
 -- so many seconds later, in seconds since 1970-01-01
 abbrev pub moment_of : Origin → ℕ → ℤ
-moment_of o seconds = ((pos 86400 *ℤ o.day.number) +ℤ o.shift) +ℤ pos seconds
+moment_of o seconds = ((pos seconds_per_day *ℤ o.day.number) +ℤ o.shift) +ℤ pos seconds

@@ -1,5 +1,6 @@
 -- What holds of the runs of a feed.
 use Rattle.std.specs.Prelude.{◌≡◌, ℕ, pos, ◌+ℤ◌, ◌≤ℤ◌, ◌<◌, ◌^◌, List, length, Option, Some, None}
+use Rattle.clock_text.specs.Civil.{last_day}
 use Rattle.gtfs_tables.specs.Feeds.{FeedParts}
 use Rattle.connections.specs.declared.origins.ServiceDay.{ServiceDay}
 use Rattle.connections.specs.declared.repeats.Repeat.{Repeat}
@@ -10,7 +11,7 @@ use Rattle.connections.specs.TripRuns.{run_at, run_steps}
 -- a day of the windows: from 1969-12-25 to 9999-12-31
 pub record IsDay (day : ServiceDay) : Type 0 where
   pub from : pos 0 ≤ℤ (day.number +ℤ pos 7)
-  pub to : day.number ≤ℤ pos 2932896
+  pub to : day.number ≤ℤ pos last_day
 
 -- its numbers fit 64 bits
 abbrev pub IsSmallRepeat : Option Repeat → Type 0

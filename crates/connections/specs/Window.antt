@@ -1,5 +1,6 @@
 -- A window of time, and the service days whose trips may ride in it.
-use Rattle.std.specs.Prelude.{ℕ, ℤ, pos, ◌+◌, ◌*◌, ◌/◌, ◌-ℤ◌, ◌≤◌, ◌<◌, ◌&&◌, int_le, Bool}
+use Rattle.std.specs.Prelude.{ℕ, ℤ, pos, ◌+◌, ◌*◌, ◌/◌, ◌-ℤ◌, ◌≤◌, ◌&&◌, int_le, Bool}
+use Rattle.plan_model.specs.Bounds.{first_start, last_start, seconds_per_day}
 use Rattle.connections.specs.declared.origins.ServiceDay.{ServiceDay}
 use Rattle.connections.specs.declared.window.Window.{Window}
 
@@ -12,22 +13,15 @@ holds w moment = int_le (pos w.start) moment && int_le moment (pos w.end)
 
 -- its service days, the first of which is 14 days before the date of the start
 abbrev pub day_at : Window → ℕ → ServiceDay
-day_at w d = record { number = pos (w.start / 86400 + d) -ℤ pos 14 }
-
--- 1970-01-08T00:00:00 and 2400-01-01T00:00:00
-abbrev pub first_start : ℕ
-first_start = 604800
-
-abbrev pub end_of_starts : ℕ
-end_of_starts = 13569465600
+day_at w d = record { number = pos (w.start / seconds_per_day + d) -ℤ pos 14 }
 
 -- 72 hours
 abbrev pub longest_window : ℕ
 longest_window = 259200
 
--- it starts from the one of these moments on and before the other one, and is not too long
+-- it starts where a journey may, and is not too long
 pub record IsWindow (w : Window) : Type 0 where
   pub early : first_start ≤ w.start
-  pub late : w.start < end_of_starts
+  pub late : w.start ≤ last_start
   pub ordered : w.start ≤ w.end
   pub short : w.end ≤ w.start + longest_window

@@ -1,7 +1,8 @@
 -- The first fault of a table, by the step that finds it.
 use Rattle.std.proofs.Common.{◌≡◌, ℕ, ◌<◌, ◌≤◌, List, length, Option, Some, None, slice_index_or, if◌then◌else◌, refl, sym, ap, ◌∙◌, subst}
 use Rattle.std.proofs.lemmas.Bool.{lt-ltb, le-ltb}
-use Rattle.csv_rows.specs.First.{or_else, first_below}
+use Rattle.std.specs.Option.{option_or}
+use Rattle.csv_rows.specs.First.{first_below}
 use Rattle.csv_rows.specs.declared.columns.Column.TheVariants.{Run, Step, From, To, Dep, Arr}
 use Rattle.csv_rows.specs.Tables.{place_of, row_count}
 use Rattle.cut_file.specs.declared.rows.CutRow.{CutRow}
@@ -15,7 +16,7 @@ use Rattle.cut_file.specs.Keys.{AreKeysOf, no_row}
 use Rattle.cut_file.specs.Read.{IsRead}
 
 missing_by : Option ℕ → Option ℕ → Option ℕ → Option ℕ → Option ℕ → Option ℕ → Option CutFault
-missing_by a b c d e f = or_else (lack a Run) (or_else (lack b Step) (or_else (lack c From) (or_else (lack d To) (or_else (lack e Dep) (lack f Arr)))))
+missing_by a b c d e f = option_or (lack a Run) (option_or (lack b Step) (option_or (lack c From) (option_or (lack d To) (option_or (lack e Dep) (lack f Arr)))))
 
 pub missing_is : (t : List (List (List ℕ))) (c : Columns) → AreColumns t c → missing_column t ≡ missing_in c
 unfolding missing_by
@@ -27,10 +28,10 @@ missing_is t c h =
     ∙ ap (λ x. missing_by (place_of Run t) (place_of Step t) (place_of From t) (place_of To t) (place_of Dep t) x) h.arr)
 
 abbrev all_faults : Option CutFault → Option CutFault → Option CutFault → Option CutFault → Option CutFault
-all_faults a b c d = or_else a (or_else b (or_else c d))
+all_faults a b c d = option_or a (option_or b (option_or c d))
 
 abbrev runs_of : List (List (List ℕ)) → Option CutFault
-runs_of t = or_else (first_below (repeated_step t) (row_count t)) (first_below (run_fault t) (row_count t))
+runs_of t = option_or (first_below (repeated_step t) (row_count t)) (first_below (run_fault t) (row_count t))
 
 first_is : (t : List (List (List ℕ))) (limit : ℕ) → first_fault t limit ≡ all_faults (missing_column t) (too_many_rows t limit) (first_below (bad_field t) (row_count t)) (runs_of t)
 unfolding first_fault
@@ -43,25 +44,25 @@ column_first t limit c f h e =
 pub count_first : (t : List (List (List ℕ))) (limit : ℕ) (c : Columns) → AreColumns t c → None ≡ missing_in c → limit < row_count t → first_fault t limit ≡ Some (TooManyRows (row_count t))
 count_first t limit c h e l =
     first_is t limit ∙ ap (λ a. all_faults a (too_many_rows t limit) (first_below (bad_field t) (row_count t)) (runs_of t)) (missing_is t c h ∙ sym e)
-    ∙ ap (λ b. or_else (if b then Some (TooManyRows (row_count t)) else None) (or_else (first_below (bad_field t) (row_count t)) (runs_of t))) (lt-ltb limit (row_count t) l)
+    ∙ ap (λ b. option_or (if b then Some (TooManyRows (row_count t)) else None) (option_or (first_below (bad_field t) (row_count t)) (runs_of t))) (lt-ltb limit (row_count t) l)
 
 -- with its columns, and few enough rows
 pub rows_first : (t : List (List (List ℕ))) (limit : ℕ) (c : Columns) → AreColumns t c → None ≡ missing_in c → row_count t ≤ limit
-    → first_fault t limit ≡ or_else (first_below (bad_field t) (row_count t)) (runs_of t)
+    → first_fault t limit ≡ option_or (first_below (bad_field t) (row_count t)) (runs_of t)
 rows_first t limit c h e l =
     first_is t limit ∙ ap (λ a. all_faults a (too_many_rows t limit) (first_below (bad_field t) (row_count t)) (runs_of t)) (missing_is t c h ∙ sym e)
-    ∙ ap (λ b. or_else (if b then Some (TooManyRows (row_count t)) else None) (or_else (first_below (bad_field t) (row_count t)) (runs_of t))) (le-ltb limit (row_count t) l)
+    ∙ ap (λ b. option_or (if b then Some (TooManyRows (row_count t)) else None) (option_or (first_below (bad_field t) (row_count t)) (runs_of t))) (le-ltb limit (row_count t) l)
 
-pub field_first : (t : List (List (List ℕ))) (o : Option CutFault) (f : CutFault) → first_below (bad_field t) (row_count t) ≡ Some f → or_else (first_below (bad_field t) (row_count t)) o ≡ Some f
-field_first t o f h = ap (λ a. or_else a o) h
+pub field_first : (t : List (List (List ℕ))) (o : Option CutFault) (f : CutFault) → first_below (bad_field t) (row_count t) ≡ Some f → option_or (first_below (bad_field t) (row_count t)) o ≡ Some f
+field_first t o f h = ap (λ a. option_or a o) h
 
 -- the faults of the runs, in rows that are read, by the slices that were lent
 pub runs_here : (t : List (List (List ℕ))) (runs places : List (List ℕ)) (rows rows' : List CutRow) (keys keys' : List Key) (o : Option CutFault) → rows' ≡ rows → keys' ≡ keys
     → IsRead t runs places rows keys → first_below (bad_field t) (row_count t) ≡ None
     → ((t : List (List (List ℕ))) (runs places : List (List ℕ)) → IsRead t runs places rows' keys' → runs_of t ≡ o)
-    → or_else (first_below (bad_field t) (row_count t)) (runs_of t) ≡ o
+    → option_or (first_below (bad_field t) (row_count t)) (runs_of t) ≡ o
 runs_here t runs places rows rows' keys keys' o e f h none told =
-    ap (λ a. or_else a (runs_of t)) none
+    ap (λ a. option_or a (runs_of t)) none
     ∙ told t runs places (subst (λ (x : List CutRow). IsRead t runs places x keys') (sym e) (subst (λ (x : List Key). IsRead t runs places rows x) (sym f) h))
 
 pub read_here : (t : List (List (List ℕ))) (runs places : List (List ℕ)) (rows rows' : List CutRow) (keys : List Key) → runs ≡ run_names t (row_count t) → places ≡ place_names t (row_count t)

@@ -5,7 +5,6 @@ use Rattle.csv_rows.specs.declared.columns.Column.TheVariants.{Class, Run, Step,
 use Rattle.delay_table.proofs.LineFacts.{whole_bound}
 use Rattle.clock_text.specs.Digits.{optional_seconds_of, whole_of}
 use Rattle.clock_text.specs.Times.{moment_at}
-use Rattle.csv_rows.specs.First.{read}
 use Rattle.std.specs.Str.{is_utf8}
 use Rattle.std.proofs.lemmas.Bool.{ltb-true}
 use Rattle.csv_rows.specs.Names.{name_in}
@@ -14,6 +13,7 @@ use Rattle.cut_file.specs.Rows.{Row, row_from, row_at}
 use Rattle.cut_file.specs.Faults.{bad_of, bad_field, row_of, row}
 use Rattle.csv_rows.specs.Tables.{field}
 use Rattle.plan_model.specs.Bounds.{end_of_arrivals}
+use Rattle.plan_model.proofs.Results.{require-each}
 
 -- what the fields of a row in form say of it
 pub record InForm (run from to : List ℕ) (r : Row) : Type 0 where
@@ -23,11 +23,6 @@ pub record InForm (run from to : List ℕ) (r : Row) : Type 0 where
   pub step : r.step < 1000000000
   pub arr : r.arr < end_of_arrivals
   pub change : IfSome r.change (λ s. s ≤ 86400)
-
-read_inv : {A : Type 0} (P : Row → Type 0) (o : Option A) (column : Column) (rest : A → Result Row Column)
-    → ((a : A) → o ≡ Some a → (r : Row) → rest a ≡ Ok r → P r) → (r : Row) → read o column rest ≡ Ok r → P r
-read_inv P None column rest h r e = absurd (cc)
-read_inv P (Some a) column rest h r e = h a refl r e
 
 name_if : (empty utf8 : Bool) (text x : List ℕ) → (if empty then None else if utf8 then Some text else None) ≡ Some x → x ≡ text
 name_if true utf8 text x h = absurd (cc)
@@ -62,16 +57,16 @@ same_ok x r e = cc
 
 pub row_form : (a b c d e f g h j k : List ℕ) (r : Row) → row_from a b c d e f g h j k ≡ Ok r → InForm a c d r
 row_form a b c d e f g h j k =
-    read_inv (InForm a c d) (name_in a) Run _ (λ run p1.
-    read_inv (InForm a c d) (whole_of 999999999 b) Step _ (λ step p2.
-    read_inv (InForm a c d) (name_in c) From _ (λ from p3.
-    read_inv (InForm a c d) (name_in d) To _ (λ to p4.
-    read_inv (InForm a c d) (early e) Dep _ (λ dep p5.
-    read_inv (InForm a c d) (early f) Arr _ (λ arr p6.
-    read_inv (InForm a c d) (class_in g) Class _ (λ class p7.
-    read_inv (InForm a c d) (flag_in h) Board _ (λ board p8.
-    read_inv (InForm a c d) (flag_in j) Exit _ (λ exit p9.
-    read_inv (InForm a c d) (optional_seconds_of k) Change _ (λ change p10 r q.
+    require-each (InForm a c d) (name_in a) Run _ (λ run p1.
+    require-each (InForm a c d) (whole_of 999999999 b) Step _ (λ step p2.
+    require-each (InForm a c d) (name_in c) From _ (λ from p3.
+    require-each (InForm a c d) (name_in d) To _ (λ to p4.
+    require-each (InForm a c d) (early e) Dep _ (λ dep p5.
+    require-each (InForm a c d) (early f) Arr _ (λ arr p6.
+    require-each (InForm a c d) (class_in g) Class _ (λ class p7.
+    require-each (InForm a c d) (flag_in h) Board _ (λ board p8.
+    require-each (InForm a c d) (flag_in j) Exit _ (λ exit p9.
+    require-each (InForm a c d) (optional_seconds_of k) Change _ (λ change p10 r q.
     let low : step ≤ 999999999 = at_some (λ (n : ℕ). n ≤ 999999999) (whole_of 999999999 b) step (whole_bound 999999999 b) p2 in
     let early_arr : arr < end_of_arrivals = at_some (λ (n : ℕ). n < end_of_arrivals) (early f) arr (end_bound (moment_at f)) p6 in
     let small = at_some (λ (x : Option ℕ). IfSome x (λ s. s ≤ 86400)) (optional_seconds_of k) change (change_if (length k == 0) (whole_of 86400 k) (whole_bound 86400 k)) p10 in

@@ -4,12 +4,13 @@ use Rattle.std.proofs.Common.{Option, Some, None, IfSome, if◌then◌else◌, r
 use Rattle.std.proofs.lemmas.Bool.{cases_lt, ltb-false, or_parts}
 use Rattle.std.proofs.lemmas.Bool.Decides.{nat_tests}
 use Rattle.std.proofs.lemmas.Option.{slice_get_within}
+use Rattle.std.specs.Option.{option_or}
 use Rattle.plan_model.proofs.Links.{AreLinks-none}
 use Rattle.plan_model.specs.Parts.{Parts}
 use Rattle.plan_model.specs.Rows.{IsValidRow}
 use Rattle.plan_model.specs.Network.{IsValid, IsValidConnection, AreLinks, count, connection, no_connection, row_of, run_of, step_of}
 use Rattle.plan_model.proofs.Local.{FitsNext, IsLocallyValid, IsValid-from_local}
-use Rattle.csv_rows.specs.First.{or_else, first_below, any_below}
+use Rattle.csv_rows.specs.First.{first_below, any_below}
 use Rattle.delay_table.specs.DelayLists.{DelayLists}
 use Rattle.delay_table.specs.Slots.{AreDelays}
 use Rattle.delay_table.proofs.ClassBounds.{class_for-inside}
@@ -33,7 +34,7 @@ use Rattle.cut_file.proofs.FormFacts.{row_in_form}
 use Rattle.cut_file.proofs.Occurs.{run_occurs, few_places}
 use Rattle.cut_file.proofs.ChangeFacts.{longest-zero, longest-suc}
 
-none_both : (a b : Option CutFault) → or_else a b ≡ None → (a ≡ None) × (b ≡ None)
+none_both : (a b : Option CutFault) → option_or a b ≡ None → (a ≡ None) × (b ≡ None)
 none_both None b h = (refl, h)
 none_both (Some x) b h = absurd (cc)
 
@@ -50,11 +51,11 @@ pub record HasNone (t : List (List (List ℕ))) (limit : ℕ) : Type 0 where
 has_none : (t : List (List (List ℕ))) (limit : ℕ) → first_fault t limit ≡ None → HasNone t limit
 unfolding first_fault
 has_none t limit h =
-    let a = none_both (missing_column t) (or_else (too_many_rows t limit)
-    (or_else (first_below (bad_field t) (row_count t)) (or_else (first_below (repeated_step t) (row_count t)) (first_below (run_fault t) (row_count t))))) h in
-    let b = none_both (too_many_rows t limit) (or_else (first_below (bad_field t) (row_count t))
-    (or_else (first_below (repeated_step t) (row_count t)) (first_below (run_fault t) (row_count t)))) a.1 in
-    let c = none_both (first_below (bad_field t) (row_count t)) (or_else (first_below (repeated_step t) (row_count t)) (first_below (run_fault t) (row_count t))) b.1 in
+    let a = none_both (missing_column t) (option_or (too_many_rows t limit)
+    (option_or (first_below (bad_field t) (row_count t)) (option_or (first_below (repeated_step t) (row_count t)) (first_below (run_fault t) (row_count t))))) h in
+    let b = none_both (too_many_rows t limit) (option_or (first_below (bad_field t) (row_count t))
+    (option_or (first_below (repeated_step t) (row_count t)) (first_below (run_fault t) (row_count t)))) a.1 in
+    let c = none_both (first_below (bad_field t) (row_count t)) (option_or (first_below (repeated_step t) (row_count t)) (first_below (run_fault t) (row_count t))) b.1 in
     let d = none_both (first_below (repeated_step t) (row_count t)) (first_below (run_fault t) (row_count t)) c.1 in
     record { few = ltb-false limit (row_count t) (if_none (nat_lt limit (row_count t)) (TooManyRows (row_count t)) None b.0).0; fields = c.0; steps = d.0; runs = d.1 }
 

@@ -1,6 +1,6 @@
 -- The rows of a cut file by the numbers of their names.
 use Rattle.std.specs.Prelude.{◌≡◌, ℕ, zero, suc, List, [], ◌∷◌, ◌++◌, slice_get, Option, Some, None, is_some, is_none, if◌then◌else◌}
-use Rattle.csv_rows.specs.First.{or_else}
+use Rattle.std.specs.Option.{option_or}
 use Rattle.csv_rows.specs.declared.columns.Column.{Column}
 use Rattle.cut_file.specs.declared.faults.CutFault.{CutFault}
 use Rattle.cut_file.specs.declared.faults.CutFault.TheVariants.{MissingColumn}
@@ -55,4 +55,4 @@ abbrev pub lack : Option ℕ → Column → Option CutFault
 lack place column = if is_none place then Some (MissingColumn column) else None
 
 abbrev pub missing_in : Columns → Option CutFault
-missing_in c = or_else (lack c.run Run) (or_else (lack c.step Step) (or_else (lack c.from From) (or_else (lack c.to To) (or_else (lack c.dep Dep) (lack c.arr Arr)))))
+missing_in c = option_or (lack c.run Run) (option_or (lack c.step Step) (option_or (lack c.from From) (option_or (lack c.to To) (option_or (lack c.dep Dep) (lack c.arr Arr)))))

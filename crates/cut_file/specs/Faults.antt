@@ -1,9 +1,10 @@
 -- The faults of a cut file, and which comes first.
 use Rattle.std.specs.Prelude.{ℕ, ◌+◌, ◌==◌, nat_lt, Bool, false, not, ◌&&◌, ◌||◌, List, [], Option, Some, None, Result, Ok, Err, is_none, if◌then◌else◌}
 use Rattle.std.specs.Str.{bytes_eq}
+use Rattle.std.specs.Option.{option_or}
 use Rattle.csv_rows.specs.declared.columns.Column.{Column}
 use Rattle.csv_rows.specs.declared.columns.Column.TheVariants.{Run, Step, From, To, Dep, Arr}
-use Rattle.csv_rows.specs.First.{or_else, first_below, any_below}
+use Rattle.csv_rows.specs.First.{first_below, any_below}
 use Rattle.csv_rows.specs.Tables.{place_of, row_count}
 use Rattle.cut_file.specs.declared.faults.CutFault.{CutFault}
 use Rattle.cut_file.specs.declared.faults.CutFault.TheVariants.{MissingColumn, TooManyRows, BadField, DuplicateStep, Backward, Broken}
@@ -14,7 +15,7 @@ lacks t column = if is_none (place_of column t) then Some (MissingColumn column)
 
 -- the first required column that is not there
 abbrev pub missing_column : List (List (List ℕ)) → Option CutFault
-missing_column t = or_else (lacks t Run) (or_else (lacks t Step) (or_else (lacks t From) (or_else (lacks t To) (or_else (lacks t Dep) (lacks t Arr)))))
+missing_column t = option_or (lacks t Run) (option_or (lacks t Step) (option_or (lacks t From) (option_or (lacks t To) (option_or (lacks t Dep) (lacks t Arr)))))
 
 abbrev pub too_many_rows : List (List (List ℕ)) → ℕ → Option CutFault
 too_many_rows t limit = if nat_lt limit (row_count t) then Some (TooManyRows (row_count t)) else None
@@ -65,5 +66,5 @@ run_fault t i = if goes_back t i then Some (Backward (i + 2)) else if is_broken 
 -- the first of all faults
 unfoldable pub first_fault : List (List (List ℕ)) → ℕ → Option CutFault
 first_fault t limit =
-    or_else (missing_column t) (or_else (too_many_rows t limit) (or_else (first_below (bad_field t) (row_count t))
-    (or_else (first_below (repeated_step t) (row_count t)) (first_below (run_fault t) (row_count t)))))
+    option_or (missing_column t) (option_or (too_many_rows t limit) (option_or (first_below (bad_field t) (row_count t))
+    (option_or (first_below (repeated_step t) (row_count t)) (first_below (run_fault t) (row_count t)))))

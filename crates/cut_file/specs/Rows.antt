@@ -1,10 +1,10 @@
 -- The rows of a cut file.
 use Rattle.std.specs.Prelude.{ℕ, Bool, List, Option, Result, Ok}
+use Rattle.plan_model.specs.Results.{require}
 use Rattle.clock_text.specs.Digits.{optional_seconds_of, whole_of}
 use Rattle.csv_rows.specs.declared.columns.Column.{Column}
 use Rattle.csv_rows.specs.declared.columns.Column.TheVariants.{Class, Run, Step, From, To, Dep, Arr, Board, Exit, Change}
 use Rattle.csv_rows.specs.Tables.{field}
-use Rattle.csv_rows.specs.First.{read}
 use Rattle.csv_rows.specs.Names.{name_in}
 use Rattle.cut_file.specs.Forms.{early, class_in, flag_in}
 
@@ -24,16 +24,16 @@ pub record Row : Type 0 where
 -- the row of these fields, or the first column that is not of its form
 abbrev pub row_from : (run step from to dep arr class board exit change : List ℕ) → Result Row Column
 row_from run step from to dep arr class board exit change =
-    read (name_in run) Run (λ run'.
-    read (whole_of 999999999 step) Step (λ step'.
-    read (name_in from) From (λ from'.
-    read (name_in to) To (λ to'.
-    read (early dep) Dep (λ dep'.
-    read (early arr) Arr (λ arr'.
-    read (class_in class) Class (λ class'.
-    read (flag_in board) Board (λ board'.
-    read (flag_in exit) Exit (λ exit'.
-    read (optional_seconds_of change) Change (λ change'.
+    require (name_in run) Run (λ run'.
+    require (whole_of 999999999 step) Step (λ step'.
+    require (name_in from) From (λ from'.
+    require (name_in to) To (λ to'.
+    require (early dep) Dep (λ dep'.
+    require (early arr) Arr (λ arr'.
+    require (class_in class) Class (λ class'.
+    require (flag_in board) Board (λ board'.
+    require (flag_in exit) Exit (λ exit'.
+    require (optional_seconds_of change) Change (λ change'.
     Ok (record { run = run'; step = step'; from = from'; to = to'; dep = dep'; arr = arr'; class = class'; board = board'; exit = exit'; change = change' })))))))))))
 
 -- the row i of the table

@@ -57,10 +57,7 @@ pub(crate) fn read_checked(alloc: Global, rows: &Rows, limits: &Limits) -> Resul
     if limits.cut_rows < count {
         return Err(CutFault::TooManyRows(count));
     }
-    let cut = match read_rows(alloc, rows, &columns) {
-        Ok(cut) => cut,
-        Err(fault) => return Err(fault),
-    };
+    let cut = read_rows(alloc, rows, &columns)?;
     let keys = match sorted_keys(alloc, cut.rows.as_slice()) {
         Ok(keys) => keys,
         Err(_) => return Err(CutFault::NoMemory),

@@ -6,7 +6,7 @@ ghost use Rattle.cut_file.specs.Read.{IsRead};
 ghost use Rattle.cut_file.specs.Networks.{IsNetwork};
 ghost use Rattle.cut_file.specs.CutNetwork.{IsCutNetwork};
 
-use crate::checked::read_checked;
+use crate::checked::{Checked, read_checked};
 use crate::faults::CutFault;
 use crate::networks::{changes_of, connections_of};
 use crate::rows::CutRow;
@@ -56,14 +56,12 @@ pub fn read_cut(alloc: Global, rows: &Rows, limits: &Limits) -> Result<CutTable,
     ensures fault { IfErr result (λ f. f ≢ CutFault.NoMemory
         → first_fault rows.now limits.now.cut_rows ≡ Some f) }
 {
-    match read_checked(alloc, rows, limits) {
-        Err(fault) => Err(fault),
-        Ok(checked) => Ok(CutTable {
-            names: checked.cut.names,
-            rows: checked.cut.rows,
-            keys: checked.keys,
-        }),
-    }
+    let Checked { cut, keys } = read_checked(alloc, rows, limits)?;
+    Ok(CutTable {
+        names: cut.names,
+        rows: cut.rows,
+        keys,
+    })
 }
 
 impl CutTable {

@@ -1,7 +1,7 @@
 -- The class of a connection is one of those of the table.
 use Rattle.std.proofs.Common.{◌≡◌, ℕ, ◌+◌, ◌<◌, ◌==◌, List, length, slice_index, Option, Some, None, IfSome, option_map, if◌then◌else◌, refl, subst, arith}
 use Rattle.std.specs.Prelude.{unwrap_or}
-use Rattle.csv_rows.specs.First.{or_else}
+use Rattle.std.specs.Option.{option_or}
 use Rattle.csv_rows.proofs.FirstLemmas.{first-is}
 use Rattle.delay_table.specs.DelayLists.{DelayLists, class_for, hour_class, hour_of, other_class, route_class, type_class, type_place}
 use Rattle.delay_table.specs.Groups.{Group, place_of}
@@ -13,7 +13,7 @@ module _ (n : ℕ) where
   abbrev pub Is : Option ℕ → Type 0
   Is o = IfSome o (λ k. k < n)
 
-  pub either : (a b : Option ℕ) → Is a → Is b → Is (or_else a b)
+  pub either : (a b : Option ℕ) → Is a → Is b → Is (option_or a b)
   either None b h k = k
   either (Some x) b h k = h
 
@@ -65,6 +65,6 @@ module _ (d : DelayLists) (s : AreDelays d) where
       let D = type_class d class in
       let E = hour_class d None hour in
       let last = either n D E (type-class-inside class) (other-inside (record { class = None; route = None; hour = Some hour })) in
-      let hours = either n C (or_else D E) (other-inside (record { class = class; route = None; hour = Some hour })) last in
-      let routes = either n B (or_else C (or_else D E)) (route-inside route None) hours in
-      chosen n (or_else A (or_else B (or_else C (or_else D E)))) some (either n A (or_else B (or_else C (or_else D E))) (route-inside route (Some hour)) routes)
+      let hours = either n C (option_or D E) (other-inside (record { class = class; route = None; hour = Some hour })) last in
+      let routes = either n B (option_or C (option_or D E)) (route-inside route None) hours in
+      chosen n (option_or A (option_or B (option_or C (option_or D E)))) some (either n A (option_or B (option_or C (option_or D E))) (route-inside route (Some hour)) routes)

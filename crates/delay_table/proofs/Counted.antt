@@ -4,10 +4,11 @@ use Rattle.std.proofs.lemmas.Bool.Decides.{nat_tests}
 use Rattle.plan_model.specs.declared.model.Outcome.{Outcome}
 use Rattle.csv_rows.specs.declared.columns.Column.{Column}
 use Rattle.csv_rows.specs.declared.columns.Column.TheVariants.{Class, Delay, Weight}
-use Rattle.csv_rows.specs.First.{or_else, first_below}
+use Rattle.csv_rows.specs.First.{first_below}
 use Rattle.csv_rows.specs.Tables.{place_of, row_count}
 use Rattle.csv_rows.proofs.FirstLemmas.{first-is}
 use Rattle.std.specs.Prelude.{is_none}
+use Rattle.std.specs.Option.{option_or}
 use Rattle.delay_table.specs.declared.faults.DelayFault.{DelayFault}
 use Rattle.delay_table.specs.declared.faults.DelayFault.TheVariants.{MissingColumn, TooManyRows, GroupRows, NotRising, TooManyClasses, WeightSum, GroupSum}
 use Rattle.delay_table.specs.Bounds.{end_of_types, most_groups, most_rows}
@@ -19,7 +20,7 @@ use Rattle.delay_table.specs.Delays.{no_default_of, other_sum, outcomes, type_su
 abbrev pub IsOther : Option DelayFault → Type 0
 IsOther o = (n : ℕ) → o ≡ Some (TooManyClasses n) → ⊥
 
-either : (a b : Option DelayFault) → IsOther a → IsOther b → IsOther (or_else a b)
+either : (a b : Option DelayFault) → IsOther a → IsOther b → IsOther (option_or a b)
 either None b h k = k
 either (Some e) b h k = h
 
@@ -41,7 +42,7 @@ default-other : (r : List Outcome) → IsOther (no_default_of r)
 default-other [] n e = absurd (cc)
 default-other (o ∷ os) n e = absurd (cc)
 
-counted : (b : Bool) (count n : ℕ) (rest : Option DelayFault) → IsOther rest → or_else (if b then Some (TooManyClasses count) else None) rest ≡ Some (TooManyClasses n) → (n ≡ count) × (b ≡ true)
+counted : (b : Bool) (count n : ℕ) (rest : Option DelayFault) → IsOther rest → option_or (if b then Some (TooManyClasses count) else None) rest ≡ Some (TooManyClasses n) → (n ≡ count) × (b ≡ true)
 counted true count n rest h e = (cc, refl)
 counted false count n rest h e = absurd (h n e)
 
@@ -54,12 +55,12 @@ told-count rows groups line_of n h =
     let sums = first_below (type_sum_at rows types) (length types) in
     let lines = first_below (group_sum_at rows groups line_of) (length groups) in
     let last = no_default_of (class_rows rows None) in
-    let rest : IsOther (or_else (class_sum rows None) (or_else sums (or_else lines last))) =
-    either (class_sum rows None) (or_else sums (or_else lines last)) (class-other rows None)
-    (either sums (or_else lines last) (first (type_sum_at rows types) (length types) (λ k. class-other rows (Some (slice_index types k))))
+    let rest : IsOther (option_or (class_sum rows None) (option_or sums (option_or lines last))) =
+    either (class_sum rows None) (option_or sums (option_or lines last)) (class-other rows None)
+    (either sums (option_or lines last) (first (type_sum_at rows types) (length types) (λ k. class-other rows (Some (slice_index types k))))
     (either lines last (first (group_sum_at rows groups line_of) (length groups) (λ k. group_if (is_plain (group_in groups k)) (line_of k) (other_sum (rows (group_in groups k)))))
     (default-other (class_rows rows None)))) in
-    let w = counted (nat_lt most_groups (length groups)) (length groups) n (or_else (class_sum rows None) (or_else sums (or_else lines last))) rest h in
+    let w = counted (nat_lt most_groups (length groups)) (length groups) n (option_or (class_sum rows None) (option_or sums (option_or lines last))) rest h in
     (w.0, omega (arith, w.0, passes (length groups) w.1))
 
 column_if : (b : Bool) (column : Column) → IsOther (if b then Some (MissingColumn column) else None)
@@ -68,7 +69,7 @@ column_if false column n e = absurd (cc)
 
 pub column-other : (t : List (List (List ℕ))) → IsOther (missing_column t)
 column-other t =
-    either (lacks t Class) (or_else (lacks t Delay) (lacks t Weight)) (column_if (is_none (place_of Class t)) Class)
+    either (lacks t Class) (option_or (lacks t Delay) (lacks t Weight)) (column_if (is_none (place_of Class t)) Class)
     (either (lacks t Delay) (lacks t Weight) (column_if (is_none (place_of Delay t)) Delay) (column_if (is_none (place_of Weight t)) Weight))
 
 row_if : (many rising plain : Bool) (a b c : DelayFault) → IsOther (Some a) → IsOther (Some b) → IsOther (Some c)

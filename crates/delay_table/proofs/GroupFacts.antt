@@ -5,7 +5,8 @@ use Rattle.std.specs.Str.{bytes_eq}
 use Rattle.std.proofs.lemmas.Bool.{cases_lt, cases_Bool, eqb-true, eq-eqb, and_from, and_parts}
 use Rattle.std.proofs.lemmas.List.{get_or_append_left, get_or_push}
 use Rattle.std.proofs.lemmas.Slice.Eq.{bytes_eq-Decides}
-use Rattle.csv_rows.specs.First.{or_else, first_below}
+use Rattle.std.specs.Option.{option_or}
+use Rattle.csv_rows.specs.First.{first_below}
 use Rattle.csv_rows.proofs.FirstLemmas.{first-at, first-is, first-none, first-same, first-suc, none-each}
 use Rattle.delay_table.specs.Groups.{Group, same_if, same_number, same_group, of_class, group_in, place_of}
 use Rattle.delay_table.specs.Read.{AreApart}
@@ -100,7 +101,7 @@ place-at groups apart k l =
     place-first (group_in groups k) groups k l refl (λ j less. false-same (group_in groups j) (group_in groups k) (apart j k less l))
 
 -- one more group
-pub place-push : (group : Group) (groups : List Group) (x : Group) → place_of group (groups ++ x ∷ []) ≡ or_else (place_of group groups) (if same_group x group then Some (length groups) else None)
+pub place-push : (group : Group) (groups : List Group) (x : Group) → place_of group (groups ++ x ∷ []) ≡ option_or (place_of group groups) (if same_group x group then Some (length groups) else None)
 unfolding place_of place_test
 place-push group groups x =
     let n = length groups in
@@ -108,7 +109,7 @@ place-push group groups x =
     let f : ℕ → Option ℕ = place_test group (groups ++ x ∷ []) in
     ap (first_below f) size
     ∙ rw add-one (first-suc f n)
-    ∙ ap₂ or_else
+    ∙ ap₂ option_or
     (first-same f (place_test group groups) n (λ k l. ap (λ (y : Group). if same_group y group then Some k else None) (get_or_append_left groups (x ∷ []) (of_class None) k l)))
     (ap (λ (y : Group). if same_group y group then Some n else None) (get_or_push groups x (of_class None) n refl))
 

@@ -4,9 +4,10 @@ use Rattle.std.proofs.Common.{option_map, if◌then◌else◌, refl, sym, ap, �
 use Rattle.std.proofs.lemmas.List.{get_or_default, length-map}
 use Rattle.std.proofs.lemmas.List.Elements.{All-cons, All-append, All-map}
 use Rattle.std.proofs.lemmas.Bool.{eqb-true, ltb-false}
+use Rattle.std.specs.Option.{option_or}
 use Rattle.plan_model.specs.declared.model.Outcome.{Outcome}
 use Rattle.plan_model.specs.Rows.{IsValidRow}
-use Rattle.csv_rows.specs.First.{or_else, first_below}
+use Rattle.csv_rows.specs.First.{first_below}
 use Rattle.csv_rows.proofs.FirstLemmas.{none-both, none-each}
 use Rattle.delay_table.specs.declared.faults.DelayFault.{DelayFault}
 use Rattle.delay_table.specs.declared.faults.DelayFault.TheVariants.{TooManyClasses, WeightSum, GroupSum}
@@ -78,9 +79,9 @@ module _ (groups : List Group) (read : List GroupRows) (is : IsRead groups read)
 
   parts : (too_many_classes (length groups) ≡ None) × (class_sum own None ≡ None) × (types_fault ≡ None) × (others_fault ≡ None) × (default_fault ≡ None)
   parts =
-      let a = none-both (too_many_classes (length groups)) (or_else (class_sum own None) (or_else types_fault (or_else others_fault default_fault))) sound in
-      let b = none-both (class_sum own None) (or_else types_fault (or_else others_fault default_fault)) a.1 in
-      let c = none-both types_fault (or_else others_fault default_fault) b.1 in
+      let a = none-both (too_many_classes (length groups)) (option_or (class_sum own None) (option_or types_fault (option_or others_fault default_fault))) sound in
+      let b = none-both (class_sum own None) (option_or types_fault (option_or others_fault default_fault)) a.1 in
+      let c = none-both types_fault (option_or others_fault default_fault) b.1 in
       let d = none-both others_fault default_fault c.1 in
       (a.0, b.0, c.0, d.0, d.1)
 
@@ -168,9 +169,9 @@ groups-same t n groups rows r =
     first-same (group_sum_at (outcomes t n) groups (line_at rows)) (group_sum_at (outcomes t n) groups (first_line t n)) (length groups)
     (λ k l. ap (λ m. group_sum (group_in groups k) m (outcomes t n (group_in groups k))) (r.lines k l)) in
     ap (λ rs. groups_fault rs groups (line_at rows)) same
-    ∙ ap (λ o. or_else (too_many_classes (length groups)) (or_else (class_sum (outcomes t n) None)
-    (or_else (first_below (type_sum_at (outcomes t n) (named (outcomes t n) end_of_types)) (length (named (outcomes t n) end_of_types)))
-    (or_else o (no_default_of (class_rows (outcomes t n) None)))))) lines
+    ∙ ap (λ o. option_or (too_many_classes (length groups)) (option_or (class_sum (outcomes t n) None)
+    (option_or (first_below (type_sum_at (outcomes t n) (named (outcomes t n) end_of_types)) (length (named (outcomes t n) end_of_types)))
+    (option_or o (no_default_of (class_rows (outcomes t n) None)))))) lines
     ∙ ap (λ gs. groups_fault (outcomes t n) gs (first_line t n)) r.are
 
 groups-of : (t : List (List (List ℕ))) → groups_at t (firsts t (row_count t)) ≡ groups_of t
@@ -187,19 +188,19 @@ last_fault t = groups_fault (outcomes t (row_count t)) (groups_of t) (first_line
 
 pub column-first : (t : List (List (List ℕ))) (e : DelayFault) → Some e ≡ missing_column t → first_fault t ≡ Some e
 unfolding first_fault
-column-first t e h = ap (λ o. or_else o (or_else (first_below (line_fault t) (row_count t)) (last_fault t))) (sym h)
+column-first t e h = ap (λ o. option_or o (option_or (first_below (line_fault t) (row_count t)) (last_fault t))) (sym h)
 
 pub line-first : (t : List (List (List ℕ))) (e : DelayFault) → None ≡ missing_column t → first_below (line_fault t) (row_count t) ≡ Some e → first_fault t ≡ Some e
 unfolding first_fault
 line-first t e h k =
-    ap (λ o. or_else o (or_else (first_below (line_fault t) (row_count t)) (last_fault t))) (sym h) ∙ ap (λ o. or_else o (last_fault t)) k
+    ap (λ o. option_or o (option_or (first_below (line_fault t) (row_count t)) (last_fault t))) (sym h) ∙ ap (λ o. option_or o (last_fault t)) k
 
 pub fault-same : (t : List (List (List ℕ))) (groups : List Group) (rows : List GroupRows) → None ≡ missing_column t
     → first_below (line_fault t) (row_count t) ≡ None → IsReadTo t (row_count t) groups rows
     → groups_fault (rows_of groups rows) groups (line_at rows) ≡ first_fault t
 unfolding first_fault
 fault-same t groups rows h k r =
-    sym (ap (λ o. or_else o (or_else (first_below (line_fault t) (row_count t)) (last_fault t))) (sym h) ∙ ap (λ o. or_else o (last_fault t)) k
+    sym (ap (λ o. option_or o (option_or (first_below (line_fault t) (row_count t)) (last_fault t))) (sym h) ∙ ap (λ o. option_or o (last_fault t)) k
     ∙ ap (λ gs. groups_fault (outcomes t (row_count t)) gs (first_line t (row_count t))) (sym (groups-of t)) ∙ sym (groups-same t (row_count t) groups rows r))
 
 -- there are as many groups as are read

@@ -7,9 +7,9 @@ use Rattle.std.proofs.lemmas.Option.{slice_get_within, get_or_from_slice_get}
 use Rattle.plan_model.specs.declared.model.Outcome.{Outcome}
 use Rattle.plan_model.specs.Rows.{IsValidRow}
 use Rattle.csv_rows.proofs.FirstLemmas.{first-none, first-at}
-use Rattle.csv_rows.specs.First.{or_else}
 use Rattle.delay_table.specs.DelayLists.{DelayLists, class_for, hour_class, hour_of, route_class, type_class, type_place}
 use Rattle.std.specs.Prelude.{unwrap_or}
+use Rattle.std.specs.Option.{option_or}
 use Rattle.delay_table.specs.Slots.{AreDelays, IsClassOf}
 
 -- not found among types that rise
@@ -71,16 +71,16 @@ class-some d s route k h e =
     ap Some n ∙ sym (ap (option_map (λ n. n + 1)) ((class-place d.types s.rising route k h).1 (k - 1) n))
 
 -- the first that is there
-pub pick : (o rest : Option ℕ) (x : ℕ) → Some x ≡ o → Some x ≡ or_else o rest
-pick o rest x e = ap (λ p. or_else p rest) e
+pub pick : (o rest : Option ℕ) (x : ℕ) → Some x ≡ o → Some x ≡ option_or o rest
+pick o rest x e = ap (λ p. option_or p rest) e
 
-pub skip : (o rest answer : Option ℕ) → None ≡ o → answer ≡ rest → answer ≡ or_else o rest
-skip o rest answer e f = f ∙ ap (λ p. or_else p rest) e
+pub skip : (o rest answer : Option ℕ) → None ≡ o → answer ≡ rest → answer ≡ option_or o rest
+skip o rest answer e f = f ∙ ap (λ p. option_or p rest) e
 
 -- the class by an hour that is told
 abbrev by_hour : DelayLists → Option ℕ → Option (List ℕ) → ℕ → ℕ
 by_hour d class route hour =
-    unwrap_or (or_else (route_class d route (Some hour)) (or_else (route_class d route None) (or_else (hour_class d class hour) (or_else (type_class d class) (hour_class d None hour))))) 0
+    unwrap_or (option_or (route_class d route (Some hour)) (option_or (route_class d route None) (option_or (hour_class d class hour) (option_or (type_class d class) (hour_class d None hour))))) 0
 
 module _ (d : DelayLists) (class own : Option ℕ) (route : Option (List ℕ)) (hour arr : ℕ) (same : class ≡ own) (is : hour ≡ hour_of arr) where
   told : (answer : ℕ) → answer ≡ by_hour d class route hour → answer ≡ class_for d own route arr
@@ -103,18 +103,19 @@ module _ (d : DelayLists) (class own : Option ℕ) (route : Option (List ℕ)) (
   E = hour_class d None hour
 
   pub first-class : (x : ℕ) → Some x ≡ A → x ≡ class_for d own route arr
-  first-class x e = told x (ap (λ o. unwrap_or o 0) (pick A (or_else B (or_else C (or_else D E))) x e))
+  first-class x e = told x (ap (λ o. unwrap_or o 0) (pick A (option_or B (option_or C (option_or D E))) x e))
 
   pub second-class : (x : ℕ) → None ≡ A → Some x ≡ B → x ≡ class_for d own route arr
-  second-class x a e = told x (ap (λ o. unwrap_or o 0) (skip A (or_else B (or_else C (or_else D E))) (Some x) a (pick B (or_else C (or_else D E)) x e)))
+  second-class x a e = told x (ap (λ o. unwrap_or o 0) (skip A (option_or B (option_or C (option_or D E))) (Some x) a (pick B (option_or C (option_or D E)) x e)))
 
   pub third-class : (x : ℕ) → None ≡ A → None ≡ B → Some x ≡ C → x ≡ class_for d own route arr
-  third-class x a b e = told x (ap (λ o. unwrap_or o 0) (skip A (or_else B (or_else C (or_else D E))) (Some x) a (skip B (or_else C (or_else D E)) (Some x) b (pick C (or_else D E) x e))))
+  third-class x a b e = told x (ap (λ o. unwrap_or o 0) (skip A (option_or B (option_or C (option_or D E))) (Some x) a (skip B (option_or C (option_or D E)) (Some x) b (pick C (option_or D E) x e))))
 
   pub fourth-class : (x : ℕ) → None ≡ A → None ≡ B → None ≡ C → Some x ≡ D → x ≡ class_for d own route arr
   fourth-class x a b c e =
-      told x (ap (λ o. unwrap_or o 0) (skip A (or_else B (or_else C (or_else D E))) (Some x) a (skip B (or_else C (or_else D E)) (Some x) b (skip C (or_else D E) (Some x) c (pick D E x e)))))
+      told x (ap (λ o. unwrap_or o 0) (skip A (option_or B (option_or C (option_or D E))) (Some x) a
+      (skip B (option_or C (option_or D E)) (Some x) b (skip C (option_or D E) (Some x) c (pick D E x e)))))
 
   pub last-class : (o : Option ℕ) → None ≡ A → None ≡ B → None ≡ C → None ≡ D → o ≡ E → unwrap_or o 0 ≡ class_for d own route arr
   last-class o a b c e f =
-      told (unwrap_or o 0) (ap (λ o. unwrap_or o 0) (skip A (or_else B (or_else C (or_else D E))) o a (skip B (or_else C (or_else D E)) o b (skip C (or_else D E) o c (skip D E o e f)))))
+      told (unwrap_or o 0) (ap (λ o. unwrap_or o 0) (skip A (option_or B (option_or C (option_or D E))) o a (skip B (option_or C (option_or D E)) o b (skip C (option_or D E) o c (skip D E o e f)))))

@@ -1,7 +1,8 @@
 -- A delay table as lists, and which of its classes a connection has.
 use Rattle.std.specs.Prelude.{ℕ, ◌+◌, ◌==◌, ◌/◌, ◌%◌, List, length, slice_index, Option, Some, None, option_map, unwrap_or, if◌then◌else◌}
+use Rattle.std.specs.Option.{option_or}
 use Rattle.plan_model.specs.declared.model.Outcome.{Outcome}
-use Rattle.csv_rows.specs.First.{or_else, first_below}
+use Rattle.csv_rows.specs.First.{first_below}
 use Rattle.delay_table.specs.Bounds.{seconds_per_hour, hours_per_day}
 use Rattle.delay_table.specs.Groups.{Group, place_of}
 
@@ -42,5 +43,5 @@ hour_class d class hour = other_class d (record { class = class; route = None; h
 -- there among those of this route and hour, this route, this route type and hour, this route type, `*` and this hour, and `*`
 unfoldable pub class_for : DelayLists → (class : Option ℕ) → (route : Option (List ℕ)) → (arr : ℕ) → ℕ
 class_for d class route arr =
-    unwrap_or (or_else (route_class d route (Some (hour_of arr))) (or_else (route_class d route None)
-    (or_else (hour_class d class (hour_of arr)) (or_else (type_class d class) (hour_class d None (hour_of arr)))))) 0
+    unwrap_or (option_or (route_class d route (Some (hour_of arr))) (option_or (route_class d route None)
+    (option_or (hour_class d class (hour_of arr)) (option_or (type_class d class) (hour_class d None (hour_of arr)))))) 0

@@ -2,6 +2,7 @@
 use Rattle.std.specs.Prelude.{ℕ, zero, suc, ◌+◌, ◌-◌, ◌==◌, nat_lt, nat_le, true, Bool, List, [], ◌∷◌, ◌++◌, length, map, sum_by, slice_get, slice_index, Option, Some}
 use Rattle.std.specs.Prelude.{None, option_map, is_none, if◌then◌else◌, codes}
 use Rattle.std.specs.Str.{bytes_eq}
+use Rattle.std.specs.Option.{option_or}
 use Rattle.clock_text.specs.Digits.{whole_of}
 use Rattle.plan_model.specs.declared.model.Outcome.{Outcome}
 use Rattle.plan_model.specs.Bounds.{seconds_per_day}
@@ -11,7 +12,7 @@ use Rattle.delay_table.specs.declared.faults.ClassName.{ClassName}
 use Rattle.delay_table.specs.declared.faults.ClassName.TheVariants.{Any, Route}
 use Rattle.delay_table.specs.declared.faults.DelayFault.{DelayFault}
 use Rattle.delay_table.specs.declared.faults.DelayFault.TheVariants.{MissingColumn, BadField, TooManyRows, GroupRows, NotRising, TooManyClasses, WeightSum, GroupSum, NoDefault}
-use Rattle.csv_rows.specs.First.{or_else, first_below}
+use Rattle.csv_rows.specs.First.{first_below}
 use Rattle.csv_rows.specs.Names.{name_in}
 use Rattle.csv_rows.specs.Tables.{place_of, field, row_count}
 use Rattle.delay_table.specs.Bounds.{most_rows, most_groups, last_type, end_of_types, whole_weight, last_hour}
@@ -89,7 +90,7 @@ abbrev pub lacks : List (List (List ℕ)) → Column → Option DelayFault
 lacks t column = if is_none (place_of column t) then Some (MissingColumn column) else None
 
 abbrev pub missing_column : List (List (List ℕ)) → Option DelayFault
-missing_column t = or_else (lacks t Class) (or_else (lacks t Delay) (lacks t Weight))
+missing_column t = option_or (lacks t Class) (option_or (lacks t Delay) (lacks t Weight))
 
 -- a delay is greater than that of the group's row before
 abbrev pub rises : Option Outcome → ℕ → Bool
@@ -195,10 +196,10 @@ others groups (suc n) = others groups n ++ if_other (group_in groups n) (group_i
 -- those of the others by their first lines
 abbrev pub groups_fault : (Group → List Outcome) → List Group → (ℕ → ℕ) → Option DelayFault
 groups_fault rows groups line_of =
-    or_else (too_many_classes (length groups))
-    (or_else (class_sum rows None)
-    (or_else (first_below (type_sum_at rows (named rows end_of_types)) (length (named rows end_of_types)))
-    (or_else (first_below (group_sum_at rows groups line_of) (length groups)) (no_default_of (class_rows rows None)))))
+    option_or (too_many_classes (length groups))
+    (option_or (class_sum rows None)
+    (option_or (first_below (type_sum_at rows (named rows end_of_types)) (length (named rows end_of_types)))
+    (option_or (first_below (group_sum_at rows groups line_of) (length groups)) (no_default_of (class_rows rows None)))))
 
 -- the first lines of the groups of the first n rows
 unfoldable pub first_line : List (List (List ℕ)) → ℕ → ℕ → ℕ
@@ -211,7 +212,7 @@ groups_of t = groups_at t (firsts t (row_count t))
 -- the first of all faults
 unfoldable pub first_fault : List (List (List ℕ)) → Option DelayFault
 first_fault t =
-    or_else (missing_column t) (or_else (first_below (line_fault t) (row_count t))
+    option_or (missing_column t) (option_or (first_below (line_fault t) (row_count t))
     (groups_fault (outcomes t (row_count t)) (groups_of t) (first_line t (row_count t))))
 
 -- the route types, the other groups, and the classes: that of `*`, and then those of the route types and of the other groups

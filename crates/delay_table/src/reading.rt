@@ -196,10 +196,7 @@ pub(crate) fn read_rows(
         let Some(line) = line_at(rows, i, columns) else {
             return Err(DelayFault::BadField(number));
         };
-        match read.add(alloc, &line, number) {
-            Ok(()) => {}
-            Err(fault) => return Err(fault),
-        }
+        read.add(alloc, &line, number)?;
     }
     Ok(read)
 }

@@ -199,10 +199,8 @@ impl DelayTable {
         if let Some(fault) = missing_column(rows) {
             return Err(fault);
         }
-        match read_rows(alloc, rows, &columns_of(rows)) {
-            Err(fault) => Err(fault),
-            Ok(read) => table_of(alloc, &read),
-        }
+        let read = read_rows(alloc, rows, &columns_of(rows))?;
+        table_of(alloc, &read)
     }
 
     /// The class of a route type: 0, that of `*`, where the table does not name it, and else its place among the named ones

@@ -6,12 +6,13 @@ use Rattle.csv_rows.specs.declared.feed_tables.FeedFault.{FeedFault}
 use Rattle.csv_rows.specs.Names.{name_in}
 use Rattle.csv_rows.specs.Spaces.{AreTrimmed}
 use Rattle.csv_rows.specs.Tables.{field_at}
-use Rattle.csv_rows.proofs.RowLemmas.{read_is, name_text}
+use Rattle.csv_rows.proofs.RowLemmas.{name_text}
 use Rattle.csv_rows.proofs.SpaceLemmas.{IsTrimmed-field}
 use Rattle.plan_model.specs.NameLists.{IsTrimmed}
 use Rattle.service_days.specs.declared.dates.DateColumns.{DateColumns}
 use Rattle.service_days.specs.Dates.{ServiceDate, date_from, date_columns, date_in, date_at_row}
 use Rattle.service_days.specs.Forms.{adds_in}
+use Rattle.plan_model.proofs.Results.{require-ok}
 
 -- the row by where the columns stand
 pub date_is : (t : List (List (List ℕ))) (c : DateColumns) (i : ℕ) (r : Result ServiceDate FeedFault) → c ≡ date_columns t → date_in t c i ≡ r → date_at_row t i ≡ r
@@ -21,9 +22,9 @@ date_is t c i r e h = ap (λ k. date_in t k i) (sym e) ∙ h
 -- the service of a row is its field
 service_is : (line : ℕ) (service date kind : List ℕ) (d : ServiceDate) → date_from line service date kind ≡ Ok d → d.service ≡ service
 service_is line service date kind d h =
-    let a = read_is (name_in service) _ _ d h in
-    let b = read_is (date_at date) _ _ d a.2 in
-    let k = read_is (adds_in kind) _ _ d b.2 in
+    let a = require-ok (name_in service) _ _ d h in
+    let b = require-ok (date_at date) _ _ d a.2 in
+    let k = require-ok (adds_in kind) _ _ d b.2 in
     let e : d.service ≡ a.0 = cc in
     e ∙ name_text service a.0 a.1
 

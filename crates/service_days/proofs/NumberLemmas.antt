@@ -4,18 +4,19 @@ use Rattle.std.proofs.Common.{sym, ap, ◌∙◌, subst, arith, ⊎_elim, bytes_
 use Rattle.std.specs.Ordering.{int_eq}
 use mathlib.Core.Bool.{beq}
 use Rattle.plan_model.specs.NameLists.{Adds}
-use Rattle.csv_rows.specs.First.{any_below, or_else}
+use Rattle.csv_rows.specs.First.{any_below}
 use Rattle.csv_rows.specs.Tables.{place_in}
 use Rattle.std.proofs.lemmas.List.{get_or_default, get_or_push}
 use Rattle.std.proofs.lemmas.Slice.Eq.{bytes_eq-Decides}
 use Rattle.std.proofs.lemmas.Bool.{cases_Bool, or_from, ne_eqb}
+use Rattle.std.specs.Option.{option_or}
 use Rattle.csv_rows.proofs.IdLemmas.{place-push, place-same, place-here, place-none}
 use Rattle.service_days.specs.declared.exceptions.Exception.{Exception}
 use Rattle.service_days.specs.Dates.{is_for, is_excepted, date_of}
 use Rattle.service_days.specs.Exceptions.{same, has, has_at}
 use Rattle.service_days.specs.Numbered.{AddsDate, AreNumbered}
 
-asks_or : (asks : Option ℕ → Bool) (n : ℕ) (o : Option ℕ) (b : Bool) → asks None ≡ false → asks (Some n) ≡ false → asks (or_else o (if b then Some n else None)) ≡ asks o
+asks_or : (asks : Option ℕ → Bool) (n : ℕ) (o : Option ℕ) (b : Bool) → asks None ≡ false → asks (Some n) ≡ false → asks (option_or o (if b then Some n else None)) ≡ asks o
 asks_or asks n (Some k) b h g = refl
 asks_or asks n None true h g = g ∙ sym h
 asks_or asks n None false h g = refl

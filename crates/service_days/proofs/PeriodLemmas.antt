@@ -9,10 +9,11 @@ use Rattle.csv_rows.proofs.ListLemmas.{length-list_below}
 use Rattle.csv_rows.specs.Names.{name_in}
 use Rattle.csv_rows.specs.Tables.{row_count, field}
 use Rattle.csv_rows.proofs.FirstLemmas.{none-each}
-use Rattle.csv_rows.proofs.RowLemmas.{read_ok, name_is}
+use Rattle.csv_rows.proofs.RowLemmas.{name_is}
 use Rattle.service_days.specs.declared.periods.Period.{Period}
 use Rattle.service_days.specs.declared.periods.PeriodColumns.{PeriodColumns}
 use Rattle.service_days.specs.Periods.{period_columns, period_in, period_at, bad_period}
+use Rattle.plan_model.proofs.Results.{result_err-require}
 
 -- the row by where the columns stand
 pub period_is : (t : List (List (List ℕ))) (c : PeriodColumns) (i : ℕ) (r : Result Period FeedFault) → c ≡ period_columns t → period_in t c i ≡ r → period_at t i ≡ r
@@ -23,7 +24,7 @@ period_is t c i r e h = ap (λ k. period_in t k i) (sym e) ∙ h
 pub periods_named : (t : List (List (List ℕ))) → first_below (bad_period t) (row_count t) ≡ None → (i : ℕ) → i < row_count t → name_in (field t ServiceId i) ≡ Some (field t ServiceId i)
 unfolding period_at
 periods_named t none i inside =
-    let w = read_ok _ _ _ (none-each (bad_period t) (row_count t) none i inside) in
+    let w = result_err-require _ _ _ (none-each (bad_period t) (row_count t) none i inside) in
     name_is (field t ServiceId i) w.0 w.1
 
 -- as many ids as rows

@@ -1,6 +1,7 @@
 -- The calendars of a folder, by what was read of each table.
 use Rattle.std.proofs.Common.{◌≡◌, ◌≢◌, ℕ, ◌&&◌, ◌==◌, Bool, true, false, List, Option, Some, None, Ok, Err, IfSome, IsOkAnd, if◌then◌else◌, refl, sym, ap, ap₂, ◌∙◌, subst}
 use Rattle.std.specs.Prelude.{Result}
+use Rattle.plan_model.specs.Results.{and_then}
 use Rattle.file_ports.specs.Ports.{Folder, file_at}
 use Rattle.csv_rows.specs.declared.feed_tables.Table.TheVariants as table
 use Rattle.csv_rows.specs.declared.feed_tables.FeedFault.{FeedFault}
@@ -14,7 +15,6 @@ use Rattle.service_days.specs.declared.exceptions.Exception.{Exception}
 use Rattle.csv_rows.specs.Tables.{row_count}
 use Rattle.service_days.specs.Numbered.{AreNumbered}
 use Rattle.service_days.specs.Services.{ServiceParts, runs}
-use Rattle.csv_rows.specs.RowFaults.{and_then}
 use Rattle.service_days.specs.Calendars.{Calendars, RunsBy, is_missing, both_of, calendar_from, dates_from, calendars_from, calendars_in, IsCalendar, AreDates}
 use Rattle.service_days.proofs.ActiveLemmas.{runs_is}
 

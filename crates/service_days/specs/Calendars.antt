@@ -1,5 +1,6 @@
 -- The calendars of a feed, and on which days a service is active (GTFS Schedule reference).
 use Rattle.std.specs.Prelude.{◌≡◌, ℕ, ℤ, ◌&&◌, ◌||◌, not, Bool, true, false, List, Option, None, Result, Ok, Err, IfSome, if◌then◌else◌}
+use Rattle.plan_model.specs.Results.{and_then, unless}
 use Rattle.csv_rows.specs.declared.feed_tables.Table.{Table}
 use Rattle.csv_rows.specs.declared.feed_tables.Table.TheVariants.{Calendar, CalendarDates}
 use Rattle.csv_rows.specs.declared.feed_tables.FeedFault.{FeedFault}
@@ -12,7 +13,7 @@ use Rattle.csv_rows.specs.declared.columns.Column.TheVariants.{ServiceId}
 use Rattle.csv_rows.specs.FeedTables.{table_of_fault}
 use Rattle.csv_rows.specs.First.{first_below, any_below}
 use Rattle.csv_rows.specs.Loading.{load_in, loaded_rows}
-use Rattle.csv_rows.specs.RowFaults.{and_then, unless, repeated_id}
+use Rattle.csv_rows.specs.RowFaults.{repeated_id}
 use Rattle.csv_rows.specs.Tables.{row_count, field}
 use Rattle.service_days.specs.Periods.{runs_in_row, service_ids, periods_of, calendar_fault}
 use Rattle.service_days.specs.declared.periods.Period.{Period}

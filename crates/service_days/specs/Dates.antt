@@ -3,15 +3,17 @@ use Rattle.std.specs.Prelude.{ℕ, ℤ, pos, ◌+◌, ◌&&◌, Bool, false, Lis
 use Rattle.std.specs.Option.{option_or}
 use Rattle.std.specs.Ordering.{int_eq}
 use Rattle.std.specs.Str.{bytes_eq}
+use Rattle.std.specs.Result.{result_err}
+use Rattle.plan_model.specs.Results.{require, value_or}
 use mathlib.Core.Bool.{beq}
 use Rattle.clock_text.specs.Times.{date_at}
 use Rattle.csv_rows.specs.declared.columns.Column.TheVariants.{ServiceId, Date, ExceptionType}
 use Rattle.csv_rows.specs.declared.feed_tables.Table.TheVariants.{CalendarDates}
 use Rattle.csv_rows.specs.declared.feed_tables.FeedFault.{FeedFault}
 use Rattle.csv_rows.specs.declared.feed_tables.FeedFault.TheVariants.{BadField}
-use Rattle.csv_rows.specs.First.{or_else, first_below, any_below, read}
+use Rattle.csv_rows.specs.First.{first_below, any_below}
 use Rattle.csv_rows.specs.Names.{name_in}
-use Rattle.csv_rows.specs.RowFaults.{fault_in, value_or, lack}
+use Rattle.csv_rows.specs.RowFaults.{lack}
 use Rattle.csv_rows.specs.Tables.{row_count, place_of, field_at}
 use Rattle.service_days.specs.declared.dates.DateColumns.{DateColumns}
 use Rattle.service_days.specs.Forms.{adds_in}
@@ -25,9 +27,9 @@ pub record ServiceDate : Type 0 where
 -- the exception of these fields, or the first that is not of its form
 abbrev pub date_from : ℕ → (service date kind : List ℕ) → Result ServiceDate FeedFault
 date_from line service date kind =
-    read (name_in service) (BadField CalendarDates line ServiceId) (λ service'.
-    read (date_at date) (BadField CalendarDates line Date) (λ day.
-    read (adds_in kind) (BadField CalendarDates line ExceptionType) (λ adds.
+    require (name_in service) (BadField CalendarDates line ServiceId) (λ service'.
+    require (date_at date) (BadField CalendarDates line Date) (λ day.
+    require (adds_in kind) (BadField CalendarDates line ExceptionType) (λ adds.
     Ok (record { service = service'; day = day; adds = adds }))))
 
 -- where the columns stand
@@ -43,7 +45,7 @@ date_at_row t i = date_in t (date_columns t) i
 
 -- the first field of row i that is not of its form
 abbrev pub bad_date : List (List (List ℕ)) → ℕ → Option FeedFault
-bad_date t i = fault_in (date_at_row t i)
+bad_date t i = result_err (date_at_row t i)
 
 -- the exception of a row whose fields are of their forms
 abbrev pub date_or_none : Result ServiceDate FeedFault → ServiceDate
@@ -67,4 +69,4 @@ missing_in c =
 
 -- the first fault of the exceptions
 unfoldable pub dates_fault : List (List (List ℕ)) → Option FeedFault
-dates_fault t = or_else (missing_in (date_columns t)) (first_below (bad_date t) (row_count t))
+dates_fault t = option_or (missing_in (date_columns t)) (first_below (bad_date t) (row_count t))

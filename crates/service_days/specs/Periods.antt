@@ -2,16 +2,18 @@
 use Rattle.std.specs.Prelude.{ℕ, ℤ, pos, ◌+◌, ◌==◌, ◌&&◌, int_le, Bool, false, List, Option, Result, Ok, Err, if◌then◌else◌}
 use Rattle.std.specs.Option.{option_or}
 use Rattle.std.specs.Str.{bytes_eq}
+use Rattle.std.specs.Result.{result_err}
+use Rattle.plan_model.specs.Results.{require, value_or}
 use Rattle.jiff_core.specs.Calendar.{weekday_number}
 use Rattle.clock_text.specs.Times.{date_at}
 use Rattle.csv_rows.specs.declared.columns.Column.TheVariants.{ServiceId, Monday, Tuesday, Wednesday, Thursday, Friday, Saturday, Sunday, StartDate, EndDate}
 use Rattle.csv_rows.specs.declared.feed_tables.Table.TheVariants.{Calendar}
 use Rattle.csv_rows.specs.declared.feed_tables.FeedFault.{FeedFault}
 use Rattle.csv_rows.specs.declared.feed_tables.FeedFault.TheVariants.{BadField}
-use Rattle.csv_rows.specs.First.{or_else, first_below, read}
+use Rattle.csv_rows.specs.First.{first_below}
 use Rattle.csv_rows.specs.Lists.{list_below}
 use Rattle.csv_rows.specs.Names.{name_in}
-use Rattle.csv_rows.specs.RowFaults.{fault_in, value_or, lack, repeated_id}
+use Rattle.csv_rows.specs.RowFaults.{lack, repeated_id}
 use Rattle.csv_rows.specs.Tables.{row_count, place_of, field_at, field}
 use Rattle.service_days.specs.declared.periods.Week.{Week}
 use Rattle.service_days.specs.declared.periods.Period.{Period}
@@ -31,13 +33,13 @@ runs_by p day = int_le p.first day && (int_le day p.last && flag_of p.week (week
 -- the flags of these fields, or the first that is not of its form
 abbrev pub week_from : ℕ → (monday tuesday wednesday thursday friday saturday sunday : List ℕ) → Result Week FeedFault
 week_from line monday tuesday wednesday thursday friday saturday sunday =
-    read (flag_in monday) (BadField Calendar line Monday) (λ mon.
-    read (flag_in tuesday) (BadField Calendar line Tuesday) (λ tue.
-    read (flag_in wednesday) (BadField Calendar line Wednesday) (λ wed.
-    read (flag_in thursday) (BadField Calendar line Thursday) (λ thu.
-    read (flag_in friday) (BadField Calendar line Friday) (λ fri.
-    read (flag_in saturday) (BadField Calendar line Saturday) (λ sat.
-    read (flag_in sunday) (BadField Calendar line Sunday) (λ sun.
+    require (flag_in monday) (BadField Calendar line Monday) (λ mon.
+    require (flag_in tuesday) (BadField Calendar line Tuesday) (λ tue.
+    require (flag_in wednesday) (BadField Calendar line Wednesday) (λ wed.
+    require (flag_in thursday) (BadField Calendar line Thursday) (λ thu.
+    require (flag_in friday) (BadField Calendar line Friday) (λ fri.
+    require (flag_in saturday) (BadField Calendar line Saturday) (λ sat.
+    require (flag_in sunday) (BadField Calendar line Sunday) (λ sun.
     Ok (record { monday = mon; tuesday = tue; wednesday = wed; thursday = thu; friday = fri; saturday = sat; sunday = sun }))))))))
 
 -- what is read after the flags
@@ -48,10 +50,10 @@ after_week (Err fault) rest = Err fault
 -- the period of these fields and flags, or the first that is not of its form
 abbrev pub period_from : ℕ → (service : List ℕ) → Result Week FeedFault → (first last : List ℕ) → Result Period FeedFault
 period_from line service week first last =
-    read (name_in service) (BadField Calendar line ServiceId) (λ _.
+    require (name_in service) (BadField Calendar line ServiceId) (λ _.
     after_week week (λ week'.
-    read (date_at first) (BadField Calendar line StartDate) (λ from.
-    read (date_at last) (BadField Calendar line EndDate) (λ to.
+    require (date_at first) (BadField Calendar line StartDate) (λ from.
+    require (date_at last) (BadField Calendar line EndDate) (λ to.
     Ok (record { week = week'; first = from; last = to })))))
 
 -- where the columns stand
@@ -83,7 +85,7 @@ period_at t i = period_in t (period_columns t) i
 
 -- the first field of row i that is not of its form
 abbrev pub bad_period : List (List (List ℕ)) → ℕ → Option FeedFault
-bad_period t i = fault_in (period_at t i)
+bad_period t i = result_err (period_at t i)
 
 -- the period of a row whose fields are of their forms
 abbrev pub period_or_none : Result Period FeedFault → Period
@@ -120,6 +122,6 @@ missing_in c =
 -- the first fault of the calendar
 unfoldable pub calendar_fault : List (List (List ℕ)) → Option FeedFault
 calendar_fault t =
-    or_else (missing_in (period_columns t))
-    (or_else (first_below (bad_period t) (row_count t))
+    option_or (missing_in (period_columns t))
+    (option_or (first_below (bad_period t) (row_count t))
     (first_below (repeated_id Calendar (field t ServiceId)) (row_count t)))

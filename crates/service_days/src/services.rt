@@ -67,16 +67,8 @@ impl Services {
         ensures path_cause { HasFeedPathCause (IsSome (F.files files.old)) folder.now
             (F.faults_of files.old) (F.faults_of files.new) result }
     {
-        let LoadedCalendar { missing, calendar } = match load_calendar(
-            alloc, files, folder, limits,
-        ) {
-            Ok(calendar) => calendar,
-            Err(fault) => return Err(fault),
-        };
-        let dates = match load_dates(alloc, files, folder, limits, calendar.ids) {
-            Ok(dates) => dates,
-            Err(fault) => return Err(fault),
-        };
+        let LoadedCalendar { missing, calendar } = load_calendar(alloc, files, folder, limits)?;
+        let dates = load_dates(alloc, files, folder, limits, calendar.ids)?;
         if missing && dates.missing {
             return Err(FeedFault::MissingTable(Table::Calendar));
         }

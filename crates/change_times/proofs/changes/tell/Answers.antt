@@ -1,7 +1,8 @@
 use Rattle.std.proofs.Common.{◌≡◌, ◌+◌, None, ℕ, refl, is_none, nat_eq, sym, ap, ◌∙◌, subst, arith}
 use Rattle.std.specs.HashMap.{get}
+use Rattle.std.specs.Result.{result_err}
+use Rattle.plan_model.specs.Results.{value_or}
 use Rattle.csv_rows.proofs.FaultLemmas.{if_raised}
-use Rattle.csv_rows.specs.RowFaults.{fault_in, value_or}
 use Rattle.csv_rows.specs.Tables.{row_count}
 use Rattle.csv_rows.proofs.FirstLemmas.{first-zero, first-next, first-at}
 use Rattle.change_times.specs.Transfers.{bad_transfer, told_by}
@@ -20,7 +21,7 @@ returns-in_err-transfer-clause-fault c = if_raised _ c.from_residual.result c.fr
     let feed = c.args.feed.now in
     let t = c.args.rows.now in
     first-at (bad_transfer feed t) c.loop-i.i (row_count t) _ (omega arith) c.loop-i.invariant.none
-    (ap fault_in (transfer_is feed t c.args.columns c.loop-i.i _ c.requires.columns c.in_err-transfer.ensures.fault)))
+    (ap result_err (transfer_is feed t c.args.columns c.loop-i.i _ c.requires.columns c.in_err-transfer.ensures.fault)))
 
 pub returns-clause-told : goal.returns-clause-told
 returns-clause-told c =
@@ -58,5 +59,5 @@ loop-i-preserved c =
         passed = count-next is_none (told_by feed t) i old_told.passed new_told.passed c.in_ok-transfer.transfer old.passed step.passed told;
         few = omega (arith, old.few, step.passed, one_at_most (is_none c.in_ok-transfer.transfer));
       };
-      none = first-next (bad_transfer feed t) i None c.loop-i.invariant.none (ap fault_in here);
+      none = first-next (bad_transfer feed t) i None c.loop-i.invariant.none (ap result_err here);
     }

@@ -5,7 +5,7 @@ use Rattle.gtfs_tables.specs.declared.frequencies.FrequencyRow.{FrequencyRow}
 use Rattle.connections.specs.Origins.{origin_of_day, moment_of}
 use Rattle.connections.proofs.ReachLemmas.{none_early_all}
 use Rattle.connections.proofs.runs.may_run.Goals as goal
-use Rattle.connections.specs.Window.{first_start}
+use Rattle.plan_model.specs.Bounds.{first_start}
 
 empty_is : (fs : List FrequencyRow) → length fs ≡ 0 → fs ≡ []
 empty_is [] h = refl

@@ -1,4 +1,5 @@
 use Rattle.std.proofs.Common.{◌∙◌, ap, sym, arith, Some, None}
+use Rattle.csv_rows.proofs.FaultLemmas.{if_raised}
 use Rattle.cut_file.specs.declared.faults.CutFault.TheVariants.{TooManyRows}
 use Rattle.cut_file.proofs.CheckedFacts.{column_first, count_first, rows_first, field_first, runs_here, read_here}
 use Rattle.cut_file.proofs.checked.read_checked.Goals as goal
@@ -12,31 +13,31 @@ returns-then-limits-count-clause-fault c = λ free.
     count_first c.args.rows.now c.args.limits.now.cut_rows c.columns_of-columns.result c.columns_of-columns.ensures c.in_default.ensures (omega arith)
     ∙ ap (λ n. Some (TooManyRows n)) (sym c.count-count.ensures.count)
 
-pub returns-in-Err-clause-fault : goal.returns-in-Err-clause-fault
-returns-in-Err-clause-fault c = λ free.
+pub returns-in_err-cut-clause-fault : goal.returns-in_err-cut-clause-fault
+returns-in_err-cut-clause-fault c = if_raised _ c.from_residual.result c.from_residual.ensures (λ free.
     rows_first c.args.rows.now c.args.limits.now.cut_rows c.columns_of-columns.result c.columns_of-columns.ensures c.in_default.ensures (omega arith)
-    ∙ field_first c.args.rows.now _ c.in-Err.fault (c.in-Err.ensures.err free)
+    ∙ field_first c.args.rows.now _ _ (c.in_err-cut.ensures.err free))
 
 pub returns-in-Some-run_fault-clause-fault : goal.returns-in-Some-run_fault-clause-fault
 returns-in-Some-run_fault-clause-fault c = λ free.
     let t = c.args.rows.now in
-    let cut = c.in-Ok.cut in
-    let e = c.in-Ok.ensures in
+    let cut = c.in_ok-cut.cut in
+    let e = c.in_ok-cut.ensures in
     rows_first t c.args.limits.now.cut_rows c.columns_of-columns.result c.columns_of-columns.ensures c.in_default.ensures (omega arith)
-    ∙ runs_here t cut.names.runs cut.names.places cut.rows.items c.as_slice-2.result.now c.in-Ok-sorted_keys.keys.items c.as_slice-3.result.now (Some c.in-Some-run_fault.fault)
+    ∙ runs_here t cut.names.runs cut.names.places cut.rows.items c.as_slice-2.result.now c.in-Ok.keys.items c.as_slice-3.result.now (Some c.in-Some-run_fault.fault)
     c.as_slice-2.ensures.value c.as_slice-3.ensures.value
-    (read_here t cut.names.runs cut.names.places cut.rows.items c.as_slice.result.now c.in-Ok-sorted_keys.keys.items e.runs e.places e.size e.each
-    c.as_slice.ensures.value c.in-Ok-sorted_keys.ensures.size c.in-Ok-sorted_keys.ensures.sorted)
+    (read_here t cut.names.runs cut.names.places cut.rows.items c.as_slice.result.now c.in-Ok.keys.items e.runs e.places e.size e.each
+    c.as_slice.ensures.value c.in-Ok.ensures.size c.in-Ok.ensures.sorted)
     e.none (λ t runs places read. c.run_fault.ensures t runs places read ∙ c.in-Some-run_fault.is)
 
 pub returns-in-None-clause-none : goal.returns-in-None-clause-none
 returns-in-None-clause-none c =
     let t = c.args.rows.now in
-    let cut = c.in-Ok.cut in
-    let e = c.in-Ok.ensures in
+    let cut = c.in_ok-cut.cut in
+    let e = c.in_ok-cut.ensures in
     rows_first t c.args.limits.now.cut_rows c.columns_of-columns.result c.columns_of-columns.ensures c.in_default.ensures (omega arith)
-    ∙ runs_here t cut.names.runs cut.names.places cut.rows.items c.as_slice-2.result.now c.in-Ok-sorted_keys.keys.items c.as_slice-3.result.now None
+    ∙ runs_here t cut.names.runs cut.names.places cut.rows.items c.as_slice-2.result.now c.in-Ok.keys.items c.as_slice-3.result.now None
     c.as_slice-2.ensures.value c.as_slice-3.ensures.value
-    (read_here t cut.names.runs cut.names.places cut.rows.items c.as_slice.result.now c.in-Ok-sorted_keys.keys.items e.runs e.places e.size e.each
-    c.as_slice.ensures.value c.in-Ok-sorted_keys.ensures.size c.in-Ok-sorted_keys.ensures.sorted)
+    (read_here t cut.names.runs cut.names.places cut.rows.items c.as_slice.result.now c.in-Ok.keys.items e.runs e.places e.size e.each
+    c.as_slice.ensures.value c.in-Ok.ensures.size c.in-Ok.ensures.sorted)
     e.none (λ t runs places read. c.run_fault.ensures t runs places read ∙ c.in-None.is)

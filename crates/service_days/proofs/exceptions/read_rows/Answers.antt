@@ -1,6 +1,6 @@
 use Rattle.std.proofs.Common.{None, sym, ap, subst, arith}
+use Rattle.std.specs.Result.{result_err}
 use Rattle.csv_rows.proofs.FaultLemmas.{if_raised}
-use Rattle.csv_rows.specs.RowFaults.{fault_in}
 use Rattle.csv_rows.specs.Tables.{row_count}
 use Rattle.csv_rows.proofs.FirstLemmas.{first-zero, first-next, first-at}
 use Rattle.service_days.specs.Dates.{ServiceDate, bad_date, date_of, date_or_none}
@@ -23,7 +23,7 @@ pub returns-in_err-row-clause-fault : goal.returns-in_err-row-clause-fault
 returns-in_err-row-clause-fault c = if_raised _ c.from_residual.result c.from_residual.ensures (λ free.
     let t = c.args.rows.now in
     first-at (bad_date t) c.loop-i.i (row_count t) _ (omega arith) c.loop-i.invariant.none
-    (ap fault_in (date_is t c.args.columns c.loop-i.i _ c.requires.columns c.in_err-row.ensures.fault)))
+    (ap result_err (date_is t c.args.columns c.loop-i.i _ c.requires.columns c.in_err-row.ensures.fault)))
 
 pub add-requires-clause-trimmed : goal.add-requires-clause-trimmed
 add-requires-clause-trimmed c =
@@ -39,7 +39,7 @@ loop-i-preserved c =
     let added = subst P (sym (ap date_or_none here)) c.in_ok-add.ensures in
     let size = length-adds old.ids c.add.new.ids (date_of t i).service added.new added.added in
     record {
-      none = first-next (bad_date t) i None c.loop-i.invariant.none (ap fault_in here);
+      none = first-next (bad_date t) i None c.loop-i.invariant.none (ap result_err here);
       numbered = numbered_next t i c.args.ids old.ids c.add.new.ids old.exceptions.keys c.add.new.exceptions.keys c.loop-i.invariant.numbered c.loop-i.invariant.room added;
       room = omega (arith, c.loop-i.invariant.room, size.0);
       few = omega (arith, c.loop-i.invariant.few, size.1);

@@ -1,6 +1,6 @@
 use Rattle.std.proofs.Common.{None, sym, ap, ◌∙◌, arith}
+use Rattle.std.specs.Result.{result_err}
 use Rattle.csv_rows.proofs.FaultLemmas.{if_raised}
-use Rattle.csv_rows.specs.RowFaults.{fault_in}
 use Rattle.csv_rows.specs.Tables.{row_count}
 use Rattle.csv_rows.proofs.FirstLemmas.{first-zero, first-next, first-at}
 use Rattle.csv_rows.proofs.ListLemmas.{list_below-zero, list_below-next}
@@ -17,7 +17,7 @@ pub returns-in_err-period-clause-fault : goal.returns-in_err-period-clause-fault
 returns-in_err-period-clause-fault c = if_raised _ c.from_residual.result c.from_residual.ensures (λ free.
     let t = c.args.rows.now in
     first-at (bad_period t) c.loop-i.i (row_count t) _ (omega arith) c.loop-i.invariant.none
-    (ap fault_in (period_is t c.args.columns c.loop-i.i _ c.requires c.in_err-period.ensures.fault)))
+    (ap result_err (period_is t c.args.columns c.loop-i.i _ c.requires c.in_err-period.ensures.fault)))
 
 pub loop-i-preserved : goal.loop-i-preserved
 loop-i-preserved c =
@@ -26,5 +26,5 @@ loop-i-preserved c =
     record {
       periods = list_below-next (period_of t) c.loop-i.i c.loop-i.periods.items c.push.new.self.items c.in_ok-period.period c.loop-i.invariant.periods
           c.in_ok-push.ensures.items (sym (ap period_or_none here));
-      none = first-next (bad_period t) c.loop-i.i None c.loop-i.invariant.none (ap fault_in here);
+      none = first-next (bad_period t) c.loop-i.i None c.loop-i.invariant.none (ap result_err here);
     }
