@@ -1,5 +1,6 @@
 -- What the value of a decision graph says.
 use Rattle.std.specs.Prelude.{◌≡◌, ℕ, ◌-◌, ◌*◌, ◌≤◌}
+use Rattle.plan_model.specs.Bounds.{nanos_per_second}
 use Rattle.interval_fixed.specs.Interval.{Interval}
 use Rattle.plan_model.specs.Expected.{Below, Encloses}
 use Rattle.plan_model.specs.declared.model.Query.{Query}
@@ -24,4 +25,4 @@ pub record IsBest (n : Parts) (q : Query) (strategy : Tree) (bounds : Interval) 
   pub encloses : Encloses bounds.lo bounds.hi strategy
   pub below_safe : (tree : Tree) → IsSafeFor n q tree → Below bounds.lo tree
   pub gap : bounds.hi - bounds.lo ≤ count n
-  pub at_once : q.source.0 ≡ q.target.0 → bounds ≡ record { lo = 1000000000 * q.start.0; hi = 1000000000 * q.start.0 }
+  pub at_once : q.source.0 ≡ q.target.0 → bounds ≡ record { lo = nanos_per_second * q.start.0; hi = nanos_per_second * q.start.0 }

@@ -52,10 +52,9 @@ pub(crate) fn expand_away<V: Score, B: BackwardOrder>(
     let Some((value, _)) = scanned.start() else {
         return Ok(None);
     };
-    match extract(alloc, &scanned, network, query) {
-        Err(fault) => Err(fault),
-        Ok(None) => Ok(None),
-        Ok(Some(graph)) => Ok(Some(Scored { graph, value })),
+    match extract(alloc, &scanned, network, query)? {
+        None => Ok(None),
+        Some(graph) => Ok(Some(Scored { graph, value })),
     }
 }
 

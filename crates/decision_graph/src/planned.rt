@@ -51,23 +51,16 @@ fn plan_away<V: Score, B: BackwardOrder>(
         (λ p. IsPlannedBy V.below V.covers V.gap V.arrived network.now query.now p.graph p.value)) }
     ensures fits { B.fits order.new network.now }
 {
-    let expanded = match expand_away(alloc, order, network, query) {
-        Err(fault) => return Err(fault),
-        Ok(None) => return Ok(None),
-        Ok(Some(expanded)) => expanded,
+    let Some(expanded) = expand_away(alloc, order, network, query)? else {
+        return Ok(None);
     };
-    let pruned = match prune(alloc, &expanded.graph, network, query) {
-        Err(fault) => return Err(fault),
-        Ok(pruned) => pruned,
-    };
+    let pruned = prune(alloc, &expanded.graph, network, query)?;
     steady_is_coherent();
-    match compact(alloc, &pruned, network, query) {
-        Err(fault) => Err(fault),
-        Ok(graph) => Ok(Some(ScoredPlan {
-            graph,
-            value: expanded.value,
-        })),
-    }
+    let graph = compact(alloc, &pruned, network, query)?;
+    Ok(Some(ScoredPlan {
+        graph,
+        value: expanded.value,
+    }))
 }
 
 /// The decision graph of a query with one table for each place, by a scan in this order of the

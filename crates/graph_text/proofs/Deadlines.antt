@@ -1,6 +1,7 @@
 -- The deadline of a graph that was read stands in its text.
 use Rattle.std.proofs.Common.{◌≡◌, ℕ, List, [], ◌∷◌, Option, Some, None, Bool, true, false, Result, Ok, Err, ap, subst, refl}
 use Rattle.std.specs.Prelude.{if◌then◌else◌}
+use Rattle.plan_model.specs.Results.{and_then}
 use Rattle.clock_text.specs.Times.{moment_at, nanos_at}
 use Rattle.csv_rows.specs.Tables.{table_of}
 use Rattle.plan_model.specs.declared.model.Moment.{Moment}
@@ -11,7 +12,7 @@ use Rattle.graph_text.specs.declared.Head.{Head}
 use Rattle.graph_text.specs.declared.reader.HeadRow.{HeadRow}
 use Rattle.graph_text.specs.declared.reader.TextFault.{TextFault}
 use Rattle.graph_text.specs.declared.version.Version.{Version}
-use Rattle.graph_text.specs.Reading.{and_then, graph_in, are_in_order, is_query, is_head, head_numbers, head_row_in, head_named, head_of_numbers, head_in, version_in}
+use Rattle.graph_text.specs.Reading.{graph_in, are_in_order, is_query, is_head, head_numbers, head_row_in, head_named, head_of_numbers, head_in, version_in}
 use Rattle.graph_text.specs.Reading.{graph_of_version, graph_of_records, graph_of}
 use Rattle.printed_rows.specs.Fields.{field, number_of}
 

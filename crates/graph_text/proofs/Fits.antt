@@ -8,6 +8,7 @@ use Rattle.std.proofs.lemmas.Bool.{false≢true, eqb-true, ltb-true, and_parts, 
 use Rattle.std.proofs.lemmas.List.Elements.{All-append, All-cons, All-nil, All-head, All-tail}
 use Rattle.std.proofs.lemmas.List.Kept.{AllPairs-cons}
 use Rattle.std.proofs.lemmas.Bool.Decides.{nat_tests}
+use Rattle.plan_model.specs.Results.{and_then}
 use Rattle.clock_text.specs.Times.{moment_at, nanos_at}
 use Rattle.plan_model.specs.declared.model.Connection.{Connection}
 use Rattle.plan_model.specs.declared.model.Leg.{Leg}
@@ -37,7 +38,7 @@ use Rattle.graph_text.specs.declared.reader.TableStart.{TableStart}
 use Rattle.graph_text.specs.declared.reader.Reading.{Reading}
 use Rattle.graph_text.specs.Reading.{names_in, leg_between, leg_found, agrees, leg_of, is_limit, can_start, is_by_limit, start_by, start_named, start_numbers, start_in}
 use Rattle.graph_text.specs.Reading.{row_by_leg, row_named, row_numbers, row_in, leg_row_in, table_named, table_numbers, table_in, place_row_in, begun, extended}
-use Rattle.graph_text.specs.Reading.{place_or_first, step, and_then, tables_from, no_tables, started_in, graph_in, are_in_order, is_query, is_head, head_numbers}
+use Rattle.graph_text.specs.Reading.{place_or_first, step, tables_from, no_tables, started_in, graph_in, are_in_order, is_query, is_head, head_numbers}
 use Rattle.graph_text.specs.Reading.{head_row_in, head_named, head_of_numbers, head_in, version_in, graph_of_version, graph_of_records}
 use Rattle.printed_rows.specs.Fields.{connection_of, number_of, rises, field}
 use Rattle.graph_text.specs.Asked.{IsAsked}

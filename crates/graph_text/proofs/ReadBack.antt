@@ -10,6 +10,7 @@ use Rattle.std.proofs.lemmas.Bool.{false≢true, and_parts, eqb-true, lt-ltb, eq
 use Rattle.std.proofs.lemmas.List.{append-nil}
 use Rattle.std.proofs.lemmas.List.Elements.{All-cons, All-nil, All-head, All-tail}
 use Rattle.std.proofs.lemmas.Map.Steps.{length-le_from_distinct_below}
+use Rattle.plan_model.specs.Results.{and_then}
 use Rattle.csv.proofs.RoundTrip.{rows_text as text_of_rows}
 use Rattle.csv.specs.Reading.{strip_bom}
 use Rattle.clock_text.specs.Civil.{moment_text, nanos_text, last_printable}
@@ -48,7 +49,7 @@ use Rattle.graph_text.specs.Texts.{leg_fields, rows_text, start_text, tables_tex
 use Rattle.printed_rows.specs.Writers.{place_name, run_name, row_of_fields}
 use Rattle.graph_text.specs.Reading.{entry_in, leg_names, names_in, leg_numbers, leg_row_in, leg_found, leg_between, agrees, leg_of, is_limit, start_by, start_named}
 use Rattle.graph_text.specs.Reading.{start_numbers, start_in, is_by_limit, row_by_leg, row_named, row_numbers, row_in, place_numbers, place_row_in, table_named}
-use Rattle.graph_text.specs.Reading.{table_numbers, table_in, begun, extended, step, and_then, tables_from, no_tables, graph_in, started_in, head_numbers, head_row_in}
+use Rattle.graph_text.specs.Reading.{table_numbers, table_in, begun, extended, step, tables_from, no_tables, graph_in, started_in, head_numbers, head_row_in}
 use Rattle.graph_text.specs.Reading.{head_named, head_of_numbers, head_in, version_in, graph_of_version, graph_of_records, graph_of}
 use Rattle.printed_rows.specs.Fields.{number_of, whole_at, connection_of, rises}
 use Rattle.printed_rows.proofs.Found.{connection_number}

@@ -2,7 +2,9 @@
 use Rattle.std.proofs.Common.{◌≡◌, ℕ, ◌+◌, ◌-◌, ◌<◌, List, [], ◌∷◌, length, drop, Option, Some, Ok, Err, Result, arith, sym, ap, subst, refl, ◌∙◌}
 use Rattle.std.specs.Prelude.{◌==◌, false, slice_index_or}
 use Rattle.std.specs.Option.{option_map}
+use Rattle.std.specs.Result.{IsErr, IsErrAnd}
 use Rattle.std.proofs.lemmas.Bool.Decides.{nat_tests}
+use Rattle.plan_model.specs.Results.{and_then}
 use Rattle.plan_model.specs.declared.model.PlaceId.{PlaceId}
 use Rattle.plan_model.specs.Parts.{Parts}
 use Rattle.plan_model.specs.NameLists.{NameLists}
@@ -14,7 +16,7 @@ use Rattle.graph_text.specs.declared.reader.Reading.{Reading}
 use Rattle.graph_text.specs.declared.reader.TextFault.{TextFault}
 use Rattle.graph_text.specs.declared.reader.TextFault.TheVariants as f
 use Rattle.printed_rows.proofs.Lines.{split_at}
-use Rattle.graph_text.specs.Reading.{extended, row_in, step, IsRead, place_or_first, and_then, tables_from, graph_in, head_in, version_in, graph_of_version, graph_of_records}
+use Rattle.graph_text.specs.Reading.{extended, row_in, step, IsRead, place_or_first, tables_from, graph_in, head_in, version_in, graph_of_version, graph_of_records}
 
 not_none : (left : ℕ) → (left ≡ 0 → ⊥) → (left == 0) ≡ false
 not_none left some = grind (arith, nat_tests)
@@ -24,6 +26,12 @@ pub leg_step : (n : Parts) (names : NameLists) (version : Version) (line : ℕ) 
     → s.place ≡ Some place → extended s (row_in n names version line place.0 (option_map (λ moment. moment.0) s.by) r) ≡ step n names version line r s
 leg_step n names version line r s place some is =
     sym (rw (not_none s.left some) (ap (λ (p : Option PlaceId). extended s (row_in n names version line (place_or_first p).0 (option_map (λ moment. moment.0) s.by) r)) is))
+
+-- what is read where a step failed is so of what `?` raises again
+pub read_raised : {A : Type 0} (fault : TextFault) (r told : Result A TextFault) → IsErr r × IsErrAnd r (λ raised. raised ≡ fault)
+    → IsRead (Err fault) told → IsRead r told
+read_raised fault (Ok a) told raised is = absurd raised.1
+read_raised {A} fault (Err again) told raised is = subst (λ (f : TextFault). IsRead {A = A} (Err f) told) (sym raised.1) is
 
 -- a fault ends what is read
 pub read_err : {A B : Type 0} (fault : TextFault) (told : Result A TextFault) (next : A → Result B TextFault) → told ≡ Err fault → IsRead {A = B} (Err fault) (and_then told next)

@@ -452,10 +452,8 @@ impl<'a> Reader<'a> {
             ≡ result }
         ensures place { IfOk result (IsPlaced self.now.network.now) }
     {
-        match self.table_start(row, number(reading.place)) {
-            Ok(start) => Ok(begin(alloc, reading, start)),
-            Err(fault) => Err(fault),
-        }
+        let start = self.table_start(row, number(reading.place))?;
+        Ok(begin(alloc, reading, start))
     }
 
     /// After a leg row of the last place.
@@ -475,12 +473,10 @@ impl<'a> Reader<'a> {
             (option_map (λ moment. moment.0) reading.by) (slice_index_or self.now.rows.now (row + 1) []))) }
         ensures place { IfOk result (IsPlaced self.now.network.now) }
     {
-        match self.table_row(row, place, seconds(reading.by)) {
-            Ok(row) => match extend(alloc, reading, place, row) {
-                Ok(reading) => Ok(reading),
-                Err(_) => Err(TextFault::NoMemory),
-            },
-            Err(fault) => Err(fault),
+        let row = self.table_row(row, place, seconds(reading.by))?;
+        match extend(alloc, reading, place, row) {
+            Ok(reading) => Ok(reading),
+            Err(_) => Err(TextFault::NoMemory),
         }
     }
 
@@ -510,10 +506,7 @@ impl<'a> Reader<'a> {
         let mut reading = Reading::new(alloc);
         let count = self.rows.count();
         for row in 1..count {
-            reading = match self.read_row(alloc, row, reading) {
-                Ok(reading) => reading,
-                Err(fault) => return Err(fault),
-            };
+            reading = self.read_row(alloc, row, reading)?;
         }
         if reading.left == 0 {
             return Ok(reading.done);
@@ -598,17 +591,12 @@ impl<'a> Reader<'a> {
         ensures { IsRead result (started_in self.now.network.now self.now.names.now self.now.version query.now.source.0 query.now.start.0
             (slice_index_or self.now.rows.now 1 []) (drop 2 self.now.rows.now)) }
     {
-        let leg = match self.start_row(0, query.source, query.start) {
-            Ok(leg) => leg,
-            Err(fault) => return Err(fault),
-        };
-        match self.read_tables(alloc) {
-            Ok(tables) => Ok(PlanGraph {
-                start: Some(leg),
-                tables,
-            }),
-            Err(fault) => Err(fault),
-        }
+        let leg = self.start_row(0, query.source, query.start)?;
+        let tables = self.read_tables(alloc)?;
+        Ok(PlanGraph {
+            start: Some(leg),
+            tables,
+        })
     }
 
     /// The graph of the rows after the first.
@@ -676,12 +664,7 @@ pub fn read(
         network,
         names,
     };
-    let head = match reader.read_head(source, target, start) {
-        Ok(head) => head,
-        Err(fault) => return Err(fault),
-    };
-    match reader.read_graph(alloc, &head.query) {
-        Ok(graph) => Ok((head, graph)),
-        Err(fault) => Err(fault),
-    }
+    let head = reader.read_head(source, target, start)?;
+    let graph = reader.read_graph(alloc, &head.query)?;
+    Ok((head, graph))
 }

@@ -1,5 +1,6 @@
 -- What a certificate says: for each connection a lower bound, in nanoseconds, on the expected arrival of who boards it.
 use Rattle.std.specs.Prelude.{◌≡◌, ◌≢◌, ℕ, ◌+◌, ◌*◌, ◌/◌, ◌<◌, ◌≤◌, List, [], ◌∷◌, Option, Some, None, IsTrue, length, nat_le, if◌then◌else◌, slice_index_or}
+use Rattle.plan_model.specs.Bounds.{nanos_per_second}
 use Rattle.plan_model.specs.declared.model.Outcome.{Outcome}
 use Rattle.plan_model.specs.declared.model.Query.{Query}
 use Rattle.plan_model.specs.Parts.{Parts}
@@ -28,7 +29,7 @@ pub record Offers (n : Parts) (values : List (Option ℕ)) (Boards : ℕ → Typ
 
 -- the arrival in nanoseconds, where it is by the deadline
 abbrev pub arrived_by : ℕ → ℕ → Option ℕ
-arrived_by deadline x = if nat_le x deadline then Some (1000000000 * x) else None
+arrived_by deadline x = if nat_le x deadline then Some (nanos_per_second * x) else None
 
 -- the least value at a place and moment: the arrival at the target, and elsewhere that of the connections that one can board
 pub record IsLeast (n : Parts) (q : Query) (values : List (Option ℕ)) (Boards : ℕ → Type 0) (p x : ℕ) (least : Option ℕ) : Type 0 where

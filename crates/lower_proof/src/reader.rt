@@ -202,10 +202,7 @@ fn read_values(
         if row >= count || row >= most {
             return Err(ProofFault::Row(row as u64 + 2));
         }
-        let told = match read_value(rows, row, network, names, last) {
-            Ok(told) => told,
-            Err(fault) => return Err(fault),
-        };
+        let told = read_value(rows, row, network, names, last)?;
         values[told.id.0 as usize] = Some(told.value);
         last = Some(u64::from(told.id.0));
     }
@@ -231,14 +228,8 @@ pub fn read_text(
         Err(RowsFault::NoHeader) => return Err(ProofFault::Row(1)),
         Err(RowsFault::NoMemory) => return Err(ProofFault::NoMemory),
     };
-    let bounds = match read_bounds(&rows, names, source, target, start) {
-        Ok(bounds) => bounds,
-        Err(fault) => return Err(fault),
-    };
-    let values = match read_values(alloc, &rows, network, names, bounds.number) {
-        Ok(values) => values,
-        Err(fault) => return Err(fault),
-    };
+    let bounds = read_bounds(&rows, names, source, target, start)?;
+    let values = read_values(alloc, &rows, network, names, bounds.number)?;
     let query = Query {
         source,
         target,

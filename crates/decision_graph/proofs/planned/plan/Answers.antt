@@ -1,10 +1,8 @@
 use Rattle.std.proofs.Common.{None, List, ap}
 use Rattle.plan_graph.specs.declared.PlaceTable.{PlaceTable}
 use Rattle.plan_graph.specs.declared.PlanGraph.{PlanGraph}
-use Rattle.interval_fixed.specs.Interval.{Interval}
 use Rattle.value_laws.specs.declared.MeanSpan.{MeanSpan}
 use Rattle.value_laws.specs.Means.{mean_below, mean_covers, mean_gap, mean_rank, mean_arrived, mean_blended, mean_lowered, mean_laws}
-use Rattle.std.proofs.lemmas.Option.{MatchOption-at_some, MatchOption-at_none}
 use Rattle.decision_graph.proofs.AtOnce.{planned_at_once}
 use Rattle.decision_graph.proofs.Means.{planned_by_mean, exact_value}
 use Rattle.decision_graph.proofs.planned.plan.Goals as goal

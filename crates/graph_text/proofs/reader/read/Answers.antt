@@ -1,46 +1,47 @@
 use Rattle.std.proofs.Common.{◌≡◌, ◌∙◌, ℕ, List, drop, Ok, Err, Result, sym, ap, subst}
+use Rattle.plan_model.specs.Results.{and_then}
 use Rattle.plan_model.specs.declared.model.PlaceId.{PlaceId}
 use Rattle.plan_model.specs.declared.model.Moment.{Moment}
 use Rattle.plan_graph.specs.declared.PlanGraph.{PlanGraph}
 use Rattle.graph_text.specs.declared.Head.{Head}
 use Rattle.graph_text.specs.declared.reader.TextFault.{TextFault}
-use Rattle.graph_text.specs.Reading.{IsRead, and_then, graph_in, graph_of_records}
-use Rattle.graph_text.proofs.Steps.{told_by, fault_on}
+use Rattle.graph_text.specs.Reading.{IsRead, graph_in, graph_of_records}
+use Rattle.graph_text.proofs.Steps.{told_by, fault_on, read_raised}
 use Rattle.graph_text.proofs.reader.read.Goals as goal
-
-pub returns-in-Ok-read_graph : goal.returns-in-Ok-read_graph
-returns-in-Ok-read_graph c =
-    let n = c.args.network.now in
-    let names = c.args.names.now in
-    let version = c.in-Some.version in
-    let head = c.in-Ok-read_head.head in
-    let graph = c.in-Ok-read_graph.graph in
-    let rows = c.in-Ok.rows in
-    let query = c.in-Ok-read_head.ensures.query in
-    let told : graph_in n names version c.args.source.0 c.args.target.0 c.args.start.0 (drop 1 rows) ≡ Ok graph =
-    ap (λ (p : PlaceId). graph_in n names version p.0 c.args.target.0 c.args.start.0 (drop 1 rows)) (sym query.0)
-    ∙ ap (λ (p : PlaceId). graph_in n names version head.query.source.0 p.0 c.args.start.0 (drop 1 rows)) (sym query.1)
-    ∙ ap (λ (m : Moment). graph_in n names version head.query.source.0 head.query.target.0 m.0 (drop 1 rows)) (sym query.2)
-    ∙ c.in-Ok-read_graph.ensures in
-    subst (λ (t : List (List (List ℕ))). IsRead (Ok (head, graph)) (graph_of_records n names c.args.source.0 c.args.target.0 c.args.start.0 t)) c.in-Ok.ensures.rows
-    (told_by n names version c.args.source.0 c.args.target.0 c.args.start.0 rows head (Ok (head, graph)) c.in-Ok.ensures.header (sym c.in-Some.is ∙ c.version_of.ensures) c.in-Ok-read_head.ensures.told
-    (ap (λ (r : Result PlanGraph TextFault). and_then r (λ g. Ok (head, g))) told))
 
 pub returns : goal.returns
 returns c =
     let n = c.args.network.now in
     let names = c.args.names.now in
     let version = c.in-Some.version in
-    let head = c.in-Ok-read_head.head in
-    let fault = c.in-Err-read_graph.fault in
+    let head = c.in_ok-head.head in
+    let graph = c.in_ok-graph.graph in
     let rows = c.in-Ok.rows in
-    let query = c.in-Ok-read_head.ensures.query in
+    let query = c.in_ok-head.ensures.query in
+    let told : graph_in n names version c.args.source.0 c.args.target.0 c.args.start.0 (drop 1 rows) ≡ Ok graph =
+    ap (λ (p : PlaceId). graph_in n names version p.0 c.args.target.0 c.args.start.0 (drop 1 rows)) (sym query.0)
+    ∙ ap (λ (p : PlaceId). graph_in n names version head.query.source.0 p.0 c.args.start.0 (drop 1 rows)) (sym query.1)
+    ∙ ap (λ (m : Moment). graph_in n names version head.query.source.0 head.query.target.0 m.0 (drop 1 rows)) (sym query.2)
+    ∙ c.in_ok-graph.ensures in
+    subst (λ (t : List (List (List ℕ))). IsRead (Ok (head, graph)) (graph_of_records n names c.args.source.0 c.args.target.0 c.args.start.0 t)) c.in-Ok.ensures.rows
+    (told_by n names version c.args.source.0 c.args.target.0 c.args.start.0 rows head (Ok (head, graph)) c.in-Ok.ensures.header (sym c.in-Some.is ∙ c.version_of.ensures) c.in_ok-head.ensures.told
+    (ap (λ (r : Result PlanGraph TextFault). and_then r (λ g. Ok (head, g))) told))
+
+pub returns-in_err-graph : goal.returns-in_err-graph
+returns-in_err-graph c = read_raised _ c.from_residual-in_err-graph.result _ c.from_residual-in_err-graph.ensures (
+    let n = c.args.network.now in
+    let names = c.args.names.now in
+    let version = c.in-Some.version in
+    let head = c.in_ok-head.head in
+    let fault = c.in_err-graph.field-0.0 in
+    let rows = c.in-Ok.rows in
+    let query = c.in_ok-head.ensures.query in
     let same : graph_in n names version head.query.source.0 head.query.target.0 head.query.start.0
     (drop 1 rows) ≡ graph_in n names version c.args.source.0 c.args.target.0 c.args.start.0 (drop 1 rows) =
     ap (λ (p : PlaceId). graph_in n names version p.0 head.query.target.0 head.query.start.0 (drop 1 rows)) query.0
     ∙ ap (λ (p : PlaceId). graph_in n names version c.args.source.0 p.0 head.query.start.0 (drop 1 rows)) query.1
     ∙ ap (λ (m : Moment). graph_in n names version c.args.source.0 c.args.target.0 m.0 (drop 1 rows)) query.2 in
-    let told = subst (λ (r : Result PlanGraph TextFault). IsRead {A = PlanGraph} (Err fault) r) same c.in-Err-read_graph.ensures in
+    let told = subst (λ (r : Result PlanGraph TextFault). IsRead {A = PlanGraph} (Err fault) r) same c.in_err-graph.ensures in
     subst (λ (t : List (List (List ℕ))). IsRead {A = Head × PlanGraph} (Err fault) (graph_of_records n names c.args.source.0 c.args.target.0 c.args.start.0 t)) c.in-Ok.ensures.rows
-    (told_by n names version c.args.source.0 c.args.target.0 c.args.start.0 rows head (Err fault) c.in-Ok.ensures.header (sym c.in-Some.is ∙ c.version_of.ensures) c.in-Ok-read_head.ensures.told
-    (fault_on fault (graph_in n names version c.args.source.0 c.args.target.0 c.args.start.0 (drop 1 rows)) (λ g. Ok (head, g)) told))
+    (told_by n names version c.args.source.0 c.args.target.0 c.args.start.0 rows head (Err fault) c.in-Ok.ensures.header (sym c.in-Some.is ∙ c.version_of.ensures) c.in_ok-head.ensures.told
+    (fault_on fault (graph_in n names version c.args.source.0 c.args.target.0 c.args.start.0 (drop 1 rows)) (λ g. Ok (head, g)) told)))

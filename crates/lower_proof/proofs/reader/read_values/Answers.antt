@@ -1,6 +1,7 @@
 use Rattle.std.proofs.Common.{◌≡◌, ◌∙◌, ◌<◌, ◌≤◌, ◌⊎◌, ap, inl, inr, arith}
 use Rattle.std.specs.Prelude.{max}
 use Rattle.csv_rows.specs.Tables.{row_count}
+use Rattle.csv_rows.proofs.FaultLemmas.{if_raised}
 use Rattle.lower_proof.proofs.ReadRows.{read_first, read_on, fault_here, ends_here, read_all}
 use Rattle.lower_proof.proofs.reader.read_values.Goals as goal
 use Rattle.lower_proof.proofs.reader.read_values.Goals.{then-row-count-via-then-row-count, then-row-count-via-else-row-count+then-row-most}
@@ -21,18 +22,18 @@ returns-then-row-count-clause-fault c =
     ] in
     inr (ends_here c.args.network.now c.args.names.now t c.args.stated loop.row loop.values.items loop.last loop.invariant within ends)
 
-pub returns-in-Err-read_value-clause-fault : goal.returns-in-Err-read_value-clause-fault
-returns-in-Err-read_value-clause-fault c =
-    let loop = c.loop-row in
+pub returns-in_err-told-clause-fault : goal.returns-in_err-told-clause-fault
+returns-in_err-told-clause-fault c = if_raised _ c.from_residual.result c.from_residual.ensures
+    (let loop = c.loop-row in
     inr (fault_here c.args.network.now c.args.names.now c.args.rows.now c.args.stated loop.row loop.values.items loop.last loop.invariant
-    c.in-Err-read_value.fault (omega (arith, c.count-count.ensures.count)) (omega arith) c.in-Err-read_value.ensures.told)
+    _ (omega (arith, c.count-count.ensures.count)) (omega arith) c.in_err-told.ensures.told))
 
 pub loop-row-preserved : goal.loop-row-preserved
 loop-row-preserved c =
     let loop = c.loop-row in
-    let told = c.in-Ok-read_value.told in
+    let told = c.in_ok-told.told in
     rw c.from.ensures (read_on c.args.network.now c.args.names.now c.args.rows.now c.args.stated loop.row loop.values.items loop.last loop.invariant told
-    (omega (arith, c.count-count.ensures.count)) (omega arith) c.in-Ok-read_value.ensures.told c.in-Ok-read_value.ensures.there)
+    (omega (arith, c.count-count.ensures.count)) (omega arith) c.in_ok-told.ensures.told c.in_ok-told.ensures.there)
 
 pub returns-clause-told : goal.returns-clause-told
 returns-clause-told c =
