@@ -1,6 +1,7 @@
 -- The ranges of what a job asks for.
 use Rattle.std.specs.Prelude.{ℕ, ◌≤◌, ◌+◌}
-use Rattle.command_line.specs.Values.{first_start, last_start, least_alpha, most_alpha, least_horizon, most_horizon, least_size, most_size, last_until, longest_promise}
+use Rattle.command_line.specs.Values.{least_alpha, most_alpha, least_horizon, most_horizon, least_size, most_size, last_until, longest_promise}
+use Rattle.plan_model.specs.Bounds.{first_start, last_start}
 use Rattle.command_line.specs.Jobs.{WantedTimetable, CutFile, FeedFolder, WantedJourney, WantedAsk, Safe, Expand, Plan, Replay, Certify, CheckProof, CheckGraph}
 use Rattle.command_line.specs.Jobs.{Punctual, Departures, Latest, Wanted, Ask, Sample}
 

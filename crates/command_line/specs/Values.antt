@@ -2,18 +2,12 @@
 use Rattle.std.specs.Prelude.{ℕ, ◌+◌, List, [], ◌∷◌, Option, Some, None, Bool, true, false, not, ◌&&◌, is_some, if◌then◌else◌, nat_le, ◌==◌, map, length, codes, option_and_then, unwrap_or}
 use Rattle.std.specs.List.{slice_split, list_all}
 use Rattle.std.specs.Str.{bytes_eq}
+use Rattle.plan_model.specs.Bounds.{first_start, last_start}
 use Rattle.clock_text.specs.Digits.{whole_of}
 use Rattle.clock_text.specs.Times.{moment_at}
 use Rattle.command_line.specs.Settings.{is_given, text_of}
 use Rattle.command_line.specs.declared.options.OptionName.{OptionName}
 use Rattle.command_line.specs.declared.options.OptionName.TheVariants.{Cut, Feed, Delays, From, To, At, Alpha, Horizon, Graph, Late, Size, Proof, By, Until, Last}
-
--- the first moment at which a journey may begin, 1970-01-08T00:00:00, and the last, 2399-12-31T23:59:59
-abbrev pub first_start : ℕ
-first_start = 604800
-
-abbrev pub last_start : ℕ
-last_start = 13569465599
 
 -- the last moment of a deadline, and at which departures are looked for: 2400-12-31T23:59:59
 abbrev pub last_until : ℕ

@@ -1,6 +1,7 @@
 //! The forms of the values.
 ghost use Rattle.std.specs.Prelude.{◌≡◌, ◌≤◌, ◌+◌, option_map, map, string_bytes, is_some, IfSome, IfOk};
-ghost use Rattle.command_line.specs.Values.{first_start, last_start, last_until, longest_promise, moment_of, start_of, promise_at, later_at, number_at, late_at, pieces, is_delay, delay_in, are_delays, has_form};
+ghost use Rattle.command_line.specs.Values.{last_until, longest_promise, moment_of, start_of, promise_at, later_at, number_at, late_at, pieces, is_delay, delay_in, are_delays, has_form};
+ghost use Rattle.plan_model.specs.Bounds.{first_start, last_start};
 ghost use Rattle.command_line.specs.Jobs.{late_in};
 
 use crate::options::OptionName;

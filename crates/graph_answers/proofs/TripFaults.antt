@@ -17,7 +17,7 @@ use Rattle.fault_lines.specs.Faults.{unread_of}
 use Rattle.fault_lines.specs.Sites.{last_printable, IsTellable}
 use Rattle.journey_report.specs.declared.problem.Problem.{Problem}
 use Rattle.journey_report.specs.Known.{parts_of}
-use Rattle.journey_report.specs.Moments.{last_start}
+use Rattle.plan_model.specs.Bounds.{last_start}
 use Rattle.journey_report.proofs.TextLemmas.{arrivals, places}
 use Rattle.graph_answers.specs.Trips.{replay_as, IsSafeTrip, trip_by, IsTripFault}
 

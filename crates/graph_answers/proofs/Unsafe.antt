@@ -21,7 +21,7 @@ use Rattle.graph_score.specs.Scores.{IsUnsafe, IsScore}
 use Rattle.graph_score.specs.declared.ScoreFault.{ScoreFault}
 use Rattle.graph_score.specs.declared.ScoreFault.TheVariants.{NoSuchLeg, Unsafe, NoMemory}
 use Rattle.journey_report.specs.declared.problem.Problem.{Problem}
-use Rattle.journey_report.specs.Moments.{last_start}
+use Rattle.plan_model.specs.Bounds.{last_start}
 use Rattle.fault_lines.specs.Sites.{last_printable}
 
 module _ (n : Parts) (valid : IsValid n) (q : Query) (target_in : q.target.0 < length n.change)

@@ -8,7 +8,7 @@ ghost use Rattle.journey_report.specs.Known.{parts_of};
 ghost use Rattle.journey_report.specs.Findings.{findings_of, check_findings};
 ghost use Rattle.journey_report.specs.Texts.{holds_text};
 ghost use Rattle.printed_rows.specs.Writers.{place_name};
-ghost use Rattle.journey_report.specs.Moments.{last_start};
+ghost use Rattle.plan_model.specs.Bounds.{last_start};
 ghost use Rattle.graph_answers.specs.Checks.{IsHeld, IsBroken};
 
 use fault_lines::Fault;

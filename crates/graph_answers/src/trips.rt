@@ -7,7 +7,7 @@ ghost use Rattle.fault_lines.specs.Faults.{unread_of};
 ghost use Rattle.fault_lines.specs.Sites.{IsTellable};
 ghost use Rattle.journey_report.specs.Known.{parts_of};
 ghost use Rattle.journey_report.specs.Findings.{findings_of};
-ghost use Rattle.journey_report.specs.Moments.{last_start};
+ghost use Rattle.plan_model.specs.Bounds.{last_start};
 ghost use Rattle.graph_answers.specs.Trips.{replay_as, IsTripTold, IsTripFault};
 
 use command_line::read_late;

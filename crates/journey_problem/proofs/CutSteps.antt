@@ -1,8 +1,8 @@
 -- The steps of reading a cut file, put together.
 use Rattle.std.proofs.Common.{◌≡◌, ℕ, List, Option, None, Result, Ok, Err, sym, ap, ◌∙◌}
 use Rattle.std.specs.Prelude.{◌≤◌, IfOk, OnOk}
+use Rattle.std.specs.Option.{option_or}
 use Rattle.file_ports.specs.Ports.{Folder, file_at}
-use Rattle.csv_rows.specs.First.{or_else}
 use Rattle.csv_rows.specs.Limits.{standard}
 use Rattle.csv_rows.specs.Tables.{row_count, table_of}
 use Rattle.csv_rows.specs.declared.limits.Limits.{Limits}
@@ -47,8 +47,8 @@ module _ (j : WantedJourney) (cut : CutParts) (lists : DelayLists) where
         let named : stop ≡ None
         = ap (λ (r : Result Records Fault). stop_fault (places_in r) j.from j.to) is
         ∙ ap (λ (names : List (List ℕ)). stop_fault names j.from j.to) (sym places) ∙ stops in
-        ap (λ (o : Option Fault). or_else o (or_else (delay_fault limits (file_at files j.delays) None) stop)) none
-        ∙ ap (λ (o : Option Fault). or_else o stop) delays ∙ named
+        ap (λ (o : Option Fault). option_or o (option_or (delay_fault limits (file_at files j.delays) None) stop)) none
+        ∙ ap (λ (o : Option Fault). option_or o stop) delays ∙ named
 
     -- the problem of a cut file and a delay file
     pub cut_file_problem : (r : Result Problem Fault)

@@ -2,10 +2,10 @@
 use Rattle.std.specs.Prelude.{◌≡◌, ℕ, ◌≤◌, Bool, List, [], Option, None, Some, Result, Ok, Err, MatchResult, option_map, if◌then◌else◌, slice_get}
 use Rattle.std.specs.List.{list_any}
 use Rattle.std.specs.Str.{bytes_eq}
+use Rattle.std.specs.Option.{option_or}
 use Rattle.file_ports.specs.Ports.{Folder, file_at}
 use Rattle.csv_rows.specs.declared.columns.Column.TheVariants.{Run, Class}
 use Rattle.csv_rows.specs.declared.limits.Limits.{Limits}
-use Rattle.csv_rows.specs.First.{or_else}
 use Rattle.csv_rows.specs.Limits.{standard}
 use Rattle.csv_rows.specs.Tables.{row_count, table_of}
 use Rattle.cut_file.specs.declared.faults.CutFault.{CutFault}
@@ -102,8 +102,8 @@ stop_fault names from to =
 -- the first fault: of the cut file, of the delay file, of the stops
 abbrev pub cut_problem_fault : Limits → Folder → List ℕ → WantedJourney → Option Input → Option Fault
 cut_problem_fault limits files path j unread =
-    or_else (cut_fault limits (file_at files path) unread)
-    (or_else (delay_fault limits (file_at files j.delays) unread)
+    option_or (cut_fault limits (file_at files path) unread)
+    (option_or (delay_fault limits (file_at files j.delays) unread)
     (stop_fault (places_in (cut_records limits unread (file_at files path))) j.from j.to))
 
 -- the place has this name

@@ -1,6 +1,7 @@
 -- The files that a command reads, and the causes of their faults.
 use Rattle.std.specs.Prelude.{◌≡◌, ◌≢◌, ℕ, ◌+◌, ◌<◌, ◌≤◌, List, [], ◌∷◌, length, Option, None, Some, Result, Ok, Err, IsErrOf, if◌then◌else◌, nat_lt}
 use Rattle.std.specs.Option.{IsSomeAnd}
+use Rattle.plan_model.specs.Results.{and_then}
 use Rattle.file_ports.specs.Counts.{Rose}
 use Rattle.csv_rows.specs.FeedTables.{path_of as table_path}
 use Rattle.csv_rows.specs.Tables.{table_of}
@@ -39,11 +40,6 @@ path_by timetable j own input.Proof = own input.Proof
 
 abbrev pub path_of : WantedJourney → OwnPaths → Input → Option (List ℕ)
 path_of j own = path_by j.timetable j own
-
--- what comes next, where there is no fault so far
-abbrev pub and_then : {A B : Type 0} → Result A Fault → (A → Result B Fault) → Result B Fault
-and_then (Ok a) next = next a
-and_then (Err fault) next = Err fault
 
 -- the bytes of a file that is there and not too long
 abbrev pub bytes_present : ℕ → Input → Option (List ℕ) → Result (List ℕ) Fault

@@ -66,10 +66,8 @@ fn problem_in(
     let Ok((network, names)) = cut.network(alloc, delays) else {
         return Err(Fault::NoMemory);
     };
-    match ends_of(&names, journey.from, journey.to) {
-        Err(fault) => Err(fault),
-        Ok(ends) => Ok(Problem::between(ends, network, names)),
-    }
+    let ends = ends_of(&names, journey.from, journey.to)?;
+    Ok(Problem::between(ends, network, names))
 }
 
 /// The problem of a journey over the cut file of this path, whose timetable is that file.

@@ -145,10 +145,7 @@ fn window_problem(
     ensures early { (folder : Bytes ℕ) → IfErr result (IsEarly (FeedFolder folder horizon)) }
     ensures read { IfErr result (λ fault. unread_of fault ≡ None) }
 {
-    let ends = match ends_of(&tables.feed, journey.from, journey.to) {
-        Err(fault) => return Err(fault),
-        Ok(ends) => ends,
-    };
+    let ends = ends_of(&tables.feed, journey.from, journey.to)?;
     match cut(
         alloc,
         &tables.feed,

@@ -72,13 +72,11 @@ fn load_rows<F: Files>(
         (F.faults files.old) (F.faults files.new)
         (F.faults_of files.old) (F.faults_of files.new) result }
 {
-    match load_bytes(alloc, files, path, input, limits) {
-        Err(fault) => Err(fault),
-        Ok(bytes) => match Rows::read(alloc, bytes.as_slice()) {
-            Ok(rows) => Ok(rows.with_key(files.hash_key())),
-            Err(RowsFault::NoHeader) => Err(headless),
-            Err(RowsFault::NoMemory) => Err(Fault::NoMemory),
-        },
+    let bytes = load_bytes(alloc, files, path, input, limits)?;
+    match Rows::read(alloc, bytes.as_slice()) {
+        Ok(rows) => Ok(rows.with_key(files.hash_key())),
+        Err(RowsFault::NoHeader) => Err(headless),
+        Err(RowsFault::NoMemory) => Err(Fault::NoMemory),
     }
 }
 
@@ -101,14 +99,12 @@ pub(crate) fn read_cut_file<F: Files>(
         (F.faults_of files.old) (F.faults_of files.new) result }
 {
     let headless = Fault::Cut(CutFault::MissingColumn(Column::Run));
-    match load_rows(alloc, files, path, Input::Cut, headless, limits) {
-        Err(fault) => Err(fault),
-        Ok(rows) => match read_cut(alloc, &rows, limits) {
-            Ok(table) => Ok(table),
-            Err(CutFault::TooManyRows(count)) => Err(Fault::Limit(LimitKind::CutRows, count)),
-            Err(CutFault::NoMemory) => Err(Fault::NoMemory),
-            Err(fault) => Err(Fault::Cut(fault)),
-        },
+    let rows = load_rows(alloc, files, path, Input::Cut, headless, limits)?;
+    match read_cut(alloc, &rows, limits) {
+        Ok(table) => Ok(table),
+        Err(CutFault::TooManyRows(count)) => Err(Fault::Limit(LimitKind::CutRows, count)),
+        Err(CutFault::NoMemory) => Err(Fault::NoMemory),
+        Err(fault) => Err(Fault::Cut(fault)),
     }
 }
 
@@ -131,12 +127,10 @@ pub(crate) fn read_delay_file<F: Files>(
         (F.faults_of files.old) (F.faults_of files.new) result }
 {
     let headless = Fault::Delays(DelayFault::MissingColumn(Column::Class));
-    match load_rows(alloc, files, path, Input::Delays, headless, limits) {
-        Err(fault) => Err(fault),
-        Ok(rows) => match DelayTable::read(alloc, &rows) {
-            Ok(table) => Ok(table),
-            Err(DelayFault::NoMemory) => Err(Fault::NoMemory),
-            Err(fault) => Err(Fault::Delays(fault)),
-        },
+    let rows = load_rows(alloc, files, path, Input::Delays, headless, limits)?;
+    match DelayTable::read(alloc, &rows) {
+        Ok(table) => Ok(table),
+        Err(DelayFault::NoMemory) => Err(Fault::NoMemory),
+        Err(fault) => Err(Fault::Delays(fault)),
     }
 }

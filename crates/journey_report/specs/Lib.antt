@@ -1,4 +1,3 @@
-pub mod Moments
 pub mod Known
 pub mod Wants
 pub mod Findings

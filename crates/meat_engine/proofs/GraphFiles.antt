@@ -1,6 +1,7 @@
 -- The head and the graph of a graph file, from its bytes.
 use Rattle.std.proofs.Common.{◌≡◌, ℕ, List, Option, None, Result, Ok, Err, ap, ◌∙◌, refl, sym}
 use Rattle.std.specs.Prelude.{◌≢◌, IfErr, IfOk, IfSome}
+use Rattle.plan_model.specs.Results.{and_then}
 use Rattle.file_ports.specs.Ports.{Folder, file_at}
 use Rattle.csv_rows.specs.declared.limits.Limits.{Limits}
 use Rattle.plan_graph.specs.declared.PlanGraph.{PlanGraph}
@@ -14,7 +15,7 @@ use Rattle.fault_lines.specs.declared.faults.Fault.{Fault}
 use Rattle.fault_lines.specs.declared.faults.Fault.TheVariants.{NoMemory}
 use Rattle.fault_lines.specs.Faults.{unread_of}
 use Rattle.journey_report.specs.declared.problem.Problem.{Problem}
-use Rattle.journey_problem.specs.Files.{bytes_of, and_then, Finds}
+use Rattle.journey_problem.specs.Files.{bytes_of, Finds}
 use Rattle.meat_engine.specs.GraphFiles.{graph_as, graph_in, IsGraphFile}
 
 module _ (limits : Limits) (p : Problem) (start : ℕ) (file : Option (List ℕ)) (bytes text : List ℕ) (there : bytes_of limits.bytes input.Graph None file ≡ Ok bytes) (same : text ≡ bytes) where

@@ -1,5 +1,6 @@
 -- What is read of a graph file, and why what is asked of its graph has no answer.
 use Rattle.std.specs.Prelude.{◌≡◌, ◌⊎◌, ℕ, List, Option, None, Result, Ok, Err, IfSome}
+use Rattle.plan_model.specs.Results.{and_then}
 use Rattle.file_ports.specs.Ports.{Folder, file_at}
 use Rattle.csv_rows.specs.declared.limits.Limits.{Limits}
 use Rattle.plan_graph.specs.declared.PlanGraph.{PlanGraph}
@@ -18,7 +19,7 @@ use Rattle.fault_lines.specs.Stages.{IsOfInput}
 use Rattle.journey_report.specs.declared.problem.Problem.{Problem}
 use Rattle.graph_answers.specs.Trips.{IsTripFault}
 use Rattle.graph_answers.specs.Scores.{IsUnsafeGraph}
-use Rattle.journey_problem.specs.Files.{bytes_of, and_then}
+use Rattle.journey_problem.specs.Files.{bytes_of}
 
 -- a fault of a graph's text as one of the run
 abbrev pub text_as : TextFault → Fault

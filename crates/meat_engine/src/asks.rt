@@ -4,14 +4,13 @@ ghost use Rattle.csv_rows.specs.Limits.{AreWithin};
 ghost use Rattle.plan_model.specs.NameLists.{NamesFit};
 ghost use Rattle.command_line.specs.Ranges.{IsJourney, IsAsk};
 ghost use Rattle.command_line.specs.Shown.{journey_shown, ask_shown};
-ghost use Rattle.command_line.specs.Values.{first_start};
+ghost use Rattle.plan_model.specs.Bounds.{first_start, last_start};
 ghost use Rattle.fault_lines.specs.Sites.{IsTellable};
 ghost use Rattle.journey_problem.specs.Files.{path_of, HasCauses};
 ghost use Rattle.journey_problem.specs.Problems.{InProblem};
 ghost use Rattle.meat_engine.specs.Asks.{own_paths, AnswersAsk, FailsAsk, FailsJourney};
 ghost use Rattle.journey_report.specs.Known.{parts_of};
 ghost use Rattle.journey_report.specs.Findings.{findings_of};
-ghost use Rattle.journey_report.specs.Moments.{last_start};
 ghost use Rattle.meat_engine.specs.Refusals.{IsRefusalBy, by_fault};
 
 use crate::graph_files::{check_graph_over, replay_over};

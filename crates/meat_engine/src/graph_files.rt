@@ -17,7 +17,7 @@ ghost use Rattle.journey_report.specs.Findings.{findings_of};
 ghost use Rattle.meat_engine.specs.GraphFiles.{graph_as, graph_in, InGraphFile, FailsReplay, FailsScore};
 ghost use Rattle.graph_answers.specs.Trips.{IsTripTold};
 ghost use Rattle.graph_answers.specs.Scores.{IsEnclosed};
-ghost use Rattle.journey_report.specs.Moments.{last_start};
+ghost use Rattle.plan_model.specs.Bounds.{last_start};
 
 use csv_rows::Limits;
 use fault_lines::{Fault, Input};
@@ -86,10 +86,8 @@ fn read_graph_file<F: Files>(
         (F.faults_of files.old) (F.faults_of files.new) result }
 {
     read_fits();
-    match load_bytes(alloc, files, path, Input::Graph, limits) {
-        Err(fault) => Err(fault),
-        Ok(bytes) => graph_of_bytes(alloc, bytes.as_slice(), problem, start),
-    }
+    let bytes = load_bytes(alloc, files, path, Input::Graph, limits)?;
+    graph_of_bytes(alloc, bytes.as_slice(), problem, start)
 }
 
 /// The trip by the graph of a file, with the delays that were met.
@@ -119,10 +117,8 @@ pub(crate) fn replay_over<F: Files>(
         (F.faults files.old) (F.faults files.new)
         (F.faults_of files.old) (F.faults_of files.new) result }
 {
-    match read_graph_file(alloc, files, graph, problem, start, limits) {
-        Err(fault) => Err(fault),
-        Ok((head, graph)) => trip_over(alloc, problem, head, graph, late),
-    }
+    let (head, graph) = read_graph_file(alloc, files, graph, problem, start, limits)?;
+    trip_over(alloc, problem, head, graph, late)
 }
 
 /// Bounds on the expected arrival of the graph of a file.
@@ -149,8 +145,6 @@ pub(crate) fn check_graph_over<F: Files>(
         (F.faults files.old) (F.faults files.new)
         (F.faults_of files.old) (F.faults_of files.new) result }
 {
-    match read_graph_file(alloc, files, graph, problem, start, limits) {
-        Err(fault) => Err(fault),
-        Ok((head, graph)) => score_over(alloc, problem, head, graph),
-    }
+    let (head, graph) = read_graph_file(alloc, files, graph, problem, start, limits)?;
+    score_over(alloc, problem, head, graph)
 }

@@ -11,7 +11,7 @@ ghost use Rattle.journey_report.specs.Known.{parts_of};
 ghost use Rattle.meat_engine.specs.ProofFiles.{TellsProof, FailsText, IsProofFile, InProofFile, FailsProof, FailsCheck};
 ghost use Rattle.graph_answers.specs.Checks.{IsHeld};
 ghost use Rattle.journey_report.specs.Findings.{findings_of};
-ghost use Rattle.journey_report.specs.Moments.{last_start};
+ghost use Rattle.plan_model.specs.Bounds.{last_start};
 
 use csv_rows::Limits;
 use fault_lines::{Fault, Input};
@@ -72,10 +72,8 @@ fn read_proof_file<F: Files>(
         (F.faults files.old) (F.faults files.new)
         (F.faults_of files.old) (F.faults_of files.new) result }
 {
-    match load_bytes(alloc, files, path, Input::Proof, limits) {
-        Err(fault) => Err(fault),
-        Ok(bytes) => proof_of_bytes(alloc, bytes.as_slice(), problem, start),
-    }
+    let bytes = load_bytes(alloc, files, path, Input::Proof, limits)?;
+    proof_of_bytes(alloc, bytes.as_slice(), problem, start)
 }
 
 /// Whether the certificate of a file holds.
@@ -102,8 +100,6 @@ pub(crate) fn check_proof_over<F: Files>(
         (F.faults files.old) (F.faults files.new)
         (F.faults_of files.old) (F.faults_of files.new) result }
 {
-    match read_proof_file(alloc, files, proof, problem, start, limits) {
-        Err(fault) => Err(fault),
-        Ok((query, proof)) => check_over(alloc, problem, query, proof),
-    }
+    let (query, proof) = read_proof_file(alloc, files, proof, problem, start, limits)?;
+    check_over(alloc, problem, query, proof)
 }

@@ -19,7 +19,7 @@ use Rattle.fault_lines.specs.Sites.{last_printable}
 use Rattle.journey_report.specs.declared.problem.Problem.{Problem}
 use Rattle.journey_report.specs.Findings.{Findings, safe_findings, expand_findings, plan_findings}
 use Rattle.journey_report.specs.Texts.{safe_text}
-use Rattle.journey_report.specs.Moments.{after_arrivals, last_start}
+use Rattle.plan_model.specs.Bounds.{end_of_time, last_start}
 use Rattle.journey_report.specs.Wants.{OrNoMemory}
 
 -- this is the least worst arrival of the query
@@ -80,6 +80,6 @@ pub record IsPrintable (n : Parts) (q : Query) (worst : Moment) : Type 0 where
   pub target : q.target.0 < length n.change
   pub start : q.start.0 ≤ last_start
   pub order : q.start.0 ≤ worst.0
-  pub early : worst.0 < after_arrivals
+  pub early : worst.0 < end_of_time
   pub deadline : worst.0 ≤ q.deadline.0
   pub late : q.deadline.0 ≤ last_printable

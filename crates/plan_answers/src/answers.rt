@@ -8,7 +8,7 @@ ghost use Rattle.decision_graph.specs.Expanded.{IsExpanded};
 ghost use Rattle.command_line.specs.Ranges.{IsPercentage};
 ghost use Rattle.plan_answers.specs.Answers.{IsWorst, IsAsked, InQuery, IsPrintable, TellsWorst, TellsExpanded, TellsPlanned, FailsIn};
 ghost use Rattle.journey_report.specs.Findings.{findings_of};
-ghost use Rattle.journey_report.specs.Moments.{after_arrivals, last_start};
+ghost use Rattle.plan_model.specs.Bounds.{end_of_time, last_start};
 
 use decision_graph::{CompactPlan, ExpandedPlan, expand, plan};
 use fault_lines::Fault;
@@ -41,11 +41,11 @@ fn worst_of<B: BackwardOrder>(
     requires whole { IsScanOrder problem.now.network (B.rest order.old problem.now.network) }
     requires source { problem.now.source.0 < length problem.now.network.change }
     requires target { problem.now.target.0 < length problem.now.network.change }
-    requires start { start.0 < after_arrivals }
+    requires start { start.0 < end_of_time }
     ensures least { IfOk result
         (LeastWorst problem.now.network problem.now.source.0 problem.now.target.0 start.0) }
     ensures order { IfOk result (λ worst. IfSome worst (λ w. start.0 ≤ w.0)) }
-    ensures early { IfOk result (λ worst. IfSome worst (λ w. w.0 < after_arrivals)) }
+    ensures early { IfOk result (λ worst. IfSome worst (λ w. w.0 < end_of_time)) }
     ensures fits { IfOk result (λ worst. B.fits order.new problem.now.network) }
 {
     let tables: ScanTables<WorstMoment> = ScanTables::reserve(alloc, &problem.network)?;

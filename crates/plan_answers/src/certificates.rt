@@ -5,7 +5,7 @@ ghost use Rattle.command_line.specs.Ranges.{IsPercentage};
 ghost use Rattle.plan_answers.specs.Answers.{InQuery, IsPrintable, FailsIn};
 ghost use Rattle.plan_answers.specs.Certified.{TellsCertificate};
 ghost use Rattle.journey_report.specs.Findings.{findings_of};
-ghost use Rattle.journey_report.specs.Moments.{last_start};
+ghost use Rattle.plan_model.specs.Bounds.{last_start};
 
 use crate::answers::{Asked, asked_of};
 use fault_lines::Fault;

@@ -13,7 +13,7 @@ ghost use Rattle.fault_lines.specs.Sites.{last_printable};
 ghost use Rattle.graph_text.specs.Texts.{graph_text};
 ghost use Rattle.plan_answers.specs.Answers.{InQuery, IsPrintable, FailsIn, head_of};
 ghost use Rattle.journey_report.specs.Findings.{findings_of, punctual_findings};
-ghost use Rattle.journey_report.specs.Moments.{last_start};
+ghost use Rattle.plan_model.specs.Bounds.{last_start};
 ghost use Rattle.plan_answers.specs.Punctual.{TellsPunctual};
 ghost use Rattle.journey_report.specs.Texts.{punctual_row};
 

@@ -12,28 +12,28 @@ use Rattle.lower_proof.proofs.Range.{moment_range}
 use Rattle.meat_engine.proofs.GraphFiles.{graph_finds}
 use Rattle.meat_engine.proofs.graph_files.read_graph_file.Goals as goal
 
-pub returns-in-Ok-clause-graph : goal.returns-in-Ok-clause-graph
-returns-in-Ok-clause-graph g c =
-    let bytes = c.in-Ok.bytes.items in
+pub returns-clause-graph : goal.returns-clause-graph
+returns-clause-graph g c =
+    let bytes = c.in_ok-bytes.bytes.items in
     if_some_then (g.F.Files.files c.args.files.now) (λ (m : Folder). bytes_of c.args.limits.now.bytes input.Graph None (file_at m c.args.path.now) ≡ Ok bytes) _
     (λ m there. graph_finds c.args.limits.now c.args.problem.now c.args.start.0 (file_at m c.args.path.now) bytes c.as_slice.result.now there c.as_slice.ensures.value
     c.graph_of_bytes.result c.graph_of_bytes.ensures.graph c.graph_of_bytes.ensures.fault c.graph_of_bytes.ensures.read)
-    c.in-Ok.ensures.bytes
+    c.in_ok-bytes.ensures.bytes
 
-pub returns-in-Ok-clause-fit : goal.returns-in-Ok-clause-fit
-returns-in-Ok-clause-fit g c =
+pub returns-clause-fit : goal.returns-clause-fit
+returns-clause-fit g c =
     if_ok_then c.graph_of_bytes.result _ _
     (λ f read. (c.read_fits.ensures c.args.problem.now.network c.args.problem.now.names c.as_slice.result.now c.args.problem.now.source.0 c.args.problem.now.target.0 c.args.start.0 f.0 f.1 read).0)
     c.graph_of_bytes.ensures.graph
 
-pub returns-in-Ok-clause-head : goal.returns-in-Ok-clause-head
-returns-in-Ok-clause-head g c =
+pub returns-clause-head : goal.returns-clause-head
+returns-clause-head g c =
     if_ok_then c.graph_of_bytes.result _ _
     (λ f read. (c.read_fits.ensures c.args.problem.now.network c.args.problem.now.names c.as_slice.result.now c.args.problem.now.source.0 c.args.problem.now.target.0 c.args.start.0 f.0 f.1 read).1)
     c.graph_of_bytes.ensures.graph
 
-pub returns-in-Ok-clause-deadline : goal.returns-in-Ok-clause-deadline
-returns-in-Ok-clause-deadline g c =
+pub returns-clause-deadline : goal.returns-clause-deadline
+returns-clause-deadline g c =
     if_ok_then c.graph_of_bytes.result _ _
     (λ f read. let told =
     graph_deadline c.args.problem.now.network c.args.problem.now.names c.args.problem.now.source.0 c.args.problem.now.target.0 c.args.start.0
@@ -41,10 +41,10 @@ returns-in-Ok-clause-deadline g c =
     moment_range told.0 f.0.query.deadline.0 told.1)
     c.graph_of_bytes.ensures.graph
 
-pub returns-in-Ok-clause-own : goal.returns-in-Ok-clause-own
-returns-in-Ok-clause-own g c =
+pub returns-clause-own : goal.returns-clause-own
+returns-clause-own g c =
     if_err_then c.graph_of_bytes.result _ _
     (λ fault none. subst (λ (u : Option Input). IfSome u (λ other. other ≡ input.Graph)) (sym none) tt) c.graph_of_bytes.ensures.read
 
-pub returns-in-Ok-clause-causes : goal.returns-in-Ok-clause-causes
-returns-in-Ok-clause-causes g c = causes-quiet c.in-Ok.bytes _ c.in-Ok.ensures.causes c.graph_of_bytes.ensures.read
+pub returns-clause-causes : goal.returns-clause-causes
+returns-clause-causes g c = causes-quiet c.in_ok-bytes.bytes _ c.in_ok-bytes.ensures.causes c.graph_of_bytes.ensures.read
