@@ -1,4 +1,6 @@
 //! A small feed, and what becomes of it where a table is another.
+ghost use Rattle.csv_rows.specs.Limits.{AreWithin};
+
 use csv_rows::{Column, FeedFault, Limits, Table};
 use file_ports::SteadyFiles;
 use gtfs_tables::{Feed, StopRow};
@@ -40,52 +42,124 @@ fn feed_with(alloc: Global, path: &str, text: &str) -> Result<SteadyFiles, NoMem
     Ok(files)
 }
 
-/// The fault of the feed with another text at a path.
-fn fault_with(alloc: Global, path: &str, text: &str) -> Option<FeedFault> {
-    let Ok(mut files) = feed_with(alloc, path, text) else {
-        return Some(FeedFault::NoMemory);
-    };
-    Feed::read(alloc, &mut files, "feed", &Limits::standard()).err()
+/// The limits with which the largest feed is read.
+fn limits() -> Limits
+    ensures { AreWithin result }
+{
+    Limits::standard()
 }
 
-/// The fault of the feed with these rows of stop times.
-fn fault_of_times(alloc: Global, rows: &str) -> Option<FeedFault> {
-    let columns = "trip_id,stop_id,stop_sequence,arrival_time,departure_time";
-    match format!(in alloc; "{columns}\n{rows}") {
-        Ok(text) => fault_with(alloc, "feed/stop_times.txt", text.as_str()),
-        Err(_) => Some(FeedFault::NoMemory),
+fn read_in(alloc: Global, files: &mut SteadyFiles) -> Result<Feed, FeedFault> {
+    Feed::read(alloc, files, "feed", &limits())
+}
+
+/// The feed with another text at a path.
+fn read_with(alloc: Global, path: &str, text: &str) -> Result<Feed, FeedFault> {
+    match feed_with(alloc, path, text) {
+        Ok(mut files) => read_in(alloc, &mut files),
+        Err(_) => Err(FeedFault::NoMemory),
     }
+}
+
+fn fault_with(alloc: Global, path: &str, text: &str) -> Option<FeedFault> {
+    read_with(alloc, path, text).err()
 }
 
 /// The feed, with a table of frequencies that has no row.
 fn small_feed(alloc: Global) -> Result<Feed, FeedFault> {
     let header = "trip_id,start_time,end_time,headway_secs\n";
-    match feed_with(alloc, "feed/frequencies.txt", header) {
-        Ok(mut files) => Feed::read(alloc, &mut files, "feed", &Limits::standard()),
-        Err(_) => Err(FeedFault::NoMemory),
+    read_with(alloc, "feed/frequencies.txt", header)
+}
+
+/// The id of a stop, where there is one of this number.
+fn stop_at(feed: &Feed, stop: u32) -> Option<&str> {
+    if stop < feed.stop_count() {
+        Some(feed.stop_id(stop))
+    } else {
+        None
     }
 }
 
+/// Ids with the stop and the place that they name.
+const IDS: [(&str, Option<u32>, Option<PlaceId>); 5] = [
+    ("S,1", Some(0), Some(PlaceId(0))),
+    ("S1a", Some(1), Some(PlaceId(0))),
+    ("S1b", Some(2), Some(PlaceId(0))),
+    ("AIR", Some(3), Some(PlaceId(3))),
+    ("t100", None, None),
+];
+
+/// The stop and the place that an id names.
+fn named(feed: &Feed, id: &str) -> (Option<u32>, Option<PlaceId>) {
+    (feed.stop_of(id), feed.place_of(id))
+}
+
+/// How many stops there are, and how many trips.
+fn counts(feed: &Feed) -> (u32, u32) {
+    (feed.stop_count(), feed.trip_count())
+}
+
+fn named_in(alloc: Global, id: &str) -> Result<(Option<u32>, Option<PlaceId>), FeedFault> {
+    let feed = small_feed(alloc)?;
+    Ok(named(&feed, id))
+}
+
 #[test]
-fn reads_stops(rt: HostRuntime) -> Result<(), Fail> {
-    let Ok(feed) = small_feed(rt.alloc()) else {
-        return Err("no feed".into());
-    };
-    for (id, stop, place) in [
-        ("S,1", Some(0), Some(PlaceId(0))),
-        ("S1a", Some(1), Some(PlaceId(0))),
-        ("S1b", Some(2), Some(PlaceId(0))),
-        ("AIR", Some(3), Some(PlaceId(3))),
-        ("t100", None, None),
-    ] {
-        assert_eq!(rt; feed.stop_of(id), stop, "{id}");
-        assert_eq!(rt; feed.place_of(id), place, "{id}");
+fn reads_stops(rt: HostRuntime) {
+    for (id, stop, place) in IDS {
+        assert_eq!(rt; named_in(rt.alloc(), id), Ok((stop, place)), "{id}");
     }
-    assert_eq!(rt; feed.stop_count(), 6);
-    if feed.stop_count() == 6 {
-        assert_eq!(rt; feed.stop_id(5), "HLF");
+}
+
+/// How many stops and trips there are, and whether this is the id of the last stop.
+fn counts_in(alloc: Global, last: &str) -> Result<((u32, u32), bool), FeedFault> {
+    let feed = small_feed(alloc)?;
+    Ok((counts(&feed), stop_at(&feed, 5) == Some(last)))
+}
+
+#[test]
+fn counts_stops_and_trips(rt: HostRuntime) {
+    assert_eq!(rt; counts_in(rt.alloc(), "HLF"), Ok(((6, 3), true)));
+}
+
+/// The id of a trip, its service, the type of its route and the id of its route, where there is one of
+/// this number.
+fn trip_at(feed: &Feed, trip: u32) -> Option<(&str, &str, u16, &str)> {
+    if trip < feed.trip_count() {
+        Some((
+            feed.trip_id(trip),
+            feed.service_of(trip),
+            feed.route_type(trip),
+            feed.route_id(trip),
+        ))
+    } else {
+        None
+    }
+}
+
+const TOLD: [(u32, &str, &str, u16, &str); 3] = [
+    (0, "t100", "WK", 0, "T1"),
+    (1, "b200", "WK", 3, "B7"),
+    (2, "b201", "WK", 3, "B7"),
+];
+
+#[test]
+fn reads_trips(rt: HostRuntime) -> Result<(), Fail> {
+    let feed = small_feed(rt.alloc())?;
+    for (trip, id, service, route_type, route) in TOLD {
+        let told = Some((id, service, route_type, route));
+        assert_eq!(rt; trip_at(&feed, trip), told, "{trip}");
     }
     Ok(())
+}
+
+/// The stops of a trip, where there is one of this number.
+fn visits_of(feed: &Feed, trip: u32) -> Option<&[StopRow]> {
+    if trip < feed.trip_count() {
+        Some(feed.stop_times(trip))
+    } else {
+        None
+    }
 }
 
 /// A stop where one may board and alight.
@@ -100,165 +174,179 @@ fn visit(stop: u32, place: u32, arrival: u32, departure: u32) -> StopRow {
     }
 }
 
-#[test]
-fn reads_trips(rt: HostRuntime) -> Result<(), Fail> {
-    let Ok(feed) = small_feed(rt.alloc()) else {
-        return Err("no feed".into());
-    };
-    assert_eq!(rt; feed.trip_count(), 3);
-    if feed.trip_count() == 3 {
-        assert_eq!(rt; feed.trip_id(2), "b201");
-        assert_eq!(rt; feed.service_of(0), "WK");
-        assert_eq!(rt; feed.route_type(1), 3);
-        assert_eq!(rt; feed.route_id(1), "B7");
-        assert_eq!(rt;
-            feed.stop_times(0),
-            [visit(4, 4, 28_800, 28_800), visit(1, 0, 30_000, 30_060)].as_slice()
-        );
-        assert_eq!(rt;
-            feed.stop_times(2),
-            [visit(2, 0, 31_200, 31_200), visit(3, 3, 32_760, 32_760)].as_slice()
-        );
+/// A copy of the stops of a trip.
+fn copied_visits(alloc: Global, feed: &Feed, trip: u32) -> Result<Vec<StopRow>, Fail> {
+    match visits_of(feed, trip) {
+        Some(visits) => Ok(visits.to_vec(alloc)?),
+        None => Err("no such trip".into()),
     }
+}
+
+fn visits_in(alloc: Global, trip: u32) -> Result<Vec<StopRow>, Fail> {
+    let feed = small_feed(alloc)?;
+    copied_visits(alloc, &feed, trip)
+}
+
+#[test]
+fn reads_the_stops_of_a_tram(rt: HostRuntime) -> Result<(), Fail> {
+    let visits = visits_in(rt.alloc(), 0)?;
+    let want = [visit(4, 4, 28_800, 28_800), visit(1, 0, 30_000, 30_060)];
+    assert_eq!(rt; visits.as_slice(), want.as_slice());
     Ok(())
 }
 
 #[test]
-fn accepts_an_empty_table_of_frequencies(rt: HostRuntime) {
-    let fault = fault_with(rt.alloc(), "feed/frequencies.txt", "");
-    assert_eq!(rt; fault, None);
+fn reads_the_stops_of_a_bus(rt: HostRuntime) -> Result<(), Fail> {
+    let visits = visits_in(rt.alloc(), 2)?;
+    let want = [visit(2, 0, 31_200, 31_200), visit(3, 3, 32_760, 32_760)];
+    assert_eq!(rt; visits.as_slice(), want.as_slice());
+    Ok(())
 }
 
-#[test]
-fn accepts_stops_and_stations(rt: HostRuntime) {
-    for stops in [
+const STOPS_PATH: &str = "feed/stops.txt";
+
+const TRIPS_PATH: &str = "feed/trips.txt";
+
+const TIMES_PATH: &str = "feed/stop_times.txt";
+
+const REPEATS_PATH: &str = "feed/frequencies.txt";
+
+/// Tables with which the feed is read: an empty one, stops and stations, and late times in any order.
+const ACCEPTED: [(&str, &str); 5] = [
+    (REPEATS_PATH, ""),
+    (
+        STOPS_PATH,
         "stop_id,parent_station\nMIL,MIL\nHLF,\nS1a,MIL\nS1b,S1a\nAIR,\n",
+    ),
+    (
+        STOPS_PATH,
         "stop_id,parent_station,location_type\nMIL,X,2\nHLF,X,3\nS1a,X,4\nS1b,X,1\nAIR\n",
-    ] {
-        assert_eq!(rt;
-            fault_with(rt.alloc(), "feed/stops.txt", stops),
-            None,
-            "{stops}"
-        );
+    ),
+    (
+        TIMES_PATH,
+        "trip_id,stop_id,stop_sequence,arrival_time,departure_time\nt100,MIL,1,,167:59:59\n",
+    ),
+    (
+        TIMES_PATH,
+        "trip_id,stop_id,stop_sequence,arrival_time,departure_time\nt100,MIL,2,25:00:00,\nt100,AIR,1,24:00:00\n",
+    ),
+];
+
+#[test]
+fn accepts_tables(rt: HostRuntime) {
+    for (path, text) in ACCEPTED {
+        assert_eq!(rt; fault_with(rt.alloc(), path, text), None, "{text}");
     }
 }
 
-#[test]
-fn accepts_late_times_in_any_order(rt: HostRuntime) {
-    for rows in [
-        "t100,MIL,1,,167:59:59\n",
-        "t100,MIL,2,25:00:00,\nt100,AIR,1,24:00:00\n",
-    ] {
-        assert_eq!(rt; fault_of_times(rt.alloc(), rows), None, "{rows}");
-    }
-}
-
-#[test]
-fn refuses_by_table(rt: HostRuntime) {
-    for (path, text, fault) in [
-        (
-            "feed/trips.txt",
-            "",
-            FeedFault::MissingColumn(Table::Trips, Column::RouteId),
-        ),
-        (
-            "feed/routes.txt",
-            "route_id\n,\n",
-            FeedFault::MissingColumn(Table::Routes, Column::RouteType),
-        ),
-        (
-            "feed/frequencies.txt",
-            "trip_id\nx\n",
-            FeedFault::MissingColumn(Table::Frequencies, Column::StartTime),
-        ),
-    ] {
-        assert_eq!(rt; fault_with(rt.alloc(), path, text), Some(fault), "{text}");
-    }
-}
-
-#[test]
-fn refuses_stops_by_line_and_column(rt: HostRuntime) {
-    let stops = "stop_id,location_type\nA,02\n\"\",\n";
-    let fault = FeedFault::BadField(Table::Stops, 2, Column::LocationType);
-    assert_eq!(rt;
-        fault_with(rt.alloc(), "feed/stops.txt", stops),
-        Some(fault)
-    );
-}
-
-#[test]
-fn refuses_times_by_column(rt: HostRuntime) {
-    for (row, fault) in [
-        (
-            "t999,MIL,1,8:60:00,\n",
-            FeedFault::UnknownKey(Table::StopTimes, 2, Column::TripId),
-        ),
-        (
-            "t100,MIL,1,8:60:00,\n",
-            FeedFault::BadField(Table::StopTimes, 2, Column::ArrivalTime),
-        ),
-        (
-            "t100,,x,,\n",
-            FeedFault::BadField(Table::StopTimes, 2, Column::StopSequence),
-        ),
-    ] {
-        assert_eq!(rt; fault_of_times(rt.alloc(), row), Some(fault), "{row}");
-    }
-}
-
-#[test]
-fn refuses_keys_after_fields(rt: HostRuntime) {
-    for (path, text, fault) in [
-        (
-            "feed/trips.txt",
-            "route_id,service_id,trip_id\nT1,WK,t100\nB7,WK,b200\nB7,WK,b201\nB7,WK,b200\n",
-            FeedFault::DuplicateKey(Table::Trips, 5),
-        ),
-        (
-            "feed/stops.txt",
-            "stop_id,parent_station\nA,Z\nB,\nB,\n",
-            FeedFault::DuplicateKey(Table::Stops, 4),
-        ),
-        (
-            "feed/stops.txt",
-            "stop_id,parent_station\nA,\nB,Z\n",
-            FeedFault::UnknownKey(Table::Stops, 3, Column::ParentStation),
-        ),
-    ] {
-        assert_eq!(rt; fault_with(rt.alloc(), path, text), Some(fault), "{text}");
-    }
-}
-
-#[test]
-fn refuses_a_sequence_twice(rt: HostRuntime) {
-    let rows = "t100,,1,,\nt100,MIL,001,8:00:00,\n";
-    let fault = FeedFault::DuplicateKey(Table::StopTimes, 3);
-    assert_eq!(rt; fault_of_times(rt.alloc(), rows), Some(fault));
-}
-
-#[test]
-fn refuses_times_that_go_back(rt: HostRuntime) {
-    for rows in [
+/// Tables with their first fault: by table, by line and column, and keys after fields.
+const REFUSED: [(&str, &str, FeedFault); 13] = [
+    (
+        TRIPS_PATH,
+        "",
+        FeedFault::MissingColumn(Table::Trips, Column::RouteId),
+    ),
+    (
+        "feed/routes.txt",
+        "route_id\n,\n",
+        FeedFault::MissingColumn(Table::Routes, Column::RouteType),
+    ),
+    (
+        REPEATS_PATH,
+        "trip_id\nx\n",
+        FeedFault::MissingColumn(Table::Frequencies, Column::StartTime),
+    ),
+    (
+        STOPS_PATH,
+        "stop_id,location_type\nA,02\n\"\",\n",
+        FeedFault::BadField(Table::Stops, 2, Column::LocationType),
+    ),
+    (
+        TIMES_PATH,
+        "trip_id,stop_id,stop_sequence,arrival_time,departure_time\nt999,MIL,1,8:60:00,\n",
+        FeedFault::UnknownKey(Table::StopTimes, 2, Column::TripId),
+    ),
+    (
+        TIMES_PATH,
+        "trip_id,stop_id,stop_sequence,arrival_time,departure_time\nt100,MIL,1,8:60:00,\n",
+        FeedFault::BadField(Table::StopTimes, 2, Column::ArrivalTime),
+    ),
+    (
+        TIMES_PATH,
+        "trip_id,stop_id,stop_sequence,arrival_time,departure_time\nt100,,x,,\n",
+        FeedFault::BadField(Table::StopTimes, 2, Column::StopSequence),
+    ),
+    (
+        TRIPS_PATH,
+        "route_id,service_id,trip_id\nT1,WK,t100\nB7,WK,b200\nB7,WK,b201\nB7,WK,b200\n",
+        FeedFault::DuplicateKey(Table::Trips, 5),
+    ),
+    (
+        STOPS_PATH,
+        "stop_id,parent_station\nA,Z\nB,\nB,\n",
+        FeedFault::DuplicateKey(Table::Stops, 4),
+    ),
+    (
+        STOPS_PATH,
+        "stop_id,parent_station\nA,\nB,Z\n",
+        FeedFault::UnknownKey(Table::Stops, 3, Column::ParentStation),
+    ),
+    (
+        TIMES_PATH,
+        "trip_id,stop_id,stop_sequence,arrival_time,departure_time\nt100,,1,,\nt100,MIL,001,8:00:00,\n",
+        FeedFault::DuplicateKey(Table::StopTimes, 3),
+    ),
+    (
         // Past a row that is not kept.
-        "t100,AIR,9,7:59:00,\nt100,MIL,1,8:00:00,\nt100,HLF,5,,\n",
-        "t100,AIR,9,9:00:00,8:59:59\n",
-    ] {
-        let fault = fault_of_times(rt.alloc(), rows);
-        assert_eq!(rt; fault, Some(FeedFault::BackwardTime(2)), "{rows}");
+        TIMES_PATH,
+        "trip_id,stop_id,stop_sequence,arrival_time,departure_time\nt100,AIR,9,7:59:00,\nt100,MIL,1,8:00:00,\nt100,HLF,5,,\n",
+        FeedFault::BackwardTime(2),
+    ),
+    (
+        TIMES_PATH,
+        "trip_id,stop_id,stop_sequence,arrival_time,departure_time\nt100,AIR,9,9:00:00,8:59:59\n",
+        FeedFault::BackwardTime(2),
+    ),
+];
+
+#[test]
+fn refuses_tables(rt: HostRuntime) {
+    for (path, text, fault) in REFUSED {
+        assert_eq!(rt; fault_with(rt.alloc(), path, text), Some(fault), "{text}");
     }
 }
 
-#[test]
-fn wants_its_tables_and_limits(rt: HostRuntime) -> Result<(), Fail> {
-    let alloc = rt.alloc();
-    let Ok(mut files) = feed_with(alloc, "feed/frequencies.txt", "") else {
-        return Err("no files".into());
-    };
+/// The limits with which two stops are read.
+fn two_stops() -> Limits
+    ensures { AreWithin result }
+{
     let mut limits = Limits::standard();
     limits.stops = 2;
-    let few = Feed::read(alloc, &mut files, "feed", &limits).err();
-    assert_eq!(rt; few, Some(FeedFault::TooManyRows(Table::Stops, 6)));
-    let none = Feed::read(alloc, &mut files, "elsewhere", &limits).err();
-    assert_eq!(rt; none, Some(FeedFault::MissingTable(Table::Stops)));
-    Ok(())
+    limits
+}
+
+fn read_two(alloc: Global, files: &mut SteadyFiles, folder: &str) -> Result<Feed, FeedFault> {
+    Feed::read(alloc, files, folder, &two_stops())
+}
+
+/// The fault of a folder of which two stops are read at most.
+fn fault_within(alloc: Global, files: &mut SteadyFiles, folder: &str) -> Option<FeedFault> {
+    read_two(alloc, files, folder).err()
+}
+
+fn fault_in(alloc: Global, folder: &str) -> Option<FeedFault> {
+    match feed_with(alloc, REPEATS_PATH, "") {
+        Ok(mut files) => fault_within(alloc, &mut files, folder),
+        Err(_) => Some(FeedFault::NoMemory),
+    }
+}
+
+#[test]
+fn wants_its_tables_and_limits(rt: HostRuntime) {
+    for (folder, fault) in [
+        ("feed", FeedFault::TooManyRows(Table::Stops, 6)),
+        ("elsewhere", FeedFault::MissingTable(Table::Stops)),
+    ] {
+        assert_eq!(rt; fault_in(rt.alloc(), folder), Some(fault), "{folder}");
+    }
 }

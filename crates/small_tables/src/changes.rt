@@ -1,4 +1,6 @@
 //! A feed with a station of two platforms, and what its transfers tell.
+ghost use Rattle.csv_rows.specs.Limits.{AreWithin};
+
 use change_times::Changes;
 use csv_rows::{Column, FeedFault, Limits, Table};
 use file_ports::SteadyFiles;
@@ -23,112 +25,188 @@ fn files_with(alloc: Global, transfers: &str) -> Result<SteadyFiles, NoMemory> {
     Ok(files)
 }
 
+/// The limits with which the largest feed is read.
+fn limits() -> Limits
+    ensures { AreWithin result }
+{
+    Limits::standard()
+}
+
+fn feed_in(alloc: Global, files: &mut SteadyFiles) -> Result<Feed, FeedFault> {
+    Feed::read(alloc, files, "feed", &limits())
+}
+
+fn changes_in(alloc: Global, files: &mut SteadyFiles, feed: &Feed) -> Result<Changes, FeedFault> {
+    Changes::read(alloc, files, "feed", feed, &limits())
+}
+
+fn read_in(alloc: Global, files: &mut SteadyFiles) -> Result<Changes, FeedFault> {
+    let feed = feed_in(alloc, files)?;
+    changes_in(alloc, files, &feed)
+}
+
 /// What the transfers tell.
 fn read(alloc: Global, transfers: &str) -> Result<Changes, FeedFault> {
-    let Ok(mut files) = files_with(alloc, transfers) else {
-        return Err(FeedFault::NoMemory);
-    };
-    let limits = Limits::standard();
-    match Feed::read(alloc, &mut files, "feed", &limits) {
-        Ok(feed) => Changes::read(alloc, &mut files, "feed", &feed, &limits),
-        Err(fault) => Err(fault),
+    match files_with(alloc, transfers) {
+        Ok(mut files) => read_in(alloc, &mut files),
+        Err(_) => Err(FeedFault::NoMemory),
     }
 }
 
-#[test]
-fn tells_change_times(rt: HostRuntime) -> Result<(), Fail> {
-    for (transfers, station, passed) in [
-        ("", 120, 0),
-        ("from_stop_id,to_stop_id,transfer_type\n", 120, 0),
-        (
-            "from_stop_id,to_stop_id,transfer_type,min_transfer_time\nX1,X2,2,0\n",
-            1,
-            0,
-        ),
-        (
-            "from_stop_id,to_stop_id,transfer_type,min_transfer_time\nX1,X2,2,0\nX2,X1,2,30\n",
-            30,
-            0,
-        ),
-        (
-            "from_stop_id,to_stop_id,transfer_type,min_transfer_time\nX1,X2,2,0\nX2,X1,1,30\n",
-            1,
-            1,
-        ),
-        (
-            "from_stop_id,to_stop_id,transfer_type,min_transfer_time\nX1,X,2,90\nX,X,2,30\nX1,A,2,95\n",
-            90,
-            0,
-        ),
-        (
-            "from_stop_id,to_stop_id,transfer_type,min_transfer_time,to_trip_id\nX1,X2,2,300,t1\nX1,X2,2\n",
-            120,
-            2,
-        ),
-    ] {
-        let Ok(changes) = read(rt.alloc(), transfers) else {
-            return Err("no changes".into());
-        };
-        assert_eq!(rt; changes.seconds(PlaceId(1)), station, "{transfers}");
-        assert_eq!(rt; changes.seconds(PlaceId(0)), 120, "{transfers}");
-        assert_eq!(rt; changes.passed(), passed, "{transfers}");
-    }
-    Ok(())
+/// The change times of the station and of a stop, and how many rows were passed over.
+fn times_of(changes: &Changes) -> (u32, u32, u64) {
+    (
+        changes.seconds(PlaceId(1)),
+        changes.seconds(PlaceId(0)),
+        changes.passed(),
+    )
 }
+
+fn times(alloc: Global, transfers: &str) -> Result<(u32, u32, u64), FeedFault> {
+    let changes = read(alloc, transfers)?;
+    Ok(times_of(&changes))
+}
+
+/// Transfers with the change time of the station that they tell, and how many of them are passed over.
+const TIMES: [(&str, u32, u64); 7] = [
+    ("", 120, 0),
+    ("from_stop_id,to_stop_id,transfer_type\n", 120, 0),
+    (
+        "from_stop_id,to_stop_id,transfer_type,min_transfer_time\nX1,X2,2,0\n",
+        1,
+        0,
+    ),
+    (
+        "from_stop_id,to_stop_id,transfer_type,min_transfer_time\nX1,X2,2,0\nX2,X1,2,30\n",
+        30,
+        0,
+    ),
+    (
+        "from_stop_id,to_stop_id,transfer_type,min_transfer_time\nX1,X2,2,0\nX2,X1,1,30\n",
+        1,
+        1,
+    ),
+    (
+        "from_stop_id,to_stop_id,transfer_type,min_transfer_time\nX1,X,2,90\nX,X,2,30\nX1,A,2,95\n",
+        90,
+        0,
+    ),
+    (
+        "from_stop_id,to_stop_id,transfer_type,min_transfer_time,to_trip_id\nX1,X2,2,300,t1\nX1,X2,2\n",
+        120,
+        2,
+    ),
+];
+
+#[test]
+fn tells_change_times(rt: HostRuntime) {
+    for (transfers, station, passed) in TIMES {
+        assert_eq!(rt;
+            times(rt.alloc(), transfers),
+            Ok((station, 120, passed)),
+            "{transfers}"
+        );
+    }
+}
+
+const LINKS: &str = "from_stop_id,to_stop_id,transfer_type,min_transfer_time\n\
+    X,T,2,7\nX1,A,2,95\nX2,A,2,300\nX1,A,2,40\nA,X2,2,0\nA,T,2,9\nT,T,2,3\nT,A,1,5\nT,A,2,\n";
+
+/// The links into a place.
+fn links_into(changes: &Changes, place: u32) -> &[Way] {
+    changes.links_into(PlaceId(place))
+}
+
+/// Each place, with the links into it.
+const WAYS: [(u32, &[Way]); 6] = [
+    (
+        0,
+        &[Way {
+            from: PlaceId(1),
+            seconds: 300,
+        }],
+    ),
+    (
+        1,
+        &[Way {
+            from: PlaceId(0),
+            seconds: 1,
+        }],
+    ),
+    (2, &[]),
+    (3, &[]),
+    (
+        4,
+        &[
+            Way {
+                from: PlaceId(0),
+                seconds: 9,
+            },
+            Way {
+                from: PlaceId(1),
+                seconds: 7,
+            },
+        ],
+    ),
+    (5, &[]),
+];
 
 #[test]
 fn tells_links(rt: HostRuntime) -> Result<(), Fail> {
-    let transfers = "from_stop_id,to_stop_id,transfer_type,min_transfer_time\n\
-        X,T,2,7\nX1,A,2,95\nX2,A,2,300\nX1,A,2,40\nA,X2,2,0\nA,T,2,9\nT,T,2,3\nT,A,1,5\nT,A,2,\n";
-    let Ok(changes) = read(rt.alloc(), transfers) else {
-        return Err("no changes".into());
-    };
-    let from = |from: u32, seconds: u32| Way {
-        from: PlaceId(from),
-        seconds,
-    };
-    assert_eq!(rt; changes.links_into(PlaceId(0)), [from(1, 300)].as_slice());
-    assert_eq!(rt; changes.links_into(PlaceId(1)), [from(0, 1)].as_slice());
-    assert_eq!(rt;
-        changes.links_into(PlaceId(4)),
-        [from(0, 9), from(1, 7)].as_slice()
-    );
-    for place in [2, 3, 5] {
-        assert!(rt; changes.links_into(PlaceId(place)).is_empty());
+    let changes = read(rt.alloc(), LINKS)?;
+    for (place, links) in WAYS {
+        assert_eq!(rt; links_into(&changes, place), links, "{place}");
     }
-    assert_eq!(rt; changes.seconds(PlaceId(4)), 3);
-    assert_eq!(rt; changes.passed(), 2);
     Ok(())
 }
 
+/// The change time at the last stop, and how many rows were passed over.
+fn last_time(alloc: Global, transfers: &str) -> Result<(u32, u64), FeedFault> {
+    let changes = read(alloc, transfers)?;
+    Ok((changes.seconds(PlaceId(4)), changes.passed()))
+}
+
+#[test]
+fn tells_a_change_time_beside_links(rt: HostRuntime) {
+    assert_eq!(rt; last_time(rt.alloc(), LINKS), Ok((3, 2)));
+}
+
+/// The fault of the transfers.
+fn fault_of(alloc: Global, transfers: &str) -> Option<FeedFault> {
+    read(alloc, transfers).err()
+}
+
+/// Transfers with their first fault.
+const FAULTS: [(&str, Option<FeedFault>); 6] = [
+    (
+        "from_stop_id,transfer_type\nX1,6\n",
+        Some(FeedFault::MissingColumn(Table::Transfers, Column::ToStopId)),
+    ),
+    (
+        "from_stop_id,to_stop_id,transfer_type,min_transfer_time\nZ,,1,x\n,Z,,x\n",
+        None,
+    ),
+    (
+        "from_stop_id,to_stop_id,transfer_type,min_transfer_time\nA,A,0,\nZ,Z,02,x\n",
+        Some(FeedFault::BadField(Table::Transfers, 3, Column::TransferType)),
+    ),
+    (
+        "from_stop_id,to_stop_id,transfer_type,min_transfer_time\nA,,2,x\nZ,A,2,\n",
+        Some(FeedFault::BadField(Table::Transfers, 2, Column::ToStopId)),
+    ),
+    (
+        "from_stop_id,to_stop_id,transfer_type,min_transfer_time\nZ,,2,x\n",
+        Some(FeedFault::UnknownKey(Table::Transfers, 2, Column::FromStopId)),
+    ),
+    (
+        "from_stop_id,to_stop_id,transfer_type,min_transfer_time\nA,T,2,86401\n",
+        Some(FeedFault::BadField(Table::Transfers, 2, Column::MinTransferTime)),
+    ),
+];
+
 #[test]
 fn refuses_the_first_fault(rt: HostRuntime) {
-    for (transfers, fault) in [
-        (
-            "from_stop_id,transfer_type\nX1,6\n",
-            Some(FeedFault::MissingColumn(Table::Transfers, Column::ToStopId)),
-        ),
-        (
-            "from_stop_id,to_stop_id,transfer_type,min_transfer_time\nZ,,1,x\n,Z,,x\n",
-            None,
-        ),
-        (
-            "from_stop_id,to_stop_id,transfer_type,min_transfer_time\nA,A,0,\nZ,Z,02,x\n",
-            Some(FeedFault::BadField(Table::Transfers, 3, Column::TransferType)),
-        ),
-        (
-            "from_stop_id,to_stop_id,transfer_type,min_transfer_time\nA,,2,x\nZ,A,2,\n",
-            Some(FeedFault::BadField(Table::Transfers, 2, Column::ToStopId)),
-        ),
-        (
-            "from_stop_id,to_stop_id,transfer_type,min_transfer_time\nZ,,2,x\n",
-            Some(FeedFault::UnknownKey(Table::Transfers, 2, Column::FromStopId)),
-        ),
-        (
-            "from_stop_id,to_stop_id,transfer_type,min_transfer_time\nA,T,2,86401\n",
-            Some(FeedFault::BadField(Table::Transfers, 2, Column::MinTransferTime)),
-        ),
-    ] {
-        assert_eq!(rt; read(rt.alloc(), transfers).err(), fault, "{transfers}");
+    for (transfers, fault) in FAULTS {
+        assert_eq!(rt; fault_of(rt.alloc(), transfers), fault, "{transfers}");
     }
 }
