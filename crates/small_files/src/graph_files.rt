@@ -6,10 +6,10 @@ ghost use Rattle.plan_model.specs.NameLists.{NamesFit};
 use graph_text::{
     Head, TextFault, fit_is_printable, read, read_fits, ready_is_printable, write, write_expanded,
 };
-use plan_graph::PlanGraph;
+use plan_graph::{GraphRow, PlanGraph};
 use plan_model::{Moment, Names, Network, PlaceId, Query};
 use small_networks::{
-    BUSES, EIGHT, EXPECTED, asked, expanded, leg, limits, named_network, nanos, planned, row,
+    BUSES, EIGHT, EXPECTED, asked, expanded, leg, limits, named_network, nanos, planned,
     rows_by_place,
 };
 use std::alloc::Global;
@@ -25,7 +25,11 @@ const SOONER: &str = "leg,2024-06-03T08:22:00,r2,1,2024-06-03T08:24:00,1,T,2024-
 
 const LATER: &str = "leg,2024-06-03T08:38:00,r3,1,2024-06-03T08:40:00,1,T,2024-06-03T09:06:00";
 
-const GRAPH: [&str; 5] = [HEAD, START, "place,B,120,2,,,,", SOONER, LATER];
+const TWO_ROWS: &str = "place,B,120,2,,,,";
+
+const ONE_ROW: &str = "place,B,120,1,,,,";
+
+const GRAPH: [&str; 5] = [HEAD, START, TWO_ROWS, SOONER, LATER];
 
 /// The text of the graph by ride.
 const EXPANDED: [&str; 8] = [
@@ -49,27 +53,31 @@ fn text_of(alloc: Global, lines: &[&str], end: &str) -> Result<String, Fail> {
     Ok(text)
 }
 
-/// What is read of a graph from A to T at eight o'clock.
-fn graph_of(alloc: Global, text: &str) -> Result<Result<(Head, PlanGraph), TextFault>, Fail> {
-    let (network, names) = named_network(alloc, BUSES, 3)?;
-    Ok(read(
+/// What is read of a graph from A to T at eight o'clock, over these rides.
+fn read_over(
+    alloc: Global,
+    text: &str,
+    network: &Network,
+    names: &Names,
+) -> Result<(Head, PlanGraph), TextFault>
+    requires { NamesFit names.now network.now }
+{
+    let start = Moment(EIGHT);
+    read(
         alloc,
         text.as_bytes(),
-        &network,
-        &names,
+        network,
+        names,
         PlaceId(0),
         PlaceId(2),
-        Moment(EIGHT),
-    ))
+        start,
+    )
 }
 
-/// The head and the graph of the two ways on from B.
-fn two_ways(alloc: Global) -> Result<(Head, PlanGraph), Fail> {
-    let text = text_of(alloc, GRAPH.as_slice(), "\n")?;
-    match graph_of(alloc, text.as_str())? {
-        Ok(told) => Ok(told),
-        Err(_) => Err("no graph".into()),
-    }
+/// What is read over the three buses.
+fn graph_of(alloc: Global, text: &str) -> Result<Result<(Head, PlanGraph), TextFault>, Fail> {
+    let parts = named_network(alloc, BUSES, 3)?;
+    Ok(read_over(alloc, text, &parts.0, &parts.1))
 }
 
 fn fault_of(alloc: Global, lines: &[&str]) -> Result<Option<TextFault>, Fail> {
@@ -77,143 +85,156 @@ fn fault_of(alloc: Global, lines: &[&str]) -> Result<Option<TextFault>, Fail> {
     Ok(graph_of(alloc, text.as_str())?.err())
 }
 
-/// The trip by a graph under these delays.
-fn trip(alloc: Global, lines: &[&str], delays: &[u32]) -> Result<Result<Trace, ReplayFault>, Fail> {
+/// The query of a graph, its bounds in nanoseconds, and its rows for B.
+type Told = (Query, (u64, u64), Vec<GraphRow>);
+
+fn rows_of(alloc: Global, graph: &PlanGraph) -> Result<Vec<GraphRow>, Fail> {
+    Ok(rows_by_place(graph)?.to_vec(alloc)?)
+}
+
+fn parts_of(alloc: Global, head: &Head, graph: &PlanGraph) -> Result<Told, Fail> {
+    Ok((head.query, nanos(head.bounds), rows_of(alloc, graph)?))
+}
+
+/// What a text tells.
+fn told_of(alloc: Global, text: &str) -> Result<Told, Fail> {
+    match graph_of(alloc, text)? {
+        Ok((head, graph)) => parts_of(alloc, &head, &graph),
+        Err(_) => Err("no graph".into()),
+    }
+}
+
+/// What lines tell.
+fn lines_told(alloc: Global, lines: &[&str]) -> Result<Told, Fail> {
     let text = text_of(alloc, lines, "\n")?;
-    let (network, names) = named_network(alloc, BUSES, 3)?;
-    let source = PlaceId(0);
-    let target = PlaceId(2);
+    told_of(alloc, text.as_str())
+}
+
+/// How many places have a table in the graph of a text.
+fn tables_of(alloc: Global, text: &str) -> Result<usize, Fail> {
+    match graph_of(alloc, text)? {
+        Ok((_, graph)) => Ok(graph.tables.len()),
+        Err(_) => Err("no graph".into()),
+    }
+}
+
+/// The trip by the graph of a text, over these rides.
+fn trip_over(
+    alloc: Global,
+    text: &str,
+    network: &Network,
+    names: &Names,
+    delays: &[u32],
+) -> Result<Result<Trace, ReplayFault>, Fail>
+    requires { NamesFit names.now network.now }
+{
     let start = Moment(EIGHT);
     match read(
         alloc,
         text.as_bytes(),
-        &network,
-        &names,
-        source,
-        target,
+        network,
+        names,
+        PlaceId(0),
+        PlaceId(2),
         start,
     ) {
         Ok((head, graph)) => {
             read_fits();
-            Ok(replay(alloc, &graph, &network, &head.query, delays))
+            Ok(replay(alloc, &graph, network, &head.query, delays))
         }
         Err(_) => Err("no graph".into()),
     }
 }
 
-fn trip_fault(alloc: Global, delays: &[u32]) -> Result<Option<ReplayFault>, Fail> {
-    Ok(trip(alloc, GRAPH.as_slice(), delays)?.err())
+/// The trip by the graph of a text, over the three buses.
+fn trip_by(alloc: Global, text: &str, delays: &[u32]) -> Result<Result<Trace, ReplayFault>, Fail> {
+    let parts = named_network(alloc, BUSES, 3)?;
+    trip_over(alloc, text, &parts.0, &parts.1, delays)
 }
 
-#[test]
-fn reads_the_head(rt: HostRuntime) -> Result<(), Fail> {
-    let (head, _) = two_ways(rt.alloc())?;
-    let query = Query {
-        source: PlaceId(0),
-        target: PlaceId(2),
-        start: Moment(EIGHT),
-        deadline: Moment(EIGHT + 9720),
-    };
-    assert_eq!(rt; head.query, query);
-    let expected = (EIGHT + 3282) * 1_000_000_000;
-    assert_eq!(rt; (head.bounds.lo(), head.bounds.hi()), (expected, expected));
-    Ok(())
+/// The trip by a graph under these delays.
+fn trip(alloc: Global, lines: &[&str], delays: &[u32]) -> Result<Result<Trace, ReplayFault>, Fail> {
+    let text = text_of(alloc, lines, "\n")?;
+    trip_by(alloc, text.as_str(), delays)
+}
+
+/// The rides of a trip, and its arrival.
+fn rides_of(alloc: Global, lines: &[&str], delays: &[u32]) -> Result<(Vec<Ridden>, Moment), Fail> {
+    match trip(alloc, lines, delays)? {
+        Ok(trace) => Ok((trace.rides.as_slice().to_vec(alloc)?, trace.arrival)),
+        Err(_) => Err("no trip".into()),
+    }
+}
+
+fn trip_fault(alloc: Global, lines: &[&str], delays: &[u32]) -> Result<Option<ReplayFault>, Fail> {
+    Ok(trip(alloc, lines, delays)?.err())
 }
 
 #[test]
 fn reads_the_graph(rt: HostRuntime) -> Result<(), Fail> {
-    let (_, graph) = two_ways(rt.alloc())?;
-    assert_eq!(rt; graph.start, Some(leg(0, 0)));
-    let [table] = graph.tables.as_slice() else {
-        return Err("not one table".into());
-    };
-    assert_eq!(rt; table.place, PlaceId(1));
-    assert_eq!(rt;
-        table.rows.as_slice(),
-        [row(1320, 1), row(2280, 2)].as_slice()
-    );
+    let (query, bounds, rows) = lines_told(rt.alloc(), GRAPH.as_slice())?;
+    assert_eq!(rt; (query, bounds), (asked(2), (EXPECTED, EXPECTED)));
+    assert_eq!(rt; rows.as_slice(), limits().as_slice());
     Ok(())
 }
+
+const QUOTED_HEAD: &str =
+    "graph,1,\"A \",\"T\",2024-06-03T08:00:00,2024-06-03T10:42:00,2024-06-03T08:54:42.000000000,2024-06-03T08:54:42.000000000";
+
+const QUOTED: [&str; 4] = [QUOTED_HEAD, START, "\"place\",\" B\",120,1,,,,", LATER];
 
 #[test]
 fn reads_quoted_names_and_other_line_ends(rt: HostRuntime) -> Result<(), Fail> {
-    let head =
-        "graph,1,\"A \",\"T\",2024-06-03T08:00:00,2024-06-03T10:42:00,2024-06-03T08:54:42.000000000,2024-06-03T08:54:42.000000000";
-    let lines = [head, START, "\"place\",\" B\",120,1,,,,", LATER];
-    let text = text_of(rt.alloc(), lines.as_slice(), "\r\n")?;
-    let Ok((_, graph)) = graph_of(rt.alloc(), text.as_str())? else {
-        return Err("no graph".into());
-    };
-    assert_eq!(rt; graph.tables.len(), 1);
+    let text = text_of(rt.alloc(), QUOTED.as_slice(), "\r\n")?;
+    assert_eq!(rt; tables_of(rt.alloc(), text.as_str())?, 1);
     Ok(())
 }
 
-#[test]
-fn reads_no_second_version(rt: HostRuntime) -> Result<(), Fail> {
-    let head =
-        "graph,2,A,T,2024-06-03T08:00:00,2024-06-03T10:42:00,2024-06-03T08:54:42.000000000,2024-06-03T08:54:42.000000000";
-    let fault = fault_of(rt.alloc(), &[head])?;
-    assert_eq!(rt; fault, Some(TextFault::Row(1)));
-    Ok(())
-}
+/// Heads of another version, with a deadline before the start, and of another start.
+const OTHER_VERSION: &str =
+    "graph,2,A,T,2024-06-03T08:00:00,2024-06-03T10:42:00,2024-06-03T08:54:42.000000000,2024-06-03T08:54:42.000000000";
+
+const EARLY_DEADLINE: &str =
+    "graph,1,A,T,2024-06-03T08:00:00,2024-06-03T07:59:59,2024-06-03T08:54:42.000000000,2024-06-03T08:54:42.000000000";
+
+const OTHER_START: &str =
+    "graph,1,A,T,2024-06-03T08:00:01,2024-06-03T10:42:00,2024-06-03T08:54:42.000000000,2024-06-03T08:54:42.000000000";
+
+/// Legs with a moment a second off, and of a run that is unknown.
+const SECOND_OFF: &str = "leg,2024-06-03T08:22:01,r2,1,2024-06-03T08:24:00,1,T,2024-06-03T08:50:00";
+
+const UNKNOWN_RUN: &str =
+    "leg,2024-06-03T08:22:00,r9,1,2024-06-03T08:24:00,1,T,2024-06-03T08:50:00";
+
+/// Files that are refused: three heads, a file that ends too early, two legs, and moments that fall.
+const REFUSED: [(&[&str], TextFault); 7] = [
+    (&[OTHER_VERSION], TextFault::Row(1)),
+    (&[EARLY_DEADLINE], TextFault::Row(1)),
+    (&[OTHER_START], TextFault::OtherQuery(1)),
+    (&[HEAD, START, TWO_ROWS, SOONER], TextFault::Row(5)),
+    (&[HEAD, START, ONE_ROW, SECOND_OFF], TextFault::NoLeg(4)),
+    (
+        &[HEAD, START, ONE_ROW, UNKNOWN_RUN],
+        TextFault::UnknownName(4),
+    ),
+    (
+        &[HEAD, START, TWO_ROWS, LATER, SOONER],
+        TextFault::NotRising(5),
+    ),
+];
 
 #[test]
-fn reads_no_start_after_the_deadline(rt: HostRuntime) -> Result<(), Fail> {
-    let head =
-        "graph,1,A,T,2024-06-03T08:00:00,2024-06-03T07:59:59,2024-06-03T08:54:42.000000000,2024-06-03T08:54:42.000000000";
-    let fault = fault_of(rt.alloc(), &[head])?;
-    assert_eq!(rt; fault, Some(TextFault::Row(1)));
-    Ok(())
-}
-
-#[test]
-fn reads_no_other_start(rt: HostRuntime) -> Result<(), Fail> {
-    let head =
-        "graph,1,A,T,2024-06-03T08:00:01,2024-06-03T10:42:00,2024-06-03T08:54:42.000000000,2024-06-03T08:54:42.000000000";
-    let fault = fault_of(rt.alloc(), &[head])?;
-    assert_eq!(rt; fault, Some(TextFault::OtherQuery(1)));
-    Ok(())
-}
-
-#[test]
-fn reads_no_file_that_ends_too_early(rt: HostRuntime) -> Result<(), Fail> {
-    let fault = fault_of(rt.alloc(), &[HEAD, START, "place,B,120,2,,,,", SOONER])?;
-    assert_eq!(rt; fault, Some(TextFault::Row(5)));
-    Ok(())
-}
-
-#[test]
-fn reads_no_moment_a_second_off(rt: HostRuntime) -> Result<(), Fail> {
-    let leg = "leg,2024-06-03T08:22:01,r2,1,2024-06-03T08:24:00,1,T,2024-06-03T08:50:00";
-    let fault = fault_of(rt.alloc(), &[HEAD, START, "place,B,120,1,,,,", leg])?;
-    assert_eq!(rt; fault, Some(TextFault::NoLeg(4)));
-    Ok(())
-}
-
-#[test]
-fn reads_no_unknown_run(rt: HostRuntime) -> Result<(), Fail> {
-    let leg = "leg,2024-06-03T08:22:00,r9,1,2024-06-03T08:24:00,1,T,2024-06-03T08:50:00";
-    let fault = fault_of(rt.alloc(), &[HEAD, START, "place,B,120,1,,,,", leg])?;
-    assert_eq!(rt; fault, Some(TextFault::UnknownName(4)));
-    Ok(())
-}
-
-#[test]
-fn reads_no_moments_that_fall(rt: HostRuntime) -> Result<(), Fail> {
-    let fault = fault_of(
-        rt.alloc(),
-        &[HEAD, START, "place,B,120,2,,,,", LATER, SOONER],
-    )?;
-    assert_eq!(rt; fault, Some(TextFault::NotRising(5)));
+fn reads_no_other_file(rt: HostRuntime) -> Result<(), Fail> {
+    for (lines, fault) in REFUSED {
+        assert_eq!(rt; fault_of(rt.alloc(), lines)?, Some(fault), "{lines:?}");
+    }
     Ok(())
 }
 
 #[test]
 fn walks_with_two_delays(rt: HostRuntime) -> Result<(), Fail> {
-    let Ok(trace) = trip(rt.alloc(), GRAPH.as_slice(), &[300, 900])? else {
-        return Err("no trip".into());
-    };
-    let rides = [
+    let (rides, arrival) = rides_of(rt.alloc(), GRAPH.as_slice(), &[300, 900])?;
+    let want = [
         Ridden {
             leg: leg(0, 0),
             delay: 300,
@@ -225,43 +246,37 @@ fn walks_with_two_delays(rt: HostRuntime) -> Result<(), Fail> {
             arrival: Moment(EIGHT + 4860),
         },
     ];
-    assert_eq!(rt; trace.rides.as_slice(), rides.as_slice());
-    assert_eq!(rt; trace.arrival, Moment(EIGHT + 4860));
+    assert_eq!(rt; rides.as_slice(), want.as_slice());
+    assert_eq!(rt; arrival, Moment(EIGHT + 4860));
     Ok(())
 }
+
+/// Delays with which there is no trip, by the whole graph and by one without its last row.
+const STUCK: [(&[&str], &[u32], ReplayFault); 4] = [
+    (&GRAPH, &[301, 900], ReplayFault::NotADelay(1)),
+    (&GRAPH, &[300], ReplayFault::TooFew(1)),
+    (&GRAPH, &[300, 900, 0], ReplayFault::TooMany(2)),
+    (
+        &[HEAD, START, ONE_ROW, SOONER],
+        &[300, 900],
+        ReplayFault::Stuck(PlaceId(1), Moment(EIGHT + 1500)),
+    ),
+];
 
 #[test]
-fn walks_with_no_other_delay(rt: HostRuntime) -> Result<(), Fail> {
-    let fault = trip_fault(rt.alloc(), &[301, 900])?;
-    assert_eq!(rt; fault, Some(ReplayFault::NotADelay(1)));
+fn walks_with_no_other_delays(rt: HostRuntime) -> Result<(), Fail> {
+    for (lines, delays, fault) in STUCK {
+        assert_eq!(rt;
+            trip_fault(rt.alloc(), lines, delays)?,
+            Some(fault),
+            "{delays:?}"
+        );
+    }
     Ok(())
 }
 
-#[test]
-fn walks_with_no_delay_too_few(rt: HostRuntime) -> Result<(), Fail> {
-    let fault = trip_fault(rt.alloc(), &[300])?;
-    assert_eq!(rt; fault, Some(ReplayFault::TooFew(1)));
-    Ok(())
-}
-
-#[test]
-fn walks_with_no_delay_too_many(rt: HostRuntime) -> Result<(), Fail> {
-    let fault = trip_fault(rt.alloc(), &[300, 900, 0])?;
-    assert_eq!(rt; fault, Some(ReplayFault::TooMany(2)));
-    Ok(())
-}
-
-#[test]
-fn is_stuck_where_a_row_is_missing(rt: HostRuntime) -> Result<(), Fail> {
-    let lines = [HEAD, START, "place,B,120,1,,,,", SOONER];
-    let fault = trip(rt.alloc(), lines.as_slice(), &[300, 900])?.err();
-    let stuck = ReplayFault::Stuck(PlaceId(1), Moment(EIGHT + 1500));
-    assert_eq!(rt; fault, Some(stuck));
-    Ok(())
-}
-
-/// The text of the graph by place.
-fn plan_text(alloc: Global, network: &Network, names: &Names) -> Result<Vec<u8>, Fail>
+/// The text of the graph by place, over these rides.
+fn plan_bytes(alloc: Global, network: &Network, names: &Names) -> Result<Vec<u8>, Fail>
     requires fit { NamesFit names.now network.now }
     requires places { length network.now.change ≡ 3 }
 {
@@ -279,8 +294,8 @@ fn plan_text(alloc: Global, network: &Network, names: &Names) -> Result<Vec<u8>,
     }
 }
 
-/// The text of the graph by ride.
-fn expanded_text(alloc: Global, network: &Network, names: &Names) -> Result<Vec<u8>, Fail>
+/// The text of the graph by ride, over these rides.
+fn expanded_bytes(alloc: Global, network: &Network, names: &Names) -> Result<Vec<u8>, Fail>
     requires fit { NamesFit names.now network.now }
     requires places { length network.now.change ≡ 3 }
 {
@@ -298,10 +313,21 @@ fn expanded_text(alloc: Global, network: &Network, names: &Names) -> Result<Vec<
     }
 }
 
+/// The text of the graph by place.
+fn plan_text(alloc: Global) -> Result<Vec<u8>, Fail> {
+    let parts = named_network(alloc, BUSES, 3)?;
+    plan_bytes(alloc, &parts.0, &parts.1)
+}
+
+/// The text of the graph by ride.
+fn expanded_text(alloc: Global) -> Result<Vec<u8>, Fail> {
+    let parts = named_network(alloc, BUSES, 3)?;
+    expanded_bytes(alloc, &parts.0, &parts.1)
+}
+
 #[test]
 fn writes_the_expanded_graph(rt: HostRuntime) -> Result<(), Fail> {
-    let (network, names) = named_network(rt.alloc(), BUSES, 3)?;
-    let text = expanded_text(rt.alloc(), &network, &names)?;
+    let text = expanded_text(rt.alloc())?;
     let want = text_of(rt.alloc(), EXPANDED.as_slice(), "\n")?;
     assert_eq!(rt;
         std::str::from_utf8(text.as_slice()).ok(),
@@ -312,8 +338,7 @@ fn writes_the_expanded_graph(rt: HostRuntime) -> Result<(), Fail> {
 
 #[test]
 fn writes_the_plan(rt: HostRuntime) -> Result<(), Fail> {
-    let (network, names) = named_network(rt.alloc(), BUSES, 3)?;
-    let text = plan_text(rt.alloc(), &network, &names)?;
+    let text = plan_text(rt.alloc())?;
     let want = text_of(rt.alloc(), GRAPH.as_slice(), "\n")?;
     assert_eq!(rt;
         std::str::from_utf8(text.as_slice()).ok(),
@@ -322,16 +347,16 @@ fn writes_the_plan(rt: HostRuntime) -> Result<(), Fail> {
     Ok(())
 }
 
+/// What the written text tells.
+fn written_told(alloc: Global) -> Result<Told, Fail> {
+    let text = plan_text(alloc)?;
+    told_of(alloc, std::str::from_utf8(text.as_slice())?)
+}
+
 #[test]
 fn reads_the_written_plan_back(rt: HostRuntime) -> Result<(), Fail> {
-    let (network, names) = named_network(rt.alloc(), BUSES, 3)?;
-    let text = plan_text(rt.alloc(), &network, &names)?;
-    let text = std::str::from_utf8(text.as_slice())?;
-    let Ok((head, graph)) = graph_of(rt.alloc(), text)? else {
-        return Err("no graph".into());
-    };
-    assert_eq!(rt; head.query, asked(2));
-    assert_eq!(rt; nanos(head.bounds), (EXPECTED, EXPECTED));
-    assert_eq!(rt; rows_by_place(&graph)?, limits().as_slice());
+    let (query, bounds, rows) = written_told(rt.alloc())?;
+    assert_eq!(rt; (query, bounds), (asked(2), (EXPECTED, EXPECTED)));
+    assert_eq!(rt; rows.as_slice(), limits().as_slice());
     Ok(())
 }

@@ -1,33 +1,49 @@
 //! The graphs of three buses with a walk between the first and the others.
-use crate::graphs::{arrivals, pruned, rows_by_ride};
-use small_networks::{
-    APART, EXPECTED, asked, expanded, five_minutes, links_of, nanos, planned, rows_by_place,
-    walked_limits,
-};
+use crate::graphs::{Told, arrivals, expanded_told, planned_told, pruned_rows};
+use plan_graph::GraphRow;
+use small_networks::{APART, EXPECTED, five_minutes, links_of, walked_limits};
+use std::alloc::Global;
 use std::test::Fail;
+
+/// The rows that are pruned.
+fn pruned_apart(alloc: Global) -> Result<Vec<GraphRow>, Fail> {
+    let network = links_of(alloc, APART, 4, five_minutes().as_slice())?;
+    pruned_rows(alloc, &network, 3)
+}
 
 #[test]
 fn prunes_to_a_row_for_each_walk(rt: HostRuntime) -> Result<(), Fail> {
-    let network = links_of(rt.alloc(), APART, 4, five_minutes().as_slice())?;
-    let graph = pruned(rt.alloc(), &network, &asked(3))?;
-    assert_eq!(rt; rows_by_ride(&graph)?, walked_limits().as_slice());
+    let rows = pruned_apart(rt.alloc())?;
+    assert_eq!(rt; rows.as_slice(), walked_limits().as_slice());
     Ok(())
+}
+
+fn expanded_apart(alloc: Global) -> Result<Told, Fail> {
+    let network = links_of(alloc, APART, 4, five_minutes().as_slice())?;
+    expanded_told(alloc, &network, 3)
 }
 
 #[test]
 fn expands_over_a_link(rt: HostRuntime) -> Result<(), Fail> {
-    let network = links_of(rt.alloc(), APART, 4, five_minutes().as_slice())?;
-    let found = expanded(rt.alloc(), &network, &asked(3))?;
-    assert_eq!(rt; rows_by_ride(&found.graph)?, arrivals().as_slice());
-    assert_eq!(rt; nanos(found.bounds), (EXPECTED, EXPECTED));
+    let told = expanded_apart(rt.alloc())?;
+    assert_eq!(rt;
+        (told.0.as_slice(), told.1),
+        (arrivals().as_slice(), (EXPECTED, EXPECTED))
+    );
     Ok(())
+}
+
+fn planned_apart(alloc: Global) -> Result<Told, Fail> {
+    let network = links_of(alloc, APART, 4, five_minutes().as_slice())?;
+    planned_told(alloc, &network, 3)
 }
 
 #[test]
 fn plans_over_a_link(rt: HostRuntime) -> Result<(), Fail> {
-    let network = links_of(rt.alloc(), APART, 4, five_minutes().as_slice())?;
-    let found = planned(rt.alloc(), &network, &asked(3))?;
-    assert_eq!(rt; rows_by_place(&found.graph)?, walked_limits().as_slice());
-    assert_eq!(rt; nanos(found.bounds), (EXPECTED, EXPECTED));
+    let told = planned_apart(rt.alloc())?;
+    assert_eq!(rt;
+        (told.0.as_slice(), told.1),
+        (walked_limits().as_slice(), (EXPECTED, EXPECTED))
+    );
     Ok(())
 }

@@ -33,76 +33,110 @@ fn run_text<'a>(names: &'a Names, name: &str) -> Option<&'a str> {
     }
 }
 
-/// Whether each of those has the number in the order of its adding.
-fn has_names(names: &Names) -> bool {
-    names.places() == 2
-        && names.place("Mill") == Some(PlaceId(0))
-        && names.place("Old Town") == Some(PlaceId(1))
-        && names.run("t100") == Some(RunId(0))
-        && names.run("b200") == Some(RunId(1))
-        && names.run("b201") == Some(RunId(2))
-}
+/// Names with the place and the run that have them, in the order of their adding.
+const NAMES: [(&str, Option<PlaceId>, Option<RunId>); 10] = [
+    ("Mill", Some(PlaceId(0)), None),
+    ("Old Town", Some(PlaceId(1)), None),
+    ("t100", None, Some(RunId(0))),
+    ("b200", None, Some(RunId(1))),
+    ("b201", None, Some(RunId(2))),
+    ("", None, None),
+    ("mill", None, None),
+    ("Mill ", None, None),
+    ("T100", None, None),
+    ("t10", None, None),
+];
 
-#[test]
-fn numbers_names_as_they_are_added(rt: HostRuntime) -> Result<(), Fail> {
-    let names = names_of(rt.alloc())?;
-    assert!(rt; has_names(&names));
-    Ok(())
-}
-
-#[test]
-fn finds_no_other_names(rt: HostRuntime) -> Result<(), Fail> {
-    let names = names_of(rt.alloc())?;
-    for name in ["", "mill", "Mill ", "t100"] {
-        assert_eq!(rt; names.place(name), None, "{name}");
+/// The first of those names that has another number.
+fn other_name(names: &Names) -> Option<&'static str> {
+    for (name, place, run) in NAMES {
+        if names.place(name) != place || names.run(name) != run {
+            return Some(name);
+        }
     }
-    for name in ["", "T100", "t10", "Mill"] {
-        assert_eq!(rt; names.run(name), None, "{name}");
+    None
+}
+
+/// The first of those names that has another number, and how many places there are.
+fn names_told(alloc: Global) -> Result<(Option<&'static str>, u32), NoMemory> {
+    let names = names_of(alloc)?;
+    Ok((other_name(&names), names.places()))
+}
+
+#[test]
+fn numbers_names_as_they_are_added(rt: HostRuntime) {
+    assert_eq!(rt; names_told(rt.alloc()), Ok((None, 2)));
+}
+
+/// Which of three places are new, how many there are then, and the last of them.
+fn places_twice(alloc: Global) -> Result<([bool; 3], u32, Option<PlaceId>), NoMemory> {
+    let mut names = Names::new(alloc);
+    let first = names.add_place("Mill")?;
+    let second = names.add_place("Mill")?;
+    let added = [first, second, names.add_place("mill")?];
+    Ok((added, names.places(), names.place("mill")))
+}
+
+#[test]
+fn adds_no_place_twice(rt: HostRuntime) {
+    assert_eq!(rt;
+        places_twice(rt.alloc()),
+        Ok(([true, false, true], 2, Some(PlaceId(1))))
+    );
+}
+
+/// Which of three runs are new, how many places there are then, and the last run.
+fn runs_twice(alloc: Global) -> Result<([bool; 3], u32, Option<RunId>), NoMemory> {
+    let mut names = Names::new(alloc);
+    let first = names.add_run("t100")?;
+    let second = names.add_run("t100")?;
+    let added = [first, second, names.add_run("b200")?];
+    Ok((added, names.places(), names.run("b200")))
+}
+
+#[test]
+fn adds_no_run_twice(rt: HostRuntime) {
+    assert_eq!(rt;
+        runs_twice(rt.alloc()),
+        Ok(([true, false, true], 0, Some(RunId(1))))
+    );
+}
+
+/// A copy of the names, to which a place is added afterwards.
+fn copy_before(alloc: Global) -> Result<Names, NoMemory> {
+    let mut names = names_of(alloc)?;
+    let copy = names.try_clone(alloc)?;
+    if names.places() == 2 {
+        names.add_place("Airport")?;
     }
-    Ok(())
+    Ok(copy)
+}
+
+/// The first name of the copy that has another number, how many places it has, and the one that was
+/// added after it.
+fn copy_told(alloc: Global) -> Result<(Option<&'static str>, u32, Option<PlaceId>), NoMemory> {
+    let copy = copy_before(alloc)?;
+    Ok((other_name(&copy), copy.places(), copy.place("Airport")))
 }
 
 #[test]
-fn adds_no_place_twice(rt: HostRuntime) -> Result<(), Fail> {
-    let mut names = Names::new(rt.alloc());
-    assert!(rt; names.add_place("Mill")?);
-    assert!(rt; !names.add_place("Mill")?);
-    assert!(rt; names.add_place("mill")?);
-    assert_eq!(rt; names.places(), 2);
-    assert_eq!(rt; names.place("mill"), Some(PlaceId(1)));
-    Ok(())
+fn copies_names_with_their_numbers(rt: HostRuntime) {
+    assert_eq!(rt; copy_told(rt.alloc()), Ok((None, 2, None)));
 }
 
-#[test]
-fn adds_no_run_twice(rt: HostRuntime) -> Result<(), Fail> {
-    let mut names = Names::new(rt.alloc());
-    assert!(rt; names.add_run("t100")?);
-    assert!(rt; !names.add_run("t100")?);
-    assert!(rt; names.add_run("b200")?);
-    assert_eq!(rt; names.run("b200"), Some(RunId(1)));
-    assert_eq!(rt; names.places(), 0);
-    Ok(())
-}
-
-#[test]
-fn copies_names_with_their_numbers(rt: HostRuntime) -> Result<(), Fail> {
-    let mut names = names_of(rt.alloc())?;
-    let copy = names.try_clone(rt.alloc())?;
-    assert_eq!(rt; names.places(), 2);
-    names.add_place("Airport")?;
-    assert!(rt; has_names(&copy));
-    assert_eq!(rt; copy.place("Airport"), None);
-    Ok(())
+/// The name of the place or the run that has this name.
+fn name_text<'a>(names: &'a Names, name: &str) -> Option<&'a str> {
+    match place_text(names, name) {
+        Some(text) => Some(text),
+        None => run_text(names, name),
+    }
 }
 
 #[test]
 fn tells_the_names_of_numbers(rt: HostRuntime) -> Result<(), Fail> {
     let names = names_of(rt.alloc())?;
-    for name in ["Mill", "Old Town"] {
-        assert_eq!(rt; place_text(&names, name), Some(name));
-    }
-    for name in ["t100", "b200", "b201"] {
-        assert_eq!(rt; run_text(&names, name), Some(name));
+    for name in ["Mill", "Old Town", "t100", "b200", "b201"] {
+        assert_eq!(rt; name_text(&names, name), Some(name));
     }
     Ok(())
 }
@@ -153,24 +187,48 @@ fn given<O: BackwardOrder>(
     Ok(ids)
 }
 
+/// What an order gives, and what it gives next.
+fn given_at_once(
+    alloc: Global,
+    network: &Network,
+) -> Result<(Vec<u32>, Option<ConnectionId>), NoMemory> {
+    let mut order = SortedOrder::new(alloc, network)?;
+    let ids = given(alloc, network, &mut order)?;
+    Ok((ids, order.next(network)))
+}
+
+fn at_once(alloc: Global) -> Result<(Vec<u32>, Option<ConnectionId>), Fail> {
+    let network = network_of(alloc, LEVEL_RIDES, 3)?;
+    Ok(given_at_once(alloc, &network)?)
+}
+
 #[test]
 fn the_order_goes_backwards(rt: HostRuntime) -> Result<(), Fail> {
-    let network = network_of(rt.alloc(), LEVEL_RIDES, 3)?;
-    let mut order = SortedOrder::new(rt.alloc(), &network)?;
-    let ids = given(rt.alloc(), &network, &mut order)?;
-    assert_eq!(rt; ids.as_slice(), BACKWARDS.as_slice());
-    assert_eq!(rt; order.next(&network), None);
+    let told = at_once(rt.alloc())?;
+    assert_eq!(rt; (told.0.as_slice(), told.1), (BACKWARDS.as_slice(), None));
     Ok(())
+}
+
+/// The first two of an order, and what it gives when it begins again.
+fn given_again(
+    alloc: Global,
+    network: &Network,
+) -> Result<(Vec<u32>, [Option<ConnectionId>; 2]), NoMemory> {
+    let mut order = SortedOrder::new(alloc, network)?;
+    let first = [order.next(network), order.next(network)];
+    order.rewind(network);
+    Ok((given(alloc, network, &mut order)?, first))
+}
+
+fn again(alloc: Global) -> Result<(Vec<u32>, [Option<ConnectionId>; 2]), Fail> {
+    let network = network_of(alloc, LEVEL_RIDES, 3)?;
+    Ok(given_again(alloc, &network)?)
 }
 
 #[test]
 fn the_order_begins_again(rt: HostRuntime) -> Result<(), Fail> {
-    let network = network_of(rt.alloc(), LEVEL_RIDES, 3)?;
-    let mut order = SortedOrder::new(rt.alloc(), &network)?;
-    assert_eq!(rt; order.next(&network), Some(ConnectionId(3)));
-    assert_eq!(rt; order.next(&network), Some(ConnectionId(2)));
-    order.rewind(&network);
-    let ids = given(rt.alloc(), &network, &mut order)?;
-    assert_eq!(rt; ids.as_slice(), BACKWARDS.as_slice());
+    let told = again(rt.alloc())?;
+    let first = [Some(ConnectionId(3)), Some(ConnectionId(2))];
+    assert_eq!(rt; (told.0.as_slice(), told.1), (BACKWARDS.as_slice(), first));
     Ok(())
 }

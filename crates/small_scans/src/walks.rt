@@ -1,9 +1,9 @@
 //! What the scan finds over networks with links, against values that were worked out by hand.
 ghost use Rattle.std.specs.Prelude.{◌≡◌, ◌≢◌, ◌<◌, length, IfOk};
 
-use crate::scans::{Planned, at, best_plan, query, solved};
+use crate::scans::{Planned, Told, best_plan, chosen, plan_at, query, solved};
 use meat_scan::Scanned;
-use plan_model::{Moment, Network, PlaceId, Query};
+use plan_model::{ConnectionId, Leg, Moment, Network, PlaceId, Query};
 use small_networks::{EIGHT, Link, leg, links_of, walk};
 use std::alloc::Global;
 use std::test::Fail;
@@ -26,131 +26,167 @@ const ONE_RUN: &str =
 const FIRST_HOUR: &str =
     "run,step,from,to,dep,arr\nr0,0,A,X,1970-01-01T00:00:00,1970-01-01T00:00:00\nr1,0,Y,T,1970-01-01T00:30:00,1970-01-01T00:40:00\n";
 
-// What is found with links over the rides of a cut file with five places, from one to another.
+// Links from a place to another, and how many seconds they take.
+type Walks = &'static [(u32, u32, u32)];
+
+// The links of these walks.
+fn links_along(alloc: Global, walks: &[(u32, u32, u32)]) -> Result<Vec<Link>, Fail> {
+    let mut links = Vec::new(alloc);
+    for (from, to, seconds) in walks {
+        links.push(walk(*from, *to, *seconds))?;
+    }
+    Ok(links)
+}
+
+// The network of a cut file with five places, and with these walks.
+fn walked(alloc: Global, cut: &str, walks: &[(u32, u32, u32)]) -> Result<Network, Fail>
+    ensures { IfOk result (λ network. length network.change ≡ 5) }
+{
+    let links = links_along(alloc, walks)?;
+    links_of(alloc, cut, 5, links.as_slice())
+}
+
+// Rides and walks, from where to where is asked at eight o'clock, and what is found.
+const PLANS: [(&str, Walks, u32, u32, Told); 8] = [
+    // Of five minutes the walk from X to Y is in time for whoever comes a quarter of an hour late, and
+    // of a second more it is not.
+    (APART, &[(1, 2, 300)], 0, 3, Some((4860, 3282, 0, 0))),
+    (APART, &[(1, 2, 301)], 0, 3, None),
+    // One walks one way and one link.
+    (APART, &[(2, 1, 1)], 0, 3, None),
+    (APART, &[(1, 4, 1), (4, 2, 1)], 0, 3, None),
+    // From X to T one would walk at once, and to Y one would walk at last.
+    (APART, &[(1, 2, 1)], 1, 3, None),
+    (APART, &[(1, 2, 1)], 0, 2, None),
+    (
+        INTERLEAVED,
+        &[(1, 2, 600), (1, 4, 60)],
+        0,
+        3,
+        Some((5100, 3462, 0, 0)),
+    ),
+    (
+        ONE_RUN,
+        &[(1, 2, 240), (1, 3, 420)],
+        0,
+        4,
+        Some((5700, 3180, 0, 0)),
+    ),
+];
+
+// What is found with these walks.
 fn plan_over(
     alloc: Global,
     cut: &str,
-    links: &[Link],
+    walks: &[(u32, u32, u32)],
     source: u32,
     target: u32,
-) -> Result<Option<Planned>, Fail>
-    requires source { source < 5 }
-    requires target { target < 5 }
-    requires differ { source ≢ target }
-{
-    let network = links_of(alloc, cut, 5, links)?;
+) -> Result<Option<Planned>, Fail> {
+    let network = walked(alloc, cut, walks)?;
     best_plan(alloc, &network, source, target, 0)
 }
 
-// What is found from A to T over the buses with a walk between.
-fn plan_apart(alloc: Global, links: &[Link]) -> Result<Option<Planned>, Fail> {
-    plan_over(alloc, APART, links, 0, 3)
-}
-
-// Of five minutes the walk from X to Y is in time for whoever comes a quarter of an hour late, and
-// of a second more it is not.
 #[test]
-fn walks_to_the_second(rt: HostRuntime) -> Result<(), Fail> {
-    let found = plan_apart(rt.alloc(), &[walk(1, 2, 300)])?;
-    assert_eq!(rt; found, at(4860, 3282, leg(0, 0)));
-    let found = plan_apart(rt.alloc(), &[walk(1, 2, 301)])?;
-    assert_eq!(rt; found, None);
+fn plans_with_walks(rt: HostRuntime) -> Result<(), Fail> {
+    for (cut, walks, source, target, told) in PLANS {
+        let found = plan_over(rt.alloc(), cut, walks, source, target)?;
+        assert_eq!(rt; found, plan_at(told), "{walks:?} {source} {target}");
+    }
     Ok(())
 }
 
-#[test]
-fn walks_one_way_and_one_link(rt: HostRuntime) -> Result<(), Fail> {
-    let found = plan_apart(rt.alloc(), &[walk(2, 1, 1)])?;
-    assert_eq!(rt; found, None);
-    let found = plan_apart(rt.alloc(), &[walk(1, 4, 1), walk(4, 2, 1)])?;
-    assert_eq!(rt; found, None);
-    Ok(())
-}
-
-// From X to T one would walk at once, and to Y one would walk at last.
-#[test]
-fn walks_only_between_rides(rt: HostRuntime) -> Result<(), Fail> {
-    let links = [walk(1, 2, 1)];
-    let found = plan_over(rt.alloc(), APART, links.as_slice(), 1, 3)?;
-    assert_eq!(rt; found, None);
-    let found = plan_over(rt.alloc(), APART, links.as_slice(), 0, 2)?;
-    assert_eq!(rt; found, None);
-    Ok(())
-}
-
-// The scan by means from A to a target, over a cut file with five places.
-fn means(alloc: Global, cut: &str, links: &[Link], target: u32) -> Result<Scanned<MeanSpan>, Fail>
-    requires target { target < 5 }
-    requires differ { target ≢ 0 }
-    ensures rows { IfOk result (λ found. length found.rows ≡ 5) }
-    ensures target { IfOk result (λ found. found.target ≡ target) }
-{
-    let network = links_of(alloc, cut, 5, links)?;
-    let query = query(0, target, 0, Moment(EIGHT + 10_200));
-    solved(alloc, &network, &query)
-}
-
-// The entries that are chosen at a place at these arrivals after eight o'clock.
-fn chosen(
+// The legs that are chosen at a place on the way from A to a target, over a network with five places.
+fn legs_at(
     alloc: Global,
-    found: &Scanned<MeanSpan>,
+    network: &Network,
+    target: u32,
     place: u32,
     arrivals: &[u32],
-) -> Result<Vec<Option<u32>>, Fail>
-    requires there { place < length found.now.rows }
-    requires away { place ≢ found.now.target }
+) -> Result<Vec<Option<Leg>>, Fail>
+    requires { length network.now.change ≡ 5 }
 {
-    let mut entries = Vec::new(alloc);
-    for arrival in arrivals {
-        let choice = found.choice(PlaceId(place), Moment(EIGHT + u64::from(*arrival)));
-        entries.push(choice.map(|found| found.1.enter.0))?;
+    if target == 0 || target >= 5 || place >= 5 || place == target {
+        return Err("no place on the way".into());
     }
-    Ok(entries)
+    let query = query(0, target, 0, Moment(EIGHT + 10_200));
+    let found: Scanned<MeanSpan> = solved(alloc, network, &query)?;
+    chosen(alloc, &found, place, arrivals)
 }
 
-// A ride is in time at each place from which a way leads to where it leaves.
+// The legs that are chosen over the rides of a cut file with these walks.
+fn legs_over(
+    alloc: Global,
+    cut: &str,
+    walks: &[(u32, u32, u32)],
+    target: u32,
+    place: u32,
+    arrivals: &[u32],
+) -> Result<Vec<Option<Leg>>, Fail> {
+    let network = walked(alloc, cut, walks)?;
+    legs_at(alloc, &network, target, place, arrivals)
+}
+
+// A ride of one connection.
+const R1: Option<Leg> = Some(Leg {
+    enter: ConnectionId(1),
+    exit: ConnectionId(1),
+});
+
+const R2: Option<Leg> = Some(Leg {
+    enter: ConnectionId(2),
+    exit: ConnectionId(2),
+});
+
+const R3: Option<Leg> = Some(Leg {
+    enter: ConnectionId(3),
+    exit: ConnectionId(3),
+});
+
+// Rides and walks, a target and a place, and arrivals there with the legs that are chosen.
+const CHOICES: [(&str, Walks, u32, u32, &[u32], &[Option<Leg>]); 4] = [
+    // A ride is in time at each place from which a way leads to where it leaves.
+    (
+        APART,
+        &[(1, 2, 300)],
+        3,
+        1,
+        &[1320, 1321, 2100, 2101],
+        &[R1, R2, R2, None],
+    ),
+    (
+        APART,
+        &[(1, 2, 300)],
+        3,
+        2,
+        &[1500, 1501, 2280, 2281],
+        &[R1, R2, R2, None],
+    ),
+    // Departures are taken in any order.
+    (
+        INTERLEAVED,
+        &[(1, 2, 600), (1, 4, 60)],
+        3,
+        1,
+        &[1260, 1261, 1500, 1501, 2100, 2101],
+        &[R1, R2, R2, R3, R3, None],
+    ),
+    // Who walks on to Z boards the run that leaves Y before.
+    (
+        ONE_RUN,
+        &[(1, 2, 240), (1, 3, 420)],
+        4,
+        1,
+        &[1200, 1500, 1501, 3360, 3361],
+        &[R2, R2, R3, R3, None],
+    ),
+];
+
 #[test]
 fn boards_by_each_way(rt: HostRuntime) -> Result<(), Fail> {
-    let found = means(rt.alloc(), APART, &[walk(1, 2, 300)], 3)?;
-    let entries = chosen(rt.alloc(), &found, 1, &[1320, 1321, 2100, 2101])?;
-    assert_eq!(rt;
-        entries.as_slice(),
-        [Some(1), Some(2), Some(2), None].as_slice()
-    );
-    let entries = chosen(rt.alloc(), &found, 2, &[1500, 1501, 2280, 2281])?;
-    assert_eq!(rt;
-        entries.as_slice(),
-        [Some(1), Some(2), Some(2), None].as_slice()
-    );
-    Ok(())
-}
-
-#[test]
-fn takes_departures_in_any_order(rt: HostRuntime) -> Result<(), Fail> {
-    let links = [walk(1, 2, 600), walk(1, 4, 60)];
-    let found = means(rt.alloc(), INTERLEAVED, links.as_slice(), 3)?;
-    let entries = chosen(rt.alloc(), &found, 1, &[1260, 1261, 1500, 1501, 2100, 2101])?;
-    assert_eq!(rt;
-        entries.as_slice(),
-        [Some(1), Some(2), Some(2), Some(3), Some(3), None].as_slice()
-    );
-    let found = plan_over(rt.alloc(), INTERLEAVED, links.as_slice(), 0, 3)?;
-    assert_eq!(rt; found, at(5100, 3462, leg(0, 0)));
-    Ok(())
-}
-
-// Who walks on to Z boards the run that leaves Y before.
-#[test]
-fn boards_a_run_by_two_ways(rt: HostRuntime) -> Result<(), Fail> {
-    let links = [walk(1, 2, 240), walk(1, 3, 420)];
-    let found = means(rt.alloc(), ONE_RUN, links.as_slice(), 4)?;
-    let entries = chosen(rt.alloc(), &found, 1, &[1200, 1500, 1501, 3360, 3361])?;
-    assert_eq!(rt;
-        entries.as_slice(),
-        [Some(2), Some(2), Some(3), Some(3), None].as_slice()
-    );
-    let found = plan_over(rt.alloc(), ONE_RUN, links.as_slice(), 0, 4)?;
-    assert_eq!(rt; found, at(5700, 3180, leg(0, 0)));
+    for (cut, walks, target, place, arrivals, want) in CHOICES {
+        let legs = legs_over(rt.alloc(), cut, walks, target, place, arrivals)?;
+        assert_eq!(rt; legs.as_slice(), want, "{walks:?} {place}");
+    }
     Ok(())
 }
 

@@ -1,5 +1,0 @@
-use Rattle.small_files.proofs.graph_files.trip.Goals as goal
-
-pub replay-requires : goal.replay-requires
-replay-requires c =
-    (c.read_fits.ensures c.in_ok-network.network c.in_ok-network.names c.as_bytes.result.now 0 2 1717401600 c.in-Ok.head c.in-Ok.graph c.in-Ok.ensures).0
