@@ -40,8 +40,8 @@ pub const ONE_WAY: &str =
 const DELAYS: &str = "class,delay,weight\n*,0,8000\n*,300,1500\n*,900,500\n";
 
 /// The rows of a text.
-fn rows_of(alloc: Global, text: &str) -> Result<Rows, Fail> {
-    match Rows::read(alloc, text.as_bytes()) {
+fn rows_of(alloc: Global, text: &[u8]) -> Result<Rows, Fail> {
+    match Rows::read(alloc, text) {
         Ok(rows) => Ok(rows),
         Err(_) => Err("no rows".into()),
     }
@@ -49,7 +49,7 @@ fn rows_of(alloc: Global, text: &str) -> Result<Rows, Fail> {
 
 /// The usual delays.
 fn usual_delays(alloc: Global) -> Result<DelayTable, Fail> {
-    let rows = rows_of(alloc, DELAYS)?;
+    let rows = rows_of(alloc, DELAYS.as_bytes())?;
     match DelayTable::read(alloc, &rows) {
         Ok(delays) => Ok(delays),
         Err(_) => Err("no delays".into()),
@@ -58,7 +58,7 @@ fn usual_delays(alloc: Global) -> Result<DelayTable, Fail> {
 
 /// The rides that a text tells.
 fn cut_of(alloc: Global, text: &str) -> Result<CutTable, Fail> {
-    let rows = rows_of(alloc, text)?;
+    let rows = rows_of(alloc, text.as_bytes())?;
     match read_cut(alloc, &rows, &Limits::standard()) {
         Ok(cut) => Ok(cut),
         Err(_) => Err("no cut".into()),

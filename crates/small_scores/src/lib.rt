@@ -1,12 +1,21 @@
 //! Spans, scores and chances, what is kept by them, scans by one table, and the scores of graphs over small networks.
+//! Strategies of tiny networks one by one, by the plain rules alone: which are safe, when the best of them arrives at
+//! the latest, and when it is expected to arrive, exactly. With these values the least worst arrival and the bounds of
+//! a plan are compared over many made networks.
 #![tactic(auto)]
 
+#[cfg(test)]
+mod compared;
+#[cfg(test)]
+mod made;
 #[cfg(test)]
 mod profiles;
 #[cfg(test)]
 mod scores;
 #[cfg(test)]
 mod spans;
+#[cfg(test)]
+mod strategies;
 #[cfg(test)]
 mod tables;
 #[cfg(test)]

@@ -1,12 +1,12 @@
 //! Scores of graphs over three buses, and of one whose trips are many more than its legs.
-ghost use Rattle.std.specs.Prelude.{◌≡◌, ◌≢◌, ◌<◌, Some, None, IfOk, IfSome, length};
+ghost use Rattle.std.specs.Prelude.{◌≡◌, ◌≢◌, ◌<◌, ◌≤◌, Some, None, IfOk, IfSome, length};
 ghost use Rattle.graph_score.specs.Legs.{IsRising};
 ghost use Rattle.interval_fixed.specs.Interval.{end_of_nanos};
 
 use graph_score::{ScoreFault, fit_is_scored, score};
 use plan_graph::{GraphRow, PlaceTable, PlanGraph};
 use plan_model::{Leg, List, Moment, PlaceId, Query};
-use small_networks::{BUSES, EIGHT, EXPECTED, asked, leg, nanos, network_of, planned, row};
+use small_networks::{BUSES, EIGHT, EXPECTED, leg, nanos, network_of, planned, row};
 use std::alloc::Global;
 use std::test::Fail;
 
@@ -25,6 +25,31 @@ const FIVE_MINUTES: u64 = 300;
 
 /// The mean of the usual delays, in seconds.
 const MEAN_DELAY: u64 = 90;
+
+/// A moment that fits in nanoseconds, or the first one in the place of one that does not.
+fn early(moment: Moment) -> Moment
+    ensures { result.0 < end_of_nanos }
+{
+    if moment.0 < 18_446_744_073 {
+        moment
+    } else {
+        Moment(0)
+    }
+}
+
+/// Eight o'clock.
+pub(crate) fn eight() -> Moment
+    ensures { result.0 < end_of_nanos }
+{
+    early(Moment(EIGHT))
+}
+
+/// So many seconds after a moment.
+pub(crate) fn later(moment: Moment, seconds: u64) -> Moment
+    ensures { moment.0 ≤ result.0 }
+{
+    Moment(moment.0.saturating_add(seconds).max(moment.0))
+}
 
 /// A graph with no table.
 fn bare(alloc: Global, start: Option<Leg>) -> PlanGraph
@@ -71,20 +96,89 @@ fn two_rows(
     Ok(PlanGraph { start, tables })
 }
 
-/// What the score of a graph over the three buses is, from A to T.
+/// A graph with a start leg over one connection, and with up to two rows of B: the limit of each, in seconds
+/// after eight, and its connection.
+fn graph_of(alloc: Global, start: Option<u32>, rows: &[(u32, u32)]) -> Result<PlanGraph, Fail>
+    ensures { IfOk result IsRising }
+{
+    let start = match start {
+        Some(id) => Some(leg(id, id)),
+        None => None,
+    };
+    if rows.len() == 0 {
+        return Ok(bare(alloc, start));
+    }
+    let (by, id) = rows[0];
+    if rows.len() == 1 {
+        return one_row(alloc, start, row(by, id));
+    }
+    let (later, next) = rows[1];
+    if rows.len() > 2 || later <= by {
+        return Err("rows that are too many or do not rise".into());
+    }
+    two_rows(alloc, start, row(by, id), row(later, next))
+}
+
+/// What the score of such a graph over the three buses is, from A to T by so many seconds after eight.
 fn scored(
     alloc: Global,
-    graph: &PlanGraph,
-    query: &Query,
-) -> Result<Result<(u64, u64), ScoreFault>, Fail>
-    requires rising { IsRising graph.now }
-    requires start { query.now.source.0 ≡ query.now.target.0 → query.now.start.0 < end_of_nanos }
-{
+    start: Option<u32>,
+    rows: &[(u32, u32)],
+    seconds: u64,
+) -> Result<Result<(u64, u64), ScoreFault>, Fail> {
     let network = network_of(alloc, BUSES, 3)?;
-    Ok(match score(alloc, graph, &network, query) {
+    let graph = graph_of(alloc, start, rows)?;
+    let query = Query {
+        source: SOURCE,
+        target: TARGET,
+        start: eight(),
+        deadline: later(eight(), seconds),
+    };
+    Ok(match score(alloc, &graph, &network, &query) {
         Ok(span) => Ok(nanos(span)),
         Err(fault) => Err(fault),
     })
+}
+
+/// What the score of a graph with no table is, from A to A at eight o'clock by a moment.
+fn scored_at_target(
+    alloc: Global,
+    start: Option<u32>,
+    deadline: u64,
+) -> Result<Result<(u64, u64), ScoreFault>, Fail> {
+    let network = network_of(alloc, BUSES, 3)?;
+    let graph = graph_of(alloc, start, &[])?;
+    let query = Query {
+        source: SOURCE,
+        target: SOURCE,
+        start: eight(),
+        deadline: Moment(deadline),
+    };
+    Ok(match score(alloc, &graph, &network, &query) {
+        Ok(span) => Ok(nanos(span)),
+        Err(fault) => Err(fault),
+    })
+}
+
+/// The score of the best graph over a cut file of so many places, from the first of them to the last, from eight
+/// o'clock on by so many seconds later.
+fn best_score(alloc: Global, cut: &str, places: u32, seconds: u64) -> Result<(u64, u64), Fail>
+    requires { 0 < places }
+{
+    let network = network_of(alloc, cut, places)?;
+    let start = eight();
+    let query = Query {
+        source: SOURCE,
+        target: PlaceId(places - 1),
+        start,
+        deadline: later(start, seconds),
+    };
+    let plan = planned(alloc, &network, &query)?;
+    fit_is_scored();
+    match score(alloc, &plan.graph, &network, &query) {
+        Ok(span) => Ok(nanos(span)),
+        Err(_) => Err("no score".into()),
+    }
 }
 
 /// A cut file of hops from place to place, half an hour after each other. Each takes five minutes.
@@ -104,145 +198,117 @@ fn chain(alloc: Global) -> Result<String, Fail> {
     Ok(text)
 }
 
-/// From A to A at eight o'clock.
-fn going_nowhere() -> Query
-    ensures { result.start.0 ≡ 1717401600 }
-{
-    Query {
-        source: SOURCE,
-        target: SOURCE,
-        start: Moment(EIGHT),
-        deadline: Moment(EIGHT),
-    }
-}
-
 #[test]
 fn the_best_graph_has_the_least_expected_arrival(rt: HostRuntime) -> Result<(), Fail> {
-    let network = network_of(rt.alloc(), BUSES, 3)?;
-    let query = asked(2);
-    let plan = planned(rt.alloc(), &network, &query)?;
-    fit_is_scored();
-    let Ok(span) = score(rt.alloc(), &plan.graph, &network, &query) else {
-        return Err("no score".into());
-    };
-    assert_eq!(rt; nanos(span), (EXPECTED, EXPECTED));
-    Ok(())
-}
-
-#[test]
-fn both_ways_on_are_scored(rt: HostRuntime) -> Result<(), Fail> {
-    let graph = two_rows(rt.alloc(), Some(leg(0, 0)), row(1320, 1), row(2280, 2))?;
     assert_eq!(rt;
-        scored(rt.alloc(), &graph, &asked(2))?,
-        Ok((EXPECTED, EXPECTED))
+        best_score(rt.alloc(), BUSES, 3, 9720)?,
+        (EXPECTED, EXPECTED)
     );
     Ok(())
 }
 
-#[test]
-fn who_is_late_is_stuck(rt: HostRuntime) -> Result<(), Fail> {
-    let graph = one_row(rt.alloc(), Some(leg(0, 0)), row(1320, 1))?;
-    let stuck = ScoreFault::Unsafe(MIDDLE, Moment(EIGHT + 1500));
-    assert_eq!(rt; scored(rt.alloc(), &graph, &asked(2))?, Err(stuck));
-    Ok(())
+/// Where a traveller gets stuck, or is at a place too late, so many seconds after eight.
+fn fails_at(place: PlaceId, seconds: u64) -> Result<(u64, u64), ScoreFault> {
+    Err(ScoreFault::Unsafe(place, Moment(EIGHT.saturating_add(seconds))))
 }
 
 #[test]
-fn who_has_no_row_is_stuck(rt: HostRuntime) -> Result<(), Fail> {
-    let graph = bare(rt.alloc(), Some(leg(0, 0)));
-    let stuck = ScoreFault::Unsafe(MIDDLE, Moment(EIGHT + 1200));
-    assert_eq!(rt; scored(rt.alloc(), &graph, &asked(2))?, Err(stuck));
-    Ok(())
-}
-
-#[test]
-fn who_has_no_start_leg_is_stuck(rt: HostRuntime) -> Result<(), Fail> {
-    let graph = one_row(rt.alloc(), None, row(1320, 1))?;
-    let stuck = ScoreFault::Unsafe(SOURCE, Moment(EIGHT));
-    assert_eq!(rt; scored(rt.alloc(), &graph, &asked(2))?, Err(stuck));
-    Ok(())
-}
-
-#[test]
-fn who_arrives_after_the_deadline_fails(rt: HostRuntime) -> Result<(), Fail> {
-    let graph = two_rows(rt.alloc(), Some(leg(0, 0)), row(1320, 1), row(2280, 2))?;
-    let query = Query {
-        deadline: Moment(EIGHT + 4000),
-        ..asked(2)
-    };
-    let late = ScoreFault::Unsafe(TARGET, Moment(EIGHT + 4260));
-    assert_eq!(rt; scored(rt.alloc(), &graph, &query)?, Err(late));
-    Ok(())
-}
-
-#[test]
-fn the_first_wrong_leg_is_told(rt: HostRuntime) -> Result<(), Fail> {
-    let query = asked(2);
-    let start = two_rows(rt.alloc(), Some(leg(1, 1)), row(1320, 1), row(2280, 2))?;
-    assert_eq!(rt;
-        scored(rt.alloc(), &start, &query)?,
-        Err(ScoreFault::NoSuchLeg(1))
-    );
-    let second = two_rows(rt.alloc(), Some(leg(0, 0)), row(1320, 1), row(2279, 2))?;
-    assert_eq!(rt;
-        scored(rt.alloc(), &second, &query)?,
-        Err(ScoreFault::NoSuchLeg(3))
-    );
-    let no_start = one_row(rt.alloc(), None, row(1321, 1))?;
-    assert_eq!(rt;
-        scored(rt.alloc(), &no_start, &query)?,
-        Err(ScoreFault::NoSuchLeg(1))
-    );
-    let far = one_row(rt.alloc(), Some(leg(0, 0)), row(1320, 9))?;
-    assert_eq!(rt;
-        scored(rt.alloc(), &far, &query)?,
-        Err(ScoreFault::NoSuchLeg(2))
-    );
+fn graphs_are_scored_by_what_fails_first(rt: HostRuntime) -> Result<(), Fail> {
+    for (case, start, rows, seconds, found) in [
+        (
+            "both ways on",
+            Some(0),
+            [(1320, 1), (2280, 2)].as_slice(),
+            9720,
+            Ok((EXPECTED, EXPECTED)),
+        ),
+        (
+            "late at B",
+            Some(0),
+            [(1320, 1)].as_slice(),
+            9720,
+            fails_at(MIDDLE, 1500),
+        ),
+        (
+            "no row",
+            Some(0),
+            [].as_slice(),
+            9720,
+            fails_at(MIDDLE, 1200),
+        ),
+        (
+            "no start leg",
+            None,
+            [(1320, 1)].as_slice(),
+            9720,
+            fails_at(SOURCE, 0),
+        ),
+        (
+            "after the deadline",
+            Some(0),
+            [(1320, 1), (2280, 2)].as_slice(),
+            4000,
+            fails_at(TARGET, 4260),
+        ),
+        (
+            "a start leg from elsewhere",
+            Some(1),
+            [(1320, 1), (2280, 2)].as_slice(),
+            9720,
+            Err(ScoreFault::NoSuchLeg(1)),
+        ),
+        (
+            "a row that is not by its limit",
+            Some(0),
+            [(1320, 1), (2279, 2)].as_slice(),
+            9720,
+            Err(ScoreFault::NoSuchLeg(3)),
+        ),
+        (
+            "such a row and no start leg",
+            None,
+            [(1321, 1)].as_slice(),
+            9720,
+            Err(ScoreFault::NoSuchLeg(1)),
+        ),
+        (
+            "a connection of no network",
+            Some(0),
+            [(1320, 9)].as_slice(),
+            9720,
+            Err(ScoreFault::NoSuchLeg(2)),
+        ),
+    ] {
+        assert_eq!(rt; scored(rt.alloc(), start, rows, seconds)?, found, "{case}");
+    }
     Ok(())
 }
 
 #[test]
 fn who_is_at_the_target_has_arrived(rt: HostRuntime) -> Result<(), Fail> {
-    let query = going_nowhere();
     let at = EIGHT * 1_000_000_000;
-    assert_eq!(rt;
-        scored(rt.alloc(), &bare(rt.alloc(), None), &query)?,
-        Ok((at, at))
-    );
-    let rides = bare(rt.alloc(), Some(leg(0, 0)));
-    assert_eq!(rt;
-        scored(rt.alloc(), &rides, &query)?,
-        Err(ScoreFault::NoSuchLeg(1))
-    );
-    let late = Query {
-        deadline: Moment(EIGHT - 1),
-        ..query
-    };
-    let fault = ScoreFault::Unsafe(SOURCE, Moment(EIGHT));
-    assert_eq!(rt;
-        scored(rt.alloc(), &bare(rt.alloc(), None), &late)?,
-        Err(fault)
-    );
+    for (start, deadline, found) in [
+        (None, EIGHT, Ok((at, at))),
+        (Some(0), EIGHT, Err(ScoreFault::NoSuchLeg(1))),
+        (None, EIGHT - 1, fails_at(SOURCE, 0)),
+    ] {
+        assert_eq!(rt;
+            scored_at_target(rt.alloc(), start, deadline)?,
+            found,
+            "{deadline}"
+        );
+    }
     Ok(())
 }
 
 #[test]
 fn trips_are_not_walked_one_by_one(rt: HostRuntime) -> Result<(), Fail> {
     let text = chain(rt.alloc())?;
-    let network = network_of(rt.alloc(), text.as_str(), HOPS + 1)?;
-    let query = Query {
-        source: SOURCE,
-        target: PlaceId(HOPS),
-        start: Moment(EIGHT),
-        deadline: Moment(EIGHT + 86_400),
-    };
-    let plan = planned(rt.alloc(), &network, &query)?;
-    fit_is_scored();
-    let Ok(span) = score(rt.alloc(), &plan.graph, &network, &query) else {
-        return Err("no score".into());
-    };
     let last = u64::from(HOPS - 1) * HALF_AN_HOUR;
     let expected = (EIGHT + last + FIVE_MINUTES + MEAN_DELAY) * 1_000_000_000;
-    assert_eq!(rt; nanos(span), (expected, expected));
+    assert_eq!(rt;
+        best_score(rt.alloc(), text.as_str(), HOPS + 1, 86_400)?,
+        (expected, expected)
+    );
     Ok(())
 }

@@ -1,6 +1,7 @@
 //! The tables of a scan, used more than once.
-ghost use Rattle.std.specs.Prelude.{◌≡◌, ◌<◌};
+ghost use Rattle.std.specs.Prelude.{◌≡◌};
 
+use crate::scores::{eight, later};
 use meat_scan::{ScanTables, start_value};
 use plan_model::{BackwardOrder, Moment, PlaceId, Query, SortedOrder};
 use small_networks::{EIGHT, network_of};
@@ -13,15 +14,14 @@ const ONE_RIDE: &str =
 
 /// From the first place to the second, by so many seconds after eight.
 fn within(seconds: u64) -> Query
-    requires { seconds < 1000000 }
     ensures source { result.source.0 ≡ 0 }
     ensures target { result.target.0 ≡ 1 }
 {
     Query {
         source: PlaceId(0),
         target: PlaceId(1),
-        start: Moment(EIGHT),
-        deadline: Moment(EIGHT + seconds),
+        start: eight(),
+        deadline: later(eight(), seconds),
     }
 }
 

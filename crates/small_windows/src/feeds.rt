@@ -1,8 +1,7 @@
 //! The window of a feed that some files tell.
 ghost use Rattle.std.specs.Prelude.{◌<◌, ◌≤◌, length, IfSome};
-ghost use Rattle.plan_model.specs.Bounds.{most_connections};
+ghost use Rattle.plan_model.specs.Bounds.{first_start, last_start, most_connections};
 ghost use Rattle.change_times.specs.Changes.{LinksComeFrom};
-ghost use Rattle.connections.specs.Window.{first_start, end_of_starts};
 
 use change_times::Changes;
 use connections::{WindowFault, cut};
@@ -42,7 +41,7 @@ fn window_with(
     most: u64,
 ) -> Option<Result<(Network, Names), WindowFault>>
     requires early { first_start ≤ start.0 }
-    requires late { start.0 < end_of_starts }
+    requires late { start.0 ≤ last_start }
     requires horizon { horizon ≤ 72 }
     requires most { most ≤ most_connections }
     requires links { LinksComeFrom (length feed.now.stop_ids) changes.now }
@@ -65,7 +64,7 @@ fn window_of(
     most: u64,
 ) -> Option<Result<(Network, Names), WindowFault>>
     requires early { first_start ≤ start.0 }
-    requires late { start.0 < end_of_starts }
+    requires late { start.0 ≤ last_start }
     requires horizon { horizon ≤ 72 }
     requires most { most ≤ most_connections }
 {

@@ -1,5 +1,5 @@
 use Rattle.std.proofs.Common.{◌+◌, ◌*◌}
-use Rattle.plain_strategies.proofs.strategies.+rides.Given as goal
+use Rattle.small_scores.proofs.strategies.+rides.Given as goal
 
 -- after a ride one ride less may come; between rides a place is before an entry, and that before an exit
 abbrev pub decreases-from_place : goal.decreases-from_place

@@ -1,10 +1,23 @@
 //! Networks that are made by a seed, as the texts of a cut file and of a delay file.
 use csv_rows::{Limits, Rows};
-use cut_file::read_cut;
+use cut_file::{CutTable, read_cut};
 use delay_table::DelayTable;
-use plan_model::Network;
+use plan_model::{Names, Network};
 use std::alloc::Global;
 use std::test::Fail;
+
+fn multiplier() -> u64 {
+    6_364_136_223_846_793_005
+}
+
+fn increment() -> u64 {
+    1_442_695_040_888_963_407
+}
+
+/// What follows on a state of the numbers.
+fn next_state(state: u64) -> u64 {
+    state.wrapping_mul(multiplier()).wrapping_add(increment())
+}
 
 /// Numbers that follow from a seed.
 #[derive(Drop)]
@@ -20,10 +33,7 @@ impl Numbers {
 
     /// A number below a bound.
     pub(crate) fn below(&mut self, bound: u32) -> u32 {
-        self.state = self
-            .state
-            .wrapping_mul(6_364_136_223_846_793_005)
-            .wrapping_add(1_442_695_040_888_963_407);
+        self.state = next_state(self.state);
         let high = (self.state >> 33) as u32;
         high.checked_rem(bound).unwrap_or(0)
     }
@@ -136,22 +146,44 @@ pub(crate) fn cut_text(alloc: Global, numbers: &mut Numbers) -> Result<String, F
     Ok(text)
 }
 
-/// The network of a cut file with the delays of a delay file.
-pub(crate) fn network_of(alloc: Global, cut: &str, delays: &str) -> Result<Network, Fail> {
-    let (Ok(rows), Ok(delays)) = (
-        Rows::read(alloc, cut.as_bytes()),
-        Rows::read(alloc, delays.as_bytes()),
-    ) else {
-        return Err("no tables".into());
-    };
-    let (Ok(cut), Ok(delays)) = (
-        read_cut(alloc, &rows, &Limits::standard()),
-        DelayTable::read(alloc, &delays),
-    ) else {
-        return Err("no cut".into());
-    };
-    match cut.network(alloc, &delays) {
-        Ok(parts) => Ok(parts.0),
+/// The rows of a text.
+fn rows_of(alloc: Global, text: &[u8]) -> Result<Rows, Fail> {
+    match Rows::read(alloc, text) {
+        Ok(rows) => Ok(rows),
+        Err(_) => Err("no rows".into()),
+    }
+}
+
+/// The delays that a text tells.
+fn delays_of(alloc: Global, text: &str) -> Result<DelayTable, Fail> {
+    let rows = rows_of(alloc, text.as_bytes())?;
+    match DelayTable::read(alloc, &rows) {
+        Ok(delays) => Ok(delays),
+        Err(_) => Err("no delays".into()),
+    }
+}
+
+/// The rides that a text tells.
+fn cut_of(alloc: Global, text: &str) -> Result<CutTable, Fail> {
+    let rows = rows_of(alloc, text.as_bytes())?;
+    match read_cut(alloc, &rows, &Limits::standard()) {
+        Ok(cut) => Ok(cut),
+        Err(_) => Err("no cut".into()),
+    }
+}
+
+/// The network of these rides with these delays, and its names.
+fn parts_of(alloc: Global, cut: &CutTable, delays: &DelayTable) -> Result<(Network, Names), Fail> {
+    match cut.network(alloc, delays) {
+        Ok(parts) => Ok(parts),
         Err(_) => Err("no network".into()),
     }
+}
+
+/// The network of a cut file with the delays of a delay file.
+pub(crate) fn network_of(alloc: Global, cut: &str, delays: &str) -> Result<Network, Fail> {
+    let cut = cut_of(alloc, cut)?;
+    let delays = delays_of(alloc, delays)?;
+    let (network, _) = parts_of(alloc, &cut, &delays)?;
+    Ok(network)
 }
