@@ -29,36 +29,72 @@ fn is_journey(journey: &Journey) -> bool {
         && journey.start == Moment(1_717_401_600)
 }
 
-fn is_cut(timetable: Timetable, path: &str) -> bool {
-    match timetable {
-        Timetable::Cut(found) => found == path,
-        Timetable::Feed(..) => false,
+/// Whether two timetables are the same.
+fn are_same(found: Timetable, wanted: Timetable) -> bool {
+    match found {
+        Timetable::Cut(path) => match wanted {
+            Timetable::Cut(other) => path == other,
+            Timetable::Feed(..) => false,
+        },
+        Timetable::Feed(folder, hours) => match wanted {
+            Timetable::Cut(_) => false,
+            Timetable::Feed(other, horizon) => folder == other && hours == horizon,
+        },
     }
 }
 
-fn is_feed(timetable: Timetable, folder: &str, hours: u32) -> bool {
-    match timetable {
-        Timetable::Cut(_) => false,
-        Timetable::Feed(found, horizon) => found == folder && horizon == hours,
+/// Whether a line and `JOURNEY` ask this of that journey over this timetable.
+fn asks(alloc: Global, line: &str, timetable: Timetable, asked: Ask) -> Result<bool, Fail> {
+    let words = words_of(alloc, &[line, JOURNEY])?;
+    match read_job(words.as_slice()) {
+        Ok(Job::Journey(journey, ask)) => {
+            Ok(ask == asked && are_same(journey.timetable, timetable) && is_journey(&journey))
+        }
+        _ => Ok(false),
     }
 }
 
-/// The reason why the words of a line are refused.
-fn fault_of(alloc: Global, line: &str) -> Result<Option<WordsFault>, Fail> {
+/// When the journey of a line begins.
+fn start_of(alloc: Global, line: &str) -> Result<Option<Moment>, Fail> {
+    let words = words_of(alloc, &["safe --cut c --delays d --from A --to T", line])?;
+    match read_job(words.as_slice()) {
+        Ok(Job::Journey(journey, _)) => Ok(Some(journey.start)),
+        _ => Ok(None),
+    }
+}
+
+/// The size of the sample that a line asks for.
+fn size_of(alloc: Global, line: &str) -> Result<Option<u32>, Fail> {
     let words = words_of(alloc, &[line])?;
+    match read_job(words.as_slice()) {
+        Ok(Job::Sample(size)) => Ok(Some(size)),
+        _ => Ok(None),
+    }
+}
+
+/// The reason why the words of some lines are refused.
+fn fault_of(alloc: Global, lines: &[&str]) -> Result<Option<WordsFault>, Fail> {
+    let words = words_of(alloc, lines)?;
     Ok(read_job(words.as_slice()).err())
 }
 
+const CUT: Timetable<'static> = Timetable::Cut("c");
+
 #[test]
-fn seeks_over_a_cut_file(rt: HostRuntime) -> Result<(), Fail> {
-    for (line, asked) in [
-        ("safe --cut c", Ask::Safe { alpha: 200 }),
-        ("safe --alpha 100 --cut c", Ask::Safe { alpha: 100 }),
-        ("expand --cut c --alpha 0150", Ask::Expand { alpha: 150 }),
-        ("plan --cut c --alpha 1000", Ask::Plan { alpha: 1_000 }),
-        ("certify --cut c", Ask::Certify { alpha: 200 }),
+fn asks_for_a_journey(rt: HostRuntime) -> Result<(), Fail> {
+    for (line, timetable, asked) in [
+        ("safe --cut c", CUT, Ask::Safe { alpha: 200 }),
+        ("safe --alpha 100 --cut c", CUT, Ask::Safe { alpha: 100 }),
+        (
+            "expand --cut c --alpha 0150",
+            CUT,
+            Ask::Expand { alpha: 150 },
+        ),
+        ("plan --cut c --alpha 1000", CUT, Ask::Plan { alpha: 1_000 }),
+        ("certify --cut c", CUT, Ask::Certify { alpha: 200 }),
         (
             "punctual --cut c --by 2024-06-03T09:00:00",
+            CUT,
             Ask::Punctual {
                 alpha: 200,
                 promise: Moment(1_717_405_200),
@@ -66,6 +102,7 @@ fn seeks_over_a_cut_file(rt: HostRuntime) -> Result<(), Fail> {
         ),
         (
             "departures --cut c --until 2024-06-03T09:00:00 --last 2024-06-03T08:00:00",
+            CUT,
             Ask::Departures {
                 until: Moment(1_717_405_200),
                 last: Moment(1_717_401_600),
@@ -73,41 +110,67 @@ fn seeks_over_a_cut_file(rt: HostRuntime) -> Result<(), Fail> {
         ),
         (
             "latest --cut c --until 2400-12-31T23:59:59",
+            CUT,
             Ask::Latest {
                 until: Moment(13_601_087_999),
             },
         ),
-    ] {
-        let words = words_of(rt.alloc(), &[line, JOURNEY])?;
-        let Ok(Job::Journey(journey, ask)) = read_job(words.as_slice()) else {
-            return Err("no journey".into());
-        };
-        assert_eq!(rt; ask, asked, "{line}");
-        assert!(rt; is_cut(journey.timetable, "c"), "{line}");
-        assert!(rt; is_journey(&journey), "{line}");
-    }
-    Ok(())
-}
-
-#[test]
-fn seeks_over_a_feed(rt: HostRuntime) -> Result<(), Fail> {
-    for (line, asked, hours) in [
-        ("safe --feed f", Ask::Safe { alpha: 200 }, 24),
-        ("expand --feed f --horizon 1", Ask::Expand { alpha: 200 }, 1),
-        ("plan --alpha 150 --feed f", Ask::Plan { alpha: 150 }, 24),
+        (
+            "replay --cut c --graph g --late 0,300",
+            CUT,
+            Ask::Replay {
+                graph: "g",
+                late: "0,300",
+            },
+        ),
+        (
+            "check --cut c --graph g",
+            CUT,
+            Ask::CheckGraph { graph: "g" },
+        ),
+        (
+            "safe --feed f",
+            Timetable::Feed("f", 24),
+            Ask::Safe { alpha: 200 },
+        ),
+        (
+            "expand --feed f --horizon 1",
+            Timetable::Feed("f", 1),
+            Ask::Expand { alpha: 200 },
+        ),
+        (
+            "plan --alpha 150 --feed f",
+            Timetable::Feed("f", 24),
+            Ask::Plan { alpha: 150 },
+        ),
         (
             "plan --horizon 72 --alpha 300 --feed f",
+            Timetable::Feed("f", 72),
             Ask::Plan { alpha: 300 },
-            72,
+        ),
+        (
+            "replay --feed f --graph g --late none",
+            Timetable::Feed("f", 24),
+            Ask::Replay {
+                graph: "g",
+                late: "none",
+            },
+        ),
+        (
+            "replay --late none --graph g --horizon 6 --feed f",
+            Timetable::Feed("f", 6),
+            Ask::Replay {
+                graph: "g",
+                late: "none",
+            },
+        ),
+        (
+            "check --proof p --horizon 6 --feed f",
+            Timetable::Feed("f", 6),
+            Ask::CheckProof { proof: "p" },
         ),
     ] {
-        let words = words_of(rt.alloc(), &[line, JOURNEY])?;
-        let Ok(Job::Journey(journey, ask)) = read_job(words.as_slice()) else {
-            return Err("no journey".into());
-        };
-        assert_eq!(rt; ask, asked, "{line}");
-        assert!(rt; is_feed(journey.timetable, "f", hours), "{line}");
-        assert!(rt; is_journey(&journey), "{line}");
+        assert!(rt; asks(rt.alloc(), line, timetable, asked)?, "{line}");
     }
     Ok(())
 }
@@ -119,87 +182,16 @@ fn begins_at_the_moment(rt: HostRuntime) -> Result<(), Fail> {
         ("--at 2024-06-03T08:00:01", 1_717_401_601),
         ("--at 2399-12-31T23:59:59", 13_569_465_599),
     ] {
-        let words = words_of(
-            rt.alloc(),
-            &["safe --cut c --delays d --from A --to T", line],
-        )?;
-        let Ok(Job::Journey(journey, ask)) = read_job(words.as_slice()) else {
-            return Err("no journey".into());
-        };
-        assert_eq!(rt; journey.start, Moment(start), "{line}");
+        let found = start_of(rt.alloc(), line)?;
+        assert_eq!(rt; found, Some(Moment(start)), "{line}");
     }
-    Ok(())
-}
-
-#[test]
-fn replays_over_a_cut_file(rt: HostRuntime) -> Result<(), Fail> {
-    let words = words_of(
-        rt.alloc(),
-        &["replay --cut c --graph g --late 0,300", JOURNEY],
-    )?;
-    let Ok(Job::Journey(journey, Ask::Replay { graph, late })) = read_job(words.as_slice()) else {
-        return Err("no replay".into());
-    };
-    assert_eq!(rt; graph, "g");
-    assert_eq!(rt; late, "0,300");
-    assert!(rt; is_cut(journey.timetable, "c"));
-    assert!(rt; is_journey(&journey));
-    Ok(())
-}
-
-#[test]
-fn replays_over_a_feed(rt: HostRuntime) -> Result<(), Fail> {
-    for (line, hours) in [
-        ("replay --feed f --graph g --late none", 24),
-        ("replay --late none --graph g --horizon 6 --feed f", 6),
-    ] {
-        let words = words_of(rt.alloc(), &[line, JOURNEY])?;
-        let Ok(Job::Journey(journey, Ask::Replay { graph, late })) = read_job(words.as_slice())
-        else {
-            return Err("no replay".into());
-        };
-        assert_eq!(rt; graph, "g", "{line}");
-        assert_eq!(rt; late, "none", "{line}");
-        assert!(rt; is_feed(journey.timetable, "f", hours), "{line}");
-        assert!(rt; is_journey(&journey), "{line}");
-    }
-    Ok(())
-}
-
-#[test]
-fn checks_over_a_feed(rt: HostRuntime) -> Result<(), Fail> {
-    let words = words_of(
-        rt.alloc(),
-        &["check --proof p --horizon 6 --feed f", JOURNEY],
-    )?;
-    let Ok(Job::Journey(journey, Ask::CheckProof { proof })) = read_job(words.as_slice()) else {
-        return Err("no check".into());
-    };
-    assert_eq!(rt; proof, "p");
-    assert!(rt; is_feed(journey.timetable, "f", 6));
-    assert!(rt; is_journey(&journey));
-    Ok(())
-}
-
-#[test]
-fn checks_a_graph(rt: HostRuntime) -> Result<(), Fail> {
-    let words = words_of(rt.alloc(), &["check --cut c --graph g", JOURNEY])?;
-    let Ok(Job::Journey(journey, Ask::CheckGraph { graph })) = read_job(words.as_slice()) else {
-        return Err("no check".into());
-    };
-    assert_eq!(rt; graph, "g");
-    assert!(rt; is_cut(journey.timetable, "c"));
     Ok(())
 }
 
 #[test]
 fn makes_samples(rt: HostRuntime) -> Result<(), Fail> {
     for (line, size) in [("sample --size 10", 10), ("sample --size 400", 400)] {
-        let words = words_of(rt.alloc(), &[line])?;
-        let Ok(Job::Sample(found)) = read_job(words.as_slice()) else {
-            return Err("no sample".into());
-        };
-        assert_eq!(rt; found, size, "{line}");
+        assert_eq!(rt; size_of(rt.alloc(), line)?, Some(size), "{line}");
     }
     Ok(())
 }
@@ -219,73 +211,69 @@ fn tells_the_delays(rt: HostRuntime) -> Result<(), Fail> {
 }
 
 #[test]
-fn refuses_what_is_no_line(rt: HostRuntime) -> Result<(), Fail> {
+fn refuses_lines(rt: HostRuntime) -> Result<(), Fail> {
     assert_eq!(rt; read_job(&[]).err(), Some(WordsFault::Line));
-    for line in [
-        "sample --size",
-        "sample --size 10 --size 10",
-        "sample --sizes 10",
-        "sample --size=10",
-    ] {
-        let fault = fault_of(rt.alloc(), line)?;
-        assert_eq!(rt; fault, Some(WordsFault::Line), "{line}");
-    }
-    Ok(())
-}
-
-#[test]
-fn refuses_unknown_commands(rt: HostRuntime) -> Result<(), Fail> {
-    for line in ["fly", "Sample --size 10", " --size 10"] {
-        let fault = fault_of(rt.alloc(), line)?;
-        assert_eq!(rt; fault, Some(WordsFault::UnknownCommand), "{line}");
-    }
-    Ok(())
-}
-
-#[test]
-fn refuses_useless_options(rt: HostRuntime) -> Result<(), Fail> {
-    for (line, number) in [
-        ("plan --feed f --cut c", 1),
-        ("sample --size 10 --to T", 5),
-        ("replay --feed f --alpha 200", 7),
-        ("safe --cut c --horizon 24", 8),
-        ("expand --graph g", 9),
-        ("safe --size 10", 11),
-        ("check --proof p --alpha 200", 7),
-        ("certify --proof p", 12),
-        ("check --proof p --graph g", 9),
-        ("plan --by x", 13),
-        ("latest --until x --alpha 200", 7),
-        ("latest --until x --last x", 15),
-    ] {
-        let fault = fault_of(rt.alloc(), line)?;
-        assert_eq!(rt; fault, Some(WordsFault::NotUsed(number)), "{line}");
-    }
-    Ok(())
-}
-
-#[test]
-fn asks_for_options(rt: HostRuntime) -> Result<(), Fail> {
-    for (line, number) in [
-        ("safe", 2),
-        ("safe --cut c", 3),
-        ("plan --feed f --delays d", 4),
-        ("expand --cut c --delays d --from A --to T", 6),
+    for (line, fault) in [
+        ("sample --size", WordsFault::Line),
+        ("sample --size 10 --size 10", WordsFault::Line),
+        ("sample --sizes 10", WordsFault::Line),
+        ("sample --size=10", WordsFault::Line),
+        ("fly", WordsFault::UnknownCommand),
+        ("Sample --size 10", WordsFault::UnknownCommand),
+        (" --size 10", WordsFault::UnknownCommand),
+        ("plan --feed f --cut c", WordsFault::NotUsed(1)),
+        ("sample --size 10 --to T", WordsFault::NotUsed(5)),
+        ("replay --feed f --alpha 200", WordsFault::NotUsed(7)),
+        ("safe --cut c --horizon 24", WordsFault::NotUsed(8)),
+        ("expand --graph g", WordsFault::NotUsed(9)),
+        ("safe --size 10", WordsFault::NotUsed(11)),
+        ("check --proof p --alpha 200", WordsFault::NotUsed(7)),
+        ("certify --proof p", WordsFault::NotUsed(12)),
+        ("check --proof p --graph g", WordsFault::NotUsed(9)),
+        ("plan --by x", WordsFault::NotUsed(13)),
+        ("latest --until x --alpha 200", WordsFault::NotUsed(7)),
+        ("latest --until x --last x", WordsFault::NotUsed(15)),
+        ("safe", WordsFault::Missing(2)),
+        ("safe --cut c", WordsFault::Missing(3)),
+        ("plan --feed f --delays d", WordsFault::Missing(4)),
+        (
+            "expand --cut c --delays d --from A --to T",
+            WordsFault::Missing(6),
+        ),
         (
             "replay --cut c --delays d --from A --to T --at x --late none",
-            9,
+            WordsFault::Missing(9),
         ),
-        ("sample", 11),
-        ("check --cut c --delays d --from A --to T --at x", 12),
-        ("punctual --cut c --delays d --from A --to T --at x", 13),
-        ("departures --cut c --delays d --from A --to T --at x", 14),
+        ("sample", WordsFault::Missing(11)),
+        (
+            "check --cut c --delays d --from A --to T --at x",
+            WordsFault::Missing(12),
+        ),
+        (
+            "punctual --cut c --delays d --from A --to T --at x",
+            WordsFault::Missing(13),
+        ),
+        (
+            "departures --cut c --delays d --from A --to T --at x",
+            WordsFault::Missing(14),
+        ),
         (
             "departures --cut c --delays d --from A --to T --at x --until x",
-            15,
+            WordsFault::Missing(15),
         ),
+        (
+            "safe --cut c --delays d --from A --to T --at 1970-01-07T23:59:59",
+            WordsFault::BadValue(6),
+        ),
+        (
+            "safe --cut c --delays d --from A --to T --at 2400-01-01T00:00:00",
+            WordsFault::BadValue(6),
+        ),
+        ("sample --size 9", WordsFault::BadValue(11)),
+        ("sample --size 401", WordsFault::BadValue(11)),
     ] {
-        let fault = fault_of(rt.alloc(), line)?;
-        assert_eq!(rt; fault, Some(WordsFault::Missing(number)), "{line}");
+        let told = fault_of(rt.alloc(), &[line])?;
+        assert_eq!(rt; told, Some(fault), "{line}");
     }
     Ok(())
 }
@@ -308,28 +296,7 @@ fn refuses_values(rt: HostRuntime) -> Result<(), Fail> {
             15,
         ),
     ] {
-        let words = words_of(rt.alloc(), &[line, JOURNEY])?;
-        let fault = read_job(words.as_slice()).err();
-        assert_eq!(rt; fault, Some(WordsFault::BadValue(number)), "{line}");
-    }
-    Ok(())
-}
-
-#[test]
-fn refuses_starts_and_sizes(rt: HostRuntime) -> Result<(), Fail> {
-    for (line, number) in [
-        (
-            "safe --cut c --delays d --from A --to T --at 1970-01-07T23:59:59",
-            6,
-        ),
-        (
-            "safe --cut c --delays d --from A --to T --at 2400-01-01T00:00:00",
-            6,
-        ),
-        ("sample --size 9", 11),
-        ("sample --size 401", 11),
-    ] {
-        let fault = fault_of(rt.alloc(), line)?;
+        let fault = fault_of(rt.alloc(), &[line, JOURNEY])?;
         assert_eq!(rt; fault, Some(WordsFault::BadValue(number)), "{line}");
     }
     Ok(())
@@ -347,7 +314,7 @@ fn tells_the_first_reason(rt: HostRuntime) -> Result<(), Fail> {
             WordsFault::BadValue(6),
         ),
     ] {
-        let told = fault_of(rt.alloc(), line)?;
+        let told = fault_of(rt.alloc(), &[line])?;
         assert_eq!(rt; told, Some(fault), "{line}");
     }
     Ok(())
