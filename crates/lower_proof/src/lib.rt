@@ -7,7 +7,7 @@ ghost use Rattle.plan_model.specs.Parts.{Parts};
 ghost use Rattle.plan_model.specs.declared.model.Query.{Query as QueryParts};
 ghost use Rattle.plan_model.specs.Network.{IsValid, count, run_of, arr_of};
 ghost use Rattle.plan_model.specs.Strategy.{IsBoardableAtStart};
-ghost use Rattle.lower_proof.specs.Certificates.{IsLeastOf, arrived_by, IsLeastAt, IsLeastAtStart, IsVia, IsTight, IsVerdict};
+ghost use Rattle.lower_proof.specs.Certificates.{value_of, IsLeastOf, arrived_by, IsLeastAt, IsLeastAtStart, IsVia, IsTight, IsVerdict};
 ghost use Rattle.lower_proof.specs.Promises.{IsSound, IsBest};
 ghost use Rattle.lower_proof.specs.Steps.{lesser, KeepsTo, exit_of};
 ghost use Rattle.lower_proof.specs.Departures.{NoneAfter, AreDepartures};
@@ -151,6 +151,14 @@ fn no_exits(alloc: Global, network: &Network) -> Result<Vec<Option<u64>>, NoMemo
     ensures empty { IfOk result (λ exits. (run : ℕ) → exit_of exits.items run ≡ Maybe.None) }
 {
     Ok(vec![in alloc; None; network.runs() as usize]?)
+}
+
+/// An entry for each connection, with no value.
+fn no_values(alloc: Global, network: &Network) -> Result<Vec<Option<u64>>, NoMemory>
+    ensures as_many { IfOk result (λ values. length values.items ≡ count network.now) }
+    ensures none { IfOk result (λ values. (c : ℕ) → value_of values.items c ≡ Maybe.None) }
+{
+    Ok(vec![in alloc; None; network.count() as usize]?)
 }
 
 /// Offers a connection as an exit of its run, and gives the least value of the exits so far.
@@ -302,7 +310,7 @@ fn best_values(
     let departures = departures_by(alloc, network, scope.last)?;
     let mut boards = boards(alloc, network, scope.last)?;
     let mut exits = no_exits(alloc, network)?;
-    let mut values: Vec<Option<u64>> = vec![in alloc; None; network.count() as usize]?;
+    let mut values = no_values(alloc, network)?;
     write_all(
         departures,
         &mut boards,

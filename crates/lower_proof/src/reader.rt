@@ -1,12 +1,11 @@
 //! The certificate of a text.
-ghost use Rattle.std.specs.Prelude.{◌≡◌, ℕ, ◌+◌, ◌<◌, ◌⊎◌, [], length, nat_le, slice_index_or, IfOk, Option as Maybe};
+ghost use Rattle.std.specs.Prelude.{◌≡◌, ◌+◌, ◌<◌, ◌⊎◌, [], length, nat_le, slice_index_or, IfOk};
 ghost use Rattle.std.specs.Result.{IfErr};
 ghost use Rattle.csv_rows.specs.Tables.{header, row_count};
 ghost use Rattle.plan_model.specs.Network.{count};
-ghost use Rattle.lower_proof.specs.Certificates.{value_of};
 ghost use Rattle.lower_proof.specs.Reading.{is_bounds, bounds_row_in, is_query, bounds_in, value_row_in, told_in, IsFirstFault, AreTold, IsReadAs};
 
-use crate::LowerBounds;
+use crate::{LowerBounds, no_values};
 use clock_text::{read_moment, read_nanos};
 use csv_rows::{Rows, RowsFault};
 use plan_model::{ConnectionId, List, Moment, Names, Network, NoMemory, PlaceId, Query};
@@ -170,14 +169,6 @@ fn read_value(
     } else {
         Err(ProofFault::NotRising(line))
     }
-}
-
-/// An entry for each connection, with no value.
-fn no_values(alloc: Global, network: &Network) -> Result<Vec<Option<u64>>, NoMemory>
-    ensures as_many { IfOk result (λ values. length values.items ≡ count network.now) }
-    ensures none { IfOk result (λ values. (c : ℕ) → value_of values.items c ≡ Maybe.None) }
-{
-    Ok(vec![in alloc; None; network.count() as usize]?)
 }
 
 /// The values of the value rows, of which the first row states so many.
