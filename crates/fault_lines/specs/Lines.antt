@@ -27,6 +27,14 @@ use Rattle.fault_lines.specs.declared.faults.Fault.TheVariants.{Words, Feed, Cut
 use Rattle.fault_lines.specs.Faults.{input_name}
 use Rattle.fault_lines.specs.Sites.{NamedParts, site_of, site_text_in}
 
+-- what is told of a line of a file
+abbrev pub at_line : (file : List ℕ) → ℕ → (what : List ℕ) → List ℕ
+at_line file line what = file ++ (codes " line " ++ (decimal line ++ (codes ": " ++ what)))
+
+-- a file has too many rows, and how many
+abbrev pub too_many_rows : (file : List ℕ) → ℕ → List ℕ
+too_many_rows file count = file ++ (codes " has too many rows: " ++ decimal count)
+
 abbrev pub words_text : WordsFault → List ℕ
 words_text words.Line = codes "words refused"
 words_text words.UnknownCommand = codes "unknown command"
@@ -37,22 +45,22 @@ words_text (words.BadValue option) = codes "bad value of " ++ option_word option
 abbrev pub feed_text : FeedFault → List ℕ
 feed_text (feed.MissingTable table) = file_name table ++ codes " is missing"
 feed_text (feed.MissingColumn table column) = file_name table ++ (codes " has no column " ++ name_of column)
-feed_text (feed.BadField table line column) = file_name table ++ (codes " line " ++ (decimal line ++ (codes ": bad " ++ name_of column)))
-feed_text (feed.UnknownKey table line column) = file_name table ++ (codes " line " ++ (decimal line ++ (codes ": unknown " ++ name_of column)))
-feed_text (feed.DuplicateKey table line) = file_name table ++ (codes " line " ++ (decimal line ++ codes ": repeated key"))
-feed_text (feed.BackwardTime line) = codes "stop_times.txt line " ++ (decimal line ++ codes ": time goes back")
+feed_text (feed.BadField table line column) = at_line (file_name table) line (codes "bad " ++ name_of column)
+feed_text (feed.UnknownKey table line column) = at_line (file_name table) line (codes "unknown " ++ name_of column)
+feed_text (feed.DuplicateKey table line) = at_line (file_name table) line (codes "repeated key")
+feed_text (feed.BackwardTime line) = at_line (codes "stop_times.txt") line (codes "time goes back")
 feed_text (feed.Read table) = codes "cannot read " ++ file_name table
 feed_text (feed.TooLong table) = file_name table ++ codes " is too long"
-feed_text (feed.TooManyRows table count) = file_name table ++ (codes " has too many rows: " ++ decimal count)
+feed_text (feed.TooManyRows table count) = too_many_rows (file_name table) count
 feed_text feed.NoMemory = codes "out of memory"
 
 abbrev pub cut_text : CutFault → List ℕ
 cut_text (cut.MissingColumn column) = codes "cut file has no column " ++ name_of column
-cut_text (cut.TooManyRows count) = codes "cut file has too many rows: " ++ decimal count
-cut_text (cut.BadField line column) = codes "cut file line " ++ (decimal line ++ (codes ": bad " ++ name_of column))
-cut_text (cut.DuplicateStep line) = codes "cut file line " ++ decimal line ++ codes ": repeated step"
-cut_text (cut.Backward line) = codes "cut file line " ++ decimal line ++ codes ": time goes back"
-cut_text (cut.Broken line) = codes "cut file line " ++ decimal line ++ codes ": run is broken"
+cut_text (cut.TooManyRows count) = too_many_rows (codes "cut file") count
+cut_text (cut.BadField line column) = at_line (codes "cut file") line (codes "bad " ++ name_of column)
+cut_text (cut.DuplicateStep line) = at_line (codes "cut file") line (codes "repeated step")
+cut_text (cut.Backward line) = at_line (codes "cut file") line (codes "time goes back")
+cut_text (cut.Broken line) = at_line (codes "cut file") line (codes "run is broken")
 cut_text cut.NoMemory = codes "out of memory"
 
 abbrev pub class_text : ClassName → List ℕ
@@ -61,22 +69,22 @@ class_text (Route route) = decimal route
 
 abbrev pub delay_text : DelayFault → List ℕ
 delay_text (delay.MissingColumn column) = codes "delay file has no column " ++ name_of column
-delay_text (delay.BadField line) = codes "delay file line " ++ decimal line ++ codes ": bad field"
+delay_text (delay.BadField line) = at_line (codes "delay file") line (codes "bad field")
 delay_text (delay.TooManyRows class) = codes "delay class " ++ class_text class ++ codes " has more than 64 rows"
-delay_text (delay.GroupRows line) = codes "delay file line " ++ decimal line ++ codes ": group has more than 64 rows"
-delay_text (delay.NotRising line) = codes "delay file line " ++ decimal line ++ codes ": delay does not rise"
+delay_text (delay.GroupRows line) = at_line (codes "delay file") line (codes "group has more than 64 rows")
+delay_text (delay.NotRising line) = at_line (codes "delay file") line (codes "delay does not rise")
 delay_text (delay.TooManyClasses count) = codes "too many delay classes: " ++ decimal count
 delay_text (delay.WeightSum class sum) = codes "delay class " ++ class_text class ++ codes " weights sum to " ++ decimal sum
-delay_text (delay.GroupSum line sum) = codes "delay file line " ++ (decimal line ++ (codes ": group weights sum to " ++ decimal sum))
+delay_text (delay.GroupSum line sum) = at_line (codes "delay file") line (codes "group weights sum to " ++ decimal sum)
 delay_text delay.NoDefault = codes "delay class * is missing"
 delay_text delay.NoMemory = codes "out of memory"
 
 abbrev pub graph_text : TextFault → List ℕ
-graph_text (text.Row line) = codes "graph file line " ++ (decimal line ++ codes ": bad row")
-graph_text (text.UnknownName line) = codes "graph file line " ++ (decimal line ++ codes ": unknown name")
-graph_text (text.NotRising line) = codes "graph file line " ++ (decimal line ++ codes ": not rising")
-graph_text (text.NoLeg line) = codes "graph file line " ++ (decimal line ++ codes ": does not agree")
-graph_text (text.OtherQuery line) = codes "graph file line " ++ (decimal line ++ codes ": other query")
+graph_text (text.Row line) = at_line (codes "graph file") line (codes "bad row")
+graph_text (text.UnknownName line) = at_line (codes "graph file") line (codes "unknown name")
+graph_text (text.NotRising line) = at_line (codes "graph file") line (codes "not rising")
+graph_text (text.NoLeg line) = at_line (codes "graph file") line (codes "does not agree")
+graph_text (text.OtherQuery line) = at_line (codes "graph file") line (codes "other query")
 graph_text text.NoMemory = codes "out of memory"
 
 abbrev pub replay_text : ReplayFault → List ℕ
@@ -87,17 +95,17 @@ replay_text (replay.Stuck place moment) = codes "stuck"
 replay_text replay.NoMemory = codes "out of memory"
 
 abbrev pub proof_text : ProofFault → List ℕ
-proof_text (proof.Row line) = codes "proof file line " ++ (decimal line ++ codes ": bad row")
-proof_text (proof.UnknownName line) = codes "proof file line " ++ (decimal line ++ codes ": unknown name")
-proof_text (proof.NoConnection line) = codes "proof file line " ++ (decimal line ++ codes ": does not agree")
-proof_text (proof.NotRising line) = codes "proof file line " ++ (decimal line ++ codes ": not rising")
-proof_text (proof.OtherQuery line) = codes "proof file line " ++ (decimal line ++ codes ": other query")
+proof_text (proof.Row line) = at_line (codes "proof file") line (codes "bad row")
+proof_text (proof.UnknownName line) = at_line (codes "proof file") line (codes "unknown name")
+proof_text (proof.NoConnection line) = at_line (codes "proof file") line (codes "does not agree")
+proof_text (proof.NotRising line) = at_line (codes "proof file") line (codes "not rising")
+proof_text (proof.OtherQuery line) = at_line (codes "proof file") line (codes "other query")
 proof_text proof.NoMemory = codes "out of memory"
 
 abbrev pub limit_text : LimitKind → ℕ → List ℕ
 limit_text (Bytes input) count = input_name input ++ codes " is too long"
-limit_text (Rows table) count = file_name table ++ (codes " has too many rows: " ++ decimal count)
-limit_text CutRows count = codes "cut file has too many rows: " ++ decimal count
+limit_text (Rows table) count = too_many_rows (file_name table) count
+limit_text CutRows count = too_many_rows (codes "cut file") count
 limit_text Connections count = codes "too many connections: " ++ decimal count
 limit_text Entries count = codes "too many entries: " ++ decimal count
 

@@ -1,7 +1,8 @@
 //! The lines that tell the faults.
-ghost use Rattle.std.specs.Prelude.{◌≡◌, Option as Optional, Some, IfSome, IfNone};
+ghost use Rattle.std.specs.Prelude.{◌≡◌, ◌++◌, codes, Option as Optional, Some, IfSome, IfNone};
+ghost use Rattle.std.specs.Fmt.{WritesOnOk};
 ghost use Rattle.fault_lines.specs.Sites.{NamedParts};
-ghost use Rattle.fault_lines.specs.Lines.{line_of, IsFormatted};
+ghost use Rattle.fault_lines.specs.Lines.{at_line, too_many_rows, line_of, IsFormatted};
 
 use crate::faults::{Fault, Input, LimitKind, Which};
 use command_line::{WordsFault, option_word};
@@ -11,7 +12,41 @@ use delay_table::{ClassName, DelayFault};
 use graph_text::TextFault;
 use lower_proof::ProofFault;
 use std::fmt;
+use std::fmt::Display;
 use trip_replay::ReplayFault;
+
+/// Writes what is told of a line of a file.
+fn at_line<W: fmt::Write>(
+    f: &mut fmt::Formatter<W>,
+    file: &str,
+    line: u64,
+    what: &str,
+) -> fmt::Result
+    ensures { WritesOnOk W.write_str_gives f.old result (at_line file.now line what.now) f.new }
+{
+    write!(f, "{file} line {line}: {what}")
+}
+
+/// Writes the same with the name of a column behind it.
+fn at_line_of<W: fmt::Write>(
+    f: &mut fmt::Formatter<W>,
+    file: &str,
+    line: u64,
+    what: &str,
+    name: &str,
+) -> fmt::Result
+    ensures { WritesOnOk W.write_str_gives f.old result
+        (at_line file.now line (what.now ++ (codes " " ++ name.now))) f.new }
+{
+    write!(f, "{file} line {line}: {what} {name}")
+}
+
+/// Writes that a file has too many rows.
+fn too_many_rows<W: fmt::Write>(f: &mut fmt::Formatter<W>, file: &str, count: u64) -> fmt::Result
+    ensures { WritesOnOk W.write_str_gives f.old result (too_many_rows file.now count) f.new }
+{
+    write!(f, "{file} has too many rows: {count}")
+}
 
 /// The text of a fault of the words.
 #[derive(Clone, Copy)]
@@ -24,8 +59,8 @@ impl fmt::Display for WordsText {
 
     fn fmt<W: fmt::Write>(&self, f: &mut fmt::Formatter<W>) -> fmt::Result {
         match self.0 {
-            WordsFault::Line => write!(f, "words refused"),
-            WordsFault::UnknownCommand => write!(f, "unknown command"),
+            WordsFault::Line => f.write_str("words refused"),
+            WordsFault::UnknownCommand => f.write_str("unknown command"),
             WordsFault::NotUsed(option) => {
                 let word = option_word(option);
                 write!(f, "option {word} is not used here")
@@ -63,22 +98,15 @@ impl fmt::Display for FeedText {
                 write!(f, "{file} has no column {name}")
             }
             FeedFault::BadField(table, line, column) => {
-                let file = table.file_name();
-                let name = column.name();
-                write!(f, "{file} line {line}: bad {name}")
+                at_line_of(f, table.file_name(), line, "bad", column.name())
             }
             FeedFault::UnknownKey(table, line, column) => {
-                let file = table.file_name();
-                let name = column.name();
-                write!(f, "{file} line {line}: unknown {name}")
+                at_line_of(f, table.file_name(), line, "unknown", column.name())
             }
             FeedFault::DuplicateKey(table, line) => {
-                let file = table.file_name();
-                write!(f, "{file} line {line}: repeated key")
+                at_line(f, table.file_name(), line, "repeated key")
             }
-            FeedFault::BackwardTime(line) => {
-                write!(f, "stop_times.txt line {line}: time goes back")
-            }
+            FeedFault::BackwardTime(line) => at_line(f, "stop_times.txt", line, "time goes back"),
             FeedFault::Read(table) => {
                 let file = table.file_name();
                 write!(f, "cannot read {file}")
@@ -87,11 +115,8 @@ impl fmt::Display for FeedText {
                 let file = table.file_name();
                 write!(f, "{file} is too long")
             }
-            FeedFault::TooManyRows(table, count) => {
-                let file = table.file_name();
-                write!(f, "{file} has too many rows: {count}")
-            }
-            FeedFault::NoMemory => write!(f, "out of memory"),
+            FeedFault::TooManyRows(table, count) => too_many_rows(f, table.file_name(), count),
+            FeedFault::NoMemory => f.write_str("out of memory"),
         }
     }
 }
@@ -111,15 +136,14 @@ impl fmt::Display for CutText {
                 let name = column.name();
                 write!(f, "cut file has no column {name}")
             }
-            CutFault::TooManyRows(count) => write!(f, "cut file has too many rows: {count}"),
+            CutFault::TooManyRows(count) => too_many_rows(f, "cut file", count),
             CutFault::BadField(line, column) => {
-                let name = column.name();
-                write!(f, "cut file line {line}: bad {name}")
+                at_line_of(f, "cut file", line, "bad", column.name())
             }
-            CutFault::DuplicateStep(line) => write!(f, "cut file line {line}: repeated step"),
-            CutFault::Backward(line) => write!(f, "cut file line {line}: time goes back"),
-            CutFault::Broken(line) => write!(f, "cut file line {line}: run is broken"),
-            CutFault::NoMemory => write!(f, "out of memory"),
+            CutFault::DuplicateStep(line) => at_line(f, "cut file", line, "repeated step"),
+            CutFault::Backward(line) => at_line(f, "cut file", line, "time goes back"),
+            CutFault::Broken(line) => at_line(f, "cut file", line, "run is broken"),
+            CutFault::NoMemory => f.write_str("out of memory"),
         }
     }
 }
@@ -135,8 +159,8 @@ impl fmt::Display for ClassText {
 
     fn fmt<W: fmt::Write>(&self, f: &mut fmt::Formatter<W>) -> fmt::Result {
         match self.0 {
-            ClassName::Any => write!(f, "*"),
-            ClassName::Route(route) => write!(f, "{route}"),
+            ClassName::Any => f.write_str("*"),
+            ClassName::Route(route) => route.fmt(f),
         }
     }
 }
@@ -156,17 +180,15 @@ impl fmt::Display for DelayText {
                 let name = column.name();
                 write!(f, "delay file has no column {name}")
             }
-            DelayFault::BadField(line) => write!(f, "delay file line {line}: bad field"),
+            DelayFault::BadField(line) => at_line(f, "delay file", line, "bad field"),
             DelayFault::TooManyRows(class) => {
                 let class = ClassText(class);
                 write!(f, "delay class {class} has more than 64 rows")
             }
             DelayFault::GroupRows(line) => {
-                write!(f, "delay file line {line}: group has more than 64 rows")
+                at_line(f, "delay file", line, "group has more than 64 rows")
             }
-            DelayFault::NotRising(line) => {
-                write!(f, "delay file line {line}: delay does not rise")
-            }
+            DelayFault::NotRising(line) => at_line(f, "delay file", line, "delay does not rise"),
             DelayFault::TooManyClasses(count) => { write!(f, "too many delay classes: {count}") }
             DelayFault::WeightSum(class, sum) => {
                 let class = ClassText(class);
@@ -175,8 +197,8 @@ impl fmt::Display for DelayText {
             DelayFault::GroupSum(line, sum) => {
                 write!(f, "delay file line {line}: group weights sum to {sum}")
             }
-            DelayFault::NoDefault => write!(f, "delay class * is missing"),
-            DelayFault::NoMemory => write!(f, "out of memory"),
+            DelayFault::NoDefault => f.write_str("delay class * is missing"),
+            DelayFault::NoMemory => f.write_str("out of memory"),
         }
     }
 }
@@ -192,12 +214,12 @@ impl fmt::Display for GraphText {
 
     fn fmt<W: fmt::Write>(&self, f: &mut fmt::Formatter<W>) -> fmt::Result {
         match self.0 {
-            TextFault::Row(line) => write!(f, "graph file line {line}: bad row"),
-            TextFault::UnknownName(line) => write!(f, "graph file line {line}: unknown name"),
-            TextFault::NotRising(line) => write!(f, "graph file line {line}: not rising"),
-            TextFault::NoLeg(line) => write!(f, "graph file line {line}: does not agree"),
-            TextFault::OtherQuery(line) => write!(f, "graph file line {line}: other query"),
-            TextFault::NoMemory => write!(f, "out of memory"),
+            TextFault::Row(line) => at_line(f, "graph file", line, "bad row"),
+            TextFault::UnknownName(line) => at_line(f, "graph file", line, "unknown name"),
+            TextFault::NotRising(line) => at_line(f, "graph file", line, "not rising"),
+            TextFault::NoLeg(line) => at_line(f, "graph file", line, "does not agree"),
+            TextFault::OtherQuery(line) => at_line(f, "graph file", line, "other query"),
+            TextFault::NoMemory => f.write_str("out of memory"),
         }
     }
 }
@@ -216,8 +238,8 @@ impl fmt::Display for ReplayText {
             ReplayFault::NotADelay(number) => write!(f, "late {number} is not a delay"),
             ReplayFault::TooFew(ridden) => write!(f, "too few delays: {ridden} ridden"),
             ReplayFault::TooMany(ridden) => write!(f, "too many delays: {ridden} ridden"),
-            ReplayFault::Stuck(_, _) => write!(f, "stuck"),
-            ReplayFault::NoMemory => write!(f, "out of memory"),
+            ReplayFault::Stuck(_, _) => f.write_str("stuck"),
+            ReplayFault::NoMemory => f.write_str("out of memory"),
         }
     }
 }
@@ -233,12 +255,12 @@ impl fmt::Display for ProofText {
 
     fn fmt<W: fmt::Write>(&self, f: &mut fmt::Formatter<W>) -> fmt::Result {
         match self.0 {
-            ProofFault::Row(line) => write!(f, "proof file line {line}: bad row"),
-            ProofFault::UnknownName(line) => write!(f, "proof file line {line}: unknown name"),
-            ProofFault::NoConnection(line) => write!(f, "proof file line {line}: does not agree"),
-            ProofFault::NotRising(line) => write!(f, "proof file line {line}: not rising"),
-            ProofFault::OtherQuery(line) => write!(f, "proof file line {line}: other query"),
-            ProofFault::NoMemory => write!(f, "out of memory"),
+            ProofFault::Row(line) => at_line(f, "proof file", line, "bad row"),
+            ProofFault::UnknownName(line) => at_line(f, "proof file", line, "unknown name"),
+            ProofFault::NoConnection(line) => at_line(f, "proof file", line, "does not agree"),
+            ProofFault::NotRising(line) => at_line(f, "proof file", line, "not rising"),
+            ProofFault::OtherQuery(line) => at_line(f, "proof file", line, "other query"),
+            ProofFault::NoMemory => f.write_str("out of memory"),
         }
     }
 }
@@ -259,11 +281,8 @@ impl fmt::Display for LimitText {
                 let name = input.name();
                 write!(f, "{name} is too long")
             }
-            LimitKind::Rows(table) => {
-                let file = table.file_name();
-                write!(f, "{file} has too many rows: {count}")
-            }
-            LimitKind::CutRows => write!(f, "cut file has too many rows: {count}"),
+            LimitKind::Rows(table) => too_many_rows(f, table.file_name(), count),
+            LimitKind::CutRows => too_many_rows(f, "cut file", count),
             LimitKind::Connections => write!(f, "too many connections: {count}"),
             LimitKind::Entries => write!(f, "too many entries: {count}"),
         }
@@ -281,53 +300,29 @@ impl fmt::Display for FaultText {
 
     fn fmt<W: fmt::Write>(&self, f: &mut fmt::Formatter<W>) -> fmt::Result {
         match self.0 {
-            Fault::Words(fault) => {
-                let text = WordsText(fault);
-                write!(f, "{text}")
-            }
-            Fault::Feed(fault) => {
-                let text = FeedText(fault);
-                write!(f, "{text}")
-            }
-            Fault::Cut(fault) => {
-                let text = CutText(fault);
-                write!(f, "{text}")
-            }
+            Fault::Words(fault) => WordsText(fault).fmt(f),
+            Fault::Feed(fault) => FeedText(fault).fmt(f),
+            Fault::Cut(fault) => CutText(fault).fmt(f),
             Fault::Missing(input) => {
                 let name = input.name();
                 write!(f, "{name} is missing")
             }
-            Fault::Delays(fault) => {
-                let text = DelayText(fault);
-                write!(f, "{text}")
-            }
-            Fault::UnknownStop(Which::From) => write!(f, "unknown stop of --from"),
-            Fault::UnknownStop(Which::To) => write!(f, "unknown stop of --to"),
-            Fault::Limit(kind, count) => {
-                let text = LimitText(kind, count);
-                write!(f, "{text}")
-            }
+            Fault::Delays(fault) => DelayText(fault).fmt(f),
+            Fault::UnknownStop(Which::From) => f.write_str("unknown stop of --from"),
+            Fault::UnknownStop(Which::To) => f.write_str("unknown stop of --to"),
+            Fault::Limit(kind, count) => LimitText(kind, count).fmt(f),
             Fault::Read(input) => {
                 let name = input.name();
                 write!(f, "cannot read {name}")
             }
-            Fault::NoSafe => write!(f, "no safe strategy"),
-            Fault::GraphFile(fault) => {
-                let text = GraphText(fault);
-                write!(f, "{text}")
-            }
-            Fault::Replay(fault) => {
-                let text = ReplayText(fault);
-                write!(f, "{text}")
-            }
-            Fault::ProofFile(fault) => {
-                let text = ProofText(fault);
-                write!(f, "{text}")
-            }
-            Fault::ProofFails(_) => write!(f, "proof fails"),
-            Fault::Unsafe(_, _) => write!(f, "unsafe"),
-            Fault::Write => write!(f, "cannot write"),
-            Fault::NoMemory => write!(f, "out of memory"),
+            Fault::NoSafe => f.write_str("no safe strategy"),
+            Fault::GraphFile(fault) => GraphText(fault).fmt(f),
+            Fault::Replay(fault) => ReplayText(fault).fmt(f),
+            Fault::ProofFile(fault) => ProofText(fault).fmt(f),
+            Fault::ProofFails(_) => f.write_str("proof fails"),
+            Fault::Unsafe(_, _) => f.write_str("unsafe"),
+            Fault::Write => f.write_str("cannot write"),
+            Fault::NoMemory => f.write_str("out of memory"),
         }
     }
 }
