@@ -6,14 +6,14 @@ ghost use Rattle.plan_graph.specs.Unfold.{unfold_plan};
 ghost use Rattle.plan_model.specs.Strategy.{IsSafeFor};
 ghost use Rattle.decision_graph.specs.Expanded.{NoneSafe};
 ghost use Rattle.graph_score.specs.Scores.{IsScored};
-ghost use Rattle.late_chance.specs.Chances.{seconds_per_week};
-ghost use Rattle.late_chance.specs.Punctual.{IsPunctual};
+ghost use Rattle.late_chance.specs.Chances.{promised, seconds_per_week};
+ghost use Rattle.late_chance.specs.Punctual.{IsPunctual, asked_for, seen_for};
 ghost use Rattle.command_line.specs.Ranges.{IsPercentage};
 ghost use Rattle.fault_lines.specs.Sites.{last_printable};
 ghost use Rattle.graph_text.specs.Texts.{graph_text};
 ghost use Rattle.plan_answers.specs.Answers.{InQuery, IsPrintable, FailsIn, head_of};
 ghost use Rattle.journey_report.specs.Findings.{findings_of, punctual_findings};
-ghost use Rattle.plan_model.specs.Bounds.{last_start};
+ghost use Rattle.plan_model.specs.Bounds.{end_of_time, last_start};
 ghost use Rattle.plan_answers.specs.Punctual.{TellsPunctual};
 ghost use Rattle.journey_report.specs.Texts.{punctual_row};
 
@@ -24,7 +24,7 @@ use graph_score::{ScoreFault, fit_is_scored, score};
 use graph_text::{Head, fit_is_printable, write};
 use interval_fixed::Span;
 use journey_report::{Answer, Problem, Report, punctual_row};
-use late_chance::{LateChance, punctual_by_shift, shifted, shifted_is_view, sooner, unshifted};
+use late_chance::{LateChance, punctual_by_shift, shifted, sooner, unshifted};
 use merged_runs::MergedRuns;
 use plan_graph::PlanGraph;
 use plan_model::{BackwardOrder, Moment, Network, NoMemory, Query};
@@ -39,6 +39,55 @@ const SECONDS_PER_WEEK: u64 = 604_800;
 struct PunctualPlan {
     graph: PlanGraph,
     chance: LateChance,
+}
+
+/// The decision graph of a query with the least chance of an arrival after the moment that stands for a
+/// promise; none where no strategy is safe for the query.
+fn least_chance_of(
+    alloc: Global,
+    network: &Network,
+    query: &Query,
+) -> Result<Option<PunctualPlan>, NoMemory>
+    requires source { query.now.source.0 < length network.now.change }
+    requires target { query.now.target.0 < length network.now.change }
+    requires start { query.now.start.0 < end_of_time }
+    requires deadline { query.now.start.0 ≤ query.now.deadline.0 }
+    ensures { IfOk result (λ found. MatchOption found (NoneSafe network.now query.now)
+        (λ plan. IsPunctual network.now query.now promised plan.graph plan.chance)) }
+{
+    let mut order = MergedRuns::new(alloc, network)?;
+    let found: Option<ScoredPlan<LateChance>> = plan_by(alloc, &mut order, network, query)?;
+    match found {
+        None => Ok(None),
+        Some(found) => Ok(Some(PunctualPlan {
+            graph: found.graph,
+            chance: found.value,
+        })),
+    }
+}
+
+/// The same in the network as it is seen for the query and the promise.
+fn seen_plan(
+    alloc: Global,
+    network: &Network,
+    query: &Query,
+    promise: Moment,
+) -> Result<Option<PunctualPlan>, NoMemory>
+    requires source { query.now.source.0 < length network.now.change }
+    requires target { query.now.target.0 < length network.now.change }
+    requires start { query.now.start.0 ≤ last_start }
+    requires deadline { query.now.start.0 ≤ query.now.deadline.0 }
+    requires week { seconds_per_week ≤ query.now.start.0 }
+    requires later { query.now.start.0 ≤ promise.0 }
+    requires soon { promise.0 ≤ query.now.start.0 + seconds_per_week }
+    ensures { IfOk result (λ found. MatchOption found
+        (NoneSafe (seen_for network.now query.now promise.0) (asked_for query.now promise.0))
+        (λ plan. IsPunctual (seen_for network.now query.now promise.0)
+        (asked_for query.now promise.0) promised plan.graph plan.chance)) }
+{
+    let seen = shifted(alloc, network, query.start, promise)?;
+    let sought = sooner(query, promise.0 - SECONDS_PER_WEEK);
+    least_chance_of(alloc, &seen, &sought)
 }
 
 /// The decision graph with the least chance of an arrival after the promised moment; none where no
@@ -61,20 +110,14 @@ fn punctual_of(
 {
     // That the network is valid is known from its count.
     let _count = network.count();
-    let seconds = promise.0 - SECONDS_PER_WEEK;
-    shifted_is_view();
     punctual_by_shift();
-    let seen = shifted(alloc, network, query.start, promise)?;
-    let sought = sooner(query, seconds);
-    let mut order = MergedRuns::new(alloc, &seen)?;
-    let found: Option<ScoredPlan<LateChance>> = plan_by(alloc, &mut order, &seen, &sought)?;
-    let Some(found) = found else {
+    let Some(found) = seen_plan(alloc, network, query, promise)? else {
         return Ok(None);
     };
-    let graph = unshifted(alloc, &found.graph, seconds)?;
+    let graph = unshifted(alloc, &found.graph, promise.0 - SECONDS_PER_WEEK)?;
     Ok(Some(PunctualPlan {
         graph,
-        chance: found.value,
+        chance: found.chance,
     }))
 }
 
