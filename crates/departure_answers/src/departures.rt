@@ -40,6 +40,19 @@ fn query_until(problem: &Problem, start: Moment, until: Moment) -> Query
     }
 }
 
+/// What a scan of a network finds for a query.
+fn scan_of(alloc: Global, network: &Network, query: &Query) -> Result<Scanned<MeanSpan>, NoMemory>
+    requires source { query.now.source.0 < length network.now.change }
+    requires target { query.now.target.0 < length network.now.change }
+    requires differ { query.now.source.0 ≢ query.now.target.0 }
+    ensures { IfOk result (λ scanned. Solves mean_below mean_covers mean_gap
+        scanned network.now query.now) }
+{
+    let mut order = MergedRuns::new(alloc, network)?;
+    let tables: ScanTables<MeanSpan> = ScanTables::reserve(alloc, network)?;
+    Ok(scan(tables, network, &mut order, query))
+}
+
 /// Scans the network of a problem from a place more, which leads to the source of the query. A network
 /// with so many places that none can be added is told as want of memory.
 fn scan_from_added(alloc: Global, problem: &Problem, query: &Query) -> Result<FromAdded, NoMemory>
@@ -63,9 +76,7 @@ fn scan_from_added(alloc: Global, problem: &Problem, query: &Query) -> Result<Fr
         source: PlaceId(places),
         ..*query
     };
-    let mut order = MergedRuns::new(alloc, &network)?;
-    let tables: ScanTables<MeanSpan> = ScanTables::reserve(alloc, &network)?;
-    let scanned = scan(tables, &network, &mut order, &query);
+    let scanned = scan_of(alloc, &network, &query)?;
     Ok(FromAdded {
         network,
         query,
