@@ -1,11 +1,15 @@
 -- What a run comes to.
-use Rattle.std.proofs.Common.{◌≡◌, ℕ, List, Option, Some, None, Ok, inl, inr, refl, sym, subst, ⊎_elim, ◌∙◌}
+use Rattle.std.proofs.Common.{◌≡◌, ℕ, List, Option, Some, None, Ok, inl, inr, refl, ap, sym, subst, ⊎_elim, ◌∙◌}
 use Rattle.std.specs.Prelude.{◌≢◌, ◌⊎◌}
 use Rattle.std.specs.Io.KnownBytes.{Keeps}
 use Rattle.file_ports.specs.Ports.{Folder}
 use Rattle.csv_rows.specs.declared.limits.Limits.{Limits}
 use Rattle.command_line.specs.declared.job.WordsFault.{WordsFault}
 use Rattle.command_line.specs.Jobs.{WantedAsk, Safe, Expand, Plan, Replay as Replays, Certify, CheckProof, CheckGraph, Punctual, Departures, Latest, Wanted, Ask, Sample, job_of}
+use Rattle.plan_model.specs.declared.model.ConnectionId.{ConnectionId}
+use Rattle.plan_model.specs.declared.model.Moment.{Moment}
+use Rattle.plan_model.specs.declared.model.PlaceId.{PlaceId}
+use Rattle.trip_replay.specs.declared.ReplayFault.{ReplayFault}
 use Rattle.fault_lines.specs.declared.faults.Input.{Input}
 use Rattle.fault_lines.specs.declared.faults.Input.TheVariants as input
 use Rattle.fault_lines.specs.declared.faults.LimitKind.{LimitKind}
@@ -41,34 +45,70 @@ refused_ending (Limit kind count) other = of_limit kind
 refused_ending Write other = absurd (other refl)
 refused_ending _ other = refl
 
+-- a fault that is told apart from the others
+unlike_safe : Write ≢ NoSafe
+unlike_safe same = absurd (cc)
+
+unlike_unsafe : (place : PlaceId) (moment : Moment) → Write ≢ Unsafe place moment
+unlike_unsafe place moment same = absurd (cc)
+
+unlike_trip : (stop : ReplayFault) → Write ≢ Replay stop
+unlike_trip stop same = absurd (cc)
+
+unlike_proof : (connection : ConnectionId) → Write ≢ ProofFails connection
+unlike_proof connection same = absurd (cc)
+
+later_than_graph : AtOutput ≢ AtGraphFile
+later_than_graph same = absurd (cc)
+
+later_than_proof : AtOutput ≢ AtProofFile
+later_than_proof same = absurd (cc)
+
+no_memory_or_not : (fault : Fault) → (fault ≡ NoMemory) ⊎ (fault ≢ NoMemory)
+no_memory_or_not NoMemory = inl refl
+no_memory_or_not _ = inr (λ same. absurd (cc))
+
+write_or_not : (fault : Fault) → (fault ≡ Write) ⊎ (fault ≢ Write)
+write_or_not Write = inl refl
+write_or_not _ = inr (λ same. absurd (cc))
+
+memory_unwritten : NoMemory ≢ Write
+memory_unwritten same = absurd (cc)
+
+some_not_none : (fault : Fault) → ◌≢◌ {A = Option Fault} (Some fault) None
+some_not_none fault same = absurd (cc)
+
+some_is : (a b : Fault) → ◌≡◌ {A = Option Fault} (Some a) (Some b) → a ≡ b
+some_is a b same = cc
+
 module _ (told : Option Folder) (limits : Limits) (words : List (List ℕ)) where
   -- what is asked does not fail because its answer cannot be written
   ask_write : (start : ℕ) (p : Problem) (ask : WantedAsk) → FailsAsk told limits start p ask Write → ⊥
-  ask_write start p (Safe alpha) (is, none) = absurd (cc)
-  ask_write start p (Expand alpha) (is, none) = absurd (cc)
-  ask_write start p (Plan alpha) (is, none) = absurd (cc)
-  ask_write start p (CheckGraph graph) (inl of) = let late : AtOutput ≡ AtGraphFile = of.0.0 in cc
-  ask_write start p (CheckGraph graph) (inr (head, more, file, (place, moment, is, unsafe))) = let same : Write ≡ Unsafe place moment = is in cc
-  ask_write start p (Punctual alpha promise) (is, none) = absurd (cc)
-  ask_write start p (Departures until last) (is, none) = absurd (cc)
-  ask_write start p (Latest until) (is, none) = absurd (cc)
-  ask_write start p (Replays graph late) (inl of) = let late : AtOutput ≡ AtGraphFile = of.0.0 in cc
-  ask_write start p (Replays graph late) (inr (head, more, file, trip)) = let is : Write ≡ Replay trip.stop = trip.fault_is in cc
-  ask_write start p (Certify alpha) (is, none) = absurd (cc)
-  ask_write start p (CheckProof proof) (inl of) = let late : AtOutput ≡ AtProofFile = of.0.0 in cc
-  ask_write start p (CheckProof proof) (inr (q, bounds, file, (connection, is, last))) = let same : Write ≡ ProofFails connection = is in cc
+  ask_write start p (Safe alpha) (is, none) = unlike_safe is
+  ask_write start p (Expand alpha) (is, none) = unlike_safe is
+  ask_write start p (Plan alpha) (is, none) = unlike_safe is
+  ask_write start p (CheckGraph graph) (inl of) = later_than_graph of.0.0
+  ask_write start p (CheckGraph graph) (inr (head, more, file, (place, moment, is, unsafe))) = unlike_unsafe place moment is
+  ask_write start p (Punctual alpha promise) (is, none) = unlike_safe is
+  ask_write start p (Departures until last) (is, none) = unlike_safe is
+  ask_write start p (Latest until) (is, none) = unlike_safe is
+  ask_write start p (Replays graph late) (inl of) = later_than_graph of.0.0
+  ask_write start p (Replays graph late) (inr (head, more, file, trip)) = unlike_trip trip.stop trip.fault_is
+  ask_write start p (Certify alpha) (is, none) = unlike_safe is
+  ask_write start p (CheckProof proof) (inl of) = later_than_proof of.0.0
+  ask_write start p (CheckProof proof) (inr (q, bounds, file, (connection, is, last))) = unlike_proof connection is
 
   pub write_fails : (wanted : Wanted) (known : Option NamedParts) → FailsJob told limits wanted known Write → ⊥
   write_fails (Ask j ask) known (inl (p, sound, problem, (is, why))) = ask_write j.start p ask why
   write_fails (Ask j ask) known (inr early) = early.0.stage
-  write_fails (Sample size) known (read, (files, same, inl (p, sound, problem, (is, why)))) = let none : Write ≡ NoSafe = why.0 in cc
+  write_fails (Sample size) known (read, (files, same, inl (p, sound, problem, (is, why)))) = unlike_safe why.0
   write_fails (Sample size) known (read, (files, same, inr early)) = early.0.stage
 
   -- why a job fails is why there is no answer to its words
   pub job_cause : (wanted : Wanted) (known : Option NamedParts) → job_of words ≡ Ok wanted → (fault : Fault) → (fault ≢ NoMemory → FailsJob told limits wanted known fault)
       → HasCause told limits words known fault
-  job_cause wanted known is NoMemory fails = inl refl
-  job_cause wanted known is fault fails = inr (inr (wanted, is, fails (λ (same : fault ≡ NoMemory). absurd (cc))))
+  job_cause wanted known is fault fails =
+      ⊎_elim (λ (same : fault ≡ NoMemory). inl same) (λ (other : fault ≢ NoMemory). inr (inr (wanted, is, fails other))) (no_memory_or_not fault)
 
   module _ (report : Report) (old new : Option (List ℕ)) (IsLine : List ℕ → Type 0) where
     outcome_by : (fault : Fault) → fault ≢ Write → Keeps old new → IsRefused told limits words report IsLine fault → Outcome told limits words report old new IsLine (Some fault)
@@ -85,7 +125,7 @@ module _ (told : Option Folder) (limits : Limits) (words : List (List ℕ)) wher
       (λ (is : fault ≡ wanted). outcome_by report old new (IsTold before after was now) fault (λ write. other (sym is ∙ write)) keeps
       (findings, (known, subst (HasCause told limits words known) (sym is) cause, line)))
       (λ (is : (fault ≡ NoMemory) × IsFormatted wanted).
-      outcome_by report old new (IsTold before after was now) fault (λ write. let none : NoMemory ≡ Write = sym is.0 ∙ write in absurd (cc)) keeps
+      outcome_by report old new (IsTold before after was now) fault (λ write. memory_unwritten (sym is.0 ∙ write)) keeps
       (findings, (known, inl is.0, line)))
       same
 
@@ -96,28 +136,35 @@ module _ (told : Option Folder) (limits : Limits) (words : List (List ℕ)) wher
       → Outcome told limits words report old new IsLine found
   answered_outcome wanted answer report text old new IsLine None is same answers written tells =
       (text, (wanted, is, subst (λ (f : Findings). AnswersJob told limits wanted f text) (sym same) answers), written)
-  answered_outcome wanted answer report text old new IsLine (Some Write) is same answers written tells =
-      ((text, (wanted, is, subst (λ (f : Findings). AnswersJob told limits wanted f text) (sym same) answers), written), λ known. tells known refl)
   answered_outcome wanted answer report text old new IsLine (Some fault) is same answers written tells =
-      absurd (subst (λ (e : Ending). IsWrittenBy e old new text) (refused_ending fault (λ write. absurd (cc))) written)
+      ⊎_elim
+      (λ (write : fault ≡ Write). subst (λ (f : Fault). IsWritten old new text (Some f) → ((known : Option NamedParts) → Some f ≡ Some Write → IsLine (line_of known Write))
+      → Outcome told limits words report old new IsLine (Some f)) (sym write) torn written tells)
+      (λ (other : fault ≢ Write). absurd (subst (λ (e : Ending). IsWrittenBy e old new text) (refused_ending fault other) written))
+      (write_or_not fault)
+    where
+      torn : IsWritten old new text (Some Write) → ((known : Option NamedParts) → ◌≡◌ {A = Option Fault} (Some Write) (Some Write) → IsLine (line_of known Write))
+          → Outcome told limits words report old new IsLine (Some Write)
+      torn front line =
+          ((text, (wanted, is, subst (λ (f : Findings). AnswersJob told limits wanted f text) (sym same) answers), front), λ known. line known refl)
 
 module _ (before after : Option (List ℕ)) (was now : ℕ) (known : Option NamedParts) where
   pub refused_some : (wanted : Fault) (found : Option Fault) → IsRefusedWith before after was now known wanted found → found ≡ None → ⊥
   refused_some wanted None refused none = refused
-  refused_some wanted (Some fault) refused none = absurd (cc)
+  refused_some wanted (Some fault) refused none = some_not_none fault none
 
   -- what was told is the fault, or that there is no memory for its line
   pub refused_is : (wanted : Fault) (found : Option Fault) (fault : Fault) → IsRefusedWith before after was now known wanted found → found ≡ Some fault → (fault ≡ wanted)
       ⊎ ((fault ≡ NoMemory) × IsFormatted wanted)
-  refused_is wanted None fault refused is = absurd (cc)
+  refused_is wanted None fault refused is = absurd (some_not_none fault (sym is))
   refused_is wanted (Some other) fault refused is =
-      let same : other ≡ fault = (cc) in subst (λ (f : Fault). (f ≡ wanted) ⊎ ((f ≡ NoMemory) × IsFormatted wanted)) same refused.0
+      subst (λ (f : Fault). (f ≡ wanted) ⊎ ((f ≡ NoMemory) × IsFormatted wanted)) (some_is other fault is) refused.0
 
   -- a file that cannot be read is always told
   pub refused_read : (wanted : Fault) (found : Option Fault) (file : Input) → IsRefusedWith before after was now known wanted found → wanted ≡ Read file → found ≡ Some (Read file)
   refused_read wanted None file refused is = absurd refused
   refused_read wanted (Some fault) file refused is =
-      ⊎_elim (λ (same : fault ≡ wanted). (cc)) (λ (none : (fault ≡ NoMemory) × IsFormatted wanted). absurd (subst IsFormatted is none.1)) refused.0
+      ⊎_elim (λ (same : fault ≡ wanted). ap (λ (f : Fault). Some f) (same ∙ is)) (λ (none : (fault ≡ NoMemory) × IsFormatted wanted). absurd (subst IsFormatted is none.1)) refused.0
 
   -- a refusal of words tells of no file and of no writing
   pub words_told : (wanted : Fault) (words : WordsFault) (found : Option Fault) (fault : Fault) → wanted ≡ Words words → IsRefusedWith before after was now known wanted found
