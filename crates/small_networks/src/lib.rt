@@ -16,7 +16,7 @@ use decision_graph::{CompactPlan, ExpandedPlan, expand, plan};
 use delay_table::DelayTable;
 use interval_fixed::Span;
 pub use links::{APART, Link, five_minutes, linked, links_of, walk, walked_limits};
-use plan_graph::{GraphRow, PlanGraph};
+use plan_graph::{GraphRow, PlaceTable, PlanGraph};
 use plan_model::{ConnectionId, Leg, Moment, Names, Network, PlaceId, Query, SortedOrder};
 use std::alloc::Global;
 use std::test::Fail;
@@ -75,14 +75,28 @@ fn parts_of(alloc: Global, cut: &CutTable, delays: &DelayTable) -> Result<(Netwo
     }
 }
 
+/// The network of a cut file with these delays, and its names.
+fn delayed_network(alloc: Global, cut: &str, delays: &DelayTable) -> Result<(Network, Names), Fail>
+    ensures fit { IfOk result (λ parts. NamesFit parts.1 parts.0) }
+{
+    let cut = cut_of(alloc, cut)?;
+    parts_of(alloc, &cut, delays)
+}
+
+/// The network of a cut file with the usual delays, and its names.
+fn usual_network(alloc: Global, cut: &str) -> Result<(Network, Names), Fail>
+    ensures fit { IfOk result (λ parts. NamesFit parts.1 parts.0) }
+{
+    let delays = usual_delays(alloc)?;
+    delayed_network(alloc, cut, &delays)
+}
+
 /// The network of a cut file, which is to have so many places, with the usual delays, and its names.
 pub fn named_network(alloc: Global, cut: &str, places: u32) -> Result<(Network, Names), Fail>
     ensures fit { IfOk result (λ parts. NamesFit parts.1 parts.0) }
     ensures places { IfOk result (λ parts. length parts.0.change ≡ places) }
 {
-    let cut = cut_of(alloc, cut)?;
-    let delays = usual_delays(alloc)?;
-    let parts = parts_of(alloc, &cut, &delays)?;
+    let parts = usual_network(alloc, cut)?;
     if parts.0.places() != places {
         return Err("another number of places".into());
     }
@@ -148,15 +162,24 @@ pub fn nanos(bounds: Span) -> (u64, u64)
     (bounds.lo(), bounds.hi())
 }
 
+/// The table of a graph, where it has only one.
+fn only_table(graph: &PlanGraph) -> Option<&PlaceTable> {
+    let tables = graph.tables.as_slice();
+    if tables.len() == 1 {
+        tables.get(0)
+    } else {
+        None
+    }
+}
+
 /// The rows of the only table, which is that of B. The first ride starts.
 pub fn rows_by_place(graph: &PlanGraph) -> Result<&[GraphRow], Fail> {
-    let [table] = graph.tables.as_slice() else {
-        return Err("not one table".into());
-    };
-    if graph.start != Some(leg(0, 0)) || table.place != PlaceId(1) {
-        return Err("another start or place".into());
+    match only_table(graph) {
+        Some(table) if graph.start == Some(leg(0, 0)) && table.place == PlaceId(1) => {
+            Ok(table.rows.as_slice())
+        }
+        _ => Err("another start, or other tables".into()),
     }
-    Ok(table.rows.as_slice())
 }
 
 /// The graph by ride, and its bounds.
