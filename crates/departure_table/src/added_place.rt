@@ -36,7 +36,7 @@ fn links_with_added(
     requires { source.0 < length network.now.change }
     ensures { IfOk result (λ links. links ≡ map (links_from_added network.now source.0) (range_with_len 0 (length network.now.change + 1))) }
 {
-    let _valid = network.count();
+    let _count = network.count();
     let mut links = Vec::new(alloc);
     for place in 0..network.places() {
         links.push(links_to(alloc, network, source, PlaceId(place))?)?;
@@ -56,7 +56,6 @@ pub fn extended(alloc: Global, network: &Network, source: PlaceId) -> Result<Net
     ensures extension { IfOk result (λ more. IsExtension more network.now source.0) }
     ensures second { IfOk result (λ more. IsASecondAway more (length network.now.change)) }
 {
-    let _valid = network.count();
     let mut change = network.copied_change(alloc)?;
     change.push(1)?;
     let connections = network.copied_connections(alloc)?;

@@ -81,7 +81,6 @@ fn rides_by_limits(
     ensures { IfOk result (λ all. all ≡ map (ride_by_limits network.now) rides.now) }
 {
     let mut all = List::new(alloc);
-    let _count = network.count();
     let _ = query;
     for ride in rides {
         let place = network.get(ride.leg.exit).to;

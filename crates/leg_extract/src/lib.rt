@@ -29,7 +29,6 @@ impl<'a, V: Score> LegChoice for ScanChoice<'a, V> {
     ghost chosen = { λ s n. by_place n (leg_choice s.scanned.now) };
 
     fn choose(&self, network: &Network, query: &Query, leg: Leg, arrival: Moment) -> Option<Leg> {
-        let _count = network.count();
         let _ = query;
         let end = network.get(leg.exit).to;
         match self.scanned.choice(end, arrival) {

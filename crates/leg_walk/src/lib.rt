@@ -66,7 +66,6 @@ fn table<C: LegChoice>(
         (C.chosen choice.now network.now) leg) }
 {
     let mut rows = Vec::new(alloc);
-    let _count = network.count();
     let exit = network.get(leg.exit);
     if exit.to == query.target {
         return Ok(rows);

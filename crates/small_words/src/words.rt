@@ -80,96 +80,99 @@ fn fault_of(alloc: Global, lines: &[&str]) -> Result<Option<WordsFault>, Fail> {
 
 const CUT: Timetable<'static> = Timetable::Cut("c");
 
+/// Lines of a journey, with the timetable and what is asked.
+const JOURNEYS: [(&str, Timetable<'static>, Ask<'static>); 17] = [
+    ("safe --cut c", CUT, Ask::Safe { alpha: 200 }),
+    ("safe --alpha 100 --cut c", CUT, Ask::Safe { alpha: 100 }),
+    (
+        "expand --cut c --alpha 0150",
+        CUT,
+        Ask::Expand { alpha: 150 },
+    ),
+    ("plan --cut c --alpha 1000", CUT, Ask::Plan { alpha: 1_000 }),
+    ("certify --cut c", CUT, Ask::Certify { alpha: 200 }),
+    (
+        "punctual --cut c --by 2024-06-03T09:00:00",
+        CUT,
+        Ask::Punctual {
+            alpha: 200,
+            promise: Moment(1_717_405_200),
+        },
+    ),
+    (
+        "departures --cut c --until 2024-06-03T09:00:00 --last 2024-06-03T08:00:00",
+        CUT,
+        Ask::Departures {
+            until: Moment(1_717_405_200),
+            last: Moment(1_717_401_600),
+        },
+    ),
+    (
+        "latest --cut c --until 2400-12-31T23:59:59",
+        CUT,
+        Ask::Latest {
+            until: Moment(13_601_087_999),
+        },
+    ),
+    (
+        "replay --cut c --graph g --late 0,300",
+        CUT,
+        Ask::Replay {
+            graph: "g",
+            late: "0,300",
+        },
+    ),
+    (
+        "check --cut c --graph g",
+        CUT,
+        Ask::CheckGraph { graph: "g" },
+    ),
+    (
+        "safe --feed f",
+        Timetable::Feed("f", 24),
+        Ask::Safe { alpha: 200 },
+    ),
+    (
+        "expand --feed f --horizon 1",
+        Timetable::Feed("f", 1),
+        Ask::Expand { alpha: 200 },
+    ),
+    (
+        "plan --alpha 150 --feed f",
+        Timetable::Feed("f", 24),
+        Ask::Plan { alpha: 150 },
+    ),
+    (
+        "plan --horizon 72 --alpha 300 --feed f",
+        Timetable::Feed("f", 72),
+        Ask::Plan { alpha: 300 },
+    ),
+    (
+        "replay --feed f --graph g --late none",
+        Timetable::Feed("f", 24),
+        Ask::Replay {
+            graph: "g",
+            late: "none",
+        },
+    ),
+    (
+        "replay --late none --graph g --horizon 6 --feed f",
+        Timetable::Feed("f", 6),
+        Ask::Replay {
+            graph: "g",
+            late: "none",
+        },
+    ),
+    (
+        "check --proof p --horizon 6 --feed f",
+        Timetable::Feed("f", 6),
+        Ask::CheckProof { proof: "p" },
+    ),
+];
+
 #[test]
 fn asks_for_a_journey(rt: HostRuntime) -> Result<(), Fail> {
-    for (line, timetable, asked) in [
-        ("safe --cut c", CUT, Ask::Safe { alpha: 200 }),
-        ("safe --alpha 100 --cut c", CUT, Ask::Safe { alpha: 100 }),
-        (
-            "expand --cut c --alpha 0150",
-            CUT,
-            Ask::Expand { alpha: 150 },
-        ),
-        ("plan --cut c --alpha 1000", CUT, Ask::Plan { alpha: 1_000 }),
-        ("certify --cut c", CUT, Ask::Certify { alpha: 200 }),
-        (
-            "punctual --cut c --by 2024-06-03T09:00:00",
-            CUT,
-            Ask::Punctual {
-                alpha: 200,
-                promise: Moment(1_717_405_200),
-            },
-        ),
-        (
-            "departures --cut c --until 2024-06-03T09:00:00 --last 2024-06-03T08:00:00",
-            CUT,
-            Ask::Departures {
-                until: Moment(1_717_405_200),
-                last: Moment(1_717_401_600),
-            },
-        ),
-        (
-            "latest --cut c --until 2400-12-31T23:59:59",
-            CUT,
-            Ask::Latest {
-                until: Moment(13_601_087_999),
-            },
-        ),
-        (
-            "replay --cut c --graph g --late 0,300",
-            CUT,
-            Ask::Replay {
-                graph: "g",
-                late: "0,300",
-            },
-        ),
-        (
-            "check --cut c --graph g",
-            CUT,
-            Ask::CheckGraph { graph: "g" },
-        ),
-        (
-            "safe --feed f",
-            Timetable::Feed("f", 24),
-            Ask::Safe { alpha: 200 },
-        ),
-        (
-            "expand --feed f --horizon 1",
-            Timetable::Feed("f", 1),
-            Ask::Expand { alpha: 200 },
-        ),
-        (
-            "plan --alpha 150 --feed f",
-            Timetable::Feed("f", 24),
-            Ask::Plan { alpha: 150 },
-        ),
-        (
-            "plan --horizon 72 --alpha 300 --feed f",
-            Timetable::Feed("f", 72),
-            Ask::Plan { alpha: 300 },
-        ),
-        (
-            "replay --feed f --graph g --late none",
-            Timetable::Feed("f", 24),
-            Ask::Replay {
-                graph: "g",
-                late: "none",
-            },
-        ),
-        (
-            "replay --late none --graph g --horizon 6 --feed f",
-            Timetable::Feed("f", 6),
-            Ask::Replay {
-                graph: "g",
-                late: "none",
-            },
-        ),
-        (
-            "check --proof p --horizon 6 --feed f",
-            Timetable::Feed("f", 6),
-            Ask::CheckProof { proof: "p" },
-        ),
-    ] {
+    for (line, timetable, asked) in JOURNEYS {
         assert!(rt; asks(rt.alloc(), line, timetable, asked)?, "{line}");
     }
     Ok(())

@@ -69,7 +69,6 @@ fn arrival_of(network: &Network, leg: Leg, delay: u32) -> Option<Moment>
     requires { leg.exit.0 < count network.now }
     ensures { option_map (λ moment. moment.0) result ≡ delayed network.now leg delay }
 {
-    let _count = network.count();
     let exit = network.get(leg.exit);
     for outcome in network.row(exit.class) {
         if outcome.delay == delay {

@@ -10,18 +10,18 @@ use Rattle.departure_table.proofs.added_place.extended.Goals as goal
 pub from_parts-requires : goal.from_parts-requires
 from_parts-requires c =
     let change = c.in_ok-push.ensures.ok ∙ ap (λ xs. xs ++ 1 ∷ []) c.in_ok-change.ensures in
-    plain_valid c.args.network.now c.count-valid.ensures.valid c.args.source.0 c.requires.source c.requires.room
+    plain_valid c.args.network.now c.copied_connections.ensures.valid c.args.source.0 c.requires.source c.requires.room
     _ _ _ c.in_ok-connections.ensures.connections change c.in_ok-classes.ensures
 
 pub with_links-requires-clause-many : goal.with_links-requires-clause-many
 with_links-requires-clause-many c =
     let change = c.from_parts.ensures.change ∙ c.in_ok-push.ensures.ok ∙ ap (λ xs. xs ++ 1 ∷ []) c.in_ok-change.ensures in
-    as_many_links c.args.network.now c.count-valid.ensures.valid c.args.source.0 c.requires.source c.requires.room _ _ c.in_ok-links.ensures change
+    as_many_links c.args.network.now c.copied_connections.ensures.valid c.args.source.0 c.requires.source c.requires.room _ _ c.in_ok-links.ensures change
 
 pub with_links-requires-clause-each : goal.with_links-requires-clause-each
 with_links-requires-clause-each c =
     let change = c.from_parts.ensures.change ∙ c.in_ok-push.ensures.ok ∙ ap (λ xs. xs ++ 1 ∷ []) c.in_ok-change.ensures in
-    are_links c.args.network.now c.count-valid.ensures.valid c.args.source.0 c.requires.source c.requires.room _ _ c.in_ok-links.ensures change
+    are_links c.args.network.now c.copied_connections.ensures.valid c.args.source.0 c.requires.source c.requires.room _ _ c.in_ok-links.ensures change
 
 pub returns-clause-extension : goal.returns-clause-extension
 returns-clause-extension c =
@@ -31,8 +31,8 @@ returns-clause-extension c =
     let classes = c.with_links.ensures.classes ∙ c.from_parts.ensures.classes ∙ c.in_ok-classes.ensures in
     let links = c.with_links.ensures.links ∙ c.in_ok-links.ensures in
     let whole = same_parts c.with_links.result (extended m c.args.source.0) connections change classes links in
-    subst (λ (n : Parts). IsExtension n m c.args.source.0) (sym whole) (is_extension m c.count-valid.ensures.valid c.args.source.0 c.requires.source c.requires.room)
+    subst (λ (n : Parts). IsExtension n m c.args.source.0) (sym whole) (is_extension m c.copied_connections.ensures.valid c.args.source.0 c.requires.source c.requires.room)
 
 pub returns-clause-second : goal.returns-clause-second
 returns-clause-second c =
-    second_away c.with_links.result c.args.network.now c.args.source.0 (returns-clause-extension c) c.count-valid.ensures.valid
+    second_away c.with_links.result c.args.network.now c.args.source.0 (returns-clause-extension c) c.copied_connections.ensures.valid
