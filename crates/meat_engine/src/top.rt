@@ -71,21 +71,21 @@ fn named<'a>(problem: &'a Option<Problem>) -> Option<NamedNetwork<'a>>
     }
 }
 
-/// Ends with a fault, whose line is told to `err`. Where there is no memory for the line, that is
+/// The report of a fault, whose line is told to `err`. Where there is no memory for the line, that is
 /// the fault.
-fn refuse<E: Sink>(alloc: Global, err: &mut E, refusal: Refusal) -> Report
-    requires { IsTellable (known_of refusal) refusal.fault }
+fn tell_fault<E: Sink>(alloc: Global, err: &mut E, refusal: &Refusal) -> Report
+    requires { IsTellable (known_of refusal.now) refusal.now.fault }
     ensures status { result.status.0 ≡ status_of result.fault }
     ensures findings { findings_of result ≡ no_findings }
     ensures told { IsRefusedWith (E.written err.old) (E.written err.new)
-        (E.faults err.old) (E.faults err.new) (known_of refusal) refusal.fault result.fault }
+        (E.faults err.old) (E.faults err.new) (known_of refusal.now) refusal.now.fault result.fault }
 {
-    let Refusal { fault, problem } = refusal;
+    let fault = refusal.fault;
     if let Some(line) = known_line(fault) {
         put_line(err, line.as_bytes());
         return Report::bare(fault);
     }
-    match fault_line(alloc, fault, named(&problem)) {
+    match fault_line(alloc, fault, named(&refusal.problem)) {
         Ok(line) => {
             put_line(err, line.as_slice());
             Report::bare(fault)
@@ -95,6 +95,17 @@ fn refuse<E: Sink>(alloc: Global, err: &mut E, refusal: Refusal) -> Report
             Report::bare(Fault::NoMemory)
         }
     }
+}
+
+/// Ends with a fault, and lets its problem go.
+fn refuse<E: Sink>(alloc: Global, err: &mut E, refusal: Refusal) -> Report
+    requires { IsTellable (known_of refusal) refusal.fault }
+    ensures status { result.status.0 ≡ status_of result.fault }
+    ensures findings { findings_of result ≡ no_findings }
+    ensures told { IsRefusedWith (E.written err.old) (E.written err.new)
+        (E.faults err.old) (E.faults err.new) (known_of refusal) refusal.fault result.fault }
+{
+    tell_fault(alloc, err, &refusal)
 }
 
 /// Writes an answer's text.
