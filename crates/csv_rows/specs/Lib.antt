@@ -10,6 +10,7 @@ pub mod Loading
 pub mod Names
 pub mod NextField
 pub mod Parts
+pub mod RecordFields
 pub mod Records
 pub mod RowFaults
 pub mod Rows

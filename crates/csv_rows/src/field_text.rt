@@ -29,7 +29,8 @@ fn ends_line(byte: u8) -> bool
 fn ends_field(byte: u8) -> bool
     ensures { result ≡ ends_field byte }
 {
-    byte == b',' || ends_line(byte)
+    // Most bytes are greater than a comma.
+    byte <= b',' && (byte == b',' || ends_line(byte))
 }
 
 /// The text without a byte-order mark at its start.
@@ -176,6 +177,21 @@ fn rest_of(text: &[u8]) -> Rest<'_>
             } else {
                 Rest::Records(rest)
             }
+        }
+    }
+}
+
+/// The first field of a text, with no ASCII space round it, and what comes after it; nothing where a quote begins it.
+pub(crate) fn plain_field(text: &[u8]) -> Option<(&[u8], Rest<'_>)>
+    ensures { IfSome result (λ read. (field : List ℕ) × Reads st.StartField [] text.now field read.1
+        × (read.0.now ≡ trimmed field)) }
+{
+    match after_quote(text) {
+        Some(_) => None,
+        None => {
+            let count = plain_length(text);
+            let field = end_trimmed(start_trimmed(&text[..count]));
+            Some((field, rest_of(&text[count..])))
         }
     }
 }

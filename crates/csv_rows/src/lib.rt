@@ -11,6 +11,7 @@ mod keys;
 mod limits;
 mod loading;
 mod names;
+mod plain_text;
 mod record_text;
 mod records;
 mod row_faults;

@@ -7,32 +7,50 @@ ghost use Rattle.csv_rows.specs.Tables.{place_in, table_of};
 use crate::columns::Column;
 use crate::field_text::without_mark;
 use crate::fields::Fields;
+use crate::plain_text::take_plain;
 use crate::record_text::push_record;
 use plan_model::NoMemory;
 use std::alloc::Global;
 use std::marker::Model;
 
-/// The fields of one record.
+/// The fields of one record. They stay where they stand in its text, unless a quote begins one of them.
 #[derive(Drop)]
-pub struct Record {
-    fields: Fields,
+pub struct Record<'a> {
+    plain: Vec<&'a [u8]>,
+    packed: Fields,
+    is_packed: bool,
 }
 
-impl Model for Record {
+impl<'a> Model for Record<'a> {
     ghost use Rattle.std.specs.Prelude.{ℕ, List};
 
     ghost Value = { List (List ℕ) };
 
-    ghost view = { λ r. r.fields };
+    ghost use Rattle.csv_rows.specs.RecordFields.{record_of};
+
+    ghost view = { record_of };
 }
 
-impl Record {
+impl<'a> Record<'a> {
     /// One with no field.
-    pub fn new(alloc: Global) -> Record
+    pub fn new(alloc: Global) -> Record<'a>
         ensures { result ≡ [] }
     {
         Record {
-            fields: Fields::new(alloc),
+            plain: Vec::new(alloc),
+            packed: Fields::new(alloc),
+            is_packed: false,
+        }
+    }
+
+    /// How many fields there are.
+    fn len(&self) -> usize
+        ensures { result ≡ length self.now }
+    {
+        if self.is_packed {
+            self.packed.len()
+        } else {
+            self.plain.len()
         }
     }
 
@@ -40,10 +58,13 @@ impl Record {
     fn field(&self, place: usize) -> &[u8]
         ensures { result.now ≡ slice_index_or self.now place [] }
     {
-        if place >= self.fields.len() {
+        if place >= self.len() {
             return &[];
         }
-        self.fields.get(place)
+        if self.is_packed {
+            return self.packed.get(place);
+        }
+        self.plain[place]
     }
 
     /// The field under a column at a place: empty past the end, and where the table lacks the column.
@@ -63,7 +84,7 @@ impl Record {
         ensures first { IfSome result (λ i. (k : ℕ) → k < i → slice_index_or self.now k [] ≢ name.now) }
         ensures none { IfNone result ((k : ℕ) → k < length self.now → slice_index_or self.now k [] ≢ name.now) }
     {
-        for i in 0..self.fields.len() {
+        for i in 0..self.len() {
             if self.field(i) == name.as_bytes() {
                 return Some(i);
             }
@@ -80,14 +101,19 @@ impl Record {
 }
 
 /// Takes the first record of a text in place of the fields that are there, and gives the text after it, if there is one.
-fn take_record<'a>(fields: &mut Record, text: &'a [u8]) -> Result<Option<&'a [u8]>, NoMemory>
+fn take_record<'a>(fields: &mut Record<'a>, text: &'a [u8]) -> Result<Option<&'a [u8]>, NoMemory>
     ensures some { IfOk result (λ o. IfSome o (λ after.
         records_in text.now ≡ fields.new ∷ records_in after.now)) }
     ensures shorter { IfOk result (λ o. IfSome o (λ after. length after.now < length text.now)) }
     ensures none { IfOk result (λ o. IfNone o (records_in text.now ≡ [])) }
 {
-    fields.fields.clear();
-    match push_record(&mut fields.fields, text) {
+    fields.is_packed = false;
+    if let Some(after) = take_plain(&mut fields.plain, text)? {
+        return Ok(Some(after));
+    }
+    fields.is_packed = true;
+    fields.packed.clear();
+    match push_record(&mut fields.packed, text) {
         Ok(Some(after)) => Ok(Some(after)),
         Ok(None) => Ok(None),
         Err(_) => Err(NoMemory),
@@ -121,7 +147,7 @@ impl<'a> Records<'a> {
     }
 
     /// Takes the next record in place of the fields that are there, if there is one.
-    pub fn next(&mut self, fields: &mut Record) -> Result<bool, NoMemory>
+    pub fn next(&mut self, fields: &mut Record<'a>) -> Result<bool, NoMemory>
         ensures some { IfOk result (λ found. found ≡ true → self.old ≡ fields.new ∷ self.new) }
         ensures none { IfOk result (λ found. found ≡ false → self.old ≡ []) }
     {
@@ -135,7 +161,7 @@ impl<'a> Records<'a> {
     }
 
     /// How many there are. Each is taken in place of the fields that are there.
-    pub fn count(&self, fields: &mut Record) -> Result<u64, NoMemory>
+    pub fn count(&self, fields: &mut Record<'a>) -> Result<u64, NoMemory>
         ensures count { IfOk result (λ n. n ≡ length self.now) }
         ensures few { IfOk result (λ n. n < 2 ^ 63) }
     {

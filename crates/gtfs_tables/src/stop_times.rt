@@ -57,7 +57,7 @@ struct TimeColumns {
 }
 
 /// Where the columns of a header stand.
-fn columns_of(header: &Record) -> TimeColumns
+fn columns_of(header: &Record<'_>) -> TimeColumns
     ensures { result ≡ columns_of header.now }
 {
     TimeColumns {
@@ -217,7 +217,7 @@ fn keep_trip(known: &mut KnownTrip, id: &[u8], trip: u32) -> Result<(), NoMemory
 
 /// The row of a record, or the first field that is not of its form or names nothing.
 fn read_timed_row(
-    row: &Record,
+    row: &Record<'_>,
     columns: TimeColumns,
     trips: &Ids,
     stops: &Stops,
@@ -273,7 +273,7 @@ fn read_timed_row(
 /// Takes the row of a record after those that were taken, and keeps its trip, or gives its fault.
 fn take_row(
     timed: &mut Vec<TimedRow>,
-    row: &Record,
+    row: &Record<'_>,
     columns: TimeColumns,
     trips: &Ids,
     stops: &Stops,
@@ -303,9 +303,9 @@ fn take_row(
 
 /// The fault of a table that has this one, where so many rows stand before the records that are left: where there are too
 /// many, that comes first.
-fn counted_fault(
-    records: &Records<'_>,
-    row: &mut Record,
+fn counted_fault<'a>(
+    records: &Records<'a>,
+    row: &mut Record<'a>,
     taken: u64,
     most: u64,
     fault: FeedFault,
@@ -330,10 +330,10 @@ fn counted_fault(
 }
 
 /// The rows of the records after a header, or their first fault: that there are too many, and then the first of one by itself.
-fn rows_after(
+fn rows_after<'a>(
     alloc: Global,
-    records: &mut Records<'_>,
-    row: &mut Record,
+    records: &mut Records<'a>,
+    row: &mut Record<'a>,
     columns: TimeColumns,
     trips: &Ids,
     stops: &Stops,

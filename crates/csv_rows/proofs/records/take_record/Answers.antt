@@ -5,6 +5,16 @@ use Rattle.csv_rows.proofs.RecordLemmas.{record_shorter, records_first, records_
 use Rattle.csv_rows.proofs.records.take_record.Goals as goal
 use Rattle.csv_rows.proofs.records.take_record.Goals.{in-Ok-Some, in-Ok-None, in-Err}
 
+pub returns-in-Some-clause-some : goal.returns-in-Some-clause-some
+returns-in-Some-clause-some c =
+    let read = rw c.in-Some.is at c.in_ok-after.ensures in
+    records_first c.args.text.now c.in-Some.after.now read.0 read.1 ∙ ap (λ (fields : List (List ℕ)). fields ∷ records_in c.in-Some.after.now) (sym read.2)
+
+pub returns-in-Some-clause-shorter : goal.returns-in-Some-clause-shorter
+returns-in-Some-clause-shorter c =
+    let read = rw c.in-Some.is at c.in_ok-after.ensures in
+    record_shorter c.args.text.now c.in-Some.after.now read.0 read.1
+
 pub returns-clause-some : goal.returns-clause-some
 returns-clause-some c =
     elim c.match-push_record.branch [
