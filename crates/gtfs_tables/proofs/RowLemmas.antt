@@ -1,12 +1,17 @@
 -- Texts and whole numbers in fields.
-use Rattle.std.proofs.Common.{◌≡◌, ℕ, ◌≤◌, ◌&&◌, nat_le, Bool, true, false, List, length, Some, None, if◌then◌else◌, IsUtf8, refl, sym, ap, ◌∙◌, subst, ⊎_elim}
+use Rattle.std.proofs.Common.{◌≡◌, ℕ, ◌≤◌, ◌==◌, ◌&&◌, nat_le, Bool, true, false, List, length, Some, None, option_map, if◌then◌else◌, IsUtf8, refl, sym, ap, ◌∙◌, subst, ⊎_elim}
+use Rattle.std.specs.Prelude.{slice_get}
 use Rattle.std.specs.Str.{is_utf8}
 use Rattle.std.specs.List.{list_all}
 use Rattle.std.specs.Char.{is_ascii_digit}
 use Rattle.std.proofs.lemmas.Str.{IsUtf8-from_is_utf8, is_utf8-from_IsUtf8}
 use Rattle.std.proofs.lemmas.Bool.{cases_Bool, leb-true}
 use Rattle.clock_text.specs.Digits.{value_of, whole_of}
+use Rattle.csv_rows.specs.Ids.{AreIds}
+use Rattle.csv_rows.specs.Tables.{place_in}
+use Rattle.csv_rows.proofs.IdLemmas.{found}
 use Rattle.gtfs_tables.specs.Forms.{text_in}
+use Rattle.gtfs_tables.specs.StopTimes.{IsStopOf}
 
 -- a text that is UTF-8, and one that is not
 pub text_some : (text x : List ℕ) → x ≡ text → IsUtf8 text → Some x ≡ text_in text
@@ -31,3 +36,12 @@ pub whole_bound : (most m : ℕ) (text : List ℕ) → whole_of most text ≡ So
 whole_bound most m text h =
     whole_if (nat_le 1 (length text) && nat_le (length text) 9 && list_all is_ascii_digit text && nat_le (value_of text) most) (value_of text) m most
     (λ t. leb-true (value_of text) most (last_test (nat_le 1 (length text) && nat_le (length text) 9 && list_all is_ascii_digit text) (nat_le (value_of text) most) t)) h
+
+-- the stop that a field names, where it is the id with this number
+pub stop_here : (stops : List (List ℕ)) (id : List ℕ) (stop : ℕ) → AreIds stops → false ≡ (length id == 0) → IsUtf8 id → slice_get stops stop ≡ Some id
+    → IsStopOf stops id (Some stop)
+stop_here stops id stop ids some text here = (
+  sym (text_some id id refl text),
+  ap (λ b. if b then Some None else option_map Some (place_in id stops)) (sym some)
+      ∙ ap (option_map Some) (sym (found stops stops id stop ids.names.distinct refl here)),
+)

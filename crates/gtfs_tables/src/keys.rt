@@ -16,7 +16,7 @@ pub(crate) fn sorted_keys(alloc: Global, rows: &[TimedRow]) -> Result<Vec<Key>, 
     ensures keys { IfOk result (λ keys. AreKeysOf false rows.now keys.items) }
     ensures few { IfOk result (λ keys. length keys.items ≤ length rows.now) }
 {
-    let mut keys: Vec<Key> = Vec::new(alloc);
+    let mut keys: Vec<Key> = Vec::with_capacity(alloc, rows.len())?;
     for i in 0..rows.len() {
         keys.push(Key {
             group: rows[i].trip,

@@ -7,6 +7,7 @@ mod frequencies;
 mod keys;
 mod repeats;
 mod routes;
+mod stop_order;
 mod stop_times;
 mod stops;
 mod tables;

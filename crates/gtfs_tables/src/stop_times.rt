@@ -1,5 +1,5 @@
 //! The rows of stop times.
-ghost use Rattle.std.specs.Prelude.{◌≡◌, ◌≢◌, ◌<◌, ◌≤◌, ◌+◌, ◌^◌, ◌∷◌, ◌++◌, ℕ, List, [], length, None, Some, Ok, Err, Result, IfOk, IfErr, IfSome, OnOk};
+ghost use Rattle.std.specs.Prelude.{◌≡◌, ◌≢◌, ◌<◌, ◌≤◌, ◌+◌, ◌^◌, ◌∷◌, ◌++◌, ℕ, List, [], length, Option, None, Some, Ok, Err, Result, IfOk, IfErr, IfSome, OnOk};
 ghost use Rattle.csv_rows.specs.declared.feed_tables.Table.TheVariants.{StopTimes as StopTimesTable};
 ghost use Rattle.csv_rows.specs.First.{first_below};
 ghost use Rattle.csv_rows.specs.FeedTables.{unread_of, IsFaultOf};
@@ -9,10 +9,12 @@ ghost use Rattle.csv_rows.specs.Tables.{table_of};
 ghost use Rattle.csv_rows.specs.declared.feed_tables.FeedFault.{FeedFault};
 ghost use Rattle.gtfs_tables.specs.declared.stop_times.TimedRow.{TimedRow};
 ghost use Rattle.gtfs_tables.specs.Feeds.{stop_times_from};
-ghost use Rattle.gtfs_tables.specs.StopTimes.{number_in, times_of, visit_of, columns_of, timed_of, bad_time, counted_fault, timed_rows, missing_time_column, order_fault, stop_times_fault, trip_from, IsTripOf, IsKnownIn};
+ghost use Rattle.gtfs_tables.specs.StopTimes.{number_in, times_of, visit_of, columns_of, timed_of, bad_time, counted_fault, timed_rows, missing_time_column, order_fault, stop_times_fault, trip_from, stop_from, IsTripOf, IsStopOf, IsKnownIn};
+ghost use Rattle.gtfs_tables.specs.Forms.{time_in};
 ghost use Rattle.gtfs_tables.specs.Bounds.{most_stop_times};
 
 use crate::forms::{read_allows, read_text, read_time_or_none};
+use crate::stop_order::StopOrder;
 use crate::stops::Stops;
 use clock_text::read_whole;
 use csv_rows::{Column, FeedFault, Ids, Record, Records, Table, lack, read_name};
@@ -103,6 +105,43 @@ fn number_of(stops: &Ids, text: &str) -> Option<Option<u32>>
         None => None,
         Some(stop) => Some(Some(stop)),
     }
+}
+
+/// The number of the stop that a field names, or none where it is empty. It is looked up only where it is not the expected one.
+fn read_stop_number(
+    stops: &Ids,
+    line: u64,
+    id: &[u8],
+    expected: u32,
+) -> Result<Option<u32>, FeedFault>
+    ensures stop { IfOk result (IsStopOf stops.now id.now) }
+    ensures inside { IfOk result (λ o. IfSome o (λ k. k < length stops.now)) }
+    ensures fault { IfErr result (λ f. (rest : Option ℕ → Result TimedRow FeedFault)
+        → stop_from stops.now line id.now rest ≡ Err f) }
+    ensures content { IfErr result (λ f. unread_of f ≡ None) }
+    ensures own { IfErr result (IsFaultOf StopTimesTable) }
+{
+    if !id.is_empty() && expected < stops.len() && stops.get(expected).as_bytes() == id {
+        return Ok(Some(expected));
+    }
+    let Some(text) = read_text(id) else {
+        return Err(FeedFault::BadField(Table::StopTimes, line, Column::StopId));
+    };
+    match number_of(stops, text) {
+        Some(stop) => Ok(stop),
+        None => Err(FeedFault::UnknownKey(Table::StopTimes, line, Column::StopId)),
+    }
+}
+
+/// The time of a field, or none where it is empty. It is read only where the field is not one that was read.
+fn read_time_beside(text: &[u8], known_text: &[u8], known: Option<u32>) -> Option<Option<u32>>
+    requires { time_in known_text.now ≡ Some known }
+    ensures { result ≡ time_in text.now }
+{
+    if text == known_text {
+        return Some(known);
+    }
+    read_time_or_none(text)
 }
 
 /// The times of a row: one that has one time has it for both.
@@ -223,6 +262,7 @@ fn read_timed_row(
     stops: &Stops,
     line: u64,
     known: Option<NamedTrip<'_>>,
+    expected: u32,
 ) -> Result<TimedRow, FeedFault>
     requires known { IfSome known (λ k. IsTripOf trips.now k.id.now k.trip) }
     requires places { length stops.now.places.items ≡ length stops.now.ids }
@@ -235,19 +275,16 @@ fn read_timed_row(
     ensures own { IfErr result (IsFaultOf StopTimesTable) }
 {
     let trip = read_trip_number(trips, line, row.field_at(columns.trip), known)?;
-    let Some(stop_id) = read_text(row.field_at(columns.stop)) else {
-        return Err(FeedFault::BadField(Table::StopTimes, line, Column::StopId));
-    };
-    let Some(stop) = number_of(&stops.ids, stop_id) else {
-        return Err(FeedFault::UnknownKey(Table::StopTimes, line, Column::StopId));
-    };
+    let stop = read_stop_number(&stops.ids, line, row.field_at(columns.stop), expected)?;
     let Some(sequence) = read_whole(row.field_at(columns.sequence), 999_999_999) else {
         return Err(FeedFault::BadField(Table::StopTimes, line, Column::StopSequence));
     };
-    let Some(arrival) = read_time_or_none(row.field_at(columns.arrival)) else {
+    let arrival_text = row.field_at(columns.arrival);
+    let Some(arrival) = read_time_or_none(arrival_text) else {
         return Err(FeedFault::BadField(Table::StopTimes, line, Column::ArrivalTime));
     };
-    let Some(departure) = read_time_or_none(row.field_at(columns.departure)) else {
+    let departure_text = row.field_at(columns.departure);
+    let Some(departure) = read_time_beside(departure_text, arrival_text, arrival) else {
         return Err(FeedFault::BadField(Table::StopTimes, line, Column::DepartureTime));
     };
     let Some(can_board) = read_allows(row.field_at(columns.pickup)) else {
@@ -278,6 +315,7 @@ fn take_row(
     trips: &Ids,
     stops: &Stops,
     known: &mut KnownTrip,
+    order: &mut StopOrder,
 ) -> Result<(), FeedFault>
     requires known { IsKnownIn trips.now known.old }
     requires places { length stops.now.places.items ≡ length stops.now.ids }
@@ -290,7 +328,19 @@ fn take_row(
     ensures own { IfErr result (IsFaultOf StopTimesTable) }
 {
     let line = timed.len() as u64 + 2;
-    let taken = read_timed_row(row, columns, trips, stops, line, named_trip(known))?;
+    let expected = order.expected();
+    let taken = read_timed_row(
+        row,
+        columns,
+        trips,
+        stops,
+        line,
+        named_trip(known),
+        expected,
+    )?;
+    if let Some(visit) = taken.visit {
+        order.keep(visit.stop);
+    }
     match keep_trip(known, row.field_at(columns.trip), taken.trip) {
         Ok(()) => {}
         Err(_) => return Err(FeedFault::NoMemory),
@@ -359,6 +409,7 @@ fn rows_after<'a>(
         id: Vec::new(alloc),
         trip: None,
     };
+    let mut order = StopOrder::new(alloc, &stops.ids)?;
     loop {
         match records.next(row) {
             Ok(true) => {}
@@ -370,7 +421,9 @@ fn rows_after<'a>(
             let fault = FeedFault::TooManyRows(Table::StopTimes, taken);
             return Err(counted_fault(records, row, taken, most, fault));
         }
-        match take_row(&mut timed, row, columns, trips, stops, &mut known) {
+        match take_row(
+            &mut timed, row, columns, trips, stops, &mut known, &mut order,
+        ) {
             Ok(()) => {}
             Err(fault) => return Err(counted_fault(records, row, taken, most, fault)),
         }
