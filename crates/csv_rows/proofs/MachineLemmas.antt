@@ -197,10 +197,10 @@ quote-missing part [] h k = record { same = λ fields. quoted_empty fields part 
 quote-missing part (c ∷ rest) h k = absurd (k rest (ap (λ x. x ∷ rest) (h c rest refl)))
 
 -- what a field ends with
-pub reads-on : (s : State) (part text part2 text2 field : List ℕ) (rest : Rest) → GoesOn s part text st.InField part2 text2 → length text2 ≤ length text
-    → Reads st.InField part2 text2 field rest → Reads s part text field rest
-reads-on s part text part2 text2 field (Fields after) g h r = (omega (arith, r.0), λ fields. g.same fields ∙ r.1 fields)
-reads-on s part text part2 text2 field (Records after) g h r = record { state = r.state; between = r.between; ends = λ fields. g.same fields ∙ r.ends fields }
+pub reads-on : (s s2 : State) (part text part2 text2 field : List ℕ) (rest : Rest) → GoesOn s part text s2 part2 text2 → length text2 ≤ length text
+    → Reads s2 part2 text2 field rest → Reads s part text field rest
+reads-on s s2 part text part2 text2 field (Fields after) g h r = (omega (arith, r.0), λ fields. g.same fields ∙ r.1 fields)
+reads-on s s2 part text part2 text2 field (Records after) g h r = record { state = r.state; between = r.between; ends = λ fields. g.same fields ∙ r.ends fields }
 
 -- the byte-order mark
 pub strip-mark : (text : List ℕ) → 3 ≤ length text → get_or text 0 0 ≡ 239 → get_or text 1 0 ≡ 187 → get_or text 2 0 ≡ 191 → strip_bom text ≡ drop 3 text

@@ -181,19 +181,43 @@ fn rest_of(text: &[u8]) -> Rest<'_>
     }
 }
 
-/// The first field of a text, with no ASCII space round it, and what comes after it; nothing where a quote begins it.
+/// What comes after a field that quotes enclose, if it ends here.
+fn rest_if_ended(text: &[u8]) -> Option<Rest<'_>>
+    ensures reads { IfSome result (λ rest. (field : List ℕ) → Reads st.InField field text.now field rest) }
+    ensures closed { IfSome result (λ rest. (others : List ℕ) → text.now ≢ 34 ∷ others) }
+{
+    if let Some((byte, _)) = text.split_first() {
+        if !ends_field(*byte) {
+            return None;
+        }
+    }
+    Some(rest_of(text))
+}
+
+/// The field after the quote with which it begins, and what comes after it; nothing where the field is not all that stands up
+/// to the next quote.
+fn enclosed_field(text: &[u8]) -> Option<(&[u8], Rest<'_>)>
+    ensures { IfSome result (λ read. (field : List ℕ) × Reads st.InQuoted [] text.now field read.1
+        × (read.0.now ≡ trimmed field)) }
+{
+    let count = quoted_length(text);
+    let after = after_quote(&text[count..])?;
+    let rest = rest_if_ended(after)?;
+    Some((end_trimmed(start_trimmed(&text[..count])), rest))
+}
+
+/// The first field of a text, with no ASCII space round it, and what comes after it; nothing where the field does not stand in
+/// the text as it is, since it has quotes that are not only those round it.
 pub(crate) fn plain_field(text: &[u8]) -> Option<(&[u8], Rest<'_>)>
     ensures { IfSome result (λ read. (field : List ℕ) × Reads st.StartField [] text.now field read.1
         × (read.0.now ≡ trimmed field)) }
 {
-    match after_quote(text) {
-        Some(_) => None,
-        None => {
-            let count = plain_length(text);
-            let field = end_trimmed(start_trimmed(&text[..count]));
-            Some((field, rest_of(&text[count..])))
-        }
+    if let Some(inside) = after_quote(text) {
+        return enclosed_field(inside);
     }
+    let count = plain_length(text);
+    let field = end_trimmed(start_trimmed(&text[..count]));
+    Some((field, rest_of(&text[count..])))
 }
 
 /// Adds the first field of a text, with no ASCII space round it, and gives what comes after it.

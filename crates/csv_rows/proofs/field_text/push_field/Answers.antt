@@ -17,7 +17,7 @@ returns-clause-field c =
     let at = sym (ap length c.as_slice-start.ensures.value) in
     let shorter = c.in_ok-plain.ensures.shorter in (
       field,
-      reads-on st.StartField [] c.args.text.now field (take (length plain - count) (drop count plain)) field c.rest_of.result
+      reads-on st.StartField st.InField [] c.args.text.now field (take (length plain - count) (drop count plain)) field c.rest_of.result
           (subst (λ xs. GoesOn st.StartField [] c.args.text.now st.InField field xs) (sym (take-rest count plain)) whole)
           (omega (arith, shorter, ap length (take-rest count plain), length-drop count plain))
           (c.rest_of.ensures field),
