@@ -13,7 +13,7 @@ use plan_model::NoMemory;
 use std::alloc::Global;
 use std::marker::Model;
 
-/// The fields of one record. They stay where they stand in its text, unless a quote begins one of them.
+/// The fields of one record. They stay where they stand in its text, unless it has to be packed.
 #[derive(Drop)]
 pub struct Record<'a> {
     plain: Vec<&'a [u8]>,
