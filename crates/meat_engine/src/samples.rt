@@ -1,12 +1,15 @@
 //! A plan over a timetable that is made.
-ghost use Rattle.std.specs.Prelude.{◌≡◌, ◌<◌, ◌≤◌, length, None, IfOk, IfErr};
+ghost use Rattle.std.specs.Prelude.{◌≡◌, ◌≢◌, ◌<◌, ◌≤◌, length, None, IfOk, IfErr};
 ghost use Rattle.csv_rows.specs.Limits.{AreWithin};
 ghost use Rattle.command_line.specs.Shown.{journey_shown};
 ghost use Rattle.fault_lines.specs.Faults.{unread_of};
+ghost use Rattle.fault_lines.specs.declared.faults.Fault.{Fault};
+ghost use Rattle.journey_problem.specs.EarlyFaults.{IsEarly};
+ghost use Rattle.journey_problem.specs.Problems.{IsProblem, IsProblemFault, IsSound};
 ghost use Rattle.plan_answers.specs.Answers.{FailsIn};
 ghost use Rattle.journey_report.specs.Findings.{findings_of};
 ghost use Rattle.meat_engine.specs.Refusals.{IsRefusalBy};
-ghost use Rattle.meat_engine.specs.Samples.{sample_journey, IsSampled, AnswersSample, FailsSample};
+ghost use Rattle.meat_engine.specs.Samples.{sample_journey, IsSampled, OverMade, AnswersSample, FailsSample};
 
 use crate::refusal::Refusal;
 use command_line::{Journey, Timetable};
@@ -60,6 +63,26 @@ fn sample_in(alloc: Global, size: u32, problem: &Problem, start: Moment) -> Resu
     Ok(Answer { report, text })
 }
 
+/// The problem of `sample` in the made timetable of this size, which goes then.
+fn sample_problem(alloc: Global, size: u32, limits: &Limits) -> Result<Problem, Fault>
+    requires low { 10 ≤ size }
+    requires high { size ≤ 400 }
+    requires within { AreWithin limits.now }
+    ensures problem { IfOk result (λ p. OverMade size (λ files.
+        IsSound sample_journey p × IsProblem limits.now files sample_journey p)) }
+    ensures source { IfOk result (λ p. p.source.0 < length p.network.change) }
+    ensures target { IfOk result (λ p. p.target.0 < length p.network.change) }
+    ensures fault { IfErr result (λ f. f ≢ Fault.NoMemory
+        → OverMade size (λ files. IsProblemFault limits.now files sample_journey f)) }
+    ensures early { IfErr result (IsEarly sample_journey.timetable) }
+    ensures read { IfErr result (λ f. unread_of f ≡ None) }
+{
+    match MadeFiles::new(alloc, size) {
+        Ok(mut files) => problem_of(alloc, &mut files, &sample_journey(), limits),
+        Err(_) => Err(Fault::NoMemory),
+    }
+}
+
 /// Plans a journey over the timetable of this size.
 pub(crate) fn sample(alloc: Global, size: u32, limits: &Limits) -> Result<Answer, Refusal>
     requires low { 10 ≤ size }
@@ -70,15 +93,11 @@ pub(crate) fn sample(alloc: Global, size: u32, limits: &Limits) -> Result<Answer
     ensures fault { IfErr result (IsRefusalBy (FailsSample limits.now size)) }
     ensures read { IfErr result (λ r. unread_of r.fault ≡ None) }
 {
-    let Ok(mut files) = MadeFiles::new(alloc, size) else {
-        return Err(Refusal::plain(Fault::NoMemory));
-    };
-    let journey = sample_journey();
-    let problem = match problem_of(alloc, &mut files, &journey, limits) {
+    let problem = match sample_problem(alloc, size, limits) {
         Err(fault) => return Err(Refusal::plain(fault)),
         Ok(problem) => problem,
     };
-    match sample_in(alloc, size, &problem, journey.start) {
+    match sample_in(alloc, size, &problem, sample_journey().start) {
         Err(fault) => Err(Refusal {
             fault,
             problem: Some(problem),

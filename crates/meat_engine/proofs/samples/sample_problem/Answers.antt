@@ -1,0 +1,41 @@
+use Rattle.std.proofs.Common.{◌≡◌, ℕ, List, Option, Result, Ok, Err, None, subst}
+use Rattle.std.specs.Prelude.{IfOk, IfErr}
+use Rattle.feed_maker.specs.Files.{folder_of}
+use Rattle.command_line.specs.Jobs.{WantedJourney}
+use Rattle.fault_lines.specs.declared.faults.Fault.{Fault}
+use Rattle.fault_lines.specs.declared.faults.Input.{Input}
+use Rattle.fault_lines.specs.Faults.{unread_of}
+use Rattle.journey_problem.specs.Files.{HasCauses}
+use Rattle.journey_problem.specs.Problems.{IsProblem, IsProblemFault, IsSound}
+use Rattle.meat_engine.specs.Asks.{no_path}
+use Rattle.meat_engine.specs.Samples.{sample_journey}
+use Rattle.meat_engine.proofs.Asking.{if_ok_then, if_err_then, never_unread, none_rises}
+use Rattle.meat_engine.proofs.samples.sample_problem.Goals as goal
+
+-- files that never fail
+all_read : {T told : Type 0} {path : Input → Option (List ℕ)} {before_of now_of : List ℕ → ℕ} (r : Result T Fault)
+    → HasCauses told path 0 0 before_of now_of r → IfErr r (λ f. unread_of f ≡ None)
+all_read (Ok a) causes = tt
+all_read (Err f) causes = never_unread f (λ input is. none_rises (causes.read input (cc)))
+
+both_ok : {A E : Type 0} (r : Result A E) (P Q : A → Type 0) → IfOk r P → IfOk r Q → IfOk r (λ a. P a × Q a)
+both_ok (Ok a) P Q p q = (p, q)
+both_ok (Err e) P Q p q = tt
+
+pub returns-in-Ok-clause-problem : goal.returns-in-Ok-clause-problem
+returns-in-Ok-clause-problem c =
+    let limits = c.args.limits.now in
+    let files = folder_of c.in-Ok.files in
+    if_ok_then c.problem_of.result _ _ (λ p both. (files, c.in-Ok.ensures.files, (both.0, both.1)))
+    (both_ok c.problem_of.result _ _ (subst (λ (j : WantedJourney). IfOk c.problem_of.result (IsSound j)) c.sample_journey.ensures c.problem_of.ensures.sound)
+    (subst (λ (j : WantedJourney). IfOk c.problem_of.result (IsProblem limits files j)) c.sample_journey.ensures c.problem_of.ensures.problem))
+
+pub returns-in-Ok-clause-fault : goal.returns-in-Ok-clause-fault
+returns-in-Ok-clause-fault c =
+    let limits = c.args.limits.now in
+    let files = folder_of c.in-Ok.files in
+    if_err_then c.problem_of.result _ _ (λ f first other. (files, c.in-Ok.ensures.files, subst (λ (j : WantedJourney). IsProblemFault limits files j f) c.sample_journey.ensures first))
+    c.problem_of.ensures.fault
+
+pub returns-in-Ok-clause-read : goal.returns-in-Ok-clause-read
+returns-in-Ok-clause-read c = all_read c.problem_of.result (c.problem_of.ensures.causes no_path)
