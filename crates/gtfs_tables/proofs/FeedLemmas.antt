@@ -1,8 +1,10 @@
 -- The tables of a feed, one after the other.
 use Rattle.std.proofs.Common.{◌≡◌, ◌≢◌, ℕ, ◌<◌, ◌≤◌, ◌==◌, false, List, [], length, slice_index_or, Option, Some, None, IfSome, refl, sym, ap, ap₂, ◌∙◌, subst, arith, ⊎_elim, if◌then◌else◌}
-use Rattle.std.specs.Prelude.{Result, Ok, Err}
+use Rattle.std.specs.Prelude.{map, vec_items, Result, Ok, Err, IfOk}
+use Rattle.std.proofs.lemmas.Result.{IfOk-from_err}
 use Rattle.std.specs.Result.{IsErr, IsErrAnd}
 use Rattle.std.proofs.lemmas.Bool.{cases_lt}
+use Rattle.plan_model.specs.NameLists.{texts}
 use Rattle.plan_model.specs.Results.{and_then}
 use Rattle.file_ports.specs.Ports.{Folder, file_at}
 use Rattle.file_ports.specs.Counts.{Rose}
@@ -18,14 +20,18 @@ use Rattle.csv_rows.specs.Loading.{loaded_file, loaded_rows, HasFeedCause, IsUnr
 use Rattle.csv_rows.specs.Tables.{row_count, field}
 use Rattle.gtfs_tables.specs.declared.frequencies.FrequencyRow.{FrequencyRow}
 use Rattle.gtfs_tables.specs.declared.stop_times.StopRow.{StopRow}
-use Rattle.gtfs_tables.specs.Stops.{stop_ids, stop_places, stops_fault}
-use Rattle.gtfs_tables.specs.Routes.{route_ids, routes_fault}
+use Rattle.gtfs_tables.specs.Stops.{stop_ids, stop_places}
+use Rattle.gtfs_tables.specs.Routes.{route_ids}
 use Rattle.gtfs_tables.specs.Trips.{trip_ids, trip_routes, trip_services, trip_types, trips_fault}
 use Rattle.gtfs_tables.specs.StopTimes.{timed_rows, stop_times_fault}
 use Rattle.gtfs_tables.specs.Frequencies.{frequency_rows, fault_of_frequencies, all_repeats_of}
 use Rattle.gtfs_tables.specs.Visits.{AreStopTimes}
 use Rattle.gtfs_tables.specs.Feeds.{Records, stops_from, routes_from, trips_from, stop_times_from, frequencies_from, Tables, tables_by, tables_in, FeedParts, IsFeed}
-use Rattle.gtfs_tables.specs.Feeds.{IsFeedOf, AreStops, AreRoutes, AreTrips, AreVisits, AreFrequencies, IsSound, IsSoundFeed}
+use Rattle.gtfs_tables.specs.declared.lists.FeedLists.{FeedLists}
+use Rattle.gtfs_tables.specs.declared.times.TripTimes.{TripTimes}
+use Rattle.gtfs_tables.specs.Repeats.{all_repeats_in}
+use Rattle.gtfs_tables.specs.Parts.{parts_by, HasStops, HasRoutes, HasTrips, HasVisits, HasRepeats, AreLists, AreTimes, AreSoundLists, AreSoundTimes}
+use Rattle.gtfs_tables.specs.Feeds.{IsFeedOf, AreStops, AreRoutes, AreTrips, AreVisits, AreFrequencies, IsSoundFeed}
 use Rattle.csv_rows.proofs.ListLemmas.{length-list_below}
 use Rattle.plan_model.proofs.Results.{and_then-ok, and_then-err}
 
@@ -237,89 +243,105 @@ module _ (folder : List ℕ) (limits : Limits) where
         (subst (λ z. AreStops (stops_from z) ids places) (sym (other_load m folder limits f Trips Stops own refl)) a)
         (subst (λ z. AreRoutes (routes_from z) routes types) (sym (other_load m folder limits f Trips Routes own refl)) b) f (h free)
 
+  -- stops, routes and trips that were read, put together
+  module _ (l : FeedLists) where
+    abbrev services : List (List ℕ)
+    services = texts l.trips.of_trips.services.items
+
+    pub lists_of : (o : Option Folder) → IfSome o (λ m. HasStops (stops_from (load_in m folder limits None Stops)) l)
+        → IfSome o (λ m. HasRoutes (routes_from (load_in m folder limits None Routes)) l)
+        → IfSome o (λ m. HasTrips (trips_from (load_in m folder limits None Trips) l.routes.ids) l) → IfSome o (λ m. AreLists (load_in m folder limits None) l)
+    lists_of None a b d = tt
+    lists_of (Some m) a b d = record { stops = a; routes = b; trips = d }
+
+    -- they are the same where another table could not be read
+    beside : (m : Folder) (f : FeedFault) (table : Table) → IsFaultOf table f
+        → (rank_of table == 0) ≡ false → (rank_of table == 1) ≡ false → (rank_of table == 2) ≡ false
+        → AreLists (load_in m folder limits None) l → AreLists (load_in m folder limits (unread_of f)) l
+    beside m f table own s r t a = record {
+      stops = subst (λ z. HasStops (stops_from z) l) (sym (other_load m folder limits f table Stops own s)) a.stops;
+      routes = subst (λ z. HasRoutes (routes_from z) l) (sym (other_load m folder limits f table Routes own r)) a.routes;
+      trips = subst (λ z. HasTrips (trips_from z l.routes.ids) l) (sym (other_load m folder limits f table Trips own t)) a.trips;
+    }
+
     pub fault_at_times : (o : Option Folder) (f : FeedFault) → IsFaultOf StopTimes f
-        → IfSome o (λ m. AreStops (stops_from (load_in m folder limits None Stops)) ids places)
-        → IfSome o (λ m. AreRoutes (routes_from (load_in m folder limits None Routes)) routes types)
-        → IfSome o (λ m. AreTrips routes types (trips_from (load_in m folder limits None Trips) routes) trips services types_of routes_of)
-        → IfSome o (λ m. f ≢ NoMemory → stop_times_from (load_in m folder limits (unread_of f) StopTimes) trips ids places ≡ Err f)
-        → IfSome o (λ m. f ≢ NoMemory → tables_in m folder limits (unread_of f) ≡ Err f)
+        → IfSome o (λ m. f ≢ NoMemory → stop_times_from (load_in m folder limits (unread_of f) StopTimes) l.trips.ids l.stops.ids l.stops.places.items ≡ Err f)
+        → IfSome o (λ m. f ≢ NoMemory → AreLists (load_in m folder limits None) l → tables_in m folder limits (unread_of f) ≡ Err f)
     unfolding tables_in
-    fault_at_times None f own a b d h = tt
-    fault_at_times (Some m) f own a b d h = λ free. let load = load_in m folder limits (unread_of f) in
+    fault_at_times None f own h = tt
+    fault_at_times (Some m) f own h = λ free are.
+        let load = load_in m folder limits (unread_of f) in
+        let a = beside m f StopTimes own refl refl refl are in
         times_stop (stops_from (load Stops)) (routes_from (load Routes)) (trips_from (load Trips)) (stop_times_from (load StopTimes)) (frequencies_from (load Frequencies))
-        ids routes trips services places types types_of routes_of
-        (subst (λ z. AreStops (stops_from z) ids places) (sym (other_load m folder limits f StopTimes Stops own refl)) a)
-        (subst (λ z. AreRoutes (routes_from z) routes types) (sym (other_load m folder limits f StopTimes Routes own refl)) b)
-        (subst (λ z. AreTrips routes types (trips_from z routes) trips services types_of routes_of) (sym (other_load m folder limits f StopTimes Trips own refl)) d) f (h free)
+        l.stops.ids l.routes.ids l.trips.ids services l.stops.places.items l.routes.types.items l.trips.of_trips.types.items l.trips.of_trips.routes.items
+        a.stops a.routes a.trips f (h free)
 
-    module _ (visits : List (List StopRow)) where
-      pub fault_at_frequencies : (o : Option Folder) (f : FeedFault) → IsFaultOf Frequencies f
-          → IfSome o (λ m. AreStops (stops_from (load_in m folder limits None Stops)) ids places)
-          → IfSome o (λ m. AreRoutes (routes_from (load_in m folder limits None Routes)) routes types)
-          → IfSome o (λ m. AreTrips routes types (trips_from (load_in m folder limits None Trips) routes) trips services types_of routes_of)
-          → IfSome o (λ m. AreVisits trips ids places (stop_times_from (load_in m folder limits None StopTimes) trips ids places) visits)
-          → IfSome o (λ m. f ≢ NoMemory → frequencies_from (load_in m folder limits (unread_of f) Frequencies) trips ≡ Err f)
-          → IfSome o (λ m. f ≢ NoMemory → tables_in m folder limits (unread_of f) ≡ Err f)
-      unfolding tables_in
-      fault_at_frequencies None f own a b d v h = tt
-      fault_at_frequencies (Some m) f own a b d v h = λ free. let load = load_in m folder limits (unread_of f) in
-          frequencies_stop (stops_from (load Stops)) (routes_from (load Routes)) (trips_from (load Trips)) (stop_times_from (load StopTimes)) (frequencies_from (load Frequencies))
-          ids routes trips services places types types_of routes_of
-          (subst (λ z. AreStops (stops_from z) ids places) (sym (other_load m folder limits f Frequencies Stops own refl)) a)
-          (subst (λ z. AreRoutes (routes_from z) routes types) (sym (other_load m folder limits f Frequencies Routes own refl)) b)
-          (subst (λ z. AreTrips routes types (trips_from z routes) trips services types_of routes_of) (sym (other_load m folder limits f Frequencies Trips own refl)) d)
-          visits (subst (λ z. AreVisits trips ids places (stop_times_from z trips ids places) visits) (sym (other_load m folder limits f Frequencies StopTimes own refl)) v) f (h free)
+    pub fault_at_repeats : (visits : List (List StopRow)) (o : Option Folder) (f : FeedFault) → IsFaultOf Frequencies f
+        → IfSome o (λ m. AreVisits l.trips.ids l.stops.ids l.stops.places.items
+        (stop_times_from (load_in m folder limits None StopTimes) l.trips.ids l.stops.ids l.stops.places.items) visits)
+        → IfSome o (λ m. f ≢ NoMemory → frequencies_from (load_in m folder limits (unread_of f) Frequencies) l.trips.ids ≡ Err f)
+        → IfSome o (λ m. f ≢ NoMemory → AreLists (load_in m folder limits None) l → tables_in m folder limits (unread_of f) ≡ Err f)
+    unfolding tables_in
+    fault_at_repeats visits None f own v h = tt
+    fault_at_repeats visits (Some m) f own v h = λ free are.
+        let load = load_in m folder limits (unread_of f) in
+        let a = beside m f Frequencies own refl refl refl are in
+        frequencies_stop (stops_from (load Stops)) (routes_from (load Routes)) (trips_from (load Trips)) (stop_times_from (load StopTimes)) (frequencies_from (load Frequencies))
+        l.stops.ids l.routes.ids l.trips.ids services l.stops.places.items l.routes.types.items l.trips.of_trips.types.items l.trips.of_trips.routes.items
+        a.stops a.routes a.trips visits
+        (subst (λ z. AreVisits l.trips.ids l.stops.ids l.stops.places.items (stop_times_from z l.trips.ids l.stops.ids l.stops.places.items) visits)
+        (sym (other_load m folder limits f Frequencies StopTimes own refl)) v)
+        f (h free)
 
-      pub feed_of_tables : (o : Option Folder) (rows : List (List FrequencyRow))
-          → IfSome o (λ m. AreStops (stops_from (load_in m folder limits None Stops)) ids places)
-          → IfSome o (λ m. AreRoutes (routes_from (load_in m folder limits None Routes)) routes types)
-          → IfSome o (λ m. AreTrips routes types (trips_from (load_in m folder limits None Trips) routes) trips services types_of routes_of)
-          → IfSome o (λ m. AreVisits trips ids places (stop_times_from (load_in m folder limits None StopTimes) trips ids places) visits)
-          → IfSome o (λ m. AreFrequencies trips (frequencies_from (load_in m folder limits None Frequencies) trips) rows)
-          → IfSome o (λ m. IsFeedOf (tables_in m folder limits None) (record {
-            stop_ids = ids;
-            places = places;
-            trip_ids = trips;
-            services = services;
-            route_types = types_of;
-            route_ids = routes;
-            routes = routes_of;
-            stop_times = visits;
-            frequencies = rows;
-          }))
+    module _ (t : TripTimes) where
+      abbrev visits : List (List StopRow)
+      visits = map vec_items t.visits.items
+
+      pub times_of : (o : Option Folder)
+          → IfSome o (λ m. HasVisits (stop_times_from (load_in m folder limits None StopTimes) l.trips.ids l.stops.ids l.stops.places.items) l t)
+          → IfSome o (λ m. HasRepeats (frequencies_from (load_in m folder limits None Frequencies) l.trips.ids) l t) → IfSome o (λ m. AreTimes (load_in m folder limits None) l t)
+      times_of None v u = tt
+      times_of (Some m) v u = record { visits = v; repeats = u }
+
+      pub feed_of_tables : (o : Option Folder) → IfSome o (λ m. AreLists (load_in m folder limits None) l) → IfSome o (λ m. AreTimes (load_in m folder limits None) l t)
+          → IfSome o (λ m. IsFeedOf (tables_in m folder limits None) (parts_by l t))
       unfolding tables_in
-      feed_of_tables None rows a b d v u = tt
-      feed_of_tables (Some m) rows a b d v u = let load = load_in m folder limits None in
+      feed_of_tables None a v = tt
+      feed_of_tables (Some m) a v = let load = load_in m folder limits None in
           all_tables (stops_from (load Stops)) (routes_from (load Routes)) (trips_from (load Trips)) (stop_times_from (load StopTimes)) (frequencies_from (load Frequencies))
-          ids routes trips services places types types_of routes_of a b d visits v rows u
+          l.stops.ids l.routes.ids l.trips.ids services l.stops.places.items l.routes.types.items l.trips.of_trips.types.items l.trips.of_trips.routes.items
+          a.stops a.routes a.trips visits v.visits (all_repeats_in t.repeats.trips.items t.repeats.rows.items (length l.trips.ids)) v.repeats
+
+-- no value was read
+pub none_read : {F A E : Type 0} (o : Option F) (P : F → A → Type 0) (r : Result A E) → IsErr r → IfSome o (λ m. IfOk r (P m))
+none_read None P r h = tt
+none_read (Some m) P r h = IfOk-from_err r (P m) h
+
+-- a fault that comes after lists which are those of the tables
+pub fault_after : {F : Type 0} (o : Option F) (L P : F → Type 0) (N : Type 0) → IfSome o L → IfSome o (λ m. N → L m → P m) → IfSome o (λ m. N → P m)
+fault_after None L P N a h = tt
+fault_after (Some m) L P N a h = λ n. h n a
 
 -- whatever the files tell
-pub sound_feed : (ids routes trips services : List (List ℕ)) (places types types_of routes_of : List ℕ) (visits : List (List StopRow)) (rows : List (List FrequencyRow))
-    → IsSound stops_fault (λ t. AreStops (Ok t) ids places) → IsSound routes_fault (λ t. AreRoutes (Ok t) routes types)
-    → IsSound (trips_fault routes) (λ t. AreTrips routes types (Ok t) trips services types_of routes_of)
-    → IsSound (stop_times_fault trips ids places) (λ t. AreVisits trips ids places (Ok t) visits)
-    → IsSound (fault_of_frequencies trips) (λ l. AreFrequencies trips (Ok l) rows)
-    → IsSoundFeed (record {
-      stop_ids = ids;
-      places = places;
-      trip_ids = trips;
-      services = services;
-      route_types = types_of;
-      route_ids = routes;
-      routes = routes_of;
-      stop_times = visits;
-      frequencies = rows;
-    })
-sound_feed ids routes trips services places types types_of routes_of visits rows s r t x q = record {
-  tables = record { stops = s.0; routes = r.0; trips = t.0; stop_times = x.0; frequencies = q.0 };
-  stops = s.1;
-  routes = r.1;
-  trips = ap (λ z. trips_fault z t.0) (sym r.2.0) ∙ t.1;
-  stop_times =
-      sym (ap₂ (λ u w. stop_times_fault u w places x.0) t.2.0 s.2.0 ∙ ap (λ w. stop_times_fault (trip_ids t.0) (stop_ids s.0) w x.0) s.2.1) ∙ x.1;
-  frequencies = ap (λ z. fault_of_frequencies z q.0) (sym t.2.0) ∙ q.1;
-  feed = is_feed s.0 r.0 t.0 x.0 q.0 ids routes trips services places types types_of routes_of visits rows s.2 r.2 t.2 x.2 q.2;
-}
+pub sound_feed : (l : FeedLists) (t : TripTimes) → AreSoundLists l → AreSoundTimes l t → IsSoundFeed (parts_by l t)
+sound_feed l t a v =
+    let s = a.stops in
+    let r = a.routes in
+    let d = a.trips in
+    let x = v.visits in
+    let q = v.repeats in
+    record {
+      tables = record { stops = s.0; routes = r.0; trips = d.0; stop_times = x.0; frequencies = q.0 };
+      stops = s.1;
+      routes = r.1;
+      trips = ap (λ z. trips_fault z d.0) (sym r.2.0) ∙ d.1;
+      stop_times =
+          sym (ap₂ (λ u w. stop_times_fault u w l.stops.places.items x.0) d.2.0 s.2.0 ∙ ap (λ w. stop_times_fault (trip_ids d.0) (stop_ids s.0) w x.0) s.2.1) ∙ x.1;
+      frequencies = ap (λ z. fault_of_frequencies z q.0) (sym d.2.0) ∙ q.1;
+      feed = is_feed s.0 r.0 d.0 x.0 q.0 l.stops.ids l.routes.ids l.trips.ids (texts l.trips.of_trips.services.items) l.stops.places.items l.routes.types.items
+          l.trips.of_trips.types.items l.trips.of_trips.routes.items (map vec_items t.visits.items)
+          (all_repeats_in t.repeats.trips.items t.repeats.rows.items (length l.trips.ids)) s.2 r.2 d.2 x.2 q.2;
+    }
 
 -- a step with no fault leaves the count
 pub quiet : {T : Type 0} (before now : ℕ) (x : T) → HasFeedCause before now (Ok x) → now ≡ before

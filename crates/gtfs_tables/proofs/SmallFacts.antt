@@ -69,6 +69,6 @@ total_few (t ∷ trips) (row ∷ rows) n = omega (arith, (total-more t trips row
 pub is_small : (f : Inside) → IsWhole f → IsSmall (parts_of f)
 is_small f w = record {
   rows = w.few_rows;
-  size = length-list_below (repeats_in f.repeats.trips.items f.repeats.rows.items) (length f.trips.ids);
-  frequencies = omega (arith, total_few f.repeats.trips.items f.repeats.rows.items (length f.trips.ids), w.few_frequencies);
+  size = length-list_below (repeats_in f.times.repeats.trips.items f.times.repeats.rows.items) (length f.lists.trips.ids);
+  frequencies = omega (arith, total_few f.times.repeats.trips.items f.times.repeats.rows.items (length f.lists.trips.ids), w.few_frequencies);
 }

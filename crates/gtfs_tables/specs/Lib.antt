@@ -9,5 +9,6 @@ pub mod Repeats
 pub mod Keys
 pub mod Visits
 pub mod Feeds
+pub mod Parts
 pub mod FeedInside
 pub mod Timed

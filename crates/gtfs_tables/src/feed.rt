@@ -3,12 +3,9 @@ ghost use Rattle.std.specs.Prelude.{◌≡◌};
 ghost use Rattle.gtfs_tables.specs.Bounds.{most_stops, most_trips};
 
 use crate::frequencies::FrequencyRow;
-use crate::repeats::Repeats;
-use crate::routes::Routes;
+use crate::lists::{FeedLists, load_lists};
 use crate::stop_times::StopRow;
-use crate::stops::Stops;
-use crate::tables::{load_frequencies, load_routes, load_stop_times, load_stops, load_trips};
-use crate::trips::Trips;
+use crate::times::{TripTimes, load_times};
 use csv_rows::{FeedFault, Limits};
 use file_ports::Files;
 use plan_model::{HashKey, PlaceId};
@@ -19,11 +16,8 @@ use std::marker::Model;
 /// minus twelve hours of the service day.
 #[derive(Drop)]
 pub struct Feed {
-    stops: Stops,
-    routes: Routes,
-    trips: Trips,
-    visits: Vec<Vec<StopRow>>,
-    repeats: Repeats,
+    lists: FeedLists,
+    times: TripTimes,
 }
 
 impl Model for Feed {
@@ -71,18 +65,9 @@ impl Feed {
         ensures path_cause { HasFeedPathCause (IsSome (F.files files.old)) folder.now
             (F.faults_of files.old) (F.faults_of files.new) result }
     {
-        let stops = load_stops(alloc, files, folder, limits)?;
-        let routes = load_routes(alloc, files, folder, limits)?;
-        let trips = load_trips(alloc, files, folder, limits, &routes)?;
-        let visits = load_stop_times(alloc, files, folder, limits, &trips.ids, &stops)?;
-        let repeats = load_frequencies(alloc, files, folder, limits, &trips.ids)?;
-        Ok(Feed {
-            stops,
-            routes,
-            trips,
-            visits,
-            repeats,
-        })
+        let lists = load_lists(alloc, files, folder, limits)?;
+        let times = load_times(alloc, files, folder, limits, &lists)?;
+        Ok(Feed { lists, times })
     }
 
     /// How many stops there are.
@@ -92,12 +77,12 @@ impl Feed {
         ensures few { length self.now.stop_ids ≤ most_stops }
         ensures sound { IsSoundFeed self.now }
     {
-        self.stops.ids.len()
+        self.lists.stops.ids.len()
     }
 
     /// The key by which the ids of the stops are hashed.
     pub fn hash_key(&self) -> HashKey {
-        self.stops.ids.key()
+        self.lists.stops.ids.key()
     }
 
     /// The id of a stop.
@@ -105,14 +90,14 @@ impl Feed {
         requires { stop < length self.now.stop_ids }
         ensures { slice_get self.now.stop_ids stop ≡ Some result.now }
     {
-        self.stops.ids.get(stop)
+        self.lists.stops.ids.get(stop)
     }
 
     /// The stop with this id.
     pub fn stop_of(&self, id: &str) -> Option<u32>
         ensures { result ≡ place_in id.now self.now.stop_ids }
     {
-        self.stops.ids.number(id)
+        self.lists.stops.ids.number(id)
     }
 
     /// The place of the stop with this id: its parent station, or else itself.
@@ -121,9 +106,9 @@ impl Feed {
             ≡ option_map (λ stop. slice_index self.now.places stop) (place_in id.now self.now.stop_ids) }
         ensures in_range { IfSome result (λ p. p.0 < length self.now.stop_ids) }
     {
-        match self.stops.ids.number(id) {
+        match self.lists.stops.ids.number(id) {
             None => None,
-            Some(stop) => Some(PlaceId(self.stops.places[stop as usize])),
+            Some(stop) => Some(PlaceId(self.lists.stops.places[stop as usize])),
         }
     }
 
@@ -137,7 +122,7 @@ impl Feed {
         ensures repeats { AreRepeating self.now }
         ensures small { IsSmall self.now }
     {
-        self.trips.ids.len()
+        self.lists.trips.ids.len()
     }
 
     /// The id of a trip.
@@ -145,7 +130,7 @@ impl Feed {
         requires { trip < length self.now.trip_ids }
         ensures { slice_get self.now.trip_ids trip ≡ Some result.now }
     {
-        self.trips.ids.get(trip)
+        self.lists.trips.ids.get(trip)
     }
 
     /// The service of a trip.
@@ -153,7 +138,7 @@ impl Feed {
         requires { trip < length self.now.trip_ids }
         ensures { slice_get self.now.services trip ≡ Some result.now }
     {
-        self.trips.of_trips.services[trip as usize].as_str()
+        self.lists.trips.of_trips.services[trip as usize].as_str()
     }
 
     /// The route type of a trip.
@@ -161,7 +146,7 @@ impl Feed {
         requires { trip < length self.now.trip_ids }
         ensures { result ≡ slice_index self.now.route_types trip }
     {
-        self.trips.of_trips.types[trip as usize]
+        self.lists.trips.of_trips.types[trip as usize]
     }
 
     /// The id of the route of a trip.
@@ -169,9 +154,8 @@ impl Feed {
         requires { trip < length self.now.trip_ids }
         ensures { result.now ≡ slice_index_or self.now.route_ids (slice_index self.now.routes trip) [] }
     {
-        self.routes
-            .ids
-            .get(self.trips.of_trips.routes[trip as usize])
+        let route = self.lists.trips.of_trips.routes[trip as usize];
+        self.lists.routes.ids.get(route)
     }
 
     /// The kept rows of a trip, in rising order of `stop_sequence`.
@@ -179,7 +163,7 @@ impl Feed {
         requires { trip < length self.now.trip_ids }
         ensures { result.now ≡ slice_index_or self.now.stop_times trip [] }
     {
-        self.visits[trip as usize].as_slice()
+        self.times.visits[trip as usize].as_slice()
     }
 
     /// The rows of `frequencies.txt` by which a trip repeats, in the order of the file. A trip that does not repeat has none.
@@ -187,6 +171,6 @@ impl Feed {
         requires { trip < length self.now.trip_ids }
         ensures { result.now ≡ slice_index_or self.now.frequencies trip [] }
     {
-        self.repeats.rows_of(trip)
+        self.times.repeats.rows_of(trip)
     }
 }

@@ -1,5 +1,5 @@
 //! The trips of a feed.
-ghost use Rattle.std.specs.Prelude.{◌≡◌, ◌≢◌, ◌<◌, ◌≤◌, None, Some, Ok, Err, IfOk, IfErr, IfSome, OnOk, length, All};
+ghost use Rattle.std.specs.Prelude.{◌≡◌, ◌≢◌, ◌<◌, ◌≤◌, ◌++◌, ◌∷◌, [], None, Some, Ok, Err, IfOk, IfErr, IfSome, OnOk, length, slice_index, All};
 ghost use Rattle.std.specs.Option.{option_or};
 ghost use Rattle.csv_rows.specs.declared.columns.Column.TheVariants.{RouteId, ServiceId, TripId};
 ghost use Rattle.csv_rows.specs.declared.feed_tables.Table.TheVariants.{Trips as TripsTable};
@@ -14,6 +14,7 @@ ghost use Rattle.gtfs_tables.specs.Bounds.{most_trips};
 
 use crate::routes::Routes;
 use csv_rows::{Column, FeedFault, Ids, Rows, Table, lack, read_ids, read_name};
+use plan_model::NoMemory;
 use std::alloc::Global;
 
 /// The ids of the trips, and the service, the route and the route type of each.
@@ -108,6 +109,28 @@ fn read_trip<'a>(
     })
 }
 
+/// Adds the service, the route type and the route of a trip.
+fn add_trip(
+    alloc: Global,
+    of_trips: &mut OfTrips,
+    trip: Trip<'_>,
+    routes: &Routes,
+) -> Result<(), NoMemory>
+    requires { trip.route < length routes.now.types.items }
+    ensures services { OnOk result (texts of_trips.new.services.items
+        ≡ texts of_trips.old.services.items ++ trip.entry.service.now ∷ []) }
+    ensures types { OnOk result (of_trips.new.types.items
+        ≡ of_trips.old.types.items ++ slice_index routes.now.types.items trip.entry.route ∷ []) }
+    ensures routes { OnOk result (of_trips.new.routes.items
+        ≡ of_trips.old.routes.items ++ trip.entry.route ∷ []) }
+{
+    let service = String::from_str(alloc, trip.service)?;
+    of_trips.services.push(service)?;
+    of_trips.types.push(routes.types[trip.route as usize])?;
+    of_trips.routes.push(trip.route)?;
+    Ok(())
+}
+
 /// The service, the route type and the route of each trip, or the first fault of a row.
 fn read_of_trips(
     alloc: Global,
@@ -130,25 +153,16 @@ fn read_of_trips(
     ensures content { IfErr result (λ f. unread_of f ≡ None) }
     ensures own { IfErr result (IsFaultOf TripsTable) }
 {
-    let mut services: Vec<String> = Vec::new(alloc);
-    let mut types: Vec<u16> = Vec::new(alloc);
-    let mut numbers: Vec<u32> = Vec::new(alloc);
-    let types_of_routes: &[u16] = &routes.types;
+    let mut of_trips = OfTrips {
+        services: Vec::new(alloc),
+        types: Vec::new(alloc),
+        routes: Vec::new(alloc),
+    };
     for i in 0..rows.count() {
         let trip = read_trip(rows, columns, &routes.ids, i)?;
-        let service = match String::from_str(alloc, trip.service) {
-            Ok(service) => service,
-            Err(_) => return Err(FeedFault::NoMemory),
-        };
-        services.push(service)?;
-        types.push(types_of_routes[trip.route as usize])?;
-        numbers.push(trip.route)?;
+        add_trip(alloc, &mut of_trips, trip, routes)?;
     }
-    Ok(OfTrips {
-        services,
-        types,
-        routes: numbers,
-    })
+    Ok(of_trips)
 }
 
 /// The trips of a table, or the first of its faults.

@@ -1,10 +1,9 @@
-use Rattle.std.proofs.Common.{ℕ, ◌<◌, None, sym, subst, ap, ◌∙◌, arith, length, slice_index_or, string_bytes, List, All}
+use Rattle.std.proofs.Common.{◌<◌, None, sym, subst, ap, ◌∙◌, arith, length, slice_index_or, All}
 use Rattle.std.proofs.lemmas.List.Elements.{All-push, All-nil}
 use Rattle.std.specs.Result.{result_err}
 use Rattle.csv_rows.proofs.FaultLemmas.{if_raised}
 use Rattle.csv_rows.proofs.FirstLemmas.{first-zero, first-next, first-at}
 use Rattle.plan_model.specs.NameLists.{texts}
-use Rattle.plan_model.proofs.Texts.{texts-push}
 use Rattle.gtfs_tables.specs.Trips.{bad_trip, trip_at, trip_or_none}
 use Rattle.csv_rows.proofs.ListLemmas.{list_below-zero, list_below-next}
 use Rattle.gtfs_tables.proofs.TripLemmas.{trip_is}
@@ -15,10 +14,10 @@ loop-i-init c =
     let t = c.args.rows.now in
     let ids = c.args.routes.now.ids in
     record {
-      services = ap texts c.new-services.ensures.items ∙ sym (list_below-zero (λ i. (trip_or_none (trip_at ids t i)).service));
-      types = c.new-types.ensures.items ∙ sym (list_below-zero (λ i. slice_index_or c.args.routes.now.types.items (trip_or_none (trip_at ids t i)).route 0));
-      routes = c.new-numbers.ensures.items ∙ sym (list_below-zero (λ i. (trip_or_none (trip_at ids t i)).route));
-      known = subst (All (λ route. route < length ids)) (sym c.new-numbers.ensures.items) (All-nil (λ route. route < length ids));
+      services = ap texts c.new.ensures.items ∙ sym (list_below-zero (λ i. (trip_or_none (trip_at ids t i)).service));
+      types = c.new-2.ensures.items ∙ sym (list_below-zero (λ i. slice_index_or c.args.routes.now.types.items (trip_or_none (trip_at ids t i)).route 0));
+      routes = c.new-3.ensures.items ∙ sym (list_below-zero (λ i. (trip_or_none (trip_at ids t i)).route));
+      known = subst (All (λ route. route < length ids)) (sym c.new-3.ensures.items) (All-nil (λ route. route < length ids));
       none = first-zero (bad_trip ids t);
     }
 
@@ -31,18 +30,18 @@ loop-i-preserved c =
     let t = c.args.rows.now in
     let ids = c.args.routes.now.ids in
     let types = c.args.routes.now.types.items in
+    let trip = c.in_ok-trip.trip in
+    let before = c.loop-i.of_trips in
+    let new = c.add_trip.new.of_trips in
     let here = trip_is ids t c.args.columns c.loop-i.i _ c.requires.columns c.in_ok-trip.ensures.trip in
     record {
-      services = list_below-next (λ i. (trip_or_none (trip_at ids t i)).service) c.loop-i.i (texts c.loop-i.services.items) (texts c.push.new.self.items)
-          (string_bytes c.in-Ok.service) c.loop-i.invariant.services (ap texts c.in_ok-push.ensures.items ∙ texts-push c.loop-i.services.items c.in-Ok.service)
-          (c.in-Ok.ensures.ok ∙ sym (ap (λ r. (trip_or_none r).service) here));
-      types = list_below-next (λ i. slice_index_or types (trip_or_none (trip_at ids t i)).route 0) c.loop-i.i c.loop-i.types.items c.push-in-loop-i.new.self.items
-          (slice_index_or c.deref-types_of_routes.result.now c.in_ok-trip.trip.route 0) c.loop-i.invariant.types c.in_ok-push-2.ensures.items
-          (ap (λ (xs : List ℕ). slice_index_or xs c.in_ok-trip.trip.route 0) c.deref-types_of_routes.ensures.value
-          ∙ sym (ap (λ r. slice_index_or types (trip_or_none r).route 0) here));
-      routes = list_below-next (λ i. (trip_or_none (trip_at ids t i)).route) c.loop-i.i c.loop-i.numbers.items c.push-in-loop-i-2.new.self.items
-          c.in_ok-trip.trip.route c.loop-i.invariant.routes c.in_ok-push-3.ensures.items (sym (ap (λ r. (trip_or_none r).route) here));
-      known = subst (All (λ route. route < length ids)) (sym c.in_ok-push-3.ensures.items)
-          (All-push (λ route. route < length ids) c.loop-i.numbers.items c.in_ok-trip.trip.route c.loop-i.invariant.known c.in_ok-trip.ensures.route);
+      services = list_below-next (λ i. (trip_or_none (trip_at ids t i)).service) c.loop-i.i (texts before.services.items) (texts new.services.items)
+          trip.service.now c.loop-i.invariant.services c.in_ok-add_trip.ensures.services (sym (ap (λ r. (trip_or_none r).service) here));
+      types = list_below-next (λ i. slice_index_or types (trip_or_none (trip_at ids t i)).route 0) c.loop-i.i before.types.items new.types.items
+          (slice_index_or types trip.route 0) c.loop-i.invariant.types c.in_ok-add_trip.ensures.types (sym (ap (λ r. slice_index_or types (trip_or_none r).route 0) here));
+      routes = list_below-next (λ i. (trip_or_none (trip_at ids t i)).route) c.loop-i.i before.routes.items new.routes.items
+          trip.route c.loop-i.invariant.routes c.in_ok-add_trip.ensures.routes (sym (ap (λ r. (trip_or_none r).route) here));
+      known = subst (All (λ route. route < length ids)) (sym c.in_ok-add_trip.ensures.routes)
+          (All-push (λ route. route < length ids) before.routes.items trip.route c.loop-i.invariant.known c.in_ok-trip.ensures.route);
       none = first-next (bad_trip ids t) c.loop-i.i None c.loop-i.invariant.none (ap result_err here);
     }

@@ -9,5 +9,5 @@ pub returns-in-Some-clause-in_range : goal.returns-in-Some-clause-in_range
 returns-in-Some-clause-in_range c =
     let below = place_below (parts_of c.self.inside) c.self.invariant.sound c.in-Some.stop c.in-Some.ensures.inside in
     let same = ap (λ (f : FeedParts). length f.stop_ids) c.self.view_is in
-    let zero = get_or_default_zero c.self.inside.stops.places.items c.in-Some.stop c.index.result.now (omega (arith, c.in-Some.ensures.inside, c.self.invariant.places)) in
+    let zero = get_or_default_zero c.self.inside.lists.stops.places.items c.in-Some.stop c.index.result.now (omega (arith, c.in-Some.ensures.inside, c.self.invariant.places)) in
     omega (arith, below, c.index.ensures, same, zero)

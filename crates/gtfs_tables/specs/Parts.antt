@@ -1,0 +1,87 @@
+-- What is read of the tables of a feed: the stops, routes and trips, and when the trips run.
+use Rattle.std.specs.Prelude.{◌≡◌, ℕ, ◌<◌, ◌≤◌, [], slice_index_or, length, map, vec_items, All, Result, Ok}
+use Rattle.std.specs.List.Sorted.{IsNonDecreasing}
+use Rattle.plan_model.specs.NameLists.{texts}
+use Rattle.csv_rows.specs.declared.feed_tables.Table.{Table}
+use Rattle.csv_rows.specs.declared.feed_tables.Table.TheVariants.{Stops, Routes, Trips, StopTimes, Frequencies}
+use Rattle.csv_rows.specs.declared.feed_tables.FeedFault.{FeedFault}
+use Rattle.csv_rows.specs.declared.loading.Loaded.{Loaded}
+use Rattle.gtfs_tables.specs.declared.lists.FeedLists.{FeedLists}
+use Rattle.gtfs_tables.specs.declared.times.TripTimes.{TripTimes}
+use Rattle.gtfs_tables.specs.Bounds.{most_stop_times, most_frequencies, most_stops, most_trips}
+use Rattle.gtfs_tables.specs.Feeds.{FeedParts, Records, stops_from, routes_from, trips_from, stop_times_from, frequencies_from}
+use Rattle.gtfs_tables.specs.Feeds.{AreStops, AreRoutes, AreTrips, AreVisits, AreFrequencies, IsSound}
+use Rattle.gtfs_tables.specs.Stops.{stops_fault}
+use Rattle.gtfs_tables.specs.Routes.{routes_fault}
+use Rattle.gtfs_tables.specs.Trips.{trips_fault}
+use Rattle.gtfs_tables.specs.StopTimes.{stop_times_fault}
+use Rattle.gtfs_tables.specs.Frequencies.{fault_of_frequencies}
+use Rattle.gtfs_tables.specs.Repeats.{all_repeats_in}
+
+-- the parts of a feed
+abbrev pub parts_by : FeedLists → TripTimes → FeedParts
+parts_by l t = record {
+  stop_ids = l.stops.ids;
+  places = l.stops.places.items;
+  trip_ids = l.trips.ids;
+  services = texts l.trips.of_trips.services.items;
+  route_types = l.trips.of_trips.types.items;
+  route_ids = l.routes.ids;
+  routes = l.trips.of_trips.routes.items;
+  stop_times = map vec_items t.visits.items;
+  frequencies = all_repeats_in t.repeats.trips.items t.repeats.rows.items (length l.trips.ids);
+}
+
+-- the same of one table each
+abbrev pub HasStops : Result Records FeedFault → FeedLists → Type 0
+HasStops read l = AreStops read l.stops.ids l.stops.places.items
+
+abbrev pub HasRoutes : Result Records FeedFault → FeedLists → Type 0
+HasRoutes read l = AreRoutes read l.routes.ids l.routes.types.items
+
+abbrev pub HasTrips : Result Records FeedFault → FeedLists → Type 0
+HasTrips read l =
+    AreTrips l.routes.ids l.routes.types.items read
+    l.trips.ids (texts l.trips.of_trips.services.items) l.trips.of_trips.types.items l.trips.of_trips.routes.items
+
+abbrev pub HasVisits : Result Records FeedFault → FeedLists → TripTimes → Type 0
+HasVisits read l t = AreVisits l.trips.ids l.stops.ids l.stops.places.items read (map vec_items t.visits.items)
+
+abbrev pub HasRepeats : Result Loaded FeedFault → FeedLists → TripTimes → Type 0
+HasRepeats read l t =
+    AreFrequencies l.trips.ids read (all_repeats_in t.repeats.trips.items t.repeats.rows.items (length l.trips.ids))
+
+-- these are the stops, the routes and the trips of the tables that are loaded
+pub record AreLists (load : Table → Result Loaded FeedFault) (l : FeedLists) : Type 0 where
+  pub stops : HasStops (stops_from (load Stops)) l
+  pub routes : HasRoutes (routes_from (load Routes)) l
+  pub trips : HasTrips (trips_from (load Trips) l.routes.ids) l
+
+-- and the trips run by these
+pub record AreTimes (load : Table → Result Loaded FeedFault) (l : FeedLists) (t : TripTimes) : Type 0 where
+  pub visits : HasVisits (stop_times_from (load StopTimes) l.trips.ids l.stops.ids l.stops.places.items) l t
+  pub repeats : HasRepeats (frequencies_from (load Frequencies) l.trips.ids) l t
+
+-- whatever the files tell: the lists are those of tables with no fault, each stop has a place, and each trip a service, a type and one
+-- of the routes
+pub record AreSoundLists (l : FeedLists) : Type 0 where
+  pub stops : IsSound stops_fault (λ r. HasStops (Ok r) l)
+  pub routes : IsSound routes_fault (λ r. HasRoutes (Ok r) l)
+  pub trips : IsSound (trips_fault l.routes.ids) (λ r. HasTrips (Ok r) l)
+  pub places : length l.stops.places.items ≡ length l.stops.ids
+  pub services : length l.trips.of_trips.services.items ≡ length l.trips.ids
+  pub types_of_trips : length l.trips.of_trips.types.items ≡ length l.trips.ids
+  pub routes_of_trips : length l.trips.of_trips.routes.items ≡ length l.trips.ids
+  pub known : All (λ route. route < length l.routes.ids) l.trips.of_trips.routes.items
+  pub few_stops : length l.stops.ids ≤ most_stops
+  pub few_trips : length l.trips.ids ≤ most_trips
+
+-- each trip has its rows, and the rows of frequencies are in the order of their trips
+pub record AreSoundTimes (l : FeedLists) (t : TripTimes) : Type 0 where
+  pub visits : IsSound (stop_times_fault l.trips.ids l.stops.ids l.stops.places.items) (λ r. HasVisits (Ok r) l t)
+  pub repeats : IsSound (fault_of_frequencies l.trips.ids) (λ r. HasRepeats (Ok r) l t)
+  pub size : length t.visits.items ≡ length l.trips.ids
+  pub ordered : IsNonDecreasing t.repeats.trips.items
+  pub paired : length t.repeats.rows.items ≡ length t.repeats.trips.items
+  pub few_rows : (trip : ℕ) → trip < length l.trips.ids → length (slice_index_or (map vec_items t.visits.items) trip []) ≤ most_stop_times
+  pub few_frequencies : length t.repeats.rows.items ≤ most_frequencies

@@ -1,0 +1,52 @@
+//! The stops, the routes and the trips of a feed.
+ghost use Rattle.std.specs.Prelude.{◌≡◌, ◌≢◌, None, Err, IfOk, IfErr, IfSome, IsSome};
+ghost use Rattle.csv_rows.specs.FeedTables.{unread_of};
+ghost use Rattle.csv_rows.specs.Limits.{AreWithin};
+ghost use Rattle.csv_rows.specs.Loading.{HasFeedCause, HasFeedPathCause, load_in};
+ghost use Rattle.gtfs_tables.specs.Feeds.{tables_in, IsFeedTableFault};
+ghost use Rattle.gtfs_tables.specs.Parts.{AreLists, AreSoundLists};
+
+use crate::routes::Routes;
+use crate::stops::Stops;
+use crate::tables::{load_routes, load_stops, load_trips};
+use crate::trips::Trips;
+use csv_rows::{FeedFault, Limits};
+use file_ports::Files;
+use std::alloc::Global;
+
+/// The stops, the routes and the trips of a feed.
+#[derive(Drop)]
+pub(crate) struct FeedLists {
+    pub(crate) stops: Stops,
+    pub(crate) routes: Routes,
+    pub(crate) trips: Trips,
+}
+
+/// The stops, the routes and the trips of the feed, or the first fault of their tables.
+pub(crate) fn load_lists<F: Files>(
+    alloc: Global,
+    files: &mut F,
+    folder: &str,
+    limits: &Limits,
+) -> Result<FeedLists, FeedFault>
+    requires { AreWithin limits.now }
+    ensures same { F.files files.new ≡ F.files files.old }
+    ensures lists { IfSome (F.files files.old) (λ m. IfOk result
+        (AreLists (load_in m folder.now limits.now None))) }
+    ensures fault { IfSome (F.files files.old) (λ m. IfErr result (λ f. f ≢ FeedFault.NoMemory
+        → tables_in m folder.now limits.now (unread_of f) ≡ Err f)) }
+    ensures sound { IfOk result AreSoundLists }
+    ensures own { IfErr result IsFeedTableFault }
+    ensures cause { HasFeedCause (F.faults files.old) (F.faults files.new) result }
+    ensures path_cause { HasFeedPathCause (IsSome (F.files files.old)) folder.now
+        (F.faults_of files.old) (F.faults_of files.new) result }
+{
+    let stops = load_stops(alloc, files, folder, limits)?;
+    let routes = load_routes(alloc, files, folder, limits)?;
+    let trips = load_trips(alloc, files, folder, limits, &routes)?;
+    Ok(FeedLists {
+        stops,
+        routes,
+        trips,
+    })
+}

@@ -1,0 +1,50 @@
+//! When the trips of a feed run.
+ghost use Rattle.std.specs.Prelude.{◌≡◌, ◌≢◌, None, Err, IfOk, IfErr, IfSome, IsSome, length};
+ghost use Rattle.csv_rows.specs.FeedTables.{unread_of};
+ghost use Rattle.csv_rows.specs.Limits.{AreWithin};
+ghost use Rattle.csv_rows.specs.Loading.{HasFeedCause, HasFeedPathCause, load_in};
+ghost use Rattle.gtfs_tables.specs.Feeds.{tables_in, IsFeedTableFault};
+ghost use Rattle.gtfs_tables.specs.Parts.{AreLists, AreTimes, AreSoundTimes};
+
+use crate::lists::FeedLists;
+use crate::repeats::Repeats;
+use crate::stop_times::StopRow;
+use crate::tables::{load_frequencies, load_stop_times};
+use csv_rows::{FeedFault, Limits};
+use file_ports::Files;
+use std::alloc::Global;
+
+/// The kept rows of the stop times of each trip, and how the trips repeat.
+#[derive(Drop)]
+pub(crate) struct TripTimes {
+    pub(crate) visits: Vec<Vec<StopRow>>,
+    pub(crate) repeats: Repeats,
+}
+
+/// When the trips of these lists run, or the first fault of the two tables.
+pub(crate) fn load_times<F: Files>(
+    alloc: Global,
+    files: &mut F,
+    folder: &str,
+    limits: &Limits,
+    lists: &FeedLists,
+) -> Result<TripTimes, FeedFault>
+    requires limits { AreWithin limits.now }
+    requires places { length lists.now.stops.places.items ≡ length lists.now.stops.ids }
+    ensures same { F.files files.new ≡ F.files files.old }
+    ensures times { IfSome (F.files files.old) (λ m. IfOk result
+        (AreTimes (load_in m folder.now limits.now None) lists.now)) }
+    ensures fault { IfSome (F.files files.old) (λ m. IfErr result (λ f. f ≢ FeedFault.NoMemory
+        → AreLists (load_in m folder.now limits.now None) lists.now
+        → tables_in m folder.now limits.now (unread_of f) ≡ Err f)) }
+    ensures sound { IfOk result (AreSoundTimes lists.now) }
+    ensures own { IfErr result IsFeedTableFault }
+    ensures cause { HasFeedCause (F.faults files.old) (F.faults files.new) result }
+    ensures path_cause { HasFeedPathCause (IsSome (F.files files.old)) folder.now
+        (F.faults_of files.old) (F.faults_of files.new) result }
+{
+    let trips = &lists.trips.ids;
+    let visits = load_stop_times(alloc, files, folder, limits, trips, &lists.stops)?;
+    let repeats = load_frequencies(alloc, files, folder, limits, trips)?;
+    Ok(TripTimes { visits, repeats })
+}
