@@ -1,6 +1,7 @@
 //! The outcomes of each group, row by row.
 ghost use Rattle.std.specs.Prelude.{◌≡◌, ◌≢◌, ◌+◌, ◌<◌, ◌++◌, ◌∷◌, [], length, Some, None, OnOk, IfOk, IfErr, IfSome, option_map};
 ghost use Rattle.csv_rows.specs.First.{first_below};
+ghost use Rattle.csv_rows.specs.Spaces.{AreTrimmed};
 ghost use Rattle.csv_rows.specs.Tables.{row_count};
 ghost use Rattle.plan_model.specs.NameLists.{IsTrimmed};
 ghost use Rattle.delay_table.specs.Groups.{group_in, of_class, place_of};
@@ -145,6 +146,29 @@ impl ReadRows {
         }
     }
 
+    /// Adds the row at a place of a table, those before which are read.
+    fn add_line(
+        &mut self,
+        alloc: Global,
+        rows: &Rows,
+        row: usize,
+        columns: &Columns,
+    ) -> Result<(), DelayFault>
+        requires row { row < row_count rows.now }
+        requires columns { AreColumns rows.now columns.now }
+        requires trimmed { AreTrimmed rows.now }
+        requires read { IsReadTo rows.now row self.old.groups self.old.rows.items }
+        ensures none { OnOk result (line_fault rows.now row ≡ None) }
+        ensures read { OnOk result (IsReadTo rows.now (row + 1) self.new.groups self.new.rows.items) }
+        ensures err { IfErr result (λ f. f ≢ DelayFault.NoMemory → line_fault rows.now row ≡ Some f) }
+    {
+        let number = rows.line(row);
+        let Some(line) = line_at(rows, row, columns) else {
+            return Err(DelayFault::BadField(number));
+        };
+        self.add(alloc, &line, number)
+    }
+
     /// The outcomes of a class alone, none where it is not named.
     pub(crate) fn class_rows(&self, class: Option<u16>) -> &[Outcome]
         requires { length self.now.rows.items ≡ length self.now.groups }
@@ -192,11 +216,7 @@ pub(crate) fn read_rows(
         rows: Vec::new(alloc),
     };
     for i in 0..rows.count() {
-        let number = rows.line(i);
-        let Some(line) = line_at(rows, i, columns) else {
-            return Err(DelayFault::BadField(number));
-        };
-        read.add(alloc, &line, number)?;
+        read.add_line(alloc, rows, i, columns)?;
     }
     Ok(read)
 }

@@ -1,8 +1,8 @@
 //! The delays by class.
-ghost use Rattle.std.specs.Prelude.{ℕ, ◌≡◌, ◌≢◌, ◌<◌, ◌≤◌, ◌++◌, [], length, map, slice_index_or, option_map, Some, None, All, Any, OnOk, IfOk, IfErr, IfSome};
+ghost use Rattle.std.specs.Prelude.{ℕ, ◌≡◌, ◌≢◌, ◌<◌, ◌≤◌, ◌++◌, ◌∷◌, [], length, map, slice_index_or, option_map, Some, None, All, Any, OnOk, IfOk, IfErr, IfSome};
 ghost use Rattle.delay_table.specs.DelayLists.{class_for, hour_of, other_class, route_class, type_class};
 ghost use Rattle.delay_table.specs.Bounds.{end_of_types, most_groups};
-ghost use Rattle.delay_table.specs.Delays.{class_type, delays_in, delays_of, first_fault, groups_fault, groups_of, if_other, named, others, type_rows};
+ghost use Rattle.delay_table.specs.Delays.{class_rows, class_type, delays_in, delays_of, first_fault, groups_fault, groups_of, if_other, named, others, type_rows};
 ghost use Rattle.delay_table.specs.Groups.{group_in, place_of, plain_types};
 ghost use Rattle.delay_table.specs.Read.{IsRead, line_at, rows_of};
 ghost use Rattle.delay_table.specs.Slots.{IsClassOf, AreDelays};
@@ -64,6 +64,24 @@ fn add_types(
     Ok(())
 }
 
+/// The outcomes of `*` and of these route types.
+fn type_classes(
+    alloc: Global,
+    read: &ReadRows,
+    types: &[u16],
+) -> Result<List<List<Outcome>>, NoMemory>
+    requires { IsRead read.now.groups read.now.rows.items }
+    ensures { IfOk result (λ classes. classes
+        ≡ class_rows (rows_of read.now.groups read.now.rows.items) None
+        ∷ map (type_rows (rows_of read.now.groups read.now.rows.items)) types.now) }
+{
+    let mut classes: List<List<Outcome>> = List::new(alloc);
+    let default = copied(alloc, read.class_rows(None))?;
+    classes.push(default)?;
+    add_types(alloc, read, types, &mut classes)?;
+    Ok(classes)
+}
+
 /// Adds a group and its outcomes, where it names a route or an hour.
 fn add_other(
     alloc: Global,
@@ -89,25 +107,24 @@ fn add_other(
     Ok(())
 }
 
-/// Adds the groups that name a route or an hour, and their outcomes.
+/// The groups that name a route or an hour, whose outcomes are added.
 fn add_others(
     alloc: Global,
     read: &ReadRows,
-    groups: &mut Groups,
     classes: &mut List<List<Outcome>>,
-) -> Result<(), NoMemory>
-    requires none { groups.old ≡ [] }
-    requires read { IsRead read.now.groups read.now.rows.items }
-    ensures groups { OnOk result (groups.new
+) -> Result<Groups, NoMemory>
+    requires { IsRead read.now.groups read.now.rows.items }
+    ensures groups { IfOk result (λ groups. groups
         ≡ others read.now.groups (length read.now.groups)) }
     ensures classes { OnOk result (classes.new ≡ classes.old
         ++ map (rows_of read.now.groups read.now.rows.items)
         (others read.now.groups (length read.now.groups))) }
 {
+    let mut groups = Groups::with_key(alloc, read.groups.key());
     for place in 0..read.groups.len() {
-        add_other(alloc, read, place, groups, classes)?;
+        add_other(alloc, read, place, &mut groups, classes)?;
     }
-    Ok(())
+    Ok(groups)
 }
 
 /// The table of these outcomes, where these are the route types that are named.
@@ -123,12 +140,8 @@ fn delays_in(alloc: Global, read: &ReadRows, types: Vec<u16>) -> Result<DelayTab
     ensures size { OnOk result (length (delays_in (rows_of read.now.groups read.now.rows.items)
         read.now.groups).classes ≡ length read.now.groups) }
 {
-    let mut others = Groups::with_key(alloc, read.groups.key());
-    let mut classes: List<List<Outcome>> = List::new(alloc);
-    let default = copied(alloc, read.class_rows(None))?;
-    classes.push(default)?;
-    add_types(alloc, read, types.as_slice(), &mut classes)?;
-    add_others(alloc, read, &mut others, &mut classes)?;
+    let mut classes = type_classes(alloc, read, types.as_slice())?;
+    let others = add_others(alloc, read, &mut classes)?;
     Ok(DelayTable {
         types: List::from_vec(types),
         others,

@@ -9,7 +9,7 @@ pub loop-place-init : goal.loop-place-init
 loop-place-init c =
     let g = c.args.read.now.groups in
     let rs = rows_of g c.args.read.now.rows.items in (
-      c.requires.none ∙ sym (others-zero g),
+      c.with_key-groups.ensures ∙ sym (others-zero g),
       sym (ap (λ xs. c.args.classes.now ++ map rs xs) (others-zero g) ∙ append-nil c.args.classes.now),
     )
 
@@ -18,7 +18,7 @@ add_other-requires-clause-new c =
     let g = c.args.read.now.groups in
     let n = c.loop-place.place in
     let P : List Group → Type 0 = λ xs. place_of (group_in g n) xs ≡ None in
-    subst P (sym c.loop-place.invariant.0) (others-new g c.requires.read.apart n (omega arith))
+    subst P (sym c.loop-place.invariant.0) (others-new g c.requires.apart n (omega arith))
 
 pub loop-place-preserved : goal.loop-place-preserved
 loop-place-preserved c =
