@@ -1,5 +1,5 @@
 -- The steps of reading a feed, put together.
-use Rattle.std.proofs.Common.{◌≡◌, ℕ, List, Option, Some, None, Result, Ok, Err, inl, inr, subst}
+use Rattle.std.proofs.Common.{◌≡◌, ℕ, List, Option, Some, None, Result, Ok, Err, inr, sym, subst}
 use Rattle.std.specs.Prelude.{◌≢◌, IfOk, IfErr, OnOk, IfSome}
 use Rattle.file_ports.specs.Ports.{Folder, file_at}
 use Rattle.csv_rows.specs.declared.limits.Limits.{Limits}
@@ -9,12 +9,13 @@ use Rattle.delay_table.specs.DelayLists.{DelayLists}
 use Rattle.delay_table.specs.Slots.{AreDelays}
 use Rattle.gtfs_tables.specs.Feeds.{IsSoundFeed}
 use Rattle.command_line.specs.Jobs.{WantedJourney}
+use Rattle.fault_lines.specs.declared.faults.Input.{Input}
 use Rattle.fault_lines.specs.declared.faults.Fault.{Fault}
 use Rattle.fault_lines.specs.declared.faults.Fault.TheVariants.{NoMemory}
 use Rattle.journey_report.specs.declared.problem.Problem.{Problem}
-use Rattle.fault_lines.specs.Faults.{IsFirst}
+use Rattle.fault_lines.specs.Faults.{MayBeUnread, unread_of}
 use Rattle.journey_problem.specs.CutProblems.{AreDelaysOf, delay_fault}
-use Rattle.journey_problem.specs.FeedProblems.{FolderParts, IsFolder, IsWindowFault, IsFeedProblem, IsFeedProblemFault, HasFeedTimetable, window_fault_of}
+use Rattle.journey_problem.specs.FeedProblems.{FolderParts, IsFolder, IsWindowFault, IsFaultAfterFolder, IsFeedProblem, HasFeedTimetable, window_fault_of}
 
 -- what holds of a told folder before and after a step that leaves it the same
 pub if_some_both : {A : Type 0} (o later : Option A) (P Q R : A → Type 0) → ((a : A) → P a → Q a → R a) → later ≡ o → IfSome o P → IfSome later Q → IfSome o R
@@ -32,29 +33,31 @@ pub feed_timetable : (horizon : ℕ) (j : WantedJourney) (h : FolderParts) (list
 feed_timetable horizon j h lists (Ok p) sound are network source target = (h, lists, sound, are, record { is_network = network; source = source; target = target })
 feed_timetable horizon j h lists (Err fault) sound are network source target = tt
 
-module _ (limits : Limits) (files : Folder) (folder : List ℕ) (horizon : ℕ) (j : WantedJourney) (h : FolderParts) (is : IsFolder limits files folder h) where
-  pub after_folder : (fault : Fault) → IsFirst (delay_fault limits (file_at files j.delays)) fault → fault ≢ NoMemory → IsFeedProblemFault limits files folder horizon j fault
-  after_folder fault first other = inr (h, is, inl (first other))
+module _ (limits : Limits) (files : Folder) (horizon : ℕ) (j : WantedJourney) (h : FolderParts) (lists : DelayLists)
+    (sound : delay_fault limits (file_at files j.delays) None ≡ None) (are : AreDelaysOf limits (file_at files j.delays) lists) where
+  pub window_fault : (r : Result Problem Fault) → IfErr r (λ fault. fault ≢ NoMemory → IsWindowFault limits horizon j h fault)
+      → IfErr r (λ fault. fault ≢ NoMemory → IsFaultAfterFolder limits files horizon j h fault)
+  window_fault (Ok p) f = tt
+  window_fault (Err fault) f = λ other. inr (sound, f other)
 
-  module _ (lists : DelayLists) (sound : delay_fault limits (file_at files j.delays) None ≡ None) (are : AreDelaysOf limits (file_at files j.delays) lists) where
-    pub window_fault : (r : Result Problem Fault) → IfErr r (λ fault. fault ≢ NoMemory → IsWindowFault limits horizon j h fault)
-        → IfErr r (λ fault. fault ≢ NoMemory → IsFeedProblemFault limits files folder horizon j fault)
-    window_fault (Ok p) f = tt
-    window_fault (Err fault) f = λ other. inr (h, is, inr (sound, f other))
+  pub window_problem : (r : Result Problem Fault)
+      → IfOk r (λ p. IsNetworkFrom h.feed h.services h.changes lists j.start horizon p.network p.names)
+      → OnOk r (window_fault_of limits horizon j h ≡ None)
+      → IfOk r (λ p. place_of_stop h.feed j.from ≡ Some p.source.0)
+      → IfOk r (λ p. place_of_stop h.feed j.to ≡ Some p.target.0)
+      → IfOk r (λ p. (folder : List ℕ) → IsFolder limits files folder h → IsFeedProblem limits files folder horizon j p)
+  window_problem (Ok p) network no_fault source target = λ folder is. record {
+    parts = h;
+    lists = lists;
+    is_folder = is;
+    no_delay_fault = sound;
+    are_delays = are;
+    no_window_fault = no_fault;
+    timetable = record { is_network = network; source = source; target = target };
+  }
+  window_problem (Err fault) network no_fault source target = tt
 
-    pub window_problem : (r : Result Problem Fault)
-        → IfOk r (λ p. IsNetworkFrom h.feed h.services h.changes lists j.start horizon p.network p.names)
-        → OnOk r (window_fault_of limits horizon j h ≡ None)
-        → IfOk r (λ p. place_of_stop h.feed j.from ≡ Some p.source.0)
-        → IfOk r (λ p. place_of_stop h.feed j.to ≡ Some p.target.0)
-        → IfOk r (IsFeedProblem limits files folder horizon j)
-    window_problem (Ok p) network no_fault source target = record {
-      parts = h;
-      lists = lists;
-      is_folder = is;
-      no_delay_fault = sound;
-      are_delays = are;
-      no_window_fault = no_fault;
-      timetable = record { is_network = network; source = source; target = target };
-    }
-    window_problem (Err fault) network no_fault source target = tt
+-- a step that reads nothing has no unread file
+pub none_unread_of : (mine : Input) (r : Result Problem Fault) → IfErr r (λ fault. unread_of fault ≡ None) → IfErr r (MayBeUnread mine)
+none_unread_of mine (Ok p) quiet = tt
+none_unread_of mine (Err fault) quiet = subst (λ (o : Option Input). IfSome o (λ other. other ≡ mine)) (sym quiet) tt

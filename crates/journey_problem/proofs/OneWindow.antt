@@ -1,6 +1,6 @@
 -- The window of a feed has one network and one list of names.
 use Rattle.std.proofs.Common.{◌≡◌, ℕ, ◌+◌, ◌<◌, ◌++◌, ◌∷◌, [], sym, ap, ◌∙◌, subst, arith, List, length, Bool}
-use Rattle.std.specs.Prelude.{ℤ, slice_index_or, ◌&&◌, if◌then◌else◌}
+use Rattle.std.specs.Prelude.{ℤ, slice_index_or, if◌then◌else◌}
 use mathlib.Core.Path.{fun_ext}
 use Rattle.std.proofs.lemmas.List.{ext_get_or}
 use Rattle.plan_model.specs.declared.model.PlaceId.{PlaceId}
@@ -17,7 +17,7 @@ use Rattle.gtfs_tables.specs.Timed.{rows_of}
 use Rattle.service_days.specs.Services.{ServiceParts, runs}
 use Rattle.connections.specs.Joins.{join_below, sum_below}
 use Rattle.connections.specs.Window.{day_at, window_of}
-use Rattle.connections.specs.TripRuns.{frequencies_of, runs_by, day_runs, runs_below, runs_in, run_at, no_run, days}
+use Rattle.connections.specs.TripRuns.{frequencies_of, runs_by, day_runs, runs_below, runs_in, run_at, days}
 use Rattle.connections.specs.Counts.{runs_sum, day_sum, days_sum, window_sum}
 use Rattle.connections.specs.Networks.{start_text, IsRunName, AreRunNames, rides_below}
 use Rattle.connections.specs.Cut.{IsNetworkFrom, connection_count, entry_count}

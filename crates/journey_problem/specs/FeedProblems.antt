@@ -50,6 +50,11 @@ pub record IsFolder (limits : Limits) (files : Folder) (folder : List ℕ) (h : 
   pub services : IsOkAnd (calendars_in files folder limits None) (RunsBy (runs h.services))
   pub changes : IsOkAnd (transfers_in files folder limits None h.feed) (AreChanges h.feed h.changes)
 
+-- the later tables have no fault, and these are the services and the change times
+abbrev pub AreRules : Limits → Folder → List ℕ → FeedParts → ServiceParts → ChangeParts → Type 0
+AreRules limits files folder f s c =
+    IsOkAnd (calendars_in files folder limits None) (RunsBy (runs s)) × IsOkAnd (transfers_in files folder limits None f) (AreChanges f c)
+
 -- after tables with no fault the first fault is this one, of the calendars or else of the transfers
 abbrev pub IsLaterTableFault : Limits → Folder → List ℕ → FeedParts → FeedFault → Type 0
 IsLaterTableFault limits files folder f fault =

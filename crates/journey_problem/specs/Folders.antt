@@ -3,4 +3,4 @@ use Rattle.journey_problem.specs.declared.feed_problem.FeedTables.{FeedTables}
 use Rattle.journey_problem.specs.FeedProblems.{FolderParts}
 
 abbrev pub parts_of : FeedTables → FolderParts
-parts_of t = record { feed = t.feed; services = t.services; changes = t.changes }
+parts_of t = record { feed = t.feed; services = t.rules.services; changes = t.rules.changes }

@@ -20,7 +20,7 @@ use delay_table::DelayTable;
 use fault_lines::{Fault, Which};
 use file_ports::Files;
 use journey_report::{Ends, Problem};
-use plan_model::Names;
+use plan_model::{Names, Network};
 use std::alloc::Global;
 
 /// The places that are named as the stops of a journey.
@@ -40,6 +40,24 @@ fn ends_of(names: &Names, from: &str, to: &str) -> Result<Ends, Fault>
         return Err(Fault::UnknownStop(Which::To));
     };
     Ok(Ends { source, target })
+}
+
+/// The problem of a journey in a network whose places and runs have these names.
+fn problem_between(network: Network, names: Names, journey: &Journey) -> Result<Problem, Fault>
+    ensures network { IfOk result (λ p. p.network ≡ network) }
+    ensures names { IfOk result (λ p. p.names ≡ names) }
+    ensures valid { IfOk result (λ p. IsValid p.network) }
+    ensures source { IfOk result (λ p. IsNamed p.names p.source.0 journey.now.from.now) }
+    ensures target { IfOk result (λ p. IsNamed p.names p.target.0 journey.now.to.now) }
+    ensures none { OnOk result
+        (stop_fault names.places journey.now.from.now journey.now.to.now ≡ None) }
+    ensures fault { IfErr result (λ fault.
+        stop_fault names.places journey.now.from.now journey.now.to.now ≡ Some fault) }
+    ensures early { (timetable : WantedTimetable) → IfErr result (IsEarly timetable) }
+    ensures read { IfErr result (λ fault. unread_of fault ≡ None) }
+{
+    let ends = ends_of(&names, journey.from, journey.to)?;
+    Ok(Problem::between(ends, network, names))
 }
 
 /// The problem of a journey in what its files hold.
@@ -63,11 +81,10 @@ fn problem_in(
     ensures early { (timetable : WantedTimetable) → IfErr result (IsEarly timetable) }
     ensures read { IfErr result (λ fault. unread_of fault ≡ None) }
 {
-    let Ok((network, names)) = cut.network(alloc, delays) else {
-        return Err(Fault::NoMemory);
-    };
-    let ends = ends_of(&names, journey.from, journey.to)?;
-    Ok(Problem::between(ends, network, names))
+    match cut.network(alloc, delays) {
+        Ok((network, names)) => problem_between(network, names, journey),
+        Err(_) => Err(Fault::NoMemory),
+    }
 }
 
 /// The problem of a journey over the cut file of this path, whose timetable is that file.

@@ -11,10 +11,10 @@ ghost use Rattle.plan_model.specs.Network.{IsValid};
 ghost use Rattle.command_line.specs.Shown.{journey_shown};
 ghost use Rattle.command_line.specs.Jobs.{WantedTimetable, FeedFolder};
 ghost use Rattle.command_line.specs.Ranges.{IsJourney};
-ghost use Rattle.fault_lines.specs.Faults.{unread_of};
+ghost use Rattle.fault_lines.specs.Faults.{MayBeUnread, unread_of};
 ghost use Rattle.journey_problem.specs.Files.{OwnPaths, path_by, HasCauses};
 ghost use Rattle.journey_problem.specs.EarlyFaults.{IsEarly};
-ghost use Rattle.journey_problem.specs.FeedProblems.{feed_as, feed_stop_fault, window_fault_of, IsFolder, IsFolderFault, IsWindowFault, IsFeedProblem, IsFeedProblemFault, HasFeedTimetable};
+ghost use Rattle.journey_problem.specs.FeedProblems.{feed_as, feed_stop_fault, window_fault_of, AreRules, IsFolder, IsFolderFault, IsLaterTableFault, IsFaultAfterFolder, IsWindowFault, IsFeedProblem, IsFeedProblemFault, HasFeedTimetable};
 ghost use Rattle.journey_problem.specs.Folders.{parts_of};
 
 use crate::inputs::read_delay_file;
@@ -30,12 +30,47 @@ use journey_report::{Ends, Problem};
 use service_days::Services;
 use std::alloc::Global;
 
+/// When the services of a feed run, and how one changes at its places.
+#[derive(Drop)]
+struct FeedRules {
+    services: Services,
+    changes: Changes,
+}
+
 /// What a folder of GTFS tables holds.
 #[derive(Drop)]
 struct FeedTables {
     feed: Feed,
-    services: Services,
-    changes: Changes,
+    rules: FeedRules,
+}
+
+/// The tables of a folder that come after those of its feed.
+fn read_rules<F: Files>(
+    alloc: Global,
+    files: &mut F,
+    folder: &str,
+    feed: &Feed,
+    limits: &Limits,
+) -> Result<FeedRules, FeedFault>
+    requires { AreWithin limits.now }
+    ensures same { F.files files.new ≡ F.files files.old }
+    ensures rules { IfSome (F.files files.old) (λ m. IfOk result (λ r.
+        AreRules limits.now m folder.now feed.now r.services r.changes)) }
+    ensures fault { IfSome (F.files files.old) (λ m. IfErr result (λ f. f ≢ FeedFault.NoMemory
+        → IsLaterTableFault limits.now m folder.now feed.now f)) }
+    ensures links { IfOk result (λ r. LinksComeFrom (length feed.now.stop_ids) r.changes) }
+    ensures cause { HasFeedCause (F.faults files.old) (F.faults files.new) result }
+    ensures path_cause { HasFeedPathCause (IsSome (F.files files.old)) folder.now
+        (F.faults_of files.old) (F.faults_of files.new) result }
+{
+    let services = match Services::read(alloc, files, folder, limits) {
+        Err(fault) => return Err(fault),
+        Ok(services) => services,
+    };
+    match Changes::read(alloc, files, folder, feed, limits) {
+        Err(fault) => Err(fault),
+        Ok(changes) => Ok(FeedRules { services, changes }),
+    }
 }
 
 /// The tables of a folder.
@@ -52,7 +87,7 @@ fn read_folder<F: Files>(
     ensures fault { IfSome (F.files files.old) (λ m. IfErr result (λ f. f ≢ FeedFault.NoMemory
         → IsFolderFault limits.now m folder.now f)) }
     ensures sound { IfOk result (λ t. IsSoundFeed t.feed) }
-    ensures links { IfOk result (λ t. LinksComeFrom (length t.feed.stop_ids) t.changes) }
+    ensures links { IfOk result (λ t. LinksComeFrom (length t.feed.stop_ids) t.rules.changes) }
     ensures cause { HasFeedCause (F.faults files.old) (F.faults files.new) result }
     ensures path_cause { HasFeedPathCause (IsSome (F.files files.old)) folder.now
         (F.faults_of files.old) (F.faults_of files.new) result }
@@ -61,20 +96,12 @@ fn read_folder<F: Files>(
         Err(fault) => return Err(fault),
         Ok(feed) => feed,
     };
-    let services = match Services::read(alloc, files, folder, limits) {
-        Err(fault) => return Err(fault),
-        Ok(services) => services,
-    };
-    match Changes::read(alloc, files, folder, &feed, limits) {
+    match read_rules(alloc, files, folder, &feed, limits) {
         Err(fault) => Err(fault),
-        Ok(changes) => {
+        Ok(rules) => {
             // That the feed is sound is known from its count of stops.
             let _count = feed.stop_count();
-            Ok(FeedTables {
-                feed,
-                services,
-                changes,
-            })
+            Ok(FeedTables { feed, rules })
         }
     }
 }
@@ -127,9 +154,9 @@ fn window_problem(
     requires within { AreWithin limits.now }
     requires journey { IsJourney (journey_shown journey.now) }
     requires horizon { horizon ≤ 72 }
-    requires links { LinksComeFrom (length tables.now.feed.stop_ids) tables.now.changes }
-    ensures network { IfOk result (λ p. IsNetworkFrom tables.now.feed tables.now.services
-        tables.now.changes delays.now journey.now.start.0 horizon p.network p.names) }
+    requires links { LinksComeFrom (length tables.now.feed.stop_ids) tables.now.rules.changes }
+    ensures network { IfOk result (λ p. IsNetworkFrom tables.now.feed tables.now.rules.services
+        tables.now.rules.changes delays.now journey.now.start.0 horizon p.network p.names) }
     ensures no_window_fault { OnOk result (window_fault_of limits.now horizon
         (journey_shown journey.now) (parts_of tables.now) ≡ None) }
     ensures valid { IfOk result (λ p. IsValid p.network) }
@@ -149,8 +176,8 @@ fn window_problem(
     match cut(
         alloc,
         &tables.feed,
-        &tables.services,
-        &tables.changes,
+        &tables.rules.services,
+        &tables.rules.changes,
         delays,
         journey.start,
         horizon,
@@ -160,6 +187,44 @@ fn window_problem(
         Err(WindowFault::TooManyEntries(count)) => Err(Fault::Limit(LimitKind::Entries, count)),
         Err(WindowFault::NoMemory) => Err(Fault::NoMemory),
         Ok((network, names)) => Ok(Problem::between(ends, network, names)),
+    }
+}
+
+/// The problem of a journey in the tables of a folder.
+fn problem_in<F: Files>(
+    alloc: Global,
+    files: &mut F,
+    tables: &FeedTables,
+    horizon: u32,
+    journey: &Journey,
+    limits: &Limits,
+) -> Result<Problem, Fault>
+    requires within { AreWithin limits.now }
+    requires journey { IsJourney (journey_shown journey.now) }
+    requires horizon { horizon ≤ 72 }
+    requires links { LinksComeFrom (length tables.now.feed.stop_ids) tables.now.rules.changes }
+    requires sound { IsSoundFeed tables.now.feed }
+    ensures same { F.files files.new ≡ F.files files.old }
+    ensures problem { IfSome (F.files files.old) (λ m. IfOk result (λ p. (folder : Bytes ℕ)
+        → IsFolder limits.now m folder (parts_of tables.now)
+        → IsFeedProblem limits.now m folder horizon (journey_shown journey.now) p)) }
+    ensures fault { IfSome (F.files files.old) (λ m. IfErr result (λ fault. fault ≢ Fault.NoMemory
+        → IsFaultAfterFolder limits.now m horizon (journey_shown journey.now)
+        (parts_of tables.now) fault)) }
+    ensures early { (folder : Bytes ℕ) → IfErr result (IsEarly (FeedFolder folder horizon)) }
+    ensures own { IfErr result (MayBeUnread Input.Delays) }
+    ensures valid { IfOk result (λ p. IsValid p.network) }
+    ensures fit { IfOk result (λ p. NamesFit p.names p.network) }
+    ensures timetable { IfOk result (HasFeedTimetable horizon (journey_shown journey.now)) }
+    ensures source { IfOk result (λ p. p.source.0 < length p.network.change) }
+    ensures target { IfOk result (λ p. p.target.0 < length p.network.change) }
+    ensures causes { HasCauses (IsSome (F.files files.old)) (λ other. Some journey.now.delays.now)
+        (F.faults files.old) (F.faults files.new)
+        (F.faults_of files.old) (F.faults_of files.new) result }
+{
+    match read_delay_file(alloc, files, journey.delays, limits) {
+        Err(fault) => Err(fault),
+        Ok(delays) => window_problem(alloc, tables, &delays, horizon, journey, limits),
     }
 }
 
@@ -192,13 +257,8 @@ pub(crate) fn feed_problem<F: Files>(
         (F.faults files.old) (F.faults files.new)
         (F.faults_of files.old) (F.faults_of files.new) result }
 {
-    let tables = match read_folder(alloc, files, folder, limits) {
-        Err(fault) => return Err(fault_of(fault, limits)),
-        Ok(tables) => tables,
-    };
-    let delays = match read_delay_file(alloc, files, journey.delays, limits) {
-        Err(fault) => return Err(fault),
-        Ok(delays) => delays,
-    };
-    window_problem(alloc, &tables, &delays, horizon, journey, limits)
+    match read_folder(alloc, files, folder, limits) {
+        Err(fault) => Err(fault_of(fault, limits)),
+        Ok(tables) => problem_in(alloc, files, &tables, horizon, journey, limits),
+    }
 }

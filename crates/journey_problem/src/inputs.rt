@@ -9,7 +9,7 @@ ghost use Rattle.journey_problem.specs.Files.{bytes_of, records_of, Finds, HasCa
 ghost use Rattle.command_line.specs.Jobs.{WantedTimetable, CutFile};
 ghost use Rattle.journey_problem.specs.EarlyFaults.{IsEarly, IsInputOf};
 ghost use Rattle.fault_lines.specs.Stages.{IsOfInput};
-ghost use Rattle.journey_problem.specs.CutProblems.{CutAgrees, DelayAgrees, IsCutOfSome};
+ghost use Rattle.journey_problem.specs.CutProblems.{cut_as, CutAgrees, DelayAgrees, IsCutOfSome};
 
 use csv_rows::{Column, Limits, Rows, RowsFault};
 use cut_file::{CutFault, CutTable, read_cut};
@@ -80,6 +80,19 @@ fn load_rows<F: Files>(
     }
 }
 
+/// A fault of the cut file as one of the run.
+fn fault_of_cut(fault: CutFault) -> Fault
+    ensures fault { result ≡ cut_as fault }
+    ensures early { (path : Bytes ℕ) → IsEarly (CutFile path) result }
+    ensures read { unread_of result ≡ None }
+{
+    match fault {
+        CutFault::TooManyRows(count) => Fault::Limit(LimitKind::CutRows, count),
+        CutFault::NoMemory => Fault::NoMemory,
+        fault => Fault::Cut(fault),
+    }
+}
+
 /// The cut file. One with no record lacks its first column.
 pub(crate) fn read_cut_file<F: Files>(
     alloc: Global,
@@ -102,9 +115,20 @@ pub(crate) fn read_cut_file<F: Files>(
     let rows = load_rows(alloc, files, path, Input::Cut, headless, limits)?;
     match read_cut(alloc, &rows, limits) {
         Ok(table) => Ok(table),
-        Err(CutFault::TooManyRows(count)) => Err(Fault::Limit(LimitKind::CutRows, count)),
-        Err(CutFault::NoMemory) => Err(Fault::NoMemory),
-        Err(fault) => Err(Fault::Cut(fault)),
+        Err(fault) => Err(fault_of_cut(fault)),
+    }
+}
+
+/// A fault of the delay file as one of the run.
+fn fault_of_delays(fault: DelayFault) -> Fault
+    ensures fault { fault ≢ DelayFault.NoMemory → result ≡ Fault.Delays fault }
+    ensures memory { fault ≡ DelayFault.NoMemory → result ≡ Fault.NoMemory }
+    ensures early { (timetable : WantedTimetable) → IsEarly timetable result }
+    ensures read { unread_of result ≡ None }
+{
+    match fault {
+        DelayFault::NoMemory => Fault::NoMemory,
+        fault => Fault::Delays(fault),
     }
 }
 
@@ -130,7 +154,6 @@ pub(crate) fn read_delay_file<F: Files>(
     let rows = load_rows(alloc, files, path, Input::Delays, headless, limits)?;
     match DelayTable::read(alloc, &rows) {
         Ok(table) => Ok(table),
-        Err(DelayFault::NoMemory) => Err(Fault::NoMemory),
-        Err(fault) => Err(Fault::Delays(fault)),
+        Err(fault) => Err(fault_of_delays(fault)),
     }
 }

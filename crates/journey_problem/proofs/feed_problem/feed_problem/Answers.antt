@@ -1,62 +1,49 @@
-use Rattle.std.proofs.Common.{◌≡◌, None}
-use Rattle.file_ports.specs.Ports.{Folder, file_at}
-use Rattle.delay_table.specs.DelayLists.{DelayLists}
+use Rattle.std.proofs.Common.{Option, inr, sym, subst}
+use Rattle.std.specs.Prelude.{◌≢◌, IfOk, IfErr, IsSome, ℕ, List}
+use Rattle.std.proofs.lemmas.Result.{IfOk-weaker, IfErr-weaker}
+use Rattle.file_ports.specs.Ports.{Folder}
 use Rattle.command_line.specs.Jobs.{FeedFolder}
 use Rattle.command_line.specs.Shown.{journey_shown}
-use Rattle.fault_lines.specs.Faults.{IsFirst}
-use Rattle.journey_problem.specs.CutProblems.{AreDelaysOf, delay_fault}
-use Rattle.journey_problem.specs.FeedProblems.{IsFolder}
+use Rattle.fault_lines.specs.declared.faults.Input.TheVariants as input
+use Rattle.fault_lines.specs.declared.faults.Fault.TheVariants.{NoMemory}
+use Rattle.journey_problem.specs.FeedProblems.{IsFolder, IsFeedProblem, IsFeedProblemFault, IsFaultAfterFolder}
+use Rattle.journey_problem.specs.Files.{path_by}
 use Rattle.journey_problem.specs.Folders.{parts_of}
-use Rattle.journey_problem.proofs.Causes.{causes-after}
-use Rattle.journey_problem.proofs.FeedSteps.{if_some_both, after_folder, feed_timetable, window_fault, window_problem}
+use Rattle.journey_problem.proofs.Causes.{causes-folder, causes-then}
+use Rattle.journey_problem.proofs.FeedSteps.{if_some_both}
 use Rattle.journey_problem.proofs.feed_problem.feed_problem.Goals as goal
 
-pub returns-in-Err-read_delay_file-clause-fault : goal.returns-in-Err-read_delay_file-clause-fault
-returns-in-Err-read_delay_file-clause-fault g c =
+pub returns-in-Ok-clause-problem : goal.returns-in-Ok-clause-problem
+returns-in-Ok-clause-problem g c =
     let limits = c.args.limits.now in
     let folder = c.args.folder.now in
     let j = journey_shown c.args.journey.now in
     let h = parts_of c.in-Ok.tables in
-    if_some_both (g.F.Files.files c.args.files.now) (g.F.Files.files c.read_folder.new.files)
-    (λ (m : Folder). IsFolder limits m folder h) (λ (m : Folder). IsFirst (delay_fault limits (file_at m j.delays)) c.in-Err-read_delay_file.fault) _
-    (λ m is first. after_folder limits m folder c.args.horizon j h is c.in-Err-read_delay_file.fault first)
-    c.in-Ok.ensures.same c.in-Ok.ensures.folder c.in-Err-read_delay_file.ensures.table
+    let r = c.problem_in.result in
+    if_some_both (g.F.Files.files c.args.files.now) (g.F.Files.files c.read_folder.new.files) (λ (m : Folder). IsFolder limits m folder h)
+    (λ (m : Folder). IfOk r (λ p. (other : List ℕ) → IsFolder limits m other h → IsFeedProblem limits m other c.args.horizon j p))
+    (λ (m : Folder). IfOk r (IsFeedProblem limits m folder c.args.horizon j))
+    (λ m is all. IfOk-weaker r _ _ (λ p one. one folder is) all)
+    c.in-Ok.ensures.same c.in-Ok.ensures.folder c.problem_in.ensures.problem
 
-pub returns-clause-problem : goal.returns-clause-problem
-returns-clause-problem g c =
+pub returns-in-Ok-clause-fault : goal.returns-in-Ok-clause-fault
+returns-in-Ok-clause-fault g c =
     let limits = c.args.limits.now in
     let folder = c.args.folder.now in
     let j = journey_shown c.args.journey.now in
     let h = parts_of c.in-Ok.tables in
-    let lists : DelayLists = c.in-Ok-read_delay_file.delays in
-    if_some_both (g.F.Files.files c.args.files.now) (g.F.Files.files c.read_folder.new.files)
-    (λ (m : Folder). IsFolder limits m folder h) (λ (m : Folder). (delay_fault limits (file_at m j.delays) None ≡ None) × AreDelaysOf limits (file_at m j.delays) lists) _
-    (λ m is delays. window_problem limits m folder c.args.horizon j h is lists delays.0 delays.1 c.window_problem.result c.window_problem.ensures.network
-    c.window_problem.ensures.no_window_fault c.window_problem.ensures.source c.window_problem.ensures.target)
-    c.in-Ok.ensures.same c.in-Ok.ensures.folder c.in-Ok-read_delay_file.ensures.table
+    let r = c.problem_in.result in
+    if_some_both (g.F.Files.files c.args.files.now) (g.F.Files.files c.read_folder.new.files) (λ (m : Folder). IsFolder limits m folder h)
+    (λ (m : Folder). IfErr r (λ fault. fault ≢ NoMemory → IsFaultAfterFolder limits m c.args.horizon j h fault))
+    (λ (m : Folder). IfErr r (λ fault. fault ≢ NoMemory → IsFeedProblemFault limits m folder c.args.horizon j fault))
+    (λ m is later. IfErr-weaker r _ _ (λ fault why other. inr (h, is, why other)) later)
+    c.in-Ok.ensures.same c.in-Ok.ensures.folder c.problem_in.ensures.fault
 
-pub returns-clause-fault : goal.returns-clause-fault
-returns-clause-fault g c =
-    let limits = c.args.limits.now in
-    let folder = c.args.folder.now in
-    let j = journey_shown c.args.journey.now in
-    let h = parts_of c.in-Ok.tables in
-    let lists : DelayLists = c.in-Ok-read_delay_file.delays in
-    if_some_both (g.F.Files.files c.args.files.now) (g.F.Files.files c.read_folder.new.files)
-    (λ (m : Folder). IsFolder limits m folder h) (λ (m : Folder). (delay_fault limits (file_at m j.delays) None ≡ None) × AreDelaysOf limits (file_at m j.delays) lists) _
-    (λ m is delays. window_fault limits m folder c.args.horizon j h is lists delays.0 delays.1 c.window_problem.result c.window_problem.ensures.fault)
-    c.in-Ok.ensures.same c.in-Ok.ensures.folder c.in-Ok-read_delay_file.ensures.table
+pub returns-in-Ok-clause-causes : goal.returns-in-Ok-clause-causes
+returns-in-Ok-clause-causes g c = λ own.
+    causes-then {told = IsSome (g.F.Files.files c.args.files.now)} {path = path_by (FeedFolder c.args.folder.now c.args.horizon) (journey_shown c.args.journey.now) own}
+    c.in-Ok.tables input.Delays c.problem_in.result (λ told. subst (λ (o : Option Folder). IsSome o) (sym c.in-Ok.ensures.same) told)
+    (causes-folder c.in-Ok.tables c.in-Ok.ensures.cause c.in-Ok.ensures.path_cause) c.problem_in.ensures.causes c.problem_in.ensures.own
 
-pub returns-clause-timetable : goal.returns-clause-timetable
-returns-clause-timetable g c =
-    feed_timetable c.args.horizon (journey_shown c.args.journey.now) (parts_of c.in-Ok.tables) c.in-Ok-read_delay_file.delays
-    c.window_problem.result c.in-Ok.ensures.sound c.in-Ok-read_delay_file.ensures.sound
-    c.window_problem.ensures.network c.window_problem.ensures.source c.window_problem.ensures.target
-
-pub returns-clause-causes : goal.returns-clause-causes
-returns-clause-causes g c =
-    λ own. causes-after {T = DelayLists} c.in-Ok.tables c.in-Ok-read_delay_file.delays c.window_problem.result c.in-Ok.ensures.cause c.in-Ok.ensures.path_cause
-    c.in-Ok-read_delay_file.ensures.causes c.window_problem.ensures.read
-
-pub returns-in-Err-read_delay_file-clause-early : goal.returns-in-Err-read_delay_file-clause-early
-returns-in-Err-read_delay_file-clause-early g c = c.in-Err-read_delay_file.ensures.early (FeedFolder c.args.folder.now c.args.horizon)
+pub returns-in-Ok-clause-early : goal.returns-in-Ok-clause-early
+returns-in-Ok-clause-early g c = c.problem_in.ensures.early c.args.folder.now
