@@ -1,5 +1,6 @@
 //! The network of a feed in a window of time.
 ghost use Rattle.std.specs.Prelude.{◌≡◌, ◌≢◌, ◌<◌, ◌≤◌, [], length, Some, None, OnOk, IfOk, IfErr};
+ghost use Rattle.std.specs.Result.{result_err};
 ghost use Rattle.csv_rows.specs.Limits.{AreWithin};
 ghost use Rattle.csv_rows.specs.Lists.{list_below};
 ghost use Rattle.change_times.specs.Changes.{seconds_of, links_of, LinksComeFrom};
@@ -46,6 +47,7 @@ fn network_of_runs(
     delays: &DelayTable,
     runs: &[Run],
     window: Window,
+    room: u64,
 ) -> Result<(Network, Names), NoMemory>
     requires window { IsWindow window }
     requires stops { AreIds feed.now.stop_ids }
@@ -69,34 +71,34 @@ fn network_of_runs(
 {
     let classes = delays.classes(alloc)?;
     let names = names_of(alloc, feed, runs)?;
-    let connections = connections_of(alloc, feed, delays, runs, window)?;
+    let connections = connections_of(alloc, feed, delays, runs, window, room)?;
     Ok((Network::from_parts(connections, change, classes), names))
 }
 
-/// The first fault of a window.
-fn fault_of(
+/// How many connections a window has, or its first fault.
+fn count_within(
     feed: &Feed,
     services: &Services,
     changes: &Changes,
     window: Window,
     limits: &Limits,
-) -> Option<WindowFault>
+) -> Result<u64, WindowFault>
     requires window { IsWindow window }
     requires limits { AreWithin limits.now }
-    ensures { result ≡ window_fault limits.now (count_in feed.now services.now window)
+    ensures { result_err result ≡ window_fault limits.now (count_in feed.now services.now window)
         (entries_in feed.now services.now changes.now window) }
 {
     let _trips = feed.trip_count();
     let _link = changes.links_into(PlaceId(0));
     let count = sum_window(feed, services, changes, Counted::Connections, window);
     if limits.connections < count {
-        return Some(WindowFault::TooMany(count));
+        return Err(WindowFault::TooMany(count));
     }
     let entries = sum_window(feed, services, changes, Counted::Entries, window);
     if limits.entries < entries {
-        return Some(WindowFault::TooManyEntries(entries));
+        return Err(WindowFault::TooManyEntries(entries));
     }
-    None
+    Ok(count)
 }
 
 /// The change seconds of each place.
@@ -123,7 +125,8 @@ fn links_of(alloc: Global, changes: &Changes, places: u32) -> Result<List<List<W
     Ok(links)
 }
 
-/// The network of the connections that depart in the window, and the names of its places and runs.
+/// The network of the connections that depart in the window, and the names of its places and runs. There is room for so many
+/// connections at once.
 fn network_of(
     alloc: Global,
     feed: &Feed,
@@ -131,6 +134,7 @@ fn network_of(
     changes: &Changes,
     delays: &DelayTable,
     window: Window,
+    room: u64,
 ) -> Result<(Network, Names), NoMemory>
     requires window { IsWindow window }
     requires few { count_in feed.now services.now window ≤ most_connections }
@@ -147,7 +151,15 @@ fn network_of(
     let runs = runs_of(alloc, feed, services, window)?;
     let change = changes_of(alloc, changes, feed.stop_count())?;
     let links = links_of(alloc, changes, feed.stop_count())?;
-    let (network, names) = network_of_runs(alloc, feed, change, delays, runs.as_slice(), window)?;
+    let (network, names) = network_of_runs(
+        alloc,
+        feed,
+        change,
+        delays,
+        runs.as_slice(),
+        window,
+        room,
+    )?;
     Ok((network.with_links(links), names))
 }
 
@@ -190,10 +202,8 @@ pub fn cut(
         → fault_from limits.now feed.now services.now changes.now start.0 horizon ≡ Some f) }
 {
     let window = Window::new(start.0, horizon);
-    if let Some(fault) = fault_of(feed, services, changes, window, limits) {
-        return Err(fault);
-    }
-    match network_of(alloc, feed, services, changes, delays, window) {
+    let count = count_within(feed, services, changes, window, limits)?;
+    match network_of(alloc, feed, services, changes, delays, window, count) {
         Ok(parts) => Ok(parts),
         Err(_) => Err(WindowFault::NoMemory),
     }

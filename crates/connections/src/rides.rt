@@ -59,15 +59,15 @@ fn ride(rows: &[StopRow], step: usize, run: &Numbered<'_>, delays: &DelayTable) 
 
 /// Adds the rides of a run that depart in the window.
 fn add_rides(
-    connections: &mut List<Connection>,
+    connections: &mut Vec<Connection>,
     rows: &[StopRow],
     run: &Numbered<'_>,
     delays: &DelayTable,
     window: Window,
 ) -> Result<(), NoMemory>
     requires { length rows.now ≤ 1_000_000_000 }
-    ensures { OnOk result (connections.new
-        ≡ connections.old ++ map (ride rows.now run.now.origin run.now.number
+    ensures { OnOk result (connections.new.items
+        ≡ connections.old.items ++ map (ride rows.now run.now.origin run.now.number
         (class_for delays.now (Some run.now.route_type) (Some run.now.route.now)))
         (steps_of window rows.now run.now.origin)) }
 {
@@ -79,13 +79,14 @@ fn add_rides(
     Ok(())
 }
 
-/// The rides of these runs, by run and step.
+/// The rides of these runs, by run and step. There is room for so many at once.
 pub(crate) fn connections_of(
     alloc: Global,
     feed: &Feed,
     delays: &DelayTable,
     runs: &[Run],
     window: Window,
+    room: u64,
 ) -> Result<List<Connection>, NoMemory>
     requires few { length runs.now ≤ most_connections }
     requires runs { AreRunsOf feed.now runs.now }
@@ -93,7 +94,7 @@ pub(crate) fn connections_of(
     ensures { IfOk result (λ connections.
         connections ≡ rides_below feed.now delays.now window runs.now (length runs.now)) }
 {
-    let mut connections: List<Connection> = List::new(alloc);
+    let mut connections: Vec<Connection> = Vec::with_capacity(alloc, room as usize)?;
     for r in 0..runs.len() {
         let run = runs[r];
         let numbered = Numbered {
@@ -110,5 +111,5 @@ pub(crate) fn connections_of(
             window,
         )?;
     }
-    Ok(connections)
+    Ok(List::from_vec(connections))
 }

@@ -10,8 +10,8 @@ use Rattle.connections.proofs.rides.add_rides.Goals.{then-leaves+in_ok-push, els
 pub loop-k-init : goal.loop-k-init
 loop-k-init c =
     let rows = c.args.rows.now in let run = c.args.run.now in
-    sym (ap (λ xs. c.args.connections.now ++ map (ride rows run.origin run.number
-    (class_for c.args.delays.now (Some run.route_type) (Some run.route.now))) xs) (steps-zero c.args.window rows run.origin) ∙ append-nil c.args.connections.now)
+    sym (ap (λ xs. c.args.connections.now.items ++ map (ride rows run.origin run.number
+    (class_for c.args.delays.now (Some run.route_type) (Some run.route.now))) xs) (steps-zero c.args.window rows run.origin) ∙ append-nil c.args.connections.now.items)
 
 pub loop-k-preserved : goal.loop-k-preserved
 loop-k-preserved c =
@@ -22,10 +22,10 @@ loop-k-preserved c =
     let all = map f (steps_below c.args.window rows run.origin (k + 1)) in
     elim c.if-leaves.branch [
       | then-leaves+in_ok-push w ↦
-          goes-on c.args.connections.now before (f k ∷ []) all c.if-leaves.connections (more ∙ ap (λ b. before ++ map f (only_if b k)) w.if-leaves.true)
-          (w.connections-is ∙ w.in_ok-push.ensures.ok ∙ ap (λ xs. xs ++ w.ride.result ∷ []) c.loop-k.invariant
-          ∙ ap (λ x. (c.args.connections.now ++ before) ++ x ∷ []) w.ride.ensures)
+          goes-on c.args.connections.now.items before (f k ∷ []) all c.if-leaves.connections.items (more ∙ ap (λ b. before ++ map f (only_if b k)) w.if-leaves.true)
+          (ap (λ v. v.items) w.connections-is ∙ w.in_ok-push.ensures.items ∙ ap (λ xs. xs ++ w.ride.result ∷ []) c.loop-k.invariant
+          ∙ ap (λ x. (c.args.connections.now.items ++ before) ++ x ∷ []) w.ride.ensures)
       | else-leaves w ↦
-          goes-on c.args.connections.now before [] all c.if-leaves.connections (more ∙ ap (λ b. before ++ map f (only_if b k)) w.if-leaves.false)
-          (w.connections-is ∙ c.loop-k.invariant ∙ sym (append-nil (c.args.connections.now ++ before)))
+          goes-on c.args.connections.now.items before [] all c.if-leaves.connections.items (more ∙ ap (λ b. before ++ map f (only_if b k)) w.if-leaves.false)
+          (ap (λ v. v.items) w.connections-is ∙ c.loop-k.invariant ∙ sym (append-nil (c.args.connections.now.items ++ before)))
     ]

@@ -3,7 +3,7 @@ use Rattle.connections.specs.Counts.{count_in, entries_in}
 use Rattle.connections.specs.declared.cuts.WindowFault.TheVariants.{TooMany, TooManyEntries}
 use Rattle.connections.proofs.FaultLemmas.{many_connections, many_entries, few_entries}
 use Rattle.connections.proofs.SumLemmas.{window-few, entries-few}
-use Rattle.connections.proofs.cuts.fault_of.Goals as goal
+use Rattle.connections.proofs.cuts.count_within.Goals as goal
 
 pub returns-then-limits-count : goal.returns-then-limits-count
 returns-then-limits-count c =
