@@ -21,6 +21,9 @@ use csv_rows::{Column, FeedFault, Ids, Record, Records, Table, lack, read_name};
 use plan_model::{NoMemory, PlaceId};
 use std::alloc::Global;
 
+/// As many bytes are reckoned for a row of a text.
+const BYTES_OF_A_ROW: usize = 32;
+
 /// A stop of a trip, with its times in seconds from noon minus twelve hours of the service day.
 #[derive(Clone, Copy, Debug, PartialEq, Eq)]
 pub struct StopRow {
@@ -379,9 +382,21 @@ fn counted_fault<'a>(
     }
 }
 
+/// Room for the rows of a text of so many bytes, and at most for so many rows. Most rows take more bytes than are reckoned for
+/// one; where they take fewer, the room grows.
+fn room_for(alloc: Global, bytes: usize, most: u64) -> Result<Vec<TimedRow>, NoMemory>
+    ensures { IfOk result (λ timed. timed.items ≡ []) }
+{
+    let rows = (bytes / BYTES_OF_A_ROW).min(most as usize);
+    let timed = Vec::with_capacity(alloc, rows)?;
+    Ok(timed)
+}
+
 /// The rows of the records after a header, or their first fault: that there are too many, and then the first of one by itself.
+/// The text has so many bytes.
 fn rows_after<'a>(
     alloc: Global,
+    bytes: usize,
     records: &mut Records<'a>,
     row: &mut Record<'a>,
     columns: TimeColumns,
@@ -404,7 +419,7 @@ fn rows_after<'a>(
     ensures content { IfErr result (λ f. unread_of f ≡ None) }
     ensures own { IfErr result (IsFaultOf StopTimesTable) }
 {
-    let mut timed: Vec<TimedRow> = Vec::new(alloc);
+    let mut timed = room_for(alloc, bytes, most)?;
     let mut known = KnownTrip {
         id: Vec::new(alloc),
         trip: None,
@@ -465,5 +480,14 @@ pub(crate) fn read_timed_rows(
     if let Some(fault) = missing_column(columns) {
         return Err(counted_fault(&records, &mut row, 0, most, fault));
     }
-    rows_after(alloc, &mut records, &mut row, columns, trips, stops, most)
+    rows_after(
+        alloc,
+        bytes.len(),
+        &mut records,
+        &mut row,
+        columns,
+        trips,
+        stops,
+        most,
+    )
 }

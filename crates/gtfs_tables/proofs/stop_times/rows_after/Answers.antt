@@ -20,13 +20,13 @@ loop-timed-init c =
     let trips = c.args.trips.now in
     let stops = c.args.stops.now.ids in
     let places = c.args.stops.now.places.items in
-    let none : length c.new-timed.result.items ≡ 0 = ap length c.new-timed.ensures.items in
-    let start : 0 ≡ length c.new-timed.result.items = sym none in
+    let none : length c.in_ok-timed.timed.items ≡ 0 = ap length c.in_ok-timed.ensures in
+    let start : 0 ≡ length c.in_ok-timed.timed.items = sym none in
     record {
       left = ap (λ (n : ℕ). drop (n + 1) t) none;
       inside = omega arith;
       few = omega arith;
-      rows = c.new-timed.ensures.items ∙ sym (list_below-zero (λ i. value_or no_row (timed_at trips stops places t i)))
+      rows = c.in_ok-timed.ensures ∙ sym (list_below-zero (λ i. value_or no_row (timed_at trips stops places t i)))
           ∙ ap (λ (n : ℕ). list_below (λ i. value_or no_row (timed_at trips stops places t i)) n) start;
       none = ap (λ (n : ℕ). first_below (bad_time trips stops places t) n) none ∙ first-zero (bad_time trips stops places t);
       known = tt;
