@@ -1,14 +1,13 @@
 -- The steps of reading a cut file, put together.
 use Rattle.std.proofs.Common.{◌≡◌, ℕ, List, Option, Some, None, Result, Ok, Err, option_map, sym, ap, subst, ◌∙◌}
-use Rattle.std.specs.Prelude.{◌≢◌, ◌≤◌, IfOk, OnOk}
+use Rattle.std.specs.Prelude.{◌≢◌, ◌≤◌, IfOk, IfErr, OnOk, IfSome}
 use Rattle.std.specs.Option.{option_or}
 use Rattle.file_ports.specs.Ports.{Folder, file_at}
 use Rattle.csv_rows.specs.Limits.{standard}
-use Rattle.csv_rows.specs.Tables.{row_count, table_of}
+use Rattle.csv_rows.specs.Tables.{table_of}
 use Rattle.csv_rows.specs.declared.limits.Limits.{Limits}
 use Rattle.cut_file.specs.declared.faults.CutFault.{CutFault}
 use Rattle.cut_file.specs.declared.faults.CutFault.TheVariants.{NoMemory as CutMemory}
-use Rattle.cut_file.specs.Cut.{place_names}
 use Rattle.cut_file.specs.CutNetwork.{IsCutNetwork}
 use Rattle.cut_file.specs.Faults.{first_fault as first_cut_fault}
 use Rattle.cut_file.specs.Read.{Cut as CutParts, IsRead}
@@ -21,12 +20,14 @@ use Rattle.plan_model.specs.NameLists.{NameLists}
 use Rattle.plan_model.specs.Network.{IsValid}
 use Rattle.plan_model.specs.Parts.{Parts}
 use Rattle.command_line.specs.Jobs.{WantedJourney}
+use Rattle.fault_lines.specs.declared.faults.Input.{Input}
+use Rattle.fault_lines.specs.declared.faults.Input.TheVariants as input
 use Rattle.fault_lines.specs.declared.faults.Fault.{Fault}
 use Rattle.fault_lines.specs.declared.faults.Fault.TheVariants.{Delays, NoMemory}
-use Rattle.fault_lines.specs.Faults.{IsFirst, unread_of}
+use Rattle.fault_lines.specs.Faults.{IsFirst, MayBeUnread, unread_of}
 use Rattle.journey_report.specs.declared.problem.Problem.{Problem}
 use Rattle.journey_problem.specs.Files.{Records}
-use Rattle.journey_problem.specs.CutProblems.{cut_as, fault_in, cut_fault, cut_records, delay_records, delay_fault, places_in}
+use Rattle.journey_problem.specs.CutProblems.{HasCut, cut_as, fault_in, cut_fault, cut_records, delay_records, delay_fault, places_in}
 use Rattle.journey_problem.specs.CutProblems.{stop_fault, cut_problem_fault, IsCutOf, IsCutOfSome, AreDelaysOf, IsNamed, IsCutProblem, HasCutTimetable}
 
 -- a table that was read with no fault
@@ -83,31 +84,53 @@ module _ (j : WantedJourney) (cut : CutParts) (lists : DelayLists) where
       (table, lists, is, are, record { is_network = network table read; valid = valid; source = source; target = target })
   cut_timetable (Err fault) some are network valid source target = tt
 
-  module _ (limits : Limits) (files : Folder) (path : List ℕ) where
-    no_fault : (table : Records) → cut_records limits None (file_at files path) ≡ Ok table → cut.places ≡ place_names table (row_count table)
-        → cut_fault limits (file_at files path) None ≡ None → delay_fault limits (file_at files j.delays) None ≡ None
-        → stop_fault cut.places j.from j.to ≡ None → cut_problem_fault limits files path j None ≡ None
-    no_fault table is places none delays stops =
+  module _ (limits : Limits) (files : Folder) where
+    faults_by : (path : List ℕ) (o : Option Fault) → HasCut limits (file_at files path) cut → delay_fault limits (file_at files j.delays) None ≡ None
+        → stop_fault cut.places j.from j.to ≡ o → cut_problem_fault limits files path j None ≡ o
+    faults_by path o (none, (table, is, read)) delays stops =
         let stop = stop_fault (places_in (cut_records limits None (file_at files path))) j.from j.to in
-        let named : stop ≡ None
+        let named : stop ≡ o
         = ap (λ (r : Result Records Fault). stop_fault (places_in r) j.from j.to) is
-        ∙ ap (λ (names : List (List ℕ)). stop_fault names j.from j.to) (sym places) ∙ stops in
-        ap (λ (o : Option Fault). option_or o (option_or (delay_fault limits (file_at files j.delays) None) stop)) none
-        ∙ ap (λ (o : Option Fault). option_or o stop) delays ∙ named
+        ∙ ap (λ (names : List (List ℕ)). stop_fault names j.from j.to) (sym read.place_names) ∙ stops in
+        ap (λ (f : Option Fault). option_or f (option_or (delay_fault limits (file_at files j.delays) None) stop)) none
+        ∙ ap (λ (f : Option Fault). option_or f stop) delays ∙ named
 
     -- the problem of a cut file and a delay file
     pub cut_file_problem : (r : Result Problem Fault)
-        → (cut_fault limits (file_at files path) None ≡ None) × IsCutOf limits (file_at files path) cut
         → (delay_fault limits (file_at files j.delays) None ≡ None) × AreDelaysOf limits (file_at files j.delays) lists
         → IfOk r (IsNetworkOf cut lists) → IfOk r (λ p. IsValid p.network)
         → IfOk r (λ p. IsNamed p.names p.source.0 j.from) → IfOk r (λ p. IsNamed p.names p.target.0 j.to)
-        → OnOk r (stop_fault cut.places j.from j.to ≡ None) → IfOk r (IsCutProblem limits files path j)
-    cut_file_problem (Ok p) (none, (table, is, read)) (no_delays, are) network valid source target stops = record {
-      table = table;
+        → OnOk r (stop_fault cut.places j.from j.to ≡ None)
+        → IfOk r (λ p. (path : List ℕ) → HasCut limits (file_at files path) cut → IsCutProblem limits files path j p)
+    cut_file_problem (Ok p) (no_delays, are) network valid source target stops = λ path has. record {
+      table = has.1.0;
       lists = lists;
-      no_fault = no_fault table is read.place_names none no_delays stops;
-      is_table = is;
+      no_fault = faults_by path None has no_delays stops;
+      is_table = has.1.1;
       are_delays = are;
-      timetable = record { is_network = network table read; valid = valid; source = source; target = target };
+      timetable = record { is_network = network has.1.0 has.1.2; valid = valid; source = source; target = target };
     }
-    cut_file_problem (Err fault) cut delays network valid source target stops = tt
+    cut_file_problem (Err fault) delays network valid source target stops = tt
+
+    -- the fault of a stop after two files with none
+    pub stop_first : (r : Result Problem Fault) → delay_fault limits (file_at files j.delays) None ≡ None
+        → IfErr r (λ fault. fault ≢ NoMemory → stop_fault cut.places j.from j.to ≡ Some fault) → IfErr r (λ fault. unread_of fault ≡ None)
+        → IfErr r (λ fault. (path : List ℕ) → HasCut limits (file_at files path) cut → IsFirst (cut_problem_fault limits files path j) fault)
+    stop_first (Ok p) delays why quiet = tt
+    stop_first (Err fault) delays why quiet = λ path has free.
+        subst (λ (u : Option Input). cut_problem_fault limits files path j u ≡ Some fault) (sym quiet) (faults_by path (Some fault) has delays (why free))
+
+-- the cut file has no fault where the delay file could not be read
+no_fault_beside : (limits : Limits) (file : Option (List ℕ)) (u : Option Input)
+    → IfSome u (λ other. other ≡ input.Delays) → cut_fault limits file None ≡ None → cut_fault limits file u ≡ None
+no_fault_beside limits file None own none = none
+no_fault_beside limits file (Some other) own none = subst (λ (i : Input). cut_fault limits file (Some i) ≡ None) (sym own) none
+
+-- the fault of the delay file after a cut file with none
+pub delay_first : (limits : Limits) (files : Folder) (path : List ℕ) (j : WantedJourney) (cut : CutParts) (fault : Fault) → HasCut limits (file_at files path) cut
+    → MayBeUnread input.Delays fault → IsFirst (delay_fault limits (file_at files j.delays)) fault → IsFirst (cut_problem_fault limits files path j) fault
+delay_first limits files path j cut fault has own first = λ free.
+    let u = unread_of fault in
+    let stop = stop_fault (places_in (cut_records limits u (file_at files path))) j.from j.to in
+    ap (λ (f : Option Fault). option_or f (option_or (delay_fault limits (file_at files j.delays) u) stop)) (no_fault_beside limits (file_at files path) u own has.0)
+    ∙ ap (λ (f : Option Fault). option_or f stop) (first free)

@@ -67,6 +67,10 @@ abbrev pub IsCutOf : Limits → Option (List ℕ) → CutParts → Type 0
 IsCutOf limits file parts =
     (table : Records) × (cut_records limits None file ≡ Ok table) × IsRead table parts.runs parts.places parts.rows parts.keys
 
+-- the cut file has no fault, and these are its parts
+abbrev pub HasCut : Limits → Option (List ℕ) → CutParts → Type 0
+HasCut limits file parts = (cut_fault limits file None ≡ None) × IsCutOf limits file parts
+
 -- these are the parts of some cut file with no fault
 abbrev pub IsCutOfSome : CutParts → Type 0
 IsCutOfSome parts = (table : Records) × IsCutTable table × IsRead table parts.runs parts.places parts.rows parts.keys

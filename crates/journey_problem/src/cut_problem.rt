@@ -3,21 +3,22 @@ ghost use Rattle.std.specs.Prelude.{◌≡◌, ◌≢◌, ℕ, List as Bytes, No
 ghost use Rattle.csv_rows.specs.Limits.{AreWithin};
 ghost use Rattle.cut_file.specs.CutNetwork.{IsCutNetwork};
 ghost use Rattle.cut_file.specs.Read.{IsRead};
+ghost use Rattle.file_ports.specs.Ports.{file_at};
 ghost use Rattle.plan_model.specs.NameLists.{NamesFit};
 ghost use Rattle.plan_model.specs.Network.{IsValid};
 ghost use Rattle.command_line.specs.Shown.{journey_shown};
 ghost use Rattle.command_line.specs.Jobs.{WantedTimetable, CutFile};
-ghost use Rattle.fault_lines.specs.Faults.{IsFirst, unread_of};
+ghost use Rattle.fault_lines.specs.Faults.{IsFirst, MayBeUnread, unread_of};
 ghost use Rattle.journey_problem.specs.Files.{Records, OwnPaths, path_by, HasCauses};
 ghost use Rattle.journey_problem.specs.EarlyFaults.{IsEarly};
-ghost use Rattle.journey_problem.specs.CutProblems.{cut_problem_fault, IsCutProblem, HasCutTimetable, IsNamed, stop_fault};
+ghost use Rattle.journey_problem.specs.CutProblems.{cut_problem_fault, HasCut, IsCutOfSome, IsCutProblem, HasCutTimetable, IsNamed, stop_fault};
 
 use crate::inputs::{read_cut_file, read_delay_file};
 use command_line::Journey;
 use csv_rows::Limits;
 use cut_file::CutTable;
 use delay_table::DelayTable;
-use fault_lines::{Fault, Which};
+use fault_lines::{Fault, Input, Which};
 use file_ports::Files;
 use journey_report::{Ends, Problem};
 use plan_model::{Names, Network};
@@ -87,6 +88,40 @@ fn problem_in(
     }
 }
 
+/// The problem of a journey over a cut file that was read.
+fn problem_after<F: Files>(
+    alloc: Global,
+    files: &mut F,
+    cut: &CutTable,
+    journey: &Journey,
+    limits: &Limits,
+) -> Result<Problem, Fault>
+    requires within { AreWithin limits.now }
+    requires sound { IsCutOfSome cut.now }
+    ensures same { F.files files.new ≡ F.files files.old }
+    ensures problem { IfSome (F.files files.old) (λ m. IfOk result (λ p. (path : Bytes ℕ)
+        → HasCut limits.now (file_at m path) cut.now
+        → IsCutProblem limits.now m path (journey_shown journey.now) p)) }
+    ensures fault { IfSome (F.files files.old) (λ m. IfErr result (λ fault. (path : Bytes ℕ)
+        → HasCut limits.now (file_at m path) cut.now
+        → IsFirst (cut_problem_fault limits.now m path (journey_shown journey.now)) fault)) }
+    ensures early { (timetable : WantedTimetable) → IfErr result (IsEarly timetable) }
+    ensures own { IfErr result (MayBeUnread Input.Delays) }
+    ensures valid { IfOk result (λ p. IsValid p.network) }
+    ensures fit { IfOk result (λ p. NamesFit p.names p.network) }
+    ensures timetable { IfOk result (HasCutTimetable (journey_shown journey.now)) }
+    ensures source { IfOk result (λ p. IsNamed p.names p.source.0 journey.now.from.now) }
+    ensures target { IfOk result (λ p. IsNamed p.names p.target.0 journey.now.to.now) }
+    ensures causes { HasCauses (IsSome (F.files files.old)) (λ other. Some journey.now.delays.now)
+        (F.faults files.old) (F.faults files.new)
+        (F.faults_of files.old) (F.faults_of files.new) result }
+{
+    match read_delay_file(alloc, files, journey.delays, limits) {
+        Err(fault) => Err(fault),
+        Ok(delays) => problem_in(alloc, cut, &delays, journey),
+    }
+}
+
 /// The problem of a journey over the cut file of this path, whose timetable is that file.
 pub(crate) fn cut_problem<F: Files>(
     alloc: Global,
@@ -112,13 +147,8 @@ pub(crate) fn cut_problem<F: Files>(
         (F.faults files.old) (F.faults files.new)
         (F.faults_of files.old) (F.faults_of files.new) result }
 {
-    let cut = match read_cut_file(alloc, files, path, limits) {
-        Err(fault) => return Err(fault),
-        Ok(cut) => cut,
-    };
-    let delays = match read_delay_file(alloc, files, journey.delays, limits) {
-        Err(fault) => return Err(fault),
-        Ok(delays) => delays,
-    };
-    problem_in(alloc, &cut, &delays, journey)
+    match read_cut_file(alloc, files, path, limits) {
+        Err(fault) => Err(fault),
+        Ok(cut) => problem_after(alloc, files, &cut, journey, limits),
+    }
 }
