@@ -5,6 +5,7 @@ use Rattle.std.proofs.lemmas.Bool.{cases_lt, cond_both, ltb-true, ltb-false}
 use Rattle.std.proofs.lemmas.List.Elements.{All-cons, All-tail, All-head}
 use Rattle.std.proofs.lemmas.List.Kept.{AllPairs-cons}
 use Rattle.std.proofs.lemmas.List.Sorted.{IsPermutation-refl, IsPermutation-cons, IsPermutation-trans, IsPermutation-to_front, IsPermutation-sym, IsPermutation-middle, All-permutation}
+use Rattle.plan_model.specs.Bounds.{most_connections}
 use Rattle.plan_model.specs.declared.model.ConnectionId.{ConnectionId}
 use Rattle.plan_model.specs.Parts.{Parts}
 use Rattle.plan_model.specs.Network.{IsValid, count, dep_of}
@@ -59,10 +60,10 @@ AllPairs-placed n i (id ∷ ids) other pairs =
     (All-cons (Scanned n id) new ids (omega (arith, le, apart)) after))
     (AllPairs-placed n i ids (All-tail (λ (x : ConnectionId). rank n x.0 ≡ rank n i → ⊥) id ids other) (AllPairs-tail (Scanned n) id ids pairs)))
 
-rank_apart : (n : Parts) (i j : ℕ) → i < j → j < 8388608 → rank n i ≡ rank n j → ⊥
+rank_apart : (n : Parts) (i j : ℕ) → i < j → j < most_connections → rank n i ≡ rank n j → ⊥
 rank_apart n i j less within e = omega arith
 
-pub AllPairs-in_order : (n : Parts) (m : ℕ) → m ≤ 8388608 → AllPairs (Scanned n) (in_order n m)
+pub AllPairs-in_order : (n : Parts) (m : ℕ) → m ≤ most_connections → AllPairs (Scanned n) (in_order n m)
 AllPairs-in_order n zero few = λ k l d less within. absurd (omega arith)
 AllPairs-in_order n (suc m) few =
     AllPairs-placed n m (in_order n m) (λ k d within. rank_apart n _ m (All-in_order n m k d within) (omega arith)) (AllPairs-in_order n m (omega arith))

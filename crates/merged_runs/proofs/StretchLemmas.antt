@@ -5,6 +5,7 @@ use Rattle.std.specs.Prelude.{Contains, filter}
 use Rattle.std.proofs.lemmas.Bool.{cases_lt, cases_eq, lt-ltb, le-ltb, ltb-true, cond-true, cond-false, false_from_ne_true}
 use Rattle.std.proofs.lemmas.List.{get_or-set_same, get_or-set_other, get_or_past, length-set, take_all}
 use Rattle.std.proofs.lemmas.List.Elements.{All-tail, All-head}
+use Rattle.plan_model.specs.Bounds.{most_connections}
 use Rattle.plan_model.specs.declared.model.ConnectionId.{ConnectionId}
 use Rattle.plan_model.specs.Parts.{Parts}
 use Rattle.plan_model.specs.Network.{IsValid, count, run_of}
@@ -40,7 +41,7 @@ run_between n starts s r i h from to =
     (inside, omega (arith, first.after i from inside, next.before i to))
 
 -- what is left of a run ends within the network
-pub within_count : (n : Parts) (starts left : List ℕ) → AreStretches n starts left → (r : ℕ) → r < length left → get_or left r 0 ≤ 8388608
+pub within_count : (n : Parts) (starts left : List ℕ) → AreStretches n starts left → (r : ℕ) → r < length left → get_or left r 0 ≤ most_connections
 within_count n starts left s r h =
     let next = s.begin.each (r + 1) (omega (arith, s.size)) in
     omega (arith, (s.within r h).1, next.within, s.begin.valid.few_connections)

@@ -2,6 +2,7 @@
 use Rattle.std.proofs.Common.{◌≡◌, ℕ, zero, suc, ◌+◌, ◌-◌, ◌*◌, ◌/◌, ◌%◌, ◌<◌, ◌≤◌, ◌⊎◌, inl, inr, ⊎_elim, List, [], ◌∷◌, ◌++◌, length, get_or, set, arith, refl, sym, ap, ◌∙◌, subst}
 use Rattle.std.proofs.lemmas.Bool.{cases_lt, cases_eq}
 use Rattle.std.proofs.lemmas.List.{get_or-set_same, get_or-set_other, length-set}
+use Rattle.plan_model.specs.Bounds.{most_connections}
 use Rattle.plan_model.specs.Parts.{Parts}
 use Rattle.plan_model.specs.Network.{count, run_of}
 use Rattle.merged_runs.specs.Merged.{rank, key_of, above, IsOver, IsWinner, IsTournament, IsMerge, rest_of}
@@ -210,7 +211,7 @@ pub record HasWon (n : Parts) (starts left : List ℕ) (key : ℕ) : Type 0 wher
   pub last : key - 1 ≡ rank n (get_or left run 0 - 1)
   pub own : run_of n (get_or left run 0 - 1) ≡ run
   pub there : get_or left run 0 - 1 < count n
-  pub id : (key - 1) % 8388608 ≡ get_or left run 0 - 1
+  pub id : (key - 1) % most_connections ≡ get_or left run 0 - 1
 
 module _ (n : Parts) (starts left keys : List ℕ) (m : IsMerge n starts left keys) (key : ℕ) (final : key ≡ get_or keys 1 0) where
   -- where the final has no key nothing is left at all

@@ -1,6 +1,7 @@
 use Rattle.std.proofs.Common.{◌≡◌, ℕ, List, ◌-◌, ◌<◌, ◌%◌, ◌++◌, ◌∷◌, [], length, get_or, set, arith, refl, ap, sym, ◌∙◌}
 use Rattle.std.proofs.lemmas.Bool.{eqb-true, eqb-false}
 use Rattle.std.proofs.lemmas.List.{get_or_read, length_push}
+use Rattle.plan_model.specs.Bounds.{most_connections}
 use Rattle.plan_model.specs.declared.model.Connection.{Connection}
 use Rattle.plan_model.specs.Network.{connection}
 use Rattle.merged_runs.specs.Merged.{rest_of}
@@ -60,7 +61,7 @@ give-requires-clause-some c =
 step : (c : After-get-run) (after : List ℕ) → c.index-key.result.now ≡ get_or c.args.self.now.keys.items 1 0
     → HasWon c.args.network.now c.args.self.now.starts.items c.args.self.now.left.items c.index-key.result.now
     → after ≡ set c.args.self.now.left.items c.get-run.result.run.0 (get_or c.args.self.now.left.items c.get-run.result.run.0 0 - 1)
-    → rest_of c.args.network.now c.args.self.now.left.items ≡ rest_of c.args.network.now after ++ record { 0 = (c.index-key.result.now - 1) % 8388608 } ∷ []
+    → rest_of c.args.network.now c.args.self.now.left.items ≡ rest_of c.args.network.now after ++ record { 0 = (c.index-key.result.now - 1) % most_connections } ∷ []
 step c after greatest w all =
     let s = c.args.self.now in
     rw (all, run_is c w, w.id) (rest_of-given c.args.network.now s.starts.items s.left.items s.keys.items c.requires c.index-key.result.now greatest w)
@@ -75,7 +76,7 @@ returns-clause-none c =
         ap length none,
         ap length left,
         length_push
-            (rest_of c.args.network.now c.give.new.self.left.items) (record { 0 = (c.index-key.result.now - 1) % 8388608 }),
+            (rest_of c.args.network.now c.give.new.self.left.items) (record { 0 = (c.index-key.result.now - 1) % most_connections }),
       )),
     )
 
