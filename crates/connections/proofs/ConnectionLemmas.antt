@@ -32,7 +32,7 @@ use Rattle.connections.proofs.NameLemmas.{names_trimmed}
 use Rattle.connections.proofs.CountLemmas.{rides-zero, rides-suc}
 use Rattle.connections.proofs.PairLemmas.{AllPairs-append, AllPairs-nil, AllPairs-one}
 use Rattle.connections.proofs.StepLemmas.{holds_parts, steps-zero, steps-suc}
-use Rattle.plan_model.specs.Bounds.{end_of_arrivals, most_connections}
+use Rattle.plan_model.specs.Bounds.{end_of_arrivals, end_of_steps, most_connections}
 
 -- a moment that is not before 1970
 pub not_before : (z : ℤ) → pos 0 ≤ℤ z → pos (unsigned_abs z) ≡ z
@@ -108,7 +108,7 @@ pub record IsGood (places classes runs : ℕ) (c : Connection) : Type 0 where
   pub from_in : c.from.0 < places
   pub to_in : c.to.0 < places
   pub class_in : c.class.0 < classes
-  pub step_in : c.step < 1000000000
+  pub step_in : c.step < end_of_steps
   pub run_in : c.run.0 < runs
 
 module _ (w : Window) (v : IsWindow w) (rows : List StopRow) (places : ℕ) (t : AreTimed rows places) (o : Origin) (number : ℕ) (class : ℕ → ℕ)

@@ -1,6 +1,6 @@
 //! The connections of a window.
 ghost use Rattle.std.specs.Prelude.{◌≡◌, ◌+◌, ◌≤◌, ◌<◌, ◌++◌, ℕ, length, map, Some, OnOk, IfOk};
-ghost use Rattle.plan_model.specs.Bounds.{most_connections};
+ghost use Rattle.plan_model.specs.Bounds.{end_of_steps, most_connections};
 ghost use Rattle.connections.specs.Rides.{steps_of};
 ghost use Rattle.delay_table.specs.DelayLists.{class_for};
 ghost use Rattle.gtfs_tables.specs.Timed.{IsTimed};
@@ -36,7 +36,7 @@ fn class_of(delays: &DelayTable, run: &Numbered<'_>, arrival: u64) -> u16
 /// The ride from one kept row to the next, where it departs in a window, whose moments are not before 1970.
 fn ride(rows: &[StopRow], step: usize, run: &Numbered<'_>, delays: &DelayTable) -> Connection
     requires inside { step + 1 < length rows.now }
-    requires few { step ≤ 1_000_000_000 }
+    requires few { step ≤ end_of_steps }
     ensures { result ≡ ride rows.now run.now.origin run.now.number
         (class_for delays.now (Some run.now.route_type) (Some run.now.route.now)) step }
 {
@@ -65,7 +65,7 @@ fn add_rides(
     delays: &DelayTable,
     window: Window,
 ) -> Result<(), NoMemory>
-    requires { length rows.now ≤ 1_000_000_000 }
+    requires { length rows.now ≤ end_of_steps }
     ensures { OnOk result (connections.new.items
         ≡ connections.old.items ++ map (ride rows.now run.now.origin run.now.number
         (class_for delays.now (Some run.now.route_type) (Some run.now.route.now)))

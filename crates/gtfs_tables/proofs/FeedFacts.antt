@@ -7,6 +7,7 @@ use Rattle.csv_rows.specs.First.{first_below}
 use Rattle.csv_rows.specs.Tables.{place_in, row_count, field}
 use Rattle.csv_rows.specs.declared.columns.Column.TheVariants.{StopId, TripId}
 use Rattle.csv_rows.proofs.FirstLemmas.{none-each, none-both}
+use Rattle.plan_model.specs.Bounds.{end_of_steps}
 use Rattle.gtfs_tables.specs.declared.stop_times.StopRow.{StopRow}
 use Rattle.gtfs_tables.specs.declared.stop_times.TimedRow.{TimedRow}
 use Rattle.gtfs_tables.specs.Feeds.{FeedParts, IsSoundFeed}
@@ -89,7 +90,7 @@ module _ (f : FeedParts) (s : IsSoundFeed f) where
         at_stop stops (stop_places s.tables.stops) _ _ v.kept
         (in_form (trip_ids s.tables.trips) (stop_ids s.tables.stops) (stop_places s.tables.stops) s.tables.stop_times none (times.line k) v.inside).visit
 
-    few : (n : ℕ) → n ≡ length (rows_of f trip) → n ≤ 1000000000
+    few : (n : ℕ) → n ≡ length (rows_of f trip) → n ≤ end_of_steps
     few n e =
         ⊎_elim (λ (some : 0 < n).
         let last : n - 1 < length (rows_of f trip) = omega arith in

@@ -4,6 +4,7 @@ use Rattle.gtfs_tables.specs.declared.stop_times.StopRow.{StopRow}
 use Rattle.gtfs_tables.specs.Feeds.{FeedParts}
 use Rattle.gtfs_tables.specs.Visits.{no_visit}
 use Rattle.gtfs_tables.specs.Bounds.{end_of_times}
+use Rattle.plan_model.specs.Bounds.{end_of_steps}
 
 -- the kept rows of a trip
 abbrev pub rows_of : FeedParts → ℕ → List StopRow
@@ -14,7 +15,7 @@ kept_at rows k = slice_index_or rows k no_visit
 
 -- they stand at one of so many places, and no time goes back
 pub record AreTimed (rows : List StopRow) (places : ℕ) : Type 0 where
-  pub few : length rows ≤ 1000000000
+  pub few : length rows ≤ end_of_steps
   pub place : (k : ℕ) → k < length rows → (kept_at rows k).place.0 < places
   pub forward : (k : ℕ) → k < length rows → (kept_at rows k).arrival ≤ (kept_at rows k).departure
   pub early : (k : ℕ) → k < length rows → (kept_at rows k).departure < end_of_times
