@@ -2,7 +2,7 @@
 ghost use Rattle.std.specs.Prelude.{◌≡◌, ◌≢◌, ◌<◌, ◌≤◌, length, Some, IfOk, IfErr, MatchOption};
 ghost use Rattle.plan_model.specs.NameLists.{NamesFit};
 ghost use Rattle.command_line.specs.Ranges.{IsLater};
-ghost use Rattle.departure_table.specs.Departures.{IsExtendedFor, IsGreatest};
+ghost use Rattle.departure_table.specs.Departures.{IsExtendedFor, IsGreatest, IsTable};
 ghost use Rattle.meat_scan.specs.Solves.{Solves};
 ghost use Rattle.value_laws.specs.Means.{mean_below, mean_covers, mean_gap};
 ghost use Rattle.command_line.specs.Values.{last_until};
@@ -84,6 +84,31 @@ fn scan_from_added(alloc: Global, problem: &Problem, query: &Query) -> Result<Fr
     })
 }
 
+/// The departures of a query between two places, up to a last moment; no row where nobody who sets out
+/// at the start is safe.
+fn rows_of(
+    alloc: Global,
+    problem: &Problem,
+    query: &Query,
+    last: Moment,
+) -> Result<List<DepartureRow>, NoMemory>
+    requires until { IsUntil problem.now query.now }
+    requires differ { query.now.source.0 ≢ query.now.target.0 }
+    ensures { IfOk result (IsTable problem.now.network (SafeOf problem.now query.now) query.now.start.0 last.0) }
+{
+    let found = scan_from_added(alloc, problem, query)?;
+    says_of_source();
+    let rows = table(
+        alloc,
+        &found.scanned,
+        &found.network,
+        &found.query,
+        query.start,
+        last,
+    )?;
+    Ok(rows)
+}
+
 /// The departures of a query, up to a last moment; none where nobody who sets out at the start is safe.
 fn departures_of(
     alloc: Global,
@@ -99,16 +124,7 @@ fn departures_of(
     if query.source.0 == query.target.0 {
         return Ok(Some(List::new(alloc)));
     }
-    let found = scan_from_added(alloc, problem, query)?;
-    says_of_source();
-    let rows = table(
-        alloc,
-        &found.scanned,
-        &found.network,
-        &found.query,
-        query.start,
-        last,
-    )?;
+    let rows = rows_of(alloc, problem, query, last)?;
     if rows.len() == 0 {
         return Ok(None);
     }
