@@ -1,2 +1,3 @@
 pub mod TripFaults
 pub mod Unsafe
+pub mod Ends

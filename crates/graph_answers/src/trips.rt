@@ -1,12 +1,14 @@
 //! The trip by a graph, as the delays come.
-ghost use Rattle.std.specs.Prelude.{◌≡◌, ◌≢◌, ◌<◌, ◌≤◌, length, Some, None, IfOk, IfErr};
+ghost use Rattle.std.specs.Prelude.{◌≡◌, ◌≢◌, ◌<◌, ◌≤◌, length, All, Some, None, IfOk, IfErr};
 ghost use Rattle.plan_model.specs.NameLists.{NamesFit};
 ghost use Rattle.plan_graph.specs.Tidy.{IsFit};
 ghost use Rattle.command_line.specs.Jobs.{late_in};
 ghost use Rattle.fault_lines.specs.Faults.{unread_of};
-ghost use Rattle.fault_lines.specs.Sites.{IsTellable};
+ghost use Rattle.fault_lines.specs.Sites.{last_printable, IsTellable};
 ghost use Rattle.journey_report.specs.Known.{parts_of};
-ghost use Rattle.journey_report.specs.Findings.{findings_of};
+ghost use Rattle.journey_report.specs.Findings.{findings_of, replay_findings};
+ghost use Rattle.journey_report.specs.Texts.{trace_text};
+ghost use Rattle.trip_replay.specs.Rides.{IsRide};
 ghost use Rattle.plan_model.specs.Bounds.{last_start};
 ghost use Rattle.graph_answers.specs.Trips.{replay_as, IsTripTold, IsTripFault};
 
@@ -15,8 +17,9 @@ use fault_lines::Fault;
 use graph_text::Head;
 use journey_report::{Answer, Problem, Report, trace_text};
 use plan_graph::PlanGraph;
+use plan_model::NoMemory;
 use std::alloc::Global;
-use trip_replay::{ReplayFault, replay};
+use trip_replay::{ReplayFault, Trace, replay};
 
 /// A fault of a trip as one of the run.
 fn fault_of(fault: ReplayFault) -> Fault
@@ -29,6 +32,38 @@ fn fault_of(fault: ReplayFault) -> Fault
         | ReplayFault::TooMany(_)
         | ReplayFault::Stuck(_, _) => Fault::Replay(fault),
     }
+}
+
+/// The answer that tells the trip by a graph.
+fn trip_answer(
+    alloc: Global,
+    problem: &Problem,
+    head: Head,
+    graph: PlanGraph,
+    trace: Trace,
+) -> Result<Answer, NoMemory>
+    requires fit { NamesFit problem.now.names problem.now.network }
+    requires target { problem.now.target.0 < length problem.now.network.change }
+    requires rides { All (IsRide problem.now.network) trace.rides }
+    requires arrival { trace.arrival.0 ≤ last_printable }
+    ensures found { IfOk result (λ a. findings_of a.report ≡ replay_findings head.query graph trace) }
+    ensures text { IfOk result (λ a. a.text.items
+        ≡ trace_text problem.now.network problem.now.names problem.now.target.0 trace) }
+{
+    let text = trace_text(
+        alloc,
+        &problem.network,
+        &problem.names,
+        problem.target,
+        &trace,
+    )?;
+    let report = Report {
+        query: Some(head.query),
+        graph: Some(graph),
+        trace: Some(trace),
+        ..Report::empty()
+    };
+    Ok(Answer { report, text })
 }
 
 /// The trip by a graph with the delays that were met.
@@ -66,18 +101,6 @@ pub fn trip_over(
         Err(fault) => return Err(fault_of(fault)),
         Ok(trace) => trace,
     };
-    let text = trace_text(
-        alloc,
-        &problem.network,
-        &problem.names,
-        problem.target,
-        &trace,
-    )?;
-    let report = Report {
-        query: Some(head.query),
-        graph: Some(graph),
-        trace: Some(trace),
-        ..Report::empty()
-    };
-    Ok(Answer { report, text })
+    let answer = trip_answer(alloc, problem, head, graph, trace)?;
+    Ok(answer)
 }

@@ -28,8 +28,8 @@ returns-in-Err c =
       read = subst (λ (f : Fault). unread_of f ≡ None) named (replay_unread fault);
     }
 
-pub trace_text-requires-clause-arrival : goal.trace_text-requires-clause-arrival
-trace_text-requires-clause-arrival c =
+pub trip_answer-requires-clause-arrival : goal.trip_answer-requires-clause-arrival
+trip_answer-requires-clause-arrival c =
     subst (λ (k : ℕ). k ≤ last_printable) (sym c.in-Ok-replay.ensures.arrival)
     (arrivals c.args.problem.now.network c.count-count.ensures.valid c.args.head.query.start.0 c.in-Ok-replay.trace.rides
     (omega (arith, c.requires.start)) c.in-Ok-replay.ensures.rides)
