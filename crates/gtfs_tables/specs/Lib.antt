@@ -4,6 +4,7 @@ pub mod Stops
 pub mod Routes
 pub mod Trips
 pub mod StopTimes
+pub mod StoredRows
 pub mod Frequencies
 pub mod Repeats
 pub mod Keys

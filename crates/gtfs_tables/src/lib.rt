@@ -11,6 +11,7 @@ mod routes;
 mod stop_order;
 mod stop_times;
 mod stops;
+mod stored_row;
 mod tables;
 mod times;
 mod timetable;

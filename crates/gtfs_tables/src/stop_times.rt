@@ -16,6 +16,7 @@ ghost use Rattle.gtfs_tables.specs.Bounds.{most_stop_times};
 use crate::forms::{read_allows, read_text, read_time_or_none};
 use crate::stop_order::StopOrder;
 use crate::stops::Stops;
+use crate::stored_row::StoredRow;
 use clock_text::read_whole;
 use csv_rows::{Column, FeedFault, Ids, Record, Records, Table, lack, read_name};
 use plan_model::{NoMemory, PlaceId};
@@ -312,7 +313,7 @@ fn read_timed_row(
 
 /// Takes the row of a record after those that were taken, and keeps its trip, or gives its fault.
 fn take_row(
-    timed: &mut Vec<TimedRow>,
+    timed: &mut Vec<StoredRow>,
     row: &Record<'_>,
     columns: TimeColumns,
     trips: &Ids,
@@ -348,7 +349,7 @@ fn take_row(
         Ok(()) => {}
         Err(_) => return Err(FeedFault::NoMemory),
     }
-    match timed.push(taken) {
+    match timed.push(StoredRow::of(taken)) {
         Ok(()) => Ok(()),
         Err(_) => Err(FeedFault::NoMemory),
     }
@@ -384,7 +385,7 @@ fn counted_fault<'a>(
 
 /// Room for the rows of a text of so many bytes, and at most for so many rows. Most rows take more bytes than are reckoned for
 /// one; where they take fewer, the room grows.
-fn room_for(alloc: Global, bytes: usize, most: u64) -> Result<Vec<TimedRow>, NoMemory>
+fn room_for(alloc: Global, bytes: usize, most: u64) -> Result<Vec<StoredRow>, NoMemory>
     ensures { IfOk result (λ timed. timed.items ≡ []) }
 {
     let rows = (bytes / BYTES_OF_A_ROW).min(most as usize);
@@ -403,7 +404,7 @@ fn rows_after<'a>(
     trips: &Ids,
     stops: &Stops,
     most: u64,
-) -> Result<Vec<TimedRow>, FeedFault>
+) -> Result<Vec<StoredRow>, FeedFault>
     requires columns { columns ≡ columns_of row.old }
     requires places { length stops.now.places.items ≡ length stops.now.ids }
     requires most { most ≤ most_stop_times }
@@ -453,7 +454,7 @@ pub(crate) fn read_timed_rows(
     trips: &Ids,
     stops: &Stops,
     most: u64,
-) -> Result<Vec<TimedRow>, FeedFault>
+) -> Result<Vec<StoredRow>, FeedFault>
     requires places { length stops.now.places.items ≡ length stops.now.ids }
     requires most { most ≤ most_stop_times }
     ensures rows { IfOk result (λ timed. timed.items

@@ -12,14 +12,15 @@ ghost use Rattle.gtfs_tables.specs.StopTimes.{repeated_time, order_fault, stop_t
 ghost use Rattle.gtfs_tables.specs.Visits.{AreStopTimes};
 
 use crate::keys::{first_backward, kept_keys, sorted_keys};
-use crate::stop_times::{StopRow, TimedRow, read_timed_rows};
+use crate::stop_times::{StopRow, read_timed_rows};
 use crate::stops::Stops;
+use crate::stored_row::StoredRow;
 use crate::visits::visits_of;
 use csv_rows::{FeedFault, Ids, Key, Table, first_repeat};
 use std::alloc::Global;
 
 /// The first row that has the trip and the sequence of an earlier one, by the keys of all rows in their order.
-fn check_once(rows: &[TimedRow], keys: &[Key]) -> Result<(), FeedFault>
+fn check_once(rows: &[StoredRow], keys: &[Key]) -> Result<(), FeedFault>
     requires { AreKeysOf false rows.now keys.now }
     ensures none { OnOk result (first_below (repeated_time rows.now) (length rows.now) ≡ None) }
     ensures fault { IfErr result (λ f. f ≢ FeedFault.NoMemory
@@ -34,7 +35,7 @@ fn check_once(rows: &[TimedRow], keys: &[Key]) -> Result<(), FeedFault>
 }
 
 /// The kept rows of each trip, or the first fault of the rows beside each other.
-fn in_order(alloc: Global, rows: &[TimedRow], trips: u32) -> Result<Vec<Vec<StopRow>>, FeedFault>
+fn in_order(alloc: Global, rows: &[StoredRow], trips: u32) -> Result<Vec<Vec<StopRow>>, FeedFault>
     requires { length rows.now ≤ most_stop_times }
     ensures size { IfOk result (λ visits. length visits.items ≡ trips) }
     ensures each { IfOk result (λ visits. (trip : ℕ) → trip < trips

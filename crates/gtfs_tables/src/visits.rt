@@ -8,7 +8,8 @@ ghost use Rattle.gtfs_tables.specs.Keys.{AreKeysOf};
 ghost use Rattle.gtfs_tables.specs.StopTimes.{row_at, is_kept, repeated_time};
 ghost use Rattle.gtfs_tables.specs.Visits.{visit_or_none, visit_at, AreStopTimes, IsSpanOf};
 
-use crate::stop_times::{StopRow, TimedRow};
+use crate::stop_times::StopRow;
+use crate::stored_row::StoredRow;
 use csv_rows::Key;
 use plan_model::NoMemory;
 use std::alloc::Global;
@@ -29,12 +30,12 @@ fn end_of(keys: &[Key], start: usize, trip: u32) -> usize
 }
 
 /// A kept row.
-fn visit_at(rows: &[TimedRow], row: u32) -> StopRow
+fn visit_at(rows: &[StoredRow], row: u32) -> StopRow
     requires inside { row < length rows.now }
     requires kept { is_kept rows.now row ≡ true }
     ensures { result ≡ visit_or_none (row_at rows.now row).visit }
 {
-    match rows[row as usize].visit {
+    match rows[row as usize].visit() {
         Some(visit) => visit,
         None => unreachable!(),
     }
@@ -43,7 +44,7 @@ fn visit_at(rows: &[TimedRow], row: u32) -> StopRow
 /// The kept rows of the keys from one place to another.
 fn visits_between(
     alloc: Global,
-    rows: &[TimedRow],
+    rows: &[StoredRow],
     keys: &[Key],
     start: usize,
     end: usize,
@@ -64,7 +65,7 @@ fn visits_between(
 /// The kept rows of each trip, in rising order of their sequences.
 pub(crate) fn visits_of(
     alloc: Global,
-    rows: &[TimedRow],
+    rows: &[StoredRow],
     keys: &[Key],
     trips: u32,
 ) -> Result<Vec<Vec<StopRow>>, NoMemory>

@@ -1,9 +1,10 @@
-use Rattle.std.proofs.Common.{◌≡◌, false, ap, refl, arith, subst, ℕ, List, [], ◌∷◌, ◌++◌, length, ◌+◌, ◌∙◌}
-use Rattle.std.proofs.lemmas.List.{length_push}
+use Rattle.std.proofs.Common.{◌≡◌, false, ap, ap₂, refl, arith, subst, ℕ, List, [], ◌∷◌, ◌++◌, length, ◌+◌, ◌<◌, ◌∙◌}
+use Rattle.std.proofs.lemmas.List.{length_push, get_or_default}
 use Rattle.std.proofs.lemmas.List.Sorted.{length_permutation}
 use Rattle.csv_rows.specs.declared.keys.Key.{Key}
 use Rattle.csv_rows.proofs.SortLemmas.{AreKeys, key_of, sorted_are, keys-none, keys-taken}
-use Rattle.gtfs_tables.specs.StopTimes.{trip_of, sequence_of}
+use Rattle.gtfs_tables.specs.declared.stop_times.TimedRow.{TimedRow}
+use Rattle.gtfs_tables.specs.StopTimes.{trip_of, sequence_of, no_row}
 use Rattle.gtfs_tables.specs.Keys.{is_taken}
 use Rattle.gtfs_tables.proofs.keys.sorted_keys.Goals as goal
 
@@ -24,8 +25,14 @@ loop-i-preserved c =
     let i = c.loop-i.i in
     let old = c.loop-i.keys.items in
     let new = c.push.new.self.items in
+    let inside : i < length rows = omega arith in
+    let trip : c.trip.result ≡ trip_of rows i =
+    c.trip.ensures ∙ ap (λ (r : TimedRow). r.trip) (c.index-rows-i.is ∙ get_or_default rows i c.index-rows-i.result no_row inside) in
+    let sequence : c.sequence.result ≡ sequence_of rows i =
+    c.sequence.ensures ∙ ap (λ (r : TimedRow). r.sequence) (c.index-rows-i-in-loop-i.is ∙ get_or_default rows i c.index-rows-i-in-loop-i.result no_row inside) in
     let size = pushed old new _ c.in_ok-push.ensures.items in (
-      keys-taken (is_taken false rows) (trip_of rows) (sequence_of rows) i old new _ c.loop-i.invariant.0 refl c.in_ok-push.ensures.items refl,
+      keys-taken (is_taken false rows) (trip_of rows) (sequence_of rows) i old new _ c.loop-i.invariant.0 refl c.in_ok-push.ensures.items
+          (ap₂ (λ (group order : ℕ). record { group = group; order = order; row = i }) trip sequence),
       omega (arith, size, c.loop-i.invariant.1),
     )
 
