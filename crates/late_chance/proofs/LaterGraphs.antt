@@ -1,5 +1,5 @@
 -- A graph for a view, with all moments greater by the shift, is one for the network.
-use Rattle.std.proofs.Common.{◌≡◌, ◌≢◌, ℕ, zero, suc, ◌+◌, ◌-◌, ◌<◌, ◌≤◌, Bool, true, false, Option, Some, None, List, [], ◌∷◌, length, map, All, Contains, refl, sym}
+use Rattle.std.proofs.Common.{◌≡◌, ℕ, zero, suc, ◌+◌, ◌<◌, ◌≤◌, Bool, true, false, Option, Some, None, List, [], ◌∷◌, length, map, All, Contains, refl, sym}
 use Rattle.std.proofs.Common.{ap, ◌∙◌, subst, inl, inr, ⊎_elim, arith}
 use Rattle.std.specs.Prelude.{◌==◌, nat_le, if◌then◌else◌, AllPairs, MatchOption}
 use Rattle.std.proofs.lemmas.Bool.{cases_lt}
@@ -9,12 +9,12 @@ use Rattle.plan_model.specs.declared.model.Outcome.{Outcome}
 use Rattle.plan_model.specs.declared.model.Leg.{Leg}
 use Rattle.plan_model.specs.declared.model.Query.{Query}
 use Rattle.plan_model.specs.Parts.{Parts}
-use Rattle.plan_model.specs.Network.{IsValid, count, from_of, dep_of, arr_of, outcomes}
-use Rattle.plan_model.specs.Ways.{way_of, limit_of}
+use Rattle.plan_model.specs.Network.{from_of, dep_of, outcomes}
+use Rattle.plan_model.specs.Ways.{limit_of}
 use Rattle.plan_model.specs.Tree.{Tree, Done, Ride, Stuck, Kids, Nil, Kid}
-use Rattle.plan_model.specs.Strategy.{IsLeg, Safe, SafeAll, SafeStart, IsSafeFor}
-use Rattle.plan_model.specs.Unfold.{end_of, arrival_of, outcomes_of, by_place, unfolded}
-use Rattle.plan_model.specs.View.{IsView, later_by, all_later_by}
+use Rattle.plan_model.specs.Strategy.{Safe, SafeAll, SafeStart, IsSafeFor}
+use Rattle.plan_model.specs.Unfold.{end_of, arrival_of, by_place}
+use Rattle.plan_model.specs.View.{later_by, all_later_by}
 use Rattle.plan_model.proofs.Boarding.{limit_of-some, way_takes, earlier_by-is}
 use Rattle.plan_model.proofs.Views.{seen, leg_there, departs, same_way, start_there}
 use Rattle.plan_model.proofs.LaterTrees.{same_end, same_arrival, same_row, unfold_from-later}

@@ -1,9 +1,8 @@
 -- The least chance of being late in a view is that in the network.
-use Rattle.std.proofs.Common.{◌≡◌, ℕ, ◌+◌, ◌-◌, ◌≤◌, arith, Some, sym, subst}
+use Rattle.std.proofs.Common.{◌≡◌, ℕ, ◌+◌, arith, Some, sym, subst}
 use Rattle.interval_fixed.specs.Interval.{Interval}
 use Rattle.plan_model.specs.declared.model.Query.{Query}
 use Rattle.plan_model.specs.Parts.{Parts}
-use Rattle.plan_model.specs.Network.{count}
 use Rattle.plan_model.specs.Bounds.{certainty}
 use Rattle.plan_model.specs.Tree.{Tree}
 use Rattle.plan_model.specs.Strategy.{IsSafeFor}
@@ -13,7 +12,7 @@ use Rattle.plan_model.proofs.Views.{start_back}
 use Rattle.plan_model.proofs.Later.{below-later, covers-later, late-later}
 use Rattle.plan_graph.specs.declared.PlanGraph.{PlanGraph}
 use Rattle.plan_graph.specs.Unfold.{unfold_plan}
-use Rattle.late_chance.specs.LaterGraphs.{later_graph, later_query, IsShown, LaterAlike}
+use Rattle.late_chance.specs.LaterGraphs.{later_graph, later_query, IsShown}
 use Rattle.late_chance.specs.Punctual.{IsPunctual, PunctualAlike}
 use Rattle.late_chance.proofs.LaterGraphs.{alike}
 

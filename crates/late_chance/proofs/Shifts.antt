@@ -1,11 +1,11 @@
 -- From a graph over the network that is seen for a promise to one over the network.
-use Rattle.std.proofs.Common.{◌≡◌, ℕ, ◌+◌, ◌-◌, ◌<◌, ◌≤◌, ◌^◌, All, get_or, Some, subst, sym, refl, arith}
+use Rattle.std.proofs.Common.{◌≡◌, ℕ, ◌+◌, ◌-◌, ◌<◌, ◌≤◌, ◌^◌, All, get_or, Some, subst, refl, arith}
 use Rattle.interval_fixed.specs.Interval.{Interval}
 use Rattle.plan_model.specs.declared.model.Query.{Query}
 use Rattle.plan_model.specs.declared.model.PlaceId.{PlaceId}
 use Rattle.plan_model.specs.Bounds.{end_of_arrivals, end_of_time}
 use Rattle.plan_model.specs.Parts.{Parts}
-use Rattle.plan_model.specs.Network.{IsValid, dep_of}
+use Rattle.plan_model.specs.Network.{IsValid}
 use Rattle.plan_model.specs.Tree.{Tree}
 use Rattle.plan_model.specs.Strategy.{IsSafeFor}
 use Rattle.plan_model.specs.View.{later_by}
@@ -15,8 +15,7 @@ use Rattle.plan_graph.specs.declared.GraphRow.{GraphRow}
 use Rattle.plan_graph.specs.declared.PlanGraph.{PlanGraph}
 use Rattle.plan_graph.specs.Tidy.{IsTidy, IsFitRow}
 use Rattle.late_chance.specs.Chances.{promised, seconds_per_week}
-use Rattle.late_chance.specs.LaterGraphs.{later_graph, later_query, sooner_query, IsShown}
-use Rattle.late_chance.specs.SeenFrom.{shifted_parts}
+use Rattle.late_chance.specs.LaterGraphs.{later_graph, later_query, IsShown}
 use Rattle.late_chance.specs.Punctual.{IsPunctual, PunctualAlike, TellsOfNetwork, shift_for, seen_for, asked_for}
 use Rattle.late_chance.proofs.SeenFrom.{valid, view}
 use Rattle.late_chance.proofs.Punctual.{punctual_alike}

@@ -1,5 +1,5 @@
 -- The network as it is seen from a start on, with all moments less by a shift.
-use Rattle.std.specs.Prelude.{ℕ, ◌-◌, List, map, nat_le, ◌&&◌}
+use Rattle.std.specs.Prelude.{ℕ, ◌-◌, map, nat_le, ◌&&◌}
 use Rattle.plan_model.specs.declared.model.Connection.{Connection}
 use Rattle.plan_model.specs.Parts.{Parts}
 

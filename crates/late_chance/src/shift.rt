@@ -1,5 +1,6 @@
 //! A network as it is seen from a start on, and graphs by the shift later.
 ghost use Rattle.std.specs.Prelude.{◌≡◌, ℕ, ◌+◌, ◌-◌, ◌^◌, ◌<◌, ◌≤◌, All, IfOk, map};
+ghost use Rattle.plan_model.specs.Network.{IsValid};
 ghost use Rattle.plan_model.specs.View.{IsView};
 ghost use Rattle.late_chance.specs.Chances.{seconds_per_week};
 ghost use Rattle.late_chance.specs.LaterGraphs.{later_row, later_table, later_graph, sooner_query};
@@ -87,9 +88,10 @@ fn seen_connections(
     start: Moment,
     shift: u64,
 ) -> Result<List<Connection>, NoMemory>
-    ensures { IfOk result (λ seen. seen ≡ map (shifted_connection shift start.0) network.now.connections) }
+    ensures seen { IfOk result (λ seen. seen ≡ map (shifted_connection shift start.0) network.now.connections) }
+    ensures valid { IsValid network.now }
 {
-    let mut seen = Vec::new(alloc);
+    let mut seen: Vec<Connection> = Vec::with_capacity(alloc, network.count() as usize)?;
     for id in 0..network.count() {
         let connection = seen_connection(network.get(ConnectionId(id)), start, shift);
         seen.push(connection)?;
@@ -112,9 +114,7 @@ pub fn shifted(
     ensures parts { IfOk result (λ seen. seen ≡ shifted_parts (promise.0 - seconds_per_week) start.0 network.now) }
     ensures view { IfOk result (λ seen. IsView seen network.now (promise.0 - seconds_per_week) start.0) }
 {
-    let _valid = network.count();
     let shift = promise.0 - SECONDS_PER_WEEK;
     let connections = seen_connections(alloc, network, start, shift)?;
-    let copy = network.try_clone(alloc)?;
-    Ok(copy.with_connections(connections))
+    network.try_clone_with(alloc, connections)
 }

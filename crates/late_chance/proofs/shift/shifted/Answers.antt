@@ -1,17 +1,18 @@
-use Rattle.std.proofs.Common.{◌≡◌, ◌-◌, ◌+◌, ◌≤◌, arith, refl}
+use Rattle.std.proofs.Common.{◌≡◌, ◌-◌, arith}
+use Rattle.std.proofs.lemmas.Result.{IfOk-weaker}
+use Rattle.plan_model.specs.View.{IsView}
+use Rattle.late_chance.specs.Chances.{seconds_per_week}
 use Rattle.late_chance.proofs.SeenFrom.{valid, view}
 use Rattle.late_chance.proofs.shift.shifted.Goals as goal
-use Rattle.late_chance.specs.Chances.{seconds_per_week}
 
-pub with_connections-requires : goal.with_connections-requires
-with_connections-requires c =
-    let a = c.in_ok-connections.ensures in
-    let b = c.in_ok-copy.ensures in
-    rw (a, b) (valid (c.args.promise.0 - seconds_per_week) c.args.start.0 c.args.network.now c.count-valid.ensures.valid)
+pub try_clone_with-requires : goal.try_clone_with-requires
+try_clone_with-requires c =
+    rw (c.in_ok-connections.ensures.seen) (valid (c.args.promise.0 - seconds_per_week) c.args.start.0 c.args.network.now c.seen_connections.ensures.valid)
 
 pub returns-clause-view : goal.returns-clause-view
 returns-clause-view c =
-    let told = c.with_connections.ensures in
-    let a = c.in_ok-connections.ensures in
-    let b = c.in_ok-copy.ensures in
-    rw (told, a, b) (view (c.args.promise.0 - seconds_per_week) c.args.start.0 c.args.network.now (omega arith))
+    let shift = c.args.promise.0 - seconds_per_week in
+    let a = c.in_ok-connections.ensures.seen in
+    IfOk-weaker c.try_clone_with.result (λ copy. copy ≡ record c.args.network.now { connections = c.in_ok-connections.connections })
+    (λ seen. IsView seen c.args.network.now shift c.args.start.0)
+    (λ seen told. rw (told, a) (view shift c.args.start.0 c.args.network.now (omega arith))) c.try_clone_with.ensures
