@@ -32,3 +32,13 @@ returns c =
     let own : c.index-as_slice-start.result ≡ slice_index_or list leg.exit.0 no_outlook = c.index-as_slice-start.is ∙ at_default list leg.exit.0 c.index-as_slice-start.result no_outlook within in
     let here = subst (λ o. IsOutlook n q o tree) (sym own) at in
     subst (λ t. IsOutlook n q c.index-as_slice-start.result t) (sym (unfold-start n q graph leg start.differ c.in-Some.is)) here
+
+pub bounds-as_slice-start : goal.bounds-as_slice-start
+bounds-as_slice-start c =
+    let there = (start_fits c.args.network.now c.args.query.now c.args.graph.now c.in-Some.start c.requires.fit c.in-Some.is).is_leg.exit in
+    let kept = c.fill.new.outlooks in
+    let many : c.in_ok-outlooks.outlooks.len ≡ length kept = omega (arith, c.in_ok-outlooks.ensures.len, c.count.ensures.count, c.fill.ensures.as_many) in
+    let same : c.as_slice.result.now ≡ kept = c.as_slice.ensures.value ∙ take-append-le c.in_ok-outlooks.outlooks.len kept
+    (drop (length kept) c.in_ok-outlooks.outlooks.items) (omega (arith, many)) ∙ take_all c.in_ok-outlooks.outlooks.len kept (omega (arith, many)) in
+    let size = ap (λ (outlooks : List Outlook). length outlooks) same in
+    omega (arith, size, c.fill.ensures.as_many, there)

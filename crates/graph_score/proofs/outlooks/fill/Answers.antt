@@ -44,3 +44,6 @@ returns-clause-right g c =
     let n = c.args.network.now in
     told_last n c.requires.valid c.args.query.now c.args.graph.now.tables c.requires.fit (g.B.BackwardOrder.rest c.args.order.now n) c.requires.whole
     (g.B.BackwardOrder.rest c.loop-id.order n) c.loop-id.outlooks (c.in_default.ensures.none.0 refl) c.loop-id.invariant.told
+
+pub returns-clause-as_many : goal.returns-clause-as_many
+returns-clause-as_many g c = c.loop-id.invariant.told.as_many
