@@ -1,4 +1,4 @@
-use Rattle.std.proofs.Common.{◌≡◌, ◌∙◌, ap, arith}
+use Rattle.std.proofs.Common.{◌∙◌, ap, arith}
 use Rattle.stop_profile.proofs.Gaps.{written_back}
 use Rattle.meat_scan.specs.Tables.{Tables, capacity_at}
 use Rattle.meat_scan.proofs.emptied.Goals as goal
