@@ -55,7 +55,8 @@ module _ (w : Window) (rows : List StopRow) (o : Origin) (ordered : DepartInOrde
   none_early early = steps_none w rows o (length rows - 1) (λ k less. holds_early w (departs rows o k) (omega (arith, ints, early, ordered k (length rows - 1 - 1) (omega arith) (omega arith))))
 
 -- where even the end of times is early
-pub none_early_all : (w : Window) (rows : List StopRow) (o : Origin) → ((k : ℕ) → k < length rows → (kept_at rows k).departure < end_of_times) → moment_of o end_of_times <ℤ pos w.start → steps_of w rows o ≡ []
+pub none_early_all : (w : Window) (rows : List StopRow) (o : Origin) → ((k : ℕ) → k < length rows → (kept_at rows k).departure < end_of_times)
+    → moment_of o end_of_times <ℤ pos w.start → steps_of w rows o ≡ []
 none_early_all w rows o few early = steps_none w rows o (length rows - 1) (λ k less. holds_early w (departs rows o k) (omega (arith, ints, early, few k (omega arith))))
 
 -- a row that is left in the window is a ride

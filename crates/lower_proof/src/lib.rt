@@ -27,6 +27,8 @@ pub use reader::{ProofFault, read_text};
 use std::alloc::Global;
 use walk::{departures_by, last_departure};
 
+const NANOS_PER_SECOND: u64 = 1_000_000_000;
+
 /// A lower bound for each connection that has one, in nanoseconds since 1970-01-01.
 #[derive(Drop)]
 pub struct LowerBounds {
@@ -78,7 +80,7 @@ fn arrived(deadline: Moment, moment: Moment) -> Option<u64>
     ensures { result ≡ arrived_by deadline.0 moment.0 }
 {
     if moment <= deadline {
-        Some(1_000_000_000 * moment.0)
+        Some(NANOS_PER_SECOND * moment.0)
     } else {
         None
     }
