@@ -1,5 +1,5 @@
 //! The rows of a cut file by the numbers of their names.
-ghost use Rattle.std.specs.Prelude.{◌≡◌, ◌≢◌, ℕ, ◌+◌, ◌-◌, ◌<◌, ◌≤◌, ◌^◌, length, slice_index_or, Some, None, Ok, Err, OnOk, IfOk, IfErr, IfSome};
+ghost use Rattle.std.specs.Prelude.{◌≡◌, ◌≢◌, ℕ, ◌+◌, ◌-◌, ◌<◌, ◌≤◌, ◌^◌, [], length, slice_index_or, Some, None, Ok, Err, OnOk, IfOk, IfErr, IfSome};
 ghost use Rattle.csv_rows.specs.declared.columns.Column.TheVariants.{Class, Run, Step, From, To, Dep, Arr, Board, Exit, Change};
 ghost use Rattle.csv_rows.specs.First.{first_below};
 ghost use Rattle.csv_rows.specs.Tables.{row_count, field};
@@ -190,6 +190,43 @@ fn numbered(
     })
 }
 
+/// Takes the rows, where each is of its form, and the names of their numbers.
+fn take_rows(
+    rows: &Rows,
+    columns: &Columns,
+    names: &mut Names,
+    cut: &mut Vec<CutRow>,
+) -> Result<(), CutFault>
+    requires columns { AreColumns rows.now columns.now }
+    requires few { row_count rows.now ≤ 2 ^ 23 }
+    requires no_runs { names.old.runs ≡ [] }
+    requires no_places { names.old.places ≡ [] }
+    requires no_rows { cut.old.items ≡ [] }
+    ensures none { OnOk result (first_below (bad_field rows.now) (row_count rows.now) ≡ None) }
+    ensures size { OnOk result (length cut.new.items ≡ row_count rows.now) }
+    ensures each { OnOk result ((k : ℕ) (d : CutRow) → k < row_count rows.now
+        → IsNumbered names.new.runs names.new.places (row rows.now k) (slice_index_or cut.new.items k d)) }
+    ensures runs { OnOk result (names.new.runs ≡ run_names rows.now (row_count rows.now)) }
+    ensures places { OnOk result (names.new.places ≡ place_names rows.now (row_count rows.now)) }
+    ensures err { IfErr result (λ f. f ≢ CutFault.NoMemory
+        → first_below (bad_field rows.now) (row_count rows.now) ≡ Some f) }
+{
+    let mut before: Option<CutRow> = None;
+    for i in 0..rows.count() {
+        match read_row(rows, i, columns) {
+            Err(column) => return Err(CutFault::BadField(rows.line(i), column)),
+            Ok(row) => match numbered(names, &row, before) {
+                Err(_) => return Err(CutFault::NoMemory),
+                Ok(row) => match cut.push(row) {
+                    Err(_) => return Err(CutFault::NoMemory),
+                    Ok(()) => before = Some(row),
+                },
+            },
+        }
+    }
+    Ok(())
+}
+
 /// The rows, where each is of its form.
 pub(crate) fn read_rows(
     alloc: Global,
@@ -209,18 +246,6 @@ pub(crate) fn read_rows(
 {
     let mut names = Names::with_key(alloc, rows.key());
     let mut cut: Vec<CutRow> = Vec::new(alloc);
-    let mut before: Option<CutRow> = None;
-    for i in 0..rows.count() {
-        match read_row(rows, i, columns) {
-            Err(column) => return Err(CutFault::BadField(rows.line(i), column)),
-            Ok(row) => match numbered(&mut names, &row, before) {
-                Err(_) => return Err(CutFault::NoMemory),
-                Ok(row) => match cut.push(row) {
-                    Err(_) => return Err(CutFault::NoMemory),
-                    Ok(()) => before = Some(row),
-                },
-            },
-        }
-    }
+    take_rows(rows, columns, &mut names, &mut cut)?;
     Ok(NumberedRows { names, rows: cut })
 }

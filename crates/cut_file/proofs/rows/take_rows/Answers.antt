@@ -8,19 +8,19 @@ use Rattle.cut_file.specs.Faults.{bad_field}
 use Rattle.cut_file.specs.Cut.{add_new}
 use Rattle.cut_file.proofs.NumberFacts.{length_add}
 use Rattle.cut_file.proofs.RowFacts.{bad_here, good_here, run_names-zero, place_names-zero, run_names-next, place_names-next, each_next}
-use Rattle.cut_file.proofs.rows.read_rows.Goals as goal
+use Rattle.cut_file.proofs.rows.take_rows.Goals as goal
 
 pub loop-i-init : goal.loop-i-init
 loop-i-init c =
     let t = c.args.rows.now in
     record {
       none = first-zero (bad_field t);
-      size = ap length c.new-cut.ensures.items;
+      size = ap length c.requires.no_rows;
       each = λ k d l. absurd (omega arith);
-      runs = c.with_key-names.ensures.runs ∙ sym (run_names-zero t);
-      places = c.with_key-names.ensures.places ∙ sym (place_names-zero t);
-      few_runs = omega (arith, ap length c.with_key-names.ensures.runs);
-      few_places = omega (arith, ap length c.with_key-names.ensures.places);
+      runs = c.requires.no_runs ∙ sym (run_names-zero t);
+      places = c.requires.no_places ∙ sym (place_names-zero t);
+      few_runs = omega (arith, ap length c.requires.no_runs);
+      few_places = omega (arith, ap length c.requires.no_places);
       run_before = tt;
       end_before = tt;
     }
