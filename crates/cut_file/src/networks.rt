@@ -73,10 +73,7 @@ fn longest_of(alloc: Global, rows: &[CutRow], places: u32) -> Result<Vec<u32>, N
     ensures each { IfOk result (λ times. (p : ℕ) → p < places
         → slice_index times.items p ≡ longest rows.now (length rows.now) p) }
 {
-    let mut times: Vec<u32> = Vec::new(alloc);
-    for _ in 0..places {
-        times.push(0)?;
-    }
+    let mut times: Vec<u32> = vec![in alloc; 0; places as usize]?;
     for i in 0..rows.len() {
         let place = rows[i].from as usize;
         let seconds = seconds_of(rows[i].change);

@@ -393,12 +393,7 @@ fn reserve_profiles<V: Score>(alloc: Global, room: &[u32]) -> Result<Vec<Profile
 fn reserve_kids<V: Score>(alloc: Global) -> Result<Vec<V>, NoMemory>
     ensures { IfOk result (λ kids. length kids.items ≡ 64) }
 {
-    let mut kids = Vec::new(alloc);
-    for _ in 0..64u32 {
-        if kids.push(V::arrive(Moment(0))).is_err() {
-            return Err(NoMemory);
-        }
-    }
+    let kids = vec![in alloc; V::arrive(Moment(0)); 64]?;
     Ok(kids)
 }
 

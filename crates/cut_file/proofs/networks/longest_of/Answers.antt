@@ -1,11 +1,15 @@
-use Rattle.std.proofs.Common.{◌∙◌, sym, ap₂, arith, max, length-set}
-use Rattle.std.proofs.lemmas.List.{get_or_default}
+use Rattle.std.proofs.Common.{◌∙◌, sym, ap, ap₂, arith, max, get_or, length-set}
+use Rattle.std.proofs.lemmas.List.{get_or_default, get_or-replicate}
 use Rattle.cut_file.specs.Keys.{cut_row}
 use Rattle.cut_file.proofs.ChangeFacts.{longest-zero, longest_next}
 use Rattle.cut_file.proofs.networks.longest_of.Goals as goal
 
 pub loop-i-init : goal.loop-i-init
-loop-i-init c = (omega (arith, c.loop.invariant.0), λ p l. c.loop.invariant.1 p (omega arith) ∙ sym (longest-zero c.args.rows.now p))
+loop-i-init c =
+    let zeros = c.in_ok-times.ensures.items_if_clones_equal (λ y same. same) in (
+      omega (arith, c.in_ok-times.ensures.len),
+      λ p l. ap (λ times. get_or times p 0) zeros ∙ get_or-replicate c.args.places p 0 0 l ∙ sym (longest-zero c.args.rows.now p),
+    )
 
 pub loop-i-preserved : goal.loop-i-preserved
 loop-i-preserved c =
