@@ -3,7 +3,7 @@ use Rattle.std.specs.Prelude.{ℕ, List, [], ◌∷◌, Option, Some, None, Resu
 use Rattle.command_line.specs.declared.options.Command.{Command}
 use Rattle.command_line.specs.declared.options.Command.TheVariants as command
 use Rattle.command_line.specs.declared.options.OptionName.{OptionName}
-use Rattle.command_line.specs.declared.options.OptionName.TheVariants.{Cut, Feed, Delays, From, To, At, Alpha, Horizon, Graph, Late, Size, Proof, By, Until, Last}
+use Rattle.command_line.specs.declared.options.OptionName.TheVariants.{Cut, Feed, Delays, From, To, Alpha, Horizon, Graph, Late, Size, Proof, Until, Last}
 use Rattle.command_line.specs.declared.job.WordsFault.{WordsFault}
 use Rattle.command_line.specs.declared.job.WordsFault.TheVariants.{Line, UnknownCommand, NotUsed, Missing, BadValue}
 use Rattle.command_line.specs.Options.{all_options, option_number, command_named}

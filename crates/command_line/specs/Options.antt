@@ -1,5 +1,5 @@
 -- The commands and the options by their words.
-use Rattle.std.specs.Prelude.{ℕ, List, [], ◌∷◌, Option, Some, None, if◌then◌else◌, codes, find, ◌==◌}
+use Rattle.std.specs.Prelude.{ℕ, List, [], ◌∷◌, Option, codes, find, ◌==◌}
 use Rattle.std.specs.Option.{option_map_or}
 use Rattle.std.specs.Str.{bytes_eq}
 use Rattle.command_line.specs.declared.options.Command.{Command}
@@ -59,17 +59,22 @@ option_word k = option_map_or option_name (option_numbered k) []
 abbrev pub option_named : List ℕ → Option OptionName
 option_named word = find (λ option. bytes_eq word (option_name option)) all_options
 
+-- the word of a command
+abbrev pub command_word : Command → List ℕ
+command_word Safe = codes "safe"
+command_word Expand = codes "expand"
+command_word Plan = codes "plan"
+command_word Replay = codes "replay"
+command_word Certify = codes "certify"
+command_word Check = codes "check"
+command_word Punctual = codes "punctual"
+command_word Departures = codes "departures"
+command_word Latest = codes "latest"
+command_word Sample = codes "sample"
+
+abbrev pub all_commands : List Command
+all_commands = Safe ∷ Expand ∷ Plan ∷ Replay ∷ Certify ∷ Check ∷ Punctual ∷ Departures ∷ Latest ∷ Sample ∷ []
+
 -- the command that a word names
 abbrev pub command_named : List ℕ → Option Command
-command_named word =
-    if bytes_eq word (codes "safe") then Some Safe
-    else if bytes_eq word (codes "expand") then Some Expand
-    else if bytes_eq word (codes "plan") then Some Plan
-    else if bytes_eq word (codes "replay") then Some Replay
-    else if bytes_eq word (codes "certify") then Some Certify
-    else if bytes_eq word (codes "check") then Some Check
-    else if bytes_eq word (codes "punctual") then Some Punctual
-    else if bytes_eq word (codes "departures") then Some Departures
-    else if bytes_eq word (codes "latest") then Some Latest
-    else if bytes_eq word (codes "sample") then Some Sample
-    else None
+command_named word = find (λ command. bytes_eq word (command_word command)) all_commands

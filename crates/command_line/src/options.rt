@@ -1,6 +1,6 @@
 //! The commands and the options by their words.
 ghost use Rattle.std.specs.Prelude.{◌≡◌, Some};
-ghost use Rattle.command_line.specs.Options.{option_name, option_number, option_word, option_numbered, option_named, command_named};
+ghost use Rattle.command_line.specs.Options.{option_name, option_number, option_word, option_numbered, option_named, command_word, command_named};
 ghost use Rattle.command_line.specs.Uses.{own_of, use_of, on_journey, on_made};
 
 /// What the program can be asked for.
@@ -62,6 +62,20 @@ pub enum OptionName {
     /// The last moment at which departures are looked for.
     Last,
 }
+
+/// All commands.
+const COMMANDS: [Command; 10] = [
+    Command::Safe,
+    Command::Expand,
+    Command::Plan,
+    Command::Replay,
+    Command::Certify,
+    Command::Check,
+    Command::Punctual,
+    Command::Departures,
+    Command::Latest,
+    Command::Sample,
+];
 
 /// The options by their numbers.
 pub(crate) const OPTIONS: [OptionName; 15] = [
@@ -126,37 +140,28 @@ impl Command {
     pub(crate) fn named(word: &str) -> Option<Command>
         ensures { result ≡ command_named word.now }
     {
-        if word == "safe" {
-            return Some(Command::Safe);
+        COMMANDS
+            .iter()
+            .copied()
+            .find(|command| word == command.word())
+    }
+
+    /// The word of a command.
+    fn word(self) -> &'static str
+        ensures { result.now ≡ command_word self }
+    {
+        match self {
+            Command::Safe => "safe",
+            Command::Expand => "expand",
+            Command::Plan => "plan",
+            Command::Replay => "replay",
+            Command::Certify => "certify",
+            Command::Check => "check",
+            Command::Punctual => "punctual",
+            Command::Departures => "departures",
+            Command::Latest => "latest",
+            Command::Sample => "sample",
         }
-        if word == "expand" {
-            return Some(Command::Expand);
-        }
-        if word == "plan" {
-            return Some(Command::Plan);
-        }
-        if word == "replay" {
-            return Some(Command::Replay);
-        }
-        if word == "certify" {
-            return Some(Command::Certify);
-        }
-        if word == "check" {
-            return Some(Command::Check);
-        }
-        if word == "punctual" {
-            return Some(Command::Punctual);
-        }
-        if word == "departures" {
-            return Some(Command::Departures);
-        }
-        if word == "latest" {
-            return Some(Command::Latest);
-        }
-        if word == "sample" {
-            return Some(Command::Sample);
-        }
-        None
     }
 
     /// What a command about a journey does with the options that not each of them takes.
