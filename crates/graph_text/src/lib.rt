@@ -52,12 +52,10 @@ fn text_by_ride(
         printer.now.names.now printer.now.version head.now graph.now) }
 {
     let mut writer = new_writer(alloc);
-    printer.put_head(&mut writer, b"expanded", head)?;
-    if head.query.source != head.query.target {
-        printer.put_start(&mut writer, graph.start)?;
-        printer.put_rides(&mut writer, graph.rides.as_slice())?;
+    match printer.put_by_ride(&mut writer, graph, head) {
+        Ok(()) => text_of(writer),
+        Err(_) => Err(NoMemory),
     }
-    text_of(writer)
 }
 
 /// The text of a graph by ride: a first row, the start leg, and for each ride a row and one for
@@ -114,12 +112,10 @@ fn text_by_place(
         printer.now.names.now printer.now.version head.now graph.now) }
 {
     let mut writer = new_writer(alloc);
-    printer.put_head(&mut writer, b"graph", head)?;
-    if head.query.source != head.query.target {
-        printer.put_start(&mut writer, graph.start)?;
-        printer.put_tables(&mut writer, graph.tables.as_slice())?;
+    match printer.put_by_place(&mut writer, graph, head) {
+        Ok(()) => text_of(writer),
+        Err(_) => Err(NoMemory),
     }
-    text_of(writer)
 }
 
 /// The text of a graph by place: a first row, the start leg, and for each place a row and one for

@@ -3,17 +3,17 @@ ghost use Rattle.std.specs.Prelude.{◌≡◌, ◌<◌, ◌++◌, [], map, take,
 ghost use Rattle.plan_model.specs.NameLists.{NamesFit};
 ghost use Rattle.plan_model.specs.Network.{count};
 ghost use Rattle.plan_graph.specs.Ready.{IsLegOf};
-ghost use Rattle.graph_text.specs.Texts.{leg_row, head_row, start_text, rows_text, ride_text, rides_text, place_row, table_text, tables_text};
+ghost use Rattle.graph_text.specs.Texts.{leg_row, head_row, start_text, rows_text, ride_text, rides_text, place_row, table_text, tables_text, expanded_text_in, graph_text_in};
 ghost use Rattle.printed_rows.specs.Writers.{row_of_fields, written, IsBetweenRows};
 ghost use Rattle.graph_text.specs.Versions.{width_of};
-ghost use Rattle.graph_text.specs.Printable.{IsPrintableQuery, IsPrintableRow, IsPrintableRide, IsPrintableTable};
+ghost use Rattle.graph_text.specs.Printable.{IsPrintableQuery, IsPrintableRow, IsPrintableRide, IsPrintableTable, IsPrintable, IsPrintablePlan};
 
 use crate::Head;
 use crate::version::{Version, digit, width};
 use clock_text::{write_moment, write_nanos};
 use csv::Writer;
 use itoa::Buffer;
-use plan_graph::{GraphRow, PlaceTable, Ride};
+use plan_graph::{ExpandedGraph, GraphRow, PlaceTable, PlanGraph, Ride};
 use plan_model::{Leg, Names, Network, NoMemory, PlaceId};
 
 /// What the rows of a graph tell of, a network with the names of its places and runs, and how.
@@ -79,7 +79,7 @@ fn put_leg<'a>(
 
 impl<'a> Printer<'a> {
     /// Writes the first row.
-    pub(crate) fn put_head(
+    fn put_head(
         &self,
         writer: &mut Writer<Vec<u8>>,
         kind: &[u8],
@@ -116,11 +116,7 @@ impl<'a> Printer<'a> {
     }
 
     /// Writes the row of the start leg.
-    pub(crate) fn put_start(
-        &self,
-        writer: &mut Writer<Vec<u8>>,
-        start: Option<Leg>,
-    ) -> Result<(), NoMemory>
+    fn put_start(&self, writer: &mut Writer<Vec<u8>>, start: Option<Leg>) -> Result<(), NoMemory>
         requires between { IsBetweenRows writer.old }
         requires names { NamesFit self.now.names.now self.now.network.now }
         requires leg { IfSome start (IsLegOf self.now.network.now) }
@@ -197,11 +193,7 @@ impl<'a> Printer<'a> {
     }
 
     /// Writes the rows of all rides.
-    pub(crate) fn put_rides(
-        &self,
-        writer: &mut Writer<Vec<u8>>,
-        rides: &[Ride],
-    ) -> Result<(), NoMemory>
+    fn put_rides(&self, writer: &mut Writer<Vec<u8>>, rides: &[Ride]) -> Result<(), NoMemory>
         requires between { IsBetweenRows writer.old }
         requires names { NamesFit self.now.names.now self.now.network.now }
         requires rides { All (IsPrintableRide self.now.network.now) rides.now }
@@ -263,7 +255,7 @@ impl<'a> Printer<'a> {
     }
 
     /// Writes the rows of all places.
-    pub(crate) fn put_tables(
+    fn put_tables(
         &self,
         writer: &mut Writer<Vec<u8>>,
         tables: &[PlaceTable],
@@ -279,5 +271,51 @@ impl<'a> Printer<'a> {
             self.put_table(writer, table)?;
         }
         Ok(())
+    }
+
+    /// Writes the rows of a graph by ride.
+    pub(crate) fn put_by_ride(
+        &self,
+        writer: &mut Writer<Vec<u8>>,
+        graph: &ExpandedGraph,
+        head: &Head,
+    ) -> Result<(), NoMemory>
+        requires between { IsBetweenRows writer.old }
+        requires names { NamesFit self.now.names.now self.now.network.now }
+        requires query { IsPrintableQuery self.now.network.now head.now.query }
+        requires graph { IsPrintable self.now.network.now graph.now }
+        ensures between { OnOk result (IsBetweenRows writer.new) }
+        ensures text { OnOk result (written writer.new ≡ written writer.old
+            ++ expanded_text_in self.now.network.now self.now.names.now self.now.version head.now graph.now) }
+    {
+        self.put_head(writer, b"expanded", head)?;
+        if head.query.source == head.query.target {
+            return Ok(());
+        }
+        self.put_start(writer, graph.start)?;
+        self.put_rides(writer, graph.rides.as_slice())
+    }
+
+    /// Writes the rows of a graph by place.
+    pub(crate) fn put_by_place(
+        &self,
+        writer: &mut Writer<Vec<u8>>,
+        graph: &PlanGraph,
+        head: &Head,
+    ) -> Result<(), NoMemory>
+        requires between { IsBetweenRows writer.old }
+        requires names { NamesFit self.now.names.now self.now.network.now }
+        requires query { IsPrintableQuery self.now.network.now head.now.query }
+        requires graph { IsPrintablePlan self.now.network.now graph.now }
+        ensures between { OnOk result (IsBetweenRows writer.new) }
+        ensures text { OnOk result (written writer.new ≡ written writer.old
+            ++ graph_text_in self.now.network.now self.now.names.now self.now.version head.now graph.now) }
+    {
+        self.put_head(writer, b"graph", head)?;
+        if head.query.source == head.query.target {
+            return Ok(());
+        }
+        self.put_start(writer, graph.start)?;
+        self.put_tables(writer, graph.tables.as_slice())
     }
 }

@@ -4,7 +4,7 @@ ghost use Rattle.std.specs.Option.{option_map};
 ghost use Rattle.csv_rows.specs.Tables.{header, row_count};
 ghost use Rattle.plan_model.specs.NameLists.{NamesFit};
 ghost use Rattle.plan_model.specs.Network.{count};
-ghost use Rattle.graph_text.specs.Reading.{leg_row_in, entry_in, names_in, leg_found, can_start, start_in, is_limit, is_by_limit, row_in, is_blank, has_no_entry, is_place, place_row_in, table_in, begun, extended, place_or_first, IsPlaced, no_tables, step, tables_from, graph_in, version_in, is_head, are_in_order, head_row_in, is_query, head_in, started_in, graph_of, IsRead};
+ghost use Rattle.graph_text.specs.Reading.{leg_row_in, entry_in, names_in, leg_found, can_start, start_in, is_limit, is_by_limit, row_in, is_blank, has_no_entry, is_place, place_row_in, table_in, begun, extended, place_or_first, IsPlaced, no_tables, step, tables_from, graph_in, version_in, is_head, are_in_order, head_row_in, is_query, head_in, started_in, graph_of_records, graph_of, IsRead};
 ghost use Rattle.graph_text.specs.Versions.{width_of};
 ghost use Rattle.printed_rows.specs.Fields.{is_kind};
 
@@ -636,6 +636,37 @@ fn version_of(rows: &Rows) -> Option<Version>
     None
 }
 
+/// The head and the graph that a table's records tell, as [`read`] does.
+fn read_records(
+    alloc: Global,
+    rows: &Rows,
+    network: &Network,
+    names: &Names,
+    source: PlaceId,
+    target: PlaceId,
+    start: Moment,
+) -> Result<(Head, PlanGraph), TextFault>
+    requires names { NamesFit names.now network.now }
+    requires some { 0 < length rows.now }
+    ensures { IsRead result
+        (graph_of_records network.now names.now source.0 target.0 start.0 rows.now) }
+{
+    let Some(version) = version_of(rows) else {
+        return Err(TextFault::Row(1));
+    };
+    let reader = Reader {
+        version,
+        rows,
+        network,
+        names,
+    };
+    let head = reader.read_head(source, target, start)?;
+    match reader.read_graph(alloc, &head.query) {
+        Ok(graph) => Ok((head, graph)),
+        Err(fault) => Err(fault),
+    }
+}
+
 /// The head and the graph that a text tells, which are of this source, target and start; or the
 /// first of its faults by line.
 pub fn read(
@@ -650,21 +681,9 @@ pub fn read(
     requires { NamesFit names.now network.now }
     ensures { IsRead result (graph_of bytes.now network.now names.now source.0 target.0 start.0) }
 {
-    let rows = match Rows::read(alloc, bytes) {
-        Ok(rows) => rows,
-        Err(RowsFault::NoHeader) => return Err(TextFault::Row(1)),
-        Err(RowsFault::NoMemory) => return Err(TextFault::NoMemory),
-    };
-    let Some(version) = version_of(&rows) else {
-        return Err(TextFault::Row(1));
-    };
-    let reader = Reader {
-        version,
-        rows: &rows,
-        network,
-        names,
-    };
-    let head = reader.read_head(source, target, start)?;
-    let graph = reader.read_graph(alloc, &head.query)?;
-    Ok((head, graph))
+    match Rows::read(alloc, bytes) {
+        Ok(rows) => read_records(alloc, &rows, network, names, source, target, start),
+        Err(RowsFault::NoHeader) => Err(TextFault::Row(1)),
+        Err(RowsFault::NoMemory) => Err(TextFault::NoMemory),
+    }
 }

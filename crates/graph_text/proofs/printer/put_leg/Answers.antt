@@ -2,6 +2,7 @@ use Rattle.std.proofs.Common.{◌≡◌, ◌++◌, ◌∙◌, ℕ, List, subst}
 use Rattle.std.specs.Prelude.{OnOk}
 use Rattle.printed_rows.specs.Writers.{row_of_fields, written}
 use Rattle.graph_text.proofs.Fields.{leg_row_fields}
+use Rattle.printed_rows.proofs.Connections.{dep_printable, arr_printable, run_named, from_named, to_named}
 use Rattle.printed_rows.proofs.Lines.{name_is}
 use Rattle.graph_text.proofs.printer.put_leg.Goals as goal
 
@@ -18,3 +19,20 @@ returns-clause-text c =
     (c.as_slice-2.ensures ∙ c.write_moment-arr.ensures.text)
     (c.as_bytes-5.ensures.value ∙ name_is c.args.names.now.places c.get-enter.result.from.0 c.place_name-2.result.now c.place_name-2.ensures.name) in
     subst (λ (list : List (List ℕ)). OnOk c.put_row.result (written c.put_row.new.writer ≡ written c.args.writer.now ++ row_of_fields list)) fields c.put_row.ensures.text
+
+pub write_moment-dep-requires : goal.write_moment-dep-requires
+write_moment-dep-requires c = dep_printable c.args.network.now c.args.leg.enter.0 c.get-enter.result c.count-count.ensures.valid c.requires.enter c.get-enter.ensures.connection
+
+pub write_moment-arr-requires : goal.write_moment-arr-requires
+write_moment-arr-requires c = arr_printable c.args.network.now c.args.leg.exit.0 c.get-exit.result c.count-count.ensures.valid c.requires.exit c.get-exit.ensures.connection
+
+pub run_name-requires : goal.run_name-requires
+run_name-requires c = run_named c.args.names.now c.args.network.now c.args.leg.enter.0 c.get-enter.result c.requires.names c.requires.enter c.get-enter.ensures.connection
+
+pub place_name-requires : goal.place_name-requires
+place_name-requires c =
+    to_named c.args.names.now c.args.network.now c.args.leg.exit.0 c.get-exit.result c.requires.names c.count-count.ensures.valid c.requires.exit c.get-exit.ensures.connection
+
+pub place_name-requires-2 : goal.place_name-requires-2
+place_name-requires-2 c =
+    from_named c.args.names.now c.args.network.now c.args.leg.enter.0 c.get-enter.result c.requires.names c.count-count.ensures.valid c.requires.enter c.get-enter.ensures.connection
