@@ -8,6 +8,7 @@ ghost use Rattle.journey_report.specs.DepartureTexts.{departures_head, departure
 use crate::texts::row;
 use clock_text::{write_moment, write_nanos};
 use departure_table::DepartureRow;
+use itoa::Buffer;
 use plan_model::{Moment, Names, Network, NoMemory, Query};
 use std::alloc::Global;
 
@@ -29,7 +30,7 @@ fn departures_head(
     let first = write_moment(query.start);
     let last = write_moment(last);
     let deadline = write_moment(query.deadline);
-    let count = format!(in alloc; "{count}")?;
+    let mut digits = Buffer::new();
     row(
         alloc,
         &[
@@ -40,7 +41,7 @@ fn departures_head(
             first.as_slice(),
             last.as_slice(),
             deadline.as_slice(),
-            count.as_bytes(),
+            digits.format(count).as_bytes(),
         ],
     )
 }
@@ -59,7 +60,7 @@ fn departure_text(
     let _count = network.count();
     let enter = network.get(departure.leg.enter);
     let by = write_moment(departure.by);
-    let step = format!(in alloc; "{}", enter.step)?;
+    let mut digits = Buffer::new();
     let lower = write_nanos(departure.bounds.lo());
     let upper = write_nanos(departure.bounds.hi());
     row(
@@ -68,7 +69,7 @@ fn departure_text(
             b"row".as_slice(),
             by.as_slice(),
             names.run_name(enter.run).as_bytes(),
-            step.as_bytes(),
+            digits.format(enter.step).as_bytes(),
             lower.as_slice(),
             upper.as_slice(),
         ],

@@ -9,6 +9,7 @@ ghost use Rattle.fault_lines.specs.Sites.{last_printable};
 use clock_text::{write_moment, write_nanos};
 use csv::WriterBuilder;
 use interval_fixed::Span;
+use itoa::Buffer;
 use late_chance::{LateChance, write_chance};
 use plan_graph::PlanGraph;
 use plan_model::{Moment, Names, Network, NoMemory, PlaceId, Query};
@@ -76,7 +77,7 @@ fn ride_text(
     let dep = write_moment(enter.dep);
     let arr = write_moment(exit.arr);
     let arrival = write_moment(ride.arrival);
-    let delay = format!(in alloc; "{}", ride.delay)?;
+    let mut delay = Buffer::new();
     row(
         alloc,
         &[
@@ -86,7 +87,7 @@ fn ride_text(
             dep.as_slice(),
             names.place_name(exit.to).as_bytes(),
             arr.as_slice(),
-            delay.as_bytes(),
+            delay.format(ride.delay).as_bytes(),
             arrival.as_slice(),
         ],
     )
@@ -151,19 +152,19 @@ pub fn sample_text(
     ensures { IfOk result (λ text.
         text.items ≡ sample_text size connections (leg_count graph.now) bounds) }
 {
-    let size = format!(in alloc; "{size}")?;
-    let connections = format!(in alloc; "{connections}")?;
     let legs = leg_count(graph);
-    let legs = format!(in alloc; "{legs}")?;
+    let mut size_digits = Buffer::new();
+    let mut connection_digits = Buffer::new();
+    let mut leg_digits = Buffer::new();
     let lower = write_nanos(bounds.lo());
     let upper = write_nanos(bounds.hi());
     row(
         alloc,
         &[
             b"sample".as_slice(),
-            size.as_bytes(),
-            connections.as_bytes(),
-            legs.as_bytes(),
+            size_digits.format(size).as_bytes(),
+            connection_digits.format(connections).as_bytes(),
+            leg_digits.format(legs).as_bytes(),
             lower.as_slice(),
             upper.as_slice(),
         ],

@@ -15,7 +15,7 @@ returns c =
     let first = c.as_slice-3.ensures ∙ c.write_moment-first.ensures.text in
     let last = c.as_slice-4.ensures ∙ c.write_moment-last.ensures.text in
     let deadline = c.as_slice-5.ensures ∙ c.write_moment-deadline.ensures.text in
-    let count = c.as_bytes-3.ensures.value ∙ c.in_ok-count.ensures.ok in
+    let count = c.as_bytes-3.ensures.value ∙ c.format.ensures.text in
     let fields : c.as_slice.result.now ∷ c.as_slice-2.result.now ∷ c.as_bytes.result.now ∷ c.as_bytes-2.result.now ∷ c.as_slice-3.result.now ∷
     c.as_slice-4.result.now ∷ c.as_slice-5.result.now ∷ c.as_bytes-3.result.now ∷ []
     ≡ codes "departures" ∷ codes "1" ∷ c.args.source.now ∷ c.args.target.now ∷ moment_text c.args.query.now.start.0 ∷ moment_text c.args.last.0 ∷
