@@ -3,6 +3,7 @@ pub mod EarlyFacts
 pub mod StopNames
 pub mod Causes
 pub mod FeedSteps
+mod FolderSteps
 pub mod OneOrder
 pub mod OneCutNetwork
 pub mod OneCutProblem
