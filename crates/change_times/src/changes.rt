@@ -29,11 +29,21 @@ use std::collections::HashMap;
 use std::marker::Model;
 
 /// The change times of the places of a feed, and the links between them.
-#[derive(Drop)]
 pub struct Changes {
     seconds: HashMap<u32, u32, HashKey>,
     links: Vec<Ways>,
     passed: u64,
+}
+
+impl Drop for Changes {
+    /// Lets go of its parts here, so that a caller lets go of one value.
+    fn drop(self) {
+        let Changes {
+            seconds: _seconds,
+            links: _links,
+            passed: _passed,
+        } = self;
+    }
 }
 
 impl Model for Changes {

@@ -18,9 +18,15 @@ use std::alloc::Global;
 use std::marker::Model;
 
 /// Distinct ids, of which each has its place as its number. None begins or ends with a space.
-#[derive(Drop)]
 pub struct Ids {
     ids: IndexSet<String, HashKey>,
+}
+
+impl Drop for Ids {
+    /// Lets go of its parts here, so that a caller lets go of one value.
+    fn drop(self) {
+        let Ids { ids: _ids } = self;
+    }
 }
 
 impl Model for Ids {

@@ -17,11 +17,21 @@ use std::alloc::{AllocError, Global};
 use std::marker::Model;
 
 /// The records of a table, the header first.
-#[derive(Drop)]
 pub struct Rows {
     fields: Fields,
     ends: Vec<u32>,
     key: HashKey,
+}
+
+impl Drop for Rows {
+    /// Lets go of its parts here, so that a caller lets go of one value.
+    fn drop(self) {
+        let Rows {
+            fields: _fields,
+            ends: _ends,
+            key: _key,
+        } = self;
+    }
 }
 
 impl Model for Rows {
@@ -127,7 +137,12 @@ impl Rows {
     pub fn with_key(self, key: HashKey) -> Rows
         ensures { result ≡ self }
     {
-        Rows { key, ..self }
+        let Rows {
+            fields,
+            ends,
+            key: _before,
+        } = self;
+        Rows { fields, ends, key }
     }
 
     /// The key by which their ids are hashed: a fixed one, where no other was given.

@@ -17,11 +17,21 @@ use std::alloc::Global;
 use std::marker::Model;
 
 /// A cut file with no fault.
-#[derive(Drop)]
 pub struct CutTable {
     names: Names,
     rows: Vec<CutRow>,
     keys: Vec<Key>,
+}
+
+impl Drop for CutTable {
+    /// Lets go of its parts here, so that a caller lets go of one value.
+    fn drop(self) {
+        let CutTable {
+            names: _names,
+            rows: _rows,
+            keys: _keys,
+        } = self;
+    }
 }
 
 impl Model for CutTable {

@@ -97,10 +97,19 @@ fn route_of(routes: &Ids, number: Option<u32>) -> Option<&str>
 }
 
 /// Groups, each of one class, one route and one hour, in the order in which they were added.
-#[derive(Drop)]
 pub(crate) struct Groups {
     routes: Ids,
     groups: IndexSet<NumberedGroup, HashKey>,
+}
+
+impl Drop for Groups {
+    /// Lets go of its parts here, so that a caller lets go of one value.
+    fn drop(self) {
+        let Groups {
+            routes: _routes,
+            groups: _groups,
+        } = self;
+    }
 }
 
 impl Model for Groups {

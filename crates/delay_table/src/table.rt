@@ -20,11 +20,21 @@ use std::marker::Model;
 
 /// The outcomes of `*`, which is class 0, and of each route type that is named: these are the classes 1, 2 and on in rising
 /// order.
-#[derive(Drop)]
 pub struct DelayTable {
     types: List<u16>,
     others: Groups,
     classes: List<List<Outcome>>,
+}
+
+impl Drop for DelayTable {
+    /// Lets go of its parts here, so that a caller lets go of one value.
+    fn drop(self) {
+        let DelayTable {
+            types: _types,
+            others: _others,
+            classes: _classes,
+        } = self;
+    }
 }
 
 impl Model for DelayTable {

@@ -38,10 +38,19 @@ struct FeedRules {
 }
 
 /// What a folder of GTFS tables holds.
-#[derive(Drop)]
 struct FeedTables {
     feed: Feed,
     rules: FeedRules,
+}
+
+impl Drop for FeedTables {
+    /// Lets go of its parts here, so that a caller lets go of one value.
+    fn drop(self) {
+        let FeedTables {
+            feed: _feed,
+            rules: _rules,
+        } = self;
+    }
 }
 
 /// The tables of a folder that come after those of its feed.

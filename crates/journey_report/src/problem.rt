@@ -4,7 +4,6 @@ ghost use Rattle.std.specs.Prelude.{◌≡◌};
 use plan_model::{Names, Network, PlaceId};
 
 /// A timetable with its delays, and the ends of a journey in it.
-#[derive(Drop)]
 pub struct Problem {
     /// The connections, the change times and the classes of delays.
     pub network: Network,
@@ -14,6 +13,18 @@ pub struct Problem {
     pub source: PlaceId,
     /// Where the journey ends.
     pub target: PlaceId,
+}
+
+impl Drop for Problem {
+    /// Lets go of its parts here, so that a caller lets go of one value.
+    fn drop(self) {
+        let Problem {
+            network: _network,
+            names: _names,
+            source: _source,
+            target: _target,
+        } = self;
+    }
 }
 
 /// The ends of a journey.

@@ -18,11 +18,21 @@ use std::alloc::Global;
 use std::marker::Model;
 
 /// The services of a feed, and the days on which each runs.
-#[derive(Drop)]
 pub struct Services {
     ids: Ids,
     periods: Vec<Period>,
     exceptions: IndexSet<Exception, HashKey>,
+}
+
+impl Drop for Services {
+    /// Lets go of its parts here, so that a caller lets go of one value.
+    fn drop(self) {
+        let Services {
+            ids: _ids,
+            periods: _periods,
+            exceptions: _exceptions,
+        } = self;
+    }
 }
 
 impl Model for Services {
