@@ -8,7 +8,8 @@ use Rattle.std.proofs.lemmas.Bool.Decides.{nat_tests}
 use Rattle.csv_rows.specs.declared.feed_tables.FeedFault.{FeedFault}
 use Rattle.csv_rows.specs.Lists.{list_below}
 use Rattle.csv_rows.proofs.ListLemmas.{list_below-zero, list_below-next}
-use Rattle.gtfs_tables.specs.Feeds.{FeedParts, Records}
+use Rattle.stop_times.specs.Required.{Records}
+use Rattle.gtfs_tables.specs.Feeds.{FeedParts}
 use Rattle.change_times.specs.declared.transfers.Transfer.{Transfer}
 use Rattle.change_times.specs.declared.transfers.TransferColumns.{TransferColumns}
 use Rattle.change_times.specs.Transfers.{transfer_columns, transfer_in, transfer_at, told_by}

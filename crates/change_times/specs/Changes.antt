@@ -13,7 +13,8 @@ use Rattle.csv_rows.specs.Lists.{list_below}
 use Rattle.csv_rows.specs.Tables.{row_count}
 use Rattle.csv_rows.specs.Loading.{load_in, loaded_rows}
 use Rattle.plan_model.specs.declared.model.Way.{Way}
-use Rattle.gtfs_tables.specs.Feeds.{FeedParts, Records}
+use Rattle.stop_times.specs.Required.{Records}
+use Rattle.gtfs_tables.specs.Feeds.{FeedParts}
 use Rattle.change_times.specs.Transfers.{told_by, transfers_fault}
 use Rattle.change_times.specs.Greatest.{greatest_below}
 use Rattle.change_times.specs.Links.{ways_at, ways_below}

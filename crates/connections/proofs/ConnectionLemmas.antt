@@ -15,7 +15,7 @@ use Rattle.plan_model.specs.Parts.{Parts, plain_parts}
 use Rattle.delay_table.specs.DelayLists.{DelayLists}
 use Rattle.delay_table.proofs.ClassBounds.{class_for-inside}
 use Rattle.delay_table.specs.Slots.{AreDelays}
-use Rattle.gtfs_tables.specs.declared.stop_times.StopRow.{StopRow}
+use Rattle.stop_times.specs.declared.rows.StopRow.{StopRow}
 use Rattle.gtfs_tables.specs.Feeds.{FeedParts}
 use Rattle.csv_rows.specs.Ids.{AreIds}
 use Rattle.gtfs_tables.specs.Timed.{rows_of, kept_at, AreTimed, IsTimed}

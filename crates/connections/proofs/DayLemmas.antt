@@ -1,7 +1,7 @@
 -- The runs of a day, trip by trip, and of several days, day by day.
 use Rattle.std.proofs.Common.{◌≡◌, ℕ, suc, ◌+◌, Bool, true, false, List, [], ◌∷◌, ◌++◌, length, refl, sym, add-one, if◌then◌else◌}
 use Rattle.gtfs_tables.specs.declared.frequencies.FrequencyRow.{FrequencyRow}
-use Rattle.gtfs_tables.specs.declared.stop_times.StopRow.{StopRow}
+use Rattle.stop_times.specs.declared.rows.StopRow.{StopRow}
 use Rattle.gtfs_tables.specs.Feeds.{FeedParts}
 use Rattle.service_days.specs.Services.{ServiceParts}
 use Rattle.connections.specs.declared.origins.ServiceDay.{ServiceDay}

@@ -2,8 +2,8 @@
 use Rattle.std.proofs.Common.{◌≡◌, ℕ, ◌-◌, ◌*◌, ◌&&◌, min, nat_lt, Bool, List, ap, ◌∙◌, arith}
 use Rattle.std.proofs.lemmas.Bool.{and_parts, and_from, ltb-true, lt-ltb}
 use Rattle.gtfs_tables.specs.declared.frequencies.FrequencyRow.{FrequencyRow}
-use Rattle.gtfs_tables.specs.declared.stop_times.StopRow.{StopRow}
-use Rattle.gtfs_tables.specs.Bounds.{end_of_times}
+use Rattle.stop_times.specs.declared.rows.StopRow.{StopRow}
+use Rattle.stop_times.specs.Bounds.{end_of_times}
 use Rattle.gtfs_tables.specs.Repeats.{IsFrequency}
 use Rattle.gtfs_tables.specs.Timed.{kept_at}
 use Rattle.plan_model.specs.declared.model.PlaceId.{PlaceId}

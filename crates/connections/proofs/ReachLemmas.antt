@@ -4,8 +4,8 @@ use Rattle.std.specs.Prelude.{ℤ, pos, ◌<ℤ◌}
 use Rattle.std.proofs.lemmas.Bool.{cases_eq}
 use Rattle.std.proofs.lemmas.Bool.Decides.{nat_tests}
 use Rattle.std.proofs.lemmas.Int.{ints}
-use Rattle.gtfs_tables.specs.Bounds.{end_of_times}
-use Rattle.gtfs_tables.specs.declared.stop_times.StopRow.{StopRow}
+use Rattle.stop_times.specs.Bounds.{end_of_times}
+use Rattle.stop_times.specs.declared.rows.StopRow.{StopRow}
 use Rattle.gtfs_tables.specs.Timed.{AreTimed, kept_at}
 use Rattle.connections.specs.declared.origins.Origin.{Origin}
 use Rattle.connections.specs.declared.window.Window.{Window}

@@ -8,8 +8,8 @@ use Rattle.std.proofs.lemmas.Int.{ints, by_lt_z}
 use Rattle.std.proofs.lemmas.List.Elements.{All-nil, All-cons, All-get_or}
 use Rattle.csv_rows.specs.Lists.{list_below}
 use Rattle.gtfs_tables.specs.declared.frequencies.FrequencyRow.{FrequencyRow}
-use Rattle.gtfs_tables.specs.declared.stop_times.StopRow.{StopRow}
-use Rattle.gtfs_tables.specs.Bounds.{end_of_times}
+use Rattle.stop_times.specs.declared.rows.StopRow.{StopRow}
+use Rattle.stop_times.specs.Bounds.{end_of_times}
 use Rattle.gtfs_tables.specs.Frequencies.{no_frequency}
 use Rattle.gtfs_tables.specs.Repeats.{IsFrequency, AreRepeats, repeat_at}
 use Rattle.run_repeat.specs.Runs.{AreBelow, IsRun, departure}

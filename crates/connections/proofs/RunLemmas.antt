@@ -7,7 +7,7 @@ use Rattle.std.proofs.lemmas.List.{get_or-map, length-map}
 use Rattle.std.proofs.lemmas.List.Elements.{All-append, All-cons, All-weaker, All-nil, All-get_or, All-map}
 use Rattle.std.proofs.lemmas.Bool.{ltb-true}
 use Rattle.gtfs_tables.specs.declared.frequencies.FrequencyRow.{FrequencyRow}
-use Rattle.gtfs_tables.specs.declared.stop_times.StopRow.{StopRow}
+use Rattle.stop_times.specs.declared.rows.StopRow.{StopRow}
 use Rattle.gtfs_tables.specs.Feeds.{FeedParts}
 use Rattle.gtfs_tables.specs.Repeats.{AreRepeats, AreRepeating}
 use Rattle.gtfs_tables.specs.Timed.{rows_of}

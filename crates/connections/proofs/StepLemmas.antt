@@ -4,7 +4,7 @@ use Rattle.std.specs.Prelude.{ℤ, pos, ◌≤ℤ◌, int_le}
 use Rattle.std.proofs.lemmas.Int.{ints}
 use Rattle.std.proofs.lemmas.List.{map-append}
 use Rattle.std.proofs.lemmas.Bool.{and_parts}
-use Rattle.gtfs_tables.specs.declared.stop_times.StopRow.{StopRow}
+use Rattle.stop_times.specs.declared.rows.StopRow.{StopRow}
 use Rattle.connections.specs.declared.origins.Origin.{Origin}
 use Rattle.connections.specs.declared.window.Window.{Window}
 use Rattle.connections.specs.Joins.{only_if}

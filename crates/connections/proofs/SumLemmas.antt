@@ -13,9 +13,9 @@ use Rattle.change_times.specs.Changes.{ChangeParts, links_of}
 use Rattle.plan_model.specs.Network.{AreLinksInto}
 use Rattle.connections.specs.declared.counts.Counted.TheVariants.{Entries}
 use Rattle.gtfs_tables.specs.declared.frequencies.FrequencyRow.{FrequencyRow}
-use Rattle.gtfs_tables.specs.declared.stop_times.StopRow.{StopRow}
+use Rattle.stop_times.specs.declared.rows.StopRow.{StopRow}
 use Rattle.gtfs_tables.specs.Feeds.{FeedParts}
-use Rattle.gtfs_tables.specs.Bounds.{end_of_times}
+use Rattle.stop_times.specs.Bounds.{end_of_times}
 use Rattle.gtfs_tables.specs.Repeats.{IsFrequency, AreRepeats, AreRepeating, IsSmall, repeat_at}
 use Rattle.gtfs_tables.specs.Timed.{rows_of, kept_at}
 use Rattle.run_repeat.specs.Runs.{departure}

@@ -2,9 +2,9 @@
 use Rattle.std.specs.Prelude.{ℕ, ◌&&◌, nat_lt, ◌+◌, List, [], ◌∷◌, length, sum_by, if◌then◌else◌}
 use Rattle.plan_model.specs.declared.model.PlaceId.{PlaceId}
 use Rattle.gtfs_tables.specs.declared.frequencies.FrequencyRow.{FrequencyRow}
-use Rattle.gtfs_tables.specs.declared.stop_times.StopRow.{StopRow}
+use Rattle.stop_times.specs.declared.rows.StopRow.{StopRow}
 use Rattle.gtfs_tables.specs.Feeds.{FeedParts}
-use Rattle.gtfs_tables.specs.Bounds.{end_of_times}
+use Rattle.stop_times.specs.Bounds.{end_of_times}
 use Rattle.gtfs_tables.specs.Repeats.{repeat_at}
 use Rattle.gtfs_tables.specs.Timed.{rows_of, kept_at}
 use Rattle.run_repeat.specs.Runs.{departure}

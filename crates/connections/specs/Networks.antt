@@ -7,7 +7,7 @@ use Rattle.plan_model.specs.declared.model.Way.{Way}
 use Rattle.plan_model.specs.NameLists.{NameLists}
 use Rattle.plan_model.specs.Parts.{Parts}
 use Rattle.delay_table.specs.DelayLists.{DelayLists, class_for}
-use Rattle.gtfs_tables.specs.declared.stop_times.StopRow.{StopRow}
+use Rattle.stop_times.specs.declared.rows.StopRow.{StopRow}
 use Rattle.gtfs_tables.specs.Feeds.{FeedParts}
 use Rattle.gtfs_tables.specs.Timed.{rows_of, kept_at}
 use Rattle.service_days.specs.Services.{ServiceParts}

@@ -1,8 +1,8 @@
 -- The runs that the rows of frequencies of a trip start on a service day (GTFS Schedule reference).
 use Rattle.std.specs.Prelude.{ℕ, pos, ◌-ℤ◌, ◌&&◌, ◌||◌, ◌==◌, nat_lt, Bool, List, [], ◌∷◌, length, if◌then◌else◌}
 use Rattle.gtfs_tables.specs.declared.frequencies.FrequencyRow.{FrequencyRow}
-use Rattle.gtfs_tables.specs.declared.stop_times.StopRow.{StopRow}
-use Rattle.gtfs_tables.specs.Bounds.{end_of_times}
+use Rattle.stop_times.specs.declared.rows.StopRow.{StopRow}
+use Rattle.stop_times.specs.Bounds.{end_of_times}
 use Rattle.gtfs_tables.specs.Repeats.{repeat_at}
 use Rattle.gtfs_tables.specs.Timed.{kept_at}
 use Rattle.run_repeat.specs.Runs.{departure}

@@ -1,8 +1,8 @@
 -- Which kept rows a run leaves in a window.
 use Rattle.std.specs.Prelude.{ℕ, ℤ, ◌-◌, ◌<◌, ◌≤◌, nat_lt, Bool, List, [], length, slice_index_or}
-use Rattle.gtfs_tables.specs.declared.stop_times.StopRow.{StopRow}
+use Rattle.stop_times.specs.declared.rows.StopRow.{StopRow}
 use Rattle.gtfs_tables.specs.Feeds.{FeedParts}
-use Rattle.gtfs_tables.specs.Bounds.{end_of_times}
+use Rattle.stop_times.specs.Bounds.{end_of_times}
 use Rattle.gtfs_tables.specs.Timed.{kept_at}
 use Rattle.service_days.specs.Services.{ServiceParts, runs}
 use Rattle.connections.specs.declared.origins.ServiceDay.{ServiceDay}

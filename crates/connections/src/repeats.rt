@@ -1,7 +1,7 @@
 //! The runs that the rows of frequencies of a trip start.
 ghost use Rattle.std.specs.Prelude.{◌≡◌, ℕ, ◌+◌, ◌-◌, ◌<◌, ◌≤◌, ◌++◌, ◌<ℤ◌, ◌≤ℤ◌, pos, length, All, OnOk, IfOk};
 ghost use Rattle.csv_rows.specs.Lists.{list_below};
-ghost use Rattle.gtfs_tables.specs.Bounds.{end_of_times};
+ghost use Rattle.stop_times.specs.Bounds.{end_of_times};
 ghost use Rattle.gtfs_tables.specs.Repeats.{IsFrequency, AreRepeats};
 ghost use Rattle.run_repeat.specs.Runs.{AreBelow, IsRun, departure};
 ghost use Rattle.connections.specs.Window.{IsWindow};

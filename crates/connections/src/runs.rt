@@ -1,6 +1,6 @@
 //! The runs that ride in a window.
 ghost use Rattle.std.specs.Prelude.{◌≡◌, ◌<◌, ◌++◌, length, map, [], false, All, IfOk, OnOk};
-ghost use Rattle.gtfs_tables.specs.Bounds.{end_of_times};
+ghost use Rattle.stop_times.specs.Bounds.{end_of_times};
 ghost use Rattle.gtfs_tables.specs.Repeats.{AreRepeats};
 ghost use Rattle.connections.specs.Joins.{only_if};
 ghost use Rattle.connections.specs.Window.{holds, IsWindow};

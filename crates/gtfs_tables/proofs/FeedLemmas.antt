@@ -1,6 +1,6 @@
 -- The tables of a feed, one after the other.
 use Rattle.std.proofs.Common.{◌≡◌, ◌≢◌, ℕ, ◌<◌, ◌≤◌, ◌==◌, false, List, [], length, slice_index_or, Option, Some, None, IfSome, refl, sym, ap, ap₂, ◌∙◌, subst, arith, ⊎_elim, if◌then◌else◌}
-use Rattle.std.specs.Prelude.{map, vec_items, Result, Ok, Err, IfOk}
+use Rattle.std.specs.Prelude.{Result, Ok, Err, IfOk}
 use Rattle.std.proofs.lemmas.Result.{IfOk-from_err}
 use Rattle.std.specs.Result.{IsErr, IsErrAnd}
 use Rattle.std.proofs.lemmas.Bool.{cases_lt}
@@ -19,19 +19,22 @@ use Rattle.csv_rows.specs.FeedTables.{path_of, rank_of, unread_of, IsFaultOf}
 use Rattle.csv_rows.specs.Loading.{loaded_file, loaded_rows, HasFeedCause, IsUnread, load_in}
 use Rattle.csv_rows.specs.Tables.{row_count, field}
 use Rattle.gtfs_tables.specs.declared.frequencies.FrequencyRow.{FrequencyRow}
-use Rattle.gtfs_tables.specs.declared.stop_times.StopRow.{StopRow}
+use Rattle.stop_times.specs.declared.rows.StopRow.{StopRow}
 use Rattle.gtfs_tables.specs.Stops.{stop_ids, stop_places}
 use Rattle.gtfs_tables.specs.Routes.{route_ids}
 use Rattle.gtfs_tables.specs.Trips.{trip_ids, trip_routes, trip_services, trip_types, trips_fault}
-use Rattle.gtfs_tables.specs.StopTimes.{timed_rows, stop_times_fault}
+use Rattle.stop_times.specs.StopTimes.{timed_rows, stop_times_fault}
 use Rattle.gtfs_tables.specs.Frequencies.{frequency_rows, fault_of_frequencies, all_repeats_of}
-use Rattle.gtfs_tables.specs.Visits.{AreStopTimes}
-use Rattle.gtfs_tables.specs.Feeds.{Records, stops_from, routes_from, trips_from, stop_times_from, frequencies_from, Tables, tables_by, tables_in, FeedParts, IsFeed}
+use Rattle.stop_times.specs.Visits.{AreStopTimes}
+use Rattle.stop_times.specs.Required.{Records}
+use Rattle.stop_times.specs.Timetables.{stop_times_from}
+use Rattle.gtfs_tables.specs.Feeds.{stops_from, routes_from, trips_from, frequencies_from, Tables, tables_by, tables_in, FeedParts, IsFeed}
 use Rattle.gtfs_tables.specs.declared.lists.FeedLists.{FeedLists}
 use Rattle.gtfs_tables.specs.declared.times.TripTimes.{TripTimes}
 use Rattle.gtfs_tables.specs.Repeats.{all_repeats_in}
 use Rattle.gtfs_tables.specs.Parts.{parts_by, HasStops, HasRoutes, HasTrips, HasVisits, HasRepeats, AreLists, AreTimes, AreSoundLists, AreSoundTimes}
-use Rattle.gtfs_tables.specs.Feeds.{IsFeedOf, AreStops, AreRoutes, AreTrips, AreVisits, AreFrequencies, IsSoundFeed}
+use Rattle.stop_times.specs.Timetables.{AreVisits}
+use Rattle.gtfs_tables.specs.Feeds.{IsFeedOf, AreStops, AreRoutes, AreTrips, AreFrequencies, IsSoundFeed}
 use Rattle.csv_rows.proofs.ListLemmas.{length-list_below}
 use Rattle.plan_model.proofs.Results.{and_then-ok, and_then-err}
 
@@ -294,9 +297,6 @@ module _ (folder : List ℕ) (limits : Limits) where
         f (h free)
 
     module _ (t : TripTimes) where
-      abbrev visits : List (List StopRow)
-      visits = map vec_items t.visits.items
-
       pub times_of : (o : Option Folder)
           → IfSome o (λ m. HasVisits (stop_times_from (load_in m folder limits None StopTimes) l.trips.ids l.stops.ids l.stops.places.items) l t)
           → IfSome o (λ m. HasRepeats (frequencies_from (load_in m folder limits None Frequencies) l.trips.ids) l t) → IfSome o (λ m. AreTimes (load_in m folder limits None) l t)
@@ -310,7 +310,7 @@ module _ (folder : List ℕ) (limits : Limits) where
       feed_of_tables (Some m) a v = let load = load_in m folder limits None in
           all_tables (stops_from (load Stops)) (routes_from (load Routes)) (trips_from (load Trips)) (stop_times_from (load StopTimes)) (frequencies_from (load Frequencies))
           l.stops.ids l.routes.ids l.trips.ids services l.stops.places.items l.routes.types.items l.trips.of_trips.types.items l.trips.of_trips.routes.items
-          a.stops a.routes a.trips visits v.visits (all_repeats_in t.repeats.trips.items t.repeats.rows.items (length l.trips.ids)) v.repeats
+          a.stops a.routes a.trips t.visits v.visits (all_repeats_in t.repeats.trips.items t.repeats.rows.items (length l.trips.ids)) v.repeats
 
 -- no value was read
 pub none_read : {F A E : Type 0} (o : Option F) (P : F → A → Type 0) (r : Result A E) → IsErr r → IfSome o (λ m. IfOk r (P m))
@@ -339,7 +339,7 @@ sound_feed l t a v =
           sym (ap₂ (λ u w. stop_times_fault u w l.stops.places.items x.0) d.2.0 s.2.0 ∙ ap (λ w. stop_times_fault (trip_ids d.0) (stop_ids s.0) w x.0) s.2.1) ∙ x.1;
       frequencies = ap (λ z. fault_of_frequencies z q.0) (sym d.2.0) ∙ q.1;
       feed = is_feed s.0 r.0 d.0 x.0 q.0 l.stops.ids l.routes.ids l.trips.ids (texts l.trips.of_trips.services.items) l.stops.places.items l.routes.types.items
-          l.trips.of_trips.types.items l.trips.of_trips.routes.items (map vec_items t.visits.items)
+          l.trips.of_trips.types.items l.trips.of_trips.routes.items t.visits
           (all_repeats_in t.repeats.trips.items t.repeats.rows.items (length l.trips.ids)) s.2 r.2 d.2 x.2 q.2;
     }
 

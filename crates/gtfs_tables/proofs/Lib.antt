@@ -1,16 +1,9 @@
-pub mod RowLemmas
 pub mod StopLemmas
 pub mod RouteLemmas
 pub mod TripLemmas
-pub mod TimeLemmas
 pub mod FrequencyLemmas
 pub mod RepeatLemmas
-pub mod BackLemmas
-pub mod VisitLemmas
 pub mod FeedLemmas
-pub mod RowForms
-pub mod Beside
 pub mod FeedFacts
 pub mod RepeatFacts
 pub mod SmallFacts
-pub mod KeptLemmas

@@ -32,8 +32,8 @@ use Rattle.gtfs_tables.specs.Frequencies.{frequency_from, frequency_columns, fre
 use Rattle.gtfs_tables.specs.Repeats.{IsFrequency, AreRepeats, AreRepeating}
 use Rattle.gtfs_tables.specs.Trips.{trip_ids}
 use Rattle.gtfs_tables.proofs.FrequencyLemmas.{frequency_count}
-use Rattle.gtfs_tables.proofs.RowForms.{time_below}
-use Rattle.gtfs_tables.proofs.RowLemmas.{whole_bound}
+use Rattle.stop_times.proofs.RowForms.{time_below}
+use Rattle.stop_times.proofs.RowLemmas.{whole_bound}
 use Rattle.plan_model.proofs.Results.{require-ok}
 
 -- a row of this line that is within its bounds

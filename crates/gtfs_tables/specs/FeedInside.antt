@@ -1,8 +1,9 @@
 -- The parts of a feed.
-use Rattle.std.specs.Prelude.{◌≡◌, ℕ, ◌<◌, ◌≤◌, [], slice_index_or, length, map, vec_items, All}
+use Rattle.std.specs.Prelude.{◌≡◌, ℕ, ◌<◌, ◌≤◌, [], slice_index_or, length, All}
 use Rattle.std.specs.List.Sorted.{IsNonDecreasing}
 use Rattle.gtfs_tables.specs.declared.feed.Feed.TheInside.{Inside}
-use Rattle.gtfs_tables.specs.Bounds.{most_stop_times, most_frequencies, most_stops, most_trips}
+use Rattle.stop_times.specs.Bounds.{most_stop_times}
+use Rattle.gtfs_tables.specs.Bounds.{most_frequencies, most_stops, most_trips}
 use Rattle.gtfs_tables.specs.Feeds.{FeedParts, IsSoundFeed}
 use Rattle.gtfs_tables.specs.Parts.{parts_by}
 
@@ -17,12 +18,12 @@ pub record IsWhole (f : Inside) : Type 0 where
   pub types : length f.lists.trips.of_trips.types.items ≡ length f.lists.trips.ids
   pub routes : length f.lists.trips.of_trips.routes.items ≡ length f.lists.trips.ids
   pub known : All (λ route. route < length f.lists.routes.ids) f.lists.trips.of_trips.routes.items
-  pub visits : length f.times.visits.items ≡ length f.lists.trips.ids
+  pub visits : length f.times.visits ≡ length f.lists.trips.ids
   pub ordered : IsNonDecreasing f.times.repeats.trips.items
   pub paired : length f.times.repeats.rows.items ≡ length f.times.repeats.trips.items
   pub few_stops : length f.lists.stops.ids ≤ most_stops
   pub few_trips : length f.lists.trips.ids ≤ most_trips
   pub few_rows : (trip : ℕ) → trip < length f.lists.trips.ids
-      → length (slice_index_or (map vec_items f.times.visits.items) trip []) ≤ most_stop_times
+      → length (slice_index_or f.times.visits trip []) ≤ most_stop_times
   pub few_frequencies : length f.times.repeats.rows.items ≤ most_frequencies
   pub sound : IsSoundFeed (parts_of f)

@@ -2,37 +2,25 @@
 use Rattle.std.specs.Prelude.{◌≡◌, ℕ, ◌<◌, List, [], length, slice_index_or, Option, None, Result, Ok, Err, IfSome}
 use Rattle.plan_model.specs.Results.{and_then, unless}
 use Rattle.file_ports.specs.Ports.{Folder}
-use Rattle.csv_rows.specs.declared.columns.Column.{Column}
-use Rattle.csv_rows.specs.declared.columns.Column.TheVariants.{StopId, RouteId, TripId}
+use Rattle.csv_rows.specs.declared.columns.Column.TheVariants.{StopId, RouteId}
 use Rattle.csv_rows.specs.declared.feed_tables.Table.{Table}
 use Rattle.csv_rows.specs.declared.feed_tables.Table.TheVariants.{Stops, Routes, Trips, StopTimes, Frequencies, Calendar, CalendarDates, Transfers}
 use Rattle.csv_rows.specs.declared.feed_tables.FeedFault.{FeedFault}
-use Rattle.csv_rows.specs.declared.feed_tables.FeedFault.TheVariants.{MissingTable, MissingColumn}
 use Rattle.csv_rows.specs.declared.limits.Limits.{Limits}
 use Rattle.csv_rows.specs.declared.loading.Loaded.{Loaded}
-use Rattle.csv_rows.specs.declared.loading.Loaded.TheVariants.{Absent, NoRecord, Found}
 use Rattle.csv_rows.specs.FeedTables.{table_of_fault}
 use Rattle.csv_rows.specs.Loading.{load_in, loaded_rows}
 use Rattle.csv_rows.specs.Tables.{row_count}
 use Rattle.gtfs_tables.specs.declared.frequencies.FrequencyRow.{FrequencyRow}
-use Rattle.gtfs_tables.specs.declared.stop_times.StopRow.{StopRow}
+use Rattle.stop_times.specs.declared.rows.StopRow.{StopRow}
+use Rattle.stop_times.specs.Required.{Records, required}
 use Rattle.gtfs_tables.specs.Stops.{stop_ids, stop_places, stops_fault}
 use Rattle.gtfs_tables.specs.Routes.{route_ids, route_types, routes_fault}
 use Rattle.gtfs_tables.specs.Trips.{trip_ids, trip_routes, trip_services, trip_types, trips_fault}
-use Rattle.gtfs_tables.specs.StopTimes.{timed_rows, stop_times_fault}
-use Rattle.gtfs_tables.specs.Visits.{AreStopTimes}
+use Rattle.stop_times.specs.StopTimes.{timed_rows, stop_times_fault}
+use Rattle.stop_times.specs.Visits.{AreStopTimes}
+use Rattle.stop_times.specs.Timetables.{stop_times_from}
 use Rattle.gtfs_tables.specs.Frequencies.{frequency_rows, fault_of_frequencies, all_repeats_of}
-
--- the records of a table
-abbrev pub Records : Type 0
-Records = List (List (List ℕ))
-
--- a required table is there, and has a record; else it is missing, or lacks its first column
-abbrev pub required : Table → Column → Result Loaded FeedFault → Result Records FeedFault
-required table first (Ok Absent) = Err (MissingTable table)
-required table first (Ok NoRecord) = Err (MissingColumn table first)
-required table first (Ok (Found t)) = Ok t
-required table first (Err fault) = Err fault
 
 -- each table by what was loaded of it
 abbrev pub stops_from : Result Loaded FeedFault → Result Records FeedFault
@@ -43,9 +31,6 @@ routes_from loaded = and_then (required Routes RouteId loaded) (λ t. unless (ro
 
 abbrev pub trips_from : Result Loaded FeedFault → List (List ℕ) → Result Records FeedFault
 trips_from loaded routes = and_then (required Trips RouteId loaded) (λ t. unless (trips_fault routes t) t)
-
-abbrev pub stop_times_from : Result Loaded FeedFault → (trips stops : List (List ℕ)) (places : List ℕ) → Result Records FeedFault
-stop_times_from loaded trips stops places = and_then (required StopTimes TripId loaded) (λ t. unless (stop_times_fault trips stops places t) t)
 
 -- the frequencies may be absent, or have no record
 abbrev pub frequencies_from : Result Loaded FeedFault → List (List ℕ) → Result Loaded FeedFault
@@ -125,18 +110,9 @@ AreTrips routes types (Ok t) ids services types_of routes_of =
     (ids ≡ trip_ids t) × (services ≡ trip_services routes t) × (types_of ≡ trip_types routes types t) × (routes_of ≡ trip_routes routes t)
 AreTrips routes types (Err fault) ids services types_of routes_of = ⊥
 
-abbrev pub AreVisits : (trips stops : List (List ℕ)) (places : List ℕ) → Result Records FeedFault → List (List StopRow) → Type 0
-AreVisits trips stops places (Ok t) visits =
-    (length visits ≡ length trips) × ((trip : ℕ) → trip < length trips → AreStopTimes (timed_rows trips stops places t) trip (slice_index_or visits trip []))
-AreVisits trips stops places (Err fault) visits = ⊥
-
 abbrev pub AreFrequencies : (trips : List (List ℕ)) → Result Loaded FeedFault → List (List FrequencyRow) → Type 0
 AreFrequencies trips (Ok l) rows = rows ≡ all_repeats_of (frequency_rows trips (loaded_rows l)) (length trips)
 AreFrequencies trips (Err fault) rows = ⊥
-
--- it is so of a table that has no fault
-abbrev pub IsSound : {T : Type 0} → (T → Option FeedFault) → (T → Type 0) → Type 0
-IsSound {T} fault is = (t : T) × (fault t ≡ None) × is t
 
 -- whatever the files tell, a feed is that of some tables with no fault
 pub record IsSoundFeed (f : FeedParts) : Type 0 where

@@ -3,12 +3,8 @@ pub mod Forms
 pub mod Stops
 pub mod Routes
 pub mod Trips
-pub mod StopTimes
-pub mod StoredRows
 pub mod Frequencies
 pub mod Repeats
-pub mod Keys
-pub mod Visits
 pub mod Feeds
 pub mod Parts
 pub mod FeedInside

@@ -1,5 +1,5 @@
 -- What is read of the tables of a feed: the stops, routes and trips, and when the trips run.
-use Rattle.std.specs.Prelude.{◌≡◌, ℕ, ◌<◌, ◌≤◌, [], slice_index_or, length, map, vec_items, All, Result, Ok}
+use Rattle.std.specs.Prelude.{◌≡◌, ℕ, ◌<◌, ◌≤◌, [], slice_index_or, length, All, Result, Ok}
 use Rattle.std.specs.List.Sorted.{IsNonDecreasing}
 use Rattle.plan_model.specs.NameLists.{texts}
 use Rattle.csv_rows.specs.declared.feed_tables.Table.{Table}
@@ -8,13 +8,18 @@ use Rattle.csv_rows.specs.declared.feed_tables.FeedFault.{FeedFault}
 use Rattle.csv_rows.specs.declared.loading.Loaded.{Loaded}
 use Rattle.gtfs_tables.specs.declared.lists.FeedLists.{FeedLists}
 use Rattle.gtfs_tables.specs.declared.times.TripTimes.{TripTimes}
-use Rattle.gtfs_tables.specs.Bounds.{most_stop_times, most_frequencies, most_stops, most_trips}
-use Rattle.gtfs_tables.specs.Feeds.{FeedParts, Records, stops_from, routes_from, trips_from, stop_times_from, frequencies_from}
-use Rattle.gtfs_tables.specs.Feeds.{AreStops, AreRoutes, AreTrips, AreVisits, AreFrequencies, IsSound}
+use Rattle.stop_times.specs.Bounds.{most_stop_times}
+use Rattle.gtfs_tables.specs.Bounds.{most_frequencies, most_stops, most_trips}
+use Rattle.stop_times.specs.Required.{Records}
+use Rattle.stop_times.specs.Timetables.{stop_times_from}
+use Rattle.gtfs_tables.specs.Feeds.{FeedParts, stops_from, routes_from, trips_from, frequencies_from}
+use Rattle.stop_times.specs.Required.{IsSound}
+use Rattle.stop_times.specs.Timetables.{AreVisits}
+use Rattle.gtfs_tables.specs.Feeds.{AreStops, AreRoutes, AreTrips, AreFrequencies}
 use Rattle.gtfs_tables.specs.Stops.{stops_fault}
 use Rattle.gtfs_tables.specs.Routes.{routes_fault}
 use Rattle.gtfs_tables.specs.Trips.{trips_fault}
-use Rattle.gtfs_tables.specs.StopTimes.{stop_times_fault}
+use Rattle.stop_times.specs.StopTimes.{stop_times_fault}
 use Rattle.gtfs_tables.specs.Frequencies.{fault_of_frequencies}
 use Rattle.gtfs_tables.specs.Repeats.{all_repeats_in}
 
@@ -28,7 +33,7 @@ parts_by l t = record {
   route_types = l.trips.of_trips.types.items;
   route_ids = l.routes.ids;
   routes = l.trips.of_trips.routes.items;
-  stop_times = map vec_items t.visits.items;
+  stop_times = t.visits;
   frequencies = all_repeats_in t.repeats.trips.items t.repeats.rows.items (length l.trips.ids);
 }
 
@@ -45,7 +50,7 @@ HasTrips read l =
     l.trips.ids (texts l.trips.of_trips.services.items) l.trips.of_trips.types.items l.trips.of_trips.routes.items
 
 abbrev pub HasVisits : Result Records FeedFault → FeedLists → TripTimes → Type 0
-HasVisits read l t = AreVisits l.trips.ids l.stops.ids l.stops.places.items read (map vec_items t.visits.items)
+HasVisits read l t = AreVisits l.trips.ids l.stops.ids l.stops.places.items read t.visits
 
 abbrev pub HasRepeats : Result Loaded FeedFault → FeedLists → TripTimes → Type 0
 HasRepeats read l t =
@@ -80,8 +85,8 @@ pub record AreSoundLists (l : FeedLists) : Type 0 where
 pub record AreSoundTimes (l : FeedLists) (t : TripTimes) : Type 0 where
   pub visits : IsSound (stop_times_fault l.trips.ids l.stops.ids l.stops.places.items) (λ r. HasVisits (Ok r) l t)
   pub repeats : IsSound (fault_of_frequencies l.trips.ids) (λ r. HasRepeats (Ok r) l t)
-  pub size : length t.visits.items ≡ length l.trips.ids
+  pub size : length t.visits ≡ length l.trips.ids
   pub ordered : IsNonDecreasing t.repeats.trips.items
   pub paired : length t.repeats.rows.items ≡ length t.repeats.trips.items
-  pub few_rows : (trip : ℕ) → trip < length l.trips.ids → length (slice_index_or (map vec_items t.visits.items) trip []) ≤ most_stop_times
+  pub few_rows : (trip : ℕ) → trip < length l.trips.ids → length (slice_index_or t.visits trip []) ≤ most_stop_times
   pub few_frequencies : length t.repeats.rows.items ≤ most_frequencies

@@ -2,7 +2,8 @@
 use Rattle.std.specs.Prelude.{◌≡◌, ℕ, ◌==◌, ◌<◌, ◌≤◌, List, [], ◌∷◌, length, slice_index, slice_index_or, All, sum_by, if◌then◌else◌}
 use Rattle.csv_rows.specs.Lists.{list_below}
 use Rattle.gtfs_tables.specs.declared.frequencies.FrequencyRow.{FrequencyRow}
-use Rattle.gtfs_tables.specs.Bounds.{end_of_times, most_headway, most_stop_times, most_frequencies}
+use Rattle.stop_times.specs.Bounds.{end_of_times, most_stop_times}
+use Rattle.gtfs_tables.specs.Bounds.{most_headway, most_frequencies}
 use Rattle.gtfs_tables.specs.Feeds.{FeedParts}
 use Rattle.gtfs_tables.specs.Frequencies.{no_frequency}
 

@@ -1,9 +1,9 @@
 -- What holds of the kept rows of the trips of a feed.
 use Rattle.std.specs.Prelude.{ℕ, ◌+◌, ◌<◌, ◌≤◌, List, [], length, slice_index_or}
-use Rattle.gtfs_tables.specs.declared.stop_times.StopRow.{StopRow}
+use Rattle.stop_times.specs.declared.rows.StopRow.{StopRow}
 use Rattle.gtfs_tables.specs.Feeds.{FeedParts}
-use Rattle.gtfs_tables.specs.Visits.{no_visit}
-use Rattle.gtfs_tables.specs.Bounds.{end_of_times}
+use Rattle.stop_times.specs.Visits.{no_visit}
+use Rattle.stop_times.specs.Bounds.{end_of_times}
 use Rattle.plan_model.specs.Bounds.{end_of_steps}
 
 -- the kept rows of a trip

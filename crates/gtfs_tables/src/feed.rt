@@ -4,13 +4,13 @@ ghost use Rattle.gtfs_tables.specs.Bounds.{most_stops, most_trips};
 
 use crate::frequencies::FrequencyRow;
 use crate::lists::{FeedLists, load_lists};
-use crate::stop_times::StopRow;
 use crate::times::{TripTimes, load_times};
 use csv_rows::{FeedFault, Limits};
 use file_ports::Files;
 use plan_model::{HashKey, PlaceId};
 use std::alloc::Global;
 use std::marker::Model;
+use stop_times::StopRow;
 
 /// The stops, trips, stop times and frequencies of a feed (GTFS Schedule reference). A time counts in seconds from noon
 /// minus twelve hours of the service day.
@@ -163,7 +163,7 @@ impl Feed {
         requires { trip < length self.now.trip_ids }
         ensures { result.now ≡ slice_index_or self.now.stop_times trip [] }
     {
-        self.times.visits[trip as usize].as_slice()
+        self.times.visits.of_trip(trip)
     }
 
     /// The rows of `frequencies.txt` by which a trip repeats, in the order of the file. A trip that does not repeat has none.

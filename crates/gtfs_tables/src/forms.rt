@@ -1,8 +1,9 @@
-//! The forms of the fields of stops, stop times and frequencies (GTFS Schedule reference).
+//! The forms of the fields of stops and frequencies (GTFS Schedule reference).
 ghost use Rattle.std.specs.Prelude.{◌≡◌, option_map};
-ghost use Rattle.gtfs_tables.specs.Forms.{is_stop_in, text_in, parent_in, allows_in, time_in, headway_in, is_exact_in};
+ghost use Rattle.gtfs_tables.specs.Forms.{is_stop_in, parent_in, headway_in, is_exact_in};
 
-use clock_text::{read_time, read_whole};
+use clock_text::read_whole;
+use stop_times::read_text;
 
 /// Whether a location is a stop or a platform, by its `location_type`.
 pub(crate) fn read_is_stop(text: &[u8]) -> Option<bool>
@@ -21,51 +22,11 @@ pub(crate) fn read_is_stop(text: &[u8]) -> Option<bool>
     None
 }
 
-/// A text of UTF-8, which may be empty.
-pub(crate) fn read_text(text: &[u8]) -> Option<&str>
-    ensures { option_map (λ s. s.now) result ≡ text_in text.now }
-{
-    match std::str::from_utf8(text) {
-        Ok(text) => Some(text),
-        Err(_) => None,
-    }
-}
-
 /// The parent station, at which only stops and platforms are looked at. An empty text is none.
 pub(crate) fn read_parent(is_stop: bool, text: &[u8]) -> Option<&str>
     ensures { option_map (λ s. s.now) result ≡ parent_in is_stop text.now }
 {
     if is_stop { read_text(text) } else { Some("") }
-}
-
-/// Whether a `pickup_type` or a `drop_off_type` lets one board or alight.
-pub(crate) fn read_allows(text: &[u8]) -> Option<bool>
-    ensures { result ≡ allows_in text.now }
-{
-    if text.is_empty()
-        || text == b"0".as_slice()
-        || text == b"2".as_slice()
-        || text == b"3".as_slice()
-    {
-        return Some(true);
-    }
-    if text == b"1".as_slice() {
-        return Some(false);
-    }
-    None
-}
-
-/// A time of the service day, or none where the field is empty.
-pub(crate) fn read_time_or_none(text: &[u8]) -> Option<Option<u32>>
-    ensures { result ≡ time_in text.now }
-{
-    if text.is_empty() {
-        return Some(None);
-    }
-    match read_time(text) {
-        None => None,
-        Some(seconds) => Some(Some(seconds)),
-    }
 }
 
 /// As many seconds as there may be from one departure of a trip that repeats to the next.

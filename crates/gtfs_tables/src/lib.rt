@@ -4,19 +4,13 @@
 mod feed;
 mod forms;
 mod frequencies;
-mod keys;
 mod lists;
 mod repeats;
 mod routes;
-mod stop_order;
-mod stop_times;
 mod stops;
-mod stored_row;
 mod tables;
 mod times;
-mod timetable;
 mod trips;
-mod visits;
 
 pub use feed::Feed;
 pub use frequencies::FrequencyRow;

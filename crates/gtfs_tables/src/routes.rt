@@ -8,7 +8,8 @@ ghost use Rattle.csv_rows.specs.First.{first_below};
 ghost use Rattle.csv_rows.specs.FeedTables.{unread_of, IsFaultOf};
 ghost use Rattle.csv_rows.specs.Tables.{row_count};
 ghost use Rattle.csv_rows.specs.RowFaults.{lack as lack_of};
-ghost use Rattle.gtfs_tables.specs.Feeds.{IsSound, AreRoutes};
+ghost use Rattle.stop_times.specs.Required.{IsSound};
+ghost use Rattle.gtfs_tables.specs.Feeds.{AreRoutes};
 ghost use Rattle.gtfs_tables.specs.Routes.{route_columns, route_in, bad_route, route_ids, route_types, routes_fault};
 
 use clock_text::read_whole;

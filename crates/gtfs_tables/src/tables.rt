@@ -1,5 +1,5 @@
 //! The tables of a feed, each loaded and read.
-ghost use Rattle.std.specs.Prelude.{◌≡◌, ◌≢◌, ◌<◌, ◌≤◌, ℕ, [], length, map, vec_items, slice_index_or, None, Some, Ok, Err, IfOk, IfErr, IfSome, IsSome, All};
+ghost use Rattle.std.specs.Prelude.{◌≡◌, ◌≢◌, ◌<◌, ◌≤◌, ℕ, [], length, slice_index_or, None, Some, Ok, Err, IfOk, IfErr, IfSome, IsSome, All};
 ghost use Rattle.std.specs.List.Sorted.{IsNonDecreasing};
 ghost use Rattle.csv_rows.specs.declared.columns.Column.TheVariants.{StopId, RouteId, TripId};
 ghost use Rattle.csv_rows.specs.declared.feed_tables.Table.TheVariants.{Stops as StopsTable, Routes as RoutesTable, Trips as TripsTable, StopTimes as StopTimesTable, Frequencies as FrequenciesTable};
@@ -8,24 +8,26 @@ ghost use Rattle.csv_rows.specs.Limits.{AreWithin, rows_of};
 ghost use Rattle.csv_rows.specs.Loading.{HasFeedCause, HasFeedPathCause, load_in, loaded_from};
 ghost use Rattle.csv_rows.specs.Tables.{row_count, table_of};
 ghost use Rattle.plan_model.specs.NameLists.{texts};
-ghost use Rattle.gtfs_tables.specs.Bounds.{most_stop_times, most_frequencies, most_stops, most_trips};
-ghost use Rattle.gtfs_tables.specs.Feeds.{required, stops_from, routes_from, trips_from, stop_times_from, frequencies_from, AreStops, AreRoutes, AreTrips, AreVisits, AreFrequencies, IsSound};
+ghost use Rattle.stop_times.specs.Bounds.{most_stop_times};
+ghost use Rattle.gtfs_tables.specs.Bounds.{most_frequencies, most_stops, most_trips};
+ghost use Rattle.stop_times.specs.Required.{required, IsSound};
+ghost use Rattle.stop_times.specs.Timetables.{stop_times_from, AreVisits};
+ghost use Rattle.gtfs_tables.specs.Feeds.{stops_from, routes_from, trips_from, frequencies_from, AreStops, AreRoutes, AreTrips, AreFrequencies};
 ghost use Rattle.gtfs_tables.specs.Stops.{stops_fault};
 ghost use Rattle.gtfs_tables.specs.Routes.{routes_fault};
 ghost use Rattle.gtfs_tables.specs.Trips.{trips_fault};
-ghost use Rattle.gtfs_tables.specs.StopTimes.{stop_times_fault};
+ghost use Rattle.stop_times.specs.StopTimes.{stop_times_fault};
 ghost use Rattle.gtfs_tables.specs.Frequencies.{fault_of_frequencies};
 ghost use Rattle.gtfs_tables.specs.Repeats.{all_repeats_in};
 
 use crate::repeats::{Repeats, repeats_from};
 use crate::routes::{Routes, read_routes};
-use crate::stop_times::StopRow;
 use crate::stops::{Stops, read_stops};
-use crate::timetable::read_stop_times;
 use crate::trips::{Trips, read_trips};
 use csv_rows::{Column, FeedFault, Ids, Limits, Loaded, Rows, Table, read_file, read_table};
 use file_ports::Files;
 use std::alloc::Global;
+use stop_times::{StopTimes, read_stop_times};
 
 /// The records of a required table.
 fn load_required<F: Files>(
@@ -175,7 +177,7 @@ pub(crate) fn load_stop_times<F: Files>(
     limits: &Limits,
     trips: &Ids,
     stops: &Stops,
-) -> Result<Vec<Vec<StopRow>>, FeedFault>
+) -> Result<StopTimes, FeedFault>
     requires limits { AreWithin limits.now }
     requires places { length stops.now.places.items ≡ length stops.now.ids }
     ensures same { F.files files.new ≡ F.files files.old }
@@ -183,23 +185,24 @@ pub(crate) fn load_stop_times<F: Files>(
         AreVisits trips.now stops.now.ids stops.now.places.items
         (stop_times_from (load_in m folder.now limits.now None StopTimesTable)
         trips.now stops.now.ids stops.now.places.items)
-        (map vec_items v.items))) }
+        v)) }
     ensures fault { IfSome (F.files files.old) (λ m. IfErr result (λ f. f ≢ FeedFault.NoMemory
         → stop_times_from (load_in m folder.now limits.now (unread_of f) StopTimesTable)
         trips.now stops.now.ids stops.now.places.items ≡ Err f)) }
     ensures sound { IfOk result (λ v.
         IsSound (stop_times_fault trips.now stops.now.ids stops.now.places.items)
-        (λ t. AreVisits trips.now stops.now.ids stops.now.places.items (Ok t) (map vec_items v.items))) }
+        (λ t. AreVisits trips.now stops.now.ids stops.now.places.items (Ok t) v)) }
     ensures few { IfOk result (λ v. (trip : ℕ) → trip < length trips.now
-        → length (slice_index_or (map vec_items v.items) trip []) ≤ most_stop_times) }
-    ensures sized { IfOk result (λ v. length v.items ≡ length trips.now) }
+        → length (slice_index_or v trip []) ≤ most_stop_times) }
+    ensures sized { IfOk result (λ v. length v ≡ length trips.now) }
     ensures own { IfErr result (IsFaultOf StopTimesTable) }
     ensures cause { HasFeedCause (F.faults files.old) (F.faults files.new) result }
     ensures path_cause { HasFeedPathCause (IsSome (F.files files.old)) folder.now
         (F.faults_of files.old) (F.faults_of files.new) result }
 {
     let text = load_times_text(alloc, files, folder, limits)?;
-    read_stop_times(alloc, text, trips, stops, limits.rows_of(Table::StopTimes))
+    let most = limits.rows_of(Table::StopTimes);
+    read_stop_times(alloc, text, trips, &stops.ids, stops.places.as_slice(), most)
 }
 
 /// How these trips repeat.

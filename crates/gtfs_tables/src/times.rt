@@ -8,16 +8,16 @@ ghost use Rattle.gtfs_tables.specs.Parts.{AreLists, AreTimes, AreSoundTimes};
 
 use crate::lists::FeedLists;
 use crate::repeats::Repeats;
-use crate::stop_times::StopRow;
 use crate::tables::{load_frequencies, load_stop_times};
 use csv_rows::{FeedFault, Limits};
 use file_ports::Files;
 use std::alloc::Global;
+use stop_times::StopTimes;
 
 /// The kept rows of the stop times of each trip, and how the trips repeat.
 #[derive(Drop)]
 pub(crate) struct TripTimes {
-    pub(crate) visits: Vec<Vec<StopRow>>,
+    pub(crate) visits: StopTimes,
     pub(crate) repeats: Repeats,
 }
 

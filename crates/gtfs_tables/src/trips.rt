@@ -8,7 +8,8 @@ ghost use Rattle.csv_rows.specs.FeedTables.{unread_of, IsFaultOf};
 ghost use Rattle.csv_rows.specs.Tables.{row_count};
 ghost use Rattle.plan_model.specs.NameLists.{texts};
 ghost use Rattle.csv_rows.specs.RowFaults.{lack as lack_of};
-ghost use Rattle.gtfs_tables.specs.Feeds.{IsSound, AreTrips};
+ghost use Rattle.stop_times.specs.Required.{IsSound};
+ghost use Rattle.gtfs_tables.specs.Feeds.{AreTrips};
 ghost use Rattle.gtfs_tables.specs.Trips.{trip_columns, trip_in, bad_trip, trip_ids, trip_routes, trip_services, trip_types, trips_fault};
 ghost use Rattle.gtfs_tables.specs.Bounds.{most_trips};
 

@@ -1,6 +1,6 @@
 //! The runs of a row.
 ghost use Rattle.std.specs.Prelude.{◌≡◌, ◌+◌, ◌<◌, ◌≤◌, ◌≤ℤ◌, ◌<ℤ◌, pos, ℕ};
-ghost use Rattle.gtfs_tables.specs.Bounds.{end_of_times};
+ghost use Rattle.stop_times.specs.Bounds.{end_of_times};
 ghost use Rattle.run_repeat.specs.Runs.{AreBelow, AreTimes, IsRun, PassesBefore, PassesUpTo, departure};
 
 use gtfs_tables::FrequencyRow;

@@ -1,6 +1,6 @@
 use Rattle.std.proofs.Common.{◌-◌, ◌^◌, List, min, length, sym, subst, ap₂, ◌∙◌}
 use Rattle.gtfs_tables.specs.declared.frequencies.FrequencyRow.{FrequencyRow}
-use Rattle.gtfs_tables.specs.declared.stop_times.StopRow.{StopRow}
+use Rattle.stop_times.specs.declared.rows.StopRow.{StopRow}
 use Rattle.gtfs_tables.specs.Repeats.{AreRepeats}
 use Rattle.gtfs_tables.specs.Timed.{rows_of}
 use Rattle.connections.specs.Rides.{AreDepartures, is_active}

@@ -1,5 +1,5 @@
 use Rattle.std.proofs.Common.{◌≤◌, arith, sym}
-use Rattle.gtfs_tables.proofs.RowLemmas.{whole_bound}
+use Rattle.stop_times.proofs.RowLemmas.{whole_bound}
 use Rattle.gtfs_tables.proofs.routes.read_route_type.Goals as goal
 
 pub overflow_cast-result : goal.overflow_cast-result

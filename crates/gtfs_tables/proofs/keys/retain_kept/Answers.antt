@@ -1,8 +1,0 @@
-use Rattle.std.proofs.Common.{rules}
-use Rattle.std.proofs.lemmas.Fn.{filter_same}
-use Rattle.csv_rows.specs.declared.keys.Key.{Key}
-use Rattle.gtfs_tables.specs.StopTimes.{is_kept}
-use Rattle.gtfs_tables.proofs.keys.retain_kept.Goals as goal
-
-pub returns-clause-kept : goal.returns-clause-kept
-returns-clause-kept c = filter_same _ (λ (key : Key). is_kept c.args.rows.now key.row) _ (λ x b f k. search rules) _ _ c.retain.ensures.filtered

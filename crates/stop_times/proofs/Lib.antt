@@ -1,0 +1,9 @@
+pub mod RowLemmas
+pub mod TimeLemmas
+pub mod BackLemmas
+pub mod KeptLemmas
+pub mod VisitLemmas
+pub mod BoundLemmas
+pub mod RowForms
+pub mod Beside
+pub mod NoFault

@@ -1,0 +1,71 @@
+-- What holds of the kept rows of a trip, where the table has no fault.
+use Rattle.std.proofs.Common.{◌≡◌, ℕ, ◌+◌, ◌-◌, ◌<◌, ◌≤◌, List, length, slice_index_or, Option, Some, None, IfSome, refl, sym, subst, arith, ⊎_elim}
+use Rattle.std.proofs.lemmas.Bool.{cases_lt}
+use Rattle.plan_model.specs.Bounds.{end_of_steps}
+use Rattle.plan_model.specs.Results.{value_or}
+use Rattle.csv_rows.specs.First.{first_below}
+use Rattle.csv_rows.specs.Tables.{row_count}
+use Rattle.csv_rows.proofs.FirstLemmas.{none-each, none-both}
+use Rattle.csv_rows.proofs.ListLemmas.{get-list_below}
+use Rattle.stop_times.specs.declared.rows.StopRow.{StopRow}
+use Rattle.stop_times.specs.StopTimes.{timed_rows, timed_at, row_at, no_row, time_columns, missing_time_column, bad_time, repeated_time, backward_time, order_fault, stop_times_fault}
+use Rattle.stop_times.specs.Visits.{no_visit, AreStopTimes}
+use Rattle.stop_times.proofs.TimeLemmas.{timed_count}
+use Rattle.stop_times.proofs.RowForms.{IsAtStop, InForm, row_in_form}
+use Rattle.stop_times.proofs.Beside.{forward, onward, rises}
+
+-- no row has a fault by itself, and no time goes back
+record HasNone (trips stops : List (List ℕ)) (places : List ℕ) (t : List (List (List ℕ))) : Type 0 where
+  fields : first_below (bad_time trips stops places t) (row_count t) ≡ None
+  backward : first_below (backward_time (timed_rows trips stops places t)) (length (timed_rows trips stops places t)) ≡ None
+
+has_none : (trips stops : List (List ℕ)) (places : List ℕ) (t : List (List (List ℕ))) → stop_times_fault trips stops places t ≡ None → HasNone trips stops places t
+unfolding stop_times_fault
+has_none trips stops places t h =
+    let rows = timed_rows trips stops places t in
+    let a = none-both (missing_time_column (time_columns t)) _ h in
+    let b = none-both (first_below (bad_time trips stops places t) (row_count t)) (order_fault rows) a.1 in
+    let c = none-both (first_below (repeated_time rows) (length rows)) (first_below (backward_time rows) (length rows)) b.1 in
+    record { fields = b.0; backward = c.1 }
+
+in_form : (trips stops : List (List ℕ)) (places : List ℕ) (t : List (List (List ℕ))) → HasNone trips stops places t → (i : ℕ) → i < length (timed_rows trips stops places t)
+    → InForm (length stops) places (row_at (timed_rows trips stops places t) i)
+in_form trips stops places t none i h =
+    let inside : i < row_count t = omega (arith, timed_count trips stops places t) in
+    subst (InForm (length stops) places)
+    (sym (get-list_below (λ j. value_or no_row (timed_at trips stops places t j)) (row_count t) i no_row inside))
+    (row_in_form trips stops places t i (none-each (bad_time trips stops places t) (row_count t) none.fields i inside))
+
+at_stop : (n : ℕ) (places : List ℕ) (o : Option StopRow) (v : StopRow) → o ≡ Some v → IfSome o (IsAtStop n places) → IsAtStop n places v
+at_stop n places o v e h = let P : Option StopRow → Type 0 = λ x. IfSome x (IsAtStop n places) in subst P e h
+
+-- they stand at places of the stops, and no time goes back
+pub record AreInOrder (stops : ℕ) (places : List ℕ) (visits : List StopRow) : Type 0 where
+  pub few : length visits ≤ end_of_steps
+  pub visit : (k : ℕ) → k < length visits → IsAtStop stops places (slice_index_or visits k no_visit)
+  pub forward : (k : ℕ) → k < length visits → (slice_index_or visits k no_visit).arrival ≤ (slice_index_or visits k no_visit).departure
+  pub onward : (k : ℕ) → k + 1 < length visits → (slice_index_or visits k no_visit).departure ≤ (slice_index_or visits (k + 1) no_visit).arrival
+
+module _ (trips stops : List (List ℕ)) (places : List ℕ) (t : List (List (List ℕ))) (none : HasNone trips stops places t)
+  (trip : ℕ) (visits : List StopRow) (times : AreStopTimes (timed_rows trips stops places t) trip visits) where
+  form : (k : ℕ) → k < length visits → InForm (length stops) places (row_at (timed_rows trips stops places t) (times.line k))
+  form k h = in_form trips stops places t none (times.line k) (times.visit k h).inside
+
+  few_by : (n : ℕ) → n ≡ length visits → n ≤ end_of_steps
+  few_by n e =
+      ⊎_elim (λ (some : 0 < n).
+      let last : n - 1 < length visits = omega arith in
+      omega (arith, rises (timed_rows trips stops places t) none.backward trip visits times (n - 1) last, (form (n - 1) last).sequence))
+      (λ (no : n ≤ 0). omega arith) (cases_lt 0 n)
+
+  in_order : AreInOrder (length stops) places visits
+  in_order = record {
+    few = few_by (length visits) refl;
+    visit = λ k h. at_stop (length stops) places _ _ (times.visit k h).kept (form k h).visit;
+    forward = forward (timed_rows trips stops places t) none.backward trip visits times;
+    onward = onward (timed_rows trips stops places t) none.backward trip visits times;
+  }
+
+pub kept_in_order : (trips stops : List (List ℕ)) (places : List ℕ) (t : List (List (List ℕ))) → stop_times_fault trips stops places t ≡ None
+    → (trip : ℕ) (visits : List StopRow) → AreStopTimes (timed_rows trips stops places t) trip visits → AreInOrder (length stops) places visits
+kept_in_order trips stops places t none = in_order trips stops places t (has_none trips stops places t none)

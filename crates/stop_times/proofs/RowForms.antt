@@ -1,0 +1,131 @@
+-- What the form of a row of stop times tells.
+use Rattle.std.proofs.Common.{◌≡◌, ℕ, ◌+◌, ◌*◌, ◌<◌, ◌≤◌, ◌-◌, ◌==◌, nat_eq, nat_le, nat_lt, ◌&&◌, Bool, true, false, List, [], length, take, drop, slice_index, slice_index_or, Option}
+use Rattle.std.proofs.Common.{Some, None, IfSome, option_map, if◌then◌else◌, refl, sym, subst, arith}
+use Rattle.std.specs.Prelude.{Result, Ok, Err}
+use Rattle.std.specs.List.{list_all}
+use Rattle.std.specs.Char.{is_ascii_digit}
+use Rattle.std.proofs.lemmas.Bool.{ltb-true, and_parts, leb-true}
+use Rattle.std.specs.Result.{result_err}
+use Rattle.plan_model.specs.Results.{value_or}
+use Rattle.clock_text.specs.Digits.{value_of, whole_of}
+use Rattle.clock_text.specs.Times.{time_at, time_of, seconds_at}
+use Rattle.clock_text.proofs.OneText.{if_cases, some_cases}
+use Rattle.csv_rows.specs.declared.columns.Column.TheVariants.{TripId, StopId, StopSequence, ArrivalTime, DepartureTime, PickupType, DropOffType}
+use Rattle.csv_rows.specs.declared.feed_tables.Table.TheVariants.{StopTimes}
+use Rattle.csv_rows.specs.declared.feed_tables.FeedFault.{FeedFault}
+use Rattle.csv_rows.specs.declared.feed_tables.FeedFault.TheVariants.{BadField, UnknownKey}
+use Rattle.csv_rows.specs.Names.{name_in}
+use Rattle.csv_rows.specs.Records.{field_of}
+use Rattle.csv_rows.specs.Tables.{place_in}
+use Rattle.stop_times.specs.declared.rows.StopRow.{StopRow}
+use Rattle.stop_times.specs.declared.rows.TimedRow.{TimedRow}
+use Rattle.stop_times.specs.Forms.{text_in, allows_in, time_in}
+use Rattle.stop_times.specs.StopTimes.{time_columns, number_in, times_of, visit_of, timed_from, timed_at, no_row}
+use Rattle.stop_times.proofs.RowLemmas.{whole_bound}
+use Rattle.csv_rows.proofs.RowLemmas.{place_inside}
+use Rattle.stop_times.specs.Bounds.{end_of_times}
+use Rattle.plan_model.proofs.Results.{require-each}
+
+-- a kept row stands at the place of a stop, at times of at most 167 hours
+pub record IsAtStop (stops : ℕ) (places : List ℕ) (v : StopRow) : Type 0 where
+  pub stop : ℕ
+  pub inside : stop < stops
+  pub place : v.place.0 ≡ slice_index places stop
+  pub arrival : v.arrival < end_of_times
+  pub departure : v.departure < end_of_times
+
+pub record InForm (stops : ℕ) (places : List ℕ) (r : TimedRow) : Type 0 where
+  pub sequence : r.sequence ≤ 999999999
+  pub visit : IfSome r.visit (IsAtStop stops places)
+
+same_ok : (x r : TimedRow) → ◌≡◌ {A = Result TimedRow FeedFault} (Ok x) (Ok r) → x ≡ r
+same_ok x r e = cc
+
+abbrev IsBelow : ℕ → Option ℕ → Type 0
+IsBelow n o = IfSome o (λ k. k < n)
+
+place_few : (name : List ℕ) (names : List (List ℕ)) (o : Option ℕ) → o ≡ place_in name names → IsBelow (length names) o
+place_few name names None e = tt
+place_few name names (Some k) e = place_inside name names k (sym e)
+
+-- an empty text is none
+or_none : (b : Bool) (p : Option ℕ) (n : ℕ) (o : Option ℕ) → IsBelow n p → (if b then Some None else option_map Some p) ≡ Some o → IsBelow n o
+or_none true p n o h e = let same : None ≡ o = cc in subst (IsBelow n) same tt
+or_none false None n o h e = absurd (cc)
+or_none false (Some k) n o h e = let same : Some k ≡ o = cc in subst (IsBelow n) same h
+
+seconds_below : (h m s n : ℕ) → seconds_at h m s ≡ Some n → n < end_of_times
+seconds_below h m s n e =
+    let parts = some_cases (nat_le h 167 && (nat_lt m 60 && nat_lt s 60)) (3600 * h + (60 * m + s)) n e in
+    let hours = and_parts (nat_le h 167) (nat_lt m 60 && nat_lt s 60) parts.0 in
+    let rest = and_parts (nat_lt m 60) (nat_lt s 60) hours.1 in
+    omega (arith, leb-true h 167 hours.0, ltb-true m 60 rest.0, ltb-true s 60 rest.1, parts.1)
+
+has_marks : ℕ → List ℕ → Bool
+has_marks k t =
+    nat_eq (slice_index t k) 58 && (nat_eq (slice_index t (k + 3)) 58 && (list_all is_ascii_digit (take k t)
+    && (list_all is_ascii_digit (take 2 (drop (k + 1) t)) && list_all is_ascii_digit (take 2 (drop (k + 4) t)))))
+
+of_below : (k : ℕ) (t : List ℕ) (n : ℕ) → time_of k t ≡ Some n → n < end_of_times
+unfolding has_marks
+of_below k t n e =
+    let hour = value_of (take k t) in let minute = value_of (take 2 (drop (k + 1) t)) in let second = value_of (take 2 (drop (k + 4) t)) in
+    seconds_below hour minute second n (if_cases (has_marks k t) (seconds_at hour minute second) n e).1
+
+pub time_below : (text : List ℕ) (n : ℕ) → time_at text ≡ Some n → n < end_of_times
+time_below text n e =
+    of_below (length text - 6) text n (if_cases (nat_le 7 (length text) && nat_le (length text) 9) (time_of (length text - 6) text) n e).1
+
+below_if : (o : Option ℕ) (n : ℕ) → ((m : ℕ) → o ≡ Some m → m < n) → IsBelow n o
+below_if None n h = tt
+below_if (Some m) n h = h m refl
+
+time_few : (text : List ℕ) → IsBelow end_of_times (time_at text)
+time_few text = below_if (time_at text) end_of_times (time_below text)
+
+visit_form : (stops : ℕ) (places : List ℕ) (o a d : Option ℕ) (board exit : Bool) → IsBelow stops o → IsBelow end_of_times a → IsBelow end_of_times d
+    → IfSome (visit_of places o (times_of a d) board exit) (IsAtStop stops places)
+visit_form stops places None None None board exit h k l = tt
+visit_form stops places None None (Some y) board exit h k l = tt
+visit_form stops places None (Some x) None board exit h k l = tt
+visit_form stops places None (Some x) (Some y) board exit h k l = tt
+visit_form stops places (Some i) None None board exit h k l = tt
+visit_form stops places (Some i) None (Some y) board exit h k l = record { stop = i; inside = h; place = refl; arrival = l; departure = l }
+visit_form stops places (Some i) (Some x) None board exit h k l = record { stop = i; inside = h; place = refl; arrival = k; departure = k }
+visit_form stops places (Some i) (Some x) (Some y) board exit h k l = record { stop = i; inside = h; place = refl; arrival = k; departure = l }
+
+-- a row that has no fault by itself
+from_in_form : (trips stops : List (List ℕ)) (places : List ℕ) (line : ℕ) (trip stop sequence arrival departure pickup drop_off : List ℕ) (r : TimedRow)
+    → timed_from trips stops places line trip stop sequence arrival departure pickup drop_off ≡ Ok r → InForm (length stops) places r
+from_in_form trips stops places line trip stop sequence arrival departure pickup drop_off =
+    let P : TimedRow → Type 0 = InForm (length stops) places in
+    require-each P (name_in trip) (BadField StopTimes line TripId) _ (λ trip' e0.
+    require-each P (place_in trip' trips) (UnknownKey StopTimes line TripId) _ (λ number e1.
+    require-each P (text_in stop) (BadField StopTimes line StopId) _ (λ stop' e2.
+    require-each P (number_in stops stop') (UnknownKey StopTimes line StopId) _ (λ stop_number e3.
+    require-each P (whole_of 999999999 sequence) (BadField StopTimes line StopSequence) _ (λ sequence' e4.
+    require-each P (time_in arrival) (BadField StopTimes line ArrivalTime) _ (λ arrival' e5.
+    require-each P (time_in departure) (BadField StopTimes line DepartureTime) _ (λ departure' e6.
+    require-each P (allows_in pickup) (BadField StopTimes line PickupType) _ (λ board e7.
+    require-each P (allows_in drop_off) (BadField StopTimes line DropOffType) _ (λ exit e8 r q.
+    subst P (same_ok _ r q) (record {
+      sequence = whole_bound 999999999 sequence' sequence e4;
+      visit = visit_form (length stops) places stop_number arrival' departure' board exit
+          (or_none (length stop' == 0) (place_in stop' stops) (length stops) stop_number (place_few stop' stops (place_in stop' stops) refl) e3)
+          (or_none (length arrival == 0) (time_at arrival) end_of_times arrival' (time_few arrival) e5)
+          (or_none (length departure == 0) (time_at departure) end_of_times departure' (time_few departure) e6);
+    }))))))))))
+
+ok_form : (P : TimedRow → Type 0) (o : Result TimedRow FeedFault) → result_err o ≡ None → ((r : TimedRow) → o ≡ Ok r → P r) → P (value_or no_row o)
+ok_form P (Ok r) h k = k r refl
+ok_form P (Err fault) h k = absurd (cc)
+
+pub row_in_form : (trips stops : List (List ℕ)) (places : List ℕ) (t : List (List (List ℕ))) (i : ℕ) → result_err (timed_at trips stops places t i) ≡ None
+    → InForm (length stops) places (value_or no_row (timed_at trips stops places t i))
+unfolding timed_at
+row_in_form trips stops places t i none =
+    let c = time_columns t in
+    let row = slice_index_or t (i + 1) [] in
+    ok_form (InForm (length stops) places) (timed_at trips stops places t i) none
+    (from_in_form trips stops places (i + 2) (field_of row c.trip) (field_of row c.stop) (field_of row c.sequence) (field_of row c.arrival)
+    (field_of row c.departure) (field_of row c.pickup) (field_of row c.drop_off))

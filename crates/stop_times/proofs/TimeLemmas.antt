@@ -1,0 +1,155 @@
+-- The rows of stop times.
+use Rattle.std.proofs.Common.{◌≡◌, ◌≢◌, ℕ, ◌+◌, ◌<◌, ◌≤◌, ◌==◌, nat_lt, Bool, true, false, List, [], length, slice_index_or, Option, Some, None, if◌then◌else◌}
+use Rattle.std.proofs.Common.{refl, sym, ap, ◌∙◌, subst, arith}
+use Rattle.std.specs.Prelude.{Result, Ok, Err}
+use Rattle.std.proofs.lemmas.Bool.Decides.{nat_tests}
+use Rattle.plan_model.specs.Results.{and_then, unless, value_or}
+use Rattle.csv_rows.specs.declared.columns.Column.TheVariants.{TripId}
+use Rattle.csv_rows.specs.declared.feed_tables.FeedFault.{FeedFault}
+use Rattle.csv_rows.specs.declared.feed_tables.FeedFault.TheVariants.{MissingColumn, TooManyRows, NoMemory}
+use Rattle.csv_rows.specs.declared.feed_tables.Table.TheVariants.{StopTimes}
+use Rattle.csv_rows.specs.declared.loading.Loaded.TheVariants.{NoRecord, Found}
+use Rattle.csv_rows.specs.Loading.{loaded_from}
+use Rattle.csv_rows.specs.Tables.{row_count}
+use Rattle.stop_times.specs.declared.rows.TimeColumns.{TimeColumns}
+use Rattle.stop_times.specs.declared.rows.TimedRow.{TimedRow}
+use Rattle.csv_rows.specs.First.{first_below}
+use Rattle.stop_times.specs.declared.rows.StopRow.{StopRow}
+use Rattle.stop_times.specs.Required.{Records, required}
+use Rattle.stop_times.specs.Timetables.{stop_times_from, AreVisits}
+use Rattle.stop_times.specs.Visits.{AreStopTimes}
+use Rattle.stop_times.specs.StopTimes.{time_columns, timed_of, timed_in, timed_at, bad_time, timed_rows, no_row, counted_fault, missing_time_column, order_fault, stop_times_fault}
+use Rattle.csv_rows.proofs.ListLemmas.{length-list_below}
+use Rattle.csv_rows.proofs.RowLemmas.{or_first, or_then}
+
+-- the row by where the columns stand
+pub timed_is : (trips stops : List (List ℕ)) (places : List ℕ) (t : List (List (List ℕ))) (c : TimeColumns) (i : ℕ) (r : Result TimedRow FeedFault)
+    → c ≡ time_columns t → timed_in trips stops places t c i ≡ r → timed_at trips stops places t i ≡ r
+unfolding timed_at
+timed_is trips stops places t c i r e h = ap (λ k. timed_in trips stops places t k i) (sym e) ∙ h
+
+-- and by its record
+pub row_is : (trips stops : List (List ℕ)) (places : List ℕ) (t : List (List (List ℕ))) (c : TimeColumns) (i : ℕ) (fields : List (List ℕ)) (r : Result TimedRow FeedFault)
+    → c ≡ time_columns t → slice_index_or t (i + 1) [] ≡ fields → timed_of trips stops places (i + 2) c fields ≡ r → timed_at trips stops places t i ≡ r
+row_is trips stops places t c i fields r e same h =
+    timed_is trips stops places t c i r e (ap (λ (row : List (List ℕ)). timed_of trips stops places (i + 2) c row) same ∙ h)
+
+pub timed_count : (trips stops : List (List ℕ)) (places : List ℕ) (t : List (List (List ℕ))) → length (timed_rows trips stops places t) ≡ row_count t
+timed_count trips stops places t = length-list_below (λ i. value_or no_row (timed_at trips stops places t i)) (row_count t)
+
+if_counted : (b : Bool) (x fault f : FeedFault) (o : Option FeedFault) → f ≢ NoMemory → (fault ≢ NoMemory → o ≡ Some fault)
+    → (if b then Some x else Some fault) ≡ Some f → (if b then Some x else o) ≡ Some f
+if_counted true x fault f o free here h = h
+if_counted false x fault f o free here h = let same : fault ≡ f = cc in here (λ e. free (sym same ∙ e)) ∙ h
+
+-- the fault of a row, where there are not too many
+pub counted_row : (most n : ℕ) (fault f : FeedFault) (o : Option FeedFault) → f ≢ NoMemory → (fault ≢ NoMemory → o ≡ Some fault)
+    → counted_fault most n (Some fault) ≡ Some f → counted_fault most n o ≡ Some f
+counted_row most n fault f o free here h = if_counted (nat_lt most n) (TooManyRows StopTimes n) fault f o free here h
+
+-- where there are too many, whatever the rows are
+pub counted_many : (most n : ℕ) (a b : Option FeedFault) → most < n → counted_fault most n a ≡ counted_fault most n b
+counted_many most n a b h =
+    let test : nat_lt most n ≡ true = grind (arith, nat_tests) in
+    ap (λ t. if t then Some (TooManyRows StopTimes n) else a) test ∙ sym (ap (λ t. if t then Some (TooManyRows StopTimes n) else b) test)
+
+-- a fault that comes before others
+pub counted_same : (most n : ℕ) (a b : Option FeedFault) (f : FeedFault) → ((x : FeedFault) → a ≡ Some x → b ≡ Some x) → counted_fault most n a ≡ Some f → counted_fault most n b ≡ Some f
+counted_same most n a b f k h = by (nat_lt most n) h
+  where
+    by : (t : Bool) → (if t then Some (TooManyRows StopTimes n) else a) ≡ Some f → (if t then Some (TooManyRows StopTimes n) else b) ≡ Some f
+    by true e = e
+    by false e = k f e
+
+-- what is read of a text with no record, and of one with these
+pub times_none : (trips stops : List (List ℕ)) (places : List ℕ) (most : ℕ) (t : List (List (List ℕ))) → t ≡ []
+    → stop_times_from (loaded_from StopTimes most t) trips stops places ≡ Err (MissingColumn StopTimes TripId)
+times_none trips stops places most t e = ap (λ (x : List (List (List ℕ))). stop_times_from (loaded_from StopTimes most x) trips stops places) e
+
+fault_by : (a b : Bool) (n : ℕ) (t : Records) (check : Records → Option FeedFault) (f : FeedFault) → a ≡ false
+    → (if b then Some (TooManyRows StopTimes n) else check t) ≡ Some f
+    → and_then (required StopTimes TripId (if a then Ok NoRecord else if b then Err (TooManyRows StopTimes n) else Ok (Found t))) (λ x. unless (check x) x) ≡ Err f
+fault_by true b n t check f e h = absurd (cc)
+fault_by false true n t check f e h = let same : TooManyRows StopTimes n ≡ f = cc in ap Err same
+fault_by false false n t check f e h = ap (λ o. unless o t) h
+
+sound_by : (a b : Bool) (n : ℕ) (t : Records) (check : Records → Option FeedFault) → a ≡ false → b ≡ false → check t ≡ None
+    → and_then (required StopTimes TripId (if a then Ok NoRecord else if b then Err (TooManyRows StopTimes n) else Ok (Found t))) (λ x. unless (check x) x) ≡ Ok t
+sound_by true b n t check e k h = absurd (cc)
+sound_by false true n t check e k h = absurd (cc)
+sound_by false false n t check e k h = ap (λ o. unless o t) h
+
+pub times_fault : (trips stops : List (List ℕ)) (places : List ℕ) (most : ℕ) (t : List (List (List ℕ))) (f : FeedFault) → 0 < length t
+    → counted_fault most (row_count t) (stop_times_fault trips stops places t) ≡ Some f → stop_times_from (loaded_from StopTimes most t) trips stops places ≡ Err f
+times_fault trips stops places most t f some h =
+    let test : (length t == 0) ≡ false = grind (arith, nat_tests) in
+    fault_by (length t == 0) (nat_lt most (row_count t)) (row_count t) t (stop_times_fault trips stops places) f test h
+
+pub times_sound : (trips stops : List (List ℕ)) (places : List ℕ) (most : ℕ) (t : List (List (List ℕ))) → 0 < length t → row_count t ≤ most
+    → stop_times_fault trips stops places t ≡ None → stop_times_from (loaded_from StopTimes most t) trips stops places ≡ Ok t
+times_sound trips stops places most t some few h =
+    let test : (length t == 0) ≡ false = grind (arith, nat_tests) in
+    let room : nat_lt most (row_count t) ≡ false = grind (arith, nat_tests) in
+    sound_by (length t == 0) (nat_lt most (row_count t)) (row_count t) t (stop_times_fault trips stops places) test room h
+
+-- where the rows may be so many, the fault of the table is counted no more
+pub counted_few : (most n : ℕ) (o : Option FeedFault) → n ≤ most → counted_fault most n o ≡ o
+counted_few most n o h =
+    let room : nat_lt most n ≡ false = grind (arith, nat_tests) in
+    ap (λ t. if t then Some (TooManyRows StopTimes n) else o) room
+
+-- the fault of the table: in its header, in a row by itself, and of the rows beside each other
+pub fault_of_header : (trips stops : List (List ℕ)) (places : List ℕ) (t : List (List (List ℕ))) (f : FeedFault)
+    → missing_time_column (time_columns t) ≡ Some f → stop_times_fault trips stops places t ≡ Some f
+unfolding stop_times_fault
+fault_of_header trips stops places t f h = or_first _ _ f h
+
+pub fault_of_row : (trips stops : List (List ℕ)) (places : List ℕ) (t : List (List (List ℕ))) (f : FeedFault)
+    → missing_time_column (time_columns t) ≡ None → first_below (bad_time trips stops places t) (row_count t) ≡ Some f → stop_times_fault trips stops places t ≡ Some f
+unfolding stop_times_fault
+fault_of_row trips stops places t f none h = or_then _ _ _ none (or_first _ _ f h)
+
+pub fault_of_order : (trips stops : List (List ℕ)) (places : List ℕ) (t : List (List (List ℕ)))
+    → missing_time_column (time_columns t) ≡ None → first_below (bad_time trips stops places t) (row_count t) ≡ None
+    → stop_times_fault trips stops places t ≡ order_fault (timed_rows trips stops places t)
+unfolding stop_times_fault
+fault_of_order trips stops places t none h = or_then _ _ _ none (or_then _ _ _ h refl)
+
+-- the rows that were read of a table
+pub record AreTimedRows (trips stops : List (List ℕ)) (places : List ℕ) (most : ℕ) (t : List (List (List ℕ))) (rows : List TimedRow) : Type 0 where
+  pub rows_are : rows ≡ timed_rows trips stops places t
+  pub some : 0 < length t
+  pub few : length rows ≤ most
+  pub rest : stop_times_fault trips stops places t ≡ order_fault (timed_rows trips stops places t)
+
+pub timed_rows_are : (trips stops : List (List ℕ)) (places : List ℕ) (most : ℕ) (t : List (List (List ℕ))) (timed rows : List TimedRow) → rows ≡ timed
+    → timed ≡ timed_rows trips stops places t → 0 < length t → length timed ≤ most
+    → stop_times_fault trips stops places t ≡ order_fault (timed_rows trips stops places t) → AreTimedRows trips stops places most t rows
+timed_rows_are trips stops places most t timed rows same are some few rest =
+    record { rows_are = same ∙ are; some = some; few = omega (arith, ap length same); rest = rest }
+
+few_rows : (trips stops : List (List ℕ)) (places : List ℕ) (most : ℕ) (t : List (List (List ℕ))) (rows : List TimedRow) → AreTimedRows trips stops places most t rows → row_count t ≤ most
+few_rows trips stops places most t rows r = omega (arith, r.few, ap length r.rows_are, timed_count trips stops places t)
+
+pub order_faulty : (trips stops : List (List ℕ)) (places : List ℕ) (most : ℕ) (t : List (List (List ℕ))) (rows : List TimedRow) (f : FeedFault)
+    → AreTimedRows trips stops places most t rows → order_fault rows ≡ Some f → stop_times_from (loaded_from StopTimes most t) trips stops places ≡ Err f
+order_faulty trips stops places most t rows f r h =
+    times_fault trips stops places most t f r.some
+    (counted_few most (row_count t) (stop_times_fault trips stops places t) (few_rows trips stops places most t rows r) ∙ r.rest ∙ ap order_fault (sym r.rows_are) ∙ h)
+
+pub order_sound : (trips stops : List (List ℕ)) (places : List ℕ) (most : ℕ) (t : List (List (List ℕ))) (rows : List TimedRow)
+    → AreTimedRows trips stops places most t rows → order_fault rows ≡ None → stop_times_fault trips stops places t ≡ None
+order_sound trips stops places most t rows r h = r.rest ∙ ap order_fault (sym r.rows_are) ∙ h
+
+pub visits_of_rows : (trips stops : List (List ℕ)) (places : List ℕ) (most : ℕ) (t : List (List (List ℕ))) (rows : List TimedRow) (visits : List (List StopRow))
+    → AreTimedRows trips stops places most t rows → length visits ≡ length trips
+    → ((trip : ℕ) → trip < length trips → AreStopTimes rows trip (slice_index_or visits trip [])) → AreVisits trips stops places (Ok t) visits
+visits_of_rows trips stops places most t rows visits r size each =
+    (size, λ trip h. subst (λ (xs : List TimedRow). AreStopTimes xs trip (slice_index_or visits trip [])) r.rows_are (each trip h))
+
+pub visits_of_text : (trips stops : List (List ℕ)) (places : List ℕ) (most : ℕ) (t : List (List (List ℕ))) (rows : List TimedRow) (visits : List (List StopRow))
+    → AreTimedRows trips stops places most t rows → order_fault rows ≡ None → AreVisits trips stops places (Ok t) visits
+    → AreVisits trips stops places (stop_times_from (loaded_from StopTimes most t) trips stops places) visits
+visits_of_text trips stops places most t rows visits r h v =
+    subst (λ (read : Result Records FeedFault). AreVisits trips stops places read visits)
+    (sym (times_sound trips stops places most t r.some (few_rows trips stops places most t rows r) (order_sound trips stops places most t rows r h))) v

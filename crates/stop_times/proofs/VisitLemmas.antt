@@ -1,0 +1,127 @@
+-- The kept rows of a trip, by the keys that are of it.
+use Rattle.std.proofs.Common.{◌≡◌, ℕ, ◌+◌, ◌-◌, ◌<◌, ◌≤◌, true, List, [], ◌∷◌, ◌++◌, length, drop, slice_range, slice_index, slice_index_or, Option, Some, None, refl, sym, ap, ◌∙◌, subst, arith, ⊎_elim, eq-or-lt_of_le}
+use Rattle.std.specs.Prelude.{is_some}
+use Rattle.std.proofs.lemmas.Bool.{cases_lt}
+use Rattle.std.proofs.lemmas.List.{get_or_append_left, get_or_push, get_or-take, get_or-drop, length-take-le, length-drop}
+use Rattle.csv_rows.specs.First.{first_below}
+use Rattle.stop_times.specs.declared.rows.StopRow.{StopRow}
+use Rattle.stop_times.specs.declared.rows.TimedRow.{TimedRow}
+use Rattle.csv_rows.specs.declared.keys.Key.{Key}
+use Rattle.csv_rows.specs.Keys.{key_at, IsRising}
+use Rattle.csv_rows.specs.Lists.{list_below}
+use Rattle.stop_times.specs.StopTimes.{row_at, trip_of, sequence_of, repeated_time}
+use Rattle.stop_times.specs.Bounded.{IsBounded, rows_between, parted}
+use Rattle.stop_times.specs.Keys.{AreKeysOf, is_taken}
+use Rattle.stop_times.specs.Visits.{no_visit, visit_or_none, visit_at, IsVisit, AreStopTimes, IsSpanOf}
+use Rattle.csv_rows.proofs.KeyLemmas.{less_group, rises}
+use Rattle.csv_rows.proofs.ListLemmas.{length-list_below, get-list_below}
+use Rattle.stop_times.proofs.BackLemmas.{apart}
+
+some_is : (o : Option StopRow) → is_some o ≡ true → o ≡ Some (visit_or_none o)
+some_is None h = absurd (cc)
+some_is (Some v) h = refl
+
+-- the rows from one place to another
+length-range : {A : Type 0} (xs : List A) (low high : ℕ) → high ≤ length xs → length (slice_range xs low high) ≡ high - low
+length-range xs low high h = length-take-le (high - low) (drop low xs) (omega (arith, length-drop low xs))
+
+get-range : {A : Type 0} (xs : List A) (low high p : ℕ) (d : A) → p < high - low → slice_index_or (slice_range xs low high) p d ≡ slice_index_or xs (low + p) d
+get-range xs low high p d h = get_or-take (high - low) (drop low xs) p d h ∙ get_or-drop low xs p d
+
+module _ (rows : List TimedRow) (keys : List Key) (s : AreKeysOf true rows keys) (visits : List StopRow) (e : visits ≡ list_below (visit_at rows keys) (length keys)) where
+  long : length visits ≡ length keys
+  long = ap length e ∙ length-list_below (visit_at rows keys) (length keys)
+
+  -- the kept rows of the keys of a trip
+  pub visits_are : first_below (repeated_time rows) (length rows) ≡ None → (trip low high : ℕ) → IsSpanOf keys trip low high → AreStopTimes rows trip (slice_range visits low high)
+  visits_are none trip low high span =
+      let of_trip = slice_range visits low high in
+      let size : length of_trip ≡ high - low = length-range visits low high (omega (arith, span.inside, long)) in
+      record {
+        line = λ p. (key_at keys (low + p)).row;
+        visit = λ p h.
+            let k = low + p in
+            let inside : k < length keys = omega (arith, h, size, span.inside) in
+            let value : slice_index_or of_trip p no_visit ≡ visit_at rows keys k
+            = get-range visits low high p no_visit (omega (arith, h, size)) ∙ ap (λ (xs : List StopRow). slice_index_or xs k no_visit) e
+            ∙ get-list_below (visit_at rows keys) (length keys) k no_visit inside in
+            subst (IsVisit rows trip (key_at keys k).row) (sym value) (record {
+              inside = s.inside k inside;
+              of_trip = sym (s.groups k inside) ∙ span.here k (omega arith) (omega (arith, h, size));
+              kept = some_is (row_at rows (key_at keys k).row).visit (s.taken k inside);
+            });
+        rising = λ p q less h.
+            let k = low + p in let m = low + q in
+            let inside : m < length keys = omega (arith, h, size, span.inside) in
+            let same : (key_at keys k).group ≡ (key_at keys m).group
+            = span.here k (omega arith) (omega (arith, less, h, size)) ∙ sym (span.here m (omega arith) (omega (arith, h, size))) in
+            omega (arith, rises (is_taken true rows) (trip_of rows) (sequence_of rows) (length rows) keys s (apart rows none) k m (omega arith) inside same, s.orders k (omega arith), s.orders m inside);
+        all = λ i inside of_trip kept.
+            let w = s.all i inside kept in
+            let k = w.0 in
+            let trip_is : (key_at keys k).group ≡ trip = s.groups k w.1 ∙ ap (λ j. (row_at rows j).trip) w.2 ∙ of_trip in
+            let first : low ≤ k = ⊎_elim (λ (less : k < low). absurd (omega (arith, trip_is, span.before k less))) (λ (ge : low ≤ k). ge) (cases_lt k low) in
+            let last : k < high = ⊎_elim (λ (less : k < high). less) (λ (ge : high ≤ k). absurd (omega (arith, trip_is, span.after k ge w.1))) (cases_lt k high) in
+            let back : low + (k - low) ≡ k = omega arith in
+            (k - low, omega (arith, size), ap (λ j. (key_at keys j).row) back ∙ w.2);
+      }
+
+  -- where each trip has its span, between bounds
+  module _ (bounds : List ℕ) (trips : ℕ) (count : length bounds ≡ trips + 1)
+    (spans : (trip : ℕ) → trip < trips → IsSpanOf keys trip (slice_index bounds trip) (slice_index bounds (trip + 1))) where
+    pub bounded : IsBounded visits bounds
+    bounded = record {
+      order = λ trip h. (spans trip (omega (arith, h, count))).order;
+      inside = λ trip h. omega (arith, (spans trip (omega (arith, h, count))).inside, long);
+    }
+
+    pub parted_count : length (parted visits bounds) ≡ trips
+    parted_count = omega (arith, length-list_below (rows_between visits bounds) (length bounds - 1), count)
+
+    here : (trip : ℕ) → trip < trips → slice_index_or (parted visits bounds) trip [] ≡ rows_between visits bounds trip
+    here trip h = get-list_below (rows_between visits bounds) (length bounds - 1) trip [] (omega (arith, h, count))
+
+    pub parted_are : first_below (repeated_time rows) (length rows) ≡ None → (trip : ℕ) → trip < trips → AreStopTimes rows trip (slice_index_or (parted visits bounds) trip [])
+    parted_are none trip h =
+        subst (AreStopTimes rows trip) (sym (here trip h)) (visits_are none trip (slice_index bounds trip) (slice_index bounds (trip + 1)) (spans trip h))
+
+    pub parted_few : (most : ℕ) → length keys ≤ most → (trip : ℕ) → trip < trips → length (slice_index_or (parted visits bounds) trip []) ≤ most
+    parted_few most few trip h =
+        let span = spans trip h in
+        omega (arith, ap length (here trip h), length-range visits (slice_index bounds trip) (slice_index bounds (trip + 1)) (omega (arith, span.inside, long)), span.inside, few)
+
+-- the keys of a trip, where those before are of earlier trips
+pub span_is : (keys : List Key) → IsRising keys → (trip low high : ℕ) → low ≤ high → high ≤ length keys
+    → ((k : ℕ) → k < low → (key_at keys k).group < trip) → ((k : ℕ) → low ≤ k → k < length keys → trip ≤ (key_at keys k).group)
+    → ((k : ℕ) → low ≤ k → k < high → (key_at keys k).group ≡ trip) → (high < length keys → (key_at keys high).group ≡ trip → ⊥)
+    → IsSpanOf keys trip low high
+span_is keys rising trip low high order inside before rest here other =
+    let next : high < length keys → trip < (key_at keys high).group
+    = λ h. ⊎_elim (λ (same : trip ≡ (key_at keys high).group). absurd (other h (sym same))) (λ (less : trip < (key_at keys high).group). less) (eq-or-lt_of_le (rest high order h)) in
+    record {
+      order = order;
+      inside = inside;
+      before = before;
+      here = here;
+      after = λ k from h.
+          ⊎_elim (λ (same : high ≡ k). let P : ℕ → Type 0 = λ j. trip < (key_at keys j).group in subst P same (next (omega arith)))
+          (λ (less : high < k). omega (arith, next (omega arith), less_group (key_at keys high) (key_at keys k) (rising high k less h)))
+          (eq-or-lt_of_le from);
+    }
+
+-- one more bound leaves the spans before, and tells the next
+pub spans_next : (keys : List Key) (old new : List ℕ) (start end n : ℕ) → length old ≡ n + 1 → new ≡ old ++ end ∷ [] → slice_index old n ≡ start
+    → ((t : ℕ) → t < n → IsSpanOf keys t (slice_index old t) (slice_index old (t + 1))) → IsSpanOf keys n start end
+    → (t : ℕ) → t < n + 1 → IsSpanOf keys t (slice_index new t) (slice_index new (t + 1))
+spans_next keys old new start end n size e first each here t h =
+    let kept : (k : ℕ) → k < n + 1 → slice_index new k ≡ slice_index old k
+    = λ k less. ap (λ (xs : List ℕ). slice_index xs k) e ∙ get_or_append_left old (end ∷ []) 0 k (omega (arith, less, size)) in
+    ⊎_elim (λ (less : t < n).
+    subst (λ (b : ℕ). IsSpanOf keys t (slice_index new t) b) (sym (kept (t + 1) (omega arith)))
+    (subst (λ (a : ℕ). IsSpanOf keys t a (slice_index old (t + 1))) (sym (kept t h)) (each t less)))
+    (λ (ge : n ≤ t).
+    let same : n ≡ t = omega arith in
+    let last : slice_index new (n + 1) ≡ end = ap (λ (xs : List ℕ). slice_index xs (n + 1)) e ∙ get_or_push old end 0 (n + 1) size in
+    subst (λ (k : ℕ). IsSpanOf keys k (slice_index new k) (slice_index new (k + 1))) same
+    (subst (λ (b : ℕ). IsSpanOf keys n (slice_index new n) b) (sym last) (subst (λ (a : ℕ). IsSpanOf keys n a end) (sym (kept n (omega arith) ∙ first)) here)))
+    (cases_lt t n)

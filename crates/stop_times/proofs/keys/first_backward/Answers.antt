@@ -1,0 +1,35 @@
+use Rattle.std.proofs.Common.{ℕ, true, sym, ap, ◌∙◌, length, arith, option_map}
+use Rattle.csv_rows.specs.declared.feed_tables.FeedFault.{FeedFault}
+use Rattle.csv_rows.proofs.KeyLemmas.{before_inside}
+use Rattle.csv_rows.proofs.SoonestLemmas.{soonest-next, soonest-first}
+use Rattle.stop_times.specs.StopTimes.{trip_of, sequence_of, backward_time}
+use Rattle.stop_times.specs.Keys.{is_taken}
+use Rattle.stop_times.proofs.BackLemmas.{back_is, quiet}
+use Rattle.stop_times.proofs.keys.first_backward.Goals as goal
+
+pub loop-k-preserved : goal.loop-k-preserved
+loop-k-preserved c = λ none.
+    let k = c.loop-k.k in
+    let rows = c.args.rows.now in
+    soonest-next (backward_time rows) (length rows) c.args.keys.now k c.loop-k.first c.sooner-first.result c.backward.result (c.requires.inside k (omega arith))
+    (back_is rows c.args.keys.now c.requires none k (omega arith) c.before_at.result c.before_at.ensures ∙ sym c.backward.ensures) c.sooner-first.ensures (c.loop-k.invariant none)
+
+pub backward-requires-clause-row : goal.backward-requires-clause-row
+backward-requires-clause-row c = c.requires.inside c.loop-k.k (omega arith)
+
+pub backward-requires-clause-before : goal.backward-requires-clause-before
+backward-requires-clause-before c =
+    let rows = c.args.rows.now in
+    before_inside (is_taken true rows) (trip_of rows) (sequence_of rows) (length rows) c.args.keys.now c.requires c.loop-k.k (omega arith) c.before_at.result c.before_at.ensures
+
+pub returns-in-None : goal.returns-in-None
+returns-in-None c = λ none.
+    let rows = c.args.rows.now in
+    soonest-first (backward_time rows) (length rows) c.args.keys.now (is_taken true rows) (trip_of rows) (sequence_of rows) c.requires (quiet rows) c.loop-k.k (omega arith)
+    c.loop-k.first (c.loop-k.invariant none) ∙ ap (option_map (λ (x : ℕ × FeedFault). x.1)) c.in-None.is
+
+pub returns-in-Some : goal.returns-in-Some
+returns-in-Some c = λ none.
+    let rows = c.args.rows.now in
+    soonest-first (backward_time rows) (length rows) c.args.keys.now (is_taken true rows) (trip_of rows) (sequence_of rows) c.requires (quiet rows) c.loop-k.k (omega arith)
+    c.loop-k.first (c.loop-k.invariant none) ∙ ap (option_map (λ (x : ℕ × FeedFault). x.1)) c.in-Some.is

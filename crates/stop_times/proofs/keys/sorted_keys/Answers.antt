@@ -1,0 +1,48 @@
+use Rattle.std.proofs.Common.{◌≡◌, false, ap, ap₂, refl, arith, subst, ℕ, List, [], ◌∷◌, ◌++◌, length, ◌+◌, ◌<◌, ◌∙◌}
+use Rattle.std.proofs.lemmas.List.{length_push, get_or_default}
+use Rattle.std.proofs.lemmas.List.Sorted.{length_permutation}
+use Rattle.csv_rows.specs.declared.keys.Key.{Key}
+use Rattle.csv_rows.proofs.SortLemmas.{AreKeys, key_of, sorted_are, keys-none, keys-taken}
+use Rattle.stop_times.specs.declared.rows.TimedRow.{TimedRow}
+use Rattle.stop_times.specs.StopTimes.{trip_of, sequence_of, no_row}
+use Rattle.stop_times.specs.Keys.{is_taken}
+use Rattle.stop_times.proofs.keys.sorted_keys.Goals as goal
+
+pushed : (xs ys : List Key) (x : Key) → ys ≡ xs ++ x ∷ [] → length ys ≡ length xs + 1
+pushed xs ys x e = ap length e ∙ length_push xs x
+
+pub loop-i-init : goal.loop-i-init
+loop-i-init c =
+    let rows = c.args.rows.now in (
+      keys-none (is_taken false rows) (trip_of rows) (sequence_of rows) c.in_ok-keys.keys.items c.in_ok-keys.ensures.items,
+      omega (arith, ap length c.in_ok-keys.ensures.items),
+    )
+
+pub loop-i-preserved : goal.loop-i-preserved
+unfolding key_of
+loop-i-preserved c =
+    let rows = c.args.rows.now in
+    let i = c.loop-i.i in
+    let old = c.loop-i.keys.items in
+    let new = c.push.new.self.items in
+    let inside : i < length rows = omega arith in
+    let trip : c.trip.result ≡ trip_of rows i =
+    c.trip.ensures ∙ ap (λ (r : TimedRow). r.trip) (c.index-rows-i.is ∙ get_or_default rows i c.index-rows-i.result no_row inside) in
+    let sequence : c.sequence.result ≡ sequence_of rows i =
+    c.sequence.ensures ∙ ap (λ (r : TimedRow). r.sequence) (c.index-rows-i-in-loop-i.is ∙ get_or_default rows i c.index-rows-i-in-loop-i.result no_row inside) in
+    let size = pushed old new _ c.in_ok-push.ensures.items in (
+      keys-taken (is_taken false rows) (trip_of rows) (sequence_of rows) i old new _ c.loop-i.invariant.0 refl c.in_ok-push.ensures.items
+          (ap₂ (λ (group order : ℕ). record { group = group; order = order; row = i }) trip sequence),
+      omega (arith, size, c.loop-i.invariant.1),
+    )
+
+pub returns-clause-few : goal.returns-clause-few
+returns-clause-few c = omega (arith, length_permutation c.loop-i.keys.items c.in_order.result.items c.in_order.ensures.same, c.loop-i.invariant.1)
+
+pub returns-clause-keys : goal.returns-clause-keys
+returns-clause-keys c =
+    let rows = c.args.rows.now in
+    let test = is_taken false rows in
+    let P : ℕ → Type 0 = λ m. AreKeys test (trip_of rows) (sequence_of rows) m c.loop-i.keys.items in
+    let end : c.loop-i.i ≡ length rows = omega arith in
+    sorted_are test (trip_of rows) (sequence_of rows) (length rows) c.loop-i.keys.items c.in_order.result.items (subst P end c.loop-i.invariant.0) c.in_order.ensures.same c.in_order.ensures.rising

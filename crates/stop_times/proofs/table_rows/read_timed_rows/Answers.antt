@@ -1,0 +1,59 @@
+use Rattle.std.proofs.Common.{◌≡◌, ◌<◌, ◌+◌, ◌∷◌, ◌∙◌, List, ℕ, None, Some, sym, ap, subst, arith, length}
+use Rattle.std.specs.Prelude.{Err}
+use Rattle.std.proofs.lemmas.Result.{IfErr-weaker, on_ok_weaker}
+use Rattle.csv_rows.specs.declared.feed_tables.Table.TheVariants.{StopTimes}
+use Rattle.csv_rows.specs.First.{first_below}
+use Rattle.csv_rows.specs.Loading.{loaded_from}
+use Rattle.csv_rows.specs.Tables.{row_count, table_of}
+use Rattle.stop_times.specs.Timetables.{stop_times_from}
+use Rattle.stop_times.specs.StopTimes.{bad_time, counted_fault, missing_time_column, order_fault, stop_times_fault, time_columns, timed_rows}
+use Rattle.stop_times.proofs.TimeLemmas.{counted_same, times_fault, fault_of_header, fault_of_row, fault_of_order}
+use Rattle.stop_times.proofs.table_rows.read_timed_rows.Goals as goal
+
+pub returns-in-Some-clause-fault : goal.returns-in-Some-clause-fault
+returns-in-Some-clause-fault c = λ free.
+    let trips = c.args.named.now.trips.now in
+    let stops = c.args.named.now.stops.now in
+    let places = c.args.named.now.places.now in
+    let t = c.next.new.fields ∷ c.next.new.self in
+    let all : t ≡ table_of c.args.bytes.now = sym (sym c.of-records.ensures ∙ c.in-Ok-true.ensures.some c.in-Ok-true.field-0-test) in
+    let first : stop_times_fault trips stops places t ≡ Some c.in-Some.fault
+    = fault_of_header trips stops places t c.in-Some.fault (sym (ap missing_time_column c.columns_of-columns.ensures) ∙ sym c.in-Some.ensures.fault) in
+    let count : row_count t ≡ 0 + length c.next.new.self = omega arith in
+    let some : 0 < length t = omega arith in
+    let P : List (List (List ℕ)) → Type 0 = λ x. stop_times_from (loaded_from StopTimes c.args.most x) trips stops places ≡ Err c.counted_fault.result in
+    subst P all (times_fault trips stops places c.args.most t c.counted_fault.result some
+    (ap (counted_fault c.args.most (row_count t)) first ∙ ap (λ (k : ℕ). counted_fault c.args.most k (Some c.in-Some.fault)) count ∙ c.counted_fault.ensures.fault free))
+
+pub returns-clause-rest : goal.returns-clause-rest
+returns-clause-rest c =
+    let trips = c.args.named.now.trips.now in
+    let stops = c.args.named.now.stops.now in
+    let places = c.args.named.now.places.now in
+    let t = c.next.new.fields ∷ c.next.new.self in
+    let all : t ≡ table_of c.args.bytes.now = sym (sym c.of-records.ensures ∙ c.in-Ok-true.ensures.some c.in-Ok-true.field-0-test) in
+    let whole : missing_time_column (time_columns t) ≡ None = sym (ap missing_time_column c.columns_of-columns.ensures) ∙ sym c.in_default.ensures.fault in
+    let count : row_count t ≡ length c.next.new.self = omega arith in
+    let P : List (List (List ℕ)) → Type 0 = λ x. stop_times_fault trips stops places x ≡ order_fault (timed_rows trips stops places x) in
+    on_ok_weaker c.rows_after.result
+    (λ none. subst P all (fault_of_order trips stops places t whole (ap (first_below (bad_time trips stops places t)) count ∙ none)))
+    c.rows_after.ensures.none
+
+pub returns-clause-fault : goal.returns-clause-fault
+returns-clause-fault c =
+    let trips = c.args.named.now.trips.now in
+    let stops = c.args.named.now.stops.now in
+    let places = c.args.named.now.places.now in
+    let t = c.next.new.fields ∷ c.next.new.self in
+    let all : t ≡ table_of c.args.bytes.now = sym (sym c.of-records.ensures ∙ c.in-Ok-true.ensures.some c.in-Ok-true.field-0-test) in
+    let whole : missing_time_column (time_columns t) ≡ None = sym (ap missing_time_column c.columns_of-columns.ensures) ∙ sym c.in_default.ensures.fault in
+    let count : row_count t ≡ length c.next.new.self = omega arith in
+    let some : 0 < length t = omega arith in
+    IfErr-weaker c.rows_after.result _ _
+    (λ f h free.
+    let P : List (List (List ℕ)) → Type 0 = λ x. stop_times_from (loaded_from StopTimes c.args.most x) trips stops places ≡ Err f in
+    subst P all (times_fault trips stops places c.args.most t f some
+    (counted_same c.args.most (row_count t) (first_below (bad_time trips stops places t) (row_count t)) (stop_times_fault trips stops places t) f
+    (λ x e. fault_of_row trips stops places t x whole e)
+    (ap (λ (k : ℕ). counted_fault c.args.most k (first_below (bad_time trips stops places t) k)) count ∙ h free))))
+    c.rows_after.ensures.fault

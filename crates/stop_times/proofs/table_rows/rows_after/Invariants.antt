@@ -1,0 +1,19 @@
+use Rattle.std.proofs.Common.{◌≡◌, ◌≤◌, ◌+◌, ◌∷◌, None, drop, length}
+use Rattle.plan_model.specs.Results.{value_or}
+use Rattle.csv_rows.specs.First.{first_below}
+use Rattle.csv_rows.specs.Lists.{list_below}
+use Rattle.stop_times.specs.StopTimes.{bad_time, timed_at, no_row, IsKnownIn}
+use Rattle.stop_times.proofs.table_rows.rows_after.Given as goal
+
+abbrev pub invariant-loop-timed : goal.invariant-loop-timed
+invariant-loop-timed l = record {
+  left : drop (length l.timed.items + 1) (l.initial.row ∷ l.initial.records) ≡ l.records;
+  inside : length l.timed.items ≤ length l.initial.records;
+  few : length l.timed.items ≤ l.most;
+  rows : l.timed.items ≡ list_below (λ i. value_or no_row (timed_at l.named.trips.now l.named.stops.now l.named.places.now (l.initial.row ∷ l.initial.records) i)) (length l.timed.items);
+  none : first_below (bad_time l.named.trips.now l.named.stops.now l.named.places.now (l.initial.row ∷ l.initial.records)) (length l.timed.items) ≡ None;
+  known : IsKnownIn l.named.trips.now l.known;
+}
+
+abbrev pub decreases-loop-timed : goal.decreases-loop-timed
+decreases-loop-timed l = length l.records

@@ -1,0 +1,10 @@
+pub mod Bounds
+pub mod Forms
+pub mod Required
+pub mod StopTimes
+pub mod StoredRows
+pub mod Keys
+pub mod Visits
+pub mod Timetables
+pub mod Bounded
+pub mod ByTrip

@@ -1,0 +1,174 @@
+-- The rows of stop times. Those that name a stop and a time are kept.
+use Rattle.std.specs.Prelude.{◌≡◌, ℕ, ◌+◌, ◌==◌, nat_lt, Bool, ◌&&◌, ◌||◌, List, [], length, slice_index, slice_index_or, Option, Some, None, IfSome, Result, Ok, option_map, is_some, if◌then◌else◌}
+use Rattle.std.specs.Option.{option_or}
+use Rattle.std.specs.Result.{result_err}
+use Rattle.plan_model.specs.Results.{require, value_or}
+use Rattle.clock_text.specs.Digits.{whole_of}
+use Rattle.csv_rows.specs.declared.columns.Column.TheVariants.{TripId, StopId, StopSequence, ArrivalTime, DepartureTime, PickupType, DropOffType}
+use Rattle.csv_rows.specs.declared.feed_tables.Table.TheVariants.{StopTimes}
+use Rattle.csv_rows.specs.declared.feed_tables.FeedFault.{FeedFault}
+use Rattle.csv_rows.specs.declared.feed_tables.FeedFault.TheVariants.{BadField, UnknownKey, DuplicateKey, BackwardTime, TooManyRows}
+use Rattle.csv_rows.specs.Columns.{name_of}
+use Rattle.csv_rows.specs.First.{first_below, any_below}
+use Rattle.csv_rows.specs.Keys.{has_twin, just_precedes}
+use Rattle.csv_rows.specs.Names.{name_in}
+use Rattle.csv_rows.specs.Records.{field_of}
+use Rattle.csv_rows.specs.Tables.{header, row_count, place_in}
+use Rattle.stop_times.specs.declared.rows.KnownTrip.{KnownTrip}
+use Rattle.stop_times.specs.declared.rows.StopRow.{StopRow}
+use Rattle.stop_times.specs.declared.rows.TimedRow.{TimedRow}
+use Rattle.stop_times.specs.declared.rows.TimeColumns.{TimeColumns}
+use Rattle.csv_rows.specs.RowFaults.{lack}
+use Rattle.stop_times.specs.Forms.{text_in, allows_in, time_in}
+use Rattle.csv_rows.specs.Lists.{list_below}
+
+-- the number of a stop, or none where the text is empty
+abbrev pub number_in : List (List ℕ) → List ℕ → Option (Option ℕ)
+number_in stops text = if length text == 0 then Some None else option_map Some (place_in text stops)
+
+-- a row with one time has it for both
+abbrev pub times_of : Option ℕ → Option ℕ → Option (ℕ × ℕ)
+times_of None None = None
+times_of None (Some departure) = Some (departure, departure)
+times_of (Some arrival) None = Some (arrival, arrival)
+times_of (Some arrival) (Some departure) = Some (arrival, departure)
+
+-- a kept row has a stop and a time
+abbrev pub visit_of : List ℕ → Option ℕ → Option (ℕ × ℕ) → Bool → Bool → Option StopRow
+visit_of places None times board exit = None
+visit_of places (Some stop) None board exit = None
+visit_of places (Some stop) (Some times) board exit =
+    Some (record { stop = stop; place = record { 0 = slice_index places stop }; arrival = times.0; departure = times.1; can_board = board; can_exit = exit })
+
+-- this field names the trip of this number
+abbrev pub IsTripOf : (trips : List (List ℕ)) (id : List ℕ) → ℕ → Type 0
+IsTripOf trips id trip = (name_in id ≡ Some id) × (place_in id trips ≡ Some trip)
+
+-- the trip that is known is one of these, and this is its id
+abbrev pub IsKnownIn : (trips : List (List ℕ)) → KnownTrip → Type 0
+IsKnownIn trips known = IfSome known.trip (λ trip. IsTripOf trips known.id.items trip)
+
+-- what is read from there on with the number of the trip that this field names, or its fault
+abbrev pub trip_from : (trips : List (List ℕ)) (line : ℕ) (id : List ℕ) → (ℕ → Result TimedRow FeedFault) → Result TimedRow FeedFault
+trip_from trips line id rest = require (name_in id) (BadField StopTimes line TripId) (λ id'. require (place_in id' trips) (UnknownKey StopTimes line TripId) rest)
+
+-- this field names the stop of this number, or is empty and names none
+abbrev pub IsStopOf : (stops : List (List ℕ)) (id : List ℕ) → Option ℕ → Type 0
+IsStopOf stops id stop = (text_in id ≡ Some id) × (number_in stops id ≡ Some stop)
+
+-- what is read from there on with the number of the stop that this field names, or its fault
+abbrev pub stop_from : (stops : List (List ℕ)) (line : ℕ) (id : List ℕ) → (Option ℕ → Result TimedRow FeedFault) → Result TimedRow FeedFault
+stop_from stops line id rest = require (text_in id) (BadField StopTimes line StopId) (λ id'. require (number_in stops id') (UnknownKey StopTimes line StopId) rest)
+
+-- the row of these fields, or the first that is not of its form or names nothing
+abbrev pub timed_from : (trips stops : List (List ℕ)) (places : List ℕ) (line : ℕ) (trip stop sequence arrival departure pickup drop_off : List ℕ)
+    → Result TimedRow FeedFault
+timed_from trips stops places line trip stop sequence arrival departure pickup drop_off =
+    trip_from trips line trip (λ trip_number.
+    stop_from stops line stop (λ stop_number.
+    require (whole_of 999999999 sequence) (BadField StopTimes line StopSequence) (λ sequence'.
+    require (time_in arrival) (BadField StopTimes line ArrivalTime) (λ arrival'.
+    require (time_in departure) (BadField StopTimes line DepartureTime) (λ departure'.
+    require (allows_in pickup) (BadField StopTimes line PickupType) (λ board.
+    require (allows_in drop_off) (BadField StopTimes line DropOffType) (λ exit.
+    Ok (record { trip = trip_number; sequence = sequence'; visit = visit_of places stop_number (times_of arrival' departure') board exit }))))))))
+
+-- where the columns of a header stand
+abbrev pub columns_of : List (List ℕ) → TimeColumns
+columns_of names = record {
+  trip = place_in (name_of TripId) names;
+  stop = place_in (name_of StopId) names;
+  sequence = place_in (name_of StopSequence) names;
+  arrival = place_in (name_of ArrivalTime) names;
+  departure = place_in (name_of DepartureTime) names;
+  pickup = place_in (name_of PickupType) names;
+  drop_off = place_in (name_of DropOffType) names;
+}
+
+-- and those of a table
+abbrev pub time_columns : List (List (List ℕ)) → TimeColumns
+time_columns t = columns_of (header t)
+
+-- the row in a line with these fields, where these are the ids of the trips and of the stops, and the places of the stops
+abbrev pub timed_of : (trips stops : List (List ℕ)) (places : List ℕ) (line : ℕ) → TimeColumns → List (List ℕ) → Result TimedRow FeedFault
+timed_of trips stops places line c fields =
+    timed_from trips stops places line (field_of fields c.trip) (field_of fields c.stop) (field_of fields c.sequence) (field_of fields c.arrival)
+    (field_of fields c.departure) (field_of fields c.pickup) (field_of fields c.drop_off)
+
+-- row i
+abbrev pub timed_in : (trips stops : List (List ℕ)) (places : List ℕ) → List (List (List ℕ)) → TimeColumns → ℕ → Result TimedRow FeedFault
+timed_in trips stops places t c i = timed_of trips stops places (i + 2) c (slice_index_or t (i + 1) [])
+
+unfoldable pub timed_at : (trips stops : List (List ℕ)) (places : List ℕ) → List (List (List ℕ)) → ℕ → Result TimedRow FeedFault
+timed_at trips stops places t i = timed_in trips stops places t (time_columns t) i
+
+-- the first fault of row i by itself
+abbrev pub bad_time : (trips stops : List (List ℕ)) (places : List ℕ) → List (List (List ℕ)) → ℕ → Option FeedFault
+bad_time trips stops places t i = result_err (timed_at trips stops places t i)
+
+abbrev pub no_row : TimedRow
+no_row = record { trip = 0; sequence = 0; visit = None }
+
+-- this fault, but where there are more than so many rows, that they are so many comes first
+abbrev pub counted_fault : (most count : ℕ) → Option FeedFault → Option FeedFault
+counted_fault most count fault = if nat_lt most count then Some (TooManyRows StopTimes count) else fault
+
+-- the rows, where they have no fault by themselves
+abbrev pub timed_rows : (trips stops : List (List ℕ)) (places : List ℕ) → List (List (List ℕ)) → List TimedRow
+timed_rows trips stops places t = list_below (λ i. value_or no_row (timed_at trips stops places t i)) (row_count t)
+
+abbrev pub row_at : List TimedRow → ℕ → TimedRow
+row_at rows i = slice_index_or rows i no_row
+
+abbrev pub trip_of : List TimedRow → ℕ → ℕ
+trip_of rows i = (row_at rows i).trip
+
+abbrev pub sequence_of : List TimedRow → ℕ → ℕ
+sequence_of rows i = (row_at rows i).sequence
+
+-- an earlier row has the trip and the sequence of row i
+unfoldable pub repeated_time : List TimedRow → ℕ → Option FeedFault
+repeated_time rows i = if has_twin (trip_of rows) (sequence_of rows) i then Some (DuplicateKey StopTimes (i + 2)) else None
+
+-- whether row i is kept, and its times
+abbrev pub is_kept : List TimedRow → ℕ → Bool
+is_kept rows i = is_some (row_at rows i).visit
+
+abbrev pub times_in : Option StopRow → ℕ × ℕ
+times_in None = (0, 0)
+times_in (Some visit) = (visit.arrival, visit.departure)
+
+abbrev pub arrival_of : List TimedRow → ℕ → ℕ
+arrival_of rows i = (times_in (row_at rows i).visit).0
+
+abbrev pub departure_of : List TimedRow → ℕ → ℕ
+departure_of rows i = (times_in (row_at rows i).visit).1
+
+-- row j is the kept row just before the kept row i in its trip
+abbrev pub just_before : List TimedRow → ℕ → ℕ → Bool
+just_before rows j i = just_precedes (is_kept rows) (trip_of rows) (sequence_of rows) (length rows) j i
+
+-- a kept row departs before it arrives, or arrives before the kept row before it in its trip departs
+abbrev pub goes_back : List TimedRow → ℕ → Bool
+goes_back rows i =
+    is_kept rows i && (nat_lt (departure_of rows i) (arrival_of rows i)
+    || any_below (λ j. just_before rows j i && nat_lt (arrival_of rows i) (departure_of rows j)) (length rows))
+
+unfoldable pub backward_time : List TimedRow → ℕ → Option FeedFault
+backward_time rows i = if goes_back rows i then Some (BackwardTime (i + 2)) else None
+
+-- the first required column that is not in the header
+abbrev pub missing_time_column : TimeColumns → Option FeedFault
+missing_time_column c =
+    option_or (lack StopTimes TripId c.trip) (option_or (lack StopTimes StopId c.stop) (option_or (lack StopTimes StopSequence c.sequence)
+    (option_or (lack StopTimes ArrivalTime c.arrival) (lack StopTimes DepartureTime c.departure))))
+
+-- the first fault of the rows beside each other
+abbrev pub order_fault : List TimedRow → Option FeedFault
+order_fault rows = option_or (first_below (repeated_time rows) (length rows)) (first_below (backward_time rows) (length rows))
+
+-- the first fault of the stop times
+unfoldable pub stop_times_fault : (trips stops : List (List ℕ)) (places : List ℕ) → List (List (List ℕ)) → Option FeedFault
+stop_times_fault trips stops places t =
+    option_or (missing_time_column (time_columns t))
+    (option_or (first_below (bad_time trips stops places t) (row_count t)) (order_fault (timed_rows trips stops places t)))

@@ -1,0 +1,21 @@
+-- The stop times of a feed.
+use Rattle.std.specs.Prelude.{◌≡◌, ℕ, ◌<◌, List, [], length, slice_index_or, Result, Ok, Err}
+use Rattle.plan_model.specs.Results.{and_then, unless}
+use Rattle.csv_rows.specs.declared.columns.Column.TheVariants.{TripId}
+use Rattle.csv_rows.specs.declared.feed_tables.Table.TheVariants.{StopTimes}
+use Rattle.csv_rows.specs.declared.feed_tables.FeedFault.{FeedFault}
+use Rattle.csv_rows.specs.declared.loading.Loaded.{Loaded}
+use Rattle.stop_times.specs.declared.rows.StopRow.{StopRow}
+use Rattle.stop_times.specs.Required.{Records, required}
+use Rattle.stop_times.specs.StopTimes.{timed_rows, stop_times_fault}
+use Rattle.stop_times.specs.Visits.{AreStopTimes}
+
+-- the table by what was loaded of it
+abbrev pub stop_times_from : Result Loaded FeedFault → (trips stops : List (List ℕ)) (places : List ℕ) → Result Records FeedFault
+stop_times_from loaded trips stops places = and_then (required StopTimes TripId loaded) (λ t. unless (stop_times_fault trips stops places t) t)
+
+-- the kept rows of each trip, of what was read of the table
+abbrev pub AreVisits : (trips stops : List (List ℕ)) (places : List ℕ) → Result Records FeedFault → List (List StopRow) → Type 0
+AreVisits trips stops places (Ok t) visits =
+    (length visits ≡ length trips) × ((trip : ℕ) → trip < length trips → AreStopTimes (timed_rows trips stops places t) trip (slice_index_or visits trip []))
+AreVisits trips stops places (Err fault) visits = ⊥

@@ -1,0 +1,45 @@
+//! The forms of the fields of stop times (GTFS Schedule reference).
+ghost use Rattle.std.specs.Prelude.{◌≡◌, option_map};
+ghost use Rattle.stop_times.specs.Forms.{text_in, allows_in, time_in};
+
+use clock_text::read_time;
+
+/// A text of UTF-8, which may be empty.
+pub fn read_text(text: &[u8]) -> Option<&str>
+    ensures { option_map (λ s. s.now) result ≡ text_in text.now }
+{
+    match std::str::from_utf8(text) {
+        Ok(text) => Some(text),
+        Err(_) => None,
+    }
+}
+
+/// Whether a `pickup_type` or a `drop_off_type` lets one board or alight.
+pub(crate) fn read_allows(text: &[u8]) -> Option<bool>
+    ensures { result ≡ allows_in text.now }
+{
+    if text.is_empty()
+        || text == b"0".as_slice()
+        || text == b"2".as_slice()
+        || text == b"3".as_slice()
+    {
+        return Some(true);
+    }
+    if text == b"1".as_slice() {
+        return Some(false);
+    }
+    None
+}
+
+/// A time of the service day, or none where the field is empty.
+pub(crate) fn read_time_or_none(text: &[u8]) -> Option<Option<u32>>
+    ensures { result ≡ time_in text.now }
+{
+    if text.is_empty() {
+        return Some(None);
+    }
+    match read_time(text) {
+        None => None,
+        Some(seconds) => Some(Some(seconds)),
+    }
+}

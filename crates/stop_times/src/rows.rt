@@ -1,0 +1,308 @@
+//! The rows of stop times.
+ghost use Rattle.std.specs.Prelude.{◌≡◌, ◌<◌, ℕ, List, length, Option, None, Some, Ok, Err, Result, IfOk, IfErr, IfSome, OnOk};
+ghost use Rattle.csv_rows.specs.declared.feed_tables.Table.TheVariants.{StopTimes as StopTimesTable};
+ghost use Rattle.csv_rows.specs.FeedTables.{unread_of, IsFaultOf};
+ghost use Rattle.csv_rows.specs.Records.{field_of};
+ghost use Rattle.csv_rows.specs.declared.feed_tables.FeedFault.{FeedFault};
+ghost use Rattle.stop_times.specs.declared.rows.TimedRow.{TimedRow};
+ghost use Rattle.stop_times.specs.StopTimes.{number_in, times_of, visit_of, columns_of, timed_of, missing_time_column, trip_from, stop_from, IsTripOf, IsStopOf, IsKnownIn};
+ghost use Rattle.stop_times.specs.Forms.{time_in};
+
+use crate::forms::{read_allows, read_text, read_time_or_none};
+use clock_text::read_whole;
+use csv_rows::{Column, FeedFault, Ids, Record, Table, lack, read_name};
+use plan_model::{NoMemory, PlaceId};
+use std::alloc::Global;
+
+/// A stop of a trip, with its times in seconds from noon minus twelve hours of the service day.
+#[derive(Clone, Copy, Debug, PartialEq, Eq)]
+pub struct StopRow {
+    /// The number of the stop.
+    pub stop: u32,
+    /// The place of the stop.
+    pub place: PlaceId,
+    /// When the trip arrives.
+    pub arrival: u32,
+    /// When the trip departs.
+    pub departure: u32,
+    /// Whether one may board.
+    pub can_board: bool,
+    /// Whether one may alight.
+    pub can_exit: bool,
+}
+
+/// A row by the number of its trip and its sequence. It is kept where it has a stop and a time.
+#[derive(Clone, Copy)]
+pub(crate) struct TimedRow {
+    pub(crate) trip: u32,
+    pub(crate) sequence: u32,
+    pub(crate) visit: Option<StopRow>,
+}
+
+/// Where the columns stand.
+#[derive(Clone, Copy)]
+pub(crate) struct TimeColumns {
+    pub(crate) trip: Option<usize>,
+    stop: Option<usize>,
+    sequence: Option<usize>,
+    arrival: Option<usize>,
+    departure: Option<usize>,
+    pickup: Option<usize>,
+    drop_off: Option<usize>,
+}
+
+/// Where the columns of a header stand.
+pub(crate) fn columns_of(header: &Record<'_>) -> TimeColumns
+    ensures { result ≡ columns_of header.now }
+{
+    TimeColumns {
+        trip: header.place_of(Column::TripId),
+        stop: header.place_of(Column::StopId),
+        sequence: header.place_of(Column::StopSequence),
+        arrival: header.place_of(Column::ArrivalTime),
+        departure: header.place_of(Column::DepartureTime),
+        pickup: header.place_of(Column::PickupType),
+        drop_off: header.place_of(Column::DropOffType),
+    }
+}
+
+/// The first required column that stands nowhere in the header.
+pub(crate) fn missing_column(columns: TimeColumns) -> Option<FeedFault>
+    ensures fault { result ≡ missing_time_column columns }
+    ensures own { IfSome result (IsFaultOf StopTimesTable) }
+{
+    if let Some(fault) = lack(Table::StopTimes, Column::TripId, columns.trip) {
+        return Some(fault);
+    }
+    if let Some(fault) = lack(Table::StopTimes, Column::StopId, columns.stop) {
+        return Some(fault);
+    }
+    if let Some(fault) = lack(Table::StopTimes, Column::StopSequence, columns.sequence) {
+        return Some(fault);
+    }
+    if let Some(fault) = lack(Table::StopTimes, Column::ArrivalTime, columns.arrival) {
+        return Some(fault);
+    }
+    lack(Table::StopTimes, Column::DepartureTime, columns.departure)
+}
+
+/// The number of a stop, or none where the text is empty.
+fn number_of(stops: &Ids, text: &str) -> Option<Option<u32>>
+    ensures number { result ≡ number_in stops.now text.now }
+    ensures inside { IfSome result (λ o. IfSome o (λ k. k < length stops.now)) }
+{
+    if text.is_empty() {
+        return Some(None);
+    }
+    match stops.number(text) {
+        None => None,
+        Some(stop) => Some(Some(stop)),
+    }
+}
+
+/// The number of the stop that a field names, or none where it is empty. It is looked up only where it is not the expected one.
+fn read_stop_number(
+    stops: &Ids,
+    line: u64,
+    id: &[u8],
+    expected: u32,
+) -> Result<Option<u32>, FeedFault>
+    ensures stop { IfOk result (IsStopOf stops.now id.now) }
+    ensures inside { IfOk result (λ o. IfSome o (λ k. k < length stops.now)) }
+    ensures fault { IfErr result (λ f. (rest : Option ℕ → Result TimedRow FeedFault)
+        → stop_from stops.now line id.now rest ≡ Err f) }
+    ensures content { IfErr result (λ f. unread_of f ≡ None) }
+    ensures own { IfErr result (IsFaultOf StopTimesTable) }
+{
+    if !id.is_empty() && expected < stops.len() && stops.get(expected).as_bytes() == id {
+        return Ok(Some(expected));
+    }
+    let Some(text) = read_text(id) else {
+        return Err(FeedFault::BadField(Table::StopTimes, line, Column::StopId));
+    };
+    match number_of(stops, text) {
+        Some(stop) => Ok(stop),
+        None => Err(FeedFault::UnknownKey(Table::StopTimes, line, Column::StopId)),
+    }
+}
+
+/// The time of a field, or none where it is empty. It is read only where the field is not one that was read.
+fn read_time_beside(text: &[u8], known_text: &[u8], known: Option<u32>) -> Option<Option<u32>>
+    requires { time_in known_text.now ≡ Some known }
+    ensures { result ≡ time_in text.now }
+{
+    if text == known_text {
+        return Some(known);
+    }
+    read_time_or_none(text)
+}
+
+/// The times of a row: one that has one time has it for both.
+fn times_of(arrival: Option<u32>, departure: Option<u32>) -> Option<(u32, u32)>
+    ensures { result ≡ times_of arrival departure }
+{
+    match (arrival, departure) {
+        (None, None) => None,
+        (None, Some(time)) | (Some(time), None) => Some((time, time)),
+        (Some(arrival), Some(departure)) => Some((arrival, departure)),
+    }
+}
+
+/// The kept row of a stop and times, where both are there.
+fn visit_of(
+    places: &[u32],
+    stop: Option<u32>,
+    times: Option<(u32, u32)>,
+    can_board: bool,
+    can_exit: bool,
+) -> Option<StopRow>
+    requires { IfSome stop (λ k. k < length places.now) }
+    ensures { result ≡ visit_of places.now stop times can_board can_exit }
+{
+    let stop = stop?;
+    let times = times?;
+    Some(StopRow {
+        stop,
+        place: PlaceId(places[stop as usize]),
+        arrival: times.0,
+        departure: times.1,
+        can_board,
+        can_exit,
+    })
+}
+
+/// What the fields of a row name: the trips, and the stops with the place of each.
+#[derive(Drop)]
+pub(crate) struct Named<'a> {
+    pub(crate) trips: &'a Ids,
+    pub(crate) stops: &'a Ids,
+    pub(crate) places: &'a [u32],
+}
+
+/// A field that names a trip, and the number of that trip.
+#[derive(Clone, Copy)]
+pub(crate) struct NamedTrip<'a> {
+    id: &'a [u8],
+    trip: u32,
+}
+
+/// The number of the trip that a field names. It is looked up only where the field is not that of a trip that is known.
+fn read_trip_number(
+    trips: &Ids,
+    line: u64,
+    id: &[u8],
+    known: Option<NamedTrip<'_>>,
+) -> Result<u32, FeedFault>
+    requires { IfSome known (λ k. IsTripOf trips.now k.id.now k.trip) }
+    ensures trip { IfOk result (IsTripOf trips.now id.now) }
+    ensures fault { IfErr result (λ f. (rest : ℕ → Result TimedRow FeedFault)
+        → trip_from trips.now line id.now rest ≡ Err f) }
+    ensures content { IfErr result (λ f. unread_of f ≡ None) }
+    ensures own { IfErr result (IsFaultOf StopTimesTable) }
+{
+    if let Some(known) = known {
+        if known.id == id {
+            return Ok(known.trip);
+        }
+    }
+    let Some(name) = read_name(id) else {
+        return Err(FeedFault::BadField(Table::StopTimes, line, Column::TripId));
+    };
+    match trips.number(name) {
+        Some(trip) => Ok(trip),
+        None => Err(FeedFault::UnknownKey(Table::StopTimes, line, Column::TripId)),
+    }
+}
+
+/// The trip of a row, kept for the rows after it: its id and its number, where there was a row.
+#[derive(Drop)]
+pub(crate) struct KnownTrip {
+    pub(crate) id: Vec<u8>,
+    pub(crate) trip: Option<u32>,
+}
+
+/// The trip that is known.
+pub(crate) fn named_trip(known: &KnownTrip) -> Option<NamedTrip<'_>>
+    ensures { (trips : List (List ℕ)) → IsKnownIn trips known.now
+        → IfSome result (λ k. IsTripOf trips k.id.now k.trip) }
+{
+    match known.trip {
+        Some(trip) => Some(NamedTrip {
+            id: known.id.as_slice(),
+            trip,
+        }),
+        None => None,
+    }
+}
+
+/// Keeps this trip, where it is not the one that is known. Its id is copied, since the fields of a record are let go.
+pub(crate) fn keep_trip(known: &mut KnownTrip, id: &[u8], trip: u32) -> Result<(), NoMemory>
+    ensures { OnOk result ((trips : List (List ℕ)) → IsTripOf trips id.now trip → IsKnownIn trips known.old
+        → IsKnownIn trips known.new) }
+{
+    if let Some(last) = known.trip {
+        if last == trip {
+            return Ok(());
+        }
+    }
+    known.id.clear();
+    match known.id.extend_from_slice(id) {
+        Ok(()) => {
+            known.trip = Some(trip);
+            Ok(())
+        }
+        Err(_) => Err(NoMemory),
+    }
+}
+
+/// The row of a record, or the first field that is not of its form or names nothing.
+pub(crate) fn read_timed_row(
+    row: &Record<'_>,
+    columns: TimeColumns,
+    named: &Named<'_>,
+    line: u64,
+    known: Option<NamedTrip<'_>>,
+    expected: u32,
+) -> Result<TimedRow, FeedFault>
+    requires known { IfSome known (λ k. IsTripOf named.now.trips.now k.id.now k.trip) }
+    requires places { length named.now.places.now ≡ length named.now.stops.now }
+    ensures row { IfOk result (λ r.
+        timed_of named.now.trips.now named.now.stops.now named.now.places.now line columns row.now ≡ Ok r) }
+    ensures trip { IfOk result (λ r. IsTripOf named.now.trips.now (field_of row.now columns.trip) r.trip) }
+    ensures fault { IfErr result (λ f.
+        timed_of named.now.trips.now named.now.stops.now named.now.places.now line columns row.now ≡ Err f) }
+    ensures content { IfErr result (λ f. unread_of f ≡ None) }
+    ensures own { IfErr result (IsFaultOf StopTimesTable) }
+{
+    let trip = read_trip_number(named.trips, line, row.field_at(columns.trip), known)?;
+    let stop = read_stop_number(named.stops, line, row.field_at(columns.stop), expected)?;
+    let Some(sequence) = read_whole(row.field_at(columns.sequence), 999_999_999) else {
+        return Err(FeedFault::BadField(Table::StopTimes, line, Column::StopSequence));
+    };
+    let arrival_text = row.field_at(columns.arrival);
+    let Some(arrival) = read_time_or_none(arrival_text) else {
+        return Err(FeedFault::BadField(Table::StopTimes, line, Column::ArrivalTime));
+    };
+    let departure_text = row.field_at(columns.departure);
+    let Some(departure) = read_time_beside(departure_text, arrival_text, arrival) else {
+        return Err(FeedFault::BadField(Table::StopTimes, line, Column::DepartureTime));
+    };
+    let Some(can_board) = read_allows(row.field_at(columns.pickup)) else {
+        return Err(FeedFault::BadField(Table::StopTimes, line, Column::PickupType));
+    };
+    let Some(can_exit) = read_allows(row.field_at(columns.drop_off)) else {
+        return Err(FeedFault::BadField(Table::StopTimes, line, Column::DropOffType));
+    };
+    let visit = visit_of(
+        named.places,
+        stop,
+        times_of(arrival, departure),
+        can_board,
+        can_exit,
+    );
+    Ok(TimedRow {
+        trip,
+        sequence,
+        visit,
+    })
+}

@@ -1,0 +1,201 @@
+//! The rows of the stop times with a text.
+ghost use Rattle.std.specs.Prelude.{◌≡◌, ◌≢◌, ◌<◌, ◌≤◌, ◌+◌, ◌^◌, ◌∷◌, ◌++◌, [], length, None, Some, Ok, Err, Result, IfOk, IfErr, OnOk};
+ghost use Rattle.csv_rows.specs.declared.feed_tables.Table.TheVariants.{StopTimes as StopTimesTable};
+ghost use Rattle.csv_rows.specs.First.{first_below};
+ghost use Rattle.csv_rows.specs.FeedTables.{unread_of, IsFaultOf};
+ghost use Rattle.csv_rows.specs.Loading.{loaded_from};
+ghost use Rattle.csv_rows.specs.Tables.{table_of};
+ghost use Rattle.csv_rows.specs.declared.feed_tables.FeedFault.{FeedFault};
+ghost use Rattle.stop_times.specs.declared.rows.TimedRow.{TimedRow};
+ghost use Rattle.stop_times.specs.Timetables.{stop_times_from};
+ghost use Rattle.stop_times.specs.StopTimes.{columns_of, timed_of, bad_time, counted_fault, timed_rows, order_fault, stop_times_fault, IsKnownIn};
+ghost use Rattle.stop_times.specs.Bounds.{most_stop_times};
+
+use crate::rows::{
+    KnownTrip, Named, TimeColumns, columns_of, keep_trip, missing_column, named_trip, read_timed_row,
+};
+use crate::stop_order::StopOrder;
+use crate::stored_row::StoredRow;
+use csv_rows::{Column, FeedFault, Record, Records, Table};
+use plan_model::NoMemory;
+use std::alloc::Global;
+
+/// As many bytes are reckoned for a row of a text.
+const BYTES_OF_A_ROW: usize = 32;
+
+/// Takes the row of a record after those that were taken, and keeps its trip, or gives its fault.
+fn take_row(
+    timed: &mut Vec<StoredRow>,
+    row: &Record<'_>,
+    columns: TimeColumns,
+    named: &Named<'_>,
+    known: &mut KnownTrip,
+    order: &mut StopOrder,
+) -> Result<(), FeedFault>
+    requires known { IsKnownIn named.now.trips.now known.old }
+    requires places { length named.now.places.now ≡ length named.now.stops.now }
+    ensures row { OnOk result ((r : TimedRow) × (timed_of named.now.trips.now named.now.stops.now named.now.places.now
+        (length timed.old.items + 2) columns row.now ≡ Ok r) × (timed.new.items ≡ timed.old.items ++ r ∷ [])) }
+    ensures known { OnOk result (IsKnownIn named.now.trips.now known.new) }
+    ensures fault { IfErr result (λ f. f ≢ FeedFault.NoMemory → timed_of named.now.trips.now named.now.stops.now named.now.places.now
+        (length timed.old.items + 2) columns row.now ≡ Err f) }
+    ensures content { IfErr result (λ f. unread_of f ≡ None) }
+    ensures own { IfErr result (IsFaultOf StopTimesTable) }
+{
+    let line = timed.len() as u64 + 2;
+    let expected = order.expected();
+    let taken = read_timed_row(
+        row,
+        columns,
+        named,
+        line,
+        named_trip(known),
+        expected,
+    )?;
+    if let Some(visit) = taken.visit {
+        order.keep(visit.stop);
+    }
+    match keep_trip(known, row.field_at(columns.trip), taken.trip) {
+        Ok(()) => {}
+        Err(_) => return Err(FeedFault::NoMemory),
+    }
+    match timed.push(StoredRow::of(taken)) {
+        Ok(()) => Ok(()),
+        Err(_) => Err(FeedFault::NoMemory),
+    }
+}
+
+/// The fault of a table that has this one, where so many rows stand before the records that are left: where there are too
+/// many, that comes first.
+fn counted_fault<'a>(
+    records: &Records<'a>,
+    row: &mut Record<'a>,
+    taken: u64,
+    most: u64,
+    fault: FeedFault,
+) -> FeedFault
+    requires { taken ≤ 2 ^ 32 }
+    ensures fault { result ≢ FeedFault.NoMemory
+        → counted_fault most (taken + length records.now) (Some fault) ≡ Some result }
+    ensures content { unread_of fault ≡ None → unread_of result ≡ None }
+    ensures own { IsFaultOf StopTimesTable fault → IsFaultOf StopTimesTable result }
+{
+    match records.count(row) {
+        Ok(left) => {
+            let count = taken + left;
+            if most < count {
+                FeedFault::TooManyRows(Table::StopTimes, count)
+            } else {
+                fault
+            }
+        }
+        Err(_) => FeedFault::NoMemory,
+    }
+}
+
+/// Room for the rows of a text of so many bytes, and at most for so many rows. Most rows take more bytes than are reckoned for
+/// one; where they take fewer, the room grows.
+fn room_for(alloc: Global, bytes: usize, most: u64) -> Result<Vec<StoredRow>, NoMemory>
+    ensures { IfOk result (λ timed. timed.items ≡ []) }
+{
+    let rows = (bytes / BYTES_OF_A_ROW).min(most as usize);
+    let timed = Vec::with_capacity(alloc, rows)?;
+    Ok(timed)
+}
+
+/// The rows of the records after a header, or their first fault: that there are too many, and then the first of one by itself.
+/// The text has so many bytes.
+fn rows_after<'a>(
+    alloc: Global,
+    bytes: usize,
+    records: &mut Records<'a>,
+    row: &mut Record<'a>,
+    columns: TimeColumns,
+    named: &Named<'_>,
+    most: u64,
+) -> Result<Vec<StoredRow>, FeedFault>
+    requires columns { columns ≡ columns_of row.old }
+    requires places { length named.now.places.now ≡ length named.now.stops.now }
+    requires most { most ≤ most_stop_times }
+    ensures rows { IfOk result (λ timed. timed.items
+        ≡ timed_rows named.now.trips.now named.now.stops.now named.now.places.now (row.old ∷ records.old)) }
+    ensures few { IfOk result (λ timed. length timed.items ≤ most) }
+    ensures none { OnOk result (first_below
+        (bad_time named.now.trips.now named.now.stops.now named.now.places.now (row.old ∷ records.old))
+        (length records.old) ≡ None) }
+    ensures fault { IfErr result (λ f. f ≢ FeedFault.NoMemory → counted_fault most (length records.old)
+        (first_below (bad_time named.now.trips.now named.now.stops.now named.now.places.now (row.old ∷ records.old))
+        (length records.old)) ≡ Some f) }
+    ensures content { IfErr result (λ f. unread_of f ≡ None) }
+    ensures own { IfErr result (IsFaultOf StopTimesTable) }
+{
+    let mut timed = room_for(alloc, bytes, most)?;
+    let mut known = KnownTrip {
+        id: Vec::new(alloc),
+        trip: None,
+    };
+    let mut order = StopOrder::new(alloc, named.stops)?;
+    loop {
+        match records.next(row) {
+            Ok(true) => {}
+            Ok(false) => return Ok(timed),
+            Err(_) => return Err(FeedFault::NoMemory),
+        }
+        let taken = timed.len() as u64 + 1;
+        if most < taken {
+            let fault = FeedFault::TooManyRows(Table::StopTimes, taken);
+            return Err(counted_fault(records, row, taken, most, fault));
+        }
+        match take_row(
+            &mut timed, row, columns, named, &mut known, &mut order,
+        ) {
+            Ok(()) => {}
+            Err(fault) => return Err(counted_fault(records, row, taken, most, fault)),
+        }
+    }
+}
+
+/// The rows of the stop times with this text, or the first of its faults: that it has no record, that it has too many rows,
+/// that it lacks a column, and then the first fault of a row by itself.
+pub(crate) fn read_timed_rows(
+    alloc: Global,
+    bytes: &[u8],
+    named: &Named<'_>,
+    most: u64,
+) -> Result<Vec<StoredRow>, FeedFault>
+    requires places { length named.now.places.now ≡ length named.now.stops.now }
+    requires most { most ≤ most_stop_times }
+    ensures rows { IfOk result (λ timed. timed.items
+        ≡ timed_rows named.now.trips.now named.now.stops.now named.now.places.now (table_of bytes.now)) }
+    ensures few { IfOk result (λ timed. length timed.items ≤ most) }
+    ensures header { OnOk result (0 < length (table_of bytes.now)) }
+    ensures rest { OnOk result
+        (stop_times_fault named.now.trips.now named.now.stops.now named.now.places.now (table_of bytes.now)
+        ≡ order_fault (timed_rows named.now.trips.now named.now.stops.now named.now.places.now (table_of bytes.now))) }
+    ensures fault { IfErr result (λ f. f ≢ FeedFault.NoMemory
+        → stop_times_from (loaded_from StopTimesTable most (table_of bytes.now))
+        named.now.trips.now named.now.stops.now named.now.places.now ≡ Err f) }
+    ensures content { IfErr result (λ f. unread_of f ≡ None) }
+    ensures own { IfErr result (IsFaultOf StopTimesTable) }
+{
+    let mut records = Records::of(bytes);
+    let mut row = Record::new(alloc);
+    match records.next(&mut row) {
+        Ok(true) => {}
+        Ok(false) => return Err(FeedFault::MissingColumn(Table::StopTimes, Column::TripId)),
+        Err(_) => return Err(FeedFault::NoMemory),
+    }
+    let columns = columns_of(&row);
+    if let Some(fault) = missing_column(columns) {
+        return Err(counted_fault(&records, &mut row, 0, most, fault));
+    }
+    rows_after(
+        alloc,
+        bytes.len(),
+        &mut records,
+        &mut row,
+        columns,
+        named,
+        most,
+    )
+}

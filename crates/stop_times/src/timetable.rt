@@ -1,0 +1,106 @@
+//! The stop times of a feed.
+ghost use Rattle.std.specs.Prelude.{◌≡◌, ◌≢◌, ◌<◌, ◌≤◌, ℕ, length, slice_index_or, [], false, None, Some, Ok, IfOk, IfErr, OnOk};
+ghost use Rattle.csv_rows.specs.declared.feed_tables.Table.TheVariants.{StopTimes as StopTimesTable};
+ghost use Rattle.csv_rows.specs.First.{first_below};
+ghost use Rattle.csv_rows.specs.FeedTables.{unread_of, IsFaultOf};
+ghost use Rattle.csv_rows.specs.Loading.{loaded_from};
+ghost use Rattle.csv_rows.specs.Tables.{table_of};
+ghost use Rattle.stop_times.specs.Bounds.{most_stop_times};
+ghost use Rattle.stop_times.specs.Keys.{AreKeysOf};
+ghost use Rattle.stop_times.specs.Timetables.{stop_times_from, AreVisits};
+ghost use Rattle.stop_times.specs.Required.{IsSound};
+ghost use Rattle.stop_times.specs.StopTimes.{repeated_time, order_fault, stop_times_fault};
+ghost use Rattle.stop_times.specs.Visits.{AreStopTimes};
+
+use crate::by_trip::StopTimes;
+use crate::keys::{first_backward, kept_keys, sorted_keys};
+use crate::rows::Named;
+use crate::stored_row::StoredRow;
+use crate::table_rows::read_timed_rows;
+use crate::visits::visits_of;
+use csv_rows::{FeedFault, Ids, Key, Table, first_repeat};
+use std::alloc::Global;
+
+/// The first row that has the trip and the sequence of an earlier one, by the keys of all rows in their order.
+fn check_once(rows: &[StoredRow], keys: &[Key]) -> Result<(), FeedFault>
+    requires { AreKeysOf false rows.now keys.now }
+    ensures none { OnOk result (first_below (repeated_time rows.now) (length rows.now) ≡ None) }
+    ensures fault { IfErr result (λ f. f ≢ FeedFault.NoMemory
+        → first_below (repeated_time rows.now) (length rows.now) ≡ Some f) }
+    ensures content { IfErr result (λ f. unread_of f ≡ None) }
+    ensures own { IfErr result (IsFaultOf StopTimesTable) }
+{
+    match first_repeat(keys) {
+        None => Ok(()),
+        Some(row) => Err(FeedFault::DuplicateKey(Table::StopTimes, u64::from(row) + 2)),
+    }
+}
+
+/// The kept rows of each trip, or the first fault of the rows beside each other.
+fn in_order(alloc: Global, rows: &[StoredRow], trips: u32) -> Result<StopTimes, FeedFault>
+    requires { length rows.now ≤ most_stop_times }
+    ensures size { IfOk result (λ visits. length visits ≡ trips) }
+    ensures each { IfOk result (λ visits. (trip : ℕ) → trip < trips
+        → AreStopTimes rows.now trip (slice_index_or visits trip [])) }
+    ensures few { IfOk result (λ visits. (trip : ℕ) → trip < trips
+        → length (slice_index_or visits trip []) ≤ most_stop_times) }
+    ensures none { OnOk result (order_fault rows.now ≡ None) }
+    ensures fault { IfErr result (λ f. f ≢ FeedFault.NoMemory → order_fault rows.now ≡ Some f) }
+    ensures content { IfErr result (λ f. unread_of f ≡ None) }
+    ensures own { IfErr result (IsFaultOf StopTimesTable) }
+{
+    let keys = match sorted_keys(alloc, rows) {
+        Ok(keys) => keys,
+        Err(_) => return Err(FeedFault::NoMemory),
+    };
+    check_once(rows, keys.as_slice())?;
+    let keys = kept_keys(rows, keys);
+    if let Some(fault) = first_backward(rows, keys.as_slice()) {
+        return Err(fault);
+    }
+    match visits_of(alloc, rows, keys.as_slice(), trips) {
+        Ok(visits) => Ok(visits),
+        Err(_) => Err(FeedFault::NoMemory),
+    }
+}
+
+/// The kept rows of each trip, in rising order of their sequences, or the first fault of the stop times with this text, which
+/// may have so many rows at most. The text is let go before the rows are put in order, so that both do not stand in memory at
+/// once.
+pub fn read_stop_times(
+    alloc: Global,
+    bytes: Vec<u8>,
+    trips: &Ids,
+    stops: &Ids,
+    places: &[u32],
+    most: u64,
+) -> Result<StopTimes, FeedFault>
+    requires most { most ≤ most_stop_times }
+    requires places { length places.now ≡ length stops.now }
+    ensures few { IfOk result (λ visits. (trip : ℕ) → trip < length trips.now
+        → length (slice_index_or visits trip []) ≤ most_stop_times) }
+    ensures size { IfOk result (λ visits. length visits ≡ length trips.now) }
+    ensures visits { IfOk result (λ visits. AreVisits trips.now stops.now places.now
+        (stop_times_from (loaded_from StopTimesTable most (table_of bytes.items))
+        trips.now stops.now places.now) visits) }
+    ensures sound { IfOk result (λ visits.
+        IsSound (stop_times_fault trips.now stops.now places.now)
+        (λ t. AreVisits trips.now stops.now places.now (Ok t) visits)) }
+    ensures fault { IfErr result (λ f. f ≢ FeedFault.NoMemory
+        → stop_times_from (loaded_from StopTimesTable most (table_of bytes.items))
+        trips.now stops.now places.now ≡ Err f) }
+    ensures content { IfErr result (λ f. unread_of f ≡ None) }
+    ensures own { IfErr result (IsFaultOf StopTimesTable) }
+{
+    let named = Named {
+        trips,
+        stops,
+        places,
+    };
+    let timed = read_timed_rows(alloc, bytes.as_slice(), &named, most)?;
+    drop(bytes);
+    match in_order(alloc, timed.as_slice(), trips.len()) {
+        Ok(visits) => Ok(visits),
+        Err(fault) => Err(fault),
+    }
+}
