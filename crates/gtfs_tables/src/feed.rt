@@ -14,10 +14,19 @@ use stop_times::StopRow;
 
 /// The stops, trips, stop times and frequencies of a feed (GTFS Schedule reference). A time counts in seconds from noon
 /// minus twelve hours of the service day.
-#[derive(Drop)]
 pub struct Feed {
     lists: FeedLists,
     times: TripTimes,
+}
+
+impl Drop for Feed {
+    /// Lets go of its parts here, so that a caller lets go of one value.
+    fn drop(self) {
+        let Feed {
+            lists: _lists,
+            times: _times,
+        } = self;
+    }
 }
 
 impl Model for Feed {

@@ -15,11 +15,21 @@ use file_ports::Files;
 use std::alloc::Global;
 
 /// The stops, the routes and the trips of a feed.
-#[derive(Drop)]
 pub(crate) struct FeedLists {
     pub(crate) stops: Stops,
     pub(crate) routes: Routes,
     pub(crate) trips: Trips,
+}
+
+impl Drop for FeedLists {
+    /// Lets go of its parts here, so that a caller lets go of one value.
+    fn drop(self) {
+        let FeedLists {
+            stops: _stops,
+            routes: _routes,
+            trips: _trips,
+        } = self;
+    }
 }
 
 /// The stops, the routes and the trips of the feed, or the first fault of their tables.

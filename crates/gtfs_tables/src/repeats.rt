@@ -18,10 +18,19 @@ use plan_model::NoMemory;
 use std::alloc::Global;
 
 /// The rows of all trips that repeat, by trip, and of one trip in the order of the file; and beside them the trip of each.
-#[derive(Drop)]
 pub(crate) struct Repeats {
     pub(crate) trips: Vec<u32>,
     pub(crate) rows: Vec<FrequencyRow>,
+}
+
+impl Drop for Repeats {
+    /// Lets go of its parts here, so that a caller lets go of one value.
+    fn drop(self) {
+        let Repeats {
+            trips: _trips,
+            rows: _rows,
+        } = self;
+    }
 }
 
 impl Repeats {

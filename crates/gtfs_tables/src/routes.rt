@@ -17,10 +17,19 @@ use csv_rows::{Column, FeedFault, Ids, Rows, Table, lack, read_ids, read_name};
 use std::alloc::Global;
 
 /// The ids of the routes, and the type of each.
-#[derive(Drop)]
 pub(crate) struct Routes {
     pub(crate) ids: Ids,
     pub(crate) types: Vec<u16>,
+}
+
+impl Drop for Routes {
+    /// Lets go of its parts here, so that a caller lets go of one value.
+    fn drop(self) {
+        let Routes {
+            ids: _ids,
+            types: _types,
+        } = self;
+    }
 }
 
 /// Where the columns stand.

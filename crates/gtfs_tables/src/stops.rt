@@ -14,10 +14,19 @@ use csv_rows::{Column, FeedFault, Ids, Rows, Table, lack, read_ids, read_name};
 use std::alloc::Global;
 
 /// The ids of the stops, and the place of each: the number of its parent station or its own.
-#[derive(Drop)]
 pub(crate) struct Stops {
     pub(crate) ids: Ids,
     pub(crate) places: Vec<u32>,
+}
+
+impl Drop for Stops {
+    /// Lets go of its parts here, so that a caller lets go of one value.
+    fn drop(self) {
+        let Stops {
+            ids: _ids,
+            places: _places,
+        } = self;
+    }
 }
 
 /// Where the columns stand.

@@ -202,7 +202,14 @@ pub(crate) fn load_stop_times<F: Files>(
 {
     let text = load_times_text(alloc, files, folder, limits)?;
     let most = limits.rows_of(Table::StopTimes);
-    read_stop_times(alloc, text, trips, &stops.ids, stops.places.as_slice(), most)
+    read_stop_times(
+        alloc,
+        text,
+        trips,
+        &stops.ids,
+        stops.places.as_slice(),
+        most,
+    )
 }
 
 /// How these trips repeat.

@@ -15,10 +15,19 @@ use std::alloc::Global;
 use stop_times::StopTimes;
 
 /// The kept rows of the stop times of each trip, and how the trips repeat.
-#[derive(Drop)]
 pub(crate) struct TripTimes {
     pub(crate) visits: StopTimes,
     pub(crate) repeats: Repeats,
+}
+
+impl Drop for TripTimes {
+    /// Lets go of its parts here, so that a caller lets go of one value.
+    fn drop(self) {
+        let TripTimes {
+            visits: _visits,
+            repeats: _repeats,
+        } = self;
+    }
 }
 
 /// When the trips of these lists run, or the first fault of the two tables.

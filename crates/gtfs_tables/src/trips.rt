@@ -19,18 +19,37 @@ use plan_model::NoMemory;
 use std::alloc::Global;
 
 /// The ids of the trips, and the service, the route and the route type of each.
-#[derive(Drop)]
 pub(crate) struct Trips {
     pub(crate) ids: Ids,
     pub(crate) of_trips: OfTrips,
 }
 
+impl Drop for Trips {
+    /// Lets go of its parts here, so that a caller lets go of one value.
+    fn drop(self) {
+        let Trips {
+            ids: _ids,
+            of_trips: _of_trips,
+        } = self;
+    }
+}
+
 /// The service, the route type and the number of the route of each trip.
-#[derive(Drop)]
 pub(crate) struct OfTrips {
     pub(crate) services: Vec<String>,
     pub(crate) types: Vec<u16>,
     pub(crate) routes: Vec<u32>,
+}
+
+impl Drop for OfTrips {
+    /// Lets go of its parts here, so that a caller lets go of one value.
+    fn drop(self) {
+        let OfTrips {
+            services: _services,
+            types: _types,
+            routes: _routes,
+        } = self;
+    }
 }
 
 /// Where the columns stand.

@@ -47,7 +47,7 @@ pub record AreInOrder (stops : ℕ) (places : List ℕ) (visits : List StopRow) 
   pub onward : (k : ℕ) → k + 1 < length visits → (slice_index_or visits k no_visit).departure ≤ (slice_index_or visits (k + 1) no_visit).arrival
 
 module _ (trips stops : List (List ℕ)) (places : List ℕ) (t : List (List (List ℕ))) (none : HasNone trips stops places t)
-  (trip : ℕ) (visits : List StopRow) (times : AreStopTimes (timed_rows trips stops places t) trip visits) where
+    (trip : ℕ) (visits : List StopRow) (times : AreStopTimes (timed_rows trips stops places t) trip visits) where
   form : (k : ℕ) → k < length visits → InForm (length stops) places (row_at (timed_rows trips stops places t) (times.line k))
   form k h = in_form trips stops places t none (times.line k) (times.visit k h).inside
 

@@ -68,7 +68,7 @@ module _ (rows : List TimedRow) (keys : List Key) (s : AreKeysOf true rows keys)
 
   -- where each trip has its span, between bounds
   module _ (bounds : List ℕ) (trips : ℕ) (count : length bounds ≡ trips + 1)
-    (spans : (trip : ℕ) → trip < trips → IsSpanOf keys trip (slice_index bounds trip) (slice_index bounds (trip + 1))) where
+      (spans : (trip : ℕ) → trip < trips → IsSpanOf keys trip (slice_index bounds trip) (slice_index bounds (trip + 1))) where
     pub bounded : IsBounded visits bounds
     bounded = record {
       order = λ trip h. (spans trip (omega (arith, h, count))).order;

@@ -12,7 +12,8 @@ ghost use Rattle.stop_times.specs.StopTimes.{columns_of, timed_of, bad_time, cou
 ghost use Rattle.stop_times.specs.Bounds.{most_stop_times};
 
 use crate::rows::{
-    KnownTrip, Named, TimeColumns, columns_of, keep_trip, missing_column, named_trip, read_timed_row,
+    KnownTrip, Named, TimeColumns, columns_of, keep_trip, missing_column, named_trip,
+    read_timed_row,
 };
 use crate::stop_order::StopOrder;
 use crate::stored_row::StoredRow;
@@ -44,14 +45,7 @@ fn take_row(
 {
     let line = timed.len() as u64 + 2;
     let expected = order.expected();
-    let taken = read_timed_row(
-        row,
-        columns,
-        named,
-        line,
-        named_trip(known),
-        expected,
-    )?;
+    let taken = read_timed_row(row, columns, named, line, named_trip(known), expected)?;
     if let Some(visit) = taken.visit {
         order.keep(visit.stop);
     }
@@ -146,9 +140,7 @@ fn rows_after<'a>(
             let fault = FeedFault::TooManyRows(Table::StopTimes, taken);
             return Err(counted_fault(records, row, taken, most, fault));
         }
-        match take_row(
-            &mut timed, row, columns, named, &mut known, &mut order,
-        ) {
+        match take_row(&mut timed, row, columns, named, &mut known, &mut order) {
             Ok(()) => {}
             Err(fault) => return Err(counted_fault(records, row, taken, most, fault)),
         }
