@@ -32,7 +32,8 @@ use Rattle.gtfs_tables.specs.Feeds.{stops_from, routes_from, trips_from, frequen
 use Rattle.gtfs_tables.specs.declared.lists.FeedLists.{FeedLists}
 use Rattle.gtfs_tables.specs.declared.times.TripTimes.{TripTimes}
 use Rattle.gtfs_tables.specs.Repeats.{all_repeats_in}
-use Rattle.gtfs_tables.specs.Parts.{parts_by, HasStops, HasRoutes, HasTrips, HasVisits, HasRepeats, AreLists, AreTimes, AreSoundLists, AreSoundTimes}
+use Rattle.gtfs_tables.specs.Lists.{HasStops, HasRoutes, HasTrips}
+use Rattle.gtfs_tables.specs.Parts.{parts_by, HasVisits, HasRepeats, AreLists, AreTimes, AreSoundLists, AreSoundTimes}
 use Rattle.stop_times.specs.Timetables.{AreVisits}
 use Rattle.gtfs_tables.specs.Feeds.{IsFeedOf, AreStops, AreRoutes, AreTrips, AreFrequencies, IsSoundFeed}
 use Rattle.csv_rows.proofs.ListLemmas.{length-list_below}
@@ -251,9 +252,9 @@ module _ (folder : List ℕ) (limits : Limits) where
     abbrev services : List (List ℕ)
     services = texts l.trips.of_trips.services.items
 
-    pub lists_of : (o : Option Folder) → IfSome o (λ m. HasStops (stops_from (load_in m folder limits None Stops)) l)
-        → IfSome o (λ m. HasRoutes (routes_from (load_in m folder limits None Routes)) l)
-        → IfSome o (λ m. HasTrips (trips_from (load_in m folder limits None Trips) l.routes.ids) l) → IfSome o (λ m. AreLists (load_in m folder limits None) l)
+    pub lists_of : (o : Option Folder) → IfSome o (λ m. HasStops (stops_from (load_in m folder limits None Stops)) l.stops)
+        → IfSome o (λ m. HasRoutes (routes_from (load_in m folder limits None Routes)) l.routes)
+        → IfSome o (λ m. HasTrips l.routes (trips_from (load_in m folder limits None Trips) l.routes.ids) l.trips) → IfSome o (λ m. AreLists (load_in m folder limits None) l)
     lists_of None a b d = tt
     lists_of (Some m) a b d = record { stops = a; routes = b; trips = d }
 
@@ -262,9 +263,9 @@ module _ (folder : List ℕ) (limits : Limits) where
         → (rank_of table == 0) ≡ false → (rank_of table == 1) ≡ false → (rank_of table == 2) ≡ false
         → AreLists (load_in m folder limits None) l → AreLists (load_in m folder limits (unread_of f)) l
     beside m f table own s r t a = record {
-      stops = subst (λ z. HasStops (stops_from z) l) (sym (other_load m folder limits f table Stops own s)) a.stops;
-      routes = subst (λ z. HasRoutes (routes_from z) l) (sym (other_load m folder limits f table Routes own r)) a.routes;
-      trips = subst (λ z. HasTrips (trips_from z l.routes.ids) l) (sym (other_load m folder limits f table Trips own t)) a.trips;
+      stops = subst (λ z. HasStops (stops_from z) l.stops) (sym (other_load m folder limits f table Stops own s)) a.stops;
+      routes = subst (λ z. HasRoutes (routes_from z) l.routes) (sym (other_load m folder limits f table Routes own r)) a.routes;
+      trips = subst (λ z. HasTrips l.routes (trips_from z l.routes.ids) l.trips) (sym (other_load m folder limits f table Trips own t)) a.trips;
     }
 
     pub fault_at_times : (o : Option Folder) (f : FeedFault) → IsFaultOf StopTimes f
@@ -325,9 +326,9 @@ fault_after (Some m) L P N a h = λ n. h n a
 -- whatever the files tell
 pub sound_feed : (l : FeedLists) (t : TripTimes) → AreSoundLists l → AreSoundTimes l t → IsSoundFeed (parts_by l t)
 sound_feed l t a v =
-    let s = a.stops in
-    let r = a.routes in
-    let d = a.trips in
+    let s = a.stops.table in
+    let r = a.routes.table in
+    let d = a.trips.table in
     let x = v.visits in
     let q = v.repeats in
     record {

@@ -6,6 +6,7 @@ pub mod Trips
 pub mod Frequencies
 pub mod Repeats
 pub mod Feeds
+pub mod Lists
 pub mod Parts
 pub mod FeedInside
 pub mod Timed

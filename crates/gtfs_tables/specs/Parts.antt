@@ -1,5 +1,5 @@
 -- What is read of the tables of a feed: the stops, routes and trips, and when the trips run.
-use Rattle.std.specs.Prelude.{◌≡◌, ℕ, ◌<◌, ◌≤◌, [], slice_index_or, length, All, Result, Ok}
+use Rattle.std.specs.Prelude.{◌≡◌, ℕ, ◌<◌, ◌≤◌, [], slice_index_or, length, Result, Ok}
 use Rattle.std.specs.List.Sorted.{IsNonDecreasing}
 use Rattle.plan_model.specs.NameLists.{texts}
 use Rattle.csv_rows.specs.declared.feed_tables.Table.{Table}
@@ -7,18 +7,16 @@ use Rattle.csv_rows.specs.declared.feed_tables.Table.TheVariants.{Stops, Routes,
 use Rattle.csv_rows.specs.declared.feed_tables.FeedFault.{FeedFault}
 use Rattle.csv_rows.specs.declared.loading.Loaded.{Loaded}
 use Rattle.gtfs_tables.specs.declared.lists.FeedLists.{FeedLists}
+use Rattle.gtfs_tables.specs.Lists.{HasStops, HasRoutes, HasTrips, AreSoundStops, AreSoundRoutes, AreSoundTrips}
 use Rattle.gtfs_tables.specs.declared.times.TripTimes.{TripTimes}
 use Rattle.stop_times.specs.Bounds.{most_stop_times}
-use Rattle.gtfs_tables.specs.Bounds.{most_frequencies, most_stops, most_trips}
+use Rattle.gtfs_tables.specs.Bounds.{most_frequencies}
 use Rattle.stop_times.specs.Required.{Records}
 use Rattle.stop_times.specs.Timetables.{stop_times_from}
 use Rattle.gtfs_tables.specs.Feeds.{FeedParts, stops_from, routes_from, trips_from, frequencies_from}
 use Rattle.stop_times.specs.Required.{IsSound}
 use Rattle.stop_times.specs.Timetables.{AreVisits}
-use Rattle.gtfs_tables.specs.Feeds.{AreStops, AreRoutes, AreTrips, AreFrequencies}
-use Rattle.gtfs_tables.specs.Stops.{stops_fault}
-use Rattle.gtfs_tables.specs.Routes.{routes_fault}
-use Rattle.gtfs_tables.specs.Trips.{trips_fault}
+use Rattle.gtfs_tables.specs.Feeds.{AreFrequencies}
 use Rattle.stop_times.specs.StopTimes.{stop_times_fault}
 use Rattle.gtfs_tables.specs.Frequencies.{fault_of_frequencies}
 use Rattle.gtfs_tables.specs.Repeats.{all_repeats_in}
@@ -37,18 +35,7 @@ parts_by l t = record {
   frequencies = all_repeats_in t.repeats.trips.items t.repeats.rows.items (length l.trips.ids);
 }
 
--- the same of one table each
-abbrev pub HasStops : Result Records FeedFault → FeedLists → Type 0
-HasStops read l = AreStops read l.stops.ids l.stops.places.items
-
-abbrev pub HasRoutes : Result Records FeedFault → FeedLists → Type 0
-HasRoutes read l = AreRoutes read l.routes.ids l.routes.types.items
-
-abbrev pub HasTrips : Result Records FeedFault → FeedLists → Type 0
-HasTrips read l =
-    AreTrips l.routes.ids l.routes.types.items read
-    l.trips.ids (texts l.trips.of_trips.services.items) l.trips.of_trips.types.items l.trips.of_trips.routes.items
-
+-- the same of the stop times and of the frequencies
 abbrev pub HasVisits : Result Records FeedFault → FeedLists → TripTimes → Type 0
 HasVisits read l t = AreVisits l.trips.ids l.stops.ids l.stops.places.items read t.visits
 
@@ -58,28 +45,20 @@ HasRepeats read l t =
 
 -- these are the stops, the routes and the trips of the tables that are loaded
 pub record AreLists (load : Table → Result Loaded FeedFault) (l : FeedLists) : Type 0 where
-  pub stops : HasStops (stops_from (load Stops)) l
-  pub routes : HasRoutes (routes_from (load Routes)) l
-  pub trips : HasTrips (trips_from (load Trips) l.routes.ids) l
+  pub stops : HasStops (stops_from (load Stops)) l.stops
+  pub routes : HasRoutes (routes_from (load Routes)) l.routes
+  pub trips : HasTrips l.routes (trips_from (load Trips) l.routes.ids) l.trips
 
 -- and the trips run by these
 pub record AreTimes (load : Table → Result Loaded FeedFault) (l : FeedLists) (t : TripTimes) : Type 0 where
   pub visits : HasVisits (stop_times_from (load StopTimes) l.trips.ids l.stops.ids l.stops.places.items) l t
   pub repeats : HasRepeats (frequencies_from (load Frequencies) l.trips.ids) l t
 
--- whatever the files tell: the lists are those of tables with no fault, each stop has a place, and each trip a service, a type and one
--- of the routes
+-- whatever the files tell: the lists are those of tables with no fault
 pub record AreSoundLists (l : FeedLists) : Type 0 where
-  pub stops : IsSound stops_fault (λ r. HasStops (Ok r) l)
-  pub routes : IsSound routes_fault (λ r. HasRoutes (Ok r) l)
-  pub trips : IsSound (trips_fault l.routes.ids) (λ r. HasTrips (Ok r) l)
-  pub places : length l.stops.places.items ≡ length l.stops.ids
-  pub services : length l.trips.of_trips.services.items ≡ length l.trips.ids
-  pub types_of_trips : length l.trips.of_trips.types.items ≡ length l.trips.ids
-  pub routes_of_trips : length l.trips.of_trips.routes.items ≡ length l.trips.ids
-  pub known : All (λ route. route < length l.routes.ids) l.trips.of_trips.routes.items
-  pub few_stops : length l.stops.ids ≤ most_stops
-  pub few_trips : length l.trips.ids ≤ most_trips
+  pub stops : AreSoundStops l.stops
+  pub routes : AreSoundRoutes l.routes
+  pub trips : AreSoundTrips l.routes l.trips
 
 -- each trip has its rows, and the rows of frequencies are in the order of their trips
 pub record AreSoundTimes (l : FeedLists) (t : TripTimes) : Type 0 where

@@ -1,5 +1,5 @@
 //! The routes of a feed.
-ghost use Rattle.std.specs.Prelude.{◌≡◌, ◌≢◌, ◌<◌, ◌≤◌, None, Some, Ok, Err, IfOk, IfErr, IfSome, OnOk, length};
+ghost use Rattle.std.specs.Prelude.{◌≡◌, ◌≢◌, ◌<◌, ◌≤◌, None, Some, Ok, Err, IfOk, IfErr, IfSome, OnOk};
 ghost use Rattle.std.specs.Option.{option_or};
 ghost use Rattle.clock_text.specs.Digits.{whole_of};
 ghost use Rattle.csv_rows.specs.declared.columns.Column.TheVariants.{RouteId, RouteType};
@@ -8,9 +8,8 @@ ghost use Rattle.csv_rows.specs.First.{first_below};
 ghost use Rattle.csv_rows.specs.FeedTables.{unread_of, IsFaultOf};
 ghost use Rattle.csv_rows.specs.Tables.{row_count};
 ghost use Rattle.csv_rows.specs.RowFaults.{lack as lack_of};
-ghost use Rattle.stop_times.specs.Required.{IsSound};
-ghost use Rattle.gtfs_tables.specs.Feeds.{AreRoutes};
-ghost use Rattle.gtfs_tables.specs.Routes.{route_columns, route_in, bad_route, route_ids, route_types, routes_fault};
+ghost use Rattle.gtfs_tables.specs.Lists.{HasRoutes, AreSoundRoutes};
+ghost use Rattle.gtfs_tables.specs.Routes.{route_columns, route_in, bad_route, route_types, routes_fault};
 
 use clock_text::read_whole;
 use csv_rows::{Column, FeedFault, Ids, Rows, Table, lack, read_ids, read_name};
@@ -118,11 +117,8 @@ fn read_types(alloc: Global, rows: &Rows, columns: RouteColumns) -> Result<Vec<u
 /// The routes of a table, or the first of its faults.
 pub(crate) fn read_routes(alloc: Global, rows: &Rows) -> Result<Routes, FeedFault>
     requires { row_count rows.now ≤ 65536 }
-    ensures ids { IfOk result (λ routes. routes.ids ≡ route_ids rows.now) }
-    ensures types { IfOk result (λ routes. routes.types.items ≡ route_types rows.now) }
-    ensures sound { IfOk result (λ routes. IsSound routes_fault
-        (λ t. AreRoutes (Ok t) routes.ids routes.types.items)) }
-    ensures sized { IfOk result (λ routes. length routes.types.items ≡ length routes.ids) }
+    ensures routes { IfOk result (HasRoutes (Ok rows.now)) }
+    ensures sound { IfOk result AreSoundRoutes }
     ensures none { OnOk result (routes_fault rows.now ≡ None) }
     ensures fault { IfErr result (λ f. f ≢ FeedFault.NoMemory → routes_fault rows.now ≡ Some f) }
     ensures content { IfErr result (λ f. unread_of f ≡ None) }

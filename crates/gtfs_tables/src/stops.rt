@@ -1,11 +1,10 @@
 //! The stops of a feed.
-ghost use Rattle.std.specs.Prelude.{◌≡◌, ◌≢◌, ◌<◌, ◌≤◌, None, Some, Ok, Err, IfOk, IfErr, OnOk, length};
+ghost use Rattle.std.specs.Prelude.{◌≡◌, ◌≢◌, ◌<◌, ◌≤◌, None, Some, Ok, Err, IfOk, IfErr, OnOk};
 ghost use Rattle.csv_rows.specs.declared.feed_tables.Table.TheVariants.{Stops as StopsTable};
 ghost use Rattle.csv_rows.specs.First.{first_below};
 ghost use Rattle.csv_rows.specs.FeedTables.{unread_of, IsFaultOf};
 ghost use Rattle.csv_rows.specs.Tables.{row_count};
-ghost use Rattle.stop_times.specs.Required.{IsSound};
-ghost use Rattle.gtfs_tables.specs.Feeds.{AreStops};
+ghost use Rattle.gtfs_tables.specs.Lists.{HasStops, AreSoundStops};
 ghost use Rattle.gtfs_tables.specs.Stops.{stop_columns, stop_in, bad_stop, parent_in_row, stop_ids, place_fault, unknown_parent, place_from, stop_places, stops_fault};
 ghost use Rattle.gtfs_tables.specs.Bounds.{most_stops};
 
@@ -143,12 +142,8 @@ fn read_places(
 /// The stops of a table, or the first of its faults.
 pub(crate) fn read_stops(alloc: Global, rows: &Rows) -> Result<Stops, FeedFault>
     requires { row_count rows.now ≤ most_stops }
-    ensures ids { IfOk result (λ stops. stops.ids ≡ stop_ids rows.now) }
-    ensures places { IfOk result (λ stops. stops.places.items ≡ stop_places rows.now) }
-    ensures sound { IfOk result (λ stops. IsSound stops_fault
-        (λ t. AreStops (Ok t) stops.ids stops.places.items)) }
-    ensures sized { IfOk result (λ stops. length stops.places.items ≡ length stops.ids) }
-    ensures few { IfOk result (λ stops. length stops.ids ≤ most_stops) }
+    ensures stops { IfOk result (HasStops (Ok rows.now)) }
+    ensures sound { IfOk result AreSoundStops }
     ensures none { OnOk result (stops_fault rows.now ≡ None) }
     ensures fault { IfErr result (λ f. f ≢ FeedFault.NoMemory → stops_fault rows.now ≡ Some f) }
     ensures content { IfErr result (λ f. unread_of f ≡ None) }

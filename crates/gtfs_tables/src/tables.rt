@@ -1,5 +1,5 @@
 //! The tables of a feed, each loaded and read.
-ghost use Rattle.std.specs.Prelude.{◌≡◌, ◌≢◌, ◌<◌, ◌≤◌, ℕ, [], length, slice_index_or, None, Some, Ok, Err, IfOk, IfErr, IfSome, IsSome, All};
+ghost use Rattle.std.specs.Prelude.{◌≡◌, ◌≢◌, ◌<◌, ◌≤◌, ℕ, [], length, slice_index_or, None, Some, Ok, Err, IfOk, IfErr, IfSome, IsSome};
 ghost use Rattle.std.specs.List.Sorted.{IsNonDecreasing};
 ghost use Rattle.csv_rows.specs.declared.columns.Column.TheVariants.{StopId, RouteId, TripId};
 ghost use Rattle.csv_rows.specs.declared.feed_tables.Table.TheVariants.{Stops as StopsTable, Routes as RoutesTable, Trips as TripsTable, StopTimes as StopTimesTable, Frequencies as FrequenciesTable};
@@ -7,15 +7,12 @@ ghost use Rattle.csv_rows.specs.FeedTables.{unread_of, IsFaultOf};
 ghost use Rattle.csv_rows.specs.Limits.{AreWithin, rows_of};
 ghost use Rattle.csv_rows.specs.Loading.{HasFeedCause, HasFeedPathCause, load_in, loaded_from};
 ghost use Rattle.csv_rows.specs.Tables.{row_count, table_of};
-ghost use Rattle.plan_model.specs.NameLists.{texts};
 ghost use Rattle.stop_times.specs.Bounds.{most_stop_times};
-ghost use Rattle.gtfs_tables.specs.Bounds.{most_frequencies, most_stops, most_trips};
+ghost use Rattle.gtfs_tables.specs.Bounds.{most_frequencies};
 ghost use Rattle.stop_times.specs.Required.{required, IsSound};
 ghost use Rattle.stop_times.specs.Timetables.{stop_times_from, AreVisits};
-ghost use Rattle.gtfs_tables.specs.Feeds.{stops_from, routes_from, trips_from, frequencies_from, AreStops, AreRoutes, AreTrips, AreFrequencies};
-ghost use Rattle.gtfs_tables.specs.Stops.{stops_fault};
-ghost use Rattle.gtfs_tables.specs.Routes.{routes_fault};
-ghost use Rattle.gtfs_tables.specs.Trips.{trips_fault};
+ghost use Rattle.gtfs_tables.specs.Feeds.{stops_from, routes_from, trips_from, frequencies_from, AreFrequencies};
+ghost use Rattle.gtfs_tables.specs.Lists.{HasStops, HasRoutes, HasTrips, AreSoundStops, AreSoundRoutes, AreSoundTrips};
 ghost use Rattle.stop_times.specs.StopTimes.{stop_times_fault};
 ghost use Rattle.gtfs_tables.specs.Frequencies.{fault_of_frequencies};
 ghost use Rattle.gtfs_tables.specs.Repeats.{all_repeats_in};
@@ -91,14 +88,11 @@ pub(crate) fn load_stops<F: Files>(
 ) -> Result<Stops, FeedFault>
     requires { AreWithin limits.now }
     ensures same { F.files files.new ≡ F.files files.old }
-    ensures stops { IfSome (F.files files.old) (λ m. IfOk result (λ s.
-        AreStops (stops_from (load_in m folder.now limits.now None StopsTable)) s.ids s.places.items)) }
+    ensures stops { IfSome (F.files files.old) (λ m. IfOk result
+        (HasStops (stops_from (load_in m folder.now limits.now None StopsTable)))) }
     ensures fault { IfSome (F.files files.old) (λ m. IfErr result (λ f. f ≢ FeedFault.NoMemory
         → stops_from (load_in m folder.now limits.now (unread_of f) StopsTable) ≡ Err f)) }
-    ensures sound { IfOk result (λ s. IsSound stops_fault
-        (λ t. AreStops (Ok t) s.ids s.places.items)) }
-    ensures sized { IfOk result (λ s. length s.places.items ≡ length s.ids) }
-    ensures few { IfOk result (λ s. length s.ids ≤ most_stops) }
+    ensures sound { IfOk result AreSoundStops }
     ensures own { IfErr result (IsFaultOf StopsTable) }
     ensures cause { HasFeedCause (F.faults files.old) (F.faults files.new) result }
     ensures path_cause { HasFeedPathCause (IsSome (F.files files.old)) folder.now
@@ -117,13 +111,11 @@ pub(crate) fn load_routes<F: Files>(
 ) -> Result<Routes, FeedFault>
     requires { AreWithin limits.now }
     ensures same { F.files files.new ≡ F.files files.old }
-    ensures routes { IfSome (F.files files.old) (λ m. IfOk result (λ r.
-        AreRoutes (routes_from (load_in m folder.now limits.now None RoutesTable)) r.ids r.types.items)) }
+    ensures routes { IfSome (F.files files.old) (λ m. IfOk result
+        (HasRoutes (routes_from (load_in m folder.now limits.now None RoutesTable)))) }
     ensures fault { IfSome (F.files files.old) (λ m. IfErr result (λ f. f ≢ FeedFault.NoMemory
         → routes_from (load_in m folder.now limits.now (unread_of f) RoutesTable) ≡ Err f)) }
-    ensures sound { IfOk result (λ r. IsSound routes_fault
-        (λ t. AreRoutes (Ok t) r.ids r.types.items)) }
-    ensures sized { IfOk result (λ r. length r.types.items ≡ length r.ids) }
+    ensures sound { IfOk result AreSoundRoutes }
     ensures own { IfErr result (IsFaultOf RoutesTable) }
     ensures cause { HasFeedCause (F.faults files.old) (F.faults files.new) result }
     ensures path_cause { HasFeedPathCause (IsSome (F.files files.old)) folder.now
@@ -144,22 +136,12 @@ pub(crate) fn load_trips<F: Files>(
     requires limits { AreWithin limits.now }
     requires types { length routes.now.types.items ≡ length routes.now.ids }
     ensures same { F.files files.new ≡ F.files files.old }
-    ensures trips { IfSome (F.files files.old) (λ m. IfOk result (λ t.
-        AreTrips routes.now.ids routes.now.types.items
-        (trips_from (load_in m folder.now limits.now None TripsTable) routes.now.ids)
-        t.ids (texts t.of_trips.services.items) t.of_trips.types.items t.of_trips.routes.items)) }
+    ensures trips { IfSome (F.files files.old) (λ m. IfOk result (HasTrips routes.now
+        (trips_from (load_in m folder.now limits.now None TripsTable) routes.now.ids))) }
     ensures fault { IfSome (F.files files.old) (λ m. IfErr result (λ f. f ≢ FeedFault.NoMemory
         → trips_from (load_in m folder.now limits.now (unread_of f) TripsTable) routes.now.ids
         ≡ Err f)) }
-    ensures sound { IfOk result (λ r. IsSound (trips_fault routes.now.ids)
-        (λ t. AreTrips routes.now.ids routes.now.types.items (Ok t)
-        r.ids (texts r.of_trips.services.items) r.of_trips.types.items r.of_trips.routes.items)) }
-    ensures services_sized { IfOk result (λ t. length t.of_trips.services.items ≡ length t.ids) }
-    ensures types_sized { IfOk result (λ t. length t.of_trips.types.items ≡ length t.ids) }
-    ensures routes_sized { IfOk result (λ t. length t.of_trips.routes.items ≡ length t.ids) }
-    ensures known { IfOk result (λ t.
-        All (λ route. route < length routes.now.ids) t.of_trips.routes.items) }
-    ensures few { IfOk result (λ t. length t.ids ≤ most_trips) }
+    ensures sound { IfOk result (AreSoundTrips routes.now) }
     ensures own { IfErr result (IsFaultOf TripsTable) }
     ensures cause { HasFeedCause (F.faults files.old) (F.faults files.new) result }
     ensures path_cause { HasFeedPathCause (IsSome (F.files files.old)) folder.now

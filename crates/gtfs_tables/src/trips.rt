@@ -8,9 +8,8 @@ ghost use Rattle.csv_rows.specs.FeedTables.{unread_of, IsFaultOf};
 ghost use Rattle.csv_rows.specs.Tables.{row_count};
 ghost use Rattle.plan_model.specs.NameLists.{texts};
 ghost use Rattle.csv_rows.specs.RowFaults.{lack as lack_of};
-ghost use Rattle.stop_times.specs.Required.{IsSound};
-ghost use Rattle.gtfs_tables.specs.Feeds.{AreTrips};
-ghost use Rattle.gtfs_tables.specs.Trips.{trip_columns, trip_in, bad_trip, trip_ids, trip_routes, trip_services, trip_types, trips_fault};
+ghost use Rattle.gtfs_tables.specs.Lists.{HasTrips, AreSoundTrips};
+ghost use Rattle.gtfs_tables.specs.Trips.{trip_columns, trip_in, bad_trip, trip_routes, trip_services, trip_types, trips_fault};
 ghost use Rattle.gtfs_tables.specs.Bounds.{most_trips};
 
 use crate::routes::Routes;
@@ -189,26 +188,8 @@ fn read_of_trips(
 pub(crate) fn read_trips(alloc: Global, rows: &Rows, routes: &Routes) -> Result<Trips, FeedFault>
     requires few { row_count rows.now ≤ most_trips }
     requires types { length routes.now.types.items ≡ length routes.now.ids }
-    ensures ids { IfOk result (λ trips. trips.ids ≡ trip_ids rows.now) }
-    ensures services { IfOk result (λ trips. texts trips.of_trips.services.items
-        ≡ trip_services routes.now.ids rows.now) }
-    ensures types { IfOk result (λ trips. trips.of_trips.types.items
-        ≡ trip_types routes.now.ids routes.now.types.items rows.now) }
-    ensures routes { IfOk result (λ trips. trips.of_trips.routes.items
-        ≡ trip_routes routes.now.ids rows.now) }
-    ensures sound { IfOk result (λ trips. IsSound (trips_fault routes.now.ids)
-        (λ t. AreTrips routes.now.ids routes.now.types.items (Ok t)
-        trips.ids (texts trips.of_trips.services.items) trips.of_trips.types.items
-        trips.of_trips.routes.items)) }
-    ensures services_sized { IfOk result (λ trips. length trips.of_trips.services.items
-        ≡ length trips.ids) }
-    ensures types_sized { IfOk result (λ trips. length trips.of_trips.types.items
-        ≡ length trips.ids) }
-    ensures routes_sized { IfOk result (λ trips. length trips.of_trips.routes.items
-        ≡ length trips.ids) }
-    ensures known { IfOk result (λ trips.
-        All (λ route. route < length routes.now.ids) trips.of_trips.routes.items) }
-    ensures few { IfOk result (λ trips. length trips.ids ≤ most_trips) }
+    ensures trips { IfOk result (HasTrips routes.now (Ok rows.now)) }
+    ensures sound { IfOk result (AreSoundTrips routes.now) }
     ensures none { OnOk result (trips_fault routes.now.ids rows.now ≡ None) }
     ensures fault { IfErr result (λ f. f ≢ FeedFault.NoMemory
         → trips_fault routes.now.ids rows.now ≡ Some f) }

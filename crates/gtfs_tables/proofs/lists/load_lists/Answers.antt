@@ -25,15 +25,7 @@ returns-clause-lists g c =
     (if_same _ _ _ first c.in_ok-routes.ensures.routes) (if_same _ _ _ (c.in_ok-routes.ensures.same ∙ first) c.in_ok-trips.ensures.trips)
 
 pub returns-clause-sound : goal.returns-clause-sound
-returns-clause-sound g c = record {
-  stops = c.in_ok-stops.ensures.sound;
-  routes = c.in_ok-routes.ensures.sound;
-  trips = c.in_ok-trips.ensures.sound;
-  places = c.in_ok-stops.ensures.sized;
-  services = c.in_ok-trips.ensures.services_sized;
-  types_of_trips = c.in_ok-trips.ensures.types_sized;
-  routes_of_trips = c.in_ok-trips.ensures.routes_sized;
-  known = c.in_ok-trips.ensures.known;
-  few_stops = c.in_ok-stops.ensures.few;
-  few_trips = c.in_ok-trips.ensures.few;
-}
+returns-clause-sound g c = record { stops = c.in_ok-stops.ensures.sound; routes = c.in_ok-routes.ensures.sound; trips = c.in_ok-trips.ensures.sound }
+
+pub load_trips-requires-clause-types : goal.load_trips-requires-clause-types
+load_trips-requires-clause-types g c = c.in_ok-routes.ensures.sound.types

@@ -45,13 +45,15 @@ returns-in_err-ids-clause-fault c = if_raised _ c.from_residual-in_err-ids.resul
     or_then _ _ _ (sym (ap missing_in c.route_columns-columns.ensures) ∙ sym c.in_default.ensures.fault)
     (or_then _ _ _ c.in_ok-types.ensures.none (ids_fault_is Routes c.args.rows.now _ _ _ place (c.in_err-ids.ensures.fault free))))
 
-pub returns-clause-sized : goal.returns-clause-sized
-returns-clause-sized c =
-    let t = c.args.rows.now in
-    same_length (λ i. (route_or_none (route_at t i)).kind) (field_at t c.route_columns-columns.result.id) (row_count t) _ _ c.in_ok-types.ensures.types c.in_ok-ids.ensures.ids
+pub returns-clause-routes : goal.returns-clause-routes
+returns-clause-routes c =
+    let place = ap (λ (k : RouteColumns). k.id) c.route_columns-columns.ensures in
+    (c.in_ok-ids.ensures.ids ∙ ap (λ p. list_below (field_at c.args.rows.now p) (row_count c.args.rows.now)) place, c.in_ok-types.ensures.types)
 
 pub returns-clause-sound : goal.returns-clause-sound
 returns-clause-sound c =
     let t = c.args.rows.now in
-    let place = ap (λ (k : RouteColumns). k.id) c.route_columns-columns.ensures in
-    (t, returns-clause-none c, (c.in_ok-ids.ensures.ids ∙ ap (λ p. list_below (field_at t p) (row_count t)) place, c.in_ok-types.ensures.types))
+    record {
+      table = (t, returns-clause-none c, returns-clause-routes c);
+      types = same_length (λ i. (route_or_none (route_at t i)).kind) (field_at t c.route_columns-columns.result.id) (row_count t) _ _ c.in_ok-types.ensures.types c.in_ok-ids.ensures.ids;
+    }

@@ -51,18 +51,17 @@ returns-in_err-places-clause-fault c = if_raised _ c.from_residual-in_err-places
     or_then _ _ _ (sym (ap missing_in c.stop_columns-columns.ensures) ∙ sym c.in_default.ensures.fault) (or_then _ _ _ c.in_ok-check_stops.ensures.none
     (or_then _ _ _ (ids_fault_is Stops c.args.rows.now _ _ _ place c.in_ok-ids.ensures.none) (c.in_err-places.ensures.fault free))))
 
-pub returns-clause-sized : goal.returns-clause-sized
-returns-clause-sized c =
-    let t = c.args.rows.now in
-    same_length (λ i. place_from (stop_ids t) (parent_of t i) i) (field_at t c.stop_columns-columns.result.id) (row_count t) _ _ c.in_ok-places.ensures.places c.in_ok-ids.ensures.ids
-
-pub returns-clause-few : goal.returns-clause-few
-returns-clause-few c =
-    let t = c.args.rows.now in
-    omega (arith, ap length c.in_ok-ids.ensures.ids, length-list_below (field_at t c.stop_columns-columns.result.id) (row_count t), c.requires)
+pub returns-clause-stops : goal.returns-clause-stops
+returns-clause-stops c =
+    let place = ap (λ (k : StopColumns). k.id) c.stop_columns-columns.ensures in
+    (c.in_ok-ids.ensures.ids ∙ ap (λ p. list_below (field_at c.args.rows.now p) (row_count c.args.rows.now)) place, c.in_ok-places.ensures.places)
 
 pub returns-clause-sound : goal.returns-clause-sound
 returns-clause-sound c =
     let t = c.args.rows.now in
-    let place = ap (λ (k : StopColumns). k.id) c.stop_columns-columns.ensures in
-    (t, returns-clause-none c, (c.in_ok-ids.ensures.ids ∙ ap (λ p. list_below (field_at t p) (row_count t)) place, c.in_ok-places.ensures.places))
+    let ids = field_at t c.stop_columns-columns.result.id in
+    record {
+      table = (t, returns-clause-none c, returns-clause-stops c);
+      places = same_length (λ i. place_from (stop_ids t) (parent_of t i) i) ids (row_count t) _ _ c.in_ok-places.ensures.places c.in_ok-ids.ensures.ids;
+      few = omega (arith, ap length c.in_ok-ids.ensures.ids, length-list_below ids (row_count t), c.requires);
+    }

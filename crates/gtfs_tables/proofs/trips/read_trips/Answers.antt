@@ -46,35 +46,25 @@ returns-in_err-ids-clause-fault c = if_raised _ c.from_residual-in_err-ids.resul
     or_then _ _ _ (sym (ap missing_in c.trip_columns-columns.ensures) ∙ sym c.in_default.ensures.fault)
     (or_then _ _ _ c.in_ok-of_trips.ensures.none (ids_fault_is Trips c.args.rows.now _ _ _ place (c.in_err-ids.ensures.fault free))))
 
-pub returns-clause-types_sized : goal.returns-clause-types_sized
-returns-clause-types_sized c =
+pub returns-clause-trips : goal.returns-clause-trips
+returns-clause-trips c =
     let t = c.args.rows.now in
-    same_length (λ i. slice_index_or c.args.routes.now.types.items (trip_or_none (trip_at c.args.routes.now.ids t i)).route 0) (field_at t c.trip_columns-columns.result.id) (row_count t)
-    _ _ c.in_ok-of_trips.ensures.types c.in_ok-ids.ensures.ids
-
-pub returns-clause-routes_sized : goal.returns-clause-routes_sized
-returns-clause-routes_sized c =
-    let t = c.args.rows.now in
-    same_length (λ i. (trip_or_none (trip_at c.args.routes.now.ids t i)).route) (field_at t c.trip_columns-columns.result.id) (row_count t)
-    _ _ c.in_ok-of_trips.ensures.routes c.in_ok-ids.ensures.ids
-
-pub returns-clause-services_sized : goal.returns-clause-services_sized
-returns-clause-services_sized c =
-    let t = c.args.rows.now in
-    sym (length-map c.in_ok-of_trips.of_trips.services.items string_bytes)
-    ∙ same_length (λ i. (trip_or_none (trip_at c.args.routes.now.ids t i)).service) (field_at t c.trip_columns-columns.result.id) (row_count t)
-    _ _ c.in_ok-of_trips.ensures.services c.in_ok-ids.ensures.ids
-
-pub returns-clause-few : goal.returns-clause-few
-returns-clause-few c =
-    let t = c.args.rows.now in
-    omega (arith, ap length c.in_ok-ids.ensures.ids, length-list_below (field_at t c.trip_columns-columns.result.id) (row_count t), c.requires.few)
+    let place = ap (λ (k : TripColumns). k.id) c.trip_columns-columns.ensures in
+    (c.in_ok-ids.ensures.ids ∙ ap (λ p. list_below (field_at t p) (row_count t)) place, c.in_ok-of_trips.ensures.services, c.in_ok-of_trips.ensures.types, c.in_ok-of_trips.ensures.routes)
 
 pub returns-clause-sound : goal.returns-clause-sound
 returns-clause-sound c =
     let t = c.args.rows.now in
-    let place = ap (λ (k : TripColumns). k.id) c.trip_columns-columns.ensures in (
-      t,
-      returns-clause-none c,
-      (c.in_ok-ids.ensures.ids ∙ ap (λ p. list_below (field_at t p) (row_count t)) place, c.in_ok-of_trips.ensures.services, c.in_ok-of_trips.ensures.types, c.in_ok-of_trips.ensures.routes),
-    )
+    let routes = c.args.routes.now.ids in
+    let ids = field_at t c.trip_columns-columns.result.id in
+    let named = c.in_ok-ids.ensures.ids in
+    record {
+      table = (t, returns-clause-none c, returns-clause-trips c);
+      services = sym (length-map c.in_ok-of_trips.of_trips.services.items string_bytes)
+          ∙ same_length (λ i. (trip_or_none (trip_at routes t i)).service) ids (row_count t) _ _ c.in_ok-of_trips.ensures.services named;
+      types = same_length (λ i. slice_index_or c.args.routes.now.types.items (trip_or_none (trip_at routes t i)).route 0) ids (row_count t)
+          _ _ c.in_ok-of_trips.ensures.types named;
+      routes = same_length (λ i. (trip_or_none (trip_at routes t i)).route) ids (row_count t) _ _ c.in_ok-of_trips.ensures.routes named;
+      known = c.in_ok-of_trips.ensures.known;
+      few = omega (arith, ap length named, length-list_below ids (row_count t), c.requires.few);
+    }

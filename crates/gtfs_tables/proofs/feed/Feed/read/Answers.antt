@@ -3,7 +3,7 @@ use Rattle.gtfs_tables.proofs.FeedLemmas.{if_same, none_read, fault_after, feed_
 use Rattle.gtfs_tables.proofs.feed.Feed.read.Goals as goal
 
 pub load_times-requires-clause-places : goal.load_times-requires-clause-places
-load_times-requires-clause-places g c = c.in_ok-lists.ensures.sound.places
+load_times-requires-clause-places g c = c.in_ok-lists.ensures.sound.stops.places
 
 pub returns-in_err-times-clause-fault : goal.returns-in_err-times-clause-fault
 returns-in_err-times-clause-fault g c = some_raised _ _ _ c.from_residual-in_err-times.result c.from_residual-in_err-times.ensures
@@ -18,16 +18,16 @@ invariant_of-result g c =
     let l = c.in_ok-lists.ensures.sound in
     let t = c.in_ok-times.ensures.sound in
     record {
-      places = l.places;
-      services = l.services;
-      types = l.types_of_trips;
-      routes = l.routes_of_trips;
-      known = l.known;
+      places = l.stops.places;
+      services = l.trips.services;
+      types = l.trips.types;
+      routes = l.trips.routes;
+      known = l.trips.known;
       visits = t.size;
       ordered = t.ordered;
       paired = t.paired;
-      few_stops = l.few_stops;
-      few_trips = l.few_trips;
+      few_stops = l.stops.few;
+      few_trips = l.trips.few;
       few_rows = t.few_rows;
       few_frequencies = t.few_frequencies;
       sound = sound_feed c.in_ok-lists.lists c.in_ok-times.times l t;
