@@ -1,5 +1,6 @@
 //! Keys of rows, in order and repeated.
 use csv_rows::{Key, before_at, first_repeat, in_order};
+use std::alloc::Global;
 use std::test::Fail;
 
 /// The keys of these groups, orders and places, in their order.
@@ -11,27 +12,54 @@ fn sorted(rt: HostRuntime, rows: &[(u32, u32, u32)]) -> Result<Vec<Key>, Fail> {
     Ok(in_order(keys))
 }
 
+/// The places of the rows of these keys.
+fn places_of(alloc: Global, keys: &[Key]) -> Result<Vec<u32>, Fail> {
+    let mut places = Vec::new(alloc);
+    for key in keys {
+        places.push(key.row)?;
+    }
+    Ok(places)
+}
+
+/// The row of the key before one, if it is of the same group.
+fn row_before(keys: &[Key], k: usize) -> Option<u32> {
+    if k >= keys.len() {
+        return None;
+    }
+    before_at(keys, k).map(|key| key.row)
+}
+
+/// The place of the first row that repeats another.
+fn repeat_in(rt: HostRuntime, rows: &[(u32, u32, u32)]) -> Result<Option<u32>, Fail> {
+    let keys = sorted(rt, rows)?;
+    Ok(first_repeat(keys.as_slice()))
+}
+
+const FOUR_ROWS: [(u32, u32, u32); 4] = [(1, 0, 0), (0, 9, 1), (1, 0, 2), (0, 7, 3)];
+
 #[test]
 fn sorts_by_group_order_and_place(rt: HostRuntime) -> Result<(), Fail> {
-    let keys = sorted(rt, &[(1, 0, 0), (0, 9, 1), (1, 0, 2), (0, 7, 3)])?;
-    if keys.len() != 4 {
-        return Err("a key is lost".into());
-    }
-    let mut rows: Vec<u32> = Vec::new(rt.alloc());
-    for key in keys.as_slice() {
-        rows.push(key.row)?;
-    }
-    assert_eq!(rt; rows.as_slice(), [3, 1, 0, 2].as_slice());
-    assert_eq!(rt; before_at(keys.as_slice(), 1), Some(keys[0]));
-    assert_eq!(rt; before_at(keys.as_slice(), 2), None);
+    let keys = sorted(rt, FOUR_ROWS.as_slice())?;
+    let places = places_of(rt.alloc(), keys.as_slice())?;
+    assert_eq!(rt; places.as_slice(), [3, 1, 0, 2].as_slice());
+    Ok(())
+}
+
+#[test]
+fn finds_the_row_before_in_a_group(rt: HostRuntime) -> Result<(), Fail> {
+    let keys = sorted(rt, FOUR_ROWS.as_slice())?;
+    assert_eq!(rt;
+        (row_before(&keys, 1), row_before(&keys, 2)),
+        (Some(3), None)
+    );
     Ok(())
 }
 
 #[test]
 fn finds_the_first_repeat_by_place(rt: HostRuntime) -> Result<(), Fail> {
-    let keys = sorted(rt, &[(2, 1, 0), (0, 0, 1), (2, 1, 2), (0, 0, 3)])?;
-    assert_eq!(rt; first_repeat(keys.as_slice()), Some(2));
-    let keys = sorted(rt, &[(2, 1, 0), (0, 1, 1), (2, 0, 2)])?;
-    assert_eq!(rt; first_repeat(keys.as_slice()), None);
+    let found = repeat_in(rt, &[(2, 1, 0), (0, 0, 1), (2, 1, 2), (0, 0, 3)])?;
+    assert_eq!(rt; found, Some(2));
+    let found = repeat_in(rt, &[(2, 1, 0), (0, 1, 1), (2, 0, 2)])?;
+    assert_eq!(rt; found, None);
     Ok(())
 }

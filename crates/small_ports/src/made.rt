@@ -2,6 +2,7 @@
 use feed_maker::{MadeFiles, make};
 use file_ports::{Files, load};
 use std::alloc::Global;
+use std::process::Abort;
 use std::test::Fail;
 
 fn bytes_of<F: Files>(alloc: Global, files: &mut F, path: &str) -> Result<Vec<u8>, &'static str> {
@@ -12,11 +13,50 @@ fn bytes_of<F: Files>(alloc: Global, files: &mut F, path: &str) -> Result<Vec<u8
     }
 }
 
-#[test]
-fn ten_lines(rt: HostRuntime) -> Result<(), Fail> {
-    let alloc = rt.alloc();
-    let mut files = MadeFiles::new(alloc, 10)?;
-    let mut whole = make(alloc, 10)?;
+/// Stops where the bytes of a made file are not so many lines, or begin or end in another way.
+fn is_made(rt: &impl Abort, path: &str, bytes: &[u8], rows: usize, front: &str, end: &str) {
+    let lines = bytes.iter().filter(|byte| **byte == b'\n').count();
+    assert_eq!(rt; lines, rows, "{path}");
+    assert!(rt; bytes.starts_with(front.as_bytes()), "{path}");
+    assert!(rt; bytes.ends_with(end.as_bytes()), "{path}");
+}
+
+/// Whether a file of these holds these bytes.
+fn holds<F: Files>(
+    alloc: Global,
+    files: &mut F,
+    path: &str,
+    bytes: &[u8],
+) -> Result<bool, &'static str> {
+    let found = bytes_of(alloc, files, path)?;
+    Ok(found.as_slice() == bytes)
+}
+
+/// Stops where a made file is another, or where it is another in the folder that is made at once.
+fn is_in_both<F: Files, W: Files>(
+    rt: &impl Abort,
+    alloc: Global,
+    files: &mut F,
+    whole: &mut W,
+    path: &str,
+    rows: usize,
+    front: &str,
+    end: &str,
+) -> Result<(), Fail> {
+    let bytes = bytes_of(alloc, files, path)?;
+    is_made(rt, path, bytes.as_slice(), rows, front, end);
+    let same = holds(alloc, whole, path, bytes.as_slice())?;
+    assert!(rt; same, "{path}");
+    Ok(())
+}
+
+/// Stops where one of the files of ten lines is another.
+fn are_ten_lines<F: Files, W: Files>(
+    rt: &impl Abort,
+    alloc: Global,
+    files: &mut F,
+    whole: &mut W,
+) -> Result<(), Fail> {
     for (path, rows, front, end) in [
         (
             "feed/stops.txt",
@@ -57,26 +97,33 @@ fn ten_lines(rt: HostRuntime) -> Result<(), Fail> {
             "\n1,0,9000\n1,60,1000\n2,0,7000\n2,120,2000\n2,600,1000\n",
         ),
     ] {
-        let bytes = bytes_of(alloc, &mut files, path)?;
-        assert_eq!(rt; bytes.iter().filter(|byte| **byte == b'\n').count(), rows);
-        assert!(rt; bytes.starts_with(front.as_bytes()));
-        assert!(rt; bytes.ends_with(end.as_bytes()));
-        assert!(rt; bytes == bytes_of(alloc, &mut whole, path)?);
+        is_in_both(rt, alloc, files, whole, path, rows, front, end)?;
     }
     Ok(())
 }
 
 #[test]
+fn ten_lines(rt: HostRuntime) -> Result<(), Fail> {
+    let mut files = MadeFiles::new(rt.alloc(), 10)?;
+    let mut whole = make(rt.alloc(), 10)?;
+    are_ten_lines(&rt, rt.alloc(), &mut files, &mut whole)
+}
+
+/// The stop times of so many lines more than ten.
+fn stop_times_of(alloc: Global, more: u32) -> Result<Vec<u8>, Fail> {
+    let mut files = MadeFiles::new(alloc, 10 + more % 391)?;
+    Ok(bytes_of(alloc, &mut files, "feed/stop_times.txt")?)
+}
+
+#[test]
 fn last_times(rt: HostRuntime) -> Result<(), Fail> {
-    let alloc = rt.alloc();
     for (more, end) in [
         (1, "\nT10_95,24:15:50,24:15:50,H2,21\n"),
         (21, "\nT30_95,24:10:50,24:10:50,H1,21\n"),
         (95, "\nT104_95,24:15:40,24:15:40,H6,21\n"),
     ] {
-        let mut files = MadeFiles::new(alloc, 10 + more % 391)?;
-        let bytes = bytes_of(alloc, &mut files, "feed/stop_times.txt")?;
-        assert!(rt; bytes.ends_with(end.as_bytes()));
+        let bytes = stop_times_of(rt.alloc(), more)?;
+        assert!(rt; bytes.ends_with(end.as_bytes()), "{more}");
     }
     Ok(())
 }

@@ -8,6 +8,7 @@ use plan_model::List;
 use std::alloc::Global;
 use std::fs;
 use std::hash::{BuildHasher, Hasher};
+use std::process::Abort;
 use std::test::Fail;
 
 fn loaded<F: Files>(
@@ -75,22 +76,49 @@ fn failing_files(alloc: Global, calls: &[(&str, u32)]) -> Result<MemoryFiles, Fa
     Ok(files)
 }
 
+/// Stops where one of these files is not loaded as these bytes.
+fn gives_each<F: Files>(
+    rt: &impl Abort,
+    alloc: Global,
+    files: &mut F,
+    cases: &[(&str, u32, &str)],
+) {
+    for (path, most, text) in cases {
+        assert!(rt; gives(alloc, files, path, *most, text), "{path}");
+    }
+}
+
+/// Stops where one of these files is loaded, or is not for another cause.
+fn refuses_each<F: Files>(
+    rt: &impl Abort,
+    alloc: Global,
+    files: &mut F,
+    cases: &[(&str, u32, &str)],
+) {
+    for (path, most, cause) in cases {
+        assert!(rt; refuses(alloc, files, path, *most, cause), "{path}");
+    }
+}
+
 #[test]
 fn memory_files_are_whole(rt: HostRuntime) -> Result<(), Fail> {
     let mut files = short_files(rt.alloc())?;
-    for (path, most, text) in [("a", 5, "hello"), ("eight", 8, "12345678"), ("b", 0, "")] {
-        assert!(rt; gives(rt.alloc(), &mut files, path, most, text), "{path}");
-    }
-    for (path, most, cause) in [
-        ("nine", 8, "too long"),
-        ("a", 4, "too long"),
-        ("c", 9, "absent"),
-    ] {
-        assert!(rt;
-            refuses(rt.alloc(), &mut files, path, most, cause),
-            "{path}"
-        );
-    }
+    gives_each(
+        &rt,
+        rt.alloc(),
+        &mut files,
+        &[("a", 5, "hello"), ("eight", 8, "12345678"), ("b", 0, "")],
+    );
+    refuses_each(
+        &rt,
+        rt.alloc(),
+        &mut files,
+        &[
+            ("nine", 8, "too long"),
+            ("a", 4, "too long"),
+            ("c", 9, "absent"),
+        ],
+    );
     assert!(rt; files.fault_count() == 0);
     Ok(())
 }
@@ -98,87 +126,126 @@ fn memory_files_are_whole(rt: HostRuntime) -> Result<(), Fail> {
 #[test]
 fn memory_files_fail_where_told(rt: HostRuntime) -> Result<(), Fail> {
     let mut files = failing_files(rt.alloc(), &[("a", 3), ("c", 0)])?;
-    for path in ["a", "c"] {
-        assert!(rt;
-            refuses(rt.alloc(), &mut files, path, 5, "cannot read"),
-            "{path}"
-        );
-    }
+    refuses_each(
+        &rt,
+        rt.alloc(),
+        &mut files,
+        &[("a", 5, "cannot read"), ("c", 5, "cannot read")],
+    );
     assert!(rt; files.fault_count() == 2);
     Ok(())
+}
+
+/// Stops where files that have failed three times do not give what they hold after they have healed.
+fn heal(rt: &impl Abort, alloc: Global, files: &mut MemoryFiles) {
+    assert!(rt; files.fault_count() == 3);
+    files.heal();
+    gives_each(
+        rt,
+        alloc,
+        files,
+        &[("a", 9, "hello"), ("eight", 9, "12345678")],
+    );
+    refuses_each(rt, alloc, files, &[("c", 9, "absent")]);
+    assert!(rt; files.fault_count() == 3);
 }
 
 #[test]
 fn memory_files_heal(rt: HostRuntime) -> Result<(), Fail> {
     let mut files = failing_files(rt.alloc(), &[("a", 0), ("a", 2), ("eight", 1), ("c", 0)])?;
-    for path in ["a", "eight", "c"] {
-        assert!(rt;
-            refuses(rt.alloc(), &mut files, path, 9, "cannot read"),
-            "{path}"
-        );
-    }
-    assert!(rt; files.fault_count() == 3);
-    files.heal();
-    for (path, text) in [("a", "hello"), ("eight", "12345678")] {
-        assert!(rt; gives(rt.alloc(), &mut files, path, 9, text), "{path}");
-    }
-    assert!(rt; refuses(rt.alloc(), &mut files, "c", 9, "absent"));
-    assert!(rt; files.fault_count() == 3);
+    refuses_each(
+        &rt,
+        rt.alloc(),
+        &mut files,
+        &[
+            ("a", 9, "cannot read"),
+            ("eight", 9, "cannot read"),
+            ("c", 9, "cannot read"),
+        ],
+    );
+    heal(&rt, rt.alloc(), &mut files);
     Ok(())
+}
+
+/// Whether a file that has failed fails again where it is told to after it has healed.
+fn fails_again(alloc: Global, files: &mut MemoryFiles) -> Result<bool, Fail> {
+    if !refuses(alloc, files, "eight", 9, "cannot read") {
+        return Ok(false);
+    }
+    files.heal();
+    files.fail("eight", 0)?;
+    Ok(refuses(alloc, files, "eight", 9, "cannot read"))
 }
 
 #[test]
 fn memory_files_fail_once_more(rt: HostRuntime) -> Result<(), Fail> {
     let mut files = failing_files(rt.alloc(), &[("eight", 1)])?;
-    assert!(rt; refuses(rt.alloc(), &mut files, "eight", 9, "cannot read"));
-    files.heal();
-    files.fail("eight", 0)?;
-    assert!(rt; refuses(rt.alloc(), &mut files, "eight", 9, "cannot read"));
+    let again = fails_again(rt.alloc(), &mut files)?;
+    assert!(rt; again);
     assert!(rt; files.fault_count() == 2);
     Ok(())
 }
 
+/// Steady files of which one is added twice.
+fn steady_files(alloc: Global) -> Result<SteadyFiles, Fail> {
+    let mut files = SteadyFiles::new(alloc, 2);
+    for text in ["old", "hello"] {
+        files.add("a", text.as_bytes())?;
+    }
+    Ok(files)
+}
+
 #[test]
 fn steady_files_load(rt: HostRuntime) -> Result<(), Fail> {
-    let alloc = rt.alloc();
-    let mut files = SteadyFiles::new(alloc, 2);
-    files.add("a", b"old")?;
-    files.add("a", b"hello")?;
-    assert_eq!(rt;
-        loaded(alloc, &mut files, "a", 5)?.as_slice(),
-        b"hello".as_slice()
-    );
-    assert!(rt; matches!(&loaded_steadily(alloc, &mut files, "b"), Ok(None)));
+    let mut files = steady_files(rt.alloc())?;
+    assert!(rt; gives(rt.alloc(), &mut files, "a", 5, "hello"));
+    let absent = matches!(&loaded_steadily(rt.alloc(), &mut files, "b"), Ok(None));
+    assert!(rt; absent);
     Ok(())
+}
+
+/// A sink of two bytes a write and seven in all, whose third write fails.
+fn short_sink(alloc: Global) -> Result<MemorySink, Fail> {
+    let failing = List::from_vec(vec![in alloc; 3]?);
+    Ok(MemorySink::new(alloc, 2, 7, failing)?)
+}
+
+/// Which of three texts are put whole.
+fn puts(sink: &mut MemorySink) -> (bool, bool, bool) {
+    let first = put_all(sink, b"abc").is_ok();
+    let second = put_all(sink, b"d").is_ok();
+    (first, second, put_all(sink, b"efghi").is_ok())
 }
 
 #[test]
 fn memory_sinks_fail_where_told(rt: HostRuntime) -> Result<(), Fail> {
-    let alloc = rt.alloc();
-    let failing = List::from_vec(vec![in alloc; 3]?);
-    let mut sink = MemorySink::new(alloc, 2, 7, failing)?;
-    assert!(rt; put_all(&mut sink, b"abc").is_ok());
-    assert!(rt; put_all(&mut sink, b"d").is_err());
-    assert!(rt; put_all(&mut sink, b"efghi").is_err());
+    let mut sink = short_sink(rt.alloc())?;
+    assert_eq!(rt; puts(&mut sink), (true, false, false));
     assert_eq!(rt; sink.bytes(), b"abcefgh".as_slice());
     Ok(())
 }
 
 #[test]
 fn host_files_read(rt: HostRuntime) -> Result<(), Fail> {
-    let alloc = rt.alloc();
     fs::write(&rt, "found.txt", "some bytes")?;
-    let mut files = HostFiles::new(&rt);
-    assert_eq!(rt;
-        loaded(alloc, &mut files, "found.txt", 10)?.as_slice(),
-        b"some bytes".as_slice()
-    );
-    for (path, fault) in [
-        ("missing.txt", "absent"),
-        (".", "cannot read"),
-        ("found.txt/missing.txt", "cannot read"),
-    ] {
-        assert_eq!(rt; loaded(alloc, &mut files, path, 10).err(), Some(fault));
+    {
+        let mut files = HostFiles::new(&rt);
+        gives_each(
+            &rt,
+            rt.alloc(),
+            &mut files,
+            &[("found.txt", 10, "some bytes")],
+        );
+        refuses_each(
+            &rt,
+            rt.alloc(),
+            &mut files,
+            &[
+                ("missing.txt", 10, "absent"),
+                (".", 10, "cannot read"),
+                ("found.txt/missing.txt", 10, "cannot read"),
+            ],
+        );
     }
     fs::remove_file(&rt, "found.txt")?;
     Ok(())
@@ -191,13 +258,22 @@ fn hash_of<F: Files>(files: &F) -> u64 {
     hasher.finish()
 }
 
+/// The same of a start of the host's files.
+fn host_hash(rt: &HostRuntime) -> u64 {
+    hash_of(&HostFiles::new(rt))
+}
+
+/// The same of a start of steady files.
+fn steady_hash(alloc: Global) -> u64 {
+    hash_of(&SteadyFiles::new(alloc, 4_096))
+}
+
 #[test]
 fn each_start_draws_a_key(rt: HostRuntime) {
-    let alloc = rt.alloc();
-    let first = hash_of(&HostFiles::new(&rt));
-    assert!(rt; first != hash_of(&HostFiles::new(&rt)));
-    let fixed = hash_of(&SteadyFiles::new(alloc, 4_096));
-    assert_eq!(rt; fixed, hash_of(&SteadyFiles::new(alloc, 4_096)));
+    let first = host_hash(&rt);
+    assert!(rt; first != host_hash(&rt));
+    let fixed = steady_hash(rt.alloc());
+    assert_eq!(rt; fixed, steady_hash(rt.alloc()));
     assert!(rt; fixed != first);
 }
 

@@ -1,4 +1,6 @@
 //! The rows and ids of small tables.
+ghost use Rattle.std.specs.Prelude.{◌<◌, length};
+
 use csv_rows::{Column, FeedFault, Ids, Rows, RowsFault, Table, lack, read_name};
 use plan_model::HashKey;
 use std::alloc::Global;
@@ -49,21 +51,65 @@ fn reads_rows(rt: HostRuntime) {
     }
 }
 
+/// A table of one row, with a byte order mark and two columns of one name.
+fn named_columns(alloc: Global) -> Result<Rows, Fail> {
+    match Rows::read(alloc, b"\xEF\xBB\xBFstop_id, step ,step\nA,1,2\n") {
+        Ok(rows) => Ok(rows),
+        Err(_) => Err("no rows".into()),
+    }
+}
+
+/// The places of these columns in it.
+fn places_in_it(
+    alloc: Global,
+    columns: [Column; 3],
+) -> Result<(Option<usize>, Option<usize>, Option<usize>), Fail> {
+    let rows = named_columns(alloc)?;
+    let [first, second, third] = columns;
+    Ok((
+        rows.place_of(first),
+        rows.place_of(second),
+        rows.place_of(third),
+    ))
+}
+
 #[test]
 fn names_columns(rt: HostRuntime) -> Result<(), Fail> {
-    let text = b"\xEF\xBB\xBFstop_id, step ,step\nA,1,2\n";
-    let Ok(rows) = Rows::read(rt.alloc(), text) else {
-        return Err("no rows".into());
-    };
-    assert_eq!(rt; rows.place_of(Column::StopId), Some(0));
-    assert_eq!(rt; rows.place_of(Column::Step), Some(1));
-    assert_eq!(rt; rows.place_of(Column::Run), None);
-    assert_eq!(rt; rows.header_width(), 3);
-    assert_eq!(rt; rows.header_field(3), b"".as_slice());
-    assert_eq!(rt; rows.count(), 1);
-    assert_eq!(rt; read_name(rows.field_at(0, Some(0))), Some("A"));
-    assert_eq!(rt; read_name(rows.field_at(0, None)), None);
-    assert_eq!(rt; rows.line(0), 2);
+    let places = places_in_it(rt.alloc(), [Column::StopId, Column::Step, Column::Run])?;
+    assert_eq!(rt; places, (Some(0), Some(1), None));
+    Ok(())
+}
+
+/// The width of its header, the number of its rows, and how long the field past the end of the header is.
+fn counts_of_it(alloc: Global) -> Result<(usize, usize, usize), Fail> {
+    let rows = named_columns(alloc)?;
+    Ok((
+        rows.header_width(),
+        rows.count(),
+        rows.header_field(3).len(),
+    ))
+}
+
+#[test]
+fn counts_columns_and_rows(rt: HostRuntime) -> Result<(), Fail> {
+    assert_eq!(rt; counts_of_it(rt.alloc())?, (3, 1, 0));
+    Ok(())
+}
+
+/// The line of its row, and whether that has this name under a column, and none under a column that it lacks.
+fn row_of_it(alloc: Global, name: &str) -> Result<(u64, bool, bool), Fail> {
+    let rows = named_columns(alloc)?;
+    if rows.count() == 0 {
+        return Err("no row".into());
+    }
+    let there = read_name(rows.field_at(0, Some(0))) == Some(name);
+    let lacking = read_name(rows.field_at(0, None)).is_none();
+    Ok((rows.line(0), there, lacking))
+}
+
+#[test]
+fn names_of_a_row(rt: HostRuntime) -> Result<(), Fail> {
+    assert_eq!(rt; row_of_it(rt.alloc(), "A")?, (2, true, true));
     Ok(())
 }
 
@@ -76,11 +122,19 @@ fn one_byte_order_mark(rt: HostRuntime) -> Result<(), Fail> {
     Ok(())
 }
 
+/// Whether a table of these bytes has no header.
+fn has_no_header(alloc: Global, bytes: &[u8]) -> bool {
+    matches!(Rows::read(alloc, bytes), Err(RowsFault::NoHeader))
+}
+
 #[test]
 fn no_record(rt: HostRuntime) {
-    for text in ["", "\n\r\n\n", "\u{FEFF}"] {
-        let read = Rows::read(rt.alloc(), text.as_bytes());
-        assert!(rt; matches!(read, Err(RowsFault::NoHeader)), "{text:?}");
+    for bytes in [
+        b"".as_slice(),
+        b"\n\r\n\n".as_slice(),
+        b"\xEF\xBB\xBF".as_slice(),
+    ] {
+        assert!(rt; has_no_header(rt.alloc(), bytes), "{bytes:?}");
     }
 }
 
@@ -91,17 +145,41 @@ fn tells_a_column_that_is_lacking(rt: HostRuntime) {
     assert_eq!(rt; lack(Table::Stops, Column::StopId, Some(2)), None);
 }
 
+/// Whether a name is new the first time that it comes, and not the second time.
+fn adds_each_once(alloc: Global, ids: &mut Ids) -> Result<bool, Fail>
+    requires { length ids.old < 9 }
+{
+    let first = ids.add(alloc, "b")?;
+    let other = ids.add(alloc, "a")?;
+    let again = ids.add(alloc, "b")?;
+    Ok(first && other && !again)
+}
+
+/// Whether the ids are these, in their order.
+fn are(ids: &Ids, names: &[&str]) -> bool {
+    if ids.len() as usize != names.len() {
+        return false;
+    }
+    for i in 0..ids.len() {
+        if ids.get(i) != names[i as usize] {
+            return false;
+        }
+    }
+    true
+}
+
+/// The numbers of three ids.
+fn numbers_of(ids: &Ids, names: [&str; 3]) -> (Option<u32>, Option<u32>, Option<u32>) {
+    let [first, second, third] = names;
+    (ids.number(first), ids.number(second), ids.number(third))
+}
+
 #[test]
 fn numbers_ids(rt: HostRuntime) -> Result<(), Fail> {
     let mut ids = Ids::with_key(rt.alloc(), HashKey::new(3, 5));
-    assert!(rt; ids.add(rt.alloc(), "b")?);
-    assert!(rt; ids.add(rt.alloc(), "a")?);
-    assert!(rt; !ids.add(rt.alloc(), "b")?);
-    assert_eq!(rt; ids.len(), 2);
-    assert_eq!(rt; ids.number("b"), Some(0));
-    assert_eq!(rt; ids.number("a"), Some(1));
-    assert_eq!(rt; ids.number("c"), None);
-    assert_eq!(rt; ids.get(0), "b");
-    assert_eq!(rt; ids.get(1), "a");
+    let added = adds_each_once(rt.alloc(), &mut ids)?;
+    assert!(rt; added);
+    assert!(rt; are(&ids, &["b", "a"]));
+    assert_eq!(rt; numbers_of(&ids, ["b", "a", "c"]), (Some(0), Some(1), None));
     Ok(())
 }
