@@ -1,10 +1,20 @@
 //! Certificates by hand, and certificates that fail or do not read, through the top call.
-use crate::edited_graphs::edited;
-use crate::rides::{CHANGE, cut_of};
-use crate::tests::{Told, USUAL, told_over};
-use file_ports::MemoryFiles;
+use crate::told::{CHANGE, CHANGE_PLAN, answers, is_told, refuses, told_of};
 use std::alloc::Global;
+use std::process::Abort;
 use std::test::Fail;
+
+const CERTIFY: &str = "certify --cut c --delays d --from A --to T --at 2024-06-03T08:00:00";
+
+const CERTIFY_THERE: &str = "certify --cut c --delays d --from A --to A --at 2024-06-03T08:00:00";
+
+const CHECK: &str = "check --cut c --delays d --from A --to T --at 2024-06-03T08:00:00 --proof p";
+
+const CHECK_THERE: &str =
+    "check --cut c --delays d --from A --to A --at 2024-06-03T08:00:00 --proof p";
+
+const CHECK_TO_B: &str =
+    "check --cut c --delays d --from A --to B --at 2024-06-03T08:00:00 --proof p";
 
 /// The certificate of the journey of `CHANGE`, by its value of r3.
 fn certificate(alloc: Global, third: &str) -> Result<String, Fail> {
@@ -14,60 +24,59 @@ fn certificate(alloc: Global, third: &str) -> Result<String, Fail> {
     Ok(text)
 }
 
-/// What a command tells of the journey of `CHANGE`, where the proof file has this text.
-fn told_with(
-    alloc: Global,
-    command: &str,
-    proof: Option<&str>,
-    target: &str,
-) -> Result<Told, Fail> {
-    let mut files = MemoryFiles::new(alloc, 64);
-    files.add("c", cut_of(alloc, CHANGE.as_slice())?.as_bytes())?;
-    files.add("d", USUAL.as_bytes())?;
-    if let Some(text) = proof {
-        files.add("p", text.as_bytes())?;
-    }
-    let words = [
-        command,
-        "--cut",
-        "c",
-        "--delays",
-        "d",
-        "--from",
-        "A",
-        "--to",
-        target,
-        "--at",
-        "2024-06-03T08:00:00",
-        "--proof",
-        "p",
-    ];
-    let most = if command == "check" { 13 } else { 11 };
-    told_over(alloc, &mut files, &words[..most])
+#[test]
+fn certifies_a_journey(rt: HostRuntime) -> Result<(), Fail> {
+    let wanted = certificate(rt.alloc(), "09:07:30.000000000")?;
+    answers(&rt, rt.alloc(), CHANGE.as_slice(), CERTIFY, wanted.as_str())
 }
 
 #[test]
-fn certifies_a_journey(rt: HostRuntime) -> Result<(), Fail> {
-    let alloc = rt.alloc();
-    let made = told_with(alloc, "certify", None, "T")?;
+fn certifies_that_one_is_there(rt: HostRuntime) -> Result<(), Fail> {
+    let made = told_of(rt.alloc(), CHANGE.as_slice(), CERTIFY_THERE)?;
     assert_eq!(rt; made.status, 0);
-    assert_eq!(rt;
+    checks(
+        &rt,
+        rt.alloc(),
         made.out.as_str(),
-        certificate(alloc, "09:07:30.000000000")?.as_str()
-    );
-    let same = told_with(alloc, "certify", None, "A")?;
-    assert_eq!(rt; same.status, 0);
-    let checked = told_with(alloc, "check", Some(same.out.as_str()), "A")?;
-    assert_eq!(rt;
-        checked.out.as_str(),
-        "holds,A,A,2024-06-03T08:00:00,2024-06-03T08:00:00,2024-06-03T08:00:00.000000000\n"
-    );
+        CHECK_THERE,
+        0,
+        "holds,A,A,2024-06-03T08:00:00,2024-06-03T08:00:00,2024-06-03T08:00:00.000000000\n",
+        "",
+    )
+}
+
+/// Stops where a check of this certificate tells another status, answer or line.
+fn checks(
+    rt: &impl Abort,
+    alloc: Global,
+    proof: &str,
+    line: &str,
+    status: u8,
+    out: &str,
+    err: &str,
+) -> Result<(), Fail> {
+    let [cut, delays] = CHANGE;
+    let sources = [cut, delays, ("p", proof)];
+    let told = told_of(alloc, sources.as_slice(), line)?;
+    is_told(rt, proof, &told, status, out, err);
     Ok(())
+}
+
+/// Stops where a check of the certificate with this value of r3 tells another status, answer or line.
+fn checks_third(
+    rt: &impl Abort,
+    alloc: Global,
+    third: &str,
+    status: u8,
+    out: &str,
+    err: &str,
+) -> Result<(), Fail> {
+    let proof = certificate(alloc, third)?;
+    checks(rt, alloc, proof.as_str(), CHECK, status, out, err)
 }
 
 #[test]
 fn checks_certificates(rt: HostRuntime) -> Result<(), Fail> {
-    let alloc = rt.alloc();
     let holds = "holds,A,T,2024-06-03T08:00:00,2024-06-03T10:42:00,2024-06-03T08:54:42.000000000\n";
     for (third, status, out, err) in [
         ("09:07:30.000000000", 0, holds, ""),
@@ -84,119 +93,114 @@ fn checks_certificates(rt: HostRuntime) -> Result<(), Fail> {
             "meat: proof fails at r1 step 1\n",
         ),
     ] {
-        let text = certificate(alloc, third)?;
-        let told = told_with(alloc, "check", Some(text.as_str()), "T")?;
-        assert_eq!(rt; told.status, status, "{third}");
-        assert_eq!(rt; told.out.as_str(), out, "{third}");
-        assert_eq!(rt; told.err.as_str(), err, "{third}");
+        checks_third(&rt, rt.alloc(), third, status, out, err)?;
     }
     Ok(())
 }
 
 #[test]
 fn refuses_proof_files(rt: HostRuntime) -> Result<(), Fail> {
-    let alloc = rt.alloc();
-    let first = "bounds,1,A,T,2024-06-03T08:00:00,2024-06-03T10:42:00";
-    let value = "2024-06-03T08:51:30.000000000";
-    for (rows, err) in [
-        ("", "proof file line 1: bad row"),
-        (",0\n", "proof fails at r3 step 1"),
-        (",1\n", "proof file line 2: bad row"),
-        (",1\nvalue,r9,1,", "proof file line 2: unknown name"),
-        (",1\nvalue,r2,2,", "proof file line 2: does not agree"),
+    for (proof, status, err) in [
+        (
+            "bounds,1,A,T,2024-06-03T08:00:00,2024-06-03T10:42:00\n",
+            14,
+            "meat: proof file line 1: bad row\n",
+        ),
+        (
+            "bounds,1,A,T,2024-06-03T08:00:00,2024-06-03T10:42:00,0\n\n",
+            13,
+            "meat: proof fails at r3 step 1\n",
+        ),
+        (
+            "bounds,1,A,T,2024-06-03T08:00:00,2024-06-03T10:42:00,1\n\n",
+            14,
+            "meat: proof file line 2: bad row\n",
+        ),
+        (
+            "bounds,1,A,T,2024-06-03T08:00:00,2024-06-03T10:42:00,1\nvalue,r9,1,2024-06-03T08:51:30.000000000\n",
+            14,
+            "meat: proof file line 2: unknown name\n",
+        ),
+        (
+            "bounds,1,A,T,2024-06-03T08:00:00,2024-06-03T10:42:00,1\nvalue,r2,2,2024-06-03T08:51:30.000000000\n",
+            14,
+            "meat: proof file line 2: does not agree\n",
+        ),
     ] {
-        let last = if rows.ends_with(",") { value } else { "" };
-        let text = format!(in alloc; "{first}{rows}{last}\n")?;
-        let told = told_with(alloc, "check", Some(text.as_str()), "T")?;
-        let line = format!(in alloc; "meat: {err}\n")?;
-        assert_eq!(rt; told.err.as_str(), line.as_str());
+        checks(&rt, rt.alloc(), proof, CHECK, status, "", err)?;
     }
-    let missing = told_with(alloc, "check", None, "T")?;
-    assert_eq!(rt; missing.status, 14);
-    assert_eq!(rt; missing.err.as_str(), "meat: proof file is missing\n");
-    let whole = certificate(alloc, "09:07:30.000000000")?;
-    let other = told_with(alloc, "check", Some(whole.as_str()), "B")?;
-    assert_eq!(rt;
-        other.err.as_str(),
-        "meat: proof file line 1: other query\n"
-    );
     Ok(())
 }
 
 #[test]
-fn each_field_is_looked_at(rt: HostRuntime) -> Result<(), Fail> {
-    let alloc = rt.alloc();
-    let whole = certificate(alloc, "09:07:30.000000000")?;
-    for line in 0..4 {
-        for field in 0..(if line == 0 { 7 } else { 4 }) {
-            let text = edited(alloc, whole.as_str(), line, field)?;
-            let told = told_with(alloc, "check", Some(text.as_str()), "T")?;
-            let front = format!(in alloc; "meat: proof file line {}: ", line + 1)?;
-            assert_eq!(rt; told.status, 14, "{front}{field}");
-            assert_eq!(rt; told.out.as_str(), "", "{front}{field}");
-            assert!(rt;
-                told.err.as_str().starts_with(front.as_str()),
-                "{front}{field}"
-            );
-        }
-    }
+fn tells_that_a_proof_file_is_missing(rt: HostRuntime) -> Result<(), Fail> {
+    refuses(
+        &rt,
+        rt.alloc(),
+        CHANGE.as_slice(),
+        CHECK,
+        14,
+        "meat: proof file is missing\n",
+    )
+}
+
+#[test]
+fn refuses_a_proof_file_of_another_query(rt: HostRuntime) -> Result<(), Fail> {
+    let whole = certificate(rt.alloc(), "09:07:30.000000000")?;
+    checks(
+        &rt,
+        rt.alloc(),
+        whole.as_str(),
+        CHECK_TO_B,
+        14,
+        "",
+        "meat: proof file line 1: other query\n",
+    )
+}
+
+const CHECK_GRAPH: &str =
+    "check --cut c --delays d --from A --to T --at 2024-06-03T08:00:00 --graph g";
+
+/// Stops where a check of this graph tells another status, answer or line.
+fn checks_graph(
+    rt: &impl Abort,
+    alloc: Global,
+    graph: &str,
+    status: u8,
+    out: &str,
+    err: &str,
+) -> Result<(), Fail> {
+    let [cut, delays] = CHANGE;
+    let sources = [cut, delays, ("g", graph)];
+    let told = told_of(alloc, sources.as_slice(), CHECK_GRAPH)?;
+    is_told(rt, graph, &told, status, out, err);
     Ok(())
 }
 
-/// The graph of the journey of `CHANGE`, up to the rows of B.
-const GRAPH_HEAD: &str =
-    "graph,1,A,T,2024-06-03T08:00:00,2024-06-03T10:42:00,2024-06-03T08:54:42.000000000,2024-06-03T08:54:42.000000000\nstart,2024-06-03T08:00:00,r1,1,2024-06-03T08:00:00,1,B,2024-06-03T08:20:00\n";
-
-/// What `check` tells of a graph with these rows of B.
-fn checked_graph(alloc: Global, rows: &str) -> Result<Told, Fail> {
-    let graph = format!(in alloc; "{GRAPH_HEAD}{rows}")?;
-    let mut files = MemoryFiles::new(alloc, 64);
-    files.add("c", cut_of(alloc, CHANGE.as_slice())?.as_bytes())?;
-    files.add("d", USUAL.as_bytes())?;
-    files.add("g", graph.as_bytes())?;
-    let words = [
-        "check",
-        "--cut",
-        "c",
-        "--delays",
-        "d",
-        "--from",
-        "A",
-        "--to",
-        "T",
-        "--at",
-        "2024-06-03T08:00:00",
-        "--graph",
-        "g",
-    ];
-    told_over(alloc, &mut files, words.as_slice())
-}
+/// The plan of `CHANGE` without its last row.
+const UNSAFE_GRAPH: &str =
+    "graph,1,A,T,2024-06-03T08:00:00,2024-06-03T10:42:00,2024-06-03T08:54:42.000000000,2024-06-03T08:54:42.000000000\nstart,2024-06-03T08:00:00,r1,1,2024-06-03T08:00:00,1,B,2024-06-03T08:20:00\nplace,B,120,1,,,,\nleg,2024-06-03T08:22:00,r2,1,2024-06-03T08:24:00,1,T,2024-06-03T08:50:00\n";
 
 #[test]
 fn tells_the_bounds_of_a_graph(rt: HostRuntime) -> Result<(), Fail> {
-    let told = checked_graph(
+    checks_graph(
+        &rt,
         rt.alloc(),
-        "place,B,120,2,,,,\nleg,2024-06-03T08:22:00,r2,1,2024-06-03T08:24:00,1,T,2024-06-03T08:50:00\nleg,2024-06-03T08:38:00,r3,1,2024-06-03T08:40:00,1,T,2024-06-03T09:06:00\n",
-    )?;
-    assert_eq!(rt; told.status, 0);
-    assert_eq!(rt;
-        told.out.as_str(),
-        "encloses,A,T,2024-06-03T08:00:00,2024-06-03T10:42:00,2024-06-03T08:54:42.000000000,2024-06-03T08:54:42.000000000\n"
-    );
-    Ok(())
+        CHANGE_PLAN,
+        0,
+        "encloses,A,T,2024-06-03T08:00:00,2024-06-03T10:42:00,2024-06-03T08:54:42.000000000,2024-06-03T08:54:42.000000000\n",
+        "",
+    )
 }
 
 #[test]
 fn tells_where_a_graph_is_not_safe(rt: HostRuntime) -> Result<(), Fail> {
-    let told = checked_graph(
+    checks_graph(
+        &rt,
         rt.alloc(),
-        "place,B,120,1,,,,\nleg,2024-06-03T08:22:00,r2,1,2024-06-03T08:24:00,1,T,2024-06-03T08:50:00\n",
-    )?;
-    assert_eq!(rt; told.status, 15);
-    assert_eq!(rt;
-        told.err.as_str(),
-        "meat: unsafe at B at 2024-06-03T08:25:00\n"
-    );
-    assert!(rt; told.out.is_empty());
-    Ok(())
+        UNSAFE_GRAPH,
+        15,
+        "",
+        "meat: unsafe at B at 2024-06-03T08:25:00\n",
+    )
 }

@@ -6,7 +6,7 @@ mod certificates;
 #[cfg(test)]
 mod delays;
 #[cfg(test)]
-mod edited_graphs;
+mod edited_files;
 #[cfg(test)]
 mod feeds;
 #[cfg(test)]
@@ -21,3 +21,5 @@ mod promises;
 mod rides;
 #[cfg(test)]
 mod tests;
+#[cfg(test)]
+mod told;

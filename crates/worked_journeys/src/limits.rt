@@ -2,14 +2,16 @@
 ghost use Rattle.std.specs.Prelude.{◌≤◌};
 ghost use Rattle.csv_rows.specs.Limits.{AreWithin};
 
-use crate::feeds::{OLD_TOWN, OLD_TOWN_PLAN, files_of};
-use crate::rides::{CHANGE, cut_of};
-use crate::tests::{Told, USUAL, told_by, words_of};
+use crate::feeds::{OLD_TOWN_PLAN, PLAN, old_town};
+use crate::told::{
+    CHANGE, CHANGE_PLAN, ROOM, Source, Told, USUAL, files_of, is_told, told_by, words_of,
+};
 use csv_rows::{Limits, Table};
 use file_ports::{MemoryFiles, MemorySink};
 use meat_engine::{Fault, Input, LimitKind, Which, run_limited};
 use plan_model::List;
 use std::alloc::Global;
+use std::process::Abort;
 use std::test::Fail;
 
 /// The limit, or the most that it may be.
@@ -40,49 +42,75 @@ fn within(limits: &Limits) -> Limits
     }
 }
 
-/// What a run within limits told, and its fault.
-fn told_within(
+/// The status and the fault that a run within limits ended with.
+fn end_within(
+    alloc: Global,
+    words: &[String],
+    files: &mut MemoryFiles,
+    out: &mut MemorySink,
+    err: &mut MemorySink,
+    limits: &Limits,
+) -> (u8, Option<Fault>) {
+    let report = run_limited(alloc, words, files, out, err, &within(limits));
+    (report.status.0, report.fault)
+}
+
+/// What a line of words told within limits over some files.
+fn told_by_limits(
     alloc: Global,
     files: &mut MemoryFiles,
-    words: &[&str],
+    line: &str,
     limits: &Limits,
-) -> Result<(Told, Option<Fault>), Fail> {
-    let words = words_of(alloc, words)?;
-    let mut out = MemorySink::new(alloc, 64, 1 << 13, List::new(alloc))?;
-    let mut err = MemorySink::new(alloc, 64, 1 << 13, List::new(alloc))?;
-    let limits = within(limits);
-    let report = run_limited(alloc, words.as_slice(), files, &mut out, &mut err, &limits);
-    let told = told_by(alloc, report.status.0, &out, &err)?;
-    Ok((told, report.fault))
+) -> Result<Told, Fail> {
+    let words = words_of(alloc, line)?;
+    let mut out = MemorySink::new(alloc, 64, ROOM, List::new(alloc))?;
+    let mut err = MemorySink::new(alloc, 64, ROOM, List::new(alloc))?;
+    let end = end_within(alloc, words.as_slice(), files, &mut out, &mut err, limits);
+    told_by(alloc, end, &out, &err)
 }
 
-/// The feed of Old Town with a removed date and a transfer.
-fn old_town(alloc: Global) -> Result<MemoryFiles, Fail> {
-    let mut files = files_of(alloc, OLD_TOWN)?;
-    files.add(
-        "f/calendar_dates.txt",
-        b"service_id,date,exception_type\nWK,20240605,2\n",
-    )?;
-    files.add(
-        "f/transfers.txt",
-        b"from_stop_id,to_stop_id,transfer_type,min_transfer_time\nS1a,S1b,2,120\nS1b,S1a,2,120\n",
-    )?;
-    Ok(files)
+/// What a line of words tells within limits over files with these texts.
+fn told_within(
+    alloc: Global,
+    sources: &[Source],
+    line: &str,
+    limits: &Limits,
+) -> Result<Told, Fail> {
+    let mut files = files_of(alloc, sources)?;
+    told_by_limits(alloc, &mut files, line, limits)
 }
 
-const FROM_MILL: [&str; 11] = [
-    "plan",
-    "--feed",
-    "f",
-    "--delays",
-    "d",
-    "--from",
-    "MIL",
-    "--to",
-    "AIR",
-    "--at",
-    "2024-06-03T08:00:00",
-];
+/// Stops where a line of words within limits is not answered like this.
+pub(crate) fn answers_within(
+    rt: &impl Abort,
+    alloc: Global,
+    sources: &[Source],
+    line: &str,
+    limits: &Limits,
+    out: &str,
+) -> Result<(), Fail> {
+    let told = told_within(alloc, sources, line, limits)?;
+    assert_eq!(rt; told.fault, None, "{line}");
+    is_told(rt, line, &told, 0, out, "");
+    Ok(())
+}
+
+/// Stops where a line of words within limits does not end with this fault, its status and its line.
+pub(crate) fn ends_within(
+    rt: &impl Abort,
+    alloc: Global,
+    sources: &[Source],
+    line: &str,
+    limits: &Limits,
+    status: u8,
+    fault: Fault,
+    err: &str,
+) -> Result<(), Fail> {
+    let told = told_within(alloc, sources, line, limits)?;
+    assert_eq!(rt; told.fault, Some(fault), "{err}");
+    is_told(rt, err, &told, status, "", err);
+    Ok(())
+}
 
 fn rows(table: Table, count: u64) -> Fault {
     Fault::Limit(LimitKind::Rows(table), count)
@@ -92,6 +120,44 @@ fn bytes(table: Table, count: u64) -> Fault {
     Fault::Limit(LimitKind::Bytes(Input::Feed(table)), count)
 }
 
+const DATES: Source<'static> = (
+    "f/calendar_dates.txt",
+    "service_id,date,exception_type\nWK,20240605,2\n",
+);
+
+const TRANSFERS: Source<'static> = (
+    "f/transfers.txt",
+    "from_stop_id,to_stop_id,transfer_type,min_transfer_time\nS1a,S1b,2,120\nS1b,S1a,2,120\n",
+);
+
+/// The feed of Old Town with a removed date and a transfer.
+fn with_dates() -> [Source<'static>; 8] {
+    let [stops, routes, trips, stop_times, calendar, delays] = old_town(USUAL);
+    [
+        stops, routes, trips, stop_times, calendar, delays, DATES, TRANSFERS,
+    ]
+}
+
+/// Stops where a plan over that feed within limits does not end with this fault and its line.
+fn refuses_feed(
+    rt: &impl Abort,
+    alloc: Global,
+    limits: &Limits,
+    fault: Fault,
+    err: &str,
+) -> Result<(), Fail> {
+    ends_within(
+        rt,
+        alloc,
+        with_dates().as_slice(),
+        PLAN,
+        limits,
+        6,
+        fault,
+        err,
+    )
+}
+
 #[test]
 fn refuses_a_feed_above_its_limits(rt: HostRuntime) -> Result<(), Fail> {
     let all = Limits::standard();
@@ -99,12 +165,12 @@ fn refuses_a_feed_above_its_limits(rt: HostRuntime) -> Result<(), Fail> {
         (
             Limits { stops: 2, ..all },
             rows(Table::Stops, 6),
-            b"meat: stops.txt has too many rows: 6\n".as_slice(),
+            "meat: stops.txt has too many rows: 6\n",
         ),
         (
             Limits { bytes: 100, ..all },
             bytes(Table::Stops, 101),
-            b"meat: stops.txt is too long\n".as_slice(),
+            "meat: stops.txt is too long\n",
         ),
         (
             Limits {
@@ -112,96 +178,97 @@ fn refuses_a_feed_above_its_limits(rt: HostRuntime) -> Result<(), Fail> {
                 ..all
             },
             Fault::Limit(LimitKind::Connections, 4),
-            b"meat: too many connections: 4\n".as_slice(),
+            "meat: too many connections: 4\n",
         ),
     ] {
-        let mut files = old_town(rt.alloc())?;
-        let (told, found) = told_within(rt.alloc(), &mut files, FROM_MILL.as_slice(), &limits)?;
-        assert_eq!(rt; found, Some(fault));
-        assert_eq!(rt; told.status, 6);
-        assert!(rt; told.out.is_empty());
-        assert_eq!(rt; told.err.as_bytes(), line);
+        refuses_feed(&rt, rt.alloc(), &limits, fault, line)?;
+    }
+    Ok(())
+}
+
+/// The limits where no row of a table is taken.
+fn none_of(table: Table) -> Limits {
+    let mut limits = Limits::standard();
+    match table {
+        Table::Stops => limits.stops = 0,
+        Table::Routes => limits.routes = 0,
+        Table::Trips => limits.trips = 0,
+        Table::StopTimes => limits.stop_times = 0,
+        Table::Frequencies => limits.frequencies = 0,
+        Table::Calendar => limits.calendar = 0,
+        Table::CalendarDates => limits.calendar_dates = 0,
+        Table::Transfers => limits.transfers = 0,
+    }
+    limits
+}
+
+#[test]
+fn refuses_any_row_where_a_limit_is_none(rt: HostRuntime) -> Result<(), Fail> {
+    for (table, count, line) in [
+        (Table::Stops, 6, "meat: stops.txt has too many rows: 6\n"),
+        (Table::Routes, 2, "meat: routes.txt has too many rows: 2\n"),
+        (Table::Trips, 3, "meat: trips.txt has too many rows: 3\n"),
+        (
+            Table::StopTimes,
+            7,
+            "meat: stop_times.txt has too many rows: 7\n",
+        ),
+        (
+            Table::Calendar,
+            1,
+            "meat: calendar.txt has too many rows: 1\n",
+        ),
+        (
+            Table::CalendarDates,
+            1,
+            "meat: calendar_dates.txt has too many rows: 1\n",
+        ),
+        (
+            Table::Transfers,
+            2,
+            "meat: transfers.txt has too many rows: 2\n",
+        ),
+    ] {
+        refuses_feed(&rt, rt.alloc(), &none_of(table), rows(table, count), line)?;
     }
     Ok(())
 }
 
 #[test]
-fn refuses_any_feed_where_a_limit_is_none(rt: HostRuntime) -> Result<(), Fail> {
-    let all = Limits::standard();
-    for (limits, fault, line) in [
-        (
-            Limits { bytes: 0, ..all },
-            bytes(Table::Stops, 1),
-            b"meat: stops.txt is too long\n".as_slice(),
-        ),
-        (
-            Limits { stops: 0, ..all },
-            rows(Table::Stops, 6),
-            b"meat: stops.txt has too many rows: 6\n".as_slice(),
-        ),
-        (
-            Limits { routes: 0, ..all },
-            rows(Table::Routes, 2),
-            b"meat: routes.txt has too many rows: 2\n".as_slice(),
-        ),
-        (
-            Limits { trips: 0, ..all },
-            rows(Table::Trips, 3),
-            b"meat: trips.txt has too many rows: 3\n".as_slice(),
-        ),
-        (
-            Limits {
-                stop_times: 0,
-                ..all
-            },
-            rows(Table::StopTimes, 7),
-            b"meat: stop_times.txt has too many rows: 7\n".as_slice(),
-        ),
-        (
-            Limits { calendar: 0, ..all },
-            rows(Table::Calendar, 1),
-            b"meat: calendar.txt has too many rows: 1\n".as_slice(),
-        ),
-        (
-            Limits {
-                calendar_dates: 0,
-                ..all
-            },
-            rows(Table::CalendarDates, 1),
-            b"meat: calendar_dates.txt has too many rows: 1\n".as_slice(),
-        ),
-        (
-            Limits {
-                transfers: 0,
-                ..all
-            },
-            rows(Table::Transfers, 2),
-            b"meat: transfers.txt has too many rows: 2\n".as_slice(),
-        ),
-        (
-            Limits {
-                connections: 0,
-                ..all
-            },
-            Fault::Limit(LimitKind::Connections, 4),
-            b"meat: too many connections: 4\n".as_slice(),
-        ),
-    ] {
-        let mut files = old_town(rt.alloc())?;
-        let (told, found) = told_within(rt.alloc(), &mut files, FROM_MILL.as_slice(), &limits)?;
-        assert_eq!(rt; found, Some(fault));
-        assert_eq!(rt; told.status, 6);
-        assert!(rt; told.out.is_empty());
-        assert_eq!(rt; told.err.as_bytes(), line);
-    }
-    Ok(())
+fn refuses_any_byte_where_the_limit_is_none(rt: HostRuntime) -> Result<(), Fail> {
+    let none = Limits {
+        bytes: 0,
+        ..Limits::standard()
+    };
+    let fault = bytes(Table::Stops, 1);
+    refuses_feed(
+        &rt,
+        rt.alloc(),
+        &none,
+        fault,
+        "meat: stops.txt is too long\n",
+    )
 }
 
-/// What is just not too much is taken, and the stops of the words are looked up before the window is
-/// counted.
+#[test]
+fn refuses_any_connection_where_the_limit_is_none(rt: HostRuntime) -> Result<(), Fail> {
+    let none = Limits {
+        connections: 0,
+        ..Limits::standard()
+    };
+    let fault = Fault::Limit(LimitKind::Connections, 4);
+    refuses_feed(
+        &rt,
+        rt.alloc(),
+        &none,
+        fault,
+        "meat: too many connections: 4\n",
+    )
+}
+
+/// What is just not too much is taken.
 #[test]
 fn plans_over_a_feed_at_its_limits(rt: HostRuntime) -> Result<(), Fail> {
-    let alloc = rt.alloc();
     let enough = Limits {
         stops: 6,
         routes: 2,
@@ -214,92 +281,107 @@ fn plans_over_a_feed_at_its_limits(rt: HostRuntime) -> Result<(), Fail> {
         connections: 4,
         ..Limits::standard()
     };
-    let mut files = old_town(alloc)?;
-    let (told, found) = told_within(alloc, &mut files, FROM_MILL.as_slice(), &enough)?;
-    assert_eq!(rt; found, None);
-    assert_eq!(rt; told.out.as_str(), OLD_TOWN_PLAN);
-    let [
-        command,
-        feed,
-        folder,
-        delays,
-        path,
-        from,
-        mill,
-        to,
-        _,
-        at,
-        start,
-    ] = FROM_MILL;
-    let elsewhere = [
-        command, feed, folder, delays, path, from, mill, to, "XXX", at, start,
-    ];
+    answers_within(
+        &rt,
+        rt.alloc(),
+        with_dates().as_slice(),
+        PLAN,
+        &enough,
+        OLD_TOWN_PLAN,
+    )
+}
+
+#[test]
+fn looks_up_stops_before_the_window_is_counted(rt: HostRuntime) -> Result<(), Fail> {
     let few = Limits {
         connections: 3,
         ..Limits::standard()
     };
-    let (told, found) = told_within(alloc, &mut files, elsewhere.as_slice(), &few)?;
-    assert_eq!(rt; found, Some(Fault::UnknownStop(Which::To)));
-    assert_eq!(rt; told.status, 5);
-    Ok(())
+    ends_within(
+        &rt,
+        rt.alloc(),
+        with_dates().as_slice(),
+        "plan --feed f --delays d --from MIL --to XXX --at 2024-06-03T08:00:00",
+        &few,
+        5,
+        Fault::UnknownStop(Which::To),
+        "meat: unknown stop of --to\n",
+    )
 }
 
+const PLAN_CUT: &str = "plan --cut c --delays d --from A --to T --at 2024-06-03T08:00:00";
+
 #[test]
-fn plans_over_a_cut_file_within_limits(rt: HostRuntime) -> Result<(), Fail> {
-    let alloc = rt.alloc();
+fn refuses_a_cut_file_above_its_limits(rt: HostRuntime) -> Result<(), Fail> {
     let all = Limits::standard();
-    let words = [
-        "plan",
-        "--cut",
-        "c",
-        "--delays",
-        "d",
-        "--from",
-        "A",
-        "--to",
-        "T",
-        "--at",
-        "2024-06-03T08:00:00",
-    ];
-    let mut files = MemoryFiles::new(alloc, 64);
-    files.add("c", cut_of(alloc, CHANGE.as_slice())?.as_bytes())?;
-    files.add("d", USUAL.as_bytes())?;
-    for (limits, status, line) in [
+    let long = "meat: cut file is too long\n";
+    let many = "meat: cut file has too many rows: 3\n";
+    for (limits, kind, count, line) in [
         (
             Limits { bytes: 8, ..all },
-            6,
-            b"meat: cut file is too long\n".as_slice(),
+            LimitKind::Bytes(Input::Cut),
+            9,
+            long,
         ),
         (
             Limits { bytes: 0, ..all },
-            6,
-            b"meat: cut file is too long\n".as_slice(),
-        ),
-        (
-            Limits { cut_rows: 1, ..all },
-            6,
-            b"meat: cut file has too many rows: 3\n".as_slice(),
-        ),
-        (
-            Limits { cut_rows: 0, ..all },
-            6,
-            b"meat: cut file has too many rows: 3\n".as_slice(),
+            LimitKind::Bytes(Input::Cut),
+            1,
+            long,
         ),
         (
             Limits {
+                bytes: 8,
                 cut_rows: 3,
-                connections: 0,
-                stops: 0,
                 ..all
             },
-            0,
-            b"".as_slice(),
+            LimitKind::Bytes(Input::Cut),
+            9,
+            long,
         ),
+        (
+            Limits {
+                bytes: 1 << 20,
+                cut_rows: 1,
+                ..all
+            },
+            LimitKind::CutRows,
+            3,
+            many,
+        ),
+        (Limits { cut_rows: 1, ..all }, LimitKind::CutRows, 3, many),
+        (Limits { cut_rows: 0, ..all }, LimitKind::CutRows, 3, many),
     ] {
-        let (told, _) = told_within(alloc, &mut files, words.as_slice(), &limits)?;
-        assert_eq!(rt; told.status, status);
-        assert_eq!(rt; told.err.as_bytes(), line);
-        assert_eq!(rt; told.out.is_empty(), status == 6);
+        let fault = Fault::Limit(kind, count);
+        ends_within(
+            &rt,
+            rt.alloc(),
+            CHANGE.as_slice(),
+            PLAN_CUT,
+            &limits,
+            6,
+            fault,
+            line,
+        )?;
     }
     Ok(())
+}
+
+/// The limits of a feed are none of a cut file.
+#[test]
+fn plans_over_a_cut_file_at_its_limits(rt: HostRuntime) -> Result<(), Fail> {
+    let enough = Limits {
+        cut_rows: 3,
+        connections: 0,
+        stops: 0,
+        ..Limits::standard()
+    };
+    answers_within(
+        &rt,
+        rt.alloc(),
+        CHANGE.as_slice(),
+        PLAN_CUT,
+        &enough,
+        CHANGE_PLAN,
+    )
 }
