@@ -11,8 +11,8 @@ use Rattle.plan_model.specs.Tree.{Tree, Done, Ride, Stuck}
 use Rattle.plan_model.specs.Strategy.{SafeStart}
 use Rattle.departure_table.specs.declared.DepartureRow.{DepartureRow}
 use Rattle.departure_table.specs.Departures.{NoneSafe, SafeFrom, IsBestFrom, IsDeparture, IsGreatest, IsTable, row_by}
-use Rattle.fault_lines.specs.Sites.{last_printable}
-use Rattle.journey_report.specs.declared.problem.Problem.{Problem}
+use Rattle.journey_model.specs.Sites.{last_printable}
+use Rattle.journey_model.specs.declared.problem.Problem.{Problem}
 use Rattle.plan_model.specs.declared.model.Query.{Query}
 use Rattle.departure_answers.specs.Departures.{SafeOf, AreDepartures, HasSafeFor, HasNoneFor}
 

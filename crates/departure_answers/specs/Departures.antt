@@ -7,9 +7,9 @@ use Rattle.plan_model.specs.Strategy.{IsSafeFor}
 use Rattle.departure_table.specs.declared.DepartureRow.{DepartureRow}
 use Rattle.departure_table.specs.Departures.{SafeFrom, IsTable, IsGreatest}
 use Rattle.printed_rows.specs.Writers.{place_name}
-use Rattle.fault_lines.specs.declared.faults.Fault.{Fault}
-use Rattle.fault_lines.specs.declared.faults.Fault.TheVariants.{NoSafe}
-use Rattle.journey_report.specs.declared.problem.Problem.{Problem}
+use Rattle.journey_model.specs.declared.faults.Fault.{Fault}
+use Rattle.journey_model.specs.declared.faults.Fault.TheVariants.{NoSafe}
+use Rattle.journey_model.specs.declared.problem.Problem.{Problem}
 use Rattle.journey_report.specs.DepartureTexts.{departures_text, latest_text}
 use Rattle.journey_report.specs.Findings.{Findings, departures_findings, latest_findings}
 

@@ -6,13 +6,13 @@ ghost use Rattle.departure_table.specs.Departures.{IsExtendedFor, IsGreatest, Is
 ghost use Rattle.meat_scan.specs.Solves.{Solves};
 ghost use Rattle.value_laws.specs.Means.{mean_below, mean_covers, mean_gap};
 ghost use Rattle.command_line.specs.Values.{last_until};
-ghost use Rattle.journey_report.specs.Wants.{OrNoMemory};
+ghost use Rattle.journey_model.specs.Wants.{OrNoMemory};
 ghost use Rattle.departure_answers.specs.Departures.{query_until, SafeOf, AreDepartures, HasSafeFor, HasNoneFor, IsUntil, TellsDepartures, TellsLatest, FailsDepartures, FailsLatest};
 ghost use Rattle.journey_report.specs.Findings.{findings_of};
 
 use departure_table::{DepartureRow, extended, greatest, says_of_source, table};
-use fault_lines::Fault;
-use journey_report::{Answer, Problem, Report, departures_text, latest_text};
+use journey_model::{Fault, Problem};
+use journey_report::{Answer, Report, departures_text, latest_text};
 use meat_scan::{ScanTables, Scanned, scan};
 use merged_runs::MergedRuns;
 use plan_model::{BackwardOrder, List, Moment, Network, NoMemory, PlaceId, Query};

@@ -1,4 +1,2 @@
-pub mod Faults
-pub mod Stages
-pub mod Sites
+pub mod Known
 pub mod Lines

@@ -19,13 +19,13 @@ use Rattle.lower_proof.specs.declared.reader.ProofFault.{ProofFault}
 use Rattle.lower_proof.specs.declared.reader.ProofFault.TheVariants as proof
 use Rattle.trip_replay.specs.declared.ReplayFault.{ReplayFault}
 use Rattle.trip_replay.specs.declared.ReplayFault.TheVariants as replay
-use Rattle.fault_lines.specs.declared.faults.Which.TheVariants as which
-use Rattle.fault_lines.specs.declared.faults.LimitKind.{LimitKind}
-use Rattle.fault_lines.specs.declared.faults.LimitKind.TheVariants.{Bytes, Rows, CutRows, Connections, Entries}
-use Rattle.fault_lines.specs.declared.faults.Fault.{Fault}
-use Rattle.fault_lines.specs.declared.faults.Fault.TheVariants.{Words, Feed, Cut, Missing, Delays, UnknownStop, Limit, Read, NoSafe, GraphFile, Replay, ProofFile, ProofFails, Unsafe, Write, NoMemory}
-use Rattle.fault_lines.specs.Faults.{input_name}
-use Rattle.fault_lines.specs.Sites.{NamedParts, site_of, site_text_in}
+use Rattle.journey_model.specs.declared.faults.Which.TheVariants as which
+use Rattle.journey_model.specs.declared.faults.LimitKind.{LimitKind}
+use Rattle.journey_model.specs.declared.faults.LimitKind.TheVariants.{Bytes, Rows, CutRows, Connections, Entries}
+use Rattle.journey_model.specs.declared.faults.Fault.{Fault}
+use Rattle.journey_model.specs.declared.faults.Fault.TheVariants.{Words, Feed, Cut, Missing, Delays, UnknownStop, Limit, Read, NoSafe, GraphFile, Replay, ProofFile, ProofFails, Unsafe, Write, NoMemory}
+use Rattle.journey_model.specs.Faults.{input_name}
+use Rattle.journey_model.specs.Sites.{NamedParts, site_of, site_text_in}
 
 -- what is told of a line of a file
 abbrev pub at_line : (file : List ℕ) → ℕ → (what : List ℕ) → List ℕ

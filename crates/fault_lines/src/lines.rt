@@ -1,15 +1,15 @@
 //! The lines that tell the faults.
 ghost use Rattle.std.specs.Prelude.{◌≡◌, ◌++◌, codes, Option as Optional, Some, IfSome, IfNone};
 ghost use Rattle.std.specs.Fmt.{WritesOnOk};
-ghost use Rattle.fault_lines.specs.Sites.{NamedParts};
+ghost use Rattle.journey_model.specs.Sites.{NamedParts};
 ghost use Rattle.fault_lines.specs.Lines.{at_line, too_many_rows, line_of, IsFormatted};
 
-use crate::faults::{Fault, Input, LimitKind, Which};
 use command_line::{WordsFault, option_word};
 use csv_rows::{FeedFault, Table};
 use cut_file::CutFault;
 use delay_table::{ClassName, DelayFault};
 use graph_text::TextFault;
+use journey_model::{Fault, Input, LimitKind, Which};
 use lower_proof::ProofFault;
 use std::fmt;
 use std::fmt::Display;

@@ -11,12 +11,12 @@ use Rattle.trip_replay.specs.declared.ReplayFault.TheVariants as replay
 use Rattle.trip_replay.specs.declared.Trace.{Trace}
 use Rattle.trip_replay.specs.Rides.{IsStuckAfter}
 use Rattle.trip_replay.specs.Walk.{IsAnswer}
-use Rattle.fault_lines.specs.declared.faults.Fault.{Fault}
-use Rattle.fault_lines.specs.declared.faults.Fault.TheVariants.{Replay, NoMemory}
-use Rattle.fault_lines.specs.Faults.{unread_of}
-use Rattle.fault_lines.specs.Sites.{last_printable, IsTellable}
-use Rattle.journey_report.specs.declared.problem.Problem.{Problem}
-use Rattle.journey_report.specs.Known.{parts_of}
+use Rattle.journey_model.specs.declared.faults.Fault.{Fault}
+use Rattle.journey_model.specs.declared.faults.Fault.TheVariants.{Replay, NoMemory}
+use Rattle.journey_model.specs.Faults.{unread_of}
+use Rattle.journey_model.specs.Sites.{last_printable, IsTellable}
+use Rattle.journey_model.specs.declared.problem.Problem.{Problem}
+use Rattle.journey_model.specs.Known.{parts_of}
 use Rattle.plan_model.specs.Bounds.{last_start}
 use Rattle.journey_report.proofs.TextLemmas.{arrivals, places}
 use Rattle.graph_answers.specs.Trips.{replay_as, IsSafeTrip, trip_by, IsTripFault}

@@ -20,9 +20,9 @@ use Rattle.graph_score.specs.Failures.{Fails, FailsIn}
 use Rattle.graph_score.specs.Scores.{IsUnsafe, IsScore}
 use Rattle.graph_score.specs.declared.ScoreFault.{ScoreFault}
 use Rattle.graph_score.specs.declared.ScoreFault.TheVariants.{NoSuchLeg, Unsafe, NoMemory}
-use Rattle.journey_report.specs.declared.problem.Problem.{Problem}
+use Rattle.journey_model.specs.declared.problem.Problem.{Problem}
 use Rattle.plan_model.specs.Bounds.{last_start}
-use Rattle.fault_lines.specs.Sites.{last_printable}
+use Rattle.journey_model.specs.Sites.{last_printable}
 
 module _ (n : Parts) (valid : IsValid n) (q : Query) (target_in : q.target.0 < length n.change)
     (choice : Leg → ℕ → Option Leg) (there : (leg : Leg) (x : ℕ) (next : Leg) → choice leg x ≡ Some next → next.exit.0 < count n) where

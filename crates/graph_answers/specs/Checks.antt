@@ -6,9 +6,9 @@ use Rattle.lower_proof.specs.declared.LowerBounds.{LowerBounds}
 use Rattle.lower_proof.specs.Certificates.{IsLeastAtStart, IsAccepted, IsLastFault}
 use Rattle.lower_proof.specs.Promises.{IsSound}
 use Rattle.printed_rows.specs.Writers.{place_name}
-use Rattle.fault_lines.specs.declared.faults.Fault.{Fault}
-use Rattle.fault_lines.specs.declared.faults.Fault.TheVariants.{ProofFails}
-use Rattle.journey_report.specs.declared.problem.Problem.{Problem}
+use Rattle.journey_model.specs.declared.faults.Fault.{Fault}
+use Rattle.journey_model.specs.declared.faults.Fault.TheVariants.{ProofFails}
+use Rattle.journey_model.specs.declared.problem.Problem.{Problem}
 use Rattle.journey_report.specs.Findings.{Findings, check_findings}
 use Rattle.journey_report.specs.Texts.{holds_text}
 

@@ -8,9 +8,9 @@ use Rattle.plan_graph.specs.Unfold.{unfold_plan}
 use Rattle.graph_score.specs.Scores.{IsScored, IsUnsafe}
 use Rattle.graph_text.specs.declared.Head.{Head}
 use Rattle.printed_rows.specs.Writers.{place_name}
-use Rattle.fault_lines.specs.declared.faults.Fault.{Fault}
-use Rattle.fault_lines.specs.declared.faults.Fault.TheVariants.{Unsafe}
-use Rattle.journey_report.specs.declared.problem.Problem.{Problem}
+use Rattle.journey_model.specs.declared.faults.Fault.{Fault}
+use Rattle.journey_model.specs.declared.faults.Fault.TheVariants.{Unsafe}
+use Rattle.journey_model.specs.declared.problem.Problem.{Problem}
 use Rattle.journey_report.specs.Findings.{Findings, score_findings}
 use Rattle.journey_report.specs.Texts.{encloses_text}
 

@@ -8,9 +8,9 @@ use Rattle.trip_replay.specs.declared.Trace.{Trace}
 use Rattle.trip_replay.specs.declared.ReplayFault.{ReplayFault}
 use Rattle.trip_replay.specs.declared.ReplayFault.TheVariants as replay
 use Rattle.trip_replay.specs.Walk.{walk, IsSafeAnswer}
-use Rattle.fault_lines.specs.declared.faults.Fault.{Fault}
-use Rattle.fault_lines.specs.declared.faults.Fault.TheVariants.{Replay, NoMemory}
-use Rattle.journey_report.specs.declared.problem.Problem.{Problem}
+use Rattle.journey_model.specs.declared.faults.Fault.{Fault}
+use Rattle.journey_model.specs.declared.faults.Fault.TheVariants.{Replay, NoMemory}
+use Rattle.journey_model.specs.declared.problem.Problem.{Problem}
 use Rattle.journey_report.specs.Findings.{Findings, replay_findings}
 use Rattle.journey_report.specs.Texts.{trace_text}
 

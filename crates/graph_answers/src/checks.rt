@@ -2,17 +2,17 @@
 ghost use Rattle.std.specs.Prelude.{◌≡◌, ◌≢◌, ◌<◌, ◌≤◌, length, Some, None, IfOk, IfErr};
 ghost use Rattle.plan_model.specs.NameLists.{NamesFit};
 ghost use Rattle.plan_model.specs.Network.{count};
-ghost use Rattle.fault_lines.specs.Faults.{unread_of};
-ghost use Rattle.fault_lines.specs.Sites.{last_printable, IsTellable};
-ghost use Rattle.journey_report.specs.Known.{parts_of};
+ghost use Rattle.journey_model.specs.Faults.{unread_of};
+ghost use Rattle.journey_model.specs.Sites.{last_printable, IsTellable};
+ghost use Rattle.journey_model.specs.Known.{parts_of};
 ghost use Rattle.journey_report.specs.Findings.{findings_of, check_findings};
 ghost use Rattle.journey_report.specs.Texts.{holds_text};
 ghost use Rattle.printed_rows.specs.Writers.{place_name};
 ghost use Rattle.plan_model.specs.Bounds.{last_start};
 ghost use Rattle.graph_answers.specs.Checks.{IsHeld, IsBroken};
 
-use fault_lines::Fault;
-use journey_report::{Answer, Problem, Report, holds_text};
+use journey_model::{Fault, Problem};
+use journey_report::{Answer, Report, holds_text};
 use lower_proof::{LowerBounds, Verdict, check, least};
 use plan_model::{NoMemory, Query};
 use std::alloc::Global;

@@ -2,20 +2,20 @@
 ghost use Rattle.std.specs.Prelude.{◌≡◌, ◌≢◌, ◌<◌, ◌≤◌, length, Some, None, IfOk, IfErr};
 ghost use Rattle.plan_model.specs.NameLists.{NamesFit};
 ghost use Rattle.plan_graph.specs.Tidy.{IsFit};
-ghost use Rattle.fault_lines.specs.Faults.{unread_of};
-ghost use Rattle.fault_lines.specs.Sites.{last_printable, IsTellable};
-ghost use Rattle.journey_report.specs.Known.{parts_of};
+ghost use Rattle.journey_model.specs.Faults.{unread_of};
+ghost use Rattle.journey_model.specs.Sites.{last_printable, IsTellable};
+ghost use Rattle.journey_model.specs.Known.{parts_of};
 ghost use Rattle.journey_report.specs.Findings.{findings_of, score_findings};
 ghost use Rattle.journey_report.specs.Texts.{encloses_text};
 ghost use Rattle.printed_rows.specs.Writers.{place_name};
 ghost use Rattle.plan_model.specs.Bounds.{last_start};
 ghost use Rattle.graph_answers.specs.Scores.{IsEnclosed, IsUnsafeGraph};
 
-use fault_lines::Fault;
 use graph_score::{ScoreFault, fit_is_scored, score};
 use graph_text::Head;
 use interval_fixed::Span;
-use journey_report::{Answer, Problem, Report, encloses_text};
+use journey_model::{Fault, Problem};
+use journey_report::{Answer, Report, encloses_text};
 use plan_graph::PlanGraph;
 use plan_model::NoMemory;
 use std::alloc::Global;

@@ -3,9 +3,9 @@ ghost use Rattle.std.specs.Prelude.{◌≡◌, ◌≢◌, ◌<◌, ◌≤◌, le
 ghost use Rattle.plan_model.specs.NameLists.{NamesFit};
 ghost use Rattle.plan_graph.specs.Tidy.{IsFit};
 ghost use Rattle.command_line.specs.Jobs.{late_in};
-ghost use Rattle.fault_lines.specs.Faults.{unread_of};
-ghost use Rattle.fault_lines.specs.Sites.{last_printable, IsTellable};
-ghost use Rattle.journey_report.specs.Known.{parts_of};
+ghost use Rattle.journey_model.specs.Faults.{unread_of};
+ghost use Rattle.journey_model.specs.Sites.{last_printable, IsTellable};
+ghost use Rattle.journey_model.specs.Known.{parts_of};
 ghost use Rattle.journey_report.specs.Findings.{findings_of, replay_findings};
 ghost use Rattle.journey_report.specs.Texts.{trace_text};
 ghost use Rattle.trip_replay.specs.Rides.{IsRide};
@@ -13,9 +13,9 @@ ghost use Rattle.plan_model.specs.Bounds.{last_start};
 ghost use Rattle.graph_answers.specs.Trips.{replay_as, IsTripTold, IsTripFault};
 
 use command_line::read_late;
-use fault_lines::Fault;
 use graph_text::Head;
-use journey_report::{Answer, Problem, Report, trace_text};
+use journey_model::{Fault, Problem};
+use journey_report::{Answer, Report, trace_text};
 use plan_graph::PlanGraph;
 use plan_model::NoMemory;
 use std::alloc::Global;

@@ -4,10 +4,10 @@ use Rattle.std.specs.Prelude.{IsErrOf, IfErr}
 use Rattle.std.proofs.lemmas.Bool.{cases_lt}
 use Rattle.file_ports.specs.Counts.{Rose}
 use Rattle.csv_rows.specs.Loading.{HasFeedCause, HasFeedPathCause}
-use Rattle.fault_lines.specs.declared.faults.Input.{Input}
-use Rattle.fault_lines.specs.declared.faults.Fault.{Fault}
-use Rattle.fault_lines.specs.declared.faults.Fault.TheVariants.{Read}
-use Rattle.fault_lines.specs.Faults.{unread_of, MayBeUnread}
+use Rattle.journey_model.specs.declared.faults.Input.{Input}
+use Rattle.journey_model.specs.declared.faults.Fault.{Fault}
+use Rattle.journey_model.specs.declared.faults.Fault.TheVariants.{Read}
+use Rattle.journey_model.specs.Faults.{unread_of, MayBeUnread}
 use Rattle.journey_problem.specs.Files.{RoseAt, HasCauses}
 
 -- whose fault is not that a file cannot be read

@@ -20,15 +20,14 @@ use Rattle.plan_model.specs.NameLists.{NameLists}
 use Rattle.plan_model.specs.Network.{IsValid}
 use Rattle.plan_model.specs.Parts.{Parts}
 use Rattle.command_line.specs.Jobs.{WantedJourney}
-use Rattle.fault_lines.specs.declared.faults.Input.{Input}
-use Rattle.fault_lines.specs.declared.faults.Input.TheVariants as input
-use Rattle.fault_lines.specs.declared.faults.Fault.{Fault}
-use Rattle.fault_lines.specs.declared.faults.Fault.TheVariants.{Delays, NoMemory}
-use Rattle.fault_lines.specs.Faults.{IsFirst, MayBeUnread, unread_of}
-use Rattle.journey_report.specs.declared.problem.Problem.{Problem}
+use Rattle.journey_model.specs.declared.faults.Input.{Input}
+use Rattle.journey_model.specs.declared.faults.Input.TheVariants as input
+use Rattle.journey_model.specs.declared.faults.Fault.{Fault}
+use Rattle.journey_model.specs.declared.faults.Fault.TheVariants.{Delays, NoMemory}
+use Rattle.journey_model.specs.Faults.{IsFirst, MayBeUnread, unread_of}
+use Rattle.journey_model.specs.declared.problem.Problem.{Problem}
 use Rattle.journey_problem.specs.Files.{Records}
-use Rattle.journey_problem.specs.CutProblems.{HasCut, cut_as, fault_in, cut_fault, cut_records, delay_records, delay_fault, places_in}
-use Rattle.journey_problem.specs.CutProblems.{stop_fault, cut_problem_fault, IsCutOf, IsCutOfSome, AreDelaysOf, IsNamed, IsCutProblem, HasCutTimetable}
+use Rattle.journey_problem.specs.CutProblems.{HasCut, cut_as, fault_in, cut_fault, cut_records, delay_records, delay_fault, places_in, stop_fault, cut_problem_fault, IsCutOf, IsCutOfSome, AreDelaysOf, IsNamed, IsCutProblem, HasCutTimetable}
 
 -- a table that was read with no fault
 pub cut_of_some : (table : Records) (parts : CutParts) (text : List ℕ) (limit : ℕ) → table ≡ table_of text → limit ≤ standard.cut_rows

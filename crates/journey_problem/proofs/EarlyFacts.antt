@@ -1,11 +1,11 @@
 -- Faults of an input of a journey's timetable.
 use Rattle.std.proofs.Common.{ℕ}
 use Rattle.command_line.specs.Jobs.{WantedTimetable}
-use Rattle.fault_lines.specs.declared.faults.Input.{Input}
-use Rattle.fault_lines.specs.declared.faults.Input.TheVariants as input
-use Rattle.fault_lines.specs.declared.faults.LimitKind.TheVariants.{Bytes}
-use Rattle.fault_lines.specs.declared.faults.Fault.TheVariants.{Missing, Limit, Read}
-use Rattle.fault_lines.specs.Stages.{stage_of_input, IsEarlyStage}
+use Rattle.journey_model.specs.declared.faults.Input.{Input}
+use Rattle.journey_model.specs.declared.faults.Input.TheVariants as input
+use Rattle.journey_model.specs.declared.faults.LimitKind.TheVariants.{Bytes}
+use Rattle.journey_model.specs.declared.faults.Fault.TheVariants.{Missing, Limit, Read}
+use Rattle.journey_model.specs.Stages.{stage_of_input, IsEarlyStage}
 use Rattle.journey_problem.specs.EarlyFaults.{IsInputOf, IsEarly}
 
 -- it is read before the graph file

@@ -13,14 +13,13 @@ use Rattle.service_days.specs.Services.{runs}
 use Rattle.change_times.specs.Changes.{AreChanges, transfers_in}
 use Rattle.change_times.specs.Transfers.{place_of_stop}
 use Rattle.command_line.specs.Jobs.{WantedTimetable, CutFile, FeedFolder, WantedJourney}
-use Rattle.fault_lines.specs.declared.faults.Input.{Input}
-use Rattle.fault_lines.specs.declared.faults.Input.TheVariants as input
-use Rattle.fault_lines.specs.declared.faults.Fault.{Fault}
-use Rattle.fault_lines.specs.declared.faults.Fault.TheVariants.{Read, NoMemory}
-use Rattle.fault_lines.specs.Faults.{unread_of}
+use Rattle.journey_model.specs.declared.faults.Input.{Input}
+use Rattle.journey_model.specs.declared.faults.Input.TheVariants as input
+use Rattle.journey_model.specs.declared.faults.Fault.{Fault}
+use Rattle.journey_model.specs.declared.faults.Fault.TheVariants.{Read, NoMemory}
+use Rattle.journey_model.specs.Faults.{unread_of}
 use Rattle.journey_problem.specs.CutProblems.{cut_problem_fault, delay_fault}
-use Rattle.journey_problem.specs.FeedProblems.{feed_as, FolderParts, IsFolder, IsFolderFault, IsLaterTableFault}
-use Rattle.journey_problem.specs.FeedProblems.{IsFaultAfterFolder, IsWindowFault, IsFeedProblem, IsFeedProblemFault, feed_stop_fault, window_fault_of}
+use Rattle.journey_problem.specs.FeedProblems.{feed_as, FolderParts, IsFolder, IsFolderFault, IsLaterTableFault, IsFaultAfterFolder, IsWindowFault, IsFeedProblem, IsFeedProblemFault, feed_stop_fault, window_fault_of}
 use Rattle.journey_problem.specs.Problems.{IsProblem, IsProblemOver, IsProblemFault, IsProblemFaultOver}
 use Rattle.journey_problem.proofs.OneFeed.{one_feed_of}
 use Rattle.journey_problem.proofs.OneFeedProblem.{one_folder, one_window_fault}

@@ -9,7 +9,7 @@ use Rattle.delay_table.specs.Delays.{delays_of}
 use Rattle.cut_file.specs.CutNetwork.{IsCutNetwork}
 use Rattle.cut_file.proofs.Distinct.{one_number}
 use Rattle.command_line.specs.Jobs.{WantedJourney}
-use Rattle.journey_report.specs.declared.problem.Problem.{Problem}
+use Rattle.journey_model.specs.declared.problem.Problem.{Problem}
 use Rattle.journey_problem.specs.Files.{Records}
 use Rattle.journey_problem.specs.CutProblems.{AreDelaysOf, IsCutProblem}
 use Rattle.journey_problem.proofs.OneCutNetwork.{one_network, same_names, runs_apart, places_apart}

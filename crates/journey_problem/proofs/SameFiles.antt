@@ -12,7 +12,7 @@ use Rattle.service_days.specs.Services.{runs}
 use Rattle.service_days.specs.Calendars.{calendars_in, calendars_from, calendar_from, dates_from, RunsBy}
 use Rattle.change_times.specs.Changes.{AreChanges, transfers_from}
 use Rattle.command_line.specs.Jobs.{WantedJourney}
-use Rattle.journey_report.specs.declared.problem.Problem.{Problem}
+use Rattle.journey_model.specs.declared.problem.Problem.{Problem}
 use Rattle.journey_problem.specs.CutProblems.{AreDelaysOf, delay_fault}
 use Rattle.journey_problem.specs.FeedProblems.{FolderParts, IsFolder, IsFeedProblem}
 

@@ -4,8 +4,8 @@ use Rattle.std.specs.Str.{bytes_eq}
 use Rattle.std.proofs.Math.Bool.{or-true}
 use Rattle.std.proofs.lemmas.Slice.Eq.{bytes_eq-Decides}
 use Rattle.std.proofs.lemmas.Map.Views.{Contains-from_any}
-use Rattle.fault_lines.specs.declared.faults.Which.TheVariants as which
-use Rattle.fault_lines.specs.declared.faults.Fault.TheVariants.{UnknownStop}
+use Rattle.journey_model.specs.declared.faults.Which.TheVariants as which
+use Rattle.journey_model.specs.declared.faults.Fault.TheVariants.{UnknownStop}
 use Rattle.journey_problem.specs.CutProblems.{is_among, stop_fault}
 
 among-at : (names : List (List ℕ)) (k : ℕ) (name : List ℕ) → slice_get names k ≡ Some name → is_among names name ≡ true

@@ -21,14 +21,14 @@ use Rattle.delay_table.specs.Delays.{delays_of, first_fault as first_delay_fault
 use Rattle.plan_model.specs.NameLists.{NameLists}
 use Rattle.plan_model.specs.Network.{IsValid}
 use Rattle.command_line.specs.Jobs.{WantedJourney}
-use Rattle.fault_lines.specs.declared.faults.Input.{Input}
-use Rattle.fault_lines.specs.declared.faults.Input.TheVariants as input
-use Rattle.fault_lines.specs.declared.faults.Which.TheVariants as which
-use Rattle.fault_lines.specs.declared.faults.LimitKind.TheVariants.{CutRows}
-use Rattle.fault_lines.specs.declared.faults.Fault.{Fault}
-use Rattle.fault_lines.specs.declared.faults.Fault.TheVariants.{Cut, Delays, UnknownStop, Limit, NoMemory}
-use Rattle.journey_report.specs.declared.problem.Problem.{Problem}
-use Rattle.fault_lines.specs.Faults.{IsFirst}
+use Rattle.journey_model.specs.declared.faults.Input.{Input}
+use Rattle.journey_model.specs.declared.faults.Input.TheVariants as input
+use Rattle.journey_model.specs.declared.faults.Which.TheVariants as which
+use Rattle.journey_model.specs.declared.faults.LimitKind.TheVariants.{CutRows}
+use Rattle.journey_model.specs.declared.faults.Fault.{Fault}
+use Rattle.journey_model.specs.declared.faults.Fault.TheVariants.{Cut, Delays, UnknownStop, Limit, NoMemory}
+use Rattle.journey_model.specs.declared.problem.Problem.{Problem}
+use Rattle.journey_model.specs.Faults.{IsFirst}
 use Rattle.journey_problem.specs.Files.{Records, records_of}
 
 -- a fault of the cut file as one of the run

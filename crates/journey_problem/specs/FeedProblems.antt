@@ -16,13 +16,13 @@ use Rattle.connections.specs.declared.cuts.WindowFault.{WindowFault}
 use Rattle.connections.specs.declared.cuts.WindowFault.TheVariants as window
 use Rattle.connections.specs.Cut.{IsNetworkFrom, fault_from}
 use Rattle.command_line.specs.Jobs.{WantedJourney}
-use Rattle.fault_lines.specs.declared.faults.Input.TheVariants as input
-use Rattle.fault_lines.specs.declared.faults.Which.TheVariants as which
-use Rattle.fault_lines.specs.declared.faults.LimitKind.TheVariants.{Bytes, Rows, Connections, Entries}
-use Rattle.fault_lines.specs.declared.faults.Fault.{Fault}
-use Rattle.fault_lines.specs.declared.faults.Fault.TheVariants.{Feed, UnknownStop, Limit, Read, NoMemory}
-use Rattle.journey_report.specs.declared.problem.Problem.{Problem}
-use Rattle.fault_lines.specs.Faults.{unread_of}
+use Rattle.journey_model.specs.declared.faults.Input.TheVariants as input
+use Rattle.journey_model.specs.declared.faults.Which.TheVariants as which
+use Rattle.journey_model.specs.declared.faults.LimitKind.TheVariants.{Bytes, Rows, Connections, Entries}
+use Rattle.journey_model.specs.declared.faults.Fault.{Fault}
+use Rattle.journey_model.specs.declared.faults.Fault.TheVariants.{Feed, UnknownStop, Limit, Read, NoMemory}
+use Rattle.journey_model.specs.declared.problem.Problem.{Problem}
+use Rattle.journey_model.specs.Faults.{unread_of}
 use Rattle.journey_problem.specs.CutProblems.{AreDelaysOf, delay_fault}
 
 -- a fault of a feed as one of the run

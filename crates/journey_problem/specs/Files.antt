@@ -7,12 +7,12 @@ use Rattle.csv_rows.specs.FeedTables.{path_of as table_path}
 use Rattle.csv_rows.specs.Tables.{table_of}
 use Rattle.csv_rows.specs.declared.feed_tables.Table.{Table}
 use Rattle.command_line.specs.Jobs.{WantedTimetable, CutFile, FeedFolder, WantedJourney}
-use Rattle.fault_lines.specs.declared.faults.Input.{Input}
-use Rattle.fault_lines.specs.declared.faults.Input.TheVariants as input
-use Rattle.fault_lines.specs.declared.faults.LimitKind.TheVariants.{Bytes}
-use Rattle.fault_lines.specs.declared.faults.Fault.{Fault}
-use Rattle.fault_lines.specs.declared.faults.Fault.TheVariants.{Missing, Limit, Read, NoMemory}
-use Rattle.fault_lines.specs.Faults.{unread_of, is_unread}
+use Rattle.journey_model.specs.declared.faults.Input.{Input}
+use Rattle.journey_model.specs.declared.faults.Input.TheVariants as input
+use Rattle.journey_model.specs.declared.faults.LimitKind.TheVariants.{Bytes}
+use Rattle.journey_model.specs.declared.faults.Fault.{Fault}
+use Rattle.journey_model.specs.declared.faults.Fault.TheVariants.{Missing, Limit, Read, NoMemory}
+use Rattle.journey_model.specs.Faults.{unread_of, is_unread}
 
 -- the records of a table, of which the first is the header
 abbrev pub Records : Type 0

@@ -5,10 +5,10 @@ use Rattle.csv_rows.specs.declared.limits.Limits.{Limits}
 use Rattle.plan_model.specs.Network.{IsValid}
 use Rattle.plan_model.specs.NameLists.{NamesFit}
 use Rattle.command_line.specs.Jobs.{WantedTimetable, CutFile, FeedFolder, WantedJourney}
-use Rattle.fault_lines.specs.declared.faults.Fault.{Fault}
-use Rattle.fault_lines.specs.declared.faults.Fault.TheVariants.{NoMemory}
-use Rattle.journey_report.specs.declared.problem.Problem.{Problem}
-use Rattle.fault_lines.specs.Faults.{unread_of, IsUndisturbed}
+use Rattle.journey_model.specs.declared.faults.Fault.{Fault}
+use Rattle.journey_model.specs.declared.faults.Fault.TheVariants.{NoMemory}
+use Rattle.journey_model.specs.declared.problem.Problem.{Problem}
+use Rattle.journey_model.specs.Faults.{unread_of, IsUndisturbed}
 use Rattle.journey_problem.specs.EarlyFaults.{IsEarly}
 use Rattle.journey_problem.specs.CutProblems.{cut_problem_fault, IsCutProblem, HasCutTimetable}
 use Rattle.journey_problem.specs.FeedProblems.{IsFeedProblem, IsFeedProblemFault, HasFeedTimetable}

@@ -4,18 +4,18 @@ ghost use Rattle.csv_rows.specs.Limits.{AreWithin};
 ghost use Rattle.csv_rows.specs.Tables.{table_of};
 ghost use Rattle.delay_table.specs.Slots.{AreDelays};
 ghost use Rattle.file_ports.specs.Ports.{file_at};
-ghost use Rattle.fault_lines.specs.Faults.{MayBeUnread, unread_of};
+ghost use Rattle.journey_model.specs.Faults.{MayBeUnread, unread_of};
 ghost use Rattle.journey_problem.specs.Files.{bytes_of, records_of, Finds, HasCauses};
 ghost use Rattle.command_line.specs.Jobs.{WantedTimetable, CutFile};
 ghost use Rattle.journey_problem.specs.EarlyFaults.{IsEarly, IsInputOf};
-ghost use Rattle.fault_lines.specs.Stages.{IsOfInput};
+ghost use Rattle.journey_model.specs.Stages.{IsOfInput};
 ghost use Rattle.journey_problem.specs.CutProblems.{cut_as, CutAgrees, DelayAgrees, IsCutOfSome};
 
 use csv_rows::{Column, Limits, Rows, RowsFault};
 use cut_file::{CutFault, CutTable, read_cut};
 use delay_table::{DelayFault, DelayTable};
-use fault_lines::{Fault, Input, LimitKind};
 use file_ports::{Files, LoadFault, load};
+use journey_model::{Fault, Input, LimitKind};
 use std::alloc::Global;
 
 /// The bytes of an input; or that it is not there, cannot be read or is too long, or that there is no

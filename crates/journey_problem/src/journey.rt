@@ -11,9 +11,8 @@ use crate::cut_problem::cut_problem;
 use crate::feed_problem::feed_problem;
 use command_line::{Journey, Timetable};
 use csv_rows::Limits;
-use fault_lines::Fault;
 use file_ports::Files;
-use journey_report::Problem;
+use journey_model::{Fault, Problem};
 use std::alloc::Global;
 
 /// The problem of a journey; or the first fault of its files, of its stops or of the window, or that

@@ -2,7 +2,7 @@
 ghost use Rattle.std.specs.Prelude.{◌≡◌, ◌≤◌, ◌<◌, ◌++◌, map, length, All, IfOk};
 ghost use Rattle.plan_model.specs.NameLists.{NamesFit};
 ghost use Rattle.departure_table.specs.Departures.{IsDeparture};
-ghost use Rattle.fault_lines.specs.Sites.{last_printable};
+ghost use Rattle.journey_model.specs.Sites.{last_printable};
 ghost use Rattle.journey_report.specs.DepartureTexts.{departures_head, departure_text, rows_text, departures_text, latest_text};
 
 use crate::texts::row;

@@ -1,11 +1,11 @@
 //! What a run came to.
 ghost use Rattle.std.specs.Prelude.{◌≡◌, Some, None};
-ghost use Rattle.fault_lines.specs.Faults.{status_of};
+ghost use Rattle.journey_model.specs.Faults.{status_of};
 ghost use Rattle.journey_report.specs.Findings.{findings_of, no_findings};
 
 use departure_table::DepartureRow;
-use fault_lines::Fault;
 use interval_fixed::Span;
+use journey_model::Fault;
 use late_chance::LateChance;
 use lower_proof::LowerBounds;
 use plan_graph::{ExpandedGraph, PlanGraph};

@@ -3,21 +3,21 @@ use Rattle.std.proofs.Common.{◌≡◌, ℕ, List, Option, None, Result, Ok, Er
 use Rattle.std.specs.Prelude.{◌≢◌, ◌⊎◌, IfErr, IfOk, option_map}
 use Rattle.file_ports.specs.Counts.{Rose}
 use Rattle.command_line.specs.Jobs.{WantedTimetable, WantedJourney, WantedAsk, Safe, Expand, Plan, Replay, Certify, CheckProof, CheckGraph, Punctual, Departures, Latest}
-use Rattle.fault_lines.specs.declared.faults.Input.{Input}
-use Rattle.fault_lines.specs.declared.faults.Input.TheVariants as input
-use Rattle.fault_lines.specs.declared.faults.Fault.{Fault}
-use Rattle.fault_lines.specs.declared.faults.Fault.TheVariants.{Read, NoMemory}
-use Rattle.fault_lines.specs.Faults.{unread_of}
-use Rattle.fault_lines.specs.Sites.{NamedParts, IsTellable}
-use Rattle.fault_lines.specs.Stages.{stage_of_input, IsEarlyStage, IsOfInput, AtOutcome}
-use Rattle.fault_lines.proofs.Sited.{tellable}
-use Rattle.journey_report.specs.declared.problem.Problem.{Problem}
+use Rattle.journey_model.specs.declared.faults.Input.{Input}
+use Rattle.journey_model.specs.declared.faults.Input.TheVariants as input
+use Rattle.journey_model.specs.declared.faults.Fault.{Fault}
+use Rattle.journey_model.specs.declared.faults.Fault.TheVariants.{Read, NoMemory}
+use Rattle.journey_model.specs.Faults.{unread_of}
+use Rattle.journey_model.specs.Sites.{NamedParts, IsTellable}
+use Rattle.journey_model.specs.Stages.{stage_of_input, IsEarlyStage, IsOfInput, AtOutcome}
+use Rattle.journey_model.proofs.Sited.{tellable}
+use Rattle.journey_model.specs.declared.problem.Problem.{Problem}
 use Rattle.journey_problem.specs.EarlyFaults.{IsEarly}
 use Rattle.journey_problem.specs.Files.{RoseAt, path_of, HasCauses}
 use Rattle.meat_engine.specs.declared.refusal.Refusal.{Refusal}
 use Rattle.plan_answers.specs.Answers.{FailsIn, IsNoSafe}
 use Rattle.meat_engine.specs.Asks.{own_paths}
-use Rattle.journey_report.specs.Known.{parts_of}
+use Rattle.journey_model.specs.Known.{parts_of}
 use Rattle.meat_engine.specs.Refusals.{IsRefusalBy}
 
 pub if_ok_then : {A E : Type 0} (r : Result A E) (P Q : A → Type 0) → ((a : A) → P a → Q a) → IfOk r P → IfOk r Q

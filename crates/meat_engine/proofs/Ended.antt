@@ -8,13 +8,13 @@ use Rattle.plan_model.specs.declared.model.Moment.{Moment}
 use Rattle.plan_model.specs.Parts.{Parts}
 use Rattle.plan_model.specs.Strategy.{Reaches, LeastWorst}
 use Rattle.command_line.specs.Jobs.{WantedJourney, WantedAsk, Safe, Expand, Plan, Replay as Replays, Certify, CheckProof, CheckGraph, Punctual, Departures, Latest}
-use Rattle.fault_lines.specs.declared.faults.Input.{Input}
-use Rattle.fault_lines.specs.declared.faults.Input.TheVariants as input
-use Rattle.fault_lines.specs.declared.faults.Fault.{Fault}
-use Rattle.fault_lines.specs.declared.faults.Fault.TheVariants.{Read}
-use Rattle.fault_lines.specs.Faults.{status_of}
-use Rattle.fault_lines.specs.Sites.{NamedParts}
-use Rattle.journey_report.specs.declared.problem.Problem.{Problem}
+use Rattle.journey_model.specs.declared.faults.Input.{Input}
+use Rattle.journey_model.specs.declared.faults.Input.TheVariants as input
+use Rattle.journey_model.specs.declared.faults.Fault.{Fault}
+use Rattle.journey_model.specs.declared.faults.Fault.TheVariants.{Read}
+use Rattle.journey_model.specs.Faults.{status_of}
+use Rattle.journey_model.specs.Sites.{NamedParts}
+use Rattle.journey_model.specs.declared.problem.Problem.{Problem}
 use Rattle.journey_problem.specs.Problems.{IsProblem, IsProblemFault}
 use Rattle.journey_problem.specs.Files.{bytes_of}
 use Rattle.journey_problem.proofs.OneProblem.{one_problem}

@@ -9,12 +9,12 @@ use Rattle.plan_graph.specs.Tidy.{IsFit}
 use Rattle.graph_text.specs.declared.Head.{Head}
 use Rattle.graph_text.specs.Asked.{IsAsked as IsHeadOf}
 use Rattle.graph_text.specs.Reading.{graph_of}
-use Rattle.fault_lines.specs.declared.faults.Input.{Input}
-use Rattle.fault_lines.specs.declared.faults.Input.TheVariants as input
-use Rattle.fault_lines.specs.declared.faults.Fault.{Fault}
-use Rattle.fault_lines.specs.declared.faults.Fault.TheVariants.{NoMemory}
-use Rattle.fault_lines.specs.Faults.{unread_of}
-use Rattle.journey_report.specs.declared.problem.Problem.{Problem}
+use Rattle.journey_model.specs.declared.faults.Input.{Input}
+use Rattle.journey_model.specs.declared.faults.Input.TheVariants as input
+use Rattle.journey_model.specs.declared.faults.Fault.{Fault}
+use Rattle.journey_model.specs.declared.faults.Fault.TheVariants.{NoMemory}
+use Rattle.journey_model.specs.Faults.{unread_of}
+use Rattle.journey_model.specs.declared.problem.Problem.{Problem}
 use Rattle.journey_problem.specs.Files.{bytes_of, Finds}
 use Rattle.meat_engine.specs.GraphFiles.{graph_as, graph_in, IsGraphFile}
 

@@ -10,16 +10,16 @@ use Rattle.plan_model.specs.declared.model.ConnectionId.{ConnectionId}
 use Rattle.plan_model.specs.declared.model.Moment.{Moment}
 use Rattle.plan_model.specs.declared.model.PlaceId.{PlaceId}
 use Rattle.trip_replay.specs.declared.ReplayFault.{ReplayFault}
-use Rattle.fault_lines.specs.declared.faults.Input.{Input}
-use Rattle.fault_lines.specs.declared.faults.Input.TheVariants as input
-use Rattle.fault_lines.specs.declared.faults.LimitKind.{LimitKind}
-use Rattle.fault_lines.specs.declared.faults.LimitKind.TheVariants.{Bytes}
-use Rattle.fault_lines.specs.declared.faults.Fault.{Fault}
-use Rattle.fault_lines.specs.declared.faults.Fault.TheVariants.{Words, Missing, Limit, Read, Replay, ProofFails, Unsafe, Write, NoSafe, NoMemory}
+use Rattle.journey_model.specs.declared.faults.Input.{Input}
+use Rattle.journey_model.specs.declared.faults.Input.TheVariants as input
+use Rattle.journey_model.specs.declared.faults.LimitKind.{LimitKind}
+use Rattle.journey_model.specs.declared.faults.LimitKind.TheVariants.{Bytes}
+use Rattle.journey_model.specs.declared.faults.Fault.{Fault}
+use Rattle.journey_model.specs.declared.faults.Fault.TheVariants.{Words, Missing, Limit, Read, Replay, ProofFails, Unsafe, Write, NoSafe, NoMemory}
 use Rattle.fault_lines.specs.Lines.{line_of, IsFormatted}
-use Rattle.fault_lines.specs.Sites.{NamedParts}
-use Rattle.fault_lines.specs.Stages.{stage_of_input, stage_of_limit, AtOutput, AtGraphFile, AtProofFile}
-use Rattle.journey_report.specs.declared.problem.Problem.{Problem}
+use Rattle.journey_model.specs.Sites.{NamedParts}
+use Rattle.journey_model.specs.Stages.{stage_of_input, stage_of_limit, AtOutput, AtGraphFile, AtProofFile}
+use Rattle.journey_model.specs.declared.problem.Problem.{Problem}
 use Rattle.journey_report.specs.declared.report.Report.{Report}
 use Rattle.meat_engine.specs.Asks.{FailsAsk}
 use Rattle.journey_report.specs.Findings.{Findings, findings_of, no_findings}

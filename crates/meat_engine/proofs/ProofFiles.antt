@@ -5,13 +5,13 @@ use Rattle.file_ports.specs.Ports.{Folder, file_at}
 use Rattle.csv_rows.specs.declared.limits.Limits.{Limits}
 use Rattle.plan_model.specs.declared.model.Query.{Query}
 use Rattle.lower_proof.specs.declared.LowerBounds.{LowerBounds}
-use Rattle.fault_lines.specs.declared.faults.Input.{Input}
-use Rattle.fault_lines.specs.declared.faults.Input.TheVariants as input
-use Rattle.fault_lines.specs.declared.faults.Fault.{Fault}
-use Rattle.fault_lines.specs.declared.faults.Fault.TheVariants.{NoMemory}
-use Rattle.fault_lines.specs.Faults.{unread_of}
-use Rattle.fault_lines.specs.Stages.{IsOfInput}
-use Rattle.journey_report.specs.declared.problem.Problem.{Problem}
+use Rattle.journey_model.specs.declared.faults.Input.{Input}
+use Rattle.journey_model.specs.declared.faults.Input.TheVariants as input
+use Rattle.journey_model.specs.declared.faults.Fault.{Fault}
+use Rattle.journey_model.specs.declared.faults.Fault.TheVariants.{NoMemory}
+use Rattle.journey_model.specs.Faults.{unread_of}
+use Rattle.journey_model.specs.Stages.{IsOfInput}
+use Rattle.journey_model.specs.declared.problem.Problem.{Problem}
 use Rattle.journey_problem.specs.Files.{bytes_of}
 use Rattle.journey_problem.proofs.Loads.{if_some_then}
 use Rattle.meat_engine.specs.ProofFiles.{TellsProof, FailsText, FailsFile, IsProofFile, FailsProof}

@@ -5,12 +5,12 @@ use Rattle.std.specs.Io.KnownBytes.{Keeps}
 use Rattle.file_ports.specs.Counts.{Rose}
 use Rattle.csv_rows.specs.declared.limits.Limits.{Limits}
 use Rattle.command_line.specs.Jobs.{Wanted, job_of}
-use Rattle.fault_lines.specs.declared.faults.Input.{Input}
-use Rattle.fault_lines.specs.declared.faults.Fault.{Fault}
-use Rattle.fault_lines.specs.declared.faults.Fault.TheVariants.{Read, Write, NoMemory}
-use Rattle.fault_lines.specs.Faults.{status_of}
+use Rattle.journey_model.specs.declared.faults.Input.{Input}
+use Rattle.journey_model.specs.declared.faults.Fault.{Fault}
+use Rattle.journey_model.specs.declared.faults.Fault.TheVariants.{Read, Write, NoMemory}
+use Rattle.journey_model.specs.Faults.{status_of}
 use Rattle.fault_lines.specs.Lines.{line_of, IsFormatted}
-use Rattle.fault_lines.specs.Sites.{NamedParts}
+use Rattle.journey_model.specs.Sites.{NamedParts}
 use Rattle.journey_problem.specs.Files.{RoseAt}
 use Rattle.journey_report.specs.declared.report.Report.{Report}
 use Rattle.journey_report.specs.Findings.{Findings, findings_of, no_findings}

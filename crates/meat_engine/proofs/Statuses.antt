@@ -5,12 +5,12 @@ use Rattle.file_ports.specs.Ports.{Folder}
 use Rattle.csv_rows.specs.declared.limits.Limits.{Limits}
 use Rattle.feed_maker.specs.Made.{made, SameFolder}
 use Rattle.command_line.specs.Jobs.{WantedJourney, WantedAsk, Plan, Ask, Sample, job_of}
-use Rattle.fault_lines.specs.declared.faults.Input.{Input}
-use Rattle.fault_lines.specs.declared.faults.Fault.{Fault}
-use Rattle.fault_lines.specs.declared.faults.Fault.TheVariants.{Read, NoMemory}
-use Rattle.fault_lines.specs.Faults.{status_of, IsUndisturbed}
-use Rattle.fault_lines.specs.Sites.{NamedParts}
-use Rattle.journey_report.specs.declared.problem.Problem.{Problem}
+use Rattle.journey_model.specs.declared.faults.Input.{Input}
+use Rattle.journey_model.specs.declared.faults.Fault.{Fault}
+use Rattle.journey_model.specs.declared.faults.Fault.TheVariants.{Read, NoMemory}
+use Rattle.journey_model.specs.Faults.{status_of, IsUndisturbed}
+use Rattle.journey_model.specs.Sites.{NamedParts}
+use Rattle.journey_model.specs.declared.problem.Problem.{Problem}
 use Rattle.journey_problem.specs.Problems.{IsProblem, IsProblemFault, IsFaultless}
 use Rattle.journey_problem.proofs.NoFaults.{no_fault}
 use Rattle.journey_problem.proofs.SameFiles.{same_feed_problem}

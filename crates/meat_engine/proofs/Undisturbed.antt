@@ -6,9 +6,9 @@ use Rattle.csv_rows.specs.declared.limits.Limits.{Limits}
 use Rattle.command_line.specs.declared.job.WordsFault.{WordsFault}
 use Rattle.command_line.specs.Jobs.{Wanted, job_of}
 use Rattle.journey_report.specs.declared.report.Report.{Report}
-use Rattle.fault_lines.specs.declared.faults.Fault.{Fault}
-use Rattle.fault_lines.specs.declared.faults.Fault.TheVariants.{Write, NoMemory}
-use Rattle.fault_lines.specs.Sites.{NamedParts}
+use Rattle.journey_model.specs.declared.faults.Fault.{Fault}
+use Rattle.journey_model.specs.declared.faults.Fault.TheVariants.{Write, NoMemory}
+use Rattle.journey_model.specs.Sites.{NamedParts}
 use Rattle.journey_report.specs.Findings.{findings_of}
 use Rattle.meat_engine.specs.Received.{Ending, AnswersJob, FailsJob, HasCause, IsRefused, Outcome, OutcomeBy}
 use Rattle.meat_engine.proofs.Outcomes.{refused_ending}

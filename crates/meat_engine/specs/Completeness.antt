@@ -4,7 +4,7 @@ use Rattle.file_ports.specs.Ports.{Folder}
 use Rattle.csv_rows.specs.declared.limits.Limits.{Limits}
 use Rattle.feed_maker.specs.Made.{made}
 use Rattle.command_line.specs.Jobs.{WantedJourney, WantedAsk, Ask, Sample, job_of}
-use Rattle.journey_report.specs.declared.problem.Problem.{Problem}
+use Rattle.journey_model.specs.declared.problem.Problem.{Problem}
 use Rattle.journey_problem.specs.Problems.{IsProblem, IsFaultless}
 use Rattle.meat_engine.specs.Asks.{EndsAsk}
 use Rattle.meat_engine.specs.Ends.{EndsBySafety}

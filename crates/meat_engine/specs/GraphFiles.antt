@@ -10,13 +10,13 @@ use Rattle.graph_text.specs.declared.reader.TextFault.{TextFault}
 use Rattle.graph_text.specs.declared.reader.TextFault.TheVariants as text
 use Rattle.graph_text.specs.Asked.{IsAsked as IsHeadOf}
 use Rattle.graph_text.specs.Reading.{graph_of}
-use Rattle.fault_lines.specs.declared.faults.Input.{Input}
-use Rattle.fault_lines.specs.declared.faults.Input.TheVariants as input
-use Rattle.fault_lines.specs.declared.faults.Fault.{Fault}
-use Rattle.fault_lines.specs.declared.faults.Fault.TheVariants.{GraphFile, NoMemory}
-use Rattle.fault_lines.specs.Faults.{unread_of}
-use Rattle.fault_lines.specs.Stages.{IsOfInput}
-use Rattle.journey_report.specs.declared.problem.Problem.{Problem}
+use Rattle.journey_model.specs.declared.faults.Input.{Input}
+use Rattle.journey_model.specs.declared.faults.Input.TheVariants as input
+use Rattle.journey_model.specs.declared.faults.Fault.{Fault}
+use Rattle.journey_model.specs.declared.faults.Fault.TheVariants.{GraphFile, NoMemory}
+use Rattle.journey_model.specs.Faults.{unread_of}
+use Rattle.journey_model.specs.Stages.{IsOfInput}
+use Rattle.journey_model.specs.declared.problem.Problem.{Problem}
 use Rattle.graph_answers.specs.Trips.{IsTripFault}
 use Rattle.graph_answers.specs.Scores.{IsUnsafeGraph}
 use Rattle.journey_problem.specs.Files.{bytes_of}

@@ -7,12 +7,12 @@ use Rattle.plan_model.specs.declared.model.Query.{Query}
 use Rattle.lower_proof.specs.declared.LowerBounds.{LowerBounds}
 use Rattle.lower_proof.specs.declared.reader.ProofFault.{ProofFault}
 use Rattle.lower_proof.specs.Reading.{bounds_in, IsFaultAfter, IsTold}
-use Rattle.fault_lines.specs.declared.faults.Input.TheVariants as input
-use Rattle.fault_lines.specs.declared.faults.Fault.{Fault}
-use Rattle.fault_lines.specs.declared.faults.Fault.TheVariants.{ProofFile}
-use Rattle.fault_lines.specs.Faults.{unread_of}
-use Rattle.fault_lines.specs.Stages.{IsOfInput}
-use Rattle.journey_report.specs.declared.problem.Problem.{Problem}
+use Rattle.journey_model.specs.declared.faults.Input.TheVariants as input
+use Rattle.journey_model.specs.declared.faults.Fault.{Fault}
+use Rattle.journey_model.specs.declared.faults.Fault.TheVariants.{ProofFile}
+use Rattle.journey_model.specs.Faults.{unread_of}
+use Rattle.journey_model.specs.Stages.{IsOfInput}
+use Rattle.journey_model.specs.declared.problem.Problem.{Problem}
 use Rattle.graph_answers.specs.Checks.{IsBroken}
 use Rattle.journey_problem.specs.Files.{bytes_of}
 

@@ -7,12 +7,12 @@ use Rattle.file_ports.specs.Ports.{Folder}
 use Rattle.csv_rows.specs.declared.limits.Limits.{Limits}
 use Rattle.command_line.specs.declared.job.WordsFault.{WordsFault}
 use Rattle.command_line.specs.Jobs.{Wanted, Ask, Sample, job_of}
-use Rattle.fault_lines.specs.declared.faults.Input.{Input}
-use Rattle.fault_lines.specs.declared.faults.Fault.{Fault}
-use Rattle.fault_lines.specs.declared.faults.Fault.TheVariants.{Words, NoMemory}
+use Rattle.journey_model.specs.declared.faults.Input.{Input}
+use Rattle.journey_model.specs.declared.faults.Fault.{Fault}
+use Rattle.journey_model.specs.declared.faults.Fault.TheVariants.{Words, NoMemory}
 use Rattle.fault_lines.specs.Lines.{line_of, IsFormatted}
-use Rattle.fault_lines.specs.Sites.{NamedParts}
-use Rattle.fault_lines.specs.Stages.{Stage, stage_of, AtWords, AtTimetable, AtDelays, AtStops, AtWindow, AtGraphFile, AtProofFile, AtOutcome, AtOutput, AtMemory}
+use Rattle.journey_model.specs.Sites.{NamedParts}
+use Rattle.journey_model.specs.Stages.{Stage, stage_of, AtWords, AtTimetable, AtDelays, AtStops, AtWindow, AtGraphFile, AtProofFile, AtOutcome, AtOutput, AtMemory}
 use Rattle.journey_problem.specs.Files.{path_of}
 use Rattle.journey_problem.specs.Problems.{InProblem}
 use Rattle.journey_report.specs.declared.report.Report.{Report}

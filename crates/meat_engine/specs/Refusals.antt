@@ -1,10 +1,10 @@
 -- Refusals, with the timetables by which their lines are told.
 use Rattle.std.specs.Prelude.{◌≢◌, Option, option_map, Result, Ok, Err}
-use Rattle.fault_lines.specs.declared.faults.Fault.{Fault}
-use Rattle.fault_lines.specs.declared.faults.Fault.TheVariants.{NoMemory}
-use Rattle.fault_lines.specs.Sites.{NamedParts, IsTellable}
+use Rattle.journey_model.specs.declared.faults.Fault.{Fault}
+use Rattle.journey_model.specs.declared.faults.Fault.TheVariants.{NoMemory}
+use Rattle.journey_model.specs.Sites.{NamedParts, IsTellable}
 use Rattle.meat_engine.specs.declared.refusal.Refusal.{Refusal}
-use Rattle.journey_report.specs.Known.{parts_of}
+use Rattle.journey_model.specs.Known.{parts_of}
 
 -- the timetable that is known
 abbrev pub known_of : Refusal → Option NamedParts

@@ -5,9 +5,9 @@ use Rattle.file_ports.specs.Counts.{Rose}
 use Rattle.file_ports.specs.Ports.{Folder}
 use Rattle.csv_rows.specs.declared.limits.Limits.{Limits}
 use Rattle.command_line.specs.Jobs.{Wanted, job_of}
-use Rattle.fault_lines.specs.declared.faults.Input.{Input}
-use Rattle.fault_lines.specs.declared.faults.Fault.TheVariants.{Read, Write}
-use Rattle.fault_lines.specs.Faults.{status_of}
+use Rattle.journey_model.specs.declared.faults.Input.{Input}
+use Rattle.journey_model.specs.declared.faults.Fault.TheVariants.{Read, Write}
+use Rattle.journey_model.specs.Faults.{status_of}
 use Rattle.journey_report.specs.declared.report.Report.{Report}
 use Rattle.journey_problem.specs.Files.{RoseAt}
 use Rattle.meat_engine.specs.Received.{Outcome, IsTold, path_in}

@@ -10,10 +10,10 @@ use Rattle.plan_graph.specs.declared.PlanGraph.{PlanGraph}
 use Rattle.decision_graph.specs.Planned.{IsPlanned}
 use Rattle.feed_maker.specs.Made.{made, SameFolder}
 use Rattle.command_line.specs.Jobs.{WantedJourney, FeedFolder, Plan}
-use Rattle.fault_lines.specs.declared.faults.Fault.{Fault}
-use Rattle.fault_lines.specs.Faults.{unread_of}
-use Rattle.fault_lines.specs.Sites.{NamedParts}
-use Rattle.journey_report.specs.declared.problem.Problem.{Problem}
+use Rattle.journey_model.specs.declared.faults.Fault.{Fault}
+use Rattle.journey_model.specs.Faults.{unread_of}
+use Rattle.journey_model.specs.Sites.{NamedParts}
+use Rattle.journey_model.specs.declared.problem.Problem.{Problem}
 use Rattle.journey_problem.specs.Problems.{InProblem}
 use Rattle.plan_answers.specs.Answers.{InQuery}
 use Rattle.meat_engine.specs.Asks.{FailsJourney}

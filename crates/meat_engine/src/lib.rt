@@ -8,6 +8,6 @@ mod refusal;
 mod samples;
 mod top;
 
-pub use fault_lines::{Fault, Input, LimitKind, Which};
+pub use journey_model::{Fault, Input, LimitKind, Which};
 pub use journey_report::{Report, Status};
 pub use top::{run, run_limited};

@@ -1,8 +1,7 @@
 //! Why a command has no answer.
 ghost use Rattle.std.specs.Prelude.{◌≡◌, None};
 
-use fault_lines::Fault;
-use journey_report::Problem;
+use journey_model::{Fault, Problem};
 
 /// Why there is no answer, and the problem by whose names that is told, where there is one.
 #[derive(Drop)]

@@ -2,8 +2,8 @@
 ghost use Rattle.std.specs.Prelude.{◌≡◌, ◌≢◌, ◌<◌, ◌≤◌, length, None, IfOk, IfErr};
 ghost use Rattle.csv_rows.specs.Limits.{AreWithin};
 ghost use Rattle.command_line.specs.Shown.{journey_shown};
-ghost use Rattle.fault_lines.specs.Faults.{unread_of};
-ghost use Rattle.fault_lines.specs.declared.faults.Fault.{Fault};
+ghost use Rattle.journey_model.specs.Faults.{unread_of};
+ghost use Rattle.journey_model.specs.declared.faults.Fault.{Fault};
 ghost use Rattle.journey_problem.specs.EarlyFaults.{IsEarly};
 ghost use Rattle.journey_problem.specs.Problems.{IsProblem, IsProblemFault, IsSound};
 ghost use Rattle.plan_answers.specs.Answers.{FailsIn};
@@ -14,10 +14,10 @@ ghost use Rattle.meat_engine.specs.Samples.{sample_journey, IsSampled, OverMade,
 use crate::refusal::Refusal;
 use command_line::{Journey, Timetable};
 use csv_rows::Limits;
-use fault_lines::Fault;
 use feed_maker::MadeFiles;
+use journey_model::{Fault, Problem};
 use journey_problem::problem_of;
-use journey_report::{Answer, Problem, Report, sample_text};
+use journey_report::{Answer, Report, sample_text};
 use plan_answers::{asked_of, planned_of};
 use plan_model::Moment;
 use std::alloc::Global;

@@ -7,7 +7,7 @@ use Rattle.lower_proof.specs.Certificates.{IsTight}
 use Rattle.lower_proof.specs.Promises.{IsBest}
 use Rattle.lower_proof.specs.Reading.{ReadsBack}
 use Rattle.lower_proof.specs.Texts.{proof_text}
-use Rattle.journey_report.specs.declared.problem.Problem.{Problem}
+use Rattle.journey_model.specs.declared.problem.Problem.{Problem}
 use Rattle.journey_report.specs.Findings.{Findings, certify_findings}
 
 -- a certificate of the query is told: the greatest that is accepted, with the least value of the ways to leave its run at each

@@ -8,7 +8,7 @@ use Rattle.plan_graph.specs.Unfold.{unfold_plan}
 use Rattle.graph_text.specs.Texts.{graph_text}
 use Rattle.graph_score.specs.Scores.{IsScored}
 use Rattle.late_chance.specs.Punctual.{IsPunctual}
-use Rattle.journey_report.specs.declared.problem.Problem.{Problem}
+use Rattle.journey_model.specs.declared.problem.Problem.{Problem}
 use Rattle.plan_answers.specs.Answers.{head_of}
 use Rattle.journey_report.specs.Findings.{Findings, punctual_findings}
 use Rattle.journey_report.specs.Texts.{punctual_row}

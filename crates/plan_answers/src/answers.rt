@@ -11,9 +11,9 @@ ghost use Rattle.journey_report.specs.Findings.{findings_of};
 ghost use Rattle.plan_model.specs.Bounds.{end_of_time, last_start};
 
 use decision_graph::{CompactPlan, ExpandedPlan, expand, plan};
-use fault_lines::Fault;
 use graph_text::{Head, fit_is_printable, ready_is_printable, write, write_expanded};
-use journey_report::{Answer, Problem, Report, safe_text};
+use journey_model::{Fault, Problem};
+use journey_report::{Answer, Report, safe_text};
 use meat_scan::ScanTables;
 use merged_runs::MergedRuns;
 use plan_model::{BackwardOrder, Moment, NoMemory, Query};

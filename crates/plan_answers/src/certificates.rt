@@ -8,8 +8,8 @@ ghost use Rattle.journey_report.specs.Findings.{findings_of};
 ghost use Rattle.plan_model.specs.Bounds.{last_start};
 
 use crate::answers::{Asked, asked_of};
-use fault_lines::Fault;
-use journey_report::{Answer, Problem, Report};
+use journey_model::{Fault, Problem};
+use journey_report::{Answer, Report};
 use lower_proof::{write, write_text};
 use plan_model::{Moment, NoMemory};
 use std::alloc::Global;

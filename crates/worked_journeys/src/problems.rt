@@ -2,7 +2,7 @@
 use crate::told::{Source, files_of};
 use command_line::{Journey, Timetable};
 use csv_rows::Limits;
-use fault_lines::{Fault, Input};
+use journey_model::{Fault, Input};
 use journey_problem::problem_of;
 use plan_model::Moment;
 use std::alloc::Global;

@@ -1,5 +1,5 @@
 use Rattle.std.proofs.Common.{◌∙◌, ap, sym}
-use Rattle.fault_lines.specs.declared.faults.Fault.{Fault}
+use Rattle.journey_model.specs.declared.faults.Fault.{Fault}
 use Rattle.fault_lines.specs.Lines.{line_of}
 use Rattle.fault_lines.proofs.lines.known_line.Goals as goal
 

@@ -1,7 +1,7 @@
 use Rattle.std.proofs.Common.{◌<◌, ◌≤◌, length, subst, sym}
 use Rattle.plan_model.specs.declared.model.Moment.{Moment}
 use Rattle.plan_model.specs.declared.model.PlaceId.{PlaceId}
-use Rattle.fault_lines.specs.Sites.{last_printable}
+use Rattle.journey_model.specs.Sites.{last_printable}
 use Rattle.graph_answers.proofs.Unsafe.{IsPrintedFault, fault_printed}
 use Rattle.graph_answers.proofs.scores.score_over.Goals as goal
 

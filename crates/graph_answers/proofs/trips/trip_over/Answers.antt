@@ -1,11 +1,11 @@
 use Rattle.std.proofs.Common.{◌≡◌, ℕ, List, Some, None, Err, ◌≤◌, ◌∙◌, sym, subst, arith}
 use Rattle.std.specs.Prelude.{◌≢◌}
 use Rattle.trip_replay.specs.Walk.{IsAnswer}
-use Rattle.fault_lines.specs.declared.faults.Fault.{Fault}
-use Rattle.fault_lines.specs.declared.faults.Fault.TheVariants.{NoMemory}
-use Rattle.fault_lines.specs.Faults.{unread_of}
-use Rattle.fault_lines.specs.Sites.{last_printable, IsTellable}
-use Rattle.journey_report.specs.Known.{parts_of}
+use Rattle.journey_model.specs.declared.faults.Fault.{Fault}
+use Rattle.journey_model.specs.declared.faults.Fault.TheVariants.{NoMemory}
+use Rattle.journey_model.specs.Faults.{unread_of}
+use Rattle.journey_model.specs.Sites.{last_printable, IsTellable}
+use Rattle.journey_model.specs.Known.{parts_of}
 use Rattle.command_line.specs.Jobs.{late_in}
 use Rattle.graph_answers.specs.Trips.{replay_as, trip_by, IsTripFault}
 use Rattle.journey_report.proofs.TextLemmas.{arrivals}

@@ -4,8 +4,8 @@ use Rattle.std.proofs.lemmas.Result.{IfOk-weaker, IfErr-weaker}
 use Rattle.file_ports.specs.Ports.{Folder, file_at}
 use Rattle.command_line.specs.Jobs.{CutFile}
 use Rattle.command_line.specs.Shown.{journey_shown}
-use Rattle.fault_lines.specs.declared.faults.Input.TheVariants as input
-use Rattle.fault_lines.specs.Faults.{IsFirst}
+use Rattle.journey_model.specs.declared.faults.Input.TheVariants as input
+use Rattle.journey_model.specs.Faults.{IsFirst}
 use Rattle.journey_problem.specs.CutProblems.{HasCut, IsCutProblem, cut_problem_fault}
 use Rattle.journey_problem.specs.Files.{path_by}
 use Rattle.journey_problem.proofs.Causes.{causes-path, causes-then}

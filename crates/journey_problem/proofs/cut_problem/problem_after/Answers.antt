@@ -2,8 +2,8 @@ use Rattle.std.proofs.Common.{◌≡◌, None, ℕ, List}
 use Rattle.file_ports.specs.Ports.{Folder, file_at}
 use Rattle.delay_table.specs.DelayLists.{DelayLists}
 use Rattle.command_line.specs.Shown.{journey_shown}
-use Rattle.fault_lines.specs.declared.faults.Input.TheVariants as input
-use Rattle.fault_lines.specs.Faults.{IsFirst}
+use Rattle.journey_model.specs.declared.faults.Input.TheVariants as input
+use Rattle.journey_model.specs.Faults.{IsFirst}
 use Rattle.journey_problem.specs.CutProblems.{AreDelaysOf, HasCut, cut_problem_fault, delay_fault}
 use Rattle.journey_problem.proofs.Causes.{causes-quiet}
 use Rattle.journey_problem.proofs.CutSteps.{cut_timetable, cut_file_problem, stop_first, delay_first}

@@ -4,8 +4,8 @@ use Rattle.std.proofs.lemmas.Result.{IfOk-weaker, IfErr-weaker}
 use Rattle.file_ports.specs.Ports.{Folder}
 use Rattle.command_line.specs.Jobs.{FeedFolder}
 use Rattle.command_line.specs.Shown.{journey_shown}
-use Rattle.fault_lines.specs.declared.faults.Input.TheVariants as input
-use Rattle.fault_lines.specs.declared.faults.Fault.TheVariants.{NoMemory}
+use Rattle.journey_model.specs.declared.faults.Input.TheVariants as input
+use Rattle.journey_model.specs.declared.faults.Fault.TheVariants.{NoMemory}
 use Rattle.journey_problem.specs.FeedProblems.{IsFolder, IsFeedProblem, IsFeedProblemFault, IsFaultAfterFolder}
 use Rattle.journey_problem.specs.Files.{path_by}
 use Rattle.journey_problem.specs.Folders.{parts_of}

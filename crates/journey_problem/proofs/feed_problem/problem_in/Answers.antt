@@ -4,9 +4,9 @@ use Rattle.file_ports.specs.Ports.{Folder, file_at}
 use Rattle.delay_table.specs.DelayLists.{DelayLists}
 use Rattle.command_line.specs.Jobs.{FeedFolder}
 use Rattle.command_line.specs.Shown.{journey_shown}
-use Rattle.fault_lines.specs.declared.faults.Input.TheVariants as input
-use Rattle.fault_lines.specs.declared.faults.Fault.TheVariants.{NoMemory}
-use Rattle.fault_lines.specs.Faults.{IsFirst}
+use Rattle.journey_model.specs.declared.faults.Input.TheVariants as input
+use Rattle.journey_model.specs.declared.faults.Fault.TheVariants.{NoMemory}
+use Rattle.journey_model.specs.Faults.{IsFirst}
 use Rattle.journey_problem.specs.CutProblems.{AreDelaysOf, delay_fault}
 use Rattle.journey_problem.specs.FeedProblems.{IsFaultAfterFolder}
 use Rattle.journey_problem.specs.Folders.{parts_of}

@@ -1,7 +1,7 @@
 use Rattle.std.proofs.Common.{◌≡◌, None, Ok}
 use Rattle.command_line.specs.Jobs.{CutFile}
 use Rattle.file_ports.specs.Ports.{Folder, file_at}
-use Rattle.fault_lines.specs.Faults.{IsFirst}
+use Rattle.journey_model.specs.Faults.{IsFirst}
 use Rattle.journey_problem.specs.CutProblems.{cut_records, cut_fault, IsCutOf}
 use Rattle.journey_problem.proofs.CutSteps.{cut_of_some, cut_none, cut_first}
 use Rattle.journey_problem.proofs.Loads.{if_some_then}

@@ -1,6 +1,6 @@
 use Rattle.std.proofs.Common.{◌≡◌, None, Ok}
 use Rattle.file_ports.specs.Ports.{Folder, file_at}
-use Rattle.fault_lines.specs.Faults.{IsFirst}
+use Rattle.journey_model.specs.Faults.{IsFirst}
 use Rattle.journey_problem.specs.CutProblems.{delay_records, delay_fault, AreDelaysOf}
 use Rattle.journey_problem.proofs.CutSteps.{delays_none, delays_first}
 use Rattle.journey_problem.proofs.Loads.{if_some_then}

@@ -3,7 +3,7 @@ use Rattle.std.specs.Prelude.{◌≢◌, IfErr}
 use Rattle.command_line.specs.declared.job.Ask.{Ask}
 use Rattle.command_line.specs.Jobs.{WantedAsk}
 use Rattle.command_line.specs.Shown.{ask_shown}
-use Rattle.fault_lines.specs.declared.faults.Fault.TheVariants.{NoMemory}
+use Rattle.journey_model.specs.declared.faults.Fault.TheVariants.{NoMemory}
 use Rattle.meat_engine.specs.Asks.{FailsAsk}
 use Rattle.meat_engine.proofs.asks.ask_over.Goals as goal
 

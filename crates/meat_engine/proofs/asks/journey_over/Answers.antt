@@ -2,7 +2,7 @@ use Rattle.std.proofs.Common.{Option, Ok, Err, sym, subst}
 use Rattle.std.specs.Prelude.{IsSome}
 use Rattle.file_ports.specs.Ports.{Folder}
 use Rattle.command_line.specs.Shown.{journey_shown, ask_shown}
-use Rattle.fault_lines.specs.declared.faults.Fault.{Fault}
+use Rattle.journey_model.specs.declared.faults.Fault.{Fault}
 use Rattle.journey_problem.specs.Files.{path_of, HasCauses}
 use Rattle.journey_problem.proofs.Causes.{causes-as, causes-next}
 use Rattle.meat_engine.specs.Asks.{own_paths}

@@ -1,8 +1,8 @@
 use Rattle.std.proofs.Common.{◌≡◌, Ok, None, Option, sym, subst}
 use Rattle.std.specs.Prelude.{IfSome}
 use Rattle.file_ports.specs.Ports.{Folder, file_at}
-use Rattle.fault_lines.specs.declared.faults.Input.{Input}
-use Rattle.fault_lines.specs.declared.faults.Input.TheVariants as input
+use Rattle.journey_model.specs.declared.faults.Input.{Input}
+use Rattle.journey_model.specs.declared.faults.Input.TheVariants as input
 use Rattle.journey_problem.specs.Files.{bytes_of}
 use Rattle.journey_problem.proofs.Causes.{causes-quiet}
 use Rattle.journey_problem.proofs.Loads.{if_some_then}

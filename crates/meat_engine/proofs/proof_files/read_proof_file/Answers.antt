@@ -1,8 +1,8 @@
 use Rattle.std.proofs.Common.{◌≡◌, Option, sym, subst}
 use Rattle.std.specs.Prelude.{IfSome}
 use Rattle.csv_rows.proofs.FaultLemmas.{if_raised}
-use Rattle.fault_lines.specs.declared.faults.Input.{Input}
-use Rattle.fault_lines.specs.declared.faults.Input.TheVariants as input
+use Rattle.journey_model.specs.declared.faults.Input.{Input}
+use Rattle.journey_model.specs.declared.faults.Input.TheVariants as input
 use Rattle.journey_problem.proofs.Causes.{causes-quiet}
 use Rattle.meat_engine.proofs.Asking.{if_err_then}
 use Rattle.meat_engine.proofs.ProofFiles.{unloaded, read, unread}

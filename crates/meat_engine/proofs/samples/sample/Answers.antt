@@ -1,7 +1,7 @@
 use Rattle.std.proofs.Common.{◌≡◌, None, Some, inl, inr, refl, sym, subst}
-use Rattle.fault_lines.specs.declared.faults.Fault.{Fault}
-use Rattle.fault_lines.specs.Faults.{unread_of}
-use Rattle.journey_report.specs.Known.{parts_of}
+use Rattle.journey_model.specs.declared.faults.Fault.{Fault}
+use Rattle.journey_model.specs.Faults.{unread_of}
+use Rattle.journey_model.specs.Known.{parts_of}
 use Rattle.meat_engine.specs.Samples.{sample_journey, FailsSample}
 use Rattle.meat_engine.proofs.Asking.{early_tellable, fails_tellable, fails_unread, fails_safe, plain_refusal}
 use Rattle.meat_engine.proofs.samples.sample.Goals as goal

@@ -2,9 +2,9 @@ use Rattle.std.proofs.Common.{◌≡◌, ℕ, List, Option, Result, Ok, Err, Non
 use Rattle.std.specs.Prelude.{IfOk, IfErr}
 use Rattle.feed_maker.specs.Files.{folder_of}
 use Rattle.command_line.specs.Jobs.{WantedJourney}
-use Rattle.fault_lines.specs.declared.faults.Fault.{Fault}
-use Rattle.fault_lines.specs.declared.faults.Input.{Input}
-use Rattle.fault_lines.specs.Faults.{unread_of}
+use Rattle.journey_model.specs.declared.faults.Fault.{Fault}
+use Rattle.journey_model.specs.declared.faults.Input.{Input}
+use Rattle.journey_model.specs.Faults.{unread_of}
 use Rattle.journey_problem.specs.Files.{HasCauses}
 use Rattle.journey_problem.specs.Problems.{IsProblem, IsProblemFault, IsSound}
 use Rattle.meat_engine.specs.Asks.{no_path}

@@ -1,10 +1,10 @@
 use Rattle.std.proofs.Common.{◌≡◌, ◌∙◌, inl, inr, map, string_bytes, sym, subst, arith}
 use Rattle.command_line.specs.Jobs.{Wanted}
 use Rattle.command_line.specs.Shown.{shown}
-use Rattle.fault_lines.specs.declared.faults.Input.{Input}
-use Rattle.fault_lines.specs.declared.faults.Fault.{Fault}
-use Rattle.fault_lines.specs.declared.faults.Fault.TheVariants.{Words, Read, Write, NoMemory}
-use Rattle.fault_lines.specs.Sites.{IsTellable}
+use Rattle.journey_model.specs.declared.faults.Input.{Input}
+use Rattle.journey_model.specs.declared.faults.Fault.{Fault}
+use Rattle.journey_model.specs.declared.faults.Fault.TheVariants.{Words, Read, Write, NoMemory}
+use Rattle.journey_model.specs.Sites.{IsTellable}
 use Rattle.journey_report.specs.Findings.{findings_of}
 use Rattle.meat_engine.specs.Received.{FailsJob}
 use Rattle.meat_engine.specs.Runs.{files_state, sink_state}

@@ -1,10 +1,10 @@
 -- The faults of a run: the number that a process ends with, and the file that a fault is of.
 use Rattle.std.specs.Prelude.{◌≡◌, ◌≢◌, ℕ, ◌==◌, Bool, true, false, List, Option, None, Some, IfSome, codes}
 use Rattle.csv_rows.specs.FeedTables.{file_name, rank_of}
-use Rattle.fault_lines.specs.declared.faults.Input.{Input}
-use Rattle.fault_lines.specs.declared.faults.Input.TheVariants as input
-use Rattle.fault_lines.specs.declared.faults.Fault.{Fault}
-use Rattle.fault_lines.specs.declared.faults.Fault.TheVariants.{Words, Feed, Cut, Missing, Delays, UnknownStop, Limit, Read, NoSafe, GraphFile, Replay, ProofFile, ProofFails, Unsafe, Write, NoMemory}
+use Rattle.journey_model.specs.declared.faults.Input.{Input}
+use Rattle.journey_model.specs.declared.faults.Input.TheVariants as input
+use Rattle.journey_model.specs.declared.faults.Fault.{Fault}
+use Rattle.journey_model.specs.declared.faults.Fault.TheVariants.{Words, Feed, Cut, Missing, Delays, UnknownStop, Limit, Read, NoSafe, GraphFile, Replay, ProofFile, ProofFails, Unsafe, Write, NoMemory}
 
 -- where this file is missing
 abbrev pub missing_status : Input → ℕ

@@ -1,7 +1,7 @@
 //! Why a run gives no answer.
 ghost use Rattle.std.specs.Prelude.{◌≡◌, Some};
-ghost use Rattle.fault_lines.specs.Faults.{status_of, missing_status, input_name};
-ghost use Rattle.fault_lines.specs.Sites.{site_of, site_of_replay};
+ghost use Rattle.journey_model.specs.Faults.{status_of, missing_status, input_name};
+ghost use Rattle.journey_model.specs.Sites.{site_of, site_of_replay};
 
 use command_line::WordsFault;
 use csv_rows::{FeedFault, Table};
@@ -126,7 +126,7 @@ impl Input {
 
 impl From<NoMemory> for Fault {
     ghost use Rattle.std.specs.Prelude.{◌≡◌};
-    ghost use Rattle.fault_lines.specs.declared.faults.Fault.TheVariants.{NoMemory as NoMemoryFault};
+    ghost use Rattle.journey_model.specs.declared.faults.Fault.TheVariants.{NoMemory as NoMemoryFault};
 
     ghost from_gives = { λ _ fault. fault ≡ NoMemoryFault };
 

@@ -1,5 +1,5 @@
 -- Where in a timetable a fault is, and what is told of that.
-use Rattle.std.specs.Prelude.{ℕ, ◌<◌, ◌≤◌, List, [], ◌++◌, length, Option, None, Some, option_map, codes, decimal}
+use Rattle.std.specs.Prelude.{ℕ, ◌<◌, ◌≤◌, List, [], ◌++◌, length, Option, None, Some, codes, decimal}
 use Rattle.clock_text.specs.Civil.{moment_text}
 pub use Rattle.clock_text.specs.Civil.{last_printable}
 use Rattle.plan_model.specs.declared.model.Moment.{Moment}
@@ -10,22 +10,15 @@ use Rattle.plan_model.specs.Network.{count, run_of, step_of}
 use Rattle.printed_rows.specs.Writers.{place_name, run_name}
 use Rattle.trip_replay.specs.declared.ReplayFault.{ReplayFault}
 use Rattle.trip_replay.specs.declared.ReplayFault.TheVariants as replay
-use Rattle.fault_lines.specs.declared.told.NamedNetwork.{NamedNetwork}
-use Rattle.fault_lines.specs.declared.faults.Site.{Site}
-use Rattle.fault_lines.specs.declared.faults.Site.TheVariants.{Arrival, Connection}
-use Rattle.fault_lines.specs.declared.faults.Fault.{Fault}
-use Rattle.fault_lines.specs.declared.faults.Fault.TheVariants.{Words, Feed, Cut, Missing, Delays, UnknownStop, Limit, Read, NoSafe, GraphFile, Replay, ProofFile, ProofFails, Unsafe, Write, NoMemory}
+use Rattle.journey_model.specs.declared.faults.Site.{Site}
+use Rattle.journey_model.specs.declared.faults.Site.TheVariants.{Arrival, Connection}
+use Rattle.journey_model.specs.declared.faults.Fault.{Fault}
+use Rattle.journey_model.specs.declared.faults.Fault.TheVariants.{Words, Feed, Cut, Missing, Delays, UnknownStop, Limit, Read, NoSafe, GraphFile, Replay, ProofFile, ProofFails, Unsafe, Write, NoMemory}
 
 -- a timetable with its names, by which a line tells where a fault is
 pub record NamedParts : Type 0 where
   pub network : Parts
   pub names : NameLists
-
-abbrev pub known_parts : NamedNetwork → NamedParts
-known_parts known = record { network = known.network.now; names = known.names.now }
-
-abbrev pub known_in : Option NamedNetwork → Option NamedParts
-known_in known = option_map known_parts known
 
 -- where a trip is stuck
 abbrev pub site_of_replay : ReplayFault → Option Site

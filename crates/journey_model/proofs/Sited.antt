@@ -1,10 +1,10 @@
 -- Faults that are at no site of a timetable.
 use Rattle.std.specs.Prelude.{◌≡◌, Option}
 use Rattle.trip_replay.specs.declared.ReplayFault.{ReplayFault}
-use Rattle.fault_lines.specs.declared.faults.Fault.{Fault}
-use Rattle.fault_lines.specs.declared.faults.Fault.TheVariants.{Replay, ProofFails, Unsafe}
-use Rattle.fault_lines.specs.Stages.{stage_of, AtOutcome}
-use Rattle.fault_lines.specs.Sites.{NamedParts, IsTellable}
+use Rattle.journey_model.specs.declared.faults.Fault.{Fault}
+use Rattle.journey_model.specs.declared.faults.Fault.TheVariants.{Replay, ProofFails, Unsafe}
+use Rattle.journey_model.specs.Stages.{stage_of, AtOutcome}
+use Rattle.journey_model.specs.Sites.{NamedParts, IsTellable}
 use Rattle.std.proofs.Common.{refl}
 
 -- only what a command comes to is at a site

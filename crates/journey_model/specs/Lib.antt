@@ -1,0 +1,5 @@
+pub mod Faults
+pub mod Stages
+pub mod Sites
+pub mod Known
+pub mod Wants
