@@ -7,7 +7,7 @@ use Rattle.plan_model.specs.declared.model.Way.{Way}
 use Rattle.change_times.specs.Links.{way_from, ways_below, ways_at}
 use Rattle.plan_model.specs.Network.{AreLinksInto}
 use Rattle.change_times.specs.declared.changes.Told.{Told}
-use Rattle.stop_times.specs.Required.{Records}
+use Rattle.table_files.specs.Required.{Records}
 use Rattle.gtfs_tables.specs.Feeds.{FeedParts}
 use Rattle.change_times.specs.Transfers.{told_by}
 use Rattle.change_times.specs.Told.{AreTold}

@@ -6,14 +6,14 @@ use Rattle.file_ports.specs.Ports.{Folder}
 use Rattle.csv_rows.specs.declared.feed_tables.Table.{Table}
 use Rattle.csv_rows.specs.declared.feed_tables.Table.TheVariants.{Transfers}
 use Rattle.csv_rows.specs.declared.feed_tables.FeedFault.{FeedFault}
-use Rattle.csv_rows.specs.declared.loading.Loaded.{Loaded}
-use Rattle.csv_rows.specs.declared.loading.Loaded.TheVariants.{Found}
+use Rattle.table_files.specs.declared.loading.Loaded.{Loaded}
+use Rattle.table_files.specs.declared.loading.Loaded.TheVariants.{Found}
 use Rattle.csv_rows.specs.declared.limits.Limits.{Limits}
 use Rattle.csv_rows.specs.Lists.{list_below}
 use Rattle.csv_rows.specs.Tables.{row_count}
-use Rattle.csv_rows.specs.Loading.{load_in, loaded_rows}
+use Rattle.table_files.specs.Loading.{load_in, loaded_rows}
 use Rattle.plan_model.specs.declared.model.Way.{Way}
-use Rattle.stop_times.specs.Required.{Records}
+use Rattle.table_files.specs.Required.{Records}
 use Rattle.gtfs_tables.specs.Feeds.{FeedParts}
 use Rattle.change_times.specs.Transfers.{told_by, transfers_fault}
 use Rattle.change_times.specs.Greatest.{greatest_below}

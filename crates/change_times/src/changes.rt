@@ -6,9 +6,9 @@ ghost use Rattle.csv_rows.specs.declared.feed_tables.Table.TheVariants.{Transfer
 ghost use Rattle.csv_rows.specs.FeedTables.{unread_of, IsFaultOf};
 ghost use Rattle.csv_rows.specs.First.{first_below};
 ghost use Rattle.csv_rows.specs.Limits.{AreWithin};
-ghost use Rattle.csv_rows.specs.Loading.{HasFeedCause, HasFeedPathCause, loaded_rows};
+ghost use Rattle.table_files.specs.Loading.{HasFeedCause, HasFeedPathCause, loaded_rows};
 ghost use Rattle.csv_rows.specs.Tables.{row_count};
-ghost use Rattle.stop_times.specs.Required.{Records};
+ghost use Rattle.table_files.specs.Required.{Records};
 ghost use Rattle.gtfs_tables.specs.Feeds.{FeedParts};
 ghost use Rattle.change_times.specs.Transfers.{transfer_columns, bad_transfer, transfers_fault};
 ghost use Rattle.change_times.specs.Greatest.{greater};
@@ -21,13 +21,14 @@ use crate::links::{Walk, Ways, add_walk, links_of, no_walks};
 use crate::transfers::{
     Transfer, TransferColumns, missing_column, read_transfer, transfer_columns,
 };
-use csv_rows::{FeedFault, Limits, Loaded, Rows, Table, read_table};
+use csv_rows::{FeedFault, Limits, Rows, Table};
 use file_ports::Files;
 use gtfs_tables::Feed;
 use plan_model::{HashKey, List, NoMemory, PlaceId, Way};
 use std::alloc::Global;
 use std::collections::HashMap;
 use std::marker::Model;
+use table_files::{Loaded, read_table};
 
 /// The change times of the places of a feed, and the links between them.
 pub struct Changes {

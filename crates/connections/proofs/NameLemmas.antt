@@ -1,6 +1,5 @@
 -- The names of runs: no two runs have one name, and none begins or ends with a space.
-use Rattle.std.proofs.Common.{◌≡◌, ◌≢◌, ℕ, zero, suc, ◌+◌, ◌-◌, ◌<◌, ◌≤◌, Bool, true, false, List, [], ◌∷◌, ◌++◌, length, take, drop, get_or, slice_index_or, Some, None}
-use Rattle.std.proofs.Common.{Option, ℤ, All, decimal, ◌^◌, refl, sym, ap, ap₂, ◌∙◌, subst, arith, ⊎_elim, length-append}
+use Rattle.std.proofs.Common.{◌≡◌, ◌≢◌, ℕ, zero, suc, ◌+◌, ◌-◌, ◌<◌, ◌≤◌, Bool, true, false, List, [], ◌∷◌, ◌++◌, length, take, drop, get_or, slice_index_or, Some, None, Option, ℤ, All, decimal, ◌^◌, refl, sym, ap, ap₂, ◌∙◌, subst, arith, ⊎_elim, length-append}
 use Rattle.std.specs.List.{list_all}
 use Rattle.std.specs.Char.{is_ascii_digit}
 use Rattle.std.proofs.lemmas.Bool.{cases_lt, and_parts, and_from}
@@ -18,9 +17,8 @@ use Rattle.csv_rows.specs.Ids.{AreIds}
 use Rattle.connections.specs.declared.repeats.Repeat.{Repeat}
 use Rattle.connections.specs.declared.runs.Run.{Run}
 use Rattle.connections.specs.TripRuns.{run_at}
-use Rattle.connections.specs.Runs.{IsRunOf, AreRunsOf}
+use Rattle.connections.specs.Runs.{IsRunOf, AreRunsOf, IsSmallRepeat}
 use Rattle.connections.specs.Networks.{start_text, IsRunName, AreRunNames}
-use Rattle.connections.specs.Runs.{IsSmallRepeat}
 use Rattle.connections.proofs.StepLemmas.{append-assoc}
 use Rattle.connections.proofs.DateLemmas.{date_text}
 

@@ -1,16 +1,15 @@
 -- The runs of a row of frequencies that ride in a window, gathered from the last kept row to the first.
-use Rattle.std.proofs.Common.{◌≡◌, ℕ, ℤ, pos, zero, suc, ◌+◌, ◌-◌, ◌*◌, ◌<◌, ◌≤◌, ◌<ℤ◌, ◌≤ℤ◌, max, nat_lt, nat_le, Bool, true, false, List, [], ◌++◌, length, All, refl}
-use Rattle.std.proofs.Common.{sym, ap, ◌∙◌, subst, arith, ⊎_elim, if◌then◌else◌}
+use Rattle.std.proofs.Common.{◌≡◌, ℕ, ℤ, pos, zero, suc, ◌+◌, ◌-◌, ◌*◌, ◌<◌, ◌≤◌, ◌<ℤ◌, ◌≤ℤ◌, max, nat_lt, nat_le, Bool, true, false, List, [], ◌++◌, length, All, refl, sym, ap, ◌∙◌, subst, arith, ⊎_elim, if◌then◌else◌}
 use Rattle.std.specs.Prelude.{AllPairs}
 use Rattle.std.proofs.Math.Nat.{le-mul_of_pos_right, mul-le-mul_right, suc-mul}
 use Rattle.std.proofs.lemmas.Bool.{cases_lt, and_parts, and_from, lt-leb, le-ltb, leb-true, ltb-true, le-leb, lt-ltb}
 use Rattle.std.proofs.lemmas.Int.{ints, by_lt_z}
 use Rattle.std.proofs.lemmas.List.Elements.{All-nil, All-cons, All-get_or}
 use Rattle.csv_rows.specs.Lists.{list_below}
-use Rattle.gtfs_tables.specs.declared.frequencies.FrequencyRow.{FrequencyRow}
+use Rattle.trip_frequencies.specs.declared.frequencies.FrequencyRow.{FrequencyRow}
 use Rattle.stop_times.specs.declared.rows.StopRow.{StopRow}
 use Rattle.stop_times.specs.Bounds.{end_of_times}
-use Rattle.gtfs_tables.specs.Frequencies.{no_frequency}
+use Rattle.trip_frequencies.specs.Frequencies.{no_frequency}
 use Rattle.gtfs_tables.specs.Repeats.{IsFrequency, AreRepeats, repeat_at}
 use Rattle.run_repeat.specs.Runs.{AreBelow, IsRun, departure}
 use Rattle.connections.specs.declared.origins.ServiceDay.{ServiceDay}

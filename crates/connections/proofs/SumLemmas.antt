@@ -12,7 +12,7 @@ use Rattle.plan_model.specs.declared.model.Way.{Way}
 use Rattle.change_times.specs.Changes.{ChangeParts, links_of}
 use Rattle.plan_model.specs.Network.{AreLinksInto}
 use Rattle.connections.specs.declared.counts.Counted.TheVariants.{Entries}
-use Rattle.gtfs_tables.specs.declared.frequencies.FrequencyRow.{FrequencyRow}
+use Rattle.trip_frequencies.specs.declared.frequencies.FrequencyRow.{FrequencyRow}
 use Rattle.stop_times.specs.declared.rows.StopRow.{StopRow}
 use Rattle.gtfs_tables.specs.Feeds.{FeedParts}
 use Rattle.stop_times.specs.Bounds.{end_of_times}
@@ -32,8 +32,7 @@ use Rattle.connections.specs.Repeats.{origin_at, run_of, rides_by, riding_by}
 use Rattle.connections.specs.TripRuns.{frequencies_of, days}
 use Rattle.connections.specs.Counts.{each_of, steps_sum, row_sum, rows_sum, runs_sum, leaving_sum, trip_sum, day_sum, days_sum, window_sum, count_in, entries_in}
 use Rattle.connections.proofs.CountLemmas.{sum-zero, sum-suc, sum_by-ones, sum_by-join, sum_by-at, sum-rides}
-use Rattle.connections.proofs.StepLemmas.{holds_parts}
-use Rattle.connections.proofs.StepLemmas.{steps-zero, steps-next, length-next}
+use Rattle.connections.proofs.StepLemmas.{holds_parts, steps-zero, steps-next, length-next}
 
 pub step-in : (f : ℕ → ℕ) (b : Bool) (k x : ℕ) → b ≡ true → x ≡ f k → x ≡ sum_by f (only_if b k)
 step-in f true k x is e = let one : sum_by f (k ∷ []) ≡ f k = omega arith in e ∙ sym one

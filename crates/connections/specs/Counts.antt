@@ -1,7 +1,7 @@
 -- What the connections of a window add up to: a sum over its service days, the trips of the feed, their runs and their kept rows.
 use Rattle.std.specs.Prelude.{ℕ, ◌&&◌, nat_lt, ◌+◌, List, [], ◌∷◌, length, sum_by, if◌then◌else◌}
 use Rattle.plan_model.specs.declared.model.PlaceId.{PlaceId}
-use Rattle.gtfs_tables.specs.declared.frequencies.FrequencyRow.{FrequencyRow}
+use Rattle.trip_frequencies.specs.declared.frequencies.FrequencyRow.{FrequencyRow}
 use Rattle.stop_times.specs.declared.rows.StopRow.{StopRow}
 use Rattle.gtfs_tables.specs.Feeds.{FeedParts}
 use Rattle.stop_times.specs.Bounds.{end_of_times}

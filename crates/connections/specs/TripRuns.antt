@@ -1,6 +1,6 @@
 -- The runs of a feed that ride in a window.
 use Rattle.std.specs.Prelude.{ℕ, pos, List, [], ◌∷◌, length, map, slice_index_or, Some, None, if◌then◌else◌}
-use Rattle.gtfs_tables.specs.declared.frequencies.FrequencyRow.{FrequencyRow}
+use Rattle.trip_frequencies.specs.declared.frequencies.FrequencyRow.{FrequencyRow}
 use Rattle.stop_times.specs.declared.rows.StopRow.{StopRow}
 use Rattle.gtfs_tables.specs.Feeds.{FeedParts}
 use Rattle.gtfs_tables.specs.Timed.{rows_of}

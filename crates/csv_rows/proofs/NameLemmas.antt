@@ -1,9 +1,9 @@
--- Names that are not empty.
+-- Names that are not empty, and texts.
 use Rattle.std.proofs.Common.{◌≡◌, ℕ, Bool, true, false, ◌==◌, List, length, Option, Some, None, if◌then◌else◌, IsUtf8, sym, ap, ◌∙◌, ⊎_elim}
 use Rattle.std.specs.Str.{is_utf8}
 use Rattle.std.proofs.lemmas.Str.{IsUtf8-from_is_utf8, is_utf8-from_IsUtf8}
 use Rattle.std.proofs.lemmas.Bool.{cases_Bool}
-use Rattle.csv_rows.specs.Names.{name_in}
+use Rattle.csv_rows.specs.Names.{name_in, text_in}
 
 abbrev name_if : Bool → Bool → List ℕ → Option (List ℕ)
 name_if a b text = if a then None else if b then Some text else None
@@ -15,4 +15,14 @@ pub name_none : (text : List ℕ) → false ≡ (length text == 0) → (IsUtf8 t
 name_none text some u =
     ⊎_elim (λ (t : is_utf8 text ≡ true). absurd (u (IsUtf8-from_is_utf8 text t)))
     (λ (f : is_utf8 text ≡ false). ap (λ a. name_if a false text) some ∙ ap (λ b. name_if (length text == 0) b text) (sym f))
+    (cases_Bool (is_utf8 text))
+
+-- a text that is UTF-8, and one that is not
+pub text_some : (text x : List ℕ) → x ≡ text → IsUtf8 text → Some x ≡ text_in text
+text_some text x e u = ap Some e ∙ ap (λ b. if b then Some text else None) (sym (is_utf8-from_IsUtf8 text u))
+
+pub text_none : (text : List ℕ) → (IsUtf8 text → ⊥) → None ≡ text_in text
+text_none text u =
+    ⊎_elim (λ (t : is_utf8 text ≡ true). absurd (u (IsUtf8-from_is_utf8 text t)))
+    (λ (f : is_utf8 text ≡ false). ap (λ b. if b then Some text else None) (sym f))
     (cases_Bool (is_utf8 text))

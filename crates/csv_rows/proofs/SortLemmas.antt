@@ -1,6 +1,5 @@
 -- Sorted keys.
-use Rattle.std.proofs.Common.{◌≡◌, ◌≢◌, ℕ, zero, suc, ◌+◌, ◌-◌, ◌<◌, ◌≤◌, arith, ⊎_elim, inl, inr, ◌⊎◌, Bool, true, false, eqb, List, length, get_or, refl, sym, ap, ◌∙◌}
-use Rattle.std.proofs.Common.{ltb, subst, ◌++◌, ◌∷◌, [], length-append}
+use Rattle.std.proofs.Common.{◌≡◌, ◌≢◌, ℕ, zero, suc, ◌+◌, ◌-◌, ◌<◌, ◌≤◌, arith, ⊎_elim, inl, inr, ◌⊎◌, Bool, true, false, eqb, List, length, get_or, refl, sym, ap, ◌∙◌, ltb, subst, ◌++◌, ◌∷◌, [], length-append}
 use Rattle.std.specs.declared.cmp.Ordering.{Ordering}
 use Rattle.std.specs.Ordering.{is_lt, nat_cmp, ordering_then}
 use Rattle.std.specs.List.Sorted.{IsPermutation, IsSorted}

@@ -6,7 +6,6 @@ pub mod Ids
 pub mod Keys
 pub mod Limits
 pub mod Lists
-pub mod Loading
 pub mod Names
 pub mod NextField
 pub mod Parts

@@ -4,8 +4,8 @@ use Rattle.std.specs.Prelude.{unwrap_or}
 use Rattle.csv_rows.specs.Tables.{place_in, row_count, field}
 use Rattle.csv_rows.specs.declared.columns.Column.TheVariants.{StopId, TripId}
 use Rattle.gtfs_tables.specs.Feeds.{FeedParts, IsSoundFeed}
-use Rattle.gtfs_tables.specs.Stops.{stop_ids, stop_places, place_from, parent_of}
-use Rattle.gtfs_tables.specs.Trips.{trip_ids}
+use Rattle.feed_lists.specs.Stops.{stop_ids, stop_places, place_from, parent_of}
+use Rattle.feed_lists.specs.Trips.{trip_ids}
 use Rattle.csv_rows.proofs.ListLemmas.{length-list_below, get-list_below}
 use Rattle.csv_rows.proofs.RowLemmas.{place_inside}
 use Rattle.gtfs_tables.specs.Timed.{AreTimed, IsTimed, rows_of}

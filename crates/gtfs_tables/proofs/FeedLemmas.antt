@@ -14,28 +14,26 @@ use Rattle.csv_rows.specs.declared.feed_tables.Table.TheVariants.{Stops, Routes,
 use Rattle.csv_rows.specs.declared.feed_tables.FeedFault.{FeedFault}
 use Rattle.csv_rows.specs.declared.feed_tables.FeedFault.TheVariants.{Read, NoMemory}
 use Rattle.csv_rows.specs.declared.limits.Limits.{Limits}
-use Rattle.csv_rows.specs.declared.loading.Loaded.{Loaded}
+use Rattle.table_files.specs.declared.loading.Loaded.{Loaded}
 use Rattle.csv_rows.specs.FeedTables.{path_of, rank_of, unread_of, IsFaultOf}
-use Rattle.csv_rows.specs.Loading.{loaded_file, loaded_rows, HasFeedCause, IsUnread, load_in}
+use Rattle.table_files.specs.Loading.{loaded_file, loaded_rows, HasFeedCause, IsUnread, load_in}
 use Rattle.csv_rows.specs.Tables.{row_count, field}
-use Rattle.gtfs_tables.specs.declared.frequencies.FrequencyRow.{FrequencyRow}
+use Rattle.trip_frequencies.specs.declared.frequencies.FrequencyRow.{FrequencyRow}
 use Rattle.stop_times.specs.declared.rows.StopRow.{StopRow}
-use Rattle.gtfs_tables.specs.Stops.{stop_ids, stop_places}
-use Rattle.gtfs_tables.specs.Routes.{route_ids}
-use Rattle.gtfs_tables.specs.Trips.{trip_ids, trip_routes, trip_services, trip_types, trips_fault}
+use Rattle.feed_lists.specs.Stops.{stop_ids, stop_places}
+use Rattle.feed_lists.specs.Routes.{route_ids}
+use Rattle.feed_lists.specs.Trips.{trip_ids, trip_routes, trip_services, trip_types, trips_fault}
 use Rattle.stop_times.specs.StopTimes.{timed_rows, stop_times_fault}
-use Rattle.gtfs_tables.specs.Frequencies.{frequency_rows, fault_of_frequencies, all_repeats_of}
+use Rattle.trip_frequencies.specs.Frequencies.{frequency_rows, fault_of_frequencies, all_repeats_of, frequencies_from, AreFrequencies}
 use Rattle.stop_times.specs.Visits.{AreStopTimes}
-use Rattle.stop_times.specs.Required.{Records}
-use Rattle.stop_times.specs.Timetables.{stop_times_from}
-use Rattle.gtfs_tables.specs.Feeds.{stops_from, routes_from, trips_from, frequencies_from, Tables, tables_by, tables_in, FeedParts, IsFeed}
+use Rattle.table_files.specs.Required.{Records}
+use Rattle.stop_times.specs.Timetables.{stop_times_from, AreVisits}
+use Rattle.feed_lists.specs.Lists.{stops_from, routes_from, trips_from, HasStops, HasRoutes, HasTrips, AreStops, AreRoutes, AreTrips}
+use Rattle.gtfs_tables.specs.Feeds.{Tables, tables_by, tables_in, FeedParts, IsFeed, IsFeedOf, IsSoundFeed}
 use Rattle.gtfs_tables.specs.declared.lists.FeedLists.{FeedLists}
 use Rattle.gtfs_tables.specs.declared.times.TripTimes.{TripTimes}
-use Rattle.gtfs_tables.specs.Repeats.{all_repeats_in}
-use Rattle.gtfs_tables.specs.Lists.{HasStops, HasRoutes, HasTrips}
+use Rattle.trip_frequencies.specs.Repeats.{all_repeats_in}
 use Rattle.gtfs_tables.specs.Parts.{parts_by, HasVisits, HasRepeats, AreLists, AreTimes, AreSoundLists, AreSoundTimes}
-use Rattle.stop_times.specs.Timetables.{AreVisits}
-use Rattle.gtfs_tables.specs.Feeds.{IsFeedOf, AreStops, AreRoutes, AreTrips, AreFrequencies, IsSoundFeed}
 use Rattle.csv_rows.proofs.ListLemmas.{length-list_below}
 use Rattle.plan_model.proofs.Results.{and_then-ok, and_then-err}
 

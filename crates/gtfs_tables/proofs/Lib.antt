@@ -1,8 +1,3 @@
-pub mod StopLemmas
-pub mod RouteLemmas
-pub mod TripLemmas
-pub mod FrequencyLemmas
-pub mod RepeatLemmas
 pub mod FeedLemmas
 pub mod FeedFacts
 pub mod RepeatFacts

@@ -1,6 +1,5 @@
 -- The rows of frequencies of a feed's trips are within their bounds, and their lines rise.
-use Rattle.std.proofs.Common.{◌≡◌, ℕ, ◌+◌, ◌<◌, ◌≤◌, ◌==◌, Bool, true, false, List, [], map, length, slice_index_or, Option, Some, None, if◌then◌else◌, filter, refl}
-use Rattle.std.proofs.Common.{sym, ap, ◌∙◌, subst, arith, ⊎_elim}
+use Rattle.std.proofs.Common.{◌≡◌, ℕ, ◌+◌, ◌<◌, ◌≤◌, ◌==◌, Bool, true, false, List, [], map, length, slice_index_or, Option, Some, None, if◌then◌else◌, filter, refl, sym, ap, ◌∙◌, subst, arith, ⊎_elim}
 use Rattle.std.specs.Prelude.{Result, Ok, Err, option_and_then}
 use Rattle.std.specs.List.{AllPairs}
 use Rattle.std.proofs.lemmas.Bool.{cases_lt, eq-eqb}
@@ -15,25 +14,25 @@ use Rattle.csv_rows.specs.declared.columns.Column.TheVariants.{TripId, StartTime
 use Rattle.csv_rows.specs.declared.feed_tables.Table.TheVariants.{Frequencies}
 use Rattle.csv_rows.specs.declared.feed_tables.FeedFault.{FeedFault}
 use Rattle.csv_rows.specs.declared.feed_tables.FeedFault.TheVariants.{BadField, UnknownKey}
-use Rattle.csv_rows.specs.declared.loading.Loaded.{Loaded}
-use Rattle.csv_rows.specs.declared.loading.Loaded.TheVariants.{Absent, NoRecord, Found}
+use Rattle.table_files.specs.declared.loading.Loaded.{Loaded}
+use Rattle.table_files.specs.declared.loading.Loaded.TheVariants.{Absent, NoRecord, Found}
 use Rattle.csv_rows.specs.First.{first_below}
-use Rattle.csv_rows.specs.Loading.{loaded_rows}
+use Rattle.table_files.specs.Loading.{loaded_rows}
 use Rattle.csv_rows.specs.Names.{name_in}
 use Rattle.csv_rows.specs.Tables.{row_count, place_in, field, field_at}
 use Rattle.csv_rows.proofs.FirstLemmas.{first-zero, none-both, none-each}
 use Rattle.csv_rows.proofs.ListLemmas.{length-list_below, get-list_below}
-use Rattle.gtfs_tables.specs.declared.frequencies.FrequencyRow.{FrequencyRow}
-use Rattle.gtfs_tables.specs.declared.frequencies.TripFrequency.{TripFrequency}
-use Rattle.gtfs_tables.specs.Bounds.{most_headway}
+use Rattle.trip_frequencies.specs.declared.frequencies.FrequencyRow.{FrequencyRow}
+use Rattle.trip_frequencies.specs.declared.frequencies.TripFrequency.{TripFrequency}
+use Rattle.trip_frequencies.specs.Bounds.{most_headway}
 use Rattle.gtfs_tables.specs.Feeds.{FeedParts, IsSoundFeed}
-use Rattle.gtfs_tables.specs.Forms.{headway_in, is_exact_in}
-use Rattle.gtfs_tables.specs.Frequencies.{frequency_from, frequency_columns, frequency_at, frequency_rows, bad_frequency, no_frequency, frequencies_fault, fault_of_frequencies, repeats_of}
+use Rattle.trip_frequencies.specs.Forms.{headway_in, is_exact_in}
+use Rattle.trip_frequencies.specs.Frequencies.{frequency_from, frequency_columns, frequency_at, frequency_rows, bad_frequency, no_frequency, frequencies_fault, fault_of_frequencies, repeats_of}
 use Rattle.gtfs_tables.specs.Repeats.{IsFrequency, AreRepeats, AreRepeating}
-use Rattle.gtfs_tables.specs.Trips.{trip_ids}
-use Rattle.gtfs_tables.proofs.FrequencyLemmas.{frequency_count}
+use Rattle.feed_lists.specs.Trips.{trip_ids}
+use Rattle.trip_frequencies.proofs.FrequencyLemmas.{frequency_count}
 use Rattle.stop_times.proofs.RowForms.{time_below}
-use Rattle.stop_times.proofs.RowLemmas.{whole_bound}
+use Rattle.clock_text.proofs.DigitLemmas.{whole_bound}
 use Rattle.plan_model.proofs.Results.{require-ok}
 
 -- a row of this line that is within its bounds

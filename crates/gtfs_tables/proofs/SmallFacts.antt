@@ -5,9 +5,10 @@ use Rattle.std.proofs.lemmas.Bool.Decides.{nat_tests}
 use Rattle.std.proofs.lemmas.List.Sums.{sum_by_push}
 use Rattle.csv_rows.specs.Lists.{list_below}
 use Rattle.csv_rows.proofs.ListLemmas.{list_below-zero, list_below-next, length-list_below}
-use Rattle.gtfs_tables.specs.declared.frequencies.FrequencyRow.{FrequencyRow}
+use Rattle.trip_frequencies.specs.declared.frequencies.FrequencyRow.{FrequencyRow}
 use Rattle.gtfs_tables.specs.declared.feed.Feed.TheInside.{Inside}
-use Rattle.gtfs_tables.specs.Repeats.{IsSmall, repeats_in, all_repeats_in}
+use Rattle.gtfs_tables.specs.Repeats.{IsSmall}
+use Rattle.trip_frequencies.specs.Repeats.{repeats_in, all_repeats_in}
 use Rattle.gtfs_tables.specs.FeedInside.{parts_of, IsWhole}
 
 abbrev total : List ℕ → List FrequencyRow → ℕ → ℕ

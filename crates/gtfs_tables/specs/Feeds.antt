@@ -1,40 +1,27 @@
 -- The feed of a folder, or the first of its faults: the tables come in their order, and each is whole before the next is looked at.
 use Rattle.std.specs.Prelude.{◌≡◌, ℕ, ◌<◌, List, [], length, slice_index_or, Option, None, Result, Ok, Err, IfSome}
-use Rattle.plan_model.specs.Results.{and_then, unless}
+use Rattle.plan_model.specs.Results.{and_then}
 use Rattle.file_ports.specs.Ports.{Folder}
 use Rattle.csv_rows.specs.declared.columns.Column.TheVariants.{StopId, RouteId}
 use Rattle.csv_rows.specs.declared.feed_tables.Table.{Table}
 use Rattle.csv_rows.specs.declared.feed_tables.Table.TheVariants.{Stops, Routes, Trips, StopTimes, Frequencies, Calendar, CalendarDates, Transfers}
 use Rattle.csv_rows.specs.declared.feed_tables.FeedFault.{FeedFault}
 use Rattle.csv_rows.specs.declared.limits.Limits.{Limits}
-use Rattle.csv_rows.specs.declared.loading.Loaded.{Loaded}
+use Rattle.table_files.specs.declared.loading.Loaded.{Loaded}
 use Rattle.csv_rows.specs.FeedTables.{table_of_fault}
-use Rattle.csv_rows.specs.Loading.{load_in, loaded_rows}
+use Rattle.table_files.specs.Loading.{load_in, loaded_rows}
 use Rattle.csv_rows.specs.Tables.{row_count}
-use Rattle.gtfs_tables.specs.declared.frequencies.FrequencyRow.{FrequencyRow}
+use Rattle.trip_frequencies.specs.declared.frequencies.FrequencyRow.{FrequencyRow}
 use Rattle.stop_times.specs.declared.rows.StopRow.{StopRow}
-use Rattle.stop_times.specs.Required.{Records, required}
-use Rattle.gtfs_tables.specs.Stops.{stop_ids, stop_places, stops_fault}
-use Rattle.gtfs_tables.specs.Routes.{route_ids, route_types, routes_fault}
-use Rattle.gtfs_tables.specs.Trips.{trip_ids, trip_routes, trip_services, trip_types, trips_fault}
+use Rattle.table_files.specs.Required.{Records, required}
+use Rattle.feed_lists.specs.Lists.{stops_from, routes_from, trips_from}
+use Rattle.feed_lists.specs.Stops.{stop_ids, stop_places, stops_fault}
+use Rattle.feed_lists.specs.Routes.{route_ids, route_types, routes_fault}
+use Rattle.feed_lists.specs.Trips.{trip_ids, trip_routes, trip_services, trip_types, trips_fault}
 use Rattle.stop_times.specs.StopTimes.{timed_rows, stop_times_fault}
 use Rattle.stop_times.specs.Visits.{AreStopTimes}
 use Rattle.stop_times.specs.Timetables.{stop_times_from}
-use Rattle.gtfs_tables.specs.Frequencies.{frequency_rows, fault_of_frequencies, all_repeats_of}
-
--- each table by what was loaded of it
-abbrev pub stops_from : Result Loaded FeedFault → Result Records FeedFault
-stops_from loaded = and_then (required Stops StopId loaded) (λ t. unless (stops_fault t) t)
-
-abbrev pub routes_from : Result Loaded FeedFault → Result Records FeedFault
-routes_from loaded = and_then (required Routes RouteId loaded) (λ t. unless (routes_fault t) t)
-
-abbrev pub trips_from : Result Loaded FeedFault → List (List ℕ) → Result Records FeedFault
-trips_from loaded routes = and_then (required Trips RouteId loaded) (λ t. unless (trips_fault routes t) t)
-
--- the frequencies may be absent, or have no record
-abbrev pub frequencies_from : Result Loaded FeedFault → List (List ℕ) → Result Loaded FeedFault
-frequencies_from loaded trips = and_then loaded (λ l. unless (fault_of_frequencies trips l) l)
+use Rattle.trip_frequencies.specs.Frequencies.{frequency_rows, fault_of_frequencies, frequencies_from, all_repeats_of}
 
 -- the tables of a feed
 pub record Tables : Type 0 where
@@ -95,24 +82,6 @@ pub record IsFeed (t : Tables) (f : FeedParts) : Type 0 where
 abbrev pub IsFeedOf : Result Tables FeedFault → FeedParts → Type 0
 IsFeedOf (Ok t) f = IsFeed t f
 IsFeedOf (Err fault) f = ⊥
-
--- what was read of each table
-abbrev pub AreStops : Result Records FeedFault → List (List ℕ) → List ℕ → Type 0
-AreStops (Ok t) ids places = (ids ≡ stop_ids t) × (places ≡ stop_places t)
-AreStops (Err fault) ids places = ⊥
-
-abbrev pub AreRoutes : Result Records FeedFault → List (List ℕ) → List ℕ → Type 0
-AreRoutes (Ok t) ids types = (ids ≡ route_ids t) × (types ≡ route_types t)
-AreRoutes (Err fault) ids types = ⊥
-
-abbrev pub AreTrips : (routes : List (List ℕ)) (types : List ℕ) → Result Records FeedFault → (ids services : List (List ℕ)) (types_of routes_of : List ℕ) → Type 0
-AreTrips routes types (Ok t) ids services types_of routes_of =
-    (ids ≡ trip_ids t) × (services ≡ trip_services routes t) × (types_of ≡ trip_types routes types t) × (routes_of ≡ trip_routes routes t)
-AreTrips routes types (Err fault) ids services types_of routes_of = ⊥
-
-abbrev pub AreFrequencies : (trips : List (List ℕ)) → Result Loaded FeedFault → List (List FrequencyRow) → Type 0
-AreFrequencies trips (Ok l) rows = rows ≡ all_repeats_of (frequency_rows trips (loaded_rows l)) (length trips)
-AreFrequencies trips (Err fault) rows = ⊥
 
 -- whatever the files tell, a feed is that of some tables with no fault
 pub record IsSoundFeed (f : FeedParts) : Type 0 where

@@ -1,12 +1,5 @@
-pub mod Bounds
-pub mod Forms
-pub mod Stops
-pub mod Routes
-pub mod Trips
-pub mod Frequencies
 pub mod Repeats
 pub mod Feeds
-pub mod Lists
 pub mod Parts
 pub mod FeedInside
 pub mod Timed

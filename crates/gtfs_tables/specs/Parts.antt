@@ -5,21 +5,18 @@ use Rattle.plan_model.specs.NameLists.{texts}
 use Rattle.csv_rows.specs.declared.feed_tables.Table.{Table}
 use Rattle.csv_rows.specs.declared.feed_tables.Table.TheVariants.{Stops, Routes, Trips, StopTimes, Frequencies}
 use Rattle.csv_rows.specs.declared.feed_tables.FeedFault.{FeedFault}
-use Rattle.csv_rows.specs.declared.loading.Loaded.{Loaded}
+use Rattle.table_files.specs.declared.loading.Loaded.{Loaded}
 use Rattle.gtfs_tables.specs.declared.lists.FeedLists.{FeedLists}
-use Rattle.gtfs_tables.specs.Lists.{HasStops, HasRoutes, HasTrips, AreSoundStops, AreSoundRoutes, AreSoundTrips}
+use Rattle.feed_lists.specs.Lists.{HasStops, HasRoutes, HasTrips, AreSoundStops, AreSoundRoutes, AreSoundTrips, stops_from, routes_from, trips_from}
 use Rattle.gtfs_tables.specs.declared.times.TripTimes.{TripTimes}
 use Rattle.stop_times.specs.Bounds.{most_stop_times}
-use Rattle.gtfs_tables.specs.Bounds.{most_frequencies}
-use Rattle.stop_times.specs.Required.{Records}
-use Rattle.stop_times.specs.Timetables.{stop_times_from}
-use Rattle.gtfs_tables.specs.Feeds.{FeedParts, stops_from, routes_from, trips_from, frequencies_from}
-use Rattle.stop_times.specs.Required.{IsSound}
-use Rattle.stop_times.specs.Timetables.{AreVisits}
-use Rattle.gtfs_tables.specs.Feeds.{AreFrequencies}
+use Rattle.trip_frequencies.specs.Bounds.{most_frequencies}
+use Rattle.table_files.specs.Required.{Records, IsSound}
+use Rattle.stop_times.specs.Timetables.{stop_times_from, AreVisits}
+use Rattle.gtfs_tables.specs.Feeds.{FeedParts}
+use Rattle.trip_frequencies.specs.Frequencies.{frequencies_from, AreFrequencies, fault_of_frequencies}
 use Rattle.stop_times.specs.StopTimes.{stop_times_fault}
-use Rattle.gtfs_tables.specs.Frequencies.{fault_of_frequencies}
-use Rattle.gtfs_tables.specs.Repeats.{all_repeats_in}
+use Rattle.trip_frequencies.specs.Repeats.{all_repeats_in}
 
 -- the parts of a feed
 abbrev pub parts_by : FeedLists → TripTimes → FeedParts

@@ -1,11 +1,10 @@
--- What holds of the rows of frequencies of the trips of a feed, and how they are kept.
-use Rattle.std.specs.Prelude.{◌≡◌, ℕ, ◌==◌, ◌<◌, ◌≤◌, List, [], ◌∷◌, length, slice_index, slice_index_or, All, sum_by, if◌then◌else◌}
-use Rattle.csv_rows.specs.Lists.{list_below}
-use Rattle.gtfs_tables.specs.declared.frequencies.FrequencyRow.{FrequencyRow}
+-- What holds of the rows of frequencies of the trips of a feed.
+use Rattle.std.specs.Prelude.{◌≡◌, ℕ, ◌<◌, ◌≤◌, List, [], length, slice_index_or, All, sum_by}
+use Rattle.trip_frequencies.specs.declared.frequencies.FrequencyRow.{FrequencyRow}
 use Rattle.stop_times.specs.Bounds.{end_of_times, most_stop_times}
-use Rattle.gtfs_tables.specs.Bounds.{most_headway, most_frequencies}
+use Rattle.trip_frequencies.specs.Bounds.{most_headway, most_frequencies}
 use Rattle.gtfs_tables.specs.Feeds.{FeedParts}
-use Rattle.gtfs_tables.specs.Frequencies.{no_frequency}
+use Rattle.trip_frequencies.specs.Frequencies.{no_frequency}
 
 -- its headway and its times are within their bounds
 pub record IsFrequency (row : FrequencyRow) : Type 0 where
@@ -31,21 +30,3 @@ pub record IsSmall (f : FeedParts) : Type 0 where
   pub rows : (trip : ℕ) → trip < length f.trip_ids → length (slice_index_or f.stop_times trip []) ≤ most_stop_times
   pub size : length f.frequencies ≡ length f.trip_ids
   pub frequencies : sum_by length f.frequencies ≤ most_frequencies
-
--- the trips from one place to another are this one, those before are earlier ones, and those after later ones
-pub record IsTripSpan (trips : List ℕ) (trip low high : ℕ) : Type 0 where
-  pub order : low ≤ high
-  pub inside : high ≤ length trips
-  pub before : (k : ℕ) → k < low → slice_index trips k < trip
-  pub here : (k : ℕ) → low ≤ k → k < high → slice_index trips k ≡ trip
-  pub after : (k : ℕ) → high ≤ k → k < length trips → trip < slice_index trips k
-
--- the rows of a trip among rows that stand beside the numbers of their trips
-abbrev pub repeats_in : List ℕ → List FrequencyRow → ℕ → List FrequencyRow
-repeats_in [] rows trip = []
-repeats_in (t ∷ trips) [] trip = []
-repeats_in (t ∷ trips) (row ∷ rows) trip = if t == trip then row ∷ repeats_in trips rows trip else repeats_in trips rows trip
-
--- the same of each of so many trips
-abbrev pub all_repeats_in : List ℕ → List FrequencyRow → ℕ → List (List FrequencyRow)
-all_repeats_in trips rows count = list_below (repeats_in trips rows) count

@@ -1,8 +1,7 @@
 //! A feed.
 ghost use Rattle.std.specs.Prelude.{◌≡◌};
-ghost use Rattle.gtfs_tables.specs.Bounds.{most_stops, most_trips};
+ghost use Rattle.feed_lists.specs.Bounds.{most_stops, most_trips};
 
-use crate::frequencies::FrequencyRow;
 use crate::lists::{FeedLists, load_lists};
 use crate::times::{TripTimes, load_times};
 use csv_rows::{FeedFault, Limits};
@@ -11,6 +10,7 @@ use plan_model::{HashKey, PlaceId};
 use std::alloc::Global;
 use std::marker::Model;
 use stop_times::StopRow;
+use trip_frequencies::FrequencyRow;
 
 /// The stops, trips, stop times and frequencies of a feed (GTFS Schedule reference). A time counts in seconds from noon
 /// minus twelve hours of the service day.
@@ -46,7 +46,7 @@ impl Feed {
     ghost use Rattle.csv_rows.specs.FeedTables.{unread_of};
     ghost use Rattle.csv_rows.specs.Ids.{AreIds};
     ghost use Rattle.csv_rows.specs.Limits.{AreWithin};
-    ghost use Rattle.csv_rows.specs.Loading.{HasFeedCause, HasFeedPathCause};
+    ghost use Rattle.table_files.specs.Loading.{HasFeedCause, HasFeedPathCause};
     ghost use Rattle.csv_rows.specs.Tables.{place_in};
     ghost use Rattle.gtfs_tables.specs.Feeds.{tables_in, IsFeedOf, IsFeedTableFault, IsSoundFeed};
     ghost use Rattle.gtfs_tables.specs.Repeats.{AreRepeating, IsSmall};

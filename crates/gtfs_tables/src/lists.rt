@@ -2,15 +2,12 @@
 ghost use Rattle.std.specs.Prelude.{◌≡◌, ◌≢◌, None, Err, IfOk, IfErr, IfSome, IsSome};
 ghost use Rattle.csv_rows.specs.FeedTables.{unread_of};
 ghost use Rattle.csv_rows.specs.Limits.{AreWithin};
-ghost use Rattle.csv_rows.specs.Loading.{HasFeedCause, HasFeedPathCause, load_in};
+ghost use Rattle.table_files.specs.Loading.{HasFeedCause, HasFeedPathCause, load_in};
 ghost use Rattle.gtfs_tables.specs.Feeds.{tables_in, IsFeedTableFault};
 ghost use Rattle.gtfs_tables.specs.Parts.{AreLists, AreSoundLists};
 
-use crate::routes::Routes;
-use crate::stops::Stops;
-use crate::tables::{load_routes, load_stops, load_trips};
-use crate::trips::Trips;
 use csv_rows::{FeedFault, Limits};
+use feed_lists::{Routes, Stops, Trips, load_routes, load_stops, load_trips};
 use file_ports::Files;
 use std::alloc::Global;
 

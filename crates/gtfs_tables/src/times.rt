@@ -2,17 +2,17 @@
 ghost use Rattle.std.specs.Prelude.{◌≡◌, ◌≢◌, None, Err, IfOk, IfErr, IfSome, IsSome, length};
 ghost use Rattle.csv_rows.specs.FeedTables.{unread_of};
 ghost use Rattle.csv_rows.specs.Limits.{AreWithin};
-ghost use Rattle.csv_rows.specs.Loading.{HasFeedCause, HasFeedPathCause, load_in};
+ghost use Rattle.table_files.specs.Loading.{HasFeedCause, HasFeedPathCause, load_in};
 ghost use Rattle.gtfs_tables.specs.Feeds.{tables_in, IsFeedTableFault};
 ghost use Rattle.gtfs_tables.specs.Parts.{AreLists, AreTimes, AreSoundTimes};
 
 use crate::lists::FeedLists;
-use crate::repeats::Repeats;
-use crate::tables::{load_frequencies, load_stop_times};
+use crate::tables::load_stop_times;
 use csv_rows::{FeedFault, Limits};
 use file_ports::Files;
 use std::alloc::Global;
 use stop_times::StopTimes;
+use trip_frequencies::{Repeats, load_frequencies};
 
 /// The kept rows of the stop times of each trip, and how the trips repeat.
 pub(crate) struct TripTimes {

@@ -4,7 +4,7 @@ use Rattle.std.specs.Prelude.{IsErrOf, IsOk, IsOkAnd}
 use Rattle.std.proofs.lemmas.Bool.{cases_lt}
 use Rattle.csv_rows.specs.declared.feed_tables.FeedFault.{FeedFault}
 use Rattle.csv_rows.specs.declared.feed_tables.FeedFault.TheVariants.{Read}
-use Rattle.csv_rows.specs.Loading.{HasFeedCause, HasFeedPathCause}
+use Rattle.table_files.specs.Loading.{HasFeedCause, HasFeedPathCause}
 
 same_fault : {T U : Type 0} (a b : FeedFault) → IsErrOf {T = T} (Err a) b → IsErrOf {T = U} (Err a) b
 same_fault a b is = let same : a ≡ b = (cc) in cc

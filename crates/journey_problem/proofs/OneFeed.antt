@@ -6,8 +6,8 @@ use Rattle.csv_rows.specs.Tables.{row_count}
 use Rattle.csv_rows.specs.declared.feed_tables.FeedFault.{FeedFault}
 use Rattle.stop_times.specs.declared.rows.StopRow.{StopRow}
 use Rattle.stop_times.specs.StopTimes.{row_at, is_kept, timed_rows}
-use Rattle.gtfs_tables.specs.Stops.{stop_ids, stop_places}
-use Rattle.gtfs_tables.specs.Trips.{trip_ids}
+use Rattle.feed_lists.specs.Stops.{stop_ids, stop_places}
+use Rattle.feed_lists.specs.Trips.{trip_ids}
 use Rattle.stop_times.specs.Visits.{no_visit, IsVisit, AreStopTimes}
 use Rattle.gtfs_tables.specs.Feeds.{FeedParts, Tables, IsFeed, IsFeedOf}
 use Rattle.journey_problem.proofs.OneOrder.{Enumerates, agree, same_size}

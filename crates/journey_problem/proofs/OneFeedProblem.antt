@@ -7,7 +7,7 @@ use Rattle.file_ports.specs.Ports.{Folder, file_at}
 use Rattle.csv_rows.specs.declared.limits.Limits.{Limits}
 use Rattle.csv_rows.specs.declared.feed_tables.FeedFault.{FeedFault}
 use Rattle.delay_table.specs.DelayLists.{DelayLists}
-use Rattle.stop_times.specs.Required.{Records}
+use Rattle.table_files.specs.Required.{Records}
 use Rattle.gtfs_tables.specs.Feeds.{FeedParts, tables_in}
 use Rattle.service_days.specs.Services.{ServiceParts, runs}
 use Rattle.service_days.specs.Calendars.{Calendars, calendars_in, RunsBy}

@@ -5,7 +5,7 @@ use mathlib.Core.Path.{fun_ext}
 use Rattle.file_ports.specs.Ports.{Folder, file_at}
 use Rattle.csv_rows.specs.declared.limits.Limits.{Limits}
 use Rattle.csv_rows.specs.FeedTables.{path_of}
-use Rattle.csv_rows.specs.Loading.{load_of}
+use Rattle.table_files.specs.Loading.{load_of}
 use Rattle.csv_rows.specs.declared.feed_tables.Table.TheVariants.{Calendar, CalendarDates, Transfers}
 use Rattle.gtfs_tables.specs.Feeds.{tables_in, tables_from, IsFeedOf}
 use Rattle.service_days.specs.Services.{runs}

@@ -1,7 +1,7 @@
 //! A journey over a feed.
 ghost use Rattle.std.specs.Prelude.{◌≡◌, ◌≢◌, ◌<◌, ◌≤◌, ℕ, List as Bytes, length, None, Some, IsSome, IfSome, IfOk, IfErr, OnOk};
 ghost use Rattle.csv_rows.specs.Limits.{AreWithin};
-ghost use Rattle.csv_rows.specs.Loading.{HasFeedCause, HasFeedPathCause};
+ghost use Rattle.table_files.specs.Loading.{HasFeedCause, HasFeedPathCause};
 ghost use Rattle.change_times.specs.Transfers.{place_of_stop};
 ghost use Rattle.change_times.specs.Changes.{LinksComeFrom};
 ghost use Rattle.connections.specs.Cut.{IsNetworkFrom};

@@ -1,7 +1,7 @@
 -- How many departures are before a second, by a quotient.
 use Rattle.std.proofs.Common.{ℕ, ◌+◌, ◌-◌, ◌*◌, ◌/◌, ◌<◌, ◌≤◌, ◌↔◌, arith}
 use Rattle.std.proofs.Math.Nat.{le-div_iff_mul-le}
-use Rattle.gtfs_tables.specs.declared.frequencies.FrequencyRow.{FrequencyRow}
+use Rattle.trip_frequencies.specs.declared.frequencies.FrequencyRow.{FrequencyRow}
 use Rattle.run_repeat.specs.Runs.{AreBelow, departure}
 
 pub none-before : (row : FrequencyRow) (second : ℕ) → second ≤ row.first → AreBelow 0 (λ k. departure row k < second)

@@ -1,7 +1,7 @@
 -- The runs of a trip that repeats, by one of its rows.
 use Rattle.std.specs.Prelude.{ℕ, ℤ, pos, ◌+◌, ◌*◌, ◌<◌, ◌<ℤ◌, ◌≤ℤ◌}
 use Rattle.stop_times.specs.Bounds.{end_of_times}
-use Rattle.gtfs_tables.specs.declared.frequencies.FrequencyRow.{FrequencyRow}
+use Rattle.trip_frequencies.specs.declared.frequencies.FrequencyRow.{FrequencyRow}
 
 -- each departs a headway after the one before, from the row's start on
 abbrev pub departure : FrequencyRow → ℕ → ℕ

@@ -6,10 +6,10 @@ use Rattle.file_ports.specs.Ports.{Folder, file_at}
 use Rattle.csv_rows.specs.declared.feed_tables.Table.TheVariants as table
 use Rattle.csv_rows.specs.declared.feed_tables.FeedFault.{FeedFault}
 use Rattle.csv_rows.specs.declared.feed_tables.FeedFault.TheVariants as fault
-use Rattle.csv_rows.specs.declared.loading.Loaded.{Loaded}
+use Rattle.table_files.specs.declared.loading.Loaded.{Loaded}
 use Rattle.csv_rows.specs.declared.limits.Limits.{Limits}
 use Rattle.csv_rows.specs.FeedTables.{path_of, rank_of, unread_of, is_unread, IsFaultOf}
-use Rattle.csv_rows.specs.Loading.{loaded_file, load_in, loaded_rows}
+use Rattle.table_files.specs.Loading.{loaded_file, load_in, loaded_rows}
 use Rattle.service_days.specs.declared.periods.Period.{Period}
 use Rattle.service_days.specs.declared.exceptions.Exception.{Exception}
 use Rattle.csv_rows.specs.Tables.{row_count}

@@ -5,14 +5,14 @@ use Rattle.csv_rows.specs.declared.feed_tables.Table.{Table}
 use Rattle.csv_rows.specs.declared.feed_tables.Table.TheVariants.{Calendar, CalendarDates}
 use Rattle.csv_rows.specs.declared.feed_tables.FeedFault.{FeedFault}
 use Rattle.csv_rows.specs.declared.feed_tables.FeedFault.TheVariants.{MissingTable}
-use Rattle.csv_rows.specs.declared.loading.Loaded.{Loaded}
-use Rattle.csv_rows.specs.declared.loading.Loaded.TheVariants.{Found}
+use Rattle.table_files.specs.declared.loading.Loaded.{Loaded}
+use Rattle.table_files.specs.declared.loading.Loaded.TheVariants.{Found}
 use Rattle.csv_rows.specs.declared.limits.Limits.{Limits}
 use Rattle.file_ports.specs.Ports.{Folder}
 use Rattle.csv_rows.specs.declared.columns.Column.TheVariants.{ServiceId}
 use Rattle.csv_rows.specs.FeedTables.{table_of_fault}
 use Rattle.csv_rows.specs.First.{first_below, any_below}
-use Rattle.csv_rows.specs.Loading.{load_in, loaded_rows}
+use Rattle.table_files.specs.Loading.{load_in, loaded_rows}
 use Rattle.csv_rows.specs.RowFaults.{repeated_id}
 use Rattle.csv_rows.specs.Tables.{row_count, field}
 use Rattle.service_days.specs.Periods.{runs_in_row, service_ids, periods_of, calendar_fault}

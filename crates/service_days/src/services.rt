@@ -2,7 +2,7 @@
 ghost use Rattle.std.specs.Prelude.{◌≡◌, ◌≢◌, ℕ, ℤ, None, Some, Err, IfOk, IfErr, IfSome, IsOkAnd, IsSome, ◌<◌, ◌+ℤ◌, pos, filter};
 ghost use Rattle.csv_rows.specs.FeedTables.{unread_of};
 ghost use Rattle.csv_rows.specs.Limits.{AreWithin};
-ghost use Rattle.csv_rows.specs.Loading.{HasFeedCause, HasFeedPathCause};
+ghost use Rattle.table_files.specs.Loading.{HasFeedCause, HasFeedPathCause};
 ghost use Rattle.service_days.specs.Services.{period_runs, runs};
 ghost use Rattle.service_days.specs.Days.{day_count, days_between};
 ghost use Rattle.service_days.specs.Calendars.{calendars_in, RunsBy, IsCalendarFault};

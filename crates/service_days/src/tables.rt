@@ -3,7 +3,7 @@ ghost use Rattle.std.specs.Prelude.{◌≡◌, ◌≢◌, ◌≤◌, ◌^◌, �
 ghost use Rattle.csv_rows.specs.declared.feed_tables.Table.TheVariants.{Calendar as CalendarTable, CalendarDates as DatesTable};
 ghost use Rattle.csv_rows.specs.FeedTables.{unread_of, IsFaultOf};
 ghost use Rattle.csv_rows.specs.Limits.{AreWithin};
-ghost use Rattle.csv_rows.specs.Loading.{HasAtMost, HasFeedCause, HasFeedPathCause, load_in, loaded_rows};
+ghost use Rattle.table_files.specs.Loading.{HasAtMost, HasFeedCause, HasFeedPathCause, load_in, loaded_rows};
 ghost use Rattle.csv_rows.specs.Tables.{row_count};
 ghost use Rattle.service_days.specs.Periods.{service_ids, periods_of};
 ghost use Rattle.service_days.specs.Numbered.{AreNumbered};
@@ -11,11 +11,12 @@ ghost use Rattle.service_days.specs.Calendars.{is_missing, fault_of_calendar, fa
 
 use crate::exceptions::{Numbered, read_exceptions};
 use crate::periods::{Calendar, read_calendar};
-use csv_rows::{FeedFault, Ids, Limits, Loaded, Table, read_table};
+use csv_rows::{FeedFault, Ids, Limits, Table};
 use file_ports::Files;
 use indexmap::IndexSet;
 use plan_model::HashKey;
 use std::alloc::Global;
+use table_files::{Loaded, read_table};
 
 /// The calendar, and whether its table is absent.
 #[derive(Drop)]

@@ -1,6 +1,5 @@
 -- What the form of a row of stop times tells.
-use Rattle.std.proofs.Common.{◌≡◌, ℕ, ◌+◌, ◌*◌, ◌<◌, ◌≤◌, ◌-◌, ◌==◌, nat_eq, nat_le, nat_lt, ◌&&◌, Bool, true, false, List, [], length, take, drop, slice_index, slice_index_or, Option}
-use Rattle.std.proofs.Common.{Some, None, IfSome, option_map, if◌then◌else◌, refl, sym, subst, arith}
+use Rattle.std.proofs.Common.{◌≡◌, ℕ, ◌+◌, ◌*◌, ◌<◌, ◌≤◌, ◌-◌, ◌==◌, nat_eq, nat_le, nat_lt, ◌&&◌, Bool, true, false, List, [], length, take, drop, slice_index, slice_index_or, Option, Some, None, IfSome, option_map, if◌then◌else◌, refl, sym, subst, arith}
 use Rattle.std.specs.Prelude.{Result, Ok, Err}
 use Rattle.std.specs.List.{list_all}
 use Rattle.std.specs.Char.{is_ascii_digit}
@@ -14,14 +13,14 @@ use Rattle.csv_rows.specs.declared.columns.Column.TheVariants.{TripId, StopId, S
 use Rattle.csv_rows.specs.declared.feed_tables.Table.TheVariants.{StopTimes}
 use Rattle.csv_rows.specs.declared.feed_tables.FeedFault.{FeedFault}
 use Rattle.csv_rows.specs.declared.feed_tables.FeedFault.TheVariants.{BadField, UnknownKey}
-use Rattle.csv_rows.specs.Names.{name_in}
+use Rattle.csv_rows.specs.Names.{name_in, text_in}
 use Rattle.csv_rows.specs.Records.{field_of}
 use Rattle.csv_rows.specs.Tables.{place_in}
 use Rattle.stop_times.specs.declared.rows.StopRow.{StopRow}
 use Rattle.stop_times.specs.declared.rows.TimedRow.{TimedRow}
-use Rattle.stop_times.specs.Forms.{text_in, allows_in, time_in}
+use Rattle.stop_times.specs.Forms.{allows_in, time_in}
 use Rattle.stop_times.specs.StopTimes.{time_columns, number_in, times_of, visit_of, timed_from, timed_at, no_row}
-use Rattle.stop_times.proofs.RowLemmas.{whole_bound}
+use Rattle.clock_text.proofs.DigitLemmas.{whole_bound}
 use Rattle.csv_rows.proofs.RowLemmas.{place_inside}
 use Rattle.stop_times.specs.Bounds.{end_of_times}
 use Rattle.plan_model.proofs.Results.{require-each}

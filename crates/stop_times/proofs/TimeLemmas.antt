@@ -1,6 +1,5 @@
 -- The rows of stop times.
-use Rattle.std.proofs.Common.{◌≡◌, ◌≢◌, ℕ, ◌+◌, ◌<◌, ◌≤◌, ◌==◌, nat_lt, Bool, true, false, List, [], length, slice_index_or, Option, Some, None, if◌then◌else◌}
-use Rattle.std.proofs.Common.{refl, sym, ap, ◌∙◌, subst, arith}
+use Rattle.std.proofs.Common.{◌≡◌, ◌≢◌, ℕ, ◌+◌, ◌<◌, ◌≤◌, ◌==◌, nat_lt, Bool, true, false, List, [], length, slice_index_or, Option, Some, None, if◌then◌else◌, refl, sym, ap, ◌∙◌, subst, arith}
 use Rattle.std.specs.Prelude.{Result, Ok, Err}
 use Rattle.std.proofs.lemmas.Bool.Decides.{nat_tests}
 use Rattle.plan_model.specs.Results.{and_then, unless, value_or}
@@ -8,14 +7,14 @@ use Rattle.csv_rows.specs.declared.columns.Column.TheVariants.{TripId}
 use Rattle.csv_rows.specs.declared.feed_tables.FeedFault.{FeedFault}
 use Rattle.csv_rows.specs.declared.feed_tables.FeedFault.TheVariants.{MissingColumn, TooManyRows, NoMemory}
 use Rattle.csv_rows.specs.declared.feed_tables.Table.TheVariants.{StopTimes}
-use Rattle.csv_rows.specs.declared.loading.Loaded.TheVariants.{NoRecord, Found}
-use Rattle.csv_rows.specs.Loading.{loaded_from}
+use Rattle.table_files.specs.declared.loading.Loaded.TheVariants.{NoRecord, Found}
+use Rattle.table_files.specs.Loading.{loaded_from}
 use Rattle.csv_rows.specs.Tables.{row_count}
 use Rattle.stop_times.specs.declared.rows.TimeColumns.{TimeColumns}
 use Rattle.stop_times.specs.declared.rows.TimedRow.{TimedRow}
 use Rattle.csv_rows.specs.First.{first_below}
 use Rattle.stop_times.specs.declared.rows.StopRow.{StopRow}
-use Rattle.stop_times.specs.Required.{Records, required}
+use Rattle.table_files.specs.Required.{Records, required}
 use Rattle.stop_times.specs.Timetables.{stop_times_from, AreVisits}
 use Rattle.stop_times.specs.Visits.{AreStopTimes}
 use Rattle.stop_times.specs.StopTimes.{time_columns, timed_of, timed_in, timed_at, bad_time, timed_rows, no_row, counted_fault, missing_time_column, order_fault, stop_times_fault}

@@ -1,11 +1,7 @@
 -- The forms of the fields of stop times (GTFS Schedule reference).
 use Rattle.std.specs.Prelude.{ℕ, ◌==◌, Bool, true, false, ◌||◌, List, length, Option, Some, None, option_map, if◌then◌else◌, codes}
-use Rattle.std.specs.Str.{bytes_eq, is_utf8}
+use Rattle.std.specs.Str.{bytes_eq}
 use Rattle.clock_text.specs.Times.{time_at}
-
--- a text, which may be empty
-abbrev pub text_in : List ℕ → Option (List ℕ)
-text_in text = if is_utf8 text then Some text else None
 
 -- whether one may board or alight: 1 forbids it
 abbrev pub allows_in : List ℕ → Option Bool

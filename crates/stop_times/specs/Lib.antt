@@ -1,6 +1,5 @@
 pub mod Bounds
 pub mod Forms
-pub mod Required
 pub mod StopTimes
 pub mod StoredRows
 pub mod Keys

@@ -11,7 +11,7 @@ use Rattle.csv_rows.specs.declared.feed_tables.FeedFault.TheVariants.{BadField, 
 use Rattle.csv_rows.specs.Columns.{name_of}
 use Rattle.csv_rows.specs.First.{first_below, any_below}
 use Rattle.csv_rows.specs.Keys.{has_twin, just_precedes}
-use Rattle.csv_rows.specs.Names.{name_in}
+use Rattle.csv_rows.specs.Names.{name_in, text_in}
 use Rattle.csv_rows.specs.Records.{field_of}
 use Rattle.csv_rows.specs.Tables.{header, row_count, place_in}
 use Rattle.stop_times.specs.declared.rows.KnownTrip.{KnownTrip}
@@ -19,7 +19,7 @@ use Rattle.stop_times.specs.declared.rows.StopRow.{StopRow}
 use Rattle.stop_times.specs.declared.rows.TimedRow.{TimedRow}
 use Rattle.stop_times.specs.declared.rows.TimeColumns.{TimeColumns}
 use Rattle.csv_rows.specs.RowFaults.{lack}
-use Rattle.stop_times.specs.Forms.{text_in, allows_in, time_in}
+use Rattle.stop_times.specs.Forms.{allows_in, time_in}
 use Rattle.csv_rows.specs.Lists.{list_below}
 
 -- the number of a stop, or none where the text is empty

@@ -4,9 +4,9 @@ use Rattle.plan_model.specs.Results.{and_then, unless}
 use Rattle.csv_rows.specs.declared.columns.Column.TheVariants.{TripId}
 use Rattle.csv_rows.specs.declared.feed_tables.Table.TheVariants.{StopTimes}
 use Rattle.csv_rows.specs.declared.feed_tables.FeedFault.{FeedFault}
-use Rattle.csv_rows.specs.declared.loading.Loaded.{Loaded}
+use Rattle.table_files.specs.declared.loading.Loaded.{Loaded}
 use Rattle.stop_times.specs.declared.rows.StopRow.{StopRow}
-use Rattle.stop_times.specs.Required.{Records, required}
+use Rattle.table_files.specs.Required.{Records, required}
 use Rattle.stop_times.specs.StopTimes.{timed_rows, stop_times_fault}
 use Rattle.stop_times.specs.Visits.{AreStopTimes}
 

@@ -1,18 +1,8 @@
 //! The forms of the fields of stop times (GTFS Schedule reference).
-ghost use Rattle.std.specs.Prelude.{◌≡◌, option_map};
-ghost use Rattle.stop_times.specs.Forms.{text_in, allows_in, time_in};
+ghost use Rattle.std.specs.Prelude.{◌≡◌};
+ghost use Rattle.stop_times.specs.Forms.{allows_in, time_in};
 
 use clock_text::read_time;
-
-/// A text of UTF-8, which may be empty.
-pub fn read_text(text: &[u8]) -> Option<&str>
-    ensures { option_map (λ s. s.now) result ≡ text_in text.now }
-{
-    match std::str::from_utf8(text) {
-        Ok(text) => Some(text),
-        Err(_) => None,
-    }
-}
 
 /// Whether a `pickup_type` or a `drop_off_type` lets one board or alight.
 pub(crate) fn read_allows(text: &[u8]) -> Option<bool>

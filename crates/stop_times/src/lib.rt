@@ -12,6 +12,5 @@ mod timetable;
 mod visits;
 
 pub use by_trip::StopTimes;
-pub use forms::read_text;
 pub use rows::StopRow;
 pub use timetable::read_stop_times;

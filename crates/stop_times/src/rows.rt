@@ -8,9 +8,9 @@ ghost use Rattle.stop_times.specs.declared.rows.TimedRow.{TimedRow};
 ghost use Rattle.stop_times.specs.StopTimes.{number_in, times_of, visit_of, columns_of, timed_of, missing_time_column, trip_from, stop_from, IsTripOf, IsStopOf, IsKnownIn};
 ghost use Rattle.stop_times.specs.Forms.{time_in};
 
-use crate::forms::{read_allows, read_text, read_time_or_none};
+use crate::forms::{read_allows, read_time_or_none};
 use clock_text::read_whole;
-use csv_rows::{Column, FeedFault, Ids, Record, Table, lack, read_name};
+use csv_rows::{Column, FeedFault, Ids, Record, Table, lack, read_name, read_text};
 use plan_model::{NoMemory, PlaceId};
 use std::alloc::Global;
 

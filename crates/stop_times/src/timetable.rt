@@ -3,12 +3,12 @@ ghost use Rattle.std.specs.Prelude.{◌≡◌, ◌≢◌, ◌<◌, ◌≤◌, �
 ghost use Rattle.csv_rows.specs.declared.feed_tables.Table.TheVariants.{StopTimes as StopTimesTable};
 ghost use Rattle.csv_rows.specs.First.{first_below};
 ghost use Rattle.csv_rows.specs.FeedTables.{unread_of, IsFaultOf};
-ghost use Rattle.csv_rows.specs.Loading.{loaded_from};
+ghost use Rattle.table_files.specs.Loading.{loaded_from};
 ghost use Rattle.csv_rows.specs.Tables.{table_of};
 ghost use Rattle.stop_times.specs.Bounds.{most_stop_times};
 ghost use Rattle.stop_times.specs.Keys.{AreKeysOf};
 ghost use Rattle.stop_times.specs.Timetables.{stop_times_from, AreVisits};
-ghost use Rattle.stop_times.specs.Required.{IsSound};
+ghost use Rattle.table_files.specs.Required.{IsSound};
 ghost use Rattle.stop_times.specs.StopTimes.{repeated_time, order_fault, stop_times_fault};
 ghost use Rattle.stop_times.specs.Visits.{AreStopTimes};
 

@@ -1,6 +1,6 @@
 use Rattle.std.proofs.Common.{sym, subst}
-use Rattle.csv_rows.specs.declared.loading.Loaded.{Loaded}
-use Rattle.csv_rows.specs.Loading.{loaded_rows}
+use Rattle.table_files.specs.declared.loading.Loaded.{Loaded}
+use Rattle.table_files.specs.Loading.{loaded_rows}
 use Rattle.change_times.specs.Changes.{AreChanges}
 use Rattle.change_times.proofs.changes.changes_of.Goals as goal
 

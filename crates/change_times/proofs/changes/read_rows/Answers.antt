@@ -1,6 +1,6 @@
 use Rattle.std.proofs.Common.{◌≡◌, ◌<◌, ℕ, List, length, ap, ◌∙◌, arith}
 use Rattle.plan_model.specs.declared.model.Way.{Way}
-use Rattle.stop_times.specs.Required.{Records}
+use Rattle.table_files.specs.Required.{Records}
 use Rattle.gtfs_tables.specs.Feeds.{FeedParts}
 use Rattle.csv_rows.specs.Tables.{row_count}
 use Rattle.change_times.specs.declared.changes.Told.{Told}

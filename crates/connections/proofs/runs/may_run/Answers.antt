@@ -1,7 +1,7 @@
 use Rattle.std.proofs.Common.{◌≡◌, ◌<ℤ◌, pos, List, [], ◌∷◌, length, refl, arith}
 use Rattle.std.proofs.lemmas.Bool.Decides.{nat_tests}
 use Rattle.std.proofs.lemmas.Int.{ints}
-use Rattle.gtfs_tables.specs.declared.frequencies.FrequencyRow.{FrequencyRow}
+use Rattle.trip_frequencies.specs.declared.frequencies.FrequencyRow.{FrequencyRow}
 use Rattle.connections.specs.Origins.{origin_of_day, moment_of}
 use Rattle.connections.proofs.ReachLemmas.{none_early_all}
 use Rattle.connections.proofs.runs.may_run.Goals as goal

@@ -3,7 +3,7 @@ use Rattle.std.specs.Prelude.{Err}
 use Rattle.std.proofs.lemmas.Result.{IfErr-weaker, on_ok_weaker}
 use Rattle.csv_rows.specs.declared.feed_tables.Table.TheVariants.{StopTimes}
 use Rattle.csv_rows.specs.First.{first_below}
-use Rattle.csv_rows.specs.Loading.{loaded_from}
+use Rattle.table_files.specs.Loading.{loaded_from}
 use Rattle.csv_rows.specs.Tables.{row_count, table_of}
 use Rattle.stop_times.specs.Timetables.{stop_times_from}
 use Rattle.stop_times.specs.StopTimes.{bad_time, counted_fault, missing_time_column, order_fault, stop_times_fault, time_columns, timed_rows}

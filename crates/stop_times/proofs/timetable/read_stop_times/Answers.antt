@@ -1,7 +1,7 @@
 use Rattle.std.proofs.Common.{◌≡◌, List, ℕ, length, ap, ◌∙◌, subst, arith}
 use Rattle.std.specs.Prelude.{Err}
 use Rattle.csv_rows.specs.declared.feed_tables.Table.TheVariants.{StopTimes}
-use Rattle.csv_rows.specs.Loading.{loaded_from}
+use Rattle.table_files.specs.Loading.{loaded_from}
 use Rattle.csv_rows.specs.Tables.{table_of}
 use Rattle.stop_times.specs.Timetables.{stop_times_from, AreVisits}
 use Rattle.stop_times.proofs.TimeLemmas.{timed_rows_are, order_faulty, order_sound, visits_of_rows, visits_of_text}

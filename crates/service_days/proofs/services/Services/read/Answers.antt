@@ -4,7 +4,7 @@ use Rattle.file_ports.specs.Ports.{Folder}
 use Rattle.csv_rows.specs.declared.feed_tables.Table.TheVariants as table
 use Rattle.csv_rows.specs.declared.feed_tables.FeedFault.TheVariants as fault
 use Rattle.csv_rows.specs.FeedTables.{unread_of}
-use Rattle.csv_rows.specs.Loading.{load_in}
+use Rattle.table_files.specs.Loading.{load_in}
 use Rattle.csv_rows.proofs.FaultLemmas.{some_raised}
 use Rattle.service_days.specs.Calendars.{dates_from, AreDates}
 use Rattle.service_days.proofs.ReadLemmas.{calendar_first, dates_first, none_there, services_here}

@@ -1,0 +1,47 @@
+use Rattle.std.proofs.Common.{◌<◌, None, sym, subst, ap, ◌∙◌, arith, length, slice_index_or, All}
+use Rattle.std.proofs.lemmas.List.Elements.{All-push, All-nil}
+use Rattle.std.specs.Result.{result_err}
+use Rattle.csv_rows.proofs.FaultLemmas.{if_raised}
+use Rattle.csv_rows.proofs.FirstLemmas.{first-zero, first-next, first-at}
+use Rattle.plan_model.specs.NameLists.{texts}
+use Rattle.feed_lists.specs.Trips.{bad_trip, trip_at, trip_or_none}
+use Rattle.csv_rows.proofs.ListLemmas.{list_below-zero, list_below-next}
+use Rattle.feed_lists.proofs.TripLemmas.{trip_is}
+use Rattle.feed_lists.proofs.trips.read_of_trips.Goals as goal
+
+pub loop-i-init : goal.loop-i-init
+loop-i-init c =
+    let t = c.args.rows.now in
+    let ids = c.args.routes.now.ids in
+    record {
+      services = ap texts c.new.ensures.items ∙ sym (list_below-zero (λ i. (trip_or_none (trip_at ids t i)).service));
+      types = c.new-2.ensures.items ∙ sym (list_below-zero (λ i. slice_index_or c.args.routes.now.types.items (trip_or_none (trip_at ids t i)).route 0));
+      routes = c.new-3.ensures.items ∙ sym (list_below-zero (λ i. (trip_or_none (trip_at ids t i)).route));
+      known = subst (All (λ route. route < length ids)) (sym c.new-3.ensures.items) (All-nil (λ route. route < length ids));
+      none = first-zero (bad_trip ids t);
+    }
+
+pub returns-in_err-trip-clause-fault : goal.returns-in_err-trip-clause-fault
+returns-in_err-trip-clause-fault c = if_raised _ c.from_residual.result c.from_residual.ensures (λ free.
+    first-at _ c.loop-i.i _ _ (omega arith) c.loop-i.invariant.none (ap result_err (trip_is _ _ c.args.columns _ _ c.requires.columns c.in_err-trip.ensures.fault)))
+
+pub loop-i-preserved : goal.loop-i-preserved
+loop-i-preserved c =
+    let t = c.args.rows.now in
+    let ids = c.args.routes.now.ids in
+    let types = c.args.routes.now.types.items in
+    let trip = c.in_ok-trip.trip in
+    let before = c.loop-i.of_trips in
+    let new = c.add_trip.new.of_trips in
+    let here = trip_is ids t c.args.columns c.loop-i.i _ c.requires.columns c.in_ok-trip.ensures.trip in
+    record {
+      services = list_below-next (λ i. (trip_or_none (trip_at ids t i)).service) c.loop-i.i (texts before.services.items) (texts new.services.items)
+          trip.service.now c.loop-i.invariant.services c.in_ok-add_trip.ensures.services (sym (ap (λ r. (trip_or_none r).service) here));
+      types = list_below-next (λ i. slice_index_or types (trip_or_none (trip_at ids t i)).route 0) c.loop-i.i before.types.items new.types.items
+          (slice_index_or types trip.route 0) c.loop-i.invariant.types c.in_ok-add_trip.ensures.types (sym (ap (λ r. slice_index_or types (trip_or_none r).route 0) here));
+      routes = list_below-next (λ i. (trip_or_none (trip_at ids t i)).route) c.loop-i.i before.routes.items new.routes.items
+          trip.route c.loop-i.invariant.routes c.in_ok-add_trip.ensures.routes (sym (ap (λ r. (trip_or_none r).route) here));
+      known = subst (All (λ route. route < length ids)) (sym c.in_ok-add_trip.ensures.routes)
+          (All-push (λ route. route < length ids) before.routes.items trip.route c.loop-i.invariant.known c.in_ok-trip.ensures.route);
+      none = first-next (bad_trip ids t) c.loop-i.i None c.loop-i.invariant.none (ap result_err here);
+    }

@@ -1,0 +1,6 @@
+pub mod Bounds
+pub mod Forms
+pub mod Stops
+pub mod Routes
+pub mod Trips
+pub mod Lists

@@ -1,0 +1,83 @@
+-- The stops of a feed: their ids, and the place of each.
+use Rattle.std.specs.Prelude.{ℕ, ◌+◌, ◌==◌, List, [], length, Option, Some, None, Result, Ok, is_some, unwrap_or, if◌then◌else◌}
+use Rattle.std.specs.Option.{option_or}
+use Rattle.std.specs.Result.{result_err}
+use Rattle.plan_model.specs.Results.{require, value_or}
+use Rattle.csv_rows.specs.declared.columns.Column.TheVariants.{StopId, LocationType, ParentStation}
+use Rattle.csv_rows.specs.declared.feed_tables.Table.TheVariants.{Stops}
+use Rattle.csv_rows.specs.declared.feed_tables.FeedFault.{FeedFault}
+use Rattle.csv_rows.specs.declared.feed_tables.FeedFault.TheVariants.{BadField, UnknownKey}
+use Rattle.csv_rows.specs.First.{first_below}
+use Rattle.csv_rows.specs.Names.{name_in}
+use Rattle.csv_rows.specs.Tables.{row_count, place_in, place_of, field_at, field}
+use Rattle.feed_lists.specs.declared.stops.StopColumns.{StopColumns}
+use Rattle.csv_rows.specs.RowFaults.{lacks, repeated_id}
+use Rattle.feed_lists.specs.Forms.{is_stop_in, parent_in}
+use Rattle.csv_rows.specs.Lists.{list_below}
+
+-- a stop by its id and its parent station, which is empty where it has none
+pub record Stop : Type 0 where
+  pub id : List ℕ
+  pub parent : List ℕ
+
+-- the stop of these fields, or the first that is not of its form
+abbrev pub stop_from : ℕ → (id kind parent : List ℕ) → Result Stop FeedFault
+stop_from line id kind parent =
+    require (name_in id) (BadField Stops line StopId) (λ id'.
+    require (is_stop_in kind) (BadField Stops line LocationType) (λ is_stop.
+    require (parent_in is_stop parent) (BadField Stops line ParentStation) (λ parent'.
+    Ok (record { id = id'; parent = parent' }))))
+
+-- where the columns stand
+abbrev pub stop_columns : List (List (List ℕ)) → StopColumns
+stop_columns t = record { id = place_of StopId t; kind = place_of LocationType t; parent = place_of ParentStation t }
+
+-- the stop of row i
+abbrev pub stop_in : List (List (List ℕ)) → StopColumns → ℕ → Result Stop FeedFault
+stop_in t c i = stop_from (i + 2) (field_at t c.id i) (field_at t c.kind i) (field_at t c.parent i)
+
+unfoldable pub stop_at : List (List (List ℕ)) → ℕ → Result Stop FeedFault
+stop_at t i = stop_in t (stop_columns t) i
+
+-- the first field of row i that is not of its form
+abbrev pub bad_stop : List (List (List ℕ)) → ℕ → Option FeedFault
+bad_stop t i = result_err (stop_at t i)
+
+-- the parent station of a row
+abbrev pub parent_in_row : Result Stop FeedFault → List ℕ
+parent_in_row s = (value_or (record { id = []; parent = [] }) s).parent
+
+abbrev pub parent_of : List (List (List ℕ)) → ℕ → List ℕ
+parent_of t i = parent_in_row (stop_at t i)
+
+-- the ids of the stops
+abbrev pub stop_ids : List (List (List ℕ)) → List (List ℕ)
+stop_ids t = list_below (field t StopId) (row_count t)
+
+-- no stop has the id of this parent
+abbrev pub unknown_in : List (List ℕ) → List ℕ → ℕ → Option FeedFault
+unknown_in ids parent i =
+    if length parent == 0 then None
+    else if is_some (place_in parent ids) then None else Some (UnknownKey Stops (i + 2) ParentStation)
+
+abbrev pub unknown_parent : List (List (List ℕ)) → ℕ → Option FeedFault
+unknown_parent t i = unknown_in (stop_ids t) (parent_of t i) i
+
+-- what keeps a row from having a place among these ids
+abbrev pub place_fault : List (List ℕ) → Result Stop FeedFault → ℕ → Option FeedFault
+place_fault ids s i = option_or (result_err s) (unknown_in ids (parent_in_row s) i)
+
+-- the place of a stop is its parent, and itself where it has none; the parent's own parent does not matter
+abbrev pub place_from : List (List ℕ) → List ℕ → ℕ → ℕ
+place_from ids parent i = if length parent == 0 then i else unwrap_or (place_in parent ids) 0
+
+abbrev pub stop_places : List (List (List ℕ)) → List ℕ
+stop_places t = list_below (λ i. place_from (stop_ids t) (parent_of t i) i) (row_count t)
+
+-- the first fault of the stops
+unfoldable pub stops_fault : List (List (List ℕ)) → Option FeedFault
+stops_fault t =
+    option_or (lacks Stops t StopId)
+    (option_or (first_below (bad_stop t) (row_count t))
+    (option_or (first_below (repeated_id Stops (field t StopId)) (row_count t))
+    (first_below (unknown_parent t) (row_count t))))

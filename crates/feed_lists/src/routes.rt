@@ -1,0 +1,134 @@
+//! The routes of a feed.
+ghost use Rattle.std.specs.Prelude.{◌≡◌, ◌≢◌, ◌<◌, ◌≤◌, None, Some, Ok, Err, IfOk, IfErr, IfSome, OnOk};
+ghost use Rattle.std.specs.Option.{option_or};
+ghost use Rattle.clock_text.specs.Digits.{whole_of};
+ghost use Rattle.csv_rows.specs.declared.columns.Column.TheVariants.{RouteId, RouteType};
+ghost use Rattle.csv_rows.specs.declared.feed_tables.Table.TheVariants.{Routes as RoutesTable};
+ghost use Rattle.csv_rows.specs.First.{first_below};
+ghost use Rattle.csv_rows.specs.FeedTables.{unread_of, IsFaultOf};
+ghost use Rattle.csv_rows.specs.Tables.{row_count};
+ghost use Rattle.csv_rows.specs.RowFaults.{lack as lack_of};
+ghost use Rattle.feed_lists.specs.Lists.{HasRoutes, AreSoundRoutes};
+ghost use Rattle.feed_lists.specs.Routes.{route_columns, route_in, bad_route, route_types, routes_fault};
+
+use clock_text::read_whole;
+use csv_rows::{Column, FeedFault, Ids, Rows, Table, lack, read_ids, read_name};
+use std::alloc::Global;
+
+/// The ids of the routes, and the type of each.
+pub struct Routes {
+    pub ids: Ids,
+    pub types: Vec<u16>,
+}
+
+impl Drop for Routes {
+    /// Lets go of its parts here, so that a caller lets go of one value.
+    fn drop(self) {
+        let Routes {
+            ids: _ids,
+            types: _types,
+        } = self;
+    }
+}
+
+/// Where the columns stand.
+#[derive(Clone, Copy)]
+pub(crate) struct RouteColumns {
+    id: Option<usize>,
+    kind: Option<usize>,
+}
+
+/// A route by its id and its type.
+#[derive(Clone, Copy)]
+struct Route<'a> {
+    id: &'a str,
+    kind: u16,
+}
+
+/// Where the columns of the routes stand.
+fn route_columns(rows: &Rows) -> RouteColumns
+    ensures { result ≡ route_columns rows.now }
+{
+    RouteColumns {
+        id: rows.place_of(Column::RouteId),
+        kind: rows.place_of(Column::RouteType),
+    }
+}
+
+/// The first required column that stands nowhere in the header.
+fn missing_column(columns: RouteColumns) -> Option<FeedFault>
+    ensures fault { result ≡ option_or (lack_of RoutesTable RouteId columns.id)
+        (lack_of RoutesTable RouteType columns.kind) }
+    ensures own { IfSome result (IsFaultOf RoutesTable) }
+{
+    match lack(Table::Routes, Column::RouteId, columns.id) {
+        Some(fault) => Some(fault),
+        None => lack(Table::Routes, Column::RouteType, columns.kind),
+    }
+}
+
+/// A route type, which leaves a class of delays for all other types.
+fn read_route_type(text: &[u8]) -> Option<u16>
+    ensures { result ≡ whole_of 65534 text.now }
+{
+    match read_whole(text, 65_534) {
+        Some(kind) => Some(kind as u16),
+        None => None,
+    }
+}
+
+/// The route of a row, or the first field that is not of its form.
+fn read_route(rows: &Rows, columns: RouteColumns, row: usize) -> Result<Route<'_>, FeedFault>
+    requires { row < row_count rows.now }
+    ensures route { IfOk result (λ r. route_in rows.now columns row
+        ≡ Ok (record { id = r.id.now; kind = r.kind })) }
+    ensures fault { IfErr result (λ f. route_in rows.now columns row ≡ Err f) }
+    ensures content { IfErr result (λ f. unread_of f ≡ None) }
+    ensures own { IfErr result (IsFaultOf RoutesTable) }
+{
+    let line = rows.line(row);
+    let Some(id) = read_name(rows.field_at(row, columns.id)) else {
+        return Err(FeedFault::BadField(Table::Routes, line, Column::RouteId));
+    };
+    let Some(kind) = read_route_type(rows.field_at(row, columns.kind)) else {
+        return Err(FeedFault::BadField(Table::Routes, line, Column::RouteType));
+    };
+    Ok(Route { id, kind })
+}
+
+/// The type of each route, or the first field that is not of its form.
+fn read_types(alloc: Global, rows: &Rows, columns: RouteColumns) -> Result<Vec<u16>, FeedFault>
+    requires { columns ≡ route_columns rows.now }
+    ensures types { IfOk result (λ types. types.items ≡ route_types rows.now) }
+    ensures none { OnOk result (first_below (bad_route rows.now) (row_count rows.now) ≡ None) }
+    ensures fault { IfErr result (λ f. f ≢ FeedFault.NoMemory
+        → first_below (bad_route rows.now) (row_count rows.now) ≡ Some f) }
+    ensures content { IfErr result (λ f. unread_of f ≡ None) }
+    ensures own { IfErr result (IsFaultOf RoutesTable) }
+{
+    let mut types: Vec<u16> = Vec::new(alloc);
+    for i in 0..rows.count() {
+        let route = read_route(rows, columns, i)?;
+        types.push(route.kind)?;
+    }
+    Ok(types)
+}
+
+/// The routes of a table, or the first of its faults.
+pub(crate) fn read_routes(alloc: Global, rows: &Rows) -> Result<Routes, FeedFault>
+    requires { row_count rows.now ≤ 65536 }
+    ensures routes { IfOk result (HasRoutes (Ok rows.now)) }
+    ensures sound { IfOk result AreSoundRoutes }
+    ensures none { OnOk result (routes_fault rows.now ≡ None) }
+    ensures fault { IfErr result (λ f. f ≢ FeedFault.NoMemory → routes_fault rows.now ≡ Some f) }
+    ensures content { IfErr result (λ f. unread_of f ≡ None) }
+    ensures own { IfErr result (IsFaultOf RoutesTable) }
+{
+    let columns = route_columns(rows);
+    if let Some(fault) = missing_column(columns) {
+        return Err(fault);
+    }
+    let types = read_types(alloc, rows, columns)?;
+    let ids = read_ids(alloc, rows, Table::Routes, columns.id)?;
+    Ok(Routes { ids, types })
+}

@@ -1,0 +1,87 @@
+//! The tables of stops, routes and trips, each loaded and read.
+ghost use Rattle.std.specs.Prelude.{◌≡◌, ◌≢◌, length, None, Err, IfOk, IfErr, IfSome, IsSome};
+ghost use Rattle.csv_rows.specs.declared.feed_tables.Table.TheVariants.{Stops as StopsTable, Routes as RoutesTable, Trips as TripsTable};
+ghost use Rattle.csv_rows.specs.FeedTables.{unread_of, IsFaultOf};
+ghost use Rattle.csv_rows.specs.Limits.{AreWithin};
+ghost use Rattle.table_files.specs.Loading.{HasFeedCause, HasFeedPathCause, load_in};
+ghost use Rattle.feed_lists.specs.Lists.{stops_from, routes_from, trips_from, HasStops, HasRoutes, HasTrips, AreSoundStops, AreSoundRoutes, AreSoundTrips};
+
+use crate::routes::{Routes, read_routes};
+use crate::stops::{Stops, read_stops};
+use crate::trips::{Trips, read_trips};
+use csv_rows::{Column, FeedFault, Limits, Table};
+use file_ports::Files;
+use std::alloc::Global;
+use table_files::read_required;
+
+/// The stops of the feed.
+pub fn load_stops<F: Files>(
+    alloc: Global,
+    files: &mut F,
+    folder: &str,
+    limits: &Limits,
+) -> Result<Stops, FeedFault>
+    requires { AreWithin limits.now }
+    ensures same { F.files files.new ≡ F.files files.old }
+    ensures stops { IfSome (F.files files.old) (λ m. IfOk result
+        (HasStops (stops_from (load_in m folder.now limits.now None StopsTable)))) }
+    ensures fault { IfSome (F.files files.old) (λ m. IfErr result (λ f. f ≢ FeedFault.NoMemory
+        → stops_from (load_in m folder.now limits.now (unread_of f) StopsTable) ≡ Err f)) }
+    ensures sound { IfOk result AreSoundStops }
+    ensures own { IfErr result (IsFaultOf StopsTable) }
+    ensures cause { HasFeedCause (F.faults files.old) (F.faults files.new) result }
+    ensures path_cause { HasFeedPathCause (IsSome (F.files files.old)) folder.now
+        (F.faults_of files.old) (F.faults_of files.new) result }
+{
+    let rows = read_required(alloc, files, folder, Table::Stops, Column::StopId, limits)?;
+    read_stops(alloc, &rows)
+}
+
+/// The routes of the feed.
+pub fn load_routes<F: Files>(
+    alloc: Global,
+    files: &mut F,
+    folder: &str,
+    limits: &Limits,
+) -> Result<Routes, FeedFault>
+    requires { AreWithin limits.now }
+    ensures same { F.files files.new ≡ F.files files.old }
+    ensures routes { IfSome (F.files files.old) (λ m. IfOk result
+        (HasRoutes (routes_from (load_in m folder.now limits.now None RoutesTable)))) }
+    ensures fault { IfSome (F.files files.old) (λ m. IfErr result (λ f. f ≢ FeedFault.NoMemory
+        → routes_from (load_in m folder.now limits.now (unread_of f) RoutesTable) ≡ Err f)) }
+    ensures sound { IfOk result AreSoundRoutes }
+    ensures own { IfErr result (IsFaultOf RoutesTable) }
+    ensures cause { HasFeedCause (F.faults files.old) (F.faults files.new) result }
+    ensures path_cause { HasFeedPathCause (IsSome (F.files files.old)) folder.now
+        (F.faults_of files.old) (F.faults_of files.new) result }
+{
+    let rows = read_required(alloc, files, folder, Table::Routes, Column::RouteId, limits)?;
+    read_routes(alloc, &rows)
+}
+
+/// The trips of the feed, which are of these routes.
+pub fn load_trips<F: Files>(
+    alloc: Global,
+    files: &mut F,
+    folder: &str,
+    limits: &Limits,
+    routes: &Routes,
+) -> Result<Trips, FeedFault>
+    requires limits { AreWithin limits.now }
+    requires types { length routes.now.types.items ≡ length routes.now.ids }
+    ensures same { F.files files.new ≡ F.files files.old }
+    ensures trips { IfSome (F.files files.old) (λ m. IfOk result (HasTrips routes.now
+        (trips_from (load_in m folder.now limits.now None TripsTable) routes.now.ids))) }
+    ensures fault { IfSome (F.files files.old) (λ m. IfErr result (λ f. f ≢ FeedFault.NoMemory
+        → trips_from (load_in m folder.now limits.now (unread_of f) TripsTable) routes.now.ids
+        ≡ Err f)) }
+    ensures sound { IfOk result (AreSoundTrips routes.now) }
+    ensures own { IfErr result (IsFaultOf TripsTable) }
+    ensures cause { HasFeedCause (F.faults files.old) (F.faults files.new) result }
+    ensures path_cause { HasFeedPathCause (IsSome (F.files files.old)) folder.now
+        (F.faults_of files.old) (F.faults_of files.new) result }
+{
+    let rows = read_required(alloc, files, folder, Table::Trips, Column::RouteId, limits)?;
+    read_trips(alloc, &rows, routes)
+}

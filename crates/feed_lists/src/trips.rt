@@ -1,0 +1,206 @@
+//! The trips of a feed.
+ghost use Rattle.std.specs.Prelude.{◌≡◌, ◌≢◌, ◌<◌, ◌≤◌, ◌++◌, ◌∷◌, [], None, Some, Ok, Err, IfOk, IfErr, IfSome, OnOk, length, slice_index, All};
+ghost use Rattle.std.specs.Option.{option_or};
+ghost use Rattle.csv_rows.specs.declared.columns.Column.TheVariants.{RouteId, ServiceId, TripId};
+ghost use Rattle.csv_rows.specs.declared.feed_tables.Table.TheVariants.{Trips as TripsTable};
+ghost use Rattle.csv_rows.specs.First.{first_below};
+ghost use Rattle.csv_rows.specs.FeedTables.{unread_of, IsFaultOf};
+ghost use Rattle.csv_rows.specs.Tables.{row_count};
+ghost use Rattle.plan_model.specs.NameLists.{texts};
+ghost use Rattle.csv_rows.specs.RowFaults.{lack as lack_of};
+ghost use Rattle.feed_lists.specs.Lists.{HasTrips, AreSoundTrips};
+ghost use Rattle.feed_lists.specs.Trips.{trip_columns, trip_in, bad_trip, trip_routes, trip_services, trip_types, trips_fault};
+ghost use Rattle.feed_lists.specs.Bounds.{most_trips};
+
+use crate::routes::Routes;
+use csv_rows::{Column, FeedFault, Ids, Rows, Table, lack, read_ids, read_name};
+use plan_model::NoMemory;
+use std::alloc::Global;
+
+/// The ids of the trips, and the service, the route and the route type of each.
+pub struct Trips {
+    pub ids: Ids,
+    pub of_trips: OfTrips,
+}
+
+impl Drop for Trips {
+    /// Lets go of its parts here, so that a caller lets go of one value.
+    fn drop(self) {
+        let Trips {
+            ids: _ids,
+            of_trips: _of_trips,
+        } = self;
+    }
+}
+
+/// The service, the route type and the number of the route of each trip.
+pub struct OfTrips {
+    pub services: Vec<String>,
+    pub types: Vec<u16>,
+    pub routes: Vec<u32>,
+}
+
+impl Drop for OfTrips {
+    /// Lets go of its parts here, so that a caller lets go of one value.
+    fn drop(self) {
+        let OfTrips {
+            services: _services,
+            types: _types,
+            routes: _routes,
+        } = self;
+    }
+}
+
+/// Where the columns stand.
+#[derive(Clone, Copy)]
+pub(crate) struct TripColumns {
+    route: Option<usize>,
+    service: Option<usize>,
+    id: Option<usize>,
+}
+
+/// A trip by the number of its route, its service and its id.
+#[derive(Clone, Copy)]
+struct Trip<'a> {
+    route: u32,
+    service: &'a str,
+    id: &'a str,
+}
+
+/// Where the columns of the trips stand.
+fn trip_columns(rows: &Rows) -> TripColumns
+    ensures { result ≡ trip_columns rows.now }
+{
+    TripColumns {
+        route: rows.place_of(Column::RouteId),
+        service: rows.place_of(Column::ServiceId),
+        id: rows.place_of(Column::TripId),
+    }
+}
+
+/// The first required column that stands nowhere in the header.
+fn missing_column(columns: TripColumns) -> Option<FeedFault>
+    ensures fault { result ≡ option_or (lack_of TripsTable RouteId columns.route)
+        (option_or (lack_of TripsTable ServiceId columns.service) (lack_of TripsTable TripId columns.id)) }
+    ensures own { IfSome result (IsFaultOf TripsTable) }
+{
+    match lack(Table::Trips, Column::RouteId, columns.route) {
+        Some(fault) => Some(fault),
+        None => match lack(Table::Trips, Column::ServiceId, columns.service) {
+            Some(fault) => Some(fault),
+            None => lack(Table::Trips, Column::TripId, columns.id),
+        },
+    }
+}
+
+/// The trip of a row, or the first field that is not of its form or names no route.
+fn read_trip<'a>(
+    rows: &'a Rows,
+    columns: TripColumns,
+    routes: &Ids,
+    row: usize,
+) -> Result<Trip<'a>, FeedFault>
+    requires { row < row_count rows.now }
+    ensures trip { IfOk result (λ r. trip_in routes.now rows.now columns row
+        ≡ Ok (record { route = r.route; service = r.service.now; id = r.id.now })) }
+    ensures fault { IfErr result (λ f. trip_in routes.now rows.now columns row ≡ Err f) }
+    ensures route { IfOk result (λ r. r.route < length routes.now) }
+    ensures content { IfErr result (λ f. unread_of f ≡ None) }
+    ensures own { IfErr result (IsFaultOf TripsTable) }
+{
+    let line = rows.line(row);
+    let Some(route) = read_name(rows.field_at(row, columns.route)) else {
+        return Err(FeedFault::BadField(Table::Trips, line, Column::RouteId));
+    };
+    let Some(number) = routes.number(route) else {
+        return Err(FeedFault::UnknownKey(Table::Trips, line, Column::RouteId));
+    };
+    let Some(service) = read_name(rows.field_at(row, columns.service)) else {
+        return Err(FeedFault::BadField(Table::Trips, line, Column::ServiceId));
+    };
+    let Some(id) = read_name(rows.field_at(row, columns.id)) else {
+        return Err(FeedFault::BadField(Table::Trips, line, Column::TripId));
+    };
+    Ok(Trip {
+        route: number,
+        service,
+        id,
+    })
+}
+
+/// Adds the service, the route type and the route of a trip.
+fn add_trip(
+    alloc: Global,
+    of_trips: &mut OfTrips,
+    trip: Trip<'_>,
+    routes: &Routes,
+) -> Result<(), NoMemory>
+    requires { trip.route < length routes.now.types.items }
+    ensures services { OnOk result (texts of_trips.new.services.items
+        ≡ texts of_trips.old.services.items ++ trip.entry.service.now ∷ []) }
+    ensures types { OnOk result (of_trips.new.types.items
+        ≡ of_trips.old.types.items ++ slice_index routes.now.types.items trip.entry.route ∷ []) }
+    ensures routes { OnOk result (of_trips.new.routes.items
+        ≡ of_trips.old.routes.items ++ trip.entry.route ∷ []) }
+{
+    let service = String::from_str(alloc, trip.service)?;
+    of_trips.services.push(service)?;
+    of_trips.types.push(routes.types[trip.route as usize])?;
+    of_trips.routes.push(trip.route)?;
+    Ok(())
+}
+
+/// The service, the route type and the route of each trip, or the first fault of a row.
+fn read_of_trips(
+    alloc: Global,
+    rows: &Rows,
+    columns: TripColumns,
+    routes: &Routes,
+) -> Result<OfTrips, FeedFault>
+    requires columns { columns ≡ trip_columns rows.now }
+    requires types { length routes.now.types.items ≡ length routes.now.ids }
+    ensures services { IfOk result (λ o. texts o.services.items
+        ≡ trip_services routes.now.ids rows.now) }
+    ensures types { IfOk result (λ o. o.types.items
+        ≡ trip_types routes.now.ids routes.now.types.items rows.now) }
+    ensures routes { IfOk result (λ o. o.routes.items ≡ trip_routes routes.now.ids rows.now) }
+    ensures known { IfOk result (λ o. All (λ route. route < length routes.now.ids) o.routes.items) }
+    ensures none { OnOk result (first_below (bad_trip routes.now.ids rows.now)
+        (row_count rows.now) ≡ None) }
+    ensures fault { IfErr result (λ f. f ≢ FeedFault.NoMemory
+        → first_below (bad_trip routes.now.ids rows.now) (row_count rows.now) ≡ Some f) }
+    ensures content { IfErr result (λ f. unread_of f ≡ None) }
+    ensures own { IfErr result (IsFaultOf TripsTable) }
+{
+    let mut of_trips = OfTrips {
+        services: Vec::new(alloc),
+        types: Vec::new(alloc),
+        routes: Vec::new(alloc),
+    };
+    for i in 0..rows.count() {
+        let trip = read_trip(rows, columns, &routes.ids, i)?;
+        add_trip(alloc, &mut of_trips, trip, routes)?;
+    }
+    Ok(of_trips)
+}
+
+/// The trips of a table, or the first of its faults.
+pub(crate) fn read_trips(alloc: Global, rows: &Rows, routes: &Routes) -> Result<Trips, FeedFault>
+    requires few { row_count rows.now ≤ most_trips }
+    requires types { length routes.now.types.items ≡ length routes.now.ids }
+    ensures trips { IfOk result (HasTrips routes.now (Ok rows.now)) }
+    ensures sound { IfOk result (AreSoundTrips routes.now) }
+    ensures none { OnOk result (trips_fault routes.now.ids rows.now ≡ None) }
+    ensures fault { IfErr result (λ f. f ≢ FeedFault.NoMemory
+        → trips_fault routes.now.ids rows.now ≡ Some f) }
+    ensures content { IfErr result (λ f. unread_of f ≡ None) }
+    ensures own { IfErr result (IsFaultOf TripsTable) }
+{
+    let columns = trip_columns(rows);
+    if let Some(fault) = missing_column(columns) {
+        return Err(fault);
+    }
+    let of_trips = read_of_trips(alloc, rows, columns, routes)?;
+    let ids = read_ids(alloc, rows, Table::Trips, columns.id)?;
+    Ok(Trips { ids, of_trips })
+}

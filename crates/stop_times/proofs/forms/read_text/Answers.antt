@@ -1,8 +1,0 @@
-use Rattle.stop_times.proofs.RowLemmas.{text_some, text_none}
-use Rattle.stop_times.proofs.forms.read_text.Goals as goal
-
-pub returns-in-Ok : goal.returns-in-Ok
-returns-in-Ok c = text_some c.args.text.now c.in-Ok.text.now c.in-Ok.ensures.cases.0 c.in-Ok.ensures.cases.1
-
-pub returns-in-Err : goal.returns-in-Err
-returns-in-Err c = text_none c.args.text.now c.in-Err.ensures.cases.0

@@ -1,0 +1,93 @@
+-- What a folder holds of a table, and the faults of reading it.
+use Rattle.std.specs.Prelude.{◌≡◌, ◌≢◌, ℕ, ◌<◌, ◌≤◌, ◌==◌, nat_lt, List, [], length, Option, None, Some, Result, Ok, Err, IsErrOf, if◌then◌else◌}
+use Rattle.file_ports.specs.Counts.{Rose}
+use Rattle.file_ports.specs.Ports.{Folder, file_at}
+use Rattle.csv_rows.specs.declared.feed_tables.Table.{Table}
+use Rattle.csv_rows.specs.declared.feed_tables.FeedFault.{FeedFault}
+use Rattle.csv_rows.specs.declared.feed_tables.FeedFault.TheVariants.{Read, TooLong, TooManyRows, NoMemory}
+use Rattle.table_files.specs.declared.loading.Loaded.{Loaded}
+use Rattle.table_files.specs.declared.loading.Loaded.TheVariants.{Absent, NoRecord, Found}
+use Rattle.csv_rows.specs.declared.limits.Limits.{Limits}
+use Rattle.csv_rows.specs.FeedTables.{path_of, is_unread}
+use Rattle.csv_rows.specs.Limits.{rows_of}
+use Rattle.csv_rows.specs.Tables.{table_of, row_count}
+
+-- the records of a table, of which at most so many may stand after the header
+abbrev pub loaded_from : Table → ℕ → List (List (List ℕ)) → Result Loaded FeedFault
+loaded_from table most t =
+    if length t == 0 then Ok NoRecord
+    else if nat_lt most (row_count t) then Err (TooManyRows table (row_count t)) else Ok (Found t)
+
+-- what a file is as a table, or none where there is no file
+abbrev pub loaded_file : Limits → Table → Option (List ℕ) → Result Loaded FeedFault
+loaded_file limits table None = Ok Absent
+loaded_file limits table (Some bytes) =
+    if nat_lt limits.bytes (length bytes) then Err (TooLong table) else loaded_from table (rows_of limits table) (table_of bytes)
+
+-- what the bytes of a file are as a table, where they are not too many, or none where there is no file
+abbrev pub loaded_bytes : Limits → Table → Option (List ℕ) → Result Loaded FeedFault
+loaded_bytes limits table None = Ok Absent
+loaded_bytes limits table (Some bytes) = loaded_from table (rows_of limits table) (table_of bytes)
+
+-- what is loaded of a file, where at most this table could not be read
+abbrev pub load_of : Option Table → Limits → Table → Option (List ℕ) → Result Loaded FeedFault
+load_of unread limits table file = if is_unread unread table then Err (Read table) else loaded_file limits table file
+
+-- what a folder holds of a table, where at most one table could not be read
+abbrev pub load_in : Folder → List ℕ → Limits → Option Table → Table → Result Loaded FeedFault
+load_in files folder limits unread table = load_of unread limits table (file_at files (path_of folder table))
+
+-- the records, of which a table that is absent has none, and neither has one whose file has no record
+abbrev pub loaded_rows : Loaded → List (List (List ℕ))
+loaded_rows (Found t) = t
+loaded_rows Absent = []
+loaded_rows NoRecord = []
+
+-- there is no file
+abbrev pub IsAbsent : Loaded → Type 0
+IsAbsent Absent = Unit {0}
+IsAbsent NoRecord = ⊥
+IsAbsent (Found t) = ⊥
+
+-- it has at most so many rows
+abbrev pub HasAtMost : ℕ → Loaded → Type 0
+HasAtMost most Absent = Unit {0}
+HasAtMost most NoRecord = Unit {0}
+HasAtMost most (Found t) = row_count t ≤ most
+
+-- the faults that loading this table may have
+abbrev pub IsLoadFault : Table → FeedFault → Type 0
+IsLoadFault table (Read t) = t ≡ table
+IsLoadFault table (TooLong t) = t ≡ table
+IsLoadFault table (TooManyRows t count) = t ≡ table
+IsLoadFault table NoMemory = Unit {0}
+IsLoadFault table _ = ⊥
+
+-- `Read` only where the count of faults rose, and always where it grew
+pub record HasTableCause {T : Type 0} (table : Table) (before now : ℕ) (result : Result T FeedFault) : Type 0 where
+  pub later : before ≤ now
+  pub read : IsErrOf result (Read table) → Rose before now
+  pub grew : before < now → IsErrOf result (Read table)
+
+-- the same of the counts of all paths
+pub record HasPathTableCause {T : Type 0} (told : Type 0) (table : Table) (path : List ℕ) (before now : List ℕ → ℕ) (result : Result T FeedFault) : Type 0 where
+  pub later : (p : List ℕ) → before p ≤ now p
+  pub others : told → (p : List ℕ) → p ≢ path → now p ≡ before p
+  pub read : told → IsErrOf result (Read table) → Rose (before path) (now path)
+
+-- the answer is that a table could not be read
+abbrev pub IsUnread : {T : Type 0} → Result T FeedFault → Type 0
+IsUnread (Ok x) = ⊥
+IsUnread (Err (Read table)) = Unit {0}
+IsUnread (Err _) = ⊥
+
+-- over several tables: `Read` only where the count of faults rose, and always where it grew
+pub record HasFeedCause {T : Type 0} (before now : ℕ) (result : Result T FeedFault) : Type 0 where
+  pub later : before ≤ now
+  pub read : (table : Table) → IsErrOf result (Read table) → Rose before now
+  pub grew : before < now → IsUnread result
+
+-- the same of the counts of all paths: `Read` of a table only where the count of its own path rose
+pub record HasFeedPathCause {T : Type 0} (told : Type 0) (folder : List ℕ) (before now : List ℕ → ℕ) (result : Result T FeedFault) : Type 0 where
+  pub later : (p : List ℕ) → before p ≤ now p
+  pub read : told → (table : Table) → IsErrOf result (Read table) → Rose (before (path_of folder table)) (now (path_of folder table))

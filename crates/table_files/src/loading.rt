@@ -1,0 +1,137 @@
+//! The tables of a feed from its folder.
+ghost use Rattle.std.specs.Prelude.{◌≡◌, ◌≢◌, ◌≤◌, ◌^◌, ◌↔◌, None, Ok, Err, IfOk, IfErr, IfSome, IsSome, IsNone, OnOk, option_map, vec_items, string_bytes};
+ghost use Rattle.file_ports.specs.Ports.{file_at};
+ghost use Rattle.csv_rows.specs.FeedTables.{path_of, unread_of, is_unread};
+ghost use Rattle.csv_rows.specs.Limits.{AreWithin, rows_of};
+ghost use Rattle.table_files.specs.Loading.{load_of, loaded_from, loaded_bytes, HasAtMost, IsAbsent, IsLoadFault, HasTableCause, HasPathTableCause};
+ghost use Rattle.csv_rows.specs.Tables.{table_of};
+
+use csv_rows::{FeedFault, Limits, Rows, RowsFault, Table};
+use file_ports::{Files, LoadFault, load};
+use plan_model::{HashKey, NoMemory};
+use std::alloc::Global;
+
+/// What a folder holds of a table.
+#[derive(Drop)]
+pub enum Loaded {
+    /// There is no such file.
+    Absent,
+    /// The file has no record, not even a header.
+    NoRecord,
+    /// The file's records.
+    Found(Rows),
+}
+
+/// The path of a table in a folder.
+fn path_of(alloc: Global, folder: &str, table: Table) -> Result<String, NoMemory>
+    ensures { IfOk result (λ path. string_bytes path ≡ path_of folder.now table) }
+{
+    let name = table.file_name();
+    match format!(in alloc; "{folder}/{name}") {
+        Ok(path) => Ok(path),
+        Err(_) => Err(NoMemory),
+    }
+}
+
+/// The records of a table, at most so many after the header, with a key for their ids.
+fn records_of(
+    alloc: Global,
+    bytes: &[u8],
+    table: Table,
+    most: u64,
+    key: HashKey,
+) -> Result<Loaded, FeedFault>
+    ensures loaded { IfOk result (λ l. loaded_from table most (table_of bytes.now) ≡ Ok l) }
+    ensures fault { IfErr result (λ f. f ≢ FeedFault.NoMemory
+        → loaded_from table most (table_of bytes.now) ≡ Err f) }
+    ensures read { IfErr result (λ f. unread_of f ≡ None) }
+    ensures present { IfOk result (λ l. IsAbsent l → ⊥) }
+    ensures few { IfOk result (HasAtMost most) }
+    ensures own { IfErr result (IsLoadFault table) }
+{
+    match Rows::read(alloc, bytes) {
+        Ok(rows) => {
+            let count = rows.count() as u64;
+            if most < count {
+                Err(FeedFault::TooManyRows(table, count))
+            } else {
+                Ok(Loaded::Found(rows.with_key(key)))
+            }
+        }
+        Err(RowsFault::NoHeader) => Ok(Loaded::NoRecord),
+        Err(RowsFault::NoMemory) => Err(FeedFault::NoMemory),
+    }
+}
+
+/// Reads the file of a table in this folder, or nothing where there is no such file. Its faults are `Read`, `TooLong` and
+/// `NoMemory`.
+pub fn read_file<F: Files>(
+    alloc: Global,
+    files: &mut F,
+    folder: &str,
+    table: Table,
+    limits: &Limits,
+) -> Result<Option<Vec<u8>>, FeedFault>
+    requires { AreWithin limits.now }
+    ensures same { F.files files.new ≡ F.files files.old }
+
+    // Where the files are told: the bytes, or the fault of this file.
+    ensures loaded { IfSome (F.files files.old) (λ m. IfOk result (λ o.
+        load_of None limits.now table (file_at m (path_of folder.now table))
+        ≡ loaded_bytes limits.now table (option_map vec_items o))) }
+    ensures fault { IfSome (F.files files.old) (λ m. IfErr result (λ f. f ≢ FeedFault.NoMemory
+        → load_of (unread_of f) limits.now table (file_at m (path_of folder.now table)) ≡ Err f)) }
+    ensures own { IfErr result (IsLoadFault table) }
+    ensures absent { IfOk result (λ o. IsNone o ↔ (F.in_hand files.new ≡ None)) }
+    ensures cause { HasTableCause table (F.faults files.old) (F.faults files.new) result }
+    ensures path_cause { HasPathTableCause
+        (IsSome (F.files files.old)) table (path_of folder.now table)
+        (F.faults_of files.old) (F.faults_of files.new) result }
+{
+    let path = match path_of(alloc, folder, table) {
+        Ok(path) => path,
+        Err(_) => return Err(FeedFault::NoMemory),
+    };
+    match load(alloc, files, path.as_str(), limits.bytes) {
+        Ok(bytes) => Ok(bytes),
+        Err(LoadFault::Read) => Err(FeedFault::Read(table)),
+        Err(LoadFault::TooLong) => Err(FeedFault::TooLong(table)),
+        Err(LoadFault::NoMemory) => Err(FeedFault::NoMemory),
+    }
+}
+
+/// Reads a table of the feed in this folder. Its faults are `Read`, `TooLong`, `TooManyRows` and `NoMemory`.
+pub fn read_table<F: Files>(
+    alloc: Global,
+    files: &mut F,
+    folder: &str,
+    table: Table,
+    limits: &Limits,
+) -> Result<Loaded, FeedFault>
+    requires { AreWithin limits.now }
+    ensures same { F.files files.new ≡ F.files files.old }
+
+    // Where the files are told: the records, or the fault of this file.
+    ensures loaded { IfSome (F.files files.old) (λ m. IfOk result (λ l.
+        load_of None limits.now table (file_at m (path_of folder.now table)) ≡ Ok l)) }
+    ensures fault { IfSome (F.files files.old) (λ m. IfErr result (λ f. f ≢ FeedFault.NoMemory
+        → load_of (unread_of f) limits.now table (file_at m (path_of folder.now table)) ≡ Err f)) }
+    ensures few { IfOk result (HasAtMost (rows_of limits.now table)) }
+    ensures own { IfErr result (IsLoadFault table) }
+    ensures absent { IfOk result (λ l. IsAbsent l ↔ (F.in_hand files.new ≡ None)) }
+    ensures cause { HasTableCause table (F.faults files.old) (F.faults files.new) result }
+    ensures path_cause { HasPathTableCause
+        (IsSome (F.files files.old)) table (path_of folder.now table)
+        (F.faults_of files.old) (F.faults_of files.new) result }
+{
+    match read_file(alloc, files, folder, table, limits)? {
+        None => Ok(Loaded::Absent),
+        Some(bytes) => records_of(
+            alloc,
+            bytes.as_slice(),
+            table,
+            limits.rows_of(table),
+            files.hash_key(),
+        ),
+    }
+}

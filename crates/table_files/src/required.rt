@@ -1,0 +1,41 @@
+//! The tables that a feed has to have.
+ghost use Rattle.std.specs.Prelude.{◌≡◌, ◌≢◌, ◌≤◌, None, Ok, Err, IfOk, IfErr, IfSome, IsSome};
+ghost use Rattle.csv_rows.specs.FeedTables.{unread_of, IsFaultOf};
+ghost use Rattle.csv_rows.specs.Limits.{AreWithin, rows_of};
+ghost use Rattle.csv_rows.specs.Tables.{row_count};
+ghost use Rattle.table_files.specs.Loading.{HasFeedCause, HasFeedPathCause, load_in};
+ghost use Rattle.table_files.specs.Required.{required};
+
+use crate::loading::{Loaded, read_table};
+use csv_rows::{Column, FeedFault, Limits, Rows, Table};
+use file_ports::Files;
+use std::alloc::Global;
+
+/// The records of a table that has to be there. One that is absent is missing, and one whose file has no record lacks its
+/// first column. Its other faults are those of `read_table`.
+pub fn read_required<F: Files>(
+    alloc: Global,
+    files: &mut F,
+    folder: &str,
+    table: Table,
+    first: Column,
+    limits: &Limits,
+) -> Result<Rows, FeedFault>
+    requires { AreWithin limits.now }
+    ensures same { F.files files.new ≡ F.files files.old }
+    ensures rows { IfSome (F.files files.old) (λ m. IfOk result (λ t.
+        required table first (load_in m folder.now limits.now None table) ≡ Ok t)) }
+    ensures fault { IfSome (F.files files.old) (λ m. IfErr result (λ f. f ≢ FeedFault.NoMemory
+        → required table first (load_in m folder.now limits.now (unread_of f) table) ≡ Err f)) }
+    ensures few { IfOk result (λ t. row_count t ≤ rows_of limits.now table) }
+    ensures own { IfErr result (IsFaultOf table) }
+    ensures cause { HasFeedCause (F.faults files.old) (F.faults files.new) result }
+    ensures path_cause { HasFeedPathCause (IsSome (F.files files.old)) folder.now
+        (F.faults_of files.old) (F.faults_of files.new) result }
+{
+    match read_table(alloc, files, folder, table, limits)? {
+        Loaded::Found(rows) => Ok(rows),
+        Loaded::Absent => Err(FeedFault::MissingTable(table)),
+        Loaded::NoRecord => Err(FeedFault::MissingColumn(table, first)),
+    }
+}

@@ -1,0 +1,2 @@
+pub mod FrequencyLemmas
+pub mod RepeatLemmas

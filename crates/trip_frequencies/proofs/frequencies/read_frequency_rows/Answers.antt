@@ -1,0 +1,33 @@
+use Rattle.std.proofs.Common.{None, sym, ap, ◌∙◌, arith}
+use Rattle.std.specs.Result.{result_err}
+use Rattle.plan_model.specs.Results.{value_or}
+use Rattle.csv_rows.proofs.FaultLemmas.{if_raised}
+use Rattle.csv_rows.proofs.FirstLemmas.{first-zero, first-next, first-at}
+use Rattle.trip_frequencies.specs.Frequencies.{bad_frequency, frequency_at, no_frequency}
+use Rattle.csv_rows.proofs.ListLemmas.{list_below-zero, list_below-next}
+use Rattle.trip_frequencies.proofs.FrequencyLemmas.{frequency_is}
+use Rattle.trip_frequencies.proofs.frequencies.read_frequency_rows.Goals as goal
+
+pub loop-i-init : goal.loop-i-init
+loop-i-init c =
+    let t = c.args.rows.now in
+    let trips = c.args.trips.now in
+    record {
+      rows = c.new-found.ensures.items ∙ sym (list_below-zero (λ i. value_or no_frequency (frequency_at trips t i)));
+      none = first-zero (bad_frequency trips t);
+    }
+
+pub returns-in_err-row-clause-fault : goal.returns-in_err-row-clause-fault
+returns-in_err-row-clause-fault c = if_raised _ c.from_residual.result c.from_residual.ensures (λ free.
+    first-at _ c.loop-i.i _ _ (omega arith) c.loop-i.invariant.none (ap result_err (frequency_is _ _ c.args.columns _ _ c.requires c.in_err-row.ensures.fault)))
+
+pub loop-i-preserved : goal.loop-i-preserved
+loop-i-preserved c =
+    let t = c.args.rows.now in
+    let trips = c.args.trips.now in
+    let here = frequency_is trips t c.args.columns c.loop-i.i _ c.requires c.in_ok-row.ensures.row in
+    record {
+      rows = list_below-next (λ i. value_or no_frequency (frequency_at trips t i)) c.loop-i.i c.loop-i.found.items c.push.new.self.items c.in_ok-row.row
+          c.loop-i.invariant.rows c.in_ok-push.ensures.items (sym (ap (value_or no_frequency) here));
+      none = first-next (bad_frequency trips t) c.loop-i.i None c.loop-i.invariant.none (ap result_err here);
+    }

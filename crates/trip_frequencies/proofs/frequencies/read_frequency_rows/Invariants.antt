@@ -1,0 +1,12 @@
+use Rattle.std.proofs.Common.{◌≡◌, None}
+use Rattle.plan_model.specs.Results.{value_or}
+use Rattle.csv_rows.specs.First.{first_below}
+use Rattle.csv_rows.specs.Lists.{list_below}
+use Rattle.trip_frequencies.specs.Frequencies.{bad_frequency, frequency_at, no_frequency}
+use Rattle.trip_frequencies.proofs.frequencies.read_frequency_rows.Given as goal
+
+abbrev pub invariant-loop-i : goal.invariant-loop-i
+invariant-loop-i l = record {
+  rows : l.found.items ≡ list_below (λ i. value_or no_frequency (frequency_at l.trips l.rows i)) l.i;
+  none : first_below (bad_frequency l.trips l.rows) l.i ≡ None;
+}

@@ -1,0 +1,27 @@
+use Rattle.std.proofs.Common.{ℕ, List, ap, ap₂, ◌∙◌, sym, subst}
+use Rattle.std.specs.Prelude.{Result, Ok, Err, IfOk}
+use Rattle.std.specs.List.Sorted.{IsNonDecreasing, IsNonDecreasingBy}
+use Rattle.std.proofs.lemmas.Result.{IfOk-weaker}
+use Rattle.trip_frequencies.specs.declared.frequencies.FrequencyRow.{FrequencyRow}
+use Rattle.trip_frequencies.specs.declared.frequencies.TripFrequency.{TripFrequency}
+use Rattle.trip_frequencies.specs.Frequencies.{repeats_of}
+use Rattle.trip_frequencies.specs.Repeats.{all_repeats_in}
+use Rattle.trip_frequencies.proofs.RepeatLemmas.{ordered-parted, all_repeats-parted}
+use Rattle.trip_frequencies.proofs.repeats.repeats_by.Goals as goal
+
+both : {T E : Type 0} (r : Result T E) (P Q R : T → Type 0) → ((x : T) → P x → Q x → R x) → IfOk r P → IfOk r Q → IfOk r R
+both (Ok x) P Q R f p q = f x p q
+both (Err e) P Q R f p q = tt
+
+pub returns-clause-ordered : goal.returns-clause-ordered
+returns-clause-ordered c =
+    let ordered = subst (λ (xs : List TripFrequency). IsNonDecreasingBy (λ (r : TripFrequency). r.trip) xs) (sym c.as_slice.ensures.value) c.in_ok-sorted.ensures.ordered in
+    IfOk-weaker c.parted.result _ _ (λ r trips. subst IsNonDecreasing (sym trips) (ordered-parted c.as_slice.result.now ordered)) c.parted.ensures.trips
+
+pub returns-clause-repeats : goal.returns-clause-repeats
+returns-clause-repeats c =
+    both c.parted.result _ _ _
+    (λ r trips rows count. ap₂ (λ (ts : List ℕ) (rs : List FrequencyRow). all_repeats_in ts rs count) trips rows
+    ∙ all_repeats-parted c.as_slice.result.now c.args.rows.items
+    (λ trip. ap (λ (xs : List TripFrequency). repeats_of xs trip) c.as_slice.ensures.value ∙ c.in_ok-sorted.ensures.kept trip) count)
+    c.parted.ensures.trips c.parted.ensures.rows

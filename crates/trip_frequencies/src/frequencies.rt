@@ -1,0 +1,177 @@
+//! The rows of frequencies.
+ghost use Rattle.std.specs.Prelude.{◌≡◌, ◌≢◌, ◌<◌, ◌≤◌, ◌^◌, ℕ, length, true, None, Some, Ok, Err, IfOk, IfErr, IfSome, OnOk};
+ghost use Rattle.csv_rows.specs.declared.feed_tables.Table.TheVariants.{Frequencies as FrequenciesTable};
+ghost use Rattle.csv_rows.specs.First.{first_below};
+ghost use Rattle.csv_rows.specs.FeedTables.{unread_of, IsFaultOf};
+ghost use Rattle.csv_rows.specs.Keys.{AreSorted};
+ghost use Rattle.csv_rows.specs.Tables.{row_count};
+ghost use Rattle.trip_frequencies.specs.Frequencies.{frequency_columns, missing_frequency_column, frequency_in, bad_frequency, frequency_rows, trip_of, start_of, repeated_start};
+
+use crate::forms::{read_headway, read_is_exact};
+use clock_text::read_time;
+use csv_rows::{Column, FeedFault, Ids, Key, Rows, Table, first_repeat, in_order, lack, read_name};
+use plan_model::NoMemory;
+use std::alloc::Global;
+
+/// How a trip repeats: it departs from its first stop at `first`, each `headway` later, and last before `end`. By the GTFS
+/// Schedule reference, `frequencies.txt`.
+#[derive(Clone, Copy, Debug, PartialEq, Eq)]
+pub struct FrequencyRow {
+    /// The first departure, in seconds of the service day.
+    pub first: u32,
+    /// No departure is at this second of the service day or later.
+    pub end: u32,
+    /// The seconds from one departure to the next.
+    pub headway: u32,
+    /// The line of the row.
+    pub line: u64,
+}
+
+/// A row beside the number of its trip.
+#[derive(Clone, Copy)]
+pub struct TripFrequency {
+    /// The number of the trip.
+    pub trip: u32,
+    /// The row.
+    pub row: FrequencyRow,
+}
+
+/// Where the columns stand.
+#[derive(Clone, Copy)]
+pub(crate) struct FrequencyColumns {
+    trip: Option<usize>,
+    start: Option<usize>,
+    end: Option<usize>,
+    headway: Option<usize>,
+    exact: Option<usize>,
+}
+
+/// Where the columns of the frequencies stand.
+pub(crate) fn frequency_columns(rows: &Rows) -> FrequencyColumns
+    ensures { result ≡ frequency_columns rows.now }
+{
+    FrequencyColumns {
+        trip: rows.place_of(Column::TripId),
+        start: rows.place_of(Column::StartTime),
+        end: rows.place_of(Column::EndTime),
+        headway: rows.place_of(Column::HeadwaySecs),
+        exact: rows.place_of(Column::ExactTimes),
+    }
+}
+
+/// The first required column that stands nowhere in the header.
+pub(crate) fn missing_column(columns: FrequencyColumns) -> Option<FeedFault>
+    ensures fault { result ≡ missing_frequency_column columns }
+    ensures own { IfSome result (IsFaultOf FrequenciesTable) }
+{
+    if let Some(fault) = lack(Table::Frequencies, Column::TripId, columns.trip) {
+        return Some(fault);
+    }
+    if let Some(fault) = lack(Table::Frequencies, Column::StartTime, columns.start) {
+        return Some(fault);
+    }
+    if let Some(fault) = lack(Table::Frequencies, Column::EndTime, columns.end) {
+        return Some(fault);
+    }
+    lack(Table::Frequencies, Column::HeadwaySecs, columns.headway)
+}
+
+/// A row, or the first field that is not of its form or names no trip.
+fn read_frequency(
+    rows: &Rows,
+    columns: FrequencyColumns,
+    trips: &Ids,
+    row: usize,
+) -> Result<TripFrequency, FeedFault>
+    requires { row < row_count rows.now }
+    ensures row { IfOk result (λ r. frequency_in trips.now rows.now columns row ≡ Ok r) }
+    ensures fault { IfErr result (λ f. frequency_in trips.now rows.now columns row ≡ Err f) }
+    ensures content { IfErr result (λ f. unread_of f ≡ None) }
+    ensures own { IfErr result (IsFaultOf FrequenciesTable) }
+{
+    let line = rows.line(row);
+    let Some(trip_id) = read_name(rows.field_at(row, columns.trip)) else {
+        return Err(FeedFault::BadField(Table::Frequencies, line, Column::TripId));
+    };
+    let Some(trip) = trips.number(trip_id) else {
+        return Err(FeedFault::UnknownKey(Table::Frequencies, line, Column::TripId));
+    };
+    let Some(first) = read_time(rows.field_at(row, columns.start)) else {
+        return Err(FeedFault::BadField(Table::Frequencies, line, Column::StartTime));
+    };
+    let Some(end) = read_time(rows.field_at(row, columns.end)) else {
+        return Err(FeedFault::BadField(Table::Frequencies, line, Column::EndTime));
+    };
+    let Some(headway) = read_headway(rows.field_at(row, columns.headway)) else {
+        return Err(FeedFault::BadField(Table::Frequencies, line, Column::HeadwaySecs));
+    };
+    let Some(_) = read_is_exact(rows.field_at(row, columns.exact)) else {
+        return Err(FeedFault::BadField(Table::Frequencies, line, Column::ExactTimes));
+    };
+    Ok(TripFrequency {
+        trip,
+        row: FrequencyRow {
+            first,
+            end,
+            headway,
+            line,
+        },
+    })
+}
+
+/// The rows, or the first fault of one by itself.
+pub(crate) fn read_frequency_rows(
+    alloc: Global,
+    rows: &Rows,
+    columns: FrequencyColumns,
+    trips: &Ids,
+) -> Result<Vec<TripFrequency>, FeedFault>
+    requires { columns ≡ frequency_columns rows.now }
+    ensures rows { IfOk result (λ found. found.items ≡ frequency_rows trips.now rows.now) }
+    ensures none { OnOk result (first_below (bad_frequency trips.now rows.now) (row_count rows.now)
+        ≡ None) }
+    ensures fault { IfErr result (λ f. f ≢ FeedFault.NoMemory
+        → first_below (bad_frequency trips.now rows.now) (row_count rows.now) ≡ Some f) }
+    ensures content { IfErr result (λ f. unread_of f ≡ None) }
+    ensures own { IfErr result (IsFaultOf FrequenciesTable) }
+{
+    let mut found: Vec<TripFrequency> = Vec::new(alloc);
+    for i in 0..rows.count() {
+        let row = read_frequency(rows, columns, trips, i)?;
+        found.push(row)?;
+    }
+    Ok(found)
+}
+
+/// The rows in the order of trip, start and place in the file.
+fn keys_by_start(alloc: Global, rows: &[TripFrequency]) -> Result<Vec<Key>, NoMemory>
+    requires { length rows.now < 2 ^ 32 }
+    ensures { IfOk result (λ keys.
+        AreSorted (λ i. true) (trip_of rows.now) (start_of rows.now) (length rows.now) keys.items) }
+{
+    let mut keys: Vec<Key> = Vec::new(alloc);
+    for i in 0..rows.len() {
+        keys.push(Key {
+            group: rows[i].trip,
+            order: rows[i].row.first,
+            row: i as u32,
+        })?;
+    }
+    Ok(in_order(keys))
+}
+
+/// The first row that has the trip and the start of an earlier one.
+pub(crate) fn check_once(alloc: Global, rows: &[TripFrequency]) -> Result<(), FeedFault>
+    requires { length rows.now ≤ 65536 }
+    ensures none { OnOk result (first_below (repeated_start rows.now) (length rows.now) ≡ None) }
+    ensures fault { IfErr result (λ f. f ≢ FeedFault.NoMemory
+        → first_below (repeated_start rows.now) (length rows.now) ≡ Some f) }
+    ensures content { IfErr result (λ f. unread_of f ≡ None) }
+    ensures own { IfErr result (IsFaultOf FrequenciesTable) }
+{
+    let keys = keys_by_start(alloc, rows)?;
+    match first_repeat(keys.as_slice()) {
+        None => Ok(()),
+        Some(row) => Err(FeedFault::DuplicateKey(Table::Frequencies, u64::from(row) + 2)),
+    }
+}

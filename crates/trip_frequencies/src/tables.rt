@@ -1,0 +1,47 @@
+//! The table of frequencies, loaded and read.
+ghost use Rattle.std.specs.Prelude.{◌≡◌, ◌≢◌, ◌≤◌, length, None, Ok, Err, IfOk, IfErr, IfSome, IsSome};
+ghost use Rattle.std.specs.List.Sorted.{IsNonDecreasing};
+ghost use Rattle.csv_rows.specs.declared.feed_tables.Table.TheVariants.{Frequencies as FrequenciesTable};
+ghost use Rattle.csv_rows.specs.FeedTables.{unread_of, IsFaultOf};
+ghost use Rattle.csv_rows.specs.Limits.{AreWithin};
+ghost use Rattle.table_files.specs.Loading.{HasFeedCause, HasFeedPathCause, load_in};
+ghost use Rattle.table_files.specs.Required.{IsSound};
+ghost use Rattle.trip_frequencies.specs.Bounds.{most_frequencies};
+ghost use Rattle.trip_frequencies.specs.Frequencies.{frequencies_from, fault_of_frequencies, AreFrequencies};
+ghost use Rattle.trip_frequencies.specs.Repeats.{all_repeats_in};
+
+use crate::repeats::{Repeats, repeats_from};
+use csv_rows::{FeedFault, Ids, Limits, Table};
+use file_ports::Files;
+use std::alloc::Global;
+use table_files::read_table;
+
+/// How these trips repeat.
+pub fn load_frequencies<F: Files>(
+    alloc: Global,
+    files: &mut F,
+    folder: &str,
+    limits: &Limits,
+    trips: &Ids,
+) -> Result<Repeats, FeedFault>
+    requires { AreWithin limits.now }
+    ensures same { F.files files.new ≡ F.files files.old }
+    ensures repeats { IfSome (F.files files.old) (λ m. IfOk result (λ r. AreFrequencies trips.now
+        (frequencies_from (load_in m folder.now limits.now None FrequenciesTable) trips.now)
+        (all_repeats_in r.trips.items r.rows.items (length trips.now)))) }
+    ensures fault { IfSome (F.files files.old) (λ m. IfErr result (λ f. f ≢ FeedFault.NoMemory
+        → frequencies_from (load_in m folder.now limits.now (unread_of f) FrequenciesTable) trips.now
+        ≡ Err f)) }
+    ensures sound { IfOk result (λ r. IsSound (fault_of_frequencies trips.now) (λ l.
+        AreFrequencies trips.now (Ok l) (all_repeats_in r.trips.items r.rows.items (length trips.now)))) }
+    ensures ordered { IfOk result (λ r. IsNonDecreasing r.trips.items) }
+    ensures paired { IfOk result (λ r. length r.rows.items ≡ length r.trips.items) }
+    ensures few { IfOk result (λ r. length r.rows.items ≤ most_frequencies) }
+    ensures own { IfErr result (IsFaultOf FrequenciesTable) }
+    ensures cause { HasFeedCause (F.faults files.old) (F.faults files.new) result }
+    ensures path_cause { HasFeedPathCause (IsSome (F.files files.old)) folder.now
+        (F.faults_of files.old) (F.faults_of files.new) result }
+{
+    let loaded = read_table(alloc, files, folder, Table::Frequencies, limits)?;
+    repeats_from(alloc, &loaded, trips)
+}
