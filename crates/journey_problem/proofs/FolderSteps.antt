@@ -1,10 +1,13 @@
 -- The tables of a folder that are read one after the other.
-use Rattle.std.proofs.Common.{◌≡◌, ℕ, ◌<◌, ◌≤◌, List, Result, Ok, Err, arith, refl, ⊎_elim}
+use Rattle.std.proofs.Common.{◌≡◌, ℕ, ◌<◌, ◌≤◌, List, Option, Result, Ok, Err, arith, refl, ⊎_elim}
 use Rattle.std.specs.Prelude.{IsErrOf, IsOk, IsOkAnd}
 use Rattle.std.proofs.lemmas.Bool.{cases_lt}
 use Rattle.csv_rows.specs.declared.feed_tables.FeedFault.{FeedFault}
 use Rattle.csv_rows.specs.declared.feed_tables.FeedFault.TheVariants.{Read}
 use Rattle.table_files.specs.Loading.{HasFeedCause, HasFeedPathCause}
+use Rattle.journey_model.specs.declared.faults.Input.{Input}
+use Rattle.journey_model.specs.declared.faults.Fault.{Fault}
+use Rattle.input_files.specs.Files.{HasCauses}
 
 same_fault : {T U : Type 0} (a b : FeedFault) → IsErrOf {T = T} (Err a) b → IsErrOf {T = U} (Err a) b
 same_fault a b is = let same : a ≡ b = (cc) in cc
@@ -52,3 +55,14 @@ path-cause-ok x y h = record { later = h.later; read = λ t table is. absurd (cc
 pub ok_by : {T E : Type 0} (r : Result T E) (P : T → Type 0) → IsOkAnd r P → IsOk r
 ok_by (Ok x) P is = refl
 ok_by (Err e) P is = absurd is
+
+-- the tables of a folder that were read
+pub causes-folder : {T : Type 0} {told : Type 0} {folder : List ℕ} {path : Input → Option (List ℕ)} {before now : ℕ} {before_of now_of : List ℕ → ℕ} (x : T) →
+    HasFeedCause before now (Ok x) → HasFeedPathCause told folder before_of now_of (Ok x) → HasCauses {T = T} told path before now before_of now_of (Ok x)
+causes-folder x f g = record {
+  later = f.later;
+  later_of = g.later;
+  read = λ input is. absurd (cc);
+  read_path = λ t input is. absurd (cc);
+  grew = λ less. absurd (f.grew less);
+}

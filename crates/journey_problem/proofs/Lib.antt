@@ -1,7 +1,4 @@
-pub mod Loads
-pub mod EarlyFacts
 pub mod StopNames
-pub mod Causes
 pub mod FeedSteps
 mod FolderSteps
 pub mod OneOrder

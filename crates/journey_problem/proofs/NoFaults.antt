@@ -18,7 +18,8 @@ use Rattle.journey_model.specs.declared.faults.Input.TheVariants as input
 use Rattle.journey_model.specs.declared.faults.Fault.{Fault}
 use Rattle.journey_model.specs.declared.faults.Fault.TheVariants.{Read, NoMemory}
 use Rattle.journey_model.specs.Faults.{unread_of}
-use Rattle.journey_problem.specs.CutProblems.{cut_problem_fault, delay_fault}
+use Rattle.journey_problem.specs.CutProblems.{cut_problem_fault}
+use Rattle.input_files.specs.Tables.{delay_fault}
 use Rattle.journey_problem.specs.FeedProblems.{feed_as, FolderParts, IsFolder, IsFolderFault, IsLaterTableFault, IsFaultAfterFolder, IsWindowFault, IsFeedProblem, IsFeedProblemFault, feed_stop_fault, window_fault_of}
 use Rattle.journey_problem.specs.Problems.{IsProblem, IsProblemOver, IsProblemFault, IsProblemFaultOver}
 use Rattle.journey_problem.proofs.OneFeed.{one_feed_of}

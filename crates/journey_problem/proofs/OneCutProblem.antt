@@ -10,8 +10,9 @@ use Rattle.cut_file.specs.CutNetwork.{IsCutNetwork}
 use Rattle.cut_file.proofs.Distinct.{one_number}
 use Rattle.command_line.specs.Jobs.{WantedJourney}
 use Rattle.journey_model.specs.declared.problem.Problem.{Problem}
-use Rattle.journey_problem.specs.Files.{Records}
-use Rattle.journey_problem.specs.CutProblems.{AreDelaysOf, IsCutProblem}
+use Rattle.input_files.specs.Files.{Records}
+use Rattle.input_files.specs.Tables.{AreDelaysOf}
+use Rattle.journey_problem.specs.CutProblems.{IsCutProblem}
 use Rattle.journey_problem.proofs.OneCutNetwork.{one_network, same_names, runs_apart, places_apart}
 
 pub same_ok : {A E : Type 0} (r : Result A E) (x y : A) → r ≡ Ok x → r ≡ Ok y → x ≡ y

@@ -13,7 +13,7 @@ use Rattle.service_days.specs.Calendars.{calendars_in, calendars_from, calendar_
 use Rattle.change_times.specs.Changes.{AreChanges, transfers_from}
 use Rattle.command_line.specs.Jobs.{WantedJourney}
 use Rattle.journey_model.specs.declared.problem.Problem.{Problem}
-use Rattle.journey_problem.specs.CutProblems.{AreDelaysOf, delay_fault}
+use Rattle.input_files.specs.Tables.{AreDelaysOf, delay_fault}
 use Rattle.journey_problem.specs.FeedProblems.{FolderParts, IsFolder, IsFeedProblem}
 
 module _ (limits : Limits) (files other : Folder) (same : (path : List ℕ) → file_at files path ≡ file_at other path) where

@@ -1,5 +1,3 @@
-pub mod EarlyFaults
-pub mod Files
 pub mod CutProblems
 pub mod FeedProblems
 pub mod Folders

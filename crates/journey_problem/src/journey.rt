@@ -3,8 +3,8 @@ ghost use Rattle.std.specs.Prelude.{◌≡◌, ◌<◌, length, IsSome, IfSome, 
 ghost use Rattle.csv_rows.specs.Limits.{AreWithin};
 ghost use Rattle.command_line.specs.Shown.{journey_shown};
 ghost use Rattle.command_line.specs.Ranges.{IsJourney};
-ghost use Rattle.journey_problem.specs.EarlyFaults.{IsEarly};
-ghost use Rattle.journey_problem.specs.Files.{OwnPaths, path_of, HasCauses};
+ghost use Rattle.input_files.specs.EarlyFaults.{IsEarly};
+ghost use Rattle.input_files.specs.Files.{OwnPaths, path_of, HasCauses};
 ghost use Rattle.journey_problem.specs.Problems.{IsProblem, IsProblemFault, IsSound};
 
 use crate::cut_problem::cut_problem;

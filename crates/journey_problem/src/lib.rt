@@ -4,10 +4,8 @@
 
 mod cut_problem;
 mod feed_problem;
-mod inputs;
 mod journey;
 mod laws;
 
-pub use inputs::load_bytes;
 pub use journey::problem_of;
 pub use laws::{files_have_one_problem, files_of_a_problem_have_no_fault};

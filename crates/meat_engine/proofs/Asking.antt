@@ -1,6 +1,6 @@
 -- Answers and faults, one from another.
-use Rattle.std.proofs.Common.{◌≡◌, ℕ, List, Option, None, Result, Ok, Err, inl, inr, refl, ap, sym, ◌∙◌, subst, arith}
-use Rattle.std.specs.Prelude.{◌≢◌, ◌⊎◌, IfErr, IfOk, option_map}
+use Rattle.std.proofs.Common.{◌≡◌, ℕ, List, Option, None, Result, inl, inr, refl, ap, sym, ◌∙◌, subst, arith}
+use Rattle.std.specs.Prelude.{◌≢◌, ◌⊎◌, option_map}
 use Rattle.file_ports.specs.Counts.{Rose}
 use Rattle.command_line.specs.Jobs.{WantedTimetable, WantedJourney, WantedAsk, Safe, Expand, Plan, Replay, Certify, CheckProof, CheckGraph, Punctual, Departures, Latest}
 use Rattle.journey_model.specs.declared.faults.Input.{Input}
@@ -12,21 +12,13 @@ use Rattle.journey_model.specs.Sites.{NamedParts, IsTellable}
 use Rattle.journey_model.specs.Stages.{stage_of_input, IsEarlyStage, IsOfInput, AtOutcome}
 use Rattle.journey_model.proofs.Sited.{tellable}
 use Rattle.journey_model.specs.declared.problem.Problem.{Problem}
-use Rattle.journey_problem.specs.EarlyFaults.{IsEarly}
-use Rattle.journey_problem.specs.Files.{RoseAt, path_of, HasCauses}
+use Rattle.input_files.specs.EarlyFaults.{IsEarly}
+use Rattle.input_files.specs.Files.{RoseAt, path_of, HasCauses}
 use Rattle.meat_engine.specs.declared.refusal.Refusal.{Refusal}
 use Rattle.plan_answers.specs.Answers.{FailsIn, IsNoSafe}
 use Rattle.meat_engine.specs.Asks.{own_paths}
 use Rattle.journey_model.specs.Known.{parts_of}
 use Rattle.meat_engine.specs.Refusals.{IsRefusalBy}
-
-pub if_ok_then : {A E : Type 0} (r : Result A E) (P Q : A → Type 0) → ((a : A) → P a → Q a) → IfOk r P → IfOk r Q
-if_ok_then (Ok a) P Q f p = f a p
-if_ok_then (Err e) P Q f p = tt
-
-pub if_err_then : {A E : Type 0} (r : Result A E) (P Q : E → Type 0) → ((e : E) → P e → Q e) → IfErr r P → IfErr r Q
-if_err_then (Ok a) P Q f p = tt
-if_err_then (Err e) P Q f p = f e p
 
 -- an early fault is at no site
 pub early_tellable : (known : Option NamedParts) (timetable : WantedTimetable) (fault : Fault) → IsEarly timetable fault → IsTellable known fault

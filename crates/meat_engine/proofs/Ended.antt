@@ -16,15 +16,15 @@ use Rattle.journey_model.specs.Faults.{status_of}
 use Rattle.journey_model.specs.Sites.{NamedParts}
 use Rattle.journey_model.specs.declared.problem.Problem.{Problem}
 use Rattle.journey_problem.specs.Problems.{IsProblem, IsProblemFault}
-use Rattle.journey_problem.specs.Files.{bytes_of}
+use Rattle.input_files.specs.Files.{bytes_of}
 use Rattle.journey_problem.proofs.OneProblem.{one_problem}
 use Rattle.journey_problem.proofs.NoFaults.{none_unread}
 use Rattle.plan_answers.specs.Answers.{IsAsked, IsNoSafe}
 use Rattle.meat_engine.specs.Asks.{AnswersAsk, FailsAsk, EndsAsk, FailsJourney}
-use Rattle.meat_engine.specs.ProofFiles.{FailsFile, FailsCheck}
+use Rattle.file_answers.specs.ProofFiles.{FailsFile, FailsCheck}
 use Rattle.meat_engine.specs.Ends.{HasSafe, EndsBySafety, EndsByGraphFile, EndsByProofFile, EndsByScore}
 use Rattle.journey_report.specs.Findings.{Findings}
-use Rattle.meat_engine.specs.GraphFiles.{graph_in, FailsReplay, FailsScore}
+use Rattle.file_answers.specs.GraphFiles.{graph_in, FailsReplay, FailsScore}
 
 -- a least worst arrival is that of a strategy
 has_tree : (n : Parts) (source target start a b c : ℕ) (w : Moment) → a ≡ source → b ≡ target → c ≡ start → LeastWorst n a b c (Some w) → HasSafe n source target start

@@ -1,6 +1,4 @@
 pub mod Asking
-pub mod GraphFiles
-pub mod ProofFiles
 pub mod Told
 pub mod Outcomes
 pub mod Undisturbed

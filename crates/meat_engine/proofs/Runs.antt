@@ -11,7 +11,7 @@ use Rattle.journey_model.specs.declared.faults.Fault.TheVariants.{Read, Write, N
 use Rattle.journey_model.specs.Faults.{status_of}
 use Rattle.fault_lines.specs.Lines.{line_of, IsFormatted}
 use Rattle.journey_model.specs.Sites.{NamedParts}
-use Rattle.journey_problem.specs.Files.{RoseAt}
+use Rattle.input_files.specs.Files.{RoseAt}
 use Rattle.journey_report.specs.declared.report.Report.{Report}
 use Rattle.journey_report.specs.Findings.{Findings, findings_of, no_findings}
 use Rattle.meat_engine.specs.Received.{Ending, AnswersJob, HasCause, IsRefusedWith, IsWritten, IsWrittenBy, Outcome, path_in}

@@ -3,44 +3,28 @@ use Rattle.std.specs.Prelude.{◌≡◌, ◌⊎◌, ℕ, List, Option, None, Som
 use Rattle.file_ports.specs.Ports.{Folder}
 use Rattle.csv_rows.specs.declared.limits.Limits.{Limits}
 use Rattle.command_line.specs.Jobs.{WantedJourney, WantedAsk, Safe, Expand, Plan, Replay, Certify, CheckProof, CheckGraph, Punctual, Departures, Latest}
-use Rattle.journey_model.specs.declared.faults.Input.TheVariants as input
 use Rattle.journey_model.specs.declared.faults.Fault.{Fault}
 use Rattle.journey_model.specs.Sites.{NamedParts}
 use Rattle.journey_model.specs.declared.problem.Problem.{Problem}
-use Rattle.journey_problem.specs.Files.{OwnPaths}
+use Rattle.input_files.specs.Files.{OwnPaths}
 use Rattle.journey_problem.specs.Problems.{FailsEarly, InProblem}
 use Rattle.journey_report.specs.Findings.{Findings}
 use Rattle.journey_model.specs.Known.{parts_of}
 use Rattle.plan_answers.specs.Answers.{InQuery, TellsWorst, TellsExpanded, TellsPlanned, IsNoSafe}
 use Rattle.plan_answers.specs.Punctual.{TellsPunctual}
-use Rattle.meat_engine.specs.GraphFiles.{InGraphFile, FailsReplay, FailsScore}
+use Rattle.file_answers.specs.Paths.{graph_path, proof_path}
+use Rattle.file_answers.specs.GraphFiles.{InGraphFile, FailsReplay, FailsScore}
 use Rattle.graph_answers.specs.Trips.{IsTripTold}
 use Rattle.graph_answers.specs.Scores.{IsEnclosed}
 use Rattle.meat_engine.specs.Ends.{EndsByScore, EndsBySafety, EndsByGraphFile, EndsByProofFile, EndsByDepartures, EndsByLatest}
 use Rattle.plan_answers.specs.Certified.{TellsCertificate}
-use Rattle.meat_engine.specs.ProofFiles.{InProofFile, FailsCheck}
+use Rattle.file_answers.specs.ProofFiles.{InProofFile, FailsCheck}
 use Rattle.graph_answers.specs.Checks.{IsHeld}
 use Rattle.departure_answers.specs.Departures.{query_until, TellsDepartures, TellsLatest, FailsDepartures, FailsLatest}
 
 -- no file is read beside those of the journey
 abbrev pub no_path : OwnPaths
 no_path input = None
-
--- a graph file is
-abbrev pub graph_path : List ℕ → OwnPaths
-graph_path path (input.Feed table) = None
-graph_path path input.Cut = None
-graph_path path input.Delays = None
-graph_path path input.Graph = Some path
-graph_path path input.Proof = None
-
--- a proof file is
-abbrev pub proof_path : List ℕ → OwnPaths
-proof_path path (input.Feed table) = None
-proof_path path input.Cut = None
-proof_path path input.Delays = None
-proof_path path input.Graph = None
-proof_path path input.Proof = Some path
 
 -- the paths of the files that are read beside those of the journey
 abbrev pub own_paths : WantedAsk → OwnPaths

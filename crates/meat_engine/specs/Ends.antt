@@ -17,11 +17,11 @@ use Rattle.journey_model.specs.declared.faults.Input.TheVariants as input
 use Rattle.journey_model.specs.declared.faults.Fault.{Fault}
 use Rattle.journey_model.specs.Faults.{status_of}
 use Rattle.journey_model.specs.declared.problem.Problem.{Problem}
-use Rattle.journey_problem.specs.Files.{bytes_of}
-use Rattle.meat_engine.specs.GraphFiles.{graph_in}
+use Rattle.input_files.specs.Files.{bytes_of}
+use Rattle.file_answers.specs.GraphFiles.{graph_in}
 use Rattle.graph_answers.specs.Trips.{trip_by}
 use Rattle.departure_answers.specs.Departures.{SafeOf, HasSafeFor}
-use Rattle.meat_engine.specs.ProofFiles.{IsProofFile, FailsFile}
+use Rattle.file_answers.specs.ProofFiles.{IsProofFile, FailsFile}
 
 -- some strategy always reaches the target
 abbrev pub HasSafe : Parts → (source target start : ℕ) → Type 0

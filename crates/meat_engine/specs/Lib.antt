@@ -1,5 +1,3 @@
-pub mod GraphFiles
-pub mod ProofFiles
 pub mod Ends
 pub mod Asks
 pub mod Samples

@@ -9,7 +9,7 @@ use Rattle.journey_model.specs.declared.faults.Input.{Input}
 use Rattle.journey_model.specs.declared.faults.Fault.TheVariants.{Read, Write}
 use Rattle.journey_model.specs.Faults.{status_of}
 use Rattle.journey_report.specs.declared.report.Report.{Report}
-use Rattle.journey_problem.specs.Files.{RoseAt}
+use Rattle.input_files.specs.Files.{RoseAt}
 use Rattle.meat_engine.specs.Received.{Outcome, IsTold, path_in}
 use Rattle.meat_engine.specs.Completeness.{IsComplete}
 

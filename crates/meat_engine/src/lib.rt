@@ -2,8 +2,6 @@
 #![tactic(auto)]
 
 mod asks;
-mod graph_files;
-mod proof_files;
 mod refusal;
 mod samples;
 mod top;

@@ -4,7 +4,7 @@ ghost use Rattle.csv_rows.specs.Limits.{AreWithin};
 ghost use Rattle.command_line.specs.Shown.{journey_shown};
 ghost use Rattle.journey_model.specs.Faults.{unread_of};
 ghost use Rattle.journey_model.specs.declared.faults.Fault.{Fault};
-ghost use Rattle.journey_problem.specs.EarlyFaults.{IsEarly};
+ghost use Rattle.input_files.specs.EarlyFaults.{IsEarly};
 ghost use Rattle.journey_problem.specs.Problems.{IsProblem, IsProblemFault, IsSound};
 ghost use Rattle.plan_answers.specs.Answers.{FailsIn};
 ghost use Rattle.journey_report.specs.Findings.{findings_of};

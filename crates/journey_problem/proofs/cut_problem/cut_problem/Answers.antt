@@ -6,9 +6,10 @@ use Rattle.command_line.specs.Jobs.{CutFile}
 use Rattle.command_line.specs.Shown.{journey_shown}
 use Rattle.journey_model.specs.declared.faults.Input.TheVariants as input
 use Rattle.journey_model.specs.Faults.{IsFirst}
-use Rattle.journey_problem.specs.CutProblems.{HasCut, IsCutProblem, cut_problem_fault}
-use Rattle.journey_problem.specs.Files.{path_by}
-use Rattle.journey_problem.proofs.Causes.{causes-path, causes-then}
+use Rattle.input_files.specs.Tables.{HasCut}
+use Rattle.journey_problem.specs.CutProblems.{IsCutProblem, cut_problem_fault}
+use Rattle.input_files.specs.Files.{path_by}
+use Rattle.input_files.proofs.Causes.{causes-path, causes-then}
 use Rattle.journey_problem.proofs.FeedSteps.{if_some_both}
 use Rattle.journey_problem.proofs.cut_problem.cut_problem.Goals as goal
 

@@ -4,11 +4,12 @@ use Rattle.delay_table.specs.DelayLists.{DelayLists}
 use Rattle.command_line.specs.Shown.{journey_shown}
 use Rattle.journey_model.specs.declared.faults.Input.TheVariants as input
 use Rattle.journey_model.specs.Faults.{IsFirst}
-use Rattle.journey_problem.specs.CutProblems.{AreDelaysOf, HasCut, cut_problem_fault, delay_fault}
-use Rattle.journey_problem.proofs.Causes.{causes-quiet}
+use Rattle.input_files.specs.Tables.{AreDelaysOf, HasCut, delay_fault}
+use Rattle.journey_problem.specs.CutProblems.{cut_problem_fault}
+use Rattle.input_files.proofs.Causes.{causes-quiet}
 use Rattle.journey_problem.proofs.CutSteps.{cut_timetable, cut_file_problem, stop_first, delay_first}
 use Rattle.journey_problem.proofs.FeedSteps.{none_unread_of}
-use Rattle.journey_problem.proofs.Loads.{if_some_then}
+use Rattle.input_files.proofs.Loads.{if_some_then}
 use Rattle.journey_problem.proofs.cut_problem.problem_after.Goals as goal
 
 pub returns-in-Err-clause-fault : goal.returns-in-Err-clause-fault

@@ -7,9 +7,10 @@ use Rattle.command_line.specs.Shown.{journey_shown}
 use Rattle.journey_model.specs.declared.faults.Input.TheVariants as input
 use Rattle.journey_model.specs.declared.faults.Fault.TheVariants.{NoMemory}
 use Rattle.journey_problem.specs.FeedProblems.{IsFolder, IsFeedProblem, IsFeedProblemFault, IsFaultAfterFolder}
-use Rattle.journey_problem.specs.Files.{path_by}
+use Rattle.input_files.specs.Files.{path_by}
 use Rattle.journey_problem.specs.Folders.{parts_of}
-use Rattle.journey_problem.proofs.Causes.{causes-folder, causes-then}
+use Rattle.input_files.proofs.Causes.{causes-then}
+use Rattle.journey_problem.proofs.FolderSteps.{causes-folder}
 use Rattle.journey_problem.proofs.FeedSteps.{if_some_both}
 use Rattle.journey_problem.proofs.feed_problem.feed_problem.Goals as goal
 

@@ -7,12 +7,12 @@ use Rattle.command_line.specs.Shown.{journey_shown}
 use Rattle.journey_model.specs.declared.faults.Input.TheVariants as input
 use Rattle.journey_model.specs.declared.faults.Fault.TheVariants.{NoMemory}
 use Rattle.journey_model.specs.Faults.{IsFirst}
-use Rattle.journey_problem.specs.CutProblems.{AreDelaysOf, delay_fault}
+use Rattle.input_files.specs.Tables.{AreDelaysOf, delay_fault}
 use Rattle.journey_problem.specs.FeedProblems.{IsFaultAfterFolder}
 use Rattle.journey_problem.specs.Folders.{parts_of}
-use Rattle.journey_problem.proofs.Causes.{causes-quiet}
+use Rattle.input_files.proofs.Causes.{causes-quiet}
 use Rattle.journey_problem.proofs.FeedSteps.{feed_timetable, window_fault, window_problem, none_unread_of}
-use Rattle.journey_problem.proofs.Loads.{if_some_then}
+use Rattle.input_files.proofs.Loads.{if_some_then}
 use Rattle.journey_problem.proofs.feed_problem.problem_in.Goals as goal
 
 pub returns-in-Err-clause-fault : goal.returns-in-Err-clause-fault

@@ -9,7 +9,7 @@ use Rattle.journey_problem.specs.Folders.{parts_of}
 use Rattle.journey_problem.specs.declared.feed_problem.FeedTables.{FeedTables}
 use Rattle.journey_problem.proofs.FeedSteps.{if_some_both}
 use Rattle.journey_problem.proofs.FolderSteps.{feed-cause-as, feed-cause-next, feed-cause-ok, path-cause-as, path-cause-next, path-cause-ok}
-use Rattle.journey_problem.proofs.Loads.{if_some_then}
+use Rattle.input_files.proofs.Loads.{if_some_then}
 use Rattle.journey_problem.proofs.feed_problem.read_folder.Goals as goal
 
 pub returns-in-Err-clause-fault : goal.returns-in-Err-clause-fault

@@ -9,7 +9,7 @@ use Rattle.change_times.specs.Changes.{AreChanges, transfers_in}
 use Rattle.journey_problem.specs.FeedProblems.{AreRules, IsLaterTableFault}
 use Rattle.journey_problem.proofs.FeedSteps.{if_some_both}
 use Rattle.journey_problem.proofs.FolderSteps.{ok_by, feed-cause-as, feed-cause-next, feed-cause-ok, path-cause-as, path-cause-next, path-cause-ok}
-use Rattle.journey_problem.proofs.Loads.{if_some_then}
+use Rattle.input_files.proofs.Loads.{if_some_then}
 use Rattle.journey_problem.proofs.feed_problem.read_rules.Goals as goal
 
 pub returns-in-Err-clause-fault : goal.returns-in-Err-clause-fault

@@ -3,7 +3,7 @@ use Rattle.std.specs.Prelude.{IsSome}
 use Rattle.command_line.specs.declared.job.Timetable.{Timetable}
 use Rattle.command_line.specs.Jobs.{WantedTimetable}
 use Rattle.command_line.specs.Shown.{journey_shown, timetable_shown}
-use Rattle.journey_problem.specs.Files.{path_by, HasCauses}
+use Rattle.input_files.specs.Files.{path_by, HasCauses}
 use Rattle.journey_problem.proofs.journey.problem_of.Goals as goal
 
 pub returns-in-Cut-clause-causes : goal.returns-in-Cut-clause-causes

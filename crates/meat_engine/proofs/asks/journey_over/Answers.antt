@@ -3,8 +3,8 @@ use Rattle.std.specs.Prelude.{IsSome}
 use Rattle.file_ports.specs.Ports.{Folder}
 use Rattle.command_line.specs.Shown.{journey_shown, ask_shown}
 use Rattle.journey_model.specs.declared.faults.Fault.{Fault}
-use Rattle.journey_problem.specs.Files.{path_of, HasCauses}
-use Rattle.journey_problem.proofs.Causes.{causes-as, causes-next}
+use Rattle.input_files.specs.Files.{path_of, HasCauses}
+use Rattle.input_files.proofs.Causes.{causes-as, causes-next}
 use Rattle.meat_engine.specs.Asks.{own_paths}
 use Rattle.meat_engine.proofs.Asking.{causes-paths, beside}
 use Rattle.meat_engine.proofs.asks.journey_over.Goals as goal

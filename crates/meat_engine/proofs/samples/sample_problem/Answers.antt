@@ -5,11 +5,12 @@ use Rattle.command_line.specs.Jobs.{WantedJourney}
 use Rattle.journey_model.specs.declared.faults.Fault.{Fault}
 use Rattle.journey_model.specs.declared.faults.Input.{Input}
 use Rattle.journey_model.specs.Faults.{unread_of}
-use Rattle.journey_problem.specs.Files.{HasCauses}
+use Rattle.input_files.specs.Files.{HasCauses}
 use Rattle.journey_problem.specs.Problems.{IsProblem, IsProblemFault, IsSound}
 use Rattle.meat_engine.specs.Asks.{no_path}
 use Rattle.meat_engine.specs.Samples.{sample_journey}
-use Rattle.meat_engine.proofs.Asking.{if_ok_then, if_err_then, never_unread, none_rises}
+use Rattle.input_files.proofs.Loads.{if_ok_then, if_err_then}
+use Rattle.meat_engine.proofs.Asking.{never_unread, none_rises}
 use Rattle.meat_engine.proofs.samples.sample_problem.Goals as goal
 
 -- files that never fail

@@ -1,0 +1,150 @@
+//! What is asked of the graph of a file: the trip by it, and bounds on its expected arrival.
+ghost use Rattle.std.specs.Prelude.{◌≡◌, ◌≢◌, ◌<◌, ◌≤◌, length, Some, None, Ok, Err, IfOk, IfErr, IfSome, IsSome};
+ghost use Rattle.csv_rows.specs.Limits.{AreWithin};
+ghost use Rattle.plan_model.specs.NameLists.{NamesFit};
+ghost use Rattle.plan_graph.specs.Tidy.{IsFit};
+ghost use Rattle.graph_text.specs.Asked.{IsAsked as IsHeadOf};
+ghost use Rattle.graph_text.specs.Reading.{graph_of};
+ghost use Rattle.file_ports.specs.Ports.{file_at};
+ghost use Rattle.command_line.specs.Jobs.{late_in};
+ghost use Rattle.journey_model.specs.Faults.{MayBeUnread, unread_of};
+ghost use Rattle.journey_model.specs.Sites.{last_printable, IsTellable};
+ghost use Rattle.journey_model.specs.Stages.{IsOfInput};
+ghost use Rattle.input_files.specs.Files.{Finds, HasCauses};
+ghost use Rattle.file_answers.specs.Paths.{graph_path};
+ghost use Rattle.journey_model.specs.Known.{parts_of};
+ghost use Rattle.journey_report.specs.Findings.{findings_of};
+ghost use Rattle.file_answers.specs.GraphFiles.{graph_as, graph_in, InGraphFile, FailsReplay, FailsScore};
+ghost use Rattle.graph_answers.specs.Trips.{IsTripTold};
+ghost use Rattle.graph_answers.specs.Scores.{IsEnclosed};
+ghost use Rattle.plan_model.specs.Bounds.{last_start};
+
+use csv_rows::Limits;
+use file_ports::Files;
+use graph_answers::{score_over, trip_over};
+use graph_text::{Head, TextFault, read, read_fits};
+use input_files::load_bytes;
+use journey_model::{Fault, Input, Problem};
+use journey_report::Answer;
+use plan_graph::PlanGraph;
+use plan_model::Moment;
+use std::alloc::Global;
+
+/// The head and the graph of a text.
+fn graph_of_bytes(
+    alloc: Global,
+    bytes: &[u8],
+    problem: &Problem,
+    start: Moment,
+) -> Result<(Head, PlanGraph), Fault>
+    requires fit { NamesFit problem.now.names problem.now.network }
+    ensures graph { IfOk result (λ f. graph_of bytes.now problem.now.network problem.now.names
+        problem.now.source.0 problem.now.target.0 start.0 ≡ Ok (f.0, f.1)) }
+    ensures fault { IfErr result (λ fault. fault ≢ Fault.NoMemory
+        → graph_as (graph_of bytes.now problem.now.network problem.now.names
+        problem.now.source.0 problem.now.target.0 start.0) ≡ Err fault) }
+    ensures stage { IfErr result (λ fault. fault ≢ Fault.NoMemory → IsOfInput Input.Graph fault) }
+    ensures read { IfErr result (λ fault. unread_of fault ≡ None) }
+{
+    match read(
+        alloc,
+        bytes,
+        &problem.network,
+        &problem.names,
+        problem.source,
+        problem.target,
+        start,
+    ) {
+        Ok(found) => Ok(found),
+        Err(TextFault::NoMemory) => Err(Fault::NoMemory),
+        Err(fault) => Err(Fault::GraphFile(fault)),
+    }
+}
+
+/// The head and the graph of the graph file of this path, for a journey that starts then.
+fn read_graph_file<F: Files>(
+    alloc: Global,
+    files: &mut F,
+    path: &str,
+    problem: &Problem,
+    start: Moment,
+    limits: &Limits,
+) -> Result<(Head, PlanGraph), Fault>
+    requires within { AreWithin limits.now }
+    requires fit { NamesFit problem.now.names problem.now.network }
+    ensures same { F.files files.new ≡ F.files files.old }
+    ensures graph { IfSome (F.files files.old) (λ m. Finds (λ f. (f.0, f.1))
+        (λ unread. graph_in limits.now problem.now start.0 unread (file_at m path.now)) result) }
+    ensures fit { IfOk result (λ f. IsFit problem.now.network f.0.query f.1) }
+    ensures head { IfOk result (λ f.
+        IsHeadOf problem.now.source.0 problem.now.target.0 start.0 f.0) }
+    ensures deadline { IfOk result (λ f. f.0.query.deadline.0 ≤ last_printable) }
+    ensures own { IfErr result (MayBeUnread Input.Graph) }
+    ensures stage { IfErr result (λ fault. fault ≢ Fault.NoMemory → IsOfInput Input.Graph fault) }
+    ensures causes { HasCauses (IsSome (F.files files.old)) (λ other. Some path.now)
+        (F.faults files.old) (F.faults files.new)
+        (F.faults_of files.old) (F.faults_of files.new) result }
+{
+    read_fits();
+    let bytes = load_bytes(alloc, files, path, Input::Graph, limits)?;
+    graph_of_bytes(alloc, bytes.as_slice(), problem, start)
+}
+
+/// The trip by the graph of a file, with the delays that were met.
+pub fn replay_over<F: Files>(
+    alloc: Global,
+    files: &mut F,
+    problem: &Problem,
+    start: Moment,
+    graph: &str,
+    late: &str,
+    limits: &Limits,
+) -> Result<Answer, Fault>
+    requires within { AreWithin limits.now }
+    requires fit { NamesFit problem.now.names problem.now.network }
+    requires source { problem.now.source.0 < length problem.now.network.change }
+    requires target { problem.now.target.0 < length problem.now.network.change }
+    requires start { start.0 ≤ last_start }
+    ensures same { F.files files.new ≡ F.files files.old }
+    ensures answer { IfOk result (λ a. InGraphFile (F.files files.old) limits.now start.0
+        graph.now problem.now (IsTripTold problem.now (late_in late.now)
+        (findings_of a.report) a.text.items)) }
+    ensures fault { IfErr result (λ fault. fault ≢ Fault.NoMemory
+        → FailsReplay (F.files files.old) limits.now start.0 graph.now (late_in late.now)
+        problem.now fault) }
+    ensures tellable { IfErr result (IsTellable (Some (parts_of problem.now))) }
+    ensures causes { HasCauses (IsSome (F.files files.old)) (graph_path graph.now)
+        (F.faults files.old) (F.faults files.new)
+        (F.faults_of files.old) (F.faults_of files.new) result }
+{
+    let (head, graph) = read_graph_file(alloc, files, graph, problem, start, limits)?;
+    trip_over(alloc, problem, head, graph, late)
+}
+
+/// Bounds on the expected arrival of the graph of a file.
+pub fn check_graph_over<F: Files>(
+    alloc: Global,
+    files: &mut F,
+    problem: &Problem,
+    start: Moment,
+    graph: &str,
+    limits: &Limits,
+) -> Result<Answer, Fault>
+    requires within { AreWithin limits.now }
+    requires fit { NamesFit problem.now.names problem.now.network }
+    requires source { problem.now.source.0 < length problem.now.network.change }
+    requires target { problem.now.target.0 < length problem.now.network.change }
+    requires start { start.0 ≤ last_start }
+    ensures same { F.files files.new ≡ F.files files.old }
+    ensures answer { IfOk result (λ a. InGraphFile (F.files files.old) limits.now start.0
+        graph.now problem.now (IsEnclosed problem.now (findings_of a.report) a.text.items)) }
+    ensures fault { IfErr result (λ fault. fault ≢ Fault.NoMemory
+        → FailsScore (F.files files.old) limits.now start.0 graph.now problem.now fault) }
+    ensures tellable { IfErr result (IsTellable (Some (parts_of problem.now))) }
+    ensures causes { HasCauses (IsSome (F.files files.old)) (graph_path graph.now)
+        (F.faults files.old) (F.faults files.new)
+        (F.faults_of files.old) (F.faults_of files.new) result }
+{
+    let (head, graph) = read_graph_file(alloc, files, graph, problem, start, limits)?;
+    score_over(alloc, problem, head, graph)
+}

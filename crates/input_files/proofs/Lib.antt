@@ -1,0 +1,4 @@
+pub mod Loads
+pub mod EarlyFacts
+pub mod Causes
+pub mod TableSteps

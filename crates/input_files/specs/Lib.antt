@@ -1,0 +1,3 @@
+pub mod EarlyFaults
+pub mod Files
+pub mod Tables
