@@ -17,7 +17,9 @@ use std::alloc::Global;
 
 /// The ids of the routes, and the type of each.
 pub struct Routes {
+    /// The ids of the routes, in the order of the file.
     pub ids: Ids,
+    /// The route type of each.
     pub types: Vec<u16>,
 }
 

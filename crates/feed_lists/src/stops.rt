@@ -14,7 +14,9 @@ use std::alloc::Global;
 
 /// The ids of the stops, and the place of each: the number of its parent station or its own.
 pub struct Stops {
+    /// The ids of the stops, in the order of the file.
     pub ids: Ids,
+    /// The number of the place of each: that of its parent station, or its own.
     pub places: Vec<u32>,
 }
 

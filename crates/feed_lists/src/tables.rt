@@ -14,7 +14,7 @@ use file_ports::Files;
 use std::alloc::Global;
 use table_files::read_required;
 
-/// The stops of the feed.
+/// The stops of the feed in this folder, or the first fault of `stops.txt`: by kind, then by line, then by column.
 pub fn load_stops<F: Files>(
     alloc: Global,
     files: &mut F,
@@ -37,7 +37,7 @@ pub fn load_stops<F: Files>(
     read_stops(alloc, &rows)
 }
 
-/// The routes of the feed.
+/// The routes of the feed in this folder, or the first fault of `routes.txt`, as of the stops.
 pub fn load_routes<F: Files>(
     alloc: Global,
     files: &mut F,
@@ -60,7 +60,7 @@ pub fn load_routes<F: Files>(
     read_routes(alloc, &rows)
 }
 
-/// The trips of the feed, which are of these routes.
+/// The trips of the feed in this folder, which are of these routes, or the first fault of `trips.txt`, as of the stops.
 pub fn load_trips<F: Files>(
     alloc: Global,
     files: &mut F,

@@ -19,7 +19,9 @@ use std::alloc::Global;
 
 /// The ids of the trips, and the service, the route and the route type of each.
 pub struct Trips {
+    /// The ids of the trips, in the order of the file.
     pub ids: Ids,
+    /// What else is told of each.
     pub of_trips: OfTrips,
 }
 
@@ -35,8 +37,11 @@ impl Drop for Trips {
 
 /// The service, the route type and the number of the route of each trip.
 pub struct OfTrips {
+    /// The id of the service of each trip.
     pub services: Vec<String>,
+    /// The route type of each.
     pub types: Vec<u16>,
+    /// The number of the route of each.
     pub routes: Vec<u32>,
 }
 

@@ -19,7 +19,9 @@ use table_files::Loaded;
 
 /// The rows of all trips that repeat, by trip, and of one trip in the order of the file; and beside them the trip of each.
 pub struct Repeats {
+    /// The number of the trip of each row; the numbers do not fall.
     pub trips: Vec<u32>,
+    /// The rows, those of one trip in the order of the file.
     pub rows: Vec<FrequencyRow>,
 }
 
