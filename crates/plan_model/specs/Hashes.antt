@@ -1,6 +1,7 @@
 -- What a hasher of a key computes.
 use Rattle.std.specs.Prelude.{ℕ, zero, suc, ◌+◌, ◌-◌, ◌*◌, ◌/◌, ◌%◌, ◌^◌, List, length, if◌then◌else◌, nat_le, bit_xor}
 use Rattle.std.specs.Hash.FoldHasher.{folded_multiply, read_u64, read_short}
+use Rattle.plan_model.specs.declared.hash_key.HashKey.{HashKey}
 use Rattle.plan_model.specs.declared.hash_key.KeyedHasher.{KeyedHasher}
 
 -- the state after the words at two places
@@ -19,3 +20,7 @@ write h bs =
     let short = folded_multiply (bit_xor h.state (read_short bs)) (bit_xor h.multiplier (2 * n)) in
     let long = mix h.multiplier bs (mix_blocks h.multiplier bs ((h.state + n) % 2 ^ 64) ((n - 1) / 16)) (n - 16) (n - 8) in
     record h { state = if nat_le n 8 then short else long }
+
+-- the lower half of a text's hash by a key
+unfoldable pub hash_of : HashKey → List ℕ → ℕ
+hash_of key bs = (write (record { state = key.state; multiplier = key.multiplier }) bs).state % 2 ^ 32

@@ -10,6 +10,9 @@ const FIXED_STATE: u64 = 0x243f_6a88_85a3_08d3;
 
 const FIXED_MULTIPLIER: u64 = 0x9e37_79b9_7f4a_7c15;
 
+/// How many values half a hash has.
+const HALF: u64 = 1 << 32;
+
 /// The key of a hash map: what its hashes begin with, and what they are multiplied by.
 #[derive(Clone, Copy)]
 pub struct HashKey {
@@ -18,6 +21,8 @@ pub struct HashKey {
 }
 
 impl HashKey {
+    ghost use Rattle.plan_model.specs.Hashes.{hash_of};
+
     /// The key of this state and this multiplier.
     pub fn new(state: u64, multiplier: u64) -> HashKey
         ensures state { result.state ≡ state }
@@ -29,6 +34,16 @@ impl HashKey {
     /// A key that is the same at each start of the program.
     pub fn fixed() -> HashKey {
         HashKey::new(FIXED_STATE, FIXED_MULTIPLIER)
+    }
+
+    /// The lower half of a text's hash.
+    #[tactic(auto, unfolding(crate::specs::Hashes::hash_of))]
+    pub(crate) fn hash_of(self, text: &str) -> u32
+        ensures { result ≡ hash_of self text.now }
+    {
+        let mut hasher = self.build_hasher();
+        hasher.write(text.as_bytes());
+        (hasher.finish() % HALF) as u32
     }
 }
 

@@ -1,0 +1,42 @@
+use Rattle.std.proofs.Common.{◌≡◌, ◌∙◌, ℕ, ◌-◌, ◌^◌, ◌<◌, ◌∷◌, [], ◌++◌, List, String, Contains, length, refl, sym, ap, subst}
+use Rattle.std.specs.Global.{Global}
+use Rattle.plan_model.specs.NameLists.{texts}
+use Rattle.plan_model.specs.TextSets.{AreHashed, AreTexts, HasHash}
+use Rattle.plan_model.proofs.Texts.{texts-push}
+use Rattle.plan_model.proofs.TextSets.{AreTexts-hashed, HasHash-own, AreHashed-push, there_by_number, absent_by_number}
+use Rattle.plan_model.proofs.text_set.TextSet.add.Goals as goal
+
+pub number_of-requires : goal.number_of-requires
+number_of-requires c =
+    let s = c.self.inside in
+    subst (λ (strings : List (String Global)). HasHash (texts strings) s.hashes.links.items c.args.text.now c.hash_of-hash.result) (sym c.deref.ensures.value)
+    (HasHash-own s.key (texts s.strings.items) s.hashes.links.items c.args.text.now c.hash_of-hash.result c.self.invariant c.hash_of-hash.ensures)
+
+pub returns-then-is_some-clause-added : goal.returns-then-is_some-clause-added
+returns-then-is_some-clause-added c =
+    let text : List ℕ = c.args.text.now in
+    let there = there_by_number (texts c.deref.result.now) text c.number_of.result c.if-is_some.ensures c.number_of.ensures.found in
+    (refl, subst (λ (w : List (List ℕ)). Contains w text) (ap texts c.deref.ensures.value ∙ c.self.view_is) there)
+
+pub invariant_of-self-2 : goal.invariant_of-self-2
+invariant_of-self-2 c =
+    let s = c.self.inside in
+    let strings : List (String Global) = s.strings.items in
+    let text : List ℕ = c.args.text.now in
+    let hash : ℕ = c.hash_of-hash.result in
+    let absent = absent_by_number (texts c.deref.result.now) text c.number_of.result c.if-is_some.ensures c.number_of.ensures.none in
+    let room : length (texts strings) < 2 ^ 32 - 1 = subst (λ (w : List (List ℕ)). length w < 2 ^ 32 - 1) (sym c.self.view_is) c.requires in
+    let last : texts c.push_reserved.new.self.items ≡ texts strings ++ text ∷ [] =
+    ap texts (c.push_reserved.ensures.items ∙ ap (λ (ks : List (String Global)). ks ++ c.in_ok-text.text ∷ []) c.reserve.ensures.items)
+    ∙ texts-push strings c.in_ok-text.text ∙ ap (λ (w : List ℕ). texts strings ++ w ∷ []) c.in_ok-text.ensures.ok in
+    subst (λ (w : List (List ℕ)). AreHashed s.key w c.add.new.self.links.items) (sym last)
+    (AreHashed-push s.key (texts strings) s.hashes.links.items c.add.new.self.links.items text hash c.self.invariant
+    (subst (λ (ks : List (String Global)). ¬ Contains (texts ks) text) c.deref.ensures.value absent) room c.hash_of-hash.ensures c.in_ok-add.ensures.ok)
+
+pub returns-then-is_some-clause-texts : goal.returns-then-is_some-clause-texts
+returns-then-is_some-clause-texts c =
+    let s = c.self.inside in
+    subst AreTexts c.self.view_is (AreTexts-hashed s.key s.strings.items s.hashes.links.items c.self.invariant)
+
+pub returns-clause-texts : goal.returns-clause-texts
+returns-clause-texts c = AreTexts-hashed c.self.inside.key c.push_reserved.new.self.items c.add.new.self.links.items (invariant_of-self-2 c)
