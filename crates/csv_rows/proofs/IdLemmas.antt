@@ -1,6 +1,7 @@
 -- Ids by their numbers, and ids that stand twice.
-use Rattle.std.proofs.Common.{◌≡◌, ℕ, ◌+◌, ◌<◌, ◌≤◌, ◌==◌, ◌&&◌, Bool, true, false, List, [], ◌∷◌, ◌++◌, length, slice_index_or, Option, Some, None, IfSome, IfNone, Contains, refl, sym, ap, ap₂, ◌∙◌, subst, arith, ⊎_elim, bytes_eq, if◌then◌else◌, add-one, length-append}
-use Rattle.std.specs.Prelude.{slice_get}
+use Rattle.std.proofs.Common.{◌≡◌, ℕ, ◌+◌, ◌<◌, ◌≤◌, ◌==◌, ◌&&◌, Bool, true, false, List, [], ◌∷◌, ◌++◌, length, slice_index_or, Option, Some, None, IfSome, IfNone, Contains, refl, sym, ap, ap₂}
+use Rattle.std.proofs.Common.{◌∙◌, subst, arith, ⊎_elim, bytes_eq, if◌then◌else◌, add-one, length-append}
+use Rattle.std.specs.Prelude.{slice_get, Result, Ok, Err, IfOk, OnErr, ◌-◌, ◌^◌}
 use Rattle.std.proofs.lemmas.Bool.{cases_lt, cases_Bool, eq-eqb, ne_eqb}
 use Rattle.std.proofs.lemmas.List.{get_or_default, get_or_append_left, get_or_push}
 use Rattle.std.proofs.lemmas.Option.{slice_get_cases, none-some}
@@ -13,7 +14,11 @@ use Rattle.csv_rows.specs.First.{first_below, any_below}
 use Rattle.csv_rows.specs.Tables.{place_in}
 use Rattle.csv_rows.proofs.FirstLemmas.{any-true, any-false, any-one, any-none, first-is, first-suc, first-same, none-each}
 use Rattle.csv_rows.proofs.PlaceLemmas.{place_is}
-use Rattle.plan_model.specs.NameLists.{AreDistinct}
+use Rattle.std.proofs.lemmas.List.Elements.{All-push}
+use Rattle.plan_model.specs.declared.list.NoMemory.{NoMemory}
+use Rattle.plan_model.specs.NameLists.{Adds, AreDistinct, IsTrimmed}
+use Rattle.plan_model.proofs.Texts.{IsNameList-adds}
+use Rattle.csv_rows.specs.Ids.{AreIds}
 use Rattle.csv_rows.specs.RowFaults.{repeated_id}
 use Rattle.csv_rows.specs.Lists.{list_below}
 use Rattle.csv_rows.proofs.ListLemmas.{length-list_below, get-list_below}
@@ -39,6 +44,17 @@ number_is (Some i) name names distinct found absent =
 
 pub found : (keys names : List (List ℕ)) (name : List ℕ) (i : ℕ) → AreDistinct keys → keys ≡ names → slice_get keys i ≡ Some name → Some i ≡ place_in name names
 found keys names name i distinct same here = number_is (Some i) name keys distinct here tt ∙ ap (place_in name) same
+
+-- ids stay ids where one is added, and where there was no memory for it
+pub AreIds-add : (old new : List (List ℕ)) (id : List ℕ) (added : Result Bool NoMemory) → AreIds old → IsTrimmed id → length old < 2 ^ 32 - 1
+    → IfOk added (Adds old new id) → OnErr added (new ≡ old) → AreIds new
+AreIds-add old new id (Ok true) h trimmed room adds same =
+    subst AreIds (sym adds.0) (record {
+      names = IsNameList-adds old (old ++ id ∷ []) id true h.names room (refl, adds.1);
+      trimmed = All-push IsTrimmed old id h.trimmed trimmed;
+    })
+AreIds-add old new id (Ok false) h trimmed room adds same = subst AreIds (sym adds.0) h
+AreIds-add old new id (Err fault) h trimmed room adds same = subst AreIds (sym same) h
 
 dup : Table → ℕ → Bool → Option FeedFault
 dup table i b = if b then Some (DuplicateKey table (i + 2)) else None

@@ -1,5 +1,6 @@
 -- Sorted keys.
-use Rattle.std.proofs.Common.{◌≡◌, ◌≢◌, ℕ, zero, suc, ◌+◌, ◌-◌, ◌<◌, ◌≤◌, arith, ⊎_elim, inl, inr, ◌⊎◌, Bool, true, false, eqb, List, length, get_or, refl, sym, ap, ◌∙◌, ltb, subst, ◌++◌, ◌∷◌, [], length-append}
+use Rattle.std.proofs.Common.{◌≡◌, ◌≢◌, ℕ, zero, suc, ◌+◌, ◌-◌, ◌<◌, ◌≤◌, arith, ⊎_elim, inl, inr, ◌⊎◌, Bool, true, false, eqb, List, length, get_or, refl, sym, ap, ◌∙◌, ltb, subst, ◌++◌, ◌∷◌, []}
+use Rattle.std.proofs.Common.{length-append}
 use Rattle.std.specs.declared.cmp.Ordering.{Ordering}
 use Rattle.std.specs.Ordering.{is_lt, nat_cmp, ordering_then}
 use Rattle.std.specs.List.Sorted.{IsPermutation, IsSorted}

@@ -1,7 +1,10 @@
 -- The columns of the tables by their names.
 use Rattle.std.specs.Prelude.{ℕ, List, codes}
 use Rattle.csv_rows.specs.declared.columns.Column.{Column}
-use Rattle.csv_rows.specs.declared.columns.Column.TheVariants.{StopId, LocationType, ParentStation, RouteId, RouteType, ServiceId, TripId, StopSequence, ArrivalTime, DepartureTime, PickupType, DropOffType, StartTime, EndTime, HeadwaySecs, ExactTimes, Monday, Tuesday, Wednesday, Thursday, Friday, Saturday, Sunday, StartDate, EndDate, Date, ExceptionType, FromStopId, ToStopId, TransferType, MinTransferTime, FromRouteId, ToRouteId, FromTripId, ToTripId, Class, Delay, Weight, Hour, Run, Step, From, To, Dep, Arr, Board, Exit, Change}
+use Rattle.csv_rows.specs.declared.columns.Column.TheVariants.{StopId, LocationType, ParentStation, RouteId, RouteType, ServiceId, TripId, StopSequence, ArrivalTime, DepartureTime, PickupType}
+use Rattle.csv_rows.specs.declared.columns.Column.TheVariants.{DropOffType, StartTime, EndTime, HeadwaySecs, ExactTimes, Monday, Tuesday, Wednesday, Thursday, Friday, Saturday, Sunday, StartDate}
+use Rattle.csv_rows.specs.declared.columns.Column.TheVariants.{EndDate, Date, ExceptionType, FromStopId, ToStopId, TransferType, MinTransferTime, FromRouteId, ToRouteId, FromTripId, ToTripId}
+use Rattle.csv_rows.specs.declared.columns.Column.TheVariants.{Class, Delay, Weight, Hour, Run, Step, From, To, Dep, Arr, Board, Exit, Change}
 
 -- the name that a header gives a column
 abbrev pub name_of : Column → List ℕ

@@ -12,14 +12,13 @@ ghost use Rattle.csv_rows.specs.Lists.{list_below};
 use crate::feed_tables::{FeedFault, Table};
 use crate::names::read_name;
 use crate::rows::Rows;
-use indexmap::IndexSet;
-use plan_model::{HashKey, NoMemory};
+use plan_model::{HashKey, NoMemory, TextSet};
 use std::alloc::Global;
 use std::marker::Model;
 
 /// Distinct ids, of which each has its place as its number. None begins or ends with a space.
 pub struct Ids {
-    ids: IndexSet<String, HashKey>,
+    ids: TextSet,
 }
 
 impl Drop for Ids {
@@ -34,11 +33,11 @@ impl Model for Ids {
 
     ghost Value = { List (List ℕ) };
 
-    ghost use Rattle.csv_rows.specs.Ids.{ids_of, HasIds};
+    ghost use Rattle.csv_rows.specs.Ids.{AreIds};
 
-    ghost view = { ids_of };
+    ghost view = { λ s. s.ids };
 
-    ghost invariant = { HasIds };
+    ghost invariant = { λ s. AreIds s.ids };
 }
 
 impl Ids {
@@ -47,13 +46,13 @@ impl Ids {
         ensures { result ≡ [] }
     {
         Ids {
-            ids: IndexSet::with_hasher(alloc, key),
+            ids: TextSet::with_key(alloc, key),
         }
     }
 
     /// The key by which they are hashed.
     pub fn key(&self) -> HashKey {
-        *self.ids.hasher()
+        self.ids.key()
     }
 
     /// Adds an id at the end, and says whether it is new.
@@ -63,12 +62,7 @@ impl Ids {
         ensures added { IfOk result (Adds self.old self.new id.now) }
         ensures err { OnErr result (self.new ≡ self.old) }
     {
-        if self.ids.contains(id) {
-            return Ok(false);
-        }
-        let id = String::from_str(alloc, id)?;
-        self.ids.insert(id)?;
-        Ok(true)
+        self.ids.add(alloc, id)
     }
 
     /// How many there are.
@@ -76,7 +70,7 @@ impl Ids {
         ensures count { result ≡ length self.now }
         ensures names { AreIds self.now }
     {
-        self.ids.len() as u32
+        self.ids.len()
     }
 
     /// The number of an id, if it is there.
@@ -84,10 +78,7 @@ impl Ids {
         ensures place { result ≡ place_in id.now self.now }
         ensures inside { IfSome result (λ number. number < length self.now) }
     {
-        match self.ids.get_index_of(id) {
-            None => None,
-            Some(number) => Some(number as u32),
-        }
+        self.ids.number(id)
     }
 
     /// The id with this number.
@@ -95,7 +86,7 @@ impl Ids {
         requires { number < length self.now }
         ensures { slice_get self.now number ≡ Some result.now }
     {
-        self.ids.as_slice()[number as usize].as_str()
+        self.ids.get(number)
     }
 }
 

@@ -2,7 +2,8 @@ use Rattle.std.proofs.Common.{◌∙◌, sym, ap, arith, get_or, length}
 use Rattle.csv_rows.proofs.ListLemmas.{take-rest}
 use Rattle.csv_rows.proofs.MachineLemmas.{strip-mark, strip-none}
 use Rattle.csv_rows.proofs.field_text.without_mark.Goals as goal
-use Rattle.csv_rows.proofs.field_text.without_mark.Goals.{else-text-ge3-via-then-text-ge3+then-text+then-text-2+else-text-3, else-text-ge3-via-then-text-ge3+then-text+else-text-2, else-text-ge3-via-then-text-ge3+else-text, else-text-ge3-via-else-text-ge3}
+use Rattle.csv_rows.proofs.field_text.without_mark.Goals.{else-text-ge3-via-then-text-ge3+then-text+then-text-2+else-text-3, else-text-ge3-via-then-text-ge3+then-text+else-text-2}
+use Rattle.csv_rows.proofs.field_text.without_mark.Goals.{else-text-ge3-via-then-text-ge3+else-text, else-text-ge3-via-else-text-ge3}
 
 pub returns-then-text-3 : goal.returns-then-text-3
 returns-then-text-3 c = take-rest 3 c.args.text.now ∙ sym (strip-mark c.args.text.now c.if-text-ge3.true c.if-text.true c.if-text-2.true c.if-text-3.true)
