@@ -12,9 +12,9 @@ ghost use Rattle.service_days.specs.Numbered.{AddsDate, AreNumbered};
 
 use crate::dates::{DateColumns, ServiceDate, date_columns, missing_column, read_exception};
 use csv_rows::{FeedFault, Ids, Rows};
-use indexmap::IndexSet;
 use plan_model::{HashKey, NoMemory};
 use std::alloc::Global;
+use std::collections::HashSet;
 
 /// A day that is added to a service or removed, by the number of the service.
 #[derive(Clone, Copy, Debug, PartialEq, Eq, Hash)]
@@ -28,11 +28,11 @@ pub(crate) struct Exception {
 #[derive(Drop)]
 pub(crate) struct Numbered {
     pub(crate) ids: Ids,
-    pub(crate) exceptions: IndexSet<Exception, HashKey>,
+    pub(crate) exceptions: HashSet<Exception, HashKey>,
 }
 
 /// Whether there is this exception.
-pub(crate) fn has(exceptions: &IndexSet<Exception, HashKey>, exception: &Exception) -> bool
+pub(crate) fn has(exceptions: &HashSet<Exception, HashKey>, exception: &Exception) -> bool
     ensures { result ≡ has exceptions.now.keys exception.now }
 {
     exceptions.contains(exception)
@@ -40,7 +40,7 @@ pub(crate) fn has(exceptions: &IndexSet<Exception, HashKey>, exception: &Excepti
 
 /// Adds an exception.
 fn insert(
-    exceptions: &mut IndexSet<Exception, HashKey>,
+    exceptions: &mut HashSet<Exception, HashKey>,
     exception: Exception,
 ) -> Result<(), NoMemory>
     ensures { OnOk result ((e : Exception) → has exceptions.new.keys e
@@ -68,7 +68,7 @@ fn number_of(alloc: Global, ids: &mut Ids, service: &str) -> Result<u32, NoMemor
 fn add(
     alloc: Global,
     ids: &mut Ids,
-    exceptions: &mut IndexSet<Exception, HashKey>,
+    exceptions: &mut HashSet<Exception, HashKey>,
     row: ServiceDate<'_>,
 ) -> Result<(), NoMemory>
     requires room { length ids.old < 2 ^ 32 - 1 }
@@ -106,7 +106,7 @@ fn read_rows(
 {
     let mut numbered = Numbered {
         ids,
-        exceptions: IndexSet::with_hasher(alloc, rows.key()),
+        exceptions: HashSet::with_hasher(alloc, rows.key()),
     };
     for i in 0..rows.count() {
         let row = read_exception(rows, columns, i)?;

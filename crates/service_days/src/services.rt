@@ -12,16 +12,16 @@ use crate::periods::Period;
 use crate::tables::{LoadedCalendar, load_calendar, load_dates};
 use csv_rows::{FeedFault, Ids, Limits, Table};
 use file_ports::Files;
-use indexmap::IndexSet;
 use plan_model::{HashKey, List, NoMemory};
 use std::alloc::Global;
+use std::collections::HashSet;
 use std::marker::Model;
 
 /// The services of a feed, and the days on which each runs.
 pub struct Services {
     ids: Ids,
     periods: Vec<Period>,
-    exceptions: IndexSet<Exception, HashKey>,
+    exceptions: HashSet<Exception, HashKey>,
 }
 
 impl Drop for Services {

@@ -13,9 +13,9 @@ use crate::exceptions::{Numbered, read_exceptions};
 use crate::periods::{Calendar, read_calendar};
 use csv_rows::{FeedFault, Ids, Limits, Table};
 use file_ports::Files;
-use indexmap::IndexSet;
 use plan_model::HashKey;
 use std::alloc::Global;
+use std::collections::HashSet;
 use table_files::{Loaded, read_table};
 
 /// The calendar, and whether its table is absent.
@@ -61,7 +61,7 @@ fn no_exceptions(alloc: Global, ids: Ids) -> Numbered
 {
     Numbered {
         ids,
-        exceptions: IndexSet::with_hasher(alloc, HashKey::fixed()),
+        exceptions: HashSet::with_hasher(alloc, HashKey::fixed()),
     }
 }
 
