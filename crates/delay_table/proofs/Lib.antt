@@ -1,6 +1,7 @@
 pub mod LineFacts
 pub mod GroupFacts
 pub mod NumberedFacts
+pub mod PlaceFacts
 pub mod ReadFacts
 pub mod Starts
 pub mod Others

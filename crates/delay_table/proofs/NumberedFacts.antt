@@ -12,7 +12,7 @@ use Rattle.plan_model.specs.NameLists.{Adds, AreDistinct}
 use Rattle.plan_model.proofs.Texts.{AreDistinct-push}
 use Rattle.csv_rows.specs.Tables.{place_in}
 use Rattle.csv_rows.proofs.IdLemmas.{place-here, place-none}
-use Rattle.delay_table.specs.declared.groups.NumberedGroup.{NumberedGroup}
+use Rattle.delay_table.specs.declared.numbered.NumberedGroup.{NumberedGroup}
 use Rattle.delay_table.specs.Groups.{Group, same_if, same_number, of_class, group_in, place_of}
 use Rattle.delay_table.specs.Numbered.{no_group, named_group, same_numbered, AreNumbers, IsNumber, StaysSo}
 use Rattle.delay_table.proofs.GroupFacts.{none-place, nowhere, place-first}
@@ -41,7 +41,7 @@ option_self : (a : Option ℕ) → same_if same_number a a ≡ true
 option_self None = refl
 option_self (Some a) = eq-eqb a a refl
 
-numbered-equal : (a b : NumberedGroup) → same_numbered a b ≡ true → a ≡ b
+pub numbered-equal : (a b : NumberedGroup) → same_numbered a b ≡ true → a ≡ b
 numbered-equal a b h =
     let p = and_parts (same_if same_number a.class b.class) (same_if same_number a.route b.route && same_if same_number a.hour b.hour) h in
     let q = and_parts (same_if same_number a.route b.route) (same_if same_number a.hour b.hour) p.1 in
@@ -50,7 +50,7 @@ numbered-equal a b h =
     let hour = option_same a.hour b.hour q.1 in
     λ i. record { class = class i; route = route i; hour = hour i }
 
-numbered-true : (a b : NumberedGroup) → a ≡ b → same_numbered a b ≡ true
+pub numbered-true : (a b : NumberedGroup) → a ≡ b → same_numbered a b ≡ true
 numbered-true a b e =
     let self : same_numbered a a ≡ true = and_from (same_if same_number a.class a.class) (same_if same_number a.route a.route && same_if same_number a.hour a.hour) (option_self a.class)
     (and_from (same_if same_number a.route a.route) (same_if same_number a.hour a.hour) (option_self a.route) (option_self a.hour)) in

@@ -1,7 +1,9 @@
 -- Groups by the numbers of their routes.
-use Rattle.std.specs.Prelude.{◌≡◌, ℕ, ◌<◌, Bool, ◌&&◌, List, [], map, length, slice_index_or, Option, None, IfSome, option_map}
+use Rattle.std.specs.Prelude.{◌≡◌, ℕ, ◌<◌, Bool, ◌&&◌, List, [], map, length, slice_index_or, Option, None, IfSome, option_map, position}
+use Rattle.std.specs.HashMap.{get}
 use Rattle.plan_model.specs.NameLists.{AreDistinct}
-use Rattle.delay_table.specs.declared.groups.NumberedGroup.{NumberedGroup}
+use Rattle.delay_table.specs.declared.numbered.NumberedGroup.{NumberedGroup}
+use Rattle.delay_table.specs.declared.numbered.NumberedGroups.TheInside as numbered
 use Rattle.delay_table.specs.declared.groups.Groups.TheInside.{Inside}
 use Rattle.delay_table.specs.Groups.{Group, same_if, same_number}
 
@@ -15,8 +17,12 @@ named_group routes g = record { class = g.class; route = option_map (λ k. slice
 abbrev pub same_numbered : NumberedGroup → NumberedGroup → Bool
 same_numbered a b = same_if same_number a.class b.class && (same_if same_number a.route b.route && same_if same_number a.hour b.hour)
 
+-- each group is found at its place
+abbrev pub AreAtPlaces : numbered.Inside → Type 0
+AreAtPlaces s = (group : NumberedGroup) → get same_numbered s.places group ≡ position (same_numbered group) s.list.items
+
 abbrev pub groups_of : Inside → List Group
-groups_of s = map (named_group s.routes) s.groups.keys
+groups_of s = map (named_group s.routes) s.groups
 
 -- each number is that of a route
 abbrev pub AreNumbers : List (List ℕ) → List NumberedGroup → Type 0
@@ -24,7 +30,7 @@ AreNumbers routes keys = (k : ℕ) → k < length keys → IfSome (slice_index_o
 
 pub record HasGroups (s : Inside) : Type 0 where
   pub distinct : AreDistinct s.routes
-  pub numbers : AreNumbers s.routes s.groups.keys
+  pub numbers : AreNumbers s.routes s.groups
 
 -- the groups of these keys stay as they are when routes are added
 pub record StaysSo (old new : List (List ℕ)) (keys : List NumberedGroup) : Type 0 where

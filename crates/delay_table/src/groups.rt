@@ -1,24 +1,15 @@
 //! Groups of the rows of a delay file, in the order in which they first stand.
-ghost use Rattle.std.specs.Prelude.{◌≡◌, ◌<◌, ◌++◌, ◌∷◌, [], Bool, length, slice_index_or, None, Some, IfSome, IfOk, OnErr, OnOk, is_some, option_map, position, false};
-ghost use Rattle.std.specs.List.{list_any};
+ghost use Rattle.std.specs.Prelude.{◌≡◌, ◌<◌, ◌++◌, ◌∷◌, [], Bool, length, slice_index_or, None, Some, IfSome, IfOk, OnErr, OnOk, option_map};
 ghost use Rattle.csv_rows.specs.Tables.{place_in};
 ghost use Rattle.plan_model.specs.NameLists.{Adds, IsTrimmed};
-ghost use Rattle.delay_table.specs.Numbered.{no_group, same_numbered, IsNumber, Keeps};
+ghost use Rattle.delay_table.specs.Numbered.{IsNumber, Keeps};
 ghost use Rattle.delay_table.specs.Groups.{group_in, is_plain, place_of, plain_type};
 
+use crate::numbered::{NumberedGroup, NumberedGroups};
 use csv_rows::Ids;
-use indexmap::IndexSet;
 use plan_model::{HashKey, NoMemory};
 use std::alloc::Global;
 use std::marker::Model;
-
-/// What a group is of, by the number of its route.
-#[derive(Clone, Copy, Debug, PartialEq, Eq, Hash)]
-pub(crate) struct NumberedGroup {
-    class: Option<u16>,
-    route: Option<u32>,
-    hour: Option<u8>,
-}
 
 /// The number of a route, which is added where it is new.
 fn number_of(alloc: Global, routes: &mut Ids, id: &str) -> Result<u32, NoMemory>
@@ -53,35 +44,6 @@ fn add_route(alloc: Global, routes: &mut Ids, route: Option<&str>) -> Result<Opt
     }
 }
 
-/// The place of a group by the number of its route, if it is there.
-fn numbered_place(groups: &IndexSet<NumberedGroup, HashKey>, group: &NumberedGroup) -> Option<usize>
-    ensures place { result ≡ position (same_numbered group.now) groups.now.keys }
-    ensures found { is_some result ≡ list_any (same_numbered group.now) groups.now.keys }
-{
-    groups.get_index_of(group)
-}
-
-/// Adds a group that is new.
-fn insert(
-    groups: &mut IndexSet<NumberedGroup, HashKey>,
-    group: NumberedGroup,
-) -> Result<(), NoMemory>
-    requires { list_any (same_numbered group) groups.old.keys ≡ false }
-    ensures ok { OnOk result (groups.new.keys ≡ groups.old.keys ++ group ∷ []) }
-    ensures err { OnErr result (groups.new.keys ≡ groups.old.keys) }
-{
-    groups.insert(group)?;
-    Ok(())
-}
-
-/// The group at a place.
-fn numbered_at(groups: &IndexSet<NumberedGroup, HashKey>, place: usize) -> NumberedGroup
-    requires { place < length groups.now.keys }
-    ensures { result ≡ slice_index_or groups.now.keys place no_group }
-{
-    groups.as_slice()[place]
-}
-
 /// The route of a number, where one is told.
 fn route_of(routes: &Ids, number: Option<u32>) -> Option<&str>
     requires { IfSome number (λ n. n < length routes.now) }
@@ -99,7 +61,7 @@ fn route_of(routes: &Ids, number: Option<u32>) -> Option<&str>
 /// Groups, each of one class, one route and one hour, in the order in which they were added.
 pub(crate) struct Groups {
     routes: Ids,
-    groups: IndexSet<NumberedGroup, HashKey>,
+    groups: NumberedGroups,
 }
 
 impl Drop for Groups {
@@ -132,7 +94,7 @@ impl Groups {
     {
         Groups {
             routes: Ids::with_key(alloc, key),
-            groups: IndexSet::with_hasher(alloc, key),
+            groups: NumberedGroups::with_key(alloc, key),
         }
     }
 
@@ -169,7 +131,7 @@ impl Groups {
                 Some(number) => Some(number),
             },
         };
-        numbered_place(&self.groups, &NumberedGroup { class, route, hour })
+        self.groups.place(&NumberedGroup { class, route, hour })
     }
 
     /// Adds a group that is new.
@@ -198,7 +160,7 @@ impl Groups {
             route: number,
             hour,
         };
-        insert(&mut self.groups, group)
+        self.groups.add(group)
     }
 
     /// Whether a group names neither a route nor an hour.
@@ -206,7 +168,7 @@ impl Groups {
         requires { place < length self.now }
         ensures { result ≡ is_plain (group_in self.now place) }
     {
-        let group = self.groups.as_slice()[place];
+        let group = self.groups.at(place);
         group.route.is_none() && group.hour.is_none()
     }
 
@@ -218,7 +180,7 @@ impl Groups {
         if !self.is_plain(place) {
             return None;
         }
-        self.groups.as_slice()[place].class
+        self.groups.at(place).class
     }
 
     /// Adds a group of another list, which is new here.
@@ -232,7 +194,7 @@ impl Groups {
         requires new { place_of (group_in other.now place) self.old ≡ None }
         ensures { OnOk result (self.new ≡ self.old ++ group_in other.now place ∷ []) }
     {
-        let group = numbered_at(&other.groups, place);
+        let group = other.groups.at(place);
         let route = route_of(&other.routes, group.route);
         self.add(alloc, group.class, route, group.hour)
     }

@@ -5,6 +5,7 @@
 mod faults;
 mod groups;
 mod lines;
+mod numbered;
 mod reading;
 mod sums;
 mod table;

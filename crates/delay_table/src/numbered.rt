@@ -1,0 +1,93 @@
+//! Groups by the numbers of their routes, and the place of each.
+ghost use Rattle.std.specs.Prelude.{◌≡◌, ◌<◌, ◌++◌, ◌∷◌, [], length, slice_index_or, OnErr, OnOk, is_some, position, false};
+ghost use Rattle.std.specs.List.{list_any};
+ghost use Rattle.delay_table.specs.Numbered.{no_group, same_numbered};
+
+use plan_model::{HashKey, NoMemory};
+use std::alloc::Global;
+use std::collections::HashMap;
+use std::marker::Model;
+
+/// What a group is of, by the number of its route.
+#[derive(Clone, Copy, Debug, PartialEq, Eq, Hash)]
+pub(crate) struct NumberedGroup {
+    pub(crate) class: Option<u16>,
+    pub(crate) route: Option<u32>,
+    pub(crate) hour: Option<u8>,
+}
+
+/// Groups in the order in which they were added, and the place of each.
+pub(crate) struct NumberedGroups {
+    list: Vec<NumberedGroup>,
+    places: HashMap<NumberedGroup, usize, HashKey>,
+}
+
+impl Drop for NumberedGroups {
+    /// Lets go of its parts here, so that a caller lets go of one value.
+    fn drop(self) {
+        let NumberedGroups {
+            list: _list,
+            places: _places,
+        } = self;
+    }
+}
+
+impl Model for NumberedGroups {
+    ghost use Rattle.std.specs.Prelude.{List};
+    ghost use Rattle.delay_table.specs.declared.numbered.NumberedGroup.{NumberedGroup as Keyed};
+
+    ghost Value = { List Keyed };
+
+    ghost use Rattle.delay_table.specs.Numbered.{AreAtPlaces};
+
+    ghost view = { λ s. s.list.items };
+
+    ghost invariant = { AreAtPlaces };
+}
+
+impl NumberedGroups {
+    /// No groups, which will be hashed by a key.
+    pub(crate) fn with_key(alloc: Global, key: HashKey) -> NumberedGroups
+        ensures { result ≡ [] }
+    {
+        NumberedGroups {
+            list: Vec::new(alloc),
+            places: HashMap::with_hasher(alloc, key),
+        }
+    }
+
+    /// How many there are.
+    pub(crate) fn len(&self) -> usize
+        ensures { result ≡ length self.now }
+    {
+        self.list.len()
+    }
+
+    /// The place of a group, if it is there.
+    pub(crate) fn place(&self, group: &NumberedGroup) -> Option<usize>
+        ensures place { result ≡ position (same_numbered group.now) self.now }
+        ensures found { is_some result ≡ list_any (same_numbered group.now) self.now }
+    {
+        self.places.get(group).copied()
+    }
+
+    /// The group at a place.
+    pub(crate) fn at(&self, place: usize) -> NumberedGroup
+        requires { place < length self.now }
+        ensures { result ≡ slice_index_or self.now place no_group }
+    {
+        self.list.as_slice()[place]
+    }
+
+    /// Adds a group that is new.
+    pub(crate) fn add(&mut self, group: NumberedGroup) -> Result<(), NoMemory>
+        requires { list_any (same_numbered group) self.old ≡ false }
+        ensures ok { OnOk result (self.new ≡ self.old ++ group ∷ []) }
+        ensures err { OnErr result (self.new ≡ self.old) }
+    {
+        self.list.reserve(1)?;
+        self.places.insert(group, self.list.len())?;
+        self.list.push_reserved(group);
+        Ok(())
+    }
+}
