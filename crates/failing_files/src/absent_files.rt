@@ -1,7 +1,7 @@
 //! Files that are not there, and whose opening fails.
 use crate::scenes::*;
-use file_ports::MemoryFiles;
 use meat_engine::Fault;
+use memory_ports::MemoryFiles;
 use std::alloc::Global;
 use std::process::Abort;
 use std::test::Fail;

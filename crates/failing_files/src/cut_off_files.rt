@@ -1,6 +1,6 @@
 //! Files that are cut off at each of their lengths.
 use crate::scenes::*;
-use file_ports::MemoryFiles;
+use memory_ports::MemoryFiles;
 use std::alloc::Global;
 use std::process::Abort;
 use std::test::Fail;

@@ -1,7 +1,7 @@
 //! Each call on a file fails in turn: its opening and each of its reads.
 use crate::scenes::*;
-use file_ports::MemoryFiles;
 use meat_engine::Fault;
+use memory_ports::MemoryFiles;
 use std::alloc::Global;
 use std::process::Abort;
 use std::test::Fail;

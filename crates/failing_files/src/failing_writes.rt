@@ -1,7 +1,7 @@
 //! Each write fails in turn, of an answer and of the line of a refusal.
 use crate::scenes::*;
-use file_ports::MemoryFiles;
 use meat_engine::Fault;
+use memory_ports::MemoryFiles;
 use std::alloc::Global;
 use std::process::Abort;
 use std::test::Fail;

@@ -1,7 +1,7 @@
 //! Journeys over files in memory, with what each is to print.
 use csv_rows::Table;
-use file_ports::{MemoryFiles, MemorySink};
 use meat_engine::{Fault, Input, run};
+use memory_ports::{MemoryFiles, MemorySink};
 use plan_model::List;
 use std::alloc::Global;
 use std::process::Abort;

@@ -119,24 +119,6 @@ pub push_gives : {T : Type 0} (es : List (Named T)) (r : List ℕ) (w : Named T)
     → value_at (es ++ w ∷ []) r ≡ if◌then◌else◌ (bytes_eq (string_bytes w.path) r) (Some w.value) (value_at es r)
 push_gives es r w h = grind (arith, common_steps, push_place es r w)
 
-last_step : {T : Type 0} (b : Bool) (e : Named T) (es : List (Named T)) (n m : ℕ) → length (e ∷ es) ≤ cond (not b) (1 + n) 0
-    → (length es ≤ n → m ≡ length es) → cond (not b) (1 + m) 0 ≡ length (e ∷ es)
-last_step true e es n m h ih = absurd (omega arith)
-last_step false e es n m h ih = let k : m ≡ length es = ih (omega arith) in omega arith
-
-last_place : {T : Type 0} (es : List (Named T)) (q : List ℕ) (w : Named T) → at_path q w ≡ true → length es ≤ position_or_len (at_path q) es
-    → position_or_len (at_path q) (es ++ w ∷ []) ≡ length es
-last_place [] q w t h = ap (λ b. cond (not b) (1 + 0) 0) t
-last_place (e ∷ es) q w t h =
-    last_step (at_path q e) e es (position_or_len (at_path q) es) (position_or_len (at_path q) (es ++ w ∷ [])) h (last_place es q w t)
-
--- it stands at the end
-pub push_stands : {T : Type 0} (es : List (Named T)) (q : List ℕ) (w : Named T) → string_bytes w.path ≡ q → position (at_path q) es ≡ None
-    → position (at_path q) (es ++ w ∷ []) ≡ Some (length es)
-push_stands es q w path h =
-    let t : at_path q w ≡ true = equal_paths (string_bytes w.path) q path in
-    grind (arith, common_steps, last_place es q w t)
-
 -- what a search answered, of the list that was lent
 pub searched : {T : Type 0} (es lent : List (Named T)) (q : List ℕ) (r w : Option ℕ) → r ≡ position (at_path q) lent → lent ≡ es → r ≡ w → position (at_path q) es ≡ w
 searched es lent q r w a b k = ap (λ z. position (at_path q) z) (sym b) ∙ sym a ∙ k

@@ -2,8 +2,4 @@ pub mod Counts
 pub mod Ports
 pub mod Loading
 pub mod Named
-pub mod Failing
-pub mod Shelf
-pub mod Memory
 pub mod Steady
-pub mod MemorySink

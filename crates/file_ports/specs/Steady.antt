@@ -1,25 +1,30 @@
--- What files that never fail stand for.
-use Rattle.std.specs.Prelude.{ℕ, List, Option}
-use Rattle.file_ports.specs.Ports.{Folder}
-use Rattle.file_ports.specs.Shelf.{folder_of as files_on, hand_of as hand_on, left_of as left_on, piece_of as piece_on, SameFiles as SameOnShelf}
+-- What files in memory that never fail stand for.
+use Rattle.std.specs.Prelude.{◌≡◌, ℕ, List, map, if◌then◌else◌, Option, Some, option_map, option_and_then, slice_get, drop, bytes_eq, string_bytes}
+use Rattle.file_ports.specs.Ports.{Folder, file_at}
 use Rattle.file_ports.specs.declared.steady.SteadyFiles.{SteadyFiles}
 
 -- the files by their paths
 abbrev pub folder_of : SteadyFiles → Folder
-folder_of f = files_on f.shelf
+folder_of f = map (λ e. (string_bytes e.path, e.value.items)) f.held.items
 
 -- the path of the file in hand
 abbrev pub hand_of : SteadyFiles → Option (List ℕ)
-hand_of f = hand_on f.shelf
+hand_of f = option_and_then (λ i. option_map (λ e. string_bytes e.path) (slice_get f.held.items i)) f.hand
 
 -- what is unread of it
 abbrev pub left_of : SteadyFiles → Option (List ℕ)
-left_of f = left_on f.shelf
+left_of f = option_and_then (λ i. option_map (λ e. drop f.place e.value.items) (slice_get f.held.items i)) f.hand
 
 -- the most that a read gives
 abbrev pub piece_of : SteadyFiles → ℕ
-piece_of f = piece_on f.shelf
+piece_of f = f.piece
+
+-- the files are as they were, but for this path, which has these bytes
+abbrev pub PutsFile : Folder → Folder → List ℕ → List ℕ → Type 0
+PutsFile old new path bytes = (p : List ℕ) → file_at new p ≡ if bytes_eq path p then Some bytes else file_at old p
 
 -- the same files, and the same one in hand, as far read
-abbrev pub SameFiles : SteadyFiles → SteadyFiles → Type 0
-SameFiles old new = SameOnShelf old.shelf new.shelf
+pub record SameFiles (old new : SteadyFiles) : Type 0 where
+  pub files : folder_of new ≡ folder_of old
+  pub hand : hand_of new ≡ hand_of old
+  pub left : left_of new ≡ left_of old

@@ -7,16 +7,12 @@
 
 mod host;
 mod loading;
-mod memory;
-mod memory_sink;
 mod named;
 mod ports;
-mod shelf;
 mod steady;
 
 pub use host::{HostFiles, HostSink};
 pub use loading::{LoadFault, load, put_all};
-pub use memory::MemoryFiles;
-pub use memory_sink::MemorySink;
+pub use named::{Named, place_of};
 pub use ports::{Failed, Files, Presence, Sink};
 pub use steady::SteadyFiles;

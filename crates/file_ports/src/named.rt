@@ -5,13 +5,16 @@ ghost use Rattle.file_ports.specs.Named.{value_at};
 use plan_model::NoMemory;
 use std::alloc::Global;
 
+/// A value with its path.
 #[derive(Drop)]
 pub struct Named<T> {
+    /// The path.
     pub path: String,
+    /// The value.
     pub value: T,
 }
 
-/// The first place with this path.
+/// The place of the first entry with this path.
 pub fn place_of<T>(entries: &[Named<T>], path: &str) -> Option<usize>
     ensures { result ≡ position (λ e. bytes_eq (string_bytes e.path) path.now) entries.now }
 {

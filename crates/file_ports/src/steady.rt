@@ -1,21 +1,25 @@
 //! Files in memory of which no call fails.
-ghost use Rattle.std.specs.Prelude.{◌≡◌, ◌<◌, min, length, OnOk, OnErr};
+ghost use Rattle.std.specs.Prelude.{◌≡◌, ◌<◌, min, length, take, OnOk, OnErr};
 
+use crate::named::{Named, place_of, put};
 use crate::ports::{Failed, Files, Presence};
-use crate::shelf::Shelf;
 use plan_model::NoMemory;
 use std::alloc::Global;
 
-/// Files in memory. Their counts of faults are always 0, so no call on them fails.
+/// Files in memory, of which one at a time can be in hand. Their counts of faults are always 0, so no call on them fails.
 #[derive(Drop)]
 pub struct SteadyFiles {
-    shelf: Shelf,
+    alloc: Global,
+    piece: usize,
+    held: Vec<Named<Vec<u8>>>,
+    hand: Option<usize>,
+    place: usize,
+    ghost some: { 0 < piece },
 }
 
 impl SteadyFiles {
-    ghost use Rattle.std.specs.Prelude.{[], None};
-    ghost use Rattle.file_ports.specs.Shelf.{PutsFile};
-    ghost use Rattle.file_ports.specs.Steady.{folder_of, hand_of, piece_of, SameFiles};
+    ghost use Rattle.std.specs.Prelude.{[], None, Some, IsSome};
+    ghost use Rattle.file_ports.specs.Steady.{folder_of, hand_of, piece_of, PutsFile, SameFiles};
 
     /// No files. A read gives at most `piece` bytes. It takes no memory.
     pub fn new(alloc: Global, piece: usize) -> SteadyFiles
@@ -25,7 +29,11 @@ impl SteadyFiles {
         ensures hand { hand_of result ≡ None }
     {
         SteadyFiles {
-            shelf: Shelf::new(alloc, piece),
+            alloc,
+            piece,
+            held: Vec::new(alloc),
+            hand: None,
+            place: 0,
         }
     }
 
@@ -36,7 +44,30 @@ impl SteadyFiles {
         ensures err { OnErr result (SameFiles self.old self.new) }
         ensures piece { piece_of self.new ≡ piece_of self.old }
     {
-        self.shelf.add(path, bytes)
+        let value = Vec::from_slice(self.alloc, bytes)?;
+        put(self.alloc, &mut self.held, path, value)?;
+        self.close();
+        Ok(())
+    }
+
+    /// No file is in hand any more.
+    pub fn close(&mut self)
+        ensures files { folder_of self.new ≡ folder_of self.old }
+        ensures hand { hand_of self.new ≡ None }
+        ensures piece { piece_of self.new ≡ piece_of self.old }
+    {
+        self.hand = None;
+    }
+
+    /// The path of the file in hand.
+    pub fn path_in_hand(&self) -> &str
+        requires { IsSome (hand_of self.now) }
+        ensures { hand_of self.now ≡ Some result.now }
+    {
+        let Some(index) = self.hand else {
+            unreachable!()
+        };
+        self.held[index].path.as_str()
     }
 }
 
@@ -69,7 +100,12 @@ impl Files for SteadyFiles {
         ensures never_fails { IsOk result }
         ensures piece { piece_of self.new ≡ piece_of self.old }
     {
-        Ok(self.shelf.open(path))
+        self.place = 0;
+        self.hand = place_of(&self.held, path);
+        match self.hand {
+            Some(_) => Ok(Presence::Present),
+            None => Ok(Presence::Absent),
+        }
     }
 
     fn read(&mut self, buffer: &mut [u8]) -> Result<usize, Failed>
@@ -87,6 +123,23 @@ impl Files for SteadyFiles {
             n ≡ min (min (piece_of self.old) (length buffer.old)) (length left))) }
         ensures piece { piece_of self.new ≡ piece_of self.old }
     {
-        Ok(self.shelf.read(buffer))
+        let Some(index) = self.hand else {
+            unreachable!()
+        };
+        let file = &self.held[index];
+        let from = self.place.min(file.value.len());
+        let count = copy_front(buffer, &file.value[from..], self.piece);
+        self.place = from + count;
+        Ok(count)
     }
+}
+
+/// Copies the front of `rest`, as much as fits, and at most so many bytes.
+fn copy_front(buffer: &mut [u8], rest: &[u8], most: usize) -> usize
+    ensures count { result ≡ min (min most (length buffer.old)) (length rest.now) }
+    ensures front { take result buffer.new ≡ take result rest.now }
+{
+    let count = most.min(buffer.len()).min(rest.len());
+    buffer[..count].copy_from_slice(&rest[..count]);
+    count
 }

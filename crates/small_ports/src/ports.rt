@@ -1,9 +1,8 @@
 //! The ports in use.
 ghost use Rattle.std.specs.Prelude.{IsErrOf};
 
-use file_ports::{
-    Files, HostFiles, HostSink, LoadFault, MemoryFiles, MemorySink, SteadyFiles, load, put_all,
-};
+use file_ports::{Files, HostFiles, HostSink, LoadFault, SteadyFiles, load, put_all};
+use memory_ports::{MemoryFiles, MemorySink};
 use plan_model::List;
 use std::alloc::Global;
 use std::fs;

@@ -1,7 +1,7 @@
 ghost use Rattle.csv_rows.specs.Limits.{AreWithin};
 
 use csv_rows::{Column, FeedFault, Limits, Table};
-use file_ports::MemoryFiles;
+use memory_ports::MemoryFiles;
 use plan_model::{List, NoMemory};
 use service_days::Services;
 use std::alloc::Global;

@@ -7,8 +7,8 @@ use crate::told::{
     CHANGE, CHANGE_PLAN, ROOM, Source, Told, USUAL, files_of, is_told, told_by, words_of,
 };
 use csv_rows::{Limits, Table};
-use file_ports::{MemoryFiles, MemorySink};
 use meat_engine::{Fault, Input, LimitKind, Which, run_limited};
+use memory_ports::{MemoryFiles, MemorySink};
 use plan_model::List;
 use std::alloc::Global;
 use std::process::Abort;

@@ -1,8 +1,8 @@
 //! What a run over files in memory tells.
 ghost use Rattle.std.specs.Prelude.{◌<◌};
 
-use file_ports::{MemoryFiles, MemorySink};
 use meat_engine::{Fault, run};
+use memory_ports::{MemoryFiles, MemorySink};
 use plan_model::List;
 use std::alloc::Global;
 use std::process::Abort;

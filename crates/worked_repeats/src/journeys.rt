@@ -1,6 +1,6 @@
 //! Journeys over a feed whose one trip repeats, through the top call.
-use file_ports::{MemoryFiles, MemorySink};
 use meat_engine::run;
+use memory_ports::{MemoryFiles, MemorySink};
 use plan_model::List;
 use std::alloc::Global;
 use std::test::Fail;

@@ -1,0 +1,57 @@
+-- What files in memory that fail where they were told to stand for.
+use Rattle.std.specs.Prelude.{◌≡◌, ℕ, List, Bool, ◌||◌, ◌&&◌, Option, bytes_eq, nat_eq}
+use Rattle.file_ports.specs.Ports.{Folder}
+use Rattle.memory_ports.specs.Failing.{faults_in, fails_in}
+use Rattle.file_ports.specs.Steady.{folder_of as steady_folder, hand_of as steady_hand, left_of as steady_left, piece_of as steady_piece, SameFiles as SameSteadily}
+use Rattle.memory_ports.specs.declared.memory.MemoryFiles.{MemoryFiles}
+
+-- the files by their paths
+abbrev pub folder_of : MemoryFiles → Folder
+folder_of f = steady_folder f.steady
+
+-- the path of the file in hand
+abbrev pub hand_of : MemoryFiles → Option (List ℕ)
+hand_of f = steady_hand f.steady
+
+-- what is unread of it
+abbrev pub left_of : MemoryFiles → Option (List ℕ)
+left_of f = steady_left f.steady
+
+-- the most that a read gives
+abbrev pub piece_of : MemoryFiles → ℕ
+piece_of f = steady_piece f.steady
+
+-- how many reads there were since a path was opened
+abbrev pub reads_of : MemoryFiles → ℕ
+reads_of f = f.reads
+
+-- how often calls on this path have failed
+abbrev pub faults_at : MemoryFiles → List ℕ → ℕ
+faults_at f path = faults_in f.failing.items path
+
+-- how often calls have failed
+abbrev pub total_faults : MemoryFiles → ℕ
+total_faults f = f.faults
+
+-- this call on this path fails: call 0 opens it, and call k is the k-th read since then
+abbrev pub fails_at : MemoryFiles → List ℕ → ℕ → Bool
+fails_at f path call = fails_in f.failing.items path call
+
+-- which calls fail stays the same
+abbrev pub FailsAlike : MemoryFiles → MemoryFiles → Type 0
+FailsAlike old new = (path : List ℕ) (call : ℕ) → fails_at new path call ≡ fails_at old path call
+
+-- besides the calls that fail, this call on this path does
+abbrev pub FailsToo : MemoryFiles → MemoryFiles → List ℕ → ℕ → Type 0
+FailsToo old new path call = (p : List ℕ) (k : ℕ) → fails_at new p k ≡ (fails_at old p k || (bytes_eq path p && nat_eq call k))
+
+-- the same files, and the same one in hand, as far read
+pub record SameFiles (old new : MemoryFiles) : Type 0 where
+  pub steady : SameSteadily old.steady new.steady
+  pub reads : reads_of new ≡ reads_of old
+
+-- the same failures, so far and to come
+pub record SameFailing (old new : MemoryFiles) : Type 0 where
+  pub fails : FailsAlike old new
+  pub counts : (path : List ℕ) → faults_at new path ≡ faults_at old path
+  pub total : total_faults new ≡ total_faults old
