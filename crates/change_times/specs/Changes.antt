@@ -2,7 +2,7 @@
 use Rattle.std.specs.Prelude.{◌≡◌, ℕ, ◌<◌, ◌≤◌, max, nat_eq, List, length, All, count_by, is_none, Option, None, Some, Result}
 use Rattle.std.specs.Map.{lookup}
 use Rattle.plan_model.specs.Results.{and_then, unless}
-use Rattle.file_ports.specs.Ports.{Folder}
+use Rattle.file_ports.specs.Ports.{FileMap}
 use Rattle.csv_rows.specs.declared.feed_tables.Table.{Table}
 use Rattle.csv_rows.specs.declared.feed_tables.Table.TheVariants.{Transfers}
 use Rattle.csv_rows.specs.declared.feed_tables.FeedFault.{FeedFault}
@@ -80,5 +80,5 @@ abbrev pub transfers_from : FeedParts → Result Loaded FeedFault → Result Rec
 transfers_from feed loaded = and_then loaded (λ l. unless (fault_of feed l) (loaded_rows l))
 
 -- the transfers of a folder, or the first of their faults
-abbrev pub transfers_in : Folder → List ℕ → Limits → Option Table → FeedParts → Result Records FeedFault
+abbrev pub transfers_in : FileMap → List ℕ → Limits → Option Table → FeedParts → Result Records FeedFault
 transfers_in files folder limits unread feed = transfers_from feed (load_in files folder limits unread Transfers)

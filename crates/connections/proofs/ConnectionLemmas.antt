@@ -1,5 +1,6 @@
 -- The rides of runs are in order, fit their places and classes, and each run has one.
-use Rattle.std.proofs.Common.{◌≡◌, ℕ, zero, suc, ◌+◌, ◌-◌, ◌<◌, ◌≤◌, ◌⊎◌, inl, inr, ℤ, pos, negsuc, ◌≤ℤ◌, Bool, true, false, List, [], ◌∷◌, ◌++◌, length, map, get_or, slice_index, Some, All, refl, sym, ap, ◌∙◌, subst, arith, ⊎_elim, length-append}
+use Rattle.std.proofs.Common.{◌≡◌, ℕ, zero, suc, ◌+◌, ◌-◌, ◌<◌, ◌≤◌, ◌⊎◌, inl, inr, ℤ, pos, negsuc, ◌≤ℤ◌, Bool, true, false, List, [], ◌∷◌, ◌++◌, length, map, get_or, slice_index, Some, All, refl}
+use Rattle.std.proofs.Common.{sym, ap, ◌∙◌, subst, arith, ⊎_elim, length-append}
 use Rattle.std.specs.Prelude.{AllPairs, unsigned_abs}
 use Rattle.std.proofs.lemmas.Bool.{cases_lt}
 use Rattle.std.proofs.lemmas.Int.{ints}
@@ -10,7 +11,7 @@ use Rattle.plan_model.specs.declared.model.Connection.{Connection}
 use Rattle.plan_model.specs.declared.model.Outcome.{Outcome}
 use Rattle.plan_model.specs.NameLists.{NameLists, IsTrimmed, NamesFit}
 use Rattle.plan_model.specs.Network.{IsValid, connection, no_connection, change_of, row_of}
-use Rattle.plan_model.specs.Parts.{Parts, plain_parts}
+use Rattle.plan_model.specs.NetworkModel.{NetworkModel, plain_network}
 use Rattle.delay_table.specs.DelayLists.{DelayLists}
 use Rattle.delay_table.proofs.ClassBounds.{class_for-inside}
 use Rattle.delay_table.specs.Slots.{AreDelays}
@@ -251,7 +252,7 @@ module _ (f : FeedParts) (d : DelayLists) (delays : AreDelays d) (w : Window) (v
   good : AreGood f w rs (length f.stop_ids) (length d.classes) (length rs) cs
   good = all_good f d w v timed rs runs (length d.classes) class_few some (length rs) (omega arith)
 
-  valid_here : IsValid (plain_parts cs change d.classes)
+  valid_here : IsValid (plain_network cs change d.classes)
   unfolding connection change_of row_of
   valid_here =
       let g = good in
@@ -280,13 +281,13 @@ module _ (f : FeedParts) (d : DelayLists) (delays : AreDelays d) (w : Window) (v
         class_0 = omega (arith, delays.each);
       }
 
-  pub valid : (connections : List Connection) (classes : List (List Outcome)) → connections ≡ cs → classes ≡ d.classes → IsValid (plain_parts connections change classes)
+  pub valid : (connections : List Connection) (classes : List (List Outcome)) → connections ≡ cs → classes ≡ d.classes → IsValid (plain_network connections change classes)
   valid connections classes e h =
-      let P : List Connection → Type 0 = λ x. IsValid (plain_parts x change classes) in
-      let Q : List (List Outcome) → Type 0 = λ x. IsValid (plain_parts cs change x) in
+      let P : List Connection → Type 0 = λ x. IsValid (plain_network x change classes) in
+      let Q : List (List Outcome) → Type 0 = λ x. IsValid (plain_network cs change x) in
       subst P (sym e) (subst Q (sym h) valid_here)
 
-  pub fits : (n : Parts) (names : NameLists) → n.connections ≡ cs → n.change ≡ change → names.places ≡ f.stop_ids → All IsTrimmed f.stop_ids → AreIds f.trip_ids
+  pub fits : (n : NetworkModel) (names : NameLists) → n.connections ≡ cs → n.change ≡ change → names.places ≡ f.stop_ids → All IsTrimmed f.stop_ids → AreIds f.trip_ids
       → AreRunNames f rs (length rs) names.runs → NamesFit names n
   unfolding connection
   fits n names e h places trimmed ids named =

@@ -7,7 +7,7 @@ use Rattle.plan_model.specs.declared.model.Connection.{Connection}
 use Rattle.plan_model.specs.declared.model.Way.{Way}
 use Rattle.plan_model.specs.NameLists.{NameLists, NamesFit}
 use Rattle.plan_model.specs.Network.{AreLinksInto, connection, no_connection}
-use Rattle.plan_model.specs.Parts.{Parts}
+use Rattle.plan_model.specs.NetworkModel.{NetworkModel}
 use Rattle.change_times.specs.Changes.{ChangeParts, links_of, LinksComeFrom}
 
 -- the links of changes, one list for each of so many places, are links of a network with so many
@@ -19,7 +19,7 @@ links_fit places c are from links e r inside =
     subst (AreLinksInto places r) (sym here) (record { rising = a.rising; inside = from r; others = a.others; takes = a.takes })
 
 -- names fit by the connections and the places alone
-pub names_fit : (names : NameLists) (n m : Parts) → n.connections ≡ m.connections → n.change ≡ m.change → NamesFit names n → NamesFit names m
+pub names_fit : (names : NameLists) (n m : NetworkModel) → n.connections ≡ m.connections → n.change ≡ m.change → NamesFit names n → NamesFit names m
 unfolding connection
 names_fit names n m e h a =
     let run : (i : ℕ) → (get_or n.connections i no_connection).run.0 ≡ (get_or m.connections i no_connection).run.0 = λ i. ap (λ (cs : List Connection). (get_or cs i no_connection).run.0) e in

@@ -1,5 +1,6 @@
 -- The names of runs: no two runs have one name, and none begins or ends with a space.
-use Rattle.std.proofs.Common.{◌≡◌, ◌≢◌, ℕ, zero, suc, ◌+◌, ◌-◌, ◌<◌, ◌≤◌, Bool, true, false, List, [], ◌∷◌, ◌++◌, length, take, drop, get_or, slice_index_or, Some, None, Option, ℤ, All, decimal, ◌^◌, refl, sym, ap, ap₂, ◌∙◌, subst, arith, ⊎_elim, length-append}
+use Rattle.std.proofs.Common.{◌≡◌, ◌≢◌, ℕ, zero, suc, ◌+◌, ◌-◌, ◌<◌, ◌≤◌, Bool, true, false, List, [], ◌∷◌, ◌++◌, length, take, drop, get_or, slice_index_or, Some, None, Option, ℤ, All, decimal}
+use Rattle.std.proofs.Common.{◌^◌, refl, sym, ap, ap₂, ◌∙◌, subst, arith, ⊎_elim, length-append}
 use Rattle.std.specs.List.{list_all}
 use Rattle.std.specs.Char.{is_ascii_digit}
 use Rattle.std.proofs.lemmas.Bool.{cases_lt, and_parts, and_from}

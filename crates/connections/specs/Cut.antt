@@ -3,7 +3,7 @@ use Rattle.std.specs.Prelude.{ℕ, length, Option}
 use Rattle.csv_rows.specs.declared.limits.Limits.{Limits}
 use Rattle.csv_rows.specs.Lists.{list_below}
 use Rattle.plan_model.specs.NameLists.{NameLists}
-use Rattle.plan_model.specs.Parts.{Parts}
+use Rattle.plan_model.specs.NetworkModel.{NetworkModel}
 use Rattle.change_times.specs.Changes.{ChangeParts, seconds_of, links_of}
 use Rattle.delay_table.specs.DelayLists.{DelayLists}
 use Rattle.gtfs_tables.specs.Feeds.{FeedParts}
@@ -16,8 +16,9 @@ use Rattle.connections.specs.Networks.{IsNetworkOf}
 
 -- its connections are the rides in the window, its change seconds and links are those of the feed's transfers, and its classes
 -- those of the delays
-abbrev pub IsNetworkFrom : FeedParts → ServiceParts → ChangeParts → DelayLists → (start horizon : ℕ) → Parts → NameLists → Type 0
-IsNetworkFrom f s c d start horizon n names = IsNetworkOf f s (list_below (seconds_of c) (length f.stop_ids)) (list_below (links_of c) (length f.stop_ids)) d (window_of start horizon) n names
+abbrev pub IsNetworkFrom : FeedParts → ServiceParts → ChangeParts → DelayLists → (start horizon : ℕ) → NetworkModel → NameLists → Type 0
+IsNetworkFrom f s c d start horizon network names =
+    IsNetworkOf f s (list_below (seconds_of c) (length f.stop_ids)) (list_below (links_of c) (length f.stop_ids)) d (window_of start horizon) network names
 
 -- how many connections the window has
 abbrev pub connection_count : FeedParts → ServiceParts → (start horizon : ℕ) → ℕ

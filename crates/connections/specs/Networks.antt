@@ -5,7 +5,7 @@ use Rattle.clock_text.specs.Times.{date_at}
 use Rattle.plan_model.specs.declared.model.Connection.{Connection}
 use Rattle.plan_model.specs.declared.model.Way.{Way}
 use Rattle.plan_model.specs.NameLists.{NameLists}
-use Rattle.plan_model.specs.Parts.{Parts}
+use Rattle.plan_model.specs.NetworkModel.{NetworkModel}
 use Rattle.delay_table.specs.DelayLists.{DelayLists, class_for}
 use Rattle.stop_times.specs.declared.rows.StopRow.{StopRow}
 use Rattle.gtfs_tables.specs.Feeds.{FeedParts}
@@ -83,10 +83,10 @@ pub record AreRunNames (f : FeedParts) (rs : List Run) (n : ℕ) (names : List (
 
 -- the network of a window: its connections, the change seconds of each place, the links into it, and the classes of the
 -- delays; places have the ids of their stops as names
-pub record IsNetworkOf (f : FeedParts) (s : ServiceParts) (change : List ℕ) (links : List (List Way)) (d : DelayLists) (w : Window) (n : Parts) (names : NameLists) : Type 0 where
-  pub connections : n.connections ≡ connections_in f s d w
-  pub change_of_places : n.change ≡ change
-  pub links_of_places : n.links ≡ links
-  pub classes_of_delays : n.classes ≡ d.classes
+pub record IsNetworkOf (f : FeedParts) (s : ServiceParts) (change : List ℕ) (links : List (List Way)) (d : DelayLists) (w : Window) (network : NetworkModel) (names : NameLists) : Type 0 where
+  pub connections : network.connections ≡ connections_in f s d w
+  pub change_of_places : network.change ≡ change
+  pub links_of_places : network.links ≡ links
+  pub classes_of_delays : network.classes ≡ d.classes
   pub places : names.places ≡ f.stop_ids
   pub runs : AreRunNames f (runs_in f s w) (length (runs_in f s w)) names.runs

@@ -1,7 +1,7 @@
 -- The names of a cut file fit its network.
 use Rattle.std.proofs.Common.{◌≡◌, ℕ, ◌<◌, List, length, slice_get, Some, sym, ap, ◌∙◌, subst, arith, ⊎_elim, All}
 use Rattle.std.proofs.lemmas.Option.{get_or_from_slice_get}
-use Rattle.plan_model.specs.Parts.{Parts}
+use Rattle.plan_model.specs.NetworkModel.{NetworkModel}
 use Rattle.plan_model.specs.NameLists.{NameLists, IsTrimmed, NamesFit}
 use Rattle.plan_model.specs.Network.{count}
 use Rattle.csv_rows.specs.declared.columns.Column.TheVariants.{Run, From, To}
@@ -22,7 +22,7 @@ use Rattle.cut_file.proofs.Valid.{none_of, is_at, key_of_run, run_inside}
 abbrev pub name_lists : Cut → NameLists
 name_lists cut = record { places = cut.places; runs = cut.runs }
 
-module _ (cut : Cut) (delays : DelayLists) (n : Parts) (s : IsSound cut) (f : AreDelays delays) (net : IsNetwork cut delays n) where
+module _ (cut : Cut) (delays : DelayLists) (n : NetworkModel) (s : IsSound cut) (f : AreDelays delays) (net : IsNetwork cut delays n) where
   form : (i : ℕ) → i < row_count s.table → InForm (field s.table Run i) (field s.table From i) (field s.table To i) (row s.table i)
   form i l = row_in_form s.table i (none-each (bad_field s.table) (row_count s.table) (none_of cut delays n s f net).fields i l)
 

@@ -2,7 +2,7 @@
 use Rattle.std.proofs.Common.{◌≡◌, ℕ, ◌<◌, List, length, get_or, ap, ◌∙◌, refl, subst, arith}
 use Rattle.plan_model.specs.declared.model.Connection.{Connection}
 use Rattle.plan_model.specs.declared.model.Outcome.{Outcome}
-use Rattle.plan_model.specs.Parts.{plain_parts}
+use Rattle.plan_model.specs.NetworkModel.{plain_network}
 use Rattle.plan_model.specs.Network.{change_of}
 use Rattle.delay_table.specs.DelayLists.{DelayLists}
 use Rattle.cut_file.specs.declared.rows.CutRow.{CutRow}
@@ -13,7 +13,7 @@ use Rattle.cut_file.specs.Networks.{AreConnections, IsNetwork, longest, change_f
 pub make_network : (cut : Cut) (delays : DelayLists) (r : List CutRow) (k : List Key) (places : ℕ) (connections : List Connection) (change : List ℕ) (classes : List (List Outcome))
     → r ≡ cut.rows → k ≡ cut.keys → places ≡ length cut.places → length change ≡ places
     → ((p : ℕ) → p < places → get_or change p 0 ≡ change_from (longest r (length r) p)) → AreConnections delays r k (length k) connections → classes ≡ delays.classes
-    → IsNetwork cut delays (plain_parts connections change classes)
+    → IsNetwork cut delays (plain_network connections change classes)
 unfolding change_of
 make_network cut delays r k places connections change classes e f count size each made same =
     record {

@@ -1,7 +1,7 @@
 -- The network of a cut file by the rows of its table.
 use Rattle.std.proofs.Common.{◌≡◌, ℕ, zero, suc, ◌<◌, ◌≤◌, max, List, length, slice_get, Option, Some, None, if◌then◌else◌, bytes_eq, refl, sym, ap, ap₂, ◌∙◌, subst, arith}
 use Rattle.std.proofs.lemmas.Option.{slice_get_within}
-use Rattle.plan_model.specs.Parts.{Parts}
+use Rattle.plan_model.specs.NetworkModel.{NetworkModel}
 use Rattle.plan_model.specs.Network.{count, connection, no_connection}
 use Rattle.csv_rows.specs.Tables.{row_count}
 use Rattle.delay_table.specs.DelayLists.{DelayLists, class_for}
@@ -16,7 +16,7 @@ use Rattle.cut_file.proofs.Repeats.{one_place_name}
 use Rattle.cut_file.proofs.Distinct.{same_name}
 use Rattle.cut_file.proofs.Fit.{name_lists}
 
-module _ (t : List (List (List ℕ))) (cut : Cut) (delays : DelayLists) (n : Parts) (read : IsRead t cut.runs cut.places cut.rows cut.keys) (net : IsNetwork cut delays n) where
+module _ (t : List (List (List ℕ))) (cut : Cut) (delays : DelayLists) (n : NetworkModel) (read : IsRead t cut.runs cut.places cut.rows cut.keys) (net : IsNetwork cut delays n) where
   ride : (i : ℕ) → i < count n → IsRide (name_lists cut) delays (row t (key_at cut.keys i).row) (connection n i)
   unfolding connection
   ride i l =

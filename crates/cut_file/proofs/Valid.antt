@@ -6,7 +6,7 @@ use Rattle.std.proofs.lemmas.Bool.Decides.{nat_tests}
 use Rattle.std.proofs.lemmas.Option.{slice_get_within}
 use Rattle.std.specs.Option.{option_or}
 use Rattle.plan_model.proofs.Links.{AreLinks-none}
-use Rattle.plan_model.specs.Parts.{Parts}
+use Rattle.plan_model.specs.NetworkModel.{NetworkModel}
 use Rattle.plan_model.specs.Rows.{IsValidRow}
 use Rattle.plan_model.specs.Network.{IsValid, IsValidConnection, AreLinks, count, connection, no_connection, row_of, run_of, step_of}
 use Rattle.plan_model.proofs.Local.{FitsNext, IsLocallyValid, IsValid-from_local}
@@ -95,7 +95,7 @@ some_on s h = grind (arith, nat_tests)
 change_fits : (s : ℕ) → s ≤ 86400 → (1 ≤ change_from s) × (change_from s ≤ 86400)
 change_fits s l = from_if (s == 0) s (some_on s) l
 
-module _ (cut : Cut) (delays : DelayLists) (n : Parts) (s : IsSound cut) (f : AreDelays delays) (net : IsNetwork cut delays n) where
+module _ (cut : Cut) (delays : DelayLists) (n : NetworkModel) (s : IsSound cut) (f : AreDelays delays) (net : IsNetwork cut delays n) where
   pub none_of : HasNone s.table s.limit
   none_of = has_none s.table s.limit s.none
 

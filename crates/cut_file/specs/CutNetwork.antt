@@ -3,7 +3,7 @@ use Rattle.std.specs.Prelude.{◌≡◌, ℕ, zero, suc, ◌<◌, max, List, [],
 use Rattle.std.specs.Str.{bytes_eq}
 use Rattle.plan_model.specs.declared.model.Connection.{Connection}
 use Rattle.plan_model.specs.NameLists.{NameLists}
-use Rattle.plan_model.specs.Parts.{Parts}
+use Rattle.plan_model.specs.NetworkModel.{NetworkModel}
 use Rattle.plan_model.specs.Network.{count, connection, change_of}
 use Rattle.csv_rows.specs.Tables.{row_count}
 use Rattle.delay_table.specs.DelayLists.{DelayLists, class_for}
@@ -32,13 +32,13 @@ largest t place (suc n) = max (largest t place n) (if bytes_eq (row t n).from pl
 
 -- the connections are the rows, runs and places are numbered as they first stand, and the classes are those of the delays;
 -- a cut file tells no links
-pub record IsCutNetwork (t : List (List (List ℕ))) (delays : DelayLists) (n : Parts) (names : NameLists) : Type 0 where
+pub record IsCutNetwork (t : List (List (List ℕ))) (delays : DelayLists) (network : NetworkModel) (names : NameLists) : Type 0 where
   pub runs : names.runs ≡ run_names t (row_count t)
   pub places : names.places ≡ place_names t (row_count t)
-  pub size : count n ≡ row_count t
-  pub rides : (i : ℕ) → i < count n → (k : ℕ) × (k < row_count t) × IsRide names delays (row t k) (connection n i)
-  pub rows : (k : ℕ) → k < row_count t → (i : ℕ) × (i < count n) × IsRide names delays (row t k) (connection n i)
-  pub changes : length n.change ≡ length names.places
-  pub change : (p : ℕ) (place : List ℕ) → slice_get names.places p ≡ Some place → change_of n p ≡ change_from (largest t place (row_count t))
-  pub classes : n.classes ≡ delays.classes
-  pub links : n.links ≡ []
+  pub size : count network ≡ row_count t
+  pub rides : (i : ℕ) → i < count network → (k : ℕ) × (k < row_count t) × IsRide names delays (row t k) (connection network i)
+  pub rows : (k : ℕ) → k < row_count t → (i : ℕ) × (i < count network) × IsRide names delays (row t k) (connection network i)
+  pub changes : length network.change ≡ length names.places
+  pub change : (p : ℕ) (place : List ℕ) → slice_get names.places p ≡ Some place → change_of network p ≡ change_from (largest t place (row_count t))
+  pub classes : network.classes ≡ delays.classes
+  pub links : network.links ≡ []

@@ -1,7 +1,7 @@
 -- The network of a cut file with the delays of a table.
 use Rattle.std.specs.Prelude.{◌≡◌, ℕ, zero, suc, ◌<◌, ◌==◌, max, Bool, List, [], length, slice_index_or, Option, Some, None, if◌then◌else◌}
 use Rattle.plan_model.specs.declared.model.Connection.{Connection}
-use Rattle.plan_model.specs.Parts.{Parts}
+use Rattle.plan_model.specs.NetworkModel.{NetworkModel}
 use Rattle.plan_model.specs.Network.{change_of}
 use Rattle.delay_table.specs.DelayLists.{DelayLists, class_for}
 use Rattle.cut_file.specs.declared.rows.CutRow.{CutRow}
@@ -45,9 +45,9 @@ abbrev pub change_from : ℕ → ℕ
 change_from seconds = if seconds == 0 then 120 else seconds
 
 -- the network of a cut file and delays, which tells no links
-pub record IsNetwork (cut : Cut) (delays : DelayLists) (n : Parts) : Type 0 where
-  pub connections : AreConnections delays cut.rows cut.keys (length cut.keys) n.connections
-  pub places : length n.change ≡ length cut.places
-  pub change : (p : ℕ) → p < length cut.places → change_of n p ≡ change_from (longest cut.rows (length cut.rows) p)
-  pub classes : n.classes ≡ delays.classes
-  pub links : n.links ≡ []
+pub record IsNetwork (cut : Cut) (delays : DelayLists) (network : NetworkModel) : Type 0 where
+  pub connections : AreConnections delays cut.rows cut.keys (length cut.keys) network.connections
+  pub places : length network.change ≡ length cut.places
+  pub change : (p : ℕ) → p < length cut.places → change_of network p ≡ change_from (longest cut.rows (length cut.rows) p)
+  pub classes : network.classes ≡ delays.classes
+  pub links : network.links ≡ []

@@ -2,7 +2,7 @@
 use Rattle.std.proofs.Common.{◌≡◌, ℕ, Option, Some, None, sym, ◌∙◌, subst}
 use Rattle.std.specs.Prelude.{IfSome, MatchOption}
 use Rattle.plan_model.specs.declared.model.Query.{Query}
-use Rattle.plan_model.specs.Parts.{Parts}
+use Rattle.plan_model.specs.NetworkModel.{NetworkModel}
 use Rattle.plan_model.specs.Tree.{Tree}
 use Rattle.plan_graph.specs.declared.ExpandedGraph.{ExpandedGraph}
 use Rattle.plan_graph.specs.declared.PlanGraph.{PlanGraph}
@@ -21,7 +21,7 @@ match_some None a N P is p = absurd (cc)
 match_some (Some b) a N P is p = let same : b ≡ a = (cc) in subst P same p
 
 -- the plan unfolds to the strategy of the graph
-pub planned : {V : Type 0} (below covers : V → Tree → Type 0) (gap : V → ℕ) (arrived : ℕ → V) (n : Parts) (q : Query) (graph pruned : ExpandedGraph)
+pub planned : {V : Type 0} (below covers : V → Tree → Type 0) (gap : V → ℕ) (arrived : ℕ → V) (n : NetworkModel) (q : Query) (graph pruned : ExpandedGraph)
     (plan : PlanGraph) (value : V) → IsExpandedBy below covers gap arrived n q graph value → unfold_expanded pruned n q ≡ unfold_expanded graph n q
     → unfold_plan plan n q ≡ unfold_expanded pruned n q → IsTidy n q plan → IsPlannedBy below covers gap arrived n q plan value
 planned below covers gap arrived n q graph pruned plan value expanded prunes compacts tidy = record {

@@ -4,25 +4,25 @@ use Rattle.plan_model.specs.Bounds.{nanos_per_second}
 use Rattle.interval_fixed.specs.Interval.{Interval}
 use Rattle.plan_model.specs.Expected.{Below, Encloses}
 use Rattle.plan_model.specs.declared.model.Query.{Query}
-use Rattle.plan_model.specs.Parts.{Parts}
+use Rattle.plan_model.specs.NetworkModel.{NetworkModel}
 use Rattle.plan_model.specs.Network.{count}
 use Rattle.plan_model.specs.Tree.{Tree}
 use Rattle.plan_model.specs.Strategy.{IsSafeFor}
 
 -- the strategy is safe; the value covers it and is below every safe strategy, this one too;
 -- its gap is at most the number of connections; where source and target are one place, it is that of having arrived at the start
-pub record IsBestBy {V : Type 0} (below covers : V → Tree → Type 0) (gap : V → ℕ) (arrived : ℕ → V) (n : Parts) (q : Query) (strategy : Tree) (value : V) : Type 0 where
-  pub safe : IsSafeFor n q strategy
+pub record IsBestBy {V : Type 0} (below covers : V → Tree → Type 0) (gap : V → ℕ) (arrived : ℕ → V) (network : NetworkModel) (query : Query) (strategy : Tree) (value : V) : Type 0 where
+  pub safe : IsSafeFor network query strategy
   pub covers_own : covers value strategy
-  pub below_safe : (tree : Tree) → IsSafeFor n q tree → below value tree
-  pub gap_within : gap value ≤ count n
-  pub at_once : q.source.0 ≡ q.target.0 → value ≡ arrived q.start.0
+  pub below_safe : (tree : Tree) → IsSafeFor network query tree → below value tree
+  pub gap_within : gap value ≤ count network
+  pub at_once : query.source.0 ≡ query.target.0 → value ≡ arrived query.start.0
 
 -- the strategy is safe; the bounds enclose its expected arrival, and the lower one is below that of every safe strategy;
 -- they differ by at most one nanosecond for each connection of the network; where source and target are one place, both are the start
-pub record IsBest (n : Parts) (q : Query) (strategy : Tree) (bounds : Interval) : Type 0 where
-  pub safe : IsSafeFor n q strategy
+pub record IsBest (network : NetworkModel) (query : Query) (strategy : Tree) (bounds : Interval) : Type 0 where
+  pub safe : IsSafeFor network query strategy
   pub encloses : Encloses bounds.lo bounds.hi strategy
-  pub below_safe : (tree : Tree) → IsSafeFor n q tree → Below bounds.lo tree
-  pub gap : bounds.hi - bounds.lo ≤ count n
-  pub at_once : q.source.0 ≡ q.target.0 → bounds ≡ record { lo = nanos_per_second * q.start.0; hi = nanos_per_second * q.start.0 }
+  pub below_safe : (tree : Tree) → IsSafeFor network query tree → Below bounds.lo tree
+  pub gap : bounds.hi - bounds.lo ≤ count network
+  pub at_once : query.source.0 ≡ query.target.0 → bounds ≡ record { lo = nanos_per_second * query.start.0; hi = nanos_per_second * query.start.0 }

@@ -5,7 +5,7 @@ use Rattle.std.proofs.lemmas.List.Elements.{All-nil}
 use Rattle.std.proofs.lemmas.Bool.Decides.{nat_tests}
 use Rattle.plan_model.specs.declared.model.Moment.{Moment}
 use Rattle.plan_model.specs.declared.model.PlaceId.{PlaceId}
-use Rattle.plan_model.specs.Parts.{Parts}
+use Rattle.plan_model.specs.NetworkModel.{NetworkModel}
 use Rattle.plan_model.specs.Network.{IsValid}
 use Rattle.plan_model.specs.Tree.{Tree, Done, Ride, Stuck}
 use Rattle.plan_model.specs.Strategy.{SafeStart}
@@ -16,7 +16,7 @@ use Rattle.journey_model.specs.declared.problem.Problem.{Problem}
 use Rattle.plan_model.specs.declared.model.Query.{Query}
 use Rattle.departure_answers.specs.Departures.{SafeOf, AreDepartures, HasSafeFor, HasNoneFor}
 
-module _ (n : Parts) (source target deadline : ℕ) where
+module _ (n : NetworkModel) (source target deadline : ℕ) where
   -- whoever is at the target has arrived
   pub arrived : source ≡ target → (tree : Tree) (moment : ℕ) → SafeStart n target (Some deadline) tree source moment → moment ≤ deadline
   arrived same (Done a) moment (is, there, early) = early

@@ -19,44 +19,44 @@ query_until p start until = record { source = p.source; target = p.target; start
 
 -- the trees that are safe for a query, but that it starts at another moment
 abbrev pub SafeOf : Problem → Query → ℕ → Tree → Type 0
-SafeOf p q = SafeFrom p.network q.source.0 q
+SafeOf p query = SafeFrom p.network query.source.0 query
 
 -- some tree is safe for the query
 abbrev pub HasSafeFor : Problem → Query → Type 0
-HasSafeFor p q = (tree : Tree) × IsSafeFor p.network q tree
+HasSafeFor p query = (tree : Tree) × IsSafeFor p.network query tree
 
 -- none is
 abbrev pub HasNoneFor : Problem → Query → Type 0
-HasNoneFor p q = (tree : Tree) → IsSafeFor p.network q tree → ⊥
+HasNoneFor p query = (tree : Tree) → IsSafeFor p.network query tree → ⊥
 
 -- the departures from the start of the query to a last moment; none where source and target are one place
-pub record AreDepartures (p : Problem) (q : Query) (last : ℕ) (rows : List DepartureRow) : Type 0 where
-  pub at_once : q.source.0 ≡ q.target.0 → rows ≡ []
-  pub table : q.source.0 ≢ q.target.0 → IsTable p.network (SafeOf p q) q.start.0 last rows
+pub record AreDepartures (p : Problem) (query : Query) (last : ℕ) (rows : List DepartureRow) : Type 0 where
+  pub at_once : query.source.0 ≡ query.target.0 → rows ≡ []
+  pub table : query.source.0 ≢ query.target.0 → IsTable p.network (SafeOf p query) query.start.0 last rows
 
 -- the departures are told; some tree is safe from the first moment
 abbrev pub TellsDepartures : Problem → Query → ℕ → Findings → List ℕ → Type 0
-TellsDepartures p q last found text =
-    (rows : List DepartureRow) × (found ≡ departures_findings q rows) × AreDepartures p q last rows × HasSafeFor p q
-    × (text ≡ departures_text p.network p.names q last rows)
+TellsDepartures p query last found text =
+    (rows : List DepartureRow) × (found ≡ departures_findings query rows) × AreDepartures p query last rows × HasSafeFor p query
+    × (text ≡ departures_text p.network p.names query last rows)
 
 -- the latest moment is told from which a tree is safe
 abbrev pub TellsLatest : Problem → Query → Findings → List ℕ → Type 0
-TellsLatest p q found text =
-    (moment : Moment) × (found ≡ latest_findings q moment) × IsGreatest (SafeOf p q) q.start.0 (Some moment)
-    × (text ≡ latest_text (place_name p.names q.source.0) (place_name p.names q.target.0) q moment)
+TellsLatest p query found text =
+    (moment : Moment) × (found ≡ latest_findings query moment) × IsGreatest (SafeOf p query) query.start.0 (Some moment)
+    × (text ≡ latest_text (place_name p.names query.source.0) (place_name p.names query.target.0) query moment)
 
 -- why departures are not told: no tree is safe from the first moment
 abbrev pub FailsDepartures : Problem → Query → Fault → Type 0
-FailsDepartures p q fault = (fault ≡ NoSafe) × HasNoneFor p q
+FailsDepartures p query fault = (fault ≡ NoSafe) × HasNoneFor p query
 
 -- why no latest moment is told: no tree is safe from any moment on
 abbrev pub FailsLatest : Problem → Query → Fault → Type 0
-FailsLatest p q fault = (fault ≡ NoSafe) × IsGreatest (SafeOf p q) q.start.0 None
+FailsLatest p query fault = (fault ≡ NoSafe) × IsGreatest (SafeOf p query) query.start.0 None
 
 -- its places are the network's, and its moments have texts
-pub record IsUntil (p : Problem) (q : Query) : Type 0 where
-  pub source : q.source.0 < length p.network.change
-  pub target : q.target.0 < length p.network.change
-  pub first : 1 ≤ q.start.0
-  pub order : q.start.0 ≤ q.deadline.0
+pub record IsUntil (p : Problem) (query : Query) : Type 0 where
+  pub source : query.source.0 < length p.network.change
+  pub target : query.target.0 < length p.network.change
+  pub first : 1 ≤ query.start.0
+  pub order : query.start.0 ≤ query.deadline.0

@@ -8,33 +8,33 @@ use Rattle.std.proofs.lemmas.List.FromFn.{map-range_with_len_more, length-map-ra
 use Rattle.plan_model.specs.declared.model.Connection.{Connection}
 use Rattle.plan_model.specs.declared.model.Outcome.{Outcome}
 use Rattle.plan_model.specs.declared.model.Way.{Way}
-use Rattle.plan_model.specs.Parts.{Parts, plain_parts}
+use Rattle.plan_model.specs.NetworkModel.{NetworkModel, plain_network}
 use Rattle.plan_model.specs.Network.{IsValid, AreLinksInto, links_into}
 use Rattle.plan_model.specs.View.{first_way, links_from_added, extended}
 use Rattle.plan_model.proofs.Extended.{is_valid}
 use Rattle.plan_model.proofs.Links.{IsValid-relinked, AreLinks-none}
 
 -- the links into one place more
-pub links_more : (m : Parts) (source place : ℕ) (old now : List (List Way)) (one : List Way) → old ≡ map (links_from_added m source) (range_with_len 0 place)
+pub links_more : (m : NetworkModel) (source place : ℕ) (old now : List (List Way)) (one : List Way) → old ≡ map (links_from_added m source) (range_with_len 0 place)
     → one ≡ links_from_added m source place → now ≡ old ++ one ∷ [] → now ≡ map (links_from_added m source) (range_with_len 0 (place + 1))
 links_more m source place old now one before is grows =
     grows ∙ ap (λ (xs : List (List Way)). xs ++ one ∷ []) before ∙ ap (λ (x : List Way). map (links_from_added m source) (range_with_len 0 place) ++ x ∷ []) is
     ∙ sym (map-range_with_len_more (links_from_added m source) 0 place place (omega arith))
 
 -- none lead into the place that is added
-pub none_added : (m : Parts) → IsValid m → (source : ℕ) → source < length m.change → [] ≡ links_from_added m source (length m.change)
+pub none_added : (m : NetworkModel) → IsValid m → (source : ℕ) → source < length m.change → [] ≡ links_from_added m source (length m.change)
 none_added m v source there =
     let other : (length m.change == source) ≡ false = grind (arith, nat_tests) in
     let past : links_into m (length m.change) ≡ [] = get_or_past m.links (length m.change) [] v.links.few in
     rw (other, past) refl
 
-module _ (m : Parts) (v : IsValid m) (source : ℕ) (there : source < length m.change) (few : length m.change + 1 < 4294967296) where
-  abbrev more : Parts
+module _ (m : NetworkModel) (v : IsValid m) (source : ℕ) (there : source < length m.change) (few : length m.change + 1 < 4294967296) where
+  abbrev more : NetworkModel
   more = extended m source
 
   -- its parts without links are a network
   pub plain_valid : (connections : List Connection) (change : List ℕ) (classes : List (List Outcome)) → connections ≡ m.connections → change ≡ more.change → classes ≡ m.classes
-      → IsValid (plain_parts connections change classes)
+      → IsValid (plain_network connections change classes)
   plain_valid connections change classes a b d =
       rw (a, b, d) (IsValid-relinked more [] (is_valid m v source there few) (AreLinks-none (length more.change)))
 

@@ -2,12 +2,12 @@
 use Rattle.std.proofs.Common.{◌≡◌, ℕ, zero, ◌<◌, ◌≤◌, arith, Option, Some, None, List, [], ◌∷◌, true, refl, subst, sym}
 use Rattle.std.specs.Prelude.{MatchOption, nat_le, ◌↔◌}
 use Rattle.std.proofs.lemmas.Bool.Decides.{nat_tests}
-use Rattle.plan_model.specs.Parts.{Parts}
+use Rattle.plan_model.specs.NetworkModel.{NetworkModel}
 use Rattle.plan_model.specs.Tree.{Tree}
 use Rattle.departure_table.specs.declared.DepartureRow.{DepartureRow}
 use Rattle.departure_table.specs.Departures.{NoneSafe, IsBestFrom, IsTable, row_by}
 
-module _ (m : Parts) (Safe : ℕ → Tree → Type 0) (first last : ℕ) (order : first ≤ last) where
+module _ (m : NetworkModel) (Safe : ℕ → Tree → Type 0) (first last : ℕ) (order : first ≤ last) where
   pub empty_exactly : (rows : List DepartureRow) → IsTable m Safe first last rows → (rows ≡ []) ↔ NoneSafe Safe first
   empty_exactly [] t = ((λ same. t.answers first (omega arith) order), (λ none. refl))
   empty_exactly (row ∷ rows) t =

@@ -5,7 +5,7 @@ use Rattle.std.proofs.lemmas.Bool.{cases_lt}
 use Rattle.std.proofs.lemmas.Bool.Decides.{nat_tests}
 use Rattle.std.proofs.lemmas.List.Quantifiers.{all_pairs_push}
 use Rattle.std.proofs.lemmas.List.Elements.{All-append, All-cons, All-nil}
-use Rattle.plan_model.specs.Parts.{Parts}
+use Rattle.plan_model.specs.NetworkModel.{NetworkModel}
 use Rattle.plan_model.specs.Tree.{Tree}
 use Rattle.departure_table.specs.declared.DepartureRow.{DepartureRow}
 use Rattle.departure_table.specs.Departures.{NoneSafe, IsBestFrom, IsDeparture, IsTable, row_by}
@@ -32,7 +32,7 @@ row_kept moment (r ∷ rows) row found is =
     (cases_lt r.by.0 moment)
 
 -- the table as far as the moments before the next look
-pub record IsTableTo (m : Parts) (Safe : ℕ → Tree → Type 0) (first last next : ℕ) (rows : List DepartureRow) : Type 0 where
+pub record IsTableTo (m : NetworkModel) (Safe : ℕ → Tree → Type 0) (first last next : ℕ) (rows : List DepartureRow) : Type 0 where
   pub in_order : first ≤ next
   pub found : (moment : ℕ) → first ≤ moment → moment < next → (row : DepartureRow) × (row_by moment rows ≡ Some row) × IsBestFrom m Safe moment row
   pub departures : All (IsDeparture m) rows
@@ -40,7 +40,7 @@ pub record IsTableTo (m : Parts) (Safe : ℕ → Tree → Type 0) (first last ne
   pub rising : AllPairs (λ a b. (a.by.0 < b.by.0) × (a.by.0 < last)) rows
   pub before : All (λ row. row.by.0 < next) rows
 
-module _ (m : Parts) (Safe : ℕ → Tree → Type 0) (first last : ℕ) where
+module _ (m : NetworkModel) (Safe : ℕ → Tree → Type 0) (first last : ℕ) where
   pub no_rows : IsTableTo m Safe first last first []
   no_rows = record {
     in_order = omega arith;

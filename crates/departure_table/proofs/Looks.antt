@@ -5,7 +5,7 @@ use Rattle.std.specs.Option.{option_map}
 use Rattle.std.proofs.lemmas.Bool.Decides.{nat_tests}
 use Rattle.plan_model.specs.declared.model.Leg.{Leg}
 use Rattle.plan_model.specs.declared.model.Query.{Query}
-use Rattle.plan_model.specs.Parts.{Parts}
+use Rattle.plan_model.specs.NetworkModel.{NetworkModel}
 use Rattle.plan_model.specs.Network.{IsValid, count, connection, from_of, dep_of, arr_of}
 use Rattle.plan_model.specs.Ways.{way_of, limit_of}
 use Rattle.plan_model.specs.Tree.{Tree, Done, Ride, Stuck, Kids}
@@ -21,7 +21,7 @@ use Rattle.departure_table.specs.declared.DepartureRow.{DepartureRow}
 use Rattle.departure_table.specs.Departures.{IsASecondAway, SafeAfter, NoneSafe, BeginsWith, IsBestFrom, IsDeparture, LooksAhead}
 use Rattle.plan_model.specs.Bounds.{end_of_arrivals}
 
-module _ (n : Parts) (q : Query) (found : Found MeanSpan) (valid : IsValid n) (solves : Solves mean_below mean_covers mean_gap found n q) (second : IsASecondAway n q.source.0) where
+module _ (n : NetworkModel) (q : Query) (found : Found MeanSpan) (valid : IsValid n) (solves : Solves mean_below mean_covers mean_gap found n q) (second : IsASecondAway n q.source.0) where
   abbrev here : ℕ
   here = q.source.0
 

@@ -3,7 +3,7 @@ use Rattle.std.proofs.Common.{◌≡◌, ◌≢◌, ℕ, ◌+◌, ◌-◌, ◌<�
 use Rattle.std.specs.Prelude.{MatchOption, ◌↔◌}
 use Rattle.plan_model.specs.declared.model.Query.{Query}
 use Rattle.plan_model.specs.declared.model.Moment.{Moment}
-use Rattle.plan_model.specs.Parts.{Parts}
+use Rattle.plan_model.specs.NetworkModel.{NetworkModel}
 use Rattle.plan_model.specs.View.{IsExtension}
 use Rattle.plan_model.specs.Network.{IsValid, count, from_of, dep_of}
 use Rattle.plan_model.specs.Ways.{way_of}
@@ -15,7 +15,7 @@ use Rattle.departure_table.specs.Departures.{IsASecondAway, SafeAfter, SafeFrom,
 use Rattle.departure_table.proofs.Empty.{empty_exactly}
 
 -- answers for one kind of safety are answers for the same kind told otherwise
-module _ (n m : Parts) (S T : ℕ → Tree → Type 0) (many : count n ≡ count m)
+module _ (n m : NetworkModel) (S T : ℕ → Tree → Type 0) (many : count n ≡ count m)
     (to : (moment : ℕ) (tree : Tree) → 1 ≤ moment → S moment tree → T moment tree) (from : (moment : ℕ) (tree : Tree) → 1 ≤ moment → T moment tree → S moment tree) where
   best_told : (moment : ℕ) (row : DepartureRow) → 1 ≤ moment → IsBestFrom n S moment row → IsBestFrom m T moment row
   best_told moment row some b = record {
@@ -34,7 +34,7 @@ module _ (n m : Parts) (S T : ℕ → Tree → Type 0) (many : count n ≡ count
       (is.0, (is.1.0, to g.0 is.1.0 (let f = is.0 in omega arith) is.1.1), λ moment later tree safe. is.2 moment later tree (from moment tree (omega arith) safe))
 
 -- from the place that was added everything is a second away
-pub second_away : (n m : Parts) (source : ℕ) → IsExtension n m source → IsValid m → IsASecondAway n (length m.change)
+pub second_away : (n m : NetworkModel) (source : ℕ) → IsExtension n m source → IsValid m → IsASecondAway n (length m.change)
 second_away n m source extends v i seconds less way =
     let inside : i < count m = omega (arith, extends.view.as_many) in
     let from = (seen n m 0 0 extends.view v i inside).from in
@@ -42,7 +42,7 @@ second_away n m source extends v i seconds less way =
     let both = sym (rw here at way) ∙ extends.link in
     cc
 
-module _ (n : Parts) (q : Query) (m : Parts) (source : ℕ) (e : IsExtendedFor n q m source) where
+module _ (n : NetworkModel) (q : Query) (m : NetworkModel) (source : ℕ) (e : IsExtendedFor n q m source) where
   to_source : (moment : ℕ) (tree : Tree) → 1 ≤ moment → SafeAfter n q moment tree → SafeFrom m source q moment tree
   to_source moment tree some safe =
       let place = e.last_place in

@@ -4,7 +4,7 @@ use Rattle.plan_model.specs.declared.model.Leg.{Leg}
 use Rattle.plan_model.specs.declared.model.Query.{Query}
 use Rattle.plan_model.specs.declared.model.Moment.{Moment}
 use Rattle.plan_model.specs.Bounds.{end_of_arrivals}
-use Rattle.plan_model.specs.Parts.{Parts}
+use Rattle.plan_model.specs.NetworkModel.{NetworkModel}
 use Rattle.plan_model.specs.Network.{IsValid, count, from_of, dep_of}
 use Rattle.plan_model.specs.Ways.{way_of}
 use Rattle.plan_model.specs.Tree.{Tree, Ride, Kids}
@@ -15,16 +15,16 @@ use Rattle.meat_scan.specs.Solves.{IsSafeAt}
 use Rattle.departure_table.specs.declared.DepartureRow.{DepartureRow}
 
 -- each way from a place to where a connection can be boarded takes one second
-abbrev pub IsASecondAway : Parts → (place : ℕ) → Type 0
-IsASecondAway n place = (i seconds : ℕ) → i < count n → way_of n place (from_of n i) ≡ Some seconds → seconds ≡ 1
+abbrev pub IsASecondAway : NetworkModel → (place : ℕ) → Type 0
+IsASecondAway network place = (i seconds : ℕ) → i < count network → way_of network place (from_of network i) ≡ Some seconds → seconds ≡ 1
 
 -- the tree is safe for who has been at the source since a second before
-abbrev pub SafeAfter : Parts → Query → ℕ → Tree → Type 0
-SafeAfter n q moment tree = IsSafeAt n q q.source.0 (moment - 1) tree
+abbrev pub SafeAfter : NetworkModel → Query → ℕ → Tree → Type 0
+SafeAfter network query moment tree = IsSafeAt network query query.source.0 (moment - 1) tree
 
 -- the tree is safe for who sets out at a moment or later at a place, with the target and the deadline of the query
-abbrev pub SafeFrom : Parts → ℕ → Query → ℕ → Tree → Type 0
-SafeFrom m source q moment tree = SafeStart m q.target.0 (Some q.deadline.0) tree source moment
+abbrev pub SafeFrom : NetworkModel → ℕ → Query → ℕ → Tree → Type 0
+SafeFrom m source query moment tree = SafeStart m query.target.0 (Some query.deadline.0) tree source moment
 
 -- nothing is safe from a moment on
 abbrev pub NoneSafe : (ℕ → Tree → Type 0) → ℕ → Type 0
@@ -36,13 +36,13 @@ BeginsWith leg tree = (kids : Kids) × (tree ≡ Ride leg.enter.0 leg.exit.0 kid
 
 -- the best of what is safe from a moment on begins with the row's leg: its lower bound is below all that is safe,
 -- and the upper one covers one that begins with the leg
-pub record IsBestFrom (m : Parts) (Safe : ℕ → Tree → Type 0) (moment : ℕ) (row : DepartureRow) : Type 0 where
+pub record IsBestFrom (m : NetworkModel) (Safe : ℕ → Tree → Type 0) (moment : ℕ) (row : DepartureRow) : Type 0 where
   pub below_safe : (tree : Tree) → Safe moment tree → Below row.bounds.lo tree
   pub covers_one : (tree : Tree) × Safe moment tree × BeginsWith row.leg tree × Covers row.bounds.hi tree
   pub gap : row.bounds.hi - row.bounds.lo ≤ count m
 
 -- the row's leg is one of the network, and departs by the row's moment
-pub record IsDeparture (m : Parts) (row : DepartureRow) : Type 0 where
+pub record IsDeparture (m : NetworkModel) (row : DepartureRow) : Type 0 where
   pub is_leg : IsLeg m row.leg.enter.0 row.leg.exit.0
   pub departs : row.by.0 ≡ dep_of m row.leg.enter.0
 
@@ -52,7 +52,7 @@ row_by moment rows = find (λ row. nat_le moment row.by.0) rows
 
 -- the best of what is safe from each moment on, from a first to a last one: the first row by the moment or later; none exactly where nothing is safe.
 -- moments rise, and only the last row may be by the last moment or later
-pub record IsTable (m : Parts) (Safe : ℕ → Tree → Type 0) (first last : ℕ) (rows : List DepartureRow) : Type 0 where
+pub record IsTable (m : NetworkModel) (Safe : ℕ → Tree → Type 0) (first last : ℕ) (rows : List DepartureRow) : Type 0 where
   pub answers : (moment : ℕ) → first ≤ moment → moment ≤ last → MatchOption (row_by moment rows) (NoneSafe Safe moment) (IsBestFrom m Safe moment)
   pub departures : All (IsDeparture m) rows
   pub from_first : All (λ row. first ≤ row.by.0) rows
@@ -66,25 +66,25 @@ IsGreatest Safe first result =
     (λ greatest. (first ≤ greatest.0) × ((tree : Tree) × Safe greatest.0 tree) × ((moment : ℕ) → greatest.0 < moment → NoneSafe Safe moment))
 
 -- what the choice at a moment says of all from then on: a row by which it is the best, or that nothing is safe any more
-abbrev pub LooksAhead : Parts → (ℕ → Tree → Type 0) → ℕ → Option DepartureRow → Type 0
+abbrev pub LooksAhead : NetworkModel → (ℕ → Tree → Type 0) → ℕ → Option DepartureRow → Type 0
 LooksAhead m Safe next found =
     MatchOption found
     ((moment : ℕ) → next ≤ moment → NoneSafe Safe moment)
     (λ row. (next ≤ row.by.0) × (row.by.0 < end_of_arrivals) × IsDeparture m row × ((moment : ℕ) → next ≤ moment → moment ≤ row.by.0 → IsBestFrom m Safe moment row))
 
 -- the network is that of m with a place more, where the query has its source, and its target is another place of m than the one it leads to
-pub record IsExtendedFor (n : Parts) (q : Query) (m : Parts) (source : ℕ) : Type 0 where
-  pub extends : IsExtension n m source
+pub record IsExtendedFor (network : NetworkModel) (query : Query) (m : NetworkModel) (source : ℕ) : Type 0 where
+  pub extends : IsExtension network m source
   pub valid : IsValid m
-  pub last_place : q.source.0 ≡ length m.change
-  pub target_there : q.target.0 < length m.change
-  pub away : source ≢ q.target.0
+  pub last_place : query.source.0 ≡ length m.change
+  pub target_there : query.target.0 < length m.change
+  pub away : source ≢ query.target.0
 
 -- what the table and the greatest moment say of the extended network, they say of the network itself; the table is empty exactly where
 -- nothing is safe from the first moment on
-pub record SaysOfSource (n : Parts) (q : Query) (m : Parts) (source : ℕ) : Type 0 where
-  pub second : IsASecondAway n q.source.0
-  pub tables : (first last : ℕ) (rows : List DepartureRow) → 1 ≤ first → IsTable n (SafeAfter n q) first last rows → IsTable m (SafeFrom m source q) first last rows
-  pub empty_exactly : (first last : ℕ) (rows : List DepartureRow) → 1 ≤ first → first ≤ last → IsTable n (SafeAfter n q) first last rows →
-      (rows ≡ []) ↔ NoneSafe (SafeFrom m source q) first
-  pub greatest : (first : ℕ) (result : Option Moment) → 1 ≤ first → IsGreatest (SafeAfter n q) first result → IsGreatest (SafeFrom m source q) first result
+pub record SaysOfSource (network : NetworkModel) (query : Query) (m : NetworkModel) (source : ℕ) : Type 0 where
+  pub second : IsASecondAway network query.source.0
+  pub tables : (first last : ℕ) (rows : List DepartureRow) → 1 ≤ first → IsTable network (SafeAfter network query) first last rows → IsTable m (SafeFrom m source query) first last rows
+  pub empty_exactly : (first last : ℕ) (rows : List DepartureRow) → 1 ≤ first → first ≤ last → IsTable network (SafeAfter network query) first last rows →
+      (rows ≡ []) ↔ NoneSafe (SafeFrom m source query) first
+  pub greatest : (first : ℕ) (result : Option Moment) → 1 ≤ first → IsGreatest (SafeAfter network query) first result → IsGreatest (SafeFrom m source query) first result

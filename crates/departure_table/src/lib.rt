@@ -5,7 +5,7 @@
 #![tactic(auto)]
 
 ghost use Rattle.std.specs.Prelude.{◌≡◌, ◌≢◌, ℕ, ◌+◌, ◌<◌, ◌≤◌, IfOk};
-ghost use Rattle.plan_model.specs.Parts.{Parts};
+ghost use Rattle.plan_model.specs.NetworkModel.{NetworkModel};
 ghost use Rattle.plan_model.specs.Network.{IsValid};
 ghost use Rattle.value_laws.specs.Means.{mean_below, mean_covers, mean_gap};
 ghost use Rattle.meat_scan.specs.Solves.{Solves};
@@ -115,5 +115,5 @@ pub fn greatest(
 
 /// What the table and the greatest moment say of an extended network, they say of the network.
 pub fn says_of_source()
-    ensures { (n : Parts) (q : Asked) (m : Parts) (source : ℕ) → IsExtendedFor n q m source → SaysOfSource n q m source }
+    ensures { (n : NetworkModel) (q : Asked) (m : NetworkModel) (source : ℕ) → IsExtendedFor n q m source → SaysOfSource n q m source }
 {}

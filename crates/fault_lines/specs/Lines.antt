@@ -23,7 +23,8 @@ use Rattle.journey_model.specs.declared.faults.Which.TheVariants as which
 use Rattle.journey_model.specs.declared.faults.LimitKind.{LimitKind}
 use Rattle.journey_model.specs.declared.faults.LimitKind.TheVariants.{Bytes, Rows, CutRows, Connections, Entries}
 use Rattle.journey_model.specs.declared.faults.Fault.{Fault}
-use Rattle.journey_model.specs.declared.faults.Fault.TheVariants.{Words, Feed, Cut, Missing, Delays, UnknownStop, Limit, Read, NoSafe, GraphFile, Replay, ProofFile, ProofFails, Unsafe, Write, NoMemory}
+use Rattle.journey_model.specs.declared.faults.Fault.TheVariants.{Words, Feed, Cut, Missing, Delays, UnknownStop, Limit, Read, NoSafe, GraphFile, Replay, ProofFile, ProofFails, Unsafe, Write}
+use Rattle.journey_model.specs.declared.faults.Fault.TheVariants.{NoMemory}
 use Rattle.journey_model.specs.Faults.{input_name}
 use Rattle.journey_model.specs.Sites.{NamedParts, site_of, site_text_in}
 

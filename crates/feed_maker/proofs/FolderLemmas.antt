@@ -2,22 +2,22 @@
 use Rattle.std.proofs.Common.{◌≡◌, ℕ, List, [], ◌∷◌, ◌++◌, Bool, true, false, refl, ap, sym, ◌∙◌, codes}
 use Rattle.std.specs.Prelude.{Option, None, Some, if◌then◌else◌, bytes_eq}
 use Rattle.std.proofs.lemmas.Slice.Eq.{bytes_eq-Decides}
-use Rattle.file_ports.specs.Ports.{Folder, file_at}
+use Rattle.file_ports.specs.Ports.{FileMap, file_at}
 use Rattle.file_ports.specs.Steady.{PutsFile}
 use Rattle.feed_maker.specs.Tables.{stops_text, routes_text, trips_text, stop_times_text, calendar_text, delays_text}
 use Rattle.feed_maker.specs.Made.{made, other_files, SameFolder}
 
-pub folder_none : (folder : Folder) → folder ≡ [] → SameFolder [] folder
-folder_none folder none = λ path. ap (λ (files : Folder). file_at files path) none
+pub folder_none : (folder : FileMap) → folder ≡ [] → SameFolder [] folder
+folder_none folder none = λ path. ap (λ (files : FileMap). file_at files path) none
 
-pub folder_more : (rest old new : Folder) (path put bytes : List ℕ) → SameFolder rest old → put ≡ bytes → PutsFile old new path put
+pub folder_more : (rest old new : FileMap) (path put bytes : List ℕ) → SameFolder rest old → put ≡ bytes → PutsFile old new path put
     → SameFolder ((path, bytes) ∷ rest) new
 folder_more rest old new path put bytes same is puts = λ p.
     puts p ∙ ap (λ (text : List ℕ). if bytes_eq path p then Some text else file_at old p) is
     ∙ ap (λ (other : Option (List ℕ)). if bytes_eq path p then Some bytes else other) (same p)
 
 -- a file that stands in front of the others
-pub folder_front : (rest old : Folder) (path put bytes : List ℕ) → SameFolder rest old → put ≡ bytes
+pub folder_front : (rest old : FileMap) (path put bytes : List ℕ) → SameFolder rest old → put ≡ bytes
     → SameFolder ((path, bytes) ∷ rest) ((path, put) ∷ old)
 folder_front rest old path put bytes same is = λ p.
     ap (λ (text : List ℕ). if bytes_eq path p then Some text else file_at old p) is
@@ -29,19 +29,19 @@ found_behind true bytes before both behind more none = absurd (let k : Some byte
 found_behind false bytes before both behind more none = more none
 
 -- where no file before has the path
-file_at-behind : (before after : Folder) (path : List ℕ) → file_at before path ≡ None → file_at (before ++ after) path ≡ file_at after path
+file_at-behind : (before after : FileMap) (path : List ℕ) → file_at before path ≡ None → file_at (before ++ after) path ≡ file_at after path
 file_at-behind [] after path none = refl
 file_at-behind (f ∷ fs) after path none =
     found_behind (bytes_eq f.0 path) f.1 (file_at fs path) (file_at (fs ++ after) path) (file_at after path) (file_at-behind fs after path) none
 
 -- a file of another path counts nowhere
-file_at-without : (before after : Folder) (path bytes other : List ℕ) → bytes_eq path other ≡ false
+file_at-without : (before after : FileMap) (path bytes other : List ℕ) → bytes_eq path other ≡ false
     → file_at (before ++ after) other ≡ file_at (before ++ (path, bytes) ∷ after) other
 file_at-without [] after path bytes other apart = sym (ap (λ (b : Bool). if b then Some bytes else file_at after other) apart)
 file_at-without (f ∷ fs) after path bytes other apart =
     ap (λ (found : Option (List ℕ)). if bytes_eq f.0 other then Some f.1 else found) (file_at-without fs after path bytes other apart)
 
-moved_at : (before after : Folder) (path bytes p : List ℕ) (b : Bool) → bytes_eq path p ≡ b → file_at before path ≡ None
+moved_at : (before after : FileMap) (path bytes p : List ℕ) (b : Bool) → bytes_eq path p ≡ b → file_at before path ≡ None
     → (if b then Some bytes else file_at (before ++ after) p) ≡ file_at (before ++ (path, bytes) ∷ after) p
 moved_at before after path bytes p true is none =
     let same : path ≡ p = (bytes_eq-Decides path p).0 is in
@@ -50,7 +50,7 @@ moved_at before after path bytes p true is none =
 moved_at before after path bytes p false is none = file_at-without before after path bytes p is
 
 -- a file whose path no file before it has can as well stand in front
-folder_moved : (before after : Folder) (path bytes : List ℕ) → file_at before path ≡ None
+folder_moved : (before after : FileMap) (path bytes : List ℕ) → file_at before path ≡ None
     → SameFolder (before ++ (path, bytes) ∷ after) ((path, bytes) ∷ (before ++ after))
 folder_moved before after path bytes none = λ p. moved_at before after path bytes p (bytes_eq path p) refl none
 
@@ -58,6 +58,6 @@ folder_moved before after path bytes none = λ p. moved_at before after path byt
 pub stop_times_first : (lines : ℕ) → SameFolder (made lines) ((codes "feed/stop_times.txt", stop_times_text lines) ∷ other_files lines)
 unfolding made other_files
 stop_times_first lines =
-    let before : Folder = (codes "feed/stops.txt", stops_text lines) ∷ (codes "feed/routes.txt", routes_text lines) ∷ (codes "feed/trips.txt", trips_text lines) ∷ [] in
-    let after : Folder = (codes "feed/calendar.txt", calendar_text) ∷ (codes "delays.csv", delays_text) ∷ [] in
+    let before : FileMap = (codes "feed/stops.txt", stops_text lines) ∷ (codes "feed/routes.txt", routes_text lines) ∷ (codes "feed/trips.txt", trips_text lines) ∷ [] in
+    let after : FileMap = (codes "feed/calendar.txt", calendar_text) ∷ (codes "delays.csv", delays_text) ∷ [] in
     folder_moved before after (codes "feed/stop_times.txt") (stop_times_text lines) refl

@@ -2,7 +2,7 @@
 use Rattle.std.proofs.Common.{◌≡◌, ℕ, List, ◌∷◌, Bool, true, false, refl, ap, sym, ◌∙◌}
 use Rattle.std.specs.Prelude.{Option, Some, Result, Ok, Err, if◌then◌else◌, bytes_eq}
 use Rattle.std.proofs.lemmas.Slice.Eq.{bytes_eq-Decides}
-use Rattle.file_ports.specs.Ports.{Folder, file_at, Opens}
+use Rattle.file_ports.specs.Ports.{FileMap, file_at, Opens}
 use Rattle.file_ports.specs.declared.ports.Presence.{Presence}
 use Rattle.file_ports.specs.declared.ports.Presence.TheVariants.{Present, Absent}
 
@@ -13,7 +13,7 @@ other_path x y true h n =
     absurd (let k : true ≡ false = sym same ∙ n in cc)
 
 -- it is opened like the only one
-pub opens_behind : {E : Type 0} (path first text : List ℕ) (others : Folder) (result : Result Presence E) (left : Option (List ℕ)) → bytes_eq path first ≡ false
+pub opens_behind : {E : Type 0} (path first text : List ℕ) (others : FileMap) (result : Result Presence E) (left : Option (List ℕ)) → bytes_eq path first ≡ false
     → Opens (Some others) path result left → Opens (Some ((first, text) ∷ others)) path result left
 opens_behind path first text others (Ok Present) left n h =
     let e = ap (λ (b : Bool). if b then Some text else file_at others path) (other_path path first (bytes_eq first path) refl n) in

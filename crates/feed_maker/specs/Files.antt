@@ -1,13 +1,13 @@
 -- What the files of a made timetable stand for.
 use Rattle.std.specs.Prelude.{ℕ, List, ◌∷◌, Option, Some, codes, if◌then◌else◌}
-use Rattle.file_ports.specs.Ports.{Folder}
+use Rattle.file_ports.specs.Ports.{FileMap}
 use Rattle.file_ports.specs.Steady.{folder_of as others_on, hand_of as hand_on, left_of as left_on}
 use Rattle.feed_maker.specs.StopTimes.{left_of as times_left, lines_of}
 use Rattle.feed_maker.specs.Tables.{stop_times_text}
 use Rattle.feed_maker.specs.declared.files.MadeFiles.{MadeFiles}
 
 -- the files by their paths
-abbrev pub folder_of : MadeFiles → Folder
+abbrev pub folder_of : MadeFiles → FileMap
 folder_of f = (codes "feed/stop_times.txt", stop_times_text (lines_of f.times)) ∷ others_on f.others
 
 -- the path of the file in hand

@@ -1,10 +1,10 @@
 -- The files of a made timetable.
 use Rattle.std.specs.Prelude.{◌≡◌, ℕ, List, [], ◌∷◌, codes}
-use Rattle.file_ports.specs.Ports.{Folder, file_at}
+use Rattle.file_ports.specs.Ports.{FileMap, file_at}
 use Rattle.feed_maker.specs.Tables.{stops_text, routes_text, trips_text, stop_times_text, calendar_text, delays_text}
 
 -- the files of so many lines by their paths
-unfoldable pub made : ℕ → Folder
+unfoldable pub made : ℕ → FileMap
 made lines =
     (codes "feed/stops.txt", stops_text lines)
     ∷ (codes "feed/routes.txt", routes_text lines)
@@ -15,7 +15,7 @@ made lines =
     ∷ []
 
 -- all of them but the stop times
-unfoldable pub other_files : ℕ → Folder
+unfoldable pub other_files : ℕ → FileMap
 other_files lines =
     (codes "feed/stops.txt", stops_text lines)
     ∷ (codes "feed/routes.txt", routes_text lines)
@@ -25,5 +25,5 @@ other_files lines =
     ∷ []
 
 -- both have the same files, each with the same bytes
-abbrev pub SameFolder : Folder → Folder → Type 0
+abbrev pub SameFolder : FileMap → FileMap → Type 0
 SameFolder folder other = (path : List ℕ) → file_at other path ≡ file_at folder path

@@ -2,7 +2,7 @@
 use Rattle.std.proofs.Common.{◌≡◌, ℕ, List, Option, None, Result, Ok, Err, ap, ◌∙◌, refl, sym}
 use Rattle.std.specs.Prelude.{◌≢◌, IfErr, IfOk, IfSome}
 use Rattle.plan_model.specs.Results.{and_then}
-use Rattle.file_ports.specs.Ports.{Folder, file_at}
+use Rattle.file_ports.specs.Ports.{FileMap, file_at}
 use Rattle.csv_rows.specs.declared.limits.Limits.{Limits}
 use Rattle.plan_graph.specs.declared.PlanGraph.{PlanGraph}
 use Rattle.plan_graph.specs.Tidy.{IsFit}
@@ -33,7 +33,7 @@ module _ (limits : Limits) (p : Problem) (start : ℕ) (file : Option (List ℕ)
   graph_finds (Err fault) ok err none = λ other. read_of (unread_of fault) none ∙ err other
 
 -- the head and the graph that were read
-pub graph_file : (told : Option Folder) (limits : Limits) (start : ℕ) (path : List ℕ) (p : Problem) (head : Head) (graph : PlanGraph)
+pub graph_file : (told : Option FileMap) (limits : Limits) (start : ℕ) (path : List ℕ) (p : Problem) (head : Head) (graph : PlanGraph)
     → IfSome told (λ files. graph_in limits p start None (file_at files path) ≡ Ok (head, graph))
     → IsFit p.network head.query graph → IsHeadOf p.source.0 p.target.0 start head → IsGraphFile told limits start path p head graph
 graph_file told limits start path p head graph reads fit is = record { reads = reads; fit = fit; head_is = is }

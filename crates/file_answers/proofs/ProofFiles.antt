@@ -1,7 +1,7 @@
 -- The steps of a check, put together.
 use Rattle.std.proofs.Common.{◌≡◌, ℕ, List, Option, None, Result, Ok, Err, refl, sym, subst}
 use Rattle.std.specs.Prelude.{◌≢◌, IfErr, IfOk, IfSome}
-use Rattle.file_ports.specs.Ports.{Folder, file_at}
+use Rattle.file_ports.specs.Ports.{FileMap, file_at}
 use Rattle.csv_rows.specs.declared.limits.Limits.{Limits}
 use Rattle.plan_model.specs.declared.model.Query.{Query}
 use Rattle.lower_proof.specs.declared.LowerBounds.{LowerBounds}
@@ -29,12 +29,12 @@ module _ (limits : Limits) (p : Problem) (start : ℕ) (file : Option (List ℕ)
       subst (λ (unread : Option Input). FailsFile p start (bytes_of limits.bytes input.Proof unread file) fault) (sym none)
       (subst (λ (bytes : Result (List ℕ) Fault). FailsFile p start bytes fault) (sym there) fails)
 
-module _ (told : Option Folder) (limits : Limits) (start : ℕ) (path : List ℕ) (p : Problem) where
+module _ (told : Option FileMap) (limits : Limits) (start : ℕ) (path : List ℕ) (p : Problem) where
   pub unloaded : (fault : Fault) → (fault ≢ NoMemory → IsOfInput input.Proof fault)
       → IfSome told (λ files. fault ≢ NoMemory → bytes_of limits.bytes input.Proof (unread_of fault) (file_at files path) ≡ Err fault)
       → fault ≢ NoMemory → FailsProof told limits start path p fault
   unloaded fault of fails other =
-      (of other, if_some_then told _ _ (λ (files : Folder) why. load_fails limits p start (file_at files path) fault (why other)) fails)
+      (of other, if_some_then told _ _ (λ (files : FileMap) why. load_fails limits p start (file_at files path) fault (why other)) fails)
 
   module _ (text same : List ℕ) (is : same ≡ text) (there : IfSome told (λ files. bytes_of limits.bytes input.Proof None (file_at files path) ≡ Ok text)) where
     pub read : (r : Result (Query × LowerBounds) Fault) → IfOk r (λ f. TellsProof p start same f.0 f.1) → IfOk r (λ f. IsProofFile told limits start path p f.0 f.1)
@@ -48,6 +48,6 @@ module _ (told : Option Folder) (limits : Limits) (start : ℕ) (path : List ℕ
     unread (Err fault) fails of none = λ other. (
       of other,
       if_some_then told _ _
-          (λ (files : Folder) bytes. text_fails limits p start (file_at files path) text fault bytes none
+          (λ (files : FileMap) bytes. text_fails limits p start (file_at files path) text fault bytes none
           (subst (λ (bs : List ℕ). FailsText p start bs fault) is (fails other))) there,
     )

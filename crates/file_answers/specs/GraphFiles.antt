@@ -1,7 +1,7 @@
 -- What is read of a graph file, and why what is asked of its graph has no answer.
 use Rattle.std.specs.Prelude.{◌≡◌, ◌⊎◌, ℕ, List, Option, None, Result, Ok, Err, IfSome}
 use Rattle.plan_model.specs.Results.{and_then}
-use Rattle.file_ports.specs.Ports.{Folder, file_at}
+use Rattle.file_ports.specs.Ports.{FileMap, file_at}
 use Rattle.csv_rows.specs.declared.limits.Limits.{Limits}
 use Rattle.plan_graph.specs.declared.PlanGraph.{PlanGraph}
 use Rattle.plan_graph.specs.Tidy.{IsFit}
@@ -41,26 +41,26 @@ graph_in limits p start unread file =
 
 -- these are the head and the graph of the graph file of this path, where the files are told; the graph fits the network, and
 -- the head is of a journey that starts then
-pub record IsGraphFile (told : Option Folder) (limits : Limits) (start : ℕ) (path : List ℕ) (p : Problem) (head : Head) (graph : PlanGraph) : Type 0 where
-  pub reads : IfSome told (λ files. graph_in limits p start None (file_at files path) ≡ Ok (head, graph))
+pub record IsGraphFile (contents : Option FileMap) (limits : Limits) (start : ℕ) (path : List ℕ) (p : Problem) (head : Head) (graph : PlanGraph) : Type 0 where
+  pub reads : IfSome contents (λ files. graph_in limits p start None (file_at files path) ≡ Ok (head, graph))
   pub fit : IsFit p.network head.query graph
   pub head_is : IsHeadOf p.source.0 p.target.0 start head
 
 -- this holds of the head and the graph of the graph file
-abbrev pub InGraphFile : Option Folder → Limits → ℕ → List ℕ → Problem → (Head → PlanGraph → Type 0) → Type 0
-InGraphFile told limits start path p P = (head : Head) × (graph : PlanGraph) × IsGraphFile told limits start path p head graph × P head graph
+abbrev pub InGraphFile : Option FileMap → Limits → ℕ → List ℕ → Problem → (Head → PlanGraph → Type 0) → Type 0
+InGraphFile contents limits start path p P = (head : Head) × (graph : PlanGraph) × IsGraphFile contents limits start path p head graph × P head graph
 
 -- the first fault of the graph file is this one, where no file but that of the fault is unread
-abbrev pub FailsGraph : Option Folder → Limits → ℕ → List ℕ → Problem → Fault → Type 0
-FailsGraph told limits start path p fault =
-    IsOfInput input.Graph fault × IfSome told (λ files. graph_in limits p start (unread_of fault) (file_at files path) ≡ Err fault)
+abbrev pub FailsGraph : Option FileMap → Limits → ℕ → List ℕ → Problem → Fault → Type 0
+FailsGraph contents limits start path p fault =
+    IsOfInput input.Graph fault × IfSome contents (λ files. graph_in limits p start (unread_of fault) (file_at files path) ≡ Err fault)
 
 -- why a replay has no answer, but for want of memory: the graph file has a fault; or the trip by its graph
-abbrev pub FailsReplay : Option Folder → Limits → ℕ → List ℕ → List ℕ → Problem → Fault → Type 0
-FailsReplay told limits start path late p fault =
-    FailsGraph told limits start path p fault ⊎ InGraphFile told limits start path p (IsTripFault p late fault)
+abbrev pub FailsReplay : Option FileMap → Limits → ℕ → List ℕ → List ℕ → Problem → Fault → Type 0
+FailsReplay contents limits start path late p fault =
+    FailsGraph contents limits start path p fault ⊎ InGraphFile contents limits start path p (IsTripFault p late fault)
 
 -- why a graph has no bounds, but for want of memory: the graph file has a fault; or its graph is not safe
-abbrev pub FailsScore : Option Folder → Limits → ℕ → List ℕ → Problem → Fault → Type 0
-FailsScore told limits start path p fault =
-    FailsGraph told limits start path p fault ⊎ InGraphFile told limits start path p (IsUnsafeGraph p fault)
+abbrev pub FailsScore : Option FileMap → Limits → ℕ → List ℕ → Problem → Fault → Type 0
+FailsScore contents limits start path p fault =
+    FailsGraph contents limits start path p fault ⊎ InGraphFile contents limits start path p (IsUnsafeGraph p fault)

@@ -1,6 +1,6 @@
 -- What is read of a proof file, and why the check of its certificate has no answer.
 use Rattle.std.specs.Prelude.{◌≡◌, ◌⊎◌, ℕ, List, Option, None, Result, Ok, Err, IfSome}
-use Rattle.file_ports.specs.Ports.{Folder, file_at}
+use Rattle.file_ports.specs.Ports.{FileMap, file_at}
 use Rattle.csv_rows.specs.Tables.{table_of, header}
 use Rattle.csv_rows.specs.declared.limits.Limits.{Limits}
 use Rattle.plan_model.specs.declared.model.Query.{Query}
@@ -18,7 +18,7 @@ use Rattle.input_files.specs.Files.{bytes_of}
 
 -- a text tells this query and this certificate, of the problem's source and target and from a start on
 abbrev pub TellsProof : Problem → ℕ → List ℕ → Query → LowerBounds → Type 0
-TellsProof p start text q proof = IsTold p.network p.names p.source.0 p.target.0 start (table_of text) q proof.values
+TellsProof p start text query proof = IsTold p.network p.names p.source.0 p.target.0 start (table_of text) query proof.values
 
 -- the first fault of a text
 abbrev pub FailsText : Problem → ℕ → List ℕ → Fault → Type 0
@@ -32,20 +32,20 @@ FailsFile p start (Ok text) fault = FailsText p start text fault
 FailsFile p start (Err first) fault = fault ≡ first
 
 -- these are the query and the certificate of the proof file of this path, where the files are told
-pub record IsProofFile (told : Option Folder) (limits : Limits) (start : ℕ) (path : List ℕ) (p : Problem) (q : Query) (proof : LowerBounds) : Type 0 where
+pub record IsProofFile (contents : Option FileMap) (limits : Limits) (start : ℕ) (path : List ℕ) (p : Problem) (query : Query) (proof : LowerBounds) : Type 0 where
   pub text : List ℕ
-  pub reads : IfSome told (λ files. bytes_of limits.bytes input.Proof None (file_at files path) ≡ Ok text)
-  pub tells : TellsProof p start text q proof
+  pub reads : IfSome contents (λ files. bytes_of limits.bytes input.Proof None (file_at files path) ≡ Ok text)
+  pub tells : TellsProof p start text query proof
 
 -- this holds of the query and the certificate of the proof file
-abbrev pub InProofFile : Option Folder → Limits → ℕ → List ℕ → Problem → (Query → LowerBounds → Type 0) → Type 0
-InProofFile told limits start path p P = (q : Query) × (proof : LowerBounds) × IsProofFile told limits start path p q proof × P q proof
+abbrev pub InProofFile : Option FileMap → Limits → ℕ → List ℕ → Problem → (Query → LowerBounds → Type 0) → Type 0
+InProofFile contents limits start path p P = (query : Query) × (proof : LowerBounds) × IsProofFile contents limits start path p query proof × P query proof
 
 -- the first fault of the proof file is this one, where no file but that of the fault is unread
-abbrev pub FailsProof : Option Folder → Limits → ℕ → List ℕ → Problem → Fault → Type 0
-FailsProof told limits start path p fault =
-    IsOfInput input.Proof fault × IfSome told (λ files. FailsFile p start (bytes_of limits.bytes input.Proof (unread_of fault) (file_at files path)) fault)
+abbrev pub FailsProof : Option FileMap → Limits → ℕ → List ℕ → Problem → Fault → Type 0
+FailsProof contents limits start path p fault =
+    IsOfInput input.Proof fault × IfSome contents (λ files. FailsFile p start (bytes_of limits.bytes input.Proof (unread_of fault) (file_at files path)) fault)
 
 -- why a check has no answer, but for want of memory: the proof file has a fault; or its certificate fails
-abbrev pub FailsCheck : Option Folder → Limits → ℕ → List ℕ → Problem → Fault → Type 0
-FailsCheck told limits start path p fault = FailsProof told limits start path p fault ⊎ InProofFile told limits start path p (IsBroken p fault)
+abbrev pub FailsCheck : Option FileMap → Limits → ℕ → List ℕ → Problem → Fault → Type 0
+FailsCheck contents limits start path p fault = FailsProof contents limits start path p fault ⊎ InProofFile contents limits start path p (IsBroken p fault)

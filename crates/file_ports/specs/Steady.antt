@@ -1,10 +1,10 @@
 -- What files in memory that never fail stand for.
 use Rattle.std.specs.Prelude.{◌≡◌, ℕ, List, map, if◌then◌else◌, Option, Some, option_map, option_and_then, slice_get, drop, bytes_eq, string_bytes}
-use Rattle.file_ports.specs.Ports.{Folder, file_at}
+use Rattle.file_ports.specs.Ports.{FileMap, file_at}
 use Rattle.file_ports.specs.declared.steady.SteadyFiles.{SteadyFiles}
 
 -- the files by their paths
-abbrev pub folder_of : SteadyFiles → Folder
+abbrev pub folder_of : SteadyFiles → FileMap
 folder_of f = map (λ e. (string_bytes e.path, e.value.items)) f.held.items
 
 -- the path of the file in hand
@@ -20,7 +20,7 @@ abbrev pub piece_of : SteadyFiles → ℕ
 piece_of f = f.piece
 
 -- the files are as they were, but for this path, which has these bytes
-abbrev pub PutsFile : Folder → Folder → List ℕ → List ℕ → Type 0
+abbrev pub PutsFile : FileMap → FileMap → List ℕ → List ℕ → Type 0
 PutsFile old new path bytes = (p : List ℕ) → file_at new p ≡ if bytes_eq path p then Some bytes else file_at old p
 
 -- the same files, and the same one in hand, as far read

@@ -3,7 +3,7 @@ ghost use Rattle.std.specs.Prelude.{◌≡◌, ◌<◌, ◌≤◌, ◌^◌, ℕ,
 ghost use Rattle.std.specs.Io.{ReadsAtMost};
 ghost use Rattle.std.specs.Io.KnownBytes.{ReadConsumes, WriteAppends};
 ghost use Rattle.file_ports.specs.Counts.{HasCause, HasPathCause};
-ghost use Rattle.file_ports.specs.Ports.{Folder, Opens, TakesInHand};
+ghost use Rattle.file_ports.specs.Ports.{FileMap, Opens, TakesInHand};
 
 use plan_model::HashKey;
 
@@ -23,7 +23,7 @@ pub struct Failed;
 /// A folder of files, of which one at a time can be in hand.
 pub trait Files {
     /// The files by their paths, where they are told.
-    ghost files: { Self → Option Folder };
+    ghost files: { Self → Option FileMap };
 
     /// The path of the file in hand. Where the files are not told only whether there is one counts.
     ghost in_hand: { Self → Option (List ℕ) };

@@ -6,7 +6,7 @@ use Rattle.std.proofs.lemmas.Option.{MatchOption-at_some}
 use Rattle.plan_model.specs.declared.model.Leg.{Leg}
 use Rattle.plan_model.specs.declared.model.Outcome.{Outcome}
 use Rattle.plan_model.specs.declared.model.Query.{Query}
-use Rattle.plan_model.specs.Parts.{Parts}
+use Rattle.plan_model.specs.NetworkModel.{NetworkModel}
 use Rattle.plan_model.specs.NameLists.{NamesFit}
 use Rattle.plan_model.specs.Network.{IsValid, count, connection, arr_of}
 use Rattle.plan_model.specs.Tree.{Tree, Done, Stuck}
@@ -24,7 +24,7 @@ use Rattle.journey_model.specs.declared.problem.Problem.{Problem}
 use Rattle.plan_model.specs.Bounds.{last_start}
 use Rattle.journey_model.specs.Sites.{last_printable}
 
-module _ (n : Parts) (valid : IsValid n) (q : Query) (target_in : q.target.0 < length n.change)
+module _ (n : NetworkModel) (valid : IsValid n) (q : Query) (target_in : q.target.0 < length n.change)
     (choice : Leg → ℕ → Option Leg) (there : (leg : Leg) (x : ℕ) (next : Leg) → choice leg x ≡ Some next → next.exit.0 < count n) where
   -- a place of the network, and a moment that has a text
   abbrev IsPrinted : ℕ → ℕ → Type 0

@@ -8,7 +8,7 @@ use Rattle.std.specs.BTreeSet.{BTreeSet, insert_key}
 use Rattle.std.proofs.lemmas.Bool.{cases_lt, cases_eq, ne_eqb, eq-eqb}
 use Rattle.std.proofs.lemmas.Bool.Decides.{nat_tests}
 use Rattle.plan_model.specs.declared.model.Leg.{Leg}
-use Rattle.plan_model.specs.Parts.{Parts}
+use Rattle.plan_model.specs.NetworkModel.{NetworkModel}
 use Rattle.plan_model.specs.Unfold.{end_of}
 use Rattle.plan_graph.specs.declared.GraphRow.{GraphRow}
 use Rattle.plan_graph.specs.declared.Ride.{Ride}
@@ -116,7 +116,7 @@ pub rows_rise : (more rows : List GraphRow) → Later RowBefore rows → Later R
 rows_rise [] rows later = later
 rows_rise (row ∷ more) rows later = rows_rise more (insert_key row_cmp rows row) (put_rises rows row later)
 
-module _ (n : Parts) (place : ℕ) where
+module _ (n : NetworkModel) (place : ℕ) where
   pub ride_there : (r : Ride) (rows : List GraphRow) → end_of n r.leg ≡ place → with_ride n place r rows ≡ put_rows r.after rows
   ride_there r rows is = rw (eq-eqb (end_of n r.leg) place is)
 
@@ -212,7 +212,7 @@ drop_at (head ∷ rides) zero r within is = ap (λ (h : Ride). h ∷ rides) (sym
 drop_at (head ∷ rides) (suc i) r within is = drop_at rides i r (omega (arith, within)) is
 
 -- after one ride more
-pub gather_step : (n : Parts) (rides : List Ride) (i : ℕ) (r : Ride) (tables : List (BTreeSet GraphRow)) (end : ℕ) (table : BTreeSet GraphRow)
+pub gather_step : (n : NetworkModel) (rides : List Ride) (i : ℕ) (r : Ride) (tables : List (BTreeSet GraphRow)) (end : ℕ) (table : BTreeSet GraphRow)
     (goal : List GraphRow) (place : ℕ) → i < length rides → r ≡ slice_index_or rides i r → end ≡ end_of n r.leg → end < length tables
     → table.keys ≡ put_rows r.after (rows_in tables end)
     → gathered n place (drop i rides) (rows_in tables place) ≡ goal → gathered n place (drop (i + 1) rides) (rows_in (slice_set tables end table) place) ≡ goal

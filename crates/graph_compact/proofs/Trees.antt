@@ -6,7 +6,7 @@ use Rattle.std.proofs.lemmas.Bool.Decides.{nat_tests}
 use Rattle.plan_model.specs.declared.model.Leg.{Leg}
 use Rattle.plan_model.specs.declared.model.Outcome.{Outcome}
 use Rattle.plan_model.specs.declared.model.Query.{Query}
-use Rattle.plan_model.specs.Parts.{Parts}
+use Rattle.plan_model.specs.NetworkModel.{NetworkModel}
 use Rattle.plan_model.specs.Network.{IsValid}
 use Rattle.plan_model.specs.Tree.{Tree}
 use Rattle.plan_model.specs.Ways.{limit_of}
@@ -106,7 +106,7 @@ picked_first (row ∷ rows) x leg is = elim (cases_lt row.by.0 x) [
       (row, inl (early, refl), same_next (pick_row (row ∷ rows) x) row.leg leg e is)
 ]
 
-module _ (n : Parts) (valid : IsValid n) (q : Query) (graph : ExpandedGraph) (pruned : IsPruned n q graph) (coherent : IsCoherent n graph) where
+module _ (n : NetworkModel) (valid : IsValid n) (q : Query) (graph : ExpandedGraph) (pruned : IsPruned n q graph) (coherent : IsCoherent n graph) where
   abbrev T : ℕ → List GraphRow
   T place = gathered n place graph.rides []
 

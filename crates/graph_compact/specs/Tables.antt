@@ -3,7 +3,7 @@ use Rattle.std.specs.Prelude.{ℕ, ◌+◌, List, [], ◌∷◌, ◌==◌, if◌
 use Rattle.std.specs.Ordering.{nat_cmp, ordering_then}
 use Rattle.std.specs.declared.cmp.Ordering.{Ordering}
 use Rattle.std.specs.BTreeSet.{BTreeSet, insert_key}
-use Rattle.plan_model.specs.Parts.{Parts}
+use Rattle.plan_model.specs.NetworkModel.{NetworkModel}
 use Rattle.plan_model.specs.Unfold.{end_of}
 use Rattle.plan_graph.specs.declared.GraphRow.{GraphRow}
 use Rattle.plan_graph.specs.declared.Ride.{Ride}
@@ -20,13 +20,13 @@ put_rows [] rows = rows
 put_rows (row ∷ more) rows = put_rows more (insert_key row_cmp rows row)
 
 -- with the rows after a ride, if it ends at the place
-abbrev pub with_ride : Parts → ℕ → Ride → List GraphRow → List GraphRow
-with_ride n place r rows = if end_of n r.leg == place then put_rows r.after rows else rows
+abbrev pub with_ride : NetworkModel → ℕ → Ride → List GraphRow → List GraphRow
+with_ride network place r rows = if end_of network r.leg == place then put_rows r.after rows else rows
 
 -- with the rows after all rides that end at the place
-abbrev pub gathered : Parts → ℕ → List Ride → List GraphRow → List GraphRow
-gathered n place [] rows = rows
-gathered n place (r ∷ rides) rows = gathered n place rides (with_ride n place r rows)
+abbrev pub gathered : NetworkModel → ℕ → List Ride → List GraphRow → List GraphRow
+gathered network place [] rows = rows
+gathered network place (r ∷ rides) rows = gathered network place rides (with_ride network place r rows)
 
 -- the rows of each place
 abbrev pub lists_of : List (BTreeSet GraphRow) → List (List GraphRow)

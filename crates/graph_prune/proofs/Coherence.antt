@@ -3,7 +3,7 @@ use Rattle.std.proofs.Common.{◌≡◌, ◌≢◌, ℕ, Option, Some, Contains,
 use Rattle.plan_model.specs.declared.model.Leg.{Leg}
 use Rattle.plan_model.specs.declared.model.Outcome.{Outcome}
 use Rattle.plan_model.specs.declared.model.Query.{Query}
-use Rattle.plan_model.specs.Parts.{Parts}
+use Rattle.plan_model.specs.NetworkModel.{NetworkModel}
 use Rattle.plan_model.specs.Ways.{limit_of}
 use Rattle.plan_model.specs.Unfold.{end_of, arrival_of, outcomes_of}
 use Rattle.plan_graph.specs.declared.GraphRow.{GraphRow}
@@ -17,7 +17,8 @@ use Rattle.leg_walk.specs.Placed.{Has}
 use Rattle.leg_walk.proofs.Lists.{contains_from_has, has_from_contains, all_at_has}
 use Rattle.leg_walk.proofs.Tables.{first_pick, first_there, picked_has, same_next, same_limit}
 
-module _ (n : Parts) (q : Query) (graph : ExpandedGraph) (at : ℕ → ℕ → Option Leg) (pruned : IsPruned n q graph) (steady : IsSteady n q.target.0 at) (follows : Follows n q.target.0 at graph) where
+module _ (n : NetworkModel) (q : Query) (graph : ExpandedGraph) (at : ℕ → ℕ → Option Leg)
+    (pruned : IsPruned n q graph) (steady : IsSteady n q.target.0 at) (follows : Follows n q.target.0 at graph) where
   by_its_limit : (r : Ride) → Has graph.rides r → (row : GraphRow) → Has r.after row → limit_of n (end_of n r.leg) row.leg ≡ Some row.by.0
   by_its_limit r has row there = all_at_has (λ w. limit_of n (end_of n r.leg) w.leg ≡ Some w.by.0) r.after row (all_at_has (IsByLimits n) graph.rides r pruned.by has) there
 

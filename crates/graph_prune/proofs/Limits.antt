@@ -4,7 +4,7 @@ use Rattle.std.specs.Prelude.{◌==◌, ◌&&◌, nat_le, if◌then◌else◌}
 use Rattle.std.proofs.lemmas.Bool.{cases_lt}
 use Rattle.std.proofs.lemmas.Bool.Decides.{nat_tests}
 use Rattle.plan_model.specs.declared.model.Leg.{Leg}
-use Rattle.plan_model.specs.Parts.{Parts}
+use Rattle.plan_model.specs.NetworkModel.{NetworkModel}
 use Rattle.plan_model.specs.Ways.{limit_of}
 use Rattle.plan_model.specs.Unfold.{end_of}
 use Rattle.plan_graph.specs.declared.GraphRow.{GraphRow}
@@ -24,14 +24,14 @@ IsApart None moment = Unit {0}
 IsApart (Some last) moment = last < moment
 
 -- a row by a limit, from a row of the same leg
-pub record IsLimitOf (n : Parts) (place : ℕ) (rows : List GraphRow) (y : GraphRow) : Type 0 where
+pub record IsLimitOf (n : NetworkModel) (place : ℕ) (rows : List GraphRow) (y : GraphRow) : Type 0 where
   pub row : GraphRow
   pub has : Has rows row
   pub limit : ℕ
   pub is_limit : limit_of n place row.leg ≡ Some limit
   pub is : y ≡ row_by limit row.leg
 
-module _ (n : Parts) (place : ℕ) where
+module _ (n : NetworkModel) (place : ℕ) where
   -- the rows where the first limit is that of the row before, and where it is another
   limits_head : (row : GraphRow) (rows : List GraphRow) (limit : ℕ) (last : Option ℕ) (test : Bool) → limit_of n place row.leg ≡ Some limit
       → is_last last limit ≡ test → by_limits n place (row ∷ rows) last ≡
@@ -171,7 +171,7 @@ module _ (n : Parts) (place : ℕ) where
       ]
 
 -- the rows after a leg, by limits
-pub rows_after-limits : (n : Parts) (rides : List Ride) (leg : Leg) → rows_after (map (ride_by_limits n) rides) leg ≡ by_limits n (end_of n leg) (rows_after rides leg) None
+pub rows_after-limits : (n : NetworkModel) (rides : List Ride) (leg : Leg) → rows_after (map (ride_by_limits n) rides) leg ≡ by_limits n (end_of n leg) (rows_after rides leg) None
 rows_after-limits n [] leg = refl
 rows_after-limits n (r ∷ rides) leg = by_test ((r.leg.enter.0 == leg.enter.0) && (r.leg.exit.0 == leg.exit.0)) refl (rows_after-limits n rides leg)
   where

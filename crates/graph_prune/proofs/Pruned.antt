@@ -3,7 +3,7 @@ use Rattle.std.proofs.Common.{◌≡◌, ◌≢◌, ℕ, ◌<◌, List, [], ◌�
 use Rattle.plan_model.specs.declared.model.Leg.{Leg}
 use Rattle.plan_model.specs.declared.model.Outcome.{Outcome}
 use Rattle.plan_model.specs.declared.model.Query.{Query}
-use Rattle.plan_model.specs.Parts.{Parts}
+use Rattle.plan_model.specs.NetworkModel.{NetworkModel}
 use Rattle.plan_model.specs.Network.{IsValid}
 use Rattle.plan_model.specs.Tree.{Tree}
 use Rattle.plan_model.specs.Ways.{limit_of}
@@ -27,14 +27,14 @@ use Rattle.graph_prune.proofs.Limits.{first_by_limits, limit_member, limits_rise
 use Rattle.leg_walk.proofs.Rides.{ride_there, rows_after-own}
 use Rattle.graph_prune.proofs.Sources.{kept_after, start_can}
 
-rises_from : (rides : List Ride) (n : Parts) → Later (λ a b. Precedes a.leg b.leg) rides → Later (λ a b. Precedes a.leg b.leg) (map (ride_by_limits n) rides)
+rises_from : (rides : List Ride) (n : NetworkModel) → Later (λ a b. Precedes a.leg b.leg) rides → Later (λ a b. Precedes a.leg b.leg) (map (ride_by_limits n) rides)
 rises_from [] n later = tt
 rises_from (r ∷ rides) n later = (
   λ s has. let found = has_from_map (ride_by_limits n) rides s has in subst (λ (other : Ride). Precedes r.leg other.leg) (sym found.2) (later.0 found.0 found.1),
   rises_from rides n later.1,
 )
 
-module _ (n : Parts) (valid : IsValid n) (q : Query) (source : ExpandedGraph) (source_ready : IsReady n q source) (start : Leg) (starts : source.start ≡ Some start) (rides : List Ride)
+module _ (n : NetworkModel) (valid : IsValid n) (q : Query) (source : ExpandedGraph) (source_ready : IsReady n q source) (start : Leg) (starts : source.start ≡ Some start) (rides : List Ride)
     (walked : IsWalked n q (pick_after source.rides) start rides) where
   abbrev target : ℕ
   target = q.target.0

@@ -4,7 +4,7 @@ use Rattle.std.specs.Prelude.{MatchOption}
 use Rattle.plan_model.specs.declared.model.Leg.{Leg}
 use Rattle.plan_model.specs.declared.model.Outcome.{Outcome}
 use Rattle.plan_model.specs.declared.model.Query.{Query}
-use Rattle.plan_model.specs.Parts.{Parts}
+use Rattle.plan_model.specs.NetworkModel.{NetworkModel}
 use Rattle.plan_model.specs.Unfold.{end_of, arrival_of, outcomes_of}
 use Rattle.plan_graph.specs.declared.GraphRow.{GraphRow}
 use Rattle.plan_graph.specs.declared.Ride.{Ride}
@@ -17,7 +17,7 @@ use Rattle.leg_walk.proofs.Lists.{all_at_has, contains_from_has}
 use Rattle.leg_walk.proofs.Graphs.{IsKeptAfter}
 use Rattle.graph_prune.proofs.Limits.{in_time_kept}
 
-module _ (n : Parts) (q : Query) (graph : ExpandedGraph) (ready : IsReady n q graph) where
+module _ (n : NetworkModel) (q : Query) (graph : ExpandedGraph) (ready : IsReady n q graph) where
   abbrev choice : Leg → ℕ → Option Leg
   choice = pick_after graph.rides
 

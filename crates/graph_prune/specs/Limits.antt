@@ -1,7 +1,7 @@
 -- Rows by the limits of their legs.
 use Rattle.std.specs.Prelude.{ℕ, Bool, false, List, [], ◌∷◌, Option, Some, None, ◌==◌, if◌then◌else◌}
 use Rattle.plan_model.specs.declared.model.Leg.{Leg}
-use Rattle.plan_model.specs.Parts.{Parts}
+use Rattle.plan_model.specs.NetworkModel.{NetworkModel}
 use Rattle.plan_model.specs.Ways.{limit_of}
 use Rattle.plan_model.specs.Unfold.{end_of}
 use Rattle.plan_graph.specs.declared.GraphRow.{GraphRow}
@@ -19,10 +19,10 @@ with_limit None leg more last = more last
 with_limit (Some limit) leg more last = if is_last last limit then more last else row_by limit leg ∷ more (Some limit)
 
 -- at a place, the rows by their legs' limits, each limit once
-abbrev pub by_limits : Parts → ℕ → List GraphRow → Option ℕ → List GraphRow
-by_limits n place [] last = []
-by_limits n place (row ∷ rows) last = with_limit (limit_of n place row.leg) row.leg (by_limits n place rows) last
+abbrev pub by_limits : NetworkModel → ℕ → List GraphRow → Option ℕ → List GraphRow
+by_limits network place [] last = []
+by_limits network place (row ∷ rows) last = with_limit (limit_of network place row.leg) row.leg (by_limits network place rows) last
 
 -- the ride with its rows by their legs' limits
-abbrev pub ride_by_limits : Parts → Ride → Ride
-ride_by_limits n r = record { leg = r.leg; after = by_limits n (end_of n r.leg) r.after None }
+abbrev pub ride_by_limits : NetworkModel → Ride → Ride
+ride_by_limits network r = record { leg = r.leg; after = by_limits network (end_of network r.leg) r.after None }

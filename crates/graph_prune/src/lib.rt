@@ -5,7 +5,7 @@ ghost use Rattle.std.specs.Prelude.{◌≡◌, ℕ, ◌<◌, ◌++◌, length, m
 ghost use Rattle.std.specs.Option.{option_map};
 ghost use Rattle.plan_model.specs.declared.model.Leg.{Leg as LegParts};
 ghost use Rattle.plan_model.specs.declared.model.Query.{Query as QueryParts};
-ghost use Rattle.plan_model.specs.Parts.{Parts};
+ghost use Rattle.plan_model.specs.NetworkModel.{NetworkModel};
 ghost use Rattle.plan_graph.specs.declared.GraphRow.{GraphRow as RowParts};
 ghost use Rattle.plan_graph.specs.declared.ExpandedGraph.{ExpandedGraph as Graph};
 ghost use Rattle.plan_graph.specs.Unfold.{unfold_expanded};
@@ -128,7 +128,7 @@ pub fn prune(
 
 /// A pruned graph that follows a steady choice at each place is coherent.
 pub fn steady_is_coherent()
-    ensures { (n : Parts) (q : QueryParts) (graph : Graph) (choice : ℕ → ℕ → Option LegParts)
+    ensures { (n : NetworkModel) (q : QueryParts) (graph : Graph) (choice : ℕ → ℕ → Option LegParts)
         → IsPruned n q graph → IsSteady n q.target.0 choice → Follows n q.target.0 choice graph
         → IsCoherent n graph }
 {}

@@ -5,7 +5,7 @@ use Rattle.std.proofs.lemmas.Bool.{cases_lt}
 use Rattle.std.proofs.lemmas.Bool.Decides.{nat_tests}
 use Rattle.plan_model.specs.declared.model.Outcome.{Outcome}
 use Rattle.plan_model.specs.declared.model.Query.{Query}
-use Rattle.plan_model.specs.Parts.{Parts}
+use Rattle.plan_model.specs.NetworkModel.{NetworkModel}
 use Rattle.plan_model.specs.Network.{outcomes}
 use Rattle.plan_model.specs.Rows.{EachKid}
 use Rattle.plan_model.specs.Tree.{Tree, Ride, Kids, Nil, Kid}
@@ -76,7 +76,7 @@ first_both a f F G own other = by_test (is_sooner f a) refl
       ];
     }
 
-module _ (n : Parts) (q : Query) where
+module _ (n : NetworkModel) (q : Query) where
   -- with what comes of one tree more
   with_tree : (first : Option Failure) (kid : Outlook) (tree : Tree) (F : May) → IsFirst first F → IsOutlook n q kid tree → IsFirst (with_outlook first kid) (λ p x. F p x ⊎ Fails q tree p x)
   with_tree first (Safe span) tree F is own = told_as first F (λ p x. F p x ⊎ Fails q tree p x) (λ p x may. inl may) (λ p x may. elim may [

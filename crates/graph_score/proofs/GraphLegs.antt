@@ -6,7 +6,7 @@ use Rattle.std.proofs.lemmas.List.{drop_more, take-append-drop}
 use Rattle.std.proofs.lemmas.List.Elements.{All-append, All-map, All-nil, All-tail, All-cons}
 use Rattle.plan_model.specs.declared.model.Leg.{Leg}
 use Rattle.plan_model.specs.declared.model.Query.{Query}
-use Rattle.plan_model.specs.Parts.{Parts}
+use Rattle.plan_model.specs.NetworkModel.{NetworkModel}
 use Rattle.plan_model.specs.Network.{IsValid, from_of}
 use Rattle.plan_model.proofs.Boarding.{limit_of-some, way_takes}
 use Rattle.plan_graph.specs.declared.GraphRow.{GraphRow}
@@ -19,7 +19,7 @@ use Rattle.graph_score.specs.Legs.{IsRising, Fits, IsFirstWrong, start_leg, legs
 use Rattle.graph_score.specs.Steps.{AreFitRows}
 
 -- a row that fits stands at a place of the network
-pub fit_place : (n : Parts) → IsValid n → (p : ℕ) (row : GraphRow) → IsFitRow n p row → p < length n.change
+pub fit_place : (n : NetworkModel) → IsValid n → (p : ℕ) (row : GraphRow) → IsFitRow n p row → p < length n.change
 fit_place n valid p row fit =
     let some = limit_of-some n p row.leg row.by.0 fit.by in
     (way_takes n valid p (from_of n row.leg.enter.0) some.0 ((valid.connections row.leg.enter.0 fit.is_leg.enter).from_in) some.1).0
@@ -39,7 +39,7 @@ take_each P [] (suc k) each within = All-nil P
 take_each P (x ∷ xs) (suc k) each within =
     All-cons P x (take k xs) (each 0 x (omega arith) (omega arith)) (take_each P xs k (λ i d low below. each (suc i) d (omega arith) (omega (arith, below))) (omega (arith, within)))
 
-pub first_wrong_is : (n : Parts) (q : Query) (legs : List GraphLeg) (k : ℕ) (d : GraphLeg) → k < length legs → AllWithin (Fits n q) legs 0 k
+pub first_wrong_is : (n : NetworkModel) (q : Query) (legs : List GraphLeg) (k : ℕ) (d : GraphLeg) → k < length legs → AllWithin (Fits n q) legs 0 k
     → (Fits n q (slice_index_or legs k d) → ⊥) → IsFirstWrong n q legs (k + 1)
 first_wrong_is n q legs k d within fit breaks = record {
   before = take k legs;
@@ -68,7 +68,7 @@ each_unmapped : {X Y : Type 0} (P : Y → Type 0) (f : X → Y) (xs : List X) �
 each_unmapped P f [] each = All-nil (λ x. P (f x))
 each_unmapped P f (x ∷ xs) each = All-cons (λ y. P (f y)) x xs (each 0 (f x) (omega arith)) (each_unmapped P f xs (All-tail P (f x) (map f xs) each))
 
-tables_fit : (n : Parts) (q : Query) (tables : List PlaceTable) → All (Fits n q) (flat_map legs_in tables) → AreFitRows n tables
+tables_fit : (n : NetworkModel) (q : Query) (tables : List PlaceTable) → All (Fits n q) (flat_map legs_in tables) → AreFitRows n tables
 tables_fit n q [] each = All-nil (λ (t : PlaceTable). All (IsFitRow n t.place.0) t.rows)
 tables_fit n q (table ∷ tables) each =
     let here = each_unmapped (Fits n q) (λ row. Row table.place row) table.rows (each_left (Fits n q) (legs_in table) (flat_map legs_in tables) each) in
@@ -76,17 +76,17 @@ tables_fit n q (table ∷ tables) each =
     (tables_fit n q tables (each_right (Fits n q) (legs_in table) (flat_map legs_in tables) each))
 
 -- where all legs fit, so do all rows
-pub rows_fit : (n : Parts) (q : Query) (graph : PlanGraph) → All (Fits n q) (legs_of graph) → AreFitRows n graph.tables
+pub rows_fit : (n : NetworkModel) (q : Query) (graph : PlanGraph) → All (Fits n q) (legs_of graph) → AreFitRows n graph.tables
 rows_fit n q graph each = tables_fit n q graph.tables (each_right (Fits n q) (start_leg graph.start) (flat_map legs_in graph.tables) each)
 
 -- and the start leg, where there is one
-pub start_fits : (n : Parts) (q : Query) (graph : PlanGraph) (leg : Leg) → All (Fits n q) (legs_of graph) → graph.start ≡ Some leg → IsFitStart n q leg
+pub start_fits : (n : NetworkModel) (q : Query) (graph : PlanGraph) (leg : Leg) → All (Fits n q) (legs_of graph) → graph.start ≡ Some leg → IsFitStart n q leg
 start_fits n q graph leg each is =
     let here = subst (λ (s : Option Leg). All (Fits n q) (start_leg s)) is (each_left (Fits n q) (start_leg graph.start) (flat_map legs_in graph.tables) each) in
     here 0 (Start leg) (omega arith)
 
 -- a graph that fits rises
-pub fit_rises : (n : Parts) (q : Query) (graph : PlanGraph) → IsFit n q graph → IsRising graph
+pub fit_rises : (n : NetworkModel) (q : Query) (graph : PlanGraph) → IsFit n q graph → IsRising graph
 fit_rises n q graph fit = record {
   places = fit.rising;
   rows = λ k d within. (fit.tables k d within).rising;
@@ -94,7 +94,7 @@ fit_rises n q graph fit = record {
 }
 
 -- and each of its legs fits
-pub fit_legs : (n : Parts) (q : Query) (graph : PlanGraph) → IsFit n q graph → All (Fits n q) (legs_of graph)
+pub fit_legs : (n : NetworkModel) (q : Query) (graph : PlanGraph) → IsFit n q graph → All (Fits n q) (legs_of graph)
 fit_legs n q graph fit = by_start graph.start fit.starts
   where
     away : (leg : Leg) → IsFitStart n q leg → All (Fits n q) (flat_map legs_in graph.tables)
@@ -111,5 +111,5 @@ contains_middle P [] ys y each = each 0 y (omega arith)
 contains_middle P (x ∷ xs) ys y each = contains_middle P xs ys y (All-tail P x (xs ++ y ∷ ys) each)
 
 -- where all legs fit none is wrong
-pub none_wrong : (n : Parts) (q : Query) (legs : List GraphLeg) (k : ℕ) → All (Fits n q) legs → IsFirstWrong n q legs k → ⊥
+pub none_wrong : (n : NetworkModel) (q : Query) (legs : List GraphLeg) (k : ℕ) → All (Fits n q) legs → IsFirstWrong n q legs k → ⊥
 none_wrong n q legs k each wrong = wrong.breaks (contains_middle (Fits n q) wrong.before wrong.others wrong.wrong (subst (All (Fits n q)) wrong.split each))

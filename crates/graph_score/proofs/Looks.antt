@@ -9,7 +9,7 @@ use Rattle.plan_model.specs.declared.model.ConnectionId.{ConnectionId}
 use Rattle.plan_model.specs.declared.model.Leg.{Leg}
 use Rattle.plan_model.specs.declared.model.Outcome.{Outcome}
 use Rattle.plan_model.specs.declared.model.Query.{Query}
-use Rattle.plan_model.specs.Parts.{Parts}
+use Rattle.plan_model.specs.NetworkModel.{NetworkModel}
 use Rattle.plan_model.specs.Network.{IsValid, count, dep_of, arr_of}
 use Rattle.plan_model.specs.Order.{IsScanOrder}
 use Rattle.plan_model.specs.Rows.{EachKid}
@@ -32,7 +32,7 @@ some_known [] i known = absurd known
 some_known (id ∷ taken) i known = omega arith
 
 -- where source and target are one place, or one has arrived
-pub arrived_told : (n : Parts) (q : Query) (p x : ℕ) → p ≡ q.target.0 → IsOutlook n q (arrived_by q.deadline.0 p x) (Done x)
+pub arrived_told : (n : NetworkModel) (q : Query) (p x : ℕ) → p ≡ q.target.0 → IsOutlook n q (arrived_by q.deadline.0 p x) (Done x)
 arrived_told n q p x there = elim (cases_lt q.deadline.0 x) [
   | inl late ↦
       let e : nat_le x q.deadline.0 ≡ false = grind (arith, nat_tests) in
@@ -43,22 +43,22 @@ arrived_told n q p x there = elim (cases_lt q.deadline.0 x) [
 ]
 
 -- one who is stuck
-pub stuck_told : (n : Parts) (q : Query) (p x : ℕ) → IsOutlook n q (Failing (failure p x)) (Stuck p x)
+pub stuck_told : (n : NetworkModel) (q : Query) (p x : ℕ) → IsOutlook n q (Failing (failure p x)) (Stuck p x)
 stuck_told n q p x = record { fails = (refl, refl); first = λ r y fails. inr (sym fails.1, omega (arith, fails.0)) }
 
 -- of each connection that was looked at it is known what comes of leaving by it, over enough rides
-abbrev AreRight : Parts → Query → List PlaceTable → List Outlook → List ConnectionId → Type 0
+abbrev AreRight : NetworkModel → Query → List PlaceTable → List Outlook → List ConnectionId → Type 0
 AreRight n q tables outlooks taken = (leg : Leg) (rides : ℕ) → Known Never taken leg.exit.0 → length taken ≤ suc rides
     → IsOutlook n q (slice_index_or outlooks leg.exit.0 no_outlook) (ridden n q tables rides leg)
 
 -- the rest of the scan order was not looked at
-pub record AreTold (n : Parts) (q : Query) (tables : List PlaceTable) (order rest : List ConnectionId) (outlooks : List Outlook) : Type 0 where
+pub record AreTold (n : NetworkModel) (q : Query) (tables : List PlaceTable) (order rest : List ConnectionId) (outlooks : List Outlook) : Type 0 where
   pub taken : List ConnectionId
   pub split : rest ++ taken ≡ order
   pub as_many : length outlooks ≡ count n
   pub right : AreRight n q tables outlooks taken
 
-module _ (n : Parts) (valid : IsValid n) (q : Query) (tables : List PlaceTable) (fit : AreFitRows n tables) where
+module _ (n : NetworkModel) (valid : IsValid n) (q : Query) (tables : List PlaceTable) (fit : AreFitRows n tables) where
   -- each exit that is taken is one of the network
   pub exits_within : ExitsWithin tables (count n)
   exits_within place moment leg is = (taken_row n tables fit place moment leg is).0.exit

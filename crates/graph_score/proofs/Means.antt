@@ -3,7 +3,7 @@ use Rattle.std.proofs.Common.{◌≡◌, ℕ, suc, ◌+◌, ◌-◌, ◌*◌, �
 use Rattle.std.proofs.Math.Nat.{mul_assoc}
 use Rattle.std.proofs.lemmas.List.Elements.{All-cons, All-nil}
 use Rattle.plan_model.specs.declared.model.Outcome.{Outcome}
-use Rattle.plan_model.specs.Parts.{Parts}
+use Rattle.plan_model.specs.NetworkModel.{NetworkModel}
 use Rattle.plan_model.specs.Bounds.{nanos_per_second}
 use Rattle.plan_model.specs.Network.{IsValid, count, to_of, arr_of, outcomes}
 use Rattle.plan_model.specs.Rows.{EachKid}
@@ -22,7 +22,7 @@ exact_below a h tall = omega (arith, mul_assoc 1000000000 a (10000 ^ h))
 pub exact_covers : (a : ℕ) → Covers (nanos_per_second * a) (Done a)
 exact_covers a h tall = omega (arith, mul_assoc 1000000000 a (10000 ^ h))
 
-module _ (n : Parts) (target : ℕ) (by : Option ℕ) where
+module _ (n : NetworkModel) (target : ℕ) (by : Option ℕ) where
   mutual
     enclosed : (tree : Tree) (p x : ℕ) → Safe n target by tree p x → Encloses (span_of n tree).lo (span_of n tree).hi tree
     enclosed (Done a) p x safe = (exact_below a, exact_covers a)

@@ -3,7 +3,7 @@ use Rattle.std.proofs.Common.{◌≡◌, ◌≢◌, ℕ, ◌-◌, ◌<◌, ◌�
 use Rattle.std.proofs.lemmas.Bool.{cases_lt, cases_eq}
 use Rattle.plan_model.specs.declared.model.Leg.{Leg}
 use Rattle.plan_model.specs.declared.model.Query.{Query}
-use Rattle.plan_model.specs.Parts.{Parts}
+use Rattle.plan_model.specs.NetworkModel.{NetworkModel}
 use Rattle.plan_model.specs.Network.{IsValid, count, arr_of}
 use Rattle.plan_model.specs.Tree.{Tree, Done}
 use Rattle.plan_model.specs.Unfold.{kids_after, outcomes_of}
@@ -23,10 +23,10 @@ use Rattle.graph_score.proofs.Means.{exact_below, exact_covers, ride_enclosed, r
 use Rattle.graph_score.proofs.Trees.{next_after, safe_never_fails, safe_ride, height_ridden, unfold-start, unfold-none, unfold-there}
 
 -- who may fail is not safe
-pub failing_told : (n : Parts) (q : Query) (tree : Tree) (f : Failure) → IsOutlook n q (Failing f) tree → IsUnsafe n q tree f.place.0 f.moment.0
+pub failing_told : (n : NetworkModel) (q : Query) (tree : Tree) (f : Failure) → IsOutlook n q (Failing f) tree → IsUnsafe n q tree f.place.0 f.moment.0
 failing_told n q tree f is = record { unsafe = λ safe. safe_never_fails n q tree safe f.place.0 f.moment.0 is.fails; first = is }
 
-module _ (n : Parts) (valid : IsValid n) (q : Query) (graph : PlanGraph) (fit : All (Fits n q) (legs_of graph)) where
+module _ (n : NetworkModel) (valid : IsValid n) (q : Query) (graph : PlanGraph) (fit : All (Fits n q) (legs_of graph)) where
   abbrev Never : Tree → Type 0
   Never tree = (p x : ℕ) → Fails q tree p x → ⊥
 

@@ -4,7 +4,7 @@ use Rattle.std.proofs.lemmas.Bool.{cases_lt, cases_eq, eq-eqb, ne_eqb}
 use Rattle.plan_model.specs.declared.model.Leg.{Leg}
 use Rattle.plan_model.specs.declared.model.Outcome.{Outcome}
 use Rattle.plan_model.specs.declared.model.Query.{Query}
-use Rattle.plan_model.specs.Parts.{Parts}
+use Rattle.plan_model.specs.NetworkModel.{NetworkModel}
 use Rattle.plan_model.specs.Network.{count, to_of, arr_of, outcomes}
 use Rattle.plan_model.specs.Tree.{Tree, Done, Ride, Stuck, Kids, Nil, Kid, height, height_of}
 use Rattle.plan_model.specs.Strategy.{Safe, SafeAll, IsBoardable, IsSafeFor}
@@ -22,12 +22,12 @@ use Rattle.graph_score.proofs.Picks.{rows_of_place-by, picked}
 
 mutual
   -- who is safe cannot fail
-  cannot_fail : (n : Parts) (q : Query) (tree : Tree) (p x : ℕ) → Safe n q.target.0 (Some q.deadline.0) tree p x → (r y : ℕ) → Fails q tree r y → ⊥
+  cannot_fail : (n : NetworkModel) (q : Query) (tree : Tree) (p x : ℕ) → Safe n q.target.0 (Some q.deadline.0) tree p x → (r y : ℕ) → Fails q tree r y → ⊥
   cannot_fail n q (Done a) p x safe r y fails = omega (arith, safe.0, safe.2, fails.2)
   cannot_fail n q (Ride i j kids) p x safe r y fails = none_can_fail n q kids (outcomes n j) (to_of n j) (arr_of n j) safe.3 r y fails
   cannot_fail n q (Stuck place moment) p x safe r y fails = absurd safe
 
-  none_can_fail : (n : Parts) (q : Query) (kids : Kids) (row : List Outcome) (p arrival : ℕ) → SafeAll n q.target.0 (Some q.deadline.0) kids row p arrival → (r y : ℕ) → FailsIn q kids r y → ⊥
+  none_can_fail : (n : NetworkModel) (q : Query) (kids : Kids) (row : List Outcome) (p arrival : ℕ) → SafeAll n q.target.0 (Some q.deadline.0) kids row p arrival → (r y : ℕ) → FailsIn q kids r y → ⊥
   none_can_fail n q Nil [] p arrival safe r y fails = fails
   none_can_fail n q Nil (o ∷ row) p arrival safe r y fails = fails
   none_can_fail n q (Kid w tree kids) [] p arrival safe r y fails = absurd safe
@@ -36,13 +36,13 @@ mutual
     | inr there ↦ none_can_fail n q kids row p arrival safe.2 r y there
   ]
 
-pub safe_never_fails : (n : Parts) (q : Query) (tree : Tree) → IsSafeFor n q tree → (r y : ℕ) → Fails q tree r y → ⊥
+pub safe_never_fails : (n : NetworkModel) (q : Query) (tree : Tree) → IsSafeFor n q tree → (r y : ℕ) → Fails q tree r y → ⊥
 safe_never_fails n q (Done a) safe r y fails = omega (arith, safe.0, safe.2, fails.2)
 safe_never_fails n q (Ride i j kids) safe r y fails = none_can_fail n q kids (outcomes n j) (to_of n j) (arr_of n j) safe.3 r y fails
 safe_never_fails n q (Stuck place moment) safe r y fails = absurd safe
 
 -- the row whose leg is taken
-pub taken_row : (n : Parts) (tables : List PlaceTable) → AreFitRows n tables → (p x : ℕ) (leg : Leg) → pick_at tables p x ≡ Some leg → IsLegOf n leg × IsBoardable n p x leg.enter.0
+pub taken_row : (n : NetworkModel) (tables : List PlaceTable) → AreFitRows n tables → (p x : ℕ) (leg : Leg) → pick_at tables p x ≡ Some leg → IsLegOf n leg × IsBoardable n p x leg.enter.0
 taken_row n tables fit p x leg is =
     let (row, fits, soon, same) = picked (IsFitRow n p) (rows_of_place tables p) x leg
     (rows_of_place-by (λ p rows. All (IsFitRow n p) rows) tables p (λ k d within. absurd (omega (arith, within))) fit) is in
@@ -50,7 +50,7 @@ taken_row n tables fit p x leg is =
     let boards : IsBoardable n p x row.leg.enter.0 = record { seconds = some.0; way = some.1; in_time = omega (arith, soon, some.2) } in
     (subst (IsLegOf n) same fits.is_leg, subst (λ (l : Leg). IsBoardable n p x l.enter.0) same boards)
 
-module _ (n : Parts) (q : Query) (tables : List PlaceTable) (fit : AreFitRows n tables) where
+module _ (n : NetworkModel) (q : Query) (tables : List PlaceTable) (fit : AreFitRows n tables) where
   -- what is done after a leg
   abbrev pub next_after : ℕ → Leg → ℕ → Tree
   next_after rides leg x = unfold_after n q.target.0 (by_place n (pick_at tables)) rides leg x
@@ -145,15 +145,15 @@ module _ (n : Parts) (q : Query) (tables : List PlaceTable) (fit : AreFitRows n 
   height_ridden rides leg = height_ride rides leg (height_after rides leg)
 
 -- by a graph one takes the start leg
-pub unfold-start : (n : Parts) (q : Query) (graph : PlanGraph) (leg : Leg) → q.source.0 ≢ q.target.0 → graph.start ≡ Some leg → unfold_plan graph n q ≡ ridden n q graph.tables (count n - 1) leg
+pub unfold-start : (n : NetworkModel) (q : Query) (graph : PlanGraph) (leg : Leg) → q.source.0 ≢ q.target.0 → graph.start ≡ Some leg → unfold_plan graph n q ≡ ridden n q graph.tables (count n - 1) leg
 unfold-start n q graph leg away is =
     rw (ne_eqb q.source.0 q.target.0 away) (ap (λ first. ride_or_stuck n (unfold_after n q.target.0 (by_place n (pick_at graph.tables)) (count n - 1)) first q.source.0 q.start.0) is)
 
 -- and is stuck without one
-pub unfold-none : (n : Parts) (q : Query) (graph : PlanGraph) → q.source.0 ≢ q.target.0 → graph.start ≡ None → unfold_plan graph n q ≡ Stuck q.source.0 q.start.0
+pub unfold-none : (n : NetworkModel) (q : Query) (graph : PlanGraph) → q.source.0 ≢ q.target.0 → graph.start ≡ None → unfold_plan graph n q ≡ Stuck q.source.0 q.start.0
 unfold-none n q graph away is =
     rw (ne_eqb q.source.0 q.target.0 away) (ap (λ first. ride_or_stuck n (unfold_after n q.target.0 (by_place n (pick_at graph.tables)) (count n - 1)) first q.source.0 q.start.0) is)
 
 -- where source and target are one place one has arrived
-pub unfold-there : (n : Parts) (q : Query) (graph : PlanGraph) → q.source.0 ≡ q.target.0 → unfold_plan graph n q ≡ Done q.start.0
+pub unfold-there : (n : NetworkModel) (q : Query) (graph : PlanGraph) → q.source.0 ≡ q.target.0 → unfold_plan graph n q ≡ Done q.start.0
 unfold-there n q graph there = rw (eq-eqb q.source.0 q.target.0 there) refl

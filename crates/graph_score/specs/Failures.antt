@@ -6,13 +6,13 @@ use Rattle.plan_model.specs.Tree.{Tree, Done, Ride, Stuck, Kids, Nil, Kid}
 abbrev mutual
   -- by the tree the traveller may be stuck at a place at a moment, or arrive there, at the target, after the deadline
   pub Fails : Query → Tree → ℕ → ℕ → Type 0
-  Fails q (Done moment) p x = (p ≡ q.target.0) × (x ≡ moment) × (q.deadline.0 < moment)
-  Fails q (Ride i j kids) p x = FailsIn q kids p x
-  Fails q (Stuck place moment) p x = (p ≡ place) × (x ≡ moment)
+  Fails query (Done moment) p x = (p ≡ query.target.0) × (x ≡ moment) × (query.deadline.0 < moment)
+  Fails query (Ride i j kids) p x = FailsIn query kids p x
+  Fails query (Stuck place moment) p x = (p ≡ place) × (x ≡ moment)
 
   pub FailsIn : Query → Kids → ℕ → ℕ → Type 0
-  FailsIn q Nil p x = ⊥
-  FailsIn q (Kid weight tree kids) p x = Fails q tree p x ⊎ FailsIn q kids p x
+  FailsIn query Nil p x = ⊥
+  FailsIn query (Kid weight tree kids) p x = Fails query tree p x ⊎ FailsIn query kids p x
 
 -- one moment is less than the other, or they are equal and one place is not greater than the other
 abbrev pub IsNotAfter : (p x r y : ℕ) → Type 0

@@ -3,7 +3,7 @@ use Rattle.std.specs.Prelude.{◌≡◌, ◌≢◌, ℕ, ◌+◌, ◌<◌, ◌�
 use Rattle.std.specs.List.{flat_map}
 use Rattle.plan_model.specs.declared.model.Leg.{Leg}
 use Rattle.plan_model.specs.declared.model.Query.{Query}
-use Rattle.plan_model.specs.Parts.{Parts}
+use Rattle.plan_model.specs.NetworkModel.{NetworkModel}
 use Rattle.plan_graph.specs.declared.PlaceTable.{PlaceTable}
 use Rattle.plan_graph.specs.declared.PlanGraph.{PlanGraph}
 use Rattle.plan_graph.specs.Tidy.{IsFitStart, IsFitRow}
@@ -31,16 +31,16 @@ legs_of graph = start_leg graph.start ++ flat_map legs_in graph.tables
 
 -- a start leg may leave the source at the start or later; that of a row is taken up to its limit. Where source and target
 -- are one place no leg fits
-abbrev pub Fits : Parts → Query → GraphLeg → Type 0
-Fits n q (Start leg) = IsFitStart n q leg
-Fits n q (Row place row) = (q.source.0 ≢ q.target.0) × IsFitRow n place.0 row
+abbrev pub Fits : NetworkModel → Query → GraphLeg → Type 0
+Fits network query (Start leg) = IsFitStart network query leg
+Fits network query (Row place row) = (query.source.0 ≢ query.target.0) × IsFitRow network place.0 row
 
 -- the k-th leg, where the first one is 1, does not fit, and each before it does
-pub record IsFirstWrong (n : Parts) (q : Query) (legs : List GraphLeg) (k : ℕ) : Type 0 where
+pub record IsFirstWrong (network : NetworkModel) (query : Query) (legs : List GraphLeg) (k : ℕ) : Type 0 where
   pub before : List GraphLeg
   pub wrong : GraphLeg
   pub others : List GraphLeg
   pub split : legs ≡ before ++ wrong ∷ others
   pub number : k ≡ length before + 1
-  pub fit : All (Fits n q) before
-  pub breaks : Fits n q wrong → ⊥
+  pub fit : All (Fits network query) before
+  pub breaks : Fits network query wrong → ⊥

@@ -1,7 +1,7 @@
 -- The score of a graph.
 use Rattle.std.specs.Prelude.{◌≡◌, ℕ, ◌-◌, ◌≤◌, Result, Ok, Err, All}
 use Rattle.plan_model.specs.declared.model.Query.{Query}
-use Rattle.plan_model.specs.Parts.{Parts}
+use Rattle.plan_model.specs.NetworkModel.{NetworkModel}
 use Rattle.plan_model.specs.Network.{count}
 use Rattle.plan_model.specs.Tree.{Tree}
 use Rattle.plan_model.specs.Strategy.{IsSafeFor}
@@ -16,20 +16,20 @@ use Rattle.graph_score.specs.Failures.{Fails, IsFirstFailure}
 use Rattle.graph_score.specs.Spans.{span_of}
 
 -- the tree is safe; its bounds enclose its expected arrival, and are at most one nanosecond apart for each connection
-pub record IsScored (n : Parts) (q : Query) (tree : Tree) (bounds : Interval) : Type 0 where
-  pub safe : IsSafeFor n q tree
-  pub means : bounds ≡ span_of n tree
+pub record IsScored (network : NetworkModel) (query : Query) (tree : Tree) (bounds : Interval) : Type 0 where
+  pub safe : IsSafeFor network query tree
+  pub means : bounds ≡ span_of network tree
   pub encloses : Encloses bounds.lo bounds.hi tree
-  pub gap : bounds.hi - bounds.lo ≤ count n
+  pub gap : bounds.hi - bounds.lo ≤ count network
 
 -- the tree is not safe, and the traveller may fail first at this place at this moment
-pub record IsUnsafe (n : Parts) (q : Query) (tree : Tree) (p x : ℕ) : Type 0 where
-  pub unsafe : IsSafeFor n q tree → ⊥
-  pub first : IsFirstFailure (Fails q tree) p x
+pub record IsUnsafe (network : NetworkModel) (query : Query) (tree : Tree) (p x : ℕ) : Type 0 where
+  pub unsafe : IsSafeFor network query tree → ⊥
+  pub first : IsFirstFailure (Fails query tree) p x
 
 -- the bounds of the graph's tree; or why it has none
-abbrev pub IsScore : Parts → Query → PlanGraph → Result Interval ScoreFault → Type 0
-IsScore n q graph (Ok bounds) = All (Fits n q) (legs_of graph) × IsScored n q (unfold_plan graph n q) bounds
-IsScore n q graph (Err (NoSuchLeg k)) = IsFirstWrong n q (legs_of graph) k
-IsScore n q graph (Err (Unsafe place moment)) = All (Fits n q) (legs_of graph) × IsUnsafe n q (unfold_plan graph n q) place.0 moment.0
-IsScore n q graph (Err NoMemory) = Unit {0}
+abbrev pub IsScore : NetworkModel → Query → PlanGraph → Result Interval ScoreFault → Type 0
+IsScore network query graph (Ok bounds) = All (Fits network query) (legs_of graph) × IsScored network query (unfold_plan graph network query) bounds
+IsScore network query graph (Err (NoSuchLeg k)) = IsFirstWrong network query (legs_of graph) k
+IsScore network query graph (Err (Unsafe place moment)) = All (Fits network query) (legs_of graph) × IsUnsafe network query (unfold_plan graph network query) place.0 moment.0
+IsScore network query graph (Err NoMemory) = Unit {0}

@@ -3,7 +3,7 @@ use Rattle.std.specs.Prelude.{◌≡◌, ℕ, ◌+◌, ◌-◌, ◌<◌, Bool, A
 use Rattle.plan_model.specs.declared.model.Leg.{Leg}
 use Rattle.plan_model.specs.declared.model.Outcome.{Outcome}
 use Rattle.plan_model.specs.declared.model.Query.{Query}
-use Rattle.plan_model.specs.Parts.{Parts}
+use Rattle.plan_model.specs.NetworkModel.{NetworkModel}
 use Rattle.plan_model.specs.Network.{count, to_of, arr_of, outcomes}
 use Rattle.plan_model.specs.Unfold.{by_place, ride_of, unfold_after}
 use Rattle.plan_model.specs.Tree.{Tree}
@@ -70,36 +70,37 @@ by_leg outlooks place moment (Some leg) = slice_index_or outlooks leg.exit.0 no_
 
 -- after an arrival at a place
 abbrev pub outlook_at : List PlaceTable → Query → List Outlook → ℕ → ℕ → Outlook
-outlook_at tables q outlooks place moment =
-    if place == q.target.0
-    then arrived_by q.deadline.0 place moment
+outlook_at tables query outlooks place moment =
+    if place == query.target.0
+    then arrived_by query.deadline.0 place moment
     else by_leg outlooks place moment (pick_at tables place moment)
 
 -- after each outcome of a connection
 abbrev pub outlooks_after : List PlaceTable → Query → List Outlook → ℕ → ℕ → List Outcome → List Outlook
-outlooks_after tables q outlooks place scheduled row = map (λ o. outlook_at tables q outlooks place (scheduled + o.delay)) row
+outlooks_after tables query outlooks place scheduled row = map (λ o. outlook_at tables query outlooks place (scheduled + o.delay)) row
 
 -- of leaving by a connection
-abbrev pub outlook_of : Parts → List PlaceTable → Query → List Outlook → ℕ → Outlook
-outlook_of n tables q outlooks j = blended (outcomes n j) (outlooks_after tables q outlooks (to_of n j) (arr_of n j) (outcomes n j))
+abbrev pub outlook_of : NetworkModel → List PlaceTable → Query → List Outlook → ℕ → Outlook
+outlook_of network tables query outlooks j = blended (outcomes network j) (outlooks_after tables query outlooks (to_of network j) (arr_of network j) (outcomes network j))
 
 -- it tells what comes of a tree: that the traveller cannot fail, with its bounds; or how one may fail first
-abbrev pub IsOutlook : Parts → Query → Outlook → Tree → Type 0
-IsOutlook n q (Safe span) tree = ((p x : ℕ) → Fails q tree p x → ⊥) × (span ≡ span_of n tree)
-IsOutlook n q (Failing f) tree = IsFirstFailure (Fails q tree) f.place.0 f.moment.0
+abbrev pub IsOutlook : NetworkModel → Query → Outlook → Tree → Type 0
+IsOutlook network query (Safe span) tree = ((p x : ℕ) → Fails query tree p x → ⊥) × (span ≡ span_of network tree)
+IsOutlook network query (Failing f) tree = IsFirstFailure (Fails query tree) f.place.0 f.moment.0
 
 -- each leg that is taken ends by one of the first so many connections
 abbrev pub ExitsWithin : List PlaceTable → ℕ → Type 0
 ExitsWithin tables many = (place moment : ℕ) (leg : Leg) → pick_at tables place moment ≡ Some leg → leg.exit.0 < many
 
 -- each row fits
-abbrev pub AreFitRows : Parts → List PlaceTable → Type 0
-AreFitRows n tables = All (λ table. All (IsFitRow n table.place.0) table.rows) tables
+abbrev pub AreFitRows : NetworkModel → List PlaceTable → Type 0
+AreFitRows network tables = All (λ table. All (IsFitRow network table.place.0) table.rows) tables
 
 -- the ride of a leg, after which a traveller goes on by the rows of each place, over at most so many more rides
-abbrev pub ridden : Parts → Query → List PlaceTable → ℕ → Leg → Tree
-ridden n q tables rides leg = ride_of n (unfold_after n q.target.0 (by_place n (pick_at tables)) rides) leg
+abbrev pub ridden : NetworkModel → Query → List PlaceTable → ℕ → Leg → Tree
+ridden network query tables rides leg = ride_of network (unfold_after network query.target.0 (by_place network (pick_at tables)) rides) leg
 
 -- it is known of each connection what comes of leaving by it
-abbrev pub AreOutlooks : Parts → Query → List PlaceTable → List Outlook → Type 0
-AreOutlooks n q tables outlooks = (leg : Leg) → leg.exit.0 < count n → IsOutlook n q (slice_index_or outlooks leg.exit.0 no_outlook) (ridden n q tables (count n - 1) leg)
+abbrev pub AreOutlooks : NetworkModel → Query → List PlaceTable → List Outlook → Type 0
+AreOutlooks network query tables outlooks = (leg : Leg) → leg.exit.0 < count network
+    → IsOutlook network query (slice_index_or outlooks leg.exit.0 no_outlook) (ridden network query tables (count network - 1) leg)

@@ -3,7 +3,7 @@
 
 ghost use Rattle.std.specs.Prelude.{◌≡◌, ℕ, ◌<◌, IfOk, All};
 ghost use Rattle.plan_model.specs.declared.model.Query.{Query as QueryParts};
-ghost use Rattle.plan_model.specs.Parts.{Parts};
+ghost use Rattle.plan_model.specs.NetworkModel.{NetworkModel};
 ghost use Rattle.plan_graph.specs.declared.PlanGraph.{PlanGraph as GraphParts};
 ghost use Rattle.plan_graph.specs.Tidy.{IsFit};
 ghost use Rattle.plan_graph.specs.Unfold.{unfold_plan};
@@ -100,8 +100,8 @@ pub fn score(
 
 /// A graph that fits its network and query rises, and each of its legs fits.
 pub fn fit_is_scored()
-    ensures rises { (n : Parts) (q : QueryParts) (graph : GraphParts) → IsFit n q graph → IsRising graph }
-    ensures legs { (n : Parts) (q : QueryParts) (graph : GraphParts) → IsFit n q graph → All (Fits n q) (legs_of graph) }
-    ensures none_wrong { (n : Parts) (q : QueryParts) (graph : GraphParts) (k : ℕ) → IsFit n q graph
+    ensures rises { (n : NetworkModel) (q : QueryParts) (graph : GraphParts) → IsFit n q graph → IsRising graph }
+    ensures legs { (n : NetworkModel) (q : QueryParts) (graph : GraphParts) → IsFit n q graph → All (Fits n q) (legs_of graph) }
+    ensures none_wrong { (n : NetworkModel) (q : QueryParts) (graph : GraphParts) (k : ℕ) → IsFit n q graph
         → IsFirstWrong n q (legs_of graph) k → ⊥ }
 {}

@@ -5,7 +5,7 @@ use Rattle.plan_model.specs.Results.{and_then}
 use Rattle.clock_text.specs.Times.{moment_at, nanos_at}
 use Rattle.csv_rows.specs.Tables.{table_of}
 use Rattle.plan_model.specs.declared.model.Moment.{Moment}
-use Rattle.plan_model.specs.Parts.{Parts}
+use Rattle.plan_model.specs.NetworkModel.{NetworkModel}
 use Rattle.plan_model.specs.NameLists.{NameLists}
 use Rattle.plan_graph.specs.declared.PlanGraph.{PlanGraph}
 use Rattle.graph_text.specs.declared.Head.{Head}
@@ -60,7 +60,7 @@ row_deadline names version source target start r (Some x) head row is =
     subst IsTold (by_names source target start x (number_of names.places (field r 2)) (number_of names.places (field r 3)) head is)
     (field r 5, by_numbers (moment_at (field r 4)) (moment_at (field r 5)) (nanos_at (field r 6)) (nanos_at (field r 7)) x numbers)
 
-module _ (n : Parts) (names : NameLists) (source target start : ℕ) (r : List (List ℕ)) (rs : List (List (List ℕ))) (head : Head) (graph : PlanGraph) where
+module _ (n : NetworkModel) (names : NameLists) (source target start : ℕ) (r : List (List ℕ)) (rs : List (List (List ℕ))) (head : Head) (graph : PlanGraph) where
   same_head : (told : Result PlanGraph TextFault) (own : Head) → ◌≡◌ {A = Result (Head × PlanGraph) TextFault} (and_then told (λ g. Ok (own, g))) (Ok (head, graph)) → own ≡ head
   same_head (Ok g) own is = ap (λ (f : Head × PlanGraph). f.0) (ok_is (own, g) (head, graph) is)
     where
@@ -80,13 +80,13 @@ module _ (n : Parts) (names : NameLists) (source target start : ℕ) (r : List (
   by_version (Some version) is = by_head version (head_in names version source target start r) refl is
   by_version None is = absurd (cc)
 
-by_records : (n : Parts) (names : NameLists) (source target start : ℕ) (rows : List (List (List ℕ))) (head : Head) (graph : PlanGraph)
+by_records : (n : NetworkModel) (names : NameLists) (source target start : ℕ) (rows : List (List (List ℕ))) (head : Head) (graph : PlanGraph)
     → graph_of_records n names source target start rows ≡ Ok (head, graph)
     → IsTold head.query.deadline
 by_records n names source target start [] head graph is = absurd (cc)
 by_records n names source target start (r ∷ rs) head graph is = by_version n names source target start r rs head graph (version_in r) is
 
 -- the deadline of a graph that a text tells
-pub graph_deadline : (n : Parts) (names : NameLists) (source target start : ℕ) (text : List ℕ) (head : Head) (graph : PlanGraph)
+pub graph_deadline : (n : NetworkModel) (names : NameLists) (source target start : ℕ) (text : List ℕ) (head : Head) (graph : PlanGraph)
     → graph_of text n names source target start ≡ Ok (head, graph) → IsTold head.query.deadline
 graph_deadline n names source target start text head graph is = by_records n names source target start (table_of text) head graph is

@@ -4,7 +4,7 @@ use Rattle.std.specs.Prelude.{slice_index_or, decimal}
 use Rattle.clock_text.specs.Civil.{moment_text}
 use Rattle.plan_model.specs.declared.model.Leg.{Leg}
 use Rattle.plan_model.specs.declared.model.Connection.{Connection}
-use Rattle.plan_model.specs.Parts.{Parts}
+use Rattle.plan_model.specs.NetworkModel.{NetworkModel}
 use Rattle.plan_model.specs.NameLists.{NameLists}
 use Rattle.plan_model.specs.Network.{connection}
 use Rattle.plan_graph.specs.declared.GraphRow.{GraphRow}
@@ -28,7 +28,7 @@ take_nine First a b c d e f g h last a' b' c' d' e' f' g' h' last' = λ one two 
 take_nine Second a b c d e f g h last a' b' c' d' e' f' g' h' last' = λ one two three four five six seven eight nine. cc
 
 -- the fields of a leg's row, from its connections
-pub leg_row_fields : (n : Parts) (names : NameLists) (version : Version) (leg : Leg) (enter exit : Connection) (kind second run entry_step dep exit_step place arr from : List ℕ)
+pub leg_row_fields : (n : NetworkModel) (names : NameLists) (version : Version) (leg : Leg) (enter exit : Connection) (kind second run entry_step dep exit_step place arr from : List ℕ)
     → enter ≡ connection n leg.enter.0 → exit ≡ connection n leg.exit.0
     → run ≡ run_name names enter.run.0 → entry_step ≡ decimal enter.step → dep ≡ moment_text enter.dep.0 → exit_step ≡ decimal exit.step
     → place ≡ place_name names exit.to.0 → arr ≡ moment_text exit.arr.0
@@ -44,7 +44,7 @@ leg_row_fields n names version leg enter exit kind second run entry_step dep exi
     (f ∙ ap (λ (k : Connection). moment_text k.arr.0) at_exit)
     (g ∙ ap (λ (k : Connection). place_name names k.from.0) at_enter)
 
-pub rows_step : (n : Parts) (names : NameLists) (version : Version) (kind : List ℕ) (rows : List GraphRow) (i : ℕ) (d : GraphRow)
+pub rows_step : (n : NetworkModel) (names : NameLists) (version : Version) (kind : List ℕ) (rows : List GraphRow) (i : ℕ) (d : GraphRow)
     (new old all second : List ℕ) → i < length rows → second ≡ moment_text (slice_index_or rows i d).by.0
     → new ≡ old ++ leg_row n names version kind second (slice_index_or rows i d).leg → old ++ rows_text n names version kind (drop i rows) ≡ all
     → new ++ rows_text n names version kind (drop (i + 1) rows) ≡ all
@@ -54,7 +54,7 @@ rows_step n names version kind rows i d new old all second within by is before =
     ∙ ap (λ (list : List GraphRow). old ++ rows_text n names version kind list) (sym (split_at rows i d within))
     ∙ before)
 
-pub rides_step : (n : Parts) (names : NameLists) (version : Version) (rides : List Ride) (i : ℕ) (r : Ride) (new old all : List ℕ) → i < length rides → r ≡ slice_index_or rides i r
+pub rides_step : (n : NetworkModel) (names : NameLists) (version : Version) (rides : List Ride) (i : ℕ) (r : Ride) (new old all : List ℕ) → i < length rides → r ≡ slice_index_or rides i r
     → new ≡ old ++ ride_text n names version r → old ++ rides_text n names version (drop i rides) ≡ all → new ++ rides_text n names version (drop (i + 1) rides) ≡ all
 rides_step n names version rides i r new old all within at is before =
     text_step new old (ride_text n names version r) (rides_text n names version (drop (i + 1) rides)) all is
@@ -62,7 +62,8 @@ rides_step n names version rides i r new old all within at is before =
     ∙ ap (λ (list : List Ride). old ++ rides_text n names version list) (sym (split_at rides i r within))
     ∙ before)
 
-pub tables_step : (n : Parts) (names : NameLists) (version : Version) (tables : List PlaceTable) (i : ℕ) (t : PlaceTable) (new old all : List ℕ) → i < length tables → t ≡ slice_index_or tables i t
+pub tables_step : (n : NetworkModel) (names : NameLists) (version : Version) (tables : List PlaceTable) (i : ℕ) (t : PlaceTable) (new old all : List ℕ)
+    → i < length tables → t ≡ slice_index_or tables i t
     → new ≡ old ++ table_text n names version t → old ++ tables_text n names version (drop i tables) ≡ all → new ++ tables_text n names version (drop (i + 1) tables) ≡ all
 tables_step n names version tables i t new old all within at is before =
     text_step new old (table_text n names version t) (tables_text n names version (drop (i + 1) tables)) all is

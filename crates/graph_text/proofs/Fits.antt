@@ -15,7 +15,7 @@ use Rattle.plan_model.specs.declared.model.Leg.{Leg}
 use Rattle.plan_model.specs.declared.model.Query.{Query}
 use Rattle.plan_model.specs.declared.model.PlaceId.{PlaceId}
 use Rattle.plan_model.specs.declared.model.Moment.{Moment}
-use Rattle.plan_model.specs.Parts.{Parts}
+use Rattle.plan_model.specs.NetworkModel.{NetworkModel}
 use Rattle.plan_model.specs.NameLists.{NameLists}
 use Rattle.plan_model.specs.Network.{count, change_of, connection, no_connection, run_of, step_of, from_of, dep_of}
 use Rattle.plan_model.specs.Search.{connection_at}
@@ -59,7 +59,7 @@ found_holds {X} t (x ∷ xs) from k d is = by_test (t x) refl is (λ more. found
     by_test false fails later more = let rest = more later in (suc rest.0, omega (arith, rest.1), omega (arith, rest.2), rest.3)
 
 -- the connection of a run and step is there
-pub connection_holds : (n : Parts) (run step i : ℕ) → connection_of n run step ≡ Some i → (i < count n) × (run_of n i ≡ run) × (step_of n i ≡ step)
+pub connection_holds : (n : NetworkModel) (run step i : ℕ) → connection_of n run step ≡ Some i → (i < count n) × (run_of n i ≡ run) × (step_of n i ≡ step)
 connection_holds n run step i is =
     let found = found_holds (λ c. (c.run.0 == run) && (c.step == step)) n.connections 0 i no_connection is in
     let same : found.0 ≡ i = omega (arith, found.1) in
@@ -69,7 +69,7 @@ connection_holds n run step i is =
       ap (step_of n) (sym same) ∙ ap (λ (c : Connection). c.step) (sym (connection_is n found.0)) ∙ both.1,
     )
 
-leg_if : (n : Parts) (x : LegRow) (known : LegNames) (i j : ℕ) (test : Bool) (leg : Leg) → agrees n i j x known ≡ test
+leg_if : (n : NetworkModel) (x : LegRow) (known : LegNames) (i j : ℕ) (test : Bool) (leg : Leg) → agrees n i j x known ≡ test
     → connection_of n known.run.0 x.enter ≡ Some i → connection_of n known.run.0 x.exit ≡ Some j → (if test then Some (leg_of i j) else None) ≡ Some leg → IsLegOf n leg
 leg_if n x known i j false leg is enter exit found = absurd (cc)
 leg_if n x known i j true leg is enter exit found =
@@ -88,14 +88,14 @@ leg_if n x known i j true leg is enter exit found =
       leave = third.0;
     })
 
-leg_by : (n : Parts) (x : LegRow) (known : LegNames) (enter exit : Option ℕ) (leg : Leg) → connection_of n known.run.0 x.enter ≡ enter
+leg_by : (n : NetworkModel) (x : LegRow) (known : LegNames) (enter exit : Option ℕ) (leg : Leg) → connection_of n known.run.0 x.enter ≡ enter
     → connection_of n known.run.0 x.exit ≡ exit → leg_between n x known enter exit ≡ Some leg → IsLegOf n leg
 leg_by n x known (Some i) (Some j) leg enter exit is = leg_if n x known i j (agrees n i j x known) leg refl enter exit is
 leg_by n x known (Some i) None leg enter exit is = absurd (cc)
 leg_by n x known None exit leg enter e is = absurd (cc)
 
 -- a leg that is found is one
-pub leg_found_is : (n : Parts) (x : LegRow) (known : LegNames) (leg : Leg) → leg_found n x known ≡ Some leg → IsLegOf n leg
+pub leg_found_is : (n : NetworkModel) (x : LegRow) (known : LegNames) (leg : Leg) → leg_found n x known ≡ Some leg → IsLegOf n leg
 leg_found_is n x known leg is = leg_by n x known (connection_of n known.run.0 x.enter) (connection_of n known.run.0 x.exit) leg refl refl is
 
 -- a list with one element more
@@ -117,7 +117,7 @@ limit_is None moment is = absurd (false≢true is)
 limit_is (Some limit) moment is = ap (λ (m : ℕ). Some m) (eqb-true limit moment is)
 
 -- a row that is read fits its place, and rises
-row_if : (n : Parts) (line place : ℕ) (x : LegRow) (leg : Leg) (row : GraphRow) (test : Bool) → is_by_limit n place x.moment.0 leg ≡ test → IsLegOf n leg
+row_if : (n : NetworkModel) (line place : ℕ) (x : LegRow) (leg : Leg) (row : GraphRow) (test : Bool) → is_by_limit n place x.moment.0 leg ≡ test → IsLegOf n leg
     → ◌≡◌ {A = Result GraphRow TextFault} (if test then Ok (record { by = x.moment; leg = leg }) else Err (fault.NoLeg line)) (Ok row) → IsFitRow n place row × (x.moment ≡ row.by)
 row_if n line place x leg row false is is_leg found = absurd (cc)
 row_if n line place x leg row true is is_leg found =
@@ -125,30 +125,30 @@ row_if n line place x leg row true is is_leg found =
     let same : record { by = x.moment; leg = leg } ≡ row = (cc) in
     (subst (λ (r : GraphRow). IsFitRow n place r) same fit, ap (λ (r : GraphRow). r.by) same)
 
-row_leg : (n : Parts) (line place : ℕ) (x : LegRow) (found : Option Leg) (row : GraphRow) → ((leg : Leg) → found ≡ Some leg → IsLegOf n leg)
+row_leg : (n : NetworkModel) (line place : ℕ) (x : LegRow) (found : Option Leg) (row : GraphRow) → ((leg : Leg) → found ≡ Some leg → IsLegOf n leg)
     → row_by_leg n line place x found ≡ Ok row → IsFitRow n place row × (x.moment ≡ row.by)
 row_leg n line place x None row legs is = absurd (cc)
 row_leg n line place x (Some leg) row legs is = row_if n line place x leg row (is_by_limit n place x.moment.0 leg) refl (legs leg refl) is
 
-row_rises : (n : Parts) (line place : ℕ) (last : Option ℕ) (x : LegRow) (known : LegNames) (row : GraphRow) (test : Bool) → rises last x.moment.0 ≡ test
+row_rises : (n : NetworkModel) (line place : ℕ) (last : Option ℕ) (x : LegRow) (known : LegNames) (row : GraphRow) (test : Bool) → rises last x.moment.0 ≡ test
     → (if test then row_by_leg n line place x (leg_found n x known) else Err (fault.NotRising line)) ≡ Ok row → IsFitRow n place row × (rises last row.by.0 ≡ true)
 row_rises n line place last x known row false is found = absurd (cc)
 row_rises n line place last x known row true is found =
     let both = row_leg n line place x (leg_found n x known) row (λ leg e. leg_found_is n x known leg e) found in
     (both.0, ap (λ (m : Moment). rises last m.0) (sym both.1) ∙ is)
 
-row_names : (n : Parts) (line place : ℕ) (last : Option ℕ) (x : LegRow) (known : Option LegNames) (row : GraphRow)
+row_names : (n : NetworkModel) (line place : ℕ) (last : Option ℕ) (x : LegRow) (known : Option LegNames) (row : GraphRow)
     → row_named n line place last x known ≡ Ok row → IsFitRow n place row × (rises last row.by.0 ≡ true)
 row_names n line place last x (Some known) row is = row_rises n line place last x known row (rises last x.moment.0) refl is
 row_names n line place last x None row is = absurd (cc)
 
-row_reads : (n : Parts) (names : NameLists) (version : Version) (line place : ℕ) (last : Option ℕ) (r : List (List ℕ)) (x : Option LegRow)
+row_reads : (n : NetworkModel) (names : NameLists) (version : Version) (line place : ℕ) (last : Option ℕ) (r : List (List ℕ)) (x : Option LegRow)
     (row : GraphRow) → row_numbers n names version line place last r x ≡ Ok row → IsFitRow n place row × (rises last row.by.0 ≡ true)
 row_reads n names version line place last r None row is = absurd (cc)
 row_reads n names version line place last r (Some x) row is = row_names n line place last x (names_in version names place r) row is
 
 -- the start leg that is read
-start_if : (n : Parts) (line source start : ℕ) (x : LegRow) (leg own : Leg) (test : Bool) → can_start n source start x.moment.0 leg ≡ test → IsLegOf n leg
+start_if : (n : NetworkModel) (line source start : ℕ) (x : LegRow) (leg own : Leg) (test : Bool) → can_start n source start x.moment.0 leg ≡ test → IsLegOf n leg
     → ◌≡◌ {A = Result Leg TextFault} (if test then Ok leg else Err (fault.NoLeg line)) (Ok own) → IsLegOf n own × (from_of n own.enter.0 ≡ source) × (start ≤ dep_of n own.enter.0)
 start_if n line source start x leg own false is is_leg found = absurd (cc)
 start_if n line source start x leg own true is is_leg found =
@@ -158,23 +158,23 @@ start_if n line source start x leg own true is is_leg found =
     subst (λ (l : Leg). IsLegOf n l × (from_of n l.enter.0 ≡ source) × (start ≤ dep_of n l.enter.0)) same
     (is_leg, eqb-true (from_of n leg.enter.0) source first.0, leb-true start (dep_of n leg.enter.0) second.1)
 
-start_leg : (n : Parts) (line source start : ℕ) (x : LegRow) (found : Option Leg) (own : Leg) → ((leg : Leg) → found ≡ Some leg → IsLegOf n leg)
+start_leg : (n : NetworkModel) (line source start : ℕ) (x : LegRow) (found : Option Leg) (own : Leg) → ((leg : Leg) → found ≡ Some leg → IsLegOf n leg)
     → start_by n line source start x found ≡ Ok own → IsLegOf n own × (from_of n own.enter.0 ≡ source) × (start ≤ dep_of n own.enter.0)
 start_leg n line source start x None own legs is = absurd (cc)
 start_leg n line source start x (Some leg) own legs is = start_if n line source start x leg own (can_start n source start x.moment.0 leg) refl (legs leg refl) is
 
-start_names : (n : Parts) (line source start : ℕ) (x : LegRow) (known : Option LegNames) (own : Leg)
+start_names : (n : NetworkModel) (line source start : ℕ) (x : LegRow) (known : Option LegNames) (own : Leg)
     → start_named n line source start x known ≡ Ok own → IsLegOf n own × (from_of n own.enter.0 ≡ source) × (start ≤ dep_of n own.enter.0)
 start_names n line source start x (Some known) own is = start_leg n line source start x (leg_found n x known) own (λ leg e. leg_found_is n x known leg e) is
 start_names n line source start x None own is = absurd (cc)
 
-start_reads : (n : Parts) (names : NameLists) (version : Version) (line source start : ℕ) (r : List (List ℕ)) (x : Option LegRow) (own : Leg)
+start_reads : (n : NetworkModel) (names : NameLists) (version : Version) (line source start : ℕ) (r : List (List ℕ)) (x : Option LegRow) (own : Leg)
     → start_numbers n names version line source start r x ≡ Ok own → IsLegOf n own × (from_of n own.enter.0 ≡ source) × (start ≤ dep_of n own.enter.0)
 start_reads n names version line source start r None own is = absurd (cc)
 start_reads n names version line source start r (Some x) own is = start_names n line source start x (names_in version names source r) own is
 
 -- a table that begins rises
-table_if : (n : Parts) (line : ℕ) (last : Option ℕ) (x : PlaceRow) (place : ℕ) (t : TableStart) (rising same : Bool) → rises last place ≡ rising
+table_if : (n : NetworkModel) (line : ℕ) (last : Option ℕ) (x : PlaceRow) (place : ℕ) (t : TableStart) (rising same : Bool) → rises last place ≡ rising
     → ◌≡◌ {A = Result TableStart TextFault} (if rising then
     (if same then Ok (record { place = record { 0 = place }; count = x.count }) else Err (fault.NoLeg line)) else Err (fault.NotRising line))
     (Ok t) → rises last t.place.0 ≡ true
@@ -182,11 +182,11 @@ table_if n line last x place t false same is found = absurd (cc)
 table_if n line last x place t true false is found = absurd (cc)
 table_if n line last x place t true true is found = let one : record { place = record { 0 = place }; count = x.count } ≡ t = (cc) in ap (λ (s : TableStart). rises last s.place.0) (sym one) ∙ is
 
-table_names : (n : Parts) (line : ℕ) (last : Option ℕ) (x : PlaceRow) (found : Option ℕ) (t : TableStart) → table_named n line last x found ≡ Ok t → rises last t.place.0 ≡ true
+table_names : (n : NetworkModel) (line : ℕ) (last : Option ℕ) (x : PlaceRow) (found : Option ℕ) (t : TableStart) → table_named n line last x found ≡ Ok t → rises last t.place.0 ≡ true
 table_names n line last x None t is = absurd (cc)
 table_names n line last x (Some place) t is = table_if n line last x place t (rises last place) (x.change == change_of n place) refl is
 
-table_reads : (n : Parts) (names : NameLists) (line : ℕ) (last : Option ℕ) (r : List (List ℕ)) (x : Option PlaceRow) (t : TableStart)
+table_reads : (n : NetworkModel) (names : NameLists) (line : ℕ) (last : Option ℕ) (r : List (List ℕ)) (x : Option PlaceRow) (t : TableStart)
     → table_numbers n names line last r x ≡ Ok t → rises last t.place.0 ≡ true
 table_reads n names line last r None t is = absurd (cc)
 table_reads n names line last r (Some x) t is = table_names n line last x (number_of names.places (field r 1)) t is
@@ -201,7 +201,7 @@ up_to_less None x y up rising = absurd up
 up_to_less (Some last) x y up rising = let less = ltb-true last y rising in omega (arith, up, less)
 
 -- what holds of the tables so far
-pub record IsFitting (n : Parts) (s : Reading) : Type 0 where
+pub record IsFitting (n : NetworkModel) (s : Reading) : Type 0 where
   pub done : All (IsFitTable n) s.done
   pub rising : AllPairs (λ a b. a.place.0 < b.place.0) s.done
   pub places : All (λ t. IsUpTo (option_map (λ p. p.0) s.place) t.place.0) s.done
@@ -211,7 +211,7 @@ pub record IsFitting (n : Parts) (s : Reading) : Type 0 where
   pub rows_rise : (s.left ≡ 0 → ⊥) → AllPairs (λ a b. a.by.0 < b.by.0) s.rows
   pub moments : (s.left ≡ 0 → ⊥) → All (λ row. IsUpTo (option_map (λ m. m.0) s.by) row.by.0) s.rows
 
-begun_fits : (n : Parts) (names : NameLists) (version : Version) (line : ℕ) (r : List (List ℕ)) (s now : Reading) (t : Result TableStart TextFault)
+begun_fits : (n : NetworkModel) (names : NameLists) (version : Version) (line : ℕ) (r : List (List ℕ)) (s now : Reading) (t : Result TableStart TextFault)
     → t ≡ table_in n names version line (option_map (λ p. p.0) s.place) r → IsFitting n s → begun s t ≡ Ok now → IsFitting n now
 begun_fits n names version line r s now (Err e) told fits is = absurd (cc)
 begun_fits n names version line r s now (Ok t) told fits is =
@@ -230,7 +230,7 @@ begun_fits n names version line r s now (Ok t) told fits is =
     let same : record { done = s.done; place = Some t.place; rows = []; by = None; left = t.count } ≡ now = (cc) in
     subst (λ (u : Reading). IsFitting n u) same here
 
-module _ (n : Parts) (s : Reading) (some : s.left ≡ 0 → ⊥) (fits : IsFitting n s) (row : GraphRow) (fit : IsFitRow n (place_or_first s.place).0 row)
+module _ (n : NetworkModel) (s : Reading) (some : s.left ≡ 0 → ⊥) (fits : IsFitting n s) (row : GraphRow) (fit : IsFitRow n (place_or_first s.place).0 row)
     (rising : rises (option_map (λ m. m.0) s.by) row.by.0 ≡ true) where
   all_rows : All (IsFitRow n (place_or_first s.place).0) (s.rows ++ row ∷ [])
   all_rows = all_push (IsFitRow n (place_or_first s.place).0) s.rows row (fits.rows some) fit
@@ -282,7 +282,7 @@ module _ (n : Parts) (s : Reading) (some : s.left ≡ 0 → ⊥) (fits : IsFitti
   extended_if now true is = subst (λ (u : Reading). IsFitting n u) (ok_same _ now is) last_fits
   extended_if now false is = subst (λ (u : Reading). IsFitting n u) (ok_same _ now is) further_fits
 
-extended_fits : (n : Parts) (names : NameLists) (version : Version) (line : ℕ) (r : List (List ℕ)) (s now : Reading)
+extended_fits : (n : NetworkModel) (names : NameLists) (version : Version) (line : ℕ) (r : List (List ℕ)) (s now : Reading)
     (read : Result GraphRow TextFault) → (s.left ≡ 0 → ⊥)
     → read ≡ row_in n names version line (place_or_first s.place).0 (option_map (λ m. m.0) s.by) r → IsFitting n s → extended s read ≡ Ok now → IsFitting n now
 extended_fits n names version line r s now (Err e) some told fits is = absurd (cc)
@@ -290,7 +290,7 @@ extended_fits n names version line r s now (Ok row) some told fits is =
     let both = row_reads n names version line (place_or_first s.place).0 (option_map (λ m. m.0) s.by) r (leg_row_in version (codes "leg") r) row (sym told) in
     extended_if n s some fits row both.0 both.1 now (s.left == 1) is
 
-step_fits : (n : Parts) (names : NameLists) (version : Version) (line : ℕ) (r : List (List ℕ)) (s now : Reading) → IsFitting n s → step n names version line r s ≡ Ok now → IsFitting n now
+step_fits : (n : NetworkModel) (names : NameLists) (version : Version) (line : ℕ) (r : List (List ℕ)) (s now : Reading) → IsFitting n s → step n names version line r s ≡ Ok now → IsFitting n now
 step_fits n names version line r s now fits is = by_test (s.left == 0) refl is
   where
     not_zero : (left : ℕ) → (left == 0) ≡ false → left ≡ 0 → ⊥
@@ -304,7 +304,7 @@ step_fits n names version line r s now fits is = by_test (s.left == 0) refl is
         (row_in n names version line (place_or_first s.place).0 (option_map (λ moment. moment.0) s.by) r) (not_zero s.left some) refl fits is
 
 -- the tables that are read fit
-pub tables_fit : (n : Parts) (names : NameLists) (version : Version) (rs : List (List (List ℕ))) (line : ℕ) (s : Reading) (tables : List PlaceTable)
+pub tables_fit : (n : NetworkModel) (names : NameLists) (version : Version) (rs : List (List (List ℕ))) (line : ℕ) (s : Reading) (tables : List PlaceTable)
     → IsFitting n s → tables_from n names version rs line s ≡ Ok tables → All (IsFitTable n) tables × AllPairs (λ a b. a.place.0 < b.place.0) tables
 tables_fit n names version [] line s tables fits is = by_test (s.left == 0) is
   where
@@ -320,7 +320,7 @@ tables_fit n names version (r ∷ rs) line s tables fits is = by_step (step n na
     by_step (Err e) told is more = absurd (cc)
     by_step (Ok now) told is more = more now (step_fits n names version line r s now fits told) is
 
-no_tables_fit : (n : Parts) → IsFitting n no_tables
+no_tables_fit : (n : NetworkModel) → IsFitting n no_tables
 no_tables_fit n = record {
   done = All-nil (IsFitTable n);
   rising = λ i j d less within. absurd (omega (arith, less, within));
@@ -333,7 +333,7 @@ no_tables_fit n = record {
 }
 
 -- the graph that is read fits a question of this source, target and start
-started_fits : (n : Parts) (names : NameLists) (version : Version) (q : Query) (r : List (List ℕ)) (rs : List (List (List ℕ))) (graph : PlanGraph)
+started_fits : (n : NetworkModel) (names : NameLists) (version : Version) (q : Query) (r : List (List ℕ)) (rs : List (List (List ℕ))) (graph : PlanGraph)
     → q.source.0 ≢ q.target.0 → started_in n names version q.source.0 q.start.0 r rs ≡ Ok graph → IsFit n q graph
 started_fits n names version q r rs graph differ is = by_leg (start_in n names version 2 q.source.0 q.start.0 r) refl is
   where
@@ -356,7 +356,7 @@ started_fits n names version q r rs graph differ is = by_leg (start_in n names v
     by_leg (Err e) begins is = absurd (cc)
     by_leg (Ok leg) begins is = by_tables leg begins (tables_from n names version rs 3 no_tables) refl is
 
-graph_fits : (n : Parts) (names : NameLists) (version : Version) (q : Query) (rs : List (List (List ℕ))) (graph : PlanGraph)
+graph_fits : (n : NetworkModel) (names : NameLists) (version : Version) (q : Query) (rs : List (List (List ℕ))) (graph : PlanGraph)
     → graph_in n names version q.source.0 q.target.0 q.start.0 rs ≡ Ok graph → IsFit n q graph
 graph_fits n names version q [] graph is = by_test (q.source.0 == q.target.0) refl is
   where
@@ -447,7 +447,7 @@ head_reads names version source target start r (Some x) head told is =
     by_test false found = absurd (cc)
 
 -- what is read fits the network and the question
-pub told_fits : (n : Parts) (names : NameLists) (source target start : ℕ) (rows : List (List (List ℕ))) (head : Head) (graph : PlanGraph)
+pub told_fits : (n : NetworkModel) (names : NameLists) (source target start : ℕ) (rows : List (List (List ℕ))) (head : Head) (graph : PlanGraph)
     → graph_of_records n names source target start rows ≡ Ok (head, graph) → IsFit n head.query graph × IsAsked source target start head
 told_fits n names source target start [] head graph is = absurd (cc)
 told_fits n names source target start (r ∷ rs) head graph is = by_version (version_in r) is

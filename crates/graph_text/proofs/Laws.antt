@@ -3,7 +3,7 @@ use Rattle.std.proofs.Common.{◌≡◌, ◌≢◌, ℕ, ◌<◌, length, Option
 use Rattle.std.specs.Prelude.{MatchOption, IfSome, slice_index_or}
 use Rattle.plan_model.specs.declared.model.Leg.{Leg}
 use Rattle.plan_model.specs.declared.model.Query.{Query}
-use Rattle.plan_model.specs.Parts.{Parts}
+use Rattle.plan_model.specs.NetworkModel.{NetworkModel}
 use Rattle.plan_model.specs.Network.{IsValid, from_of}
 use Rattle.plan_model.specs.Ways.{limit_of}
 use Rattle.plan_model.proofs.Boarding.{limit_of-some, way_takes}
@@ -15,7 +15,7 @@ use Rattle.plan_graph.specs.Tidy.{IsFit, IsFitStart}
 use Rattle.graph_text.specs.Printable.{IsPrintable, IsPrintablePlan}
 use Rattle.plan_model.specs.Bounds.{end_of_arrivals}
 
-module _ (n : Parts) (valid : IsValid n) where
+module _ (n : NetworkModel) (valid : IsValid n) where
   -- a limit is before the departure
   pub limit_soon : (place limit : ℕ) (leg : Leg) → IsLegOf n leg → limit_of n place leg ≡ Some limit → limit < end_of_arrivals
   limit_soon place limit leg is_leg is =

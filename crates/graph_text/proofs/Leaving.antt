@@ -1,7 +1,7 @@
 -- Whether the legs of rows leave their place, row by row.
 use Rattle.std.proofs.Common.{◌≡◌, ℕ, ◌+◌, ◌<◌, Bool, true, false, List, length, drop, sym, ap, ◌∙◌}
 use Rattle.std.specs.Prelude.{◌==◌, ◌&&◌, slice_index_or}
-use Rattle.plan_model.specs.Parts.{Parts}
+use Rattle.plan_model.specs.NetworkModel.{NetworkModel}
 use Rattle.plan_model.specs.Network.{from_of}
 use Rattle.plan_model.specs.Unfold.{end_of}
 use Rattle.plan_graph.specs.declared.GraphRow.{GraphRow}
@@ -17,7 +17,7 @@ and_not whole test own rest split is fails = split ∙ ap (λ (t : Bool). t && r
 pub and_next : (whole test own rest : Bool) → whole ≡ (own && rest) → test ≡ own → test ≡ true → whole ≡ rest
 and_next whole test own rest split is holds = split ∙ ap (λ (t : Bool). t && rest) (sym is ∙ holds)
 
-module _ (n : Parts) where
+module _ (n : NetworkModel) where
   pub rows_leave-split : (place : ℕ) (rows : List GraphRow) (i : ℕ) (d : GraphRow) → i < length rows
       → rows_leave n place (drop i rows) ≡ ((from_of n (slice_index_or rows i d).leg.enter.0 == place) && rows_leave n place (drop (i + 1) rows))
   rows_leave-split place rows i d within = ap (rows_leave n place) (split_at rows i d within)

@@ -22,7 +22,7 @@ use Rattle.csv_rows.specs.Tables.{table_of}
 use Rattle.plan_model.specs.declared.model.Leg.{Leg}
 use Rattle.plan_model.specs.declared.model.Moment.{Moment}
 use Rattle.plan_model.specs.declared.model.PlaceId.{PlaceId}
-use Rattle.plan_model.specs.Parts.{Parts}
+use Rattle.plan_model.specs.NetworkModel.{NetworkModel}
 use Rattle.plan_model.specs.NameLists.{NameLists, NamesFit, AreNames}
 use Rattle.plan_model.specs.Network.{IsValid, count, change_of, connection, run_of, step_of, from_of, to_of, dep_of, arr_of}
 use Rattle.plan_model.specs.Ways.{way_of, earlier_by}
@@ -61,17 +61,17 @@ use Rattle.printed_rows.proofs.Printed.{IsKept, AreKept, kept-append, table_back
 use Rattle.plan_model.specs.Bounds.{most_connections}
 
 -- the records of a leg, of a table's rows, of a place, and of all tables
-abbrev leg_record : Parts → NameLists → Version → List ℕ → List ℕ → Leg → List (List ℕ)
+abbrev leg_record : NetworkModel → NameLists → Version → List ℕ → List ℕ → Leg → List (List ℕ)
 leg_record n names version kind second leg = kind ∷ second ∷ leg_fields n names version leg
 
-abbrev leg_records : Parts → NameLists → Version → List GraphRow → List (List (List ℕ))
+abbrev leg_records : NetworkModel → NameLists → Version → List GraphRow → List (List (List ℕ))
 leg_records n names version [] = []
 leg_records n names version (row ∷ rows) = leg_record n names version (codes "leg") (moment_text row.by.0) row.leg ∷ leg_records n names version rows
 
-abbrev place_record : Parts → NameLists → Version → PlaceTable → List (List ℕ)
+abbrev place_record : NetworkModel → NameLists → Version → PlaceTable → List (List ℕ)
 place_record n names version t = codes "place" ∷ place_name names t.place.0 ∷ decimal (change_of n t.place.0) ∷ decimal (length t.rows) ∷ [] ∷ [] ∷ [] ∷ [] ∷ ninth version []
 
-abbrev table_records : Parts → NameLists → Version → List PlaceTable → List (List (List ℕ))
+abbrev table_records : NetworkModel → NameLists → Version → List PlaceTable → List (List (List ℕ))
 table_records n names version [] = []
 table_records n names version (t ∷ tables) = place_record n names version t ∷ (leg_records n names version t.rows ++ table_records n names version tables)
 
@@ -81,13 +81,13 @@ head_record names version head =
     ∷ moment_text head.query.start.0 ∷ moment_text head.query.deadline.0 ∷ nanos_text head.bounds.lo ∷ nanos_text head.bounds.hi ∷ ninth version []
 
 -- their text is what is printed
-legs_printed : (n : Parts) (names : NameLists) (version : Version) (rows : List GraphRow) → rows_text n names version (codes "leg") rows ≡ text_of_rows (leg_records n names version rows)
+legs_printed : (n : NetworkModel) (names : NameLists) (version : Version) (rows : List GraphRow) → rows_text n names version (codes "leg") rows ≡ text_of_rows (leg_records n names version rows)
 unfolding text_of_rows row_of_fields
 legs_printed n names version [] = refl
 legs_printed n names version (row ∷ rows) =
     ap (λ (text : List ℕ). row_of_fields (leg_record n names version (codes "leg") (moment_text row.by.0) row.leg) ++ text) (legs_printed n names version rows)
 
-tables_printed : (n : Parts) (names : NameLists) (version : Version) (tables : List PlaceTable) → tables_text n names version tables ≡ text_of_rows (table_records n names version tables)
+tables_printed : (n : NetworkModel) (names : NameLists) (version : Version) (tables : List PlaceTable) → tables_text n names version tables ≡ text_of_rows (table_records n names version tables)
 unfolding text_of_rows row_of_fields
 tables_printed n names version [] = refl
 tables_printed n names version (t ∷ tables) =
@@ -193,19 +193,19 @@ FollowsPlace last [] = Unit {0}
 FollowsPlace last (t ∷ tables) = rises (option_map (λ p. p.0) last) t.place.0 ≡ true
 
 -- in a text of the first version the leg leaves its row's place
-abbrev IsTold : Parts → Version → ℕ → Leg → Type 0
+abbrev IsTold : NetworkModel → Version → ℕ → Leg → Type 0
 IsTold n First place leg = from_of n leg.enter.0 ≡ place
 IsTold n Second place leg = Unit {0}
 
 -- a row that fits, and can be told in a text of the version
-abbrev IsToldRow : Parts → Version → ℕ → GraphRow → Type 0
+abbrev IsToldRow : NetworkModel → Version → ℕ → GraphRow → Type 0
 IsToldRow n version place row = IsFitRow n place row × IsTold n version place row.leg
 
 -- and such a table
-abbrev IsToldTable : Parts → Version → PlaceTable → Type 0
+abbrev IsToldTable : NetworkModel → Version → PlaceTable → Type 0
 IsToldTable n version t = IsFitTable n t × All (IsToldRow n version t.place.0) t.rows
 
-module _ (n : Parts) (names : NameLists) (version : Version) (valid : IsValid n) (fit : NamesFit names n) (own : AreNames names) where
+module _ (n : NetworkModel) (names : NameLists) (version : Version) (valid : IsValid n) (fit : NamesFit names n) (own : AreNames names) where
   -- each place and run of the network has its name
   place_named : (place : ℕ) → place < length n.change → number_of names.places (place_name names place) ≡ Some place
   place_named place there = name_back names.places place own.places own.place_texts (omega (arith, fit.places))
@@ -602,26 +602,26 @@ module _ (n : Parts) (names : NameLists) (version : Version) (valid : IsValid n)
         (away_printed leg tables own_graph.starts.differ) (away_read leg tables own_graph.starts told own_graph.rising)
 
 -- the version that a graph has can tell it
-rows_told : (n : Parts) (place : ℕ) (rows : List GraphRow) → rows_leave n place rows ≡ true → All (IsFitRow n place) rows → All (IsToldRow n First place) rows
+rows_told : (n : NetworkModel) (place : ℕ) (rows : List GraphRow) → rows_leave n place rows ≡ true → All (IsFitRow n place) rows → All (IsToldRow n First place) rows
 rows_told n place [] leave fits = All-nil (IsToldRow n First place)
 rows_told n place (row ∷ rows) leave fits =
     let both = and_parts (from_of n row.leg.enter.0 == place) (rows_leave n place rows) leave in
     All-cons (IsToldRow n First place) row rows (All-head (IsFitRow n place) row rows fits, eqb-true (from_of n row.leg.enter.0) place both.0)
     (rows_told n place rows both.1 (All-tail (IsFitRow n place) row rows fits))
 
-tables_told : (n : Parts) (tables : List PlaceTable) → tables_leave n tables ≡ true → All (IsFitTable n) tables → All (IsToldTable n First) tables
+tables_told : (n : NetworkModel) (tables : List PlaceTable) → tables_leave n tables ≡ true → All (IsFitTable n) tables → All (IsToldTable n First) tables
 tables_told n [] leave fits = All-nil (IsToldTable n First)
 tables_told n (t ∷ tables) leave fits =
     let both = and_parts (rows_leave n t.place.0 t.rows) (tables_leave n tables) leave in
     let first = All-head (IsFitTable n) t tables fits in
     All-cons (IsToldTable n First) t tables (first, rows_told n t.place.0 t.rows both.0 first.rows) (tables_told n tables both.1 (All-tail (IsFitTable n) t tables fits))
 
-told_by_version : (n : Parts) (tables : List PlaceTable) (leave : Bool) → tables_leave n tables ≡ leave → All (IsFitTable n) tables → All (IsToldTable n (version_by leave)) tables
+told_by_version : (n : NetworkModel) (tables : List PlaceTable) (leave : Bool) → tables_leave n tables ≡ leave → All (IsFitTable n) tables → All (IsToldTable n (version_by leave)) tables
 told_by_version n tables true leave fits = tables_told n tables leave fits
 told_by_version n tables false leave fits = λ k d within. let t = fits k d within in (t, λ i e inside. (t.rows i e inside, tt))
 
 -- a graph that fits is printed, and read back
-pub reads_back : (n : Parts) (names : NameLists) (source target start : ℕ) (head : Head) (graph : PlanGraph) → IsValid n → NamesFit names n
+pub reads_back : (n : NetworkModel) (names : NameLists) (source target start : ℕ) (head : Head) (graph : PlanGraph) → IsValid n → NamesFit names n
     → AreNames names → IsPrintableQuery n head.query → head.bounds.hi < 2 ^ 64
     → IsFit n head.query graph → IsAsked source target start head → graph_of (graph_text n names head graph) n names source target start ≡ Ok (head, graph)
 reads_back n names source target start head graph valid fit own asked fits own_graph of =

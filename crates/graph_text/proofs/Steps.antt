@@ -6,7 +6,7 @@ use Rattle.std.specs.Result.{IsErr, IsErrAnd}
 use Rattle.std.proofs.lemmas.Bool.Decides.{nat_tests}
 use Rattle.plan_model.specs.Results.{and_then}
 use Rattle.plan_model.specs.declared.model.PlaceId.{PlaceId}
-use Rattle.plan_model.specs.Parts.{Parts}
+use Rattle.plan_model.specs.NetworkModel.{NetworkModel}
 use Rattle.plan_model.specs.NameLists.{NameLists}
 use Rattle.plan_graph.specs.declared.PlaceTable.{PlaceTable}
 use Rattle.plan_graph.specs.declared.PlanGraph.{PlanGraph}
@@ -22,7 +22,7 @@ not_none : (left : ℕ) → (left ≡ 0 → ⊥) → (left == 0) ≡ false
 not_none left some = grind (arith, nat_tests)
 
 -- where leg rows are to come
-pub leg_step : (n : Parts) (names : NameLists) (version : Version) (line : ℕ) (r : List (List ℕ)) (s : Reading) (place : PlaceId) → (s.left ≡ 0 → ⊥)
+pub leg_step : (n : NetworkModel) (names : NameLists) (version : Version) (line : ℕ) (r : List (List ℕ)) (s : Reading) (place : PlaceId) → (s.left ≡ 0 → ⊥)
     → s.place ≡ Some place → extended s (row_in n names version line place.0 (option_map (λ moment. moment.0) s.by) r) ≡ step n names version line r s
 leg_step n names version line r s place some is =
     sym (rw (not_none s.left some) (ap (λ (p : Option PlaceId). extended s (row_in n names version line (place_or_first p).0 (option_map (λ moment. moment.0) s.by) r)) is))
@@ -54,14 +54,14 @@ pub ok_on : {A B : Type 0} (told : Result A TextFault) (a : A) (next : A → Res
 ok_on {A} {B} told a next r is read = subst (λ (t : Result A TextFault). IsRead r (and_then t next)) (sym is) read
 
 -- the tables of the records from one on, after the step of this one
-pub tables_after : (n : Parts) (names : NameLists) (version : Version) (rows : List (List (List ℕ))) (line i : ℕ) (s now : Reading) → i < length rows
+pub tables_after : (n : NetworkModel) (names : NameLists) (version : Version) (rows : List (List (List ℕ))) (line i : ℕ) (s now : Reading) → i < length rows
     → step n names version line (slice_index_or rows i []) s ≡ Ok now
     → tables_from n names version (drop i rows) line s ≡ tables_from n names version (drop (i + 1) rows) (line + 1) now
 tables_after n names version rows line i s now within is =
     ap (λ (list : List (List (List ℕ))). tables_from n names version list line s) (split_at rows i [] within)
     ∙ ap (λ (told : Result Reading TextFault). and_then told (tables_from n names version (drop (i + 1) rows) (line + 1))) is
 
-pub tables_fail : (n : Parts) (names : NameLists) (version : Version) (rows : List (List (List ℕ))) (line i : ℕ) (s : Reading) (fault : TextFault)
+pub tables_fail : (n : NetworkModel) (names : NameLists) (version : Version) (rows : List (List (List ℕ))) (line i : ℕ) (s : Reading) (fault : TextFault)
     → i < length rows → IsRead {A = Reading} (Err fault) (step n names version line (slice_index_or rows i []) s)
     → IsRead {A = List PlaceTable} (Err fault) (tables_from n names version (drop i rows) line s)
 tables_fail n names version rows line i s fault within told =
@@ -84,7 +84,8 @@ rest_none (r ∷ []) none = refl
 rest_none (r ∷ s ∷ rs) none = absurd (omega (arith, none))
 
 -- what the first row and the graph of the others tell together
-pub told_by : (n : Parts) (names : NameLists) (version : Version) (source target start : ℕ) (rows : List (List (List ℕ))) (head : Head) (r : Result (Head × PlanGraph) TextFault) → 0 < length rows
+pub told_by : (n : NetworkModel) (names : NameLists) (version : Version) (source target start : ℕ) (rows : List (List (List ℕ))) (head : Head) (r : Result (Head × PlanGraph) TextFault)
+    → 0 < length rows
     → Some version ≡ version_in (slice_index_or rows 0 []) → Ok head ≡ head_in names version source target start (slice_index_or rows 0 [])
     → IsRead r (and_then (graph_in n names version source target start (drop 1 rows)) (λ graph. Ok (head, graph))) → IsRead r (graph_of_records n names source target start rows)
 told_by n names version source target start rows head r some found is read =
@@ -94,7 +95,7 @@ told_by n names version source target start rows head r some found is read =
     (λ h. and_then (graph_in n names version source target start (drop 1 rows)) (λ graph. Ok (h, graph))) r (sym is) read))
 
 -- a fault of the first row is one of the text
-pub head_fault : (n : Parts) (names : NameLists) (source target start : ℕ) (rows : List (List (List ℕ))) (found : Option Version)
+pub head_fault : (n : NetworkModel) (names : NameLists) (source target start : ℕ) (rows : List (List (List ℕ))) (found : Option Version)
     (r : Result (Head × PlanGraph) TextFault) → 0 < length rows → found ≡ version_in (slice_index_or rows 0 [])
     → IsRead r (graph_of_version n names source target start (slice_index_or rows 0 []) (drop 1 rows) found) → IsRead r (graph_of_records n names source target start rows)
 head_fault n names source target start rows found r some is read =

@@ -6,7 +6,7 @@ use Rattle.plan_model.specs.Results.{and_then}
 use Rattle.clock_text.specs.Times.{moment_at, nanos_at}
 use Rattle.csv_rows.specs.Tables.{table_of}
 use Rattle.plan_model.specs.declared.model.Leg.{Leg}
-use Rattle.plan_model.specs.Parts.{Parts}
+use Rattle.plan_model.specs.NetworkModel.{NetworkModel}
 use Rattle.plan_model.specs.NameLists.{NameLists}
 use Rattle.plan_model.specs.Network.{connection, from_of, to_of, dep_of, arr_of, change_of}
 use Rattle.plan_model.specs.Ways.{limit_of}
@@ -61,22 +61,22 @@ names_in version names here r =
     (number_of names.places (field r 6))) (number_of names.runs (field r 2))
 
 -- whether connections i and j agree with a leg's row and its names
-abbrev pub agrees : Parts → ℕ → ℕ → LegRow → LegNames → Bool
-agrees n i j x known =
-    nat_le x.enter x.exit && ((connection n i).can_board && ((connection n j).can_exit
-    && ((dep_of n i == x.dep.0) && ((from_of n i == known.entry.0) && ((to_of n j == known.exit.0) && (arr_of n j == x.arr.0))))))
+abbrev pub agrees : NetworkModel → ℕ → ℕ → LegRow → LegNames → Bool
+agrees network i j x known =
+    nat_le x.enter x.exit && ((connection network i).can_board && ((connection network j).can_exit
+    && ((dep_of network i == x.dep.0) && ((from_of network i == known.entry.0) && ((to_of network j == known.exit.0) && (arr_of network j == x.arr.0))))))
 
 abbrev pub leg_of : ℕ → ℕ → Leg
 leg_of i j = record { enter = record { 0 = i }; exit = record { 0 = j } }
 
-abbrev pub leg_between : Parts → LegRow → LegNames → Option ℕ → Option ℕ → Option Leg
-leg_between n x known (Some i) (Some j) = if agrees n i j x known then Some (leg_of i j) else None
-leg_between n x known (Some i) None = None
-leg_between n x known None j = None
+abbrev pub leg_between : NetworkModel → LegRow → LegNames → Option ℕ → Option ℕ → Option Leg
+leg_between network x known (Some i) (Some j) = if agrees network i j x known then Some (leg_of i j) else None
+leg_between network x known (Some i) None = None
+leg_between network x known None j = None
 
 -- the leg of a row by its run and places, where the network has it
-abbrev pub leg_found : Parts → LegRow → LegNames → Option Leg
-leg_found n x known = leg_between n x known (connection_of n known.run.0 x.enter) (connection_of n known.run.0 x.exit)
+abbrev pub leg_found : NetworkModel → LegRow → LegNames → Option Leg
+leg_found network x known = leg_between network x known (connection_of network known.run.0 x.enter) (connection_of network known.run.0 x.exit)
 
 -- whether a limit is there and is this moment
 abbrev pub is_limit : Option ℕ → ℕ → Bool
@@ -84,48 +84,48 @@ is_limit None moment = false
 is_limit (Some limit) moment = limit == moment
 
 -- whether a leg leaves the source at the start or later, and the row's moment is its departure
-abbrev pub can_start : Parts → ℕ → ℕ → ℕ → Leg → Bool
-can_start n source start moment leg = (from_of n leg.enter.0 == source) && ((moment == dep_of n leg.enter.0) && nat_le start (dep_of n leg.enter.0))
+abbrev pub can_start : NetworkModel → ℕ → ℕ → ℕ → Leg → Bool
+can_start network source start moment leg = (from_of network leg.enter.0 == source) && ((moment == dep_of network leg.enter.0) && nat_le start (dep_of network leg.enter.0))
 
 -- the start leg
-abbrev pub start_by : Parts → ℕ → ℕ → ℕ → LegRow → Option Leg → Result Leg TextFault
-start_by n line source start x None = Err (NoLeg line)
-start_by n line source start x (Some leg) =
-    if can_start n source start x.moment.0 leg then Ok leg else Err (NoLeg line)
+abbrev pub start_by : NetworkModel → ℕ → ℕ → ℕ → LegRow → Option Leg → Result Leg TextFault
+start_by network line source start x None = Err (NoLeg line)
+start_by network line source start x (Some leg) =
+    if can_start network source start x.moment.0 leg then Ok leg else Err (NoLeg line)
 
-abbrev pub start_named : Parts → ℕ → ℕ → ℕ → LegRow → Option LegNames → Result Leg TextFault
-start_named n line source start x None = Err (UnknownName line)
-start_named n line source start x (Some known) = start_by n line source start x (leg_found n x known)
+abbrev pub start_named : NetworkModel → ℕ → ℕ → ℕ → LegRow → Option LegNames → Result Leg TextFault
+start_named network line source start x None = Err (UnknownName line)
+start_named network line source start x (Some known) = start_by network line source start x (leg_found network x known)
 
-abbrev pub start_numbers : Parts → NameLists → Version → ℕ → ℕ → ℕ → List (List ℕ) → Option LegRow → Result Leg TextFault
-start_numbers n names version line source start r None = Err (Row line)
-start_numbers n names version line source start r (Some x) = start_named n line source start x (names_in version names source r)
+abbrev pub start_numbers : NetworkModel → NameLists → Version → ℕ → ℕ → ℕ → List (List ℕ) → Option LegRow → Result Leg TextFault
+start_numbers network names version line source start r None = Err (Row line)
+start_numbers network names version line source start r (Some x) = start_named network line source start x (names_in version names source r)
 
 -- the start row
-abbrev pub start_in : Parts → NameLists → Version → ℕ → ℕ → ℕ → List (List ℕ) → Result Leg TextFault
-start_in n names version line source start r = start_numbers n names version line source start r (leg_row_in version (codes "start") r)
+abbrev pub start_in : NetworkModel → NameLists → Version → ℕ → ℕ → ℕ → List (List ℕ) → Result Leg TextFault
+start_in network names version line source start r = start_numbers network names version line source start r (leg_row_in version (codes "start") r)
 
 -- whether the moment is the limit of a leg at a place
-abbrev pub is_by_limit : Parts → ℕ → ℕ → Leg → Bool
-is_by_limit n place moment leg = is_limit (limit_of n place leg) moment
+abbrev pub is_by_limit : NetworkModel → ℕ → ℕ → Leg → Bool
+is_by_limit network place moment leg = is_limit (limit_of network place leg) moment
 
 -- the row of a leg at a place, by its limit
-abbrev pub row_by_leg : Parts → ℕ → ℕ → LegRow → Option Leg → Result GraphRow TextFault
-row_by_leg n line place x None = Err (NoLeg line)
-row_by_leg n line place x (Some leg) =
-    if is_by_limit n place x.moment.0 leg then Ok (record { by = x.moment; leg = leg }) else Err (NoLeg line)
+abbrev pub row_by_leg : NetworkModel → ℕ → ℕ → LegRow → Option Leg → Result GraphRow TextFault
+row_by_leg network line place x None = Err (NoLeg line)
+row_by_leg network line place x (Some leg) =
+    if is_by_limit network place x.moment.0 leg then Ok (record { by = x.moment; leg = leg }) else Err (NoLeg line)
 
-abbrev pub row_named : Parts → ℕ → ℕ → Option ℕ → LegRow → Option LegNames → Result GraphRow TextFault
-row_named n line place last x None = Err (UnknownName line)
-row_named n line place last x (Some known) = if rises last x.moment.0 then row_by_leg n line place x (leg_found n x known) else Err (NotRising line)
+abbrev pub row_named : NetworkModel → ℕ → ℕ → Option ℕ → LegRow → Option LegNames → Result GraphRow TextFault
+row_named network line place last x None = Err (UnknownName line)
+row_named network line place last x (Some known) = if rises last x.moment.0 then row_by_leg network line place x (leg_found network x known) else Err (NotRising line)
 
-abbrev pub row_numbers : Parts → NameLists → Version → ℕ → ℕ → Option ℕ → List (List ℕ) → Option LegRow → Result GraphRow TextFault
-row_numbers n names version line place last r None = Err (Row line)
-row_numbers n names version line place last r (Some x) = row_named n line place last x (names_in version names place r)
+abbrev pub row_numbers : NetworkModel → NameLists → Version → ℕ → ℕ → Option ℕ → List (List ℕ) → Option LegRow → Result GraphRow TextFault
+row_numbers network names version line place last r None = Err (Row line)
+row_numbers network names version line place last r (Some x) = row_named network line place last x (names_in version names place r)
 
 -- a leg row of a place, after one by an earlier moment
-abbrev pub row_in : Parts → NameLists → Version → ℕ → ℕ → Option ℕ → List (List ℕ) → Result GraphRow TextFault
-row_in n names version line place last r = row_numbers n names version line place last r (leg_row_in version (codes "leg") r)
+abbrev pub row_in : NetworkModel → NameLists → Version → ℕ → ℕ → Option ℕ → List (List ℕ) → Result GraphRow TextFault
+row_in network names version line place last r = row_numbers network names version line place last r (leg_row_in version (codes "leg") r)
 
 -- the numbers of a place row, where each is of its form
 abbrev pub place_numbers : Option ℕ → Option ℕ → Option PlaceRow
@@ -142,20 +142,20 @@ is_place version r = is_kind (codes "place") (width_of version) r && (is_blank r
 abbrev pub place_row_in : Version → List (List ℕ) → Option PlaceRow
 place_row_in version r = if is_place version r then place_numbers (whole_at (field r 2)) (whole_at (field r 3)) else None
 
-abbrev pub table_named : Parts → ℕ → Option ℕ → PlaceRow → Option ℕ → Result TableStart TextFault
-table_named n line last x None = Err (UnknownName line)
-table_named n line last x (Some place) =
+abbrev pub table_named : NetworkModel → ℕ → Option ℕ → PlaceRow → Option ℕ → Result TableStart TextFault
+table_named network line last x None = Err (UnknownName line)
+table_named network line last x (Some place) =
     if rises last place
-    then (if x.change == change_of n place then Ok (record { place = record { 0 = place }; count = x.count }) else Err (NoLeg line))
+    then (if x.change == change_of network place then Ok (record { place = record { 0 = place }; count = x.count }) else Err (NoLeg line))
     else Err (NotRising line)
 
-abbrev pub table_numbers : Parts → NameLists → ℕ → Option ℕ → List (List ℕ) → Option PlaceRow → Result TableStart TextFault
-table_numbers n names line last r None = Err (Row line)
-table_numbers n names line last r (Some x) = table_named n line last x (number_of names.places (field r 1))
+abbrev pub table_numbers : NetworkModel → NameLists → ℕ → Option ℕ → List (List ℕ) → Option PlaceRow → Result TableStart TextFault
+table_numbers network names line last r None = Err (Row line)
+table_numbers network names line last r (Some x) = table_named network line last x (number_of names.places (field r 1))
 
 -- a place row, after one of an earlier place
-abbrev pub table_in : Parts → NameLists → Version → ℕ → Option ℕ → List (List ℕ) → Result TableStart TextFault
-table_in n names version line last r = table_numbers n names line last r (place_row_in version r)
+abbrev pub table_in : NetworkModel → NameLists → Version → ℕ → Option ℕ → List (List ℕ) → Result TableStart TextFault
+table_in network names version line last r = table_numbers network names line last r (place_row_in version r)
 
 -- the tables so far, with one that begins or has one row more
 abbrev pub begun : Reading → Result TableStart TextFault → Result Reading TextFault
@@ -175,37 +175,37 @@ extended s (Ok row) =
     else Ok (record { done = s.done; place = s.place; rows = s.rows ++ row ∷ []; by = Some row.by; left = s.left - 1 })
 
 -- after one record more: a place row where no leg row is left to come, and else a leg row
-abbrev pub step : Parts → NameLists → Version → ℕ → List (List ℕ) → Reading → Result Reading TextFault
-step n names version line r s =
+abbrev pub step : NetworkModel → NameLists → Version → ℕ → List (List ℕ) → Reading → Result Reading TextFault
+step network names version line r s =
     if s.left == 0
-    then begun s (table_in n names version line (option_map (λ place. place.0) s.place) r)
-    else extended s (row_in n names version line (place_or_first s.place).0 (option_map (λ moment. moment.0) s.by) r)
+    then begun s (table_in network names version line (option_map (λ place. place.0) s.place) r)
+    else extended s (row_in network names version line (place_or_first s.place).0 (option_map (λ moment. moment.0) s.by) r)
 
 -- the tables of the records from a line on
-abbrev pub tables_from : Parts → NameLists → Version → List (List (List ℕ)) → ℕ → Reading → Result (List PlaceTable) TextFault
-tables_from n names version [] line s = if s.left == 0 then Ok s.done else Err (Row line)
-tables_from n names version (r ∷ rs) line s = and_then (step n names version line r s) (tables_from n names version rs (line + 1))
+abbrev pub tables_from : NetworkModel → NameLists → Version → List (List (List ℕ)) → ℕ → Reading → Result (List PlaceTable) TextFault
+tables_from network names version [] line s = if s.left == 0 then Ok s.done else Err (Row line)
+tables_from network names version (r ∷ rs) line s = and_then (step network names version line r s) (tables_from network names version rs (line + 1))
 
 -- where a leg row is to come there is a place, and a place is one of the network's
-pub record IsPlaced (n : Parts) (s : Reading) : Type 0 where
+pub record IsPlaced (network : NetworkModel) (s : Reading) : Type 0 where
   pub some : (s.left ≡ 0) ⊎ IsSome s.place
-  pub there : IfSome s.place (λ place. place.0 < length n.change)
+  pub there : IfSome s.place (λ place. place.0 < length network.change)
 
 abbrev pub no_tables : Reading
 no_tables = record { done = []; place = None; rows = []; by = None; left = 0 }
 
 -- the graph of a start row and the records after it
-abbrev pub started_in : Parts → NameLists → Version → ℕ → ℕ → List (List ℕ) → List (List (List ℕ)) → Result PlanGraph TextFault
-started_in n names version source start r rs =
-    and_then (start_in n names version 2 source start r) (λ leg. and_then (tables_from n names version rs 3 no_tables) (λ tables. Ok (record { start = Some leg; tables = tables })))
+abbrev pub started_in : NetworkModel → NameLists → Version → ℕ → ℕ → List (List ℕ) → List (List (List ℕ)) → Result PlanGraph TextFault
+started_in network names version source start r rs =
+    and_then (start_in network names version 2 source start r) (λ leg. and_then (tables_from network names version rs 3 no_tables) (λ tables. Ok (record { start = Some leg; tables = tables })))
 
 -- the graph of the records after the first
-abbrev pub graph_in : Parts → NameLists → Version → ℕ → ℕ → ℕ → List (List (List ℕ)) → Result PlanGraph TextFault
-graph_in n names version source target start [] = if source == target then Ok (record { start = None; tables = [] }) else Err (Row 2)
-graph_in n names version source target start (r ∷ rs) =
+abbrev pub graph_in : NetworkModel → NameLists → Version → ℕ → ℕ → ℕ → List (List (List ℕ)) → Result PlanGraph TextFault
+graph_in network names version source target start [] = if source == target then Ok (record { start = None; tables = [] }) else Err (Row 2)
+graph_in network names version source target start (r ∷ rs) =
     if source == target
     then Err (Row 2)
-    else started_in n names version source start r rs
+    else started_in network names version source start r rs
 
 -- whether two moments and two bounds are in order
 abbrev pub are_in_order : ℕ → ℕ → ℕ → ℕ → Bool
@@ -263,23 +263,23 @@ abbrev pub head_in : NameLists → Version → ℕ → ℕ → ℕ → List (Lis
 head_in names version source target start r = head_of_numbers names source target start r (head_row_in version r)
 
 -- the head and the graph of a table's records, by the version that the first one tells
-abbrev pub graph_of_version : Parts → NameLists → ℕ → ℕ → ℕ → List (List ℕ) → List (List (List ℕ)) → Option Version → Result (Head × PlanGraph) TextFault
-graph_of_version n names source target start r rs None = Err (Row 1)
-graph_of_version n names source target start r rs (Some version) =
-    and_then (head_in names version source target start r) (λ head. and_then (graph_in n names version source target start rs) (λ graph. Ok (head, graph)))
+abbrev pub graph_of_version : NetworkModel → NameLists → ℕ → ℕ → ℕ → List (List ℕ) → List (List (List ℕ)) → Option Version → Result (Head × PlanGraph) TextFault
+graph_of_version network names source target start r rs None = Err (Row 1)
+graph_of_version network names source target start r rs (Some version) =
+    and_then (head_in names version source target start r) (λ head. and_then (graph_in network names version source target start rs) (λ graph. Ok (head, graph)))
 
 -- the head and the graph of a table's records
-abbrev pub graph_of_records : Parts → NameLists → ℕ → ℕ → ℕ → List (List (List ℕ)) → Result (Head × PlanGraph) TextFault
-graph_of_records n names source target start [] = Err (Row 1)
-graph_of_records n names source target start (r ∷ rs) = graph_of_version n names source target start r rs (version_in r)
+abbrev pub graph_of_records : NetworkModel → NameLists → ℕ → ℕ → ℕ → List (List (List ℕ)) → Result (Head × PlanGraph) TextFault
+graph_of_records network names source target start [] = Err (Row 1)
+graph_of_records network names source target start (r ∷ rs) = graph_of_version network names source target start r rs (version_in r)
 
 -- the head and the graph of a text, or the first of its faults by line
-abbrev pub graph_of : List ℕ → Parts → NameLists → ℕ → ℕ → ℕ → Result (Head × PlanGraph) TextFault
-graph_of text n names source target start = graph_of_records n names source target start (table_of text)
+abbrev pub graph_of : List ℕ → NetworkModel → NameLists → ℕ → ℕ → ℕ → Result (Head × PlanGraph) TextFault
+graph_of text network names source target start = graph_of_records network names source target start (table_of text)
 
 -- the text is read as this head and this graph, where the head's question is asked
-abbrev pub IsReadAs : Parts → NameLists → Head → PlanGraph → List ℕ → Type 0
-IsReadAs n names head graph text = graph_of text n names head.query.source.0 head.query.target.0 head.query.start.0 ≡ Ok (head, graph)
+abbrev pub IsReadAs : NetworkModel → NameLists → Head → PlanGraph → List ℕ → Type 0
+IsReadAs network names head graph text = graph_of text network names head.query.source.0 head.query.target.0 head.query.start.0 ≡ Ok (head, graph)
 
 -- there was no memory, or it is this
 abbrev pub IsRead : {A : Type 0} → Result A TextFault → Result A TextFault → Type 0

@@ -2,7 +2,7 @@
 use Rattle.std.specs.Prelude.{ℕ, List, [], ◌∷◌, ◌++◌, Option, Some, None, ◌==◌, if◌then◌else◌, length, codes, decimal}
 use Rattle.clock_text.specs.Civil.{moment_text, nanos_text}
 use Rattle.plan_model.specs.declared.model.Leg.{Leg}
-use Rattle.plan_model.specs.Parts.{Parts}
+use Rattle.plan_model.specs.NetworkModel.{NetworkModel}
 use Rattle.plan_model.specs.NameLists.{NameLists}
 use Rattle.plan_model.specs.Network.{run_of, step_of, from_of, dep_of, arr_of, to_of, change_of}
 use Rattle.plan_graph.specs.declared.GraphRow.{GraphRow}
@@ -16,19 +16,19 @@ use Rattle.graph_text.specs.declared.version.Version.{Version}
 use Rattle.graph_text.specs.Versions.{number_of_version, ninth, tables_leave, rides_leave, version_by}
 
 -- the fields of a leg: run, entry step, departure, exit step, exit place, scheduled arrival, and the entry place in the second version
-abbrev pub leg_fields : Parts → NameLists → Version → Leg → List (List ℕ)
-leg_fields n names version leg =
-    run_name names (run_of n leg.enter.0)
-    ∷ decimal (step_of n leg.enter.0)
-    ∷ moment_text (dep_of n leg.enter.0)
-    ∷ decimal (step_of n leg.exit.0)
-    ∷ place_name names (to_of n leg.exit.0)
-    ∷ moment_text (arr_of n leg.exit.0)
-    ∷ ninth version (place_name names (from_of n leg.enter.0))
+abbrev pub leg_fields : NetworkModel → NameLists → Version → Leg → List (List ℕ)
+leg_fields network names version leg =
+    run_name names (run_of network leg.enter.0)
+    ∷ decimal (step_of network leg.enter.0)
+    ∷ moment_text (dep_of network leg.enter.0)
+    ∷ decimal (step_of network leg.exit.0)
+    ∷ place_name names (to_of network leg.exit.0)
+    ∷ moment_text (arr_of network leg.exit.0)
+    ∷ ninth version (place_name names (from_of network leg.enter.0))
 
 -- a row of a leg: its kind, a field of its own, and the leg's fields
-abbrev pub leg_row : Parts → NameLists → Version → List ℕ → List ℕ → Leg → List ℕ
-leg_row n names version kind second leg = row_of_fields (kind ∷ second ∷ leg_fields n names version leg)
+abbrev pub leg_row : NetworkModel → NameLists → Version → List ℕ → List ℕ → Leg → List ℕ
+leg_row network names version kind second leg = row_of_fields (kind ∷ second ∷ leg_fields network names version leg)
 
 -- the first row: kind, version, source, target, start, deadline, lower and upper bound
 abbrev pub head_row : NameLists → Version → List ℕ → Head → List ℕ
@@ -45,57 +45,57 @@ head_row names version kind head =
     ∷ ninth version [])
 
 -- the row of the start leg, where there is one
-abbrev pub start_text : Parts → NameLists → Version → Option Leg → List ℕ
-start_text n names version None = []
-start_text n names version (Some leg) = leg_row n names version (codes "start") (moment_text (dep_of n leg.enter.0)) leg
+abbrev pub start_text : NetworkModel → NameLists → Version → Option Leg → List ℕ
+start_text network names version None = []
+start_text network names version (Some leg) = leg_row network names version (codes "start") (moment_text (dep_of network leg.enter.0)) leg
 
 -- a row for each row of a table, by its moment
-abbrev pub rows_text : Parts → NameLists → Version → List ℕ → List GraphRow → List ℕ
-rows_text n names version kind [] = []
-rows_text n names version kind (row ∷ rows) = leg_row n names version kind (moment_text row.by.0) row.leg ++ rows_text n names version kind rows
+abbrev pub rows_text : NetworkModel → NameLists → Version → List ℕ → List GraphRow → List ℕ
+rows_text network names version kind [] = []
+rows_text network names version kind (row ∷ rows) = leg_row network names version kind (moment_text row.by.0) row.leg ++ rows_text network names version kind rows
 
 -- the row of a ride, with the number of its rows, and those rows
-abbrev pub ride_text : Parts → NameLists → Version → Ride → List ℕ
-ride_text n names version r = leg_row n names version (codes "ride") (decimal (length r.after)) r.leg ++ rows_text n names version (codes "next") r.after
+abbrev pub ride_text : NetworkModel → NameLists → Version → Ride → List ℕ
+ride_text network names version r = leg_row network names version (codes "ride") (decimal (length r.after)) r.leg ++ rows_text network names version (codes "next") r.after
 
-abbrev pub rides_text : Parts → NameLists → Version → List Ride → List ℕ
-rides_text n names version [] = []
-rides_text n names version (r ∷ rides) = ride_text n names version r ++ rides_text n names version rides
+abbrev pub rides_text : NetworkModel → NameLists → Version → List Ride → List ℕ
+rides_text network names version [] = []
+rides_text network names version (r ∷ rides) = ride_text network names version r ++ rides_text network names version rides
 
 -- the text of a graph by ride, of a version; where source and target are one place only the first row stands
-abbrev pub expanded_text_in : Parts → NameLists → Version → Head → ExpandedGraph → List ℕ
-expanded_text_in n names version head graph =
+abbrev pub expanded_text_in : NetworkModel → NameLists → Version → Head → ExpandedGraph → List ℕ
+expanded_text_in network names version head graph =
     head_row names version (codes "expanded") head
-    ++ (if head.query.source.0 == head.query.target.0 then [] else start_text n names version graph.start ++ rides_text n names version graph.rides)
+    ++ (if head.query.source.0 == head.query.target.0 then [] else start_text network names version graph.start ++ rides_text network names version graph.rides)
 
 -- the text of a graph by ride
-abbrev pub expanded_text : Parts → NameLists → Head → ExpandedGraph → List ℕ
-expanded_text n names head graph = expanded_text_in n names (version_by (rides_leave n graph.rides)) head graph
+abbrev pub expanded_text : NetworkModel → NameLists → Head → ExpandedGraph → List ℕ
+expanded_text network names head graph = expanded_text_in network names (version_by (rides_leave network graph.rides)) head graph
 
 -- the row of a place, with its change seconds and how many rows it has
-abbrev pub place_row : Parts → NameLists → Version → ℕ → ℕ → List ℕ
-place_row n names version place count =
+abbrev pub place_row : NetworkModel → NameLists → Version → ℕ → ℕ → List ℕ
+place_row network names version place count =
     row_of_fields
     (codes "place"
     ∷ place_name names place
-    ∷ decimal (change_of n place)
+    ∷ decimal (change_of network place)
     ∷ decimal count
     ∷ [] ∷ [] ∷ [] ∷ [] ∷ ninth version [])
 
 -- the row of a place, and its rows
-abbrev pub table_text : Parts → NameLists → Version → PlaceTable → List ℕ
-table_text n names version table = place_row n names version table.place.0 (length table.rows) ++ rows_text n names version (codes "leg") table.rows
+abbrev pub table_text : NetworkModel → NameLists → Version → PlaceTable → List ℕ
+table_text network names version table = place_row network names version table.place.0 (length table.rows) ++ rows_text network names version (codes "leg") table.rows
 
-abbrev pub tables_text : Parts → NameLists → Version → List PlaceTable → List ℕ
-tables_text n names version [] = []
-tables_text n names version (table ∷ tables) = table_text n names version table ++ tables_text n names version tables
+abbrev pub tables_text : NetworkModel → NameLists → Version → List PlaceTable → List ℕ
+tables_text network names version [] = []
+tables_text network names version (table ∷ tables) = table_text network names version table ++ tables_text network names version tables
 
 -- the text of a graph by place, of a version; where source and target are one place only the first row stands
-abbrev pub graph_text_in : Parts → NameLists → Version → Head → PlanGraph → List ℕ
-graph_text_in n names version head graph =
+abbrev pub graph_text_in : NetworkModel → NameLists → Version → Head → PlanGraph → List ℕ
+graph_text_in network names version head graph =
     head_row names version (codes "graph") head
-    ++ (if head.query.source.0 == head.query.target.0 then [] else start_text n names version graph.start ++ tables_text n names version graph.tables)
+    ++ (if head.query.source.0 == head.query.target.0 then [] else start_text network names version graph.start ++ tables_text network names version graph.tables)
 
 -- the text of a graph by place
-abbrev pub graph_text : Parts → NameLists → Head → PlanGraph → List ℕ
-graph_text n names head graph = graph_text_in n names (version_by (tables_leave n graph.tables)) head graph
+abbrev pub graph_text : NetworkModel → NameLists → Head → PlanGraph → List ℕ
+graph_text network names head graph = graph_text_in network names (version_by (tables_leave network graph.tables)) head graph

@@ -1,6 +1,6 @@
 -- The two versions of a graph's text.
 use Rattle.std.specs.Prelude.{ℕ, Bool, true, List, [], ◌∷◌, ◌==◌, ◌&&◌, if◌then◌else◌, codes}
-use Rattle.plan_model.specs.Parts.{Parts}
+use Rattle.plan_model.specs.NetworkModel.{NetworkModel}
 use Rattle.plan_model.specs.Network.{from_of}
 use Rattle.plan_model.specs.Unfold.{end_of}
 use Rattle.plan_graph.specs.declared.GraphRow.{GraphRow}
@@ -25,19 +25,19 @@ ninth First field = []
 ninth Second field = field ∷ []
 
 -- whether each leg of a place's rows leaves that place
-abbrev pub rows_leave : Parts → ℕ → List GraphRow → Bool
-rows_leave n place [] = true
-rows_leave n place (row ∷ rows) = (from_of n row.leg.enter.0 == place) && rows_leave n place rows
+abbrev pub rows_leave : NetworkModel → ℕ → List GraphRow → Bool
+rows_leave network place [] = true
+rows_leave network place (row ∷ rows) = (from_of network row.leg.enter.0 == place) && rows_leave network place rows
 
 -- of each place
-abbrev pub tables_leave : Parts → List PlaceTable → Bool
-tables_leave n [] = true
-tables_leave n (table ∷ tables) = rows_leave n table.place.0 table.rows && tables_leave n tables
+abbrev pub tables_leave : NetworkModel → List PlaceTable → Bool
+tables_leave network [] = true
+tables_leave network (table ∷ tables) = rows_leave network table.place.0 table.rows && tables_leave network tables
 
 -- and whether the legs after each ride leave the place where it ends
-abbrev pub rides_leave : Parts → List Ride → Bool
-rides_leave n [] = true
-rides_leave n (r ∷ rides) = rows_leave n (end_of n r.leg) r.after && rides_leave n rides
+abbrev pub rides_leave : NetworkModel → List Ride → Bool
+rides_leave network [] = true
+rides_leave network (r ∷ rides) = rows_leave network (end_of network r.leg) r.after && rides_leave network rides
 
 -- the version: the first where each leg leaves its row's place, and the second where one does not
 abbrev pub version_by : Bool → Version

@@ -8,7 +8,7 @@ ghost use Rattle.plan_graph.specs.Ready.{IsReady};
 ghost use Rattle.plan_graph.specs.Tidy.{IsFit};
 ghost use Rattle.plan_graph.specs.declared.ExpandedGraph.{ExpandedGraph as Expanded};
 ghost use Rattle.plan_graph.specs.declared.PlanGraph.{PlanGraph as Plan};
-ghost use Rattle.plan_model.specs.Parts.{Parts};
+ghost use Rattle.plan_model.specs.NetworkModel.{NetworkModel};
 ghost use Rattle.plan_model.specs.declared.model.Query.{Query as QueryParts};
 ghost use Rattle.graph_text.specs.Texts.{expanded_text, expanded_text_in, graph_text, graph_text_in};
 ghost use Rattle.graph_text.specs.declared.Head.{Head as HeadParts};
@@ -148,19 +148,19 @@ pub fn write(
 
 /// A graph that is ready to be pruned can be printed.
 pub fn ready_is_printable()
-    ensures { (n : Parts) (q : QueryParts) (graph : Expanded) → IsValid n → IsReady n q graph
+    ensures { (n : NetworkModel) (q : QueryParts) (graph : Expanded) → IsValid n → IsReady n q graph
         → IsPrintable n graph }
 {}
 
 /// A graph that fits a network can be printed.
 pub fn fit_is_printable()
-    ensures { (n : Parts) (q : QueryParts) (graph : Plan) → IsValid n → IsFit n q graph
+    ensures { (n : NetworkModel) (q : QueryParts) (graph : Plan) → IsValid n → IsFit n q graph
         → IsPrintablePlan n graph }
 {}
 
 /// What is read fits the network and the question, whose source, target and start are those given.
 pub fn read_fits()
-    ensures { (n : Parts) (names : NameLists) (text : Sequence ℕ) (source target start : ℕ)
+    ensures { (n : NetworkModel) (names : NameLists) (text : Sequence ℕ) (source target start : ℕ)
         (head : HeadParts) (graph : Plan) → graph_of text n names source target start
         ≡ Ok (head, graph) → IsFit n head.query graph × IsAsked source target start head }
 {}

@@ -6,7 +6,7 @@ use Rattle.std.specs.Result.{IsErr, IsErrAnd}
 use Rattle.std.proofs.lemmas.Bool.{cases_lt}
 use Rattle.plan_model.specs.NameLists.{texts}
 use Rattle.plan_model.specs.Results.{and_then}
-use Rattle.file_ports.specs.Ports.{Folder, file_at}
+use Rattle.file_ports.specs.Ports.{FileMap, file_at}
 use Rattle.file_ports.specs.Counts.{Rose}
 use Rattle.csv_rows.specs.declared.columns.Column.TheVariants.{TripId}
 use Rattle.csv_rows.specs.declared.feed_tables.Table.{Table}
@@ -41,7 +41,7 @@ pub if_same : {A : Type 0} (o o' : Option A) (P : A → Type 0) → o' ≡ o →
 if_same o o' P e h = subst (λ (z : Option _). IfSome z P) e h
 
 -- what is loaded of another table than the one that may not have been read
-other_load : (m : Folder) (folder : List ℕ) (limits : Limits) (f : FeedFault) (table other : Table) → IsFaultOf table f → (rank_of table == rank_of other) ≡ false
+other_load : (m : FileMap) (folder : List ℕ) (limits : Limits) (f : FeedFault) (table other : Table) → IsFaultOf table f → (rank_of table == rank_of other) ≡ false
     → load_in m folder limits (unread_of f) other ≡ load_in m folder limits None other
 other_load m folder limits (Read t) table other e ne =
     ap (λ b. if b then Err (Read other) else loaded_file limits other (file_at m (path_of folder other))) (ap (λ x. rank_of x == rank_of other) e ∙ ne)
@@ -214,7 +214,7 @@ module _ (s r : Result Records FeedFault) (t : TripsBy) (x : TimesBy) (q : Frequ
 
 -- the same of a folder, where it is told
 module _ (folder : List ℕ) (limits : Limits) where
-  pub fault_at_stops : (o : Option Folder) (f : FeedFault) → IfSome o (λ m. f ≢ NoMemory → stops_from (load_in m folder limits (unread_of f) Stops) ≡ Err f)
+  pub fault_at_stops : (o : Option FileMap) (f : FeedFault) → IfSome o (λ m. f ≢ NoMemory → stops_from (load_in m folder limits (unread_of f) Stops) ≡ Err f)
       → IfSome o (λ m. f ≢ NoMemory → tables_in m folder limits (unread_of f) ≡ Err f)
   unfolding tables_in
   fault_at_stops None f h = tt
@@ -222,7 +222,7 @@ module _ (folder : List ℕ) (limits : Limits) where
       stops_stop (stops_from (load Stops)) (routes_from (load Routes)) (trips_from (load Trips)) (stop_times_from (load StopTimes)) (frequencies_from (load Frequencies)) f (h free)
 
   module _ (ids routes trips services : List (List ℕ)) (places types types_of routes_of : List ℕ) where
-    pub fault_at_routes : (o : Option Folder) (f : FeedFault) → IsFaultOf Routes f
+    pub fault_at_routes : (o : Option FileMap) (f : FeedFault) → IsFaultOf Routes f
         → IfSome o (λ m. AreStops (stops_from (load_in m folder limits None Stops)) ids places)
         → IfSome o (λ m. f ≢ NoMemory → routes_from (load_in m folder limits (unread_of f) Routes) ≡ Err f)
         → IfSome o (λ m. f ≢ NoMemory → tables_in m folder limits (unread_of f) ≡ Err f)
@@ -232,7 +232,7 @@ module _ (folder : List ℕ) (limits : Limits) where
         routes_stop (stops_from (load Stops)) (routes_from (load Routes)) (trips_from (load Trips)) (stop_times_from (load StopTimes)) (frequencies_from (load Frequencies))
         ids routes trips services places types types_of routes_of (subst (λ z. AreStops (stops_from z) ids places) (sym (other_load m folder limits f Routes Stops own refl)) a) f (h free)
 
-    pub fault_at_trips : (o : Option Folder) (f : FeedFault) → IsFaultOf Trips f
+    pub fault_at_trips : (o : Option FileMap) (f : FeedFault) → IsFaultOf Trips f
         → IfSome o (λ m. AreStops (stops_from (load_in m folder limits None Stops)) ids places)
         → IfSome o (λ m. AreRoutes (routes_from (load_in m folder limits None Routes)) routes types)
         → IfSome o (λ m. f ≢ NoMemory → trips_from (load_in m folder limits (unread_of f) Trips) routes ≡ Err f)
@@ -250,14 +250,14 @@ module _ (folder : List ℕ) (limits : Limits) where
     abbrev services : List (List ℕ)
     services = texts l.trips.of_trips.services.items
 
-    pub lists_of : (o : Option Folder) → IfSome o (λ m. HasStops (stops_from (load_in m folder limits None Stops)) l.stops)
+    pub lists_of : (o : Option FileMap) → IfSome o (λ m. HasStops (stops_from (load_in m folder limits None Stops)) l.stops)
         → IfSome o (λ m. HasRoutes (routes_from (load_in m folder limits None Routes)) l.routes)
         → IfSome o (λ m. HasTrips l.routes (trips_from (load_in m folder limits None Trips) l.routes.ids) l.trips) → IfSome o (λ m. AreLists (load_in m folder limits None) l)
     lists_of None a b d = tt
     lists_of (Some m) a b d = record { stops = a; routes = b; trips = d }
 
     -- they are the same where another table could not be read
-    beside : (m : Folder) (f : FeedFault) (table : Table) → IsFaultOf table f
+    beside : (m : FileMap) (f : FeedFault) (table : Table) → IsFaultOf table f
         → (rank_of table == 0) ≡ false → (rank_of table == 1) ≡ false → (rank_of table == 2) ≡ false
         → AreLists (load_in m folder limits None) l → AreLists (load_in m folder limits (unread_of f)) l
     beside m f table own s r t a = record {
@@ -266,7 +266,7 @@ module _ (folder : List ℕ) (limits : Limits) where
       trips = subst (λ z. HasTrips l.routes (trips_from z l.routes.ids) l.trips) (sym (other_load m folder limits f table Trips own t)) a.trips;
     }
 
-    pub fault_at_times : (o : Option Folder) (f : FeedFault) → IsFaultOf StopTimes f
+    pub fault_at_times : (o : Option FileMap) (f : FeedFault) → IsFaultOf StopTimes f
         → IfSome o (λ m. f ≢ NoMemory → stop_times_from (load_in m folder limits (unread_of f) StopTimes) l.trips.ids l.stops.ids l.stops.places.items ≡ Err f)
         → IfSome o (λ m. f ≢ NoMemory → AreLists (load_in m folder limits None) l → tables_in m folder limits (unread_of f) ≡ Err f)
     unfolding tables_in
@@ -278,7 +278,7 @@ module _ (folder : List ℕ) (limits : Limits) where
         l.stops.ids l.routes.ids l.trips.ids services l.stops.places.items l.routes.types.items l.trips.of_trips.types.items l.trips.of_trips.routes.items
         a.stops a.routes a.trips f (h free)
 
-    pub fault_at_repeats : (visits : List (List StopRow)) (o : Option Folder) (f : FeedFault) → IsFaultOf Frequencies f
+    pub fault_at_repeats : (visits : List (List StopRow)) (o : Option FileMap) (f : FeedFault) → IsFaultOf Frequencies f
         → IfSome o (λ m. AreVisits l.trips.ids l.stops.ids l.stops.places.items
         (stop_times_from (load_in m folder limits None StopTimes) l.trips.ids l.stops.ids l.stops.places.items) visits)
         → IfSome o (λ m. f ≢ NoMemory → frequencies_from (load_in m folder limits (unread_of f) Frequencies) l.trips.ids ≡ Err f)
@@ -296,13 +296,13 @@ module _ (folder : List ℕ) (limits : Limits) where
         f (h free)
 
     module _ (t : TripTimes) where
-      pub times_of : (o : Option Folder)
+      pub times_of : (o : Option FileMap)
           → IfSome o (λ m. HasVisits (stop_times_from (load_in m folder limits None StopTimes) l.trips.ids l.stops.ids l.stops.places.items) l t)
           → IfSome o (λ m. HasRepeats (frequencies_from (load_in m folder limits None Frequencies) l.trips.ids) l t) → IfSome o (λ m. AreTimes (load_in m folder limits None) l t)
       times_of None v u = tt
       times_of (Some m) v u = record { visits = v; repeats = u }
 
-      pub feed_of_tables : (o : Option Folder) → IfSome o (λ m. AreLists (load_in m folder limits None) l) → IfSome o (λ m. AreTimes (load_in m folder limits None) l t)
+      pub feed_of_tables : (o : Option FileMap) → IfSome o (λ m. AreLists (load_in m folder limits None) l) → IfSome o (λ m. AreTimes (load_in m folder limits None) l t)
           → IfSome o (λ m. IsFeedOf (tables_in m folder limits None) (parts_by l t))
       unfolding tables_in
       feed_of_tables None a v = tt

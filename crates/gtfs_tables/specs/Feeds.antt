@@ -1,7 +1,7 @@
 -- The feed of a folder, or the first of its faults: the tables come in their order, and each is whole before the next is looked at.
 use Rattle.std.specs.Prelude.{◌≡◌, ℕ, ◌<◌, List, [], length, slice_index_or, Option, None, Result, Ok, Err, IfSome}
 use Rattle.plan_model.specs.Results.{and_then}
-use Rattle.file_ports.specs.Ports.{Folder}
+use Rattle.file_ports.specs.Ports.{FileMap}
 use Rattle.csv_rows.specs.declared.columns.Column.TheVariants.{StopId, RouteId}
 use Rattle.csv_rows.specs.declared.feed_tables.Table.{Table}
 use Rattle.csv_rows.specs.declared.feed_tables.Table.TheVariants.{Stops, Routes, Trips, StopTimes, Frequencies, Calendar, CalendarDates, Transfers}
@@ -48,7 +48,7 @@ tables_from load =
     tables_by (stops_from (load Stops)) (routes_from (load Routes)) (trips_from (load Trips)) (stop_times_from (load StopTimes)) (frequencies_from (load Frequencies))
 
 -- the tables of the folder, or the first of all faults
-unfoldable pub tables_in : Folder → List ℕ → Limits → Option Table → Result Tables FeedFault
+unfoldable pub tables_in : FileMap → List ℕ → Limits → Option Table → Result Tables FeedFault
 tables_in files folder limits unread = tables_from (load_in files folder limits unread)
 
 -- a feed: the ids and places of its stops, the ids of its routes, the ids, services and route types of its trips and the number of

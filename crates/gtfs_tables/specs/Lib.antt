@@ -1,5 +1,5 @@
 pub mod Repeats
 pub mod Feeds
-pub mod Parts
+pub mod NetworkModel
 pub mod FeedInside
 pub mod Timed

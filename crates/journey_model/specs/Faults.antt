@@ -4,7 +4,8 @@ use Rattle.csv_rows.specs.FeedTables.{file_name, rank_of}
 use Rattle.journey_model.specs.declared.faults.Input.{Input}
 use Rattle.journey_model.specs.declared.faults.Input.TheVariants as input
 use Rattle.journey_model.specs.declared.faults.Fault.{Fault}
-use Rattle.journey_model.specs.declared.faults.Fault.TheVariants.{Words, Feed, Cut, Missing, Delays, UnknownStop, Limit, Read, NoSafe, GraphFile, Replay, ProofFile, ProofFails, Unsafe, Write, NoMemory}
+use Rattle.journey_model.specs.declared.faults.Fault.TheVariants.{Words, Feed, Cut, Missing, Delays, UnknownStop, Limit, Read, NoSafe, GraphFile, Replay, ProofFile, ProofFails, Unsafe, Write}
+use Rattle.journey_model.specs.declared.faults.Fault.TheVariants.{NoMemory}
 
 -- where this file is missing
 abbrev pub missing_status : Input → ℕ

@@ -4,7 +4,7 @@ use Rattle.clock_text.specs.Civil.{moment_text}
 pub use Rattle.clock_text.specs.Civil.{last_printable}
 use Rattle.plan_model.specs.declared.model.Moment.{Moment}
 use Rattle.plan_model.specs.declared.model.PlaceId.{PlaceId}
-use Rattle.plan_model.specs.Parts.{Parts}
+use Rattle.plan_model.specs.NetworkModel.{NetworkModel}
 use Rattle.plan_model.specs.NameLists.{NameLists}
 use Rattle.plan_model.specs.Network.{count, run_of, step_of}
 use Rattle.printed_rows.specs.Writers.{place_name, run_name}
@@ -13,11 +13,12 @@ use Rattle.trip_replay.specs.declared.ReplayFault.TheVariants as replay
 use Rattle.journey_model.specs.declared.faults.Site.{Site}
 use Rattle.journey_model.specs.declared.faults.Site.TheVariants.{Arrival, Connection}
 use Rattle.journey_model.specs.declared.faults.Fault.{Fault}
-use Rattle.journey_model.specs.declared.faults.Fault.TheVariants.{Words, Feed, Cut, Missing, Delays, UnknownStop, Limit, Read, NoSafe, GraphFile, Replay, ProofFile, ProofFails, Unsafe, Write, NoMemory}
+use Rattle.journey_model.specs.declared.faults.Fault.TheVariants.{Words, Feed, Cut, Missing, Delays, UnknownStop, Limit, Read, NoSafe, GraphFile, Replay, ProofFile, ProofFails, Unsafe, Write}
+use Rattle.journey_model.specs.declared.faults.Fault.TheVariants.{NoMemory}
 
 -- a timetable with its names, by which a line tells where a fault is
 pub record NamedParts : Type 0 where
-  pub network : Parts
+  pub network : NetworkModel
   pub names : NameLists
 
 -- where a trip is stuck

@@ -2,7 +2,7 @@
 use Rattle.std.proofs.Common.{◌≡◌, ℕ, List, Option, Some, None, Result, Ok, Err, sym, ap, subst, ◌∙◌}
 use Rattle.std.specs.Prelude.{◌≢◌, IfOk, IfErr, OnOk, IfSome}
 use Rattle.std.specs.Option.{option_or}
-use Rattle.file_ports.specs.Ports.{Folder, file_at}
+use Rattle.file_ports.specs.Ports.{FileMap, file_at}
 use Rattle.csv_rows.specs.declared.limits.Limits.{Limits}
 use Rattle.cut_file.specs.CutNetwork.{IsCutNetwork}
 use Rattle.cut_file.specs.Read.{Cut as CutParts, IsRead}
@@ -10,7 +10,7 @@ use Rattle.delay_table.specs.DelayLists.{DelayLists}
 use Rattle.delay_table.specs.Slots.{AreDelays}
 use Rattle.plan_model.specs.NameLists.{NameLists}
 use Rattle.plan_model.specs.Network.{IsValid}
-use Rattle.plan_model.specs.Parts.{Parts}
+use Rattle.plan_model.specs.NetworkModel.{NetworkModel}
 use Rattle.command_line.specs.Jobs.{WantedJourney}
 use Rattle.journey_model.specs.declared.faults.Input.{Input}
 use Rattle.journey_model.specs.declared.faults.Input.TheVariants as input
@@ -23,9 +23,9 @@ use Rattle.input_files.specs.Tables.{HasCut, cut_fault, cut_records, delay_fault
 use Rattle.journey_problem.specs.CutProblems.{places_in, stop_fault, cut_problem_fault, IsNamed, IsCutProblem, HasCutTimetable}
 
 -- what holds of a network and its names, holds of the problem of them
-pub of_parts : (P : Parts → NameLists → Type 0) (n : Parts) (names : NameLists) (r : Result Problem Fault)
+pub of_parts : (P : NetworkModel → NameLists → Type 0) (n : NetworkModel) (names : NameLists) (r : Result Problem Fault)
     → IfOk r (λ p. p.network ≡ n) → IfOk r (λ p. p.names ≡ names) → P n names → IfOk r (λ p. P p.network p.names)
-of_parts P n names (Ok p) e f h = subst (λ (m : Parts). P m p.names) (sym e) (subst (P n) (sym f) h)
+of_parts P n names (Ok p) e f h = subst (λ (m : NetworkModel). P m p.names) (sym e) (subst (P n) (sym f) h)
 of_parts P n names (Err fault) e f h = tt
 
 -- the network of a table that was read
@@ -42,7 +42,7 @@ module _ (j : WantedJourney) (cut : CutParts) (lists : DelayLists) where
       (table, lists, is, are, record { is_network = network table read; valid = valid; source = source; target = target })
   cut_timetable (Err fault) some are network valid source target = tt
 
-  module _ (limits : Limits) (files : Folder) where
+  module _ (limits : Limits) (files : FileMap) where
     faults_by : (path : List ℕ) (o : Option Fault) → HasCut limits (file_at files path) cut → delay_fault limits (file_at files j.delays) None ≡ None
         → stop_fault cut.places j.from j.to ≡ o → cut_problem_fault limits files path j None ≡ o
     faults_by path o (none, (table, is, read)) delays stops =
@@ -85,7 +85,7 @@ no_fault_beside limits file None own none = none
 no_fault_beside limits file (Some other) own none = subst (λ (i : Input). cut_fault limits file (Some i) ≡ None) (sym own) none
 
 -- the fault of the delay file after a cut file with none
-pub delay_first : (limits : Limits) (files : Folder) (path : List ℕ) (j : WantedJourney) (cut : CutParts) (fault : Fault) → HasCut limits (file_at files path) cut
+pub delay_first : (limits : Limits) (files : FileMap) (path : List ℕ) (j : WantedJourney) (cut : CutParts) (fault : Fault) → HasCut limits (file_at files path) cut
     → MayBeUnread input.Delays fault → IsFirst (delay_fault limits (file_at files j.delays)) fault → IsFirst (cut_problem_fault limits files path j) fault
 delay_first limits files path j cut fault has own first = λ free.
     let u = unread_of fault in

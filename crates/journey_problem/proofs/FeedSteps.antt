@@ -1,7 +1,7 @@
 -- The steps of reading a feed, put together.
 use Rattle.std.proofs.Common.{◌≡◌, ℕ, List, Option, Some, None, Result, Ok, Err, inr, sym, subst}
 use Rattle.std.specs.Prelude.{◌≢◌, IfOk, IfErr, OnOk, IfSome}
-use Rattle.file_ports.specs.Ports.{Folder, file_at}
+use Rattle.file_ports.specs.Ports.{FileMap, file_at}
 use Rattle.csv_rows.specs.declared.limits.Limits.{Limits}
 use Rattle.change_times.specs.Transfers.{place_of_stop}
 use Rattle.connections.specs.Cut.{IsNetworkFrom}
@@ -33,7 +33,7 @@ pub feed_timetable : (horizon : ℕ) (j : WantedJourney) (h : FolderParts) (list
 feed_timetable horizon j h lists (Ok p) sound are network source target = (h, lists, sound, are, record { is_network = network; source = source; target = target })
 feed_timetable horizon j h lists (Err fault) sound are network source target = tt
 
-module _ (limits : Limits) (files : Folder) (horizon : ℕ) (j : WantedJourney) (h : FolderParts) (lists : DelayLists)
+module _ (limits : Limits) (files : FileMap) (horizon : ℕ) (j : WantedJourney) (h : FolderParts) (lists : DelayLists)
     (sound : delay_fault limits (file_at files j.delays) None ≡ None) (are : AreDelaysOf limits (file_at files j.delays) lists) where
   pub window_fault : (r : Result Problem Fault) → IfErr r (λ fault. fault ≢ NoMemory → IsWindowFault limits horizon j h fault)
       → IfErr r (λ fault. fault ≢ NoMemory → IsFaultAfterFolder limits files horizon j h fault)

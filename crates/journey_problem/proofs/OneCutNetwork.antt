@@ -3,7 +3,7 @@ use Rattle.std.proofs.Common.{◌≡◌, ℕ, ◌<◌, ◌⊎◌, inl, inr, sym,
 use Rattle.std.proofs.lemmas.List.{ext_get_or}
 use Rattle.std.proofs.lemmas.Option.{slice_get-get_or}
 use Rattle.plan_model.specs.NameLists.{NameLists, AreDistinct}
-use Rattle.plan_model.specs.Parts.{Parts}
+use Rattle.plan_model.specs.NetworkModel.{NetworkModel}
 use Rattle.plan_model.proofs.SameParts.{same_parts}
 use Rattle.plan_model.specs.Network.{change_of, connection, count, no_connection, IsValid}
 use Rattle.plan_model.specs.declared.model.Connection.{Connection}
@@ -50,7 +50,7 @@ module _ (t : List (List (List ℕ))) (delays : DelayLists) (names : NameLists) 
   IsOfRow c = (k : ℕ) × (k < row_count t) × IsRide names delays (row t k) c
 
   module _ (runs : AreDistinct names.runs) (places : AreDistinct names.places) where
-    enumerates : (n : Parts) → IsCutNetwork t delays n names → IsValid n → Enumerates (IsOfRow) Precedes (λ i. connection n i) (count n)
+    enumerates : (n : NetworkModel) → IsCutNetwork t delays n names → IsValid n → Enumerates (IsOfRow) Precedes (λ i. connection n i) (count n)
     enumerates n is valid = record {
       inside = λ i h. is.rides i h;
       rising = λ i j less h. valid.rising i j less h;
@@ -58,7 +58,7 @@ module _ (t : List (List (List ℕ))) (delays : DelayLists) (names : NameLists) 
           (w.0, w.1, same_ride names delays runs places (row t h.0) (connection n w.0) c w.2 h.2);
     }
 
-    same_connections : (n m : Parts) → IsCutNetwork t delays n names → IsCutNetwork t delays m names → IsValid n → IsValid m → n.connections ≡ m.connections
+    same_connections : (n m : NetworkModel) → IsCutNetwork t delays n names → IsCutNetwork t delays m names → IsValid n → IsValid m → n.connections ≡ m.connections
     unfolding connection
     same_connections n m a b valid other =
         let f : ℕ → Connection = λ i. connection n i in
@@ -69,7 +69,7 @@ module _ (t : List (List (List ℕ))) (delays : DelayLists) (names : NameLists) 
         (same_size (IsOfRow) Precedes never_both f g (count n) (count m) one two)
         (λ k h. (agree (IsOfRow) Precedes never_both f g (count n) (count m) one two k h).1)
 
-  same_changes : (n m : Parts) → IsCutNetwork t delays n names → IsCutNetwork t delays m names → n.change ≡ m.change
+  same_changes : (n m : NetworkModel) → IsCutNetwork t delays n names → IsCutNetwork t delays m names → n.change ≡ m.change
   unfolding change_of
   same_changes n m a b = ext_get_or 0 n.change m.change (a.changes ∙ sym b.changes) (λ p h.
       let inside : p < length names.places = omega (arith, h, a.changes) in
@@ -77,7 +77,7 @@ module _ (t : List (List (List ℕ))) (delays : DelayLists) (names : NameLists) 
       a.change p (get_or names.places p []) name ∙ sym (b.change p (get_or names.places p []) name))
 
   -- a cut file makes one network with its delays
-  pub one_network : AreDistinct names.runs → AreDistinct names.places → (n m : Parts)
+  pub one_network : AreDistinct names.runs → AreDistinct names.places → (n m : NetworkModel)
       → IsCutNetwork t delays n names → IsCutNetwork t delays m names → IsValid n → IsValid m → n ≡ m
   one_network runs places n m a b valid other =
       let connections = same_connections runs places n m a b valid other in
@@ -85,11 +85,11 @@ module _ (t : List (List (List ℕ))) (delays : DelayLists) (names : NameLists) 
       same_parts n m connections change (a.classes ∙ sym b.classes) (a.links ∙ sym b.links)
 
 -- the names of a cut file are one list each, of distinct names
-pub same_names : (t : List (List (List ℕ))) (delays other : DelayLists) (n m : Parts) (names more : NameLists) → IsCutNetwork t delays n names → IsCutNetwork t other m more → names ≡ more
+pub same_names : (t : List (List (List ℕ))) (delays other : DelayLists) (n m : NetworkModel) (names more : NameLists) → IsCutNetwork t delays n names → IsCutNetwork t other m more → names ≡ more
 same_names t delays other n m names more a b = λ i. record { places = (a.places ∙ sym b.places) i; runs = (a.runs ∙ sym b.runs) i }
 
-pub runs_apart : (t : List (List (List ℕ))) (delays : DelayLists) (n : Parts) (names : NameLists) → IsCutNetwork t delays n names → AreDistinct names.runs
+pub runs_apart : (t : List (List (List ℕ))) (delays : DelayLists) (n : NetworkModel) (names : NameLists) → IsCutNetwork t delays n names → AreDistinct names.runs
 runs_apart t delays n names a = subst AreDistinct (sym a.runs) (runs_distinct t (row_count t))
 
-pub places_apart : (t : List (List (List ℕ))) (delays : DelayLists) (n : Parts) (names : NameLists) → IsCutNetwork t delays n names → AreDistinct names.places
+pub places_apart : (t : List (List (List ℕ))) (delays : DelayLists) (n : NetworkModel) (names : NameLists) → IsCutNetwork t delays n names → AreDistinct names.places
 places_apart t delays n names a = subst AreDistinct (sym a.places) (places_distinct t (row_count t))

@@ -1,7 +1,7 @@
 -- A cut file with a delay file has one problem.
 use Rattle.std.proofs.Common.{◌≡◌, ℕ, sym, ap, ◌∙◌, subst, List, Option, Some, Result, Ok}
 use Rattle.std.specs.Prelude.{slice_get}
-use Rattle.file_ports.specs.Ports.{Folder, file_at}
+use Rattle.file_ports.specs.Ports.{FileMap, file_at}
 use Rattle.csv_rows.specs.declared.limits.Limits.{Limits}
 use Rattle.plan_model.specs.NameLists.{NameLists, AreDistinct}
 use Rattle.delay_table.specs.DelayLists.{DelayLists}
@@ -25,7 +25,7 @@ one_end : (names : List (List ℕ)) → AreDistinct names → (a b : ℕ) (x : L
 one_end names apart a b x h k = one_number names apart a b x h k
 
 -- a cut file and a delay file have one problem of a journey
-pub one_cut_problem : (limits : Limits) (files : Folder) (path : List ℕ) (j : WantedJourney) (p q : Problem)
+pub one_cut_problem : (limits : Limits) (files : FileMap) (path : List ℕ) (j : WantedJourney) (p q : Problem)
     → IsCutProblem limits files path j p → IsCutProblem limits files path j q → p ≡ q
 one_cut_problem limits files path j p q a b =
     let table : b.table ≡ a.table = same_ok _ b.table a.table b.is_table a.is_table in

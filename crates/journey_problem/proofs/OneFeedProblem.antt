@@ -3,7 +3,7 @@ use Rattle.std.proofs.Common.{◌≡◌, ℕ, ◌<◌, ◌≤◌, sym, ap, ◌�
 use Rattle.std.specs.Prelude.{IsOkAnd, option_map}
 use Rattle.std.proofs.lemmas.Bool.{cases_lt}
 use Rattle.std.proofs.lemmas.List.{get_or_past}
-use Rattle.file_ports.specs.Ports.{Folder, file_at}
+use Rattle.file_ports.specs.Ports.{FileMap, file_at}
 use Rattle.csv_rows.specs.declared.limits.Limits.{Limits}
 use Rattle.csv_rows.specs.declared.feed_tables.FeedFault.{FeedFault}
 use Rattle.delay_table.specs.DelayLists.{DelayLists}
@@ -43,7 +43,7 @@ same_links (Ok t) f c d a b = λ place.
     (cases_lt place (length f.stop_ids))
 same_links (Err fault) f c d a b = absurd a
 
-module _ (limits : Limits) (files : Folder) (folder : List ℕ) where
+module _ (limits : Limits) (files : FileMap) (folder : List ℕ) where
   -- a folder is read in one way
   pub one_folder : (g h : FolderParts) → IsFolder limits files folder g → IsFolder limits files folder h → SameFolderParts g h
   one_folder g h a b =

@@ -6,7 +6,7 @@ use Rattle.std.proofs.lemmas.List.{ext_get_or}
 use Rattle.plan_model.specs.declared.model.PlaceId.{PlaceId}
 use Rattle.plan_model.specs.declared.model.Way.{Way}
 use Rattle.plan_model.specs.NameLists.{NameLists}
-use Rattle.plan_model.specs.Parts.{Parts}
+use Rattle.plan_model.specs.NetworkModel.{NetworkModel}
 use Rattle.plan_model.proofs.SameParts.{same_parts}
 use Rattle.csv_rows.specs.Lists.{list_below}
 use Rattle.change_times.specs.Changes.{ChangeParts, seconds_of, links_of}
@@ -66,7 +66,7 @@ same_entries f s t c d start horizon e links =
 
 module _ (f : FeedParts) (s t : ServiceParts) (c d : ChangeParts) (lists : DelayLists) (start horizon : ℕ) (days : SameDays s t)
     (changes : (place : ℕ) → seconds_of c place ≡ seconds_of d place) (links : (place : ℕ) → links_of c place ≡ links_of d place) where
-  pub one_window : (n m : Parts) (names more : NameLists) → IsNetworkFrom f s c lists start horizon n names → IsNetworkFrom f t d lists start horizon m more → (n ≡ m) × (names ≡ more)
+  pub one_window : (n m : NetworkModel) (names more : NameLists) → IsNetworkFrom f s c lists start horizon n names → IsNetworkFrom f t d lists start horizon m more → (n ≡ m) × (names ≡ more)
   one_window n m names more a b =
       let w = window_of start horizon in
       let rs : runs_in f s w ≡ runs_in f t w = same_runs f s t w days in

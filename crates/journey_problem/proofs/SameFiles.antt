@@ -2,7 +2,7 @@
 use Rattle.std.proofs.Common.{◌≡◌, ℕ, ap, subst, List, Option, None}
 use Rattle.std.specs.Prelude.{IsOkAnd}
 use mathlib.Core.Path.{fun_ext}
-use Rattle.file_ports.specs.Ports.{Folder, file_at}
+use Rattle.file_ports.specs.Ports.{FileMap, file_at}
 use Rattle.csv_rows.specs.declared.limits.Limits.{Limits}
 use Rattle.csv_rows.specs.FeedTables.{path_of}
 use Rattle.table_files.specs.Loading.{load_of}
@@ -16,7 +16,7 @@ use Rattle.journey_model.specs.declared.problem.Problem.{Problem}
 use Rattle.input_files.specs.Tables.{AreDelaysOf, delay_fault}
 use Rattle.journey_problem.specs.FeedProblems.{FolderParts, IsFolder, IsFeedProblem}
 
-module _ (limits : Limits) (files other : Folder) (same : (path : List ℕ) → file_at files path ≡ file_at other path) where
+module _ (limits : Limits) (files other : FileMap) (same : (path : List ℕ) → file_at files path ≡ file_at other path) where
   same_tables : (folder : List ℕ) → tables_in files folder limits None ≡ tables_in other folder limits None
   unfolding tables_in
   same_tables folder = ap (λ (f : List ℕ → Option (List ℕ)). tables_from (λ table. load_of None limits table (f (path_of folder table)))) (fun_ext same)

@@ -3,7 +3,7 @@ use Rattle.std.specs.Prelude.{◌≡◌, ℕ, Bool, List, [], Option, None, Some
 use Rattle.std.specs.List.{list_any}
 use Rattle.std.specs.Str.{bytes_eq}
 use Rattle.std.specs.Option.{option_or}
-use Rattle.file_ports.specs.Ports.{Folder, file_at}
+use Rattle.file_ports.specs.Ports.{FileMap, file_at}
 use Rattle.csv_rows.specs.declared.limits.Limits.{Limits}
 use Rattle.csv_rows.specs.Tables.{row_count}
 use Rattle.cut_file.specs.Cut.{place_names}
@@ -38,7 +38,7 @@ stop_fault names from to =
     else Some (UnknownStop which.From)
 
 -- the first fault: of the cut file, of the delay file, of the stops
-abbrev pub cut_problem_fault : Limits → Folder → List ℕ → WantedJourney → Option Input → Option Fault
+abbrev pub cut_problem_fault : Limits → FileMap → List ℕ → WantedJourney → Option Input → Option Fault
 cut_problem_fault limits files path j unread =
     option_or (cut_fault limits (file_at files path) unread)
     (option_or (delay_fault limits (file_at files j.delays) unread)
@@ -61,7 +61,7 @@ abbrev pub HasCutTimetable : WantedJourney → Problem → Type 0
 HasCutTimetable j p = (table : Records) × (lists : DelayLists) × IsCutTable table × AreDelays lists × IsCutTimetable table lists j p
 
 -- no file has a fault, and the timetable is that of the cut file with the delays of the delay file
-pub record IsCutProblem (limits : Limits) (files : Folder) (path : List ℕ) (j : WantedJourney) (p : Problem) : Type 0 where
+pub record IsCutProblem (limits : Limits) (files : FileMap) (path : List ℕ) (j : WantedJourney) (p : Problem) : Type 0 where
   pub table : Records
   pub lists : DelayLists
   pub no_fault : cut_problem_fault limits files path j None ≡ None

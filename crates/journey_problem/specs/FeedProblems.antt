@@ -1,6 +1,6 @@
 -- The timetable of a feed's folder, and the first fault of a journey over it.
 use Rattle.std.specs.Prelude.{◌≡◌, ℕ, ◌+◌, ◌⊎◌, List, Option, None, Some, Err, IsOk, IsOkAnd, is_none, option_map, if◌then◌else◌}
-use Rattle.file_ports.specs.Ports.{Folder, file_at}
+use Rattle.file_ports.specs.Ports.{FileMap, file_at}
 use Rattle.csv_rows.specs.declared.feed_tables.FeedFault.{FeedFault}
 use Rattle.csv_rows.specs.declared.feed_tables.FeedFault.TheVariants as feed
 use Rattle.csv_rows.specs.declared.limits.Limits.{Limits}
@@ -45,25 +45,25 @@ pub record FolderParts : Type 0 where
   pub changes : ChangeParts
 
 -- none of its tables has a fault, and these are its feed, its services and its change times
-pub record IsFolder (limits : Limits) (files : Folder) (folder : List ℕ) (h : FolderParts) : Type 0 where
+pub record IsFolder (limits : Limits) (files : FileMap) (folder : List ℕ) (h : FolderParts) : Type 0 where
   pub feed : IsFeedOf (tables_in files folder limits None) h.feed
   pub services : IsOkAnd (calendars_in files folder limits None) (RunsBy (runs h.services))
   pub changes : IsOkAnd (transfers_in files folder limits None h.feed) (AreChanges h.feed h.changes)
 
 -- the later tables have no fault, and these are the services and the change times
-abbrev pub AreRules : Limits → Folder → List ℕ → FeedParts → ServiceParts → ChangeParts → Type 0
+abbrev pub AreRules : Limits → FileMap → List ℕ → FeedParts → ServiceParts → ChangeParts → Type 0
 AreRules limits files folder f s c =
     IsOkAnd (calendars_in files folder limits None) (RunsBy (runs s)) × IsOkAnd (transfers_in files folder limits None f) (AreChanges f c)
 
 -- after tables with no fault the first fault is this one, of the calendars or else of the transfers
-abbrev pub IsLaterTableFault : Limits → Folder → List ℕ → FeedParts → FeedFault → Type 0
+abbrev pub IsLaterTableFault : Limits → FileMap → List ℕ → FeedParts → FeedFault → Type 0
 IsLaterTableFault limits files folder f fault =
     (calendars_in files folder limits (unread_table_of fault) ≡ Err fault)
     ⊎ (IsOk (calendars_in files folder limits None) × (transfers_in files folder limits (unread_table_of fault) f ≡ Err fault))
 
 -- the first fault of a folder is this one, where no table but that of the fault is unread: of the tables of the feed, or
 -- else of the later ones
-abbrev pub IsFolderFault : Limits → Folder → List ℕ → FeedFault → Type 0
+abbrev pub IsFolderFault : Limits → FileMap → List ℕ → FeedFault → Type 0
 IsFolderFault limits files folder fault =
     (tables_in files folder limits (unread_table_of fault) ≡ Err fault)
     ⊎ ((f : FeedParts) × IsFeedOf (tables_in files folder limits None) f × IsLaterTableFault limits files folder f fault)
@@ -92,13 +92,13 @@ IsWindowFault limits horizon j h fault =
     ⊎ ((feed_stop_fault h.feed j.from j.to ≡ None) × (window_fault_of limits horizon j h ≡ Some fault))
 
 -- after a folder with no fault the first fault is this one: of the delay file, or else of the window
-abbrev pub IsFaultAfterFolder : Limits → Folder → ℕ → WantedJourney → FolderParts → Fault → Type 0
+abbrev pub IsFaultAfterFolder : Limits → FileMap → ℕ → WantedJourney → FolderParts → Fault → Type 0
 IsFaultAfterFolder limits files horizon j h fault =
     (delay_fault limits (file_at files j.delays) (unread_of fault) ≡ Some fault)
     ⊎ ((delay_fault limits (file_at files j.delays) None ≡ None) × IsWindowFault limits horizon j h fault)
 
 -- the first fault is this one: of the folder, or else of what comes after it
-abbrev pub IsFeedProblemFault : Limits → Folder → List ℕ → ℕ → WantedJourney → Fault → Type 0
+abbrev pub IsFeedProblemFault : Limits → FileMap → List ℕ → ℕ → WantedJourney → Fault → Type 0
 IsFeedProblemFault limits files folder horizon j fault =
     ((g : FeedFault) × (fault ≡ feed_as limits g) × IsFolderFault limits files folder g)
     ⊎ ((h : FolderParts) × IsFolder limits files folder h × IsFaultAfterFolder limits files horizon j h fault)
@@ -116,7 +116,7 @@ HasFeedTimetable horizon j p =
     (parts : FolderParts) × (lists : DelayLists) × IsSoundFeed parts.feed × AreDelays lists × IsFeedTimetable parts lists horizon j p
 
 -- no file has a fault, the timetable is that of the feed with the delays of the delay file, and its window has no fault
-pub record IsFeedProblem (limits : Limits) (files : Folder) (folder : List ℕ) (horizon : ℕ) (j : WantedJourney) (p : Problem) : Type 0 where
+pub record IsFeedProblem (limits : Limits) (files : FileMap) (folder : List ℕ) (horizon : ℕ) (j : WantedJourney) (p : Problem) : Type 0 where
   pub parts : FolderParts
   pub lists : DelayLists
   pub is_folder : IsFolder limits files folder parts

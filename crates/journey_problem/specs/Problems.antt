@@ -1,6 +1,6 @@
 -- The problem that a journey asks about, or its first fault.
 use Rattle.std.specs.Prelude.{◌≡◌, ◌≢◌, Option, Some, IfSome}
-use Rattle.file_ports.specs.Ports.{Folder}
+use Rattle.file_ports.specs.Ports.{FileMap}
 use Rattle.csv_rows.specs.declared.limits.Limits.{Limits}
 use Rattle.plan_model.specs.Network.{IsValid}
 use Rattle.plan_model.specs.NameLists.{NamesFit}
@@ -14,29 +14,29 @@ use Rattle.journey_problem.specs.CutProblems.{cut_problem_fault, IsCutProblem, H
 use Rattle.journey_problem.specs.FeedProblems.{IsFeedProblem, IsFeedProblemFault, HasFeedTimetable}
 
 -- this is the problem of the journey, and its files have no fault
-abbrev pub IsProblemOver : Limits → Folder → WantedTimetable → WantedJourney → Problem → Type 0
+abbrev pub IsProblemOver : Limits → FileMap → WantedTimetable → WantedJourney → Problem → Type 0
 IsProblemOver limits files (CutFile path) j p = IsCutProblem limits files path j p
 IsProblemOver limits files (FeedFolder folder horizon) j p = IsFeedProblem limits files folder horizon j p
 
-abbrev pub IsProblem : Limits → Folder → WantedJourney → Problem → Type 0
+abbrev pub IsProblem : Limits → FileMap → WantedJourney → Problem → Type 0
 IsProblem limits files j p = IsProblemOver limits files j.timetable j p
 
 -- this is the first fault of the journey's files, where no file but that of the fault is unread
-abbrev pub IsProblemFaultOver : Limits → Folder → WantedTimetable → WantedJourney → Fault → Type 0
+abbrev pub IsProblemFaultOver : Limits → FileMap → WantedTimetable → WantedJourney → Fault → Type 0
 IsProblemFaultOver limits files (CutFile path) j fault = cut_problem_fault limits files path j (unread_of fault) ≡ Some fault
 IsProblemFaultOver limits files (FeedFolder folder horizon) j fault = IsFeedProblemFault limits files folder horizon j fault
 
-abbrev pub IsProblemFault : Limits → Folder → WantedJourney → Fault → Type 0
+abbrev pub IsProblemFault : Limits → FileMap → WantedJourney → Fault → Type 0
 IsProblemFault limits files j fault = fault ≢ NoMemory → IsProblemFaultOver limits files j.timetable j fault
 
 -- the files of a journey have no fault, but where one fails to be read or there is no memory
-abbrev pub IsFaultless : Limits → Folder → WantedJourney → Type 0
+abbrev pub IsFaultless : Limits → FileMap → WantedJourney → Type 0
 IsFaultless limits files j =
     (fault : Fault) → IsUndisturbed (Some fault) → fault ≢ NoMemory → IsProblemFault limits files j fault → ⊥
 
 -- the journey's files or its stops have this fault; where the files are told, it is the first
-abbrev pub FailsEarly : Option Folder → Limits → WantedJourney → Fault → Type 0
-FailsEarly told limits j fault = IsEarly j.timetable fault × IfSome told (λ files. IsProblemFault limits files j fault)
+abbrev pub FailsEarly : Option FileMap → Limits → WantedJourney → Fault → Type 0
+FailsEarly contents limits j fault = IsEarly j.timetable fault × IfSome contents (λ files. IsProblemFault limits files j fault)
 
 -- the problem is that of the journey over some timetable with some delays
 abbrev pub HasTimetable : WantedTimetable → WantedJourney → Problem → Type 0
@@ -49,5 +49,5 @@ pub record IsSound (j : WantedJourney) (p : Problem) : Type 0 where
   pub timetable : HasTimetable j.timetable j p
 
 -- there is a problem of the journey, where the files are told theirs, of which this holds
-abbrev pub InProblem : Option Folder → Limits → WantedJourney → (Problem → Type 0) → Type 0
-InProblem told limits j P = (p : Problem) × IsSound j p × IfSome told (λ files. IsProblem limits files j p) × P p
+abbrev pub InProblem : Option FileMap → Limits → WantedJourney → (Problem → Type 0) → Type 0
+InProblem contents limits j P = (p : Problem) × IsSound j p × IfSome contents (λ files. IsProblem limits files j p) × P p

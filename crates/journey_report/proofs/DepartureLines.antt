@@ -1,13 +1,13 @@
 -- The rows of departures.
 use Rattle.std.proofs.Common.{◌≡◌, ℕ, ◌+◌, ◌<◌, ◌≤◌, List, ◌++◌, length, drop, sym, ap, ◌∙◌, slice_index_or}
 use Rattle.std.proofs.lemmas.List.{append-nil, at_drop_all}
-use Rattle.plan_model.specs.Parts.{Parts}
+use Rattle.plan_model.specs.NetworkModel.{NetworkModel}
 use Rattle.plan_model.specs.NameLists.{NameLists}
 use Rattle.departure_table.specs.declared.DepartureRow.{DepartureRow}
 use Rattle.printed_rows.proofs.Lines.{split_at, text_step}
 use Rattle.journey_report.specs.DepartureTexts.{departure_text, rows_text}
 
-module _ (n : Parts) (names : NameLists) (rows : List DepartureRow) where
+module _ (n : NetworkModel) (names : NameLists) (rows : List DepartureRow) where
   -- after one row more
   pub rows_step : (i : ℕ) (d : DepartureRow) (new old all : List ℕ) → i < length rows → new ≡ old ++ departure_text n names (slice_index_or rows i d)
       → old ++ rows_text n names (drop i rows) ≡ all → new ++ rows_text n names (drop (i + 1) rows) ≡ all

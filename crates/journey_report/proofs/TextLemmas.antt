@@ -8,7 +8,7 @@ use Rattle.std.proofs.lemmas.List.Elements.{All-head, All-tail}
 use Rattle.clock_text.specs.Civil.{moment_text}
 use Rattle.plan_model.specs.declared.model.Connection.{Connection}
 use Rattle.plan_model.specs.declared.model.Outcome.{Outcome}
-use Rattle.plan_model.specs.Parts.{Parts}
+use Rattle.plan_model.specs.NetworkModel.{NetworkModel}
 use Rattle.plan_model.specs.NameLists.{NameLists}
 use Rattle.plan_model.specs.Network.{connection, IsValid}
 use Rattle.plan_model.specs.Unfold.{outcomes_of}
@@ -32,7 +32,7 @@ delay_few [] d all any = absurd (cc)
 delay_few (o ∷ row) d all any =
     delay_at o row d (o.delay == d) refl (All-head (λ (x : Outcome). x.delay ≤ 86400) o row all) (delay_few row d (All-tail (λ (x : Outcome). x.delay ≤ 86400) o row all)) any
 
-module _ (n : Parts) (valid : IsValid n) where
+module _ (n : NetworkModel) (valid : IsValid n) where
   -- the arrival of a ride has a text
   pub ride_arrival : (r : Ridden) → IsRide n r → r.arrival.0 ≤ last_printable
   ride_arrival r is =
@@ -52,7 +52,7 @@ module _ (n : Parts) (valid : IsValid n) where
       places (connection n r.leg.exit.0).to.0 rides (valid.connections r.leg.exit.0 is.is_leg.exit).to_in (All-tail (IsRide n) r rides all)
 
 -- the fields of a ride, from its connections
-pub ride_fields : (n : Parts) (names : NameLists) (r : Ridden) (enter exit : Connection) (kind run from dep to arr delay arrival : List ℕ)
+pub ride_fields : (n : NetworkModel) (names : NameLists) (r : Ridden) (enter exit : Connection) (kind run from dep to arr delay arrival : List ℕ)
     → enter ≡ connection n r.leg.enter.0 → exit ≡ connection n r.leg.exit.0
     → kind ≡ codes "ride" → run ≡ run_name names enter.run.0 → from ≡ place_name names enter.from.0 → dep ≡ moment_text enter.dep.0
     → to ≡ place_name names exit.to.0 → arr ≡ moment_text exit.arr.0 → delay ≡ decimal r.delay → arrival ≡ moment_text r.arrival.0
@@ -72,14 +72,14 @@ pub six : (a b c d e f a' b' c' d' e' f' : List ℕ) → a ≡ a' → b ≡ b' �
 six a b c d e f a' b' c' d' e' f' = λ one two three four five last. cc
 
 -- after one ride more
-pub rides_step : (n : Parts) (names : NameLists) (rides : List Ridden) (i : ℕ) (d : Ridden) (new old all : List ℕ) → i < length rides
+pub rides_step : (n : NetworkModel) (names : NameLists) (rides : List Ridden) (i : ℕ) (d : Ridden) (new old all : List ℕ) → i < length rides
     → new ≡ old ++ ride_text n names (slice_index_or rides i d) → old ++ rides_text n names (drop i rides) ≡ all → new ++ rides_text n names (drop (i + 1) rides) ≡ all
 rides_step n names rides i d new old all within is before =
     text_step new old (ride_text n names (slice_index_or rides i d)) (rides_text n names (drop (i + 1) rides)) all is
     (sym (ap (λ (list : List Ridden). old ++ rides_text n names list) (split_at rides i d within)) ∙ before)
 
 -- the rides, and then the arrival
-pub trace_end : (n : Parts) (names : NameLists) (rides : List Ridden) (i : ℕ) (old row new target target' : List ℕ) (arrival : Moment) → length rides ≤ i
+pub trace_end : (n : NetworkModel) (names : NameLists) (rides : List Ridden) (i : ℕ) (old row new target target' : List ℕ) (arrival : Moment) → length rides ≤ i
     → old ++ rides_text n names (drop i rides) ≡ rides_text n names rides → new ≡ old ++ row → row ≡ arrived_text target arrival → target ≡ target'
     → new ≡ rides_text n names rides ++ arrived_text target' arrival
 trace_end n names rides i old row new target target' arrival all before is row_is same =

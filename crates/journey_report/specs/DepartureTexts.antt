@@ -4,7 +4,7 @@ use Rattle.csv.specs.Writing.{default_writer, row_text}
 use Rattle.clock_text.specs.Civil.{moment_text, nanos_text}
 use Rattle.plan_model.specs.declared.model.Moment.{Moment}
 use Rattle.plan_model.specs.declared.model.Query.{Query}
-use Rattle.plan_model.specs.Parts.{Parts}
+use Rattle.plan_model.specs.NetworkModel.{NetworkModel}
 use Rattle.plan_model.specs.NameLists.{NameLists}
 use Rattle.plan_model.specs.Network.{run_of, step_of}
 use Rattle.departure_table.specs.declared.DepartureRow.{DepartureRow}
@@ -12,32 +12,32 @@ use Rattle.printed_rows.specs.Writers.{place_name, run_name}
 
 -- the first row: the version of the text, the source, the target, the first moment and the last, the deadline, and how many rows follow
 unfoldable pub departures_head : List ℕ → List ℕ → Query → (last count : ℕ) → List ℕ
-departures_head source target q last count =
+departures_head source target query last count =
     row_text default_writer
-    (codes "departures" ∷ codes "1" ∷ source ∷ target ∷ moment_text q.start.0 ∷ moment_text last ∷ moment_text q.deadline.0 ∷ decimal count ∷ [])
+    (codes "departures" ∷ codes "1" ∷ source ∷ target ∷ moment_text query.start.0 ∷ moment_text last ∷ moment_text query.deadline.0 ∷ decimal count ∷ [])
 
 -- the row of a departure: its moment, the run and the entry step of its leg, and the two bounds
-unfoldable pub departure_text : Parts → NameLists → DepartureRow → List ℕ
-departure_text n names r =
+unfoldable pub departure_text : NetworkModel → NameLists → DepartureRow → List ℕ
+departure_text network names r =
     row_text default_writer
     (codes "row"
     ∷ moment_text r.by.0
-    ∷ run_name names (run_of n r.leg.enter.0)
-    ∷ decimal (step_of n r.leg.enter.0)
+    ∷ run_name names (run_of network r.leg.enter.0)
+    ∷ decimal (step_of network r.leg.enter.0)
     ∷ nanos_text r.bounds.lo
     ∷ nanos_text r.bounds.hi
     ∷ [])
 
-abbrev pub rows_text : Parts → NameLists → List DepartureRow → List ℕ
-rows_text n names [] = []
-rows_text n names (r ∷ rows) = departure_text n names r ++ rows_text n names rows
+abbrev pub rows_text : NetworkModel → NameLists → List DepartureRow → List ℕ
+rows_text network names [] = []
+rows_text network names (r ∷ rows) = departure_text network names r ++ rows_text network names rows
 
 -- the first row, and then a row for each departure
-abbrev pub departures_text : Parts → NameLists → Query → (last : ℕ) → List DepartureRow → List ℕ
-departures_text n names q last rows =
-    departures_head (place_name names q.source.0) (place_name names q.target.0) q last (length rows) ++ rows_text n names rows
+abbrev pub departures_text : NetworkModel → NameLists → Query → (last : ℕ) → List DepartureRow → List ℕ
+departures_text network names query last rows =
+    departures_head (place_name names query.source.0) (place_name names query.target.0) query last (length rows) ++ rows_text network names rows
 
 -- one row: the source, the target, the first moment, the deadline and the latest moment
 unfoldable pub latest_text : List ℕ → List ℕ → Query → Moment → List ℕ
-latest_text source target q moment =
-    row_text default_writer (codes "latest" ∷ source ∷ target ∷ moment_text q.start.0 ∷ moment_text q.deadline.0 ∷ moment_text moment.0 ∷ [])
+latest_text source target query moment =
+    row_text default_writer (codes "latest" ∷ source ∷ target ∷ moment_text query.start.0 ∷ moment_text query.deadline.0 ∷ moment_text moment.0 ∷ [])

@@ -70,7 +70,7 @@ plan_findings q worst graph bounds = record no_findings { query = Some q; worst 
 
 -- with how many connections there are
 abbrev pub sample_findings : Query → Moment → PlanGraph → Interval → ℕ → Findings
-sample_findings q worst graph bounds connections = record (plan_findings q worst graph bounds) { connections = Some connections }
+sample_findings query worst graph bounds connections = record (plan_findings query worst graph bounds) { connections = Some connections }
 
 -- the query of a graph, the graph, and the trip by it
 abbrev pub replay_findings : Query → PlanGraph → Trace → Findings
@@ -90,7 +90,7 @@ check_findings q proof least = record no_findings { query = Some q; proof = Some
 
 -- with a graph by place, its bounds, and its chance of an arrival after a promised moment
 abbrev pub punctual_findings : Query → Moment → PlanGraph → Interval → Interval → Findings
-punctual_findings q worst graph bounds chance = record (plan_findings q worst graph bounds) { chance = Some chance }
+punctual_findings query worst graph bounds chance = record (plan_findings query worst graph bounds) { chance = Some chance }
 
 -- the query with its deadline, and the departures
 abbrev pub departures_findings : Query → List DepartureRow → Findings

@@ -5,7 +5,7 @@ use Rattle.clock_text.specs.Civil.{moment_text, nanos_text}
 use Rattle.plan_model.specs.declared.model.Leg.{Leg}
 use Rattle.plan_model.specs.declared.model.Moment.{Moment}
 use Rattle.plan_model.specs.declared.model.Query.{Query}
-use Rattle.plan_model.specs.Parts.{Parts}
+use Rattle.plan_model.specs.NetworkModel.{NetworkModel}
 use Rattle.plan_model.specs.NameLists.{NameLists}
 use Rattle.plan_model.specs.Network.{run_of, from_of, to_of, dep_of, arr_of}
 use Rattle.interval_fixed.specs.Interval.{Interval}
@@ -21,30 +21,30 @@ safe_text source target query worst =
     row_text default_writer (codes "safe" ∷ source ∷ target ∷ moment_text query.start.0 ∷ moment_text worst.0 ∷ moment_text query.deadline.0 ∷ [])
 
 -- the row of a ride: its run, entry place, departure, exit place, scheduled arrival, delay in seconds and arrival
-unfoldable pub ride_text : Parts → NameLists → Ridden → List ℕ
-ride_text n names r =
+unfoldable pub ride_text : NetworkModel → NameLists → Ridden → List ℕ
+ride_text network names r =
     row_text default_writer
     (codes "ride"
-    ∷ run_name names (run_of n r.leg.enter.0)
-    ∷ place_name names (from_of n r.leg.enter.0)
-    ∷ moment_text (dep_of n r.leg.enter.0)
-    ∷ place_name names (to_of n r.leg.exit.0)
-    ∷ moment_text (arr_of n r.leg.exit.0)
+    ∷ run_name names (run_of network r.leg.enter.0)
+    ∷ place_name names (from_of network r.leg.enter.0)
+    ∷ moment_text (dep_of network r.leg.enter.0)
+    ∷ place_name names (to_of network r.leg.exit.0)
+    ∷ moment_text (arr_of network r.leg.exit.0)
     ∷ decimal r.delay
     ∷ moment_text r.arrival.0
     ∷ [])
 
-abbrev pub rides_text : Parts → NameLists → List Ridden → List ℕ
-rides_text n names [] = []
-rides_text n names (r ∷ rides) = ride_text n names r ++ rides_text n names rides
+abbrev pub rides_text : NetworkModel → NameLists → List Ridden → List ℕ
+rides_text network names [] = []
+rides_text network names (r ∷ rides) = ride_text network names r ++ rides_text network names rides
 
 -- the row of the arrival at the target
 unfoldable pub arrived_text : List ℕ → Moment → List ℕ
 arrived_text target arrival = row_text default_writer (codes "arrived" ∷ target ∷ moment_text arrival.0 ∷ [])
 
 -- a row for each ride, and then the arrival at the target
-abbrev pub trace_text : Parts → NameLists → ℕ → Trace → List ℕ
-trace_text n names target trace = rides_text n names trace.rides ++ arrived_text (place_name names target) trace.arrival
+abbrev pub trace_text : NetworkModel → NameLists → ℕ → Trace → List ℕ
+trace_text network names target trace = rides_text network names trace.rides ++ arrived_text (place_name names target) trace.arrival
 
 abbrev pub start_count : Option Leg → ℕ
 start_count None = 0

@@ -8,7 +8,7 @@ use Rattle.std.proofs.lemmas.Bool.Decides.{nat_tests}
 use Rattle.plan_model.specs.declared.model.Outcome.{Outcome}
 use Rattle.plan_model.specs.declared.model.Leg.{Leg}
 use Rattle.plan_model.specs.declared.model.Query.{Query}
-use Rattle.plan_model.specs.Parts.{Parts}
+use Rattle.plan_model.specs.NetworkModel.{NetworkModel}
 use Rattle.plan_model.specs.Network.{from_of, dep_of, outcomes}
 use Rattle.plan_model.specs.Ways.{limit_of}
 use Rattle.plan_model.specs.Tree.{Tree, Done, Ride, Stuck, Kids, Nil, Kid}
@@ -78,7 +78,7 @@ rows_of_all P (t ∷ tables) p all = either (t.place.0 == p) (rows_of_place tabl
     either false r a = a
 
 -- a leg that stands in a safe tree is one of the network
-module _ (n : Parts) (target : ℕ) (by : Option ℕ) (leg : Leg) where
+module _ (n : NetworkModel) (target : ℕ) (by : Option ℕ) (leg : Leg) where
   mutual
     stands : (tree : Tree) (p x : ℕ) → Safe n target by tree p x → Stands leg tree → IsLegOf n leg
     stands (Done a) p x h there = absurd there
@@ -115,7 +115,7 @@ is_first-later shift [] x row h = absurd h
 is_first-later shift (r ∷ rows) x row (inl h) = inl (let e = h.0 in omega arith, ap (later_row shift) h.1)
 is_first-later shift (r ∷ rows) x row (inr h) = inr (let e = h.0 in omega arith, is_first-later shift rows x row h.1)
 
-module _ (n m : Parts) (shift first : ℕ) (q : Query) (shown : IsShown n m shift first q) where
+module _ (n m : NetworkModel) (shift first : ℕ) (q : Query) (shown : IsShown n m shift first q) where
   abbrev there : (leg : Leg) → IsLegOf n leg → IsLegOf m leg × (first ≤ dep_of m leg.enter.0)
   there leg is = leg_there n m shift first shown.view shown.valid leg.enter.0 leg.exit.0 is
 

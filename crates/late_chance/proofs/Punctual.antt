@@ -2,7 +2,7 @@
 use Rattle.std.proofs.Common.{◌≡◌, ℕ, ◌+◌, arith, Some, sym, subst}
 use Rattle.interval_fixed.specs.Interval.{Interval}
 use Rattle.plan_model.specs.declared.model.Query.{Query}
-use Rattle.plan_model.specs.Parts.{Parts}
+use Rattle.plan_model.specs.NetworkModel.{NetworkModel}
 use Rattle.plan_model.specs.Bounds.{certainty}
 use Rattle.plan_model.specs.Tree.{Tree}
 use Rattle.plan_model.specs.Strategy.{IsSafeFor}
@@ -16,7 +16,7 @@ use Rattle.late_chance.specs.LaterGraphs.{later_graph, later_query, IsShown}
 use Rattle.late_chance.specs.Punctual.{IsPunctual, PunctualAlike}
 use Rattle.late_chance.proofs.LaterGraphs.{alike}
 
-module _ (n m : Parts) (shift first : ℕ) (q : Query) (shown : IsShown n m shift first q) where
+module _ (n m : NetworkModel) (shift first : ℕ) (q : Query) (shown : IsShown n m shift first q) where
   abbrev Sooner : Tree → Type 0
   Sooner u = (tree : Tree) × (later_by shift tree ≡ u) × IsSafeFor n q tree
 

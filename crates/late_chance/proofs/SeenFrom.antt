@@ -5,7 +5,7 @@ use Rattle.std.proofs.lemmas.Bool.{cases_lt, false≢true}
 use Rattle.std.proofs.lemmas.Bool.Decides.{nat_tests}
 use Rattle.std.proofs.lemmas.List.{length-map, get_or-map}
 use Rattle.plan_model.specs.declared.model.Connection.{Connection}
-use Rattle.plan_model.specs.Parts.{Parts}
+use Rattle.plan_model.specs.NetworkModel.{NetworkModel}
 use Rattle.plan_model.specs.Network.{IsValid, IsValidConnection, IsBefore, count, connection, no_connection, dep_of, arr_of, run_of, step_of, change_of, row_of}
 use Rattle.plan_model.specs.View.{IsSeen, IsView}
 use Rattle.late_chance.specs.SeenFrom.{shifted_connection, shifted_parts}
@@ -29,8 +29,8 @@ one_seen shift start soon c = record {
   arrives = λ late. omega arith;
 }
 
-module _ (shift start : ℕ) (m : Parts) where
-  abbrev seen : Parts
+module _ (shift start : ℕ) (m : NetworkModel) where
+  abbrev seen : NetworkModel
   seen = shifted_parts shift start m
 
   at : (i : ℕ) → i < count m → connection seen i ≡ shifted_connection shift start (connection m i)

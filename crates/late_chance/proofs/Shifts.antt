@@ -4,7 +4,7 @@ use Rattle.interval_fixed.specs.Interval.{Interval}
 use Rattle.plan_model.specs.declared.model.Query.{Query}
 use Rattle.plan_model.specs.declared.model.PlaceId.{PlaceId}
 use Rattle.plan_model.specs.Bounds.{end_of_arrivals, end_of_time}
-use Rattle.plan_model.specs.Parts.{Parts}
+use Rattle.plan_model.specs.NetworkModel.{NetworkModel}
 use Rattle.plan_model.specs.Network.{IsValid}
 use Rattle.plan_model.specs.Tree.{Tree}
 use Rattle.plan_model.specs.Strategy.{IsSafeFor}
@@ -26,18 +26,18 @@ same_query : (source target : PlaceId) (a b c d : ℕ) → a ≡ b → c ≡ d �
 same_query source target a b c d e f = rw (e, f) refl
 
 -- a row of a graph that fits is before the last departure
-early_row : (n : Parts) → IsValid n → (place : ℕ) (row : GraphRow) → IsFitRow n place row → row.by.0 < end_of_arrivals
+early_row : (n : NetworkModel) → IsValid n → (place : ℕ) (row : GraphRow) → IsFitRow n place row → row.by.0 < end_of_arrivals
 early_row n v place row fit =
     let limit = limit_of-some n place row.leg row.by.0 fit.by in
     let c = v.connections row.leg.enter.0 fit.is_leg.enter in
     omega (arith, limit.2, c.forward, c.early)
 
-module _ (m : Parts) (q : Query) (promise : ℕ) (v : IsValid m) (early : q.start.0 < end_of_time) (order : q.start.0 ≤ q.deadline.0)
+module _ (m : NetworkModel) (q : Query) (promise : ℕ) (v : IsValid m) (early : q.start.0 < end_of_time) (order : q.start.0 ≤ q.deadline.0)
     (past : seconds_per_week ≤ promise) (later : q.start.0 ≤ promise) (soon : promise ≤ q.start.0 + seconds_per_week) where
   abbrev shift : ℕ
   shift = shift_for promise
 
-  abbrev n : Parts
+  abbrev n : NetworkModel
   n = seen_for m q promise
 
   abbrev asked : Query

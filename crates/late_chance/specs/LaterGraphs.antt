@@ -1,7 +1,7 @@
 -- Graphs by place with all moments greater by a shift.
 use Rattle.std.specs.Prelude.{◌≡◌, ℕ, ◌+◌, ◌-◌, ◌≤◌, map}
 use Rattle.plan_model.specs.declared.model.Query.{Query}
-use Rattle.plan_model.specs.Parts.{Parts}
+use Rattle.plan_model.specs.NetworkModel.{NetworkModel}
 use Rattle.plan_model.specs.Network.{IsValid}
 use Rattle.plan_model.specs.Strategy.{IsSafeFor}
 use Rattle.plan_model.specs.View.{IsView, later_by}
@@ -24,22 +24,22 @@ later_graph shift graph = record { start = graph.start; tables = map (later_tabl
 
 -- the query by the shift later
 abbrev pub later_query : ℕ → Query → Query
-later_query shift q = record { source = q.source; target = q.target; start = record { 0 = q.start.0 + shift }; deadline = record { 0 = q.deadline.0 + shift } }
+later_query shift query = record { source = query.source; target = query.target; start = record { 0 = query.start.0 + shift }; deadline = record { 0 = query.deadline.0 + shift } }
 
 -- the query by so many seconds sooner
 abbrev pub sooner_query : ℕ → Query → Query
-sooner_query shift q = record { source = q.source; target = q.target; start = record { 0 = q.start.0 - shift }; deadline = record { 0 = q.deadline.0 - shift } }
+sooner_query shift query = record { source = query.source; target = query.target; start = record { 0 = query.start.0 - shift }; deadline = record { 0 = query.deadline.0 - shift } }
 
 -- a network and a view of it with the same places, and a query of the view from the first moment on
-pub record IsShown (n m : Parts) (shift first : ℕ) (q : Query) : Type 0 where
+pub record IsShown (n m : NetworkModel) (shift first : ℕ) (query : Query) : Type 0 where
   pub view : IsView n m shift first
   pub same_places : n.change ≡ m.change
   pub valid_view : IsValid n
   pub valid : IsValid m
-  pub late : first ≤ q.start.0 + shift
+  pub late : first ≤ query.start.0 + shift
 
 -- of a graph that is tidy and safe for a query of a view, the later graph is tidy and safe for the later query; it unfolds to the later tree
-pub record LaterAlike (n m : Parts) (shift : ℕ) (q : Query) (graph : PlanGraph) : Type 0 where
-  pub unfolds : unfold_plan (later_graph shift graph) m (later_query shift q) ≡ later_by shift (unfold_plan graph n q)
-  pub safe : IsSafeFor m (later_query shift q) (unfold_plan (later_graph shift graph) m (later_query shift q))
-  pub tidy : IsTidy m (later_query shift q) (later_graph shift graph)
+pub record LaterAlike (n m : NetworkModel) (shift : ℕ) (query : Query) (graph : PlanGraph) : Type 0 where
+  pub unfolds : unfold_plan (later_graph shift graph) m (later_query shift query) ≡ later_by shift (unfold_plan graph n query)
+  pub safe : IsSafeFor m (later_query shift query) (unfold_plan (later_graph shift graph) m (later_query shift query))
+  pub tidy : IsTidy m (later_query shift query) (later_graph shift graph)

@@ -2,7 +2,7 @@
 use Rattle.std.specs.Prelude.{◌≡◌, ℕ, ◌+◌, ◌-◌, ◌^◌, ◌<◌, ◌≤◌, All}
 use Rattle.interval_fixed.specs.Interval.{Interval}
 use Rattle.plan_model.specs.declared.model.Query.{Query}
-use Rattle.plan_model.specs.Parts.{Parts}
+use Rattle.plan_model.specs.NetworkModel.{NetworkModel}
 use Rattle.plan_model.specs.Network.{count}
 use Rattle.plan_model.specs.Tree.{Tree}
 use Rattle.plan_model.specs.Strategy.{IsSafeFor}
@@ -16,37 +16,38 @@ use Rattle.late_chance.specs.LaterGraphs.{later_graph, later_query, sooner_query
 
 -- the graph is tidy and its strategy safe; the bounds enclose the chance that it arrives after the promised moment,
 -- and the lower one is below that of every safe strategy; they differ by at most one unit for each connection
-pub record IsPunctual (m : Parts) (q : Query) (promise : ℕ) (graph : PlanGraph) (chance : Interval) : Type 0 where
-  pub tidy : IsTidy m q graph
-  pub safe : IsSafeFor m q (unfold_plan graph m q)
-  pub below_own : LateBelow promise chance.lo (unfold_plan graph m q)
-  pub covers_own : LateCovers promise chance.hi (unfold_plan graph m q)
-  pub below_safe : (tree : Tree) → IsSafeFor m q tree → LateBelow promise chance.lo tree
+pub record IsPunctual (m : NetworkModel) (query : Query) (promise : ℕ) (graph : PlanGraph) (chance : Interval) : Type 0 where
+  pub tidy : IsTidy m query graph
+  pub safe : IsSafeFor m query (unfold_plan graph m query)
+  pub below_own : LateBelow promise chance.lo (unfold_plan graph m query)
+  pub covers_own : LateCovers promise chance.hi (unfold_plan graph m query)
+  pub below_safe : (tree : Tree) → IsSafeFor m query tree → LateBelow promise chance.lo tree
   pub gap : chance.hi - chance.lo ≤ count m
-  pub at_once : q.source.0 ≡ q.target.0 → q.start.0 ≤ promise → chance ≡ record { lo = 0; hi = 0 }
+  pub at_once : query.source.0 ≡ query.target.0 → query.start.0 ≤ promise → chance ≡ record { lo = 0; hi = 0 }
 
 -- what a view shows of this holds of the network by the shift later
-pub record PunctualAlike (n m : Parts) (shift : ℕ) (q : Query) : Type 0 where
-  pub graphs : (promise : ℕ) (graph : PlanGraph) (chance : Interval) → IsPunctual n q promise graph chance → IsPunctual m (later_query shift q) (promise + shift) (later_graph shift graph) chance
-  pub none : ((tree : Tree) → IsSafeFor n q tree → ⊥) → (tree : Tree) → IsSafeFor m (later_query shift q) tree → ⊥
+pub record PunctualAlike (n m : NetworkModel) (shift : ℕ) (query : Query) : Type 0 where
+  pub graphs : (promise : ℕ) (graph : PlanGraph) (chance : Interval) → IsPunctual n query promise graph chance
+      → IsPunctual m (later_query shift query) (promise + shift) (later_graph shift graph) chance
+  pub none : ((tree : Tree) → IsSafeFor n query tree → ⊥) → (tree : Tree) → IsSafeFor m (later_query shift query) tree → ⊥
 
 -- by how much the network is shifted, so that the promise is the moment that stands for it
 abbrev pub shift_for : (promise : ℕ) → ℕ
 shift_for promise = promise - promised
 
 -- the network as it is seen for a query and a promise, and the query that is asked there
-abbrev pub seen_for : Parts → Query → (promise : ℕ) → Parts
-seen_for m q promise = shifted_parts (shift_for promise) q.start.0 m
+abbrev pub seen_for : NetworkModel → Query → (promise : ℕ) → NetworkModel
+seen_for m query promise = shifted_parts (shift_for promise) query.start.0 m
 
 abbrev pub asked_for : Query → (promise : ℕ) → Query
-asked_for q promise = sooner_query (shift_for promise) q
+asked_for query promise = sooner_query (shift_for promise) query
 
 -- what a graph of the network that is seen says there, the later graph says of the network itself; its moments are in range.
 -- nothing is safe in the one exactly where nothing is in the other
-pub record TellsOfNetwork (m : Parts) (q : Query) (promise : ℕ) : Type 0 where
-  pub graphs : (graph : PlanGraph) (chance : Interval) → IsPunctual (seen_for m q promise) (asked_for q promise) promised graph chance →
-      IsPunctual m q promise (later_graph (shift_for promise) graph) chance
-  pub in_range : (graph : PlanGraph) → IsTidy (seen_for m q promise) (asked_for q promise) graph →
+pub record TellsOfNetwork (m : NetworkModel) (query : Query) (promise : ℕ) : Type 0 where
+  pub graphs : (graph : PlanGraph) (chance : Interval) → IsPunctual (seen_for m query promise) (asked_for query promise) promised graph chance →
+      IsPunctual m query promise (later_graph (shift_for promise) graph) chance
+  pub in_range : (graph : PlanGraph) → IsTidy (seen_for m query promise) (asked_for query promise) graph →
       All (λ table. All (λ row. row.by.0 + shift_for promise < 2 ^ 64) table.rows) graph.tables
-  pub none : ((tree : Tree) → IsSafeFor (seen_for m q promise) (asked_for q promise) tree → ⊥) → (tree : Tree) → IsSafeFor m q tree → ⊥
-  pub none_back : ((tree : Tree) → IsSafeFor m q tree → ⊥) → (tree : Tree) → IsSafeFor (seen_for m q promise) (asked_for q promise) tree → ⊥
+  pub none : ((tree : Tree) → IsSafeFor (seen_for m query promise) (asked_for query promise) tree → ⊥) → (tree : Tree) → IsSafeFor m query tree → ⊥
+  pub none_back : ((tree : Tree) → IsSafeFor m query tree → ⊥) → (tree : Tree) → IsSafeFor (seen_for m query promise) (asked_for query promise) tree → ⊥

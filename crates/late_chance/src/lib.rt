@@ -6,7 +6,7 @@
 ghost use Rattle.std.specs.Prelude.{◌≡◌, ℕ, ◌+◌, ◌<◌, ◌≤◌};
 ghost use Rattle.plan_model.specs.declared.model.Query.{Query};
 ghost use Rattle.plan_model.specs.Bounds.{end_of_time};
-ghost use Rattle.plan_model.specs.Parts.{Parts};
+ghost use Rattle.plan_model.specs.NetworkModel.{NetworkModel};
 ghost use Rattle.plan_model.specs.Network.{IsValid};
 ghost use Rattle.plan_model.specs.Strategy.{IsSafeFor};
 ghost use Rattle.plan_model.specs.View.{IsView, SafeAlike};
@@ -29,28 +29,28 @@ pub use text::write_chance;
 /// The network as it is seen from a start on is valid, and a view of the network: exactly those trees
 /// are safe in it which are safe by the shift later.
 pub fn shifted_is_view()
-    ensures valid { (shift start : ℕ) (m : Parts) → IsValid m → IsValid (shifted_parts shift start m) }
-    ensures view { (shift start : ℕ) (m : Parts) → shift ≤ start → IsView (shifted_parts shift start m) m shift start }
-    ensures alike { (shift start : ℕ) (m : Parts) → IsValid m → shift ≤ start → SafeAlike (shifted_parts shift start m) m shift start }
+    ensures valid { (shift start : ℕ) (m : NetworkModel) → IsValid m → IsValid (shifted_parts shift start m) }
+    ensures view { (shift start : ℕ) (m : NetworkModel) → shift ≤ start → IsView (shifted_parts shift start m) m shift start }
+    ensures alike { (shift start : ℕ) (m : NetworkModel) → IsValid m → shift ≤ start → SafeAlike (shifted_parts shift start m) m shift start }
 {}
 
 /// Of a graph that is tidy and safe for a query of a view, the later graph is tidy and safe for the
 /// later query of the network, and unfolds to the later tree.
 pub fn later_graph_fits()
-    ensures { (n m : Parts) (shift first : ℕ) (q : Query) (graph : PlanGraph) → IsShown n m shift first q → IsTidy n q graph →
+    ensures { (n m : NetworkModel) (shift first : ℕ) (q : Query) (graph : PlanGraph) → IsShown n m shift first q → IsTidy n q graph →
         IsSafeFor n q (unfold_plan graph n q) → LaterAlike n m shift q graph }
 {}
 
 /// What a graph of the least chance of being late says in a view, the later graph says in the
 /// network for the later promise; and where nothing is safe in the view, nothing is in the network.
 pub fn punctual_in_view()
-    ensures { (n m : Parts) (shift first : ℕ) (q : Query) → IsShown n m shift first q → PunctualAlike n m shift q }
+    ensures { (n m : NetworkModel) (shift first : ℕ) (q : Query) → IsShown n m shift first q → PunctualAlike n m shift q }
 {}
 
 /// A graph of the least chance over the shifted network, given back unshifted, is one over the
 /// network for its own query and promise; and where nothing is safe in the one, nothing is in the
 /// other.
 pub fn punctual_by_shift()
-    ensures { (m : Parts) (q : Query) (promise : ℕ) → IsValid m → q.start.0 < end_of_time → q.start.0 ≤ q.deadline.0 →
+    ensures { (m : NetworkModel) (q : Query) (promise : ℕ) → IsValid m → q.start.0 < end_of_time → q.start.0 ≤ q.deadline.0 →
         seconds_per_week ≤ promise → q.start.0 ≤ promise → promise ≤ q.start.0 + seconds_per_week → TellsOfNetwork m q promise }
 {}

@@ -5,7 +5,7 @@ use Rattle.std.specs.Option.{option_map}
 use Rattle.std.proofs.lemmas.Bool.{cases_eq, ne_eqb, eq-eqb}
 use Rattle.plan_model.specs.declared.model.Leg.{Leg}
 use Rattle.plan_model.specs.declared.model.Query.{Query}
-use Rattle.plan_model.specs.Parts.{Parts}
+use Rattle.plan_model.specs.NetworkModel.{NetworkModel}
 use Rattle.plan_model.specs.Network.{IsValid, arr_of}
 use Rattle.plan_model.specs.Tree.{Tree}
 use Rattle.plan_model.specs.Strategy.{IsSafeFor}
@@ -23,7 +23,7 @@ use Rattle.meat_scan.specs.Found.{Found, choice_of, leg_choice, chosen_by}
 use Rattle.meat_scan.specs.Solves.{Answers, IsAnswer, IsStartAnswer, IsSafeAt}
 use Rattle.leg_extract.specs.Extracted.{IsExtracted, HasArrivals}
 
-module _ {V : Type 0} {below covers : V → Tree → Type 0} {gap : V → ℕ} (n : Parts) (q : Query) (found : Found V) (answers : Answers below covers gap n q found) where
+module _ {V : Type 0} {below covers : V → Tree → Type 0} {gap : V → ℕ} (n : NetworkModel) (q : Query) (found : Found V) (answers : Answers below covers gap n q found) where
   steady_by : (place arrival : ℕ) (leg : Leg) (choice : Option (V × Leg))
       → MatchOption choice ((tree : Tree) → IsSafeAt n q place arrival tree → ⊥) (IsAnswer below covers gap n q found place arrival)
       → option_map (λ c. c.1) choice ≡ Some leg → IsKept n (leg_choice found) place arrival leg

@@ -2,7 +2,7 @@
 use Rattle.std.specs.Prelude.{◌≡◌, ℕ, [], map, Some, All, ◌==◌, if◌then◌else◌}
 use Rattle.plan_model.specs.declared.model.Leg.{Leg}
 use Rattle.plan_model.specs.declared.model.Query.{Query}
-use Rattle.plan_model.specs.Parts.{Parts}
+use Rattle.plan_model.specs.NetworkModel.{NetworkModel}
 use Rattle.plan_model.specs.Unfold.{end_of, arrival_of, outcomes_of}
 use Rattle.plan_graph.specs.declared.Ride.{Ride}
 use Rattle.plan_graph.specs.declared.ExpandedGraph.{ExpandedGraph}
@@ -13,23 +13,23 @@ use Rattle.leg_walk.specs.Walked.{HasRideOf}
 use Rattle.meat_scan.specs.Found.{Found, leg_choice, chosen_by}
 
 -- one row for each outcome, by its arrival; none at the target
-abbrev pub HasArrivals : Parts → ℕ → Ride → Type 0
-HasArrivals n target r =
+abbrev pub HasArrivals : NetworkModel → ℕ → Ride → Type 0
+HasArrivals network target r =
     map (λ row. row.by.0) r.after
-    ≡ (if end_of n r.leg == target then [] else map (λ o. arrival_of n r.leg o.delay) (outcomes_of n r.leg))
+    ≡ (if end_of network r.leg == target then [] else map (λ o. arrival_of network r.leg o.delay) (outcomes_of network r.leg))
 
 -- each leg that stands in the unfolding has a ride, those that end at the target among them
-abbrev pub IsWhole : Parts → Query → ExpandedGraph → Type 0
-IsWhole n q graph = (leg : Leg) → Stands leg (unfold_expanded graph n q) → HasRideOf graph.rides leg
+abbrev pub IsWhole : NetworkModel → Query → ExpandedGraph → Type 0
+IsWhole network query graph = (leg : Leg) → Stands leg (unfold_expanded graph network query) → HasRideOf graph.rides leg
 
 -- the graph has the rides that the scan's choices reach from a start leg on, each with a row for each outcome;
 -- it unfolds to the tree that they fix, and is ready to be pruned; what is chosen is kept up to its limit
-pub record IsExtracted {V : Type 0} (n : Parts) (q : Query) (found : Found V) (start : Leg) (graph : ExpandedGraph) : Type 0 where
+pub record IsExtracted {V : Type 0} (network : NetworkModel) (query : Query) (found : Found V) (start : Leg) (graph : ExpandedGraph) : Type 0 where
   pub starts : graph.start ≡ Some start
-  pub unfolds : unfold_expanded graph n q ≡ chosen_by n q found start
-  pub ready : IsReady n q graph
-  pub busy : IsBusy n q graph
-  pub whole : IsWhole n q graph
-  pub arrivals : All (HasArrivals n q.target.0) graph.rides
-  pub follows : Follows n q.target.0 (leg_choice found) graph
-  pub steady : IsSteady n q.target.0 (leg_choice found)
+  pub unfolds : unfold_expanded graph network query ≡ chosen_by network query found start
+  pub ready : IsReady network query graph
+  pub busy : IsBusy network query graph
+  pub whole : IsWhole network query graph
+  pub arrivals : All (HasArrivals network query.target.0) graph.rides
+  pub follows : Follows network query.target.0 (leg_choice found) graph
+  pub steady : IsSteady network query.target.0 (leg_choice found)

@@ -4,7 +4,7 @@ use Rattle.std.proofs.lemmas.Bool.{cases_eq}
 use Rattle.plan_model.specs.declared.model.Leg.{Leg}
 use Rattle.plan_model.specs.declared.model.Outcome.{Outcome}
 use Rattle.plan_model.specs.declared.model.Query.{Query}
-use Rattle.plan_model.specs.Parts.{Parts}
+use Rattle.plan_model.specs.NetworkModel.{NetworkModel}
 use Rattle.plan_model.specs.Network.{IsValid, arr_of}
 use Rattle.plan_model.specs.Tree.{Tree}
 use Rattle.plan_model.specs.Ways.{limit_of}
@@ -22,11 +22,11 @@ use Rattle.leg_walk.proofs.Tables.{IsChosenAt, IsTableRow, table_row, table_away
 use Rattle.leg_walk.proofs.Walks.{delays_rise}
 
 -- what is chosen after an outcome of a leg can be reached, and is kept at the later outcomes up to its limit
-abbrev pub IsKeptAfter : Parts → ℕ → (Leg → ℕ → Option Leg) → Leg → Type 0
+abbrev pub IsKeptAfter : NetworkModel → ℕ → (Leg → ℕ → Option Leg) → Leg → Type 0
 IsKeptAfter n target choice leg = end_of n leg ≢ target → (o : Outcome) → Has (outcomes_of n leg) o → (next : Leg) → choice leg (arrival_of n leg o.delay) ≡ Some next →
     IsChosenAt n (end_of n leg) (choice leg) (arr_of n leg.exit.0) (outcomes_of n leg) (arrival_of n leg o.delay)
 
-module _ (n : Parts) (valid : IsValid n) (q : Query) (choice : Leg → ℕ → Option Leg) (start : Leg) (rides : List Ride)
+module _ (n : NetworkModel) (valid : IsValid n) (q : Query) (choice : Leg → ℕ → Option Leg) (start : Leg) (rides : List Ride)
     (walked : IsWalked n q choice start rides) where
   abbrev target : ℕ
   target = q.target.0

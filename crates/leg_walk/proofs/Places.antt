@@ -3,7 +3,7 @@ use Rattle.std.proofs.Common.{◌≡◌, ◌≢◌, ℕ, zero, suc, ◌+◌, Lis
 use Rattle.std.proofs.lemmas.Bool.{ne_eqb}
 use Rattle.plan_model.specs.declared.model.Leg.{Leg}
 use Rattle.plan_model.specs.declared.model.Outcome.{Outcome}
-use Rattle.plan_model.specs.Parts.{Parts}
+use Rattle.plan_model.specs.NetworkModel.{NetworkModel}
 use Rattle.plan_model.specs.Network.{arr_of}
 use Rattle.plan_model.specs.Tree.{Tree, Stuck}
 use Rattle.plan_model.specs.Strategy.{IsBoardable, Safe, SafeAll}
@@ -12,13 +12,13 @@ use Rattle.plan_graph.specs.Ready.{Stands, StandsIn}
 use Rattle.leg_walk.specs.Placed.{Has, IsPlaced}
 
 -- the leg that is chosen after a leg that arrives at a moment is placed
-pub record IsPlacedNext (n : Parts) (target : ℕ) (by : Option ℕ) (choice : Leg → ℕ → Option Leg) (whole : Tree) (leg : Leg) (arrival : ℕ) : Type 0 where
+pub record IsPlacedNext (n : NetworkModel) (target : ℕ) (by : Option ℕ) (choice : Leg → ℕ → Option Leg) (whole : Tree) (leg : Leg) (arrival : ℕ) : Type 0 where
   pub next : Leg
   pub is_chosen : choice leg arrival ≡ Some next
   pub boards : IsBoardable n (end_of n leg) arrival next.enter.0
   pub placed : IsPlaced n target by choice whole next
 
-module _ (n : Parts) (target : ℕ) (by : Option ℕ) (choice : Leg → ℕ → Option Leg) where
+module _ (n : NetworkModel) (target : ℕ) (by : Option ℕ) (choice : Leg → ℕ → Option Leg) where
   pub safe_kid : (f : ℕ → Tree) (row : List Outcome) (place scheduled : ℕ) → SafeAll n target by (kids_after f scheduled row) row place scheduled
       → (o : Outcome) → Has row o → Safe n target by (f (scheduled + o.delay)) place (scheduled + o.delay)
   safe_kid f [] place scheduled safe o has = absurd has

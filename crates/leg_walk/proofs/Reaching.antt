@@ -6,7 +6,7 @@ use Rattle.std.specs.List.{list_any}
 use Rattle.std.proofs.lemmas.Bool.{ne_eqb}
 use Rattle.plan_model.specs.declared.model.Leg.{Leg}
 use Rattle.plan_model.specs.declared.model.Query.{Query}
-use Rattle.plan_model.specs.Parts.{Parts}
+use Rattle.plan_model.specs.NetworkModel.{NetworkModel}
 use Rattle.plan_model.specs.Network.{count}
 use Rattle.plan_model.specs.Tree.{Tree}
 use Rattle.plan_model.specs.Strategy.{SafeStart}
@@ -25,17 +25,17 @@ use Rattle.leg_walk.proofs.Tables.{same_next, table_row}
 abbrev pub Known : List Leg → List Leg → Leg → Type 0
 Known todo seen leg = Has todo leg ⊎ Has seen leg
 
-pub record IsReaching (n : Parts) (target : ℕ) (by : Option ℕ) (choice : Leg → ℕ → Option Leg) (whole : Tree) (start : Leg) (todo : List Leg) (seen : List Leg) : Type 0 where
+pub record IsReaching (n : NetworkModel) (target : ℕ) (by : Option ℕ) (choice : Leg → ℕ → Option Leg) (whole : Tree) (start : Leg) (todo : List Leg) (seen : List Leg) : Type 0 where
   pub start_known : Known todo seen start
   pub placed : (leg : Leg) → Known todo seen leg → IsPlaced n target by choice whole leg
   pub closed : (leg : Leg) → Has seen leg → (row : GraphRow) → Has (table_of n target choice leg) row → Known todo seen row.leg
 
 -- the tree of a choice begins with its start leg
-pub starts_by : (n : Parts) (q : Query) (choice : Leg → ℕ → Option Leg) (start : Leg) → q.source.0 ≢ q.target.0
+pub starts_by : (n : NetworkModel) (q : Query) (choice : Leg → ℕ → Option Leg) (start : Leg) → q.source.0 ≢ q.target.0
     → unfolded n q choice (Some start) ≡ ride_of n (unfold_after n q.target.0 choice (count n - 1)) start
 starts_by n q choice start differ = rw (ne_eqb q.source.0 q.target.0 differ) refl
 
-pub start_placed : (n : Parts) (q : Query) (choice : Leg → ℕ → Option Leg) (start : Leg) → q.source.0 ≢ q.target.0
+pub start_placed : (n : NetworkModel) (q : Query) (choice : Leg → ℕ → Option Leg) (start : Leg) → q.source.0 ≢ q.target.0
     → (safe : IsSafeForSome n q (unfolded n q choice (Some start))) → IsPlaced n q.target.0 (Some safe.0) choice (unfolded n q choice (Some start)) start
 start_placed n q choice start differ safe =
     let begins = starts_by n q choice start differ in
@@ -48,7 +48,7 @@ start_placed n q choice start differ safe =
       below = λ other there. subst (λ (tree : Tree). Stands other tree) (sym begins) (inr there);
     }
 
-module _ (n : Parts) (target : ℕ) (by : Option ℕ) (choice : Leg → ℕ → Option Leg) (whole : Tree) where
+module _ (n : NetworkModel) (target : ℕ) (by : Option ℕ) (choice : Leg → ℕ → Option Leg) (whole : Tree) where
   -- the leg of a row of a placed leg's table is placed
   pub placed_row : (leg : Leg) → IsPlaced n target by choice whole leg → (row : GraphRow) → Has (table_of n target choice leg) row → IsPlaced n target by choice whole row.leg
   placed_row leg placed row has =

@@ -5,7 +5,7 @@ use Rattle.std.proofs.lemmas.Bool.{cases_lt, cases_eq, ne_eqb, eq-eqb, le-leb, l
 use Rattle.std.proofs.lemmas.Bool.Decides.{nat_tests}
 use Rattle.plan_model.specs.declared.model.Leg.{Leg}
 use Rattle.plan_model.specs.declared.model.Outcome.{Outcome}
-use Rattle.plan_model.specs.Parts.{Parts}
+use Rattle.plan_model.specs.NetworkModel.{NetworkModel}
 use Rattle.plan_model.specs.Network.{arr_of}
 use Rattle.plan_model.specs.Ways.{limit_of}
 use Rattle.plan_model.specs.Unfold.{end_of, outcomes_of}
@@ -51,20 +51,20 @@ picked_has (row ∷ rows) x leg is = elim (cases_lt row.by.0 x) [
       (row, inl refl, same_next (pick_row (row ∷ rows) x) row.leg leg e is)
 ]
 
-pub in_time_here : (n : Parts) (place : ℕ) (row : GraphRow) (rows : List GraphRow) (x limit : ℕ) → limit_of n place row.leg ≡ Some limit → x ≤ limit
+pub in_time_here : (n : NetworkModel) (place : ℕ) (row : GraphRow) (rows : List GraphRow) (x limit : ℕ) → limit_of n place row.leg ≡ Some limit → x ≤ limit
     → pick_in_time n place (row ∷ rows) x ≡ Some row.leg
 in_time_here n place row rows x limit is early =
     let test : is_within (limit_of n place row.leg) x ≡ true = ap (λ (l : Option ℕ). is_within l x) is ∙ le-leb x limit early in
     ap (λ (b : Bool). if b then Some row.leg else pick_in_time n place rows x) test
 
-pub in_time_next : (n : Parts) (place : ℕ) (row : GraphRow) (rows : List GraphRow) (x limit : ℕ) → limit_of n place row.leg ≡ Some limit → limit < x
+pub in_time_next : (n : NetworkModel) (place : ℕ) (row : GraphRow) (rows : List GraphRow) (x limit : ℕ) → limit_of n place row.leg ≡ Some limit → limit < x
     → pick_in_time n place (row ∷ rows) x ≡ pick_in_time n place rows x
 in_time_next n place row rows x limit is late =
     let test : is_within (limit_of n place row.leg) x ≡ false = ap (λ (l : Option ℕ). is_within l x) is ∙ lt-leb x limit late in
     ap (λ (b : Bool). if b then Some row.leg else pick_in_time n place rows x) test
 
 -- what is chosen at an arrival can be reached, and is chosen at each later arrival of the outcomes up to its limit
-pub record IsChosenAt (n : Parts) (place : ℕ) (choice : ℕ → Option Leg) (scheduled : ℕ) (os : List Outcome) (arrival : ℕ) : Type 0 where
+pub record IsChosenAt (n : NetworkModel) (place : ℕ) (choice : ℕ → Option Leg) (scheduled : ℕ) (os : List Outcome) (arrival : ℕ) : Type 0 where
   pub next : Leg
   pub is_chosen : choice arrival ≡ Some next
   pub limit : ℕ
@@ -118,7 +118,7 @@ module _ (choice : ℕ → Option Leg) (scheduled : ℕ) where
       by_found None more = more
       by_found (Some other) more = inr (omega (arith, rising.0 o has), more)
 
-  module _ (n : Parts) (place : ℕ) where
+  module _ (n : NetworkModel) (place : ℕ) where
     abbrev fewer : (head : Outcome) (os : List Outcome) (x : ℕ) → IsChosenAt n place choice scheduled (head ∷ os) x → IsChosenAt n place choice scheduled os x
     fewer head os x c = record { next = c.next; is_chosen = c.is_chosen; limit = c.limit; is_limit = c.is_limit; in_time = c.in_time; kept = λ o has after within. c.kept o (inr has) after within }
 
@@ -194,7 +194,7 @@ module _ (choice : ℕ → Option Leg) (scheduled : ℕ) where
       ap (λ (list : List GraphRow). map (λ row. row.by.0) list) (head_row head os (Some c.0) c.1)
       ∙ ap (λ (list : List ℕ). (scheduled + head.delay) ∷ list) (by_for os (λ u h. each u (inr h)))
 
-module _ (n : Parts) (target : ℕ) (choice : Leg → ℕ → Option Leg) (leg : Leg) where
+module _ (n : NetworkModel) (target : ℕ) (choice : Leg → ℕ → Option Leg) (leg : Leg) where
   pub table_away : end_of n leg ≢ target → table_of n target choice leg ≡ rows_for (choice leg) (arr_of n leg.exit.0) (outcomes_of n leg)
   table_away away = rw (ne_eqb (end_of n leg) target away)
 

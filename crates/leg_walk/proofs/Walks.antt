@@ -6,7 +6,7 @@ use Rattle.std.proofs.lemmas.Bool.{false≢true}
 use Rattle.plan_model.specs.declared.model.Leg.{Leg}
 use Rattle.plan_model.specs.declared.model.Outcome.{Outcome}
 use Rattle.plan_model.specs.declared.model.Query.{Query}
-use Rattle.plan_model.specs.Parts.{Parts}
+use Rattle.plan_model.specs.NetworkModel.{NetworkModel}
 use Rattle.plan_model.specs.Network.{IsValid}
 use Rattle.plan_model.specs.Tree.{Tree}
 use Rattle.plan_model.specs.Unfold.{end_of, arrival_of, outcomes_of, unfolded}
@@ -27,12 +27,12 @@ use Rattle.leg_walk.proofs.Tables.{first_pick, first_there, first_in_table, same
 use Rattle.leg_walk.proofs.Whole.{ride_from}
 
 -- the delays after a leg rise
-pub delays_rise : (n : Parts) → IsValid n → (leg : Leg) → IsLegOf n leg → Later (λ a b. a.delay < b.delay) (outcomes_of n leg)
+pub delays_rise : (n : NetworkModel) → IsValid n → (leg : Leg) → IsLegOf n leg → Later (λ a b. a.delay < b.delay) (outcomes_of n leg)
 delays_rise n valid leg is_leg =
     let class = (valid.connections leg.exit.0 is_leg.exit).class_in in
     later_from_pairs (λ a b. a.delay < b.delay) (outcomes_of n leg) (valid.rows _ class).rising
 
-module _ (n : Parts) (target : ℕ) (choice : Leg → ℕ → Option Leg) where
+module _ (n : NetworkModel) (target : ℕ) (choice : Leg → ℕ → Option Leg) where
   -- the rows after a leg are its table
   pub found_rows_after : (legs : List Leg) (leg : Leg) → Has legs leg → rows_after (map (ride_of_leg n target choice) legs) leg ≡ table_of n target choice leg
   found_rows_after [] leg has = absurd has
@@ -53,7 +53,7 @@ module _ (n : Parts) (target : ℕ) (choice : Leg → ℕ → Option Leg) where
     rising_rides legs later.1,
   )
 
-module _ (n : Parts) (valid : IsValid n) (q : Query) (choice : Leg → ℕ → Option Leg) (start : Leg) (legs : List Leg)
+module _ (n : NetworkModel) (valid : IsValid n) (q : Query) (choice : Leg → ℕ → Option Leg) (start : Leg) (legs : List Leg)
     (reached : IsReached n q.target.0 choice (unfolded n q choice (Some start)) start legs) where
   abbrev target : ℕ
   target = q.target.0
@@ -64,11 +64,11 @@ module _ (n : Parts) (valid : IsValid n) (q : Query) (choice : Leg → ℕ → O
   abbrev rides : List Ride
   rides = map (ride_of_leg n target choice) legs
 
-  placed : (leg : Leg) → Has legs leg → IsPlaced n target reached.by choice whole leg
+  placed : (leg : Leg) → Has legs leg → IsPlaced n target reached.deadline choice whole leg
   placed = reached.placed
 
-  next : (leg : Leg) → Has legs leg → end_of n leg ≢ target → (o : Outcome) → Has (outcomes_of n leg) o → IsPlacedNext n target reached.by choice whole leg (arrival_of n leg o.delay)
-  next leg has = next_after n target reached.by choice whole leg (placed leg has)
+  next : (leg : Leg) → Has legs leg → end_of n leg ≢ target → (o : Outcome) → Has (outcomes_of n leg) o → IsPlacedNext n target reached.deadline choice whole leg (arrival_of n leg o.delay)
+  next leg has = next_after n target reached.deadline choice whole leg (placed leg has)
 
   -- who has ridden a leg that was reached comes at an arrival of an outcome
   record IsComing (leg : Leg) (x : ℕ) : Type 0 where

@@ -3,7 +3,7 @@ use Rattle.std.proofs.Common.{◌≡◌, ℕ, zero, suc, ◌+◌, ◌-◌, List,
 use Rattle.std.proofs.lemmas.Bool.{cases_eq, ne_eqb, eq-eqb}
 use Rattle.plan_model.specs.declared.model.Leg.{Leg}
 use Rattle.plan_model.specs.declared.model.Outcome.{Outcome}
-use Rattle.plan_model.specs.Parts.{Parts}
+use Rattle.plan_model.specs.NetworkModel.{NetworkModel}
 use Rattle.plan_model.specs.Network.{count, arr_of}
 use Rattle.plan_model.specs.Tree.{Tree, Done, Stuck}
 use Rattle.plan_model.specs.Unfold.{end_of, outcomes_of, kids_after, ride_or_stuck, unfold_after, unfold_from}
@@ -30,7 +30,7 @@ stands_after leg f scheduled [] there = absurd there
 stands_after leg f scheduled (o ∷ row) (inl there) = (scheduled + o.delay, there)
 stands_after leg f scheduled (o ∷ row) (inr there) = stands_after leg f scheduled row there
 
-module _ (n : Parts) (target : ℕ) (rides : List Ride)
+module _ (n : NetworkModel) (target : ℕ) (rides : List Ride)
     (closed : (r : Ride) → Contains rides r → (row : GraphRow) → Contains r.after row → HasRideOf rides row.leg) where
   -- a leg that is picked has a ride
   picked_ride : (own : Leg) (x : ℕ) (next : Leg) → pick_after rides own x ≡ Some next → HasRideOf rides next

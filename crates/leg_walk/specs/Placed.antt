@@ -2,7 +2,7 @@
 use Rattle.std.specs.Prelude.{◌≡◌, ℕ, ◌⊎◌, List, [], ◌∷◌, Option}
 use Rattle.std.specs.List.Sorted.{IsStrictlySortedBy}
 use Rattle.plan_model.specs.declared.model.Leg.{Leg}
-use Rattle.plan_model.specs.Parts.{Parts}
+use Rattle.plan_model.specs.NetworkModel.{NetworkModel}
 use Rattle.plan_model.specs.Network.{arr_of}
 use Rattle.plan_model.specs.Tree.{Tree, Kids}
 use Rattle.plan_model.specs.Strategy.{SafeAll}
@@ -17,21 +17,21 @@ Has [] x = ⊥
 Has (y ∷ ys) x = (x ≡ y) ⊎ Has ys x
 
 -- what is done after a leg, over at most so many rides
-abbrev pub kids_of : Parts → ℕ → (Leg → ℕ → Option Leg) → ℕ → Leg → Kids
-kids_of n target choice rides leg = kids_after (unfold_after n target choice rides leg) (arr_of n leg.exit.0) (outcomes_of n leg)
+abbrev pub kids_of : NetworkModel → ℕ → (Leg → ℕ → Option Leg) → ℕ → Leg → Kids
+kids_of network target choice rides leg = kids_after (unfold_after network target choice rides leg) (arr_of network leg.exit.0) (outcomes_of network leg)
 
 -- the leg's ride stands in a tree, and what is done after it is safe
-pub record IsPlaced (n : Parts) (target : ℕ) (by : Option ℕ) (choice : Leg → ℕ → Option Leg) (whole : Tree) (leg : Leg) : Type 0 where
-  pub is_leg : IsLegOf n leg
+pub record IsPlaced (network : NetworkModel) (target : ℕ) (deadline : Option ℕ) (choice : Leg → ℕ → Option Leg) (whole : Tree) (leg : Leg) : Type 0 where
+  pub is_leg : IsLegOf network leg
   pub rides : ℕ
-  pub safe : SafeAll n target by (kids_of n target choice rides leg) (outcomes_of n leg) (end_of n leg) (arr_of n leg.exit.0)
+  pub safe : SafeAll network target deadline (kids_of network target choice rides leg) (outcomes_of network leg) (end_of network leg) (arr_of network leg.exit.0)
   pub stands : Stands leg whole
-  pub below : (other : Leg) → StandsIn other (kids_of n target choice rides leg) → Stands other whole
+  pub below : (other : Leg) → StandsIn other (kids_of network target choice rides leg) → Stands other whole
 
 -- these are the legs that are reached from a start leg, in order
-pub record IsReached (n : Parts) (target : ℕ) (choice : Leg → ℕ → Option Leg) (whole : Tree) (start : Leg) (legs : List Leg) : Type 0 where
-  pub by : Option ℕ
+pub record IsReached (network : NetworkModel) (target : ℕ) (choice : Leg → ℕ → Option Leg) (whole : Tree) (start : Leg) (legs : List Leg) : Type 0 where
+  pub deadline : Option ℕ
   pub start_there : Has legs start
-  pub placed : (leg : Leg) → Has legs leg → IsPlaced n target by choice whole leg
-  pub closed : (leg : Leg) → Has legs leg → (row : GraphRow) → Has (table_of n target choice leg) row → Has legs row.leg
+  pub placed : (leg : Leg) → Has legs leg → IsPlaced network target deadline choice whole leg
+  pub closed : (leg : Leg) → Has legs leg → (row : GraphRow) → Has (table_of network target choice leg) row → Has legs row.leg
   pub ordered : IsStrictlySortedBy leg_cmp legs

@@ -5,7 +5,7 @@ use Rattle.std.specs.declared.cmp.Ordering.{Ordering}
 use Rattle.std.specs.BTreeSet.{insert_key}
 use Rattle.plan_model.specs.declared.model.Leg.{Leg}
 use Rattle.plan_model.specs.declared.model.Outcome.{Outcome}
-use Rattle.plan_model.specs.Parts.{Parts}
+use Rattle.plan_model.specs.NetworkModel.{NetworkModel}
 use Rattle.plan_model.specs.Network.{arr_of}
 use Rattle.plan_model.specs.Unfold.{end_of, outcomes_of}
 use Rattle.plan_graph.specs.declared.GraphRow.{GraphRow}
@@ -26,8 +26,8 @@ rows_for choice scheduled [] = []
 rows_for choice scheduled (o ∷ row) = with_row (scheduled + o.delay) (choice (scheduled + o.delay)) (rows_for choice scheduled row)
 
 -- the table after a leg; none at the target
-abbrev pub table_of : Parts → ℕ → (Leg → ℕ → Option Leg) → Leg → List GraphRow
-table_of n target choice leg = if end_of n leg == target then [] else rows_for (choice leg) (arr_of n leg.exit.0) (outcomes_of n leg)
+abbrev pub table_of : NetworkModel → ℕ → (Leg → ℕ → Option Leg) → Leg → List GraphRow
+table_of network target choice leg = if end_of network leg == target then [] else rows_for (choice leg) (arr_of network leg.exit.0) (outcomes_of network leg)
 
 -- by entry, and then by exit
 abbrev pub leg_cmp : Leg → Leg → Ordering
@@ -38,5 +38,5 @@ abbrev pub with_leg : List Leg → Leg → List Leg
 with_leg legs leg = insert_key leg_cmp legs leg
 
 -- the ride of a leg, with its table
-abbrev pub ride_of_leg : Parts → ℕ → (Leg → ℕ → Option Leg) → Leg → Ride
-ride_of_leg n target choice leg = record { leg = leg; after = table_of n target choice leg }
+abbrev pub ride_of_leg : NetworkModel → ℕ → (Leg → ℕ → Option Leg) → Leg → Ride
+ride_of_leg network target choice leg = record { leg = leg; after = table_of network target choice leg }

@@ -20,15 +20,15 @@ use std::collections::BTreeSet;
 pub trait LegChoice {
     ghost use Rattle.std.specs.Prelude.{◌≡◌, ◌≢◌, ℕ, ◌<◌, Option};
     ghost use Rattle.plan_model.specs.declared.model.Leg.{Leg};
-    ghost use Rattle.plan_model.specs.Parts.{Parts};
+    ghost use Rattle.plan_model.specs.NetworkModel.{NetworkModel};
     ghost use Rattle.plan_model.specs.Network.{count};
     ghost use Rattle.plan_model.specs.Unfold.{end_of};
 
     /// It can be asked about this network, away from this target.
-    ghost fits: { Self → Parts → ℕ → Type 0 };
+    ghost fits: { Self → NetworkModel → ℕ → Type 0 };
 
     /// The leg that it chooses after a leg that arrives at a moment.
-    ghost chosen: { Self → Parts → Leg → ℕ → Option Leg };
+    ghost chosen: { Self → NetworkModel → Leg → ℕ → Option Leg };
 
     /// The leg that is chosen after a leg that arrives at the moment.
     fn choose(&self, network: &Network, query: &Query, leg: Leg, arrival: Moment) -> Option<Leg>

@@ -3,7 +3,7 @@ use Rattle.std.proofs.Common.{◌≡◌, ◌≢◌, ℕ, List, Option, Some, Non
 use Rattle.std.proofs.lemmas.Bool.{cases_lt}
 use Rattle.std.proofs.lemmas.Bool.Decides.{nat_tests}
 use Rattle.plan_model.specs.declared.model.Query.{Query}
-use Rattle.plan_model.specs.Parts.{Parts}
+use Rattle.plan_model.specs.NetworkModel.{NetworkModel}
 use Rattle.plan_model.specs.Network.{IsValid}
 use Rattle.plan_model.specs.Tree.{Tree, Done}
 use Rattle.plan_model.specs.Strategy.{IsLeg, IsBoardableAtStart, IsSafeFor}
@@ -18,10 +18,10 @@ least_at_most : (P : ℕ → Type 0) (o : Option ℕ) (v : ℕ) → IsLeastOf P 
 least_at_most P None v least h = least v h
 least_at_most P (Some w) v least h = least.1 v h
 
-pub tight_accepted : (n : Parts) (q : Query) (values : List (Option ℕ)) → IsTight n q values → IsAccepted n q values
+pub tight_accepted : (n : NetworkModel) (q : Query) (values : List (Option ℕ)) → IsTight n q values → IsAccepted n q values
 tight_accepted n q values tight c there board j v leg via = least_at_most (λ v. (j : ℕ) × IsLeg n c j × IsVia n q values j v) (value_of values c) v (tight.boarded c there board) (j, leg, via)
 
-module _ (n : Parts) (valid : IsValid n) (q : Query) (values : List (Option ℕ)) (tight : IsTight n q values) (never : (tree : Tree) → IsSafeFor n q tree → ⊥) where
+module _ (n : NetworkModel) (valid : IsValid n) (q : Query) (values : List (Option ℕ)) (tight : IsTight n q values) (never : (tree : Tree) → IsSafeFor n q tree → ⊥) where
   never_arrived : q.source.0 ≡ q.target.0 → None ≡ arrived_by q.deadline.0 q.start.0
   never_arrived there = elim (cases_lt q.deadline.0 q.start.0) [
     | inl late ↦ grind (arith, nat_tests)
@@ -40,7 +40,7 @@ module _ (n : Parts) (valid : IsValid n) (q : Query) (values : List (Option ℕ)
       let search = least_at_start n values q.source.0 q.start.0 in
       record { at_target = never_arrived; elsewhere = λ away. never_offered search.0 away search.1 }
 
-pub best : (n : Parts) → IsValid n → (q : Query) (values : List (Option ℕ)) → IsTight n q values → IsBest n q values
+pub best : (n : NetworkModel) → IsValid n → (q : Query) (values : List (Option ℕ)) → IsTight n q values → IsBest n q values
 best n valid q values tight = record {
   accepted = tight_accepted n q values tight;
   value = λ tree safe.

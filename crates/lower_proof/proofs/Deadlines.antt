@@ -6,7 +6,7 @@ use Rattle.lower_proof.proofs.Range.{moment_range}
 use Rattle.csv_rows.specs.Tables.{header}
 use Rattle.plan_model.specs.declared.model.Moment.{Moment}
 use Rattle.plan_model.specs.declared.model.Query.{Query}
-use Rattle.plan_model.specs.Parts.{Parts}
+use Rattle.plan_model.specs.NetworkModel.{NetworkModel}
 use Rattle.plan_model.specs.NameLists.{NameLists}
 use Rattle.printed_rows.specs.Fields.{field, whole_at, number_of}
 use Rattle.lower_proof.specs.declared.reader.BoundsRow.{BoundsRow}
@@ -53,7 +53,7 @@ row_deadline names source target start r y is =
     moment_range (field r 5) y.deadline.0 (by_numbers (moment_at (field r 4)) (moment_at (field r 5)) (whole_at (field r 6)) y numbers)
 
 -- the deadline of a query that a text tells
-pub told_deadline : (n : Parts) (names : NameLists) (source target start : ℕ) (t : List (List (List ℕ))) (q : Query) (values : List (Option ℕ))
+pub told_deadline : (n : NetworkModel) (names : NameLists) (source target start : ℕ) (t : List (List (List ℕ))) (q : Query) (values : List (Option ℕ))
     → IsTold n names source target start t q values → q.deadline.0 ≤ last_printable
 told_deadline n names source target start t q values is =
     subst (λ (m : Moment). m.0 ≤ last_printable) (sym is.until) (row_deadline names source target start (header t) is.bounds is.head)

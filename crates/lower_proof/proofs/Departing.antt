@@ -9,7 +9,7 @@ use Rattle.std.proofs.lemmas.List.Quantifiers.{all_pairs_push}
 use Rattle.std.proofs.lemmas.List.Sorted.{All-permutation, Contains-permutation}
 use Rattle.std.proofs.lemmas.Map.Keys.{IsDistinct-from_apart, IsDistinct-IsPermutation, apart_from_distinct}
 use Rattle.plan_model.specs.declared.model.ConnectionId.{ConnectionId}
-use Rattle.plan_model.specs.Parts.{Parts}
+use Rattle.plan_model.specs.NetworkModel.{NetworkModel}
 use Rattle.plan_model.specs.Network.{IsValid, count, dep_of}
 use Rattle.plan_model.proofs.ScanOrders.{IsOrderBut}
 use Rattle.lower_proof.specs.declared.board.Entry.{Entry}
@@ -20,13 +20,13 @@ use Rattle.lower_proof.proofs.Entries.{entry_cmp, no_entry, along}
 -- ---- found one after the other
 
 -- those of the first m, by rising number
-pub record AreFound (n : Parts) (last m : ℕ) (entries : List Entry) : Type 0 where
+pub record AreFound (n : NetworkModel) (last m : ℕ) (entries : List Entry) : Type 0 where
   pub each : All (IsDeparture n last) entries
   pub below : All (λ e. e.id.0 < m) entries
   pub all : (c : ℕ) → c < m → dep_of n c ≤ last → (k : ℕ) × (k < length entries) × ((entry_at entries k).id.0 ≡ c)
   pub rising : AllPairs (λ a b. a.id.0 < b.id.0) entries
 
-pub found_none : (n : Parts) (last : ℕ) → AreFound n last 0 []
+pub found_none : (n : NetworkModel) (last : ℕ) → AreFound n last 0 []
 found_none n last = record {
   each = λ k d within. absurd (omega arith);
   below = λ k d within. absurd (omega arith);
@@ -34,7 +34,7 @@ found_none n last = record {
   rising = λ i j d less within. absurd (omega arith);
 }
 
-pub found_later : (n : Parts) (last m : ℕ) (entries : List Entry) → last < dep_of n m → AreFound n last m entries → AreFound n last (m + 1) entries
+pub found_later : (n : NetworkModel) (last m : ℕ) (entries : List Entry) → last < dep_of n m → AreFound n last m entries → AreFound n last (m + 1) entries
 found_later n last m entries late found = record {
   each = found.each;
   below = λ k d within. let less = found.below k d within in omega arith;
@@ -45,7 +45,7 @@ found_later n last m entries late found = record {
   rising = found.rising;
 }
 
-pub found_more : (n : Parts) (last m : ℕ) (entries : List Entry) (e : Entry) → m < count n → e.id.0 ≡ m → e.by.0 ≡ dep_of n m → e.by.0 ≤ last
+pub found_more : (n : NetworkModel) (last m : ℕ) (entries : List Entry) (e : Entry) → m < count n → e.id.0 ≡ m → e.by.0 ≡ dep_of n m → e.by.0 ≤ last
     → AreFound n last m entries → AreFound n last (m + 1) (entries ++ e ∷ [])
 found_more n last m entries e there is departs soon found = record {
   each = All-push (IsDeparture n last) entries e found.each (omega arith, departs ∙ sym (ap (dep_of n) is), soon);
@@ -72,7 +72,7 @@ eqb_flips a b = grind (arith, nat_tests)
 strictly : (i j : ℕ) → i ≤ j → eqb i j ≡ false → i < j
 strictly i j h k = grind (arith, nat_tests)
 
-pub sorted_departures : (n : Parts) → IsValid n → (last : ℕ) (xs ys : List Entry) → AreFound n last (count n) xs → IsPermutation xs ys → IsSorted entry_cmp ys → AreDepartures n last ys
+pub sorted_departures : (n : NetworkModel) → IsValid n → (last : ℕ) (xs ys : List Entry) → AreFound n last (count n) xs → IsPermutation xs ys → IsSorted entry_cmp ys → AreDepartures n last ys
 sorted_departures n good last xs ys found moved up =
     let each = All-permutation (IsDeparture n last) xs ys moved found.each in
     let distinct = IsDistinct-from_apart by_id xs (λ i j d less inside.
@@ -102,14 +102,14 @@ sorted_departures n good last xs ys found moved up =
 -- ---- the walk
 
 -- those that depart later are left out
-abbrev pub Late : Parts → ℕ → ℕ → Type 0
+abbrev pub Late : NetworkModel → ℕ → ℕ → Type 0
 Late n last c = last < dep_of n c
 
 -- the connections of entries
 abbrev pub ids_of : List Entry → List ConnectionId
 ids_of entries = map (λ e. e.id) entries
 
-pub departures_in_order : (n : Parts) (last : ℕ) (entries : List Entry) → AreDepartures n last entries → IsOrderBut n (Late n last) (ids_of entries)
+pub departures_in_order : (n : NetworkModel) (last : ℕ) (entries : List Entry) → AreDepartures n last entries → IsOrderBut n (Late n last) (ids_of entries)
 departures_in_order n last entries are =
     let len : length (ids_of entries) ≡ length entries = length-map entries (λ (e : Entry). e.id) in
     let at : (k : ℕ) (d : ConnectionId) → k < length entries → get_or (ids_of entries) k d ≡ (get_or entries k no_entry).id = λ k d h. get_or-map (λ (e : Entry). e.id) entries k no_entry d h in

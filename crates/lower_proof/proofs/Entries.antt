@@ -9,7 +9,7 @@ use Rattle.std.proofs.lemmas.Bool.Decides.{nat_tests}
 use Rattle.std.proofs.lemmas.List.{length-set, length_push, get_or-reverse, get_or_append_left, get_or_at, get_or_default}
 use Rattle.std.proofs.lemmas.List.Sorted.{All-permutation, Contains-permutation}
 use Rattle.plan_model.specs.declared.model.Way.{Way}
-use Rattle.plan_model.specs.Parts.{Parts}
+use Rattle.plan_model.specs.NetworkModel.{NetworkModel}
 use Rattle.plan_model.specs.Network.{IsValid, count, connection, from_of, dep_of}
 use Rattle.plan_model.specs.Ways.{ways_into}
 use Rattle.plan_model.specs.Strategy.{IsBoardable}
@@ -85,7 +85,7 @@ falls_reversed ys up zs is same i j d before within =
     rw (first, second) (no_later _ _ order)
 
 -- the same entries in another order
-pub entries_permuted : (n : Parts) (last p m : ℕ) (xs ys : List Entry) → IsPermutation xs ys → AreEntries n last p m xs → AreEntries n last p m ys
+pub entries_permuted : (n : NetworkModel) (last p m : ℕ) (xs ys : List Entry) → IsPermutation xs ys → AreEntries n last p m xs → AreEntries n last p m ys
 entries_permuted n last p m xs ys moved are = record {
   each = λ k within. All-permutation (IsEntry n p) xs ys moved (λ i d inside. subst (IsEntry n p) (get_or_default xs i no_entry d inside) (are.each i inside)) k no_entry within;
   all = λ c x below soon board boards.
@@ -97,16 +97,16 @@ entries_permuted n last p m xs ys moved are = record {
 -- ---- one way after the other
 
 -- a board with the first connections, and with this one by the first k ways into where it departs
-pub record HasWays (n : Parts) (last id k p : ℕ) (board : Shown) : Type 0 where
+pub record HasWays (n : NetworkModel) (last id k p : ℕ) (board : Shown) : Type 0 where
   pub entries : AreEntries n last p id board.entries
   pub own : (x j : ℕ) (way : Way) → j < k → slice_get (ways_into n (from_of n id)) j ≡ Some way → way.from.0 ≡ p → IsBoardable n p x id → (i : ℕ)
       × (i < length board.entries) × ((entry_at board.entries i).id.0 ≡ id)
   pub fresh : board.least ≡ []
 
-abbrev pub HaveWays : Parts → ℕ → ℕ → ℕ → List Shown → Type 0
+abbrev pub HaveWays : NetworkModel → ℕ → ℕ → ℕ → List Shown → Type 0
 HaveWays n last id k boards = (p : ℕ) → p < length boards → HasWays n last id k p (board_at boards p)
 
-module _ (n : Parts) (last id : ℕ) where
+module _ (n : NetworkModel) (last id : ℕ) where
   pub no_ways : (boards : List Shown) → HaveEntries n last id boards → HaveWays n last id 0 boards
   no_ways boards have p within = record { entries = (have p within).0; own = λ x j way below. absurd (omega arith); fresh = (have p within).1 }
 
@@ -222,12 +222,12 @@ module _ (n : Parts) (last id : ℕ) where
 -- ---- all boards in order
 
 -- the first k boards are in order
-pub record AreSorted (n : Parts) (last k : ℕ) (boards : List Shown) : Type 0 where
+pub record AreSorted (n : NetworkModel) (last k : ℕ) (boards : List Shown) : Type 0 where
   pub len : length boards ≡ length n.change
   pub entries : HaveEntries n last (count n) boards
   pub falls : (p : ℕ) → p < k → Falls (board_at boards p).entries
 
-pub sorted_more : (n : Parts) (last k : ℕ) (boards : List Shown) (board : Shown) → k < length boards
+pub sorted_more : (n : NetworkModel) (last k : ℕ) (boards : List Shown) (board : Shown) → k < length boards
     → IsPermutation (board_at boards k).entries board.entries → Falls board.entries → board.least ≡ [] → AreSorted n last k boards → AreSorted n last (k + 1) (set boards k board)
 sorted_more n last k boards board inside moved falls fresh sorted =
     let here : board_at (set boards k board) k ≡ board = get_or-set_same boards k board no_board inside in
@@ -247,7 +247,7 @@ sorted_more n last k boards board inside moved falls fresh sorted =
     }
 
 -- no value is known yet, so what is known is right
-pub sorted_boards : (n : Parts) (last : ℕ) (boards : List Shown) (values : List (Option ℕ)) → length values ≡ count n → NoneAfter n values last
+pub sorted_boards : (n : NetworkModel) (last : ℕ) (boards : List Shown) (values : List (Option ℕ)) → length values ≡ count n → NoneAfter n values last
     → AreSorted n last (length boards) boards → AreBoards n last values boards
 sorted_boards n last boards values as_many none_after sorted = record {
   none_after = none_after;
@@ -266,5 +266,5 @@ sorted_boards n last boards values as_many none_after sorted = record {
       };
 }
 
-pub sorted_late : (n : Parts) (last : ℕ) (boards : List Shown) (moment : ℕ) → AreSorted n last (length boards) boards → AllLate moment boards
+pub sorted_late : (n : NetworkModel) (last : ℕ) (boards : List Shown) (moment : ℕ) → AreSorted n last (length boards) boards → AllLate moment boards
 sorted_late n last boards moment sorted p within k below = let none : length (board_at boards p).least ≡ 0 = ap length (sorted.entries p within).1 in absurd (omega arith)

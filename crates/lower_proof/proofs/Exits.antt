@@ -5,7 +5,7 @@ use Rattle.std.proofs.lemmas.Bool.{cases_eq}
 use Rattle.std.proofs.lemmas.List.{append-nil}
 use Rattle.plan_model.specs.declared.model.ConnectionId.{ConnectionId}
 use Rattle.plan_model.specs.declared.model.Query.{Query}
-use Rattle.plan_model.specs.Parts.{Parts}
+use Rattle.plan_model.specs.NetworkModel.{NetworkModel}
 use Rattle.plan_model.specs.Network.{count, connection, dep_of, run_of, IsValid}
 use Rattle.plan_model.specs.Strategy.{IsLeg}
 use Rattle.lower_proof.specs.Certificates.{value_of, IsLeastOf, IsVia, IsLocal, IsLastFault}
@@ -19,7 +19,7 @@ use Rattle.lower_proof.proofs.Departing.{Late}
 use Rattle.lower_proof.proofs.NoVias.{no_via}
 
 -- one can leave the run by a known connection, for this value
-pub record LeavesBy (n : Parts) (q : Query) (values : List (Option ℕ)) (last : ℕ) (taken : List ConnectionId) (run v : ℕ) : Type 0 where
+pub record LeavesBy (n : NetworkModel) (q : Query) (values : List (Option ℕ)) (last : ℕ) (taken : List ConnectionId) (run v : ℕ) : Type 0 where
   pub exit : ℕ
   pub there : exit < count n
   pub known : Known (Late n last) taken exit
@@ -27,14 +27,14 @@ pub record LeavesBy (n : Parts) (q : Query) (values : List (Option ℕ)) (last :
   pub via : IsVia n q values exit v
 
 -- each run has its least value
-abbrev pub AreExits : Parts → Query → List (Option ℕ) → ℕ → List ConnectionId → List (Option ℕ) → Type 0
+abbrev pub AreExits : NetworkModel → Query → List (Option ℕ) → ℕ → List ConnectionId → List (Option ℕ) → Type 0
 AreExits n q values last taken exits = (run : ℕ) → IsLeastOf (LeavesBy n q values last taken run) (exit_of exits run)
 
 -- the values of leaving after boarding a connection
-abbrev pub Rides : Parts → Query → List (Option ℕ) → ℕ → ℕ → Type 0
+abbrev pub Rides : NetworkModel → Query → List (Option ℕ) → ℕ → ℕ → Type 0
 Rides n q values c v = (j : ℕ) × IsLeg n c j × IsVia n q values j v
 
-module _ (n : Parts) (q : Query) (values : List (Option ℕ)) (last : ℕ) (taken : List ConnectionId) (id : ConnectionId) (next : IsNext n (Known (Late n last) taken) id.0) where
+module _ (n : NetworkModel) (q : Query) (values : List (Option ℕ)) (last : ℕ) (taken : List ConnectionId) (id : ConnectionId) (next : IsNext n (Known (Late n last) taken) id.0) where
   grown : (run v : ℕ) → LeavesBy n q values last taken run v → LeavesBy n q values last (id ∷ taken) run v
   grown run v by = record { exit = by.exit; there = by.there; known = inr by.known; of_run = by.of_run; via = by.via }
 
@@ -85,13 +85,13 @@ module _ (n : Parts) (q : Query) (values : List (Option ℕ)) (last : ℕ) (take
 
 -- ---- what is known while a check runs
 
-pub record CheckState (n : Parts) (q : Query) (values : List (Option ℕ)) (last : ℕ) (order rest : List ConnectionId) (exits : List (Option ℕ)) : Type 0 where
+pub record CheckState (n : NetworkModel) (q : Query) (values : List (Option ℕ)) (last : ℕ) (order rest : List ConnectionId) (exits : List (Option ℕ)) : Type 0 where
   pub taken : List ConnectionId
   pub split : rest ++ taken ≡ order
   pub are_exits : AreExits n q values last taken exits
   pub kept : (c : ℕ) → c < count n → Known (Late n last) taken c → IsTrue (connection n c).can_board → IsLocal n q values c
 
-module _ (n : Parts) (good : IsValid n) (q : Query) (values : List (Option ℕ)) (last : ℕ) (deadline : q.deadline.0 ≤ last) where
+module _ (n : NetworkModel) (good : IsValid n) (q : Query) (values : List (Option ℕ)) (last : ℕ) (deadline : q.deadline.0 ≤ last) where
   -- what departs later is no exit
   pub none_left : NoneAfter n values last → (run v : ℕ) → LeavesBy n q values last [] run v → ⊥
   none_left none_after run v by =

@@ -4,7 +4,7 @@ use Rattle.std.proofs.lemmas.Bool.{cases_eq}
 use Rattle.std.proofs.Math.Nat.{mul-le-mul_left}
 use Rattle.plan_model.specs.declared.model.Outcome.{Outcome}
 use Rattle.plan_model.specs.declared.model.Query.{Query}
-use Rattle.plan_model.specs.Parts.{Parts}
+use Rattle.plan_model.specs.NetworkModel.{NetworkModel}
 use Rattle.plan_model.specs.Network.{IsValid, count, connection, to_of, dep_of, arr_of, outcomes}
 use Rattle.plan_model.specs.Strategy.{IsLeg, IsBoardable, IsBoardableAtStart}
 use Rattle.plan_model.proofs.Bounds.{forward}
@@ -34,7 +34,7 @@ lesser_sum (o ∷ row) (w ∷ ws) [] each = absurd each
 lesser_mean : (row : List Outcome) (ws vs : List ℕ) → EachAtMost ws vs → weighted row ws / 10000 ≤ weighted row vs / 10000
 lesser_mean row ws vs each = let sum = lesser_sum row ws vs each in omega arith
 
-module _ (n : Parts) (valid : IsValid n) (q : Query) (values others : List (Option ℕ)) (tight : IsTight n q values) (accepted : IsAccepted n q others) where
+module _ (n : NetworkModel) (valid : IsValid n) (q : Query) (values others : List (Option ℕ)) (tight : IsTight n q values) (accepted : IsAccepted n q others) where
   -- where one has a value, the other has one that is at most it
   abbrev LesserBy : ℕ → Type 0
   LesserBy m = (p x v : ℕ) → after n x ≤ m → IsLeastAt n q values p x (Some v) → (w : ℕ) × IsLeastAt n q others p x (Some w) × (w ≤ v)
@@ -108,7 +108,7 @@ module _ (n : Parts) (valid : IsValid n) (q : Query) (values others : List (Opti
         (after_le n (dep_of n c)) away offer.boards offer.there offer.board offer.value search.0 search.1
   ]
 
-pub greatest : (n : Parts) → IsValid n → (q : Query) (values : List (Option ℕ)) → IsTight n q values → (v : ℕ) → IsLeastAtStart n q values (Some v) → IsGreatest n q v
+pub greatest : (n : NetworkModel) → IsValid n → (q : Query) (values : List (Option ℕ)) → IsTight n q values → (v : ℕ) → IsLeastAtStart n q values (Some v) → IsGreatest n q v
 greatest n valid q values tight v least others w accepted other_least =
     let (u, is, less) = lesser_start n valid q values others tight accepted v least in
     let same = IsLeast-unique n q others (IsBoardableAtStart n q.source.0 q.start.0) q.source.0 q.start.0 (Some u) (Some w) is other_least in

@@ -1,7 +1,7 @@
 -- The least of numbers that are found one after the other.
 use Rattle.std.proofs.Common.{◌≡◌, ℕ, ◌+◌, ◌<◌, ◌≤◌, ◌⊎◌, min, List, Option, Some, None, IsTrue, arith, inl, inr, sym, ap, subst, refl}
 use Rattle.std.proofs.lemmas.Bool.{cases_lt}
-use Rattle.plan_model.specs.Parts.{Parts}
+use Rattle.plan_model.specs.NetworkModel.{NetworkModel}
 use Rattle.plan_model.specs.Network.{count, connection}
 use Rattle.lower_proof.specs.Certificates.{value_of, IsLeastOf, Offers, IsAtMost}
 use Rattle.lower_proof.specs.Steps.{lesser, KeepsTo}
@@ -70,10 +70,10 @@ pub least_is : (P : ℕ → Type 0) (r : Option ℕ) (v : ℕ) → IsLeastOf P r
 least_is P r v least is = (subst (IsLeastOf P) is least).0
 
 -- the offers of the first connections
-abbrev pub OffersBelow : Parts → List (Option ℕ) → (ℕ → Type 0) → ℕ → ℕ → Type 0
+abbrev pub OffersBelow : NetworkModel → List (Option ℕ) → (ℕ → Type 0) → ℕ → ℕ → Type 0
 OffersBelow n values Boards m v = (c : ℕ) × (c < m) × Offers n values Boards c v
 
-module _ (n : Parts) (values : List (Option ℕ)) (Boards : ℕ → Type 0) where
+module _ (n : NetworkModel) (values : List (Option ℕ)) (Boards : ℕ → Type 0) where
   pub none_below : IsLeastOf (OffersBelow n values Boards 0) None
   none_below = λ v o. absurd (omega (arith, o.1))
 

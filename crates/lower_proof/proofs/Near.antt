@@ -6,7 +6,7 @@ use Rattle.std.proofs.lemmas.List.Sums.{sum_by-cons}
 use Rattle.std.proofs.Math.Nat.{mul_assoc, mul-add}
 use Rattle.plan_model.specs.declared.model.Outcome.{Outcome}
 use Rattle.plan_model.specs.declared.model.Query.{Query}
-use Rattle.plan_model.specs.Parts.{Parts}
+use Rattle.plan_model.specs.NetworkModel.{NetworkModel}
 use Rattle.plan_model.specs.Network.{IsValid, count, connection, to_of, dep_of, arr_of, outcomes}
 use Rattle.plan_model.specs.Tree.{Tree, Kids, Done, Ride, Nil, Kid}
 use Rattle.plan_model.specs.Rows.{EachKid, IsValidRow}
@@ -47,7 +47,7 @@ raised_mean row values k good same =
     let sum = rw good.total at (raised_sum row values k same) in
     omega (arith, sum)
 
-module _ (n : Parts) (valid : IsValid n) (q : Query) (values : List (Option ℕ)) (tight : IsTight n q values) where
+module _ (n : NetworkModel) (valid : IsValid n) (q : Query) (values : List (Option ℕ)) (tight : IsTight n q values) where
   as_many : (p arrival : ℕ) (row : List Outcome) (vs : List ℕ) → AreLeast n q values p arrival row vs → length row ≡ length vs
   as_many p arrival [] [] all = refl
   as_many p arrival [] (v ∷ vs) all = absurd all

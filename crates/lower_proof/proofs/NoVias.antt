@@ -4,13 +4,13 @@ use Rattle.std.proofs.lemmas.Bool.{cases_eq}
 use Rattle.std.proofs.lemmas.Bool.Decides.{nat_tests}
 use Rattle.plan_model.specs.declared.model.Outcome.{Outcome}
 use Rattle.plan_model.specs.declared.model.Query.{Query}
-use Rattle.plan_model.specs.Parts.{Parts}
+use Rattle.plan_model.specs.NetworkModel.{NetworkModel}
 use Rattle.plan_model.specs.Network.{IsValid, count, connection, to_of, arr_of, outcomes}
 use Rattle.plan_model.proofs.Boarding.{boards_later}
 use Rattle.lower_proof.specs.Certificates.{arrived_by, IsLeastAt, AreLeast, IsVia}
 use Rattle.lower_proof.specs.Departures.{NoneAfter}
 
-module _ (n : Parts) (good : IsValid n) (q : Query) (values : List (Option ℕ)) (last : ℕ) (deadline : q.deadline.0 ≤ last) (none_after : NoneAfter n values last) where
+module _ (n : NetworkModel) (good : IsValid n) (q : Query) (values : List (Option ℕ)) (last : ℕ) (deadline : q.deadline.0 ≤ last) (none_after : NoneAfter n values last) where
   -- nor is there a least value after such an arrival
   no_least : (p x v : ℕ) → last < x → IsLeastAt n q values p x (Some v) → ⊥
   no_least p x v late least = elim (cases_eq p q.target.0) [

@@ -3,7 +3,7 @@ use Rattle.std.proofs.Common.{◌≡◌, ◌≢◌, ℕ, ◌+◌, ◌<◌, ◌�
 use Rattle.std.proofs.lemmas.Bool.{cases_eq, cases_lt}
 use Rattle.std.proofs.lemmas.List.{length-set}
 use Rattle.plan_model.specs.declared.model.Query.{Query}
-use Rattle.plan_model.specs.Parts.{Parts}
+use Rattle.plan_model.specs.NetworkModel.{NetworkModel}
 use Rattle.plan_model.specs.Network.{count, dep_of, IsValid}
 use Rattle.plan_model.specs.Strategy.{IsBoardable}
 use Rattle.lower_proof.specs.declared.board.Entry.{Entry}
@@ -16,7 +16,7 @@ use Rattle.plan_model.proofs.Boarding.{boards_later}
 use Rattle.lower_proof.proofs.Writes.{Agree}
 
 -- the least value in time is the least value after the arrival
-pub board_least : (n : Parts) (last : ℕ) (q : Query) (values : List (Option ℕ)) (p x : ℕ) (entries : List Entry) → NoneAfter n values last → AreEntries n last p (count n) entries
+pub board_least : (n : NetworkModel) (last : ℕ) (q : Query) (values : List (Option ℕ)) (p x : ℕ) (entries : List Entry) → NoneAfter n values last → AreEntries n last p (count n) entries
     → p ≢ q.target.0 → (least : Option ℕ) → IsLeastOf (ValueInTime values entries x) least → IsLeastAt n q values p x least
 board_least n last q values p x entries none_after are away least is = record {
   at_target = λ there. absurd (away there);
@@ -37,7 +37,7 @@ board_least n last q values p x entries none_after are away least is = record {
     ]
 
 -- a board that was looked at
-pub boards_looked : (n : Parts) (last : ℕ) (values : List (Option ℕ)) (boards : List Shown) (p : ℕ) (board : Shown) → p < length boards
+pub boards_looked : (n : NetworkModel) (last : ℕ) (values : List (Option ℕ)) (boards : List Shown) (p : ℕ) (board : Shown) → p < length boards
     → AreBoards n last values boards → board.entries ≡ (board_at boards p).entries → IsBoard values board → AreBoards n last values (set boards p board)
 boards_looked n last values boards p board within are same right = record {
   none_after = are.none_after;
@@ -64,7 +64,7 @@ late_looked boards p board moment within late all r inside = elim (cases_eq r p)
       rw at (all r (omega (arith, length-set boards p board)))
 ]
 
-module _ (n : Parts) (valid : IsValid n) (last moment : ℕ) (values others : List (Option ℕ)) (agree : Agree n moment values others) (as_many : length others ≡ length values) where
+module _ (n : NetworkModel) (valid : IsValid n) (last moment : ℕ) (values others : List (Option ℕ)) (agree : Agree n moment values others) (as_many : length others ≡ length values) where
   -- what is known stays right where only values of earlier departures change
   board_agrees : (p : ℕ) (board : Shown) → AreLate moment board.entries (length board.least) → IsBoardOf n last p values board → IsBoardOf n last p others board
   board_agrees p board late of = record {

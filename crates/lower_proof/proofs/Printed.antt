@@ -4,20 +4,20 @@ use Rattle.std.specs.Prelude.{slice_index_or, IfOk}
 use Rattle.std.proofs.lemmas.Bool.{cases_eq}
 use Rattle.std.proofs.lemmas.List.{append-nil, drop_all}
 use Rattle.plan_model.specs.declared.model.Query.{Query}
-use Rattle.plan_model.specs.Parts.{Parts}
+use Rattle.plan_model.specs.NetworkModel.{NetworkModel}
 use Rattle.plan_model.specs.NameLists.{NameLists}
 use Rattle.printed_rows.specs.Writers.{row_of_fields, text_of_records}
 use Rattle.printed_rows.proofs.Lines.{text_step, split_at}
 use Rattle.lower_proof.specs.Steps.{AllFit}
 use Rattle.lower_proof.specs.Texts.{bounds_record, entry_text, value_records, proof_text}
 
-one_more : (n : Parts) (names : NameLists) (c : ℕ) (x : Option ℕ) (values : List (Option ℕ))
+one_more : (n : NetworkModel) (names : NameLists) (c : ℕ) (x : Option ℕ) (values : List (Option ℕ))
     → entry_text n names c x ++ text_of_records (value_records n names (c + 1) values) ≡ text_of_records (value_records n names c (x ∷ values))
 one_more n names c None values = refl
 one_more n names c (Some v) values = refl
 
 -- after one entry more
-pub values_step : (n : Parts) (names : NameLists) (values : List (Option ℕ)) (i : ℕ) (new old all : List ℕ) → i < length values
+pub values_step : (n : NetworkModel) (names : NameLists) (values : List (Option ℕ)) (i : ℕ) (new old all : List ℕ) → i < length values
     → new ≡ old ++ entry_text n names i (slice_index_or values i None) → old ++ text_of_records (value_records n names i (drop i values)) ≡ all
     → new ++ text_of_records (value_records n names (i + 1) (drop (i + 1) values)) ≡ all
 values_step n names values i new old all within is before =
@@ -27,7 +27,7 @@ values_step n names values i new old all within is before =
     ∙ before)
 
 -- after the last one
-pub values_done : (n : Parts) (names : NameLists) (values : List (Option ℕ)) (i : ℕ) (new all : List ℕ) → length values ≤ i
+pub values_done : (n : NetworkModel) (names : NameLists) (values : List (Option ℕ)) (i : ℕ) (new all : List ℕ) → length values ≤ i
     → new ++ text_of_records (value_records n names i (drop i values)) ≡ all → new ≡ all
 values_done n names values i new all whole is =
     sym (append-nil new) ∙ ap (λ (list : List (Option ℕ)). new ++ text_of_records (value_records n names i list)) (sym (drop_all i values whole)) ∙ is
@@ -40,7 +40,7 @@ fit_more values i before here = λ c v less is. elim (cases_eq c i) [
 ]
 
 -- the first row and the rows of values are the text
-pub text_is : (n : Parts) (names : NameLists) (q : Query) (values printed : List (Option ℕ)) (empty first all : List ℕ) → printed ≡ values → empty ≡ []
+pub text_is : (n : NetworkModel) (names : NameLists) (q : Query) (values printed : List (Option ℕ)) (empty first all : List ℕ) → printed ≡ values → empty ≡ []
     → first ≡ empty ++ row_of_fields (bounds_record names q printed) → all ≡ first ++ text_of_records (value_records n names 0 printed) → all ≡ proof_text n names q values
 text_is n names q values printed empty first all same none one two =
     two

@@ -18,7 +18,7 @@ use Rattle.csv_rows.specs.Tables.{table_of, row_count, header}
 use Rattle.plan_model.specs.declared.model.Query.{Query}
 use Rattle.plan_model.specs.declared.model.PlaceId.{PlaceId}
 use Rattle.plan_model.specs.declared.model.Moment.{Moment}
-use Rattle.plan_model.specs.Parts.{Parts}
+use Rattle.plan_model.specs.NetworkModel.{NetworkModel}
 use Rattle.plan_model.specs.NameLists.{NameLists, NamesFit, AreNames}
 use Rattle.plan_model.specs.Network.{IsValid, count, run_of, step_of}
 use Rattle.printed_rows.specs.Fields.{number_of, whole_at, connection_of, rises}
@@ -58,7 +58,7 @@ count_more : (x : Option ℕ) (values : List (Option ℕ)) → count_by is_some 
 count_more x values = sum_by-cons (λ (y : Option ℕ). cond (is_some y) 1 0) x values
 
 -- as many rows as values that are there
-rows_many : (n : Parts) (names : NameLists) (c : ℕ) (values : List (Option ℕ)) → length (value_records n names c values) ≡ count_by is_some values
+rows_many : (n : NetworkModel) (names : NameLists) (c : ℕ) (values : List (Option ℕ)) → length (value_records n names c values) ≡ count_by is_some values
 rows_many n names c [] = refl
 rows_many n names c (None ∷ values) = omega (arith, count_more None values, rows_many n names (c + 1) values)
 rows_many n names c (Some v ∷ values) = omega (arith, count_more (Some v) values, rows_many n names (c + 1) values)
@@ -69,13 +69,13 @@ present (x ∷ values) zero v is = omega arith
 present (x ∷ values) (suc c) v is = omega (arith, present values c v is)
 
 -- row k is of a connection at an offset, and of its value
-record IsRowOf (n : Parts) (names : NameLists) (c : ℕ) (values : List (Option ℕ)) (k offset v : ℕ) : Type 0 where
+record IsRowOf (n : NetworkModel) (names : NameLists) (c : ℕ) (values : List (Option ℕ)) (k offset v : ℕ) : Type 0 where
   inside : offset < length values
   value : value_of values offset ≡ Some v
   row : slice_index_or (value_records n names c values) k [] ≡ value_record n names (c + offset) v
 
 -- row i of a table is of a connection and its value
-record TellsOf (n : Parts) (names : NameLists) (t : List (List (List ℕ))) (values : List (Option ℕ)) (i c v : ℕ) : Type 0 where
+record TellsOf (n : NetworkModel) (names : NameLists) (t : List (List (List ℕ))) (values : List (Option ℕ)) (i c v : ℕ) : Type 0 where
   there : c < count n
   value : value_of values c ≡ Some v
   row : value_row t i ≡ value_record n names c v
@@ -87,7 +87,7 @@ offset_at (None ∷ values) k = suc (offset_at values k)
 offset_at (Some v ∷ values) zero = 0
 offset_at (Some v ∷ values) (suc k) = suc (offset_at values k)
 
-module _ (n : Parts) (names : NameLists) where
+module _ (n : NetworkModel) (names : NameLists) where
   shifted : (c offset v : ℕ) → value_record n names (c + 1 + offset) v ≡ value_record n names (c + suc offset) v
   shifted c offset v = let e : c + 1 + offset ≡ c + suc offset = omega arith in ap (λ (d : ℕ). value_record n names d v) e
 
@@ -123,7 +123,7 @@ module _ (n : Parts) (names : NameLists) where
   row_of_value c (Some w ∷ values) (suc offset) v is =
       let own = row_of_value (c + 1) values offset v is in (suc own.0, omega (arith, own.1), own.2 ∙ shifted c offset v)
 
-module _ (n : Parts) (names : NameLists) (valid : IsValid n) (fit : NamesFit names n) (own : AreNames names) where
+module _ (n : NetworkModel) (names : NameLists) (valid : IsValid n) (fit : NamesFit names n) (own : AreNames names) where
   place_named : (place : ℕ) → place < length n.change → number_of names.places (place_name names place) ≡ Some place
   place_named place there = name_back names.places place own.places own.place_texts (omega (arith, there, fit.places))
 

@@ -7,7 +7,7 @@ use Rattle.std.proofs.Math.Nat.{le-max_left}
 use Rattle.std.proofs.lemmas.Bool.{cases_lt, lt-ltb, ltb-true, le-ltb}
 use Rattle.std.proofs.lemmas.List.{length-set, get_or_past}
 use Rattle.csv_rows.specs.Tables.{row_count}
-use Rattle.plan_model.specs.Parts.{Parts}
+use Rattle.plan_model.specs.NetworkModel.{NetworkModel}
 use Rattle.plan_model.specs.NameLists.{NameLists}
 use Rattle.plan_model.specs.Network.{count}
 use Rattle.printed_rows.specs.Fields.{field, number_of, connection_of, rises}
@@ -20,7 +20,7 @@ use Rattle.lower_proof.specs.Reading.{value_row_in, connection_by, connection_in
 
 -- ---- a row that tells
 
-record Tells (n : Parts) (row : Option ValueRow) (run before : Option ℕ) (told : Told) : Type 0 where
+record Tells (n : NetworkModel) (row : Option ValueRow) (run before : Option ℕ) (told : Told) : Type 0 where
   connection : connection_by n row run ≡ Some told.id.0
   value : option_map (λ (x : ValueRow). x.value) row ≡ Some told.value
   rise : rises before told.id.0 ≡ true
@@ -32,14 +32,14 @@ risen : (line c v : ℕ) (test : Bool) (told : Told) → ◌≡◌ {A = Result T
 risen line c v true told is = (refl, (cc))
 risen line c v false told is = absurd (cc)
 
-told_found : (n : Parts) (line : ℕ) (before : Option ℕ) (v : ℕ) (found : Option ℕ) (told : Told) → told_after line before v found ≡ Ok told
+told_found : (n : NetworkModel) (line : ℕ) (before : Option ℕ) (v : ℕ) (found : Option ℕ) (told : Told) → told_after line before v found ≡ Ok told
     → (found ≡ Some told.id.0) × (v ≡ told.value) × (rises before told.id.0 ≡ true)
 told_found n line before v None told is = absurd (cc)
 told_found n line before v (Some c) told is =
     let own = risen line c v (rises before c) told is in
     (ap (λ (t : Told). Some t.id.0) own.1, ap (λ (t : Told). t.value) own.1, subst (λ (t : Told). rises before t.id.0 ≡ true) own.1 own.0)
 
-tells : (n : Parts) (line : ℕ) (before : Option ℕ) (row : Option ValueRow) (run : Option ℕ) (told : Told) → told_by n line before row run ≡ Ok told → Tells n row run before told
+tells : (n : NetworkModel) (line : ℕ) (before : Option ℕ) (row : Option ValueRow) (run : Option ℕ) (told : Told) → told_by n line before row run ≡ Ok told → Tells n row run before told
 tells n line before None run told is = absurd (cc)
 tells n line before (Some x) None told is = absurd (cc)
 tells n line before (Some x) (Some run) told is =
@@ -52,7 +52,7 @@ above (Some k) l c is rise = let same : k ≡ l = cc in subst (λ (m : ℕ). m <
 
 -- ---- the rows below i
 
-pub record IsReadTo (n : Parts) (names : NameLists) (t : List (List (List ℕ))) (stated i : ℕ) (values : List (Option ℕ)) (last : Option ℕ) : Type 0 where
+pub record IsReadTo (n : NetworkModel) (names : NameLists) (t : List (List (List ℕ))) (stated i : ℕ) (values : List (Option ℕ)) (last : Option ℕ) : Type 0 where
   pub rows : i ≤ row_count t
   pub stated_rows : i ≤ stated
   pub faultless : (k : ℕ) → k < i → value_fault n names t stated k ≡ None
@@ -62,7 +62,7 @@ pub record IsReadTo (n : Parts) (names : NameLists) (t : List (List (List ℕ)))
   pub told : (k c : ℕ) → k < i → connection_in n names (value_row t k) ≡ Some c → value_of values c ≡ value_in (value_row t k)
   pub others : (c : ℕ) → ((k : ℕ) → k < i → connection_in n names (value_row t k) ≢ Some c) → value_of values c ≡ None
 
-pub read_first : (n : Parts) (names : NameLists) (t : List (List (List ℕ))) (stated : ℕ) (values : List (Option ℕ)) → length values ≡ count n → ((c : ℕ) → value_of values c ≡ None)
+pub read_first : (n : NetworkModel) (names : NameLists) (t : List (List (List ℕ))) (stated : ℕ) (values : List (Option ℕ)) → length values ≡ count n → ((c : ℕ) → value_of values c ≡ None)
     → IsReadTo n names t stated 0 values None
 read_first n names t stated values as_many none = record {
   rows = omega arith;
@@ -76,14 +76,14 @@ read_first n names t stated values as_many none = record {
 }
 
 -- the fault of row i, by what it tells after the row before
-fault_is : (n : Parts) (names : NameLists) (t : List (List (List ℕ))) (stated i : ℕ) (last : Option ℕ) (told : Result Told ProofFault) → i < stated → last ≡ connection_before n names t i
+fault_is : (n : NetworkModel) (names : NameLists) (t : List (List (List ℕ))) (stated i : ℕ) (last : Option ℕ) (told : Result Told ProofFault) → i < stated → last ≡ connection_before n names t i
     → told ≡ told_in n names (i + 2) last (value_row t i) → value_fault n names t stated i ≡ fault_of told
 fault_is n names t stated i last told inside before is =
     ap (λ (b : Bool). if b then fault_of (told_in n names (i + 2) (connection_before n names t i) (value_row t i)) else Some (Row (i + 2))) (lt-ltb i stated inside)
     ∙ ap (λ (x : Option ℕ). fault_of (told_in n names (i + 2) x (value_row t i))) (sym before)
     ∙ ap fault_of (sym is)
 
-module _ (n : Parts) (names : NameLists) (t : List (List (List ℕ))) (stated i : ℕ) (values : List (Option ℕ)) (last : Option ℕ) (so_far : IsReadTo n names t stated i values last) where
+module _ (n : NetworkModel) (names : NameLists) (t : List (List (List ℕ))) (stated i : ℕ) (values : List (Option ℕ)) (last : Option ℕ) (so_far : IsReadTo n names t stated i values last) where
   below_or_here : (k : ℕ) → k < i + 1 → (k < i) ⊎ (k ≡ i)
   below_or_here k less = elim (cases_lt k i) [ inl own ↦ inl own | inr le ↦ inr (omega (arith, le, less)) ]
 

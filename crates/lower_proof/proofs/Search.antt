@@ -3,7 +3,7 @@ use Rattle.std.proofs.Common.{◌≡◌, ℕ, zero, suc, ◌+◌, ◌≤◌, Boo
 use Rattle.std.specs.Bool.{Decides}
 use Rattle.std.proofs.lemmas.Bool.{cases_Bool, both_ways, and_parts, and_from}
 use Rattle.std.proofs.lemmas.Bool.Decides.{nat_tests}
-use Rattle.plan_model.specs.Parts.{Parts}
+use Rattle.plan_model.specs.NetworkModel.{NetworkModel}
 use Rattle.plan_model.specs.Network.{count, connection, from_of, dep_of}
 use Rattle.plan_model.specs.Ways.{way_of}
 use Rattle.plan_model.specs.Strategy.{IsBoardable, IsBoardableAtStart}
@@ -11,7 +11,7 @@ use Rattle.lower_proof.specs.Certificates.{value_of, IsLeastOf, Offers}
 use Rattle.lower_proof.specs.Steps.{lesser}
 use Rattle.lower_proof.proofs.Leasts.{OffersBelow, none_below, with_offer, without_offer, all_offers}
 
-module _ (n : Parts) (values : List (Option ℕ)) (Boards : ℕ → Type 0) (test : ℕ → Bool) (decides : (c : ℕ) → Decides (test c) (Boards c)) where
+module _ (n : NetworkModel) (values : List (Option ℕ)) (Boards : ℕ → Type 0) (test : ℕ → Bool) (decides : (c : ℕ) → Decides (test c) (Boards c)) where
   -- a least value of the first m connections
   abbrev Found : ℕ → Type 0
   Found m = (r : Option ℕ) × IsLeastOf (OffersBelow n values Boards m) r
@@ -41,7 +41,7 @@ abbrev by_way : ℕ → ℕ → Option ℕ → Bool
 by_way x dep None = false
 by_way x dep (Some seconds) = nat_le (x + seconds) dep
 
-boards_by_way : (n : Parts) (p x c : ℕ) (way : Option ℕ) → way_of n p (from_of n c) ≡ way → Decides (by_way x (dep_of n c) way) (IsBoardable n p x c)
+boards_by_way : (n : NetworkModel) (p x c : ℕ) (way : Option ℕ) → way_of n p (from_of n c) ≡ way → Decides (by_way x (dep_of n c) way) (IsBoardable n p x c)
 boards_by_way n p x c None is = (λ e. absurd (cc), λ b. let both = sym is ∙ b.way in absurd (cc))
 boards_by_way n p x c (Some seconds) is = (
   λ e. record { seconds = seconds; way = is; in_time = (grind (arith, nat_tests)) },
@@ -49,10 +49,10 @@ boards_by_way n p x c (Some seconds) is = (
 )
 
 -- the least of the connections that one can board after an arrival
-pub least_boardable : (n : Parts) (values : List (Option ℕ)) (p x : ℕ) → (r : Option ℕ) × IsLeastOf (λ v. (c : ℕ) × Offers n values (IsBoardable n p x) c v) r
+pub least_boardable : (n : NetworkModel) (values : List (Option ℕ)) (p x : ℕ) → (r : Option ℕ) × IsLeastOf (λ v. (c : ℕ) × Offers n values (IsBoardable n p x) c v) r
 least_boardable n values p x = least_offer n values (IsBoardable n p x) (λ c. by_way x (dep_of n c) (way_of n p (from_of n c))) (λ c. boards_by_way n p x c (way_of n p (from_of n c)) refl)
 
-starts_by : (n : Parts) (source start c : ℕ) → Decides (eqb (from_of n c) source && nat_le start (dep_of n c)) (IsBoardableAtStart n source start c)
+starts_by : (n : NetworkModel) (source start c : ℕ) → Decides (eqb (from_of n c) source && nat_le start (dep_of n c)) (IsBoardableAtStart n source start c)
 starts_by n source start c = (
   λ e. let tests = and_parts (eqb (from_of n c) source) (nat_le start (dep_of n c)) e in
       (grind (arith, nat_tests), grind (arith, nat_tests)),
@@ -61,5 +61,5 @@ starts_by n source start c = (
 )
 
 -- the least of those that one can board at the start
-pub least_at_start : (n : Parts) (values : List (Option ℕ)) (source start : ℕ) → (r : Option ℕ) × IsLeastOf (λ v. (c : ℕ) × Offers n values (IsBoardableAtStart n source start) c v) r
+pub least_at_start : (n : NetworkModel) (values : List (Option ℕ)) (source start : ℕ) → (r : Option ℕ) × IsLeastOf (λ v. (c : ℕ) × Offers n values (IsBoardableAtStart n source start) c v) r
 least_at_start n values source start = least_offer n values (IsBoardableAtStart n source start) (λ c. eqb (from_of n c) source && nat_le start (dep_of n c)) (starts_by n source start)

@@ -4,7 +4,7 @@ use Rattle.std.proofs.lemmas.Bool.Decides.{nat_tests}
 use Rattle.std.proofs.Math.Nat.{mul_assoc}
 use Rattle.plan_model.specs.declared.model.Outcome.{Outcome}
 use Rattle.plan_model.specs.declared.model.Query.{Query}
-use Rattle.plan_model.specs.Parts.{Parts}
+use Rattle.plan_model.specs.NetworkModel.{NetworkModel}
 use Rattle.plan_model.specs.Network.{to_of, arr_of, outcomes}
 use Rattle.plan_model.specs.Tree.{Tree, Kids, Done, Ride, Stuck, Nil, Kid}
 use Rattle.plan_model.specs.Rows.{EachKid}
@@ -26,7 +26,7 @@ at_most (Some w) v h = (w, refl, h)
 pub arrived_in_time : (deadline x : ℕ) → x ≤ deadline → arrived_by deadline x ≡ Some (1000000000 * x)
 arrived_in_time deadline x in_time = grind (arith, nat_tests)
 
-module _ (n : Parts) (q : Query) (values : List (Option ℕ)) where
+module _ (n : NetworkModel) (q : Query) (values : List (Option ℕ)) where
   -- who is at the target has arrived
   pub target_least : (Boards : ℕ → Type 0) (p x : ℕ) → p ≡ q.target.0 → x ≤ q.deadline.0 → IsLeast n q values Boards p x (Some (1000000000 * x))
   target_least Boards p x there in_time = record {

@@ -8,14 +8,15 @@ use Rattle.std.proofs.Math.Nat.{mul-le-mul_left, mul-add, mul_comm}
 use Rattle.std.specs.List.{sum_by}
 use Rattle.plan_model.specs.declared.model.Outcome.{Outcome}
 use Rattle.plan_model.specs.declared.model.Query.{Query}
-use Rattle.plan_model.specs.Parts.{Parts}
+use Rattle.plan_model.specs.NetworkModel.{NetworkModel}
 use Rattle.plan_model.specs.Network.{connection, to_of, arr_of, outcomes}
 use Rattle.interval_fixed.specs.Means.{weighted}
 use Rattle.lower_proof.specs.Certificates.{IsLeastOf, Offers, IsLeast, IsLeastAt, AreLeast, IsVia}
 use Rattle.lower_proof.proofs.Leasts.{IsLeastOf-unique}
 
 -- there is only one least value
-pub IsLeast-unique : (n : Parts) (q : Query) (values : List (Option ℕ)) (Boards : ℕ → Type 0) (p x : ℕ) (r s : Option ℕ) → IsLeast n q values Boards p x r → IsLeast n q values Boards p x s → r ≡ s
+pub IsLeast-unique : (n : NetworkModel) (q : Query) (values : List (Option ℕ)) (Boards : ℕ → Type 0) (p x : ℕ) (r s : Option ℕ) → IsLeast n q values Boards p x r
+    → IsLeast n q values Boards p x s → r ≡ s
 IsLeast-unique n q values Boards p x r s h k = elim (cases_eq p q.target.0) [
   | inl there ↦ h.at_target there ∙ sym (k.at_target there)
   | inr away ↦ IsLeastOf-unique (λ v. (c : ℕ) × Offers n values Boards c v) r s (h.elsewhere away) (k.elsewhere away)
@@ -41,7 +42,7 @@ room_next items k sum v within small room =
     (drop-cons items k (record { delay = 0; weight = 0 }) within) ∙ sum_by-cons (λ (o : Outcome). o.weight) (outcome_at items k) (drop (suc k) items) in
     rw e (room_step (outcome_at items k).weight v sum rest 18446744073709551615 small (rw split at room))
 
-module _ (n : Parts) (q : Query) (values : List (Option ℕ)) (p arrival : ℕ) where
+module _ (n : NetworkModel) (q : Query) (values : List (Option ℕ)) (p arrival : ℕ) where
   same_value : (x v w : ℕ) → IsLeastAt n q values p x (Some v) → IsLeastAt n q values p x (Some w) → v ≡ w
   same_value x v w h k = let both = IsLeast-unique n q values _ p x (Some v) (Some w) h k in (cc)
 
@@ -100,7 +101,7 @@ module _ (n : Parts) (q : Query) (values : List (Option ℕ)) (p arrival : ℕ) 
       absurd (cc)
   never_least (e ∷ row) (v ∷ vs) (suc k) within none all = never_least row vs k (omega arith) none all.1
 
-module _ (n : Parts) (q : Query) (values : List (Option ℕ)) (j : ℕ) where
+module _ (n : NetworkModel) (q : Query) (values : List (Option ℕ)) (j : ℕ) where
   IsVia-unique : (v w : ℕ) → IsVia n q values j v → IsVia n q values j w → v ≡ w
   IsVia-unique v w h k =
       let same = AreLeast-unique n q values (to_of n j) (arr_of n j) (outcomes n j) h.least k.least h.are_least k.are_least in

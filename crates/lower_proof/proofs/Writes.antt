@@ -6,7 +6,7 @@ use Rattle.std.proofs.lemmas.List.{append-nil, length-set}
 use Rattle.plan_model.specs.declared.model.ConnectionId.{ConnectionId}
 use Rattle.plan_model.specs.declared.model.Outcome.{Outcome}
 use Rattle.plan_model.specs.declared.model.Query.{Query}
-use Rattle.plan_model.specs.Parts.{Parts}
+use Rattle.plan_model.specs.NetworkModel.{NetworkModel}
 use Rattle.plan_model.specs.Network.{count, connection, to_of, dep_of, arr_of, run_of, outcomes, IsValid}
 use Rattle.plan_model.specs.Strategy.{IsLeg, IsBoardable}
 use Rattle.plan_model.proofs.Bounds.{forward}
@@ -20,10 +20,10 @@ use Rattle.lower_proof.proofs.Departing.{Late}
 use Rattle.lower_proof.proofs.Exits.{LeavesBy, AreExits, Rides, own_run, exits_next, least_ride, none_left, none_rides}
 
 -- both have the same value for each connection that departs later
-abbrev pub Agree : Parts → ℕ → List (Option ℕ) → List (Option ℕ) → Type 0
+abbrev pub Agree : NetworkModel → ℕ → List (Option ℕ) → List (Option ℕ) → Type 0
 Agree n moment values others = (c : ℕ) → c < count n → moment < dep_of n c → value_of values c ≡ value_of others c
 
-module _ (n : Parts) (good : IsValid n) (q : Query) (moment : ℕ) where
+module _ (n : NetworkModel) (good : IsValid n) (q : Query) (moment : ℕ) where
   offers_agree : (values others : List (Option ℕ)) → Agree n moment values others → (p x : ℕ) → moment ≤ x → (c v : ℕ)
       → Offers n values (IsBoardable n p x) c v → Offers n others (IsBoardable n p x) c v
   offers_agree values others agree p x later c v offer = record {
@@ -54,7 +54,7 @@ module _ (n : Parts) (good : IsValid n) (q : Query) (moment : ℕ) where
     via_agrees : (j v : ℕ) → moment ≤ arr_of n j → IsVia n q values j v → IsVia n q others j v
     via_agrees j v later via = record { leave = via.leave; least = via.least; are_least = all_agree (to_of n j) (arr_of n j) later (outcomes n j) via.least via.are_least; mean = via.mean }
 
-module _ (n : Parts) (good : IsValid n) (q : Query) (values others : List (Option ℕ)) (last : ℕ) (taken : List ConnectionId) (id : ConnectionId)
+module _ (n : NetworkModel) (good : IsValid n) (q : Query) (values others : List (Option ℕ)) (last : ℕ) (taken : List ConnectionId) (id : ConnectionId)
     (next : IsNext n (Known (Late n last) taken) id.0) (agree : Agree n (dep_of n id.0) values others) where
   back_again : Agree n (dep_of n id.0) others values
   back_again c there later = sym (agree c there later)
@@ -100,7 +100,7 @@ module _ (n : Parts) (good : IsValid n) (q : Query) (values others : List (Optio
 abbrev pub given : Bool → Option ℕ → Option ℕ
 given board best = cond board best None
 
-pub record WriteState (n : Parts) (q : Query) (last : ℕ) (order rest : List ConnectionId) (exits values : List (Option ℕ)) : Type 0 where
+pub record WriteState (n : NetworkModel) (q : Query) (last : ℕ) (order rest : List ConnectionId) (exits values : List (Option ℕ)) : Type 0 where
   pub taken : List ConnectionId
   pub split : rest ++ taken ≡ order
   pub as_many : length values ≡ count n
@@ -109,7 +109,7 @@ pub record WriteState (n : Parts) (q : Query) (last : ℕ) (order rest : List Co
   pub none_after : NoneAfter n values last
   pub others : (c : ℕ) → c < count n → Known (Late n last) taken c → (IsTrue (connection n c).can_board → ⊥) → value_of values c ≡ None
 
-module _ (n : Parts) (good : IsValid n) (q : Query) (last : ℕ) (order : List ConnectionId) (whole : IsOrderBut n (Late n last) order) where
+module _ (n : NetworkModel) (good : IsValid n) (q : Query) (last : ℕ) (order : List ConnectionId) (whole : IsOrderBut n (Late n last) order) where
   pub write_first : q.deadline.0 ≤ last → (exits values : List (Option ℕ)) → length values ≡ count n → NoneAfter n values last → ((run : ℕ) → exit_of exits run ≡ None)
       → WriteState n q last order order exits values
   write_first deadline exits values as_many none_after empty = record {

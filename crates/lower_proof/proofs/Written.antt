@@ -3,7 +3,7 @@ use Rattle.std.proofs.Common.{◌≡◌, ℕ, ◌<◌, ◌≤◌, List, ◌∷�
 use Rattle.std.proofs.lemmas.List.{length-set}
 use Rattle.plan_model.specs.declared.model.ConnectionId.{ConnectionId}
 use Rattle.plan_model.specs.declared.model.Query.{Query}
-use Rattle.plan_model.specs.Parts.{Parts}
+use Rattle.plan_model.specs.NetworkModel.{NetworkModel}
 use Rattle.plan_model.specs.Network.{count, connection, dep_of, arr_of, run_of, IsValid}
 use Rattle.lower_proof.specs.Certificates.{IsLeastOf, IsVia}
 use Rattle.lower_proof.specs.Steps.{lesser, exit_of}
@@ -14,13 +14,13 @@ use Rattle.lower_proof.proofs.Departing.{Late}
 use Rattle.lower_proof.proofs.PlaceBoards.{boards_agree}
 use Rattle.lower_proof.proofs.Writes.{WriteState, given, write_first, write_next, none_after_now, agree}
 
-pub record Written (n : Parts) (q : Query) (last : ℕ) (order rest : List ConnectionId) (exits values : List (Option ℕ)) (boards : List Shown) : Type 0 where
+pub record Written (n : NetworkModel) (q : Query) (last : ℕ) (order rest : List ConnectionId) (exits values : List (Option ℕ)) (boards : List Shown) : Type 0 where
   pub state : WriteState n q last order rest exits values
   pub right : AreBoards n last values boards
   -- what is known is not before the departure of each connection that was scanned
   pub late : (m : ℕ) → ((c : ℕ) → c < count n → Known (Late n last) state.taken c → m ≤ dep_of n c) → AllLate m boards
 
-module _ (n : Parts) (good : IsValid n) (q : Query) (last : ℕ) (order : List ConnectionId) (whole : IsOrderBut n (Late n last) order) where
+module _ (n : NetworkModel) (good : IsValid n) (q : Query) (last : ℕ) (order : List ConnectionId) (whole : IsOrderBut n (Late n last) order) where
   pub written_first : q.deadline.0 ≤ last → (exits values : List (Option ℕ)) (boards : List Shown) → length values ≡ count n → ((run : ℕ) → exit_of exits run ≡ None)
       → AreBoards n last values boards → ((m : ℕ) → AllLate m boards) → Written n q last order order exits values boards
   written_first deadline exits values boards as_many empty right late = record {

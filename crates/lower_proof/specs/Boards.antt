@@ -1,6 +1,6 @@
 -- The connections that can be boarded from each place.
 use Rattle.std.specs.Prelude.{◌≡◌, ℕ, ◌<◌, ◌≤◌, List, Option, Some, None, IsTrue, AllPairs, length, slice_index_or}
-use Rattle.plan_model.specs.Parts.{Parts}
+use Rattle.plan_model.specs.NetworkModel.{NetworkModel}
 use Rattle.plan_model.specs.Network.{count, connection, dep_of}
 use Rattle.plan_model.specs.Strategy.{IsBoardable}
 use Rattle.lower_proof.specs.declared.board.Entry.{Entry}
@@ -11,16 +11,16 @@ abbrev pub entry_at : List Entry → ℕ → Entry
 entry_at entries k = slice_index_or entries k (record { by = record { 0 = 0 }; id = record { 0 = 0 } })
 
 -- it can be boarded by whoever arrives at the place by its moment
-pub record IsEntry (n : Parts) (p : ℕ) (e : Entry) : Type 0 where
-  pub there : e.id.0 < count n
-  pub board : IsTrue (connection n e.id.0).can_board
-  pub early : (x : ℕ) → x ≤ e.by.0 → IsBoardable n p x e.id.0
-  pub late : (x : ℕ) → IsBoardable n p x e.id.0 → x ≤ e.by.0
+pub record IsEntry (network : NetworkModel) (p : ℕ) (e : Entry) : Type 0 where
+  pub there : e.id.0 < count network
+  pub board : IsTrue (connection network e.id.0).can_board
+  pub early : (x : ℕ) → x ≤ e.by.0 → IsBoardable network p x e.id.0
+  pub late : (x : ℕ) → IsBoardable network p x e.id.0 → x ≤ e.by.0
 
 -- these are the connections that can be boarded from a place, of the first m; those that depart after a moment may be left out
-pub record AreEntries (n : Parts) (last p m : ℕ) (entries : List Entry) : Type 0 where
-  pub each : (k : ℕ) → k < length entries → IsEntry n p (entry_at entries k)
-  pub all : (c x : ℕ) → c < m → dep_of n c ≤ last → IsTrue (connection n c).can_board → IsBoardable n p x c → (k : ℕ) × (k < length entries) × ((entry_at entries k).id.0 ≡ c)
+pub record AreEntries (network : NetworkModel) (last p m : ℕ) (entries : List Entry) : Type 0 where
+  pub each : (k : ℕ) → k < length entries → IsEntry network p (entry_at entries k)
+  pub all : (c x : ℕ) → c < m → dep_of network c ≤ last → IsTrue (connection network c).can_board → IsBoardable network p x c → (k : ℕ) × (k < length entries) × ((entry_at entries k).id.0 ≡ c)
 
 -- the later one may arrive, the sooner it stands
 abbrev pub Falls : List Entry → Type 0

@@ -1,6 +1,6 @@
 -- The connections that count: those that depart by a moment, after which none has a value.
 use Rattle.std.specs.Prelude.{◌≡◌, ℕ, ◌<◌, ◌≤◌, List, Option, None, All, AllPairs, length}
-use Rattle.plan_model.specs.Parts.{Parts}
+use Rattle.plan_model.specs.NetworkModel.{NetworkModel}
 use Rattle.plan_model.specs.Network.{count, dep_of}
 use Rattle.plan_model.specs.Order.{IsEarlier}
 use Rattle.lower_proof.specs.declared.board.Entry.{Entry}
@@ -8,15 +8,15 @@ use Rattle.lower_proof.specs.Boards.{entry_at}
 use Rattle.lower_proof.specs.Certificates.{value_of}
 
 -- no connection that departs after a moment has a value
-abbrev pub NoneAfter : Parts → List (Option ℕ) → ℕ → Type 0
-NoneAfter n values last = (c : ℕ) → c < count n → last < dep_of n c → value_of values c ≡ None
+abbrev pub NoneAfter : NetworkModel → List (Option ℕ) → ℕ → Type 0
+NoneAfter network values last = (c : ℕ) → c < count network → last < dep_of network c → value_of values c ≡ None
 
 -- it is a connection with its departure, which is by a moment
-abbrev pub IsDeparture : Parts → ℕ → Entry → Type 0
-IsDeparture n last e = (e.id.0 < count n) × (e.by.0 ≡ dep_of n e.id.0) × (e.by.0 ≤ last)
+abbrev pub IsDeparture : NetworkModel → ℕ → Entry → Type 0
+IsDeparture network last e = (e.id.0 < count network) × (e.by.0 ≡ dep_of network e.id.0) × (e.by.0 ≤ last)
 
 -- these are the connections that depart by a moment, in the scan order
-pub record AreDepartures (n : Parts) (last : ℕ) (entries : List Entry) : Type 0 where
-  pub each : All (IsDeparture n last) entries
-  pub all : (c : ℕ) → c < count n → dep_of n c ≤ last → (k : ℕ) × (k < length entries) × ((entry_at entries k).id.0 ≡ c)
-  pub rising : AllPairs (λ a b. IsEarlier n a.id.0 b.id.0) entries
+pub record AreDepartures (network : NetworkModel) (last : ℕ) (entries : List Entry) : Type 0 where
+  pub each : All (IsDeparture network last) entries
+  pub all : (c : ℕ) → c < count network → dep_of network c ≤ last → (k : ℕ) × (k < length entries) × ((entry_at entries k).id.0 ≡ c)
+  pub rising : AllPairs (λ a b. IsEarlier network a.id.0 b.id.0) entries

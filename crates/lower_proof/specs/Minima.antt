@@ -2,7 +2,7 @@
 use Rattle.std.specs.Prelude.{◌≡◌, ℕ, ◌+◌, ◌<◌, ◌≤◌, List, [], Option, length, slice_index_or}
 use Rattle.lower_proof.specs.declared.board.Entry.{Entry}
 use Rattle.lower_proof.specs.Certificates.{IsLeastOf}
-use Rattle.plan_model.specs.Parts.{Parts}
+use Rattle.plan_model.specs.NetworkModel.{NetworkModel}
 use Rattle.plan_model.specs.Network.{count}
 use Rattle.lower_proof.specs.Departures.{NoneAfter}
 use Rattle.lower_proof.specs.Boards.{entry_at, AreEntries, Falls, FrontValue, least_of, Shown}
@@ -27,20 +27,20 @@ abbrev pub board_at : List Shown → ℕ → Shown
 board_at boards p = slice_index_or boards p (record { entries = []; least = [] })
 
 -- the board of a place has all connections that can be boarded from there
-pub record IsBoardOf (n : Parts) (last p : ℕ) (values : List (Option ℕ)) (board : Shown) : Type 0 where
-  pub entries : AreEntries n last p (count n) board.entries
+pub record IsBoardOf (network : NetworkModel) (last p : ℕ) (values : List (Option ℕ)) (board : Shown) : Type 0 where
+  pub entries : AreEntries network last p (count network) board.entries
   pub right : IsBoard values board
 
 -- each place has its board, and no connection that is left out has a value
-pub record AreBoards (n : Parts) (last : ℕ) (values : List (Option ℕ)) (boards : List Shown) : Type 0 where
-  pub as_many : length boards ≡ length n.change
-  pub each : (p : ℕ) → p < length boards → IsBoardOf n last p values (board_at boards p)
-  pub none_after : NoneAfter n values last
+pub record AreBoards (network : NetworkModel) (last : ℕ) (values : List (Option ℕ)) (boards : List Shown) : Type 0 where
+  pub as_many : length boards ≡ length network.change
+  pub each : (p : ℕ) → p < length boards → IsBoardOf network last p values (board_at boards p)
+  pub none_after : NoneAfter network values last
 
 -- what is known is not before a moment
 abbrev pub AllLate : ℕ → List Shown → Type 0
 AllLate moment boards = (p : ℕ) → p < length boards → AreLate moment (board_at boards p).entries (length (board_at boards p).least)
 
 -- each board has the first m connections, and nothing is known of it
-abbrev pub HaveEntries : Parts → ℕ → ℕ → List Shown → Type 0
-HaveEntries n last m boards = (p : ℕ) → p < length boards → AreEntries n last p m (board_at boards p).entries × ((board_at boards p).least ≡ [])
+abbrev pub HaveEntries : NetworkModel → ℕ → ℕ → List Shown → Type 0
+HaveEntries network last m boards = (p : ℕ) → p < length boards → AreEntries network last p m (board_at boards p).entries × ((board_at boards p).least ≡ [])

@@ -5,7 +5,7 @@ use Rattle.std.specs.Str.{bytes_eq}
 use Rattle.clock_text.specs.Times.{moment_at, nanos_at}
 use Rattle.csv_rows.specs.Tables.{table_of, header, row_count}
 use Rattle.plan_model.specs.declared.model.Query.{Query}
-use Rattle.plan_model.specs.Parts.{Parts}
+use Rattle.plan_model.specs.NetworkModel.{NetworkModel}
 use Rattle.plan_model.specs.NameLists.{NameLists}
 use Rattle.plan_model.specs.Network.{count}
 use Rattle.printed_rows.specs.Fields.{field, is_kind, whole_at, number_of, connection_of, rises}
@@ -60,14 +60,14 @@ value_numbers (Some step) (Some value) = Some (record { step = step; value = val
 abbrev pub value_row_in : List (List ℕ) → Option ValueRow
 value_row_in r = if is_kind (codes "value") 4 r then value_numbers (whole_at (field r 2)) (nanos_at (field r 3)) else None
 
-abbrev pub connection_by : Parts → Option ValueRow → Option ℕ → Option ℕ
-connection_by n None run = None
-connection_by n (Some x) None = None
-connection_by n (Some x) (Some run) = connection_of n run x.step
+abbrev pub connection_by : NetworkModel → Option ValueRow → Option ℕ → Option ℕ
+connection_by network None run = None
+connection_by network (Some x) None = None
+connection_by network (Some x) (Some run) = connection_of network run x.step
 
 -- the connection of a value row
-abbrev pub connection_in : Parts → NameLists → List (List ℕ) → Option ℕ
-connection_in n names r = connection_by n (value_row_in r) (number_of names.runs (field r 1))
+abbrev pub connection_in : NetworkModel → NameLists → List (List ℕ) → Option ℕ
+connection_in network names r = connection_by network (value_row_in r) (number_of names.runs (field r 1))
 
 -- and its value
 abbrev pub value_in : List (List ℕ) → Option ℕ
@@ -77,14 +77,14 @@ abbrev pub told_after : ℕ → Option ℕ → ℕ → Option ℕ → Result Tol
 told_after line before value None = Err (NoConnection line)
 told_after line before value (Some c) = if rises before c then Ok (record { id = record { 0 = c }; value = value }) else Err (NotRising line)
 
-abbrev pub told_by : Parts → ℕ → Option ℕ → Option ValueRow → Option ℕ → Result Told ProofFault
-told_by n line before None run = Err (Row line)
-told_by n line before (Some x) None = Err (UnknownName line)
-told_by n line before (Some x) (Some run) = told_after line before x.value (connection_of n run x.step)
+abbrev pub told_by : NetworkModel → ℕ → Option ℕ → Option ValueRow → Option ℕ → Result Told ProofFault
+told_by network line before None run = Err (Row line)
+told_by network line before (Some x) None = Err (UnknownName line)
+told_by network line before (Some x) (Some run) = told_after line before x.value (connection_of network run x.step)
 
 -- what a value row tells after one of an earlier connection, or the first of its faults
-abbrev pub told_in : Parts → NameLists → ℕ → Option ℕ → List (List ℕ) → Result Told ProofFault
-told_in n names line before r = told_by n line before (value_row_in r) (number_of names.runs (field r 1))
+abbrev pub told_in : NetworkModel → NameLists → ℕ → Option ℕ → List (List ℕ) → Result Told ProofFault
+told_in network names line before r = told_by network line before (value_row_in r) (number_of names.runs (field r 1))
 
 -- ---- all lines
 
@@ -93,59 +93,60 @@ abbrev pub value_row : List (List (List ℕ)) → ℕ → List (List ℕ)
 value_row t i = slice_index_or t (i + 1) []
 
 -- the connection of the value row before, if there is one
-abbrev pub connection_before : Parts → NameLists → List (List (List ℕ)) → ℕ → Option ℕ
-connection_before n names t zero = None
-connection_before n names t (suc i) = connection_in n names (value_row t i)
+abbrev pub connection_before : NetworkModel → NameLists → List (List (List ℕ)) → ℕ → Option ℕ
+connection_before network names t zero = None
+connection_before network names t (suc i) = connection_in network names (value_row t i)
 
 abbrev pub fault_of : Result Told ProofFault → Option ProofFault
 fault_of (Ok told) = None
 fault_of (Err fault) = Some fault
 
 -- the first fault of value row i, of which the first row states so many
-abbrev pub value_fault : Parts → NameLists → List (List (List ℕ)) → ℕ → ℕ → Option ProofFault
-value_fault n names t stated i =
-    if nat_lt i stated then fault_of (told_in n names (i + 2) (connection_before n names t i) (value_row t i)) else Some (Row (i + 2))
+abbrev pub value_fault : NetworkModel → NameLists → List (List (List ℕ)) → ℕ → ℕ → Option ProofFault
+value_fault network names t stated i =
+    if nat_lt i stated then fault_of (told_in network names (i + 2) (connection_before network names t i) (value_row t i)) else Some (Row (i + 2))
 
 -- it is that of a value row, or of one that is missing, and no line before has one
-pub record IsFirstFault (n : Parts) (names : NameLists) (t : List (List (List ℕ))) (stated : ℕ) (fault : ProofFault) : Type 0 where
+pub record IsFirstFault (network : NetworkModel) (names : NameLists) (t : List (List (List ℕ))) (stated : ℕ) (fault : ProofFault) : Type 0 where
   pub i : ℕ
   pub within : i < max (row_count t) stated
-  pub here : value_fault n names t stated i ≡ Some fault
-  pub first : (k : ℕ) → k < i → value_fault n names t stated k ≡ None
+  pub here : value_fault network names t stated i ≡ Some fault
+  pub first : (k : ℕ) → k < i → value_fault network names t stated k ≡ None
 
 -- the first fault by line: that of the first row, or else that of the first value row that has one
-abbrev pub IsFaultAfter : Parts → NameLists → List (List (List ℕ)) → Result BoundsRow ProofFault → ProofFault → Type 0
-IsFaultAfter n names t (Ok bounds) fault = IsFirstFault n names t bounds.number fault
-IsFaultAfter n names t (Err first) fault = first ≡ fault
+abbrev pub IsFaultAfter : NetworkModel → NameLists → List (List (List ℕ)) → Result BoundsRow ProofFault → ProofFault → Type 0
+IsFaultAfter network names t (Ok bounds) fault = IsFirstFault network names t bounds.number fault
+IsFaultAfter network names t (Err first) fault = first ≡ fault
 
 -- no line has a fault, and the values are those of the value rows
-pub record AreTold (n : Parts) (names : NameLists) (t : List (List (List ℕ))) (stated : ℕ) (values : List (Option ℕ)) : Type 0 where
-  pub faultless : (i : ℕ) → i < max (row_count t) stated → value_fault n names t stated i ≡ None
-  pub as_many : length values ≡ count n
-  pub told : (i c : ℕ) → i < row_count t → connection_in n names (value_row t i) ≡ Some c → value_of values c ≡ value_in (value_row t i)
-  pub others : (c : ℕ) → ((i : ℕ) → i < row_count t → connection_in n names (value_row t i) ≢ Some c) → value_of values c ≡ None
+pub record AreTold (network : NetworkModel) (names : NameLists) (t : List (List (List ℕ))) (stated : ℕ) (values : List (Option ℕ)) : Type 0 where
+  pub faultless : (i : ℕ) → i < max (row_count t) stated → value_fault network names t stated i ≡ None
+  pub as_many : length values ≡ count network
+  pub told : (i c : ℕ) → i < row_count t → connection_in network names (value_row t i) ≡ Some c → value_of values c ≡ value_in (value_row t i)
+  pub others : (c : ℕ) → ((i : ℕ) → i < row_count t → connection_in network names (value_row t i) ≢ Some c) → value_of values c ≡ None
 
 -- the query has the source, the target and the start, and the deadline of the first row
-pub record IsTold (n : Parts) (names : NameLists) (source target start : ℕ) (t : List (List (List ℕ))) (q : Query) (values : List (Option ℕ)) : Type 0 where
+pub record IsTold (network : NetworkModel) (names : NameLists) (source target start : ℕ) (t : List (List (List ℕ))) (query : Query) (values : List (Option ℕ)) : Type 0 where
   pub bounds : BoundsRow
   pub head : bounds_in names source target start (header t) ≡ Ok bounds
-  pub from : q.source.0 ≡ source
-  pub to : q.target.0 ≡ target
-  pub since : q.start.0 ≡ start
-  pub until : q.deadline ≡ bounds.deadline
-  pub told : AreTold n names t bounds.number values
+  pub from : query.source.0 ≡ source
+  pub to : query.target.0 ≡ target
+  pub since : query.start.0 ≡ start
+  pub until : query.deadline ≡ bounds.deadline
+  pub told : AreTold network names t bounds.number values
 
 -- what is read of a text, of this source, target and start: a query and values, or the first fault, or there was no memory
-abbrev pub IsReadAs : Parts → NameLists → ℕ → ℕ → ℕ → List ℕ → Result (Query × LowerBounds) ProofFault → Type 0
-IsReadAs n names source target start text (Ok read) = IsTold n names source target start (table_of text) read.0 read.1.values
-IsReadAs n names source target start text (Err fault) =
-    (fault ≡ NoMemory) ⊎ IsFaultAfter n names (table_of text) (bounds_in names source target start (header (table_of text))) fault
+abbrev pub IsReadAs : NetworkModel → NameLists → ℕ → ℕ → ℕ → List ℕ → Result (Query × LowerBounds) ProofFault → Type 0
+IsReadAs network names source target start text (Ok read) = IsTold network names source target start (table_of text) read.0 read.1.values
+IsReadAs network names source target start text (Err fault) =
+    (fault ≡ NoMemory) ⊎ IsFaultAfter network names (table_of text) (bounds_in names source target start (header (table_of text))) fault
 
 -- it is this query and these values, unless there was no memory
 abbrev pub IsReadBack : Query → List (Option ℕ) → Result (Query × LowerBounds) ProofFault → Type 0
-IsReadBack q values (Ok read) = (read.0 ≡ q) × (read.1.values ≡ values)
-IsReadBack q values (Err fault) = fault ≡ NoMemory
+IsReadBack query values (Ok read) = (read.0 ≡ query) × (read.1.values ≡ values)
+IsReadBack query values (Err fault) = fault ≡ NoMemory
 
 -- whatever is read of the text for this query's source, target and start
-abbrev pub ReadsBack : Parts → NameLists → Query → List (Option ℕ) → List ℕ → Type 0
-ReadsBack n names q values text = (result : Result (Query × LowerBounds) ProofFault) → IsReadAs n names q.source.0 q.target.0 q.start.0 text result → IsReadBack q values result
+abbrev pub ReadsBack : NetworkModel → NameLists → Query → List (Option ℕ) → List ℕ → Type 0
+ReadsBack network names query values text = (result : Result (Query × LowerBounds) ProofFault)
+    → IsReadAs network names query.source.0 query.target.0 query.start.0 text result → IsReadBack query values result

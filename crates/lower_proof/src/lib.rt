@@ -3,7 +3,7 @@
 #![tactic(auto)]
 
 ghost use Rattle.std.specs.Prelude.{◌≡◌, ℕ, ◌+◌, ◌<◌, ◌≤◌, ◌↔◌, IsTrue, IfOk, length, slice_set, List as Sequence, Option as Maybe};
-ghost use Rattle.plan_model.specs.Parts.{Parts};
+ghost use Rattle.plan_model.specs.NetworkModel.{NetworkModel};
 ghost use Rattle.plan_model.specs.declared.model.Query.{Query as QueryParts};
 ghost use Rattle.plan_model.specs.Network.{IsValid, count, run_of, arr_of};
 ghost use Rattle.plan_model.specs.Strategy.{IsBoardableAtStart};
@@ -106,8 +106,8 @@ fn least_at(
     requires boards { (p : ℕ) → p < length boards.old → IsBoard values.now (board_at boards.old p) }
     requires place { place.0 < length boards.old }
     requires soon { moment.0 < end_of_time }
-    ensures least { (n : Parts) (last : ℕ) → AreBoards n last values.now boards.old → IsLeastAt n query.now values.now place.0 moment.0 result }
-    ensures boards { (n : Parts) (last : ℕ) → AreBoards n last values.now boards.old → AreBoards n last values.now boards.new }
+    ensures least { (n : NetworkModel) (last : ℕ) → AreBoards n last values.now boards.old → IsLeastAt n query.now values.now place.0 moment.0 result }
+    ensures boards { (n : NetworkModel) (last : ℕ) → AreBoards n last values.now boards.old → AreBoards n last values.now boards.new }
     ensures late { (m : ℕ) → m ≤ moment.0 → AllLate m boards.old → AllLate m boards.new }
 {
     if place == query.target {

@@ -1,11 +1,11 @@
 -- A question about a problem ends as the problem says.
 use Rattle.std.proofs.Common.{◌≡◌, ℕ, refl, sym, ap, ◌∙◌, subst, inl, inr, List, Option, Some}
 use Rattle.std.specs.Prelude.{◌⊎◌}
-use Rattle.file_ports.specs.Ports.{Folder, file_at}
+use Rattle.file_ports.specs.Ports.{FileMap, file_at}
 use Rattle.csv_rows.specs.declared.limits.Limits.{Limits}
 use Rattle.plan_model.specs.declared.model.Query.{Query}
 use Rattle.plan_model.specs.declared.model.Moment.{Moment}
-use Rattle.plan_model.specs.Parts.{Parts}
+use Rattle.plan_model.specs.NetworkModel.{NetworkModel}
 use Rattle.plan_model.specs.Strategy.{Reaches, LeastWorst}
 use Rattle.command_line.specs.Jobs.{WantedJourney, WantedAsk, Safe, Expand, Plan, Replay as Replays, Certify, CheckProof, CheckGraph, Punctual, Departures, Latest}
 use Rattle.journey_model.specs.declared.faults.Input.{Input}
@@ -27,7 +27,7 @@ use Rattle.journey_report.specs.Findings.{Findings}
 use Rattle.file_answers.specs.GraphFiles.{graph_in, FailsReplay, FailsScore}
 
 -- a least worst arrival is that of a strategy
-has_tree : (n : Parts) (source target start a b c : ℕ) (w : Moment) → a ≡ source → b ≡ target → c ≡ start → LeastWorst n a b c (Some w) → HasSafe n source target start
+has_tree : (n : NetworkModel) (source target start a b c : ℕ) (w : Moment) → a ≡ source → b ≡ target → c ≡ start → LeastWorst n a b c (Some w) → HasSafe n source target start
 has_tree n source target start a b c w e f g l =
     let t = l.0 in
     (t.0, subst (λ x. Reaches n x target start t.0) e (subst (λ y. Reaches n a y start t.0) f (subst (λ z. Reaches n a b z t.0) g t.1)))
@@ -41,7 +41,7 @@ module _ (p : Problem) (start : ℕ) where
   pub unsafe_ends : (fault : Fault) → IsNoSafe p start fault → EndsBySafety p start (status_of (Some fault))
   unsafe_ends fault (is, none) = inr (ap (λ (f : Fault). status_of (Some f)) is, λ h. none h.0 h.1)
 
-module _ (limits : Limits) (files : Folder) (start : ℕ) (p : Problem) where
+module _ (limits : Limits) (files : FileMap) (start : ℕ) (p : Problem) where
   -- an answered question
   pub answers_end : (ask : WantedAsk) (found : Findings) (text : List ℕ) → AnswersAsk (Some files) limits start p ask found text → EndsAsk limits files start p ask 0
   answers_end (Safe alpha) found text (q, w, asked, tells) = asked_ends p start alpha q w asked
@@ -91,7 +91,7 @@ module _ (limits : Limits) (files : Folder) (start : ℕ) (p : Problem) where
   fails_end (Departures until last) fault never (is, none) = inr (ap (λ (f : Fault). status_of (Some f)) is, λ h. none h.0 h.1)
   fails_end (Latest until) fault never (is, none) = inr (ap (λ (f : Fault). status_of (Some f)) is, λ h. none h.0 h.2 h.1 h.3)
 
-module _ (limits : Limits) (files : Folder) (j : WantedJourney) (a : WantedAsk) where
+module _ (limits : Limits) (files : FileMap) (j : WantedJourney) (a : WantedAsk) where
   -- over some problem of the files it ends so
   abbrev pub EndsOver : ℕ → Type 0
   EndsOver status = (p : Problem) × IsProblem limits files j p × EndsAsk limits files j.start p a status

@@ -2,7 +2,7 @@
 use Rattle.std.proofs.Common.{◌≡◌, ℕ, List, Option, Some, None, Ok, inl, inr, refl, ap, sym, subst, ⊎_elim, ◌∙◌}
 use Rattle.std.specs.Prelude.{◌≢◌, ◌⊎◌}
 use Rattle.std.specs.Io.KnownBytes.{Keeps}
-use Rattle.file_ports.specs.Ports.{Folder}
+use Rattle.file_ports.specs.Ports.{FileMap}
 use Rattle.csv_rows.specs.declared.limits.Limits.{Limits}
 use Rattle.command_line.specs.declared.job.WordsFault.{WordsFault}
 use Rattle.command_line.specs.Jobs.{WantedAsk, Safe, Expand, Plan, Replay as Replays, Certify, CheckProof, CheckGraph, Punctual, Departures, Latest, Wanted, Ask, Sample, job_of}
@@ -81,7 +81,7 @@ some_not_none fault same = absurd (cc)
 some_is : (a b : Fault) → ◌≡◌ {A = Option Fault} (Some a) (Some b) → a ≡ b
 some_is a b same = cc
 
-module _ (told : Option Folder) (limits : Limits) (words : List (List ℕ)) where
+module _ (told : Option FileMap) (limits : Limits) (words : List (List ℕ)) where
   -- what is asked does not fail because its answer cannot be written
   ask_write : (start : ℕ) (p : Problem) (ask : WantedAsk) → FailsAsk told limits start p ask Write → ⊥
   ask_write start p (Safe alpha) (is, none) = unlike_safe is

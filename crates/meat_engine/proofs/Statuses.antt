@@ -1,7 +1,7 @@
 -- The status of a call, by what it comes to.
 use Rattle.std.proofs.Common.{◌≡◌, ℕ, ap, refl, sym, ◌∙◌, subst, inl, inr, List, Option, Some, None, Ok}
 use Rattle.std.specs.Prelude.{◌≢◌, ◌⊎◌}
-use Rattle.file_ports.specs.Ports.{Folder}
+use Rattle.file_ports.specs.Ports.{FileMap}
 use Rattle.csv_rows.specs.declared.limits.Limits.{Limits}
 use Rattle.feed_maker.specs.Made.{made, SameFolder}
 use Rattle.command_line.specs.Jobs.{WantedJourney, WantedAsk, Plan, Ask, Sample, job_of}
@@ -25,17 +25,17 @@ use Rattle.meat_engine.proofs.Ended.{asked_ends, answers_end, EndsOver, ends_in,
 use Rattle.meat_engine.proofs.Undisturbed.{memory_or, fails, answered}
 
 -- what a journey comes to over told files: its question ends over a problem, or its files have a fault, or there was no memory
-abbrev Comes : Limits → Folder → WantedJourney → WantedAsk → Option Fault → Type 0
+abbrev Comes : Limits → FileMap → WantedJourney → WantedAsk → Option Fault → Type 0
 Comes limits files j a fault =
     EndsOver limits files j a (status_of fault)
     ⊎ (((f : Fault) × (fault ≡ Some f) × (f ≢ NoMemory) × IsProblemFault limits files j f) ⊎ (fault ≡ Some NoMemory))
 
-comes_by : (limits : Limits) (files : Folder) (j : WantedJourney) (a : WantedAsk) (fault : Fault) → fault ≢ NoMemory
+comes_by : (limits : Limits) (files : FileMap) (j : WantedJourney) (a : WantedAsk) (fault : Fault) → fault ≢ NoMemory
     → EndsOver limits files j a (status_of (Some fault)) ⊎ IsProblemFault limits files j fault → Comes limits files j a (Some fault)
 comes_by limits files j a fault m (inl ends) = inl ends
 comes_by limits files j a fault m (inr first) = inr (inl (fault, refl, m, first))
 
-module _ (limits : Limits) (files : Folder) (words : List (List ℕ)) (report : Report) (old new : Option (List ℕ)) (Tells : List ℕ → Type 0) (j : WantedJourney) (a : WantedAsk) where
+module _ (limits : Limits) (files : FileMap) (words : List (List ℕ)) (report : Report) (old new : Option (List ℕ)) (Tells : List ℕ → Type 0) (j : WantedJourney) (a : WantedAsk) where
   fault_comes : (fault : Fault) → job_of words ≡ Ok (Ask j a) → Outcome (Some files) limits words report old new Tells (Some fault)
       → IsUndisturbed (Some fault) → (fault ≡ NoMemory) ⊎ (fault ≡ NoMemory → ⊥) → Comes limits files j a (Some fault)
   fault_comes fault h o calm (inl e) = inr (inr (ap Some e))
@@ -51,7 +51,7 @@ module _ (limits : Limits) (files : Folder) (words : List (List ℕ)) (report : 
       inl (w.0, w.2, answers_end limits files j.start w.0 a (findings_of report) r.0 w.3)
   comes (Some fault) h o calm = fault_comes fault h o calm (memory_or fault)
 
-module _ (limits : Limits) (files : Folder) (j : WantedJourney) (a : WantedAsk) (fault : Option Fault) (status : ℕ) (is : status ≡ status_of fault) (calm : IsUndisturbed fault) where
+module _ (limits : Limits) (files : FileMap) (j : WantedJourney) (a : WantedAsk) (fault : Option Fault) (status : ℕ) (is : status ≡ status_of fault) (calm : IsUndisturbed fault) where
   problem_status : (p : Problem) → IsProblem limits files j p → Comes limits files j a fault → EndsAsk limits files j.start p a status ⊎ (status ≡ 9)
   problem_status p one (inl ends) = inl (subst (λ s. EndsAsk limits files j.start p a s) (sym is) (ends_in limits files j a p (status_of fault) one ends))
   problem_status p one (inr (inl (f, e, m, first))) = absurd (no_fault limits files j p f one (λ i k. calm.0 i (e ∙ ap Some k)) m first)
@@ -63,10 +63,10 @@ module _ (limits : Limits) (files : Folder) (j : WantedJourney) (a : WantedAsk) 
   faultless_status clean (inr (inr e)) = inr (is ∙ ap status_of e)
 
 module _ (limits : Limits) (size : ℕ) where
-  over_made : (files : Folder) (p : Problem) → SameFolder (made size) files → IsProblem limits (made size) sample_journey p → IsProblem limits files sample_journey p
+  over_made : (files : FileMap) (p : Problem) → SameFolder (made size) files → IsProblem limits (made size) sample_journey p → IsProblem limits files sample_journey p
   over_made files p same one = same_feed_problem limits (made size) files (λ path. sym (same path)) _ _ sample_journey p one
 
-  sample_in : (p : Problem) (known : Option NamedParts) (fault : Fault) (files : Folder) → IsProblem limits files sample_journey p → ((i : Input) → fault ≡ Read i → ⊥) → fault ≢ NoMemory
+  sample_in : (p : Problem) (known : Option NamedParts) (fault : Fault) (files : FileMap) → IsProblem limits files sample_journey p → ((i : Input) → fault ≡ Read i → ⊥) → fault ≢ NoMemory
       → EndsOver limits files sample_journey (Plan sample_alpha) (status_of (Some fault)) ⊎ IsProblemFault limits files sample_journey fault
       → EndsBySafety p sample_journey.start (status_of (Some fault))
   sample_in p known fault files one never m (inl ends) = ends_in limits files sample_journey (Plan sample_alpha) p (status_of (Some fault)) one ends
@@ -77,7 +77,7 @@ module _ (limits : Limits) (size : ℕ) where
   sample_fails p known fault one never m (read, (files, same, why)) =
       sample_in p known fault files (over_made files p same one) never m (fails_over limits files sample_journey (Plan sample_alpha) known fault never why)
 
-module _ (told : Option Folder) (limits : Limits) (words : List (List ℕ)) (report : Report) (old new : Option (List ℕ)) (Tells : List ℕ → Type 0) (size : ℕ) (p : Problem) (status : ℕ) where
+module _ (told : Option FileMap) (limits : Limits) (words : List (List ℕ)) (report : Report) (old new : Option (List ℕ)) (Tells : List ℕ → Type 0) (size : ℕ) (p : Problem) (status : ℕ) where
   sample_fault : (fault : Fault) → job_of words ≡ Ok (Sample size) → IsProblem limits (made size) sample_journey p → Outcome told limits words report old new Tells (Some fault)
       → IsUndisturbed (Some fault) → status ≡ status_of (Some fault) → (fault ≡ NoMemory) ⊎ (fault ≡ NoMemory → ⊥) → EndsBySafety p sample_journey.start status ⊎ (status ≡ 9)
   sample_fault fault h one o calm is (inl e) = inr (is ∙ ap (λ (f : Fault). status_of (Some f)) e)
@@ -95,11 +95,11 @@ module _ (told : Option Folder) (limits : Limits) (words : List (List ℕ)) (rep
       (ends_in limits w.0 sample_journey (Plan sample_alpha) p 0 (over_made limits size w.0 p w.1 one) (v.0, v.2, ends)))
   sample_status (Some fault) h one o calm is = sample_fault fault h one o calm is (memory_or fault)
 
-module _ (told : Option Folder) (limits : Limits) (words : List (List ℕ)) (report : Report) (old new : Option (List ℕ)) (Tells : List ℕ → Type 0) (fault : Option Fault) (status : ℕ) where
-  journey_comes : Outcome told limits words report old new Tells fault → IsUndisturbed fault → (files : Folder) (j : WantedJourney) (a : WantedAsk) → told ≡ Some files
+module _ (told : Option FileMap) (limits : Limits) (words : List (List ℕ)) (report : Report) (old new : Option (List ℕ)) (Tells : List ℕ → Type 0) (fault : Option Fault) (status : ℕ) where
+  journey_comes : Outcome told limits words report old new Tells fault → IsUndisturbed fault → (files : FileMap) (j : WantedJourney) (a : WantedAsk) → told ≡ Some files
       → job_of words ≡ Ok (Ask j a) → Comes limits files j a fault
   journey_comes o calm files j a e h =
-      comes limits files words report old new Tells j a fault h (subst (λ (t : Option Folder). Outcome t limits words report old new Tells fault) e o) calm
+      comes limits files words report old new Tells j a fault h (subst (λ (t : Option FileMap). Outcome t limits words report old new Tells fault) e o) calm
 
   -- where no count rises, the status is that of the problem
   pub complete : Outcome told limits words report old new Tells fault → status ≡ status_of fault → IsUndisturbed fault → IsComplete told limits words status

@@ -1,7 +1,7 @@
 -- What an outcome says, where no file failed to be read and the answer was written.
 use Rattle.std.proofs.Common.{◌≡◌, ℕ, refl, subst, inl, inr, List, Option, Some, None, Ok, Err}
 use Rattle.std.specs.Prelude.{◌≢◌, ◌⊎◌}
-use Rattle.file_ports.specs.Ports.{Folder}
+use Rattle.file_ports.specs.Ports.{FileMap}
 use Rattle.csv_rows.specs.declared.limits.Limits.{Limits}
 use Rattle.command_line.specs.declared.job.WordsFault.{WordsFault}
 use Rattle.command_line.specs.Jobs.{Wanted, job_of}
@@ -23,7 +23,7 @@ one_job words a b h k = cc
 no_refusal : (words : List (List ℕ)) (a : Wanted) (b : WordsFault) → job_of words ≡ Ok a → job_of words ≡ Err b → ⊥
 no_refusal words a b h k = cc
 
-module _ (told : Option Folder) (limits : Limits) (words : List (List ℕ)) (report : Report) (old new : Option (List ℕ)) (Tells : List ℕ → Type 0) where
+module _ (told : Option FileMap) (limits : Limits) (words : List (List ℕ)) (report : Report) (old new : Option (List ℕ)) (Tells : List ℕ → Type 0) where
   refused : (fault : Fault) → Outcome told limits words report old new Tells (Some fault) → fault ≢ Write → IsRefused told limits words report Tells fault
   refused fault o n = (subst (λ (e : Ending). OutcomeBy e told limits words report old new Tells (Some fault)) (refused_ending fault n) o).1
 

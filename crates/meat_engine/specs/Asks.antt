@@ -1,6 +1,6 @@
 -- What is asked about a journey: its answers, why there are none, and what it ends with.
 use Rattle.std.specs.Prelude.{◌≡◌, ◌⊎◌, ℕ, List, Option, None, Some}
-use Rattle.file_ports.specs.Ports.{Folder}
+use Rattle.file_ports.specs.Ports.{FileMap}
 use Rattle.csv_rows.specs.declared.limits.Limits.{Limits}
 use Rattle.command_line.specs.Jobs.{WantedJourney, WantedAsk, Safe, Expand, Plan, Replay, Certify, CheckProof, CheckGraph, Punctual, Departures, Latest}
 use Rattle.journey_model.specs.declared.faults.Fault.{Fault}
@@ -40,33 +40,33 @@ own_paths (Departures until last) = no_path
 own_paths (Latest until) = no_path
 
 -- the findings and the text answer what is asked about a problem, from a start on
-abbrev pub AnswersAsk : Option Folder → Limits → ℕ → Problem → WantedAsk → Findings → List ℕ → Type 0
-AnswersAsk told limits start p (Safe alpha) found text = InQuery p start alpha (TellsWorst p found text)
-AnswersAsk told limits start p (Expand alpha) found text = InQuery p start alpha (TellsExpanded p found text)
-AnswersAsk told limits start p (Plan alpha) found text = InQuery p start alpha (TellsPlanned p found text)
-AnswersAsk told limits start p (Replay graph late) found text = InGraphFile told limits start graph p (IsTripTold p late found text)
-AnswersAsk told limits start p (Certify alpha) found text = InQuery p start alpha (TellsCertificate p found text)
-AnswersAsk told limits start p (CheckProof proof) found text = InProofFile told limits start proof p (IsHeld p found text)
-AnswersAsk told limits start p (CheckGraph graph) found text = InGraphFile told limits start graph p (IsEnclosed p found text)
-AnswersAsk told limits start p (Punctual alpha promise) found text = InQuery p start alpha (TellsPunctual p promise found text)
-AnswersAsk told limits start p (Departures until last) found text = TellsDepartures p (query_until p start until) last found text
-AnswersAsk told limits start p (Latest until) found text = TellsLatest p (query_until p start until) found text
+abbrev pub AnswersAsk : Option FileMap → Limits → ℕ → Problem → WantedAsk → Findings → List ℕ → Type 0
+AnswersAsk contents limits start p (Safe alpha) found text = InQuery p start alpha (TellsWorst p found text)
+AnswersAsk contents limits start p (Expand alpha) found text = InQuery p start alpha (TellsExpanded p found text)
+AnswersAsk contents limits start p (Plan alpha) found text = InQuery p start alpha (TellsPlanned p found text)
+AnswersAsk contents limits start p (Replay graph late) found text = InGraphFile contents limits start graph p (IsTripTold p late found text)
+AnswersAsk contents limits start p (Certify alpha) found text = InQuery p start alpha (TellsCertificate p found text)
+AnswersAsk contents limits start p (CheckProof proof) found text = InProofFile contents limits start proof p (IsHeld p found text)
+AnswersAsk contents limits start p (CheckGraph graph) found text = InGraphFile contents limits start graph p (IsEnclosed p found text)
+AnswersAsk contents limits start p (Punctual alpha promise) found text = InQuery p start alpha (TellsPunctual p promise found text)
+AnswersAsk contents limits start p (Departures until last) found text = TellsDepartures p (query_until p start until) last found text
+AnswersAsk contents limits start p (Latest until) found text = TellsLatest p (query_until p start until) found text
 
 -- why it has no answer, but for want of memory
-abbrev pub FailsAsk : Option Folder → Limits → ℕ → Problem → WantedAsk → Fault → Type 0
-FailsAsk told limits start p (Safe alpha) fault = IsNoSafe p start fault
-FailsAsk told limits start p (Expand alpha) fault = IsNoSafe p start fault
-FailsAsk told limits start p (Plan alpha) fault = IsNoSafe p start fault
-FailsAsk told limits start p (Replay graph late) fault = FailsReplay told limits start graph late p fault
-FailsAsk told limits start p (Certify alpha) fault = IsNoSafe p start fault
-FailsAsk told limits start p (CheckProof proof) fault = FailsCheck told limits start proof p fault
-FailsAsk told limits start p (CheckGraph graph) fault = FailsScore told limits start graph p fault
-FailsAsk told limits start p (Punctual alpha promise) fault = IsNoSafe p start fault
-FailsAsk told limits start p (Departures until last) fault = FailsDepartures p (query_until p start until) fault
-FailsAsk told limits start p (Latest until) fault = FailsLatest p (query_until p start until) fault
+abbrev pub FailsAsk : Option FileMap → Limits → ℕ → Problem → WantedAsk → Fault → Type 0
+FailsAsk contents limits start p (Safe alpha) fault = IsNoSafe p start fault
+FailsAsk contents limits start p (Expand alpha) fault = IsNoSafe p start fault
+FailsAsk contents limits start p (Plan alpha) fault = IsNoSafe p start fault
+FailsAsk contents limits start p (Replay graph late) fault = FailsReplay contents limits start graph late p fault
+FailsAsk contents limits start p (Certify alpha) fault = IsNoSafe p start fault
+FailsAsk contents limits start p (CheckProof proof) fault = FailsCheck contents limits start proof p fault
+FailsAsk contents limits start p (CheckGraph graph) fault = FailsScore contents limits start graph p fault
+FailsAsk contents limits start p (Punctual alpha promise) fault = IsNoSafe p start fault
+FailsAsk contents limits start p (Departures until last) fault = FailsDepartures p (query_until p start until) fault
+FailsAsk contents limits start p (Latest until) fault = FailsLatest p (query_until p start until) fault
 
 -- the status that it ends with, but for want of memory, where no file fails to be read and the answer is written
-abbrev pub EndsAsk : Limits → Folder → ℕ → Problem → WantedAsk → ℕ → Type 0
+abbrev pub EndsAsk : Limits → FileMap → ℕ → Problem → WantedAsk → ℕ → Type 0
 EndsAsk limits files start p (Safe alpha) status = EndsBySafety p start status
 EndsAsk limits files start p (Expand alpha) status = EndsBySafety p start status
 EndsAsk limits files start p (Plan alpha) status = EndsBySafety p start status
@@ -80,7 +80,7 @@ EndsAsk limits files start p (Latest until) status = EndsByLatest p (query_until
 
 -- why what is asked about a journey has no answer, but for want of memory, where this timetable is known: it has none over the
 -- problem of the journey, whose timetable that is; or it is the first fault of the files of the journey
-abbrev pub FailsJourney : Option Folder → Limits → WantedJourney → WantedAsk → Option NamedParts → Fault → Type 0
-FailsJourney told limits j a known fault =
-    InProblem told limits j (λ p. (known ≡ Some (parts_of p)) × FailsAsk told limits j.start p a fault)
-    ⊎ FailsEarly told limits j fault
+abbrev pub FailsJourney : Option FileMap → Limits → WantedJourney → WantedAsk → Option NamedParts → Fault → Type 0
+FailsJourney contents limits j a known fault =
+    InProblem contents limits j (λ p. (known ≡ Some (parts_of p)) × FailsAsk contents limits j.start p a fault)
+    ⊎ FailsEarly contents limits j fault

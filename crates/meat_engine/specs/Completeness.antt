@@ -1,6 +1,6 @@
 -- The status of a call in which no count of faults rises, where the files have no fault.
 use Rattle.std.specs.Prelude.{◌≡◌, ◌⊎◌, ℕ, List, Option, Some, Ok}
-use Rattle.file_ports.specs.Ports.{Folder}
+use Rattle.file_ports.specs.Ports.{FileMap}
 use Rattle.csv_rows.specs.declared.limits.Limits.{Limits}
 use Rattle.feed_maker.specs.Made.{made}
 use Rattle.command_line.specs.Jobs.{WantedJourney, WantedAsk, Ask, Sample, job_of}
@@ -11,15 +11,15 @@ use Rattle.meat_engine.specs.Ends.{EndsBySafety}
 use Rattle.meat_engine.specs.Samples.{sample_journey}
 
 -- over files that have a problem: what is asked about it ends as it says, or for want of memory
-abbrev pub EndsInProblem : Option Folder → Limits → List (List ℕ) → ℕ → Type 0
-EndsInProblem told limits words status =
-    (files : Folder) (j : WantedJourney) (a : WantedAsk) (p : Problem) → told ≡ Some files → job_of words ≡ Ok (Ask j a)
+abbrev pub EndsInProblem : Option FileMap → Limits → List (List ℕ) → ℕ → Type 0
+EndsInProblem contents limits words status =
+    (files : FileMap) (j : WantedJourney) (a : WantedAsk) (p : Problem) → contents ≡ Some files → job_of words ≡ Ok (Ask j a)
     → IsProblem limits files j p → EndsAsk limits files j.start p a status ⊎ (status ≡ 9)
 
 -- over files with no fault: they have a problem, and what is asked about it ends as it says, or for want of memory
-abbrev pub EndsWithoutFault : Option Folder → Limits → List (List ℕ) → ℕ → Type 0
-EndsWithoutFault told limits words status =
-    (files : Folder) (j : WantedJourney) (a : WantedAsk) → told ≡ Some files → job_of words ≡ Ok (Ask j a) → IsFaultless limits files j
+abbrev pub EndsWithoutFault : Option FileMap → Limits → List (List ℕ) → ℕ → Type 0
+EndsWithoutFault contents limits words status =
+    (files : FileMap) (j : WantedJourney) (a : WantedAsk) → contents ≡ Some files → job_of words ≡ Ok (Ask j a) → IsFaultless limits files j
     → ((p : Problem) × IsProblem limits files j p × EndsAsk limits files j.start p a status) ⊎ (status ≡ 9)
 
 -- `sample` over made files that have a problem: 0 where a strategy is safe, 1 where none is, or 9
@@ -29,7 +29,7 @@ SampleEnds limits words status =
     → EndsBySafety p sample_journey.start status ⊎ (status ≡ 9)
 
 -- where no count of faults rises in a call, its status is this
-pub record IsComplete (told : Option Folder) (limits : Limits) (words : List (List ℕ)) (status : ℕ) : Type 0 where
-  pub problem : EndsInProblem told limits words status
-  pub faultless : EndsWithoutFault told limits words status
+pub record IsComplete (contents : Option FileMap) (limits : Limits) (words : List (List ℕ)) (status : ℕ) : Type 0 where
+  pub problem : EndsInProblem contents limits words status
+  pub faultless : EndsWithoutFault contents limits words status
   pub sample : SampleEnds limits words status

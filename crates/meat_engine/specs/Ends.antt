@@ -1,8 +1,8 @@
 -- The status that a question about a problem ends with.
 use Rattle.std.specs.Prelude.{◌≡◌, ◌⊎◌, ℕ, ◌≤◌, List, Option, None, Some, Result, Ok, Err}
-use Rattle.file_ports.specs.Ports.{Folder, file_at}
+use Rattle.file_ports.specs.Ports.{FileMap, file_at}
 use Rattle.csv_rows.specs.declared.limits.Limits.{Limits}
-use Rattle.plan_model.specs.Parts.{Parts}
+use Rattle.plan_model.specs.NetworkModel.{NetworkModel}
 use Rattle.plan_model.specs.Tree.{Tree}
 use Rattle.plan_model.specs.Strategy.{Reaches, IsSafeFor}
 use Rattle.plan_model.specs.declared.model.Query.{Query}
@@ -24,8 +24,8 @@ use Rattle.departure_answers.specs.Departures.{SafeOf, HasSafeFor}
 use Rattle.file_answers.specs.ProofFiles.{IsProofFile, FailsFile}
 
 -- some strategy always reaches the target
-abbrev pub HasSafe : Parts → (source target start : ℕ) → Type 0
-HasSafe n source target start = (tree : Tree) × Reaches n source target start tree
+abbrev pub HasSafe : NetworkModel → (source target start : ℕ) → Type 0
+HasSafe network source target start = (tree : Tree) × Reaches network source target start tree
 
 -- 0 where this holds, and 1 where it does not
 abbrev pub EndsBy : Type 0 → ℕ → Type 0
@@ -41,29 +41,29 @@ EndsByWalk trip status =
     ((trace : Trace) × (trip ≡ Ok trace) × (status ≡ 0)) ⊎ ((stop : ReplayFault) × (trip ≡ Err stop) × (status ≡ 11))
 
 -- where the graph file reads, as the walk by its graph says; and else the status of its fault
-abbrev pub EndsByGraphFile : Limits → Folder → ℕ → List ℕ → List ℕ → Problem → ℕ → Type 0
+abbrev pub EndsByGraphFile : Limits → FileMap → ℕ → List ℕ → List ℕ → Problem → ℕ → Type 0
 EndsByGraphFile limits files start path late p status =
     ((head : Head) × (graph : PlanGraph) × (graph_in limits p start None (file_at files path) ≡ Ok (head, graph))
     × EndsByWalk (trip_by p head graph late) status)
     ⊎ ((fault : Fault) × (graph_in limits p start None (file_at files path) ≡ Err fault) × (status ≡ status_of (Some fault)))
 
 -- 0 where the certificate is accepted, and 13 where it fails at a connection
-abbrev pub EndsByVerdict : Parts → Query → List (Option ℕ) → ℕ → Type 0
-EndsByVerdict n q values status =
-    (IsAccepted n q values × (status ≡ 0)) ⊎ ((connection : ℕ) × IsLastFault n q values connection × (status ≡ 13))
+abbrev pub EndsByVerdict : NetworkModel → Query → List (Option ℕ) → ℕ → Type 0
+EndsByVerdict network query values status =
+    (IsAccepted network query values × (status ≡ 0)) ⊎ ((connection : ℕ) × IsLastFault network query values connection × (status ≡ 13))
 
 -- where the proof file reads, as its certificate says; and else the status of its fault
-abbrev pub EndsByProofFile : Limits → Folder → ℕ → List ℕ → Problem → ℕ → Type 0
+abbrev pub EndsByProofFile : Limits → FileMap → ℕ → List ℕ → Problem → ℕ → Type 0
 EndsByProofFile limits files start path p status =
-    ((q : Query) × (proof : LowerBounds) × IsProofFile (Some files) limits start path p q proof × EndsByVerdict p.network q proof.values status)
+    ((query : Query) × (proof : LowerBounds) × IsProofFile (Some files) limits start path p query proof × EndsByVerdict p.network query proof.values status)
     ⊎ ((fault : Fault) × FailsFile p start (bytes_of limits.bytes input.Proof None (file_at files path)) fault × (status ≡ status_of (Some fault)))
 
 -- 0 where the tree is safe, and 15 where it is not
-abbrev pub EndsByTree : Parts → Query → Tree → ℕ → Type 0
-EndsByTree n q tree status = ((status ≡ 0) × IsSafeFor n q tree) ⊎ ((status ≡ 15) × ¬ IsSafeFor n q tree)
+abbrev pub EndsByTree : NetworkModel → Query → Tree → ℕ → Type 0
+EndsByTree network query tree status = ((status ≡ 0) × IsSafeFor network query tree) ⊎ ((status ≡ 15) × ¬ IsSafeFor network query tree)
 
 -- where the graph file reads, as its graph says; and else the status of its fault
-abbrev pub EndsByScore : Limits → Folder → ℕ → List ℕ → Problem → ℕ → Type 0
+abbrev pub EndsByScore : Limits → FileMap → ℕ → List ℕ → Problem → ℕ → Type 0
 EndsByScore limits files start path p status =
     ((head : Head) × (graph : PlanGraph) × (graph_in limits p start None (file_at files path) ≡ Ok (head, graph))
     × EndsByTree p.network head.query (unfold_plan graph p.network head.query) status)
@@ -71,12 +71,12 @@ EndsByScore limits files start path p status =
 
 -- some tree is safe from the start of the query or from a later moment
 abbrev pub HasLater : Problem → Query → Type 0
-HasLater p q = (moment : ℕ) × (tree : Tree) × (q.start.0 ≤ moment) × SafeOf p q moment tree
+HasLater p query = (moment : ℕ) × (tree : Tree) × (query.start.0 ≤ moment) × SafeOf p query moment tree
 
 -- 0 where some tree is safe from the first moment, and 1 where none is
 abbrev pub EndsByDepartures : Problem → Query → ℕ → Type 0
-EndsByDepartures p q status = EndsBy (HasSafeFor p q) status
+EndsByDepartures p query status = EndsBy (HasSafeFor p query) status
 
 -- 0 where some tree is safe from some moment on, and 1 where none is
 abbrev pub EndsByLatest : Problem → Query → ℕ → Type 0
-EndsByLatest p q status = EndsBy (HasLater p q) status
+EndsByLatest p query status = EndsBy (HasLater p query) status

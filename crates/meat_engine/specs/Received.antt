@@ -3,7 +3,7 @@ use Rattle.std.specs.Prelude.{◌≡◌, ◌⊎◌, ℕ, List, Option, None, Som
 use Rattle.std.specs.Io.KnownBytes.{Appends, Keeps}
 use Rattle.file_ports.specs.Counts.{Rose}
 use Rattle.file_ports.specs.Loading.{AppendsFront}
-use Rattle.file_ports.specs.Ports.{Folder}
+use Rattle.file_ports.specs.Ports.{FileMap}
 use Rattle.csv_rows.specs.declared.limits.Limits.{Limits}
 use Rattle.command_line.specs.declared.job.WordsFault.{WordsFault}
 use Rattle.command_line.specs.Jobs.{Wanted, Ask, Sample, job_of}
@@ -26,35 +26,35 @@ path_in (Ask j a) input = path_of j (own_paths a) input
 path_in (Sample size) input = no_path input
 
 -- the findings and the text answer the job
-abbrev pub AnswersJob : Option Folder → Limits → Wanted → Findings → List ℕ → Type 0
-AnswersJob told limits (Ask j a) found text = InProblem told limits j (λ p. AnswersAsk told limits j.start p a found text)
-AnswersJob told limits (Sample size) found text = AnswersSample limits size found text
+abbrev pub AnswersJob : Option FileMap → Limits → Wanted → Findings → List ℕ → Type 0
+AnswersJob contents limits (Ask j a) found text = InProblem contents limits j (λ p. AnswersAsk contents limits j.start p a found text)
+AnswersJob contents limits (Sample size) found text = AnswersSample limits size found text
 
 -- why the job has no answer, but for want of memory, where this timetable is known
-abbrev pub FailsJob : Option Folder → Limits → Wanted → Option NamedParts → Fault → Type 0
-FailsJob told limits (Ask j a) known fault = FailsJourney told limits j a known fault
-FailsJob told limits (Sample size) known fault = FailsSample limits size known fault
+abbrev pub FailsJob : Option FileMap → Limits → Wanted → Option NamedParts → Fault → Type 0
+FailsJob contents limits (Ask j a) known fault = FailsJourney contents limits j a known fault
+FailsJob contents limits (Sample size) known fault = FailsSample limits size known fault
 
 -- the words are a job, of which this holds
 abbrev pub Asks : List (List ℕ) → (Wanted → Type 0) → Type 0
 Asks words P = (wanted : Wanted) × (job_of words ≡ Ok wanted) × P wanted
 
 -- the findings and the text answer what the words ask
-abbrev pub Answers : Option Folder → Limits → List (List ℕ) → Findings → List ℕ → Type 0
-Answers told limits words found text = Asks words (λ wanted. AnswersJob told limits wanted found text)
+abbrev pub Answers : Option FileMap → Limits → List (List ℕ) → Findings → List ℕ → Type 0
+Answers contents limits words found text = Asks words (λ wanted. AnswersJob contents limits wanted found text)
 
 -- why there is no answer to the words, where this timetable is known: there was no memory; or the words are refused; or the job
 -- that they ask for has none
-abbrev pub HasCause : Option Folder → Limits → List (List ℕ) → Option NamedParts → Fault → Type 0
-HasCause told limits words known fault =
+abbrev pub HasCause : Option FileMap → Limits → List (List ℕ) → Option NamedParts → Fault → Type 0
+HasCause contents limits words known fault =
     (fault ≡ NoMemory)
     ⊎ (((refusal : WordsFault) × (fault ≡ Words refusal) × (job_of words ≡ Err refusal))
-    ⊎ Asks words (λ wanted. FailsJob told limits wanted known fault))
+    ⊎ Asks words (λ wanted. FailsJob contents limits wanted known fault))
 
 -- nothing but the fault is told, which has a cause, and this holds of its line
-abbrev pub IsRefused : Option Folder → Limits → List (List ℕ) → Report → (List ℕ → Type 0) → Fault → Type 0
-IsRefused told limits words report Tells fault =
-    (findings_of report ≡ no_findings) × ((known : Option NamedParts) × HasCause told limits words known fault × Tells (line_of known fault))
+abbrev pub IsRefused : Option FileMap → Limits → List (List ℕ) → Report → (List ℕ → Type 0) → Fault → Type 0
+IsRefused contents limits words report Tells fault =
+    (findings_of report ≡ no_findings) × ((known : Option NamedParts) × HasCause contents limits words known fault × Tells (line_of known fault))
 
 -- how a run ends: with the whole of its answer; with a front of it; or with nothing but a fault
 pub data Ending : Type 0 where
@@ -80,21 +80,21 @@ ending_of None = Whole
 ending_of (Some fault) = ending_at (stage_of fault)
 
 -- an answer to the words, of whose text this holds
-abbrev pub HasAnswer : Option Folder → Limits → List (List ℕ) → Report → (List ℕ → Type 0) → Type 0
-HasAnswer told limits words report P = (text : List ℕ) × Answers told limits words (findings_of report) text × P text
+abbrev pub HasAnswer : Option FileMap → Limits → List (List ℕ) → Report → (List ℕ → Type 0) → Type 0
+HasAnswer contents limits words report P = (text : List ℕ) × Answers contents limits words (findings_of report) text × P text
 
 -- what a run comes to, by its fault: the answer with its text, written whole, or only a front of it where writing failed; or
 -- the fault's cause and its line, and then nothing is written
-abbrev pub OutcomeBy : Ending → Option Folder → Limits → List (List ℕ) → Report → Option (List ℕ) → Option (List ℕ) → (List ℕ → Type 0)
+abbrev pub OutcomeBy : Ending → Option FileMap → Limits → List (List ℕ) → Report → Option (List ℕ) → Option (List ℕ) → (List ℕ → Type 0)
     → Option Fault → Type 0
-OutcomeBy Whole told limits words report old new Tells fault = HasAnswer told limits words report (Appends old new)
-OutcomeBy Torn told limits words report old new Tells fault =
-    HasAnswer told limits words report (AppendsFront old new) × ((known : Option NamedParts) → IfSome fault (λ f. Tells (line_of known f)))
-OutcomeBy Refused told limits words report old new Tells fault = Keeps old new × IfSome fault (IsRefused told limits words report Tells)
+OutcomeBy Whole contents limits words report old new Tells fault = HasAnswer contents limits words report (Appends old new)
+OutcomeBy Torn contents limits words report old new Tells fault =
+    HasAnswer contents limits words report (AppendsFront old new) × ((known : Option NamedParts) → IfSome fault (λ f. Tells (line_of known f)))
+OutcomeBy Refused contents limits words report old new Tells fault = Keeps old new × IfSome fault (IsRefused contents limits words report Tells)
 
-abbrev pub Outcome : Option Folder → Limits → List (List ℕ) → Report → Option (List ℕ) → Option (List ℕ) → (List ℕ → Type 0)
+abbrev pub Outcome : Option FileMap → Limits → List (List ℕ) → Report → Option (List ℕ) → Option (List ℕ) → (List ℕ → Type 0)
     → Option Fault → Type 0
-Outcome told limits words report old new Tells fault = OutcomeBy (ending_of fault) told limits words report old new Tells fault
+Outcome contents limits words report old new Tells fault = OutcomeBy (ending_of fault) contents limits words report old new Tells fault
 
 -- a front of a line was received, the whole of it where the sink's count did not rise
 abbrev pub IsTold : Option (List ℕ) → Option (List ℕ) → ℕ → ℕ → List ℕ → Type 0

@@ -2,7 +2,7 @@
 use Rattle.std.specs.Prelude.{◌≡◌, ℕ, ◌<◌, List, Option, None, Some, Ok, IsSome}
 use Rattle.std.specs.Io.KnownBytes.{Keeps}
 use Rattle.file_ports.specs.Counts.{Rose}
-use Rattle.file_ports.specs.Ports.{Folder}
+use Rattle.file_ports.specs.Ports.{FileMap}
 use Rattle.csv_rows.specs.declared.limits.Limits.{Limits}
 use Rattle.command_line.specs.Jobs.{Wanted, job_of}
 use Rattle.journey_model.specs.declared.faults.Input.{Input}
@@ -15,12 +15,12 @@ use Rattle.meat_engine.specs.Completeness.{IsComplete}
 
 -- what files tell, where they do; and how often they failed, in all and by path
 pub record FilesState : Type 0 where
-  pub told : Option Folder
+  pub told : Option FileMap
   pub faults : ℕ
   pub faults_of : List ℕ → ℕ
 
-abbrev pub files_state : Option Folder → ℕ → (List ℕ → ℕ) → FilesState
-files_state told faults faults_of = record { told = told; faults = faults; faults_of = faults_of }
+abbrev pub files_state : Option FileMap → ℕ → (List ℕ → ℕ) → FilesState
+files_state contents faults faults_of = record { contents = contents; faults = faults; faults_of = faults_of }
 
 -- what a sink received, where that is known; and how often it failed
 pub record SinkState : Type 0 where

@@ -1,6 +1,6 @@
 -- What `sample` answers: the plan of a journey over a timetable that is made.
 use Rattle.std.specs.Prelude.{◌≡◌, ℕ, List, Option, None, Some, codes}
-use Rattle.file_ports.specs.Ports.{Folder}
+use Rattle.file_ports.specs.Ports.{FileMap}
 use Rattle.csv_rows.specs.declared.limits.Limits.{Limits}
 use Rattle.plan_model.specs.declared.model.Moment.{Moment}
 use Rattle.plan_model.specs.declared.model.Query.{Query}
@@ -36,16 +36,16 @@ sample_alpha = 200
 
 -- the findings and the text tell of a plan, how many connections the window has and how many legs the graph has
 abbrev pub TellsSampled : ℕ → Problem → Findings → List ℕ → Query → Moment → Type 0
-TellsSampled size p found text q worst =
-    (graph : PlanGraph) × (bounds : Interval) × (found ≡ sample_findings q worst graph bounds (count p.network))
-    × IsPlanned p.network q graph bounds × (text ≡ sample_text size (count p.network) (leg_count graph) bounds)
+TellsSampled size p found text query worst =
+    (graph : PlanGraph) × (bounds : Interval) × (found ≡ sample_findings query worst graph bounds (count p.network))
+    × IsPlanned p.network query graph bounds × (text ≡ sample_text size (count p.network) (leg_count graph) bounds)
 
 abbrev pub IsSampled : ℕ → Problem → Findings → List ℕ → Type 0
 IsSampled size p found text = InQuery p sample_journey.start sample_alpha (TellsSampled size p found text)
 
 -- the files of the made timetable are some of which this holds
-abbrev pub OverMade : ℕ → (Folder → Type 0) → Type 0
-OverMade size P = (files : Folder) × SameFolder (made size) files × P files
+abbrev pub OverMade : ℕ → (FileMap → Type 0) → Type 0
+OverMade size P = (files : FileMap) × SameFolder (made size) files × P files
 
 abbrev pub AnswersSample : Limits → ℕ → Findings → List ℕ → Type 0
 AnswersSample limits size found text = OverMade size (λ files. InProblem (Some files) limits sample_journey (λ p. IsSampled size p found text))

@@ -7,7 +7,7 @@ use Rattle.std.proofs.lemmas.Bool.Decides.{nat_tests}
 use Rattle.plan_model.specs.declared.model.Leg.{Leg}
 use Rattle.plan_model.specs.declared.model.Outcome.{Outcome}
 use Rattle.plan_model.specs.declared.model.Query.{Query}
-use Rattle.plan_model.specs.Parts.{Parts}
+use Rattle.plan_model.specs.NetworkModel.{NetworkModel}
 use Rattle.plan_model.specs.Network.{count, to_of, arr_of, outcomes}
 use Rattle.plan_model.specs.Tree.{Tree, Kids, Done, Ride, Stuck, Nil, Kid, height, height_of}
 use Rattle.plan_model.specs.Strategy.{Safe, SafeAll, IsSafeFor}
@@ -44,7 +44,7 @@ option_map-option_map : {V : Type 0} (o : Option (Row V)) → option_map (λ (ch
 option_map-option_map None = refl
 option_map-option_map (Some row) = refl
 
-module _ {V : Type 0} (n : Parts) (target deadline : ℕ) (choice : ℕ → ℕ → Option Leg) (rows : ℕ → List (Row V))
+module _ {V : Type 0} (n : NetworkModel) (target deadline : ℕ) (choice : ℕ → ℕ → Option Leg) (rows : ℕ → List (Row V))
     (by_rows : (place arrival : ℕ) → choice place arrival ≡ option_map (λ row. row.leg) (picked arrival (rows place))) where
   -- what is unfolded after a leg, over so many rides
   abbrev after_leg : ℕ → Leg → ℕ → Tree
@@ -96,7 +96,7 @@ module _ {V : Type 0} (n : Parts) (target deadline : ℕ) (choice : ℕ → ℕ 
       e ∙ ride_of-kids enter exit kids (count n - 1) leg enters exits
       (kids_after-chosen kids (count n - 1) leg (outcomes n exit) (to_of n exit) (arr_of n exit) (ap (to_of n) exits) (omega arith) safe is)
 
-module _ {V : Type 0} (below covers : V → Tree → Type 0) (gap rank : V → ℕ) (n : Parts) (q : Query) (scanned : ℕ → Type 0)
+module _ {V : Type 0} (below covers : V → Tree → Type 0) (gap rank : V → ℕ) (n : NetworkModel) (q : Query) (scanned : ℕ → Type 0)
     (all : (id : ℕ) → id < count n → scanned id) (differ : q.source.0 ≢ q.target.0) (found : Found V) (exits : ℕ → Option (Exit V))
     (ok : ScanOk below covers gap rank n q scanned (count n) (found_rows found) exits found.start) where
   -- the leg of the row that is picked
@@ -179,7 +179,7 @@ module _ {V : Type 0} (below covers : V → Tree → Type 0) (gap rank : V → �
   }
 
 -- before any connection is scanned
-module _ {V : Type 0} (below covers : V → Tree → Type 0) (gap rank : V → ℕ) (network : Parts) (query : Query) (scanned : ℕ → Type 0)
+module _ {V : Type 0} (below covers : V → Tree → Type 0) (gap rank : V → ℕ) (network : NetworkModel) (query : Query) (scanned : ℕ → Type 0)
     (none : (id : ℕ) → scanned id → ⊥) (rows : ℕ → List (Row V)) (empty : (place : ℕ) → rows place ≡ []) (exits : ℕ → Option (Exit V))
     (no_exits : (run : ℕ) → exits run ≡ None) where
   pub scan_ok_start : ScanOk below covers gap rank network query scanned 0 rows exits None

@@ -8,7 +8,7 @@ use Rattle.plan_model.specs.declared.model.ConnectionId.{ConnectionId}
 use Rattle.plan_model.specs.declared.model.Leg.{Leg}
 use Rattle.plan_model.specs.declared.model.Outcome.{Outcome}
 use Rattle.plan_model.specs.declared.model.Query.{Query}
-use Rattle.plan_model.specs.Parts.{Parts}
+use Rattle.plan_model.specs.NetworkModel.{NetworkModel}
 use Rattle.plan_model.specs.Network.{count, connection, from_of, to_of, dep_of, arr_of, run_of, outcomes, IsValid}
 use Rattle.plan_model.specs.Order.{IsScanOrder, IsPrefixUpTo}
 use Rattle.plan_model.specs.Tree.{Tree}
@@ -40,7 +40,7 @@ cond_none : {X : Type 0} (b : Bool) → cond {A = Option X} b None None ≡ None
 cond_none true = refl
 cond_none false = refl
 
-module _ {V : Type 0} (rank : V → ℕ) (lowered : V → V → V) (arrived : ℕ → V) (blended : List Outcome → List V → V) (network : Parts)
+module _ {V : Type 0} (rank : V → ℕ) (lowered : V → V → V) (arrived : ℕ → V) (blended : List Outcome → List V → V) (network : NetworkModel)
     (good : IsValid network) (query : Query) (id : ℕ) (there : id < count network) (late : query.deadline.0 < dep_of network id)
     (rows : ℕ → List (Row V)) (exits : ℕ → Option (Exit V)) (no_rows : (place : ℕ) → rows place ≡ []) (no_exits : (run : ℕ) → exits run ≡ None) where
   -- no exit gives a value
@@ -66,7 +66,7 @@ module _ {V : Type 0} (rank : V → ℕ) (lowered : V → V → V) (arrived : �
   start_kept start = rw boarded_none refl
 
 -- the tables have room for less
-pub room_less : {V : Type 0} (network : Parts) (rest skipped : List ConnectionId) (profiles : List (Shown V)) (exits : List (Option (Exit V)))
+pub room_less : {V : Type 0} (network : NetworkModel) (rest skipped : List ConnectionId) (profiles : List (Shown V)) (exits : List (Option (Exit V)))
     (kids : List V) → HasRoom network (rest ++ skipped) profiles exits kids → HasRoom network rest profiles exits kids
 room_less network rest skipped profiles exits kids room = record {
   places = room.places;
@@ -76,7 +76,7 @@ room_less network rest skipped profiles exits kids room = record {
 }
 
 module _ {V : Type 0} {below covers : V → Tree → Type 0} {gap rank : V → ℕ} {arrived : ℕ → V} {blended : List Outcome → List V → V}
-    {lowered : V → V → V} (laws : ScoreLaws below covers gap rank arrived blended lowered) (network : Parts) (good : IsValid network) (query : Query)
+    {lowered : V → V → V} (laws : ScoreLaws below covers gap rank arrived blended lowered) (network : NetworkModel) (good : IsValid network) (query : Query)
     (order : List ConnectionId) (whole : IsScanOrder network order) (profiles : List (Shown V)) (exits : List (Option (Exit V))) (empty : IsEmpty profiles exits) where
   -- after the skipped ones, by induction over them
   late_state : (rest skipped : List ConnectionId) → rest ++ skipped ≡ order → All (λ id. query.deadline.0 < dep_of network id.0) skipped
@@ -99,7 +99,7 @@ module _ {V : Type 0} {below covers : V → Tree → Type 0} {gap rank : V → �
       → ScanState below covers gap rank lowered arrived blended network query order rest profiles exits None
   skipped_state rest up_to = late_state rest up_to.skipped (sym up_to.split) up_to.late
 
-pub skipped_room : {V : Type 0} (network : Parts) (last : ℕ) (order rest : List ConnectionId) (profiles : List (Shown V))
+pub skipped_room : {V : Type 0} (network : NetworkModel) (last : ℕ) (order rest : List ConnectionId) (profiles : List (Shown V))
     (exits : List (Option (Exit V))) (kids : List V) → IsPrefixUpTo network last order rest → HasRoom network order profiles exits kids
     → HasRoom network rest profiles exits kids
 skipped_room network last order rest profiles exits kids up_to room =

@@ -5,7 +5,7 @@ use Rattle.std.proofs.lemmas.Bool.{cases_lt}
 use Rattle.std.proofs.lemmas.List.{take_more, get_or_append_left, get_or_at, length-replicate}
 use Rattle.std.proofs.lemmas.List.Sums.{sum_by_push, count_by-le-length}
 use Rattle.plan_model.specs.declared.model.Connection.{Connection}
-use Rattle.plan_model.specs.Parts.{Parts}
+use Rattle.plan_model.specs.NetworkModel.{NetworkModel}
 use Rattle.plan_model.specs.Network.{count, run_of, no_connection, IsValid}
 use Rattle.plan_model.proofs.ScanOrders.{count_in_order}
 use Rattle.stop_profile.specs.Shown.{Shown}
@@ -44,7 +44,7 @@ no_exits (suc n) zero = refl
 no_exits (suc n) (suc run) = no_exits n run
 
 -- what was reserved fits the network
-pub fits : {V : Type 0} (network : Parts) → IsValid network
+pub fits : {V : Type 0} (network : NetworkModel) → IsValid network
     → (runs : ℕ) (below : (i : ℕ) → i < count network → run_of network i < runs) (room : List ℕ) (profiles : List (Shown V))
     (exits : List (Option (Exit V))) (kids : List V) → length room ≡ length network.change
     → ((place : ℕ) → place < length network.change → get_or room place 0 ≡ count_by (λ c. has_way network place c.from.0) network.connections)

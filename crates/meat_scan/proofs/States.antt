@@ -6,7 +6,7 @@ use Rattle.plan_model.specs.declared.model.ConnectionId.{ConnectionId}
 use Rattle.plan_model.specs.declared.model.Leg.{Leg}
 use Rattle.plan_model.specs.declared.model.Outcome.{Outcome}
 use Rattle.plan_model.specs.declared.model.Query.{Query}
-use Rattle.plan_model.specs.Parts.{Parts}
+use Rattle.plan_model.specs.NetworkModel.{NetworkModel}
 use Rattle.plan_model.specs.Network.{count, from_of, run_of, IsValid}
 use Rattle.plan_model.specs.Tree.{Tree}
 use Rattle.plan_model.specs.Order.{IsScanOrder}
@@ -29,7 +29,7 @@ same_function f g h = λ i x. h x i
 
 -- the ids that are taken, and what is claimed of them
 pub record ScanState {V : Type 0} (below covers : V → Tree → Type 0) (gap rank : V → ℕ) (lowered : V → V → V) (arrived : ℕ → V)
-    (blended : List Outcome → List V → V) (network : Parts) (query : Query) (order rest : List ConnectionId) (profiles : List (Shown V))
+    (blended : List Outcome → List V → V) (network : NetworkModel) (query : Query) (order rest : List ConnectionId) (profiles : List (Shown V))
     (exits : List (Option (Exit V))) (start : Option (V × Leg)) : Type 0 where
   pub taken : List ConnectionId
   pub split : rest ++ taken ≡ order
@@ -42,7 +42,7 @@ kept_same : {V : Type 0} {rows rows' : ℕ → List (Row V)} {exits exits' : ℕ
 kept_same rows exits start = λ i. record { rows = rows i; exits = exits i; start = start i }
 
 module _ {V : Type 0} {below covers : V → Tree → Type 0} {gap rank : V → ℕ} {arrived : ℕ → V} {blended : List Outcome → List V → V}
-    {lowered : V → V → V} (laws : ScoreLaws below covers gap rank arrived blended lowered) (network : Parts) (good : IsValid network) (query : Query)
+    {lowered : V → V → V} (laws : ScoreLaws below covers gap rank arrived blended lowered) (network : NetworkModel) (good : IsValid network) (query : Query)
     (order : List ConnectionId) (whole : IsScanOrder network order) where
   -- before the first
   pub first_state : (profiles : List (Shown V)) (exits : List (Option (Exit V))) → IsEmpty profiles exits
@@ -115,11 +115,11 @@ module _ {V : Type 0} {below covers : V → Tree → Type 0} {gap rank : V → �
   next_there rest id profiles exits start state = (next_taken rest state.taken id state.split).there
 
 -- how many connections can be boarded from a place, with one more
-boardable-push : (network : Parts) (place : ℕ) (rest : List ConnectionId) (id : ConnectionId)
+boardable-push : (network : NetworkModel) (place : ℕ) (rest : List ConnectionId) (id : ConnectionId)
     → boardable network place (rest ++ id ∷ []) ≡ boardable network place rest + cond (has_way network place (from_of network id.0)) 1 0
 boardable-push network place rest id = sum_by_push (λ (i : ConnectionId). cond (has_way network place (from_of network i.0)) 1 0) rest id
 
-module _ {V : Type 0} (network : Parts) (rest : List ConnectionId) (id : ConnectionId) (there : id.0 < count network) (profiles : List (Shown V))
+module _ {V : Type 0} (network : NetworkModel) (rest : List ConnectionId) (id : ConnectionId) (there : id.0 < count network) (profiles : List (Shown V))
     (exits : List (Option (Exit V))) (kids : List V) (room : HasRoom network (rest ++ id ∷ []) profiles exits kids) where
   pub room_for_run : run_of network id.0 < length exits
   room_for_run = room.runs id.0 there

@@ -9,7 +9,7 @@ use Rattle.std.proofs.lemmas.Bool.Decides.{nat_tests}
 use Rattle.std.proofs.lemmas.List.{take_more, get_or-take}
 use Rattle.plan_model.specs.declared.model.Leg.{Leg}
 use Rattle.plan_model.specs.declared.model.Way.{Way}
-use Rattle.plan_model.specs.Parts.{Parts}
+use Rattle.plan_model.specs.NetworkModel.{NetworkModel}
 use Rattle.plan_model.specs.Network.{IsValid}
 use Rattle.plan_model.specs.Ways.{ways_into}
 use Rattle.plan_model.proofs.Boarding.{way_of-listed, way_takes, ways_into-distinct}
@@ -139,7 +139,7 @@ module _ (ways : List Way) (distinct : AllPairs (λ a b. a.from.0 ≢ b.from.0) 
   ]
 
 -- the ways into a place say whether a way leads from another
-pub has_way-way_in : (n : Parts) (place r : ℕ) → cond (has_way n place r) 1 0 ≡ way_number (way_in (ways_into n r) place)
+pub has_way-way_in : (n : NetworkModel) (place r : ℕ) → cond (has_way n place r) 1 0 ≡ way_number (way_in (ways_into n r) place)
 has_way-way_in n place r = at (way_in (ways_into n r) place)
   where
     at : (o : Option Way) → ◌≡◌ {A = ℕ} (cond (is_some (option_map (λ (w : Way). w.seconds) o)) 1 0) (way_number o)
@@ -147,15 +147,15 @@ has_way-way_in n place r = at (way_in (ways_into n r) place)
     at (Some way) = refl
 
 -- a way that is listed leads from its place
-pub has_way-listed : (n : Parts) → IsValid n → (r k : ℕ) (way : Way) → r < length n.change → slice_get (ways_into n r) k ≡ Some way → has_way n way.from.0 r ≡ true
+pub has_way-listed : (n : NetworkModel) → IsValid n → (r k : ℕ) (way : Way) → r < length n.change → slice_get (ways_into n r) k ≡ Some way → has_way n way.from.0 r ≡ true
 has_way-listed n valid r k way inside is = ap is_some (way_of-listed n valid r inside k way is)
 
 -- and that place is one of the network's
-pub from_in : (n : Parts) → IsValid n → (r k : ℕ) (way : Way) → r < length n.change → slice_get (ways_into n r) k ≡ Some way → way.from.0 < length n.change
+pub from_in : (n : NetworkModel) → IsValid n → (r k : ℕ) (way : Way) → r < length n.change → slice_get (ways_into n r) k ≡ Some way → way.from.0 < length n.change
 from_in n valid r k way inside is = (way_takes n valid way.from.0 r way.seconds inside (way_of-listed n valid r inside k way is)).0
 
 -- where one row for each way has room, there is room for the row of a way after those before it
-pub room_left : (n : Parts) → IsValid n → (r k : ℕ) → r < length n.change → k < length (ways_into n r) → (way : Way)
+pub room_left : (n : NetworkModel) → IsValid n → (r k : ℕ) → r < length n.change → k < length (ways_into n r) → (way : Way)
     → slice_get (ways_into n r) k ≡ Some way → (old now : ℕ) → cond (has_way n way.from.0 r) 1 0 ≤ old
     → old ≤ now + way_number (way_in (take k (ways_into n r)) way.from.0) → 1 ≤ now
 room_left n valid r k inside within way is old now room so_far =

@@ -1,40 +1,40 @@
 -- Who can board a leg: whoever arrives by its limit.
 use Rattle.std.proofs.Common.{◌≡◌, ℕ, ◌-◌, ◌<◌, ◌≤◌, Some, None, arith, sym, ◌∙◌}
 use Rattle.plan_model.specs.declared.model.Leg.{Leg}
-use Rattle.plan_model.specs.Parts.{Parts}
+use Rattle.plan_model.specs.NetworkModel.{NetworkModel}
 use Rattle.plan_model.specs.Network.{count, from_of, dep_of, IsValid}
 use Rattle.plan_model.specs.Ways.{limit_of}
 use Rattle.plan_model.specs.Strategy.{IsBoardable}
 use Rattle.plan_model.proofs.Boarding.{way_takes, earlier_by-is, limit_of-some}
 
 -- whoever can board has arrived by the limit
-pub limit_of-boards : (n : Parts) (p x : ℕ) (leg : Leg) → IsBoardable n p x leg.enter.0 → (by : ℕ) × (limit_of n p leg ≡ Some by) × (x ≤ by)
+pub limit_of-boards : (n : NetworkModel) (p x : ℕ) (leg : Leg) → IsBoardable n p x leg.enter.0 → (by : ℕ) × (limit_of n p leg ≡ Some by) × (x ≤ by)
 limit_of-boards n p x leg board =
     let by = dep_of n leg.enter.0 - board.seconds in
     let is : limit_of n p leg ≡ Some by = rw board.way (earlier_by-is (dep_of n leg.enter.0) board.seconds by (omega (arith, board.in_time))) in
     (by, is, omega (arith, board.in_time))
 
-pub boards_by : (n : Parts) (p x by : ℕ) (leg : Leg) → limit_of n p leg ≡ Some by → IsBoardable n p x leg.enter.0 → x ≤ by
+pub boards_by : (n : NetworkModel) (p x by : ℕ) (leg : Leg) → limit_of n p leg ≡ Some by → IsBoardable n p x leg.enter.0 → x ≤ by
 boards_by n p x by leg is board =
     let (latest, is_latest, in_time) = limit_of-boards n p x leg board in
     let same : latest ≡ by = let both = sym is_latest ∙ is in cc in
     omega arith
 
 -- with no limit nobody can board
-pub never_boards : (n : Parts) (p x : ℕ) (leg : Leg) → limit_of n p leg ≡ None → IsBoardable n p x leg.enter.0 → ⊥
+pub never_boards : (n : NetworkModel) (p x : ℕ) (leg : Leg) → limit_of n p leg ≡ None → IsBoardable n p x leg.enter.0 → ⊥
 never_boards n p x leg none board =
     let (latest, is_latest, in_time) = limit_of-boards n p x leg board in
     let both = sym is_latest ∙ none in
     absurd (cc)
 
 -- whoever has arrived by the limit can board
-pub boards-limit_of : (n : Parts) (p x by : ℕ) (leg : Leg) → limit_of n p leg ≡ Some by → x ≤ by → IsBoardable n p x leg.enter.0
+pub boards-limit_of : (n : NetworkModel) (p x by : ℕ) (leg : Leg) → limit_of n p leg ≡ Some by → x ≤ by → IsBoardable n p x leg.enter.0
 boards-limit_of n p x by leg is in_time =
     let (seconds, way, sum) = limit_of-some n p leg by is in
     record { seconds = seconds; way = way; in_time = omega arith }
 
 -- the limit is before the departure
-pub limit_of-before : (n : Parts) → IsValid n → (p by : ℕ) (leg : Leg) → leg.enter.0 < count n → limit_of n p leg ≡ Some by → by < dep_of n leg.enter.0
+pub limit_of-before : (n : NetworkModel) → IsValid n → (p by : ℕ) (leg : Leg) → leg.enter.0 < count n → limit_of n p leg ≡ Some by → by < dep_of n leg.enter.0
 limit_of-before n valid p by leg there is =
     let (seconds, way, sum) = limit_of-some n p leg by is in
     let takes = way_takes n valid p (from_of n leg.enter.0) seconds (valid.connections leg.enter.0 there).from_in way in

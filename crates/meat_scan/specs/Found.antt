@@ -3,7 +3,7 @@ use Rattle.std.specs.Prelude.{ℕ, List, [], Option, Some, slice_index_or, map}
 use Rattle.std.specs.Option.{option_map}
 use Rattle.plan_model.specs.declared.model.Leg.{Leg}
 use Rattle.plan_model.specs.declared.model.Query.{Query}
-use Rattle.plan_model.specs.Parts.{Parts}
+use Rattle.plan_model.specs.NetworkModel.{NetworkModel}
 use Rattle.plan_model.specs.Tree.{Tree}
 use Rattle.plan_model.specs.Unfold.{unfold_from, unfolded, by_place}
 use Rattle.stop_profile.specs.declared.Row.{Row}
@@ -33,10 +33,10 @@ abbrev pub leg_choice : {V : Type 0} → Found V → ℕ → ℕ → Option Leg
 leg_choice found place arrival = option_map (λ choice. choice.1) (choice_of found place arrival)
 
 -- the tree that is chosen after an arrival at a place
-abbrev pub chosen_at : {V : Type 0} → Parts → Query → Found V → ℕ → ℕ → Tree
-chosen_at n q found place arrival =
-    unfold_from n q.target.0 (by_place n (leg_choice found)) (leg_choice found place arrival) place arrival
+abbrev pub chosen_at : {V : Type 0} → NetworkModel → Query → Found V → ℕ → ℕ → Tree
+chosen_at network query found place arrival =
+    unfold_from network query.target.0 (by_place network (leg_choice found)) (leg_choice found place arrival) place arrival
 
 -- the tree that is chosen by a start leg
-abbrev pub chosen_by : {V : Type 0} → Parts → Query → Found V → Leg → Tree
-chosen_by n q found leg = unfolded n q (by_place n (leg_choice found)) (Some leg)
+abbrev pub chosen_by : {V : Type 0} → NetworkModel → Query → Found V → Leg → Tree
+chosen_by network query found leg = unfolded network query (by_place network (leg_choice found)) (Some leg)

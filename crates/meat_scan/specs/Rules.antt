@@ -4,7 +4,7 @@ use Rattle.plan_model.specs.declared.model.ConnectionId.{ConnectionId}
 use Rattle.plan_model.specs.declared.model.Leg.{Leg}
 use Rattle.plan_model.specs.declared.model.Outcome.{Outcome}
 use Rattle.plan_model.specs.declared.model.Query.{Query}
-use Rattle.plan_model.specs.Parts.{Parts}
+use Rattle.plan_model.specs.NetworkModel.{NetworkModel}
 use Rattle.stop_profile.specs.declared.Row.{Row}
 use Rattle.trip_exit.specs.Offers.{Exit}
 use Rattle.meat_scan.specs.Step.{rows_next, exits_next, start_next}
@@ -17,7 +17,7 @@ pub record Kept (V : Type 0) : Type 0 where
   pub start : Option (V × Leg)
 
 -- what is kept with one connection more
-abbrev pub kept_next : {V : Type 0} → (V → ℕ) → (V → V → V) → (ℕ → V) → (List Outcome → List V → V) → Parts → Query → ℕ → Kept V → Kept V
+abbrev pub kept_next : {V : Type 0} → (V → ℕ) → (V → V → V) → (ℕ → V) → (List Outcome → List V → V) → NetworkModel → Query → ℕ → Kept V → Kept V
 kept_next rank lowered arrived blended network query id kept = record {
   rows = rows_next rank lowered arrived blended network query id kept.rows kept.exits;
   exits = exits_next rank lowered arrived blended network query id kept.rows kept.exits;
@@ -25,14 +25,14 @@ kept_next rank lowered arrived blended network query id kept = record {
 }
 
 -- what is kept of the connections of a list, which are taken backwards
-abbrev pub kept_after : {V : Type 0} → (V → ℕ) → (V → V → V) → (ℕ → V) → (List Outcome → List V → V) → Parts → Query → List ConnectionId → Kept V
+abbrev pub kept_after : {V : Type 0} → (V → ℕ) → (V → V → V) → (ℕ → V) → (List Outcome → List V → V) → NetworkModel → Query → List ConnectionId → Kept V
 kept_after rank lowered arrived blended network query [] = record { rows = λ place. []; exits = λ run. None; start = None }
 kept_after rank lowered arrived blended network query (id ∷ later) =
     kept_next rank lowered arrived blended network query id.0 (kept_after rank lowered arrived blended network query later)
 
 -- what was found is what the rules keep of all connections, in the scan order: so the better value is kept, on a tie the one
 -- that the scan took earlier, and a connection is a row of each place from which a way leads to it, up to its limit there
-pub record FollowsRules {V : Type 0} (rank : V → ℕ) (lowered : V → V → V) (arrived : ℕ → V) (blended : List Outcome → List V → V) (network : Parts)
+pub record FollowsRules {V : Type 0} (rank : V → ℕ) (lowered : V → V → V) (arrived : ℕ → V) (blended : List Outcome → List V → V) (network : NetworkModel)
     (query : Query) (order : List ConnectionId) (found : Found V) : Type 0 where
   pub rows : (place : ℕ) → found_rows found place ≡ (kept_after rank lowered arrived blended network query order).rows place
   pub start : found.start ≡ (kept_after rank lowered arrived blended network query order).start

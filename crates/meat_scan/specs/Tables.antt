@@ -1,7 +1,7 @@
 -- The tables of a scan.
 use Rattle.std.specs.Prelude.{◌≡◌, ℕ, ◌+◌, ◌<◌, ◌≤◌, Bool, List, [], length, Option, None, is_some, slice_index_or, count_by, if◌then◌else◌}
 use Rattle.plan_model.specs.declared.model.ConnectionId.{ConnectionId}
-use Rattle.plan_model.specs.Parts.{Parts}
+use Rattle.plan_model.specs.NetworkModel.{NetworkModel}
 use Rattle.plan_model.specs.Ways.{way_of}
 use Rattle.plan_model.specs.Network.{count, from_of, run_of, IsValid}
 use Rattle.plan_model.specs.Order.{IsScanOrder}
@@ -30,19 +30,19 @@ abbrev pub exit_at : {V : Type 0} → List (Option (Exit V)) → ℕ → Option 
 exit_at exits run = slice_index_or exits run None
 
 -- whether a way leads from a place to another
-abbrev pub has_way : Parts → ℕ → ℕ → Bool
+abbrev pub has_way : NetworkModel → ℕ → ℕ → Bool
 has_way network place to = is_some (way_of network place to)
 
 -- how many ways lead from a place to another: one, or none
-abbrev pub ways_between : Parts → ℕ → ℕ → ℕ
+abbrev pub ways_between : NetworkModel → ℕ → ℕ → ℕ
 ways_between network place to = if has_way network place to then 1 else 0
 
 -- how many of the connections can be boarded by a way from a place
-abbrev pub boardable : Parts → ℕ → List ConnectionId → ℕ
+abbrev pub boardable : NetworkModel → ℕ → List ConnectionId → ℕ
 boardable network place ids = count_by (λ id. has_way network place (from_of network id.0)) ids
 
 -- the tables have room for the connections that are left
-pub record HasRoom {V : Type 0} (network : Parts) (rest : List ConnectionId) (profiles : List (Shown V)) (exits : List (Option (Exit V))) (kids : List V) : Type 0 where
+pub record HasRoom {V : Type 0} (network : NetworkModel) (rest : List ConnectionId) (profiles : List (Shown V)) (exits : List (Option (Exit V))) (kids : List V) : Type 0 where
   pub places : length profiles ≡ length network.change
   pub runs : (i : ℕ) → i < count network → run_of network i < length exits
   pub room : (place : ℕ) → place < length profiles → boardable network place rest ≤ spare_at profiles place
@@ -60,7 +60,7 @@ pub record Tables (V : Type 0) : Type 0 where
   pub kids : List V
 
 -- the tables are empty, and were made for the network, which is valid
-pub record FitsTables {V : Type 0} (network : Parts) (tables : Tables V) : Type 0 where
+pub record FitsTables {V : Type 0} (network : NetworkModel) (tables : Tables V) : Type 0 where
   pub valid : IsValid network
   pub empty : IsEmpty tables.profiles tables.exits
   pub room : (order : List ConnectionId) → IsScanOrder network order → HasRoom network order tables.profiles tables.exits tables.kids

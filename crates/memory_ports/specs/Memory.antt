@@ -1,12 +1,12 @@
 -- What files in memory that fail where they were told to stand for.
 use Rattle.std.specs.Prelude.{◌≡◌, ℕ, List, Bool, ◌||◌, ◌&&◌, Option, bytes_eq, nat_eq}
-use Rattle.file_ports.specs.Ports.{Folder}
+use Rattle.file_ports.specs.Ports.{FileMap}
 use Rattle.memory_ports.specs.Failing.{faults_in, fails_in}
 use Rattle.file_ports.specs.Steady.{folder_of as steady_folder, hand_of as steady_hand, left_of as steady_left, piece_of as steady_piece, SameFiles as SameSteadily}
 use Rattle.memory_ports.specs.declared.memory.MemoryFiles.{MemoryFiles}
 
 -- the files by their paths
-abbrev pub folder_of : MemoryFiles → Folder
+abbrev pub folder_of : MemoryFiles → FileMap
 folder_of f = steady_folder f.steady
 
 -- the path of the file in hand

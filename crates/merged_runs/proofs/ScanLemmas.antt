@@ -7,17 +7,17 @@ use Rattle.std.proofs.lemmas.List.Kept.{AllPairs-cons}
 use Rattle.std.proofs.lemmas.List.Sorted.{IsPermutation-refl, IsPermutation-cons, IsPermutation-trans, IsPermutation-to_front, IsPermutation-sym, IsPermutation-middle, All-permutation}
 use Rattle.plan_model.specs.Bounds.{most_connections}
 use Rattle.plan_model.specs.declared.model.ConnectionId.{ConnectionId}
-use Rattle.plan_model.specs.Parts.{Parts}
+use Rattle.plan_model.specs.NetworkModel.{NetworkModel}
 use Rattle.plan_model.specs.Network.{IsValid, count, dep_of}
 use Rattle.plan_model.specs.Order.{IsScanOrder, IsEarlier, ids_below}
 use Rattle.plan_model.proofs.ScanOrders.{length_ids, get_ids}
 use Rattle.merged_runs.specs.Merged.{rank, placed, in_order}
 
 -- a connection is scanned before another
-abbrev pub Scanned : Parts → ConnectionId → ConnectionId → Type 0
+abbrev pub Scanned : NetworkModel → ConnectionId → ConnectionId → Type 0
 Scanned n a b = rank n a.0 < rank n b.0
 
-IsPermutation-placed : (n : Parts) (i : ℕ) (ids : List ConnectionId) → IsPermutation (record { 0 = i } ∷ ids) (placed n i ids)
+IsPermutation-placed : (n : NetworkModel) (i : ℕ) (ids : List ConnectionId) → IsPermutation (record { 0 = i } ∷ ids) (placed n i ids)
 IsPermutation-placed n i [] = IsPermutation-refl (record { 0 = i } ∷ [])
 IsPermutation-placed n i (id ∷ ids) =
     let new : ConnectionId = record { 0 = i } in
@@ -27,7 +27,7 @@ IsPermutation-placed n i (id ∷ ids) =
     (IsPermutation-sym (id ∷ new ∷ ids) (new ∷ id ∷ ids) (IsPermutation-middle (id ∷ []) new ids))
     (IsPermutation-cons id (new ∷ ids) (placed n i ids) (IsPermutation-placed n i ids)))
 
-IsPermutation-in_order : (n : Parts) (m : ℕ) → IsPermutation (ids_below m) (in_order n m)
+IsPermutation-in_order : (n : NetworkModel) (m : ℕ) → IsPermutation (ids_below m) (in_order n m)
 IsPermutation-in_order n zero = IsPermutation-refl []
 IsPermutation-in_order n (suc m) =
     let new : ConnectionId = record { 0 = m } in
@@ -35,7 +35,7 @@ IsPermutation-in_order n (suc m) =
     (IsPermutation-trans (new ∷ ids_below m) (new ∷ in_order n m) (placed n m (in_order n m))
     (IsPermutation-cons new (ids_below m) (in_order n m) (IsPermutation-in_order n m)) (IsPermutation-placed n m (in_order n m)))
 
-pub All-in_order : (n : Parts) (m : ℕ) → All (λ id. id.0 < m) (in_order n m)
+pub All-in_order : (n : NetworkModel) (m : ℕ) → All (λ id. id.0 < m) (in_order n m)
 All-in_order n m =
     All-permutation (λ id. id.0 < m) (ids_below m) (in_order n m) (IsPermutation-in_order n m)
     (λ k d within. let below : k < m = omega (arith, length_ids m) in subst (λ (id : ConnectionId). id.0 < m) (sym (get_ids m k d below)) below)
@@ -46,7 +46,7 @@ AllPairs-tail R x xs h = λ i j d less within. h (suc i) (suc j) d (omega arith)
 AllPairs-head : (R : ConnectionId → ConnectionId → Type 0) (x : ConnectionId) (xs : List ConnectionId) → AllPairs R (x ∷ xs) → All (R x) xs
 AllPairs-head R x xs h = λ k d within. h 0 (suc k) d (omega arith) (omega arith)
 
-AllPairs-placed : (n : Parts) (i : ℕ) (ids : List ConnectionId) → All (λ id. rank n id.0 ≡ rank n i → ⊥) ids → AllPairs (Scanned n) ids → AllPairs (Scanned n) (placed n i ids)
+AllPairs-placed : (n : NetworkModel) (i : ℕ) (ids : List ConnectionId) → All (λ id. rank n id.0 ≡ rank n i → ⊥) ids → AllPairs (Scanned n) ids → AllPairs (Scanned n) (placed n i ids)
 AllPairs-placed n i [] other pairs = λ k l d less within. absurd (omega arith)
 AllPairs-placed n i (id ∷ ids) other pairs =
     let new : ConnectionId = record { 0 = i } in
@@ -60,21 +60,21 @@ AllPairs-placed n i (id ∷ ids) other pairs =
     (All-cons (Scanned n id) new ids (omega (arith, le, apart)) after))
     (AllPairs-placed n i ids (All-tail (λ (x : ConnectionId). rank n x.0 ≡ rank n i → ⊥) id ids other) (AllPairs-tail (Scanned n) id ids pairs)))
 
-rank_apart : (n : Parts) (i j : ℕ) → i < j → j < most_connections → rank n i ≡ rank n j → ⊥
+rank_apart : (n : NetworkModel) (i j : ℕ) → i < j → j < most_connections → rank n i ≡ rank n j → ⊥
 rank_apart n i j less within e = omega arith
 
-pub AllPairs-in_order : (n : Parts) (m : ℕ) → m ≤ most_connections → AllPairs (Scanned n) (in_order n m)
+pub AllPairs-in_order : (n : NetworkModel) (m : ℕ) → m ≤ most_connections → AllPairs (Scanned n) (in_order n m)
 AllPairs-in_order n zero few = λ k l d less within. absurd (omega arith)
 AllPairs-in_order n (suc m) few =
     AllPairs-placed n m (in_order n m) (λ k d within. rank_apart n _ m (All-in_order n m k d within) (omega arith)) (AllPairs-in_order n m (omega arith))
 
-earlier : (n : Parts) → IsValid n → (i j : ℕ) → i < count n → j < count n → rank n i < rank n j → IsEarlier n i j
+earlier : (n : NetworkModel) → IsValid n → (i j : ℕ) → i < count n → j < count n → rank n i < rank n j → IsEarlier n i j
 earlier n v i j h k less =
     let few = v.few_connections in
     ⊎_elim (λ departs. inl departs) (λ ge. let same : dep_of n i ≡ dep_of n j = omega arith in let before : i < j =
     omega arith in inr (same, v.rising i j before k)) (cases_lt (dep_of n i) (dep_of n j))
 
-pub IsScanOrder-in_order : (n : Parts) → IsValid n → IsScanOrder n (in_order n (count n))
+pub IsScanOrder-in_order : (n : NetworkModel) → IsValid n → IsScanOrder n (in_order n (count n))
 IsScanOrder-in_order n v =
     let m = count n in
     record {

@@ -5,7 +5,7 @@ use Rattle.std.proofs.lemmas.Bool.{cases_lt, cases_eq, lt-ltb, le-ltb, ltb-true,
 use Rattle.std.proofs.lemmas.List.{get_or-set_same, get_or-set_other, get_or_past, length-set}
 use Rattle.std.proofs.lemmas.List.Elements.{All-tail, All-head, All-cons, filter_passes}
 use Rattle.plan_model.specs.declared.model.ConnectionId.{ConnectionId}
-use Rattle.plan_model.specs.Parts.{Parts}
+use Rattle.plan_model.specs.NetworkModel.{NetworkModel}
 use Rattle.plan_model.specs.Network.{IsValid, count, dep_of, run_of}
 use Rattle.plan_model.specs.Order.{IsPrefixUpTo}
 use Rattle.plan_model.proofs.Skips.{dep_of_earlier}
@@ -64,7 +64,7 @@ filter_parts p q late f (id ∷ ids) up = elim (cases_Bool (late id)) [
 ]
 
 -- departures do not fall along a run
-pub DepartsInOrder-run : (n : Parts) → IsValid n → (starts left : List ℕ) → AreStretches n starts left → (r : ℕ) → r < length left → DepartsInOrder n (get_or starts r 0) (get_or left r 0)
+pub DepartsInOrder-run : (n : NetworkModel) → IsValid n → (starts left : List ℕ) → AreStretches n starts left → (r : ℕ) → r < length left → DepartsInOrder n (get_or starts r 0) (get_or left r 0)
 DepartsInOrder-run n v starts left s r h i j from up to =
     let bounds = s.within r h in
     let a = run_between n starts s.begin r i (omega (arith, s.size)) from (omega (arith, bounds.1)) in
@@ -73,11 +73,11 @@ DepartsInOrder-run n v starts left s r h i j from up to =
     (λ ge. let e : i ≡ j = omega arith in omega (arith, ap (λ (k : ℕ). dep_of n k) e))
     (cases_lt i j)
 
-pub left_within : (n : Parts) (starts left : List ℕ) → AreStretches n starts left → (r : ℕ) → r < length left → get_or left r 0 ≤ count n
+pub left_within : (n : NetworkModel) (starts left : List ℕ) → AreStretches n starts left → (r : ℕ) → r < length left → get_or left r 0 ≤ count n
 left_within n starts left s r h = let next = s.begin.each (r + 1) (omega (arith, s.size)) in omega (arith, (s.within r h).1, next.within)
 
 -- where the last one departs in time, all do
-pub IsParted-whole : (n : Parts) (last from to : ℕ) → from ≤ to → DepartsInOrder n from to → (from < to → dep_of n (to - 1) ≤ last) → IsParted n last from to to to
+pub IsParted-whole : (n : NetworkModel) (last from to : ℕ) → from ≤ to → DepartsInOrder n from to → (from < to → dep_of n (to - 1) ≤ last) → IsParted n last from to to to
 IsParted-whole n last from to ordered rising soon = record {
   begin = ordered;
   ordered = omega arith;
@@ -86,7 +86,7 @@ IsParted-whole n last from to ordered rising soon = record {
   late = λ i after before. absurd (omega arith);
 }
 
-module _ (n : Parts) (last from low high to : ℕ) (p : IsParted n last from low high to) (rising : DepartsInOrder n from to) where
+module _ (n : NetworkModel) (last from low high to : ℕ) (p : IsParted n last from low high to) (rising : DepartsInOrder n from to) where
   pub IsParted-up : (middle : ℕ) → low ≤ middle → middle < high → dep_of n middle ≤ last → IsParted n last from (middle + 1) high to
   IsParted-up middle ge less soon = record {
     begin = omega (arith, p.begin);
@@ -106,12 +106,12 @@ module _ (n : Parts) (last from low high to : ℕ) (p : IsParted n last from low
   }
 
 -- the ends of the runs before this one are lowered to those that depart by a moment
-pub record AreLowered (n : Parts) (last : ℕ) (starts left : List ℕ) (run : ℕ) (new : List ℕ) : Type 0 where
+pub record AreLowered (n : NetworkModel) (last : ℕ) (starts left : List ℕ) (run : ℕ) (new : List ℕ) : Type 0 where
   pub size : length new ≡ length left
   pub done : (r : ℕ) → r < run → r < length left → IsParted n last (get_or starts r 0) (get_or new r 0) (get_or new r 0) (get_or left r 0)
   pub same : (r : ℕ) → run ≤ r → get_or new r 0 ≡ get_or left r 0
 
-module _ (n : Parts) (last : ℕ) (starts left : List ℕ) where
+module _ (n : NetworkModel) (last : ℕ) (starts left : List ℕ) where
   pub AreLowered-none : AreLowered n last starts left 0 left
   AreLowered-none = record { size = refl; done = λ r less h. absurd (omega arith); same = λ r ge. refl }
 
@@ -124,7 +124,7 @@ module _ (n : Parts) (last : ℕ) (starts left : List ℕ) where
     same = λ r ge. get_or-set_other new run r by 0 (λ e. omega arith) ∙ l.same r (omega arith);
   }
 
-module _ (n : Parts) (last : ℕ) (starts left new : List ℕ) (run : ℕ) (s : AreStretches n starts left) (all : length left ≤ run) (l : AreLowered n last starts left run new) where
+module _ (n : NetworkModel) (last : ℕ) (starts left new : List ℕ) (run : ℕ) (s : AreStretches n starts left) (all : length left ≤ run) (l : AreLowered n last starts left run new) where
   parted : (r : ℕ) → r < length left → IsParted n last (get_or starts r 0) (get_or new r 0) (get_or new r 0) (get_or left r 0)
   parted r h = l.done r (omega arith) h
 

@@ -2,19 +2,19 @@
 use Rattle.std.proofs.Common.{◌≡◌, ℕ, ◌+◌, ◌-◌, ◌<◌, ◌≤◌, ⊎_elim, List, [], ◌∷◌, ◌++◌, length, get_or, arith, ap}
 use Rattle.std.proofs.lemmas.Bool.{cases_lt}
 use Rattle.std.proofs.lemmas.List.{get_or_append_left, get_or_push, length_push}
-use Rattle.plan_model.specs.Parts.{Parts}
+use Rattle.plan_model.specs.NetworkModel.{NetworkModel}
 use Rattle.plan_model.specs.Network.{IsValid, count, run_of}
 use Rattle.plan_model.proofs.Runs.{run_mono}
 use Rattle.merged_runs.specs.Merged.{IsStart, AreStarts}
 
 -- where the runs of the first i connections start
-pub record AreStartsBelow (n : Parts) (i : ℕ) (starts : List ℕ) : Type 0 where
+pub record AreStartsBelow (n : NetworkModel) (i : ℕ) (starts : List ℕ) : Type 0 where
   pub each : (r : ℕ) → r < length starts → IsStart n r (get_or starts r 0)
   pub few : length starts ≤ i
   pub passed : (j : ℕ) → j < i → run_of n j < length starts
   pub coming : (j : ℕ) → i ≤ j → j < count n → length starts ≤ run_of n j + 1
 
-pub AreStartsBelow-none : (n : Parts) → AreStartsBelow n 0 []
+pub AreStartsBelow-none : (n : NetworkModel) → AreStartsBelow n 0 []
 AreStartsBelow-none n = record {
   each = λ r h. absurd (omega arith);
   few = omega arith;
@@ -22,14 +22,15 @@ AreStartsBelow-none n = record {
   coming = λ j h k. omega arith;
 }
 
-each_push : (n : Parts) (starts : List ℕ) (s : ℕ) → ((r : ℕ) → r < length starts → IsStart n r (get_or starts r 0)) → IsStart n (length starts) s
+each_push : (n : NetworkModel) (starts : List ℕ) (s : ℕ) → ((r : ℕ) → r < length starts → IsStart n r (get_or starts r 0)) → IsStart n (length starts) s
     → (r : ℕ) → r < length (starts ++ s ∷ []) → IsStart n r (get_or (starts ++ s ∷ []) r 0)
 each_push n starts s each last r h =
     ⊎_elim (λ less. rw (get_or_append_left starts (s ∷ []) 0 r less) (each r less))
     (λ ge. let e : length starts ≡ r = omega (arith, length_push starts s) in rw (get_or_push starts s 0 r e, ← e) last)
     (cases_lt r (length starts))
 
-pub AreStartsBelow-start : (n : Parts) → IsValid n → (i : ℕ) (starts : List ℕ) → i < count n → run_of n i ≡ length starts → AreStartsBelow n i starts → AreStartsBelow n (i + 1) (starts ++ i ∷ [])
+pub AreStartsBelow-start : (n : NetworkModel) → IsValid n → (i : ℕ) (starts : List ℕ) → i < count n → run_of n i ≡ length starts
+    → AreStartsBelow n i starts → AreStartsBelow n (i + 1) (starts ++ i ∷ [])
 AreStartsBelow-start n v i starts h new b =
     let len = length_push starts i in
     record {
@@ -43,7 +44,7 @@ AreStartsBelow-start n v i starts h new b =
       coming = λ j ge less. omega (arith, len, run_mono n v i j (omega arith) less);
     }
 
-within : (n : Parts) → IsValid n → (i : ℕ) (starts : List ℕ) → i < count n → (run_of n i ≡ length starts → ⊥) → AreStartsBelow n i starts → run_of n i < length starts
+within : (n : NetworkModel) → IsValid n → (i : ℕ) (starts : List ℕ) → i < count n → (run_of n i ≡ length starts → ⊥) → AreStartsBelow n i starts → run_of n i < length starts
 within n v i starts h other b =
     ⊎_elim (λ less. less)
     (λ ge. let missing = v.runs i (length starts) h (omega (arith, other)) in
@@ -52,7 +53,7 @@ within n v i starts h other b =
     (cases_lt missing.0 i))
     (cases_lt (run_of n i) (length starts))
 
-pub AreStartsBelow-within : (n : Parts) → IsValid n → (i : ℕ) (starts : List ℕ) → i < count n → (run_of n i ≡ length starts → ⊥) → AreStartsBelow n i starts → AreStartsBelow n (i + 1) starts
+pub AreStartsBelow-within : (n : NetworkModel) → IsValid n → (i : ℕ) (starts : List ℕ) → i < count n → (run_of n i ≡ length starts → ⊥) → AreStartsBelow n i starts → AreStartsBelow n (i + 1) starts
 AreStartsBelow-within n v i starts h other b = record {
   each = b.each;
   few = omega (arith, b.few);
@@ -60,7 +61,7 @@ AreStartsBelow-within n v i starts h other b = record {
   coming = λ j ge less. b.coming j (omega arith) less;
 }
 
-pub AreStarts-from_below : (n : Parts) → IsValid n → (starts : List ℕ) → AreStartsBelow n (count n) starts → AreStarts n (starts ++ count n ∷ [])
+pub AreStarts-from_below : (n : NetworkModel) → IsValid n → (starts : List ℕ) → AreStartsBelow n (count n) starts → AreStarts n (starts ++ count n ∷ [])
 AreStarts-from_below n v starts b =
     let len = length_push starts (count n) in
     record {

@@ -7,7 +7,7 @@ use Rattle.std.proofs.lemmas.List.{get_or-set_same, get_or-set_other, get_or_pas
 use Rattle.std.proofs.lemmas.List.Elements.{All-tail, All-head}
 use Rattle.plan_model.specs.Bounds.{most_connections}
 use Rattle.plan_model.specs.declared.model.ConnectionId.{ConnectionId}
-use Rattle.plan_model.specs.Parts.{Parts}
+use Rattle.plan_model.specs.NetworkModel.{NetworkModel}
 use Rattle.plan_model.specs.Network.{IsValid, count, run_of}
 use Rattle.plan_model.specs.Order.{IsScanOrder}
 use Rattle.plan_model.proofs.ScanOrders.{has_each_id}
@@ -15,12 +15,12 @@ use Rattle.merged_runs.specs.Merged.{rank, in_order, rest_of, IsStart, AreStarts
 use Rattle.merged_runs.proofs.ScanLemmas.{IsScanOrder-in_order, All-in_order, AllPairs-in_order}
 
 -- a run is one of those that have a start, and its connections lie from there to the next start
-pub record IsOfRun (n : Parts) (starts : List ℕ) (i : ℕ) : Type 0 where
+pub record IsOfRun (n : NetworkModel) (starts : List ℕ) (i : ℕ) : Type 0 where
   pub run : run_of n i + 1 < length starts
   pub from : get_or starts (run_of n i) 0 ≤ i
   pub to : i < get_or starts (run_of n i + 1) 0
 
-pub of_run : (n : Parts) (starts : List ℕ) → AreStarts n starts → (i : ℕ) → i < count n → IsOfRun n starts i
+pub of_run : (n : NetworkModel) (starts : List ℕ) → AreStarts n starts → (i : ℕ) → i < count n → IsOfRun n starts i
 of_run n starts s i h =
     let last : ℕ = length starts - 1 in
     let r : ℕ = run_of n i in
@@ -33,7 +33,7 @@ of_run n starts s i h =
     }
 
 -- between two starts there are the connections of one run
-pub run_between : (n : Parts) (starts : List ℕ) → AreStarts n starts → (r i : ℕ) → r + 1 < length starts → get_or starts r 0 ≤ i → i < get_or starts (r + 1) 0 → (i < count n) × (run_of n i ≡ r)
+pub run_between : (n : NetworkModel) (starts : List ℕ) → AreStarts n starts → (r i : ℕ) → r + 1 < length starts → get_or starts r 0 ≤ i → i < get_or starts (r + 1) 0 → (i < count n) × (run_of n i ≡ r)
 run_between n starts s r i h from to =
     let first = s.each r (omega arith) in
     let next = s.each (r + 1) h in
@@ -41,28 +41,28 @@ run_between n starts s r i h from to =
     (inside, omega (arith, first.after i from inside, next.before i to))
 
 -- what is left of a run ends within the network
-pub within_count : (n : Parts) (starts left : List ℕ) → AreStretches n starts left → (r : ℕ) → r < length left → get_or left r 0 ≤ most_connections
+pub within_count : (n : NetworkModel) (starts left : List ℕ) → AreStretches n starts left → (r : ℕ) → r < length left → get_or left r 0 ≤ most_connections
 within_count n starts left s r h =
     let next = s.begin.each (r + 1) (omega (arith, s.size)) in
     omega (arith, (s.within r h).1, next.within, s.begin.valid.few_connections)
 
 -- ranks do not fall along a run
-pub rank_along : (n : Parts) → IsValid n → (i j : ℕ) → i ≤ j → j < count n → run_of n i ≡ run_of n j → rank n i ≤ rank n j
+pub rank_along : (n : NetworkModel) → IsValid n → (i j : ℕ) → i ≤ j → j < count n → run_of n i ≡ run_of n j → rank n i ≤ rank n j
 rank_along n v i j h k same =
     ⊎_elim (λ less. omega (arith, v.onward i j less k same, (v.connections i (omega arith)).forward))
     (λ ge. let e : i ≡ j = omega arith in omega (arith, ap (rank n) e))
     (cases_lt i j)
 
-pub key_of-none : (n : Parts) (starts left : List ℕ) (r : ℕ) → get_or left r 0 ≤ get_or starts r 0 → key_of n starts left r ≡ 0
+pub key_of-none : (n : NetworkModel) (starts left : List ℕ) (r : ℕ) → get_or left r 0 ≤ get_or starts r 0 → key_of n starts left r ≡ 0
 unfolding key_of
 key_of-none n starts left r h = cond-false (ltb (get_or starts r 0) (get_or left r 0)) _ _ (le-ltb (get_or starts r 0) (get_or left r 0) h)
 
-pub key_of-some : (n : Parts) (starts left : List ℕ) (r : ℕ) → get_or starts r 0 < get_or left r 0 → key_of n starts left r ≡ rank n (get_or left r 0 - 1) + 1
+pub key_of-some : (n : NetworkModel) (starts left : List ℕ) (r : ℕ) → get_or starts r 0 < get_or left r 0 → key_of n starts left r ≡ rank n (get_or left r 0 - 1) + 1
 unfolding key_of
 key_of-some n starts left r h = cond-true (ltb (get_or starts r 0) (get_or left r 0)) _ _ (lt-ltb (get_or starts r 0) (get_or left r 0) h)
 
 -- one connection of a run is given
-module _ (n : Parts) (starts left : List ℕ) (run : ℕ) where
+module _ (n : NetworkModel) (starts left : List ℕ) (run : ℕ) where
   pub key_of-set_other : (end r : ℕ) → (r ≡ run → ⊥) → key_of n starts (set left run end) r ≡ key_of n starts left r
   unfolding key_of
   key_of-set_other end r other = rw (get_or-set_other left run r end 0 other)
@@ -106,7 +106,7 @@ filter_last p q key last kept left same most (id ∷ ids) up (suc k, within, e) 
     let agree = same id (λ t. omega arith) in
     rw (agree, ih) (elim (p id) as (λ b. cond b (id ∷ filter q ids ++ last ∷ []) (filter q ids ++ last ∷ []) ≡ cond b (id ∷ filter q ids) (filter q ids) ++ last ∷ []) [ true ↦ refl | false ↦ refl ])
 
-pub rest_of-all : (n : Parts) → IsValid n → (starts left : List ℕ) → AreStretches n starts left
+pub rest_of-all : (n : NetworkModel) → IsValid n → (starts left : List ℕ) → AreStretches n starts left
     → ((r : ℕ) → r < length left → get_or left r 0 ≡ get_or starts (r + 1) 0) → IsScanOrder n (rest_of n left)
 unfolding rest_of
 rest_of-all n v starts left s all =
@@ -116,7 +116,7 @@ rest_of-all n v starts left s all =
     lt-ltb id.0 (get_or left (run_of n id.0) 0) (omega (arith, own.to, all (run_of n id.0) (omega (arith, own.run, s.size)))) in
     rw (filter_all (λ (id : ConnectionId). ltb id.0 (get_or left (run_of n id.0) 0)) (in_order n (count n)) each) (IsScanOrder-in_order n v)
 
-pub rest_of-none : (n : Parts) (starts left : List ℕ) → AreStretches n starts left → ((r : ℕ) → r < length left → get_or left r 0 ≤ get_or starts r 0) → rest_of n left ≡ []
+pub rest_of-none : (n : NetworkModel) (starts left : List ℕ) → AreStretches n starts left → ((r : ℕ) → r < length left → get_or left r 0 ≤ get_or starts r 0) → rest_of n left ≡ []
 unfolding rest_of
 rest_of-none n starts left s none =
     filter_none (λ (id : ConnectionId). ltb id.0 (get_or left (run_of n id.0) 0)) (in_order n (count n)) (λ k d within.
@@ -128,11 +128,11 @@ same_test : (i end : ℕ) → (i ≡ end - 1 → ⊥) → ltb i (end - 1) ≡ lt
 same_test i end other =
     ⊎_elim (λ less. lt-ltb i (end - 1) less ∙ sym (lt-ltb i end (omega arith))) (λ ge. le-ltb i (end - 1) ge ∙ sym (le-ltb i end (omega arith))) (cases_lt i (end - 1))
 
-pub waiting : (n : Parts) (left : List ℕ) (i : ℕ) → i < get_or left (run_of n i) 0 → run_of n i < length left
+pub waiting : (n : NetworkModel) (left : List ℕ) (i : ℕ) → i < get_or left (run_of n i) 0 → run_of n i < length left
 waiting n left i h = ⊎_elim (λ less. less) (λ ge. absurd (omega (arith, h, get_or_past left (run_of n i) 0 ge))) (cases_lt (run_of n i) (length left))
 
 -- no connection that is left ranks above what its run shows
-rank_at_most_key : (n : Parts) → IsValid n → (starts left : List ℕ) → AreStretches n starts left → (i : ℕ) → i < get_or left (run_of n i) 0 → rank n i < key_of n starts left (run_of n i)
+rank_at_most_key : (n : NetworkModel) → IsValid n → (starts left : List ℕ) → AreStretches n starts left → (i : ℕ) → i < get_or left (run_of n i) 0 → rank n i < key_of n starts left (run_of n i)
 rank_at_most_key n v starts left s i h =
     let r : ℕ = run_of n i in
     let inside : r < length left = waiting n left i h in
@@ -142,7 +142,7 @@ rank_at_most_key n v starts left s i h =
     let last = run_between n starts s.begin r (get_or left r 0 - 1) (omega (arith, s.size)) (omega (arith, own.from)) (omega (arith, bounds.1)) in
     omega (arith, rank_along n v i (get_or left r 0 - 1) (omega arith) last.0 (sym last.1), key_of-some n starts left r (omega (arith, own.from)))
 
-pub rest_of-last : (n : Parts) → IsValid n → (starts left : List ℕ) → AreStretches n starts left → (run : ℕ) → run < length left
+pub rest_of-last : (n : NetworkModel) → IsValid n → (starts left : List ℕ) → AreStretches n starts left → (run : ℕ) → run < length left
     → get_or starts run 0 < get_or left run 0 → ((r : ℕ) → r < length left → key_of n starts left r ≤ key_of n starts left run)
     → rest_of n left ≡ rest_of n (set left run (get_or left run 0 - 1)) ++ record { 0 = get_or left run 0 - 1 } ∷ []
 unfolding rest_of
@@ -180,10 +180,10 @@ pub IsWhole-copied : (starts : List ℕ) → 0 < length starts → IsWhole start
 IsWhole-copied [] some = absurd (omega arith)
 IsWhole-copied (start ∷ starts) some = rw (take_all (length (start ∷ starts) - 1) starts (omega arith)) (record { size = omega arith; each = λ r h. get_or_next start starts r })
 
-start_mono : (n : Parts) (r a b : ℕ) → IsStart n r a → IsStart n (r + 1) b → a ≤ b
+start_mono : (n : NetworkModel) (r a b : ℕ) → IsStart n r a → IsStart n (r + 1) b → a ≤ b
 start_mono n r a b first next = ⊎_elim (λ less. absurd (omega (arith, less, first.within, first.before b less, next.after b (omega arith)))) (λ ge. ge) (cases_lt b a)
 
-pub AreStretches-whole : (n : Parts) (starts left : List ℕ) → AreStarts n starts → IsWhole starts left → AreStretches n starts left
+pub AreStretches-whole : (n : NetworkModel) (starts left : List ℕ) → AreStarts n starts → IsWhole starts left → AreStretches n starts left
 AreStretches-whole n starts left s w = record {
   begin = s;
   size = w.size;

@@ -3,7 +3,7 @@ use Rattle.std.proofs.Common.{◌≡◌, ℕ, zero, suc, ◌+◌, ◌-◌, ◌*�
 use Rattle.std.proofs.lemmas.Bool.{cases_lt, cases_eq}
 use Rattle.std.proofs.lemmas.List.{get_or-set_same, get_or-set_other, length-set}
 use Rattle.plan_model.specs.Bounds.{most_connections}
-use Rattle.plan_model.specs.Parts.{Parts}
+use Rattle.plan_model.specs.NetworkModel.{NetworkModel}
 use Rattle.plan_model.specs.Network.{count, run_of}
 use Rattle.merged_runs.specs.Merged.{rank, key_of, above, IsOver, IsWinner, IsTournament, IsMerge, rest_of}
 use Rattle.merged_runs.proofs.StretchLemmas.{run_between, within_count, key_of-set_other, key_of-none, key_of-some, rest_of-none, rest_of-last}
@@ -58,7 +58,7 @@ IsOver-both a b leaf over_a over_b less =
     (λ ge. absurd (omega (arith, above_mono over_a.0 over_b.0 leaf ge, over_a.1, over_b.1)))
     (cases_lt over_b.0 over_a.0)
 
-module _ (n : Parts) (starts left : List ℕ) where
+module _ (n : NetworkModel) (starts left : List ℕ) where
   pub IsWinner-leaf : (r : ℕ) → r < length left → IsWinner n starts left (length left + r) (key_of n starts left r)
   IsWinner-leaf r h = record {
     run = r;
@@ -91,24 +91,24 @@ module _ (n : Parts) (starts left : List ℕ) where
   }
 
 -- the runs before this one have their keys
-pub record AreRead (n : Parts) (starts left : List ℕ) (run : ℕ) (keys : List ℕ) : Type 0 where
+pub record AreRead (n : NetworkModel) (starts left : List ℕ) (run : ℕ) (keys : List ℕ) : Type 0 where
   pub size : length keys ≡ 2 * length left
   pub each : (r : ℕ) → r < run → r < length left → get_or keys (length left + r) 0 ≡ key_of n starts left r
 
 -- the nodes from this one on have the greatest keys below them
-pub record IsPlayedFrom (n : Parts) (starts left : List ℕ) (node : ℕ) (keys : List ℕ) : Type 0 where
+pub record IsPlayedFrom (n : NetworkModel) (starts left : List ℕ) (node : ℕ) (keys : List ℕ) : Type 0 where
   pub size : length keys ≡ 2 * length left
   pub each : (k : ℕ) → node ≤ k → 0 < k → k < 2 * length left → IsWinner n starts left k (get_or keys k 0)
 
 -- the nodes have the greatest keys below them, but maybe those that are less than this one and above the run
-pub record IsPlayedAround (n : Parts) (starts left : List ℕ) (run node : ℕ) (keys : List ℕ) : Type 0 where
+pub record IsPlayedAround (n : NetworkModel) (starts left : List ℕ) (run node : ℕ) (keys : List ℕ) : Type 0 where
   pub size : length keys ≡ 2 * length left
   pub some : 0 < node
   pub few : node < 2 * length left
   pub over : IsOver node (length left + run)
   pub each : (k : ℕ) → 0 < k → k < 2 * length left → (IsOver k (length left + run) → node ≤ k) → IsWinner n starts left k (get_or keys k 0)
 
-module _ (n : Parts) (starts left keys : List ℕ) where
+module _ (n : NetworkModel) (starts left keys : List ℕ) where
   pub AreRead-none : length keys ≡ 2 * length left → AreRead n starts left 0 keys
   AreRead-none size = record { size = size; each = λ r h. absurd (omega arith) }
 
@@ -141,7 +141,7 @@ module _ (n : Parts) (starts left keys : List ℕ) where
   best_of_all t r h = (t.each 1 (omega arith) (omega arith)).best r h (IsOver-final (length left + r) (omega arith))
 
 -- a node that is not above a run keeps its key, whatever is left of the run
-IsWinner-apart : (n : Parts) (starts left : List ℕ) (run end k key : ℕ) → (IsOver k (length left + run) → ⊥) → IsWinner n starts left k key → IsWinner n starts (set left run end) k key
+IsWinner-apart : (n : NetworkModel) (starts left : List ℕ) (run end k key : ℕ) → (IsOver k (length left + run) → ⊥) → IsWinner n starts left k key → IsWinner n starts (set left run end) k key
 IsWinner-apart n starts left run end k key never won =
     let len : length (set left run end) ≡ length left = length-set left run end in
     let gone : won.run ≡ run → ⊥ = λ e. never (subst (λ m. IsOver k (length left + m)) e won.below) in
@@ -157,7 +157,7 @@ IsWinner-apart n starts left run end k key never won =
     }
 
 -- where the last connection of a run is given and its key is read again, the nodes that are not above the run keep theirs
-pub IsPlayedAround-run : (n : Parts) → (starts left keys : List ℕ) (run end key : ℕ) → IsTournament n starts left keys → run < length left
+pub IsPlayedAround-run : (n : NetworkModel) → (starts left keys : List ℕ) (run end key : ℕ) → IsTournament n starts left keys → run < length left
     → key ≡ key_of n starts (set left run end) run → IsPlayedAround n starts (set left run end) run (length left + run) (set keys (length left + run) key)
 IsPlayedAround-run n starts left keys run end key t h own =
     let less : List ℕ = set left run end in
@@ -179,7 +179,7 @@ IsPlayedAround-run n starts left keys run end key t h own =
           (cases_eq k leaf);
     }
 
-module _ (n : Parts) (starts left : List ℕ) (run node : ℕ) (keys : List ℕ) (p : IsPlayedAround n starts left run node keys) where
+module _ (n : NetworkModel) (starts left : List ℕ) (run node : ℕ) (keys : List ℕ) (p : IsPlayedAround n starts left run node keys) where
   -- both children of the node above this one have their keys
   pub IsPlayedAround-child : (child : ℕ) → child / 2 ≡ node / 2 → 1 < node → child < 2 * length left → IsWinner n starts left child (get_or keys child 0)
   IsPlayedAround-child child e more few =
@@ -204,7 +204,7 @@ module _ (n : Parts) (starts left : List ℕ) (run node : ℕ) (keys : List ℕ)
   }
 
 -- the run that wins, by the key of the final
-pub record HasWon (n : Parts) (starts left : List ℕ) (key : ℕ) : Type 0 where
+pub record HasWon (n : NetworkModel) (starts left : List ℕ) (key : ℕ) : Type 0 where
   pub run : ℕ
   pub within : run < length left
   pub some : get_or starts run 0 < get_or left run 0
@@ -213,7 +213,7 @@ pub record HasWon (n : Parts) (starts left : List ℕ) (key : ℕ) : Type 0 wher
   pub there : get_or left run 0 - 1 < count n
   pub id : (key - 1) % most_connections ≡ get_or left run 0 - 1
 
-module _ (n : Parts) (starts left keys : List ℕ) (m : IsMerge n starts left keys) (key : ℕ) (final : key ≡ get_or keys 1 0) where
+module _ (n : NetworkModel) (starts left keys : List ℕ) (m : IsMerge n starts left keys) (key : ℕ) (final : key ≡ get_or keys 1 0) where
   -- where the final has no key nothing is left at all
   pub rest_of-exhausted : key ≡ 0 → rest_of n left ≡ []
   rest_of-exhausted none =

@@ -2,50 +2,50 @@
 use Rattle.std.specs.Prelude.{◌≡◌, ℕ, zero, suc, ◌+◌, ◌-◌, ◌*◌, ◌/◌, ◌<◌, ◌≤◌, List, [], ◌∷◌, length, filter, slice_index, nat_lt, if◌then◌else◌}
 use Rattle.plan_model.specs.declared.model.ConnectionId.{ConnectionId}
 use Rattle.plan_model.specs.Bounds.{most_connections}
-use Rattle.plan_model.specs.Parts.{Parts}
+use Rattle.plan_model.specs.NetworkModel.{NetworkModel}
 use Rattle.plan_model.specs.Network.{IsValid, count, dep_of, run_of}
 
 -- rises along the scan order, since a connection has a lesser number than most_connections
-abbrev pub rank : Parts → ℕ → ℕ
-rank n i = dep_of n i * most_connections + i
+abbrev pub rank : NetworkModel → ℕ → ℕ
+rank network i = dep_of network i * most_connections + i
 
 -- a connection at its place among others that stand in the scan order
-abbrev pub placed : Parts → ℕ → List ConnectionId → List ConnectionId
-placed n i [] = record { 0 = i } ∷ []
-placed n i (id ∷ ids) = if nat_lt (rank n i) (rank n id.0) then record { 0 = i } ∷ id ∷ ids else id ∷ placed n i ids
+abbrev pub placed : NetworkModel → ℕ → List ConnectionId → List ConnectionId
+placed network i [] = record { 0 = i } ∷ []
+placed network i (id ∷ ids) = if nat_lt (rank network i) (rank network id.0) then record { 0 = i } ∷ id ∷ ids else id ∷ placed network i ids
 
 -- the first m connections, in the scan order
-abbrev pub in_order : Parts → ℕ → List ConnectionId
-in_order n zero = []
-in_order n (suc m) = placed n m (in_order n m)
+abbrev pub in_order : NetworkModel → ℕ → List ConnectionId
+in_order network zero = []
+in_order network (suc m) = placed network m (in_order network m)
 
 -- in the scan order, the connections that stand before the end that is left of their run
-unfoldable pub rest_of : Parts → List ℕ → List ConnectionId
-rest_of n left = filter (λ id. nat_lt id.0 (slice_index left (run_of n id.0))) (in_order n (count n))
+unfoldable pub rest_of : NetworkModel → List ℕ → List ConnectionId
+rest_of network left = filter (λ id. nat_lt id.0 (slice_index left (run_of network id.0))) (in_order network (count network))
 
 -- s connections are of the runs before r, and they stand first
-pub record IsStart (n : Parts) (r s : ℕ) : Type 0 where
-  pub within : s ≤ count n
-  pub before : (i : ℕ) → i < s → run_of n i < r
-  pub after : (i : ℕ) → s ≤ i → i < count n → r ≤ run_of n i
+pub record IsStart (network : NetworkModel) (r s : ℕ) : Type 0 where
+  pub within : s ≤ count network
+  pub before : (i : ℕ) → i < s → run_of network i < r
+  pub after : (i : ℕ) → s ≤ i → i < count network → r ≤ run_of network i
 
 -- where each run starts, and then where the last one ends
-pub record AreStarts (n : Parts) (starts : List ℕ) : Type 0 where
-  pub valid : IsValid n
-  pub each : (r : ℕ) → r < length starts → IsStart n r (slice_index starts r)
+pub record AreStarts (network : NetworkModel) (starts : List ℕ) : Type 0 where
+  pub valid : IsValid network
+  pub each : (r : ℕ) → r < length starts → IsStart network r (slice_index starts r)
   pub some : 0 < length starts
   pub few : length starts ≤ most_connections + 1
-  pub whole : slice_index starts (length starts - 1) ≡ count n
+  pub whole : slice_index starts (length starts - 1) ≡ count network
 
 -- where each run starts, and up to where its connections are left
-pub record AreStretches (n : Parts) (starts left : List ℕ) : Type 0 where
-  pub begin : AreStarts n starts
+pub record AreStretches (network : NetworkModel) (starts left : List ℕ) : Type 0 where
+  pub begin : AreStarts network starts
   pub size : length starts ≡ length left + 1
   pub within : (r : ℕ) → r < length left → (slice_index starts r ≤ slice_index left r) × (slice_index left r ≤ slice_index starts (r + 1))
 
 -- one above the rank of the last connection that is left of a run, and 0 where none is left
-unfoldable pub key_of : Parts → List ℕ → List ℕ → ℕ → ℕ
-key_of n starts left r = if nat_lt (slice_index starts r) (slice_index left r) then rank n (slice_index left r - 1) + 1 else 0
+unfoldable pub key_of : NetworkModel → List ℕ → List ℕ → ℕ → ℕ
+key_of network starts left r = if nat_lt (slice_index starts r) (slice_index left r) then rank network (slice_index left r - 1) + 1 else 0
 
 -- the node so many rounds above a node
 abbrev pub above : ℕ → ℕ → ℕ
@@ -57,31 +57,31 @@ abbrev pub IsOver : ℕ → ℕ → Type 0
 IsOver k leaf = (rounds : ℕ) × (above rounds leaf ≡ k)
 
 -- the greatest key below node k is that of a run below it
-pub record IsWinner (n : Parts) (starts left : List ℕ) (k key : ℕ) : Type 0 where
+pub record IsWinner (network : NetworkModel) (starts left : List ℕ) (k key : ℕ) : Type 0 where
   pub run : ℕ
   pub within : run < length left
   pub below : IsOver k (length left + run)
-  pub own : key ≡ key_of n starts left run
-  pub best : (r : ℕ) → r < length left → IsOver k (length left + r) → key_of n starts left r ≤ key
+  pub own : key ≡ key_of network starts left run
+  pub best : (r : ℕ) → r < length left → IsOver k (length left + r) → key_of network starts left r ≤ key
 
 -- each node has the greatest key below it
-pub record IsTournament (n : Parts) (starts left keys : List ℕ) : Type 0 where
+pub record IsTournament (network : NetworkModel) (starts left keys : List ℕ) : Type 0 where
   pub size : length keys ≡ 2 * length left
-  pub each : (k : ℕ) → 0 < k → k < 2 * length left → IsWinner n starts left k (slice_index keys k)
+  pub each : (k : ℕ) → 0 < k → k < 2 * length left → IsWinner network starts left k (slice_index keys k)
 
 -- what is left of the runs, and the tournament over it
-pub record IsMerge (n : Parts) (starts left keys : List ℕ) : Type 0 where
-  pub stretches : AreStretches n starts left
-  pub tournament : IsTournament n starts left keys
+pub record IsMerge (network : NetworkModel) (starts left keys : List ℕ) : Type 0 where
+  pub stretches : AreStretches network starts left
+  pub tournament : IsTournament network starts left keys
 
 -- departures do not fall between two positions
-abbrev pub DepartsInOrder : Parts → ℕ → ℕ → Type 0
-DepartsInOrder n from to = (i j : ℕ) → from ≤ i → i ≤ j → j < to → dep_of n i ≤ dep_of n j
+abbrev pub DepartsInOrder : NetworkModel → ℕ → ℕ → Type 0
+DepartsInOrder network from to = (i j : ℕ) → from ≤ i → i ≤ j → j < to → dep_of network i ≤ dep_of network j
 
 -- between two positions, the connections before low depart by a moment, and those from high on after it
-pub record IsParted (n : Parts) (last from low high to : ℕ) : Type 0 where
+pub record IsParted (network : NetworkModel) (last from low high to : ℕ) : Type 0 where
   pub begin : from ≤ low
   pub ordered : low ≤ high
   pub end : high ≤ to
-  pub soon : (i : ℕ) → from ≤ i → i < low → dep_of n i ≤ last
-  pub late : (i : ℕ) → high ≤ i → i < to → last < dep_of n i
+  pub soon : (i : ℕ) → from ≤ i → i < low → dep_of network i ≤ last
+  pub late : (i : ℕ) → high ≤ i → i < to → last < dep_of network i

@@ -2,7 +2,7 @@
 use Rattle.std.specs.Prelude.{◌≡◌, ℕ, ◌<◌, ◌≤◌, List, length, None, Some}
 use Rattle.plan_model.specs.declared.model.Moment.{Moment}
 use Rattle.plan_model.specs.declared.model.Query.{Query}
-use Rattle.plan_model.specs.Parts.{Parts}
+use Rattle.plan_model.specs.NetworkModel.{NetworkModel}
 use Rattle.plan_model.specs.Strategy.{LeastWorst, deadline_of}
 use Rattle.interval_fixed.specs.Interval.{Interval}
 use Rattle.plan_graph.specs.declared.ExpandedGraph.{ExpandedGraph}
@@ -23,21 +23,21 @@ use Rattle.plan_model.specs.Bounds.{end_of_time, last_start}
 use Rattle.journey_model.specs.Wants.{OrNoMemory}
 
 -- this is the least worst arrival of the query
-abbrev pub IsWorst : Parts → Query → Moment → Type 0
-IsWorst n q worst = LeastWorst n q.source.0 q.target.0 q.start.0 (Some worst)
+abbrev pub IsWorst : NetworkModel → Query → Moment → Type 0
+IsWorst network query worst = LeastWorst network query.source.0 query.target.0 query.start.0 (Some worst)
 
 -- this is the query of a journey that starts then, by a percentage for the deadline: it goes from the source of the problem to
 -- its target, from the start on; the least worst arrival is this one, and the deadline follows from it
-pub record IsAsked (p : Problem) (start alpha : ℕ) (q : Query) (worst : Moment) : Type 0 where
-  pub source : q.source.0 ≡ p.source.0
-  pub target : q.target.0 ≡ p.target.0
-  pub start_is : q.start.0 ≡ start
-  pub least : IsWorst p.network q worst
-  pub deadline : q.deadline.0 ≡ deadline_of q.start.0 worst.0 alpha
+pub record IsAsked (p : Problem) (start alpha : ℕ) (query : Query) (worst : Moment) : Type 0 where
+  pub source : query.source.0 ≡ p.source.0
+  pub target : query.target.0 ≡ p.target.0
+  pub start_is : query.start.0 ≡ start
+  pub least : IsWorst p.network query worst
+  pub deadline : query.deadline.0 ≡ deadline_of query.start.0 worst.0 alpha
 
 -- this holds of the query of the journey and of its least worst arrival
 abbrev pub InQuery : Problem → (start alpha : ℕ) → (Query → Moment → Type 0) → Type 0
-InQuery p start alpha P = (q : Query) × (worst : Moment) × IsAsked p start alpha q worst × P q worst
+InQuery p start alpha P = (query : Query) × (worst : Moment) × IsAsked p start alpha query worst × P query worst
 
 -- the head of a graph's text
 abbrev pub head_of : Query → Interval → Head
@@ -45,22 +45,22 @@ head_of q bounds = record { query = q; bounds = bounds }
 
 -- the least worst arrival and the deadline are told
 abbrev pub TellsWorst : Problem → Findings → List ℕ → Query → Moment → Type 0
-TellsWorst p found text q worst =
-    (found ≡ safe_findings q worst)
-    × (text ≡ safe_text (place_name p.names q.source.0) (place_name p.names q.target.0) q worst)
+TellsWorst p found text query worst =
+    (found ≡ safe_findings query worst)
+    × (text ≡ safe_text (place_name p.names query.source.0) (place_name p.names query.target.0) query worst)
 
 -- a decision graph ride by ride is told, with its bounds
 abbrev pub TellsExpanded : Problem → Findings → List ℕ → Query → Moment → Type 0
-TellsExpanded p found text q worst =
-    (graph : ExpandedGraph) × (bounds : Interval) × (found ≡ expand_findings q worst graph bounds)
-    × IsExpanded p.network q graph bounds × (text ≡ expanded_text p.network p.names (head_of q bounds) graph)
+TellsExpanded p found text query worst =
+    (graph : ExpandedGraph) × (bounds : Interval) × (found ≡ expand_findings query worst graph bounds)
+    × IsExpanded p.network query graph bounds × (text ≡ expanded_text p.network p.names (head_of query bounds) graph)
 
 -- a decision graph by place is told, with its bounds; the text reads back
 abbrev pub TellsPlanned : Problem → Findings → List ℕ → Query → Moment → Type 0
-TellsPlanned p found text q worst =
-    (graph : PlanGraph) × (bounds : Interval) × (found ≡ plan_findings q worst graph bounds)
-    × IsPlanned p.network q graph bounds × (text ≡ graph_text p.network p.names (head_of q bounds) graph)
-    × IsReadAs p.network p.names (head_of q bounds) graph text
+TellsPlanned p found text query worst =
+    (graph : PlanGraph) × (bounds : Interval) × (found ≡ plan_findings query worst graph bounds)
+    × IsPlanned p.network query graph bounds × (text ≡ graph_text p.network p.names (head_of query bounds) graph)
+    × IsReadAs p.network p.names (head_of query bounds) graph text
 
 -- no strategy always reaches the target
 abbrev pub HasNoSafe : Problem → ℕ → Type 0
@@ -75,11 +75,11 @@ abbrev pub FailsIn : Problem → ℕ → Fault → Type 0
 FailsIn p start = OrNoMemory (IsNoSafe p start)
 
 -- its places are the network's, and its moments have texts
-pub record IsPrintable (n : Parts) (q : Query) (worst : Moment) : Type 0 where
-  pub source : q.source.0 < length n.change
-  pub target : q.target.0 < length n.change
-  pub start : q.start.0 ≤ last_start
-  pub order : q.start.0 ≤ worst.0
+pub record IsPrintable (network : NetworkModel) (query : Query) (worst : Moment) : Type 0 where
+  pub source : query.source.0 < length network.change
+  pub target : query.target.0 < length network.change
+  pub start : query.start.0 ≤ last_start
+  pub order : query.start.0 ≤ worst.0
   pub early : worst.0 < end_of_time
-  pub deadline : worst.0 ≤ q.deadline.0
-  pub late : q.deadline.0 ≤ last_printable
+  pub deadline : worst.0 ≤ query.deadline.0
+  pub late : query.deadline.0 ≤ last_printable

@@ -12,10 +12,10 @@ use Rattle.journey_report.specs.Findings.{Findings, certify_findings}
 
 -- a certificate of the query is told: the greatest that is accepted, with the least value of the ways to leave its run at each
 -- connection that can be boarded; the text reads back
-pub record TellsCertificate (p : Problem) (found : Findings) (text : List ℕ) (q : Query) (worst : Moment) : Type 0 where
+pub record TellsCertificate (p : Problem) (found : Findings) (text : List ℕ) (query : Query) (worst : Moment) : Type 0 where
   pub proof : LowerBounds
-  pub found_is : found ≡ certify_findings q worst proof
-  pub tight : IsTight p.network q proof.values
-  pub best : IsBest p.network q proof.values
-  pub text_is : text ≡ proof_text p.network p.names q proof.values
-  pub reads_back : ReadsBack p.network p.names q proof.values text
+  pub found_is : found ≡ certify_findings query worst proof
+  pub tight : IsTight p.network query proof.values
+  pub best : IsBest p.network query proof.values
+  pub text_is : text ≡ proof_text p.network p.names query proof.values
+  pub reads_back : ReadsBack p.network p.names query proof.values text

@@ -16,7 +16,7 @@ use Rattle.journey_report.specs.Texts.{punctual_row}
 -- a decision graph by place is told with bounds of its chance to arrive after the promised moment, which is the least, and of its
 -- expected arrival
 abbrev pub TellsPunctual : Problem → ℕ → Findings → List ℕ → Query → Moment → Type 0
-TellsPunctual p promise found text q worst =
-    (graph : PlanGraph) × (chance : Interval) × (bounds : Interval) × (found ≡ punctual_findings q worst graph bounds chance)
-    × IsPunctual p.network q promise graph chance × IsScored p.network q (unfold_plan graph p.network q) bounds
-    × (text ≡ punctual_row promise chance ++ graph_text p.network p.names (head_of q bounds) graph)
+TellsPunctual p promise found text query worst =
+    (graph : PlanGraph) × (chance : Interval) × (bounds : Interval) × (found ≡ punctual_findings query worst graph bounds chance)
+    × IsPunctual p.network query promise graph chance × IsScored p.network query (unfold_plan graph p.network query) bounds
+    × (text ≡ punctual_row promise chance ++ graph_text p.network p.names (head_of query bounds) graph)

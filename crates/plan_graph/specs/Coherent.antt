@@ -1,7 +1,7 @@
 -- Which graphs by ride have tables that agree at each place.
 use Rattle.std.specs.Prelude.{◌≡◌, ℕ, ◌≤◌, Some, Contains}
 use Rattle.plan_model.specs.declared.model.Outcome.{Outcome}
-use Rattle.plan_model.specs.Parts.{Parts}
+use Rattle.plan_model.specs.NetworkModel.{NetworkModel}
 use Rattle.plan_model.specs.Unfold.{end_of, arrival_of, outcomes_of}
 use Rattle.plan_graph.specs.declared.GraphRow.{GraphRow}
 use Rattle.plan_graph.specs.declared.Ride.{Ride}
@@ -9,18 +9,18 @@ use Rattle.plan_graph.specs.declared.ExpandedGraph.{ExpandedGraph}
 use Rattle.plan_graph.specs.Rows.{pick_row}
 
 -- the row stands after some ride that ends at the place
-abbrev pub IsRowAt : Parts → ExpandedGraph → ℕ → GraphRow → Type 0
-IsRowAt n graph place row = (r : Ride) × Contains graph.rides r × (end_of n r.leg ≡ place) × Contains r.after row
+abbrev pub IsRowAt : NetworkModel → ExpandedGraph → ℕ → GraphRow → Type 0
+IsRowAt network graph place row = (r : Ride) × Contains graph.rides r × (end_of network r.leg ≡ place) × Contains r.after row
 
 -- of the rows of all rides that end at the place, the row is the earliest that is not before the arrival
-pub record IsEarliest (n : Parts) (graph : ExpandedGraph) (place arrival : ℕ) (row : GraphRow) : Type 0 where
-  pub there : IsRowAt n graph place row
+pub record IsEarliest (network : NetworkModel) (graph : ExpandedGraph) (place arrival : ℕ) (row : GraphRow) : Type 0 where
+  pub there : IsRowAt network graph place row
   pub in_time : arrival ≤ row.by.0
-  pub least : (other : GraphRow) → IsRowAt n graph place other → arrival ≤ other.by.0 → row.by.0 ≤ other.by.0
+  pub least : (other : GraphRow) → IsRowAt network graph place other → arrival ≤ other.by.0 → row.by.0 ≤ other.by.0
 
 -- put the rows of all rides that end at one place into one table: rows of one moment have one leg,
 -- and for each ride and outcome the table picks what the ride's own rows pick
-pub record IsCoherent (n : Parts) (graph : ExpandedGraph) : Type 0 where
-  pub agree : (place : ℕ) (a b : GraphRow) → IsRowAt n graph place a → IsRowAt n graph place b → a.by.0 ≡ b.by.0 → a.leg ≡ b.leg
-  pub picks : (r : Ride) → Contains graph.rides r → (o : Outcome) → Contains (outcomes_of n r.leg) o → (row : GraphRow) →
-      IsEarliest n graph (end_of n r.leg) (arrival_of n r.leg o.delay) row → pick_row r.after (arrival_of n r.leg o.delay) ≡ Some row.leg
+pub record IsCoherent (network : NetworkModel) (graph : ExpandedGraph) : Type 0 where
+  pub agree : (place : ℕ) (a b : GraphRow) → IsRowAt network graph place a → IsRowAt network graph place b → a.by.0 ≡ b.by.0 → a.leg ≡ b.leg
+  pub picks : (r : Ride) → Contains graph.rides r → (o : Outcome) → Contains (outcomes_of network r.leg) o → (row : GraphRow) →
+      IsEarliest network graph (end_of network r.leg) (arrival_of network r.leg o.delay) row → pick_row r.after (arrival_of network r.leg o.delay) ≡ Some row.leg

@@ -3,7 +3,7 @@ use Rattle.std.specs.Prelude.{◌≡◌, ◌≢◌, ℕ, ◌<◌, ◌≤◌, ◌
 use Rattle.plan_model.specs.declared.model.Leg.{Leg}
 use Rattle.plan_model.specs.declared.model.Outcome.{Outcome}
 use Rattle.plan_model.specs.declared.model.Query.{Query}
-use Rattle.plan_model.specs.Parts.{Parts}
+use Rattle.plan_model.specs.NetworkModel.{NetworkModel}
 use Rattle.plan_model.specs.Tree.{Tree, Done, Ride as Rides, Stuck, Kids, Nil, Kid}
 use Rattle.plan_model.specs.Strategy.{IsLeg, SafeStart}
 use Rattle.plan_model.specs.Ways.{limit_of}
@@ -14,12 +14,12 @@ use Rattle.plan_graph.specs.declared.ExpandedGraph.{ExpandedGraph}
 use Rattle.plan_graph.specs.Rows.{pick_row, Precedes}
 use Rattle.plan_graph.specs.Unfold.{unfold_expanded}
 
-abbrev pub IsLegOf : Parts → Leg → Type 0
-IsLegOf n leg = IsLeg n leg.enter.0 leg.exit.0
+abbrev pub IsLegOf : NetworkModel → Leg → Type 0
+IsLegOf network leg = IsLeg network leg.enter.0 leg.exit.0
 
 -- from some deadline on, the tree is safe for who sets out at the source at the start
-abbrev pub IsSafeForSome : Parts → Query → Tree → Type 0
-IsSafeForSome n q tree = (deadline : ℕ) × SafeStart n q.target.0 (Some deadline) tree q.source.0 q.start.0
+abbrev pub IsSafeForSome : NetworkModel → Query → Tree → Type 0
+IsSafeForSome network query tree = (deadline : ℕ) × SafeStart network query.target.0 (Some deadline) tree query.source.0 query.start.0
 
 -- the ride of the leg stands in the tree
 abbrev mutual
@@ -38,37 +38,37 @@ is_within None arrival = false
 is_within (Some limit) arrival = nat_le arrival limit
 
 -- at a place, the leg of the first row whose leg's limit is not before an arrival
-abbrev pub pick_in_time : Parts → ℕ → List GraphRow → ℕ → Option Leg
-pick_in_time n place [] arrival = None
-pick_in_time n place (row ∷ rows) arrival = if is_within (limit_of n place row.leg) arrival then Some row.leg else pick_in_time n place rows arrival
+abbrev pub pick_in_time : NetworkModel → ℕ → List GraphRow → ℕ → Option Leg
+pick_in_time network place [] arrival = None
+pick_in_time network place (row ∷ rows) arrival = if is_within (limit_of network place row.leg) arrival then Some row.leg else pick_in_time network place rows arrival
 
 -- the row's leg can be reached from the place by the row's moment
-pub record IsReadyRow (n : Parts) (place : ℕ) (row : GraphRow) : Type 0 where
-  pub is_leg : IsLegOf n row.leg
+pub record IsReadyRow (network : NetworkModel) (place : ℕ) (row : GraphRow) : Type 0 where
+  pub is_leg : IsLegOf network row.leg
   pub limit : ℕ
-  pub is_limit : limit_of n place row.leg ≡ Some limit
+  pub is_limit : limit_of network place row.leg ≡ Some limit
   pub in_time : row.by.0 ≤ limit
 
 -- a row may stand before another: moments rise, limits do not fall, and equal limits have equal legs
-pub record IsBefore (n : Parts) (place : ℕ) (a b : GraphRow) : Type 0 where
+pub record IsBefore (network : NetworkModel) (place : ℕ) (a b : GraphRow) : Type 0 where
   pub by : a.by.0 < b.by.0
-  pub limits : (first second : ℕ) → limit_of n place a.leg ≡ Some first → limit_of n place b.leg ≡ Some second → first ≤ second
-  pub legs : limit_of n place a.leg ≡ limit_of n place b.leg → a.leg ≡ b.leg
+  pub limits : (first second : ℕ) → limit_of network place a.leg ≡ Some first → limit_of network place b.leg ≡ Some second → first ≤ second
+  pub legs : limit_of network place a.leg ≡ limit_of network place b.leg → a.leg ≡ b.leg
 
 -- a ride with its rows; away from the target, the first row not before an arrival has the leg of the first row in time for it
-pub record IsReadyRide (n : Parts) (target : ℕ) (r : Ride) : Type 0 where
-  pub is_leg : IsLegOf n r.leg
-  pub rows : All (IsReadyRow n (end_of n r.leg)) r.after
-  pub rising : AllPairs (IsBefore n (end_of n r.leg)) r.after
-  pub picks : end_of n r.leg ≢ target → (o : Outcome) → Contains (outcomes_of n r.leg) o →
-      pick_row r.after (arrival_of n r.leg o.delay) ≡ pick_in_time n (end_of n r.leg) r.after (arrival_of n r.leg o.delay)
+pub record IsReadyRide (network : NetworkModel) (target : ℕ) (r : Ride) : Type 0 where
+  pub is_leg : IsLegOf network r.leg
+  pub rows : All (IsReadyRow network (end_of network r.leg)) r.after
+  pub rising : AllPairs (IsBefore network (end_of network r.leg)) r.after
+  pub picks : end_of network r.leg ≢ target → (o : Outcome) → Contains (outcomes_of network r.leg) o →
+      pick_row r.after (arrival_of network r.leg o.delay) ≡ pick_in_time network (end_of network r.leg) r.after (arrival_of network r.leg o.delay)
 
 -- the graph may be pruned
-pub record IsReady (n : Parts) (q : Query) (graph : ExpandedGraph) : Type 0 where
-  pub safe : IsSafeForSome n q (unfold_expanded graph n q)
-  pub starts : MatchOption graph.start (q.source.0 ≡ q.target.0) (λ leg. (q.source.0 ≢ q.target.0) × IsLegOf n leg)
+pub record IsReady (network : NetworkModel) (query : Query) (graph : ExpandedGraph) : Type 0 where
+  pub safe : IsSafeForSome network query (unfold_expanded graph network query)
+  pub starts : MatchOption graph.start (query.source.0 ≡ query.target.0) (λ leg. (query.source.0 ≢ query.target.0) × IsLegOf network leg)
   pub rising : AllPairs (λ a b. Precedes a.leg b.leg) graph.rides
-  pub rides : All (IsReadyRide n q.target.0) graph.rides
+  pub rides : All (IsReadyRide network query.target.0) graph.rides
 
 -- the row is the first of its list that is not before an arrival
 abbrev pub IsFirst : List GraphRow → ℕ → GraphRow → Type 0
@@ -76,22 +76,22 @@ IsFirst [] arrival row = ⊥
 IsFirst (head ∷ rows) arrival row = ((arrival ≤ head.by.0) × (row ≡ head)) ⊎ ((head.by.0 < arrival) × IsFirst rows arrival row)
 
 -- an outcome of the ride, which does not end at the target, picks the row
-abbrev pub IsPickedAfter : Parts → ℕ → Ride → GraphRow → Type 0
-IsPickedAfter n target r row =
-    (end_of n r.leg ≢ target)
-    × ((o : Outcome) × Contains (outcomes_of n r.leg) o × IsFirst r.after (arrival_of n r.leg o.delay) row)
+abbrev pub IsPickedAfter : NetworkModel → ℕ → Ride → GraphRow → Type 0
+IsPickedAfter network target r row =
+    (end_of network r.leg ≢ target)
+    × ((o : Outcome) × Contains (outcomes_of network r.leg) o × IsFirst r.after (arrival_of network r.leg o.delay) row)
 
 -- no row and no ride is idle
-pub record IsBusy (n : Parts) (q : Query) (graph : ExpandedGraph) : Type 0 where
-  pub picked : All (λ r. All (IsPickedAfter n q.target.0 r) r.after) graph.rides
-  pub stands : All (λ r. Stands r.leg (unfold_expanded graph n q)) graph.rides
+pub record IsBusy (network : NetworkModel) (query : Query) (graph : ExpandedGraph) : Type 0 where
+  pub picked : All (λ r. All (IsPickedAfter network query.target.0 r) r.after) graph.rides
+  pub stands : All (λ r. Stands r.leg (unfold_expanded graph network query)) graph.rides
 
 -- each row is by its leg's limit
-abbrev pub IsByLimits : Parts → Ride → Type 0
-IsByLimits n r = All (λ row. limit_of n (end_of n r.leg) row.leg ≡ Some row.by.0) r.after
+abbrev pub IsByLimits : NetworkModel → Ride → Type 0
+IsByLimits network r = All (λ row. limit_of network (end_of network r.leg) row.leg ≡ Some row.by.0) r.after
 
 -- the graph is pruned
-pub record IsPruned (n : Parts) (q : Query) (graph : ExpandedGraph) : Type 0 where
-  pub ready : IsReady n q graph
-  pub by : All (IsByLimits n) graph.rides
-  pub busy : IsBusy n q graph
+pub record IsPruned (network : NetworkModel) (query : Query) (graph : ExpandedGraph) : Type 0 where
+  pub ready : IsReady network query graph
+  pub by : All (IsByLimits network) graph.rides
+  pub busy : IsBusy network query graph

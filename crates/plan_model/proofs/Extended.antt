@@ -7,7 +7,7 @@ use Rattle.std.proofs.lemmas.List.{append-nil, get_or_append_left, get_or-append
 use Rattle.std.proofs.lemmas.List.FromFn.{length-map-range_with_len, get_or-map-range_with_len}
 use Rattle.std.proofs.lemmas.List.Elements.{All-cons}
 use Rattle.plan_model.specs.declared.model.Way.{Way}
-use Rattle.plan_model.specs.Parts.{Parts}
+use Rattle.plan_model.specs.NetworkModel.{NetworkModel}
 use Rattle.plan_model.specs.Network.{IsValid, AreLinksInto, change_of, row_of, connection, links_into}
 use Rattle.plan_model.specs.Ways.{own_way, ways_into, way_in, way_of}
 use Rattle.plan_model.specs.View.{first_way, links_from_added, extended, IsSeen, IsExtension}
@@ -28,11 +28,11 @@ way_in-second [] more p away = refl
 way_in-second (way ∷ ways) more p away =
     way_in-away way (ways ++ more) p (away zero way (omega arith)) ∙ way_in-second ways more p (λ k d within. away (suc k) d (omega arith))
 
-module _ (m : Parts) (v : IsValid m) (source : ℕ) (there : source < length m.change) (few : length m.change + 1 < 4294967296) where
+module _ (m : NetworkModel) (v : IsValid m) (source : ℕ) (there : source < length m.change) (few : length m.change + 1 < 4294967296) where
   abbrev last : ℕ
   last = length m.change
 
-  abbrev n : Parts
+  abbrev n : NetworkModel
   n = extended m source
 
   places : length n.change ≡ last + 1

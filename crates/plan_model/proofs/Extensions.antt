@@ -1,6 +1,6 @@
 -- What is safe from a place that was added is safe from the source a second later.
 use Rattle.std.proofs.Common.{◌≡◌, ◌≢◌, ℕ, ◌+◌, ◌<◌, arith, Option, Some, length, sym, ap, ◌∙◌, subst}
-use Rattle.plan_model.specs.Parts.{Parts}
+use Rattle.plan_model.specs.NetworkModel.{NetworkModel}
 use Rattle.plan_model.specs.Network.{IsValid, from_of}
 use Rattle.plan_model.specs.Ways.{way_of}
 use Rattle.plan_model.specs.Tree.{Tree, Done, Ride, Stuck}
@@ -9,7 +9,7 @@ use Rattle.plan_model.specs.View.{later_by, deadline_later_by, IsView, IsExtensi
 use Rattle.plan_model.proofs.Later.{later_by-none, deadline-none, later_by-same}
 use Rattle.plan_model.proofs.Views.{leg_there, safe_there, safe_back, start_there, start_back}
 
-module _ (n m : Parts) (source : ℕ) (extends : IsExtension n m source) (valid : IsValid m) (target : ℕ) (by : Option ℕ) (inside : target < length m.change) (away : source ≢ target) where
+module _ (n m : NetworkModel) (source : ℕ) (extends : IsExtension n m source) (valid : IsValid m) (target : ℕ) (by : Option ℕ) (inside : target < length m.change) (away : source ≢ target) where
   abbrev added : ℕ
   added = length m.change
 
@@ -53,7 +53,7 @@ module _ (n m : Parts) (source : ℕ) (extends : IsExtension n m source) (valid 
       let same : from.0 ≡ tree = sym (later_by-none from.0) ∙ from.1 in
       goes_on tree x (subst (λ (t : Tree). SafeStart n target by t source (x + 1)) same from.2)
 
-pub alike : (n m : Parts) (shift first : ℕ) → IsView n m shift first → IsValid m → SafeAlike n m shift first
+pub alike : (n m : NetworkModel) (shift first : ℕ) → IsView n m shift first → IsValid m → SafeAlike n m shift first
 alike n m shift first view valid = record {
   there = λ target by tree p x inside h. safe_there n m shift first view valid target by tree p x inside h;
   back = λ target by tree p x inside late h.

@@ -5,7 +5,7 @@ use Rattle.std.proofs.lemmas.Bool.Decides.{nat_tests}
 use Rattle.std.proofs.lemmas.List.Sums.{sum_by-cons}
 use Rattle.std.proofs.Math.Nat.{mul_assoc, mul_comm, mul-add, add-mul}
 use Rattle.plan_model.specs.declared.model.Outcome.{Outcome}
-use Rattle.plan_model.specs.Parts.{Parts}
+use Rattle.plan_model.specs.NetworkModel.{NetworkModel}
 use Rattle.plan_model.specs.Network.{IsValid, to_of, arr_of, outcomes}
 use Rattle.plan_model.specs.Tree.{Tree, Done, Ride, Stuck, Kids, Nil, Kid, worst, worst_of, height, height_of}
 use Rattle.plan_model.specs.Strategy.{Safe, SafeAll}
@@ -97,7 +97,7 @@ pub late-later : (shift promise a : ℕ) → late (promise + shift) (a + shift) 
 late-later shift promise a = grind (arith, nat_tests)
 
 -- the worst arrival of a safe tree is later by the shift
-module _ (n : Parts) (v : IsValid n) (target : ℕ) (by : Option ℕ) (shift : ℕ) where
+module _ (n : NetworkModel) (v : IsValid n) (target : ℕ) (by : Option ℕ) (shift : ℕ) where
   mutual
     pub worst-later : (tree : Tree) (p x : ℕ) → Safe n target by tree p x → worst (later_by shift tree) ≡ worst tree + shift
     worst-later (Done a) p x h = refl
@@ -120,7 +120,7 @@ whole_row : (c p q s : ℕ) → s ≡ 10000 → q ≡ p * 10000 → c * p * s �
 whole_row c p q s e f = rw (e, f) (mul_assoc c p 10000)
 
 -- the expected arrival of a safe tree is later by the shift
-module _ (n : Parts) (v : IsValid n) (target : ℕ) (by : Option ℕ) (shift : ℕ) where
+module _ (n : NetworkModel) (v : IsValid n) (target : ℕ) (by : Option ℕ) (shift : ℕ) where
   mutual
     pub num-later : (tree : Tree) (p x h : ℕ) → Safe n target by tree p x → height tree ≤ h → num (later_by shift tree) h ≡ num tree h + shift * 10000 ^ h
     num-later (Done a) p x h safe tall = add-mul a shift (10000 ^ h)

@@ -3,7 +3,7 @@ use Rattle.std.proofs.Common.{◌≡◌, ℕ, zero, suc, ◌+◌, ◌-◌, Bool,
 use Rattle.std.specs.Prelude.{◌==◌, if◌then◌else◌}
 use Rattle.plan_model.specs.declared.model.Outcome.{Outcome}
 use Rattle.plan_model.specs.declared.model.Leg.{Leg}
-use Rattle.plan_model.specs.Parts.{Parts}
+use Rattle.plan_model.specs.NetworkModel.{NetworkModel}
 use Rattle.plan_model.specs.Network.{IsValid, count, arr_of}
 use Rattle.plan_model.specs.Tree.{Tree, Done, Ride, Stuck}
 use Rattle.plan_model.specs.Strategy.{IsLeg}
@@ -19,7 +19,7 @@ kids_after-later shift f g a (o ∷ row) same =
     let others = kids_after-later shift f g a row same in
     rw (one, others) refl
 
-module _ (n m : Parts) (shift first : ℕ) (view : IsView n m shift first) (valid : IsValid m) (target : ℕ) where
+module _ (n m : NetworkModel) (shift first : ℕ) (view : IsView n m shift first) (valid : IsValid m) (target : ℕ) where
   pub same_end : (leg : Leg) → IsLeg n leg.enter.0 leg.exit.0 → end_of n leg ≡ end_of m leg
   same_end leg is = (seen n m shift first view valid leg.exit.0 (leg_there n m shift first view valid leg.enter.0 leg.exit.0 is).0.exit).to
 

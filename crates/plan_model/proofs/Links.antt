@@ -2,7 +2,7 @@
 use Rattle.std.proofs.Common.{ℕ, zero, suc, ◌+◌, ◌<◌, ◌≤◌, List, [], ◌∷◌, length, get_or, arith, inl, inr}
 use Rattle.std.proofs.lemmas.Bool.{cases_lt}
 use Rattle.plan_model.specs.declared.model.Way.{Way}
-use Rattle.plan_model.specs.Parts.{Parts}
+use Rattle.plan_model.specs.NetworkModel.{NetworkModel}
 use Rattle.plan_model.specs.Network.{AreLinksInto, AreLinks, IsValid, links_into, change_of, row_of, connection}
 
 module _ (places r : ℕ) (links : List Way) (are : AreLinksInto places r links) (d : Way) where
@@ -30,7 +30,7 @@ few_links places r (way ∷ links) inside are =
     ]
 
 -- fewer links lead into a place than there are places
-pub links_into-few : (n : Parts) → IsValid n → (r : ℕ) → r < length n.change → length (links_into n r) + 1 ≤ length n.change
+pub links_into-few : (n : NetworkModel) → IsValid n → (r : ℕ) → r < length n.change → length (links_into n r) + 1 ≤ length n.change
 links_into-few n v r inside = few_links (length n.change) r (links_into n r) inside (v.links.each r inside)
 
 pub AreLinksInto-none : (places r : ℕ) → AreLinksInto places r []
@@ -42,10 +42,10 @@ AreLinksInto-none places r = record {
 }
 
 -- the network with other links
-abbrev pub relinked : Parts → List (List Way) → Parts
+abbrev pub relinked : NetworkModel → List (List Way) → NetworkModel
 relinked n links = record { connections = n.connections; change = n.change; classes = n.classes; links = links }
 
-pub IsValid-relinked : (n : Parts) (links : List (List Way)) → IsValid n → AreLinks (length n.change) links → IsValid (relinked n links)
+pub IsValid-relinked : (n : NetworkModel) (links : List (List Way)) → IsValid n → AreLinks (length n.change) links → IsValid (relinked n links)
 unfolding change_of row_of connection
 IsValid-relinked n links v are = record {
   rising = v.rising;

@@ -3,7 +3,7 @@ use Rattle.std.proofs.Common.{◌≡◌, ℕ, zero, suc, ◌+◌, ◌-◌, ◌<�
 use Rattle.std.proofs.lemmas.Bool.{cases_eq}
 use Rattle.std.proofs.lemmas.List.{take-append-drop, get_or-drop, get_or-take, length-take-le}
 use Rattle.plan_model.specs.declared.model.ConnectionId.{ConnectionId}
-use Rattle.plan_model.specs.Parts.{Parts}
+use Rattle.plan_model.specs.NetworkModel.{NetworkModel}
 use Rattle.plan_model.specs.Network.{dep_of}
 use Rattle.plan_model.specs.Order.{IsEarlier, IsScanOrder, IsPrefixUpTo}
 
@@ -17,25 +17,25 @@ take_take {X} xs i j h =
     first [] (suc m) more = let e : suc m + more ≡ suc (m + more) = omega arith in rw e refl
     first (y ∷ ys) (suc m) more = let e : suc m + more ≡ suc (m + more) = omega arith in rw e (ap (λ (zs : List X). y ∷ zs) (first ys m more))
 
-pub dep_of_earlier : (n : Parts) (i j : ℕ) → IsEarlier n i j → dep_of n i ≤ dep_of n j
+pub dep_of_earlier : (n : NetworkModel) (i j : ℕ) → IsEarlier n i j → dep_of n i ≤ dep_of n j
 dep_of_earlier n i j (inl less) = omega arith
 dep_of_earlier n i j (inr same) = omega (arith, same.0)
 
 -- departures do not fall along a scan order
-pub dep_along : (n : Parts) (ids : List ConnectionId) → IsScanOrder n ids → (i j : ℕ) (d : ConnectionId) → i ≤ j → j < length ids → dep_of n (get_or ids i d).0 ≤ dep_of n (get_or ids j d).0
+pub dep_along : (n : NetworkModel) (ids : List ConnectionId) → IsScanOrder n ids → (i j : ℕ) (d : ConnectionId) → i ≤ j → j < length ids → dep_of n (get_or ids i d).0 ≤ dep_of n (get_or ids j d).0
 dep_along n ids order i j d h within = elim (cases_eq i j) [
   | inl same ↦ let e : dep_of n (get_or ids i d).0 ≡ dep_of n (get_or ids j d).0 = ap (λ (k : ℕ). dep_of n (get_or ids k d).0) same in omega arith
   | inr other ↦ dep_of_earlier n (get_or ids i d).0 (get_or ids j d).0 (order.rising i j d (omega arith) within)
 ]
 
 -- of the first connections those before low depart by a moment, and those from high on after it
-pub record IsHalved (n : Parts) (ids : List ConnectionId) (last left low high : ℕ) : Type 0 where
+pub record IsHalved (n : NetworkModel) (ids : List ConnectionId) (last left low high : ℕ) : Type 0 where
   pub ordered : low ≤ high
   pub within : high ≤ left
   pub soon : (k : ℕ) (d : ConnectionId) → k < low → dep_of n (get_or ids k d).0 ≤ last
   pub late : (k : ℕ) (d : ConnectionId) → high ≤ k → k < left → last < dep_of n (get_or ids k d).0
 
-module _ (n : Parts) (ids : List ConnectionId) (last left low high : ℕ) (order : IsScanOrder n ids) (h : IsHalved n ids last left low high) where
+module _ (n : NetworkModel) (ids : List ConnectionId) (last left low high : ℕ) (order : IsScanOrder n ids) (h : IsHalved n ids last left low high) where
   pub IsHalved-up : (middle : ℕ) → low ≤ middle → middle < high → left ≤ length ids → ((d : ConnectionId) → dep_of n (get_or ids middle d).0 ≤ last) → IsHalved n ids last left (middle + 1) high
   IsHalved-up middle from to all soon = record {
     ordered = omega arith;

@@ -1,7 +1,7 @@
 -- What is safe in a network is safe in a view of it, and the other way round.
 use Rattle.std.proofs.Common.{◌≡◌, ℕ, ◌+◌, ◌<◌, ◌≤◌, arith, Option, Some, None, List, [], ◌∷◌, length, refl, sym, ap, ◌∙◌}
 use Rattle.plan_model.specs.declared.model.Outcome.{Outcome}
-use Rattle.plan_model.specs.Parts.{Parts}
+use Rattle.plan_model.specs.NetworkModel.{NetworkModel}
 use Rattle.plan_model.specs.Network.{IsValid, count, connection, from_of, to_of, dep_of, arr_of, row_of, outcomes}
 use Rattle.plan_model.specs.Ways.{way_of}
 use Rattle.plan_model.specs.Tree.{Tree, Done, Ride, Stuck, Kids, Nil, Kid}
@@ -17,10 +17,10 @@ in_time_back : (shift : ℕ) (by : Option ℕ) (x : ℕ) → IsInTime (deadline_
 in_time_back shift None x h = tt
 in_time_back shift (Some d) x h = omega arith
 
-same_all : (n : Parts) (target : ℕ) (by : Option ℕ) (kids : Kids) (r s : List Outcome) (p q a b : ℕ) → r ≡ s → p ≡ q → a ≡ b → SafeAll n target by kids r p a → SafeAll n target by kids s q b
+same_all : (n : NetworkModel) (target : ℕ) (by : Option ℕ) (kids : Kids) (r s : List Outcome) (p q a b : ℕ) → r ≡ s → p ≡ q → a ≡ b → SafeAll n target by kids r p a → SafeAll n target by kids s q b
 same_all n target by kids r s p q a b e f g h = rw (← e, ← f, ← g) h
 
-module _ (n m : Parts) (shift first : ℕ) (view : IsView n m shift first) (valid : IsValid m) where
+module _ (n m : NetworkModel) (shift first : ℕ) (view : IsView n m shift first) (valid : IsValid m) where
   pub seen : (i : ℕ) → i < count m → IsSeen shift first (connection n i) (connection m i)
   seen i h = view.connections i h
 

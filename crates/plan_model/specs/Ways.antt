@@ -3,29 +3,29 @@ use Rattle.std.specs.Prelude.{ℕ, ◌-◌, List, ◌∷◌, Option, Some, None,
 use Rattle.std.specs.Option.{option_map, option_and_then}
 use Rattle.plan_model.specs.declared.model.Leg.{Leg}
 use Rattle.plan_model.specs.declared.model.Way.{Way}
-use Rattle.plan_model.specs.Parts.{Parts}
+use Rattle.plan_model.specs.NetworkModel.{NetworkModel}
 use Rattle.plan_model.specs.Network.{from_of, dep_of, change_of, links_into}
 
 -- the way from a place to itself: a change, in its change time
-abbrev pub own_way : Parts → ℕ → Way
-own_way n r = record { from = record { 0 = r }; seconds = change_of n r }
+abbrev pub own_way : NetworkModel → ℕ → Way
+own_way network r = record { from = record { 0 = r }; seconds = change_of network r }
 
 -- the ways into a place: from the place itself, and then the links from others
-abbrev pub ways_into : Parts → ℕ → List Way
-ways_into n r = own_way n r ∷ links_into n r
+abbrev pub ways_into : NetworkModel → ℕ → List Way
+ways_into network r = own_way network r ∷ links_into network r
 
 -- the seconds of the first way from place p in a list
 abbrev pub way_in : List Way → ℕ → Option ℕ
 way_in ways p = option_map (λ way. way.seconds) (find (λ way. way.from.0 == p) ways)
 
 -- the seconds from who arrives at place p to who may board at place r, where there is a way
-abbrev pub way_of : Parts → ℕ → ℕ → Option ℕ
-way_of n p r = way_in (ways_into n r) p
+abbrev pub way_of : NetworkModel → ℕ → ℕ → Option ℕ
+way_of network p r = way_in (ways_into network r) p
 
 -- so many seconds before a moment, where that is not before all time
 abbrev pub earlier_by : ℕ → ℕ → Option ℕ
 earlier_by moment seconds = if nat_le seconds moment then Some (moment - seconds) else None
 
 -- the latest arrival at place p from which the leg can be taken, where there is one
-abbrev pub limit_of : Parts → ℕ → Leg → Option ℕ
-limit_of n p leg = option_and_then (earlier_by (dep_of n leg.enter.0)) (way_of n p (from_of n leg.enter.0))
+abbrev pub limit_of : NetworkModel → ℕ → Leg → Option ℕ
+limit_of network p leg = option_and_then (earlier_by (dep_of network leg.enter.0)) (way_of network p (from_of network leg.enter.0))

@@ -1,6 +1,6 @@
 //! What a network and a view of it have in common.
 ghost use Rattle.std.specs.Prelude.{◌≡◌, ℕ, ◌+◌, ◌^◌, ◌<◌, ◌↔◌, length};
-ghost use Rattle.plan_model.specs.Parts.{Parts};
+ghost use Rattle.plan_model.specs.NetworkModel.{NetworkModel};
 ghost use Rattle.plan_model.specs.Network.{IsValid};
 ghost use Rattle.plan_model.specs.Tree.{Tree};
 ghost use Rattle.plan_model.specs.Late.{LateBelow, LateCovers};
@@ -8,23 +8,23 @@ ghost use Rattle.plan_model.specs.View.{later_by, IsView, IsExtension, SafeAlike
 
 /// In a view exactly those trees are safe which are safe in the network by the shift later.
 pub fn safe_in_view()
-    ensures { (n m : Parts) (shift first : ℕ) → IsView n m shift first → IsValid m →
+    ensures { (n m : NetworkModel) (shift first : ℕ) → IsView n m shift first → IsValid m →
         SafeAlike n m shift first }
 {}
 
 /// From the place that an extension adds exactly those trees are safe which are safe from the
 /// source a second later.
 pub fn safe_from_added()
-    ensures { (n m : Parts) (source : ℕ) → IsExtension n m source → IsValid m →
+    ensures { (n m : NetworkModel) (source : ℕ) → IsExtension n m source → IsValid m →
         SafeFromAdded n m source }
 {}
 
 /// With a place more from which one link leads, to the source in one second, a network is an
 /// extension of itself.
 pub fn extends()
-    ensures valid { (m : Parts) (source : ℕ) → IsValid m → source < length m.change → length m.change + 1 < 2 ^ 32 →
+    ensures valid { (m : NetworkModel) (source : ℕ) → IsValid m → source < length m.change → length m.change + 1 < 2 ^ 32 →
         IsValid (extended m source) }
-    ensures extension { (m : Parts) (source : ℕ) → IsValid m → source < length m.change → length m.change + 1 < 2 ^ 32 →
+    ensures extension { (m : NetworkModel) (source : ℕ) → IsValid m → source < length m.change → length m.change + 1 < 2 ^ 32 →
         IsExtension (extended m source) m source }
 {}
 

@@ -1,32 +1,32 @@
 -- What a connection of a network tells can be printed.
 use Rattle.std.proofs.Common.{◌≡◌, ℕ, ◌<◌, ◌≤◌, length, ap, arith}
 use Rattle.plan_model.specs.declared.model.Connection.{Connection}
-use Rattle.plan_model.specs.Parts.{Parts}
+use Rattle.plan_model.specs.NetworkModel.{NetworkModel}
 use Rattle.plan_model.specs.NameLists.{NameLists, NamesFit}
 use Rattle.plan_model.specs.Network.{count, connection, IsValid}
 use Rattle.clock_text.specs.Civil.{last_printable}
 
-pub dep_printable : (n : Parts) (i : ℕ) (x : Connection) → IsValid n → i < count n → x ≡ connection n i → x.dep.0 ≤ last_printable
+pub dep_printable : (n : NetworkModel) (i : ℕ) (x : Connection) → IsValid n → i < count n → x ≡ connection n i → x.dep.0 ≤ last_printable
 dep_printable n i x v l e =
     let w = v.connections i l in
     omega (arith, ap (λ (z : Connection). z.dep.0) e, w.forward, w.early)
 
-pub arr_printable : (n : Parts) (i : ℕ) (x : Connection) → IsValid n → i < count n → x ≡ connection n i → x.arr.0 ≤ last_printable
+pub arr_printable : (n : NetworkModel) (i : ℕ) (x : Connection) → IsValid n → i < count n → x ≡ connection n i → x.arr.0 ≤ last_printable
 arr_printable n i x v l e =
     let w = v.connections i l in
     omega (arith, ap (λ (z : Connection). z.arr.0) e, w.early)
 
-pub run_named : (names : NameLists) (n : Parts) (i : ℕ) (x : Connection) → NamesFit names n → i < count n → x ≡ connection n i
+pub run_named : (names : NameLists) (n : NetworkModel) (i : ℕ) (x : Connection) → NamesFit names n → i < count n → x ≡ connection n i
     → x.run.0 < length names.runs
 run_named names n i x fit l e = omega (arith, ap (λ (z : Connection). z.run.0) e, fit.below i l)
 
-pub from_named : (names : NameLists) (n : Parts) (i : ℕ) (x : Connection) → NamesFit names n → IsValid n → i < count n → x ≡ connection n i
+pub from_named : (names : NameLists) (n : NetworkModel) (i : ℕ) (x : Connection) → NamesFit names n → IsValid n → i < count n → x ≡ connection n i
     → x.from.0 < length names.places
 from_named names n i x fit v l e =
     let w = v.connections i l in
     omega (arith, ap (λ (z : Connection). z.from.0) e, w.from_in, fit.places)
 
-pub to_named : (names : NameLists) (n : Parts) (i : ℕ) (x : Connection) → NamesFit names n → IsValid n → i < count n → x ≡ connection n i
+pub to_named : (names : NameLists) (n : NetworkModel) (i : ℕ) (x : Connection) → NamesFit names n → IsValid n → i < count n → x ≡ connection n i
     → x.to.0 < length names.places
 to_named names n i x fit v l e =
     let w = v.connections i l in

@@ -11,7 +11,7 @@ use Rattle.plan_model.specs.declared.model.Connection.{Connection}
 use Rattle.plan_model.specs.declared.model.PlaceId.{PlaceId}
 use Rattle.plan_model.specs.declared.model.RunId.{RunId}
 use Rattle.plan_model.specs.declared.model.ConnectionId.{ConnectionId}
-use Rattle.plan_model.specs.Parts.{Parts}
+use Rattle.plan_model.specs.NetworkModel.{NetworkModel}
 use Rattle.plan_model.specs.NameLists.{AreDistinct}
 use Rattle.plan_model.specs.Network.{IsValid, count, no_connection, run_of, step_of}
 use Rattle.plan_model.specs.Search.{connection_at}
@@ -90,7 +90,7 @@ at_both run step c is = ((grind (arith, nat_tests)), (grind (arith, nat_tests)))
 both_at : (run step : ℕ) (c : Connection) → c.run.0 ≡ run → c.step ≡ step → is_at run step c ≡ true
 both_at run step c a b = grind (arith, nat_tests)
 
-pub connection_number : (n : Parts) → IsValid n → (run step : ℕ) (found : Option ConnectionId)
+pub connection_number : (n : NetworkModel) → IsValid n → (run step : ℕ) (found : Option ConnectionId)
     → IfSome found (λ id. (id.0 < count n) × (run_of n id.0 ≡ run) × (step_of n id.0 ≡ step))
     → IfNone found ((i : ℕ) → i < count n → run_of n i ≡ run → step_of n i ≡ step → ⊥) → option_map (λ id. id.0) found ≡ connection_of n run step
 connection_number n valid run step None there none =

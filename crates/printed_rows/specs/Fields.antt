@@ -3,7 +3,7 @@ use Rattle.std.specs.Prelude.{ℕ, Bool, true, List, [], length, ◌==◌, ◌&&
 use Rattle.std.specs.List.{position_from}
 use Rattle.std.specs.Str.{bytes_eq, is_utf8}
 use Rattle.clock_text.specs.Digits.{whole_of}
-use Rattle.plan_model.specs.Parts.{Parts}
+use Rattle.plan_model.specs.NetworkModel.{NetworkModel}
 
 -- a field of a record
 abbrev pub field : List (List ℕ) → ℕ → List ℕ
@@ -22,8 +22,8 @@ abbrev pub number_of : List (List ℕ) → List ℕ → Option ℕ
 number_of names text = if is_utf8 text then position_from (λ name. bytes_eq name text) 0 names else None
 
 -- the connection of a run and step
-abbrev pub connection_of : Parts → ℕ → ℕ → Option ℕ
-connection_of n run step = position_from (λ c. (c.run.0 == run) && (c.step == step)) 0 n.connections
+abbrev pub connection_of : NetworkModel → ℕ → ℕ → Option ℕ
+connection_of network run step = position_from (λ c. (c.run.0 == run) && (c.step == step)) 0 network.connections
 
 -- whether it is greater than the one before, if there is one
 abbrev pub rises : Option ℕ → ℕ → Bool

@@ -3,7 +3,7 @@ use Rattle.std.proofs.Common.{◌≡◌, ℕ, ◌<◌, ◌≤◌, Option, Some, 
 use Rattle.std.proofs.lemmas.Bool.{cases_lt}
 use Rattle.plan_model.specs.declared.model.Moment.{Moment}
 use Rattle.plan_model.specs.declared.model.Query.{Query}
-use Rattle.plan_model.specs.Parts.{Parts}
+use Rattle.plan_model.specs.NetworkModel.{NetworkModel}
 use Rattle.plan_model.specs.Network.{IsValid}
 use Rattle.plan_model.specs.Bounds.{last_moment, end_of_time}
 use Rattle.plan_model.specs.Tree.{Tree, worst}
@@ -15,7 +15,7 @@ use Rattle.value_laws.specs.Worsts.{worst_below, worst_covers, worst_gap}
 use Rattle.meat_scan.specs.Solves.{IsStartValue}
 
 -- what is the best by a deadline is the best of all: what is not safe by it is worse
-pub least_from_value : (n : Parts) (q : Query) (value : WorstMoment) → IsStartValue worst_below worst_covers worst_gap n q value → LeastWorst n q.source.0 q.target.0 q.start.0 (Some value.0)
+pub least_from_value : (n : NetworkModel) (q : Query) (value : WorstMoment) → IsStartValue worst_below worst_covers worst_gap n q value → LeastWorst n q.source.0 q.target.0 q.start.0 (Some value.0)
 least_from_value n q value v =
     let reaches = reaches_from_safe n q.source.0 q.target.0 q.start.0 q.deadline.0 v.tree v.safe in
     let exact : worst v.tree ≡ value.0.0 = omega (arith, v.covers_tree, v.below_safe v.tree v.safe) in (
@@ -26,7 +26,7 @@ least_from_value n q value v =
       ],
     )
 
-module _ (n : Parts) (v : IsValid n) (q : Query) (early : q.start.0 < end_of_time) (last : q.deadline.0 ≡ last_moment) where
+module _ (n : NetworkModel) (v : IsValid n) (q : Query) (early : q.start.0 < end_of_time) (last : q.deadline.0 ≡ last_moment) where
   -- what always reaches the target does so by the last moment
   safe_from : (tree : Tree) → Reaches n q.source.0 q.target.0 q.start.0 tree → IsSafeFor n q tree
   safe_from tree reaches = safe_from_reaches n q.source.0 q.target.0 q.start.0 q.deadline.0 tree reaches (omega (arith, last, before_last n v q.source.0 q.target.0 q.start.0 tree reaches early))
@@ -37,7 +37,7 @@ module _ (n : Parts) (v : IsValid n) (q : Query) (early : q.start.0 < end_of_tim
   least_by_last (Some w) least = least
 
 -- when the least worst arrival is, where there is one
-module _ (n : Parts) (v : IsValid n) (source target start : ℕ) (none : Type 0) where
+module _ (n : NetworkModel) (v : IsValid n) (source target start : ℕ) (none : Type 0) where
   pub not_before : (result : Option Moment) → MatchOption result none (λ w. LeastWorst n source target start (Some w)) → IfSome result (λ w. start ≤ w.0)
   not_before None h = tt
   not_before (Some w) h = after_LeastWorst n v source target start w h

@@ -2,7 +2,7 @@
 use Rattle.std.proofs.Common.{◌≡◌, ◌≢◌, ℕ, ◌&&◌, ◌==◌, Bool, true, false, List, Option, Some, None, Ok, Err, IfSome, IsOkAnd, if◌then◌else◌, refl, sym, ap, ap₂, ◌∙◌, subst}
 use Rattle.std.specs.Prelude.{Result}
 use Rattle.plan_model.specs.Results.{and_then}
-use Rattle.file_ports.specs.Ports.{Folder, file_at}
+use Rattle.file_ports.specs.Ports.{FileMap, file_at}
 use Rattle.csv_rows.specs.declared.feed_tables.Table.TheVariants as table
 use Rattle.csv_rows.specs.declared.feed_tables.FeedFault.{FeedFault}
 use Rattle.csv_rows.specs.declared.feed_tables.FeedFault.TheVariants as fault
@@ -31,7 +31,7 @@ read_calendar (fault.BackwardTime n) e = refl
 read_calendar (fault.TooManyRows t n) e = refl
 read_calendar fault.NoMemory e = refl
 
-same_load : (m : Folder) (folder : List ℕ) (limits : Limits) (f : FeedFault) → IsFaultOf table.CalendarDates f
+same_load : (m : FileMap) (folder : List ℕ) (limits : Limits) (f : FeedFault) → IsFaultOf table.CalendarDates f
     → load_in m folder limits (unread_of f) table.Calendar ≡ load_in m folder limits None table.Calendar
 same_load m folder limits f e =
     ap (λ b. if b then Err (fault.Read table.Calendar) else loaded_file limits table.Calendar (file_at m (path_of folder table.Calendar))) (read_calendar f e)
@@ -56,7 +56,7 @@ were_dates (Ok l) before missing ids exceptions h = record { loaded = l; is = re
 were_dates (Err f) before missing ids exceptions h = absurd h
 
 -- the fault of the calendar comes first
-pub calendar_first : (files : Option Folder) (folder : List ℕ) (limits : Limits) (f : FeedFault)
+pub calendar_first : (files : Option FileMap) (folder : List ℕ) (limits : Limits) (f : FeedFault)
     → IfSome files (λ m. f ≢ fault.NoMemory → calendar_from (load_in m folder limits (unread_of f) table.Calendar) ≡ Err f)
     → IfSome files (λ m. f ≢ fault.NoMemory → calendars_in m folder limits (unread_of f) ≡ Err f)
 unfolding calendars_in
@@ -65,7 +65,7 @@ calendar_first (Some m) folder limits f h = λ free.
     ap (λ r. calendars_from r (dates_from (load_in m folder limits (unread_of f) table.CalendarDates))) (h free)
 
 -- and then that of the exceptions
-pub dates_first : (files : Option Folder) (folder : List ℕ) (limits : Limits) (f : FeedFault) (missing : Bool) (ids : List (List ℕ)) (periods : List Period)
+pub dates_first : (files : Option FileMap) (folder : List ℕ) (limits : Limits) (f : FeedFault) (missing : Bool) (ids : List (List ℕ)) (periods : List Period)
     → IfSome files (λ m. IsCalendar (calendar_from (load_in m folder limits None table.Calendar)) missing ids periods)
     → IsFaultOf table.CalendarDates f
     → IfSome files (λ m. f ≢ fault.NoMemory → dates_from (load_in m folder limits (unread_of f) table.CalendarDates) ≡ Err f)
@@ -79,8 +79,8 @@ dates_first (Some m) folder limits f missing ids periods c own h = λ free.
     ∙ ap (λ r. and_then r (both_of w.loaded)) (h free)
 
 -- both are there to be read
-module _ (files : Option Folder) (folder : List ℕ) (limits : Limits) (missing missing' : Bool) (ids ids' : List (List ℕ)) (periods : List Period) (exceptions : List Exception) where
-  both_here : (m : Folder) → IsCalendar (calendar_from (load_in m folder limits None table.Calendar)) missing ids periods
+module _ (files : Option FileMap) (folder : List ℕ) (limits : Limits) (missing missing' : Bool) (ids ids' : List (List ℕ)) (periods : List Period) (exceptions : List Exception) where
+  both_here : (m : FileMap) → IsCalendar (calendar_from (load_in m folder limits None table.Calendar)) missing ids periods
       → AreDates (dates_from (load_in m folder limits None table.CalendarDates)) ids missing' ids' exceptions
       → (c : Loaded) × (d : Loaded) × (calendars_in m folder limits None ≡ both_of c d) × IsCalendar (Ok c) missing ids periods × AreDates (Ok d) ids missing' ids' exceptions
   unfolding calendars_in
@@ -96,7 +96,7 @@ module _ (files : Option Folder) (folder : List ℕ) (limits : Limits) (missing 
       → IfSome files (λ m. fault.MissingTable table.Calendar ≢ fault.NoMemory → calendars_in m folder limits None ≡ Err (fault.MissingTable table.Calendar))
   none_there h k e = none_in files h k
     where
-      none_in : (o : Option Folder) → IfSome o (λ m. IsCalendar (calendar_from (load_in m folder limits None table.Calendar)) missing ids periods)
+      none_in : (o : Option FileMap) → IfSome o (λ m. IsCalendar (calendar_from (load_in m folder limits None table.Calendar)) missing ids periods)
           → IfSome o (λ m. AreDates (dates_from (load_in m folder limits None table.CalendarDates)) ids missing' ids' exceptions)
           → IfSome o (λ m. fault.MissingTable table.Calendar ≢ fault.NoMemory → calendars_in m folder limits None ≡ Err (fault.MissingTable table.Calendar))
       none_in None h k = tt
@@ -113,7 +113,7 @@ module _ (files : Option Folder) (folder : List ℕ) (limits : Limits) (missing 
       → IfSome files (λ m. IsOkAnd (calendars_in m folder limits None) (RunsBy (runs s)))
   services_here s same h k e = there_in files h k
     where
-      there_in : (o : Option Folder) → IfSome o (λ m. IsCalendar (calendar_from (load_in m folder limits None table.Calendar)) missing ids periods)
+      there_in : (o : Option FileMap) → IfSome o (λ m. IsCalendar (calendar_from (load_in m folder limits None table.Calendar)) missing ids periods)
           → IfSome o (λ m. AreDates (dates_from (load_in m folder limits None table.CalendarDates)) ids missing' ids' exceptions)
           → IfSome o (λ m. IsOkAnd (calendars_in m folder limits None) (RunsBy (runs s)))
       there_in None h k = tt

@@ -8,7 +8,7 @@ use Rattle.csv_rows.specs.declared.feed_tables.FeedFault.TheVariants.{MissingTab
 use Rattle.table_files.specs.declared.loading.Loaded.{Loaded}
 use Rattle.table_files.specs.declared.loading.Loaded.TheVariants.{Found}
 use Rattle.csv_rows.specs.declared.limits.Limits.{Limits}
-use Rattle.file_ports.specs.Ports.{Folder}
+use Rattle.file_ports.specs.Ports.{FileMap}
 use Rattle.csv_rows.specs.declared.columns.Column.TheVariants.{ServiceId}
 use Rattle.csv_rows.specs.FeedTables.{table_of_fault}
 use Rattle.csv_rows.specs.First.{first_below, any_below}
@@ -72,7 +72,7 @@ abbrev pub calendars_from : (calendar dates : Result Loaded FeedFault) → Resul
 calendars_from calendar dates = and_then calendar (λ c. and_then dates (λ d. both_of c d))
 
 -- the calendars of a folder, or the first of their faults
-unfoldable pub calendars_in : Folder → List ℕ → Limits → Option Table → Result Calendars FeedFault
+unfoldable pub calendars_in : FileMap → List ℕ → Limits → Option Table → Result Calendars FeedFault
 calendars_in files folder limits unread =
     calendars_from (calendar_from (load_in files folder limits unread Calendar)) (dates_from (load_in files folder limits unread CalendarDates))
 

@@ -8,7 +8,7 @@ use Rattle.plan_model.specs.declared.model.Way.{Way}
 use Rattle.plan_model.specs.declared.model.Connection.{Connection}
 use Rattle.plan_model.specs.NameLists.{NameLists, NamesFit}
 use Rattle.plan_model.specs.Network.{AreLinksInto, connection, no_connection}
-use Rattle.plan_model.specs.Parts.{Parts}
+use Rattle.plan_model.specs.NetworkModel.{NetworkModel}
 
 abbrev Rises : Way → Way → Type 0
 Rises a b = a.from.0 < b.from.0
@@ -54,7 +54,7 @@ lists_pushed places to lists new ws is many before are r less =
     (lists_push places lists ws (λ k low. before k (omega (arith, many, low))) (subst (λ k. AreLinksInto places k ws) (sym many) are) r (omega (arith, many, less)))
 
 -- names fit by the connections and the places alone
-pub NamesFit-same : (names : NameLists) (n m : Parts) → m.connections ≡ n.connections → m.change ≡ n.change → NamesFit names n → NamesFit names m
+pub NamesFit-same : (names : NameLists) (n m : NetworkModel) → m.connections ≡ n.connections → m.change ≡ n.change → NamesFit names n → NamesFit names m
 unfolding connection
 NamesFit-same names n m e h a =
     let run : (i : ℕ) → (get_or m.connections i no_connection).run.0 ≡ (get_or n.connections i no_connection).run.0

@@ -1,5 +1,6 @@
 -- What the form of a row of stop times tells.
-use Rattle.std.proofs.Common.{◌≡◌, ℕ, ◌+◌, ◌*◌, ◌<◌, ◌≤◌, ◌-◌, ◌==◌, nat_eq, nat_le, nat_lt, ◌&&◌, Bool, true, false, List, [], length, take, drop, slice_index, slice_index_or, Option, Some, None, IfSome, option_map, if◌then◌else◌, refl, sym, subst, arith}
+use Rattle.std.proofs.Common.{◌≡◌, ℕ, ◌+◌, ◌*◌, ◌<◌, ◌≤◌, ◌-◌, ◌==◌, nat_eq, nat_le, nat_lt, ◌&&◌, Bool, true, false, List, [], length, take, drop, slice_index, slice_index_or, Option, Some, None}
+use Rattle.std.proofs.Common.{IfSome, option_map, if◌then◌else◌, refl, sym, subst, arith}
 use Rattle.std.specs.Prelude.{Result, Ok, Err}
 use Rattle.std.specs.List.{list_all}
 use Rattle.std.specs.Char.{is_ascii_digit}

@@ -1,7 +1,7 @@
 -- What a folder holds of a table, and the faults of reading it.
 use Rattle.std.specs.Prelude.{◌≡◌, ◌≢◌, ℕ, ◌<◌, ◌≤◌, ◌==◌, nat_lt, List, [], length, Option, None, Some, Result, Ok, Err, IsErrOf, if◌then◌else◌}
 use Rattle.file_ports.specs.Counts.{Rose}
-use Rattle.file_ports.specs.Ports.{Folder, file_at}
+use Rattle.file_ports.specs.Ports.{FileMap, file_at}
 use Rattle.csv_rows.specs.declared.feed_tables.Table.{Table}
 use Rattle.csv_rows.specs.declared.feed_tables.FeedFault.{FeedFault}
 use Rattle.csv_rows.specs.declared.feed_tables.FeedFault.TheVariants.{Read, TooLong, TooManyRows, NoMemory}
@@ -34,7 +34,7 @@ abbrev pub load_of : Option Table → Limits → Table → Option (List ℕ) →
 load_of unread limits table file = if is_unread unread table then Err (Read table) else loaded_file limits table file
 
 -- what a folder holds of a table, where at most one table could not be read
-abbrev pub load_in : Folder → List ℕ → Limits → Option Table → Table → Result Loaded FeedFault
+abbrev pub load_in : FileMap → List ℕ → Limits → Option Table → Table → Result Loaded FeedFault
 load_in files folder limits unread table = load_of unread limits table (file_at files (path_of folder table))
 
 -- the records, of which a table that is absent has none, and neither has one whose file has no record

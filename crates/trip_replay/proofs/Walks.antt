@@ -7,7 +7,7 @@ use Rattle.std.proofs.lemmas.Bool.Decides.{nat_tests}
 use Rattle.plan_model.specs.declared.model.Leg.{Leg}
 use Rattle.plan_model.specs.declared.model.Outcome.{Outcome}
 use Rattle.plan_model.specs.declared.model.Query.{Query}
-use Rattle.plan_model.specs.Parts.{Parts}
+use Rattle.plan_model.specs.NetworkModel.{NetworkModel}
 use Rattle.plan_model.specs.Network.{arr_of, to_of, outcomes}
 use Rattle.plan_model.specs.Tree.{Tree, Done, Ride, Stuck, Kids, Nil, Kid}
 use Rattle.plan_model.specs.Strategy.{Safe, SafeAll, IsSafeFor}
@@ -26,7 +26,7 @@ use Rattle.trip_replay.specs.Walk.{ridden, trace_of, walk, walk_kid, IsAnswer, I
 use Rattle.trip_replay.specs.Stops.{has_delay, delayed, tree_at}
 
 -- the walk after a ride, by whether the delay is one of its outcomes
-pub kid_walk : (n : Parts) (f : ℕ → Tree) (scheduled : ℕ) (row : List Outcome) (i j delay : ℕ) (delays : List ℕ) (behind : List Ridden)
+pub kid_walk : (n : NetworkModel) (f : ℕ → Tree) (scheduled : ℕ) (row : List Outcome) (i j delay : ℕ) (delays : List ℕ) (behind : List Ridden)
     → walk_kid n (kids_after f scheduled row) row i j delay delays behind ≡
     (if has_delay row delay then walk n (f (scheduled + delay)) delays (behind ++ ridden n i j delay ∷ []) else Err (fault.NotADelay (length behind + 1)))
 kid_walk n f scheduled [] i j delay delays behind = refl
@@ -64,7 +64,7 @@ drop_all [] (suc i) over = refl
 drop_all (head ∷ delays) zero over = absurd (omega (arith, over))
 drop_all (head ∷ delays) (suc i) over = drop_all delays i (omega (arith, over))
 
-module _ (n : Parts) (target : ℕ) (choice : Leg → ℕ → Option Leg) (s : Stop) (behind : List Ridden) (delays : List ℕ) (i : ℕ) where
+module _ (n : NetworkModel) (target : ℕ) (choice : Leg → ℕ → Option Leg) (s : Stop) (behind : List Ridden) (delays : List ℕ) (i : ℕ) where
   at_target : s.place.0 ≡ target → tree_at n target choice s ≡ Done s.moment.0
   at_target is = rw (eq-eqb s.place.0 target is) refl
 
@@ -125,7 +125,7 @@ module _ (n : Parts) (target : ℕ) (choice : Leg → ℕ → Option Leg) (s : S
       (behind ++ (record { leg = leg; delay = slice_index_or delays i d; arrival = record { 0 = y } }) ∷ [])) both.1)
 
 -- a safe tree ends no walk as stuck, nor too late
-module _ (n : Parts) (target deadline : ℕ) where
+module _ (n : NetworkModel) (target deadline : ℕ) where
   safe_by : (test : Bool) (a b : Result Trace ReplayFault) → IsSafeAnswer deadline a → IsSafeAnswer deadline b → IsSafeAnswer deadline (if test then a else b)
   safe_by true a b one two = one
   safe_by false a b one two = two
@@ -146,14 +146,14 @@ module _ (n : Parts) (target deadline : ℕ) where
         safe_by (o.delay == delay) (walk n tree delays (behind ++ ridden n i j delay ∷ [])) (walk_kid n kids row i j delay delays behind)
         (safe_walk tree p (scheduled + o.delay) delays (behind ++ ridden n i j delay ∷ []) safe.1) (safe_kids kids row p scheduled i j delay delays behind safe.2)
 
-safe_start : (n : Parts) (q : Query) (tree : Tree) (delays : List ℕ) → IsSafeFor n q tree → IsSafeAnswer q.deadline.0 (walk n tree delays [])
+safe_start : (n : NetworkModel) (q : Query) (tree : Tree) (delays : List ℕ) → IsSafeFor n q tree → IsSafeAnswer q.deadline.0 (walk n tree delays [])
 safe_start n q (Done a) [] safe = let is = safe.0 in omega (arith, is, safe.2)
 safe_start n q (Done a) (delay ∷ delays) safe = tt
 safe_start n q (Stuck p y) delays safe = absurd safe
 safe_start n q (Ride i j kids) [] safe = tt
 safe_start n q (Ride i j kids) (delay ∷ delays) safe = safe_kids n q.target.0 q.deadline.0 kids (outcomes n j) (to_of n j) (arr_of n j) i j delay delays [] safe.3
 
-pub safe_answer : (n : Parts) (q : Query) (tree : Tree) (delays : List ℕ) (result : Result Trace ReplayFault)
+pub safe_answer : (n : NetworkModel) (q : Query) (tree : Tree) (delays : List ℕ) (result : Result Trace ReplayFault)
     → IsAnswer result (walk n tree delays []) → IsSafeFor n q tree → IsSafeAnswer q.deadline.0 result
 safe_answer n q tree delays (Err fault.NoMemory) is safe = tt
 safe_answer n q tree delays (Ok trace) is safe = subst (λ (r : Result Trace ReplayFault). IsSafeAnswer q.deadline.0 r) is (safe_start n q tree delays safe)
@@ -161,7 +161,7 @@ safe_answer n q tree delays (Err (fault.Stuck place moment)) is safe = subst (λ
 safe_answer n q tree delays (Err e) is safe = tt
 
 -- what a table picks is a leg
-picked_row : (n : Parts) (place : ℕ) (rows : List GraphRow) → All (IsFitRow n place) rows → (x : ℕ) (leg : Leg) → pick_row rows x ≡ Some leg → IsLegOf n leg
+picked_row : (n : NetworkModel) (place : ℕ) (rows : List GraphRow) → All (IsFitRow n place) rows → (x : ℕ) (leg : Leg) → pick_row rows x ≡ Some leg → IsLegOf n leg
 picked_row n place [] fit x leg is = absurd (cc)
 picked_row n place (row ∷ rows) fit x leg is = elim (cases_le x row.by.0) [
   | inl early ↦
@@ -179,7 +179,7 @@ picked_row n place (row ∷ rows) fit x leg is = elim (cases_le x row.by.0) [
     cases_le : (a b : ℕ) → (a ≤ b) ⊎ (b < a)
     cases_le a b = elim (cases_lt b a) [ inl less ↦ inr less | inr le ↦ inl le ]
 
-pub picked_leg : (n : Parts) (tables : List PlaceTable) → All (IsFitTable n) tables → (place x : ℕ) (leg : Leg) → pick_at tables place x ≡ Some leg → IsLegOf n leg
+pub picked_leg : (n : NetworkModel) (tables : List PlaceTable) → All (IsFitTable n) tables → (place x : ℕ) (leg : Leg) → pick_at tables place x ≡ Some leg → IsLegOf n leg
 picked_leg n [] fit place x leg is = absurd (cc)
 picked_leg n (table ∷ tables) fit place x leg is = by_test (table.place.0 == place) (picked_leg n tables (λ k d within. fit (suc k) d (omega (arith, within))) place x leg) is
   where
@@ -187,7 +187,7 @@ picked_leg n (table ∷ tables) fit place x leg is = by_test (table.place.0 == p
     by_test true more picks = picked_row n table.place.0 table.rows (fit 0 table (omega arith)).rows x leg picks
     by_test false more picks = more picks
 
-pub next_leg : (n : Parts) (tables : List PlaceTable) → All (IsFitTable n) tables → (place x left : ℕ) (found : Option Leg)
+pub next_leg : (n : NetworkModel) (tables : List PlaceTable) → All (IsFitTable n) tables → (place x left : ℕ) (found : Option Leg)
     → found ≡ pick_at tables place x → 0 < left → IfSome found (λ next. IsLegOf n next × (left - 1 < left))
 next_leg n tables fit place x left None is some = tt
 next_leg n tables fit place x left (Some leg) is some = (picked_leg n tables fit place x leg (sym is), omega (arith, some))
@@ -202,10 +202,10 @@ one_more [] x = refl
 one_more (y ∷ xs) x = let more = one_more xs x in omega (arith, more)
 
 -- a leg that is next leaves fewer rides
-pub next_step : (n : Parts) (most before left new_left : ℕ) (next : Option Leg) → IfSome next (λ leg. IsLegOf n leg × (new_left < left))
+pub next_step : (n : NetworkModel) (most before left new_left : ℕ) (next : Option Leg) → IfSome next (λ leg. IsLegOf n leg × (new_left < left))
     → before + left < most → IfSome next (λ leg. IsLegOf n leg × (before + 1 + new_left < most))
 next_step n most before left new_left None said few = tt
 next_step n most before left new_left (Some leg) said few = (said.0, omega (arith, said.1, few))
 
-pub at_some : (n : Parts) (most behind left : ℕ) (next : Option Leg) (leg : Leg) → next ≡ Some leg → IfSome next (λ l. IsLegOf n l × (behind + left < most)) → behind + left < most
+pub at_some : (n : NetworkModel) (most behind left : ℕ) (next : Option Leg) (leg : Leg) → next ≡ Some leg → IfSome next (λ l. IsLegOf n l × (behind + left < most)) → behind + left < most
 at_some n most behind left next leg is said = (subst (λ (o : Option Leg). IfSome o (λ l. IsLegOf n l × (behind + left < most))) is said).1

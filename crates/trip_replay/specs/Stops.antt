@@ -3,7 +3,7 @@ use Rattle.std.specs.Prelude.{ℕ, ◌+◌, Bool, List, Option, Some, None, ◌=
 use Rattle.std.specs.List.{list_any}
 use Rattle.plan_model.specs.declared.model.Leg.{Leg}
 use Rattle.plan_model.specs.declared.model.Outcome.{Outcome}
-use Rattle.plan_model.specs.Parts.{Parts}
+use Rattle.plan_model.specs.NetworkModel.{NetworkModel}
 use Rattle.plan_model.specs.Network.{arr_of}
 use Rattle.plan_model.specs.Tree.{Tree, Done}
 use Rattle.plan_model.specs.Unfold.{outcomes_of, ride_or_stuck, unfold_after}
@@ -14,12 +14,12 @@ abbrev pub has_delay : List Outcome → ℕ → Bool
 has_delay row delay = list_any (λ o. o.delay == delay) row
 
 -- the arrival of a leg with a delay, where it can have that delay
-abbrev pub delayed : Parts → Leg → ℕ → Option ℕ
-delayed n leg delay = if has_delay (outcomes_of n leg) delay then Some (arr_of n leg.exit.0 + delay) else None
+abbrev pub delayed : NetworkModel → Leg → ℕ → Option ℕ
+delayed network leg delay = if has_delay (outcomes_of network leg) delay then Some (arr_of network leg.exit.0 + delay) else None
 
 -- the tree from a stop on
-abbrev pub tree_at : Parts → ℕ → (Leg → ℕ → Option Leg) → Stop → Tree
-tree_at n target choice s =
+abbrev pub tree_at : NetworkModel → ℕ → (Leg → ℕ → Option Leg) → Stop → Tree
+tree_at network target choice s =
     if s.place.0 == target
     then Done s.moment.0
-    else ride_or_stuck n (unfold_after n target choice s.left) s.next s.place.0 s.moment.0
+    else ride_or_stuck network (unfold_after network target choice s.left) s.next s.place.0 s.moment.0

@@ -1,7 +1,7 @@
 -- The walk down a tree by the delays that come.
 use Rattle.std.specs.Prelude.{◌≡◌, ℕ, ◌+◌, ◌≤◌, List, [], ◌∷◌, ◌++◌, length, ◌==◌, if◌then◌else◌, Result, Ok, Err}
 use Rattle.plan_model.specs.declared.model.Outcome.{Outcome}
-use Rattle.plan_model.specs.Parts.{Parts}
+use Rattle.plan_model.specs.NetworkModel.{NetworkModel}
 use Rattle.plan_model.specs.Network.{arr_of, outcomes}
 use Rattle.plan_model.specs.Tree.{Tree, Done, Ride, Stuck, Kids, Nil, Kid}
 use Rattle.trip_replay.specs.declared.Ridden.{Ridden}
@@ -10,11 +10,11 @@ use Rattle.trip_replay.specs.declared.ReplayFault.{ReplayFault}
 use Rattle.trip_replay.specs.declared.ReplayFault.TheVariants as fault
 
 -- the ride from connection i to j with a delay
-abbrev pub ridden : Parts → ℕ → ℕ → ℕ → Ridden
-ridden n i j delay = record {
+abbrev pub ridden : NetworkModel → ℕ → ℕ → ℕ → Ridden
+ridden network i j delay = record {
   leg = record { enter = record { 0 = i }; exit = record { 0 = j } };
   delay = delay;
-  arrival = record { 0 = arr_of n j + delay };
+  arrival = record { 0 = arr_of network j + delay };
 }
 
 abbrev pub trace_of : List Ridden → ℕ → Trace
@@ -22,21 +22,21 @@ trace_of rides arrival = record { rides = rides; arrival = record { 0 = arrival 
 
 abbrev mutual
   -- down a tree, with these rides behind
-  pub walk : Parts → Tree → List ℕ → List Ridden → Result Trace ReplayFault
-  walk n (Done x) [] behind = Ok (trace_of behind x)
-  walk n (Done x) (delay ∷ delays) behind = Err (fault.TooMany (length behind))
-  walk n (Stuck p x) delays behind = Err (fault.Stuck (record { 0 = p }) (record { 0 = x }))
-  walk n (Ride i j kids) [] behind = Err (fault.TooFew (length behind))
-  walk n (Ride i j kids) (delay ∷ delays) behind = walk_kid n kids (outcomes n j) i j delay delays behind
+  pub walk : NetworkModel → Tree → List ℕ → List Ridden → Result Trace ReplayFault
+  walk network (Done x) [] behind = Ok (trace_of behind x)
+  walk network (Done x) (delay ∷ delays) behind = Err (fault.TooMany (length behind))
+  walk network (Stuck p x) delays behind = Err (fault.Stuck (record { 0 = p }) (record { 0 = x }))
+  walk network (Ride i j kids) [] behind = Err (fault.TooFew (length behind))
+  walk network (Ride i j kids) (delay ∷ delays) behind = walk_kid network kids (outcomes network j) i j delay delays behind
 
   -- on at the kid of the outcome with this delay
-  pub walk_kid : Parts → Kids → List Outcome → ℕ → ℕ → ℕ → List ℕ → List Ridden → Result Trace ReplayFault
-  walk_kid n Nil row i j delay delays behind = Err (fault.NotADelay (length behind + 1))
-  walk_kid n (Kid w tree kids) [] i j delay delays behind = Err (fault.NotADelay (length behind + 1))
-  walk_kid n (Kid w tree kids) (o ∷ row) i j delay delays behind =
+  pub walk_kid : NetworkModel → Kids → List Outcome → ℕ → ℕ → ℕ → List ℕ → List Ridden → Result Trace ReplayFault
+  walk_kid network Nil row i j delay delays behind = Err (fault.NotADelay (length behind + 1))
+  walk_kid network (Kid w tree kids) [] i j delay delays behind = Err (fault.NotADelay (length behind + 1))
+  walk_kid network (Kid w tree kids) (o ∷ row) i j delay delays behind =
       if o.delay == delay
-      then walk n tree delays (behind ++ ridden n i j delay ∷ [])
-      else walk_kid n kids row i j delay delays behind
+      then walk network tree delays (behind ++ ridden network i j delay ∷ [])
+      else walk_kid network kids row i j delay delays behind
 
 -- there was no memory, or it is this
 abbrev pub IsAnswer : Result Trace ReplayFault → Result Trace ReplayFault → Type 0

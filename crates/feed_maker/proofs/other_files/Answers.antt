@@ -1,5 +1,5 @@
 use Rattle.std.proofs.Common.{[], ◌∷◌, ◌∙◌, codes}
-use Rattle.file_ports.specs.Ports.{Folder}
+use Rattle.file_ports.specs.Ports.{FileMap}
 use Rattle.file_ports.specs.Steady.{folder_of}
 use Rattle.feed_maker.specs.Tables.{stops_text, routes_text, trips_text, calendar_text, delays_text}
 use Rattle.feed_maker.specs.Made.{other_files}
@@ -12,16 +12,16 @@ returns-clause-files c =
     let new = folder_none (folder_of c.new-files.result) c.new-files.ensures.files in
     let delays_on = folder_more [] (folder_of c.new-files.result) (folder_of c.add.new.self)
     (codes "delays.csv") c.as_bytes.result.now delays_text new (c.as_bytes.ensures.value ∙ c.delays.ensures) c.in_ok-add.ensures.ok in
-    let with_delays : Folder = (codes "delays.csv", delays_text) ∷ [] in
+    let with_delays : FileMap = (codes "delays.csv", delays_text) ∷ [] in
     let calendar_on = folder_more with_delays (folder_of c.add.new.self) (folder_of c.add-2.new.self)
     (codes "feed/calendar.txt") c.as_bytes-2.result.now calendar_text delays_on (c.as_bytes-2.ensures.value ∙ c.calendar.ensures) c.in_ok-add-2.ensures.ok in
-    let with_calendar : Folder = (codes "feed/calendar.txt", calendar_text) ∷ with_delays in
+    let with_calendar : FileMap = (codes "feed/calendar.txt", calendar_text) ∷ with_delays in
     let trips_on = folder_more with_calendar (folder_of c.add-2.new.self) (folder_of c.add-3.new.self)
     (codes "feed/trips.txt") c.as_bytes-3.result.now (trips_text c.args.size) calendar_on
     (c.as_bytes-3.ensures.value ∙ c.in_ok-trips.ensures) c.in_ok-add-3.ensures.ok in
-    let with_trips : Folder = (codes "feed/trips.txt", trips_text c.args.size) ∷ with_calendar in
+    let with_trips : FileMap = (codes "feed/trips.txt", trips_text c.args.size) ∷ with_calendar in
     let routes_on = folder_more with_trips (folder_of c.add-3.new.self) (folder_of c.add-4.new.self) (codes "feed/routes.txt") c.as_bytes-4.result.now
     (routes_text c.args.size) trips_on (c.as_bytes-4.ensures.value ∙ c.in_ok-routes.ensures) c.in_ok-add-4.ensures.ok in
-    let with_routes : Folder = (codes "feed/routes.txt", routes_text c.args.size) ∷ with_trips in
+    let with_routes : FileMap = (codes "feed/routes.txt", routes_text c.args.size) ∷ with_trips in
     folder_more with_routes (folder_of c.add-4.new.self) (folder_of c.add-5.new.self) (codes "feed/stops.txt") c.as_bytes-5.result.now
     (stops_text c.args.size) routes_on (c.as_bytes-5.ensures.value ∙ c.in_ok-stops.ensures) c.in_ok-add-5.ensures.ok

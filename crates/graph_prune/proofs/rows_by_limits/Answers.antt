@@ -1,14 +1,14 @@
 use Rattle.std.proofs.Common.{◌≡◌, ℕ, ◌<◌, ◌+◌, List, Option, length, get_or, ◌++◌, ◌∙◌, ap, sym, drop, append-nil}
 use Rattle.std.specs.Option.{option_map}
 use Rattle.std.proofs.lemmas.List.{drop_more, drop_all}
-use Rattle.plan_model.specs.Parts.{Parts}
+use Rattle.plan_model.specs.NetworkModel.{NetworkModel}
 use Rattle.plan_model.specs.Ways.{limit_of}
 use Rattle.plan_graph.specs.declared.GraphRow.{GraphRow}
 use Rattle.graph_prune.specs.Limits.{by_limits, with_limit}
 use Rattle.graph_prune.proofs.rows_by_limits.Goals as goal
 
 -- one row more
-more : (n : Parts) (place : ℕ) (rows : List GraphRow) (i : ℕ) (none : GraphRow) (old now : List GraphRow) (limit last next : Option ℕ) → i < length rows
+more : (n : NetworkModel) (place : ℕ) (rows : List GraphRow) (i : ℕ) (none : GraphRow) (old now : List GraphRow) (limit last next : Option ℕ) → i < length rows
     → limit ≡ limit_of n place (get_or rows i none).leg
     → now ++ by_limits n place (drop (i + 1) rows) next ≡ old ++ with_limit limit (get_or rows i none).leg (by_limits n place (drop (i + 1) rows)) last
     → now ++ by_limits n place (drop (i + 1) rows) next ≡ old ++ by_limits n place (drop i rows) last

@@ -14,7 +14,7 @@ loop-init g c =
     let none : c.new-seen.result.keys ≡ [] = c.new-seen.ensures.empty in
     let at = begin c.args.network.now c.args.query.now.target.0 (Some safe.0) choice whole c.args.start (start_placed c.args.network.now c.args.query.now choice c.args.start c.requires.differ safe) in
     record {
-      by = Some safe.0;
+      deadline = Some safe.0;
       reaching = rw (pushed, none) at;
       ordered = c.new-seen.ensures.ordered;
     }
@@ -25,9 +25,9 @@ returns-in-None g c =
     let whole = unfolded c.args.network.now c.args.query.now choice (Some c.args.start) in
     let full = c.loop.todo.ok.0 in
     let inv = c.loop.invariant in
-    let seen = all_seen c.args.network.now c.args.query.now.target.0 inv.by choice whole c.args.start c.loop.todo.items c.loop.seen.keys (omega (arith, full, c.in-None.ensures.cases.0)) in
+    let seen = all_seen c.args.network.now c.args.query.now.target.0 inv.deadline choice whole c.args.start c.loop.todo.items c.loop.seen.keys (omega (arith, full, c.in-None.ensures.cases.0)) in
     record {
-      by = inv.by;
+      deadline = inv.deadline;
       start_there = seen c.args.start inv.reaching.start_known;
       placed = λ leg has. inv.reaching.placed leg (inr has);
       closed = λ leg has row there. seen row.leg (inv.reaching.closed leg has row there);
@@ -44,14 +44,14 @@ loop-preserved g c =
     let choice = g.C.LegChoice.chosen c.args.choice.now c.args.network.now in
     let whole = unfolded c.args.network.now c.args.query.now choice (Some c.args.start) in
     let inv = c.loop.invariant in
-    let at = popped c.args.network.now c.args.query.now.target.0 inv.by choice whole c.args.start c.loop.todo.items c.pop.new.self.items
+    let at = popped c.args.network.now c.args.query.now.target.0 inv.deadline choice whole c.args.start c.loop.todo.items c.pop.new.self.items
     c.loop.seen.keys c.in-Some.leg inv.reaching c.in-Some.ensures.items in
-    let after = visited c.args.network.now c.args.query.now.target.0 inv.by choice whole c.args.start c.pop.new.self.items c.visit.new.todo.items
+    let after = visited c.args.network.now c.args.query.now.target.0 inv.deadline choice whole c.args.start c.pop.new.self.items c.visit.new.todo.items
     c.loop.seen.keys c.in-Some.leg at c.in_ok-visit-in-Some.ensures.todo in
     record {
-      by = inv.by;
+      deadline = inv.deadline;
       reaching = subst
-          (λ (seen : List Leg). IsReaching c.args.network.now c.args.query.now.target.0 inv.by choice whole c.args.start c.visit.new.todo.items seen)
+          (λ (seen : List Leg). IsReaching c.args.network.now c.args.query.now.target.0 inv.deadline choice whole c.args.start c.visit.new.todo.items seen)
           (sym c.in_ok-visit-in-Some.ensures.seen) after;
       ordered = c.in_ok-visit-in-Some.ensures.ordered;
     }

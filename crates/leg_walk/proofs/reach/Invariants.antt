@@ -9,7 +9,7 @@ abbrev pub invariant-loop : goal.invariant-loop
 invariant-loop g l =
     let choice = g.C.LegChoice.chosen l.choice l.network in
     record {
-      by : Option ℕ;
-      reaching : IsReaching l.network l.query.target.0 by choice (unfolded l.network l.query choice (Some l.fn.start)) l.fn.start l.todo.items l.seen.keys;
+      deadline : Option ℕ;
+      reaching : IsReaching l.network l.query.target.0 deadline choice (unfolded l.network l.query choice (Some l.fn.start)) l.fn.start l.todo.items l.seen.keys;
       ordered : IsStrictlySortedBy leg_cmp l.seen.keys;
     }

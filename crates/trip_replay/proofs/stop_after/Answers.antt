@@ -2,7 +2,7 @@ use Rattle.std.proofs.Common.{◌≡◌, ℕ, suc, ◌-◌, Option, arith, ap, r
 use Rattle.std.specs.Prelude.{◌==◌, if◌then◌else◌}
 use Rattle.plan_model.specs.declared.model.Connection.{Connection}
 use Rattle.plan_model.specs.declared.model.Leg.{Leg}
-use Rattle.plan_model.specs.Parts.{Parts}
+use Rattle.plan_model.specs.NetworkModel.{NetworkModel}
 use Rattle.plan_model.specs.Tree.{Done}
 use Rattle.plan_model.specs.Unfold.{end_of, by_place, ride_or_stuck, unfold_after}
 use Rattle.plan_graph.specs.Rows.{pick_at}
@@ -15,7 +15,7 @@ returns-clause-next c =
     c.pick.ensures (omega (arith, c.if-left-eq0.false))
 
 -- with one more ride to come
-one_more : (n : Parts) (target : ℕ) (choice : Leg → ℕ → Option Leg) (fewer left : ℕ) (leg : Leg) (arrival : ℕ) → left ≡ suc fewer
+one_more : (n : NetworkModel) (target : ℕ) (choice : Leg → ℕ → Option Leg) (fewer left : ℕ) (leg : Leg) (arrival : ℕ) → left ≡ suc fewer
     → (if end_of n leg == target then Done arrival else ride_or_stuck n (unfold_after n target choice fewer) (choice leg arrival) (end_of n leg) arrival)
     ≡ unfold_after n target choice left leg arrival
 one_more n target choice fewer left leg arrival is = rw is refl

@@ -1,5 +1,5 @@
 use Rattle.std.proofs.Common.{◌≡◌, ◌+◌, ◌<◌, ◌++◌, [], ◌∷◌, ap, sym, ◌∙◌, subst}
-use Rattle.plan_model.specs.Parts.{Parts}
+use Rattle.plan_model.specs.NetworkModel.{NetworkModel}
 use Rattle.plan_model.specs.View.{IsExtension, extended}
 use Rattle.plan_model.proofs.Extended.{is_extension}
 use Rattle.plan_model.proofs.SameParts.{same_parts}
@@ -31,7 +31,7 @@ returns-clause-extension c =
     let classes = c.with_links.ensures.classes ∙ c.from_parts.ensures.classes ∙ c.in_ok-classes.ensures in
     let links = c.with_links.ensures.links ∙ c.in_ok-links.ensures in
     let whole = same_parts c.with_links.result (extended m c.args.source.0) connections change classes links in
-    subst (λ (n : Parts). IsExtension n m c.args.source.0) (sym whole) (is_extension m c.copied_connections.ensures.valid c.args.source.0 c.requires.source c.requires.room)
+    subst (λ (n : NetworkModel). IsExtension n m c.args.source.0) (sym whole) (is_extension m c.copied_connections.ensures.valid c.args.source.0 c.requires.source c.requires.room)
 
 pub returns-clause-second : goal.returns-clause-second
 returns-clause-second c =

@@ -1,6 +1,6 @@
 use Rattle.std.proofs.Common.{◌≡◌, Ok, None, Option, sym, subst}
 use Rattle.std.specs.Prelude.{IfSome}
-use Rattle.file_ports.specs.Ports.{Folder, file_at}
+use Rattle.file_ports.specs.Ports.{FileMap, file_at}
 use Rattle.journey_model.specs.declared.faults.Input.{Input}
 use Rattle.journey_model.specs.declared.faults.Input.TheVariants as input
 use Rattle.input_files.specs.Files.{bytes_of}
@@ -14,7 +14,7 @@ use Rattle.file_answers.proofs.graph_files.read_graph_file.Goals as goal
 pub returns-clause-graph : goal.returns-clause-graph
 returns-clause-graph g c =
     let bytes = c.in_ok-bytes.bytes.items in
-    if_some_then (g.F.Files.files c.args.files.now) (λ (m : Folder). bytes_of c.args.limits.now.bytes input.Graph None (file_at m c.args.path.now) ≡ Ok bytes) _
+    if_some_then (g.F.Files.files c.args.files.now) (λ (m : FileMap). bytes_of c.args.limits.now.bytes input.Graph None (file_at m c.args.path.now) ≡ Ok bytes) _
     (λ m there. graph_finds c.args.limits.now c.args.problem.now c.args.start.0 (file_at m c.args.path.now) bytes c.as_slice.result.now there c.as_slice.ensures.value
     c.graph_of_bytes.result c.graph_of_bytes.ensures.graph c.graph_of_bytes.ensures.fault c.graph_of_bytes.ensures.read)
     c.in_ok-bytes.ensures.bytes

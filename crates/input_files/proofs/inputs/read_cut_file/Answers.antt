@@ -1,6 +1,6 @@
 use Rattle.std.proofs.Common.{◌≡◌, None, Ok}
 use Rattle.command_line.specs.Jobs.{CutFile}
-use Rattle.file_ports.specs.Ports.{Folder, file_at}
+use Rattle.file_ports.specs.Ports.{FileMap, file_at}
 use Rattle.journey_model.specs.Faults.{IsFirst}
 use Rattle.input_files.specs.Tables.{cut_records, cut_fault, IsCutOf}
 use Rattle.input_files.proofs.TableSteps.{cut_of_some, cut_none, cut_first}
@@ -16,8 +16,8 @@ returns-in-Ok-clause-table g c =
     let limits = c.args.limits.now in
     let rows = c.in_ok-rows.rows in
     if_some_then (g.F.Files.files c.args.files.now)
-    (λ (m : Folder). cut_records limits None (file_at m c.args.path.now) ≡ Ok rows)
-    (λ (m : Folder). (cut_fault limits (file_at m c.args.path.now) None ≡ None) × IsCutOf limits (file_at m c.args.path.now) c.in-Ok.table)
+    (λ (m : FileMap). cut_records limits None (file_at m c.args.path.now) ≡ Ok rows)
+    (λ (m : FileMap). (cut_fault limits (file_at m c.args.path.now) None ≡ None) × IsCutOf limits (file_at m c.args.path.now) c.in-Ok.table)
     (λ m ok. cut_none limits (file_at m c.args.path.now) rows ok c.in-Ok.table c.in-Ok.ensures.none c.in-Ok.ensures.table) c.in_ok-rows.ensures.table
 
 pub returns-clause-table : goal.returns-clause-table
@@ -25,8 +25,8 @@ returns-clause-table g c =
     let limits = c.args.limits.now in
     let rows = c.in_ok-rows.rows in
     if_some_then (g.F.Files.files c.args.files.now)
-    (λ (m : Folder). cut_records limits None (file_at m c.args.path.now) ≡ Ok rows)
-    (λ (m : Folder). IsFirst (cut_fault limits (file_at m c.args.path.now)) c.fault_of_cut.result)
+    (λ (m : FileMap). cut_records limits None (file_at m c.args.path.now) ≡ Ok rows)
+    (λ (m : FileMap). IsFirst (cut_fault limits (file_at m c.args.path.now)) c.fault_of_cut.result)
     (λ m ok. cut_first limits (file_at m c.args.path.now) rows ok c.in-Err.fault c.fault_of_cut.result c.fault_of_cut.ensures.fault c.fault_of_cut.ensures.read c.in-Err.ensures.fault)
     c.in_ok-rows.ensures.table
 

@@ -1,5 +1,5 @@
 use Rattle.std.proofs.Common.{◌≡◌, None, Ok}
-use Rattle.file_ports.specs.Ports.{Folder, file_at}
+use Rattle.file_ports.specs.Ports.{FileMap, file_at}
 use Rattle.journey_model.specs.Faults.{IsFirst}
 use Rattle.input_files.specs.Tables.{delay_records, delay_fault, AreDelaysOf}
 use Rattle.input_files.proofs.TableSteps.{delays_none, delays_first}
@@ -15,8 +15,8 @@ returns-in-Ok-clause-table g c =
     let limits = c.args.limits.now in
     let rows = c.in_ok-rows.rows in
     if_some_then (g.F.Files.files c.args.files.now)
-    (λ (m : Folder). delay_records limits None (file_at m c.args.path.now) ≡ Ok rows)
-    (λ (m : Folder). (delay_fault limits (file_at m c.args.path.now) None ≡ None) × AreDelaysOf limits (file_at m c.args.path.now) c.in-Ok.table)
+    (λ (m : FileMap). delay_records limits None (file_at m c.args.path.now) ≡ Ok rows)
+    (λ (m : FileMap). (delay_fault limits (file_at m c.args.path.now) None ≡ None) × AreDelaysOf limits (file_at m c.args.path.now) c.in-Ok.table)
     (λ m ok. delays_none limits (file_at m c.args.path.now) rows ok c.in-Ok.table c.in-Ok.ensures.none c.in-Ok.ensures.table) c.in_ok-rows.ensures.table
 
 pub returns-clause-table : goal.returns-clause-table
@@ -24,8 +24,8 @@ returns-clause-table g c =
     let limits = c.args.limits.now in
     let rows = c.in_ok-rows.rows in
     if_some_then (g.F.Files.files c.args.files.now)
-    (λ (m : Folder). delay_records limits None (file_at m c.args.path.now) ≡ Ok rows)
-    (λ (m : Folder). IsFirst (delay_fault limits (file_at m c.args.path.now)) c.fault_of_delays.result)
+    (λ (m : FileMap). delay_records limits None (file_at m c.args.path.now) ≡ Ok rows)
+    (λ (m : FileMap). IsFirst (delay_fault limits (file_at m c.args.path.now)) c.fault_of_delays.result)
     (λ m ok. delays_first limits (file_at m c.args.path.now) rows ok c.in-Err.fault c.fault_of_delays.result
     c.fault_of_delays.ensures.fault c.fault_of_delays.ensures.memory c.fault_of_delays.ensures.read c.in-Err.ensures.fault)
     c.in_ok-rows.ensures.table

@@ -1,5 +1,5 @@
 use Rattle.std.proofs.Common.{◌≡◌, None, ℕ, List}
-use Rattle.file_ports.specs.Ports.{Folder, file_at}
+use Rattle.file_ports.specs.Ports.{FileMap, file_at}
 use Rattle.delay_table.specs.DelayLists.{DelayLists}
 use Rattle.command_line.specs.Shown.{journey_shown}
 use Rattle.journey_model.specs.declared.faults.Input.TheVariants as input
@@ -18,8 +18,8 @@ returns-in-Err-clause-fault g c =
     let j = journey_shown c.args.journey.now in
     let cut = c.args.cut.now in
     let fault = c.in-Err.fault in
-    if_some_then (g.F.Files.files c.args.files.now) (λ (m : Folder). IsFirst (delay_fault limits (file_at m j.delays)) fault)
-    (λ (m : Folder). (path : List ℕ) → HasCut limits (file_at m path) cut → IsFirst (cut_problem_fault limits m path j) fault)
+    if_some_then (g.F.Files.files c.args.files.now) (λ (m : FileMap). IsFirst (delay_fault limits (file_at m j.delays)) fault)
+    (λ (m : FileMap). (path : List ℕ) → HasCut limits (file_at m path) cut → IsFirst (cut_problem_fault limits m path j) fault)
     (λ m first path has. delay_first limits m path j cut fault has c.in-Err.ensures.own first) c.in-Err.ensures.table
 
 pub returns-in-Ok-clause-problem : goal.returns-in-Ok-clause-problem
@@ -28,7 +28,7 @@ returns-in-Ok-clause-problem g c =
     let j = journey_shown c.args.journey.now in
     let lists : DelayLists = c.in-Ok.delays in
     if_some_then (g.F.Files.files c.args.files.now)
-    (λ (m : Folder). (delay_fault limits (file_at m j.delays) None ≡ None) × AreDelaysOf limits (file_at m j.delays) lists) _
+    (λ (m : FileMap). (delay_fault limits (file_at m j.delays) None ≡ None) × AreDelaysOf limits (file_at m j.delays) lists) _
     (λ m delays. cut_file_problem j c.args.cut.now lists limits m c.problem_in.result delays c.problem_in.ensures.network c.problem_in.ensures.valid
     c.problem_in.ensures.source c.problem_in.ensures.target c.problem_in.ensures.none)
     c.in-Ok.ensures.table
@@ -39,7 +39,7 @@ returns-in-Ok-clause-fault g c =
     let j = journey_shown c.args.journey.now in
     let lists : DelayLists = c.in-Ok.delays in
     if_some_then (g.F.Files.files c.args.files.now)
-    (λ (m : Folder). (delay_fault limits (file_at m j.delays) None ≡ None) × AreDelaysOf limits (file_at m j.delays) lists) _
+    (λ (m : FileMap). (delay_fault limits (file_at m j.delays) None ≡ None) × AreDelaysOf limits (file_at m j.delays) lists) _
     (λ m delays. stop_first j c.args.cut.now lists limits m c.problem_in.result delays.0 c.problem_in.ensures.fault c.problem_in.ensures.read)
     c.in-Ok.ensures.table
 

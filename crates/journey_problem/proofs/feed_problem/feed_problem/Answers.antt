@@ -1,7 +1,7 @@
 use Rattle.std.proofs.Common.{Option, inr, sym, subst}
 use Rattle.std.specs.Prelude.{◌≢◌, IfOk, IfErr, IsSome, ℕ, List}
 use Rattle.std.proofs.lemmas.Result.{IfOk-weaker, IfErr-weaker}
-use Rattle.file_ports.specs.Ports.{Folder}
+use Rattle.file_ports.specs.Ports.{FileMap}
 use Rattle.command_line.specs.Jobs.{FeedFolder}
 use Rattle.command_line.specs.Shown.{journey_shown}
 use Rattle.journey_model.specs.declared.faults.Input.TheVariants as input
@@ -21,9 +21,9 @@ returns-in-Ok-clause-problem g c =
     let j = journey_shown c.args.journey.now in
     let h = parts_of c.in-Ok.tables in
     let r = c.problem_in.result in
-    if_some_both (g.F.Files.files c.args.files.now) (g.F.Files.files c.read_folder.new.files) (λ (m : Folder). IsFolder limits m folder h)
-    (λ (m : Folder). IfOk r (λ p. (other : List ℕ) → IsFolder limits m other h → IsFeedProblem limits m other c.args.horizon j p))
-    (λ (m : Folder). IfOk r (IsFeedProblem limits m folder c.args.horizon j))
+    if_some_both (g.F.Files.files c.args.files.now) (g.F.Files.files c.read_folder.new.files) (λ (m : FileMap). IsFolder limits m folder h)
+    (λ (m : FileMap). IfOk r (λ p. (other : List ℕ) → IsFolder limits m other h → IsFeedProblem limits m other c.args.horizon j p))
+    (λ (m : FileMap). IfOk r (IsFeedProblem limits m folder c.args.horizon j))
     (λ m is all. IfOk-weaker r _ _ (λ p one. one folder is) all)
     c.in-Ok.ensures.same c.in-Ok.ensures.folder c.problem_in.ensures.problem
 
@@ -34,16 +34,16 @@ returns-in-Ok-clause-fault g c =
     let j = journey_shown c.args.journey.now in
     let h = parts_of c.in-Ok.tables in
     let r = c.problem_in.result in
-    if_some_both (g.F.Files.files c.args.files.now) (g.F.Files.files c.read_folder.new.files) (λ (m : Folder). IsFolder limits m folder h)
-    (λ (m : Folder). IfErr r (λ fault. fault ≢ NoMemory → IsFaultAfterFolder limits m c.args.horizon j h fault))
-    (λ (m : Folder). IfErr r (λ fault. fault ≢ NoMemory → IsFeedProblemFault limits m folder c.args.horizon j fault))
+    if_some_both (g.F.Files.files c.args.files.now) (g.F.Files.files c.read_folder.new.files) (λ (m : FileMap). IsFolder limits m folder h)
+    (λ (m : FileMap). IfErr r (λ fault. fault ≢ NoMemory → IsFaultAfterFolder limits m c.args.horizon j h fault))
+    (λ (m : FileMap). IfErr r (λ fault. fault ≢ NoMemory → IsFeedProblemFault limits m folder c.args.horizon j fault))
     (λ m is later. IfErr-weaker r _ _ (λ fault why other. inr (h, is, why other)) later)
     c.in-Ok.ensures.same c.in-Ok.ensures.folder c.problem_in.ensures.fault
 
 pub returns-in-Ok-clause-causes : goal.returns-in-Ok-clause-causes
 returns-in-Ok-clause-causes g c = λ own.
     causes-then {told = IsSome (g.F.Files.files c.args.files.now)} {path = path_by (FeedFolder c.args.folder.now c.args.horizon) (journey_shown c.args.journey.now) own}
-    c.in-Ok.tables input.Delays c.problem_in.result (λ told. subst (λ (o : Option Folder). IsSome o) (sym c.in-Ok.ensures.same) told)
+    c.in-Ok.tables input.Delays c.problem_in.result (λ told. subst (λ (o : Option FileMap). IsSome o) (sym c.in-Ok.ensures.same) told)
     (causes-folder c.in-Ok.tables c.in-Ok.ensures.cause c.in-Ok.ensures.path_cause) c.problem_in.ensures.causes c.problem_in.ensures.own
 
 pub returns-in-Ok-clause-early : goal.returns-in-Ok-clause-early

@@ -1,6 +1,6 @@
 use Rattle.std.proofs.Common.{◌≡◌, None, inl}
 use Rattle.std.specs.Prelude.{◌≢◌}
-use Rattle.file_ports.specs.Ports.{Folder, file_at}
+use Rattle.file_ports.specs.Ports.{FileMap, file_at}
 use Rattle.delay_table.specs.DelayLists.{DelayLists}
 use Rattle.command_line.specs.Jobs.{FeedFolder}
 use Rattle.command_line.specs.Shown.{journey_shown}
@@ -20,8 +20,8 @@ returns-in-Err-clause-fault g c =
     let limits = c.args.limits.now in
     let j = journey_shown c.args.journey.now in
     let fault = c.in-Err.fault in
-    if_some_then (g.F.Files.files c.args.files.now) (λ (m : Folder). IsFirst (delay_fault limits (file_at m j.delays)) fault)
-    (λ (m : Folder). fault ≢ NoMemory → IsFaultAfterFolder limits m c.args.horizon j (parts_of c.args.tables.now) fault)
+    if_some_then (g.F.Files.files c.args.files.now) (λ (m : FileMap). IsFirst (delay_fault limits (file_at m j.delays)) fault)
+    (λ (m : FileMap). fault ≢ NoMemory → IsFaultAfterFolder limits m c.args.horizon j (parts_of c.args.tables.now) fault)
     (λ m first other. inl (first other)) c.in-Err.ensures.table
 
 pub returns-in-Err-clause-early : goal.returns-in-Err-clause-early
@@ -33,7 +33,7 @@ returns-in-Ok-clause-problem g c =
     let j = journey_shown c.args.journey.now in
     let lists : DelayLists = c.in-Ok.delays in
     if_some_then (g.F.Files.files c.args.files.now)
-    (λ (m : Folder). (delay_fault limits (file_at m j.delays) None ≡ None) × AreDelaysOf limits (file_at m j.delays) lists) _
+    (λ (m : FileMap). (delay_fault limits (file_at m j.delays) None ≡ None) × AreDelaysOf limits (file_at m j.delays) lists) _
     (λ m delays. window_problem limits m c.args.horizon j (parts_of c.args.tables.now) lists delays.0 delays.1 c.window_problem.result c.window_problem.ensures.network
     c.window_problem.ensures.no_window_fault c.window_problem.ensures.source c.window_problem.ensures.target)
     c.in-Ok.ensures.table
@@ -44,7 +44,7 @@ returns-in-Ok-clause-fault g c =
     let j = journey_shown c.args.journey.now in
     let lists : DelayLists = c.in-Ok.delays in
     if_some_then (g.F.Files.files c.args.files.now)
-    (λ (m : Folder). (delay_fault limits (file_at m j.delays) None ≡ None) × AreDelaysOf limits (file_at m j.delays) lists) _
+    (λ (m : FileMap). (delay_fault limits (file_at m j.delays) None ≡ None) × AreDelaysOf limits (file_at m j.delays) lists) _
     (λ m delays. window_fault limits m c.args.horizon j (parts_of c.args.tables.now) lists delays.0 delays.1 c.window_problem.result c.window_problem.ensures.fault)
     c.in-Ok.ensures.table
 

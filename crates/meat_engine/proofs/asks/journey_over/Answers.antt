@@ -1,6 +1,6 @@
 use Rattle.std.proofs.Common.{Option, Ok, Err, sym, subst}
 use Rattle.std.specs.Prelude.{IsSome}
-use Rattle.file_ports.specs.Ports.{Folder}
+use Rattle.file_ports.specs.Ports.{FileMap}
 use Rattle.command_line.specs.Shown.{journey_shown, ask_shown}
 use Rattle.journey_model.specs.declared.faults.Fault.{Fault}
 use Rattle.input_files.specs.Files.{path_of, HasCauses}
@@ -17,13 +17,13 @@ returns-in-Err-clause-causes g c =
 
 pub returns-in-Err-ask_over-clause-causes : goal.returns-in-Err-ask_over-clause-causes
 returns-in-Err-ask_over-clause-causes g c =
-    causes-next c.in-Ok.problem (Err c.in-Err-ask_over.fault) (λ told. subst (λ (o : Option Folder). IsSome o) (sym c.in-Ok.ensures.same) told)
+    causes-next c.in-Ok.problem (Err c.in-Err-ask_over.fault) (λ told. subst (λ (o : Option FileMap). IsSome o) (sym c.in-Ok.ensures.same) told)
     (c.in-Ok.ensures.causes (own_paths (ask_shown c.args.ask.now)))
     (causes-paths (Err c.in-Err-ask_over.fault) (beside (ask_shown c.args.ask.now) (journey_shown c.args.journey.now) _ _)
     (causes-as c.in-Err-ask_over.fault c.in-Err-ask_over.ensures.causes))
 
 pub returns-in-Ok-ask_over-clause-causes : goal.returns-in-Ok-ask_over-clause-causes
 returns-in-Ok-ask_over-clause-causes g c =
-    causes-next c.in-Ok.problem (Ok c.in-Ok-ask_over.answer) (λ told. subst (λ (o : Option Folder). IsSome o) (sym c.in-Ok.ensures.same) told)
+    causes-next c.in-Ok.problem (Ok c.in-Ok-ask_over.answer) (λ told. subst (λ (o : Option FileMap). IsSome o) (sym c.in-Ok.ensures.same) told)
     (c.in-Ok.ensures.causes (own_paths (ask_shown c.args.ask.now)))
     (causes-paths (Ok c.in-Ok-ask_over.answer) (beside (ask_shown c.args.ask.now) (journey_shown c.args.journey.now) _ _) c.in-Ok-ask_over.ensures.causes)

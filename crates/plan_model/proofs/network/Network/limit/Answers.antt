@@ -1,7 +1,7 @@
 use Rattle.std.proofs.Common.{arith, ap, ◌∙◌, subst, sym}
 use Rattle.std.specs.Option.{option_and_then}
 use Rattle.plan_model.specs.declared.model.Connection.{Connection}
-use Rattle.plan_model.specs.Parts.{Parts}
+use Rattle.plan_model.specs.NetworkModel.{NetworkModel}
 use Rattle.plan_model.specs.Network.{IsValid}
 use Rattle.plan_model.specs.Ways.{earlier_by}
 use Rattle.plan_model.specs.Search.{connection_at}
@@ -11,20 +11,20 @@ use Rattle.plan_model.proofs.network.Network.limit.Goals as goal
 
 pub way-requires-clause-to : goal.way-requires-clause-to
 way-requires-clause-to c =
-    let here = at_place c.args.self.now c.as_slice.result.now (c.as_slice.ensures ∙ ap (λ (p : Parts). p.connections) c.self.view_is) c.args.leg.enter.0 in
+    let here = at_place c.args.self.now c.as_slice.result.now (c.as_slice.ensures ∙ ap (λ (p : NetworkModel). p.connections) c.self.view_is) c.args.leg.enter.0 in
     let v = subst IsValid c.self.view_is c.self.invariant in
     omega (arith, ap (λ (k : Connection). k.from.0) here, (v.connections c.args.leg.enter.0 c.requires.enter).from_in)
 
 pub returns-in-None : goal.returns-in-None
 returns-in-None c =
-    let here = at_place c.args.self.now c.as_slice.result.now (c.as_slice.ensures ∙ ap (λ (p : Parts). p.connections) c.self.view_is) c.args.leg.enter.0 in
+    let here = at_place c.args.self.now c.as_slice.result.now (c.as_slice.ensures ∙ ap (λ (p : NetworkModel). p.connections) c.self.view_is) c.args.leg.enter.0 in
     let found = limit_of-found c.args.self.now c.args.place.0 c.args.leg (connection_at c.as_slice.result.now c.args.leg.enter.0) c.way.result here c.way.ensures in
     let none = ap (option_and_then (earlier_by (connection_at c.as_slice.result.now c.args.leg.enter.0).dep.0)) c.in-None.is in
     sym none ∙ found
 
 pub returns-in-Some : goal.returns-in-Some
 returns-in-Some c =
-    let here = at_place c.args.self.now c.as_slice.result.now (c.as_slice.ensures ∙ ap (λ (p : Parts). p.connections) c.self.view_is) c.args.leg.enter.0 in
+    let here = at_place c.args.self.now c.as_slice.result.now (c.as_slice.ensures ∙ ap (λ (p : NetworkModel). p.connections) c.self.view_is) c.args.leg.enter.0 in
     let found = limit_of-found c.args.self.now c.args.place.0 c.args.leg (connection_at c.as_slice.result.now c.args.leg.enter.0) c.way.result here c.way.ensures in
     let some = ap (option_and_then (earlier_by (connection_at c.as_slice.result.now c.args.leg.enter.0).dep.0)) c.in-Some.is in
     c.before-in-Some.ensures ∙ sym some ∙ found

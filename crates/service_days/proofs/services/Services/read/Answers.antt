@@ -1,6 +1,6 @@
 use Rattle.std.proofs.Common.{◌≡◌, ◌≢◌, Option, IfSome, None, subst, refl, Err}
 use Rattle.std.proofs.lemmas.Bool.{and_from, and_left, and_right}
-use Rattle.file_ports.specs.Ports.{Folder}
+use Rattle.file_ports.specs.Ports.{FileMap}
 use Rattle.csv_rows.specs.declared.feed_tables.Table.TheVariants as table
 use Rattle.csv_rows.specs.declared.feed_tables.FeedFault.TheVariants as fault
 use Rattle.csv_rows.specs.FeedTables.{unread_of}
@@ -18,7 +18,7 @@ returns-in_err-missing-clause-fault g c = some_raised _ _ _ c.from_residual.resu
 pub returns-in_err-dates-clause-fault : goal.returns-in_err-dates-clause-fault
 returns-in_err-dates-clause-fault g c = some_raised _ _ _ c.from_residual-in_err-dates.result c.from_residual-in_err-dates.ensures
     (let x = c.in_ok-missing.field-0 in
-    let P : Option Folder → Type 0 = λ o. IfSome o (λ m. c.in_err-dates.field-0.0 ≢ fault.NoMemory
+    let P : Option FileMap → Type 0 = λ o. IfSome o (λ m. c.in_err-dates.field-0.0 ≢ fault.NoMemory
     → dates_from (load_in m c.args.folder.now c.args.limits.now (unread_of c.in_err-dates.field-0.0) table.CalendarDates) ≡ Err c.in_err-dates.field-0.0) in
     dates_first (g.F.Files.files c.args.files.now) c.args.folder.now c.args.limits.now c.in_err-dates.field-0.0 x.missing x.calendar.ids x.calendar.periods.items
     c.in_ok-missing.ensures.calendar c.in_err-dates.ensures.own (subst P c.in_ok-missing.ensures.same c.in_err-dates.ensures.fault))
@@ -27,7 +27,7 @@ pub returns-then-dates-clause-fault : goal.returns-then-dates-clause-fault
 returns-then-dates-clause-fault g c =
     let x = c.in_ok-missing.field-0 in
     let d = c.in_ok-dates.dates in
-    let P : Option Folder → Type 0 = λ o. IfSome o (λ m. AreDates (dates_from (load_in m c.args.folder.now c.args.limits.now None table.CalendarDates))
+    let P : Option FileMap → Type 0 = λ o. IfSome o (λ m. AreDates (dates_from (load_in m c.args.folder.now c.args.limits.now None table.CalendarDates))
     x.calendar.ids d.missing d.numbered.ids d.numbered.exceptions.keys) in
     none_there (g.F.Files.files c.args.files.now) c.args.folder.now c.args.limits.now x.missing d.missing x.calendar.ids d.numbered.ids x.calendar.periods.items d.numbered.exceptions.keys
     c.in_ok-missing.ensures.calendar (subst P c.in_ok-missing.ensures.same c.in_ok-dates.ensures.dates) (and_from x.missing d.missing c.if-missing.true c.if-dates.true)
@@ -36,7 +36,7 @@ pub returns-clause-services : goal.returns-clause-services
 returns-clause-services g c =
     let x = c.in_ok-missing.field-0 in
     let d = c.in_ok-dates.dates in
-    let P : Option Folder → Type 0 = λ o. IfSome o (λ m. AreDates (dates_from (load_in m c.args.folder.now c.args.limits.now None table.CalendarDates))
+    let P : Option FileMap → Type 0 = λ o. IfSome o (λ m. AreDates (dates_from (load_in m c.args.folder.now c.args.limits.now None table.CalendarDates))
     x.calendar.ids d.missing d.numbered.ids d.numbered.exceptions.keys) in
     services_here (g.F.Files.files c.args.files.now) c.args.folder.now c.args.limits.now x.missing d.missing x.calendar.ids d.numbered.ids x.calendar.periods.items d.numbered.exceptions.keys
     _ refl c.in_ok-missing.ensures.calendar (subst P c.in_ok-missing.ensures.same c.in_ok-dates.ensures.dates)
