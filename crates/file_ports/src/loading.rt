@@ -82,7 +82,7 @@ pub fn load<F: Files>(
     match files.open_file(path) {
         Err(Failed) => Err(LoadFault::Read),
         Ok(Presence::Absent) => Ok(None),
-        Ok(Presence::Present) => Ok(Some(read_rest(alloc, files, most as usize)?)),
+        Ok(Presence::Present) => read_rest(alloc, files, most as usize).map(Some),
     }
 }
 
