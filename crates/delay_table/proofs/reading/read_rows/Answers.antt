@@ -1,6 +1,8 @@
-use Rattle.std.proofs.Common.{None, arith}
+use Rattle.std.proofs.Common.{◌≡◌, ℕ, None, subst, arith}
+use Rattle.csv_rows.specs.First.{first_below}
 use Rattle.csv_rows.specs.Tables.{row_count}
 use Rattle.delay_table.specs.Delays.{line_fault}
+use Rattle.delay_table.specs.Read.{IsReadTo}
 use Rattle.csv_rows.proofs.FaultLemmas.{if_raised}
 use Rattle.csv_rows.proofs.FirstLemmas.{first-zero, first-next, first-at}
 use Rattle.delay_table.proofs.ReadFacts.{read-nothing}
@@ -17,3 +19,17 @@ returns-in_err-add_line-clause-err c = if_raised _ c.from_residual.result c.from
 
 pub loop-i-preserved : goal.loop-i-preserved
 loop-i-preserved c = (first-next (line_fault c.args.rows.now) c.loop-i.i None c.loop-i.invariant.0 c.in_ok-add_line.ensures.none, c.in_ok-add_line.ensures.read)
+
+pub returns-clause-none : goal.returns-clause-none
+returns-clause-none c =
+    let t = c.args.rows.now in
+    let end : c.loop-i.i ≡ row_count t = omega (arith, c.loop-i-test.false, c.loop-i.auto.i-end, c.count-i-end.ensures.count) in
+    let P : ℕ → Type 0 = λ n. first_below (line_fault t) n ≡ None in
+    subst P end c.loop-i.invariant.0
+
+pub returns-clause-read : goal.returns-clause-read
+returns-clause-read c =
+    let t = c.args.rows.now in
+    let end : c.loop-i.i ≡ row_count t = omega (arith, c.loop-i-test.false, c.loop-i.auto.i-end, c.count-i-end.ensures.count) in
+    let P : ℕ → Type 0 = λ n. IsReadTo t n c.loop-i.read.groups c.loop-i.read.rows.items in
+    subst P end c.loop-i.invariant.1
