@@ -1,4 +1,5 @@
 pub mod Asking
+pub mod Asked
 pub mod Told
 pub mod Outcomes
 pub mod Undisturbed
