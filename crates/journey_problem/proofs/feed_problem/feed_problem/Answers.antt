@@ -1,4 +1,4 @@
-use Rattle.std.proofs.Common.{Option, inr, sym, subst}
+use Rattle.std.proofs.Common.{◌∙◌, Option, ap, inl, inr, sym, subst}
 use Rattle.std.specs.Prelude.{◌≢◌, IfOk, IfErr, IsSome, ℕ, List}
 use Rattle.std.proofs.lemmas.Result.{IfOk-weaker, IfErr-weaker}
 use Rattle.file_ports.specs.Ports.{FileMap}
@@ -6,9 +6,11 @@ use Rattle.command_line.specs.Jobs.{FeedFolder}
 use Rattle.command_line.specs.Shown.{journey_shown}
 use Rattle.journey_model.specs.declared.faults.Input.TheVariants as input
 use Rattle.journey_model.specs.declared.faults.Fault.TheVariants.{NoMemory}
-use Rattle.journey_problem.specs.FeedProblems.{IsFolder, IsFeedProblem, IsFeedProblemFault, IsFaultAfterFolder}
+use Rattle.csv_rows.specs.declared.feed_tables.FeedFault.TheVariants as feed
+use Rattle.journey_problem.specs.FeedProblems.{feed_as, IsFolder, IsFolderFault, IsFeedProblem, IsFeedProblemFault, IsFaultAfterFolder}
 use Rattle.input_files.specs.Files.{path_by}
 use Rattle.journey_problem.specs.Folders.{parts_of}
+use Rattle.input_files.proofs.Loads.{if_some_any, if_some_then}
 use Rattle.input_files.proofs.Causes.{causes-then}
 use Rattle.journey_problem.proofs.FolderSteps.{causes-folder}
 use Rattle.journey_problem.proofs.FeedSteps.{if_some_both}
@@ -48,3 +50,38 @@ returns-in-Ok-clause-causes g c = λ own.
 
 pub returns-in-Ok-clause-early : goal.returns-in-Ok-clause-early
 returns-in-Ok-clause-early g c = c.problem_in.ensures.early c.args.folder.now
+
+pub returns-in-Ok-clause-same : goal.returns-in-Ok-clause-same
+returns-in-Ok-clause-same g c = c.problem_in.ensures.same ∙ c.in-Ok.ensures.same
+
+pub returns-in-Ok-clause-valid : goal.returns-in-Ok-clause-valid
+returns-in-Ok-clause-valid g c = c.problem_in.ensures.valid
+
+pub returns-in-Ok-clause-fit : goal.returns-in-Ok-clause-fit
+returns-in-Ok-clause-fit g c = c.problem_in.ensures.fit
+
+pub returns-in-Ok-clause-timetable : goal.returns-in-Ok-clause-timetable
+returns-in-Ok-clause-timetable g c = c.problem_in.ensures.timetable
+
+pub returns-in-Ok-clause-source : goal.returns-in-Ok-clause-source
+returns-in-Ok-clause-source g c = c.problem_in.ensures.source
+
+pub returns-in-Ok-clause-target : goal.returns-in-Ok-clause-target
+returns-in-Ok-clause-target g c = c.problem_in.ensures.target
+
+pub returns-in-Err-clause-same : goal.returns-in-Err-clause-same
+returns-in-Err-clause-same g c = c.in-Err.ensures.same
+
+pub returns-in-Err-clause-early : goal.returns-in-Err-clause-early
+returns-in-Err-clause-early g c = c.fault_of.ensures.early c.args.folder.now c.args.horizon
+
+pub returns-in-Err-clause-problem : goal.returns-in-Err-clause-problem
+returns-in-Err-clause-problem g c = if_some_any (g.F.Files.files c.args.files.now) _ (λ m. tt)
+
+pub returns-in-Err-clause-fault : goal.returns-in-Err-clause-fault
+returns-in-Err-clause-fault g c =
+    let limits = c.args.limits.now in
+    let fault = c.in-Err.fault in
+    let is = c.fault_of.ensures.fault in
+    if_some_then (g.F.Files.files c.args.files.now) (λ (m : Folder). fault ≢ feed.NoMemory → IsFolderFault limits m c.args.folder.now fault) _
+    (λ m why other. inl (fault, is, why (λ same. other (is ∙ ap (feed_as limits) same)))) c.in-Err.ensures.fault
