@@ -1,7 +1,7 @@
 -- What a line of `ask_over` promises, told of what is asked.
 use Rattle.std.proofs.Common.{◌≡◌, ℕ, List, Option, None, Result, Ok, Err, inl, inr, ap, sym, subst}
 use Rattle.std.specs.Prelude.{◌≢◌, IfOk, IfErr}
-use Rattle.file_ports.specs.Ports.{Folder}
+use Rattle.file_ports.specs.Ports.{FileMap}
 use Rattle.csv_rows.specs.declared.limits.Limits.{Limits}
 use Rattle.command_line.specs.declared.job.Ask.{Ask}
 use Rattle.command_line.specs.Shown.{ask_shown}
@@ -16,7 +16,7 @@ use Rattle.journey_report.specs.Findings.{findings_of}
 use Rattle.input_files.specs.Files.{HasCauses}
 use Rattle.meat_engine.specs.Asks.{own_paths, AnswersAsk, FailsAsk}
 
-module _ (told : Option Folder) (limits : Limits) (start : ℕ) (p : Problem) where
+module _ (told : Option FileMap) (limits : Limits) (start : ℕ) (p : Problem) where
   pub answer-asked : {ask asked : Ask} (r : Result Answer Fault) → ask ≡ asked
       → IfOk r (λ a. AnswersAsk told limits start p (ask_shown asked) (findings_of a.report) a.text.items)
       → IfOk r (λ a. AnswersAsk told limits start p (ask_shown ask) (findings_of a.report) a.text.items)

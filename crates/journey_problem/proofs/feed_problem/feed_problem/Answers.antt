@@ -83,5 +83,5 @@ returns-in-Err-clause-fault g c =
     let limits = c.args.limits.now in
     let fault = c.in-Err.fault in
     let is = c.fault_of.ensures.fault in
-    if_some_then (g.F.Files.files c.args.files.now) (λ (m : Folder). fault ≢ feed.NoMemory → IsFolderFault limits m c.args.folder.now fault) _
+    if_some_then (g.F.Files.files c.args.files.now) (λ (m : FileMap). fault ≢ feed.NoMemory → IsFolderFault limits m c.args.folder.now fault) _
     (λ m why other. inl (fault, is, why (λ same. other (is ∙ ap (feed_as limits) same)))) c.in-Err.ensures.fault
