@@ -8,7 +8,7 @@ pub mod Limits
 pub mod Lists
 pub mod Names
 pub mod NextField
-pub mod NetworkModel
+pub mod Parts
 pub mod RecordFields
 pub mod Records
 pub mod RowFaults
