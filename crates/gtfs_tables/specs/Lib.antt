@@ -1,5 +1,5 @@
 pub mod Repeats
 pub mod Feeds
-pub mod NetworkModel
+pub mod Parts
 pub mod FeedInside
 pub mod Timed
