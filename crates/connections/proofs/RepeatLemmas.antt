@@ -12,7 +12,7 @@ use Rattle.stop_times.specs.declared.rows.StopRow.{StopRow}
 use Rattle.stop_times.specs.Bounds.{end_of_times}
 use Rattle.trip_frequencies.specs.Frequencies.{no_frequency}
 use Rattle.gtfs_tables.specs.Repeats.{IsFrequency, AreRepeats, repeat_at}
-use Rattle.run_repeat.specs.Runs.{AreBelow, IsRun, departure}
+use Rattle.run_repeat.specs.Runs.{AreBelow, IsRunOf, departure}
 use Rattle.connections.specs.declared.origins.ServiceDay.{ServiceDay}
 use Rattle.connections.specs.declared.origins.Origin.{Origin}
 use Rattle.connections.specs.declared.repeats.Repeat.{Repeat}
@@ -74,14 +74,14 @@ module _ (w : Window) (rows : List StopRow) (day : ServiceDay) (row : FrequencyR
 
   -- how many runs leave kept row k before the window, and by its end
   pub record AreLeaving (k from to : ℕ) : Type 0 where
-    pub before : AreBelow from (λ m. IsRun row m × (departs rows (origin_at rows day (departure row m)) k <ℤ pos w.start))
-    pub up_to : AreBelow to (λ m. IsRun row m × (departs rows (origin_at rows day (departure row m)) k ≤ℤ pos w.end))
+    pub before : AreBelow from (λ m. IsRunOf row m × (departs rows (origin_at rows day (departure row m)) k <ℤ pos w.start))
+    pub up_to : AreBelow to (λ m. IsRunOf row m × (departs rows (origin_at rows day (departure row m)) k ≤ℤ pos w.end))
 
   -- which of the first runs are taken, when each kept row from k on was looked at
   pub record AreTaken (k next : ℕ) (taken : ℕ → Bool) : Type 0 where
     pub few : next ≤ end_of_times
     pub sound : (m : ℕ) → m < next → taken m ≡ true → rides_by w rows day row m ≡ true
-    pub all : (m j : ℕ) → k ≤ j → j < length rows - 1 → IsRun row m → holds w (departs rows (origin_at rows day (departure row m)) j) ≡ true → (m < next) × (taken m ≡ true)
+    pub all : (m j : ℕ) → k ≤ j → j < length rows - 1 → IsRunOf row m → holds w (departs rows (origin_at rows day (departure row m)) j) ≡ true → (m < next) × (taken m ≡ true)
     pub late : (m : ℕ) → m < next → pos w.start ≤ℤ departs rows (origin_at rows day (departure row m)) k → taken m ≡ true
 
   pub none_taken : AreTaken (length rows - 1) 0 (λ m. false)
@@ -93,20 +93,20 @@ module _ (w : Window) (rows : List StopRow) (day : ServiceDay) (row : FrequencyR
   }
 
   module _ (deps : AreDepartures rows) (is : IsFrequency row) where
-    run_few : (m : ℕ) → IsRun row m → m < end_of_times
+    run_few : (m : ℕ) → IsRunOf row m → m < end_of_times
     run_few m h = let a : m ≤ m * row.headway = le-mul_of_pos_right {m = row.headway} m (omega (arith, is.some)) in omega (arith, a, h, is.end)
 
     pub to_few : (k from to : ℕ) → AreLeaving k from to → to ≤ end_of_times
     to_few k from to l = ⊎_elim (λ (h : end_of_times < to). absurd (omega (arith, run_few end_of_times (l.up_to.hold end_of_times h).0))) (λ h. h) (cases_lt end_of_times to)
 
     -- those between leave it in the window
-    pub between : (k from to m : ℕ) → AreLeaving k from to → from ≤ m → m < to → (IsRun row m) × (holds w (at m k) ≡ true)
+    pub between : (k from to m : ℕ) → AreLeaving k from to → from ≤ m → m < to → (IsRunOf row m) × (holds w (at m k) ≡ true)
     between k from to m l low high =
         let p = l.up_to.hold m high in
         (p.0, by_lt_z (at m k) (pos w.start) (λ early. absurd (omega (arith, l.before.all m (p.0, early), low))) (λ late. holds_in w (at m k) late p.1))
 
     -- and no others
-    pub inside : (k from to m : ℕ) → AreLeaving k from to → IsRun row m → holds w (at m k) ≡ true → (from ≤ m) × (m < to)
+    pub inside : (k from to m : ℕ) → AreLeaving k from to → IsRunOf row m → holds w (at m k) ≡ true → (from ≤ m) × (m < to)
     inside k from to m l run h =
         let p = holds_parts w (at m k) h in (
           ⊎_elim (λ (less : m < from). absurd (omega (arith, ints, (l.before.hold m less).1, p.0))) (λ ge. ge) (cases_lt m from),
@@ -189,7 +189,7 @@ one_pair false r = AllPairs-nil Differ
 module _ (w : Window) (rows : List StopRow) (day : ServiceDay) where
   -- what holds of each run of a row that rides
   pub riding_by_all : (P : Repeat → Type 0) (row : FrequencyRow)
-      → ((m : ℕ) → IsRun row m → rides w rows (origin_at rows day (departure row m)) ≡ true → P (run_of row m)) → All P (riding_by w rows day row)
+      → ((m : ℕ) → IsRunOf row m → rides w rows (origin_at rows day (departure row m)) ≡ true → P (run_of row m)) → All P (riding_by w rows day row)
   unfolding riding_by
   riding_by_all P row h = All-join P (λ m. only_if (rides_by w rows day row m) (run_of row m)) end_of_times (λ m l. one_all P (rides_by w rows day row m) (run_of row m) (λ r.
       let p = and_parts (nat_lt (departure row m) row.end) (rides w rows (origin_at rows day (departure row m))) r in h m (ltb-true (departure row m) row.end p.0) p.1))

@@ -3,7 +3,7 @@ ghost use Rattle.std.specs.Prelude.{◌≡◌, ℕ, ◌+◌, ◌-◌, ◌<◌, �
 ghost use Rattle.csv_rows.specs.Lists.{list_below};
 ghost use Rattle.stop_times.specs.Bounds.{end_of_times};
 ghost use Rattle.gtfs_tables.specs.Repeats.{IsFrequency, AreRepeats};
-ghost use Rattle.run_repeat.specs.Runs.{AreBelow, IsRun, departure};
+ghost use Rattle.run_repeat.specs.Runs.{AreBelow, IsRunOf, departure};
 ghost use Rattle.connections.specs.Window.{IsWindow};
 ghost use Rattle.connections.specs.Rides.{AreDepartures, departs};
 ghost use Rattle.connections.specs.Repeats.{run_of, origin_at, riding_by, riding_of, in_order};
@@ -50,9 +50,9 @@ pub(crate) fn leaving(
     requires departures { AreDepartures rows.now }
     requires step { step < length rows.now }
     requires row { IsFrequency row.now }
-    ensures before { AreBelow result.0 (λ m. IsRun row.now m
+    ensures before { AreBelow result.0 (λ m. IsRunOf row.now m
         × (departs rows.now (origin_at rows.now day (departure row.now m)) step <ℤ pos window.start)) }
-    ensures up_to { AreBelow result.1 (λ m. IsRun row.now m
+    ensures up_to { AreBelow result.1 (λ m. IsRunOf row.now m
         × (departs rows.now (origin_at rows.now day (departure row.now m)) step ≤ℤ pos window.end)) }
 {
     let begin = Origin::of_day(day).plus(0);
@@ -72,7 +72,7 @@ fn add_between(
     from: u32,
     to: u32,
 ) -> Result<(), NoMemory>
-    requires { (m : ℕ) → m < to → IsRun row.now m }
+    requires { (m : ℕ) → m < to → IsRunOf row.now m }
     ensures { OnOk result (repeats.new.items
         ≡ repeats.old.items ++ list_below (λ i. run_of row.now (from + i)) (to - from)) }
 {

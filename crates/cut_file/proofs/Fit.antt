@@ -13,7 +13,7 @@ use Rattle.delay_table.specs.Slots.{AreDelays}
 use Rattle.cut_file.specs.Faults.{row, bad_field}
 use Rattle.cut_file.specs.Cut.{place_names}
 use Rattle.cut_file.specs.Read.{Cut}
-use Rattle.cut_file.specs.Sound.{IsSound}
+use Rattle.cut_file.specs.Sound.{IsFaultless}
 use Rattle.cut_file.specs.Networks.{IsNetwork}
 use Rattle.cut_file.proofs.FormFacts.{InForm, row_in_form}
 use Rattle.cut_file.proofs.Occurs.{run_occurs, place_occurs}
@@ -22,7 +22,7 @@ use Rattle.cut_file.proofs.Valid.{none_of, is_at, key_of_run, run_inside}
 abbrev pub name_lists : Cut → NameLists
 name_lists cut = record { places = cut.places; runs = cut.runs }
 
-module _ (cut : Cut) (delays : DelayLists) (n : NetworkModel) (s : IsSound cut) (f : AreDelays delays) (net : IsNetwork cut delays n) where
+module _ (cut : Cut) (delays : DelayLists) (n : NetworkModel) (s : IsFaultless cut) (f : AreDelays delays) (net : IsNetwork cut delays n) where
   form : (i : ℕ) → i < row_count s.table → InForm (field s.table Run i) (field s.table From i) (field s.table To i) (row s.table i)
   form i l = row_in_form s.table i (none-each (bad_field s.table) (row_count s.table) (none_of cut delays n s f net).fields i l)
 

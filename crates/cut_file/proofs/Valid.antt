@@ -25,7 +25,7 @@ use Rattle.cut_file.specs.declared.faults.CutFault.TheVariants.{TooManyRows, Bac
 use Rattle.cut_file.specs.Faults.{row, just_precedes, goes_back, is_broken, missing_column, too_many_rows, bad_field, repeated_step, run_fault, first_fault}
 use Rattle.cut_file.specs.Keys.{cut_row, misfit, beside}
 use Rattle.cut_file.specs.Read.{Cut}
-use Rattle.cut_file.specs.Sound.{IsSound}
+use Rattle.cut_file.specs.Sound.{IsFaultless}
 use Rattle.cut_file.specs.Networks.{IsConnection, IsNetwork, longest, change_by, change_from, seconds_of}
 use Rattle.cut_file.proofs.Repeats.{one_run, steps_rise}
 use Rattle.cut_file.proofs.Misfits.{misfit_is}
@@ -95,7 +95,7 @@ some_on s h = grind (arith, nat_tests)
 change_fits : (s : ℕ) → s ≤ 86400 → (1 ≤ change_from s) × (change_from s ≤ 86400)
 change_fits s l = from_if (s == 0) s (some_on s) l
 
-module _ (cut : Cut) (delays : DelayLists) (n : NetworkModel) (s : IsSound cut) (f : AreDelays delays) (net : IsNetwork cut delays n) where
+module _ (cut : Cut) (delays : DelayLists) (n : NetworkModel) (s : IsFaultless cut) (f : AreDelays delays) (net : IsNetwork cut delays n) where
   pub none_of : HasNone s.table s.limit
   none_of = has_none s.table s.limit s.none
 

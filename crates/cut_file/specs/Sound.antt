@@ -6,7 +6,7 @@ use Rattle.cut_file.specs.Read.{Cut, IsRead}
 use Rattle.plan_model.specs.Bounds.{most_connections}
 
 -- it was read from a table of trimmed fields with no fault
-pub record IsSound (c : Cut) : Type 0 where
+pub record IsFaultless (c : Cut) : Type 0 where
   pub table : List (List (List ℕ))
   pub limit : ℕ
   pub few : limit ≤ most_connections

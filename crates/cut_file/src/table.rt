@@ -39,7 +39,7 @@ impl Model for CutTable {
 
     ghost Value = { Cut };
 
-    ghost use Rattle.cut_file.specs.Sound.{IsSound};
+    ghost use Rattle.cut_file.specs.Sound.{IsFaultless};
 
     ghost view = { λ c. record {
       runs = c.names.runs;
@@ -48,7 +48,7 @@ impl Model for CutTable {
       keys = c.keys.items;
     } };
 
-    ghost invariant = { λ c. IsSound (record {
+    ghost invariant = { λ c. IsFaultless (record {
       runs = c.names.runs;
       places = c.names.places;
       rows = c.rows.items;

@@ -10,18 +10,18 @@ use Rattle.meat_scan.specs.Found.{Found, chosen_by, leg_choice}
 use Rattle.meat_scan.specs.Solves.{Solves, IsStartAnswer}
 use Rattle.leg_extract.specs.Extracted.{IsExtracted}
 use Rattle.decision_graph.specs.Bounds.{IsBestBy}
-use Rattle.decision_graph.specs.Expanded.{NoneSafe, IsExpandedBy, HasSteadyChoice}
+use Rattle.decision_graph.specs.Expanded.{IsNoneSafe, IsExpandedBy, HasSteadyChoice}
 
 module _ {V : Type 0} (below covers : V → Tree → Type 0) (gap : V → ℕ) (arrived : ℕ → V) where
   -- nothing is safe where there is no start
-  pub none_safe : (n : NetworkModel) (q : Query) (found : Found V) → Solves below covers gap found n q → found.start ≡ None → NoneSafe n q
+  pub none_safe : (n : NetworkModel) (q : Query) (found : Found V) → Solves below covers gap found n q → found.start ≡ None → IsNoneSafe n q
   none_safe n q found solves none =
-      let P : Option (V × Leg) → Type 0 = λ start. MatchOption start (NoneSafe n q) (IsStartAnswer below covers gap n q found) in
+      let P : Option (V × Leg) → Type 0 = λ start. MatchOption start (IsNoneSafe n q) (IsStartAnswer below covers gap n q found) in
       subst P none solves.answers.begins
 
   started : (n : NetworkModel) (q : Query) (found : Found V) (start : V × Leg) → Solves below covers gap found n q → found.start ≡ Some start → IsStartAnswer below covers gap n q found start
   started n q found start solves some =
-      let P : Option (V × Leg) → Type 0 = λ start. MatchOption start (NoneSafe n q) (IsStartAnswer below covers gap n q found) in
+      let P : Option (V × Leg) → Type 0 = λ start. MatchOption start (IsNoneSafe n q) (IsStartAnswer below covers gap n q found) in
       subst P some solves.answers.begins
 
   -- the strategy of the start is a best one

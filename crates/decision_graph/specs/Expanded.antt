@@ -14,8 +14,8 @@ use Rattle.leg_extract.specs.Extracted.{HasArrivals, IsWhole}
 use Rattle.decision_graph.specs.Bounds.{IsBestBy, IsBest}
 
 -- no strategy is safe for the query
-abbrev pub NoneSafe : NetworkModel → Query → Type 0
-NoneSafe network query = (tree : Tree) → IsSafeFor network query tree → ⊥
+abbrev pub IsNoneSafe : NetworkModel → Query → Type 0
+IsNoneSafe network query = (tree : Tree) → IsSafeFor network query tree → ⊥
 
 -- the graph unfolds to a best strategy; it has a row for each outcome, every row is picked, and its rides are those that stand
 -- in the unfolding, each of them

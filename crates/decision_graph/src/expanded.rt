@@ -1,7 +1,7 @@
 //! The decision graph ride by ride.
 ghost use Rattle.std.specs.Prelude.{◌≡◌, ◌≢◌, ◌<◌, ◌≤◌, length, IfOk, IfSome, MatchOption};
 ghost use Rattle.plan_model.specs.Order.{IsScanOrder};
-ghost use Rattle.decision_graph.specs.Expanded.{NoneSafe, IsExpanded, IsExpandedBy, HasSteadyChoice};
+ghost use Rattle.decision_graph.specs.Expanded.{IsNoneSafe, IsExpanded, IsExpandedBy, HasSteadyChoice};
 ghost use Rattle.interval_fixed.specs.Interval.{end_of_nanos};
 
 use interval_fixed::Span;
@@ -42,7 +42,7 @@ pub(crate) fn expand_away<V: Score, B: BackwardOrder>(
     requires source { query.now.source.0 < length network.now.change }
     requires target { query.now.target.0 < length network.now.change }
     requires differ { query.now.source.0 ≢ query.now.target.0 }
-    ensures plan { IfOk result (λ found. MatchOption found (NoneSafe network.now query.now)
+    ensures plan { IfOk result (λ found. MatchOption found (IsNoneSafe network.now query.now)
         (λ p. IsExpandedBy V.below V.covers V.gap V.arrived network.now query.now p.graph p.value)) }
     ensures steady { IfOk result (λ found. IfSome found (λ p. HasSteadyChoice network.now query.now p.graph)) }
     ensures fits { B.fits order.new network.now }
@@ -72,7 +72,7 @@ pub fn expand<B: BackwardOrder>(
     requires target { query.now.target.0 < length network.now.change }
     requires start { query.now.start.0 < end_of_nanos }
     requires deadline { query.now.start.0 ≤ query.now.deadline.0 }
-    ensures plan { IfOk result (λ found. MatchOption found (NoneSafe network.now query.now)
+    ensures plan { IfOk result (λ found. MatchOption found (IsNoneSafe network.now query.now)
         (λ p. IsExpanded network.now query.now p.graph p.bounds)) }
     ensures fits { B.fits order.new network.now }
 {

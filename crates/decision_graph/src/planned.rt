@@ -2,7 +2,7 @@
 ghost use Rattle.std.specs.Prelude.{◌≡◌, ◌≢◌, ◌<◌, ◌≤◌, length, IfOk, MatchOption};
 ghost use Rattle.plan_model.specs.Bounds.{end_of_time};
 ghost use Rattle.plan_model.specs.Order.{IsScanOrder};
-ghost use Rattle.decision_graph.specs.Expanded.{NoneSafe};
+ghost use Rattle.decision_graph.specs.Expanded.{IsNoneSafe};
 ghost use Rattle.decision_graph.specs.Planned.{IsPlanned, IsPlannedBy};
 ghost use Rattle.interval_fixed.specs.Interval.{end_of_nanos};
 
@@ -47,7 +47,7 @@ fn plan_away<V: Score, B: BackwardOrder>(
     requires source { query.now.source.0 < length network.now.change }
     requires target { query.now.target.0 < length network.now.change }
     requires differ { query.now.source.0 ≢ query.now.target.0 }
-    ensures plan { IfOk result (λ found. MatchOption found (NoneSafe network.now query.now)
+    ensures plan { IfOk result (λ found. MatchOption found (IsNoneSafe network.now query.now)
         (λ p. IsPlannedBy V.below V.covers V.gap V.arrived network.now query.now p.graph p.value)) }
     ensures fits { B.fits order.new network.now }
 {
@@ -78,7 +78,7 @@ pub fn plan_by<V: Score, B: BackwardOrder>(
     requires target { query.now.target.0 < length network.now.change }
     requires start { query.now.start.0 < end_of_time }
     requires deadline { query.now.start.0 ≤ query.now.deadline.0 }
-    ensures plan { IfOk result (λ found. MatchOption found (NoneSafe network.now query.now)
+    ensures plan { IfOk result (λ found. MatchOption found (IsNoneSafe network.now query.now)
         (λ p. IsPlannedBy V.below V.covers V.gap V.arrived network.now query.now p.graph p.value)) }
     ensures fits { B.fits order.new network.now }
 {
@@ -109,7 +109,7 @@ pub fn plan<B: BackwardOrder>(
     requires target { query.now.target.0 < length network.now.change }
     requires start { query.now.start.0 < end_of_nanos }
     requires deadline { query.now.start.0 ≤ query.now.deadline.0 }
-    ensures plan { IfOk result (λ found. MatchOption found (NoneSafe network.now query.now)
+    ensures plan { IfOk result (λ found. MatchOption found (IsNoneSafe network.now query.now)
         (λ p. IsPlanned network.now query.now p.graph p.bounds)) }
     ensures fits { B.fits order.new network.now }
 {

@@ -8,9 +8,9 @@ use Rattle.plan_model.specs.declared.model.PlaceId.{PlaceId}
 use Rattle.plan_model.specs.NetworkModel.{NetworkModel}
 use Rattle.plan_model.specs.Network.{IsValid}
 use Rattle.plan_model.specs.Tree.{Tree, Done, Ride, Stuck}
-use Rattle.plan_model.specs.Strategy.{SafeStart}
+use Rattle.plan_model.specs.Strategy.{IsSafeFromStart}
 use Rattle.departure_table.specs.declared.DepartureRow.{DepartureRow}
-use Rattle.departure_table.specs.Departures.{NoneSafe, SafeFrom, IsBestFrom, IsDeparture, IsGreatest, IsTable, row_by}
+use Rattle.departure_table.specs.Departures.{IsNoneSafeFrom, SafeFrom, IsBestFrom, IsDeparture, IsGreatestMoment, IsTable, row_by}
 use Rattle.journey_model.specs.Sites.{last_printable}
 use Rattle.journey_model.specs.declared.problem.Problem.{Problem}
 use Rattle.plan_model.specs.declared.model.Query.{Query}
@@ -18,13 +18,13 @@ use Rattle.departure_answers.specs.Departures.{SafeOf, AreDepartures, HasSafeFor
 
 module _ (n : NetworkModel) (source target deadline : ℕ) where
   -- whoever is at the target has arrived
-  pub arrived : source ≡ target → (tree : Tree) (moment : ℕ) → SafeStart n target (Some deadline) tree source moment → moment ≤ deadline
+  pub arrived : source ≡ target → (tree : Tree) (moment : ℕ) → IsSafeFromStart n target (Some deadline) tree source moment → moment ≤ deadline
   arrived same (Done a) moment (is, there, early) = early
   arrived same (Ride i j kids) moment safe = absurd (safe.0 same)
   arrived same (Stuck place x) moment safe = absurd safe
 
   -- who is safe from a moment on leaves by a connection or has arrived by then, so the moment has a text
-  pub leaves_early : IsValid n → deadline ≤ last_printable → (tree : Tree) (moment : ℕ) → SafeStart n target (Some deadline) tree source moment → moment ≤ last_printable
+  pub leaves_early : IsValid n → deadline ≤ last_printable → (tree : Tree) (moment : ℕ) → IsSafeFromStart n target (Some deadline) tree source moment → moment ≤ last_printable
   leaves_early valid small (Done a) moment (is, there, early) = omega (arith, early, small)
   leaves_early valid small (Ride i j kids) moment (away, leg, board, all) =
       let c = valid.connections i leg.enter in
@@ -33,7 +33,7 @@ module _ (n : NetworkModel) (source target deadline : ℕ) where
 
 module _ (p : Problem) (q : Query) where
   -- at the target one is safe up to the deadline
-  pub latest_at_once : q.source.0 ≡ q.target.0 → q.start.0 ≤ q.deadline.0 → IsGreatest (SafeOf p q) q.start.0 (Some q.deadline)
+  pub latest_at_once : q.source.0 ≡ q.target.0 → q.start.0 ≤ q.deadline.0 → IsGreatestMoment (SafeOf p q) q.start.0 (Some q.deadline)
   latest_at_once same early = (early, (Done q.deadline.0, (refl, same, omega arith)), too_late)
     where
       too_late : (moment : ℕ) → q.deadline.0 < moment → (tree : Tree) → SafeOf p q moment tree → ⊥
@@ -46,7 +46,7 @@ module _ (p : Problem) (q : Query) where
   safe_at_once same early = (Done q.start.0, (refl, same, early))
 
   -- the latest moment has a text
-  pub latest_early : IsValid p.network → q.deadline.0 ≤ last_printable → (moment : Moment) → IsGreatest (SafeOf p q) q.start.0 (Some moment) → moment.0 ≤ last_printable
+  pub latest_early : IsValid p.network → q.deadline.0 ≤ last_printable → (moment : Moment) → IsGreatestMoment (SafeOf p q) q.start.0 (Some moment) → moment.0 ≤ last_printable
   latest_early valid small moment is =
       leaves_early p.network q.source.0 q.target.0 q.deadline.0 valid small is.1.0 moment.0 is.1.1
 
@@ -62,20 +62,21 @@ module _ (p : Problem) (q : Query) where
       let by = is.from_first zero row (omega arith) in
       let test : nat_le q.start.0 row.by.0 ≡ true = grind (arith, nat_tests) in
       let found : row_by q.start.0 (row ∷ rows) ≡ Some row = rw test refl in
-      let best = subst (λ (o : Option DepartureRow). MatchOption o (NoneSafe (SafeOf p q) q.start.0) (IsBestFrom p.network (SafeOf p q) q.start.0)) found (is.answers q.start.0 (omega arith) early) in
+      let best = subst (λ (o : Option DepartureRow). MatchOption o (IsNoneSafeFrom (SafeOf p q) q.start.0) (IsBestFrom p.network (SafeOf p q) q.start.0))
+      found (is.answers q.start.0 (omega arith) early) in
       (best.covers_one.0, best.covers_one.1)
 
   module _ (own : Query) (target : own.target ≡ q.target) (deadline : own.deadline ≡ q.deadline) where
     -- what is said of a query with this target and this deadline is said of the query
     pub same_table : (first last : ℕ) (rows : List DepartureRow) → IsTable p.network (SafeFrom p.network q.source.0 own) first last rows → IsTable p.network (SafeOf p q) first last rows
     same_table first last rows is =
-        subst (λ (t : PlaceId). IsTable p.network (λ moment tree. SafeStart p.network t.0 (Some q.deadline.0) tree q.source.0 moment) first last rows) target
-        (subst (λ (d : Moment). IsTable p.network (λ moment tree. SafeStart p.network own.target.0 (Some d.0) tree q.source.0 moment) first last rows) deadline is)
+        subst (λ (t : PlaceId). IsTable p.network (λ moment tree. IsSafeFromStart p.network t.0 (Some q.deadline.0) tree q.source.0 moment) first last rows) target
+        (subst (λ (d : Moment). IsTable p.network (λ moment tree. IsSafeFromStart p.network own.target.0 (Some d.0) tree q.source.0 moment) first last rows) deadline is)
 
-    pub same_greatest : (first : ℕ) (result : Option Moment) → IsGreatest (SafeFrom p.network q.source.0 own) first result → IsGreatest (SafeOf p q) first result
+    pub same_greatest : (first : ℕ) (result : Option Moment) → IsGreatestMoment (SafeFrom p.network q.source.0 own) first result → IsGreatestMoment (SafeOf p q) first result
     same_greatest first result is =
-        subst (λ (t : PlaceId). IsGreatest (λ moment tree. SafeStart p.network t.0 (Some q.deadline.0) tree q.source.0 moment) first result) target
-        (subst (λ (d : Moment). IsGreatest (λ moment tree. SafeStart p.network own.target.0 (Some d.0) tree q.source.0 moment) first result) deadline is)
+        subst (λ (t : PlaceId). IsGreatestMoment (λ moment tree. IsSafeFromStart p.network t.0 (Some q.deadline.0) tree q.source.0 moment) first result) target
+        (subst (λ (d : Moment). IsGreatestMoment (λ moment tree. IsSafeFromStart p.network own.target.0 (Some d.0) tree q.source.0 moment) first result) deadline is)
 
   -- departures between two places
   pub departures_away : (last : ℕ) (rows : List DepartureRow) → q.source.0 ≢ q.target.0 → IsTable p.network (SafeOf p q) q.start.0 last rows → AreDepartures p q last rows

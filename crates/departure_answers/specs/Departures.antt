@@ -5,7 +5,7 @@ use Rattle.plan_model.specs.declared.model.Query.{Query}
 use Rattle.plan_model.specs.Tree.{Tree}
 use Rattle.plan_model.specs.Strategy.{IsSafeFor}
 use Rattle.departure_table.specs.declared.DepartureRow.{DepartureRow}
-use Rattle.departure_table.specs.Departures.{SafeFrom, IsTable, IsGreatest}
+use Rattle.departure_table.specs.Departures.{SafeFrom, IsTable, IsGreatestMoment}
 use Rattle.printed_rows.specs.Writers.{place_name}
 use Rattle.journey_model.specs.declared.faults.Fault.{Fault}
 use Rattle.journey_model.specs.declared.faults.Fault.TheVariants.{NoSafe}
@@ -43,7 +43,7 @@ TellsDepartures p query last found text =
 -- the latest moment is told from which a tree is safe
 abbrev pub TellsLatest : Problem → Query → Findings → List ℕ → Type 0
 TellsLatest p query found text =
-    (moment : Moment) × (found ≡ latest_findings query moment) × IsGreatest (SafeOf p query) query.start.0 (Some moment)
+    (moment : Moment) × (found ≡ latest_findings query moment) × IsGreatestMoment (SafeOf p query) query.start.0 (Some moment)
     × (text ≡ latest_text (place_name p.names query.source.0) (place_name p.names query.target.0) query moment)
 
 -- why departures are not told: no tree is safe from the first moment
@@ -52,7 +52,7 @@ FailsDepartures p query fault = (fault ≡ NoSafe) × HasNoneFor p query
 
 -- why no latest moment is told: no tree is safe from any moment on
 abbrev pub FailsLatest : Problem → Query → Fault → Type 0
-FailsLatest p query fault = (fault ≡ NoSafe) × IsGreatest (SafeOf p query) query.start.0 None
+FailsLatest p query fault = (fault ≡ NoSafe) × IsGreatestMoment (SafeOf p query) query.start.0 None
 
 -- its places are the network's, and its moments have texts
 pub record IsUntil (p : Problem) (query : Query) : Type 0 where

@@ -2,7 +2,7 @@
 ghost use Rattle.std.specs.Prelude.{◌≡◌, ◌≢◌, ◌<◌, ◌≤◌, length, Some, IfOk, IfErr, MatchOption};
 ghost use Rattle.plan_model.specs.NameLists.{NamesFit};
 ghost use Rattle.command_line.specs.Ranges.{IsLater};
-ghost use Rattle.departure_table.specs.Departures.{IsExtendedFor, IsGreatest, IsTable};
+ghost use Rattle.departure_table.specs.Departures.{IsExtendedFor, IsGreatestMoment, IsTable};
 ghost use Rattle.meat_scan.specs.Solves.{Solves};
 ghost use Rattle.value_laws.specs.Means.{mean_below, mean_covers, mean_gap};
 ghost use Rattle.command_line.specs.Values.{last_until};
@@ -134,7 +134,7 @@ fn departures_of(
 /// The latest moment from the start of a query on at which one can leave and be safe.
 fn latest_of(alloc: Global, problem: &Problem, query: &Query) -> Result<Option<Moment>, NoMemory>
     requires until { IsUntil problem.now query.now }
-    ensures { IfOk result (IsGreatest (SafeOf problem.now query.now) query.now.start.0) }
+    ensures { IfOk result (IsGreatestMoment (SafeOf problem.now query.now) query.now.start.0) }
 {
     if query.source.0 == query.target.0 {
         return Ok(Some(query.deadline));
@@ -181,7 +181,7 @@ fn latest_answer(
     requires fit { NamesFit problem.now.names problem.now.network }
     requires until { IsUntil problem.now query.now }
     requires deadline { query.now.deadline.0 ≤ last_until }
-    requires greatest { IsGreatest (SafeOf problem.now query.now) query.now.start.0 (Some moment) }
+    requires greatest { IsGreatestMoment (SafeOf problem.now query.now) query.now.start.0 (Some moment) }
     ensures { IfOk result (λ a. TellsLatest problem.now query.now
         (findings_of a.report) a.text.items) }
 {

@@ -8,7 +8,7 @@ use Rattle.std.proofs.lemmas.List.Elements.{All-append, All-cons, All-nil}
 use Rattle.plan_model.specs.NetworkModel.{NetworkModel}
 use Rattle.plan_model.specs.Tree.{Tree}
 use Rattle.departure_table.specs.declared.DepartureRow.{DepartureRow}
-use Rattle.departure_table.specs.Departures.{NoneSafe, IsBestFrom, IsDeparture, IsTable, row_by}
+use Rattle.departure_table.specs.Departures.{IsNoneSafeFrom, IsBestFrom, IsDeparture, IsTable, row_by}
 
 row_past : (moment : ℕ) (rows : List DepartureRow) → All (λ r. r.by.0 < moment) rows → row_by moment rows ≡ None
 row_past moment [] few = refl
@@ -79,12 +79,12 @@ module _ (m : NetworkModel) (Safe : ℕ → Tree → Type 0) (first last : ℕ) 
           }
 
     abbrev Answer : ℕ → Type 0
-    Answer moment = MatchOption (row_by moment rows) (NoneSafe Safe moment) (IsBestFrom m Safe moment)
+    Answer moment = MatchOption (row_by moment rows) (IsNoneSafeFrom Safe moment) (IsBestFrom m Safe moment)
 
     is_found : (moment : ℕ) → first ≤ moment → moment < next → Answer moment
     is_found moment from less = let f = t.found moment from less in let e = f.1 in rw e f.2
 
-    is_past : (moment : ℕ) → next ≤ moment → NoneSafe Safe moment → Answer moment
+    is_past : (moment : ℕ) → next ≤ moment → IsNoneSafeFrom Safe moment → Answer moment
     is_past moment from none = let e = row_past moment rows (λ k d h. let b = t.before k d h in omega arith) in rw e none
 
     whole : ((moment : ℕ) → first ≤ moment → moment ≤ last → Answer moment) → IsTable m Safe first last rows
@@ -93,6 +93,6 @@ module _ (m : NetworkModel) (Safe : ℕ → Tree → Type 0) (first last : ℕ) 
     pub ends_after : last < next → IsTable m Safe first last rows
     ends_after over = whole (λ moment from within. is_found moment from (omega arith))
 
-    pub ends_with_none : ((moment : ℕ) → next ≤ moment → NoneSafe Safe moment) → IsTable m Safe first last rows
+    pub ends_with_none : ((moment : ℕ) → next ≤ moment → IsNoneSafeFrom Safe moment) → IsTable m Safe first last rows
     ends_with_none none = whole (λ moment from within.
         ⊎_elim (λ (old : moment < next). is_found moment from old) (λ (new : next ≤ moment). is_past moment new (none moment new)) (cases_lt moment next))

@@ -9,16 +9,16 @@ use Rattle.plan_model.specs.NetworkModel.{NetworkModel}
 use Rattle.plan_model.specs.Network.{IsValid, count, connection, from_of, dep_of, arr_of}
 use Rattle.plan_model.specs.Ways.{way_of, limit_of}
 use Rattle.plan_model.specs.Tree.{Tree, Done, Ride, Stuck, Kids}
-use Rattle.plan_model.specs.Strategy.{IsLeg, IsBoardable, Safe}
+use Rattle.plan_model.specs.Strategy.{IsLeg, IsBoardable, IsSafe}
 use Rattle.plan_model.specs.Unfold.{by_place, unfold_after, ride_of, ride_or_stuck, kids_after, outcomes_of}
 use Rattle.plan_model.specs.Choices.{IsKept}
 use Rattle.plan_model.proofs.Boarding.{limit_of-some}
 use Rattle.value_laws.specs.declared.MeanSpan.{MeanSpan}
 use Rattle.value_laws.specs.Means.{mean_below, mean_covers, mean_gap}
 use Rattle.meat_scan.specs.Found.{Found, choice_of, leg_choice, chosen_at}
-use Rattle.meat_scan.specs.Solves.{Solves, IsAnswer, IsSafeAt}
+use Rattle.meat_scan.specs.Solves.{Solves, SolvesEach, IsSafeAt}
 use Rattle.departure_table.specs.declared.DepartureRow.{DepartureRow}
-use Rattle.departure_table.specs.Departures.{IsASecondAway, SafeAfter, NoneSafe, BeginsWith, IsBestFrom, IsDeparture, LooksAhead}
+use Rattle.departure_table.specs.Departures.{IsASecondAway, SafeAfter, IsNoneSafeFrom, BeginsWith, IsBestFrom, IsDeparture, LooksAhead}
 use Rattle.plan_model.specs.Bounds.{end_of_arrivals}
 
 module _ (n : NetworkModel) (q : Query) (found : Found MeanSpan) (valid : IsValid n) (solves : Solves mean_below mean_covers mean_gap found n q) (second : IsASecondAway n q.source.0) where
@@ -40,7 +40,7 @@ module _ (n : NetworkModel) (q : Query) (found : Found MeanSpan) (valid : IsVali
       let board : IsBoardable n here y i = record { seconds = h.2.seconds; way = h.2.way; in_time = omega (arith, one) } in
       (h.0, h.1, board, h.3)
 
-  pub none_ahead : (next : ℕ) → ((tree : Tree) → IsSafeAt n q here (next - 1) tree → ⊥) → (moment : ℕ) → next ≤ moment → NoneSafe (SafeAfter n q) moment
+  pub none_ahead : (next : ℕ) → ((tree : Tree) → IsSafeAt n q here (next - 1) tree → ⊥) → (moment : ℕ) → next ≤ moment → IsNoneSafeFrom (SafeAfter n q) moment
   none_ahead next none moment ahead tree safe = none tree (earlier tree (next - 1) (moment - 1) (omega arith) safe)
 
   module _ (x : ℕ) (choice : MeanSpan × Leg) (is : choice_of found here x ≡ Some choice) where
@@ -54,7 +54,7 @@ module _ (n : NetworkModel) (q : Query) (found : Found MeanSpan) (valid : IsVali
         let leg : leg_choice found here x ≡ Some choice.1 = ap (option_map (λ c. c.1)) is in
         rw (test, leg) refl
 
-    module _ (answer : IsAnswer mean_below mean_covers mean_gap n q found here x choice) where
+    module _ (answer : SolvesEach mean_below mean_covers mean_gap n q found here x choice) where
       abbrev enter : ℕ
       enter = choice.1.enter.0
 

@@ -11,7 +11,7 @@ use Rattle.plan_model.specs.Tree.{Tree}
 use Rattle.plan_model.proofs.Views.{seen, leg_there}
 use Rattle.plan_model.proofs.Extensions.{added_there, added_back}
 use Rattle.departure_table.specs.declared.DepartureRow.{DepartureRow}
-use Rattle.departure_table.specs.Departures.{IsASecondAway, SafeAfter, SafeFrom, NoneSafe, IsBestFrom, IsDeparture, IsTable, IsGreatest, IsExtendedFor, SaysOfSource, row_by}
+use Rattle.departure_table.specs.Departures.{IsASecondAway, SafeAfter, SafeFrom, IsNoneSafeFrom, IsBestFrom, IsDeparture, IsTable, IsGreatestMoment, IsExtendedFor, SaysOfSource, row_by}
 use Rattle.departure_table.proofs.Empty.{empty_exactly}
 
 -- answers for one kind of safety are answers for the same kind told otherwise
@@ -24,11 +24,12 @@ module _ (n m : NetworkModel) (S T : ℕ → Tree → Type 0) (many : count n �
     gap = let g = b.gap in omega arith;
   }
 
-  pub answer_told : (moment : ℕ) (o : Option DepartureRow) → 1 ≤ moment → MatchOption o (NoneSafe S moment) (IsBestFrom n S moment) → MatchOption o (NoneSafe T moment) (IsBestFrom m T moment)
+  pub answer_told : (moment : ℕ) (o : Option DepartureRow) → 1 ≤ moment → MatchOption o (IsNoneSafeFrom S moment) (IsBestFrom n S moment)
+      → MatchOption o (IsNoneSafeFrom T moment) (IsBestFrom m T moment)
   answer_told moment None some none = λ tree safe. none tree (from moment tree some safe)
   answer_told moment (Some row) some best = best_told moment row some best
 
-  pub greatest_told : (first : ℕ) (o : Option Moment) → 1 ≤ first → IsGreatest S first o → IsGreatest T first o
+  pub greatest_told : (first : ℕ) (o : Option Moment) → 1 ≤ first → IsGreatestMoment S first o → IsGreatestMoment T first o
   greatest_told first None some none = λ moment later tree safe. none moment later tree (from moment tree (omega arith) safe)
   greatest_told first (Some g) some is =
       (is.0, (is.1.0, to g.0 is.1.0 (let f = is.0 in omega arith) is.1.1), λ moment later tree safe. is.2 moment later tree (from moment tree (omega arith) safe))
@@ -72,7 +73,7 @@ module _ (n : NetworkModel) (q : Query) (m : NetworkModel) (source : ℕ) (e : I
     rising = t.rising;
   }
 
-  empty_told : (first last : ℕ) (rows : List DepartureRow) → 1 ≤ first → first ≤ last → IsTable n (SafeAfter n q) first last rows → (rows ≡ []) ↔ NoneSafe (SafeFrom m source q) first
+  empty_told : (first last : ℕ) (rows : List DepartureRow) → 1 ≤ first → first ≤ last → IsTable n (SafeAfter n q) first last rows → (rows ≡ []) ↔ IsNoneSafeFrom (SafeFrom m source q) first
   empty_told first last rows some order t = empty_exactly m (SafeFrom m source q) first last order rows (table_told first last rows some t)
 
   pub says : SaysOfSource n q m source

@@ -9,7 +9,7 @@ use Rattle.plan_model.specs.Network.{IsValid, count, from_of, dep_of}
 use Rattle.plan_model.specs.Ways.{way_of}
 use Rattle.plan_model.specs.Tree.{Tree, Ride, Kids}
 use Rattle.plan_model.specs.Expected.{Below, Covers}
-use Rattle.plan_model.specs.Strategy.{IsLeg, SafeStart}
+use Rattle.plan_model.specs.Strategy.{IsLeg, IsSafeFromStart}
 use Rattle.plan_model.specs.View.{IsExtension}
 use Rattle.meat_scan.specs.Solves.{IsSafeAt}
 use Rattle.departure_table.specs.declared.DepartureRow.{DepartureRow}
@@ -24,11 +24,11 @@ SafeAfter network query moment tree = IsSafeAt network query query.source.0 (mom
 
 -- the tree is safe for who sets out at a moment or later at a place, with the target and the deadline of the query
 abbrev pub SafeFrom : NetworkModel → ℕ → Query → ℕ → Tree → Type 0
-SafeFrom m source query moment tree = SafeStart m query.target.0 (Some query.deadline.0) tree source moment
+SafeFrom m source query moment tree = IsSafeFromStart m query.target.0 (Some query.deadline.0) tree source moment
 
 -- nothing is safe from a moment on
-abbrev pub NoneSafe : (ℕ → Tree → Type 0) → ℕ → Type 0
-NoneSafe Safe moment = (tree : Tree) → Safe moment tree → ⊥
+abbrev pub IsNoneSafeFrom : (ℕ → Tree → Type 0) → ℕ → Type 0
+IsNoneSafeFrom Safe moment = (tree : Tree) → Safe moment tree → ⊥
 
 -- the first thing to do by the tree is to ride the leg
 abbrev pub BeginsWith : Leg → Tree → Type 0
@@ -53,23 +53,23 @@ row_by moment rows = find (λ row. nat_le moment row.by.0) rows
 -- the best of what is safe from each moment on, from a first to a last one: the first row by the moment or later; none exactly where nothing is safe.
 -- moments rise, and only the last row may be by the last moment or later
 pub record IsTable (m : NetworkModel) (Safe : ℕ → Tree → Type 0) (first last : ℕ) (rows : List DepartureRow) : Type 0 where
-  pub answers : (moment : ℕ) → first ≤ moment → moment ≤ last → MatchOption (row_by moment rows) (NoneSafe Safe moment) (IsBestFrom m Safe moment)
+  pub answers : (moment : ℕ) → first ≤ moment → moment ≤ last → MatchOption (row_by moment rows) (IsNoneSafeFrom Safe moment) (IsBestFrom m Safe moment)
   pub departures : All (IsDeparture m) rows
   pub from_first : All (λ row. first ≤ row.by.0) rows
   pub rising : AllPairs (λ a b. (a.by.0 < b.by.0) × (a.by.0 < last)) rows
 
 -- the latest moment from a first one on from which something is safe; none where there is none
-abbrev pub IsGreatest : (ℕ → Tree → Type 0) → ℕ → Option Moment → Type 0
-IsGreatest Safe first result =
+abbrev pub IsGreatestMoment : (ℕ → Tree → Type 0) → ℕ → Option Moment → Type 0
+IsGreatestMoment Safe first result =
     MatchOption result
-    ((moment : ℕ) → first ≤ moment → NoneSafe Safe moment)
-    (λ greatest. (first ≤ greatest.0) × ((tree : Tree) × Safe greatest.0 tree) × ((moment : ℕ) → greatest.0 < moment → NoneSafe Safe moment))
+    ((moment : ℕ) → first ≤ moment → IsNoneSafeFrom Safe moment)
+    (λ greatest. (first ≤ greatest.0) × ((tree : Tree) × Safe greatest.0 tree) × ((moment : ℕ) → greatest.0 < moment → IsNoneSafeFrom Safe moment))
 
 -- what the choice at a moment says of all from then on: a row by which it is the best, or that nothing is safe any more
 abbrev pub LooksAhead : NetworkModel → (ℕ → Tree → Type 0) → ℕ → Option DepartureRow → Type 0
 LooksAhead m Safe next found =
     MatchOption found
-    ((moment : ℕ) → next ≤ moment → NoneSafe Safe moment)
+    ((moment : ℕ) → next ≤ moment → IsNoneSafeFrom Safe moment)
     (λ row. (next ≤ row.by.0) × (row.by.0 < end_of_arrivals) × IsDeparture m row × ((moment : ℕ) → next ≤ moment → moment ≤ row.by.0 → IsBestFrom m Safe moment row))
 
 -- the network is that of m with a place more, where the query has its source, and its target is another place of m than the one it leads to
@@ -86,5 +86,5 @@ pub record SaysOfSource (network : NetworkModel) (query : Query) (m : NetworkMod
   pub second : IsASecondAway network query.source.0
   pub tables : (first last : ℕ) (rows : List DepartureRow) → 1 ≤ first → IsTable network (SafeAfter network query) first last rows → IsTable m (SafeFrom m source query) first last rows
   pub empty_exactly : (first last : ℕ) (rows : List DepartureRow) → 1 ≤ first → first ≤ last → IsTable network (SafeAfter network query) first last rows →
-      (rows ≡ []) ↔ NoneSafe (SafeFrom m source query) first
-  pub greatest : (first : ℕ) (result : Option Moment) → 1 ≤ first → IsGreatest (SafeAfter network query) first result → IsGreatest (SafeFrom m source query) first result
+      (rows ≡ []) ↔ IsNoneSafeFrom (SafeFrom m source query) first
+  pub greatest : (first : ℕ) (result : Option Moment) → 1 ≤ first → IsGreatestMoment (SafeAfter network query) first result → IsGreatestMoment (SafeFrom m source query) first result

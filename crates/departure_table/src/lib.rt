@@ -9,7 +9,7 @@ ghost use Rattle.plan_model.specs.NetworkModel.{NetworkModel};
 ghost use Rattle.plan_model.specs.Network.{IsValid};
 ghost use Rattle.value_laws.specs.Means.{mean_below, mean_covers, mean_gap};
 ghost use Rattle.meat_scan.specs.Solves.{Solves};
-ghost use Rattle.departure_table.specs.Departures.{IsASecondAway, SafeAfter, IsExtendedFor, IsTable, IsGreatest, LooksAhead, SaysOfSource};
+ghost use Rattle.departure_table.specs.Departures.{IsASecondAway, SafeAfter, IsExtendedFor, IsTable, IsGreatestMoment, LooksAhead, SaysOfSource};
 ghost use Rattle.plan_model.specs.declared.model.Query.{Query as Asked};
 
 use interval_fixed::Span;
@@ -101,7 +101,7 @@ pub fn greatest(
     requires valid { IsValid network.now }
     requires solves { Solves mean_below mean_covers mean_gap scanned.now network.now query.now }
     requires second { IsASecondAway network.now query.now.source.0 }
-    ensures { IsGreatest (SafeAfter network.now query.now) first.0 result }
+    ensures { IsGreatestMoment (SafeAfter network.now query.now) first.0 result }
 {
     let mut greatest = None;
     let mut next = first.0;

@@ -6,7 +6,7 @@ use Rattle.csv_rows.specs.declared.columns.Column.TheVariants.{StopId, RouteId}
 use Rattle.csv_rows.specs.declared.feed_tables.Table.TheVariants.{Stops as StopsTable, Routes as RoutesTable, Trips as TripsTable}
 use Rattle.csv_rows.specs.declared.feed_tables.FeedFault.{FeedFault}
 use Rattle.table_files.specs.declared.loading.Loaded.{Loaded}
-use Rattle.table_files.specs.Required.{Records, required, IsSound}
+use Rattle.table_files.specs.Required.{Records, required, IsOfSomeTable}
 use Rattle.feed_lists.specs.declared.routes.Routes.{Routes}
 use Rattle.feed_lists.specs.declared.stops.Stops.{Stops}
 use Rattle.feed_lists.specs.declared.trips.Trips.{Trips}
@@ -54,18 +54,18 @@ HasTrips r read t =
 
 -- the stops are those of a table with no fault, and each has a place
 pub record AreSoundStops (s : Stops) : Type 0 where
-  pub table : IsSound stops_fault (λ t. HasStops (Ok t) s)
+  pub table : IsOfSomeTable stops_fault (λ t. HasStops (Ok t) s)
   pub places : length s.places.items ≡ length s.ids
   pub few : length s.ids ≤ most_stops
 
 -- so are the routes, and each has a type
 pub record AreSoundRoutes (r : Routes) : Type 0 where
-  pub table : IsSound routes_fault (λ t. HasRoutes (Ok t) r)
+  pub table : IsOfSomeTable routes_fault (λ t. HasRoutes (Ok t) r)
   pub types : length r.types.items ≡ length r.ids
 
 -- and the trips, and each has a service, a type and one of the routes
 pub record AreSoundTrips (r : Routes) (t : Trips) : Type 0 where
-  pub table : IsSound (trips_fault r.ids) (λ x. HasTrips r (Ok x) t)
+  pub table : IsOfSomeTable (trips_fault r.ids) (λ x. HasTrips r (Ok x) t)
   pub services : length t.of_trips.services.items ≡ length t.ids
   pub types : length t.of_trips.types.items ≡ length t.ids
   pub routes : length t.of_trips.routes.items ≡ length t.ids

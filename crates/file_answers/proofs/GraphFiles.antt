@@ -7,7 +7,7 @@ use Rattle.csv_rows.specs.declared.limits.Limits.{Limits}
 use Rattle.plan_graph.specs.declared.PlanGraph.{PlanGraph}
 use Rattle.plan_graph.specs.Tidy.{IsFit}
 use Rattle.graph_text.specs.declared.Head.{Head}
-use Rattle.graph_text.specs.Asked.{IsAsked as IsHeadOf}
+use Rattle.graph_text.specs.Asked.{IsHeadOf}
 use Rattle.graph_text.specs.Reading.{graph_of}
 use Rattle.journey_model.specs.declared.faults.Input.{Input}
 use Rattle.journey_model.specs.declared.faults.Input.TheVariants as input

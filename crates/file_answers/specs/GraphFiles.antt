@@ -8,7 +8,7 @@ use Rattle.plan_graph.specs.Tidy.{IsFit}
 use Rattle.graph_text.specs.declared.Head.{Head}
 use Rattle.graph_text.specs.declared.reader.TextFault.{TextFault}
 use Rattle.graph_text.specs.declared.reader.TextFault.TheVariants as text
-use Rattle.graph_text.specs.Asked.{IsAsked as IsHeadOf}
+use Rattle.graph_text.specs.Asked.{IsHeadOf}
 use Rattle.graph_text.specs.Reading.{graph_of}
 use Rattle.journey_model.specs.declared.faults.Input.{Input}
 use Rattle.journey_model.specs.declared.faults.Input.TheVariants as input

@@ -3,7 +3,7 @@ ghost use Rattle.std.specs.Prelude.{◌≡◌, ◌≢◌, ◌<◌, ◌≤◌, le
 ghost use Rattle.csv_rows.specs.Limits.{AreWithin};
 ghost use Rattle.plan_model.specs.NameLists.{NamesFit};
 ghost use Rattle.plan_graph.specs.Tidy.{IsFit};
-ghost use Rattle.graph_text.specs.Asked.{IsAsked as IsHeadOf};
+ghost use Rattle.graph_text.specs.Asked.{IsHeadOf};
 ghost use Rattle.graph_text.specs.Reading.{graph_of};
 ghost use Rattle.file_ports.specs.Ports.{file_at};
 ghost use Rattle.command_line.specs.Jobs.{late_in};

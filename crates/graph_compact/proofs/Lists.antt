@@ -14,7 +14,7 @@ use Rattle.plan_graph.specs.declared.GraphRow.{GraphRow}
 use Rattle.plan_graph.specs.declared.Ride.{Ride}
 use Rattle.plan_graph.specs.declared.PlaceTable.{PlaceTable}
 use Rattle.plan_graph.specs.Rows.{Precedes}
-use Rattle.plan_graph.specs.Ready.{IsFirst}
+use Rattle.plan_graph.specs.Ready.{IsFirstInTime}
 use Rattle.plan_graph.proofs.Searches.{precedes_trans}
 use Rattle.leg_walk.specs.Placed.{Has}
 use Rattle.leg_walk.specs.Tables.{leg_cmp}
@@ -166,7 +166,7 @@ module _ (n : NetworkModel) (place : ℕ) where
   ]
 
 -- among rising rows the first that is not before a moment is there, if any is
-pub some_first : (rows : List GraphRow) → Later (λ a b. a.by.0 < b.by.0) rows → (x : ℕ) (row : GraphRow) → Has rows row → x ≤ row.by.0 → (e : GraphRow) × IsFirst rows x e
+pub some_first : (rows : List GraphRow) → Later (λ a b. a.by.0 < b.by.0) rows → (x : ℕ) (row : GraphRow) → Has rows row → x ≤ row.by.0 → (e : GraphRow) × IsFirstInTime rows x e
 some_first [] later x row has after = absurd has
 some_first (head ∷ rows) later x row has after = elim (cases_lt head.by.0 x) [
   | inr early ↦ (head, inl (early, refl))
@@ -177,7 +177,7 @@ some_first (head ∷ rows) later x row has after = elim (cases_lt head.by.0 x) [
     not_head (inl is) late = absurd (let same = ap (λ (r : GraphRow). r.by.0) is in omega (arith, same, late, after))
     not_head (inr there) late = there
 
-pub first_least : (rows : List GraphRow) → Later (λ a b. a.by.0 < b.by.0) rows → (x : ℕ) (e : GraphRow) → IsFirst rows x e → Has rows e × (x ≤ e.by.0)
+pub first_least : (rows : List GraphRow) → Later (λ a b. a.by.0 < b.by.0) rows → (x : ℕ) (e : GraphRow) → IsFirstInTime rows x e → Has rows e × (x ≤ e.by.0)
     × ((other : GraphRow) → Has rows other → x ≤ other.by.0 → e.by.0 ≤ other.by.0)
 first_least [] later x e first = absurd first
 first_least (head ∷ rows) later x e (inl both) = (inl both.1, subst (λ (r : GraphRow). x ≤ r.by.0) (sym both.1) both.0, λ other has after. least other has)

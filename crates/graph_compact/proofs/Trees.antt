@@ -10,7 +10,7 @@ use Rattle.plan_model.specs.NetworkModel.{NetworkModel}
 use Rattle.plan_model.specs.Network.{IsValid}
 use Rattle.plan_model.specs.Tree.{Tree}
 use Rattle.plan_model.specs.Ways.{limit_of}
-use Rattle.plan_model.specs.Strategy.{SafeStart}
+use Rattle.plan_model.specs.Strategy.{IsSafeFromStart}
 use Rattle.plan_model.specs.Unfold.{end_of, arrival_of, outcomes_of, unfolded, by_place}
 use Rattle.plan_model.proofs.SameTree.{unfold_from-same}
 use Rattle.plan_graph.specs.declared.GraphRow.{GraphRow}
@@ -20,11 +20,11 @@ use Rattle.plan_graph.specs.declared.ExpandedGraph.{ExpandedGraph}
 use Rattle.plan_graph.specs.declared.PlanGraph.{PlanGraph}
 use Rattle.plan_graph.specs.Rows.{pick_row, pick_after, pick_at, rows_of_place}
 use Rattle.plan_graph.specs.Unfold.{unfold_expanded, unfold_plan}
-use Rattle.plan_graph.specs.Ready.{IsReadyRide, IsReadyRow, IsPruned, IsByLimits, IsPickedAfter, IsLegOf, IsFirst, IsSafeForSome, Stands}
+use Rattle.plan_graph.specs.Ready.{IsReadyRide, IsReadyRow, IsPruned, IsByLimits, IsPickedAfter, IsLegOf, IsFirstInTime, IsSafeForSome, Stands}
 use Rattle.plan_graph.specs.Coherent.{IsCoherent, IsEarliest, IsRowAt}
 use Rattle.plan_graph.specs.Tidy.{IsFit, IsFitRow, IsFitTable, IsFitStart, IsTidy, IsPickedIn}
 use Rattle.plan_graph.proofs.Searches.{precedes_itself}
-use Rattle.leg_walk.specs.Placed.{Has, IsPlaced}
+use Rattle.leg_walk.specs.Placed.{Has, StandsSafely}
 use Rattle.leg_walk.proofs.Lists.{Later, all_from_has, all_at_has, contains_from_has, has_from_contains, pairs_from_later}
 use Rattle.leg_walk.proofs.Places.{IsPlacedNext, next_after}
 use Rattle.leg_walk.proofs.Reaching.{starts_by, start_placed}
@@ -94,7 +94,7 @@ tables_rise T base ((row ∷ rows) ∷ more) each =
     (λ t has. let found = table_found T (base + 1) more rest t has in omega (arith, found.from), tables_rise T (base + 1) more rest)
 
 -- where a leg is picked, its row is the first
-picked_first : (rows : List GraphRow) (x : ℕ) (leg : Leg) → pick_row rows x ≡ Some leg → (row : GraphRow) × IsFirst rows x row × (row.leg ≡ leg)
+picked_first : (rows : List GraphRow) (x : ℕ) (leg : Leg) → pick_row rows x ≡ Some leg → (row : GraphRow) × IsFirstInTime rows x row × (row.leg ≡ leg)
 picked_first [] x leg is = absurd (cc)
 picked_first (row ∷ rows) x leg is = elim (cases_lt row.by.0 x) [
   | inl late ↦
@@ -154,7 +154,7 @@ module _ (n : NetworkModel) (valid : IsValid n) (q : Query) (graph : ExpandedGra
   -- the place's first row in time has the leg that the ride's own rows pick
   record IsSameFirst (r : Ride) (x : ℕ) : Type 0 where
     e : GraphRow
-    first : IsFirst (T (end_of n r.leg)) x e
+    first : IsFirstInTime (T (end_of n r.leg)) x e
     has : Has (T (end_of n r.leg)) e
     picks : pick_row r.after x ≡ Some e.leg
 
@@ -202,7 +202,7 @@ module _ (n : NetworkModel) (valid : IsValid n) (q : Query) (graph : ExpandedGra
     safe : IsSafeForSome n q whole
     safe = subst (λ (tree : Tree). IsSafeForSome n q tree) starts_as pruned.ready.safe
 
-    begins : IsPlaced n target (Some safe.0) choice whole start
+    begins : StandsSafely n target (Some safe.0) choice whole start
     begins = start_placed n q choice start differ safe
 
     each_list : (i : ℕ) → i < length lists → slice_index_or lists i [] ≡ T (0 + i)
@@ -214,7 +214,7 @@ module _ (n : NetworkModel) (valid : IsValid n) (q : Query) (graph : ExpandedGra
     ends_inside : (leg : Leg) → IsLegOf n leg → end_of n leg < length n.change
     ends_inside leg is_leg = (valid.connections leg.exit.0 is_leg.exit).to_in
 
-    next : (leg : Leg) → IsPlaced n target (Some safe.0) choice whole leg → end_of n leg ≢ target → (o : Outcome) → Has (outcomes_of n leg) o
+    next : (leg : Leg) → StandsSafely n target (Some safe.0) choice whole leg → end_of n leg ≢ target → (o : Outcome) → Has (outcomes_of n leg) o
         → IsPlacedNext n target (Some safe.0) choice whole leg (arrival_of n leg o.delay)
     next leg placed = next_after n target (Some safe.0) choice whole leg placed
 
@@ -222,7 +222,7 @@ module _ (n : NetworkModel) (valid : IsValid n) (q : Query) (graph : ExpandedGra
     in_time : (rows : List GraphRow) (x : ℕ) (leg : Leg) → pick_row rows x ≡ Some leg → (row : GraphRow) × Has rows row × (row.leg ≡ leg) × (x ≤ row.by.0)
     in_time rows x leg is = let found = picked_first rows x leg is in (found.0, (first_there rows x found.0 found.1).1, found.2, (first_there rows x found.0 found.1).0)
 
-    picks_same : (leg : Leg) → IsPlaced n target (Some safe.0) choice whole leg → (o : Outcome) → Has (outcomes_of n leg) o
+    picks_same : (leg : Leg) → StandsSafely n target (Some safe.0) choice whole leg → (o : Outcome) → Has (outcomes_of n leg) o
         → (t : IsPlacedNext n target (Some safe.0) choice whole leg (arrival_of n leg o.delay)) → plan_choice leg (arrival_of n leg o.delay) ≡ Some t.next
     picks_same leg placed o outcome t =
         let x = arrival_of n leg o.delay in
@@ -230,7 +230,7 @@ module _ (n : NetworkModel) (valid : IsValid n) (q : Query) (graph : ExpandedGra
         let picks : pick_row r.found.after x ≡ Some t.next = ap (λ (list : List GraphRow). pick_row list x) (sym r.same_rows) ∙ t.is_chosen in
         let row = in_time r.found.after x t.next picks in
         let find = subst (λ (l : Leg). (u : Outcome) → Has (outcomes_of n l) u → arrival_of n l u.delay ≤ row.0.by.0 → (e : GraphRow)
-        × IsFirst (T (end_of n l)) (arrival_of n l u.delay) e × (pick_row r.found.after (arrival_of n l u.delay) ≡ Some e.leg)) r.same_leg
+        × IsFirstInTime (T (end_of n l)) (arrival_of n l u.delay) e × (pick_row r.found.after (arrival_of n l u.delay) ≡ Some e.leg)) r.same_leg
         (λ u h a. let s = same_first r.found r.has u h row.0 row.1 a in (s.e, s.first, s.picks)) in
         let f = find o outcome row.3 in
         ap (λ (list : List GraphRow). pick_row list x) (rows_at (end_of n leg) (ends_inside leg placed.is_leg))
@@ -239,7 +239,7 @@ module _ (n : NetworkModel) (valid : IsValid n) (q : Query) (graph : ExpandedGra
 
     -- who has ridden a placed leg comes at an arrival of an outcome
     record IsComing (leg : Leg) (x : ℕ) : Type 0 where
-      placed : IsPlaced n target (Some safe.0) choice whole leg
+      placed : StandsSafely n target (Some safe.0) choice whole leg
       o : Outcome
       there : Contains (outcomes_of n leg) o
       at : x ≡ arrival_of n leg o.delay
@@ -249,7 +249,7 @@ module _ (n : NetworkModel) (valid : IsValid n) (q : Query) (graph : ExpandedGra
       own : Leg
       before : choice leg x ≡ Some own
       after : plan_choice leg x ≡ Some own
-      placed_too : IsPlaced n target (Some safe.0) choice whole own
+      placed_too : StandsSafely n target (Some safe.0) choice whole own
 
     picked : (leg : Leg) (x : ℕ) → IsComing leg x → end_of n leg ≢ target → IsPicked leg x
     picked leg x c away =
@@ -261,19 +261,24 @@ module _ (n : NetworkModel) (valid : IsValid n) (q : Query) (graph : ExpandedGra
         → Contains (outcomes_of n own) o → IsComing own (arrival_of n own o.delay)
     goes_on leg x own c away is o there =
         let p = picked leg x c away in
-        record { placed = subst (λ (l : Leg). IsPlaced n target (Some safe.0) choice whole l) (same_next (plan_choice leg x) p.own own p.after is) p.placed_too; o = o; there = there; at = refl }
+        record { placed = subst (λ (l : Leg). StandsSafely n target (Some safe.0) choice whole l) (same_next (plan_choice leg x) p.own own p.after is) p.placed_too; o = o; there = there; at = refl }
 
     pub unfolds : unfold_plan plan n q ≡ unfold_expanded graph n q
     unfolds =
         unfold_from-same n target plan_choice choice IsComing
         (λ leg x c away. let p = picked leg x c away in p.after ∙ sym p.before)
         goes_on (Some start) q.source.0 q.start.0
-        (λ leg is o there. record { placed = subst (λ (l : Leg). IsPlaced n target (Some safe.0) choice whole l) (same_next (Some start) start leg refl is) begins; o = o; there = there; at = refl })
+        (λ leg is o there. record {
+          placed = subst (λ (l : Leg). StandsSafely n target (Some safe.0) choice whole l) (same_next (Some start) start leg refl is) begins;
+          o = o;
+          there = there;
+          at = refl;
+        })
         ∙ sym starts_as
 
     safe_start : IsFitStart n q start
     safe_start =
-        let own = subst (λ (tree : Tree). SafeStart n target (Some safe.0) tree q.source.0 q.start.0) (starts_by n q choice start differ) safe.1 in
+        let own = subst (λ (tree : Tree). IsSafeFromStart n target (Some safe.0) tree q.source.0 q.start.0) (starts_by n q choice start differ) safe.1 in
         record { differ = differ; is_leg = own.1; leaves = own.2.0; in_time = own.2.1 }
 
     fit_row : (place : ℕ) (x : GraphRow) → Has (T place) x → IsFitRow n place x
@@ -321,11 +326,11 @@ module _ (n : NetworkModel) (valid : IsValid n) (q : Query) (graph : ExpandedGra
         let leg : s.e.leg ≡ row.leg = same_next (pick_row r.after x) s.e.leg row.leg s.picks (first_pick r.after x row idle.1.2) in
         let by : s.e.by.0 ≡ row.by.0 = same_limit (limit_of n place row.leg) s.e.by.0 row.by.0
         (ap (limit_of n place) (sym leg) ∙ subst (λ (p : ℕ). limit_of n p s.e.leg ≡ Some s.e.by.0) found.ends (by_limit (end_of n r.leg) s.e s.has)) (by_limit place row has) in
-        let first : IsFirst (T (end_of n r.leg)) x row = subst (λ (w : GraphRow). IsFirst (T (end_of n r.leg)) x w) (same_rows s.e row by leg) s.first in
-        let there : IsFirst (T place) x row = subst (λ (p : ℕ). IsFirst (T p) x row) found.ends first in
+        let first : IsFirstInTime (T (end_of n r.leg)) x row = subst (λ (w : GraphRow). IsFirstInTime (T (end_of n r.leg)) x w) (same_rows s.e row by leg) s.first in
+        let there : IsFirstInTime (T place) x row = subst (λ (p : ℕ). IsFirstInTime (T p) x row) found.ends first in
         let rows = (table_found T 0 lists each_list table has_table).rows in
         let stands = subst (λ (tree : Tree). Stands r.leg tree) (sym unfolds) (all_at_has (λ s. Stands s.leg (unfold_expanded graph n q)) graph.rides r pruned.busy.stands found.has) in
-        (subst (λ (p : ℕ). p ≢ target) found.ends idle.0, (r.leg, stands, found.ends, (o, idle.1.1, subst (λ (list : List GraphRow). IsFirst list x row) (sym rows) there)))
+        (subst (λ (p : ℕ). p ≢ target) found.ends idle.0, (r.leg, stands, found.ends, (o, idle.1.1, subst (λ (list : List GraphRow). IsFirstInTime list x row) (sym rows) there)))
 
     pub tidy : IsTidy n q plan
     tidy = record {

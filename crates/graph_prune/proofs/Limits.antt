@@ -10,7 +10,7 @@ use Rattle.plan_model.specs.Unfold.{end_of}
 use Rattle.plan_graph.specs.declared.GraphRow.{GraphRow}
 use Rattle.plan_graph.specs.declared.Ride.{Ride}
 use Rattle.plan_graph.specs.Rows.{pick_row, rows_after}
-use Rattle.plan_graph.specs.Ready.{IsFirst, IsBefore, IsReadyRow, is_within, pick_in_time}
+use Rattle.plan_graph.specs.Ready.{IsFirstInTime, MayPrecede, IsReadyRow, is_within, pick_in_time}
 use Rattle.plan_graph.proofs.Searches.{leg_test}
 use Rattle.leg_walk.specs.Tables.{row_by}
 use Rattle.leg_walk.specs.Placed.{Has}
@@ -47,14 +47,14 @@ module _ (n : NetworkModel) (place : ℕ) where
   -- the first by its limit has the leg of the first in time
   pub first_by_limits : (rows : List GraphRow) (last : Option ℕ) (x : ℕ) (leg : Leg) (limit : ℕ)
       → ((row : GraphRow) → Has rows row → IsReadyRow n place row) → IsApart last x → pick_in_time n place rows x ≡ Some leg
-      → limit_of n place leg ≡ Some limit → IsFirst (by_limits n place rows last) x (row_by limit leg)
+      → limit_of n place leg ≡ Some limit → IsFirstInTime (by_limits n place rows last) x (row_by limit leg)
   first_by_limits [] last x leg limit ready apart is its = absurd (cc)
   first_by_limits (row ∷ rows) last x leg limit ready apart is its =
       let r = ready row (inl refl) in
       elim (cases_lt r.limit x) [
         | inl late ↦
             let rest = sym (in_time_next n place row rows x r.limit r.is_limit late) ∙ is in
-            subst (λ (list : List GraphRow). IsFirst list x (row_by limit leg)) (sym (limits_head row rows r.limit last (is_last last r.limit) r.is_limit refl))
+            subst (λ (list : List GraphRow). IsFirstInTime list x (row_by limit leg)) (sym (limits_head row rows r.limit last (is_last last r.limit) r.is_limit refl))
             (late_by (is_last last r.limit) late
             (first_by_limits rows last x leg limit (λ s has. ready s (inr has)) apart rest its)
             (first_by_limits rows (Some r.limit) x leg limit (λ s has. ready s (inr has)) late rest its))
@@ -62,13 +62,13 @@ module _ (n : NetworkModel) (place : ℕ) where
             let one : row.leg ≡ leg = same_next (pick_in_time n place (row ∷ rows) x) row.leg leg (in_time_here n place row rows x r.limit r.is_limit early) is in
             let two : r.limit ≡ limit = same_limit (limit_of n place leg) r.limit limit (ap (limit_of n place) (sym one) ∙ r.is_limit) its in
             let same : row_by limit leg ≡ row_by r.limit row.leg = ap (λ (m : ℕ). row_by m leg) (sym two) ∙ ap (λ (l : Leg). row_by r.limit l) (sym one) in
-            let first : IsFirst (row_by r.limit row.leg ∷ by_limits n place rows (Some r.limit)) x (row_by limit leg) = inl (early, same) in
-            subst (λ (list : List GraphRow). IsFirst list x (row_by limit leg)) (sym (limits_head row rows r.limit last false r.is_limit (apart_last last x r.limit apart early))) first
+            let first : IsFirstInTime (row_by r.limit row.leg ∷ by_limits n place rows (Some r.limit)) x (row_by limit leg) = inl (early, same) in
+            subst (λ (list : List GraphRow). IsFirstInTime list x (row_by limit leg)) (sym (limits_head row rows r.limit last false r.is_limit (apart_last last x r.limit apart early))) first
       ]
     where
-      late_by : (test : Bool) → (ready row (inl refl)).limit < x → IsFirst (by_limits n place rows last) x (row_by limit leg)
-          → IsFirst (by_limits n place rows (Some (ready row (inl refl)).limit)) x (row_by limit leg)
-          → IsFirst (if test then by_limits n place rows last else row_by (ready row (inl refl)).limit row.leg ∷ by_limits n place rows (Some (ready row (inl refl)).limit)) x (row_by limit leg)
+      late_by : (test : Bool) → (ready row (inl refl)).limit < x → IsFirstInTime (by_limits n place rows last) x (row_by limit leg)
+          → IsFirstInTime (by_limits n place rows (Some (ready row (inl refl)).limit)) x (row_by limit leg)
+          → IsFirstInTime (if test then by_limits n place rows last else row_by (ready row (inl refl)).limit row.leg ∷ by_limits n place rows (Some (ready row (inl refl)).limit)) x (row_by limit leg)
       late_by true late one two = one
       late_by false late one two = inr (late, two)
 
@@ -92,7 +92,7 @@ module _ (n : NetworkModel) (place : ℕ) where
       member_by false more (inr there) = wider (more (Some (ready row (inl refl)).limit) there)
 
   -- the rows after a row by a limit are later, where limits do not fall
-  above : (rows : List GraphRow) → Later (IsBefore n place) rows → (bound : ℕ) (y : GraphRow)
+  above : (rows : List GraphRow) → Later (MayPrecede n place) rows → (bound : ℕ) (y : GraphRow)
       → ((row : GraphRow) → Has rows row → IsReadyRow n place row)
       → ((row : GraphRow) (limit : ℕ) → Has rows row → limit_of n place row.leg ≡ Some limit → bound ≤ limit)
       → Has (by_limits n place rows (Some bound)) y → bound < y.by.0
@@ -118,7 +118,7 @@ module _ (n : NetworkModel) (place : ℕ) where
       first_or less more (inr there) = omega (arith, less, more there)
 
   -- the rows rise
-  pub limits_rise : (rows : List GraphRow) → Later (IsBefore n place) rows → ((row : GraphRow) → Has rows row → IsReadyRow n place row)
+  pub limits_rise : (rows : List GraphRow) → Later (MayPrecede n place) rows → ((row : GraphRow) → Has rows row → IsReadyRow n place row)
       → (last : Option ℕ) → Later (λ a b. a.by.0 < b.by.0) (by_limits n place rows last)
   limits_rise [] later ready last = tt
   limits_rise (row ∷ rows) later ready last =

@@ -14,7 +14,7 @@ use Rattle.plan_graph.specs.declared.Ride.{Ride}
 use Rattle.plan_graph.specs.declared.ExpandedGraph.{ExpandedGraph}
 use Rattle.plan_graph.specs.Rows.{pick_row, pick_after, Precedes}
 use Rattle.plan_graph.specs.Unfold.{unfold_expanded}
-use Rattle.plan_graph.specs.Ready.{IsReady, IsReadyRide, IsReadyRow, IsBefore, IsBusy, IsPruned, IsByLimits, IsPickedAfter, IsFirst, IsSafeForSome, Stands}
+use Rattle.plan_graph.specs.Ready.{IsReady, IsReadyRide, IsReadyRow, MayPrecede, IsBusy, IsPruned, IsByLimits, IsPickedAfter, IsFirstInTime, IsSafeForSome, Stands}
 use Rattle.plan_graph.specs.Follows.{Follows}
 use Rattle.leg_walk.specs.Tables.{row_by}
 use Rattle.leg_walk.specs.Placed.{Has}
@@ -81,7 +81,7 @@ module _ (n : NetworkModel) (valid : IsValid n) (q : Query) (source : ExpandedGr
     -- the row by its limit is the first, where the row was
     first_limit : place ≢ target → (o : Outcome) → Contains (outcomes_of n r.leg) o → (next : Leg)
         → pick_row r.after (arrival_of n r.leg o.delay) ≡ Some next → (limit : ℕ) → limit_of n place next ≡ Some limit
-        → IsFirst own.after (arrival_of n r.leg o.delay) (row_by limit next)
+        → IsFirstInTime own.after (arrival_of n r.leg o.delay) (row_by limit next)
     first_limit away o outcome next is limit its_limit =
         first_by_limits n place r.after _ (arrival_of n r.leg o.delay) next limit its_rows tt (sym (its.picks away o outcome) ∙ is) its_limit
 
@@ -109,7 +109,7 @@ module _ (n : NetworkModel) (valid : IsValid n) (q : Query) (source : ExpandedGr
         let here : IsReadyRow n place (row_by m.limit m.row.leg) = record { is_leg = (its_rows m.row m.has).is_leg; limit = m.limit; is_limit = m.is_limit; in_time = omega arith } in
         subst (λ (w : GraphRow). IsReadyRow n place w) (sym m.is) here
 
-    before_all : (rows : List GraphRow) → Later (λ a b. a.by.0 < b.by.0) rows → ((y : GraphRow) → Has rows y → limit_of n place y.leg ≡ Some y.by.0) → Later (IsBefore n place) rows
+    before_all : (rows : List GraphRow) → Later (λ a b. a.by.0 < b.by.0) rows → ((y : GraphRow) → Has rows y → limit_of n place y.leg ≡ Some y.by.0) → Later (MayPrecede n place) rows
     before_all [] later by = tt
     before_all (y ∷ rows) later by =
         let here = by y (inl refl) in (
@@ -130,7 +130,7 @@ module _ (n : NetworkModel) (valid : IsValid n) (q : Query) (source : ExpandedGr
     ready_own = record {
       is_leg = its.is_leg;
       rows = all_from_has (IsReadyRow n place) own.after own_row;
-      rising = pairs_from_later (IsBefore n place) own.after (before_all own.after (limits_rise n place r.after (later_from_pairs (IsBefore n place) r.after its.rising) its_rows _) by_limit);
+      rising = pairs_from_later (MayPrecede n place) own.after (before_all own.after (limits_rise n place r.after (later_from_pairs (MayPrecede n place) r.after its.rising) its_rows _) by_limit);
       picks = λ away o outcome. in_time_by n place own.after (arrival_of n r.leg o.delay) by_limit;
     }
 
@@ -145,7 +145,7 @@ module _ (n : NetworkModel) (valid : IsValid n) (q : Query) (source : ExpandedGr
           (
             o,
             idle.1.1,
-            subst (λ (w : GraphRow). IsFirst own.after x w) (sym m.is) (first_limit idle.0 o idle.1.1 m.row.leg (first_pick r.after x m.row idle.1.2) m.limit m.is_limit),
+            subst (λ (w : GraphRow). IsFirstInTime own.after x w) (sym m.is) (first_limit idle.0 o idle.1.1 m.row.leg (first_pick r.after x m.row idle.1.2) m.limit m.is_limit),
           ),
         )
 

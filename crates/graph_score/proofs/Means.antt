@@ -8,7 +8,7 @@ use Rattle.plan_model.specs.Bounds.{nanos_per_second}
 use Rattle.plan_model.specs.Network.{IsValid, count, to_of, arr_of, outcomes}
 use Rattle.plan_model.specs.Rows.{EachKid}
 use Rattle.plan_model.specs.Tree.{Tree, Done, Ride, Stuck, Kids, Nil, Kid, height, height_of}
-use Rattle.plan_model.specs.Strategy.{Safe, SafeAll}
+use Rattle.plan_model.specs.Strategy.{IsSafe, AreSafe}
 use Rattle.plan_model.specs.Expected.{Below, Covers, Encloses, arrival}
 use Rattle.plan_model.proofs.Bounds.{row_is}
 use Rattle.interval_fixed.specs.Interval.{Interval}
@@ -24,7 +24,7 @@ exact_covers a h tall = omega (arith, mul_assoc 1000000000 a (10000 ^ h))
 
 module _ (n : NetworkModel) (target : ℕ) (by : Option ℕ) where
   mutual
-    enclosed : (tree : Tree) (p x : ℕ) → Safe n target by tree p x → Encloses (span_of n tree).lo (span_of n tree).hi tree
+    enclosed : (tree : Tree) (p x : ℕ) → IsSafe n target by tree p x → Encloses (span_of n tree).lo (span_of n tree).hi tree
     enclosed (Done a) p x safe = (exact_below a, exact_covers a)
     enclosed (Ride i j kids) p x safe =
         let each = kids_enclosed kids (outcomes n j) (to_of n j) (arr_of n j) safe.3 in (
@@ -33,7 +33,7 @@ module _ (n : NetworkModel) (target : ℕ) (by : Option ℕ) where
         )
     enclosed (Stuck place moment) p x safe = absurd safe
 
-    kids_enclosed : (kids : Kids) (row : List Outcome) (p scheduled : ℕ) → SafeAll n target by kids row p scheduled
+    kids_enclosed : (kids : Kids) (row : List Outcome) (p scheduled : ℕ) → AreSafe n target by kids row p scheduled
         → EachKid Below row (map (λ s. s.lo) (spans_of n kids)) kids × EachKid Covers row (map (λ s. s.hi) (spans_of n kids)) kids
     kids_enclosed Nil [] p scheduled safe = (tt, tt)
     kids_enclosed Nil (o ∷ row) p scheduled safe = absurd safe
@@ -43,7 +43,7 @@ module _ (n : NetworkModel) (target : ℕ) (by : Option ℕ) where
         let more = kids_enclosed kids row p scheduled safe.2 in
         ((safe.0, here.0, more.0), (safe.0, here.1, more.1))
 
-  pub ride_enclosed : (i j : ℕ) (kids : Kids) → SafeAll n target by kids (outcomes n j) (to_of n j) (arr_of n j)
+  pub ride_enclosed : (i j : ℕ) (kids : Kids) → AreSafe n target by kids (outcomes n j) (to_of n j) (arr_of n j)
       → Encloses (span_of n (Ride i j kids)).lo (span_of n (Ride i j kids)).hi (Ride i j kids)
   ride_enclosed i j kids safe =
       let each = kids_enclosed kids (outcomes n j) (to_of n j) (arr_of n j) safe in (
@@ -53,14 +53,14 @@ module _ (n : NetworkModel) (target : ℕ) (by : Option ℕ) where
 
   module _ (valid : IsValid n) where
     mutual
-      near : (tree : Tree) (p x : ℕ) → Safe n target by tree p x → (span_of n tree).hi - (span_of n tree).lo ≤ height tree
+      near : (tree : Tree) (p x : ℕ) → IsSafe n target by tree p x → (span_of n tree).hi - (span_of n tree).lo ≤ height tree
       near (Done a) p x safe = omega arith
       near (Ride i j kids) p x safe =
           let each = kids_near kids (outcomes n j) (to_of n j) (arr_of n j) (height_of kids) (omega arith) safe.3 in
           mean_gap_within (outcomes n j) (spans_of n kids) (height_of kids) (row_is n valid j safe.1.exit) each.0 each.1
       near (Stuck place moment) p x safe = absurd safe
 
-      kids_near : (kids : Kids) (row : List Outcome) (p scheduled most : ℕ) → height_of kids ≤ most → SafeAll n target by kids row p scheduled
+      kids_near : (kids : Kids) (row : List Outcome) (p scheduled most : ℕ) → height_of kids ≤ most → AreSafe n target by kids row p scheduled
           → (length row ≡ length (spans_of n kids)) × All (λ s. s.hi - s.lo ≤ most) (spans_of n kids)
       kids_near Nil [] p scheduled most low safe = (refl, All-nil (λ (s : Interval). s.hi - s.lo ≤ most))
       kids_near Nil (o ∷ row) p scheduled most low safe = absurd safe
@@ -70,7 +70,7 @@ module _ (n : NetworkModel) (target : ℕ) (by : Option ℕ) where
           let more = kids_near kids row p scheduled most (omega (arith, low)) safe.2 in
           (ap suc more.0, All-cons (λ (s : Interval). s.hi - s.lo ≤ most) (span_of n tree) (spans_of n kids) (omega (arith, here, low)) more.1)
 
-    pub ride_near : (i j : ℕ) (kids : Kids) → j < count n → SafeAll n target by kids (outcomes n j) (to_of n j) (arr_of n j)
+    pub ride_near : (i j : ℕ) (kids : Kids) → j < count n → AreSafe n target by kids (outcomes n j) (to_of n j) (arr_of n j)
         → (span_of n (Ride i j kids)).hi - (span_of n (Ride i j kids)).lo ≤ height (Ride i j kids)
     ride_near i j kids there safe =
         let each = kids_near kids (outcomes n j) (to_of n j) (arr_of n j) (height_of kids) (omega arith) safe in

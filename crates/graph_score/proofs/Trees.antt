@@ -7,7 +7,7 @@ use Rattle.plan_model.specs.declared.model.Query.{Query}
 use Rattle.plan_model.specs.NetworkModel.{NetworkModel}
 use Rattle.plan_model.specs.Network.{count, to_of, arr_of, outcomes}
 use Rattle.plan_model.specs.Tree.{Tree, Done, Ride, Stuck, Kids, Nil, Kid, height, height_of}
-use Rattle.plan_model.specs.Strategy.{Safe, SafeAll, IsBoardable, IsSafeFor}
+use Rattle.plan_model.specs.Strategy.{IsSafe, AreSafe, IsBoardable, IsSafeFor}
 use Rattle.plan_model.specs.Unfold.{end_of, outcomes_of, kids_after, ride_or_stuck, unfold_after, by_place}
 use Rattle.plan_model.proofs.Boarding.{limit_of-some}
 use Rattle.plan_graph.specs.declared.PlaceTable.{PlaceTable}
@@ -22,12 +22,12 @@ use Rattle.graph_score.proofs.Picks.{rows_of_place-by, picked}
 
 mutual
   -- who is safe cannot fail
-  cannot_fail : (n : NetworkModel) (q : Query) (tree : Tree) (p x : ℕ) → Safe n q.target.0 (Some q.deadline.0) tree p x → (r y : ℕ) → Fails q tree r y → ⊥
+  cannot_fail : (n : NetworkModel) (q : Query) (tree : Tree) (p x : ℕ) → IsSafe n q.target.0 (Some q.deadline.0) tree p x → (r y : ℕ) → Fails q tree r y → ⊥
   cannot_fail n q (Done a) p x safe r y fails = omega (arith, safe.0, safe.2, fails.2)
   cannot_fail n q (Ride i j kids) p x safe r y fails = none_can_fail n q kids (outcomes n j) (to_of n j) (arr_of n j) safe.3 r y fails
   cannot_fail n q (Stuck place moment) p x safe r y fails = absurd safe
 
-  none_can_fail : (n : NetworkModel) (q : Query) (kids : Kids) (row : List Outcome) (p arrival : ℕ) → SafeAll n q.target.0 (Some q.deadline.0) kids row p arrival → (r y : ℕ) → FailsIn q kids r y → ⊥
+  none_can_fail : (n : NetworkModel) (q : Query) (kids : Kids) (row : List Outcome) (p arrival : ℕ) → AreSafe n q.target.0 (Some q.deadline.0) kids row p arrival → (r y : ℕ) → FailsIn q kids r y → ⊥
   none_can_fail n q Nil [] p arrival safe r y fails = fails
   none_can_fail n q Nil (o ∷ row) p arrival safe r y fails = fails
   none_can_fail n q (Kid w tree kids) [] p arrival safe r y fails = absurd safe
@@ -56,7 +56,7 @@ module _ (n : NetworkModel) (q : Query) (tables : List PlaceTable) (fit : AreFit
   next_after rides leg x = unfold_after n q.target.0 (by_place n (pick_at tables)) rides leg x
 
   abbrev SafeHere : Tree → ℕ → ℕ → Type 0
-  SafeHere tree p x = Safe n q.target.0 (Some q.deadline.0) tree p x
+  SafeHere tree p x = IsSafe n q.target.0 (Some q.deadline.0) tree p x
 
   -- the traveller cannot fail
   abbrev pub Never : Tree → Type 0
@@ -87,7 +87,7 @@ module _ (n : NetworkModel) (q : Query) (tables : List PlaceTable) (fit : AreFit
   ]
 
   kids_safe : (next : ℕ → Tree) (p scheduled : ℕ) → ((x : ℕ) → Never (next x) → SafeHere (next x) p x) → (row : List Outcome)
-      → ((r y : ℕ) → FailsIn q (kids_after next scheduled row) r y → ⊥) → SafeAll n q.target.0 (Some q.deadline.0) (kids_after next scheduled row) row p scheduled
+      → ((r y : ℕ) → FailsIn q (kids_after next scheduled row) r y → ⊥) → AreSafe n q.target.0 (Some q.deadline.0) (kids_after next scheduled row) row p scheduled
   kids_safe next p scheduled each [] never = tt
   kids_safe next p scheduled each (o ∷ row) never =
       (refl, each (scheduled + o.delay) (λ r y fails. never r y (inl fails)), kids_safe next p scheduled each row (λ r y fails. never r y (inr fails)))

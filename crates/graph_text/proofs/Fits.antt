@@ -41,7 +41,7 @@ use Rattle.graph_text.specs.Reading.{row_by_leg, row_named, row_numbers, row_in,
 use Rattle.graph_text.specs.Reading.{place_or_first, step, tables_from, no_tables, started_in, graph_in, are_in_order, is_query, is_head, head_numbers}
 use Rattle.graph_text.specs.Reading.{head_row_in, head_named, head_of_numbers, head_in, version_in, graph_of_version, graph_of_records}
 use Rattle.printed_rows.specs.Fields.{connection_of, number_of, rises, field}
-use Rattle.graph_text.specs.Asked.{IsAsked}
+use Rattle.graph_text.specs.Asked.{IsHeadOf}
 use Rattle.printed_rows.proofs.Found.{at_both}
 
 ok_same : {A : Type 0} (a b : A) → ◌≡◌ {A = Result A TextFault} (Ok a) (Ok b) → a ≡ b
@@ -390,14 +390,14 @@ head_if : (source target start from to : ℕ) (x : HeadRow) (head : Head) (test 
             x.deadline;
       };
       bounds = record { lo = x.lo; hi = x.hi };
-    }) else Err (fault.OtherQuery 1)) (Ok head) → IsAsked source target start head
+    }) else Err (fault.OtherQuery 1)) (Ok head) → IsHeadOf source target start head
 head_if source target start from to x head false asked order is = absurd (cc)
 head_if source target start from to x head true asked order is =
     let both = and_parts (nat_le x.start.0 x.deadline.0) (nat_le x.lo x.hi) order in
     let first = and_parts (from == source) ((to == target) && (x.start.0 == start)) asked in
     let second = and_parts (to == target) (x.start.0 == start) first.1 in
     let begins = eqb-true x.start.0 start second.1 in
-    let here : IsAsked source target start (record {
+    let here : IsHeadOf source target start (record {
       query =
           record { source = record { 0 = source }; target = record { 0 = target }; start = record { 0 = start }; deadline = x.deadline };
       bounds =
@@ -409,10 +409,10 @@ head_if source target start from to x head true asked order is =
       in_time = let le = leb-true x.start.0 x.deadline.0 both.0 in omega (arith, le, begins);
       bounds = leb-true x.lo x.hi both.1;
     } in
-    subst (λ (h : Head). IsAsked source target start h) (ok_same _ head is) here
+    subst (λ (h : Head). IsHeadOf source target start h) (ok_same _ head is) here
 
 head_names : (source target start : ℕ) (x : HeadRow) (from to : Option ℕ) (head : Head) → are_in_order x.start.0 x.deadline.0 x.lo x.hi ≡ true
-    → head_named source target start x from to ≡ Ok head → IsAsked source target start head
+    → head_named source target start x from to ≡ Ok head → IsHeadOf source target start head
 head_names source target start x (Some from) (Some to) head order is = head_if source target start from to x head (is_query from to x.start.0 source target start) refl order is
 head_names source target start x (Some from) None head order is = absurd (cc)
 head_names source target start x None (Some to) head order is = absurd (cc)
@@ -436,7 +436,7 @@ numbers_in_order (Some a) (Some b) None d x is = absurd (cc)
 numbers_in_order (Some a) (Some b) (Some c) None x is = absurd (cc)
 
 head_reads : (names : NameLists) (version : Version) (source target start : ℕ) (r : List (List ℕ)) (x : Option HeadRow) (head : Head)
-    → x ≡ head_row_in version r → head_of_numbers names source target start r x ≡ Ok head → IsAsked source target start head
+    → x ≡ head_row_in version r → head_of_numbers names source target start r x ≡ Ok head → IsHeadOf source target start head
 head_reads names version source target start r None head told is = absurd (cc)
 head_reads names version source target start r (Some x) head told is =
     head_names source target start x (number_of names.places (field r 2)) (number_of names.places (field r 3)) head (by_test (is_head version r) (sym told)) is
@@ -448,15 +448,15 @@ head_reads names version source target start r (Some x) head told is =
 
 -- what is read fits the network and the question
 pub told_fits : (n : NetworkModel) (names : NameLists) (source target start : ℕ) (rows : List (List (List ℕ))) (head : Head) (graph : PlanGraph)
-    → graph_of_records n names source target start rows ≡ Ok (head, graph) → IsFit n head.query graph × IsAsked source target start head
+    → graph_of_records n names source target start rows ≡ Ok (head, graph) → IsFit n head.query graph × IsHeadOf source target start head
 told_fits n names source target start [] head graph is = absurd (cc)
 told_fits n names source target start (r ∷ rs) head graph is = by_version (version_in r) is
   where
     pair_is : (a : Head) (b : PlanGraph) → ◌≡◌ {A = Result (Head × PlanGraph) TextFault} (Ok (a, b)) (Ok (head, graph)) → (a ≡ head) × (b ≡ graph)
     pair_is a b e = let both : (a, b) ≡ (head, graph) = ok_same (a, b) (head, graph) e in (ap (λ (p : Head × PlanGraph). p.0) both, ap (λ (p : Head × PlanGraph). p.1) both)
 
-    by_graph : (version : Version) (own : Head) → IsAsked source target start own → (told : Result PlanGraph TextFault) → graph_in n names version source target start rs ≡ told
-        → ◌≡◌ {A = Result (Head × PlanGraph) TextFault} (and_then told (λ g. Ok (own, g))) (Ok (head, graph)) → IsFit n head.query graph × IsAsked source target start head
+    by_graph : (version : Version) (own : Head) → IsHeadOf source target start own → (told : Result PlanGraph TextFault) → graph_in n names version source target start rs ≡ told
+        → ◌≡◌ {A = Result (Head × PlanGraph) TextFault} (and_then told (λ g. Ok (own, g))) (Ok (head, graph)) → IsFit n head.query graph × IsHeadOf source target start head
     by_graph version own asked (Err e) told is = absurd (cc)
     by_graph version own asked (Ok g) told is =
         let both = pair_is own g is in
@@ -465,16 +465,16 @@ told_fits n names source target start (r ∷ rs) head graph is = by_version (ver
         ∙ ap (λ (p : ℕ). graph_in n names version source p own.query.start.0 rs) asked.target
         ∙ ap (λ (p : ℕ). graph_in n names version source target p rs) asked.start ∙ told in
         let fit = graph_fits n names version own.query rs g same in
-        (subst (λ (h : Head). IsFit n h.query graph) both.0 (subst (λ (k : PlanGraph). IsFit n own.query k) both.1 fit), subst (λ (h : Head). IsAsked source target start h) both.0 asked)
+        (subst (λ (h : Head). IsFit n h.query graph) both.0 (subst (λ (k : PlanGraph). IsFit n own.query k) both.1 fit), subst (λ (h : Head). IsHeadOf source target start h) both.0 asked)
 
     by_head : (version : Version) (told : Result Head TextFault) → head_in names version source target start r ≡ told
         → ◌≡◌ {A = Result (Head × PlanGraph) TextFault} (and_then told
         (λ own. and_then (graph_in n names version source target start rs) (λ g. Ok (own, g)))) (Ok (head, graph)) → IsFit n head.query graph
-        × IsAsked source target start head
+        × IsHeadOf source target start head
     by_head version (Err e) told is = absurd (cc)
     by_head version (Ok own) told is = by_graph version own (head_reads names version source target start r (head_row_in version r) own refl told)
         (graph_in n names version source target start rs) refl is
 
-    by_version : (version : Option Version) → graph_of_version n names source target start r rs version ≡ Ok (head, graph) → IsFit n head.query graph × IsAsked source target start head
+    by_version : (version : Option Version) → graph_of_version n names source target start r rs version ≡ Ok (head, graph) → IsFit n head.query graph × IsHeadOf source target start head
     by_version None is = absurd (cc)
     by_version (Some version) is = by_head version (head_in names version source target start r) refl is

@@ -43,7 +43,7 @@ use Rattle.graph_text.specs.declared.reader.TableStart.{TableStart}
 use Rattle.graph_text.specs.declared.reader.TextFault.{TextFault}
 use Rattle.graph_text.specs.declared.reader.TextFault.TheVariants as fault
 use Rattle.graph_text.specs.declared.reader.Reading.{Reading}
-use Rattle.graph_text.specs.Asked.{IsAsked}
+use Rattle.graph_text.specs.Asked.{IsHeadOf}
 use Rattle.graph_text.specs.Printable.{IsPrintableQuery}
 use Rattle.graph_text.specs.Texts.{leg_fields, rows_text, start_text, tables_text, graph_text_in, graph_text}
 use Rattle.printed_rows.specs.Writers.{place_name, run_name, row_of_fields}
@@ -623,7 +623,7 @@ told_by_version n tables false leave fits = λ k d within. let t = fits k d with
 -- a graph that fits is printed, and read back
 pub reads_back : (n : NetworkModel) (names : NameLists) (source target start : ℕ) (head : Head) (graph : PlanGraph) → IsValid n → NamesFit names n
     → AreNames names → IsPrintableQuery n head.query → head.bounds.hi < 2 ^ 64
-    → IsFit n head.query graph → IsAsked source target start head → graph_of (graph_text n names head graph) n names source target start ≡ Ok (head, graph)
+    → IsFit n head.query graph → IsHeadOf source target start head → graph_of (graph_text n names head graph) n names source target start ≡ Ok (head, graph)
 reads_back n names source target start head graph valid fit own asked fits own_graph of =
     let leave = tables_leave n graph.tables in
     let back = graph_back n names (version_by leave) valid fit own head asked

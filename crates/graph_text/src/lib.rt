@@ -13,7 +13,7 @@ ghost use Rattle.plan_model.specs.declared.model.Query.{Query as QueryParts};
 ghost use Rattle.graph_text.specs.Texts.{expanded_text, expanded_text_in, graph_text, graph_text_in};
 ghost use Rattle.graph_text.specs.declared.Head.{Head as HeadParts};
 ghost use Rattle.graph_text.specs.Reading.{graph_of, IsReadAs};
-ghost use Rattle.graph_text.specs.Asked.{IsAsked};
+ghost use Rattle.graph_text.specs.Asked.{IsHeadOf};
 ghost use Rattle.graph_text.specs.Printable.{IsPrintableQuery, IsPrintable, IsPrintablePlan};
 
 mod printer;
@@ -162,5 +162,5 @@ pub fn fit_is_printable()
 pub fn read_fits()
     ensures { (n : NetworkModel) (names : NameLists) (text : Sequence ℕ) (source target start : ℕ)
         (head : HeadParts) (graph : Plan) → graph_of text n names source target start
-        ≡ Ok (head, graph) → IsFit n head.query graph × IsAsked source target start head }
+        ≡ Ok (head, graph) → IsFit n head.query graph × IsHeadOf source target start head }
 {}

@@ -11,7 +11,7 @@ use Rattle.feed_lists.specs.Lists.{HasStops, HasRoutes, HasTrips, AreSoundStops,
 use Rattle.gtfs_tables.specs.declared.times.TripTimes.{TripTimes}
 use Rattle.stop_times.specs.Bounds.{most_stop_times}
 use Rattle.trip_frequencies.specs.Bounds.{most_frequencies}
-use Rattle.table_files.specs.Required.{Records, IsSound}
+use Rattle.table_files.specs.Required.{Records, IsOfSomeTable}
 use Rattle.stop_times.specs.Timetables.{stop_times_from, AreVisits}
 use Rattle.gtfs_tables.specs.Feeds.{FeedParts}
 use Rattle.trip_frequencies.specs.Frequencies.{frequencies_from, AreFrequencies, fault_of_frequencies}
@@ -59,8 +59,8 @@ pub record AreSoundLists (l : FeedLists) : Type 0 where
 
 -- each trip has its rows, and the rows of frequencies are in the order of their trips
 pub record AreSoundTimes (l : FeedLists) (t : TripTimes) : Type 0 where
-  pub visits : IsSound (stop_times_fault l.trips.ids l.stops.ids l.stops.places.items) (λ r. HasVisits (Ok r) l t)
-  pub repeats : IsSound (fault_of_frequencies l.trips.ids) (λ r. HasRepeats (Ok r) l t)
+  pub visits : IsOfSomeTable (stop_times_fault l.trips.ids l.stops.ids l.stops.places.items) (λ r. HasVisits (Ok r) l t)
+  pub repeats : IsOfSomeTable (fault_of_frequencies l.trips.ids) (λ r. HasRepeats (Ok r) l t)
   pub size : length t.visits ≡ length l.trips.ids
   pub ordered : IsNonDecreasing t.repeats.trips.items
   pub paired : length t.repeats.rows.items ≡ length t.repeats.trips.items

@@ -7,7 +7,7 @@ ghost use Rattle.csv_rows.specs.Limits.{AreWithin, rows_of};
 ghost use Rattle.table_files.specs.Loading.{HasFeedCause, HasFeedPathCause, load_in, loaded_from};
 ghost use Rattle.csv_rows.specs.Tables.{table_of};
 ghost use Rattle.stop_times.specs.Bounds.{most_stop_times};
-ghost use Rattle.table_files.specs.Required.{required, IsSound};
+ghost use Rattle.table_files.specs.Required.{required, IsOfSomeTable};
 ghost use Rattle.stop_times.specs.Timetables.{stop_times_from, AreVisits};
 ghost use Rattle.stop_times.specs.StopTimes.{stop_times_fault};
 
@@ -64,7 +64,7 @@ pub(crate) fn load_stop_times<F: Files>(
         → stop_times_from (load_in m folder.now limits.now (unread_of f) StopTimesTable)
         trips.now stops.now.ids stops.now.places.items ≡ Err f)) }
     ensures sound { IfOk result (λ v.
-        IsSound (stop_times_fault trips.now stops.now.ids stops.now.places.items)
+        IsOfSomeTable (stop_times_fault trips.now stops.now.ids stops.now.places.items)
         (λ t. AreVisits trips.now stops.now.ids stops.now.places.items (Ok t) v)) }
     ensures few { IfOk result (λ v. (trip : ℕ) → trip < length trips.now
         → length (slice_index_or v trip []) ≤ most_stop_times) }

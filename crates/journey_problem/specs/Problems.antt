@@ -43,11 +43,11 @@ abbrev pub HasTimetable : WantedTimetable → WantedJourney → Problem → Type
 HasTimetable (CutFile path) j p = HasCutTimetable j p
 HasTimetable (FeedFolder folder horizon) j p = HasFeedTimetable horizon j p
 
-pub record IsSound (j : WantedJourney) (p : Problem) : Type 0 where
+pub record IsValidProblem (j : WantedJourney) (p : Problem) : Type 0 where
   pub valid : IsValid p.network
   pub fit : NamesFit p.names p.network
   pub timetable : HasTimetable j.timetable j p
 
 -- there is a problem of the journey, where the files are told theirs, of which this holds
 abbrev pub InProblem : Option FileMap → Limits → WantedJourney → (Problem → Type 0) → Type 0
-InProblem contents limits j P = (p : Problem) × IsSound j p × IfSome contents (λ files. IsProblem limits files j p) × P p
+InProblem contents limits j P = (p : Problem) × IsValidProblem j p × IfSome contents (λ files. IsProblem limits files j p) × P p

@@ -5,7 +5,7 @@ ghost use Rattle.command_line.specs.Shown.{journey_shown};
 ghost use Rattle.command_line.specs.Ranges.{IsJourney};
 ghost use Rattle.input_files.specs.EarlyFaults.{IsEarly};
 ghost use Rattle.input_files.specs.Files.{OwnPaths, path_of, HasCauses};
-ghost use Rattle.journey_problem.specs.Problems.{IsProblem, IsProblemFault, IsSound};
+ghost use Rattle.journey_problem.specs.Problems.{IsProblem, IsProblemFault, IsValidProblem};
 
 use crate::cut_problem::cut_problem;
 use crate::feed_problem::feed_problem;
@@ -31,7 +31,7 @@ pub fn problem_of<F: Files>(
     ensures fault { IfSome (F.files files.old) (λ m. IfErr result
         (IsProblemFault limits.now m (journey_shown journey.now))) }
     ensures early { IfErr result (IsEarly (journey_shown journey.now).timetable) }
-    ensures sound { IfOk result (IsSound (journey_shown journey.now)) }
+    ensures sound { IfOk result (IsValidProblem (journey_shown journey.now)) }
     ensures source { IfOk result (λ p. p.source.0 < length p.network.change) }
     ensures target { IfOk result (λ p. p.target.0 < length p.network.change) }
     ensures causes { (own : OwnPaths) → HasCauses (IsSome (F.files files.old))

@@ -12,7 +12,7 @@ use Rattle.plan_model.specs.NetworkModel.{NetworkModel}
 use Rattle.plan_model.specs.Network.{from_of, dep_of, outcomes}
 use Rattle.plan_model.specs.Ways.{limit_of}
 use Rattle.plan_model.specs.Tree.{Tree, Done, Ride, Stuck, Kids, Nil, Kid}
-use Rattle.plan_model.specs.Strategy.{Safe, SafeAll, SafeStart, IsSafeFor}
+use Rattle.plan_model.specs.Strategy.{IsSafe, AreSafe, IsSafeFromStart, IsSafeFor}
 use Rattle.plan_model.specs.Unfold.{end_of, arrival_of, by_place}
 use Rattle.plan_model.specs.View.{later_by, all_later_by}
 use Rattle.plan_model.proofs.Boarding.{limit_of-some, way_takes, earlier_by-is}
@@ -22,7 +22,7 @@ use Rattle.plan_graph.specs.declared.GraphRow.{GraphRow}
 use Rattle.plan_graph.specs.declared.PlaceTable.{PlaceTable}
 use Rattle.plan_graph.specs.declared.PlanGraph.{PlanGraph}
 use Rattle.plan_graph.specs.Rows.{pick_row, pick_at, rows_of_place}
-use Rattle.plan_graph.specs.Ready.{IsLegOf, Stands, StandsIn, IsFirst}
+use Rattle.plan_graph.specs.Ready.{IsLegOf, Stands, StandsIn, IsFirstInTime}
 use Rattle.plan_graph.specs.Tidy.{IsFitRow, IsFitTable, IsFitStart, IsFit, IsPickedIn, IsTidy}
 use Rattle.plan_graph.specs.Unfold.{unfold_plan}
 use Rattle.late_chance.specs.LaterGraphs.{later_row, later_table, later_graph, later_query, IsShown, LaterAlike}
@@ -80,19 +80,19 @@ rows_of_all P (t ∷ tables) p all = either (t.place.0 == p) (rows_of_place tabl
 -- a leg that stands in a safe tree is one of the network
 module _ (n : NetworkModel) (target : ℕ) (by : Option ℕ) (leg : Leg) where
   mutual
-    stands : (tree : Tree) (p x : ℕ) → Safe n target by tree p x → Stands leg tree → IsLegOf n leg
+    stands : (tree : Tree) (p x : ℕ) → IsSafe n target by tree p x → Stands leg tree → IsLegOf n leg
     stands (Done a) p x h there = absurd there
     stands (Ride i j kids) p x h (inl here) = let e = here.0 in let f = here.1 in rw (e, f) h.1
     stands (Ride i j kids) p x h (inr below) = stands_in kids (outcomes n j) _ _ h.3 below
     stands (Stuck q y) p x h there = absurd there
 
-    stands_in : (kids : Kids) (row : List Outcome) (p a : ℕ) → SafeAll n target by kids row p a → StandsIn leg kids → IsLegOf n leg
+    stands_in : (kids : Kids) (row : List Outcome) (p a : ℕ) → AreSafe n target by kids row p a → StandsIn leg kids → IsLegOf n leg
     stands_in Nil row p a h there = absurd there
     stands_in (Kid w tree kids) [] p a h there = absurd h
     stands_in (Kid w tree kids) (o ∷ os) p a h (inl here) = stands tree p (a + o.delay) h.1 here
     stands_in (Kid w tree kids) (o ∷ os) p a h (inr below) = stands_in kids os p a h.2 below
 
-  stands_start : (tree : Tree) (source x : ℕ) → SafeStart n target by tree source x → Stands leg tree → IsLegOf n leg
+  stands_start : (tree : Tree) (source x : ℕ) → IsSafeFromStart n target by tree source x → Stands leg tree → IsLegOf n leg
   stands_start (Done a) source x h there = absurd there
   stands_start (Ride i j kids) source x h (inl here) = let e = here.0 in let f = here.1 in rw (e, f) h.1
   stands_start (Ride i j kids) source x h (inr below) = stands_in kids (outcomes n j) _ _ h.3 below
@@ -110,7 +110,7 @@ mutual
   stands_in_later shift leg (Kid w tree kids) (inl here) = inl (stands_later shift leg tree here)
   stands_in_later shift leg (Kid w tree kids) (inr below) = inr (stands_in_later shift leg kids below)
 
-is_first-later : (shift : ℕ) (rows : List GraphRow) (x : ℕ) (row : GraphRow) → IsFirst rows x row → IsFirst (map (later_row shift) rows) (x + shift) (later_row shift row)
+is_first-later : (shift : ℕ) (rows : List GraphRow) (x : ℕ) (row : GraphRow) → IsFirstInTime rows x row → IsFirstInTime (map (later_row shift) rows) (x + shift) (later_row shift row)
 is_first-later shift [] x row h = absurd h
 is_first-later shift (r ∷ rows) x row (inl h) = inl (let e = h.0 in omega arith, ap (later_row shift) h.1)
 is_first-later shift (r ∷ rows) x row (inr h) = inr (let e = h.0 in omega arith, is_first-later shift rows x row h.1)
@@ -200,7 +200,8 @@ module _ (n m : NetworkModel) (shift first : ℕ) (q : Query) (shown : IsShown n
           let o = picked.1.3.0 in
           let outcome = subst (λ (os : List Outcome). Contains os o) (same_row n m shift first shown.view shown.valid q.target.0 leg is) picked.1.3.1 in
           let moment : arrival_of n leg o.delay + shift ≡ arrival_of m leg o.delay = let a = same_arrival n m shift first shown.view shown.valid q.target.0 leg is in omega arith in
-          let is_first = subst (λ (y : ℕ). IsFirst (map (later_row shift) table.rows) y (later_row shift row)) moment (is_first-later shift table.rows (arrival_of n leg o.delay) row picked.1.3.2) in
+          let is_first = subst (λ (y : ℕ). IsFirstInTime (map (later_row shift) table.rows) y (later_row shift row)) moment
+          (is_first-later shift table.rows (arrival_of n leg o.delay) row picked.1.3.2) in
           (picked.0, (leg, stands_on, ends, (o, outcome, is_first)))
 
     pub alike : IsTidy n q graph → IsSafeFor n q (unfold_plan graph n q) → LaterAlike n m shift q graph

@@ -6,7 +6,7 @@ use Rattle.std.proofs.lemmas.Bool.Decides.{nat_tests}
 use Rattle.std.proofs.lemmas.List.{length-map, get_or-map}
 use Rattle.plan_model.specs.declared.model.Connection.{Connection}
 use Rattle.plan_model.specs.NetworkModel.{NetworkModel}
-use Rattle.plan_model.specs.Network.{IsValid, IsValidConnection, IsBefore, count, connection, no_connection, dep_of, arr_of, run_of, step_of, change_of, row_of}
+use Rattle.plan_model.specs.Network.{IsValid, IsValidConnection, PrecedesByStep, count, connection, no_connection, dep_of, arr_of, run_of, step_of, change_of, row_of}
 use Rattle.plan_model.specs.View.{IsSeen, IsView}
 use Rattle.late_chance.specs.SeenFrom.{shifted_connection, shifted_parts}
 
@@ -65,7 +65,7 @@ module _ (shift start : ℕ) (m : NetworkModel) where
     arr_at : (i : ℕ) → i < count m → arr_of seen i ≡ arr_of m i - shift
     arr_at i h = ap (λ (c : Connection). c.arr.0) (at i h)
 
-    rises : (i j : ℕ) → i < j → j < count seen → IsBefore seen i j
+    rises : (i j : ℕ) → i < j → j < count seen → PrecedesByStep seen i j
     rises i j less h =
         let k = inside j h in
         let a = run_at i (omega arith) in

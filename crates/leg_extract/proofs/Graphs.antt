@@ -20,12 +20,12 @@ use Rattle.leg_walk.proofs.Lists.{contains_from_has, has_from_contains, all_at_h
 use Rattle.leg_walk.proofs.Tables.{table_away, table_there, by_for}
 use Rattle.leg_walk.proofs.Graphs.{IsKeptAfter, ready, busy, all_rides, table_of_ride, picks_taken}
 use Rattle.meat_scan.specs.Found.{Found, choice_of, leg_choice, chosen_by}
-use Rattle.meat_scan.specs.Solves.{Answers, IsAnswer, IsStartAnswer, IsSafeAt}
+use Rattle.meat_scan.specs.Solves.{Answers, SolvesEach, IsStartAnswer, IsSafeAt}
 use Rattle.leg_extract.specs.Extracted.{IsExtracted, HasArrivals}
 
 module _ {V : Type 0} {below covers : V → Tree → Type 0} {gap : V → ℕ} (n : NetworkModel) (q : Query) (found : Found V) (answers : Answers below covers gap n q found) where
   steady_by : (place arrival : ℕ) (leg : Leg) (choice : Option (V × Leg))
-      → MatchOption choice ((tree : Tree) → IsSafeAt n q place arrival tree → ⊥) (IsAnswer below covers gap n q found place arrival)
+      → MatchOption choice ((tree : Tree) → IsSafeAt n q place arrival tree → ⊥) (SolvesEach below covers gap n q found place arrival)
       → option_map (λ c. c.1) choice ≡ Some leg → IsKept n (leg_choice found) place arrival leg
   steady_by place arrival leg None answer is = absurd (cc)
   steady_by place arrival leg (Some choice) answer is = let one : choice.1 ≡ leg = (cc) in subst (λ (l : Leg). IsKept n (leg_choice found) place arrival l) one answer.kept

@@ -13,7 +13,7 @@ use Rattle.plan_graph.specs.declared.GraphRow.{GraphRow}
 use Rattle.plan_graph.specs.declared.Ride.{Ride}
 use Rattle.plan_graph.specs.declared.ExpandedGraph.{ExpandedGraph}
 use Rattle.plan_graph.specs.Rows.{pick_row}
-use Rattle.plan_graph.specs.Ready.{IsLegOf, IsReady, IsReadyRide, IsReadyRow, IsBefore, IsBusy, IsPickedAfter, IsSafeForSome, IsFirst, Stands, pick_in_time}
+use Rattle.plan_graph.specs.Ready.{IsLegOf, IsReady, IsReadyRide, IsReadyRow, MayPrecede, IsBusy, IsPickedAfter, IsSafeForSome, IsFirstInTime, Stands, pick_in_time}
 use Rattle.leg_walk.specs.Tables.{row_by, table_of}
 use Rattle.leg_walk.specs.Placed.{Has}
 use Rattle.leg_walk.specs.Walked.{IsWalked}
@@ -53,9 +53,9 @@ module _ (n : NetworkModel) (valid : IsValid n) (q : Query) (choice : Leg → �
 
     -- the first row at an outcome's arrival is what is chosen
     pub first_row : end_of n r.leg ≢ target → (o : Outcome) → Has (outcomes_of n r.leg) o → (next : Leg)
-        → choice r.leg (arrival_of n r.leg o.delay) ≡ Some next → IsFirst r.after (arrival_of n r.leg o.delay) (row_by (arrival_of n r.leg o.delay) next)
+        → choice r.leg (arrival_of n r.leg o.delay) ≡ Some next → IsFirstInTime r.after (arrival_of n r.leg o.delay) (row_by (arrival_of n r.leg o.delay) next)
     first_row away o has next is =
-        subst (λ (list : List GraphRow). IsFirst list (arrival_of n r.leg o.delay) (row_by (arrival_of n r.leg o.delay) next)) (sym (table_of_ride r there))
+        subst (λ (list : List GraphRow). IsFirstInTime list (arrival_of n r.leg o.delay) (row_by (arrival_of n r.leg o.delay) next)) (sym (table_of_ride r there))
         (first_in_table n target choice r.leg delays away o has next is)
 
     -- and what is picked
@@ -78,7 +78,7 @@ module _ (n : NetworkModel) (valid : IsValid n) (q : Query) (choice : Leg → �
           (
             m.o,
             contains_from_has (outcomes_of n r.leg) m.o m.has,
-            subst (λ (w : GraphRow). IsFirst r.after x w) (sym m.is) (first_row at.away m.o m.has m.next m.is_chosen),
+            subst (λ (w : GraphRow). IsFirstInTime r.after x w) (sym m.is) (first_row at.away m.o m.has m.next m.is_chosen),
           ),
         )
 
@@ -104,10 +104,10 @@ module _ (n : NetworkModel) (valid : IsValid n) (q : Query) (choice : Leg → �
           } in
           subst (λ (w : GraphRow). IsReadyRow n (end_of n r.leg) w) (sym m.is) here
 
-      rows_rise : Later (IsBefore n (end_of n r.leg)) (table_of n target choice r.leg)
+      rows_rise : Later (MayPrecede n (end_of n r.leg)) (table_of n target choice r.leg)
       rows_rise = elim (cases_eq (end_of n r.leg) target) [
-        | inl is ↦ subst (λ (list : List GraphRow). Later (IsBefore n (end_of n r.leg)) list) (sym (table_there n target choice r.leg is)) tt
-        | inr away ↦ subst (λ (list : List GraphRow). Later (IsBefore n (end_of n r.leg)) list) (sym (table_away n target choice r.leg away))
+        | inl is ↦ subst (λ (list : List GraphRow). Later (MayPrecede n (end_of n r.leg)) list) (sym (table_there n target choice r.leg is)) tt
+        | inr away ↦ subst (λ (list : List GraphRow). Later (MayPrecede n (end_of n r.leg)) list) (sym (table_away n target choice r.leg away))
             (before_for (choice r.leg) (arr_of n r.leg.exit.0) n (end_of n r.leg) (outcomes_of n r.leg) delays (each away))
       ]
 
@@ -125,8 +125,8 @@ module _ (n : NetworkModel) (valid : IsValid n) (q : Query) (choice : Leg → �
       ready_ride = record {
         is_leg = leg_of_ride r there;
         rows = all_from_has (IsReadyRow n (end_of n r.leg)) r.after ready_row;
-        rising = subst (λ (list : List GraphRow). AllPairs (IsBefore n (end_of n r.leg)) list) (sym (table_of_ride r there))
-            (pairs_from_later (IsBefore n (end_of n r.leg)) (table_of n target choice r.leg) rows_rise);
+        rising = subst (λ (list : List GraphRow). AllPairs (MayPrecede n (end_of n r.leg)) list) (sym (table_of_ride r there))
+            (pairs_from_later (MayPrecede n (end_of n r.leg)) (table_of n target choice r.leg) rows_rise);
         picks = picks_first;
       }
 

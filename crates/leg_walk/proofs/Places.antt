@@ -6,23 +6,23 @@ use Rattle.plan_model.specs.declared.model.Outcome.{Outcome}
 use Rattle.plan_model.specs.NetworkModel.{NetworkModel}
 use Rattle.plan_model.specs.Network.{arr_of}
 use Rattle.plan_model.specs.Tree.{Tree, Stuck}
-use Rattle.plan_model.specs.Strategy.{IsBoardable, Safe, SafeAll}
+use Rattle.plan_model.specs.Strategy.{IsBoardable, IsSafe, AreSafe}
 use Rattle.plan_model.specs.Unfold.{end_of, arrival_of, outcomes_of, kids_after, ride_or_stuck, unfold_after}
 use Rattle.plan_graph.specs.Ready.{Stands, StandsIn}
-use Rattle.leg_walk.specs.Placed.{Has, IsPlaced}
+use Rattle.leg_walk.specs.Placed.{Has, StandsSafely}
 
 -- the leg that is chosen after a leg that arrives at a moment is placed
 pub record IsPlacedNext (n : NetworkModel) (target : ℕ) (by : Option ℕ) (choice : Leg → ℕ → Option Leg) (whole : Tree) (leg : Leg) (arrival : ℕ) : Type 0 where
   pub next : Leg
   pub is_chosen : choice leg arrival ≡ Some next
   pub boards : IsBoardable n (end_of n leg) arrival next.enter.0
-  pub placed : IsPlaced n target by choice whole next
+  pub placed : StandsSafely n target by choice whole next
 
 module _ (n : NetworkModel) (target : ℕ) (by : Option ℕ) (choice : Leg → ℕ → Option Leg) where
-  pub safe_kid : (f : ℕ → Tree) (row : List Outcome) (place scheduled : ℕ) → SafeAll n target by (kids_after f scheduled row) row place scheduled
-      → (o : Outcome) → Has row o → Safe n target by (f (scheduled + o.delay)) place (scheduled + o.delay)
+  pub safe_kid : (f : ℕ → Tree) (row : List Outcome) (place scheduled : ℕ) → AreSafe n target by (kids_after f scheduled row) row place scheduled
+      → (o : Outcome) → Has row o → IsSafe n target by (f (scheduled + o.delay)) place (scheduled + o.delay)
   safe_kid f [] place scheduled safe o has = absurd has
-  safe_kid f (head ∷ row) place scheduled safe o (inl is) = subst (λ (u : Outcome). Safe n target by (f (scheduled + u.delay)) place (scheduled + u.delay)) (sym is) safe.1
+  safe_kid f (head ∷ row) place scheduled safe o (inl is) = subst (λ (u : Outcome). IsSafe n target by (f (scheduled + u.delay)) place (scheduled + u.delay)) (sym is) safe.1
   safe_kid f (head ∷ row) place scheduled safe o (inr has) = safe_kid f row place scheduled safe.2 o has
 
   pub stands_kid : (f : ℕ → Tree) (row : List Outcome) (scheduled : ℕ) (other : Leg) (o : Outcome) → Has row o → Stands other (f (scheduled + o.delay)) → StandsIn other (kids_after f scheduled row)
@@ -31,7 +31,7 @@ module _ (n : NetworkModel) (target : ℕ) (by : Option ℕ) (choice : Leg → �
   stands_kid f (head ∷ row) scheduled other o (inr has) stands = inr (stands_kid f row scheduled other o has stands)
 
   next_by : (whole : Tree) (rides : ℕ) (leg : Leg) (arrival : ℕ) (found : Option Leg) → choice leg arrival ≡ found
-      → Safe n target by (ride_or_stuck n (unfold_after n target choice rides) found (end_of n leg) arrival) (end_of n leg) arrival
+      → IsSafe n target by (ride_or_stuck n (unfold_after n target choice rides) found (end_of n leg) arrival) (end_of n leg) arrival
       → ((other : Leg) → Stands other (ride_or_stuck n (unfold_after n target choice rides) found (end_of n leg) arrival) → Stands other whole)
       → IsPlacedNext n target by choice whole leg arrival
   next_by whole rides leg arrival None is safe stands = absurd safe
@@ -49,21 +49,21 @@ module _ (n : NetworkModel) (target : ℕ) (by : Option ℕ) (choice : Leg → �
   }
 
   next_at : (whole : Tree) (rides : ℕ) (leg : Leg) (arrival : ℕ) → end_of n leg ≢ target
-      → Safe n target by (unfold_after n target choice rides leg arrival) (end_of n leg) arrival
+      → IsSafe n target by (unfold_after n target choice rides leg arrival) (end_of n leg) arrival
       → ((other : Leg) → Stands other (unfold_after n target choice rides leg arrival) → Stands other whole) → IsPlacedNext n target by choice whole leg arrival
   next_at whole zero leg arrival away safe stands =
       let place = end_of n leg in
       let is : unfold_after n target choice 0 leg arrival ≡ Stuck place arrival = rw (ne_eqb place target away) in
-      absurd (subst (λ (tree : Tree). Safe n target by tree place arrival) is safe)
+      absurd (subst (λ (tree : Tree). IsSafe n target by tree place arrival) is safe)
   next_at whole (suc rides) leg arrival away safe stands =
       let place = end_of n leg in
       let is : unfold_after n target choice (suc rides) leg arrival ≡ ride_or_stuck n (unfold_after n target choice rides) (choice leg arrival) place arrival = rw (ne_eqb place target away) in
       next_by whole rides leg arrival (choice leg arrival) refl
-      (subst (λ (tree : Tree). Safe n target by tree place arrival) is safe)
+      (subst (λ (tree : Tree). IsSafe n target by tree place arrival) is safe)
       (λ other there. stands other (subst (λ (tree : Tree). Stands other tree) (sym is) there))
 
   -- after each outcome of a placed leg a placed leg is chosen
-  pub next_after : (whole : Tree) (leg : Leg) → IsPlaced n target by choice whole leg → end_of n leg ≢ target → (o : Outcome)
+  pub next_after : (whole : Tree) (leg : Leg) → StandsSafely n target by choice whole leg → end_of n leg ≢ target → (o : Outcome)
       → Has (outcomes_of n leg) o → IsPlacedNext n target by choice whole leg (arrival_of n leg o.delay)
   next_after whole leg placed away o has =
       let f = unfold_after n target choice placed.rides leg in

@@ -9,12 +9,12 @@ use Rattle.plan_model.specs.declared.model.Query.{Query}
 use Rattle.plan_model.specs.NetworkModel.{NetworkModel}
 use Rattle.plan_model.specs.Network.{count}
 use Rattle.plan_model.specs.Tree.{Tree}
-use Rattle.plan_model.specs.Strategy.{SafeStart}
+use Rattle.plan_model.specs.Strategy.{IsSafeFromStart}
 use Rattle.plan_model.specs.Unfold.{arrival_of, ride_of, unfold_after, unfolded}
 use Rattle.plan_graph.specs.declared.GraphRow.{GraphRow}
 use Rattle.plan_graph.specs.Ready.{IsSafeForSome, Stands}
 use Rattle.leg_walk.specs.Tables.{table_of, leg_cmp, with_leg}
-use Rattle.leg_walk.specs.Placed.{Has, IsPlaced}
+use Rattle.leg_walk.specs.Placed.{Has, StandsSafely}
 use Rattle.leg_walk.proofs.Lists.{has_append, has_append_right, has_split, has_map, has_from_map}
 use Rattle.leg_walk.proofs.Sets.{kept_with, there_with, only_with, there_if}
 use Rattle.leg_walk.proofs.Orders.{leg_equal}
@@ -27,7 +27,7 @@ Known todo seen leg = Has todo leg ⊎ Has seen leg
 
 pub record IsReaching (n : NetworkModel) (target : ℕ) (by : Option ℕ) (choice : Leg → ℕ → Option Leg) (whole : Tree) (start : Leg) (todo : List Leg) (seen : List Leg) : Type 0 where
   pub start_known : Known todo seen start
-  pub placed : (leg : Leg) → Known todo seen leg → IsPlaced n target by choice whole leg
+  pub placed : (leg : Leg) → Known todo seen leg → StandsSafely n target by choice whole leg
   pub closed : (leg : Leg) → Has seen leg → (row : GraphRow) → Has (table_of n target choice leg) row → Known todo seen row.leg
 
 -- the tree of a choice begins with its start leg
@@ -36,10 +36,10 @@ pub starts_by : (n : NetworkModel) (q : Query) (choice : Leg → ℕ → Option 
 starts_by n q choice start differ = rw (ne_eqb q.source.0 q.target.0 differ) refl
 
 pub start_placed : (n : NetworkModel) (q : Query) (choice : Leg → ℕ → Option Leg) (start : Leg) → q.source.0 ≢ q.target.0
-    → (safe : IsSafeForSome n q (unfolded n q choice (Some start))) → IsPlaced n q.target.0 (Some safe.0) choice (unfolded n q choice (Some start)) start
+    → (safe : IsSafeForSome n q (unfolded n q choice (Some start))) → StandsSafely n q.target.0 (Some safe.0) choice (unfolded n q choice (Some start)) start
 start_placed n q choice start differ safe =
     let begins = starts_by n q choice start differ in
-    let own = subst (λ (tree : Tree). SafeStart n q.target.0 (Some safe.0) tree q.source.0 q.start.0) begins safe.1 in
+    let own = subst (λ (tree : Tree). IsSafeFromStart n q.target.0 (Some safe.0) tree q.source.0 q.start.0) begins safe.1 in
     record {
       is_leg = own.1;
       rides = count n - 1;
@@ -50,32 +50,32 @@ start_placed n q choice start differ safe =
 
 module _ (n : NetworkModel) (target : ℕ) (by : Option ℕ) (choice : Leg → ℕ → Option Leg) (whole : Tree) where
   -- the leg of a row of a placed leg's table is placed
-  pub placed_row : (leg : Leg) → IsPlaced n target by choice whole leg → (row : GraphRow) → Has (table_of n target choice leg) row → IsPlaced n target by choice whole row.leg
+  pub placed_row : (leg : Leg) → StandsSafely n target by choice whole leg → (row : GraphRow) → Has (table_of n target choice leg) row → StandsSafely n target by choice whole row.leg
   placed_row leg placed row has =
       let at = table_row n target choice leg row has in
       let m = at.from_outcome in
       let t = next_after n target by choice whole leg placed at.away m.o m.has in
       let one : t.next ≡ m.next = same_next (choice leg (arrival_of n leg m.o.delay)) t.next m.next t.is_chosen m.is_chosen in
-      subst (λ (l : Leg). IsPlaced n target by choice whole l) (one ∙ ap (λ (r : GraphRow). r.leg) (sym m.is)) t.placed
+      subst (λ (l : Leg). StandsSafely n target by choice whole l) (one ∙ ap (λ (r : GraphRow). r.leg) (sym m.is)) t.placed
 
   module _ (start : Leg) where
-    pub begin : IsPlaced n target by choice whole start → IsReaching n target by choice whole start (start ∷ []) []
+    pub begin : StandsSafely n target by choice whole start → IsReaching n target by choice whole start (start ∷ []) []
     begin placed = record {
       start_known = inl (inl refl);
       placed = λ leg known. only_start leg known;
       closed = λ leg has row there. absurd has;
     }
       where
-        only_start : (leg : Leg) → Known (start ∷ []) [] leg → IsPlaced n target by choice whole leg
-        only_start leg (inl (inl is)) = subst (λ (l : Leg). IsPlaced n target by choice whole l) (sym is) placed
+        only_start : (leg : Leg) → Known (start ∷ []) [] leg → StandsSafely n target by choice whole leg
+        only_start leg (inl (inl is)) = subst (λ (l : Leg). StandsSafely n target by choice whole l) (sym is) placed
         only_start leg (inl (inr has)) = absurd has
         only_start leg (inr has) = absurd has
 
     module _ (todo after : List Leg) (seen : List Leg) (leg : Leg) (old : IsReaching n target by choice whole start (todo ++ leg ∷ []) seen)
         (keeps : (l : Leg) → Has todo l → Has after l)
-        (only : (l : Leg) → Has after l → Has todo l ⊎ IsPlaced n target by choice whole l)
+        (only : (l : Leg) → Has after l → Has todo l ⊎ StandsSafely n target by choice whole l)
         (leg_closed : (row : GraphRow) → Has (table_of n target choice leg) row → Has after row.leg ⊎ Known (todo ++ leg ∷ []) seen row.leg) where
-      leg_placed : IsPlaced n target by choice whole leg
+      leg_placed : StandsSafely n target by choice whole leg
       leg_placed = old.placed leg (inl (has_append_right todo (leg ∷ []) leg (inl refl)))
 
       known_on : (l : Leg) → Known (todo ++ leg ∷ []) seen l → Known after (with_leg seen leg) l
@@ -89,14 +89,14 @@ module _ (n : NetworkModel) (target : ℕ) (by : Option ℕ) (choice : Leg → �
           is_leg (inr none_left) = absurd none_left
       known_on l (inr has) = inr (kept_with leg_cmp leg_equal seen leg l has)
 
-      all_placed : (l : Leg) → Known after (with_leg seen leg) l → IsPlaced n target by choice whole l
+      all_placed : (l : Leg) → Known after (with_leg seen leg) l → StandsSafely n target by choice whole l
       all_placed l (inl has) = elim (only l has) [
         | inl a ↦ old.placed l (inl (has_append todo (leg ∷ []) l a))
         | inr b ↦ b
       ]
       all_placed l (inr has) = elim (only_with leg_cmp leg_equal seen leg l has) [
         | inl a ↦ old.placed l (inr a)
-        | inr is ↦ subst (λ (z : Leg). IsPlaced n target by choice whole z) (sym is) leg_placed
+        | inr is ↦ subst (λ (z : Leg). StandsSafely n target by choice whole z) (sym is) leg_placed
       ]
 
       all_closed : (l : Leg) → Has (with_leg seen leg) l → (row : GraphRow) → Has (table_of n target choice l) row → Known after (with_leg seen leg) row.leg
@@ -125,7 +125,7 @@ module _ (n : NetworkModel) (target : ℕ) (by : Option ℕ) (choice : Leg → �
         (λ l has. elim (has_split todo legs l (subst (λ (list : List Leg). Has list l) more has)) [
           | inl a ↦ inl a
           | inr b ↦ let found = has_from_map (λ (row : GraphRow). row.leg) (table_of n target choice leg) l b in
-              inr (subst (λ (z : Leg). IsPlaced n target by choice whole z) (sym found.2) (placed_row leg placed found.0 found.1))
+              inr (subst (λ (z : Leg). StandsSafely n target by choice whole z) (sym found.2) (placed_row leg placed found.0 found.1))
         ])
         (λ row has. inl (subst (λ (list : List Leg). Has list row.leg) (sym more) (has_append_right todo legs row.leg (has_map (λ (r : GraphRow). r.leg) (table_of n target choice leg) row has))))
 

@@ -11,7 +11,7 @@ use Rattle.plan_model.specs.Ways.{limit_of}
 use Rattle.plan_model.specs.Unfold.{end_of, outcomes_of}
 use Rattle.plan_graph.specs.declared.GraphRow.{GraphRow}
 use Rattle.plan_graph.specs.Rows.{pick_row}
-use Rattle.plan_graph.specs.Ready.{IsFirst, IsBefore, is_within, pick_in_time}
+use Rattle.plan_graph.specs.Ready.{IsFirstInTime, MayPrecede, is_within, pick_in_time}
 use Rattle.leg_walk.specs.Tables.{row_by, with_row, rows_for, table_of}
 use Rattle.leg_walk.specs.Placed.{Has}
 use Rattle.leg_walk.proofs.Lists.{Later}
@@ -27,13 +27,13 @@ same_next found a b one other = some_same a b (sym one ∙ other)
 pub same_limit : (found : Option ℕ) (a b : ℕ) → found ≡ Some a → found ≡ Some b → a ≡ b
 same_limit found a b one other = let both = sym one ∙ other in cc
 
-pub first_pick : (rows : List GraphRow) (x : ℕ) (row : GraphRow) → IsFirst rows x row → pick_row rows x ≡ Some row.leg
+pub first_pick : (rows : List GraphRow) (x : ℕ) (row : GraphRow) → IsFirstInTime rows x row → pick_row rows x ≡ Some row.leg
 first_pick [] x row f = absurd f
 first_pick (head ∷ rows) x row (inl both) = let before = both.0 in let e : pick_row (head ∷ rows) x ≡ Some head.leg = grind (arith, nat_tests) in e ∙ ap (λ (r : GraphRow). Some r.leg) (sym both.1)
 first_pick (head ∷ rows) x row (inr both) = let after = both.0 in let e : pick_row (head ∷ rows) x ≡ pick_row rows x = grind (arith, nat_tests) in e ∙ first_pick rows x row both.1
 
 -- the first row is there, and not before the moment
-pub first_there : (rows : List GraphRow) (x : ℕ) (row : GraphRow) → IsFirst rows x row → (x ≤ row.by.0) × Has rows row
+pub first_there : (rows : List GraphRow) (x : ℕ) (row : GraphRow) → IsFirstInTime rows x row → (x ≤ row.by.0) × Has rows row
 first_there [] x row first = absurd first
 first_there (head ∷ rows) x row (inl both) = (subst (λ (r : GraphRow). x ≤ r.by.0) (sym both.1) both.0, inl both.1)
 first_there (head ∷ rows) x row (inr both) = let more = first_there rows x row both.1 in (more.0, inr more.1)
@@ -101,20 +101,20 @@ module _ (choice : ℕ → Option Leg) (scheduled : ℕ) where
 
   -- the table's rows are picked at their own arrivals
   pub first_for : (os : List Outcome) → Later (λ a b. a.delay < b.delay) os → (o : Outcome) → Has os o → (leg : Leg)
-      → choice (scheduled + o.delay) ≡ Some leg → IsFirst (rows_for choice scheduled os) (scheduled + o.delay) (row_by (scheduled + o.delay) leg)
+      → choice (scheduled + o.delay) ≡ Some leg → IsFirstInTime (rows_for choice scheduled os) (scheduled + o.delay) (row_by (scheduled + o.delay) leg)
   first_for [] rising o has leg is = absurd has
   first_for (head ∷ os) rising o (inl same) leg is =
       let here : choice (scheduled + head.delay) ≡ Some leg = subst (λ (u : Outcome). choice (scheduled + u.delay) ≡ Some leg) same is in
-      let first : IsFirst (row_by (scheduled + head.delay) leg ∷ rows_for choice scheduled os) (scheduled + head.delay) (row_by (scheduled + head.delay) leg) = inl (omega arith, refl) in
-      let at_head : IsFirst (rows_for choice scheduled (head ∷ os)) (scheduled + head.delay) (row_by (scheduled + head.delay) leg) =
-      subst (λ (list : List GraphRow). IsFirst list (scheduled + head.delay) (row_by (scheduled + head.delay) leg)) (sym (head_row head os (Some leg) here)) first in
-      subst (λ (u : Outcome). IsFirst (rows_for choice scheduled (head ∷ os)) (scheduled + u.delay) (row_by (scheduled + u.delay) leg)) (sym same) at_head
+      let first : IsFirstInTime (row_by (scheduled + head.delay) leg ∷ rows_for choice scheduled os) (scheduled + head.delay) (row_by (scheduled + head.delay) leg) = inl (omega arith, refl) in
+      let at_head : IsFirstInTime (rows_for choice scheduled (head ∷ os)) (scheduled + head.delay) (row_by (scheduled + head.delay) leg) =
+      subst (λ (list : List GraphRow). IsFirstInTime list (scheduled + head.delay) (row_by (scheduled + head.delay) leg)) (sym (head_row head os (Some leg) here)) first in
+      subst (λ (u : Outcome). IsFirstInTime (rows_for choice scheduled (head ∷ os)) (scheduled + u.delay) (row_by (scheduled + u.delay) leg)) (sym same) at_head
   first_for (head ∷ os) rising o (inr has) leg is =
-      subst (λ (list : List GraphRow). IsFirst list (scheduled + o.delay) (row_by (scheduled + o.delay) leg)) (sym (head_row head os (choice (scheduled + head.delay)) refl))
+      subst (λ (list : List GraphRow). IsFirstInTime list (scheduled + o.delay) (row_by (scheduled + o.delay) leg)) (sym (head_row head os (choice (scheduled + head.delay)) refl))
       (by_found (choice (scheduled + head.delay)) (first_for os rising.1 o has leg is))
     where
-      by_found : (found : Option Leg) → IsFirst (rows_for choice scheduled os) (scheduled + o.delay) (row_by (scheduled + o.delay) leg)
-          → IsFirst (with_row (scheduled + head.delay) found (rows_for choice scheduled os)) (scheduled + o.delay) (row_by (scheduled + o.delay) leg)
+      by_found : (found : Option Leg) → IsFirstInTime (rows_for choice scheduled os) (scheduled + o.delay) (row_by (scheduled + o.delay) leg)
+          → IsFirstInTime (with_row (scheduled + head.delay) found (rows_for choice scheduled os)) (scheduled + o.delay) (row_by (scheduled + o.delay) leg)
       by_found None more = more
       by_found (Some other) more = inr (omega (arith, rising.0 o has), more)
 
@@ -147,7 +147,7 @@ module _ (choice : ℕ → Option Leg) (scheduled : ℕ) where
 
     before_row : (os : List Outcome) (x : ℕ) (c : IsChosenAt n place choice scheduled os x) (o : Outcome) → Has os o → x < scheduled + o.delay
         → IsChosenAt n place choice scheduled os (scheduled + o.delay) → (next : Leg) → choice (scheduled + o.delay) ≡ Some next
-        → IsBefore n place (row_by x c.next) (row_by (scheduled + o.delay) next)
+        → MayPrecede n place (row_by x c.next) (row_by (scheduled + o.delay) next)
     before_row os x c o has later other next is =
         let two : other.next ≡ next = same_next (choice (scheduled + o.delay)) other.next next other.is_chosen is in
         let its : limit_of n place next ≡ Some other.limit = ap (limit_of n place) (sym two) ∙ other.is_limit in
@@ -173,17 +173,17 @@ module _ (choice : ℕ → Option Leg) (scheduled : ℕ) where
 
     -- the table's rows stand as they may
     pub before_for : (os : List Outcome) → Later (λ a b. a.delay < b.delay) os
-        → ((o : Outcome) → Has os o → IsChosenAt n place choice scheduled os (scheduled + o.delay)) → Later (IsBefore n place) (rows_for choice scheduled os)
+        → ((o : Outcome) → Has os o → IsChosenAt n place choice scheduled os (scheduled + o.delay)) → Later (MayPrecede n place) (rows_for choice scheduled os)
     before_for [] rising each = tt
     before_for (head ∷ os) rising each =
         let c = each head (inl refl) in
-        let first : (y : GraphRow) → Has (rows_for choice scheduled os) y → IsBefore n place (row_by (scheduled + head.delay) c.next) y = λ y has.
+        let first : (y : GraphRow) → Has (rows_for choice scheduled os) y → MayPrecede n place (row_by (scheduled + head.delay) c.next) y = λ y has.
         let m = member os y has in
-        subst (λ (z : GraphRow). IsBefore n place (row_by (scheduled + head.delay) c.next) z) (sym m.is)
+        subst (λ (z : GraphRow). MayPrecede n place (row_by (scheduled + head.delay) c.next) z) (sym m.is)
         (before_row (head ∷ os) (scheduled + head.delay) c m.o (inr m.has) (omega (arith, rising.0 m.o m.has)) (each m.o (inr m.has)) m.next m.is_chosen) in
-        let all : Later (IsBefore n place) (row_by (scheduled + head.delay) c.next ∷ rows_for choice scheduled os) =
+        let all : Later (MayPrecede n place) (row_by (scheduled + head.delay) c.next ∷ rows_for choice scheduled os) =
         (first, before_for os rising.1 (λ u h. fewer head os (scheduled + u.delay) (each u (inr h)))) in
-        subst (λ (list : List GraphRow). Later (IsBefore n place) list) (sym (head_row head os (Some c.next) c.is_chosen)) all
+        subst (λ (list : List GraphRow). Later (MayPrecede n place) list) (sym (head_row head os (Some c.next) c.is_chosen)) all
 
   -- one row for each outcome, by its arrival, where a leg is chosen after each
   pub by_for : (os : List Outcome) → ((o : Outcome) → Has os o → (leg : Leg) × (choice (scheduled + o.delay) ≡ Some leg))
@@ -218,7 +218,7 @@ module _ (n : NetworkModel) (target : ℕ) (choice : Leg → ℕ → Option Leg)
   -- the table picks what is chosen after an outcome
   pub first_in_table : Later (λ a b. a.delay < b.delay) (outcomes_of n leg) → end_of n leg ≢ target → (o : Outcome) → Has (outcomes_of n leg) o
       → (next : Leg) → choice leg (arr_of n leg.exit.0 + o.delay) ≡ Some next
-      → IsFirst (table_of n target choice leg) (arr_of n leg.exit.0 + o.delay) (row_by (arr_of n leg.exit.0 + o.delay) next)
+      → IsFirstInTime (table_of n target choice leg) (arr_of n leg.exit.0 + o.delay) (row_by (arr_of n leg.exit.0 + o.delay) next)
   first_in_table rising away o has next is =
-      subst (λ (list : List GraphRow). IsFirst list (arr_of n leg.exit.0 + o.delay) (row_by (arr_of n leg.exit.0 + o.delay) next)) (sym (table_away away))
+      subst (λ (list : List GraphRow). IsFirstInTime list (arr_of n leg.exit.0 + o.delay) (row_by (arr_of n leg.exit.0 + o.delay) next)) (sym (table_away away))
       (first_for (choice leg) (arr_of n leg.exit.0) (outcomes_of n leg) rising o has next is)

@@ -17,7 +17,7 @@ use Rattle.plan_graph.specs.Rows.{pick_row, rows_after, pick_after, Precedes}
 use Rattle.plan_graph.specs.Ready.{IsLegOf, Stands}
 use Rattle.plan_graph.proofs.Searches.{leg_test, leg_tested}
 use Rattle.leg_walk.specs.Tables.{row_by, table_of, ride_of_leg, leg_cmp}
-use Rattle.leg_walk.specs.Placed.{Has, IsPlaced, IsReached}
+use Rattle.leg_walk.specs.Placed.{Has, StandsSafely, IsReached}
 use Rattle.leg_walk.specs.Walked.{IsWalked, IsTaken, HasRideOf}
 use Rattle.leg_walk.proofs.Lists.{Later, later_from_pairs, has_from_map, has_map, contains_from_has, has_from_contains, all_from_has, pairs_from_later}
 use Rattle.leg_walk.proofs.Sets.{rising_keys}
@@ -64,7 +64,7 @@ module _ (n : NetworkModel) (valid : IsValid n) (q : Query) (choice : Leg → �
   abbrev rides : List Ride
   rides = map (ride_of_leg n target choice) legs
 
-  placed : (leg : Leg) → Has legs leg → IsPlaced n target reached.deadline choice whole leg
+  placed : (leg : Leg) → Has legs leg → StandsSafely n target reached.deadline choice whole leg
   placed = reached.placed
 
   next : (leg : Leg) → Has legs leg → end_of n leg ≢ target → (o : Outcome) → Has (outcomes_of n leg) o → IsPlacedNext n target reached.deadline choice whole leg (arrival_of n leg o.delay)

@@ -5,7 +5,7 @@ use Rattle.plan_model.specs.declared.model.Leg.{Leg}
 use Rattle.plan_model.specs.NetworkModel.{NetworkModel}
 use Rattle.plan_model.specs.Network.{arr_of}
 use Rattle.plan_model.specs.Tree.{Tree, Kids}
-use Rattle.plan_model.specs.Strategy.{SafeAll}
+use Rattle.plan_model.specs.Strategy.{AreSafe}
 use Rattle.plan_model.specs.Unfold.{end_of, outcomes_of, kids_after, unfold_after}
 use Rattle.plan_graph.specs.declared.GraphRow.{GraphRow}
 use Rattle.plan_graph.specs.Ready.{IsLegOf, Stands, StandsIn}
@@ -21,10 +21,10 @@ abbrev pub kids_of : NetworkModel → ℕ → (Leg → ℕ → Option Leg) → �
 kids_of network target choice rides leg = kids_after (unfold_after network target choice rides leg) (arr_of network leg.exit.0) (outcomes_of network leg)
 
 -- the leg's ride stands in a tree, and what is done after it is safe
-pub record IsPlaced (network : NetworkModel) (target : ℕ) (deadline : Option ℕ) (choice : Leg → ℕ → Option Leg) (whole : Tree) (leg : Leg) : Type 0 where
+pub record StandsSafely (network : NetworkModel) (target : ℕ) (deadline : Option ℕ) (choice : Leg → ℕ → Option Leg) (whole : Tree) (leg : Leg) : Type 0 where
   pub is_leg : IsLegOf network leg
   pub rides : ℕ
-  pub safe : SafeAll network target deadline (kids_of network target choice rides leg) (outcomes_of network leg) (end_of network leg) (arr_of network leg.exit.0)
+  pub safe : AreSafe network target deadline (kids_of network target choice rides leg) (outcomes_of network leg) (end_of network leg) (arr_of network leg.exit.0)
   pub stands : Stands leg whole
   pub below : (other : Leg) → StandsIn other (kids_of network target choice rides leg) → Stands other whole
 
@@ -32,6 +32,6 @@ pub record IsPlaced (network : NetworkModel) (target : ℕ) (deadline : Option �
 pub record IsReached (network : NetworkModel) (target : ℕ) (choice : Leg → ℕ → Option Leg) (whole : Tree) (start : Leg) (legs : List Leg) : Type 0 where
   pub deadline : Option ℕ
   pub start_there : Has legs start
-  pub placed : (leg : Leg) → Has legs leg → IsPlaced network target deadline choice whole leg
+  pub placed : (leg : Leg) → Has legs leg → StandsSafely network target deadline choice whole leg
   pub closed : (leg : Leg) → Has legs leg → (row : GraphRow) → Has (table_of network target choice leg) row → Has legs row.leg
   pub ordered : IsStrictlySortedBy leg_cmp legs

@@ -8,7 +8,7 @@ use Rattle.plan_model.specs.Network.{IsValid}
 use Rattle.plan_model.specs.Tree.{Tree, Done}
 use Rattle.plan_model.specs.Strategy.{IsLeg, IsBoardableAtStart, IsSafeFor}
 use Rattle.lower_proof.specs.Certificates.{value_of, IsLeastOf, Offers, IsLeastAtStart, IsVia, IsAtMost, IsAccepted, IsTight, arrived_by}
-use Rattle.lower_proof.specs.Promises.{IsBest}
+use Rattle.lower_proof.specs.Promises.{IsBestCertificate}
 use Rattle.lower_proof.proofs.Search.{least_at_start}
 use Rattle.lower_proof.proofs.Soundness.{sound}
 use Rattle.lower_proof.proofs.Near.{near_start}
@@ -40,7 +40,7 @@ module _ (n : NetworkModel) (valid : IsValid n) (q : Query) (values : List (Opti
       let search = least_at_start n values q.source.0 q.start.0 in
       record { at_target = never_arrived; elsewhere = λ away. never_offered search.0 away search.1 }
 
-pub best : (n : NetworkModel) → IsValid n → (q : Query) (values : List (Option ℕ)) → IsTight n q values → IsBest n q values
+pub best : (n : NetworkModel) → IsValid n → (q : Query) (values : List (Option ℕ)) → IsTight n q values → IsBestCertificate n q values
 best n valid q values tight = record {
   accepted = tight_accepted n q values tight;
   value = λ tree safe.

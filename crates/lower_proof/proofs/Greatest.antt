@@ -9,8 +9,8 @@ use Rattle.plan_model.specs.Network.{IsValid, count, connection, to_of, dep_of, 
 use Rattle.plan_model.specs.Strategy.{IsLeg, IsBoardable, IsBoardableAtStart}
 use Rattle.plan_model.proofs.Bounds.{forward}
 use Rattle.interval_fixed.specs.Means.{weighted}
-use Rattle.lower_proof.specs.Certificates.{value_of, IsLeastOf, Offers, IsLeast, IsLeastAt, IsLeastAtStart, AreLeast, IsVia, IsAccepted, IsTight}
-use Rattle.lower_proof.specs.Promises.{IsGreatest}
+use Rattle.lower_proof.specs.Certificates.{value_of, IsLeastOf, Offers, IsLeastValue, IsLeastAt, IsLeastAtStart, AreLeast, IsVia, IsAccepted, IsTight}
+use Rattle.lower_proof.specs.Promises.{IsGreatestCertificate}
 use Rattle.lower_proof.proofs.Search.{least_boardable, least_at_start}
 use Rattle.lower_proof.proofs.Vias.{IsLeast-unique}
 use Rattle.lower_proof.proofs.Soundness.{ride_bound, target_least}
@@ -52,7 +52,7 @@ module _ (n : NetworkModel) (valid : IsValid n) (q : Query) (values others : Lis
 
   lesser_ride : (m : ℕ) → LesserBy m → (Boards : ℕ → Type 0) (p x c v : ℕ) → after n (dep_of n c) ≤ m → p ≢ q.target.0 → Boards c → c < count n
       → IsTrue (connection n c).can_board → value_of values c ≡ Some v → (least : Option ℕ)
-      → IsLeastOf (λ w. (c : ℕ) × Offers n others Boards c w) least → (w : ℕ) × IsLeast n q others Boards p x (Some w) × (w ≤ v)
+      → IsLeastOf (λ w. (c : ℕ) × Offers n others Boards c w) least → (w : ℕ) × IsLeastValue n q others Boards p x (Some w) × (w ≤ v)
   lesser_ride m lesser Boards p x c v few away boards there board is least is_least =
       let own = subst (IsLeastOf (λ v. (j : ℕ) × IsLeg n c j × IsVia n q values j v)) is (tight.boarded c there board) in
       let j = own.0.0 in
@@ -108,7 +108,7 @@ module _ (n : NetworkModel) (valid : IsValid n) (q : Query) (values others : Lis
         (after_le n (dep_of n c)) away offer.boards offer.there offer.board offer.value search.0 search.1
   ]
 
-pub greatest : (n : NetworkModel) → IsValid n → (q : Query) (values : List (Option ℕ)) → IsTight n q values → (v : ℕ) → IsLeastAtStart n q values (Some v) → IsGreatest n q v
+pub greatest : (n : NetworkModel) → IsValid n → (q : Query) (values : List (Option ℕ)) → IsTight n q values → (v : ℕ) → IsLeastAtStart n q values (Some v) → IsGreatestCertificate n q v
 greatest n valid q values tight v least others w accepted other_least =
     let (u, is, less) = lesser_start n valid q values others tight accepted v least in
     let same = IsLeast-unique n q others (IsBoardableAtStart n q.source.0 q.start.0) q.source.0 q.start.0 (Some u) (Some w) is other_least in

@@ -10,7 +10,7 @@ use Rattle.plan_model.specs.NetworkModel.{NetworkModel}
 use Rattle.plan_model.specs.Network.{IsValid, count, connection, to_of, dep_of, arr_of, outcomes}
 use Rattle.plan_model.specs.Tree.{Tree, Kids, Done, Ride, Nil, Kid}
 use Rattle.plan_model.specs.Rows.{EachKid, IsValidRow}
-use Rattle.plan_model.specs.Strategy.{IsLeg, IsBoardable, Safe, SafeAll, IsSafeFor}
+use Rattle.plan_model.specs.Strategy.{IsLeg, IsBoardable, IsSafe, AreSafe, IsSafeFor}
 use Rattle.plan_model.specs.Bounds.{nanos_per_second}
 use Rattle.plan_model.specs.Expected.{Covers, arrival as arrival_of}
 use Rattle.plan_model.proofs.Bounds.{forward}
@@ -56,14 +56,14 @@ module _ (n : NetworkModel) (valid : IsValid n) (q : Query) (values : List (Opti
 
   -- a tree near the least value after an arrival
   abbrev NearAt : ℕ → ℕ → ℕ → Type 0
-  NearAt p x v = (tree : Tree) × Safe n q.target.0 (Some q.deadline.0) tree p x × Covers (v + after n x) tree
+  NearAt p x v = (tree : Tree) × IsSafe n q.target.0 (Some q.deadline.0) tree p x × Covers (v + after n x) tree
 
   -- one for each least value, where at most m connections depart later
   abbrev NearBy : ℕ → Type 0
   NearBy m = (p x v : ℕ) → after n x ≤ m → IsLeastAt n q values p x (Some v) → NearAt p x v
 
   near_all : (m k : ℕ) → NearBy m → k ≤ m → (p arrival : ℕ) → after n arrival ≤ k → (row : List Outcome) (vs : List ℕ)
-      → AreLeast n q values p arrival row vs → (kids : Kids) × SafeAll n q.target.0 (Some q.deadline.0) kids row p arrival × EachKid Covers row (map (λ v. v + k) vs) kids
+      → AreLeast n q values p arrival row vs → (kids : Kids) × AreSafe n q.target.0 (Some q.deadline.0) kids row p arrival × EachKid Covers row (map (λ v. v + k) vs) kids
   near_all m k near few p arrival later [] [] all = (Nil, tt, tt)
   near_all m k near few p arrival later [] (v ∷ vs) all = absurd all
   near_all m k near few p arrival later (o ∷ row) [] all = absurd all
@@ -75,7 +75,7 @@ module _ (n : NetworkModel) (valid : IsValid n) (q : Query) (values : List (Opti
 
   -- the ride of a connection that is offered
   near_ride : (m : ℕ) → NearBy m → (c v : ℕ) → after n (dep_of n c) ≤ m → c < count n → IsTrue (connection n c).can_board → value_of values c ≡ Some v
-      → (j : ℕ) × (kids : Kids) × IsLeg n c j × SafeAll n q.target.0 (Some q.deadline.0) kids (outcomes n j) (to_of n j) (arr_of n j) × Covers (v + (after n (dep_of n c) + 1)) (Ride c j kids)
+      → (j : ℕ) × (kids : Kids) × IsLeg n c j × AreSafe n q.target.0 (Some q.deadline.0) kids (outcomes n j) (to_of n j) (arr_of n j) × Covers (v + (after n (dep_of n c) + 1)) (Ride c j kids)
   near_ride m near c v few there board is =
       let least = subst (IsLeastOf (λ v. (j : ℕ) × IsLeg n c j × IsVia n q values j v)) is (tight.boarded c there board) in
       let j = least.0.0 in

@@ -8,10 +8,10 @@ use Rattle.plan_model.specs.NetworkModel.{NetworkModel}
 use Rattle.plan_model.specs.Network.{to_of, arr_of, outcomes}
 use Rattle.plan_model.specs.Tree.{Tree, Kids, Done, Ride, Stuck, Nil, Kid}
 use Rattle.plan_model.specs.Rows.{EachKid}
-use Rattle.plan_model.specs.Strategy.{IsLeg, IsBoardable, IsBoardableAtStart, Safe, SafeAll}
+use Rattle.plan_model.specs.Strategy.{IsLeg, IsBoardable, IsBoardableAtStart, IsSafe, AreSafe}
 use Rattle.plan_model.specs.Expected.{Below, arrival}
 use Rattle.interval_fixed.specs.Means.{weighted}
-use Rattle.lower_proof.specs.Certificates.{value_of, IsLeastOf, Offers, arrived_by, IsLeast, IsLeastAt, AreLeast, IsVia, IsAtMost, IsAccepted}
+use Rattle.lower_proof.specs.Certificates.{value_of, IsLeastOf, Offers, arrived_by, IsLeastValue, IsLeastAt, AreLeast, IsVia, IsAtMost, IsAccepted}
 use Rattle.lower_proof.specs.Promises.{IsSound}
 use Rattle.plan_model.specs.Bounds.{nanos_per_second}
 use Rattle.plan_model.proofs.Laws.{below_less}
@@ -28,7 +28,7 @@ arrived_in_time deadline x in_time = grind (arith, nat_tests)
 
 module _ (n : NetworkModel) (q : Query) (values : List (Option ℕ)) where
   -- who is at the target has arrived
-  pub target_least : (Boards : ℕ → Type 0) (p x : ℕ) → p ≡ q.target.0 → x ≤ q.deadline.0 → IsLeast n q values Boards p x (Some (1000000000 * x))
+  pub target_least : (Boards : ℕ → Type 0) (p x : ℕ) → p ≡ q.target.0 → x ≤ q.deadline.0 → IsLeastValue n q values Boards p x (Some (1000000000 * x))
   target_least Boards p x there in_time = record {
     at_target = λ e. sym (arrived_in_time q.deadline.0 x in_time);
     elsewhere = λ away. absurd (away there);
@@ -40,7 +40,7 @@ module _ (n : NetworkModel) (q : Query) (values : List (Option ℕ)) where
   module _ (accepted : IsAccepted n q values) where
     -- a ride: the least value is at most that of its exit
     pub ride_bound : (Boards : ℕ → Type 0) (p x i j v : ℕ) (least : Option ℕ) → p ≢ q.target.0
-        → IsLeastOf (λ w. (c : ℕ) × Offers n values Boards c w) least → IsLeg n i j → Boards i → IsVia n q values j v → (u : ℕ) × IsLeast n q values Boards p x (Some u) × (u ≤ v)
+        → IsLeastOf (λ w. (c : ℕ) × Offers n values Boards c w) least → IsLeg n i j → Boards i → IsVia n q values j v → (u : ℕ) × IsLeastValue n q values Boards p x (Some u) × (u ≤ v)
     ride_bound Boards p x i j v least away is_least leg boards via =
         let own = at_most (value_of values i) v (accepted i leg.enter leg.board j v leg via) in
         let offer : Offers n values Boards i own.0 = record { there = leg.enter; board = leg.board; boards = boards; value = own.1 } in
@@ -49,7 +49,7 @@ module _ (n : NetworkModel) (q : Query) (values : List (Option ℕ)) where
 
     mutual
       -- after an arrival
-      bound_at : (tree : Tree) (p x : ℕ) → Safe n q.target.0 (Some q.deadline.0) tree p x → (v : ℕ) × IsLeastAt n q values p x (Some v) × Below v tree
+      bound_at : (tree : Tree) (p x : ℕ) → IsSafe n q.target.0 (Some q.deadline.0) tree p x → (v : ℕ) × IsLeastAt n q values p x (Some v) × Below v tree
       bound_at (Done a) p x safe = (1000000000 * x, target_least (IsBoardable n p x) p x safe.1 safe.2, done_below a x safe.0)
       bound_at (Ride i j kids) p x safe =
           let all = bound_all kids (outcomes n j) (to_of n j) (arr_of n j) safe.3 in
@@ -64,7 +64,7 @@ module _ (n : NetworkModel) (q : Query) (values : List (Option ℕ)) where
       bound_at (Stuck at y) p x safe = absurd safe
 
       -- after each outcome
-      bound_all : (kids : Kids) (row : List Outcome) (p arrival : ℕ) → SafeAll n q.target.0 (Some q.deadline.0) kids row p arrival → (vs : List ℕ)
+      bound_all : (kids : Kids) (row : List Outcome) (p arrival : ℕ) → AreSafe n q.target.0 (Some q.deadline.0) kids row p arrival → (vs : List ℕ)
           × AreLeast n q values p arrival row vs × EachKid Below row vs kids
       bound_all Nil [] p arrival safe = ([], tt, tt)
       bound_all Nil (o ∷ row) p arrival safe = absurd safe

@@ -11,12 +11,12 @@ use Rattle.plan_model.specs.declared.model.Query.{Query}
 use Rattle.plan_model.specs.NetworkModel.{NetworkModel}
 use Rattle.plan_model.specs.Network.{connection, to_of, arr_of, outcomes}
 use Rattle.interval_fixed.specs.Means.{weighted}
-use Rattle.lower_proof.specs.Certificates.{IsLeastOf, Offers, IsLeast, IsLeastAt, AreLeast, IsVia}
+use Rattle.lower_proof.specs.Certificates.{IsLeastOf, Offers, IsLeastValue, IsLeastAt, AreLeast, IsVia}
 use Rattle.lower_proof.proofs.Leasts.{IsLeastOf-unique}
 
 -- there is only one least value
-pub IsLeast-unique : (n : NetworkModel) (q : Query) (values : List (Option ℕ)) (Boards : ℕ → Type 0) (p x : ℕ) (r s : Option ℕ) → IsLeast n q values Boards p x r
-    → IsLeast n q values Boards p x s → r ≡ s
+pub IsLeast-unique : (n : NetworkModel) (q : Query) (values : List (Option ℕ)) (Boards : ℕ → Type 0) (p x : ℕ) (r s : Option ℕ) → IsLeastValue n q values Boards p x r
+    → IsLeastValue n q values Boards p x s → r ≡ s
 IsLeast-unique n q values Boards p x r s h k = elim (cases_eq p q.target.0) [
   | inl there ↦ h.at_target there ∙ sym (k.at_target there)
   | inr away ↦ IsLeastOf-unique (λ v. (c : ℕ) × Offers n values Boards c v) r s (h.elsewhere away) (k.elsewhere away)

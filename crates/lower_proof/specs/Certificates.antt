@@ -32,17 +32,17 @@ abbrev pub arrived_by : ℕ → ℕ → Option ℕ
 arrived_by deadline x = if nat_le x deadline then Some (nanos_per_second * x) else None
 
 -- the least value at a place and moment: the arrival at the target, and elsewhere that of the connections that one can board
-pub record IsLeast (network : NetworkModel) (query : Query) (values : List (Option ℕ)) (Boards : ℕ → Type 0) (p x : ℕ) (least : Option ℕ) : Type 0 where
+pub record IsLeastValue (network : NetworkModel) (query : Query) (values : List (Option ℕ)) (Boards : ℕ → Type 0) (p x : ℕ) (least : Option ℕ) : Type 0 where
   pub at_target : p ≡ query.target.0 → least ≡ arrived_by query.deadline.0 x
   pub elsewhere : p ≢ query.target.0 → IsLeastOf (λ v. (c : ℕ) × Offers network values Boards c v) least
 
 -- after an arrival at a place
 abbrev pub IsLeastAt : NetworkModel → Query → List (Option ℕ) → ℕ → ℕ → Option ℕ → Type 0
-IsLeastAt network query values p x = IsLeast network query values (IsBoardable network p x) p x
+IsLeastAt network query values p x = IsLeastValue network query values (IsBoardable network p x) p x
 
 -- at the start
 abbrev pub IsLeastAtStart : NetworkModel → Query → List (Option ℕ) → Option ℕ → Type 0
-IsLeastAtStart network query values = IsLeast network query values (IsBoardableAtStart network query.source.0 query.start.0) query.source.0 query.start.0
+IsLeastAtStart network query values = IsLeastValue network query values (IsBoardableAtStart network query.source.0 query.start.0) query.source.0 query.start.0
 
 -- these are the least values at a place after each of the outcomes
 abbrev pub AreLeast : NetworkModel → Query → List (Option ℕ) → ℕ → ℕ → List Outcome → List ℕ → Type 0

@@ -8,7 +8,7 @@ ghost use Rattle.plan_model.specs.declared.model.Query.{Query as QueryParts};
 ghost use Rattle.plan_model.specs.Network.{IsValid, count, run_of, arr_of};
 ghost use Rattle.plan_model.specs.Strategy.{IsBoardableAtStart};
 ghost use Rattle.lower_proof.specs.Certificates.{value_of, IsLeastOf, arrived_by, IsLeastAt, IsLeastAtStart, IsVia, IsTight, IsVerdict};
-ghost use Rattle.lower_proof.specs.Promises.{IsSound, IsBest};
+ghost use Rattle.lower_proof.specs.Promises.{IsSound, IsBestCertificate};
 ghost use Rattle.lower_proof.specs.Steps.{lesser, KeepsTo, exit_of};
 ghost use Rattle.lower_proof.specs.Departures.{NoneAfter, AreDepartures};
 ghost use Rattle.lower_proof.specs.Minima.{IsBoard, board_at, AreBoards, AllLate};
@@ -328,7 +328,7 @@ fn best_values(
 /// leave its run after boarding it.
 pub fn write(alloc: Global, network: &Network, query: &Query) -> Result<LowerBounds, NoMemory>
     ensures tight { IfOk result (λ proof. IsTight network.now query.now proof.values) }
-    ensures best { IfOk result (λ proof. IsBest network.now query.now proof.values) }
+    ensures best { IfOk result (λ proof. IsBestCertificate network.now query.now proof.values) }
 {
     let values = best_values(alloc, network, query)?;
     Ok(LowerBounds {

@@ -6,7 +6,7 @@ use Rattle.csv_rows.specs.declared.limits.Limits.{Limits}
 use Rattle.plan_model.specs.declared.model.Query.{Query}
 use Rattle.plan_model.specs.declared.model.Moment.{Moment}
 use Rattle.plan_model.specs.NetworkModel.{NetworkModel}
-use Rattle.plan_model.specs.Strategy.{Reaches, LeastWorst}
+use Rattle.plan_model.specs.Strategy.{Reaches, IsLeastWorst}
 use Rattle.command_line.specs.Jobs.{WantedJourney, WantedAsk, Safe, Expand, Plan, Replay as Replays, Certify, CheckProof, CheckGraph, Punctual, Departures, Latest}
 use Rattle.journey_model.specs.declared.faults.Input.{Input}
 use Rattle.journey_model.specs.declared.faults.Input.TheVariants as input
@@ -19,7 +19,7 @@ use Rattle.journey_problem.specs.Problems.{IsProblem, IsProblemFault}
 use Rattle.input_files.specs.Files.{bytes_of}
 use Rattle.journey_problem.proofs.OneProblem.{one_problem}
 use Rattle.journey_problem.proofs.NoFaults.{none_unread}
-use Rattle.plan_answers.specs.Answers.{IsAsked, IsNoSafe}
+use Rattle.plan_answers.specs.Answers.{IsQueryOf, IsNoSafe}
 use Rattle.meat_engine.specs.Asks.{AnswersAsk, FailsAsk, EndsAsk, FailsJourney}
 use Rattle.file_answers.specs.ProofFiles.{FailsFile, FailsCheck}
 use Rattle.meat_engine.specs.Ends.{HasSafe, EndsBySafety, EndsByGraphFile, EndsByProofFile, EndsByScore}
@@ -27,14 +27,14 @@ use Rattle.journey_report.specs.Findings.{Findings}
 use Rattle.file_answers.specs.GraphFiles.{graph_in, FailsReplay, FailsScore}
 
 -- a least worst arrival is that of a strategy
-has_tree : (n : NetworkModel) (source target start a b c : ℕ) (w : Moment) → a ≡ source → b ≡ target → c ≡ start → LeastWorst n a b c (Some w) → HasSafe n source target start
+has_tree : (n : NetworkModel) (source target start a b c : ℕ) (w : Moment) → a ≡ source → b ≡ target → c ≡ start → IsLeastWorst n a b c (Some w) → HasSafe n source target start
 has_tree n source target start a b c w e f g l =
     let t = l.0 in
     (t.0, subst (λ x. Reaches n x target start t.0) e (subst (λ y. Reaches n a y start t.0) f (subst (λ z. Reaches n a b z t.0) g t.1)))
 
 module _ (p : Problem) (start : ℕ) where
   -- a journey with a query has a safe strategy
-  pub asked_ends : (alpha : ℕ) (q : Query) (w : Moment) → IsAsked p start alpha q w → EndsBySafety p start 0
+  pub asked_ends : (alpha : ℕ) (q : Query) (w : Moment) → IsQueryOf p start alpha q w → EndsBySafety p start 0
   asked_ends alpha q w a =
       inl (refl, has_tree p.network p.source.0 p.target.0 start q.source.0 q.target.0 q.start.0 w a.source a.target a.start_is a.least)
 

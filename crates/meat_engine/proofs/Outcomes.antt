@@ -23,7 +23,7 @@ use Rattle.journey_model.specs.declared.problem.Problem.{Problem}
 use Rattle.journey_report.specs.declared.report.Report.{Report}
 use Rattle.meat_engine.specs.Asks.{FailsAsk}
 use Rattle.journey_report.specs.Findings.{Findings, findings_of, no_findings}
-use Rattle.meat_engine.specs.Received.{Ending, Refused, ending_at, ending_of, AnswersJob, FailsJob, HasCause, IsRefused, IsRefusedWith, IsWritten, IsWrittenBy, IsTold, Outcome, OutcomeBy}
+use Rattle.meat_engine.specs.Received.{Ending, Refused, ending_at, ending_of, AnswersJob, FailsJob, IsExplained, IsRefused, IsRefusedWith, IsWritten, IsWrittenBy, IsTold, Outcome, OutcomeBy}
 
 -- a fault of an input ends a run with nothing but the fault
 of_input : (file : Input) → ending_at (stage_of_input file) ≡ Refused
@@ -106,7 +106,7 @@ module _ (told : Option FileMap) (limits : Limits) (words : List (List ℕ)) whe
 
   -- why a job fails is why there is no answer to its words
   pub job_cause : (wanted : Wanted) (known : Option NamedParts) → job_of words ≡ Ok wanted → (fault : Fault) → (fault ≢ NoMemory → FailsJob told limits wanted known fault)
-      → HasCause told limits words known fault
+      → IsExplained told limits words known fault
   job_cause wanted known is fault fails =
       ⊎_elim (λ (same : fault ≡ NoMemory). inl same) (λ (other : fault ≢ NoMemory). inr (inr (wanted, is, fails other))) (no_memory_or_not fault)
 
@@ -118,12 +118,13 @@ module _ (told : Option FileMap) (limits : Limits) (words : List (List ℕ)) whe
   -- a refusal that was told
   pub refused_outcome : (report : Report) (old new before after : Option (List ℕ)) (was now : ℕ) (known : Option NamedParts) (wanted : Fault) (found : Option Fault)
       → findings_of report ≡ no_findings → Keeps old new
-      → HasCause told limits words known wanted → wanted ≢ Write → IsRefusedWith before after was now known wanted found → Outcome told limits words report old new (IsTold before after was now) found
+      → IsExplained told limits words known wanted → wanted ≢ Write → IsRefusedWith before after was now known wanted found
+      → Outcome told limits words report old new (IsTold before after was now) found
   refused_outcome report old new before after was now known wanted None findings keeps cause other refused = absurd refused
   refused_outcome report old new before after was now known wanted (Some fault) findings keeps cause other (same, line) =
       ⊎_elim
       (λ (is : fault ≡ wanted). outcome_by report old new (IsTold before after was now) fault (λ write. other (sym is ∙ write)) keeps
-      (findings, (known, subst (HasCause told limits words known) (sym is) cause, line)))
+      (findings, (known, subst (IsExplained told limits words known) (sym is) cause, line)))
       (λ (is : (fault ≡ NoMemory) × IsFormatted wanted).
       outcome_by report old new (IsTold before after was now) fault (λ write. memory_unwritten (sym is.0 ∙ write)) keeps
       (findings, (known, inl is.0, line)))

@@ -14,7 +14,7 @@ use Rattle.journey_model.specs.Sites.{NamedParts}
 use Rattle.input_files.specs.Files.{RoseAt}
 use Rattle.journey_report.specs.declared.report.Report.{Report}
 use Rattle.journey_report.specs.Findings.{Findings, findings_of, no_findings}
-use Rattle.meat_engine.specs.Received.{Ending, AnswersJob, HasCause, IsRefusedWith, IsWritten, IsWrittenBy, Outcome, path_in}
+use Rattle.meat_engine.specs.Received.{Ending, AnswersJob, IsExplained, IsRefusedWith, IsWritten, IsWrittenBy, Outcome, path_in}
 use Rattle.meat_engine.specs.Runs.{FilesState, SinkState, Tells, IsRun}
 use Rattle.meat_engine.proofs.Outcomes.{refused_ending, keeps_same, refused_outcome, answered_outcome, refused_some, refused_is, refused_read}
 use Rattle.meat_engine.proofs.Statuses.{complete}
@@ -32,7 +32,7 @@ module _ (limits : Limits) (words : List (List ℕ)) (report : Report) (before a
   wanted_read input is = wanted_is (Read input) is (λ (same : Read input ≡ NoMemory). cc)
 
   pub refused_run : report.status.0 ≡ status_of report.fault → findings_of report ≡ no_findings
-      → HasCause before.told limits words known wanted → wanted ≢ Write → after.told ≡ before.told
+      → IsExplained before.told limits words known wanted → wanted ≢ Write → after.told ≡ before.told
       → ((input : Input) → wanted ≡ Read input → Rose before.faults after.faults)
       → ((job : Wanted) (input : Input) → job_of words ≡ Ok job → IsSome before.told → wanted ≡ Read input
       → RoseAt (path_in job input) before.faults_of after.faults_of)

@@ -10,7 +10,7 @@ use Rattle.journey_model.specs.declared.faults.Fault.{Fault}
 use Rattle.journey_model.specs.declared.faults.Fault.TheVariants.{Write, NoMemory}
 use Rattle.journey_model.specs.Sites.{NamedParts}
 use Rattle.journey_report.specs.Findings.{findings_of}
-use Rattle.meat_engine.specs.Received.{Ending, AnswersJob, FailsJob, HasCause, IsRefused, Outcome, OutcomeBy}
+use Rattle.meat_engine.specs.Received.{Ending, AnswersJob, FailsJob, IsExplained, IsRefused, Outcome, OutcomeBy}
 use Rattle.meat_engine.proofs.Outcomes.{refused_ending}
 
 pub memory_or : (fault : Fault) → (fault ≡ NoMemory) ⊎ (fault ≡ NoMemory → ⊥)
@@ -28,7 +28,7 @@ module _ (told : Option FileMap) (limits : Limits) (words : List (List ℕ)) (re
   refused fault o n = (subst (λ (e : Ending). OutcomeBy e told limits words report old new Tells (Some fault)) (refused_ending fault n) o).1
 
   caused : (fault : Fault) → fault ≢ NoMemory → (wanted : Wanted) → job_of words ≡ Ok wanted → (known : Option NamedParts)
-      → HasCause told limits words known fault → FailsJob told limits wanted known fault
+      → IsExplained told limits words known fault → FailsJob told limits wanted known fault
   caused fault m wanted h known (inl e) = absurd (m e)
   caused fault m wanted h known (inr (inl (refusal, e, k))) = absurd (no_refusal words wanted refusal h k)
   caused fault m wanted h known (inr (inr (other, k, why))) = subst (λ (w : Wanted). FailsJob told limits w known fault) (one_job words other wanted k h) why

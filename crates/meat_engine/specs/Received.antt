@@ -45,8 +45,8 @@ Answers contents limits words found text = Asks words (λ wanted. AnswersJob con
 
 -- why there is no answer to the words, where this timetable is known: there was no memory; or the words are refused; or the job
 -- that they ask for has none
-abbrev pub HasCause : Option FileMap → Limits → List (List ℕ) → Option NamedParts → Fault → Type 0
-HasCause contents limits words known fault =
+abbrev pub IsExplained : Option FileMap → Limits → List (List ℕ) → Option NamedParts → Fault → Type 0
+IsExplained contents limits words known fault =
     (fault ≡ NoMemory)
     ⊎ (((refusal : WordsFault) × (fault ≡ Words refusal) × (job_of words ≡ Err refusal))
     ⊎ Asks words (λ wanted. FailsJob contents limits wanted known fault))
@@ -54,7 +54,7 @@ HasCause contents limits words known fault =
 -- nothing but the fault is told, which has a cause, and this holds of its line
 abbrev pub IsRefused : Option FileMap → Limits → List (List ℕ) → Report → (List ℕ → Type 0) → Fault → Type 0
 IsRefused contents limits words report Tells fault =
-    (findings_of report ≡ no_findings) × ((known : Option NamedParts) × HasCause contents limits words known fault × Tells (line_of known fault))
+    (findings_of report ≡ no_findings) × ((known : Option NamedParts) × IsExplained contents limits words known fault × Tells (line_of known fault))
 
 -- how a run ends: with the whole of its answer; with a front of it; or with nothing but a fault
 pub data Ending : Type 0 where

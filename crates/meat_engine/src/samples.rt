@@ -5,7 +5,7 @@ ghost use Rattle.command_line.specs.Shown.{journey_shown};
 ghost use Rattle.journey_model.specs.Faults.{unread_of};
 ghost use Rattle.journey_model.specs.declared.faults.Fault.{Fault};
 ghost use Rattle.input_files.specs.EarlyFaults.{IsEarly};
-ghost use Rattle.journey_problem.specs.Problems.{IsProblem, IsProblemFault, IsSound};
+ghost use Rattle.journey_problem.specs.Problems.{IsProblem, IsProblemFault, IsValidProblem};
 ghost use Rattle.plan_answers.specs.Answers.{FailsIn};
 ghost use Rattle.journey_report.specs.Findings.{findings_of};
 ghost use Rattle.meat_engine.specs.Refusals.{IsRefusalBy};
@@ -69,7 +69,7 @@ fn sample_problem(alloc: Global, size: u32, limits: &Limits) -> Result<Problem, 
     requires high { size ≤ 400 }
     requires within { AreWithin limits.now }
     ensures problem { IfOk result (λ p. OverMade size (λ files.
-        IsSound sample_journey p × IsProblem limits.now files sample_journey p)) }
+        IsValidProblem sample_journey p × IsProblem limits.now files sample_journey p)) }
     ensures source { IfOk result (λ p. p.source.0 < length p.network.change) }
     ensures target { IfOk result (λ p. p.target.0 < length p.network.change) }
     ensures fault { IfErr result (λ f. f ≢ Fault.NoMemory

@@ -10,13 +10,13 @@ use Rattle.plan_model.specs.declared.model.Query.{Query}
 use Rattle.plan_model.specs.NetworkModel.{NetworkModel}
 use Rattle.plan_model.specs.Network.{count, to_of, arr_of, outcomes}
 use Rattle.plan_model.specs.Tree.{Tree, Kids, Done, Ride, Stuck, Nil, Kid, height, height_of}
-use Rattle.plan_model.specs.Strategy.{Safe, SafeAll, IsSafeFor}
+use Rattle.plan_model.specs.Strategy.{IsSafe, AreSafe, IsSafeFor}
 use Rattle.plan_model.specs.Unfold.{end_of, kids_after, ride_of, ride_or_stuck, unfold_after, unfold_from, by_place}
 use Rattle.stop_profile.specs.declared.Row.{Row}
 use Rattle.stop_profile.specs.Inserts.{picked, Rises}
 use Rattle.trip_exit.specs.Offers.{Exit}
 use Rattle.meat_scan.specs.Found.{Found, found_rows, leg_choice, chosen_at, chosen_by}
-use Rattle.meat_scan.specs.Solves.{IsSafeAt, Answers, IsAnswer, IsStartAnswer}
+use Rattle.meat_scan.specs.Solves.{IsSafeAt, Answers, SolvesEach, IsStartAnswer}
 use Rattle.meat_scan.proofs.Ways.{boards-limit_of}
 use Rattle.meat_scan.proofs.Claims.{IsChosen, ChosenKids, IsRowFor, PlaceOk, RunOk}
 use Rattle.meat_scan.proofs.Kids.{picked_in_time}
@@ -60,7 +60,7 @@ module _ {V : Type 0} (n : NetworkModel) (target deadline : ℕ) (choice : ℕ �
   mutual
     -- a chosen and safe tree of at most so many rides is what is unfolded
     pub unfold_after-chosen : (tree : Tree) (rides : ℕ) (leg : Leg) (place arrival : ℕ) → end_of n leg ≡ place → height tree ≤ rides
-        → Safe n target (Some deadline) tree place arrival → IsChosen n target rows tree place arrival → after_leg rides leg arrival ≡ tree
+        → IsSafe n target (Some deadline) tree place arrival → IsChosen n target rows tree place arrival → after_leg rides leg arrival ≡ tree
     unfold_after-chosen (Done moment) zero leg place arrival ends low safe is = let at = ends
         ∙ is.0 in let e : after_leg zero leg arrival ≡ Done arrival = grind (arith, nat_tests) in e ∙ ap Done (sym is.1)
     unfold_after-chosen (Done moment) (suc rides) leg place arrival ends low safe is = let at = ends
@@ -76,7 +76,7 @@ module _ {V : Type 0} (n : NetworkModel) (target deadline : ℕ) (choice : ℕ �
     unfold_after-chosen (Stuck at moment) rides leg place arrival ends low safe is = absurd is
 
     pub kids_after-chosen : (kids : Kids) (rides : ℕ) (leg : Leg) (row : List Outcome) (place scheduled : ℕ) → end_of n leg ≡ place
-        → height_of kids ≤ rides → SafeAll n target (Some deadline) kids row place scheduled → ChosenKids n target rows kids row place scheduled
+        → height_of kids ≤ rides → AreSafe n target (Some deadline) kids row place scheduled → ChosenKids n target rows kids row place scheduled
         → kids_after (after_leg rides leg) scheduled row ≡ kids
     kids_after-chosen Nil rides leg [] place scheduled ends low safe is = refl
     kids_after-chosen (Kid weight tree kids) rides leg (o ∷ row) place scheduled ends low safe is =
@@ -88,7 +88,7 @@ module _ {V : Type 0} (n : NetworkModel) (target deadline : ℕ) (choice : ℕ �
 
   -- the ride of a first leg from elsewhere than the target
   pub unfold_from-chosen : (enter exit : ℕ) (kids : Kids) (leg : Leg) (place arrival : ℕ) → place ≢ target → leg.enter.0 ≡ enter → leg.exit.0 ≡ exit
-      → height_of kids + 1 ≤ count n → SafeAll n target (Some deadline) kids (outcomes n exit) (to_of n exit) (arr_of n exit)
+      → height_of kids + 1 ≤ count n → AreSafe n target (Some deadline) kids (outcomes n exit) (to_of n exit) (arr_of n exit)
       → ChosenKids n target rows kids (outcomes n exit) (to_of n exit) (arr_of n exit)
       → unfold_from n target (by_place n choice) (Some leg) place arrival ≡ Ride enter exit kids
   unfold_from-chosen enter exit kids leg place arrival away enters exits low safe is =
@@ -105,7 +105,7 @@ module _ {V : Type 0} (below covers : V → Tree → Type 0) (gap rank : V → �
 
   answer : (place arrival : ℕ) → place ≢ q.target.0 → (row : Row V) → picked arrival (found_rows found place) ≡ Some row
       → IsRowFor below covers gap n q.target.0 q.deadline.0 scanned (found_rows found) (count n) place arrival row
-      → IsAnswer below covers gap n q found place arrival (row.value, row.leg)
+      → SolvesEach below covers gap n q found place arrival (row.value, row.leg)
   answer place arrival away row is claim =
       let tree = Ride row.leg.enter.0 row.leg.exit.0 claim.kids in
       let in_time = picked_in_time arrival (found_rows found place) row is in
@@ -136,7 +136,7 @@ module _ {V : Type 0} (below covers : V → Tree → Type 0) (gap rank : V → �
 
   answers : (place arrival : ℕ) → place ≢ q.target.0 → (o : Option (Row V)) → picked arrival (found_rows found place) ≡ o
       → PlaceOk below covers gap n q.target.0 q.deadline.0 scanned (found_rows found) (count n) place arrival o
-      → MatchOption (option_map (λ row. (row.value, row.leg)) o) ((tree : Tree) → IsSafeAt n q place arrival tree → ⊥) (IsAnswer below covers gap n q found place arrival)
+      → MatchOption (option_map (λ row. (row.value, row.leg)) o) ((tree : Tree) → IsSafeAt n q place arrival tree → ⊥) (SolvesEach below covers gap n q found place arrival)
   answers place arrival away None is claim = nothing
     where
       nothing : (tree : Tree) → IsSafeAt n q place arrival tree → ⊥

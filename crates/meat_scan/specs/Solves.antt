@@ -5,17 +5,17 @@ use Rattle.plan_model.specs.declared.model.Query.{Query}
 use Rattle.plan_model.specs.NetworkModel.{NetworkModel}
 use Rattle.plan_model.specs.Network.{count}
 use Rattle.plan_model.specs.Tree.{Tree}
-use Rattle.plan_model.specs.Strategy.{Safe, IsSafeFor}
+use Rattle.plan_model.specs.Strategy.{IsSafe, IsSafeFor}
 use Rattle.plan_model.specs.Choices.{IsKept}
 use Rattle.meat_scan.specs.Found.{Found, choice_of, leg_choice, chosen_at, chosen_by}
 
 -- the tree is safe after an arrival at a place
 abbrev pub IsSafeAt : NetworkModel → Query → ℕ → ℕ → Tree → Type 0
-IsSafeAt network query place arrival tree = Safe network query.target.0 (Some query.deadline.0) tree place arrival
+IsSafeAt network query place arrival tree = IsSafe network query.target.0 (Some query.deadline.0) tree place arrival
 
 -- the choice after an arrival: its tree is safe, its value covers that tree and is below every safe one, within the gap,
 -- and its leg is kept up to its limit
-pub record IsAnswer {V : Type 0} (below covers : V → Tree → Type 0) (gap : V → ℕ) (network : NetworkModel) (query : Query) (found : Found V) (place arrival : ℕ) (answer : V × Leg) : Type 0 where
+pub record SolvesEach {V : Type 0} (below covers : V → Tree → Type 0) (gap : V → ℕ) (network : NetworkModel) (query : Query) (found : Found V) (place arrival : ℕ) (answer : V × Leg) : Type 0 where
   pub safe : IsSafeAt network query place arrival (chosen_at network query found place arrival)
   pub covers_chosen : covers answer.0 (chosen_at network query found place arrival)
   pub below_safe : (tree : Tree) → IsSafeAt network query place arrival tree → below answer.0 tree
@@ -35,7 +35,7 @@ pub record Answers {V : Type 0} (below covers : V → Tree → Type 0) (gap : V 
   pub goes_on : (place arrival : ℕ) → place ≢ query.target.0 →
       MatchOption (choice_of found place arrival)
       ((tree : Tree) → IsSafeAt network query place arrival tree → ⊥)
-      (IsAnswer below covers gap network query found place arrival)
+      (SolvesEach below covers gap network query found place arrival)
 
 -- what was found solves the query
 pub record Solves {V : Type 0} (below covers : V → Tree → Type 0) (gap : V → ℕ) (found : Found V) (network : NetworkModel) (query : Query) : Type 0 where

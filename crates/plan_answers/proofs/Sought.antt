@@ -5,11 +5,11 @@ use Rattle.plan_model.specs.declared.model.Moment.{Moment}
 use Rattle.plan_model.specs.declared.model.Query.{Query}
 use Rattle.plan_model.specs.NetworkModel.{NetworkModel}
 use Rattle.plan_model.proofs.Laws.{safe_exists}
-use Rattle.decision_graph.specs.Expanded.{NoneSafe}
+use Rattle.decision_graph.specs.Expanded.{IsNoneSafe}
 use Rattle.plan_answers.specs.Answers.{IsWorst}
 
 -- where the deadline is not before the least worst arrival, some strategy is safe
-pub none_is_safe : (n : NetworkModel) (q : Query) (worst : Moment) → IsWorst n q worst → worst.0 ≤ q.deadline.0 → NoneSafe n q → ⊥
+pub none_is_safe : (n : NetworkModel) (q : Query) (worst : Moment) → IsWorst n q worst → worst.0 ≤ q.deadline.0 → IsNoneSafe n q → ⊥
 none_is_safe n q worst least late none =
     let safe = safe_exists n q.source.0 q.target.0 q.start.0 q.deadline.0 worst least late in
     none safe.0 safe.1

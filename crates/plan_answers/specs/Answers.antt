@@ -3,7 +3,7 @@ use Rattle.std.specs.Prelude.{◌≡◌, ℕ, ◌<◌, ◌≤◌, List, length, 
 use Rattle.plan_model.specs.declared.model.Moment.{Moment}
 use Rattle.plan_model.specs.declared.model.Query.{Query}
 use Rattle.plan_model.specs.NetworkModel.{NetworkModel}
-use Rattle.plan_model.specs.Strategy.{LeastWorst, deadline_of}
+use Rattle.plan_model.specs.Strategy.{IsLeastWorst, deadline_of}
 use Rattle.interval_fixed.specs.Interval.{Interval}
 use Rattle.plan_graph.specs.declared.ExpandedGraph.{ExpandedGraph}
 use Rattle.plan_graph.specs.declared.PlanGraph.{PlanGraph}
@@ -24,11 +24,11 @@ use Rattle.journey_model.specs.Wants.{OrNoMemory}
 
 -- this is the least worst arrival of the query
 abbrev pub IsWorst : NetworkModel → Query → Moment → Type 0
-IsWorst network query worst = LeastWorst network query.source.0 query.target.0 query.start.0 (Some worst)
+IsWorst network query worst = IsLeastWorst network query.source.0 query.target.0 query.start.0 (Some worst)
 
 -- this is the query of a journey that starts then, by a percentage for the deadline: it goes from the source of the problem to
 -- its target, from the start on; the least worst arrival is this one, and the deadline follows from it
-pub record IsAsked (p : Problem) (start alpha : ℕ) (query : Query) (worst : Moment) : Type 0 where
+pub record IsQueryOf (p : Problem) (start alpha : ℕ) (query : Query) (worst : Moment) : Type 0 where
   pub source : query.source.0 ≡ p.source.0
   pub target : query.target.0 ≡ p.target.0
   pub start_is : query.start.0 ≡ start
@@ -37,7 +37,7 @@ pub record IsAsked (p : Problem) (start alpha : ℕ) (query : Query) (worst : Mo
 
 -- this holds of the query of the journey and of its least worst arrival
 abbrev pub InQuery : Problem → (start alpha : ℕ) → (Query → Moment → Type 0) → Type 0
-InQuery p start alpha P = (query : Query) × (worst : Moment) × IsAsked p start alpha query worst × P query worst
+InQuery p start alpha P = (query : Query) × (worst : Moment) × IsQueryOf p start alpha query worst × P query worst
 
 -- the head of a graph's text
 abbrev pub head_of : Query → Interval → Head
@@ -64,7 +64,7 @@ TellsPlanned p found text query worst =
 
 -- no strategy always reaches the target
 abbrev pub HasNoSafe : Problem → ℕ → Type 0
-HasNoSafe p start = LeastWorst p.network p.source.0 p.target.0 start None
+HasNoSafe p start = IsLeastWorst p.network p.source.0 p.target.0 start None
 
 -- the fault is that no strategy is safe, and none is
 abbrev pub IsNoSafe : Problem → ℕ → Fault → Type 0

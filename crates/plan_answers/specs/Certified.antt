@@ -4,7 +4,7 @@ use Rattle.plan_model.specs.declared.model.Moment.{Moment}
 use Rattle.plan_model.specs.declared.model.Query.{Query}
 use Rattle.lower_proof.specs.declared.LowerBounds.{LowerBounds}
 use Rattle.lower_proof.specs.Certificates.{IsTight}
-use Rattle.lower_proof.specs.Promises.{IsBest}
+use Rattle.lower_proof.specs.Promises.{IsBestCertificate}
 use Rattle.lower_proof.specs.Reading.{ReadsBack}
 use Rattle.lower_proof.specs.Texts.{proof_text}
 use Rattle.journey_model.specs.declared.problem.Problem.{Problem}
@@ -16,6 +16,6 @@ pub record TellsCertificate (p : Problem) (found : Findings) (text : List ℕ) (
   pub proof : LowerBounds
   pub found_is : found ≡ certify_findings query worst proof
   pub tight : IsTight p.network query proof.values
-  pub best : IsBest p.network query proof.values
+  pub best : IsBestCertificate p.network query proof.values
   pub text_is : text ≡ proof_text p.network p.names query proof.values
   pub reads_back : ReadsBack p.network p.names query proof.values text

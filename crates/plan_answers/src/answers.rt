@@ -2,11 +2,11 @@
 ghost use Rattle.std.specs.Prelude.{◌≡◌, ◌<◌, ◌≤◌, length, Some, None, IfOk, IfErr, IfSome};
 ghost use Rattle.plan_model.specs.NameLists.{NamesFit};
 ghost use Rattle.plan_model.specs.Order.{IsScanOrder};
-ghost use Rattle.plan_model.specs.Strategy.{LeastWorst};
+ghost use Rattle.plan_model.specs.Strategy.{IsLeastWorst};
 ghost use Rattle.decision_graph.specs.Planned.{IsPlanned};
 ghost use Rattle.decision_graph.specs.Expanded.{IsExpanded};
 ghost use Rattle.command_line.specs.Ranges.{IsPercentage};
-ghost use Rattle.plan_answers.specs.Answers.{IsWorst, IsAsked, InQuery, IsPrintable, TellsWorst, TellsExpanded, TellsPlanned, FailsIn};
+ghost use Rattle.plan_answers.specs.Answers.{IsWorst, IsQueryOf, InQuery, IsPrintable, TellsWorst, TellsExpanded, TellsPlanned, FailsIn};
 ghost use Rattle.journey_report.specs.Findings.{findings_of};
 ghost use Rattle.plan_model.specs.Bounds.{end_of_time, last_start};
 
@@ -43,7 +43,7 @@ fn worst_of<B: BackwardOrder>(
     requires target { problem.now.target.0 < length problem.now.network.change }
     requires start { start.0 < end_of_time }
     ensures least { IfOk result
-        (LeastWorst problem.now.network problem.now.source.0 problem.now.target.0 start.0) }
+        (IsLeastWorst problem.now.network problem.now.source.0 problem.now.target.0 start.0) }
     ensures order { IfOk result (λ worst. IfSome worst (λ w. start.0 ≤ w.0)) }
     ensures early { IfOk result (λ worst. IfSome worst (λ w. w.0 < end_of_time)) }
     ensures fits { IfOk result (λ worst. B.fits order.new problem.now.network) }
@@ -73,7 +73,7 @@ pub fn asked_of(
     requires start { start.0 ≤ last_start }
     requires alpha { IsPercentage alpha }
     ensures asked { IfOk result (λ found.
-        IsAsked problem.now start.0 alpha found.0.query found.0.worst) }
+        IsQueryOf problem.now start.0 alpha found.0.query found.0.worst) }
     ensures printable { IfOk result (λ found.
         IsPrintable problem.now.network found.0.query found.0.worst) }
     ensures fits { IfOk result (λ found.

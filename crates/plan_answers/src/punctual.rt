@@ -4,7 +4,7 @@ ghost use Rattle.plan_model.specs.NameLists.{NamesFit};
 ghost use Rattle.plan_graph.specs.Tidy.{IsTidy};
 ghost use Rattle.plan_graph.specs.Unfold.{unfold_plan};
 ghost use Rattle.plan_model.specs.Strategy.{IsSafeFor};
-ghost use Rattle.decision_graph.specs.Expanded.{NoneSafe};
+ghost use Rattle.decision_graph.specs.Expanded.{IsNoneSafe};
 ghost use Rattle.graph_score.specs.Scores.{IsScored};
 ghost use Rattle.late_chance.specs.Chances.{promised, seconds_per_week};
 ghost use Rattle.late_chance.specs.Punctual.{IsPunctual, asked_for, seen_for};
@@ -52,7 +52,7 @@ fn least_chance_of(
     requires target { query.now.target.0 < length network.now.change }
     requires start { query.now.start.0 < end_of_time }
     requires deadline { query.now.start.0 ≤ query.now.deadline.0 }
-    ensures { IfOk result (λ found. MatchOption found (NoneSafe network.now query.now)
+    ensures { IfOk result (λ found. MatchOption found (IsNoneSafe network.now query.now)
         (λ plan. IsPunctual network.now query.now promised plan.graph plan.chance)) }
 {
     let mut order = MergedRuns::new(alloc, network)?;
@@ -81,7 +81,7 @@ fn seen_plan(
     requires later { query.now.start.0 ≤ promise.0 }
     requires soon { promise.0 ≤ query.now.start.0 + seconds_per_week }
     ensures { IfOk result (λ found. MatchOption found
-        (NoneSafe (seen_for network.now query.now promise.0) (asked_for query.now promise.0))
+        (IsNoneSafe (seen_for network.now query.now promise.0) (asked_for query.now promise.0))
         (λ plan. IsPunctual (seen_for network.now query.now promise.0)
         (asked_for query.now promise.0) promised plan.graph plan.chance)) }
 {
@@ -105,7 +105,7 @@ fn punctual_of(
     requires week { seconds_per_week ≤ query.now.start.0 }
     requires later { query.now.start.0 ≤ promise.0 }
     requires soon { promise.0 ≤ query.now.start.0 + seconds_per_week }
-    ensures { IfOk result (λ found. MatchOption found (NoneSafe network.now query.now)
+    ensures { IfOk result (λ found. MatchOption found (IsNoneSafe network.now query.now)
         (λ plan. IsPunctual network.now query.now promise.0 plan.graph plan.chance)) }
 {
     // That the network is valid is known from its count.

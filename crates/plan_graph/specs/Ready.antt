@@ -5,7 +5,7 @@ use Rattle.plan_model.specs.declared.model.Outcome.{Outcome}
 use Rattle.plan_model.specs.declared.model.Query.{Query}
 use Rattle.plan_model.specs.NetworkModel.{NetworkModel}
 use Rattle.plan_model.specs.Tree.{Tree, Done, Ride as Rides, Stuck, Kids, Nil, Kid}
-use Rattle.plan_model.specs.Strategy.{IsLeg, SafeStart}
+use Rattle.plan_model.specs.Strategy.{IsLeg, IsSafeFromStart}
 use Rattle.plan_model.specs.Ways.{limit_of}
 use Rattle.plan_model.specs.Unfold.{end_of, arrival_of, outcomes_of}
 use Rattle.plan_graph.specs.declared.GraphRow.{GraphRow}
@@ -19,7 +19,7 @@ IsLegOf network leg = IsLeg network leg.enter.0 leg.exit.0
 
 -- from some deadline on, the tree is safe for who sets out at the source at the start
 abbrev pub IsSafeForSome : NetworkModel → Query → Tree → Type 0
-IsSafeForSome network query tree = (deadline : ℕ) × SafeStart network query.target.0 (Some deadline) tree query.source.0 query.start.0
+IsSafeForSome network query tree = (deadline : ℕ) × IsSafeFromStart network query.target.0 (Some deadline) tree query.source.0 query.start.0
 
 -- the ride of the leg stands in the tree
 abbrev mutual
@@ -50,7 +50,7 @@ pub record IsReadyRow (network : NetworkModel) (place : ℕ) (row : GraphRow) : 
   pub in_time : row.by.0 ≤ limit
 
 -- a row may stand before another: moments rise, limits do not fall, and equal limits have equal legs
-pub record IsBefore (network : NetworkModel) (place : ℕ) (a b : GraphRow) : Type 0 where
+pub record MayPrecede (network : NetworkModel) (place : ℕ) (a b : GraphRow) : Type 0 where
   pub by : a.by.0 < b.by.0
   pub limits : (first second : ℕ) → limit_of network place a.leg ≡ Some first → limit_of network place b.leg ≡ Some second → first ≤ second
   pub legs : limit_of network place a.leg ≡ limit_of network place b.leg → a.leg ≡ b.leg
@@ -59,7 +59,7 @@ pub record IsBefore (network : NetworkModel) (place : ℕ) (a b : GraphRow) : Ty
 pub record IsReadyRide (network : NetworkModel) (target : ℕ) (r : Ride) : Type 0 where
   pub is_leg : IsLegOf network r.leg
   pub rows : All (IsReadyRow network (end_of network r.leg)) r.after
-  pub rising : AllPairs (IsBefore network (end_of network r.leg)) r.after
+  pub rising : AllPairs (MayPrecede network (end_of network r.leg)) r.after
   pub picks : end_of network r.leg ≢ target → (o : Outcome) → Contains (outcomes_of network r.leg) o →
       pick_row r.after (arrival_of network r.leg o.delay) ≡ pick_in_time network (end_of network r.leg) r.after (arrival_of network r.leg o.delay)
 
@@ -71,15 +71,15 @@ pub record IsReady (network : NetworkModel) (query : Query) (graph : ExpandedGra
   pub rides : All (IsReadyRide network query.target.0) graph.rides
 
 -- the row is the first of its list that is not before an arrival
-abbrev pub IsFirst : List GraphRow → ℕ → GraphRow → Type 0
-IsFirst [] arrival row = ⊥
-IsFirst (head ∷ rows) arrival row = ((arrival ≤ head.by.0) × (row ≡ head)) ⊎ ((head.by.0 < arrival) × IsFirst rows arrival row)
+abbrev pub IsFirstInTime : List GraphRow → ℕ → GraphRow → Type 0
+IsFirstInTime [] arrival row = ⊥
+IsFirstInTime (head ∷ rows) arrival row = ((arrival ≤ head.by.0) × (row ≡ head)) ⊎ ((head.by.0 < arrival) × IsFirstInTime rows arrival row)
 
 -- an outcome of the ride, which does not end at the target, picks the row
 abbrev pub IsPickedAfter : NetworkModel → ℕ → Ride → GraphRow → Type 0
 IsPickedAfter network target r row =
     (end_of network r.leg ≢ target)
-    × ((o : Outcome) × Contains (outcomes_of network r.leg) o × IsFirst r.after (arrival_of network r.leg o.delay) row)
+    × ((o : Outcome) × Contains (outcomes_of network r.leg) o × IsFirstInTime r.after (arrival_of network r.leg o.delay) row)
 
 -- no row and no ride is idle
 pub record IsBusy (network : NetworkModel) (query : Query) (graph : ExpandedGraph) : Type 0 where

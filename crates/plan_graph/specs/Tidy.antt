@@ -12,7 +12,7 @@ use Rattle.plan_graph.specs.declared.GraphRow.{GraphRow}
 use Rattle.plan_graph.specs.declared.PlaceTable.{PlaceTable}
 use Rattle.plan_graph.specs.declared.PlanGraph.{PlanGraph}
 use Rattle.plan_graph.specs.Unfold.{unfold_plan}
-use Rattle.plan_graph.specs.Ready.{IsLegOf, Stands, IsFirst}
+use Rattle.plan_graph.specs.Ready.{IsLegOf, Stands, IsFirstInTime}
 
 -- a row of the table of a place: its leg can be reached from there, and it is by the leg's limit
 pub record IsFitRow (network : NetworkModel) (place : ℕ) (row : GraphRow) : Type 0 where
@@ -42,7 +42,7 @@ abbrev pub IsPickedIn : NetworkModel → ℕ → Tree → PlaceTable → GraphRo
 IsPickedIn network target tree table row =
     (table.place.0 ≢ target)
     × ((leg : Leg) × Stands leg tree × (end_of network leg ≡ table.place.0)
-    × ((o : Outcome) × Contains (outcomes_of network leg) o × IsFirst table.rows (arrival_of network leg o.delay) row))
+    × ((o : Outcome) × Contains (outcomes_of network leg) o × IsFirstInTime table.rows (arrival_of network leg o.delay) row))
 
 -- the graph fits, and each row is picked somewhere in the unfolding
 pub record IsTidy (network : NetworkModel) (query : Query) (graph : PlanGraph) : Type 0 where

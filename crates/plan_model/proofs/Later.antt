@@ -8,7 +8,7 @@ use Rattle.plan_model.specs.declared.model.Outcome.{Outcome}
 use Rattle.plan_model.specs.NetworkModel.{NetworkModel}
 use Rattle.plan_model.specs.Network.{IsValid, to_of, arr_of, outcomes}
 use Rattle.plan_model.specs.Tree.{Tree, Done, Ride, Stuck, Kids, Nil, Kid, worst, worst_of, height, height_of}
-use Rattle.plan_model.specs.Strategy.{Safe, SafeAll}
+use Rattle.plan_model.specs.Strategy.{IsSafe, AreSafe}
 use Rattle.plan_model.specs.Expected.{weighted_by, weighted_kids, arrival, num, BelowBy, CoversBy}
 use Rattle.plan_model.specs.Late.{late}
 use Rattle.plan_model.specs.View.{later_by, all_later_by, deadline_later_by}
@@ -99,12 +99,12 @@ late-later shift promise a = grind (arith, nat_tests)
 -- the worst arrival of a safe tree is later by the shift
 module _ (n : NetworkModel) (v : IsValid n) (target : ℕ) (by : Option ℕ) (shift : ℕ) where
   mutual
-    pub worst-later : (tree : Tree) (p x : ℕ) → Safe n target by tree p x → worst (later_by shift tree) ≡ worst tree + shift
+    pub worst-later : (tree : Tree) (p x : ℕ) → IsSafe n target by tree p x → worst (later_by shift tree) ≡ worst tree + shift
     worst-later (Done a) p x h = refl
     worst-later (Ride i j kids) p x h = worsts-later kids (outcomes n j) (to_of n j) (arr_of n j) (row_is n v j h.1.exit).some h.3
     worst-later (Stuck q y) p x h = absurd h
 
-    worsts-later : (kids : Kids) (row : List Outcome) (p a : ℕ) → 0 < length row → SafeAll n target by kids row p a → worst_of (all_later_by shift kids) ≡ worst_of kids + shift
+    worsts-later : (kids : Kids) (row : List Outcome) (p a : ℕ) → 0 < length row → AreSafe n target by kids row p a → worst_of (all_later_by shift kids) ≡ worst_of kids + shift
     worsts-later Nil [] p a some h = absurd (omega arith)
     worsts-later Nil (o ∷ os) p a some h = absurd h
     worsts-later (Kid w tree kids) [] p a some h = absurd h
@@ -122,14 +122,14 @@ whole_row c p q s e f = rw (e, f) (mul_assoc c p 10000)
 -- the expected arrival of a safe tree is later by the shift
 module _ (n : NetworkModel) (v : IsValid n) (target : ℕ) (by : Option ℕ) (shift : ℕ) where
   mutual
-    pub num-later : (tree : Tree) (p x h : ℕ) → Safe n target by tree p x → height tree ≤ h → num (later_by shift tree) h ≡ num tree h + shift * 10000 ^ h
+    pub num-later : (tree : Tree) (p x h : ℕ) → IsSafe n target by tree p x → height tree ≤ h → num (later_by shift tree) h ≡ num tree h + shift * 10000 ^ h
     num-later (Done a) p x h safe tall = add-mul a shift (10000 ^ h)
     num-later (Ride i j kids) p x h safe tall =
         nums-later kids (outcomes n j) (to_of n j) (arr_of n j) (h - 1) safe.3 (omega arith)
         ∙ ap (λ (k : ℕ). weighted_kids arrival kids (h - 1) + k) (whole_row shift (10000 ^ (h - 1)) (10000 ^ h) _ (row_is n v j safe.1.exit).total (pow_down h (omega arith)))
     num-later (Stuck q y) p x h safe tall = absurd safe
 
-    nums-later : (kids : Kids) (row : List Outcome) (p a h : ℕ) → SafeAll n target by kids row p a → height_of kids ≤ h
+    nums-later : (kids : Kids) (row : List Outcome) (p a h : ℕ) → AreSafe n target by kids row p a → height_of kids ≤ h
         → weighted_kids arrival (all_later_by shift kids) h ≡ weighted_kids arrival kids h + shift * 10000 ^ h * sum_by (λ o. o.weight) row
     nums-later Nil [] p a h safe tall = omega arith
     nums-later Nil (o ∷ os) p a h safe tall = absurd safe

@@ -5,7 +5,7 @@ use Rattle.plan_model.specs.NetworkModel.{NetworkModel}
 use Rattle.plan_model.specs.Network.{IsValid, count, connection, from_of, to_of, dep_of, arr_of, row_of, outcomes}
 use Rattle.plan_model.specs.Ways.{way_of}
 use Rattle.plan_model.specs.Tree.{Tree, Done, Ride, Stuck, Kids, Nil, Kid}
-use Rattle.plan_model.specs.Strategy.{IsLeg, IsBoardable, IsBoardableAtStart, IsInTime, Safe, SafeAll, SafeStart}
+use Rattle.plan_model.specs.Strategy.{IsLeg, IsBoardable, IsBoardableAtStart, IsInTime, IsSafe, AreSafe, IsSafeFromStart}
 use Rattle.plan_model.specs.View.{later_by, all_later_by, deadline_later_by, IsSeen, IsView}
 use Rattle.plan_model.proofs.Bounds.{forward}
 
@@ -17,7 +17,7 @@ in_time_back : (shift : ℕ) (by : Option ℕ) (x : ℕ) → IsInTime (deadline_
 in_time_back shift None x h = tt
 in_time_back shift (Some d) x h = omega arith
 
-same_all : (n : NetworkModel) (target : ℕ) (by : Option ℕ) (kids : Kids) (r s : List Outcome) (p q a b : ℕ) → r ≡ s → p ≡ q → a ≡ b → SafeAll n target by kids r p a → SafeAll n target by kids s q b
+same_all : (n : NetworkModel) (target : ℕ) (by : Option ℕ) (kids : Kids) (r s : List Outcome) (p q a b : ℕ) → r ≡ s → p ≡ q → a ≡ b → AreSafe n target by kids r p a → AreSafe n target by kids s q b
 same_all n target by kids r s p q a b e f g h = rw (← e, ← f, ← g) h
 
 module _ (n m : NetworkModel) (shift first : ℕ) (view : IsView n m shift first) (valid : IsValid m) where
@@ -81,10 +81,10 @@ module _ (n m : NetworkModel) (shift first : ℕ) (view : IsView n m shift first
 
   -- what is safe after a leg, told by the view's words and by the network's
   module _ (target : ℕ) (by : Option ℕ) (i j : ℕ) (leg : IsLeg m i j) (late : first ≤ dep_of m i) (kids : Kids) where
-    told_there : SafeAll m target by kids (outcomes n j) (to_of n j) (arr_of n j + shift) → SafeAll m target by kids (outcomes m j) (to_of m j) (arr_of m j)
+    told_there : AreSafe m target by kids (outcomes n j) (to_of n j) (arr_of n j + shift) → AreSafe m target by kids (outcomes m j) (to_of m j) (arr_of m j)
     told_there h = same_all m target by kids _ _ _ _ _ _ (same_outcomes j leg.exit) (seen j leg.exit).to (arrives i j leg late) h
 
-    told_back : SafeAll m target by kids (outcomes m j) (to_of m j) (arr_of m j) → SafeAll m target by kids (outcomes n j) (to_of n j) (arr_of n j + shift)
+    told_back : AreSafe m target by kids (outcomes m j) (to_of m j) (arr_of m j) → AreSafe m target by kids (outcomes n j) (to_of n j) (arr_of n j + shift)
     told_back h = same_all m target by kids _ _ _ _ _ _ (sym (same_outcomes j leg.exit)) (sym (seen j leg.exit).to) (sym (arrives i j leg late)) h
 
   module _ (target : ℕ) (by : Option ℕ) where
@@ -101,7 +101,7 @@ module _ (n m : NetworkModel) (shift first : ℕ) (view : IsView n m shift first
 
     mutual
       -- what is safe in the view is safe in the network by the shift later
-      pub safe_there : (tree : Tree) (p x : ℕ) → p < length m.change → Safe n target by tree p x → Safe m target later (later_by shift tree) p (x + shift)
+      pub safe_there : (tree : Tree) (p x : ℕ) → p < length m.change → IsSafe n target by tree p x → IsSafe m target later (later_by shift tree) p (x + shift)
       safe_there (Done a) p x inside h = (ap (λ (k : ℕ). k + shift) h.0, h.1, in_time_there shift by x h.2)
       safe_there (Ride i j kids) p x inside h =
           let leg = leg_there i j h.1 in
@@ -109,7 +109,7 @@ module _ (n m : NetworkModel) (shift first : ℕ) (view : IsView n m shift first
           (h.0, leg.0, board_there p x i j inside leg.0 leg.1 h.2, told_there target later i j leg.0 leg.1 (all_later_by shift kids) kids_safe)
       safe_there (Stuck q y) p x inside h = absurd h
 
-      all_there : (kids : Kids) (row : List Outcome) (p a : ℕ) → p < length m.change → SafeAll n target by kids row p a → SafeAll m target later (all_later_by shift kids) row p (a + shift)
+      all_there : (kids : Kids) (row : List Outcome) (p a : ℕ) → p < length m.change → AreSafe n target by kids row p a → AreSafe m target later (all_later_by shift kids) row p (a + shift)
       all_there Nil [] p a inside h = tt
       all_there Nil (o ∷ os) p a inside h = absurd h
       all_there (Kid w tree kids) [] p a inside h = absurd h
@@ -120,17 +120,17 @@ module _ (n m : NetworkModel) (shift first : ℕ) (view : IsView n m shift first
 
     -- a tree that is the later one of a safe tree
     abbrev pub Comes : Tree → (p x : ℕ) → Type 0
-    Comes u p x = (tree : Tree) × (later_by shift tree ≡ u) × Safe n target by tree p x
+    Comes u p x = (tree : Tree) × (later_by shift tree ≡ u) × IsSafe n target by tree p x
 
     abbrev AllCome : Kids → List Outcome → (p a : ℕ) → Type 0
-    AllCome us row p a = (kids : Kids) × (all_later_by shift kids ≡ us) × SafeAll n target by kids row p a
+    AllCome us row p a = (kids : Kids) × (all_later_by shift kids ≡ us) × AreSafe n target by kids row p a
 
     late_leg : (p x i j : ℕ) → first ≤ x + shift → IsBoardable m p (x + shift) i → first ≤ dep_of m i
     late_leg p x i j late b = omega (arith, b.in_time)
 
     mutual
       -- from the first moment on, what is safe in the network comes from what is safe in the view
-      pub safe_back : (u : Tree) (p x : ℕ) → p < length m.change → first ≤ x + shift → Safe m target later u p (x + shift) → Comes u p x
+      pub safe_back : (u : Tree) (p x : ℕ) → p < length m.change → first ≤ x + shift → IsSafe m target later u p (x + shift) → Comes u p x
       safe_back (Done a) p x inside late h = (Done x, ap Done (sym h.0), (refl, h.1, in_time_back shift by x h.2))
       safe_back (Ride i j us) p x inside late h =
           let leg = h.1 in
@@ -142,7 +142,7 @@ module _ (n m : NetworkModel) (shift first : ℕ) (view : IsView n m shift first
           (Ride i j kids.0, ap (Ride i j) kids.1, (h.0, leg_back i j leg open_leg, board_back p x i j inside leg open_leg h.2, kids.2))
       safe_back (Stuck q y) p x inside late h = absurd h
 
-      all_back : (us : Kids) (row : List Outcome) (p a : ℕ) → p < length m.change → first ≤ a + shift → SafeAll m target later us row p (a + shift) → AllCome us row p a
+      all_back : (us : Kids) (row : List Outcome) (p a : ℕ) → p < length m.change → first ≤ a + shift → AreSafe m target later us row p (a + shift) → AllCome us row p a
       all_back Nil [] p a inside late h = (Nil, refl, tt)
       all_back Nil (o ∷ os) p a inside late h = absurd h
       all_back (Kid w u us) [] p a inside late h = absurd h
@@ -155,7 +155,7 @@ module _ (n m : NetworkModel) (shift first : ℕ) (view : IsView n m shift first
           (Kid w one.0 others.0, same, (h.0, one.2, others.2))
 
     -- the same of who sets out at a start
-    pub start_there : (tree : Tree) (source x : ℕ) → SafeStart n target by tree source x → SafeStart m target later (later_by shift tree) source (x + shift)
+    pub start_there : (tree : Tree) (source x : ℕ) → IsSafeFromStart n target by tree source x → IsSafeFromStart m target later (later_by shift tree) source (x + shift)
     start_there (Done a) source x h = (ap (λ (k : ℕ). k + shift) h.0, h.1, in_time_there shift by x h.2)
     start_there (Ride i j kids) source x h =
         let leg = leg_there i j h.1 in
@@ -165,9 +165,9 @@ module _ (n m : NetworkModel) (shift first : ℕ) (view : IsView n m shift first
     start_there (Stuck q y) source x h = absurd h
 
     abbrev pub ComesFrom : Tree → (source x : ℕ) → Type 0
-    ComesFrom u source x = (tree : Tree) × (later_by shift tree ≡ u) × SafeStart n target by tree source x
+    ComesFrom u source x = (tree : Tree) × (later_by shift tree ≡ u) × IsSafeFromStart n target by tree source x
 
-    pub start_back : (u : Tree) (source x : ℕ) → first ≤ x + shift → SafeStart m target later u source (x + shift) → ComesFrom u source x
+    pub start_back : (u : Tree) (source x : ℕ) → first ≤ x + shift → IsSafeFromStart m target later u source (x + shift) → ComesFrom u source x
     start_back (Done a) source x late h = (Done x, ap Done (sym h.0), (refl, h.1, in_time_back shift by x h.2))
     start_back (Ride i j us) source x late h =
         let leg = h.1 in

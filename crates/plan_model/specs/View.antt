@@ -8,7 +8,7 @@ use Rattle.plan_model.specs.NetworkModel.{NetworkModel}
 use Rattle.plan_model.specs.Network.{count, connection, links_into}
 use Rattle.plan_model.specs.Ways.{way_of}
 use Rattle.plan_model.specs.Tree.{Tree, Done, Ride, Stuck, Kids, Nil, Kid}
-use Rattle.plan_model.specs.Strategy.{Safe, SafeStart}
+use Rattle.plan_model.specs.Strategy.{IsSafe, IsSafeFromStart}
 
 abbrev mutual
   -- the tree with all moments greater by a shift
@@ -76,20 +76,20 @@ extended m source = record {
 -- and from each start from then on; and each tree that is safe there is a later one
 pub record SafeAlike (n m : NetworkModel) (shift first : ℕ) : Type 0 where
   pub there : (target : ℕ) (by : Option ℕ) (tree : Tree) (p x : ℕ) → p < length m.change →
-      Safe n target by tree p x → Safe m target (deadline_later_by shift by) (later_by shift tree) p (x + shift)
+      IsSafe n target by tree p x → IsSafe m target (deadline_later_by shift by) (later_by shift tree) p (x + shift)
   pub back : (target : ℕ) (by : Option ℕ) (tree : Tree) (p x : ℕ) → p < length m.change → first ≤ x + shift →
-      Safe m target (deadline_later_by shift by) (later_by shift tree) p (x + shift) → Safe n target by tree p x
+      IsSafe m target (deadline_later_by shift by) (later_by shift tree) p (x + shift) → IsSafe n target by tree p x
   pub each : (target : ℕ) (by : Option ℕ) (tree : Tree) (p x : ℕ) → p < length m.change → first ≤ x + shift →
-      Safe m target (deadline_later_by shift by) tree p (x + shift) → (sooner : Tree) × (later_by shift sooner ≡ tree)
+      IsSafe m target (deadline_later_by shift by) tree p (x + shift) → (sooner : Tree) × (later_by shift sooner ≡ tree)
   pub start_there : (target : ℕ) (by : Option ℕ) (tree : Tree) (source x : ℕ) →
-      SafeStart n target by tree source x → SafeStart m target (deadline_later_by shift by) (later_by shift tree) source (x + shift)
+      IsSafeFromStart n target by tree source x → IsSafeFromStart m target (deadline_later_by shift by) (later_by shift tree) source (x + shift)
   pub start_back : (target : ℕ) (by : Option ℕ) (tree : Tree) (source x : ℕ) → first ≤ x + shift →
-      SafeStart m target (deadline_later_by shift by) (later_by shift tree) source (x + shift) → SafeStart n target by tree source x
+      IsSafeFromStart m target (deadline_later_by shift by) (later_by shift tree) source (x + shift) → IsSafeFromStart n target by tree source x
   pub each_start : (target : ℕ) (by : Option ℕ) (tree : Tree) (source x : ℕ) → first ≤ x + shift →
-      SafeStart m target (deadline_later_by shift by) tree source (x + shift) → (sooner : Tree) × (later_by shift sooner ≡ tree)
+      IsSafeFromStart m target (deadline_later_by shift by) tree source (x + shift) → (sooner : Tree) × (later_by shift sooner ≡ tree)
 
 -- from the place that was added exactly those trees are safe which are safe from the source a second later
 abbrev pub SafeFromAdded : NetworkModel → NetworkModel → ℕ → Type 0
 SafeFromAdded network m source =
     (target : ℕ) (by : Option ℕ) (tree : Tree) (x : ℕ) → target < length m.change → source ≢ target →
-    Safe network target by tree (length m.change) x ↔ SafeStart m target by tree source (x + 1)
+    IsSafe network target by tree (length m.change) x ↔ IsSafeFromStart m target by tree source (x + 1)

@@ -8,8 +8,8 @@ abbrev pub departure : FrequencyRow → ℕ → ℕ
 departure row k = row.first + k * row.headway
 
 -- and before the row's end
-abbrev pub IsRun : FrequencyRow → ℕ → Type 0
-IsRun row k = departure row k < row.end
+abbrev pub IsRunOf : FrequencyRow → ℕ → Type 0
+IsRunOf row k = departure row k < row.end
 
 -- there are n of them: those below n are those of which P holds
 pub record AreBelow (n : ℕ) (P : ℕ → Type 0) : Type 0 where
@@ -18,11 +18,11 @@ pub record AreBelow (n : ℕ) (P : ℕ → Type 0) : Type 0 where
 
 -- the runs that pass, this long after they depart, before a moment
 abbrev pub PassesBefore : FrequencyRow → (offset : ℕ) → ℤ → ℕ → Type 0
-PassesBefore row offset moment k = IsRun row k × (pos (departure row k + offset) <ℤ moment)
+PassesBefore row offset moment k = IsRunOf row k × (pos (departure row k + offset) <ℤ moment)
 
 -- and at it, or before
 abbrev pub PassesUpTo : FrequencyRow → (offset : ℕ) → ℤ → ℕ → Type 0
-PassesUpTo row offset moment k = IsRun row k × (pos (departure row k + offset) ≤ℤ moment)
+PassesUpTo row offset moment k = IsRunOf row k × (pos (departure row k + offset) ≤ℤ moment)
 
 -- its times are before the end of times
 pub record AreTimes (row : FrequencyRow) : Type 0 where

@@ -1,7 +1,7 @@
 //! The runs of a row.
 ghost use Rattle.std.specs.Prelude.{◌≡◌, ◌+◌, ◌<◌, ◌≤◌, ◌≤ℤ◌, ◌<ℤ◌, pos, ℕ};
 ghost use Rattle.stop_times.specs.Bounds.{end_of_times};
-ghost use Rattle.run_repeat.specs.Runs.{AreBelow, AreTimes, IsRun, PassesBefore, PassesUpTo, departure};
+ghost use Rattle.run_repeat.specs.Runs.{AreBelow, AreTimes, IsRunOf, PassesBefore, PassesUpTo, departure};
 
 use gtfs_tables::FrequencyRow;
 
@@ -20,14 +20,14 @@ fn departures_before(row: &FrequencyRow, second: u32) -> u32
 /// How many runs a row has. A row whose end is not after its start has none.
 pub fn count(row: &FrequencyRow) -> u32
     requires { 1 ≤ row.now.headway }
-    ensures { AreBelow result (λ k. IsRun row.now k) }
+    ensures { AreBelow result (λ k. IsRunOf row.now k) }
 {
     departures_before(row, row.end)
 }
 
 /// The departure of run `k` from its first stop, in seconds of the service day.
 pub fn departure(row: &FrequencyRow, k: u32) -> u32
-    requires { IsRun row.now k }
+    requires { IsRunOf row.now k }
     ensures { result ≡ departure row.now k }
 {
     row.first + k * row.headway

@@ -7,7 +7,7 @@ use Rattle.plan_model.specs.NetworkModel.{NetworkModel}
 use Rattle.plan_model.specs.Network.{IsValid}
 use Rattle.plan_model.specs.Bounds.{last_moment, end_of_time}
 use Rattle.plan_model.specs.Tree.{Tree, worst}
-use Rattle.plan_model.specs.Strategy.{IsSafeFor, Reaches, LeastWorst}
+use Rattle.plan_model.specs.Strategy.{IsSafeFor, Reaches, IsLeastWorst}
 use Rattle.plan_model.proofs.Bounds.{before_last, after_LeastWorst, before_LeastWorst}
 use Rattle.plan_model.proofs.Laws.{reaches_from_safe, safe_from_reaches}
 use Rattle.value_laws.specs.declared.WorstMoment.{WorstMoment}
@@ -15,7 +15,7 @@ use Rattle.value_laws.specs.Worsts.{worst_below, worst_covers, worst_gap}
 use Rattle.meat_scan.specs.Solves.{IsStartValue}
 
 -- what is the best by a deadline is the best of all: what is not safe by it is worse
-pub least_from_value : (n : NetworkModel) (q : Query) (value : WorstMoment) → IsStartValue worst_below worst_covers worst_gap n q value → LeastWorst n q.source.0 q.target.0 q.start.0 (Some value.0)
+pub least_from_value : (n : NetworkModel) (q : Query) (value : WorstMoment) → IsStartValue worst_below worst_covers worst_gap n q value → IsLeastWorst n q.source.0 q.target.0 q.start.0 (Some value.0)
 least_from_value n q value v =
     let reaches = reaches_from_safe n q.source.0 q.target.0 q.start.0 q.deadline.0 v.tree v.safe in
     let exact : worst v.tree ≡ value.0.0 = omega (arith, v.covers_tree, v.below_safe v.tree v.safe) in (
@@ -32,16 +32,16 @@ module _ (n : NetworkModel) (v : IsValid n) (q : Query) (early : q.start.0 < end
   safe_from tree reaches = safe_from_reaches n q.source.0 q.target.0 q.start.0 q.deadline.0 tree reaches (omega (arith, last, before_last n v q.source.0 q.target.0 q.start.0 tree reaches early))
 
   pub least_by_last : (result : Option Moment) → MatchOption result ((tree : Tree) → IsSafeFor n q tree → ⊥)
-      (λ w. LeastWorst n q.source.0 q.target.0 q.start.0 (Some w)) → LeastWorst n q.source.0 q.target.0 q.start.0 result
+      (λ w. IsLeastWorst n q.source.0 q.target.0 q.start.0 (Some w)) → IsLeastWorst n q.source.0 q.target.0 q.start.0 result
   least_by_last None none = λ tree reaches. none tree (safe_from tree reaches)
   least_by_last (Some w) least = least
 
 -- when the least worst arrival is, where there is one
 module _ (n : NetworkModel) (v : IsValid n) (source target start : ℕ) (none : Type 0) where
-  pub not_before : (result : Option Moment) → MatchOption result none (λ w. LeastWorst n source target start (Some w)) → IfSome result (λ w. start ≤ w.0)
+  pub not_before : (result : Option Moment) → MatchOption result none (λ w. IsLeastWorst n source target start (Some w)) → IfSome result (λ w. start ≤ w.0)
   not_before None h = tt
   not_before (Some w) h = after_LeastWorst n v source target start w h
 
-  pub not_late : (result : Option Moment) → start < end_of_time → MatchOption result none (λ w. LeastWorst n source target start (Some w)) → IfSome result (λ w. w.0 < end_of_time)
+  pub not_late : (result : Option Moment) → start < end_of_time → MatchOption result none (λ w. IsLeastWorst n source target start (Some w)) → IfSome result (λ w. w.0 < end_of_time)
   not_late None early h = tt
   not_late (Some w) early h = before_LeastWorst n v source target start w h early

@@ -4,7 +4,7 @@
 ghost use Rattle.std.specs.Prelude.{◌≡◌, ◌≢◌, ◌<◌, ◌≤◌, length, Some, IfSome, MatchOption};
 ghost use Rattle.plan_model.specs.Bounds.{end_of_time};
 ghost use Rattle.plan_model.specs.Order.{IsScanOrder};
-ghost use Rattle.plan_model.specs.Strategy.{IsSafeFor, LeastWorst, deadline_of};
+ghost use Rattle.plan_model.specs.Strategy.{IsSafeFor, IsLeastWorst, deadline_of};
 ghost use Rattle.plan_model.specs.Network.{IsValid};
 ghost use Rattle.plan_model.specs.Tree.{Tree};
 ghost use Rattle.meat_scan.specs.Tables.{FitsTables};
@@ -34,7 +34,7 @@ fn least_worst_by<B: BackwardOrder>(
     requires differ { query.now.source.0 ≢ query.now.target.0 }
     ensures least { let query = query.now in
         MatchOption result.1 ((tree : Tree) → IsSafeFor network.now query tree → ⊥)
-        (λ worst. LeastWorst network.now query.source.0 query.target.0 query.start.0 (Some worst)) }
+        (λ worst. IsLeastWorst network.now query.source.0 query.target.0 query.start.0 (Some worst)) }
     ensures tables_fit { FitsTables network.now result.0 }
     ensures valid { IsValid network.now }
     ensures fits { B.fits order.new network.now }
@@ -64,7 +64,7 @@ pub fn least_worst<B: BackwardOrder>(
     requires source { source.0 < length network.now.change }
     requires target { target.0 < length network.now.change }
     requires start { start.0 < end_of_time }
-    ensures least { LeastWorst network.now source.0 target.0 start.0 result }
+    ensures least { IsLeastWorst network.now source.0 target.0 start.0 result }
 
     // It is not before the start, and no later than a day after the last arrival of a network.
     ensures order { IfSome result (λ worst. start.0 ≤ worst.0) }

@@ -7,7 +7,7 @@ use Rattle.plan_model.specs.Tree.{Tree}
 use Rattle.value_laws.specs.ScoreLaws.{ScoreLaws}
 use Rattle.stop_profile.specs.declared.Row.{Row}
 use Rattle.stop_profile.specs.Inserts.{inserted, Rises, picked, rows_after}
-use Rattle.stop_profile.specs.LookLaw.{Carries, IsBest, LookLaw}
+use Rattle.stop_profile.specs.LookLaw.{Carries, IsBestRow, LookLaw}
 use Rattle.stop_profile.specs.LookStep.{none, same, holds, first, wins}
 use Rattle.stop_profile.proofs.Looks.{carries_trans, picked_gap}
 use Rattle.stop_profile.proofs.Inserted.{rises-inserted, gaps-inserted, look_step}
@@ -24,10 +24,10 @@ module _ {V : Type 0} {below covers : V → Tree → Type 0} {gap rank : V → �
       (gaps_after most earlier (λ k d within. all (suc k) d (omega arith)))
 
   -- the best of earlier inserts, carried on
-  best_carried : (arrival : ℕ) (new : Row V) (earlier : List (Row V)) (r s : Row V) → IsBest below covers gap rank arrival earlier r
+  best_carried : (arrival : ℕ) (new : Row V) (earlier : List (Row V)) (r s : Row V) → IsBestRow below covers gap rank arrival earlier r
       → Carries below covers rank r s → (arrival ≤ new.by.0 → rank r.value ≤ rank new.value)
       → (arrival ≤ new.by.0 → (tree : Tree) → below new.value tree → below s.value tree)
-      → ((most : ℕ) → All (λ insert. gap insert.value ≤ most) (new ∷ earlier) → gap s.value ≤ most) → IsBest below covers gap rank arrival (new ∷ earlier) s
+      → ((most : ℕ) → All (λ insert. gap insert.value ≤ most) (new ∷ earlier) → gap s.value ≤ most) → IsBestRow below covers gap rank arrival (new ∷ earlier) s
   best_carried arrival new earlier r s best carries new_rank new_below gaps =
       let (k, insert, within, at, from) = best.source in
       record {
@@ -43,7 +43,7 @@ module _ {V : Type 0} {below covers : V → Tree → Type 0} {gap rank : V → �
   best_new : (arrival : ℕ) (new : Row V) (earlier : List (Row V)) (s : Row V) → arrival ≤ new.by.0 → Carries below covers rank new s
       → All (λ insert. arrival ≤ insert.by.0 → rank s.value ≤ rank insert.value) earlier
       → All (λ insert. arrival ≤ insert.by.0 → (tree : Tree) → below insert.value tree → below s.value tree) earlier
-      → ((most : ℕ) → All (λ insert. gap insert.value ≤ most) (new ∷ earlier) → gap s.value ≤ most) → IsBest below covers gap rank arrival (new ∷ earlier) s
+      → ((most : ℕ) → All (λ insert. gap insert.value ≤ most) (new ∷ earlier) → gap s.value ≤ most) → IsBestRow below covers gap rank arrival (new ∷ earlier) s
   best_new arrival new earlier s in_time carries least below_usable gaps = record {
     source = (0, new, omega arith, refl, (in_time, carries));
     least = All-cons (λ (i : Row V). arrival ≤ i.by.0 → rank s.value ≤ rank i.value) new earlier (λ usable. omega (arith, carries.same_rank)) least;
@@ -57,7 +57,7 @@ module _ {V : Type 0} {below covers : V → Tree → Type 0} {gap rank : V → �
   look_law (new ∷ earlier) arrival =
       let rows = rows_after rank lowered earlier in
       let before = look_law earlier arrival in
-      let P = λ (o : Option (Row V)). MatchOption o (All (λ insert. insert.by.0 < arrival) earlier) (IsBest below covers gap rank arrival earlier) in
+      let P = λ (o : Option (Row V)). MatchOption o (All (λ insert. insert.by.0 < arrival) earlier) (IsBestRow below covers gap rank arrival earlier) in
       let gaps = λ (s : Row V) (is : picked arrival (inserted rank lowered new rows) ≡ Some s) (most : ℕ)
       (all : All (λ (insert : Row V). gap insert.value ≤ most) (new ∷ earlier)). picked_gap laws most arrival (inserted rank lowered new rows) s
       (gaps_after most (new ∷ earlier) all) is in

@@ -56,7 +56,12 @@ module _ (rows : List TimedRow) (keys : List Key) (s : AreKeysOf true rows keys)
             let inside : m < length keys = omega (arith, h, size, span.inside) in
             let same : (key_at keys k).group ≡ (key_at keys m).group
             = span.here k (omega arith) (omega (arith, less, h, size)) ∙ sym (span.here m (omega arith) (omega (arith, h, size))) in
-            omega (arith, rises (is_taken true rows) (trip_of rows) (sequence_of rows) (length rows) keys s (apart rows none) k m (omega arith) inside same, s.orders k (omega arith), s.orders m inside);
+            omega (
+              arith,
+              rises (is_taken true rows) (trip_of rows) (sequence_of rows) (length rows) keys s (apart rows none) k m (omega arith) inside same,
+              s.orders k (omega arith),
+              s.orders m inside,
+            );
         all = λ i inside of_trip kept.
             let w = s.all i inside kept in
             let k = w.0 in

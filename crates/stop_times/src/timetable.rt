@@ -8,7 +8,7 @@ ghost use Rattle.csv_rows.specs.Tables.{table_of};
 ghost use Rattle.stop_times.specs.Bounds.{most_stop_times};
 ghost use Rattle.stop_times.specs.Keys.{AreKeysOf};
 ghost use Rattle.stop_times.specs.Timetables.{stop_times_from, AreVisits};
-ghost use Rattle.table_files.specs.Required.{IsSound};
+ghost use Rattle.table_files.specs.Required.{IsOfSomeTable};
 ghost use Rattle.stop_times.specs.StopTimes.{repeated_time, order_fault, stop_times_fault};
 ghost use Rattle.stop_times.specs.Visits.{AreStopTimes};
 
@@ -84,7 +84,7 @@ pub fn read_stop_times(
         (stop_times_from (loaded_from StopTimesTable most (table_of bytes.items))
         trips.now stops.now places.now) visits) }
     ensures sound { IfOk result (λ visits.
-        IsSound (stop_times_fault trips.now stops.now places.now)
+        IsOfSomeTable (stop_times_fault trips.now stops.now places.now)
         (λ t. AreVisits trips.now stops.now places.now (Ok t) visits)) }
     ensures fault { IfErr result (λ f. f ≢ FeedFault.NoMemory
         → stop_times_from (loaded_from StopTimesTable most (table_of bytes.items))

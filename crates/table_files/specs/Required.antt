@@ -19,5 +19,5 @@ required table first (Ok (Found t)) = Ok t
 required table first (Err fault) = Err fault
 
 -- it is so of a table that has no fault
-abbrev pub IsSound : {T : Type 0} → (T → Option FeedFault) → (T → Type 0) → Type 0
-IsSound {T} fault is = (t : T) × (fault t ≡ None) × is t
+abbrev pub IsOfSomeTable : {T : Type 0} → (T → Option FeedFault) → (T → Type 0) → Type 0
+IsOfSomeTable {T} fault is = (t : T) × (fault t ≡ None) × is t

@@ -5,7 +5,7 @@ ghost use Rattle.csv_rows.specs.declared.feed_tables.Table.TheVariants.{Frequenc
 ghost use Rattle.csv_rows.specs.FeedTables.{unread_of, IsFaultOf};
 ghost use Rattle.csv_rows.specs.Limits.{AreWithin};
 ghost use Rattle.table_files.specs.Loading.{HasFeedCause, HasFeedPathCause, load_in};
-ghost use Rattle.table_files.specs.Required.{IsSound};
+ghost use Rattle.table_files.specs.Required.{IsOfSomeTable};
 ghost use Rattle.trip_frequencies.specs.Bounds.{most_frequencies};
 ghost use Rattle.trip_frequencies.specs.Frequencies.{frequencies_from, fault_of_frequencies, AreFrequencies};
 ghost use Rattle.trip_frequencies.specs.Repeats.{all_repeats_in};
@@ -33,7 +33,7 @@ pub fn load_frequencies<F: Files>(
     ensures fault { IfSome (F.files files.old) (λ m. IfErr result (λ f. f ≢ FeedFault.NoMemory
         → frequencies_from (load_in m folder.now limits.now (unread_of f) FrequenciesTable) trips.now
         ≡ Err f)) }
-    ensures sound { IfOk result (λ r. IsSound (fault_of_frequencies trips.now) (λ l.
+    ensures sound { IfOk result (λ r. IsOfSomeTable (fault_of_frequencies trips.now) (λ l.
         AreFrequencies trips.now (Ok l) (all_repeats_in r.trips.items r.rows.items (length trips.now)))) }
     ensures ordered { IfOk result (λ r. IsNonDecreasing r.trips.items) }
     ensures paired { IfOk result (λ r. length r.rows.items ≡ length r.trips.items) }

@@ -10,7 +10,7 @@ use Rattle.plan_model.specs.declared.model.Query.{Query}
 use Rattle.plan_model.specs.NetworkModel.{NetworkModel}
 use Rattle.plan_model.specs.Network.{arr_of, to_of, outcomes}
 use Rattle.plan_model.specs.Tree.{Tree, Done, Ride, Stuck, Kids, Nil, Kid}
-use Rattle.plan_model.specs.Strategy.{Safe, SafeAll, IsSafeFor}
+use Rattle.plan_model.specs.Strategy.{IsSafe, AreSafe, IsSafeFor}
 use Rattle.plan_model.specs.Unfold.{outcomes_of, kids_after, ride_or_stuck, unfold_after}
 use Rattle.plan_graph.specs.declared.PlaceTable.{PlaceTable}
 use Rattle.plan_graph.specs.declared.GraphRow.{GraphRow}
@@ -131,7 +131,7 @@ module _ (n : NetworkModel) (target deadline : ℕ) where
   safe_by false a b one two = two
 
   mutual
-    pub safe_walk : (tree : Tree) (p x : ℕ) (delays : List ℕ) (behind : List Ridden) → Safe n target (Some deadline) tree p x → IsSafeAnswer deadline (walk n tree delays behind)
+    pub safe_walk : (tree : Tree) (p x : ℕ) (delays : List ℕ) (behind : List Ridden) → IsSafe n target (Some deadline) tree p x → IsSafeAnswer deadline (walk n tree delays behind)
     safe_walk (Done a) p x [] behind safe = let is = safe.0 in omega (arith, is, safe.2)
     safe_walk (Done a) p x (delay ∷ delays) behind safe = tt
     safe_walk (Stuck q y) p x delays behind safe = absurd safe
@@ -139,7 +139,7 @@ module _ (n : NetworkModel) (target deadline : ℕ) where
     safe_walk (Ride i j kids) p x (delay ∷ delays) behind safe = safe_kids kids (outcomes n j) (to_of n j) (arr_of n j) i j delay delays behind safe.3
 
     safe_kids : (kids : Kids) (row : List Outcome) (p scheduled i j delay : ℕ) (delays : List ℕ) (behind : List Ridden)
-        → SafeAll n target (Some deadline) kids row p scheduled → IsSafeAnswer deadline (walk_kid n kids row i j delay delays behind)
+        → AreSafe n target (Some deadline) kids row p scheduled → IsSafeAnswer deadline (walk_kid n kids row i j delay delays behind)
     safe_kids Nil row p scheduled i j delay delays behind safe = tt
     safe_kids (Kid w tree kids) [] p scheduled i j delay delays behind safe = absurd safe
     safe_kids (Kid w tree kids) (o ∷ row) p scheduled i j delay delays behind safe =

@@ -1,4 +1,4 @@
-use Rattle.decision_graph.specs.Expanded.{NoneSafe, IsExpandedBy, HasSteadyChoice}
+use Rattle.decision_graph.specs.Expanded.{IsNoneSafe, IsExpandedBy, HasSteadyChoice}
 use Rattle.decision_graph.proofs.Tables.{some_of, match_some, planned}
 use Rattle.decision_graph.proofs.planned.plan_away.Goals as goal
 
@@ -12,7 +12,7 @@ pub returns-clause-plan : goal.returns-clause-plan
 returns-clause-plan g c =
     planned g.V.Score.below g.V.Score.covers g.V.Score.gap g.V.Score.arrived c.args.network.now c.args.query.now c.in-Some.expanded.graph
     c.in_ok-pruned.pruned c.in_ok-graph.graph c.in-Some.expanded.value
-    (match_some c.in_ok-expanded.field-0 c.in-Some.expanded (NoneSafe c.args.network.now c.args.query.now)
+    (match_some c.in_ok-expanded.field-0 c.in-Some.expanded (IsNoneSafe c.args.network.now c.args.query.now)
     (λ p. IsExpandedBy g.V.Score.below g.V.Score.covers g.V.Score.gap g.V.Score.arrived c.args.network.now c.args.query.now p.graph p.value)
     c.in-Some.is c.in_ok-expanded.ensures.plan)
     c.in_ok-pruned.ensures.unfolds c.in_ok-graph.ensures.unfolds c.in_ok-graph.ensures.tidy

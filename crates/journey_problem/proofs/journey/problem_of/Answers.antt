@@ -12,11 +12,11 @@ use Rattle.journey_model.specs.declared.problem.Problem.{Problem}
 use Rattle.input_files.specs.EarlyFaults.{IsEarly}
 use Rattle.input_files.specs.Files.{path_by, HasCauses}
 use Rattle.journey_problem.specs.CutProblems.{IsNamed}
-use Rattle.journey_problem.specs.Problems.{IsProblemOver, IsProblemFaultOver, HasTimetable, IsSound}
+use Rattle.journey_problem.specs.Problems.{IsProblemOver, IsProblemFaultOver, HasTimetable, IsValidProblem}
 use Rattle.journey_problem.proofs.journey.problem_of.Goals as goal
 
 sound : (timetable : WantedTimetable) (j : WantedJourney) (r : Result Problem Fault) → j.timetable ≡ timetable → IfOk r (λ p. IsValid p.network) → IfOk r (λ p. NamesFit p.names p.network)
-    → IfOk r (HasTimetable timetable j) → IfOk r (IsSound j)
+    → IfOk r (HasTimetable timetable j) → IfOk r (IsValidProblem j)
 sound timetable j (Ok p) is valid fit has = record { valid = valid; fit = fit; timetable = subst (λ (t : WantedTimetable). HasTimetable t j p) (sym is) has }
 sound timetable j (Err fault) is valid fit has = tt
 
@@ -35,7 +35,8 @@ returns-in-Cut-clause-problem g c =
 pub returns-in-Cut-clause-fault : goal.returns-in-Cut-clause-fault
 returns-in-Cut-clause-fault g c =
     let j = journey_shown c.args.journey.now in
-    subst (λ (timetable : WantedTimetable). IfSome (g.F.Files.files c.args.files.now) (λ m. IfErr c.cut_problem.result (λ fault. fault ≢ NoMemory → IsProblemFaultOver c.args.limits.now m timetable j fault)))
+    subst (λ (timetable : WantedTimetable). IfSome (g.F.Files.files c.args.files.now)
+    (λ m. IfErr c.cut_problem.result (λ fault. fault ≢ NoMemory → IsProblemFaultOver c.args.limits.now m timetable j fault)))
     (ap (λ (timetable : Timetable). timetable_shown timetable) (sym c.in-Cut.is)) c.cut_problem.ensures.fault
 
 pub returns-in-Cut-clause-early : goal.returns-in-Cut-clause-early
@@ -62,7 +63,8 @@ returns-in-Feed-clause-problem g c =
 pub returns-in-Feed-clause-fault : goal.returns-in-Feed-clause-fault
 returns-in-Feed-clause-fault g c =
     let j = journey_shown c.args.journey.now in
-    subst (λ (timetable : WantedTimetable). IfSome (g.F.Files.files c.args.files.now) (λ m. IfErr c.feed_problem.result (λ fault. fault ≢ NoMemory → IsProblemFaultOver c.args.limits.now m timetable j fault)))
+    subst (λ (timetable : WantedTimetable). IfSome (g.F.Files.files c.args.files.now)
+    (λ m. IfErr c.feed_problem.result (λ fault. fault ≢ NoMemory → IsProblemFaultOver c.args.limits.now m timetable j fault)))
     (ap (λ (timetable : Timetable). timetable_shown timetable) (sym c.in-Feed.is)) c.feed_problem.ensures.fault
 
 pub returns-in-Feed-clause-early : goal.returns-in-Feed-clause-early

@@ -1,8 +1,8 @@
-use Rattle.decision_graph.specs.Expanded.{NoneSafe}
+use Rattle.decision_graph.specs.Expanded.{IsNoneSafe}
 use Rattle.plan_answers.proofs.Sought.{none_is_safe, match_none}
 use Rattle.plan_answers.proofs.answers.expanded_of.Goals as goal
 
 pub unreachable-requires : goal.unreachable-requires
 unreachable-requires g c =
     none_is_safe c.args.problem.now.network c.args.asked.query c.args.asked.worst c.requires.least c.requires.printable.deadline
-    (match_none c.in_ok-expand.field-0 (NoneSafe c.args.problem.now.network c.args.asked.query) _ c.in-None.is c.in_ok-expand.ensures.plan)
+    (match_none c.in_ok-expand.field-0 (IsNoneSafe c.args.problem.now.network c.args.asked.query) _ c.in-None.is c.in_ok-expand.ensures.plan)

@@ -1,7 +1,7 @@
 use Rattle.std.proofs.Common.{arith, sym, subst}
 use Rattle.std.proofs.lemmas.Option.{MatchOption-at_some}
 use Rattle.plan_graph.specs.declared.PlanGraph.{PlanGraph}
-use Rattle.decision_graph.specs.Expanded.{NoneSafe}
+use Rattle.decision_graph.specs.Expanded.{IsNoneSafe}
 use Rattle.late_chance.specs.Punctual.{IsPunctual, seen_for, asked_for}
 use Rattle.plan_answers.proofs.Sought.{match_none}
 use Rattle.plan_answers.proofs.punctual.punctual_of.Goals as goal
@@ -12,7 +12,7 @@ returns-in_default c =
     let q = c.args.query.now in
     let r = c.requires in
     let tells = c.punctual_by_shift.ensures m q c.args.promise.0 c.count-count.ensures.valid (omega (arith, r.start)) r.deadline (omega (arith, r.week, r.later)) r.later r.soon in
-    tells.none (match_none c.in_ok-found.field-0 (NoneSafe (seen_for m q c.args.promise.0) (asked_for q c.args.promise.0)) _ c.in_default.is c.in_ok-found.ensures)
+    tells.none (match_none c.in_ok-found.field-0 (IsNoneSafe (seen_for m q c.args.promise.0) (asked_for q c.args.promise.0)) _ c.in_default.is c.in_ok-found.ensures)
 
 pub unshifted-requires : goal.unshifted-requires
 unshifted-requires c =

@@ -1,5 +1,5 @@
 use Rattle.std.proofs.lemmas.Option.{MatchOption-at_some}
-use Rattle.decision_graph.specs.Expanded.{NoneSafe}
+use Rattle.decision_graph.specs.Expanded.{IsNoneSafe}
 use Rattle.plan_answers.proofs.Sought.{none_is_safe, match_none}
 use Rattle.plan_answers.proofs.punctual.punctual_over.Goals as goal
 
@@ -7,7 +7,7 @@ pub unreachable-requires : goal.unreachable-requires
 unreachable-requires c =
     let asked = c.in_ok-asked.asked in
     none_is_safe c.args.problem.now.network asked.query asked.worst c.in_ok-asked.ensures.asked.least c.in_ok-asked.ensures.printable.deadline
-    (match_none c.in_ok-found.field-0 (NoneSafe c.args.problem.now.network asked.query) _ c.in_default.is c.in_ok-found.ensures)
+    (match_none c.in_ok-found.field-0 (IsNoneSafe c.args.problem.now.network asked.query) _ c.in_default.is c.in_ok-found.ensures)
 
 pub returns-clause-answer : goal.returns-clause-answer
 returns-clause-answer c =
