@@ -1,4 +1,4 @@
-//! Files and sinks in use, the rows, ids and keys of small tables, and made files.
+//! Files and sinks in use, the rows, ids and keys of small tables, sets of texts, and made files.
 #![tactic(auto)]
 
 #[cfg(test)]
@@ -9,3 +9,5 @@ mod made;
 mod ports;
 #[cfg(test)]
 mod rows;
+#[cfg(test)]
+mod texts;
