@@ -16,7 +16,7 @@ use run_repeat::{departure, within};
 use std::alloc::Global;
 
 /// A run that a row of frequencies starts.
-#[derive(Clone, Copy, Debug, PartialEq, Eq, PartialOrd, Ord)]
+#[derive(Clone, Copy, PartialEq, Eq, PartialOrd, Ord)]
 pub(crate) struct Repeat {
     /// When it leaves the first kept row of its trip, in seconds of the service day.
     pub(crate) departure: u32,

@@ -9,7 +9,7 @@ use std::collections::HashMap;
 use std::marker::Model;
 
 /// What a group is of, by the number of its route.
-#[derive(Clone, Copy, Debug, PartialEq, Eq, Hash)]
+#[derive(Clone, Copy, PartialEq, Eq, Hash)]
 pub(crate) struct NumberedGroup {
     pub(crate) class: Option<u16>,
     pub(crate) route: Option<u32>,

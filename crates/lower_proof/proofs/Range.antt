@@ -4,7 +4,7 @@ use Rattle.std.specs.Prelude.{Some, unsigned_abs}
 use Rattle.jiff_core.specs.Calendar.{days_from_civil}
 use Rattle.jiff_core.proofs.SignedLemmas.{signed_arith}
 use Rattle.jiff_core.proofs.CalendarLemmas.{days_from_civil-day_count, day_count_bounds}
-use Rattle.clock_text.specs.Times.{NetworkModel, parts_at, seconds_of, moment_at}
+use Rattle.clock_text.specs.Times.{Parts, parts_at, seconds_of, moment_at}
 use Rattle.clock_text.proofs.DateFacts.{after_epoch}
 use Rattle.clock_text.proofs.OneText.{Holds, parts_hold, if_cases}
 
@@ -12,7 +12,7 @@ day_small : (z : ℤ) → pos 0 ≤ℤ z → z ≤ℤ pos 2_932_896 → unsigned
 day_small (pos k) low high = omega (arith, signed_arith, high)
 day_small (negsuc k) low high = absurd (omega (arith, signed_arith, low))
 
-day_before : (p : NetworkModel) → Holds p → unsigned_abs (days_from_civil (pos p.year) p.month p.day) ≤ 2_932_896
+day_before : (p : Parts) → Holds p → unsigned_abs (days_from_civil (pos p.year) p.month p.day) ≤ 2_932_896
 day_before p h =
     let count = day_count_bounds (pos p.year) p.month p.day ((omega (arith, signed_arith), omega (arith, signed_arith, h.year)), (h.month_low, h.month_high), (h.day_low, h.day_high)) in
     day_small (days_from_civil (pos p.year) p.month p.day) (after_epoch p.year p.month p.day h.from h.day_low)

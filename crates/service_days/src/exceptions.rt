@@ -17,7 +17,7 @@ use std::alloc::Global;
 use std::collections::HashSet;
 
 /// A day that is added to a service or removed, by the number of the service.
-#[derive(Clone, Copy, Debug, PartialEq, Eq, Hash)]
+#[derive(Clone, Copy, PartialEq, Eq, Hash)]
 pub(crate) struct Exception {
     pub(crate) service: u32,
     pub(crate) day: i32,

@@ -18,20 +18,32 @@ returns-then-is_some-clause-added c =
     let there = there_by_number (texts c.deref.result.now) text c.number_of.result c.if-is_some.ensures c.number_of.ensures.found in
     (refl, subst (λ (w : List (List ℕ)). Contains w text) (ap texts c.deref.ensures.value ∙ c.self.view_is) there)
 
+-- the texts after one more
+pushed : (c : goal.After-push_reserved) → texts c.push_reserved.new.self.items ≡ texts c.self.inside.strings.items ++ c.args.text.now ∷ []
+pushed c =
+    let strings : List (String Global) = c.self.inside.strings.items in
+    ap texts (c.push_reserved.ensures.items ∙ ap (λ (ks : List (String Global)). ks ++ c.in_ok-text.text ∷ []) c.reserve.ensures.items)
+    ∙ texts-push strings c.in_ok-text.text ∙ ap (λ (w : List ℕ). texts strings ++ w ∷ []) c.in_ok-text.ensures.ok
+
+-- the text was not there
+absent : (c : goal.After-push_reserved) → ¬ Contains (texts c.self.inside.strings.items) c.args.text.now
+absent c =
+    subst (λ (ks : List (String Global)). ¬ Contains (texts ks) c.args.text.now) c.deref.ensures.value
+    (absent_by_number (texts c.deref.result.now) c.args.text.now c.number_of.result c.if-is_some.ensures c.number_of.ensures.none)
+
 pub invariant_of-self-2 : goal.invariant_of-self-2
 invariant_of-self-2 c =
     let s = c.self.inside in
-    let strings : List (String Global) = s.strings.items in
-    let text : List ℕ = c.args.text.now in
-    let hash : ℕ = c.hash_of-hash.result in
-    let absent = absent_by_number (texts c.deref.result.now) text c.number_of.result c.if-is_some.ensures c.number_of.ensures.none in
-    let room : length (texts strings) < 2 ^ 32 - 1 = subst (λ (w : List (List ℕ)). length w < 2 ^ 32 - 1) (sym c.self.view_is) c.requires in
-    let last : texts c.push_reserved.new.self.items ≡ texts strings ++ text ∷ [] =
-    ap texts (c.push_reserved.ensures.items ∙ ap (λ (ks : List (String Global)). ks ++ c.in_ok-text.text ∷ []) c.reserve.ensures.items)
-    ∙ texts-push strings c.in_ok-text.text ∙ ap (λ (w : List ℕ). texts strings ++ w ∷ []) c.in_ok-text.ensures.ok in
-    subst (λ (w : List (List ℕ)). AreHashed s.key w c.add.new.self.links.items) (sym last)
-    (AreHashed-push s.key (texts strings) s.hashes.links.items c.add.new.self.links.items text hash c.self.invariant
-    (subst (λ (ks : List (String Global)). ¬ Contains (texts ks) text) c.deref.ensures.value absent) room c.hash_of-hash.ensures c.in_ok-add.ensures.ok)
+    let room : length (texts s.strings.items) < 2 ^ 32 - 1 = subst (λ (w : List (List ℕ)). length w < 2 ^ 32 - 1) (sym c.self.view_is) c.requires in
+    subst (λ (w : List (List ℕ)). AreHashed s.key w c.add.new.self.links.items) (sym (pushed c))
+    (AreHashed-push s.key (texts s.strings.items) s.hashes.links.items c.add.new.self.links.items c.args.text.now c.hash_of-hash.result c.self.invariant
+    (absent c) room c.hash_of-hash.ensures c.in_ok-add.ensures.ok)
+
+pub returns-clause-added : goal.returns-clause-added
+returns-clause-added c = (
+  pushed c ∙ ap (λ (w : List (List ℕ)). w ++ c.args.text.now ∷ []) c.self.view_is,
+  subst (λ (w : List (List ℕ)). ¬ Contains w c.args.text.now) c.self.view_is (absent c),
+)
 
 pub returns-then-is_some-clause-texts : goal.returns-then-is_some-clause-texts
 returns-then-is_some-clause-texts c =
