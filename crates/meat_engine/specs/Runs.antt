@@ -15,7 +15,7 @@ use Rattle.meat_engine.specs.Completeness.{IsComplete}
 
 -- what files tell, where they do; and how often they failed, in all and by path
 pub record FilesState : Type 0 where
-  pub told : Option FileMap
+  pub contents : Option FileMap
   pub faults : ℕ
   pub faults_of : List ℕ → ℕ
 
@@ -39,14 +39,14 @@ Tells old new = IsTold old.written new.written old.faults new.faults
 pub record IsRun (limits : Limits) (words : List (List ℕ)) (report : Report) (before after : FilesState) (out out_after err err_after : SinkState) : Type 0 where
   -- the status is that of the fault, and the fault is that of the run
   pub status : report.status.0 ≡ status_of report.fault
-  pub outcome : Outcome before.told limits words report out.written out_after.written (Tells err err_after) report.fault
+  pub outcome : Outcome before.contents limits words report out.written out_after.written (Tells err err_after) report.fault
   -- where there is no fault nothing is told of one
   pub quiet : report.fault ≡ None → Keeps err.written err_after.written
-  pub same : after.told ≡ before.told
+  pub same : after.contents ≡ before.contents
   -- a file cannot be read only where the files failed, where it is one of the job, and where it is told its own path failed
   -- too; and always where the files failed
   pub read : (input : Input) → report.fault ≡ Some (Read input) → Rose before.faults after.faults
-  pub read_path : (wanted : Wanted) (input : Input) → job_of words ≡ Ok wanted → IsSome before.told
+  pub read_path : (wanted : Wanted) (input : Input) → job_of words ≡ Ok wanted → IsSome before.contents
       → report.fault ≡ Some (Read input) → RoseAt (path_in wanted input) before.faults_of after.faults_of
   pub files_grew : before.faults < after.faults → (input : Input) × (report.fault ≡ Some (Read input))
   -- the answer cannot be written only where its sink failed, and always where it did
@@ -54,4 +54,4 @@ pub record IsRun (limits : Limits) (words : List (List ℕ)) (report : Report) (
   pub out_grew : out.faults < out_after.faults → report.fault ≡ Some Write
   -- the status, where neither failed and the files have no fault
   pub complete : ¬ Rose before.faults after.faults → ¬ Rose out.faults out_after.faults
-      → IsComplete before.told limits words report.status.0
+      → IsComplete before.contents limits words report.status.0
