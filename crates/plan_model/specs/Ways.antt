@@ -8,24 +8,24 @@ use Rattle.plan_model.specs.Network.{from_of, dep_of, change_of, links_into}
 
 -- the way from a place to itself: a change, in its change time
 abbrev pub own_way : NetworkModel → ℕ → Way
-own_way network r = record { from = record { 0 = r }; seconds = change_of network r }
+own_way network place = record { from = record { 0 = place }; seconds = change_of network place }
 
 -- the ways into a place: from the place itself, and then the links from others
 abbrev pub ways_into : NetworkModel → ℕ → List Way
-ways_into network r = own_way network r ∷ links_into network r
+ways_into network place = own_way network place ∷ links_into network place
 
--- the seconds of the first way from place p in a list
+-- the seconds of the first way from a place in a list
 abbrev pub way_in : List Way → ℕ → Option ℕ
-way_in ways p = option_map (λ way. way.seconds) (find (λ way. way.from.0 == p) ways)
+way_in ways place = option_map (λ way. way.seconds) (find (λ way. way.from.0 == place) ways)
 
--- the seconds from who arrives at place p to who may board at place r, where there is a way
+-- the seconds from who arrives at one place to who may board at another, where there is a way
 abbrev pub way_of : NetworkModel → ℕ → ℕ → Option ℕ
-way_of network p r = way_in (ways_into network r) p
+way_of network from to = way_in (ways_into network to) from
 
 -- so many seconds before a moment, where that is not before all time
 abbrev pub earlier_by : ℕ → ℕ → Option ℕ
 earlier_by moment seconds = if nat_le seconds moment then Some (moment - seconds) else None
 
--- the latest arrival at place p from which the leg can be taken, where there is one
+-- the latest arrival at a place from which the leg can be taken, where there is one
 abbrev pub limit_of : NetworkModel → ℕ → Leg → Option ℕ
-limit_of network p leg = option_and_then (earlier_by (dep_of network leg.enter.0)) (way_of network p (from_of network leg.enter.0))
+limit_of network place leg = option_and_then (earlier_by (dep_of network leg.enter.0)) (way_of network place (from_of network leg.enter.0))
