@@ -2,15 +2,11 @@
 use Rattle.std.specs.Prelude.{ℕ, nat_le, if◌then◌else◌}
 use Rattle.plan_model.specs.Bounds.{certainty}
 use Rattle.plan_model.specs.Tree.{Tree}
-use Rattle.plan_model.specs.Expected.{weighted_by, BelowBy, CoversBy}
+use Rattle.plan_model.specs.Expected.{BelowBy, CoversBy}
 
 -- 1 for an arrival after the promised moment, and 0 for one by then
 abbrev pub late : (promise : ℕ) → ℕ → ℕ
 late promise arrival = if nat_le arrival promise then 0 else 1
-
--- the chance of an arrival after the promised moment, times 10,000 to a power that is at least the height
-abbrev pub late_num : (promise : ℕ) → Tree → ℕ → ℕ
-late_num promise tree power = weighted_by (late promise) tree power
 
 -- a tree whose chance of being late is at least lo, in units of 10 to the -18
 abbrev pub LateBelow : (promise : ℕ) → ℕ → Tree → Type 0
