@@ -1,5 +1,6 @@
 -- A pruned graph that follows a steady choice is coherent.
 use Rattle.std.proofs.Common.{◌≡◌, ◌≢◌, ℕ, Option, Some, Contains, All, arith, sym, subst, refl, ◌∙◌, ap}
+use Rattle.std.proofs.lemmas.List.Elements.{All-contains}
 use Rattle.plan_model.specs.declared.model.Leg.{Leg}
 use Rattle.plan_model.specs.declared.model.Outcome.{Outcome}
 use Rattle.plan_model.specs.declared.model.Query.{Query}
@@ -13,22 +14,20 @@ use Rattle.plan_graph.specs.Rows.{pick_row}
 use Rattle.plan_graph.specs.Ready.{IsPruned, IsByLimits, IsPickedAfter}
 use Rattle.plan_graph.specs.Coherent.{IsCoherent, IsEarliest, IsRowAt}
 use Rattle.plan_graph.specs.Follows.{Follows, IsSteady}
-use Rattle.leg_walk.specs.Placed.{Has}
-use Rattle.leg_walk.proofs.Lists.{contains_from_has, has_from_contains, all_at_has}
-use Rattle.leg_walk.proofs.Tables.{first_pick, first_there, picked_has, same_next, same_limit}
+use Rattle.leg_walk.proofs.Tables.{first_pick, first_there, picked_there, same_next, same_limit}
 
 module _ (n : NetworkModel) (q : Query) (graph : ExpandedGraph) (at : ℕ → ℕ → Option Leg)
     (pruned : IsPruned n q graph) (steady : IsSteady n q.target.0 at) (follows : Follows n q.target.0 at graph) where
-  by_its_limit : (r : Ride) → Has graph.rides r → (row : GraphRow) → Has r.after row → limit_of n (end_of n r.leg) row.leg ≡ Some row.by.0
-  by_its_limit r has row there = all_at_has (λ w. limit_of n (end_of n r.leg) w.leg ≡ Some w.by.0) r.after row (all_at_has (IsByLimits n) graph.rides r pruned.by has) there
+  by_its_limit : (r : Ride) → Contains graph.rides r → (row : GraphRow) → Contains r.after row → limit_of n (end_of n r.leg) row.leg ≡ Some row.by.0
+  by_its_limit r has row there = All-contains (λ w. limit_of n (end_of n r.leg) w.leg ≡ Some w.by.0) r.after row (All-contains (IsByLimits n) graph.rides r pruned.by has) there
 
   -- a row's leg is chosen at the row's moment
-  at_own : (r : Ride) → Has graph.rides r → (row : GraphRow) → Has r.after row → (end_of n r.leg ≢ q.target.0) × (at (end_of n r.leg) row.by.0 ≡ Some row.leg)
+  at_own : (r : Ride) → Contains graph.rides r → (row : GraphRow) → Contains r.after row → (end_of n r.leg ≢ q.target.0) × (at (end_of n r.leg) row.by.0 ≡ Some row.leg)
   at_own r has row there =
-      let idle = all_at_has (IsPickedAfter n q.target.0 r) r.after row (all_at_has (λ s. All (IsPickedAfter n q.target.0 s) s.after) graph.rides r pruned.busy.picked has) there in
+      let idle = All-contains (IsPickedAfter n q.target.0 r) r.after row (All-contains (λ s. All (IsPickedAfter n q.target.0 s) s.after) graph.rides r pruned.busy.picked has) there in
       let o = idle.1.0 in
       let x = arrival_of n r.leg o.delay in
-      let f = follows r (contains_from_has graph.rides r has) idle.0 o idle.1.1 in
+      let f = follows r has idle.0 o idle.1.1 in
       let same : f.0 ≡ row.leg = same_next (pick_row r.after x) f.0 row.leg f.1 (first_pick r.after x row idle.1.2) in
       let chosen : at (end_of n r.leg) x ≡ Some row.leg = f.2 ∙ ap (λ (l : Leg). Some l) same in
       let k = steady (end_of n r.leg) x row.leg idle.0 chosen in
@@ -38,7 +37,7 @@ module _ (n : NetworkModel) (q : Query) (graph : ExpandedGraph) (at : ℕ → �
   at_place : (place : ℕ) (row : GraphRow) → IsRowAt n graph place row → (place ≢ q.target.0) × (at place row.by.0 ≡ Some row.leg)
   at_place place row stands =
       subst (λ (p : ℕ). (p ≢ q.target.0) × (at p row.by.0 ≡ Some row.leg)) stands.2
-      (at_own stands.0 (has_from_contains graph.rides stands.0 stands.1) row (has_from_contains stands.0.after row stands.3))
+      (at_own stands.0 stands.1 row stands.3)
 
   coherent_picks : (r : Ride) → Contains graph.rides r → (o : Outcome) → Contains (outcomes_of n r.leg) o → (row : GraphRow)
       → IsEarliest n graph (end_of n r.leg) (arrival_of n r.leg o.delay) row → pick_row r.after (arrival_of n r.leg o.delay) ≡ Some row.leg
@@ -47,11 +46,10 @@ module _ (n : NetworkModel) (q : Query) (graph : ExpandedGraph) (at : ℕ → �
       let x = arrival_of n r.leg o.delay in
       let own = at_place place row earliest.there in
       let f = follows r contains own.0 o outcome in
-      let w = picked_has r.after x f.0 f.1 in
-      let has = has_from_contains graph.rides r contains in
+      let w = picked_there r.after x f.0 f.1 in
       let k = steady place x f.0 own.0 f.2 in
-      let by : w.0.by.0 ≡ k.limit = same_limit (limit_of n place f.0) w.0.by.0 k.limit (ap (limit_of n place) (sym w.2) ∙ by_its_limit r has w.0 w.1) k.is_limit in
-      let least = earliest.least w.0 (r, contains, refl, contains_from_has r.after w.0 w.1) (omega (arith, by, k.in_time)) in
+      let by : w.0.by.0 ≡ k.limit = same_limit (limit_of n place f.0) w.0.by.0 k.limit (ap (limit_of n place) (sym w.2) ∙ by_its_limit r contains w.0 w.1) k.is_limit in
+      let least = earliest.least w.0 (r, contains, refl, w.1) (omega (arith, by, k.in_time)) in
       let later : at place row.by.0 ≡ Some f.0 = k.kept row.by.0 earliest.in_time (omega (arith, by, least)) in
       f.1 ∙ ap (λ (l : Leg). Some l) (same_next (at place row.by.0) f.0 row.leg later own.1)
 

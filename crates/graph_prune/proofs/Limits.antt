@@ -1,22 +1,19 @@
 -- The rows by their legs' limits, and what they pick.
-use Rattle.std.proofs.Common.{◌≡◌, ℕ, ◌≤◌, ◌<◌, Bool, true, false, List, [], ◌∷◌, map, Option, Some, None, arith, sym, subst, refl, inl, inr, ◌∙◌, ap}
-use Rattle.std.specs.Prelude.{◌==◌, ◌&&◌, nat_le, if◌then◌else◌}
+use Rattle.std.proofs.Common.{◌≡◌, ℕ, ◌≤◌, ◌<◌, Bool, true, false, List, [], ◌∷◌, Option, Some, None, All, AllPairs, Contains, arith, sym, subst, refl, inl, inr, ◌∙◌, ap, ap₂}
+use Rattle.std.specs.Prelude.{nat_le, if◌then◌else◌}
 use Rattle.std.proofs.lemmas.Bool.{cases_lt}
 use Rattle.std.proofs.lemmas.Bool.Decides.{nat_tests}
+use Rattle.std.proofs.lemmas.List.Elements.{All-head, All-tail}
 use Rattle.plan_model.specs.declared.model.Leg.{Leg}
 use Rattle.plan_model.specs.NetworkModel.{NetworkModel}
 use Rattle.plan_model.specs.Ways.{limit_of}
-use Rattle.plan_model.specs.Unfold.{end_of}
 use Rattle.plan_graph.specs.declared.GraphRow.{GraphRow}
-use Rattle.plan_graph.specs.declared.Ride.{Ride}
-use Rattle.plan_graph.specs.Rows.{pick_row, rows_after}
+use Rattle.plan_graph.specs.Rows.{pick_row}
 use Rattle.plan_graph.specs.Ready.{IsFirstInTime, MayPrecede, IsReadyRow, is_within, pick_in_time}
-use Rattle.plan_graph.proofs.Searches.{leg_test}
 use Rattle.leg_walk.specs.Tables.{row_by}
-use Rattle.leg_walk.specs.Placed.{Has}
-use Rattle.leg_walk.proofs.Lists.{Later}
+use Rattle.leg_walk.proofs.Lists.{Contains-nil, Contains-head, Contains-tail, Contains-cons_cases, AllPairs-nil, AllPairs-head, AllPairs-tail, AllPairs-with}
 use Rattle.leg_walk.proofs.Tables.{same_next, same_limit, in_time_here, in_time_next}
-use Rattle.graph_prune.specs.Limits.{is_last, with_limit, by_limits, ride_by_limits}
+use Rattle.graph_prune.specs.Limits.{is_last, with_limit, by_limits}
 
 -- the row before, if any, is before the moment
 abbrev pub IsApart : Option ℕ → ℕ → Type 0
@@ -26,19 +23,19 @@ IsApart (Some last) moment = last < moment
 -- a row by a limit, from a row of the same leg
 pub record IsLimitOf (n : NetworkModel) (place : ℕ) (rows : List GraphRow) (y : GraphRow) : Type 0 where
   pub row : GraphRow
-  pub has : Has rows row
+  pub has : Contains rows row
   pub limit : ℕ
   pub is_limit : limit_of n place row.leg ≡ Some limit
   pub is : y ≡ row_by limit row.leg
 
 module _ (n : NetworkModel) (place : ℕ) where
-  -- the rows where the first limit is that of the row before, and where it is another
-  limits_head : (row : GraphRow) (rows : List GraphRow) (limit : ℕ) (last : Option ℕ) (test : Bool) → limit_of n place row.leg ≡ Some limit
-      → is_last last limit ≡ test → by_limits n place (row ∷ rows) last ≡
-      (if test then by_limits n place rows last else row_by limit row.leg ∷ by_limits n place rows (Some limit))
-  limits_head row rows limit last test is same =
-      ap (λ (l : Option ℕ). with_limit l row.leg (by_limits n place rows) last) is
-      ∙ ap (λ (b : Bool). if b then by_limits n place rows last else row_by limit row.leg ∷ by_limits n place rows (Some limit)) same
+  abbrev IsReadyHere : GraphRow → Type 0
+  IsReadyHere row = IsReadyRow n place row
+
+  -- the rows, where the first has a limit
+  limits_head : (row : GraphRow) (rows : List GraphRow) (limit : ℕ) (last : Option ℕ) → limit_of n place row.leg ≡ Some limit
+      → by_limits n place (row ∷ rows) last ≡ (if is_last last limit then by_limits n place rows last else row_by limit row.leg ∷ by_limits n place rows (Some limit))
+  limits_head row rows limit last is = ap (λ (l : Option ℕ). with_limit l row.leg (by_limits n place rows) last) is
 
   apart_last : (last : Option ℕ) (x limit : ℕ) → IsApart last x → x ≤ limit → is_last last limit ≡ false
   apart_last None x limit apart within = refl
@@ -46,99 +43,99 @@ module _ (n : NetworkModel) (place : ℕ) where
 
   -- the first by its limit has the leg of the first in time
   pub first_by_limits : (rows : List GraphRow) (last : Option ℕ) (x : ℕ) (leg : Leg) (limit : ℕ)
-      → ((row : GraphRow) → Has rows row → IsReadyRow n place row) → IsApart last x → pick_in_time n place rows x ≡ Some leg
+      → All IsReadyHere rows → IsApart last x → pick_in_time n place rows x ≡ Some leg
       → limit_of n place leg ≡ Some limit → IsFirstInTime (by_limits n place rows last) x (row_by limit leg)
   first_by_limits [] last x leg limit ready apart is its = absurd (cc)
   first_by_limits (row ∷ rows) last x leg limit ready apart is its =
-      let r = ready row (inl refl) in
+      let r = All-head IsReadyHere row rows ready in
       elim (cases_lt r.limit x) [
         | inl late ↦
             let rest = sym (in_time_next n place row rows x r.limit r.is_limit late) ∙ is in
-            subst (λ (list : List GraphRow). IsFirstInTime list x (row_by limit leg)) (sym (limits_head row rows r.limit last (is_last last r.limit) r.is_limit refl))
-            (late_by (is_last last r.limit) late
-            (first_by_limits rows last x leg limit (λ s has. ready s (inr has)) apart rest its)
-            (first_by_limits rows (Some r.limit) x leg limit (λ s has. ready s (inr has)) late rest its))
+            let more = λ (before : Option ℕ) (apart : IsApart before x). first_by_limits rows before x leg limit (All-tail IsReadyHere row rows ready) apart rest its in
+            subst (λ (list : List GraphRow). IsFirstInTime list x (row_by limit leg)) (sym (limits_head row rows r.limit last r.is_limit))
+            (late_by r.limit (is_last last r.limit) late (more last apart) (more (Some r.limit) late))
         | inr early ↦
             let one : row.leg ≡ leg = same_next (pick_in_time n place (row ∷ rows) x) row.leg leg (in_time_here n place row rows x r.limit r.is_limit early) is in
             let two : r.limit ≡ limit = same_limit (limit_of n place leg) r.limit limit (ap (limit_of n place) (sym one) ∙ r.is_limit) its in
-            let same : row_by limit leg ≡ row_by r.limit row.leg = ap (λ (m : ℕ). row_by m leg) (sym two) ∙ ap (λ (l : Leg). row_by r.limit l) (sym one) in
-            let first : IsFirstInTime (row_by r.limit row.leg ∷ by_limits n place rows (Some r.limit)) x (row_by limit leg) = inl (early, same) in
-            subst (λ (list : List GraphRow). IsFirstInTime list x (row_by limit leg)) (sym (limits_head row rows r.limit last false r.is_limit (apart_last last x r.limit apart early))) first
+            subst (λ (list : List GraphRow). IsFirstInTime list x (row_by limit leg))
+            (sym (limits_head row rows r.limit last r.is_limit
+            ∙ ap (λ (test : Bool). if test then by_limits n place rows last else row_by r.limit row.leg ∷ by_limits n place rows (Some r.limit)) (apart_last last x r.limit apart early)))
+            (inl (early, sym (ap₂ row_by two one)))
       ]
     where
-      late_by : (test : Bool) → (ready row (inl refl)).limit < x → IsFirstInTime (by_limits n place rows last) x (row_by limit leg)
-          → IsFirstInTime (by_limits n place rows (Some (ready row (inl refl)).limit)) x (row_by limit leg)
-          → IsFirstInTime (if test then by_limits n place rows last else row_by (ready row (inl refl)).limit row.leg ∷ by_limits n place rows (Some (ready row (inl refl)).limit)) x (row_by limit leg)
-      late_by true late one two = one
-      late_by false late one two = inr (late, two)
+      late_by : (own : ℕ) (test : Bool) → own < x → IsFirstInTime (by_limits n place rows last) x (row_by limit leg)
+          → IsFirstInTime (by_limits n place rows (Some own)) x (row_by limit leg)
+          → IsFirstInTime (if test then by_limits n place rows last else row_by own row.leg ∷ by_limits n place rows (Some own)) x (row_by limit leg)
+      late_by own true late one two = one
+      late_by own false late one two = inr (late, two)
 
   -- each row comes from one of the same leg
-  pub limit_member : (rows : List GraphRow) (last : Option ℕ) (y : GraphRow) → ((row : GraphRow) → Has rows row → IsReadyRow n place row)
-      → Has (by_limits n place rows last) y → IsLimitOf n place rows y
-  limit_member [] last y ready has = absurd has
+  pub limit_member : (rows : List GraphRow) (last : Option ℕ) (y : GraphRow) → All IsReadyHere rows → Contains (by_limits n place rows last) y → IsLimitOf n place rows y
+  limit_member [] last y ready has = absurd (Contains-nil y has)
   limit_member (row ∷ rows) last y ready has =
-      let r = ready row (inl refl) in
-      member_by (is_last last r.limit) (λ before there. limit_member rows before y (λ s h. ready s (inr h)) there)
-      (subst (λ (list : List GraphRow). Has list y) (limits_head row rows r.limit last (is_last last r.limit) r.is_limit refl) has)
+      let r = All-head IsReadyHere row rows ready in
+      by_test r.limit r.is_limit (is_last last r.limit) (λ before. limit_member rows before y (All-tail IsReadyHere row rows ready))
+      (subst (λ (list : List GraphRow). Contains list y) (limits_head row rows r.limit last r.is_limit) has)
     where
       wider : IsLimitOf n place rows y → IsLimitOf n place (row ∷ rows) y
-      wider m = record { row = m.row; has = inr m.has; limit = m.limit; is_limit = m.is_limit; is = m.is }
+      wider m = record { row = m.row; has = Contains-tail row rows m.row m.has; limit = m.limit; is_limit = m.is_limit; is = m.is }
 
-      member_by : (test : Bool) → ((before : Option ℕ) → Has (by_limits n place rows before) y → IsLimitOf n place rows y)
-          → Has (if test then by_limits n place rows last else row_by (ready row (inl refl)).limit row.leg ∷ by_limits n place rows
-          (Some (ready row (inl refl)).limit)) y → IsLimitOf n place (row ∷ rows) y
-      member_by true more there = wider (more last there)
-      member_by false more (inl is) = record { row = row; has = inl refl; limit = (ready row (inl refl)).limit; is_limit = (ready row (inl refl)).is_limit; is = is }
-      member_by false more (inr there) = wider (more (Some (ready row (inl refl)).limit) there)
+      by_test : (limit : ℕ) → limit_of n place row.leg ≡ Some limit → (test : Bool) → ((before : Option ℕ) → Contains (by_limits n place rows before) y → IsLimitOf n place rows y)
+          → Contains (if test then by_limits n place rows last else row_by limit row.leg ∷ by_limits n place rows (Some limit)) y → IsLimitOf n place (row ∷ rows) y
+      by_test limit is true more there = wider (more last there)
+      by_test limit is false more there = elim (Contains-cons_cases (row_by limit row.leg) (by_limits n place rows (Some limit)) y there) [
+        | inl same ↦ record { row = row; has = Contains-head row rows; limit = limit; is_limit = is; is = sym same }
+        | inr later ↦ wider (more (Some limit) later)
+      ]
 
   -- the rows after a row by a limit are later, where limits do not fall
-  above : (rows : List GraphRow) → Later (MayPrecede n place) rows → (bound : ℕ) (y : GraphRow)
-      → ((row : GraphRow) → Has rows row → IsReadyRow n place row)
-      → ((row : GraphRow) (limit : ℕ) → Has rows row → limit_of n place row.leg ≡ Some limit → bound ≤ limit)
-      → Has (by_limits n place rows (Some bound)) y → bound < y.by.0
-  above [] later bound y ready least has = absurd has
-  above (row ∷ rows) later bound y ready least has =
-      let r = ready row (inl refl) in
-      let from = least row r.limit (inl refl) r.is_limit in
+  above : (rows : List GraphRow) → AllPairs (MayPrecede n place) rows → (bound : ℕ) (y : GraphRow) → All IsReadyHere rows
+      → ((row : GraphRow) (limit : ℕ) → Contains rows row → limit_of n place row.leg ≡ Some limit → bound ≤ limit)
+      → Contains (by_limits n place rows (Some bound)) y → bound < y.by.0
+  above [] pairs bound y ready least has = absurd (Contains-nil y has)
+  above (row ∷ rows) pairs bound y ready least has =
+      let r = All-head IsReadyHere row rows ready in
+      let rest = All-tail IsReadyHere row rows ready in
+      let later = AllPairs-tail (MayPrecede n place) row rows pairs in
+      let from = least row r.limit (Contains-head row rows) r.is_limit in
+      let there = subst (λ (list : List GraphRow). Contains list y) (limits_head row rows r.limit (Some bound) r.is_limit) has in
       elim (cases_lt bound r.limit) [
         | inl less ↦
             let other : is_last (Some bound) r.limit ≡ false = grind (arith, nat_tests) in
-            first_or less (λ there. above rows later.1 r.limit y (λ s h. ready s (inr h)) (λ s limit h its. (later.0 s h).limits r.limit limit r.is_limit its) there)
-            (subst (λ (list : List GraphRow). Has list y) (limits_head row rows r.limit (Some bound) false r.is_limit other) has)
+            elim (Contains-cons_cases (row_by r.limit row.leg) (by_limits n place rows (Some r.limit)) y (rw other at there)) [
+              | inl is ↦ subst (λ (w : GraphRow). bound < w.by.0) is less
+              | inr more ↦
+                  let after = above rows later r.limit y rest (λ s limit h its. (AllPairs-head (MayPrecede n place) row rows pairs s h).limits r.limit limit r.is_limit its) more in
+                  omega (arith, less, after)
+            ]
         | inr more ↦
             let same : is_last (Some bound) r.limit ≡ true = grind (arith, nat_tests) in
-            above rows later.1 bound y (λ s h. ready s (inr h)) (λ s limit h its. least s limit (inr h) its)
-            (subst (λ (list : List GraphRow). Has list y) (limits_head row rows r.limit (Some bound) true r.is_limit same) has)
+            above rows later bound y rest (λ s limit h its. least s limit (Contains-tail row rows s h) its) (rw same at there)
       ]
-    where
-      first_or : bound < (ready row (inl refl)).limit → (Has (by_limits n place rows (Some (ready row (inl refl)).limit)) y
-          → (ready row (inl refl)).limit < y.by.0) → Has (row_by (ready row (inl refl)).limit row.leg ∷ by_limits n place rows
-          (Some (ready row (inl refl)).limit)) y → bound < y.by.0
-      first_or less more (inl is) = subst (λ (w : GraphRow). bound < w.by.0) (sym is) less
-      first_or less more (inr there) = omega (arith, less, more there)
 
   -- the rows rise
-  pub limits_rise : (rows : List GraphRow) → Later (MayPrecede n place) rows → ((row : GraphRow) → Has rows row → IsReadyRow n place row)
-      → (last : Option ℕ) → Later (λ a b. a.by.0 < b.by.0) (by_limits n place rows last)
-  limits_rise [] later ready last = tt
-  limits_rise (row ∷ rows) later ready last =
-      let r = ready row (inl refl) in
-      subst (λ (list : List GraphRow). Later (λ a b. a.by.0 < b.by.0) list) (sym (limits_head row rows r.limit last (is_last last r.limit) r.is_limit refl))
-      (rise_by (is_last last r.limit) (λ before. limits_rise rows later.1 (λ s h. ready s (inr h)) before))
+  pub limits_rise : (rows : List GraphRow) → AllPairs (MayPrecede n place) rows → All IsReadyHere rows → (last : Option ℕ) → AllPairs (λ a b. a.by.0 < b.by.0) (by_limits n place rows last)
+  limits_rise [] pairs ready last = AllPairs-nil (λ a b. a.by.0 < b.by.0)
+  limits_rise (row ∷ rows) pairs ready last =
+      let r = All-head IsReadyHere row rows ready in
+      let rest = All-tail IsReadyHere row rows ready in
+      let later = AllPairs-tail (MayPrecede n place) row rows pairs in
+      let after = λ (y : GraphRow). above rows later r.limit y rest (λ s limit h its. (AllPairs-head (MayPrecede n place) row rows pairs s h).limits r.limit limit r.is_limit its) in
+      subst (λ (list : List GraphRow). AllPairs (λ a b. a.by.0 < b.by.0) list) (sym (limits_head row rows r.limit last r.is_limit))
+      (by_test r.limit (is_last last r.limit) after (limits_rise rows later rest))
     where
-      rise_by : (test : Bool) → ((before : Option ℕ) → Later (λ a b. a.by.0 < b.by.0) (by_limits n place rows before))
-          → Later (λ a b. a.by.0 < b.by.0) (if test then by_limits n place rows last else row_by (ready row (inl refl)).limit row.leg ∷ by_limits n place rows (Some (ready row (inl refl)).limit))
-      rise_by true more = more last
-      rise_by false more =
-          let r = ready row (inl refl) in
-          (λ y has. above rows later.1 r.limit y (λ s h. ready s (inr h)) (λ s limit h its. (later.0 s h).limits r.limit limit r.is_limit its) has, more (Some r.limit))
+      by_test : (limit : ℕ) (test : Bool) → ((y : GraphRow) → Contains (by_limits n place rows (Some limit)) y → limit < y.by.0)
+          → ((before : Option ℕ) → AllPairs (λ a b. a.by.0 < b.by.0) (by_limits n place rows before))
+          → AllPairs (λ a b. a.by.0 < b.by.0) (if test then by_limits n place rows last else row_by limit row.leg ∷ by_limits n place rows (Some limit))
+      by_test limit true after more = more last
+      by_test limit false after more = AllPairs-with (λ a b. a.by.0 < b.by.0) (row_by limit row.leg) (by_limits n place rows (Some limit)) after (more (Some limit))
 
   -- rows by limits pick the first that is in time
-  pub in_time_by : (rows : List GraphRow) (x : ℕ) → ((row : GraphRow) → Has rows row → limit_of n place row.leg ≡ Some row.by.0) → pick_row rows x ≡ pick_in_time n place rows x
+  pub in_time_by : (rows : List GraphRow) (x : ℕ) → All (λ row. limit_of n place row.leg ≡ Some row.by.0) rows → pick_row rows x ≡ pick_in_time n place rows x
   in_time_by [] x by = refl
   in_time_by (row ∷ rows) x by =
-      ap (λ (found : Option Leg). if nat_le x row.by.0 then Some row.leg else found) (in_time_by rows x (λ r h. by r (inr h)))
-      ∙ ap (λ (limit : Option ℕ). if is_within limit x then Some row.leg else pick_in_time n place rows x) (sym (by row (inl refl)))
+      ap (λ (found : Option Leg). if nat_le x row.by.0 then Some row.leg else found) (in_time_by rows x (All-tail (λ row. limit_of n place row.leg ≡ Some row.by.0) row rows by))
+      ∙ ap (λ (limit : Option ℕ). if is_within limit x then Some row.leg else pick_in_time n place rows x) (sym (All-head (λ row. limit_of n place row.leg ≡ Some row.by.0) row rows by))
 
   -- the first row in time is in time, and stays the first up to its limit
   pub record IsKeptInTime (rows : List GraphRow) (x : ℕ) (leg : Leg) : Type 0 where
@@ -147,13 +144,13 @@ module _ (n : NetworkModel) (place : ℕ) where
     pub in_time : x ≤ limit
     pub kept : (later : ℕ) → x ≤ later → later ≤ limit → pick_in_time n place rows later ≡ Some leg
 
-  pub in_time_kept : (rows : List GraphRow) (x : ℕ) (leg : Leg) → ((row : GraphRow) → Has rows row → IsReadyRow n place row) → pick_in_time n place rows x ≡ Some leg → IsKeptInTime rows x leg
+  pub in_time_kept : (rows : List GraphRow) (x : ℕ) (leg : Leg) → All IsReadyHere rows → pick_in_time n place rows x ≡ Some leg → IsKeptInTime rows x leg
   in_time_kept [] x leg ready is = absurd (cc)
   in_time_kept (row ∷ rows) x leg ready is =
-      let r = ready row (inl refl) in
+      let r = All-head IsReadyHere row rows ready in
       elim (cases_lt r.limit x) [
         | inl late ↦
-            let rest = in_time_kept rows x leg (λ s h. ready s (inr h)) (sym (in_time_next n place row rows x r.limit r.is_limit late) ∙ is) in
+            let rest = in_time_kept rows x leg (All-tail IsReadyHere row rows ready) (sym (in_time_next n place row rows x r.limit r.is_limit late) ∙ is) in
             record {
               limit = rest.limit;
               is_limit = rest.is_limit;
@@ -169,14 +166,3 @@ module _ (n : NetworkModel) (place : ℕ) where
               kept = λ later after within. in_time_here n place row rows later r.limit r.is_limit within ∙ ap (λ (l : Leg). Some l) one;
             }
       ]
-
--- the rows after a leg, by limits
-pub rows_after-limits : (n : NetworkModel) (rides : List Ride) (leg : Leg) → rows_after (map (ride_by_limits n) rides) leg ≡ by_limits n (end_of n leg) (rows_after rides leg) None
-rows_after-limits n [] leg = refl
-rows_after-limits n (r ∷ rides) leg = by_test ((r.leg.enter.0 == leg.enter.0) && (r.leg.exit.0 == leg.exit.0)) refl (rows_after-limits n rides leg)
-  where
-    by_test : (test : Bool) → ((r.leg.enter.0 == leg.enter.0) && (r.leg.exit.0 == leg.exit.0)) ≡ test
-        → rows_after (map (ride_by_limits n) rides) leg ≡ by_limits n (end_of n leg) (rows_after rides leg) None
-        → rows_after (map (ride_by_limits n) (r ∷ rides)) leg ≡ by_limits n (end_of n leg) (rows_after (r ∷ rides) leg) None
-    by_test true is more = rw is (ap (λ (l : Leg). by_limits n (end_of n l) r.after None) (leg_test r.leg leg is))
-    by_test false is more = rw is more

@@ -1,6 +1,7 @@
 -- What a ready graph picks.
 use Rattle.std.proofs.Common.{◌≡◌, ◌≢◌, ℕ, List, Option, Some, Contains, All, sym, subst, ◌∙◌, ap}
 use Rattle.std.specs.Prelude.{MatchOption}
+use Rattle.std.proofs.lemmas.List.Elements.{All-contains}
 use Rattle.plan_model.specs.declared.model.Leg.{Leg}
 use Rattle.plan_model.specs.declared.model.Outcome.{Outcome}
 use Rattle.plan_model.specs.declared.model.Query.{Query}
@@ -12,8 +13,6 @@ use Rattle.plan_graph.specs.declared.ExpandedGraph.{ExpandedGraph}
 use Rattle.plan_graph.specs.Rows.{pick_row, pick_after, HasRisingRides}
 use Rattle.plan_graph.specs.Ready.{IsReady, IsReadyRide, IsReadyRow, IsLegOf, pick_in_time}
 use Rattle.leg_walk.proofs.Rides.{ride_there}
-use Rattle.leg_walk.specs.Placed.{Has}
-use Rattle.leg_walk.proofs.Lists.{all_at_has, contains_from_has}
 use Rattle.leg_walk.proofs.Graphs.{IsKeptAfter}
 use Rattle.graph_prune.proofs.Limits.{in_time_kept}
 
@@ -21,8 +20,8 @@ module _ (n : NetworkModel) (q : Query) (graph : ExpandedGraph) (ready : IsReady
   abbrev choice : Leg → ℕ → Option Leg
   choice = pick_after graph.rides
 
-  pub ready_ride : (r : Ride) → Has graph.rides r → IsReadyRide n q.target.0 r
-  ready_ride r has = all_at_has (IsReadyRide n q.target.0) graph.rides r ready.rides has
+  pub ready_ride : (r : Ride) → Contains graph.rides r → IsReadyRide n q.target.0 r
+  ready_ride r = All-contains (IsReadyRide n q.target.0) graph.rides r ready.rides
 
   -- it can be asked for its picks
   pub rising : HasRisingRides graph.rides
@@ -37,9 +36,7 @@ module _ (n : NetworkModel) (q : Query) (graph : ExpandedGraph) (ready : IsReady
       let picks = subst (λ (l : Leg). end_of n l ≢ q.target.0 → (u : Outcome) → Contains (outcomes_of n l) u
       → pick_row r.found.after (arrival_of n l u.delay) ≡ pick_in_time n (end_of n l) r.found.after (arrival_of n l u.delay)) r.same_leg good.picks in
       let rows : All (IsReadyRow n (end_of n leg)) r.found.after = subst (λ (l : Leg). All (IsReadyRow n (end_of n l)) r.found.after) r.same_leg good.rows in
-      let first = in_time_kept n (end_of n leg) r.found.after x next
-      (λ row there. all_at_has (IsReadyRow n (end_of n leg)) r.found.after row rows there)
-      (sym (picks away o (contains_from_has (outcomes_of n leg) o has)) ∙ ap (λ (list : List GraphRow). pick_row list x) (sym r.same_rows) ∙ is) in
+      let first = in_time_kept n (end_of n leg) r.found.after x next rows (sym (picks away o has) ∙ ap (λ (list : List GraphRow). pick_row list x) (sym r.same_rows) ∙ is) in
       record {
         next = next;
         is_chosen = is;
@@ -48,7 +45,7 @@ module _ (n : NetworkModel) (q : Query) (graph : ExpandedGraph) (ready : IsReady
         in_time = first.in_time;
         kept = λ u there after within.
             ap (λ (list : List GraphRow). pick_row list (arrival_of n leg u.delay)) r.same_rows
-            ∙ picks away u (contains_from_has (outcomes_of n leg) u there)
+            ∙ picks away u there
             ∙ first.kept (arrival_of n leg u.delay) after within;
       }
 

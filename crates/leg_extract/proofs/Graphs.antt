@@ -3,6 +3,7 @@ use Rattle.std.proofs.Common.{◌≡◌, ◌≢◌, ℕ, List, [], map, Option, 
 use Rattle.std.specs.Prelude.{◌==◌, if◌then◌else◌, MatchOption}
 use Rattle.std.specs.Option.{option_map}
 use Rattle.std.proofs.lemmas.Bool.{cases_eq, ne_eqb, eq-eqb}
+use Rattle.std.proofs.lemmas.List.Elements.{All-contains}
 use Rattle.plan_model.specs.declared.model.Leg.{Leg}
 use Rattle.plan_model.specs.declared.model.Query.{Query}
 use Rattle.plan_model.specs.NetworkModel.{NetworkModel}
@@ -16,9 +17,9 @@ use Rattle.plan_graph.specs.declared.Ride.{Ride}
 use Rattle.plan_graph.specs.Ready.{IsLegOf, Stands}
 use Rattle.plan_graph.specs.Follows.{Follows, IsSteady}
 use Rattle.leg_walk.specs.Walked.{IsWalked}
-use Rattle.leg_walk.proofs.Lists.{contains_from_has, has_from_contains, all_at_has}
+use Rattle.leg_walk.proofs.Lists.{All-from_contains}
 use Rattle.leg_walk.proofs.Tables.{table_away, table_there, by_for}
-use Rattle.leg_walk.proofs.Graphs.{IsKeptAfter, ready, busy, all_rides, table_of_ride, picks_taken}
+use Rattle.leg_walk.proofs.Graphs.{IsKeptAfter, ready, busy, table_of_ride, picks_taken}
 use Rattle.meat_scan.specs.Found.{Found, choice_of, leg_choice, chosen_by}
 use Rattle.meat_scan.specs.Solves.{Answers, SolvesEach, IsStartAnswer, IsSafeAt}
 use Rattle.leg_extract.specs.Extracted.{IsExtracted, HasArrivals}
@@ -62,7 +63,7 @@ module _ {V : Type 0} {below covers : V → Tree → Type 0} {gap : V → ℕ} (
     start_leg : IsLegOf n start.1
     start_leg =
         let r = walked.begins in
-        subst (λ (l : Leg). IsLegOf n l) r.2 (all_at_has (λ s. IsLegOf n s.leg) rides r.0 walked.legs (has_from_contains rides r.0 r.1))
+        subst (λ (l : Leg). IsLegOf n l) r.2 (All-contains (λ s. IsLegOf n s.leg) rides r.0 walked.legs r.1)
 
     has_arrivals : (r : Ride) → Contains rides r → HasArrivals n target r
     has_arrivals r there =
@@ -76,7 +77,7 @@ module _ {V : Type 0} {below covers : V → Tree → Type 0} {gap : V → ℕ} (
           | inr away ↦
               let right : (if end_of n r.leg == target then [] else arrivals) ≡ arrivals = rw (ne_eqb (end_of n r.leg) target away) refl in
               ap (λ (list : List GraphRow). map (λ row. row.by.0) list) (table ∙ table_away n target choice r.leg away)
-              ∙ by_for (choice r.leg) (arr_of n r.leg.exit.0) os (λ o has. let t = walked.taken r there away o (contains_from_has os o has) in (t.next, t.is_chosen))
+              ∙ by_for (choice r.leg) (arr_of n r.leg.exit.0) os (λ o has. let t = walked.taken r there away o has in (t.next, t.is_chosen))
               ∙ sym right
         ]
 
@@ -92,7 +93,7 @@ module _ {V : Type 0} {below covers : V → Tree → Type 0} {gap : V → ℕ} (
       ready = ready n valid q choice start.1 rides walked differ start_leg (q.deadline.0, safe_start start starts) (λ r there. kept_after r.leg);
       busy = busy n valid q choice start.1 rides walked;
       whole = λ leg there. walked.whole leg (subst (λ (tree : Tree). Stands leg tree) walked.unfolds there);
-      arrivals = all_rides n valid q choice start.1 rides walked (HasArrivals n target) has_arrivals;
+      arrivals = All-from_contains (HasArrivals n target) rides has_arrivals;
       follows = follows;
       steady = steady;
     }

@@ -3,8 +3,9 @@ pub mod Sets
 pub mod Orders
 pub mod Places
 pub mod Tables
+pub mod Together
 pub mod Reaching
-pub mod Walks
 pub mod Rides
+pub mod Walks
 pub mod Whole
 pub mod Graphs

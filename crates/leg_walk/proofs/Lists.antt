@@ -1,64 +1,57 @@
--- Elements of lists, by recursion.
-use Rattle.std.proofs.Common.{◌≡◌, ℕ, zero, suc, ◌<◌, ◌⊎◌, List, [], ◌∷◌, ◌++◌, map, length, All, AllPairs, Contains, arith, sym, subst, refl, inl, inr, ap}
+-- Elements of lists, one at a time.
+use Rattle.std.proofs.Common.{◌≡◌, zero, suc, ◌<◌, ◌⊎◌, ℕ, List, [], ◌∷◌, map, length, All, AllPairs, Contains, arith, refl, inl, inr, ap}
 use Rattle.std.specs.Prelude.{slice_index_or}
+use Rattle.std.proofs.lemmas.List.Elements.{All-contains, All-map, Contains-get_or}
 use Rattle.std.proofs.lemmas.List.Kept.{AllPairs-cons}
-use Rattle.leg_walk.specs.Placed.{Has}
 
-pub has_at : {X : Type 0} (xs : List X) (k : ℕ) (d : X) → k < length xs → Has xs (slice_index_or xs k d)
-has_at [] k d within = absurd (omega (arith, within))
-has_at (x ∷ xs) zero d within = inl refl
-has_at (x ∷ xs) (suc k) d within = inr (has_at xs k d (omega (arith, within)))
+module _ {X : Type 0} where
+  pub Contains-nil : (x : X) → Contains [] x → ⊥
+  Contains-nil x has = omega (arith, has.1)
 
-pub has_from_contains : {X : Type 0} (xs : List X) (x : X) → Contains xs x → Has xs x
-has_from_contains xs x c = subst (λ y. Has xs y) c.2 (has_at xs c.0 x c.1)
+  pub Contains-head : (x : X) (xs : List X) → Contains (x ∷ xs) x
+  Contains-head x xs = (0, omega arith, refl)
 
-pub contains_from_has : {X : Type 0} (xs : List X) (x : X) → Has xs x → Contains xs x
-contains_from_has [] x has = absurd has
-contains_from_has (y ∷ ys) x (inl is) = (0, omega arith, sym is)
-contains_from_has (y ∷ ys) x (inr has) = let c = contains_from_has ys x has in (suc c.0, omega (arith, c.1), c.2)
+  pub Contains-tail : (y : X) (xs : List X) (x : X) → Contains xs x → Contains (y ∷ xs) x
+  Contains-tail y xs x has = (suc has.0, omega (arith, has.1), has.2)
 
-pub all_from_has : {X : Type 0} (P : X → Type 0) (xs : List X) → ((x : X) → Has xs x → P x) → All P xs
-all_from_has P xs each = λ k d within. each (slice_index_or xs k d) (has_at xs k d within)
+  pub Contains-cons_cases : (y : X) (xs : List X) (x : X) → Contains (y ∷ xs) x → (y ≡ x) ⊎ Contains xs x
+  Contains-cons_cases y xs x has = at_place has.0 has.1 has.2
+    where
+      at_place : (k : ℕ) → k < length (y ∷ xs) → slice_index_or (y ∷ xs) k x ≡ x → (y ≡ x) ⊎ Contains xs x
+      at_place zero within is = inl is
+      at_place (suc k) within is = inr (k, omega (arith, within), is)
 
-pub all_at_has : {X : Type 0} (P : X → Type 0) (xs : List X) (x : X) → All P xs → Has xs x → P x
-all_at_has P xs x all has = let c = contains_from_has xs x has in subst P c.2 (all c.0 x c.1)
+  pub All-from_contains : (P : X → Type 0) (xs : List X) → ((x : X) → Contains xs x → P x) → All P xs
+  All-from_contains P xs each = λ k d within. each (slice_index_or xs k d) (Contains-get_or xs k d within)
 
--- each element stands so to all later ones
-abbrev pub Later : {X : Type 0} → (X → X → Type 0) → List X → Type 0
-Later R [] = Unit {0}
-Later {X} R (x ∷ xs) = ((y : X) → Has xs y → R x y) × Later R xs
+  module _ (R : X → X → Type 0) where
+    pub AllPairs-nil : AllPairs R []
+    AllPairs-nil i j d below within = absurd (omega (arith, within))
 
-pub pairs_from_later : {X : Type 0} (R : X → X → Type 0) (xs : List X) → Later R xs → AllPairs R xs
-pairs_from_later R [] later = λ i j d below within. absurd (omega (arith, within))
-pairs_from_later R (x ∷ xs) later = AllPairs-cons R x xs (all_from_has (R x) xs later.0) (pairs_from_later R xs later.1)
+    pub AllPairs-head : (x : X) (xs : List X) → AllPairs R (x ∷ xs) → (y : X) → Contains xs y → R x y
+    AllPairs-head x xs pairs = λ y. All-contains (R x) xs y (λ k d within. pairs 0 (suc k) d (omega arith) (omega (arith, within)))
 
-pub later_from_pairs : {X : Type 0} (R : X → X → Type 0) (xs : List X) → AllPairs R xs → Later R xs
-later_from_pairs R [] pairs = tt
-later_from_pairs {X} R (x ∷ xs) pairs = (
-  λ y has. let c = contains_from_has xs y has in subst (λ (z : X). R x z) c.2 (pairs 0 (suc c.0) y (omega arith) (omega (arith, c.1))),
-  later_from_pairs R xs (λ i j d below within. pairs (suc i) (suc j) d (omega (arith, below)) (omega (arith, within))),
-)
+    pub AllPairs-tail : (x : X) (xs : List X) → AllPairs R (x ∷ xs) → AllPairs R xs
+    AllPairs-tail x xs pairs = λ i j d below within. pairs (suc i) (suc j) d (omega (arith, below)) (omega (arith, within))
 
-pub has_append : {X : Type 0} (xs ys : List X) (x : X) → Has xs x → Has (xs ++ ys) x
-has_append [] ys x has = absurd has
-has_append (y ∷ xs) ys x (inl is) = inl is
-has_append (y ∷ xs) ys x (inr has) = inr (has_append xs ys x has)
+    pub AllPairs-with : (x : X) (xs : List X) → ((y : X) → Contains xs y → R x y) → AllPairs R xs → AllPairs R (x ∷ xs)
+    AllPairs-with x xs each = AllPairs-cons R x xs (All-from_contains (R x) xs each)
 
-pub has_append_right : {X : Type 0} (xs ys : List X) (x : X) → Has ys x → Has (xs ++ ys) x
-has_append_right [] ys x has = has
-has_append_right (y ∷ xs) ys x has = inr (has_append_right xs ys x has)
+module _ {X Y : Type 0} (f : X → Y) where
+  pub Contains-map : (xs : List X) (x : X) → Contains xs x → Contains (map f xs) (f x)
+  Contains-map [] x has = absurd (Contains-nil x has)
+  Contains-map (y ∷ xs) x has = elim (Contains-cons_cases y xs x has) [
+    | inl is ↦ (0, omega arith, ap f is)
+    | inr more ↦ Contains-tail (f y) (map f xs) (f x) (Contains-map xs x more)
+  ]
 
-pub has_split : {X : Type 0} (xs ys : List X) (x : X) → Has (xs ++ ys) x → Has xs x ⊎ Has ys x
-has_split [] ys x has = inr has
-has_split (y ∷ xs) ys x (inl is) = inl (inl is)
-has_split (y ∷ xs) ys x (inr has) = elim (has_split xs ys x has) [ inl a ↦ inl (inr a) | inr b ↦ inr b ]
+  pub Contains-from_map : (xs : List X) (y : Y) → Contains (map f xs) y → (x : X) × Contains xs x × (f x ≡ y)
+  Contains-from_map xs y =
+      let from = λ (z : Y). (x : X) × Contains xs x × (f x ≡ z) in
+      All-contains from (map f xs) y (All-map from f xs (All-from_contains (λ x. from (f x)) xs (λ x has. (x, has, refl))))
 
-pub has_map : {X Y : Type 0} (f : X → Y) (xs : List X) (x : X) → Has xs x → Has (map f xs) (f x)
-has_map f [] x has = absurd has
-has_map f (y ∷ xs) x (inl is) = inl (ap f is)
-has_map f (y ∷ xs) x (inr has) = inr (has_map f xs x has)
-
-pub has_from_map : {X Y : Type 0} (f : X → Y) (xs : List X) (y : Y) → Has (map f xs) y → (x : X) × Has xs x × (y ≡ f x)
-has_from_map f [] y has = absurd has
-has_from_map f (x ∷ xs) y (inl is) = (x, inl refl, is)
-has_from_map f (x ∷ xs) y (inr has) = let found = has_from_map f xs y has in (found.0, inr found.1, found.2)
+  pub AllPairs-map : (R : Y → Y → Type 0) (xs : List X) → AllPairs (λ a b. R (f a) (f b)) xs → AllPairs R (map f xs)
+  AllPairs-map R [] pairs = AllPairs-nil R
+  AllPairs-map R (x ∷ xs) pairs = AllPairs-cons R (f x) (map f xs)
+      (All-map (R (f x)) f xs (All-from_contains (λ y. R (f x) (f y)) xs (AllPairs-head (λ a b. R (f a) (f b)) x xs pairs)))
+      (AllPairs-map R xs (AllPairs-tail (λ a b. R (f a) (f b)) x xs pairs))

@@ -1,5 +1,5 @@
 -- From a placed leg to those that are chosen after it.
-use Rattle.std.proofs.Common.{◌≡◌, ◌≢◌, ℕ, zero, suc, ◌+◌, List, [], ◌∷◌, Option, Some, None, sym, subst, refl, inl, inr}
+use Rattle.std.proofs.Common.{◌≡◌, ◌≢◌, ℕ, zero, suc, ◌+◌, List, [], ◌∷◌, Option, Some, None, Contains, sym, subst, refl, inl, inr}
 use Rattle.std.proofs.lemmas.Bool.{ne_eqb}
 use Rattle.plan_model.specs.declared.model.Leg.{Leg}
 use Rattle.plan_model.specs.declared.model.Outcome.{Outcome}
@@ -9,7 +9,8 @@ use Rattle.plan_model.specs.Tree.{Tree, Stuck}
 use Rattle.plan_model.specs.Strategy.{IsBoardable, IsSafe, AreSafe}
 use Rattle.plan_model.specs.Unfold.{end_of, arrival_of, outcomes_of, kids_after, ride_or_stuck, unfold_after}
 use Rattle.plan_graph.specs.Ready.{Stands, StandsIn}
-use Rattle.leg_walk.specs.Placed.{Has, StandsSafely}
+use Rattle.leg_walk.specs.Placed.{StandsSafely}
+use Rattle.leg_walk.proofs.Lists.{Contains-nil, Contains-cons_cases}
 
 -- the leg that is chosen after a leg that arrives at a moment is placed
 pub record IsPlacedNext (n : NetworkModel) (target : ℕ) (by : Option ℕ) (choice : Leg → ℕ → Option Leg) (whole : Tree) (leg : Leg) (arrival : ℕ) : Type 0 where
@@ -20,15 +21,19 @@ pub record IsPlacedNext (n : NetworkModel) (target : ℕ) (by : Option ℕ) (cho
 
 module _ (n : NetworkModel) (target : ℕ) (by : Option ℕ) (choice : Leg → ℕ → Option Leg) where
   pub safe_kid : (f : ℕ → Tree) (row : List Outcome) (place scheduled : ℕ) → AreSafe n target by (kids_after f scheduled row) row place scheduled
-      → (o : Outcome) → Has row o → IsSafe n target by (f (scheduled + o.delay)) place (scheduled + o.delay)
-  safe_kid f [] place scheduled safe o has = absurd has
-  safe_kid f (head ∷ row) place scheduled safe o (inl is) = subst (λ (u : Outcome). IsSafe n target by (f (scheduled + u.delay)) place (scheduled + u.delay)) (sym is) safe.1
-  safe_kid f (head ∷ row) place scheduled safe o (inr has) = safe_kid f row place scheduled safe.2 o has
+      → (o : Outcome) → Contains row o → IsSafe n target by (f (scheduled + o.delay)) place (scheduled + o.delay)
+  safe_kid f [] place scheduled safe o has = absurd (Contains-nil o has)
+  safe_kid f (head ∷ row) place scheduled safe o has = elim (Contains-cons_cases head row o has) [
+    | inl is ↦ subst (λ (u : Outcome). IsSafe n target by (f (scheduled + u.delay)) place (scheduled + u.delay)) is safe.1
+    | inr more ↦ safe_kid f row place scheduled safe.2 o more
+  ]
 
-  pub stands_kid : (f : ℕ → Tree) (row : List Outcome) (scheduled : ℕ) (other : Leg) (o : Outcome) → Has row o → Stands other (f (scheduled + o.delay)) → StandsIn other (kids_after f scheduled row)
-  stands_kid f [] scheduled other o has stands = absurd has
-  stands_kid f (head ∷ row) scheduled other o (inl is) stands = inl (subst (λ (u : Outcome). Stands other (f (scheduled + u.delay))) is stands)
-  stands_kid f (head ∷ row) scheduled other o (inr has) stands = inr (stands_kid f row scheduled other o has stands)
+  pub stands_kid : (f : ℕ → Tree) (row : List Outcome) (scheduled : ℕ) (other : Leg) (o : Outcome) → Contains row o → Stands other (f (scheduled + o.delay)) → StandsIn other (kids_after f scheduled row)
+  stands_kid f [] scheduled other o has stands = absurd (Contains-nil o has)
+  stands_kid f (head ∷ row) scheduled other o has stands = elim (Contains-cons_cases head row o has) [
+    | inl is ↦ inl (subst (λ (u : Outcome). Stands other (f (scheduled + u.delay))) (sym is) stands)
+    | inr more ↦ inr (stands_kid f row scheduled other o more stands)
+  ]
 
   next_by : (whole : Tree) (rides : ℕ) (leg : Leg) (arrival : ℕ) (found : Option Leg) → choice leg arrival ≡ found
       → IsSafe n target by (ride_or_stuck n (unfold_after n target choice rides) found (end_of n leg) arrival) (end_of n leg) arrival
@@ -64,7 +69,7 @@ module _ (n : NetworkModel) (target : ℕ) (by : Option ℕ) (choice : Leg → �
 
   -- after each outcome of a placed leg a placed leg is chosen
   pub next_after : (whole : Tree) (leg : Leg) → StandsSafely n target by choice whole leg → end_of n leg ≢ target → (o : Outcome)
-      → Has (outcomes_of n leg) o → IsPlacedNext n target by choice whole leg (arrival_of n leg o.delay)
+      → Contains (outcomes_of n leg) o → IsPlacedNext n target by choice whole leg (arrival_of n leg o.delay)
   next_after whole leg placed away o has =
       let f = unfold_after n target choice placed.rides leg in
       next_at whole placed.rides leg (arrival_of n leg o.delay) away

@@ -1,9 +1,11 @@
 -- What is kept while legs are reached.
-use Rattle.std.proofs.Common.{◌≡◌, ◌≢◌, ℕ, ◌-◌, ◌<◌, ◌⊎◌, Bool, true, false, List, [], ◌∷◌, ◌++◌, map, length, Option, Some, arith, sym, subst, refl, inl, inr, ◌∙◌, ap}
+use Rattle.std.proofs.Common.{◌≡◌, ◌≢◌, ℕ, ◌-◌, ◌<◌, ◌⊎◌, Bool, true, false, List, [], ◌∷◌, ◌++◌, map, length, Option, Some, Contains, arith, sym, subst, refl, inl, inr, ◌∙◌, ap}
 use Rattle.std.specs.Prelude.{MatchBool}
 use Rattle.std.specs.BTreeMap.{is_at}
 use Rattle.std.specs.List.{list_any}
 use Rattle.std.proofs.lemmas.Bool.{ne_eqb}
+use Rattle.std.proofs.lemmas.List.Elements.{Contains-append_left, Contains-append_right, Contains-append_cases, Contains-push, Contains-push_cases}
+use Rattle.std.proofs.lemmas.Map.Views.{Contains-from_any, tells_apart}
 use Rattle.plan_model.specs.declared.model.Leg.{Leg}
 use Rattle.plan_model.specs.declared.model.Query.{Query}
 use Rattle.plan_model.specs.NetworkModel.{NetworkModel}
@@ -14,21 +16,21 @@ use Rattle.plan_model.specs.Unfold.{arrival_of, ride_of, unfold_after, unfolded}
 use Rattle.plan_graph.specs.declared.GraphRow.{GraphRow}
 use Rattle.plan_graph.specs.Ready.{IsSafeForSome, Stands}
 use Rattle.leg_walk.specs.Tables.{table_of, leg_cmp, with_leg}
-use Rattle.leg_walk.specs.Placed.{Has, StandsSafely}
-use Rattle.leg_walk.proofs.Lists.{has_append, has_append_right, has_split, has_map, has_from_map}
-use Rattle.leg_walk.proofs.Sets.{kept_with, there_with, only_with, there_if}
-use Rattle.leg_walk.proofs.Orders.{leg_equal}
+use Rattle.leg_walk.specs.Placed.{StandsSafely}
+use Rattle.leg_walk.proofs.Lists.{Contains-nil, Contains-map, Contains-from_map}
+use Rattle.leg_walk.proofs.Sets.{Contains-insert_key, Contains-insert_key_cases, Contains-inserted_key}
+use Rattle.leg_walk.proofs.Orders.{leg_cmp-exact}
 use Rattle.leg_walk.proofs.Places.{next_after}
 use Rattle.leg_walk.proofs.Tables.{same_next, table_row}
 
 -- the leg is to do, or was seen
 abbrev pub Known : List Leg → List Leg → Leg → Type 0
-Known todo seen leg = Has todo leg ⊎ Has seen leg
+Known todo seen leg = Contains todo leg ⊎ Contains seen leg
 
 pub record IsReaching (n : NetworkModel) (target : ℕ) (by : Option ℕ) (choice : Leg → ℕ → Option Leg) (whole : Tree) (start : Leg) (todo : List Leg) (seen : List Leg) : Type 0 where
   pub start_known : Known todo seen start
   pub placed : (leg : Leg) → Known todo seen leg → StandsSafely n target by choice whole leg
-  pub closed : (leg : Leg) → Has seen leg → (row : GraphRow) → Has (table_of n target choice leg) row → Known todo seen row.leg
+  pub closed : (leg : Leg) → Contains seen leg → (row : GraphRow) → Contains (table_of n target choice leg) row → Known todo seen row.leg
 
 -- the tree of a choice begins with its start leg
 pub starts_by : (n : NetworkModel) (q : Query) (choice : Leg → ℕ → Option Leg) (start : Leg) → q.source.0 ≢ q.target.0
@@ -50,7 +52,7 @@ start_placed n q choice start differ safe =
 
 module _ (n : NetworkModel) (target : ℕ) (by : Option ℕ) (choice : Leg → ℕ → Option Leg) (whole : Tree) where
   -- the leg of a row of a placed leg's table is placed
-  pub placed_row : (leg : Leg) → StandsSafely n target by choice whole leg → (row : GraphRow) → Has (table_of n target choice leg) row → StandsSafely n target by choice whole row.leg
+  pub placed_row : (leg : Leg) → StandsSafely n target by choice whole leg → (row : GraphRow) → Contains (table_of n target choice leg) row → StandsSafely n target by choice whole row.leg
   placed_row leg placed row has =
       let at = table_row n target choice leg row has in
       let m = at.from_outcome in
@@ -61,48 +63,42 @@ module _ (n : NetworkModel) (target : ℕ) (by : Option ℕ) (choice : Leg → �
   module _ (start : Leg) where
     pub begin : StandsSafely n target by choice whole start → IsReaching n target by choice whole start (start ∷ []) []
     begin placed = record {
-      start_known = inl (inl refl);
-      placed = λ leg known. only_start leg known;
-      closed = λ leg has row there. absurd has;
+      start_known = inl (Contains-push [] start);
+      placed = λ leg known. elim known [
+        | inl has ↦ elim (Contains-push_cases [] start leg has) [
+          | inl none ↦ absurd (Contains-nil leg none)
+          | inr is ↦ subst (λ (l : Leg). StandsSafely n target by choice whole l) is placed
+        ]
+        | inr has ↦ absurd (Contains-nil leg has)
+      ];
+      closed = λ leg has. absurd (Contains-nil leg has);
     }
-      where
-        only_start : (leg : Leg) → Known (start ∷ []) [] leg → StandsSafely n target by choice whole leg
-        only_start leg (inl (inl is)) = subst (λ (l : Leg). StandsSafely n target by choice whole l) (sym is) placed
-        only_start leg (inl (inr has)) = absurd has
-        only_start leg (inr has) = absurd has
 
     module _ (todo after : List Leg) (seen : List Leg) (leg : Leg) (old : IsReaching n target by choice whole start (todo ++ leg ∷ []) seen)
-        (keeps : (l : Leg) → Has todo l → Has after l)
-        (only : (l : Leg) → Has after l → Has todo l ⊎ StandsSafely n target by choice whole l)
-        (leg_closed : (row : GraphRow) → Has (table_of n target choice leg) row → Has after row.leg ⊎ Known (todo ++ leg ∷ []) seen row.leg) where
-      leg_placed : StandsSafely n target by choice whole leg
-      leg_placed = old.placed leg (inl (has_append_right todo (leg ∷ []) leg (inl refl)))
-
+        (keeps : (l : Leg) → Contains todo l → Contains after l)
+        (only : (l : Leg) → Contains after l → Contains todo l ⊎ StandsSafely n target by choice whole l)
+        (leg_closed : (row : GraphRow) → Contains (table_of n target choice leg) row → Contains after row.leg ⊎ Known (todo ++ leg ∷ []) seen row.leg) where
       known_on : (l : Leg) → Known (todo ++ leg ∷ []) seen l → Known after (with_leg seen leg) l
-      known_on l (inl has) = elim (has_split todo (leg ∷ []) l has) [
+      known_on l (inl has) = elim (Contains-push_cases todo leg l has) [
         | inl a ↦ inl (keeps l a)
-        | inr b ↦ inr (is_leg b)
+        | inr is ↦ inr (subst (λ (z : Leg). Contains (with_leg seen leg) z) is (Contains-inserted_key leg_cmp leg_cmp-exact seen leg))
       ]
-        where
-          is_leg : Has (leg ∷ []) l → Has (with_leg seen leg) l
-          is_leg (inl is) = subst (λ (z : Leg). Has (with_leg seen leg) z) (sym is) (there_with leg_cmp leg_equal seen leg)
-          is_leg (inr none_left) = absurd none_left
-      known_on l (inr has) = inr (kept_with leg_cmp leg_equal seen leg l has)
+      known_on l (inr has) = inr (Contains-insert_key leg_cmp seen leg l has)
 
       all_placed : (l : Leg) → Known after (with_leg seen leg) l → StandsSafely n target by choice whole l
       all_placed l (inl has) = elim (only l has) [
-        | inl a ↦ old.placed l (inl (has_append todo (leg ∷ []) l a))
+        | inl a ↦ old.placed l (inl (Contains-append_left todo (leg ∷ []) l a))
         | inr b ↦ b
       ]
-      all_placed l (inr has) = elim (only_with leg_cmp leg_equal seen leg l has) [
+      all_placed l (inr has) = elim (Contains-insert_key_cases leg_cmp seen leg l has) [
         | inl a ↦ old.placed l (inr a)
-        | inr is ↦ subst (λ (z : Leg). StandsSafely n target by choice whole z) (sym is) leg_placed
+        | inr is ↦ subst (λ (z : Leg). StandsSafely n target by choice whole z) is (old.placed leg (inl (Contains-push todo leg)))
       ]
 
-      all_closed : (l : Leg) → Has (with_leg seen leg) l → (row : GraphRow) → Has (table_of n target choice l) row → Known after (with_leg seen leg) row.leg
-      all_closed l has row there = elim (only_with leg_cmp leg_equal seen leg l has) [
+      all_closed : (l : Leg) → Contains (with_leg seen leg) l → (row : GraphRow) → Contains (table_of n target choice l) row → Known after (with_leg seen leg) row.leg
+      all_closed l has row there = elim (Contains-insert_key_cases leg_cmp seen leg l has) [
         | inl a ↦ known_on row.leg (old.closed l a row there)
-        | inr is ↦ elim (leg_closed row (subst (λ (z : Leg). Has (table_of n target choice z) row) is there)) [
+        | inr is ↦ elim (leg_closed row (subst (λ (z : Leg). Contains (table_of n target choice z) row) (sym is) there)) [
           | inl h ↦ inl h
           | inr k ↦ known_on row.leg k
         ]
@@ -116,18 +112,19 @@ module _ (n : NetworkModel) (target : ℕ) (by : Option ℕ) (choice : Leg → �
         → MatchBool test (after ≡ todo) (after ≡ todo ++ map (λ row. row.leg) (table_of n target choice leg))
         → IsReaching n target by choice whole start after (with_leg seen leg)
     visited_by todo after seen leg true is old same =
-        stepped todo after seen leg old (λ l has. subst (λ (list : List Leg). Has list l) (sym same) has) (λ l has. inl (subst (λ (list : List Leg). Has list l) same has))
-        (λ row has. inr (old.closed leg (there_if leg_cmp leg_equal seen leg is) row has))
+        stepped todo after seen leg old (λ l has. subst (λ (list : List Leg). Contains list l) (sym same) has) (λ l has. inl (subst (λ (list : List Leg). Contains list l) same has))
+        (λ row has. inr (old.closed leg (Contains-from_any (tells_apart leg_cmp-exact) leg seen is) row has))
     visited_by todo after seen leg false is old more =
-        let legs = map (λ (row : GraphRow). row.leg) (table_of n target choice leg) in
-        let placed = old.placed leg (inl (has_append_right todo (leg ∷ []) leg (inl refl))) in
-        stepped todo after seen leg old (λ l has. subst (λ (list : List Leg). Has list l) (sym more) (has_append todo legs l has))
-        (λ l has. elim (has_split todo legs l (subst (λ (list : List Leg). Has list l) more has)) [
+        let table = table_of n target choice leg in
+        let legs = map (λ (row : GraphRow). row.leg) table in
+        let placed = old.placed leg (inl (Contains-push todo leg)) in
+        stepped todo after seen leg old (λ l has. subst (λ (list : List Leg). Contains list l) (sym more) (Contains-append_left todo legs l has))
+        (λ l has. elim (Contains-append_cases todo legs l (subst (λ (list : List Leg). Contains list l) more has)) [
           | inl a ↦ inl a
-          | inr b ↦ let found = has_from_map (λ (row : GraphRow). row.leg) (table_of n target choice leg) l b in
-              inr (subst (λ (z : Leg). StandsSafely n target by choice whole z) (sym found.2) (placed_row leg placed found.0 found.1))
+          | inr b ↦ let found = Contains-from_map (λ (row : GraphRow). row.leg) table l b in
+              inr (subst (λ (z : Leg). StandsSafely n target by choice whole z) found.2 (placed_row leg placed found.0 found.1))
         ])
-        (λ row has. inl (subst (λ (list : List Leg). Has list row.leg) (sym more) (has_append_right todo legs row.leg (has_map (λ (r : GraphRow). r.leg) (table_of n target choice leg) row has))))
+        (λ row has. inl (subst (λ (list : List Leg). Contains list row.leg) (sym more) (Contains-append_right todo legs row.leg (Contains-map (λ (r : GraphRow). r.leg) table row has))))
 
     -- after a visit
     pub visited : (todo after : List Leg) (seen : List Leg) (leg : Leg)
@@ -142,10 +139,10 @@ module _ (n : NetworkModel) (target : ℕ) (by : Option ℕ) (choice : Leg → �
     popped all todo seen leg at is = subst (λ (list : List Leg). IsReaching n target by choice whole start list seen) is at
 
     pub popped_there : (todo : List Leg) (seen : List Leg) (leg : Leg) → IsReaching n target by choice whole start (todo ++ leg ∷ []) seen → leg.exit.0 < count n
-    popped_there todo seen leg at = (at.placed leg (inl (has_append_right todo (leg ∷ []) leg (inl refl)))).is_leg.exit
+    popped_there todo seen leg at = (at.placed leg (inl (Contains-push todo leg))).is_leg.exit
 
     -- when nothing is left to do
-    pub all_seen : (todo : List Leg) (seen : List Leg) → length todo ≡ 0 → (leg : Leg) → Known todo seen leg → Has seen leg
+    pub all_seen : (todo : List Leg) (seen : List Leg) → length todo ≡ 0 → (leg : Leg) → Known todo seen leg → Contains seen leg
     all_seen (other ∷ todo) seen done leg known = absurd (omega (arith, done))
-    all_seen [] seen done leg (inl has) = absurd has
+    all_seen [] seen done leg (inl has) = absurd (Contains-nil leg has)
     all_seen [] seen done leg (inr has) = has

@@ -1,17 +1,16 @@
 -- The rides of legs.
-use Rattle.std.proofs.Common.{◌≡◌, ℕ, Bool, true, false, List, [], ◌∷◌, Some, sym, subst, refl, inl, inr, ◌∙◌, ap}
+use Rattle.std.proofs.Common.{◌≡◌, ℕ, Bool, true, false, List, [], ◌∷◌, Some, AllPairs, Contains, refl, inl, inr, ◌∙◌, ap}
 use Rattle.std.specs.Prelude.{◌==◌, ◌&&◌, if◌then◌else◌}
 use Rattle.plan_model.specs.declared.model.Leg.{Leg}
 use Rattle.plan_graph.specs.declared.Ride.{Ride}
 use Rattle.plan_graph.specs.Rows.{pick_row, pick_after, rows_after, Precedes}
 use Rattle.plan_graph.proofs.Searches.{leg_test, rows_here, rows_further, precedes_itself}
-use Rattle.leg_walk.specs.Placed.{Has}
-use Rattle.leg_walk.proofs.Lists.{Later}
+use Rattle.leg_walk.proofs.Lists.{Contains-nil, Contains-head, Contains-tail, Contains-cons_cases, AllPairs-head, AllPairs-tail}
 
 -- a ride of the leg, with its rows
 pub record IsRideOf (rides : List Ride) (leg : Leg) : Type 0 where
   pub found : Ride
-  pub has : Has rides found
+  pub has : Contains rides found
   pub same_leg : found.leg ≡ leg
   pub same_rows : rows_after rides leg ≡ found.after
 
@@ -22,13 +21,18 @@ ride_there (r ∷ rides) leg x next picks = by_test ((r.leg.enter.0 == leg.enter
   where
     by_test : (test : Bool) → ((r.leg.enter.0 == leg.enter.0) && (r.leg.exit.0 == leg.exit.0)) ≡ test
         → (pick_after rides leg x ≡ Some next → IsRideOf rides leg) → pick_row (if test then r.after else rows_after rides leg) x ≡ Some next → IsRideOf (r ∷ rides) leg
-    by_test true is more picks = record { found = r; has = inl refl; same_leg = leg_test r.leg leg is; same_rows = ap (λ (test : Bool). if test then r.after else rows_after rides leg) is }
+    by_test true is more picks = record { found = r; has = Contains-head r rides; same_leg = leg_test r.leg leg is; same_rows = ap (λ (test : Bool). if test then r.after else rows_after rides leg) is }
     by_test false is more picks =
         let rest = more picks in
-        record { found = rest.found; has = inr rest.has; same_leg = rest.same_leg; same_rows = ap (λ (test : Bool). if test then r.after else rows_after rides leg) is ∙ rest.same_rows }
+        record { found = rest.found; has = Contains-tail r rides rest.found rest.has; same_leg = rest.same_leg; same_rows = ap (λ (test : Bool). if test then r.after else rows_after rides leg) is ∙ rest.same_rows }
 
 -- where rides rise, the rows after a ride's leg are its own
-pub rows_after-own : (rides : List Ride) → Later (λ a b. Precedes a.leg b.leg) rides → (r : Ride) → Has rides r → rows_after rides r.leg ≡ r.after
-rows_after-own [] rising r has = absurd has
-rows_after-own (head ∷ rides) rising r (inl is) = subst (λ (s : Ride). rows_after (head ∷ rides) s.leg ≡ s.after) (sym is) (rows_here head rides head.leg refl)
-rows_after-own (head ∷ rides) rising r (inr has) = rows_further head rides r.leg (precedes_itself head.leg r.leg (rising.0 r has)) ∙ rows_after-own rides rising.1 r has
+pub rows_after-own : (rides : List Ride) → AllPairs (λ a b. Precedes a.leg b.leg) rides → (r : Ride) → Contains rides r → rows_after rides r.leg ≡ r.after
+rows_after-own [] rising r has = absurd (Contains-nil r has)
+rows_after-own (head ∷ rides) rising r has = elim (Contains-cons_cases head rides r has) [
+  | inl is ↦ rows_here head rides r.leg (ap (λ (s : Ride). s.leg) is) ∙ ap (λ (s : Ride). s.after) is
+  | inr more ↦
+      let before = λ (a b : Ride). Precedes a.leg b.leg in
+      rows_further head rides r.leg (precedes_itself head.leg r.leg (AllPairs-head before head rides rising r more))
+      ∙ rows_after-own rides (AllPairs-tail before head rides rising) r more
+]

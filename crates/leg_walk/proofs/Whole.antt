@@ -11,18 +11,10 @@ use Rattle.plan_graph.specs.declared.GraphRow.{GraphRow}
 use Rattle.plan_graph.specs.declared.Ride.{Ride}
 use Rattle.plan_graph.specs.Rows.{pick_row, pick_after}
 use Rattle.plan_graph.specs.Ready.{Stands, StandsIn}
+use Rattle.plan_graph.proofs.Searches.{same_leg}
 use Rattle.leg_walk.specs.Walked.{HasRideOf}
-use Rattle.leg_walk.proofs.Lists.{contains_from_has}
 use Rattle.leg_walk.proofs.Rides.{ride_there}
-use Rattle.leg_walk.proofs.Tables.{picked_has}
-
-abbrev leg_by : ℕ → ℕ → Leg
-leg_by i j = record { enter = record { 0 = i }; exit = record { 0 = j } }
-
--- a leg is told by its entry and its exit
-same_leg : (a b : Leg) → a.enter.0 ≡ b.enter.0 → a.exit.0 ≡ b.exit.0 → a ≡ b
-same_leg a b enter exit =
-    ap (λ (i : ℕ). leg_by i a.exit.0) enter ∙ ap (λ (j : ℕ). leg_by b.enter.0 j) exit
+use Rattle.leg_walk.proofs.Tables.{picked_there}
 
 -- what stands after the outcomes of a ride stands after one of them
 stands_after : (leg : Leg) (f : ℕ → Tree) (scheduled : ℕ) (row : List Outcome) → StandsIn leg (kids_after f scheduled row) → (x : ℕ) × Stands leg (f x)
@@ -36,9 +28,9 @@ module _ (n : NetworkModel) (target : ℕ) (rides : List Ride)
   picked_ride : (own : Leg) (x : ℕ) (next : Leg) → pick_after rides own x ≡ Some next → HasRideOf rides next
   picked_ride own x next picks =
       let own_ride = ride_there rides own x next picks in
-      let row = picked_has own_ride.found.after x next (ap (λ (rows : List GraphRow). pick_row rows x) (sym own_ride.same_rows) ∙ picks) in
+      let row = picked_there own_ride.found.after x next (ap (λ (rows : List GraphRow). pick_row rows x) (sym own_ride.same_rows) ∙ picks) in
       subst (λ (l : Leg). HasRideOf rides l) row.2
-      (closed own_ride.found (contains_from_has rides own_ride.found own_ride.has) row.0 (contains_from_has own_ride.found.after row.0 row.1))
+      (closed own_ride.found own_ride.has row.0 row.1)
 
   ride_of_first : (leg : Leg) (next : Leg → ℕ → Tree) (p x : ℕ) (first : Option Leg)
       → ((own : Leg) → first ≡ Some own → HasRideOf rides own)

@@ -1,5 +1,5 @@
 -- Which legs stand in the tree that a choice fixes.
-use Rattle.std.specs.Prelude.{◌≡◌, ℕ, ◌⊎◌, List, [], ◌∷◌, Option}
+use Rattle.std.specs.Prelude.{ℕ, List, Option, Contains}
 use Rattle.std.specs.List.Sorted.{IsStrictlySortedBy}
 use Rattle.plan_model.specs.declared.model.Leg.{Leg}
 use Rattle.plan_model.specs.NetworkModel.{NetworkModel}
@@ -10,11 +10,6 @@ use Rattle.plan_model.specs.Unfold.{end_of, outcomes_of, kids_after, unfold_afte
 use Rattle.plan_graph.specs.declared.GraphRow.{GraphRow}
 use Rattle.plan_graph.specs.Ready.{IsLegOf, Stands, StandsIn}
 use Rattle.leg_walk.specs.Tables.{table_of, leg_cmp}
-
--- the list has the element
-abbrev pub Has : {X : Type 0} → List X → X → Type 0
-Has [] x = ⊥
-Has (y ∷ ys) x = (x ≡ y) ⊎ Has ys x
 
 -- what is done after a leg, over at most so many rides
 abbrev pub kids_of : NetworkModel → ℕ → (Leg → ℕ → Option Leg) → ℕ → Leg → Kids
@@ -31,7 +26,7 @@ pub record StandsSafely (network : NetworkModel) (target : ℕ) (deadline : Opti
 -- these are the legs that are reached from a start leg, in order
 pub record IsReached (network : NetworkModel) (target : ℕ) (choice : Leg → ℕ → Option Leg) (whole : Tree) (start : Leg) (legs : List Leg) : Type 0 where
   pub deadline : Option ℕ
-  pub start_there : Has legs start
-  pub placed : (leg : Leg) → Has legs leg → StandsSafely network target deadline choice whole leg
-  pub closed : (leg : Leg) → Has legs leg → (row : GraphRow) → Has (table_of network target choice leg) row → Has legs row.leg
+  pub start_there : Contains legs start
+  pub placed : (leg : Leg) → Contains legs leg → StandsSafely network target deadline choice whole leg
+  pub closed : (leg : Leg) → Contains legs leg → (row : GraphRow) → Contains (table_of network target choice leg) row → Contains legs row.leg
   pub ordered : IsStrictlySortedBy leg_cmp legs

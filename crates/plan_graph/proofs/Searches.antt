@@ -1,5 +1,5 @@
 -- Searches by halving find what comes first in a list that rises.
-use Rattle.std.proofs.Common.{◌≡◌, ℕ, zero, suc, ◌<◌, Bool, true, false, not, List, [], ◌∷◌, length, None, AllPairs, arith, sym, subst, refl, inl, inr, ◌∙◌, ap}
+use Rattle.std.proofs.Common.{◌≡◌, ℕ, zero, suc, ◌<◌, Bool, true, false, not, List, [], ◌∷◌, length, None, AllPairs, arith, sym, subst, refl, inl, inr, ◌∙◌, ap, ap₂}
 use Rattle.std.specs.Prelude.{◌==◌, ◌&&◌, slice_index_or}
 use Rattle.std.specs.List.{AllWithin}
 use Rattle.std.specs.List.Sorted.{IsPartitionedBy, IsPartitionPoint}
@@ -42,16 +42,15 @@ rides_parted rides leg rise i j d before within is = elim (cases_lt i j) [
   | inr same ↦ let e : j ≡ i = omega (arith, before, same) in subst (λ (k : ℕ). leg_lt (slice_index_or rides k d).leg leg ≡ true) e is
 ]
 
-abbrev leg_of : ℕ → ℕ → Leg
-leg_of i j = record { enter = record { 0 = i }; exit = record { 0 = j } }
+abbrev pub leg_of : ℕ → ℕ → Leg
+leg_of enter exit = record { enter = record { 0 = enter }; exit = record { 0 = exit } }
+
+-- a leg is told by its entry and its exit
+pub same_leg : (a b : Leg) → a.enter.0 ≡ b.enter.0 → a.exit.0 ≡ b.exit.0 → a ≡ b
+same_leg a b enter exit = ap₂ leg_of enter exit
 
 pub leg_test : (a b : Leg) → ((a.enter.0 == b.enter.0) && (a.exit.0 == b.exit.0)) ≡ true → a ≡ b
-leg_test a b is =
-    let first : a.enter.0 ≡ b.enter.0 = grind (arith, nat_tests) in
-    let second : a.exit.0 ≡ b.exit.0 = grind (arith, nat_tests) in
-    let one : leg_of a.enter.0 a.exit.0 ≡ leg_of b.enter.0 a.exit.0 = ap (λ (n : ℕ). leg_of n a.exit.0) first in
-    let two : leg_of b.enter.0 a.exit.0 ≡ leg_of b.enter.0 b.exit.0 = ap (λ (n : ℕ). leg_of b.enter.0 n) second in
-    one ∙ two
+leg_test a b is = same_leg a b (grind (arith, nat_tests)) (grind (arith, nat_tests))
 
 pub leg_tested : (a b : Leg) → a ≡ b → ((a.enter.0 == b.enter.0) && (a.exit.0 == b.exit.0)) ≡ true
 leg_tested a b is =

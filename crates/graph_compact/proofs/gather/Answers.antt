@@ -2,13 +2,14 @@ use Rattle.std.proofs.Common.{◌≡◌, ◌∙◌, sym, ap, subst, ℕ, ◌<◌
 use Rattle.std.specs.Prelude.{slice_index_or}
 use Rattle.std.specs.BTreeSet.{BTreeSet}
 use Rattle.std.proofs.lemmas.Grind.{common_steps}
+use Rattle.std.proofs.lemmas.List.{get_or-map}
 use Rattle.plan_model.specs.declared.model.Connection.{Connection}
 use Rattle.plan_model.specs.Unfold.{end_of}
 use Rattle.plan_graph.specs.Ready.{IsLegOf}
 use Rattle.plan_graph.specs.declared.Ride.{Ride}
 use Rattle.plan_graph.specs.declared.GraphRow.{GraphRow}
-use Rattle.graph_compact.specs.Tables.{gathered, put_rows, rows_in}
-use Rattle.graph_compact.proofs.Lists.{gather_step, rows_in_at}
+use Rattle.graph_compact.specs.Tables.{put_rows, rows_in}
+use Rattle.graph_compact.proofs.Lists.{gather_step}
 use Rattle.graph_compact.proofs.gather.Goals as goal
 
 pub loop-ride-preserved : goal.loop-ride-preserved
@@ -29,9 +30,9 @@ loop-ride-preserved c =
     let puts : c.put_all.new.table.keys ≡ put_rows r.after (rows_in tables end) =
     c.in_ok-put_all.ensures
     ∙ ap (λ (rows : List GraphRow). put_rows rows c.index_mut.result.now.keys) c.as_slice.ensures
-    ∙ ap (λ (rows : List GraphRow). put_rows r.after rows) (ap (λ (v : BTreeSet GraphRow). v.keys) c.index_mut.ensures.value ∙ sym (rows_in_at tables end c.index_mut.result.now inside)) in
+    ∙ ap (λ (rows : List GraphRow). put_rows r.after rows) (ap (λ (v : BTreeSet GraphRow). v.keys) c.index_mut.ensures.value ∙ sym (get_or-map (λ (v : BTreeSet GraphRow). v.keys) tables end c.index_mut.result.now [] inside)) in
     record {
       len = grind (arith, common_steps, inv.len);
-      rows = λ place small. gather_step c.args.network.now rides c.loop-ride.ride-index r tables end c.put_all.new.table
-          (gathered c.args.network.now place c.args.graph.now.rides []) place within c.ride-item.is ends inside puts (inv.rows place small);
+      rows = λ place small. gather_step c.args.network.now rides c.loop-ride.ride-index r tables end c.put_all.new.table place within c.ride-item.is ends inside puts
+          ∙ inv.rows place small;
     }

@@ -1,7 +1,11 @@
+use Rattle.std.proofs.Common.{◌+◌, ◌∙◌, ap, sym, drop}
+use Rattle.std.proofs.lemmas.List.{at_drop_more}
 use Rattle.graph_compact.specs.Tables.{put_rows}
-use Rattle.graph_compact.proofs.Lists.{put_step}
 use Rattle.graph_compact.proofs.put_all.Goals as goal
 
 pub loop-row-preserved : goal.loop-row-preserved
-loop-row-preserved c = put_step c.args.rows.now c.loop-row.row-index _ c.loop-row.table.keys c.insert.new.self.keys
-    (put_rows c.args.rows.now c.args.table.now.keys) c.loop-row-test.true c.in_ok-insert.ensures.keys c.loop-row.invariant
+loop-row-preserved c =
+    let loop = c.loop-row in
+    ap (put_rows (drop (loop.row-index + 1) c.args.rows.now)) c.in_ok-insert.ensures.keys
+    ∙ sym (at_drop_more (λ left. put_rows left loop.table.keys) c.args.rows.now loop.row-index _ c.loop-row-test.true)
+    ∙ loop.invariant

@@ -1,15 +1,17 @@
 use Rattle.std.proofs.Common.{◌<◌, List, sym, subst}
+use Rattle.std.proofs.lemmas.List.Elements.{recursion_from_All}
 use Rattle.plan_model.specs.Network.{count}
+use Rattle.plan_model.specs.declared.model.Leg.{Leg}
 use Rattle.plan_graph.specs.declared.Ride.{Ride}
 use Rattle.leg_walk.specs.Walked.{IsWalked}
-use Rattle.leg_walk.proofs.Sets.{recursion_from_has}
+use Rattle.leg_walk.proofs.Lists.{All-from_contains}
 use Rattle.leg_walk.proofs.Walks.{walked}
 use Rattle.leg_walk.proofs.walk.Goals as goal
 
 pub rides_of-requires-clause-there : goal.rides_of-requires-clause-there
 rides_of-requires-clause-there g c =
-    recursion_from_has (λ leg. leg.exit.0 < count c.args.network.now) c.in_ok-seen.seen.keys
-    (λ leg has. (c.in_ok-seen.ensures.placed leg has).is_leg.exit)
+    let inside = λ (leg : Leg). leg.exit.0 < count c.args.network.now in
+    recursion_from_All inside c.in_ok-seen.seen.keys (All-from_contains inside c.in_ok-seen.seen.keys (λ leg has. (c.in_ok-seen.ensures.placed leg has).is_leg.exit))
 
 pub returns : goal.returns
 returns g c =
