@@ -17,7 +17,7 @@ use Rattle.plan_graph.specs.declared.Ride.{Ride}
 use Rattle.plan_graph.specs.Ready.{IsLegOf, Stands}
 use Rattle.plan_graph.specs.Follows.{Follows, IsSteady}
 use Rattle.leg_walk.specs.Walked.{IsWalked}
-use Rattle.leg_walk.proofs.Lists.{All-from_contains}
+use Rattle.plan_model.proofs.Lists.{All-from_contains}
 use Rattle.leg_walk.proofs.Tables.{table_away, table_there, by_for}
 use Rattle.leg_walk.proofs.Graphs.{IsKeptAfter, ready, busy, table_of_ride, picks_taken}
 use Rattle.meat_scan.specs.Found.{Found, choice_of, leg_choice, chosen_by}

@@ -17,7 +17,7 @@ use Rattle.plan_graph.specs.Rows.{pick_row}
 use Rattle.plan_graph.specs.Ready.{IsLegOf, IsReady, IsReadyRide, IsReadyRow, MayPrecede, IsBusy, IsPickedAfter, IsSafeForSome, IsFirstInTime, Stands, pick_in_time}
 use Rattle.leg_walk.specs.Tables.{row_by, table_of}
 use Rattle.leg_walk.specs.Walked.{IsWalked}
-use Rattle.leg_walk.proofs.Lists.{AllPairs-nil, All-from_contains}
+use Rattle.plan_model.proofs.Lists.{AllPairs-nil, All-from_contains}
 use Rattle.leg_walk.proofs.Tables.{IsChosenAt, IsTableRow, Sooner, table_row, table_away, table_there, first_in_table, first_pick, in_time_for, before_for, same_next}
 use Rattle.leg_walk.proofs.Walks.{delays_rise}
 

@@ -17,7 +17,7 @@ use Rattle.plan_graph.specs.declared.GraphRow.{GraphRow}
 use Rattle.plan_graph.specs.Ready.{IsSafeForSome, Stands}
 use Rattle.leg_walk.specs.Tables.{table_of, leg_cmp, with_leg}
 use Rattle.leg_walk.specs.Placed.{StandsSafely}
-use Rattle.leg_walk.proofs.Lists.{Contains-nil, Contains-map, Contains-from_map}
+use Rattle.plan_model.proofs.Lists.{Contains-nil, Contains-map, Contains-from_map}
 use Rattle.leg_walk.proofs.Sets.{Contains-insert_key, Contains-insert_key_cases, Contains-inserted_key}
 use Rattle.leg_walk.proofs.Orders.{leg_cmp-exact}
 use Rattle.leg_walk.proofs.Places.{next_after}

@@ -17,7 +17,7 @@ use Rattle.plan_graph.specs.Ready.{IsLegOf, Stands}
 use Rattle.leg_walk.specs.Tables.{row_by, table_of, ride_of_leg, leg_cmp}
 use Rattle.leg_walk.specs.Placed.{IsReached}
 use Rattle.leg_walk.specs.Walked.{IsWalked, IsTaken, HasRideOf}
-use Rattle.leg_walk.proofs.Lists.{Contains-map, AllPairs-map, All-from_contains}
+use Rattle.plan_model.proofs.Lists.{Contains-map, AllPairs-map, All-from_contains}
 use Rattle.leg_walk.proofs.Orders.{leg_cmp-Less}
 use Rattle.leg_walk.proofs.Places.{IsPlacedNext, next_after}
 use Rattle.leg_walk.proofs.Tables.{first_pick, first_there, Sooner, first_in_table, same_next}
