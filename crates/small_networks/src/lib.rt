@@ -47,9 +47,9 @@ fn rows_of(alloc: Global, text: &[u8]) -> Result<Rows, Fail> {
     }
 }
 
-/// The usual delays.
-fn usual_delays(alloc: Global) -> Result<DelayTable, Fail> {
-    let rows = rows_of(alloc, DELAYS.as_bytes())?;
+/// The delays that a text tells.
+fn delays_of(alloc: Global, text: &str) -> Result<DelayTable, Fail> {
+    let rows = rows_of(alloc, text.as_bytes())?;
     match DelayTable::read(alloc, &rows) {
         Ok(delays) => Ok(delays),
         Err(_) => Err("no delays".into()),
@@ -87,8 +87,15 @@ fn delayed_network(alloc: Global, cut: &str, delays: &DelayTable) -> Result<(Net
 fn usual_network(alloc: Global, cut: &str) -> Result<(Network, Names), Fail>
     ensures fit { IfOk result (λ parts. NamesFit parts.1 parts.0) }
 {
-    let delays = usual_delays(alloc)?;
+    let delays = delays_of(alloc, DELAYS)?;
     delayed_network(alloc, cut, &delays)
+}
+
+/// The network of a cut file with the delays of a delay file.
+pub fn network_with(alloc: Global, cut: &str, delays: &str) -> Result<Network, Fail> {
+    let delays = delays_of(alloc, delays)?;
+    let (network, _) = delayed_network(alloc, cut, &delays)?;
+    Ok(network)
 }
 
 /// The network of a cut file, which is to have so many places, with the usual delays, and its names.

@@ -3,13 +3,14 @@ ghost use Rattle.std.specs.Prelude.{◌<◌, ◌≤◌, length};
 ghost use Rattle.interval_fixed.specs.Interval.{end_of_nanos};
 ghost use Rattle.plan_model.specs.Bounds.{end_of_time};
 
-use crate::made::{Numbers, cut_text, delay_text, network_of};
+use crate::made::{Numbers, cut_text, delay_text};
 use crate::strategies::{Goal, best, scale_of};
 use decision_graph::plan;
 use interval_fixed::Span;
 use meat_scan::ScanTables;
 use plan_model::{Moment, Network, PlaceId, Query, SortedOrder};
 use safe_arrival::least_worst;
+use small_networks::network_with;
 use std::alloc::Global;
 use std::test::Fail;
 
@@ -128,7 +129,7 @@ fn compare(
 fn compare_made(alloc: Global, numbers: &mut Numbers, counts: Counts) -> Result<Counts, Fail> {
     let cut = cut_text(alloc, numbers)?;
     let delays = delay_text(alloc, numbers)?;
-    let network = network_of(alloc, cut.as_str(), delays.as_str())?;
+    let network = network_with(alloc, cut.as_str(), delays.as_str())?;
     let places = network.places();
     let mut counts = counts;
     for _ in 0..JOURNEYS {

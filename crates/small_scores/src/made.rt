@@ -1,8 +1,4 @@
 //! Networks that are made by a seed, as the texts of a cut file and of a delay file.
-use csv_rows::{Limits, Rows};
-use cut_file::{CutTable, read_cut};
-use delay_table::DelayTable;
-use plan_model::{Names, Network};
 use std::alloc::Global;
 use std::test::Fail;
 
@@ -144,46 +140,4 @@ pub(crate) fn cut_text(alloc: Global, numbers: &mut Numbers) -> Result<String, F
         stop = push_ride(alloc, numbers, places, stop, &mut text)?;
     }
     Ok(text)
-}
-
-/// The rows of a text.
-fn rows_of(alloc: Global, text: &[u8]) -> Result<Rows, Fail> {
-    match Rows::read(alloc, text) {
-        Ok(rows) => Ok(rows),
-        Err(_) => Err("no rows".into()),
-    }
-}
-
-/// The delays that a text tells.
-fn delays_of(alloc: Global, text: &str) -> Result<DelayTable, Fail> {
-    let rows = rows_of(alloc, text.as_bytes())?;
-    match DelayTable::read(alloc, &rows) {
-        Ok(delays) => Ok(delays),
-        Err(_) => Err("no delays".into()),
-    }
-}
-
-/// The rides that a text tells.
-fn cut_of(alloc: Global, text: &str) -> Result<CutTable, Fail> {
-    let rows = rows_of(alloc, text.as_bytes())?;
-    match read_cut(alloc, &rows, &Limits::standard()) {
-        Ok(cut) => Ok(cut),
-        Err(_) => Err("no cut".into()),
-    }
-}
-
-/// The network of these rides with these delays, and its names.
-fn parts_of(alloc: Global, cut: &CutTable, delays: &DelayTable) -> Result<(Network, Names), Fail> {
-    match cut.network(alloc, delays) {
-        Ok(parts) => Ok(parts),
-        Err(_) => Err("no network".into()),
-    }
-}
-
-/// The network of a cut file with the delays of a delay file.
-pub(crate) fn network_of(alloc: Global, cut: &str, delays: &str) -> Result<Network, Fail> {
-    let cut = cut_of(alloc, cut)?;
-    let delays = delays_of(alloc, delays)?;
-    let (network, _) = parts_of(alloc, &cut, &delays)?;
-    Ok(network)
 }
