@@ -1,4 +1,3 @@
 pub mod Found
 pub mod AtOnce
 pub mod Tables
-pub mod Means

@@ -1,6 +1,5 @@
 -- From the graph ride by ride to the one with one table for each place.
-use Rattle.std.proofs.Common.{◌≡◌, ℕ, Option, Some, None, sym, ◌∙◌, subst}
-use Rattle.std.specs.Prelude.{IfSome, MatchOption}
+use Rattle.std.proofs.Common.{◌≡◌, ℕ, sym, ◌∙◌, subst}
 use Rattle.plan_model.specs.declared.model.Query.{Query}
 use Rattle.plan_model.specs.NetworkModel.{NetworkModel}
 use Rattle.plan_model.specs.Tree.{Tree}
@@ -11,14 +10,6 @@ use Rattle.plan_graph.specs.Tidy.{IsTidy}
 use Rattle.decision_graph.specs.Bounds.{IsBestBy}
 use Rattle.decision_graph.specs.Expanded.{IsExpandedBy}
 use Rattle.decision_graph.specs.Planned.{IsPlannedBy}
-
-pub some_of : {A : Type 0} (o : Option A) (a : A) (P : A → Type 0) → o ≡ Some a → IfSome o P → P a
-some_of None a P is p = absurd (cc)
-some_of (Some b) a P is p = let same : b ≡ a = (cc) in subst P same p
-
-pub match_some : {A : Type 0} (o : Option A) (a : A) (N : Type 0) (P : A → Type 0) → o ≡ Some a → MatchOption o N P → P a
-match_some None a N P is p = absurd (cc)
-match_some (Some b) a N P is p = let same : b ≡ a = (cc) in subst P same p
 
 -- the plan unfolds to the strategy of the graph
 pub planned : {V : Type 0} (below covers : V → Tree → Type 0) (gap : V → ℕ) (arrived : ℕ → V) (n : NetworkModel) (q : Query) (graph pruned : ExpandedGraph)

@@ -1,5 +1,5 @@
 //! The decision graph ride by ride.
-ghost use Rattle.std.specs.Prelude.{◌≡◌, ◌≢◌, ◌<◌, ◌≤◌, length, IfOk, IfSome, MatchOption};
+ghost use Rattle.std.specs.Prelude.{◌≡◌, ◌<◌, ◌≤◌, length, IfOk, IfSome, MatchOption};
 ghost use Rattle.plan_model.specs.Order.{IsScanOrder};
 ghost use Rattle.decision_graph.specs.Expanded.{IsNoneSafe, IsExpanded, IsExpandedBy, HasSteadyChoice};
 ghost use Rattle.interval_fixed.specs.Interval.{end_of_nanos};
@@ -30,23 +30,34 @@ pub(crate) struct Scored<V> {
     pub(crate) value: V,
 }
 
-/// The decision graph of a journey between two places.
-pub(crate) fn expand_away<V: Score, B: BackwardOrder>(
+/// The decision graph of a query, with this value where source and target are one place.
+pub(crate) fn expand_with<V: Score, B: BackwardOrder>(
     alloc: Global,
     order: &mut B,
     network: &Network,
     query: &Query,
+    arrived: V,
 ) -> Result<Option<Scored<V>>, NoMemory>
     requires fits { B.fits order.old network.now }
     requires whole { IsScanOrder network.now (B.rest order.old network.now) }
     requires source { query.now.source.0 < length network.now.change }
     requires target { query.now.target.0 < length network.now.change }
-    requires differ { query.now.source.0 ≢ query.now.target.0 }
+    requires deadline { query.now.start.0 ≤ query.now.deadline.0 }
+    requires arrived { arrived ≡ V.arrived query.now.start.0 }
     ensures plan { IfOk result (λ found. MatchOption found (IsNoneSafe network.now query.now)
         (λ p. IsExpandedBy V.below V.covers V.gap V.arrived network.now query.now p.graph p.value)) }
     ensures steady { IfOk result (λ found. IfSome found (λ p. HasSteadyChoice network.now query.now p.graph)) }
     ensures fits { B.fits order.new network.now }
 {
+    if query.source.0 == query.target.0 {
+        return Ok(Some(Scored {
+            graph: ExpandedGraph {
+                start: None,
+                rides: List::new(alloc),
+            },
+            value: arrived,
+        }));
+    }
     let tables: ScanTables<V> = ScanTables::reserve(alloc, network)?;
     let scanned = scan(tables, network, order, query);
     let Some((value, _)) = scanned.start() else {
@@ -76,22 +87,13 @@ pub fn expand<B: BackwardOrder>(
         (λ p. IsExpanded network.now query.now p.graph p.bounds)) }
     ensures fits { B.fits order.new network.now }
 {
-    if query.source.0 != query.target.0 {
-        let found: Option<Scored<MeanSpan>> = expand_away(alloc, order, network, query)?;
-        return match found {
-            None => Ok(None),
-            Some(scored) => {
-                let bounds = scored.value.0;
-                let graph = scored.graph;
-                Ok(Some(ExpandedPlan { graph, bounds }))
-            }
-        };
+    let at_once = MeanSpan(Span::exact(query.start));
+    match expand_with(alloc, order, network, query, at_once)? {
+        None => Ok(None),
+        Some(scored) => {
+            let bounds = scored.value.0;
+            let graph = scored.graph;
+            Ok(Some(ExpandedPlan { graph, bounds }))
+        }
     }
-    Ok(Some(ExpandedPlan {
-        graph: ExpandedGraph {
-            start: None,
-            rides: List::new(alloc),
-        },
-        bounds: Span::exact(query.start),
-    }))
 }

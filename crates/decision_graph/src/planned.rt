@@ -1,17 +1,17 @@
 //! The decision graph with one table for each place.
-ghost use Rattle.std.specs.Prelude.{◌≡◌, ◌≢◌, ◌<◌, ◌≤◌, length, IfOk, MatchOption};
+ghost use Rattle.std.specs.Prelude.{◌≡◌, ◌<◌, ◌≤◌, length, IfOk, MatchOption};
 ghost use Rattle.plan_model.specs.Bounds.{end_of_time};
 ghost use Rattle.plan_model.specs.Order.{IsScanOrder};
 ghost use Rattle.decision_graph.specs.Expanded.{IsNoneSafe};
 ghost use Rattle.decision_graph.specs.Planned.{IsPlanned, IsPlannedBy};
 ghost use Rattle.interval_fixed.specs.Interval.{end_of_nanos};
 
-use crate::expanded::expand_away;
+use crate::expanded::expand_with;
 use graph_compact::compact;
 use graph_prune::{prune, steady_is_coherent};
 use interval_fixed::Span;
 use plan_graph::PlanGraph;
-use plan_model::{BackwardOrder, List, Network, NoMemory, Query};
+use plan_model::{BackwardOrder, Network, NoMemory, Query};
 use std::alloc::Global;
 use value_laws::{MeanSpan, Score};
 
@@ -35,23 +35,25 @@ pub struct ScoredPlan<V> {
     pub value: V,
 }
 
-/// The decision graph of a journey between two places.
-fn plan_away<V: Score, B: BackwardOrder>(
+/// The decision graph of a query, with this value where source and target are one place.
+fn plan_with<V: Score, B: BackwardOrder>(
     alloc: Global,
     order: &mut B,
     network: &Network,
     query: &Query,
+    arrived: V,
 ) -> Result<Option<ScoredPlan<V>>, NoMemory>
     requires fits { B.fits order.old network.now }
     requires whole { IsScanOrder network.now (B.rest order.old network.now) }
     requires source { query.now.source.0 < length network.now.change }
     requires target { query.now.target.0 < length network.now.change }
-    requires differ { query.now.source.0 ≢ query.now.target.0 }
+    requires deadline { query.now.start.0 ≤ query.now.deadline.0 }
+    requires arrived { arrived ≡ V.arrived query.now.start.0 }
     ensures plan { IfOk result (λ found. MatchOption found (IsNoneSafe network.now query.now)
         (λ p. IsPlannedBy V.below V.covers V.gap V.arrived network.now query.now p.graph p.value)) }
     ensures fits { B.fits order.new network.now }
 {
-    let Some(expanded) = expand_away(alloc, order, network, query)? else {
+    let Some(expanded) = expand_with(alloc, order, network, query, arrived)? else {
         return Ok(None);
     };
     let pruned = prune(alloc, &expanded.graph, network, query)?;
@@ -82,16 +84,7 @@ pub fn plan_by<V: Score, B: BackwardOrder>(
         (λ p. IsPlannedBy V.below V.covers V.gap V.arrived network.now query.now p.graph p.value)) }
     ensures fits { B.fits order.new network.now }
 {
-    if query.source.0 != query.target.0 {
-        return plan_away(alloc, order, network, query);
-    }
-    Ok(Some(ScoredPlan {
-        graph: PlanGraph {
-            start: None,
-            tables: List::new(alloc),
-        },
-        value: V::arrive(query.start),
-    }))
+    plan_with(alloc, order, network, query, V::arrive(query.start))
 }
 
 /// The decision graph of a query with one table for each place, by a scan in this order of the
@@ -113,22 +106,13 @@ pub fn plan<B: BackwardOrder>(
         (λ p. IsPlanned network.now query.now p.graph p.bounds)) }
     ensures fits { B.fits order.new network.now }
 {
-    if query.source.0 != query.target.0 {
-        let found: Option<ScoredPlan<MeanSpan>> = plan_away(alloc, order, network, query)?;
-        return match found {
-            None => Ok(None),
-            Some(scored) => {
-                let bounds = scored.value.0;
-                let graph = scored.graph;
-                Ok(Some(CompactPlan { graph, bounds }))
-            }
-        };
+    let at_once = MeanSpan(Span::exact(query.start));
+    match plan_with(alloc, order, network, query, at_once)? {
+        None => Ok(None),
+        Some(scored) => {
+            let bounds = scored.value.0;
+            let graph = scored.graph;
+            Ok(Some(CompactPlan { graph, bounds }))
+        }
     }
-    Ok(Some(CompactPlan {
-        graph: PlanGraph {
-            start: None,
-            tables: List::new(alloc),
-        },
-        bounds: Span::exact(query.start),
-    }))
 }

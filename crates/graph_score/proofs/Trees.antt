@@ -18,7 +18,7 @@ use Rattle.plan_graph.specs.Tidy.{IsFitRow, IsFitStart}
 use Rattle.plan_graph.specs.Unfold.{unfold_plan}
 use Rattle.graph_score.specs.Failures.{Fails, FailsIn}
 use Rattle.graph_score.specs.Steps.{AreFitRows, ridden}
-use Rattle.graph_score.proofs.Picks.{rows_of_place-by, picked}
+use Rattle.plan_graph.proofs.Picked.{rows_of_place-by, row_of_pick}
 
 mutual
   -- who is safe cannot fail
@@ -44,7 +44,7 @@ safe_never_fails n q (Stuck place moment) safe r y fails = absurd safe
 -- the row whose leg is taken
 pub taken_row : (n : NetworkModel) (tables : List PlaceTable) → AreFitRows n tables → (p x : ℕ) (leg : Leg) → pick_at tables p x ≡ Some leg → IsLegOf n leg × IsBoardable n p x leg.enter.0
 taken_row n tables fit p x leg is =
-    let (row, fits, soon, same) = picked (IsFitRow n p) (rows_of_place tables p) x leg
+    let (row, fits, soon, same) = row_of_pick (IsFitRow n p) (rows_of_place tables p) x leg
     (rows_of_place-by (λ p rows. All (IsFitRow n p) rows) tables p (λ k d within. absurd (omega (arith, within))) fit) is in
     let some = limit_of-some n p row.leg row.by.0 fits.by in
     let boards : IsBoardable n p x row.leg.enter.0 = record { seconds = some.0; way = some.1; in_time = omega (arith, soon, some.2) } in

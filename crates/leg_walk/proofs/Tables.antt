@@ -2,7 +2,6 @@
 use Rattle.std.proofs.Common.{◌≡◌, ◌≢◌, ℕ, ◌+◌, ◌≤◌, ◌<◌, Bool, true, false, List, [], ◌∷◌, map, Option, Some, None, AllPairs, Contains, arith, sym, subst, refl, inl, inr, ◌∙◌, ap}
 use Rattle.std.specs.Prelude.{if◌then◌else◌}
 use Rattle.std.proofs.lemmas.Bool.{cases_lt, cases_eq, ne_eqb, eq-eqb, le-leb, lt-leb}
-use Rattle.std.proofs.lemmas.Bool.Decides.{nat_tests}
 use Rattle.plan_model.specs.declared.model.Leg.{Leg}
 use Rattle.plan_model.specs.declared.model.Outcome.{Outcome}
 use Rattle.plan_model.specs.NetworkModel.{NetworkModel}
@@ -12,6 +11,7 @@ use Rattle.plan_model.specs.Unfold.{end_of, outcomes_of}
 use Rattle.plan_graph.specs.declared.GraphRow.{GraphRow}
 use Rattle.plan_graph.specs.Rows.{pick_row}
 use Rattle.plan_graph.specs.Ready.{IsFirstInTime, MayPrecede, is_within, pick_in_time}
+use Rattle.plan_graph.proofs.Picked.{pick_here, pick_further}
 use Rattle.leg_walk.specs.Tables.{row_by, with_row, rows_for, table_of}
 use Rattle.plan_model.proofs.Lists.{Contains-nil, Contains-head, Contains-tail, Contains-cons_cases, AllPairs-nil, AllPairs-head, AllPairs-tail, AllPairs-with}
 
@@ -28,8 +28,8 @@ same_limit found a b one other = let both = sym one ∙ other in cc
 
 pub first_pick : (rows : List GraphRow) (x : ℕ) (row : GraphRow) → IsFirstInTime rows x row → pick_row rows x ≡ Some row.leg
 first_pick [] x row f = absurd f
-first_pick (head ∷ rows) x row (inl both) = let before = both.0 in let e : pick_row (head ∷ rows) x ≡ Some head.leg = grind (arith, nat_tests) in e ∙ ap (λ (r : GraphRow). Some r.leg) (sym both.1)
-first_pick (head ∷ rows) x row (inr both) = let after = both.0 in let e : pick_row (head ∷ rows) x ≡ pick_row rows x = grind (arith, nat_tests) in e ∙ first_pick rows x row both.1
+first_pick (head ∷ rows) x row (inl both) = pick_here head rows x both.0 ∙ ap (λ (r : GraphRow). Some r.leg) (sym both.1)
+first_pick (head ∷ rows) x row (inr both) = pick_further head rows x both.0 ∙ first_pick rows x row both.1
 
 -- the first row is there, and not before the moment
 pub first_there : (rows : List GraphRow) (x : ℕ) (row : GraphRow) → IsFirstInTime rows x row → (x ≤ row.by.0) × Contains rows row
@@ -41,13 +41,8 @@ first_there (head ∷ rows) x row (inr both) = let more = first_there rows x row
 pub picked_first : (rows : List GraphRow) (x : ℕ) (leg : Leg) → pick_row rows x ≡ Some leg → (row : GraphRow) × IsFirstInTime rows x row × (row.leg ≡ leg)
 picked_first [] x leg is = absurd (cc)
 picked_first (row ∷ rows) x leg is = elim (cases_lt row.by.0 x) [
-  | inl late ↦
-      let e : pick_row (row ∷ rows) x ≡ pick_row rows x = grind (arith, nat_tests) in
-      let found = picked_first rows x leg (sym e ∙ is) in
-      (found.0, inr (late, found.1), found.2)
-  | inr early ↦
-      let e : pick_row (row ∷ rows) x ≡ Some row.leg = grind (arith, nat_tests) in
-      (row, inl (early, refl), same_next (pick_row (row ∷ rows) x) row.leg leg e is)
+  | inl late ↦ let found = picked_first rows x leg (sym (pick_further row rows x late) ∙ is) in (found.0, inr (late, found.1), found.2)
+  | inr early ↦ (row, inl (early, refl), same_next (pick_row (row ∷ rows) x) row.leg leg (pick_here row rows x early) is)
 ]
 
 -- and is there

@@ -1,14 +1,15 @@
 -- Searches by halving find what comes first in a list that rises.
-use Rattle.std.proofs.Common.{◌≡◌, ℕ, zero, suc, ◌<◌, Bool, true, false, not, List, [], ◌∷◌, length, None, AllPairs, arith, sym, subst, refl, inl, inr, ◌∙◌, ap, ap₂}
+use Rattle.std.proofs.Common.{◌≡◌, ℕ, ◌<◌, Bool, true, false, not, List, [], ◌∷◌, length, None, AllPairs, arith, sym, subst, refl, inl, inr, ◌∙◌, ap, ap₂}
 use Rattle.std.specs.Prelude.{◌==◌, ◌&&◌, slice_index_or}
 use Rattle.std.specs.List.{AllWithin}
 use Rattle.std.specs.List.Sorted.{IsPartitionedBy, IsPartitionPoint}
 use Rattle.std.proofs.lemmas.Bool.{cases_lt, false≢true}
 use Rattle.std.proofs.lemmas.Bool.Decides.{nat_tests}
+use Rattle.std.proofs.lemmas.List.Recursion.{found_at, found_nowhere}
 use Rattle.plan_model.specs.declared.model.Leg.{Leg}
 use Rattle.plan_graph.specs.declared.GraphRow.{GraphRow}
 use Rattle.plan_graph.specs.declared.Ride.{Ride}
-use Rattle.plan_graph.specs.Rows.{pick_row, rows_after, Precedes, leg_lt}
+use Rattle.plan_graph.specs.Rows.{pick_row, rows_after, is_ride_of, Precedes, leg_lt}
 
 -- rides that rise are parted by a leg
 leg_before : (a b : Leg) → Precedes a b → leg_lt a b ≡ true
@@ -58,41 +59,42 @@ leg_tested a b is =
     let second : a.exit.0 ≡ b.exit.0 = ap (λ (l : Leg). l.exit.0) is in
     grind (arith, nat_tests)
 
+other_leg : (a b : Leg) → (a ≡ b → ⊥) → ((a.enter.0 == b.enter.0) && (a.exit.0 == b.exit.0)) ≡ false
+other_leg a b other = by_test ((a.enter.0 == b.enter.0) && (a.exit.0 == b.exit.0)) refl
+  where
+    by_test : (test : Bool) → ((a.enter.0 == b.enter.0) && (a.exit.0 == b.exit.0)) ≡ test → test ≡ false
+    by_test true is = absurd (other (leg_test a b is))
+    by_test false is = refl
+
 -- the rows after a leg, where the first ride is its
 pub rows_here : (r : Ride) (rides : List Ride) (leg : Leg) → r.leg ≡ leg → rows_after (r ∷ rides) leg ≡ r.after
 rows_here r rides leg same = rw (leg_tested r.leg leg same) refl
 
 pub rows_further : (r : Ride) (rides : List Ride) (leg : Leg) → (r.leg ≡ leg → ⊥) → rows_after (r ∷ rides) leg ≡ rows_after rides leg
-rows_further r rides leg other = by_test ((r.leg.enter.0 == leg.enter.0) && (r.leg.exit.0 == leg.exit.0)) refl
-  where
-    by_test : (test : Bool) → ((r.leg.enter.0 == leg.enter.0) && (r.leg.exit.0 == leg.exit.0)) ≡ test → rows_after (r ∷ rides) leg ≡ rows_after rides leg
-    by_test true is = absurd (other (leg_test r.leg leg is))
-    by_test false is = rw is refl
+rows_further r rides leg other = rw (other_leg r.leg leg other) refl
 
 pub rows_after-at : (rides : List Ride) (leg : Leg) (i : ℕ) (d : Ride) → AllWithin (λ r. leg_lt r.leg leg ≡ true) rides 0 i → i < length rides
     → (slice_index_or rides i d).leg ≡ leg → rows_after rides leg ≡ (slice_index_or rides i d).after
-rows_after-at [] leg i d before within is = absurd (omega (arith, within))
-rows_after-at (r ∷ rides) leg zero d before within is = rows_here r rides leg is
-rows_after-at (r ∷ rides) leg (suc i) d before within is =
-    rows_further r rides leg (precedes_itself r.leg leg (leg_precedes r.leg leg (before 0 r (omega arith) (omega arith))))
-    ∙ rows_after-at rides leg i d (λ k e from below. before (suc k) e (omega arith) (omega (arith, below))) (omega (arith, within)) is
-
-rows_after-absent : (rides : List Ride) (leg : Leg) → ((k : ℕ) (d : Ride) → k < length rides → (slice_index_or rides k d).leg ≡ leg → ⊥) → rows_after rides leg ≡ []
-rows_after-absent [] leg other = refl
-rows_after-absent (r ∷ rides) leg other = rows_further r rides leg (other 0 r (omega arith)) ∙ rows_after-absent rides leg (λ k d within. other (suc k) d (omega (arith, within)))
+rows_after-at rides leg i d before within is = found_at (λ rs. rows_after rs leg) (is_ride_of leg) (λ r. r.after) [] refl (λ r rs. refl) rides i d within
+    (λ k below. other_leg (slice_index_or rides k d).leg leg (precedes_itself (slice_index_or rides k d).leg leg (leg_precedes (slice_index_or rides k d).leg leg (before k d (omega arith) below))))
+    (leg_tested (slice_index_or rides i d).leg leg is)
 
 -- where the ride at the parting is not the leg's, no ride is
 pub rows_after-none : (rides : List Ride) (leg : Leg) (i : ℕ) → AllPairs (λ a b. Precedes a.leg b.leg) rides
     → IsPartitionPoint (λ r. leg_lt r.leg leg ≡ true) (λ r. leg_lt r.leg leg ≡ false) rides i
     → ((d : Ride) → i < length rides → (slice_index_or rides i d).leg ≡ leg → ⊥) → rows_after rides leg ≡ []
-rows_after-none rides leg i rise point other = rows_after-absent rides leg (λ k d within is. elim (cases_lt k i) [
-  | inl less ↦ precedes_itself (slice_index_or rides k d).leg leg (leg_precedes (slice_index_or rides k d).leg leg (point.0 k d (omega arith) less)) is
-  | inr from ↦ elim (cases_lt i k) [
-    | inl more ↦ false≢true (sym (point.1 i d (omega arith) (omega (arith, more, within)))
-        ∙ leg_before (slice_index_or rides i d).leg leg (subst (λ (l : Leg). Precedes (slice_index_or rides i d).leg l) is (rise i k d more within)))
-    | inr same ↦ let e : i ≡ k = omega (arith, from, same) in other d (omega (arith, e, within)) (subst (λ (n : ℕ). (slice_index_or rides n d).leg ≡ leg) (sym e) is)
-  ]
-])
+rows_after-none rides leg i rise point other = found_nowhere (λ rs. rows_after rs leg) (is_ride_of leg) (λ r. r.after) [] refl (λ r rs. refl) rides d
+    (λ k within. other_leg (slice_index_or rides k d).leg leg (λ is. elim (cases_lt k i) [
+      | inl less ↦ precedes_itself (slice_index_or rides k d).leg leg (leg_precedes (slice_index_or rides k d).leg leg (point.0 k d (omega arith) less)) is
+      | inr from ↦ elim (cases_lt i k) [
+        | inl more ↦ false≢true (sym (point.1 i d (omega arith) (omega (arith, more, within)))
+            ∙ leg_before (slice_index_or rides i d).leg leg (subst (λ (l : Leg). Precedes (slice_index_or rides i d).leg l) is (rise i k d more within)))
+        | inr same ↦ let e : i ≡ k = omega (arith, from, same) in other d (omega (arith, e, within)) (subst (λ (n : ℕ). (slice_index_or rides n d).leg ≡ leg) (sym e) is)
+      ]
+    ]))
+  where
+    d : Ride
+    d = record { leg = leg; after = [] }
 
 -- the same of a slice of the rides of a graph
 pub pick_after-at : (own rides : List Ride) (leg : Leg) (x i : ℕ) (r : Ride) → rides ≡ own
@@ -108,12 +110,6 @@ pub pick_after-none : (own rides : List Ride) (leg : Leg) (x i : ℕ) → rides 
 pick_after-none own rides leg x i same rise point other =
     ap (λ (list : List Ride). pick_row (rows_after list leg) x) (sym same)
     ∙ ap (λ (rows : List GraphRow). pick_row rows x) (rows_after-none rides leg i (subst (λ (list : List Ride). AllPairs (λ a b. Precedes a.leg b.leg) list) (sym same) rise) point other)
-
--- an element of a list is its own default
-pub at_default : {X : Type 0} (xs : List X) (i : ℕ) (d e : X) → i < length xs → slice_index_or xs i d ≡ slice_index_or xs i e
-at_default [] i d e within = absurd (omega (arith, within))
-at_default (x ∷ xs) zero d e within = refl
-at_default (x ∷ xs) (suc i) d e within = at_default xs i d e (omega (arith, within))
 
 -- two legs that are not unequal by their parts
 pub leg_same : (a b : Leg) (test : Bool) → test ≡ not ((a.enter.0 == b.enter.0) && (a.exit.0 == b.exit.0)) → test ≡ false → a ≡ b

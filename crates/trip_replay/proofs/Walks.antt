@@ -1,9 +1,10 @@
 -- The walk down the tree of a graph.
-use Rattle.std.proofs.Common.{◌≡◌, ◌≢◌, ℕ, zero, suc, ◌+◌, ◌-◌, ◌≤◌, ◌<◌, ◌⊎◌, Bool, true, false, List, [], ◌∷◌, ◌++◌, length, drop, Option, Some, None, Ok, Err, Result}
+use Rattle.std.proofs.Common.{◌≡◌, ◌≢◌, ℕ, ◌+◌, ◌-◌, ◌≤◌, ◌<◌, Bool, true, false, List, [], ◌∷◌, ◌++◌, length, drop, Option, Some, None, Ok, Err, Result}
 use Rattle.std.proofs.Common.{All, arith, sym, subst, refl, inl, inr, ◌∙◌, ap}
 use Rattle.std.specs.Prelude.{◌==◌, if◌then◌else◌, slice_index_or, IfSome, OnOk, is_ok}
-use Rattle.std.proofs.lemmas.Bool.{cases_eq, cases_lt, eq-eqb, ne_eqb}
-use Rattle.std.proofs.lemmas.Bool.Decides.{nat_tests}
+use Rattle.std.proofs.lemmas.Bool.{cases_eq, eq-eqb, ne_eqb, eqb-true, eqb-false}
+use Rattle.std.proofs.lemmas.List.{drop_more, drop_all}
+use Rattle.std.proofs.lemmas.List.Elements.{All-nil}
 use Rattle.plan_model.specs.declared.model.Leg.{Leg}
 use Rattle.plan_model.specs.declared.model.Outcome.{Outcome}
 use Rattle.plan_model.specs.declared.model.Query.{Query}
@@ -13,10 +14,10 @@ use Rattle.plan_model.specs.Tree.{Tree, Done, Ride, Stuck, Kids, Nil, Kid}
 use Rattle.plan_model.specs.Strategy.{IsSafe, AreSafe, IsSafeFor}
 use Rattle.plan_model.specs.Unfold.{outcomes_of, kids_after, ride_or_stuck, unfold_after}
 use Rattle.plan_graph.specs.declared.PlaceTable.{PlaceTable}
-use Rattle.plan_graph.specs.declared.GraphRow.{GraphRow}
-use Rattle.plan_graph.specs.Rows.{pick_row, pick_at, rows_of_place}
+use Rattle.plan_graph.specs.Rows.{pick_at, rows_of_place}
 use Rattle.plan_graph.specs.Ready.{IsLegOf}
 use Rattle.plan_graph.specs.Tidy.{IsFitTable, IsFitRow}
+use Rattle.plan_graph.proofs.Picked.{rows_of_place-by, row_of_pick}
 use Rattle.trip_replay.specs.declared.Ridden.{Ridden}
 use Rattle.trip_replay.specs.declared.Trace.{Trace}
 use Rattle.trip_replay.specs.declared.Stop.{Stop}
@@ -35,34 +36,11 @@ kid_walk n f scheduled (o ∷ row) i j delay delays behind = elim (cases_eq o.de
   | inr differ ↦ rw (ne_eqb o.delay delay differ) (kid_walk n f scheduled row i j delay delays behind)
 ]
 
-from_test : (a b : ℕ) (test : Bool) → test ≡ (a == b) → test ≡ true → a ≡ b
-from_test a b test is holds = grind (arith, nat_tests)
-
-from_other : (a b : ℕ) (test : Bool) → test ≡ (a == b) → test ≡ false → a ≢ b
-from_other a b test is fails same = let e = eq-eqb a b same in absurd (true_is_not_false (sym e ∙ sym is ∙ fails))
-  where
-    true_is_not_false : true ≡ false → ⊥
-    true_is_not_false e = cc e
-
 pub target_there : (a b : ℕ) (test : Bool) → test ≡ (a == b) → test ≡ true → a ≡ b
-target_there a b test is holds = from_test a b test is holds
+target_there a b test is holds = eqb-true a b (sym is ∙ holds)
 
 pub target_away : (a b : ℕ) (test : Bool) → test ≡ (a == b) → test ≡ false → a ≢ b
-target_away a b test is fails = from_other a b test is fails
-
-split : (delays : List ℕ) (i d : ℕ) → i < length delays → drop i delays ≡ slice_index_or delays i d ∷ drop (suc i) delays
-split [] i d within = absurd (omega (arith, within))
-split (head ∷ delays) zero d within = refl
-split (head ∷ delays) (suc i) d within = split delays i d (omega (arith, within))
-
-split_at : (delays : List ℕ) (i d : ℕ) → i < length delays → drop i delays ≡ slice_index_or delays i d ∷ drop (i + 1) delays
-split_at delays i d within = let one : suc i ≡ i + 1 = omega arith in subst (λ (k : ℕ). drop i delays ≡ slice_index_or delays i d ∷ drop k delays) one (split delays i d within)
-
-drop_all : (delays : List ℕ) (i : ℕ) → length delays ≤ i → drop i delays ≡ []
-drop_all [] zero over = refl
-drop_all [] (suc i) over = refl
-drop_all (head ∷ delays) zero over = absurd (omega (arith, over))
-drop_all (head ∷ delays) (suc i) over = drop_all delays i (omega (arith, over))
+target_away a b test is fails = eqb-false a b (sym is ∙ fails)
 
 module _ (n : NetworkModel) (target : ℕ) (choice : Leg → ℕ → Option Leg) (s : Stop) (behind : List Ridden) (delays : List ℕ) (i : ℕ) where
   at_target : s.place.0 ≡ target → tree_at n target choice s ≡ Done s.moment.0
@@ -74,12 +52,12 @@ module _ (n : NetworkModel) (target : ℕ) (choice : Leg → ℕ → Option Leg)
   pub too_many : s.place.0 ≡ target → i < length delays → walk n (tree_at n target choice s) (drop i delays) behind ≡ Err (fault.TooMany (length behind))
   too_many is within =
       ap (λ (tree : Tree). walk n tree (drop i delays) behind) (at_target is)
-      ∙ ap (λ (list : List ℕ). walk n (Done s.moment.0) list behind) (split_at delays i 0 within)
+      ∙ ap (λ (list : List ℕ). walk n (Done s.moment.0) list behind) (drop_more delays i 0 within)
 
   pub arrived : s.place.0 ≡ target → length delays ≤ i → walk n (tree_at n target choice s) (drop i delays) behind ≡ Ok (trace_of behind s.moment.0)
   arrived is over =
       ap (λ (tree : Tree). walk n tree (drop i delays) behind) (at_target is)
-      ∙ ap (λ (list : List ℕ). walk n (Done s.moment.0) list behind) (drop_all delays i over)
+      ∙ ap (λ (list : List ℕ). walk n (Done s.moment.0) list behind) (drop_all i delays over)
 
   pub stuck : s.place.0 ≢ target → s.next ≡ None → walk n (tree_at n target choice s) (drop i delays) behind ≡ Err (fault.Stuck s.place s.moment)
   stuck away is = ap (λ (tree : Tree). walk n tree (drop i delays) behind) (on_the_way None away is)
@@ -87,7 +65,7 @@ module _ (n : NetworkModel) (target : ℕ) (choice : Leg → ℕ → Option Leg)
   pub too_few : (leg : Leg) → s.place.0 ≢ target → s.next ≡ Some leg → length delays ≤ i → walk n (tree_at n target choice s) (drop i delays) behind ≡ Err (fault.TooFew (length behind))
   too_few leg away is over =
       ap (λ (tree : Tree). walk n tree (drop i delays) behind) (on_the_way (Some leg) away is)
-      ∙ ap (λ (list : List ℕ). walk n (ride_or_stuck n (unfold_after n target choice s.left) (Some leg) s.place.0 s.moment.0) list behind) (drop_all delays i over)
+      ∙ ap (λ (list : List ℕ). walk n (ride_or_stuck n (unfold_after n target choice s.left) (Some leg) s.place.0 s.moment.0) list behind) (drop_all i delays over)
 
   rides_on : (leg : Leg) (d : ℕ) → s.place.0 ≢ target → s.next ≡ Some leg → i < length delays
       → walk n (tree_at n target choice s) (drop i delays) behind ≡
@@ -96,7 +74,7 @@ module _ (n : NetworkModel) (target : ℕ) (choice : Leg → ℕ → Option Leg)
       (behind ++ ridden n leg.enter.0 leg.exit.0 (slice_index_or delays i d) ∷ []) else Err (fault.NotADelay (length behind + 1)))
   rides_on leg d away is within =
       ap (λ (tree : Tree). walk n tree (drop i delays) behind) (on_the_way (Some leg) away is)
-      ∙ ap (λ (list : List ℕ). walk n (ride_or_stuck n (unfold_after n target choice s.left) (Some leg) s.place.0 s.moment.0) list behind) (split_at delays i d within)
+      ∙ ap (λ (list : List ℕ). walk n (ride_or_stuck n (unfold_after n target choice s.left) (Some leg) s.place.0 s.moment.0) list behind) (drop_more delays i d within)
       ∙ kid_walk n (unfold_after n target choice s.left leg) (arr_of n leg.exit.0) (outcomes_of n leg) leg.enter.0 leg.exit.0 (slice_index_or delays i d) (drop (i + 1) delays) behind
 
   delay_none : (leg : Leg) (delay : ℕ) (test : Bool) → has_delay (outcomes_of n leg) delay ≡ test
@@ -160,32 +138,12 @@ safe_answer n q tree delays (Ok trace) is safe = subst (λ (r : Result Trace Rep
 safe_answer n q tree delays (Err (fault.Stuck place moment)) is safe = subst (λ (r : Result Trace ReplayFault). IsSafeAnswer q.deadline.0 r) is (safe_start n q tree delays safe)
 safe_answer n q tree delays (Err e) is safe = tt
 
--- what a table picks is a leg
-picked_row : (n : NetworkModel) (place : ℕ) (rows : List GraphRow) → All (IsFitRow n place) rows → (x : ℕ) (leg : Leg) → pick_row rows x ≡ Some leg → IsLegOf n leg
-picked_row n place [] fit x leg is = absurd (cc)
-picked_row n place (row ∷ rows) fit x leg is = elim (cases_le x row.by.0) [
-  | inl early ↦
-      let e : pick_row (row ∷ rows) x ≡ Some row.leg = grind (arith, nat_tests) in
-      let one : row.leg ≡ leg = some_same row.leg leg (sym e ∙ is) in
-      subst (λ (l : Leg). IsLegOf n l) one (fit 0 row (omega arith)).is_leg
-  | inr late ↦
-      let e : pick_row (row ∷ rows) x ≡ pick_row rows x = grind (arith, nat_tests) in
-      picked_row n place rows (λ k d within. fit (suc k) d (omega (arith, within))) x leg (sym e ∙ is)
-]
-  where
-    some_same : (a b : Leg) → ◌≡◌ {A = Option Leg} (Some a) (Some b) → a ≡ b
-    some_same a b is = cc
-
-    cases_le : (a b : ℕ) → (a ≤ b) ⊎ (b < a)
-    cases_le a b = elim (cases_lt b a) [ inl less ↦ inr less | inr le ↦ inl le ]
-
-pub picked_leg : (n : NetworkModel) (tables : List PlaceTable) → All (IsFitTable n) tables → (place x : ℕ) (leg : Leg) → pick_at tables place x ≡ Some leg → IsLegOf n leg
-picked_leg n [] fit place x leg is = absurd (cc)
-picked_leg n (table ∷ tables) fit place x leg is = by_test (table.place.0 == place) (picked_leg n tables (λ k d within. fit (suc k) d (omega (arith, within))) place x leg) is
-  where
-    by_test : (test : Bool) → (pick_at tables place x ≡ Some leg → IsLegOf n leg) → pick_row (if test then table.rows else rows_of_place tables place) x ≡ Some leg → IsLegOf n leg
-    by_test true more picks = picked_row n table.place.0 table.rows (fit 0 table (omega arith)).rows x leg picks
-    by_test false more picks = more picks
+-- what is picked at a place is a leg
+picked_leg : (n : NetworkModel) (tables : List PlaceTable) → All (IsFitTable n) tables → (place x : ℕ) (leg : Leg) → pick_at tables place x ≡ Some leg → IsLegOf n leg
+picked_leg n tables fit place x leg is =
+    let rows = rows_of_place-by (λ at. All (IsFitRow n at)) tables place (All-nil (IsFitRow n place)) (λ k d within. (fit k d within).rows) in
+    let found = row_of_pick (IsFitRow n place) (rows_of_place tables place) x leg rows is in
+    subst (λ (l : Leg). IsLegOf n l) found.3 found.1.is_leg
 
 pub next_leg : (n : NetworkModel) (tables : List PlaceTable) → All (IsFitTable n) tables → (place x left : ℕ) (found : Option Leg)
     → found ≡ pick_at tables place x → 0 < left → IfSome found (λ next. IsLegOf n next × (left - 1 < left))
@@ -196,10 +154,6 @@ next_leg n tables fit place x left (Some leg) is some = (picked_leg n tables fit
 pub from_ok : {T E : Type 0} (P : Type 0) (r : Result T E) → is_ok r ≡ true → OnOk r P → P
 from_ok P (Ok x) holds said = said
 from_ok P (Err e) holds said = absurd (cc)
-
-pub one_more : {X : Type 0} (xs : List X) (x : X) → length (xs ++ x ∷ []) ≡ length xs + 1
-one_more [] x = refl
-one_more (y ∷ xs) x = let more = one_more xs x in omega (arith, more)
 
 -- a leg that is next leaves fewer rides
 pub next_step : (n : NetworkModel) (most before left new_left : ℕ) (next : Option Leg) → IfSome next (λ leg. IsLegOf n leg × (new_left < left))

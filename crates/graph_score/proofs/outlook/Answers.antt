@@ -2,7 +2,7 @@ use Rattle.std.proofs.Common.{◌≡◌, ◌<◌, ◌-◌, ◌∙◌, List, arit
 use Rattle.std.specs.Prelude.{slice_index_or}
 use Rattle.std.proofs.lemmas.List.{take-append-le, take_all}
 use Rattle.plan_model.specs.Network.{count}
-use Rattle.plan_graph.proofs.Searches.{at_default}
+use Rattle.std.proofs.lemmas.List.{get_or_default}
 use Rattle.graph_score.specs.declared.outlooks.Outlook.{Outlook}
 use Rattle.graph_score.specs.Steps.{IsOutlook, no_outlook, ridden}
 use Rattle.graph_score.proofs.GraphLegs.{rows_fit, start_fits}
@@ -29,7 +29,7 @@ returns c =
     (drop (length kept) c.in_ok-outlooks.outlooks.items) (omega (arith, many)) ∙ take_all c.in_ok-outlooks.outlooks.len kept (omega (arith, many)) in
     let at = subst (λ (outlooks : List Outlook). IsOutlook n q (slice_index_or outlooks leg.exit.0 no_outlook) tree) (sym same) told in
     let within : leg.exit.0 < length list = let size = ap (λ (outlooks : List Outlook). length outlooks) same in omega (arith, size, c.fill.ensures.as_many, there) in
-    let own : c.index-as_slice-start.result ≡ slice_index_or list leg.exit.0 no_outlook = c.index-as_slice-start.is ∙ at_default list leg.exit.0 c.index-as_slice-start.result no_outlook within in
+    let own : c.index-as_slice-start.result ≡ slice_index_or list leg.exit.0 no_outlook = c.index-as_slice-start.is ∙ get_or_default list leg.exit.0 c.index-as_slice-start.result no_outlook within in
     let here = subst (λ o. IsOutlook n q o tree) (sym own) at in
     subst (λ t. IsOutlook n q c.index-as_slice-start.result t) (sym (unfold-start n q graph leg start.differ c.in-Some.is)) here
 

@@ -2,6 +2,7 @@ use Rattle.std.proofs.Common.{◌≡◌, ◌∙◌, ℕ, ◌+◌, ◌<◌, List,
 use Rattle.std.specs.Prelude.{IfSome, All}
 use Rattle.std.proofs.lemmas.List.Elements.{All-push}
 use Rattle.std.specs.Option.{option_map}
+use Rattle.std.proofs.lemmas.List.{length_push}
 use Rattle.plan_model.specs.declared.model.Moment.{Moment}
 use Rattle.plan_model.specs.Network.{count}
 use Rattle.plan_model.specs.Tree.{Tree}
@@ -13,7 +14,7 @@ use Rattle.trip_replay.specs.declared.ReplayFault.TheVariants as fault
 use Rattle.trip_replay.specs.Walk.{walk}
 use Rattle.trip_replay.specs.Rides.{IsRide, arrival_after, place_after}
 use Rattle.trip_replay.proofs.RideLemmas.{leg_at, is_ride, arrival_after-push, place_after-push}
-use Rattle.trip_replay.proofs.Walks.{too_many, not_a_delay, after_ride, target_there, target_away, from_ok, one_more, next_step, at_some}
+use Rattle.trip_replay.proofs.Walks.{too_many, not_a_delay, after_ride, target_there, target_away, from_ok, next_step, at_some}
 use Rattle.trip_replay.proofs.follow.Goals as goal
 
 pub returns-then-eq-clause-walk : goal.returns-then-eq-clause-walk
@@ -48,7 +49,7 @@ loop-delay-preserved c =
     let rest = drop (c.loop-delay.delay-index + 1) c.args.delays.now in
     let some = sym c.arrival_of.ensures ∙ ap (λ (o : Option Moment). option_map (λ moment. moment.0) o) c.in-Some-arrival_of.is in
     let pushed = from_ok _ c.push.result c.if-is_err.ensures.negation c.push.ensures.ok in
-    let more : length c.push.new.self ≡ length behind + 1 = ap (λ (list : List Ridden). length list) pushed ∙ one_more behind _ in
+    let more : length c.push.new.self ≡ length behind + 1 = ap (λ (list : List Ridden). length list) pushed ∙ length_push behind _ in
     let few : length behind + s.left < count n = at_some n (count n) (length behind) s.left s.next c.in-Some.leg c.in-Some.is c.loop-delay.invariant.next in
     record {
       walk = c.loop-delay.invariant.walk

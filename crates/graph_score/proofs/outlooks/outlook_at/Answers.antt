@@ -2,12 +2,12 @@ use Rattle.std.proofs.Common.{◌<◌, List, AllPairs, arith, subst, sym, ◌∙
 use Rattle.plan_graph.specs.declared.GraphRow.{GraphRow}
 use Rattle.plan_graph.specs.declared.PlaceTable.{PlaceTable}
 use Rattle.plan_graph.specs.Rows.{rows_of_place}
-use Rattle.graph_score.proofs.Picks.{rows_of_place-each}
+use Rattle.plan_graph.proofs.Picked.{rows_of_place-by}
 use Rattle.graph_score.proofs.outlooks.outlook_at.Goals as goal
 
 pub leg_at-requires : goal.leg_at-requires
 leg_at-requires c =
-    let rises = rows_of_place-each (λ (rows : List GraphRow). AllPairs
+    let rises = rows_of_place-by (λ place (rows : List GraphRow). AllPairs
     (λ (a b : GraphRow). a.by.0 < b.by.0) rows) c.args.graph.now.tables c.args.place.0
     (λ i j d less within. absurd (omega (arith, less, within))) c.requires.rising.rows in
     subst (λ (rows : List GraphRow). AllPairs (λ (a b : GraphRow). a.by.0 < b.by.0) rows)

@@ -1,8 +1,8 @@
 use Rattle.std.proofs.Common.{arith, rules, sym, ap, ◌∙◌, ◌<◌, length}
 use Rattle.std.specs.Prelude.{nat_lt}
+use Rattle.std.proofs.lemmas.List.{get_or_default}
 use Rattle.std.proofs.lemmas.List.Sorted.{IsPartitionPoint-from_clause}
 use Rattle.plan_graph.specs.declared.PlaceTable.{PlaceTable}
-use Rattle.plan_graph.proofs.Searches.{at_default}
 use Rattle.graph_score.proofs.Picks.{parted, rows_of_place-at, rows_of_place-none}
 use Rattle.graph_score.proofs.outlooks.rows_at.Goals as goal
 
@@ -22,7 +22,7 @@ returns-then-table-place c =
     (parted (λ (t : PlaceTable). t.place.0) tables p c.requires) (λ a r q k. search rules) in
     let own = c.index-tables-at.result in
     sym (rows_of_place-none tables p c.partition_point-at.result c.requires point (λ d within is.
-    let here = ap (λ (t : PlaceTable). t.place.0) (c.index-tables-at.is ∙ at_default tables c.partition_point-at.result own d within) ∙ is in c.if-table-place.true here))
+    let here = ap (λ (t : PlaceTable). t.place.0) (c.index-tables-at.is ∙ get_or_default tables c.partition_point-at.result own d within) ∙ is in c.if-table-place.true here))
 
 pub returns : goal.returns
 returns c =

@@ -3,7 +3,8 @@ use Rattle.std.proofs.lemmas.List.Sorted.{IsPartitionPoint-from_clause}
 use Rattle.plan_graph.specs.declared.Ride.{Ride}
 use Rattle.plan_graph.specs.declared.GraphRow.{GraphRow}
 use Rattle.plan_graph.specs.Rows.{leg_lt, Precedes, pick_row}
-use Rattle.plan_graph.proofs.Searches.{rides_parted, pick_after-at, pick_after-none, leg_same, leg_other, at_default}
+use Rattle.std.proofs.lemmas.List.{get_or_default}
+use Rattle.plan_graph.proofs.Searches.{rides_parted, pick_after-at, pick_after-none, leg_same, leg_other}
 use Rattle.plan_graph.proofs.ExpandedGraph.pick_rising.Goals as goal
 
 pub returns-then-at-rides : goal.returns-then-at-rides
@@ -24,7 +25,7 @@ returns-then-ne c =
     let own = c.index-rides-at.result in
     sym (pick_after-none c.args.self.now.rides c.as_slice-rides.result.now c.args.leg c.args.arrival.0 c.partition_point-at.result same c.requires point (λ d within is.
     leg_other own.leg c.args.leg c.ne.result c.ne.ensures c.if-ne.true
-    (ap (λ (x : Ride). x.leg) (c.index-rides-at.is ∙ at_default c.as_slice-rides.result.now c.partition_point-at.result own d within) ∙ is)))
+    (ap (λ (x : Ride). x.leg) (c.index-rides-at.is ∙ get_or_default c.as_slice-rides.result.now c.partition_point-at.result own d within) ∙ is)))
 
 pub returns : goal.returns
 returns c =

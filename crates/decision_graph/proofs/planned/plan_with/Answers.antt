@@ -1,10 +1,11 @@
+use Rattle.std.proofs.lemmas.Option.{MatchOption-at_some}
 use Rattle.decision_graph.specs.Expanded.{IsNoneSafe, IsExpandedBy, HasSteadyChoice}
-use Rattle.decision_graph.proofs.Tables.{some_of, match_some, planned}
-use Rattle.decision_graph.proofs.planned.plan_away.Goals as goal
+use Rattle.decision_graph.proofs.Tables.{planned}
+use Rattle.decision_graph.proofs.planned.plan_with.Goals as goal
 
 pub compact-requires-clause-coherent : goal.compact-requires-clause-coherent
 compact-requires-clause-coherent g c =
-    let kept = some_of c.in_ok-expanded.field-0 c.in-Some.expanded (λ p. HasSteadyChoice c.args.network.now c.args.query.now p.graph) c.in-Some.is c.in_ok-expanded.ensures.steady in
+    let kept = MatchOption-at_some (Unit {0}) (λ p. HasSteadyChoice c.args.network.now c.args.query.now p.graph) c.in-Some.expanded c.in-Some.is c.in_ok-expanded.ensures.steady in
     c.steady_is_coherent.ensures c.args.network.now c.args.query.now c.in_ok-pruned.pruned kept.choice c.in_ok-pruned.ensures.pruned kept.steady
     (c.in_ok-pruned.ensures.follows kept.choice kept.follows)
 
@@ -12,7 +13,7 @@ pub returns-clause-plan : goal.returns-clause-plan
 returns-clause-plan g c =
     planned g.V.Score.below g.V.Score.covers g.V.Score.gap g.V.Score.arrived c.args.network.now c.args.query.now c.in-Some.expanded.graph
     c.in_ok-pruned.pruned c.in_ok-graph.graph c.in-Some.expanded.value
-    (match_some c.in_ok-expanded.field-0 c.in-Some.expanded (IsNoneSafe c.args.network.now c.args.query.now)
-    (λ p. IsExpandedBy g.V.Score.below g.V.Score.covers g.V.Score.gap g.V.Score.arrived c.args.network.now c.args.query.now p.graph p.value)
+    (MatchOption-at_some (IsNoneSafe c.args.network.now c.args.query.now)
+    (λ p. IsExpandedBy g.V.Score.below g.V.Score.covers g.V.Score.gap g.V.Score.arrived c.args.network.now c.args.query.now p.graph p.value) c.in-Some.expanded
     c.in-Some.is c.in_ok-expanded.ensures.plan)
     c.in_ok-pruned.ensures.unfolds c.in_ok-graph.ensures.unfolds c.in_ok-graph.ensures.tidy

@@ -1,0 +1,32 @@
+use Rattle.std.proofs.Common.{◌≡◌, None, List, ap}
+use Rattle.std.proofs.lemmas.Option.{MatchOption-at_some}
+use Rattle.plan_graph.specs.declared.Ride.{Ride}
+use Rattle.plan_graph.specs.declared.ExpandedGraph.{ExpandedGraph}
+use Rattle.decision_graph.proofs.AtOnce.{expanded_at_once, steady_at_once}
+use Rattle.decision_graph.proofs.Found.{IsOfStart, expanded, steady_choice}
+use Rattle.decision_graph.proofs.expanded.expand_with.Goals as goal
+
+graph_of : List Ride → ExpandedGraph
+graph_of rides = record { start = None; rides = rides }
+
+pub returns-then-query-clause-plan : goal.returns-then-query-clause-plan
+unfolding graph_of
+returns-then-query-clause-plan g c =
+    expanded_at_once g.V.Score.below g.V.Score.covers g.V.Score.gap g.V.Score.rank g.V.Score.arrived g.V.Score.blended g.V.Score.lowered g.V.Score.laws
+    c.args.network.now c.args.query.now (graph_of c.new.result) c.args.arrived c.if-query.true c.requires.deadline (ap graph_of c.new.ensures) c.requires.arrived
+
+pub returns-then-query-clause-steady : goal.returns-then-query-clause-steady
+unfolding graph_of
+returns-then-query-clause-steady g c = steady_at_once c.args.network.now c.args.query.now (graph_of c.new.result) (ap graph_of c.new.ensures)
+
+pub returns-clause-plan : goal.returns-clause-plan
+returns-clause-plan g c =
+    let found = c.scan-scanned.result in
+    expanded g.V.Score.below g.V.Score.covers g.V.Score.gap g.V.Score.arrived c.args.network.now c.args.query.now found c.scan-scanned.ensures.solves _ c.in-Some.ensures c.in-Some-2.graph
+    (MatchOption-at_some (found.start ≡ None) (IsOfStart c.args.network.now c.args.query.now found) c.in-Some-2.graph c.in-Some-2.is c.in_ok-extract.ensures)
+
+pub returns-clause-steady : goal.returns-clause-steady
+returns-clause-steady g c =
+    let found = c.scan-scanned.result in
+    steady_choice c.args.network.now c.args.query.now found c.in-Some-2.graph
+    (MatchOption-at_some (found.start ≡ None) (IsOfStart c.args.network.now c.args.query.now found) c.in-Some-2.graph c.in-Some-2.is c.in_ok-extract.ensures)

@@ -1,0 +1,38 @@
+-- What is picked is the leg of a row.
+use Rattle.std.proofs.Common.{◌≡◌, ℕ, ◌<◌, ◌≤◌, true, false, List, [], ◌∷◌, Some, All, arith, sym, subst, refl, inl, inr, ◌∙◌}
+use Rattle.std.specs.Prelude.{nat_le}
+use Rattle.std.proofs.lemmas.Bool.{cases_lt, cases_eq}
+use Rattle.std.proofs.lemmas.Bool.Decides.{nat_tests}
+use Rattle.std.proofs.lemmas.List.Elements.{All-tail}
+use Rattle.plan_model.specs.declared.model.Leg.{Leg}
+use Rattle.plan_graph.specs.declared.GraphRow.{GraphRow}
+use Rattle.plan_graph.specs.declared.PlaceTable.{PlaceTable}
+use Rattle.plan_graph.specs.Rows.{pick_row, rows_of_place, is_table_of}
+
+pub pick_here : (row : GraphRow) (rows : List GraphRow) (x : ℕ) → x ≤ row.by.0 → pick_row (row ∷ rows) x ≡ Some row.leg
+pick_here row rows x soon = let e : nat_le x row.by.0 ≡ true = grind (arith, nat_tests) in rw e refl
+
+pub pick_further : (row : GraphRow) (rows : List GraphRow) (x : ℕ) → row.by.0 < x → pick_row (row ∷ rows) x ≡ pick_row rows x
+pick_further row rows x late = let e : nat_le x row.by.0 ≡ false = grind (arith, nat_tests) in rw e refl
+
+-- what is picked is the leg of a row that is in time
+pub row_of_pick : (P : GraphRow → Type 0) (rows : List GraphRow) (x : ℕ) (leg : Leg) → All P rows → pick_row rows x ≡ Some leg → (row : GraphRow) × P row × (x ≤ row.by.0) × (row.leg ≡ leg)
+row_of_pick P [] x leg each is = absurd (cc)
+row_of_pick P (row ∷ rows) x leg each is = elim (cases_lt row.by.0 x) [
+  | inl late ↦ row_of_pick P rows x leg (All-tail P row rows each) (sym (pick_further row rows x late) ∙ is)
+  | inr soon ↦ let both = sym (pick_here row rows x soon) ∙ is in (row, each 0 row (omega arith), soon, (cc))
+]
+
+pub table_here : (table : PlaceTable) (tables : List PlaceTable) (p : ℕ) → table.place.0 ≡ p → rows_of_place (table ∷ tables) p ≡ table.rows
+table_here table tables p here = let e : is_table_of p table ≡ true = grind (arith, nat_tests) in rw e refl
+
+pub table_further : (table : PlaceTable) (tables : List PlaceTable) (p : ℕ) → (table.place.0 ≡ p → ⊥) → rows_of_place (table ∷ tables) p ≡ rows_of_place tables p
+table_further table tables p away = let e : is_table_of p table ≡ false = grind (arith, nat_tests) in rw e refl
+
+-- what holds by the place of no rows and of those of each table holds of those of a place
+pub rows_of_place-by : (P : ℕ → List GraphRow → Type 0) (tables : List PlaceTable) (p : ℕ) → P p [] → All (λ t. P t.place.0 t.rows) tables → P p (rows_of_place tables p)
+rows_of_place-by P [] p none each = none
+rows_of_place-by P (table ∷ tables) p none each = elim (cases_eq table.place.0 p) [
+  | inl here ↦ subst (P p) (sym (table_here table tables p here)) (subst (λ (k : ℕ). P k table.rows) here (each 0 table (omega arith)))
+  | inr away ↦ subst (P p) (sym (table_further table tables p away)) (rows_of_place-by P tables p none (All-tail (λ (t : PlaceTable). P t.place.0 t.rows) table tables each))
+]
