@@ -164,7 +164,8 @@ module _ {n : NetworkModel} (good : IsValid n) {q : Query} {values : List (Optio
       check_fails board breaks = record {
         there = check_there;
         board = board;
-        fault = λ is_local. breaks (each_keeps_to (Rides n q values e.id.0) (value_of values e.id.0) best (best_ride good state.scanned rest e popped own board) (λ v ride. is_local ride.0 v ride.1 ride.2));
+        fault = λ is_local. breaks (each_keeps_to (Rides n q values e.id.0) (value_of values e.id.0) best (best_ride good state.scanned rest e popped own board)
+            (λ v ride. is_local ride.0 v ride.1 ride.2));
         last = λ d there board_d after. state.kept d there ((scanned_is_next good state.scanned rest e popped).after d there after) board_d;
       }
 
