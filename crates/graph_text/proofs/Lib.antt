@@ -1,9 +1,10 @@
 pub mod Fields
 pub mod Laws
+pub mod Rows
 pub mod Steps
-pub mod Fits
+pub mod Tables
+pub mod Accepted
 pub mod Printed
 pub mod ReadBack
 mod Leaving
 mod Versioned
-pub mod Deadlines

@@ -4,7 +4,7 @@ use Rattle.std.specs.Prelude.{◌==◌, false, slice_index_or}
 use Rattle.std.specs.Option.{option_map}
 use Rattle.std.specs.Result.{IsErr, IsErrAnd}
 use Rattle.std.proofs.lemmas.Bool.Decides.{nat_tests}
-use Rattle.plan_model.specs.Results.{and_then}
+use Rattle.plan_model.specs.Results.{and_then, require}
 use Rattle.plan_model.specs.declared.model.PlaceId.{PlaceId}
 use Rattle.plan_model.specs.NetworkModel.{NetworkModel}
 use Rattle.plan_model.specs.NameLists.{NameLists}
@@ -16,7 +16,8 @@ use Rattle.graph_text.specs.declared.reader.Reading.{Reading}
 use Rattle.graph_text.specs.declared.reader.TextFault.{TextFault}
 use Rattle.graph_text.specs.declared.reader.TextFault.TheVariants as f
 use Rattle.printed_rows.proofs.Lines.{split_at}
-use Rattle.graph_text.specs.Reading.{extended, row_in, step, IsRead, place_or_first, tables_from, graph_in, head_in, version_in, graph_of_version, graph_of_records}
+use Rattle.graph_text.specs.GraphRows.{version_in}
+use Rattle.graph_text.specs.Reading.{extended, row_in, step, IsRead, place_or_first, tables_from, graph_in, head_in, graph_of_records}
 
 not_none : (left : ℕ) → (left ≡ 0 → ⊥) → (left == 0) ≡ false
 not_none left some = grind (arith, nat_tests)
@@ -90,14 +91,7 @@ pub told_by : (n : NetworkModel) (names : NameLists) (version : Version) (source
     → IsRead r (and_then (graph_in n names version source target start (drop 1 rows)) (λ graph. Ok (head, graph))) → IsRead r (graph_of_records n names source target start rows)
 told_by n names version source target start rows head r some found is read =
     subst (λ (t : List (List (List ℕ))). IsRead r (graph_of_records n names source target start t)) (sym (first_split rows some))
-    (subst (λ (v : Option Version). IsRead r (graph_of_version n names source target start (slice_index_or rows 0 []) (drop 1 rows) v)) found
+    (subst (λ (v : Option Version). IsRead r (require v (f.Row 1) (λ own. and_then (head_in names own source target start (slice_index_or rows 0 []))
+    (λ h. and_then (graph_in n names own source target start (drop 1 rows)) (λ graph. Ok (h, graph)))))) found
     (ok_on (head_in names version source target start (slice_index_or rows 0 [])) head
     (λ h. and_then (graph_in n names version source target start (drop 1 rows)) (λ graph. Ok (h, graph))) r (sym is) read))
-
--- a fault of the first row is one of the text
-pub head_fault : (n : NetworkModel) (names : NameLists) (source target start : ℕ) (rows : List (List (List ℕ))) (found : Option Version)
-    (r : Result (Head × PlanGraph) TextFault) → 0 < length rows → found ≡ version_in (slice_index_or rows 0 [])
-    → IsRead r (graph_of_version n names source target start (slice_index_or rows 0 []) (drop 1 rows) found) → IsRead r (graph_of_records n names source target start rows)
-head_fault n names source target start rows found r some is read =
-    subst (λ (t : List (List (List ℕ))). IsRead r (graph_of_records n names source target start t)) (sym (first_split rows some))
-    (subst (λ (v : Option Version). IsRead r (graph_of_version n names source target start (slice_index_or rows 0 []) (drop 1 rows) v)) is read)

@@ -1,8 +1,7 @@
--- What a graph's text tells, or the first of its faults by line.
-use Rattle.std.specs.Prelude.{◌≡◌, ℕ, ◌+◌, ◌-◌, Bool, true, false, List, [], ◌∷◌, ◌++◌, length, ◌==◌, ◌&&◌, nat_le, if◌then◌else◌, codes, Option, Some, None, Result, Ok, Err, ◌⊎◌, ◌<◌, IsSome, IfSome}
+-- How a graph is found in the rows of its text, or the first of the text's faults by line. `GraphRows` has which texts tell a graph.
+use Rattle.std.specs.Prelude.{◌≡◌, ℕ, ◌+◌, ◌-◌, Bool, false, List, [], ◌∷◌, ◌++◌, length, ◌==◌, ◌&&◌, nat_le, if◌then◌else◌, codes, Option, Some, None, Result, Ok, Err, ◌⊎◌, ◌<◌, IsSome, IfSome}
 use Rattle.std.specs.Option.{option_map, option_and_then}
-use Rattle.std.specs.Str.{bytes_eq}
-use Rattle.plan_model.specs.Results.{and_then}
+use Rattle.plan_model.specs.Results.{and_then, require}
 use Rattle.clock_text.specs.Times.{moment_at, nanos_at}
 use Rattle.csv_rows.specs.Tables.{table_of}
 use Rattle.plan_model.specs.declared.model.Leg.{Leg}
@@ -17,8 +16,8 @@ use Rattle.printed_rows.specs.Fields.{field, is_kind, whole_at, number_of, conne
 use Rattle.graph_text.specs.declared.Head.{Head}
 use Rattle.graph_text.specs.declared.reader.TextFault.{TextFault}
 use Rattle.graph_text.specs.declared.version.Version.{Version}
-use Rattle.graph_text.specs.declared.version.Version.TheVariants.{First, Second}
-use Rattle.graph_text.specs.Versions.{width_of, number_of_version}
+use Rattle.graph_text.specs.Versions.{width_of}
+use Rattle.graph_text.specs.GraphRows.{entry_in, is_place, is_head, version_in}
 use Rattle.graph_text.specs.declared.reader.TextFault.TheVariants.{Row, UnknownName, NotRising, NoLeg, OtherQuery, NoMemory}
 use Rattle.graph_text.specs.declared.reader.HeadRow.{HeadRow}
 use Rattle.graph_text.specs.declared.reader.LegRow.{LegRow}
@@ -28,27 +27,21 @@ use Rattle.graph_text.specs.declared.reader.TableStart.{TableStart}
 use Rattle.graph_text.specs.declared.reader.Reading.{Reading}
 use Rattle.plan_model.specs.declared.model.PlaceId.{PlaceId}
 
--- whether the field of the entry place is empty, where the version has one
-abbrev pub has_no_entry : Version → List (List ℕ) → Bool
-has_no_entry First r = true
-has_no_entry Second r = length (field r 8) == 0
-
--- the numbers of a leg's row, where each is of its form
+-- the numbers of a leg's row, where all are there
 abbrev pub leg_numbers : Option ℕ → Option ℕ → Option ℕ → Option ℕ → Option ℕ → Option LegRow
-leg_numbers (Some moment) (Some enter) (Some dep) (Some exit) (Some arr) =
-    Some (record { moment = record { 0 = moment }; enter = enter; dep = record { 0 = dep }; exit = exit; arr = record { 0 = arr } })
-leg_numbers _ _ _ _ _ = None
+leg_numbers None enter dep exit arr = None
+leg_numbers (Some by) None dep exit arr = None
+leg_numbers (Some by) (Some enter) None exit arr = None
+leg_numbers (Some by) (Some enter) (Some dep) None arr = None
+leg_numbers (Some by) (Some enter) (Some dep) (Some exit) None = None
+leg_numbers (Some by) (Some enter) (Some dep) (Some exit) (Some arr) =
+    Some (record { moment = record { 0 = by }; enter = enter; dep = record { 0 = dep }; exit = exit; arr = record { 0 = arr } })
 
 abbrev pub leg_row_in : Version → List ℕ → List (List ℕ) → Option LegRow
 leg_row_in version kind r =
     if is_kind kind (width_of version) r
     then leg_numbers (moment_at (field r 1)) (whole_at (field r 3)) (moment_at (field r 4)) (whole_at (field r 5)) (moment_at (field r 7))
     else None
-
--- the place where a row has its leg begin: in the first version its own place, and in the second the one that the ninth field names
-abbrev pub entry_in : Version → NameLists → ℕ → List (List ℕ) → Option ℕ
-entry_in First names here r = Some here
-entry_in Second names here r = number_of names.places (field r 8)
 
 -- a run, the place where one boards and the place where one leaves
 abbrev pub leg_names : ℕ → ℕ → ℕ → LegNames
@@ -69,14 +62,11 @@ agrees network i j x known =
 abbrev pub leg_of : ℕ → ℕ → Leg
 leg_of i j = record { enter = record { 0 = i }; exit = record { 0 = j } }
 
-abbrev pub leg_between : NetworkModel → LegRow → LegNames → Option ℕ → Option ℕ → Option Leg
-leg_between network x known (Some i) (Some j) = if agrees network i j x known then Some (leg_of i j) else None
-leg_between network x known (Some i) None = None
-leg_between network x known None j = None
-
 -- the leg of a row by its run and places, where the network has it
 abbrev pub leg_found : NetworkModel → LegRow → LegNames → Option Leg
-leg_found network x known = leg_between network x known (connection_of network known.run.0 x.enter) (connection_of network known.run.0 x.exit)
+leg_found network x known =
+    option_and_then (λ i. option_and_then (λ j. if agrees network i j x known then Some (leg_of i j) else None)
+    (connection_of network known.run.0 x.exit)) (connection_of network known.run.0 x.enter)
 
 -- whether a limit is there and is this moment
 abbrev pub is_limit : Option ℕ → ℕ → Bool
@@ -87,75 +77,44 @@ is_limit (Some limit) moment = limit == moment
 abbrev pub can_start : NetworkModel → ℕ → ℕ → ℕ → Leg → Bool
 can_start network source start moment leg = (from_of network leg.enter.0 == source) && ((moment == dep_of network leg.enter.0) && nat_le start (dep_of network leg.enter.0))
 
--- the start leg
-abbrev pub start_by : NetworkModel → ℕ → ℕ → ℕ → LegRow → Option Leg → Result Leg TextFault
-start_by network line source start x None = Err (NoLeg line)
-start_by network line source start x (Some leg) =
-    if can_start network source start x.moment.0 leg then Ok leg else Err (NoLeg line)
-
-abbrev pub start_named : NetworkModel → ℕ → ℕ → ℕ → LegRow → Option LegNames → Result Leg TextFault
-start_named network line source start x None = Err (UnknownName line)
-start_named network line source start x (Some known) = start_by network line source start x (leg_found network x known)
-
-abbrev pub start_numbers : NetworkModel → NameLists → Version → ℕ → ℕ → ℕ → List (List ℕ) → Option LegRow → Result Leg TextFault
-start_numbers network names version line source start r None = Err (Row line)
-start_numbers network names version line source start r (Some x) = start_named network line source start x (names_in version names source r)
-
 -- the start row
 abbrev pub start_in : NetworkModel → NameLists → Version → ℕ → ℕ → ℕ → List (List ℕ) → Result Leg TextFault
-start_in network names version line source start r = start_numbers network names version line source start r (leg_row_in version (codes "start") r)
+start_in network names version line source start r =
+    require (leg_row_in version (codes "start") r) (Row line) (λ x.
+    require (names_in version names source r) (UnknownName line) (λ known.
+    require (leg_found network x known) (NoLeg line) (λ leg.
+    if can_start network source start x.moment.0 leg then Ok leg else Err (NoLeg line))))
 
 -- whether the moment is the limit of a leg at a place
 abbrev pub is_by_limit : NetworkModel → ℕ → ℕ → Leg → Bool
 is_by_limit network place moment leg = is_limit (limit_of network place leg) moment
 
--- the row of a leg at a place, by its limit
-abbrev pub row_by_leg : NetworkModel → ℕ → ℕ → LegRow → Option Leg → Result GraphRow TextFault
-row_by_leg network line place x None = Err (NoLeg line)
-row_by_leg network line place x (Some leg) =
-    if is_by_limit network place x.moment.0 leg then Ok (record { by = x.moment; leg = leg }) else Err (NoLeg line)
-
-abbrev pub row_named : NetworkModel → ℕ → ℕ → Option ℕ → LegRow → Option LegNames → Result GraphRow TextFault
-row_named network line place last x None = Err (UnknownName line)
-row_named network line place last x (Some known) = if rises last x.moment.0 then row_by_leg network line place x (leg_found network x known) else Err (NotRising line)
-
-abbrev pub row_numbers : NetworkModel → NameLists → Version → ℕ → ℕ → Option ℕ → List (List ℕ) → Option LegRow → Result GraphRow TextFault
-row_numbers network names version line place last r None = Err (Row line)
-row_numbers network names version line place last r (Some x) = row_named network line place last x (names_in version names place r)
-
 -- a leg row of a place, after one by an earlier moment
 abbrev pub row_in : NetworkModel → NameLists → Version → ℕ → ℕ → Option ℕ → List (List ℕ) → Result GraphRow TextFault
-row_in network names version line place last r = row_numbers network names version line place last r (leg_row_in version (codes "leg") r)
+row_in network names version line place last r =
+    require (leg_row_in version (codes "leg") r) (Row line) (λ x.
+    require (names_in version names place r) (UnknownName line) (λ known.
+    if rises last x.moment.0
+    then require (leg_found network x known) (NoLeg line) (λ leg.
+    if is_by_limit network place x.moment.0 leg then Ok (record { by = x.moment; leg = leg }) else Err (NoLeg line))
+    else Err (NotRising line)))
 
--- the numbers of a place row, where each is of its form
+-- the numbers of a place row, where both are there and it has a row
 abbrev pub place_numbers : Option ℕ → Option ℕ → Option PlaceRow
-place_numbers (Some change) (Some count) = if nat_le 1 count then Some (record { change = change; count = count }) else None
-place_numbers _ _ = None
-
-abbrev pub is_blank : List (List ℕ) → Bool
-is_blank r = (length (field r 4) == 0) && ((length (field r 5) == 0) && ((length (field r 6) == 0) && (length (field r 7) == 0)))
-
--- whether it is a place row, of which the fields after the numbers are empty
-abbrev pub is_place : Version → List (List ℕ) → Bool
-is_place version r = is_kind (codes "place") (width_of version) r && (is_blank r && has_no_entry version r)
+place_numbers change count =
+    option_and_then (λ change. option_and_then (λ count. if nat_le 1 count then Some (record { change = change; count = count }) else None) count) change
 
 abbrev pub place_row_in : Version → List (List ℕ) → Option PlaceRow
 place_row_in version r = if is_place version r then place_numbers (whole_at (field r 2)) (whole_at (field r 3)) else None
 
-abbrev pub table_named : NetworkModel → ℕ → Option ℕ → PlaceRow → Option ℕ → Result TableStart TextFault
-table_named network line last x None = Err (UnknownName line)
-table_named network line last x (Some place) =
-    if rises last place
-    then (if x.change == change_of network place then Ok (record { place = record { 0 = place }; count = x.count }) else Err (NoLeg line))
-    else Err (NotRising line)
-
-abbrev pub table_numbers : NetworkModel → NameLists → ℕ → Option ℕ → List (List ℕ) → Option PlaceRow → Result TableStart TextFault
-table_numbers network names line last r None = Err (Row line)
-table_numbers network names line last r (Some x) = table_named network line last x (number_of names.places (field r 1))
-
 -- a place row, after one of an earlier place
 abbrev pub table_in : NetworkModel → NameLists → Version → ℕ → Option ℕ → List (List ℕ) → Result TableStart TextFault
-table_in network names version line last r = table_numbers network names line last r (place_row_in version r)
+table_in network names version line last r =
+    require (place_row_in version r) (Row line) (λ x.
+    require (number_of names.places (field r 1)) (UnknownName line) (λ place.
+    if rises last place
+    then (if x.change == change_of network place then Ok (record { place = record { 0 = place }; count = x.count }) else Err (NoLeg line))
+    else Err (NotRising line)))
 
 -- the tables so far, with one that begins or has one row more
 abbrev pub begun : Reading → Result TableStart TextFault → Result Reading TextFault
@@ -211,22 +170,14 @@ graph_in network names version source target start (r ∷ rs) =
 abbrev pub are_in_order : ℕ → ℕ → ℕ → ℕ → Bool
 are_in_order start deadline lo hi = nat_le start deadline && nat_le lo hi
 
--- the numbers of the first row, where each is of its form
+-- the numbers of the first row, where all are there and in order
 abbrev pub head_numbers : Option ℕ → Option ℕ → Option ℕ → Option ℕ → Option HeadRow
+head_numbers None deadline lo hi = None
+head_numbers (Some start) None lo hi = None
+head_numbers (Some start) (Some deadline) None hi = None
+head_numbers (Some start) (Some deadline) (Some lo) None = None
 head_numbers (Some start) (Some deadline) (Some lo) (Some hi) =
     if are_in_order start deadline lo hi then Some (record { start = record { 0 = start }; deadline = record { 0 = deadline }; lo = lo; hi = hi }) else None
-head_numbers _ _ _ _ = None
-
--- the version that the first row tells
-abbrev pub version_in : List (List ℕ) → Option Version
-version_in r =
-    if bytes_eq (field r 1) (number_of_version First)
-    then Some First
-    else (if bytes_eq (field r 1) (number_of_version Second) then Some Second else None)
-
--- whether it is the first row of a graph
-abbrev pub is_head : Version → List (List ℕ) → Bool
-is_head version r = is_kind (codes "graph") (width_of version) r && has_no_entry version r
 
 abbrev pub head_row_in : Version → List (List ℕ) → Option HeadRow
 head_row_in version r =
@@ -238,40 +189,28 @@ head_row_in version r =
 abbrev pub is_query : ℕ → ℕ → ℕ → ℕ → ℕ → ℕ → Bool
 is_query from to moment source target start = (from == source) && ((to == target) && (moment == start))
 
-abbrev pub head_named : ℕ → ℕ → ℕ → HeadRow → Option ℕ → Option ℕ → Result Head TextFault
-head_named source target start x (Some from) (Some to) =
-    if is_query from to x.start.0 source target start
-    then Ok (record {
-      query = record {
-        source = record { 0 = source };
-        target = record { 0 = target };
-        start = record { 0 = start };
-        deadline =
-            x.deadline;
-      };
-      bounds = record { lo = x.lo; hi = x.hi };
-    })
-    else Err (OtherQuery 1)
-head_named source target start x _ _ = Err (UnknownName 1)
-
-abbrev pub head_of_numbers : NameLists → ℕ → ℕ → ℕ → List (List ℕ) → Option HeadRow → Result Head TextFault
-head_of_numbers names source target start r None = Err (Row 1)
-head_of_numbers names source target start r (Some x) = head_named source target start x (number_of names.places (field r 2)) (number_of names.places (field r 3))
+-- the head of a question and the numbers of a first row
+abbrev pub head_of : ℕ → ℕ → ℕ → HeadRow → Head
+head_of source target start x = record {
+  query = record { source = record { 0 = source }; target = record { 0 = target }; start = record { 0 = start }; deadline = x.deadline };
+  bounds = record { lo = x.lo; hi = x.hi };
+}
 
 -- the first row
 abbrev pub head_in : NameLists → Version → ℕ → ℕ → ℕ → List (List ℕ) → Result Head TextFault
-head_in names version source target start r = head_of_numbers names source target start r (head_row_in version r)
+head_in names version source target start r =
+    require (head_row_in version r) (Row 1) (λ x.
+    require (number_of names.places (field r 2)) (UnknownName 1) (λ from.
+    require (number_of names.places (field r 3)) (UnknownName 1) (λ to.
+    if is_query from to x.start.0 source target start then Ok (head_of source target start x) else Err (OtherQuery 1))))
 
 -- the head and the graph of a table's records, by the version that the first one tells
-abbrev pub graph_of_version : NetworkModel → NameLists → ℕ → ℕ → ℕ → List (List ℕ) → List (List (List ℕ)) → Option Version → Result (Head × PlanGraph) TextFault
-graph_of_version network names source target start r rs None = Err (Row 1)
-graph_of_version network names source target start r rs (Some version) =
-    and_then (head_in names version source target start r) (λ head. and_then (graph_in network names version source target start rs) (λ graph. Ok (head, graph)))
-
--- the head and the graph of a table's records
 abbrev pub graph_of_records : NetworkModel → NameLists → ℕ → ℕ → ℕ → List (List (List ℕ)) → Result (Head × PlanGraph) TextFault
 graph_of_records network names source target start [] = Err (Row 1)
-graph_of_records network names source target start (r ∷ rs) = graph_of_version network names source target start r rs (version_in r)
+graph_of_records network names source target start (r ∷ rs) =
+    require (version_in r) (Row 1) (λ version.
+    and_then (head_in names version source target start r) (λ head.
+    and_then (graph_in network names version source target start rs) (λ graph. Ok (head, graph))))
 
 -- the head and the graph of a text, or the first of its faults by line
 abbrev pub graph_of : List ℕ → NetworkModel → NameLists → ℕ → ℕ → ℕ → Result (Head × PlanGraph) TextFault

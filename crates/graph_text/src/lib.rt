@@ -1,7 +1,7 @@
 //! Graphs as printed rows.
 #![tactic(auto)]
 
-ghost use Rattle.std.specs.Prelude.{◌≡◌, ℕ, ◌≤◌, IfOk, Ok, List as Sequence};
+ghost use Rattle.std.specs.Prelude.{◌≡◌, ℕ, ◌≤◌, ◌↔◌, IfOk, Ok, List as Sequence};
 ghost use Rattle.plan_model.specs.NameLists.{NameLists, NamesFit};
 ghost use Rattle.plan_model.specs.Network.{IsValid};
 ghost use Rattle.plan_graph.specs.Ready.{IsReady};
@@ -13,6 +13,7 @@ ghost use Rattle.plan_model.specs.declared.model.Query.{Query as QueryParts};
 ghost use Rattle.graph_text.specs.Texts.{expanded_text, expanded_text_in, graph_text, graph_text_in};
 ghost use Rattle.graph_text.specs.declared.Head.{Head as HeadParts};
 ghost use Rattle.graph_text.specs.Reading.{graph_of, IsReadAs};
+ghost use Rattle.graph_text.specs.GraphRows.{IsTextOf};
 ghost use Rattle.graph_text.specs.Asked.{IsHeadOf};
 ghost use Rattle.graph_text.specs.Printable.{IsPrintableQuery, IsPrintable, IsPrintablePlan};
 
@@ -163,4 +164,10 @@ pub fn read_fits()
     ensures { (n : NetworkModel) (names : NameLists) (text : Sequence ℕ) (source target start : ℕ)
         (head : HeadParts) (graph : Plan) → graph_of text n names source target start
         ≡ Ok (head, graph) → IsFit n head.query graph × IsHeadOf source target start head }
+{}
+
+/// A text is read as a head and a graph exactly where its rows are those of them, and the graph fits.
+pub fn read_is_told()
+    ensures { (n : NetworkModel) (names : NameLists) (head : HeadParts) (graph : Plan) (text : Sequence ℕ)
+        → IsValid n → IsReadAs n names head graph text ↔ IsTextOf n names head graph text }
 {}

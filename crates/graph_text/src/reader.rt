@@ -4,7 +4,9 @@ ghost use Rattle.std.specs.Option.{option_map};
 ghost use Rattle.csv_rows.specs.Tables.{header, row_count};
 ghost use Rattle.plan_model.specs.NameLists.{NamesFit};
 ghost use Rattle.plan_model.specs.Network.{count};
-ghost use Rattle.graph_text.specs.Reading.{leg_row_in, entry_in, names_in, leg_found, can_start, start_in, is_limit, is_by_limit, row_in, is_blank, has_no_entry, is_place, place_row_in, table_in, begun, extended, place_or_first, IsPlaced, no_tables, step, tables_from, graph_in, version_in, is_head, are_in_order, head_row_in, is_query, head_in, started_in, graph_of_records, graph_of, IsRead};
+ghost use Rattle.graph_text.specs.GraphRows.{has_no_entry, entry_in, is_blank, is_place, is_head, version_in};
+ghost use Rattle.graph_text.specs.Reading.{leg_row_in, names_in, leg_found, can_start, start_in, is_limit, is_by_limit, row_in, place_row_in, table_in, are_in_order, head_row_in, is_query, head_in};
+ghost use Rattle.graph_text.specs.Reading.{begun, extended, place_or_first, IsPlaced, no_tables, step, tables_from, graph_in, started_in, graph_of_records, graph_of, IsRead};
 ghost use Rattle.graph_text.specs.Versions.{width_of};
 ghost use Rattle.printed_rows.specs.Fields.{is_kind};
 

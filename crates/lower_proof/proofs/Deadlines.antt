@@ -2,7 +2,7 @@
 use Rattle.std.proofs.Common.{◌≡◌, ℕ, ◌≤◌, List, Option, Some, None, Bool, true, false, Ok, Err, subst, ap, sym}
 use Rattle.std.specs.Prelude.{nat_le, if◌then◌else◌}
 use Rattle.clock_text.specs.Times.{moment_at}
-use Rattle.lower_proof.proofs.Range.{moment_range}
+use Rattle.clock_text.proofs.Range.{moment_range}
 use Rattle.csv_rows.specs.Tables.{header}
 use Rattle.plan_model.specs.declared.model.Moment.{Moment}
 use Rattle.plan_model.specs.declared.model.Query.{Query}

@@ -1,9 +1,11 @@
 -- The connections that depart by a moment, sorted by departure and number, stand in the scan order.
-use Rattle.std.proofs.Common.{◌≡◌, ℕ, suc, ◌+◌, ◌-◌, ◌<◌, ◌≤◌, ◌∷◌, [], ◌++◌, List, Bool, false, length, get_or, map, All, AllPairs, eqb, arith, ⊎_elim, inl, inr, sym, ap, ◌∙◌, refl}
+use Rattle.std.proofs.Common.{◌≡◌, ℕ, ◌+◌, ◌<◌, ◌≤◌, ◌∷◌, [], ◌++◌, List, Bool, false, length, get_or, map, All, AllPairs, eqb, arith}
+use Rattle.std.proofs.Common.{⊎_elim, inl, inr, sym, ap, ◌∙◌, refl, subst, append_assoc}
 use Rattle.std.specs.List.Sorted.{IsPermutation, IsSorted}
 use Rattle.std.proofs.lemmas.Bool.{cases_lt}
+use Rattle.std.proofs.lemmas.Cmp.{nat_eq_equiv}
 use Rattle.std.proofs.lemmas.Bool.Decides.{nat_tests}
-use Rattle.std.proofs.lemmas.List.{get_or-map, get_or_default, length-map, length_push, get_or_append_left, get_or_at}
+use Rattle.std.proofs.lemmas.List.{append-nil, get_or-map, get_or_default, length-map, length_push, get_or_append_left, get_or_at, map-append}
 use Rattle.std.proofs.lemmas.List.Elements.{All-push}
 use Rattle.std.proofs.lemmas.List.Quantifiers.{all_pairs_push}
 use Rattle.std.proofs.lemmas.List.Sorted.{All-permutation, Contains-permutation}
@@ -11,11 +13,11 @@ use Rattle.std.proofs.lemmas.Map.Keys.{IsDistinct-from_apart, IsDistinct-IsPermu
 use Rattle.plan_model.specs.declared.model.ConnectionId.{ConnectionId}
 use Rattle.plan_model.specs.NetworkModel.{NetworkModel}
 use Rattle.plan_model.specs.Network.{IsValid, count, dep_of}
-use Rattle.plan_model.proofs.ScanOrders.{IsOrderBut}
+use Rattle.plan_model.proofs.ScanOrders.{IsOrderBut, IsNext, Known, next_of, all_known}
 use Rattle.lower_proof.specs.declared.board.Entry.{Entry}
 use Rattle.lower_proof.specs.Boards.{entry_at}
 use Rattle.lower_proof.specs.Departures.{IsDeparture, AreDepartures}
-use Rattle.lower_proof.proofs.Entries.{entry_cmp, no_entry, along}
+use Rattle.lower_proof.proofs.Entries.{entry_cmp, no_entry, sorted_in_order}
 
 -- ---- found one after the other
 
@@ -66,9 +68,6 @@ found_more n last m entries e there is departs soon found = record {
 abbrev by_id : Entry → Entry → Bool
 by_id a b = eqb a.id.0 b.id.0
 
-eqb_flips : (a b : ℕ) → eqb a b ≡ eqb b a
-eqb_flips a b = grind (arith, nat_tests)
-
 strictly : (i j : ℕ) → i ≤ j → eqb i j ≡ false → i < j
 strictly i j h k = grind (arith, nat_tests)
 
@@ -79,7 +78,7 @@ sorted_departures n good last xs ys found moved up =
     let rising = found.rising i j d less inside in
     let apart : eqb (get_or xs i d).id.0 (get_or xs j d).id.0 ≡ false = grind (arith, nat_tests) in
     apart) in
-    let apart = IsDistinct-IsPermutation by_id (λ x y. eqb_flips x.id.0 y.id.0) xs ys moved distinct in
+    let apart = IsDistinct-IsPermutation by_id (λ x y. nat_eq_equiv.symm x.id.0 y.id.0) xs ys moved distinct in
     record {
       each = each;
       all = λ c there soon.
@@ -92,8 +91,7 @@ sorted_departures n good last xs ys found moved up =
           let b = get_or ys l d in
           let first = each k d (omega arith) in
           let second = each l d h in
-          let place : k + suc (l - k - 1) ≡ l = omega arith in
-          let order = rw place at (along ys up d k (l - k - 1) (omega arith)) in
+          let order = sorted_in_order ys up d k l (omega arith) h in
           let differ = apart_from_distinct by_id ys k l d apart less h in
           ⊎_elim (λ sooner. inl (omega (arith, first.1, second.1)))
           (λ level. inr (omega (arith, first.1, second.1), good.rising a.id.0 b.id.0 (strictly a.id.0 b.id.0 level.1 differ) second.0)) order;
@@ -109,7 +107,7 @@ Late n last c = last < dep_of n c
 abbrev pub ids_of : List Entry → List ConnectionId
 ids_of entries = map (λ e. e.id) entries
 
-pub departures_in_order : (n : NetworkModel) (last : ℕ) (entries : List Entry) → AreDepartures n last entries → IsOrderBut n (Late n last) (ids_of entries)
+departures_in_order : (n : NetworkModel) (last : ℕ) (entries : List Entry) → AreDepartures n last entries → IsOrderBut n (Late n last) (ids_of entries)
 departures_in_order n last entries are =
     let len : length (ids_of entries) ≡ length entries = length-map entries (λ (e : Entry). e.id) in
     let at : (k : ℕ) (d : ConnectionId) → k < length entries → get_or (ids_of entries) k d ≡ (get_or entries k no_entry).id = λ k d h. get_or-map (λ (e : Entry). e.id) entries k no_entry d h in
@@ -130,14 +128,26 @@ departures_in_order n last entries are =
           inl (omega (arith, one.1, one.2));
     }
 
--- one is taken
-pub ids_popped : (before after : List Entry) (e : Entry) → before ≡ after ++ e ∷ [] → ids_of before ≡ ids_of after ++ e.id ∷ []
-ids_popped before after e is = ap ids_of is ∙ pushed after
-  where
-    pushed : (xs : List Entry) → ids_of (xs ++ e ∷ []) ≡ ids_of xs ++ e.id ∷ []
-    pushed [] = refl
-    pushed (x ∷ xs) = ap (λ (ids : List ConnectionId). x.id ∷ ids) (pushed xs)
+-- the connections that are left, before those that were taken
+abbrev pub IsRest : NetworkModel → ℕ → List Entry → List ConnectionId → Type 0
+IsRest n last rest taken = IsOrderBut n (Late n last) (ids_of rest ++ taken)
 
-pub no_ids : (entries : List Entry) → length entries ≡ 0 → ids_of entries ≡ []
-no_ids [] none = refl
-no_ids (e ∷ entries) none = absurd (omega arith)
+pub rest_first : (n : NetworkModel) (last : ℕ) (entries : List Entry) → AreDepartures n last entries → IsRest n last entries []
+rest_first n last entries are = rw (append-nil (ids_of entries)) (departures_in_order n last entries are)
+
+-- one is taken
+module _ (n : NetworkModel) (good : IsValid n) (last : ℕ) (taken : List ConnectionId) (before rest : List Entry) (e : Entry) (popped : before ≡ rest ++ e ∷ []) (is : IsRest n last before taken) where
+  pub rest_popped : IsRest n last rest (e.id ∷ taken)
+  rest_popped = subst (IsOrderBut n (Late n last))
+      (ap (λ (es : List Entry). ids_of es ++ taken) popped
+      ∙ ap (λ (ids : List ConnectionId). ids ++ taken) (map-append (λ (x : Entry). x.id) rest (e ∷ []))
+      ∙ append_assoc (ids_of rest) (e.id ∷ []) taken) is
+
+  pub next_popped : IsNext n (Known (Late n last) taken) e.id.0
+  next_popped = next_of n good (Late n last) (ids_of rest ++ e.id ∷ taken) rest_popped (ids_of rest) taken e.id (append_assoc (ids_of rest) (e.id ∷ []) taken)
+
+-- all are taken
+pub all_taken : (n : NetworkModel) → IsValid n → (last : ℕ) (taken : List ConnectionId) (rest : List Entry) → length rest ≡ 0 → IsRest n last rest taken
+    → (c : ℕ) → c < count n → Known (Late n last) taken c
+all_taken n good last taken [] none is = all_known n good (Late n last) taken is [] taken refl refl
+all_taken n good last taken (e ∷ rest) none is = absurd (omega arith)

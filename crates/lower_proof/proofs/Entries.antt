@@ -1,13 +1,16 @@
 -- The entries of a board, one connection and one way after the other, and in order.
 use Rattle.std.proofs.Common.{◌≡◌, ◌≢◌, ℕ, zero, suc, ◌+◌, ◌-◌, ◌<◌, ◌≤◌, ◌⊎◌, List, [], ◌∷◌, ◌++◌, length, get_or, set, reverse, slice_get, Option, Some, IsTrue, true}
-use Rattle.std.proofs.Common.{false, ltb, eqb, arith, ⊎_elim, inl, inr, sym, ◌∙◌, ap, subst, refl, get_or-set_other, get_or-set_same, zero}
+use Rattle.std.proofs.Common.{false, ltb, eqb, arith, inl, inr, sym, ◌∙◌, ap, subst, refl, get_or-set_other, get_or-set_same, zero}
 use Rattle.std.specs.declared.cmp.Ordering.{Ordering}
 use Rattle.std.specs.Ordering.{is_lt, nat_cmp, ordering_then}
 use Rattle.std.specs.List.Sorted.{IsPermutation, IsSorted}
 use Rattle.std.proofs.lemmas.Bool.{cases_eq, cases_lt}
 use Rattle.std.proofs.lemmas.Bool.Decides.{nat_tests}
 use Rattle.std.proofs.lemmas.List.{length-set, length_push, get_or-reverse, get_or_append_left, get_or_at, get_or_default}
-use Rattle.std.proofs.lemmas.List.Sorted.{All-permutation, Contains-permutation}
+use Rattle.std.specs.Cmp.{IsTotalOrder}
+use Rattle.std.proofs.lemmas.Cmp.{nat_cmp_total, on_total, then_total}
+use Rattle.std.proofs.lemmas.Map.Keys.{ge_from_not_lt}
+use Rattle.std.proofs.lemmas.List.Sorted.{All-permutation, Contains-permutation, ranks_by, sorted_far}
 use Rattle.plan_model.specs.declared.model.Way.{Way}
 use Rattle.plan_model.specs.NetworkModel.{NetworkModel}
 use Rattle.plan_model.specs.Network.{IsValid, count, connection, from_of, dep_of}
@@ -42,47 +45,33 @@ abbrev pub InOrder : Entry → Entry → Type 0
 InOrder a b = (a.by.0 < b.by.0) ⊎ ((a.by.0 ≡ b.by.0) × (a.id.0 ≤ b.id.0))
 
 not_above : (x y u v : ℕ) → is_lt (ordering_then (nat_cmp y x) (nat_cmp v u)) ≡ false → (x < y) ⊎ ((x ≡ y) × (u ≤ v))
-not_above x y u v h =
-    ⊎_elim (λ less. inl less)
-    (λ ge. ⊎_elim (λ above. let t : ltb y x ≡ true = grind (arith, nat_tests) in absurd (cc (rw t at h)))
-    (λ le.
-    let e : y ≡ x = omega arith in
-    inr (
-      sym e,
-      ⊎_elim (λ lower.
-          let s : ltb y x ≡ false = grind (arith, nat_tests) in
-          let t : eqb y x ≡ true = grind (arith, nat_tests) in
-          let w : ltb v u ≡ true = grind (arith, nat_tests) in
-          absurd (cc (rw (s, t, w) at h))) (λ k. k) (cases_lt v u),
-    ))
-    (cases_lt y x))
-    (cases_lt x y)
+not_above x y u v h = elim (cases_lt x y) [
+  | inl less ↦ inl less
+  | inr more ↦ elim (cases_lt y x) [
+    | inl above ↦ let t : ltb y x ≡ true = grind (arith, nat_tests) in absurd (cc (rw t at h))
+    | inr le ↦
+        let e : x ≡ y = omega arith in
+        let s : ltb y x ≡ false = grind (arith, nat_tests) in
+        let t : eqb y x ≡ true = grind (arith, nat_tests) in
+        inr (e, ge_from_not_lt v u (rw (s, t) at h))
+  ]
+]
 
-in_order : (a b : Entry) → is_lt (entry_cmp b a) ≡ false → InOrder a b
-in_order a b h = not_above a.by.0 b.by.0 a.id.0 b.id.0 h
+entries_total : IsTotalOrder entry_cmp
+entries_total = then_total (on_total (λ (e : Entry). e.by.0) nat_cmp_total) (on_total (λ (e : Entry). e.id.0) nat_cmp_total)
 
-in_order_trans : (a b c : Entry) → InOrder a b → InOrder b c → InOrder a c
-in_order_trans a b c h k = ⊎_elim (λ x. ⊎_elim (λ y. inl (omega arith)) (λ y. inl (omega arith)) k) (λ x. ⊎_elim (λ y. inl (omega arith)) (λ y. inr (omega arith, omega arith)) k) h
-
-pub along : (ys : List Entry) → IsSorted entry_cmp ys → (d : Entry) (k m : ℕ) → k + suc m < length ys → InOrder (get_or ys k d) (get_or ys (k + suc m) d)
-along ys up d k zero h = in_order (get_or ys k d) (get_or ys (k + 1) d) (up k d (omega arith) h)
-along ys up d k (suc m) h =
-    let before = along ys up d k m (omega arith) in
-    let one : InOrder (get_or ys (k + suc m) d) (get_or ys (k + suc m + 1) d) = in_order (get_or ys (k + suc m) d) (get_or ys (k + suc m + 1) d) (up (k + suc m) d (omega arith) (omega arith)) in
-    let e : k + suc m + 1 ≡ k + suc (suc m) = omega arith in
-    rw (← e) (in_order_trans _ _ _ before one)
-
-no_later : (a b : Entry) → InOrder a b → a.by.0 ≤ b.by.0
-no_later a b h = ⊎_elim (λ less. omega arith) (λ level. omega (arith, level.0)) h
+pub sorted_in_order : (ys : List Entry) → IsSorted entry_cmp ys → (d : Entry) (i j : ℕ) → i ≤ j → j < length ys → InOrder (get_or ys i d) (get_or ys j d)
+sorted_in_order ys up d i j le within = not_above _ _ _ _ (sorted_far (λ x y. is_lt (entry_cmp x y)) (ranks_by entries_total (λ (e : Entry). e)) ys up i j d le within)
 
 -- sorted and turned round, they fall
 pub falls_reversed : (ys : List Entry) → IsSorted entry_cmp ys → (zs : List Entry) → zs ≡ reverse ys → length zs ≡ length ys → Falls zs
 falls_reversed ys up zs is same i j d before within =
     let first = ap (λ (w : List Entry). get_or w i d) is ∙ get_or-reverse ys i d (omega arith) in
     let second = ap (λ (w : List Entry). get_or w j d) is ∙ get_or-reverse ys j d (omega arith) in
-    let at : length ys - 1 - j + suc (j - i - 1) ≡ length ys - 1 - i = omega arith in
-    let order = rw at at (along ys up d (length ys - 1 - j) (j - i - 1) (omega arith)) in
-    rw (first, second) (no_later _ _ order)
+    rw (first, second) (elim (sorted_in_order ys up d (length ys - 1 - j) (length ys - 1 - i) (omega arith) (omega arith)) [
+      | inl less ↦ omega arith
+      | inr level ↦ omega (arith, level.0)
+    ])
 
 -- the same entries in another order
 pub entries_permuted : (n : NetworkModel) (last p m : ℕ) (xs ys : List Entry) → IsPermutation xs ys → AreEntries n last p m xs → AreEntries n last p m ys

@@ -1,21 +1,22 @@
 -- The least values of leaving the runs, over the connections that are scanned.
-use Rattle.std.proofs.Common.{◌≡◌, ◌≢◌, ℕ, ◌<◌, ◌≤◌, List, [], ◌∷◌, ◌++◌, length, set, Option, Some, None, IsTrue, arith, inl, inr, sym, ◌∙◌, ap, subst, refl, append_assoc}
+use Rattle.std.proofs.Common.{◌≡◌, ◌≢◌, ℕ, ◌<◌, ◌≤◌, List, [], ◌∷◌, ◌++◌, length, set, Option, Some, None, IsTrue, arith, inl, inr, sym, ◌∙◌, ap, subst, refl}
 use Rattle.std.proofs.Common.{get_or-set_other, get_or-set_same}
 use Rattle.std.proofs.lemmas.Bool.{cases_eq}
-use Rattle.std.proofs.lemmas.List.{append-nil}
+use Rattle.std.proofs.lemmas.List.{length-set}
 use Rattle.plan_model.specs.declared.model.ConnectionId.{ConnectionId}
 use Rattle.plan_model.specs.declared.model.Query.{Query}
 use Rattle.plan_model.specs.NetworkModel.{NetworkModel}
 use Rattle.plan_model.specs.Network.{count, connection, dep_of, run_of, IsValid}
 use Rattle.plan_model.specs.Strategy.{IsLeg}
-use Rattle.lower_proof.specs.Certificates.{value_of, IsLeastOf, IsVia, IsLocal, IsLastFault}
-use Rattle.lower_proof.specs.Steps.{lesser, KeepsTo, exit_of}
+use Rattle.lower_proof.specs.Certificates.{value_of, IsLeastOf, IsVia, IsLocal, IsAccepted, IsLastFault}
+use Rattle.lower_proof.specs.Steps.{lesser, KeepsTo, exit_of, IsBestExit}
 use Rattle.lower_proof.proofs.Leasts.{least_with, least_same, least_is, IsLeastOf-unique, keeps_to_each, each_keeps_to}
 use Rattle.lower_proof.proofs.Vias.{least_via}
-use Rattle.plan_model.proofs.ScanOrders.{Known, IsOrderBut, IsNext, next_of, all_known}
+use Rattle.plan_model.proofs.ScanOrders.{Known, IsNext}
 use Rattle.plan_model.proofs.Bounds.{forward}
-use Rattle.lower_proof.specs.Departures.{NoneAfter}
-use Rattle.lower_proof.proofs.Departing.{Late}
+use Rattle.lower_proof.specs.declared.board.Entry.{Entry}
+use Rattle.lower_proof.specs.Departures.{NoneAfter, AreDepartures}
+use Rattle.lower_proof.proofs.Departing.{Late, IsRest, rest_first, rest_popped, next_popped, all_taken}
 use Rattle.lower_proof.proofs.NoVias.{no_via}
 
 -- one can leave the run by a known connection, for this value
@@ -58,22 +59,8 @@ module _ (n : NetworkModel) (q : Query) (values : List (Option ℕ)) (last : ℕ
         | inr known ↦ record { exit = by.exit; there = by.there; known = known; of_run = by.of_run; via = by.via }
       ])
 
-  pub exits_next : (exits : List (Option ℕ)) (via : Option ℕ) → run_of n id.0 < length exits → AreExits n q values last taken exits
-      → IsLeastOf (IsVia n q values id.0) via → AreExits n q values last (id ∷ taken) (set exits (run_of n id.0) (lesser (exit_of exits (run_of n id.0)) via))
-  exits_next exits via inside are own run =
-      let mine = run_of n id.0 in
-      let best = lesser (exit_of exits mine) via in
-      elim (cases_eq run mine) [
-        | inl is ↦
-            let at : exit_of (set exits mine best) mine ≡ best = get_or-set_same exits mine best None inside in
-            subst (λ r. IsLeastOf (LeavesBy n q values last (id ∷ taken) r) (exit_of (set exits mine best) r)) (sym is) (rw at (own_run (exit_of exits mine) via (are mine) own))
-        | inr differ ↦
-            let at : exit_of (set exits mine best) run ≡ exit_of exits run = get_or-set_other exits mine run best None differ in
-            rw at (other_run run differ (exit_of exits run) (are run))
-      ]
-
   -- whoever boards the connection can leave by the known ones of its run
-  pub least_ride : IsTrue (connection n id.0).can_board → (best : Option ℕ) → IsLeastOf (LeavesBy n q values last (id ∷ taken) (run_of n id.0)) best → IsLeastOf (Rides n q values id.0) best
+  least_ride : IsTrue (connection n id.0).can_board → (best : Option ℕ) → IsLeastOf (LeavesBy n q values last (id ∷ taken) (run_of n id.0)) best → IsLeastOf (Rides n q values id.0) best
   least_ride board best = least_same (LeavesBy n q values last (id ∷ taken) (run_of n id.0)) (Rides n q values id.0)
       (λ v by. (
         by.exit,
@@ -83,72 +70,104 @@ module _ (n : NetworkModel) (q : Query) (values : List (Option ℕ)) (last : ℕ
       best
       (λ v ride. record { exit = ride.0; there = ride.1.exit; known = next.exits_known ride.0 ride.1; of_run = sym ride.1.one_run; via = ride.2 })
 
--- ---- what is known while a check runs
+-- ---- what is known while connections are scanned
 
-pub record CheckState (n : NetworkModel) (q : Query) (values : List (Option ℕ)) (last : ℕ) (order rest : List ConnectionId) (exits : List (Option ℕ)) : Type 0 where
-  pub taken : List ConnectionId
-  pub split : rest ++ taken ≡ order
+-- those that are left, and of the others the least value of leaving each run
+pub record IsScanned (n : NetworkModel) (q : Query) (values : List (Option ℕ)) (last : ℕ) (taken : List ConnectionId) (left : List Entry) (exits : List (Option ℕ)) : Type 0 where
+  pub rest : IsRest n last left taken
+  pub runs : (c : ℕ) → c < count n → run_of n c < length exits
   pub are_exits : AreExits n q values last taken exits
-  pub kept : (c : ℕ) → c < count n → Known (Late n last) taken c → IsTrue (connection n c).can_board → IsLocal n q values c
 
-module _ (n : NetworkModel) (good : IsValid n) (q : Query) (values : List (Option ℕ)) (last : ℕ) (deadline : q.deadline.0 ≤ last) where
+module _ (n : NetworkModel) (good : IsValid n) (q : Query) (values : List (Option ℕ)) (last : ℕ) (deadline : q.deadline.0 ≤ last) (none_after : NoneAfter n values last) where
   -- what departs later is no exit
-  pub none_left : NoneAfter n values last → (run v : ℕ) → LeavesBy n q values last [] run v → ⊥
-  none_left none_after run v by =
+  none_left : (run v : ℕ) → LeavesBy n q values last [] run v → ⊥
+  none_left run v by =
       let forward = (good.connections by.exit by.there).forward in
       let late : last < dep_of n by.exit = by.known in
       no_via n good q values last deadline none_after by.exit v by.there (omega arith) by.via
 
   -- nor has it one
-  pub none_rides : NoneAfter n values last → (c v : ℕ) → last < dep_of n c → Rides n q values c v → ⊥
-  none_rides none_after c v late ride =
+  pub none_rides : (c v : ℕ) → last < dep_of n c → Rides n q values c v → ⊥
+  none_rides c v late ride =
       let later = forward n good c ride.0 ride.1 in
       no_via n good q values last deadline none_after ride.0 v ride.1.exit (omega arith) ride.2
 
-  module _ (order : List ConnectionId) (whole : IsOrderBut n (Late n last) order) where
-    pub check_first : NoneAfter n values last → (exits : List (Option ℕ)) → ((run : ℕ) → exit_of exits run ≡ None) → CheckState n q values last order order exits
-    check_first none_after exits empty = record {
-      taken = [];
-      split = append-nil order;
-      are_exits = λ run. rw (empty run) (none_left none_after run);
-      kept = λ c there late board j v leg via. absurd (none_rides none_after c v late (j, leg, via));
-    }
+  pub scanned_first : (entries : List Entry) (exits : List (Option ℕ)) → AreDepartures n last entries → ((c : ℕ) → c < count n → run_of n c < length exits)
+      → ((run : ℕ) → exit_of exits run ≡ None) → IsScanned n q values last [] entries exits
+  scanned_first entries exits are runs empty = record { rest = rest_first n last entries are; runs = runs; are_exits = λ run. rw (empty run) (none_left run) }
 
-    module _ (rest : List ConnectionId) (id : ConnectionId) (exits : List (Option ℕ)) (state : CheckState n q values last order (rest ++ id ∷ []) exits) where
-      next : IsNext n (Known (Late n last) state.taken) id.0
-      next = next_of n good (Late n last) order whole rest state.taken id state.split
+-- one more is scanned
+module _ {n : NetworkModel} (good : IsValid n) {q : Query} {values : List (Option ℕ)} {last : ℕ} {taken : List ConnectionId} {before : List Entry} {exits : List (Option ℕ)}
+    (scanned : IsScanned n q values last taken before exits) (rest : List Entry) (e : Entry) (popped : before ≡ rest ++ e ∷ []) where
+  pub scanned_is_next : IsNext n (Known (Late n last) taken) e.id.0
+  scanned_is_next = next_popped n good last taken before rest e popped scanned.rest
 
-      pub check_there : id.0 < count n
-      check_there = next.there
+  module _ {best : Option ℕ} (own : IsBestExit n q values exits e.id.0 best) where
+    best_leaving : IsLeastOf (LeavesBy n q values last (e.id ∷ taken) (run_of n e.id.0)) best
+    best_leaving = rw own.lesser_is (own_run n q values last taken e.id scanned_is_next (exit_of exits (run_of n e.id.0)) own.via (scanned.are_exits (run_of n e.id.0)) own.least)
 
-      module _ (via : Option ℕ) (own : IsLeastOf (IsVia n q values id.0) via) (inside : run_of n id.0 < length exits) where
-        abbrev best : Option ℕ
-        best = lesser (exit_of exits (run_of n id.0)) via
+    -- whoever boards it leaves at best for this value
+    pub best_ride : IsTrue (connection n e.id.0).can_board → IsLeastOf (Rides n q values e.id.0) best
+    best_ride board = least_ride n q values last taken e.id scanned_is_next board best best_leaving
 
-        rides : IsTrue (connection n id.0).can_board → IsLeastOf (Rides n q values id.0) best
-        rides board = least_ride n q values last state.taken id next board best (own_run n q values last state.taken id next (exit_of exits (run_of n id.0)) via (state.are_exits (run_of n id.0)) own)
-
-        pub check_next : (IsTrue (connection n id.0).can_board → KeepsTo (value_of values id.0) best) → CheckState n q values last order rest (set exits (run_of n id.0) best)
-        check_next keeps = record {
-          taken = id ∷ state.taken;
-          split = sym (append_assoc rest (id ∷ []) state.taken) ∙ state.split;
-          are_exits = exits_next n q values last state.taken id next exits via inside state.are_exits own;
-          kept = λ c there known board. elim known [
+    pub scanned_next : IsScanned n q values last (e.id ∷ taken) rest (set exits (run_of n e.id.0) best)
+    scanned_next =
+        let mine = run_of n e.id.0 in
+        record {
+          rest = rest_popped n good last taken before rest e popped scanned.rest;
+          runs = λ c there. omega (arith, scanned.runs c there, length-set exits mine best);
+          are_exits = λ run. elim (cases_eq run mine) [
             | inl is ↦
-                let board_id = subst (λ i. IsTrue (connection n i).can_board) is board in
-                subst (IsLocal n q values) (sym is) (λ j v leg by. keeps_to_each (Rides n q values id.0) (value_of values id.0) best (rides board_id) (keeps board_id) v (j, leg, by))
-            | inr before ↦ state.kept c there before board
+                let at : exit_of (set exits mine best) mine ≡ best = get_or-set_same exits mine best None (scanned.runs e.id.0 scanned_is_next.there) in
+                subst (λ r. IsLeastOf (LeavesBy n q values last (e.id ∷ taken) r) (exit_of (set exits mine best) r)) (sym is) (rw at best_leaving)
+            | inr differ ↦
+                let at : exit_of (set exits mine best) run ≡ exit_of exits run = get_or-set_other exits mine run best None differ in
+                rw at (other_run n q values last taken e.id scanned_is_next run differ (exit_of exits run) (scanned.are_exits run))
           ];
         }
 
-        pub check_fails : IsTrue (connection n id.0).can_board → (KeepsTo (value_of values id.0) best → ⊥) → IsLastFault n q values id.0
-        check_fails board breaks = record {
-          there = next.there;
-          board = board;
-          fault = λ is_local. breaks (each_keeps_to (Rides n q values id.0) (value_of values id.0) best (rides board) (λ v ride. is_local ride.0 v ride.1 ride.2));
-          last = λ d there board_d after. state.kept d there (next.after d there after) board_d;
-        }
+-- ---- and while a check runs: the values that were scanned are kept to
 
-    pub check_last : (rest : List ConnectionId) (exits : List (Option ℕ)) → rest ≡ [] → CheckState n q values last order rest exits → (c : ℕ) → c < count n
-        → IsTrue (connection n c).can_board → IsLocal n q values c
-    check_last rest exits none state c there board = state.kept c there (all_known n good (Late n last) order whole rest state.taken none state.split c there) board
+pub record CheckState (n : NetworkModel) (q : Query) (values : List (Option ℕ)) (last : ℕ) (left : List Entry) (exits : List (Option ℕ)) : Type 0 where
+  pub taken : List ConnectionId
+  pub scanned : IsScanned n q values last taken left exits
+  pub kept : (c : ℕ) → c < count n → Known (Late n last) taken c → IsTrue (connection n c).can_board → IsLocal n q values c
+
+module _ {n : NetworkModel} (good : IsValid n) {q : Query} {values : List (Option ℕ)} {last : ℕ} where
+  pub check_first : {entries : List Entry} {exits : List (Option ℕ)} → q.deadline.0 ≤ last → NoneAfter n values last → AreDepartures n last entries
+      → ((c : ℕ) → c < count n → run_of n c < length exits) → ((run : ℕ) → exit_of exits run ≡ None) → CheckState n q values last entries exits
+  check_first {entries} {exits} deadline none_after are runs empty = record {
+    taken = [];
+    scanned = scanned_first n good q values last deadline none_after entries exits are runs empty;
+    kept = λ c there late board j v leg via. absurd (none_rides n good q values last deadline none_after c v late (j, leg, via));
+  }
+
+  module _ {before : List Entry} {exits : List (Option ℕ)} (state : CheckState n q values last before exits) (rest : List Entry) (e : Entry) (popped : before ≡ rest ++ e ∷ []) where
+    pub check_there : e.id.0 < count n
+    check_there = (scanned_is_next good state.scanned rest e popped).there
+
+    module _ {best : Option ℕ} (own : IsBestExit n q values exits e.id.0 best) where
+      pub check_next : (IsTrue (connection n e.id.0).can_board → KeepsTo (value_of values e.id.0) best) → CheckState n q values last rest (set exits (run_of n e.id.0) best)
+      check_next keeps = record {
+        taken = e.id ∷ state.taken;
+        scanned = scanned_next good state.scanned rest e popped own;
+        kept = λ c there known board. elim known [
+          | inl is ↦
+              let board_id = subst (λ i. IsTrue (connection n i).can_board) is board in
+              subst (IsLocal n q values) (sym is)
+              (λ j v leg by. keeps_to_each (Rides n q values e.id.0) (value_of values e.id.0) best (best_ride good state.scanned rest e popped own board_id) (keeps board_id) v (j, leg, by))
+          | inr earlier ↦ state.kept c there earlier board
+        ];
+      }
+
+      pub check_fails : IsTrue (connection n e.id.0).can_board → (KeepsTo (value_of values e.id.0) best → ⊥) → IsLastFault n q values e.id.0
+      check_fails board breaks = record {
+        there = check_there;
+        board = board;
+        fault = λ is_local. breaks (each_keeps_to (Rides n q values e.id.0) (value_of values e.id.0) best (best_ride good state.scanned rest e popped own board)
+            (λ v ride. is_local ride.0 v ride.1 ride.2));
+        last = λ d there board_d after. state.kept d there ((scanned_is_next good state.scanned rest e popped).after d there after) board_d;
+      }
+
+  pub check_last : {left : List Entry} {exits : List (Option ℕ)} → CheckState n q values last left exits → length left ≡ 0 → IsAccepted n q values
+  check_last {left} state none c there board = state.kept c there (all_taken n good last state.taken left none state.scanned.rest c there) board

@@ -17,5 +17,4 @@ pub mod Written
 pub mod ReadRows
 pub mod ReadBack
 pub mod Printed
-pub mod Range
 pub mod Deadlines

@@ -5,47 +5,59 @@ use Rattle.plan_model.specs.declared.model.ConnectionId.{ConnectionId}
 use Rattle.plan_model.specs.declared.model.Query.{Query}
 use Rattle.plan_model.specs.NetworkModel.{NetworkModel}
 use Rattle.plan_model.specs.Network.{count, connection, dep_of, arr_of, run_of, IsValid}
-use Rattle.lower_proof.specs.Certificates.{IsLeastOf, IsVia}
-use Rattle.lower_proof.specs.Steps.{lesser, exit_of}
+use Rattle.lower_proof.specs.declared.board.Entry.{Entry}
+use Rattle.lower_proof.specs.Certificates.{IsTight}
+use Rattle.lower_proof.specs.Departures.{AreDepartures}
+use Rattle.lower_proof.specs.Steps.{exit_of, IsBestExit}
 use Rattle.lower_proof.specs.Boards.{Shown}
 use Rattle.lower_proof.specs.Minima.{AreBoards, AllLate}
-use Rattle.plan_model.proofs.ScanOrders.{Known, IsOrderBut, next_of}
+use Rattle.plan_model.proofs.ScanOrders.{Known}
 use Rattle.lower_proof.proofs.Departing.{Late}
+use Rattle.lower_proof.proofs.Exits.{scanned_is_next}
 use Rattle.lower_proof.proofs.PlaceBoards.{boards_agree}
-use Rattle.lower_proof.proofs.Writes.{WriteState, given, write_first, write_next, none_after_now, agree}
+use Rattle.lower_proof.proofs.Writes.{WriteState, given, write_first, write_next, write_last, written_agrees}
 
-pub record Written (n : NetworkModel) (q : Query) (last : ℕ) (order rest : List ConnectionId) (exits values : List (Option ℕ)) (boards : List Shown) : Type 0 where
-  pub state : WriteState n q last order rest exits values
+pub record Written (n : NetworkModel) (q : Query) (last : ℕ) (left : List Entry) (exits values : List (Option ℕ)) (boards : List Shown) : Type 0 where
+  pub taken : List ConnectionId
+  pub state : WriteState n q last taken left exits values
   pub right : AreBoards n last values boards
   -- what is known is not before the departure of each connection that was scanned
-  pub late : (m : ℕ) → ((c : ℕ) → c < count n → Known (Late n last) state.taken c → m ≤ dep_of n c) → AllLate m boards
+  pub late : (m : ℕ) → ((c : ℕ) → c < count n → Known (Late n last) taken c → m ≤ dep_of n c) → AllLate m boards
 
-module _ (n : NetworkModel) (good : IsValid n) (q : Query) (last : ℕ) (order : List ConnectionId) (whole : IsOrderBut n (Late n last) order) where
-  pub written_first : q.deadline.0 ≤ last → (exits values : List (Option ℕ)) (boards : List Shown) → length values ≡ count n → ((run : ℕ) → exit_of exits run ≡ None)
-      → AreBoards n last values boards → ((m : ℕ) → AllLate m boards) → Written n q last order order exits values boards
-  written_first deadline exits values boards as_many empty right late = record {
-    state = write_first n good q last order whole deadline exits values as_many right.none_after empty;
+module _ {n : NetworkModel} (good : IsValid n) {q : Query} {last : ℕ} where
+  pub written_first : {entries : List Entry} {exits values : List (Option ℕ)} {boards : List Shown} → q.deadline.0 ≤ last → length values ≡ count n → AreDepartures n last entries
+      → ((c : ℕ) → c < count n → run_of n c < length exits) → ((run : ℕ) → exit_of exits run ≡ None) → AreBoards n last values boards → ((m : ℕ) → AllLate m boards)
+      → Written n q last entries exits values boards
+  written_first deadline as_many are runs empty right late = record {
+    taken = [];
+    state = write_first good deadline as_many right.none_after are runs empty;
     right = right;
     late = λ m all. late m;
   }
 
-  pub written_next : (rest : List ConnectionId) (id : ConnectionId) (exits values : List (Option ℕ)) (boards looked : List Shown)
-      → Written n q last order (rest ++ id ∷ []) exits values boards → (via : Option ℕ) → IsLeastOf (IsVia n q values id.0) via
-      → run_of n id.0 < length exits → AreBoards n last values looked → ((m : ℕ) → m ≤ arr_of n id.0 → AllLate m boards → AllLate m looked)
-      → Written n q last order rest (set exits (run_of n id.0) (lesser (exit_of exits (run_of n id.0)) via))
-      (set values id.0 (given (connection n id.0).can_board (lesser (exit_of exits (run_of n id.0)) via))) looked
-  unfolding write_next
-  written_next rest id exits values boards looked before via own inside right late =
-      let next = next_of n good (Late n last) order whole rest before.state.taken id before.state.split in
-      let forward = (good.connections id.0 next.there).forward in
-      let best = given (connection n id.0).can_board (lesser (exit_of exits (run_of n id.0)) via) in
-      let soon : AllLate (dep_of n id.0) looked = late (dep_of n id.0) forward (before.late (dep_of n id.0) (λ c there known. next.later c there known)) in
-      record {
-        state = write_next n good q last order whole rest id exits values before.state via own inside;
-        right = boards_agree n good last (dep_of n id.0) values (set values id.0 best)
-            (agree n good q last order whole rest id exits values before.state via own inside) (length-set values id.0 best) looked
-            (none_after_now n good q last order whole rest id exits values before.state via own inside) soon right;
-        late = λ m all.
-            let at_id = all id.0 next.there (inl refl) in
-            late m (omega arith) (before.late m (λ c there known. all c there (inr known)));
-      }
+  module _ {before : List Entry} {exits values : List (Option ℕ)} {boards : List Shown} (written : Written n q last before exits values boards) (rest : List Entry) (e : Entry)
+      (popped : before ≡ rest ++ e ∷ []) where
+    pub written_there : e.id.0 < count n
+    written_there = (scanned_is_next good written.state.scanned rest e popped).there
+
+    pub written_next : {looked : List Shown} {best : Option ℕ} → IsBestExit n q values exits e.id.0 best → AreBoards n last values looked
+        → ((m : ℕ) → m ≤ arr_of n e.id.0 → AllLate m boards → AllLate m looked)
+        → Written n q last rest (set exits (run_of n e.id.0) best) (set values e.id.0 (given (connection n e.id.0).can_board best)) looked
+    written_next {looked} {best} own right late =
+        let next = scanned_is_next good written.state.scanned rest e popped in
+        let forward = (good.connections e.id.0 next.there).forward in
+        let value = given (connection n e.id.0).can_board best in
+        let soon : AllLate (dep_of n e.id.0) looked = late (dep_of n e.id.0) forward (written.late (dep_of n e.id.0) (λ c there known. next.later c there known)) in
+        let state = write_next good written.state rest e popped own in
+        record {
+          taken = e.id ∷ written.taken;
+          state = state;
+          right = boards_agree n good last (dep_of n e.id.0) values (set values e.id.0 value)
+              (written_agrees good written.state rest e popped own) (length-set values e.id.0 value) looked state.none_after soon right;
+          late = λ m all.
+              let at_id = all e.id.0 next.there (inl refl) in
+              late m (omega arith) (written.late m (λ c there known. all c there (inr known)));
+        }
+
+  pub written_last : {left : List Entry} {exits values : List (Option ℕ)} {boards : List Shown} → Written n q last left exits values boards → length left ≡ 0 → IsTight n q values
+  written_last written none = write_last good written.state none

@@ -9,7 +9,7 @@ ghost use Rattle.plan_model.specs.Network.{IsValid, count, run_of, arr_of};
 ghost use Rattle.plan_model.specs.Strategy.{IsBoardableAtStart};
 ghost use Rattle.lower_proof.specs.Certificates.{value_of, IsLeastOf, arrived_by, IsLeastAt, IsLeastAtStart, IsVia, IsTight, IsVerdict};
 ghost use Rattle.lower_proof.specs.Promises.{IsSound, IsBestCertificate};
-ghost use Rattle.lower_proof.specs.Steps.{lesser, KeepsTo, exit_of};
+ghost use Rattle.lower_proof.specs.Steps.{lesser, KeepsTo, exit_of, IsBestExit};
 ghost use Rattle.lower_proof.specs.Departures.{NoneAfter, AreDepartures};
 ghost use Rattle.lower_proof.specs.Minima.{IsBoard, board_at, AreBoards, AllLate};
 ghost use Rattle.interval_fixed.specs.Interval.{end_of_nanos};
@@ -176,8 +176,7 @@ fn offer(
     requires boards { AreBoards network.now scope.now.last.0 values.now boards.old }
     requires there { id.0 < count network.now }
     requires run { run_of network.now id.0 < length exits.old }
-    ensures best { (via : Maybe ℕ) × IsLeastOf (IsVia network.now scope.now.query values.now id.0) via
-        × (result ≡ lesser (exit_of exits.old (run_of network.now id.0)) via) }
+    ensures best { IsBestExit network.now scope.now.query values.now exits.old id.0 result }
     ensures exits { exits.new ≡ slice_set exits.old (run_of network.now id.0) result }
     ensures boards { AreBoards network.now scope.now.last.0 values.now boards.new }
     ensures late { (m : ℕ) → m ≤ arr_of network.now id.0 → AllLate m boards.old → AllLate m boards.new }

@@ -35,6 +35,17 @@ place_none t [] from d none = refl
 place_none t (x ∷ xs) from d none = ap (λ (b : Bool). cond b (Some from) (position_from t (from + 1) xs)) (none 0 (omega arith))
     ∙ place_none t xs (from + 1) d (λ k less. none (suc k) (omega (arith, less)))
 
+-- where a place was found, the test holds
+found_holds : {X : Type 0} (t : X → Bool) (xs : List X) (from k : ℕ) (d : X) → position_from t from xs ≡ Some k → (j : ℕ) × (k ≡ from + j) × (j < length xs) × (t (slice_index_or xs j d) ≡ true)
+found_holds t [] from k d is = absurd (cc)
+found_holds {X} t (x ∷ xs) from k d is = by_test (t x) refl is (λ more. found_holds t xs (from + 1) k d more)
+  where
+    by_test : (b : Bool) → t x ≡ b → cond b (Some from) (position_from t (from + 1) xs) ≡ Some k
+        → (position_from t (from + 1) xs ≡ Some k → (j : ℕ) × (k ≡ from + 1 + j) × (j < length xs) × (t (slice_index_or xs j d) ≡ true)) → (j : ℕ)
+        × (k ≡ from + j) × (j < length (x ∷ xs)) × (t (slice_index_or (x ∷ xs) j d) ≡ true)
+    by_test true holds first more = (0, (let e : from ≡ k = (cc) in omega (arith, e)), omega arith, holds)
+    by_test false fails later more = let rest = more later in (suc rest.0, omega (arith, rest.1), omega (arith, rest.2), rest.3)
+
 pub false_if : (b : Bool) → (b ≡ true → ⊥) → b ≡ false
 false_if true no_way = absurd (no_way refl)
 false_if false no_way = refl
@@ -84,7 +95,7 @@ run_number (Some id) names text name is utf8 there none distinct = by_number (So
 abbrev is_at : ℕ → ℕ → Connection → Bool
 is_at run step c = (c.run.0 == run) && (c.step == step)
 
-pub at_both : (run step : ℕ) (c : Connection) → is_at run step c ≡ true → (c.run.0 ≡ run) × (c.step ≡ step)
+at_both : (run step : ℕ) (c : Connection) → is_at run step c ≡ true → (c.run.0 ≡ run) × (c.step ≡ step)
 at_both run step c is = ((grind (arith, nat_tests)), (grind (arith, nat_tests)))
 
 both_at : (run step : ℕ) (c : Connection) → c.run.0 ≡ run → c.step ≡ step → is_at run step c ≡ true
@@ -107,6 +118,21 @@ connection_number n valid run step (Some id) there none =
   where
     earlier : (k : ℕ) → k < id.0 → run_of n k ≡ run → step_of n k ≡ step → ⊥
     earlier k less a b = elim (valid.rising k id.0 less there.0) [ inl x ↦ omega (arith, x, a, there.1) | inr y ↦ omega (arith, y.1, b, there.2) ]
+
+-- each connection is found by its run and step
+pub connection_back : (n : NetworkModel) → IsValid n → (c : ℕ) → c < count n → connection_of n (run_of n c) (step_of n c) ≡ Some c
+connection_back n valid c there = sym (connection_number n valid (run_of n c) (step_of n c) (Some (record { 0 = c })) (there, refl, refl) tt)
+
+-- and one that is found has them
+pub connection_holds : (n : NetworkModel) (run step c : ℕ) → connection_of n run step ≡ Some c → (c < count n) × (run_of n c ≡ run) × (step_of n c ≡ step)
+connection_holds n run step c is =
+    let found = found_holds (is_at run step) n.connections 0 c no_connection is in
+    let same : found.0 ≡ c = omega (arith, found.1) in
+    let both = at_both run step (connection_at n.connections found.0) found.3 in (
+      omega (arith, same, found.2),
+      ap (run_of n) (sym same) ∙ ap (λ (c : Connection). c.run.0) (sym (connection_is n found.0)) ∙ both.0,
+      ap (step_of n) (sym same) ∙ ap (λ (c : Connection). c.step) (sym (connection_is n found.0)) ∙ both.1,
+    )
 
 pub place_within : (found : Option PlaceId) (names : List (List ℕ)) (name : List ℕ) → IfSome found (λ id. slice_get names id.0 ≡ Some name) → IfSome found (λ id. id.0 < length names)
 place_within None names name there = tt

@@ -1,13 +1,9 @@
-use Rattle.std.proofs.Common.{◌≡◌, length}
+use Rattle.std.proofs.Common.{length}
 use Rattle.lower_proof.proofs.Written.{Written}
-use Rattle.lower_proof.proofs.Departing.{ids_of}
 use Rattle.lower_proof.proofs.write_all.Given as goal
 
 abbrev pub invariant-loop-departure : goal.invariant-loop-departure
-invariant-loop-departure l = record {
-  len : length l.exits ≡ length l.initial.exits;
-  state : Written l.network l.scope.query l.scope.last.0 (ids_of l.fn.departures.items) (ids_of l.departures.items) l.exits l.values l.boards;
-}
+invariant-loop-departure l = Written l.network l.scope.query l.scope.last.0 l.departures.items l.exits l.values l.boards
 
 abbrev pub decreases-loop-departure : goal.decreases-loop-departure
 decreases-loop-departure l = length l.departures.items

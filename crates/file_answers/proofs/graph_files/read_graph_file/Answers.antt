@@ -6,8 +6,7 @@ use Rattle.journey_model.specs.declared.faults.Input.TheVariants as input
 use Rattle.input_files.specs.Files.{bytes_of}
 use Rattle.input_files.proofs.Causes.{causes-quiet}
 use Rattle.input_files.proofs.Loads.{if_some_then, if_ok_then, if_err_then}
-use Rattle.graph_text.proofs.Deadlines.{graph_deadline}
-use Rattle.lower_proof.proofs.Range.{moment_range}
+use Rattle.graph_text.proofs.Accepted.{graph_deadline}
 use Rattle.file_answers.proofs.GraphFiles.{graph_finds}
 use Rattle.file_answers.proofs.graph_files.read_graph_file.Goals as goal
 
@@ -34,10 +33,8 @@ returns-clause-head g c =
 pub returns-clause-deadline : goal.returns-clause-deadline
 returns-clause-deadline g c =
     if_ok_then c.graph_of_bytes.result _ _
-    (λ f read. let told =
-    graph_deadline c.args.problem.now.network c.args.problem.now.names c.args.problem.now.source.0 c.args.problem.now.target.0 c.args.start.0
-    c.as_slice.result.now f.0 f.1 read in
-    moment_range told.0 f.0.query.deadline.0 told.1)
+    (λ f read. graph_deadline c.args.problem.now.network c.args.problem.now.names c.args.problem.now.source.0 c.args.problem.now.target.0 c.args.start.0
+    c.as_slice.result.now f.0 f.1 read)
     c.graph_of_bytes.ensures.graph
 
 pub returns-clause-own : goal.returns-clause-own

@@ -1,0 +1,296 @@
+-- A row is read as what it tells, and as nothing else.
+use Rattle.std.proofs.Common.{◌≡◌, ℕ, ◌≤◌, Bool, true, List, Option, Some, None, Ok, arith, sym, subst, refl, ◌∙◌, ap}
+use Rattle.std.specs.Prelude.{◌==◌, nat_le, if◌then◌else◌, codes}
+use Rattle.std.specs.Option.{option_map, option_and_then}
+use Rattle.std.proofs.lemmas.Bool.{false≢true, eqb-true, eq-eqb, and_parts, leb-true, le-leb}
+use Rattle.clock_text.specs.Times.{moment_at, nanos_at}
+use Rattle.clock_text.proofs.OneText.{if_cases, some_cases}
+use Rattle.plan_model.proofs.Results.{require-ok}
+use Rattle.plan_model.specs.declared.model.Leg.{Leg}
+use Rattle.plan_model.specs.NetworkModel.{NetworkModel}
+use Rattle.plan_model.specs.NameLists.{NameLists}
+use Rattle.plan_model.specs.Network.{IsValid, change_of, connection, run_of, step_of, from_of, to_of, dep_of, arr_of}
+use Rattle.plan_model.specs.Ways.{limit_of}
+use Rattle.plan_graph.specs.declared.GraphRow.{GraphRow}
+use Rattle.plan_graph.specs.Ready.{IsLegOf}
+use Rattle.plan_graph.specs.Tidy.{IsFitRow}
+use Rattle.graph_text.specs.declared.Head.{Head}
+use Rattle.graph_text.specs.declared.version.Version.{Version}
+use Rattle.graph_text.specs.declared.reader.LegRow.{LegRow}
+use Rattle.graph_text.specs.declared.reader.LegNames.{LegNames}
+use Rattle.graph_text.specs.declared.reader.PlaceRow.{PlaceRow}
+use Rattle.graph_text.specs.declared.reader.HeadRow.{HeadRow}
+use Rattle.graph_text.specs.declared.reader.TableStart.{TableStart}
+use Rattle.graph_text.specs.Reading.{leg_names, names_in, leg_numbers, leg_row_in, leg_found, leg_of, agrees, is_limit, can_start, is_by_limit, start_in, row_in, place_numbers, place_row_in}
+use Rattle.graph_text.specs.Reading.{table_in, are_in_order, is_query, head_numbers, head_row_in, head_of, head_in}
+use Rattle.graph_text.specs.Versions.{width_of}
+use Rattle.graph_text.specs.Asked.{IsHeadOf}
+use Rattle.graph_text.specs.GraphRows.{is_place, is_head, version_in, IsLegRow, IsPlaceRow, IsHeadRow}
+use Rattle.printed_rows.specs.Fields.{connection_of, number_of, rises, field, whole_at, is_kind}
+use Rattle.printed_rows.proofs.Chains.{if-value}
+use Rattle.printed_rows.proofs.Found.{connection_back, connection_holds}
+
+-- ---- the row of a leg
+
+numbers_told : (a b c d e : Option ℕ) (x : LegRow) → leg_numbers a b c d e ≡ Some x
+    → (a ≡ Some x.moment.0) × (b ≡ Some x.enter) × (c ≡ Some x.dep.0) × (d ≡ Some x.exit) × (e ≡ Some x.arr.0)
+numbers_told (Some a) (Some b) (Some c) (Some d) (Some e) x is =
+    let same : record { moment = record { 0 = a }; enter = b; dep = record { 0 = c }; exit = d; arr = record { 0 = e } } ≡ x = (cc) in
+    subst (λ (y : LegRow). (Some a ≡ Some y.moment.0) × (Some b ≡ Some y.enter) × (Some c ≡ Some y.dep.0) × (Some d ≡ Some y.exit) × (Some e ≡ Some y.arr.0)) same (refl, refl, refl, refl, refl)
+numbers_told None b c d e x is = absurd (cc)
+numbers_told (Some a) None c d e x is = absurd (cc)
+numbers_told (Some a) (Some b) None d e x is = absurd (cc)
+numbers_told (Some a) (Some b) (Some c) None e x is = absurd (cc)
+numbers_told (Some a) (Some b) (Some c) (Some d) None x is = absurd (cc)
+
+names_told : (a b c : Option ℕ) (known : LegNames) → option_and_then (λ run. option_and_then (λ exit. option_map (λ entry. leg_names run exit entry) c) b) a ≡ Some known
+    → (a ≡ Some known.run.0) × (b ≡ Some known.exit.0) × (c ≡ Some known.entry.0)
+names_told (Some a) (Some b) (Some c) known is =
+    let same : leg_names a b c ≡ known = (cc) in
+    subst (λ (k : LegNames). (Some a ≡ Some k.run.0) × (Some b ≡ Some k.exit.0) × (Some c ≡ Some k.entry.0)) same (refl, refl, refl)
+names_told None b c known is = absurd (cc)
+names_told (Some a) None c known is = absurd (cc)
+names_told (Some a) (Some b) None known is = absurd (cc)
+
+found_told : (test : ℕ → ℕ → Bool) (a b : Option ℕ) (leg : Leg) → option_and_then (λ i. option_and_then (λ j. if test i j then Some (leg_of i j) else None) b) a ≡ Some leg
+    → (a ≡ Some leg.enter.0) × (b ≡ Some leg.exit.0) × (test leg.enter.0 leg.exit.0 ≡ true)
+found_told test (Some i) (Some j) leg is =
+    let both = some_cases (test i j) (leg_of i j) leg is in
+    subst (λ (l : Leg). (Some i ≡ Some l.enter.0) × (Some j ≡ Some l.exit.0) × (test l.enter.0 l.exit.0 ≡ true)) both.1 (refl, refl, both.0)
+found_told test None b leg is = absurd (cc)
+found_told test (Some i) None leg is = absurd (cc)
+
+module _ (n : NetworkModel) (names : NameLists) (version : Version) (kind : List ℕ) (place : ℕ) (r : List (List ℕ)) where
+  leg_told : (x : LegRow) (known : LegNames) (leg : Leg) → leg_row_in version kind r ≡ Some x → names_in version names place r ≡ Some known → leg_found n x known ≡ Some leg
+      → IsLegRow n names version kind place x.moment.0 leg r × IsLegOf n leg
+  leg_told x known leg row_is names_are found =
+      let row = if_cases (is_kind kind (width_of version) r)
+      (leg_numbers (moment_at (field r 1)) (whole_at (field r 3)) (moment_at (field r 4)) (whole_at (field r 5)) (moment_at (field r 7))) x row_is in
+      let fields = numbers_told _ _ _ _ _ x row.1 in
+      let texts = names_told _ _ _ known names_are in
+      let ends = found_told (λ i j. agrees n i j x known) (connection_of n known.run.0 x.enter) (connection_of n known.run.0 x.exit) leg found in
+      let enter = connection_holds n known.run.0 x.enter leg.enter.0 ends.0 in
+      let exit = connection_holds n known.run.0 x.exit leg.exit.0 ends.1 in
+      let onward = and_parts (nat_le x.enter x.exit) _ ends.2 in
+      let board = and_parts (connection n leg.enter.0).can_board _ onward.1 in
+      let leave = and_parts (connection n leg.exit.0).can_exit _ board.1 in
+      let departs = and_parts (dep_of n leg.enter.0 == x.dep.0) _ leave.1 in
+      let from = and_parts (from_of n leg.enter.0 == known.entry.0) _ departs.1 in
+      let to = and_parts (to_of n leg.exit.0 == known.exit.0) (arr_of n leg.exit.0 == x.arr.0) from.1 in (
+        record {
+          is_of_kind = row.0;
+          by = fields.0;
+          run = texts.0 ∙ ap Some (sym enter.1);
+          enter = fields.1 ∙ ap Some (sym enter.2);
+          departure = fields.2 ∙ ap Some (sym (eqb-true _ _ departs.0));
+          exit = fields.3 ∙ ap Some (sym exit.2);
+          to = texts.1 ∙ ap Some (sym (eqb-true _ _ to.0));
+          arrival = fields.4 ∙ ap Some (sym (eqb-true _ _ to.1));
+          from = texts.2 ∙ ap Some (sym (eqb-true _ _ from.0));
+        },
+        record {
+          enter = enter.0;
+          exit = exit.0;
+          one_run = enter.1 ∙ sym exit.1;
+          onward = let le = leb-true x.enter x.exit onward.0 in omega (arith, le, enter.2, exit.2);
+          board = board.0;
+          leave = leave.0;
+        },
+      )
+
+  module _ (valid : IsValid n) (moment : ℕ) (leg : Leg) (is_leg : IsLegOf n leg) (told : IsLegRow n names version kind place moment leg r) where
+    abbrev numbers : LegRow
+    numbers = record {
+      moment = record { 0 = moment };
+      enter = step_of n leg.enter.0;
+      dep = record { 0 = dep_of n leg.enter.0 };
+      exit = step_of n leg.exit.0;
+      arr = record { 0 = arr_of n leg.exit.0 };
+    }
+
+    abbrev known : LegNames
+    known = leg_names (run_of n leg.enter.0) (to_of n leg.exit.0) (from_of n leg.enter.0)
+
+    numbers_read : leg_row_in version kind r ≡ Some numbers
+    numbers_read = rw told.is_of_kind (by_fields _ _ _ _ _ told.by told.enter told.departure told.exit told.arrival)
+      where
+        by_fields : (a b c d e : Option ℕ) → a ≡ Some moment → b ≡ Some (step_of n leg.enter.0) → c ≡ Some (dep_of n leg.enter.0) → d ≡ Some (step_of n leg.exit.0) → e ≡ Some (arr_of n leg.exit.0)
+            → leg_numbers a b c d e ≡ Some numbers
+        by_fields a b c d e one two three four five = rw (one, two, three, four, five) refl
+
+    names_read : names_in version names place r ≡ Some known
+    names_read = by_fields _ _ _ told.run told.to told.from
+      where
+        by_fields : (a b c : Option ℕ) → a ≡ Some (run_of n leg.enter.0) → b ≡ Some (to_of n leg.exit.0) → c ≡ Some (from_of n leg.enter.0)
+            → option_and_then (λ run. option_and_then (λ exit. option_map (λ entry. leg_names run exit entry) c) b) a ≡ Some known
+        by_fields a b c one two three = rw (one, two, three) refl
+
+    all_agree : agrees n leg.enter.0 leg.exit.0 numbers known ≡ true
+    all_agree = rw (
+      le-leb (step_of n leg.enter.0) (step_of n leg.exit.0) is_leg.onward,
+      is_leg.board,
+      is_leg.leave,
+      eq-eqb (dep_of n leg.enter.0) (dep_of n leg.enter.0) refl,
+      eq-eqb (from_of n leg.enter.0) (from_of n leg.enter.0) refl,
+      eq-eqb (to_of n leg.exit.0) (to_of n leg.exit.0) refl,
+      eq-eqb (arr_of n leg.exit.0) (arr_of n leg.exit.0) refl,
+    ) refl
+
+    found_read : leg_found n numbers known ≡ Some leg
+    found_read = by_ends _ _ (connection_back n valid leg.enter.0 is_leg.enter)
+        (ap (λ (run : ℕ). connection_of n run (step_of n leg.exit.0)) is_leg.one_run ∙ connection_back n valid leg.exit.0 is_leg.exit)
+      where
+        by_ends : (a b : Option ℕ) → a ≡ Some leg.enter.0 → b ≡ Some leg.exit.0
+            → option_and_then (λ i. option_and_then (λ j. if agrees n i j numbers known then Some (leg_of i j) else None) b) a ≡ Some leg
+        by_ends a b one two = rw (one, two, all_agree) refl
+
+-- ---- the rows of a graph
+
+module _ (n : NetworkModel) (names : NameLists) (version : Version) (line : ℕ) (r : List (List ℕ)) where
+  -- the start row
+  pub start_told : (source start : ℕ) (leg : Leg) → start_in n names version line source start r ≡ Ok leg
+      → IsLegRow n names version (codes "start") source (dep_of n leg.enter.0) leg r × IsLegOf n leg × (from_of n leg.enter.0 ≡ source) × (start ≤ dep_of n leg.enter.0)
+  start_told source start leg is =
+      let x = require-ok (leg_row_in version (codes "start") r) _ _ leg is in
+      let known = require-ok (names_in version names source r) _ _ leg x.2 in
+      let found = require-ok (leg_found n x.0 known.0) _ _ leg known.2 in
+      let own = if-value (can_start n source start x.0.moment.0 found.0) _ _ leg found.2 in
+      let told = leg_told n names version (codes "start") source r x.0 known.0 found.0 x.1 known.1 found.1 in
+      let leaves = and_parts (from_of n found.0.enter.0 == source) _ own.0 in
+      let departs = and_parts (x.0.moment.0 == dep_of n found.0.enter.0) _ leaves.1 in
+      let same : found.0 ≡ leg = (cc) in
+      subst (λ (l : Leg). IsLegRow n names version (codes "start") source (dep_of n l.enter.0) l r × IsLegOf n l × (from_of n l.enter.0 ≡ source) × (start ≤ dep_of n l.enter.0)) same (
+        subst (λ (m : ℕ). IsLegRow n names version (codes "start") source m found.0 r) (eqb-true _ _ departs.0) told.0,
+        told.1,
+        eqb-true _ _ leaves.0,
+        leb-true _ _ departs.1,
+      )
+
+  pub start_read : IsValid n → (source start : ℕ) (leg : Leg) → IsLegRow n names version (codes "start") source (dep_of n leg.enter.0) leg r → IsLegOf n leg
+      → from_of n leg.enter.0 ≡ source → start ≤ dep_of n leg.enter.0 → start_in n names version line source start r ≡ Ok leg
+  start_read valid source start leg told is_leg leaves in_time =
+      rw (
+        numbers_read n names version (codes "start") source r valid (dep_of n leg.enter.0) leg is_leg told,
+        names_read n names version (codes "start") source r valid (dep_of n leg.enter.0) leg is_leg told,
+        found_read n names version (codes "start") source r valid (dep_of n leg.enter.0) leg is_leg told,
+        eq-eqb (from_of n leg.enter.0) source leaves,
+        eq-eqb (dep_of n leg.enter.0) (dep_of n leg.enter.0) refl,
+        le-leb start (dep_of n leg.enter.0) in_time,
+      ) refl
+
+  -- a row of a table
+  pub row_told : (place : ℕ) (last : Option ℕ) (row : GraphRow) → row_in n names version line place last r ≡ Ok row
+      → (rises last row.by.0 ≡ true) × IsLegRow n names version (codes "leg") place row.by.0 row.leg r × IsFitRow n place row
+  row_told place last row is =
+      let x = require-ok (leg_row_in version (codes "leg") r) _ _ row is in
+      let known = require-ok (names_in version names place r) _ _ row x.2 in
+      let up = if-value (rises last x.0.moment.0) _ _ row known.2 in
+      let found = require-ok (leg_found n x.0 known.0) _ _ row up.1 in
+      let by = if-value (is_by_limit n place x.0.moment.0 found.0) _ _ row found.2 in
+      let told = leg_told n names version (codes "leg") place r x.0 known.0 found.0 x.1 known.1 found.1 in
+      let same : record { by = x.0.moment; leg = found.0 } ≡ row = (cc) in
+      subst (λ (w : GraphRow). (rises last w.by.0 ≡ true) × IsLegRow n names version (codes "leg") place w.by.0 w.leg r × IsFitRow n place w) same
+      (up.0, told.0, record { is_leg = told.1; by = limit_is (limit_of n place found.0) by.0 })
+    where
+      limit_is : (found : Option ℕ) {moment : ℕ} → is_limit found moment ≡ true → found ≡ Some moment
+      limit_is None is = absurd (false≢true is)
+      limit_is (Some limit) is = ap Some (eqb-true _ _ is)
+
+  pub row_read : IsValid n → (place : ℕ) (last : Option ℕ) (row : GraphRow) → rises last row.by.0 ≡ true → IsLegRow n names version (codes "leg") place row.by.0 row.leg r → IsFitRow n place row
+      → row_in n names version line place last r ≡ Ok row
+  row_read valid place last row later told fit =
+      rw (
+        numbers_read n names version (codes "leg") place r valid row.by.0 row.leg fit.is_leg told,
+        names_read n names version (codes "leg") place r valid row.by.0 row.leg fit.is_leg told,
+        later,
+        found_read n names version (codes "leg") place r valid row.by.0 row.leg fit.is_leg told,
+        fit.by,
+        eq-eqb row.by.0 row.by.0 refl,
+      ) refl
+
+  -- a place row
+  pub table_told : (last : Option ℕ) (t : TableStart) → table_in n names version line last r ≡ Ok t
+      → (rises last t.place.0 ≡ true) × IsPlaceRow n names version t.place.0 t.count r × (1 ≤ t.count)
+  table_told last t is =
+      let x = require-ok (place_row_in version r) _ _ t is in
+      let place = require-ok (number_of names.places (field r 1)) _ _ t x.2 in
+      let up = if-value (rises last place.0) _ _ t place.2 in
+      let change = if-value (x.0.change == change_of n place.0) _ _ t up.1 in
+      let same : record { place = record { 0 = place.0 }; count = x.0.count } ≡ t = (cc) in
+      let row = if_cases (is_place version r) (place_numbers (whole_at (field r 2)) (whole_at (field r 3))) x.0 x.1 in
+      let numbers = numbers_of _ _ x.0 row.1 in
+      subst (λ (u : TableStart). (rises last u.place.0 ≡ true) × IsPlaceRow n names version u.place.0 u.count r × (1 ≤ u.count)) same
+      (up.0, record { is_of_kind = row.0; name = place.1; change = numbers.0 ∙ ap Some (eqb-true _ _ change.0); rows = numbers.1 }, numbers.2)
+    where
+      numbers_of : (a b : Option ℕ) (x : PlaceRow) → place_numbers a b ≡ Some x → (a ≡ Some x.change) × (b ≡ Some x.count) × (1 ≤ x.count)
+      numbers_of (Some a) (Some b) x is =
+          let some = some_cases (nat_le 1 b) _ x is in
+          subst (λ (y : PlaceRow). (Some a ≡ Some y.change) × (Some b ≡ Some y.count) × (1 ≤ y.count)) some.1 (refl, refl, leb-true _ _ some.0)
+      numbers_of None b x is = absurd (cc)
+      numbers_of (Some a) None x is = absurd (cc)
+
+  pub table_read : (last : Option ℕ) (t : TableStart) → rises last t.place.0 ≡ true → IsPlaceRow n names version t.place.0 t.count r → 1 ≤ t.count → table_in n names version line last r ≡ Ok t
+  table_read last t later told some =
+      let numbers : place_row_in version r ≡ Some (record { change = change_of n t.place.0; count = t.count }) = rw told.is_of_kind (by_fields _ _ told.change told.rows) in
+      rw (numbers, told.name, later, eq-eqb (change_of n t.place.0) (change_of n t.place.0) refl) refl
+    where
+      by_fields : (a b : Option ℕ) → a ≡ Some (change_of n t.place.0) → b ≡ Some t.count → place_numbers a b ≡ Some (record { change = change_of n t.place.0; count = t.count })
+      by_fields a b one two = rw (one, two, le-leb 1 t.count some) refl
+
+-- the first row
+module _ (names : NameLists) (version : Version) (r : List (List ℕ)) (number : version_in r ≡ Some version) where
+  pub head_told : (source target start : ℕ) (head : Head) → head_in names version source target start r ≡ Ok head → IsHeadRow names version head r × IsHeadOf source target start head
+  head_told source target start head is =
+      let x = require-ok (head_row_in version r) _ _ head is in
+      let from = require-ok (number_of names.places (field r 2)) _ _ head x.2 in
+      let to = require-ok (number_of names.places (field r 3)) _ _ head from.2 in
+      let asked = if-value (is_query from.0 to.0 x.0.start.0 source target start) _ _ head to.2 in
+      let same : head_of source target start x.0 ≡ head = (cc) in
+      let row = if_cases (is_head version r) (head_numbers (moment_at (field r 4)) (moment_at (field r 5)) (nanos_at (field r 6)) (nanos_at (field r 7))) x.0 x.1 in
+      let numbers = numbers_of _ _ _ _ x.0 row.1 in
+      let order = and_parts (nat_le x.0.start.0 x.0.deadline.0) _ numbers.4 in
+      let of_source = and_parts (from.0 == source) _ asked.0 in
+      let of_target = and_parts (to.0 == target) (x.0.start.0 == start) of_source.1 in
+      let begins = eqb-true x.0.start.0 start of_target.1 in
+      subst (λ (h : Head). IsHeadRow names version h r × IsHeadOf source target start h) same (
+        record {
+          is_of_kind = row.0;
+          number = number;
+          source = from.1 ∙ ap Some (eqb-true _ _ of_source.0);
+          target = to.1 ∙ ap Some (eqb-true _ _ of_target.0);
+          start = numbers.0 ∙ ap Some begins;
+          deadline = numbers.1;
+          lo = numbers.2;
+          hi = numbers.3;
+        },
+        record {
+          source = refl;
+          target = refl;
+          start = refl;
+          in_time = let le = leb-true x.0.start.0 x.0.deadline.0 order.0 in omega (arith, le, begins);
+          bounds = leb-true _ _ order.1;
+        },
+      )
+    where
+      numbers_of : (a b c d : Option ℕ) (x : HeadRow) → head_numbers a b c d ≡ Some x
+          → (a ≡ Some x.start.0) × (b ≡ Some x.deadline.0) × (c ≡ Some x.lo) × (d ≡ Some x.hi) × (are_in_order x.start.0 x.deadline.0 x.lo x.hi ≡ true)
+      numbers_of (Some a) (Some b) (Some c) (Some d) x is =
+          let order = some_cases (are_in_order a b c d) _ x is in
+          subst (λ (y : HeadRow). (Some a ≡ Some y.start.0) × (Some b ≡ Some y.deadline.0) × (Some c ≡ Some y.lo) × (Some d ≡ Some y.hi) × (are_in_order y.start.0 y.deadline.0 y.lo y.hi ≡ true))
+          order.1 (refl, refl, refl, refl, order.0)
+      numbers_of None b c d x is = absurd (cc)
+      numbers_of (Some a) None c d x is = absurd (cc)
+      numbers_of (Some a) (Some b) None d x is = absurd (cc)
+      numbers_of (Some a) (Some b) (Some c) None x is = absurd (cc)
+
+  pub head_read : (head : Head) → IsHeadRow names version head r → head.query.start.0 ≤ head.query.deadline.0 → head.bounds.lo ≤ head.bounds.hi
+      → head_in names version head.query.source.0 head.query.target.0 head.query.start.0 r ≡ Ok head
+  head_read head told in_time bounds =
+      let q = head.query in
+      let numbers : head_row_in version r ≡ Some (record { start = q.start; deadline = q.deadline; lo = head.bounds.lo; hi = head.bounds.hi }) =
+      rw told.is_of_kind (by_fields _ _ _ _ told.start told.deadline told.lo told.hi) in
+      rw (numbers, told.source, told.target, eq-eqb q.source.0 q.source.0 refl, eq-eqb q.target.0 q.target.0 refl, eq-eqb q.start.0 q.start.0 refl) refl
+    where
+      by_fields : (a b c d : Option ℕ) → a ≡ Some head.query.start.0 → b ≡ Some head.query.deadline.0 → c ≡ Some head.bounds.lo → d ≡ Some head.bounds.hi
+          → head_numbers a b c d ≡ Some (record { start = head.query.start; deadline = head.query.deadline; lo = head.bounds.lo; hi = head.bounds.hi })
+      by_fields a b c d one two three four = rw (one, two, three, four, le-leb head.query.start.0 head.query.deadline.0 in_time, le-leb head.bounds.lo head.bounds.hi bounds) refl

@@ -1,0 +1,290 @@
+-- The rows of tables are read as the tables that they tell, and as no others.
+use Rattle.std.proofs.Common.{◌≡◌, ◌≢◌, ℕ, suc, ◌+◌, ◌-◌, ◌<◌, ◌≤◌, Bool, true, false, List, [], ◌∷◌, ◌++◌, length, Option, Some, None, Ok, Err, Result, All, AllPairs}
+use Rattle.std.proofs.Common.{arith, sym, subst, refl, ◌∙◌, ap, append_assoc}
+use Rattle.std.specs.Prelude.{◌==◌, if◌then◌else◌, codes}
+use Rattle.std.specs.Option.{option_map}
+use Rattle.std.proofs.lemmas.Bool.{false≢true, eqb-true, eq-eqb, ne_eqb, ltb-true, lt-ltb}
+use Rattle.std.proofs.lemmas.List.{append-nil}
+use Rattle.std.proofs.lemmas.List.Elements.{All-cons, All-nil, All-head, All-tail}
+use Rattle.std.proofs.lemmas.List.Kept.{AllPairs-cons}
+use Rattle.plan_model.specs.Results.{and_then}
+use Rattle.plan_model.specs.declared.model.Moment.{Moment}
+use Rattle.plan_model.specs.declared.model.PlaceId.{PlaceId}
+use Rattle.plan_model.specs.NetworkModel.{NetworkModel}
+use Rattle.plan_model.specs.NameLists.{NameLists}
+use Rattle.plan_model.specs.Network.{IsValid}
+use Rattle.plan_graph.specs.declared.GraphRow.{GraphRow}
+use Rattle.plan_graph.specs.declared.PlaceTable.{PlaceTable}
+use Rattle.plan_graph.specs.Tidy.{IsFitRow, IsFitTable}
+use Rattle.graph_text.specs.declared.reader.TextFault.{TextFault}
+use Rattle.graph_text.specs.declared.reader.TextFault.TheVariants as fault
+use Rattle.graph_text.specs.declared.reader.TableStart.{TableStart}
+use Rattle.graph_text.specs.declared.reader.Reading.{Reading}
+use Rattle.graph_text.specs.declared.version.Version.{Version}
+use Rattle.graph_text.specs.Reading.{row_in, table_in, begun, extended, place_or_first, step, tables_from, no_tables}
+use Rattle.graph_text.specs.GraphRows.{IsLegRow, IsPlaceRow, AreLegRows, AreTableRows}
+use Rattle.printed_rows.specs.Fields.{rises}
+use Rattle.printed_rows.proofs.Chains.{and_then-value, if-value}
+use Rattle.graph_text.proofs.Rows.{row_told, row_read, table_told, table_read}
+use Rattle.graph_text.proofs.Steps.{leg_step}
+
+-- ---- numbers that rise
+
+-- each is above the one before it, and the first above the one that may stand before
+abbrev pub RiseFrom : {X : Type 0} → (X → ℕ) → Option ℕ → List X → Type 0
+RiseFrom number last [] = Unit {0}
+RiseFrom number last (x ∷ xs) = (rises last (number x) ≡ true) × RiseFrom number (Some (number x)) xs
+
+module _ {X : Type 0} (number : X → ℕ) where
+  all_above : (low : ℕ) (xs : List X) → RiseFrom number (Some low) xs → All (λ x. low < number x) xs
+  all_above low [] rise = All-nil (λ x. low < number x)
+  all_above low (x ∷ xs) rise =
+      let first = ltb-true low (number x) rise.0 in
+      All-cons (λ y. low < number y) x xs first (λ k d within. let more = all_above (number x) xs rise.1 k d within in omega arith)
+
+  pairs_from_rise : (last : Option ℕ) (xs : List X) → RiseFrom number last xs → AllPairs (λ a b. number a < number b) xs
+  pairs_from_rise last [] rise = λ i j d less within. absurd (omega (arith, less, within))
+  pairs_from_rise last (x ∷ xs) rise = AllPairs-cons (λ a b. number a < number b) x xs (all_above (number x) xs rise.1) (pairs_from_rise (Some (number x)) xs rise.1)
+
+  rise_after : (x : X) (xs : List X) → AllPairs (λ a b. number a < number b) (x ∷ xs) → RiseFrom number (Some (number x)) xs
+  rise_after x [] pairs = tt
+  rise_after x (y ∷ xs) pairs = (
+    lt-ltb (number x) (number y) (pairs 0 1 x (omega arith) (omega arith)),
+    rise_after y xs (λ i j d less within. pairs (suc i) (suc j) d (omega (arith, less)) (omega (arith, within))),
+  )
+
+  rise_from_pairs : (xs : List X) → AllPairs (λ a b. number a < number b) xs → RiseFrom number None xs
+  rise_from_pairs [] pairs = tt
+  rise_from_pairs (x ∷ xs) pairs = (refl, rise_after x xs pairs)
+
+abbrev by_number : GraphRow → ℕ
+by_number row = row.by.0
+
+abbrev place_number : PlaceTable → ℕ
+place_number t = t.place.0
+
+-- ---- what is read after some rows
+
+begun_is : (s now : Reading) (told : Result TableStart TextFault) → begun s told ≡ Ok now
+    → (t : TableStart) × (told ≡ Ok t) × (record { done = s.done; place = Some t.place; rows = []; by = None; left = t.count } ≡ now)
+begun_is s now (Ok t) is = (t, refl, (cc))
+begun_is s now (Err e) is = absurd (cc)
+
+module _ (s : Reading) (row : GraphRow) where
+  abbrev after_last : Reading
+  after_last = record { done = s.done ++ (record { place = place_or_first s.place; rows = s.rows ++ row ∷ [] }) ∷ []; place = s.place; rows = []; by = None; left = 0 }
+
+  abbrev after_row : Reading
+  after_row = record { done = s.done; place = s.place; rows = s.rows ++ row ∷ []; by = Some row.by; left = s.left - 1 }
+
+  last_row : s.left ≡ 1 → extended s (Ok row) ≡ Ok after_last
+  last_row one = rw (eq-eqb s.left 1 one) refl
+
+  further_row : s.left ≢ 1 → extended s (Ok row) ≡ Ok after_row
+  further_row many = rw (ne_eqb s.left 1 many) refl
+
+extended_is : (s now : Reading) (told : Result GraphRow TextFault) → extended s told ≡ Ok now
+    → (row : GraphRow) × (told ≡ Ok row) × (◌≡◌ {A = Result Reading TextFault} (if s.left == 1 then Ok (after_last s row) else Ok (after_row s row)) (Ok now))
+extended_is s now (Ok row) is = (row, refl, is)
+extended_is s now (Err e) is = absurd (cc)
+
+module _ (n : NetworkModel) (names : NameLists) (version : Version) where
+  -- the rows that are left are those of the table that is open, as many as are to come, and then those of further tables
+  record Continues (s : Reading) (rs : List (List (List ℕ))) (tables : List PlaceTable) : Type 0 where
+    later : List GraphRow
+    own : List (List (List ℕ))
+    rest : List (List (List ℕ))
+    more : List PlaceTable
+    split : rs ≡ own ++ rest
+    many : length later ≡ s.left
+    legs : AreLegRows n names version (place_or_first s.place).0 later own
+    fits : All (IsFitRow n (place_or_first s.place).0) later
+    rise : RiseFrom by_number (option_map (λ moment. moment.0) s.by) later
+    table_rows : AreTableRows n names version more rest
+    tables_fit : All (IsFitTable n) more
+    tables_rise : RiseFrom place_number (option_map (λ place. place.0) s.place) more
+    closed : s.left ≡ 0 → tables ≡ s.done ++ more
+    opened : (s.left ≡ 0 → ⊥) → tables ≡ s.done ++ (record { place = place_or_first s.place; rows = s.rows ++ later }) ∷ more
+
+  no_rows : (place : ℕ) (later : List GraphRow) (own : List (List (List ℕ))) → length later ≡ 0 → AreLegRows n names version place later own → own ≡ []
+  no_rows place [] [] none legs = refl
+  no_rows place [] (r ∷ rs) none legs = absurd legs
+  no_rows place (x ∷ later) own none legs = absurd (omega (arith, none))
+
+  module _ (line : ℕ) (r : List (List ℕ)) (rs : List (List (List ℕ))) (s : Reading) (tables : List PlaceTable) where
+    with_place : (t : TableStart) → s.left ≡ 0 → table_in n names version line (option_map (λ place. place.0) s.place) r ≡ Ok t
+        → Continues (record { done = s.done; place = Some t.place; rows = []; by = None; left = t.count }) rs tables → Continues s (r ∷ rs) tables
+    with_place t none is next =
+        let told = table_told n names version line r (option_map (λ place. place.0) s.place) t is in
+        let table : IsFitTable n (record { place = t.place; rows = next.later }) =
+        record { some = omega (arith, next.many, told.2); rows = next.fits; rising = pairs_from_rise by_number None next.later next.rise } in
+        record {
+          later = [];
+          own = [];
+          rest = r ∷ rs;
+          more = (record { place = t.place; rows = next.later }) ∷ next.more;
+          split = refl;
+          many = sym none;
+          legs = tt;
+          fits = All-nil (IsFitRow n (place_or_first s.place).0);
+          rise = tt;
+          table_rows = (subst (λ k. IsPlaceRow n names version t.place.0 k r) (sym next.many) told.1, (next.own, next.rest, next.split, next.legs, next.table_rows));
+          tables_fit = All-cons (IsFitTable n) (record { place = t.place; rows = next.later }) next.more table next.tables_fit;
+          tables_rise = (told.0, next.tables_rise);
+          closed = λ zero_left. next.opened (λ no_rows. omega (arith, no_rows, told.2));
+          opened = λ some. absurd (some none);
+        }
+
+    module _ (row : GraphRow) (is : row_in n names version line (place_or_first s.place).0 (option_map (λ moment. moment.0) s.by) r ≡ Ok row) where
+      with_last : s.left ≡ 1 → Continues (after_last s row) rs tables → Continues s (r ∷ rs) tables
+      with_last one next =
+          let told = row_told n names version line r (place_or_first s.place).0 (option_map (λ moment. moment.0) s.by) row is in
+          let none = no_rows (place_or_first s.place).0 next.later next.own next.many next.legs in
+          record {
+            later = row ∷ [];
+            own = r ∷ [];
+            rest = next.rest;
+            more = next.more;
+            split = ap (λ (list : List (List (List ℕ))). r ∷ list) (next.split ∙ ap (λ (list : List (List (List ℕ))). list ++ next.rest) none);
+            many = sym one;
+            legs = (told.1, tt);
+            fits = All-cons (IsFitRow n (place_or_first s.place).0) row [] told.2 (All-nil (IsFitRow n (place_or_first s.place).0));
+            rise = (told.0, tt);
+            table_rows = next.table_rows;
+            tables_fit = next.tables_fit;
+            tables_rise = next.tables_rise;
+            closed = λ none_left. absurd (omega (arith, none_left, one));
+            opened = λ some. next.closed refl ∙ append_assoc s.done ((record { place = place_or_first s.place; rows = s.rows ++ row ∷ [] }) ∷ []) next.more;
+          }
+
+      with_row : (s.left ≡ 0 → ⊥) → s.left ≢ 1 → Continues (after_row s row) rs tables → Continues s (r ∷ rs) tables
+      with_row some many next =
+          let told = row_told n names version line r (place_or_first s.place).0 (option_map (λ moment. moment.0) s.by) row is in
+          record {
+            later = row ∷ next.later;
+            own = r ∷ next.own;
+            rest = next.rest;
+            more = next.more;
+            split = ap (λ (list : List (List (List ℕ))). r ∷ list) next.split;
+            many = let fewer = next.many in omega arith;
+            legs = (told.1, next.legs);
+            fits = All-cons (IsFitRow n (place_or_first s.place).0) row next.later told.2 next.fits;
+            rise = (told.0, next.rise);
+            table_rows = next.table_rows;
+            tables_fit = next.tables_fit;
+            tables_rise = next.tables_rise;
+            closed = λ none_left. absurd (some none_left);
+            opened = λ more. next.opened (λ none_left. omega arith)
+                ∙ ap (λ (rows : List GraphRow). s.done ++ (record { place = place_or_first s.place; rows = rows }) ∷ next.more) (append_assoc s.rows (row ∷ []) next.later);
+          }
+
+    after_step : (now : Reading) → step n names version line r s ≡ Ok now → Continues now rs tables → Continues s (r ∷ rs) tables
+    after_step now is next = by_left (s.left == 0) refl is
+      where
+        by_last : (row : GraphRow) → row_in n names version line (place_or_first s.place).0 (option_map (λ moment. moment.0) s.by) r ≡ Ok row → (s.left ≡ 0 → ⊥)
+            → (test : Bool) → (s.left == 1) ≡ test → ◌≡◌ {A = Result Reading TextFault} (if test then Ok (after_last s row) else Ok (after_row s row)) (Ok now) → Continues s (r ∷ rs) tables
+        by_last row told some true one is = let same : after_last s row ≡ now = (cc) in with_last row told (eqb-true s.left 1 one) (subst (λ u. Continues u rs tables) (sym same) next)
+        by_last row told some false many is =
+            let same : after_row s row ≡ now = (cc) in
+            with_row row told some (λ one. false≢true (sym many ∙ eq-eqb s.left 1 one)) (subst (λ u. Continues u rs tables) (sym same) next)
+
+        by_left : (test : Bool) → (s.left == 0) ≡ test → (if test then begun s (table_in n names version line (option_map (λ place. place.0) s.place) r)
+            else extended s (row_in n names version line (place_or_first s.place).0 (option_map (λ moment. moment.0) s.by) r)) ≡ Ok now → Continues s (r ∷ rs) tables
+        by_left true none is =
+            let (t, told, same) = begun_is s now (table_in n names version line (option_map (λ place. place.0) s.place) r) is in
+            with_place t (eqb-true s.left 0 none) told (subst (λ u. Continues u rs tables) (sym same) next)
+        by_left false some is =
+            let (row, told, more) = extended_is s now (row_in n names version line (place_or_first s.place).0 (option_map (λ moment. moment.0) s.by) r) is in
+            by_last row told (λ none. false≢true (sym some ∙ eq-eqb s.left 0 none)) (s.left == 1) refl more
+
+  tables_told : (rs : List (List (List ℕ))) (line : ℕ) (s : Reading) (tables : List PlaceTable) → tables_from n names version rs line s ≡ Ok tables → Continues s rs tables
+  tables_told [] line s tables is =
+      let both = if-value (s.left == 0) (Ok s.done) (fault.Row line) tables is in
+      let none = eqb-true s.left 0 both.0 in
+      let same : s.done ≡ tables = (cc) in
+      record {
+        later = [];
+        own = [];
+        rest = [];
+        more = [];
+        split = refl;
+        many = sym none;
+        legs = tt;
+        fits = All-nil (IsFitRow n (place_or_first s.place).0);
+        rise = tt;
+        table_rows = tt;
+        tables_fit = All-nil (IsFitTable n);
+        tables_rise = tt;
+        closed = λ zero_left. sym (append-nil s.done ∙ same);
+        opened = λ some. absurd (some none);
+      }
+  tables_told (r ∷ rs) line s tables is =
+      let (now, told, rest) = and_then-value (step n names version line r s) (tables_from n names version rs (line + 1)) tables is in
+      after_step line r rs s tables now told (tables_told rs (line + 1) now tables rest)
+
+  -- all of them
+  pub all_told : (rs : List (List (List ℕ))) (line : ℕ) (tables : List PlaceTable) → tables_from n names version rs line no_tables ≡ Ok tables
+      → AreTableRows n names version tables rs × All (IsFitTable n) tables × AllPairs (λ a b. a.place.0 < b.place.0) tables
+  all_told rs line tables is =
+      let told = tables_told rs line no_tables tables is in
+      let own = no_rows 0 told.later told.own told.many told.legs in
+      let same : told.rest ≡ rs = sym (told.split ∙ ap (λ (list : List (List (List ℕ))). list ++ told.rest) own) in
+      subst (λ (ts : List PlaceTable). AreTableRows n names version ts rs × All (IsFitTable n) ts × AllPairs (λ a b. a.place.0 < b.place.0) ts) (sym (told.closed refl))
+      (subst (AreTableRows n names version told.more) same told.table_rows, told.tables_fit, pairs_from_rise place_number None told.more told.tables_rise)
+
+  -- ---- and the other way round
+
+  module _ (valid : IsValid n) where
+    abbrev with_rows : List PlaceTable → PlaceId → List GraphRow → Option Moment → ℕ → Reading
+    with_rows done place rows by left = record { done = done; place = Some place; rows = rows; by = by; left = left }
+
+    row_step : (line : ℕ) (r : List (List ℕ)) (done : List PlaceTable) (place : PlaceId) (before : List GraphRow) (last : Option Moment) (left : ℕ) (row : GraphRow) → (left ≡ 0 → ⊥)
+        → IsLegRow n names version (codes "leg") place.0 row.by.0 row.leg r → IsFitRow n place.0 row → rises (option_map (λ moment. moment.0) last) row.by.0 ≡ true
+        → step n names version line r (with_rows done place before last left) ≡ extended (with_rows done place before last left) (Ok row)
+    row_step line r done place before last left row some told fit later =
+        sym (leg_step n names version line r (with_rows done place before last left) place some refl)
+        ∙ ap (λ (read : Result GraphRow TextFault). extended (with_rows done place before last left) read)
+        (row_read n names version line r valid place.0 (option_map (λ moment. moment.0) last) row later told fit)
+
+    rows_read : (rows : List GraphRow) (own rest : List (List (List ℕ))) (line : ℕ) (done : List PlaceTable) (place : PlaceId) (before : List GraphRow)
+        (last : Option Moment) (left : ℕ) (all : List PlaceTable) → left ≡ length rows → 1 ≤ left
+        → AreLegRows n names version place.0 rows own → All (IsFitRow n place.0) rows → RiseFrom by_number (option_map (λ moment. moment.0) last) rows
+        → ((later : ℕ) → tables_from n names version rest later
+        (record { done = done ++ (record { place = place; rows = before ++ rows }) ∷ []; place = Some place; rows = []; by = None; left = 0 }) ≡ Ok all)
+        → tables_from n names version (own ++ rest) line (with_rows done place before last left) ≡ Ok all
+    rows_read [] own rest line done place before last left all size some legs fits rise goes_on = absurd (omega (arith, size, some))
+    rows_read (row ∷ rows) [] rest line done place before last left all size some legs fits rise goes_on = absurd legs
+    rows_read (row ∷ []) (r ∷ []) rest line done place before last left all size some legs fits rise goes_on =
+        ap (λ (told : Result Reading TextFault). and_then told (tables_from n names version rest (line + 1)))
+        (row_step line r done place before last left row (λ none. omega (arith, none, some)) legs.0 (All-head (IsFitRow n place.0) row [] fits) rise.0
+        ∙ last_row (with_rows done place before last left) row size)
+        ∙ goes_on (line + 1)
+    rows_read (row ∷ []) (r ∷ x ∷ own) rest line done place before last left all size some legs fits rise goes_on = absurd legs.1
+    rows_read (row ∷ next ∷ rows) (r ∷ own) rest line done place before last left all size some legs fits rise goes_on =
+        ap (λ (told : Result Reading TextFault). and_then told (tables_from n names version (own ++ rest) (line + 1)))
+        (row_step line r done place before last left row (λ none. omega (arith, none, some)) legs.0 (All-head (IsFitRow n place.0) row (next ∷ rows) fits) rise.0
+        ∙ further_row (with_rows done place before last left) row (λ one. omega (arith, one, size)))
+        ∙ rows_read (next ∷ rows) own rest (line + 1) done place (before ++ row ∷ []) (Some row.by) (left - 1) all (omega (arith, size)) (omega (arith, size)) legs.1
+        (All-tail (IsFitRow n place.0) row (next ∷ rows) fits) rise.1
+        (λ later. ap (λ (list : List GraphRow). tables_from n names version rest later
+        (record { done = done ++ (record { place = place; rows = list }) ∷ []; place = Some place; rows = []; by = None; left = 0 })) (append_assoc before (row ∷ []) (next ∷ rows)) ∙ goes_on later)
+
+    tables_read : (tables : List PlaceTable) (rs : List (List (List ℕ))) (line : ℕ) (done : List PlaceTable) (last : Option PlaceId) → AreTableRows n names version tables rs
+        → All (IsFitTable n) tables → RiseFrom place_number (option_map (λ place. place.0) last) tables
+        → tables_from n names version rs line (record { done = done; place = last; rows = []; by = None; left = 0 }) ≡ Ok (done ++ tables)
+    tables_read [] [] line done last rows fits rise = ap (λ (list : List PlaceTable). Ok list) (sym (append-nil done))
+    tables_read [] (r ∷ rs) line done last rows fits rise = absurd rows
+    tables_read (t ∷ tables) [] line done last rows fits rise = absurd rows
+    tables_read (t ∷ tables) (r ∷ rs) line done last rows fits rise =
+        let (own, rest, split, legs, more) = rows.1 in
+        let first = All-head (IsFitTable n) t tables fits in
+        ap (λ (told : Result TableStart TextFault). and_then (begun (record { done = done; place = last; rows = []; by = None; left = 0 }) told) (tables_from n names version rs (line + 1)))
+        (table_read n names version line r (option_map (λ place. place.0) last) (record { place = t.place; count = length t.rows }) rise.0 rows.0 first.some)
+        ∙ ap (λ (list : List (List (List ℕ))). tables_from n names version list (line + 1) (with_rows done t.place [] None (length t.rows))) split
+        ∙ rows_read t.rows own rest (line + 1) done t.place [] None (length t.rows) (done ++ t ∷ tables) refl first.some legs first.rows (rise_from_pairs by_number t.rows first.rising)
+        (λ later. tables_read tables rest later (done ++ t ∷ []) (Some t.place) more (All-tail (IsFitTable n) t tables fits) rise.1
+        ∙ ap (λ (list : List PlaceTable). Ok list) (append_assoc done (t ∷ []) tables))
+
+    pub all_read : (rs : List (List (List ℕ))) (line : ℕ) (tables : List PlaceTable) → AreTableRows n names version tables rs → All (IsFitTable n) tables
+        → AllPairs (λ a b. a.place.0 < b.place.0) tables → tables_from n names version rs line no_tables ≡ Ok tables
+    all_read rs line tables rows fits rising = tables_read tables rs line [] None rows fits (rise_from_pairs place_number tables rising)
