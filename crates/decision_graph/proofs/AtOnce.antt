@@ -16,7 +16,7 @@ use Rattle.plan_graph.specs.Ready.{Stands}
 use Rattle.plan_graph.specs.declared.ExpandedGraph.{ExpandedGraph}
 use Rattle.plan_graph.specs.declared.Ride.{Ride as RideTable}
 use Rattle.decision_graph.specs.Bounds.{IsBestBy}
-use Rattle.leg_walk.proofs.Lists.{Contains-nil, AllPairs-nil}
+use Rattle.plan_graph.proofs.Lists.{Contains-nil, AllPairs-nil}
 use Rattle.decision_graph.specs.Expanded.{IsExpandedBy, HasSteadyChoice}
 
 unfolds : (n : NetworkModel) (q : Query) (choice : Leg → ℕ → Option Leg) → q.source.0 ≡ q.target.0 → unfolded n q choice None ≡ Done q.start.0

@@ -19,7 +19,7 @@ use Rattle.plan_graph.specs.declared.Ride.{Ride}
 use Rattle.plan_graph.specs.declared.PlaceTable.{PlaceTable}
 use Rattle.plan_graph.specs.Ready.{IsFirstInTime}
 use Rattle.leg_walk.specs.Tables.{leg_cmp, row_by}
-use Rattle.leg_walk.proofs.Lists.{Contains-nil, Contains-head, Contains-tail, Contains-cons_cases, All-from_contains, AllPairs-head, AllPairs-tail}
+use Rattle.plan_graph.proofs.Lists.{Contains-nil, Contains-head, Contains-tail, Contains-cons_cases, All-from_contains, AllPairs-head, AllPairs-tail}
 use Rattle.leg_walk.proofs.Sets.{Contains-insert_key, Contains-inserted_key, IsStrictlySortedBy-insert_key}
 use Rattle.leg_walk.proofs.Orders.{leg_cmp-total, leg_cmp-exact}
 use Rattle.graph_compact.specs.Tables.{row_cmp, put_rows, with_ride, gathered, lists_of, rows_in, with_table}

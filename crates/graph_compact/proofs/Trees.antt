@@ -30,7 +30,7 @@ use Rattle.plan_graph.specs.Tidy.{IsFit, IsFitRow, IsFitTable, IsFitStart, IsTid
 use Rattle.plan_graph.proofs.Searches.{precedes_itself}
 use Rattle.leg_walk.specs.Placed.{StandsSafely}
 use Rattle.leg_walk.specs.Tables.{row_by, leg_cmp}
-use Rattle.leg_walk.proofs.Lists.{All-from_contains, AllPairs-nil}
+use Rattle.plan_graph.proofs.Lists.{All-from_contains, AllPairs-nil}
 use Rattle.leg_walk.proofs.Orders.{nat_cmp-Less, ordering_then-Less, leg_cmp-Less}
 use Rattle.leg_walk.proofs.Together.{unfold_from-together}
 use Rattle.leg_walk.proofs.Places.{IsPlacedNext, next_after}

@@ -11,7 +11,7 @@ use Rattle.plan_graph.specs.declared.GraphRow.{GraphRow}
 use Rattle.plan_graph.specs.Rows.{pick_row}
 use Rattle.plan_graph.specs.Ready.{IsFirstInTime, MayPrecede, IsReadyRow, is_within, pick_in_time}
 use Rattle.leg_walk.specs.Tables.{row_by}
-use Rattle.leg_walk.proofs.Lists.{Contains-nil, Contains-head, Contains-tail, Contains-cons_cases, AllPairs-nil, AllPairs-head, AllPairs-tail, AllPairs-with}
+use Rattle.plan_graph.proofs.Lists.{Contains-nil, Contains-head, Contains-tail, Contains-cons_cases, AllPairs-nil, AllPairs-head, AllPairs-tail, AllPairs-with}
 use Rattle.leg_walk.proofs.Tables.{same_next, same_limit, in_time_here, in_time_next}
 use Rattle.graph_prune.specs.Limits.{is_last, with_limit, by_limits}
 

@@ -19,7 +19,7 @@ use Rattle.plan_graph.specs.Ready.{IsReady, IsReadyRide, IsReadyRow, MayPrecede,
 use Rattle.plan_graph.specs.Follows.{Follows}
 use Rattle.leg_walk.specs.Tables.{row_by}
 use Rattle.leg_walk.specs.Walked.{IsWalked, HasRideOf}
-use Rattle.leg_walk.proofs.Lists.{Contains-map, All-from_contains, AllPairs-map}
+use Rattle.plan_graph.proofs.Lists.{Contains-map, All-from_contains, AllPairs-map}
 use Rattle.leg_walk.proofs.Tables.{first_pick, picked_there, same_next, same_limit}
 use Rattle.leg_walk.proofs.Together.{IsSameNext, unfold_from-together}
 use Rattle.leg_walk.proofs.Graphs.{ready, busy, picks_taken}

@@ -10,7 +10,7 @@ use Rattle.plan_model.specs.Strategy.{IsBoardable, IsSafe, AreSafe}
 use Rattle.plan_model.specs.Unfold.{end_of, arrival_of, outcomes_of, kids_after, ride_or_stuck, unfold_after}
 use Rattle.plan_graph.specs.Ready.{Stands, StandsIn}
 use Rattle.leg_walk.specs.Placed.{StandsSafely}
-use Rattle.leg_walk.proofs.Lists.{Contains-nil, Contains-cons_cases}
+use Rattle.plan_graph.proofs.Lists.{Contains-nil, Contains-cons_cases}
 
 -- the leg that is chosen after a leg that arrives at a moment is placed
 pub record IsPlacedNext (n : NetworkModel) (target : ℕ) (by : Option ℕ) (choice : Leg → ℕ → Option Leg) (whole : Tree) (leg : Leg) (arrival : ℕ) : Type 0 where

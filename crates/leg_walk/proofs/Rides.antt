@@ -5,7 +5,7 @@ use Rattle.plan_model.specs.declared.model.Leg.{Leg}
 use Rattle.plan_graph.specs.declared.Ride.{Ride}
 use Rattle.plan_graph.specs.Rows.{pick_row, pick_after, rows_after, Precedes}
 use Rattle.plan_graph.proofs.Searches.{leg_test, rows_here, rows_further, precedes_itself}
-use Rattle.leg_walk.proofs.Lists.{Contains-nil, Contains-head, Contains-tail, Contains-cons_cases, AllPairs-head, AllPairs-tail}
+use Rattle.plan_graph.proofs.Lists.{Contains-nil, Contains-head, Contains-tail, Contains-cons_cases, AllPairs-head, AllPairs-tail}
 
 -- a ride of the leg, with its rows
 pub record IsRideOf (rides : List Ride) (leg : Leg) : Type 0 where

@@ -10,7 +10,7 @@ use Rattle.std.proofs.lemmas.List.Elements.{All-contains, All-weaker, All-from_r
 use Rattle.std.proofs.lemmas.Map.Keys.{sorted_head, sorted_tail}
 use Rattle.std.proofs.lemmas.Map.Lookups.{CmpEqualImpliesEq}
 use Rattle.std.proofs.lemmas.Map.Views.{All-insert_key}
-use Rattle.leg_walk.proofs.Lists.{Contains-nil, Contains-head, Contains-tail, Contains-cons_cases, All-from_contains}
+use Rattle.plan_graph.proofs.Lists.{Contains-nil, Contains-head, Contains-tail, Contains-cons_cases, All-from_contains}
 
 module _ {K : Type 0} (cmp : K → K → Ordering) where
   pub Contains-insert_key : (ks : List K) (key x : K) → Contains ks x → Contains (insert_key cmp ks key) x

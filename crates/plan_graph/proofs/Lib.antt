@@ -1,3 +1,4 @@
 pub mod Searches
 pub mod Finds
 pub mod Picked
+pub mod Lists

@@ -4,7 +4,7 @@ use Rattle.plan_model.specs.Network.{count}
 use Rattle.plan_model.specs.declared.model.Leg.{Leg}
 use Rattle.plan_graph.specs.declared.Ride.{Ride}
 use Rattle.leg_walk.specs.Walked.{IsWalked}
-use Rattle.leg_walk.proofs.Lists.{All-from_contains}
+use Rattle.plan_graph.proofs.Lists.{All-from_contains}
 use Rattle.leg_walk.proofs.Walks.{walked}
 use Rattle.leg_walk.proofs.walk.Goals as goal
 
