@@ -10,7 +10,7 @@ use Rattle.plan_model.specs.Network.{IsValid}
 use Rattle.plan_model.specs.Tree.{Tree, Done, Ride, Stuck}
 use Rattle.plan_model.specs.Strategy.{IsSafeFromStart}
 use Rattle.departure_table.specs.declared.DepartureRow.{DepartureRow}
-use Rattle.departure_table.specs.Departures.{IsNoneSafeFrom, SafeFrom, IsBestFrom, IsDeparture, IsGreatestMoment, IsTable, row_by}
+use Rattle.departure_table.specs.Departures.{IsNoneSafeFrom, SafeFrom, IsBestFrom, IsDepartureRow, IsGreatestMoment, IsTable, first_row_by}
 use Rattle.journey_model.specs.Sites.{last_printable}
 use Rattle.journey_model.specs.declared.problem.Problem.{Problem}
 use Rattle.plan_model.specs.declared.model.Query.{Query}
@@ -61,7 +61,7 @@ module _ (p : Problem) (q : Query) where
   some_leaves last (row ∷ rows) early is some =
       let by = is.from_first zero row (omega arith) in
       let test : nat_le q.start.0 row.by.0 ≡ true = grind (arith, nat_tests) in
-      let found : row_by q.start.0 (row ∷ rows) ≡ Some row = rw test refl in
+      let found : first_row_by q.start.0 (row ∷ rows) ≡ Some row = rw test refl in
       let best = subst (λ (o : Option DepartureRow). MatchOption o (IsNoneSafeFrom (SafeOf p q) q.start.0) (IsBestFrom p.network (SafeOf p q) q.start.0))
       found (is.answers q.start.0 (omega arith) early) in
       (best.covers_one.0, best.covers_one.1)
@@ -87,6 +87,6 @@ module _ (p : Problem) (q : Query) where
   departures_at_once last rows none same = record { at_once = λ other. none; table = λ differ. absurd (differ same) }
 
   -- the rows have texts
-  pub rows_depart : (last : ℕ) (rows : List DepartureRow) → AreDepartures p q last rows → All (IsDeparture p.network) rows
-  rows_depart last [] are = All-nil (IsDeparture p.network)
+  pub rows_depart : (last : ℕ) (rows : List DepartureRow) → AreDepartures p q last rows → All (IsDepartureRow p.network) rows
+  rows_depart last [] are = All-nil (IsDepartureRow p.network)
   rows_depart last (row ∷ rows) are = (are.table (λ same. let none = are.at_once same in absurd (cc))).departures

@@ -8,23 +8,23 @@ use Rattle.std.proofs.lemmas.List.Elements.{All-append, All-cons, All-nil}
 use Rattle.plan_model.specs.NetworkModel.{NetworkModel}
 use Rattle.plan_model.specs.Tree.{Tree}
 use Rattle.departure_table.specs.declared.DepartureRow.{DepartureRow}
-use Rattle.departure_table.specs.Departures.{IsNoneSafeFrom, IsBestFrom, IsDeparture, IsTable, row_by}
+use Rattle.departure_table.specs.Departures.{IsNoneSafeFrom, IsBestFrom, IsDepartureRow, IsTable, first_row_by}
 
-row_past : (moment : ℕ) (rows : List DepartureRow) → All (λ r. r.by.0 < moment) rows → row_by moment rows ≡ None
+row_past : (moment : ℕ) (rows : List DepartureRow) → All (λ r. r.by.0 < moment) rows → first_row_by moment rows ≡ None
 row_past moment [] few = refl
 row_past moment (r ∷ rows) few =
     let less = few zero r (omega arith) in
     let test : nat_le moment r.by.0 ≡ false = grind (arith, nat_tests) in
     rw test (row_past moment rows (λ k d l. few (suc k) d (omega arith)))
 
-row_last : (moment : ℕ) (rows : List DepartureRow) (row : DepartureRow) → All (λ r. r.by.0 < moment) rows → moment ≤ row.by.0 → row_by moment (rows ++ row ∷ []) ≡ Some row
+row_last : (moment : ℕ) (rows : List DepartureRow) (row : DepartureRow) → All (λ r. r.by.0 < moment) rows → moment ≤ row.by.0 → first_row_by moment (rows ++ row ∷ []) ≡ Some row
 row_last moment [] row few within = let test : nat_le moment row.by.0 ≡ true = grind (arith, nat_tests) in rw test refl
 row_last moment (r ∷ rows) row few within =
     let less = few zero r (omega arith) in
     let test : nat_le moment r.by.0 ≡ false = grind (arith, nat_tests) in
     rw test (row_last moment rows row (λ k d l. few (suc k) d (omega arith)) within)
 
-row_kept : (moment : ℕ) (rows : List DepartureRow) (row found : DepartureRow) → row_by moment rows ≡ Some found → row_by moment (rows ++ row ∷ []) ≡ Some found
+row_kept : (moment : ℕ) (rows : List DepartureRow) (row found : DepartureRow) → first_row_by moment rows ≡ Some found → first_row_by moment (rows ++ row ∷ []) ≡ Some found
 row_kept moment [] row found is = absurd (cc)
 row_kept moment (r ∷ rows) row found is =
     ⊎_elim (λ gt. let test : nat_le moment r.by.0 ≡ false = grind (arith, nat_tests) in rw test (row_kept moment rows row found (rw test at is)))
@@ -34,8 +34,8 @@ row_kept moment (r ∷ rows) row found is =
 -- the table as far as the moments before the next look
 pub record IsTableTo (m : NetworkModel) (Safe : ℕ → Tree → Type 0) (first last next : ℕ) (rows : List DepartureRow) : Type 0 where
   pub in_order : first ≤ next
-  pub found : (moment : ℕ) → first ≤ moment → moment < next → (row : DepartureRow) × (row_by moment rows ≡ Some row) × IsBestFrom m Safe moment row
-  pub departures : All (IsDeparture m) rows
+  pub found : (moment : ℕ) → first ≤ moment → moment < next → (row : DepartureRow) × (first_row_by moment rows ≡ Some row) × IsBestFrom m Safe moment row
+  pub departures : All (IsDepartureRow m) rows
   pub from_first : All (λ row. first ≤ row.by.0) rows
   pub rising : AllPairs (λ a b. (a.by.0 < b.by.0) × (a.by.0 < last)) rows
   pub before : All (λ row. row.by.0 < next) rows
@@ -52,10 +52,10 @@ module _ (m : NetworkModel) (Safe : ℕ → Tree → Type 0) (first last : ℕ) 
   }
 
   module _ (next : ℕ) (rows : List DepartureRow) (t : IsTableTo m Safe first last next rows) where
-    module _ (row : DepartureRow) (soon : next ≤ last) (ahead : next ≤ row.by.0) (departure : IsDeparture m row)
+    module _ (row : DepartureRow) (soon : next ≤ last) (ahead : next ≤ row.by.0) (departure : IsDepartureRow m row)
         (best : (moment : ℕ) → next ≤ moment → moment ≤ row.by.0 → IsBestFrom m Safe moment row) where
       abbrev Found : ℕ → Type 0
-      Found moment = (r : DepartureRow) × (row_by moment (rows ++ row ∷ []) ≡ Some r) × IsBestFrom m Safe moment r
+      Found moment = (r : DepartureRow) × (first_row_by moment (rows ++ row ∷ []) ≡ Some r) × IsBestFrom m Safe moment r
 
       found_more : (moment : ℕ) → first ≤ moment → moment < row.by.0 + 1 → Found moment
       found_more moment from less =
@@ -72,14 +72,14 @@ module _ (m : NetworkModel) (Safe : ℕ → Tree → Type 0) (first last : ℕ) 
           record {
             in_order = let o = t.in_order in omega arith;
             found = found_more;
-            departures = All-append (IsDeparture m) rows (row ∷ []) t.departures (one (IsDeparture m) departure);
+            departures = All-append (IsDepartureRow m) rows (row ∷ []) t.departures (one (IsDepartureRow m) departure);
             from_first = All-append (λ (r : DepartureRow). first ≤ r.by.0) rows (row ∷ []) t.from_first (one (λ (r : DepartureRow). first ≤ r.by.0) (let o = t.in_order in omega arith));
             rising = all_pairs_push (λ (a b : DepartureRow). (a.by.0 < b.by.0) × (a.by.0 < last)) rows row t.rising (λ k d h. let b = t.before k d h in (omega arith, omega arith));
             before = All-append (λ (r : DepartureRow). r.by.0 < row.by.0 + 1) rows (row ∷ []) sooner (one (λ (r : DepartureRow). r.by.0 < row.by.0 + 1) (omega arith));
           }
 
     abbrev Answer : ℕ → Type 0
-    Answer moment = MatchOption (row_by moment rows) (IsNoneSafeFrom Safe moment) (IsBestFrom m Safe moment)
+    Answer moment = MatchOption (first_row_by moment rows) (IsNoneSafeFrom Safe moment) (IsBestFrom m Safe moment)
 
     is_found : (moment : ℕ) → first ≤ moment → moment < next → Answer moment
     is_found moment from less = let f = t.found moment from less in let e = f.1 in rw e f.2

@@ -18,7 +18,7 @@ use Rattle.value_laws.specs.Means.{mean_below, mean_covers, mean_gap}
 use Rattle.meat_scan.specs.Found.{Found, choice_of, leg_choice, chosen_at}
 use Rattle.meat_scan.specs.Solves.{Solves, SolvesEach, IsSafeAt}
 use Rattle.departure_table.specs.declared.DepartureRow.{DepartureRow}
-use Rattle.departure_table.specs.Departures.{IsASecondAway, SafeAfter, IsNoneSafeFrom, BeginsWith, IsBestFrom, IsDeparture, LooksAhead}
+use Rattle.departure_table.specs.Departures.{IsASecondAway, SafeAfter, IsNoneSafeFrom, BeginsWith, IsBestFrom, IsDepartureRow, LooksAhead}
 use Rattle.plan_model.specs.Bounds.{end_of_arrivals}
 
 module _ (n : NetworkModel) (q : Query) (found : Found MeanSpan) (valid : IsValid n) (solves : Solves mean_below mean_covers mean_gap found n q) (second : IsASecondAway n q.source.0) where
@@ -72,7 +72,7 @@ module _ (n : NetworkModel) (q : Query) (found : Found MeanSpan) (valid : IsVali
       pub departs_early : dep_of n enter < end_of_arrivals
       departs_early = let v = valid.connections enter safe_ride.1.enter in omega (arith, v.forward, v.early)
 
-      pub departure : (row : DepartureRow) → row.leg ≡ choice.1 → row.by.0 ≡ dep_of n enter → IsDeparture n row
+      pub departure : (row : DepartureRow) → row.leg ≡ choice.1 → row.by.0 ≡ dep_of n enter → IsDepartureRow n row
       departure row leg by =
           let same : IsLeg n row.leg.enter.0 row.leg.exit.0 = rw leg safe_ride.1 in
           record { is_leg = same; departs = by ∙ ap (λ (l : Leg). dep_of n l.enter.0) (sym leg) }

@@ -11,7 +11,7 @@ use Rattle.plan_model.specs.Tree.{Tree}
 use Rattle.plan_model.proofs.Views.{seen, leg_there}
 use Rattle.plan_model.proofs.Extensions.{added_there, added_back}
 use Rattle.departure_table.specs.declared.DepartureRow.{DepartureRow}
-use Rattle.departure_table.specs.Departures.{IsASecondAway, SafeAfter, SafeFrom, IsNoneSafeFrom, IsBestFrom, IsDeparture, IsTable, IsGreatestMoment, IsExtendedFor, SaysOfSource, row_by}
+use Rattle.departure_table.specs.Departures.{IsASecondAway, SafeAfter, SafeFrom, IsNoneSafeFrom, IsBestFrom, IsDepartureRow, IsTable, IsGreatestMoment, IsExtendedFor, SaysOfSource, first_row_by}
 use Rattle.departure_table.proofs.Empty.{empty_exactly}
 
 -- answers for one kind of safety are answers for the same kind told otherwise
@@ -58,7 +58,7 @@ module _ (n : NetworkModel) (q : Query) (m : NetworkModel) (source : ℕ) (e : I
       let told = rw (← now) at safe in
       rw place (added_back n m source e.extends e.valid q.target.0 (Some q.deadline.0) e.target_there e.away tree (moment - 1) told)
 
-  departure_told : (row : DepartureRow) → IsDeparture n row → IsDeparture m row
+  departure_told : (row : DepartureRow) → IsDepartureRow n row → IsDepartureRow m row
   departure_told row d =
       let there = leg_there n m 0 0 e.extends.view e.valid row.leg.enter.0 row.leg.exit.0 d.is_leg in
       let same = (seen n m 0 0 e.extends.view e.valid row.leg.enter.0 there.0.enter).departs (omega arith) in
@@ -67,7 +67,7 @@ module _ (n : NetworkModel) (q : Query) (m : NetworkModel) (source : ℕ) (e : I
   table_told : (first last : ℕ) (rows : List DepartureRow) → 1 ≤ first → IsTable n (SafeAfter n q) first last rows → IsTable m (SafeFrom m source q) first last rows
   table_told first last rows some t = record {
     answers = λ moment later within. answer_told n m (SafeAfter n q) (SafeFrom m source q) e.extends.view.as_many to_source from_source moment
-        (row_by moment rows) (omega arith) (t.answers moment later within);
+        (first_row_by moment rows) (omega arith) (t.answers moment later within);
     departures = λ k d h. departure_told _ (t.departures k d h);
     from_first = t.from_first;
     rising = t.rising;

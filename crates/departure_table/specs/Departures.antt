@@ -42,19 +42,19 @@ pub record IsBestFrom (m : NetworkModel) (Safe : ℕ → Tree → Type 0) (momen
   pub gap : row.bounds.hi - row.bounds.lo ≤ count m
 
 -- the row's leg is one of the network, and departs by the row's moment
-pub record IsDeparture (m : NetworkModel) (row : DepartureRow) : Type 0 where
+pub record IsDepartureRow (m : NetworkModel) (row : DepartureRow) : Type 0 where
   pub is_leg : IsLeg m row.leg.enter.0 row.leg.exit.0
   pub departs : row.by.0 ≡ dep_of m row.leg.enter.0
 
 -- the first row by a moment or later
-abbrev pub row_by : ℕ → List DepartureRow → Option DepartureRow
-row_by moment rows = find (λ row. nat_le moment row.by.0) rows
+abbrev pub first_row_by : ℕ → List DepartureRow → Option DepartureRow
+first_row_by moment rows = find (λ row. nat_le moment row.by.0) rows
 
 -- the best of what is safe from each moment on, from a first to a last one: the first row by the moment or later; none exactly where nothing is safe.
 -- moments rise, and only the last row may be by the last moment or later
 pub record IsTable (m : NetworkModel) (Safe : ℕ → Tree → Type 0) (first last : ℕ) (rows : List DepartureRow) : Type 0 where
-  pub answers : (moment : ℕ) → first ≤ moment → moment ≤ last → MatchOption (row_by moment rows) (IsNoneSafeFrom Safe moment) (IsBestFrom m Safe moment)
-  pub departures : All (IsDeparture m) rows
+  pub answers : (moment : ℕ) → first ≤ moment → moment ≤ last → MatchOption (first_row_by moment rows) (IsNoneSafeFrom Safe moment) (IsBestFrom m Safe moment)
+  pub departures : All (IsDepartureRow m) rows
   pub from_first : All (λ row. first ≤ row.by.0) rows
   pub rising : AllPairs (λ a b. (a.by.0 < b.by.0) × (a.by.0 < last)) rows
 
@@ -70,7 +70,7 @@ abbrev pub LooksAhead : NetworkModel → (ℕ → Tree → Type 0) → ℕ → O
 LooksAhead m Safe next found =
     MatchOption found
     ((moment : ℕ) → next ≤ moment → IsNoneSafeFrom Safe moment)
-    (λ row. (next ≤ row.by.0) × (row.by.0 < end_of_arrivals) × IsDeparture m row × ((moment : ℕ) → next ≤ moment → moment ≤ row.by.0 → IsBestFrom m Safe moment row))
+    (λ row. (next ≤ row.by.0) × (row.by.0 < end_of_arrivals) × IsDepartureRow m row × ((moment : ℕ) → next ≤ moment → moment ≤ row.by.0 → IsBestFrom m Safe moment row))
 
 -- the network is that of m with a place more, where the query has its source, and its target is another place of m than the one it leads to
 pub record IsExtendedFor (network : NetworkModel) (query : Query) (m : NetworkModel) (source : ℕ) : Type 0 where

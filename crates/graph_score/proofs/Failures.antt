@@ -16,8 +16,8 @@ use Rattle.graph_score.specs.declared.outlooks.Outlook.{Outlook}
 use Rattle.graph_score.specs.declared.outlooks.Outlook.TheVariants.{Safe, Failing}
 use Rattle.graph_score.specs.Failures.{Fails, FailsIn, IsNotAfter, IsFirstFailure}
 use Rattle.graph_score.specs.Spans.{span_of, spans_of}
-use Rattle.graph_score.specs.Steps.{is_sooner, sooner, with_outlook, first_of, spans_in, mean_or, blended, IsOutlook}
-use Rattle.graph_score.proofs.Lists.{first_of-some}
+use Rattle.graph_score.specs.Steps.{is_sooner, sooner_failure, with_outlook, first_failure_of, spans_in, mean_or, blended, IsOutlook}
+use Rattle.graph_score.proofs.Lists.{first_failure_of-some}
 
 abbrev May : Type 1
 May = ℕ → ℕ → Type 0
@@ -57,7 +57,7 @@ not_sooner a b is = elim (cases_lt b.moment.0 a.moment.0) [
 ]
 
 -- the sooner of two first failures is the first of both
-first_both : (a f : Failure) (F G : May) → IsFirst (Some a) F → IsFirst (Some f) G → IsFirst (Some (sooner (Some a) f)) (λ p x. F p x ⊎ G p x)
+first_both : (a f : Failure) (F G : May) → IsFirst (Some a) F → IsFirst (Some f) G → IsFirst (Some (sooner_failure (Some a) f)) (λ p x. F p x ⊎ G p x)
 first_both a f F G own other = by_test (is_sooner f a) refl
   where
     by_test : (test : Bool) → is_sooner f a ≡ test → IsFirst (Some (if test then f else a)) (λ p x. F p x ⊎ G p x)
@@ -90,13 +90,13 @@ module _ (n : NetworkModel) (q : Query) where
   with_tree (Some a) (Failing f) tree F is own = first_both a f F (Fails q tree) is own
 
   first_told : (row : List Outcome) (values : List Outlook) (kids : Kids) (first : Option Failure) (F : May) → EachKid (IsOutlook n q) row values kids
-      → IsFirst first F → IsFirst (first_of first values) (λ p x. F p x ⊎ FailsIn q kids p x)
+      → IsFirst first F → IsFirst (first_failure_of first values) (λ p x. F p x ⊎ FailsIn q kids p x)
   first_told [] [] Nil first F each is = told_as first F (λ p x. F p x ⊎ ⊥) (λ p x may. inl may) (λ p x may. elim may [
     | inl here ↦ here
     | inr there ↦ absurd there
   ]) is
   first_told (o ∷ row) (value ∷ values) (Kid w tree kids) first F each is =
-      told_as (first_of (with_outlook first value) values) (λ p x. (F p x ⊎ Fails q tree p x) ⊎ FailsIn q kids p x) (λ p x. F p x ⊎ (Fails q tree p x ⊎ FailsIn q kids p x))
+      told_as (first_failure_of (with_outlook first value) values) (λ p x. (F p x ⊎ Fails q tree p x) ⊎ FailsIn q kids p x) (λ p x. F p x ⊎ (Fails q tree p x ⊎ FailsIn q kids p x))
       (λ p x may. elim may [
         | inl here ↦ elim here [
           | inl own ↦ inl own
@@ -115,23 +115,23 @@ module _ (n : NetworkModel) (q : Query) where
   first_told _ _ _ first F each is = absurd each
 
   -- where none fails, the bounds are those of the kids
-  spans_told : (row : List Outcome) (values : List Outlook) (kids : Kids) → EachKid (IsOutlook n q) row values kids → first_of None values ≡ None → spans_in values ≡ spans_of n kids
+  spans_told : (row : List Outcome) (values : List Outlook) (kids : Kids) → EachKid (IsOutlook n q) row values kids → first_failure_of None values ≡ None → spans_in values ≡ spans_of n kids
   spans_told [] [] Nil each none = refl
   spans_told (o ∷ row) (Safe span ∷ values) (Kid w tree kids) each none =
       ap (λ (s : Interval). s ∷ spans_in values) each.1.1 ∙ ap (λ (spans : List Interval). span_of n tree ∷ spans) (spans_told row values kids each.2 none)
-  spans_told (o ∷ row) (Failing f ∷ values) (Kid w tree kids) each none = absurd (first_of-some f values none)
+  spans_told (o ∷ row) (Failing f ∷ values) (Kid w tree kids) each none = absurd (first_failure_of-some f values none)
   spans_told _ _ _ each none = absurd each
 
   -- what comes of a ride, by what comes of its kids
   pub blend_told : (i j : ℕ) (values : List Outlook) (kids : Kids) → EachKid (IsOutlook n q) (outcomes n j) values kids → IsOutlook n q (blended (outcomes n j) values) (Ride i j kids)
   blend_told i j values kids each =
       let told = first_told (outcomes n j) values kids None (λ p x. ⊥) each (λ p x may. may) in
-      let is = told_as (first_of None values) (λ p x. ⊥ ⊎ FailsIn q kids p x) (FailsIn q kids) (λ p x may. elim may [
+      let is = told_as (first_failure_of None values) (λ p x. ⊥ ⊎ FailsIn q kids p x) (FailsIn q kids) (λ p x may. elim may [
         | inl never ↦ absurd never
         | inr there ↦ there
       ]) (λ p x may. inr may) told in
-      by_first (first_of None values) refl is
+      by_first (first_failure_of None values) refl is
     where
-      by_first : (first : Option Failure) → first_of None values ≡ first → IsFirst first (FailsIn q kids) → IsOutlook n q (mean_or (outcomes n j) values first) (Ride i j kids)
+      by_first : (first : Option Failure) → first_failure_of None values ≡ first → IsFirst first (FailsIn q kids) → IsOutlook n q (mean_or (outcomes n j) values first) (Ride i j kids)
       by_first None e is = (is, ap (mean_of (outcomes n j)) (spans_told (outcomes n j) values kids each e))
       by_first (Some f) e is = is

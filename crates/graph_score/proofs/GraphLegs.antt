@@ -2,8 +2,8 @@
 use Rattle.std.proofs.Common.{◌≡◌, ℕ, zero, suc, ◌+◌, ◌<◌, ◌≤◌, List, [], ◌∷◌, ◌++◌, length, map, take, drop, Option, Some, None, All, arith, sym, subst, refl, ◌∙◌, ap}
 use Rattle.std.specs.Prelude.{slice_index_or, MatchOption}
 use Rattle.std.specs.List.{flat_map, AllWithin}
-use Rattle.std.proofs.lemmas.List.{drop_more, take-append-drop}
-use Rattle.std.proofs.lemmas.List.Elements.{All-append, All-map, All-nil, All-tail, All-cons}
+use Rattle.std.proofs.lemmas.List.{drop_more, take-append-drop, length-take-le}
+use Rattle.std.proofs.lemmas.List.Elements.{All-append, All-contains, All-map, All-nil, All-tail, All-cons, Contains-append_left, Contains-append_right}
 use Rattle.plan_model.specs.declared.model.Leg.{Leg}
 use Rattle.plan_model.specs.declared.model.Query.{Query}
 use Rattle.plan_model.specs.NetworkModel.{NetworkModel}
@@ -13,9 +13,10 @@ use Rattle.plan_graph.specs.declared.GraphRow.{GraphRow}
 use Rattle.plan_graph.specs.declared.PlaceTable.{PlaceTable}
 use Rattle.plan_graph.specs.declared.PlanGraph.{PlanGraph}
 use Rattle.plan_graph.specs.Tidy.{IsFit, IsFitStart, IsFitRow}
+use Rattle.plan_model.proofs.Lists.{Contains-head, Contains-map, All-from_contains}
 use Rattle.graph_score.specs.declared.legs.GraphLeg.{GraphLeg}
 use Rattle.graph_score.specs.declared.legs.GraphLeg.TheVariants.{Start, Row}
-use Rattle.graph_score.specs.Legs.{IsRising, Fits, IsFirstWrong, start_leg, legs_in, legs_of}
+use Rattle.graph_score.specs.Legs.{HasRisingTables, IsFitLeg, IsFirstWrong, start_leg, legs_in, legs_of}
 use Rattle.graph_score.specs.Steps.{AreFitRows}
 
 -- a row that fits stands at a place of the network
@@ -28,26 +29,21 @@ fit_place n valid p row fit =
 split_at : {X : Type 0} (xs : List X) (k : ℕ) (d : X) → k < length xs → xs ≡ take k xs ++ slice_index_or xs k d ∷ drop (k + 1) xs
 split_at xs k d within = sym (take-append-drop k xs) ∙ ap (λ rest. take k xs ++ rest) (drop_more xs k d within)
 
-take_length : {X : Type 0} (xs : List X) (k : ℕ) → k < length xs → length (take k xs) ≡ k
-take_length [] k within = absurd (omega (arith, within))
-take_length (x ∷ xs) zero within = refl
-take_length (x ∷ xs) (suc k) within = ap suc (take_length xs k (omega (arith, within)))
-
 take_each : {X : Type 0} (P : X → Type 0) (xs : List X) (k : ℕ) → AllWithin P xs 0 k → k ≤ length xs → All P (take k xs)
 take_each P xs zero each within = All-nil P
 take_each P [] (suc k) each within = All-nil P
 take_each P (x ∷ xs) (suc k) each within =
     All-cons P x (take k xs) (each 0 x (omega arith) (omega arith)) (take_each P xs k (λ i d low below. each (suc i) d (omega arith) (omega (arith, below))) (omega (arith, within)))
 
-pub first_wrong_is : (n : NetworkModel) (q : Query) (legs : List GraphLeg) (k : ℕ) (d : GraphLeg) → k < length legs → AllWithin (Fits n q) legs 0 k
-    → (Fits n q (slice_index_or legs k d) → ⊥) → IsFirstWrong n q legs (k + 1)
+pub first_wrong_is : (n : NetworkModel) (q : Query) (legs : List GraphLeg) (k : ℕ) (d : GraphLeg) → k < length legs → AllWithin (IsFitLeg n q) legs 0 k
+    → (IsFitLeg n q (slice_index_or legs k d) → ⊥) → IsFirstWrong n q legs (k + 1)
 first_wrong_is n q legs k d within fit breaks = record {
   before = take k legs;
   wrong = slice_index_or legs k d;
   others = drop (k + 1) legs;
   split = split_at legs k d within;
-  number = let e = take_length legs k within in omega (arith, e);
-  fit = take_each (Fits n q) legs k fit (omega (arith, within));
+  number = let e = length-take-le k legs (omega (arith, within)) in omega (arith, e);
+  fit = take_each (IsFitLeg n q) legs k fit (omega (arith, within));
   breaks = breaks;
 }
 
@@ -57,36 +53,33 @@ each_flat P f [] each = All-nil P
 each_flat P f (x ∷ xs) each = All-append P (f x) (flat_map f xs) (each 0 x (omega arith)) (each_flat P f xs (All-tail (λ y. All P (f y)) x xs each))
 
 each_left : {Y : Type 0} (P : Y → Type 0) (xs ys : List Y) → All P (xs ++ ys) → All P xs
-each_left P [] ys each = All-nil P
-each_left P (x ∷ xs) ys each = All-cons P x xs (each 0 x (omega arith)) (each_left P xs ys (All-tail P x (xs ++ ys) each))
+each_left P xs ys each = All-from_contains P xs (λ x has. All-contains P (xs ++ ys) x each (Contains-append_left xs ys x has))
 
 each_right : {Y : Type 0} (P : Y → Type 0) (xs ys : List Y) → All P (xs ++ ys) → All P ys
-each_right P [] ys each = each
-each_right P (x ∷ xs) ys each = each_right P xs ys (All-tail P x (xs ++ ys) each)
+each_right P xs ys each = All-from_contains P ys (λ y has. All-contains P (xs ++ ys) y each (Contains-append_right xs ys y has))
 
 each_unmapped : {X Y : Type 0} (P : Y → Type 0) (f : X → Y) (xs : List X) → All P (map f xs) → All (λ x. P (f x)) xs
-each_unmapped P f [] each = All-nil (λ x. P (f x))
-each_unmapped P f (x ∷ xs) each = All-cons (λ y. P (f y)) x xs (each 0 (f x) (omega arith)) (each_unmapped P f xs (All-tail P (f x) (map f xs) each))
+each_unmapped P f xs each = All-from_contains (λ x. P (f x)) xs (λ x has. All-contains P (map f xs) (f x) each (Contains-map f xs x has))
 
-tables_fit : (n : NetworkModel) (q : Query) (tables : List PlaceTable) → All (Fits n q) (flat_map legs_in tables) → AreFitRows n tables
+tables_fit : (n : NetworkModel) (q : Query) (tables : List PlaceTable) → All (IsFitLeg n q) (flat_map legs_in tables) → AreFitRows n tables
 tables_fit n q [] each = All-nil (λ (t : PlaceTable). All (IsFitRow n t.place.0) t.rows)
 tables_fit n q (table ∷ tables) each =
-    let here = each_unmapped (Fits n q) (λ row. Row table.place row) table.rows (each_left (Fits n q) (legs_in table) (flat_map legs_in tables) each) in
+    let here = each_unmapped (IsFitLeg n q) (λ row. Row table.place row) table.rows (each_left (IsFitLeg n q) (legs_in table) (flat_map legs_in tables) each) in
     All-cons (λ (t : PlaceTable). All (IsFitRow n t.place.0) t.rows) table tables (λ k d within. (here k d within).1)
-    (tables_fit n q tables (each_right (Fits n q) (legs_in table) (flat_map legs_in tables) each))
+    (tables_fit n q tables (each_right (IsFitLeg n q) (legs_in table) (flat_map legs_in tables) each))
 
 -- where all legs fit, so do all rows
-pub rows_fit : (n : NetworkModel) (q : Query) (graph : PlanGraph) → All (Fits n q) (legs_of graph) → AreFitRows n graph.tables
-rows_fit n q graph each = tables_fit n q graph.tables (each_right (Fits n q) (start_leg graph.start) (flat_map legs_in graph.tables) each)
+pub rows_fit : (n : NetworkModel) (q : Query) (graph : PlanGraph) → All (IsFitLeg n q) (legs_of graph) → AreFitRows n graph.tables
+rows_fit n q graph each = tables_fit n q graph.tables (each_right (IsFitLeg n q) (start_leg graph.start) (flat_map legs_in graph.tables) each)
 
 -- and the start leg, where there is one
-pub start_fits : (n : NetworkModel) (q : Query) (graph : PlanGraph) (leg : Leg) → All (Fits n q) (legs_of graph) → graph.start ≡ Some leg → IsFitStart n q leg
+pub start_fits : (n : NetworkModel) (q : Query) (graph : PlanGraph) (leg : Leg) → All (IsFitLeg n q) (legs_of graph) → graph.start ≡ Some leg → IsFitStart n q leg
 start_fits n q graph leg each is =
-    let here = subst (λ (s : Option Leg). All (Fits n q) (start_leg s)) is (each_left (Fits n q) (start_leg graph.start) (flat_map legs_in graph.tables) each) in
+    let here = subst (λ (s : Option Leg). All (IsFitLeg n q) (start_leg s)) is (each_left (IsFitLeg n q) (start_leg graph.start) (flat_map legs_in graph.tables) each) in
     here 0 (Start leg) (omega arith)
 
 -- a graph that fits rises
-pub fit_rises : (n : NetworkModel) (q : Query) (graph : PlanGraph) → IsFit n q graph → IsRising graph
+pub fit_rises : (n : NetworkModel) (q : Query) (graph : PlanGraph) → IsFit n q graph → HasRisingTables graph
 fit_rises n q graph fit = record {
   places = fit.rising;
   rows = λ k d within. (fit.tables k d within).rising;
@@ -94,22 +87,20 @@ fit_rises n q graph fit = record {
 }
 
 -- and each of its legs fits
-pub fit_legs : (n : NetworkModel) (q : Query) (graph : PlanGraph) → IsFit n q graph → All (Fits n q) (legs_of graph)
+pub fit_legs : (n : NetworkModel) (q : Query) (graph : PlanGraph) → IsFit n q graph → All (IsFitLeg n q) (legs_of graph)
 fit_legs n q graph fit = by_start graph.start fit.starts
   where
-    away : (leg : Leg) → IsFitStart n q leg → All (Fits n q) (flat_map legs_in graph.tables)
-    away leg start = each_flat (Fits n q) legs_in graph.tables
-        (λ k d within. All-map (Fits n q) (λ row. Row (slice_index_or graph.tables k d).place row) (slice_index_or graph.tables k d).rows
+    away : (leg : Leg) → IsFitStart n q leg → All (IsFitLeg n q) (flat_map legs_in graph.tables)
+    away leg start = each_flat (IsFitLeg n q) legs_in graph.tables
+        (λ k d within. All-map (IsFitLeg n q) (λ row. Row (slice_index_or graph.tables k d).place row) (slice_index_or graph.tables k d).rows
         (λ i e inside. (start.differ, (fit.tables k d within).rows i e inside)))
 
-    by_start : (start : Option Leg) → MatchOption start ((q.source.0 ≡ q.target.0) × (graph.tables ≡ [])) (IsFitStart n q) → All (Fits n q) (start_leg start ++ flat_map legs_in graph.tables)
-    by_start None is = subst (λ (tables : List PlaceTable). All (Fits n q) (flat_map legs_in tables)) (sym is.1) (All-nil (Fits n q))
-    by_start (Some leg) is = All-cons (Fits n q) (Start leg) (flat_map legs_in graph.tables) is (away leg is)
-
-contains_middle : {X : Type 0} (P : X → Type 0) (xs ys : List X) (y : X) → All P (xs ++ y ∷ ys) → P y
-contains_middle P [] ys y each = each 0 y (omega arith)
-contains_middle P (x ∷ xs) ys y each = contains_middle P xs ys y (All-tail P x (xs ++ y ∷ ys) each)
+    by_start : (start : Option Leg) → MatchOption start ((q.source.0 ≡ q.target.0) × (graph.tables ≡ [])) (IsFitStart n q) → All (IsFitLeg n q) (start_leg start ++ flat_map legs_in graph.tables)
+    by_start None is = subst (λ (tables : List PlaceTable). All (IsFitLeg n q) (flat_map legs_in tables)) (sym is.1) (All-nil (IsFitLeg n q))
+    by_start (Some leg) is = All-cons (IsFitLeg n q) (Start leg) (flat_map legs_in graph.tables) is (away leg is)
 
 -- where all legs fit none is wrong
-pub none_wrong : (n : NetworkModel) (q : Query) (legs : List GraphLeg) (k : ℕ) → All (Fits n q) legs → IsFirstWrong n q legs k → ⊥
-none_wrong n q legs k each wrong = wrong.breaks (contains_middle (Fits n q) wrong.before wrong.others wrong.wrong (subst (All (Fits n q)) wrong.split each))
+pub none_wrong : (n : NetworkModel) (q : Query) (legs : List GraphLeg) (k : ℕ) → All (IsFitLeg n q) legs → IsFirstWrong n q legs k → ⊥
+none_wrong n q legs k each wrong =
+    let there = Contains-append_right wrong.before (wrong.wrong ∷ wrong.others) wrong.wrong (Contains-head wrong.wrong wrong.others) in
+    wrong.breaks (All-contains (IsFitLeg n q) (wrong.before ++ wrong.wrong ∷ wrong.others) wrong.wrong (subst (All (IsFitLeg n q)) wrong.split each) there)

@@ -22,7 +22,7 @@ use Rattle.plan_graph.specs.Rows.{pick_at}
 use Rattle.plan_graph.specs.Ready.{IsLegOf}
 use Rattle.graph_score.specs.declared.outlooks.Outlook.{Outlook}
 use Rattle.graph_score.specs.declared.outlooks.Outlook.TheVariants.{Failing}
-use Rattle.graph_score.specs.Steps.{AreFitRows, AreOutlooks, ExitsWithin, IsOutlook, arrived_by, by_leg, failure, no_outlook, outlook_at, outlook_of, outlooks_after, ridden}
+use Rattle.graph_score.specs.Steps.{AreFitRows, AreOutlooks, ExitsWithin, IsOutlook, arrived_outlook, by_leg, failure, no_outlook, outlook_at, outlook_of, outlooks_after, ride_by_rows}
 use Rattle.graph_score.proofs.Failures.{blend_told}
 use Rattle.graph_score.proofs.Trees.{taken_row, next_after, after-there, after-stuck, after-ride}
 
@@ -32,7 +32,7 @@ some_known [] i known = absurd known
 some_known (id ∷ taken) i known = omega arith
 
 -- where source and target are one place, or one has arrived
-pub arrived_told : (n : NetworkModel) (q : Query) (p x : ℕ) → p ≡ q.target.0 → IsOutlook n q (arrived_by q.deadline.0 p x) (Done x)
+pub arrived_told : (n : NetworkModel) (q : Query) (p x : ℕ) → p ≡ q.target.0 → IsOutlook n q (arrived_outlook q.deadline.0 p x) (Done x)
 arrived_told n q p x there = elim (cases_lt q.deadline.0 x) [
   | inl late ↦
       let e : nat_le x q.deadline.0 ≡ false = grind (arith, nat_tests) in
@@ -49,7 +49,7 @@ stuck_told n q p x = record { fails = (refl, refl); first = λ r y fails. inr (s
 -- of each connection that was looked at it is known what comes of leaving by it, over enough rides
 abbrev AreRight : NetworkModel → Query → List PlaceTable → List Outlook → List ConnectionId → Type 0
 AreRight n q tables outlooks taken = (leg : Leg) (rides : ℕ) → Known Never taken leg.exit.0 → length taken ≤ suc rides
-    → IsOutlook n q (slice_index_or outlooks leg.exit.0 no_outlook) (ridden n q tables rides leg)
+    → IsOutlook n q (slice_index_or outlooks leg.exit.0 no_outlook) (ride_by_rows n q tables rides leg)
 
 -- the rest of the scan order was not looked at
 pub record AreTold (n : NetworkModel) (q : Query) (tables : List PlaceTable) (order rest : List ConnectionId) (outlooks : List Outlook) : Type 0 where
@@ -74,7 +74,7 @@ module _ (n : NetworkModel) (valid : IsValid n) (q : Query) (tables : List Place
     arrival_told outlooks rest taken id split right there leg rides x of_id enough late = elim (cases_eq (end_of n leg) q.target.0) [
       | inl here ↦
           let e : (end_of n leg == q.target.0) ≡ true = grind (arith, nat_tests) in
-          rw e (subst (IsOutlook n q (arrived_by q.deadline.0 (end_of n leg) x)) (sym (after-there n q tables fit rides leg x here)) (arrived_told n q (end_of n leg) x here))
+          rw e (subst (IsOutlook n q (arrived_outlook q.deadline.0 (end_of n leg) x)) (sym (after-there n q tables fit rides leg x here)) (arrived_told n q (end_of n leg) x here))
       | inr away ↦
           let e : (end_of n leg == q.target.0) ≡ false = grind (arith, nat_tests) in
           rw e (by_next rides enough away (pick_at tables (end_of n leg) x) refl)
@@ -115,14 +115,14 @@ module _ (n : NetworkModel) (valid : IsValid n) (q : Query) (tables : List Place
 
     -- what comes of leaving by the next connection
     ride_told : (outlooks : List Outlook) (rest taken : List ConnectionId) (id : ConnectionId) → (rest ++ id ∷ []) ++ taken ≡ order → AreRight n q tables outlooks taken → id.0 < count n
-        → (leg : Leg) (rides : ℕ) → leg.exit.0 ≡ id.0 → length taken ≤ rides → IsOutlook n q (outlook_of n tables q outlooks id.0) (ridden n q tables rides leg)
+        → (leg : Leg) (rides : ℕ) → leg.exit.0 ≡ id.0 → length taken ≤ rides → IsOutlook n q (outlook_of n tables q outlooks id.0) (ride_by_rows n q tables rides leg)
     ride_told outlooks rest taken id split right there leg rides of_id enough =
         let late = ap (arr_of n) of_id in
         let each = kids_told outlooks (end_of n leg) (arr_of n leg.exit.0) (next_after n q tables fit rides leg)
         (λ x from. arrival_told outlooks rest taken id split right there leg rides x of_id enough (omega (arith, late, from))) (outcomes_of n leg) in
         let own = blend_told n q leg.enter.0 leg.exit.0 (outlooks_after tables q outlooks (end_of n leg) (arr_of n leg.exit.0) (outcomes_of n leg))
         (kids_after (next_after n q tables fit rides leg) (arr_of n leg.exit.0) (outcomes_of n leg)) each in
-        subst (λ j. IsOutlook n q (outlook_of n tables q outlooks j) (ridden n q tables rides leg)) of_id own
+        subst (λ j. IsOutlook n q (outlook_of n tables q outlooks j) (ride_by_rows n q tables rides leg)) of_id own
 
     -- with the next connection
     right_next : (outlooks : List Outlook) (rest taken : List ConnectionId) (id : ConnectionId) → (rest ++ id ∷ []) ++ taken ≡ order → length outlooks ≡ count n → AreRight n q tables outlooks taken
@@ -134,9 +134,9 @@ module _ (n : NetworkModel) (valid : IsValid n) (q : Query) (tables : List Place
           let at : slice_index_or (set outlooks id.0 (outlook_of n tables q outlooks id.0)) leg.exit.0 no_outlook ≡ outlook_of n tables q outlooks id.0 =
           ap (λ j. slice_index_or (set outlooks id.0 (outlook_of n tables q outlooks id.0)) j no_outlook) same
           ∙ get_or-set_same outlooks id.0 (outlook_of n tables q outlooks id.0) no_outlook (omega (arith, there, many)) in
-          subst (λ o. IsOutlook n q o (ridden n q tables rides leg)) (sym at) own
+          subst (λ o. IsOutlook n q o (ride_by_rows n q tables rides leg)) (sym at) own
       | inr other ↦
-          subst (λ o. IsOutlook n q o (ridden n q tables rides leg))
+          subst (λ o. IsOutlook n q o (ride_by_rows n q tables rides leg))
           (sym (get_or-set_other outlooks id.0 leg.exit.0 (outlook_of n tables q outlooks id.0) no_outlook other))
           (right leg rides (before known other) (omega (arith, enough)))
     ]

@@ -13,11 +13,11 @@ use Rattle.plan_graph.specs.Unfold.{unfold_plan}
 use Rattle.interval_fixed.specs.Interval.{Interval}
 use Rattle.graph_score.specs.declared.outlooks.Failure.{Failure}
 use Rattle.graph_score.specs.declared.outlooks.Outlook.TheVariants.{Safe, Failing}
-use Rattle.graph_score.specs.Legs.{Fits, legs_of}
+use Rattle.graph_score.specs.Legs.{IsFitLeg, legs_of}
 use Rattle.graph_score.specs.Failures.{Fails}
 use Rattle.graph_score.specs.Scores.{IsScored, IsUnsafe}
 use Rattle.graph_score.specs.Spans.{span_of}
-use Rattle.graph_score.specs.Steps.{IsOutlook, ridden}
+use Rattle.graph_score.specs.Steps.{IsOutlook, ride_by_rows}
 use Rattle.graph_score.proofs.GraphLegs.{rows_fit, start_fits}
 use Rattle.graph_score.proofs.Means.{exact_below, exact_covers, ride_enclosed, ride_near}
 use Rattle.graph_score.proofs.Trees.{next_after, safe_never_fails, safe_ride, height_ridden, unfold-start, unfold-none, unfold-there}
@@ -26,7 +26,7 @@ use Rattle.graph_score.proofs.Trees.{next_after, safe_never_fails, safe_ride, he
 pub failing_told : (n : NetworkModel) (q : Query) (tree : Tree) (f : Failure) → IsOutlook n q (Failing f) tree → IsUnsafe n q tree f.place.0 f.moment.0
 failing_told n q tree f is = record { unsafe = λ safe. safe_never_fails n q tree safe f.place.0 f.moment.0 is.fails; first = is }
 
-module _ (n : NetworkModel) (valid : IsValid n) (q : Query) (graph : PlanGraph) (fit : All (Fits n q) (legs_of graph)) where
+module _ (n : NetworkModel) (valid : IsValid n) (q : Query) (graph : PlanGraph) (fit : All (IsFitLeg n q) (legs_of graph)) where
   abbrev Never : Tree → Type 0
   Never tree = (p x : ℕ) → Fails q tree p x → ⊥
 
@@ -42,8 +42,8 @@ module _ (n : NetworkModel) (valid : IsValid n) (q : Query) (graph : PlanGraph) 
       in_time (inl late) = absurd (never q.target.0 q.start.0 (refl, refl, late))
       in_time (inr soon) = soon
 
-  ride_scored : (leg : Leg) → IsFitStart n q leg → Never (ridden n q graph.tables (count n - 1) leg)
-      → IsScored n q (ridden n q graph.tables (count n - 1) leg) (span_of n (ridden n q graph.tables (count n - 1) leg))
+  ride_scored : (leg : Leg) → IsFitStart n q leg → Never (ride_by_rows n q graph.tables (count n - 1) leg)
+      → IsScored n q (ride_by_rows n q graph.tables (count n - 1) leg) (span_of n (ride_by_rows n q graph.tables (count n - 1) leg))
   ride_scored leg start never =
       let rides = count n - 1 in
       let rows = rows_fit n q graph fit in
@@ -72,4 +72,4 @@ module _ (n : NetworkModel) (valid : IsValid n) (q : Query) (graph : PlanGraph) 
     where
       by_start : q.source.0 ≢ q.target.0 → (start : Option Leg) → graph.start ≡ start → IsScored n q (unfold_plan graph n q) span
       by_start away None is = absurd (told.0 q.source.0 q.start.0 (subst (λ t. Fails q t q.source.0 q.start.0) (sym (unfold-none n q graph away is)) (refl, refl)))
-      by_start away (Some leg) is = as_told (ridden n q graph.tables (count n - 1) leg) (ride_scored leg (start_fits n q graph leg fit is)) (unfold-start n q graph leg away is) span told
+      by_start away (Some leg) is = as_told (ride_by_rows n q graph.tables (count n - 1) leg) (ride_scored leg (start_fits n q graph leg fit is)) (unfold-start n q graph leg away is) span told

@@ -17,7 +17,7 @@ use Rattle.plan_graph.specs.Ready.{IsLegOf}
 use Rattle.plan_graph.specs.Tidy.{IsFitRow, IsFitStart}
 use Rattle.plan_graph.specs.Unfold.{unfold_plan}
 use Rattle.graph_score.specs.Failures.{Fails, FailsIn}
-use Rattle.graph_score.specs.Steps.{AreFitRows, ridden}
+use Rattle.graph_score.specs.Steps.{AreFitRows, ride_by_rows}
 use Rattle.plan_graph.proofs.Picked.{rows_of_place-by, row_of_pick}
 
 mutual
@@ -77,7 +77,7 @@ module _ (n : NetworkModel) (q : Query) (tables : List PlaceTable) (fit : AreFit
   after-over leg x away = rw (ne_eqb (end_of n leg) q.target.0 away) refl
 
   -- where one is taken
-  pub after-ride : (rides : ℕ) (leg : Leg) (x : ℕ) (next : Leg) → end_of n leg ≢ q.target.0 → pick_at tables (end_of n leg) x ≡ Some next → next_after (suc rides) leg x ≡ ridden n q tables rides next
+  pub after-ride : (rides : ℕ) (leg : Leg) (x : ℕ) (next : Leg) → end_of n leg ≢ q.target.0 → pick_at tables (end_of n leg) x ≡ Some next → next_after (suc rides) leg x ≡ ride_by_rows n q tables rides next
   after-ride rides leg x next away some = rw (ne_eqb (end_of n leg) q.target.0 away) (ap (λ next. ride_or_stuck n (next_after rides) next (end_of n leg) x) some)
 
   in_time : (p x : ℕ) → p ≡ q.target.0 → Never (Done x) → SafeHere (Done x) p x
@@ -114,7 +114,7 @@ module _ (n : NetworkModel) (q : Query) (tables : List PlaceTable) (fit : AreFit
           (away, row.0, row.1, kids_safe (next_after rides next) (end_of n next) (arr_of n next.exit.0) (onward next) (outcomes_of n next) never_now)
 
   -- who cannot fail after the start leg is safe
-  pub safe_ride : (rides : ℕ) (leg : Leg) → IsFitStart n q leg → Never (ridden n q tables rides leg) → IsSafeFor n q (ridden n q tables rides leg)
+  pub safe_ride : (rides : ℕ) (leg : Leg) → IsFitStart n q leg → Never (ride_by_rows n q tables rides leg) → IsSafeFor n q (ride_by_rows n q tables rides leg)
   safe_ride rides leg start never =
       (start.differ, start.is_leg, (start.leaves, start.in_time), kids_safe (next_after rides leg) (end_of n leg) (arr_of n leg.exit.0) (safe_after rides leg) (outcomes_of n leg) never)
 
@@ -122,7 +122,7 @@ module _ (n : NetworkModel) (q : Query) (tables : List PlaceTable) (fit : AreFit
   height_kids next most each scheduled [] = omega arith
   height_kids next most each scheduled (o ∷ row) = omega (arith, each (scheduled + o.delay), height_kids next most each scheduled row)
 
-  height_ride : (rides : ℕ) (leg : Leg) → ((x : ℕ) → height (next_after rides leg x) ≤ rides) → height (ridden n q tables rides leg) ≤ suc rides
+  height_ride : (rides : ℕ) (leg : Leg) → ((x : ℕ) → height (next_after rides leg x) ≤ rides) → height (ride_by_rows n q tables rides leg) ≤ suc rides
   height_ride rides leg each = let low = height_kids (next_after rides leg) rides each (arr_of n leg.exit.0) (outcomes_of n leg) in omega (arith, low)
 
   -- as many rides are nested as may be at most
@@ -136,16 +136,16 @@ module _ (n : NetworkModel) (q : Query) (tables : List PlaceTable) (fit : AreFit
     | inr away ↦ by_next (λ next. height_ride rides next (λ y. height_after rides next y)) away (pick_at tables (end_of n leg) x) refl
   ]
     where
-      by_next : ((next : Leg) → height (ridden n q tables rides next) ≤ suc rides) → end_of n leg ≢ q.target.0 → (next : Option Leg)
+      by_next : ((next : Leg) → height (ride_by_rows n q tables rides next) ≤ suc rides) → end_of n leg ≢ q.target.0 → (next : Option Leg)
           → pick_at tables (end_of n leg) x ≡ next → height (next_after (suc rides) leg x) ≤ suc rides
       by_next onward away None is = rw (after-stuck (suc rides) leg x away is) (omega arith)
       by_next onward away (Some next) is = rw (after-ride rides leg x next away is) (onward next)
 
-  pub height_ridden : (rides : ℕ) (leg : Leg) → height (ridden n q tables rides leg) ≤ suc rides
+  pub height_ridden : (rides : ℕ) (leg : Leg) → height (ride_by_rows n q tables rides leg) ≤ suc rides
   height_ridden rides leg = height_ride rides leg (height_after rides leg)
 
 -- by a graph one takes the start leg
-pub unfold-start : (n : NetworkModel) (q : Query) (graph : PlanGraph) (leg : Leg) → q.source.0 ≢ q.target.0 → graph.start ≡ Some leg → unfold_plan graph n q ≡ ridden n q graph.tables (count n - 1) leg
+pub unfold-start : (n : NetworkModel) (q : Query) (graph : PlanGraph) (leg : Leg) → q.source.0 ≢ q.target.0 → graph.start ≡ Some leg → unfold_plan graph n q ≡ ride_by_rows n q graph.tables (count n - 1) leg
 unfold-start n q graph leg away is =
     rw (ne_eqb q.source.0 q.target.0 away) (ap (λ first. ride_or_stuck n (unfold_after n q.target.0 (by_place n (pick_at graph.tables)) (count n - 1)) first q.source.0 q.start.0) is)
 

@@ -11,7 +11,7 @@ use Rattle.graph_score.specs.declared.legs.GraphLeg.{GraphLeg}
 use Rattle.graph_score.specs.declared.legs.GraphLeg.TheVariants.{Start, Row}
 
 -- the places and the rows of each table rise, and no table is empty
-pub record IsRising (graph : PlanGraph) : Type 0 where
+pub record HasRisingTables (graph : PlanGraph) : Type 0 where
   pub places : AllPairs (λ a b. a.place.0 < b.place.0) graph.tables
   pub rows : All (λ table. AllPairs (λ a b. a.by.0 < b.by.0) table.rows) graph.tables
   pub some : All (λ table. 1 ≤ length table.rows) graph.tables
@@ -31,9 +31,9 @@ legs_of graph = start_leg graph.start ++ flat_map legs_in graph.tables
 
 -- a start leg may leave the source at the start or later; that of a row is taken up to its limit. Where source and target
 -- are one place no leg fits
-abbrev pub Fits : NetworkModel → Query → GraphLeg → Type 0
-Fits network query (Start leg) = IsFitStart network query leg
-Fits network query (Row place row) = (query.source.0 ≢ query.target.0) × IsFitRow network place.0 row
+abbrev pub IsFitLeg : NetworkModel → Query → GraphLeg → Type 0
+IsFitLeg network query (Start leg) = IsFitStart network query leg
+IsFitLeg network query (Row place row) = (query.source.0 ≢ query.target.0) × IsFitRow network place.0 row
 
 -- the k-th leg, where the first one is 1, does not fit, and each before it does
 pub record IsFirstWrong (network : NetworkModel) (query : Query) (legs : List GraphLeg) (k : ℕ) : Type 0 where
@@ -42,5 +42,5 @@ pub record IsFirstWrong (network : NetworkModel) (query : Query) (legs : List Gr
   pub others : List GraphLeg
   pub split : legs ≡ before ++ wrong ∷ others
   pub number : k ≡ length before + 1
-  pub fit : All (Fits network query) before
-  pub breaks : Fits network query wrong → ⊥
+  pub fit : All (IsFitLeg network query) before
+  pub breaks : IsFitLeg network query wrong → ⊥

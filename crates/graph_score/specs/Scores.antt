@@ -11,7 +11,7 @@ use Rattle.plan_graph.specs.Unfold.{unfold_plan}
 use Rattle.interval_fixed.specs.Interval.{Interval}
 use Rattle.graph_score.specs.declared.ScoreFault.{ScoreFault}
 use Rattle.graph_score.specs.declared.ScoreFault.TheVariants.{NoSuchLeg, Unsafe, NoMemory}
-use Rattle.graph_score.specs.Legs.{legs_of, Fits, IsFirstWrong}
+use Rattle.graph_score.specs.Legs.{legs_of, IsFitLeg, IsFirstWrong}
 use Rattle.graph_score.specs.Failures.{Fails, IsFirstFailure}
 use Rattle.graph_score.specs.Spans.{span_of}
 
@@ -29,7 +29,7 @@ pub record IsUnsafe (network : NetworkModel) (query : Query) (tree : Tree) (p x 
 
 -- the bounds of the graph's tree; or why it has none
 abbrev pub IsScore : NetworkModel → Query → PlanGraph → Result Interval ScoreFault → Type 0
-IsScore network query graph (Ok bounds) = All (Fits network query) (legs_of graph) × IsScored network query (unfold_plan graph network query) bounds
+IsScore network query graph (Ok bounds) = All (IsFitLeg network query) (legs_of graph) × IsScored network query (unfold_plan graph network query) bounds
 IsScore network query graph (Err (NoSuchLeg k)) = IsFirstWrong network query (legs_of graph) k
-IsScore network query graph (Err (Unsafe place moment)) = All (Fits network query) (legs_of graph) × IsUnsafe network query (unfold_plan graph network query) place.0 moment.0
+IsScore network query graph (Err (Unsafe place moment)) = All (IsFitLeg network query) (legs_of graph) × IsUnsafe network query (unfold_plan graph network query) place.0 moment.0
 IsScore network query graph (Err NoMemory) = Unit {0}

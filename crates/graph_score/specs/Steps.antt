@@ -27,19 +27,19 @@ abbrev pub is_sooner : Failure → Failure → Bool
 is_sooner a b = nat_lt a.moment.0 b.moment.0 || ((a.moment.0 == b.moment.0) && nat_lt a.place.0 b.place.0)
 
 -- the sooner of two failures
-abbrev pub sooner : Option Failure → Failure → Failure
-sooner None b = b
-sooner (Some a) b = if is_sooner b a then b else a
+abbrev pub sooner_failure : Option Failure → Failure → Failure
+sooner_failure None b = b
+sooner_failure (Some a) b = if is_sooner b a then b else a
 
 -- with what comes of one more outcome
 abbrev pub with_outlook : Option Failure → Outlook → Option Failure
 with_outlook first (Safe span) = first
-with_outlook first (Failing f) = Some (sooner first f)
+with_outlook first (Failing f) = Some (sooner_failure first f)
 
 -- the first failure of these, or one before
-abbrev pub first_of : Option Failure → List Outlook → Option Failure
-first_of first [] = first
-first_of first (kid ∷ kids) = first_of (with_outlook first kid) kids
+abbrev pub first_failure_of : Option Failure → List Outlook → Option Failure
+first_failure_of first [] = first
+first_failure_of first (kid ∷ kids) = first_failure_of (with_outlook first kid) kids
 
 -- the bounds of those that are safe
 abbrev pub spans_in : List Outlook → List Interval
@@ -53,11 +53,11 @@ mean_or row kids (Some f) = Failing f
 mean_or row kids None = Safe (mean_of row (spans_in kids))
 
 abbrev pub blended : List Outcome → List Outlook → Outlook
-blended row kids = mean_or row kids (first_of None kids)
+blended row kids = mean_or row kids (first_failure_of None kids)
 
 -- of who has arrived at the target
-abbrev pub arrived_by : ℕ → ℕ → ℕ → Outlook
-arrived_by deadline place moment = if nat_le moment deadline then Safe (exact moment) else Failing (failure place moment)
+abbrev pub arrived_outlook : ℕ → ℕ → ℕ → Outlook
+arrived_outlook deadline place moment = if nat_le moment deadline then Safe (exact moment) else Failing (failure place moment)
 
 -- where nothing is known
 abbrev pub no_outlook : Outlook
@@ -72,7 +72,7 @@ by_leg outlooks place moment (Some leg) = slice_index_or outlooks leg.exit.0 no_
 abbrev pub outlook_at : List PlaceTable → Query → List Outlook → ℕ → ℕ → Outlook
 outlook_at tables query outlooks place moment =
     if place == query.target.0
-    then arrived_by query.deadline.0 place moment
+    then arrived_outlook query.deadline.0 place moment
     else by_leg outlooks place moment (pick_at tables place moment)
 
 -- after each outcome of a connection
@@ -97,10 +97,10 @@ abbrev pub AreFitRows : NetworkModel → List PlaceTable → Type 0
 AreFitRows network tables = All (λ table. All (IsFitRow network table.place.0) table.rows) tables
 
 -- the ride of a leg, after which a traveller goes on by the rows of each place, over at most so many more rides
-abbrev pub ridden : NetworkModel → Query → List PlaceTable → ℕ → Leg → Tree
-ridden network query tables rides leg = ride_of network (unfold_after network query.target.0 (by_place network (pick_at tables)) rides) leg
+abbrev pub ride_by_rows : NetworkModel → Query → List PlaceTable → ℕ → Leg → Tree
+ride_by_rows network query tables rides leg = ride_of network (unfold_after network query.target.0 (by_place network (pick_at tables)) rides) leg
 
 -- it is known of each connection what comes of leaving by it
 abbrev pub AreOutlooks : NetworkModel → Query → List PlaceTable → List Outlook → Type 0
 AreOutlooks network query tables outlooks = (leg : Leg) → leg.exit.0 < count network
-    → IsOutlook network query (slice_index_or outlooks leg.exit.0 no_outlook) (ridden network query tables (count network - 1) leg)
+    → IsOutlook network query (slice_index_or outlooks leg.exit.0 no_outlook) (ride_by_rows network query tables (count network - 1) leg)

@@ -2,7 +2,7 @@
 ghost use Rattle.std.specs.Prelude.{◌≡◌, ℕ, ◌+◌, ◌++◌, ◌↔◌, map, IsTrue, IfOk, OnOk, IfSome, IfNone, All};
 ghost use Rattle.plan_graph.specs.Ready.{IsLegOf};
 ghost use Rattle.plan_graph.specs.Tidy.{IsFitStart, IsFitRow};
-ghost use Rattle.graph_score.specs.Legs.{Fits, IsFirstWrong, legs_of};
+ghost use Rattle.graph_score.specs.Legs.{IsFitLeg, IsFirstWrong, legs_of};
 
 use plan_graph::{GraphRow, PlanGraph};
 use plan_model::{Leg, Network, NoMemory, PlaceId, Query};
@@ -81,7 +81,7 @@ fn is_fit_start(network: &Network, query: &Query, leg: Leg) -> bool
 
 /// Whether the leg fits.
 fn fits(network: &Network, query: &Query, leg: &GraphLeg) -> bool
-    ensures { IsTrue result ↔ Fits network.now query.now leg.now }
+    ensures { IsTrue result ↔ IsFitLeg network.now query.now leg.now }
 {
     match leg {
         GraphLeg::Start(leg) => is_fit_start(network, query, *leg),
@@ -94,7 +94,7 @@ fn fits(network: &Network, query: &Query, leg: &GraphLeg) -> bool
 /// The place in the list of the first leg that does not fit.
 pub fn first_wrong(network: &Network, query: &Query, legs: &[GraphLeg]) -> Option<usize>
     ensures wrong { IfSome result (λ at. IsFirstWrong network.now query.now legs.now (at + 1)) }
-    ensures none { IfNone result (All (Fits network.now query.now) legs.now) }
+    ensures none { IfNone result (All (IsFitLeg network.now query.now) legs.now) }
 {
     for at in 0..legs.len() {
         if !fits(network, query, &legs[at]) {

@@ -7,7 +7,7 @@ ghost use Rattle.plan_model.specs.NetworkModel.{NetworkModel};
 ghost use Rattle.plan_graph.specs.declared.PlanGraph.{PlanGraph as GraphParts};
 ghost use Rattle.plan_graph.specs.Tidy.{IsFit};
 ghost use Rattle.plan_graph.specs.Unfold.{unfold_plan};
-ghost use Rattle.graph_score.specs.Legs.{IsRising, Fits, IsFirstWrong, legs_of};
+ghost use Rattle.graph_score.specs.Legs.{HasRisingTables, IsFitLeg, IsFirstWrong, legs_of};
 ghost use Rattle.graph_score.specs.Scores.{IsScore};
 ghost use Rattle.graph_score.specs.Steps.{IsOutlook};
 ghost use Rattle.interval_fixed.specs.Interval.{end_of_nanos};
@@ -43,8 +43,8 @@ fn outlook(
     network: &Network,
     query: &Query,
 ) -> Result<Outlook, NoMemory>
-    requires rising { IsRising graph.now }
-    requires fit { All (Fits network.now query.now) (legs_of graph.now) }
+    requires rising { HasRisingTables graph.now }
+    requires fit { All (IsFitLeg network.now query.now) (legs_of graph.now) }
     requires start { query.now.source.0 ≡ query.now.target.0 → query.now.start.0 < end_of_nanos }
     ensures { IfOk result (λ outlook. IsOutlook network.now query.now outlook (unfold_plan graph.now network.now query.now)) }
 {
@@ -78,7 +78,7 @@ pub fn score(
     network: &Network,
     query: &Query,
 ) -> Result<Span, ScoreFault>
-    requires rising { IsRising graph.now }
+    requires rising { HasRisingTables graph.now }
     requires start { query.now.source.0 ≡ query.now.target.0 → query.now.start.0 < end_of_nanos }
     ensures { IsScore network.now query.now graph.now result }
 {
@@ -100,8 +100,8 @@ pub fn score(
 
 /// A graph that fits its network and query rises, and each of its legs fits.
 pub fn fit_is_scored()
-    ensures rises { (n : NetworkModel) (q : QueryParts) (graph : GraphParts) → IsFit n q graph → IsRising graph }
-    ensures legs { (n : NetworkModel) (q : QueryParts) (graph : GraphParts) → IsFit n q graph → All (Fits n q) (legs_of graph) }
+    ensures rises { (n : NetworkModel) (q : QueryParts) (graph : GraphParts) → IsFit n q graph → HasRisingTables graph }
+    ensures legs { (n : NetworkModel) (q : QueryParts) (graph : GraphParts) → IsFit n q graph → All (IsFitLeg n q) (legs_of graph) }
     ensures none_wrong { (n : NetworkModel) (q : QueryParts) (graph : GraphParts) (k : ℕ) → IsFit n q graph
         → IsFirstWrong n q (legs_of graph) k → ⊥ }
 {}

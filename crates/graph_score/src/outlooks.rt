@@ -7,8 +7,8 @@ ghost use Rattle.plan_model.specs.Order.{IsScanOrder};
 ghost use Rattle.plan_model.specs.Rows.{IsValidRow};
 ghost use Rattle.interval_fixed.specs.Means.{mean_of};
 ghost use Rattle.plan_graph.specs.Rows.{pick_row, pick_at, rows_of_place};
-ghost use Rattle.graph_score.specs.Legs.{IsRising};
-ghost use Rattle.graph_score.specs.Steps.{no_outlook, is_sooner, sooner, first_of, spans_in, blended, arrived_by, outlook_at, outlooks_after, outlook_of, ExitsWithin, AreFitRows, AreOutlooks};
+ghost use Rattle.graph_score.specs.Legs.{HasRisingTables};
+ghost use Rattle.graph_score.specs.Steps.{no_outlook, is_sooner, sooner_failure, first_failure_of, spans_in, blended, arrived_outlook, outlook_at, outlooks_after, outlook_of, ExitsWithin, AreFitRows, AreOutlooks};
 ghost use Rattle.interval_fixed.specs.Interval.{end_of_nanos};
 
 use arrayvec::ArrayVec;
@@ -80,7 +80,7 @@ fn is_sooner(a: Failure, b: Failure) -> bool
 
 /// The sooner of two failures.
 fn sooner(a: Option<Failure>, b: Failure) -> Failure
-    ensures { result ≡ sooner a b }
+    ensures { result ≡ sooner_failure a b }
 {
     match a {
         None => b,
@@ -90,7 +90,7 @@ fn sooner(a: Option<Failure>, b: Failure) -> Failure
 
 /// The first of the failures that may come.
 fn first_failure(kids: &[Outlook]) -> Option<Failure>
-    ensures { result ≡ first_of Maybe.None kids.now }
+    ensures { result ≡ first_failure_of Maybe.None kids.now }
 {
     let mut first = None;
     for kid in kids {
@@ -131,7 +131,7 @@ fn blend(row: &[Outcome], kids: &[Outlook]) -> Outlook
 /// What comes of having arrived at the target.
 pub fn arrived(deadline: Moment, place: PlaceId, moment: Moment) -> Outlook
     requires { moment.0 < end_of_nanos }
-    ensures { result ≡ arrived_by deadline.0 place.0 moment.0 }
+    ensures { result ≡ arrived_outlook deadline.0 place.0 moment.0 }
 {
     if moment.0 <= deadline.0 {
         Outlook::Safe(Span::exact(moment))
@@ -148,7 +148,7 @@ fn outlook_at(
     place: PlaceId,
     moment: Moment,
 ) -> Outlook
-    requires rising { IsRising graph.now }
+    requires rising { HasRisingTables graph.now }
     requires exits { ExitsWithin graph.now.tables (length outlooks.now) }
     requires soon { moment.0 < end_of_time }
     ensures { result ≡ outlook_at graph.now.tables query.now outlooks.now place.0 moment.0 }
@@ -171,7 +171,7 @@ fn outlook_of(
     id: ConnectionId,
 ) -> Outlook
     requires valid { IsValid network.now }
-    requires rising { IsRising graph.now }
+    requires rising { HasRisingTables graph.now }
     requires exits { ExitsWithin graph.now.tables (length outlooks.now) }
     requires there { id.0 < count network.now }
     ensures { result ≡ outlook_of network.now graph.now.tables query.now outlooks.now id.0 }
@@ -197,7 +197,7 @@ pub fn fill<B: BackwardOrder>(
     requires valid { IsValid network.now }
     requires fits { B.fits order.old network.now }
     requires whole { IsScanOrder network.now (B.rest order.old network.now) }
-    requires rising { IsRising graph.now }
+    requires rising { HasRisingTables graph.now }
     requires fit { AreFitRows network.now graph.now.tables }
     requires as_many { length outlooks.old ≡ count network.now }
     ensures as_many { length outlooks.new ≡ count network.now }

@@ -7,9 +7,9 @@ use Rattle.plan_model.specs.declared.model.Outcome.{Outcome}
 use Rattle.plan_model.specs.Rows.{IsValidRow}
 use Rattle.interval_fixed.specs.Interval.{Interval}
 use Rattle.interval_fixed.specs.Means.{weighted, weighted_lo, weighted_hi, mean_of}
-use Rattle.interval_fixed.specs.Enclosures.{AreWithin, EnclosesMean}
+use Rattle.interval_fixed.specs.Enclosures.{AreEnclosed, EnclosesMean}
 
-sums_below : (row : List Outcome) (spans : List Interval) (xs : List ℕ) → AreWithin spans xs → weighted_lo row spans ≤ weighted row xs
+sums_below : (row : List Outcome) (spans : List Interval) (xs : List ℕ) → AreEnclosed spans xs → weighted_lo row spans ≤ weighted row xs
 sums_below [] spans xs within = omega arith
 sums_below (o ∷ row) [] [] within = omega arith
 sums_below (o ∷ row) (span ∷ spans) (x ∷ xs) within =
@@ -17,7 +17,7 @@ sums_below (o ∷ row) (span ∷ spans) (x ∷ xs) within =
 sums_below (o ∷ row) [] (x ∷ xs) within = absurd within
 sums_below (o ∷ row) (span ∷ spans) [] within = absurd within
 
-sums_above : (row : List Outcome) (spans : List Interval) (xs : List ℕ) → AreWithin spans xs → weighted row xs ≤ weighted_hi row spans
+sums_above : (row : List Outcome) (spans : List Interval) (xs : List ℕ) → AreEnclosed spans xs → weighted row xs ≤ weighted_hi row spans
 sums_above [] spans xs within = omega arith
 sums_above (o ∷ row) [] [] within = omega arith
 sums_above (o ∷ row) (span ∷ spans) (x ∷ xs) within =
@@ -25,7 +25,7 @@ sums_above (o ∷ row) (span ∷ spans) (x ∷ xs) within =
 sums_above (o ∷ row) [] (x ∷ xs) within = absurd within
 sums_above (o ∷ row) (span ∷ spans) [] within = absurd within
 
-pub mean_encloses : (row : List Outcome) (spans : List Interval) (xs : List ℕ) → AreWithin spans xs → EnclosesMean (mean_of row spans) row xs
+pub mean_encloses : (row : List Outcome) (spans : List Interval) (xs : List ℕ) → AreEnclosed spans xs → EnclosesMean (mean_of row spans) row xs
 mean_encloses row spans xs within =
     (omega (arith, sums_below row spans xs within), omega (arith, sums_above row spans xs within))
 

@@ -5,11 +5,11 @@ use Rattle.interval_fixed.specs.Interval.{Interval}
 use Rattle.interval_fixed.specs.Means.{weighted}
 
 -- each value is within the span that stands beside it
-abbrev pub AreWithin : List Interval → List ℕ → Type 0
-AreWithin [] [] = Unit {0}
-AreWithin (span ∷ spans) (x ∷ xs) = (span.lo ≤ x) × (x ≤ span.hi) × AreWithin spans xs
-AreWithin [] (x ∷ xs) = ⊥
-AreWithin (span ∷ spans) [] = ⊥
+abbrev pub AreEnclosed : List Interval → List ℕ → Type 0
+AreEnclosed [] [] = Unit {0}
+AreEnclosed (span ∷ spans) (x ∷ xs) = (span.lo ≤ x) × (x ≤ span.hi) × AreEnclosed spans xs
+AreEnclosed [] (x ∷ xs) = ⊥
+AreEnclosed (span ∷ spans) [] = ⊥
 
 -- the mean of the values by weight is within the span; weights are of 10,000
 abbrev pub EnclosesMean : Interval → List Outcome → List ℕ → Type 0

@@ -1,7 +1,7 @@
 //! The printed texts of departures, and of the latest moment at which one can leave.
 ghost use Rattle.std.specs.Prelude.{◌≡◌, ◌≤◌, ◌<◌, ◌++◌, map, length, All, IfOk};
 ghost use Rattle.plan_model.specs.NameLists.{NamesFit};
-ghost use Rattle.departure_table.specs.Departures.{IsDeparture};
+ghost use Rattle.departure_table.specs.Departures.{IsDepartureRow};
 ghost use Rattle.journey_model.specs.Sites.{last_printable};
 ghost use Rattle.journey_report.specs.DepartureTexts.{departures_head, departure_text, rows_text, departures_text, latest_text};
 
@@ -54,7 +54,7 @@ fn departure_text(
     departure: &DepartureRow,
 ) -> Result<Vec<u8>, NoMemory>
     requires fit { NamesFit names.now network.now }
-    requires departure { IsDeparture network.now departure.now }
+    requires departure { IsDepartureRow network.now departure.now }
     ensures { IfOk result (λ text. text.items ≡ departure_text network.now names.now departure.now) }
 {
     let _count = network.count();
@@ -91,7 +91,7 @@ pub fn departures_text(
     requires first { query.now.start.0 ≤ last_printable }
     requires last { last.0 ≤ last_printable }
     requires deadline { query.now.deadline.0 ≤ last_printable }
-    requires departures { All (IsDeparture network.now) departures.now }
+    requires departures { All (IsDepartureRow network.now) departures.now }
     ensures { IfOk result (λ text.
         text.items ≡ departures_text network.now names.now query.now last.0 departures.now) }
 {

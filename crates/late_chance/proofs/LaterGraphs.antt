@@ -5,6 +5,7 @@ use Rattle.std.specs.Prelude.{◌==◌, nat_le, if◌then◌else◌, AllPairs, M
 use Rattle.std.proofs.lemmas.Bool.{cases_lt}
 use Rattle.std.proofs.lemmas.List.{length-map}
 use Rattle.std.proofs.lemmas.Bool.Decides.{nat_tests}
+use Rattle.std.proofs.lemmas.List.Elements.{All-map, All-weaker}
 use Rattle.plan_model.specs.declared.model.Outcome.{Outcome}
 use Rattle.plan_model.specs.declared.model.Leg.{Leg}
 use Rattle.plan_model.specs.declared.model.Query.{Query}
@@ -25,6 +26,8 @@ use Rattle.plan_graph.specs.Rows.{pick_row, pick_at, rows_of_place}
 use Rattle.plan_graph.specs.Ready.{IsLegOf, Stands, StandsIn, IsFirstInTime}
 use Rattle.plan_graph.specs.Tidy.{IsFitRow, IsFitTable, IsFitStart, IsFit, IsPickedIn, IsTidy}
 use Rattle.plan_graph.specs.Unfold.{unfold_plan}
+use Rattle.plan_model.proofs.Lists.{AllPairs-map}
+use Rattle.plan_graph.proofs.Picked.{picked_leg}
 use Rattle.late_chance.specs.LaterGraphs.{later_row, later_table, later_graph, later_query, IsShown, LaterAlike}
 
 -- what the later rows pick
@@ -49,33 +52,7 @@ pick_at-later shift tables p x =
 
 -- what all elements are, what is made of them is
 all_mapped : {A B : Type 0} (f : A → B) (P : A → Type 0) (Q : B → Type 0) (xs : List A) → ((a : A) → P a → Q (f a)) → All P xs → All Q (map f xs)
-all_mapped f P Q [] to all k d h = absurd (omega arith)
-all_mapped f P Q (x ∷ xs) to all zero d h = to x (all zero x (omega arith))
-all_mapped f P Q (x ∷ xs) to all (suc k) d h = all_mapped f P Q xs to (λ j e l. all (suc j) e (omega arith)) k d (omega arith)
-
-pairs_mapped : {A B : Type 0} (f : A → B) (R : A → A → Type 0) (S : B → B → Type 0) (xs : List A) → ((a b : A) → R a b → S (f a) (f b)) → AllPairs R xs → AllPairs S (map f xs)
-pairs_mapped f R S [] to pairs i j d less h = absurd (omega arith)
-pairs_mapped f R S (x ∷ xs) to pairs i zero d less h = absurd (omega arith)
-pairs_mapped f R S (x ∷ xs) to pairs zero (suc j) d less h =
-    all_mapped f (R x) (S (f x)) xs (λ a r. to x a r) (λ k e l. pairs zero (suc k) e (omega arith) (omega arith)) j d (omega arith)
-pairs_mapped f R S (x ∷ xs) to pairs (suc i) (suc j) d less h =
-    pairs_mapped f R S xs to (λ k l e b w. pairs (suc k) (suc l) e (omega arith) (omega arith)) i j d (omega arith) (omega arith)
-
--- the leg that is picked is that of a row
-picked_leg : (P : Leg → Type 0) (rows : List GraphRow) (x : ℕ) (leg : Leg) → All (λ r. P r.leg) rows → pick_row rows x ≡ Some leg → P leg
-picked_leg P [] x leg all is = absurd (cc)
-picked_leg P (r ∷ rows) x leg all is =
-    ⊎_elim (λ gt. let test : nat_le x r.by.0 ≡ false = grind (arith, nat_tests) in picked_leg P rows x leg (λ k d h. all (suc k) d (omega arith)) (rw test at is))
-    (λ le. let test : nat_le x r.by.0 ≡ true = grind (arith, nat_tests) in let some = rw test at is in let same : r.leg ≡ leg = (cc) in subst P same (all zero r (omega arith)))
-    (cases_lt r.by.0 x)
-
-rows_of_all : (P : GraphRow → Type 0) (tables : List PlaceTable) (p : ℕ) → All (λ t. All P t.rows) tables → All P (rows_of_place tables p)
-rows_of_all P [] p all = λ k d h. absurd (omega arith)
-rows_of_all P (t ∷ tables) p all = either (t.place.0 == p) (rows_of_place tables p) (rows_of_all P tables p (λ k d h. all (suc k) d (omega arith)))
-  where
-    either : (b : Bool) (r : List GraphRow) → All P r → All P (if b then t.rows else r)
-    either true r a = all zero t (omega arith)
-    either false r a = a
+all_mapped f P Q xs to all = All-map Q f xs (All-weaker P (λ a. Q (f a)) to xs all)
 
 -- a leg that stands in a safe tree is one of the network
 module _ (n : NetworkModel) (target : ℕ) (by : Option ℕ) (leg : Leg) where
@@ -137,7 +114,7 @@ module _ (n m : NetworkModel) (shift first : ℕ) (q : Query) (shown : IsShown n
   table_later table fit = record {
     some = let s = fit.some in simp length-map (omega arith);
     rows = all_mapped (later_row shift) (IsFitRow n table.place.0) (IsFitRow m table.place.0) table.rows (row_later table.place.0) fit.rows;
-    rising = pairs_mapped (later_row shift) (λ a b. a.by.0 < b.by.0) (λ a b. a.by.0 < b.by.0) table.rows (λ a b less. omega arith) fit.rising;
+    rising = AllPairs-map (later_row shift) (λ a b. a.by.0 < b.by.0) table.rows (λ i j d before within. let less = fit.rising i j d before within in omega arith);
   }
 
   start_later : (leg : Leg) → IsFitStart n q leg → IsFitStart m (later_query shift q) leg
@@ -158,17 +135,14 @@ module _ (n m : NetworkModel) (shift first : ℕ) (q : Query) (shown : IsShown n
     fit_later fit = record {
       starts = starts_later graph.start graph.tables fit.starts;
       tables = all_mapped (later_table shift) (IsFitTable n) (IsFitTable m) graph.tables table_later fit.tables;
-      rising = pairs_mapped (later_table shift) (λ a b. a.place.0 < b.place.0) (λ a b. a.place.0 < b.place.0) graph.tables (λ a b less. less) fit.rising;
+      rising = AllPairs-map (later_table shift) (λ a b. a.place.0 < b.place.0) graph.tables fit.rising;
     }
 
     begins : IsFit n q graph → (leg : Leg) → graph.start ≡ Some leg → IsLegOf n leg
     begins fit leg is = (subst (λ (o : Option Leg). MatchOption o ((q.source.0 ≡ q.target.0) × (graph.tables ≡ [])) (IsFitStart n q)) is fit.starts).is_leg
 
     legs : IsFit n q graph → (leg : Leg) (x : ℕ) (next : Leg) → pick_at graph.tables (end_of n leg) x ≡ Some next → IsLegOf n next
-    legs fit leg x next is =
-        picked_leg (IsLegOf n) (rows_of_place graph.tables (end_of n leg)) x next
-        (rows_of_all (λ r. IsLegOf n r.leg) graph.tables (end_of n leg) (λ k d h j e l. ((fit.tables k d h).rows j e l).is_leg))
-        is
+    legs fit leg x next = picked_leg n graph.tables fit.tables (end_of n leg) x next
 
     pub unfolds : IsFit n q graph → unfold_plan (later_graph shift graph) m (later_query shift q) ≡ later_by shift (unfold_plan graph n q)
     unfolds fit =

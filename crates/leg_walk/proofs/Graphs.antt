@@ -15,7 +15,7 @@ use Rattle.plan_graph.specs.declared.Ride.{Ride}
 use Rattle.plan_graph.specs.declared.ExpandedGraph.{ExpandedGraph}
 use Rattle.plan_graph.specs.Rows.{pick_row}
 use Rattle.plan_graph.specs.Ready.{IsLegOf, IsReady, IsReadyRide, IsReadyRow, MayPrecede, IsBusy, IsPickedAfter, IsSafeForSome, IsFirstInTime, Stands, pick_in_time}
-use Rattle.leg_walk.specs.Tables.{row_by, table_of}
+use Rattle.leg_walk.specs.Tables.{row_by, table_after}
 use Rattle.leg_walk.specs.Walked.{IsWalked}
 use Rattle.plan_model.proofs.Lists.{AllPairs-nil, All-from_contains}
 use Rattle.leg_walk.proofs.Tables.{IsChosenAt, IsTableRow, Sooner, table_row, table_away, table_there, first_in_table, first_pick, in_time_for, before_for, same_next}
@@ -37,12 +37,12 @@ module _ (n : NetworkModel) (valid : IsValid n) (q : Query) (choice : Leg → �
   pub leg_of_ride : (r : Ride) → Contains rides r → IsLegOf n r.leg
   leg_of_ride r = All-contains (λ s. IsLegOf n s.leg) rides r walked.legs
 
-  pub table_of_ride : (r : Ride) → Contains rides r → r.after ≡ table_of n target choice r.leg
-  table_of_ride r = All-contains (λ s. s.after ≡ table_of n target choice s.leg) rides r walked.tables
+  pub table_of_ride : (r : Ride) → Contains rides r → r.after ≡ table_after n target choice r.leg
+  table_of_ride r = All-contains (λ s. s.after ≡ table_after n target choice s.leg) rides r walked.tables
 
   module _ (r : Ride) (there : Contains rides r) where
     own_table : List GraphRow
-    own_table = table_of n target choice r.leg
+    own_table = table_after n target choice r.leg
 
     delays : AllPairs Sooner (outcomes_of n r.leg)
     delays = delays_rise n valid r.leg (leg_of_ride r there)
@@ -100,7 +100,7 @@ module _ (n : NetworkModel) (valid : IsValid n) (q : Query) (choice : Leg → �
           } in
           subst (λ (w : GraphRow). IsReadyRow n (end_of n r.leg) w) (sym m.is) here
 
-      rows_rise : AllPairs (MayPrecede n (end_of n r.leg)) (table_of n target choice r.leg)
+      rows_rise : AllPairs (MayPrecede n (end_of n r.leg)) (table_after n target choice r.leg)
       rows_rise = elim (cases_eq (end_of n r.leg) target) [
         | inl is ↦ subst (AllPairs (MayPrecede n (end_of n r.leg))) (sym (table_there n target choice r.leg is)) (AllPairs-nil (MayPrecede n (end_of n r.leg)))
         | inr away ↦ subst (AllPairs (MayPrecede n (end_of n r.leg))) (sym (table_away n target choice r.leg away))

@@ -15,7 +15,7 @@ use Rattle.plan_model.specs.Strategy.{IsSafeFromStart}
 use Rattle.plan_model.specs.Unfold.{arrival_of, ride_of, unfold_after, unfolded}
 use Rattle.plan_graph.specs.declared.GraphRow.{GraphRow}
 use Rattle.plan_graph.specs.Ready.{IsSafeForSome, Stands}
-use Rattle.leg_walk.specs.Tables.{table_of, leg_cmp, with_leg}
+use Rattle.leg_walk.specs.Tables.{table_after, leg_cmp, with_leg}
 use Rattle.leg_walk.specs.Placed.{StandsSafely}
 use Rattle.plan_model.proofs.Lists.{Contains-nil, Contains-map, Contains-from_map}
 use Rattle.leg_walk.proofs.Sets.{Contains-insert_key, Contains-insert_key_cases, Contains-inserted_key}
@@ -30,7 +30,7 @@ Known todo seen leg = Contains todo leg ⊎ Contains seen leg
 pub record IsReaching (n : NetworkModel) (target : ℕ) (by : Option ℕ) (choice : Leg → ℕ → Option Leg) (whole : Tree) (start : Leg) (todo : List Leg) (seen : List Leg) : Type 0 where
   pub start_known : Known todo seen start
   pub placed : (leg : Leg) → Known todo seen leg → StandsSafely n target by choice whole leg
-  pub closed : (leg : Leg) → Contains seen leg → (row : GraphRow) → Contains (table_of n target choice leg) row → Known todo seen row.leg
+  pub closed : (leg : Leg) → Contains seen leg → (row : GraphRow) → Contains (table_after n target choice leg) row → Known todo seen row.leg
 
 -- the tree of a choice begins with its start leg
 pub starts_by : (n : NetworkModel) (q : Query) (choice : Leg → ℕ → Option Leg) (start : Leg) → q.source.0 ≢ q.target.0
@@ -52,7 +52,7 @@ start_placed n q choice start differ safe =
 
 module _ (n : NetworkModel) (target : ℕ) (by : Option ℕ) (choice : Leg → ℕ → Option Leg) (whole : Tree) where
   -- the leg of a row of a placed leg's table is placed
-  pub placed_row : (leg : Leg) → StandsSafely n target by choice whole leg → (row : GraphRow) → Contains (table_of n target choice leg) row → StandsSafely n target by choice whole row.leg
+  pub placed_row : (leg : Leg) → StandsSafely n target by choice whole leg → (row : GraphRow) → Contains (table_after n target choice leg) row → StandsSafely n target by choice whole row.leg
   placed_row leg placed row has =
       let at = table_row n target choice leg row has in
       let m = at.from_outcome in
@@ -77,7 +77,7 @@ module _ (n : NetworkModel) (target : ℕ) (by : Option ℕ) (choice : Leg → �
     module _ (todo after : List Leg) (seen : List Leg) (leg : Leg) (old : IsReaching n target by choice whole start (todo ++ leg ∷ []) seen)
         (keeps : (l : Leg) → Contains todo l → Contains after l)
         (only : (l : Leg) → Contains after l → Contains todo l ⊎ StandsSafely n target by choice whole l)
-        (leg_closed : (row : GraphRow) → Contains (table_of n target choice leg) row → Contains after row.leg ⊎ Known (todo ++ leg ∷ []) seen row.leg) where
+        (leg_closed : (row : GraphRow) → Contains (table_after n target choice leg) row → Contains after row.leg ⊎ Known (todo ++ leg ∷ []) seen row.leg) where
       known_on : (l : Leg) → Known (todo ++ leg ∷ []) seen l → Known after (with_leg seen leg) l
       known_on l (inl has) = elim (Contains-push_cases todo leg l has) [
         | inl a ↦ inl (keeps l a)
@@ -95,10 +95,10 @@ module _ (n : NetworkModel) (target : ℕ) (by : Option ℕ) (choice : Leg → �
         | inr is ↦ subst (λ (z : Leg). StandsSafely n target by choice whole z) is (old.placed leg (inl (Contains-push todo leg)))
       ]
 
-      all_closed : (l : Leg) → Contains (with_leg seen leg) l → (row : GraphRow) → Contains (table_of n target choice l) row → Known after (with_leg seen leg) row.leg
+      all_closed : (l : Leg) → Contains (with_leg seen leg) l → (row : GraphRow) → Contains (table_after n target choice l) row → Known after (with_leg seen leg) row.leg
       all_closed l has row there = elim (Contains-insert_key_cases leg_cmp seen leg l has) [
         | inl a ↦ known_on row.leg (old.closed l a row there)
-        | inr is ↦ elim (leg_closed row (subst (λ (z : Leg). Contains (table_of n target choice z) row) (sym is) there)) [
+        | inr is ↦ elim (leg_closed row (subst (λ (z : Leg). Contains (table_after n target choice z) row) (sym is) there)) [
           | inl h ↦ inl h
           | inr k ↦ known_on row.leg k
         ]
@@ -109,13 +109,13 @@ module _ (n : NetworkModel) (target : ℕ) (by : Option ℕ) (choice : Leg → �
 
     visited_by : (todo after : List Leg) (seen : List Leg) (leg : Leg) (test : Bool) → list_any (is_at (leg_cmp leg)) seen ≡ test
         → IsReaching n target by choice whole start (todo ++ leg ∷ []) seen
-        → MatchBool test (after ≡ todo) (after ≡ todo ++ map (λ row. row.leg) (table_of n target choice leg))
+        → MatchBool test (after ≡ todo) (after ≡ todo ++ map (λ row. row.leg) (table_after n target choice leg))
         → IsReaching n target by choice whole start after (with_leg seen leg)
     visited_by todo after seen leg true is old same =
         stepped todo after seen leg old (λ l has. subst (λ (list : List Leg). Contains list l) (sym same) has) (λ l has. inl (subst (λ (list : List Leg). Contains list l) same has))
         (λ row has. inr (old.closed leg (Contains-from_any (tells_apart leg_cmp-exact) leg seen is) row has))
     visited_by todo after seen leg false is old more =
-        let table = table_of n target choice leg in
+        let table = table_after n target choice leg in
         let legs = map (λ (row : GraphRow). row.leg) table in
         let placed = old.placed leg (inl (Contains-push todo leg)) in
         stepped todo after seen leg old (λ l has. subst (λ (list : List Leg). Contains list l) (sym more) (Contains-append_left todo legs l has))
@@ -129,7 +129,7 @@ module _ (n : NetworkModel) (target : ℕ) (by : Option ℕ) (choice : Leg → �
     -- after a visit
     pub visited : (todo after : List Leg) (seen : List Leg) (leg : Leg)
         → IsReaching n target by choice whole start (todo ++ leg ∷ []) seen
-        → MatchBool (list_any (is_at (leg_cmp leg)) seen) (after ≡ todo) (after ≡ todo ++ map (λ row. row.leg) (table_of n target choice leg))
+        → MatchBool (list_any (is_at (leg_cmp leg)) seen) (after ≡ todo) (after ≡ todo ++ map (λ row. row.leg) (table_after n target choice leg))
         → IsReaching n target by choice whole start after (with_leg seen leg)
     visited todo after seen leg old moved = visited_by todo after seen leg (list_any (is_at (leg_cmp leg)) seen) refl old moved
 

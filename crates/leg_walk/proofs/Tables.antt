@@ -12,7 +12,7 @@ use Rattle.plan_graph.specs.declared.GraphRow.{GraphRow}
 use Rattle.plan_graph.specs.Rows.{pick_row}
 use Rattle.plan_graph.specs.Ready.{IsFirstInTime, MayPrecede, is_within, pick_in_time}
 use Rattle.plan_graph.proofs.Picked.{pick_here, pick_further}
-use Rattle.leg_walk.specs.Tables.{row_by, with_row, rows_for, table_of}
+use Rattle.leg_walk.specs.Tables.{row_by, with_row, rows_for, table_after}
 use Rattle.plan_model.proofs.Lists.{Contains-nil, Contains-head, Contains-tail, Contains-cons_cases, AllPairs-nil, AllPairs-head, AllPairs-tail, AllPairs-with}
 
 some_same : (a b : Leg) → ◌≡◌ {A = Option Leg} (Some a) (Some b) → a ≡ b
@@ -198,10 +198,10 @@ module _ (choice : ℕ → Option Leg) (scheduled : ℕ) where
       rw (each head (Contains-head head os)).1 (ap (λ (list : List ℕ). (scheduled + head.delay) ∷ list) (by_for os (λ u has. each u (Contains-tail head os u has))))
 
 module _ (n : NetworkModel) (target : ℕ) (choice : Leg → ℕ → Option Leg) (leg : Leg) where
-  pub table_away : end_of n leg ≢ target → table_of n target choice leg ≡ rows_for (choice leg) (arr_of n leg.exit.0) (outcomes_of n leg)
+  pub table_away : end_of n leg ≢ target → table_after n target choice leg ≡ rows_for (choice leg) (arr_of n leg.exit.0) (outcomes_of n leg)
   table_away away = rw (ne_eqb (end_of n leg) target away)
 
-  pub table_there : end_of n leg ≡ target → table_of n target choice leg ≡ []
+  pub table_there : end_of n leg ≡ target → table_after n target choice leg ≡ []
   table_there is = rw (eq-eqb (end_of n leg) target is)
 
   -- a row of a table, by its outcome
@@ -209,7 +209,7 @@ module _ (n : NetworkModel) (target : ℕ) (choice : Leg → ℕ → Option Leg)
     pub away : end_of n leg ≢ target
     pub from_outcome : IsRowOf (choice leg) (arr_of n leg.exit.0) (outcomes_of n leg) row
 
-  pub table_row : (row : GraphRow) → Contains (table_of n target choice leg) row → IsTableRow row
+  pub table_row : (row : GraphRow) → Contains (table_after n target choice leg) row → IsTableRow row
   table_row row has = elim (cases_eq (end_of n leg) target) [
     | inl at_target ↦ absurd (Contains-nil row (subst (λ (list : List GraphRow). Contains list row) (table_there at_target) has))
     | inr away ↦ record {
@@ -221,7 +221,7 @@ module _ (n : NetworkModel) (target : ℕ) (choice : Leg → ℕ → Option Leg)
   -- the table picks what is chosen after an outcome
   pub first_in_table : AllPairs Sooner (outcomes_of n leg) → end_of n leg ≢ target → (o : Outcome) → Contains (outcomes_of n leg) o
       → (next : Leg) → choice leg (arr_of n leg.exit.0 + o.delay) ≡ Some next
-      → IsFirstInTime (table_of n target choice leg) (arr_of n leg.exit.0 + o.delay) (row_by (arr_of n leg.exit.0 + o.delay) next)
+      → IsFirstInTime (table_after n target choice leg) (arr_of n leg.exit.0 + o.delay) (row_by (arr_of n leg.exit.0 + o.delay) next)
   first_in_table rising away o has next is =
       subst (λ (list : List GraphRow). IsFirstInTime list (arr_of n leg.exit.0 + o.delay) (row_by (arr_of n leg.exit.0 + o.delay) next)) (sym (table_away away))
       (first_for (choice leg) (arr_of n leg.exit.0) (outcomes_of n leg) rising o has next is)

@@ -14,7 +14,7 @@ use Rattle.plan_graph.specs.declared.GraphRow.{GraphRow}
 use Rattle.plan_graph.specs.declared.Ride.{Ride}
 use Rattle.plan_graph.specs.Rows.{pick_row, pick_after, Precedes}
 use Rattle.plan_graph.specs.Ready.{IsLegOf, Stands}
-use Rattle.leg_walk.specs.Tables.{row_by, table_of, ride_of_leg, leg_cmp}
+use Rattle.leg_walk.specs.Tables.{row_by, table_after, ride_of_leg, leg_cmp}
 use Rattle.leg_walk.specs.Placed.{IsReached}
 use Rattle.leg_walk.specs.Walked.{IsWalked, IsTaken, HasRideOf}
 use Rattle.plan_model.proofs.Lists.{Contains-map, AllPairs-map, All-from_contains}
@@ -57,7 +57,7 @@ module _ (n : NetworkModel) (valid : IsValid n) (q : Query) (choice : Leg → �
   picks_chosen leg has away o there =
       let t = next leg has away o there in
       let x = arrival_of n leg o.delay in
-      let rows = table_of n target choice leg in
+      let rows = table_after n target choice leg in
       let first = first_in_table n target choice leg (delays_rise n valid leg (reached.placed leg has).is_leg) away o there t.next t.is_chosen in
       record {
         next = t.next;
@@ -99,7 +99,7 @@ module _ (n : NetworkModel) (valid : IsValid n) (q : Query) (choice : Leg → �
     unfolds = unfolds;
     rising = rising;
     legs = all_rides (λ r. IsLegOf n r.leg) (λ leg has. (reached.placed leg has).is_leg);
-    tables = all_rides (λ r. r.after ≡ table_of n target choice r.leg) (λ leg has. refl);
+    tables = all_rides (λ r. r.after ≡ table_after n target choice r.leg) (λ leg has. refl);
     stands = all_rides (λ r. Stands r.leg whole) (λ leg has. (reached.placed leg has).stands);
     whole = covered;
     begins = has_ride start reached.start_there;

@@ -9,7 +9,7 @@ use Rattle.plan_model.specs.Strategy.{AreSafe}
 use Rattle.plan_model.specs.Unfold.{end_of, outcomes_of, kids_after, unfold_after}
 use Rattle.plan_graph.specs.declared.GraphRow.{GraphRow}
 use Rattle.plan_graph.specs.Ready.{IsLegOf, Stands, StandsIn}
-use Rattle.leg_walk.specs.Tables.{table_of, leg_cmp}
+use Rattle.leg_walk.specs.Tables.{table_after, leg_cmp}
 
 -- what is done after a leg, over at most so many rides
 abbrev pub kids_of : NetworkModel → ℕ → (Leg → ℕ → Option Leg) → ℕ → Leg → Kids
@@ -28,5 +28,5 @@ pub record IsReached (network : NetworkModel) (target : ℕ) (choice : Leg → �
   pub deadline : Option ℕ
   pub start_there : Contains legs start
   pub placed : (leg : Leg) → Contains legs leg → StandsSafely network target deadline choice whole leg
-  pub closed : (leg : Leg) → Contains legs leg → (row : GraphRow) → Contains (table_of network target choice leg) row → Contains legs row.leg
+  pub closed : (leg : Leg) → Contains legs leg → (row : GraphRow) → Contains (table_after network target choice leg) row → Contains legs row.leg
   pub ordered : IsStrictlySortedBy leg_cmp legs

@@ -26,8 +26,8 @@ rows_for choice scheduled [] = []
 rows_for choice scheduled (o ∷ row) = with_row (scheduled + o.delay) (choice (scheduled + o.delay)) (rows_for choice scheduled row)
 
 -- the table after a leg; none at the target
-abbrev pub table_of : NetworkModel → ℕ → (Leg → ℕ → Option Leg) → Leg → List GraphRow
-table_of network target choice leg = if end_of network leg == target then [] else rows_for (choice leg) (arr_of network leg.exit.0) (outcomes_of network leg)
+abbrev pub table_after : NetworkModel → ℕ → (Leg → ℕ → Option Leg) → Leg → List GraphRow
+table_after network target choice leg = if end_of network leg == target then [] else rows_for (choice leg) (arr_of network leg.exit.0) (outcomes_of network leg)
 
 -- by entry, and then by exit
 abbrev pub leg_cmp : Leg → Leg → Ordering
@@ -39,4 +39,4 @@ with_leg legs leg = insert_key leg_cmp legs leg
 
 -- the ride of a leg, with its table
 abbrev pub ride_of_leg : NetworkModel → ℕ → (Leg → ℕ → Option Leg) → Leg → Ride
-ride_of_leg network target choice leg = record { leg = leg; after = table_of network target choice leg }
+ride_of_leg network target choice leg = record { leg = leg; after = table_after network target choice leg }

@@ -10,7 +10,7 @@ use Rattle.plan_graph.specs.declared.GraphRow.{GraphRow}
 use Rattle.plan_graph.specs.declared.Ride.{Ride}
 use Rattle.plan_graph.specs.Rows.{Precedes, pick_after}
 use Rattle.plan_graph.specs.Ready.{IsLegOf, Stands}
-use Rattle.leg_walk.specs.Tables.{table_of}
+use Rattle.leg_walk.specs.Tables.{table_after}
 
 -- a ride of the leg is among these
 abbrev pub HasRideOf : List Ride → Leg → Type 0
@@ -28,7 +28,7 @@ pub record IsWalked (network : NetworkModel) (query : Query) (choice : Leg → �
   pub unfolds : unfolded network query (pick_after rides) (Some start) ≡ unfolded network query choice (Some start)
   pub rising : AllPairs (λ a b. Precedes a.leg b.leg) rides
   pub legs : All (λ r. IsLegOf network r.leg) rides
-  pub tables : All (λ r. r.after ≡ table_of network query.target.0 choice r.leg) rides
+  pub tables : All (λ r. r.after ≡ table_after network query.target.0 choice r.leg) rides
   pub stands : All (λ r. Stands r.leg (unfolded network query choice (Some start))) rides
   pub whole : (leg : Leg) → Stands leg (unfolded network query choice (Some start)) → HasRideOf rides leg
   pub begins : HasRideOf rides start

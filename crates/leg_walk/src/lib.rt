@@ -7,7 +7,7 @@ ghost use Rattle.std.specs.BTreeSet.{contains, IsOrdered};
 ghost use Rattle.plan_model.specs.Network.{count};
 ghost use Rattle.plan_model.specs.Unfold.{unfolded};
 ghost use Rattle.plan_graph.specs.Ready.{IsSafeForSome};
-ghost use Rattle.leg_walk.specs.Tables.{table_of, ride_of_leg, leg_cmp, with_leg};
+ghost use Rattle.leg_walk.specs.Tables.{table_after, ride_of_leg, leg_cmp, with_leg};
 ghost use Rattle.leg_walk.specs.Placed.{IsReached};
 ghost use Rattle.leg_walk.specs.Walked.{IsWalked};
 
@@ -62,7 +62,7 @@ fn table<C: LegChoice>(
 ) -> Result<Vec<GraphRow>, NoMemory>
     requires fits { C.fits choice.now network.now query.now.target.0 }
     requires there { leg.exit.0 < count network.now }
-    ensures { IfOk result (λ rows. rows.items ≡ table_of network.now query.now.target.0
+    ensures { IfOk result (λ rows. rows.items ≡ table_after network.now query.now.target.0
         (C.chosen choice.now network.now) leg) }
 {
     let mut rows = Vec::new(alloc);
@@ -105,7 +105,7 @@ fn visit<C: LegChoice>(
     ensures seen { OnOk result (seen.new.keys ≡ with_leg seen.old.keys leg) }
     ensures todo { OnOk result (MatchBool (contains leg_cmp seen.old leg)
         (todo.new.items ≡ todo.old.items) (todo.new.items ≡ todo.old.items
-        ++ map (λ row. row.leg) (table_of network.now query.now.target.0
+        ++ map (λ row. row.leg) (table_after network.now query.now.target.0
         (C.chosen choice.now network.now) leg))) }
 {
     match seen.insert(leg) {

@@ -16,7 +16,7 @@ use Rattle.stop_profile.specs.declared.Row.{Row}
 use Rattle.stop_profile.specs.Inserts.{picked, Rises}
 use Rattle.trip_exit.specs.Offers.{Exit}
 use Rattle.meat_scan.specs.Found.{Found, found_rows, leg_choice, chosen_at, chosen_by}
-use Rattle.meat_scan.specs.Solves.{IsSafeAt, Answers, SolvesEach, IsStartAnswer}
+use Rattle.meat_scan.specs.Solves.{IsSafeAt, HasAnswers, SolvesEach, IsStartAnswer}
 use Rattle.meat_scan.proofs.Ways.{boards-limit_of}
 use Rattle.meat_scan.proofs.Claims.{IsChosen, ChosenKids, IsRowFor, PlaceOk, RunOk}
 use Rattle.meat_scan.proofs.Kids.{picked_in_time}
@@ -172,7 +172,7 @@ module _ {V : Type 0} (below covers : V → Tree → Type 0) (gap rank : V → �
       below_safe (Stuck at moment) safe = absurd safe
 
   -- the scan's answers
-  pub solves_end : Answers below covers gap n q found
+  pub solves_end : HasAnswers below covers gap n q found
   solves_end = record {
     begins = start_answers found.start ok.begins;
     goes_on = λ place arrival away. answers place arrival away (picked arrival (found_rows found place)) refl (ok.places place arrival);

@@ -14,16 +14,16 @@ use Rattle.plan_model.specs.Order.{IsScanOrder, IsPrefixUpTo}
 use Rattle.plan_model.specs.Tree.{Tree}
 use Rattle.value_laws.specs.ScoreLaws.{ScoreLaws}
 use Rattle.stop_profile.specs.declared.Row.{Row}
-use Rattle.stop_profile.specs.Shown.{Shown}
+use Rattle.stop_profile.specs.Shown.{ShownProfile}
 use Rattle.trip_exit.specs.Offers.{Exit}
 use Rattle.meat_scan.specs.Step.{left_by, boarded, exits_next, rows_next, start_next}
-use Rattle.meat_scan.specs.Values.{value_at, values_after, in_front}
-use Rattle.meat_scan.specs.Tables.{rows_at, exit_at, has_way, HasRoom, IsEmpty}
+use Rattle.meat_scan.specs.Values.{value_after_arrival, values_after, in_front}
+use Rattle.meat_scan.specs.Tables.{rows_of_profile, exit_at, has_way, HasRoom, IsEmpty}
 use Rattle.meat_scan.proofs.States.{ScanState, first_state, next_state, next_there}
 
 -- no value after an arrival past the deadline, where no place has rows
 no_value : {V : Type 0} (arrived : ℕ → V) (target deadline : ℕ) (rows : ℕ → List (Row V)) (place arrival : ℕ) → rows place ≡ [] → deadline < arrival
-    → value_at arrived target deadline rows place arrival ≡ None
+    → value_after_arrival arrived target deadline rows place arrival ≡ None
 no_value arrived target deadline rows place arrival none late = rw none (elim (cases_eq place target) [
   | inl at ↦ grind (arith, nat_tests)
   | inr away ↦ grind (arith, nat_tests)
@@ -66,7 +66,7 @@ module _ {V : Type 0} (rank : V → ℕ) (lowered : V → V → V) (arrived : �
   start_kept start = rw boarded_none refl
 
 -- the tables have room for less
-pub room_less : {V : Type 0} (network : NetworkModel) (rest skipped : List ConnectionId) (profiles : List (Shown V)) (exits : List (Option (Exit V)))
+pub room_less : {V : Type 0} (network : NetworkModel) (rest skipped : List ConnectionId) (profiles : List (ShownProfile V)) (exits : List (Option (Exit V)))
     (kids : List V) → HasRoom network (rest ++ skipped) profiles exits kids → HasRoom network rest profiles exits kids
 room_less network rest skipped profiles exits kids room = record {
   places = room.places;
@@ -77,7 +77,7 @@ room_less network rest skipped profiles exits kids room = record {
 
 module _ {V : Type 0} {below covers : V → Tree → Type 0} {gap rank : V → ℕ} {arrived : ℕ → V} {blended : List Outcome → List V → V}
     {lowered : V → V → V} (laws : ScoreLaws below covers gap rank arrived blended lowered) (network : NetworkModel) (good : IsValid network) (query : Query)
-    (order : List ConnectionId) (whole : IsScanOrder network order) (profiles : List (Shown V)) (exits : List (Option (Exit V))) (empty : IsEmpty profiles exits) where
+    (order : List ConnectionId) (whole : IsScanOrder network order) (profiles : List (ShownProfile V)) (exits : List (Option (Exit V))) (empty : IsEmpty profiles exits) where
   -- after the skipped ones, by induction over them
   late_state : (rest skipped : List ConnectionId) → rest ++ skipped ≡ order → All (λ id. query.deadline.0 < dep_of network id.0) skipped
       → ScanState below covers gap rank lowered arrived blended network query order rest profiles exits None
@@ -90,16 +90,16 @@ module _ {V : Type 0} {below covers : V → Tree → Type 0} {gap rank : V → �
       let after : query.deadline.0 < dep_of network id.0 = All-head (λ (i : ConnectionId). query.deadline.0 < dep_of network i.0) id skipped late in
       let there = next_there laws network good query order whole rest id profiles exits None before in
       next_state laws network good query order whole rest id profiles profiles exits exits None None before
-      (λ place. sym (rows_kept rank lowered arrived blended network good query id.0 there after (rows_at profiles) (exit_at exits) empty.no_rows empty.no_exits place))
-      (λ run. sym (exits_kept rank lowered arrived blended network good query id.0 there after (rows_at profiles) (exit_at exits) empty.no_rows empty.no_exits run))
-      (sym (start_kept rank lowered arrived blended network good query id.0 there after (rows_at profiles) (exit_at exits) empty.no_rows empty.no_exits None))
+      (λ place. sym (rows_kept rank lowered arrived blended network good query id.0 there after (rows_of_profile profiles) (exit_at exits) empty.no_rows empty.no_exits place))
+      (λ run. sym (exits_kept rank lowered arrived blended network good query id.0 there after (rows_of_profile profiles) (exit_at exits) empty.no_rows empty.no_exits run))
+      (sym (start_kept rank lowered arrived blended network good query id.0 there after (rows_of_profile profiles) (exit_at exits) empty.no_rows empty.no_exits None))
 
   -- where the scan begins
   pub skipped_state : (rest : List ConnectionId) → IsPrefixUpTo network query.deadline.0 order rest
       → ScanState below covers gap rank lowered arrived blended network query order rest profiles exits None
   skipped_state rest up_to = late_state rest up_to.skipped (sym up_to.split) up_to.late
 
-pub skipped_room : {V : Type 0} (network : NetworkModel) (last : ℕ) (order rest : List ConnectionId) (profiles : List (Shown V))
+pub skipped_room : {V : Type 0} (network : NetworkModel) (last : ℕ) (order rest : List ConnectionId) (profiles : List (ShownProfile V))
     (exits : List (Option (Exit V))) (kids : List V) → IsPrefixUpTo network last order rest → HasRoom network order profiles exits kids
     → HasRoom network rest profiles exits kids
 skipped_room network last order rest profiles exits kids up_to room =

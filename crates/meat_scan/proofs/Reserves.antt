@@ -8,9 +8,9 @@ use Rattle.plan_model.specs.declared.model.Connection.{Connection}
 use Rattle.plan_model.specs.NetworkModel.{NetworkModel}
 use Rattle.plan_model.specs.Network.{count, run_of, no_connection, IsValid}
 use Rattle.plan_model.proofs.ScanOrders.{count_in_order}
-use Rattle.stop_profile.specs.Shown.{Shown}
+use Rattle.stop_profile.specs.Shown.{ShownProfile}
 use Rattle.trip_exit.specs.Offers.{Exit}
-use Rattle.meat_scan.specs.Tables.{rows_at, spare_at, exit_at, has_way, FitsTables}
+use Rattle.meat_scan.specs.Tables.{rows_of_profile, spare_at, exit_at, has_way, FitsTables}
 
 -- one connection more is counted, where it passes
 pub count_by-take_more : (p : Connection → Bool) (connections : List Connection) (i : ℕ) → i < length connections
@@ -23,14 +23,14 @@ pub count_by-take-le : (p : Connection → Bool) (connections : List Connection)
 count_by-take-le p connections i within = omega (arith, count_by-le-length p (take i connections), length-take-le i connections within)
 
 -- an empty profile more
-pub rows_pushed : {V : Type 0} (profiles : List (Shown V)) (profile : Shown V) → ((place : ℕ) → rows_at profiles place ≡ []) → profile.rows ≡ []
-    → (place : ℕ) → rows_at (profiles ++ profile ∷ []) place ≡ []
+pub rows_pushed : {V : Type 0} (profiles : List (ShownProfile V)) (profile : ShownProfile V) → ((place : ℕ) → rows_of_profile profiles place ≡ []) → profile.rows ≡ []
+    → (place : ℕ) → rows_of_profile (profiles ++ profile ∷ []) place ≡ []
 rows_pushed [] profile empty none zero = none
 rows_pushed [] profile empty none (suc place) = refl
 rows_pushed (first ∷ profiles) profile empty none zero = empty 0
 rows_pushed (first ∷ profiles) profile empty none (suc place) = rows_pushed profiles profile (λ p. empty (suc p)) none place
 
-pub spare_pushed : {V : Type 0} (profiles : List (Shown V)) (profile : Shown V) (room : List ℕ) (i rows : ℕ) → length profiles ≡ i
+pub spare_pushed : {V : Type 0} (profiles : List (ShownProfile V)) (profile : ShownProfile V) (room : List ℕ) (i rows : ℕ) → length profiles ≡ i
     → rows ≡ get_or room i 0 → rows ≤ profile.spare → ((place : ℕ) → place < i → get_or room place 0 ≤ spare_at profiles place) → (place : ℕ)
     → place < i + 1 → get_or room place 0 ≤ spare_at (profiles ++ profile ∷ []) place
 spare_pushed {V} profiles profile room i rows long read enough before place inside = elim (cases_lt place i) [
@@ -45,10 +45,10 @@ no_exits (suc n) (suc run) = no_exits n run
 
 -- what was reserved fits the network
 pub fits : {V : Type 0} (network : NetworkModel) → IsValid network
-    → (runs : ℕ) (below : (i : ℕ) → i < count network → run_of network i < runs) (room : List ℕ) (profiles : List (Shown V))
+    → (runs : ℕ) (below : (i : ℕ) → i < count network → run_of network i < runs) (room : List ℕ) (profiles : List (ShownProfile V))
     (exits : List (Option (Exit V))) (kids : List V) → length room ≡ length network.change
     → ((place : ℕ) → place < length network.change → get_or room place 0 ≡ count_by (λ c. has_way network place c.from.0) network.connections)
-    → length profiles ≡ length room → ((place : ℕ) → rows_at profiles place ≡ [])
+    → length profiles ≡ length room → ((place : ℕ) → rows_of_profile profiles place ≡ [])
     → ((place : ℕ) → place < length room → get_or room place 0 ≤ spare_at profiles place) → exits ≡ replicate runs None → length kids ≡ 64
     → FitsTables network (record { profiles = profiles; exits = exits; kids = kids })
 fits {V} network valid runs below room profiles exits kids long counts as_many empty enough none kids_there = record {

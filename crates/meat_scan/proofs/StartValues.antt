@@ -6,10 +6,10 @@ use Rattle.plan_model.specs.declared.model.Query.{Query}
 use Rattle.plan_model.specs.NetworkModel.{NetworkModel}
 use Rattle.plan_model.specs.Tree.{Tree}
 use Rattle.plan_model.specs.Strategy.{IsSafeFor}
-use Rattle.stop_profile.specs.Shown.{Shown}
+use Rattle.stop_profile.specs.Shown.{ShownProfile}
 use Rattle.meat_scan.specs.Found.{Found, chosen_by}
 use Rattle.meat_scan.specs.Solves.{IsStartAnswer, SolvesStart}
-use Rattle.meat_scan.specs.Tables.{Tables, spare_at, capacity_at, FitsTables, IsEmpty}
+use Rattle.meat_scan.specs.Tables.{ShownTables, spare_at, capacity_at, FitsTables, IsEmpty}
 
 -- the tree that the start leg chooses is the one
 start_solved : {V : Type 0} (below covers : V → Tree → Type 0) (gap : V → ℕ) (n : NetworkModel) (q : Query) (found : Found V) (start : Option (V × Leg))
@@ -31,7 +31,7 @@ value_solved below covers gap n q found start value answer is =
     subst (SolvesStart below covers gap n q) (sym is) (start_solved below covers gap n q found start answer)
 
 -- tables with as much room, and with nothing in them, fit the network again
-pub fits_again : {V : Type 0} (network : NetworkModel) (old new : Tables V) (used : List (Shown V)) → FitsTables network old → IsEmpty new.profiles new.exits
+pub fits_again : {V : Type 0} (network : NetworkModel) (old new : ShownTables V) (used : List (ShownProfile V)) → FitsTables network old → IsEmpty new.profiles new.exits
     → ((place : ℕ) → spare_at new.profiles place ≡ capacity_at used place) → ((place : ℕ) → capacity_at used place ≡ capacity_at old.profiles place)
     → length new.profiles ≡ length network.change → length new.exits ≡ length old.exits → length new.kids ≡ length old.kids → FitsTables network new
 fits_again network old new used fit empty spare same places runs outcomes = record {

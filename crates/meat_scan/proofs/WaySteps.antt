@@ -14,7 +14,7 @@ use Rattle.plan_model.specs.Network.{IsValid}
 use Rattle.plan_model.specs.Ways.{ways_into}
 use Rattle.plan_model.proofs.Boarding.{way_of-listed, way_takes, ways_into-distinct}
 use Rattle.stop_profile.specs.declared.Row.{Row}
-use Rattle.meat_scan.specs.Step.{with_way, way_from}
+use Rattle.meat_scan.specs.Step.{with_way, way_of_place}
 use Rattle.meat_scan.specs.Tables.{has_way}
 
 -- the way from a place, in a list of them
@@ -95,16 +95,16 @@ module _ (ways : List Way) (distinct : AllPairs (λ a b. a.from.0 ≢ b.from.0) 
   -- the rows of a place after one way more
   pub rows_next : {V : Type 0} (rank : V → ℕ) (lowered : V → V → V) (target dep : ℕ) (value : V) (leg : Leg) (place : ℕ) (old now new : List (Row V))
       → now ≡ with_way rank lowered target dep value leg (way_in (take k ways) place) place old
-      → new ≡ with_way rank lowered target dep value leg (way_from way place) place now
+      → new ≡ with_way rank lowered target dep value leg (way_of_place way place) place now
       → new ≡ with_way rank lowered target dep value leg (way_in (take (k + 1) ways) place) place old
   rows_next rank lowered target dep value leg place old now new is_now is_new = elim (way_case place) [
     | comes here none some ↦
-        let from : way_from way place ≡ Some way = grind (arith, nat_tests) in
+        let from : way_of_place way place ≡ Some way = grind (arith, nat_tests) in
         let same : now ≡ old = is_now ∙ ap (λ w. with_way rank lowered target dep value leg w place old) none ∙ with_way-none rank lowered target dep value leg place old in
         is_new ∙ ap (λ w. with_way rank lowered target dep value leg w place now) from ∙ ap (with_way rank lowered target dep value leg (Some way) place) same
         ∙ ap (λ w. with_way rank lowered target dep value leg w place old) (sym some)
     | passes away same ↦
-        let from : way_from way place ≡ None = grind (arith, nat_tests) in
+        let from : way_of_place way place ≡ None = grind (arith, nat_tests) in
         is_new ∙ ap (λ w. with_way rank lowered target dep value leg w place now) from ∙ with_way-none rank lowered target dep value leg place now ∙ is_now
         ∙ ap (λ w. with_way rank lowered target dep value leg w place old) (sym same)
   ]

@@ -8,7 +8,7 @@ use Rattle.plan_model.specs.Tree.{Tree}
 use Rattle.plan_model.specs.Unfold.{unfold_from, unfolded, by_place}
 use Rattle.stop_profile.specs.declared.Row.{Row}
 use Rattle.stop_profile.specs.Inserts.{picked}
-use Rattle.meat_scan.specs.Tables.{Tables}
+use Rattle.meat_scan.specs.Tables.{ShownTables}
 
 -- the start leg with its value, the rows of each place, and the target of the scan
 pub record Found (V : Type 0) : Type 0 where
@@ -17,7 +17,7 @@ pub record Found (V : Type 0) : Type 0 where
   pub target : ℕ
 
 -- what the tables hold after a scan
-abbrev pub found_in : {V : Type 0} → Tables V → Option (V × Leg) → ℕ → Found V
+abbrev pub found_in : {V : Type 0} → ShownTables V → Option (V × Leg) → ℕ → Found V
 found_in tables start target = record { start = start; rows = map (λ profile. profile.rows) tables.profiles; target = target }
 
 -- the rows of a place

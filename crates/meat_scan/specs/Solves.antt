@@ -30,7 +30,7 @@ pub record IsStartAnswer {V : Type 0} (below covers : V → Tree → Type 0) (ga
   pub gap_within : gap start.0 ≤ count network
 
 -- the answers from the start and after each arrival at each place; none exactly where nothing is safe
-pub record Answers {V : Type 0} (below covers : V → Tree → Type 0) (gap : V → ℕ) (network : NetworkModel) (query : Query) (found : Found V) : Type 0 where
+pub record HasAnswers {V : Type 0} (below covers : V → Tree → Type 0) (gap : V → ℕ) (network : NetworkModel) (query : Query) (found : Found V) : Type 0 where
   pub begins : MatchOption found.start ((tree : Tree) → IsSafeFor network query tree → ⊥) (IsStartAnswer below covers gap network query found)
   pub goes_on : (place arrival : ℕ) → place ≢ query.target.0 →
       MatchOption (choice_of found place arrival)
@@ -44,7 +44,7 @@ pub record Solves {V : Type 0} (below covers : V → Tree → Type 0) (gap : V �
   pub source_there : query.source.0 < length network.change
   pub target_there : query.target.0 < length network.change
   pub differ : query.source.0 ≢ query.target.0
-  pub answers : Answers below covers gap network query found
+  pub answers : HasAnswers below covers gap network query found
 
 -- a strategy that the value covers is safe, and it is below each safe one, within the gap
 pub record IsStartValue {V : Type 0} (below covers : V → Tree → Type 0) (gap : V → ℕ) (network : NetworkModel) (query : Query) (value : V) : Type 0 where

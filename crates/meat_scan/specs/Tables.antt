@@ -6,24 +6,24 @@ use Rattle.plan_model.specs.Ways.{way_of}
 use Rattle.plan_model.specs.Network.{count, from_of, run_of, IsValid}
 use Rattle.plan_model.specs.Order.{IsScanOrder}
 use Rattle.stop_profile.specs.declared.Row.{Row}
-use Rattle.stop_profile.specs.Shown.{Shown}
+use Rattle.stop_profile.specs.Shown.{ShownProfile}
 use Rattle.trip_exit.specs.Offers.{Exit}
 
 -- what stands for the profile of a place that is not there
-abbrev pub no_profile : {V : Type 0} → Shown V
+abbrev pub no_profile : {V : Type 0} → ShownProfile V
 no_profile = record { spare = 0; rows = [] }
 
 -- the rows of each place
-abbrev pub rows_at : {V : Type 0} → List (Shown V) → ℕ → List (Row V)
-rows_at profiles place = (slice_index_or profiles place no_profile).rows
+abbrev pub rows_of_profile : {V : Type 0} → List (ShownProfile V) → ℕ → List (Row V)
+rows_of_profile profiles place = (slice_index_or profiles place no_profile).rows
 
 -- the room of each place
-abbrev pub spare_at : {V : Type 0} → List (Shown V) → ℕ → ℕ
+abbrev pub spare_at : {V : Type 0} → List (ShownProfile V) → ℕ → ℕ
 spare_at profiles place = (slice_index_or profiles place no_profile).spare
 
 -- how many rows each place has room for, those that it holds among them
-abbrev pub capacity_at : {V : Type 0} → List (Shown V) → ℕ → ℕ
-capacity_at profiles place = spare_at profiles place + length (rows_at profiles place)
+abbrev pub capacity_at : {V : Type 0} → List (ShownProfile V) → ℕ → ℕ
+capacity_at profiles place = spare_at profiles place + length (rows_of_profile profiles place)
 
 -- the exit of each run
 abbrev pub exit_at : {V : Type 0} → List (Option (Exit V)) → ℕ → Option (Exit V)
@@ -42,25 +42,25 @@ abbrev pub boardable : NetworkModel → ℕ → List ConnectionId → ℕ
 boardable network place ids = count_by (λ id. has_way network place (from_of network id.0)) ids
 
 -- the tables have room for the connections that are left
-pub record HasRoom {V : Type 0} (network : NetworkModel) (rest : List ConnectionId) (profiles : List (Shown V)) (exits : List (Option (Exit V))) (kids : List V) : Type 0 where
+pub record HasRoom {V : Type 0} (network : NetworkModel) (rest : List ConnectionId) (profiles : List (ShownProfile V)) (exits : List (Option (Exit V))) (kids : List V) : Type 0 where
   pub places : length profiles ≡ length network.change
   pub runs : (i : ℕ) → i < count network → run_of network i < length exits
   pub room : (place : ℕ) → place < length profiles → boardable network place rest ≤ spare_at profiles place
   pub outcomes : 64 ≤ length kids
 
 -- nothing is kept yet
-pub record IsEmpty {V : Type 0} (profiles : List (Shown V)) (exits : List (Option (Exit V))) : Type 0 where
-  pub no_rows : (place : ℕ) → rows_at profiles place ≡ []
+pub record IsEmpty {V : Type 0} (profiles : List (ShownProfile V)) (exits : List (Option (Exit V))) : Type 0 where
+  pub no_rows : (place : ℕ) → rows_of_profile profiles place ≡ []
   pub no_exits : (run : ℕ) → exit_at exits run ≡ None
 
 -- the memory of a scan, as clauses see it
-pub record Tables (V : Type 0) : Type 0 where
-  pub profiles : List (Shown V)
+pub record ShownTables (V : Type 0) : Type 0 where
+  pub profiles : List (ShownProfile V)
   pub exits : List (Option (Exit V))
   pub kids : List V
 
 -- the tables are empty, and were made for the network, which is valid
-pub record FitsTables {V : Type 0} (network : NetworkModel) (tables : Tables V) : Type 0 where
+pub record FitsTables {V : Type 0} (network : NetworkModel) (tables : ShownTables V) : Type 0 where
   pub valid : IsValid network
   pub empty : IsEmpty tables.profiles tables.exits
   pub room : (order : List ConnectionId) → IsScanOrder network order → HasRoom network order tables.profiles tables.exits tables.kids

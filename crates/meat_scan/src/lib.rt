@@ -13,13 +13,13 @@ ghost use Rattle.plan_model.specs.Bounds.{most_connections, end_of_arrivals, end
 ghost use Rattle.plan_model.specs.Network.{count, from_of, run_of, IsValid};
 ghost use Rattle.plan_model.specs.Order.{IsScanOrder};
 ghost use Rattle.std.specs.Option.{option_map};
-ghost use Rattle.meat_scan.specs.Tables.{rows_at, spare_at, capacity_at, exit_at, has_way, ways_between, FitsTables, IsEmpty};
+ghost use Rattle.meat_scan.specs.Tables.{rows_of_profile, spare_at, capacity_at, exit_at, has_way, ways_between, FitsTables, IsEmpty};
 ghost use Rattle.meat_scan.specs.Found.{choice_of, found_in};
-ghost use Rattle.meat_scan.specs.Values.{value_at, values_after};
-ghost use Rattle.meat_scan.specs.Step.{left_by, exits_with, way_from, with_way, rows_with, start_with};
+ghost use Rattle.meat_scan.specs.Values.{value_after_arrival, values_after};
+ghost use Rattle.meat_scan.specs.Step.{left_by, exits_with, way_of_place, with_way, rows_with, start_with};
 ghost use Rattle.meat_scan.specs.Step.{boarded, rows_next, exits_next};
 ghost use Rattle.meat_scan.specs.Rules.{FollowsRules};
-ghost use Rattle.meat_scan.specs.Solves.{Answers, Solves, SolvesStart};
+ghost use Rattle.meat_scan.specs.Solves.{HasAnswers, Solves, SolvesStart};
 
 use plan_model::{
     BackwardOrder, ConnectionId, Leg, Moment, Network, NoMemory, Outcome, PlaceId, Query, RunId,
@@ -41,8 +41,8 @@ fn value_after<V: Score>(
     requires place { place.0 < length profiles.now }
     requires soon { arrival.0 < end_of_time }
     ensures { let query = query.now in
-        let rows = rows_at profiles.now in
-        result ≡ value_at V.arrived query.target.0 query.deadline.0 rows place.0 arrival.0 }
+        let rows = rows_of_profile profiles.now in
+        result ≡ value_after_arrival V.arrived query.target.0 query.deadline.0 rows place.0 arrival.0 }
 {
     if place == query.target {
         if arrival <= query.deadline {
@@ -72,7 +72,7 @@ fn fill_kids<V: Score>(
     requires delays { All (λ o. o.delay ≤ seconds_per_day) row.now }
     requires room { length row.now ≤ length kids.old }
     ensures filled { let query = query.now in
-        let rows = rows_at profiles.now in
+        let rows = rows_of_profile profiles.now in
         let values = values_after V.arrived query.target.0 query.deadline.0 rows place.0 scheduled.0
         in
         MatchBool result
@@ -102,9 +102,9 @@ fn put_leg<V: Score>(
     requires from { way.from.0 < length profiles.old }
     requires room { 1 ≤ spare_at profiles.old way.from.0 }
     ensures rows { (place : ℕ) →
-        let old = rows_at profiles.old place in
-        let from = way_from way place in
-        rows_at profiles.new place ≡ with_way V.rank V.lowered target.0 dep.0 value leg from place old }
+        let old = rows_of_profile profiles.old place in
+        let from = way_of_place way place in
+        rows_of_profile profiles.new place ≡ with_way V.rank V.lowered target.0 dep.0 value leg from place old }
     ensures spare { (place : ℕ) →
         let taken = if way.from.0 == place then 1 else 0 in
         spare_at profiles.old place ≤ spare_at profiles.new place + taken }
@@ -134,8 +134,8 @@ fn board<V: Score>(
     requires room { (place : ℕ) → place < length network.now.change →
         ways_between network.now place (from_of network.now id.0) ≤ spare_at profiles.old place }
     ensures rows { (place : ℕ) →
-        let old = rows_at profiles.old in
-        rows_at profiles.new place ≡ rows_with V.rank V.lowered network.now query.now id.0 exit old place }
+        let old = rows_of_profile profiles.old in
+        rows_of_profile profiles.new place ≡ rows_with V.rank V.lowered network.now query.now id.0 exit old place }
     ensures spare { (place : ℕ) →
         let taken = ways_between network.now place (from_of network.now id.0) in
         spare_at profiles.old place ≤ spare_at profiles.new place + taken }
@@ -191,7 +191,7 @@ fn left_value<V: Score>(
     requires there { id.0 < count network.now }
     requires places { length profiles.now ≡ length network.now.change }
     requires outcomes { 64 ≤ length kids.old }
-    ensures value { let rows = rows_at profiles.now in
+    ensures value { let rows = rows_of_profile profiles.now in
         result ≡ left_by V.arrived V.blended network.now query.now rows id.0 }
     ensures len { length kids.new ≡ length kids.old }
 {
@@ -253,16 +253,16 @@ fn scan_one<V: Score>(
     requires room { (place : ℕ) → place < length network.now.change →
         ways_between network.now place (from_of network.now id.0) ≤ spare_at profiles.old place }
     ensures rows { (place : ℕ) →
-        let rows = rows_at profiles.old in
+        let rows = rows_of_profile profiles.old in
         let exits = exit_at exits.old in
-        rows_at profiles.new place
+        rows_of_profile profiles.new place
         ≡ rows_next V.rank V.lowered V.arrived V.blended network.now query.now id.0 rows exits place }
     ensures exits { (run : ℕ) →
-        let rows = rows_at profiles.old in
+        let rows = rows_of_profile profiles.old in
         let before = exit_at exits.old in
         exit_at exits.new run
         ≡ exits_next V.rank V.lowered V.arrived V.blended network.now query.now id.0 rows before run }
-    ensures exit { let rows = rows_at profiles.old in
+    ensures exit { let rows = rows_of_profile profiles.old in
         let exits = exit_at exits.old in
         let exits = exits_next V.rank V.lowered V.arrived V.blended network.now query.now id.0 rows exits in
         result ≡ boarded network.now id.0 exits }
@@ -291,9 +291,9 @@ pub struct ScanTables<V: Score> {
 }
 
 impl<V: Score> Model for ScanTables<V> {
-    ghost use Rattle.meat_scan.specs.Tables.{Tables};
+    ghost use Rattle.meat_scan.specs.Tables.{ShownTables};
 
-    ghost Value = { Tables V };
+    ghost Value = { ShownTables V };
 
     ghost view = { λ t. record {
       profiles = t.profiles.items;
@@ -375,7 +375,7 @@ fn boardable_counts(alloc: Global, network: &Network) -> Result<Vec<u32>, NoMemo
 // A profile for each place, with room for so many rows.
 fn reserve_profiles<V: Score>(alloc: Global, room: &[u32]) -> Result<Vec<Profile<V>>, NoMemory>
     ensures len { IfOk result (λ profiles. length profiles.items ≡ length room.now) }
-    ensures empty { IfOk result (λ profiles. (place : ℕ) → rows_at profiles.items place ≡ []) }
+    ensures empty { IfOk result (λ profiles. (place : ℕ) → rows_of_profile profiles.items place ≡ []) }
     ensures room { IfOk result (λ profiles. (place : ℕ) → place < length room.now →
         slice_index room.now place ≤ spare_at profiles.items place) }
 {
@@ -434,7 +434,7 @@ fn scan_all<V: Score, B: BackwardOrder>(
     requires target { query.now.target.0 < length network.now.change }
     requires differ { query.now.source.0 ≢ query.now.target.0 }
     ensures answers { let found = found_in result.0 result.1 query.now.target.0 in
-        Answers V.below V.covers V.gap network.now query.now found }
+        HasAnswers V.below V.covers V.gap network.now query.now found }
     ensures rules { let found = found_in result.0 result.1 query.now.target.0 in
         let whole = B.rest order.old network.now in
         FollowsRules V.rank V.lowered V.arrived V.blended network.now query.now whole found }
@@ -501,7 +501,7 @@ pub fn scan<V: Score, B: BackwardOrder>(
 
 // Takes out the rows of each place.
 fn clear_all<V: Score>(profiles: &mut [Profile<V>])
-    ensures empty { (place : ℕ) → rows_at profiles.new place ≡ [] }
+    ensures empty { (place : ℕ) → rows_of_profile profiles.new place ≡ [] }
     ensures spare { (place : ℕ) → spare_at profiles.new place ≡ capacity_at profiles.old place }
     ensures len { length profiles.new ≡ length profiles.old }
 {

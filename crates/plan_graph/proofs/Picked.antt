@@ -3,11 +3,14 @@ use Rattle.std.proofs.Common.{◌≡◌, ℕ, ◌<◌, ◌≤◌, true, false, L
 use Rattle.std.specs.Prelude.{nat_le}
 use Rattle.std.proofs.lemmas.Bool.{cases_lt, cases_eq}
 use Rattle.std.proofs.lemmas.Bool.Decides.{nat_tests}
-use Rattle.std.proofs.lemmas.List.Elements.{All-tail}
+use Rattle.std.proofs.lemmas.List.Elements.{All-nil, All-tail}
 use Rattle.plan_model.specs.declared.model.Leg.{Leg}
+use Rattle.plan_model.specs.NetworkModel.{NetworkModel}
 use Rattle.plan_graph.specs.declared.GraphRow.{GraphRow}
 use Rattle.plan_graph.specs.declared.PlaceTable.{PlaceTable}
-use Rattle.plan_graph.specs.Rows.{pick_row, rows_of_place, is_table_of}
+use Rattle.plan_graph.specs.Rows.{pick_row, pick_at, rows_of_place, is_table_of}
+use Rattle.plan_graph.specs.Ready.{IsLegOf}
+use Rattle.plan_graph.specs.Tidy.{IsFitRow, IsFitTable}
 
 pub pick_here : (row : GraphRow) (rows : List GraphRow) (x : ℕ) → x ≤ row.by.0 → pick_row (row ∷ rows) x ≡ Some row.leg
 pick_here row rows x soon = let e : nat_le x row.by.0 ≡ true = grind (arith, nat_tests) in rw e refl
@@ -36,3 +39,10 @@ rows_of_place-by P (table ∷ tables) p none each = elim (cases_eq table.place.0
   | inl here ↦ subst (P p) (sym (table_here table tables p here)) (subst (λ (k : ℕ). P k table.rows) here (each 0 table (omega arith)))
   | inr away ↦ subst (P p) (sym (table_further table tables p away)) (rows_of_place-by P tables p none (All-tail (λ (t : PlaceTable). P t.place.0 t.rows) table tables each))
 ]
+
+-- the leg that is picked at a place, where the tables fit
+pub picked_leg : (n : NetworkModel) (tables : List PlaceTable) → All (IsFitTable n) tables → (place x : ℕ) (leg : Leg) → pick_at tables place x ≡ Some leg → IsLegOf n leg
+picked_leg n tables fit place x leg is =
+    let rows = rows_of_place-by (λ at. All (IsFitRow n at)) tables place (All-nil (IsFitRow n place)) (λ k d within. (fit k d within).rows) in
+    let found = row_of_pick (IsFitRow n place) (rows_of_place tables place) x leg rows is in
+    subst (λ (l : Leg). IsLegOf n l) found.3 found.1.is_leg

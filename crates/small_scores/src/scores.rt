@@ -1,6 +1,6 @@
 //! Scores of graphs over three buses, and of one whose trips are many more than its legs.
 ghost use Rattle.std.specs.Prelude.{◌≡◌, ◌≢◌, ◌<◌, ◌≤◌, Some, None, IfOk, IfSome, length};
-ghost use Rattle.graph_score.specs.Legs.{IsRising};
+ghost use Rattle.graph_score.specs.Legs.{HasRisingTables};
 ghost use Rattle.interval_fixed.specs.Interval.{end_of_nanos};
 
 use graph_score::{ScoreFault, fit_is_scored, score};
@@ -53,7 +53,7 @@ pub(crate) fn later(moment: Moment, seconds: u64) -> Moment
 
 /// A graph with no table.
 fn bare(alloc: Global, start: Option<Leg>) -> PlanGraph
-    ensures { IsRising result }
+    ensures { HasRisingTables result }
 {
     PlanGraph {
         start,
@@ -63,7 +63,7 @@ fn bare(alloc: Global, start: Option<Leg>) -> PlanGraph
 
 /// A graph with one table, of B, with one row.
 fn one_row(alloc: Global, start: Option<Leg>, row: GraphRow) -> Result<PlanGraph, Fail>
-    ensures { IfOk result IsRising }
+    ensures { IfOk result HasRisingTables }
 {
     let mut rows = List::new(alloc);
     rows.push(row)?;
@@ -83,7 +83,7 @@ fn two_rows(
     second: GraphRow,
 ) -> Result<PlanGraph, Fail>
     requires { first.by.0 < second.by.0 }
-    ensures { IfOk result IsRising }
+    ensures { IfOk result HasRisingTables }
 {
     let mut rows = List::new(alloc);
     rows.push(first)?;
@@ -99,7 +99,7 @@ fn two_rows(
 /// A graph with a start leg over one connection, and with up to two rows of B: the limit of each, in seconds
 /// after eight, and its connection.
 fn graph_of(alloc: Global, start: Option<u32>, rows: &[(u32, u32)]) -> Result<PlanGraph, Fail>
-    ensures { IfOk result IsRising }
+    ensures { IfOk result HasRisingTables }
 {
     let start = match start {
         Some(id) => Some(leg(id, id)),

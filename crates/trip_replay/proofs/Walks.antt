@@ -17,7 +17,7 @@ use Rattle.plan_graph.specs.declared.PlaceTable.{PlaceTable}
 use Rattle.plan_graph.specs.Rows.{pick_at, rows_of_place}
 use Rattle.plan_graph.specs.Ready.{IsLegOf}
 use Rattle.plan_graph.specs.Tidy.{IsFitTable, IsFitRow}
-use Rattle.plan_graph.proofs.Picked.{rows_of_place-by, row_of_pick}
+use Rattle.plan_graph.proofs.Picked.{picked_leg}
 use Rattle.trip_replay.specs.declared.Ridden.{Ridden}
 use Rattle.trip_replay.specs.declared.Trace.{Trace}
 use Rattle.trip_replay.specs.declared.Stop.{Stop}
@@ -137,13 +137,6 @@ safe_answer n q tree delays (Err fault.NoMemory) is safe = tt
 safe_answer n q tree delays (Ok trace) is safe = subst (λ (r : Result Trace ReplayFault). IsSafeAnswer q.deadline.0 r) is (safe_start n q tree delays safe)
 safe_answer n q tree delays (Err (fault.Stuck place moment)) is safe = subst (λ (r : Result Trace ReplayFault). IsSafeAnswer q.deadline.0 r) is (safe_start n q tree delays safe)
 safe_answer n q tree delays (Err e) is safe = tt
-
--- what is picked at a place is a leg
-picked_leg : (n : NetworkModel) (tables : List PlaceTable) → All (IsFitTable n) tables → (place x : ℕ) (leg : Leg) → pick_at tables place x ≡ Some leg → IsLegOf n leg
-picked_leg n tables fit place x leg is =
-    let rows = rows_of_place-by (λ at. All (IsFitRow n at)) tables place (All-nil (IsFitRow n place)) (λ k d within. (fit k d within).rows) in
-    let found = row_of_pick (IsFitRow n place) (rows_of_place tables place) x leg rows is in
-    subst (λ (l : Leg). IsLegOf n l) found.3 found.1.is_leg
 
 pub next_leg : (n : NetworkModel) (tables : List PlaceTable) → All (IsFitTable n) tables → (place x left : ℕ) (found : Option Leg)
     → found ≡ pick_at tables place x → 0 < left → IfSome found (λ next. IsLegOf n next × (left - 1 < left))

@@ -4,7 +4,7 @@ use Rattle.std.proofs.lemmas.List.{take-append-le, take_all}
 use Rattle.plan_model.specs.Network.{count}
 use Rattle.std.proofs.lemmas.List.{get_or_default}
 use Rattle.graph_score.specs.declared.outlooks.Outlook.{Outlook}
-use Rattle.graph_score.specs.Steps.{IsOutlook, no_outlook, ridden}
+use Rattle.graph_score.specs.Steps.{IsOutlook, no_outlook, ride_by_rows}
 use Rattle.graph_score.proofs.GraphLegs.{rows_fit, start_fits}
 use Rattle.graph_score.proofs.Trees.{unfold-start}
 use Rattle.graph_score.proofs.outlook.Goals as goal
@@ -20,7 +20,7 @@ returns c =
     let leg = c.in-Some.start in
     let start = start_fits n q graph leg c.requires.fit c.in-Some.is in
     let there = start.is_leg.exit in
-    let tree = ridden n q graph.tables (count n - 1) leg in
+    let tree = ride_by_rows n q graph.tables (count n - 1) leg in
     let told = c.fill.ensures.right leg there in
     let list = c.as_slice.result.now in
     let kept = c.fill.new.outlooks in

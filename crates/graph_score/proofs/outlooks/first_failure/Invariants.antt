@@ -1,7 +1,7 @@
 use Rattle.std.proofs.Common.{◌≡◌, drop, None}
-use Rattle.graph_score.specs.Steps.{first_of}
+use Rattle.graph_score.specs.Steps.{first_failure_of}
 use Rattle.graph_score.proofs.outlooks.first_failure.Given as goal
 
 -- the first so far, and those that are left
 abbrev pub invariant-loop-kid : goal.invariant-loop-kid
-invariant-loop-kid l = first_of l.first (drop l.kid-index l.kids) ≡ first_of None l.kids
+invariant-loop-kid l = first_failure_of l.first (drop l.kid-index l.kids) ≡ first_failure_of None l.kids
