@@ -10,10 +10,9 @@ use Rattle.std.proofs.lemmas.Bool.{eq-eqb, lt-ltb, le-leb}
 use Rattle.csv.proofs.RoundTrip.{rows_text as text_of_rows}
 use Rattle.csv.specs.Reading.{strip_bom}
 use Rattle.clock_text.specs.Civil.{moment_text, nanos_text, last_printable}
-use Rattle.clock_text.specs.Times.{moment_at, nanos_at}
+use Rattle.clock_text.specs.Times.{moment_at}
 use Rattle.clock_text.proofs.Walk.{text_tells}
 use Rattle.clock_text.proofs.NanosLemmas.{nanos_tell}
-use Rattle.csv_rows.specs.Spaces.{trimmed}
 use Rattle.csv_rows.specs.Tables.{table_of, row_count, header}
 use Rattle.plan_model.specs.declared.model.Query.{Query}
 use Rattle.plan_model.specs.declared.model.PlaceId.{PlaceId}
@@ -21,21 +20,22 @@ use Rattle.plan_model.specs.declared.model.Moment.{Moment}
 use Rattle.plan_model.specs.NetworkModel.{NetworkModel}
 use Rattle.plan_model.specs.NameLists.{NameLists, NamesFit, AreNames}
 use Rattle.plan_model.specs.Network.{IsValid, count, run_of, step_of}
-use Rattle.printed_rows.specs.Fields.{number_of, whole_at, connection_of, rises}
+use Rattle.printed_rows.specs.Fields.{whole_at, rises}
 use Rattle.printed_rows.specs.Writers.{place_name, run_name}
-use Rattle.printed_rows.proofs.Found.{connection_number}
+use Rattle.printed_rows.proofs.Found.{connection_back}
 use Rattle.printed_rows.proofs.Lines.{records_printed}
-use Rattle.printed_rows.proofs.Plain.{moment_kept, nanos_kept, decimal_kept, whole_back, name_back, name_kept}
+use Rattle.printed_rows.proofs.Plain.{moment_kept, nanos_kept, decimal_kept, whole_back}
+use Rattle.printed_rows.proofs.Names.{place_kept, run_kept, place_back, run_back, step_kept, step_back}
 use Rattle.printed_rows.proofs.Printed.{IsKept, AreKept, seven_kept, four_kept, table_back}
 use Rattle.lower_proof.specs.declared.LowerBounds.{LowerBounds}
 use Rattle.lower_proof.specs.declared.reader.BoundsRow.{BoundsRow}
 use Rattle.lower_proof.specs.declared.reader.ValueRow.{ValueRow}
 use Rattle.lower_proof.specs.declared.reader.ProofFault.{ProofFault}
-use Rattle.lower_proof.specs.declared.reader.ProofFault.TheVariants.{Row, NotRising}
+use Rattle.lower_proof.specs.declared.reader.ProofFault.TheVariants.{Row}
 use Rattle.lower_proof.specs.Certificates.{value_of}
 use Rattle.lower_proof.specs.Texts.{bounds_record, value_record, value_records, proof_text}
-use Rattle.lower_proof.specs.Reading.{bounds_numbers, bounds_row_in, bounds_by, bounds_in, value_numbers, value_row_in, connection_by, connection_in, value_in}
-use Rattle.lower_proof.specs.Reading.{told_after, told_by, told_in, value_row, connection_before, fault_of, value_fault, IsFaultAfter, AreTold, IsTold, IsReadAs}
+use Rattle.lower_proof.specs.Reading.{bounds_numbers, bounds_row_in, bounds_in, value_numbers, value_row_in, connection_in, value_in}
+use Rattle.lower_proof.specs.Reading.{told_in, value_row, connection_before, fault_of, value_fault, IsFaultAfter, AreTold, IsTold, IsReadAs}
 use Rattle.lower_proof.specs.Reading.{IsReadBack}
 
 abbrev query_of : PlaceId → PlaceId → Moment → Moment → Query
@@ -124,25 +124,11 @@ module _ (n : NetworkModel) (names : NameLists) where
       let own = row_of_value (c + 1) values offset v is in (suc own.0, omega (arith, own.1), own.2 ∙ shifted c offset v)
 
 module _ (n : NetworkModel) (names : NameLists) (valid : IsValid n) (fit : NamesFit names n) (own : AreNames names) where
-  place_named : (place : ℕ) → place < length n.change → number_of names.places (place_name names place) ≡ Some place
-  place_named place there = name_back names.places place own.places own.place_texts (omega (arith, there, fit.places))
-
-  place_kept : (place : ℕ) → place < length n.change → trimmed (place_name names place) ≡ place_name names place
-  place_kept place there = name_kept names.places place fit.place_names (omega (arith, there, fit.places))
-
-  run_named : (c : ℕ) → c < count n → number_of names.runs (run_name names (run_of n c)) ≡ Some (run_of n c)
-  run_named c there = name_back names.runs (run_of n c) own.runs own.run_texts (fit.below c there)
-
-  connection_back : (c : ℕ) → c < count n → connection_of n (run_of n c) (step_of n c) ≡ Some c
-  connection_back c there = sym (connection_number n valid (run_of n c) (step_of n c) (Some (record { 0 = c })) (there, refl, refl) tt)
-
   -- ---- a value row
 
   record_kept : (c v : ℕ) → c < count n → IsKept (value_record n names c v)
   record_kept c v there =
-      four_kept (codes "value") (run_name names (run_of n c)) (decimal (step_of n c)) (nanos_text v) refl
-      (name_kept names.runs (run_of n c) fit.run_names (fit.below c there))
-      (decimal_kept (step_of n c) (omega (arith, (valid.connections c there).step_in))) (nanos_kept v)
+      four_kept (codes "value") (run_name names (run_of n c)) (decimal (step_of n c)) (nanos_text v) refl (run_kept n names fit c there) (step_kept n valid c there) (nanos_kept v)
 
   records_kept : (c : ℕ) (values : List (Option ℕ)) → c + length values ≤ count n → AreKept (value_records n names c values)
   records_kept c [] within = tt
@@ -153,26 +139,20 @@ module _ (n : NetworkModel) (names : NameLists) (valid : IsValid n) (fit : Names
   numbers c v = record { step = step_of n c; value = v }
 
   numbers_back : (c v : ℕ) → c < count n → v < 2 ^ 64 → value_row_in (value_record n names c v) ≡ Some (numbers c v)
-  numbers_back c v there small =
-      ap (λ (x : Option ℕ). value_numbers x (nanos_at (nanos_text v))) (whole_back (step_of n c) (omega (arith, (valid.connections c there).step_in)))
-      ∙ ap (λ (x : Option ℕ). value_numbers (Some (step_of n c)) x) (nanos_tell v small)
+  numbers_back c v there small = both _ _ (step_back n valid c there) (nanos_tell v small)
+    where
+      both : (a b : Option ℕ) → a ≡ Some (step_of n c) → b ≡ Some v → value_numbers a b ≡ Some (numbers c v)
+      both a b one two = rw (one, two) refl
 
   value_back : (c v : ℕ) → c < count n → v < 2 ^ 64 → value_in (value_record n names c v) ≡ Some v
-  value_back c v there small = ap (λ (row : Option ValueRow). option_map (λ (x : ValueRow). x.value) row) (numbers_back c v there small)
+  value_back c v there small = ap (option_map (λ (x : ValueRow). x.value)) (numbers_back c v there small)
 
   named_back : (c v : ℕ) → c < count n → v < 2 ^ 64 → connection_in n names (value_record n names c v) ≡ Some c
-  named_back c v there small =
-      ap (λ (row : Option ValueRow). connection_by n row (number_of names.runs (run_name names (run_of n c)))) (numbers_back c v there small)
-      ∙ ap (connection_by n (Some (numbers c v))) (run_named c there)
-      ∙ connection_back c there
+  named_back c v there small = rw (numbers_back c v there small, run_back n names fit own c there) (connection_back n valid c there)
 
   told_back : (c v line : ℕ) (before : Option ℕ) → c < count n → v < 2 ^ 64 → rises before c ≡ true
       → told_in n names line before (value_record n names c v) ≡ Ok (record { id = record { 0 = c }; value = v })
-  told_back c v line before there small rise =
-      ap (λ (row : Option ValueRow). told_by n line before row (number_of names.runs (run_name names (run_of n c)))) (numbers_back c v there small)
-      ∙ ap (told_by n line before (Some (numbers c v))) (run_named c there)
-      ∙ ap (told_after line before v) (connection_back c there)
-      ∙ ap (λ (test : Bool). if test then Ok (record { id = record { 0 = c }; value = v }) else Err (NotRising line)) rise
+  told_back c v line before there small rise = rw (numbers_back c v there small, run_back n names fit own c there, connection_back n valid c there, rise) refl
 
   -- ---- all of them, after a first row
 
@@ -274,7 +254,7 @@ module _ (n : NetworkModel) (names : NameLists) (valid : IsValid n) (fit : Names
     bounds_kept : IsKept (bounds_record names q values)
     bounds_kept =
         seven_kept (codes "bounds") (codes "1") (place_name names q.source.0) (place_name names q.target.0) (moment_text q.start.0) (moment_text q.deadline.0)
-        (decimal (count_by is_some values)) refl refl (place_kept q.source.0 source) (place_kept q.target.0 target) (moment_kept q.start.0) (moment_kept q.deadline.0)
+        (decimal (count_by is_some values)) refl refl (place_kept n names fit q.source.0 source) (place_kept n names fit q.target.0 target) (moment_kept q.start.0) (moment_kept q.deadline.0)
         (decimal_kept (count_by is_some values) (omega (arith, few)))
 
     abbrev bounds : BoundsRow
@@ -289,15 +269,14 @@ module _ (n : NetworkModel) (names : NameLists) (valid : IsValid n) (fit : Names
         three a b d one two more = rw (one, two, more, le-leb q.start.0 q.deadline.0 in_time) refl
 
     bounds_back : bounds_in names q.source.0 q.target.0 q.start.0 (bounds_record names q values) ≡ Ok bounds
-    bounds_back =
-        ap (λ (x : Option BoundsRow). bounds_by q.source.0 q.target.0 q.start.0 x (number_of names.places (place_name names q.source.0)) (number_of names.places (place_name names q.target.0)))
-        bounds_row_back
-        ∙ ap (λ (x : Option ℕ). bounds_by q.source.0 q.target.0 q.start.0 (Some bounds) x (number_of names.places (place_name names q.target.0))) (place_named q.source.0 source)
-        ∙ ap (bounds_by q.source.0 q.target.0 q.start.0 (Some bounds) (Some q.source.0)) (place_named q.target.0 target)
-        ∙ asked
-      where
-        asked : bounds_by q.source.0 q.target.0 q.start.0 (Some bounds) (Some q.source.0) (Some q.target.0) ≡ Ok bounds
-        asked = rw (eq-eqb q.source.0 q.source.0 refl, eq-eqb q.target.0 q.target.0 refl, eq-eqb q.start.0 q.start.0 refl) refl
+    bounds_back = rw (
+      bounds_row_back,
+      place_back n names fit own q.source.0 source,
+      place_back n names fit own q.target.0 target,
+      eq-eqb q.source.0 q.source.0 refl,
+      eq-eqb q.target.0 q.target.0 refl,
+      eq-eqb q.start.0 q.start.0 refl,
+    ) refl
 
     no_mark : (rest : List (List ℕ)) (others : List (List (List ℕ))) → strip_bom (text_of_rows ((codes "bounds" ∷ rest) ∷ others)) ≡ text_of_rows ((codes "bounds" ∷ rest) ∷ others)
     unfolding strip_bom text_of_rows
