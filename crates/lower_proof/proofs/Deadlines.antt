@@ -14,7 +14,7 @@ use Rattle.plan_model.specs.NameLists.{NameLists}
 use Rattle.printed_rows.specs.Fields.{field, whole_at, number_of, is_query}
 use Rattle.printed_rows.proofs.Chains.{if-value}
 use Rattle.lower_proof.specs.declared.reader.BoundsRow.{BoundsRow}
-use Rattle.lower_proof.specs.Reading.{bounds_numbers, is_bounds, bounds_row_in, bounds_in, IsTold}
+use Rattle.lower_proof.specs.Reading.{bounds_numbers, is_bounds, bounds_row_in, bounds_in, IsProofTold}
 
 by_numbers : (a b c : Option ℕ) (x : BoundsRow) → bounds_numbers a b c ≡ Some x → b ≡ Some x.deadline.0
 by_numbers None b c x is = absurd (cc)
@@ -35,6 +35,6 @@ row_deadline names source target start r y is =
 
 -- the deadline of a query that a text tells
 pub told_deadline : (n : NetworkModel) (names : NameLists) (source target start : ℕ) (t : List (List (List ℕ))) (q : Query) (values : List (Option ℕ))
-    → IsTold n names source target start t q values → q.deadline.0 ≤ last_printable
+    → IsProofTold n names source target start t q values → q.deadline.0 ≤ last_printable
 told_deadline n names source target start t q values is =
     subst (λ (m : Moment). m.0 ≤ last_printable) (sym is.until) (row_deadline names source target start (header t) is.bounds is.head)

@@ -2,6 +2,7 @@
 use Rattle.std.proofs.Common.{◌≡◌, ◌≢◌, ℕ, zero, suc, ◌+◌, ◌<◌, ◌≤◌, ◌^◌, Bool, true, List, [], ◌∷◌, length, Option, Some, None, Ok, Err, Result, arith, inl, inr, sym, ◌∙◌, ap, subst, refl}
 use Rattle.std.specs.Prelude.{cond, is_some, codes, decimal, if◌then◌else◌, slice_index_or}
 use Rattle.std.specs.List.{count_by}
+use Rattle.std.specs.Result.{result_err}
 use Rattle.std.specs.Option.{option_map}
 use Rattle.std.proofs.Math.Nat.{max-le}
 use Rattle.std.proofs.lemmas.List.Sums.{sum_by-cons}
@@ -32,10 +33,10 @@ use Rattle.lower_proof.specs.declared.reader.BoundsRow.{BoundsRow}
 use Rattle.lower_proof.specs.declared.reader.ValueRow.{ValueRow}
 use Rattle.lower_proof.specs.declared.reader.ProofFault.{ProofFault}
 use Rattle.lower_proof.specs.declared.reader.ProofFault.TheVariants.{Row}
-use Rattle.lower_proof.specs.Certificates.{value_of}
+use Rattle.lower_proof.specs.Certificates.{bound_of}
 use Rattle.lower_proof.specs.Texts.{bounds_record, value_record, value_records, proof_text}
-use Rattle.lower_proof.specs.Reading.{bounds_numbers, bounds_row_in, bounds_in, value_numbers, value_row_in, connection_in, value_in}
-use Rattle.lower_proof.specs.Reading.{told_in, value_row, connection_before, fault_of, value_fault, IsFaultAfter, AreTold, IsTold, IsReadAs}
+use Rattle.lower_proof.specs.Reading.{bounds_numbers, bounds_row_in, bounds_in, value_numbers, value_row_in, connection_in, nanos_in}
+use Rattle.lower_proof.specs.Reading.{told_in, value_row, connection_before, value_fault, IsFaultAfter, AreValuesTold, IsProofTold, IsProofRead}
 use Rattle.lower_proof.specs.Reading.{IsReadBack}
 
 abbrev query_of : PlaceId → PlaceId → Moment → Moment → Query
@@ -63,7 +64,7 @@ rows_many n names c [] = refl
 rows_many n names c (None ∷ values) = omega (arith, count_more None values, rows_many n names (c + 1) values)
 rows_many n names c (Some v ∷ values) = omega (arith, count_more (Some v) values, rows_many n names (c + 1) values)
 
-pub present : (values : List (Option ℕ)) (c v : ℕ) → value_of values c ≡ Some v → c < length values
+pub present : (values : List (Option ℕ)) (c v : ℕ) → bound_of values c ≡ Some v → c < length values
 present [] c v is = absurd (cc)
 present (x ∷ values) zero v is = omega arith
 present (x ∷ values) (suc c) v is = omega (arith, present values c v is)
@@ -71,13 +72,13 @@ present (x ∷ values) (suc c) v is = omega (arith, present values c v is)
 -- row k is of a connection at an offset, and of its value
 record IsRowOf (n : NetworkModel) (names : NameLists) (c : ℕ) (values : List (Option ℕ)) (k offset v : ℕ) : Type 0 where
   inside : offset < length values
-  value : value_of values offset ≡ Some v
+  value : bound_of values offset ≡ Some v
   row : slice_index_or (value_records n names c values) k [] ≡ value_record n names (c + offset) v
 
 -- row i of a table is of a connection and its value
 record TellsOf (n : NetworkModel) (names : NameLists) (t : List (List (List ℕ))) (values : List (Option ℕ)) (i c v : ℕ) : Type 0 where
   there : c < count n
-  value : value_of values c ≡ Some v
+  value : bound_of values c ≡ Some v
   row : value_row t i ≡ value_record n names c v
 
 -- the offset of row k
@@ -110,7 +111,7 @@ module _ (n : NetworkModel) (names : NameLists) where
   offsets_rise c (Some w ∷ values) (suc k) within = omega (arith, offsets_rise (c + 1) values k (omega (arith, within)))
 
   -- each value that is there has a row
-  row_of_value : (c : ℕ) (values : List (Option ℕ)) (offset v : ℕ) → value_of values offset ≡ Some v
+  row_of_value : (c : ℕ) (values : List (Option ℕ)) (offset v : ℕ) → bound_of values offset ≡ Some v
       → (k : ℕ) × (k < length (value_records n names c values)) × (slice_index_or (value_records n names c values) k [] ≡ value_record n names (c + offset) v)
   row_of_value c [] offset v is = absurd (cc)
   row_of_value c (None ∷ values) zero v is = absurd (cc)
@@ -144,7 +145,7 @@ module _ (n : NetworkModel) (names : NameLists) (valid : IsValid n) (fit : Names
       both : (a b : Option ℕ) → a ≡ Some (step_of n c) → b ≡ Some v → value_numbers a b ≡ Some (numbers c v)
       both a b one two = rw (one, two) refl
 
-  value_back : (c v : ℕ) → c < count n → v < 2 ^ 64 → value_in (value_record n names c v) ≡ Some v
+  value_back : (c v : ℕ) → c < count n → v < 2 ^ 64 → nanos_in (value_record n names c v) ≡ Some v
   value_back c v there small = ap (option_map (λ (x : ValueRow). x.value)) (numbers_back c v there small)
 
   named_back : (c v : ℕ) → c < count n → v < 2 ^ 64 → connection_in n names (value_record n names c v) ≡ Some c
@@ -156,7 +157,7 @@ module _ (n : NetworkModel) (names : NameLists) (valid : IsValid n) (fit : Names
 
   -- ---- all of them, after a first row
 
-  module _ (first : List (List ℕ)) (values : List (Option ℕ)) (as_many : length values ≡ count n) (small : (c v : ℕ) → value_of values c ≡ Some v → v < 2 ^ 64) where
+  module _ (first : List (List ℕ)) (values : List (Option ℕ)) (as_many : length values ≡ count n) (small : (c v : ℕ) → bound_of values c ≡ Some v → v < 2 ^ 64) where
     abbrev rows : List (List (List ℕ))
     rows = value_records n names 0 values
 
@@ -193,44 +194,44 @@ module _ (n : NetworkModel) (names : NameLists) (valid : IsValid n) (fit : Names
     row_faultless stated i inside within =
         let r = row_told i within in
         let c = offset_at values i in
-        ap (λ (b : Bool). if b then fault_of (told_in n names (i + 2) (connection_before n names table i) (value_row table i)) else Some (Row (i + 2))) (lt-ltb i stated inside)
-        ∙ ap (λ (fields : List (List ℕ)). fault_of (told_in n names (i + 2) (connection_before n names table i) fields)) r.1.row
-        ∙ ap fault_of (told_back c r.0 (i + 2) (connection_before n names table i) r.1.there (small c r.0 r.1.value) (row_rises i within))
+        ap (λ (b : Bool). if b then result_err (told_in n names (i + 2) (connection_before n names table i) (value_row table i)) else Some (Row (i + 2))) (lt-ltb i stated inside)
+        ∙ ap (λ (fields : List (List ℕ)). result_err (told_in n names (i + 2) (connection_before n names table i) fields)) r.1.row
+        ∙ ap result_err (told_back c r.0 (i + 2) (connection_before n names table i) r.1.there (small c r.0 r.1.value) (row_rises i within))
 
     -- each value that is there has its row
-    row_for : (c v : ℕ) → value_of values c ≡ Some v → (i : ℕ) × (i < length rows) × (value_row table i ≡ value_record n names c v)
+    row_for : (c v : ℕ) → bound_of values c ≡ Some v → (i : ℕ) × (i < length rows) × (value_row table i ≡ value_record n names c v)
     row_for c v is =
         let at = row_of_value n names 0 values c v is in
         let e : 0 + c ≡ c = omega arith in
         (at.0, at.1, row_is at.0 ∙ at.2 ∙ ap (λ (d : ℕ). value_record n names d v) e)
 
-    never_told : (c : ℕ) → ((i : ℕ) → i < length rows → connection_in n names (value_row table i) ≢ Some c) → (own_value : Option ℕ) → value_of values c ≡ own_value → own_value ≡ None
+    never_told : (c : ℕ) → ((i : ℕ) → i < length rows → connection_in n names (value_row table i) ≢ Some c) → (own_value : Option ℕ) → bound_of values c ≡ own_value → own_value ≡ None
     never_told c never None is = refl
     never_told c never (Some v) is =
         let at = row_for c v is in
         absurd (never at.0 at.1 (ap (connection_in n names) at.2 ∙ named_back c v (omega (arith, as_many, present values c v is)) (small c v is)))
 
     -- and no other values are told
-    only : (stated : ℕ) (others : List (Option ℕ)) → AreTold n names table stated others → others ≡ values
-    only stated others told = ext_get_or None others values (told.as_many ∙ sym as_many) (λ c within. same c (value_of values c) refl)
+    only : (stated : ℕ) (others : List (Option ℕ)) → AreValuesTold n names table stated others → others ≡ values
+    only stated others told = ext_get_or None others values (told.as_many ∙ sym as_many) (λ c within. same c (bound_of values c) refl)
       where
-        same : (c : ℕ) (x : Option ℕ) → value_of values c ≡ x → value_of others c ≡ value_of values c
+        same : (c : ℕ) (x : Option ℕ) → bound_of values c ≡ x → bound_of others c ≡ bound_of values c
         same c (Some v) is =
             let at = row_for c v is in
             let there : c < count n = omega (arith, as_many, present values c v is) in
             told.told at.0 c (omega (arith, at.1)) (ap (connection_in n names) at.2 ∙ named_back c v there (small c v is))
-            ∙ ap value_in at.2 ∙ value_back c v there (small c v is) ∙ sym is
+            ∙ ap nanos_in at.2 ∙ value_back c v there (small c v is) ∙ sym is
         same c None is =
             told.others c (λ i inside at.
             let within : i < length rows = omega (arith, inside) in
             let r = row_told i within in
             let both : ◌≡◌ {A = Option ℕ} (Some (offset_at values i)) (Some c) = sym (row_connection i within) ∙ at in
             let here : offset_at values i ≡ c = cc in
-            let some : ◌≡◌ {A = Option ℕ} (Some r.0) None = sym r.1.value ∙ ap (value_of values) here ∙ is in
+            let some : ◌≡◌ {A = Option ℕ} (Some r.0) None = sym r.1.value ∙ ap (bound_of values) here ∙ is in
             cc)
             ∙ sym is
 
-    all_told : AreTold n names table (count_by is_some values) values
+    all_told : AreValuesTold n names table (count_by is_some values) values
     all_told =
         let many : length rows ≡ count_by is_some values = rows_many n names 0 values in
         record {
@@ -243,8 +244,8 @@ module _ (n : NetworkModel) (names : NameLists) (valid : IsValid n) (fit : Names
               let r = row_told i inside in
               let both : ◌≡◌ {A = Option ℕ} (Some (offset_at values i)) (Some c) = sym (row_connection i inside) ∙ at in
               let same : offset_at values i ≡ c = cc in
-              ap (value_of values) (sym same) ∙ r.1.value ∙ sym (ap value_in r.1.row ∙ value_back (offset_at values i) r.0 r.1.there (small (offset_at values i) r.0 r.1.value));
-          others = λ c never. never_told c (λ i within. never i (omega (arith, within))) (value_of values c) refl;
+              ap (bound_of values) (sym same) ∙ r.1.value ∙ sym (ap nanos_in r.1.row ∙ value_back (offset_at values i) r.0 r.1.there (small (offset_at values i) r.0 r.1.value));
+          others = λ c never. never_told c (λ i within. never i (omega (arith, within))) (bound_of values c) refl;
         }
 
   -- ---- the first row
@@ -288,12 +289,12 @@ module _ (n : NetworkModel) (names : NameLists) (valid : IsValid n) (fit : Names
         ∙ table_back (bounds_record names q values ∷ value_records n names 0 values) (bounds_kept, records_kept 0 values (omega (arith, as_many))) (no_mark _ (value_records n names 0 values))
 
     -- whatever is read of the text is what was printed
-    pub reads_back : length values ≡ count n → ((c v : ℕ) → value_of values c ≡ Some v → v < 2 ^ 64)
-        → (result : Result (Query × LowerBounds) ProofFault) → IsReadAs n names q.source.0 q.target.0 q.start.0 (proof_text n names q values) result → IsReadBack q values result
+    pub reads_back : length values ≡ count n → ((c v : ℕ) → bound_of values c ≡ Some v → v < 2 ^ 64)
+        → (result : Result (Query × LowerBounds) ProofFault) → IsProofRead n names q.source.0 q.target.0 q.start.0 (proof_text n names q values) result → IsReadBack q values result
     reads_back as_many small (Ok read) is =
-        told_once read.0 read.1.values (subst (λ (t : List (List (List ℕ))). IsTold n names q.source.0 q.target.0 q.start.0 t read.0 read.1.values) (table_is as_many) is)
+        told_once read.0 read.1.values (subst (λ (t : List (List (List ℕ))). IsProofTold n names q.source.0 q.target.0 q.start.0 t read.0 read.1.values) (table_is as_many) is)
       where
-        told_once : (other : Query) (others : List (Option ℕ)) → IsTold n names q.source.0 q.target.0 q.start.0 (bounds_record names q values ∷ value_records n names 0 values) other others
+        told_once : (other : Query) (others : List (Option ℕ)) → IsProofTold n names q.source.0 q.target.0 q.start.0 (bounds_record names q values ∷ value_records n names 0 values) other others
             → (other ≡ q) × (others ≡ values)
         told_once other others told =
             let both : ◌≡◌ {A = Result BoundsRow ProofFault} (Ok told.bounds) (Ok bounds) = sym told.head ∙ bounds_back in

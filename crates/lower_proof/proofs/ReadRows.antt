@@ -2,6 +2,7 @@
 use Rattle.std.proofs.Common.{◌≡◌, ◌≢◌, ℕ, suc, ◌+◌, ◌<◌, ◌≤◌, ◌⊎◌, Bool, true, List, [], length, set, Option, Some, None, Ok, Err, Result, arith, inl, inr, sym}
 use Rattle.std.proofs.Common.{◌∙◌, ap, subst, refl, get_or-set_other, get_or-set_same}
 use Rattle.std.specs.Prelude.{max, if◌then◌else◌}
+use Rattle.std.specs.Result.{result_err}
 use Rattle.std.specs.Option.{option_map, option_and_then}
 use Rattle.std.proofs.Math.Nat.{le-max_left}
 use Rattle.std.proofs.lemmas.Bool.{cases_lt, lt-ltb, ltb-true, le-ltb}
@@ -17,14 +18,14 @@ use Rattle.lower_proof.specs.declared.reader.ValueRow.{ValueRow}
 use Rattle.lower_proof.specs.declared.reader.Told.{Told}
 use Rattle.lower_proof.specs.declared.reader.ProofFault.{ProofFault}
 use Rattle.lower_proof.specs.declared.reader.ProofFault.TheVariants.{Row}
-use Rattle.lower_proof.specs.Certificates.{value_of}
-use Rattle.lower_proof.specs.Reading.{value_row_in, connection_in, value_in, told_in, value_row, connection_before, fault_of, value_fault, IsFirstFault, AreTold}
+use Rattle.lower_proof.specs.Certificates.{bound_of}
+use Rattle.lower_proof.specs.Reading.{value_row_in, connection_in, nanos_in, told_in, value_row, connection_before, value_fault, IsFirstFault, AreValuesTold}
 
 -- ---- a row that tells
 
 record Tells (n : NetworkModel) (names : NameLists) (before : Option ℕ) (r : List (List ℕ)) (told : Told) : Type 0 where
   connection : connection_in n names r ≡ Some told.id.0
-  value : value_in r ≡ Some told.value
+  value : nanos_in r ≡ Some told.value
   rise : rises before told.id.0 ≡ true
 
 tells : (n : NetworkModel) (names : NameLists) (line : ℕ) (before : Option ℕ) (r : List (List ℕ)) (told : Told) → told_in n names line before r ≡ Ok told → Tells n names before r told
@@ -57,10 +58,10 @@ pub record IsReadTo (n : NetworkModel) (names : NameLists) (t : List (List (List
   pub before : last ≡ connection_before n names t i
   pub below : (k c : ℕ) → k < i → connection_in n names (value_row t k) ≡ Some c → (l : ℕ) × (last ≡ Some l) × (c ≤ l)
   pub as_many : length values ≡ count n
-  pub told : (k c : ℕ) → k < i → connection_in n names (value_row t k) ≡ Some c → value_of values c ≡ value_in (value_row t k)
-  pub others : (c : ℕ) → ((k : ℕ) → k < i → connection_in n names (value_row t k) ≢ Some c) → value_of values c ≡ None
+  pub told : (k c : ℕ) → k < i → connection_in n names (value_row t k) ≡ Some c → bound_of values c ≡ nanos_in (value_row t k)
+  pub others : (c : ℕ) → ((k : ℕ) → k < i → connection_in n names (value_row t k) ≢ Some c) → bound_of values c ≡ None
 
-pub read_first : (n : NetworkModel) (names : NameLists) (t : List (List (List ℕ))) (stated : ℕ) (values : List (Option ℕ)) → length values ≡ count n → ((c : ℕ) → value_of values c ≡ None)
+pub read_first : (n : NetworkModel) (names : NameLists) (t : List (List (List ℕ))) (stated : ℕ) (values : List (Option ℕ)) → length values ≡ count n → ((c : ℕ) → bound_of values c ≡ None)
     → IsReadTo n names t stated 0 values None
 read_first n names t stated values as_many none = record {
   rows = omega arith;
@@ -75,11 +76,11 @@ read_first n names t stated values as_many none = record {
 
 -- the fault of row i, by what it tells after the row before
 fault_is : (n : NetworkModel) (names : NameLists) (t : List (List (List ℕ))) (stated i : ℕ) (last : Option ℕ) (told : Result Told ProofFault) → i < stated → last ≡ connection_before n names t i
-    → told ≡ told_in n names (i + 2) last (value_row t i) → value_fault n names t stated i ≡ fault_of told
+    → told ≡ told_in n names (i + 2) last (value_row t i) → value_fault n names t stated i ≡ result_err told
 fault_is n names t stated i last told inside before is =
-    ap (λ (b : Bool). if b then fault_of (told_in n names (i + 2) (connection_before n names t i) (value_row t i)) else Some (Row (i + 2))) (lt-ltb i stated inside)
-    ∙ ap (λ (x : Option ℕ). fault_of (told_in n names (i + 2) x (value_row t i))) (sym before)
-    ∙ ap fault_of (sym is)
+    ap (λ (b : Bool). if b then result_err (told_in n names (i + 2) (connection_before n names t i) (value_row t i)) else Some (Row (i + 2))) (lt-ltb i stated inside)
+    ∙ ap (λ (x : Option ℕ). result_err (told_in n names (i + 2) x (value_row t i))) (sym before)
+    ∙ ap result_err (sym is)
 
 module _ (n : NetworkModel) (names : NameLists) (t : List (List (List ℕ))) (stated i : ℕ) (values : List (Option ℕ)) (last : Option ℕ) (so_far : IsReadTo n names t stated i values last) where
   below_or_here : (k : ℕ) → k < i + 1 → (k < i) ⊎ (k ≡ i)
@@ -104,8 +105,8 @@ module _ (n : NetworkModel) (names : NameLists) (t : List (List (List ℕ))) (st
     told = λ k d less at. elim (below_or_here k less) [
       | inl own ↦ get_or-set_other values c d (Some told.value) None (λ e. fresh k own (at ∙ ap Some e)) ∙ so_far.told k d own at
       | inr same ↦
-          subst (λ (m : ℕ). value_of (set values c (Some told.value)) d ≡ value_in (value_row t m)) (sym same)
-          (subst (λ (m : ℕ). value_of (set values c (Some told.value)) m ≡ value_in (value_row t i)) (sym (named k d same at)) (stored ∙ sym own_row.value))
+          subst (λ (m : ℕ). bound_of (set values c (Some told.value)) d ≡ nanos_in (value_row t m)) (sym same)
+          (subst (λ (m : ℕ). bound_of (set values c (Some told.value)) m ≡ nanos_in (value_row t i)) (sym (named k d same at)) (stored ∙ sym own_row.value))
     ];
     others = λ d never.
         get_or-set_other values c d (Some told.value) None (λ e. never i (omega arith) (own_row.connection ∙ ap Some (sym e)))
@@ -127,7 +128,7 @@ module _ (n : NetworkModel) (names : NameLists) (t : List (List (List ℕ))) (st
           let both : ◌≡◌ {A = Option ℕ} (Some d) (Some c) = sym at_i ∙ own_row.connection in
           cc
 
-      stored : value_of (set values c (Some told.value)) c ≡ Some told.value
+      stored : bound_of (set values c (Some told.value)) c ≡ Some told.value
       stored = get_or-set_same values c (Some told.value) None (omega (arith, there, so_far.as_many))
 
   -- row i has a fault
@@ -147,7 +148,7 @@ module _ (n : NetworkModel) (names : NameLists) (t : List (List (List ℕ))) (st
     within = within;
     here = elim (cases_lt i stated) [
       | inr too_many ↦
-          ap (λ (b : Bool). if b then fault_of (told_in n names (i + 2) (connection_before n names t i) (value_row t i)) else Some (Row (i + 2))) (le-ltb i stated too_many)
+          ap (λ (b : Bool). if b then result_err (told_in n names (i + 2) (connection_before n names t i) (value_row t i)) else Some (Row (i + 2))) (le-ltb i stated too_many)
       | inl stated_more ↦ missing stated_more (elim ends [ inl past ↦ past | inr more ↦ absurd (omega (arith, more, stated_more)) ])
     ];
     first = so_far.faultless;
@@ -155,11 +156,11 @@ module _ (n : NetworkModel) (names : NameLists) (t : List (List (List ℕ))) (st
     where
       missing : i < stated → row_count t ≤ i → value_fault n names t stated i ≡ Some (Row (i + 2))
       missing inside past =
-          ap (λ (b : Bool). if b then fault_of (told_in n names (i + 2) (connection_before n names t i) (value_row t i)) else Some (Row (i + 2))) (lt-ltb i stated inside)
-          ∙ ap (λ (r : List (List ℕ)). fault_of (told_in n names (i + 2) (connection_before n names t i) r)) (get_or_past t (i + 1) [] (omega (arith, past)))
+          ap (λ (b : Bool). if b then result_err (told_in n names (i + 2) (connection_before n names t i) (value_row t i)) else Some (Row (i + 2))) (lt-ltb i stated inside)
+          ∙ ap (λ (r : List (List ℕ)). result_err (told_in n names (i + 2) (connection_before n names t i) r)) (get_or_past t (i + 1) [] (omega (arith, past)))
 
   -- all rows
-  pub read_all : max (row_count t) stated ≤ i → AreTold n names t stated values
+  pub read_all : max (row_count t) stated ≤ i → AreValuesTold n names t stated values
   read_all whole =
       let all : i ≡ row_count t = omega (arith, le-max_left (row_count t) stated, so_far.rows, whole) in
       record {

@@ -1,6 +1,7 @@
 -- What the text of a certificate tells, or the first of its faults by line. Value row i stands in line i + 2.
 use Rattle.std.specs.Prelude.{◌≡◌, ◌≢◌, ℕ, zero, suc, ◌+◌, ◌<◌, Bool, List, [], length, ◌&&◌, ◌⊎◌, nat_le, nat_lt, max, if◌then◌else◌, slice_index_or, codes, Option, Some, None, Result, Ok, Err}
 use Rattle.std.specs.Option.{option_map, option_and_then}
+use Rattle.std.specs.Result.{result_err}
 use Rattle.std.specs.Str.{bytes_eq}
 use Rattle.clock_text.specs.Times.{moment_at, nanos_at}
 use Rattle.csv_rows.specs.Tables.{table_of, header, row_count}
@@ -16,7 +17,7 @@ use Rattle.lower_proof.specs.declared.reader.ValueRow.{ValueRow}
 use Rattle.lower_proof.specs.declared.reader.Told.{Told}
 use Rattle.lower_proof.specs.declared.reader.ProofFault.{ProofFault}
 use Rattle.lower_proof.specs.declared.reader.ProofFault.TheVariants.{Row, UnknownName, NoConnection, NotRising, OtherQuery, NoMemory}
-use Rattle.lower_proof.specs.Certificates.{value_of}
+use Rattle.lower_proof.specs.Certificates.{bound_of}
 
 -- ---- the first row
 
@@ -59,8 +60,8 @@ abbrev pub connection_in : NetworkModel → NameLists → List (List ℕ) → Op
 connection_in network names r = option_and_then (λ x. option_and_then (λ run. connection_of network run x.step) (number_of names.runs (field r 1))) (value_row_in r)
 
 -- and its value
-abbrev pub value_in : List (List ℕ) → Option ℕ
-value_in r = option_map (λ x. x.value) (value_row_in r)
+abbrev pub nanos_in : List (List ℕ) → Option ℕ
+nanos_in r = option_map (λ x. x.value) (value_row_in r)
 
 -- what a value row tells after one of an earlier connection, or the first of its faults
 abbrev pub told_in : NetworkModel → NameLists → ℕ → Option ℕ → List (List ℕ) → Result Told ProofFault
@@ -81,14 +82,10 @@ abbrev pub connection_before : NetworkModel → NameLists → List (List (List �
 connection_before network names t zero = None
 connection_before network names t (suc i) = connection_in network names (value_row t i)
 
-abbrev pub fault_of : Result Told ProofFault → Option ProofFault
-fault_of (Ok told) = None
-fault_of (Err fault) = Some fault
-
 -- the first fault of value row i, of which the first row states so many
 abbrev pub value_fault : NetworkModel → NameLists → List (List (List ℕ)) → ℕ → ℕ → Option ProofFault
 value_fault network names t stated i =
-    if nat_lt i stated then fault_of (told_in network names (i + 2) (connection_before network names t i) (value_row t i)) else Some (Row (i + 2))
+    if nat_lt i stated then result_err (told_in network names (i + 2) (connection_before network names t i) (value_row t i)) else Some (Row (i + 2))
 
 -- it is that of a value row, or of one that is missing, and no line before has one
 pub record IsFirstFault (network : NetworkModel) (names : NameLists) (t : List (List (List ℕ))) (stated : ℕ) (fault : ProofFault) : Type 0 where
@@ -103,26 +100,26 @@ IsFaultAfter network names t (Ok bounds) fault = IsFirstFault network names t bo
 IsFaultAfter network names t (Err first) fault = first ≡ fault
 
 -- no line has a fault, and the values are those of the value rows
-pub record AreTold (network : NetworkModel) (names : NameLists) (t : List (List (List ℕ))) (stated : ℕ) (values : List (Option ℕ)) : Type 0 where
+pub record AreValuesTold (network : NetworkModel) (names : NameLists) (t : List (List (List ℕ))) (stated : ℕ) (values : List (Option ℕ)) : Type 0 where
   pub faultless : (i : ℕ) → i < max (row_count t) stated → value_fault network names t stated i ≡ None
   pub as_many : length values ≡ count network
-  pub told : (i c : ℕ) → i < row_count t → connection_in network names (value_row t i) ≡ Some c → value_of values c ≡ value_in (value_row t i)
-  pub others : (c : ℕ) → ((i : ℕ) → i < row_count t → connection_in network names (value_row t i) ≢ Some c) → value_of values c ≡ None
+  pub told : (i c : ℕ) → i < row_count t → connection_in network names (value_row t i) ≡ Some c → bound_of values c ≡ nanos_in (value_row t i)
+  pub others : (c : ℕ) → ((i : ℕ) → i < row_count t → connection_in network names (value_row t i) ≢ Some c) → bound_of values c ≡ None
 
 -- the query has the source, the target and the start, and the deadline of the first row
-pub record IsTold (network : NetworkModel) (names : NameLists) (source target start : ℕ) (t : List (List (List ℕ))) (query : Query) (values : List (Option ℕ)) : Type 0 where
+pub record IsProofTold (network : NetworkModel) (names : NameLists) (source target start : ℕ) (t : List (List (List ℕ))) (query : Query) (values : List (Option ℕ)) : Type 0 where
   pub bounds : BoundsRow
   pub head : bounds_in names source target start (header t) ≡ Ok bounds
   pub from : query.source.0 ≡ source
   pub to : query.target.0 ≡ target
   pub since : query.start.0 ≡ start
   pub until : query.deadline ≡ bounds.deadline
-  pub told : AreTold network names t bounds.number values
+  pub told : AreValuesTold network names t bounds.number values
 
 -- what is read of a text, of this source, target and start: a query and values, or the first fault, or there was no memory
-abbrev pub IsReadAs : NetworkModel → NameLists → ℕ → ℕ → ℕ → List ℕ → Result (Query × LowerBounds) ProofFault → Type 0
-IsReadAs network names source target start text (Ok read) = IsTold network names source target start (table_of text) read.0 read.1.values
-IsReadAs network names source target start text (Err fault) =
+abbrev pub IsProofRead : NetworkModel → NameLists → ℕ → ℕ → ℕ → List ℕ → Result (Query × LowerBounds) ProofFault → Type 0
+IsProofRead network names source target start text (Ok read) = IsProofTold network names source target start (table_of text) read.0 read.1.values
+IsProofRead network names source target start text (Err fault) =
     (fault ≡ NoMemory) ⊎ IsFaultAfter network names (table_of text) (bounds_in names source target start (header (table_of text))) fault
 
 -- it is this query and these values, unless there was no memory
@@ -133,4 +130,4 @@ IsReadBack query values (Err fault) = fault ≡ NoMemory
 -- whatever is read of the text for this query's source, target and start
 abbrev pub ReadsBack : NetworkModel → NameLists → Query → List (Option ℕ) → List ℕ → Type 0
 ReadsBack network names query values text = (result : Result (Query × LowerBounds) ProofFault)
-    → IsReadAs network names query.source.0 query.target.0 query.start.0 text result → IsReadBack query values result
+    → IsProofRead network names query.source.0 query.target.0 query.start.0 text result → IsReadBack query values result

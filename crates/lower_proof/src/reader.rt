@@ -3,7 +3,7 @@ ghost use Rattle.std.specs.Prelude.{◌≡◌, ◌+◌, ◌<◌, ◌⊎◌, [], 
 ghost use Rattle.std.specs.Result.{IfErr};
 ghost use Rattle.csv_rows.specs.Tables.{header, row_count};
 ghost use Rattle.plan_model.specs.Network.{count};
-ghost use Rattle.lower_proof.specs.Reading.{is_bounds, bounds_row_in, bounds_in, value_row_in, told_in, IsFirstFault, AreTold, IsReadAs};
+ghost use Rattle.lower_proof.specs.Reading.{is_bounds, bounds_row_in, bounds_in, value_row_in, told_in, IsFirstFault, AreValuesTold, IsProofRead};
 
 use crate::{LowerBounds, no_values};
 use clock_text::{read_moment, read_nanos};
@@ -166,7 +166,7 @@ fn read_values(
     names: &Names,
     stated: u32,
 ) -> Result<Vec<Option<u64>>, ProofFault>
-    ensures told { IfOk result (λ values. AreTold network.now names.now rows.now stated values.items) }
+    ensures told { IfOk result (λ values. AreValuesTold network.now names.now rows.now stated values.items) }
     ensures fault { IfErr result (λ fault. (fault ≡ ProofFault.NoMemory) ⊎ IsFirstFault network.now names.now rows.now stated fault) }
 {
     let mut values = match no_values(alloc, network) {
@@ -199,7 +199,7 @@ pub fn read_text(
     target: PlaceId,
     start: Moment,
 ) -> Result<(Query, LowerBounds), ProofFault>
-    ensures { IsReadAs network.now names.now source.0 target.0 start.0 bytes.now result }
+    ensures { IsProofRead network.now names.now source.0 target.0 start.0 bytes.now result }
 {
     let rows = match Rows::read(alloc, bytes) {
         Ok(rows) => rows,

@@ -6,7 +6,7 @@ use Rattle.std.proofs.lemmas.Result.{IfOk-weaker}
 use Rattle.std.proofs.lemmas.List.Sums.{count_by-le-length}
 use Rattle.printed_rows.specs.Writers.{written}
 use Rattle.lower_proof.specs.Steps.{AllFit}
-use Rattle.lower_proof.specs.Reading.{IsReadAs, ReadsBack}
+use Rattle.lower_proof.specs.Reading.{IsProofRead, ReadsBack}
 use Rattle.lower_proof.specs.Texts.{proof_text}
 use Rattle.lower_proof.proofs.Printed.{text_is}
 use Rattle.lower_proof.proofs.ReadBack.{present, reads_back}
@@ -34,5 +34,5 @@ returns-clause-reads_back c =
     (λ text is in_time result read.
     reads_back n names valid c.requires.names c.places-places.ensures.names q values c.requires.source c.requires.target c.requires.start c.requires.deadline in_time few
     c.requires.as_many (λ x v at. fit x v (present values x v at) at) result
-    (subst (λ (bytes : List ℕ). IsReadAs n names q.source.0 q.target.0 q.start.0 bytes result) is read))
+    (subst (λ (bytes : List ℕ). IsProofRead n names q.source.0 q.target.0 q.start.0 bytes result) is read))
     (returns-clause-text c)
