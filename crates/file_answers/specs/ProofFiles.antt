@@ -6,7 +6,7 @@ use Rattle.csv_rows.specs.declared.limits.Limits.{Limits}
 use Rattle.plan_model.specs.declared.model.Query.{Query}
 use Rattle.lower_proof.specs.declared.LowerBounds.{LowerBounds}
 use Rattle.lower_proof.specs.declared.reader.ProofFault.{ProofFault}
-use Rattle.lower_proof.specs.Reading.{bounds_in, IsFaultAfter, IsTold}
+use Rattle.lower_proof.specs.Reading.{bounds_in, IsFaultAfter, IsProofTold}
 use Rattle.journey_model.specs.declared.faults.Input.TheVariants as input
 use Rattle.journey_model.specs.declared.faults.Fault.{Fault}
 use Rattle.journey_model.specs.declared.faults.Fault.TheVariants.{ProofFile}
@@ -18,7 +18,7 @@ use Rattle.input_files.specs.Files.{bytes_of}
 
 -- a text tells this query and this certificate, of the problem's source and target and from a start on
 abbrev pub TellsProof : Problem → ℕ → List ℕ → Query → LowerBounds → Type 0
-TellsProof p start text query proof = IsTold p.network p.names p.source.0 p.target.0 start (table_of text) query proof.values
+TellsProof p start text query proof = IsProofTold p.network p.names p.source.0 p.target.0 start (table_of text) query proof.values
 
 -- the first fault of a text
 abbrev pub FailsText : Problem → ℕ → List ℕ → Fault → Type 0

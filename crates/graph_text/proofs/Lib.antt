@@ -7,4 +7,3 @@ pub mod Accepted
 pub mod Printed
 pub mod ReadBack
 mod Leaving
-mod Versioned

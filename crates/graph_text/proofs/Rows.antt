@@ -22,11 +22,11 @@ use Rattle.graph_text.specs.declared.reader.PlaceRow.{PlaceRow}
 use Rattle.graph_text.specs.declared.reader.HeadRow.{HeadRow}
 use Rattle.graph_text.specs.declared.reader.TableStart.{TableStart}
 use Rattle.graph_text.specs.Reading.{leg_names, names_in, leg_numbers, leg_row_in, leg_found, leg_of, agrees, is_limit, can_start, is_by_limit, start_in, row_in, place_numbers, place_row_in}
-use Rattle.graph_text.specs.Reading.{table_in, are_in_order, is_query, head_numbers, head_row_in, head_of, head_in}
+use Rattle.graph_text.specs.Reading.{table_in, are_in_order, head_numbers, head_row_in, head_of, head_in}
 use Rattle.graph_text.specs.Versions.{width_of}
 use Rattle.graph_text.specs.Asked.{IsHeadOf}
 use Rattle.graph_text.specs.GraphRows.{is_place, is_head, version_in, IsLegRow, IsPlaceRow, IsHeadRow}
-use Rattle.printed_rows.specs.Fields.{connection_of, number_of, rises, field, whole_at, is_kind}
+use Rattle.printed_rows.specs.Fields.{is_query, connection_of, number_of, rises, field, whole_at, is_kind}
 use Rattle.printed_rows.proofs.Chains.{if-value}
 use Rattle.printed_rows.proofs.Found.{connection_back, connection_holds}
 

@@ -12,7 +12,7 @@ use Rattle.plan_model.specs.Ways.{limit_of}
 use Rattle.plan_graph.specs.declared.GraphRow.{GraphRow}
 use Rattle.plan_graph.specs.declared.PlaceTable.{PlaceTable}
 use Rattle.plan_graph.specs.declared.PlanGraph.{PlanGraph}
-use Rattle.printed_rows.specs.Fields.{field, is_kind, whole_at, number_of, connection_of, rises}
+use Rattle.printed_rows.specs.Fields.{field, is_kind, whole_at, number_of, is_query, connection_of, rises}
 use Rattle.graph_text.specs.declared.Head.{Head}
 use Rattle.graph_text.specs.declared.reader.TextFault.{TextFault}
 use Rattle.graph_text.specs.declared.version.Version.{Version}
@@ -184,10 +184,6 @@ head_row_in version r =
     if is_head version r
     then head_numbers (moment_at (field r 4)) (moment_at (field r 5)) (nanos_at (field r 6)) (nanos_at (field r 7))
     else None
-
--- whether two places and a moment are these
-abbrev pub is_query : ℕ → ℕ → ℕ → ℕ → ℕ → ℕ → Bool
-is_query from to moment source target start = (from == source) && ((to == target) && (moment == start))
 
 -- the head of a question and the numbers of a first row
 abbrev pub head_of : ℕ → ℕ → ℕ → HeadRow → Head

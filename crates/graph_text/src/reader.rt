@@ -5,7 +5,7 @@ ghost use Rattle.csv_rows.specs.Tables.{header, row_count};
 ghost use Rattle.plan_model.specs.NameLists.{NamesFit};
 ghost use Rattle.plan_model.specs.Network.{count};
 ghost use Rattle.graph_text.specs.GraphRows.{has_no_entry, entry_in, is_blank, is_place, is_head, version_in};
-ghost use Rattle.graph_text.specs.Reading.{leg_row_in, names_in, leg_found, can_start, start_in, is_limit, is_by_limit, row_in, place_row_in, table_in, are_in_order, head_row_in, is_query, head_in};
+ghost use Rattle.graph_text.specs.Reading.{leg_row_in, names_in, leg_found, can_start, start_in, is_limit, is_by_limit, row_in, place_row_in, table_in, are_in_order, head_row_in, head_in};
 ghost use Rattle.graph_text.specs.Reading.{begun, extended, place_or_first, IsPlaced, no_tables, step, tables_from, graph_in, started_in, graph_of_records, graph_of, IsRead};
 ghost use Rattle.graph_text.specs.Versions.{width_of};
 ghost use Rattle.printed_rows.specs.Fields.{is_kind};
@@ -17,7 +17,7 @@ use csv_rows::{Rows, RowsFault};
 use interval_fixed::Span;
 use plan_graph::{GraphRow, PlaceTable, PlanGraph};
 use plan_model::{Leg, List, Moment, Names, Network, NoMemory, PlaceId, Query, RunId};
-use printed_rows::{connection_of, is_kind, place_of, rises, run_of, whole};
+use printed_rows::{connection_of, is_kind, is_query, place_of, rises, run_of, whole};
 use std::alloc::Global;
 
 /// Why a text is no graph of a network and a question. A line is the number of a record, from 1 on.
@@ -201,19 +201,6 @@ fn are_in_order(start: Moment, deadline: Moment, lo: u64, hi: u64) -> bool
     ensures bounds { IsTrue result → lo ≤ hi }
 {
     start.0 <= deadline.0 && lo <= hi
-}
-
-/// Whether two places and a moment are these.
-fn is_query(
-    places: (PlaceId, PlaceId),
-    moment: Moment,
-    source: PlaceId,
-    target: PlaceId,
-    start: Moment,
-) -> bool
-    ensures { result ≡ is_query places.0.0 places.1.0 moment.0 source.0 target.0 start.0 }
-{
-    places.0.0 == source.0 && places.1.0 == target.0 && moment.0 == start.0
 }
 
 impl<'a> Reader<'a> {

@@ -16,14 +16,14 @@ use Rattle.plan_model.specs.Network.{IsValid, count, dep_of}
 use Rattle.plan_model.proofs.ScanOrders.{IsOrderBut, IsNext, Known, next_of, all_known}
 use Rattle.lower_proof.specs.declared.board.Entry.{Entry}
 use Rattle.lower_proof.specs.Boards.{entry_at}
-use Rattle.lower_proof.specs.Departures.{IsDeparture, AreDepartures}
+use Rattle.lower_proof.specs.Departures.{IsDepartingBy, AreDepartingBy}
 use Rattle.lower_proof.proofs.Entries.{entry_cmp, no_entry, sorted_in_order}
 
 -- ---- found one after the other
 
 -- those of the first m, by rising number
 pub record AreFound (n : NetworkModel) (last m : ℕ) (entries : List Entry) : Type 0 where
-  pub each : All (IsDeparture n last) entries
+  pub each : All (IsDepartingBy n last) entries
   pub below : All (λ e. e.id.0 < m) entries
   pub all : (c : ℕ) → c < m → dep_of n c ≤ last → (k : ℕ) × (k < length entries) × ((entry_at entries k).id.0 ≡ c)
   pub rising : AllPairs (λ a b. a.id.0 < b.id.0) entries
@@ -50,7 +50,7 @@ found_later n last m entries late found = record {
 pub found_more : (n : NetworkModel) (last m : ℕ) (entries : List Entry) (e : Entry) → m < count n → e.id.0 ≡ m → e.by.0 ≡ dep_of n m → e.by.0 ≤ last
     → AreFound n last m entries → AreFound n last (m + 1) (entries ++ e ∷ [])
 found_more n last m entries e there is departs soon found = record {
-  each = All-push (IsDeparture n last) entries e found.each (omega arith, departs ∙ sym (ap (dep_of n) is), soon);
+  each = All-push (IsDepartingBy n last) entries e found.each (omega arith, departs ∙ sym (ap (dep_of n) is), soon);
   below = All-push (λ (x : Entry). x.id.0 < m + 1) entries e (λ k d within. let less = found.below k d within in omega arith) (omega arith);
   all = λ c less by. elim (cases_lt c m) [
     | inl before ↦
@@ -71,9 +71,9 @@ by_id a b = eqb a.id.0 b.id.0
 strictly : (i j : ℕ) → i ≤ j → eqb i j ≡ false → i < j
 strictly i j h k = grind (arith, nat_tests)
 
-pub sorted_departures : (n : NetworkModel) → IsValid n → (last : ℕ) (xs ys : List Entry) → AreFound n last (count n) xs → IsPermutation xs ys → IsSorted entry_cmp ys → AreDepartures n last ys
+pub sorted_departures : (n : NetworkModel) → IsValid n → (last : ℕ) (xs ys : List Entry) → AreFound n last (count n) xs → IsPermutation xs ys → IsSorted entry_cmp ys → AreDepartingBy n last ys
 sorted_departures n good last xs ys found moved up =
-    let each = All-permutation (IsDeparture n last) xs ys moved found.each in
+    let each = All-permutation (IsDepartingBy n last) xs ys moved found.each in
     let distinct = IsDistinct-from_apart by_id xs (λ i j d less inside.
     let rising = found.rising i j d less inside in
     let apart : eqb (get_or xs i d).id.0 (get_or xs j d).id.0 ≡ false = grind (arith, nat_tests) in
@@ -107,7 +107,7 @@ Late n last c = last < dep_of n c
 abbrev pub ids_of : List Entry → List ConnectionId
 ids_of entries = map (λ e. e.id) entries
 
-departures_in_order : (n : NetworkModel) (last : ℕ) (entries : List Entry) → AreDepartures n last entries → IsOrderBut n (Late n last) (ids_of entries)
+departures_in_order : (n : NetworkModel) (last : ℕ) (entries : List Entry) → AreDepartingBy n last entries → IsOrderBut n (Late n last) (ids_of entries)
 departures_in_order n last entries are =
     let len : length (ids_of entries) ≡ length entries = length-map entries (λ (e : Entry). e.id) in
     let at : (k : ℕ) (d : ConnectionId) → k < length entries → get_or (ids_of entries) k d ≡ (get_or entries k no_entry).id = λ k d h. get_or-map (λ (e : Entry). e.id) entries k no_entry d h in
@@ -132,7 +132,7 @@ departures_in_order n last entries are =
 abbrev pub IsRest : NetworkModel → ℕ → List Entry → List ConnectionId → Type 0
 IsRest n last rest taken = IsOrderBut n (Late n last) (ids_of rest ++ taken)
 
-pub rest_first : (n : NetworkModel) (last : ℕ) (entries : List Entry) → AreDepartures n last entries → IsRest n last entries []
+pub rest_first : (n : NetworkModel) (last : ℕ) (entries : List Entry) → AreDepartingBy n last entries → IsRest n last entries []
 rest_first n last entries are = rw (append-nil (ids_of entries)) (departures_in_order n last entries are)
 
 -- one is taken

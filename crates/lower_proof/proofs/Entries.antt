@@ -18,18 +18,18 @@ use Rattle.plan_model.specs.Ways.{ways_into}
 use Rattle.plan_model.specs.Strategy.{IsBoardable}
 use Rattle.plan_model.proofs.Boarding.{way_of-listed, listed-way_of}
 use Rattle.lower_proof.specs.declared.board.Entry.{Entry}
-use Rattle.lower_proof.specs.Boards.{Shown, entry_at, IsEntry, AreEntries, Falls}
+use Rattle.lower_proof.specs.Boards.{ShownBoard, entry_at, IsEntry, AreEntries, Falls}
 use Rattle.lower_proof.specs.Departures.{NoneAfter}
 use Rattle.lower_proof.specs.Minima.{board_at, AreBoards, AllLate, HaveEntries}
 
-abbrev pub no_board : Shown
+abbrev pub no_board : ShownBoard
 no_board = record { entries = []; least = [] }
 
 abbrev pub no_entry : Entry
 no_entry = record { by = record { 0 = 0 }; id = record { 0 = 0 } }
 
 -- one more empty board
-pub push_empty : (boards : List Shown) (board : Shown) → board ≡ no_board → ((p : ℕ) → board_at boards p ≡ no_board) → (p : ℕ) → board_at (boards ++ board ∷ []) p ≡ no_board
+pub push_empty : (boards : List ShownBoard) (board : ShownBoard) → board ≡ no_board → ((p : ℕ) → board_at boards p ≡ no_board) → (p : ℕ) → board_at (boards ++ board ∷ []) p ≡ no_board
 push_empty [] board is empty zero = is
 push_empty [] board is empty (suc p) = refl
 push_empty (b ∷ boards) board is empty zero = empty zero
@@ -86,21 +86,21 @@ entries_permuted n last p m xs ys moved are = record {
 -- ---- one way after the other
 
 -- a board with the first connections, and with this one by the first k ways into where it departs
-pub record HasWays (n : NetworkModel) (last id k p : ℕ) (board : Shown) : Type 0 where
+pub record HasWays (n : NetworkModel) (last id k p : ℕ) (board : ShownBoard) : Type 0 where
   pub entries : AreEntries n last p id board.entries
   pub own : (x j : ℕ) (way : Way) → j < k → slice_get (ways_into n (from_of n id)) j ≡ Some way → way.from.0 ≡ p → IsBoardable n p x id → (i : ℕ)
       × (i < length board.entries) × ((entry_at board.entries i).id.0 ≡ id)
   pub fresh : board.least ≡ []
 
-abbrev pub HaveWays : NetworkModel → ℕ → ℕ → ℕ → List Shown → Type 0
+abbrev pub HaveWays : NetworkModel → ℕ → ℕ → ℕ → List ShownBoard → Type 0
 HaveWays n last id k boards = (p : ℕ) → p < length boards → HasWays n last id k p (board_at boards p)
 
 module _ (n : NetworkModel) (last id : ℕ) where
-  pub no_ways : (boards : List Shown) → HaveEntries n last id boards → HaveWays n last id 0 boards
+  pub no_ways : (boards : List ShownBoard) → HaveEntries n last id boards → HaveWays n last id 0 boards
   no_ways boards have p within = record { entries = (have p within).0; own = λ x j way below. absurd (omega arith); fresh = (have p within).1 }
 
   -- all ways
-  pub all_ways : (boards : List Shown) (k : ℕ) → length (ways_into n (from_of n id)) ≤ k → HaveWays n last id k boards → HaveEntries n last (id + 1) boards
+  pub all_ways : (boards : List ShownBoard) (k : ℕ) → length (ways_into n (from_of n id)) ≤ k → HaveWays n last id k boards → HaveEntries n last (id + 1) boards
   all_ways boards k whole have p within = (
     record {
       each = (have p within).entries.each;
@@ -118,7 +118,7 @@ module _ (n : NetworkModel) (last id : ℕ) where
   )
 
   -- a connection that cannot be boarded, or departs later
-  pub entries_skipped : (boards : List Shown) → (IsTrue (connection n id).can_board → dep_of n id ≤ last → ⊥) → HaveEntries n last id boards → HaveEntries n last (id + 1) boards
+  pub entries_skipped : (boards : List ShownBoard) → (IsTrue (connection n id).can_board → dep_of n id ≤ last → ⊥) → HaveEntries n last id boards → HaveEntries n last (id + 1) boards
   entries_skipped boards never have p within = (
     record {
       each = (have p within).0.each;
@@ -143,7 +143,7 @@ module _ (n : NetworkModel) (last id : ℕ) where
     seconds_are x board = let both = sym board.way ∙ way_of-listed n valid (from_of n id) departs_in k way listed in cc
 
     -- nobody can board by the way
-    pub way_passed : dep_of n id < way.seconds → (boards : List Shown) → HaveWays n last id k boards → HaveWays n last id (k + 1) boards
+    pub way_passed : dep_of n id < way.seconds → (boards : List ShownBoard) → HaveWays n last id k boards → HaveWays n last id (k + 1) boards
     way_passed early boards have p within = record {
       entries = (have p within).entries;
       own = λ x j other below at from boards_by. elim (same_way j other below at) [
@@ -182,7 +182,7 @@ module _ (n : NetworkModel) (last id : ℕ) where
     }
 
     pub way_added : (by : ℕ) → id < count n → IsTrue (connection n id).can_board → by + way.seconds ≡ dep_of n id
-        → (boards : List Shown) (board : Shown) → way.from.0 < length boards
+        → (boards : List ShownBoard) (board : ShownBoard) → way.from.0 < length boards
         → board.entries ≡ (board_at boards way.from.0).entries ++ new_entry by ∷ [] → board.least ≡ [] → HaveWays n last id k boards → HaveWays n last id (k + 1) (set boards way.from.0 board)
     way_added by there can sum boards board inside is fresh have p within = elim (cases_eq p way.from.0) [
       | inl here ↦
@@ -211,12 +211,12 @@ module _ (n : NetworkModel) (last id : ℕ) where
 -- ---- all boards in order
 
 -- the first k boards are in order
-pub record AreSorted (n : NetworkModel) (last k : ℕ) (boards : List Shown) : Type 0 where
+pub record AreSorted (n : NetworkModel) (last k : ℕ) (boards : List ShownBoard) : Type 0 where
   pub len : length boards ≡ length n.change
   pub entries : HaveEntries n last (count n) boards
   pub falls : (p : ℕ) → p < k → Falls (board_at boards p).entries
 
-pub sorted_more : (n : NetworkModel) (last k : ℕ) (boards : List Shown) (board : Shown) → k < length boards
+pub sorted_more : (n : NetworkModel) (last k : ℕ) (boards : List ShownBoard) (board : ShownBoard) → k < length boards
     → IsPermutation (board_at boards k).entries board.entries → Falls board.entries → board.least ≡ [] → AreSorted n last k boards → AreSorted n last (k + 1) (set boards k board)
 sorted_more n last k boards board inside moved falls fresh sorted =
     let here : board_at (set boards k board) k ≡ board = get_or-set_same boards k board no_board inside in
@@ -236,7 +236,7 @@ sorted_more n last k boards board inside moved falls fresh sorted =
     }
 
 -- no value is known yet, so what is known is right
-pub sorted_boards : (n : NetworkModel) (last : ℕ) (boards : List Shown) (values : List (Option ℕ)) → length values ≡ count n → NoneAfter n values last
+pub sorted_boards : (n : NetworkModel) (last : ℕ) (boards : List ShownBoard) (values : List (Option ℕ)) → length values ≡ count n → NoneAfter n values last
     → AreSorted n last (length boards) boards → AreBoards n last values boards
 sorted_boards n last boards values as_many none_after sorted = record {
   none_after = none_after;
@@ -255,5 +255,5 @@ sorted_boards n last boards values as_many none_after sorted = record {
       };
 }
 
-pub sorted_late : (n : NetworkModel) (last : ℕ) (boards : List Shown) (moment : ℕ) → AreSorted n last (length boards) boards → AllLate moment boards
+pub sorted_late : (n : NetworkModel) (last : ℕ) (boards : List ShownBoard) (moment : ℕ) → AreSorted n last (length boards) boards → AllLate moment boards
 sorted_late n last boards moment sorted p within k below = let none : length (board_at boards p).least ≡ 0 = ap length (sorted.entries p within).1 in absurd (omega arith)

@@ -8,14 +8,14 @@ use Rattle.plan_model.specs.declared.model.Query.{Query}
 use Rattle.plan_model.specs.NetworkModel.{NetworkModel}
 use Rattle.plan_model.specs.Network.{count, connection, dep_of, run_of, IsValid}
 use Rattle.plan_model.specs.Strategy.{IsLeg}
-use Rattle.lower_proof.specs.Certificates.{value_of, IsLeastOf, IsVia, IsLocal, IsAccepted, IsLastFault}
+use Rattle.lower_proof.specs.Certificates.{bound_of, IsLeastOf, IsVia, IsLocal, IsAccepted, IsLastFault}
 use Rattle.lower_proof.specs.Steps.{lesser, KeepsTo, exit_of, IsBestExit}
 use Rattle.lower_proof.proofs.Leasts.{least_with, least_same, least_is, IsLeastOf-unique, keeps_to_each, each_keeps_to}
 use Rattle.lower_proof.proofs.Vias.{least_via}
 use Rattle.plan_model.proofs.ScanOrders.{Known, IsNext}
 use Rattle.plan_model.proofs.Bounds.{forward}
 use Rattle.lower_proof.specs.declared.board.Entry.{Entry}
-use Rattle.lower_proof.specs.Departures.{NoneAfter, AreDepartures}
+use Rattle.lower_proof.specs.Departures.{NoneAfter, AreDepartingBy}
 use Rattle.lower_proof.proofs.Departing.{Late, IsRest, rest_first, rest_popped, next_popped, all_taken}
 use Rattle.lower_proof.proofs.NoVias.{no_via}
 
@@ -92,7 +92,7 @@ module _ (n : NetworkModel) (good : IsValid n) (q : Query) (values : List (Optio
       let later = forward n good c ride.0 ride.1 in
       no_via n good q values last deadline none_after ride.0 v ride.1.exit (omega arith) ride.2
 
-  pub scanned_first : (entries : List Entry) (exits : List (Option ℕ)) → AreDepartures n last entries → ((c : ℕ) → c < count n → run_of n c < length exits)
+  pub scanned_first : (entries : List Entry) (exits : List (Option ℕ)) → AreDepartingBy n last entries → ((c : ℕ) → c < count n → run_of n c < length exits)
       → ((run : ℕ) → exit_of exits run ≡ None) → IsScanned n q values last [] entries exits
   scanned_first entries exits are runs empty = record { rest = rest_first n last entries are; runs = runs; are_exits = λ run. rw (empty run) (none_left run) }
 
@@ -134,7 +134,7 @@ pub record CheckState (n : NetworkModel) (q : Query) (values : List (Option ℕ)
   pub kept : (c : ℕ) → c < count n → Known (Late n last) taken c → IsTrue (connection n c).can_board → IsLocal n q values c
 
 module _ {n : NetworkModel} (good : IsValid n) {q : Query} {values : List (Option ℕ)} {last : ℕ} where
-  pub check_first : {entries : List Entry} {exits : List (Option ℕ)} → q.deadline.0 ≤ last → NoneAfter n values last → AreDepartures n last entries
+  pub check_first : {entries : List Entry} {exits : List (Option ℕ)} → q.deadline.0 ≤ last → NoneAfter n values last → AreDepartingBy n last entries
       → ((c : ℕ) → c < count n → run_of n c < length exits) → ((run : ℕ) → exit_of exits run ≡ None) → CheckState n q values last entries exits
   check_first {entries} {exits} deadline none_after are runs empty = record {
     taken = [];
@@ -147,7 +147,7 @@ module _ {n : NetworkModel} (good : IsValid n) {q : Query} {values : List (Optio
     check_there = (scanned_is_next good state.scanned rest e popped).there
 
     module _ {best : Option ℕ} (own : IsBestExit n q values exits e.id.0 best) where
-      pub check_next : (IsTrue (connection n e.id.0).can_board → KeepsTo (value_of values e.id.0) best) → CheckState n q values last rest (set exits (run_of n e.id.0) best)
+      pub check_next : (IsTrue (connection n e.id.0).can_board → KeepsTo (bound_of values e.id.0) best) → CheckState n q values last rest (set exits (run_of n e.id.0) best)
       check_next keeps = record {
         taken = e.id ∷ state.taken;
         scanned = scanned_next good state.scanned rest e popped own;
@@ -155,16 +155,16 @@ module _ {n : NetworkModel} (good : IsValid n) {q : Query} {values : List (Optio
           | inl is ↦
               let board_id = subst (λ i. IsTrue (connection n i).can_board) is board in
               subst (IsLocal n q values) (sym is)
-              (λ j v leg by. keeps_to_each (Rides n q values e.id.0) (value_of values e.id.0) best (best_ride good state.scanned rest e popped own board_id) (keeps board_id) v (j, leg, by))
+              (λ j v leg by. keeps_to_each (Rides n q values e.id.0) (bound_of values e.id.0) best (best_ride good state.scanned rest e popped own board_id) (keeps board_id) v (j, leg, by))
           | inr earlier ↦ state.kept c there earlier board
         ];
       }
 
-      pub check_fails : IsTrue (connection n e.id.0).can_board → (KeepsTo (value_of values e.id.0) best → ⊥) → IsLastFault n q values e.id.0
+      pub check_fails : IsTrue (connection n e.id.0).can_board → (KeepsTo (bound_of values e.id.0) best → ⊥) → IsLastFault n q values e.id.0
       check_fails board breaks = record {
         there = check_there;
         board = board;
-        fault = λ is_local. breaks (each_keeps_to (Rides n q values e.id.0) (value_of values e.id.0) best (best_ride good state.scanned rest e popped own board)
+        fault = λ is_local. breaks (each_keeps_to (Rides n q values e.id.0) (bound_of values e.id.0) best (best_ride good state.scanned rest e popped own board)
             (λ v ride. is_local ride.0 v ride.1 ride.2));
         last = λ d there board_d after. state.kept d there ((scanned_is_next good state.scanned rest e popped).after d there after) board_d;
       }

@@ -9,7 +9,7 @@ use Rattle.plan_model.specs.Network.{IsValid, count, connection, to_of, dep_of, 
 use Rattle.plan_model.specs.Strategy.{IsLeg, IsBoardable, IsBoardableAtStart}
 use Rattle.plan_model.proofs.Bounds.{forward}
 use Rattle.interval_fixed.specs.Means.{weighted}
-use Rattle.lower_proof.specs.Certificates.{value_of, IsLeastOf, Offers, IsLeastValue, IsLeastAt, IsLeastAtStart, AreLeast, IsVia, IsAccepted, IsTight}
+use Rattle.lower_proof.specs.Certificates.{bound_of, IsLeastOf, Offers, IsLeastValue, IsLeastAt, IsLeastAtStart, AreLeast, IsVia, IsAccepted, IsTight}
 use Rattle.lower_proof.specs.Promises.{IsGreatestCertificate}
 use Rattle.lower_proof.proofs.Search.{least_boardable, least_at_start}
 use Rattle.lower_proof.proofs.Vias.{IsLeast-unique}
@@ -51,7 +51,7 @@ module _ (n : NetworkModel) (valid : IsValid n) (q : Query) (values others : Lis
       (one.0 ∷ rest.0, (one.1, rest.1), (one.2, rest.2))
 
   lesser_ride : (m : ℕ) → LesserBy m → (Boards : ℕ → Type 0) (p x c v : ℕ) → after n (dep_of n c) ≤ m → p ≢ q.target.0 → Boards c → c < count n
-      → IsTrue (connection n c).can_board → value_of values c ≡ Some v → (least : Option ℕ)
+      → IsTrue (connection n c).can_board → bound_of values c ≡ Some v → (least : Option ℕ)
       → IsLeastOf (λ w. (c : ℕ) × Offers n others Boards c w) least → (w : ℕ) × IsLeastValue n q others Boards p x (Some w) × (w ≤ v)
   lesser_ride m lesser Boards p x c v few away boards there board is least is_least =
       let own = subst (IsLeastOf (λ v. (j : ℕ) × IsLeg n c j × IsVia n q values j v)) is (tight.boarded c there board) in

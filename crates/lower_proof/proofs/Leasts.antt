@@ -3,7 +3,7 @@ use Rattle.std.proofs.Common.{◌≡◌, ℕ, ◌+◌, ◌<◌, ◌≤◌, ◌�
 use Rattle.std.proofs.lemmas.Bool.{cases_lt}
 use Rattle.plan_model.specs.NetworkModel.{NetworkModel}
 use Rattle.plan_model.specs.Network.{count, connection}
-use Rattle.lower_proof.specs.Certificates.{value_of, IsLeastOf, Offers, IsAtMost}
+use Rattle.lower_proof.specs.Certificates.{bound_of, IsLeastOf, Offers, HasValueUpTo}
 use Rattle.lower_proof.specs.Steps.{lesser, KeepsTo}
 
 -- with what may be one number more
@@ -88,8 +88,8 @@ module _ (n : NetworkModel) (values : List (Option ℕ)) (Boards : ℕ → Type 
 
   -- one connection more, that can be boarded
   pub with_offer : (m : ℕ) (r : Option ℕ) → m < count n → IsTrue (connection n m).can_board → Boards m → IsLeastOf (OffersBelow n values Boards m) r
-      → IsLeastOf (OffersBelow n values Boards (m + 1)) (lesser r (value_of values m))
-  with_offer m r there board boards least = least_with (OffersBelow n values Boards m) (OffersBelow n values Boards (m + 1)) (grown m) r (value_of values m) least
+      → IsLeastOf (OffersBelow n values Boards (m + 1)) (lesser r (bound_of values m))
+  with_offer m r there board boards least = least_with (OffersBelow n values Boards m) (OffersBelow n values Boards (m + 1)) (grown m) r (bound_of values m) least
       (λ v is. (m, omega arith, record { there = there; board = board; boards = boards; value = is }))
       (λ v o. elim (at_last m v o) [
         | inl before ↦ inl before
@@ -108,13 +108,13 @@ module _ (n : NetworkModel) (values : List (Option ℕ)) (Boards : ℕ → Type 
   all_offers r least = least_same (OffersBelow n values Boards (count n)) (λ v. (c : ℕ) × Offers n values Boards c v) (λ v o. (o.0, o.2)) r (λ v o. (o.0, o.1.there, o.1)) least
 
 -- a value at most the least is at most each
-pub keeps_to_each : (P : ℕ → Type 0) (own best : Option ℕ) → IsLeastOf P best → KeepsTo own best → (v : ℕ) → P v → IsAtMost own v
+pub keeps_to_each : (P : ℕ → Type 0) (own best : Option ℕ) → IsLeastOf P best → KeepsTo own best → (v : ℕ) → P v → HasValueUpTo own v
 keeps_to_each P own None least keeps v h = absurd (least v h)
 keeps_to_each P None (Some b) least keeps v h = absurd keeps
 keeps_to_each P (Some w) (Some b) least keeps v h = let less = least.1 v h in omega arith
 
 -- one that is at most each is at most the least
-pub each_keeps_to : (P : ℕ → Type 0) (own best : Option ℕ) → IsLeastOf P best → ((v : ℕ) → P v → IsAtMost own v) → KeepsTo own best
+pub each_keeps_to : (P : ℕ → Type 0) (own best : Option ℕ) → IsLeastOf P best → ((v : ℕ) → P v → HasValueUpTo own v) → KeepsTo own best
 each_keeps_to P own None least each = tt
 each_keeps_to P None (Some b) least each = each b least.0
 each_keeps_to P (Some w) (Some b) least each = each b least.0

@@ -2,7 +2,7 @@
 use Rattle.std.proofs.Common.{◌≡◌, ℕ, ◌+◌, ◌-◌, ◌<◌, ◌≤◌, List, [], ◌++◌, length, take, drop, set, Option, Some, None, arith, inl, inr, sym, ap, subst, get_or-set_other, get_or-set_same}
 use Rattle.std.proofs.lemmas.Bool.{cases_eq, cases_lt}
 use Rattle.lower_proof.specs.declared.board.Entry.{Entry}
-use Rattle.lower_proof.specs.Certificates.{value_of, IsLeastOf}
+use Rattle.lower_proof.specs.Certificates.{bound_of, IsLeastOf}
 use Rattle.lower_proof.specs.Steps.{lesser}
 use Rattle.lower_proof.specs.Boards.{entry_at, Falls, FrontValue, ValueInTime, least_of}
 use Rattle.lower_proof.specs.Minima.{AreMinima, IsBoard}
@@ -20,13 +20,13 @@ module _ (values : List (Option ℕ)) (entries : List Entry) where
   pub none_front : IsLeastOf (FrontValue values entries 0) None
   none_front = λ v f. absurd (omega (arith, f.1))
 
-  one_more : (k : ℕ) (before : Option ℕ) → IsLeastOf (FrontValue values entries k) before → IsLeastOf (FrontValue values entries (k + 1)) (lesser before (value_of values (entry_at entries k).id.0))
+  one_more : (k : ℕ) (before : Option ℕ) → IsLeastOf (FrontValue values entries k) before → IsLeastOf (FrontValue values entries (k + 1)) (lesser before (bound_of values (entry_at entries k).id.0))
   one_more k before least = least_with (FrontValue values entries k) (FrontValue values entries (k + 1))
-      (λ v f. (f.0, omega (arith, f.1), f.2)) before (value_of values (entry_at entries k).id.0) least
+      (λ v f. (f.0, omega (arith, f.1), f.2)) before (bound_of values (entry_at entries k).id.0) least
       (λ v is. (k, omega arith, is))
       (λ v f. elim (cases_lt f.0 k) [
         | inl earlier ↦ inl (f.0, earlier, f.2)
-        | inr last ↦ let e : f.0 ≡ k = omega (arith, f.1) in inr (subst (λ i. value_of values (entry_at entries i).id.0 ≡ Some v) e f.2)
+        | inr last ↦ let e : f.0 ≡ k = omega (arith, f.1) in inr (subst (λ i. bound_of values (entry_at entries i).id.0 ≡ Some v) e f.2)
       ])
 
   -- the least of the first k, from those that are known
@@ -34,9 +34,9 @@ module _ (values : List (Option ℕ)) (entries : List Entry) where
   before_is least k some minima = let e : k - 1 + 1 ≡ k = omega arith in subst (λ m. IsLeastOf (FrontValue values entries m) (least_of least (k - 1))) e (minima (k - 1) (omega arith))
 
   pub minima_more : (least : List (Option ℕ)) (k : ℕ) (before : Option ℕ) → k < length least → AreMinima values entries least k
-      → IsLeastOf (FrontValue values entries k) before → AreMinima values entries (set least k (lesser before (value_of values (entry_at entries k).id.0))) (k + 1)
+      → IsLeastOf (FrontValue values entries k) before → AreMinima values entries (set least k (lesser before (bound_of values (entry_at entries k).id.0))) (k + 1)
   minima_more least k before within minima is_least j below =
-      let more = lesser before (value_of values (entry_at entries k).id.0) in
+      let more = lesser before (bound_of values (entry_at entries k).id.0) in
       elim (cases_eq j k) [
         | inl is ↦
             let at : least_of (set least k more) k ≡ more = get_or-set_same least k more None within in

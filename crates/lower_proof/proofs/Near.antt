@@ -15,7 +15,7 @@ use Rattle.plan_model.specs.Bounds.{nanos_per_second}
 use Rattle.plan_model.specs.Expected.{Covers, arrival as arrival_of}
 use Rattle.plan_model.proofs.Bounds.{forward}
 use Rattle.interval_fixed.specs.Means.{weighted}
-use Rattle.lower_proof.specs.Certificates.{value_of, IsLeastOf, Offers, arrived_by, IsLeastAt, IsLeastAtStart, AreLeast, IsVia, IsTight}
+use Rattle.lower_proof.specs.Certificates.{bound_of, IsLeastOf, Offers, arrived_by, IsLeastAt, IsLeastAtStart, AreLeast, IsVia, IsTight}
 use Rattle.plan_model.proofs.Laws.{covers_more}
 use Rattle.interval_fixed.proofs.Sums.{mean_covers}
 use Rattle.plan_model.proofs.Boarding.{boards_later}
@@ -74,7 +74,7 @@ module _ (n : NetworkModel) (valid : IsValid n) (q : Query) (values : List (Opti
       (Kid o.weight one.0 others.0, (refl, one.1, others.1), (refl, covers_more nanos_per_second arrival_of (v + after n (arrival + o.delay)) (v + k) one.0 (omega arith) one.2, others.2))
 
   -- the ride of a connection that is offered
-  near_ride : (m : ℕ) → NearBy m → (c v : ℕ) → after n (dep_of n c) ≤ m → c < count n → IsTrue (connection n c).can_board → value_of values c ≡ Some v
+  near_ride : (m : ℕ) → NearBy m → (c v : ℕ) → after n (dep_of n c) ≤ m → c < count n → IsTrue (connection n c).can_board → bound_of values c ≡ Some v
       → (j : ℕ) × (kids : Kids) × IsLeg n c j × AreSafe n q.target.0 (Some q.deadline.0) kids (outcomes n j) (to_of n j) (arr_of n j) × Covers (v + (after n (dep_of n c) + 1)) (Ride c j kids)
   near_ride m near c v few there board is =
       let least = subst (IsLeastOf (λ v. (j : ℕ) × IsLeg n c j × IsVia n q values j v)) is (tight.boarded c there board) in

@@ -7,8 +7,8 @@ use Rattle.plan_model.specs.NetworkModel.{NetworkModel}
 use Rattle.plan_model.specs.Network.{count, dep_of, IsValid}
 use Rattle.plan_model.specs.Strategy.{IsBoardable}
 use Rattle.lower_proof.specs.declared.board.Entry.{Entry}
-use Rattle.lower_proof.specs.Certificates.{value_of, IsLeastOf, Offers, IsLeastAt}
-use Rattle.lower_proof.specs.Boards.{Shown, entry_at, AreEntries, FrontValue, ValueInTime, least_of}
+use Rattle.lower_proof.specs.Certificates.{bound_of, IsLeastOf, Offers, IsLeastAt}
+use Rattle.lower_proof.specs.Boards.{ShownBoard, entry_at, AreEntries, FrontValue, ValueInTime, least_of}
 use Rattle.lower_proof.specs.Departures.{NoneAfter}
 use Rattle.lower_proof.specs.Minima.{AreLate, IsBoard, board_at, IsBoardOf, AreBoards, AllLate}
 use Rattle.lower_proof.proofs.Leasts.{least_same}
@@ -26,18 +26,18 @@ board_least n last q values p x entries none_after are away least is = record {
       (λ v o.
       let (k, within, is_c) = are.all o.0 x o.1.there (soon o.0 v o.1.there o.1.value) o.1.board o.1.boards in
       let boards = subst (λ c. IsBoardable n p x c) (sym is_c) o.1.boards in
-      (k, within, (are.each k within).late x boards, ap (value_of values) is_c ∙ o.1.value))
+      (k, within, (are.each k within).late x boards, ap (bound_of values) is_c ∙ o.1.value))
       is;
 }
   where
-    soon : (c v : ℕ) → c < count n → value_of values c ≡ Some v → dep_of n c ≤ last
+    soon : (c v : ℕ) → c < count n → bound_of values c ≡ Some v → dep_of n c ≤ last
     soon c v there value = elim (cases_lt last (dep_of n c)) [
       | inl late ↦ let both = sym (none_after c there late) ∙ value in absurd (cc)
       | inr by ↦ by
     ]
 
 -- a board that was looked at
-pub boards_looked : (n : NetworkModel) (last : ℕ) (values : List (Option ℕ)) (boards : List Shown) (p : ℕ) (board : Shown) → p < length boards
+pub boards_looked : (n : NetworkModel) (last : ℕ) (values : List (Option ℕ)) (boards : List ShownBoard) (p : ℕ) (board : ShownBoard) → p < length boards
     → AreBoards n last values boards → board.entries ≡ (board_at boards p).entries → IsBoard values board → AreBoards n last values (set boards p board)
 boards_looked n last values boards p board within are same right = record {
   none_after = are.none_after;
@@ -53,7 +53,7 @@ boards_looked n last values boards p board within are same right = record {
   ];
 }
 
-pub late_looked : (boards : List Shown) (p : ℕ) (board : Shown) (moment : ℕ) → p < length boards → AreLate moment board.entries (length board.least)
+pub late_looked : (boards : List ShownBoard) (p : ℕ) (board : ShownBoard) (moment : ℕ) → p < length boards → AreLate moment board.entries (length board.least)
     → AllLate moment boards → AllLate moment (set boards p board)
 late_looked boards p board moment within late all r inside = elim (cases_eq r p) [
   | inl is ↦
@@ -66,7 +66,7 @@ late_looked boards p board moment within late all r inside = elim (cases_eq r p)
 
 module _ (n : NetworkModel) (valid : IsValid n) (last moment : ℕ) (values others : List (Option ℕ)) (agree : Agree n moment values others) (as_many : length others ≡ length values) where
   -- what is known stays right where only values of earlier departures change
-  board_agrees : (p : ℕ) (board : Shown) → AreLate moment board.entries (length board.least) → IsBoardOf n last p values board → IsBoardOf n last p others board
+  board_agrees : (p : ℕ) (board : ShownBoard) → AreLate moment board.entries (length board.least) → IsBoardOf n last p values board → IsBoardOf n last p others board
   board_agrees p board late of = record {
     entries = of.entries;
     right = record {
@@ -79,7 +79,7 @@ module _ (n : NetworkModel) (valid : IsValid n) (last moment : ℕ) (values othe
     };
   }
     where
-      same : (k : ℕ) → k < length board.least → (i : ℕ) → i < k + 1 → value_of values (entry_at board.entries i).id.0 ≡ value_of others (entry_at board.entries i).id.0
+      same : (k : ℕ) → k < length board.least → (i : ℕ) → i < k + 1 → bound_of values (entry_at board.entries i).id.0 ≡ bound_of others (entry_at board.entries i).id.0
       same k below i front =
           let sizes = of.right.sizes in
           let entry = of.entries.each i (omega arith) in
@@ -87,5 +87,5 @@ module _ (n : NetworkModel) (valid : IsValid n) (last moment : ℕ) (values othe
           let departs = boards_later n valid p (entry_at board.entries i).by.0 (entry_at board.entries i).id.0 entry.there (entry.early (entry_at board.entries i).by.0 (omega arith)) in
           agree (entry_at board.entries i).id.0 entry.there (omega arith)
 
-  pub boards_agree : (boards : List Shown) → NoneAfter n others last → AllLate moment boards → AreBoards n last values boards → AreBoards n last others boards
+  pub boards_agree : (boards : List ShownBoard) → NoneAfter n others last → AllLate moment boards → AreBoards n last values boards → AreBoards n last others boards
   boards_agree boards none_after late are = record { none_after = none_after; as_many = are.as_many; each = λ p within. board_agrees p (board_at boards p) (late p within) (are.each p within) }

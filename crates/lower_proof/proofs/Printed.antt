@@ -1,6 +1,6 @@
 -- The rows of values, one after another.
-use Rattle.std.proofs.Common.{◌≡◌, ℕ, ◌+◌, ◌<◌, ◌≤◌, List, [], ◌∷◌, ◌++◌, length, drop, ◌^◌, Option, Some, None, Result, Ok, Err, arith, inl, inr, sym, ◌∙◌, ap, subst, refl}
-use Rattle.std.specs.Prelude.{slice_index_or, IfOk}
+use Rattle.std.proofs.Common.{◌≡◌, ℕ, ◌+◌, ◌<◌, ◌≤◌, List, [], ◌∷◌, ◌++◌, length, drop, ◌^◌, Option, Some, None, arith, inl, inr, sym, ◌∙◌, ap, subst, refl}
+use Rattle.std.specs.Prelude.{slice_index_or}
 use Rattle.std.proofs.lemmas.Bool.{cases_eq}
 use Rattle.std.proofs.lemmas.List.{append-nil, drop_all}
 use Rattle.plan_model.specs.declared.model.Query.{Query}
@@ -47,7 +47,3 @@ text_is n names q values printed empty first all same none one two =
     ∙ ap (λ (text : List ℕ). text ++ text_of_records (value_records n names 0 printed))
     (one ∙ ap (λ (text : List ℕ). text ++ row_of_fields (bounds_record names q printed)) none)
     ∙ ap (proof_text n names q) same
-
-pub on_ok : {T E : Type 0} (r : Result T E) (P Q : T → Type 0) → ((t : T) → P t → Q t) → IfOk r P → IfOk r Q
-on_ok (Ok t) P Q more holds = more t holds
-on_ok (Err e) P Q more holds = tt

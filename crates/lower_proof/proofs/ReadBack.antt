@@ -2,6 +2,7 @@
 use Rattle.std.proofs.Common.{◌≡◌, ◌≢◌, ℕ, zero, suc, ◌+◌, ◌<◌, ◌≤◌, ◌^◌, Bool, true, List, [], ◌∷◌, length, Option, Some, None, Ok, Err, Result, arith, inl, inr, sym, ◌∙◌, ap, subst, refl}
 use Rattle.std.specs.Prelude.{cond, is_some, codes, decimal, if◌then◌else◌, slice_index_or}
 use Rattle.std.specs.List.{count_by}
+use Rattle.std.specs.Result.{result_err}
 use Rattle.std.specs.Option.{option_map}
 use Rattle.std.proofs.Math.Nat.{max-le}
 use Rattle.std.proofs.lemmas.List.Sums.{sum_by-cons}
@@ -10,10 +11,9 @@ use Rattle.std.proofs.lemmas.Bool.{eq-eqb, lt-ltb, le-leb}
 use Rattle.csv.proofs.RoundTrip.{rows_text as text_of_rows}
 use Rattle.csv.specs.Reading.{strip_bom}
 use Rattle.clock_text.specs.Civil.{moment_text, nanos_text, last_printable}
-use Rattle.clock_text.specs.Times.{moment_at, nanos_at}
+use Rattle.clock_text.specs.Times.{moment_at}
 use Rattle.clock_text.proofs.Walk.{text_tells}
 use Rattle.clock_text.proofs.NanosLemmas.{nanos_tell}
-use Rattle.csv_rows.specs.Spaces.{trimmed}
 use Rattle.csv_rows.specs.Tables.{table_of, row_count, header}
 use Rattle.plan_model.specs.declared.model.Query.{Query}
 use Rattle.plan_model.specs.declared.model.PlaceId.{PlaceId}
@@ -21,21 +21,22 @@ use Rattle.plan_model.specs.declared.model.Moment.{Moment}
 use Rattle.plan_model.specs.NetworkModel.{NetworkModel}
 use Rattle.plan_model.specs.NameLists.{NameLists, NamesFit, AreNames}
 use Rattle.plan_model.specs.Network.{IsValid, count, run_of, step_of}
-use Rattle.printed_rows.specs.Fields.{number_of, whole_at, connection_of, rises}
+use Rattle.printed_rows.specs.Fields.{whole_at, rises}
 use Rattle.printed_rows.specs.Writers.{place_name, run_name}
-use Rattle.printed_rows.proofs.Found.{connection_number}
+use Rattle.printed_rows.proofs.Found.{connection_back}
 use Rattle.printed_rows.proofs.Lines.{records_printed}
-use Rattle.printed_rows.proofs.Plain.{moment_kept, nanos_kept, decimal_kept, whole_back, name_back, name_kept}
+use Rattle.printed_rows.proofs.Plain.{moment_kept, nanos_kept, decimal_kept, whole_back}
+use Rattle.printed_rows.proofs.Names.{place_kept, run_kept, place_back, run_back, step_kept, step_back}
 use Rattle.printed_rows.proofs.Printed.{IsKept, AreKept, seven_kept, four_kept, table_back}
 use Rattle.lower_proof.specs.declared.LowerBounds.{LowerBounds}
 use Rattle.lower_proof.specs.declared.reader.BoundsRow.{BoundsRow}
 use Rattle.lower_proof.specs.declared.reader.ValueRow.{ValueRow}
 use Rattle.lower_proof.specs.declared.reader.ProofFault.{ProofFault}
-use Rattle.lower_proof.specs.declared.reader.ProofFault.TheVariants.{Row, NotRising}
-use Rattle.lower_proof.specs.Certificates.{value_of}
+use Rattle.lower_proof.specs.declared.reader.ProofFault.TheVariants.{Row}
+use Rattle.lower_proof.specs.Certificates.{bound_of}
 use Rattle.lower_proof.specs.Texts.{bounds_record, value_record, value_records, proof_text}
-use Rattle.lower_proof.specs.Reading.{bounds_numbers, bounds_row_in, bounds_by, bounds_in, value_numbers, value_row_in, connection_by, connection_in, value_in}
-use Rattle.lower_proof.specs.Reading.{told_after, told_by, told_in, value_row, connection_before, fault_of, value_fault, IsFaultAfter, AreTold, IsTold, IsReadAs}
+use Rattle.lower_proof.specs.Reading.{bounds_numbers, bounds_row_in, bounds_in, value_numbers, value_row_in, connection_in, nanos_in}
+use Rattle.lower_proof.specs.Reading.{told_in, value_row, connection_before, value_fault, IsFaultAfter, AreValuesTold, IsProofTold, IsProofRead}
 use Rattle.lower_proof.specs.Reading.{IsReadBack}
 
 abbrev query_of : PlaceId → PlaceId → Moment → Moment → Query
@@ -63,7 +64,7 @@ rows_many n names c [] = refl
 rows_many n names c (None ∷ values) = omega (arith, count_more None values, rows_many n names (c + 1) values)
 rows_many n names c (Some v ∷ values) = omega (arith, count_more (Some v) values, rows_many n names (c + 1) values)
 
-pub present : (values : List (Option ℕ)) (c v : ℕ) → value_of values c ≡ Some v → c < length values
+pub present : (values : List (Option ℕ)) (c v : ℕ) → bound_of values c ≡ Some v → c < length values
 present [] c v is = absurd (cc)
 present (x ∷ values) zero v is = omega arith
 present (x ∷ values) (suc c) v is = omega (arith, present values c v is)
@@ -71,13 +72,13 @@ present (x ∷ values) (suc c) v is = omega (arith, present values c v is)
 -- row k is of a connection at an offset, and of its value
 record IsRowOf (n : NetworkModel) (names : NameLists) (c : ℕ) (values : List (Option ℕ)) (k offset v : ℕ) : Type 0 where
   inside : offset < length values
-  value : value_of values offset ≡ Some v
+  value : bound_of values offset ≡ Some v
   row : slice_index_or (value_records n names c values) k [] ≡ value_record n names (c + offset) v
 
 -- row i of a table is of a connection and its value
 record TellsOf (n : NetworkModel) (names : NameLists) (t : List (List (List ℕ))) (values : List (Option ℕ)) (i c v : ℕ) : Type 0 where
   there : c < count n
-  value : value_of values c ≡ Some v
+  value : bound_of values c ≡ Some v
   row : value_row t i ≡ value_record n names c v
 
 -- the offset of row k
@@ -110,7 +111,7 @@ module _ (n : NetworkModel) (names : NameLists) where
   offsets_rise c (Some w ∷ values) (suc k) within = omega (arith, offsets_rise (c + 1) values k (omega (arith, within)))
 
   -- each value that is there has a row
-  row_of_value : (c : ℕ) (values : List (Option ℕ)) (offset v : ℕ) → value_of values offset ≡ Some v
+  row_of_value : (c : ℕ) (values : List (Option ℕ)) (offset v : ℕ) → bound_of values offset ≡ Some v
       → (k : ℕ) × (k < length (value_records n names c values)) × (slice_index_or (value_records n names c values) k [] ≡ value_record n names (c + offset) v)
   row_of_value c [] offset v is = absurd (cc)
   row_of_value c (None ∷ values) zero v is = absurd (cc)
@@ -124,25 +125,11 @@ module _ (n : NetworkModel) (names : NameLists) where
       let own = row_of_value (c + 1) values offset v is in (suc own.0, omega (arith, own.1), own.2 ∙ shifted c offset v)
 
 module _ (n : NetworkModel) (names : NameLists) (valid : IsValid n) (fit : NamesFit names n) (own : AreNames names) where
-  place_named : (place : ℕ) → place < length n.change → number_of names.places (place_name names place) ≡ Some place
-  place_named place there = name_back names.places place own.places own.place_texts (omega (arith, there, fit.places))
-
-  place_kept : (place : ℕ) → place < length n.change → trimmed (place_name names place) ≡ place_name names place
-  place_kept place there = name_kept names.places place fit.place_names (omega (arith, there, fit.places))
-
-  run_named : (c : ℕ) → c < count n → number_of names.runs (run_name names (run_of n c)) ≡ Some (run_of n c)
-  run_named c there = name_back names.runs (run_of n c) own.runs own.run_texts (fit.below c there)
-
-  connection_back : (c : ℕ) → c < count n → connection_of n (run_of n c) (step_of n c) ≡ Some c
-  connection_back c there = sym (connection_number n valid (run_of n c) (step_of n c) (Some (record { 0 = c })) (there, refl, refl) tt)
-
   -- ---- a value row
 
   record_kept : (c v : ℕ) → c < count n → IsKept (value_record n names c v)
   record_kept c v there =
-      four_kept (codes "value") (run_name names (run_of n c)) (decimal (step_of n c)) (nanos_text v) refl
-      (name_kept names.runs (run_of n c) fit.run_names (fit.below c there))
-      (decimal_kept (step_of n c) (omega (arith, (valid.connections c there).step_in))) (nanos_kept v)
+      four_kept (codes "value") (run_name names (run_of n c)) (decimal (step_of n c)) (nanos_text v) refl (run_kept n names fit c there) (step_kept n valid c there) (nanos_kept v)
 
   records_kept : (c : ℕ) (values : List (Option ℕ)) → c + length values ≤ count n → AreKept (value_records n names c values)
   records_kept c [] within = tt
@@ -153,30 +140,24 @@ module _ (n : NetworkModel) (names : NameLists) (valid : IsValid n) (fit : Names
   numbers c v = record { step = step_of n c; value = v }
 
   numbers_back : (c v : ℕ) → c < count n → v < 2 ^ 64 → value_row_in (value_record n names c v) ≡ Some (numbers c v)
-  numbers_back c v there small =
-      ap (λ (x : Option ℕ). value_numbers x (nanos_at (nanos_text v))) (whole_back (step_of n c) (omega (arith, (valid.connections c there).step_in)))
-      ∙ ap (λ (x : Option ℕ). value_numbers (Some (step_of n c)) x) (nanos_tell v small)
+  numbers_back c v there small = both _ _ (step_back n valid c there) (nanos_tell v small)
+    where
+      both : (a b : Option ℕ) → a ≡ Some (step_of n c) → b ≡ Some v → value_numbers a b ≡ Some (numbers c v)
+      both a b one two = rw (one, two) refl
 
-  value_back : (c v : ℕ) → c < count n → v < 2 ^ 64 → value_in (value_record n names c v) ≡ Some v
-  value_back c v there small = ap (λ (row : Option ValueRow). option_map (λ (x : ValueRow). x.value) row) (numbers_back c v there small)
+  value_back : (c v : ℕ) → c < count n → v < 2 ^ 64 → nanos_in (value_record n names c v) ≡ Some v
+  value_back c v there small = ap (option_map (λ (x : ValueRow). x.value)) (numbers_back c v there small)
 
   named_back : (c v : ℕ) → c < count n → v < 2 ^ 64 → connection_in n names (value_record n names c v) ≡ Some c
-  named_back c v there small =
-      ap (λ (row : Option ValueRow). connection_by n row (number_of names.runs (run_name names (run_of n c)))) (numbers_back c v there small)
-      ∙ ap (connection_by n (Some (numbers c v))) (run_named c there)
-      ∙ connection_back c there
+  named_back c v there small = rw (numbers_back c v there small, run_back n names fit own c there) (connection_back n valid c there)
 
   told_back : (c v line : ℕ) (before : Option ℕ) → c < count n → v < 2 ^ 64 → rises before c ≡ true
       → told_in n names line before (value_record n names c v) ≡ Ok (record { id = record { 0 = c }; value = v })
-  told_back c v line before there small rise =
-      ap (λ (row : Option ValueRow). told_by n line before row (number_of names.runs (run_name names (run_of n c)))) (numbers_back c v there small)
-      ∙ ap (told_by n line before (Some (numbers c v))) (run_named c there)
-      ∙ ap (told_after line before v) (connection_back c there)
-      ∙ ap (λ (test : Bool). if test then Ok (record { id = record { 0 = c }; value = v }) else Err (NotRising line)) rise
+  told_back c v line before there small rise = rw (numbers_back c v there small, run_back n names fit own c there, connection_back n valid c there, rise) refl
 
   -- ---- all of them, after a first row
 
-  module _ (first : List (List ℕ)) (values : List (Option ℕ)) (as_many : length values ≡ count n) (small : (c v : ℕ) → value_of values c ≡ Some v → v < 2 ^ 64) where
+  module _ (first : List (List ℕ)) (values : List (Option ℕ)) (as_many : length values ≡ count n) (small : (c v : ℕ) → bound_of values c ≡ Some v → v < 2 ^ 64) where
     abbrev rows : List (List (List ℕ))
     rows = value_records n names 0 values
 
@@ -213,44 +194,44 @@ module _ (n : NetworkModel) (names : NameLists) (valid : IsValid n) (fit : Names
     row_faultless stated i inside within =
         let r = row_told i within in
         let c = offset_at values i in
-        ap (λ (b : Bool). if b then fault_of (told_in n names (i + 2) (connection_before n names table i) (value_row table i)) else Some (Row (i + 2))) (lt-ltb i stated inside)
-        ∙ ap (λ (fields : List (List ℕ)). fault_of (told_in n names (i + 2) (connection_before n names table i) fields)) r.1.row
-        ∙ ap fault_of (told_back c r.0 (i + 2) (connection_before n names table i) r.1.there (small c r.0 r.1.value) (row_rises i within))
+        ap (λ (b : Bool). if b then result_err (told_in n names (i + 2) (connection_before n names table i) (value_row table i)) else Some (Row (i + 2))) (lt-ltb i stated inside)
+        ∙ ap (λ (fields : List (List ℕ)). result_err (told_in n names (i + 2) (connection_before n names table i) fields)) r.1.row
+        ∙ ap result_err (told_back c r.0 (i + 2) (connection_before n names table i) r.1.there (small c r.0 r.1.value) (row_rises i within))
 
     -- each value that is there has its row
-    row_for : (c v : ℕ) → value_of values c ≡ Some v → (i : ℕ) × (i < length rows) × (value_row table i ≡ value_record n names c v)
+    row_for : (c v : ℕ) → bound_of values c ≡ Some v → (i : ℕ) × (i < length rows) × (value_row table i ≡ value_record n names c v)
     row_for c v is =
         let at = row_of_value n names 0 values c v is in
         let e : 0 + c ≡ c = omega arith in
         (at.0, at.1, row_is at.0 ∙ at.2 ∙ ap (λ (d : ℕ). value_record n names d v) e)
 
-    never_told : (c : ℕ) → ((i : ℕ) → i < length rows → connection_in n names (value_row table i) ≢ Some c) → (own_value : Option ℕ) → value_of values c ≡ own_value → own_value ≡ None
+    never_told : (c : ℕ) → ((i : ℕ) → i < length rows → connection_in n names (value_row table i) ≢ Some c) → (own_value : Option ℕ) → bound_of values c ≡ own_value → own_value ≡ None
     never_told c never None is = refl
     never_told c never (Some v) is =
         let at = row_for c v is in
         absurd (never at.0 at.1 (ap (connection_in n names) at.2 ∙ named_back c v (omega (arith, as_many, present values c v is)) (small c v is)))
 
     -- and no other values are told
-    only : (stated : ℕ) (others : List (Option ℕ)) → AreTold n names table stated others → others ≡ values
-    only stated others told = ext_get_or None others values (told.as_many ∙ sym as_many) (λ c within. same c (value_of values c) refl)
+    only : (stated : ℕ) (others : List (Option ℕ)) → AreValuesTold n names table stated others → others ≡ values
+    only stated others told = ext_get_or None others values (told.as_many ∙ sym as_many) (λ c within. same c (bound_of values c) refl)
       where
-        same : (c : ℕ) (x : Option ℕ) → value_of values c ≡ x → value_of others c ≡ value_of values c
+        same : (c : ℕ) (x : Option ℕ) → bound_of values c ≡ x → bound_of others c ≡ bound_of values c
         same c (Some v) is =
             let at = row_for c v is in
             let there : c < count n = omega (arith, as_many, present values c v is) in
             told.told at.0 c (omega (arith, at.1)) (ap (connection_in n names) at.2 ∙ named_back c v there (small c v is))
-            ∙ ap value_in at.2 ∙ value_back c v there (small c v is) ∙ sym is
+            ∙ ap nanos_in at.2 ∙ value_back c v there (small c v is) ∙ sym is
         same c None is =
             told.others c (λ i inside at.
             let within : i < length rows = omega (arith, inside) in
             let r = row_told i within in
             let both : ◌≡◌ {A = Option ℕ} (Some (offset_at values i)) (Some c) = sym (row_connection i within) ∙ at in
             let here : offset_at values i ≡ c = cc in
-            let some : ◌≡◌ {A = Option ℕ} (Some r.0) None = sym r.1.value ∙ ap (value_of values) here ∙ is in
+            let some : ◌≡◌ {A = Option ℕ} (Some r.0) None = sym r.1.value ∙ ap (bound_of values) here ∙ is in
             cc)
             ∙ sym is
 
-    all_told : AreTold n names table (count_by is_some values) values
+    all_told : AreValuesTold n names table (count_by is_some values) values
     all_told =
         let many : length rows ≡ count_by is_some values = rows_many n names 0 values in
         record {
@@ -263,8 +244,8 @@ module _ (n : NetworkModel) (names : NameLists) (valid : IsValid n) (fit : Names
               let r = row_told i inside in
               let both : ◌≡◌ {A = Option ℕ} (Some (offset_at values i)) (Some c) = sym (row_connection i inside) ∙ at in
               let same : offset_at values i ≡ c = cc in
-              ap (value_of values) (sym same) ∙ r.1.value ∙ sym (ap value_in r.1.row ∙ value_back (offset_at values i) r.0 r.1.there (small (offset_at values i) r.0 r.1.value));
-          others = λ c never. never_told c (λ i within. never i (omega (arith, within))) (value_of values c) refl;
+              ap (bound_of values) (sym same) ∙ r.1.value ∙ sym (ap nanos_in r.1.row ∙ value_back (offset_at values i) r.0 r.1.there (small (offset_at values i) r.0 r.1.value));
+          others = λ c never. never_told c (λ i within. never i (omega (arith, within))) (bound_of values c) refl;
         }
 
   -- ---- the first row
@@ -274,7 +255,7 @@ module _ (n : NetworkModel) (names : NameLists) (valid : IsValid n) (fit : Names
     bounds_kept : IsKept (bounds_record names q values)
     bounds_kept =
         seven_kept (codes "bounds") (codes "1") (place_name names q.source.0) (place_name names q.target.0) (moment_text q.start.0) (moment_text q.deadline.0)
-        (decimal (count_by is_some values)) refl refl (place_kept q.source.0 source) (place_kept q.target.0 target) (moment_kept q.start.0) (moment_kept q.deadline.0)
+        (decimal (count_by is_some values)) refl refl (place_kept n names fit q.source.0 source) (place_kept n names fit q.target.0 target) (moment_kept q.start.0) (moment_kept q.deadline.0)
         (decimal_kept (count_by is_some values) (omega (arith, few)))
 
     abbrev bounds : BoundsRow
@@ -289,15 +270,14 @@ module _ (n : NetworkModel) (names : NameLists) (valid : IsValid n) (fit : Names
         three a b d one two more = rw (one, two, more, le-leb q.start.0 q.deadline.0 in_time) refl
 
     bounds_back : bounds_in names q.source.0 q.target.0 q.start.0 (bounds_record names q values) ≡ Ok bounds
-    bounds_back =
-        ap (λ (x : Option BoundsRow). bounds_by q.source.0 q.target.0 q.start.0 x (number_of names.places (place_name names q.source.0)) (number_of names.places (place_name names q.target.0)))
-        bounds_row_back
-        ∙ ap (λ (x : Option ℕ). bounds_by q.source.0 q.target.0 q.start.0 (Some bounds) x (number_of names.places (place_name names q.target.0))) (place_named q.source.0 source)
-        ∙ ap (bounds_by q.source.0 q.target.0 q.start.0 (Some bounds) (Some q.source.0)) (place_named q.target.0 target)
-        ∙ asked
-      where
-        asked : bounds_by q.source.0 q.target.0 q.start.0 (Some bounds) (Some q.source.0) (Some q.target.0) ≡ Ok bounds
-        asked = rw (eq-eqb q.source.0 q.source.0 refl, eq-eqb q.target.0 q.target.0 refl, eq-eqb q.start.0 q.start.0 refl) refl
+    bounds_back = rw (
+      bounds_row_back,
+      place_back n names fit own q.source.0 source,
+      place_back n names fit own q.target.0 target,
+      eq-eqb q.source.0 q.source.0 refl,
+      eq-eqb q.target.0 q.target.0 refl,
+      eq-eqb q.start.0 q.start.0 refl,
+    ) refl
 
     no_mark : (rest : List (List ℕ)) (others : List (List (List ℕ))) → strip_bom (text_of_rows ((codes "bounds" ∷ rest) ∷ others)) ≡ text_of_rows ((codes "bounds" ∷ rest) ∷ others)
     unfolding strip_bom text_of_rows
@@ -309,12 +289,12 @@ module _ (n : NetworkModel) (names : NameLists) (valid : IsValid n) (fit : Names
         ∙ table_back (bounds_record names q values ∷ value_records n names 0 values) (bounds_kept, records_kept 0 values (omega (arith, as_many))) (no_mark _ (value_records n names 0 values))
 
     -- whatever is read of the text is what was printed
-    pub reads_back : length values ≡ count n → ((c v : ℕ) → value_of values c ≡ Some v → v < 2 ^ 64)
-        → (result : Result (Query × LowerBounds) ProofFault) → IsReadAs n names q.source.0 q.target.0 q.start.0 (proof_text n names q values) result → IsReadBack q values result
+    pub reads_back : length values ≡ count n → ((c v : ℕ) → bound_of values c ≡ Some v → v < 2 ^ 64)
+        → (result : Result (Query × LowerBounds) ProofFault) → IsProofRead n names q.source.0 q.target.0 q.start.0 (proof_text n names q values) result → IsReadBack q values result
     reads_back as_many small (Ok read) is =
-        told_once read.0 read.1.values (subst (λ (t : List (List (List ℕ))). IsTold n names q.source.0 q.target.0 q.start.0 t read.0 read.1.values) (table_is as_many) is)
+        told_once read.0 read.1.values (subst (λ (t : List (List (List ℕ))). IsProofTold n names q.source.0 q.target.0 q.start.0 t read.0 read.1.values) (table_is as_many) is)
       where
-        told_once : (other : Query) (others : List (Option ℕ)) → IsTold n names q.source.0 q.target.0 q.start.0 (bounds_record names q values ∷ value_records n names 0 values) other others
+        told_once : (other : Query) (others : List (Option ℕ)) → IsProofTold n names q.source.0 q.target.0 q.start.0 (bounds_record names q values ∷ value_records n names 0 values) other others
             → (other ≡ q) × (others ≡ values)
         told_once other others told =
             let both : ◌≡◌ {A = Result BoundsRow ProofFault} (Ok told.bounds) (Ok bounds) = sym told.head ∙ bounds_back in

@@ -1,12 +1,15 @@
 -- What is read of the value rows so far.
-use Rattle.std.proofs.Common.{◌≡◌, ◌≢◌, ℕ, suc, ◌+◌, ◌<◌, ◌≤◌, ◌⊎◌, Bool, true, false, List, [], length, set, Option, Some, None, Ok, Err, Result, arith, inl, inr, sym}
+use Rattle.std.proofs.Common.{◌≡◌, ◌≢◌, ℕ, suc, ◌+◌, ◌<◌, ◌≤◌, ◌⊎◌, Bool, true, List, [], length, set, Option, Some, None, Ok, Err, Result, arith, inl, inr, sym}
 use Rattle.std.proofs.Common.{◌∙◌, ap, subst, refl, get_or-set_other, get_or-set_same}
 use Rattle.std.specs.Prelude.{max, if◌then◌else◌}
-use Rattle.std.specs.Option.{option_map}
+use Rattle.std.specs.Result.{result_err}
+use Rattle.std.specs.Option.{option_map, option_and_then}
 use Rattle.std.proofs.Math.Nat.{le-max_left}
 use Rattle.std.proofs.lemmas.Bool.{cases_lt, lt-ltb, ltb-true, le-ltb}
 use Rattle.std.proofs.lemmas.List.{length-set, get_or_past}
 use Rattle.csv_rows.specs.Tables.{row_count}
+use Rattle.plan_model.proofs.Results.{require-ok}
+use Rattle.printed_rows.proofs.Chains.{if-value}
 use Rattle.plan_model.specs.NetworkModel.{NetworkModel}
 use Rattle.plan_model.specs.NameLists.{NameLists}
 use Rattle.plan_model.specs.Network.{count}
@@ -14,37 +17,33 @@ use Rattle.printed_rows.specs.Fields.{field, number_of, connection_of, rises}
 use Rattle.lower_proof.specs.declared.reader.ValueRow.{ValueRow}
 use Rattle.lower_proof.specs.declared.reader.Told.{Told}
 use Rattle.lower_proof.specs.declared.reader.ProofFault.{ProofFault}
-use Rattle.lower_proof.specs.declared.reader.ProofFault.TheVariants.{Row, NotRising}
-use Rattle.lower_proof.specs.Certificates.{value_of}
-use Rattle.lower_proof.specs.Reading.{value_row_in, connection_by, connection_in, value_in, told_after, told_by, told_in, value_row, connection_before, fault_of, value_fault, IsFirstFault, AreTold}
+use Rattle.lower_proof.specs.declared.reader.ProofFault.TheVariants.{Row}
+use Rattle.lower_proof.specs.Certificates.{bound_of}
+use Rattle.lower_proof.specs.Reading.{value_row_in, connection_in, nanos_in, told_in, value_row, connection_before, value_fault, IsFirstFault, AreValuesTold}
 
 -- ---- a row that tells
 
-record Tells (n : NetworkModel) (row : Option ValueRow) (run before : Option ℕ) (told : Told) : Type 0 where
-  connection : connection_by n row run ≡ Some told.id.0
-  value : option_map (λ (x : ValueRow). x.value) row ≡ Some told.value
+record Tells (n : NetworkModel) (names : NameLists) (before : Option ℕ) (r : List (List ℕ)) (told : Told) : Type 0 where
+  connection : connection_in n names r ≡ Some told.id.0
+  value : nanos_in r ≡ Some told.value
   rise : rises before told.id.0 ≡ true
 
-abbrev made : ℕ → ℕ → Told
-made c v = record { id = record { 0 = c }; value = v }
-
-risen : (line c v : ℕ) (test : Bool) (told : Told) → ◌≡◌ {A = Result Told ProofFault} (if test then Ok (made c v) else Err (NotRising line)) (Ok told) → (test ≡ true) × (made c v ≡ told)
-risen line c v true told is = (refl, (cc))
-risen line c v false told is = absurd (cc)
-
-told_found : (n : NetworkModel) (line : ℕ) (before : Option ℕ) (v : ℕ) (found : Option ℕ) (told : Told) → told_after line before v found ≡ Ok told
-    → (found ≡ Some told.id.0) × (v ≡ told.value) × (rises before told.id.0 ≡ true)
-told_found n line before v None told is = absurd (cc)
-told_found n line before v (Some c) told is =
-    let own = risen line c v (rises before c) told is in
-    (ap (λ (t : Told). Some t.id.0) own.1, ap (λ (t : Told). t.value) own.1, subst (λ (t : Told). rises before t.id.0 ≡ true) own.1 own.0)
-
-tells : (n : NetworkModel) (line : ℕ) (before : Option ℕ) (row : Option ValueRow) (run : Option ℕ) (told : Told) → told_by n line before row run ≡ Ok told → Tells n row run before told
-tells n line before None run told is = absurd (cc)
-tells n line before (Some x) None told is = absurd (cc)
-tells n line before (Some x) (Some run) told is =
-    let own = told_found n line before x.value (connection_of n run x.step) told is in
-    record { connection = own.0; value = ap Some own.1; rise = own.2 }
+tells : (n : NetworkModel) (names : NameLists) (line : ℕ) (before : Option ℕ) (r : List (List ℕ)) (told : Told) → told_in n names line before r ≡ Ok told → Tells n names before r told
+tells n names line before r told is =
+    let x = require-ok (value_row_in r) _ _ told is in
+    let run = require-ok (number_of names.runs (field r 1)) _ _ told x.2 in
+    let c = require-ok (connection_of n run.0 x.0.step) _ _ told run.2 in
+    let own = if-value (rises before c.0) _ _ told c.2 in
+    let same : record { id = record { 0 = c.0 }; value = x.0.value } ≡ told = (cc) in
+    subst (Tells n names before r) same (record {
+      connection = by_parts (value_row_in r) (number_of names.runs (field r 1)) x.1 run.1 c.1;
+      value = ap (option_map (λ (row : ValueRow). row.value)) x.1;
+      rise = own.0;
+    })
+  where
+    by_parts : (row : Option ValueRow) (run : Option ℕ) {x : ValueRow} {k c : ℕ} → row ≡ Some x → run ≡ Some k → connection_of n k x.step ≡ Some c
+        → option_and_then (λ y. option_and_then (λ own. connection_of n own y.step) run) row ≡ Some c
+    by_parts row run one two is = rw (one, two) is
 
 above : (last : Option ℕ) (l c : ℕ) → last ≡ Some l → rises last c ≡ true → l < c
 above None l c is rise = absurd (cc)
@@ -59,10 +58,10 @@ pub record IsReadTo (n : NetworkModel) (names : NameLists) (t : List (List (List
   pub before : last ≡ connection_before n names t i
   pub below : (k c : ℕ) → k < i → connection_in n names (value_row t k) ≡ Some c → (l : ℕ) × (last ≡ Some l) × (c ≤ l)
   pub as_many : length values ≡ count n
-  pub told : (k c : ℕ) → k < i → connection_in n names (value_row t k) ≡ Some c → value_of values c ≡ value_in (value_row t k)
-  pub others : (c : ℕ) → ((k : ℕ) → k < i → connection_in n names (value_row t k) ≢ Some c) → value_of values c ≡ None
+  pub told : (k c : ℕ) → k < i → connection_in n names (value_row t k) ≡ Some c → bound_of values c ≡ nanos_in (value_row t k)
+  pub others : (c : ℕ) → ((k : ℕ) → k < i → connection_in n names (value_row t k) ≢ Some c) → bound_of values c ≡ None
 
-pub read_first : (n : NetworkModel) (names : NameLists) (t : List (List (List ℕ))) (stated : ℕ) (values : List (Option ℕ)) → length values ≡ count n → ((c : ℕ) → value_of values c ≡ None)
+pub read_first : (n : NetworkModel) (names : NameLists) (t : List (List (List ℕ))) (stated : ℕ) (values : List (Option ℕ)) → length values ≡ count n → ((c : ℕ) → bound_of values c ≡ None)
     → IsReadTo n names t stated 0 values None
 read_first n names t stated values as_many none = record {
   rows = omega arith;
@@ -77,11 +76,11 @@ read_first n names t stated values as_many none = record {
 
 -- the fault of row i, by what it tells after the row before
 fault_is : (n : NetworkModel) (names : NameLists) (t : List (List (List ℕ))) (stated i : ℕ) (last : Option ℕ) (told : Result Told ProofFault) → i < stated → last ≡ connection_before n names t i
-    → told ≡ told_in n names (i + 2) last (value_row t i) → value_fault n names t stated i ≡ fault_of told
+    → told ≡ told_in n names (i + 2) last (value_row t i) → value_fault n names t stated i ≡ result_err told
 fault_is n names t stated i last told inside before is =
-    ap (λ (b : Bool). if b then fault_of (told_in n names (i + 2) (connection_before n names t i) (value_row t i)) else Some (Row (i + 2))) (lt-ltb i stated inside)
-    ∙ ap (λ (x : Option ℕ). fault_of (told_in n names (i + 2) x (value_row t i))) (sym before)
-    ∙ ap fault_of (sym is)
+    ap (λ (b : Bool). if b then result_err (told_in n names (i + 2) (connection_before n names t i) (value_row t i)) else Some (Row (i + 2))) (lt-ltb i stated inside)
+    ∙ ap (λ (x : Option ℕ). result_err (told_in n names (i + 2) x (value_row t i))) (sym before)
+    ∙ ap result_err (sym is)
 
 module _ (n : NetworkModel) (names : NameLists) (t : List (List (List ℕ))) (stated i : ℕ) (values : List (Option ℕ)) (last : Option ℕ) (so_far : IsReadTo n names t stated i values last) where
   below_or_here : (k : ℕ) → k < i + 1 → (k < i) ⊎ (k ≡ i)
@@ -106,8 +105,8 @@ module _ (n : NetworkModel) (names : NameLists) (t : List (List (List ℕ))) (st
     told = λ k d less at. elim (below_or_here k less) [
       | inl own ↦ get_or-set_other values c d (Some told.value) None (λ e. fresh k own (at ∙ ap Some e)) ∙ so_far.told k d own at
       | inr same ↦
-          subst (λ (m : ℕ). value_of (set values c (Some told.value)) d ≡ value_in (value_row t m)) (sym same)
-          (subst (λ (m : ℕ). value_of (set values c (Some told.value)) m ≡ value_in (value_row t i)) (sym (named k d same at)) (stored ∙ sym own_row.value))
+          subst (λ (m : ℕ). bound_of (set values c (Some told.value)) d ≡ nanos_in (value_row t m)) (sym same)
+          (subst (λ (m : ℕ). bound_of (set values c (Some told.value)) m ≡ nanos_in (value_row t i)) (sym (named k d same at)) (stored ∙ sym own_row.value))
     ];
     others = λ d never.
         get_or-set_other values c d (Some told.value) None (λ e. never i (omega arith) (own_row.connection ∙ ap Some (sym e)))
@@ -117,8 +116,8 @@ module _ (n : NetworkModel) (names : NameLists) (t : List (List (List ℕ))) (st
       c : ℕ
       c = told.id.0
 
-      own_row : Tells n (value_row_in (value_row t i)) (number_of names.runs (field (value_row t i) 1)) last told
-      own_row = tells n (i + 2) last (value_row_in (value_row t i)) (number_of names.runs (field (value_row t i) 1)) told (sym is)
+      own_row : Tells n names last (value_row t i) told
+      own_row = tells n names (i + 2) last (value_row t i) told (sym is)
 
       fresh : (k : ℕ) → k < i → connection_in n names (value_row t k) ≢ Some c
       fresh k less at = let b = so_far.below k c less at in let l_below = above last b.0 c b.1 own_row.rise in omega (arith, l_below, b.2)
@@ -129,7 +128,7 @@ module _ (n : NetworkModel) (names : NameLists) (t : List (List (List ℕ))) (st
           let both : ◌≡◌ {A = Option ℕ} (Some d) (Some c) = sym at_i ∙ own_row.connection in
           cc
 
-      stored : value_of (set values c (Some told.value)) c ≡ Some told.value
+      stored : bound_of (set values c (Some told.value)) c ≡ Some told.value
       stored = get_or-set_same values c (Some told.value) None (omega (arith, there, so_far.as_many))
 
   -- row i has a fault
@@ -149,7 +148,7 @@ module _ (n : NetworkModel) (names : NameLists) (t : List (List (List ℕ))) (st
     within = within;
     here = elim (cases_lt i stated) [
       | inr too_many ↦
-          ap (λ (b : Bool). if b then fault_of (told_in n names (i + 2) (connection_before n names t i) (value_row t i)) else Some (Row (i + 2))) (le-ltb i stated too_many)
+          ap (λ (b : Bool). if b then result_err (told_in n names (i + 2) (connection_before n names t i) (value_row t i)) else Some (Row (i + 2))) (le-ltb i stated too_many)
       | inl stated_more ↦ missing stated_more (elim ends [ inl past ↦ past | inr more ↦ absurd (omega (arith, more, stated_more)) ])
     ];
     first = so_far.faultless;
@@ -157,11 +156,11 @@ module _ (n : NetworkModel) (names : NameLists) (t : List (List (List ℕ))) (st
     where
       missing : i < stated → row_count t ≤ i → value_fault n names t stated i ≡ Some (Row (i + 2))
       missing inside past =
-          ap (λ (b : Bool). if b then fault_of (told_in n names (i + 2) (connection_before n names t i) (value_row t i)) else Some (Row (i + 2))) (lt-ltb i stated inside)
-          ∙ ap (λ (r : List (List ℕ)). fault_of (told_in n names (i + 2) (connection_before n names t i) r)) (get_or_past t (i + 1) [] (omega (arith, past)))
+          ap (λ (b : Bool). if b then result_err (told_in n names (i + 2) (connection_before n names t i) (value_row t i)) else Some (Row (i + 2))) (lt-ltb i stated inside)
+          ∙ ap (λ (r : List (List ℕ)). result_err (told_in n names (i + 2) (connection_before n names t i) r)) (get_or_past t (i + 1) [] (omega (arith, past)))
 
   -- all rows
-  pub read_all : max (row_count t) stated ≤ i → AreTold n names t stated values
+  pub read_all : max (row_count t) stated ≤ i → AreValuesTold n names t stated values
   read_all whole =
       let all : i ≡ row_count t = omega (arith, le-max_left (row_count t) stated, so_far.rows, whole) in
       record {

@@ -7,7 +7,7 @@ use Rattle.plan_model.specs.NetworkModel.{NetworkModel}
 use Rattle.plan_model.specs.Network.{count, connection, from_of, dep_of}
 use Rattle.plan_model.specs.Ways.{way_of}
 use Rattle.plan_model.specs.Strategy.{IsBoardable, IsBoardableAtStart}
-use Rattle.lower_proof.specs.Certificates.{value_of, IsLeastOf, Offers}
+use Rattle.lower_proof.specs.Certificates.{bound_of, IsLeastOf, Offers}
 use Rattle.lower_proof.specs.Steps.{lesser}
 use Rattle.lower_proof.proofs.Leasts.{OffersBelow, none_below, with_offer, without_offer, all_offers}
 
@@ -20,7 +20,7 @@ module _ (n : NetworkModel) (values : List (Option ℕ)) (Boards : ℕ → Type 
   found_next m within before = elim (cases_Bool ((connection n m).can_board && test m)) [
     | inl is ↦
         let tests = and_parts (connection n m).can_board (test m) is in
-        (lesser before.0 (value_of values m), with_offer n values Boards m before.0 (omega arith) tests.0 ((decides m).0 tests.1) before.1)
+        (lesser before.0 (bound_of values m), with_offer n values Boards m before.0 (omega arith) tests.0 ((decides m).0 tests.1) before.1)
     | inr is_not ↦ (
       before.0,
       without_offer n values Boards m before.0

@@ -11,7 +11,7 @@ use Rattle.plan_model.specs.Rows.{EachKid}
 use Rattle.plan_model.specs.Strategy.{IsLeg, IsBoardable, IsBoardableAtStart, IsSafe, AreSafe}
 use Rattle.plan_model.specs.Expected.{Below, arrival}
 use Rattle.interval_fixed.specs.Means.{weighted}
-use Rattle.lower_proof.specs.Certificates.{value_of, IsLeastOf, Offers, arrived_by, IsLeastValue, IsLeastAt, AreLeast, IsVia, IsAtMost, IsAccepted}
+use Rattle.lower_proof.specs.Certificates.{bound_of, IsLeastOf, Offers, arrived_by, IsLeastValue, IsLeastAt, AreLeast, IsVia, HasValueUpTo, IsAccepted}
 use Rattle.lower_proof.specs.Promises.{IsSound}
 use Rattle.plan_model.specs.Bounds.{nanos_per_second}
 use Rattle.plan_model.proofs.Laws.{below_less}
@@ -19,7 +19,7 @@ use Rattle.interval_fixed.proofs.Sums.{mean_below}
 use Rattle.lower_proof.proofs.Leasts.{least_some}
 use Rattle.lower_proof.proofs.Search.{least_boardable, least_at_start}
 
-pub at_most : (o : Option ℕ) (v : ℕ) → IsAtMost o v → (w : ℕ) × (o ≡ Some w) × (w ≤ v)
+pub at_most : (o : Option ℕ) (v : ℕ) → HasValueUpTo o v → (w : ℕ) × (o ≡ Some w) × (w ≤ v)
 at_most None v h = absurd h
 at_most (Some w) v h = (w, refl, h)
 
@@ -42,7 +42,7 @@ module _ (n : NetworkModel) (q : Query) (values : List (Option ℕ)) where
     pub ride_bound : (Boards : ℕ → Type 0) (p x i j v : ℕ) (least : Option ℕ) → p ≢ q.target.0
         → IsLeastOf (λ w. (c : ℕ) × Offers n values Boards c w) least → IsLeg n i j → Boards i → IsVia n q values j v → (u : ℕ) × IsLeastValue n q values Boards p x (Some u) × (u ≤ v)
     ride_bound Boards p x i j v least away is_least leg boards via =
-        let own = at_most (value_of values i) v (accepted i leg.enter leg.board j v leg via) in
+        let own = at_most (bound_of values i) v (accepted i leg.enter leg.board j v leg via) in
         let offer : Offers n values Boards i own.0 = record { there = leg.enter; board = leg.board; boards = boards; value = own.1 } in
         let found = least_some (λ w. (c : ℕ) × Offers n values Boards c w) least own.0 is_least (i, offer) in
         (found.0, record { at_target = λ e. absurd (away e); elsewhere = λ e. subst (IsLeastOf (λ w. (c : ℕ) × Offers n values Boards c w)) found.1 is_least }, omega (arith, found.2, own.2))

@@ -10,19 +10,19 @@ use Rattle.plan_model.specs.NetworkModel.{NetworkModel}
 use Rattle.plan_model.specs.Network.{count, connection, to_of, dep_of, arr_of, run_of, outcomes, IsValid}
 use Rattle.plan_model.specs.Strategy.{IsBoardable}
 use Rattle.plan_model.proofs.Bounds.{forward}
-use Rattle.lower_proof.specs.Certificates.{value_of, IsLeastOf, Offers, IsLeastAt, AreLeast, IsVia, IsTight}
+use Rattle.lower_proof.specs.Certificates.{bound_of, IsLeastOf, Offers, IsLeastAt, AreLeast, IsVia, IsTight}
 use Rattle.lower_proof.specs.Steps.{exit_of, IsBestExit}
 use Rattle.lower_proof.proofs.Leasts.{least_same}
 use Rattle.plan_model.proofs.Boarding.{boards_later}
 use Rattle.plan_model.proofs.ScanOrders.{Known, known_left_out, IsNext}
 use Rattle.lower_proof.specs.declared.board.Entry.{Entry}
-use Rattle.lower_proof.specs.Departures.{NoneAfter, AreDepartures}
+use Rattle.lower_proof.specs.Departures.{NoneAfter, AreDepartingBy}
 use Rattle.lower_proof.proofs.Departing.{Late, all_taken}
 use Rattle.lower_proof.proofs.Exits.{LeavesBy, Rides, IsScanned, scanned_first, scanned_is_next, scanned_next, best_ride, none_rides}
 
 -- both have the same value for each connection that departs later
 abbrev pub Agree : NetworkModel → ℕ → List (Option ℕ) → List (Option ℕ) → Type 0
-Agree n moment values others = (c : ℕ) → c < count n → moment < dep_of n c → value_of values c ≡ value_of others c
+Agree n moment values others = (c : ℕ) → c < count n → moment < dep_of n c → bound_of values c ≡ bound_of others c
 
 agree_back : (n : NetworkModel) (moment : ℕ) (values others : List (Option ℕ)) → Agree n moment values others → Agree n moment others values
 agree_back n moment values others agree c there later = sym (agree c there later)
@@ -98,12 +98,12 @@ given board best = cond board best None
 pub record WriteState (n : NetworkModel) (q : Query) (last : ℕ) (taken : List ConnectionId) (left : List Entry) (exits values : List (Option ℕ)) : Type 0 where
   pub scanned : IsScanned n q values last taken left exits
   pub as_many : length values ≡ count n
-  pub boarded : (c : ℕ) → c < count n → Known (Late n last) taken c → IsTrue (connection n c).can_board → IsLeastOf (Rides n q values c) (value_of values c)
+  pub boarded : (c : ℕ) → c < count n → Known (Late n last) taken c → IsTrue (connection n c).can_board → IsLeastOf (Rides n q values c) (bound_of values c)
   pub none_after : NoneAfter n values last
-  pub others : (c : ℕ) → c < count n → Known (Late n last) taken c → (IsTrue (connection n c).can_board → ⊥) → value_of values c ≡ None
+  pub others : (c : ℕ) → c < count n → Known (Late n last) taken c → (IsTrue (connection n c).can_board → ⊥) → bound_of values c ≡ None
 
 module _ {n : NetworkModel} (good : IsValid n) {q : Query} {last : ℕ} where
-  pub write_first : {entries : List Entry} {exits values : List (Option ℕ)} → q.deadline.0 ≤ last → length values ≡ count n → NoneAfter n values last → AreDepartures n last entries
+  pub write_first : {entries : List Entry} {exits values : List (Option ℕ)} → q.deadline.0 ≤ last → length values ≡ count n → NoneAfter n values last → AreDepartingBy n last entries
       → ((c : ℕ) → c < count n → run_of n c < length exits) → ((run : ℕ) → exit_of exits run ≡ None) → WriteState n q last [] entries exits values
   write_first {entries} {exits} {values} deadline as_many none_after are runs empty = record {
     scanned = scanned_first n good q values last deadline none_after entries exits are runs empty;
@@ -121,10 +121,10 @@ module _ {n : NetworkModel} (good : IsValid n) {q : Query} {last : ℕ} where
     abbrev written : List (Option ℕ)
     written = set values e.id.0 (given (connection n e.id.0).can_board best)
 
-    value_now : value_of written e.id.0 ≡ given (connection n e.id.0).can_board best
+    value_now : bound_of written e.id.0 ≡ given (connection n e.id.0).can_board best
     value_now = get_or-set_same values e.id.0 (given (connection n e.id.0).can_board best) None (let there = next.there in let as_many = state.as_many in omega arith)
 
-    value_other : (c : ℕ) → c ≢ e.id.0 → value_of written c ≡ value_of values c
+    value_other : (c : ℕ) → c ≢ e.id.0 → bound_of written c ≡ bound_of values c
     value_other c differ = get_or-set_other values e.id.0 c (given (connection n e.id.0).can_board best) None differ
 
     pub written_agrees : Agree n (dep_of n e.id.0) values written
@@ -148,13 +148,13 @@ module _ {n : NetworkModel} (good : IsValid n) {q : Query} {last : ℕ} where
     write_next = record {
       scanned = scanned_agrees n good q last taken e.id next values written written_agrees (scanned_next good state.scanned rest e popped own);
       as_many = length-set values e.id.0 (given (connection n e.id.0).can_board best) ∙ state.as_many;
-      boarded = λ c there known board. rides_agree n good q last taken e.id next values written written_agrees c there known (value_of written c)
-          (scanned_cases (λ i. i < count n → IsTrue (connection n i).can_board → IsLeastOf (Rides n q values i) (value_of written i))
+      boarded = λ c there known board. rides_agree n good q last taken e.id next values written written_agrees c there known (bound_of written c)
+          (scanned_cases (λ i. i < count n → IsTrue (connection n i).can_board → IsLeastOf (Rides n q values i) (bound_of written i))
           (λ inside board_id. rw (value_now ∙ ap (λ b. given b best) board_id) (best_ride good state.scanned rest e popped own board_id))
           (λ i differ earlier inside board_i. rw (value_other i differ) (state.boarded i inside earlier board_i)) c known there board);
       none_after = λ c there late.
           value_other c (λ is. next.new (known_left_out (Late n last) taken e.id.0 (subst (λ i. last < dep_of n i) is late))) ∙ state.none_after c there late;
-      others = λ c there known never. scanned_cases (λ i. i < count n → (IsTrue (connection n i).can_board → ⊥) → value_of written i ≡ None)
+      others = λ c there known never. scanned_cases (λ i. i < count n → (IsTrue (connection n i).can_board → ⊥) → bound_of written i ≡ None)
           (λ inside never_id. value_now ∙ none_given (connection n e.id.0).can_board never_id)
           (λ i differ earlier inside never_i. value_other i differ ∙ state.others i inside earlier never_i) c known there never;
     }

@@ -4,7 +4,7 @@ use Rattle.plan_model.specs.NetworkModel.{NetworkModel}
 use Rattle.plan_model.specs.Network.{count, connection, dep_of}
 use Rattle.plan_model.specs.Strategy.{IsBoardable}
 use Rattle.lower_proof.specs.declared.board.Entry.{Entry}
-use Rattle.lower_proof.specs.Certificates.{value_of}
+use Rattle.lower_proof.specs.Certificates.{bound_of}
 
 -- the entry at this position
 abbrev pub entry_at : List Entry → ℕ → Entry
@@ -28,17 +28,17 @@ Falls entries = AllPairs (λ a b. b.by.0 ≤ a.by.0) entries
 
 -- one of the first m entries has this value
 abbrev pub FrontValue : List (Option ℕ) → List Entry → ℕ → ℕ → Type 0
-FrontValue values entries m v = (k : ℕ) × (k < m) × (value_of values (entry_at entries k).id.0 ≡ Some v)
+FrontValue values entries m v = (k : ℕ) × (k < m) × (bound_of values (entry_at entries k).id.0 ≡ Some v)
 
 -- one of the entries has this value, and is in time for an arrival
 abbrev pub ValueInTime : List (Option ℕ) → List Entry → ℕ → ℕ → Type 0
-ValueInTime values entries x v = (k : ℕ) × (k < length entries) × (x ≤ (entry_at entries k).by.0) × (value_of values (entry_at entries k).id.0 ≡ Some v)
+ValueInTime values entries x v = (k : ℕ) × (k < length entries) × (x ≤ (entry_at entries k).by.0) × (bound_of values (entry_at entries k).id.0 ≡ Some v)
 
 -- the least value of the first k + 1 entries, as far as it is known
 abbrev pub least_of : List (Option ℕ) → ℕ → Option ℕ
 least_of least k = slice_index_or least k None
 
 -- the entries of a place, and the least values that are known
-pub record Shown : Type 0 where
+pub record ShownBoard : Type 0 where
   pub entries : List Entry
   pub least : List (Option ℕ)

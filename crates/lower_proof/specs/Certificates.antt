@@ -12,8 +12,8 @@ use Rattle.plan_model.specs.Strategy.{IsLeg, IsBoardable, IsBoardableAtStart}
 use Rattle.interval_fixed.specs.Means.{weighted}
 
 -- the value of a connection, where it has one
-abbrev pub value_of : List (Option ℕ) → ℕ → Option ℕ
-value_of values c = slice_index_or values c None
+abbrev pub bound_of : List (Option ℕ) → ℕ → Option ℕ
+bound_of values c = slice_index_or values c None
 
 -- the least number that is P; none where no number is
 abbrev pub IsLeastOf : (ℕ → Type 0) → Option ℕ → Type 0
@@ -25,7 +25,7 @@ pub record Offers (network : NetworkModel) (values : List (Option ℕ)) (Boards 
   pub there : c < count network
   pub board : IsTrue (connection network c).can_board
   pub boards : Boards c
-  pub value : value_of values c ≡ Some v
+  pub value : bound_of values c ≡ Some v
 
 -- the arrival in nanoseconds, where it is by the deadline
 abbrev pub arrived_by : ℕ → ℕ → Option ℕ
@@ -59,13 +59,13 @@ pub record IsVia (network : NetworkModel) (query : Query) (values : List (Option
   pub mean : weighted (outcomes network j) least / 10000 ≡ v
 
 -- it has a value, and that is at most this one
-abbrev pub IsAtMost : Option ℕ → ℕ → Type 0
-IsAtMost None v = ⊥
-IsAtMost (Some w) v = w ≤ v
+abbrev pub HasValueUpTo : Option ℕ → ℕ → Type 0
+HasValueUpTo None v = ⊥
+HasValueUpTo (Some w) v = w ≤ v
 
 -- a connection's value is at most that of each way to leave its run after boarding it
 abbrev pub IsLocal : NetworkModel → Query → List (Option ℕ) → ℕ → Type 0
-IsLocal network query values c = (j v : ℕ) → IsLeg network c j → IsVia network query values j v → IsAtMost (value_of values c) v
+IsLocal network query values c = (j v : ℕ) → IsLeg network c j → IsVia network query values j v → HasValueUpTo (bound_of values c) v
 
 -- the same of each connection that can be boarded
 abbrev pub IsAccepted : NetworkModel → Query → List (Option ℕ) → Type 0
@@ -74,8 +74,8 @@ IsAccepted network query values = (c : ℕ) → c < count network → IsTrue (co
 -- as many entries as connections: each connection that can be boarded has the least value of the ways to leave its run after boarding it, and no other has one
 pub record IsTight (network : NetworkModel) (query : Query) (values : List (Option ℕ)) : Type 0 where
   pub as_many : length values ≡ count network
-  pub boarded : (c : ℕ) → c < count network → IsTrue (connection network c).can_board → IsLeastOf (λ v. (j : ℕ) × IsLeg network c j × IsVia network query values j v) (value_of values c)
-  pub others : (c : ℕ) → c < count network → (IsTrue (connection network c).can_board → ⊥) → value_of values c ≡ None
+  pub boarded : (c : ℕ) → c < count network → IsTrue (connection network c).can_board → IsLeastOf (λ v. (j : ℕ) × IsLeg network c j × IsVia network query values j v) (bound_of values c)
+  pub others : (c : ℕ) → c < count network → (IsTrue (connection network c).can_board → ⊥) → bound_of values c ≡ None
 
 -- it can be boarded and its value is too great, and it is the last such connection of the scan order
 pub record IsLastFault (network : NetworkModel) (query : Query) (values : List (Option ℕ)) (c : ℕ) : Type 0 where

@@ -1,21 +1,23 @@
 -- What the text of a certificate tells, or the first of its faults by line. Value row i stands in line i + 2.
-use Rattle.std.specs.Prelude.{◌≡◌, ◌≢◌, ℕ, zero, suc, ◌+◌, ◌<◌, Bool, List, [], length, ◌==◌, ◌&&◌, ◌⊎◌, nat_le, nat_lt, max, if◌then◌else◌, slice_index_or, codes, Option, Some, None, Result, Ok, Err}
-use Rattle.std.specs.Option.{option_map}
+use Rattle.std.specs.Prelude.{◌≡◌, ◌≢◌, ℕ, zero, suc, ◌+◌, ◌<◌, Bool, List, [], length, ◌&&◌, ◌⊎◌, nat_le, nat_lt, max, if◌then◌else◌, slice_index_or, codes, Option, Some, None, Result, Ok, Err}
+use Rattle.std.specs.Option.{option_map, option_and_then}
+use Rattle.std.specs.Result.{result_err}
 use Rattle.std.specs.Str.{bytes_eq}
 use Rattle.clock_text.specs.Times.{moment_at, nanos_at}
 use Rattle.csv_rows.specs.Tables.{table_of, header, row_count}
+use Rattle.plan_model.specs.Results.{require}
 use Rattle.plan_model.specs.declared.model.Query.{Query}
 use Rattle.plan_model.specs.NetworkModel.{NetworkModel}
 use Rattle.plan_model.specs.NameLists.{NameLists}
 use Rattle.plan_model.specs.Network.{count}
-use Rattle.printed_rows.specs.Fields.{field, is_kind, whole_at, number_of, connection_of, rises}
+use Rattle.printed_rows.specs.Fields.{field, is_kind, whole_at, number_of, is_query, connection_of, rises}
 use Rattle.lower_proof.specs.declared.LowerBounds.{LowerBounds}
 use Rattle.lower_proof.specs.declared.reader.BoundsRow.{BoundsRow}
 use Rattle.lower_proof.specs.declared.reader.ValueRow.{ValueRow}
 use Rattle.lower_proof.specs.declared.reader.Told.{Told}
 use Rattle.lower_proof.specs.declared.reader.ProofFault.{ProofFault}
 use Rattle.lower_proof.specs.declared.reader.ProofFault.TheVariants.{Row, UnknownName, NoConnection, NotRising, OtherQuery, NoMemory}
-use Rattle.lower_proof.specs.Certificates.{value_of}
+use Rattle.lower_proof.specs.Certificates.{bound_of}
 
 -- ---- the first row
 
@@ -34,20 +36,13 @@ is_bounds r = is_kind (codes "bounds") 7 r && bytes_eq (field r 1) (codes "1")
 abbrev pub bounds_row_in : List (List ℕ) → Option BoundsRow
 bounds_row_in r = if is_bounds r then bounds_numbers (moment_at (field r 4)) (moment_at (field r 5)) (whole_at (field r 6)) else None
 
--- whether two places and a moment are these
-abbrev pub is_query : ℕ → ℕ → ℕ → ℕ → ℕ → ℕ → Bool
-is_query from to moment source target start = (from == source) && ((to == target) && (moment == start))
-
-abbrev pub bounds_by : ℕ → ℕ → ℕ → Option BoundsRow → Option ℕ → Option ℕ → Result BoundsRow ProofFault
-bounds_by source target start None from to = Err (Row 1)
-bounds_by source target start (Some x) None to = Err (UnknownName 1)
-bounds_by source target start (Some x) (Some from) None = Err (UnknownName 1)
-bounds_by source target start (Some x) (Some from) (Some to) = if is_query from to x.start.0 source target start then Ok x else Err (OtherQuery 1)
-
 -- what the first row tells, or the first of its faults
 abbrev pub bounds_in : NameLists → ℕ → ℕ → ℕ → List (List ℕ) → Result BoundsRow ProofFault
 bounds_in names source target start r =
-    bounds_by source target start (bounds_row_in r) (number_of names.places (field r 2)) (number_of names.places (field r 3))
+    require (bounds_row_in r) (Row 1) (λ x.
+    require (number_of names.places (field r 2)) (UnknownName 1) (λ from.
+    require (number_of names.places (field r 3)) (UnknownName 1) (λ to.
+    if is_query from to x.start.0 source target start then Ok x else Err (OtherQuery 1))))
 
 -- ---- a value row
 
@@ -60,31 +55,21 @@ value_numbers (Some step) (Some value) = Some (record { step = step; value = val
 abbrev pub value_row_in : List (List ℕ) → Option ValueRow
 value_row_in r = if is_kind (codes "value") 4 r then value_numbers (whole_at (field r 2)) (nanos_at (field r 3)) else None
 
-abbrev pub connection_by : NetworkModel → Option ValueRow → Option ℕ → Option ℕ
-connection_by network None run = None
-connection_by network (Some x) None = None
-connection_by network (Some x) (Some run) = connection_of network run x.step
-
 -- the connection of a value row
 abbrev pub connection_in : NetworkModel → NameLists → List (List ℕ) → Option ℕ
-connection_in network names r = connection_by network (value_row_in r) (number_of names.runs (field r 1))
+connection_in network names r = option_and_then (λ x. option_and_then (λ run. connection_of network run x.step) (number_of names.runs (field r 1))) (value_row_in r)
 
 -- and its value
-abbrev pub value_in : List (List ℕ) → Option ℕ
-value_in r = option_map (λ x. x.value) (value_row_in r)
-
-abbrev pub told_after : ℕ → Option ℕ → ℕ → Option ℕ → Result Told ProofFault
-told_after line before value None = Err (NoConnection line)
-told_after line before value (Some c) = if rises before c then Ok (record { id = record { 0 = c }; value = value }) else Err (NotRising line)
-
-abbrev pub told_by : NetworkModel → ℕ → Option ℕ → Option ValueRow → Option ℕ → Result Told ProofFault
-told_by network line before None run = Err (Row line)
-told_by network line before (Some x) None = Err (UnknownName line)
-told_by network line before (Some x) (Some run) = told_after line before x.value (connection_of network run x.step)
+abbrev pub nanos_in : List (List ℕ) → Option ℕ
+nanos_in r = option_map (λ x. x.value) (value_row_in r)
 
 -- what a value row tells after one of an earlier connection, or the first of its faults
 abbrev pub told_in : NetworkModel → NameLists → ℕ → Option ℕ → List (List ℕ) → Result Told ProofFault
-told_in network names line before r = told_by network line before (value_row_in r) (number_of names.runs (field r 1))
+told_in network names line before r =
+    require (value_row_in r) (Row line) (λ x.
+    require (number_of names.runs (field r 1)) (UnknownName line) (λ run.
+    require (connection_of network run x.step) (NoConnection line) (λ c.
+    if rises before c then Ok (record { id = record { 0 = c }; value = x.value }) else Err (NotRising line))))
 
 -- ---- all lines
 
@@ -97,14 +82,10 @@ abbrev pub connection_before : NetworkModel → NameLists → List (List (List �
 connection_before network names t zero = None
 connection_before network names t (suc i) = connection_in network names (value_row t i)
 
-abbrev pub fault_of : Result Told ProofFault → Option ProofFault
-fault_of (Ok told) = None
-fault_of (Err fault) = Some fault
-
 -- the first fault of value row i, of which the first row states so many
 abbrev pub value_fault : NetworkModel → NameLists → List (List (List ℕ)) → ℕ → ℕ → Option ProofFault
 value_fault network names t stated i =
-    if nat_lt i stated then fault_of (told_in network names (i + 2) (connection_before network names t i) (value_row t i)) else Some (Row (i + 2))
+    if nat_lt i stated then result_err (told_in network names (i + 2) (connection_before network names t i) (value_row t i)) else Some (Row (i + 2))
 
 -- it is that of a value row, or of one that is missing, and no line before has one
 pub record IsFirstFault (network : NetworkModel) (names : NameLists) (t : List (List (List ℕ))) (stated : ℕ) (fault : ProofFault) : Type 0 where
@@ -119,26 +100,26 @@ IsFaultAfter network names t (Ok bounds) fault = IsFirstFault network names t bo
 IsFaultAfter network names t (Err first) fault = first ≡ fault
 
 -- no line has a fault, and the values are those of the value rows
-pub record AreTold (network : NetworkModel) (names : NameLists) (t : List (List (List ℕ))) (stated : ℕ) (values : List (Option ℕ)) : Type 0 where
+pub record AreValuesTold (network : NetworkModel) (names : NameLists) (t : List (List (List ℕ))) (stated : ℕ) (values : List (Option ℕ)) : Type 0 where
   pub faultless : (i : ℕ) → i < max (row_count t) stated → value_fault network names t stated i ≡ None
   pub as_many : length values ≡ count network
-  pub told : (i c : ℕ) → i < row_count t → connection_in network names (value_row t i) ≡ Some c → value_of values c ≡ value_in (value_row t i)
-  pub others : (c : ℕ) → ((i : ℕ) → i < row_count t → connection_in network names (value_row t i) ≢ Some c) → value_of values c ≡ None
+  pub told : (i c : ℕ) → i < row_count t → connection_in network names (value_row t i) ≡ Some c → bound_of values c ≡ nanos_in (value_row t i)
+  pub others : (c : ℕ) → ((i : ℕ) → i < row_count t → connection_in network names (value_row t i) ≢ Some c) → bound_of values c ≡ None
 
 -- the query has the source, the target and the start, and the deadline of the first row
-pub record IsTold (network : NetworkModel) (names : NameLists) (source target start : ℕ) (t : List (List (List ℕ))) (query : Query) (values : List (Option ℕ)) : Type 0 where
+pub record IsProofTold (network : NetworkModel) (names : NameLists) (source target start : ℕ) (t : List (List (List ℕ))) (query : Query) (values : List (Option ℕ)) : Type 0 where
   pub bounds : BoundsRow
   pub head : bounds_in names source target start (header t) ≡ Ok bounds
   pub from : query.source.0 ≡ source
   pub to : query.target.0 ≡ target
   pub since : query.start.0 ≡ start
   pub until : query.deadline ≡ bounds.deadline
-  pub told : AreTold network names t bounds.number values
+  pub told : AreValuesTold network names t bounds.number values
 
 -- what is read of a text, of this source, target and start: a query and values, or the first fault, or there was no memory
-abbrev pub IsReadAs : NetworkModel → NameLists → ℕ → ℕ → ℕ → List ℕ → Result (Query × LowerBounds) ProofFault → Type 0
-IsReadAs network names source target start text (Ok read) = IsTold network names source target start (table_of text) read.0 read.1.values
-IsReadAs network names source target start text (Err fault) =
+abbrev pub IsProofRead : NetworkModel → NameLists → ℕ → ℕ → ℕ → List ℕ → Result (Query × LowerBounds) ProofFault → Type 0
+IsProofRead network names source target start text (Ok read) = IsProofTold network names source target start (table_of text) read.0 read.1.values
+IsProofRead network names source target start text (Err fault) =
     (fault ≡ NoMemory) ⊎ IsFaultAfter network names (table_of text) (bounds_in names source target start (header (table_of text))) fault
 
 -- it is this query and these values, unless there was no memory
@@ -149,4 +130,4 @@ IsReadBack query values (Err fault) = fault ≡ NoMemory
 -- whatever is read of the text for this query's source, target and start
 abbrev pub ReadsBack : NetworkModel → NameLists → Query → List (Option ℕ) → List ℕ → Type 0
 ReadsBack network names query values text = (result : Result (Query × LowerBounds) ProofFault)
-    → IsReadAs network names query.source.0 query.target.0 query.start.0 text result → IsReadBack query values result
+    → IsProofRead network names query.source.0 query.target.0 query.start.0 text result → IsReadBack query values result

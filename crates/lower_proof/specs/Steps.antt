@@ -3,7 +3,7 @@ use Rattle.std.specs.Prelude.{◌≡◌, ℕ, ◌<◌, ◌≤◌, ◌^◌, List,
 use Rattle.plan_model.specs.declared.model.Query.{Query}
 use Rattle.plan_model.specs.NetworkModel.{NetworkModel}
 use Rattle.plan_model.specs.Network.{run_of}
-use Rattle.lower_proof.specs.Certificates.{value_of, IsLeastOf, IsVia}
+use Rattle.lower_proof.specs.Certificates.{bound_of, IsLeastOf, IsVia}
 
 -- the lesser of two values, where they are there
 abbrev pub lesser : Option ℕ → Option ℕ → Option ℕ
@@ -29,4 +29,4 @@ pub record IsBestExit (network : NetworkModel) (query : Query) (values exits : L
 
 -- the first m values fit 64 bits
 abbrev pub AllFit : ℕ → List (Option ℕ) → Type 0
-AllFit m values = (c v : ℕ) → c < m → value_of values c ≡ Some v → v < 2 ^ 64
+AllFit m values = (c v : ℕ) → c < m → bound_of values c ≡ Some v → v < 2 ^ 64

@@ -71,9 +71,9 @@ pub struct Board {
 
 impl Model for Board {
     ghost use Rattle.std.specs.Prelude.{◌≡◌, ◌≤◌, length, take};
-    ghost use Rattle.lower_proof.specs.Boards.{Shown};
+    ghost use Rattle.lower_proof.specs.Boards.{ShownBoard};
 
-    ghost Value = { Shown };
+    ghost Value = { ShownBoard };
 
     ghost view = { λ b. record { entries = b.entries.items; least = take b.known b.least.items } };
 

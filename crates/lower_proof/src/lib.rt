@@ -7,10 +7,10 @@ ghost use Rattle.plan_model.specs.NetworkModel.{NetworkModel};
 ghost use Rattle.plan_model.specs.declared.model.Query.{Query as QueryParts};
 ghost use Rattle.plan_model.specs.Network.{IsValid, count, run_of, arr_of};
 ghost use Rattle.plan_model.specs.Strategy.{IsBoardableAtStart};
-ghost use Rattle.lower_proof.specs.Certificates.{value_of, IsLeastOf, arrived_by, IsLeastAt, IsLeastAtStart, IsVia, IsTight, IsVerdict};
+ghost use Rattle.lower_proof.specs.Certificates.{bound_of, IsLeastOf, arrived_by, IsLeastAt, IsLeastAtStart, IsVia, IsTight, IsVerdict};
 ghost use Rattle.lower_proof.specs.Promises.{IsSound, IsBestCertificate};
 ghost use Rattle.lower_proof.specs.Steps.{lesser, KeepsTo, exit_of, IsBestExit};
-ghost use Rattle.lower_proof.specs.Departures.{NoneAfter, AreDepartures};
+ghost use Rattle.lower_proof.specs.Departures.{NoneAfter, AreDepartingBy};
 ghost use Rattle.lower_proof.specs.Minima.{IsBoard, board_at, AreBoards, AllLate};
 ghost use Rattle.interval_fixed.specs.Interval.{end_of_nanos};
 ghost use Rattle.plan_model.specs.Bounds.{end_of_time};
@@ -158,7 +158,7 @@ fn no_exits(alloc: Global, network: &Network) -> Result<Vec<Option<u64>>, NoMemo
 /// An entry for each connection, with no value.
 fn no_values(alloc: Global, network: &Network) -> Result<Vec<Option<u64>>, NoMemory>
     ensures as_many { IfOk result (λ values. length values.items ≡ count network.now) }
-    ensures none { IfOk result (λ values. (c : ℕ) → value_of values.items c ≡ Maybe.None) }
+    ensures none { IfOk result (λ values. (c : ℕ) → bound_of values.items c ≡ Maybe.None) }
 {
     Ok(vec![in alloc; None; network.count() as usize]?)
 }
@@ -197,7 +197,7 @@ fn check_all(
     scope: &Scope,
 ) -> Verdict
     requires valid { IsValid network.now }
-    requires departures { AreDepartures network.now scope.now.last.0 departures.items }
+    requires departures { AreDepartingBy network.now scope.now.last.0 departures.items }
     requires deadline { scope.now.query.deadline.0 ≤ scope.now.last.0 }
     requires values { length values.now ≡ count network.now }
     requires boards { AreBoards network.now scope.now.last.0 values.now boards.old }
@@ -275,7 +275,7 @@ fn write_all(
     scope: &Scope,
 )
     requires valid { IsValid network.now }
-    requires departures { AreDepartures network.now scope.now.last.0 departures.items }
+    requires departures { AreDepartingBy network.now scope.now.last.0 departures.items }
     requires deadline { scope.now.query.deadline.0 ≤ scope.now.last.0 }
     requires values { length values.old ≡ count network.now }
     requires boards { AreBoards network.now scope.now.last.0 values.old boards.old }

@@ -3,13 +3,13 @@ ghost use Rattle.std.specs.Prelude.{◌≡◌, ◌+◌, ◌<◌, ◌⊎◌, [], 
 ghost use Rattle.std.specs.Result.{IfErr};
 ghost use Rattle.csv_rows.specs.Tables.{header, row_count};
 ghost use Rattle.plan_model.specs.Network.{count};
-ghost use Rattle.lower_proof.specs.Reading.{is_bounds, bounds_row_in, is_query, bounds_in, value_row_in, told_in, IsFirstFault, AreTold, IsReadAs};
+ghost use Rattle.lower_proof.specs.Reading.{is_bounds, bounds_row_in, bounds_in, value_row_in, told_in, IsFirstFault, AreValuesTold, IsProofRead};
 
 use crate::{LowerBounds, no_values};
 use clock_text::{read_moment, read_nanos};
 use csv_rows::{Rows, RowsFault};
 use plan_model::{ConnectionId, List, Moment, Names, Network, NoMemory, PlaceId, Query};
-use printed_rows::{connection_of, is_kind, place_of, rises, run_of, whole};
+use printed_rows::{connection_of, is_kind, is_query, place_of, rises, run_of, whole};
 use std::alloc::Global;
 
 /// Why a text is no certificate for a network and a question. A line is the number of a record, from 1 on.
@@ -86,19 +86,6 @@ fn bounds_row(rows: &Rows) -> Option<BoundsRow>
         deadline,
         number,
     })
-}
-
-/// Whether two places and a moment are these.
-fn is_query(
-    places: (PlaceId, PlaceId),
-    moment: Moment,
-    source: PlaceId,
-    target: PlaceId,
-    start: Moment,
-) -> bool
-    ensures { result ≡ is_query places.0.0 places.1.0 moment.0 source.0 target.0 start.0 }
-{
-    places.0.0 == source.0 && places.1.0 == target.0 && moment.0 == start.0
 }
 
 /// What the first row tells, which is of this source, target and start.
@@ -179,7 +166,7 @@ fn read_values(
     names: &Names,
     stated: u32,
 ) -> Result<Vec<Option<u64>>, ProofFault>
-    ensures told { IfOk result (λ values. AreTold network.now names.now rows.now stated values.items) }
+    ensures told { IfOk result (λ values. AreValuesTold network.now names.now rows.now stated values.items) }
     ensures fault { IfErr result (λ fault. (fault ≡ ProofFault.NoMemory) ⊎ IsFirstFault network.now names.now rows.now stated fault) }
 {
     let mut values = match no_values(alloc, network) {
@@ -212,7 +199,7 @@ pub fn read_text(
     target: PlaceId,
     start: Moment,
 ) -> Result<(Query, LowerBounds), ProofFault>
-    ensures { IsReadAs network.now names.now source.0 target.0 start.0 bytes.now result }
+    ensures { IsProofRead network.now names.now source.0 target.0 start.0 bytes.now result }
 {
     let rows = match Rows::read(alloc, bytes) {
         Ok(rows) => rows,

@@ -1,7 +1,7 @@
 //! The connections that count, in the scan order.
 ghost use Rattle.std.specs.Prelude.{◌≡◌, ◌<◌, ◌≤◌, length, IfOk, Option as Maybe};
 ghost use Rattle.plan_model.specs.Network.{count, IsValid};
-ghost use Rattle.lower_proof.specs.Departures.{NoneAfter, AreDepartures};
+ghost use Rattle.lower_proof.specs.Departures.{NoneAfter, AreDepartingBy};
 
 use crate::board::Entry;
 use plan_model::{ConnectionId, Moment, Network, NoMemory};
@@ -35,7 +35,7 @@ pub fn last_departure(values: &[Option<u64>], network: &Network, deadline: Momen
 /// The connections that depart by a moment, in the scan order.
 pub fn departures_by(alloc: Global, network: &Network, last: Moment) -> Result<Vec<Entry>, NoMemory>
     ensures valid { IfOk result (λ _. IsValid network.now) }
-    ensures departures { IfOk result (λ departures. AreDepartures network.now last.0 departures.items) }
+    ensures departures { IfOk result (λ departures. AreDepartingBy network.now last.0 departures.items) }
 {
     let mut departures = Vec::new(alloc);
     for i in 0..network.count() {

@@ -25,6 +25,10 @@ number_of names text = if is_utf8 text then position_from (λ name. bytes_eq nam
 abbrev pub connection_of : NetworkModel → ℕ → ℕ → Option ℕ
 connection_of network run step = position_from (λ c. (c.run.0 == run) && (c.step == step)) 0 network.connections
 
+-- whether two places and a moment are these
+abbrev pub is_query : ℕ → ℕ → ℕ → ℕ → ℕ → ℕ → Bool
+is_query from to moment source target start = (from == source) && ((to == target) && (moment == start))
+
 -- whether it is greater than the one before, if there is one
 abbrev pub rises : Option ℕ → ℕ → Bool
 rises None x = true

@@ -5,13 +5,13 @@ ghost use Rattle.std.specs.Prelude.{◌≡◌, ℕ, ◌<◌, ◌+◌, ◌++◌, 
 ghost use Rattle.std.specs.Option.{option_map};
 ghost use Rattle.csv_rows.specs.Tables.{row_count};
 ghost use Rattle.plan_model.specs.Network.{count};
-ghost use Rattle.printed_rows.specs.Fields.{number_of, connection_of, whole_at, rises, is_kind};
+ghost use Rattle.printed_rows.specs.Fields.{number_of, connection_of, is_query, whole_at, rises, is_kind};
 ghost use Rattle.printed_rows.specs.Writers.{row_of_fields, written, IsBetweenRows};
 
 use clock_text::read_whole;
 use csv::{Writer, WriterBuilder};
 use csv_rows::Rows;
-use plan_model::{ConnectionId, Names, Network, NoMemory, PlaceId, RunId};
+use plan_model::{ConnectionId, Moment, Names, Network, NoMemory, PlaceId, RunId};
 use std::alloc::Global;
 
 /// The place of this name; none where it is not among the names.
@@ -49,6 +49,19 @@ pub fn whole(text: &[u8]) -> Option<u32>
     ensures { result ≡ whole_at text.now }
 {
     read_whole(text, 999_999_999)
+}
+
+/// Whether two places and a moment are these.
+pub fn is_query(
+    places: (PlaceId, PlaceId),
+    moment: Moment,
+    source: PlaceId,
+    target: PlaceId,
+    start: Moment,
+) -> bool
+    ensures { result ≡ is_query places.0.0 places.1.0 moment.0 source.0 target.0 start.0 }
+{
+    places.0.0 == source.0 && places.1.0 == target.0 && moment.0 == start.0
 }
 
 /// Whether a number is greater than the one before, if there is one.

@@ -1,12 +1,13 @@
-use Rattle.std.proofs.Common.{◌≡◌, ◌≤◌, ◌∙◌, List, ap, subst}
+use Rattle.std.proofs.Common.{◌≡◌, ◌≤◌, ◌∙◌, ℕ, List, Vec, ap, subst, sym}
 use Rattle.std.specs.Prelude.{IfOk}
+use Rattle.std.specs.Global.{Global}
+use Rattle.std.proofs.lemmas.Result.{IfOk-weaker}
 use Rattle.plan_graph.specs.Tidy.{IsFit}
 use Rattle.graph_text.specs.declared.version.Version.{Version}
 use Rattle.plan_graph.specs.declared.PlaceTable.{PlaceTable}
 use Rattle.graph_text.specs.Versions.{version_by, tables_leave}
 use Rattle.graph_text.specs.Texts.{graph_text, graph_text_in}
 use Rattle.graph_text.specs.Reading.{IsReadAs}
-use Rattle.graph_text.proofs.Versioned.{if_made}
 use Rattle.graph_text.proofs.write.Goals as goal
 
 pub returns-clause-text : goal.returns-clause-text
@@ -17,10 +18,11 @@ returns-clause-text c =
 
 pub returns-clause-reads_back : goal.returns-clause-reads_back
 returns-clause-reads_back c =
+    let n = c.args.network.now in
+    let names = c.args.names.now in
     let head = c.args.head.now in
-    if_made (λ items. IsFit c.args.network.now head.query c.args.graph.now → head.query.start.0 ≤ head.query.deadline.0 → IsReadAs c.args.network.now c.args.names.now head c.args.graph.now items)
-    c.text_by_place.result (graph_text c.args.network.now c.args.names.now head c.args.graph.now)
-    (subst (λ (version : Version). IfOk c.text_by_place.result
-    (λ text. text.items ≡ graph_text_in c.args.network.now c.args.names.now version head c.args.graph.now))
-    (c.version_of_tables.ensures ∙ ap (λ (tables : List PlaceTable). version_by (tables_leave c.args.network.now tables)) c.as_slice.ensures) c.text_by_place.ensures)
-    c.written_reads_back.ensures
+    let graph = c.args.graph.now in
+    IfOk-weaker c.text_by_place.result (λ (text : Vec ℕ Global). text.items ≡ graph_text n names head graph)
+    (λ (text : Vec ℕ Global). IsFit n head.query graph → head.query.start.0 ≤ head.query.deadline.0 → IsReadAs n names head graph text.items)
+    (λ text is fit in_time. subst (IsReadAs n names head graph) (sym is) (c.written_reads_back.ensures fit in_time))
+    (returns-clause-text c)

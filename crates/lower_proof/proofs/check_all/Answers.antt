@@ -2,7 +2,7 @@ use Rattle.std.proofs.Common.{◌∙◌, IsTrue, arith, rules, sym, ap}
 use Rattle.std.proofs.lemmas.Bool.{both_ways}
 use Rattle.plan_model.specs.declared.model.Connection.{Connection}
 use Rattle.plan_model.specs.Network.{connection}
-use Rattle.lower_proof.specs.Certificates.{value_of}
+use Rattle.lower_proof.specs.Certificates.{bound_of}
 use Rattle.lower_proof.specs.Steps.{KeepsTo}
 use Rattle.lower_proof.proofs.Exits.{check_first, check_there, check_next, check_fails, check_last}
 use Rattle.lower_proof.proofs.check_all.Goals as goal
@@ -38,7 +38,7 @@ pub loop-departure-preserved : goal.loop-departure-preserved
 loop-departure-preserved c =
     let can_board = (connection c.args.network.now c.in-Some.departure.id.0).can_board in
     let board_is = ap (λ (k : Connection). k.can_board) (sym c.get.ensures.connection) in
-    let keeps : IsTrue can_board → KeepsTo (value_of c.args.values.now c.in-Some.departure.id.0) c.offer-best.result = elim c.else-get.branch [
+    let keeps : IsTrue can_board → KeepsTo (bound_of c.args.values.now c.in-Some.departure.id.0) c.offer-best.result = elim c.else-get.branch [
       | else-get-via-then-get+else-not-keeps_to w ↦ λ board. w.keeps_to.ensures.0 (search rules)
       | else-get-via-else-get w ↦ λ board. absurd (both_ways can_board (board_is ∙ w.if-get.false) board)
     ] in

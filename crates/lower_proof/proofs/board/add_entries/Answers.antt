@@ -4,7 +4,7 @@ use Rattle.plan_model.specs.declared.model.Connection.{Connection}
 use Rattle.plan_model.specs.Network.{from_of, dep_of}
 use Rattle.plan_model.specs.Ways.{ways_into}
 use Rattle.plan_model.proofs.Boarding.{way_takes, way_of-listed}
-use Rattle.lower_proof.specs.Boards.{Shown}
+use Rattle.lower_proof.specs.Boards.{ShownBoard}
 use Rattle.lower_proof.specs.Minima.{board_at}
 use Rattle.lower_proof.proofs.Entries.{no_board, no_ways, all_ways, way_passed, way_added}
 use Rattle.lower_proof.proofs.board.add_entries.Goals as goal
@@ -44,7 +44,7 @@ loop-k-preserved c =
           let same = get_or_default boards way.from.0 w.index-boards-way.result no_board inside in
           let is : w.add.new.self.entries ≡ (board_at boards way.from.0).entries ++
           (record { by = record { 0 = by }; id = record { 0 = id } }) ∷ [] = w.in_ok-add.ensures.added
-          ∙ ap (λ (b : Shown). b.entries ++ (record { by = record { 0 = by }; id = record { 0 = id } }) ∷ []) same in
+          ∙ ap (λ (b : ShownBoard). b.entries ++ (record { by = record { 0 = by }; id = record { 0 = id } }) ∷ []) same in
           rw w.boards-is (record {
             len = length-set boards way.from.0 w.add.new.self ∙ loop.invariant.len;
             ways = λ last have. way_added n last id c.requires.valid departs_in loop.k way listed by c.requires.there c.requires.board sum boards w.add.new.self

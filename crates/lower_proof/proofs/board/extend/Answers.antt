@@ -1,6 +1,6 @@
 use Rattle.std.proofs.Common.{◌≡◌, ◌<◌, ◌∙◌, length, arith}
 use Rattle.std.proofs.lemmas.List.{length-set}
-use Rattle.lower_proof.specs.Certificates.{IsLeastOf, value_of}
+use Rattle.lower_proof.specs.Certificates.{IsLeastOf, bound_of}
 use Rattle.lower_proof.specs.Steps.{lesser}
 use Rattle.lower_proof.specs.Boards.{entry_at, FrontValue}
 use Rattle.lower_proof.proofs.Minima.{none_front, before_is, minima_more}
@@ -18,6 +18,6 @@ loop-k-preserved c =
       | else-k-eq0 w ↦ rw w.before-is (before_is values entries loop.least loop.k (omega arith) loop.invariant.minima)
     ] in
     rw c.lesser.ensures (record {
-      sizes = length-set loop.least loop.k (lesser c.if-k-eq0.before (value_of values (entry_at entries loop.k).id.0)) ∙ loop.invariant.sizes;
+      sizes = length-set loop.least loop.k (lesser c.if-k-eq0.before (bound_of values (entry_at entries loop.k).id.0)) ∙ loop.invariant.sizes;
       minima = minima_more values entries loop.least loop.k c.if-k-eq0.before within loop.invariant.minima before;
     })

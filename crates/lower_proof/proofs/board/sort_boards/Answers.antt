@@ -1,7 +1,7 @@
 use Rattle.std.proofs.Common.{◌≡◌, ◌<◌, ◌∙◌, length, arith, subst}
 use Rattle.std.specs.List.Sorted.{IsPermutation}
 use Rattle.std.proofs.lemmas.List.{get_or_default, length-set}
-use Rattle.lower_proof.specs.Boards.{Shown}
+use Rattle.lower_proof.specs.Boards.{ShownBoard}
 use Rattle.lower_proof.proofs.Entries.{no_board, AreSorted, sorted_more, sorted_boards, sorted_late}
 use Rattle.lower_proof.proofs.board.sort_boards.Goals as goal
 
@@ -10,7 +10,7 @@ loop-p-preserved c =
     let boards = c.loop-p.boards in
     let p = c.loop-p.p in
     let inside : p < length boards = omega (arith, c.loop-p.invariant.len, c.requires.len) in
-    let moved = subst (λ (b : Shown). IsPermutation b.entries c.sort.new.self.entries) (get_or_default boards p c.index-boards-p.result no_board inside) c.sort.ensures.permutation in
+    let moved = subst (λ (b : ShownBoard). IsPermutation b.entries c.sort.new.self.entries) (get_or_default boards p c.index-boards-p.result no_board inside) c.sort.ensures.permutation in
     record {
       len = length-set boards p c.sort.new.self ∙ c.loop-p.invariant.len;
       sorted = λ last have. sorted_more c.args.network.now last p boards c.sort.new.self inside moved c.sort.ensures.falls c.sort.ensures.least (c.loop-p.invariant.sorted last have);

@@ -2,12 +2,13 @@ use Rattle.std.proofs.Common.{◌≡◌, ◌≤◌, ℕ, List, [], Option, Vec, 
 use Rattle.std.specs.Prelude.{IfOk, is_some}
 use Rattle.std.specs.List.{count_by}
 use Rattle.std.specs.Global.{Global}
+use Rattle.std.proofs.lemmas.Result.{IfOk-weaker}
 use Rattle.std.proofs.lemmas.List.Sums.{count_by-le-length}
 use Rattle.printed_rows.specs.Writers.{written}
 use Rattle.lower_proof.specs.Steps.{AllFit}
-use Rattle.lower_proof.specs.Reading.{IsReadAs, ReadsBack}
+use Rattle.lower_proof.specs.Reading.{IsProofRead, ReadsBack}
 use Rattle.lower_proof.specs.Texts.{proof_text}
-use Rattle.lower_proof.proofs.Printed.{text_is, on_ok}
+use Rattle.lower_proof.proofs.Printed.{text_is}
 use Rattle.lower_proof.proofs.ReadBack.{present, reads_back}
 use Rattle.lower_proof.proofs.printer.write_text.Goals as goal
 
@@ -28,10 +29,10 @@ returns-clause-reads_back c =
     let valid = c.count-count.ensures.valid in
     let fit = subst (λ (list : List (Option ℕ)). AllFit (length list) list) c.as_slice-values.ensures c.in_ok-put_values.ensures.fit in
     let few : count_by is_some values ≤ 999999999 = omega (arith, count_by-le-length (is_some {T = ℕ}) values, c.requires.as_many, valid.few_connections) in
-    on_ok c.text_of.result (λ (text : Vec ℕ Global). text.items ≡ proof_text n names q values)
+    IfOk-weaker c.text_of.result (λ (text : Vec ℕ Global). text.items ≡ proof_text n names q values)
     (λ (text : Vec ℕ Global). q.start.0 ≤ q.deadline.0 → ReadsBack n names q values text.items)
     (λ text is in_time result read.
     reads_back n names valid c.requires.names c.places-places.ensures.names q values c.requires.source c.requires.target c.requires.start c.requires.deadline in_time few
     c.requires.as_many (λ x v at. fit x v (present values x v at) at) result
-    (subst (λ (bytes : List ℕ). IsReadAs n names q.source.0 q.target.0 q.start.0 bytes result) is read))
+    (subst (λ (bytes : List ℕ). IsProofRead n names q.source.0 q.target.0 q.start.0 bytes result) is read))
     (returns-clause-text c)

@@ -2,7 +2,7 @@ use Rattle.std.proofs.Common.{◌≡◌, arith, inl, inr, ap, subst, None}
 use Rattle.std.proofs.lemmas.Bool.{cases_lt}
 use Rattle.plan_model.specs.declared.model.Connection.{Connection}
 use Rattle.plan_model.specs.Network.{dep_of}
-use Rattle.lower_proof.specs.Certificates.{value_of}
+use Rattle.lower_proof.specs.Certificates.{bound_of}
 use Rattle.lower_proof.proofs.walk.last_departure.Goals as goal
 
 pub loop-i-preserved : goal.loop-i-preserved
@@ -15,6 +15,6 @@ loop-i-preserved c =
         | inr newest ↦
             let is : c.loop-i.i ≡ d = omega arith in
             let same = ap (dep_of c.args.network.now) is in
-            subst (λ i. value_of c.args.values.now i ≡ None) is (c.later-last.ensures.none (omega (arith, late, same, departs)))
+            subst (λ i. bound_of c.args.values.now i ≡ None) is (c.later-last.ensures.none (omega (arith, late, same, departs)))
       ];
     }

@@ -1,10 +1,10 @@
 use Rattle.std.proofs.Common.{◌≡◌, ℕ, ◌<◌, ◌≤◌, None}
 use Rattle.plan_model.specs.Network.{dep_of}
-use Rattle.lower_proof.specs.Certificates.{value_of}
+use Rattle.lower_proof.specs.Certificates.{bound_of}
 use Rattle.lower_proof.proofs.walk.last_departure.Given as goal
 
 abbrev pub invariant-loop-i : goal.invariant-loop-i
 invariant-loop-i l = record {
   deadline : l.fn.deadline.0 ≤ l.last.0;
-  none : (c : ℕ) → c < l.i → l.last.0 < dep_of l.network c → value_of l.values c ≡ None;
+  none : (c : ℕ) → c < l.i → l.last.0 < dep_of l.network c → bound_of l.values c ≡ None;
 }

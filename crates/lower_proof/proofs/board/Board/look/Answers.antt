@@ -2,7 +2,7 @@ use Rattle.std.proofs.Common.{◌≡◌, ◌-◌, ◌<◌, ◌≤◌, length, ma
 use Rattle.std.proofs.lemmas.Bool.{cases_lt}
 use Rattle.std.proofs.lemmas.List.{get_or_read, length-take}
 use Rattle.lower_proof.specs.Certificates.{IsLeastOf}
-use Rattle.lower_proof.specs.Boards.{Shown, FrontValue, least_of}
+use Rattle.lower_proof.specs.Boards.{ShownBoard, FrontValue, least_of}
 use Rattle.lower_proof.specs.Minima.{IsBoard, AreMinima, AreLate}
 use Rattle.lower_proof.proofs.Minima.{none_front, before_is, minima_fewer, front_in_time, written_back, board_shown}
 use Rattle.lower_proof.proofs.board.Board.look.Goals as goal
@@ -46,7 +46,7 @@ returns-clause-board c =
 pub returns-clause-late : goal.returns-clause-late
 returns-clause-late c = λ moment soon before k below.
     let entries = c.self.inside.entries.items in
-    let was = subst (λ (b : Shown). AreLate moment b.entries (length b.least)) (sym c.self.view_is) before in
+    let was = subst (λ (b : ShownBoard). AreLate moment b.entries (length b.least)) (sym c.self.view_is) before in
     let known = c.self.inside.known in
     let wanted = c.count_in_time-wanted.result in
     let in_time = rw c.deref.ensures.value at c.count_in_time-wanted.ensures.in_time in
