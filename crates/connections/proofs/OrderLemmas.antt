@@ -7,6 +7,7 @@ use Rattle.std.specs.Cmp.{IsStrictWeakOrder}
 use Rattle.std.specs.List.Sorted.{IsSorted, IsSortedBy, IsPermutation}
 use Rattle.std.proofs.lemmas.Bool.Decides.{nat_tests}
 use Rattle.std.proofs.lemmas.List.Elements.{All-cons, All-head, All-tail}
+use Rattle.std.proofs.lemmas.List.Kept.{AllPairs-cons}
 use Rattle.std.proofs.lemmas.List.Sorted.{sorted_far, sum_by-IsPermutation}
 use Rattle.std.proofs.lemmas.List.Sums.{sum_by-cons, sum_by-le}
 use Rattle.connections.specs.declared.repeats.Repeat.{Repeat}
@@ -148,20 +149,14 @@ pairs_head x xs p k d h = p 0 (suc k) d (omega arith) (omega arith)
 pairs_tail : (x : Repeat) (xs : List Repeat) → AllPairs Differ (x ∷ xs) → AllPairs Differ xs
 pairs_tail x xs p i j d l h = p (suc i) (suc j) d (omega arith) (omega arith)
 
-pairs_cons : (x : Repeat) (xs : List Repeat) → All (Differ x) xs → AllPairs Differ xs → AllPairs Differ (x ∷ xs)
-pairs_cons x xs all p zero zero d l h = absurd (omega arith)
-pairs_cons x xs all p zero (suc j) d l h = all j d (omega arith)
-pairs_cons x xs all p (suc i) zero d l h = absurd (omega arith)
-pairs_cons x xs all p (suc i) (suc j) d l h = p i j d (omega arith) (omega arith)
-
 pairs_placed : (r : Repeat) (xs : List Repeat) → All (Differ r) xs → AllPairs Differ xs → AllPairs Differ (placed r xs)
-pairs_placed r [] all p = pairs_cons r [] all p
+pairs_placed r [] all p = AllPairs-cons Differ r [] all p
 pairs_placed r (x ∷ xs) all p =
     elim (precedes x r) as (λ b. AllPairs Differ (if b then x ∷ placed r xs else r ∷ x ∷ xs)) [
       | true ↦
-          pairs_cons x (placed r xs) (All-placed (Differ x) r xs (λ e. All-head (Differ r) x xs all (sym e)) (pairs_head x xs p))
+          AllPairs-cons Differ x (placed r xs) (All-placed (Differ x) r xs (λ e. All-head (Differ r) x xs all (sym e)) (pairs_head x xs p))
           (pairs_placed r xs (All-tail (Differ r) x xs all) (pairs_tail x xs p))
-      | false ↦ pairs_cons r (x ∷ xs) all p
+      | false ↦ AllPairs-cons Differ r (x ∷ xs) all p
     ]
 
 pub pairs_in_order : (rs : List Repeat) → AllPairs Differ rs → AllPairs Differ (in_order rs)

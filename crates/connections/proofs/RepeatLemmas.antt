@@ -3,7 +3,7 @@ use Rattle.std.proofs.Common.{◌≡◌, ℕ, ℤ, pos, zero, suc, ◌+◌, ◌-
 use Rattle.std.proofs.Common.{⊎_elim, if◌then◌else◌}
 use Rattle.std.specs.Prelude.{AllPairs}
 use Rattle.std.proofs.Math.Nat.{le-mul_of_pos_right, mul-le-mul_right, suc-mul}
-use Rattle.std.proofs.lemmas.Bool.{cases_lt, and_parts, and_from, lt-leb, le-ltb, leb-true, ltb-true, le-leb, lt-ltb}
+use Rattle.std.proofs.lemmas.Bool.{cases_lt, false_from_ne_true, and_parts, and_from, lt-leb, le-ltb, leb-true, ltb-true, le-leb, lt-ltb}
 use Rattle.std.proofs.lemmas.Int.{ints, by_lt_z}
 use Rattle.std.proofs.lemmas.List.Elements.{All-nil, All-cons, All-get_or}
 use Rattle.csv_rows.specs.Lists.{list_below}
@@ -31,10 +31,6 @@ same_bool : (a b : Bool) → (a ≡ true → b ≡ true) → (b ≡ true → a �
 same_bool true b h k = sym (h refl)
 same_bool false true h k = k refl
 same_bool false false h k = refl
-
-never : (b : Bool) → (b ≡ true → ⊥) → b ≡ false
-never true h = absurd (h refl)
-never false h = refl
 
 pub holds_in : (w : Window) (moment : ℤ) → pos w.start ≤ℤ moment → moment ≤ℤ pos w.end → holds w moment ≡ true
 holds_in w moment h k = grind (arith, ints)
@@ -175,7 +171,7 @@ module _ (w : Window) (rows : List StopRow) (day : ServiceDay) (row : FrequencyR
           let own : ℕ → List Repeat = λ m. only_if (rides_by w rows day row m) (run_of row m) in
           join-same (λ m. only_if (taken m) (run_of row m)) own next
           (λ m h. ap (λ b. only_if b (run_of row m)) (same_bool (taken m) (rides_by w rows day row m) (t.sound m h) (λ r. (found m r).1)))
-          ∙ sym (join-rest own next rest (λ m ge. ap (λ b. only_if b (run_of row m)) (never (rides_by w rows day row m) (λ r. omega (arith, (found m r).0, ge)))))
+          ∙ sym (join-rest own next rest (λ m ge. ap (λ b. only_if b (run_of row m)) (false_from_ne_true (rides_by w rows day row m) (λ r. omega (arith, (found m r).0, ge)))))
           ∙ ap (join_below own) e
 
 one_all : (P : Repeat → Type 0) (b : Bool) (r : Repeat) → (b ≡ true → P r) → All P (only_if b r)

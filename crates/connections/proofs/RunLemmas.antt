@@ -6,6 +6,7 @@ use Rattle.std.proofs.lemmas.Int.{ints}
 use Rattle.std.proofs.lemmas.List.{get_or-map, length-map}
 use Rattle.std.proofs.lemmas.List.Elements.{All-append, All-cons, All-weaker, All-nil, All-get_or, All-map}
 use Rattle.std.proofs.lemmas.Bool.{ltb-true}
+use Rattle.std.proofs.lemmas.Option.{same_Some}
 use Rattle.trip_frequencies.specs.declared.frequencies.FrequencyRow.{FrequencyRow}
 use Rattle.stop_times.specs.declared.rows.StopRow.{StopRow}
 use Rattle.gtfs_tables.specs.Feeds.{FeedParts}
@@ -56,9 +57,6 @@ module _ (w : Window) (rows : List StopRow) (day : ServiceDay) (trip : ℕ) wher
   }
   own_rides false e = no_rides
 
-  same_repeat : (a b : Repeat) → Some a ≡ Some b → a ≡ b
-  same_repeat a b e = cc
-
   repeat_rides : (fs : List FrequencyRow) → AreRepeats fs → AreRides (map (repeat_run rows day trip) (in_order (riding_of w rows day fs)))
   repeat_rides fs are =
       let f = repeat_run rows day trip in
@@ -76,7 +74,7 @@ module _ (w : Window) (rows : List StopRow) (day : ServiceDay) (trip : ℕ) wher
             let a = get_or-map f rs i none d i' in
             let b = get_or-map f rs j none d j' in
             let Q : Run → Type 0 = λ x. Precedes x (get_or (map f rs) j d) in
-            subst Q (sym a) (subst (Precedes (f (get_or rs i none))) (sym b) (inr (refl, inr (λ e. apart i j none l j' (same_repeat _ _ e)))));
+            subst Q (sym a) (subst (Precedes (f (get_or rs i none))) (sym b) (inr (refl, inr (λ e. apart i j none l j' (same_Some _ _ e)))));
       }
 
   pub rides_of_trip : (fs : List FrequencyRow) → AreRepeats fs → AreRides (runs_by w rows fs day trip)

@@ -24,7 +24,7 @@ use Rattle.journey_model.specs.declared.problem.Problem.{Problem}
 use Rattle.journey_report.specs.declared.report.Report.{Report}
 use Rattle.meat_engine.specs.Asks.{FailsAsk}
 use Rattle.journey_report.specs.Findings.{Findings, findings_of, no_findings}
-use Rattle.meat_engine.specs.Received.{Ending, Refused, ending_at, ending_of, AnswersJob, FailsJob, IsExplained, IsRefused, IsRefusedWith, IsWritten, IsWrittenBy, IsTold, Outcome, OutcomeBy}
+use Rattle.meat_engine.specs.Received.{Ending, Refused, ending_at, ending_of, AnswersJob, FailsJob, IsExplained, IsRefused, IsRefusedWith, IsWritten, IsWrittenBy, IsLineTold, Outcome, OutcomeBy}
 
 -- a fault of an input ends a run with nothing but the fault
 of_input : (file : Input) → ending_at (stage_of_input file) ≡ Refused
@@ -92,14 +92,14 @@ module _ (told : Option FileMap) (limits : Limits) (words : List (List ℕ)) whe
   pub refused_outcome : (report : Report) (old new before after : Option (List ℕ)) (was now : ℕ) (known : Option NamedParts) (wanted : Fault) (found : Option Fault)
       → findings_of report ≡ no_findings → Keeps old new
       → IsExplained told limits words known wanted → wanted ≢ Write → IsRefusedWith before after was now known wanted found
-      → Outcome told limits words report old new (IsTold before after was now) found
+      → Outcome told limits words report old new (IsLineTold before after was now) found
   refused_outcome report old new before after was now known wanted None findings keeps cause other refused = absurd refused
   refused_outcome report old new before after was now known wanted (Some fault) findings keeps cause other (same, line) =
       ⊎_elim
-      (λ (is : fault ≡ wanted). outcome_by report old new (IsTold before after was now) fault (λ write. other (sym is ∙ write)) keeps
+      (λ (is : fault ≡ wanted). outcome_by report old new (IsLineTold before after was now) fault (λ write. other (sym is ∙ write)) keeps
       (findings, (known, subst (IsExplained told limits words known) (sym is) cause, line)))
       (λ (is : (fault ≡ NoMemory) × IsFormatted wanted).
-      outcome_by report old new (IsTold before after was now) fault (λ write. let never : NoMemory ≡ Write = sym is.0 ∙ write in cc) keeps
+      outcome_by report old new (IsLineTold before after was now) fault (λ write. let never : NoMemory ≡ Write = sym is.0 ∙ write in cc) keeps
       (findings, (known, inl is.0, line)))
       same
 

@@ -1,16 +1,15 @@
-use Rattle.std.proofs.Common.{◌≡◌, ℕ, ◌+◌, ◌-◌, ◌++◌, [], ◌∷◌, List, refl, sym, ap, ◌∙◌, arith, append_assoc}
+use Rattle.std.proofs.Common.{◌≡◌, ℕ, ◌+◌, ◌-◌, ◌++◌, [], ◌∷◌, List, refl, sym, ap, ◌∙◌, arith, append_assoc, append-nil}
 use Rattle.csv_rows.specs.Lists.{list_below}
 use Rattle.csv_rows.proofs.ListLemmas.{list_below-zero, list_below-next}
 use Rattle.connections.specs.declared.repeats.Repeat.{Repeat}
 use Rattle.connections.specs.Repeats.{run_of}
-use Rattle.connections.proofs.JoinLemmas.{nothing-after}
 use Rattle.connections.proofs.repeats.add_between.Goals as goal
 
 pub loop-m-init : goal.loop-m-init
 loop-m-init c =
     let f : ℕ → Repeat = λ i. run_of c.args.row.now (c.args.from + i) in
     let none : c.args.from - c.args.from ≡ 0 = omega arith in
-    (sym (ap (λ n. c.args.repeats.now.items ++ list_below f n) none ∙ ap (λ xs. c.args.repeats.now.items ++ xs) (list_below-zero f) ∙ nothing-after c.args.repeats.now.items), omega arith)
+    (sym (ap (λ n. c.args.repeats.now.items ++ list_below f n) none ∙ ap (λ xs. c.args.repeats.now.items ++ xs) (list_below-zero f) ∙ append-nil c.args.repeats.now.items), omega arith)
 
 pub loop-m-preserved : goal.loop-m-preserved
 loop-m-preserved c =

@@ -1,4 +1,4 @@
-use Rattle.std.proofs.Common.{◌≡◌, ◌+◌, ◌++◌, [], List, length, sym, ap, ap₂, ◌∙◌, subst, rules}
+use Rattle.std.proofs.Common.{◌≡◌, ◌+◌, ◌++◌, [], List, length, sym, ap, ap₂, ◌∙◌, subst, rules, append-nil}
 use Rattle.stop_times.specs.declared.rows.StopRow.{StopRow}
 use Rattle.gtfs_tables.specs.Repeats.{AreRepeats}
 use Rattle.gtfs_tables.specs.Timed.{rows_of}
@@ -6,7 +6,6 @@ use Rattle.connections.specs.declared.runs.Run.{Run}
 use Rattle.connections.specs.Rides.{AreDepartures, is_active, steps_of}
 use Rattle.connections.specs.Origins.{origin_of_day}
 use Rattle.connections.specs.TripRuns.{frequencies_of, runs_by, trip_runs, day_runs}
-use Rattle.connections.proofs.JoinLemmas.{nothing-after}
 use Rattle.connections.proofs.StepLemmas.{goes-on}
 use Rattle.connections.proofs.ReachLemmas.{departures_are}
 use Rattle.connections.proofs.DayLemmas.{day-zero, day-next, active_runs, idle_runs, no_runs, where_none}
@@ -19,7 +18,7 @@ may_run-requires c =
     (c.trip_count-trip-end.ensures.timed c.loop-trip.trip (search rules)))
 
 pub loop-trip-init : goal.loop-trip-init
-loop-trip-init c = sym (ap (λ xs. c.args.runs.now.items ++ xs) (day-zero c.args.feed.now c.args.services.now c.args.window c.args.day) ∙ nothing-after c.args.runs.now.items)
+loop-trip-init c = sym (ap (λ xs. c.args.runs.now.items ++ xs) (day-zero c.args.feed.now c.args.services.now c.args.window c.args.day) ∙ append-nil c.args.runs.now.items)
 
 pub add_trip-requires-clause-departures : goal.add_trip-requires-clause-departures
 add_trip-requires-clause-departures c =
@@ -56,5 +55,5 @@ loop-trip-preserved c =
                 (subst (λ (rows : List StopRow). steps_of w rows (origin_of_day day) ≡ []) c.stop_times-rows.ensures no.1))
           ] in
           goes-on old before (trip_runs f s w day k) all c.if-may_run.runs.items next
-          (ap (λ (x : _). x.items) v.runs-is ∙ c.loop-trip.invariant ∙ sym (nothing-after (old ++ before)) ∙ ap (λ (xs : List Run). (old ++ before) ++ xs) none)
+          (ap (λ (x : _). x.items) v.runs-is ∙ c.loop-trip.invariant ∙ sym (append-nil (old ++ before)) ∙ ap (λ (xs : List Run). (old ++ before) ++ xs) none)
     ]
