@@ -18,7 +18,7 @@ use Rattle.csv_rows.specs.Ids.{AreIds}
 use Rattle.connections.specs.declared.repeats.Repeat.{Repeat}
 use Rattle.connections.specs.declared.runs.Run.{Run}
 use Rattle.connections.specs.TripRuns.{run_at}
-use Rattle.connections.specs.Runs.{IsRunOf, AreRunsOf, IsSmallRepeat}
+use Rattle.connections.specs.Runs.{IsRunOfFeed, AreRunsOf, IsSmallRepeat}
 use Rattle.connections.specs.Networks.{start_text, IsRunName, AreRunNames}
 use Rattle.delay_table.proofs.NumberedFacts.{one_index}
 use Rattle.connections.proofs.DateLemmas.{date_text}
@@ -69,7 +69,7 @@ same_start (Some r) (Some q) h k us vs e =
     (λ i. Some (record { departure = departure i; line = line i }), y.1)
 
 -- two runs of one name are one
-pub one_run : (f : FeedParts) → AreIds f.trip_ids → (a b : Run) (name : List ℕ) → IsRunOf f a → IsRunOf f b → IsSmallRepeat a.repeat → IsSmallRepeat b.repeat → IsRunName f a name → IsRunName f b name
+pub one_run : (f : FeedParts) → AreIds f.trip_ids → (a b : Run) (name : List ℕ) → IsRunOfFeed f a → IsRunOfFeed f b → IsSmallRepeat a.repeat → IsSmallRepeat b.repeat → IsRunName f a name → IsRunName f b name
     → (a.origin.day.number ≡ b.origin.day.number) × (a.trip ≡ b.trip) × (a.repeat ≡ b.repeat)
 one_run f ids a b name of_a of_b small small' h k =
     let x = date_text h.date a.origin.day.number h.reads in
