@@ -22,9 +22,9 @@ use Rattle.connections.specs.declared.runs.Run.{Run}
 use Rattle.connections.specs.Joins.{join_below, only_if, sum_below}
 use Rattle.connections.specs.Origins.{origin_of_day}
 use Rattle.connections.specs.Window.{day_at}
-use Rattle.connections.specs.Rides.{is_active, rides, steps_of}
+use Rattle.connections.specs.Rides.{is_active_trip, rides, steps_of}
 use Rattle.connections.specs.Repeats.{origin_at, riding_by, riding_of, in_order}
-use Rattle.connections.specs.TripRuns.{frequencies_of, own_run, repeat_run, runs_by, trip_runs, day_runs, runs_below, runs_in, run_at, no_run, run_steps}
+use Rattle.connections.specs.TripRuns.{frequencies_of, own_run, repeat_run, runs_of_trip, trip_runs, day_runs, runs_below, window_runs, run_at, no_run, run_steps}
 use Rattle.connections.specs.Counts.{steps_sum, rows_sum, runs_sum, trip_sum, day_sum, days_sum, count_in}
 use Rattle.connections.specs.Networks.{ride, run_rides, rides_below, class_of_trip}
 use Rattle.connections.proofs.JoinLemmas.{join-zero, join-suc}
@@ -100,7 +100,7 @@ module _ (w : Window) (rows : List StopRow) (day : ServiceDay) (trip : ℕ) wher
       ∙ in_order_sum each (riding_of w rows day fs)
       ∙ sum_by-join each (λ i. riding_by w rows day (repeat_at fs i)) (length fs)
 
-  pub runs_counted : (fs : List FrequencyRow) → sum_by ridden (runs_by w rows fs day trip) ≡ runs_sum (λ place. 1) w rows fs day
+  pub runs_counted : (fs : List FrequencyRow) → sum_by ridden (runs_of_trip w rows fs day trip) ≡ runs_sum (λ place. 1) w rows fs day
   runs_counted [] = own_counted
   runs_counted (row ∷ more) = repeats_counted (row ∷ more)
 
@@ -109,7 +109,7 @@ module _ (w : Window) (rows : List StopRow) (day : ServiceDay) (trip : ℕ) wher
   only_of_trip false = All-nil (λ (run : Run). run.trip ≡ trip)
 
   -- each run is of the trip
-  pub of_trip : (fs : List FrequencyRow) → All (λ (run : Run). run.trip ≡ trip) (runs_by w rows fs day trip)
+  pub of_trip : (fs : List FrequencyRow) → All (λ (run : Run). run.trip ≡ trip) (runs_of_trip w rows fs day trip)
   of_trip [] = only_of_trip (rides w rows (origin_of_day day))
   of_trip (row ∷ more) = All-map (λ (run : Run). run.trip ≡ trip) (repeat_run rows day trip) (in_order (riding_of w rows day (row ∷ more))) (λ k d h. refl)
 
@@ -129,8 +129,8 @@ module _ (f : FeedParts) (s : ServiceParts) (d : DelayLists) (w : Window) where
 
   by_trip : (day : ServiceDay) (trip : ℕ) → sum_by own (trip_runs f s w day trip) ≡ trip_sum (λ place. 1) f s w day trip
   by_trip day trip =
-      let rs = runs_by w (rows_of f trip) (frequencies_of f trip) day trip in
-      sum-where (is_active f s day trip) own rs (runs_sum (λ place. 1) w (rows_of f trip) (frequencies_of f trip) day)
+      let rs = runs_of_trip w (rows_of f trip) (frequencies_of f trip) day trip in
+      sum-where (is_active_trip f s day trip) own rs (runs_sum (λ place. 1) w (rows_of f trip) (frequencies_of f trip) day)
       (sum_by-all own (ridden w (rows_of f trip) day trip) rs
       (All-weaker (λ (run : Run). run.trip ≡ trip) (λ (run : Run). own run ≡ ridden w (rows_of f trip) day trip run)
       (λ run e. ap (λ k. length (steps_of w (rows_of f k) run.origin)) e) rs (of_trip w (rows_of f trip) day trip (frequencies_of f trip)))
@@ -153,7 +153,7 @@ module _ (f : FeedParts) (s : ServiceParts) (d : DelayLists) (w : Window) where
   own_length rs r = length-map (run_steps f w (run_at rs r)) (ride (rows_of f (run_at rs r).trip) (run_at rs r).origin r (class_of_trip f d (run_at rs r).trip))
 
   -- the rides of all runs are as many as the sum tells
-  pub rides_counted : (rs : List Run) → rs ≡ runs_in f s w → length (rides_below f d w rs (length rs)) ≡ count_in f s w
+  pub rides_counted : (rs : List Run) → rs ≡ window_runs f s w → length (rides_below f d w rs (length rs)) ≡ count_in f s w
   unfolding rides_below
   rides_counted rs e =
       length-join (run_rides f d w rs) (length rs)

@@ -10,7 +10,7 @@ use Rattle.connections.specs.declared.window.Window.{Window}
 use Rattle.connections.specs.Origins.{origin_of_day}
 use Rattle.connections.specs.Window.{day_at}
 use Rattle.connections.specs.Rides.{steps_of}
-use Rattle.connections.specs.TripRuns.{runs_by, trip_runs, day_runs, runs_below}
+use Rattle.connections.specs.TripRuns.{runs_of_trip, trip_runs, day_runs, runs_below}
 use Rattle.connections.proofs.JoinLemmas.{join-zero, join-suc}
 
 -- the runs of an active trip
@@ -23,7 +23,7 @@ pub idle_runs : (active : Bool) (qs : List Run) → active ≡ false → [] ≡ 
 idle_runs true qs is = absurd (cc)
 idle_runs false qs is = refl
 
-pub no_runs : (w : Window) (rows : List StopRow) (fs : List FrequencyRow) (day : ServiceDay) (trip : ℕ) → fs ≡ [] → steps_of w rows (origin_of_day day) ≡ [] → runs_by w rows fs day trip ≡ []
+pub no_runs : (w : Window) (rows : List StopRow) (fs : List FrequencyRow) (day : ServiceDay) (trip : ℕ) → fs ≡ [] → steps_of w rows (origin_of_day day) ≡ [] → runs_of_trip w rows fs day trip ≡ []
 no_runs w rows [] day trip e none = rw none refl
 no_runs w rows (row ∷ more) day trip e none = absurd (cc)
 

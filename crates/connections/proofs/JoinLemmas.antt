@@ -1,5 +1,5 @@
 -- Lists joined one after the other.
-use Rattle.std.proofs.Common.{◌≡◌, ℕ, zero, suc, ◌+◌, ◌-◌, ◌<◌, ◌≤◌, List, [], ◌∷◌, ◌++◌, All, refl, sym, ap, ap₂, ◌∙◌, subst, arith, ⊎_elim, add-one, append_assoc}
+use Rattle.std.proofs.Common.{◌≡◌, ℕ, zero, suc, ◌+◌, ◌-◌, ◌<◌, ◌≤◌, List, [], ◌∷◌, ◌++◌, All, refl, sym, ap, ap₂, ◌∙◌, subst, arith, ⊎_elim, add-one, append-nil, append_assoc}
 use Rattle.std.proofs.lemmas.Bool.{cases_lt}
 use Rattle.std.proofs.lemmas.List.Elements.{All-nil, All-append}
 use Rattle.csv_rows.specs.Lists.{list_below}
@@ -17,10 +17,6 @@ join-suc f n = refl
 pub join-next : {A : Type 0} (f : ℕ → List A) (n : ℕ) → join_below f (n + 1) ≡ join_below f n ++ f n
 join-next f n = rw add-one (join-suc f n)
 
-pub nothing-after : {A : Type 0} (xs : List A) → xs ++ [] ≡ xs
-nothing-after [] = refl
-nothing-after (x ∷ xs) = ap (λ ys. x ∷ ys) (nothing-after xs)
-
 pub join-same : {A : Type 0} (f g : ℕ → List A) (n : ℕ) → ((i : ℕ) → i < n → f i ≡ g i) → join_below f n ≡ join_below g n
 join-same f g zero h = join-zero f ∙ sym (join-zero g)
 join-same f g (suc n) h =
@@ -31,7 +27,7 @@ pub join-rest : {A : Type 0} (f : ℕ → List A) (a j : ℕ) → ((i : ℕ) →
 join-rest f a zero h = let e : a + zero ≡ a = omega arith in ap (join_below f) e
 join-rest f a (suc j) h =
     let e : a + suc j ≡ a + j + 1 = omega arith in
-    ap (join_below f) e ∙ join-next f (a + j) ∙ ap (λ xs. join_below f (a + j) ++ xs) (h (a + j) (omega arith)) ∙ nothing-after (join_below f (a + j)) ∙ join-rest f a j h
+    ap (join_below f) e ∙ join-next f (a + j) ∙ ap (λ xs. join_below f (a + j) ++ xs) (h (a + j) (omega arith)) ∙ append-nil (join_below f (a + j)) ∙ join-rest f a j h
 
 -- the same lists before a place, then none, and from another place on one element each
 pub join-on : {A : Type 0} (f g : ℕ → List A) (x : ℕ → A) (a c j : ℕ) → a ≤ c → ((i : ℕ) → i < a → g i ≡ f i) → ((i : ℕ) → a ≤ i → i < c → g i ≡ [])
@@ -39,7 +35,7 @@ pub join-on : {A : Type 0} (f g : ℕ → List A) (x : ℕ → A) (a c j : ℕ) 
 join-on f g x a c zero le same none one =
     let e : a + zero ≡ a = omega arith in
     let no : a + zero - c ≡ 0 = omega arith in
-    ap (join_below g) e ∙ join-same g f a same ∙ sym (nothing-after (join_below f a))
+    ap (join_below g) e ∙ join-same g f a same ∙ sym (append-nil (join_below f a))
     ∙ ap (λ xs. join_below f a ++ xs) (sym (ap (list_below (λ i. x (c + i))) no ∙ list_below-zero (λ i. x (c + i))))
 join-on f g x a c (suc j) le same none one =
     let e : a + suc j ≡ a + j + 1 = omega arith in
@@ -48,7 +44,7 @@ join-on f g x a c (suc j) le same none one =
     let step : join_below g (a + suc j) ≡ (join_below f a ++ old) ++ g (a + j) = ap (join_below g) e ∙ join-next g (a + j) ∙ ap (λ xs. xs ++ g (a + j)) before in
     ⊎_elim (λ (less : a + j < c).
     let no : a + suc j - c ≡ a + j - c = omega arith in
-    step ∙ ap (λ xs. (join_below f a ++ old) ++ xs) (none (a + j) (omega arith) less) ∙ nothing-after (join_below f a ++ old)
+    step ∙ ap (λ xs. (join_below f a ++ old) ++ xs) (none (a + j) (omega arith) less) ∙ append-nil (join_below f a ++ old)
     ∙ ap (λ n. join_below f a ++ list_below (λ i. x (c + i)) n) (sym no))
     (λ (from : c ≤ a + j).
     let more : a + suc j - c ≡ a + j - c + 1 = omega arith in

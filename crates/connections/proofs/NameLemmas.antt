@@ -1,9 +1,9 @@
 -- The names of runs: no two runs have one name, and none begins or ends with a space.
-use Rattle.std.proofs.Common.{◌≡◌, ◌≢◌, ℕ, zero, suc, ◌+◌, ◌-◌, ◌<◌, ◌≤◌, Bool, true, false, List, [], ◌∷◌, ◌++◌, length, take, drop, get_or, slice_index_or, Some, None, Option, ℤ, All, decimal}
-use Rattle.std.proofs.Common.{◌^◌, refl, sym, ap, ap₂, ◌∙◌, subst, arith, ⊎_elim, length-append}
+use Rattle.std.proofs.Common.{◌≡◌, ◌≢◌, ℕ, zero, suc, ◌+◌, ◌-◌, ◌<◌, ◌≤◌, Bool, true, false, List, [], ◌∷◌, ◌++◌, length, take, drop, get_or, slice_index_or, Some, None, Option, ℤ, All, decimal, append_assoc}
+use Rattle.std.proofs.Common.{◌^◌, refl, sym, ap, ap₂, ◌∙◌, subst, arith, below_more, length-append}
 use Rattle.std.specs.List.{list_all}
 use Rattle.std.specs.Char.{is_ascii_digit}
-use Rattle.std.proofs.lemmas.Bool.{cases_lt, and_parts, and_from}
+use Rattle.std.proofs.lemmas.Bool.{and_parts, and_from}
 use Rattle.std.proofs.lemmas.Bool.Decides.{nat_tests}
 use Rattle.std.proofs.lemmas.List.{get_or_append_left, get_or-append_right, get_or_default, get_or_push, take_at, drop_at, take_all, take_more}
 use Rattle.std.proofs.lemmas.List.Elements.{All-get_or}
@@ -18,9 +18,9 @@ use Rattle.csv_rows.specs.Ids.{AreIds}
 use Rattle.connections.specs.declared.repeats.Repeat.{Repeat}
 use Rattle.connections.specs.declared.runs.Run.{Run}
 use Rattle.connections.specs.TripRuns.{run_at}
-use Rattle.connections.specs.Runs.{IsRunOf, AreRunsOf, IsSmallRepeat}
+use Rattle.connections.specs.Runs.{IsRunOfFeed, AreRunsOf, IsSmallRepeat}
 use Rattle.connections.specs.Networks.{start_text, IsRunName, AreRunNames}
-use Rattle.connections.proofs.StepLemmas.{append-assoc}
+use Rattle.delay_table.proofs.NumberedFacts.{one_index}
 use Rattle.connections.proofs.DateLemmas.{date_text}
 
 same_date : (d e : List ℕ) (a b : ℤ) → d ≡ e → date_at d ≡ Some a → date_at e ≡ Some b → a ≡ b
@@ -28,11 +28,6 @@ same_date d e a b same h k = let o : Some a ≡ Some b = sym h ∙ ap date_at sa
 
 same_rest : (x : ℕ) (xs ys : List ℕ) → x ∷ xs ≡ x ∷ ys → xs ≡ ys
 same_rest x xs ys h = cc
-
-one_id : (ids : List (List ℕ)) → AreDistinct ids → (i j : ℕ) → i < length ids → j < length ids → slice_index_or ids i [] ≡ slice_index_or ids j [] → i ≡ j
-one_id ids distinct i j h k same =
-    ⊎_elim (λ (less : i < j). absurd (distinct i j less k same))
-    (λ (ge : j ≤ i). ⊎_elim (λ (more : j < i). absurd (distinct j i more h (sym same))) (λ (le : i ≤ j). omega arith) (cases_lt j i)) (cases_lt i j)
 
 range_digit : (c : ℕ) → IsInRange 48 57 c → is_ascii_digit c ≡ true
 range_digit c h = grind (arith, nat_tests)
@@ -66,7 +61,7 @@ same_start None (Some r) h k us vs e = absurd (heads_differ _ _ e)
 same_start (Some r) None h k us vs e = absurd (heads_differ _ _ (sym e))
 same_start (Some r) (Some q) h k us vs e =
     let texts : decimal r.departure ++ 46 ∷ (decimal r.line ++ 58 ∷ us) ≡ decimal q.departure ++ 46 ∷ (decimal q.line ++ 58 ∷ vs)
-    = sym (append-assoc (decimal r.departure) (46 ∷ decimal r.line) (58 ∷ us)) ∙ same_rest 64 _ _ e ∙ append-assoc (decimal q.departure) (46 ∷ decimal q.line) (58 ∷ vs) in
+    = sym (append_assoc (decimal r.departure) (46 ∷ decimal r.line) (58 ∷ us)) ∙ same_rest 64 _ _ e ∙ append_assoc (decimal q.departure) (46 ∷ decimal q.line) (58 ∷ vs) in
     let x = digits_end (decimal r.departure) (decimal q.departure) _ _ 46 46 (decimal_digits r.departure h.0) (decimal_digits q.departure k.0) refl refl texts in
     let y = digits_end (decimal r.line) (decimal q.line) _ _ 58 58 (decimal_digits r.line h.1) (decimal_digits q.line k.1) refl refl x.1 in
     let departure = decimal_injective r.departure q.departure h.0 k.0 x.0 in
@@ -74,7 +69,7 @@ same_start (Some r) (Some q) h k us vs e =
     (λ i. Some (record { departure = departure i; line = line i }), y.1)
 
 -- two runs of one name are one
-pub one_run : (f : FeedParts) → AreIds f.trip_ids → (a b : Run) (name : List ℕ) → IsRunOf f a → IsRunOf f b → IsSmallRepeat a.repeat → IsSmallRepeat b.repeat → IsRunName f a name → IsRunName f b name
+pub one_run : (f : FeedParts) → AreIds f.trip_ids → (a b : Run) (name : List ℕ) → IsRunOfFeed f a → IsRunOfFeed f b → IsSmallRepeat a.repeat → IsSmallRepeat b.repeat → IsRunName f a name → IsRunName f b name
     → (a.origin.day.number ≡ b.origin.day.number) × (a.trip ≡ b.trip) × (a.repeat ≡ b.repeat)
 one_run f ids a b name of_a of_b small small' h k =
     let x = date_text h.date a.origin.day.number h.reads in
@@ -83,13 +78,13 @@ one_run f ids a b name of_a of_b small small' h k =
     let id' = slice_index_or f.trip_ids b.trip [] in
     let rest = start_text a.repeat ++ 58 ∷ id in
     let rest' = start_text b.repeat ++ 58 ∷ id' in
-    let text : name ≡ h.date ++ rest = h.text ∙ append-assoc h.date (start_text a.repeat) (58 ∷ id) in
-    let text' : name ≡ k.date ++ rest' = k.text ∙ append-assoc k.date (start_text b.repeat) (58 ∷ id') in
+    let text : name ≡ h.date ++ rest = h.text ∙ append_assoc h.date (start_text a.repeat) (58 ∷ id) in
+    let text' : name ≡ k.date ++ rest' = k.text ∙ append_assoc k.date (start_text b.repeat) (58 ∷ id') in
     let dates : h.date ≡ k.date = sym (take_at h.date rest 8 x.size) ∙ ap (take 8) (sym text ∙ text') ∙ take_at k.date rest' 8 y.size in
     let rests : rest ≡ rest' = sym (drop_at h.date rest 8 x.size) ∙ ap (drop 8) (sym text ∙ text') ∙ drop_at k.date rest' 8 y.size in
     let same = same_start a.repeat b.repeat small small' id id' rests in (
       same_date h.date k.date a.origin.day.number b.origin.day.number dates h.reads k.reads,
-      one_id f.trip_ids ids.names.distinct a.trip b.trip of_a.trip of_b.trip same.1,
+      one_index f.trip_ids ids.names.distinct a.trip b.trip of_a.trip of_b.trip same.1,
       same.0,
     )
 
@@ -103,12 +98,9 @@ pub run_adds : (f : FeedParts) (rs : List Run) (r : ℕ) (old new : List (List �
 run_adds f rs r old new name true ids runs small inside a h k =
     subst (AreRunNames f rs (r + 1)) (sym k.0) (record {
       size = omega (arith, a.size, length-append old (name ∷ []));
-      each = λ i l.
-          ⊎_elim (λ (less : i < r). subst (IsRunName f (run_at rs i)) (sym (get_or_append_left old (name ∷ []) [] i (omega (arith, a.size)))) (a.each i less))
-          (λ (from : r ≤ i).
-          let e : r ≡ i = omega arith in
-          subst (IsRunName f (run_at rs i)) (sym (get_or_push old name [] i (a.size ∙ e)))
-          (let P : ℕ → Type 0 = λ j. IsRunName f (run_at rs j) name in subst P e h)) (cases_lt i r);
+      each = below_more (λ i. IsRunName f (run_at rs i) (get_or (old ++ name ∷ []) i [])) r
+          (λ i less. subst (IsRunName f (run_at rs i)) (sym (get_or_append_left old (name ∷ []) [] i (omega (arith, a.size)))) (a.each i less))
+          (subst (IsRunName f (run_at rs r)) (sym (get_or_push old name [] r a.size)) h);
     })
 run_adds f rs r old new name false ids runs small inside a h k =
     let i = k.1.0 in
@@ -149,7 +141,7 @@ name_trimmed f run name ids inside h =
     let id_trimmed : IsTrimmed id = All-get_or IsTrimmed f.trip_ids run.trip [] inside ids.trimmed in
     let one : length (58 ∷ id) - 1 ≡ length id = omega arith in
     record {
-      start = λ rest e. first_is h.date d.size d.digits (start_text run.repeat ++ 58 ∷ id) rest (sym (append-assoc h.date (start_text run.repeat) (58 ∷ id)) ∙ sym h.text ∙ e);
+      start = λ rest e. first_is h.date d.size d.digits (start_text run.repeat ++ 58 ∷ id) rest (sym (append_assoc h.date (start_text run.repeat) (58 ∷ id)) ∙ sym h.text ∙ e);
       end = λ rest e. no_end id (length id) refl (sym (ap (λ i. get_or (58 ∷ id) i 0) one) ∙ last_is (h.date ++ start_text run.repeat) (58 ∷ id) rest (sym h.text ∙ e) (omega arith)) id_trimmed.end;
     }
 

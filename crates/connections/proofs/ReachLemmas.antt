@@ -1,5 +1,5 @@
 -- Trips that do not ride in a window, by their first and their last departure.
-use Rattle.std.proofs.Common.{◌≡◌, ℕ, zero, suc, ◌+◌, ◌-◌, ◌<◌, true, false, List, [], ◌++◌, length, arith, ap, refl, sym, ◌∙◌, inl, inr}
+use Rattle.std.proofs.Common.{◌≡◌, ℕ, zero, suc, ◌+◌, ◌-◌, ◌<◌, true, false, List, [], ◌++◌, length, arith, ap, refl, sym, ◌∙◌, inl, inr, append-nil}
 use Rattle.std.specs.Prelude.{ℤ, pos, ◌<ℤ◌}
 use Rattle.std.proofs.lemmas.Bool.{cases_eq}
 use Rattle.std.proofs.lemmas.Bool.Decides.{nat_tests}
@@ -13,7 +13,7 @@ use Rattle.connections.specs.Joins.{only_if}
 use Rattle.connections.specs.Origins.{moment_of}
 use Rattle.connections.specs.Window.{holds}
 use Rattle.connections.specs.Rides.{DepartInOrder, AreDepartures, departs, rides, steps_below, steps_of}
-use Rattle.connections.proofs.StepLemmas.{steps-zero, steps-suc, length-next, length-one, append-nil}
+use Rattle.connections.proofs.StepLemmas.{steps-zero, steps-suc, length-next, length-one}
 use Rattle.connections.proofs.ConnectionLemmas.{onward_to}
 
 pub DepartInOrder-timed : (rows : List StopRow) (places : ℕ) → AreTimed rows places → DepartInOrder rows

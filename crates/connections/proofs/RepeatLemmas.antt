@@ -3,7 +3,7 @@ use Rattle.std.proofs.Common.{◌≡◌, ℕ, ℤ, pos, zero, suc, ◌+◌, ◌-
 use Rattle.std.proofs.Common.{⊎_elim, if◌then◌else◌}
 use Rattle.std.specs.Prelude.{AllPairs}
 use Rattle.std.proofs.Math.Nat.{le-mul_of_pos_right, mul-le-mul_right, suc-mul}
-use Rattle.std.proofs.lemmas.Bool.{cases_lt, and_parts, and_from, lt-leb, le-ltb, leb-true, ltb-true, le-leb, lt-ltb}
+use Rattle.std.proofs.lemmas.Bool.{cases_lt, false_from_ne_true, and_parts, and_from, lt-leb, le-ltb, leb-true, ltb-true, le-leb, lt-ltb}
 use Rattle.std.proofs.lemmas.Int.{ints, by_lt_z}
 use Rattle.std.proofs.lemmas.List.Elements.{All-nil, All-cons, All-get_or}
 use Rattle.csv_rows.specs.Lists.{list_below}
@@ -20,7 +20,7 @@ use Rattle.connections.specs.declared.window.Window.{Window}
 use Rattle.connections.specs.Joins.{join_below, only_if}
 use Rattle.connections.specs.Window.{holds}
 use Rattle.connections.specs.Rides.{AreDepartures, departs, rides, steps_below}
-use Rattle.connections.specs.Repeats.{run_of, origin_at, rides_by, riding_by, riding_of, in_order}
+use Rattle.connections.specs.Repeats.{repeat_of, origin_at, rides_by, riding_by, riding_of, in_order}
 use Rattle.connections.proofs.JoinLemmas.{join-zero, join-suc, join-same, join-rest, join-on, All-join}
 use Rattle.connections.proofs.OrderLemmas.{Differ, All-in_order}
 use Rattle.connections.proofs.PairLemmas.{AllPairs-append, AllPairs-nil, AllPairs-one}
@@ -31,10 +31,6 @@ same_bool : (a b : Bool) → (a ≡ true → b ≡ true) → (b ≡ true → a �
 same_bool true b h k = sym (h refl)
 same_bool false true h k = k refl
 same_bool false false h k = refl
-
-never : (b : Bool) → (b ≡ true → ⊥) → b ≡ false
-never true h = absurd (h refl)
-never false h = refl
 
 pub holds_in : (w : Window) (moment : ℤ) → pos w.start ≤ℤ moment → moment ≤ℤ pos w.end → holds w moment ≡ true
 holds_in w moment h k = grind (arith, ints)
@@ -55,7 +51,7 @@ some_ride w rows o (suc n) h =
 
 -- the first runs of a row that are taken
 abbrev pub taken_runs : FrequencyRow → (ℕ → Bool) → ℕ → List Repeat
-taken_runs row taken next = join_below (λ m. only_if (taken m) (run_of row m)) next
+taken_runs row taken next = join_below (λ m. only_if (taken m) (repeat_of row m)) next
 
 -- the runs before next stay as they are, and those after it are taken from a number on
 abbrev pub more : (next from : ℕ) → (ℕ → Bool) → ℕ → Bool
@@ -147,17 +143,17 @@ module _ (w : Window) (rows : List StopRow) (day : ServiceDay) (row : FrequencyR
         late = starts;
       }
 
-      pub step_list : taken_runs row (more next from taken) (max next to) ≡ taken_runs row taken next ++ list_below (λ i. run_of row (max from next + i)) (to - max from next)
+      pub step_list : taken_runs row (more next from taken) (max next to) ≡ taken_runs row taken next ++ list_below (λ i. repeat_of row (max from next + i)) (to - max from next)
       step_list =
           let j = max next to - next in
           let e : next + j ≡ max next to = omega arith in
           let size : next + j - max from next ≡ to - max from next = omega arith in
           ap (taken_runs row (more next from taken)) (sym e)
-          ∙ join-on (λ m. only_if (taken m) (run_of row m)) (λ m. only_if (more next from taken m) (run_of row m)) (run_of row) next (max from next) j (omega arith)
-          (λ i h. ap (λ b. only_if b (run_of row i)) (kept next from i taken h))
-          (λ i ge h. ap (λ b. only_if b (run_of row i)) (fresh next from i taken ge ∙ lt-leb from i (omega (arith, h, ge))))
-          (λ i ge h. ap (λ b. only_if b (run_of row i)) (fresh next from i taken (omega (arith, ge)) ∙ le-leb from i (omega (arith, ge))))
-          ∙ ap (λ n. taken_runs row taken next ++ list_below (λ i. run_of row (max from next + i)) n) size
+          ∙ join-on (λ m. only_if (taken m) (repeat_of row m)) (λ m. only_if (more next from taken m) (repeat_of row m)) (repeat_of row) next (max from next) j (omega arith)
+          (λ i h. ap (λ b. only_if b (repeat_of row i)) (kept next from i taken h))
+          (λ i ge h. ap (λ b. only_if b (repeat_of row i)) (fresh next from i taken ge ∙ lt-leb from i (omega (arith, h, ge))))
+          (λ i ge h. ap (λ b. only_if b (repeat_of row i)) (fresh next from i taken (omega (arith, ge)) ∙ le-leb from i (omega (arith, ge))))
+          ∙ ap (λ n. taken_runs row taken next ++ list_below (λ i. repeat_of row (max from next + i)) n) size
 
     -- when each was looked at, the runs that ride are taken
     module _ (next : ℕ) (taken : ℕ → Bool) (t : AreTaken 0 next taken) where
@@ -172,10 +168,10 @@ module _ (w : Window) (rows : List StopRow) (day : ServiceDay) (row : FrequencyR
       all_taken =
           let rest = end_of_times - next in
           let e : next + rest ≡ end_of_times = omega (arith, t.few) in
-          let own : ℕ → List Repeat = λ m. only_if (rides_by w rows day row m) (run_of row m) in
-          join-same (λ m. only_if (taken m) (run_of row m)) own next
-          (λ m h. ap (λ b. only_if b (run_of row m)) (same_bool (taken m) (rides_by w rows day row m) (t.sound m h) (λ r. (found m r).1)))
-          ∙ sym (join-rest own next rest (λ m ge. ap (λ b. only_if b (run_of row m)) (never (rides_by w rows day row m) (λ r. omega (arith, (found m r).0, ge)))))
+          let own : ℕ → List Repeat = λ m. only_if (rides_by w rows day row m) (repeat_of row m) in
+          join-same (λ m. only_if (taken m) (repeat_of row m)) own next
+          (λ m h. ap (λ b. only_if b (repeat_of row m)) (same_bool (taken m) (rides_by w rows day row m) (t.sound m h) (λ r. (found m r).1)))
+          ∙ sym (join-rest own next rest (λ m ge. ap (λ b. only_if b (repeat_of row m)) (false_from_ne_true (rides_by w rows day row m) (λ r. omega (arith, (found m r).0, ge)))))
           ∙ ap (join_below own) e
 
 one_all : (P : Repeat → Type 0) (b : Bool) (r : Repeat) → (b ≡ true → P r) → All P (only_if b r)
@@ -189,9 +185,9 @@ one_pair false r = AllPairs-nil Differ
 module _ (w : Window) (rows : List StopRow) (day : ServiceDay) where
   -- what holds of each run of a row that rides
   pub riding_by_all : (P : Repeat → Type 0) (row : FrequencyRow)
-      → ((m : ℕ) → IsRunOf row m → rides w rows (origin_at rows day (departure row m)) ≡ true → P (run_of row m)) → All P (riding_by w rows day row)
+      → ((m : ℕ) → IsRunOf row m → rides w rows (origin_at rows day (departure row m)) ≡ true → P (repeat_of row m)) → All P (riding_by w rows day row)
   unfolding riding_by
-  riding_by_all P row h = All-join P (λ m. only_if (rides_by w rows day row m) (run_of row m)) end_of_times (λ m l. one_all P (rides_by w rows day row m) (run_of row m) (λ r.
+  riding_by_all P row h = All-join P (λ m. only_if (rides_by w rows day row m) (repeat_of row m)) end_of_times (λ m l. one_all P (rides_by w rows day row m) (repeat_of row m) (λ r.
       let p = and_parts (nat_lt (departure row m) row.end) (rides w rows (origin_at rows day (departure row m))) r in h m (ltb-true (departure row m) row.end p.0) p.1))
 
   pub riding_of_all : (P : Repeat → Type 0) (fs : List FrequencyRow) → ((i : ℕ) → i < length fs → All P (riding_by w rows day (repeat_at fs i))) → All P (riding_of w rows day fs)
@@ -216,16 +212,16 @@ module _ (w : Window) (rows : List StopRow) (day : ServiceDay) where
   rising row some m n h =
       let a : suc m * row.headway ≤ n * row.headway = mul-le-mul_right row.headway (omega (arith, h)) in omega (arith, a, suc-mul m row.headway, some)
 
-  pairs_below : (row : FrequencyRow) → IsFrequency row → (n : ℕ) → AllPairs Differ (join_below (λ m. only_if (rides_by w rows day row m) (run_of row m)) n)
-  pairs_below row is zero = subst (AllPairs Differ) (sym (join-zero (λ m. only_if (rides_by w rows day row m) (run_of row m)))) (AllPairs-nil Differ)
+  pairs_below : (row : FrequencyRow) → IsFrequency row → (n : ℕ) → AllPairs Differ (join_below (λ m. only_if (rides_by w rows day row m) (repeat_of row m)) n)
+  pairs_below row is zero = subst (AllPairs Differ) (sym (join-zero (λ m. only_if (rides_by w rows day row m) (repeat_of row m)))) (AllPairs-nil Differ)
   pairs_below row is (suc n) =
-      let f : ℕ → List Repeat = λ m. only_if (rides_by w rows day row m) (run_of row m) in
+      let f : ℕ → List Repeat = λ m. only_if (rides_by w rows day row m) (repeat_of row m) in
       let Sooner : Repeat → Type 0 = λ r. r.departure < departure row n in
       let Here : Repeat → Type 0 = λ r. r.departure ≡ departure row n in
-      let before : All Sooner (join_below f n) = All-join Sooner f n (λ m l. one_all Sooner (rides_by w rows day row m) (run_of row m) (λ r. rising row is.some m n l)) in
-      let here : All Here (f n) = one_all Here (rides_by w rows day row n) (run_of row n) (λ r. refl) in
+      let before : All Sooner (join_below f n) = All-join Sooner f n (λ m l. one_all Sooner (rides_by w rows day row m) (repeat_of row m) (λ r. rising row is.some m n l)) in
+      let here : All Here (f n) = one_all Here (rides_by w rows day row n) (repeat_of row n) (λ r. refl) in
       subst (AllPairs Differ) (sym (join-suc f n))
-      (AllPairs-append Differ (join_below f n) (f n) (pairs_below row is n) (one_pair (rides_by w rows day row n) (run_of row n)) (λ i j d l h e.
+      (AllPairs-append Differ (join_below f n) (f n) (pairs_below row is n) (one_pair (rides_by w rows day row n) (repeat_of row n)) (λ i j d l h e.
       omega (arith, All-get_or Sooner (join_below f n) i d l before, All-get_or Here (f n) j d h here, ap (λ (r : Repeat). r.departure) e)))
 
   pub riding_by_pairs : (row : FrequencyRow) → IsFrequency row → AllPairs Differ (riding_by w rows day row)

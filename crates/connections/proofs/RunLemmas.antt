@@ -6,6 +6,7 @@ use Rattle.std.proofs.lemmas.Int.{ints}
 use Rattle.std.proofs.lemmas.List.{get_or-map, length-map}
 use Rattle.std.proofs.lemmas.List.Elements.{All-append, All-cons, All-weaker, All-nil, All-get_or, All-map}
 use Rattle.std.proofs.lemmas.Bool.{ltb-true}
+use Rattle.std.proofs.lemmas.Option.{same_Some}
 use Rattle.trip_frequencies.specs.declared.frequencies.FrequencyRow.{FrequencyRow}
 use Rattle.stop_times.specs.declared.rows.StopRow.{StopRow}
 use Rattle.gtfs_tables.specs.Feeds.{FeedParts}
@@ -19,9 +20,9 @@ use Rattle.connections.specs.declared.window.Window.{Window}
 use Rattle.connections.specs.Joins.{only_if}
 use Rattle.connections.specs.Origins.{origin_of_day}
 use Rattle.connections.specs.Window.{day_at, IsWindow}
-use Rattle.connections.specs.Rides.{is_active, rides, steps_of}
+use Rattle.connections.specs.Rides.{is_active_trip, rides, steps_of}
 use Rattle.connections.specs.Repeats.{riding_of, in_order}
-use Rattle.connections.specs.TripRuns.{frequencies_of, own_run, repeat_run, runs_by, day_runs, runs_below, runs_in, no_run, run_steps}
+use Rattle.connections.specs.TripRuns.{frequencies_of, own_run, repeat_run, runs_of_trip, day_runs, runs_below, window_runs, no_run, run_steps}
 use Rattle.connections.specs.Runs.{AreRunsOf, AllRide}
 use Rattle.connections.proofs.DayLemmas.{day-zero, day-suc, days-zero, days-suc}
 use Rattle.connections.proofs.OrderLemmas.{All-in_order, pairs_in_order}
@@ -56,9 +57,6 @@ module _ (w : Window) (rows : List StopRow) (day : ServiceDay) (trip : ℕ) wher
   }
   own_rides false e = no_rides
 
-  same_repeat : (a b : Repeat) → Some a ≡ Some b → a ≡ b
-  same_repeat a b e = cc
-
   repeat_rides : (fs : List FrequencyRow) → AreRepeats fs → AreRides (map (repeat_run rows day trip) (in_order (riding_of w rows day fs)))
   repeat_rides fs are =
       let f = repeat_run rows day trip in
@@ -76,10 +74,10 @@ module _ (w : Window) (rows : List StopRow) (day : ServiceDay) (trip : ℕ) wher
             let a = get_or-map f rs i none d i' in
             let b = get_or-map f rs j none d j' in
             let Q : Run → Type 0 = λ x. Precedes x (get_or (map f rs) j d) in
-            subst Q (sym a) (subst (Precedes (f (get_or rs i none))) (sym b) (inr (refl, inr (λ e. apart i j none l j' (same_repeat _ _ e)))));
+            subst Q (sym a) (subst (Precedes (f (get_or rs i none))) (sym b) (inr (refl, inr (λ e. apart i j none l j' (same_Some _ _ e)))));
       }
 
-  pub rides_of_trip : (fs : List FrequencyRow) → AreRepeats fs → AreRides (runs_by w rows fs day trip)
+  pub rides_of_trip : (fs : List FrequencyRow) → AreRepeats fs → AreRides (runs_of_trip w rows fs day trip)
   rides_of_trip [] are = own_rides (rides w rows (origin_of_day day)) refl
   rides_of_trip (row ∷ more) are = repeat_rides (row ∷ more) are
 
@@ -133,7 +131,7 @@ module _ (f : FeedParts) (s : ServiceParts) (w : Window) (repeats : AreRepeating
   of_day day (suc n) h =
       let e : n + 1 ≡ suc n = omega arith in
       let P : ℕ → Type 0 = λ k. AreRunsOn day k (day_runs f s w day (suc n)) in
-      let rides = rides_where w (rows_of f n) day n (is_active f s day n) _ (rides_of_trip w (rows_of f n) day n (frequencies_of f n) (repeats n (omega arith))) in
+      let rides = rides_where w (rows_of f n) day n (is_active_trip f s day n) _ (rides_of_trip w (rows_of f n) day n (frequencies_of f n) (repeats n (omega arith))) in
       subst P e (subst (AreRunsOn day (n + 1)) (sym (day-suc f s w day n)) (one_more day n (day_runs f s w day n) _ (of_day day n (omega arith)) rides))
 
   two_days : (low day high : ServiceDay) (trips : ℕ) (xs ys : List Run) → low.number ≤ℤ day.number → day.number <ℤ high.number
@@ -156,10 +154,10 @@ module _ (f : FeedParts) (s : ServiceParts) (w : Window) (repeats : AreRepeating
       (omega (arith, ints)) (of_days n) (of_day (day_at w n) trips (omega arith)))
 
   -- the runs of a window
-  pub runs_are : IsWindow w → (rs : List Run) → rs ≡ runs_in f s w → AreRunsOf f rs × AllRide f w rs
+  pub runs_are : IsWindow w → (rs : List Run) → rs ≡ window_runs f s w → AreRunsOf f rs × AllRide f w rs
   runs_are v rs e =
       let P : List Run → Type 0 = λ xs. AreRunsOf f xs × AllRide f w xs in
-      let xs = runs_in f s w in
+      let xs = window_runs f s w in
       let a = of_days 18 in
       subst P (sym e) (
         record {

@@ -1,5 +1,5 @@
 -- The steps of a trip in a window.
-use Rattle.std.proofs.Common.{◌≡◌, ℕ, suc, ◌+◌, Bool, true, List, [], ◌∷◌, ◌++◌, length, map, refl, sym, ap, ◌∙◌, length-append, add-one, arith}
+use Rattle.std.proofs.Common.{◌≡◌, ℕ, suc, ◌+◌, Bool, true, List, [], ◌∷◌, ◌++◌, length, map, refl, sym, ap, ◌∙◌, length-append, add-one, append_assoc, arith}
 use Rattle.std.specs.Prelude.{ℤ, pos, ◌≤ℤ◌, int_le}
 use Rattle.std.proofs.lemmas.Int.{ints}
 use Rattle.std.proofs.lemmas.List.{map-append}
@@ -33,10 +33,6 @@ holds_parts w moment h =
     let p = and_parts (int_le (pos w.start) moment) (int_le moment (pos w.end)) h in
     (le_is (pos w.start) moment p.0, le_is moment (pos w.end) p.1)
 
-pub append-nil : {A : Type 0} (xs : List A) → xs ++ [] ≡ xs
-append-nil [] = refl
-append-nil (x ∷ xs) = ap (λ ys. x ∷ ys) (append-nil xs)
-
 pub length-one : (b : Bool) (n : ℕ) → b ≡ true → length (only_if b n) ≡ 1
 length-one b n h = ap (λ x. length (only_if x n)) h
 
@@ -50,10 +46,6 @@ pub map-next : {A : Type 0} (f : ℕ → A) (w : Window) (rows : List StopRow) (
     → map f (steps_below w rows o (n + 1)) ≡ map f (steps_below w rows o n) ++ map f (only_if b n)
 map-next f w rows o n b h = ap (map f) (steps-next w rows o n b h) ∙ map-append f (steps_below w rows o n) (only_if b n)
 
-pub append-assoc : {A : Type 0} (xs ys zs : List A) → (xs ++ ys) ++ zs ≡ xs ++ (ys ++ zs)
-append-assoc [] ys zs = refl
-append-assoc (x ∷ xs) ys zs = ap (λ t. x ∷ t) (append-assoc xs ys zs)
-
 -- a list so far, and one that goes on
 pub goes-on : {A : Type 0} (old before more all new : List A) → all ≡ before ++ more → new ≡ (old ++ before) ++ more → new ≡ old ++ all
-goes-on old before more all new e h = h ∙ append-assoc old before more ∙ ap (λ xs. old ++ xs) (sym e)
+goes-on old before more all new e h = h ∙ append_assoc old before more ∙ ap (λ xs. old ++ xs) (sym e)

@@ -27,8 +27,8 @@ use Rattle.connections.specs.declared.window.Window.{Window}
 use Rattle.connections.specs.Joins.{only_if, sum_below}
 use Rattle.connections.specs.Origins.{origin_of_day}
 use Rattle.connections.specs.Window.{holds, day_at, IsWindow}
-use Rattle.connections.specs.Rides.{departs, is_active, steps_below, steps_of}
-use Rattle.connections.specs.Repeats.{origin_at, run_of, rides_by, riding_by}
+use Rattle.connections.specs.Rides.{departs, is_active_trip, steps_below, steps_of}
+use Rattle.connections.specs.Repeats.{origin_at, repeat_of, rides_by, riding_by}
 use Rattle.connections.specs.TripRuns.{frequencies_of, days}
 use Rattle.connections.specs.Counts.{each_of, steps_sum, row_sum, rows_sum, runs_sum, leaving_sum, trip_sum, day_sum, days_sum, window_sum, count_in, entries_in}
 use Rattle.connections.proofs.CountLemmas.{sum-zero, sum-suc, sum_by-ones, sum_by-join, sum_by-at, sum-rides}
@@ -95,9 +95,9 @@ row_sum-leaving each w rows day row =
     let f : ℕ → ℕ = λ k. each (kept_at rows k).place in
     let o : ℕ → Origin = λ m. origin_at rows day (departure row m) in
     let F : ℕ → ℕ → ℕ = λ m k. if nat_lt (departure row m) row.end && holds w (departs rows (o m) k) then f k else 0 in
-    sum_by-join own (λ m. only_if (rides_by w rows day row m) (run_of row m)) end_of_times
-    ∙ sum-same (λ m. sum_by own (only_if (rides_by w rows day row m) (run_of row m))) (λ m. sum_below (F m) (length rows - 1)) end_of_times (λ m.
-    sum-rides (nat_lt (departure row m) row.end) f (steps_of w rows (o m)) own (run_of row m) refl
+    sum_by-join own (λ m. only_if (rides_by w rows day row m) (repeat_of row m)) end_of_times
+    ∙ sum-same (λ m. sum_by own (only_if (rides_by w rows day row m) (repeat_of row m))) (λ m. sum_below (F m) (length rows - 1)) end_of_times (λ m.
+    sum-rides (nat_lt (departure row m) row.end) f (steps_of w rows (o m)) own (repeat_of row m) refl
     ∙ ap (λ x. if nat_lt (departure row m) row.end then x else 0) (steps-sum f w rows (o m) (length rows - 1))
     ∙ where-sum (nat_lt (departure row m) row.end) (λ k. holds w (departs rows (o m) k)) f (length rows - 1))
     ∙ sum-swap F end_of_times (length rows - 1)
@@ -201,7 +201,7 @@ module _ (w : Window) (b : ℕ) (each : PlaceId → ℕ) (h : (place : PlaceId) 
   window-scale f s =
       sum-scale b (λ d. day_sum each f s w (day_at w d) (length f.trip_ids)) (λ d. day_sum (λ place. 1) f s w (day_at w d) (length f.trip_ids)) days (λ d less.
       sum-scale b (trip_sum each f s w (day_at w d)) (trip_sum (λ place. 1) f s w (day_at w d)) (length f.trip_ids) (λ trip inside.
-      if_scale (is_active f s (day_at w d) trip) b _ _ (runs-scale (rows_of f trip) (frequencies_of f trip) (day_at w d))))
+      if_scale (is_active_trip f s (day_at w d) trip) b _ _ (runs-scale (rows_of f trip) (frequencies_of f trip) (day_at w d))))
 
 length-only : (b : Bool) (n : ℕ) → length (only_if b n) ≤ 1
 length-only true n = omega arith
@@ -250,7 +250,7 @@ window-few f s w v repeats small few =
     let all = sum-few 570129764350689280 (λ d. day_sum (λ place. 1) f s w (day_at w d) (length f.trip_ids)) days (λ d less.
     let day = day_at w d in
     let trips = sum-linear 33554432 8697342328832 (trip_sum (λ place. 1) f s w day) (λ trip. length (frequencies_of f trip)) (length f.trip_ids) (λ trip inside.
-    if_few (is_active f s day trip) (33554432 + length (frequencies_of f trip) * 8697342328832) (runs_sum (λ place. 1) w (rows_of f trip) (frequencies_of f trip) day)
+    if_few (is_active_trip f s day trip) (33554432 + length (frequencies_of f trip) * 8697342328832) (runs_sum (λ place. 1) w (rows_of f trip) (frequencies_of f trip) day)
     (runs-few w v (rows_of f trip) (small.rows trip inside) (frequencies_of f trip) (repeats trip inside) day)) in
     let total : sum_below (λ trip. length (frequencies_of f trip)) (length f.trip_ids) ≤ 65536
     = omega (arith, sum_by-at length [] f.frequencies, ap (λ n. sum_below (λ trip. length (frequencies_of f trip)) n) small.size, small.frequencies) in

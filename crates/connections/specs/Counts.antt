@@ -18,7 +18,7 @@ use Rattle.connections.specs.declared.window.Window.{Window}
 use Rattle.connections.specs.Joins.{sum_below}
 use Rattle.connections.specs.Origins.{origin_of_day}
 use Rattle.connections.specs.Window.{holds, day_at}
-use Rattle.connections.specs.Rides.{is_active, departs, steps_of}
+use Rattle.connections.specs.Rides.{is_active_trip, departs, steps_of}
 use Rattle.connections.specs.Repeats.{origin_at, riding_by}
 use Rattle.connections.specs.TripRuns.{frequencies_of, days}
 
@@ -47,7 +47,7 @@ leaving_sum each w rows day row k =
 module _ (each : PlaceId → ℕ) (f : FeedParts) (s : ServiceParts) (w : Window) where
   -- the same, where the service of the trip is active on the day
   abbrev pub trip_sum : (day : ServiceDay) (trip : ℕ) → ℕ
-  trip_sum day trip = if is_active f s day trip then runs_sum each w (rows_of f trip) (frequencies_of f trip) day else 0
+  trip_sum day trip = if is_active_trip f s day trip then runs_sum each w (rows_of f trip) (frequencies_of f trip) day else 0
 
   -- the same of the first n trips
   unfoldable pub day_sum : (day : ServiceDay) (n : ℕ) → ℕ

@@ -18,7 +18,7 @@ use Rattle.connections.specs.declared.runs.Run.{Run}
 use Rattle.connections.specs.Joins.{join_below}
 use Rattle.connections.specs.Origins.{moment_of}
 use Rattle.connections.specs.Rides.{departs}
-use Rattle.connections.specs.TripRuns.{run_steps, run_at, runs_in}
+use Rattle.connections.specs.TripRuns.{run_steps, run_at, window_runs}
 
 -- when the ride from the k-th kept row to the next arrives
 abbrev pub arrives : List StopRow → Origin → ℕ → ℤ
@@ -62,7 +62,7 @@ AreChanges change = (p : ℕ) → p < length change → (1 ≤ slice_index chang
 
 -- the connections of the window
 abbrev pub connections_in : FeedParts → ServiceParts → DelayLists → Window → List Connection
-connections_in f s d w = rides_below f d w (runs_in f s w) (length (runs_in f s w))
+connections_in f s d w = rides_below f d w (window_runs f s w) (length (window_runs f s w))
 
 -- of a run that a row of frequencies starts: an at sign, its departure from the first kept row in seconds of the service day, a
 -- point, and the line of the row
@@ -89,4 +89,4 @@ pub record IsNetworkOf (f : FeedParts) (s : ServiceParts) (change : List ℕ) (l
   pub links_of_places : network.links ≡ links
   pub classes_of_delays : network.classes ≡ d.classes
   pub places : names.places ≡ f.stop_ids
-  pub runs : AreRunNames f (runs_in f s w) (length (runs_in f s w)) names.runs
+  pub runs : AreRunNames f (window_runs f s w) (length (window_runs f s w)) names.runs

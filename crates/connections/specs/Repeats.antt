@@ -14,8 +14,8 @@ use Rattle.connections.specs.Joins.{join_below, only_if}
 use Rattle.connections.specs.Rides.{rides}
 
 -- the m-th run of a row, from 0 on
-abbrev pub run_of : FrequencyRow → ℕ → Repeat
-run_of row m = record { departure = departure row m; line = row.line }
+abbrev pub repeat_of : FrequencyRow → ℕ → Repeat
+repeat_of row m = record { departure = departure row m; line = row.line }
 
 -- the times of a trip with these kept rows count from where its first kept row is left at this second of the service day
 abbrev pub origin_at : List StopRow → ServiceDay → ℕ → Origin
@@ -27,20 +27,20 @@ rides_by w rows day row m = nat_lt (departure row m) row.end && rides w rows (or
 
 -- the runs of a row that ride in the window, in their order
 unfoldable pub riding_by : Window → List StopRow → ServiceDay → FrequencyRow → List Repeat
-riding_by w rows day row = join_below (λ m. only_if (rides_by w rows day row m) (run_of row m)) end_of_times
+riding_by w rows day row = join_below (λ m. only_if (rides_by w rows day row m) (repeat_of row m)) end_of_times
 
 -- the same of all rows, row by row
 unfoldable pub riding_of : Window → List StopRow → ServiceDay → List FrequencyRow → List Repeat
 riding_of w rows day fs = join_below (λ i. riding_by w rows day (repeat_at fs i)) (length fs)
 
 -- it departs sooner, or at the same time by an earlier line
-abbrev pub precedes : Repeat → Repeat → Bool
-precedes a b = nat_lt a.departure b.departure || (a.departure == b.departure && nat_lt a.line b.line)
+abbrev pub repeat_precedes : Repeat → Repeat → Bool
+repeat_precedes a b = nat_lt a.departure b.departure || (a.departure == b.departure && nat_lt a.line b.line)
 
 -- after those that precede it
 abbrev pub placed : Repeat → List Repeat → List Repeat
 placed r [] = r ∷ []
-placed r (x ∷ xs) = if precedes x r then x ∷ placed r xs else r ∷ x ∷ xs
+placed r (x ∷ xs) = if repeat_precedes x r then x ∷ placed r xs else r ∷ x ∷ xs
 
 -- in the order of their departures, and where these are equal of their lines
 abbrev pub in_order : List Repeat → List Repeat

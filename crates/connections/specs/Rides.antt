@@ -37,5 +37,5 @@ abbrev pub rides : Window → List StopRow → Origin → Bool
 rides w rows o = nat_lt 0 (length (steps_of w rows o))
 
 -- whether the service of a trip is active on a day
-abbrev pub is_active : FeedParts → ServiceParts → ServiceDay → ℕ → Bool
-is_active f s day trip = runs s (slice_index_or f.services trip []) day.number
+abbrev pub is_active_trip : FeedParts → ServiceParts → ServiceDay → ℕ → Bool
+is_active_trip f s day trip = runs s (slice_index_or f.services trip []) day.number

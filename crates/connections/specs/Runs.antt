@@ -19,13 +19,13 @@ IsSmallRepeat None = Unit {0}
 IsSmallRepeat (Some r) = (r.departure < 2 ^ 64) × (r.line < 2 ^ 64)
 
 -- its trip is one of the feed, and its day is a date
-pub record IsRunOf (f : FeedParts) (run : Run) : Type 0 where
+pub record IsRunOfFeed (f : FeedParts) (run : Run) : Type 0 where
   pub trip : run.trip < length f.trip_ids
   pub day : IsDay run.origin.day
 
 -- no run stands twice
 pub record AreRunsOf (f : FeedParts) (rs : List Run) : Type 0 where
-  pub each : (r : ℕ) → r < length rs → IsRunOf f (run_at rs r)
+  pub each : (r : ℕ) → r < length rs → IsRunOfFeed f (run_at rs r)
   pub apart : (i j : ℕ) → i < j → j < length rs → (run_at rs i).origin.day.number ≡ (run_at rs j).origin.day.number
       → (run_at rs i).trip ≡ (run_at rs j).trip → (run_at rs i).repeat ≡ (run_at rs j).repeat → ⊥
 

@@ -12,7 +12,7 @@ use Rattle.connections.specs.declared.window.Window.{Window}
 use Rattle.connections.specs.Joins.{join_below, only_if}
 use Rattle.connections.specs.Origins.{origin_of_day}
 use Rattle.connections.specs.Window.{day_at}
-use Rattle.connections.specs.Rides.{rides, steps_of, is_active}
+use Rattle.connections.specs.Rides.{rides, steps_of, is_active_trip}
 use Rattle.connections.specs.Repeats.{origin_at, riding_of, in_order}
 
 -- the rows of frequencies of a trip
@@ -29,13 +29,13 @@ repeat_run rows day trip r = record { origin = origin_at rows day r.departure; t
 
 -- the runs of a trip on a service day that ride in the window: its own where it has no rows of frequencies, and else those
 -- that these start, by departure and then by line
-abbrev pub runs_by : Window → List StopRow → List FrequencyRow → ServiceDay → (trip : ℕ) → List Run
-runs_by w rows [] day trip = only_if (rides w rows (origin_of_day day)) (own_run day trip)
-runs_by w rows (row ∷ more) day trip = map (repeat_run rows day trip) (in_order (riding_of w rows day (row ∷ more)))
+abbrev pub runs_of_trip : Window → List StopRow → List FrequencyRow → ServiceDay → (trip : ℕ) → List Run
+runs_of_trip w rows [] day trip = only_if (rides w rows (origin_of_day day)) (own_run day trip)
+runs_of_trip w rows (row ∷ more) day trip = map (repeat_run rows day trip) (in_order (riding_of w rows day (row ∷ more)))
 
 -- the same, where its service is active on the day
 abbrev pub trip_runs : FeedParts → ServiceParts → Window → ServiceDay → ℕ → List Run
-trip_runs f s w day trip = if is_active f s day trip then runs_by w (rows_of f trip) (frequencies_of f trip) day trip else []
+trip_runs f s w day trip = if is_active_trip f s day trip then runs_of_trip w (rows_of f trip) (frequencies_of f trip) day trip else []
 
 -- those of the first n trips
 unfoldable pub day_runs : FeedParts → ServiceParts → Window → ServiceDay → ℕ → List Run
@@ -51,8 +51,8 @@ days = 18
 
 -- the runs that ride in the window, by service day, position of the trip, departure from the first kept row and line of the row
 -- of frequencies
-abbrev pub runs_in : FeedParts → ServiceParts → Window → List Run
-runs_in f s w = runs_below f s w days
+abbrev pub window_runs : FeedParts → ServiceParts → Window → List Run
+window_runs f s w = runs_below f s w days
 
 abbrev pub no_run : Run
 no_run = own_run (record { number = pos 0 }) 0

@@ -6,7 +6,7 @@ ghost use Rattle.gtfs_tables.specs.Repeats.{IsFrequency, AreRepeats};
 ghost use Rattle.run_repeat.specs.Runs.{AreBelow, IsRunOf, departure};
 ghost use Rattle.connections.specs.Window.{IsWindow};
 ghost use Rattle.connections.specs.Rides.{AreDepartures, departs};
-ghost use Rattle.connections.specs.Repeats.{run_of, origin_at, riding_by, riding_of, in_order};
+ghost use Rattle.connections.specs.Repeats.{repeat_of, origin_at, riding_by, riding_of, in_order};
 
 use crate::origins::{Origin, ServiceDay};
 use crate::window::Window;
@@ -74,7 +74,7 @@ fn add_between(
 ) -> Result<(), NoMemory>
     requires { (m : ℕ) → m < to → IsRunOf row.now m }
     ensures { OnOk result (repeats.new.items
-        ≡ repeats.old.items ++ list_below (λ i. run_of row.now (from + i)) (to - from)) }
+        ≡ repeats.old.items ++ list_below (λ i. repeat_of row.now (from + i)) (to - from)) }
 {
     for m in from..to {
         repeats.push(Repeat {

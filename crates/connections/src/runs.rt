@@ -5,8 +5,8 @@ ghost use Rattle.gtfs_tables.specs.Repeats.{AreRepeats};
 ghost use Rattle.connections.specs.Joins.{only_if};
 ghost use Rattle.connections.specs.Window.{holds, IsWindow};
 ghost use Rattle.connections.specs.Origins.{origin_of_day};
-ghost use Rattle.connections.specs.Rides.{DepartInOrder, AreDepartures, departs, is_active, rides, steps_of};
-ghost use Rattle.connections.specs.TripRuns.{own_run, repeat_run, runs_by, day_runs, runs_in};
+ghost use Rattle.connections.specs.Rides.{DepartInOrder, AreDepartures, departs, is_active_trip, rides, steps_of};
+ghost use Rattle.connections.specs.TripRuns.{own_run, repeat_run, runs_of_trip, day_runs, window_runs};
 
 use crate::origins::{Origin, ServiceDay};
 use crate::repeats::{Repeat, origin_at, repeats_of};
@@ -93,7 +93,7 @@ fn rides(rows: &[StopRow], origin: Origin, window: Window) -> bool
 /// Whether the service of a trip is active on a day.
 pub(crate) fn has_service(feed: &Feed, services: &Services, trip: u32, day: ServiceDay) -> bool
     requires { trip < length feed.now.trip_ids }
-    ensures { result ≡ is_active feed.now services.now day trip }
+    ensures { result ≡ is_active_trip feed.now services.now day trip }
 {
     services.runs_on(feed.service_of(trip), day.number)
 }
@@ -159,7 +159,7 @@ fn add_trip(
     requires departures { AreDepartures rows.now }
     requires repeats { AreRepeats frequencies.now }
     ensures { OnOk result (runs.new.items
-        ≡ runs.old.items ++ runs_by window rows.now frequencies.now day trip) }
+        ≡ runs.old.items ++ runs_of_trip window rows.now frequencies.now day trip) }
 {
     if frequencies.is_empty() {
         return add_own(runs, rows, day, trip, window);
@@ -200,7 +200,7 @@ pub(crate) fn runs_of(
     window: Window,
 ) -> Result<Vec<Run>, NoMemory>
     requires { IsWindow window }
-    ensures { IfOk result (λ runs. runs.items ≡ runs_in feed.now services.now window) }
+    ensures { IfOk result (λ runs. runs.items ≡ window_runs feed.now services.now window) }
 {
     let mut runs: Vec<Run> = Vec::new(alloc);
     for d in 0..DAYS {

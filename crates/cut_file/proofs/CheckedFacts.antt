@@ -4,28 +4,21 @@ use Rattle.std.proofs.lemmas.Bool.{lt-ltb, le-ltb}
 use Rattle.std.specs.Option.{option_or}
 use Rattle.csv_rows.specs.First.{first_below}
 use Rattle.csv_rows.specs.declared.columns.Column.TheVariants.{Run, Step, From, To, Dep, Arr}
-use Rattle.csv_rows.specs.Tables.{place_of, row_count}
+use Rattle.csv_rows.specs.Tables.{row_count}
 use Rattle.cut_file.specs.declared.rows.CutRow.{CutRow}
 use Rattle.cut_file.specs.declared.rows.Columns.{Columns}
 use Rattle.csv_rows.specs.declared.keys.Key.{Key}
 use Rattle.cut_file.specs.declared.faults.CutFault.{CutFault}
 use Rattle.cut_file.specs.declared.faults.CutFault.TheVariants.{TooManyRows}
-use Rattle.cut_file.specs.Faults.{missing_column, too_many_rows, bad_field, repeated_step, run_fault, first_fault, row}
+use Rattle.cut_file.specs.Faults.{missing_column, too_many_rows, bad_field, repeated_step, run_fault, first_cut_fault, row}
 use Rattle.cut_file.specs.Cut.{AreColumns, missing_in, lack, run_names, place_names, IsNumbered}
 use Rattle.cut_file.specs.Keys.{AreKeysOf, no_row}
 use Rattle.cut_file.specs.Read.{IsRead}
 
-missing_by : Option ℕ → Option ℕ → Option ℕ → Option ℕ → Option ℕ → Option ℕ → Option CutFault
-missing_by a b c d e f = option_or (lack a Run) (option_or (lack b Step) (option_or (lack c From) (option_or (lack d To) (option_or (lack e Dep) (lack f Arr)))))
-
 pub missing_is : (t : List (List (List ℕ))) (c : Columns) → AreColumns t c → missing_column t ≡ missing_in c
-unfolding missing_by
 missing_is t c h =
-    sym (ap (λ x. missing_by x c.step c.from c.to c.dep c.arr) h.run ∙ ap (λ x. missing_by (place_of Run t) x c.from c.to c.dep c.arr) h.step
-    ∙ ap (λ x. missing_by (place_of Run t) (place_of Step t) x c.to c.dep c.arr) h.from
-    ∙ ap (λ x. missing_by (place_of Run t) (place_of Step t) (place_of From t) x c.dep c.arr) h.to
-    ∙ ap (λ x. missing_by (place_of Run t) (place_of Step t) (place_of From t) (place_of To t) x c.arr) h.dep
-    ∙ ap (λ x. missing_by (place_of Run t) (place_of Step t) (place_of From t) (place_of To t) (place_of Dep t) x) h.arr)
+    sym (λ m. option_or (lack (h.run m) Run) (option_or (lack (h.step m) Step) (option_or (lack (h.from m) From)
+    (option_or (lack (h.to m) To) (option_or (lack (h.dep m) Dep) (lack (h.arr m) Arr))))))
 
 abbrev all_faults : Option CutFault → Option CutFault → Option CutFault → Option CutFault → Option CutFault
 all_faults a b c d = option_or a (option_or b (option_or c d))
@@ -33,22 +26,22 @@ all_faults a b c d = option_or a (option_or b (option_or c d))
 abbrev runs_of : List (List (List ℕ)) → Option CutFault
 runs_of t = option_or (first_below (repeated_step t) (row_count t)) (first_below (run_fault t) (row_count t))
 
-first_is : (t : List (List (List ℕ))) (limit : ℕ) → first_fault t limit ≡ all_faults (missing_column t) (too_many_rows t limit) (first_below (bad_field t) (row_count t)) (runs_of t)
-unfolding first_fault
+first_is : (t : List (List (List ℕ))) (limit : ℕ) → first_cut_fault t limit ≡ all_faults (missing_column t) (too_many_rows t limit) (first_below (bad_field t) (row_count t)) (runs_of t)
+unfolding first_cut_fault
 first_is t limit = refl
 
-pub column_first : (t : List (List (List ℕ))) (limit : ℕ) (c : Columns) (f : CutFault) → AreColumns t c → Some f ≡ missing_in c → first_fault t limit ≡ Some f
+pub column_first : (t : List (List (List ℕ))) (limit : ℕ) (c : Columns) (f : CutFault) → AreColumns t c → Some f ≡ missing_in c → first_cut_fault t limit ≡ Some f
 column_first t limit c f h e =
     first_is t limit ∙ ap (λ a. all_faults a (too_many_rows t limit) (first_below (bad_field t) (row_count t)) (runs_of t)) (missing_is t c h ∙ sym e)
 
-pub count_first : (t : List (List (List ℕ))) (limit : ℕ) (c : Columns) → AreColumns t c → None ≡ missing_in c → limit < row_count t → first_fault t limit ≡ Some (TooManyRows (row_count t))
+pub count_first : (t : List (List (List ℕ))) (limit : ℕ) (c : Columns) → AreColumns t c → None ≡ missing_in c → limit < row_count t → first_cut_fault t limit ≡ Some (TooManyRows (row_count t))
 count_first t limit c h e l =
     first_is t limit ∙ ap (λ a. all_faults a (too_many_rows t limit) (first_below (bad_field t) (row_count t)) (runs_of t)) (missing_is t c h ∙ sym e)
     ∙ ap (λ b. option_or (if b then Some (TooManyRows (row_count t)) else None) (option_or (first_below (bad_field t) (row_count t)) (runs_of t))) (lt-ltb limit (row_count t) l)
 
 -- with its columns, and few enough rows
 pub rows_first : (t : List (List (List ℕ))) (limit : ℕ) (c : Columns) → AreColumns t c → None ≡ missing_in c → row_count t ≤ limit
-    → first_fault t limit ≡ option_or (first_below (bad_field t) (row_count t)) (runs_of t)
+    → first_cut_fault t limit ≡ option_or (first_below (bad_field t) (row_count t)) (runs_of t)
 rows_first t limit c h e l =
     first_is t limit ∙ ap (λ a. all_faults a (too_many_rows t limit) (first_below (bad_field t) (row_count t)) (runs_of t)) (missing_is t c h ∙ sym e)
     ∙ ap (λ b. option_or (if b then Some (TooManyRows (row_count t)) else None) (option_or (first_below (bad_field t) (row_count t)) (runs_of t))) (le-ltb limit (row_count t) l)

@@ -1,12 +1,13 @@
 -- Numbers of names: one for each name.
-use Rattle.std.proofs.Common.{◌≡◌, ℕ, zero, suc, ◌<◌, ◌≤◌, ◌==◌, Bool, true, false, List, [], ◌∷◌, ◌++◌, get_or, slice_get, Some, is_some, if◌then◌else◌, refl, sym, ap}
+use Rattle.std.proofs.Common.{◌≡◌, ℕ, zero, suc, ◌==◌, Bool, true, false, List, [], ◌∷◌, ◌++◌, slice_get, Some, is_some, if◌then◌else◌, refl, sym, ap}
 use Rattle.std.proofs.Common.{◌∙◌, subst, arith, ⊎_elim, Contains, bytes_eq}
-use Rattle.std.proofs.lemmas.Bool.{cases_lt, cases_Bool, eq-eqb, ne_eqb}
+use Rattle.std.proofs.lemmas.Bool.{cases_Bool, eq-eqb, ne_eqb}
 use Rattle.std.proofs.lemmas.Slice.Eq.{bytes_eq-Decides}
 use Rattle.std.proofs.lemmas.Option.{slice_get_within, get_or_from_slice_get, same_Some}
 use Rattle.plan_model.specs.NameLists.{AreDistinct}
 use Rattle.plan_model.proofs.Texts.{AreDistinct-push}
 use Rattle.csv_rows.specs.Tables.{place_in}
+use Rattle.delay_table.proofs.NumberedFacts.{one_index}
 use Rattle.cut_file.specs.Faults.{row}
 use Rattle.cut_file.specs.Cut.{add_new, run_names, place_names}
 use Rattle.cut_file.proofs.NumberFacts.{there_place}
@@ -15,12 +16,9 @@ push_if : (names : List (List ℕ)) (x : List ℕ) (b : Bool) → (b ≡ false �
 push_if names x true absent d = d
 push_if names x false absent d = AreDistinct-push names x d (absent refl)
 
-true_is_not : (b : Bool) → b ≡ true → b ≡ false → ⊥
-true_is_not b h k = cc
-
 add_distinct : (names : List (List ℕ)) (x : List ℕ) → AreDistinct names → AreDistinct (add_new names x)
 unfolding add_new
-add_distinct names x d = push_if names x (is_some (place_in x names)) (λ none there. true_is_not (is_some (place_in x names)) (there_place names x there) none) d
+add_distinct names x d = push_if names x (is_some (place_in x names)) (λ none there. let some = there_place names x there in absurd (cc)) d
 
 none_distinct : AreDistinct []
 none_distinct i j less inside same = absurd (omega arith)
@@ -38,13 +36,7 @@ places_distinct t (suc n) = add_distinct (add_new (place_names t n) (row t n).fr
 -- one name has one number
 pub one_number : (names : List (List ℕ)) → AreDistinct names → (a b : ℕ) (x : List ℕ) → slice_get names a ≡ Some x → slice_get names b ≡ Some x → a ≡ b
 one_number names d a b x h k =
-    let ga : get_or names a [] ≡ x = get_or_from_slice_get names a x [] h in
-    let gb : get_or names b [] ≡ x = get_or_from_slice_get names b x [] k in
-    let ia = slice_get_within names a x h in
-    let ib = slice_get_within names b x k in
-    ⊎_elim (λ (less : a < b). absurd (d a b less ib (ga ∙ sym gb)))
-    (λ (ge : b ≤ a). ⊎_elim (λ (less : b < a). absurd (d b a less ia (gb ∙ sym ga))) (λ (le : a ≤ b). omega arith) (cases_lt b a))
-    (cases_lt a b)
+    one_index names d a b (slice_get_within names a x h) (slice_get_within names b x k) (get_or_from_slice_get names a x [] h ∙ sym (get_or_from_slice_get names b x [] k))
 
 -- so names are compared by their numbers
 pub same_name : (names : List (List ℕ)) → AreDistinct names → (a b : ℕ) (x y : List ℕ) → slice_get names a ≡ Some x → slice_get names b ≡ Some y → bytes_eq x y ≡ (a == b)
@@ -56,5 +48,5 @@ same_name names d a b x y h k =
     f ∙ sym (ne_eqb a b (λ e.
     let P : ℕ → Type 0 = λ i. slice_get names i ≡ Some y in
     let s : x ≡ y = same_Some x y (sym h ∙ subst P (sym e) k) in
-    true_is_not (bytes_eq x y) ((bytes_eq-Decides x y).1 s) f)))
+    let t = (bytes_eq-Decides x y).1 s in absurd (cc))))
     (cases_Bool (bytes_eq x y))

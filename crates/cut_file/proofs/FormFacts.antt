@@ -1,12 +1,14 @@
 -- What the forms of the fields bound.
-use Rattle.std.proofs.Common.{◌≡◌, ℕ, ◌+◌, ◌<◌, ◌≤◌, Bool, true, false, ◌==◌, nat_lt, List, length, Option, Some, None, Result, Ok, Err, IfSome, option_map, if◌then◌else◌, refl, subst, arith}
+use Rattle.std.proofs.Common.{◌≡◌, ℕ, ◌+◌, ◌<◌, ◌≤◌, Bool, true, false, ◌==◌, nat_lt, List, length, Option, Some, None, Result, Ok, Err, IfSome, if◌then◌else◌, refl, subst, arith}
 use Rattle.csv_rows.specs.declared.columns.Column.{Column}
 use Rattle.csv_rows.specs.declared.columns.Column.TheVariants.{Class, Run, Step, From, To, Dep, Arr, Board, Exit, Change}
-use Rattle.delay_table.proofs.LineFacts.{whole_bound}
+use Rattle.delay_table.proofs.LineFacts.{optional-each}
+use Rattle.clock_text.proofs.DigitLemmas.{whole_bound}
+use Rattle.csv_rows.proofs.RowLemmas.{name_text}
 use Rattle.clock_text.specs.Digits.{optional_seconds_of, whole_of}
 use Rattle.clock_text.specs.Times.{moment_at}
-use Rattle.std.specs.Str.{is_utf8}
 use Rattle.std.proofs.lemmas.Bool.{ltb-true}
+use Rattle.std.proofs.lemmas.Option.{same_Some}
 use Rattle.csv_rows.specs.Names.{name_in}
 use Rattle.cut_file.specs.Forms.{before_end, early, class_in, flag_in}
 use Rattle.cut_file.specs.Rows.{Row, row_from, row_at}
@@ -24,33 +26,14 @@ pub record InForm (run from to : List ℕ) (r : Row) : Type 0 where
   pub arr : r.arr < end_of_arrivals
   pub change : IfSome r.change (λ s. s ≤ 86400)
 
-name_if : (empty utf8 : Bool) (text x : List ℕ) → (if empty then None else if utf8 then Some text else None) ≡ Some x → x ≡ text
-name_if true utf8 text x h = absurd (cc)
-name_if false true text x h = cc
-name_if false false text x h = absurd (cc)
+end_if : (b : Bool) (m n : ℕ) → (b ≡ true → m < end_of_arrivals) → (if b then Some m else None) ≡ Some n → n < end_of_arrivals
+end_if true m n h e = subst (λ (x : ℕ). x < end_of_arrivals) (same_Some m n e) (h refl)
+end_if false m n h e = absurd (cc)
 
--- a name is its field
-name_is : (text x : List ℕ) → name_in text ≡ Some x → x ≡ text
-name_is text x h = name_if (length text == 0) (is_utf8 text) text x h
-
-end_if : (b : Bool) (m : ℕ) → (b ≡ true → m < end_of_arrivals) → IfSome (if b then Some m else None) (λ x. x < end_of_arrivals)
-end_if true m h = h refl
-end_if false m h = tt
-
-end_bound : (o : Option ℕ) → IfSome (before_end o) (λ x. x < end_of_arrivals)
-end_bound None = tt
-end_bound (Some m) = end_if (nat_lt m end_of_arrivals) m (ltb-true m end_of_arrivals)
-
-change_some : (o : Option ℕ) → IfSome o (λ s. s ≤ 86400) → IfSome (option_map Some o) (λ x. IfSome x (λ s. s ≤ 86400))
-change_some None h = tt
-change_some (Some s) h = h
-
-change_if : (b : Bool) (o : Option ℕ) → IfSome o (λ s. s ≤ 86400) → IfSome (if b then Some None else option_map Some o) (λ x. IfSome x (λ s. s ≤ 86400))
-change_if true o h = tt
-change_if false o h = change_some o h
-
-at_some : {A : Type 0} (P : A → Type 0) (o : Option A) (a : A) → IfSome o P → o ≡ Some a → P a
-at_some P o a h e = let Q : Option _ → Type 0 = λ x. IfSome x P in subst Q e h
+-- a moment before the end
+end_bound : (o : Option ℕ) (n : ℕ) → before_end o ≡ Some n → n < end_of_arrivals
+end_bound None n e = absurd (cc)
+end_bound (Some m) n e = end_if (nat_lt m end_of_arrivals) m n (ltb-true m end_of_arrivals) e
 
 same_ok : (x r : Row) → ◌≡◌ {A = Result Row Column} (Ok x) (Ok r) → x ≡ r
 same_ok x r e = cc
@@ -67,17 +50,13 @@ row_form a b c d e f g h j k =
     require-each (InForm a c d) (flag_in h) Board _ (λ board p8.
     require-each (InForm a c d) (flag_in j) Exit _ (λ exit p9.
     require-each (InForm a c d) (optional_seconds_of k) Change _ (λ change p10 r q.
-    let low : step ≤ 999999999 = at_some (λ (n : ℕ). n ≤ 999999999) (whole_of 999999999 b) step (whole_bound 999999999 b) p2 in
-    let early_arr : arr < end_of_arrivals = at_some (λ (n : ℕ). n < end_of_arrivals) (early f) arr (end_bound (moment_at f)) p6 in
-    let small = at_some (λ (x : Option ℕ). IfSome x (λ s. s ≤ 86400)) (optional_seconds_of k) change (change_if (length k == 0) (whole_of 86400 k) (whole_bound 86400 k)) p10 in
     subst (InForm a c d) (same_ok _ r q) (record {
-      run_name = name_is a run p1;
-      from_name = name_is c from p3;
-      to_name = name_is d to p4;
-      step =
-          omega arith;
-      arr = early_arr;
-      change = small;
+      run_name = name_text a run p1;
+      from_name = name_text c from p3;
+      to_name = name_text d to p4;
+      step = omega (arith, whole_bound 999999999 step b p2);
+      arr = end_bound (moment_at f) arr p6;
+      change = optional-each (λ s. s ≤ 86400) (length k == 0) (whole_of 86400 k) (λ s. whole_bound 86400 s k) change p10;
     })))))))))))
 
 ok_form : (P : Row → Type 0) (o : Result Row Column) (line : ℕ) → bad_of o line ≡ None → ((r : Row) → o ≡ Ok r → P r) → P (row_of o)

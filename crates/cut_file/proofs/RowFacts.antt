@@ -1,6 +1,5 @@
 -- The rows, one more at a time.
-use Rattle.std.proofs.Common.{◌≡◌, ℕ, ◌+◌, ◌<◌, ◌≤◌, List, [], ◌∷◌, ◌++◌, length, get_or, Some, None, Result, Ok, Err, refl, sym, ap, ◌∙◌, subst, arith, ⊎_elim, add-one}
-use Rattle.std.proofs.lemmas.Bool.{cases_lt}
+use Rattle.std.proofs.Common.{◌≡◌, ℕ, ◌+◌, ◌<◌, List, [], ◌∷◌, ◌++◌, length, get_or, Some, None, Result, Ok, Err, refl, sym, ap, ◌∙◌, subst, arith, add-one, below_more}
 use Rattle.std.proofs.lemmas.List.{get_or_append_left, get_or_push}
 use Rattle.csv_rows.specs.declared.columns.Column.{Column}
 use Rattle.csv_rows.specs.declared.columns.Column.TheVariants.{Class, Run, Step, From, To, Dep, Arr, Board, Exit, Change}
@@ -18,12 +17,7 @@ pub row_here : (t : List (List (List ℕ))) (i : ℕ) (o : Result Row Column) (a
     → g ≡ field t Class i → h ≡ field t Board i → j ≡ field t Exit i → k ≡ field t Change i → row_at t i ≡ o
 unfolding row_at
 row_here t i o a b c d e f g h j k q pa pb pc pd pe pf pg ph pj pk =
-    let A = field t Run i in let B = field t Step i in let C = field t From i in let D = field t To i in let E = field t Dep i in
-    let F = field t Arr i in let G = field t Class i in let H = field t Board i in let J = field t Exit i in
-    sym (ap (λ x. row_from x b c d e f g h j k) pa ∙ ap (λ x. row_from A x c d e f g h j k) pb ∙ ap (λ x. row_from A B x d e f g h j k) pc
-    ∙ ap (λ x. row_from A B C x e f g h j k) pd ∙ ap (λ x. row_from A B C D x f g h j k) pe ∙ ap (λ x. row_from A B C D E x g h j k) pf
-    ∙ ap (λ x. row_from A B C D E F x h j k) pg ∙ ap (λ x. row_from A B C D E F G x j k) ph ∙ ap (λ x. row_from A B C D E F G H x k) pj
-    ∙ ap (λ x. row_from A B C D E F G H J x) pk) ∙ q
+    sym (λ m. row_from (pa m) (pb m) (pc m) (pd m) (pe m) (pf m) (pg m) (ph m) (pj m) (pk m)) ∙ q
 
 pub bad_here : (t : List (List (List ℕ))) (i : ℕ) (column : Column) → row_at t i ≡ Err column → bad_field t i ≡ Some (BadField (i + 2) column)
 unfolding bad_field
@@ -62,17 +56,10 @@ pub each_next : (t : List (List (List ℕ))) (i : ℕ) (r : Row) (runs places ru
     → (k : ℕ) (d : CutRow) → k < i + 1 → IsNumbered runs' places' (row t k) (get_or new k d)
 each_next t i r runs places runs' places' old new c h size each e f g here k d l =
     let P : List CutRow → Type 0 = λ xs. IsNumbered runs' places' (row t k) (get_or xs k d) in
-    subst P (sym g)
-    (⊎_elim (λ (before : k < i).
-    let Q : CutRow → Type 0 = λ x. IsNumbered runs' places' (row t k) x in
-    let R : List (List ℕ) → Type 0 = λ xs. IsNumbered xs places' (row t k) (get_or old k d) in
-    let S : List (List ℕ) → Type 0 = λ xs. IsNumbered (add_new runs r.run) xs (row t k) (get_or old k d) in
-    subst Q (sym (get_or_append_left old (c ∷ []) d k (omega arith)))
-    (subst R (sym e) (subst S (sym f) (numbered_grows runs places r.run r.from r.to (row t k) (get_or old k d) (each k d before)))))
-    (λ (end : i ≤ k).
-    let same : i ≡ k = omega arith in
-    let Q : CutRow → Type 0 = λ x. IsNumbered runs' places' (row t k) x in
-    let T : Row → Type 0 = λ x. IsNumbered runs' places' x c in
-    let U : ℕ → Type 0 = λ m. IsNumbered runs' places' (row t m) c in
-    subst Q (sym (get_or_push old c d k (size ∙ same))) (subst U same (subst T (sym (row_is t i r h)) here)))
-    (cases_lt k i))
+    subst P (sym g) (below_more (λ k. IsNumbered runs' places' (row t k) (get_or (old ++ c ∷ []) k d)) i
+    (λ k before.
+    let grown = numbered_grows runs places r.run r.from r.to (row t k) (get_or old k d) (each k d before) in
+    subst (IsNumbered runs' places' (row t k)) (sym (get_or_append_left old (c ∷ []) d k (omega arith)))
+    (rw (e, f) grown))
+    (subst (IsNumbered runs' places' (row t i)) (sym (get_or_push old c d i size)) (subst (λ (x : Row). IsNumbered runs' places' x c) (sym (row_is t i r h)) here))
+    k l)

@@ -4,7 +4,6 @@ use Rattle.std.proofs.Common.{Option, Some, None, IfSome, if◌then◌else◌, r
 use Rattle.std.proofs.lemmas.Bool.{cases_lt, ltb-false, or_parts}
 use Rattle.std.proofs.lemmas.Bool.Decides.{nat_tests}
 use Rattle.std.proofs.lemmas.Option.{slice_get_within}
-use Rattle.std.specs.Option.{option_or}
 use Rattle.plan_model.proofs.Links.{AreLinks-none}
 use Rattle.plan_model.specs.NetworkModel.{NetworkModel}
 use Rattle.plan_model.specs.Rows.{IsValidRow}
@@ -15,14 +14,14 @@ use Rattle.delay_table.specs.DelayLists.{DelayLists}
 use Rattle.delay_table.specs.Slots.{AreDelays}
 use Rattle.delay_table.proofs.ClassBounds.{class_for-inside}
 use Rattle.csv_rows.specs.Tables.{row_count}
-use Rattle.csv_rows.proofs.FirstLemmas.{none-each}
+use Rattle.csv_rows.proofs.FirstLemmas.{none-both, none-each}
 use Rattle.cut_file.specs.declared.rows.CutRow.{CutRow}
 use Rattle.csv_rows.specs.declared.keys.Key.{Key}
 use Rattle.csv_rows.specs.Keys.{key_at, IsBefore}
 use Rattle.csv_rows.proofs.KeyLemmas.{less_group}
 use Rattle.cut_file.specs.declared.faults.CutFault.{CutFault}
 use Rattle.cut_file.specs.declared.faults.CutFault.TheVariants.{TooManyRows, Backward, Broken}
-use Rattle.cut_file.specs.Faults.{row, just_precedes, goes_back, is_broken, missing_column, too_many_rows, bad_field, repeated_step, run_fault, first_fault}
+use Rattle.cut_file.specs.Faults.{row, just_precedes, goes_back, is_broken, missing_column, too_many_rows, bad_field, repeated_step, run_fault, first_cut_fault}
 use Rattle.cut_file.specs.Keys.{cut_row, misfit, beside}
 use Rattle.cut_file.specs.Read.{Cut}
 use Rattle.cut_file.specs.Sound.{IsFaultless}
@@ -34,10 +33,6 @@ use Rattle.cut_file.proofs.FormFacts.{row_in_form}
 use Rattle.cut_file.proofs.Occurs.{run_occurs, few_places}
 use Rattle.cut_file.proofs.ChangeFacts.{longest-zero, longest-suc}
 
-none_both : (a b : Option CutFault) → option_or a b ≡ None → (a ≡ None) × (b ≡ None)
-none_both None b h = (refl, h)
-none_both (Some x) b h = absurd (cc)
-
 if_none : (b : Bool) (e : CutFault) (o : Option CutFault) → (if b then Some e else o) ≡ None → (b ≡ false) × (o ≡ None)
 if_none true e o h = absurd (cc)
 if_none false e o h = (refl, h)
@@ -48,15 +43,13 @@ pub record HasNone (t : List (List (List ℕ))) (limit : ℕ) : Type 0 where
   pub steps : first_below (repeated_step t) (row_count t) ≡ None
   pub runs : first_below (run_fault t) (row_count t) ≡ None
 
-has_none : (t : List (List (List ℕ))) (limit : ℕ) → first_fault t limit ≡ None → HasNone t limit
-unfolding first_fault
+has_none : (t : List (List (List ℕ))) (limit : ℕ) → first_cut_fault t limit ≡ None → HasNone t limit
+unfolding first_cut_fault
 has_none t limit h =
-    let a = none_both (missing_column t) (option_or (too_many_rows t limit)
-    (option_or (first_below (bad_field t) (row_count t)) (option_or (first_below (repeated_step t) (row_count t)) (first_below (run_fault t) (row_count t))))) h in
-    let b = none_both (too_many_rows t limit) (option_or (first_below (bad_field t) (row_count t))
-    (option_or (first_below (repeated_step t) (row_count t)) (first_below (run_fault t) (row_count t)))) a.1 in
-    let c = none_both (first_below (bad_field t) (row_count t)) (option_or (first_below (repeated_step t) (row_count t)) (first_below (run_fault t) (row_count t))) b.1 in
-    let d = none_both (first_below (repeated_step t) (row_count t)) (first_below (run_fault t) (row_count t)) c.1 in
+    let a = none-both (missing_column t) _ h in
+    let b = none-both (too_many_rows t limit) _ a.1 in
+    let c = none-both (first_below (bad_field t) (row_count t)) _ b.1 in
+    let d = none-both (first_below (repeated_step t) (row_count t)) _ c.1 in
     record { few = ltb-false limit (row_count t) (if_none (nat_lt limit (row_count t)) (TooManyRows (row_count t)) None b.0).0; fields = c.0; steps = d.0; runs = d.1 }
 
 -- what a row without a fault beside the row before it tells

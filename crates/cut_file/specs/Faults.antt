@@ -64,7 +64,7 @@ unfoldable pub run_fault : List (List (List ℕ)) → ℕ → Option CutFault
 run_fault t i = if goes_back t i then Some (Backward (i + 2)) else if is_broken t i then Some (Broken (i + 2)) else None
 
 -- the first of all faults
-unfoldable pub first_fault : List (List (List ℕ)) → ℕ → Option CutFault
-first_fault t limit =
+unfoldable pub first_cut_fault : List (List (List ℕ)) → ℕ → Option CutFault
+first_cut_fault t limit =
     option_or (missing_column t) (option_or (too_many_rows t limit) (option_or (first_below (bad_field t) (row_count t))
     (option_or (first_below (repeated_step t) (row_count t)) (first_below (run_fault t) (row_count t)))))

@@ -1,7 +1,7 @@
 -- A cut file with no fault.
 use Rattle.std.specs.Prelude.{◌≡◌, ℕ, ◌≤◌, List, None}
 use Rattle.csv_rows.specs.Spaces.{AreTrimmed}
-use Rattle.cut_file.specs.Faults.{first_fault}
+use Rattle.cut_file.specs.Faults.{first_cut_fault}
 use Rattle.cut_file.specs.Read.{Cut, IsRead}
 use Rattle.plan_model.specs.Bounds.{most_connections}
 
@@ -11,5 +11,5 @@ pub record IsFaultless (c : Cut) : Type 0 where
   pub limit : ℕ
   pub few : limit ≤ most_connections
   pub trimmed : AreTrimmed table
-  pub none : first_fault table limit ≡ None
+  pub none : first_cut_fault table limit ≡ None
   pub read : IsRead table c.runs c.places c.rows c.keys

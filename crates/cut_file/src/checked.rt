@@ -1,7 +1,7 @@
 //! A cut file with no fault.
 ghost use Rattle.std.specs.Prelude.{◌≡◌, ◌≢◌, ◌≤◌, ◌^◌, length, Some, None, OnOk, IfOk, IfErr};
 ghost use Rattle.csv_rows.specs.Spaces.{AreTrimmed};
-ghost use Rattle.cut_file.specs.Faults.{first_fault};
+ghost use Rattle.cut_file.specs.Faults.{first_cut_fault};
 ghost use Rattle.cut_file.specs.Cut.{AreColumns, missing_in};
 ghost use Rattle.cut_file.specs.Read.{IsRead};
 
@@ -43,11 +43,11 @@ fn missing_column(columns: &Columns) -> Option<CutFault>
 pub(crate) fn read_checked(alloc: Global, rows: &Rows, limits: &Limits) -> Result<Checked, CutFault>
     requires { limits.now.cut_rows ≤ 2 ^ 23 }
     ensures trimmed { OnOk result (AreTrimmed rows.now) }
-    ensures none { OnOk result (first_fault rows.now limits.now.cut_rows ≡ None) }
+    ensures none { OnOk result (first_cut_fault rows.now limits.now.cut_rows ≡ None) }
     ensures cut { IfOk result (λ c.
         IsRead rows.now c.cut.names.runs c.cut.names.places c.cut.rows.items c.keys.items) }
     ensures fault { IfErr result (λ f. f ≢ CutFault.NoMemory
-        → first_fault rows.now limits.now.cut_rows ≡ Some f) }
+        → first_cut_fault rows.now limits.now.cut_rows ≡ Some f) }
 {
     let columns = columns_of(rows);
     if let Some(fault) = missing_column(&columns) {

@@ -1,7 +1,7 @@
 //! The rows of a cut file, of which a network is made.
 ghost use Rattle.std.specs.Prelude.{◌≡◌, ◌≢◌, ◌≤◌, ◌^◌, ℕ, List, Some, None, OnOk, IfOk, IfErr};
 ghost use Rattle.plan_model.specs.NameLists.{NamesFit};
-ghost use Rattle.cut_file.specs.Faults.{first_fault};
+ghost use Rattle.cut_file.specs.Faults.{first_cut_fault};
 ghost use Rattle.cut_file.specs.Read.{IsRead};
 ghost use Rattle.cut_file.specs.Networks.{IsNetwork};
 ghost use Rattle.cut_file.specs.CutNetwork.{IsCutNetwork};
@@ -62,9 +62,9 @@ impl Model for CutTable {
 pub fn read_cut(alloc: Global, rows: &Rows, limits: &Limits) -> Result<CutTable, CutFault>
     requires { limits.now.cut_rows ≤ 2 ^ 23 }
     ensures table { IfOk result (λ table. IsRead rows.now table.runs table.places table.rows table.keys) }
-    ensures none { OnOk result (first_fault rows.now limits.now.cut_rows ≡ None) }
+    ensures none { OnOk result (first_cut_fault rows.now limits.now.cut_rows ≡ None) }
     ensures fault { IfErr result (λ f. f ≢ CutFault.NoMemory
-        → first_fault rows.now limits.now.cut_rows ≡ Some f) }
+        → first_cut_fault rows.now limits.now.cut_rows ≡ Some f) }
 {
     let Checked { cut, keys } = read_checked(alloc, rows, limits)?;
     Ok(CutTable {

@@ -14,7 +14,7 @@ use Rattle.delay_table.specs.declared.faults.DelayFault.TheVariants.{MissingColu
 use Rattle.delay_table.specs.Bounds.{end_of_types, most_groups, most_rows}
 use Rattle.delay_table.specs.Groups.{Group, is_plain, group_in}
 use Rattle.delay_table.specs.Delays.{Line, class_name, class_rows, class_sum, fault_of, group_sum_at, groups_fault, lacks, line_at, line_fault, missing_column, named}
-use Rattle.delay_table.specs.Delays.{no_default_of, other_sum, outcomes, type_sum_at, rises}
+use Rattle.delay_table.specs.Delays.{no_default_of, other_sum, group_outcomes, type_sum_at, delay_rises}
 
 -- a fault that tells no number of groups, or none
 abbrev pub IsOther : Option DelayFault → Type 0
@@ -82,12 +82,12 @@ row_if false false plain a b c h k m n e = m n e
 row-other : (earlier : Group → List Outcome) (o : Option Line) (number : ℕ) → IsOther (fault_of earlier o number)
 row-other earlier None number n e = absurd (cc)
 row-other earlier (Some line) number n e =
-    row_if (nat_le most_rows (length (earlier line.group))) (rises (slice_get (earlier line.group) (length (earlier line.group) - 1)) line.outcome.delay) (is_plain line.group)
+    row_if (nat_le most_rows (length (earlier line.group))) (delay_rises (slice_get (earlier line.group) (length (earlier line.group) - 1)) line.outcome.delay) (is_plain line.group)
     (TooManyRows (class_name line.group.class)) (GroupRows number) (NotRising number) (λ m f. absurd (cc)) (λ m f. absurd (cc)) (λ m f. absurd (cc)) n e
 
 line-other : (t : List (List (List ℕ))) (i : ℕ) → IsOther (line_fault t i)
 unfolding line_fault
-line-other t i = row-other (outcomes t i) (line_at t i) (i + 2)
+line-other t i = row-other (group_outcomes t i) (line_at t i) (i + 2)
 
 pub lines-other : (t : List (List (List ℕ))) → IsOther (first_below (line_fault t) (row_count t))
 lines-other t = first (line_fault t) (row_count t) (line-other t)

@@ -1,8 +1,8 @@
 -- Groups that are the same, and where a group stands among others.
-use Rattle.std.proofs.Common.{◌≡◌, ℕ, ◌+◌, ◌<◌, ◌≤◌, Bool, true, false, ◌&&◌, List, [], ◌∷◌, ◌++◌, length, Option, Some, None, if◌then◌else◌, refl, sym, ap, ap₂, ◌∙◌}
-use Rattle.std.proofs.Common.{subst, arith, ⊎_elim, add-one, length-append}
+use Rattle.std.proofs.Common.{◌≡◌, ℕ, ◌+◌, ◌<◌, Bool, true, false, ◌&&◌, List, [], ◌∷◌, ◌++◌, length, Option, Some, None, if◌then◌else◌, refl, sym, ap, ap₂, ◌∙◌}
+use Rattle.std.proofs.Common.{subst, arith, inl, inr, add-one, length-append}
 use Rattle.std.specs.Str.{bytes_eq}
-use Rattle.std.proofs.lemmas.Bool.{cases_lt, cases_Bool, eqb-true, eq-eqb, and_from, and_parts}
+use Rattle.std.proofs.lemmas.Bool.{cases_order, eqb-true, eq-eqb, and_from, and_parts, false_from_ne_true}
 use Rattle.std.proofs.lemmas.List.{get_or_append_left, get_or_push}
 use Rattle.std.proofs.lemmas.Slice.Eq.{bytes_eq-Decides}
 use Rattle.std.specs.Option.{option_or}
@@ -11,13 +11,13 @@ use Rattle.csv_rows.proofs.FirstLemmas.{first-at, first-is, first-none, first-sa
 use Rattle.delay_table.specs.Groups.{Group, same_if, same_number, same_group, of_class, group_in, place_of}
 use Rattle.delay_table.specs.Read.{AreApart}
 
-same_if-equal : {A : Type 0} (same : A → A → Bool) → ((a b : A) → same a b ≡ true → a ≡ b) → (x y : Option A) → same_if same x y ≡ true → x ≡ y
+pub same_if-equal : {A : Type 0} (same : A → A → Bool) → ((a b : A) → same a b ≡ true → a ≡ b) → (x y : Option A) → same_if same x y ≡ true → x ≡ y
 same_if-equal same decides None None h = refl
 same_if-equal same decides None (Some b) h = absurd (cc)
 same_if-equal same decides (Some a) None h = absurd (cc)
 same_if-equal same decides (Some a) (Some b) h = ap Some (decides a b h)
 
-same_if-self : {A : Type 0} (same : A → A → Bool) → ((a : A) → same a a ≡ true) → (x : Option A) → same_if same x x ≡ true
+pub same_if-self : {A : Type 0} (same : A → A → Bool) → ((a : A) → same a a ≡ true) → (x : Option A) → same_if same x x ≡ true
 same_if-self same self None = refl
 same_if-self same self (Some a) = self a
 
@@ -43,7 +43,7 @@ pub same-true : (a b : Group) → a ≡ b → same_group a b ≡ true
 same-true a b e = subst (λ (x : Group). same_group a x ≡ true) e (same-self a)
 
 pub same-false : (a b : Group) → (a ≡ b → ⊥) → same_group a b ≡ false
-same-false a b h = ⊎_elim (λ (t : same_group a b ≡ true). absurd (h (same-equal a b t))) (λ (f : same_group a b ≡ false). f) (cases_Bool (same_group a b))
+same-false a b h = false_from_ne_true (same_group a b) (λ t. h (same-equal a b t))
 
 pub false-same : (a b : Group) → same_group a b ≡ false → a ≡ b → ⊥
 false-same a b f e = let t = same-true a b e in absurd (cc)
@@ -90,10 +90,11 @@ place-first group groups k l e first =
 
 -- groups that stand at two places differ
 pub apart-ne : (groups : List Group) → AreApart groups → (j k : ℕ) → j < length groups → k < length groups → (j ≡ k → ⊥) → group_in groups j ≡ group_in groups k → ⊥
-apart-ne groups apart j k inside within ne e =
-    ⊎_elim (λ (less : j < k). false-same (group_in groups j) (group_in groups k) (apart j k less within) e)
-    (λ (ge : k ≤ j). ⊎_elim (λ (less : k < j). false-same (group_in groups k) (group_in groups j) (apart k j less inside) (sym e))
-    (λ (le : j ≤ k). absurd (ne (omega arith))) (cases_lt k j)) (cases_lt j k)
+apart-ne groups apart j k inside within ne e = elim (cases_order j k) [
+  | inl same ↦ ne same
+  | inr (inl less) ↦ false-same (group_in groups j) (group_in groups k) (apart j k less within) e
+  | inr (inr less) ↦ false-same (group_in groups k) (group_in groups j) (apart k j less inside) (sym e)
+]
 
 -- and each has its own place
 pub place-at : (groups : List Group) → AreApart groups → (k : ℕ) → k < length groups → place_of (group_in groups k) groups ≡ Some k

@@ -1,32 +1,20 @@
 -- One row of the table.
-use Rattle.std.proofs.Common.{◌≡◌, ℕ, ◌≤◌, Bool, true, false, ◌&&◌, nat_le, ◌==◌, List, length, Option, Some, None, IfSome, ◌<◌, option_map, if◌then◌else◌, refl, sym, ap, ◌∙◌, subst, arith, is_none}
+use Rattle.std.proofs.Common.{◌≡◌, ℕ, ◌≤◌, Bool, true, false, ◌==◌, List, length, Option, Some, None, IfSome, ◌<◌, option_map, if◌then◌else◌, refl, sym, ap, ◌∙◌, subst, arith, is_none}
 use Rattle.std.proofs.lemmas.Bool.Decides.{nat_tests}
-use Rattle.std.specs.List.{list_all}
 use Rattle.std.specs.Prelude.{codes}
-use Rattle.std.specs.Str.{bytes_eq, is_utf8}
-use Rattle.std.specs.Char.{is_ascii_digit}
-use Rattle.std.proofs.lemmas.Bool.{leb-true}
-use Rattle.clock_text.specs.Digits.{whole_of, value_of}
+use Rattle.std.specs.Str.{bytes_eq}
+use Rattle.std.proofs.lemmas.Option.{same_Some}
+use Rattle.clock_text.proofs.DigitLemmas.{whole_bound}
+use Rattle.clock_text.specs.Digits.{whole_of}
 use Rattle.csv_rows.specs.declared.columns.Column.TheVariants.{Class, Delay, Weight, RouteId, Hour}
 use Rattle.csv_rows.specs.Names.{name_in}
+use Rattle.csv_rows.proofs.RowLemmas.{name_text}
 use Rattle.csv_rows.specs.Tables.{field, field_at}
 use Rattle.plan_model.specs.NameLists.{IsTrimmed}
 use Rattle.plan_model.specs.Bounds.{seconds_per_day}
 use Rattle.delay_table.specs.Bounds.{end_of_types, last_type, whole_weight}
 use Rattle.delay_table.specs.declared.lines.DelayLine.{DelayLine}
-use Rattle.delay_table.specs.Delays.{Line, class_in, not_zero, route_in, hour_in, given, line_of, line_at}
-
-some_at : (b : Bool) (v most : ℕ) → (b ≡ true → v ≤ most) → IfSome (if b then Some v else None) (λ n. n ≤ most)
-some_at true v most h = h refl
-some_at false v most h = tt
-
-bounded : (a : Bool) (v most : ℕ) → IfSome (if a && nat_le v most then Some v else None) (λ n. n ≤ most)
-bounded true v most = some_at (nat_le v most) v most (leb-true v most)
-bounded false v most = tt
-
--- a whole number is within its bound
-pub whole_bound : (most : ℕ) (text : List ℕ) → IfSome (whole_of most text) (λ n. n ≤ most)
-whole_bound most text = bounded (nat_le 1 (length text) && nat_le (length text) 9 && list_all is_ascii_digit text) (value_of text) most
+use Rattle.delay_table.specs.Delays.{Line, class_in, not_zero, route_in, hour_in, given, line_from, line_at}
 
 one_on : (b : Bool) (w : ℕ) → (b ≡ false → 1 ≤ w) → IfSome (if b then None else Some w) (λ n. 1 ≤ n)
 one_on true w h = tt
@@ -44,20 +32,21 @@ given-holds : {A B : Type 0} (P : B → Type 0) (o : Option A) (next : A → Opt
 given-holds P None next h = tt
 given-holds P (Some a) next h = h a refl
 
-name_if : (empty utf8 : Bool) (text x : List ℕ) → (if empty then None else if utf8 then Some text else None) ≡ Some x → x ≡ text
-name_if true utf8 text x h = absurd (cc)
-name_if false true text x h = cc
-name_if false false text x h = absurd (cc)
+-- what holds of each value of a field, holds of the one that is there, where it may lack
+mapped-each : {A : Type 0} (P : A → Type 0) (o : Option A) → ((x : A) → o ≡ Some x → P x) → (r : Option A) → option_map Some o ≡ Some r → IfSome r P
+mapped-each P None h r e = absurd (cc)
+mapped-each P (Some x) h r e = subst (λ (y : Option _). IfSome y P) (same_Some (Some x) r e) (h x refl)
 
-mapped : (P : List ℕ → Type 0) (o : Option (List ℕ)) → ((x : List ℕ) → o ≡ Some x → P x) → (r : Option (List ℕ)) → option_map Some o ≡ Some r → IfSome r P
-mapped P None h r e = absurd (cc)
-mapped P (Some x) h r e = let same : Some x ≡ r = cc in subst (λ (y : Option (List ℕ)). IfSome y P) same (h x refl)
+pub optional-each : {A : Type 0} (P : A → Type 0) (none : Bool) (o : Option A) → ((x : A) → o ≡ Some x → P x) → (r : Option A)
+    → (if none then Some None else option_map Some o) ≡ Some r → IfSome r P
+optional-each P true o h r e = subst (λ (y : Option _). IfSome y P) (same_Some None r e) tt
+optional-each P false o h r e = mapped-each P o h r e
 
-route_if : (P : List ℕ → Type 0) (empty any : Bool) (o : Option (List ℕ)) → ((x : List ℕ) → o ≡ Some x → P x) → (r : Option (List ℕ))
+route-each : (P : List ℕ → Type 0) (empty any : Bool) (o : Option (List ℕ)) → ((x : List ℕ) → o ≡ Some x → P x) → (r : Option (List ℕ))
     → (if empty then Some None else if any then option_map Some o else None) ≡ Some r → IfSome r P
-route_if P true any o h r e = let same : None ≡ r = cc in subst (λ (y : Option (List ℕ)). IfSome y P) same tt
-route_if P false true o h r e = mapped P o h r e
-route_if P false false o h r e = absurd (cc)
+route-each P true any o h r e = optional-each P true o h r e
+route-each P false true o h r e = mapped-each P o h r e
+route-each P false false o h r e = absurd (cc)
 
 -- what a row says, where each field is of its form: its route is the field
 pub record IsFormed (field : List ℕ) (line : Line) : Type 0 where
@@ -69,23 +58,17 @@ pub record IsFormed (field : List ℕ) (line : Line) : Type 0 where
 bound_at : (P : ℕ → Type 0) (o : Option ℕ) (n : ℕ) → IfSome o P → o ≡ Some n → P n
 bound_at P o n h e = subst (λ (x : Option ℕ). IfSome x P) e h
 
--- a class is `*` or a route type within its bound
-class_if : (any : Bool) (o : Option ℕ) → IfSome o (λ n. n ≤ last_type) → (c : Option ℕ) → (if any then Some None else option_map Some o) ≡ Some c → IfSome c (λ r. r < end_of_types)
-class_if true o h c e = let same : None ≡ c = cc in subst (λ (x : Option ℕ). IfSome x (λ r. r < end_of_types)) same tt
-class_if false None h c e = absurd (cc)
-class_if false (Some n) h c e = let same : Some n ≡ c = cc in subst (λ (x : Option ℕ). IfSome x (λ r. r < end_of_types)) same (omega (arith, h))
-
-pub line_formed : (class delay weight route hour : List ℕ) → IfSome (line_of class delay weight route hour) (IsFormed route)
+pub line_formed : (class delay weight route hour : List ℕ) → IfSome (line_from class delay weight route hour) (IsFormed route)
 line_formed class delay weight route hour =
     given-holds (IsFormed route) (class_in class) _ (λ c h1.
     given-holds (IsFormed route) (whole_of seconds_per_day delay) _ (λ d h2.
     given-holds (IsFormed route) (not_zero (whole_of whole_weight weight)) _ (λ w h3.
     given-holds (IsFormed route) (route_in c route) _ (λ r h4.
     given-holds (IsFormed route) (hour_in hour) _ (λ h h5. record {
-      delay = bound_at (λ n. n ≤ seconds_per_day) (whole_of seconds_per_day delay) d (whole_bound seconds_per_day delay) h2;
+      delay = whole_bound seconds_per_day d delay h2;
       weight = bound_at (λ n. 1 ≤ n) (not_zero (whole_of whole_weight weight)) w (weight_bound (whole_of whole_weight weight)) h3;
-      route = route_if (λ x. x ≡ route) (length route == 0) (is_none c) (name_in route) (λ x e. name_if (length route == 0) (is_utf8 route) route x e) r h4;
-      class = class_if (bytes_eq class (codes "*")) (whole_of last_type class) (whole_bound last_type class) c h1;
+      route = route-each (λ x. x ≡ route) (length route == 0) (is_none c) (name_in route) (name_text route) r h4;
+      class = optional-each (λ r. r < end_of_types) (bytes_eq class (codes "*")) (whole_of last_type class) (λ n e. omega (arith, whole_bound last_type n class e)) c h1;
     })))))
 
 pub formed_at : (t : List (List (List ℕ))) (i : ℕ) → IfSome (line_at t i) (IsFormed (field t RouteId i))
@@ -94,12 +77,9 @@ formed_at t i = line_formed (field t Class i) (field t Delay i) (field t Weight 
 
 -- the row at a place, by its fields
 pub line_here : (t : List (List (List ℕ))) (i : ℕ) (a b c d e : List ℕ) → a ≡ field t Class i → b ≡ field t Delay i → c ≡ field t Weight i → d ≡ field t RouteId i → e ≡ field t Hour i
-    → line_of a b c d e ≡ line_at t i
+    → line_from a b c d e ≡ line_at t i
 unfolding line_at
-line_here t i a b c d e p q r s u =
-    ap (λ x. line_of x b c d e) p ∙ ap (λ x. line_of (field t Class i) x c d e) q ∙ ap (λ x. line_of (field t Class i) (field t Delay i) x d e) r
-    ∙ ap (λ x. line_of (field t Class i) (field t Delay i) (field t Weight i) x e) s
-    ∙ ap (λ x. line_of (field t Class i) (field t Delay i) (field t Weight i) (field t RouteId i) x) u
+line_here t i a b c d e p q r s u = λ j. line_from (p j) (q j) (r j) (s j) (u j)
 
 -- a field under a column
 pub field_is : (t : List (List (List ℕ))) (i : ℕ) (a : List ℕ) (place own : Option ℕ) → a ≡ field_at t place i → place ≡ own → a ≡ field_at t own i
@@ -119,16 +99,16 @@ route-trimmed f (Some x) field t h = subst IsTrimmed (sym h) t
 abbrev pub own_line : DelayLine → Line
 own_line l = record { group = record { class = l.class; route = option_map (λ s. s.now) l.route; hour = l.hour }; outcome = l.outcome }
 
-pub line_is_formed : (class delay weight route hour : List ℕ) (o : Option DelayLine) → option_map own_line o ≡ line_of class delay weight route hour
+pub line_is_formed : (class delay weight route hour : List ℕ) (o : Option DelayLine) → option_map own_line o ≡ line_from class delay weight route hour
     → IfSome o (λ l. (l.outcome.delay ≤ seconds_per_day) × (1 ≤ l.outcome.weight))
 line_is_formed class delay weight route hour None e = tt
 line_is_formed class delay weight route hour (Some l) e =
-    let f = of-mapped own_line (IsFormed route) (Some l) (line_of class delay weight route hour) e (line_formed class delay weight route hour) in
+    let f = of-mapped own_line (IsFormed route) (Some l) (line_from class delay weight route hour) e (line_formed class delay weight route hour) in
     (f.delay, f.weight)
 
-pub line_is_trimmed : (class delay weight route hour : List ℕ) → IsTrimmed route → (o : Option DelayLine) → option_map own_line o ≡ line_of class delay weight route hour
+pub line_is_trimmed : (class delay weight route hour : List ℕ) → IsTrimmed route → (o : Option DelayLine) → option_map own_line o ≡ line_from class delay weight route hour
     → IfSome o (λ l. IfSome l.route (λ s. IsTrimmed s.now))
 line_is_trimmed class delay weight route hour t None e = tt
 line_is_trimmed class delay weight route hour t (Some l) e =
-    let f = of-mapped own_line (IsFormed route) (Some l) (line_of class delay weight route hour) e (line_formed class delay weight route hour) in
+    let f = of-mapped own_line (IsFormed route) (Some l) (line_from class delay weight route hour) e (line_formed class delay weight route hour) in
     route-trimmed (λ s. s.now) l.route route t f.route

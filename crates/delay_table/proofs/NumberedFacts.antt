@@ -1,10 +1,11 @@
 -- Groups by the numbers of their routes.
 use Rattle.std.proofs.Common.{◌≡◌, ℕ, suc, ◌+◌, ◌<◌, ◌≤◌, ◌&&◌, Bool, true, false, List, [], ◌∷◌, ◌++◌, length, map, slice_index_or, Option, Some, None, IfSome}
-use Rattle.std.proofs.Common.{option_map, is_some, refl, sym, ap, ap₂, ◌∙◌, subst, arith, ⊎_elim, length-append}
+use Rattle.std.proofs.Common.{option_map, is_some, refl, sym, ap, ap₂, ◌∙◌, subst, arith, below_more, inl, inr}
 use Rattle.std.specs.Prelude.{position}
 use Rattle.std.specs.List.{list_any}
-use Rattle.std.proofs.lemmas.Bool.{cases_lt, cases_Bool, eqb-true, eq-eqb, and_from, and_parts}
-use Rattle.std.proofs.lemmas.List.{get_or_default, get_or_append_left, get_or_push, get_or-map, length-map, map-append}
+use Rattle.std.proofs.lemmas.Bool.{cases_order, eqb-true, eq-eqb, and_from, and_parts, false_from_ne_true}
+use Rattle.std.proofs.lemmas.Option.{same_Some}
+use Rattle.std.proofs.lemmas.List.{get_or_default, get_or_append_left, get_or_push, get_or-map, length-map, length_push, map-append}
 use Rattle.std.proofs.lemmas.List.Folds.{Any-from_list_any, list_any_at}
 use Rattle.std.proofs.lemmas.List.Quantifiers.{position-Some}
 use Rattle.std.proofs.lemmas.Slice.Eq.{bytes_eq-Decides}
@@ -15,12 +16,12 @@ use Rattle.csv_rows.proofs.IdLemmas.{place-here, place-none}
 use Rattle.delay_table.specs.declared.numbered.NumberedGroup.{NumberedGroup}
 use Rattle.delay_table.specs.Groups.{Group, same_if, same_number, of_class, group_in, place_of}
 use Rattle.delay_table.specs.Numbered.{no_group, named_group, same_numbered, AreNumbers, IsNumber, StaysSo}
-use Rattle.delay_table.proofs.GroupFacts.{none-place, nowhere, place-first}
+use Rattle.delay_table.proofs.GroupFacts.{none-place, nowhere, place-first, same_if-equal, same_if-self}
 
 -- an id that was added has a place
 pub place-adds : (old new : List (List ℕ)) (x : List ℕ) (added : Bool) → Adds old new x added → place_in x new ≡ None → ⊥
 place-adds old new x true a none =
-    let size : length new ≡ length old + 1 = ap length a.0 ∙ length-append old (x ∷ []) in
+    let size : length new ≡ length old + 1 = ap length a.0 ∙ length_push old x in
     let here : slice_index_or new (length old) [] ≡ x = ap (λ xs. slice_index_or xs (length old) []) a.0 ∙ get_or_push old x [] (length old) refl in
     let t = (bytes_eq-Decides (slice_index_or new (length old) []) x).1 here in
     let f = place-none x new none (length old) (omega (arith, size)) in cc
@@ -31,52 +32,42 @@ place-adds old new x false a none =
     let t = (bytes_eq-Decides (slice_index_or new k []) x).1 here in
     let f = place-none x new none k inside in cc
 
-option_same : (a b : Option ℕ) → same_if same_number a b ≡ true → a ≡ b
-option_same None None h = refl
-option_same None (Some b) h = absurd (cc)
-option_same (Some a) None h = absurd (cc)
-option_same (Some a) (Some b) h = ap Some (eqb-true a b h)
-
-option_self : (a : Option ℕ) → same_if same_number a a ≡ true
-option_self None = refl
-option_self (Some a) = eq-eqb a a refl
-
 pub numbered-equal : (a b : NumberedGroup) → same_numbered a b ≡ true → a ≡ b
 numbered-equal a b h =
     let p = and_parts (same_if same_number a.class b.class) (same_if same_number a.route b.route && same_if same_number a.hour b.hour) h in
     let q = and_parts (same_if same_number a.route b.route) (same_if same_number a.hour b.hour) p.1 in
-    let class = option_same a.class b.class p.0 in
-    let route = option_same a.route b.route q.0 in
-    let hour = option_same a.hour b.hour q.1 in
+    let class = same_if-equal same_number eqb-true a.class b.class p.0 in
+    let route = same_if-equal same_number eqb-true a.route b.route q.0 in
+    let hour = same_if-equal same_number eqb-true a.hour b.hour q.1 in
     λ i. record { class = class i; route = route i; hour = hour i }
 
 pub numbered-true : (a b : NumberedGroup) → a ≡ b → same_numbered a b ≡ true
 numbered-true a b e =
-    let self : same_numbered a a ≡ true = and_from (same_if same_number a.class a.class) (same_if same_number a.route a.route && same_if same_number a.hour a.hour) (option_self a.class)
-    (and_from (same_if same_number a.route a.route) (same_if same_number a.hour a.hour) (option_self a.route) (option_self a.hour)) in
-    subst (λ (x : NumberedGroup). same_numbered a x ≡ true) e self
+    let self : (o : Option ℕ) → same_if same_number o o ≡ true = same_if-self same_number (λ n. eq-eqb n n refl) in
+    let here : same_numbered a a ≡ true = and_from (same_if same_number a.class a.class) (same_if same_number a.route a.route && same_if same_number a.hour a.hour) (self a.class)
+    (and_from (same_if same_number a.route a.route) (same_if same_number a.hour a.hour) (self a.route) (self a.hour)) in
+    subst (λ (x : NumberedGroup). same_numbered a x ≡ true) e here
 
-some_inj : (a b : List ℕ) → Some a ≡ Some b → a ≡ b
-some_inj a b h = cc
-
--- two numbers of one route are the same
-one_number : (routes : List (List ℕ)) → AreDistinct routes → (m n : ℕ) → m < length routes → n < length routes → slice_index_or routes m [] ≡ slice_index_or routes n [] → m ≡ n
-one_number routes distinct m n a b e =
-    ⊎_elim (λ (less : m < n). absurd (distinct m n less b e))
-    (λ (ge : n ≤ m). ⊎_elim (λ (less : n < m). absurd (distinct n m less a (sym e))) (λ (le : m ≤ n). omega arith) (cases_lt n m)) (cases_lt m n)
+-- a name of a list whose names differ stands at one place
+pub one_index : (names : List (List ℕ)) → AreDistinct names → (m n : ℕ) → m < length names → n < length names → slice_index_or names m [] ≡ slice_index_or names n [] → m ≡ n
+one_index names distinct m n a b e = elim (cases_order m n) [
+  | inl same ↦ same
+  | inr (inl less) ↦ absurd (distinct m n less b e)
+  | inr (inr less) ↦ absurd (distinct n m less a (sym e))
+]
 
 one_route : (routes : List (List ℕ)) → AreDistinct routes → (a b : Option ℕ) → IfSome a (λ n. n < length routes) → IfSome b (λ n. n < length routes)
     → option_map (λ k. slice_index_or routes k []) a ≡ option_map (λ k. slice_index_or routes k []) b → a ≡ b
 one_route routes distinct None None h g e = refl
 one_route routes distinct None (Some n) h g e = absurd (cc)
 one_route routes distinct (Some m) None h g e = absurd (cc)
-one_route routes distinct (Some m) (Some n) h g e = ap Some (one_number routes distinct m n h g (some_inj (slice_index_or routes m []) (slice_index_or routes n []) e))
+one_route routes distinct (Some m) (Some n) h g e = ap Some (one_index routes distinct m n h g (same_Some (slice_index_or routes m []) (slice_index_or routes n []) e))
 
 -- a route that has no number is none of these
 no_route : (routes : List (List ℕ)) (id : List ℕ) (a : Option ℕ) → place_in id routes ≡ None → IfSome a (λ n. n < length routes) → option_map (λ k. slice_index_or routes k []) a ≡ Some id → ⊥
 no_route routes id None none h e = absurd (cc)
 no_route routes id (Some m) none h e =
-    let t = (bytes_eq-Decides (slice_index_or routes m []) id).1 (some_inj (slice_index_or routes m []) id e) in
+    let t = (bytes_eq-Decides (slice_index_or routes m []) id).1 (same_Some (slice_index_or routes m []) id e) in
     let f = place-none id routes none m h in absurd (cc)
 
 module _ (routes : List (List ℕ)) (keys : List NumberedGroup) (distinct : AreDistinct routes) (numbers : AreNumbers routes keys) where
@@ -121,13 +112,11 @@ module _ (routes : List (List ℕ)) (keys : List NumberedGroup) (distinct : AreD
 
     -- a group that is new has a new key
     pub new-key : place_of group groups ≡ None → list_any (same_numbered key) keys ≡ false
-    new-key h =
-        ⊎_elim (λ (t : list_any (same_numbered key) keys ≡ true).
+    new-key h = false_from_ne_true (list_any (same_numbered key) keys) (λ t.
         let w = Any-from_list_any (same_numbered key) keys t in
         let inside : w.0 < length keys = w.2 in
         let e : key_at w.0 ≡ w.1 = get_or_default keys w.0 no_group w.1 inside ∙ w.3 in
-        absurd (nowhere group groups h w.0 (omega (arith, size)) (forth w.0 inside (numbered-equal key w.1 w.4 ∙ sym e))))
-        (λ (f : list_any (same_numbered key) keys ≡ false). f) (cases_Bool (list_any (same_numbered key) keys))
+        nowhere group groups h w.0 (omega (arith, size)) (forth w.0 inside (numbered-equal key w.1 w.4 ∙ sym e)))
 
     -- and goes last
     pub keys-last : (keys' : List NumberedGroup) → keys' ≡ keys ++ key ∷ [] → map (named_group routes) keys' ≡ groups ++ group ∷ []
@@ -135,12 +124,10 @@ module _ (routes : List (List ℕ)) (keys : List NumberedGroup) (distinct : AreD
 
     pub numbers-last : (keys' : List NumberedGroup) → keys' ≡ keys ++ key ∷ [] → AreNumbers routes keys'
     numbers-last keys' e = subst (AreNumbers routes) (sym e) (λ k l.
-        let n = length keys in
-        ⊎_elim (λ (before : k < n). subst (λ (x : NumberedGroup). IfSome x.route (λ m. m < length routes)) (sym (get_or_append_left keys (key ∷ []) no_group k before)) (numbers k before))
-        (λ (end : n ≤ k).
-        let z : n ≡ k = omega (arith, l, length-append keys (key ∷ [])) in
-        subst (λ (x : NumberedGroup). IfSome x.route (λ m. m < length routes)) (sym (get_or_push keys key no_group k z)) number)
-        (cases_lt k n))
+        let P : NumberedGroup → Type 0 = λ x. IfSome x.route (λ m. m < length routes) in
+        below_more (λ k. P (slice_index_or (keys ++ key ∷ []) k no_group)) (length keys)
+        (λ k before. subst P (sym (get_or_append_left keys (key ∷ []) no_group k before)) (numbers k before))
+        (subst P (sym (get_or_push keys key no_group (length keys) refl)) number) k (omega (arith, l, length_push keys key)))
 
   -- a route without a number has no group
   pub unknown-route : (id : List ℕ) (class : Option ℕ) (hour : Option ℕ) → place_in id routes ≡ None → None ≡ place_of (record { class = class; route = Some id; hour = hour }) groups
@@ -171,7 +158,7 @@ pub stays-adds : (old new : List (List ℕ)) (id : List ℕ) (added : Bool) (key
 stays-adds old new id true keys distinct numbers a =
     subst (λ (xs : List (List ℕ)). StaysSo old xs keys) (sym a.0) (record {
       distinct = AreDistinct-push old id distinct a.1;
-      numbers = λ k l. wider (slice_index_or keys k no_group).route (length old) (length (old ++ id ∷ [])) (omega (arith, length-append old (id ∷ []))) (numbers k l);
+      numbers = λ k l. wider (slice_index_or keys k no_group).route (length old) (length (old ++ id ∷ [])) (omega (arith, length_push old id)) (numbers k l);
       names = same_names old id keys numbers;
     })
 stays-adds old new id false keys distinct numbers a =

@@ -1,35 +1,35 @@
 -- The groups of the rows that are read, one row more at a time.
-use Rattle.std.proofs.Common.{◌≡◌, ℕ, ◌+◌, ◌<◌, ◌≤◌, List, [], ◌∷◌, ◌++◌, length, slice_index, Option, Some, None, IfSome, Result, Ok, Err, if◌then◌else◌, refl, sym, ap}
-use Rattle.std.proofs.Common.{ap₂, ◌∙◌, subst, arith, ⊎_elim, add-one, length-append, append-nil}
+use Rattle.std.proofs.Common.{◌≡◌, ℕ, ◌+◌, ◌<◌, false, List, [], ◌∷◌, ◌++◌, length, slice_index, Option, Some, None, IfSome, Result, Ok, Err, if◌then◌else◌, refl, sym, ap}
+use Rattle.std.proofs.Common.{ap₂, ◌∙◌, subst, arith, ⊎_elim, add-one, append-nil, below_more}
 use Rattle.std.specs.Prelude.{OnOk}
-use Rattle.std.proofs.lemmas.Bool.{cases_lt}
-use Rattle.std.proofs.lemmas.List.{get_or_append_left, get_or_push, get_or-map, length-map, map-append}
+use Rattle.std.proofs.lemmas.Bool.{cases_eq}
+use Rattle.std.proofs.lemmas.List.{get_or_append_left, get_or_push, get_or-map, length-map, length_push, map-append}
 use Rattle.plan_model.specs.declared.model.Outcome.{Outcome}
 use Rattle.delay_table.specs.declared.reading.GroupRows.{GroupRows}
 use Rattle.delay_table.specs.declared.faults.DelayFault.{DelayFault}
 use Rattle.delay_table.specs.declared.faults.DelayFault.TheVariants.{BadField}
 use Rattle.delay_table.specs.Groups.{Group, same_group, of_class, group_in, place_of}
-use Rattle.delay_table.specs.Delays.{Line, of_group, outcomes, line_at, fault_of, fault_after, line_fault, begins, if_begins, firsts, group_of, groups_at}
-use Rattle.delay_table.specs.Read.{no_rows, rows_at, outcomes_at, rows_of, AreApart, IsPushed, AddsRow, IsReadTo}
+use Rattle.delay_table.specs.Delays.{Line, of_group, group_outcomes, line_at, fault_of, fault_after, line_fault, begins, if_begins, firsts, group_of, groups_at}
+use Rattle.delay_table.specs.Read.{no_rows, group_rows_at, outcomes_at, read_outcomes, AreApart, IsPushed, AddsRow, IsReadTo}
 use Rattle.csv_rows.specs.Tables.{field}
 use Rattle.csv_rows.specs.declared.columns.Column.TheVariants.{RouteId}
 use Rattle.delay_table.specs.Bounds.{end_of_types}
 use Rattle.delay_table.proofs.LineFacts.{IsFormed, formed_at}
 use Rattle.delay_table.proofs.GroupFacts.{same-true, same-false, group-here, nowhere, apart-ne, place-at, push-none}
 
-outcomes-zero : (t : List (List (List ℕ))) (group : Group) → outcomes t 0 group ≡ []
-unfolding outcomes
+outcomes-zero : (t : List (List (List ℕ))) (group : Group) → group_outcomes t 0 group ≡ []
+unfolding group_outcomes
 outcomes-zero t group = refl
 
-pub outcomes-next : (t : List (List (List ℕ))) (n : ℕ) (group : Group) → outcomes t (n + 1) group ≡ outcomes t n group ++ of_group group (line_at t n)
-unfolding outcomes
+pub outcomes-next : (t : List (List (List ℕ))) (n : ℕ) (group : Group) → group_outcomes t (n + 1) group ≡ group_outcomes t n group ++ of_group group (line_at t n)
+unfolding group_outcomes
 outcomes-next t n group = rw add-one
 
 firsts-zero : (t : List (List (List ℕ))) → firsts t 0 ≡ []
 unfolding firsts
 firsts-zero t = refl
 
-firsts-next : (t : List (List (List ℕ))) (n : ℕ) → firsts t (n + 1) ≡ firsts t n ++ begins (outcomes t n) (line_at t n) n
+firsts-next : (t : List (List (List ℕ))) (n : ℕ) → firsts t (n + 1) ≡ firsts t n ++ begins (group_outcomes t n) (line_at t n) n
 unfolding firsts
 firsts-next t n = rw add-one
 
@@ -51,26 +51,26 @@ begins-some [] i h = absurd (omega arith)
 begins-some (o ∷ os) i h = refl
 
 rows_by : (t : List (List (List ℕ))) (n : ℕ) (groups : List Group) (rows : List GroupRows) → IsReadTo t n groups rows → (group : Group) (o : Option ℕ)
-    → place_of group groups ≡ o → outcomes_at rows o ≡ outcomes t n group
+    → place_of group groups ≡ o → outcomes_at rows o ≡ group_outcomes t n group
 rows_by t n groups rows r group None e = sym (r.absent group e)
-rows_by t n groups rows r group (Some k) e = let w = group-here group groups k e in r.each k w.0 ∙ ap (outcomes t n) w.1
+rows_by t n groups rows r group (Some k) e = let w = group-here group groups k e in r.each k w.0 ∙ ap (group_outcomes t n) w.1
 
 -- the outcomes that are read are those of the rows
-pub rows-are : (t : List (List (List ℕ))) (n : ℕ) (groups : List Group) (rows : List GroupRows) → IsReadTo t n groups rows → (group : Group) → rows_of groups rows group ≡ outcomes t n group
-unfolding rows_of
+pub rows-are : (t : List (List (List ℕ))) (n : ℕ) (groups : List Group) (rows : List GroupRows) → IsReadTo t n groups rows → (group : Group) → read_outcomes groups rows group ≡ group_outcomes t n group
+unfolding read_outcomes
 rows-are t n groups rows r group = rows_by t n groups rows r group (place_of group groups) refl
 
 -- the outcomes of the group at a place
-pub rows-here : (groups : List Group) (rows : List GroupRows) → AreApart groups → (k : ℕ) → k < length groups → rows_of groups rows (group_in groups k) ≡ (rows_at rows k).outcomes
-unfolding rows_of
+pub rows-here : (groups : List Group) (rows : List GroupRows) → AreApart groups → (k : ℕ) → k < length groups → read_outcomes groups rows (group_in groups k) ≡ (group_rows_at rows k).outcomes
+unfolding read_outcomes
 rows-here groups rows apart k l = ap (outcomes_at rows) (place-at groups apart k l)
 
-pub rows-known : (groups : List Group) (rows : List GroupRows) (group : Group) (k : ℕ) → Some k ≡ place_of group groups → (rows_at rows k).outcomes ≡ rows_of groups rows group
-unfolding rows_of
+pub rows-known : (groups : List Group) (rows : List GroupRows) (group : Group) (k : ℕ) → Some k ≡ place_of group groups → (group_rows_at rows k).outcomes ≡ read_outcomes groups rows group
+unfolding read_outcomes
 rows-known groups rows group k e = ap (outcomes_at rows) e
 
-pub rows-new : (groups : List Group) (rows : List GroupRows) (group : Group) → None ≡ place_of group groups → [] ≡ rows_of groups rows group
-unfolding rows_of
+pub rows-new : (groups : List Group) (rows : List GroupRows) (group : Group) → None ≡ place_of group groups → [] ≡ read_outcomes groups rows group
+unfolding read_outcomes
 rows-new groups rows group e = ap (outcomes_at rows) e
 
 -- a first row has no fault
@@ -95,27 +95,27 @@ read-nothing t groups rows e f =
 module _ (t : List (List (List ℕ))) (i : ℕ) (line : Line) (here : Some line ≡ line_at t i) where
   -- the outcomes of a group after this row
   abbrev after : Group → List Outcome
-  after group = outcomes t i group ++ (if same_group line.group group then line.outcome ∷ [] else [])
+  after group = group_outcomes t i group ++ (if same_group line.group group then line.outcome ∷ [] else [])
 
-  next : (group : Group) → outcomes t (i + 1) group ≡ after group
-  next group = outcomes-next t i group ∙ ap (λ o. outcomes t i group ++ of_group group o) (sym here)
+  next : (group : Group) → group_outcomes t (i + 1) group ≡ after group
+  next group = outcomes-next t i group ∙ ap (λ o. group_outcomes t i group ++ of_group group o) (sym here)
 
-  next-own : (group : Group) → line.group ≡ group → outcomes t (i + 1) group ≡ outcomes t i group ++ line.outcome ∷ []
-  next-own group e = next group ∙ ap (λ b. outcomes t i group ++ (if b then line.outcome ∷ [] else [])) (same-true line.group group e)
+  next-own : (group : Group) → line.group ≡ group → group_outcomes t (i + 1) group ≡ group_outcomes t i group ++ line.outcome ∷ []
+  next-own group e = next group ∙ ap (λ b. group_outcomes t i group ++ (if b then line.outcome ∷ [] else [])) (same-true line.group group e)
 
-  next-other : (group : Group) → (line.group ≡ group → ⊥) → outcomes t (i + 1) group ≡ outcomes t i group
+  next-other : (group : Group) → (line.group ≡ group → ⊥) → group_outcomes t (i + 1) group ≡ group_outcomes t i group
   next-other group h =
-      next group ∙ ap (λ b. outcomes t i group ++ (if b then line.outcome ∷ [] else [])) (same-false line.group group h)
-      ∙ append-nil (outcomes t i group)
+      next group ∙ ap (λ b. group_outcomes t i group ++ (if b then line.outcome ∷ [] else [])) (same-false line.group group h)
+      ∙ append-nil (group_outcomes t i group)
 
-  firsts-same : 0 < length (outcomes t i line.group) → firsts t (i + 1) ≡ firsts t i
+  firsts-same : 0 < length (group_outcomes t i line.group) → firsts t (i + 1) ≡ firsts t i
   firsts-same some =
-      firsts-next t i ∙ ap (λ o. firsts t i ++ begins (outcomes t i) o i) (sym here)
-      ∙ ap (λ xs. firsts t i ++ xs) (begins-some (outcomes t i line.group) i some) ∙ append-nil (firsts t i)
+      firsts-next t i ∙ ap (λ o. firsts t i ++ begins (group_outcomes t i) o i) (sym here)
+      ∙ ap (λ xs. firsts t i ++ xs) (begins-some (group_outcomes t i line.group) i some) ∙ append-nil (firsts t i)
 
-  firsts-more : outcomes t i line.group ≡ [] → firsts t (i + 1) ≡ firsts t i ++ i ∷ []
+  firsts-more : group_outcomes t i line.group ≡ [] → firsts t (i + 1) ≡ firsts t i ++ i ∷ []
   firsts-more none =
-      firsts-next t i ∙ ap (λ o. firsts t i ++ begins (outcomes t i) o i) (sym here)
+      firsts-next t i ∙ ap (λ o. firsts t i ++ begins (group_outcomes t i) o i) (sym here)
       ∙ ap (λ (r : List Outcome). firsts t i ++ if_begins r i) none
 
   module _ (groups : List Group) (rows new : List GroupRows) (r : IsReadTo t i groups rows) where
@@ -123,11 +123,11 @@ module _ (t : List (List (List ℕ))) (i : ℕ) (line : Line) (here : Some line 
     known_next : (k : ℕ) → place_of line.group groups ≡ Some k → IsPushed rows new k line.outcome → IsReadTo t (i + 1) groups new
     known_next k e p =
         let w = group-here line.group groups k e in
-        let own : outcomes t i line.group ≡ (rows_at rows k).outcomes = sym (r.each k w.0 ∙ ap (outcomes t i) w.1) in
+        let own : group_outcomes t i line.group ≡ (group_rows_at rows k).outcomes = sym (r.each k w.0 ∙ ap (group_outcomes t i) w.1) in
         let same : firsts t (i + 1) ≡ firsts t i = firsts-same (omega (arith, ap length own, r.some k w.0)) in
-        let pushed : (rows_at new k).outcomes ≡ outcomes t (i + 1) (group_in groups k) =
+        let pushed : (group_rows_at new k).outcomes ≡ group_outcomes t (i + 1) (group_in groups k) =
         p.here ∙ ap (λ xs. xs ++ line.outcome ∷ []) (r.each k w.0) ∙ sym (next-own (group_in groups k) (sym w.1)) in
-        let other : (j : ℕ) → j < length groups → (j ≡ k → ⊥) → (rows_at new j).outcomes ≡ outcomes t (i + 1) (group_in groups j) =
+        let other : (j : ℕ) → j < length groups → (j ≡ k → ⊥) → (group_rows_at new j).outcomes ≡ group_outcomes t (i + 1) (group_in groups j) =
         λ j l ne. p.others j ne ∙ r.each j l ∙ sym (next-other (group_in groups j) (λ z. apart-ne groups r.apart j k l w.0 ne (sym (w.1 ∙ z)))) in
         record {
           are = r.are ∙ ap (groups_at t) (sym same);
@@ -135,17 +135,11 @@ module _ (t : List (List (List ℕ))) (i : ℕ) (line : Line) (here : Some line 
           apart = r.apart;
           lines = λ j l. p.lines j ∙ r.lines j l ∙ ap (λ xs. slice_index xs j + 2) (sym same);
           each = λ j l.
-              ⊎_elim (λ (less : j < k). other j l (λ z. omega (arith, less, z)))
-              (λ (ge : k ≤ j). ⊎_elim (λ (less : k < j). other j l (λ z. omega (arith, less, z)))
-              (λ (le : j ≤ k). let z : k ≡ j = omega arith in subst (λ (m : ℕ). (rows_at new m).outcomes ≡ outcomes t (i + 1) (group_in groups m)) z pushed)
-              (cases_lt k j)) (cases_lt j k);
+              ⊎_elim (λ (z : j ≡ k). subst (λ (m : ℕ). (group_rows_at new m).outcomes ≡ group_outcomes t (i + 1) (group_in groups m)) (sym z) pushed) (λ (ne : j ≡ k → ⊥). other j l ne) (cases_eq j k);
           some = λ j l.
-              ⊎_elim (λ (less : j < k). omega (arith, ap length (p.others j (λ z. omega (arith, less, z))), r.some j l))
-              (λ (ge : k ≤ j). ⊎_elim (λ (less : k < j). omega (arith, ap length (p.others j (λ z. omega (arith, less, z))), r.some j l))
-              (λ (le : j ≤ k). let z : k ≡ j = omega arith in
-              let size = ap length p.here ∙ length-append (rows_at rows k).outcomes (line.outcome ∷ []) in
-              subst (λ (m : ℕ). 0 < length (rows_at new m).outcomes) z (omega (arith, size)))
-              (cases_lt k j)) (cases_lt j k);
+              ⊎_elim (λ (z : j ≡ k).
+              subst (λ (m : ℕ). 0 < length (group_rows_at new m).outcomes) (sym z) (omega (arith, ap length p.here, length_push (group_rows_at rows k).outcomes line.outcome)))
+              (λ (ne : j ≡ k → ⊥). omega (arith, ap length (p.others j ne), r.some j l)) (cases_eq j k);
           absent = λ group h. next-other group (λ z. nowhere group groups h k w.0 (w.1 ∙ z)) ∙ r.absent group h;
         }
 
@@ -155,52 +149,41 @@ module _ (t : List (List (List ℕ))) (i : ℕ) (line : Line) (here : Some line 
     fresh_next more e g f =
         let n = length groups in
         let x : GroupRows = record { line = i + 2; outcomes = line.outcome ∷ [] } in
-        let none : outcomes t i line.group ≡ [] = r.absent line.group e in
+        let none : group_outcomes t i line.group ≡ [] = r.absent line.group e in
         let first : firsts t (i + 1) ≡ firsts t i ++ i ∷ [] = firsts-more none in
         let count : length (firsts t i) ≡ n = sym (ap length r.are ∙ length-groups t (firsts t i)) in
-        let size : length (groups ++ line.group ∷ []) ≡ n + 1 = length-append groups (line.group ∷ []) in
+        let size : length (groups ++ line.group ∷ []) ≡ n + 1 = length_push groups line.group in
         let old_group : (j : ℕ) → j < n → group_in (groups ++ line.group ∷ []) j ≡ group_in groups j = λ j l. get_or_append_left groups (line.group ∷ []) (of_class None) j l in
         let new_group : group_in (groups ++ line.group ∷ []) n ≡ line.group = get_or_push groups line.group (of_class None) n refl in
-        let old_rows : (j : ℕ) → j < n → rows_at (rows ++ x ∷ []) j ≡ rows_at rows j = λ j l. get_or_append_left rows (x ∷ []) no_rows j (omega (arith, r.size)) in
-        let new_rows : rows_at (rows ++ x ∷ []) n ≡ x = get_or_push rows x no_rows n r.size in
-        let old_first : (j : ℕ) → j < n → slice_index (firsts t i ++ i ∷ []) j ≡ slice_index (firsts t i) j = λ j l. get_or_append_left (firsts t i) (i ∷ []) 0 j (omega (arith, count)) in
-        let new_first : slice_index (firsts t i ++ i ∷ []) n ≡ i = get_or_push (firsts t i) i 0 n count in
+        let old_rows : (j : ℕ) → j < n → group_rows_at (rows ++ x ∷ []) j ≡ group_rows_at rows j = λ j l. get_or_append_left rows (x ∷ []) no_rows j (omega (arith, r.size)) in
+        let new_rows : group_rows_at (rows ++ x ∷ []) n ≡ x = get_or_push rows x no_rows n r.size in
+        let old_first : (j : ℕ) → j < n → slice_index (firsts t (i + 1)) j ≡ slice_index (firsts t i) j =
+        λ j l. ap (λ xs. slice_index xs j) first ∙ get_or_append_left (firsts t i) (i ∷ []) 0 j (omega (arith, count)) in
+        let new_first : slice_index (firsts t (i + 1)) n ≡ i = ap (λ xs. slice_index xs n) first ∙ get_or_push (firsts t i) i 0 n count in
         let ne : (j : ℕ) → j < n → line.group ≡ group_in groups j → ⊥ = λ j l z. nowhere line.group groups e j l (sym z) in
         let goal : IsReadTo t (i + 1) (groups ++ line.group ∷ []) (rows ++ x ∷ []) = record {
           are = ap (λ gs. gs ++ line.group ∷ []) r.are ∙ ap (λ o. groups_at t (firsts t i) ++ group_of o ∷ []) here
               ∙ sym (groups-push t (firsts t i) i) ∙ ap (groups_at t) (sym first);
-          size = length-append rows (x ∷ []) ∙ ap (λ m. m + 1) r.size ∙ sym size;
+          size = length_push rows x ∙ ap (λ m. m + 1) r.size ∙ sym size;
           apart = λ a b less l.
-              ⊎_elim (λ (before : b < n). ap₂ same_group (old_group a (omega arith)) (old_group b before) ∙ r.apart a b less before)
-              (λ (end : n ≤ b).
-              let z : n ≡ b = omega arith in
-              let ea : group_in (groups ++ line.group ∷ []) a ≡ group_in groups a = old_group a (omega arith) in
-              let eb : group_in (groups ++ line.group ∷ []) b ≡ line.group = ap (group_in (groups ++ line.group ∷ [])) (sym z) ∙ new_group in
-              ap₂ same_group ea eb ∙ same-false (group_in groups a) line.group (nowhere line.group groups e a (omega arith)))
-              (cases_lt b n);
+              below_more (λ b. a < b → same_group (group_in (groups ++ line.group ∷ []) a) (group_in (groups ++ line.group ∷ []) b) ≡ false) n
+              (λ b before less. ap₂ same_group (old_group a (omega arith)) (old_group b before) ∙ r.apart a b less before)
+              (λ less. ap₂ same_group (old_group a less) new_group ∙ same-false (group_in groups a) line.group (nowhere line.group groups e a less))
+              b (omega (arith, size)) less;
           lines = λ j l.
-              ⊎_elim (λ (before : j < n). ap (λ (y : GroupRows). y.line) (old_rows j before) ∙ r.lines j before ∙ ap (λ m. m + 2) (sym (ap (λ xs. slice_index xs j) first ∙ old_first j before)))
-              (λ (end : n ≤ j).
-              let z : n ≡ j = omega arith in
-              let P : ℕ → Type 0 = λ m. (rows_at (rows ++ x ∷ []) m).line ≡ slice_index (firsts t (i + 1)) m + 2 in
-              subst P z (ap (λ (y : GroupRows). y.line) new_rows ∙ ap (λ m. m + 2) (sym (ap (λ xs. slice_index xs n) first ∙ new_first))))
-              (cases_lt j n);
+              below_more (λ m. (group_rows_at (rows ++ x ∷ []) m).line ≡ slice_index (firsts t (i + 1)) m + 2) n
+              (λ j before. ap (λ (y : GroupRows). y.line) (old_rows j before) ∙ r.lines j before ∙ ap (λ m. m + 2) (sym (old_first j before)))
+              (ap (λ (y : GroupRows). y.line) new_rows ∙ ap (λ m. m + 2) (sym new_first)) j (omega (arith, size));
           each = λ j l.
-              ⊎_elim (λ (before : j < n). ap (λ (y : GroupRows). y.outcomes) (old_rows j before) ∙ r.each j before
-              ∙ sym (next-other (group_in groups j) (ne j before)) ∙ ap (outcomes t (i + 1)) (sym (old_group j before)))
-              (λ (end : n ≤ j).
-              let z : n ≡ j = omega arith in
-              let P : ℕ → Type 0 = λ m. (rows_at (rows ++ x ∷ []) m).outcomes ≡ outcomes t (i + 1) (group_in (groups ++ line.group ∷ []) m) in
-              subst P z (ap (λ (y : GroupRows). y.outcomes) new_rows ∙ ap (λ xs. xs ++ line.outcome ∷ []) (sym none)
-              ∙ sym (next-own line.group refl) ∙ ap (outcomes t (i + 1)) (sym new_group)))
-              (cases_lt j n);
+              below_more (λ m. (group_rows_at (rows ++ x ∷ []) m).outcomes ≡ group_outcomes t (i + 1) (group_in (groups ++ line.group ∷ []) m)) n
+              (λ j before. ap (λ (y : GroupRows). y.outcomes) (old_rows j before) ∙ r.each j before
+              ∙ sym (next-other (group_in groups j) (ne j before)) ∙ ap (group_outcomes t (i + 1)) (sym (old_group j before)))
+              (ap (λ (y : GroupRows). y.outcomes) new_rows ∙ ap (λ xs. xs ++ line.outcome ∷ []) (sym none)
+              ∙ sym (next-own line.group refl) ∙ ap (group_outcomes t (i + 1)) (sym new_group)) j (omega (arith, size));
           some = λ j l.
-              ⊎_elim (λ (before : j < n). subst (λ (y : GroupRows). 0 < length y.outcomes) (sym (old_rows j before)) (r.some j before))
-              (λ (end : n ≤ j).
-              let z : n ≡ j = omega arith in
-              let P : ℕ → Type 0 = λ m. 0 < length (rows_at (rows ++ x ∷ []) m).outcomes in
-              subst P z (subst (λ (y : GroupRows). 0 < length y.outcomes) (sym new_rows) (omega arith)))
-              (cases_lt j n);
+              below_more (λ m. 0 < length (group_rows_at (rows ++ x ∷ []) m).outcomes) n
+              (λ j before. subst (λ (y : GroupRows). 0 < length y.outcomes) (sym (old_rows j before)) (r.some j before))
+              (subst (λ (y : GroupRows). 0 < length y.outcomes) (sym new_rows) (omega arith)) j (omega (arith, size));
           absent = λ group h.
               let w = push-none group groups line.group h in next-other group w.1 ∙ r.absent group w.0;
         } in
@@ -216,15 +199,14 @@ module _ (t : List (List (List ℕ))) (i : ℕ) (line : Line) (here : Some line 
 
 -- the fault of a row
 pub fault_here : (t : List (List (List ℕ))) (i : ℕ) (r : List Outcome) (line : Line) (number : ℕ) (o : Option DelayFault)
-    → Some line ≡ line_at t i → r ≡ outcomes t i line.group → number ≡ i + 2 → fault_after r line number ≡ o → line_fault t i ≡ o
+    → Some line ≡ line_at t i → r ≡ group_outcomes t i line.group → number ≡ i + 2 → fault_after r line number ≡ o → line_fault t i ≡ o
 unfolding line_fault
 fault_here t i r line number o e same n h =
-    ap (λ x. fault_of (outcomes t i) x (i + 2)) (sym e) ∙ ap (λ x. fault_after (outcomes t i line.group) line x) (sym n)
-    ∙ ap (λ x. fault_after x line number) (sym same) ∙ h
+    sym (λ j. fault_of (group_outcomes t i) (e j) (n j)) ∙ ap (λ x. fault_after x line number) (sym same) ∙ h
 
 pub bad_here : (t : List (List (List ℕ))) (i : ℕ) (number : ℕ) → None ≡ line_at t i → number ≡ i + 2 → line_fault t i ≡ Some (BadField number)
 unfolding line_fault
-bad_here t i number e n = ap (λ x. fault_of (outcomes t i) x (i + 2)) (sym e) ∙ ap (λ x. Some (BadField x)) (sym n)
+bad_here t i number e n = sym (λ j. fault_of (group_outcomes t i) (e j) (n j))
 
 -- each route type is within its bound
 type-bounded : (t : List (List (List ℕ))) (i : ℕ) (o : Option Line) → IfSome o (IsFormed (field t RouteId i)) → IfSome (group_of o).class (λ route. route < end_of_types)

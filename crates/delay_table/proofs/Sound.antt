@@ -17,12 +17,12 @@ use Rattle.delay_table.specs.Bounds.{end_of_types, most_groups, whole_weight}
 use Rattle.delay_table.specs.Groups.{Group, group_in, is_plain, of_class, plain_types}
 use Rattle.delay_table.specs.Delays.{class_name, class_rows, class_sum, delays_in, group_sum, group_sum_at, groups_fault, groups_of, named, no_default_of, other_sum}
 use Rattle.delay_table.specs.Delays.{others, too_many_classes, type_rows, type_sum_at}
-use Rattle.delay_table.specs.Read.{IsRead, line_at, rows_of}
+use Rattle.delay_table.specs.Read.{IsRead, line_at, read_outcomes}
 use Rattle.delay_table.specs.Slots.{AreDelays, IsStart}
 use mathlib.Core.Path.{fun_ext}
 use Rattle.csv_rows.specs.Tables.{row_count}
 use Rattle.csv_rows.proofs.FirstLemmas.{first-same}
-use Rattle.delay_table.specs.Delays.{delays_of, first_fault, first_line, firsts, groups_at, line_fault, missing_column, outcomes}
+use Rattle.delay_table.specs.Delays.{delays_of, first_delay_fault, first_line, firsts, groups_at, line_fault, missing_column, group_outcomes}
 use Rattle.delay_table.specs.Read.{IsReadTo}
 use Rattle.delay_table.proofs.ReadFacts.{rows-are, rows-here}
 use Rattle.delay_table.proofs.Starts.{starts}
@@ -59,10 +59,10 @@ default_some [] h = absurd (cc)
 default_some (o ∷ os) h = omega arith
 
 module _ (groups : List Group) (read : List GroupRows) (is : IsRead groups read)
-    (sound : groups_fault (rows_of groups read) groups (line_at read) ≡ None)
-    (size : length (named (rows_of groups read) end_of_types) ≡ length (plain_types groups (length groups))) where
+    (sound : groups_fault (read_outcomes groups read) groups (line_at read) ≡ None)
+    (size : length (named (read_outcomes groups read) end_of_types) ≡ length (plain_types groups (length groups))) where
   abbrev own : Group → List Outcome
-  own = rows_of groups read
+  own = read_outcomes groups read
 
   abbrev types : List ℕ
   types = named own end_of_types
@@ -98,7 +98,7 @@ module _ (groups : List Group) (read : List GroupRows) (is : IsRead groups read)
   types_valid = All-map IsValidRow (type_rows own) types (λ k d l.
       let e : get_or types k 0 ≡ get_or types k d = get_or_default types k 0 d l in
       subst (λ r. IsValidRow (type_rows own r)) e
-      (valid_row (type_rows own (get_or types k 0)) (is.starts (of_class (Some (get_or types k 0)))) ((named-are own end_of_types).some k l) (type_right k l)))
+      (valid_row (type_rows own (get_or types k 0)) (is.starts (of_class (Some (get_or types k 0)))) ((named-are own end_of_types).some k 0 l) (type_right k l)))
 
   others_valid : All IsValidRow (map own (others groups (length groups)))
   others_valid = All-map IsValidRow own (others groups (length groups)) (λ k d l.
@@ -129,7 +129,7 @@ module _ (groups : List Group) (read : List GroupRows) (is : IsRead groups read)
   pub delays_valid : AreDelays (delays_in own groups)
   unfolding delays_in
   delays_valid = record {
-    rising = (named-are own end_of_types).rising;
+    rising = λ i j less l. (named-are own end_of_types).rising i j 0 less l;
     few = omega (arith, class-count, counted, few);
     each = class-count;
     rows = λ k l. All-cons IsValidRow (class_rows own None) (map (type_rows own) types ++ map own (others groups (length groups))) default_valid
@@ -161,47 +161,47 @@ is-read t groups rows none r = record {
 
 -- their faults are those of the table
 pub groups-same : (t : List (List (List ℕ))) (n : ℕ) (groups : List Group) (rows : List GroupRows) → IsReadTo t n groups rows
-    → groups_fault (rows_of groups rows) groups (line_at rows) ≡ groups_fault (outcomes t n) (groups_at t (firsts t n)) (first_line t n)
+    → groups_fault (read_outcomes groups rows) groups (line_at rows) ≡ groups_fault (group_outcomes t n) (groups_at t (firsts t n)) (first_line t n)
 unfolding first_line
 groups-same t n groups rows r =
-    let same : rows_of groups rows ≡ outcomes t n = fun_ext (rows-are t n groups rows r) in
-    let lines : first_below (group_sum_at (outcomes t n) groups (line_at rows)) (length groups) ≡ first_below (group_sum_at (outcomes t n) groups (first_line t n)) (length groups) =
-    first-same (group_sum_at (outcomes t n) groups (line_at rows)) (group_sum_at (outcomes t n) groups (first_line t n)) (length groups)
-    (λ k l. ap (λ m. group_sum (group_in groups k) m (outcomes t n (group_in groups k))) (r.lines k l)) in
+    let same : read_outcomes groups rows ≡ group_outcomes t n = fun_ext (rows-are t n groups rows r) in
+    let lines : first_below (group_sum_at (group_outcomes t n) groups (line_at rows)) (length groups) ≡ first_below (group_sum_at (group_outcomes t n) groups (first_line t n)) (length groups) =
+    first-same (group_sum_at (group_outcomes t n) groups (line_at rows)) (group_sum_at (group_outcomes t n) groups (first_line t n)) (length groups)
+    (λ k l. ap (λ m. group_sum (group_in groups k) m (group_outcomes t n (group_in groups k))) (r.lines k l)) in
     ap (λ rs. groups_fault rs groups (line_at rows)) same
-    ∙ ap (λ o. option_or (too_many_classes (length groups)) (option_or (class_sum (outcomes t n) None)
-    (option_or (first_below (type_sum_at (outcomes t n) (named (outcomes t n) end_of_types)) (length (named (outcomes t n) end_of_types)))
-    (option_or o (no_default_of (class_rows (outcomes t n) None)))))) lines
-    ∙ ap (λ gs. groups_fault (outcomes t n) gs (first_line t n)) r.are
+    ∙ ap (λ o. option_or (too_many_classes (length groups)) (option_or (class_sum (group_outcomes t n) None)
+    (option_or (first_below (type_sum_at (group_outcomes t n) (named (group_outcomes t n) end_of_types)) (length (named (group_outcomes t n) end_of_types)))
+    (option_or o (no_default_of (class_rows (group_outcomes t n) None)))))) lines
+    ∙ ap (λ gs. groups_fault (group_outcomes t n) gs (first_line t n)) r.are
 
 groups-of : (t : List (List (List ℕ))) → groups_at t (firsts t (row_count t)) ≡ groups_of t
 unfolding groups_of
 groups-of t = refl
 
-pub delays-same : (t : List (List (List ℕ))) (groups : List Group) (rows : List GroupRows) → IsReadTo t (row_count t) groups rows → delays_in (rows_of groups rows) groups ≡ delays_of t
+pub delays-same : (t : List (List (List ℕ))) (groups : List Group) (rows : List GroupRows) → IsReadTo t (row_count t) groups rows → delays_in (read_outcomes groups rows) groups ≡ delays_of t
 unfolding delays_of
 delays-same t groups rows r =
-    ap (λ rs. delays_in rs groups) (fun_ext (rows-are t (row_count t) groups rows r)) ∙ ap (delays_in (outcomes t (row_count t))) (r.are ∙ groups-of t)
+    ap (λ rs. delays_in rs groups) (fun_ext (rows-are t (row_count t) groups rows r)) ∙ ap (delays_in (group_outcomes t (row_count t))) (r.are ∙ groups-of t)
 
 abbrev last_fault : List (List (List ℕ)) → Option DelayFault
-last_fault t = groups_fault (outcomes t (row_count t)) (groups_of t) (first_line t (row_count t))
+last_fault t = groups_fault (group_outcomes t (row_count t)) (groups_of t) (first_line t (row_count t))
 
-pub column-first : (t : List (List (List ℕ))) (e : DelayFault) → Some e ≡ missing_column t → first_fault t ≡ Some e
-unfolding first_fault
+pub column-first : (t : List (List (List ℕ))) (e : DelayFault) → Some e ≡ missing_column t → first_delay_fault t ≡ Some e
+unfolding first_delay_fault
 column-first t e h = ap (λ o. option_or o (option_or (first_below (line_fault t) (row_count t)) (last_fault t))) (sym h)
 
-pub line-first : (t : List (List (List ℕ))) (e : DelayFault) → None ≡ missing_column t → first_below (line_fault t) (row_count t) ≡ Some e → first_fault t ≡ Some e
-unfolding first_fault
+pub line-first : (t : List (List (List ℕ))) (e : DelayFault) → None ≡ missing_column t → first_below (line_fault t) (row_count t) ≡ Some e → first_delay_fault t ≡ Some e
+unfolding first_delay_fault
 line-first t e h k =
     ap (λ o. option_or o (option_or (first_below (line_fault t) (row_count t)) (last_fault t))) (sym h) ∙ ap (λ o. option_or o (last_fault t)) k
 
 pub fault-same : (t : List (List (List ℕ))) (groups : List Group) (rows : List GroupRows) → None ≡ missing_column t
     → first_below (line_fault t) (row_count t) ≡ None → IsReadTo t (row_count t) groups rows
-    → groups_fault (rows_of groups rows) groups (line_at rows) ≡ first_fault t
-unfolding first_fault
+    → groups_fault (read_outcomes groups rows) groups (line_at rows) ≡ first_delay_fault t
+unfolding first_delay_fault
 fault-same t groups rows h k r =
     sym (ap (λ o. option_or o (option_or (first_below (line_fault t) (row_count t)) (last_fault t))) (sym h) ∙ ap (λ o. option_or o (last_fault t)) k
-    ∙ ap (λ gs. groups_fault (outcomes t (row_count t)) gs (first_line t (row_count t))) (sym (groups-of t)) ∙ sym (groups-same t (row_count t) groups rows r))
+    ∙ ap (λ gs. groups_fault (group_outcomes t (row_count t)) gs (first_line t (row_count t))) (sym (groups-of t)) ∙ sym (groups-same t (row_count t) groups rows r))
 
 -- there are as many groups as are read
 pub groups-count : (t : List (List (List ℕ))) (groups : List Group) (rows : List GroupRows) → IsReadTo t (row_count t) groups rows → length groups ≡ length (groups_of t)

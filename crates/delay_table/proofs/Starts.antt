@@ -10,7 +10,7 @@ use Rattle.plan_model.specs.Bounds.{seconds_per_day}
 use Rattle.delay_table.specs.declared.faults.DelayFault.{DelayFault}
 use Rattle.delay_table.specs.declared.faults.DelayFault.TheVariants.{NotRising}
 use Rattle.delay_table.specs.Groups.{Group, same_group}
-use Rattle.delay_table.specs.Delays.{Line, fault_after, fault_of, rises, too_many, of_group, outcomes, line_at, line_fault}
+use Rattle.delay_table.specs.Delays.{Line, fault_after, fault_of, delay_rises, too_many, of_group, group_outcomes, line_at, line_fault}
 use Rattle.delay_table.specs.Slots.{IsStart}
 use Rattle.csv_rows.specs.First.{first_below}
 use Rattle.csv_rows.specs.Tables.{field}
@@ -25,15 +25,15 @@ none_cases true b x y h = absurd (cc)
 none_cases false true x y h = (refl, refl)
 none_cases false false x y h = absurd (cc)
 
--- the last delay is below one that rises
-rises_last : (r : List Outcome) (delay : ℕ) (d : Outcome) → rises (slice_get r (length r - 1)) delay ≡ true → 0 < length r → (slice_index_or r (length r - 1) d).delay < delay
+-- the last delay is below one that delay_rises
+rises_last : (r : List Outcome) (delay : ℕ) (d : Outcome) → delay_rises (slice_get r (length r - 1)) delay ≡ true → 0 < length r → (slice_index_or r (length r - 1) d).delay < delay
 rises_last r delay d h some =
     let e = slice_get-get_or r (length r - 1) d (omega arith) in
-    let P : Option Outcome → Type 0 = λ o. rises o delay ≡ true in
+    let P : Option Outcome → Type 0 = λ o. delay_rises o delay ≡ true in
     ltb-true (slice_index_or r (length r - 1) d).delay delay (subst P e h)
 
 -- and so is each
-rises_each : (r : List Outcome) (delay : ℕ) → IsStart r → rises (slice_get r (length r - 1)) delay ≡ true → (k : ℕ) (d : Outcome) → k < length r → (slice_index_or r k d).delay < delay
+rises_each : (r : List Outcome) (delay : ℕ) → IsStart r → delay_rises (slice_get r (length r - 1)) delay ≡ true → (k : ℕ) (d : Outcome) → k < length r → (slice_index_or r k d).delay < delay
 rises_each r delay s h k d l =
     let last = rises_last r delay d h (omega arith) in
     ⊎_elim (λ (before : k < length r - 1). omega (arith, s.rising k (length r - 1) d before (omega arith), last))
@@ -47,7 +47,7 @@ start_next : (r : List Outcome) (line : Line) (number : ℕ) → IsStart r → f
     → 1 ≤ line.outcome.weight → IsStart (r ++ line.outcome ∷ [])
 start_next r line number s none d w =
     let o = line.outcome in
-    let t = none_cases (nat_le 64 (length r)) (rises (slice_get r (length r - 1)) o.delay) (too_many line.group number) (NotRising number) none in
+    let t = none_cases (nat_le 64 (length r)) (delay_rises (slice_get r (length r - 1)) o.delay) (too_many line.group number) (NotRising number) none in
     let room : length r < 64 = leb-false 64 (length r) t.0 in
     let size : length (r ++ o ∷ []) ≡ length r + 1 = length-append r (o ∷ []) in
     record {
@@ -61,32 +61,32 @@ start_if : (b : Bool) (r : List Outcome) (o : Outcome) → IsStart r → (b ≡ 
 start_if true r o s h = h refl
 start_if false r o s h = subst IsStart (sym (append-nil r)) s
 
-start_line : (t : List (List (List ℕ))) (n : ℕ) (group : Group) (o : Option Line) → ((g : Group) → IsStart (outcomes t n g))
-    → fault_of (outcomes t n) o (n + 2) ≡ None → IfSome o (IsFormed (field t RouteId n)) → IsStart (outcomes t n group ++ of_group group o)
+start_line : (t : List (List (List ℕ))) (n : ℕ) (group : Group) (o : Option Line) → ((g : Group) → IsStart (group_outcomes t n g))
+    → fault_of (group_outcomes t n) o (n + 2) ≡ None → IfSome o (IsFormed (field t RouteId n)) → IsStart (group_outcomes t n group ++ of_group group o)
 start_line t n group None s none form = absurd (cc)
 start_line t n group (Some line) s none form =
-    start_if (same_group line.group group) (outcomes t n group) line.outcome (s group)
-    (λ same. let P : Group → Type 0 = λ g. IsStart (outcomes t n g ++ line.outcome ∷ []) in
-    subst P (same-equal line.group group same) (start_next (outcomes t n line.group) line (n + 2) (s line.group) none form.delay form.weight))
+    start_if (same_group line.group group) (group_outcomes t n group) line.outcome (s group)
+    (λ same. let P : Group → Type 0 = λ g. IsStart (group_outcomes t n g ++ line.outcome ∷ []) in
+    subst P (same-equal line.group group same) (start_next (group_outcomes t n line.group) line (n + 2) (s line.group) none form.delay form.weight))
 
 start_empty : IsStart []
 start_empty = record { few = omega arith; rising = λ i j d less inside. absurd (omega arith); delays = λ k d inside. absurd (omega arith); weights = λ k d inside. absurd (omega arith) }
 
-no_outcomes : (t : List (List (List ℕ))) (group : Group) → outcomes t 0 group ≡ []
-unfolding outcomes
+no_outcomes : (t : List (List (List ℕ))) (group : Group) → group_outcomes t 0 group ≡ []
+unfolding group_outcomes
 no_outcomes t group = refl
 
-row_fault : (t : List (List (List ℕ))) (n : ℕ) → line_fault t n ≡ None → fault_of (outcomes t n) (line_at t n) (n + 2) ≡ None
+row_fault : (t : List (List (List ℕ))) (n : ℕ) → line_fault t n ≡ None → fault_of (group_outcomes t n) (line_at t n) (n + 2) ≡ None
 unfolding line_fault
 row_fault t n h = h
 
-starts_to : (t : List (List (List ℕ))) (n : ℕ) → ((k : ℕ) → k < n → line_fault t k ≡ None) → (group : Group) → IsStart (outcomes t n group)
+starts_to : (t : List (List (List ℕ))) (n : ℕ) → ((k : ℕ) → k < n → line_fault t k ≡ None) → (group : Group) → IsStart (group_outcomes t n group)
 starts_to t zero h group = subst IsStart (sym (no_outcomes t group)) start_empty
 starts_to t (suc n) h group =
-    let e : outcomes t (suc n) group ≡ outcomes t n group ++ of_group group (line_at t n) = ap (λ m. outcomes t m group) (sym (add-one n)) ∙ outcomes-next t n group in
+    let e : group_outcomes t (suc n) group ≡ group_outcomes t n group ++ of_group group (line_at t n) = ap (λ m. group_outcomes t m group) (sym (add-one n)) ∙ outcomes-next t n group in
     subst IsStart (sym e)
     (start_line t n group (line_at t n) (starts_to t n (λ k l. h k (omega arith))) (row_fault t n (h n (omega arith))) (formed_at t n))
 
 -- the outcomes of each group of rows without a fault
-pub starts : (t : List (List (List ℕ))) (n : ℕ) → first_below (line_fault t) n ≡ None → (group : Group) → IsStart (outcomes t n group)
+pub starts : (t : List (List (List ℕ))) (n : ℕ) → first_below (line_fault t) n ≡ None → (group : Group) → IsStart (group_outcomes t n group)
 starts t n h = starts_to t n (none-each (line_fault t) n h)

@@ -1,6 +1,6 @@
 -- The place of a route type among those that are named, and the greatest delay of a class.
 use Rattle.std.proofs.Common.{◌≡◌, slice_get, ℕ, zero, suc, ◌+◌, ◌-◌, ◌<◌, ◌≤◌, ◌==◌, List, length, get_or, slice_index, slice_index_or, Option, Some, None, option_map}
-use Rattle.std.proofs.Common.{if◌then◌else◌, sym, ap, ap₂, ◌∙◌, subst, arith, ⊎_elim, eq-or-lt_of_le, Contains, All}
+use Rattle.std.proofs.Common.{if◌then◌else◌, sym, ap, ◌∙◌, subst, arith, ⊎_elim, eq-or-lt_of_le, Contains, All}
 use Rattle.std.proofs.lemmas.Bool.{cases_lt, eq-eqb, ne_eqb}
 use Rattle.std.proofs.lemmas.List.{get_or_default}
 use Rattle.std.proofs.lemmas.Option.{slice_get_within, get_or_from_slice_get}
@@ -70,52 +70,12 @@ class-some d s route k h e =
     let n : k ≡ (k - 1) + 1 = grind (arith, e) in
     ap Some n ∙ sym (ap (option_map (λ n. n + 1)) ((class-place d.types s.rising route k h).1 (k - 1) n))
 
--- the first that is there
-pub pick : (o rest : Option ℕ) (x : ℕ) → Some x ≡ o → Some x ≡ option_or o rest
-pick o rest x e = ap (λ p. option_or p rest) e
-
-pub skip : (o rest answer : Option ℕ) → None ≡ o → answer ≡ rest → answer ≡ option_or o rest
-skip o rest answer e f = f ∙ ap (λ p. option_or p rest) e
-
--- the class by an hour that is told
-abbrev by_hour : DelayLists → Option ℕ → Option (List ℕ) → ℕ → ℕ
-by_hour d class route hour =
-    unwrap_or (option_or (route_class d route (Some hour)) (option_or (route_class d route None) (option_or (hour_class d class hour) (option_or (type_class d class) (hour_class d None hour))))) 0
-
-module _ (d : DelayLists) (class own : Option ℕ) (route : Option (List ℕ)) (hour arr : ℕ) (same : class ≡ own) (is : hour ≡ hour_of arr) where
-  told : (answer : ℕ) → answer ≡ by_hour d class route hour → answer ≡ class_for d own route arr
-  unfolding class_for
-  told answer e = e ∙ ap₂ (λ c h. by_hour d c route h) same is
-
-  abbrev A : Option ℕ
-  A = route_class d route (Some hour)
-
-  abbrev B : Option ℕ
-  B = route_class d route None
-
-  abbrev C : Option ℕ
-  C = hour_class d class hour
-
-  abbrev D : Option ℕ
-  D = type_class d class
-
-  abbrev E : Option ℕ
-  E = hour_class d None hour
-
-  pub first-class : (x : ℕ) → Some x ≡ A → x ≡ class_for d own route arr
-  first-class x e = told x (ap (λ o. unwrap_or o 0) (pick A (option_or B (option_or C (option_or D E))) x e))
-
-  pub second-class : (x : ℕ) → None ≡ A → Some x ≡ B → x ≡ class_for d own route arr
-  second-class x a e = told x (ap (λ o. unwrap_or o 0) (skip A (option_or B (option_or C (option_or D E))) (Some x) a (pick B (option_or C (option_or D E)) x e)))
-
-  pub third-class : (x : ℕ) → None ≡ A → None ≡ B → Some x ≡ C → x ≡ class_for d own route arr
-  third-class x a b e = told x (ap (λ o. unwrap_or o 0) (skip A (option_or B (option_or C (option_or D E))) (Some x) a (skip B (option_or C (option_or D E)) (Some x) b (pick C (option_or D E) x e))))
-
-  pub fourth-class : (x : ℕ) → None ≡ A → None ≡ B → None ≡ C → Some x ≡ D → x ≡ class_for d own route arr
-  fourth-class x a b c e =
-      told x (ap (λ o. unwrap_or o 0) (skip A (option_or B (option_or C (option_or D E))) (Some x) a
-      (skip B (option_or C (option_or D E)) (Some x) b (skip C (option_or D E) (Some x) c (pick D E x e)))))
-
-  pub last-class : (o : Option ℕ) → None ≡ A → None ≡ B → None ≡ C → None ≡ D → o ≡ E → unwrap_or o 0 ≡ class_for d own route arr
-  last-class o a b c e f =
-      told (unwrap_or o 0) (ap (λ o. unwrap_or o 0) (skip A (option_or B (option_or C (option_or D E))) o a (skip B (option_or C (option_or D E)) o b (skip C (option_or D E) o c (skip D E o e f)))))
+-- the class is that of the first of these that is there
+pub class-is : (d : DelayLists) (class own : Option ℕ) (route : Option (List ℕ)) (hour arr : ℕ) → class ≡ own → hour ≡ hour_of arr → {a b c e f : Option ℕ}
+    → a ≡ route_class d route (Some hour) → b ≡ route_class d route None → c ≡ hour_class d class hour → e ≡ type_class d class → f ≡ hour_class d None hour
+    → unwrap_or (option_or a (option_or b (option_or c (option_or e f)))) 0 ≡ class_for d own route arr
+unfolding class_for
+class-is d class own route hour arr same is p q r s t =
+    (λ m. unwrap_or (option_or (p m) (option_or (q m) (option_or (r m) (option_or (s m) (t m))))) 0)
+    ∙ (λ m. unwrap_or (option_or (route_class d route (Some (is m))) (option_or (route_class d route None)
+    (option_or (hour_class d (same m) (is m)) (option_or (type_class d (same m)) (hour_class d None (is m)))))) 0)

@@ -59,8 +59,8 @@ given None next = None
 given (Some a) next = next a
 
 -- the row of these fields, where each is of its form
-abbrev pub line_of : (class delay weight route hour : List ℕ) → Option Line
-line_of class delay weight route hour =
+abbrev pub line_from : (class delay weight route hour : List ℕ) → Option Line
+line_from class delay weight route hour =
     given (class_in class) (λ class'.
     given (whole_of seconds_per_day delay) (λ delay'.
     given (not_zero (whole_of whole_weight weight)) (λ weight'.
@@ -73,7 +73,7 @@ line_of class delay weight route hour =
 
 -- the row i of the table
 unfoldable pub line_at : List (List (List ℕ)) → ℕ → Option Line
-line_at t i = line_of (field t Class i) (field t Delay i) (field t Weight i) (field t RouteId i) (field t Hour i)
+line_at t i = line_from (field t Class i) (field t Delay i) (field t Weight i) (field t RouteId i) (field t Hour i)
 
 -- its outcome, if it is of the group
 abbrev pub of_group : Group → Option Line → List Outcome
@@ -81,9 +81,9 @@ of_group group None = []
 of_group group (Some line) = if same_group line.group group then line.outcome ∷ [] else []
 
 -- the outcomes of a group in the first n rows, in their order
-unfoldable pub outcomes : List (List (List ℕ)) → ℕ → Group → List Outcome
-outcomes t zero group = []
-outcomes t (suc n) group = outcomes t n group ++ of_group group (line_at t n)
+unfoldable pub group_outcomes : List (List (List ℕ)) → ℕ → Group → List Outcome
+group_outcomes t zero group = []
+group_outcomes t (suc n) group = group_outcomes t n group ++ of_group group (line_at t n)
 
 -- the first column that is not there
 abbrev pub lacks : List (List (List ℕ)) → Column → Option DelayFault
@@ -93,9 +93,9 @@ abbrev pub missing_column : List (List (List ℕ)) → Option DelayFault
 missing_column t = option_or (lacks t Class) (option_or (lacks t Delay) (lacks t Weight))
 
 -- a delay is greater than that of the group's row before
-abbrev pub rises : Option Outcome → ℕ → Bool
-rises None delay = true
-rises (Some o) delay = nat_lt o.delay delay
+abbrev pub delay_rises : Option Outcome → ℕ → Bool
+delay_rises None delay = true
+delay_rises (Some o) delay = nat_lt o.delay delay
 
 -- a group has too many rows
 abbrev pub too_many : Group → ℕ → DelayFault
@@ -105,7 +105,7 @@ too_many group number = if is_plain group then TooManyRows (class_name group.cla
 abbrev pub fault_after : List Outcome → Line → ℕ → Option DelayFault
 fault_after earlier line number =
     if nat_le most_rows (length earlier) then Some (too_many line.group number)
-    else if rises (slice_get earlier (length earlier - 1)) line.outcome.delay then None
+    else if delay_rises (slice_get earlier (length earlier - 1)) line.outcome.delay then None
     else Some (NotRising number)
 
 -- and of a row of a table that has these outcomes of each group before it
@@ -115,7 +115,7 @@ fault_of earlier (Some line) number = fault_after (earlier line.group) line numb
 
 -- the fault of row i, whose line is i + 2
 unfoldable pub line_fault : List (List (List ℕ)) → ℕ → Option DelayFault
-line_fault t i = fault_of (outcomes t i) (line_at t i) (i + 2)
+line_fault t i = fault_of (group_outcomes t i) (line_at t i) (i + 2)
 
 -- a row, if no row before it is of its group
 abbrev pub if_begins : List Outcome → ℕ → List ℕ
@@ -129,7 +129,7 @@ begins earlier (Some line) i = if_begins (earlier line.group) i
 -- the first n rows of which each is the first of its group
 unfoldable pub firsts : List (List (List ℕ)) → ℕ → List ℕ
 firsts t zero = []
-firsts t (suc n) = firsts t n ++ begins (outcomes t n) (line_at t n) n
+firsts t (suc n) = firsts t n ++ begins (group_outcomes t n) (line_at t n) n
 
 abbrev pub group_of : Option Line → Group
 group_of None = of_class None
@@ -210,10 +210,10 @@ unfoldable pub groups_of : List (List (List ℕ)) → List Group
 groups_of t = groups_at t (firsts t (row_count t))
 
 -- the first of all faults
-unfoldable pub first_fault : List (List (List ℕ)) → Option DelayFault
-first_fault t =
+unfoldable pub first_delay_fault : List (List (List ℕ)) → Option DelayFault
+first_delay_fault t =
     option_or (missing_column t) (option_or (first_below (line_fault t) (row_count t))
-    (groups_fault (outcomes t (row_count t)) (groups_of t) (first_line t (row_count t))))
+    (groups_fault (group_outcomes t (row_count t)) (groups_of t) (first_line t (row_count t))))
 
 -- the route types, the other groups, and the classes: that of `*`, and then those of the route types and of the other groups
 unfoldable pub delays_in : (Group → List Outcome) → List Group → DelayLists
@@ -225,4 +225,4 @@ delays_in rows groups = record {
 
 -- the delays of a table
 unfoldable pub delays_of : List (List (List ℕ)) → DelayLists
-delays_of t = delays_in (outcomes t (row_count t)) (groups_of t)
+delays_of t = delays_in (group_outcomes t (row_count t)) (groups_of t)

@@ -2,7 +2,7 @@
 use Rattle.std.specs.Prelude.{◌≡◌, ℕ, ◌+◌, ◌<◌, false, List, [], ◌∷◌, ◌++◌, length, slice_index, slice_index_or, Option, Some, None, IfSome}
 use Rattle.plan_model.specs.declared.model.Outcome.{Outcome}
 use Rattle.delay_table.specs.declared.reading.GroupRows.{GroupRows}
-use Rattle.delay_table.specs.Delays.{Line, outcomes, firsts, groups_at}
+use Rattle.delay_table.specs.Delays.{Line, group_outcomes, firsts, groups_at}
 use Rattle.delay_table.specs.Groups.{Group, group_in, same_group, place_of}
 use Rattle.delay_table.specs.Bounds.{end_of_types}
 use Rattle.delay_table.specs.Slots.{IsStart}
@@ -10,16 +10,16 @@ use Rattle.delay_table.specs.Slots.{IsStart}
 abbrev pub no_rows : GroupRows
 no_rows = record { line = 0; outcomes = [] }
 
-abbrev pub rows_at : List GroupRows → ℕ → GroupRows
-rows_at rows k = slice_index_or rows k no_rows
+abbrev pub group_rows_at : List GroupRows → ℕ → GroupRows
+group_rows_at rows k = slice_index_or rows k no_rows
 
 abbrev pub outcomes_at : List GroupRows → Option ℕ → List Outcome
 outcomes_at rows None = []
-outcomes_at rows (Some k) = (rows_at rows k).outcomes
+outcomes_at rows (Some k) = (group_rows_at rows k).outcomes
 
 -- the outcomes of a group, which are none where it is not there
-unfoldable pub rows_of : List Group → List GroupRows → Group → List Outcome
-rows_of groups rows group = outcomes_at rows (place_of group groups)
+unfoldable pub read_outcomes : List Group → List GroupRows → Group → List Outcome
+read_outcomes groups rows group = outcomes_at rows (place_of group groups)
 
 -- no group stands twice
 abbrev pub AreApart : List Group → Type 0
@@ -28,9 +28,9 @@ AreApart groups = (i j : ℕ) → i < j → j < length groups → same_group (gr
 -- one more outcome of the group at a place
 pub record IsPushed (old new : List GroupRows) (place : ℕ) (outcome : Outcome) : Type 0 where
   pub size : length new ≡ length old
-  pub lines : (k : ℕ) → (rows_at new k).line ≡ (rows_at old k).line
-  pub here : (rows_at new place).outcomes ≡ (rows_at old place).outcomes ++ outcome ∷ []
-  pub others : (k : ℕ) → (k ≡ place → ⊥) → (rows_at new k).outcomes ≡ (rows_at old k).outcomes
+  pub lines : (k : ℕ) → (group_rows_at new k).line ≡ (group_rows_at old k).line
+  pub here : (group_rows_at new place).outcomes ≡ (group_rows_at old place).outcomes ++ outcome ∷ []
+  pub others : (k : ℕ) → (k ≡ place → ⊥) → (group_rows_at new k).outcomes ≡ (group_rows_at old k).outcomes
 
 -- one more row, of a group that is there or of a new one
 pub record AddsRow (groups : List Group) (rows : List GroupRows) (line : Line) (number : ℕ) (more : List Group) (new : List GroupRows) : Type 0 where
@@ -42,18 +42,18 @@ pub record IsReadTo (t : List (List (List ℕ))) (n : ℕ) (groups : List Group)
   pub are : groups ≡ groups_at t (firsts t n)
   pub size : length rows ≡ length groups
   pub apart : AreApart groups
-  pub lines : (k : ℕ) → k < length groups → (rows_at rows k).line ≡ slice_index (firsts t n) k + 2
-  pub each : (k : ℕ) → k < length groups → (rows_at rows k).outcomes ≡ outcomes t n (group_in groups k)
-  pub some : (k : ℕ) → k < length groups → 0 < length (rows_at rows k).outcomes
-  pub absent : (group : Group) → place_of group groups ≡ None → outcomes t n group ≡ []
+  pub lines : (k : ℕ) → k < length groups → (group_rows_at rows k).line ≡ slice_index (firsts t n) k + 2
+  pub each : (k : ℕ) → k < length groups → (group_rows_at rows k).outcomes ≡ group_outcomes t n (group_in groups k)
+  pub some : (k : ℕ) → k < length groups → 0 < length (group_rows_at rows k).outcomes
+  pub absent : (group : Group) → place_of group groups ≡ None → group_outcomes t n group ≡ []
 
 abbrev pub line_at : List GroupRows → ℕ → ℕ
-line_at rows k = (rows_at rows k).line
+line_at rows k = (group_rows_at rows k).line
 
 -- groups that were read without a fault, and their outcomes
 pub record IsRead (groups : List Group) (rows : List GroupRows) : Type 0 where
   pub size : length rows ≡ length groups
   pub apart : AreApart groups
-  pub some : (k : ℕ) → k < length groups → 0 < length (rows_of groups rows (group_in groups k))
-  pub starts : (group : Group) → IsStart (rows_of groups rows group)
+  pub some : (k : ℕ) → k < length groups → 0 < length (read_outcomes groups rows (group_in groups k))
+  pub starts : (group : Group) → IsStart (read_outcomes groups rows group)
   pub types : (k : ℕ) → k < length groups → IfSome (group_in groups k).class (λ route. route < end_of_types)

@@ -6,7 +6,7 @@ ghost use Rattle.plan_model.specs.NameLists.{IsTrimmed};
 ghost use Rattle.clock_text.specs.Digits.{whole_of};
 ghost use Rattle.plan_model.specs.Bounds.{seconds_per_day};
 ghost use Rattle.delay_table.specs.Bounds.{whole_weight};
-ghost use Rattle.delay_table.specs.Delays.{class_in, hour_in, not_zero, route_in, class_name, lacks, line_of, line_at, missing_column};
+ghost use Rattle.delay_table.specs.Delays.{class_in, hour_in, not_zero, route_in, class_name, lacks, line_from, line_at, missing_column};
 ghost use Rattle.delay_table.specs.Lines.{AreColumns};
 
 use crate::faults::{ClassName, DelayFault};
@@ -145,7 +145,7 @@ fn read_line<'a>(
     ensures { option_map (λ l. record {
       group = record { class = l.class; route = option_map (λ s. s.now) l.route; hour = l.hour };
       outcome = l.outcome;
-    }) result ≡ line_of class.now delay.now weight.now route.now hour.now }
+    }) result ≡ line_from class.now delay.now weight.now route.now hour.now }
 {
     let class = read_class(class)?;
     let delay = read_whole(delay, SECONDS_PER_DAY)?;

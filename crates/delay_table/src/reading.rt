@@ -7,7 +7,7 @@ ghost use Rattle.plan_model.specs.NameLists.{IsTrimmed};
 ghost use Rattle.delay_table.specs.Groups.{group_in, of_class, place_of};
 ghost use Rattle.delay_table.specs.Delays.{fault_after, line_fault, line_with, too_many};
 ghost use Rattle.delay_table.specs.Lines.{AreColumns};
-ghost use Rattle.delay_table.specs.Read.{AddsRow, IsPushed, IsRead, IsReadTo, line_at, rows_at, rows_of};
+ghost use Rattle.delay_table.specs.Read.{AddsRow, IsPushed, IsRead, IsReadTo, line_at, group_rows_at, read_outcomes};
 
 use crate::faults::DelayFault;
 use crate::groups::Groups;
@@ -68,7 +68,7 @@ fn fault_after(earlier: &[Outcome], line: &DelayLine<'_>, number: u64) -> Option
 /// The outcomes of the group at a place.
 fn outcomes_at(rows: &[GroupRows], place: usize) -> &[Outcome]
     requires { place < length rows.now }
-    ensures { result.now ≡ (rows_at rows.now place).outcomes }
+    ensures { result.now ≡ (group_rows_at rows.now place).outcomes }
 {
     rows[place].outcomes.as_slice()
 }
@@ -78,13 +78,13 @@ impl ReadRows {
     fn push(&mut self, place: usize, line: &DelayLine<'_>, number: u64) -> Result<(), DelayFault>
         requires { place < length self.old.rows.items }
         ensures groups { self.new.groups ≡ self.old.groups }
-        ensures none { OnOk result (fault_after (rows_at self.old.rows.items place).outcomes
+        ensures none { OnOk result (fault_after (group_rows_at self.old.rows.items place).outcomes
             (line_with line.now.class (option_map (λ s. s.now) line.now.route)
             line.now.hour line.now.outcome) number ≡ None) }
         ensures pushed { OnOk result
             (IsPushed self.old.rows.items self.new.rows.items place line.now.outcome) }
         ensures err { IfErr result (λ f. f ≢ DelayFault.NoMemory
-            → fault_after (rows_at self.old.rows.items place).outcomes
+            → fault_after (group_rows_at self.old.rows.items place).outcomes
             (line_with line.now.class (option_map (λ s. s.now) line.now.route)
             line.now.hour line.now.outcome) number ≡ Some f) }
     {
@@ -125,7 +125,7 @@ impl ReadRows {
     fn add(&mut self, alloc: Global, line: &DelayLine<'_>, number: u64) -> Result<(), DelayFault>
         requires size { length self.old.rows.items ≡ length self.old.groups }
         requires trimmed { IfSome line.now.route (λ s. IsTrimmed s.now) }
-        ensures none { OnOk result (fault_after (rows_of self.old.groups self.old.rows.items
+        ensures none { OnOk result (fault_after (read_outcomes self.old.groups self.old.rows.items
             (line_with line.now.class (option_map (λ s. s.now) line.now.route)
             line.now.hour line.now.outcome).group)
             (line_with line.now.class (option_map (λ s. s.now) line.now.route)
@@ -134,7 +134,7 @@ impl ReadRows {
             (line_with line.now.class (option_map (λ s. s.now) line.now.route)
             line.now.hour line.now.outcome) number self.new.groups self.new.rows.items) }
         ensures err { IfErr result (λ f. f ≢ DelayFault.NoMemory
-            → fault_after (rows_of self.old.groups self.old.rows.items
+            → fault_after (read_outcomes self.old.groups self.old.rows.items
             (line_with line.now.class (option_map (λ s. s.now) line.now.route)
             line.now.hour line.now.outcome).group)
             (line_with line.now.class (option_map (λ s. s.now) line.now.route)
@@ -172,7 +172,7 @@ impl ReadRows {
     /// The outcomes of a class alone, none where it is not named.
     pub(crate) fn class_rows(&self, class: Option<u16>) -> &[Outcome]
         requires { length self.now.rows.items ≡ length self.now.groups }
-        ensures { result.now ≡ rows_of self.now.groups self.now.rows.items (of_class class) }
+        ensures { result.now ≡ read_outcomes self.now.groups self.now.rows.items (of_class class) }
     {
         match self.groups.place(class, None, None) {
             Some(place) => outcomes_at(self.rows.as_slice(), place),
@@ -184,7 +184,7 @@ impl ReadRows {
     pub(crate) fn group_rows(&self, place: usize) -> &[Outcome]
         requires place { place < length self.now.groups }
         requires read { IsRead self.now.groups self.now.rows.items }
-        ensures { result.now ≡ rows_of self.now.groups self.now.rows.items (group_in self.now.groups place) }
+        ensures { result.now ≡ read_outcomes self.now.groups self.now.rows.items (group_in self.now.groups place) }
     {
         outcomes_at(self.rows.as_slice(), place)
     }

@@ -3,7 +3,7 @@ ghost use Rattle.std.specs.Prelude.{◌≡◌, ◌<◌, ◌≤◌, length, sum_b
 ghost use Rattle.csv_rows.specs.First.{first_below};
 ghost use Rattle.delay_table.specs.Bounds.{end_of_types, most_rows};
 ghost use Rattle.delay_table.specs.Delays.{class_sum, group_sum_at, groups_fault, named, no_default_of, other_sum, too_many_classes, type_sum_at};
-ghost use Rattle.delay_table.specs.Read.{IsRead, line_at, rows_of};
+ghost use Rattle.delay_table.specs.Read.{IsRead, line_at, read_outcomes};
 
 use crate::faults::DelayFault;
 use crate::lines::class_name;
@@ -46,7 +46,7 @@ fn other_sum(row: &[Outcome]) -> Option<u32>
 /// The fault of a class alone.
 fn class_sum(read: &ReadRows, class: Option<u16>) -> Option<DelayFault>
     requires { IsRead read.now.groups read.now.rows.items }
-    ensures { result ≡ class_sum (rows_of read.now.groups read.now.rows.items) class }
+    ensures { result ≡ class_sum (read_outcomes read.now.groups read.now.rows.items) class }
 {
     match other_sum(read.class_rows(class)) {
         None => None,
@@ -57,7 +57,7 @@ fn class_sum(read: &ReadRows, class: Option<u16>) -> Option<DelayFault>
 /// The first fault of these route types.
 fn type_fault(read: &ReadRows, types: &[u16]) -> Option<DelayFault>
     requires { IsRead read.now.groups read.now.rows.items }
-    ensures { result ≡ first_below (type_sum_at (rows_of read.now.groups read.now.rows.items) types.now)
+    ensures { result ≡ first_below (type_sum_at (read_outcomes read.now.groups read.now.rows.items) types.now)
         (length types.now) }
 {
     for place in 0..types.len() {
@@ -72,7 +72,7 @@ fn type_fault(read: &ReadRows, types: &[u16]) -> Option<DelayFault>
 fn group_sum(read: &ReadRows, place: usize) -> Option<DelayFault>
     requires place { place < length read.now.groups }
     requires read { IsRead read.now.groups read.now.rows.items }
-    ensures { result ≡ group_sum_at (rows_of read.now.groups read.now.rows.items)
+    ensures { result ≡ group_sum_at (read_outcomes read.now.groups read.now.rows.items)
         read.now.groups (line_at read.now.rows.items) place }
 {
     if read.groups.is_plain(place) {
@@ -88,7 +88,7 @@ fn group_sum(read: &ReadRows, place: usize) -> Option<DelayFault>
 /// The first fault of the groups that name a route or an hour.
 fn group_fault(read: &ReadRows) -> Option<DelayFault>
     requires { IsRead read.now.groups read.now.rows.items }
-    ensures { result ≡ first_below (group_sum_at (rows_of read.now.groups read.now.rows.items)
+    ensures { result ≡ first_below (group_sum_at (read_outcomes read.now.groups read.now.rows.items)
         read.now.groups (line_at read.now.rows.items)) (length read.now.groups) }
 {
     for place in 0..read.groups.len() {
@@ -122,8 +122,8 @@ fn too_many(count: u64) -> Option<DelayFault>
 /// The first fault of the groups, where these are the route types that are named.
 pub(crate) fn groups_fault(read: &ReadRows, types: &[u16]) -> Option<DelayFault>
     requires read { IsRead read.now.groups read.now.rows.items }
-    requires types { types.now ≡ named (rows_of read.now.groups read.now.rows.items) end_of_types }
-    ensures { result ≡ groups_fault (rows_of read.now.groups read.now.rows.items)
+    requires types { types.now ≡ named (read_outcomes read.now.groups read.now.rows.items) end_of_types }
+    ensures { result ≡ groups_fault (read_outcomes read.now.groups read.now.rows.items)
         read.now.groups (line_at read.now.rows.items) }
 {
     if let Some(fault) = too_many(read.groups.len() as u64) {

@@ -2,9 +2,9 @@
 ghost use Rattle.std.specs.Prelude.{ℕ, ◌≡◌, ◌≢◌, ◌<◌, ◌≤◌, ◌++◌, ◌∷◌, [], length, map, slice_index_or, option_map, Some, None, All, Any, OnOk, IfOk, IfErr, IfSome};
 ghost use Rattle.delay_table.specs.DelayLists.{class_for, hour_of, other_class, route_class, type_class};
 ghost use Rattle.delay_table.specs.Bounds.{end_of_types, most_groups};
-ghost use Rattle.delay_table.specs.Delays.{class_rows, class_type, delays_in, delays_of, first_fault, groups_fault, groups_of, if_other, named, others, type_rows};
+ghost use Rattle.delay_table.specs.Delays.{class_rows, class_type, delays_in, delays_of, first_delay_fault, groups_fault, groups_of, if_other, named, others, type_rows};
 ghost use Rattle.delay_table.specs.Groups.{group_in, place_of, plain_types};
-ghost use Rattle.delay_table.specs.Read.{IsRead, line_at, rows_of};
+ghost use Rattle.delay_table.specs.Read.{IsRead, line_at, read_outcomes};
 ghost use Rattle.delay_table.specs.Slots.{IsClassOf, AreDelays};
 
 use crate::faults::{ClassName, DelayFault};
@@ -65,7 +65,7 @@ fn add_types(
 ) -> Result<(), NoMemory>
     requires { IsRead read.now.groups read.now.rows.items }
     ensures { OnOk result (classes.new
-        ≡ classes.old ++ map (type_rows (rows_of read.now.groups read.now.rows.items)) types.now) }
+        ≡ classes.old ++ map (type_rows (read_outcomes read.now.groups read.now.rows.items)) types.now) }
 {
     for route_type in types {
         let copy = copied(alloc, read.class_rows(Some(*route_type)))?;
@@ -82,8 +82,8 @@ fn type_classes(
 ) -> Result<List<List<Outcome>>, NoMemory>
     requires { IsRead read.now.groups read.now.rows.items }
     ensures { IfOk result (λ classes. classes
-        ≡ class_rows (rows_of read.now.groups read.now.rows.items) None
-        ∷ map (type_rows (rows_of read.now.groups read.now.rows.items)) types.now) }
+        ≡ class_rows (read_outcomes read.now.groups read.now.rows.items) None
+        ∷ map (type_rows (read_outcomes read.now.groups read.now.rows.items)) types.now) }
 {
     let mut classes: List<List<Outcome>> = List::new(alloc);
     let default = copied(alloc, read.class_rows(None))?;
@@ -107,7 +107,7 @@ fn add_other(
         ++ if_other (group_in read.now.groups place) (group_in read.now.groups place)) }
     ensures classes { OnOk result (classes.new ≡ classes.old
         ++ if_other (group_in read.now.groups place)
-        (rows_of read.now.groups read.now.rows.items (group_in read.now.groups place))) }
+        (read_outcomes read.now.groups read.now.rows.items (group_in read.now.groups place))) }
 {
     if !read.groups.is_plain(place) {
         groups.add_from(alloc, &read.groups, place)?;
@@ -127,7 +127,7 @@ fn add_others(
     ensures groups { IfOk result (λ groups. groups
         ≡ others read.now.groups (length read.now.groups)) }
     ensures classes { OnOk result (classes.new ≡ classes.old
-        ++ map (rows_of read.now.groups read.now.rows.items)
+        ++ map (read_outcomes read.now.groups read.now.rows.items)
         (others read.now.groups (length read.now.groups))) }
 {
     let mut groups = Groups::with_key(alloc, read.groups.key());
@@ -140,14 +140,14 @@ fn add_others(
 /// The table of these outcomes, where these are the route types that are named.
 fn delays_in(alloc: Global, read: &ReadRows, types: Vec<u16>) -> Result<DelayTable, NoMemory>
     requires read { IsRead read.now.groups read.now.rows.items }
-    requires types { types.items ≡ named (rows_of read.now.groups read.now.rows.items) end_of_types }
+    requires types { types.items ≡ named (read_outcomes read.now.groups read.now.rows.items) end_of_types }
     requires size { length types.items
         ≡ length (plain_types read.now.groups (length read.now.groups)) }
-    requires sound { groups_fault (rows_of read.now.groups read.now.rows.items)
+    requires sound { groups_fault (read_outcomes read.now.groups read.now.rows.items)
         read.now.groups (line_at read.now.rows.items) ≡ None }
     ensures table { IfOk result (λ table.
-        table ≡ delays_in (rows_of read.now.groups read.now.rows.items) read.now.groups) }
-    ensures size { OnOk result (length (delays_in (rows_of read.now.groups read.now.rows.items)
+        table ≡ delays_in (read_outcomes read.now.groups read.now.rows.items) read.now.groups) }
+    ensures size { OnOk result (length (delays_in (read_outcomes read.now.groups read.now.rows.items)
         read.now.groups).classes ≡ length read.now.groups) }
 {
     let mut classes = type_classes(alloc, read, types.as_slice())?;
@@ -163,14 +163,14 @@ fn delays_in(alloc: Global, read: &ReadRows, types: Vec<u16>) -> Result<DelayTab
 fn table_of(alloc: Global, read: &ReadRows) -> Result<DelayTable, DelayFault>
     requires { IsRead read.now.groups read.now.rows.items }
     ensures table { IfOk result (λ table.
-        table ≡ delays_in (rows_of read.now.groups read.now.rows.items) read.now.groups) }
+        table ≡ delays_in (read_outcomes read.now.groups read.now.rows.items) read.now.groups) }
     ensures sound { IfOk result (λ table. AreDelays table) }
-    ensures none { OnOk result (groups_fault (rows_of read.now.groups read.now.rows.items)
+    ensures none { OnOk result (groups_fault (read_outcomes read.now.groups read.now.rows.items)
         read.now.groups (line_at read.now.rows.items) ≡ None) }
-    ensures size { OnOk result (length (delays_in (rows_of read.now.groups read.now.rows.items)
+    ensures size { OnOk result (length (delays_in (read_outcomes read.now.groups read.now.rows.items)
         read.now.groups).classes ≡ length read.now.groups) }
     ensures fault { IfErr result (λ f. f ≢ DelayFault.NoMemory
-        → groups_fault (rows_of read.now.groups read.now.rows.items)
+        → groups_fault (read_outcomes read.now.groups read.now.rows.items)
         read.now.groups (line_at read.now.rows.items) ≡ Some f) }
     ensures count { IfErr result (λ f. (n : ℕ) → f ≡ DelayFault.TooManyClasses n
         → (n ≡ length read.now.groups) × (most_groups < n)) }
@@ -212,8 +212,8 @@ impl DelayTable {
     pub fn read(alloc: Global, rows: &Rows) -> Result<DelayTable, DelayFault>
         ensures table { IfOk result (λ table. table ≡ delays_of rows.now) }
         ensures sound { IfOk result (λ table. AreDelays table) }
-        ensures none { OnOk result (first_fault rows.now ≡ None) }
-        ensures fault { IfErr result (λ f. f ≢ DelayFault.NoMemory → first_fault rows.now ≡ Some f) }
+        ensures none { OnOk result (first_delay_fault rows.now ≡ None) }
+        ensures fault { IfErr result (λ f. f ≢ DelayFault.NoMemory → first_delay_fault rows.now ≡ Some f) }
         ensures count { IfErr result (λ f. (n : ℕ) → f ≡ DelayFault.TooManyClasses n
             → (n ≡ length (groups_of rows.now)) × (most_groups < n)) }
         ensures classes { OnOk result (length (delays_of rows.now).classes

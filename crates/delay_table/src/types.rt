@@ -3,7 +3,7 @@ ghost use Rattle.std.specs.Prelude.{◌≡◌, ◌<◌, ◌++◌, length, OnOk, 
 ghost use Rattle.delay_table.specs.Bounds.{end_of_types};
 ghost use Rattle.delay_table.specs.Delays.{named};
 ghost use Rattle.delay_table.specs.Groups.{group_in, listed, plain_type, plain_types};
-ghost use Rattle.delay_table.specs.Read.{IsRead, rows_of};
+ghost use Rattle.delay_table.specs.Read.{IsRead, read_outcomes};
 
 use crate::groups::Groups;
 use crate::reading::ReadRows;
@@ -37,7 +37,7 @@ fn plain_types(alloc: Global, groups: &Groups) -> Result<Vec<u16>, NoMemory>
 pub(crate) fn named_types(alloc: Global, read: &ReadRows) -> Result<Vec<u16>, NoMemory>
     requires { IsRead read.now.groups read.now.rows.items }
     ensures named { IfOk result (λ types. types.items
-        ≡ named (rows_of read.now.groups read.now.rows.items) end_of_types) }
+        ≡ named (read_outcomes read.now.groups read.now.rows.items) end_of_types) }
     ensures size { IfOk result (λ types. length types.items
         ≡ length (plain_types read.now.groups (length read.now.groups))) }
 {

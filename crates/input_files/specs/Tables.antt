@@ -6,11 +6,11 @@ use Rattle.csv_rows.specs.Limits.{standard}
 use Rattle.csv_rows.specs.Tables.{table_of}
 use Rattle.cut_file.specs.declared.faults.CutFault.{CutFault}
 use Rattle.cut_file.specs.declared.faults.CutFault.TheVariants as cut
-use Rattle.cut_file.specs.Faults.{first_fault as first_cut_fault}
+use Rattle.cut_file.specs.Faults.{first_cut_fault}
 use Rattle.cut_file.specs.Read.{Cut as CutParts, IsRead}
 use Rattle.delay_table.specs.declared.faults.DelayFault.TheVariants as delay
 use Rattle.delay_table.specs.DelayLists.{DelayLists}
-use Rattle.delay_table.specs.Delays.{delays_of, first_fault as first_delay_fault}
+use Rattle.delay_table.specs.Delays.{delays_of, first_delay_fault}
 use Rattle.journey_model.specs.declared.faults.Input.{Input}
 use Rattle.journey_model.specs.declared.faults.Input.TheVariants as input
 use Rattle.journey_model.specs.declared.faults.LimitKind.TheVariants.{CutRows}

@@ -17,7 +17,7 @@ use Rattle.gtfs_tables.specs.Timed.{rows_of}
 use Rattle.service_days.specs.Services.{ServiceParts, runs}
 use Rattle.connections.specs.Joins.{join_below, sum_below}
 use Rattle.connections.specs.Window.{day_at, window_of}
-use Rattle.connections.specs.TripRuns.{frequencies_of, runs_by, day_runs, runs_below, runs_in, run_at, days}
+use Rattle.connections.specs.TripRuns.{frequencies_of, runs_of_trip, day_runs, runs_below, window_runs, run_at, days}
 use Rattle.connections.specs.Counts.{runs_sum, day_sum, days_sum, window_sum}
 use Rattle.connections.specs.Networks.{start_text, IsRunName, AreRunNames, rides_below}
 use Rattle.connections.specs.Cut.{IsNetworkFrom, connection_count, entry_count}
@@ -27,11 +27,11 @@ abbrev pub SameDays : ServiceParts → ServiceParts → Type 0
 SameDays s t = (service : List ℕ) (day : ℤ) → runs s service day ≡ runs t service day
 
 -- the runs depend on the services by their days alone
-pub same_runs : (f : FeedParts) (s t : ServiceParts) (w : _) → SameDays s t → runs_in f s w ≡ runs_in f t w
+pub same_runs : (f : FeedParts) (s t : ServiceParts) (w : _) → SameDays s t → window_runs f s w ≡ window_runs f t w
 unfolding runs_below day_runs
 same_runs f s t w e =
     ap (λ (r : List ℕ → ℤ → Bool). join_below (λ d. join_below (λ trip.
-    if r (slice_index_or f.services trip []) (day_at w d).number then runs_by w (rows_of f trip) (frequencies_of f trip) (day_at w d) trip else [])
+    if r (slice_index_or f.services trip []) (day_at w d).number then runs_of_trip w (rows_of f trip) (frequencies_of f trip) (day_at w d) trip else [])
     (length f.trip_ids)) days)
     (fun_ext (λ x. fun_ext (e x)))
 
@@ -69,11 +69,11 @@ module _ (f : FeedParts) (s t : ServiceParts) (c d : ChangeParts) (lists : Delay
   pub one_window : (n m : NetworkModel) (names more : NameLists) → IsNetworkFrom f s c lists start horizon n names → IsNetworkFrom f t d lists start horizon m more → (n ≡ m) × (names ≡ more)
   one_window n m names more a b =
       let w = window_of start horizon in
-      let rs : runs_in f s w ≡ runs_in f t w = same_runs f s t w days in
+      let rs : window_runs f s w ≡ window_runs f t w = same_runs f s t w days in
       let connections : n.connections ≡ m.connections = a.connections ∙ ap (λ (x : _). rides_below f lists w x (length x)) rs ∙ sym b.connections in
       let change : n.change ≡ m.change = a.change_of_places ∙ ap (λ (g : ℕ → ℕ). list_below g (length f.stop_ids)) (fun_ext changes) ∙ sym b.change_of_places in
       let linked : n.links ≡ m.links = a.links_of_places ∙ ap (λ (g : ℕ → List Way). list_below g (length f.stop_ids)) (fun_ext links) ∙ sym b.links_of_places in
-      let named : names.runs ≡ more.runs = one_names f (runs_in f s w) (length (runs_in f s w)) names.runs more.runs a.runs
+      let named : names.runs ≡ more.runs = one_names f (window_runs f s w) (length (window_runs f s w)) names.runs more.runs a.runs
       (subst (λ (x : _). AreRunNames f x (length x) more.runs) (sym rs) b.runs) in (
         same_parts n m connections change (a.classes_of_delays ∙ sym b.classes_of_delays) linked,
         λ i. record { places = (a.places ∙ sym b.places) i; runs = named i },

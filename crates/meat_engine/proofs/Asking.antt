@@ -6,16 +6,17 @@ use Rattle.command_line.specs.Jobs.{WantedTimetable, WantedJourney, WantedAsk, S
 use Rattle.journey_model.specs.declared.faults.Input.{Input}
 use Rattle.journey_model.specs.declared.faults.Input.TheVariants as input
 use Rattle.journey_model.specs.declared.faults.Fault.{Fault}
-use Rattle.journey_model.specs.declared.faults.Fault.TheVariants.{Read, NoMemory}
+use Rattle.journey_model.specs.declared.faults.Fault.TheVariants.{Read, NoSafe, NoMemory}
 use Rattle.journey_model.specs.Faults.{unread_of}
 use Rattle.journey_model.specs.Sites.{NamedParts, IsTellable}
-use Rattle.journey_model.specs.Stages.{stage_of_input, IsEarlyStage, IsOfInput, AtOutcome}
+use Rattle.journey_model.specs.Stages.{IsEarlyStage}
 use Rattle.journey_model.proofs.Sited.{tellable}
 use Rattle.journey_model.specs.declared.problem.Problem.{Problem}
 use Rattle.input_files.specs.EarlyFaults.{IsEarly}
 use Rattle.input_files.specs.Files.{RoseAt, path_of, HasCauses}
 use Rattle.meat_engine.specs.declared.refusal.Refusal.{Refusal}
-use Rattle.plan_answers.specs.Answers.{FailsIn, IsNoSafe}
+use Rattle.journey_model.specs.Wants.{OrNoMemory}
+use Rattle.file_answers.specs.Paths.{graph_path, proof_path}
 use Rattle.meat_engine.specs.Asks.{own_paths}
 use Rattle.journey_model.specs.Known.{parts_of}
 use Rattle.meat_engine.specs.Refusals.{IsRefusalBy}
@@ -24,35 +25,24 @@ use Rattle.meat_engine.specs.Refusals.{IsRefusalBy}
 pub early_tellable : (known : Option NamedParts) (timetable : WantedTimetable) (fault : Fault) → IsEarly timetable fault → IsTellable known fault
 early_tellable known timetable fault early = tellable known fault (λ at. subst IsEarlyStage at early.stage)
 
-of_no_input : (file : Input) → AtOutcome ≡ stage_of_input file → ⊥
-of_no_input (input.Feed table) same = cc
-of_no_input input.Cut same = cc
-of_no_input input.Delays same = cc
-of_no_input input.Graph same = cc
-of_no_input input.Proof same = cc
+-- nor is that there are no strategies: what is told where it fails only as no strategy is safe, or for want of memory
+pub record IsUnsafeTold (Fails : Fault → Type 0) (known : Option NamedParts) (fault : Fault) : Type 0 where
+  pub why : fault ≢ NoMemory → Fails fault
+  pub tellable : IsTellable known fault
+  pub unread : unread_of fault ≡ None
 
-tellable_or : (known : Option NamedParts) (file : Input) (fault : Fault) → (fault ≡ NoMemory) ⊎ (fault ≢ NoMemory) → (fault ≢ NoMemory → IsOfInput file fault) → IsTellable known fault
-tellable_or known file fault (inl is) of = subst (IsTellable known) (sym is) tt
-tellable_or known file fault (inr other) of = tellable known fault (λ at. of_no_input file (sym at ∙ (of other).0))
-
--- a fault of an input is at no site
-pub input_tellable : (known : Option NamedParts) (file : Input) (fault : Fault) → (fault ≢ NoMemory → IsOfInput file fault) → IsTellable known fault
-input_tellable known file NoMemory of = tt
-input_tellable known file fault of = tellable_or known file fault (inr (λ same. absurd (cc))) of
-
--- nor is that there are no strategies
-module _ (p : Problem) (start : ℕ) (fault : Fault) where
-  pub fails_tellable : (known : Option NamedParts) → FailsIn p start fault → IsTellable known fault
-  fails_tellable known (inl (is, none)) = subst (IsTellable known) (sym is) tt
-  fails_tellable known (inr memory) = subst (IsTellable known) (sym memory) tt
-
-  pub fails_unread : FailsIn p start fault → unread_of fault ≡ None
-  fails_unread (inl (is, none)) = ap unread_of is
-  fails_unread (inr memory) = ap unread_of memory
-
-  pub fails_safe : FailsIn p start fault → fault ≢ NoMemory → IsNoSafe p start fault
-  fails_safe (inl no_safe) other = no_safe
-  fails_safe (inr memory) other = absurd (other memory)
+pub unsafe_told : (Fails : Fault → Type 0) → ((fault : Fault) → Fails fault → fault ≡ NoSafe) → (known : Option NamedParts) (fault : Fault)
+    → OrNoMemory Fails fault → IsUnsafeTold Fails known fault
+unsafe_told Fails unsafe known fault (inl why) = record {
+  why = λ other. why;
+  tellable = subst (IsTellable known) (sym (unsafe fault why)) tt;
+  unread = ap unread_of (unsafe fault why);
+}
+unsafe_told Fails unsafe known fault (inr memory) = record {
+  why = λ other. absurd (other memory);
+  tellable = subst (IsTellable known) (sym memory) tt;
+  unread = ap unread_of memory;
+}
 
 -- a refusal before there is a problem
 pub plain_refusal : (cause : Option NamedParts → Fault → Type 0) (r : Refusal) (fault : Fault) → r.fault ≡ fault → r.problem ≡ None → IsTellable None fault
@@ -83,27 +73,31 @@ causes-paths r rises h = record {
 }
 
 -- the paths that an ask has are those of its job beside the files of the journey
+beside_graph : (graph : List ℕ) (j : WantedJourney) (before_of now_of : List ℕ → ℕ) (file : Input) → RoseAt (graph_path graph file) before_of now_of
+    → RoseAt (path_of j (graph_path graph) file) before_of now_of
+beside_graph graph j before_of now_of (input.Feed table) rose = absurd rose
+beside_graph graph j before_of now_of input.Cut rose = absurd rose
+beside_graph graph j before_of now_of input.Delays rose = absurd rose
+beside_graph graph j before_of now_of input.Graph rose = rose
+beside_graph graph j before_of now_of input.Proof rose = absurd rose
+
+beside_proof : (proof : List ℕ) (j : WantedJourney) (before_of now_of : List ℕ → ℕ) (file : Input) → RoseAt (proof_path proof file) before_of now_of
+    → RoseAt (path_of j (proof_path proof) file) before_of now_of
+beside_proof proof j before_of now_of (input.Feed table) rose = absurd rose
+beside_proof proof j before_of now_of input.Cut rose = absurd rose
+beside_proof proof j before_of now_of input.Delays rose = absurd rose
+beside_proof proof j before_of now_of input.Graph rose = absurd rose
+beside_proof proof j before_of now_of input.Proof rose = rose
+
 pub beside : (ask : WantedAsk) (j : WantedJourney) (before_of now_of : List ℕ → ℕ) (file : Input) → RoseAt (own_paths ask file) before_of now_of
     → RoseAt (path_of j (own_paths ask) file) before_of now_of
 beside (Safe alpha) j before_of now_of file rose = absurd rose
 beside (Expand alpha) j before_of now_of file rose = absurd rose
 beside (Plan alpha) j before_of now_of file rose = absurd rose
+beside (Replay graph late) j before_of now_of file rose = beside_graph graph j before_of now_of file rose
+beside (Certify alpha) j before_of now_of file rose = absurd rose
+beside (CheckProof proof) j before_of now_of file rose = beside_proof proof j before_of now_of file rose
+beside (CheckGraph graph) j before_of now_of file rose = beside_graph graph j before_of now_of file rose
 beside (Punctual alpha promise) j before_of now_of file rose = absurd rose
 beside (Departures until last) j before_of now_of file rose = absurd rose
 beside (Latest until) j before_of now_of file rose = absurd rose
-beside (Replay graph late) j before_of now_of (input.Feed table) rose = absurd rose
-beside (Replay graph late) j before_of now_of input.Cut rose = absurd rose
-beside (Replay graph late) j before_of now_of input.Delays rose = absurd rose
-beside (Replay graph late) j before_of now_of input.Graph rose = rose
-beside (Replay graph late) j before_of now_of input.Proof rose = absurd rose
-beside (Certify alpha) j before_of now_of file rose = absurd rose
-beside (CheckGraph graph) j before_of now_of (input.Feed table) rose = absurd rose
-beside (CheckGraph graph) j before_of now_of input.Cut rose = absurd rose
-beside (CheckGraph graph) j before_of now_of input.Delays rose = absurd rose
-beside (CheckGraph graph) j before_of now_of input.Graph rose = rose
-beside (CheckGraph graph) j before_of now_of input.Proof rose = absurd rose
-beside (CheckProof proof) j before_of now_of (input.Feed table) rose = absurd rose
-beside (CheckProof proof) j before_of now_of input.Cut rose = absurd rose
-beside (CheckProof proof) j before_of now_of input.Delays rose = absurd rose
-beside (CheckProof proof) j before_of now_of input.Graph rose = absurd rose
-beside (CheckProof proof) j before_of now_of input.Proof rose = rose

@@ -1,6 +1,7 @@
 -- What a run comes to.
 use Rattle.std.proofs.Common.{◌≡◌, ℕ, List, Option, Some, None, Ok, inl, inr, refl, ap, sym, subst, ⊎_elim, ◌∙◌}
 use Rattle.std.specs.Prelude.{◌≢◌, ◌⊎◌}
+use Rattle.std.proofs.lemmas.Option.{same_Some}
 use Rattle.std.specs.Io.KnownBytes.{Keeps}
 use Rattle.file_ports.specs.Ports.{FileMap}
 use Rattle.csv_rows.specs.declared.limits.Limits.{Limits}
@@ -23,7 +24,7 @@ use Rattle.journey_model.specs.declared.problem.Problem.{Problem}
 use Rattle.journey_report.specs.declared.report.Report.{Report}
 use Rattle.meat_engine.specs.Asks.{FailsAsk}
 use Rattle.journey_report.specs.Findings.{Findings, findings_of, no_findings}
-use Rattle.meat_engine.specs.Received.{Ending, Refused, ending_at, ending_of, AnswersJob, FailsJob, IsExplained, IsRefused, IsRefusedWith, IsWritten, IsWrittenBy, IsTold, Outcome, OutcomeBy}
+use Rattle.meat_engine.specs.Received.{Ending, Refused, ending_at, ending_of, AnswersJob, FailsJob, IsExplained, IsRefused, IsRefusedWith, IsWritten, IsWrittenBy, IsLineTold, Outcome, OutcomeBy}
 
 -- a fault of an input ends a run with nothing but the fault
 of_input : (file : Input) → ending_at (stage_of_input file) ≡ Refused
@@ -45,26 +46,7 @@ refused_ending (Limit kind count) other = of_limit kind
 refused_ending Write other = absurd (other refl)
 refused_ending _ other = refl
 
--- a fault that is told apart from the others
-unlike_safe : Write ≢ NoSafe
-unlike_safe same = absurd (cc)
-
-unlike_unsafe : (place : PlaceId) (moment : Moment) → Write ≢ Unsafe place moment
-unlike_unsafe place moment same = absurd (cc)
-
-unlike_trip : (stop : ReplayFault) → Write ≢ Replay stop
-unlike_trip stop same = absurd (cc)
-
-unlike_proof : (connection : ConnectionId) → Write ≢ ProofFails connection
-unlike_proof connection same = absurd (cc)
-
-later_than_graph : AtOutput ≢ AtGraphFile
-later_than_graph same = absurd (cc)
-
-later_than_proof : AtOutput ≢ AtProofFile
-later_than_proof same = absurd (cc)
-
-no_memory_or_not : (fault : Fault) → (fault ≡ NoMemory) ⊎ (fault ≢ NoMemory)
+pub no_memory_or_not : (fault : Fault) → (fault ≡ NoMemory) ⊎ (fault ≢ NoMemory)
 no_memory_or_not NoMemory = inl refl
 no_memory_or_not _ = inr (λ same. absurd (cc))
 
@@ -72,36 +54,27 @@ write_or_not : (fault : Fault) → (fault ≡ Write) ⊎ (fault ≢ Write)
 write_or_not Write = inl refl
 write_or_not _ = inr (λ same. absurd (cc))
 
-memory_unwritten : NoMemory ≢ Write
-memory_unwritten same = absurd (cc)
-
-some_not_none : (fault : Fault) → ◌≢◌ {A = Option Fault} (Some fault) None
-some_not_none fault same = absurd (cc)
-
-some_is : (a b : Fault) → ◌≡◌ {A = Option Fault} (Some a) (Some b) → a ≡ b
-some_is a b same = cc
-
 module _ (told : Option FileMap) (limits : Limits) (words : List (List ℕ)) where
   -- what is asked does not fail because its answer cannot be written
   ask_write : (start : ℕ) (p : Problem) (ask : WantedAsk) → FailsAsk told limits start p ask Write → ⊥
-  ask_write start p (Safe alpha) (is, none) = unlike_safe is
-  ask_write start p (Expand alpha) (is, none) = unlike_safe is
-  ask_write start p (Plan alpha) (is, none) = unlike_safe is
-  ask_write start p (CheckGraph graph) (inl of) = later_than_graph of.0.0
-  ask_write start p (CheckGraph graph) (inr (head, more, file, (place, moment, is, unsafe))) = unlike_unsafe place moment is
-  ask_write start p (Punctual alpha promise) (is, none) = unlike_safe is
-  ask_write start p (Departures until last) (is, none) = unlike_safe is
-  ask_write start p (Latest until) (is, none) = unlike_safe is
-  ask_write start p (Replays graph late) (inl of) = later_than_graph of.0.0
-  ask_write start p (Replays graph late) (inr (head, more, file, trip)) = unlike_trip trip.stop trip.fault_is
-  ask_write start p (Certify alpha) (is, none) = unlike_safe is
-  ask_write start p (CheckProof proof) (inl of) = later_than_proof of.0.0
-  ask_write start p (CheckProof proof) (inr (q, bounds, file, (connection, is, last))) = unlike_proof connection is
+  ask_write start p (Safe alpha) (is, none) = cc
+  ask_write start p (Expand alpha) (is, none) = cc
+  ask_write start p (Plan alpha) (is, none) = cc
+  ask_write start p (Replays graph late) (inl of) = cc of.0.0
+  ask_write start p (Replays graph late) (inr (head, more, file, trip)) = cc trip.fault_is
+  ask_write start p (Certify alpha) (is, none) = cc
+  ask_write start p (CheckProof proof) (inl of) = cc of.0.0
+  ask_write start p (CheckProof proof) (inr (q, bounds, file, (connection, is, last))) = cc
+  ask_write start p (CheckGraph graph) (inl of) = cc of.0.0
+  ask_write start p (CheckGraph graph) (inr (head, more, file, (place, moment, is, unsafe))) = cc
+  ask_write start p (Punctual alpha promise) (is, none) = cc
+  ask_write start p (Departures until last) (is, none) = cc
+  ask_write start p (Latest until) (is, none) = cc
 
   pub write_fails : (wanted : Wanted) (known : Option NamedParts) → FailsJob told limits wanted known Write → ⊥
   write_fails (Ask j ask) known (inl (p, sound, problem, (is, why))) = ask_write j.start p ask why
   write_fails (Ask j ask) known (inr early) = early.0.stage
-  write_fails (Sample size) known (read, (files, same, inl (p, sound, problem, (is, why)))) = unlike_safe why.0
+  write_fails (Sample size) known (read, (files, same, inl (p, sound, problem, (is, why)))) = cc why.0
   write_fails (Sample size) known (read, (files, same, inr early)) = early.0.stage
 
   -- why a job fails is why there is no answer to its words
@@ -119,14 +92,14 @@ module _ (told : Option FileMap) (limits : Limits) (words : List (List ℕ)) whe
   pub refused_outcome : (report : Report) (old new before after : Option (List ℕ)) (was now : ℕ) (known : Option NamedParts) (wanted : Fault) (found : Option Fault)
       → findings_of report ≡ no_findings → Keeps old new
       → IsExplained told limits words known wanted → wanted ≢ Write → IsRefusedWith before after was now known wanted found
-      → Outcome told limits words report old new (IsTold before after was now) found
+      → Outcome told limits words report old new (IsLineTold before after was now) found
   refused_outcome report old new before after was now known wanted None findings keeps cause other refused = absurd refused
   refused_outcome report old new before after was now known wanted (Some fault) findings keeps cause other (same, line) =
       ⊎_elim
-      (λ (is : fault ≡ wanted). outcome_by report old new (IsTold before after was now) fault (λ write. other (sym is ∙ write)) keeps
+      (λ (is : fault ≡ wanted). outcome_by report old new (IsLineTold before after was now) fault (λ write. other (sym is ∙ write)) keeps
       (findings, (known, subst (IsExplained told limits words known) (sym is) cause, line)))
       (λ (is : (fault ≡ NoMemory) × IsFormatted wanted).
-      outcome_by report old new (IsTold before after was now) fault (λ write. memory_unwritten (sym is.0 ∙ write)) keeps
+      outcome_by report old new (IsLineTold before after was now) fault (λ write. let never : NoMemory ≡ Write = sym is.0 ∙ write in cc) keeps
       (findings, (known, inl is.0, line)))
       same
 
@@ -152,26 +125,20 @@ module _ (told : Option FileMap) (limits : Limits) (words : List (List ℕ)) whe
 module _ (before after : Option (List ℕ)) (was now : ℕ) (known : Option NamedParts) where
   pub refused_some : (wanted : Fault) (found : Option Fault) → IsRefusedWith before after was now known wanted found → found ≡ None → ⊥
   refused_some wanted None refused none = refused
-  refused_some wanted (Some fault) refused none = some_not_none fault none
+  refused_some wanted (Some fault) refused none = cc
 
   -- what was told is the fault, or that there is no memory for its line
   pub refused_is : (wanted : Fault) (found : Option Fault) (fault : Fault) → IsRefusedWith before after was now known wanted found → found ≡ Some fault → (fault ≡ wanted)
       ⊎ ((fault ≡ NoMemory) × IsFormatted wanted)
-  refused_is wanted None fault refused is = absurd (some_not_none fault (sym is))
+  refused_is wanted None fault refused is = absurd refused
   refused_is wanted (Some other) fault refused is =
-      subst (λ (f : Fault). (f ≡ wanted) ⊎ ((f ≡ NoMemory) × IsFormatted wanted)) (some_is other fault is) refused.0
+      subst (λ (f : Fault). (f ≡ wanted) ⊎ ((f ≡ NoMemory) × IsFormatted wanted)) (same_Some other fault is) refused.0
 
   -- a file that cannot be read is always told
   pub refused_read : (wanted : Fault) (found : Option Fault) (file : Input) → IsRefusedWith before after was now known wanted found → wanted ≡ Read file → found ≡ Some (Read file)
   refused_read wanted None file refused is = absurd refused
   refused_read wanted (Some fault) file refused is =
       ⊎_elim (λ (same : fault ≡ wanted). ap (λ (f : Fault). Some f) (same ∙ is)) (λ (none : (fault ≡ NoMemory) × IsFormatted wanted). absurd (subst IsFormatted is none.1)) refused.0
-
-  -- a refusal of words tells of no file and of no writing
-  pub words_told : (wanted : Fault) (words : WordsFault) (found : Option Fault) (fault : Fault) → wanted ≡ Words words → IsRefusedWith before after was now known wanted found
-      → found ≡ Some fault → (fault ≡ Words words) ⊎ (fault ≡ NoMemory)
-  words_told wanted words found fault is refused told =
-      ⊎_elim (λ (same : fault ≡ wanted). inl (same ∙ is)) (λ (none : (fault ≡ NoMemory) × IsFormatted wanted). inr none.0) (refused_is wanted found fault refused told)
 
 pub keeps_same : (o : Option (List ℕ)) → Keeps o o
 keeps_same None = tt

@@ -22,7 +22,8 @@ use Rattle.journey_report.specs.Findings.{findings_of}
 use Rattle.meat_engine.specs.Received.{Outcome}
 use Rattle.meat_engine.specs.Samples.{sample_journey, sample_alpha, FailsSample}
 use Rattle.meat_engine.proofs.Ended.{asked_ends, answers_end, EndsOver, ends_in, fails_over}
-use Rattle.meat_engine.proofs.Undisturbed.{memory_or, fails, answered}
+use Rattle.meat_engine.proofs.Outcomes.{no_memory_or_not}
+use Rattle.meat_engine.proofs.Undisturbed.{fails, answered}
 
 -- what a journey comes to over told files: its question ends over a problem, or its files have a fault, or there was no memory
 abbrev Comes : Limits → FileMap → WantedJourney → WantedAsk → Option Fault → Type 0
@@ -49,7 +50,7 @@ module _ (limits : Limits) (files : FileMap) (words : List (List ℕ)) (report :
       let r = answered (Some files) limits words report old new Tells o (Ask j a) h in
       let w = r.1 in
       inl (w.0, w.2, answers_end limits files j.start w.0 a (findings_of report) r.0 w.3)
-  comes (Some fault) h o calm = fault_comes fault h o calm (memory_or fault)
+  comes (Some fault) h o calm = fault_comes fault h o calm (no_memory_or_not fault)
 
 module _ (limits : Limits) (files : FileMap) (j : WantedJourney) (a : WantedAsk) (fault : Option Fault) (status : ℕ) (is : status ≡ status_of fault) (calm : IsUndisturbed fault) where
   problem_status : (p : Problem) → IsProblem limits files j p → Comes limits files j a fault → EndsAsk limits files j.start p a status ⊎ (status ≡ 9)
@@ -93,7 +94,7 @@ module _ (told : Option FileMap) (limits : Limits) (words : List (List ℕ)) (re
       let ends : EndsBySafety v.0 sample_journey.start 0 = asked_ends v.0 sample_journey.start sample_alpha v.3.0 v.3.1 v.3.2 in
       inl (subst (EndsBySafety p sample_journey.start) (sym is)
       (ends_in limits w.0 sample_journey (Plan sample_alpha) p 0 (over_made limits size w.0 p w.1 one) (v.0, v.2, ends)))
-  sample_status (Some fault) h one o calm is = sample_fault fault h one o calm is (memory_or fault)
+  sample_status (Some fault) h one o calm is = sample_fault fault h one o calm is (no_memory_or_not fault)
 
 module _ (told : Option FileMap) (limits : Limits) (words : List (List ℕ)) (report : Report) (old new : Option (List ℕ)) (Tells : List ℕ → Type 0) (fault : Option Fault) (status : ℕ) where
   journey_comes : Outcome told limits words report old new Tells fault → IsUndisturbed fault → (files : FileMap) (j : WantedJourney) (a : WantedAsk) → told ≡ Some files

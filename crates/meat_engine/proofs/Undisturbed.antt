@@ -13,15 +13,8 @@ use Rattle.journey_report.specs.Findings.{findings_of}
 use Rattle.meat_engine.specs.Received.{Ending, AnswersJob, FailsJob, IsExplained, IsRefused, Outcome, OutcomeBy}
 use Rattle.meat_engine.proofs.Outcomes.{refused_ending}
 
-pub memory_or : (fault : Fault) → (fault ≡ NoMemory) ⊎ (fault ≡ NoMemory → ⊥)
-memory_or NoMemory = inl refl
-memory_or fault = inr (λ e. absurd (cc))
-
 pub one_job : (words : List (List ℕ)) (a b : Wanted) → job_of words ≡ Ok a → job_of words ≡ Ok b → a ≡ b
 one_job words a b h k = cc
-
-no_refusal : (words : List (List ℕ)) (a : Wanted) (b : WordsFault) → job_of words ≡ Ok a → job_of words ≡ Err b → ⊥
-no_refusal words a b h k = cc
 
 module _ (told : Option FileMap) (limits : Limits) (words : List (List ℕ)) (report : Report) (old new : Option (List ℕ)) (Tells : List ℕ → Type 0) where
   refused : (fault : Fault) → Outcome told limits words report old new Tells (Some fault) → fault ≢ Write → IsRefused told limits words report Tells fault
@@ -30,7 +23,7 @@ module _ (told : Option FileMap) (limits : Limits) (words : List (List ℕ)) (re
   caused : (fault : Fault) → fault ≢ NoMemory → (wanted : Wanted) → job_of words ≡ Ok wanted → (known : Option NamedParts)
       → IsExplained told limits words known fault → FailsJob told limits wanted known fault
   caused fault m wanted h known (inl e) = absurd (m e)
-  caused fault m wanted h known (inr (inl (refusal, e, k))) = absurd (no_refusal words wanted refusal h k)
+  caused fault m wanted h known (inr (inl (refusal, e, k))) = absurd (cc)
   caused fault m wanted h known (inr (inr (other, k, why))) = subst (λ (w : Wanted). FailsJob told limits w known fault) (one_job words other wanted k h) why
 
   pub fails : (fault : Fault) → Outcome told limits words report old new Tells (Some fault) → fault ≢ Write → fault ≢ NoMemory

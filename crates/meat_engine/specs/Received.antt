@@ -40,8 +40,8 @@ abbrev pub Asks : List (List ℕ) → (Wanted → Type 0) → Type 0
 Asks words P = (wanted : Wanted) × (job_of words ≡ Ok wanted) × P wanted
 
 -- the findings and the text answer what the words ask
-abbrev pub Answers : Option FileMap → Limits → List (List ℕ) → Findings → List ℕ → Type 0
-Answers contents limits words found text = Asks words (λ wanted. AnswersJob contents limits wanted found text)
+abbrev pub AnswersWords : Option FileMap → Limits → List (List ℕ) → Findings → List ℕ → Type 0
+AnswersWords contents limits words found text = Asks words (λ wanted. AnswersJob contents limits wanted found text)
 
 -- why there is no answer to the words, where this timetable is known: there was no memory; or the words are refused; or the job
 -- that they ask for has none
@@ -81,7 +81,7 @@ ending_of (Some fault) = ending_at (stage_of fault)
 
 -- an answer to the words, of whose text this holds
 abbrev pub HasAnswer : Option FileMap → Limits → List (List ℕ) → Report → (List ℕ → Type 0) → Type 0
-HasAnswer contents limits words report P = (text : List ℕ) × Answers contents limits words (findings_of report) text × P text
+HasAnswer contents limits words report P = (text : List ℕ) × AnswersWords contents limits words (findings_of report) text × P text
 
 -- what a run comes to, by its fault: the answer with its text, written whole, or only a front of it where writing failed; or
 -- the fault's cause and its line, and then nothing is written
@@ -97,8 +97,8 @@ abbrev pub Outcome : Option FileMap → Limits → List (List ℕ) → Report �
 Outcome contents limits words report old new Tells fault = OutcomeBy (ending_of fault) contents limits words report old new Tells fault
 
 -- a front of a line was received, the whole of it where the sink's count did not rise
-abbrev pub IsTold : Option (List ℕ) → Option (List ℕ) → ℕ → ℕ → List ℕ → Type 0
-IsTold old new before now line = AppendsFront old new line × (¬ Rose before now → Appends old new line)
+abbrev pub IsLineTold : Option (List ℕ) → Option (List ℕ) → ℕ → ℕ → List ℕ → Type 0
+IsLineTold old new before now line = AppendsFront old new line × (¬ Rose before now → Appends old new line)
 
 -- a text was written whole, or a front of it where writing failed
 abbrev pub IsWrittenBy : Ending → Option (List ℕ) → Option (List ℕ) → List ℕ → Type 0
@@ -113,4 +113,4 @@ IsWritten old new text fault = IsWrittenBy (ending_of fault) old new text
 abbrev pub IsRefusedWith : Option (List ℕ) → Option (List ℕ) → ℕ → ℕ → Option NamedParts → Fault → Option Fault → Type 0
 IsRefusedWith old new before now known wanted None = ⊥
 IsRefusedWith old new before now known wanted (Some told) =
-    ((told ≡ wanted) ⊎ ((told ≡ NoMemory) × IsFormatted wanted)) × IsTold old new before now (line_of known told)
+    ((told ≡ wanted) ⊎ ((told ≡ NoMemory) × IsFormatted wanted)) × IsLineTold old new before now (line_of known told)

@@ -3,7 +3,7 @@ use Rattle.trip_frequencies.specs.declared.frequencies.FrequencyRow.{FrequencyRo
 use Rattle.stop_times.specs.declared.rows.StopRow.{StopRow}
 use Rattle.gtfs_tables.specs.Repeats.{AreRepeats}
 use Rattle.gtfs_tables.specs.Timed.{rows_of}
-use Rattle.connections.specs.Rides.{AreDepartures, is_active}
+use Rattle.connections.specs.Rides.{AreDepartures, is_active_trip}
 use Rattle.connections.specs.TripRuns.{frequencies_of}
 use Rattle.connections.specs.Counts.{each_of, runs_sum}
 use Rattle.connections.proofs.ReachLemmas.{departures_are}
@@ -23,7 +23,7 @@ sum_runs-requires-clause-repeats c = subst AreRepeats (sym c.frequencies-frequen
 
 pub returns : goal.returns
 returns c =
-    active-sum (is_active c.args.feed.now c.args.services.now c.args.day c.args.trip)
+    active-sum (is_active_trip c.args.feed.now c.args.services.now c.args.day c.args.trip)
     (runs_sum (each_of c.args.changes.now c.args.counted) c.args.window (rows_of c.args.feed.now c.args.trip) (frequencies_of c.args.feed.now c.args.trip) c.args.day)
     c.sum_runs.result (sym c.has_service.ensures ∙ c.if-not-has_service.false)
     (c.sum_runs.ensures ∙ ap₂ (λ (rows : List StopRow) (fs : List FrequencyRow). min

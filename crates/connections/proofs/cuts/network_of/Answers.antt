@@ -5,7 +5,7 @@ use Rattle.csv_rows.proofs.ListLemmas.{length-list_below}
 use Rattle.plan_model.specs.Network.{AreLinksInto}
 use Rattle.change_times.specs.Changes.{seconds_of, links_of}
 use Rattle.connections.specs.declared.runs.Run.{Run}
-use Rattle.connections.specs.TripRuns.{runs_in}
+use Rattle.connections.specs.TripRuns.{window_runs}
 use Rattle.connections.specs.Networks.{rides_below, AreRunNames}
 use Rattle.connections.proofs.CountLemmas.{rides_counted}
 use Rattle.connections.proofs.LinkLemmas.{links_fit, names_fit}
@@ -49,7 +49,7 @@ with_links-requires-clause-each c =
 pub returns-clause-network : goal.returns-clause-network
 returns-clause-network c =
     let f = c.args.feed.now in let s = c.args.services.now in let w = c.args.window in
-    let rs : c.as_slice.result.now ≡ runs_in f s w = c.as_slice.ensures.value ∙ c.in_ok-runs.ensures in
+    let rs : c.as_slice.result.now ≡ window_runs f s w = c.as_slice.ensures.value ∙ c.in_ok-runs.ensures in
     record {
       connections = c.with_links.ensures.connections ∙ c.in_ok-network.ensures.connections ∙ ap (λ (x : List Run). rides_below f c.args.delays.now w x (length x)) rs;
       change_of_places = c.with_links.ensures.change ∙ c.in_ok-network.ensures.change ∙ c.in_ok-change.ensures.seconds

@@ -1,11 +1,10 @@
-use Rattle.std.proofs.Common.{◌++◌, ◌∷◌, [], ℤ, w32, SFits, Some, sym, ap, ◌∙◌, subst, rules}
+use Rattle.std.proofs.Common.{◌++◌, ◌∷◌, [], ℤ, w32, SFits, Some, sym, ap, ◌∙◌, subst, rules, append_assoc}
 use Rattle.clock_text.specs.Times.{HasDate}
 use Rattle.std.proofs.lemmas.Int.{to_z-of_z}
 use Rattle.std.proofs.lemmas.Option.{get_or_from_slice_get}
 use Rattle.std.proofs.lemmas.Str.{IsUtf8-from_ascii}
 use Rattle.connections.specs.Networks.{start_text}
 use Rattle.connections.proofs.DateLemmas.{has_date, date_is_ascii}
-use Rattle.connections.proofs.StepLemmas.{append-assoc}
 use Rattle.connections.proofs.names.run_name.Goals as goal
 
 pub write_date-date-requires : goal.write_date-date-requires
@@ -30,6 +29,6 @@ returns-clause-name c =
           c.in_ok-push_str-in-Ok-2.ensures.bytes
           ∙ ap (λ x. x ++ c.trip_id.result.now) (c.in_ok-push_str-in-Ok.ensures.bytes
           ∙ ap (λ x. x ++ 58 ∷ []) (c.in_ok-push_start-in-Ok.ensures.text ∙ ap (λ x. x ++ start_text c.args.run.repeat) text))
-          ∙ append-assoc (date ++ start_text c.args.run.repeat) (58 ∷ []) c.trip_id.result.now
+          ∙ append_assoc (date ++ start_text c.args.run.repeat) (58 ∷ []) c.trip_id.result.now
           ∙ ap (λ x. (date ++ start_text c.args.run.repeat) ++ 58 ∷ x) (sym id);
     }

@@ -1,9 +1,9 @@
-use Rattle.std.proofs.Common.{◌≡◌, ℕ, ◌+◌, ◌-◌, ◌<◌, ◌++◌, max, Bool, false, List, length, sym, ap, ◌∙◌, subst, arith, append_assoc}
+use Rattle.std.proofs.Common.{◌≡◌, ℕ, ◌+◌, ◌-◌, ◌<◌, ◌++◌, max, Bool, false, List, length, sym, ap, ◌∙◌, subst, arith, append_assoc, append-nil}
 use Rattle.csv_rows.specs.Lists.{list_below}
 use Rattle.connections.specs.declared.repeats.Repeat.{Repeat}
 use Rattle.connections.specs.Joins.{only_if}
-use Rattle.connections.specs.Repeats.{run_of}
-use Rattle.connections.proofs.JoinLemmas.{join-zero, nothing-after}
+use Rattle.connections.specs.Repeats.{repeat_of}
+use Rattle.connections.proofs.JoinLemmas.{join-zero}
 use Rattle.connections.proofs.RepeatLemmas.{AreTaken, AreLeaving, taken_runs, more, none_taken, step_taken, step_list, all_taken}
 use Rattle.connections.proofs.repeats.add_riding.Goals as goal
 
@@ -14,7 +14,7 @@ loop-step-init c =
     let old = c.args.repeats.now.items in (
       none,
       subst (λ k. AreTaken w rows day row k 0 none) (sym c.saturating_sub-step.ensures) (none_taken w rows day row),
-      sym (ap (λ (xs : List Repeat). old ++ xs) (join-zero (λ m. only_if (none m) (run_of row m))) ∙ nothing-after old),
+      sym (ap (λ (xs : List Repeat). old ++ xs) (join-zero (λ m. only_if (none m) (repeat_of row m))) ∙ append-nil old),
     )
 
 pub loop-step-preserved : goal.loop-step-preserved
@@ -30,7 +30,7 @@ loop-step-preserved c =
     let before = subst (λ n. AreTaken w rows day row n next taken) back t.1 in
     let leaving : AreLeaving w rows day row k from to = record { before = c.leaving-from.ensures.before; up_to = c.leaving-from.ensures.up_to } in
     let old = c.args.repeats.now.items in
-    let list : ℕ → List Repeat = λ n. list_below (λ i. run_of row (n + i)) (to - n) in (
+    let list : ℕ → List Repeat = λ n. list_below (λ i. repeat_of row (n + i)) (to - n) in (
       more next from taken,
       subst (λ n. AreTaken w rows day row k n (more next from taken)) (sym c.max-next.ensures)
           (step_taken w rows day row c.requires.departures c.requires.row k next from to taken inside leaving before),

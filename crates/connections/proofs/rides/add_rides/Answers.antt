@@ -1,9 +1,9 @@
-use Rattle.std.proofs.Common.{◌+◌, ◌++◌, [], ◌∷◌, map, Some, sym, ap, ◌∙◌}
+use Rattle.std.proofs.Common.{◌+◌, ◌++◌, [], ◌∷◌, map, Some, sym, ap, ◌∙◌, append-nil}
 use Rattle.delay_table.specs.DelayLists.{class_for}
 use Rattle.connections.specs.Joins.{only_if}
 use Rattle.connections.specs.Rides.{steps_below}
 use Rattle.connections.specs.Networks.{ride}
-use Rattle.connections.proofs.StepLemmas.{steps-zero, map-next, append-nil, goes-on}
+use Rattle.connections.proofs.StepLemmas.{steps-zero, map-next, goes-on}
 use Rattle.connections.proofs.rides.add_rides.Goals as goal
 use Rattle.connections.proofs.rides.add_rides.Goals.{then-leaves+in_ok-push, else-leaves}
 

@@ -1,8 +1,8 @@
-use Rattle.std.proofs.Common.{◌++◌, sym, ap, ◌∙◌, arith}
+use Rattle.std.proofs.Common.{◌++◌, sym, ap, ◌∙◌, arith, append-nil}
 use Rattle.connections.specs.Joins.{only_if}
 use Rattle.connections.specs.Rides.{steps_below}
 use Rattle.connections.proofs.ReachLemmas.{rides_true, rides_false}
-use Rattle.connections.proofs.StepLemmas.{steps-zero, steps-next, append-nil}
+use Rattle.connections.proofs.StepLemmas.{steps-zero, steps-next}
 use Rattle.connections.proofs.runs.rides.Goals as goal
 
 pub loop-k-init : goal.loop-k-init

@@ -1,19 +1,19 @@
 use Rattle.std.proofs.Common.{sym, arith, None, length}
 use Rattle.csv_rows.proofs.FirstLemmas.{first-zero, first-next, first-at}
 use Rattle.delay_table.specs.Delays.{group_sum_at}
-use Rattle.delay_table.specs.Read.{line_at, rows_of}
+use Rattle.delay_table.specs.Read.{line_at, read_outcomes}
 use Rattle.delay_table.proofs.sums.group_fault.Goals as goal
 
 pub loop-place-init : goal.loop-place-init
-loop-place-init c = first-zero (group_sum_at (rows_of c.args.read.now.groups c.args.read.now.rows.items) c.args.read.now.groups (line_at c.args.read.now.rows.items))
+loop-place-init c = first-zero (group_sum_at (read_outcomes c.args.read.now.groups c.args.read.now.rows.items) c.args.read.now.groups (line_at c.args.read.now.rows.items))
 
 pub returns-in-Some : goal.returns-in-Some
 returns-in-Some c =
-    sym (first-at (group_sum_at (rows_of c.args.read.now.groups c.args.read.now.rows.items) c.args.read.now.groups
+    sym (first-at (group_sum_at (read_outcomes c.args.read.now.groups c.args.read.now.rows.items) c.args.read.now.groups
     (line_at c.args.read.now.rows.items)) c.loop-place.place (length c.args.read.now.groups) c.in-Some.fault (omega arith) c.loop-place.invariant
     (sym c.in-Some.ensures))
 
 pub loop-place-preserved : goal.loop-place-preserved
 loop-place-preserved c =
-    first-next (group_sum_at (rows_of c.args.read.now.groups c.args.read.now.rows.items) c.args.read.now.groups
+    first-next (group_sum_at (read_outcomes c.args.read.now.groups c.args.read.now.rows.items) c.args.read.now.groups
     (line_at c.args.read.now.rows.items)) c.loop-place.place None c.loop-place.invariant (sym c.in_default.ensures)

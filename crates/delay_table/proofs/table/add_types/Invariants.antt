@@ -1,7 +1,7 @@
 use Rattle.std.proofs.Common.{◌≡◌, ◌++◌, map, take}
 use Rattle.delay_table.specs.Delays.{type_rows}
-use Rattle.delay_table.specs.Read.{rows_of}
+use Rattle.delay_table.specs.Read.{read_outcomes}
 use Rattle.delay_table.proofs.table.add_types.Given as goal
 
 abbrev pub invariant-loop-route_type : goal.invariant-loop-route_type
-invariant-loop-route_type l = l.classes ≡ l.initial.classes ++ map (type_rows (rows_of l.read.groups l.read.rows.items)) (take l.route_type-index l.types)
+invariant-loop-route_type l = l.classes ≡ l.initial.classes ++ map (type_rows (read_outcomes l.read.groups l.read.rows.items)) (take l.route_type-index l.types)

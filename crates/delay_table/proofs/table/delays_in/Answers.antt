@@ -2,7 +2,7 @@ use Rattle.std.proofs.Common.{◌≡◌, ◌++◌, ◌∷◌, ◌∙◌, ap, sym
 use Rattle.plan_model.specs.declared.model.Outcome.{Outcome}
 use Rattle.delay_table.specs.Groups.{plain_types}
 use Rattle.delay_table.specs.Delays.{class_rows, others, type_rows}
-use Rattle.delay_table.specs.Read.{rows_of}
+use Rattle.delay_table.specs.Read.{read_outcomes}
 use Rattle.delay_table.specs.Slots.{AreDelays}
 use Rattle.delay_table.proofs.Sound.{made-is, delays_valid, classes-are}
 use Rattle.delay_table.proofs.table.delays_in.Goals as goal
@@ -10,7 +10,7 @@ use Rattle.delay_table.proofs.table.delays_in.Goals as goal
 pub returns-clause-table : goal.returns-clause-table
 returns-clause-table c =
     let g = c.args.read.now.groups in
-    let rs = rows_of g c.args.read.now.rows.items in
+    let rs = read_outcomes g c.args.read.now.rows.items in
     let named : List ℕ → List (List Outcome) = λ ts. class_rows rs None ∷ map (type_rows rs) ts in
     made-is rs g c.from_vec.result c.in_ok-others.others c.add_others.new.classes
     (c.from_vec.ensures ∙ c.requires.types)

@@ -1,164 +1,64 @@
-use Rattle.std.proofs.Common.{Some, refl}
-use Rattle.journey_model.specs.Known.{parts_of}
-use Rattle.plan_answers.specs.Answers.{IsNoSafe}
-use Rattle.departure_answers.specs.Departures.{query_until, FailsDepartures, FailsLatest}
+use Rattle.std.proofs.Common.{refl}
 use Rattle.input_files.proofs.Causes.{causes-none}
-use Rattle.meat_engine.proofs.Asked.{answer-asked, fault-asked, causes-asked, unsafe_fault, unsafe_tellable, unsafe_unread}
+use Rattle.meat_engine.proofs.Asked.{alone-asked, answered-asked, causes-asked}
 use Rattle.meat_engine.proofs.asks.ask_over.Goals as goal
 
 pub returns-in-Safe : goal.returns-in-Safe
 returns-in-Safe g c =
-    let told = g.F.Files.files c.args.files.now in
-    let limits = c.args.limits.now in
-    let start = c.args.start.0 in
-    let p = c.args.problem.now in
-    let r = c.safe_over.result in
-    let Fails = IsNoSafe p start in
-    record {
-      same = refl;
-      answer = answer-asked told limits start p r c.in-Safe.is c.safe_over.ensures.answer;
-      fault = fault-asked told limits start p r c.in-Safe.is (unsafe_fault Fails (λ fault why. why.0) r c.safe_over.ensures.fault);
-      tellable = unsafe_tellable Fails (λ fault why. why.0) (Some (parts_of p)) r c.safe_over.ensures.fault;
-      causes = causes-none r (unsafe_unread Fails (λ fault why. why.0) r c.safe_over.ensures.fault);
-    }
+    let e = c.safe_over.ensures in
+    let h = alone-asked (g.F.Files.files c.args.files.now) c.args.limits.now c.args.start.0 c.args.problem.now c.safe_over.result c.in-Safe.is (λ fault why. why.0) e.answer e.fault in
+    record { same = refl; answer = h.own.answer; fault = h.own.fault; tellable = h.tellable; causes = causes-none c.safe_over.result h.unread }
 
 pub returns-in-Expand : goal.returns-in-Expand
 returns-in-Expand g c =
-    let told = g.F.Files.files c.args.files.now in
-    let limits = c.args.limits.now in
-    let start = c.args.start.0 in
-    let p = c.args.problem.now in
-    let r = c.expand_over.result in
-    let Fails = IsNoSafe p start in
-    record {
-      same = refl;
-      answer = answer-asked told limits start p r c.in-Expand.is c.expand_over.ensures.answer;
-      fault = fault-asked told limits start p r c.in-Expand.is (unsafe_fault Fails (λ fault why. why.0) r c.expand_over.ensures.fault);
-      tellable = unsafe_tellable Fails (λ fault why. why.0) (Some (parts_of p)) r c.expand_over.ensures.fault;
-      causes = causes-none r (unsafe_unread Fails (λ fault why. why.0) r c.expand_over.ensures.fault);
-    }
+    let e = c.expand_over.ensures in
+    let h = alone-asked (g.F.Files.files c.args.files.now) c.args.limits.now c.args.start.0 c.args.problem.now c.expand_over.result c.in-Expand.is (λ fault why. why.0) e.answer e.fault in
+    record { same = refl; answer = h.own.answer; fault = h.own.fault; tellable = h.tellable; causes = causes-none c.expand_over.result h.unread }
 
 pub returns-in-Plan : goal.returns-in-Plan
 returns-in-Plan g c =
-    let told = g.F.Files.files c.args.files.now in
-    let limits = c.args.limits.now in
-    let start = c.args.start.0 in
-    let p = c.args.problem.now in
-    let r = c.plan_over.result in
-    let Fails = IsNoSafe p start in
-    record {
-      same = refl;
-      answer = answer-asked told limits start p r c.in-Plan.is c.plan_over.ensures.answer;
-      fault = fault-asked told limits start p r c.in-Plan.is (unsafe_fault Fails (λ fault why. why.0) r c.plan_over.ensures.fault);
-      tellable = unsafe_tellable Fails (λ fault why. why.0) (Some (parts_of p)) r c.plan_over.ensures.fault;
-      causes = causes-none r (unsafe_unread Fails (λ fault why. why.0) r c.plan_over.ensures.fault);
-    }
+    let e = c.plan_over.ensures in
+    let h = alone-asked (g.F.Files.files c.args.files.now) c.args.limits.now c.args.start.0 c.args.problem.now c.plan_over.result c.in-Plan.is (λ fault why. why.0) e.answer e.fault in
+    record { same = refl; answer = h.own.answer; fault = h.own.fault; tellable = h.tellable; causes = causes-none c.plan_over.result h.unread }
 
 pub returns-in-Replay : goal.returns-in-Replay
 returns-in-Replay g c =
-    let told = g.F.Files.files c.args.files.now in
-    let limits = c.args.limits.now in
-    let start = c.args.start.0 in
-    let p = c.args.problem.now in
-    let r = c.replay_over.result in
-    record {
-      same = c.replay_over.ensures.same;
-      answer = answer-asked told limits start p r c.in-Replay.is c.replay_over.ensures.answer;
-      fault = fault-asked told limits start p r c.in-Replay.is c.replay_over.ensures.fault;
-      tellable = c.replay_over.ensures.tellable;
-      causes = causes-asked r c.in-Replay.is c.replay_over.ensures.causes;
-    }
+    let e = c.replay_over.ensures in
+    let h = answered-asked (g.F.Files.files c.args.files.now) c.args.limits.now c.args.start.0 c.args.problem.now c.replay_over.result c.in-Replay.is e.answer e.fault in
+    record { same = e.same; answer = h.answer; fault = h.fault; tellable = e.tellable; causes = causes-asked c.replay_over.result c.in-Replay.is e.causes }
 
 pub returns-in-Certify : goal.returns-in-Certify
 returns-in-Certify g c =
-    let told = g.F.Files.files c.args.files.now in
-    let limits = c.args.limits.now in
-    let start = c.args.start.0 in
-    let p = c.args.problem.now in
-    let r = c.certify_over.result in
-    let Fails = IsNoSafe p start in
-    record {
-      same = refl;
-      answer = answer-asked told limits start p r c.in-Certify.is c.certify_over.ensures.answer;
-      fault = fault-asked told limits start p r c.in-Certify.is (unsafe_fault Fails (λ fault why. why.0) r c.certify_over.ensures.fault);
-      tellable = unsafe_tellable Fails (λ fault why. why.0) (Some (parts_of p)) r c.certify_over.ensures.fault;
-      causes = causes-none r (unsafe_unread Fails (λ fault why. why.0) r c.certify_over.ensures.fault);
-    }
+    let e = c.certify_over.ensures in
+    let h = alone-asked (g.F.Files.files c.args.files.now) c.args.limits.now c.args.start.0 c.args.problem.now c.certify_over.result c.in-Certify.is (λ fault why. why.0) e.answer e.fault in
+    record { same = refl; answer = h.own.answer; fault = h.own.fault; tellable = h.tellable; causes = causes-none c.certify_over.result h.unread }
 
 pub returns-in-CheckProof : goal.returns-in-CheckProof
 returns-in-CheckProof g c =
-    let told = g.F.Files.files c.args.files.now in
-    let limits = c.args.limits.now in
-    let start = c.args.start.0 in
-    let p = c.args.problem.now in
-    let r = c.check_proof_over.result in
-    record {
-      same = c.check_proof_over.ensures.same;
-      answer = answer-asked told limits start p r c.in-CheckProof.is c.check_proof_over.ensures.answer;
-      fault = fault-asked told limits start p r c.in-CheckProof.is c.check_proof_over.ensures.fault;
-      tellable = c.check_proof_over.ensures.tellable;
-      causes = causes-asked r c.in-CheckProof.is c.check_proof_over.ensures.causes;
-    }
+    let e = c.check_proof_over.ensures in
+    let h = answered-asked (g.F.Files.files c.args.files.now) c.args.limits.now c.args.start.0 c.args.problem.now c.check_proof_over.result c.in-CheckProof.is e.answer e.fault in
+    record { same = e.same; answer = h.answer; fault = h.fault; tellable = e.tellable; causes = causes-asked c.check_proof_over.result c.in-CheckProof.is e.causes }
 
 pub returns-in-CheckGraph : goal.returns-in-CheckGraph
 returns-in-CheckGraph g c =
-    let told = g.F.Files.files c.args.files.now in
-    let limits = c.args.limits.now in
-    let start = c.args.start.0 in
-    let p = c.args.problem.now in
-    let r = c.check_graph_over.result in
-    record {
-      same = c.check_graph_over.ensures.same;
-      answer = answer-asked told limits start p r c.in-CheckGraph.is c.check_graph_over.ensures.answer;
-      fault = fault-asked told limits start p r c.in-CheckGraph.is c.check_graph_over.ensures.fault;
-      tellable = c.check_graph_over.ensures.tellable;
-      causes = causes-asked r c.in-CheckGraph.is c.check_graph_over.ensures.causes;
-    }
+    let e = c.check_graph_over.ensures in
+    let h = answered-asked (g.F.Files.files c.args.files.now) c.args.limits.now c.args.start.0 c.args.problem.now c.check_graph_over.result c.in-CheckGraph.is e.answer e.fault in
+    record { same = e.same; answer = h.answer; fault = h.fault; tellable = e.tellable; causes = causes-asked c.check_graph_over.result c.in-CheckGraph.is e.causes }
 
 pub returns-in-Punctual : goal.returns-in-Punctual
 returns-in-Punctual g c =
-    let told = g.F.Files.files c.args.files.now in
-    let limits = c.args.limits.now in
-    let start = c.args.start.0 in
-    let p = c.args.problem.now in
-    let r = c.punctual_over.result in
-    let Fails = IsNoSafe p start in
-    record {
-      same = refl;
-      answer = answer-asked told limits start p r c.in-Punctual.is c.punctual_over.ensures.answer;
-      fault = fault-asked told limits start p r c.in-Punctual.is (unsafe_fault Fails (λ fault why. why.0) r c.punctual_over.ensures.fault);
-      tellable = unsafe_tellable Fails (λ fault why. why.0) (Some (parts_of p)) r c.punctual_over.ensures.fault;
-      causes = causes-none r (unsafe_unread Fails (λ fault why. why.0) r c.punctual_over.ensures.fault);
-    }
+    let e = c.punctual_over.ensures in
+    let h = alone-asked (g.F.Files.files c.args.files.now) c.args.limits.now c.args.start.0 c.args.problem.now c.punctual_over.result c.in-Punctual.is (λ fault why. why.0) e.answer e.fault in
+    record { same = refl; answer = h.own.answer; fault = h.own.fault; tellable = h.tellable; causes = causes-none c.punctual_over.result h.unread }
 
 pub returns-in-Departures : goal.returns-in-Departures
 returns-in-Departures g c =
-    let told = g.F.Files.files c.args.files.now in
-    let limits = c.args.limits.now in
-    let start = c.args.start.0 in
-    let p = c.args.problem.now in
-    let r = c.departures_over.result in
-    let Fails = FailsDepartures p (query_until p start c.in-Departures.until.0) in
-    record {
-      same = refl;
-      answer = answer-asked told limits start p r c.in-Departures.is c.departures_over.ensures.answer;
-      fault = fault-asked told limits start p r c.in-Departures.is (unsafe_fault Fails (λ fault why. why.0) r c.departures_over.ensures.fault);
-      tellable = unsafe_tellable Fails (λ fault why. why.0) (Some (parts_of p)) r c.departures_over.ensures.fault;
-      causes = causes-none r (unsafe_unread Fails (λ fault why. why.0) r c.departures_over.ensures.fault);
-    }
+    let e = c.departures_over.ensures in
+    let h = alone-asked (g.F.Files.files c.args.files.now) c.args.limits.now c.args.start.0 c.args.problem.now c.departures_over.result c.in-Departures.is (λ fault why. why.0) e.answer e.fault in
+    record { same = refl; answer = h.own.answer; fault = h.own.fault; tellable = h.tellable; causes = causes-none c.departures_over.result h.unread }
 
 pub returns-in-Latest : goal.returns-in-Latest
 returns-in-Latest g c =
-    let told = g.F.Files.files c.args.files.now in
-    let limits = c.args.limits.now in
-    let start = c.args.start.0 in
-    let p = c.args.problem.now in
-    let r = c.latest_over.result in
-    let Fails = FailsLatest p (query_until p start c.in-Latest.until.0) in
-    record {
-      same = refl;
-      answer = answer-asked told limits start p r c.in-Latest.is c.latest_over.ensures.answer;
-      fault = fault-asked told limits start p r c.in-Latest.is (unsafe_fault Fails (λ fault why. why.0) r c.latest_over.ensures.fault);
-      tellable = unsafe_tellable Fails (λ fault why. why.0) (Some (parts_of p)) r c.latest_over.ensures.fault;
-      causes = causes-none r (unsafe_unread Fails (λ fault why. why.0) r c.latest_over.ensures.fault);
-    }
+    let e = c.latest_over.ensures in
+    let h = alone-asked (g.F.Files.files c.args.files.now) c.args.limits.now c.args.start.0 c.args.problem.now c.latest_over.result c.in-Latest.is (λ fault why. why.0) e.answer e.fault in
+    record { same = refl; answer = h.own.answer; fault = h.own.fault; tellable = h.tellable; causes = causes-none c.latest_over.result h.unread }

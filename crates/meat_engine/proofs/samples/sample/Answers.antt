@@ -2,8 +2,9 @@ use Rattle.std.proofs.Common.{◌≡◌, None, Some, inl, inr, refl, sym, subst}
 use Rattle.journey_model.specs.declared.faults.Fault.{Fault}
 use Rattle.journey_model.specs.Faults.{unread_of}
 use Rattle.journey_model.specs.Known.{parts_of}
+use Rattle.plan_answers.specs.Answers.{IsNoSafe}
 use Rattle.meat_engine.specs.Samples.{sample_journey, FailsSample}
-use Rattle.meat_engine.proofs.Asking.{early_tellable, fails_tellable, fails_unread, fails_safe, plain_refusal}
+use Rattle.meat_engine.proofs.Asking.{early_tellable, unsafe_told, plain_refusal}
 use Rattle.meat_engine.proofs.samples.sample.Goals as goal
 
 pub returns-in-Err-clause-fault : goal.returns-in-Err-clause-fault
@@ -22,11 +23,8 @@ returns-in-Err-sample_in-clause-fault c =
     let p = c.in-Ok.problem in
     let over = c.in-Ok.ensures.problem in
     let fault = c.in-Err-sample_in.fault in
-    let why = c.in-Err-sample_in.ensures.fault in
+    let why = unsafe_told (IsNoSafe p sample_journey.start) (λ fault why. why.0) (Some (parts_of p)) fault c.in-Err-sample_in.ensures.fault in
     record {
-      tellable = fails_tellable p sample_journey.start fault (Some (parts_of p)) why;
-      holds = λ other. (
-        fails_unread p sample_journey.start fault why,
-        (over.0, over.1, inl (p, over.2.0, over.2.1, (refl, fails_safe p sample_journey.start fault why other))),
-      );
+      tellable = why.tellable;
+      holds = λ other. (why.unread, (over.0, over.1, inl (p, over.2.0, over.2.1, (refl, why.why other))));
     }

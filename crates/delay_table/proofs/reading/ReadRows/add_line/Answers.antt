@@ -1,9 +1,9 @@
-use Rattle.std.proofs.Common.{◌≡◌, ◌≢◌, subst, ℕ, Some, None}
+use Rattle.std.proofs.Common.{◌≡◌, ◌≢◌, subst, Option, Some, None}
 use Rattle.std.proofs.lemmas.Result.{on_ok_weaker, IfErr-weaker}
 use Rattle.delay_table.specs.declared.faults.DelayFault.{DelayFault}
 use Rattle.delay_table.specs.declared.faults.DelayFault.TheVariants.{NoMemory}
 use Rattle.delay_table.specs.Delays.{Line, fault_after, line_fault}
-use Rattle.delay_table.specs.Read.{AddsRow, rows_of}
+use Rattle.delay_table.specs.Read.{AddsRow, read_outcomes}
 use Rattle.delay_table.proofs.LineFacts.{own_line}
 use Rattle.delay_table.proofs.ReadFacts.{read-next, rows-are, fault_here, bad_here}
 use Rattle.delay_table.proofs.reading.ReadRows.add_line.Goals as goal
@@ -11,18 +11,8 @@ use Rattle.delay_table.proofs.reading.ReadRows.add_line.Goals as goal
 pub returns-in_default-clause-err : goal.returns-in_default-clause-err
 returns-in_default-clause-err c = λ free. bad_here c.args.rows.now c.args.row c.line-number.result c.in_default.ensures.line c.line-number.ensures
 
-pub returns-clause-none : goal.returns-clause-none
-returns-clause-none c =
-    let t = c.args.rows.now in
-    let i = c.args.row in
-    let line : Line = own_line c.in-Some.line in
-    let groups = c.args.self.now.groups in
-    let rows = c.args.self.now.rows.items in
-    on_ok_weaker c.add.result (fault_here t i (rows_of groups rows line.group) line c.line-number.result None
-    c.in-Some.ensures.line (rows-are t i groups rows c.requires.read line.group) c.line-number.ensures) c.add.ensures.none
-
-pub returns-clause-read : goal.returns-clause-read
-returns-clause-read c =
+pub returns : goal.returns
+returns c =
     let t = c.args.rows.now in
     let i = c.args.row in
     let line : Line = own_line c.in-Some.line in
@@ -30,18 +20,14 @@ returns-clause-read c =
     let rows = c.args.self.now.rows.items in
     let more = c.add.new.self.groups in
     let new = c.add.new.self.rows.items in
-    let P : ℕ → Type 0 = λ n. AddsRow groups rows line n more new in
-    on_ok_weaker c.add.result (λ (added : P c.line-number.result). read-next t i line c.in-Some.ensures.line groups rows new c.requires.read more (subst P c.line-number.ensures added))
-    c.add.ensures.added
-
-pub returns-clause-err : goal.returns-clause-err
-returns-clause-err c =
-    let t = c.args.rows.now in
-    let i = c.args.row in
-    let line : Line = own_line c.in-Some.line in
-    let groups = c.args.self.now.groups in
-    let rows = c.args.self.now.rows.items in
-    let earlier = rows_of groups rows line.group in
-    IfErr-weaker c.add.result (λ f. f ≢ NoMemory → fault_after earlier line c.line-number.result ≡ Some f) (λ f. f ≢ NoMemory → line_fault t i ≡ Some f)
-    (λ (f : DelayFault) h free. fault_here t i earlier line c.line-number.result (Some f)
-    c.in-Some.ensures.line (rows-are t i groups rows c.requires.read line.group) c.line-number.ensures (h free)) c.add.ensures.err
+    let earlier = read_outcomes groups rows line.group in
+    let number = c.line-number.result in
+    let fault = λ (o : Option DelayFault).
+    fault_here t i earlier line number o c.in-Some.ensures.line (rows-are t i groups rows c.requires.read line.group) c.line-number.ensures in
+    record {
+      none = on_ok_weaker c.add.result (fault None) c.add.ensures.none;
+      read = on_ok_weaker c.add.result (λ (added : AddsRow groups rows line number more new).
+          read-next t i line c.in-Some.ensures.line groups rows new c.requires.read more (subst (λ n. AddsRow groups rows line n more new) c.line-number.ensures added)) c.add.ensures.added;
+      err = IfErr-weaker c.add.result (λ f. f ≢ NoMemory → fault_after earlier line number ≡ Some f) (λ f. f ≢ NoMemory → line_fault t i ≡ Some f)
+          (λ (f : DelayFault) h free. fault (Some f) (h free)) c.add.ensures.err;
+    }

@@ -1,13 +1,13 @@
 use Rattle.std.proofs.Common.{◌∙◌, ap, List}
 use Rattle.delay_table.specs.declared.reading.GroupRows.{GroupRows}
 use Rattle.delay_table.specs.Groups.{of_class}
-use Rattle.delay_table.specs.Read.{rows_at}
+use Rattle.delay_table.specs.Read.{group_rows_at}
 use Rattle.delay_table.proofs.ReadFacts.{rows-known, rows-new}
 use Rattle.delay_table.proofs.reading.ReadRows.class_rows.Goals as goal
 
 pub returns-in-Some : goal.returns-in-Some
 returns-in-Some c =
-    c.outcomes_at.ensures ∙ ap (λ (xs : List GroupRows). (rows_at xs c.in-Some.place).outcomes) c.as_slice.ensures.value
+    c.outcomes_at.ensures ∙ ap (λ (xs : List GroupRows). (group_rows_at xs c.in-Some.place).outcomes) c.as_slice.ensures.value
     ∙ rows-known c.args.self.now.groups c.args.self.now.rows.items (of_class c.args.class) c.in-Some.place c.in-Some.ensures.place
 
 pub returns-in-None : goal.returns-in-None

@@ -1,10 +1,10 @@
 use Rattle.std.proofs.Common.{◌∙◌, ap, sym, List}
 use Rattle.delay_table.specs.declared.reading.GroupRows.{GroupRows}
-use Rattle.delay_table.specs.Read.{rows_at}
+use Rattle.delay_table.specs.Read.{group_rows_at}
 use Rattle.delay_table.proofs.ReadFacts.{rows-here}
 use Rattle.delay_table.proofs.reading.ReadRows.group_rows.Goals as goal
 
 pub returns : goal.returns
 returns c =
-    c.outcomes_at.ensures ∙ ap (λ (xs : List GroupRows). (rows_at xs c.args.place).outcomes) c.as_slice.ensures.value
+    c.outcomes_at.ensures ∙ ap (λ (xs : List GroupRows). (group_rows_at xs c.args.place).outcomes) c.as_slice.ensures.value
     ∙ sym (rows-here c.args.self.now.groups c.args.self.now.rows.items c.requires.read.apart c.args.place c.requires.place)

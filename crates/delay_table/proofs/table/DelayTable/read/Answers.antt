@@ -1,7 +1,6 @@
-use Rattle.std.proofs.Common.{◌≡◌, ◌≢◌, ◌<◌, ◌∙◌, ap, sym, subst, length, ℕ, Option, Some, None}
+use Rattle.std.proofs.Common.{◌≡◌, ◌≢◌, ◌<◌, ◌∙◌, ap, sym, subst, length, ℕ, Some, None, rules}
 use Rattle.std.specs.Prelude.{IfOk, OnOk, IfErr}
 use Rattle.csv_rows.proofs.FaultLemmas.{if_raised}
-use Rattle.delay_table.specs.declared.faults.DelayFault.{DelayFault}
 use Rattle.delay_table.specs.declared.faults.DelayFault.TheVariants.{NoMemory, TooManyClasses}
 use Rattle.delay_table.specs.Bounds.{most_groups}
 use Rattle.delay_table.specs.DelayLists.{DelayLists}
@@ -28,31 +27,23 @@ returns-in_err-read-clause-count c = if_raised _ c.from_residual.result c.from_r
 pub table_of-requires : goal.table_of-requires
 table_of-requires c = is-read c.args.rows.now c.in_ok-read.read.groups c.in_ok-read.read.rows.items c.in_ok-read.ensures.none c.in_ok-read.ensures.read
 
-pub returns-clause-table : goal.returns-clause-table
-returns-clause-table c =
-    let P : DelayLists → Type 0 = λ d. IfOk c.table_of.result (λ table. table ≡ d) in
-    subst P (delays-same c.args.rows.now c.in_ok-read.read.groups c.in_ok-read.read.rows.items c.in_ok-read.ensures.read) c.table_of.ensures.table
-
-pub returns-clause-none : goal.returns-clause-none
-returns-clause-none c =
-    let P : Option DelayFault → Type 0 = λ o. OnOk c.table_of.result (o ≡ None) in
-    subst P (fault-same c.args.rows.now c.in_ok-read.read.groups c.in_ok-read.read.rows.items c.in_default.ensures c.in_ok-read.ensures.none c.in_ok-read.ensures.read) c.table_of.ensures.none
-
-pub returns-clause-fault : goal.returns-clause-fault
-returns-clause-fault c =
-    let P : Option DelayFault → Type 0 = λ o. IfErr c.table_of.result (λ f. f ≢ NoMemory → o ≡ Some f) in
-    subst P (fault-same c.args.rows.now c.in_ok-read.read.groups c.in_ok-read.read.rows.items c.in_default.ensures c.in_ok-read.ensures.none c.in_ok-read.ensures.read) c.table_of.ensures.fault
-
-pub returns-clause-count : goal.returns-clause-count
-returns-clause-count c =
-    let P : ℕ → Type 0 = λ m. IfErr c.table_of.result (λ f. (n : ℕ) → f ≡ TooManyClasses n → (n ≡ m) × (most_groups < n)) in
-    subst P (groups-count c.args.rows.now c.in_ok-read.read.groups c.in_ok-read.read.rows.items c.in_ok-read.ensures.read) c.table_of.ensures.count
-
-pub returns-clause-classes : goal.returns-clause-classes
-returns-clause-classes c =
+pub returns : goal.returns
+returns c =
     let t = c.args.rows.now in
     let groups = c.in_ok-read.read.groups in
     let rows = c.in_ok-read.read.rows.items in
-    let P : DelayLists → Type 0 = λ d. OnOk c.table_of.result (length d.classes ≡ length groups) in
-    let Q : ℕ → Type 0 = λ m. OnOk c.table_of.result (length (delays_of t).classes ≡ m) in
-    subst Q (groups-count t groups rows c.in_ok-read.ensures.read) (subst P (delays-same t groups rows c.in_ok-read.ensures.read) c.table_of.ensures.size)
+    let read = c.in_ok-read.ensures.read in
+    let made = c.table_of.result in
+    let e = c.table_of.ensures in
+    let delays = delays-same t groups rows read in
+    let first = fault-same t groups rows c.in_default.ensures c.in_ok-read.ensures.none read in
+    let count = groups-count t groups rows read in
+    let Size : DelayLists → ℕ → Type 0 = λ d m. OnOk made (length d.classes ≡ m) in
+    record {
+      table = subst (λ d. IfOk made (λ table. table ≡ d)) delays e.table;
+      sound = search rules;
+      none = subst (λ o. OnOk made (o ≡ None)) first e.none;
+      fault = subst (λ o. IfErr made (λ f. f ≢ NoMemory → o ≡ Some f)) first e.fault;
+      count = subst (λ m. IfErr made (λ f. (n : ℕ) → f ≡ TooManyClasses n → (n ≡ m) × (most_groups < n))) count e.count;
+      classes = subst (Size (delays_of t)) count (subst (λ d. Size d (length groups)) delays e.size);
+    }
