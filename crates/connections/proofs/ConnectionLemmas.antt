@@ -30,7 +30,7 @@ use Rattle.connections.specs.Runs.{AreRunsOf, AllRide}
 use Rattle.connections.specs.Networks.{AreChanges, AreRunNames, arrives, ride, run_rides, rides_below, class_of_trip, route_of}
 use Rattle.connections.proofs.NameLemmas.{names_trimmed}
 use Rattle.connections.proofs.CountLemmas.{rides-zero, rides-suc}
-use Rattle.connections.proofs.PairLemmas.{AllPairs-append, AllPairs-nil, AllPairs-one}
+use Rattle.plan_model.proofs.Lists.{AllPairs-append, AllPairs-nil, AllPairs-one}
 use Rattle.connections.proofs.StepLemmas.{holds_parts, steps-zero, steps-suc}
 use Rattle.plan_model.specs.Bounds.{end_of_arrivals, end_of_steps, most_connections}
 

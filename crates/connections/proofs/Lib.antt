@@ -1,5 +1,4 @@
 pub mod JoinLemmas
-pub mod PairLemmas
 pub mod StepLemmas
 pub mod OrderLemmas
 pub mod CountLemmas

@@ -10,6 +10,7 @@ use Rattle.std.proofs.lemmas.List.Elements.{All-cons, All-head, All-tail}
 use Rattle.std.proofs.lemmas.List.Kept.{AllPairs-cons}
 use Rattle.std.proofs.lemmas.List.Sorted.{sorted_far, sum_by-IsPermutation}
 use Rattle.std.proofs.lemmas.List.Sums.{sum_by-cons, sum_by-le}
+use Rattle.plan_model.proofs.Lists.{AllPairs-first, AllPairs-tail}
 use Rattle.connections.specs.declared.repeats.Repeat.{Repeat}
 use Rattle.connections.specs.Repeats.{repeat_precedes, placed, in_order}
 
@@ -143,22 +144,16 @@ All-in_order P (r ∷ rs) all = All-placed P r (in_order rs) (All-head P r rs al
 abbrev pub Differ : Repeat → Repeat → Type 0
 Differ a b = a ≡ b → ⊥
 
-pairs_head : (x : Repeat) (xs : List Repeat) → AllPairs Differ (x ∷ xs) → All (Differ x) xs
-pairs_head x xs p k d h = p 0 (suc k) d (omega arith) (omega arith)
-
-pairs_tail : (x : Repeat) (xs : List Repeat) → AllPairs Differ (x ∷ xs) → AllPairs Differ xs
-pairs_tail x xs p i j d l h = p (suc i) (suc j) d (omega arith) (omega arith)
-
 pairs_placed : (r : Repeat) (xs : List Repeat) → All (Differ r) xs → AllPairs Differ xs → AllPairs Differ (placed r xs)
 pairs_placed r [] all p = AllPairs-cons Differ r [] all p
 pairs_placed r (x ∷ xs) all p =
     elim (repeat_precedes x r) as (λ b. AllPairs Differ (if b then x ∷ placed r xs else r ∷ x ∷ xs)) [
       | true ↦
-          AllPairs-cons Differ x (placed r xs) (All-placed (Differ x) r xs (λ e. All-head (Differ r) x xs all (sym e)) (pairs_head x xs p))
-          (pairs_placed r xs (All-tail (Differ r) x xs all) (pairs_tail x xs p))
+          AllPairs-cons Differ x (placed r xs) (All-placed (Differ x) r xs (λ e. All-head (Differ r) x xs all (sym e)) (AllPairs-first Differ x xs p))
+          (pairs_placed r xs (All-tail (Differ r) x xs all) (AllPairs-tail Differ x xs p))
       | false ↦ AllPairs-cons Differ r (x ∷ xs) all p
     ]
 
 pub pairs_in_order : (rs : List Repeat) → AllPairs Differ rs → AllPairs Differ (in_order rs)
 pairs_in_order [] p = p
-pairs_in_order (r ∷ rs) p = pairs_placed r (in_order rs) (All-in_order (Differ r) rs (pairs_head r rs p)) (pairs_in_order rs (pairs_tail r rs p))
+pairs_in_order (r ∷ rs) p = pairs_placed r (in_order rs) (All-in_order (Differ r) rs (AllPairs-first Differ r rs p)) (pairs_in_order rs (AllPairs-tail Differ r rs p))

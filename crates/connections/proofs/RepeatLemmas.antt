@@ -23,7 +23,7 @@ use Rattle.connections.specs.Rides.{AreDepartures, departs, rides, steps_below}
 use Rattle.connections.specs.Repeats.{repeat_of, origin_at, rides_by, riding_by, riding_of, in_order}
 use Rattle.connections.proofs.JoinLemmas.{join-zero, join-suc, join-same, join-rest, join-on, All-join}
 use Rattle.connections.proofs.OrderLemmas.{Differ, All-in_order}
-use Rattle.connections.proofs.PairLemmas.{AllPairs-append, AllPairs-nil, AllPairs-one}
+use Rattle.plan_model.proofs.Lists.{AllPairs-append, AllPairs-nil, AllPairs-one}
 use Rattle.connections.proofs.ReachLemmas.{rides_true}
 use Rattle.connections.proofs.StepLemmas.{holds_parts, steps-zero, length-next}
 

@@ -26,7 +26,7 @@ use Rattle.connections.specs.TripRuns.{frequencies_of, own_run, repeat_run, runs
 use Rattle.connections.specs.Runs.{AreRunsOf, AllRide}
 use Rattle.connections.proofs.DayLemmas.{day-zero, day-suc, days-zero, days-suc}
 use Rattle.connections.proofs.OrderLemmas.{All-in_order, pairs_in_order}
-use Rattle.connections.proofs.PairLemmas.{AllPairs-append, AllPairs-nil, AllPairs-one}
+use Rattle.plan_model.proofs.Lists.{AllPairs-append, AllPairs-nil, AllPairs-one}
 use Rattle.connections.proofs.RepeatLemmas.{riding_by_all, riding_of_all, riding_of_pairs}
 
 -- by day, then by trip, and of one trip and day apart by how they start

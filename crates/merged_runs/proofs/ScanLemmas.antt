@@ -5,6 +5,7 @@ use Rattle.std.proofs.lemmas.Bool.{cases_lt, cond_both, ltb-true, ltb-false}
 use Rattle.std.proofs.lemmas.List.Elements.{All-cons, All-tail, All-head}
 use Rattle.std.proofs.lemmas.List.Kept.{AllPairs-cons}
 use Rattle.std.proofs.lemmas.List.Sorted.{IsPermutation-refl, IsPermutation-cons, IsPermutation-trans, IsPermutation-to_front, IsPermutation-sym, IsPermutation-middle, All-permutation}
+use Rattle.plan_model.proofs.Lists.{AllPairs-first, AllPairs-tail}
 use Rattle.plan_model.specs.Bounds.{most_connections}
 use Rattle.plan_model.specs.declared.model.ConnectionId.{ConnectionId}
 use Rattle.plan_model.specs.NetworkModel.{NetworkModel}
@@ -40,17 +41,11 @@ All-in_order n m =
     All-permutation (λ id. id.0 < m) (ids_below m) (in_order n m) (IsPermutation-in_order n m)
     (λ k d within. let below : k < m = omega (arith, length_ids m) in subst (λ (id : ConnectionId). id.0 < m) (sym (get_ids m k d below)) below)
 
-AllPairs-tail : (R : ConnectionId → ConnectionId → Type 0) (x : ConnectionId) (xs : List ConnectionId) → AllPairs R (x ∷ xs) → AllPairs R xs
-AllPairs-tail R x xs h = λ i j d less within. h (suc i) (suc j) d (omega arith) (omega arith)
-
-AllPairs-head : (R : ConnectionId → ConnectionId → Type 0) (x : ConnectionId) (xs : List ConnectionId) → AllPairs R (x ∷ xs) → All (R x) xs
-AllPairs-head R x xs h = λ k d within. h 0 (suc k) d (omega arith) (omega arith)
-
 AllPairs-placed : (n : NetworkModel) (i : ℕ) (ids : List ConnectionId) → All (λ id. rank n id.0 ≡ rank n i → ⊥) ids → AllPairs (Scanned n) ids → AllPairs (Scanned n) (placed n i ids)
 AllPairs-placed n i [] other pairs = λ k l d less within. absurd (omega arith)
 AllPairs-placed n i (id ∷ ids) other pairs =
     let new : ConnectionId = record { 0 = i } in
-    let after : All (Scanned n id) ids = AllPairs-head (Scanned n) id ids pairs in
+    let after : All (Scanned n id) ids = AllPairs-first (Scanned n) id ids pairs in
     let apart : rank n id.0 ≡ rank n i → ⊥ = All-head (λ (x : ConnectionId). rank n x.0 ≡ rank n i → ⊥) id ids other in
     cond_both (ltb (rank n i) (rank n id.0)) (new ∷ id ∷ ids) (id ∷ placed n i ids) (AllPairs (Scanned n))
     (λ e. let less : rank n i < rank n id.0 = ltb-true (rank n i) (rank n id.0) e in

@@ -1,7 +1,7 @@
 -- Elements of lists, one at a time.
-use Rattle.std.proofs.Common.{◌≡◌, zero, suc, ◌<◌, ◌⊎◌, ℕ, List, [], ◌∷◌, map, length, All, AllPairs, Contains, arith, refl, inl, inr, ap}
+use Rattle.std.proofs.Common.{◌≡◌, zero, suc, ◌<◌, ◌⊎◌, ℕ, List, [], ◌∷◌, ◌++◌, map, length, get_or, All, AllPairs, Contains, arith, refl, inl, inr, ap}
 use Rattle.std.specs.Prelude.{slice_index_or}
-use Rattle.std.proofs.lemmas.List.Elements.{All-contains, All-map, Contains-get_or}
+use Rattle.std.proofs.lemmas.List.Elements.{All-append, All-contains, All-map, Contains-get_or}
 use Rattle.std.proofs.lemmas.List.Kept.{AllPairs-cons}
 
 module _ {X : Type 0} where
@@ -28,11 +28,24 @@ module _ {X : Type 0} where
     pub AllPairs-nil : AllPairs R []
     AllPairs-nil i j d below within = absurd (omega (arith, within))
 
+    pub AllPairs-one : (x : X) → AllPairs R (x ∷ [])
+    AllPairs-one x i j d below within = absurd (omega (arith, below, within))
+
+    pub AllPairs-first : (x : X) (xs : List X) → AllPairs R (x ∷ xs) → All (R x) xs
+    AllPairs-first x xs pairs k d within = pairs 0 (suc k) d (omega arith) (omega (arith, within))
+
     pub AllPairs-head : (x : X) (xs : List X) → AllPairs R (x ∷ xs) → (y : X) → Contains xs y → R x y
-    AllPairs-head x xs pairs = λ y. All-contains (R x) xs y (λ k d within. pairs 0 (suc k) d (omega arith) (omega (arith, within)))
+    AllPairs-head x xs pairs y = All-contains (R x) xs y (AllPairs-first x xs pairs)
 
     pub AllPairs-tail : (x : X) (xs : List X) → AllPairs R (x ∷ xs) → AllPairs R xs
     AllPairs-tail x xs pairs = λ i j d below within. pairs (suc i) (suc j) d (omega (arith, below)) (omega (arith, within))
+
+    pub AllPairs-append : (xs ys : List X) → AllPairs R xs → AllPairs R ys
+        → ((i j : ℕ) (d : X) → i < length xs → j < length ys → R (get_or xs i d) (get_or ys j d)) → AllPairs R (xs ++ ys)
+    AllPairs-append [] ys pairs others cross = others
+    AllPairs-append (x ∷ xs) ys pairs others cross =
+        AllPairs-cons R x (xs ++ ys) (All-append (R x) xs ys (AllPairs-first x xs pairs) (λ j d within. cross 0 j d (omega arith) within))
+        (AllPairs-append xs ys (AllPairs-tail x xs pairs) others (λ i j d inside within. cross (suc i) j d (omega (arith, inside)) within))
 
     pub AllPairs-with : (x : X) (xs : List X) → ((y : X) → Contains xs y → R x y) → AllPairs R xs → AllPairs R (x ∷ xs)
     AllPairs-with x xs each = AllPairs-cons R x xs (All-from_contains (R x) xs each)
