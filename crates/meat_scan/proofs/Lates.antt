@@ -19,7 +19,7 @@ use Rattle.trip_exit.specs.Offers.{Exit}
 use Rattle.meat_scan.specs.Step.{left_by, boarded, exits_next, rows_next, start_next}
 use Rattle.meat_scan.specs.Values.{value_after_arrival, values_after, in_front}
 use Rattle.meat_scan.specs.Tables.{rows_of_profile, exit_at, has_way, HasRoom, IsEmpty}
-use Rattle.meat_scan.proofs.States.{ScanState, first_state, next_state, next_there}
+use Rattle.meat_scan.proofs.States.{ScanState, first_state, next_state, id_there}
 
 -- no value after an arrival past the deadline, where no place has rows
 no_value : {V : Type 0} (arrived : ℕ → V) (target deadline : ℕ) (rows : ℕ → List (Row V)) (place arrival : ℕ) → rows place ≡ [] → deadline < arrival
@@ -88,7 +88,7 @@ module _ {V : Type 0} {below covers : V → Tree → Type 0} {gap rank : V → �
   late_state rest (id ∷ skipped) split late =
       let before = late_state (rest ++ id ∷ []) skipped (append_assoc rest (id ∷ []) skipped ∙ split) (All-tail (λ (i : ConnectionId). query.deadline.0 < dep_of network i.0) id skipped late) in
       let after : query.deadline.0 < dep_of network id.0 = All-head (λ (i : ConnectionId). query.deadline.0 < dep_of network i.0) id skipped late in
-      let there = next_there laws network good query order whole rest id profiles exits None before in
+      let there = id_there network good order whole rest before.taken id before.split in
       next_state laws network good query order whole rest id profiles profiles exits exits None None before
       (λ place. sym (rows_kept rank lowered arrived blended network good query id.0 there after (rows_of_profile profiles) (exit_at exits) empty.no_rows empty.no_exits place))
       (λ run. sym (exits_kept rank lowered arrived blended network good query id.0 there after (rows_of_profile profiles) (exit_at exits) empty.no_rows empty.no_exits run))

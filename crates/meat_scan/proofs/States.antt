@@ -10,7 +10,7 @@ use Rattle.plan_model.specs.NetworkModel.{NetworkModel}
 use Rattle.plan_model.specs.Network.{count, from_of, run_of, IsValid}
 use Rattle.plan_model.specs.Tree.{Tree}
 use Rattle.plan_model.specs.Order.{IsScanOrder}
-use Rattle.plan_model.proofs.ScanOrders.{has_each_id, Known, Never, whole_order, IsNext, next_of, all_known}
+use Rattle.plan_model.proofs.ScanOrders.{has_each_id, Known, Never, whole_order, next_of, all_known}
 use Rattle.value_laws.specs.ScoreLaws.{ScoreLaws}
 use Rattle.stop_profile.specs.declared.Row.{Row}
 use Rattle.stop_profile.specs.Shown.{ShownProfile}
@@ -54,9 +54,6 @@ module _ {V : Type 0} {below covers : V → Tree → Type 0} {gap rank : V → �
     kept = kept_same (same_function (rows_of_profile profiles) (λ place. []) empty.no_rows) (same_function (exit_at exits) (λ run. None) empty.no_exits) refl;
   }
 
-  next_taken : (rest taken : List ConnectionId) (id : ConnectionId) → (rest ++ id ∷ []) ++ taken ≡ order → IsNext network (Known Never taken) id.0
-  next_taken rest taken id split = next_of network good Never order (whole_order network order whole) rest taken id split
-
   -- one more
   pub next_state : (rest : List ConnectionId) (id : ConnectionId) (profiles profiles' : List (ShownProfile V)) (exits exits' : List (Option (Exit V)))
       (start start' : Option (V × Leg)) → ScanState below covers gap rank lowered arrived blended network query order
@@ -67,7 +64,7 @@ module _ {V : Type 0} {below covers : V → Tree → Type 0} {gap rank : V → �
       → ScanState below covers gap rank lowered arrived blended network query order rest profiles' exits' start'
   next_state rest id profiles profiles' exits exits' start start' state rows_are exits_are start_is =
       let known = Known Never (id ∷ state.taken) in
-      let next = next_taken rest state.taken id state.split in
+      let next = next_of network good Never order (whole_order network order whole) rest state.taken id state.split in
       let stepped = scan_ok_step laws network good query (Known Never state.taken) (length state.taken) id.0 next (rows_of_profile profiles) (exit_at exits) start state.ok in
       let counted = subst (λ n. ScanOk below covers gap rank network query known n
       (λ place. rows_next rank lowered arrived blended network query id.0 (rows_of_profile profiles) (exit_at exits) place)
@@ -108,11 +105,10 @@ module _ {V : Type 0} {below covers : V → Tree → Type 0} {gap rank : V → �
         start = ap (λ (kept : Kept V). kept.start) all_kept;
       }
 
-  -- the next id is one of the network's
-  pub next_there : (rest : List ConnectionId) (id : ConnectionId) (profiles : List (ShownProfile V)) (exits : List (Option (Exit V)))
-      (start : Option (V × Leg)) → ScanState below covers gap rank lowered arrived blended network query order (rest ++ id ∷ []) profiles exits start
-      → id.0 < count network
-  next_there rest id profiles exits start state = (next_taken rest state.taken id state.split).there
+-- the next id is one of the network's
+pub id_there : (network : NetworkModel) → IsValid network → (order : List ConnectionId) → IsScanOrder network order → (rest taken : List ConnectionId) (id : ConnectionId)
+    → (rest ++ id ∷ []) ++ taken ≡ order → id.0 < count network
+id_there network good order whole rest taken id split = (next_of network good Never order (whole_order network order whole) rest taken id split).there
 
 -- how many connections can be boarded from a place, with one more
 boardable-push : (network : NetworkModel) (place : ℕ) (rest : List ConnectionId) (id : ConnectionId)

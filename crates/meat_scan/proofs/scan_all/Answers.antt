@@ -1,7 +1,7 @@
 use Rattle.std.proofs.Common.{◌∙◌, ap, length, sym, subst, arith, refl}
 use Rattle.stop_profile.proofs.Gaps.{written_back}
 use Rattle.meat_scan.specs.Tables.{FitsTables, ShownTables, capacity_at}
-use Rattle.meat_scan.proofs.States.{next_state, last_state, rules_end, next_there, room_for_run, room_for_rows, room_next, found_rows-profiles}
+use Rattle.meat_scan.proofs.States.{next_state, last_state, rules_end, id_there, room_for_run, room_for_rows, room_next, found_rows-profiles}
 use Rattle.meat_scan.proofs.Lates.{skipped_state, skipped_room}
 use Rattle.meat_scan.proofs.scan_all.Goals as goal
 
@@ -24,18 +24,14 @@ pub scan_one-exit-requires-clause-there : goal.scan_one-exit-requires-clause-the
 scan_one-exit-requires-clause-there g c =
     let loop = c.loop-id.invariant in
     let state = rw c.in-Some.ensures.last at loop.state in
-    next_there g.V.Score.laws c.args.network.now loop.valid c.args.query.now
-    (g.B.BackwardOrder.rest c.args.order.now c.args.network.now) c.requires.whole
-    (g.B.BackwardOrder.rest c.next.new.self c.args.network.now) c.in-Some.id c.loop-id.profiles.items c.loop-id.exits c.loop-id.start state
+    id_there c.args.network.now loop.valid _ c.requires.whole _ state.taken c.in-Some.id state.split
 
 pub scan_one-exit-requires-clause-run : goal.scan_one-exit-requires-clause-run
 scan_one-exit-requires-clause-run g c =
     let loop = c.loop-id.invariant in
     let room = rw c.in-Some.ensures.last at loop.room in
     let state = rw c.in-Some.ensures.last at loop.state in
-    let there = next_there g.V.Score.laws c.args.network.now loop.valid c.args.query.now
-    (g.B.BackwardOrder.rest c.args.order.now c.args.network.now) c.requires.whole
-    (g.B.BackwardOrder.rest c.next.new.self c.args.network.now) c.in-Some.id c.loop-id.profiles.items c.loop-id.exits c.loop-id.start state in
+    let there = id_there c.args.network.now loop.valid _ c.requires.whole _ state.taken c.in-Some.id state.split in
     room_for_run c.args.network.now (g.B.BackwardOrder.rest c.next.new.self c.args.network.now) c.in-Some.id there c.loop-id.profiles.items c.loop-id.exits c.loop-id.kids.items room
 
 pub scan_one-exit-requires-clause-room : goal.scan_one-exit-requires-clause-room
@@ -43,9 +39,7 @@ scan_one-exit-requires-clause-room g c =
     let loop = c.loop-id.invariant in
     let room = rw c.in-Some.ensures.last at loop.room in
     let state = rw c.in-Some.ensures.last at loop.state in
-    let there = next_there g.V.Score.laws c.args.network.now loop.valid c.args.query.now
-    (g.B.BackwardOrder.rest c.args.order.now c.args.network.now) c.requires.whole
-    (g.B.BackwardOrder.rest c.next.new.self c.args.network.now) c.in-Some.id c.loop-id.profiles.items c.loop-id.exits c.loop-id.start state in
+    let there = id_there c.args.network.now loop.valid _ c.requires.whole _ state.taken c.in-Some.id state.split in
     rw c.deref_mut.ensures.value (room_for_rows c.args.network.now
     (g.B.BackwardOrder.rest c.next.new.self c.args.network.now) c.in-Some.id there c.loop-id.profiles.items c.loop-id.exits c.loop-id.kids.items room)
 
@@ -53,9 +47,7 @@ pub begin-start-requires : goal.begin-start-requires
 begin-start-requires g c =
     let loop = c.loop-id.invariant in
     let state = rw c.in-Some.ensures.last at loop.state in
-    next_there g.V.Score.laws c.args.network.now loop.valid c.args.query.now
-    (g.B.BackwardOrder.rest c.args.order.now c.args.network.now) c.requires.whole
-    (g.B.BackwardOrder.rest c.next.new.self c.args.network.now) c.in-Some.id c.loop-id.profiles.items c.loop-id.exits c.loop-id.start state
+    id_there c.args.network.now loop.valid _ c.requires.whole _ state.taken c.in-Some.id state.split
 
 pub loop-id-preserved : goal.loop-id-preserved
 loop-id-preserved g c =
@@ -64,8 +56,7 @@ loop-id-preserved g c =
     let rest = g.B.BackwardOrder.rest c.next.new.self c.args.network.now in
     let room = rw c.in-Some.ensures.last at loop.room in
     let state = rw c.in-Some.ensures.last at loop.state in
-    let there = next_there g.V.Score.laws c.args.network.now loop.valid c.args.query.now
-    (g.B.BackwardOrder.rest c.args.order.now c.args.network.now) c.requires.whole rest c.in-Some.id c.loop-id.profiles.items c.loop-id.exits c.loop-id.start state in
+    let there = id_there c.args.network.now loop.valid _ c.requires.whole _ state.taken c.in-Some.id state.split in
     let profiles_whole = c.loop-id.profiles.ok.0 in
     let kids_whole = c.loop-id.kids.ok.0 in
     let profiles_are = written_back one.new.profiles c.loop-id.profiles.items c.loop-id.profiles.len (omega arith) (omega arith) in
