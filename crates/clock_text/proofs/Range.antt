@@ -4,7 +4,7 @@ use Rattle.std.specs.Prelude.{Some, unsigned_abs}
 use Rattle.jiff_core.specs.Calendar.{days_from_civil}
 use Rattle.jiff_core.proofs.SignedLemmas.{signed_arith}
 use Rattle.jiff_core.proofs.CalendarLemmas.{days_from_civil-day_count, day_count_bounds}
-use Rattle.clock_text.specs.Times.{Parts, parts_at, seconds_of, moment_at}
+use Rattle.clock_text.specs.Times.{Parts, parts_at, seconds_of_parts, moment_at}
 use Rattle.clock_text.proofs.DateFacts.{after_epoch}
 use Rattle.clock_text.proofs.OneText.{Holds, parts_hold, if_cases}
 
@@ -24,6 +24,6 @@ seconds_small d h m s a b c e = omega arith
 pub moment_range : (t : List ℕ) (m : ℕ) → moment_at t ≡ Some m → m ≤ 253_402_300_799
 moment_range t m is =
     let p = parts_hold (parts_at t) m (if_cases _ _ m is).1 in
-    let few : seconds_of (parts_at t) ≤ 253_402_300_799
+    let few : seconds_of_parts (parts_at t) ≤ 253_402_300_799
     = seconds_small _ _ _ _ (day_before (parts_at t) p.0) p.0.hour p.0.minute p.0.second in
     subst (λ (k : ℕ). k ≤ 253_402_300_799) p.1 few

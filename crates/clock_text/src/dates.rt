@@ -2,7 +2,7 @@
 ghost use Rattle.std.specs.Prelude.{◌≡◌, ◌<◌, ◌≤◌, ◌+◌, ◌≤ℤ◌, ℕ, ℤ, pos, List, length, Some};
 ghost use Rattle.jiff_core.specs.Date.{epoch_day};
 ghost use Rattle.jiff_core.specs.Calendar.{weekday_number, IsEpochDay};
-ghost use Rattle.clock_text.specs.Times.{date_at, day_of, seconds_at, time_at, time_of, HasDate};
+ghost use Rattle.clock_text.specs.Times.{date_at, day_of, seconds_of_time, time_at, time_of, HasDate};
 
 use crate::digits::{four, read_digits, two};
 use crate::moments::day_of;
@@ -31,8 +31,8 @@ pub fn weekday(day: i32) -> u8
 }
 
 /// The seconds of a time of day, of at most 167 hours.
-fn seconds_at(hour: u32, minute: u32, second: u32) -> Option<u32>
-    ensures { result ≡ seconds_at hour minute second }
+fn seconds_of_time(hour: u32, minute: u32, second: u32) -> Option<u32>
+    ensures { result ≡ seconds_of_time hour minute second }
 {
     if hour > 167 || minute > 59 || second > 59 {
         return None;
@@ -52,7 +52,7 @@ fn time_of(text: &[u8], digits: usize) -> Option<u32>
     let hour = read_digits(&text[..digits])?;
     let minute = read_digits(&text[digits + 1..digits + 3])?;
     let second = read_digits(&text[digits + 4..digits + 6])?;
-    seconds_at(hour, minute, second)
+    seconds_of_time(hour, minute, second)
 }
 
 /// The seconds of a text H:MM:SS with one to three digits of hours up to 167, as the GTFS Schedule reference counts

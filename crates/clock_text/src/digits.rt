@@ -1,11 +1,11 @@
 //! Numbers as decimal digits.
 ghost use Rattle.std.specs.Prelude.{◌≡◌, ◌<◌, ◌≤◌, ◌^◌, length, IfSome};
-ghost use Rattle.clock_text.specs.Digits.{digits, number_of, optional_seconds_of, whole_of};
+ghost use Rattle.clock_text.specs.Digits.{digits, number_spelled, optional_seconds_of, whole_of};
 
 /// The number that a text of at most nine digits spells.
 pub(crate) fn read_digits(text: &[u8]) -> Option<u32>
     requires { length text.now ≤ 9 }
-    ensures value { result ≡ number_of text.now }
+    ensures value { result ≡ number_spelled text.now }
     ensures bound { IfSome result (λ n. n < 10 ^ length text.now) }
 {
     let mut number = 0u32;

@@ -3,7 +3,7 @@ ghost use Rattle.std.specs.Prelude.{◌≡◌, ◌<◌, ◌≤◌, option_map, I
 ghost use Rattle.jiff_core.specs.Calendar.{days_from_civil};
 ghost use Rattle.jiff_core.specs.Date.{epoch_day};
 ghost use Rattle.clock_text.specs.Civil.{last_day, last_printable, moment_text, nanos_text};
-ghost use Rattle.clock_text.specs.Times.{as_parts, day_of, has_marks, moment_of, moment_at, nanos_at, nanos_of};
+ghost use Rattle.clock_text.specs.Times.{as_parts, day_of, has_marks, moment_of_parts, moment_at, nanos_at, nanos_of};
 
 use crate::dates::date_from;
 use crate::digits::{four, nine, read_digits, two};
@@ -53,11 +53,11 @@ struct Written {
 }
 
 /// The moment of these parts, from 1970 on.
-fn moment_of(w: &Written) -> Option<Moment>
+fn moment_of_parts(w: &Written) -> Option<Moment>
     requires year { w.now.year < 10000 }
     requires month { w.now.month < 100 }
     requires day { w.now.day < 100 }
-    ensures { option_map (λ m. m.0) result ≡ moment_of (as_parts w.now) }
+    ensures { option_map (λ m. m.0) result ≡ moment_of_parts (as_parts w.now) }
 {
     if w.year < 1970 || w.hour > 23 || w.minute > 59 || w.second > 59 {
         return None;
@@ -80,7 +80,7 @@ pub fn read_moment(text: &[u8]) -> Option<Moment>
     let hour = read_digits(&text[11..13])?;
     let minute = read_digits(&text[14..16])?;
     let second = read_digits(&text[17..19])?;
-    moment_of(&Written {
+    moment_of_parts(&Written {
         year,
         month,
         day,
@@ -108,7 +108,7 @@ fn parts_of(moment: u64) -> Written
     ensures hour { result.hour < 100 }
     ensures minute { result.minute < 100 }
     ensures second { result.second < 100 }
-    ensures moment { moment_of (as_parts result) ≡ Some moment }
+    ensures moment { moment_of_parts (as_parts result) ≡ Some moment }
 {
     let date = date_since_1970((moment / SECONDS_PER_DAY) as u32).to_plain();
     let second = (moment % SECONDS_PER_DAY) as u32;

@@ -18,7 +18,7 @@ use Rattle.plan_graph.specs.Tidy.{IsFit, IsFitTable}
 use Rattle.graph_text.specs.declared.Head.{Head}
 use Rattle.graph_text.specs.declared.reader.TextFault.TheVariants as fault
 use Rattle.graph_text.specs.declared.version.Version.{Version}
-use Rattle.graph_text.specs.Reading.{start_in, tables_from, no_tables, started_in, graph_in, head_in, graph_of_records, graph_of, IsReadAs}
+use Rattle.graph_text.specs.Reading.{start_in, place_tables_from, no_tables, started_in, graph_after_first, head_in, graph_of_records, graph_of, IsReadAs}
 use Rattle.graph_text.specs.GraphRows.{version_in, AreGraphRows, IsTextOf}
 use Rattle.graph_text.specs.Asked.{IsHeadOf}
 use Rattle.printed_rows.specs.Fields.{field}
@@ -27,7 +27,7 @@ use Rattle.graph_text.proofs.Rows.{start_told, start_read, head_told, head_read}
 use Rattle.graph_text.proofs.Tables.{all_told, all_read}
 
 module _ (n : NetworkModel) (names : NameLists) (version : Version) (q : Query) where
-  graph_told : (rs : List (List (List ℕ))) (graph : PlanGraph) → graph_in n names version q.source.0 q.target.0 q.start.0 rs ≡ Ok graph
+  graph_told : (rs : List (List (List ℕ))) (graph : PlanGraph) → graph_after_first n names version q.source.0 q.target.0 q.start.0 rs ≡ Ok graph
       → AreGraphRows n names version q.source.0 graph.start graph.tables rs × IsFit n q graph
   graph_told [] graph is =
       let here = if-value (q.source.0 == q.target.0) (Ok (record { start = None; tables = [] })) (fault.Row 2) graph is in
@@ -37,7 +37,7 @@ module _ (n : NetworkModel) (names : NameLists) (version : Version) (q : Query) 
   graph_told (r ∷ rs) graph is =
       let away = else-value (q.source.0 == q.target.0) (started_in n names version q.source.0 q.start.0 r rs) (fault.Row 2) graph is in
       let leg = and_then-value (start_in n names version 2 q.source.0 q.start.0 r) _ graph away.1 in
-      let tables = and_then-value (tables_from n names version rs 3 no_tables) _ graph leg.2 in
+      let tables = and_then-value (place_tables_from n names version rs 3 no_tables) _ graph leg.2 in
       let begins = start_told n names version 2 r q.source.0 q.start.0 leg.0 leg.1 in
       let all = all_told n names version rs 3 tables.0 tables.1 in
       let same : record { start = Some leg.0; tables = tables.0 } ≡ graph = (cc) in
@@ -51,7 +51,7 @@ module _ (n : NetworkModel) (names : NameLists) (version : Version) (q : Query) 
       )
 
   graph_read : IsValid n → (start : Option Leg) (tables : List PlaceTable) (rs : List (List (List ℕ))) → AreGraphRows n names version q.source.0 start tables rs
-      → IsFit n q (record { start = start; tables = tables }) → graph_in n names version q.source.0 q.target.0 q.start.0 rs ≡ Ok (record { start = start; tables = tables })
+      → IsFit n q (record { start = start; tables = tables }) → graph_after_first n names version q.source.0 q.target.0 q.start.0 rs ≡ Ok (record { start = start; tables = tables })
   graph_read valid None tables [] rows fit = rw (eq-eqb q.source.0 q.target.0 fit.starts.0, fit.starts.1) refl
   graph_read valid None tables (r ∷ rs) rows fit = absurd (cc)
   graph_read valid (Some leg) tables [] rows fit = absurd rows
@@ -61,13 +61,14 @@ module _ (n : NetworkModel) (names : NameLists) (version : Version) (q : Query) 
 
 module _ (n : NetworkModel) (names : NameLists) (source target start : ℕ) (text : List ℕ) where
   parts_told : (version : Version) (r : List (List ℕ)) (rs : List (List (List ℕ))) (head : Head) (graph : PlanGraph) → table_of text ≡ r ∷ rs → version_in r ≡ Some version
-      → head_in names version source target start r ≡ Ok head → graph_in n names version source target start rs ≡ Ok graph → IsTextOf n names head graph text × IsHeadOf source target start head
+      → head_in names version source target start r ≡ Ok head → graph_after_first n names version source target start rs ≡ Ok graph
+      → IsTextOf n names head graph text × IsHeadOf source target start head
   parts_told version r rs head graph table number is_head is_graph =
       let (row, asked) = head_told names version r number source target start head is_head in
-      let of_query : graph_in n names version head.query.source.0 head.query.target.0 head.query.start.0 rs ≡ Ok graph
-      = ap (λ (x : ℕ). graph_in n names version x head.query.target.0 head.query.start.0 rs) asked.source
-      ∙ ap (λ (x : ℕ). graph_in n names version source x head.query.start.0 rs) asked.target
-      ∙ ap (λ (x : ℕ). graph_in n names version source target x rs) asked.start
+      let of_query : graph_after_first n names version head.query.source.0 head.query.target.0 head.query.start.0 rs ≡ Ok graph
+      = ap (λ (x : ℕ). graph_after_first n names version x head.query.target.0 head.query.start.0 rs) asked.source
+      ∙ ap (λ (x : ℕ). graph_after_first n names version source x head.query.start.0 rs) asked.target
+      ∙ ap (λ (x : ℕ). graph_after_first n names version source target x rs) asked.start
       ∙ is_graph in
       let told = graph_told n names version head.query rs graph of_query in (
         record {
@@ -90,7 +91,7 @@ module _ (n : NetworkModel) (names : NameLists) (source target start : ℕ) (tex
   records_told (r ∷ rs) head graph table is =
       let (version, number, more) = require-ok (version_in r) _ _ (head, graph) is in
       let (own, is_head, rest) = and_then-value (head_in names version source target start r) _ (head, graph) more in
-      let (g, is_graph, whole) = and_then-value (graph_in n names version source target start rs) _ (head, graph) rest in
+      let (g, is_graph, whole) = and_then-value (graph_after_first n names version source target start rs) _ (head, graph) rest in
       let same : (own, g) ≡ (head, graph) = (cc) in
       subst (λ (p : Head × PlanGraph). IsTextOf n names p.0 p.1 text × IsHeadOf source target start p.0) {x = (own, g)} {y = (head, graph)} same
       (parts_told version r rs own g table number is_head is_graph)

@@ -21,7 +21,7 @@ use Rattle.graph_text.specs.declared.reader.LegNames.{LegNames}
 use Rattle.graph_text.specs.declared.reader.PlaceRow.{PlaceRow}
 use Rattle.graph_text.specs.declared.reader.HeadRow.{HeadRow}
 use Rattle.graph_text.specs.declared.reader.TableStart.{TableStart}
-use Rattle.graph_text.specs.Reading.{leg_names, names_in, leg_numbers, leg_row_in, leg_found, leg_of, agrees, is_limit, can_start, is_by_limit, start_in, row_in, place_numbers, place_row_in}
+use Rattle.graph_text.specs.Reading.{leg_names, names_in, leg_numbers, leg_row_in, leg_found, leg_between, agrees, is_limit, can_start, is_by_limit, start_in, row_in, place_numbers, place_row_in}
 use Rattle.graph_text.specs.Reading.{table_in, are_in_order, head_numbers, head_row_in, head_of, head_in}
 use Rattle.graph_text.specs.Versions.{width_of}
 use Rattle.graph_text.specs.Asked.{IsHeadOf}
@@ -52,10 +52,10 @@ names_told None b c known is = absurd (cc)
 names_told (Some a) None c known is = absurd (cc)
 names_told (Some a) (Some b) None known is = absurd (cc)
 
-found_told : (test : ℕ → ℕ → Bool) (a b : Option ℕ) (leg : Leg) → option_and_then (λ i. option_and_then (λ j. if test i j then Some (leg_of i j) else None) b) a ≡ Some leg
+found_told : (test : ℕ → ℕ → Bool) (a b : Option ℕ) (leg : Leg) → option_and_then (λ i. option_and_then (λ j. if test i j then Some (leg_between i j) else None) b) a ≡ Some leg
     → (a ≡ Some leg.enter.0) × (b ≡ Some leg.exit.0) × (test leg.enter.0 leg.exit.0 ≡ true)
 found_told test (Some i) (Some j) leg is =
-    let both = some_cases (test i j) (leg_of i j) leg is in
+    let both = some_cases (test i j) (leg_between i j) leg is in
     subst (λ (l : Leg). (Some i ≡ Some l.enter.0) × (Some j ≡ Some l.exit.0) × (test l.enter.0 l.exit.0 ≡ true)) both.1 (refl, refl, both.0)
 found_told test None b leg is = absurd (cc)
 found_told test (Some i) None leg is = absurd (cc)
@@ -141,7 +141,7 @@ module _ (n : NetworkModel) (names : NameLists) (version : Version) (kind : List
         (ap (λ (run : ℕ). connection_of n run (step_of n leg.exit.0)) is_leg.one_run ∙ connection_back n valid leg.exit.0 is_leg.exit)
       where
         by_ends : (a b : Option ℕ) → a ≡ Some leg.enter.0 → b ≡ Some leg.exit.0
-            → option_and_then (λ i. option_and_then (λ j. if agrees n i j numbers known then Some (leg_of i j) else None) b) a ≡ Some leg
+            → option_and_then (λ i. option_and_then (λ j. if agrees n i j numbers known then Some (leg_between i j) else None) b) a ≡ Some leg
         by_ends a b one two = rw (one, two, all_agree) refl
 
 -- ---- the rows of a graph

@@ -17,25 +17,25 @@ use Rattle.graph_text.specs.declared.reader.TextFault.{TextFault}
 use Rattle.graph_text.specs.declared.reader.TextFault.TheVariants as f
 use Rattle.printed_rows.proofs.Lines.{split_at}
 use Rattle.graph_text.specs.GraphRows.{version_in}
-use Rattle.graph_text.specs.Reading.{extended, row_in, step, IsRead, place_or_first, tables_from, graph_in, head_in, graph_of_records}
+use Rattle.graph_text.specs.Reading.{after_leg_row, row_in, step, IsUnlessNoMemory, place_or_first, place_tables_from, graph_after_first, head_in, graph_of_records}
 
 not_none : (left : ℕ) → (left ≡ 0 → ⊥) → (left == 0) ≡ false
 not_none left some = grind (arith, nat_tests)
 
 -- where leg rows are to come
 pub leg_step : (n : NetworkModel) (names : NameLists) (version : Version) (line : ℕ) (r : List (List ℕ)) (s : Reading) (place : PlaceId) → (s.left ≡ 0 → ⊥)
-    → s.place ≡ Some place → extended s (row_in n names version line place.0 (option_map (λ moment. moment.0) s.by) r) ≡ step n names version line r s
+    → s.place ≡ Some place → after_leg_row s (row_in n names version line place.0 (option_map (λ moment. moment.0) s.by) r) ≡ step n names version line r s
 leg_step n names version line r s place some is =
-    sym (rw (not_none s.left some) (ap (λ (p : Option PlaceId). extended s (row_in n names version line (place_or_first p).0 (option_map (λ moment. moment.0) s.by) r)) is))
+    sym (rw (not_none s.left some) (ap (λ (p : Option PlaceId). after_leg_row s (row_in n names version line (place_or_first p).0 (option_map (λ moment. moment.0) s.by) r)) is))
 
 -- what is read where a step failed is so of what `?` raises again
 pub read_raised : {A : Type 0} (fault : TextFault) (r told : Result A TextFault) → IsErr r × IsErrAnd r (λ raised. raised ≡ fault)
-    → IsRead (Err fault) told → IsRead r told
+    → IsUnlessNoMemory (Err fault) told → IsUnlessNoMemory r told
 read_raised fault (Ok a) told raised is = absurd raised.1
-read_raised {A} fault (Err again) told raised is = subst (λ (f : TextFault). IsRead {A = A} (Err f) told) (sym raised.1) is
+read_raised {A} fault (Err again) told raised is = subst (λ (f : TextFault). IsUnlessNoMemory {A = A} (Err f) told) (sym raised.1) is
 
 -- a fault ends what is read
-pub read_err : {A B : Type 0} (fault : TextFault) (told : Result A TextFault) (next : A → Result B TextFault) → told ≡ Err fault → IsRead {A = B} (Err fault) (and_then told next)
+pub read_err : {A B : Type 0} (fault : TextFault) (told : Result A TextFault) (next : A → Result B TextFault) → told ≡ Err fault → IsUnlessNoMemory {A = B} (Err fault) (and_then told next)
 read_err f.NoMemory told next is = tt
 read_err (f.Row line) told next is = ap (λ r. and_then r next) is
 read_err (f.UnknownName line) told next is = ap (λ r. and_then r next) is
@@ -43,7 +43,8 @@ read_err (f.NotRising line) told next is = ap (λ r. and_then r next) is
 read_err (f.NoLeg line) told next is = ap (λ r. and_then r next) is
 read_err (f.OtherQuery line) told next is = ap (λ r. and_then r next) is
 
-pub fault_on : {A B : Type 0} (fault : TextFault) (told : Result A TextFault) (next : A → Result B TextFault) → IsRead {A = A} (Err fault) told → IsRead {A = B} (Err fault) (and_then told next)
+pub fault_on : {A B : Type 0} (fault : TextFault) (told : Result A TextFault) (next : A → Result B TextFault) → IsUnlessNoMemory {A = A} (Err fault) told
+    → IsUnlessNoMemory {A = B} (Err fault) (and_then told next)
 fault_on f.NoMemory told next is = tt
 fault_on (f.Row line) told next is = ap (λ r. and_then r next) is
 fault_on (f.UnknownName line) told next is = ap (λ r. and_then r next) is
@@ -51,23 +52,24 @@ fault_on (f.NotRising line) told next is = ap (λ r. and_then r next) is
 fault_on (f.NoLeg line) told next is = ap (λ r. and_then r next) is
 fault_on (f.OtherQuery line) told next is = ap (λ r. and_then r next) is
 
-pub ok_on : {A B : Type 0} (told : Result A TextFault) (a : A) (next : A → Result B TextFault) (r : Result B TextFault) → told ≡ Ok a → IsRead r (next a) → IsRead r (and_then told next)
-ok_on {A} {B} told a next r is read = subst (λ (t : Result A TextFault). IsRead r (and_then t next)) (sym is) read
+pub ok_on : {A B : Type 0} (told : Result A TextFault) (a : A) (next : A → Result B TextFault) (r : Result B TextFault) → told ≡ Ok a → IsUnlessNoMemory r (next a)
+    → IsUnlessNoMemory r (and_then told next)
+ok_on {A} {B} told a next r is read = subst (λ (t : Result A TextFault). IsUnlessNoMemory r (and_then t next)) (sym is) read
 
 -- the tables of the records from one on, after the step of this one
 pub tables_after : (n : NetworkModel) (names : NameLists) (version : Version) (rows : List (List (List ℕ))) (line i : ℕ) (s now : Reading) → i < length rows
     → step n names version line (slice_index_or rows i []) s ≡ Ok now
-    → tables_from n names version (drop i rows) line s ≡ tables_from n names version (drop (i + 1) rows) (line + 1) now
+    → place_tables_from n names version (drop i rows) line s ≡ place_tables_from n names version (drop (i + 1) rows) (line + 1) now
 tables_after n names version rows line i s now within is =
-    ap (λ (list : List (List (List ℕ))). tables_from n names version list line s) (split_at rows i [] within)
-    ∙ ap (λ (told : Result Reading TextFault). and_then told (tables_from n names version (drop (i + 1) rows) (line + 1))) is
+    ap (λ (list : List (List (List ℕ))). place_tables_from n names version list line s) (split_at rows i [] within)
+    ∙ ap (λ (told : Result Reading TextFault). and_then told (place_tables_from n names version (drop (i + 1) rows) (line + 1))) is
 
 pub tables_fail : (n : NetworkModel) (names : NameLists) (version : Version) (rows : List (List (List ℕ))) (line i : ℕ) (s : Reading) (fault : TextFault)
-    → i < length rows → IsRead {A = Reading} (Err fault) (step n names version line (slice_index_or rows i []) s)
-    → IsRead {A = List PlaceTable} (Err fault) (tables_from n names version (drop i rows) line s)
+    → i < length rows → IsUnlessNoMemory {A = Reading} (Err fault) (step n names version line (slice_index_or rows i []) s)
+    → IsUnlessNoMemory {A = List PlaceTable} (Err fault) (place_tables_from n names version (drop i rows) line s)
 tables_fail n names version rows line i s fault within told =
-    subst (λ (list : List (List (List ℕ))). IsRead {A = List PlaceTable} (Err fault) (tables_from n names version list line s)) (sym (split_at rows i [] within))
-    (fault_on fault (step n names version line (slice_index_or rows i []) s) (tables_from n names version (drop (i + 1) rows) (line + 1)) told)
+    subst (λ (list : List (List (List ℕ))). IsUnlessNoMemory {A = List PlaceTable} (Err fault) (place_tables_from n names version list line s)) (sym (split_at rows i [] within))
+    (fault_on fault (step n names version line (slice_index_or rows i []) s) (place_tables_from n names version (drop (i + 1) rows) (line + 1)) told)
 
 -- a table's records
 pub first_split : (t : List (List (List ℕ))) → 0 < length t → t ≡ slice_index_or t 0 [] ∷ drop 1 t
@@ -88,10 +90,11 @@ rest_none (r ∷ s ∷ rs) none = absurd (omega (arith, none))
 pub told_by : (n : NetworkModel) (names : NameLists) (version : Version) (source target start : ℕ) (rows : List (List (List ℕ))) (head : Head) (r : Result (Head × PlanGraph) TextFault)
     → 0 < length rows
     → Some version ≡ version_in (slice_index_or rows 0 []) → Ok head ≡ head_in names version source target start (slice_index_or rows 0 [])
-    → IsRead r (and_then (graph_in n names version source target start (drop 1 rows)) (λ graph. Ok (head, graph))) → IsRead r (graph_of_records n names source target start rows)
+    → IsUnlessNoMemory r (and_then (graph_after_first n names version source target start (drop 1 rows)) (λ graph. Ok (head, graph)))
+    → IsUnlessNoMemory r (graph_of_records n names source target start rows)
 told_by n names version source target start rows head r some found is read =
-    subst (λ (t : List (List (List ℕ))). IsRead r (graph_of_records n names source target start t)) (sym (first_split rows some))
-    (subst (λ (v : Option Version). IsRead r (require v (f.Row 1) (λ own. and_then (head_in names own source target start (slice_index_or rows 0 []))
-    (λ h. and_then (graph_in n names own source target start (drop 1 rows)) (λ graph. Ok (h, graph)))))) found
+    subst (λ (t : List (List (List ℕ))). IsUnlessNoMemory r (graph_of_records n names source target start t)) (sym (first_split rows some))
+    (subst (λ (v : Option Version). IsUnlessNoMemory r (require v (f.Row 1) (λ own. and_then (head_in names own source target start (slice_index_or rows 0 []))
+    (λ h. and_then (graph_after_first n names own source target start (drop 1 rows)) (λ graph. Ok (h, graph)))))) found
     (ok_on (head_in names version source target start (slice_index_or rows 0 [])) head
-    (λ h. and_then (graph_in n names version source target start (drop 1 rows)) (λ graph. Ok (h, graph))) r (sym is) read))
+    (λ h. and_then (graph_after_first n names version source target start (drop 1 rows)) (λ graph. Ok (h, graph))) r (sym is) read))

@@ -21,7 +21,7 @@ use Rattle.graph_text.specs.declared.reader.TextFault.TheVariants as fault
 use Rattle.graph_text.specs.declared.reader.TableStart.{TableStart}
 use Rattle.graph_text.specs.declared.reader.Reading.{Reading}
 use Rattle.graph_text.specs.declared.version.Version.{Version}
-use Rattle.graph_text.specs.Reading.{row_in, table_in, begun, extended, place_or_first, step, tables_from, no_tables}
+use Rattle.graph_text.specs.Reading.{row_in, table_in, after_place_row, after_leg_row, place_or_first, step, place_tables_from, no_tables}
 use Rattle.graph_text.specs.GraphRows.{IsLegRow, IsPlaceRow, AreLegRows, AreTableRows}
 use Rattle.printed_rows.specs.Fields.{rises}
 use Rattle.printed_rows.proofs.Chains.{and_then-value, if-value}
@@ -65,10 +65,10 @@ place_number t = t.place.0
 
 -- ---- what is read after some rows
 
-begun_is : (s now : Reading) (told : Result TableStart TextFault) → begun s told ≡ Ok now
+place_row_is : (s now : Reading) (told : Result TableStart TextFault) → after_place_row s told ≡ Ok now
     → (t : TableStart) × (told ≡ Ok t) × (record { done = s.done; place = Some t.place; rows = []; by = None; left = t.count } ≡ now)
-begun_is s now (Ok t) is = (t, refl, (cc))
-begun_is s now (Err e) is = absurd (cc)
+place_row_is s now (Ok t) is = (t, refl, (cc))
+place_row_is s now (Err e) is = absurd (cc)
 
 module _ (s : Reading) (row : GraphRow) where
   abbrev after_last : Reading
@@ -77,16 +77,16 @@ module _ (s : Reading) (row : GraphRow) where
   abbrev after_row : Reading
   after_row = record { done = s.done; place = s.place; rows = s.rows ++ row ∷ []; by = Some row.by; left = s.left - 1 }
 
-  last_row : s.left ≡ 1 → extended s (Ok row) ≡ Ok after_last
+  last_row : s.left ≡ 1 → after_leg_row s (Ok row) ≡ Ok after_last
   last_row one = rw (eq-eqb s.left 1 one) refl
 
-  further_row : s.left ≢ 1 → extended s (Ok row) ≡ Ok after_row
+  further_row : s.left ≢ 1 → after_leg_row s (Ok row) ≡ Ok after_row
   further_row many = rw (ne_eqb s.left 1 many) refl
 
-extended_is : (s now : Reading) (told : Result GraphRow TextFault) → extended s told ≡ Ok now
+leg_row_is : (s now : Reading) (told : Result GraphRow TextFault) → after_leg_row s told ≡ Ok now
     → (row : GraphRow) × (told ≡ Ok row) × (◌≡◌ {A = Result Reading TextFault} (if s.left == 1 then Ok (after_last s row) else Ok (after_row s row)) (Ok now))
-extended_is s now (Ok row) is = (row, refl, is)
-extended_is s now (Err e) is = absurd (cc)
+leg_row_is s now (Ok row) is = (row, refl, is)
+leg_row_is s now (Err e) is = absurd (cc)
 
 module _ (n : NetworkModel) (names : NameLists) (version : Version) where
   -- the rows that are left are those of the table that is open, as many as are to come, and then those of further tables
@@ -188,16 +188,16 @@ module _ (n : NetworkModel) (names : NameLists) (version : Version) where
             let same : after_row s row ≡ now = (cc) in
             with_row row told some (λ one. false≢true (sym many ∙ eq-eqb s.left 1 one)) (subst (λ u. Continues u rs tables) (sym same) next)
 
-        by_left : (test : Bool) → (s.left == 0) ≡ test → (if test then begun s (table_in n names version line (option_map (λ place. place.0) s.place) r)
-            else extended s (row_in n names version line (place_or_first s.place).0 (option_map (λ moment. moment.0) s.by) r)) ≡ Ok now → Continues s (r ∷ rs) tables
+        by_left : (test : Bool) → (s.left == 0) ≡ test → (if test then after_place_row s (table_in n names version line (option_map (λ place. place.0) s.place) r)
+            else after_leg_row s (row_in n names version line (place_or_first s.place).0 (option_map (λ moment. moment.0) s.by) r)) ≡ Ok now → Continues s (r ∷ rs) tables
         by_left true none is =
-            let (t, told, same) = begun_is s now (table_in n names version line (option_map (λ place. place.0) s.place) r) is in
+            let (t, told, same) = place_row_is s now (table_in n names version line (option_map (λ place. place.0) s.place) r) is in
             with_place t (eqb-true s.left 0 none) told (subst (λ u. Continues u rs tables) (sym same) next)
         by_left false some is =
-            let (row, told, more) = extended_is s now (row_in n names version line (place_or_first s.place).0 (option_map (λ moment. moment.0) s.by) r) is in
+            let (row, told, more) = leg_row_is s now (row_in n names version line (place_or_first s.place).0 (option_map (λ moment. moment.0) s.by) r) is in
             by_last row told (λ none. false≢true (sym some ∙ eq-eqb s.left 0 none)) (s.left == 1) refl more
 
-  tables_told : (rs : List (List (List ℕ))) (line : ℕ) (s : Reading) (tables : List PlaceTable) → tables_from n names version rs line s ≡ Ok tables → Continues s rs tables
+  tables_told : (rs : List (List (List ℕ))) (line : ℕ) (s : Reading) (tables : List PlaceTable) → place_tables_from n names version rs line s ≡ Ok tables → Continues s rs tables
   tables_told [] line s tables is =
       let both = if-value (s.left == 0) (Ok s.done) (fault.Row line) tables is in
       let none = eqb-true s.left 0 both.0 in
@@ -219,11 +219,11 @@ module _ (n : NetworkModel) (names : NameLists) (version : Version) where
         opened = λ some. absurd (some none);
       }
   tables_told (r ∷ rs) line s tables is =
-      let (now, told, rest) = and_then-value (step n names version line r s) (tables_from n names version rs (line + 1)) tables is in
+      let (now, told, rest) = and_then-value (step n names version line r s) (place_tables_from n names version rs (line + 1)) tables is in
       after_step line r rs s tables now told (tables_told rs (line + 1) now tables rest)
 
   -- all of them
-  pub all_told : (rs : List (List (List ℕ))) (line : ℕ) (tables : List PlaceTable) → tables_from n names version rs line no_tables ≡ Ok tables
+  pub all_told : (rs : List (List (List ℕ))) (line : ℕ) (tables : List PlaceTable) → place_tables_from n names version rs line no_tables ≡ Ok tables
       → AreTableRows n names version tables rs × All (IsFitTable n) tables × AllPairs (λ a b. a.place.0 < b.place.0) tables
   all_told rs line tables is =
       let told = tables_told rs line no_tables tables is in
@@ -240,51 +240,52 @@ module _ (n : NetworkModel) (names : NameLists) (version : Version) where
 
     row_step : (line : ℕ) (r : List (List ℕ)) (done : List PlaceTable) (place : PlaceId) (before : List GraphRow) (last : Option Moment) (left : ℕ) (row : GraphRow) → (left ≡ 0 → ⊥)
         → IsLegRow n names version (codes "leg") place.0 row.by.0 row.leg r → IsFitRow n place.0 row → rises (option_map (λ moment. moment.0) last) row.by.0 ≡ true
-        → step n names version line r (with_rows done place before last left) ≡ extended (with_rows done place before last left) (Ok row)
+        → step n names version line r (with_rows done place before last left) ≡ after_leg_row (with_rows done place before last left) (Ok row)
     row_step line r done place before last left row some told fit later =
         sym (leg_step n names version line r (with_rows done place before last left) place some refl)
-        ∙ ap (λ (read : Result GraphRow TextFault). extended (with_rows done place before last left) read)
+        ∙ ap (λ (read : Result GraphRow TextFault). after_leg_row (with_rows done place before last left) read)
         (row_read n names version line r valid place.0 (option_map (λ moment. moment.0) last) row later told fit)
 
     rows_read : (rows : List GraphRow) (own rest : List (List (List ℕ))) (line : ℕ) (done : List PlaceTable) (place : PlaceId) (before : List GraphRow)
         (last : Option Moment) (left : ℕ) (all : List PlaceTable) → left ≡ length rows → 1 ≤ left
         → AreLegRows n names version place.0 rows own → All (IsFitRow n place.0) rows → RiseFrom by_number (option_map (λ moment. moment.0) last) rows
-        → ((later : ℕ) → tables_from n names version rest later
+        → ((later : ℕ) → place_tables_from n names version rest later
         (record { done = done ++ (record { place = place; rows = before ++ rows }) ∷ []; place = Some place; rows = []; by = None; left = 0 }) ≡ Ok all)
-        → tables_from n names version (own ++ rest) line (with_rows done place before last left) ≡ Ok all
+        → place_tables_from n names version (own ++ rest) line (with_rows done place before last left) ≡ Ok all
     rows_read [] own rest line done place before last left all size some legs fits rise goes_on = absurd (omega (arith, size, some))
     rows_read (row ∷ rows) [] rest line done place before last left all size some legs fits rise goes_on = absurd legs
     rows_read (row ∷ []) (r ∷ []) rest line done place before last left all size some legs fits rise goes_on =
-        ap (λ (told : Result Reading TextFault). and_then told (tables_from n names version rest (line + 1)))
+        ap (λ (told : Result Reading TextFault). and_then told (place_tables_from n names version rest (line + 1)))
         (row_step line r done place before last left row (λ none. omega (arith, none, some)) legs.0 (All-head (IsFitRow n place.0) row [] fits) rise.0
         ∙ last_row (with_rows done place before last left) row size)
         ∙ goes_on (line + 1)
     rows_read (row ∷ []) (r ∷ x ∷ own) rest line done place before last left all size some legs fits rise goes_on = absurd legs.1
     rows_read (row ∷ next ∷ rows) (r ∷ own) rest line done place before last left all size some legs fits rise goes_on =
-        ap (λ (told : Result Reading TextFault). and_then told (tables_from n names version (own ++ rest) (line + 1)))
+        ap (λ (told : Result Reading TextFault). and_then told (place_tables_from n names version (own ++ rest) (line + 1)))
         (row_step line r done place before last left row (λ none. omega (arith, none, some)) legs.0 (All-head (IsFitRow n place.0) row (next ∷ rows) fits) rise.0
         ∙ further_row (with_rows done place before last left) row (λ one. omega (arith, one, size)))
         ∙ rows_read (next ∷ rows) own rest (line + 1) done place (before ++ row ∷ []) (Some row.by) (left - 1) all (omega (arith, size)) (omega (arith, size)) legs.1
         (All-tail (IsFitRow n place.0) row (next ∷ rows) fits) rise.1
-        (λ later. ap (λ (list : List GraphRow). tables_from n names version rest later
+        (λ later. ap (λ (list : List GraphRow). place_tables_from n names version rest later
         (record { done = done ++ (record { place = place; rows = list }) ∷ []; place = Some place; rows = []; by = None; left = 0 })) (append_assoc before (row ∷ []) (next ∷ rows)) ∙ goes_on later)
 
     tables_read : (tables : List PlaceTable) (rs : List (List (List ℕ))) (line : ℕ) (done : List PlaceTable) (last : Option PlaceId) → AreTableRows n names version tables rs
         → All (IsFitTable n) tables → RiseFrom place_number (option_map (λ place. place.0) last) tables
-        → tables_from n names version rs line (record { done = done; place = last; rows = []; by = None; left = 0 }) ≡ Ok (done ++ tables)
+        → place_tables_from n names version rs line (record { done = done; place = last; rows = []; by = None; left = 0 }) ≡ Ok (done ++ tables)
     tables_read [] [] line done last rows fits rise = ap (λ (list : List PlaceTable). Ok list) (sym (append-nil done))
     tables_read [] (r ∷ rs) line done last rows fits rise = absurd rows
     tables_read (t ∷ tables) [] line done last rows fits rise = absurd rows
     tables_read (t ∷ tables) (r ∷ rs) line done last rows fits rise =
         let (own, rest, split, legs, more) = rows.1 in
         let first = All-head (IsFitTable n) t tables fits in
-        ap (λ (told : Result TableStart TextFault). and_then (begun (record { done = done; place = last; rows = []; by = None; left = 0 }) told) (tables_from n names version rs (line + 1)))
+        ap (λ (told : Result TableStart TextFault). and_then (after_place_row (record { done = done; place = last; rows = []; by = None; left = 0 }) told)
+        (place_tables_from n names version rs (line + 1)))
         (table_read n names version line r (option_map (λ place. place.0) last) (record { place = t.place; count = length t.rows }) rise.0 rows.0 first.some)
-        ∙ ap (λ (list : List (List (List ℕ))). tables_from n names version list (line + 1) (with_rows done t.place [] None (length t.rows))) split
+        ∙ ap (λ (list : List (List (List ℕ))). place_tables_from n names version list (line + 1) (with_rows done t.place [] None (length t.rows))) split
         ∙ rows_read t.rows own rest (line + 1) done t.place [] None (length t.rows) (done ++ t ∷ tables) refl first.some legs first.rows (rise_from_pairs by_number t.rows first.rising)
         (λ later. tables_read tables rest later (done ++ t ∷ []) (Some t.place) more (All-tail (IsFitTable n) t tables fits) rise.1
         ∙ ap (λ (list : List PlaceTable). Ok list) (append_assoc done (t ∷ []) tables))
 
     pub all_read : (rs : List (List (List ℕ))) (line : ℕ) (tables : List PlaceTable) → AreTableRows n names version tables rs → All (IsFitTable n) tables
-        → AllPairs (λ a b. a.place.0 < b.place.0) tables → tables_from n names version rs line no_tables ≡ Ok tables
+        → AllPairs (λ a b. a.place.0 < b.place.0) tables → place_tables_from n names version rs line no_tables ≡ Ok tables
     all_read rs line tables rows fits rising = tables_read tables rs line [] None rows fits (rise_from_pairs place_number tables rising)

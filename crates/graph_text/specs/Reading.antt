@@ -59,13 +59,13 @@ agrees network i j x known =
     nat_le x.enter x.exit && ((connection network i).can_board && ((connection network j).can_exit
     && ((dep_of network i == x.dep.0) && ((from_of network i == known.entry.0) && ((to_of network j == known.exit.0) && (arr_of network j == x.arr.0))))))
 
-abbrev pub leg_of : ℕ → ℕ → Leg
-leg_of i j = record { enter = record { 0 = i }; exit = record { 0 = j } }
+abbrev pub leg_between : ℕ → ℕ → Leg
+leg_between i j = record { enter = record { 0 = i }; exit = record { 0 = j } }
 
 -- the leg of a row by its run and places, where the network has it
 abbrev pub leg_found : NetworkModel → LegRow → LegNames → Option Leg
 leg_found network x known =
-    option_and_then (λ i. option_and_then (λ j. if agrees network i j x known then Some (leg_of i j) else None)
+    option_and_then (λ i. option_and_then (λ j. if agrees network i j x known then Some (leg_between i j) else None)
     (connection_of network known.run.0 x.exit)) (connection_of network known.run.0 x.enter)
 
 -- whether a limit is there and is this moment
@@ -117,18 +117,18 @@ table_in network names version line last r =
     else Err (NotRising line)))
 
 -- the tables so far, with one that begins or has one row more
-abbrev pub begun : Reading → Result TableStart TextFault → Result Reading TextFault
-begun s (Err e) = Err e
-begun s (Ok t) = Ok (record { done = s.done; place = Some t.place; rows = []; by = None; left = t.count })
+abbrev pub after_place_row : Reading → Result TableStart TextFault → Result Reading TextFault
+after_place_row s (Err e) = Err e
+after_place_row s (Ok t) = Ok (record { done = s.done; place = Some t.place; rows = []; by = None; left = t.count })
 
 -- the place, where there is one
 abbrev pub place_or_first : Option PlaceId → PlaceId
 place_or_first None = record { 0 = 0 }
 place_or_first (Some place) = place
 
-abbrev pub extended : Reading → Result GraphRow TextFault → Result Reading TextFault
-extended s (Err e) = Err e
-extended s (Ok row) =
+abbrev pub after_leg_row : Reading → Result GraphRow TextFault → Result Reading TextFault
+after_leg_row s (Err e) = Err e
+after_leg_row s (Ok row) =
     if s.left == 1
     then Ok (record { done = s.done ++ (record { place = place_or_first s.place; rows = s.rows ++ row ∷ [] }) ∷ []; place = s.place; rows = []; by = None; left = 0 })
     else Ok (record { done = s.done; place = s.place; rows = s.rows ++ row ∷ []; by = Some row.by; left = s.left - 1 })
@@ -137,13 +137,13 @@ extended s (Ok row) =
 abbrev pub step : NetworkModel → NameLists → Version → ℕ → List (List ℕ) → Reading → Result Reading TextFault
 step network names version line r s =
     if s.left == 0
-    then begun s (table_in network names version line (option_map (λ place. place.0) s.place) r)
-    else extended s (row_in network names version line (place_or_first s.place).0 (option_map (λ moment. moment.0) s.by) r)
+    then after_place_row s (table_in network names version line (option_map (λ place. place.0) s.place) r)
+    else after_leg_row s (row_in network names version line (place_or_first s.place).0 (option_map (λ moment. moment.0) s.by) r)
 
 -- the tables of the records from a line on
-abbrev pub tables_from : NetworkModel → NameLists → Version → List (List (List ℕ)) → ℕ → Reading → Result (List PlaceTable) TextFault
-tables_from network names version [] line s = if s.left == 0 then Ok s.done else Err (Row line)
-tables_from network names version (r ∷ rs) line s = and_then (step network names version line r s) (tables_from network names version rs (line + 1))
+abbrev pub place_tables_from : NetworkModel → NameLists → Version → List (List (List ℕ)) → ℕ → Reading → Result (List PlaceTable) TextFault
+place_tables_from network names version [] line s = if s.left == 0 then Ok s.done else Err (Row line)
+place_tables_from network names version (r ∷ rs) line s = and_then (step network names version line r s) (place_tables_from network names version rs (line + 1))
 
 -- where a leg row is to come there is a place, and a place is one of the network's
 pub record IsPlaced (network : NetworkModel) (s : Reading) : Type 0 where
@@ -156,12 +156,12 @@ no_tables = record { done = []; place = None; rows = []; by = None; left = 0 }
 -- the graph of a start row and the records after it
 abbrev pub started_in : NetworkModel → NameLists → Version → ℕ → ℕ → List (List ℕ) → List (List (List ℕ)) → Result PlanGraph TextFault
 started_in network names version source start r rs =
-    and_then (start_in network names version 2 source start r) (λ leg. and_then (tables_from network names version rs 3 no_tables) (λ tables. Ok (record { start = Some leg; tables = tables })))
+    and_then (start_in network names version 2 source start r) (λ leg. and_then (place_tables_from network names version rs 3 no_tables) (λ tables. Ok (record { start = Some leg; tables = tables })))
 
 -- the graph of the records after the first
-abbrev pub graph_in : NetworkModel → NameLists → Version → ℕ → ℕ → ℕ → List (List (List ℕ)) → Result PlanGraph TextFault
-graph_in network names version source target start [] = if source == target then Ok (record { start = None; tables = [] }) else Err (Row 2)
-graph_in network names version source target start (r ∷ rs) =
+abbrev pub graph_after_first : NetworkModel → NameLists → Version → ℕ → ℕ → ℕ → List (List (List ℕ)) → Result PlanGraph TextFault
+graph_after_first network names version source target start [] = if source == target then Ok (record { start = None; tables = [] }) else Err (Row 2)
+graph_after_first network names version source target start (r ∷ rs) =
     if source == target
     then Err (Row 2)
     else started_in network names version source start r rs
@@ -206,7 +206,7 @@ graph_of_records network names source target start [] = Err (Row 1)
 graph_of_records network names source target start (r ∷ rs) =
     require (version_in r) (Row 1) (λ version.
     and_then (head_in names version source target start r) (λ head.
-    and_then (graph_in network names version source target start rs) (λ graph. Ok (head, graph))))
+    and_then (graph_after_first network names version source target start rs) (λ graph. Ok (head, graph))))
 
 -- the head and the graph of a text, or the first of its faults by line
 abbrev pub graph_of : List ℕ → NetworkModel → NameLists → ℕ → ℕ → ℕ → Result (Head × PlanGraph) TextFault
@@ -217,7 +217,7 @@ abbrev pub IsReadAs : NetworkModel → NameLists → Head → PlanGraph → List
 IsReadAs network names head graph text = graph_of text network names head.query.source.0 head.query.target.0 head.query.start.0 ≡ Ok (head, graph)
 
 -- there was no memory, or it is this
-abbrev pub IsRead : {A : Type 0} → Result A TextFault → Result A TextFault → Type 0
-IsRead (Err NoMemory) told = Unit {0}
-IsRead (Ok a) told = told ≡ Ok a
-IsRead (Err e) told = told ≡ Err e
+abbrev pub IsUnlessNoMemory : {A : Type 0} → Result A TextFault → Result A TextFault → Type 0
+IsUnlessNoMemory (Err NoMemory) told = Unit {0}
+IsUnlessNoMemory (Ok a) told = told ≡ Ok a
+IsUnlessNoMemory (Err e) told = told ≡ Err e

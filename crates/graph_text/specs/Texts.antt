@@ -45,9 +45,9 @@ head_row names version kind head =
     ∷ ninth version [])
 
 -- the row of the start leg, where there is one
-abbrev pub start_text : NetworkModel → NameLists → Version → Option Leg → List ℕ
-start_text network names version None = []
-start_text network names version (Some leg) = leg_row network names version (codes "start") (moment_text (dep_of network leg.enter.0)) leg
+abbrev pub start_leg_text : NetworkModel → NameLists → Version → Option Leg → List ℕ
+start_leg_text network names version None = []
+start_leg_text network names version (Some leg) = leg_row network names version (codes "start") (moment_text (dep_of network leg.enter.0)) leg
 
 -- a row for each row of a table, by its moment
 abbrev pub rows_text : NetworkModel → NameLists → Version → List ℕ → List GraphRow → List ℕ
@@ -66,7 +66,7 @@ rides_text network names version (r ∷ rides) = ride_text network names version
 abbrev pub expanded_text_in : NetworkModel → NameLists → Version → Head → ExpandedGraph → List ℕ
 expanded_text_in network names version head graph =
     head_row names version (codes "expanded") head
-    ++ (if head.query.source.0 == head.query.target.0 then [] else start_text network names version graph.start ++ rides_text network names version graph.rides)
+    ++ (if head.query.source.0 == head.query.target.0 then [] else start_leg_text network names version graph.start ++ rides_text network names version graph.rides)
 
 -- the text of a graph by ride
 abbrev pub expanded_text : NetworkModel → NameLists → Head → ExpandedGraph → List ℕ
@@ -94,7 +94,7 @@ tables_text network names version (table ∷ tables) = table_text network names 
 abbrev pub graph_text_in : NetworkModel → NameLists → Version → Head → PlanGraph → List ℕ
 graph_text_in network names version head graph =
     head_row names version (codes "graph") head
-    ++ (if head.query.source.0 == head.query.target.0 then [] else start_text network names version graph.start ++ tables_text network names version graph.tables)
+    ++ (if head.query.source.0 == head.query.target.0 then [] else start_leg_text network names version graph.start ++ tables_text network names version graph.tables)
 
 -- the text of a graph by place
 abbrev pub graph_text : NetworkModel → NameLists → Head → PlanGraph → List ℕ

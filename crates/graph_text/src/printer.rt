@@ -3,7 +3,7 @@ ghost use Rattle.std.specs.Prelude.{◌≡◌, ◌<◌, ◌++◌, [], map, take,
 ghost use Rattle.plan_model.specs.NameLists.{NamesFit};
 ghost use Rattle.plan_model.specs.Network.{count};
 ghost use Rattle.plan_graph.specs.Ready.{IsLegOf};
-ghost use Rattle.graph_text.specs.Texts.{leg_row, head_row, start_text, rows_text, ride_text, rides_text, place_row, table_text, tables_text, expanded_text_in, graph_text_in};
+ghost use Rattle.graph_text.specs.Texts.{leg_row, head_row, start_leg_text, rows_text, ride_text, rides_text, place_row, table_text, tables_text, expanded_text_in, graph_text_in};
 ghost use Rattle.printed_rows.specs.Writers.{row_of_fields, written, IsBetweenRows};
 ghost use Rattle.graph_text.specs.Versions.{width_of};
 ghost use Rattle.graph_text.specs.Printable.{IsPrintableQuery, IsPrintableRow, IsPrintableRide, IsPrintableTable, IsPrintable, IsPrintablePlan};
@@ -122,7 +122,7 @@ impl<'a> Printer<'a> {
         requires leg { IfSome start (IsLegOf self.now.network.now) }
         ensures between { OnOk result (IsBetweenRows writer.new) }
         ensures text { OnOk result (written writer.new ≡ written writer.old
-            ++ start_text self.now.network.now self.now.names.now self.now.version start) }
+            ++ start_leg_text self.now.network.now self.now.names.now self.now.version start) }
     {
         let Some(leg) = start else {
             return Ok(());

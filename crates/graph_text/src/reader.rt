@@ -6,7 +6,8 @@ ghost use Rattle.plan_model.specs.NameLists.{NamesFit};
 ghost use Rattle.plan_model.specs.Network.{count};
 ghost use Rattle.graph_text.specs.GraphRows.{has_no_entry, entry_in, is_blank, is_place, is_head, version_in};
 ghost use Rattle.graph_text.specs.Reading.{leg_row_in, names_in, leg_found, can_start, start_in, is_limit, is_by_limit, row_in, place_row_in, table_in, are_in_order, head_row_in, head_in};
-ghost use Rattle.graph_text.specs.Reading.{begun, extended, place_or_first, IsPlaced, no_tables, step, tables_from, graph_in, started_in, graph_of_records, graph_of, IsRead};
+ghost use Rattle.graph_text.specs.Reading.{after_place_row, after_leg_row, place_or_first, IsPlaced, no_tables, step, place_tables_from};
+ghost use Rattle.graph_text.specs.Reading.{graph_after_first, started_in, graph_of_records, graph_of, IsUnlessNoMemory};
 ghost use Rattle.graph_text.specs.Versions.{width_of};
 ghost use Rattle.printed_rows.specs.Fields.{is_kind};
 
@@ -125,7 +126,7 @@ impl Reading {
 
 /// With a table that begins.
 fn begin(alloc: Global, reading: Reading, start: TableStart) -> Reading
-    ensures { begun reading (Ok start) ≡ Ok result }
+    ensures { after_place_row reading (Ok start) ≡ Ok result }
 {
     Reading {
         done: reading.done,
@@ -145,7 +146,7 @@ fn extend(
 ) -> Result<Reading, NoMemory>
     requires left { 1 ≤ reading.left }
     requires place { reading.place ≡ Some place }
-    ensures now { IfOk result (λ now. extended reading (Ok row) ≡ Ok now) }
+    ensures now { IfOk result (λ now. after_leg_row reading (Ok row) ≡ Ok now) }
     ensures place { IfOk result (λ now. now.place ≡ reading.place) }
 {
     let Reading {
@@ -436,7 +437,7 @@ impl<'a> Reader<'a> {
     fn read_place(&self, alloc: Global, row: usize, reading: Reading) -> Result<Reading, TextFault>
         requires row { row < row_count self.now.rows.now }
         requires names { NamesFit self.now.names.now self.now.network.now }
-        ensures told { begun reading (table_in self.now.network.now self.now.names.now self.now.version (row + 2)
+        ensures told { after_place_row reading (table_in self.now.network.now self.now.names.now self.now.version (row + 2)
             (option_map (λ place. place.0) reading.place) (slice_index_or self.now.rows.now (row + 1) []))
             ≡ result }
         ensures place { IfOk result (IsPlaced self.now.network.now) }
@@ -457,7 +458,7 @@ impl<'a> Reader<'a> {
         requires left { 1 ≤ reading.left }
         requires last { reading.place ≡ Some place }
         requires place { place.0 < length self.now.network.now.change }
-        ensures told { IsRead result (extended reading
+        ensures told { IsUnlessNoMemory result (after_leg_row reading
             (row_in self.now.network.now self.now.names.now self.now.version (row + 2) place.0
             (option_map (λ moment. moment.0) reading.by) (slice_index_or self.now.rows.now (row + 1) []))) }
         ensures place { IfOk result (IsPlaced self.now.network.now) }
@@ -474,7 +475,7 @@ impl<'a> Reader<'a> {
         requires row { row < row_count self.now.rows.now }
         requires place { IsPlaced self.now.network.now reading }
         requires names { NamesFit self.now.names.now self.now.network.now }
-        ensures told { IsRead result (step self.now.network.now self.now.names.now self.now.version (row + 2)
+        ensures told { IsUnlessNoMemory result (step self.now.network.now self.now.names.now self.now.version (row + 2)
             (slice_index_or self.now.rows.now (row + 1) []) reading) }
         ensures place { IfOk result (IsPlaced self.now.network.now) }
     {
@@ -490,7 +491,7 @@ impl<'a> Reader<'a> {
     /// The tables of the rows from the second on.
     fn read_tables(&self, alloc: Global) -> Result<List<PlaceTable>, TextFault>
         requires names { NamesFit self.now.names.now self.now.network.now }
-        ensures { IsRead result (tables_from self.now.network.now self.now.names.now self.now.version (drop 2 self.now.rows.now) 3 no_tables) }
+        ensures { IsUnlessNoMemory result (place_tables_from self.now.network.now self.now.names.now self.now.version (drop 2 self.now.rows.now) 3 no_tables) }
     {
         let mut reading = Reading::new(alloc);
         let count = self.rows.count();
@@ -577,7 +578,7 @@ impl<'a> Reader<'a> {
     fn read_rows(&self, alloc: Global, query: &Query) -> Result<PlanGraph, TextFault>
         requires some { 0 < row_count self.now.rows.now }
         requires names { NamesFit self.now.names.now self.now.network.now }
-        ensures { IsRead result (started_in self.now.network.now self.now.names.now self.now.version query.now.source.0 query.now.start.0
+        ensures { IsUnlessNoMemory result (started_in self.now.network.now self.now.names.now self.now.version query.now.source.0 query.now.start.0
             (slice_index_or self.now.rows.now 1 []) (drop 2 self.now.rows.now)) }
     {
         let leg = self.start_row(0, query.source, query.start)?;
@@ -591,8 +592,8 @@ impl<'a> Reader<'a> {
     /// The graph of the rows after the first.
     fn read_graph(&self, alloc: Global, query: &Query) -> Result<PlanGraph, TextFault>
         requires names { NamesFit self.now.names.now self.now.network.now }
-        ensures { IsRead result
-            (graph_in self.now.network.now self.now.names.now self.now.version query.now.source.0 query.now.target.0 query.now.start.0
+        ensures { IsUnlessNoMemory result
+            (graph_after_first self.now.network.now self.now.names.now self.now.version query.now.source.0 query.now.target.0 query.now.start.0
             (drop 1 self.now.rows.now)) }
     {
         let here = query.source.0 == query.target.0;
@@ -637,7 +638,7 @@ fn read_records(
 ) -> Result<(Head, PlanGraph), TextFault>
     requires names { NamesFit names.now network.now }
     requires some { 0 < length rows.now }
-    ensures { IsRead result
+    ensures { IsUnlessNoMemory result
         (graph_of_records network.now names.now source.0 target.0 start.0 rows.now) }
 {
     let Some(version) = version_of(rows) else {
@@ -668,7 +669,7 @@ pub fn read(
     start: Moment,
 ) -> Result<(Head, PlanGraph), TextFault>
     requires { NamesFit names.now network.now }
-    ensures { IsRead result (graph_of bytes.now network.now names.now source.0 target.0 start.0) }
+    ensures { IsUnlessNoMemory result (graph_of bytes.now network.now names.now source.0 target.0 start.0) }
 {
     match Rows::read(alloc, bytes) {
         Ok(rows) => read_records(alloc, &rows, network, names, source, target, start),

@@ -12,7 +12,7 @@ use Rattle.std.proofs.lemmas.List.Folds.{list_all-append}
 use Rattle.std.proofs.lemmas.List.Sums.{fold-append}
 use Rattle.clock_text.specs.Civil.{moment_text, nanos_text, parts_of_day}
 use Rattle.clock_text.specs.Digits.{digits, value_of}
-use Rattle.clock_text.specs.Times.{Parts, text_of}
+use Rattle.clock_text.specs.Times.{Parts, text_of_parts}
 use Rattle.plan_model.specs.NameLists.{AreDistinct, IsTrimmed}
 use Rattle.csv_rows.specs.Spaces.{trimmed}
 use Rattle.csv_rows.proofs.SpaceLemmas.{trimmed-IsTrimmed}
@@ -46,7 +46,7 @@ digits_plain (b ∷ text) digits =
     rw (digit_high b both.0, digits_plain text both.1) refl
 
 -- the text of a moment
-parts_plain : (p : Parts) → is_plain (text_of p) ≡ true
+parts_plain : (p : Parts) → is_plain (text_of_parts p) ≡ true
 parts_plain p = simp high
 
 pub moment_kept : (moment : ℕ) → trimmed (moment_text moment) ≡ moment_text moment

@@ -8,7 +8,7 @@ use Rattle.std.proofs.lemmas.Bool.{ltb-true, and_parts, leb-true}
 use Rattle.std.specs.Result.{result_err}
 use Rattle.plan_model.specs.Results.{value_or}
 use Rattle.clock_text.specs.Digits.{value_of, whole_of}
-use Rattle.clock_text.specs.Times.{time_at, time_of, seconds_at}
+use Rattle.clock_text.specs.Times.{time_at, time_of, seconds_of_time}
 use Rattle.clock_text.proofs.OneText.{if_cases, some_cases}
 use Rattle.csv_rows.specs.declared.columns.Column.TheVariants.{TripId, StopId, StopSequence, ArrivalTime, DepartureTime, PickupType, DropOffType}
 use Rattle.csv_rows.specs.declared.feed_tables.Table.TheVariants.{StopTimes}
@@ -54,7 +54,7 @@ or_none true p n o h e = let same : None ≡ o = cc in subst (IsBelow n) same tt
 or_none false None n o h e = absurd (cc)
 or_none false (Some k) n o h e = let same : Some k ≡ o = cc in subst (IsBelow n) same h
 
-seconds_below : (h m s n : ℕ) → seconds_at h m s ≡ Some n → n < end_of_times
+seconds_below : (h m s n : ℕ) → seconds_of_time h m s ≡ Some n → n < end_of_times
 seconds_below h m s n e =
     let parts = some_cases (nat_le h 167 && (nat_lt m 60 && nat_lt s 60)) (3600 * h + (60 * m + s)) n e in
     let hours = and_parts (nat_le h 167) (nat_lt m 60 && nat_lt s 60) parts.0 in
@@ -70,7 +70,7 @@ of_below : (k : ℕ) (t : List ℕ) (n : ℕ) → time_of k t ≡ Some n → n <
 unfolding has_marks
 of_below k t n e =
     let hour = value_of (take k t) in let minute = value_of (take 2 (drop (k + 1) t)) in let second = value_of (take 2 (drop (k + 4) t)) in
-    seconds_below hour minute second n (if_cases (has_marks k t) (seconds_at hour minute second) n e).1
+    seconds_below hour minute second n (if_cases (has_marks k t) (seconds_of_time hour minute second) n e).1
 
 pub time_below : (text : List ℕ) (n : ℕ) → time_at text ≡ Some n → n < end_of_times
 time_below text n e =
