@@ -1,5 +1,5 @@
 -- The links into places, built one place after the other.
-use Rattle.std.proofs.Common.{◌≡◌, ◌≢◌, ℕ, zero, suc, ◌+◌, ◌-◌, ◌<◌, max, List, [], ◌∷◌, ◌++◌, length, take, get_or, set, Option, Some, None, refl, sym, ap, ◌∙◌, subst, arith, add-one}
+use Rattle.std.proofs.Common.{◌≡◌, ℕ, zero, suc, ◌+◌, ◌-◌, ◌<◌, max, List, [], ◌∷◌, ◌++◌, length, take, get_or, set, Option, Some, None, refl, sym, ap, ◌∙◌, subst, arith, add-one}
 use Rattle.std.proofs.Common.{length-append, get_or-set_same, get_or-set_other, inl, inr}
 use Rattle.std.specs.Prelude.{OnOk, Result, Ok, Err}
 use Rattle.std.proofs.lemmas.Bool.{cases_eq}
@@ -11,7 +11,7 @@ use Rattle.plan_model.specs.declared.model.Way.{Way}
 use Rattle.change_times.specs.declared.links.Walk.{Walk}
 use Rattle.change_times.specs.declared.transfers.Transfer.{Transfer}
 use Rattle.change_times.specs.Greatest.{greater}
-use Rattle.change_times.specs.Links.{way_from, ways_below, ComeBefore}
+use Rattle.change_times.specs.Links.{link_from, ways_below, ComeBefore}
 use Rattle.change_times.specs.Walks.{walk_to, walks_of, most_to, link_between}
 use Rattle.change_times.proofs.GreatestLemmas.{greater-none, greater-assoc}
 
@@ -19,25 +19,25 @@ pub ways-zero : (f : ℕ → Option ℕ) → ways_below f 0 ≡ []
 unfolding ways_below
 ways-zero f = refl
 
-ways-suc : (f : ℕ → Option ℕ) (n : ℕ) → ways_below f (suc n) ≡ ways_below f n ++ way_from n (f n)
+ways-suc : (f : ℕ → Option ℕ) (n : ℕ) → ways_below f (suc n) ≡ ways_below f n ++ link_from n (f n)
 unfolding ways_below
 ways-suc f n = refl
 
-pub ways-next : (f : ℕ → Option ℕ) (n : ℕ) → ways_below f (n + 1) ≡ ways_below f n ++ way_from n (f n)
+pub ways-next : (f : ℕ → Option ℕ) (n : ℕ) → ways_below f (n + 1) ≡ ways_below f n ++ link_from n (f n)
 ways-next f n = rw add-one (ways-suc f n)
 
 -- there is none where no seconds are
 pub ways-none : (f : ℕ → Option ℕ) (n : ℕ) → ((i : ℕ) → f i ≡ None) → ways_below f n ≡ []
 ways-none f zero none = ways-zero f
-ways-none f (suc n) none = ways-suc f n ∙ ap (λ o. ways_below f n ++ way_from n o) (none n) ∙ append-nil (ways_below f n) ∙ ways-none f n none
+ways-none f (suc n) none = ways-suc f n ∙ ap (λ o. ways_below f n ++ link_from n o) (none n) ∙ append-nil (ways_below f n) ∙ ways-none f n none
 
 -- the ways by the same seconds are the same
 pub ways-same : (f g : ℕ → Option ℕ) (n : ℕ) → ((i : ℕ) → f i ≡ g i) → ways_below f n ≡ ways_below g n
 ways-same f g zero same = ways-zero f ∙ sym (ways-zero g)
 ways-same f g (suc n) same =
-    ways-suc f n ∙ ap (λ ws. ws ++ way_from n (f n)) (ways-same f g n same) ∙ ap (λ o. ways_below g n ++ way_from n o) (same n) ∙ sym (ways-suc g n)
+    ways-suc f n ∙ ap (λ ws. ws ++ link_from n (f n)) (ways-same f g n same) ∙ ap (λ o. ways_below g n ++ link_from n o) (same n) ∙ sym (ways-suc g n)
 
-one_before : (n : ℕ) (o : Option ℕ) → ComeBefore (way_from n o) (n + 1)
+one_before : (n : ℕ) (o : Option ℕ) → ComeBefore (link_from n o) (n + 1)
 one_before n None = All-nil (λ (way : Way). way.from.0 < n + 1)
 one_before n (Some s) = All-push (λ (way : Way). way.from.0 < n + 1) [] (record { from = record { 0 = n }; seconds = max 1 s }) (All-nil (λ (way : Way). way.from.0 < n + 1)) (omega arith)
 
@@ -47,7 +47,7 @@ ways_before f (suc n) =
     let e : n + 1 ≡ suc n = omega arith in
     subst (λ k. ComeBefore (ways_below f (suc n)) k) e
     (subst (λ ws. ComeBefore ws (n + 1)) (sym (ways-suc f n))
-    (All-append (λ (way : Way). way.from.0 < n + 1) (ways_below f n) (way_from n (f n))
+    (All-append (λ (way : Way). way.from.0 < n + 1) (ways_below f n) (link_from n (f n))
     (All-weaker (λ (way : Way). way.from.0 < n) (λ (way : Way). way.from.0 < n + 1) (λ way h. omega (arith, h)) (ways_below f n) (ways_before f n))
     (one_before n (f n))))
 
@@ -66,9 +66,9 @@ way from seconds = record { from = record { 0 = from }; seconds = seconds }
 last_before : (base : List Way) (from : ℕ) (d : Way) → ComeBefore base from → 0 < length base → (get_or base (length base - 1) d).from.0 ≡ from → {P : Type 0} → P
 last_before base from d before some e = absurd (let h = All-get_or (λ (w : Way). w.from.0 < from) base (length base - 1) d (omega arith) before in omega (arith, h, e))
 
-pub put-raised : (old base : List Way) (i from seconds most : ℕ) (o : Option ℕ) (last : Way) → ComeBefore base from → old ≡ base ++ way_from from o → 0 < length old → i ≡ length old - 1
+pub put-raised : (old base : List Way) (i from seconds most : ℕ) (o : Option ℕ) (last : Way) → ComeBefore base from → old ≡ base ++ link_from from o → 0 < length old → i ≡ length old - 1
     → last ≡ get_or old i last → last.from.0 ≡ from → most ≡ max last.seconds seconds
-    → set old i (record { from = last.from; seconds = most }) ≡ base ++ way_from from (greater o (Some seconds))
+    → set old i (record { from = last.from; seconds = most }) ≡ base ++ link_from from (greater o (Some seconds))
 put-raised old base i from seconds most None last before e some at is same m =
     let e' : old ≡ base = e ∙ append-nil base in
     last_before base from last before (omega (arith, ap length e', some))
@@ -84,18 +84,6 @@ put-raised old base i from seconds most (Some s) last before e some at is same m
     ∙ ap (λ ws. set ws (length base) (way from most)) e
     ∙ set-append_seam base w [] (way from most)
     ∙ ap (λ n. base ++ way from n ∷ []) long
-
-pub put-pushed : (old base : List Way) (from seconds : ℕ) (o : Option ℕ) (d : Way) → ComeBefore base from → old ≡ base ++ way_from from o
-    → (0 < length old → (get_or old (length old - 1) d).from.0 ≢ from) → old ++ way from (max seconds 1) ∷ [] ≡ base ++ way_from from (greater o (Some seconds))
-put-pushed old base from seconds None d before e other =
-    let long : max seconds 1 ≡ max 1 seconds = omega arith in
-    ap (λ ws. ws ++ way from (max seconds 1) ∷ []) (e ∙ append-nil base) ∙ ap (λ n. base ++ way from n ∷ []) long
-put-pushed old base from seconds (Some s) d before e other =
-    let w = way from (max 1 s) in
-    let size : length old ≡ length base + 1 = ap length e ∙ length-append base (w ∷ []) in
-    let at : length old - 1 ≡ length base = omega (arith, size) in
-    let last : get_or old (length old - 1) d ≡ w = ap (λ i. get_or old i d) at ∙ ap (λ ws. get_or ws (length base) d) e ∙ get_or_push base w d (length base) refl in
-    absurd (other (omega (arith, size)) (ap (λ (x : Way). x.from.0) last))
 
 -- with the walk of a transfer more
 walk_is : (t : Transfer) (from to : ℕ) → (t.from ≡ t.to → ⊥) → t.from ≡ from → link_between from to (Some t) ≡ walk_to to (record { to = t.to; seconds = t.seconds })

@@ -4,12 +4,12 @@ use Rattle.std.proofs.lemmas.Bool.{cases_lt}
 use Rattle.std.proofs.lemmas.List.{append-nil, get_or_append_left, get_or_past, get_or_push}
 use Rattle.std.proofs.lemmas.List.Elements.{All-get_or, All-nil, All-push}
 use Rattle.plan_model.specs.declared.model.Way.{Way}
-use Rattle.change_times.specs.Links.{way_from, ways_below, ways_at}
+use Rattle.change_times.specs.Links.{link_from, ways_below, ways_at}
 use Rattle.plan_model.specs.Network.{AreLinksInto}
 use Rattle.change_times.specs.declared.changes.Told.{Told}
 use Rattle.table_files.specs.Required.{Records}
 use Rattle.gtfs_tables.specs.Feeds.{FeedParts}
-use Rattle.change_times.specs.Transfers.{told_by}
+use Rattle.change_times.specs.Transfers.{transfer_told_by}
 use Rattle.change_times.specs.Told.{AreTold}
 use Rattle.change_times.specs.Walks.{walks_of, most_to, link_between}
 use Rattle.change_times.proofs.ChangeLemmas.{no_own_link}
@@ -31,7 +31,7 @@ no_links places r ws e = subst (AreLinksInto places r) (sym e) (record {
 })
 
 add : (places r n : ℕ) (ws : List Way) (o : Option ℕ) → n < places → (n ≡ r → o ≡ None) → IsShort o → All (λ (way : Way). way.from.0 < n) ws
-    → AreLinksInto places r ws → AreLinksInto places r (ws ++ way_from n o)
+    → AreLinksInto places r ws → AreLinksInto places r (ws ++ link_from n o)
 add places r n ws None less own short before are = subst (AreLinksInto places r) (sym (append-nil ws)) are
 add places r n ws (Some s) less own short before are =
     let w : Way = record { from = record { 0 = n }; seconds = max 1 s } in
@@ -67,7 +67,7 @@ module _ (feed : FeedParts) (t : Records) (n : ℕ) (told : Told) (is : AreTold 
   told_into places to few inside =
       subst (AreLinksInto places to) (sym (ways to inside))
       (sound places to (length feed.stop_ids) (λ from. most_to to (walks_of told.walks.items from)) few
-      (is.walks to to ∙ greatest-none (λ i. link_between to to (told_by feed t i)) n (λ i. no_own_link to (told_by feed t i)))
+      (is.walks to to ∙ greatest-none (λ i. link_between to to (transfer_told_by feed t i)) n (λ i. no_own_link to (transfer_told_by feed t i)))
       (λ from. subst IsShort (sym (is.walks from to)) (is.brief from to)))
 
   pub told_sound : length feed.stop_ids ≤ 4294967296 → (to : ℕ) → AreLinksInto 4294967296 to (ways_at links to)

@@ -7,7 +7,7 @@ use Rattle.csv_rows.specs.declared.feed_tables.Table.{Table}
 use Rattle.csv_rows.specs.declared.feed_tables.Table.TheVariants.{Transfers}
 use Rattle.csv_rows.specs.declared.feed_tables.FeedFault.{FeedFault}
 use Rattle.table_files.specs.declared.loading.Loaded.{Loaded}
-use Rattle.table_files.specs.declared.loading.Loaded.TheVariants.{Found}
+use Rattle.table_files.specs.declared.loading.Loaded.TheVariants.{Absent, NoRecord, Found}
 use Rattle.csv_rows.specs.declared.limits.Limits.{Limits}
 use Rattle.csv_rows.specs.Lists.{list_below}
 use Rattle.csv_rows.specs.Tables.{row_count}
@@ -15,7 +15,7 @@ use Rattle.table_files.specs.Loading.{load_in, loaded_rows}
 use Rattle.plan_model.specs.declared.model.Way.{Way}
 use Rattle.table_files.specs.Required.{Records}
 use Rattle.gtfs_tables.specs.Feeds.{FeedParts}
-use Rattle.change_times.specs.Transfers.{told_by, transfers_fault}
+use Rattle.change_times.specs.Transfers.{transfer_told_by, transfers_fault}
 use Rattle.change_times.specs.Greatest.{greatest_below}
 use Rattle.change_times.specs.Links.{ways_at, ways_below}
 use Rattle.change_times.specs.Walks.{seconds_between, link_between}
@@ -27,7 +27,7 @@ change_seconds (Some seconds) = max 1 seconds
 
 -- the greatest seconds of a transfer that stays at a place, of the first n rows
 abbrev pub greatest_change : FeedParts → Records → ℕ → (place : ℕ) → Option ℕ
-greatest_change feed t n place = greatest_below (λ i. seconds_between place place (told_by feed t i)) n
+greatest_change feed t n place = greatest_below (λ i. seconds_between place place (transfer_told_by feed t i)) n
 
 -- the change time of a place: the greatest of the transfers that stay there
 abbrev pub change_time : FeedParts → Records → ℕ → ℕ
@@ -35,7 +35,7 @@ change_time feed t place = change_seconds (greatest_change feed t (row_count t) 
 
 -- the greatest seconds of a transfer from one place to another, of the first n rows
 abbrev pub greatest_link : FeedParts → Records → ℕ → (from to : ℕ) → Option ℕ
-greatest_link feed t n from to = greatest_below (λ i. link_between from to (told_by feed t i)) n
+greatest_link feed t n from to = greatest_below (λ i. link_between from to (transfer_told_by feed t i)) n
 
 -- the links into a place: the greatest of the transfers from each other place to it
 abbrev pub links_in : FeedParts → Records → ℕ → List Way
@@ -43,7 +43,7 @@ links_in feed t place = ways_below (λ from. greatest_link feed t (row_count t) 
 
 -- how many of the first n rows have no transfer
 abbrev pub passed_below : FeedParts → Records → ℕ → ℕ
-passed_below feed t n = count_by is_none (list_below (told_by feed t) n)
+passed_below feed t n = count_by is_none (list_below (transfer_told_by feed t) n)
 
 -- the places for which a row tells seconds, with the greatest that is told, the links into each place, and how many rows
 -- tell neither; where the lists of links end, no link leads into the places from there on
@@ -65,19 +65,20 @@ abbrev pub LinksComeFrom : ℕ → ChangeParts → Type 0
 LinksComeFrom places c = (place : ℕ) → All (λ way. way.from.0 < places) (links_of c place)
 
 -- these are the change times and the links that a table tells; a place that the feed does not have has no link into it
-pub record AreChanges (feed : FeedParts) (c : ChangeParts) (t : Records) : Type 0 where
+pub record AreToldChanges (feed : FeedParts) (c : ChangeParts) (t : Records) : Type 0 where
   pub seconds : (place : ℕ) → seconds_of c place ≡ change_time feed t place
   pub links : (place : ℕ) → place < length feed.stop_ids → links_of c place ≡ links_in feed t place
   pub few : length c.links ≤ length feed.stop_ids
   pub passed : c.passed ≡ passed_below feed t (row_count t)
 
 -- a table that is absent has no fault, and neither has one whose file has no record
-abbrev pub fault_of : FeedParts → Loaded → Option FeedFault
-fault_of feed (Found t) = transfers_fault feed t
-fault_of feed _ = None
+abbrev pub fault_of_transfers : FeedParts → Loaded → Option FeedFault
+fault_of_transfers feed (Found t) = transfers_fault feed t
+fault_of_transfers feed Absent = None
+fault_of_transfers feed NoRecord = None
 
 abbrev pub transfers_from : FeedParts → Result Loaded FeedFault → Result Records FeedFault
-transfers_from feed loaded = and_then loaded (λ l. unless (fault_of feed l) (loaded_rows l))
+transfers_from feed loaded = and_then loaded (λ l. unless (fault_of_transfers feed l) (loaded_rows l))
 
 -- the transfers of a folder, or the first of their faults
 abbrev pub transfers_in : FileMap → List ℕ → Limits → Option Table → FeedParts → Result Records FeedFault

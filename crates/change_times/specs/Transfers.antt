@@ -1,5 +1,5 @@
 -- The rows of `transfers.txt`: their transfers between places, and their faults. Row i stands in line i + 2.
-use Rattle.std.specs.Prelude.{ℕ, ◌+◌, ◌==◌, ◌&&◌, Bool, List, length, slice_index, Option, None, Result, Ok, option_map, if◌then◌else◌}
+use Rattle.std.specs.Prelude.{ℕ, ◌+◌, ◌==◌, ◌&&◌, Bool, List, length, slice_index, Option, None, Result, Ok, option_map, if◌then◌else◌, [], ◌∷◌}
 use Rattle.std.specs.Option.{option_or}
 use Rattle.std.specs.Result.{result_err}
 use Rattle.plan_model.specs.Results.{and_then, require, value_or}
@@ -11,7 +11,7 @@ use Rattle.csv_rows.specs.declared.feed_tables.FeedFault.{FeedFault}
 use Rattle.csv_rows.specs.declared.feed_tables.FeedFault.TheVariants.{BadField, UnknownKey}
 use Rattle.csv_rows.specs.First.{first_below}
 use Rattle.csv_rows.specs.Names.{name_in}
-use Rattle.csv_rows.specs.RowFaults.{lack}
+use Rattle.csv_rows.specs.RowFaults.{first_lack}
 use Rattle.csv_rows.specs.Tables.{row_count, place_in, place_of, field_at}
 use Rattle.gtfs_tables.specs.Feeds.{FeedParts}
 use Rattle.change_times.specs.declared.transfers.Transfer.{Transfer}
@@ -23,8 +23,8 @@ abbrev pub place_of_stop : FeedParts → List ℕ → Option ℕ
 place_of_stop feed id = option_map (λ stop. slice_index feed.places stop) (place_in id feed.stop_ids)
 
 -- the place of the stop that a field names
-abbrev pub place_from : FeedParts → ℕ → Column → List ℕ → Result ℕ FeedFault
-place_from feed line column text =
+abbrev pub place_named_by : FeedParts → ℕ → Column → List ℕ → Result ℕ FeedFault
+place_named_by feed line column text =
     require (name_in text) (BadField Transfers line column) (λ id.
     require (place_of_stop feed id) (UnknownKey Transfers line column) (λ place. Ok place))
 
@@ -33,10 +33,10 @@ abbrev pub transfer_between : (from to : ℕ) → Option ℕ → Option Transfer
 transfer_between from to seconds = option_map (λ s. record { from = from; to = to; seconds = s }) seconds
 
 -- the transfer of these fields, or the first of them that is not of its form or names no stop
-abbrev pub timed_from : FeedParts → ℕ → (from to seconds : List ℕ) → Result (Option Transfer) FeedFault
-timed_from feed line from to seconds =
-    and_then (place_from feed line FromStopId from) (λ from'.
-    and_then (place_from feed line ToStopId to) (λ to'.
+abbrev pub timed_transfer_from : FeedParts → ℕ → (from to seconds : List ℕ) → Result (Option Transfer) FeedFault
+timed_transfer_from feed line from to seconds =
+    and_then (place_named_by feed line FromStopId from) (λ from'.
+    and_then (place_named_by feed line ToStopId to) (λ to'.
     require (optional_seconds_of seconds) (BadField Transfers line MinTransferTime) (λ seconds'.
     Ok (transfer_between from' to' seconds'))))
 
@@ -64,15 +64,15 @@ transfer_columns t = record {
   to_trip = place_of ToTripId t;
 }
 
-abbrev pub timed_in : FeedParts → List (List (List ℕ)) → TransferColumns → ℕ → Result (Option Transfer) FeedFault
-timed_in feed t c i = timed_from feed (i + 2) (field_at t c.from i) (field_at t c.to i) (field_at t c.seconds i)
+abbrev pub timed_transfer_in : FeedParts → List (List (List ℕ)) → TransferColumns → ℕ → Result (Option Transfer) FeedFault
+timed_transfer_in feed t c i = timed_transfer_from feed (i + 2) (field_at t c.from i) (field_at t c.to i) (field_at t c.seconds i)
 
 abbrev pub is_general_in : List (List (List ℕ)) → TransferColumns → ℕ → Bool
 is_general_in t c i = is_general (field_at t c.from_route i) (field_at t c.to_route i) (field_at t c.from_trip i) (field_at t c.to_trip i)
 
 -- the transfer of row i, or the first of its fields that is not of its form or names no stop
 abbrev pub transfer_in : FeedParts → List (List (List ℕ)) → TransferColumns → ℕ → Result (Option Transfer) FeedFault
-transfer_in feed t c i = transfer_from (field_at t c.kind i) (i + 2) (is_general_in t c i) (timed_in feed t c i)
+transfer_in feed t c i = transfer_from (field_at t c.kind i) (i + 2) (is_general_in t c i) (timed_transfer_in feed t c i)
 
 unfoldable pub transfer_at : FeedParts → List (List (List ℕ)) → ℕ → Result (Option Transfer) FeedFault
 transfer_at feed t i = transfer_in feed t (transfer_columns t) i
@@ -82,14 +82,9 @@ abbrev pub bad_transfer : FeedParts → List (List (List ℕ)) → ℕ → Optio
 bad_transfer feed t i = result_err (transfer_at feed t i)
 
 -- the transfer of row i, where it has one
-abbrev pub told_by : FeedParts → List (List (List ℕ)) → ℕ → Option Transfer
-told_by feed t i = value_or None (transfer_at feed t i)
-
--- the first required column that is not there
-abbrev pub missing_in : TransferColumns → Option FeedFault
-missing_in c =
-    option_or (option_or (lack Transfers FromStopId c.from) (lack Transfers ToStopId c.to)) (lack Transfers TransferType c.kind)
+abbrev pub transfer_told_by : FeedParts → List (List (List ℕ)) → ℕ → Option Transfer
+transfer_told_by feed t i = value_or None (transfer_at feed t i)
 
 -- the first fault of the transfers
 unfoldable pub transfers_fault : FeedParts → List (List (List ℕ)) → Option FeedFault
-transfers_fault feed t = option_or (missing_in (transfer_columns t)) (first_below (bad_transfer feed t) (row_count t))
+transfers_fault feed t = option_or (first_lack Transfers t (FromStopId ∷ ToStopId ∷ TransferType ∷ [])) (first_below (bad_transfer feed t) (row_count t))

@@ -1,27 +1,26 @@
 //! The change times of the places of a feed, and the links between them.
-ghost use Rattle.std.specs.Prelude.{◌≡◌, ◌≢◌, ◌<◌, ◌≤◌, ◌+◌, ◌-◌, ◌^◌, ℕ, None, Some, Ok, Err, IfOk, IfErr, IfSome, IsOkAnd, IsSome, OnOk, is_none, nat_eq, length, if◌then◌else◌, []};
+ghost use Rattle.std.specs.Prelude.{◌≡◌, ◌≢◌, ◌<◌, ◌≤◌, ◌+◌, ◌-◌, ◌^◌, ℕ, None, Ok, Err, IfOk, IfErr, IfSome, IsOkAnd, IsSome, OnOk, is_none, nat_eq, length, if◌then◌else◌, []};
 ghost use Rattle.plan_model.specs.Bounds.{seconds_per_day};
 ghost use Rattle.std.specs.HashMap.{get};
 ghost use Rattle.csv_rows.specs.declared.feed_tables.Table.TheVariants.{Transfers as TransfersTable};
 ghost use Rattle.csv_rows.specs.FeedTables.{unread_of, IsFaultOf};
 ghost use Rattle.csv_rows.specs.First.{first_below};
 ghost use Rattle.csv_rows.specs.Limits.{AreWithin};
-ghost use Rattle.table_files.specs.Loading.{HasFeedCause, HasFeedPathCause, loaded_rows};
+ghost use Rattle.csv_rows.specs.RowFaults.{TellsFirst};
+ghost use Rattle.table_files.specs.Loading.{HasFeedCauses, loaded_rows};
 ghost use Rattle.csv_rows.specs.Tables.{row_count};
 ghost use Rattle.table_files.specs.Required.{Records};
 ghost use Rattle.gtfs_tables.specs.Feeds.{FeedParts};
-ghost use Rattle.change_times.specs.Transfers.{transfer_columns, bad_transfer, transfers_fault};
+ghost use Rattle.change_times.specs.Transfers.{bad_transfer, transfers_fault};
 ghost use Rattle.change_times.specs.Greatest.{greater};
 ghost use Rattle.plan_model.specs.Network.{AreLinksInto};
 ghost use Rattle.change_times.specs.Walks.{walks_of, most_to, seconds_between, link_between};
 ghost use Rattle.change_times.specs.Told.{AreTold};
-ghost use Rattle.change_times.specs.Changes.{fault_of, seconds_of, links_of, transfers_in, AreChanges, LinksComeFrom};
+ghost use Rattle.change_times.specs.Changes.{fault_of_transfers, seconds_of, links_of, transfers_in, AreToldChanges, LinksComeFrom};
 
 use crate::links::{Walk, Ways, add_walk, links_of, no_walks};
-use crate::transfers::{
-    Transfer, TransferColumns, missing_column, read_transfer, transfer_columns,
-};
-use csv_rows::{FeedFault, Limits, Rows, Table};
+use crate::transfers::{Transfer, read_transfer, transfer_columns};
+use csv_rows::{Column, FeedFault, Limits, Rows, Table, check_columns};
 use file_ports::Files;
 use gtfs_tables::Feed;
 use plan_model::{HashKey, List, NoMemory, PlaceId, Way};
@@ -53,9 +52,9 @@ impl Model for Changes {
 
     ghost Value = { ChangeParts };
 
-    ghost use Rattle.change_times.specs.Inside.{parts_of, AreSound};
+    ghost use Rattle.change_times.specs.Inside.{change_parts_of, AreSound};
 
-    ghost view = { parts_of };
+    ghost view = { change_parts_of };
 
     ghost invariant = { AreSound };
 }
@@ -118,22 +117,13 @@ fn note(told: &mut Told, transfer: Option<Transfer>) -> Result<(), NoMemory>
 }
 
 /// What the rows tell, or the first of their faults.
-fn tell(
-    nothing: Told,
-    feed: &Feed,
-    rows: &Rows,
-    columns: TransferColumns,
-) -> Result<Told, FeedFault>
-    requires nothing { AreTold feed.now rows.now 0 nothing }
-    requires columns { columns ≡ transfer_columns rows.now }
+fn tell(nothing: Told, feed: &Feed, rows: &Rows) -> Result<Told, FeedFault>
+    requires { AreTold feed.now rows.now 0 nothing }
     ensures told { IfOk result (AreTold feed.now rows.now (row_count rows.now)) }
-    ensures none { OnOk result (first_below (bad_transfer feed.now rows.now) (row_count rows.now)
-        ≡ None) }
-    ensures fault { IfErr result (λ f. f ≢ FeedFault.NoMemory
-        → first_below (bad_transfer feed.now rows.now) (row_count rows.now) ≡ Some f) }
-    ensures content { IfErr result (λ f. unread_of f ≡ None) }
-    ensures own { IfErr result (IsFaultOf TransfersTable) }
+    ensures tells { TellsFirst TransfersTable
+        (first_below (bad_transfer feed.now rows.now) (row_count rows.now)) result }
 {
+    let columns = transfer_columns(rows);
     let mut told = nothing;
     for i in 0..rows.count() {
         let transfer = read_transfer(feed, rows, columns, i)?;
@@ -143,24 +133,14 @@ fn tell(
 }
 
 /// The change times and the links that the rows tell, or the first of their faults.
-fn read_rows(
-    alloc: Global,
-    feed: &Feed,
-    rows: &Rows,
-    columns: TransferColumns,
-) -> Result<Changes, FeedFault>
-    requires { columns ≡ transfer_columns rows.now }
-    ensures changes { IfOk result (λ c. AreChanges feed.now c rows.now) }
+fn read_rows(alloc: Global, feed: &Feed, rows: &Rows) -> Result<Changes, FeedFault>
+    ensures changes { IfOk result (λ c. AreToldChanges feed.now c rows.now) }
     ensures links { IfOk result (λ c. LinksComeFrom (length feed.now.stop_ids) c) }
-    ensures none { OnOk result (first_below (bad_transfer feed.now rows.now) (row_count rows.now)
-        ≡ None) }
-    ensures fault { IfErr result (λ f. f ≢ FeedFault.NoMemory
-        → first_below (bad_transfer feed.now rows.now) (row_count rows.now) ≡ Some f) }
-    ensures content { IfErr result (λ f. unread_of f ≡ None) }
-    ensures own { IfErr result (IsFaultOf TransfersTable) }
+    ensures tells { TellsFirst TransfersTable
+        (first_below (bad_transfer feed.now rows.now) (row_count rows.now)) result }
 {
     let nothing = nothing_told(alloc, feed.stop_count(), rows.key())?;
-    let told = tell(nothing, feed, rows, columns)?;
+    let told = tell(nothing, feed, rows)?;
     let links = links_of(alloc, told.walks.as_slice())?;
     Ok(Changes {
         seconds: told.seconds,
@@ -171,24 +151,21 @@ fn read_rows(
 
 /// What a table tells, or the first of its faults.
 fn read_transfers(alloc: Global, feed: &Feed, rows: &Rows) -> Result<Changes, FeedFault>
-    ensures changes { IfOk result (λ c. AreChanges feed.now c rows.now) }
+    ensures changes { IfOk result (λ c. AreToldChanges feed.now c rows.now) }
     ensures links { IfOk result (λ c. LinksComeFrom (length feed.now.stop_ids) c) }
-    ensures none { OnOk result (transfers_fault feed.now rows.now ≡ None) }
-    ensures fault { IfErr result (λ f. f ≢ FeedFault.NoMemory
-        → transfers_fault feed.now rows.now ≡ Some f) }
-    ensures content { IfErr result (λ f. unread_of f ≡ None) }
-    ensures own { IfErr result (IsFaultOf TransfersTable) }
+    ensures tells { TellsFirst TransfersTable (transfers_fault feed.now rows.now) result }
 {
-    let columns = transfer_columns(rows);
-    if let Some(fault) = missing_column(columns) {
-        return Err(fault);
-    }
-    read_rows(alloc, feed, rows, columns)
+    check_columns(
+        rows,
+        Table::Transfers,
+        &[Column::FromStopId, Column::ToStopId, Column::TransferType],
+    )?;
+    read_rows(alloc, feed, rows)
 }
 
 /// What a table with no rows tells: nothing, whatever the feed is.
 fn no_changes(alloc: Global) -> Changes
-    ensures changes { (feed : FeedParts) → AreChanges feed result [] }
+    ensures changes { (feed : FeedParts) → AreToldChanges feed result [] }
     ensures links { (places : ℕ) → LinksComeFrom places result }
 {
     Changes {
@@ -200,13 +177,9 @@ fn no_changes(alloc: Global) -> Changes
 
 /// What the table that is loaded tells, or the first of its faults.
 fn changes_of(alloc: Global, feed: &Feed, loaded: &Loaded) -> Result<Changes, FeedFault>
-    ensures changes { IfOk result (λ c. AreChanges feed.now c (loaded_rows loaded.now)) }
+    ensures changes { IfOk result (λ c. AreToldChanges feed.now c (loaded_rows loaded.now)) }
     ensures links { IfOk result (λ c. LinksComeFrom (length feed.now.stop_ids) c) }
-    ensures none { OnOk result (fault_of feed.now loaded.now ≡ None) }
-    ensures fault { IfErr result (λ f. f ≢ FeedFault.NoMemory
-        → fault_of feed.now loaded.now ≡ Some f) }
-    ensures content { IfErr result (λ f. unread_of f ≡ None) }
-    ensures own { IfErr result (IsFaultOf TransfersTable) }
+    ensures tells { TellsFirst TransfersTable (fault_of_transfers feed.now loaded.now) result }
 {
     match loaded {
         Loaded::Found(rows) => read_transfers(alloc, feed, rows),
@@ -231,14 +204,13 @@ impl Changes {
         requires { AreWithin limits.now }
         ensures same { F.files files.new ≡ F.files files.old }
         ensures changes { IfSome (F.files files.old) (λ m. IfOk result (λ c. IsOkAnd
-            (transfers_in m folder.now limits.now None feed.now) (AreChanges feed.now c))) }
+            (transfers_in m folder.now limits.now None feed.now) (AreToldChanges feed.now c))) }
         ensures links { IfOk result (λ c. LinksComeFrom (length feed.now.stop_ids) c) }
         ensures fault { IfSome (F.files files.old) (λ m. IfErr result (λ f. f ≢ FeedFault.NoMemory
             → transfers_in m folder.now limits.now (unread_of f) feed.now ≡ Err f)) }
         ensures own { IfErr result (IsFaultOf TransfersTable) }
-        ensures cause { HasFeedCause (F.faults files.old) (F.faults files.new) result }
-        ensures path_cause { HasFeedPathCause (IsSome (F.files files.old)) folder.now
-            (F.faults_of files.old) (F.faults_of files.new) result }
+        ensures causes { HasFeedCauses (IsSome (F.files files.old)) folder.now
+            (F.faults files.old) (F.faults files.new) (F.faults_of files.old) (F.faults_of files.new) result }
     {
         let loaded = read_table(alloc, files, folder, Table::Transfers, limits)?;
         changes_of(alloc, feed, &loaded)

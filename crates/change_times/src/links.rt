@@ -2,7 +2,7 @@
 ghost use Rattle.std.specs.Prelude.{◌≡◌, ◌<◌, ◌++◌, ℕ, List as Sequence, Option, Some, length, [], IfOk, OnOk};
 ghost use Rattle.plan_model.specs.declared.model.Way.{Way as WayParts};
 ghost use Rattle.change_times.specs.Greatest.{greater};
-ghost use Rattle.change_times.specs.Links.{way_from, ways_at, ways_below, ComeBefore};
+ghost use Rattle.change_times.specs.Links.{link_from, ways_at, ways_below, ComeBefore};
 ghost use Rattle.change_times.specs.Walks.{walk_to, walks_of, most_to, link_between};
 
 use crate::transfers::Transfer;
@@ -52,8 +52,8 @@ impl Ways {
     /// Puts a way at the end, or lengthens the last one where it comes from the same place. A way takes a second at least.
     fn put(&mut self, from: PlaceId, seconds: u32) -> Result<(), NoMemory>
         ensures { OnOk result ((base : Sequence WayParts) (o : Option ℕ) → ComeBefore base from.0
-            → self.old ≡ base ++ way_from from.0 o
-            → self.new ≡ base ++ way_from from.0 (greater o (Some seconds))) }
+            → self.old ≡ base ++ link_from from.0 o
+            → self.new ≡ base ++ link_from from.0 (greater o (Some seconds))) }
     {
         let count = self.items.len();
         if count > 0 && self.items[count - 1].from.0 == from.0 {
@@ -111,8 +111,8 @@ fn no_links(alloc: Global, places: usize) -> Result<Vec<Ways>, NoMemory>
 fn put_walk(links: &mut Vec<Ways>, from: u32, walk: Walk) -> Result<(), NoMemory>
     ensures size { OnOk result (length links.new.items ≡ length links.old.items) }
     ensures ways { OnOk result ((to : ℕ) (base : Sequence WayParts) (o : Option ℕ) → to < length links.old.items
-        → ComeBefore base from → ways_at links.old.items to ≡ base ++ way_from from o
-        → ways_at links.new.items to ≡ base ++ way_from from (greater o (walk_to to walk))) }
+        → ComeBefore base from → ways_at links.old.items to ≡ base ++ link_from from o
+        → ways_at links.new.items to ≡ base ++ link_from from (greater o (walk_to to walk))) }
 {
     let to = walk.to as usize;
     if to < links.len() {
@@ -126,7 +126,7 @@ fn put_walks(links: &mut Vec<Ways>, from: u32, walks: &[Walk]) -> Result<(), NoM
     ensures size { OnOk result (length links.new.items ≡ length links.old.items) }
     ensures ways { OnOk result ((to : ℕ) (base : Sequence WayParts) → to < length links.old.items
         → ComeBefore base from → ways_at links.old.items to ≡ base
-        → ways_at links.new.items to ≡ base ++ way_from from (most_to to walks.now)) }
+        → ways_at links.new.items to ≡ base ++ link_from from (most_to to walks.now)) }
 {
     for walk in walks {
         put_walk(links, from, *walk)?;

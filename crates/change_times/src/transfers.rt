@@ -1,14 +1,16 @@
 //! The rows of `transfers.txt`.
 ghost use Rattle.std.specs.Prelude.{◌≡◌, ◌<◌, ◌≤◌, length, None, Ok, Err, IfOk, IfErr, IfSome};
+ghost use Rattle.std.specs.Result.{result_err};
 ghost use Rattle.plan_model.specs.Bounds.{seconds_per_day};
 ghost use Rattle.csv_rows.specs.declared.feed_tables.Table.TheVariants.{Transfers as TransfersTable};
 ghost use Rattle.csv_rows.specs.FeedTables.{unread_of, IsFaultOf};
+ghost use Rattle.csv_rows.specs.RowFaults.{TellsFirst};
 ghost use Rattle.csv_rows.specs.Tables.{row_count};
-ghost use Rattle.change_times.specs.Transfers.{place_from, transfer_between, transfer_columns, timed_in, is_general_in, transfer_in, missing_in};
+ghost use Rattle.change_times.specs.Transfers.{place_named_by, transfer_between, transfer_columns, timed_transfer_in, is_general_in, transfer_in};
 
 use crate::forms::read_is_timed;
 use clock_text::read_optional_seconds;
-use csv_rows::{Column, FeedFault, Rows, Table, lack, read_name};
+use csv_rows::{Column, FeedFault, Rows, Table, read_name};
 use gtfs_tables::Feed;
 use plan_model::PlaceId;
 
@@ -49,21 +51,11 @@ pub(crate) fn transfer_columns(rows: &Rows) -> TransferColumns
     }
 }
 
-/// The first required column that stands nowhere in the header.
-pub(crate) fn missing_column(columns: TransferColumns) -> Option<FeedFault>
-    ensures fault { result ≡ missing_in columns }
-    ensures own { IfSome result (IsFaultOf TransfersTable) }
-{
-    lack(Table::Transfers, Column::FromStopId, columns.from)
-        .or(lack(Table::Transfers, Column::ToStopId, columns.to))
-        .or(lack(Table::Transfers, Column::TransferType, columns.kind))
-}
-
 /// The place of the stop that a field of this line names.
 fn read_place(feed: &Feed, text: &[u8], line: u64, column: Column) -> Result<PlaceId, FeedFault>
-    ensures place { IfOk result (λ p. place_from feed.now line column text.now ≡ Ok p.0) }
+    ensures place { IfOk result (λ p. place_named_by feed.now line column text.now ≡ Ok p.0) }
     ensures in_range { IfOk result (λ p. p.0 < length feed.now.stop_ids) }
-    ensures fault { IfErr result (λ f. place_from feed.now line column text.now ≡ Err f) }
+    ensures fault { IfErr result (λ f. place_named_by feed.now line column text.now ≡ Err f) }
     ensures content { IfErr result (λ f. unread_of f ≡ None) }
     ensures own { IfErr result (IsFaultOf TransfersTable) }
 {
@@ -98,10 +90,10 @@ fn read_timed(
     row: usize,
 ) -> Result<Option<Transfer>, FeedFault>
     requires { row < row_count rows.now }
-    ensures transfer { IfOk result (λ t. timed_in feed.now rows.now columns row ≡ Ok t) }
+    ensures transfer { IfOk result (λ t. timed_transfer_in feed.now rows.now columns row ≡ Ok t) }
     ensures from { IfOk result (λ t. IfSome t (λ transfer. transfer.from < length feed.now.stop_ids)) }
     ensures short { IfOk result (λ t. IfSome t (λ transfer. transfer.seconds ≤ seconds_per_day)) }
-    ensures fault { IfErr result (λ f. timed_in feed.now rows.now columns row ≡ Err f) }
+    ensures fault { IfErr result (λ f. timed_transfer_in feed.now rows.now columns row ≡ Err f) }
     ensures content { IfErr result (λ f. unread_of f ≡ None) }
     ensures own { IfErr result (IsFaultOf TransfersTable) }
 {
@@ -139,9 +131,8 @@ pub(crate) fn read_transfer(
     ensures transfer { IfOk result (λ t. transfer_in feed.now rows.now columns row ≡ Ok t) }
     ensures from { IfOk result (λ t. IfSome t (λ transfer. transfer.from < length feed.now.stop_ids)) }
     ensures short { IfOk result (λ t. IfSome t (λ transfer. transfer.seconds ≤ seconds_per_day)) }
-    ensures fault { IfErr result (λ f. transfer_in feed.now rows.now columns row ≡ Err f) }
-    ensures content { IfErr result (λ f. unread_of f ≡ None) }
-    ensures own { IfErr result (IsFaultOf TransfersTable) }
+    ensures tells { TellsFirst TransfersTable
+        (result_err (transfer_in feed.now rows.now columns row)) result }
 {
     let Some(is_timed) = read_is_timed(rows.field_at(row, columns.kind)) else {
         let line = rows.line(row);

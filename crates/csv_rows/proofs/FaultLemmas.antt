@@ -1,23 +1,42 @@
--- In which table a fault is.
-use Rattle.std.proofs.Common.{◌≡◌, Option, Some, None, IfSome, Result, Ok, Err, IfErr, sym, subst}
+-- In which table a fault is, and the first of several.
+use Rattle.std.proofs.Common.{◌≡◌, ℕ, ◌<◌, Option, Some, None, IfSome, Result, Ok, Err, IfErr, MatchResult, sym, ap, ◌∙◌, subst}
+use Rattle.std.specs.Prelude.{⊤}
 use Rattle.std.specs.Option.{option_or}
 use Rattle.std.specs.Result.{IsErr, IsErrAnd}
 use Rattle.csv_rows.specs.declared.feed_tables.Table.{Table}
 use Rattle.csv_rows.specs.declared.feed_tables.FeedFault.{FeedFault}
-use Rattle.csv_rows.specs.FeedTables.{IsFaultOf}
-
--- where two faults are in a table, so is the first of them that is there
-pub first_own : (table : Table) (a b o : Option FeedFault) → o ≡ option_or a b → IfSome a (IsFaultOf table) → IfSome b (IsFaultOf table) → IfSome o (IsFaultOf table)
-first_own table None b o e h k = let P : Option FeedFault → Type 0 = λ z. IfSome z (IsFaultOf table) in subst P (sym e) k
-first_own table (Some f) b o e h k = let P : Option FeedFault → Type 0 = λ z. IfSome z (IsFaultOf table) in subst P (sym e) h
+use Rattle.csv_rows.specs.First.{first_below}
+use Rattle.csv_rows.specs.RowFaults.{IsFirstFault, TellsFirst}
+use Rattle.csv_rows.proofs.FirstLemmas.{first-at}
 
 -- what a step that failed tells of its error holds of what `?` raises again
+pub match_raised : {A E : Type 0} {e : E} (Q : Type 0) (P : E → Type 0) (r : Result A E) → IsErr r × IsErrAnd r (λ raised. raised ≡ e) → P e → MatchResult r (λ _. Q) P
+match_raised Q P (Ok value) h p = absurd h.1
+match_raised Q P (Err raised) h p = subst P (sym h.1) p
+
 pub if_raised : {A E : Type 0} {e : E} (P : E → Type 0) (r : Result A E) → IsErr r × IsErrAnd r (λ raised. raised ≡ e) → P e → IfErr r P
-if_raised P (Ok value) h p = absurd h.1
-if_raised P (Err raised) h p = subst P (sym h.1) p
+if_raised P r h p = match_raised ⊤ P r h p
 
 -- the same where something else is told
 pub some_raised : {F A E : Type 0} (o : Option F) (e : E) (P : F → E → Type 0) (r : Result A E) → IsErr r × IsErrAnd r (λ raised. raised ≡ e)
     → IfSome o (λ m. P m e) → IfSome o (λ m. IfErr r (P m))
 some_raised None e P r h p = tt
 some_raised (Some m) e P r h p = if_raised (P m) r h p
+
+-- a fault that a step tells is told again by the steps that it is the first of
+module _ {table : Table} (a b : Option FeedFault) (fault : FeedFault) where
+  pub fault-first : IsFirstFault table a fault → IsFirstFault table (option_or a b) fault
+  fault-first h = record { why = λ free. ap (λ o. option_or o b) (h.why free); content = h.content; own = h.own }
+
+  pub fault-then : a ≡ None → IsFirstFault table b fault → IsFirstFault table (option_or a b) fault
+  fault-then none h = record { why = λ free. ap (λ o. option_or o b) none ∙ h.why free; content = h.content; own = h.own }
+
+-- a step after others that told none
+pub tells-then : {T : Type 0} (table : Table) (a b : Option FeedFault) (r : Result T FeedFault) → a ≡ None → TellsFirst table b r → TellsFirst table (option_or a b) r
+tells-then table a b (Ok value) none h = ap (λ o. option_or o b) none ∙ h
+tells-then table a b (Err fault) none h = fault-then a b fault none h
+
+-- the fault of a row, where those before it have none
+pub fault-at : {table : Table} (f : ℕ → Option FeedFault) (i n : ℕ) {first : Option FeedFault} {fault : FeedFault} → i < n → first_below f i ≡ None → f i ≡ first
+    → IsFirstFault table first fault → IsFirstFault table (first_below f n) fault
+fault-at f i n inside none here h = record { why = λ free. first-at f i n _ inside none (here ∙ h.why free); content = h.content; own = h.own }

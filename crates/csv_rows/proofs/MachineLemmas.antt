@@ -168,9 +168,6 @@ pub goes-on : (s s2 s3 : State) (part part2 part3 text text2 text3 : List ℕ) �
     → GoesOn s part text s3 part3 text3
 goes-on s s2 s3 part part2 part3 text text2 text3 g h = record { same = λ fields. g.same fields ∙ h.same fields }
 
-pub goes-nowhere : (s : State) (part text : List ℕ) → GoesOn s part text s part text
-goes-nowhere s part text = record { same = λ fields. refl }
-
 -- a run of bytes
 pub run-on : (s : State) (part text : List ℕ) (n : ℕ) → Runs default_config s (take n text) → GoesOn s part text s (part ++ take n text) (drop n text)
 run-on s part text n r = record {

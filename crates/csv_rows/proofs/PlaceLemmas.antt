@@ -1,8 +1,8 @@
 -- The place of a name in a header.
-use Rattle.std.proofs.Common.{◌≡◌, ℕ, ◌+◌, ◌<◌, true, false, List, [], length, slice_index_or, Option, Some, None, IfSome, IfNone, if◌then◌else◌, sym, ap, ◌∙◌, ⊎_elim, bytes_eq}
+use Rattle.std.proofs.Common.{◌≡◌, ℕ, ◌<◌, true, false, List, [], length, slice_index_or, Option, Some, None, IfSome, IfNone, if◌then◌else◌, sym, ap, ⊎_elim, bytes_eq}
 use Rattle.std.proofs.lemmas.Slice.Eq.{bytes_eq-Decides}
 use Rattle.std.proofs.lemmas.Bool.{cases_Bool}
-use Rattle.csv_rows.specs.Tables.{place_in, field_at}
+use Rattle.csv_rows.specs.Tables.{place_in}
 use Rattle.csv_rows.proofs.FirstLemmas.{first-none, first-at}
 
 pub bytes_ne : (a b : List ℕ) → (a ≡ b → ⊥) → bytes_eq a b ≡ false
@@ -23,7 +23,3 @@ place_is (Some i) name names found first none =
     sym (first-at f i (length names) i found.0
     (first-none f i (λ k l. ap (λ b. if b then Some k else None) (bytes_ne (slice_index_or names k []) name (first k l))))
     (ap (λ b. if b then Some i else None) ((bytes_eq-Decides (slice_index_or names i []) name).1 found.1)))
-
--- a field read at its place
-pub field_here : (t : List (List (List ℕ))) (o : Option ℕ) (k i : ℕ) (x : List ℕ) → o ≡ Some k → x ≡ slice_index_or (slice_index_or t (i + 1) []) k [] → x ≡ field_at t o i
-field_here t o k i x e h = h ∙ sym (ap (λ o. field_at t o i) e)

@@ -1,14 +1,10 @@
 -- Fields, and the rows that they make.
-use Rattle.std.proofs.Common.{◌≡◌, ℕ, ◌<◌, ◌==◌, Bool, true, false, List, [], length, slice_index_or, Option, Some, None, if◌then◌else◌, refl, sym, ap, ◌∙◌, subst, arith, bytes_eq}
+use Rattle.std.proofs.Common.{◌≡◌, ℕ, ◌<◌, ◌==◌, Bool, true, false, List, [], length, slice_index_or, Option, Some, None, if◌then◌else◌, refl, sym, ap, ◌∙◌, arith, bytes_eq}
 use Rattle.std.specs.Str.{is_utf8}
 use Rattle.std.specs.Option.{option_or}
-use Rattle.csv_rows.specs.declared.feed_tables.FeedFault.{FeedFault}
-use Rattle.csv_rows.specs.declared.feed_tables.Table.{Table}
-use Rattle.csv_rows.specs.First.{first_below}
 use Rattle.csv_rows.specs.Names.{name_in}
-use Rattle.csv_rows.specs.Tables.{place_in, field_at, row_count}
+use Rattle.csv_rows.specs.Tables.{place_in}
 use Rattle.csv_rows.proofs.FirstLemmas.{first-is}
-use Rattle.csv_rows.specs.RowFaults.{repeated_id}
 
 -- the first of two faults
 pub or_first : {F : Type 0} (a b : Option F) (f : F) → a ≡ Some f → option_or a b ≡ Some f
@@ -43,12 +39,3 @@ place_inside name names k h =
     some_if : (b : Bool) (i k : ℕ) → (if b then Some i else None) ≡ Some k → i ≡ k
     some_if true i k e = cc
     some_if false i k e = absurd (cc)
-
--- the ids under a column, by where it stands
-pub ids_fault_is : (table : Table) (t : List (List (List ℕ))) (p q : Option ℕ) (o : Option FeedFault) → p ≡ q
-    → first_below (repeated_id table (field_at t p)) (row_count t) ≡ o → first_below (repeated_id table (field_at t q)) (row_count t) ≡ o
-ids_fault_is table t p q o e h = ap (λ k. first_below (repeated_id table (field_at t k)) (row_count t)) (sym e) ∙ h
-
-pub named_is : (t : List (List (List ℕ))) (p q : Option ℕ) → p ≡ q → ((i : ℕ) → i < row_count t → name_in (field_at t q i) ≡ Some (field_at t q i))
-    → (i : ℕ) → i < row_count t → name_in (field_at t p i) ≡ Some (field_at t p i)
-named_is t p q e h i inside = let P : Option ℕ → Type 0 = λ k. name_in (field_at t k i) ≡ Some (field_at t k i) in subst P (sym e) (h i inside)

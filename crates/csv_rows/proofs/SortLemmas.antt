@@ -85,19 +85,7 @@ module _ (test : ℕ → Bool) (group order : ℕ → ℕ) where
       let size : length xs ≡ 0 = ap length e in
       record { own = λ k d h. absurd (omega arith); all = λ i h t. absurd (omega arith); rising = λ k l d less h. absurd (omega arith) }
 
-  -- a row that is not taken
-  pub keys-passed : (i : ℕ) (xs : List Key) → AreKeys i xs → test i ≡ false → AreKeys (i + 1) xs
-  keys-passed i xs keys out =
-      record {
-        own = λ k d h. let w = keys.own k d h in (w.0, w.1, omega (arith, w.2), w.3);
-        all = λ j h t.
-            ⊎_elim (λ (before : j < i). keys.all j before t)
-            (λ (end : i ≤ j). let e : j ≡ i = omega arith in absurd (let never : true ≡ false = sym t ∙ ap test e ∙ out in cc))
-            (cases_lt j i);
-        rising = keys.rising;
-      }
-
-  -- and one that is
+  -- a row that is taken
   pub keys-taken : (i : ℕ) (old new : List Key) (key : Key) → AreKeys i old → test i ≡ true → new ≡ old ++ key ∷ [] → key ≡ key_of i → AreKeys (i + 1) new
   unfolding key_of
   keys-taken i old new key keys here e same =

@@ -34,7 +34,15 @@ rank_of Transfers = 7
 -- the table that could not be read, where the fault is of this kind
 abbrev pub unread_of : FeedFault → Option Table
 unread_of (Read table) = Some table
-unread_of _ = None
+unread_of (TooLong table) = None
+unread_of (MissingTable table) = None
+unread_of (MissingColumn table column) = None
+unread_of (BadField table line column) = None
+unread_of (UnknownKey table line column) = None
+unread_of (DuplicateKey table line) = None
+unread_of (BackwardTime line) = None
+unread_of (TooManyRows table count) = None
+unread_of NoMemory = None
 
 -- whether this table is the one that could not be read
 abbrev pub is_unread : Option Table → Table → Bool

@@ -1,14 +1,14 @@
 //! Ids, numbered in the order in which they stand in a table.
 ghost use Rattle.std.specs.Prelude.{◌≡◌, ◌≢◌, ◌<◌, ◌-◌, ◌^◌, ℕ, [], length, None, Some, IfOk, IfErr, IfSome, OnOk, OnErr, slice_get};
 ghost use Rattle.csv_rows.specs.First.{first_below};
-ghost use Rattle.csv_rows.specs.FeedTables.{unread_of, IsFaultOf};
 ghost use Rattle.csv_rows.specs.Names.{name_in};
-ghost use Rattle.csv_rows.specs.Tables.{row_count, place_in, field_at};
+ghost use Rattle.csv_rows.specs.Tables.{row_count, place_in, field, field_at};
 ghost use Rattle.plan_model.specs.NameLists.{Adds, IsTrimmed};
 ghost use Rattle.csv_rows.specs.Ids.{AreIds};
-ghost use Rattle.csv_rows.specs.RowFaults.{repeated_id};
+ghost use Rattle.csv_rows.specs.RowFaults.{repeated_id, TellsFirst};
 ghost use Rattle.csv_rows.specs.Lists.{list_below};
 
+use crate::columns::Column;
 use crate::feed_tables::{FeedFault, Table};
 use crate::names::read_name;
 use crate::rows::Rows;
@@ -103,26 +103,18 @@ fn name_at(rows: &Rows, row: usize, column: Option<usize>) -> &str
 }
 
 /// The ids of all rows, or the first row whose id stands in an earlier one.
-pub fn read_ids(
-    alloc: Global,
-    rows: &Rows,
-    table: Table,
-    column: Option<usize>,
-) -> Result<Ids, FeedFault>
+pub fn read_ids(alloc: Global, rows: &Rows, table: Table, column: Column) -> Result<Ids, FeedFault>
     requires few { row_count rows.now < 2 ^ 32 - 1 }
     requires named { (i : ℕ) → i < row_count rows.now
-        → name_in (field_at rows.now column i) ≡ Some (field_at rows.now column i) }
-    ensures ids { IfOk result (λ ids. ids ≡ list_below (field_at rows.now column) (row_count rows.now)) }
-    ensures none { OnOk result
-        (first_below (repeated_id table (field_at rows.now column)) (row_count rows.now) ≡ None) }
-    ensures fault { IfErr result (λ f. f ≢ FeedFault.NoMemory
-        → first_below (repeated_id table (field_at rows.now column)) (row_count rows.now) ≡ Some f) }
-    ensures content { IfErr result (λ f. unread_of f ≡ None) }
-    ensures own { IfErr result (IsFaultOf table) }
+        → name_in (field rows.now column i) ≡ Some (field rows.now column i) }
+    ensures ids { IfOk result (λ ids. ids ≡ list_below (field rows.now column) (row_count rows.now)) }
+    ensures tells { TellsFirst table
+        (first_below (repeated_id table (field rows.now column)) (row_count rows.now)) result }
 {
+    let place = rows.place_of(column);
     let mut ids = Ids::with_key(alloc, rows.key());
     for i in 0..rows.count() {
-        match ids.add(alloc, name_at(rows, i, column)) {
+        match ids.add(alloc, name_at(rows, i, place)) {
             Err(_) => return Err(FeedFault::NoMemory),
             Ok(true) => {}
             Ok(false) => return Err(FeedFault::DuplicateKey(table, rows.line(i))),

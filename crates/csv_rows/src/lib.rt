@@ -24,5 +24,5 @@ pub use keys::{Key, before_at, first_repeat, in_order, sooner};
 pub use limits::Limits;
 pub use names::{read_name, read_text};
 pub use records::{Record, Records};
-pub use row_faults::lack;
+pub use row_faults::{check_columns, lack};
 pub use rows::{Rows, RowsFault};

@@ -1,21 +1,19 @@
 -- The rows of routes.
-use Rattle.std.proofs.Common.{◌≡◌, ℕ, ◌<◌, List, Some, None, sym, ap, ◌∙◌}
-use Rattle.std.specs.Prelude.{Result}
+use Rattle.std.proofs.Common.{◌≡◌, ℕ, ◌<◌, List, Some, None, sym, ap}
 use Rattle.csv_rows.specs.declared.columns.Column.TheVariants.{RouteId}
-use Rattle.csv_rows.specs.declared.feed_tables.FeedFault.{FeedFault}
 use Rattle.csv_rows.specs.First.{first_below}
 use Rattle.csv_rows.specs.Names.{name_in}
 use Rattle.csv_rows.specs.Tables.{row_count, field}
 use Rattle.csv_rows.proofs.FirstLemmas.{none-each}
 use Rattle.feed_lists.specs.declared.routes.RouteColumns.{RouteColumns}
-use Rattle.feed_lists.specs.Routes.{Route, route_columns, route_in, route_at, bad_route}
+use Rattle.feed_lists.specs.Routes.{route_columns, route_in, route_at, bad_route}
 use Rattle.csv_rows.proofs.RowLemmas.{name_is}
 use Rattle.plan_model.proofs.Results.{result_err-require}
 
 -- the row by where the columns stand
-pub route_is : (t : List (List (List ℕ))) (c : RouteColumns) (i : ℕ) (r : Result Route FeedFault) → c ≡ route_columns t → route_in t c i ≡ r → route_at t i ≡ r
+pub route_is : (t : List (List (List ℕ))) (c : RouteColumns) (i : ℕ) → c ≡ route_columns t → route_at t i ≡ route_in t c i
 unfolding route_at
-route_is t c i r e h = ap (λ k. route_in t k i) (sym e) ∙ h
+route_is t c i e = ap (λ k. route_in t k i) (sym e)
 
 -- each route has a name
 pub routes_named : (t : List (List (List ℕ))) → first_below (bad_route t) (row_count t) ≡ None → (i : ℕ) → i < row_count t → name_in (field t RouteId i) ≡ Some (field t RouteId i)

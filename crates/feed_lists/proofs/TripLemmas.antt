@@ -1,12 +1,10 @@
 -- The rows of trips.
-use Rattle.std.proofs.Common.{◌≡◌, ℕ, ◌<◌, ◌+◌, List, Some, None, sym, ap, ◌∙◌}
-use Rattle.std.specs.Prelude.{Result}
+use Rattle.std.proofs.Common.{◌≡◌, ℕ, ◌<◌, ◌+◌, List, Some, None, sym, ap}
 use Rattle.std.specs.Result.{result_err}
 use Rattle.plan_model.proofs.Results.{result_err-require}
 use Rattle.csv_rows.specs.declared.columns.Column.TheVariants.{RouteId, ServiceId, TripId}
 use Rattle.csv_rows.specs.declared.feed_tables.Table.TheVariants.{Trips}
 use Rattle.csv_rows.specs.declared.feed_tables.FeedFault.TheVariants.{BadField, UnknownKey}
-use Rattle.csv_rows.specs.declared.feed_tables.FeedFault.{FeedFault}
 use Rattle.csv_rows.specs.First.{first_below}
 use Rattle.csv_rows.specs.Names.{name_in}
 use Rattle.csv_rows.specs.Tables.{row_count, place_in, field}
@@ -16,9 +14,9 @@ use Rattle.feed_lists.specs.Trips.{Trip, trip_from, trip_columns, trip_in, trip_
 use Rattle.csv_rows.proofs.RowLemmas.{name_is}
 
 -- the row by where the columns stand
-pub trip_is : (routes : List (List ℕ)) (t : List (List (List ℕ))) (c : TripColumns) (i : ℕ) (r : Result Trip FeedFault) → c ≡ trip_columns t → trip_in routes t c i ≡ r → trip_at routes t i ≡ r
+pub trip_is : (routes : List (List ℕ)) (t : List (List (List ℕ))) (c : TripColumns) (i : ℕ) → c ≡ trip_columns t → trip_at routes t i ≡ trip_in routes t c i
 unfolding trip_at
-trip_is routes t c i r e h = ap (λ k. trip_in routes t k i) (sym e) ∙ h
+trip_is routes t c i e = ap (λ k. trip_in routes t k i) (sym e)
 
 -- a trip with no fault has a name
 trip_named : (routes : List (List ℕ)) (line : ℕ) (a b c : List ℕ) → result_err (trip_from routes line a b c) ≡ None → name_in c ≡ Some c

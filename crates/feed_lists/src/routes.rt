@@ -1,18 +1,16 @@
 //! The routes of a feed.
-ghost use Rattle.std.specs.Prelude.{◌≡◌, ◌≢◌, ◌<◌, ◌≤◌, None, Some, Ok, Err, IfOk, IfErr, IfSome, OnOk};
-ghost use Rattle.std.specs.Option.{option_or};
+ghost use Rattle.std.specs.Prelude.{◌≡◌, ◌<◌, ◌≤◌, Ok, IfOk};
+ghost use Rattle.std.specs.Result.{result_err};
 ghost use Rattle.clock_text.specs.Digits.{whole_of};
-ghost use Rattle.csv_rows.specs.declared.columns.Column.TheVariants.{RouteId, RouteType};
 ghost use Rattle.csv_rows.specs.declared.feed_tables.Table.TheVariants.{Routes as RoutesTable};
 ghost use Rattle.csv_rows.specs.First.{first_below};
-ghost use Rattle.csv_rows.specs.FeedTables.{unread_of, IsFaultOf};
 ghost use Rattle.csv_rows.specs.Tables.{row_count};
-ghost use Rattle.csv_rows.specs.RowFaults.{lack as lack_of};
+ghost use Rattle.csv_rows.specs.RowFaults.{TellsFirst};
 ghost use Rattle.feed_lists.specs.Lists.{HasRoutes, AreSoundRoutes};
 ghost use Rattle.feed_lists.specs.Routes.{route_columns, route_in, bad_route, route_types, routes_fault};
 
 use clock_text::read_whole;
-use csv_rows::{Column, FeedFault, Ids, Rows, Table, lack, read_ids, read_name};
+use csv_rows::{Column, FeedFault, Ids, Rows, Table, check_columns, read_ids, read_name};
 use std::alloc::Global;
 
 /// The ids of the routes, and the type of each.
@@ -57,18 +55,6 @@ fn route_columns(rows: &Rows) -> RouteColumns
     }
 }
 
-/// The first required column that stands nowhere in the header.
-fn missing_column(columns: RouteColumns) -> Option<FeedFault>
-    ensures fault { result ≡ option_or (lack_of RoutesTable RouteId columns.id)
-        (lack_of RoutesTable RouteType columns.kind) }
-    ensures own { IfSome result (IsFaultOf RoutesTable) }
-{
-    match lack(Table::Routes, Column::RouteId, columns.id) {
-        Some(fault) => Some(fault),
-        None => lack(Table::Routes, Column::RouteType, columns.kind),
-    }
-}
-
 /// A route type, which leaves a class of delays for all other types.
 fn read_route_type(text: &[u8]) -> Option<u16>
     ensures { result ≡ whole_of 65534 text.now }
@@ -84,9 +70,7 @@ fn read_route(rows: &Rows, columns: RouteColumns, row: usize) -> Result<Route<'_
     requires { row < row_count rows.now }
     ensures route { IfOk result (λ r. route_in rows.now columns row
         ≡ Ok (record { id = r.id.now; kind = r.kind })) }
-    ensures fault { IfErr result (λ f. route_in rows.now columns row ≡ Err f) }
-    ensures content { IfErr result (λ f. unread_of f ≡ None) }
-    ensures own { IfErr result (IsFaultOf RoutesTable) }
+    ensures tells { TellsFirst RoutesTable (result_err (route_in rows.now columns row)) result }
 {
     let line = rows.line(row);
     let Some(id) = read_name(rows.field_at(row, columns.id)) else {
@@ -99,15 +83,11 @@ fn read_route(rows: &Rows, columns: RouteColumns, row: usize) -> Result<Route<'_
 }
 
 /// The type of each route, or the first field that is not of its form.
-fn read_types(alloc: Global, rows: &Rows, columns: RouteColumns) -> Result<Vec<u16>, FeedFault>
-    requires { columns ≡ route_columns rows.now }
+fn read_types(alloc: Global, rows: &Rows) -> Result<Vec<u16>, FeedFault>
     ensures types { IfOk result (λ types. types.items ≡ route_types rows.now) }
-    ensures none { OnOk result (first_below (bad_route rows.now) (row_count rows.now) ≡ None) }
-    ensures fault { IfErr result (λ f. f ≢ FeedFault.NoMemory
-        → first_below (bad_route rows.now) (row_count rows.now) ≡ Some f) }
-    ensures content { IfErr result (λ f. unread_of f ≡ None) }
-    ensures own { IfErr result (IsFaultOf RoutesTable) }
+    ensures tells { TellsFirst RoutesTable (first_below (bad_route rows.now) (row_count rows.now)) result }
 {
+    let columns = route_columns(rows);
     let mut types: Vec<u16> = Vec::new(alloc);
     for i in 0..rows.count() {
         let route = read_route(rows, columns, i)?;
@@ -121,16 +101,10 @@ pub(crate) fn read_routes(alloc: Global, rows: &Rows) -> Result<Routes, FeedFaul
     requires { row_count rows.now ≤ 65536 }
     ensures routes { IfOk result (HasRoutes (Ok rows.now)) }
     ensures sound { IfOk result AreSoundRoutes }
-    ensures none { OnOk result (routes_fault rows.now ≡ None) }
-    ensures fault { IfErr result (λ f. f ≢ FeedFault.NoMemory → routes_fault rows.now ≡ Some f) }
-    ensures content { IfErr result (λ f. unread_of f ≡ None) }
-    ensures own { IfErr result (IsFaultOf RoutesTable) }
+    ensures tells { TellsFirst RoutesTable (routes_fault rows.now) result }
 {
-    let columns = route_columns(rows);
-    if let Some(fault) = missing_column(columns) {
-        return Err(fault);
-    }
-    let types = read_types(alloc, rows, columns)?;
-    let ids = read_ids(alloc, rows, Table::Routes, columns.id)?;
+    check_columns(rows, Table::Routes, &[Column::RouteId, Column::RouteType])?;
+    let types = read_types(alloc, rows)?;
+    let ids = read_ids(alloc, rows, Table::Routes, Column::RouteId)?;
     Ok(Routes { ids, types })
 }

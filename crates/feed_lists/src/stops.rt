@@ -1,15 +1,16 @@
 //! The stops of a feed.
-ghost use Rattle.std.specs.Prelude.{◌≡◌, ◌≢◌, ◌<◌, ◌≤◌, None, Some, Ok, Err, IfOk, IfErr, OnOk};
+ghost use Rattle.std.specs.Prelude.{◌≡◌, ◌<◌, ◌≤◌, None, Ok, IfOk};
+ghost use Rattle.std.specs.Result.{result_err};
 ghost use Rattle.csv_rows.specs.declared.feed_tables.Table.TheVariants.{Stops as StopsTable};
 ghost use Rattle.csv_rows.specs.First.{first_below};
-ghost use Rattle.csv_rows.specs.FeedTables.{unread_of, IsFaultOf};
+ghost use Rattle.csv_rows.specs.RowFaults.{TellsFirst};
 ghost use Rattle.csv_rows.specs.Tables.{row_count};
 ghost use Rattle.feed_lists.specs.Lists.{HasStops, AreSoundStops};
 ghost use Rattle.feed_lists.specs.Stops.{stop_columns, stop_in, bad_stop, parent_in_row, stop_ids, place_fault, unknown_parent, place_from, stop_places, stops_fault};
 ghost use Rattle.feed_lists.specs.Bounds.{most_stops};
 
 use crate::forms::{read_is_stop, read_parent};
-use csv_rows::{Column, FeedFault, Ids, Rows, Table, lack, read_ids, read_name};
+use csv_rows::{Column, FeedFault, Ids, Rows, Table, check_columns, read_ids, read_name};
 use std::alloc::Global;
 
 /// The ids of the stops, and the place of each: the number of its parent station or its own.
@@ -61,9 +62,7 @@ fn read_stop(rows: &Rows, columns: StopColumns, row: usize) -> Result<Stop<'_>, 
     requires { row < row_count rows.now }
     ensures stop { IfOk result (λ s. stop_in rows.now columns row
         ≡ Ok (record { id = s.id.now; parent = s.parent.now })) }
-    ensures fault { IfErr result (λ f. stop_in rows.now columns row ≡ Err f) }
-    ensures content { IfErr result (λ f. unread_of f ≡ None) }
-    ensures own { IfErr result (IsFaultOf StopsTable) }
+    ensures tells { TellsFirst StopsTable (result_err (stop_in rows.now columns row)) result }
 {
     let line = rows.line(row);
     let Some(id) = read_name(rows.field_at(row, columns.id)) else {
@@ -78,15 +77,11 @@ fn read_stop(rows: &Rows, columns: StopColumns, row: usize) -> Result<Stop<'_>, 
     Ok(Stop { id, parent })
 }
 
-/// The first field of the stops that is not of its form.
-fn check_stops(rows: &Rows, columns: StopColumns) -> Result<(), FeedFault>
-    requires { columns ≡ stop_columns rows.now }
-    ensures none { OnOk result (first_below (bad_stop rows.now) (row_count rows.now) ≡ None) }
-    ensures fault { IfErr result (λ f. first_below (bad_stop rows.now) (row_count rows.now)
-        ≡ Some f) }
-    ensures content { IfErr result (λ f. unread_of f ≡ None) }
-    ensures own { IfErr result (IsFaultOf StopsTable) }
+/// That each field of the stops is of its form, or the first that is not.
+fn check_stops(rows: &Rows) -> Result<(), FeedFault>
+    ensures { TellsFirst StopsTable (first_below (bad_stop rows.now) (row_count rows.now)) result }
 {
+    let columns = stop_columns(rows);
     for i in 0..rows.count() {
         read_stop(rows, columns, i)?;
     }
@@ -99,11 +94,8 @@ fn read_place(rows: &Rows, columns: StopColumns, ids: &Ids, row: usize) -> Resul
     requires few { row_count rows.now ≤ most_stops }
     ensures place { IfOk result
         (λ p. place_from ids.now (parent_in_row (stop_in rows.now columns row)) row ≡ p) }
-    ensures none { OnOk result (place_fault ids.now (stop_in rows.now columns row) row ≡ None) }
-    ensures fault { IfErr result (λ f. place_fault ids.now (stop_in rows.now columns row) row
-        ≡ Some f) }
-    ensures content { IfErr result (λ f. unread_of f ≡ None) }
-    ensures own { IfErr result (IsFaultOf StopsTable) }
+    ensures tells { TellsFirst StopsTable
+        (place_fault ids.now (stop_in rows.now columns row) row) result }
 {
     let stop = read_stop(rows, columns, row)?;
     if stop.parent.is_empty() {
@@ -116,23 +108,15 @@ fn read_place(rows: &Rows, columns: StopColumns, ids: &Ids, row: usize) -> Resul
 }
 
 /// The place of each stop, or the first stop whose parent is none.
-fn read_places(
-    alloc: Global,
-    rows: &Rows,
-    columns: StopColumns,
-    ids: &Ids,
-) -> Result<Vec<u32>, FeedFault>
+fn read_places(alloc: Global, rows: &Rows, ids: &Ids) -> Result<Vec<u32>, FeedFault>
     requires few { row_count rows.now ≤ most_stops }
-    requires columns { columns ≡ stop_columns rows.now }
     requires ids { ids.now ≡ stop_ids rows.now }
     requires formed { first_below (bad_stop rows.now) (row_count rows.now) ≡ None }
     ensures places { IfOk result (λ places. places.items ≡ stop_places rows.now) }
-    ensures none { OnOk result (first_below (unknown_parent rows.now) (row_count rows.now) ≡ None) }
-    ensures fault { IfErr result (λ f. f ≢ FeedFault.NoMemory
-        → first_below (unknown_parent rows.now) (row_count rows.now) ≡ Some f) }
-    ensures content { IfErr result (λ f. unread_of f ≡ None) }
-    ensures own { IfErr result (IsFaultOf StopsTable) }
+    ensures tells { TellsFirst StopsTable
+        (first_below (unknown_parent rows.now) (row_count rows.now)) result }
 {
+    let columns = stop_columns(rows);
     let mut places: Vec<u32> = Vec::new(alloc);
     for i in 0..rows.count() {
         let place = read_place(rows, columns, ids, i)?;
@@ -146,17 +130,11 @@ pub(crate) fn read_stops(alloc: Global, rows: &Rows) -> Result<Stops, FeedFault>
     requires { row_count rows.now ≤ most_stops }
     ensures stops { IfOk result (HasStops (Ok rows.now)) }
     ensures sound { IfOk result AreSoundStops }
-    ensures none { OnOk result (stops_fault rows.now ≡ None) }
-    ensures fault { IfErr result (λ f. f ≢ FeedFault.NoMemory → stops_fault rows.now ≡ Some f) }
-    ensures content { IfErr result (λ f. unread_of f ≡ None) }
-    ensures own { IfErr result (IsFaultOf StopsTable) }
+    ensures tells { TellsFirst StopsTable (stops_fault rows.now) result }
 {
-    let columns = stop_columns(rows);
-    if let Some(fault) = lack(Table::Stops, Column::StopId, columns.id) {
-        return Err(fault);
-    }
-    check_stops(rows, columns)?;
-    let ids = read_ids(alloc, rows, Table::Stops, columns.id)?;
-    let places = read_places(alloc, rows, columns, &ids)?;
+    check_columns(rows, Table::Stops, &[Column::StopId])?;
+    check_stops(rows)?;
+    let ids = read_ids(alloc, rows, Table::Stops, Column::StopId)?;
+    let places = read_places(alloc, rows, &ids)?;
     Ok(Stops { ids, places })
 }

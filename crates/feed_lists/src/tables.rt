@@ -3,7 +3,7 @@ ghost use Rattle.std.specs.Prelude.{◌≡◌, ◌≢◌, length, None, Err, IfO
 ghost use Rattle.csv_rows.specs.declared.feed_tables.Table.TheVariants.{Stops as StopsTable, Routes as RoutesTable, Trips as TripsTable};
 ghost use Rattle.csv_rows.specs.FeedTables.{unread_of, IsFaultOf};
 ghost use Rattle.csv_rows.specs.Limits.{AreWithin};
-ghost use Rattle.table_files.specs.Loading.{HasFeedCause, HasFeedPathCause, load_in};
+ghost use Rattle.table_files.specs.Loading.{HasFeedCauses, load_in};
 ghost use Rattle.feed_lists.specs.Lists.{stops_from, routes_from, trips_from, HasStops, HasRoutes, HasTrips, AreSoundStops, AreSoundRoutes, AreSoundTrips};
 
 use crate::routes::{Routes, read_routes};
@@ -29,9 +29,8 @@ pub fn load_stops<F: Files>(
         → stops_from (load_in m folder.now limits.now (unread_of f) StopsTable) ≡ Err f)) }
     ensures sound { IfOk result AreSoundStops }
     ensures own { IfErr result (IsFaultOf StopsTable) }
-    ensures cause { HasFeedCause (F.faults files.old) (F.faults files.new) result }
-    ensures path_cause { HasFeedPathCause (IsSome (F.files files.old)) folder.now
-        (F.faults_of files.old) (F.faults_of files.new) result }
+    ensures causes { HasFeedCauses (IsSome (F.files files.old)) folder.now
+        (F.faults files.old) (F.faults files.new) (F.faults_of files.old) (F.faults_of files.new) result }
 {
     let rows = read_required(alloc, files, folder, Table::Stops, Column::StopId, limits)?;
     read_stops(alloc, &rows)
@@ -52,9 +51,8 @@ pub fn load_routes<F: Files>(
         → routes_from (load_in m folder.now limits.now (unread_of f) RoutesTable) ≡ Err f)) }
     ensures sound { IfOk result AreSoundRoutes }
     ensures own { IfErr result (IsFaultOf RoutesTable) }
-    ensures cause { HasFeedCause (F.faults files.old) (F.faults files.new) result }
-    ensures path_cause { HasFeedPathCause (IsSome (F.files files.old)) folder.now
-        (F.faults_of files.old) (F.faults_of files.new) result }
+    ensures causes { HasFeedCauses (IsSome (F.files files.old)) folder.now
+        (F.faults files.old) (F.faults files.new) (F.faults_of files.old) (F.faults_of files.new) result }
 {
     let rows = read_required(alloc, files, folder, Table::Routes, Column::RouteId, limits)?;
     read_routes(alloc, &rows)
@@ -78,9 +76,8 @@ pub fn load_trips<F: Files>(
         ≡ Err f)) }
     ensures sound { IfOk result (AreSoundTrips routes.now) }
     ensures own { IfErr result (IsFaultOf TripsTable) }
-    ensures cause { HasFeedCause (F.faults files.old) (F.faults files.new) result }
-    ensures path_cause { HasFeedPathCause (IsSome (F.files files.old)) folder.now
-        (F.faults_of files.old) (F.faults_of files.new) result }
+    ensures causes { HasFeedCauses (IsSome (F.files files.old)) folder.now
+        (F.faults files.old) (F.faults files.new) (F.faults_of files.old) (F.faults_of files.new) result }
 {
     let rows = read_required(alloc, files, folder, Table::Trips, Column::RouteId, limits)?;
     read_trips(alloc, &rows, routes)

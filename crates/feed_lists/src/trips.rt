@@ -1,19 +1,17 @@
 //! The trips of a feed.
-ghost use Rattle.std.specs.Prelude.{◌≡◌, ◌≢◌, ◌<◌, ◌≤◌, ◌++◌, ◌∷◌, [], None, Some, Ok, Err, IfOk, IfErr, IfSome, OnOk, length, slice_index, All};
-ghost use Rattle.std.specs.Option.{option_or};
-ghost use Rattle.csv_rows.specs.declared.columns.Column.TheVariants.{RouteId, ServiceId, TripId};
+ghost use Rattle.std.specs.Prelude.{◌≡◌, ◌<◌, ◌≤◌, ◌++◌, ◌∷◌, [], Ok, IfOk, OnOk, length, slice_index, All};
+ghost use Rattle.std.specs.Result.{result_err};
 ghost use Rattle.csv_rows.specs.declared.feed_tables.Table.TheVariants.{Trips as TripsTable};
 ghost use Rattle.csv_rows.specs.First.{first_below};
-ghost use Rattle.csv_rows.specs.FeedTables.{unread_of, IsFaultOf};
 ghost use Rattle.csv_rows.specs.Tables.{row_count};
 ghost use Rattle.plan_model.specs.NameLists.{texts};
-ghost use Rattle.csv_rows.specs.RowFaults.{lack as lack_of};
+ghost use Rattle.csv_rows.specs.RowFaults.{TellsFirst};
 ghost use Rattle.feed_lists.specs.Lists.{HasTrips, AreSoundTrips};
 ghost use Rattle.feed_lists.specs.Trips.{trip_columns, trip_in, bad_trip, trip_routes, trip_services, trip_types, trips_fault};
 ghost use Rattle.feed_lists.specs.Bounds.{most_trips};
 
 use crate::routes::Routes;
-use csv_rows::{Column, FeedFault, Ids, Rows, Table, lack, read_ids, read_name};
+use csv_rows::{Column, FeedFault, Ids, Rows, Table, check_columns, read_ids, read_name};
 use plan_model::NoMemory;
 use std::alloc::Global;
 
@@ -83,21 +81,6 @@ fn trip_columns(rows: &Rows) -> TripColumns
     }
 }
 
-/// The first required column that stands nowhere in the header.
-fn missing_column(columns: TripColumns) -> Option<FeedFault>
-    ensures fault { result ≡ option_or (lack_of TripsTable RouteId columns.route)
-        (option_or (lack_of TripsTable ServiceId columns.service) (lack_of TripsTable TripId columns.id)) }
-    ensures own { IfSome result (IsFaultOf TripsTable) }
-{
-    match lack(Table::Trips, Column::RouteId, columns.route) {
-        Some(fault) => Some(fault),
-        None => match lack(Table::Trips, Column::ServiceId, columns.service) {
-            Some(fault) => Some(fault),
-            None => lack(Table::Trips, Column::TripId, columns.id),
-        },
-    }
-}
-
 /// The trip of a row, or the first field that is not of its form or names no route.
 fn read_trip<'a>(
     rows: &'a Rows,
@@ -108,10 +91,9 @@ fn read_trip<'a>(
     requires { row < row_count rows.now }
     ensures trip { IfOk result (λ r. trip_in routes.now rows.now columns row
         ≡ Ok (record { route = r.route; service = r.service.now; id = r.id.now })) }
-    ensures fault { IfErr result (λ f. trip_in routes.now rows.now columns row ≡ Err f) }
+    ensures tells { TellsFirst TripsTable
+        (result_err (trip_in routes.now rows.now columns row)) result }
     ensures route { IfOk result (λ r. r.route < length routes.now) }
-    ensures content { IfErr result (λ f. unread_of f ≡ None) }
-    ensures own { IfErr result (IsFaultOf TripsTable) }
 {
     let line = rows.line(row);
     let Some(route) = read_name(rows.field_at(row, columns.route)) else {
@@ -156,27 +138,18 @@ fn add_trip(
 }
 
 /// The service, the route type and the route of each trip, or the first fault of a row.
-fn read_of_trips(
-    alloc: Global,
-    rows: &Rows,
-    columns: TripColumns,
-    routes: &Routes,
-) -> Result<OfTrips, FeedFault>
-    requires columns { columns ≡ trip_columns rows.now }
-    requires types { length routes.now.types.items ≡ length routes.now.ids }
+fn read_of_trips(alloc: Global, rows: &Rows, routes: &Routes) -> Result<OfTrips, FeedFault>
+    requires { length routes.now.types.items ≡ length routes.now.ids }
     ensures services { IfOk result (λ o. texts o.services.items
         ≡ trip_services routes.now.ids rows.now) }
     ensures types { IfOk result (λ o. o.types.items
         ≡ trip_types routes.now.ids routes.now.types.items rows.now) }
     ensures routes { IfOk result (λ o. o.routes.items ≡ trip_routes routes.now.ids rows.now) }
     ensures known { IfOk result (λ o. All (λ route. route < length routes.now.ids) o.routes.items) }
-    ensures none { OnOk result (first_below (bad_trip routes.now.ids rows.now)
-        (row_count rows.now) ≡ None) }
-    ensures fault { IfErr result (λ f. f ≢ FeedFault.NoMemory
-        → first_below (bad_trip routes.now.ids rows.now) (row_count rows.now) ≡ Some f) }
-    ensures content { IfErr result (λ f. unread_of f ≡ None) }
-    ensures own { IfErr result (IsFaultOf TripsTable) }
+    ensures tells { TellsFirst TripsTable
+        (first_below (bad_trip routes.now.ids rows.now) (row_count rows.now)) result }
 {
+    let columns = trip_columns(rows);
     let mut of_trips = OfTrips {
         services: Vec::new(alloc),
         types: Vec::new(alloc),
@@ -195,17 +168,14 @@ pub(crate) fn read_trips(alloc: Global, rows: &Rows, routes: &Routes) -> Result<
     requires types { length routes.now.types.items ≡ length routes.now.ids }
     ensures trips { IfOk result (HasTrips routes.now (Ok rows.now)) }
     ensures sound { IfOk result (AreSoundTrips routes.now) }
-    ensures none { OnOk result (trips_fault routes.now.ids rows.now ≡ None) }
-    ensures fault { IfErr result (λ f. f ≢ FeedFault.NoMemory
-        → trips_fault routes.now.ids rows.now ≡ Some f) }
-    ensures content { IfErr result (λ f. unread_of f ≡ None) }
-    ensures own { IfErr result (IsFaultOf TripsTable) }
+    ensures tells { TellsFirst TripsTable (trips_fault routes.now.ids rows.now) result }
 {
-    let columns = trip_columns(rows);
-    if let Some(fault) = missing_column(columns) {
-        return Err(fault);
-    }
-    let of_trips = read_of_trips(alloc, rows, columns, routes)?;
-    let ids = read_ids(alloc, rows, Table::Trips, columns.id)?;
+    check_columns(
+        rows,
+        Table::Trips,
+        &[Column::RouteId, Column::ServiceId, Column::TripId],
+    )?;
+    let of_trips = read_of_trips(alloc, rows, routes)?;
+    let ids = read_ids(alloc, rows, Table::Trips, Column::TripId)?;
     Ok(Trips { ids, of_trips })
 }

@@ -1,8 +1,8 @@
 //! Whole files from `Files`, and whole texts to a `Sink`.
 ghost use Rattle.std.specs.Prelude.{◌≡◌, ◌<◌, ◌≤◌, ◌+◌, ◌^◌, ◌↔◌, ℕ, length, IsSome, IsNone, IfOk, IfSome, OnOk, OnErr, IsErrOf, option_map, vec_items};
 ghost use Rattle.std.specs.Io.KnownBytes.{Appends, Consumes, IsAtEnd};
-ghost use Rattle.file_ports.specs.Counts.{HasCause};
-ghost use Rattle.file_ports.specs.Loading.{HasReadCause, HasPathReadCause, IsLonger, Takes, AppendsFront};
+ghost use Rattle.file_ports.specs.Counts.{HasCause, KeepsOthers};
+ghost use Rattle.file_ports.specs.Loading.{HasLoadCauses, IsLonger, Takes, AppendsFront};
 ghost use Rattle.file_ports.specs.Ports.{file_at};
 
 use crate::ports::{Failed, Files, Presence, Sink};
@@ -31,10 +31,10 @@ fn read_rest<F: Files>(alloc: Global, files: &mut F, most: usize) -> Result<Vec<
         × IsAtEnd (F.left files.new)) }
     ensures bound { IfOk result (λ v. length v.items ≤ most) }
     ensures takes { Takes most (F.left files.old) (F.left files.new) result }
-    ensures cause { HasReadCause (F.faults files.old) (F.faults files.new) result }
-    ensures path_cause { IfSome (F.in_hand files.old) (λ path. HasPathReadCause
-        (IsSome (F.files files.old)) path
-        (F.faults_of files.old) (F.faults_of files.new) result) }
+    ensures causes { IfSome (F.in_hand files.old) (λ path. HasLoadCauses (IsSome (F.files files.old)) path
+        (F.faults files.old) (F.faults files.new) (F.faults_of files.old) (F.faults_of files.new) result) }
+    ensures others { IfSome (F.in_hand files.old) (λ path. KeepsOthers (IsSome (F.files files.old)) path
+        (F.faults_of files.old) (F.faults_of files.new)) }
 {
     let mut bytes = Vec::new(alloc);
     let mut buffer = [0; CHUNK];
@@ -75,14 +75,18 @@ pub fn load<F: Files>(
         IsErrOf result LoadFault.TooLong → IsLonger most (file_at m path.now)) }
     ensures takes { IfSome (F.files files.old) (λ m.
         IsSome (F.in_hand files.new) → Takes most (file_at m path.now) (F.left files.new) result) }
-    ensures cause { HasReadCause (F.faults files.old) (F.faults files.new) result }
-    ensures path_cause { HasPathReadCause (IsSome (F.files files.old)) path.now
-        (F.faults_of files.old) (F.faults_of files.new) result }
+    ensures causes { HasLoadCauses (IsSome (F.files files.old)) path.now
+        (F.faults files.old) (F.faults files.new) (F.faults_of files.old) (F.faults_of files.new) result }
+    ensures others { KeepsOthers (IsSome (F.files files.old)) path.now
+        (F.faults_of files.old) (F.faults_of files.new) }
 {
     match files.open_file(path) {
         Err(Failed) => Err(LoadFault::Read),
         Ok(Presence::Absent) => Ok(None),
-        Ok(Presence::Present) => read_rest(alloc, files, most as usize).map(Some),
+        Ok(Presence::Present) => match read_rest(alloc, files, most as usize) {
+            Err(fault) => Err(fault),
+            Ok(bytes) => Ok(Some(bytes)),
+        },
     }
 }
 

@@ -8,8 +8,8 @@ use Rattle.feed_lists.specs.Bounds.{most_stops, most_trips}
 use Rattle.gtfs_tables.specs.Feeds.{FeedParts, IsSoundFeed}
 use Rattle.gtfs_tables.specs.Parts.{parts_by}
 
-abbrev pub parts_of : Inside → FeedParts
-parts_of f = parts_by f.lists f.times
+abbrev pub feed_parts_of : Inside → FeedParts
+feed_parts_of f = parts_by f.lists f.times
 
 -- each stop has a place, each trip has a service, a type, one of the routes and its rows, the rows of frequencies are in the order of
 -- their trips, there are no more than tables may have, and the parts are a feed
@@ -27,4 +27,4 @@ pub record IsWhole (f : Inside) : Type 0 where
   pub few_rows : (trip : ℕ) → trip < length f.lists.trips.ids
       → length (slice_index_or f.times.visits trip []) ≤ most_stop_times
   pub few_frequencies : length f.times.repeats.rows.items ≤ most_frequencies
-  pub sound : IsSoundFeed (parts_of f)
+  pub sound : IsSoundFeed (feed_parts_of f)

@@ -2,7 +2,6 @@
 use Rattle.std.specs.Prelude.{◌≡◌, ℕ, ◌<◌, List, [], length, slice_index_or, Option, None, Result, Ok, Err, IfSome}
 use Rattle.plan_model.specs.Results.{and_then}
 use Rattle.file_ports.specs.Ports.{FileMap}
-use Rattle.csv_rows.specs.declared.columns.Column.TheVariants.{StopId, RouteId}
 use Rattle.csv_rows.specs.declared.feed_tables.Table.{Table}
 use Rattle.csv_rows.specs.declared.feed_tables.Table.TheVariants.{Stops, Routes, Trips, StopTimes, Frequencies, Calendar, CalendarDates, Transfers}
 use Rattle.csv_rows.specs.declared.feed_tables.FeedFault.{FeedFault}
@@ -13,7 +12,7 @@ use Rattle.table_files.specs.Loading.{load_in, loaded_rows}
 use Rattle.csv_rows.specs.Tables.{row_count}
 use Rattle.trip_frequencies.specs.declared.frequencies.FrequencyRow.{FrequencyRow}
 use Rattle.stop_times.specs.declared.rows.StopRow.{StopRow}
-use Rattle.table_files.specs.Required.{Records, required}
+use Rattle.table_files.specs.Required.{Records}
 use Rattle.feed_lists.specs.Lists.{stops_from, routes_from, trips_from}
 use Rattle.feed_lists.specs.Stops.{stop_ids, stop_places, stops_fault}
 use Rattle.feed_lists.specs.Routes.{route_ids, route_types, routes_fault}

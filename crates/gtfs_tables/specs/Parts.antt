@@ -47,7 +47,7 @@ pub record AreLists (load : Table → Result Loaded FeedFault) (l : FeedLists) :
   pub trips : HasTrips l.routes (trips_from (load Trips) l.routes.ids) l.trips
 
 -- and the trips run by these
-pub record AreTimes (load : Table → Result Loaded FeedFault) (l : FeedLists) (t : TripTimes) : Type 0 where
+pub record AreTripTimes (load : Table → Result Loaded FeedFault) (l : FeedLists) (t : TripTimes) : Type 0 where
   pub visits : HasVisits (stop_times_from (load StopTimes) l.trips.ids l.stops.ids l.stops.places.items) l t
   pub repeats : HasRepeats (frequencies_from (load Frequencies) l.trips.ids) l t
 

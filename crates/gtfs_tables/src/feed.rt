@@ -34,9 +34,9 @@ impl Model for Feed {
 
     ghost Value = { FeedParts };
 
-    ghost use Rattle.gtfs_tables.specs.FeedInside.{parts_of, IsWhole};
+    ghost use Rattle.gtfs_tables.specs.FeedInside.{feed_parts_of, IsWhole};
 
-    ghost view = { parts_of };
+    ghost view = { feed_parts_of };
 
     ghost invariant = { IsWhole };
 }
@@ -46,7 +46,7 @@ impl Feed {
     ghost use Rattle.csv_rows.specs.FeedTables.{unread_of};
     ghost use Rattle.csv_rows.specs.Ids.{AreIds};
     ghost use Rattle.csv_rows.specs.Limits.{AreWithin};
-    ghost use Rattle.table_files.specs.Loading.{HasFeedCause, HasFeedPathCause};
+    ghost use Rattle.table_files.specs.Loading.{HasFeedCauses};
     ghost use Rattle.csv_rows.specs.Tables.{place_in};
     ghost use Rattle.gtfs_tables.specs.Feeds.{tables_in, IsFeedOf, IsFeedTableFault, IsSoundFeed};
     ghost use Rattle.gtfs_tables.specs.Repeats.{AreRepeating, IsSmall};
@@ -70,9 +70,8 @@ impl Feed {
         ensures fault { IfSome (F.files files.old) (λ m. IfErr result (λ f. f ≢ FeedFault.NoMemory
             → tables_in m folder.now limits.now (unread_of f) ≡ Err f)) }
         ensures own { IfErr result IsFeedTableFault }
-        ensures cause { HasFeedCause (F.faults files.old) (F.faults files.new) result }
-        ensures path_cause { HasFeedPathCause (IsSome (F.files files.old)) folder.now
-            (F.faults_of files.old) (F.faults_of files.new) result }
+        ensures causes { HasFeedCauses (IsSome (F.files files.old)) folder.now
+            (F.faults files.old) (F.faults files.new) (F.faults_of files.old) (F.faults_of files.new) result }
     {
         let lists = load_lists(alloc, files, folder, limits)?;
         let times = load_times(alloc, files, folder, limits, &lists)?;

@@ -2,7 +2,7 @@
 ghost use Rattle.std.specs.Prelude.{◌≡◌, ◌≢◌, None, Err, IfOk, IfErr, IfSome, IsSome};
 ghost use Rattle.csv_rows.specs.FeedTables.{unread_of};
 ghost use Rattle.csv_rows.specs.Limits.{AreWithin};
-ghost use Rattle.table_files.specs.Loading.{HasFeedCause, HasFeedPathCause, load_in};
+ghost use Rattle.table_files.specs.Loading.{HasFeedCauses, load_in};
 ghost use Rattle.gtfs_tables.specs.Feeds.{tables_in, IsFeedTableFault};
 ghost use Rattle.gtfs_tables.specs.Parts.{AreLists, AreSoundLists};
 
@@ -44,9 +44,8 @@ pub(crate) fn load_lists<F: Files>(
         → tables_in m folder.now limits.now (unread_of f) ≡ Err f)) }
     ensures sound { IfOk result AreSoundLists }
     ensures own { IfErr result IsFeedTableFault }
-    ensures cause { HasFeedCause (F.faults files.old) (F.faults files.new) result }
-    ensures path_cause { HasFeedPathCause (IsSome (F.files files.old)) folder.now
-        (F.faults_of files.old) (F.faults_of files.new) result }
+    ensures causes { HasFeedCauses (IsSome (F.files files.old)) folder.now
+        (F.faults files.old) (F.faults files.new) (F.faults_of files.old) (F.faults_of files.new) result }
 {
     let stops = load_stops(alloc, files, folder, limits)?;
     let routes = load_routes(alloc, files, folder, limits)?;

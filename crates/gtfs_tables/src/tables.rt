@@ -4,7 +4,7 @@ ghost use Rattle.csv_rows.specs.declared.columns.Column.TheVariants.{TripId};
 ghost use Rattle.csv_rows.specs.declared.feed_tables.Table.TheVariants.{StopTimes as StopTimesTable};
 ghost use Rattle.csv_rows.specs.FeedTables.{unread_of, IsFaultOf};
 ghost use Rattle.csv_rows.specs.Limits.{AreWithin, rows_of};
-ghost use Rattle.table_files.specs.Loading.{HasFeedCause, HasFeedPathCause, load_in, loaded_from};
+ghost use Rattle.table_files.specs.Loading.{HasFeedCauses, load_in, loaded_from};
 ghost use Rattle.csv_rows.specs.Tables.{table_of};
 ghost use Rattle.stop_times.specs.Bounds.{most_stop_times};
 ghost use Rattle.table_files.specs.Required.{required, IsOfSomeTable};
@@ -33,9 +33,8 @@ fn load_times_text<F: Files>(
     ensures fault { IfSome (F.files files.old) (λ m. IfErr result (λ f. f ≢ FeedFault.NoMemory
         → required StopTimesTable TripId (load_in m folder.now limits.now (unread_of f) StopTimesTable) ≡ Err f)) }
     ensures own { IfErr result (IsFaultOf StopTimesTable) }
-    ensures cause { HasFeedCause (F.faults files.old) (F.faults files.new) result }
-    ensures path_cause { HasFeedPathCause (IsSome (F.files files.old)) folder.now
-        (F.faults_of files.old) (F.faults_of files.new) result }
+    ensures causes { HasFeedCauses (IsSome (F.files files.old)) folder.now
+        (F.faults files.old) (F.faults files.new) (F.faults_of files.old) (F.faults_of files.new) result }
 {
     match read_file(alloc, files, folder, Table::StopTimes, limits)? {
         Some(text) => Ok(text),
@@ -70,9 +69,8 @@ pub(crate) fn load_stop_times<F: Files>(
         → length (slice_index_or v trip []) ≤ most_stop_times) }
     ensures sized { IfOk result (λ v. length v ≡ length trips.now) }
     ensures own { IfErr result (IsFaultOf StopTimesTable) }
-    ensures cause { HasFeedCause (F.faults files.old) (F.faults files.new) result }
-    ensures path_cause { HasFeedPathCause (IsSome (F.files files.old)) folder.now
-        (F.faults_of files.old) (F.faults_of files.new) result }
+    ensures causes { HasFeedCauses (IsSome (F.files files.old)) folder.now
+        (F.faults files.old) (F.faults files.new) (F.faults_of files.old) (F.faults_of files.new) result }
 {
     let text = load_times_text(alloc, files, folder, limits)?;
     let most = limits.rows_of(Table::StopTimes);

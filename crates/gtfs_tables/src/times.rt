@@ -2,9 +2,9 @@
 ghost use Rattle.std.specs.Prelude.{◌≡◌, ◌≢◌, None, Err, IfOk, IfErr, IfSome, IsSome, length};
 ghost use Rattle.csv_rows.specs.FeedTables.{unread_of};
 ghost use Rattle.csv_rows.specs.Limits.{AreWithin};
-ghost use Rattle.table_files.specs.Loading.{HasFeedCause, HasFeedPathCause, load_in};
+ghost use Rattle.table_files.specs.Loading.{HasFeedCauses, load_in};
 ghost use Rattle.gtfs_tables.specs.Feeds.{tables_in, IsFeedTableFault};
-ghost use Rattle.gtfs_tables.specs.Parts.{AreLists, AreTimes, AreSoundTimes};
+ghost use Rattle.gtfs_tables.specs.Parts.{AreLists, AreTripTimes, AreSoundTimes};
 
 use crate::lists::FeedLists;
 use crate::tables::load_stop_times;
@@ -42,15 +42,14 @@ pub(crate) fn load_times<F: Files>(
     requires places { length lists.now.stops.places.items ≡ length lists.now.stops.ids }
     ensures same { F.files files.new ≡ F.files files.old }
     ensures times { IfSome (F.files files.old) (λ m. IfOk result
-        (AreTimes (load_in m folder.now limits.now None) lists.now)) }
+        (AreTripTimes (load_in m folder.now limits.now None) lists.now)) }
     ensures fault { IfSome (F.files files.old) (λ m. IfErr result (λ f. f ≢ FeedFault.NoMemory
         → AreLists (load_in m folder.now limits.now None) lists.now
         → tables_in m folder.now limits.now (unread_of f) ≡ Err f)) }
     ensures sound { IfOk result (AreSoundTimes lists.now) }
     ensures own { IfErr result IsFeedTableFault }
-    ensures cause { HasFeedCause (F.faults files.old) (F.faults files.new) result }
-    ensures path_cause { HasFeedPathCause (IsSome (F.files files.old)) folder.now
-        (F.faults_of files.old) (F.faults_of files.new) result }
+    ensures causes { HasFeedCauses (IsSome (F.files files.old)) folder.now
+        (F.faults files.old) (F.faults files.new) (F.faults_of files.old) (F.faults_of files.new) result }
 {
     let trips = &lists.trips.ids;
     let visits = load_stop_times(alloc, files, folder, limits, trips, &lists.stops)?;

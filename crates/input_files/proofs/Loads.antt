@@ -1,6 +1,6 @@
 -- What a loaded file gives.
-use Rattle.std.proofs.Common.{◌≡◌, ℕ, List, Option, Some, None, Err, Bool, true, arith, refl, ap, subst}
-use Rattle.std.specs.Prelude.{IfSome, IfOk, IfErr, Result, Ok, ◌==◌, if◌then◌else◌}
+use Rattle.std.proofs.Common.{◌≡◌, ℕ, List, Option, Some, None, Err, Bool, true, arith, refl, ap}
+use Rattle.std.specs.Prelude.{IfSome, ◌==◌, if◌then◌else◌}
 use Rattle.std.proofs.lemmas.Bool.Decides.{nat_tests}
 use Rattle.csv_rows.specs.FeedTables.{rank_of}
 use Rattle.journey_model.specs.declared.faults.Input.{Input}
@@ -12,22 +12,6 @@ use Rattle.input_files.specs.Files.{bytes_of, bytes_present}
 pub if_some_any : {A : Type 0} (o : Option A) (P : A → Type 0) → ((a : A) → P a) → IfSome o P
 if_some_any None P f = tt
 if_some_any (Some a) P f = f a
-
-pub if_some_then : {A : Type 0} (o : Option A) (P Q : A → Type 0) → ((a : A) → P a → Q a) → IfSome o P → IfSome o Q
-if_some_then None P Q f p = tt
-if_some_then (Some a) P Q f p = f a p
-
-pub if_ok_then : {A E : Type 0} (r : Result A E) (P Q : A → Type 0) → ((a : A) → P a → Q a) → IfOk r P → IfOk r Q
-if_ok_then (Ok a) P Q f p = f a p
-if_ok_then (Err e) P Q f p = tt
-
-pub if_err_then : {A E : Type 0} (r : Result A E) (P Q : E → Type 0) → ((e : E) → P e → Q e) → IfErr r P → IfErr r Q
-if_err_then (Ok a) P Q f p = tt
-if_err_then (Err e) P Q f p = f e p
-
-pub some_of : {A : Type 0} (o : Option A) (a : A) (P : A → Type 0) → o ≡ Some a → IfSome o P → P a
-some_of None a P is p = absurd (cc)
-some_of (Some b) a P is p = let same : b ≡ a = (cc) in subst P same p
 
 same_rank : (n : ℕ) → (n == n) ≡ true
 same_rank n = grind (arith, nat_tests)

@@ -1,8 +1,7 @@
 -- The files that a command reads, and the causes of their faults.
-use Rattle.std.specs.Prelude.{◌≡◌, ◌≢◌, ℕ, ◌+◌, ◌<◌, ◌≤◌, List, [], ◌∷◌, length, Option, None, Some, Result, Ok, Err, IsErrOf, if◌then◌else◌, nat_lt}
-use Rattle.std.specs.Option.{IsSomeAnd}
+use Rattle.std.specs.Prelude.{◌≡◌, ◌≢◌, ℕ, ◌+◌, List, [], ◌∷◌, length, Option, None, Some, Result, Ok, Err, IsErrAnd, if◌then◌else◌, nat_lt}
 use Rattle.plan_model.specs.Results.{and_then}
-use Rattle.file_ports.specs.Counts.{Rose}
+use Rattle.file_ports.specs.Counts.{HasCausesOf}
 use Rattle.csv_rows.specs.FeedTables.{path_of as table_path}
 use Rattle.csv_rows.specs.Tables.{table_of}
 use Rattle.csv_rows.specs.declared.feed_tables.Table.{Table}
@@ -64,14 +63,7 @@ abbrev pub Finds : {A B : Type 0} → (A → B) → (Option Input → Result B F
 Finds shown wanted (Ok a) = wanted None ≡ Ok (shown a)
 Finds shown wanted (Err fault) = fault ≢ NoMemory → wanted (unread_of fault) ≡ Err fault
 
--- the count of faults of a path rose
-abbrev pub RoseAt : Option (List ℕ) → (before_of now_of : List ℕ → ℕ) → Type 0
-RoseAt path before_of now_of = IsSomeAnd path (λ p. Rose (before_of p) (now_of p))
-
 -- `Read` only where the count of faults rose, where it is told that of the input's own path too; and always where it grew
-pub record HasCauses {T : Type 0} (told : Type 0) (path : Input → Option (List ℕ)) (before now : ℕ) (before_of now_of : List ℕ → ℕ) (result : Result T Fault) : Type 0 where
-  pub later : before ≤ now
-  pub later_of : (p : List ℕ) → before_of p ≤ now_of p
-  pub read : (input : Input) → IsErrOf result (Read input) → Rose before now
-  pub read_path : told → (input : Input) → IsErrOf result (Read input) → RoseAt (path input) before_of now_of
-  pub grew : before < now → (input : Input) × IsErrOf result (Read input)
+abbrev pub HasCauses : {T : Type 0} (told : Type 0) (path : Input → Option (List ℕ)) (before now : ℕ) (before_of now_of : List ℕ → ℕ) → Result T Fault → Type 0
+HasCauses told path before now before_of now_of result =
+    HasCausesOf (λ input. IsErrAnd result (λ fault. fault ≡ Read input)) told path before now before_of now_of

@@ -15,7 +15,7 @@ use Rattle.command_line.specs.Jobs.{WantedJourney}
 use Rattle.journey_model.specs.declared.faults.Input.{Input}
 use Rattle.journey_model.specs.declared.faults.Input.TheVariants as input
 use Rattle.journey_model.specs.declared.faults.Fault.{Fault}
-use Rattle.journey_model.specs.declared.faults.Fault.TheVariants.{Delays, NoMemory}
+use Rattle.journey_model.specs.declared.faults.Fault.TheVariants.{NoMemory}
 use Rattle.journey_model.specs.Faults.{IsFirst, MayBeUnread, unread_of}
 use Rattle.journey_model.specs.declared.problem.Problem.{Problem}
 use Rattle.input_files.specs.Files.{Records}

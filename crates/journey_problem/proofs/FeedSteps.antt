@@ -18,10 +18,10 @@ use Rattle.input_files.specs.Tables.{AreDelaysOf, delay_fault}
 use Rattle.journey_problem.specs.FeedProblems.{FolderParts, IsFolder, IsWindowFault, IsFaultAfterFolder, IsFeedProblem, HasFeedTimetable, window_fault_of}
 
 -- what holds of a told folder before and after a step that leaves it the same
-pub if_some_both : {A : Type 0} (o later : Option A) (P Q R : A → Type 0) → ((a : A) → P a → Q a → R a) → later ≡ o → IfSome o P → IfSome later Q → IfSome o R
-if_some_both None later P Q R f same p q = tt
-if_some_both (Some a) None P Q R f same p q = absurd (cc)
-if_some_both (Some a) (Some b) P Q R f same p q = let one : b ≡ a = (cc) in f a p (subst Q one q)
+pub if_some_both : {A : Type 0} (o later : Option A) {P Q R : A → Type 0} → later ≡ o → IfSome o P → IfSome later Q → ((a : A) → P a → Q a → R a) → IfSome o R
+if_some_both None later same p q f = tt
+if_some_both (Some a) None same p q f = absurd (cc)
+if_some_both (Some a) (Some b) {Q = Q} same p q f = let one : b ≡ a = (cc) in f a p (subst Q one q)
 
 -- a window of a feed is that of some feed
 pub feed_timetable : (horizon : ℕ) (j : WantedJourney) (h : FolderParts) (lists : DelayLists) (r : Result Problem Fault)

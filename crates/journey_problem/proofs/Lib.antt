@@ -1,6 +1,5 @@
 pub mod StopNames
 pub mod FeedSteps
-mod FolderSteps
 pub mod OneOrder
 pub mod OneCutNetwork
 pub mod OneCutProblem

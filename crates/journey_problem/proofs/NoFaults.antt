@@ -10,7 +10,7 @@ use Rattle.csv_rows.specs.FeedTables.{unread_of as unread_table_of}
 use Rattle.gtfs_tables.specs.Feeds.{FeedParts, Tables, tables_in, IsFeedOf}
 use Rattle.service_days.specs.Calendars.{calendars_in, RunsBy}
 use Rattle.service_days.specs.Services.{runs}
-use Rattle.change_times.specs.Changes.{AreChanges, transfers_in}
+use Rattle.change_times.specs.Changes.{AreToldChanges, transfers_in}
 use Rattle.change_times.specs.Transfers.{place_of_stop}
 use Rattle.command_line.specs.Jobs.{WantedTimetable, CutFile, FeedFolder, WantedJourney}
 use Rattle.journey_model.specs.declared.faults.Input.{Input}
@@ -62,7 +62,7 @@ module _ (limits : Limits) (files : FileMap) (folder : List ℕ) (h : FolderPart
   no_later f g e u (inl k) =
       not_err (calendars_in files folder limits None) (RunsBy (runs h.services)) g is.services (subst (λ (t : Option Table). calendars_in files folder limits t ≡ Err g) u k)
   no_later f g e u (inr (ok, k)) =
-      not_err (transfers_in files folder limits None h.feed) (AreChanges h.feed h.changes) g is.changes
+      not_err (transfers_in files folder limits None h.feed) (AreToldChanges h.feed h.changes) g is.changes
       (subst (λ (x : FeedParts). transfers_in files folder limits None x ≡ Err g) e (subst (λ (t : Option Table). transfers_in files folder limits t f ≡ Err g) u k))
 
   pub no_folder_fault : (g : FeedFault) → unread_table_of g ≡ None → IsFolderFault limits files folder g → ⊥

@@ -8,7 +8,7 @@ use Rattle.csv_rows.specs.FeedTables.{unread_of as unread_table_of}
 use Rattle.gtfs_tables.specs.Feeds.{FeedParts, tables_in, IsFeedOf, IsSoundFeed}
 use Rattle.service_days.specs.Services.{ServiceParts, runs}
 use Rattle.service_days.specs.Calendars.{calendars_in, RunsBy}
-use Rattle.change_times.specs.Changes.{ChangeParts, AreChanges, transfers_in}
+use Rattle.change_times.specs.Changes.{ChangeParts, AreToldChanges, transfers_in}
 use Rattle.change_times.specs.Transfers.{place_of_stop}
 use Rattle.delay_table.specs.DelayLists.{DelayLists}
 use Rattle.delay_table.specs.Slots.{AreDelays}
@@ -48,12 +48,12 @@ pub record FolderParts : Type 0 where
 pub record IsFolder (limits : Limits) (files : FileMap) (folder : List ℕ) (h : FolderParts) : Type 0 where
   pub feed : IsFeedOf (tables_in files folder limits None) h.feed
   pub services : IsOkAnd (calendars_in files folder limits None) (RunsBy (runs h.services))
-  pub changes : IsOkAnd (transfers_in files folder limits None h.feed) (AreChanges h.feed h.changes)
+  pub changes : IsOkAnd (transfers_in files folder limits None h.feed) (AreToldChanges h.feed h.changes)
 
 -- the later tables have no fault, and these are the services and the change times
 abbrev pub AreRules : Limits → FileMap → List ℕ → FeedParts → ServiceParts → ChangeParts → Type 0
 AreRules limits files folder f s c =
-    IsOkAnd (calendars_in files folder limits None) (RunsBy (runs s)) × IsOkAnd (transfers_in files folder limits None f) (AreChanges f c)
+    IsOkAnd (calendars_in files folder limits None) (RunsBy (runs s)) × IsOkAnd (transfers_in files folder limits None f) (AreToldChanges f c)
 
 -- after tables with no fault the first fault is this one, of the calendars or else of the transfers
 abbrev pub IsLaterTableFault : Limits → FileMap → List ℕ → FeedParts → FeedFault → Type 0

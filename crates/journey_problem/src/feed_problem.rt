@@ -1,7 +1,7 @@
 //! A journey over a feed.
 ghost use Rattle.std.specs.Prelude.{◌≡◌, ◌≢◌, ◌<◌, ◌≤◌, ℕ, List as Bytes, length, None, Some, IsSome, IfSome, IfOk, IfErr, OnOk};
 ghost use Rattle.csv_rows.specs.Limits.{AreWithin};
-ghost use Rattle.table_files.specs.Loading.{HasFeedCause, HasFeedPathCause};
+ghost use Rattle.table_files.specs.Loading.{HasFeedCauses};
 ghost use Rattle.change_times.specs.Transfers.{place_of_stop};
 ghost use Rattle.change_times.specs.Changes.{LinksComeFrom};
 ghost use Rattle.connections.specs.Cut.{IsNetworkFrom};
@@ -15,7 +15,7 @@ ghost use Rattle.journey_model.specs.Faults.{MayBeUnread, unread_of};
 ghost use Rattle.input_files.specs.Files.{OwnPaths, path_by, HasCauses};
 ghost use Rattle.input_files.specs.EarlyFaults.{IsEarly};
 ghost use Rattle.journey_problem.specs.FeedProblems.{feed_as, feed_stop_fault, window_fault_of, AreRules, IsFolder, IsFolderFault, IsLaterTableFault, IsFaultAfterFolder, IsWindowFault, IsFeedProblem, IsFeedProblemFault, HasFeedTimetable};
-ghost use Rattle.journey_problem.specs.Folders.{parts_of};
+ghost use Rattle.journey_problem.specs.Folders.{folder_parts_of};
 
 use change_times::Changes;
 use command_line::Journey;
@@ -67,9 +67,8 @@ fn read_rules<F: Files>(
     ensures fault { IfSome (F.files files.old) (λ m. IfErr result (λ f. f ≢ FeedFault.NoMemory
         → IsLaterTableFault limits.now m folder.now feed.now f)) }
     ensures links { IfOk result (λ r. LinksComeFrom (length feed.now.stop_ids) r.changes) }
-    ensures cause { HasFeedCause (F.faults files.old) (F.faults files.new) result }
-    ensures path_cause { HasFeedPathCause (IsSome (F.files files.old)) folder.now
-        (F.faults_of files.old) (F.faults_of files.new) result }
+    ensures causes { HasFeedCauses (IsSome (F.files files.old)) folder.now
+        (F.faults files.old) (F.faults files.new) (F.faults_of files.old) (F.faults_of files.new) result }
 {
     let services = match Services::read(alloc, files, folder, limits) {
         Err(fault) => return Err(fault),
@@ -91,14 +90,13 @@ fn read_folder<F: Files>(
     requires { AreWithin limits.now }
     ensures same { F.files files.new ≡ F.files files.old }
     ensures folder { IfSome (F.files files.old) (λ m.
-        IfOk result (λ t. IsFolder limits.now m folder.now (parts_of t))) }
+        IfOk result (λ t. IsFolder limits.now m folder.now (folder_parts_of t))) }
     ensures fault { IfSome (F.files files.old) (λ m. IfErr result (λ f. f ≢ FeedFault.NoMemory
         → IsFolderFault limits.now m folder.now f)) }
     ensures sound { IfOk result (λ t. IsSoundFeed t.feed) }
     ensures links { IfOk result (λ t. LinksComeFrom (length t.feed.stop_ids) t.rules.changes) }
-    ensures cause { HasFeedCause (F.faults files.old) (F.faults files.new) result }
-    ensures path_cause { HasFeedPathCause (IsSome (F.files files.old)) folder.now
-        (F.faults_of files.old) (F.faults_of files.new) result }
+    ensures causes { HasFeedCauses (IsSome (F.files files.old)) folder.now
+        (F.faults files.old) (F.faults files.new) (F.faults_of files.old) (F.faults_of files.new) result }
 {
     let feed = match Feed::read(alloc, files, folder, limits) {
         Err(fault) => return Err(fault),
@@ -166,7 +164,7 @@ fn window_problem(
     ensures network { IfOk result (λ p. IsNetworkFrom tables.now.feed tables.now.rules.services
         tables.now.rules.changes delays.now journey.now.start.0 horizon p.network p.names) }
     ensures no_window_fault { OnOk result (window_fault_of limits.now horizon
-        (journey_shown journey.now) (parts_of tables.now) ≡ None) }
+        (journey_shown journey.now) (folder_parts_of tables.now) ≡ None) }
     ensures valid { IfOk result (λ p. IsValid p.network) }
     ensures fit { IfOk result (λ p. NamesFit p.names p.network) }
     ensures source { IfOk result (λ p.
@@ -176,7 +174,7 @@ fn window_problem(
     ensures source_in { IfOk result (λ p. p.source.0 < length p.network.change) }
     ensures target_in { IfOk result (λ p. p.target.0 < length p.network.change) }
     ensures fault { IfErr result (λ fault. fault ≢ Fault.NoMemory → IsWindowFault limits.now
-        horizon (journey_shown journey.now) (parts_of tables.now) fault) }
+        horizon (journey_shown journey.now) (folder_parts_of tables.now) fault) }
     ensures early { (folder : Bytes ℕ) → IfErr result (IsEarly (FeedFolder folder horizon)) }
     ensures read { IfErr result (λ fault. unread_of fault ≡ None) }
 {
@@ -214,11 +212,11 @@ fn problem_in<F: Files>(
     requires sound { IsSoundFeed tables.now.feed }
     ensures same { F.files files.new ≡ F.files files.old }
     ensures problem { IfSome (F.files files.old) (λ m. IfOk result (λ p. (folder : Bytes ℕ)
-        → IsFolder limits.now m folder (parts_of tables.now)
+        → IsFolder limits.now m folder (folder_parts_of tables.now)
         → IsFeedProblem limits.now m folder horizon (journey_shown journey.now) p)) }
     ensures fault { IfSome (F.files files.old) (λ m. IfErr result (λ fault. fault ≢ Fault.NoMemory
         → IsFaultAfterFolder limits.now m horizon (journey_shown journey.now)
-        (parts_of tables.now) fault)) }
+        (folder_parts_of tables.now) fault)) }
     ensures early { (folder : Bytes ℕ) → IfErr result (IsEarly (FeedFolder folder horizon)) }
     ensures own { IfErr result (MayBeUnread Input.Delays) }
     ensures valid { IfOk result (λ p. IsValid p.network) }

@@ -5,38 +5,32 @@ use Rattle.csv_rows.specs.declared.columns.Column.TheVariants.{ServiceId}
 use Rattle.csv_rows.specs.declared.feed_tables.Table.TheVariants.{Calendar}
 use Rattle.csv_rows.specs.First.{any_below}
 use Rattle.csv_rows.specs.Tables.{row_count, place_in, field}
-use Rattle.csv_rows.proofs.FirstLemmas.{none-both}
 use Rattle.csv_rows.proofs.IdLemmas.{one_row, no_row, place-here}
 use Rattle.csv_rows.proofs.ListLemmas.{length-list_below, get-list_below}
 use Rattle.service_days.specs.declared.exceptions.Exception.{Exception}
-use Rattle.service_days.specs.Periods.{runs_by, period_of, service_ids, periods_of, runs_in_row, calendar_fault}
+use Rattle.service_days.specs.Periods.{runs_in_period, period_of, service_ids, periods_of, runs_in_row}
 use Rattle.service_days.specs.Dates.{is_excepted}
 use Rattle.service_days.specs.Exceptions.{has_at}
 use Rattle.service_days.specs.Numbered.{AreNumbered}
-use Rattle.service_days.specs.Services.{runs_within, period_runs, runs_in}
-use Rattle.service_days.specs.Calendars.{is_active, AreDistinctRows}
-
--- no fault, so no service stands twice
-pub rows_differ : (t : List (List (List ℕ))) → calendar_fault t ≡ None → AreDistinctRows t
-unfolding calendar_fault
-rows_differ t h = (none-both _ _ (none-both _ _ h).1).1
+use Rattle.service_days.specs.Services.{runs_within, period_runs, runs_of_service}
+use Rattle.service_days.specs.Calendars.{is_active_service, AreDistinctRows}
 
 -- the period of a service is that of its row
 runs_of : (t : List (List (List ℕ))) → AreDistinctRows t → (service : List ℕ) (day : ℤ) (o : Option ℕ) → place_in service (service_ids t) ≡ o
     → period_runs (periods_of t) day o ≡ any_below (runs_in_row t service day) (row_count t)
 runs_of t d service day None h =
-    sym (no_row (field t ServiceId) (row_count t) service (λ i. runs_by (period_of t i) day) h)
+    sym (no_row (field t ServiceId) (row_count t) service (λ i. runs_in_period (period_of t i) day) h)
 runs_of t d service day (Some k) h =
     let n = row_count t in
     let w = place-here service (service_ids t) k h in
     let inside : k < n = omega (arith, w.0, length-list_below (field t ServiceId) n) in
     let there : k < length (periods_of t) = omega (arith, length-list_below (period_of t) n) in
     ap (λ p. runs_within p day) (slice_get-get_or (periods_of t) k (period_of t k) there ∙ ap Some (get-list_below (period_of t) n k (period_of t k) inside))
-    ∙ sym (one_row Calendar (field t ServiceId) n service (λ i. runs_by (period_of t i) day) d k h)
+    ∙ sym (one_row Calendar (field t ServiceId) n service (λ i. runs_in_period (period_of t i) day) d k h)
 
 pub runs_is : (calendar dates : List (List (List ℕ))) (ids : List (List ℕ)) (exceptions : List Exception) → AreDistinctRows calendar
     → AreNumbered dates (row_count dates) (service_ids calendar) ids exceptions
-    → (service : List ℕ) (day : ℤ) → runs_in ids (periods_of calendar) exceptions service day ≡ is_active calendar dates service day
+    → (service : List ℕ) (day : ℤ) → runs_of_service ids (periods_of calendar) exceptions service day ≡ is_active_service calendar dates service day
 runs_is calendar dates ids exceptions d n service day =
     let o = place_in service ids in
     let periods = periods_of calendar in

@@ -1,8 +1,7 @@
 -- The rows of exceptions.
 use Rattle.std.proofs.Common.{◌≡◌, ℕ, ◌+◌, List, ap, sym, ◌∙◌, subst}
-use Rattle.std.specs.Prelude.{Result, Ok}
+use Rattle.std.specs.Prelude.{Ok}
 use Rattle.clock_text.specs.Times.{date_at}
-use Rattle.csv_rows.specs.declared.feed_tables.FeedFault.{FeedFault}
 use Rattle.csv_rows.specs.Names.{name_in}
 use Rattle.csv_rows.specs.Spaces.{AreTrimmed}
 use Rattle.csv_rows.specs.Tables.{field_at}
@@ -15,9 +14,9 @@ use Rattle.service_days.specs.Forms.{adds_in}
 use Rattle.plan_model.proofs.Results.{require-ok}
 
 -- the row by where the columns stand
-pub date_is : (t : List (List (List ℕ))) (c : DateColumns) (i : ℕ) (r : Result ServiceDate FeedFault) → c ≡ date_columns t → date_in t c i ≡ r → date_at_row t i ≡ r
+pub date_is : (t : List (List (List ℕ))) (c : DateColumns) (i : ℕ) → c ≡ date_columns t → date_at_row t i ≡ date_in t c i
 unfolding date_at_row
-date_is t c i r e h = ap (λ k. date_in t k i) (sym e) ∙ h
+date_is t c i e = ap (λ k. date_in t k i) (sym e)
 
 -- the service of a row is its field
 service_is : (line : ℕ) (service date kind : List ℕ) (d : ServiceDate) → date_from line service date kind ≡ Ok d → d.service ≡ service

@@ -1,8 +1,6 @@
 -- The rows of the calendar.
-use Rattle.std.proofs.Common.{◌≡◌, ℕ, ◌<◌, ◌≤◌, length, arith, List, Some, None, sym, ap, ◌∙◌}
-use Rattle.std.specs.Prelude.{Result}
+use Rattle.std.proofs.Common.{◌≡◌, ℕ, ◌<◌, ◌≤◌, length, arith, List, Some, None, sym, ap}
 use Rattle.csv_rows.specs.declared.columns.Column.TheVariants.{ServiceId}
-use Rattle.csv_rows.specs.declared.feed_tables.FeedFault.{FeedFault}
 use Rattle.csv_rows.specs.First.{first_below}
 use Rattle.csv_rows.specs.Lists.{list_below}
 use Rattle.csv_rows.proofs.ListLemmas.{length-list_below}
@@ -10,15 +8,14 @@ use Rattle.csv_rows.specs.Names.{name_in}
 use Rattle.csv_rows.specs.Tables.{row_count, field}
 use Rattle.csv_rows.proofs.FirstLemmas.{none-each}
 use Rattle.csv_rows.proofs.RowLemmas.{name_is}
-use Rattle.service_days.specs.declared.periods.Period.{Period}
 use Rattle.service_days.specs.declared.periods.PeriodColumns.{PeriodColumns}
 use Rattle.service_days.specs.Periods.{period_columns, period_in, period_at, bad_period}
 use Rattle.plan_model.proofs.Results.{result_err-require}
 
 -- the row by where the columns stand
-pub period_is : (t : List (List (List ℕ))) (c : PeriodColumns) (i : ℕ) (r : Result Period FeedFault) → c ≡ period_columns t → period_in t c i ≡ r → period_at t i ≡ r
+pub period_is : (t : List (List (List ℕ))) (c : PeriodColumns) (i : ℕ) → c ≡ period_columns t → period_at t i ≡ period_in t c i
 unfolding period_at
-period_is t c i r e h = ap (λ k. period_in t k i) (sym e) ∙ h
+period_is t c i e = ap (λ k. period_in t k i) (sym e)
 
 -- each row names its service
 pub periods_named : (t : List (List (List ℕ))) → first_below (bad_period t) (row_count t) ≡ None → (i : ℕ) → i < row_count t → name_in (field t ServiceId i) ≡ Some (field t ServiceId i)

@@ -2,11 +2,11 @@
 use Rattle.std.specs.Prelude.{◌≡◌, ℕ, ℤ, ◌&&◌, ◌||◌, not, Bool, true, false, List, Option, None, Result, Ok, Err, IfSome, if◌then◌else◌}
 use Rattle.plan_model.specs.Results.{and_then, unless}
 use Rattle.csv_rows.specs.declared.feed_tables.Table.{Table}
-use Rattle.csv_rows.specs.declared.feed_tables.Table.TheVariants.{Calendar, CalendarDates}
+use Rattle.csv_rows.specs.declared.feed_tables.Table.TheVariants.{Stops, Routes, Trips, StopTimes, Frequencies, Calendar, CalendarDates, Transfers}
 use Rattle.csv_rows.specs.declared.feed_tables.FeedFault.{FeedFault}
 use Rattle.csv_rows.specs.declared.feed_tables.FeedFault.TheVariants.{MissingTable}
 use Rattle.table_files.specs.declared.loading.Loaded.{Loaded}
-use Rattle.table_files.specs.declared.loading.Loaded.TheVariants.{Found}
+use Rattle.table_files.specs.declared.loading.Loaded.TheVariants.{Absent, NoRecord, Found}
 use Rattle.csv_rows.specs.declared.limits.Limits.{Limits}
 use Rattle.file_ports.specs.Ports.{FileMap}
 use Rattle.csv_rows.specs.declared.columns.Column.TheVariants.{ServiceId}
@@ -23,8 +23,8 @@ use Rattle.service_days.specs.Dates.{is_excepted, dates_fault}
 
 -- a service is active on a day where a row of the calendar lets it run on that day or an exception adds the day, and no
 -- exception removes it
-abbrev pub is_active : (calendar dates : List (List (List ℕ))) → List ℕ → ℤ → Bool
-is_active calendar dates service day =
+abbrev pub is_active_service : (calendar dates : List (List (List ℕ))) → List ℕ → ℤ → Bool
+is_active_service calendar dates service day =
     not (is_excepted dates (row_count dates) service day false)
     && (is_excepted dates (row_count dates) service day true || any_below (runs_in_row calendar service day) (row_count calendar))
 
@@ -39,20 +39,23 @@ pub record Calendars : Type 0 where
 
 -- the services run on the days on which these make them active
 abbrev pub RunsBy : (List ℕ → ℤ → Bool) → Calendars → Type 0
-RunsBy runs c = (service : List ℕ) (day : ℤ) → runs service day ≡ is_active c.calendar c.dates service day
+RunsBy runs c = (service : List ℕ) (day : ℤ) → runs service day ≡ is_active_service c.calendar c.dates service day
 
 -- a table whose file has no record counts as absent
-abbrev pub is_missing : Loaded → Bool
-is_missing (Found t) = false
-is_missing _ = true
+abbrev pub has_no_record : Loaded → Bool
+has_no_record (Found t) = false
+has_no_record Absent = true
+has_no_record NoRecord = true
 
 abbrev pub fault_of_calendar : Loaded → Option FeedFault
 fault_of_calendar (Found t) = calendar_fault t
-fault_of_calendar _ = None
+fault_of_calendar Absent = None
+fault_of_calendar NoRecord = None
 
 abbrev pub fault_of_dates : Loaded → Option FeedFault
 fault_of_dates (Found t) = dates_fault t
-fault_of_dates _ = None
+fault_of_dates Absent = None
+fault_of_dates NoRecord = None
 
 -- each table by what was loaded of it
 abbrev pub calendar_from : Result Loaded FeedFault → Result Loaded FeedFault
@@ -64,7 +67,7 @@ dates_from loaded = and_then loaded (λ l. unless (fault_of_dates l) l)
 -- one of the two tables is there
 abbrev pub both_of : Loaded → Loaded → Result Calendars FeedFault
 both_of calendar dates =
-    if is_missing calendar && is_missing dates then Err (MissingTable Calendar)
+    if has_no_record calendar && has_no_record dates then Err (MissingTable Calendar)
     else Ok (record { calendar = loaded_rows calendar; dates = loaded_rows dates })
 
 -- the tables one after the other
@@ -79,19 +82,24 @@ calendars_in files folder limits unread =
 -- what was read of each table
 abbrev pub IsCalendar : Result Loaded FeedFault → Bool → List (List ℕ) → List Period → Type 0
 IsCalendar (Ok l) missing ids periods =
-    (missing ≡ is_missing l) × (ids ≡ service_ids (loaded_rows l)) × (periods ≡ periods_of (loaded_rows l)) × AreDistinctRows (loaded_rows l)
+    (missing ≡ has_no_record l) × (ids ≡ service_ids (loaded_rows l)) × (periods ≡ periods_of (loaded_rows l)) × AreDistinctRows (loaded_rows l)
 IsCalendar (Err fault) missing ids periods = ⊥
 
 abbrev pub AreDates : Result Loaded FeedFault → List (List ℕ) → Bool → List (List ℕ) → List Exception → Type 0
 AreDates (Ok l) before missing ids exceptions =
-    (missing ≡ is_missing l) × AreNumbered (loaded_rows l) (row_count (loaded_rows l)) before ids exceptions
+    (missing ≡ has_no_record l) × AreNumbered (loaded_rows l) (row_count (loaded_rows l)) before ids exceptions
 AreDates (Err fault) before missing ids exceptions = ⊥
 
 -- the two tables
 abbrev pub IsCalendarTable : Table → Type 0
 IsCalendarTable Calendar = Unit {0}
 IsCalendarTable CalendarDates = Unit {0}
-IsCalendarTable _ = ⊥
+IsCalendarTable Stops = ⊥
+IsCalendarTable Routes = ⊥
+IsCalendarTable Trips = ⊥
+IsCalendarTable StopTimes = ⊥
+IsCalendarTable Frequencies = ⊥
+IsCalendarTable Transfers = ⊥
 
 -- it is in one of these, or there was no memory
 abbrev pub IsCalendarFault : FeedFault → Type 0

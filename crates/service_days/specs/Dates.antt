@@ -1,5 +1,5 @@
 -- The exceptions of `calendar_dates.txt`: days that are added to a service, or removed.
-use Rattle.std.specs.Prelude.{ℕ, ℤ, pos, ◌+◌, ◌&&◌, Bool, false, List, [], Option, Result, Ok}
+use Rattle.std.specs.Prelude.{ℕ, ℤ, pos, ◌+◌, ◌&&◌, Bool, false, List, [], Option, Result, Ok, ◌∷◌}
 use Rattle.std.specs.Option.{option_or}
 use Rattle.std.specs.Ordering.{int_eq}
 use Rattle.std.specs.Str.{bytes_eq}
@@ -13,7 +13,7 @@ use Rattle.csv_rows.specs.declared.feed_tables.FeedFault.{FeedFault}
 use Rattle.csv_rows.specs.declared.feed_tables.FeedFault.TheVariants.{BadField}
 use Rattle.csv_rows.specs.First.{first_below, any_below}
 use Rattle.csv_rows.specs.Names.{name_in}
-use Rattle.csv_rows.specs.RowFaults.{lack}
+use Rattle.csv_rows.specs.RowFaults.{first_lack}
 use Rattle.csv_rows.specs.Tables.{row_count, place_of, field_at}
 use Rattle.service_days.specs.declared.dates.DateColumns.{DateColumns}
 use Rattle.service_days.specs.Forms.{adds_in}
@@ -62,11 +62,6 @@ is_for d service day adds = bytes_eq d.service service && (int_eq d.day day && b
 abbrev pub is_excepted : List (List (List ℕ)) → ℕ → List ℕ → ℤ → Bool → Bool
 is_excepted t n service day adds = any_below (λ i. is_for (date_of t i) service day adds) n
 
--- the first required column that is not there
-abbrev pub missing_in : DateColumns → Option FeedFault
-missing_in c =
-    option_or (option_or (lack CalendarDates ServiceId c.service) (lack CalendarDates Date c.date)) (lack CalendarDates ExceptionType c.kind)
-
 -- the first fault of the exceptions
 unfoldable pub dates_fault : List (List (List ℕ)) → Option FeedFault
-dates_fault t = option_or (missing_in (date_columns t)) (first_below (bad_date t) (row_count t))
+dates_fault t = option_or (first_lack CalendarDates t (ServiceId ∷ Date ∷ ExceptionType ∷ [])) (first_below (bad_date t) (row_count t))

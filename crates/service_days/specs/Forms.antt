@@ -3,8 +3,8 @@ use Rattle.std.specs.Prelude.{ℕ, Bool, true, false, List, Option, Some, None, 
 use Rattle.std.specs.Str.{bytes_eq}
 
 -- the flag of a weekday
-abbrev pub flag_in : List ℕ → Option Bool
-flag_in text = if bytes_eq text (codes "1") then Some true else if bytes_eq text (codes "0") then Some false else None
+abbrev pub weekday_flag_in : List ℕ → Option Bool
+weekday_flag_in text = if bytes_eq text (codes "1") then Some true else if bytes_eq text (codes "0") then Some false else None
 
 -- whether an exception adds its day: 1 adds it and 2 removes it
 abbrev pub adds_in : List ℕ → Option Bool

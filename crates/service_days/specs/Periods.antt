@@ -1,11 +1,12 @@
 -- The periods of `calendar.txt`: on which weekdays of which range of days a service runs.
-use Rattle.std.specs.Prelude.{ℕ, ℤ, pos, ◌+◌, ◌==◌, ◌&&◌, int_le, Bool, false, List, Option, Result, Ok, Err, if◌then◌else◌}
+use Rattle.std.specs.Prelude.{ℕ, ℤ, pos, ◌+◌, ◌==◌, ◌&&◌, int_le, Bool, false, List, Option, Result, Ok, Err, if◌then◌else◌, [], ◌∷◌}
 use Rattle.std.specs.Option.{option_or}
 use Rattle.std.specs.Str.{bytes_eq}
 use Rattle.std.specs.Result.{result_err}
 use Rattle.plan_model.specs.Results.{require, value_or}
 use Rattle.jiff_core.specs.Calendar.{weekday_number}
 use Rattle.clock_text.specs.Times.{date_at}
+use Rattle.csv_rows.specs.declared.columns.Column.{Column}
 use Rattle.csv_rows.specs.declared.columns.Column.TheVariants.{ServiceId, Monday, Tuesday, Wednesday, Thursday, Friday, Saturday, Sunday, StartDate, EndDate}
 use Rattle.csv_rows.specs.declared.feed_tables.Table.TheVariants.{Calendar}
 use Rattle.csv_rows.specs.declared.feed_tables.FeedFault.{FeedFault}
@@ -13,12 +14,12 @@ use Rattle.csv_rows.specs.declared.feed_tables.FeedFault.TheVariants.{BadField}
 use Rattle.csv_rows.specs.First.{first_below}
 use Rattle.csv_rows.specs.Lists.{list_below}
 use Rattle.csv_rows.specs.Names.{name_in}
-use Rattle.csv_rows.specs.RowFaults.{lack, repeated_id}
+use Rattle.csv_rows.specs.RowFaults.{first_lack, repeated_id}
 use Rattle.csv_rows.specs.Tables.{row_count, place_of, field_at, field}
 use Rattle.service_days.specs.declared.periods.Week.{Week}
 use Rattle.service_days.specs.declared.periods.Period.{Period}
 use Rattle.service_days.specs.declared.periods.PeriodColumns.{PeriodColumns}
-use Rattle.service_days.specs.Forms.{flag_in}
+use Rattle.service_days.specs.Forms.{weekday_flag_in}
 
 -- the flag of a weekday, from 0 for Monday to 6 for Sunday
 abbrev pub flag_of : Week → ℕ → Bool
@@ -27,19 +28,19 @@ flag_of w day =
     else if day == 4 then w.friday else if day == 5 then w.saturday else w.sunday
 
 -- whether the range holds the day, both ends included, and the flag of the day's weekday is 1
-abbrev pub runs_by : Period → ℤ → Bool
-runs_by p day = int_le p.first day && (int_le day p.last && flag_of p.week (weekday_number day))
+abbrev pub runs_in_period : Period → ℤ → Bool
+runs_in_period p day = int_le p.first day && (int_le day p.last && flag_of p.week (weekday_number day))
 
 -- the flags of these fields, or the first that is not of its form
 abbrev pub week_from : ℕ → (monday tuesday wednesday thursday friday saturday sunday : List ℕ) → Result Week FeedFault
 week_from line monday tuesday wednesday thursday friday saturday sunday =
-    require (flag_in monday) (BadField Calendar line Monday) (λ mon.
-    require (flag_in tuesday) (BadField Calendar line Tuesday) (λ tue.
-    require (flag_in wednesday) (BadField Calendar line Wednesday) (λ wed.
-    require (flag_in thursday) (BadField Calendar line Thursday) (λ thu.
-    require (flag_in friday) (BadField Calendar line Friday) (λ fri.
-    require (flag_in saturday) (BadField Calendar line Saturday) (λ sat.
-    require (flag_in sunday) (BadField Calendar line Sunday) (λ sun.
+    require (weekday_flag_in monday) (BadField Calendar line Monday) (λ mon.
+    require (weekday_flag_in tuesday) (BadField Calendar line Tuesday) (λ tue.
+    require (weekday_flag_in wednesday) (BadField Calendar line Wednesday) (λ wed.
+    require (weekday_flag_in thursday) (BadField Calendar line Thursday) (λ thu.
+    require (weekday_flag_in friday) (BadField Calendar line Friday) (λ fri.
+    require (weekday_flag_in saturday) (BadField Calendar line Saturday) (λ sat.
+    require (weekday_flag_in sunday) (BadField Calendar line Sunday) (λ sun.
     Ok (record { monday = mon; tuesday = tue; wednesday = wed; thursday = thu; friday = fri; saturday = sat; sunday = sun }))))))))
 
 -- what is read after the flags
@@ -107,21 +108,15 @@ periods_of t = list_below (period_of t) (row_count t)
 
 -- whether row i lets a service run on a day
 abbrev pub runs_in_row : List (List (List ℕ)) → List ℕ → ℤ → ℕ → Bool
-runs_in_row t service day i = bytes_eq (field t ServiceId i) service && runs_by (period_of t i) day
+runs_in_row t service day i = bytes_eq (field t ServiceId i) service && runs_in_period (period_of t i) day
 
--- the first required column that is not there
-abbrev pub missing_in : PeriodColumns → Option FeedFault
-missing_in c =
-    option_or (option_or (option_or (option_or (option_or
-    (option_or (option_or (option_or (option_or (lack Calendar ServiceId c.service) (lack Calendar Monday c.monday)) (lack Calendar Tuesday c.tuesday))
-    (lack Calendar Wednesday c.wednesday)) (lack Calendar Thursday c.thursday))
-    (lack Calendar Friday c.friday)) (lack Calendar Saturday c.saturday))
-    (lack Calendar Sunday c.sunday)) (lack Calendar StartDate c.first))
-    (lack Calendar EndDate c.last)
+-- the columns that have to be there
+abbrev pub required_columns : List Column
+required_columns = ServiceId ∷ Monday ∷ Tuesday ∷ Wednesday ∷ Thursday ∷ Friday ∷ Saturday ∷ Sunday ∷ StartDate ∷ EndDate ∷ []
 
 -- the first fault of the calendar
 unfoldable pub calendar_fault : List (List (List ℕ)) → Option FeedFault
 calendar_fault t =
-    option_or (missing_in (period_columns t))
+    option_or (first_lack Calendar t required_columns)
     (option_or (first_below (bad_period t) (row_count t))
     (first_below (repeated_id Calendar (field t ServiceId)) (row_count t)))

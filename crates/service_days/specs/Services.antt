@@ -3,12 +3,12 @@ use Rattle.std.specs.Prelude.{ℕ, ℤ, not, ◌&&◌, ◌||◌, Bool, true, fal
 use Rattle.csv_rows.specs.Tables.{place_in}
 use Rattle.service_days.specs.declared.periods.Period.{Period}
 use Rattle.service_days.specs.declared.exceptions.Exception.{Exception}
-use Rattle.service_days.specs.Periods.{runs_by}
+use Rattle.service_days.specs.Periods.{runs_in_period}
 use Rattle.service_days.specs.Exceptions.{has_at}
 
 abbrev pub runs_within : Option Period → ℤ → Bool
 runs_within None day = false
-runs_within (Some p) day = runs_by p day
+runs_within (Some p) day = runs_in_period p day
 
 -- whether the period of the service of this number lets it run
 abbrev pub period_runs : List Period → ℤ → Option ℕ → Bool
@@ -21,8 +21,8 @@ runs_at periods exceptions day service =
     not (has_at exceptions day false service) && (has_at exceptions day true service || period_runs periods day service)
 
 -- whether a service runs on a day
-abbrev pub runs_in : List (List ℕ) → List Period → List Exception → List ℕ → ℤ → Bool
-runs_in ids periods exceptions service day = runs_at periods exceptions day (place_in service ids)
+abbrev pub runs_of_service : List (List ℕ) → List Period → List Exception → List ℕ → ℤ → Bool
+runs_of_service ids periods exceptions service day = runs_at periods exceptions day (place_in service ids)
 
 -- services by their numbers, with their periods and exceptions
 pub record ServiceParts : Type 0 where
@@ -32,4 +32,4 @@ pub record ServiceParts : Type 0 where
 
 -- whether a service runs on a day
 abbrev pub runs : ServiceParts → List ℕ → ℤ → Bool
-runs s service day = runs_in s.ids s.periods s.exceptions service day
+runs s service day = runs_of_service s.ids s.periods s.exceptions service day

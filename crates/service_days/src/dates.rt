@@ -1,14 +1,14 @@
 //! The exceptions of `calendar_dates.txt`.
-ghost use Rattle.std.specs.Prelude.{◌≡◌, ◌≢◌, ◌<◌, ◌+◌, ◌-◌, ◌^◌, None, Some, Ok, Err, IfOk, IfErr, IfSome, OnOk, length};
+ghost use Rattle.std.specs.Prelude.{◌≡◌, ◌<◌, Ok, IfOk};
+ghost use Rattle.std.specs.Result.{result_err};
 ghost use Rattle.csv_rows.specs.declared.feed_tables.Table.TheVariants.{CalendarDates as DatesTable};
-ghost use Rattle.csv_rows.specs.First.{first_below};
-ghost use Rattle.csv_rows.specs.FeedTables.{unread_of, IsFaultOf};
+ghost use Rattle.csv_rows.specs.RowFaults.{TellsFirst};
 ghost use Rattle.csv_rows.specs.Tables.{row_count};
-ghost use Rattle.service_days.specs.Dates.{date_columns, date_in, bad_date, missing_in};
+ghost use Rattle.service_days.specs.Dates.{date_columns, date_in};
 
 use crate::forms::read_adds;
 use clock_text::read_date;
-use csv_rows::{Column, FeedFault, Rows, Table, lack, read_name};
+use csv_rows::{Column, FeedFault, Rows, Table, read_name};
 
 /// A day that is added to a service, or removed.
 #[derive(Clone, Copy)]
@@ -37,16 +37,6 @@ pub(crate) fn date_columns(rows: &Rows) -> DateColumns
     }
 }
 
-/// The first required column that stands nowhere in the header.
-pub(crate) fn missing_column(columns: DateColumns) -> Option<FeedFault>
-    ensures fault { result ≡ missing_in columns }
-    ensures own { IfSome result (IsFaultOf DatesTable) }
-{
-    lack(Table::CalendarDates, Column::ServiceId, columns.service)
-        .or(lack(Table::CalendarDates, Column::Date, columns.date))
-        .or(lack(Table::CalendarDates, Column::ExceptionType, columns.kind))
-}
-
 /// The exception of a row, or the first field that is not of its form.
 pub(crate) fn read_exception(
     rows: &Rows,
@@ -56,9 +46,7 @@ pub(crate) fn read_exception(
     requires { row < row_count rows.now }
     ensures exception { IfOk result (λ e. date_in rows.now columns row
         ≡ Ok (record { service = e.service.now; day = e.day; adds = e.adds })) }
-    ensures fault { IfErr result (λ f. date_in rows.now columns row ≡ Err f) }
-    ensures content { IfErr result (λ f. unread_of f ≡ None) }
-    ensures own { IfErr result (IsFaultOf DatesTable) }
+    ensures tells { TellsFirst DatesTable (result_err (date_in rows.now columns row)) result }
 {
     let line = rows.line(row);
     let Some(service) = read_name(rows.field_at(row, columns.service)) else {

@@ -1,17 +1,17 @@
 //! Days that are added to services or removed, by the numbers of the services.
-ghost use Rattle.std.specs.Prelude.{◌≡◌, ◌≢◌, ◌<◌, ◌+◌, ◌-◌, ◌^◌, ◌||◌, Bool, ℕ, [], None, Some, IfOk, IfErr, OnOk, length};
+ghost use Rattle.std.specs.Prelude.{◌≡◌, ◌<◌, ◌+◌, ◌-◌, ◌^◌, ◌||◌, Bool, ℕ, [], Some, IfOk, OnOk, length};
 ghost use Rattle.csv_rows.specs.declared.feed_tables.Table.TheVariants.{CalendarDates as DatesTable};
 ghost use Rattle.csv_rows.specs.First.{first_below};
-ghost use Rattle.csv_rows.specs.FeedTables.{unread_of, IsFaultOf};
+ghost use Rattle.csv_rows.specs.RowFaults.{TellsFirst};
 ghost use Rattle.csv_rows.specs.Tables.{row_count, place_in};
 ghost use Rattle.plan_model.specs.NameLists.{Adds, IsTrimmed};
 ghost use Rattle.service_days.specs.declared.exceptions.Exception.{Exception};
-ghost use Rattle.service_days.specs.Dates.{date_columns, bad_date, dates_fault};
+ghost use Rattle.service_days.specs.Dates.{bad_date, dates_fault};
 ghost use Rattle.service_days.specs.Exceptions.{same, has};
 ghost use Rattle.service_days.specs.Numbered.{AddsDate, AreNumbered};
 
-use crate::dates::{DateColumns, ServiceDate, date_columns, missing_column, read_exception};
-use csv_rows::{FeedFault, Ids, Rows};
+use crate::dates::{ServiceDate, date_columns, read_exception};
+use csv_rows::{Column, FeedFault, Ids, Rows, Table, check_columns};
 use plan_model::{HashKey, NoMemory};
 use std::alloc::Global;
 use std::collections::HashSet;
@@ -88,22 +88,13 @@ fn add(
 }
 
 /// The exceptions of all rows, or the first field that is not of its form.
-fn read_rows(
-    alloc: Global,
-    rows: &Rows,
-    columns: DateColumns,
-    ids: Ids,
-) -> Result<Numbered, FeedFault>
-    requires columns { columns ≡ date_columns rows.now }
-    requires few { length ids + row_count rows.now < 2 ^ 32 - 1 }
+fn read_rows(alloc: Global, rows: &Rows, ids: Ids) -> Result<Numbered, FeedFault>
+    requires { length ids + row_count rows.now < 2 ^ 32 - 1 }
     ensures numbered { IfOk result (λ n.
         AreNumbered rows.now (row_count rows.now) ids n.ids n.exceptions.keys) }
-    ensures none { OnOk result (first_below (bad_date rows.now) (row_count rows.now) ≡ None) }
-    ensures fault { IfErr result (λ f. f ≢ FeedFault.NoMemory
-        → first_below (bad_date rows.now) (row_count rows.now) ≡ Some f) }
-    ensures content { IfErr result (λ f. unread_of f ≡ None) }
-    ensures own { IfErr result (IsFaultOf DatesTable) }
+    ensures tells { TellsFirst DatesTable (first_below (bad_date rows.now) (row_count rows.now)) result }
 {
+    let columns = date_columns(rows);
     let mut numbered = Numbered {
         ids,
         exceptions: HashSet::with_hasher(alloc, rows.key()),
@@ -120,14 +111,12 @@ pub(crate) fn read_exceptions(alloc: Global, rows: &Rows, ids: Ids) -> Result<Nu
     requires { length ids + row_count rows.now < 2 ^ 32 - 1 }
     ensures numbered { IfOk result (λ n.
         AreNumbered rows.now (row_count rows.now) ids n.ids n.exceptions.keys) }
-    ensures none { OnOk result (dates_fault rows.now ≡ None) }
-    ensures fault { IfErr result (λ f. f ≢ FeedFault.NoMemory → dates_fault rows.now ≡ Some f) }
-    ensures content { IfErr result (λ f. unread_of f ≡ None) }
-    ensures own { IfErr result (IsFaultOf DatesTable) }
+    ensures tells { TellsFirst DatesTable (dates_fault rows.now) result }
 {
-    let columns = date_columns(rows);
-    if let Some(fault) = missing_column(columns) {
-        return Err(fault);
-    }
-    read_rows(alloc, rows, columns, ids)
+    check_columns(
+        rows,
+        Table::CalendarDates,
+        &[Column::ServiceId, Column::Date, Column::ExceptionType],
+    )?;
+    read_rows(alloc, rows, ids)
 }

@@ -1,15 +1,17 @@
 //! The periods of `calendar.txt`.
-ghost use Rattle.std.specs.Prelude.{◌≡◌, ◌≢◌, ◌<◌, ◌≤◌, ◌^◌, length, None, Some, Ok, Err, IfOk, IfErr, IfSome, OnOk};
+ghost use Rattle.std.specs.Prelude.{◌≡◌, ◌<◌, ◌≤◌, ◌^◌, length, None, Ok, Err, IfOk, IfErr, OnOk};
+ghost use Rattle.std.specs.Result.{result_err};
 ghost use Rattle.csv_rows.specs.declared.feed_tables.Table.TheVariants.{Calendar as CalendarTable};
 ghost use Rattle.csv_rows.specs.First.{first_below};
 ghost use Rattle.csv_rows.specs.FeedTables.{unread_of, IsFaultOf};
+ghost use Rattle.csv_rows.specs.RowFaults.{TellsFirst};
 ghost use Rattle.csv_rows.specs.Tables.{row_count};
 ghost use Rattle.service_days.specs.Calendars.{AreDistinctRows};
-ghost use Rattle.service_days.specs.Periods.{flag_of, runs_by, period_columns, week_in, period_in, bad_period, missing_in, service_ids, periods_of, calendar_fault};
+ghost use Rattle.service_days.specs.Periods.{flag_of, runs_in_period, period_columns, week_in, period_in, bad_period, service_ids, periods_of, calendar_fault};
 
 use crate::forms::read_flag;
 use clock_text::{read_date, weekday};
-use csv_rows::{Column, FeedFault, Ids, Rows, Table, lack, read_ids, read_name};
+use csv_rows::{Column, FeedFault, Ids, Rows, Table, check_columns, read_ids, read_name};
 use std::alloc::Global;
 
 /// The flags of the weekdays.
@@ -80,11 +82,25 @@ impl Week {
 impl Period {
     /// Whether the range holds the day and the flag of its weekday is 1.
     pub(crate) fn runs_on(&self, day: i32) -> bool
-        ensures { result ≡ runs_by self.now day }
+        ensures { result ≡ runs_in_period self.now day }
     {
         self.first <= day && day <= self.last && self.week.flag_of(weekday(day))
     }
 }
+
+/// The columns that have to be there.
+const REQUIRED: [Column; 10] = [
+    Column::ServiceId,
+    Column::Monday,
+    Column::Tuesday,
+    Column::Wednesday,
+    Column::Thursday,
+    Column::Friday,
+    Column::Saturday,
+    Column::Sunday,
+    Column::StartDate,
+    Column::EndDate,
+];
 
 /// Where the columns of the calendar stand.
 fn period_columns(rows: &Rows) -> PeriodColumns
@@ -102,23 +118,6 @@ fn period_columns(rows: &Rows) -> PeriodColumns
         first: rows.place_of(Column::StartDate),
         last: rows.place_of(Column::EndDate),
     }
-}
-
-/// The first required column that stands nowhere in the header.
-fn missing_column(columns: PeriodColumns) -> Option<FeedFault>
-    ensures fault { result ≡ missing_in columns }
-    ensures own { IfSome result (IsFaultOf CalendarTable) }
-{
-    lack(Table::Calendar, Column::ServiceId, columns.service)
-        .or(lack(Table::Calendar, Column::Monday, columns.monday))
-        .or(lack(Table::Calendar, Column::Tuesday, columns.tuesday))
-        .or(lack(Table::Calendar, Column::Wednesday, columns.wednesday))
-        .or(lack(Table::Calendar, Column::Thursday, columns.thursday))
-        .or(lack(Table::Calendar, Column::Friday, columns.friday))
-        .or(lack(Table::Calendar, Column::Saturday, columns.saturday))
-        .or(lack(Table::Calendar, Column::Sunday, columns.sunday))
-        .or(lack(Table::Calendar, Column::StartDate, columns.first))
-        .or(lack(Table::Calendar, Column::EndDate, columns.last))
 }
 
 /// The flags of a row, or the first that is not of its form.
@@ -166,9 +165,7 @@ fn read_week(rows: &Rows, columns: PeriodColumns, row: usize) -> Result<Week, Fe
 fn read_period(rows: &Rows, columns: PeriodColumns, row: usize) -> Result<Period, FeedFault>
     requires { row < row_count rows.now }
     ensures period { IfOk result (λ p. period_in rows.now columns row ≡ Ok p) }
-    ensures fault { IfErr result (λ f. period_in rows.now columns row ≡ Err f) }
-    ensures content { IfErr result (λ f. unread_of f ≡ None) }
-    ensures own { IfErr result (IsFaultOf CalendarTable) }
+    ensures tells { TellsFirst CalendarTable (result_err (period_in rows.now columns row)) result }
 {
     let line = rows.line(row);
     let Some(_) = read_name(rows.field_at(row, columns.service)) else {
@@ -185,19 +182,12 @@ fn read_period(rows: &Rows, columns: PeriodColumns, row: usize) -> Result<Period
 }
 
 /// The period of each row, or the first field that is not of its form.
-fn read_periods(
-    alloc: Global,
-    rows: &Rows,
-    columns: PeriodColumns,
-) -> Result<Vec<Period>, FeedFault>
-    requires { columns ≡ period_columns rows.now }
+fn read_periods(alloc: Global, rows: &Rows) -> Result<Vec<Period>, FeedFault>
     ensures periods { IfOk result (λ periods. periods.items ≡ periods_of rows.now) }
-    ensures none { OnOk result (first_below (bad_period rows.now) (row_count rows.now) ≡ None) }
-    ensures fault { IfErr result (λ f. f ≢ FeedFault.NoMemory
-        → first_below (bad_period rows.now) (row_count rows.now) ≡ Some f) }
-    ensures content { IfErr result (λ f. unread_of f ≡ None) }
-    ensures own { IfErr result (IsFaultOf CalendarTable) }
+    ensures tells { TellsFirst CalendarTable
+        (first_below (bad_period rows.now) (row_count rows.now)) result }
 {
+    let columns = period_columns(rows);
     let mut periods: Vec<Period> = Vec::new(alloc);
     for i in 0..rows.count() {
         let period = read_period(rows, columns, i)?;
@@ -213,16 +203,10 @@ pub(crate) fn read_calendar(alloc: Global, rows: &Rows) -> Result<Calendar, Feed
     ensures periods { IfOk result (λ calendar. calendar.periods.items ≡ periods_of rows.now) }
     ensures few { IfOk result (λ calendar. length calendar.ids ≤ 2 ^ 20) }
     ensures distinct { OnOk result (AreDistinctRows rows.now) }
-    ensures none { OnOk result (calendar_fault rows.now ≡ None) }
-    ensures fault { IfErr result (λ f. f ≢ FeedFault.NoMemory → calendar_fault rows.now ≡ Some f) }
-    ensures content { IfErr result (λ f. unread_of f ≡ None) }
-    ensures own { IfErr result (IsFaultOf CalendarTable) }
+    ensures tells { TellsFirst CalendarTable (calendar_fault rows.now) result }
 {
-    let columns = period_columns(rows);
-    if let Some(fault) = missing_column(columns) {
-        return Err(fault);
-    }
-    let periods = read_periods(alloc, rows, columns)?;
-    let ids = read_ids(alloc, rows, Table::Calendar, columns.service)?;
+    check_columns(rows, Table::Calendar, &REQUIRED)?;
+    let periods = read_periods(alloc, rows)?;
+    let ids = read_ids(alloc, rows, Table::Calendar, Column::ServiceId)?;
     Ok(Calendar { ids, periods })
 }

@@ -2,7 +2,7 @@
 ghost use Rattle.std.specs.Prelude.{◌≡◌, ◌≢◌, ℕ, ℤ, None, Some, Err, IfOk, IfErr, IfSome, IsOkAnd, IsSome, ◌<◌, ◌+ℤ◌, pos, filter};
 ghost use Rattle.csv_rows.specs.FeedTables.{unread_of};
 ghost use Rattle.csv_rows.specs.Limits.{AreWithin};
-ghost use Rattle.table_files.specs.Loading.{HasFeedCause, HasFeedPathCause};
+ghost use Rattle.table_files.specs.Loading.{HasFeedCauses};
 ghost use Rattle.service_days.specs.Services.{period_runs, runs};
 ghost use Rattle.service_days.specs.Days.{day_count, days_between};
 ghost use Rattle.service_days.specs.Calendars.{calendars_in, RunsBy, IsCalendarFault};
@@ -73,9 +73,8 @@ impl Services {
         ensures fault { IfSome (F.files files.old) (λ m. IfErr result (λ f. f ≢ FeedFault.NoMemory
             → calendars_in m folder.now limits.now (unread_of f) ≡ Err f)) }
         ensures own { IfErr result IsCalendarFault }
-        ensures cause { HasFeedCause (F.faults files.old) (F.faults files.new) result }
-        ensures path_cause { HasFeedPathCause (IsSome (F.files files.old)) folder.now
-            (F.faults_of files.old) (F.faults_of files.new) result }
+        ensures causes { HasFeedCauses (IsSome (F.files files.old)) folder.now
+            (F.faults files.old) (F.faults files.new) (F.faults_of files.old) (F.faults_of files.new) result }
     {
         let LoadedCalendar { missing, calendar } = load_calendar(alloc, files, folder, limits)?;
         let dates = load_dates(alloc, files, folder, limits, calendar.ids)?;

@@ -3,11 +3,12 @@ ghost use Rattle.std.specs.Prelude.{◌≡◌, ◌≢◌, ◌≤◌, ◌^◌, �
 ghost use Rattle.csv_rows.specs.declared.feed_tables.Table.TheVariants.{Calendar as CalendarTable, CalendarDates as DatesTable};
 ghost use Rattle.csv_rows.specs.FeedTables.{unread_of, IsFaultOf};
 ghost use Rattle.csv_rows.specs.Limits.{AreWithin};
-ghost use Rattle.table_files.specs.Loading.{HasAtMost, HasFeedCause, HasFeedPathCause, load_in, loaded_rows};
+ghost use Rattle.table_files.specs.Loading.{HasAtMost, HasFeedCauses, load_in, loaded_rows};
+ghost use Rattle.csv_rows.specs.RowFaults.{TellsFirst};
 ghost use Rattle.csv_rows.specs.Tables.{row_count};
 ghost use Rattle.service_days.specs.Periods.{service_ids, periods_of};
 ghost use Rattle.service_days.specs.Numbered.{AreNumbered};
-ghost use Rattle.service_days.specs.Calendars.{is_missing, fault_of_calendar, fault_of_dates, calendar_from, dates_from, IsCalendar, AreDates, AreDistinctRows};
+ghost use Rattle.service_days.specs.Calendars.{has_no_record, fault_of_calendar, fault_of_dates, calendar_from, dates_from, IsCalendar, AreDates, AreDistinctRows};
 
 use crate::exceptions::{Numbered, read_exceptions};
 use crate::periods::{Calendar, read_calendar};
@@ -33,8 +34,8 @@ pub(crate) struct LoadedDates {
 }
 
 /// Whether a table is absent, as one without a record is.
-fn is_missing(loaded: &Loaded) -> bool
-    ensures { result ≡ is_missing loaded.now }
+fn has_no_record(loaded: &Loaded) -> bool
+    ensures { result ≡ has_no_record loaded.now }
 {
     match loaded {
         Loaded::Found(_) => false,
@@ -72,10 +73,7 @@ fn calendar_of(alloc: Global, loaded: &Loaded, key: HashKey) -> Result<Calendar,
     ensures periods { IfOk result (λ c. c.periods.items ≡ periods_of (loaded_rows loaded.now)) }
     ensures distinct { OnOk result (AreDistinctRows (loaded_rows loaded.now)) }
     ensures few { IfOk result (λ c. length c.ids ≤ 2 ^ 20) }
-    ensures none { OnOk result (fault_of_calendar loaded.now ≡ None) }
-    ensures fault { IfErr result (λ f. f ≢ FeedFault.NoMemory → fault_of_calendar loaded.now ≡ Some f) }
-    ensures content { IfErr result (λ f. unread_of f ≡ None) }
-    ensures own { IfErr result (IsFaultOf CalendarTable) }
+    ensures tells { TellsFirst CalendarTable (fault_of_calendar loaded.now) result }
 {
     match loaded {
         Loaded::Found(rows) => read_calendar(alloc, rows),
@@ -90,10 +88,7 @@ fn exceptions_of(alloc: Global, loaded: &Loaded, ids: Ids) -> Result<Numbered, F
     requires ids { length ids ≤ 2 ^ 20 }
     ensures numbered { IfOk result (λ n. AreNumbered (loaded_rows loaded.now)
         (row_count (loaded_rows loaded.now)) ids n.ids n.exceptions.keys) }
-    ensures none { OnOk result (fault_of_dates loaded.now ≡ None) }
-    ensures fault { IfErr result (λ f. f ≢ FeedFault.NoMemory → fault_of_dates loaded.now ≡ Some f) }
-    ensures content { IfErr result (λ f. unread_of f ≡ None) }
-    ensures own { IfErr result (IsFaultOf DatesTable) }
+    ensures tells { TellsFirst DatesTable (fault_of_dates loaded.now) result }
 {
     match loaded {
         Loaded::Found(rows) => read_exceptions(alloc, rows, ids),
@@ -118,12 +113,11 @@ pub(crate) fn load_calendar<F: Files>(
         → calendar_from (load_in m folder.now limits.now (unread_of f) CalendarTable) ≡ Err f)) }
     ensures few { IfOk result (λ c. length c.calendar.ids ≤ 2 ^ 20) }
     ensures own { IfErr result (IsFaultOf CalendarTable) }
-    ensures cause { HasFeedCause (F.faults files.old) (F.faults files.new) result }
-    ensures path_cause { HasFeedPathCause (IsSome (F.files files.old)) folder.now
-        (F.faults_of files.old) (F.faults_of files.new) result }
+    ensures causes { HasFeedCauses (IsSome (F.files files.old)) folder.now
+        (F.faults files.old) (F.faults files.new) (F.faults_of files.old) (F.faults_of files.new) result }
 {
     let loaded = read_table(alloc, files, folder, Table::Calendar, limits)?;
-    let missing = is_missing(&loaded);
+    let missing = has_no_record(&loaded);
     let calendar = calendar_of(alloc, &loaded, files.hash_key())?;
     Ok(LoadedCalendar { missing, calendar })
 }
@@ -145,12 +139,11 @@ pub(crate) fn load_dates<F: Files>(
     ensures fault { IfSome (F.files files.old) (λ m. IfErr result (λ f. f ≢ FeedFault.NoMemory
         → dates_from (load_in m folder.now limits.now (unread_of f) DatesTable) ≡ Err f)) }
     ensures own { IfErr result (IsFaultOf DatesTable) }
-    ensures cause { HasFeedCause (F.faults files.old) (F.faults files.new) result }
-    ensures path_cause { HasFeedPathCause (IsSome (F.files files.old)) folder.now
-        (F.faults_of files.old) (F.faults_of files.new) result }
+    ensures causes { HasFeedCauses (IsSome (F.files files.old)) folder.now
+        (F.faults files.old) (F.faults files.new) (F.faults_of files.old) (F.faults_of files.new) result }
 {
     let loaded = read_table(alloc, files, folder, Table::CalendarDates, limits)?;
-    let missing = is_missing(&loaded);
+    let missing = has_no_record(&loaded);
     let numbered = exceptions_of(alloc, &loaded, ids)?;
     Ok(LoadedDates { missing, numbered })
 }

@@ -5,7 +5,7 @@ use Rattle.std.proofs.lemmas.Bool.Decides.{nat_tests}
 use Rattle.plan_model.specs.Results.{and_then, unless, value_or}
 use Rattle.csv_rows.specs.declared.columns.Column.TheVariants.{TripId}
 use Rattle.csv_rows.specs.declared.feed_tables.FeedFault.{FeedFault}
-use Rattle.csv_rows.specs.declared.feed_tables.FeedFault.TheVariants.{MissingColumn, TooManyRows, NoMemory}
+use Rattle.csv_rows.specs.declared.feed_tables.FeedFault.TheVariants.{TooManyRows, NoMemory}
 use Rattle.csv_rows.specs.declared.feed_tables.Table.TheVariants.{StopTimes}
 use Rattle.table_files.specs.declared.loading.Loaded.TheVariants.{NoRecord, Found}
 use Rattle.table_files.specs.Loading.{loaded_from}
@@ -60,11 +60,7 @@ counted_same most n a b f k h = by (nat_lt most n) h
     by true e = e
     by false e = k f e
 
--- what is read of a text with no record, and of one with these
-pub times_none : (trips stops : List (List ℕ)) (places : List ℕ) (most : ℕ) (t : List (List (List ℕ))) → t ≡ []
-    → stop_times_from (loaded_from StopTimes most t) trips stops places ≡ Err (MissingColumn StopTimes TripId)
-times_none trips stops places most t e = ap (λ (x : List (List (List ℕ))). stop_times_from (loaded_from StopTimes most x) trips stops places) e
-
+-- what is read of a text with these records
 fault_by : (a b : Bool) (n : ℕ) (t : Records) (check : Records → Option FeedFault) (f : FeedFault) → a ≡ false
     → (if b then Some (TooManyRows StopTimes n) else check t) ≡ Some f
     → and_then (required StopTimes TripId (if a then Ok NoRecord else if b then Err (TooManyRows StopTimes n) else Ok (Found t))) (λ x. unless (check x) x) ≡ Err f

@@ -49,23 +49,23 @@ abbrev pub IsKnownIn : (trips : List (List ℕ)) → KnownTrip → Type 0
 IsKnownIn trips known = IfSome known.trip (λ trip. IsTripOf trips known.id.items trip)
 
 -- what is read from there on with the number of the trip that this field names, or its fault
-abbrev pub trip_from : (trips : List (List ℕ)) (line : ℕ) (id : List ℕ) → (ℕ → Result TimedRow FeedFault) → Result TimedRow FeedFault
-trip_from trips line id rest = require (name_in id) (BadField StopTimes line TripId) (λ id'. require (place_in id' trips) (UnknownKey StopTimes line TripId) rest)
+abbrev pub row_from_trip : (trips : List (List ℕ)) (line : ℕ) (id : List ℕ) → (ℕ → Result TimedRow FeedFault) → Result TimedRow FeedFault
+row_from_trip trips line id rest = require (name_in id) (BadField StopTimes line TripId) (λ id'. require (place_in id' trips) (UnknownKey StopTimes line TripId) rest)
 
 -- this field names the stop of this number, or is empty and names none
 abbrev pub IsStopOf : (stops : List (List ℕ)) (id : List ℕ) → Option ℕ → Type 0
 IsStopOf stops id stop = (text_in id ≡ Some id) × (number_in stops id ≡ Some stop)
 
 -- what is read from there on with the number of the stop that this field names, or its fault
-abbrev pub stop_from : (stops : List (List ℕ)) (line : ℕ) (id : List ℕ) → (Option ℕ → Result TimedRow FeedFault) → Result TimedRow FeedFault
-stop_from stops line id rest = require (text_in id) (BadField StopTimes line StopId) (λ id'. require (number_in stops id') (UnknownKey StopTimes line StopId) rest)
+abbrev pub row_from_stop : (stops : List (List ℕ)) (line : ℕ) (id : List ℕ) → (Option ℕ → Result TimedRow FeedFault) → Result TimedRow FeedFault
+row_from_stop stops line id rest = require (text_in id) (BadField StopTimes line StopId) (λ id'. require (number_in stops id') (UnknownKey StopTimes line StopId) rest)
 
 -- the row of these fields, or the first that is not of its form or names nothing
 abbrev pub timed_from : (trips stops : List (List ℕ)) (places : List ℕ) (line : ℕ) (trip stop sequence arrival departure pickup drop_off : List ℕ)
     → Result TimedRow FeedFault
 timed_from trips stops places line trip stop sequence arrival departure pickup drop_off =
-    trip_from trips line trip (λ trip_number.
-    stop_from stops line stop (λ stop_number.
+    row_from_trip trips line trip (λ trip_number.
+    row_from_stop stops line stop (λ stop_number.
     require (whole_of 999999999 sequence) (BadField StopTimes line StopSequence) (λ sequence'.
     require (time_in arrival) (BadField StopTimes line ArrivalTime) (λ arrival'.
     require (time_in departure) (BadField StopTimes line DepartureTime) (λ departure'.

@@ -5,7 +5,7 @@ ghost use Rattle.csv_rows.specs.FeedTables.{unread_of, IsFaultOf};
 ghost use Rattle.csv_rows.specs.Records.{field_of};
 ghost use Rattle.csv_rows.specs.declared.feed_tables.FeedFault.{FeedFault};
 ghost use Rattle.stop_times.specs.declared.rows.TimedRow.{TimedRow};
-ghost use Rattle.stop_times.specs.StopTimes.{number_in, times_of, visit_of, columns_of, timed_of, missing_time_column, trip_from, stop_from, IsTripOf, IsStopOf, IsKnownIn};
+ghost use Rattle.stop_times.specs.StopTimes.{number_in, times_of, visit_of, columns_of, timed_of, missing_time_column, row_from_trip, row_from_stop, IsTripOf, IsStopOf, IsKnownIn};
 ghost use Rattle.stop_times.specs.Forms.{time_in};
 
 use crate::forms::{read_allows, read_time_or_none};
@@ -110,7 +110,7 @@ fn read_stop_number(
     ensures stop { IfOk result (IsStopOf stops.now id.now) }
     ensures inside { IfOk result (λ o. IfSome o (λ k. k < length stops.now)) }
     ensures fault { IfErr result (λ f. (rest : Option ℕ → Result TimedRow FeedFault)
-        → stop_from stops.now line id.now rest ≡ Err f) }
+        → row_from_stop stops.now line id.now rest ≡ Err f) }
     ensures content { IfErr result (λ f. unread_of f ≡ None) }
     ensures own { IfErr result (IsFaultOf StopTimesTable) }
 {
@@ -196,7 +196,7 @@ fn read_trip_number(
     requires { IfSome known (λ k. IsTripOf trips.now k.id.now k.trip) }
     ensures trip { IfOk result (IsTripOf trips.now id.now) }
     ensures fault { IfErr result (λ f. (rest : ℕ → Result TimedRow FeedFault)
-        → trip_from trips.now line id.now rest ≡ Err f) }
+        → row_from_trip trips.now line id.now rest ≡ Err f) }
     ensures content { IfErr result (λ f. unread_of f ≡ None) }
     ensures own { IfErr result (IsFaultOf StopTimesTable) }
 {

@@ -1,8 +1,9 @@
 //! The stop times of a feed.
-ghost use Rattle.std.specs.Prelude.{◌≡◌, ◌≢◌, ◌<◌, ◌≤◌, ℕ, length, slice_index_or, [], false, None, Some, Ok, IfOk, IfErr, OnOk};
+ghost use Rattle.std.specs.Prelude.{◌≡◌, ◌≢◌, ◌<◌, ◌≤◌, ℕ, length, slice_index_or, [], false, None, Ok, Err, IfOk, IfErr};
 ghost use Rattle.csv_rows.specs.declared.feed_tables.Table.TheVariants.{StopTimes as StopTimesTable};
 ghost use Rattle.csv_rows.specs.First.{first_below};
 ghost use Rattle.csv_rows.specs.FeedTables.{unread_of, IsFaultOf};
+ghost use Rattle.csv_rows.specs.RowFaults.{TellsFirst};
 ghost use Rattle.table_files.specs.Loading.{loaded_from};
 ghost use Rattle.csv_rows.specs.Tables.{table_of};
 ghost use Rattle.stop_times.specs.Bounds.{most_stop_times};
@@ -24,11 +25,7 @@ use std::alloc::Global;
 /// The first row that has the trip and the sequence of an earlier one, by the keys of all rows in their order.
 fn check_once(rows: &[StoredRow], keys: &[Key]) -> Result<(), FeedFault>
     requires { AreKeysOf false rows.now keys.now }
-    ensures none { OnOk result (first_below (repeated_time rows.now) (length rows.now) ≡ None) }
-    ensures fault { IfErr result (λ f. f ≢ FeedFault.NoMemory
-        → first_below (repeated_time rows.now) (length rows.now) ≡ Some f) }
-    ensures content { IfErr result (λ f. unread_of f ≡ None) }
-    ensures own { IfErr result (IsFaultOf StopTimesTable) }
+    ensures { TellsFirst StopTimesTable (first_below (repeated_time rows.now) (length rows.now)) result }
 {
     match first_repeat(keys) {
         None => Ok(()),
@@ -44,10 +41,7 @@ fn in_order(alloc: Global, rows: &[StoredRow], trips: u32) -> Result<StopTimes, 
         → AreStopTimes rows.now trip (slice_index_or visits trip [])) }
     ensures few { IfOk result (λ visits. (trip : ℕ) → trip < trips
         → length (slice_index_or visits trip []) ≤ most_stop_times) }
-    ensures none { OnOk result (order_fault rows.now ≡ None) }
-    ensures fault { IfErr result (λ f. f ≢ FeedFault.NoMemory → order_fault rows.now ≡ Some f) }
-    ensures content { IfErr result (λ f. unread_of f ≡ None) }
-    ensures own { IfErr result (IsFaultOf StopTimesTable) }
+    ensures tells { TellsFirst StopTimesTable (order_fault rows.now) result }
 {
     let keys = match sorted_keys(alloc, rows) {
         Ok(keys) => keys,

@@ -1,10 +1,10 @@
 -- What a folder holds of a table, and the faults of reading it.
-use Rattle.std.specs.Prelude.{◌≡◌, ◌≢◌, ℕ, ◌<◌, ◌≤◌, ◌==◌, nat_lt, List, [], length, Option, None, Some, Result, Ok, Err, IsErrOf, if◌then◌else◌}
-use Rattle.file_ports.specs.Counts.{Rose}
+use Rattle.std.specs.Prelude.{◌≡◌, ℕ, ◌≤◌, ◌==◌, nat_lt, List, [], length, Option, None, Some, Result, Ok, Err, IsErrAnd, if◌then◌else◌}
+use Rattle.file_ports.specs.Counts.{HasCausesOf}
 use Rattle.file_ports.specs.Ports.{FileMap, file_at}
 use Rattle.csv_rows.specs.declared.feed_tables.Table.{Table}
 use Rattle.csv_rows.specs.declared.feed_tables.FeedFault.{FeedFault}
-use Rattle.csv_rows.specs.declared.feed_tables.FeedFault.TheVariants.{Read, TooLong, TooManyRows, NoMemory}
+use Rattle.csv_rows.specs.declared.feed_tables.FeedFault.TheVariants.{Read, TooLong, MissingTable, MissingColumn, BadField, UnknownKey, DuplicateKey, BackwardTime, TooManyRows, NoMemory}
 use Rattle.table_files.specs.declared.loading.Loaded.{Loaded}
 use Rattle.table_files.specs.declared.loading.Loaded.TheVariants.{Absent, NoRecord, Found}
 use Rattle.csv_rows.specs.declared.limits.Limits.{Limits}
@@ -61,33 +61,14 @@ IsLoadFault table (Read t) = t ≡ table
 IsLoadFault table (TooLong t) = t ≡ table
 IsLoadFault table (TooManyRows t count) = t ≡ table
 IsLoadFault table NoMemory = Unit {0}
-IsLoadFault table _ = ⊥
+IsLoadFault table (MissingTable t) = ⊥
+IsLoadFault table (MissingColumn t column) = ⊥
+IsLoadFault table (BadField t line column) = ⊥
+IsLoadFault table (UnknownKey t line column) = ⊥
+IsLoadFault table (DuplicateKey t line) = ⊥
+IsLoadFault table (BackwardTime line) = ⊥
 
--- `Read` only where the count of faults rose, and always where it grew
-pub record HasTableCause {T : Type 0} (table : Table) (before now : ℕ) (result : Result T FeedFault) : Type 0 where
-  pub later : before ≤ now
-  pub read : IsErrOf result (Read table) → Rose before now
-  pub grew : before < now → IsErrOf result (Read table)
-
--- the same of the counts of all paths
-pub record HasPathTableCause {T : Type 0} (told : Type 0) (table : Table) (path : List ℕ) (before now : List ℕ → ℕ) (result : Result T FeedFault) : Type 0 where
-  pub later : (p : List ℕ) → before p ≤ now p
-  pub others : told → (p : List ℕ) → p ≢ path → now p ≡ before p
-  pub read : told → IsErrOf result (Read table) → Rose (before path) (now path)
-
--- the answer is that a table could not be read
-abbrev pub IsUnread : {T : Type 0} → Result T FeedFault → Type 0
-IsUnread (Ok x) = ⊥
-IsUnread (Err (Read table)) = Unit {0}
-IsUnread (Err _) = ⊥
-
--- over several tables: `Read` only where the count of faults rose, and always where it grew
-pub record HasFeedCause {T : Type 0} (before now : ℕ) (result : Result T FeedFault) : Type 0 where
-  pub later : before ≤ now
-  pub read : (table : Table) → IsErrOf result (Read table) → Rose before now
-  pub grew : before < now → IsUnread result
-
--- the same of the counts of all paths: `Read` of a table only where the count of its own path rose
-pub record HasFeedPathCause {T : Type 0} (told : Type 0) (folder : List ℕ) (before now : List ℕ → ℕ) (result : Result T FeedFault) : Type 0 where
-  pub later : (p : List ℕ) → before p ≤ now p
-  pub read : told → (table : Table) → IsErrOf result (Read table) → Rose (before (path_of folder table)) (now (path_of folder table))
+-- `Read` of a table of this folder only where the counts rose, and always where the count of all grew
+abbrev pub HasFeedCauses : {T : Type 0} (told : Type 0) (folder : List ℕ) (before now : ℕ) (before_of now_of : List ℕ → ℕ) → Result T FeedFault → Type 0
+HasFeedCauses told folder before now before_of now_of result =
+    HasCausesOf (λ table. IsErrAnd result (λ fault. fault ≡ Read table)) told (λ table. Some (path_of folder table)) before now before_of now_of

@@ -1,9 +1,10 @@
 //! The tables of a feed from its folder.
 ghost use Rattle.std.specs.Prelude.{◌≡◌, ◌≢◌, ◌≤◌, ◌^◌, ◌↔◌, None, Ok, Err, IfOk, IfErr, IfSome, IsSome, IsNone, OnOk, option_map, vec_items, string_bytes};
+ghost use Rattle.file_ports.specs.Counts.{KeepsOthers};
 ghost use Rattle.file_ports.specs.Ports.{file_at};
 ghost use Rattle.csv_rows.specs.FeedTables.{path_of, unread_of, is_unread};
 ghost use Rattle.csv_rows.specs.Limits.{AreWithin, rows_of};
-ghost use Rattle.table_files.specs.Loading.{load_of, loaded_from, loaded_bytes, HasAtMost, IsAbsent, IsLoadFault, HasTableCause, HasPathTableCause};
+ghost use Rattle.table_files.specs.Loading.{load_of, loaded_from, loaded_bytes, HasAtMost, IsAbsent, IsLoadFault, HasFeedCauses};
 ghost use Rattle.csv_rows.specs.Tables.{table_of};
 
 use csv_rows::{FeedFault, Limits, Rows, RowsFault, Table};
@@ -83,10 +84,10 @@ pub fn read_file<F: Files>(
         → load_of (unread_of f) limits.now table (file_at m (path_of folder.now table)) ≡ Err f)) }
     ensures own { IfErr result (IsLoadFault table) }
     ensures absent { IfOk result (λ o. IsNone o ↔ (F.in_hand files.new ≡ None)) }
-    ensures cause { HasTableCause table (F.faults files.old) (F.faults files.new) result }
-    ensures path_cause { HasPathTableCause
-        (IsSome (F.files files.old)) table (path_of folder.now table)
-        (F.faults_of files.old) (F.faults_of files.new) result }
+    ensures causes { HasFeedCauses (IsSome (F.files files.old)) folder.now
+        (F.faults files.old) (F.faults files.new) (F.faults_of files.old) (F.faults_of files.new) result }
+    ensures others { KeepsOthers (IsSome (F.files files.old)) (path_of folder.now table)
+        (F.faults_of files.old) (F.faults_of files.new) }
 {
     let path = match path_of(alloc, folder, table) {
         Ok(path) => path,
@@ -119,10 +120,10 @@ pub fn read_table<F: Files>(
     ensures few { IfOk result (HasAtMost (rows_of limits.now table)) }
     ensures own { IfErr result (IsLoadFault table) }
     ensures absent { IfOk result (λ l. IsAbsent l ↔ (F.in_hand files.new ≡ None)) }
-    ensures cause { HasTableCause table (F.faults files.old) (F.faults files.new) result }
-    ensures path_cause { HasPathTableCause
-        (IsSome (F.files files.old)) table (path_of folder.now table)
-        (F.faults_of files.old) (F.faults_of files.new) result }
+    ensures causes { HasFeedCauses (IsSome (F.files files.old)) folder.now
+        (F.faults files.old) (F.faults files.new) (F.faults_of files.old) (F.faults_of files.new) result }
+    ensures others { KeepsOthers (IsSome (F.files files.old)) (path_of folder.now table)
+        (F.faults_of files.old) (F.faults_of files.new) }
 {
     match read_file(alloc, files, folder, table, limits)? {
         None => Ok(Loaded::Absent),

@@ -3,7 +3,7 @@ ghost use Rattle.std.specs.Prelude.{◌≡◌, ◌≢◌, ◌≤◌, None, Ok, E
 ghost use Rattle.csv_rows.specs.FeedTables.{unread_of, IsFaultOf};
 ghost use Rattle.csv_rows.specs.Limits.{AreWithin, rows_of};
 ghost use Rattle.csv_rows.specs.Tables.{row_count};
-ghost use Rattle.table_files.specs.Loading.{HasFeedCause, HasFeedPathCause, load_in};
+ghost use Rattle.table_files.specs.Loading.{HasFeedCauses, load_in};
 ghost use Rattle.table_files.specs.Required.{required};
 
 use crate::loading::{Loaded, read_table};
@@ -29,9 +29,8 @@ pub fn read_required<F: Files>(
         → required table first (load_in m folder.now limits.now (unread_of f) table) ≡ Err f)) }
     ensures few { IfOk result (λ t. row_count t ≤ rows_of limits.now table) }
     ensures own { IfErr result (IsFaultOf table) }
-    ensures cause { HasFeedCause (F.faults files.old) (F.faults files.new) result }
-    ensures path_cause { HasFeedPathCause (IsSome (F.files files.old)) folder.now
-        (F.faults_of files.old) (F.faults_of files.new) result }
+    ensures causes { HasFeedCauses (IsSome (F.files files.old)) folder.now
+        (F.faults files.old) (F.faults files.new) (F.faults_of files.old) (F.faults_of files.new) result }
 {
     match read_table(alloc, files, folder, table, limits)? {
         Loaded::Found(rows) => Ok(rows),

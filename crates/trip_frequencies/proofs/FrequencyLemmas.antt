@@ -1,8 +1,6 @@
 -- The rows of frequencies.
 use Rattle.std.proofs.Common.{◌≡◌, ℕ, ◌+◌, true, List, length, Option, option_map, sym, ap, ◌∙◌}
-use Rattle.std.specs.Prelude.{Result}
 use Rattle.plan_model.specs.Results.{value_or}
-use Rattle.csv_rows.specs.declared.feed_tables.FeedFault.{FeedFault}
 use Rattle.csv_rows.specs.declared.feed_tables.FeedFault.TheVariants.{DuplicateKey}
 use Rattle.csv_rows.specs.declared.feed_tables.Table.TheVariants.{Frequencies}
 use Rattle.csv_rows.specs.declared.keys.Key.{Key}
@@ -13,22 +11,21 @@ use Rattle.csv_rows.proofs.FirstLemmas.{first-told}
 use Rattle.csv_rows.proofs.ListLemmas.{length-list_below}
 use Rattle.trip_frequencies.specs.declared.frequencies.FrequencyColumns.{FrequencyColumns}
 use Rattle.trip_frequencies.specs.declared.frequencies.TripFrequency.{TripFrequency}
-use Rattle.trip_frequencies.specs.Frequencies.{frequency_columns, frequency_in, frequency_at, frequency_rows, no_frequency, trip_of, start_of, repeated_start}
+use Rattle.trip_frequencies.specs.Frequencies.{frequency_columns, frequency_in, frequency_at, frequency_rows, no_frequency, trip_of_row, start_of_row, repeated_start}
 
 -- the row by where the columns stand
-pub frequency_is : (trips : List (List ℕ)) (t : List (List (List ℕ))) (c : FrequencyColumns) (i : ℕ) (r : Result TripFrequency FeedFault)
-    → c ≡ frequency_columns t → frequency_in trips t c i ≡ r → frequency_at trips t i ≡ r
+pub frequency_is : (trips : List (List ℕ)) (t : List (List (List ℕ))) (c : FrequencyColumns) (i : ℕ) → c ≡ frequency_columns t → frequency_at trips t i ≡ frequency_in trips t c i
 unfolding frequency_at
-frequency_is trips t c i r e h = ap (λ k. frequency_in trips t k i) (sym e) ∙ h
+frequency_is trips t c i e = ap (λ k. frequency_in trips t k i) (sym e)
 
 pub frequency_count : (trips : List (List ℕ)) (t : List (List (List ℕ))) → length (frequency_rows trips t) ≡ row_count t
 frequency_count trips t = length-list_below (λ i. value_or no_frequency (frequency_at trips t i)) (row_count t)
 
 -- the fault of the first row that has the trip and the start of an earlier one
-pub first_repeated : (rows : List TripFrequency) (keys : List Key) (found : Option ℕ) → AreSorted (λ i. true) (trip_of rows) (start_of rows) (length rows) keys
+pub first_repeated : (rows : List TripFrequency) (keys : List Key) (found : Option ℕ) → AreSorted (λ i. true) (trip_of_row rows) (start_of_row rows) (length rows) keys
     → ((group order : ℕ → ℕ) (count : ℕ) → AreSorted (λ i. true) group order count keys → first_below (twin_at group order) count ≡ found)
     → first_below (repeated_start rows) (length rows) ≡ option_map (λ row. DuplicateKey Frequencies (row + 2)) found
 unfolding repeated_start twin_at
 first_repeated rows keys found s h =
-    first-told (λ i. DuplicateKey Frequencies (i + 2)) (has_twin (trip_of rows) (start_of rows)) (length rows)
-    ∙ ap (option_map (λ row. DuplicateKey Frequencies (row + 2))) (h (trip_of rows) (start_of rows) (length rows) s)
+    first-told (λ i. DuplicateKey Frequencies (i + 2)) (has_twin (trip_of_row rows) (start_of_row rows)) (length rows)
+    ∙ ap (option_map (λ row. DuplicateKey Frequencies (row + 2))) (h (trip_of_row rows) (start_of_row rows) (length rows) s)

@@ -1,5 +1,5 @@
 -- The rows of frequencies, and how each trip repeats by them (GTFS Schedule reference).
-use Rattle.std.specs.Prelude.{◌≡◌, ℕ, ◌+◌, ◌==◌, List, map, length, slice_index_or, Option, Some, None, Result, Ok, Err, if◌then◌else◌}
+use Rattle.std.specs.Prelude.{◌≡◌, ℕ, ◌+◌, ◌==◌, List, [], ◌∷◌, map, length, slice_index_or, Option, Some, None, Result, Ok, Err, if◌then◌else◌}
 use Rattle.std.specs.List.{filter}
 use Rattle.std.specs.Option.{option_or}
 use Rattle.std.specs.Result.{result_err}
@@ -16,7 +16,7 @@ use Rattle.csv_rows.specs.First.{first_below}
 use Rattle.csv_rows.specs.Keys.{has_twin}
 use Rattle.csv_rows.specs.Lists.{list_below}
 use Rattle.csv_rows.specs.Names.{name_in}
-use Rattle.csv_rows.specs.RowFaults.{lack}
+use Rattle.csv_rows.specs.RowFaults.{first_lack}
 use Rattle.csv_rows.specs.Tables.{row_count, place_in, place_of, field_at}
 use Rattle.trip_frequencies.specs.declared.frequencies.FrequencyRow.{FrequencyRow}
 use Rattle.trip_frequencies.specs.declared.frequencies.TripFrequency.{TripFrequency}
@@ -63,26 +63,20 @@ no_frequency = record { trip = 0; row = record { first = 0; end = 0; headway = 0
 abbrev pub frequency_rows : List (List ℕ) → List (List (List ℕ)) → List TripFrequency
 frequency_rows trips t = list_below (λ i. value_or no_frequency (frequency_at trips t i)) (row_count t)
 
-abbrev pub trip_of : List TripFrequency → ℕ → ℕ
-trip_of rows i = (slice_index_or rows i no_frequency).trip
+abbrev pub trip_of_row : List TripFrequency → ℕ → ℕ
+trip_of_row rows i = (slice_index_or rows i no_frequency).trip
 
-abbrev pub start_of : List TripFrequency → ℕ → ℕ
-start_of rows i = (slice_index_or rows i no_frequency).row.first
+abbrev pub start_of_row : List TripFrequency → ℕ → ℕ
+start_of_row rows i = (slice_index_or rows i no_frequency).row.first
 
 -- an earlier row has the trip and the start of row i
 unfoldable pub repeated_start : List TripFrequency → ℕ → Option FeedFault
-repeated_start rows i = if has_twin (trip_of rows) (start_of rows) i then Some (DuplicateKey Frequencies (i + 2)) else None
-
--- the first required column that is not in the header
-abbrev pub missing_frequency_column : FrequencyColumns → Option FeedFault
-missing_frequency_column c =
-    option_or (lack Frequencies TripId c.trip) (option_or (lack Frequencies StartTime c.start)
-    (option_or (lack Frequencies EndTime c.end) (lack Frequencies HeadwaySecs c.headway)))
+repeated_start rows i = if has_twin (trip_of_row rows) (start_of_row rows) i then Some (DuplicateKey Frequencies (i + 2)) else None
 
 -- the first fault of the frequencies
 unfoldable pub frequencies_fault : List (List ℕ) → List (List (List ℕ)) → Option FeedFault
 frequencies_fault trips t =
-    option_or (missing_frequency_column (frequency_columns t))
+    option_or (first_lack Frequencies t (TripId ∷ StartTime ∷ EndTime ∷ HeadwaySecs ∷ []))
     (option_or (first_below (bad_frequency trips t) (row_count t))
     (first_below (repeated_start (frequency_rows trips t)) (length (frequency_rows trips t))))
 

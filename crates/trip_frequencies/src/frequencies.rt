@@ -1,15 +1,16 @@
 //! The rows of frequencies.
-ghost use Rattle.std.specs.Prelude.{◌≡◌, ◌≢◌, ◌<◌, ◌≤◌, ◌^◌, ℕ, length, true, None, Some, Ok, Err, IfOk, IfErr, IfSome, OnOk};
+ghost use Rattle.std.specs.Prelude.{◌≡◌, ◌<◌, ◌≤◌, ◌^◌, ℕ, length, true, Ok, IfOk};
+ghost use Rattle.std.specs.Result.{result_err};
 ghost use Rattle.csv_rows.specs.declared.feed_tables.Table.TheVariants.{Frequencies as FrequenciesTable};
 ghost use Rattle.csv_rows.specs.First.{first_below};
-ghost use Rattle.csv_rows.specs.FeedTables.{unread_of, IsFaultOf};
 ghost use Rattle.csv_rows.specs.Keys.{AreSorted};
+ghost use Rattle.csv_rows.specs.RowFaults.{TellsFirst};
 ghost use Rattle.csv_rows.specs.Tables.{row_count};
-ghost use Rattle.trip_frequencies.specs.Frequencies.{frequency_columns, missing_frequency_column, frequency_in, bad_frequency, frequency_rows, trip_of, start_of, repeated_start};
+ghost use Rattle.trip_frequencies.specs.Frequencies.{frequency_columns, frequency_in, bad_frequency, frequency_rows, trip_of_row, start_of_row, repeated_start};
 
 use crate::forms::{read_headway, read_is_exact};
 use clock_text::read_time;
-use csv_rows::{Column, FeedFault, Ids, Key, Rows, Table, first_repeat, in_order, lack, read_name};
+use csv_rows::{Column, FeedFault, Ids, Key, Rows, Table, first_repeat, in_order, read_name};
 use plan_model::NoMemory;
 use std::alloc::Global;
 
@@ -47,7 +48,7 @@ pub(crate) struct FrequencyColumns {
 }
 
 /// Where the columns of the frequencies stand.
-pub(crate) fn frequency_columns(rows: &Rows) -> FrequencyColumns
+fn frequency_columns(rows: &Rows) -> FrequencyColumns
     ensures { result ≡ frequency_columns rows.now }
 {
     FrequencyColumns {
@@ -59,23 +60,6 @@ pub(crate) fn frequency_columns(rows: &Rows) -> FrequencyColumns
     }
 }
 
-/// The first required column that stands nowhere in the header.
-pub(crate) fn missing_column(columns: FrequencyColumns) -> Option<FeedFault>
-    ensures fault { result ≡ missing_frequency_column columns }
-    ensures own { IfSome result (IsFaultOf FrequenciesTable) }
-{
-    if let Some(fault) = lack(Table::Frequencies, Column::TripId, columns.trip) {
-        return Some(fault);
-    }
-    if let Some(fault) = lack(Table::Frequencies, Column::StartTime, columns.start) {
-        return Some(fault);
-    }
-    if let Some(fault) = lack(Table::Frequencies, Column::EndTime, columns.end) {
-        return Some(fault);
-    }
-    lack(Table::Frequencies, Column::HeadwaySecs, columns.headway)
-}
-
 /// A row, or the first field that is not of its form or names no trip.
 fn read_frequency(
     rows: &Rows,
@@ -85,9 +69,8 @@ fn read_frequency(
 ) -> Result<TripFrequency, FeedFault>
     requires { row < row_count rows.now }
     ensures row { IfOk result (λ r. frequency_in trips.now rows.now columns row ≡ Ok r) }
-    ensures fault { IfErr result (λ f. frequency_in trips.now rows.now columns row ≡ Err f) }
-    ensures content { IfErr result (λ f. unread_of f ≡ None) }
-    ensures own { IfErr result (IsFaultOf FrequenciesTable) }
+    ensures tells { TellsFirst FrequenciesTable
+        (result_err (frequency_in trips.now rows.now columns row)) result }
 {
     let line = rows.line(row);
     let Some(trip_id) = read_name(rows.field_at(row, columns.trip)) else {
@@ -123,18 +106,13 @@ fn read_frequency(
 pub(crate) fn read_frequency_rows(
     alloc: Global,
     rows: &Rows,
-    columns: FrequencyColumns,
     trips: &Ids,
 ) -> Result<Vec<TripFrequency>, FeedFault>
-    requires { columns ≡ frequency_columns rows.now }
     ensures rows { IfOk result (λ found. found.items ≡ frequency_rows trips.now rows.now) }
-    ensures none { OnOk result (first_below (bad_frequency trips.now rows.now) (row_count rows.now)
-        ≡ None) }
-    ensures fault { IfErr result (λ f. f ≢ FeedFault.NoMemory
-        → first_below (bad_frequency trips.now rows.now) (row_count rows.now) ≡ Some f) }
-    ensures content { IfErr result (λ f. unread_of f ≡ None) }
-    ensures own { IfErr result (IsFaultOf FrequenciesTable) }
+    ensures tells { TellsFirst FrequenciesTable
+        (first_below (bad_frequency trips.now rows.now) (row_count rows.now)) result }
 {
+    let columns = frequency_columns(rows);
     let mut found: Vec<TripFrequency> = Vec::new(alloc);
     for i in 0..rows.count() {
         let row = read_frequency(rows, columns, trips, i)?;
@@ -147,7 +125,7 @@ pub(crate) fn read_frequency_rows(
 fn keys_by_start(alloc: Global, rows: &[TripFrequency]) -> Result<Vec<Key>, NoMemory>
     requires { length rows.now < 2 ^ 32 }
     ensures { IfOk result (λ keys.
-        AreSorted (λ i. true) (trip_of rows.now) (start_of rows.now) (length rows.now) keys.items) }
+        AreSorted (λ i. true) (trip_of_row rows.now) (start_of_row rows.now) (length rows.now) keys.items) }
 {
     let mut keys: Vec<Key> = Vec::new(alloc);
     for i in 0..rows.len() {
@@ -163,11 +141,8 @@ fn keys_by_start(alloc: Global, rows: &[TripFrequency]) -> Result<Vec<Key>, NoMe
 /// The first row that has the trip and the start of an earlier one.
 pub(crate) fn check_once(alloc: Global, rows: &[TripFrequency]) -> Result<(), FeedFault>
     requires { length rows.now ≤ 65536 }
-    ensures none { OnOk result (first_below (repeated_start rows.now) (length rows.now) ≡ None) }
-    ensures fault { IfErr result (λ f. f ≢ FeedFault.NoMemory
-        → first_below (repeated_start rows.now) (length rows.now) ≡ Some f) }
-    ensures content { IfErr result (λ f. unread_of f ≡ None) }
-    ensures own { IfErr result (IsFaultOf FrequenciesTable) }
+    ensures { TellsFirst FrequenciesTable
+        (first_below (repeated_start rows.now) (length rows.now)) result }
 {
     let keys = keys_by_start(alloc, rows)?;
     match first_repeat(keys.as_slice()) {

@@ -1,18 +1,16 @@
 //! How the trips of a feed repeat.
-ghost use Rattle.std.specs.Prelude.{◌≡◌, ◌≢◌, ◌≤◌, ℕ, List, [], length, map, None, Some, Ok, IfOk, IfErr, OnOk};
+ghost use Rattle.std.specs.Prelude.{◌≡◌, ◌≤◌, ℕ, List, [], length, map, Ok, IfOk};
 ghost use Rattle.std.specs.List.Sorted.{IsNonDecreasing, IsNonDecreasingBy};
 ghost use Rattle.csv_rows.specs.declared.feed_tables.Table.TheVariants.{Frequencies as FrequenciesTable};
-ghost use Rattle.csv_rows.specs.FeedTables.{unread_of, IsFaultOf};
+ghost use Rattle.csv_rows.specs.RowFaults.{TellsFirst};
 ghost use Rattle.table_files.specs.Loading.{HasAtMost};
 ghost use Rattle.csv_rows.specs.Tables.{row_count};
 ghost use Rattle.trip_frequencies.specs.Bounds.{most_frequencies};
 ghost use Rattle.trip_frequencies.specs.Frequencies.{AreFrequencies, frequency_rows, frequencies_fault, fault_of_frequencies, repeats_of, all_repeats_of};
 ghost use Rattle.trip_frequencies.specs.Repeats.{IsTripSpan, repeats_in, all_repeats_in};
 
-use crate::frequencies::{
-    FrequencyRow, TripFrequency, check_once, frequency_columns, missing_column, read_frequency_rows,
-};
-use csv_rows::{FeedFault, Ids, Rows};
+use crate::frequencies::{FrequencyRow, TripFrequency, check_once, read_frequency_rows};
+use csv_rows::{Column, FeedFault, Ids, Rows, Table, check_columns};
 use plan_model::NoMemory;
 use std::alloc::Global;
 use table_files::Loaded;
@@ -98,17 +96,19 @@ fn read_frequencies(alloc: Global, rows: &Rows, trips: &Ids) -> Result<Repeats, 
     ensures repeats { IfOk result (λ r. (count : ℕ) → all_repeats_in r.trips.items r.rows.items count
         ≡ all_repeats_of (frequency_rows trips.now rows.now) count) }
     ensures few { IfOk result (λ r. length r.rows.items ≤ most_frequencies) }
-    ensures none { OnOk result (frequencies_fault trips.now rows.now ≡ None) }
-    ensures fault { IfErr result (λ f. f ≢ FeedFault.NoMemory
-        → frequencies_fault trips.now rows.now ≡ Some f) }
-    ensures content { IfErr result (λ f. unread_of f ≡ None) }
-    ensures own { IfErr result (IsFaultOf FrequenciesTable) }
+    ensures tells { TellsFirst FrequenciesTable (frequencies_fault trips.now rows.now) result }
 {
-    let columns = frequency_columns(rows);
-    if let Some(fault) = missing_column(columns) {
-        return Err(fault);
-    }
-    let found = read_frequency_rows(alloc, rows, columns, trips)?;
+    check_columns(
+        rows,
+        Table::Frequencies,
+        &[
+            Column::TripId,
+            Column::StartTime,
+            Column::EndTime,
+            Column::HeadwaySecs,
+        ],
+    )?;
+    let found = read_frequency_rows(alloc, rows, trips)?;
     check_once(alloc, found.as_slice())?;
     Ok(repeats_by(alloc, found)?)
 }
@@ -140,11 +140,7 @@ pub(crate) fn repeats_from(
     ensures repeats { IfOk result (λ r. AreFrequencies trips.now (Ok loaded.now)
         (all_repeats_in r.trips.items r.rows.items (length trips.now))) }
     ensures few { IfOk result (λ r. length r.rows.items ≤ most_frequencies) }
-    ensures none { OnOk result (fault_of_frequencies trips.now loaded.now ≡ None) }
-    ensures fault { IfErr result (λ f. f ≢ FeedFault.NoMemory
-        → fault_of_frequencies trips.now loaded.now ≡ Some f) }
-    ensures content { IfErr result (λ f. unread_of f ≡ None) }
-    ensures own { IfErr result (IsFaultOf FrequenciesTable) }
+    ensures tells { TellsFirst FrequenciesTable (fault_of_frequencies trips.now loaded.now) result }
 {
     match loaded {
         Loaded::Found(rows) => read_frequencies(alloc, rows, trips),

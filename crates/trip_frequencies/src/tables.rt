@@ -4,7 +4,7 @@ ghost use Rattle.std.specs.List.Sorted.{IsNonDecreasing};
 ghost use Rattle.csv_rows.specs.declared.feed_tables.Table.TheVariants.{Frequencies as FrequenciesTable};
 ghost use Rattle.csv_rows.specs.FeedTables.{unread_of, IsFaultOf};
 ghost use Rattle.csv_rows.specs.Limits.{AreWithin};
-ghost use Rattle.table_files.specs.Loading.{HasFeedCause, HasFeedPathCause, load_in};
+ghost use Rattle.table_files.specs.Loading.{HasFeedCauses, load_in};
 ghost use Rattle.table_files.specs.Required.{IsOfSomeTable};
 ghost use Rattle.trip_frequencies.specs.Bounds.{most_frequencies};
 ghost use Rattle.trip_frequencies.specs.Frequencies.{frequencies_from, fault_of_frequencies, AreFrequencies};
@@ -39,9 +39,8 @@ pub fn load_frequencies<F: Files>(
     ensures paired { IfOk result (λ r. length r.rows.items ≡ length r.trips.items) }
     ensures few { IfOk result (λ r. length r.rows.items ≤ most_frequencies) }
     ensures own { IfErr result (IsFaultOf FrequenciesTable) }
-    ensures cause { HasFeedCause (F.faults files.old) (F.faults files.new) result }
-    ensures path_cause { HasFeedPathCause (IsSome (F.files files.old)) folder.now
-        (F.faults_of files.old) (F.faults_of files.new) result }
+    ensures causes { HasFeedCauses (IsSome (F.files files.old)) folder.now
+        (F.faults files.old) (F.faults files.new) (F.faults_of files.old) (F.faults_of files.new) result }
 {
     let loaded = read_table(alloc, files, folder, Table::Frequencies, limits)?;
     repeats_from(alloc, &loaded, trips)

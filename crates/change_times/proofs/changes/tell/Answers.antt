@@ -1,11 +1,11 @@
-use Rattle.std.proofs.Common.{◌≡◌, ◌+◌, None, ℕ, refl, is_none, nat_eq, sym, ap, ◌∙◌, subst, arith}
+use Rattle.std.proofs.Common.{◌≡◌, ◌+◌, None, refl, is_none, nat_eq, sym, ap, ◌∙◌, subst, arith}
 use Rattle.std.specs.HashMap.{get}
 use Rattle.std.specs.Result.{result_err}
 use Rattle.plan_model.specs.Results.{value_or}
-use Rattle.csv_rows.proofs.FaultLemmas.{if_raised}
+use Rattle.csv_rows.proofs.FaultLemmas.{match_raised, fault-at}
 use Rattle.csv_rows.specs.Tables.{row_count}
-use Rattle.csv_rows.proofs.FirstLemmas.{first-zero, first-next, first-at}
-use Rattle.change_times.specs.Transfers.{bad_transfer, told_by}
+use Rattle.csv_rows.proofs.FirstLemmas.{first-zero, first-next}
+use Rattle.change_times.specs.Transfers.{bad_transfer, transfer_told_by}
 use Rattle.change_times.specs.Walks.{seconds_between, link_between, walks_of, most_to}
 use Rattle.change_times.specs.Changes.{greatest_link}
 use Rattle.change_times.specs.Told.{AreTold}
@@ -14,14 +14,12 @@ use Rattle.change_times.proofs.GreatestLemmas.{greatest-next, short_next}
 use Rattle.change_times.proofs.changes.tell.Goals as goal
 
 pub loop-i-init : goal.loop-i-init
-loop-i-init c = record { told = c.requires.nothing; none = first-zero (bad_transfer c.args.feed.now c.args.rows.now) }
+loop-i-init c = record { told = c.requires; none = first-zero (bad_transfer c.args.feed.now c.args.rows.now) }
 
-pub returns-in_err-transfer-clause-fault : goal.returns-in_err-transfer-clause-fault
-returns-in_err-transfer-clause-fault c = if_raised _ c.from_residual.result c.from_residual.ensures (λ free.
-    let feed = c.args.feed.now in
-    let t = c.args.rows.now in
-    first-at (bad_transfer feed t) c.loop-i.i (row_count t) _ (omega arith) c.loop-i.invariant.none
-    (ap result_err (transfer_is feed t c.args.columns c.loop-i.i _ c.requires.columns c.in_err-transfer.ensures.fault)))
+pub returns-in_err-transfer-clause-tells : goal.returns-in_err-transfer-clause-tells
+returns-in_err-transfer-clause-tells c = match_raised _ _ c.from_residual.result c.from_residual.ensures
+    (fault-at _ c.loop-i.i _ (omega arith) c.loop-i.invariant.none
+    (ap result_err (transfer_is c.args.feed.now c.args.rows.now _ c.loop-i.i c.transfer_columns-columns.ensures)) c.in_err-transfer.ensures.tells)
 
 pub returns-clause-told : goal.returns-clause-told
 returns-clause-told c =
@@ -34,8 +32,8 @@ loop-i-preserved c =
     let t = c.args.rows.now in
     let i = c.loop-i.i in
     let old = c.loop-i.invariant.told in
-    let here = transfer_is feed t c.args.columns i _ c.requires.columns c.in_ok-transfer.ensures.transfer in
-    let told : told_by feed t i ≡ c.in_ok-transfer.transfer = ap (value_or None) here in
+    let here = transfer_is feed t _ i c.transfer_columns-columns.ensures ∙ c.in_ok-transfer.ensures.transfer in
+    let told : transfer_told_by feed t i ≡ c.in_ok-transfer.transfer = ap (value_or None) here in
     let step = c.in_ok-note.ensures in
     let old_told = c.loop-i.told in
     let new_told = c.note.new.told in
@@ -43,10 +41,10 @@ loop-i-preserved c =
       told = record {
         size = step.size ∙ old.size;
         seconds = λ place.
-            greatest-next (λ k. seconds_between place place (told_by feed t k)) i (get nat_eq old_told.seconds place) (get nat_eq new_told.seconds place)
+            greatest-next (λ k. seconds_between place place (transfer_told_by feed t k)) i (get nat_eq old_told.seconds place) (get nat_eq new_told.seconds place)
             (seconds_between place place c.in_ok-transfer.transfer) (old.seconds place) (step.seconds place) (ap (seconds_between place place) told);
         walks = λ from to.
-            greatest-next (λ k. link_between from to (told_by feed t k)) i (most_to to (walks_of old_told.walks.items from)) (most_to to (walks_of new_told.walks.items from))
+            greatest-next (λ k. link_between from to (transfer_told_by feed t k)) i (most_to to (walks_of old_told.walks.items from)) (most_to to (walks_of new_told.walks.items from))
             (link_between from to c.in_ok-transfer.transfer) (old.walks from to) (step.walks from to) (ap (link_between from to) told);
         short = λ place.
             short_next (get nat_eq old_told.seconds place) (get nat_eq new_told.seconds place) (seconds_between place place c.in_ok-transfer.transfer) (old.short place)
@@ -54,9 +52,9 @@ loop-i-preserved c =
         brief = λ from to.
             short_next (greatest_link feed t i from to) (greatest_link feed t (i + 1) from to) (link_between from to c.in_ok-transfer.transfer) (old.brief from to)
             (short_link from to c.in_ok-transfer.transfer c.in_ok-transfer.ensures.short)
-            (sym (greatest-next (λ k. link_between from to (told_by feed t k)) i (greatest_link feed t i from to) _
+            (sym (greatest-next (λ k. link_between from to (transfer_told_by feed t k)) i (greatest_link feed t i from to) _
             (link_between from to c.in_ok-transfer.transfer) refl refl (ap (link_between from to) told)));
-        passed = count-next is_none (told_by feed t) i old_told.passed new_told.passed c.in_ok-transfer.transfer old.passed step.passed told;
+        passed = count-next is_none (transfer_told_by feed t) i old_told.passed new_told.passed c.in_ok-transfer.transfer old.passed step.passed told;
         few = omega (arith, old.few, step.passed, one_at_most (is_none c.in_ok-transfer.transfer));
       };
       none = first-next (bad_transfer feed t) i None c.loop-i.invariant.none (ap result_err here);

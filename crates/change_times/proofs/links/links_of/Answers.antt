@@ -1,6 +1,6 @@
 use Rattle.std.proofs.Common.{◌<◌, ◌++◌, [], ℕ, length, sym, ap, ◌∙◌, arith}
 use Rattle.std.proofs.lemmas.List.{get_or_default}
-use Rattle.change_times.specs.Links.{way_from, ways_below}
+use Rattle.change_times.specs.Links.{link_from, ways_below}
 use Rattle.change_times.specs.Walks.{walks_of, most_to}
 use Rattle.change_times.proofs.LinkLemmas.{ways-zero, ways-next, ways_before}
 use Rattle.change_times.proofs.links.links_of.Goals as goal
@@ -23,6 +23,6 @@ loop-from-preserved c =
       ways = λ to less.
           let f = λ (from : ℕ). most_to to (walks_of walks from) in
           c.in_ok-put_walks.ensures.ways to _ (omega (arith, inv.size, less)) (ways_before f i) (inv.ways to less)
-          ∙ ap (λ ws. ways_below f i ++ way_from i (most_to to ws)) here
+          ∙ ap (λ ws. ways_below f i ++ link_from i (most_to to ws)) here
           ∙ sym (ways-next f i);
     }

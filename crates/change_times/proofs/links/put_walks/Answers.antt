@@ -1,6 +1,6 @@
 use Rattle.std.proofs.Common.{◌++◌, ◌<◌, Option, ℕ, length, take, sym, ap, ◌∙◌, arith}
 use Rattle.std.proofs.lemmas.List.{take_all}
-use Rattle.change_times.specs.Links.{way_from}
+use Rattle.change_times.specs.Links.{link_from}
 use Rattle.change_times.specs.Walks.{most_to}
 use Rattle.change_times.proofs.LinkLemmas.{most-next}
 use Rattle.change_times.proofs.links.put_walks.Goals as goal
@@ -15,11 +15,11 @@ loop-walk-preserved c =
       size = c.in_ok-put_walk.ensures.size ∙ inv.size;
       ways = λ to base less before e.
           c.in_ok-put_walk.ensures.ways to base (most_to to (take i walks)) (omega (arith, inv.size, less)) before (inv.ways to base less before e)
-          ∙ ap (λ (o : Option ℕ). base ++ way_from c.args.from o) (sym (most-next to walks i _ inside));
+          ∙ ap (λ (o : Option ℕ). base ++ link_from c.args.from o) (sym (most-next to walks i _ inside));
     }
 
 pub returns-clause-ways : goal.returns-clause-ways
 returns-clause-ways c =
     λ to base less before e.
     c.loop-walk.invariant.ways to base less before e
-    ∙ ap (λ ws. base ++ way_from c.args.from (most_to to ws)) (take_all c.loop-walk.walk-index c.args.walks.now (omega (arith, c.loop-walk-test.false)))
+    ∙ ap (λ ws. base ++ link_from c.args.from (most_to to ws)) (take_all c.loop-walk.walk-index c.args.walks.now (omega (arith, c.loop-walk-test.false)))

@@ -1,6 +1,6 @@
 use Rattle.std.proofs.Common.{◌≡◌, ◌<◌, ◌++◌, ℕ, List, length, take}
 use Rattle.plan_model.specs.declared.model.Way.{Way}
-use Rattle.change_times.specs.Links.{way_from, ways_at, ComeBefore}
+use Rattle.change_times.specs.Links.{link_from, ways_at, ComeBefore}
 use Rattle.change_times.specs.Walks.{most_to}
 use Rattle.change_times.proofs.links.put_walks.Given as goal
 
@@ -8,5 +8,5 @@ abbrev pub invariant-loop-walk : goal.invariant-loop-walk
 invariant-loop-walk l = record {
   size : length l.links.items ≡ length l.initial.links.items;
   ways : (to : ℕ) (base : List Way) → to < length l.initial.links.items → ComeBefore base l.from → ways_at l.initial.links.items to ≡ base
-      → ways_at l.links.items to ≡ base ++ way_from l.from (most_to to (take l.walk-index l.walks));
+      → ways_at l.links.items to ≡ base ++ link_from l.from (most_to to (take l.walk-index l.walks));
 }

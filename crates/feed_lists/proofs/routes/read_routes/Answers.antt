@@ -1,59 +1,37 @@
-use Rattle.std.proofs.Common.{Option, sym, ap, ◌∙◌}
-use Rattle.std.specs.Option.{option_or}
-use Rattle.csv_rows.proofs.FaultLemmas.{if_raised}
-use Rattle.csv_rows.specs.Lists.{list_below}
-use Rattle.csv_rows.specs.declared.columns.Column.TheVariants.{RouteId, RouteType}
-use Rattle.csv_rows.specs.declared.feed_tables.FeedFault.{FeedFault}
-use Rattle.csv_rows.specs.declared.feed_tables.Table.TheVariants.{Routes}
-use Rattle.csv_rows.specs.Tables.{place_of, field_at, row_count}
-use Rattle.feed_lists.specs.declared.routes.RouteColumns.{RouteColumns}
-use Rattle.csv_rows.specs.RowFaults.{lack}
+use Rattle.csv_rows.proofs.FaultLemmas.{match_raised, fault-first, fault-then}
+use Rattle.csv_rows.specs.declared.columns.Column.TheVariants.{RouteId}
+use Rattle.csv_rows.specs.Tables.{row_count, field}
 use Rattle.feed_lists.specs.Routes.{route_at, route_or_none, routes_fault}
-use Rattle.csv_rows.proofs.RowLemmas.{or_first, or_then, named_is, ids_fault_is}
+use Rattle.csv_rows.proofs.RowLemmas.{or_then}
 use Rattle.csv_rows.proofs.ListLemmas.{same_length}
 use Rattle.feed_lists.proofs.RouteLemmas.{routes_named}
 use Rattle.feed_lists.proofs.routes.read_routes.Goals as goal
 
-abbrev missing_in : RouteColumns → Option FeedFault
-missing_in k = option_or (lack Routes RouteId k.id) (lack Routes RouteType k.kind)
-
-pub returns-in-Some-clause-fault : goal.returns-in-Some-clause-fault
+pub returns-in_err-check_columns-clause-tells : goal.returns-in_err-check_columns-clause-tells
 unfolding routes_fault
-returns-in-Some-clause-fault c = λ free. or_first _ _ _ (sym (ap missing_in c.route_columns-columns.ensures) ∙ sym c.in-Some.ensures.fault)
+returns-in_err-check_columns-clause-tells c = match_raised _ _ c.from_residual.result c.from_residual.ensures (fault-first _ _ _ c.in_err-check_columns.ensures)
 
-pub returns-in_err-types-clause-fault : goal.returns-in_err-types-clause-fault
+pub returns-in_err-types-clause-tells : goal.returns-in_err-types-clause-tells
 unfolding routes_fault
-returns-in_err-types-clause-fault c = if_raised _ c.from_residual.result c.from_residual.ensures (λ free.
-    or_then _ _ _ (sym (ap missing_in c.route_columns-columns.ensures) ∙ sym c.in_default.ensures.fault) (or_first _ _ _ (c.in_err-types.ensures.fault free)))
+returns-in_err-types-clause-tells c = match_raised _ _ c.from_residual-in_err-types.result c.from_residual-in_err-types.ensures
+    (fault-then _ _ _ c.in_ok-check_columns.ensures (fault-first _ _ _ c.in_err-types.ensures.tells))
 
 pub read_ids-requires-clause-named : goal.read_ids-requires-clause-named
-read_ids-requires-clause-named c =
-    let t = c.args.rows.now in
-    named_is t _ (place_of RouteId t) (ap (λ (k : RouteColumns). k.id) c.route_columns-columns.ensures) (routes_named t c.in_ok-types.ensures.none)
+read_ids-requires-clause-named c = routes_named c.args.rows.now c.in_ok-types.ensures.tells
 
-pub returns-clause-none : goal.returns-clause-none
+pub returns-in_err-ids-clause-tells : goal.returns-in_err-ids-clause-tells
 unfolding routes_fault
-returns-clause-none c =
-    let place = ap (λ (k : RouteColumns). k.id) c.route_columns-columns.ensures in
-    or_then _ _ _ (sym (ap missing_in c.route_columns-columns.ensures) ∙ sym c.in_default.ensures.fault)
-    (or_then _ _ _ c.in_ok-types.ensures.none (ids_fault_is Routes c.args.rows.now _ _ _ place c.in_ok-ids.ensures.none))
+returns-in_err-ids-clause-tells c = match_raised _ _ c.from_residual-in_err-ids.result c.from_residual-in_err-ids.ensures
+    (fault-then _ _ _ c.in_ok-check_columns.ensures (fault-then _ _ _ c.in_ok-types.ensures.tells c.in_err-ids.ensures.tells))
 
-pub returns-in_err-ids-clause-fault : goal.returns-in_err-ids-clause-fault
+pub returns-clause-tells : goal.returns-clause-tells
 unfolding routes_fault
-returns-in_err-ids-clause-fault c = if_raised _ c.from_residual-in_err-ids.result c.from_residual-in_err-ids.ensures (λ free.
-    let place = ap (λ (k : RouteColumns). k.id) c.route_columns-columns.ensures in
-    or_then _ _ _ (sym (ap missing_in c.route_columns-columns.ensures) ∙ sym c.in_default.ensures.fault)
-    (or_then _ _ _ c.in_ok-types.ensures.none (ids_fault_is Routes c.args.rows.now _ _ _ place (c.in_err-ids.ensures.fault free))))
-
-pub returns-clause-routes : goal.returns-clause-routes
-returns-clause-routes c =
-    let place = ap (λ (k : RouteColumns). k.id) c.route_columns-columns.ensures in
-    (c.in_ok-ids.ensures.ids ∙ ap (λ p. list_below (field_at c.args.rows.now p) (row_count c.args.rows.now)) place, c.in_ok-types.ensures.types)
+returns-clause-tells c = or_then _ _ _ c.in_ok-check_columns.ensures (or_then _ _ _ c.in_ok-types.ensures.tells c.in_ok-ids.ensures.tells)
 
 pub returns-clause-sound : goal.returns-clause-sound
 returns-clause-sound c =
     let t = c.args.rows.now in
     record {
-      table = (t, returns-clause-none c, returns-clause-routes c);
-      types = same_length (λ i. (route_or_none (route_at t i)).kind) (field_at t c.route_columns-columns.result.id) (row_count t) _ _ c.in_ok-types.ensures.types c.in_ok-ids.ensures.ids;
+      table = (t, returns-clause-tells c, (c.in_ok-ids.ensures.ids, c.in_ok-types.ensures.types));
+      types = same_length (λ i. (route_or_none (route_at t i)).kind) (field t RouteId) (row_count t) _ _ c.in_ok-types.ensures.types c.in_ok-ids.ensures.ids;
     }

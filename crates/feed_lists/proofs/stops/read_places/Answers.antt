@@ -1,7 +1,7 @@
 use Rattle.std.proofs.Common.{None, sym, ◌∙◌, arith}
-use Rattle.csv_rows.proofs.FaultLemmas.{if_raised}
+use Rattle.csv_rows.proofs.FaultLemmas.{match_raised, fault-at}
 use Rattle.csv_rows.specs.Tables.{row_count}
-use Rattle.csv_rows.proofs.FirstLemmas.{first-zero, first-next, first-at, none-each}
+use Rattle.csv_rows.proofs.FirstLemmas.{first-zero, first-next, none-each}
 use Rattle.feed_lists.specs.Stops.{bad_stop, unknown_parent, place_from, stop_ids, parent_of}
 use Rattle.csv_rows.proofs.ListLemmas.{list_below-zero, list_below-next}
 use Rattle.feed_lists.proofs.StopLemmas.{unknown_is, place_is_from}
@@ -12,10 +12,10 @@ loop-i-init c =
     let t = c.args.rows.now in
     record { places = c.new-places.ensures.items ∙ sym (list_below-zero (λ i. place_from (stop_ids t) (parent_of t i) i)); none = first-zero (unknown_parent t) }
 
-pub returns-in_err-place-clause-fault : goal.returns-in_err-place-clause-fault
-returns-in_err-place-clause-fault c = if_raised _ c.from_residual.result c.from_residual.ensures (λ free.
-    first-at _ c.loop-i.i _ _ (omega arith) c.loop-i.invariant.none
-    (unknown_is _ c.args.columns c.args.ids.now _ _ c.requires.columns c.requires.ids (none-each _ _ c.requires.formed _ (omega arith)) c.in_err-place.ensures.fault))
+pub returns-in_err-place-clause-tells : goal.returns-in_err-place-clause-tells
+returns-in_err-place-clause-tells c = match_raised _ _ c.from_residual.result c.from_residual.ensures
+    (fault-at _ c.loop-i.i _ (omega arith) c.loop-i.invariant.none
+    (unknown_is c.args.rows.now _ c.args.ids.now c.loop-i.i c.stop_columns-columns.ensures c.requires.ids (none-each _ _ c.requires.formed _ (omega arith))) c.in_err-place.ensures.tells)
 
 pub loop-i-preserved : goal.loop-i-preserved
 loop-i-preserved c =
@@ -23,7 +23,7 @@ loop-i-preserved c =
     let i = c.loop-i.i in
     record {
       places = list_below-next (λ k. place_from (stop_ids t) (parent_of t k) k) i c.loop-i.places.items c.push.new.self.items c.in_ok-place.place c.loop-i.invariant.places c.in_ok-push.ensures.items
-          (place_is_from t c.args.columns c.args.ids.now i c.in_ok-place.place c.requires.columns c.requires.ids c.in_ok-place.ensures.place);
+          (place_is_from t _ c.args.ids.now i c.in_ok-place.place c.stop_columns-columns.ensures c.requires.ids c.in_ok-place.ensures.place);
       none = first-next (unknown_parent t) i None c.loop-i.invariant.none
-          (unknown_is t c.args.columns c.args.ids.now i None c.requires.columns c.requires.ids (none-each (bad_stop t) (row_count t) c.requires.formed i (omega arith)) c.in_ok-place.ensures.none);
+          (unknown_is t _ c.args.ids.now i c.stop_columns-columns.ensures c.requires.ids (none-each (bad_stop t) (row_count t) c.requires.formed i (omega arith)) ∙ c.in_ok-place.ensures.tells);
     }

@@ -1,8 +1,8 @@
 use Rattle.std.proofs.Common.{◌<◌, None, sym, subst, ap, ◌∙◌, arith, length, slice_index_or, All}
 use Rattle.std.proofs.lemmas.List.Elements.{All-push, All-nil}
 use Rattle.std.specs.Result.{result_err}
-use Rattle.csv_rows.proofs.FaultLemmas.{if_raised}
-use Rattle.csv_rows.proofs.FirstLemmas.{first-zero, first-next, first-at}
+use Rattle.csv_rows.proofs.FaultLemmas.{match_raised, fault-at}
+use Rattle.csv_rows.proofs.FirstLemmas.{first-zero, first-next}
 use Rattle.plan_model.specs.NameLists.{texts}
 use Rattle.feed_lists.specs.Trips.{bad_trip, trip_at, trip_or_none}
 use Rattle.csv_rows.proofs.ListLemmas.{list_below-zero, list_below-next}
@@ -21,9 +21,10 @@ loop-i-init c =
       none = first-zero (bad_trip ids t);
     }
 
-pub returns-in_err-trip-clause-fault : goal.returns-in_err-trip-clause-fault
-returns-in_err-trip-clause-fault c = if_raised _ c.from_residual.result c.from_residual.ensures (λ free.
-    first-at _ c.loop-i.i _ _ (omega arith) c.loop-i.invariant.none (ap result_err (trip_is _ _ c.args.columns _ _ c.requires.columns c.in_err-trip.ensures.fault)))
+pub returns-in_err-trip-clause-tells : goal.returns-in_err-trip-clause-tells
+returns-in_err-trip-clause-tells c = match_raised _ _ c.from_residual.result c.from_residual.ensures
+    (fault-at _ c.loop-i.i _ (omega arith) c.loop-i.invariant.none
+    (ap result_err (trip_is c.args.routes.now.ids c.args.rows.now _ c.loop-i.i c.trip_columns-columns.ensures)) c.in_err-trip.ensures.tells)
 
 pub loop-i-preserved : goal.loop-i-preserved
 loop-i-preserved c =
@@ -33,7 +34,7 @@ loop-i-preserved c =
     let trip = c.in_ok-trip.trip in
     let before = c.loop-i.of_trips in
     let new = c.add_trip.new.of_trips in
-    let here = trip_is ids t c.args.columns c.loop-i.i _ c.requires.columns c.in_ok-trip.ensures.trip in
+    let here = trip_is ids t _ c.loop-i.i c.trip_columns-columns.ensures ∙ c.in_ok-trip.ensures.trip in
     record {
       services = list_below-next (λ i. (trip_or_none (trip_at ids t i)).service) c.loop-i.i (texts before.services.items) (texts new.services.items)
           trip.service.now c.loop-i.invariant.services c.in_ok-add_trip.ensures.services (sym (ap (λ r. (trip_or_none r).service) here));

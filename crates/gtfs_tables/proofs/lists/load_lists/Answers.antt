@@ -1,4 +1,4 @@
-use Rattle.std.proofs.Common.{◌∙◌, []}
+use Rattle.std.proofs.Common.{◌∙◌}
 use Rattle.csv_rows.proofs.FaultLemmas.{some_raised}
 use Rattle.gtfs_tables.proofs.FeedLemmas.{if_same, fault_at_stops, fault_at_routes, fault_at_trips, lists_of}
 use Rattle.gtfs_tables.proofs.lists.load_lists.Goals as goal
@@ -9,13 +9,13 @@ returns-in_err-stops-clause-fault g c = some_raised _ _ _ c.from_residual.result
 
 pub returns-in_err-routes-clause-fault : goal.returns-in_err-routes-clause-fault
 returns-in_err-routes-clause-fault g c = some_raised _ _ _ c.from_residual-in_err-routes.result c.from_residual-in_err-routes.ensures
-    (fault_at_routes c.args.folder.now c.args.limits.now _ [] [] [] _ [] [] [] (g.F.Files.files c.args.files.now) _ c.in_err-routes.ensures.own c.in_ok-stops.ensures.stops
+    (fault_at_routes c.args.folder.now c.args.limits.now c.in_ok-stops.stops (g.F.Files.files c.args.files.now) _ c.in_err-routes.ensures.own c.in_ok-stops.ensures.stops
     (if_same _ _ _ c.in_ok-stops.ensures.same c.in_err-routes.ensures.fault))
 
 pub returns-in_err-trips-clause-fault : goal.returns-in_err-trips-clause-fault
 returns-in_err-trips-clause-fault g c = some_raised _ _ _ c.from_residual-in_err-trips.result c.from_residual-in_err-trips.ensures
     (let first = c.in_ok-stops.ensures.same in
-    fault_at_trips c.args.folder.now c.args.limits.now _ _ [] [] _ _ [] [] (g.F.Files.files c.args.files.now) _ c.in_err-trips.ensures.own c.in_ok-stops.ensures.stops
+    fault_at_trips c.args.folder.now c.args.limits.now c.in_ok-stops.stops c.in_ok-routes.routes (g.F.Files.files c.args.files.now) _ c.in_err-trips.ensures.own c.in_ok-stops.ensures.stops
     (if_same _ _ _ first c.in_ok-routes.ensures.routes) (if_same _ _ _ (c.in_ok-routes.ensures.same ∙ first) c.in_err-trips.ensures.fault))
 
 pub returns-clause-lists : goal.returns-clause-lists

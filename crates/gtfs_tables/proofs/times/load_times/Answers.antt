@@ -1,5 +1,5 @@
 use Rattle.csv_rows.proofs.FaultLemmas.{some_raised}
-use Rattle.gtfs_tables.proofs.FeedLemmas.{if_same, fault_at_times, fault_at_repeats, times_of, quiet, cause_then}
+use Rattle.gtfs_tables.proofs.FeedLemmas.{if_same, fault_at_times, fault_at_repeats, times_of}
 use Rattle.gtfs_tables.proofs.times.load_times.Goals as goal
 
 pub returns-in_err-visits-clause-fault : goal.returns-in_err-visits-clause-fault
@@ -10,10 +10,6 @@ pub returns-in_err-repeats-clause-fault : goal.returns-in_err-repeats-clause-fau
 returns-in_err-repeats-clause-fault g c = some_raised _ _ _ c.from_residual-in_err-repeats.result c.from_residual-in_err-repeats.ensures
     (fault_at_repeats c.args.folder.now c.args.limits.now c.args.lists.now _ (g.F.Files.files c.args.files.now) _ c.in_err-repeats.ensures.own
     c.in_ok-visits.ensures.visits (if_same _ _ _ c.in_ok-visits.ensures.same c.in_err-repeats.ensures.fault))
-
-pub returns-in_err-repeats-clause-cause : goal.returns-in_err-repeats-clause-cause
-returns-in_err-repeats-clause-cause g c = cause_then _ _ _ c.from_residual-in_err-repeats.result c.from_residual-in_err-repeats.ensures
-    (quiet _ _ _ c.in_ok-visits.ensures.cause) c.in_err-repeats.ensures.cause
 
 pub returns-clause-times : goal.returns-clause-times
 returns-clause-times g c =

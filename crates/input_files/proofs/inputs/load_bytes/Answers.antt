@@ -2,6 +2,8 @@ use Rattle.std.specs.Prelude.{◌+◌}
 use Rattle.input_files.proofs.Loads.{if_some_any, bytes_of-unread}
 use Rattle.input_files.proofs.EarlyFacts.{early_read, early_missing, early_limit}
 use Rattle.file_ports.specs.Ports.{file_at}
+use Rattle.file_ports.proofs.CauseLemmas.{causes-of}
+use Rattle.std.proofs.Common.{refl}
 use Rattle.input_files.proofs.inputs.load_bytes.Goals as goal
 
 pub returns-in-Err-Read-clause-bytes : goal.returns-in-Err-Read-clause-bytes
@@ -16,3 +18,6 @@ returns-in-Err-TooLong-clause-early g c = λ timetable own. early_limit timetabl
 
 pub returns-in-Ok-None-clause-early : goal.returns-in-Ok-None-clause-early
 returns-in-Ok-None-clause-early g c = λ timetable own. early_missing timetable c.args.input own
+
+pub returns-in-Err-Read-clause-causes : goal.returns-in-Err-Read-clause-causes
+returns-in-Err-Read-clause-causes g c = causes-of (λ input is. (tt, c.in-Err-Read.field-0-is, refl)) (λ _ is. (c.args.input, refl)) c.in-Err-Read.ensures.causes

@@ -1,10 +1,7 @@
-use Rattle.std.proofs.Common.{◌≡◌, None, Ok}
 use Rattle.command_line.specs.Jobs.{CutFile}
-use Rattle.file_ports.specs.Ports.{FileMap, file_at}
-use Rattle.journey_model.specs.Faults.{IsFirst}
-use Rattle.input_files.specs.Tables.{cut_records, cut_fault, IsCutOf}
+use Rattle.file_ports.specs.Ports.{file_at}
 use Rattle.input_files.proofs.TableSteps.{cut_of_some, cut_none, cut_first}
-use Rattle.input_files.proofs.Loads.{if_some_then}
+use Rattle.std.proofs.lemmas.Option.{IfSome_then}
 use Rattle.input_files.proofs.inputs.read_cut_file.Goals as goal
 use Rattle.csv_rows.proofs.FaultLemmas.{if_raised}
 
@@ -13,22 +10,14 @@ returns-in_err-rows-clause-early g c = if_raised _ c.from_residual.result c.from
 
 pub returns-in-Ok-clause-table : goal.returns-in-Ok-clause-table
 returns-in-Ok-clause-table g c =
-    let limits = c.args.limits.now in
-    let rows = c.in_ok-rows.rows in
-    if_some_then (g.F.Files.files c.args.files.now)
-    (λ (m : FileMap). cut_records limits None (file_at m c.args.path.now) ≡ Ok rows)
-    (λ (m : FileMap). (cut_fault limits (file_at m c.args.path.now) None ≡ None) × IsCutOf limits (file_at m c.args.path.now) c.in-Ok.table)
-    (λ m ok. cut_none limits (file_at m c.args.path.now) rows ok c.in-Ok.table c.in-Ok.ensures.none c.in-Ok.ensures.table) c.in_ok-rows.ensures.table
+    IfSome_then (g.F.Files.files c.args.files.now) c.in_ok-rows.ensures.table (λ m ok.
+    cut_none c.args.limits.now (file_at m c.args.path.now) c.in_ok-rows.rows ok c.in-Ok.table c.in-Ok.ensures.none c.in-Ok.ensures.table)
 
 pub returns-clause-table : goal.returns-clause-table
 returns-clause-table g c =
-    let limits = c.args.limits.now in
-    let rows = c.in_ok-rows.rows in
-    if_some_then (g.F.Files.files c.args.files.now)
-    (λ (m : FileMap). cut_records limits None (file_at m c.args.path.now) ≡ Ok rows)
-    (λ (m : FileMap). IsFirst (cut_fault limits (file_at m c.args.path.now)) c.fault_of_cut.result)
-    (λ m ok. cut_first limits (file_at m c.args.path.now) rows ok c.in-Err.fault c.fault_of_cut.result c.fault_of_cut.ensures.fault c.fault_of_cut.ensures.read c.in-Err.ensures.fault)
-    c.in_ok-rows.ensures.table
+    IfSome_then (g.F.Files.files c.args.files.now) c.in_ok-rows.ensures.table (λ m ok.
+    cut_first c.args.limits.now (file_at m c.args.path.now) c.in_ok-rows.rows ok c.in-Err.fault c.fault_of_cut.result
+    c.fault_of_cut.ensures.fault c.fault_of_cut.ensures.read c.in-Err.ensures.fault)
 
 pub returns-clause-early : goal.returns-clause-early
 returns-clause-early g c = c.fault_of_cut.ensures.early c.args.path.now

@@ -1,18 +1,15 @@
 use Rattle.std.proofs.Common.{◌≡◌, ℕ, ◌<◌, List, length, Result, Ok, Err, ap, sym, subst, arith}
 use Rattle.std.proofs.lemmas.Option.{slice_get_within}
-use Rattle.std.specs.Prelude.{◌≢◌, IfSome, IfOk, IfErr, IsSome}
+use Rattle.std.specs.Prelude.{IfOk}
 use Rattle.plan_model.specs.Network.{IsValid}
 use Rattle.plan_model.specs.NameLists.{NamesFit}
 use Rattle.command_line.specs.declared.job.Timetable.{Timetable}
 use Rattle.command_line.specs.Jobs.{WantedTimetable, CutFile, FeedFolder, WantedJourney}
 use Rattle.command_line.specs.Shown.{journey_shown, timetable_shown}
 use Rattle.journey_model.specs.declared.faults.Fault.{Fault}
-use Rattle.journey_model.specs.declared.faults.Fault.TheVariants.{NoMemory}
 use Rattle.journey_model.specs.declared.problem.Problem.{Problem}
-use Rattle.input_files.specs.EarlyFaults.{IsEarly}
-use Rattle.input_files.specs.Files.{path_by, HasCauses}
 use Rattle.journey_problem.specs.CutProblems.{IsNamed}
-use Rattle.journey_problem.specs.Problems.{IsProblemOver, IsProblemFaultOver, HasTimetable, IsValidProblem}
+use Rattle.journey_problem.specs.Problems.{HasTimetable, IsValidProblem}
 use Rattle.journey_problem.proofs.journey.problem_of.Goals as goal
 
 sound : (timetable : WantedTimetable) (j : WantedJourney) (r : Result Problem Fault) → j.timetable ≡ timetable → IfOk r (λ p. IsValid p.network) → IfOk r (λ p. NamesFit p.names p.network)
@@ -27,60 +24,46 @@ named place_of name (Ok p) fit is = let below = slice_get_within p.names.places 
 named place_of name (Err fault) fit is = tt
 
 pub returns-in-Cut-clause-problem : goal.returns-in-Cut-clause-problem
-returns-in-Cut-clause-problem g c =
-    let j = journey_shown c.args.journey.now in
-    subst (λ (timetable : WantedTimetable). IfSome (g.F.Files.files c.args.files.now) (λ m. IfOk c.cut_problem.result (IsProblemOver c.args.limits.now m timetable j)))
-    (ap (λ (timetable : Timetable). timetable_shown timetable) (sym c.in-Cut.is)) c.cut_problem.ensures.problem
+returns-in-Cut-clause-problem g c = let is : timetable_shown c.args.journey.now.timetable ≡ CutFile c.in-Cut.path.now = ap (λ (t : Timetable). timetable_shown t) c.in-Cut.is in
+    rw is (rw is at c.cut_problem.ensures.problem)
 
 pub returns-in-Cut-clause-fault : goal.returns-in-Cut-clause-fault
-returns-in-Cut-clause-fault g c =
-    let j = journey_shown c.args.journey.now in
-    subst (λ (timetable : WantedTimetable). IfSome (g.F.Files.files c.args.files.now)
-    (λ m. IfErr c.cut_problem.result (λ fault. fault ≢ NoMemory → IsProblemFaultOver c.args.limits.now m timetable j fault)))
-    (ap (λ (timetable : Timetable). timetable_shown timetable) (sym c.in-Cut.is)) c.cut_problem.ensures.fault
+returns-in-Cut-clause-fault g c = let is : timetable_shown c.args.journey.now.timetable ≡ CutFile c.in-Cut.path.now = ap (λ (t : Timetable). timetable_shown t) c.in-Cut.is in
+    rw is (rw is at c.cut_problem.ensures.fault)
 
 pub returns-in-Cut-clause-early : goal.returns-in-Cut-clause-early
-returns-in-Cut-clause-early g c =
-    subst (λ (timetable : WantedTimetable). IfErr c.cut_problem.result (IsEarly timetable)) (ap (λ (timetable : Timetable). timetable_shown timetable) (sym c.in-Cut.is)) c.cut_problem.ensures.early
+returns-in-Cut-clause-early g c = let is : timetable_shown c.args.journey.now.timetable ≡ CutFile c.in-Cut.path.now = ap (λ (t : Timetable). timetable_shown t) c.in-Cut.is in
+    rw is c.cut_problem.ensures.early
+
+pub returns-in-Cut-clause-causes : goal.returns-in-Cut-clause-causes
+returns-in-Cut-clause-causes g c = λ own. let is : timetable_shown c.args.journey.now.timetable ≡ CutFile c.in-Cut.path.now = ap (λ (t : Timetable). timetable_shown t) c.in-Cut.is in
+    rw is (rw is at (c.cut_problem.ensures.causes own))
 
 pub returns-in-Cut-clause-sound : goal.returns-in-Cut-clause-sound
 returns-in-Cut-clause-sound g c =
-    sound (CutFile c.in-Cut.path.now) (journey_shown c.args.journey.now) c.cut_problem.result (ap (λ (timetable : Timetable). timetable_shown timetable) c.in-Cut.is)
+    sound (CutFile c.in-Cut.path.now) (journey_shown c.args.journey.now) c.cut_problem.result (ap (λ (t : Timetable). timetable_shown t) c.in-Cut.is)
     c.cut_problem.ensures.valid c.cut_problem.ensures.fit c.cut_problem.ensures.timetable
 
-pub returns-in-Cut-clause-causes : goal.returns-in-Cut-clause-causes
-returns-in-Cut-clause-causes g c = λ own.
-    subst (λ (timetable : WantedTimetable). HasCauses (IsSome (g.F.Files.files c.args.files.now)) (path_by timetable (journey_shown c.args.journey.now) own)
-    (g.F.Files.faults c.args.files.now) (g.F.Files.faults c.cut_problem.new.files) (g.F.Files.faults_of c.args.files.now) (g.F.Files.faults_of c.cut_problem.new.files) c.cut_problem.result)
-    (ap (λ (timetable : Timetable). timetable_shown timetable) (sym c.in-Cut.is)) (c.cut_problem.ensures.causes own)
-
 pub returns-in-Feed-clause-problem : goal.returns-in-Feed-clause-problem
-returns-in-Feed-clause-problem g c =
-    let j = journey_shown c.args.journey.now in
-    subst (λ (timetable : WantedTimetable). IfSome (g.F.Files.files c.args.files.now) (λ m. IfOk c.feed_problem.result (IsProblemOver c.args.limits.now m timetable j)))
-    (ap (λ (timetable : Timetable). timetable_shown timetable) (sym c.in-Feed.is)) c.feed_problem.ensures.problem
+returns-in-Feed-clause-problem g c = let is : timetable_shown c.args.journey.now.timetable ≡ FeedFolder c.in-Feed.folder.now c.in-Feed.horizon = ap (λ (t : Timetable). timetable_shown t) c.in-Feed.is in
+    rw is (rw is at c.feed_problem.ensures.problem)
 
 pub returns-in-Feed-clause-fault : goal.returns-in-Feed-clause-fault
-returns-in-Feed-clause-fault g c =
-    let j = journey_shown c.args.journey.now in
-    subst (λ (timetable : WantedTimetable). IfSome (g.F.Files.files c.args.files.now)
-    (λ m. IfErr c.feed_problem.result (λ fault. fault ≢ NoMemory → IsProblemFaultOver c.args.limits.now m timetable j fault)))
-    (ap (λ (timetable : Timetable). timetable_shown timetable) (sym c.in-Feed.is)) c.feed_problem.ensures.fault
+returns-in-Feed-clause-fault g c = let is : timetable_shown c.args.journey.now.timetable ≡ FeedFolder c.in-Feed.folder.now c.in-Feed.horizon = ap (λ (t : Timetable). timetable_shown t) c.in-Feed.is in
+    rw is c.feed_problem.ensures.fault
 
 pub returns-in-Feed-clause-early : goal.returns-in-Feed-clause-early
-returns-in-Feed-clause-early g c =
-    subst (λ (timetable : WantedTimetable). IfErr c.feed_problem.result (IsEarly timetable)) (ap (λ (timetable : Timetable). timetable_shown timetable) (sym c.in-Feed.is)) c.feed_problem.ensures.early
+returns-in-Feed-clause-early g c = let is : timetable_shown c.args.journey.now.timetable ≡ FeedFolder c.in-Feed.folder.now c.in-Feed.horizon = ap (λ (t : Timetable). timetable_shown t) c.in-Feed.is in
+    rw is c.feed_problem.ensures.early
+
+pub returns-in-Feed-clause-causes : goal.returns-in-Feed-clause-causes
+returns-in-Feed-clause-causes g c = λ own. let is : timetable_shown c.args.journey.now.timetable ≡ FeedFolder c.in-Feed.folder.now c.in-Feed.horizon = ap (λ (t : Timetable). timetable_shown t) c.in-Feed.is in
+    rw is (rw is at (c.feed_problem.ensures.causes own))
 
 pub returns-in-Feed-clause-sound : goal.returns-in-Feed-clause-sound
 returns-in-Feed-clause-sound g c =
-    sound (FeedFolder c.in-Feed.folder.now c.in-Feed.horizon) (journey_shown c.args.journey.now) c.feed_problem.result (ap (λ (timetable : Timetable). timetable_shown timetable) c.in-Feed.is)
+    sound (FeedFolder c.in-Feed.folder.now c.in-Feed.horizon) (journey_shown c.args.journey.now) c.feed_problem.result (ap (λ (t : Timetable). timetable_shown t) c.in-Feed.is)
     c.feed_problem.ensures.valid c.feed_problem.ensures.fit c.feed_problem.ensures.timetable
-
-pub returns-in-Feed-clause-causes : goal.returns-in-Feed-clause-causes
-returns-in-Feed-clause-causes g c = λ own.
-    subst (λ (timetable : WantedTimetable). HasCauses (IsSome (g.F.Files.files c.args.files.now)) (path_by timetable (journey_shown c.args.journey.now) own)
-    (g.F.Files.faults c.args.files.now) (g.F.Files.faults c.feed_problem.new.files) (g.F.Files.faults_of c.args.files.now) (g.F.Files.faults_of c.feed_problem.new.files) c.feed_problem.result)
-    (ap (λ (timetable : Timetable). timetable_shown timetable) (sym c.in-Feed.is)) (c.feed_problem.ensures.causes own)
 
 pub returns-in-Cut-clause-source : goal.returns-in-Cut-clause-source
 returns-in-Cut-clause-source g c = named (λ p. p.source.0) c.args.journey.now.from.now c.cut_problem.result c.cut_problem.ensures.fit c.cut_problem.ensures.source

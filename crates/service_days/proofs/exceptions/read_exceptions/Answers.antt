@@ -1,25 +1,11 @@
-use Rattle.std.proofs.Common.{◌≡◌, ◌≢◌, Option, Some, None, OnOk, IfErr, refl, sym, ap, subst, ◌∙◌}
-use Rattle.csv_rows.specs.declared.feed_tables.FeedFault.{FeedFault}
-use Rattle.csv_rows.specs.declared.feed_tables.FeedFault.TheVariants.{NoMemory}
-use Rattle.csv_rows.proofs.RowLemmas.{or_first, or_then}
-use Rattle.service_days.specs.Dates.{missing_in, dates_fault}
+use Rattle.csv_rows.proofs.FaultLemmas.{match_raised, fault-first, tells-then}
+use Rattle.service_days.specs.Dates.{dates_fault}
 use Rattle.service_days.proofs.exceptions.read_exceptions.Goals as goal
 
-pub returns-in-Some-clause-fault : goal.returns-in-Some-clause-fault
+pub returns-in_err-check_columns-clause-tells : goal.returns-in_err-check_columns-clause-tells
 unfolding dates_fault
-returns-in-Some-clause-fault c = λ free.
-    or_first _ _ _ (sym (ap missing_in c.date_columns-columns.ensures) ∙ sym c.in-Some.ensures.fault)
+returns-in_err-check_columns-clause-tells c = match_raised _ _ c.from_residual.result c.from_residual.ensures (fault-first _ _ _ c.in_err-check_columns.ensures)
 
-pub returns-clause-none : goal.returns-clause-none
+pub returns-clause-tells : goal.returns-clause-tells
 unfolding dates_fault
-returns-clause-none c =
-    let P : Option FeedFault → Type 0 = λ fault. OnOk c.read_rows.result (fault ≡ None) in
-    let has = sym (ap missing_in c.date_columns-columns.ensures) ∙ sym c.in_default.ensures.fault in
-    subst P (sym (or_then _ _ _ has refl)) c.read_rows.ensures.none
-
-pub returns-clause-fault : goal.returns-clause-fault
-unfolding dates_fault
-returns-clause-fault c =
-    let P : Option FeedFault → Type 0 = λ fault. IfErr c.read_rows.result (λ raised. raised ≢ NoMemory → fault ≡ Some raised) in
-    let has = sym (ap missing_in c.date_columns-columns.ensures) ∙ sym c.in_default.ensures.fault in
-    subst P (sym (or_then _ _ _ has refl)) c.read_rows.ensures.fault
+returns-clause-tells c = tells-then _ _ _ c.read_rows.result c.in_ok-check_columns.ensures c.read_rows.ensures.tells

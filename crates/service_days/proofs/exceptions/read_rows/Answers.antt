@@ -1,8 +1,7 @@
-use Rattle.std.proofs.Common.{None, sym, ap, subst, arith}
+use Rattle.std.proofs.Common.{None, sym, ap, subst, arith, ◌∙◌}
 use Rattle.std.specs.Result.{result_err}
-use Rattle.csv_rows.proofs.FaultLemmas.{if_raised}
-use Rattle.csv_rows.specs.Tables.{row_count}
-use Rattle.csv_rows.proofs.FirstLemmas.{first-zero, first-next, first-at}
+use Rattle.csv_rows.proofs.FaultLemmas.{match_raised, fault-at}
+use Rattle.csv_rows.proofs.FirstLemmas.{first-zero, first-next}
 use Rattle.service_days.specs.Dates.{ServiceDate, bad_date, date_of, date_or_none}
 use Rattle.service_days.specs.Numbered.{AddsDate}
 use Rattle.service_days.proofs.DateLemmas.{date_is, service_trimmed}
@@ -19,21 +18,20 @@ loop-i-init c =
       few = omega arith;
     }
 
-pub returns-in_err-row-clause-fault : goal.returns-in_err-row-clause-fault
-returns-in_err-row-clause-fault c = if_raised _ c.from_residual.result c.from_residual.ensures (λ free.
-    let t = c.args.rows.now in
-    first-at (bad_date t) c.loop-i.i (row_count t) _ (omega arith) c.loop-i.invariant.none
-    (ap result_err (date_is t c.args.columns c.loop-i.i _ c.requires.columns c.in_err-row.ensures.fault)))
+pub returns-in_err-row-clause-tells : goal.returns-in_err-row-clause-tells
+returns-in_err-row-clause-tells c = match_raised _ _ c.from_residual.result c.from_residual.ensures
+    (fault-at _ c.loop-i.i _ (omega arith) c.loop-i.invariant.none
+    (ap result_err (date_is c.args.rows.now _ c.loop-i.i c.date_columns-columns.ensures)) c.in_err-row.ensures.tells)
 
 pub add-requires-clause-trimmed : goal.add-requires-clause-trimmed
 add-requires-clause-trimmed c =
-    service_trimmed c.args.rows.now c.args.columns c.loop-i.i _ c.count-i-end.ensures.trimmed c.in_ok-row.ensures.exception
+    service_trimmed c.args.rows.now c.date_columns-columns.result c.loop-i.i _ c.count-i-end.ensures.trimmed c.in_ok-row.ensures.exception
 
 pub loop-i-preserved : goal.loop-i-preserved
 loop-i-preserved c =
     let t = c.args.rows.now in
     let i = c.loop-i.i in
-    let here = date_is t c.args.columns i _ c.requires.columns c.in_ok-row.ensures.exception in
+    let here = date_is t _ i c.date_columns-columns.ensures ∙ c.in_ok-row.ensures.exception in
     let old = c.loop-i.numbered in
     let P : ServiceDate → Type 0 = λ d. AddsDate old.ids c.add.new.ids old.exceptions.keys c.add.new.exceptions.keys d in
     let added = subst P (sym (ap date_or_none here)) c.in_ok-add.ensures in

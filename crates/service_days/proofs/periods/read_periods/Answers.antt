@@ -1,8 +1,7 @@
 use Rattle.std.proofs.Common.{None, sym, ap, ◌∙◌, arith}
 use Rattle.std.specs.Result.{result_err}
-use Rattle.csv_rows.proofs.FaultLemmas.{if_raised}
-use Rattle.csv_rows.specs.Tables.{row_count}
-use Rattle.csv_rows.proofs.FirstLemmas.{first-zero, first-next, first-at}
+use Rattle.csv_rows.proofs.FaultLemmas.{match_raised, fault-at}
+use Rattle.csv_rows.proofs.FirstLemmas.{first-zero, first-next}
 use Rattle.csv_rows.proofs.ListLemmas.{list_below-zero, list_below-next}
 use Rattle.service_days.specs.Periods.{bad_period, period_of, period_or_none}
 use Rattle.service_days.proofs.PeriodLemmas.{period_is}
@@ -13,16 +12,15 @@ loop-i-init c =
     let t = c.args.rows.now in
     record { periods = c.new-periods.ensures.items ∙ sym (list_below-zero (period_of t)); none = first-zero (bad_period t) }
 
-pub returns-in_err-period-clause-fault : goal.returns-in_err-period-clause-fault
-returns-in_err-period-clause-fault c = if_raised _ c.from_residual.result c.from_residual.ensures (λ free.
-    let t = c.args.rows.now in
-    first-at (bad_period t) c.loop-i.i (row_count t) _ (omega arith) c.loop-i.invariant.none
-    (ap result_err (period_is t c.args.columns c.loop-i.i _ c.requires c.in_err-period.ensures.fault)))
+pub returns-in_err-period-clause-tells : goal.returns-in_err-period-clause-tells
+returns-in_err-period-clause-tells c = match_raised _ _ c.from_residual.result c.from_residual.ensures
+    (fault-at _ c.loop-i.i _ (omega arith) c.loop-i.invariant.none
+    (ap result_err (period_is c.args.rows.now _ c.loop-i.i c.period_columns-columns.ensures)) c.in_err-period.ensures.tells)
 
 pub loop-i-preserved : goal.loop-i-preserved
 loop-i-preserved c =
     let t = c.args.rows.now in
-    let here = period_is t c.args.columns c.loop-i.i _ c.requires c.in_ok-period.ensures.period in
+    let here = period_is t _ c.loop-i.i c.period_columns-columns.ensures ∙ c.in_ok-period.ensures.period in
     record {
       periods = list_below-next (period_of t) c.loop-i.i c.loop-i.periods.items c.push.new.self.items c.in_ok-period.period c.loop-i.invariant.periods
           c.in_ok-push.ensures.items (sym (ap period_or_none here));

@@ -1,18 +1,23 @@
-use Rattle.std.proofs.Common.{option_map, sym, ap, ◌∙◌, ◌+◌, Some}
+use Rattle.std.proofs.Common.{refl, option_map, sym, ap, ◌∙◌, ◌+◌, Some}
 use Rattle.csv_rows.specs.declared.feed_tables.Table.TheVariants.{StopTimes}
 use Rattle.csv_rows.specs.declared.feed_tables.FeedFault.TheVariants.{DuplicateKey}
 use Rattle.stop_times.proofs.BackLemmas.{repeats_first}
 use Rattle.stop_times.proofs.timetable.check_once.Goals as goal
 
-pub returns-in-None-clause-none : goal.returns-in-None-clause-none
-returns-in-None-clause-none c =
+pub returns-in-None : goal.returns-in-None
+returns-in-None c =
     let rows = c.args.rows.now in
     repeats_first rows c.args.keys.now c.first_repeat.result c.requires c.first_repeat.ensures
     ∙ ap (option_map (λ row. DuplicateKey StopTimes (row + 2))) c.in-None.is
 
-pub returns-in-Some-clause-fault : goal.returns-in-Some-clause-fault
-returns-in-Some-clause-fault c = λ free.
+pub returns-in-Some : goal.returns-in-Some
+returns-in-Some c =
     let rows = c.args.rows.now in
-    repeats_first rows c.args.keys.now c.first_repeat.result c.requires c.first_repeat.ensures
-    ∙ ap (option_map (λ row. DuplicateKey StopTimes (row + 2))) c.in-Some.is
-    ∙ ap (λ row. Some (DuplicateKey StopTimes (row + 2))) (sym c.from.ensures)
+    record {
+      why = λ free.
+          repeats_first rows c.args.keys.now c.first_repeat.result c.requires c.first_repeat.ensures
+          ∙ ap (option_map (λ row. DuplicateKey StopTimes (row + 2))) c.in-Some.is
+          ∙ ap (λ row. Some (DuplicateKey StopTimes (row + 2))) (sym c.from.ensures);
+      content = refl;
+      own = refl;
+    }

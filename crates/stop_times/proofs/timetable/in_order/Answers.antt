@@ -1,22 +1,20 @@
 use Rattle.std.proofs.Common.{◌∙◌, ap, sym, subst, refl}
 use Rattle.csv_rows.specs.declared.feed_tables.Table.TheVariants.{StopTimes}
 use Rattle.csv_rows.specs.FeedTables.{unread_of, IsFaultOf}
+use Rattle.csv_rows.proofs.FaultLemmas.{match_raised, fault-first}
 use Rattle.csv_rows.proofs.RowLemmas.{or_then}
 use Rattle.stop_times.proofs.BackLemmas.{backward_is}
 use Rattle.stop_times.proofs.timetable.in_order.Goals as goal
 
-pub returns-in-Some-clause-fault : goal.returns-in-Some-clause-fault
-returns-in-Some-clause-fault c = λ free. or_then _ _ _ c.in_ok-check_once.ensures.none (c.first_backward.ensures c.in_ok-check_once.ensures.none ∙ c.in-Some.is)
+pub returns-in_err-check_once-clause-tells : goal.returns-in_err-check_once-clause-tells
+returns-in_err-check_once-clause-tells c = match_raised _ _ c.from_residual.result c.from_residual.ensures (fault-first _ _ _ c.in_err-check_once.ensures)
 
-pub returns-in-Some-clause-content : goal.returns-in-Some-clause-content
-returns-in-Some-clause-content c =
-    let w = backward_is c.args.rows.now c.in-Some.fault (c.first_backward.ensures c.in_ok-check_once.ensures.none ∙ c.in-Some.is) in
-    ap unread_of w.1
+pub returns-in-Some-clause-tells : goal.returns-in-Some-clause-tells
+returns-in-Some-clause-tells c =
+    let none = c.in_ok-check_once.ensures in
+    let back = c.first_backward.ensures none ∙ c.in-Some.is in
+    let w = backward_is c.args.rows.now c.in-Some.fault back in
+    record { why = λ free. or_then _ _ _ none back; content = ap unread_of w.1; own = subst (IsFaultOf StopTimes) (sym w.1) refl }
 
-pub returns-in-Some-clause-own : goal.returns-in-Some-clause-own
-returns-in-Some-clause-own c =
-    let w = backward_is c.args.rows.now c.in-Some.fault (c.first_backward.ensures c.in_ok-check_once.ensures.none ∙ c.in-Some.is) in
-    subst (IsFaultOf StopTimes) (sym w.1) refl
-
-pub returns-in-Ok-visits_of-clause-none : goal.returns-in-Ok-visits_of-clause-none
-returns-in-Ok-visits_of-clause-none c = or_then _ _ _ c.in_ok-check_once.ensures.none (c.first_backward.ensures c.in_ok-check_once.ensures.none ∙ c.in_default.is)
+pub returns-in-Ok-visits_of-clause-tells : goal.returns-in-Ok-visits_of-clause-tells
+returns-in-Ok-visits_of-clause-tells c = or_then _ _ _ c.in_ok-check_once.ensures (c.first_backward.ensures c.in_ok-check_once.ensures ∙ c.in_default.is)

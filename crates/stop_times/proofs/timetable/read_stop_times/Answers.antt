@@ -25,7 +25,7 @@ returns-in-Ok-clause-visits c =
     let size : length visits ≡ length trips = c.in-Ok.ensures.size ∙ c.len.ensures.count in
     let are = visits_of_rows trips stops places most t rows visits read size (λ trip h. c.in-Ok.ensures.each trip (omega (arith, h, c.len.ensures.count))) in
     subst (λ (bytes : List ℕ). AreVisits trips stops places (stop_times_from (loaded_from StopTimes most (table_of bytes)) trips stops places) visits)
-    c.as_slice.ensures.value (visits_of_text trips stops places most t rows visits read c.in-Ok.ensures.none are)
+    c.as_slice.ensures.value (visits_of_text trips stops places most t rows visits read c.in-Ok.ensures.tells are)
 
 pub returns-in-Ok-clause-sound : goal.returns-in-Ok-clause-sound
 returns-in-Ok-clause-sound c =
@@ -41,7 +41,7 @@ returns-in-Ok-clause-sound c =
     c.in_ok-timed.ensures.few c.in_ok-timed.ensures.rest in
     let size : length visits ≡ length trips = c.in-Ok.ensures.size ∙ c.len.ensures.count in
     let are = visits_of_rows trips stops places most t rows visits read size (λ trip h. c.in-Ok.ensures.each trip (omega (arith, h, c.len.ensures.count))) in
-    (t, order_sound trips stops places most t rows read c.in-Ok.ensures.none, are)
+    (t, order_sound trips stops places most t rows read c.in-Ok.ensures.tells, are)
 
 pub returns-clause-fault : goal.returns-clause-fault
 returns-clause-fault c = λ free.
@@ -55,4 +55,4 @@ returns-clause-fault c = λ free.
     let read = timed_rows_are trips stops places most t c.in_ok-timed.timed.items rows same c.in_ok-timed.ensures.rows c.in_ok-timed.ensures.header
     c.in_ok-timed.ensures.few c.in_ok-timed.ensures.rest in
     subst (λ (bytes : List ℕ). stop_times_from (loaded_from StopTimes most (table_of bytes)) trips stops places ≡ Err c.in-Err.fault)
-    c.as_slice.ensures.value (order_faulty trips stops places most t rows c.in-Err.fault read (c.in-Err.ensures.fault free))
+    c.as_slice.ensures.value (order_faulty trips stops places most t rows c.in-Err.fault read (c.in-Err.ensures.tells.why free))

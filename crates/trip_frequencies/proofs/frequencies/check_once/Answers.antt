@@ -1,23 +1,29 @@
+use Rattle.std.proofs.Common.{refl}
 use Rattle.std.proofs.Common.{◌+◌, true, length, List, Some, option_map, sym, subst, ap, ◌∙◌}
 use Rattle.csv_rows.specs.declared.feed_tables.Table.TheVariants.{Frequencies}
 use Rattle.csv_rows.specs.declared.feed_tables.FeedFault.TheVariants.{DuplicateKey}
 use Rattle.csv_rows.specs.declared.keys.Key.{Key}
 use Rattle.csv_rows.specs.Keys.{AreSorted}
-use Rattle.trip_frequencies.specs.Frequencies.{trip_of, start_of}
+use Rattle.trip_frequencies.specs.Frequencies.{trip_of_row, start_of_row}
 use Rattle.trip_frequencies.proofs.FrequencyLemmas.{first_repeated}
 use Rattle.trip_frequencies.proofs.frequencies.check_once.Goals as goal
 
-pub returns-in-None-clause-none : goal.returns-in-None-clause-none
-returns-in-None-clause-none c =
+pub returns-in-None : goal.returns-in-None
+returns-in-None c =
     let rows = c.args.rows.now in
-    let sorted = subst (λ (keys : List Key). AreSorted (λ i. true) (trip_of rows) (start_of rows) (length rows) keys) (sym c.as_slice.ensures.value) c.in_ok-keys.ensures in
+    let sorted = subst (λ (keys : List Key). AreSorted (λ i. true) (trip_of_row rows) (start_of_row rows) (length rows) keys) (sym c.as_slice.ensures.value) c.in_ok-keys.ensures in
     first_repeated rows c.as_slice.result.now c.first_repeat.result sorted c.first_repeat.ensures
     ∙ ap (option_map (λ row. DuplicateKey Frequencies (row + 2))) c.in-None.is
 
-pub returns-clause-fault : goal.returns-clause-fault
-returns-clause-fault c = λ free.
+pub returns : goal.returns
+returns c =
     let rows = c.args.rows.now in
-    let sorted = subst (λ (keys : List Key). AreSorted (λ i. true) (trip_of rows) (start_of rows) (length rows) keys) (sym c.as_slice.ensures.value) c.in_ok-keys.ensures in
-    first_repeated rows c.as_slice.result.now c.first_repeat.result sorted c.first_repeat.ensures
-    ∙ ap (option_map (λ row. DuplicateKey Frequencies (row + 2))) c.in-Some.is
-    ∙ ap (λ row. Some (DuplicateKey Frequencies (row + 2))) (sym c.from.ensures)
+    let sorted = subst (λ (keys : List Key). AreSorted (λ i. true) (trip_of_row rows) (start_of_row rows) (length rows) keys) (sym c.as_slice.ensures.value) c.in_ok-keys.ensures in
+    record {
+      why = λ free.
+          first_repeated rows c.as_slice.result.now c.first_repeat.result sorted c.first_repeat.ensures
+          ∙ ap (option_map (λ row. DuplicateKey Frequencies (row + 2))) c.in-Some.is
+          ∙ ap (λ row. Some (DuplicateKey Frequencies (row + 2))) (sym c.from.ensures);
+      content = refl;
+      own = refl;
+    }

@@ -1,8 +1,8 @@
 use Rattle.std.proofs.Common.{None, sym, ap, ◌∙◌, arith}
 use Rattle.std.specs.Result.{result_err}
 use Rattle.plan_model.specs.Results.{value_or}
-use Rattle.csv_rows.proofs.FaultLemmas.{if_raised}
-use Rattle.csv_rows.proofs.FirstLemmas.{first-zero, first-next, first-at}
+use Rattle.csv_rows.proofs.FaultLemmas.{match_raised, fault-at}
+use Rattle.csv_rows.proofs.FirstLemmas.{first-zero, first-next}
 use Rattle.trip_frequencies.specs.Frequencies.{bad_frequency, frequency_at, no_frequency}
 use Rattle.csv_rows.proofs.ListLemmas.{list_below-zero, list_below-next}
 use Rattle.trip_frequencies.proofs.FrequencyLemmas.{frequency_is}
@@ -17,15 +17,16 @@ loop-i-init c =
       none = first-zero (bad_frequency trips t);
     }
 
-pub returns-in_err-row-clause-fault : goal.returns-in_err-row-clause-fault
-returns-in_err-row-clause-fault c = if_raised _ c.from_residual.result c.from_residual.ensures (λ free.
-    first-at _ c.loop-i.i _ _ (omega arith) c.loop-i.invariant.none (ap result_err (frequency_is _ _ c.args.columns _ _ c.requires c.in_err-row.ensures.fault)))
+pub returns-in_err-row-clause-tells : goal.returns-in_err-row-clause-tells
+returns-in_err-row-clause-tells c = match_raised _ _ c.from_residual.result c.from_residual.ensures
+    (fault-at _ c.loop-i.i _ (omega arith) c.loop-i.invariant.none
+    (ap result_err (frequency_is c.args.trips.now c.args.rows.now _ c.loop-i.i c.frequency_columns-columns.ensures)) c.in_err-row.ensures.tells)
 
 pub loop-i-preserved : goal.loop-i-preserved
 loop-i-preserved c =
     let t = c.args.rows.now in
     let trips = c.args.trips.now in
-    let here = frequency_is trips t c.args.columns c.loop-i.i _ c.requires c.in_ok-row.ensures.row in
+    let here = frequency_is trips t _ c.loop-i.i c.frequency_columns-columns.ensures ∙ c.in_ok-row.ensures.row in
     record {
       rows = list_below-next (λ i. value_or no_frequency (frequency_at trips t i)) c.loop-i.i c.loop-i.found.items c.push.new.self.items c.in_ok-row.row
           c.loop-i.invariant.rows c.in_ok-push.ensures.items (sym (ap (value_or no_frequency) here));

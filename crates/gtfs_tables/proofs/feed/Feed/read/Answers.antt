@@ -1,5 +1,5 @@
 use Rattle.csv_rows.proofs.FaultLemmas.{some_raised}
-use Rattle.gtfs_tables.proofs.FeedLemmas.{if_same, none_read, fault_after, feed_of_tables, sound_feed, quiet, cause_then}
+use Rattle.gtfs_tables.proofs.FeedLemmas.{if_same, none_read, fault_after, feed_of_tables, sound_feed}
 use Rattle.gtfs_tables.proofs.feed.Feed.read.Goals as goal
 
 pub load_times-requires-clause-places : goal.load_times-requires-clause-places
@@ -8,10 +8,6 @@ load_times-requires-clause-places g c = c.in_ok-lists.ensures.sound.stops.places
 pub returns-in_err-times-clause-fault : goal.returns-in_err-times-clause-fault
 returns-in_err-times-clause-fault g c = some_raised _ _ _ c.from_residual-in_err-times.result c.from_residual-in_err-times.ensures
     (fault_after _ _ _ _ c.in_ok-lists.ensures.lists (if_same _ _ _ c.in_ok-lists.ensures.same c.in_err-times.ensures.fault))
-
-pub returns-in_err-times-clause-cause : goal.returns-in_err-times-clause-cause
-returns-in_err-times-clause-cause g c = cause_then _ _ _ c.from_residual-in_err-times.result c.from_residual-in_err-times.ensures
-    (quiet _ _ _ c.in_ok-lists.ensures.cause) c.in_err-times.ensures.cause
 
 pub invariant_of-result : goal.invariant_of-result
 invariant_of-result g c =

@@ -1,5 +1,5 @@
 use Rattle.std.proofs.Common.{subst}
-use Rattle.gtfs_tables.specs.FeedInside.{parts_of}
+use Rattle.gtfs_tables.specs.FeedInside.{feed_parts_of}
 use Rattle.gtfs_tables.specs.Repeats.{AreRepeating, IsSmall}
 use Rattle.gtfs_tables.specs.Timed.{IsTimed}
 use Rattle.gtfs_tables.proofs.FeedFacts.{is_timed}
@@ -8,10 +8,10 @@ use Rattle.gtfs_tables.proofs.SmallFacts.{is_small}
 use Rattle.gtfs_tables.proofs.feed.Feed.trip_count.Goals as goal
 
 pub returns-clause-timed : goal.returns-clause-timed
-returns-clause-timed c = subst IsTimed c.self.view_is (is_timed (parts_of c.self.inside) c.self.invariant.sound)
+returns-clause-timed c = subst IsTimed c.self.view_is (is_timed (feed_parts_of c.self.inside) c.self.invariant.sound)
 
 pub returns-clause-repeats : goal.returns-clause-repeats
-returns-clause-repeats c = subst AreRepeating c.self.view_is (is_repeating (parts_of c.self.inside) c.self.invariant.sound)
+returns-clause-repeats c = subst AreRepeating c.self.view_is (is_repeating (feed_parts_of c.self.inside) c.self.invariant.sound)
 
 pub returns-clause-small : goal.returns-clause-small
 returns-clause-small c = subst IsSmall c.self.view_is (is_small c.self.inside c.self.invariant)
