@@ -15,7 +15,7 @@ use Rattle.plan_graph.specs.declared.PlanGraph.{PlanGraph}
 use Rattle.plan_graph.specs.Rows.{pick_at}
 use Rattle.plan_graph.specs.Tidy.{IsFit}
 use Rattle.plan_graph.specs.Unfold.{unfold_plan}
-use Rattle.trip_replay.proofs.Walks.{picked_leg}
+use Rattle.plan_graph.proofs.Picked.{picked_leg}
 use Rattle.graph_score.specs.Failures.{Fails, FailsIn}
 use Rattle.graph_score.specs.Scores.{IsUnsafe, IsScore}
 use Rattle.graph_score.specs.declared.ScoreFault.{ScoreFault}
