@@ -1,5 +1,5 @@
 -- A step of reading.
-use Rattle.std.proofs.Common.{◌≡◌, ℕ, ◌+◌, ◌-◌, ◌<◌, List, [], ◌∷◌, length, drop, Option, Some, Ok, Err, Result, arith, sym, ap, subst, refl, ◌∙◌}
+use Rattle.std.proofs.Common.{◌≡◌, ℕ, ◌+◌, ◌<◌, List, [], ◌∷◌, length, drop, Option, Some, Ok, Err, Result, arith, sym, ap, subst, refl, ◌∙◌}
 use Rattle.std.specs.Prelude.{◌==◌, false, slice_index_or}
 use Rattle.std.specs.Option.{option_map}
 use Rattle.std.specs.Result.{IsErr, IsErrAnd}
@@ -34,15 +34,6 @@ pub read_raised : {A : Type 0} (fault : TextFault) (r told : Result A TextFault)
 read_raised fault (Ok a) told raised is = absurd raised.1
 read_raised {A} fault (Err again) told raised is = subst (λ (f : TextFault). IsUnlessNoMemory {A = A} (Err f) told) (sym raised.1) is
 
--- a fault ends what is read
-pub read_err : {A B : Type 0} (fault : TextFault) (told : Result A TextFault) (next : A → Result B TextFault) → told ≡ Err fault → IsUnlessNoMemory {A = B} (Err fault) (and_then told next)
-read_err f.NoMemory told next is = tt
-read_err (f.Row line) told next is = ap (λ r. and_then r next) is
-read_err (f.UnknownName line) told next is = ap (λ r. and_then r next) is
-read_err (f.NotRising line) told next is = ap (λ r. and_then r next) is
-read_err (f.NoLeg line) told next is = ap (λ r. and_then r next) is
-read_err (f.OtherQuery line) told next is = ap (λ r. and_then r next) is
-
 pub fault_on : {A B : Type 0} (fault : TextFault) (told : Result A TextFault) (next : A → Result B TextFault) → IsUnlessNoMemory {A = A} (Err fault) told
     → IsUnlessNoMemory {A = B} (Err fault) (and_then told next)
 fault_on f.NoMemory told next is = tt
@@ -75,16 +66,6 @@ tables_fail n names version rows line i s fault within told =
 pub first_split : (t : List (List (List ℕ))) → 0 < length t → t ≡ slice_index_or t 0 [] ∷ drop 1 t
 first_split [] some = absurd (omega (arith, some))
 first_split (r ∷ rs) some = refl
-
-pub rest_split : (t : List (List (List ℕ))) → 0 < length t - 1 → drop 1 t ≡ slice_index_or t 1 [] ∷ drop 2 t
-rest_split [] some = absurd (omega (arith, some))
-rest_split (r ∷ []) some = absurd (omega (arith, some))
-rest_split (r ∷ s ∷ rs) some = refl
-
-pub rest_none : (t : List (List (List ℕ))) → length t - 1 ≡ 0 → drop 1 t ≡ []
-rest_none [] none = refl
-rest_none (r ∷ []) none = refl
-rest_none (r ∷ s ∷ rs) none = absurd (omega (arith, none))
 
 -- what the first row and the graph of the others tell together
 pub told_by : (n : NetworkModel) (names : NameLists) (version : Version) (source target start : ℕ) (rows : List (List (List ℕ))) (head : Head) (r : Result (Head × PlanGraph) TextFault)

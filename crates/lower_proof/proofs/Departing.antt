@@ -28,14 +28,6 @@ pub record AreFound (n : NetworkModel) (last m : ℕ) (entries : List Entry) : T
   pub all : (c : ℕ) → c < m → dep_of n c ≤ last → (k : ℕ) × (k < length entries) × ((entry_at entries k).id.0 ≡ c)
   pub rising : AllPairs (λ a b. a.id.0 < b.id.0) entries
 
-pub found_none : (n : NetworkModel) (last : ℕ) → AreFound n last 0 []
-found_none n last = record {
-  each = λ k d within. absurd (omega arith);
-  below = λ k d within. absurd (omega arith);
-  all = λ c less. absurd (omega arith);
-  rising = λ i j d less within. absurd (omega arith);
-}
-
 pub found_later : (n : NetworkModel) (last m : ℕ) (entries : List Entry) → last < dep_of n m → AreFound n last m entries → AreFound n last (m + 1) entries
 found_later n last m entries late found = record {
   each = found.each;

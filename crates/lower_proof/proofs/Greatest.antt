@@ -1,5 +1,5 @@
 -- No accepted certificate has a greater value than a tight one.
-use Rattle.std.proofs.Common.{◌≡◌, ◌≢◌, ℕ, zero, suc, ◌+◌, ◌*◌, ◌/◌, ◌<◌, ◌≤◌, List, [], ◌∷◌, Option, Some, IsTrue, arith, inl, inr, subst, refl}
+use Rattle.std.proofs.Common.{◌≡◌, ◌≢◌, ℕ, ◌+◌, ◌*◌, ◌/◌, ◌<◌, ◌≤◌, List, [], ◌∷◌, Option, Some, IsTrue, arith, inl, inr, subst, refl}
 use Rattle.std.proofs.lemmas.Bool.{cases_eq}
 use Rattle.std.proofs.Math.Nat.{mul-le-mul_left}
 use Rattle.plan_model.specs.declared.model.Outcome.{Outcome}
@@ -14,9 +14,8 @@ use Rattle.lower_proof.specs.Promises.{IsGreatestCertificate}
 use Rattle.lower_proof.proofs.Search.{least_boardable, least_at_start}
 use Rattle.lower_proof.proofs.Vias.{IsLeast-unique}
 use Rattle.lower_proof.proofs.Soundness.{ride_bound, target_least}
-use Rattle.lower_proof.proofs.Departures.{after, after_less, after_boards, after_le}
-use Rattle.plan_model.proofs.Boarding.{boards_later}
-use Rattle.lower_proof.proofs.Near.{in_time_of}
+use Rattle.lower_proof.proofs.Departures.{after, after_less, after_le}
+use Rattle.lower_proof.proofs.ByDepartures.{in_time_of, HoldsBy, holds_by}
 
 -- each value is at most the one that stands beside it
 abbrev EachAtMost : List ℕ → List ℕ → Type 0
@@ -36,8 +35,11 @@ lesser_mean row ws vs each = let sum = lesser_sum row ws vs each in omega arith
 
 module _ (n : NetworkModel) (valid : IsValid n) (q : Query) (values others : List (Option ℕ)) (tight : IsTight n q values) (accepted : IsAccepted n q others) where
   -- where one has a value, the other has one that is at most it
+  abbrev LesserAt : ℕ → ℕ → ℕ → Type 0
+  LesserAt p x v = (w : ℕ) × IsLeastAt n q others p x (Some w) × (w ≤ v)
+
   abbrev LesserBy : ℕ → Type 0
-  LesserBy m = (p x v : ℕ) → after n x ≤ m → IsLeastAt n q values p x (Some v) → (w : ℕ) × IsLeastAt n q others p x (Some w) × (w ≤ v)
+  LesserBy m = HoldsBy n valid q values LesserAt m
 
   lesser_all : (m : ℕ) → LesserBy m → (p arrival : ℕ) → after n arrival ≤ m → (row : List Outcome) (vs : List ℕ)
       → AreLeast n q values p arrival row vs → (ws : List ℕ) × AreLeast n q others p arrival row ws × EachAtMost ws vs
@@ -65,34 +67,14 @@ module _ (n : NetworkModel) (valid : IsValid n) (q : Query) (values others : Lis
       let ride = ride_bound n q others accepted Boards p x c j (weighted (outcomes n j) all.0 / 10000) least away is_least leg boards other_via in
       (ride.0, ride.1, omega (arith, ride.2, less, via.mean))
 
-  -- a least value elsewhere than at the target
-  abbrev LesserAway : ℕ → Type 0
-  LesserAway m = (p x v : ℕ) → after n x ≤ m → p ≢ q.target.0 → IsLeastOf (λ w. (c : ℕ) × Offers n values (IsBoardable n p x) c w) (Some v) → (w : ℕ) × IsLeastAt n q others p x (Some w) × (w ≤ v)
-
-  away_none : LesserAway zero
-  away_none p x v few away least =
-      let offer = least.0.1 in
-      absurd (omega (arith, after_boards n x least.0.0 offer.there (boards_later n valid p x least.0.0 offer.there offer.boards)))
-
-  away_some : (m : ℕ) → LesserBy m → LesserAway (suc m)
-  away_some m lesser p x v few away least =
-      let c = least.0.0 in
-      let offer = least.0.1 in
-      let fewer = after_boards n x c offer.there (boards_later n valid p x c offer.there offer.boards) in
+  lesser_away : (m p x c v : ℕ) → LesserBy m → after n (dep_of n c) ≤ m → after n (dep_of n c) + 1 ≤ after n x → p ≢ q.target.0 → Offers n values (IsBoardable n p x) c v → LesserAt p x v
+  lesser_away m p x c v lesser few fewer away offer =
       let search = least_boardable n others p x in
-      lesser_ride m lesser (IsBoardable n p x) p x c v (omega arith) away offer.boards offer.there offer.board offer.value search.0 search.1
+      lesser_ride m lesser (IsBoardable n p x) p x c v few away offer.boards offer.there offer.board offer.value search.0 search.1
 
-  or_arrived : (m : ℕ) → LesserAway m → LesserBy m
-  or_arrived m elsewhere p x v few least = elim (cases_eq p q.target.0) [
-    | inl there ↦
-        let done = in_time_of q.deadline.0 x v (least.at_target there) in
-        (1000000000 * x, target_least n q others (IsBoardable n p x) p x there done.0, omega (arith, done.1))
-    | inr away ↦ elsewhere p x v few away (least.elsewhere away)
-  ]
-
-  pub lesser_at : (m : ℕ) → LesserBy m
-  lesser_at zero = or_arrived zero away_none
-  lesser_at (suc m) = or_arrived (suc m) (away_some m (lesser_at m))
+  lesser_at : (m : ℕ) → LesserBy m
+  lesser_at = holds_by n valid q values LesserAt
+      (λ p x v there in_time is. (1000000000 * x, target_least n q others (IsBoardable n p x) p x there in_time, omega (arith, is))) lesser_away
 
   pub lesser_start : (v : ℕ) → IsLeastAtStart n q values (Some v) → (w : ℕ) × IsLeastAtStart n q others (Some w) × (w ≤ v)
   lesser_start v least = elim (cases_eq q.source.0 q.target.0) [

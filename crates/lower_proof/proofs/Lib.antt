@@ -5,6 +5,7 @@ pub mod Soundness
 pub mod Departures
 pub mod Departing
 pub mod NoVias
+pub mod ByDepartures
 pub mod Near
 pub mod Greatest
 pub mod Best

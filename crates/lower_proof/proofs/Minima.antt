@@ -1,5 +1,5 @@
 -- Least values of front parts, one entry after the other.
-use Rattle.std.proofs.Common.{◌≡◌, ℕ, ◌+◌, ◌-◌, ◌<◌, ◌≤◌, List, [], ◌++◌, length, take, drop, set, Option, Some, None, arith, inl, inr, sym, ap, subst, get_or-set_other, get_or-set_same}
+use Rattle.std.proofs.Common.{◌≡◌, ℕ, ◌+◌, ◌-◌, ◌<◌, ◌≤◌, List, [], ◌++◌, length, take, drop, set, Option, Some, None, arith, inl, inr, sym, subst, get_or-set_other, get_or-set_same}
 use Rattle.std.proofs.lemmas.Bool.{cases_eq, cases_lt}
 use Rattle.lower_proof.specs.declared.board.Entry.{Entry}
 use Rattle.lower_proof.specs.Certificates.{bound_of, IsLeastOf}
@@ -8,13 +8,6 @@ use Rattle.lower_proof.specs.Boards.{entry_at, Falls, FrontValue, ValueInTime, l
 use Rattle.lower_proof.specs.Minima.{AreMinima, IsBoard}
 use Rattle.std.proofs.lemmas.List.{append-nil, take_all, drop_all, length-take, get_or-take}
 use Rattle.lower_proof.proofs.Leasts.{least_with, least_same}
-
--- an entry before another has no earlier moment
-pub falls_before : (entries : List Entry) → Falls entries → (k m : ℕ) → k ≤ m → m < length entries → (entry_at entries m).by.0 ≤ (entry_at entries k).by.0
-falls_before entries falls k m before within = elim (cases_eq k m) [
-  | inl is ↦ let same = ap (λ i. (entry_at entries i).by.0) is in omega arith
-  | inr differ ↦ falls k m (record { by = record { 0 = 0 }; id = record { 0 = 0 } }) (omega arith) within
-]
 
 module _ (values : List (Option ℕ)) (entries : List Entry) where
   pub none_front : IsLeastOf (FrontValue values entries 0) None

@@ -1,7 +1,6 @@
 -- The greedy tree: after each arrival the connection of least value and its best exit. Its expected arrival is less than a nanosecond above the least value for each ride.
-use Rattle.std.proofs.Common.{◌≡◌, ◌≢◌, ℕ, zero, suc, ◌+◌, ◌*◌, ◌/◌, ◌^◌, ◌<◌, ◌≤◌, List, [], ◌∷◌, Option, Some, None, map, length, sum_by, IsTrue, arith, inl, inr, ◌∙◌, subst, refl}
-use Rattle.std.proofs.lemmas.Bool.{cases_eq, cases_lt}
-use Rattle.std.proofs.lemmas.Bool.Decides.{nat_tests}
+use Rattle.std.proofs.Common.{◌≡◌, ◌≢◌, ℕ, ◌+◌, ◌*◌, ◌/◌, ◌^◌, ◌<◌, ◌≤◌, List, [], ◌∷◌, Option, Some, map, length, sum_by, IsTrue, arith, inl, inr, subst, refl}
+use Rattle.std.proofs.lemmas.Bool.{cases_eq}
 use Rattle.std.proofs.lemmas.List.Sums.{sum_by-cons}
 use Rattle.std.proofs.Math.Nat.{mul_assoc, mul-add}
 use Rattle.plan_model.specs.declared.model.Outcome.{Outcome}
@@ -15,18 +14,11 @@ use Rattle.plan_model.specs.Bounds.{nanos_per_second}
 use Rattle.plan_model.specs.Expected.{Covers, arrival as arrival_of}
 use Rattle.plan_model.proofs.Bounds.{forward}
 use Rattle.interval_fixed.specs.Means.{weighted}
-use Rattle.lower_proof.specs.Certificates.{bound_of, IsLeastOf, Offers, arrived_by, IsLeastAt, IsLeastAtStart, AreLeast, IsVia, IsTight}
+use Rattle.lower_proof.specs.Certificates.{bound_of, IsLeastOf, Offers, IsLeastAtStart, AreLeast, IsVia, IsTight}
 use Rattle.plan_model.proofs.Laws.{covers_more}
 use Rattle.interval_fixed.proofs.Sums.{mean_covers}
-use Rattle.plan_model.proofs.Boarding.{boards_later}
-use Rattle.lower_proof.proofs.Departures.{after, after_less, after_boards, after_starts, after_le}
-
--- who has arrived at the target is in time
-pub in_time_of : (deadline x v : ℕ) → Some v ≡ arrived_by deadline x → (x ≤ deadline) × (v ≡ 1000000000 * x)
-in_time_of deadline x v is = elim (cases_lt deadline x) [
-  | inl late ↦ let e : arrived_by deadline x ≡ None = grind (arith, nat_tests) in let both = is ∙ e in absurd (cc)
-  | inr in_time ↦ let e : arrived_by deadline x ≡ Some (1000000000 * x) = grind (arith, nat_tests) in let both = is ∙ e in let same : v ≡ 1000000000 * x = (cc) in (in_time, same)
-]
+use Rattle.lower_proof.proofs.Departures.{after, after_less, after_starts, after_le}
+use Rattle.lower_proof.proofs.ByDepartures.{in_time_of, HoldsBy, holds_by}
 
 raised_step : (w v k s t : ℕ) → w * (v + k) + (s + k * t) ≡ (w * v + s) + k * (w + t)
 raised_step w v k s t = omega (arith, mul-add w v k, mul-add k w t)
@@ -60,7 +52,7 @@ module _ (n : NetworkModel) (valid : IsValid n) (q : Query) (values : List (Opti
 
   -- one for each least value, where at most m connections depart later
   abbrev NearBy : ℕ → Type 0
-  NearBy m = (p x v : ℕ) → after n x ≤ m → IsLeastAt n q values p x (Some v) → NearAt p x v
+  NearBy m = HoldsBy n valid q values NearAt m
 
   near_all : (m k : ℕ) → NearBy m → k ≤ m → (p arrival : ℕ) → after n arrival ≤ k → (row : List Outcome) (vs : List ℕ)
       → AreLeast n q values p arrival row vs → (kids : Kids) × AreSafe n q.target.0 (Some q.deadline.0) kids row p arrival × EachKid Covers row (map (λ v. v + k) vs) kids
@@ -98,34 +90,13 @@ module _ (n : NetworkModel) (valid : IsValid n) (q : Query) (values : List (Opti
   done_near : (x v more : ℕ) → v ≡ 1000000000 * x → Covers (v + more) (Done x)
   done_near x v more is = covers_more nanos_per_second arrival_of v (v + more) (Done x) (omega arith) (λ h tall. rw is (omega (arith, mul_assoc 1000000000 x (10000 ^ h))))
 
-  -- a least value elsewhere than at the target
-  abbrev NearAway : ℕ → Type 0
-  NearAway m = (p x v : ℕ) → after n x ≤ m → p ≢ q.target.0 → IsLeastOf (λ w. (c : ℕ) × Offers n values (IsBoardable n p x) c w) (Some v) → NearAt p x v
-
-  away_none : NearAway zero
-  away_none p x v few away least =
-      let offer = least.0.1 in
-      absurd (omega (arith, after_boards n x least.0.0 offer.there (boards_later n valid p x least.0.0 offer.there offer.boards)))
-
-  away_some : (m : ℕ) → NearBy m → NearAway (suc m)
-  away_some m near p x v few away least =
-      let c = least.0.0 in
-      let offer = least.0.1 in
-      let fewer = after_boards n x c offer.there (boards_later n valid p x c offer.there offer.boards) in
-      let ride = near_ride m near c v (omega arith) offer.there offer.board offer.value in
+  near_away : (m p x c v : ℕ) → NearBy m → after n (dep_of n c) ≤ m → after n (dep_of n c) + 1 ≤ after n x → p ≢ q.target.0 → Offers n values (IsBoardable n p x) c v → NearAt p x v
+  near_away m p x c v near few fewer away offer =
+      let ride = near_ride m near c v few offer.there offer.board offer.value in
       (Ride c ride.0 ride.1, (away, ride.2, offer.boards, ride.3), covers_more nanos_per_second arrival_of (v + (after n (dep_of n c) + 1)) (v + after n x) (Ride c ride.0 ride.1) (omega arith) ride.4)
 
-  or_arrived : (m : ℕ) → NearAway m → NearBy m
-  or_arrived m elsewhere p x v few least = elim (cases_eq p q.target.0) [
-    | inl there ↦
-        let done = in_time_of q.deadline.0 x v (least.at_target there) in
-        (Done x, (refl, there, done.0), done_near x v (after n x) done.1)
-    | inr away ↦ elsewhere p x v few away (least.elsewhere away)
-  ]
-
-  pub near_at : (m : ℕ) → NearBy m
-  near_at zero = or_arrived zero away_none
-  near_at (suc m) = or_arrived (suc m) (away_some m (near_at m))
+  near_at : (m : ℕ) → NearBy m
+  near_at = holds_by n valid q values NearAt (λ p x v there in_time is. (Done x, (refl, there, in_time), done_near x v (after n x) is)) near_away
 
   -- at the start
   pub near_start : (v : ℕ) → IsLeastAtStart n q values (Some v) → (tree : Tree) × IsSafeFor n q tree × Covers (v + count n) tree

@@ -53,17 +53,6 @@ boards_looked n last values boards p board within are same right = record {
   ];
 }
 
-pub late_looked : (boards : List ShownBoard) (p : ℕ) (board : ShownBoard) (moment : ℕ) → p < length boards → AreLate moment board.entries (length board.least)
-    → AllLate moment boards → AllLate moment (set boards p board)
-late_looked boards p board moment within late all r inside = elim (cases_eq r p) [
-  | inl is ↦
-      let at : board_at (set boards p board) p ≡ board = get_or-set_same boards p board (record { entries = []; least = [] }) within in
-      subst (λ i. AreLate moment (board_at (set boards p board) i).entries (length (board_at (set boards p board) i).least)) (sym is) (rw at late)
-  | inr differ ↦
-      let at : board_at (set boards p board) r ≡ board_at boards r = get_or-set_other boards p r board (record { entries = []; least = [] }) differ in
-      rw at (all r (omega (arith, length-set boards p board)))
-]
-
 module _ (n : NetworkModel) (valid : IsValid n) (last moment : ℕ) (values others : List (Option ℕ)) (agree : Agree n moment values others) (as_many : length others ≡ length values) where
   -- what is known stays right where only values of earlier departures change
   board_agrees : (p : ℕ) (board : ShownBoard) → AreLate moment board.entries (length board.least) → IsBoardOf n last p values board → IsBoardOf n last p others board

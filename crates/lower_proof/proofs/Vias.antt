@@ -64,9 +64,6 @@ module _ (n : NetworkModel) (q : Query) (values : List (Option ℕ)) (p arrival 
     pub are_least : AreLeast n q values p arrival row least
     pub total : weighted row least ≡ sum
 
-  pub nothing_weighed : Weighed [] 0
-  nothing_weighed = record { least = []; are_least = tt; total = refl }
-
   least_push : (row : List Outcome) (o : Outcome) (vs : List ℕ) (v : ℕ) → AreLeast n q values p arrival row vs
       → IsLeastAt n q values p (arrival + o.delay) (Some v) → AreLeast n q values p arrival (row ++ o ∷ []) (vs ++ v ∷ [])
   least_push [] o [] v all one = (one, tt)
