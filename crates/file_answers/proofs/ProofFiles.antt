@@ -13,7 +13,7 @@ use Rattle.journey_model.specs.Faults.{unread_of}
 use Rattle.journey_model.specs.Stages.{IsOfInput}
 use Rattle.journey_model.specs.declared.problem.Problem.{Problem}
 use Rattle.input_files.specs.Files.{bytes_of}
-use Rattle.input_files.proofs.Loads.{if_some_then}
+use Rattle.std.proofs.lemmas.Option.{IfSome_then}
 use Rattle.file_answers.specs.ProofFiles.{TellsProof, FailsText, FailsFile, IsProofFile, FailsProof}
 
 module _ (limits : Limits) (p : Problem) (start : ℕ) (file : Option (List ℕ)) where
@@ -34,7 +34,7 @@ module _ (told : Option FileMap) (limits : Limits) (start : ℕ) (path : List �
       → IfSome told (λ files. fault ≢ NoMemory → bytes_of limits.bytes input.Proof (unread_of fault) (file_at files path) ≡ Err fault)
       → fault ≢ NoMemory → FailsProof told limits start path p fault
   unloaded fault of fails other =
-      (of other, if_some_then told _ _ (λ (files : FileMap) why. load_fails limits p start (file_at files path) fault (why other)) fails)
+      (of other, IfSome_then told fails (λ files why. load_fails limits p start (file_at files path) fault (why other)))
 
   module _ (text same : List ℕ) (is : same ≡ text) (there : IfSome told (λ files. bytes_of limits.bytes input.Proof None (file_at files path) ≡ Ok text)) where
     pub read : (r : Result (Query × LowerBounds) Fault) → IfOk r (λ f. TellsProof p start same f.0 f.1) → IfOk r (λ f. IsProofFile told limits start path p f.0 f.1)
@@ -47,7 +47,6 @@ module _ (told : Option FileMap) (limits : Limits) (start : ℕ) (path : List �
     unread (Ok f) fails of none = tt
     unread (Err fault) fails of none = λ other. (
       of other,
-      if_some_then told _ _
-          (λ (files : FileMap) bytes. text_fails limits p start (file_at files path) text fault bytes none
-          (subst (λ (bs : List ℕ). FailsText p start bs fault) is (fails other))) there,
+      IfSome_then told there (λ files bytes.
+          text_fails limits p start (file_at files path) text fault bytes none (subst (λ (bs : List ℕ). FailsText p start bs fault) is (fails other))),
     )

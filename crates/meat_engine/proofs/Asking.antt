@@ -1,7 +1,7 @@
 -- Answers and faults, one from another.
 use Rattle.std.proofs.Common.{◌≡◌, ℕ, List, Option, None, Result, inl, inr, refl, ap, sym, ◌∙◌, subst, arith}
 use Rattle.std.specs.Prelude.{◌≢◌, ◌⊎◌, option_map}
-use Rattle.file_ports.specs.Counts.{Rose}
+use Rattle.file_ports.specs.Counts.{Rose, RoseAt}
 use Rattle.command_line.specs.Jobs.{WantedTimetable, WantedJourney, WantedAsk, Safe, Expand, Plan, Replay, Certify, CheckProof, CheckGraph, Punctual, Departures, Latest}
 use Rattle.journey_model.specs.declared.faults.Input.{Input}
 use Rattle.journey_model.specs.declared.faults.Input.TheVariants as input
@@ -13,7 +13,7 @@ use Rattle.journey_model.specs.Stages.{IsEarlyStage}
 use Rattle.journey_model.proofs.Sited.{tellable}
 use Rattle.journey_model.specs.declared.problem.Problem.{Problem}
 use Rattle.input_files.specs.EarlyFaults.{IsEarly}
-use Rattle.input_files.specs.Files.{RoseAt, path_of, HasCauses}
+use Rattle.input_files.specs.Files.{path_of, HasCauses}
 use Rattle.meat_engine.specs.declared.refusal.Refusal.{Refusal}
 use Rattle.journey_model.specs.Wants.{OrNoMemory}
 use Rattle.file_answers.specs.Paths.{graph_path, proof_path}

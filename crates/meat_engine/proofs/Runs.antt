@@ -2,7 +2,7 @@
 use Rattle.std.proofs.Common.{◌≡◌, ◌<◌, ℕ, sym, subst, arith, ⊎_elim, List, Option, Some, None, Ok}
 use Rattle.std.specs.Prelude.{◌≢◌, IsSome}
 use Rattle.std.specs.Io.KnownBytes.{Keeps}
-use Rattle.file_ports.specs.Counts.{Rose}
+use Rattle.file_ports.specs.Counts.{Rose, RoseAt}
 use Rattle.csv_rows.specs.declared.limits.Limits.{Limits}
 use Rattle.command_line.specs.Jobs.{Wanted, job_of}
 use Rattle.journey_model.specs.declared.faults.Input.{Input}
@@ -11,7 +11,6 @@ use Rattle.journey_model.specs.declared.faults.Fault.TheVariants.{Read, Write, N
 use Rattle.journey_model.specs.Faults.{status_of}
 use Rattle.fault_lines.specs.Lines.{line_of, IsFormatted}
 use Rattle.journey_model.specs.Sites.{NamedParts}
-use Rattle.input_files.specs.Files.{RoseAt}
 use Rattle.journey_report.specs.declared.report.Report.{Report}
 use Rattle.journey_report.specs.Findings.{Findings, findings_of, no_findings}
 use Rattle.meat_engine.specs.Received.{Ending, AnswersJob, IsExplained, IsRefusedWith, IsWritten, IsWrittenBy, Outcome, path_in}

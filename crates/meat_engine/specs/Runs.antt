@@ -1,7 +1,7 @@
 -- What a run promises, once for all its limits.
 use Rattle.std.specs.Prelude.{◌≡◌, ℕ, ◌<◌, List, Option, None, Some, Ok, IsSome}
 use Rattle.std.specs.Io.KnownBytes.{Keeps}
-use Rattle.file_ports.specs.Counts.{Rose}
+use Rattle.file_ports.specs.Counts.{Rose, RoseAt}
 use Rattle.file_ports.specs.Ports.{FileMap}
 use Rattle.csv_rows.specs.declared.limits.Limits.{Limits}
 use Rattle.command_line.specs.Jobs.{Wanted, job_of}
@@ -9,7 +9,6 @@ use Rattle.journey_model.specs.declared.faults.Input.{Input}
 use Rattle.journey_model.specs.declared.faults.Fault.TheVariants.{Read, Write}
 use Rattle.journey_model.specs.Faults.{status_of}
 use Rattle.journey_report.specs.declared.report.Report.{Report}
-use Rattle.input_files.specs.Files.{RoseAt}
 use Rattle.meat_engine.specs.Received.{Outcome, IsLineTold, path_in}
 use Rattle.meat_engine.specs.Completeness.{IsComplete}
 

@@ -9,7 +9,6 @@ use Rattle.std.proofs.lemmas.Slice.Eq.{bytes_eq-Decides}
 use Rattle.file_ports.specs.declared.named.Named.{Named}
 use Rattle.memory_ports.specs.declared.memory.Failing.{Failing}
 use Rattle.file_ports.specs.Named.{value_at}
-use Rattle.file_ports.specs.Counts.{HasPathCause}
 use Rattle.memory_ports.specs.Failing.{faults_in, fails_in, SameFailing}
 use Rattle.file_ports.proofs.NamedLemmas.{at_path, place_gives_none, set_gives, searched, Stands, found, path_is, put_over, put_last}
 
@@ -92,18 +91,6 @@ later_cases es q p i n e s h true t =
 pub count_later : (es : List (Named Failing)) (q p : List ℕ) (i n : ℕ) (e : Named Failing) → Stands es q i e → e.value.faults ≤ n
     → faults_in es p ≤ faults_in (set es i (counted e n)) p
 count_later es q p i n e s h = rw (set_value es q p i n e s) (later_cases es q p i n e s h (bytes_eq q p) refl)
-
--- what a counted failure means for the counts of all paths
-pub failed_path_cause : {T E : Type 0} (told : Type 0) (es es' : List (Named Failing)) (path : List ℕ) (e : E)
-    → faults_in es' path ≡ min (faults_in es path + 1) (2 ^ 64 - 1) → ((p : List ℕ) → faults_in es p ≤ faults_in es' p)
-    → ((p : List ℕ) → p ≢ path → faults_in es' p ≡ faults_in es p)
-    → HasPathCause {T = T} told path (faults_in es) (faults_in es') (Err e)
-failed_path_cause told es es' path e c l o = record {
-  later = l;
-  quiet = tt;
-  others = λ _. o;
-  failed = λ _. rw c (omega arith);
-}
 
 -- this entry with these calls
 abbrev pub recalled : Named Failing → Vec ℕ Global → Named Failing

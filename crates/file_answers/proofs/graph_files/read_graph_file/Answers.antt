@@ -5,41 +5,40 @@ use Rattle.journey_model.specs.declared.faults.Input.{Input}
 use Rattle.journey_model.specs.declared.faults.Input.TheVariants as input
 use Rattle.input_files.specs.Files.{bytes_of}
 use Rattle.input_files.proofs.Causes.{causes-quiet}
-use Rattle.input_files.proofs.Loads.{if_some_then, if_ok_then, if_err_then}
+use Rattle.std.proofs.lemmas.Option.{IfSome_then}
+use Rattle.std.proofs.lemmas.Result.{IfOk-weaker, IfErr-weaker}
 use Rattle.graph_text.proofs.Accepted.{graph_deadline}
 use Rattle.file_answers.proofs.GraphFiles.{graph_finds}
 use Rattle.file_answers.proofs.graph_files.read_graph_file.Goals as goal
 
 pub returns-clause-graph : goal.returns-clause-graph
 returns-clause-graph g c =
-    let bytes = c.in_ok-bytes.bytes.items in
-    if_some_then (g.F.Files.files c.args.files.now) (λ (m : FileMap). bytes_of c.args.limits.now.bytes input.Graph None (file_at m c.args.path.now) ≡ Ok bytes) _
-    (λ m there. graph_finds c.args.limits.now c.args.problem.now c.args.start.0 (file_at m c.args.path.now) bytes c.as_slice.result.now there c.as_slice.ensures.value
+    IfSome_then (g.F.Files.files c.args.files.now) c.in_ok-bytes.ensures.bytes (λ m there.
+    graph_finds c.args.limits.now c.args.problem.now c.args.start.0 (file_at m c.args.path.now) c.in_ok-bytes.bytes.items c.as_slice.result.now there c.as_slice.ensures.value
     c.graph_of_bytes.result c.graph_of_bytes.ensures.graph c.graph_of_bytes.ensures.fault c.graph_of_bytes.ensures.read)
-    c.in_ok-bytes.ensures.bytes
 
 pub returns-clause-fit : goal.returns-clause-fit
 returns-clause-fit g c =
-    if_ok_then c.graph_of_bytes.result _ _
+    IfOk-weaker c.graph_of_bytes.result _ _
     (λ f read. (c.read_fits.ensures c.args.problem.now.network c.args.problem.now.names c.as_slice.result.now c.args.problem.now.source.0 c.args.problem.now.target.0 c.args.start.0 f.0 f.1 read).0)
     c.graph_of_bytes.ensures.graph
 
 pub returns-clause-head : goal.returns-clause-head
 returns-clause-head g c =
-    if_ok_then c.graph_of_bytes.result _ _
+    IfOk-weaker c.graph_of_bytes.result _ _
     (λ f read. (c.read_fits.ensures c.args.problem.now.network c.args.problem.now.names c.as_slice.result.now c.args.problem.now.source.0 c.args.problem.now.target.0 c.args.start.0 f.0 f.1 read).1)
     c.graph_of_bytes.ensures.graph
 
 pub returns-clause-deadline : goal.returns-clause-deadline
 returns-clause-deadline g c =
-    if_ok_then c.graph_of_bytes.result _ _
+    IfOk-weaker c.graph_of_bytes.result _ _
     (λ f read. graph_deadline c.args.problem.now.network c.args.problem.now.names c.args.problem.now.source.0 c.args.problem.now.target.0 c.args.start.0
     c.as_slice.result.now f.0 f.1 read)
     c.graph_of_bytes.ensures.graph
 
 pub returns-clause-own : goal.returns-clause-own
 returns-clause-own g c =
-    if_err_then c.graph_of_bytes.result _ _
+    IfErr-weaker c.graph_of_bytes.result _ _
     (λ fault none. subst (λ (u : Option Input). IfSome u (λ other. other ≡ input.Graph)) (sym none) tt) c.graph_of_bytes.ensures.read
 
 pub returns-clause-causes : goal.returns-clause-causes

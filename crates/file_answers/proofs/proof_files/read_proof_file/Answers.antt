@@ -4,7 +4,7 @@ use Rattle.csv_rows.proofs.FaultLemmas.{if_raised}
 use Rattle.journey_model.specs.declared.faults.Input.{Input}
 use Rattle.journey_model.specs.declared.faults.Input.TheVariants as input
 use Rattle.input_files.proofs.Causes.{causes-quiet}
-use Rattle.input_files.proofs.Loads.{if_err_then}
+use Rattle.std.proofs.lemmas.Result.{IfErr-weaker}
 use Rattle.file_answers.proofs.ProofFiles.{unloaded, read, unread}
 use Rattle.file_answers.proofs.proof_files.read_proof_file.Goals as goal
 
@@ -25,7 +25,7 @@ returns-clause-fault g c =
 
 pub returns-clause-own : goal.returns-clause-own
 returns-clause-own g c =
-    if_err_then c.proof_of_bytes.result _ _
+    IfErr-weaker c.proof_of_bytes.result _ _
     (λ fault none. subst (λ (u : Option Input). IfSome u (λ other. other ≡ input.Proof)) (sym none) tt) c.proof_of_bytes.ensures.read
 
 pub returns-clause-causes : goal.returns-clause-causes

@@ -9,7 +9,7 @@ use Rattle.input_files.specs.Files.{HasCauses}
 use Rattle.journey_problem.specs.Problems.{IsProblem, IsProblemFault, IsValidProblem}
 use Rattle.meat_engine.specs.Asks.{no_path}
 use Rattle.meat_engine.specs.Samples.{sample_journey}
-use Rattle.input_files.proofs.Loads.{if_ok_then, if_err_then}
+use Rattle.std.proofs.lemmas.Result.{IfOk-weaker, IfErr-weaker}
 use Rattle.meat_engine.proofs.Asking.{never_unread, none_rises}
 use Rattle.meat_engine.proofs.samples.sample_problem.Goals as goal
 
@@ -27,7 +27,7 @@ pub returns-in-Ok-clause-problem : goal.returns-in-Ok-clause-problem
 returns-in-Ok-clause-problem c =
     let limits = c.args.limits.now in
     let files = folder_of c.in-Ok.files in
-    if_ok_then c.problem_of.result _ _ (λ p both. (files, c.in-Ok.ensures.files, (both.0, both.1)))
+    IfOk-weaker c.problem_of.result _ _ (λ p both. (files, c.in-Ok.ensures.files, (both.0, both.1)))
     (both_ok c.problem_of.result _ _ (subst (λ (j : WantedJourney). IfOk c.problem_of.result (IsValidProblem j)) c.sample_journey.ensures c.problem_of.ensures.sound)
     (subst (λ (j : WantedJourney). IfOk c.problem_of.result (IsProblem limits files j)) c.sample_journey.ensures c.problem_of.ensures.problem))
 
@@ -35,7 +35,7 @@ pub returns-in-Ok-clause-fault : goal.returns-in-Ok-clause-fault
 returns-in-Ok-clause-fault c =
     let limits = c.args.limits.now in
     let files = folder_of c.in-Ok.files in
-    if_err_then c.problem_of.result _ _ (λ f first other. (files, c.in-Ok.ensures.files, subst (λ (j : WantedJourney). IsProblemFault limits files j f) c.sample_journey.ensures first))
+    IfErr-weaker c.problem_of.result _ _ (λ f first other. (files, c.in-Ok.ensures.files, subst (λ (j : WantedJourney). IsProblemFault limits files j f) c.sample_journey.ensures first))
     c.problem_of.ensures.fault
 
 pub returns-in-Ok-clause-read : goal.returns-in-Ok-clause-read

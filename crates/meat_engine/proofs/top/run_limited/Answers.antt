@@ -74,5 +74,5 @@ returns-in-Ok-answer_of g c =
     before after out out_after err err_after c.tell.ensures.out
     (shown c.in-Ok.job) (sym c.in-Ok.ensures.job) c.in-Ok-answer_of.ensures.answer c.tell.ensures.status c.tell.ensures.findings
     c.tell.ensures.quiet c.tell.ensures.told c.in-Ok-answer_of.ensures.same
-    (λ less. let both = (c.in-Ok-answer_of.ensures.causes.grew less).1 in absurd (cc))
+    (λ less. (c.in-Ok-answer_of.ensures.causes.grew less).1)
     c.tell.ensures.write c.tell.ensures.grew
