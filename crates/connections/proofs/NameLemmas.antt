@@ -1,6 +1,6 @@
 -- The names of runs: no two runs have one name, and none begins or ends with a space.
-use Rattle.std.proofs.Common.{◌≡◌, ◌≢◌, ℕ, zero, suc, ◌+◌, ◌-◌, ◌<◌, ◌≤◌, Bool, true, false, List, [], ◌∷◌, ◌++◌, length, take, drop, get_or, slice_index_or, Some, None, Option, ℤ, All, decimal, append_assoc}
-use Rattle.std.proofs.Common.{◌^◌, refl, sym, ap, ap₂, ◌∙◌, subst, arith, below_more, length-append}
+use Rattle.std.proofs.Common.{◌≡◌, ◌≢◌, ℕ, zero, suc, ◌+◌, ◌-◌, ◌<◌, Bool, true, false, List, [], ◌∷◌, ◌++◌, length, take, drop, get_or, slice_index_or, Some, None, Option, ℤ, All}
+use Rattle.std.proofs.Common.{decimal, append_assoc, ◌^◌, refl, sym, ap, ap₂, ◌∙◌, subst, arith, below_more, length-append}
 use Rattle.std.specs.List.{list_all}
 use Rattle.std.specs.Char.{is_ascii_digit}
 use Rattle.std.proofs.lemmas.Bool.{and_parts, and_from}
@@ -12,7 +12,7 @@ use Rattle.std.specs.Int.{IsInRange}
 use Rattle.std.proofs.lemmas.Fmt.{decimal_is_IsNumeral, decimal_injective}
 use Rattle.std.proofs.lemmas.Str.Parse.{digit_from_value}
 use Rattle.clock_text.specs.Times.{date_at}
-use Rattle.plan_model.specs.NameLists.{Adds, AreDistinct, IsTrimmed}
+use Rattle.plan_model.specs.NameLists.{Adds, IsTrimmed}
 use Rattle.gtfs_tables.specs.Feeds.{FeedParts}
 use Rattle.csv_rows.specs.Ids.{AreIds}
 use Rattle.connections.specs.declared.repeats.Repeat.{Repeat}
@@ -69,7 +69,8 @@ same_start (Some r) (Some q) h k us vs e =
     (λ i. Some (record { departure = departure i; line = line i }), y.1)
 
 -- two runs of one name are one
-pub one_run : (f : FeedParts) → AreIds f.trip_ids → (a b : Run) (name : List ℕ) → IsRunOfFeed f a → IsRunOfFeed f b → IsSmallRepeat a.repeat → IsSmallRepeat b.repeat → IsRunName f a name → IsRunName f b name
+pub one_run : (f : FeedParts) → AreIds f.trip_ids → (a b : Run) (name : List ℕ) → IsRunOfFeed f a → IsRunOfFeed f b → IsSmallRepeat a.repeat → IsSmallRepeat b.repeat
+    → IsRunName f a name → IsRunName f b name
     → (a.origin.day.number ≡ b.origin.day.number) × (a.trip ≡ b.trip) × (a.repeat ≡ b.repeat)
 one_run f ids a b name of_a of_b small small' h k =
     let x = date_text h.date a.origin.day.number h.reads in

@@ -56,7 +56,8 @@ rows_by t n groups rows r group None e = sym (r.absent group e)
 rows_by t n groups rows r group (Some k) e = let w = group-here group groups k e in r.each k w.0 ∙ ap (group_outcomes t n) w.1
 
 -- the outcomes that are read are those of the rows
-pub rows-are : (t : List (List (List ℕ))) (n : ℕ) (groups : List Group) (rows : List GroupRows) → IsReadTo t n groups rows → (group : Group) → read_outcomes groups rows group ≡ group_outcomes t n group
+pub rows-are : (t : List (List (List ℕ))) (n : ℕ) (groups : List Group) (rows : List GroupRows) → IsReadTo t n groups rows → (group : Group)
+    → read_outcomes groups rows group ≡ group_outcomes t n group
 unfolding read_outcomes
 rows-are t n groups rows r group = rows_by t n groups rows r group (place_of group groups) refl
 

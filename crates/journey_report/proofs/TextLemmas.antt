@@ -1,19 +1,15 @@
 -- The rows of a trip.
 use Rattle.std.proofs.Common.{◌≡◌, ℕ, ◌+◌, ◌<◌, ◌≤◌, List, [], ◌∷◌, ◌++◌, length, drop, Bool, true, false, arith, refl, sym, ap, ◌∙◌, slice_index_or}
-use Rattle.std.specs.Prelude.{All, codes, decimal, ◌==◌, ◌||◌}
+use Rattle.std.specs.Prelude.{All, ◌==◌, ◌||◌}
 use Rattle.std.specs.List.{list_any}
 use Rattle.std.proofs.lemmas.Bool.Decides.{nat_tests}
 use Rattle.std.proofs.lemmas.List.{append-nil, at_drop_all}
 use Rattle.std.proofs.lemmas.List.Elements.{All-head, All-tail}
-use Rattle.clock_text.specs.Civil.{moment_text}
-use Rattle.plan_model.specs.declared.model.Connection.{Connection}
 use Rattle.plan_model.specs.declared.model.Outcome.{Outcome}
 use Rattle.plan_model.specs.NetworkModel.{NetworkModel}
 use Rattle.plan_model.specs.NameLists.{NameLists}
 use Rattle.plan_model.specs.Network.{connection, IsValid}
 use Rattle.plan_model.specs.Unfold.{outcomes_of}
-use Rattle.printed_rows.specs.Writers.{place_name, run_name}
-use Rattle.graph_text.proofs.Fields.{eight}
 use Rattle.printed_rows.proofs.Lines.{split_at, text_step}
 use Rattle.trip_replay.specs.declared.Ridden.{Ridden}
 use Rattle.trip_replay.specs.Rides.{IsRide, arrival_after, place_after}
@@ -50,26 +46,6 @@ module _ (n : NetworkModel) (valid : IsValid n) where
   places source (r ∷ rides) inside all =
       let is = All-head (IsRide n) r rides all in
       places (connection n r.leg.exit.0).to.0 rides (valid.connections r.leg.exit.0 is.is_leg.exit).to_in (All-tail (IsRide n) r rides all)
-
--- the fields of a ride, from its connections
-pub ride_fields : (n : NetworkModel) (names : NameLists) (r : Ridden) (enter exit : Connection) (kind run from dep to arr delay arrival : List ℕ)
-    → enter ≡ connection n r.leg.enter.0 → exit ≡ connection n r.leg.exit.0
-    → kind ≡ codes "ride" → run ≡ run_name names enter.run.0 → from ≡ place_name names enter.from.0 → dep ≡ moment_text enter.dep.0
-    → to ≡ place_name names exit.to.0 → arr ≡ moment_text exit.arr.0 → delay ≡ decimal r.delay → arrival ≡ moment_text r.arrival.0
-    → ◌≡◌ {A = List (List ℕ)} (kind ∷ run ∷ from ∷ dep ∷ to ∷ arr ∷ delay ∷ arrival ∷ [])
-    (codes "ride" ∷ run_name names (connection n r.leg.enter.0).run.0 ∷ place_name names (connection n r.leg.enter.0).from.0 ∷ moment_text (connection n r.leg.enter.0).dep.0
-    ∷ place_name names (connection n r.leg.exit.0).to.0 ∷ moment_text (connection n r.leg.exit.0).arr.0 ∷ decimal r.delay ∷ moment_text r.arrival.0 ∷ [])
-ride_fields n names r enter exit kind run from dep to arr delay arrival at_enter at_exit a b c d e f g h =
-    eight kind run from dep to arr delay arrival _ _ _ _ _ _ _ _ a
-    (b ∙ ap (λ (k : Connection). run_name names k.run.0) at_enter)
-    (c ∙ ap (λ (k : Connection). place_name names k.from.0) at_enter)
-    (d ∙ ap (λ (k : Connection). moment_text k.dep.0) at_enter)
-    (e ∙ ap (λ (k : Connection). place_name names k.to.0) at_exit)
-    (f ∙ ap (λ (k : Connection). moment_text k.arr.0) at_exit)
-    g h
-
-pub six : (a b c d e f a' b' c' d' e' f' : List ℕ) → a ≡ a' → b ≡ b' → c ≡ c' → d ≡ d' → e ≡ e' → f ≡ f' → ◌≡◌ {A = List (List ℕ)} (a ∷ b ∷ c ∷ d ∷ e ∷ f ∷ []) (a' ∷ b' ∷ c' ∷ d' ∷ e' ∷ f' ∷ [])
-six a b c d e f a' b' c' d' e' f' = λ one two three four five last. cc
 
 -- after one ride more
 pub rides_step : (n : NetworkModel) (names : NameLists) (rides : List Ridden) (i : ℕ) (d : Ridden) (new old all : List ℕ) → i < length rides

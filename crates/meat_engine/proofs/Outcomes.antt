@@ -5,21 +5,16 @@ use Rattle.std.proofs.lemmas.Option.{same_Some}
 use Rattle.std.specs.Io.KnownBytes.{Keeps}
 use Rattle.file_ports.specs.Ports.{FileMap}
 use Rattle.csv_rows.specs.declared.limits.Limits.{Limits}
-use Rattle.command_line.specs.declared.job.WordsFault.{WordsFault}
 use Rattle.command_line.specs.Jobs.{WantedAsk, Safe, Expand, Plan, Replay as Replays, Certify, CheckProof, CheckGraph, Punctual, Departures, Latest, Wanted, Ask, Sample, job_of}
-use Rattle.plan_model.specs.declared.model.ConnectionId.{ConnectionId}
-use Rattle.plan_model.specs.declared.model.Moment.{Moment}
-use Rattle.plan_model.specs.declared.model.PlaceId.{PlaceId}
-use Rattle.trip_replay.specs.declared.ReplayFault.{ReplayFault}
 use Rattle.journey_model.specs.declared.faults.Input.{Input}
 use Rattle.journey_model.specs.declared.faults.Input.TheVariants as input
 use Rattle.journey_model.specs.declared.faults.LimitKind.{LimitKind}
 use Rattle.journey_model.specs.declared.faults.LimitKind.TheVariants.{Bytes}
 use Rattle.journey_model.specs.declared.faults.Fault.{Fault}
-use Rattle.journey_model.specs.declared.faults.Fault.TheVariants.{Words, Missing, Limit, Read, Replay, ProofFails, Unsafe, Write, NoSafe, NoMemory}
+use Rattle.journey_model.specs.declared.faults.Fault.TheVariants.{Missing, Limit, Read, Write, NoMemory}
 use Rattle.fault_lines.specs.Lines.{line_of, IsFormatted}
 use Rattle.journey_model.specs.Sites.{NamedParts}
-use Rattle.journey_model.specs.Stages.{stage_of_input, stage_of_limit, AtOutput, AtGraphFile, AtProofFile}
+use Rattle.journey_model.specs.Stages.{stage_of_input, stage_of_limit}
 use Rattle.journey_model.specs.declared.problem.Problem.{Problem}
 use Rattle.journey_report.specs.declared.report.Report.{Report}
 use Rattle.meat_engine.specs.Asks.{FailsAsk}
@@ -49,10 +44,6 @@ refused_ending _ other = refl
 pub no_memory_or_not : (fault : Fault) → (fault ≡ NoMemory) ⊎ (fault ≢ NoMemory)
 no_memory_or_not NoMemory = inl refl
 no_memory_or_not _ = inr (λ same. absurd (cc))
-
-write_or_not : (fault : Fault) → (fault ≡ Write) ⊎ (fault ≢ Write)
-write_or_not Write = inl refl
-write_or_not _ = inr (λ same. absurd (cc))
 
 module _ (told : Option FileMap) (limits : Limits) (words : List (List ℕ)) where
   -- what is asked does not fail because its answer cannot be written
@@ -110,17 +101,10 @@ module _ (told : Option FileMap) (limits : Limits) (words : List (List ℕ)) whe
       → Outcome told limits words report old new IsLine found
   answered_outcome wanted answer report text old new IsLine None is same answers written tells =
       (text, (wanted, is, subst (λ (f : Findings). AnswersJob told limits wanted f text) (sym same) answers), written)
-  answered_outcome wanted answer report text old new IsLine (Some fault) is same answers written tells =
-      ⊎_elim
-      (λ (write : fault ≡ Write). subst (λ (f : Fault). IsWritten old new text (Some f) → ((known : Option NamedParts) → Some f ≡ Some Write → IsLine (line_of known Write))
-      → Outcome told limits words report old new IsLine (Some f)) (sym write) torn written tells)
-      (λ (other : fault ≢ Write). absurd (subst (λ (e : Ending). IsWrittenBy e old new text) (refused_ending fault other) written))
-      (write_or_not fault)
-    where
-      torn : IsWritten old new text (Some Write) → ((known : Option NamedParts) → ◌≡◌ {A = Option Fault} (Some Write) (Some Write) → IsLine (line_of known Write))
-          → Outcome told limits words report old new IsLine (Some Write)
-      torn front line =
-          ((text, (wanted, is, subst (λ (f : Findings). AnswersJob told limits wanted f text) (sym same) answers), front), λ known. line known refl)
+  answered_outcome wanted answer report text old new IsLine (Some Write) is same answers written tells =
+      ((text, (wanted, is, subst (λ (f : Findings). AnswersJob told limits wanted f text) (sym same) answers), written), λ known. tells known refl)
+  answered_outcome wanted answer report text old new IsLine (Some other) is same answers written tells =
+      absurd (subst (λ (e : Ending). IsWrittenBy e old new text) (refused_ending other (λ write. absurd (cc))) written)
 
 module _ (before after : Option (List ℕ)) (was now : ℕ) (known : Option NamedParts) where
   pub refused_some : (wanted : Fault) (found : Option Fault) → IsRefusedWith before after was now known wanted found → found ≡ None → ⊥

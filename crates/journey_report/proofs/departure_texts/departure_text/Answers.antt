@@ -1,30 +1,25 @@
-use Rattle.std.proofs.Common.{◌≡◌, ℕ, List, [], ◌∷◌, ap, subst, ◌∙◌, arith}
-use Rattle.std.specs.Prelude.{IfOk, codes, decimal}
-use Rattle.csv.specs.Writing.{default_writer, row_text}
-use Rattle.clock_text.specs.Civil.{moment_text, nanos_text}
+use Rattle.std.proofs.Common.{[], ◌∷◌, ap, ◌∙◌, arith}
+use Rattle.std.specs.Prelude.{decimal}
+use Rattle.clock_text.specs.Civil.{nanos_text}
 use Rattle.plan_model.specs.declared.model.Connection.{Connection}
-use Rattle.plan_model.specs.Network.{run_of, step_of}
 use Rattle.printed_rows.proofs.Connections.{run_named}
 use Rattle.printed_rows.proofs.Lines.{name_is}
 use Rattle.printed_rows.specs.Writers.{run_name}
 use Rattle.journey_report.specs.DepartureTexts.{departure_text}
+use Rattle.journey_report.proofs.RowLemmas.{row-of}
 use Rattle.journey_report.proofs.departure_texts.departure_text.Goals as goal
 
 pub returns : goal.returns
 unfolding departure_text
 returns c =
-    let n = c.args.network.now in
-    let r = c.args.departure.now in
-    let head = c.as_slice.ensures in
+    let names = c.args.names.now in
     let by = c.as_slice-2.ensures ∙ c.write_moment-by.ensures.text in
-    let run = c.as_bytes.ensures.value ∙ name_is c.args.names.now.runs c.get-enter.result.run.0 c.run_name.result.now c.run_name.ensures.name
-    ∙ ap (λ (k : Connection). run_name c.args.names.now k.run.0) c.get-enter.ensures.connection in
+    let run = c.as_bytes.ensures.value ∙ name_is names.runs c.get-enter.result.run.0 c.run_name.result.now c.run_name.ensures.name
+    ∙ ap (λ (k : Connection). run_name names k.run.0) c.get-enter.ensures.connection in
     let step = c.as_bytes-2.ensures.value ∙ c.format.ensures.text ∙ ap (λ (k : Connection). decimal k.step) c.get-enter.ensures.connection in
     let lower = c.as_slice-3.ensures ∙ c.write_nanos-lower.ensures.text ∙ ap nanos_text c.lo.ensures.lo in
     let upper = c.as_slice-4.ensures ∙ c.write_nanos-upper.ensures.text ∙ ap nanos_text c.hi.ensures in
-    let fields : c.as_slice.result.now ∷ c.as_slice-2.result.now ∷ c.as_bytes.result.now ∷ c.as_bytes-2.result.now ∷ c.as_slice-3.result.now ∷ c.as_slice-4.result.now ∷ []
-    ≡ codes "row" ∷ moment_text r.by.0 ∷ run_name c.args.names.now (run_of n r.leg.enter.0) ∷ decimal (step_of n r.leg.enter.0) ∷ nanos_text r.bounds.lo ∷ nanos_text r.bounds.hi ∷ [] = (cc) in
-    subst (λ (fields : List (List ℕ)). IfOk c.row.result (λ text. text.items ≡ row_text default_writer fields)) fields c.row.ensures
+    row-of c.row.result c.row.ensures (λ i. c.as_slice.ensures i ∷ by i ∷ run i ∷ step i ∷ lower i ∷ upper i ∷ [])
 
 pub run_name-requires : goal.run_name-requires
 run_name-requires c =

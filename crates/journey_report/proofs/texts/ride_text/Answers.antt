@@ -1,11 +1,12 @@
-use Rattle.std.proofs.Common.{ℕ, ◌<◌, List, length, ◌∙◌, sym, subst, ◌≡◌}
-use Rattle.std.specs.Prelude.{IfOk}
-use Rattle.csv.specs.Writing.{default_writer, row_text}
+use Rattle.std.proofs.Common.{ℕ, ◌<◌, [], ◌∷◌, length, ap, ◌∙◌, sym, subst}
+use Rattle.clock_text.specs.Civil.{moment_text}
+use Rattle.printed_rows.specs.Writers.{place_name, run_name}
 use Rattle.plan_model.specs.declared.model.Connection.{Connection}
 use Rattle.printed_rows.proofs.Connections.{dep_printable, arr_printable}
 use Rattle.printed_rows.proofs.Lines.{name_is}
 use Rattle.journey_report.specs.Texts.{ride_text}
-use Rattle.journey_report.proofs.TextLemmas.{ride_arrival, ride_fields}
+use Rattle.journey_report.proofs.RowLemmas.{row-of}
+use Rattle.journey_report.proofs.TextLemmas.{ride_arrival}
 use Rattle.journey_report.proofs.texts.ride_text.Goals as goal
 
 pub write_moment-arrival-requires : goal.write_moment-arrival-requires
@@ -38,15 +39,16 @@ place_name-requires-2 c =
 pub returns : goal.returns
 unfolding ride_text
 returns c =
-    let fields = ride_fields c.args.network.now c.args.names.now c.args.ride.now c.get-enter.result c.get-exit.result
-    c.as_slice.result.now c.as_bytes.result.now c.as_bytes-2.result.now c.as_slice-2.result.now c.as_bytes-3.result.now c.as_slice-3.result.now c.as_bytes-4.result.now c.as_slice-4.result.now
-    c.get-enter.ensures.connection c.get-exit.ensures.connection
-    c.as_slice.ensures
-    (c.as_bytes.ensures.value ∙ name_is c.args.names.now.runs c.get-enter.result.run.0 c.run_name.result.now c.run_name.ensures.name)
-    (c.as_bytes-2.ensures.value ∙ name_is c.args.names.now.places c.get-enter.result.from.0 c.place_name.result.now c.place_name.ensures.name)
-    (c.as_slice-2.ensures ∙ c.write_moment-dep.ensures.text)
-    (c.as_bytes-3.ensures.value ∙ name_is c.args.names.now.places c.get-exit.result.to.0 c.place_name-2.result.now c.place_name-2.ensures.name)
-    (c.as_slice-3.ensures ∙ c.write_moment-arr.ensures.text)
-    (c.as_bytes-4.ensures.value ∙ c.format.ensures.text)
-    (c.as_slice-4.ensures ∙ c.write_moment-arrival.ensures.text) in
-    subst (λ (list : List (List ℕ)). IfOk c.row.result (λ text. text.items ≡ row_text default_writer list)) fields c.row.ensures
+    let names = c.args.names.now in
+    let enter = c.get-enter.ensures.connection in
+    let exit = c.get-exit.ensures.connection in
+    let run = c.as_bytes.ensures.value ∙ name_is names.runs c.get-enter.result.run.0 c.run_name.result.now c.run_name.ensures.name ∙ ap (λ (k : Connection). run_name names k.run.0) enter in
+    let from = c.as_bytes-2.ensures.value ∙ name_is names.places c.get-enter.result.from.0 c.place_name.result.now c.place_name.ensures.name
+    ∙ ap (λ (k : Connection). place_name names k.from.0) enter in
+    let dep = c.as_slice-2.ensures ∙ c.write_moment-dep.ensures.text ∙ ap (λ (k : Connection). moment_text k.dep.0) enter in
+    let to = c.as_bytes-3.ensures.value ∙ name_is names.places c.get-exit.result.to.0 c.place_name-2.result.now c.place_name-2.ensures.name
+    ∙ ap (λ (k : Connection). place_name names k.to.0) exit in
+    let arr = c.as_slice-3.ensures ∙ c.write_moment-arr.ensures.text ∙ ap (λ (k : Connection). moment_text k.arr.0) exit in
+    let delay = c.as_bytes-4.ensures.value ∙ c.format.ensures.text in
+    let arrival = c.as_slice-4.ensures ∙ c.write_moment-arrival.ensures.text in
+    row-of c.row.result c.row.ensures (λ i. c.as_slice.ensures i ∷ run i ∷ from i ∷ dep i ∷ to i ∷ arr i ∷ delay i ∷ arrival i ∷ [])

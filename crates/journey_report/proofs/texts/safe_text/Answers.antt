@@ -1,19 +1,13 @@
-use Rattle.std.proofs.Common.{◌≡◌, ℕ, List, [], ◌∷◌, subst, ◌∙◌}
-use Rattle.std.specs.Prelude.{IfOk, codes}
-use Rattle.csv.specs.Writing.{default_writer, row_text}
-use Rattle.clock_text.specs.Civil.{moment_text}
+use Rattle.std.proofs.Common.{[], ◌∷◌, ◌∙◌}
 use Rattle.journey_report.specs.Texts.{safe_text}
+use Rattle.journey_report.proofs.RowLemmas.{row-of}
 use Rattle.journey_report.proofs.texts.safe_text.Goals as goal
 
 pub returns : goal.returns
 unfolding safe_text
 returns c =
-    let head = c.as_slice.ensures in
-    let source = c.as_bytes.ensures.value in
-    let target = c.as_bytes-2.ensures.value in
     let start = c.as_slice-2.ensures ∙ c.write_moment-start.ensures.text in
     let worst = c.as_slice-3.ensures ∙ c.write_moment-worst.ensures.text in
     let deadline = c.as_slice-4.ensures ∙ c.write_moment-deadline.ensures.text in
-    let fields : c.as_slice.result.now ∷ c.as_bytes.result.now ∷ c.as_bytes-2.result.now ∷ c.as_slice-2.result.now ∷ c.as_slice-3.result.now ∷ c.as_slice-4.result.now ∷ []
-    ≡ codes "safe" ∷ c.args.source.now ∷ c.args.target.now ∷ moment_text c.args.query.now.start.0 ∷ moment_text c.args.worst.0 ∷ moment_text c.args.query.now.deadline.0 ∷ [] = (cc) in
-    subst (λ (fields : List (List ℕ)). IfOk c.row.result (λ text. text.items ≡ row_text default_writer fields)) fields c.row.ensures
+    row-of c.row.result c.row.ensures
+    (λ i. c.as_slice.ensures i ∷ c.as_bytes.ensures.value i ∷ c.as_bytes-2.ensures.value i ∷ start i ∷ worst i ∷ deadline i ∷ [])

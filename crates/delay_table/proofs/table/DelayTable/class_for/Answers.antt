@@ -33,4 +33,5 @@ pub returns-in-None-clause-class : goal.returns-in-None-clause-class
 returns-in-None-clause-class c =
     c.default_class.ensures.class
     ∙ class-is c.args.self.now c.class_type-class.result (class_type c.args.class) (option_map (λ s. s.now) c.args.route) c.hour_of.result c.args.arrival.0
-    c.class_type-class.ensures c.hour_of.ensures c.in_default.ensures.class c.in_default-route_class.ensures.class c.in_default-other_class.ensures.class c.in_default-type_class.ensures.class c.in-None.ensures.class
+    c.class_type-class.ensures c.hour_of.ensures c.in_default.ensures.class c.in_default-route_class.ensures.class c.in_default-other_class.ensures.class c.in_default-type_class.ensures.class
+    c.in-None.ensures.class
