@@ -30,11 +30,11 @@ ask_shown (ask.Punctual alpha promise) = Punctual alpha promise.0
 ask_shown (ask.Departures until last) = Departures until.0 last.0
 ask_shown (ask.Latest until) = Latest until.0
 
-abbrev pub shown : Job → Wanted
-shown (job.Journey j a) = Asks (journey_shown j) (ask_shown a)
-shown (job.Sample size) = Sample size
+abbrev pub wanted_job : Job → Wanted
+wanted_job (job.Journey j a) = Asks (journey_shown j) (ask_shown a)
+wanted_job (job.Sample size) = Sample size
 
 -- an answer by what it says
 abbrev pub answer_shown : Result Job WordsFault → Result Wanted WordsFault
-answer_shown (Ok job) = Ok (shown job)
+answer_shown (Ok job) = Ok (wanted_job job)
 answer_shown (Err fault) = Err fault

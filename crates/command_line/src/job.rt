@@ -3,7 +3,7 @@ ghost use Rattle.std.specs.Prelude.{◌≡◌, ◌≤◌, ◌+◌, map, string_b
 ghost use Rattle.command_line.specs.Jobs.{promise_of, later_of, alpha_of, horizon_of, size_of, timetable_of, journey_of, check_of, ask_of, wanted_of, job_of};
 ghost use Rattle.command_line.specs.Ranges.{HasHorizon, IsJourney, IsAsk, IsJob};
 ghost use Rattle.command_line.specs.Settings.{value_of};
-ghost use Rattle.command_line.specs.Shown.{timetable_shown, journey_shown, ask_shown, shown, answer_shown};
+ghost use Rattle.command_line.specs.Shown.{timetable_shown, journey_shown, ask_shown, wanted_job, answer_shown};
 ghost use Rattle.command_line.specs.Values.{start_of, number_at, last_until, longest_promise, least_alpha, most_alpha, least_horizon, most_horizon, least_size, most_size};
 
 use crate::options::{Command, OptionName};
@@ -136,7 +136,7 @@ fn size_of(settings: &[String]) -> u32
 
 /// Where the connections come from.
 fn timetable_of(settings: &[String]) -> Timetable<'_>
-    ensures shown { timetable_shown result ≡ timetable_of (map string_bytes settings.now) }
+    ensures wanted_job { timetable_shown result ≡ timetable_of (map string_bytes settings.now) }
     ensures horizon { HasHorizon (timetable_shown result) }
 {
     match value_of(settings, OptionName::Feed) {
@@ -147,7 +147,7 @@ fn timetable_of(settings: &[String]) -> Timetable<'_>
 
 /// The journey of a command.
 fn journey_of(settings: &[String]) -> Journey<'_>
-    ensures shown { journey_shown result ≡ journey_of (map string_bytes settings.now) }
+    ensures wanted_job { journey_shown result ≡ journey_of (map string_bytes settings.now) }
     ensures in_range { IsJourney (journey_shown result) }
 {
     Journey {
@@ -234,8 +234,8 @@ fn ask_of(command: Command, settings: &[String]) -> Option<Ask<'_>>
 
 /// What a command with these settings asks for.
 fn job_of(command: Command, settings: &[String]) -> Job<'_>
-    ensures wanted { shown result ≡ wanted_of command (map string_bytes settings.now) }
-    ensures in_range { IsJob (shown result) }
+    ensures wanted { wanted_job result ≡ wanted_of command (map string_bytes settings.now) }
+    ensures in_range { IsJob (wanted_job result) }
 {
     match ask_of(command, settings) {
         None => Job::Sample(size_of(settings)),
@@ -246,7 +246,7 @@ fn job_of(command: Command, settings: &[String]) -> Job<'_>
 /// What the words ask for, or the first reason why they are refused.
 pub fn read_job(words: &[String]) -> Result<Job<'_>, WordsFault>
     ensures job { answer_shown result ≡ job_of (map string_bytes words.now) }
-    ensures in_range { IfOk result (λ job. IsJob (shown job)) }
+    ensures in_range { IfOk result (λ job. IsJob (wanted_job job)) }
 {
     let [name, settings @ ..] = words else {
         return Err(WordsFault::Line);

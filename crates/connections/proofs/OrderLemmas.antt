@@ -12,7 +12,7 @@ use Rattle.std.proofs.lemmas.List.Sorted.{sorted_far, sum_by-IsPermutation}
 use Rattle.std.proofs.lemmas.List.Sums.{sum_by-cons, sum_by-le}
 use Rattle.plan_model.proofs.Lists.{AllPairs-first, AllPairs-tail}
 use Rattle.connections.specs.declared.repeats.Repeat.{Repeat}
-use Rattle.connections.specs.Repeats.{repeat_precedes, placed, in_order}
+use Rattle.connections.specs.Repeats.{repeat_precedes, with_repeat, in_order}
 
 -- the order of the program is that of the definition
 abbrev pub repeat_cmp : Repeat → Repeat → Ordering
@@ -90,20 +90,20 @@ cons_sorted x xs first up (suc k) d low high =
 first_of : (x : Repeat) (xs : List Repeat) → IsSortedBy repeat_precedes (x ∷ xs) → FirstNot x xs
 first_of x xs up d some = let e : 0 + 1 ≡ suc zero = omega arith in let t = up 0 d (omega arith) (omega arith) in rw e at t
 
-first_placed : (x r : Repeat) (xs : List Repeat) → repeat_precedes r x ≡ false → FirstNot x xs → FirstNot x (placed r xs)
+first_placed : (x r : Repeat) (xs : List Repeat) → repeat_precedes r x ≡ false → FirstNot x xs → FirstNot x (with_repeat r xs)
 first_placed x r [] h first d some = h
 first_placed x r (y ∷ ys) h first d some =
-    elim (repeat_precedes y r) as (λ b. repeat_precedes (get_or (if b then y ∷ placed r ys else r ∷ y ∷ ys) 0 d) x ≡ false) [
+    elim (repeat_precedes y r) as (λ b. repeat_precedes (get_or (if b then y ∷ with_repeat r ys else r ∷ y ∷ ys) 0 d) x ≡ false) [
       | true ↦ first d (omega arith)
       | false ↦ h
     ]
 
-placed_by : (r x : Repeat) (xs : List Repeat) (b : Bool) → b ≡ repeat_precedes x r → IsSortedBy repeat_precedes (x ∷ xs) → IsSortedBy repeat_precedes (placed r xs)
-    → IsSortedBy repeat_precedes (if b then x ∷ placed r xs else r ∷ x ∷ xs)
-placed_by r x xs true e up rest = cons_sorted x (placed r xs) (first_placed x r xs (order.one_way x r (sym e)) (first_of x xs up)) rest
+placed_by : (r x : Repeat) (xs : List Repeat) (b : Bool) → b ≡ repeat_precedes x r → IsSortedBy repeat_precedes (x ∷ xs) → IsSortedBy repeat_precedes (with_repeat r xs)
+    → IsSortedBy repeat_precedes (if b then x ∷ with_repeat r xs else r ∷ x ∷ xs)
+placed_by r x xs true e up rest = cons_sorted x (with_repeat r xs) (first_placed x r xs (order.one_way x r (sym e)) (first_of x xs up)) rest
 placed_by r x xs false e up rest = cons_sorted r (x ∷ xs) (λ d some. sym e) up
 
-placed_sorted : (r : Repeat) (xs : List Repeat) → IsSortedBy repeat_precedes xs → IsSortedBy repeat_precedes (placed r xs)
+placed_sorted : (r : Repeat) (xs : List Repeat) → IsSortedBy repeat_precedes xs → IsSortedBy repeat_precedes (with_repeat r xs)
 placed_sorted r [] up = λ k d low high. absurd (omega arith)
 placed_sorted r (x ∷ xs) up = placed_by r x xs (repeat_precedes x r) refl up (placed_sorted r xs (rest_sorted x xs up))
 
@@ -111,11 +111,11 @@ in_order_sorted : (rs : List Repeat) → IsSortedBy repeat_precedes (in_order rs
 in_order_sorted [] = λ k d low high. absurd (omega arith)
 in_order_sorted (r ∷ rs) = placed_sorted r (in_order rs) (in_order_sorted rs)
 
-placed_sum : (g : Repeat → ℕ) (r : Repeat) (xs : List Repeat) → sum_by g (placed r xs) ≡ g r + sum_by g xs
+placed_sum : (g : Repeat → ℕ) (r : Repeat) (xs : List Repeat) → sum_by g (with_repeat r xs) ≡ g r + sum_by g xs
 placed_sum g r [] = sum_by-cons g r []
 placed_sum g r (x ∷ xs) =
-    elim (repeat_precedes x r) as (λ b. sum_by g (if b then x ∷ placed r xs else r ∷ x ∷ xs) ≡ g r + sum_by g (x ∷ xs)) [
-      | true ↦ omega (arith, sum_by-cons g x (placed r xs), sum_by-cons g x xs, placed_sum g r xs)
+    elim (repeat_precedes x r) as (λ b. sum_by g (if b then x ∷ with_repeat r xs else r ∷ x ∷ xs) ≡ g r + sum_by g (x ∷ xs)) [
+      | true ↦ omega (arith, sum_by-cons g x (with_repeat r xs), sum_by-cons g x xs, placed_sum g r xs)
       | false ↦ sum_by-cons g r (x ∷ xs)
     ]
 
@@ -128,28 +128,28 @@ in_order_sum g (r ∷ rs) = omega (arith, placed_sum g r (in_order rs), in_order
 pub in_order_is : (rs ys : List Repeat) → IsPermutation rs ys → IsSorted repeat_cmp ys → ys ≡ in_order rs
 in_order_is rs ys moved up = one_order ys (in_order rs) (sorted ys up) (in_order_sorted rs) (λ g. sum_by-IsPermutation g rs ys moved ∙ sym (in_order_sum g rs))
 
-All-placed : (P : Repeat → Type 0) (r : Repeat) (xs : List Repeat) → P r → All P xs → All P (placed r xs)
-All-placed P r [] h all = All-cons P r [] h all
-All-placed P r (x ∷ xs) h all =
-    elim (repeat_precedes x r) as (λ b. All P (if b then x ∷ placed r xs else r ∷ x ∷ xs)) [
-      | true ↦ All-cons P x (placed r xs) (All-head P x xs all) (All-placed P r xs h (All-tail P x xs all))
+All-with_repeat : (P : Repeat → Type 0) (r : Repeat) (xs : List Repeat) → P r → All P xs → All P (with_repeat r xs)
+All-with_repeat P r [] h all = All-cons P r [] h all
+All-with_repeat P r (x ∷ xs) h all =
+    elim (repeat_precedes x r) as (λ b. All P (if b then x ∷ with_repeat r xs else r ∷ x ∷ xs)) [
+      | true ↦ All-cons P x (with_repeat r xs) (All-head P x xs all) (All-with_repeat P r xs h (All-tail P x xs all))
       | false ↦ All-cons P r (x ∷ xs) h all
     ]
 
 pub All-in_order : (P : Repeat → Type 0) (rs : List Repeat) → All P rs → All P (in_order rs)
 All-in_order P [] all = all
-All-in_order P (r ∷ rs) all = All-placed P r (in_order rs) (All-head P r rs all) (All-in_order P rs (All-tail P r rs all))
+All-in_order P (r ∷ rs) all = All-with_repeat P r (in_order rs) (All-head P r rs all) (All-in_order P rs (All-tail P r rs all))
 
 -- two that differ
 abbrev pub Differ : Repeat → Repeat → Type 0
 Differ a b = a ≡ b → ⊥
 
-pairs_placed : (r : Repeat) (xs : List Repeat) → All (Differ r) xs → AllPairs Differ xs → AllPairs Differ (placed r xs)
+pairs_placed : (r : Repeat) (xs : List Repeat) → All (Differ r) xs → AllPairs Differ xs → AllPairs Differ (with_repeat r xs)
 pairs_placed r [] all p = AllPairs-cons Differ r [] all p
 pairs_placed r (x ∷ xs) all p =
-    elim (repeat_precedes x r) as (λ b. AllPairs Differ (if b then x ∷ placed r xs else r ∷ x ∷ xs)) [
+    elim (repeat_precedes x r) as (λ b. AllPairs Differ (if b then x ∷ with_repeat r xs else r ∷ x ∷ xs)) [
       | true ↦
-          AllPairs-cons Differ x (placed r xs) (All-placed (Differ x) r xs (λ e. All-head (Differ r) x xs all (sym e)) (AllPairs-first Differ x xs p))
+          AllPairs-cons Differ x (with_repeat r xs) (All-with_repeat (Differ x) r xs (λ e. All-head (Differ r) x xs all (sym e)) (AllPairs-first Differ x xs p))
           (pairs_placed r xs (All-tail (Differ r) x xs all) (AllPairs-tail Differ x xs p))
       | false ↦ AllPairs-cons Differ r (x ∷ xs) all p
     ]

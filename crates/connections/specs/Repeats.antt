@@ -38,11 +38,11 @@ abbrev pub repeat_precedes : Repeat → Repeat → Bool
 repeat_precedes a b = nat_lt a.departure b.departure || (a.departure == b.departure && nat_lt a.line b.line)
 
 -- after those that precede it
-abbrev pub placed : Repeat → List Repeat → List Repeat
-placed r [] = r ∷ []
-placed r (x ∷ xs) = if repeat_precedes x r then x ∷ placed r xs else r ∷ x ∷ xs
+abbrev pub with_repeat : Repeat → List Repeat → List Repeat
+with_repeat r [] = r ∷ []
+with_repeat r (x ∷ xs) = if repeat_precedes x r then x ∷ with_repeat r xs else r ∷ x ∷ xs
 
 -- in the order of their departures, and where these are equal of their lines
 abbrev pub in_order : List Repeat → List Repeat
 in_order [] = []
-in_order (r ∷ rs) = placed r (in_order rs)
+in_order (r ∷ rs) = with_repeat r (in_order rs)

@@ -7,7 +7,7 @@ use Rattle.csv.specs.declared.parser.State.{State}
 use Rattle.csv.specs.declared.parser.State.TheVariants as st
 use Rattle.csv_rows.specs.NextField.{IsRecord}
 use Rattle.csv_rows.specs.Records.{records_in}
-use Rattle.csv_rows.specs.Spaces.{trimmed}
+use Rattle.csv_rows.specs.Spaces.{trimmed_text}
 use Rattle.csv_rows.proofs.ReachedRecords.{takes}
 
 one_turn : (cfg : Config) (n : ℕ) (s : State) (xs : List ℕ) → records_from cfg (suc n) s xs ≡ records_next (records_from cfg n) (next_record cfg s [] [] xs)
@@ -56,10 +56,10 @@ first_record text after fields r =
 no_record : (text : List ℕ) → next_record default_config st.StartRecord [] [] text ≡ None → records default_config text ≡ []
 no_record text h = all_turns text ∙ one_turn default_config (length text) st.StartRecord text ∙ ap (records_next (records_from default_config (length text))) h
 
-pub records_first : (text after : List ℕ) (raw : List (List ℕ)) → IsRecord text raw after → records_in text ≡ map trimmed raw ∷ records_in after
+pub records_first : (text after : List ℕ) (raw : List (List ℕ)) → IsRecord text raw after → records_in text ≡ map trimmed_text raw ∷ records_in after
 unfolding records_in
-records_first text after raw r = ap (map (λ (row : List (List ℕ)). map trimmed row)) (first_record text after raw r)
+records_first text after raw r = ap (map (λ (row : List (List ℕ)). map trimmed_text row)) (first_record text after raw r)
 
 pub records_none : (text : List ℕ) → next_record default_config st.StartRecord [] [] text ≡ None → records_in text ≡ []
 unfolding records_in
-records_none text h = ap (map (λ (row : List (List ℕ)). map trimmed row)) (no_record text h)
+records_none text h = ap (map (λ (row : List (List ℕ)). map trimmed_text row)) (no_record text h)

@@ -5,7 +5,7 @@ use Rattle.std.proofs.lemmas.Bool.Decides.{nat_tests}
 use Rattle.std.proofs.lemmas.List.{reverse-append, reverse-reverse}
 use Rattle.std.proofs.Math.Seq.{take-append-add, take-append_seam}
 use Rattle.plan_model.specs.NameLists.{IsTrimmed}
-use Rattle.csv_rows.specs.Spaces.{drop_spaces, trimmed, AreTrimmed}
+use Rattle.csv_rows.specs.Spaces.{drop_spaces, trimmed_text, AreTrimmed}
 use Rattle.csv_rows.specs.Tables.{field_at}
 
 not_space : (b : ℕ) → (b == 32) ≡ false → b ≡ 32 → ⊥
@@ -44,14 +44,14 @@ trimmed_end : (turned rest : List ℕ) → ((more : List ℕ) → turned ≡ 32 
 trimmed_end turned rest first h =
     first (reverse rest) (sym (reverse-reverse turned) ∙ ap reverse h ∙ reverse-append rest (32 ∷ []))
 
-pub IsTrimmed-trimmed : (field : List ℕ) → IsTrimmed (trimmed field)
-IsTrimmed-trimmed field = record {
+pub IsTrimmed-trimmed_text : (field : List ℕ) → IsTrimmed (trimmed_text field)
+IsTrimmed-trimmed_text field = record {
   start = λ rest. trimmed_start (drop_spaces field) rest (drop_spaces-start field);
   end = λ rest. trimmed_end (drop_spaces (reverse (drop_spaces field))) rest (drop_spaces-start (reverse (drop_spaces field)));
 }
 
 pub IsTrimmed-nil : IsTrimmed []
-IsTrimmed-nil = IsTrimmed-trimmed []
+IsTrimmed-nil = IsTrimmed-trimmed_text []
 
 drop_none : (field : List ℕ) → ((rest : List ℕ) → field ≡ 32 ∷ rest → ⊥) → drop_spaces field ≡ field
 drop_none [] h = refl
@@ -61,20 +61,20 @@ drop_none (b ∷ bs) h = keep_if (b == 32) refl where
   keep_if false e = refl
 
 -- nothing is trimmed from it
-pub trimmed-IsTrimmed : (field : List ℕ) → IsTrimmed field → trimmed field ≡ field
-trimmed-IsTrimmed field t =
+pub trimmed_text-IsTrimmed : (field : List ℕ) → IsTrimmed field → trimmed_text field ≡ field
+trimmed_text-IsTrimmed field t =
     let inner : drop_spaces field ≡ field = drop_none field t.start in
     let turned : drop_spaces (reverse field) ≡ reverse field
     = drop_none (reverse field) (λ rest h. t.end (reverse rest) (sym (reverse-reverse field) ∙ ap reverse h ∙ reverse-append (32 ∷ []) rest)) in
     ap (λ xs. reverse (drop_spaces (reverse xs))) inner ∙ ap reverse turned ∙ reverse-reverse field
 
-trimmed_field : (row : List (List ℕ)) (k : ℕ) → IsTrimmed (slice_index_or (map trimmed row) k [])
+trimmed_field : (row : List (List ℕ)) (k : ℕ) → IsTrimmed (slice_index_or (map trimmed_text row) k [])
 trimmed_field [] k = IsTrimmed-nil
-trimmed_field (f ∷ fs) zero = IsTrimmed-trimmed f
+trimmed_field (f ∷ fs) zero = IsTrimmed-trimmed_text f
 trimmed_field (f ∷ fs) (suc k) = trimmed_field fs k
 
 -- the fields of a table are trimmed
-pub AreTrimmed-map : (raw : List (List (List ℕ))) → AreTrimmed (map (λ row. map trimmed row) raw)
+pub AreTrimmed-map : (raw : List (List (List ℕ))) → AreTrimmed (map (λ row. map trimmed_text row) raw)
 AreTrimmed-map [] i k = IsTrimmed-nil
 AreTrimmed-map (row ∷ rows) zero k = trimmed_field row k
 AreTrimmed-map (row ∷ rows) (suc i) k = AreTrimmed-map rows i k

@@ -5,12 +5,12 @@ use Rattle.csv.specs.Reading.{default_config, records, strip_bom}
 use Rattle.csv_rows.specs.declared.columns.Column.{Column}
 use Rattle.csv_rows.specs.Columns.{name_of}
 use Rattle.csv_rows.specs.First.{first_below}
-use Rattle.csv_rows.specs.Spaces.{trimmed}
+use Rattle.csv_rows.specs.Spaces.{trimmed_text}
 
 -- the records of a text: those of RFC 4180 as the csv crate takes them from the text without its byte-order mark, with no
 -- ASCII space round a field
 abbrev pub table_of : List ℕ → List (List (List ℕ))
-table_of text = map (λ row. map trimmed row) (records default_config (strip_bom text))
+table_of text = map (λ row. map trimmed_text row) (records default_config (strip_bom text))
 
 -- the first record names the columns
 abbrev pub header : List (List (List ℕ)) → List (List ℕ)

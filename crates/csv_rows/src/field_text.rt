@@ -4,7 +4,7 @@ ghost use Rattle.csv.specs.Machine.{Runs, next_record};
 ghost use Rattle.csv.specs.Reading.{default_config, strip_bom};
 ghost use Rattle.csv.specs.declared.parser.State.TheVariants as st;
 ghost use Rattle.csv_rows.specs.NextField.{ends_line, ends_field, GoesOn, Reads};
-ghost use Rattle.csv_rows.specs.Spaces.{drop_spaces, trimmed};
+ghost use Rattle.csv_rows.specs.Spaces.{drop_spaces, trimmed_text};
 
 use crate::spaces::{end_trimmed, start_trimmed};
 use std::alloc::AllocError;
@@ -198,7 +198,7 @@ fn rest_if_ended(text: &[u8]) -> Option<Rest<'_>>
 /// to the next quote.
 fn enclosed_field(text: &[u8]) -> Option<(&[u8], Rest<'_>)>
     ensures { IfSome result (λ read. (field : List ℕ) × Reads st.InQuoted [] text.now field read.1
-        × (read.0.now ≡ trimmed field)) }
+        × (read.0.now ≡ trimmed_text field)) }
 {
     let count = quoted_length(text);
     let after = after_quote(&text[count..])?;
@@ -210,7 +210,7 @@ fn enclosed_field(text: &[u8]) -> Option<(&[u8], Rest<'_>)>
 /// the text as it is, since it has quotes that are not only those round it.
 pub(crate) fn plain_field(text: &[u8]) -> Option<(&[u8], Rest<'_>)>
     ensures { IfSome result (λ read. (field : List ℕ) × Reads st.StartField [] text.now field read.1
-        × (read.0.now ≡ trimmed field)) }
+        × (read.0.now ≡ trimmed_text field)) }
 {
     if let Some(inside) = after_quote(text) {
         return enclosed_field(inside);
@@ -223,7 +223,7 @@ pub(crate) fn plain_field(text: &[u8]) -> Option<(&[u8], Rest<'_>)>
 /// Adds the first field of a text, with no ASCII space round it, and gives what comes after it.
 pub(crate) fn push_field<'a>(packed: &mut Vec<u8>, text: &'a [u8]) -> Result<Rest<'a>, AllocError>
     ensures field { IfOk result (λ rest. (field : List ℕ) × Reads st.StartField [] text.now field rest
-        × (packed.new.items ≡ packed.old.items ++ trimmed field)) }
+        × (packed.new.items ≡ packed.old.items ++ trimmed_text field)) }
     ensures longer { length packed.old.items ≤ length packed.new.items }
 {
     let start = packed.as_slice().len();

@@ -2,7 +2,7 @@
 ghost use Rattle.std.specs.Prelude.{◌≡◌, ℕ, List, map, IfOk, IfSome};
 ghost use Rattle.csv_rows.specs.NextField.{IsRecord};
 ghost use Rattle.csv_rows.specs.RecordFields.{bytes_of};
-ghost use Rattle.csv_rows.specs.Spaces.{trimmed};
+ghost use Rattle.csv_rows.specs.Spaces.{trimmed_text};
 
 use crate::field_text::{Rest, first_field, plain_field};
 use plan_model::NoMemory;
@@ -18,7 +18,7 @@ pub(crate) fn take_plain<'a>(
     text: &'a [u8],
 ) -> Result<Option<&'a [u8]>, NoMemory>
     ensures { IfOk result (λ o. IfSome o (λ after. (raw : List (List ℕ)) × IsRecord text.now raw after.now
-        × (bytes_of fields.new.items ≡ map trimmed raw))) }
+        × (bytes_of fields.new.items ≡ map trimmed_text raw))) }
 {
     fields.clear();
     let Some(first) = first_field(text) else {

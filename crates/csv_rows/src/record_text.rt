@@ -4,7 +4,7 @@ ghost use Rattle.csv.specs.Machine.{next_record};
 ghost use Rattle.csv.specs.Reading.{default_config};
 ghost use Rattle.csv.specs.declared.parser.State.TheVariants as st;
 ghost use Rattle.csv_rows.specs.NextField.{IsRecord};
-ghost use Rattle.csv_rows.specs.Spaces.{trimmed};
+ghost use Rattle.csv_rows.specs.Spaces.{trimmed_text};
 
 use crate::field_text::{Rest, first_field};
 use crate::fields::Fields;
@@ -16,7 +16,7 @@ pub(crate) fn push_record<'a>(
     text: &'a [u8],
 ) -> Result<Option<&'a [u8]>, AllocError>
     ensures some { IfOk result (λ o. IfSome o (λ after. (raw : List (List ℕ)) × IsRecord text.now raw after.now
-        × (fields.new ≡ fields.old ++ map trimmed raw))) }
+        × (fields.new ≡ fields.old ++ map trimmed_text raw))) }
     ensures none { IfOk result (λ o. IfNone o ((next_record default_config st.StartRecord [] [] text.now ≡ None)
         × (fields.new ≡ fields.old))) }
 {

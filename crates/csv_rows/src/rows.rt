@@ -5,7 +5,7 @@ ghost use Rattle.csv.specs.Reading.{default_config};
 ghost use Rattle.csv.specs.declared.parser.State.TheVariants as st;
 ghost use Rattle.csv_rows.specs.NextField.{IsRecord};
 ghost use Rattle.csv_rows.specs.Parts.{parts_from, Fills};
-ghost use Rattle.csv_rows.specs.Spaces.{trimmed, AreTrimmed};
+ghost use Rattle.csv_rows.specs.Spaces.{trimmed_text, AreTrimmed};
 ghost use Rattle.csv_rows.specs.Tables.{table_of, header, row_count, place_of, field_at};
 
 use crate::columns::Column;
@@ -59,7 +59,7 @@ fn push_row<'a>(
     ensures fills { OnOk result (Fills ends.new.items (length fields.new)) }
     ensures some { IfOk result (λ o. IfSome o (λ after. (raw : List (List ℕ)) × IsRecord text.now raw after.now
         × (parts_from 0 ends.new.items fields.new
-        ≡ parts_from 0 ends.old.items fields.old ++ map trimmed raw ∷ []))) }
+        ≡ parts_from 0 ends.old.items fields.old ++ map trimmed_text raw ∷ []))) }
     ensures none { IfOk result (λ o. IfNone o ((next_record default_config st.StartRecord [] [] text.now ≡ None)
         × (parts_from 0 ends.new.items fields.new ≡ parts_from 0 ends.old.items fields.old))) }
 {
@@ -79,7 +79,7 @@ fn push_row<'a>(
 /// The rows, if there is one.
 fn finished(fields: Fields, ends: Vec<u32>) -> Result<Rows, RowsFault>
     requires fills { Fills ends.items (length fields) }
-    requires trimmed { AreTrimmed (parts_from 0 ends.items fields) }
+    requires trimmed_text { AreTrimmed (parts_from 0 ends.items fields) }
     ensures rows { IfOk result (λ rows. rows ≡ parts_from 0 ends.items fields) }
     ensures header { IfOk result (λ rows. 0 < length rows) }
     ensures none { OnErr result (parts_from 0 ends.items fields ≡ []) }
@@ -154,7 +154,7 @@ impl Rows {
     pub fn count(&self) -> usize
         ensures count { result ≡ row_count self.now }
         ensures few { result < 2 ^ 62 }
-        ensures trimmed { AreTrimmed self.now }
+        ensures trimmed_text { AreTrimmed self.now }
     {
         let ends: &[u32] = &self.ends;
         ends.len().saturating_sub(1)

@@ -10,7 +10,7 @@ use Rattle.plan_model.specs.declared.model.Query.{Query}
 use Rattle.plan_model.specs.NetworkModel.{NetworkModel}
 use Rattle.plan_model.specs.Tree.{Tree, Done, Ride, Stuck}
 use Rattle.plan_model.specs.Strategy.{IsSafeFor}
-use Rattle.plan_model.specs.Unfold.{unfolded}
+use Rattle.plan_model.specs.Unfold.{unfolding_of}
 use Rattle.plan_graph.specs.Rows.{Precedes, pick_after}
 use Rattle.plan_graph.specs.Ready.{Stands}
 use Rattle.plan_graph.specs.declared.ExpandedGraph.{ExpandedGraph}
@@ -19,7 +19,7 @@ use Rattle.decision_graph.specs.Bounds.{IsBestBy}
 use Rattle.plan_model.proofs.Lists.{Contains-nil, AllPairs-nil}
 use Rattle.decision_graph.specs.Expanded.{IsExpandedBy, HasSteadyChoice}
 
-unfolds : (n : NetworkModel) (q : Query) (choice : Leg → ℕ → Option Leg) → q.source.0 ≡ q.target.0 → unfolded n q choice None ≡ Done q.start.0
+unfolds : (n : NetworkModel) (q : Query) (choice : Leg → ℕ → Option Leg) → q.source.0 ≡ q.target.0 → unfolding_of n q choice None ≡ Done q.start.0
 unfolds n q choice same =
     let test : (q.source.0 == q.target.0) ≡ true = grind (arith, nat_tests) in
     rw test refl

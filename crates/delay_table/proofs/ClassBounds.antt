@@ -4,7 +4,7 @@ use Rattle.std.specs.Prelude.{unwrap_or}
 use Rattle.std.specs.Option.{option_or}
 use Rattle.csv_rows.proofs.FirstLemmas.{first-is}
 use Rattle.delay_table.specs.DelayLists.{DelayLists, class_for, hour_class, hour_of, other_class, route_class, type_class, type_place}
-use Rattle.delay_table.specs.Groups.{Group, place_of}
+use Rattle.delay_table.specs.Groups.{Group, group_place}
 use Rattle.delay_table.specs.Slots.{AreDelays}
 use Rattle.delay_table.proofs.GroupFacts.{group-here, some_test}
 
@@ -44,7 +44,7 @@ module _ (d : DelayLists) (s : AreDelays d) where
   some = omega (arith, s.each)
 
   other-inside : (group : Group) → Inside (other_class d group)
-  other-inside group = shifted (place_of group d.others) (length d.types + 1) (length d.classes) (λ k e. omega (arith, s.each, (group-here group d.others k e).0))
+  other-inside group = shifted (group_place group d.others) (length d.types + 1) (length d.classes) (λ k e. omega (arith, s.each, (group-here group d.others k e).0))
 
   route-inside : (route : Option (List ℕ)) (hour : Option ℕ) → Inside (route_class d route hour)
   route-inside None hour = tt

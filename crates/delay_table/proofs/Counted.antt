@@ -13,7 +13,7 @@ use Rattle.delay_table.specs.declared.faults.DelayFault.{DelayFault}
 use Rattle.delay_table.specs.declared.faults.DelayFault.TheVariants.{MissingColumn, TooManyRows, GroupRows, NotRising, TooManyClasses, WeightSum, GroupSum}
 use Rattle.delay_table.specs.Bounds.{end_of_types, most_groups, most_rows}
 use Rattle.delay_table.specs.Groups.{Group, is_plain, group_in}
-use Rattle.delay_table.specs.Delays.{Line, class_name, class_rows, class_sum, fault_of, group_sum_at, groups_fault, lacks, line_at, line_fault, missing_column, named}
+use Rattle.delay_table.specs.Delays.{Line, class_name, class_rows, class_sum, fault_of, group_sum_at, groups_fault, lacks, line_at, line_fault, missing_column, route_types_below}
 use Rattle.delay_table.specs.Delays.{no_default_of, other_sum, group_outcomes, type_sum_at, delay_rises}
 
 -- a fault that tells no number of groups, or none
@@ -51,7 +51,7 @@ passes count h = grind (arith, nat_tests)
 
 pub told-count : (rows : Group → List Outcome) (groups : List Group) (line_of : ℕ → ℕ) (n : ℕ) → groups_fault rows groups line_of ≡ Some (TooManyClasses n) → (n ≡ length groups) × (most_groups < n)
 told-count rows groups line_of n h =
-    let types = named rows end_of_types in
+    let types = route_types_below rows end_of_types in
     let sums = first_below (type_sum_at rows types) (length types) in
     let lines = first_below (group_sum_at rows groups line_of) (length groups) in
     let last = no_default_of (class_rows rows None) in

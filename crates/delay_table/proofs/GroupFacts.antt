@@ -8,7 +8,7 @@ use Rattle.std.proofs.lemmas.Slice.Eq.{bytes_eq-Decides}
 use Rattle.std.specs.Option.{option_or}
 use Rattle.csv_rows.specs.First.{first_below}
 use Rattle.csv_rows.proofs.FirstLemmas.{first-at, first-is, first-none, first-same, first-suc, none-each}
-use Rattle.delay_table.specs.Groups.{Group, same_if, same_number, same_group, of_class, group_in, place_of}
+use Rattle.delay_table.specs.Groups.{Group, same_if, same_number, same_group, of_class, group_in, group_place}
 use Rattle.delay_table.specs.Read.{AreApart}
 
 pub same_if-equal : {A : Type 0} (same : A → A → Bool) → ((a b : A) → same a b ≡ true → a ≡ b) → (x y : Option A) → same_if same x y ≡ true → x ≡ y
@@ -60,8 +60,8 @@ none_test true i e = absurd (cc)
 none_test false i e = refl
 
 -- what stands at the place of a group
-pub group-here : (group : Group) (groups : List Group) (k : ℕ) → place_of group groups ≡ Some k → (k < length groups) × (group_in groups k ≡ group)
-unfolding place_of place_test
+pub group-here : (group : Group) (groups : List Group) (k : ℕ) → group_place group groups ≡ Some k → (k < length groups) × (group_in groups k ≡ group)
+unfolding group_place place_test
 group-here group groups k h =
     let w = first-is (place_test group groups) (length groups) k h in
     let t = some_test (same_group (group_in groups w.place) group) w.place k w.here in
@@ -69,19 +69,19 @@ group-here group groups k h =
     subst P t.1 (w.inside, same-equal (group_in groups w.place) group t.0)
 
 -- a group that has no place stands nowhere
-pub nowhere : (group : Group) (groups : List Group) → place_of group groups ≡ None → (k : ℕ) → k < length groups → group_in groups k ≡ group → ⊥
-unfolding place_of place_test
+pub nowhere : (group : Group) (groups : List Group) → group_place group groups ≡ None → (k : ℕ) → k < length groups → group_in groups k ≡ group → ⊥
+unfolding group_place place_test
 nowhere group groups h k l =
     false-same (group_in groups k) group (none_test (same_group (group_in groups k) group) k (none-each (place_test group groups) (length groups) h k l))
 
-pub none-place : (group : Group) (groups : List Group) → ((k : ℕ) → k < length groups → group_in groups k ≡ group → ⊥) → place_of group groups ≡ None
-unfolding place_of place_test
+pub none-place : (group : Group) (groups : List Group) → ((k : ℕ) → k < length groups → group_in groups k ≡ group → ⊥) → group_place group groups ≡ None
+unfolding group_place place_test
 none-place group groups h =
     first-none (place_test group groups) (length groups) (λ k l. ap (λ b. if b then Some k else None) (same-false (group_in groups k) group (h k l)))
 
 -- the first place at which it stands
-pub place-first : (group : Group) (groups : List Group) (k : ℕ) → k < length groups → group_in groups k ≡ group → ((j : ℕ) → j < k → group_in groups j ≡ group → ⊥) → place_of group groups ≡ Some k
-unfolding place_of place_test
+pub place-first : (group : Group) (groups : List Group) (k : ℕ) → k < length groups → group_in groups k ≡ group → ((j : ℕ) → j < k → group_in groups j ≡ group → ⊥) → group_place group groups ≡ Some k
+unfolding group_place place_test
 place-first group groups k l e first =
     let f : ℕ → Option ℕ = place_test group groups in
     first-at f k (length groups) k l
@@ -97,13 +97,14 @@ apart-ne groups apart j k inside within ne e = elim (cases_order j k) [
 ]
 
 -- and each has its own place
-pub place-at : (groups : List Group) → AreApart groups → (k : ℕ) → k < length groups → place_of (group_in groups k) groups ≡ Some k
+pub place-at : (groups : List Group) → AreApart groups → (k : ℕ) → k < length groups → group_place (group_in groups k) groups ≡ Some k
 place-at groups apart k l =
     place-first (group_in groups k) groups k l refl (λ j less. false-same (group_in groups j) (group_in groups k) (apart j k less l))
 
 -- one more group
-pub place-push : (group : Group) (groups : List Group) (x : Group) → place_of group (groups ++ x ∷ []) ≡ option_or (place_of group groups) (if same_group x group then Some (length groups) else None)
-unfolding place_of place_test
+pub place-push : (group : Group) (groups : List Group) (x : Group) → group_place group (groups ++ x ∷ []) ≡ option_or (group_place group groups)
+    (if same_group x group then Some (length groups) else None)
+unfolding group_place place_test
 place-push group groups x =
     let n = length groups in
     let size : length (groups ++ x ∷ []) ≡ n + 1 = length-append groups (x ∷ []) in
@@ -114,7 +115,7 @@ place-push group groups x =
     (first-same f (place_test group groups) n (λ k l. ap (λ (y : Group). if same_group y group then Some k else None) (get_or_append_left groups (x ∷ []) (of_class None) k l)))
     (ap (λ (y : Group). if same_group y group then Some n else None) (get_or_push groups x (of_class None) n refl))
 
-pub push-none : (group : Group) (groups : List Group) (x : Group) → place_of group (groups ++ x ∷ []) ≡ None → (place_of group groups ≡ None) × (x ≡ group → ⊥)
+pub push-none : (group : Group) (groups : List Group) (x : Group) → group_place group (groups ++ x ∷ []) ≡ None → (group_place group groups ≡ None) × (x ≡ group → ⊥)
 push-none group groups x h =
     let n = length groups in
     let size : length (groups ++ x ∷ []) ≡ n + 1 = length-append groups (x ∷ []) in (

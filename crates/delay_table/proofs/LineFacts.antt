@@ -14,7 +14,7 @@ use Rattle.plan_model.specs.NameLists.{IsTrimmed}
 use Rattle.plan_model.specs.Bounds.{seconds_per_day}
 use Rattle.delay_table.specs.Bounds.{end_of_types, last_type, whole_weight}
 use Rattle.delay_table.specs.declared.lines.DelayLine.{DelayLine}
-use Rattle.delay_table.specs.Delays.{Line, class_in, not_zero, route_in, hour_in, given, line_from, line_at}
+use Rattle.delay_table.specs.Delays.{Line, delay_class_in, not_zero, route_in, hour_in, given, line_from, line_at}
 
 one_on : (b : Bool) (w : ℕ) → (b ≡ false → 1 ≤ w) → IfSome (if b then None else Some w) (λ n. 1 ≤ n)
 one_on true w h = tt
@@ -60,7 +60,7 @@ bound_at P o n h e = subst (λ (x : Option ℕ). IfSome x P) e h
 
 pub line_formed : (class delay weight route hour : List ℕ) → IfSome (line_from class delay weight route hour) (IsFormed route)
 line_formed class delay weight route hour =
-    given-holds (IsFormed route) (class_in class) _ (λ c h1.
+    given-holds (IsFormed route) (delay_class_in class) _ (λ c h1.
     given-holds (IsFormed route) (whole_of seconds_per_day delay) _ (λ d h2.
     given-holds (IsFormed route) (not_zero (whole_of whole_weight weight)) _ (λ w h3.
     given-holds (IsFormed route) (route_in c route) _ (λ r h4.

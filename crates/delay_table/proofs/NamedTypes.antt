@@ -5,7 +5,7 @@ use Rattle.std.proofs.lemmas.List.Elements.{All-contains, All-nil, All-push, Con
 use Rattle.std.proofs.lemmas.List.Quantifiers.{all_pairs_push}
 use Rattle.plan_model.specs.declared.model.Outcome.{Outcome}
 use Rattle.delay_table.specs.Groups.{Group}
-use Rattle.delay_table.specs.Delays.{if_some, named, type_rows}
+use Rattle.delay_table.specs.Delays.{if_some, route_types_below, type_rows}
 
 -- a list that delay_rises has what stands in its tail above its head
 after-head : (x : ℕ) (xs : List ℕ) → AllPairs (λ a b. a < b) (x ∷ xs) → (r : ℕ) → x < r → Contains (x ∷ xs) r → Contains xs r
@@ -54,28 +54,29 @@ module _ (rows : Group → List Outcome) where
     some = All-push (λ r. 0 < length (type_rows rows r)) types n s.some (subst (λ (r : List Outcome). 0 < length r) e (omega arith));
   }
 
-  pub named-are : (n : ℕ) → AreNamed n (named rows n)
-  unfolding named
-  named-are zero = record { below = All-nil (λ r. r < 0); rising = λ i j d less l. absurd (omega arith); some = All-nil (λ r. 0 < length (type_rows rows r)) }
-  named-are (suc n) = more-are n (named rows n) (type_rows rows n) refl (named-are n)
+  pub route_types_below-are : (n : ℕ) → AreNamed n (route_types_below rows n)
+  unfolding route_types_below
+  route_types_below-are zero = record { below = All-nil (λ r. r < 0); rising = λ i j d less l. absurd (omega arith); some = All-nil (λ r. 0 < length (type_rows rows r)) }
+  route_types_below-are (suc n) = more-are n (route_types_below rows n) (type_rows rows n) refl (route_types_below-are n)
 
   last-has : (n : ℕ) (types : List ℕ) (r : List Outcome) → 0 < length r → Contains (types ++ if_some r n) n
   last-has n types [] some = absurd (omega arith)
   last-has n types (o ∷ os) some = Contains-push types n
 
-  named-has : (n : ℕ) → HasNamed n (named rows n)
-  unfolding named
-  named-has zero r l some = absurd (omega arith)
-  named-has (suc n) r l some =
-      ⊎_elim (λ (less : r < n). Contains-append_left (named rows n) (if_some (type_rows rows n) n) r (named-has n r less some))
+  route_types_below-has : (n : ℕ) → HasNamed n (route_types_below rows n)
+  unfolding route_types_below
+  route_types_below-has zero r l some = absurd (omega arith)
+  route_types_below-has (suc n) r l some =
+      ⊎_elim (λ (less : r < n). Contains-append_left (route_types_below rows n) (if_some (type_rows rows n) n) r (route_types_below-has n r less some))
       (λ (end : n ≤ r).
       let same : n ≡ r = omega arith in
-      subst (λ x. Contains (named rows n ++ if_some (type_rows rows n) n) x) same (last-has n (named rows n) (type_rows rows n) (subst (λ x. 0 < length (type_rows rows x)) (sym same) some)))
+      subst (λ x. Contains (route_types_below rows n ++ if_some (type_rows rows n) n) x) same
+      (last-has n (route_types_below rows n) (type_rows rows n) (subst (λ x. 0 < length (type_rows rows x)) (sym same) some)))
       (cases_lt r n)
 
-  pub are-named : (n : ℕ) (types : List ℕ) → AreNamed n types → HasNamed n types → types ≡ named rows n
-  are-named n types s has =
-      let t = named-are n in
-      same-rising types (named rows n) s.rising t.rising
-      (λ r c. named-has n r (All-contains (λ x. x < n) types r s.below c) (All-contains (λ x. 0 < length (type_rows rows x)) types r s.some c))
-      (λ r c. has r (All-contains (λ x. x < n) (named rows n) r t.below c) (All-contains (λ x. 0 < length (type_rows rows x)) (named rows n) r t.some c))
+  pub are-route_types_below : (n : ℕ) (types : List ℕ) → AreNamed n types → HasNamed n types → types ≡ route_types_below rows n
+  are-route_types_below n types s has =
+      let t = route_types_below-are n in
+      same-rising types (route_types_below rows n) s.rising t.rising
+      (λ r c. route_types_below-has n r (All-contains (λ x. x < n) types r s.below c) (All-contains (λ x. 0 < length (type_rows rows x)) types r s.some c))
+      (λ r c. has r (All-contains (λ x. x < n) (route_types_below rows n) r t.below c) (All-contains (λ x. 0 < length (type_rows rows x)) (route_types_below rows n) r t.some c))

@@ -14,7 +14,7 @@ use Rattle.plan_model.proofs.Texts.{AreDistinct-push}
 use Rattle.csv_rows.specs.Tables.{place_in}
 use Rattle.csv_rows.proofs.IdLemmas.{place-here, place-none}
 use Rattle.delay_table.specs.declared.numbered.NumberedGroup.{NumberedGroup}
-use Rattle.delay_table.specs.Groups.{Group, same_if, same_number, of_class, group_in, place_of}
+use Rattle.delay_table.specs.Groups.{Group, same_if, same_number, of_class, group_in, group_place}
 use Rattle.delay_table.specs.Numbered.{no_group, named_group, same_numbered, AreNumbers, IsNumber, StaysSo}
 use Rattle.delay_table.proofs.GroupFacts.{none-place, nowhere, place-first, same_if-equal, same_if-self}
 
@@ -97,7 +97,7 @@ module _ (routes : List (List ℕ)) (keys : List NumberedGroup) (distinct : AreD
     forth k l e = at k l ∙ ap (named_group routes) (sym e) ∙ is
 
     -- where it stands
-    pub found-place : (o : Option ℕ) → o ≡ position (same_numbered key) keys → is_some o ≡ list_any (same_numbered key) keys → o ≡ place_of group groups
+    pub found-place : (o : Option ℕ) → o ≡ position (same_numbered key) keys → is_some o ≡ list_any (same_numbered key) keys → o ≡ group_place group groups
     found-place None e f = sym (none-place group groups (λ k l g.
         let inside : k < length keys = omega (arith, size) in
         let t = list_any_at (same_numbered key) keys k no_group inside (numbered-true key (key_at k) (back k inside g)) in
@@ -111,7 +111,7 @@ module _ (routes : List (List ℕ)) (keys : List NumberedGroup) (distinct : AreD
         let z = w.2 k less in cc))
 
     -- a group that is new has a new key
-    pub new-key : place_of group groups ≡ None → list_any (same_numbered key) keys ≡ false
+    pub new-key : group_place group groups ≡ None → list_any (same_numbered key) keys ≡ false
     new-key h = false_from_ne_true (list_any (same_numbered key) keys) (λ t.
         let w = Any-from_list_any (same_numbered key) keys t in
         let inside : w.0 < length keys = w.2 in
@@ -130,7 +130,7 @@ module _ (routes : List (List ℕ)) (keys : List NumberedGroup) (distinct : AreD
         (subst P (sym (get_or_push keys key no_group (length keys) refl)) number) k (omega (arith, l, length_push keys key)))
 
   -- a route without a number has no group
-  pub unknown-route : (id : List ℕ) (class : Option ℕ) (hour : Option ℕ) → place_in id routes ≡ None → None ≡ place_of (record { class = class; route = Some id; hour = hour }) groups
+  pub unknown-route : (id : List ℕ) (class : Option ℕ) (hour : Option ℕ) → place_in id routes ≡ None → None ≡ group_place (record { class = class; route = Some id; hour = hour }) groups
   unknown-route id class hour none =
       let group : Group = record { class = class; route = Some id; hour = hour } in
       sym (none-place group groups (λ k l g.
@@ -169,12 +169,12 @@ pub place-is : (routes : List (List ℕ)) (keys : List NumberedGroup) (distinct 
     (class number hour : Option ℕ) (route : Option (List ℕ)) → map (named_group routes) keys ≡ all → IfSome number (λ n. n < length routes)
     → option_map (λ k. slice_index_or routes k []) number ≡ route → (o : Option ℕ)
     → o ≡ position (same_numbered (record { class = class; route = number; hour = hour })) keys
-    → is_some o ≡ list_any (same_numbered (record { class = class; route = number; hour = hour })) keys → o ≡ place_of (record { class = class; route = route; hour = hour }) all
+    → is_some o ≡ list_any (same_numbered (record { class = class; route = number; hour = hour })) keys → o ≡ group_place (record { class = class; route = route; hour = hour }) all
 place-is routes keys distinct numbers all class number hour route view inside is o here found =
     let key : NumberedGroup = record { class = class; route = number; hour = hour } in
     let group : Group = record { class = class; route = route; hour = hour } in
     let named : named_group routes key ≡ group = λ i. record { class = class; route = is i; hour = hour } in
-    found-place routes keys distinct numbers key group inside named o here found ∙ ap (place_of group) view
+    found-place routes keys distinct numbers key group inside named o here found ∙ ap (group_place group) view
 
 -- the number of a route is that of its id
 pub number-is : (routes : List (List ℕ)) (id : List ℕ) (n : ℕ) → place_in id routes ≡ Some n → (n < length routes) × (slice_index_or routes n [] ≡ id)
@@ -196,8 +196,8 @@ module _ (routes : List (List ℕ)) (keys : List NumberedGroup) (distinct : AreD
   own-named = λ i. record { class = class; route = is.is i; hour = hour }
 
   -- the key of a group that is new is new
-  pub key-is-new : place_of own_group all ≡ None → list_any (same_numbered own_key) keys ≡ false
-  key-is-new h = new-key routes keys distinct numbers own_key own_group is.inside own-named (ap (place_of own_group) view ∙ h)
+  pub key-is-new : group_place own_group all ≡ None → list_any (same_numbered own_key) keys ≡ false
+  key-is-new h = new-key routes keys distinct numbers own_key own_group is.inside own-named (ap (group_place own_group) view ∙ h)
 
   -- and it goes last
   pub groups-last : (more : List NumberedGroup) → more ≡ keys ++ own_key ∷ [] → map (named_group routes) more ≡ all ++ own_group ∷ []

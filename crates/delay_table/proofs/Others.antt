@@ -3,7 +3,7 @@ use Rattle.std.proofs.Common.{◌≡◌, ℕ, zero, suc, ◌+◌, ◌<◌, Bool,
 use Rattle.std.proofs.lemmas.List.{map-append}
 use Rattle.std.proofs.lemmas.List.Elements.{All-nil, All-cons, All-append}
 use Rattle.plan_model.specs.declared.model.Outcome.{Outcome}
-use Rattle.delay_table.specs.Groups.{Group, group_in, is_plain, of_class, place_of}
+use Rattle.delay_table.specs.Groups.{Group, group_in, is_plain, of_class, group_place}
 use Rattle.delay_table.specs.Delays.{if_other, others}
 use Rattle.delay_table.specs.Read.{AreApart}
 use Rattle.delay_table.proofs.GroupFacts.{apart-ne, none-place}
@@ -53,7 +53,7 @@ others-from groups (suc n) =
     subst (λ (m : ℕ). All (IsFrom groups m) (others groups m)) (add-one n) all
 
 -- a group is not among the others before it
-pub others-new : (groups : List Group) → AreApart groups → (n : ℕ) → n < length groups → place_of (group_in groups n) (others groups n) ≡ None
+pub others-new : (groups : List Group) → AreApart groups → (n : ℕ) → n < length groups → group_place (group_in groups n) (others groups n) ≡ None
 others-new groups apart n l =
     none-place (group_in groups n) (others groups n) (λ k inside e.
     let w = others-from groups n k (of_class None) inside in

@@ -16,11 +16,11 @@ use Rattle.std.proofs.lemmas.Map.Made.{IsDistinct-from_AllPairs}
 use Rattle.plan_model.specs.declared.model.Outcome.{Outcome}
 use Rattle.delay_table.specs.declared.reading.GroupRows.{GroupRows}
 use Rattle.delay_table.specs.Bounds.{end_of_types}
-use Rattle.delay_table.specs.Groups.{Group, group_in, is_plain, listed, of_class, place_of, plain_type, plain_types}
-use Rattle.delay_table.specs.Delays.{if_other, named, others, type_rows}
+use Rattle.delay_table.specs.Groups.{Group, group_in, is_plain, listed, of_class, group_place, plain_type, plain_types}
+use Rattle.delay_table.specs.Delays.{if_other, route_types_below, others, type_rows}
 use Rattle.delay_table.specs.Read.{AreApart, IsRead, outcomes_at, read_outcomes}
 use Rattle.delay_table.proofs.GroupFacts.{apart-ne, group-here}
-use Rattle.delay_table.proofs.NamedTypes.{AreNamed, HasNamed, are-named}
+use Rattle.delay_table.proofs.NamedTypes.{AreNamed, HasNamed, are-route_types_below}
 
 plain-zero : (groups : List Group) → plain_types groups 0 ≡ []
 unfolding plain_types
@@ -146,7 +146,7 @@ somewhere rows (Some k) h = (k, refl)
 pub is-there : (groups : List Group) (rows : List GroupRows) (group : Group) → 0 < length (read_outcomes groups rows group) → (k : ℕ) × (k < length groups) × (group_in groups k ≡ group)
 unfolding read_outcomes
 is-there groups rows group h =
-    let w = somewhere rows (place_of group groups) h in
+    let w = somewhere rows (group_place group groups) h in
     let here = group-here group groups w.0 w.1 in (w.0, here.0, here.1)
 
 bound_at : (o : Option ℕ) (r : ℕ) → IfSome o (λ n. n < end_of_types) → o ≡ Some r → r < end_of_types
@@ -166,8 +166,8 @@ module _ (groups : List Group) (rows : List GroupRows) (is : IsRead groups rows)
   distinct : IsDistinct eqb sorted
   distinct = IsDistinct-IsPermutation eqb (λ a b. grind (arith, nat_tests)) plain sorted moved (IsDistinct-from_AllPairs Decides-eqb plain are.apart)
 
-  named-are-sorted : AreNamed own end_of_types sorted
-  named-are-sorted = record {
+  route_types_below-are-sorted : AreNamed own end_of_types sorted
+  route_types_below-are-sorted = record {
     below = All-permutation (λ r. r < end_of_types) plain sorted moved (λ k d l.
         let p = are.own k d l in bound_at (group_in groups p.0).class (get_or plain k d) (is.types p.0 p.1) (ap (λ (g : Group). g.class) p.2));
     rising = AllPairs-from_increasing sorted (IsStrictlyIncreasing-from_distinct sorted (IsNonDecreasingBy-from_sort (λ x. x) sorted up) distinct);
@@ -175,17 +175,17 @@ module _ (groups : List Group) (rows : List GroupRows) (is : IsRead groups rows)
         let p = are.own k d l in subst (λ (g : Group). 0 < length (own g)) p.2 (is.some p.0 p.1));
   }
 
-  named-in-sorted : HasNamed own end_of_types sorted
-  named-in-sorted = λ r l here.
+  route_types_below-in-sorted : HasNamed own end_of_types sorted
+  route_types_below-in-sorted = λ r l here.
       let w = is-there groups rows (of_class (Some r)) here in
       Contains-permutation plain sorted r moved (are.all w.0 r w.1 w.2)
 
-  pub sorted-are-named : sorted ≡ named own end_of_types
-  sorted-are-named = are-named own end_of_types sorted named-are-sorted named-in-sorted
+  pub sorted-are-route_types_below : sorted ≡ route_types_below own end_of_types
+  sorted-are-route_types_below = are-route_types_below own end_of_types sorted route_types_below-are-sorted route_types_below-in-sorted
 
 -- `*`, the route types that are named and the other groups are all of them
-pub groups-are : (groups : List Group) (rows : List GroupRows) → IsRead groups rows → length (named (read_outcomes groups rows) end_of_types) ≡ length (plain_types groups (length groups))
-    → 0 < length (read_outcomes groups rows (of_class None)) → length (named (read_outcomes groups rows) end_of_types) + 1 + length (others groups (length groups)) ≡ length groups
+pub groups-are : (groups : List Group) (rows : List GroupRows) → IsRead groups rows → length (route_types_below (read_outcomes groups rows) end_of_types) ≡ length (plain_types groups (length groups))
+    → 0 < length (read_outcomes groups rows (of_class None)) → length (route_types_below (read_outcomes groups rows) end_of_types) + 1 + length (others groups (length groups)) ≡ length groups
 groups-are groups rows is size some =
     let w = is-there groups rows (of_class None) some in
     omega (arith, size, with_default groups is.apart w.0 w.2 (length groups) w.1 (omega arith))

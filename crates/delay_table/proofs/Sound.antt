@@ -15,10 +15,10 @@ use Rattle.delay_table.specs.declared.reading.GroupRows.{GroupRows}
 use Rattle.delay_table.specs.DelayLists.{DelayLists}
 use Rattle.delay_table.specs.Bounds.{end_of_types, most_groups, whole_weight}
 use Rattle.delay_table.specs.Groups.{Group, group_in, is_plain, of_class, plain_types}
-use Rattle.delay_table.specs.Delays.{class_name, class_rows, class_sum, delays_in, group_sum, group_sum_at, groups_fault, groups_of, named, no_default_of, other_sum}
+use Rattle.delay_table.specs.Delays.{class_name, class_rows, class_sum, delays_in, group_sum, group_sum_at, groups_fault, groups_of, route_types_below, no_default_of, other_sum}
 use Rattle.delay_table.specs.Delays.{others, too_many_classes, type_rows, type_sum_at}
 use Rattle.delay_table.specs.Read.{IsRead, line_at, read_outcomes}
-use Rattle.delay_table.specs.Slots.{AreDelays, IsStart}
+use Rattle.delay_table.specs.Slots.{AreDelays, IsGroupStart}
 use mathlib.Core.Path.{fun_ext}
 use Rattle.csv_rows.specs.Tables.{row_count}
 use Rattle.csv_rows.proofs.FirstLemmas.{first-same}
@@ -27,7 +27,7 @@ use Rattle.delay_table.specs.Read.{IsReadTo}
 use Rattle.delay_table.proofs.ReadFacts.{rows-are, rows-here}
 use Rattle.delay_table.proofs.Starts.{starts}
 use Rattle.delay_table.proofs.Others.{others-from}
-use Rattle.delay_table.proofs.NamedTypes.{named-are}
+use Rattle.delay_table.proofs.NamedTypes.{route_types_below-are}
 use Rattle.delay_table.proofs.PlainTypes.{groups-are}
 use Rattle.delay_table.proofs.ReadFacts.{types-bounded}
 
@@ -51,7 +51,7 @@ sum_right : (r : List Outcome) → 0 < length r → other_sum r ≡ None → sum
 sum_right [] some h = absurd (omega arith)
 sum_right (o ∷ os) some h = eqb-true (sum_by (λ o. o.weight) (o ∷ os)) whole_weight (sum_if (sum_by (λ o. o.weight) (o ∷ os) == whole_weight) (sum_by (λ o. o.weight) (o ∷ os)) h)
 
-valid_row : (r : List Outcome) → IsStart r → 0 < length r → other_sum r ≡ None → IsValidRow r
+valid_row : (r : List Outcome) → IsGroupStart r → 0 < length r → other_sum r ≡ None → IsValidRow r
 valid_row r s some h = record { some = some; few = s.few; rising = s.rising; delays = s.delays; weights = s.weights; total = sum_right r some h }
 
 default_some : (r : List Outcome) → no_default_of r ≡ None → 0 < length r
@@ -60,12 +60,12 @@ default_some (o ∷ os) h = omega arith
 
 module _ (groups : List Group) (read : List GroupRows) (is : IsRead groups read)
     (sound : groups_fault (read_outcomes groups read) groups (line_at read) ≡ None)
-    (size : length (named (read_outcomes groups read) end_of_types) ≡ length (plain_types groups (length groups))) where
+    (size : length (route_types_below (read_outcomes groups read) end_of_types) ≡ length (plain_types groups (length groups))) where
   abbrev own : Group → List Outcome
   own = read_outcomes groups read
 
   abbrev types : List ℕ
-  types = named own end_of_types
+  types = route_types_below own end_of_types
 
   -- the faults of the groups, from the last
   abbrev types_fault : Option DelayFault
@@ -98,7 +98,7 @@ module _ (groups : List Group) (read : List GroupRows) (is : IsRead groups read)
   types_valid = All-map IsValidRow (type_rows own) types (λ k d l.
       let e : get_or types k 0 ≡ get_or types k d = get_or_default types k 0 d l in
       subst (λ r. IsValidRow (type_rows own r)) e
-      (valid_row (type_rows own (get_or types k 0)) (is.starts (of_class (Some (get_or types k 0)))) ((named-are own end_of_types).some k 0 l) (type_right k l)))
+      (valid_row (type_rows own (get_or types k 0)) (is.starts (of_class (Some (get_or types k 0)))) ((route_types_below-are own end_of_types).some k 0 l) (type_right k l)))
 
   others_valid : All IsValidRow (map own (others groups (length groups)))
   others_valid = All-map IsValidRow own (others groups (length groups)) (λ k d l.
@@ -129,7 +129,7 @@ module _ (groups : List Group) (read : List GroupRows) (is : IsRead groups read)
   pub delays_valid : AreDelays (delays_in own groups)
   unfolding delays_in
   delays_valid = record {
-    rising = λ i j less l. (named-are own end_of_types).rising i j 0 less l;
+    rising = λ i j less l. (route_types_below-are own end_of_types).rising i j 0 less l;
     few = omega (arith, class-count, counted, few);
     each = class-count;
     rows = λ k l. All-cons IsValidRow (class_rows own None) (map (type_rows own) types ++ map own (others groups (length groups))) default_valid
@@ -143,8 +143,8 @@ module _ (groups : List Group) (read : List GroupRows) (is : IsRead groups read)
 
 -- what is made of these groups
 pub made-is : (rows : Group → List Outcome) (groups : List Group) (route_types : List ℕ) (os : List Group) (classes : List (List Outcome))
-    → route_types ≡ named rows end_of_types → os ≡ others groups (length groups)
-    → classes ≡ class_rows rows None ∷ map (type_rows rows) (named rows end_of_types) ++ map rows (others groups (length groups))
+    → route_types ≡ route_types_below rows end_of_types → os ≡ others groups (length groups)
+    → classes ≡ class_rows rows None ∷ map (type_rows rows) (route_types_below rows end_of_types) ++ map rows (others groups (length groups))
     → ◌≡◌ {A = DelayLists} (record { types = route_types; others = os; classes = classes }) (delays_in rows groups)
 unfolding delays_in
 made-is rows groups route_types os classes e f g = λ i. record { types = e i; others = f i; classes = g i }
@@ -155,7 +155,7 @@ is-read t groups rows none r = record {
   size = r.size;
   apart = r.apart;
   some = λ k l. subst (λ (x : List Outcome). 0 < length x) (sym (rows-here groups rows r.apart k l)) (r.some k l);
-  starts = λ group. subst IsStart (sym (rows-are t (row_count t) groups rows r group)) (starts t (row_count t) none group);
+  starts = λ group. subst IsGroupStart (sym (rows-are t (row_count t) groups rows r group)) (starts t (row_count t) none group);
   types = λ k l. subst (λ (gs : List Group). IfSome (group_in gs k).class (λ route. route < end_of_types)) (sym r.are) (types-bounded t (firsts t (row_count t)) k (omega (arith, ap length r.are)));
 }
 
@@ -170,7 +170,7 @@ groups-same t n groups rows r =
     (λ k l. ap (λ m. group_sum (group_in groups k) m (group_outcomes t n (group_in groups k))) (r.lines k l)) in
     ap (λ rs. groups_fault rs groups (line_at rows)) same
     ∙ ap (λ o. option_or (too_many_classes (length groups)) (option_or (class_sum (group_outcomes t n) None)
-    (option_or (first_below (type_sum_at (group_outcomes t n) (named (group_outcomes t n) end_of_types)) (length (named (group_outcomes t n) end_of_types)))
+    (option_or (first_below (type_sum_at (group_outcomes t n) (route_types_below (group_outcomes t n) end_of_types)) (length (route_types_below (group_outcomes t n) end_of_types)))
     (option_or o (no_default_of (class_rows (group_outcomes t n) None)))))) lines
     ∙ ap (λ gs. groups_fault (group_outcomes t n) gs (first_line t n)) r.are
 

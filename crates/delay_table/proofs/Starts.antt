@@ -11,7 +11,7 @@ use Rattle.delay_table.specs.declared.faults.DelayFault.{DelayFault}
 use Rattle.delay_table.specs.declared.faults.DelayFault.TheVariants.{NotRising}
 use Rattle.delay_table.specs.Groups.{Group, same_group}
 use Rattle.delay_table.specs.Delays.{Line, fault_after, fault_of, delay_rises, too_many, of_group, group_outcomes, line_at, line_fault}
-use Rattle.delay_table.specs.Slots.{IsStart}
+use Rattle.delay_table.specs.Slots.{IsGroupStart}
 use Rattle.csv_rows.specs.First.{first_below}
 use Rattle.csv_rows.specs.Tables.{field}
 use Rattle.csv_rows.specs.declared.columns.Column.TheVariants.{RouteId}
@@ -33,7 +33,7 @@ rises_last r delay d h some =
     ltb-true (slice_index_or r (length r - 1) d).delay delay (subst P e h)
 
 -- and so is each
-rises_each : (r : List Outcome) (delay : ℕ) → IsStart r → delay_rises (slice_get r (length r - 1)) delay ≡ true → (k : ℕ) (d : Outcome) → k < length r → (slice_index_or r k d).delay < delay
+rises_each : (r : List Outcome) (delay : ℕ) → IsGroupStart r → delay_rises (slice_get r (length r - 1)) delay ≡ true → (k : ℕ) (d : Outcome) → k < length r → (slice_index_or r k d).delay < delay
 rises_each r delay s h k d l =
     let last = rises_last r delay d h (omega arith) in
     ⊎_elim (λ (before : k < length r - 1). omega (arith, s.rising k (length r - 1) d before (omega arith), last))
@@ -43,8 +43,8 @@ rises_each r delay s h k d l =
     (cases_lt k (length r - 1))
 
 -- one more row with no fault
-start_next : (r : List Outcome) (line : Line) (number : ℕ) → IsStart r → fault_after r line number ≡ None → line.outcome.delay ≤ seconds_per_day
-    → 1 ≤ line.outcome.weight → IsStart (r ++ line.outcome ∷ [])
+start_next : (r : List Outcome) (line : Line) (number : ℕ) → IsGroupStart r → fault_after r line number ≡ None → line.outcome.delay ≤ seconds_per_day
+    → 1 ≤ line.outcome.weight → IsGroupStart (r ++ line.outcome ∷ [])
 start_next r line number s none d w =
     let o = line.outcome in
     let t = none_cases (nat_le 64 (length r)) (delay_rises (slice_get r (length r - 1)) o.delay) (too_many line.group number) (NotRising number) none in
@@ -57,19 +57,19 @@ start_next r line number s none d w =
       weights = All-push (λ (x : Outcome). 1 ≤ x.weight) r o s.weights w;
     }
 
-start_if : (b : Bool) (r : List Outcome) (o : Outcome) → IsStart r → (b ≡ true → IsStart (r ++ o ∷ [])) → IsStart (r ++ (if b then o ∷ [] else []))
+start_if : (b : Bool) (r : List Outcome) (o : Outcome) → IsGroupStart r → (b ≡ true → IsGroupStart (r ++ o ∷ [])) → IsGroupStart (r ++ (if b then o ∷ [] else []))
 start_if true r o s h = h refl
-start_if false r o s h = subst IsStart (sym (append-nil r)) s
+start_if false r o s h = subst IsGroupStart (sym (append-nil r)) s
 
-start_line : (t : List (List (List ℕ))) (n : ℕ) (group : Group) (o : Option Line) → ((g : Group) → IsStart (group_outcomes t n g))
-    → fault_of (group_outcomes t n) o (n + 2) ≡ None → IfSome o (IsFormed (field t RouteId n)) → IsStart (group_outcomes t n group ++ of_group group o)
+start_line : (t : List (List (List ℕ))) (n : ℕ) (group : Group) (o : Option Line) → ((g : Group) → IsGroupStart (group_outcomes t n g))
+    → fault_of (group_outcomes t n) o (n + 2) ≡ None → IfSome o (IsFormed (field t RouteId n)) → IsGroupStart (group_outcomes t n group ++ of_group group o)
 start_line t n group None s none form = absurd (cc)
 start_line t n group (Some line) s none form =
     start_if (same_group line.group group) (group_outcomes t n group) line.outcome (s group)
-    (λ same. let P : Group → Type 0 = λ g. IsStart (group_outcomes t n g ++ line.outcome ∷ []) in
+    (λ same. let P : Group → Type 0 = λ g. IsGroupStart (group_outcomes t n g ++ line.outcome ∷ []) in
     subst P (same-equal line.group group same) (start_next (group_outcomes t n line.group) line (n + 2) (s line.group) none form.delay form.weight))
 
-start_empty : IsStart []
+start_empty : IsGroupStart []
 start_empty = record { few = omega arith; rising = λ i j d less inside. absurd (omega arith); delays = λ k d inside. absurd (omega arith); weights = λ k d inside. absurd (omega arith) }
 
 no_outcomes : (t : List (List (List ℕ))) (group : Group) → group_outcomes t 0 group ≡ []
@@ -80,13 +80,13 @@ row_fault : (t : List (List (List ℕ))) (n : ℕ) → line_fault t n ≡ None �
 unfolding line_fault
 row_fault t n h = h
 
-starts_to : (t : List (List (List ℕ))) (n : ℕ) → ((k : ℕ) → k < n → line_fault t k ≡ None) → (group : Group) → IsStart (group_outcomes t n group)
-starts_to t zero h group = subst IsStart (sym (no_outcomes t group)) start_empty
+starts_to : (t : List (List (List ℕ))) (n : ℕ) → ((k : ℕ) → k < n → line_fault t k ≡ None) → (group : Group) → IsGroupStart (group_outcomes t n group)
+starts_to t zero h group = subst IsGroupStart (sym (no_outcomes t group)) start_empty
 starts_to t (suc n) h group =
     let e : group_outcomes t (suc n) group ≡ group_outcomes t n group ++ of_group group (line_at t n) = ap (λ m. group_outcomes t m group) (sym (add-one n)) ∙ outcomes-next t n group in
-    subst IsStart (sym e)
+    subst IsGroupStart (sym e)
     (start_line t n group (line_at t n) (starts_to t n (λ k l. h k (omega arith))) (row_fault t n (h n (omega arith))) (formed_at t n))
 
 -- the outcomes of each group of rows without a fault
-pub starts : (t : List (List (List ℕ))) (n : ℕ) → first_below (line_fault t) n ≡ None → (group : Group) → IsStart (group_outcomes t n group)
+pub starts : (t : List (List (List ℕ))) (n : ℕ) → first_below (line_fault t) n ≡ None → (group : Group) → IsGroupStart (group_outcomes t n group)
 starts t n h = starts_to t n (none-each (line_fault t) n h)

@@ -4,7 +4,7 @@ use Rattle.std.specs.Option.{option_or}
 use Rattle.plan_model.specs.declared.model.Outcome.{Outcome}
 use Rattle.csv_rows.specs.First.{first_below}
 use Rattle.delay_table.specs.Bounds.{seconds_per_hour, hours_per_day}
-use Rattle.delay_table.specs.Groups.{Group, place_of}
+use Rattle.delay_table.specs.Groups.{Group, group_place}
 
 -- the named route types, rising; the groups that name a route or an hour; and the outcomes of class 0, of each route type
 -- and of each such group
@@ -28,7 +28,7 @@ type_class d (Some route) = option_map (λ k. k + 1) (type_place d.types route)
 
 -- the class of a group that names a route or an hour, where it is there
 abbrev pub other_class : DelayLists → Group → Option ℕ
-other_class d group = option_map (λ k. length d.types + 1 + k) (place_of group d.others)
+other_class d group = option_map (λ k. length d.types + 1 + k) (group_place group d.others)
 
 -- the class of a route, at an hour where one is told
 abbrev pub route_class : DelayLists → Option (List ℕ) → Option ℕ → Option ℕ

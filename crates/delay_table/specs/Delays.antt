@@ -37,8 +37,8 @@ class_type Any = None
 class_type (Route route) = Some route
 
 -- `*`, or a route type
-abbrev pub class_in : List ℕ → Option (Option ℕ)
-class_in text = if bytes_eq text (codes "*") then Some None else option_map Some (whole_of last_type text)
+abbrev pub delay_class_in : List ℕ → Option (Option ℕ)
+delay_class_in text = if bytes_eq text (codes "*") then Some None else option_map Some (whole_of last_type text)
 
 -- a whole number from 1 on
 abbrev pub not_zero : Option ℕ → Option ℕ
@@ -61,7 +61,7 @@ given (Some a) next = next a
 -- the row of these fields, where each is of its form
 abbrev pub line_from : (class delay weight route hour : List ℕ) → Option Line
 line_from class delay weight route hour =
-    given (class_in class) (λ class'.
+    given (delay_class_in class) (λ class'.
     given (whole_of seconds_per_day delay) (λ delay'.
     given (not_zero (whole_of whole_weight weight)) (λ weight'.
     given (route_in class' route) (λ route'.
@@ -179,9 +179,9 @@ if_some [] r = []
 if_some (o ∷ os) r = r ∷ []
 
 -- the route types below n that have outcomes, rising
-unfoldable pub named : (Group → List Outcome) → ℕ → List ℕ
-named rows zero = []
-named rows (suc n) = named rows n ++ if_some (type_rows rows n) n
+unfoldable pub route_types_below : (Group → List Outcome) → ℕ → List ℕ
+route_types_below rows zero = []
+route_types_below rows (suc n) = route_types_below rows n ++ if_some (type_rows rows n) n
 
 -- one element, where the group names a route or an hour
 abbrev pub if_other : {A : Type 0} → Group → A → List A
@@ -198,7 +198,7 @@ abbrev pub groups_fault : (Group → List Outcome) → List Group → (ℕ → �
 groups_fault rows groups line_of =
     option_or (too_many_classes (length groups))
     (option_or (class_sum rows None)
-    (option_or (first_below (type_sum_at rows (named rows end_of_types)) (length (named rows end_of_types)))
+    (option_or (first_below (type_sum_at rows (route_types_below rows end_of_types)) (length (route_types_below rows end_of_types)))
     (option_or (first_below (group_sum_at rows groups line_of) (length groups)) (no_default_of (class_rows rows None)))))
 
 -- the first lines of the groups of the first n rows
@@ -218,9 +218,9 @@ first_delay_fault t =
 -- the route types, the other groups, and the classes: that of `*`, and then those of the route types and of the other groups
 unfoldable pub delays_in : (Group → List Outcome) → List Group → DelayLists
 delays_in rows groups = record {
-  types = named rows end_of_types;
+  types = route_types_below rows end_of_types;
   others = others groups (length groups);
-  classes = class_rows rows None ∷ map (type_rows rows) (named rows end_of_types) ++ map rows (others groups (length groups));
+  classes = class_rows rows None ∷ map (type_rows rows) (route_types_below rows end_of_types) ++ map rows (others groups (length groups));
 }
 
 -- the delays of a table

@@ -38,8 +38,8 @@ abbrev pub group_in : List Group → ℕ → Group
 group_in groups k = slice_index_or groups k (of_class None)
 
 -- where a group stands among others
-unfoldable pub place_of : Group → List Group → Option ℕ
-place_of group groups = first_below (λ k. if same_group (group_in groups k) group then Some k else None) (length groups)
+unfoldable pub group_place : Group → List Group → Option ℕ
+group_place group groups = first_below (λ k. if same_group (group_in groups k) group then Some k else None) (length groups)
 
 -- one element, where there is one
 abbrev pub listed : Option ℕ → List ℕ

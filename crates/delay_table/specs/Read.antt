@@ -3,9 +3,9 @@ use Rattle.std.specs.Prelude.{◌≡◌, ℕ, ◌+◌, ◌<◌, false, List, [],
 use Rattle.plan_model.specs.declared.model.Outcome.{Outcome}
 use Rattle.delay_table.specs.declared.reading.GroupRows.{GroupRows}
 use Rattle.delay_table.specs.Delays.{Line, group_outcomes, firsts, groups_at}
-use Rattle.delay_table.specs.Groups.{Group, group_in, same_group, place_of}
+use Rattle.delay_table.specs.Groups.{Group, group_in, same_group, group_place}
 use Rattle.delay_table.specs.Bounds.{end_of_types}
-use Rattle.delay_table.specs.Slots.{IsStart}
+use Rattle.delay_table.specs.Slots.{IsGroupStart}
 
 abbrev pub no_rows : GroupRows
 no_rows = record { line = 0; outcomes = [] }
@@ -19,7 +19,7 @@ outcomes_at rows (Some k) = (group_rows_at rows k).outcomes
 
 -- the outcomes of a group, which are none where it is not there
 unfoldable pub read_outcomes : List Group → List GroupRows → Group → List Outcome
-read_outcomes groups rows group = outcomes_at rows (place_of group groups)
+read_outcomes groups rows group = outcomes_at rows (group_place group groups)
 
 -- no group stands twice
 abbrev pub AreApart : List Group → Type 0
@@ -34,8 +34,8 @@ pub record IsPushed (old new : List GroupRows) (place : ℕ) (outcome : Outcome)
 
 -- one more row, of a group that is there or of a new one
 pub record AddsRow (groups : List Group) (rows : List GroupRows) (line : Line) (number : ℕ) (more : List Group) (new : List GroupRows) : Type 0 where
-  pub known : (k : ℕ) → place_of line.group groups ≡ Some k → (more ≡ groups) × IsPushed rows new k line.outcome
-  pub fresh : place_of line.group groups ≡ None → (more ≡ groups ++ line.group ∷ []) × (new ≡ rows ++ (record { line = number; outcomes = line.outcome ∷ [] }) ∷ [])
+  pub known : (k : ℕ) → group_place line.group groups ≡ Some k → (more ≡ groups) × IsPushed rows new k line.outcome
+  pub fresh : group_place line.group groups ≡ None → (more ≡ groups ++ line.group ∷ []) × (new ≡ rows ++ (record { line = number; outcomes = line.outcome ∷ [] }) ∷ [])
 
 -- these are the groups of the first n rows, and their outcomes
 pub record IsReadTo (t : List (List (List ℕ))) (n : ℕ) (groups : List Group) (rows : List GroupRows) : Type 0 where
@@ -45,7 +45,7 @@ pub record IsReadTo (t : List (List (List ℕ))) (n : ℕ) (groups : List Group)
   pub lines : (k : ℕ) → k < length groups → (group_rows_at rows k).line ≡ slice_index (firsts t n) k + 2
   pub each : (k : ℕ) → k < length groups → (group_rows_at rows k).outcomes ≡ group_outcomes t n (group_in groups k)
   pub some : (k : ℕ) → k < length groups → 0 < length (group_rows_at rows k).outcomes
-  pub absent : (group : Group) → place_of group groups ≡ None → group_outcomes t n group ≡ []
+  pub absent : (group : Group) → group_place group groups ≡ None → group_outcomes t n group ≡ []
 
 abbrev pub line_at : List GroupRows → ℕ → ℕ
 line_at rows k = (group_rows_at rows k).line
@@ -55,5 +55,5 @@ pub record IsRead (groups : List Group) (rows : List GroupRows) : Type 0 where
   pub size : length rows ≡ length groups
   pub apart : AreApart groups
   pub some : (k : ℕ) → k < length groups → 0 < length (read_outcomes groups rows (group_in groups k))
-  pub starts : (group : Group) → IsStart (read_outcomes groups rows group)
+  pub starts : (group : Group) → IsGroupStart (read_outcomes groups rows group)
   pub types : (k : ℕ) → k < length groups → IfSome (group_in groups k).class (λ route. route < end_of_types)

@@ -10,7 +10,7 @@ abbrev pub slot : List (List Outcome) → ℕ → List Outcome
 slot slots c = slice_index_or slots c []
 
 -- what holds of the outcomes of a group before its last row
-pub record IsStart (r : List Outcome) : Type 0 where
+pub record IsGroupStart (r : List Outcome) : Type 0 where
   pub few : length r ≤ most_rows
   pub rising : AllPairs (λ a b. a.delay < b.delay) r
   pub delays : All (λ o. o.delay ≤ seconds_per_day) r

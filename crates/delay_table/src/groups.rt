@@ -3,7 +3,7 @@ ghost use Rattle.std.specs.Prelude.{◌≡◌, ◌<◌, ◌++◌, ◌∷◌, [],
 ghost use Rattle.csv_rows.specs.Tables.{place_in};
 ghost use Rattle.plan_model.specs.NameLists.{Adds, IsTrimmed};
 ghost use Rattle.delay_table.specs.Numbered.{IsNumber, Keeps};
-ghost use Rattle.delay_table.specs.Groups.{group_in, is_plain, place_of, plain_type};
+ghost use Rattle.delay_table.specs.Groups.{group_in, is_plain, group_place, plain_type};
 
 use crate::numbered::{NumberedGroup, NumberedGroups};
 use csv_rows::Ids;
@@ -117,7 +117,7 @@ impl Groups {
         route: Option<&str>,
         hour: Option<u8>,
     ) -> Option<usize>
-        ensures place { result ≡ place_of (record {
+        ensures place { result ≡ group_place (record {
           class = class;
           route = option_map (λ s. s.now) route.entry;
           hour = hour;
@@ -142,7 +142,7 @@ impl Groups {
         route: Option<&str>,
         hour: Option<u8>,
     ) -> Result<(), NoMemory>
-        requires new { place_of (record {
+        requires new { group_place (record {
           class = class;
           route = option_map (λ s. s.now) route;
           hour = hour;
@@ -191,7 +191,7 @@ impl Groups {
         place: usize,
     ) -> Result<(), NoMemory>
         requires inside { place < length other.now }
-        requires new { place_of (group_in other.now place) self.old ≡ None }
+        requires new { group_place (group_in other.now place) self.old ≡ None }
         ensures { OnOk result (self.new ≡ self.old ++ group_in other.now place ∷ []) }
     {
         let group = other.groups.at(place);

@@ -6,7 +6,7 @@ ghost use Rattle.plan_model.specs.NameLists.{IsTrimmed};
 ghost use Rattle.clock_text.specs.Digits.{whole_of};
 ghost use Rattle.plan_model.specs.Bounds.{seconds_per_day};
 ghost use Rattle.delay_table.specs.Bounds.{whole_weight};
-ghost use Rattle.delay_table.specs.Delays.{class_in, hour_in, not_zero, route_in, class_name, lacks, line_from, line_at, missing_column};
+ghost use Rattle.delay_table.specs.Delays.{delay_class_in, hour_in, not_zero, route_in, class_name, lacks, line_from, line_at, missing_column};
 ghost use Rattle.delay_table.specs.Lines.{AreColumns};
 
 use crate::faults::{ClassName, DelayFault};
@@ -83,7 +83,7 @@ pub(crate) fn missing_column(rows: &Rows) -> Option<DelayFault>
 
 /// A route type, and none for `*`.
 fn read_class(text: &[u8]) -> Option<Option<u16>>
-    ensures { result ≡ class_in text.now }
+    ensures { result ≡ delay_class_in text.now }
 {
     if text == b"*".as_slice() {
         return Some(None);

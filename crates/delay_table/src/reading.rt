@@ -4,7 +4,7 @@ ghost use Rattle.csv_rows.specs.First.{first_below};
 ghost use Rattle.csv_rows.specs.Spaces.{AreTrimmed};
 ghost use Rattle.csv_rows.specs.Tables.{row_count};
 ghost use Rattle.plan_model.specs.NameLists.{IsTrimmed};
-ghost use Rattle.delay_table.specs.Groups.{group_in, of_class, place_of};
+ghost use Rattle.delay_table.specs.Groups.{group_in, of_class, group_place};
 ghost use Rattle.delay_table.specs.Delays.{fault_after, line_fault, line_with, too_many};
 ghost use Rattle.delay_table.specs.Lines.{AreColumns};
 ghost use Rattle.delay_table.specs.Read.{AddsRow, IsPushed, IsRead, IsReadTo, line_at, group_rows_at, read_outcomes};
@@ -98,7 +98,7 @@ impl ReadRows {
 
     /// Adds the first row of a group.
     fn begin(&mut self, alloc: Global, line: &DelayLine<'_>, number: u64) -> Result<(), DelayFault>
-        requires new { place_of (line_with line.now.class (option_map (λ s. s.now) line.now.route)
+        requires new { group_place (line_with line.now.class (option_map (λ s. s.now) line.now.route)
             line.now.hour line.now.outcome).group self.old.groups ≡ None }
         requires trimmed { IfSome line.now.route (λ s. IsTrimmed s.now) }
         ensures groups { OnOk result (self.new.groups ≡ self.old.groups

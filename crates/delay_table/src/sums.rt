@@ -2,7 +2,7 @@
 ghost use Rattle.std.specs.Prelude.{◌≡◌, ◌<◌, ◌≤◌, length, sum_by};
 ghost use Rattle.csv_rows.specs.First.{first_below};
 ghost use Rattle.delay_table.specs.Bounds.{end_of_types, most_rows};
-ghost use Rattle.delay_table.specs.Delays.{class_sum, group_sum_at, groups_fault, named, no_default_of, other_sum, too_many_classes, type_sum_at};
+ghost use Rattle.delay_table.specs.Delays.{class_sum, group_sum_at, groups_fault, route_types_below, no_default_of, other_sum, too_many_classes, type_sum_at};
 ghost use Rattle.delay_table.specs.Read.{IsRead, line_at, read_outcomes};
 
 use crate::faults::DelayFault;
@@ -122,7 +122,7 @@ fn too_many(count: u64) -> Option<DelayFault>
 /// The first fault of the groups, where these are the route types that are named.
 pub(crate) fn groups_fault(read: &ReadRows, types: &[u16]) -> Option<DelayFault>
     requires read { IsRead read.now.groups read.now.rows.items }
-    requires types { types.now ≡ named (read_outcomes read.now.groups read.now.rows.items) end_of_types }
+    requires types { types.now ≡ route_types_below (read_outcomes read.now.groups read.now.rows.items) end_of_types }
     ensures { result ≡ groups_fault (read_outcomes read.now.groups read.now.rows.items)
         read.now.groups (line_at read.now.rows.items) }
 {

@@ -2,8 +2,8 @@
 ghost use Rattle.std.specs.Prelude.{ℕ, ◌≡◌, ◌≢◌, ◌<◌, ◌≤◌, ◌++◌, ◌∷◌, [], length, map, slice_index_or, option_map, Some, None, All, Any, OnOk, IfOk, IfErr, IfSome};
 ghost use Rattle.delay_table.specs.DelayLists.{class_for, hour_of, other_class, route_class, type_class};
 ghost use Rattle.delay_table.specs.Bounds.{end_of_types, most_groups};
-ghost use Rattle.delay_table.specs.Delays.{class_rows, class_type, delays_in, delays_of, first_delay_fault, groups_fault, groups_of, if_other, named, others, type_rows};
-ghost use Rattle.delay_table.specs.Groups.{group_in, place_of, plain_types};
+ghost use Rattle.delay_table.specs.Delays.{class_rows, class_type, delays_in, delays_of, first_delay_fault, groups_fault, groups_of, if_other, route_types_below, others, type_rows};
+ghost use Rattle.delay_table.specs.Groups.{group_in, group_place, plain_types};
 ghost use Rattle.delay_table.specs.Read.{IsRead, line_at, read_outcomes};
 ghost use Rattle.delay_table.specs.Slots.{IsClassOf, AreDelays};
 
@@ -102,7 +102,7 @@ fn add_other(
 ) -> Result<(), NoMemory>
     requires place { place < length read.now.groups }
     requires read { IsRead read.now.groups read.now.rows.items }
-    requires new { place_of (group_in read.now.groups place) groups.old ≡ None }
+    requires new { group_place (group_in read.now.groups place) groups.old ≡ None }
     ensures groups { OnOk result (groups.new ≡ groups.old
         ++ if_other (group_in read.now.groups place) (group_in read.now.groups place)) }
     ensures classes { OnOk result (classes.new ≡ classes.old
@@ -140,7 +140,7 @@ fn add_others(
 /// The table of these outcomes, where these are the route types that are named.
 fn delays_in(alloc: Global, read: &ReadRows, types: Vec<u16>) -> Result<DelayTable, NoMemory>
     requires read { IsRead read.now.groups read.now.rows.items }
-    requires types { types.items ≡ named (read_outcomes read.now.groups read.now.rows.items) end_of_types }
+    requires types { types.items ≡ route_types_below (read_outcomes read.now.groups read.now.rows.items) end_of_types }
     requires size { length types.items
         ≡ length (plain_types read.now.groups (length read.now.groups)) }
     requires sound { groups_fault (read_outcomes read.now.groups read.now.rows.items)

@@ -1,7 +1,7 @@
 //! The route types that a delay file names.
 ghost use Rattle.std.specs.Prelude.{◌≡◌, ◌<◌, ◌++◌, length, OnOk, IfOk};
 ghost use Rattle.delay_table.specs.Bounds.{end_of_types};
-ghost use Rattle.delay_table.specs.Delays.{named};
+ghost use Rattle.delay_table.specs.Delays.{route_types_below};
 ghost use Rattle.delay_table.specs.Groups.{group_in, listed, plain_type, plain_types};
 ghost use Rattle.delay_table.specs.Read.{IsRead, read_outcomes};
 
@@ -36,8 +36,8 @@ fn plain_types(alloc: Global, groups: &Groups) -> Result<Vec<u16>, NoMemory>
 /// The route types that are named, rising.
 pub(crate) fn named_types(alloc: Global, read: &ReadRows) -> Result<Vec<u16>, NoMemory>
     requires { IsRead read.now.groups read.now.rows.items }
-    ensures named { IfOk result (λ types. types.items
-        ≡ named (read_outcomes read.now.groups read.now.rows.items) end_of_types) }
+    ensures route_types_below { IfOk result (λ types. types.items
+        ≡ route_types_below (read_outcomes read.now.groups read.now.rows.items) end_of_types) }
     ensures size { IfOk result (λ types. length types.items
         ≡ length (plain_types read.now.groups (length read.now.groups))) }
 {

@@ -22,7 +22,7 @@ use Rattle.leg_walk.specs.Tables.{leg_cmp, row_by}
 use Rattle.plan_model.proofs.Lists.{Contains-nil, Contains-head, Contains-tail, Contains-cons_cases, All-from_contains, AllPairs-head, AllPairs-tail}
 use Rattle.leg_walk.proofs.Sets.{Contains-insert_key, Contains-inserted_key, IsStrictlySortedBy-insert_key}
 use Rattle.leg_walk.proofs.Orders.{leg_cmp-total, leg_cmp-exact}
-use Rattle.graph_compact.specs.Tables.{row_cmp, put_rows, with_ride, gathered, lists_of, rows_in, with_table}
+use Rattle.graph_compact.specs.Tables.{row_cmp, put_rows, with_ride, gathered_rows, lists_of, rows_in, with_table}
 
 pub with_rows : (place : ℕ) (rows : List GraphRow) (more : List PlaceTable) → 0 < length rows → with_table place rows more ≡ record { place = record { 0 = place }; rows = rows } ∷ more
 with_rows place [] more some = absurd (omega (arith, some))
@@ -68,10 +68,10 @@ module _ (n : NetworkModel) (place : ℕ) where
   with_ride-away r rows away = rw (ne_eqb (end_of n r.leg) place away)
 
   -- what holds of rows and stays where those after a ride that ends there are put holds of all that are gathered
-  gathered-keeps : (P : List GraphRow → Type 0) (rides : List Ride) → ((r : Ride) → Contains rides r → end_of n r.leg ≡ place → (rows : List GraphRow) → P rows → P (put_rows r.after rows))
-      → (rows : List GraphRow) → P rows → P (gathered n place rides rows)
-  gathered-keeps P [] puts rows all = all
-  gathered-keeps P (r ∷ rides) puts rows all = gathered-keeps P rides (λ s has. puts s (Contains-tail r rides s has)) (with_ride n place r rows) (elim (cases_eq (end_of n r.leg) place) [
+  gathered_rows-keeps : (P : List GraphRow → Type 0) (rides : List Ride) → ((r : Ride) → Contains rides r → end_of n r.leg ≡ place → (rows : List GraphRow) → P rows → P (put_rows r.after rows))
+      → (rows : List GraphRow) → P rows → P (gathered_rows n place rides rows)
+  gathered_rows-keeps P [] puts rows all = all
+  gathered_rows-keeps P (r ∷ rides) puts rows all = gathered_rows-keeps P rides (λ s has. puts s (Contains-tail r rides s has)) (with_ride n place r rows) (elim (cases_eq (end_of n r.leg) place) [
     | inl is ↦ subst P (sym (with_ride-there r rows is)) (puts r (Contains-head r rides) is rows all)
     | inr away ↦ subst P (sym (with_ride-away r rows away)) all
   ])
@@ -83,24 +83,25 @@ module _ (n : NetworkModel) (place : ℕ) where
     pub ends : end_of n r.leg ≡ place
     pub there : Contains r.after x
 
-  pub All-gathered : (rides : List Ride) → All (IsOf rides) (gathered n place rides [])
-  All-gathered rides = gathered-keeps (All (IsOf rides)) rides
+  pub All-gathered_rows : (rides : List Ride) → All (IsOf rides) (gathered_rows n place rides [])
+  All-gathered_rows rides = gathered_rows-keeps (All (IsOf rides)) rides
       (λ r has ends rows. All-put_rows (IsOf rides) r.after rows (All-from_contains (IsOf rides) r.after (λ x there. record { r = r; has = has; ends = ends; there = there })))
       [] (All-nil (IsOf rides))
 
-  pub Contains-gathered : (rides : List Ride) (rows : List GraphRow) (r : Ride) → Contains rides r → end_of n r.leg ≡ place → (x : GraphRow) → Contains r.after x → Contains (gathered n place rides rows) x
-  Contains-gathered [] rows r has ends x there = absurd (Contains-nil r has)
-  Contains-gathered (head ∷ rides) rows r has ends x there = elim (Contains-cons_cases head rides r has) [
+  pub Contains-gathered_rows : (rides : List Ride) (rows : List GraphRow) (r : Ride) → Contains rides r → end_of n r.leg ≡ place → (x : GraphRow) → Contains r.after x
+      → Contains (gathered_rows n place rides rows) x
+  Contains-gathered_rows [] rows r has ends x there = absurd (Contains-nil r has)
+  Contains-gathered_rows (head ∷ rides) rows r has ends x there = elim (Contains-cons_cases head rides r has) [
     | inl is ↦
         let put = Contains-rows_put r.after rows x there in
         let list = subst (λ (s : Ride). Contains (with_ride n place s rows) x) (sym is) (subst (λ (list : List GraphRow). Contains list x) (sym (with_ride-there r rows ends)) put) in
-        gathered-keeps (λ all. Contains all x) rides (λ s has ends all. Contains-put_rows s.after all x) (with_ride n place head rows) list
-    | inr more ↦ Contains-gathered rides (with_ride n place head rows) r more ends x there
+        gathered_rows-keeps (λ all. Contains all x) rides (λ s has ends all. Contains-put_rows s.after all x) (with_ride n place head rows) list
+    | inr more ↦ Contains-gathered_rows rides (with_ride n place head rows) r more ends x there
   ]
 
-  pub IsStrictlySortedBy-gathered : (rides : List Ride) → IsStrictlySortedBy row_cmp (gathered n place rides [])
+  pub IsStrictlySortedBy-gathered_rows : (rides : List Ride) → IsStrictlySortedBy row_cmp (gathered_rows n place rides [])
   unfolding IsStrictlySortedBy
-  IsStrictlySortedBy-gathered rides = gathered-keeps (IsStrictlySortedBy row_cmp) rides (λ r has ends. IsStrictlySortedBy-put_rows r.after) [] tt
+  IsStrictlySortedBy-gathered_rows rides = gathered_rows-keeps (IsStrictlySortedBy row_cmp) rides (λ r has ends. IsStrictlySortedBy-put_rows r.after) [] tt
 
 -- the first row that is not before a moment is there, if any is
 pub some_first : (rows : List GraphRow) (x : ℕ) (row : GraphRow) → Contains rows row → x ≤ row.by.0 → (e : GraphRow) × IsFirstInTime rows x e
@@ -132,7 +133,7 @@ first_least (head ∷ rows) rising x e (inr both) other has after = elim (Contai
 -- after one ride more
 pub gather_step : (n : NetworkModel) (rides : List Ride) (i : ℕ) (r : Ride) (tables : List (BTreeSet GraphRow)) (end : ℕ) (table : BTreeSet GraphRow) (place : ℕ)
     → i < length rides → r ≡ slice_index_or rides i r → end ≡ end_of n r.leg → end < length tables → table.keys ≡ put_rows r.after (rows_in tables end)
-    → gathered n place (drop (i + 1) rides) (rows_in (slice_set tables end table) place) ≡ gathered n place (drop i rides) (rows_in tables place)
+    → gathered_rows n place (drop (i + 1) rides) (rows_in (slice_set tables end table) place) ≡ gathered_rows n place (drop i rides) (rows_in tables place)
 gather_step n rides i r tables end table place within is ends inside puts =
     let lists = lists_of tables in
     let many : length lists ≡ length tables = length-map tables (λ table. table.keys) in
@@ -145,6 +146,6 @@ gather_step n rides i r tables end table place within is ends inside puts =
           get_or-set_other lists end place table.keys [] away
           ∙ sym (with_ride-away n place r (rows_in tables place) (λ same. away (sym same ∙ sym ends)))
     ] in
-    ap (gathered n place (drop (i + 1) rides)) step
-    ∙ ap (λ (s : Ride). gathered n place (s ∷ drop (i + 1) rides) (rows_in tables place)) is
-    ∙ sym (at_drop_more (λ list. gathered n place list (rows_in tables place)) rides i r within)
+    ap (gathered_rows n place (drop (i + 1) rides)) step
+    ∙ ap (λ (s : Ride). gathered_rows n place (s ∷ drop (i + 1) rides) (rows_in tables place)) is
+    ∙ sym (at_drop_more (λ list. gathered_rows n place list (rows_in tables place)) rides i r within)

@@ -16,7 +16,7 @@ use Rattle.plan_model.specs.Network.{IsValid}
 use Rattle.plan_model.specs.Tree.{Tree}
 use Rattle.plan_model.specs.Ways.{limit_of}
 use Rattle.plan_model.specs.Strategy.{IsSafeFromStart}
-use Rattle.plan_model.specs.Unfold.{end_of, arrival_of, outcomes_of, unfolded, by_place}
+use Rattle.plan_model.specs.Unfold.{end_of, arrival_of, outcomes_of, unfolding_of, by_place}
 use Rattle.plan_graph.specs.declared.GraphRow.{GraphRow}
 use Rattle.plan_graph.specs.declared.Ride.{Ride}
 use Rattle.plan_graph.specs.declared.PlaceTable.{PlaceTable}
@@ -37,8 +37,8 @@ use Rattle.leg_walk.proofs.Places.{IsPlacedNext, next_after}
 use Rattle.leg_walk.proofs.Reaching.{starts_by, start_placed}
 use Rattle.leg_walk.proofs.Tables.{first_pick, first_there, picked_first, same_next, same_limit}
 use Rattle.leg_walk.proofs.Rides.{ride_there}
-use Rattle.graph_compact.specs.Tables.{row_cmp, with_table, gathered, tables_of}
-use Rattle.graph_compact.proofs.Lists.{IsOf, All-gathered, Contains-gathered, IsStrictlySortedBy-gathered, some_first, first_least}
+use Rattle.graph_compact.specs.Tables.{row_cmp, with_table, gathered_rows, tables_of}
+use Rattle.graph_compact.proofs.Lists.{IsOf, All-gathered_rows, Contains-gathered_rows, IsStrictlySortedBy-gathered_rows, some_first, first_least}
 
 -- the rows of a place in the tables, from a first table on
 rows_of_place-here : (base : ℕ) (rows : List GraphRow) (tables : List PlaceTable) → rows_of_place tables base ≡ [] → rows_of_place (with_table base rows tables) base ≡ rows
@@ -108,7 +108,7 @@ module _ (T : ℕ → List GraphRow) where
 
 module _ (n : NetworkModel) (valid : IsValid n) (q : Query) (graph : ExpandedGraph) (pruned : IsPruned n q graph) (coherent : IsCoherent n graph) where
   abbrev T : ℕ → List GraphRow
-  T place = gathered n place graph.rides []
+  T place = gathered_rows n place graph.rides []
 
   abbrev target : ℕ
   target = q.target.0
@@ -117,7 +117,7 @@ module _ (n : NetworkModel) (valid : IsValid n) (q : Query) (graph : ExpandedGra
   choice = pick_after graph.rides
 
   row_of_ride : (place : ℕ) (x : GraphRow) → Contains (T place) x → IsOf n place graph.rides x
-  row_of_ride place x = All-contains (IsOf n place graph.rides) (T place) x (All-gathered n place graph.rides)
+  row_of_ride place x = All-contains (IsOf n place graph.rides) (T place) x (All-gathered_rows n place graph.rides)
 
   row_at : (place : ℕ) (x : GraphRow) → Contains (T place) x → IsRowAt n graph place x
   row_at place x has = let found = row_of_ride place x has in (found.r, found.has, found.ends, found.there)
@@ -133,7 +133,7 @@ module _ (n : NetworkModel) (valid : IsValid n) (q : Query) (graph : ExpandedGra
   rises : (place : ℕ) → AllPairs (λ a b. a.by.0 < b.by.0) (T place)
   rises place i j d below within = before place (slice_index_or (T place) i d) (slice_index_or (T place) j d)
       (Contains-get_or (T place) i d (omega (arith, below, within))) (Contains-get_or (T place) j d within)
-      (Less-from_sorted row_cmp (T place) i j d (IsStrictlySortedBy-gathered n place graph.rides) below within)
+      (Less-from_sorted row_cmp (T place) i j d (IsStrictlySortedBy-gathered_rows n place graph.rides) below within)
 
   by_limit : (place : ℕ) (x : GraphRow) → Contains (T place) x → limit_of n place x.leg ≡ Some x.by.0
   by_limit place x has =
@@ -156,7 +156,7 @@ module _ (n : NetworkModel) (valid : IsValid n) (q : Query) (graph : ExpandedGra
   same_first r has o outcome row there after =
       let place = end_of n r.leg in
       let x = arrival_of n r.leg o.delay in
-      let first = some_first (T place) x row (Contains-gathered n place graph.rides [] r has refl row there) after in
+      let first = some_first (T place) x row (Contains-gathered_rows n place graph.rides [] r has refl row there) after in
       let own = first_there (T place) x first.0 first.1 in
       record {
         e = first.0;
@@ -165,7 +165,7 @@ module _ (n : NetworkModel) (valid : IsValid n) (q : Query) (graph : ExpandedGra
         picks = coherent.picks r has o outcome first.0 (record {
           there = row_at place first.0 own.1;
           in_time = own.0;
-          least = λ other at. first_least (T place) (rises place) x first.0 first.1 other (Contains-gathered n place graph.rides [] at.0 at.1 at.2 other at.3);
+          least = λ other at. first_least (T place) (rises place) x first.0 first.1 other (Contains-gathered_rows n place graph.rides [] at.0 at.1 at.2 other at.3);
         });
       }
 
@@ -181,10 +181,10 @@ module _ (n : NetworkModel) (valid : IsValid n) (q : Query) (graph : ExpandedGra
     plan_choice = by_place n (pick_at tables)
 
     abbrev whole : Tree
-    whole = unfolded n q choice (Some start)
+    whole = unfolding_of n q choice (Some start)
 
     starts_as : unfold_expanded graph n q ≡ whole
-    starts_as = ap (λ (s : Option Leg). unfolded n q choice s) starts
+    starts_as = ap (λ (s : Option Leg). unfolding_of n q choice s) starts
 
     differ : q.source.0 ≢ target
     differ = (subst (λ (s : Option Leg). MatchOption s (q.source.0 ≡ target) (λ leg. (q.source.0 ≢ target) × IsLegOf n leg)) starts pruned.ready.starts).0

@@ -24,9 +24,9 @@ abbrev pub with_ride : NetworkModel → ℕ → Ride → List GraphRow → List 
 with_ride network place r rows = if end_of network r.leg == place then put_rows r.after rows else rows
 
 -- with the rows after all rides that end at the place
-abbrev pub gathered : NetworkModel → ℕ → List Ride → List GraphRow → List GraphRow
-gathered network place [] rows = rows
-gathered network place (r ∷ rides) rows = gathered network place rides (with_ride network place r rows)
+abbrev pub gathered_rows : NetworkModel → ℕ → List Ride → List GraphRow → List GraphRow
+gathered_rows network place [] rows = rows
+gathered_rows network place (r ∷ rides) rows = gathered_rows network place rides (with_ride network place r rows)
 
 -- the rows of each place
 abbrev pub lists_of : List (BTreeSet GraphRow) → List (List GraphRow)

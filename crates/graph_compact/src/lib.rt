@@ -8,7 +8,7 @@ ghost use Rattle.plan_graph.specs.Ready.{IsPruned, IsLegOf};
 ghost use Rattle.plan_graph.specs.Coherent.{IsCoherent};
 ghost use Rattle.plan_graph.specs.Tidy.{IsTidy};
 ghost use Rattle.plan_graph.specs.Unfold.{unfold_expanded, unfold_plan};
-ghost use Rattle.graph_compact.specs.Tables.{put_rows, gathered, lists_of, rows_in, with_table, tables_of};
+ghost use Rattle.graph_compact.specs.Tables.{put_rows, gathered_rows, lists_of, rows_in, with_table, tables_of};
 
 use plan_graph::{ExpandedGraph, GraphRow, PlaceTable, PlanGraph};
 use plan_model::{List, Network, NoMemory, PlaceId, Query};
@@ -46,7 +46,7 @@ fn gather(
     requires { All (λ r. IsLegOf network.now r.leg) graph.now.rides }
     ensures len { IfOk result (λ tables. length tables.items ≡ length network.now.change) }
     ensures rows { IfOk result (λ tables. (place : ℕ) → place < length network.now.change
-        → rows_in tables.items place ≡ gathered network.now place graph.now.rides []) }
+        → rows_in tables.items place ≡ gathered_rows network.now place graph.now.rides []) }
 {
     let mut tables = no_tables(alloc, network)?;
     let _count = network.count();

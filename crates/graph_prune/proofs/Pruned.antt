@@ -9,7 +9,7 @@ use Rattle.plan_model.specs.NetworkModel.{NetworkModel}
 use Rattle.plan_model.specs.Network.{IsValid}
 use Rattle.plan_model.specs.Tree.{Tree}
 use Rattle.plan_model.specs.Ways.{limit_of}
-use Rattle.plan_model.specs.Unfold.{end_of, arrival_of, outcomes_of, unfolded}
+use Rattle.plan_model.specs.Unfold.{end_of, arrival_of, outcomes_of, unfolding_of}
 use Rattle.plan_graph.specs.declared.GraphRow.{GraphRow}
 use Rattle.plan_graph.specs.declared.Ride.{Ride}
 use Rattle.plan_graph.specs.declared.ExpandedGraph.{ExpandedGraph}
@@ -45,8 +45,8 @@ module _ (n : NetworkModel) (valid : IsValid n) (q : Query) (source : ExpandedGr
   abbrev graph : ExpandedGraph
   graph = record { start = Some start; rides = pruned_rides }
 
-  starts_as : unfold_expanded source n q ≡ unfolded n q choice (Some start)
-  starts_as = ap (λ (s : Option Leg). unfolded n q choice s) starts
+  starts_as : unfold_expanded source n q ≡ unfolding_of n q choice (Some start)
+  starts_as = ap (λ (s : Option Leg). unfolding_of n q choice s) starts
 
   pub between_ready : IsReady n q between
   between_ready =

@@ -16,7 +16,7 @@ use Rattle.graph_score.specs.declared.outlooks.Outlook.{Outlook}
 use Rattle.graph_score.specs.declared.outlooks.Outlook.TheVariants.{Safe, Failing}
 use Rattle.graph_score.specs.Failures.{Fails, FailsIn, IsNotAfter, IsFirstFailure}
 use Rattle.graph_score.specs.Spans.{span_of, spans_of}
-use Rattle.graph_score.specs.Steps.{is_sooner, sooner_failure, with_outlook, first_failure_of, spans_in, mean_or, blended, IsOutlook}
+use Rattle.graph_score.specs.Steps.{is_sooner, sooner_failure, with_outlook, first_failure_of, spans_in, mean_or, blend_of, IsOutlook}
 use Rattle.graph_score.proofs.Lists.{first_failure_of-some}
 
 abbrev May : Type 1
@@ -123,7 +123,7 @@ module _ (n : NetworkModel) (q : Query) where
   spans_told _ _ _ each none = absurd each
 
   -- what comes of a ride, by what comes of its kids
-  pub blend_told : (i j : ℕ) (values : List Outlook) (kids : Kids) → EachKid (IsOutlook n q) (outcomes n j) values kids → IsOutlook n q (blended (outcomes n j) values) (Ride i j kids)
+  pub blend_told : (i j : ℕ) (values : List Outlook) (kids : Kids) → EachKid (IsOutlook n q) (outcomes n j) values kids → IsOutlook n q (blend_of (outcomes n j) values) (Ride i j kids)
   blend_told i j values kids each =
       let told = first_told (outcomes n j) values kids None (λ p x. ⊥) each (λ p x may. may) in
       let is = told_as (first_failure_of None values) (λ p x. ⊥ ⊎ FailsIn q kids p x) (FailsIn q kids) (λ p x may. elim may [

@@ -40,16 +40,17 @@ rows_of_place-at tables p i d before within is = found_at (λ ts. rows_of_place 
 pub rows_of_place-none : (tables : List PlaceTable) (p i : ℕ) → AllPairs (λ a b. a.place.0 < b.place.0) tables
     → IsPartitionPoint (λ t. nat_lt t.place.0 p ≡ true) (λ t. nat_lt t.place.0 p ≡ false) tables i
     → ((d : PlaceTable) → i < length tables → (slice_index_or tables i d).place.0 ≡ p → ⊥) → rows_of_place tables p ≡ []
-rows_of_place-none tables p i rise point other = found_nowhere (λ ts. rows_of_place ts p) (is_table_of p) (λ t. t.rows) [] refl (λ t ts. refl) tables d (λ k within. ne_eqb (slice_index_or tables k d).place.0 p (λ is. elim (cases_lt k i) [
-  | inl less ↦ let before = ltb-true (slice_index_or tables k d).place.0 p (point.0 k d (omega arith) less) in omega (arith, before, is)
-  | inr from ↦ elim (cases_lt i k) [
-    | inl more ↦
-        let rises = rise i k d more within in
-        let past = ltb-false (slice_index_or tables i d).place.0 p (point.1 i d (omega arith) (omega (arith, more, within))) in
-        omega (arith, rises, past, is)
-    | inr same ↦ let e : k ≡ i = omega (arith, from, same) in other d (omega (arith, e, within)) (subst (λ (m : ℕ). (slice_index_or tables m d).place.0 ≡ p) e is)
-  ]
-]))
+rows_of_place-none tables p i rise point other = found_nowhere (λ ts. rows_of_place ts p) (is_table_of p) (λ t. t.rows) [] refl (λ t ts. refl) tables d
+    (λ k within. ne_eqb (slice_index_or tables k d).place.0 p (λ is. elim (cases_lt k i) [
+      | inl less ↦ let before = ltb-true (slice_index_or tables k d).place.0 p (point.0 k d (omega arith) less) in omega (arith, before, is)
+      | inr from ↦ elim (cases_lt i k) [
+        | inl more ↦
+            let rises = rise i k d more within in
+            let past = ltb-false (slice_index_or tables i d).place.0 p (point.1 i d (omega arith) (omega (arith, more, within))) in
+            omega (arith, rises, past, is)
+        | inr same ↦ let e : k ≡ i = omega (arith, from, same) in other d (omega (arith, e, within)) (subst (λ (m : ℕ). (slice_index_or tables m d).place.0 ≡ p) e is)
+      ]
+    ]))
   where
     d : PlaceTable
     d = record { place = record { 0 = p }; rows = [] }

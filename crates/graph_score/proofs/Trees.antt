@@ -77,7 +77,8 @@ module _ (n : NetworkModel) (q : Query) (tables : List PlaceTable) (fit : AreFit
   after-over leg x away = rw (ne_eqb (end_of n leg) q.target.0 away) refl
 
   -- where one is taken
-  pub after-ride : (rides : ℕ) (leg : Leg) (x : ℕ) (next : Leg) → end_of n leg ≢ q.target.0 → pick_at tables (end_of n leg) x ≡ Some next → next_after (suc rides) leg x ≡ ride_by_rows n q tables rides next
+  pub after-ride : (rides : ℕ) (leg : Leg) (x : ℕ) (next : Leg) → end_of n leg ≢ q.target.0 → pick_at tables (end_of n leg) x ≡ Some next
+      → next_after (suc rides) leg x ≡ ride_by_rows n q tables rides next
   after-ride rides leg x next away some = rw (ne_eqb (end_of n leg) q.target.0 away) (ap (λ next. ride_or_stuck n (next_after rides) next (end_of n leg) x) some)
 
   in_time : (p x : ℕ) → p ≡ q.target.0 → Never (Done x) → SafeHere (Done x) p x
@@ -145,7 +146,8 @@ module _ (n : NetworkModel) (q : Query) (tables : List PlaceTable) (fit : AreFit
   height_ridden rides leg = height_ride rides leg (height_after rides leg)
 
 -- by a graph one takes the start leg
-pub unfold-start : (n : NetworkModel) (q : Query) (graph : PlanGraph) (leg : Leg) → q.source.0 ≢ q.target.0 → graph.start ≡ Some leg → unfold_plan graph n q ≡ ride_by_rows n q graph.tables (count n - 1) leg
+pub unfold-start : (n : NetworkModel) (q : Query) (graph : PlanGraph) (leg : Leg) → q.source.0 ≢ q.target.0 → graph.start ≡ Some leg
+    → unfold_plan graph n q ≡ ride_by_rows n q graph.tables (count n - 1) leg
 unfold-start n q graph leg away is =
     rw (ne_eqb q.source.0 q.target.0 away) (ap (λ first. ride_or_stuck n (unfold_after n q.target.0 (by_place n (pick_at graph.tables)) (count n - 1)) first q.source.0 q.start.0) is)
 

@@ -52,8 +52,8 @@ abbrev pub mean_or : List Outcome → List Outlook → Option Failure → Outloo
 mean_or row kids (Some f) = Failing f
 mean_or row kids None = Safe (mean_of row (spans_in kids))
 
-abbrev pub blended : List Outcome → List Outlook → Outlook
-blended row kids = mean_or row kids (first_failure_of None kids)
+abbrev pub blend_of : List Outcome → List Outlook → Outlook
+blend_of row kids = mean_or row kids (first_failure_of None kids)
 
 -- of who has arrived at the target
 abbrev pub arrived_outlook : ℕ → ℕ → ℕ → Outlook
@@ -81,7 +81,7 @@ outlooks_after tables query outlooks place scheduled row = map (λ o. outlook_at
 
 -- of leaving by a connection
 abbrev pub outlook_of : NetworkModel → List PlaceTable → Query → List Outlook → ℕ → Outlook
-outlook_of network tables query outlooks j = blended (outcomes network j) (outlooks_after tables query outlooks (to_of network j) (arr_of network j) (outcomes network j))
+outlook_of network tables query outlooks j = blend_of (outcomes network j) (outlooks_after tables query outlooks (to_of network j) (arr_of network j) (outcomes network j))
 
 -- it tells what comes of a tree: that the traveller cannot fail, with its bounds; or how one may fail first
 abbrev pub IsOutlook : NetworkModel → Query → Outlook → Tree → Type 0

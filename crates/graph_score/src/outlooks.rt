@@ -8,7 +8,7 @@ ghost use Rattle.plan_model.specs.Rows.{IsValidRow};
 ghost use Rattle.interval_fixed.specs.Means.{mean_of};
 ghost use Rattle.plan_graph.specs.Rows.{pick_row, pick_at, rows_of_place};
 ghost use Rattle.graph_score.specs.Legs.{HasRisingTables};
-ghost use Rattle.graph_score.specs.Steps.{no_outlook, is_sooner, sooner_failure, first_failure_of, spans_in, blended, arrived_outlook, outlook_at, outlooks_after, outlook_of, ExitsWithin, AreFitRows, AreOutlooks};
+ghost use Rattle.graph_score.specs.Steps.{no_outlook, is_sooner, sooner_failure, first_failure_of, spans_in, blend_of, arrived_outlook, outlook_at, outlooks_after, outlook_of, ExitsWithin, AreFitRows, AreOutlooks};
 ghost use Rattle.interval_fixed.specs.Interval.{end_of_nanos};
 
 use arrayvec::ArrayVec;
@@ -120,7 +120,7 @@ fn mean(row: &[Outcome], kids: &[Outlook]) -> Span
 fn blend(row: &[Outcome], kids: &[Outlook]) -> Outlook
     requires row { IsValidRow row.now }
     requires as_many { length row.now ≡ length kids.now }
-    ensures { result ≡ blended row.now kids.now }
+    ensures { result ≡ blend_of row.now kids.now }
 {
     match first_failure(kids) {
         Some(failure) => Outlook::Failing(failure),

@@ -2,14 +2,14 @@
 use Rattle.std.proofs.Common.{◌≡◌, ℕ, List, [], ◌∷◌, ◌++◌, sym, refl, ap, ◌∙◌, append_assoc}
 use Rattle.csv.specs.Writing.{default_writer, row_text}
 use Rattle.csv.proofs.RoundTrip.{rows_text as text_of_rows}
-use Rattle.csv_rows.specs.Spaces.{trimmed}
+use Rattle.csv_rows.specs.Spaces.{trimmed_text}
 use Rattle.printed_rows.proofs.Printed.{IsKept}
 use Rattle.graph_text.specs.declared.version.Version.{Version}
 use Rattle.graph_text.specs.declared.version.Version.TheVariants.{First, Second}
 use Rattle.graph_text.specs.Versions.{ninth}
 
-pub fields_kept : (version : Version) (a b c d e f g h last : List ℕ) → trimmed a ≡ a → trimmed b ≡ b → trimmed c ≡ c → trimmed d ≡ d → trimmed e ≡ e
-    → trimmed f ≡ f → trimmed g ≡ g → trimmed h ≡ h → trimmed last ≡ last
+pub fields_kept : (version : Version) (a b c d e f g h last : List ℕ) → trimmed_text a ≡ a → trimmed_text b ≡ b → trimmed_text c ≡ c → trimmed_text d ≡ d → trimmed_text e ≡ e
+    → trimmed_text f ≡ f → trimmed_text g ≡ g → trimmed_text h ≡ h → trimmed_text last ≡ last
     → IsKept (a ∷ b ∷ c ∷ d ∷ e ∷ f ∷ g ∷ h ∷ ninth version last)
 fields_kept First a b c d e f g h last one two three four five six seven eight nine = cc
 fields_kept Second a b c d e f g h last one two three four five six seven eight nine = cc

@@ -14,7 +14,7 @@ use Rattle.csv.specs.Reading.{strip_bom}
 use Rattle.clock_text.specs.Civil.{moment_text, nanos_text, last_printable}
 use Rattle.clock_text.proofs.Walk.{text_tells}
 use Rattle.clock_text.proofs.NanosLemmas.{nanos_tell}
-use Rattle.csv_rows.specs.Spaces.{trimmed}
+use Rattle.csv_rows.specs.Spaces.{trimmed_text}
 use Rattle.csv_rows.specs.Tables.{table_of}
 use Rattle.plan_model.specs.declared.model.Leg.{Leg}
 use Rattle.plan_model.specs.declared.model.Query.{Query}
@@ -102,7 +102,7 @@ IsToldTable n version t = IsFitTable n t × All (IsToldRow n version t.place.0) 
 
 module _ (n : NetworkModel) (names : NameLists) (version : Version) (valid : IsValid n) (fit : NamesFit names n) (own : AreNames names) where
   -- a leg's row is kept, and tells the leg
-  leg_kept : (kind second : List ℕ) (leg : Leg) → IsLegOf n leg → trimmed kind ≡ kind → trimmed second ≡ second → IsKept (leg_record n names version kind second leg)
+  leg_kept : (kind second : List ℕ) (leg : Leg) → IsLegOf n leg → trimmed_text kind ≡ kind → trimmed_text second ≡ second → IsKept (leg_record n names version kind second leg)
   leg_kept kind second leg is_leg one two =
       fields_kept version kind second (run_name names (run_of n leg.enter.0)) (decimal (step_of n leg.enter.0)) (moment_text (dep_of n leg.enter.0)) (decimal (step_of n leg.exit.0))
       (place_name names (to_of n leg.exit.0)) (moment_text (arr_of n leg.exit.0)) (place_name names (from_of n leg.enter.0))
@@ -260,7 +260,7 @@ module _ (n : NetworkModel) (names : NameLists) (version : Version) (valid : IsV
       refl (number_kept version) (place_kept n names fit head.query.source.0 asked.source) (place_kept n names fit head.query.target.0 asked.target)
       (moment_kept head.query.start.0) (moment_kept head.query.deadline.0) (nanos_kept head.bounds.lo) (nanos_kept head.bounds.hi) refl
     where
-      number_kept : (v : Version) → trimmed (number_of_version v) ≡ number_of_version v
+      number_kept : (v : Version) → trimmed_text (number_of_version v) ≡ number_of_version v
       number_kept First = refl
       number_kept Second = refl
 

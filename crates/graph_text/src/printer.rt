@@ -4,7 +4,7 @@ ghost use Rattle.plan_model.specs.NameLists.{NamesFit};
 ghost use Rattle.plan_model.specs.Network.{count};
 ghost use Rattle.plan_graph.specs.Ready.{IsLegOf};
 ghost use Rattle.graph_text.specs.Texts.{leg_row, head_row, start_leg_text, rows_text, ride_text, rides_text, place_row, table_text, tables_text, expanded_text_in, graph_text_in};
-ghost use Rattle.printed_rows.specs.Writers.{row_of_fields, written, IsBetweenRows};
+ghost use Rattle.printed_rows.specs.Writers.{row_of_fields, text_so_far, IsBetweenRows};
 ghost use Rattle.graph_text.specs.Versions.{width_of};
 ghost use Rattle.graph_text.specs.Printable.{IsPrintableQuery, IsPrintableRow, IsPrintableRide, IsPrintableTable, IsPrintable, IsPrintablePlan};
 
@@ -29,7 +29,7 @@ fn put_row(writer: &mut Writer<Vec<u8>>, version: Version, fields: &[&[u8]]) -> 
     requires between { IsBetweenRows writer.old }
     requires nine { length fields.now ≡ 9 }
     ensures between { OnOk result (IsBetweenRows writer.new) }
-    ensures text { OnOk result (written writer.new ≡ written writer.old
+    ensures text { OnOk result (text_so_far writer.new ≡ text_so_far writer.old
         ++ row_of_fields (take (width_of version) (map (λ field. field.now) fields.now))) }
 {
     printed_rows::put_row(writer, &fields[..width(version)])
@@ -50,7 +50,7 @@ fn put_leg<'a>(
     requires enter { leg.enter.0 < count network.now }
     requires exit { leg.exit.0 < count network.now }
     ensures between { OnOk result (IsBetweenRows writer.new) }
-    ensures text { OnOk result (written writer.new ≡ written writer.old
+    ensures text { OnOk result (text_so_far writer.new ≡ text_so_far writer.old
         ++ leg_row network.now names.now version kind.now second.now leg) }
 {
     let _count = network.count();
@@ -89,7 +89,7 @@ impl<'a> Printer<'a> {
         requires names { NamesFit self.now.names.now self.now.network.now }
         requires query { IsPrintableQuery self.now.network.now head.now.query }
         ensures between { OnOk result (IsBetweenRows writer.new) }
-        ensures text { OnOk result (written writer.new ≡ written writer.old
+        ensures text { OnOk result (text_so_far writer.new ≡ text_so_far writer.old
             ++ head_row self.now.names.now self.now.version kind.now head.now) }
     {
         let query = head.query;
@@ -121,7 +121,7 @@ impl<'a> Printer<'a> {
         requires names { NamesFit self.now.names.now self.now.network.now }
         requires leg { IfSome start (IsLegOf self.now.network.now) }
         ensures between { OnOk result (IsBetweenRows writer.new) }
-        ensures text { OnOk result (written writer.new ≡ written writer.old
+        ensures text { OnOk result (text_so_far writer.new ≡ text_so_far writer.old
             ++ start_leg_text self.now.network.now self.now.names.now self.now.version start) }
     {
         let Some(leg) = start else {
@@ -151,7 +151,7 @@ impl<'a> Printer<'a> {
         requires names { NamesFit self.now.names.now self.now.network.now }
         requires rows { All (IsPrintableRow self.now.network.now) rows.now }
         ensures between { OnOk result (IsBetweenRows writer.new) }
-        ensures text { OnOk result (written writer.new ≡ written writer.old
+        ensures text { OnOk result (text_so_far writer.new ≡ text_so_far writer.old
             ++ rows_text self.now.network.now self.now.names.now self.now.version kind.now rows.now) }
     {
         for row in rows {
@@ -175,7 +175,7 @@ impl<'a> Printer<'a> {
         requires names { NamesFit self.now.names.now self.now.network.now }
         requires ride { IsPrintableRide self.now.network.now ride.now }
         ensures between { OnOk result (IsBetweenRows writer.new) }
-        ensures text { OnOk result (written writer.new ≡ written writer.old
+        ensures text { OnOk result (text_so_far writer.new ≡ text_so_far writer.old
             ++ ride_text self.now.network.now self.now.names.now self.now.version ride.now) }
     {
         let mut number = Buffer::new();
@@ -198,7 +198,7 @@ impl<'a> Printer<'a> {
         requires names { NamesFit self.now.names.now self.now.network.now }
         requires rides { All (IsPrintableRide self.now.network.now) rides.now }
         ensures between { OnOk result (IsBetweenRows writer.new) }
-        ensures text { OnOk result (written writer.new ≡ written writer.old
+        ensures text { OnOk result (text_so_far writer.new ≡ text_so_far writer.old
             ++ rides_text self.now.network.now self.now.names.now self.now.version rides.now) }
     {
         for ride in rides {
@@ -213,7 +213,7 @@ impl<'a> Printer<'a> {
         requires names { NamesFit self.now.names.now self.now.network.now }
         requires table { IsPrintableTable self.now.network.now table.now }
         ensures between { OnOk result (IsBetweenRows writer.new) }
-        ensures text { OnOk result (written writer.new ≡ written writer.old
+        ensures text { OnOk result (text_so_far writer.new ≡ text_so_far writer.old
             ++ table_text self.now.network.now self.now.names.now self.now.version table.now) }
     {
         self.put_place(writer, table.place, table.rows.len())?;
@@ -231,7 +231,7 @@ impl<'a> Printer<'a> {
         requires names { NamesFit self.now.names.now self.now.network.now }
         requires place { place.0 < length self.now.network.now.change }
         ensures between { OnOk result (IsBetweenRows writer.new) }
-        ensures text { OnOk result (written writer.new ≡ written writer.old
+        ensures text { OnOk result (text_so_far writer.new ≡ text_so_far writer.old
             ++ place_row self.now.network.now self.now.names.now self.now.version place.0 count) }
     {
         let mut change = Buffer::new();
@@ -264,7 +264,7 @@ impl<'a> Printer<'a> {
         requires names { NamesFit self.now.names.now self.now.network.now }
         requires tables { All (IsPrintableTable self.now.network.now) tables.now }
         ensures between { OnOk result (IsBetweenRows writer.new) }
-        ensures text { OnOk result (written writer.new ≡ written writer.old
+        ensures text { OnOk result (text_so_far writer.new ≡ text_so_far writer.old
             ++ tables_text self.now.network.now self.now.names.now self.now.version tables.now) }
     {
         for table in tables {
@@ -285,7 +285,7 @@ impl<'a> Printer<'a> {
         requires query { IsPrintableQuery self.now.network.now head.now.query }
         requires graph { IsPrintable self.now.network.now graph.now }
         ensures between { OnOk result (IsBetweenRows writer.new) }
-        ensures text { OnOk result (written writer.new ≡ written writer.old
+        ensures text { OnOk result (text_so_far writer.new ≡ text_so_far writer.old
             ++ expanded_text_in self.now.network.now self.now.names.now self.now.version head.now graph.now) }
     {
         self.put_head(writer, b"expanded", head)?;
@@ -308,7 +308,7 @@ impl<'a> Printer<'a> {
         requires query { IsPrintableQuery self.now.network.now head.now.query }
         requires graph { IsPrintablePlan self.now.network.now graph.now }
         ensures between { OnOk result (IsBetweenRows writer.new) }
-        ensures text { OnOk result (written writer.new ≡ written writer.old
+        ensures text { OnOk result (text_so_far writer.new ≡ text_so_far writer.old
             ++ graph_text_in self.now.network.now self.now.names.now self.now.version head.now graph.now) }
     {
         self.put_head(writer, b"graph", head)?;

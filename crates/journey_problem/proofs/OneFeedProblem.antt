@@ -32,7 +32,8 @@ same_days : (r : Result Calendars FeedFault) (s t : ServiceParts) → IsOkAnd r 
 same_days (Ok c) s t a b = λ service day. a service day ∙ sym (b service day)
 same_days (Err fault) s t a b = absurd a
 
-same_changes : (r : Result Records FeedFault) (f : FeedParts) (c d : ChangeParts) → IsOkAnd r (AreToldChanges f c) → IsOkAnd r (AreToldChanges f d) → (place : ℕ) → seconds_of c place ≡ seconds_of d place
+same_changes : (r : Result Records FeedFault) (f : FeedParts) (c d : ChangeParts) → IsOkAnd r (AreToldChanges f c) → IsOkAnd r (AreToldChanges f d) → (place : ℕ)
+    → seconds_of c place ≡ seconds_of d place
 same_changes (Ok t) f c d a b = λ place. a.seconds place ∙ sym (b.seconds place)
 same_changes (Err fault) f c d a b = absurd a
 

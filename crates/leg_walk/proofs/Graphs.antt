@@ -9,7 +9,7 @@ use Rattle.plan_model.specs.NetworkModel.{NetworkModel}
 use Rattle.plan_model.specs.Network.{IsValid, arr_of}
 use Rattle.plan_model.specs.Tree.{Tree}
 use Rattle.plan_model.specs.Ways.{limit_of}
-use Rattle.plan_model.specs.Unfold.{end_of, arrival_of, outcomes_of, unfolded}
+use Rattle.plan_model.specs.Unfold.{end_of, arrival_of, outcomes_of, unfolding_of}
 use Rattle.plan_graph.specs.declared.GraphRow.{GraphRow}
 use Rattle.plan_graph.specs.declared.Ride.{Ride}
 use Rattle.plan_graph.specs.declared.ExpandedGraph.{ExpandedGraph}
@@ -125,7 +125,8 @@ module _ (n : NetworkModel) (valid : IsValid n) (q : Query) (choice : Leg → �
       }
 
   -- the graph is ready
-  pub ready : q.source.0 ≢ q.target.0 → IsLegOf n start → IsSafeForSome n q (unfolded n q choice (Some start)) → ((r : Ride) → Contains rides r → IsKeptAfter n target choice r.leg) → IsReady n q graph
+  pub ready : q.source.0 ≢ q.target.0 → IsLegOf n start → IsSafeForSome n q (unfolding_of n q choice (Some start)) → ((r : Ride) → Contains rides r → IsKeptAfter n target choice r.leg)
+      → IsReady n q graph
   ready differ is_leg safe kept = record {
     safe = subst (λ (tree : Tree). IsSafeForSome n q tree) (sym walked.unfolds) safe;
     starts = (differ, is_leg);

@@ -28,7 +28,8 @@ module _ (n : NetworkModel) (target : ℕ) (by : Option ℕ) (choice : Leg → �
     | inr more ↦ safe_kid f row place scheduled safe.2 o more
   ]
 
-  pub stands_kid : (f : ℕ → Tree) (row : List Outcome) (scheduled : ℕ) (other : Leg) (o : Outcome) → Contains row o → Stands other (f (scheduled + o.delay)) → StandsIn other (kids_after f scheduled row)
+  pub stands_kid : (f : ℕ → Tree) (row : List Outcome) (scheduled : ℕ) (other : Leg) (o : Outcome) → Contains row o → Stands other (f (scheduled + o.delay))
+      → StandsIn other (kids_after f scheduled row)
   stands_kid f [] scheduled other o has stands = absurd (Contains-nil o has)
   stands_kid f (head ∷ row) scheduled other o has stands = elim (Contains-cons_cases head row o has) [
     | inl is ↦ inl (subst (λ (u : Outcome). Stands other (f (scheduled + u.delay))) (sym is) stands)

@@ -12,7 +12,7 @@ use Rattle.plan_model.specs.NetworkModel.{NetworkModel}
 use Rattle.plan_model.specs.Network.{count}
 use Rattle.plan_model.specs.Tree.{Tree}
 use Rattle.plan_model.specs.Strategy.{IsSafeFromStart}
-use Rattle.plan_model.specs.Unfold.{arrival_of, ride_of, unfold_after, unfolded}
+use Rattle.plan_model.specs.Unfold.{arrival_of, ride_of, unfold_after, unfolding_of}
 use Rattle.plan_graph.specs.declared.GraphRow.{GraphRow}
 use Rattle.plan_graph.specs.Ready.{IsSafeForSome, Stands}
 use Rattle.leg_walk.specs.Tables.{table_after, leg_cmp, with_leg}
@@ -34,11 +34,11 @@ pub record IsReaching (n : NetworkModel) (target : ℕ) (by : Option ℕ) (choic
 
 -- the tree of a choice begins with its start leg
 pub starts_by : (n : NetworkModel) (q : Query) (choice : Leg → ℕ → Option Leg) (start : Leg) → q.source.0 ≢ q.target.0
-    → unfolded n q choice (Some start) ≡ ride_of n (unfold_after n q.target.0 choice (count n - 1)) start
+    → unfolding_of n q choice (Some start) ≡ ride_of n (unfold_after n q.target.0 choice (count n - 1)) start
 starts_by n q choice start differ = rw (ne_eqb q.source.0 q.target.0 differ) refl
 
 pub start_placed : (n : NetworkModel) (q : Query) (choice : Leg → ℕ → Option Leg) (start : Leg) → q.source.0 ≢ q.target.0
-    → (safe : IsSafeForSome n q (unfolded n q choice (Some start))) → StandsSafely n q.target.0 (Some safe.0) choice (unfolded n q choice (Some start)) start
+    → (safe : IsSafeForSome n q (unfolding_of n q choice (Some start))) → StandsSafely n q.target.0 (Some safe.0) choice (unfolding_of n q choice (Some start)) start
 start_placed n q choice start differ safe =
     let begins = starts_by n q choice start differ in
     let own = subst (λ (tree : Tree). IsSafeFromStart n q.target.0 (Some safe.0) tree q.source.0 q.start.0) begins safe.1 in

@@ -21,10 +21,22 @@ ride_there (r ∷ rides) leg x next picks = by_test ((r.leg.enter.0 == leg.enter
   where
     by_test : (test : Bool) → ((r.leg.enter.0 == leg.enter.0) && (r.leg.exit.0 == leg.exit.0)) ≡ test
         → (pick_after rides leg x ≡ Some next → IsRideOf rides leg) → pick_row (if test then r.after else rows_after rides leg) x ≡ Some next → IsRideOf (r ∷ rides) leg
-    by_test true is more picks = record { found = r; has = Contains-head r rides; same_leg = leg_test r.leg leg is; same_rows = ap (λ (test : Bool). if test then r.after else rows_after rides leg) is }
+    by_test true is more picks = record {
+      found = r;
+      has = Contains-head r rides;
+      same_leg = leg_test r.leg leg is;
+      same_rows = ap
+          (λ (test : Bool). if test then r.after else rows_after rides leg) is;
+    }
     by_test false is more picks =
         let rest = more picks in
-        record { found = rest.found; has = Contains-tail r rides rest.found rest.has; same_leg = rest.same_leg; same_rows = ap (λ (test : Bool). if test then r.after else rows_after rides leg) is ∙ rest.same_rows }
+        record {
+          found = rest.found;
+          has = Contains-tail r rides rest.found rest.has;
+          same_leg = rest.same_leg;
+          same_rows = ap
+              (λ (test : Bool). if test then r.after else rows_after rides leg) is ∙ rest.same_rows;
+        }
 
 -- where rides rise, the rows after a ride's leg are its own
 pub rows_after-own : (rides : List Ride) → AllPairs (λ a b. Precedes a.leg b.leg) rides → (r : Ride) → Contains rides r → rows_after rides r.leg ≡ r.after

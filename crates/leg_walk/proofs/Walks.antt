@@ -9,7 +9,7 @@ use Rattle.plan_model.specs.declared.model.Query.{Query}
 use Rattle.plan_model.specs.NetworkModel.{NetworkModel}
 use Rattle.plan_model.specs.Network.{IsValid}
 use Rattle.plan_model.specs.Tree.{Tree}
-use Rattle.plan_model.specs.Unfold.{end_of, arrival_of, outcomes_of, unfolded}
+use Rattle.plan_model.specs.Unfold.{end_of, arrival_of, outcomes_of, unfolding_of}
 use Rattle.plan_graph.specs.declared.GraphRow.{GraphRow}
 use Rattle.plan_graph.specs.declared.Ride.{Ride}
 use Rattle.plan_graph.specs.Rows.{pick_row, pick_after, Precedes}
@@ -30,12 +30,12 @@ pub delays_rise : (n : NetworkModel) → IsValid n → (leg : Leg) → IsLegOf n
 delays_rise n valid leg is_leg = (valid.rows _ (valid.connections leg.exit.0 is_leg.exit).class_in).rising
 
 module _ (n : NetworkModel) (valid : IsValid n) (q : Query) (choice : Leg → ℕ → Option Leg) (start : Leg) (legs : List Leg)
-    (reached : IsReached n q.target.0 choice (unfolded n q choice (Some start)) start legs) where
+    (reached : IsReached n q.target.0 choice (unfolding_of n q choice (Some start)) start legs) where
   abbrev target : ℕ
   target = q.target.0
 
   abbrev whole : Tree
-  whole = unfolded n q choice (Some start)
+  whole = unfolding_of n q choice (Some start)
 
   abbrev own_ride : Leg → Ride
   own_ride leg = ride_of_leg n target choice leg
@@ -67,7 +67,7 @@ module _ (n : NetworkModel) (valid : IsValid n) (q : Query) (choice : Leg → �
         holds = reached.closed leg has (row_by x t.next) (first_there rows x (row_by x t.next) first).1;
       }
 
-  unfolds : unfolded n q (pick_after rides) (Some start) ≡ whole
+  unfolds : unfolding_of n q (pick_after rides) (Some start) ≡ whole
   unfolds = unfold_from-together n target (pick_after rides) choice (Contains legs) picks_chosen start reached.start_there q.source.0 q.start.0
 
   -- what holds of each ride of a reached leg holds of all rides

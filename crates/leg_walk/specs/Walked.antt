@@ -5,7 +5,7 @@ use Rattle.plan_model.specs.declared.model.Outcome.{Outcome}
 use Rattle.plan_model.specs.declared.model.Query.{Query}
 use Rattle.plan_model.specs.NetworkModel.{NetworkModel}
 use Rattle.plan_model.specs.Strategy.{IsBoardable}
-use Rattle.plan_model.specs.Unfold.{end_of, arrival_of, outcomes_of, unfolded}
+use Rattle.plan_model.specs.Unfold.{end_of, arrival_of, outcomes_of, unfolding_of}
 use Rattle.plan_graph.specs.declared.GraphRow.{GraphRow}
 use Rattle.plan_graph.specs.declared.Ride.{Ride}
 use Rattle.plan_graph.specs.Rows.{Precedes, pick_after}
@@ -25,12 +25,12 @@ pub record IsTaken (network : NetworkModel) (choice : Leg → ℕ → Option Leg
 
 -- these rides, in order, are those that stand in the tree of the choice, each with a row for each outcome
 pub record IsWalked (network : NetworkModel) (query : Query) (choice : Leg → ℕ → Option Leg) (start : Leg) (rides : List Ride) : Type 0 where
-  pub unfolds : unfolded network query (pick_after rides) (Some start) ≡ unfolded network query choice (Some start)
+  pub unfolds : unfolding_of network query (pick_after rides) (Some start) ≡ unfolding_of network query choice (Some start)
   pub rising : AllPairs (λ a b. Precedes a.leg b.leg) rides
   pub legs : All (λ r. IsLegOf network r.leg) rides
   pub tables : All (λ r. r.after ≡ table_after network query.target.0 choice r.leg) rides
-  pub stands : All (λ r. Stands r.leg (unfolded network query choice (Some start))) rides
-  pub whole : (leg : Leg) → Stands leg (unfolded network query choice (Some start)) → HasRideOf rides leg
+  pub stands : All (λ r. Stands r.leg (unfolding_of network query choice (Some start))) rides
+  pub whole : (leg : Leg) → Stands leg (unfolding_of network query choice (Some start)) → HasRideOf rides leg
   pub begins : HasRideOf rides start
   pub closed : (r : Ride) → Contains rides r → (row : GraphRow) → Contains r.after row → HasRideOf rides row.leg
   pub taken : (r : Ride) → Contains rides r → end_of network r.leg ≢ query.target.0 → (o : Outcome) → Contains (outcomes_of network r.leg) o

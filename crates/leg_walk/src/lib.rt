@@ -5,7 +5,7 @@ ghost use Rattle.std.specs.Prelude.{◌≡◌, ◌≢◌, ℕ, ◌<◌, ◌++◌
 ghost use Rattle.std.specs.List.{AllByRecursion};
 ghost use Rattle.std.specs.BTreeSet.{contains, IsOrdered};
 ghost use Rattle.plan_model.specs.Network.{count};
-ghost use Rattle.plan_model.specs.Unfold.{unfolded};
+ghost use Rattle.plan_model.specs.Unfold.{unfolding_of};
 ghost use Rattle.plan_graph.specs.Ready.{IsSafeForSome};
 ghost use Rattle.leg_walk.specs.Tables.{table_after, ride_of_leg, leg_cmp, with_leg};
 ghost use Rattle.leg_walk.specs.Placed.{IsReached};
@@ -132,9 +132,9 @@ fn reach<C: LegChoice>(
     requires fits { C.fits choice.now network.now query.now.target.0 }
     requires differ { query.now.source.0 ≢ query.now.target.0 }
     requires safe { IsSafeForSome network.now query.now
-        (unfolded network.now query.now (C.chosen choice.now network.now) (Some start)) }
+        (unfolding_of network.now query.now (C.chosen choice.now network.now) (Some start)) }
     ensures { IfOk result (λ seen. IsReached network.now query.now.target.0
-        (C.chosen choice.now network.now) (unfolded network.now query.now
+        (C.chosen choice.now network.now) (unfolding_of network.now query.now
         (C.chosen choice.now network.now) (Some start)) start seen.keys) }
 {
     let mut seen = BTreeSet::new(alloc);
@@ -187,7 +187,7 @@ pub fn walk<C: LegChoice>(
     requires fits { C.fits choice.now network.now query.now.target.0 }
     requires differ { query.now.source.0 ≢ query.now.target.0 }
     requires safe { IsSafeForSome network.now query.now
-        (unfolded network.now query.now (C.chosen choice.now network.now) (Some start)) }
+        (unfolding_of network.now query.now (C.chosen choice.now network.now) (Some start)) }
     ensures { IfOk result (IsWalked network.now query.now (C.chosen choice.now network.now) start) }
 {
     let _count = network.count();

@@ -19,7 +19,7 @@ use Rattle.lower_proof.specs.declared.reader.Told.{Told}
 use Rattle.lower_proof.specs.declared.reader.ProofFault.{ProofFault}
 use Rattle.lower_proof.specs.declared.reader.ProofFault.TheVariants.{Row}
 use Rattle.lower_proof.specs.Certificates.{bound_of}
-use Rattle.lower_proof.specs.Reading.{value_row_in, connection_in, nanos_in, told_in, value_row, connection_before, value_fault, IsFirstFault, AreValuesTold}
+use Rattle.lower_proof.specs.Reading.{value_row_in, connection_in, nanos_in, told_in, value_row, connection_before, value_fault, IsFirstLineFault, AreValuesTold}
 
 -- ---- a row that tells
 
@@ -133,7 +133,7 @@ module _ (n : NetworkModel) (names : NameLists) (t : List (List (List ℕ))) (st
 
   -- row i has a fault
   pub fault_here : (fault : ProofFault) → i < row_count t → i < stated → ◌≡◌ {A = Result Told ProofFault} (Err fault) (told_in n names (i + 2) last (value_row t i))
-      → IsFirstFault n names t stated fault
+      → IsFirstLineFault n names t stated fault
   fault_here fault inside within is = record {
     i = i;
     within = omega (arith, inside, le-max_left (row_count t) stated);
@@ -142,7 +142,7 @@ module _ (n : NetworkModel) (names : NameLists) (t : List (List (List ℕ))) (st
   }
 
   -- row i is missing, or one too many
-  pub ends_here : i < max (row_count t) stated → (row_count t ≤ i) ⊎ (stated ≤ i) → IsFirstFault n names t stated (Row (i + 2))
+  pub ends_here : i < max (row_count t) stated → (row_count t ≤ i) ⊎ (stated ≤ i) → IsFirstLineFault n names t stated (Row (i + 2))
   ends_here within ends = record {
     i = i;
     within = within;

@@ -88,7 +88,7 @@ value_fault network names t stated i =
     if nat_lt i stated then result_err (told_in network names (i + 2) (connection_before network names t i) (value_row t i)) else Some (Row (i + 2))
 
 -- it is that of a value row, or of one that is missing, and no line before has one
-pub record IsFirstFault (network : NetworkModel) (names : NameLists) (t : List (List (List ℕ))) (stated : ℕ) (fault : ProofFault) : Type 0 where
+pub record IsFirstLineFault (network : NetworkModel) (names : NameLists) (t : List (List (List ℕ))) (stated : ℕ) (fault : ProofFault) : Type 0 where
   pub i : ℕ
   pub within : i < max (row_count t) stated
   pub here : value_fault network names t stated i ≡ Some fault
@@ -96,7 +96,7 @@ pub record IsFirstFault (network : NetworkModel) (names : NameLists) (t : List (
 
 -- the first fault by line: that of the first row, or else that of the first value row that has one
 abbrev pub IsFaultAfter : NetworkModel → NameLists → List (List (List ℕ)) → Result BoundsRow ProofFault → ProofFault → Type 0
-IsFaultAfter network names t (Ok bounds) fault = IsFirstFault network names t bounds.number fault
+IsFaultAfter network names t (Ok bounds) fault = IsFirstLineFault network names t bounds.number fault
 IsFaultAfter network names t (Err first) fault = first ≡ fault
 
 -- no line has a fault, and the values are those of the value rows

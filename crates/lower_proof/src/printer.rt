@@ -3,7 +3,7 @@ ghost use Rattle.std.specs.Prelude.{◌≡◌, ℕ, ◌<◌, ◌≤◌, ◌++◌
 ghost use Rattle.std.specs.List.{count_by};
 ghost use Rattle.plan_model.specs.NameLists.{NamesFit};
 ghost use Rattle.plan_model.specs.Network.{count};
-ghost use Rattle.printed_rows.specs.Writers.{row_of_fields, text_of_records, written, IsBetweenRows};
+ghost use Rattle.printed_rows.specs.Writers.{row_of_fields, text_of_records, text_so_far, IsBetweenRows};
 ghost use Rattle.lower_proof.specs.Steps.{AllFit};
 ghost use Rattle.lower_proof.specs.Reading.{ReadsBack};
 ghost use Rattle.lower_proof.specs.Texts.{bounds_record, value_record, entry_text, value_records, proof_text};
@@ -37,7 +37,7 @@ fn put_bounds(
     requires start { query.now.start.0 ≤ last_printable }
     requires deadline { query.now.deadline.0 ≤ last_printable }
     ensures between { OnOk result (IsBetweenRows writer.new) }
-    ensures text { OnOk result (written writer.new ≡ written writer.old
+    ensures text { OnOk result (text_so_far writer.new ≡ text_so_far writer.old
         ++ row_of_fields (bounds_record names.now query.now values.now)) }
 {
     let start = write_moment(query.start);
@@ -88,7 +88,7 @@ fn put_value(
     requires names { NamesFit names.now network.now }
     requires there { id.0 < count network.now }
     ensures between { OnOk result (IsBetweenRows writer.new) }
-    ensures text { OnOk result (written writer.new ≡ written writer.old
+    ensures text { OnOk result (text_so_far writer.new ≡ text_so_far writer.old
         ++ row_of_fields (value_record network.now names.now id.0 value)) }
 {
     let connection = network.get(id);
@@ -117,7 +117,7 @@ fn put_entry(
     requires names { NamesFit names.now network.now }
     requires there { id.0 < count network.now }
     ensures between { OnOk result (IsBetweenRows writer.new) }
-    ensures text { OnOk result (written writer.new ≡ written writer.old
+    ensures text { OnOk result (text_so_far writer.new ≡ text_so_far writer.old
         ++ entry_text network.now names.now id.0 value) }
     ensures fits { (v : ℕ) → value ≡ Maybe.Some v → v < 2 ^ 64 }
 {
@@ -138,7 +138,7 @@ fn put_values(
     requires names { NamesFit names.now network.now }
     requires as_many { length values.now ≡ count network.now }
     ensures between { OnOk result (IsBetweenRows writer.new) }
-    ensures text { OnOk result (written writer.new ≡ written writer.old
+    ensures text { OnOk result (text_so_far writer.new ≡ text_so_far writer.old
         ++ text_of_records (value_records network.now names.now 0 values.now)) }
     ensures fit { OnOk result (AllFit (length values.now) values.now) }
 {

@@ -3,7 +3,7 @@ ghost use Rattle.std.specs.Prelude.{◌≡◌, ◌+◌, ◌<◌, ◌⊎◌, [], 
 ghost use Rattle.std.specs.Result.{IfErr};
 ghost use Rattle.csv_rows.specs.Tables.{header, row_count};
 ghost use Rattle.plan_model.specs.Network.{count};
-ghost use Rattle.lower_proof.specs.Reading.{is_bounds, bounds_row_in, bounds_in, value_row_in, told_in, IsFirstFault, AreValuesTold, IsProofRead};
+ghost use Rattle.lower_proof.specs.Reading.{is_bounds, bounds_row_in, bounds_in, value_row_in, told_in, IsFirstLineFault, AreValuesTold, IsProofRead};
 
 use crate::{LowerBounds, no_values};
 use clock_text::{read_moment, read_nanos};
@@ -167,7 +167,7 @@ fn read_values(
     stated: u32,
 ) -> Result<Vec<Option<u64>>, ProofFault>
     ensures told { IfOk result (λ values. AreValuesTold network.now names.now rows.now stated values.items) }
-    ensures fault { IfErr result (λ fault. (fault ≡ ProofFault.NoMemory) ⊎ IsFirstFault network.now names.now rows.now stated fault) }
+    ensures fault { IfErr result (λ fault. (fault ≡ ProofFault.NoMemory) ⊎ IsFirstLineFault network.now names.now rows.now stated fault) }
 {
     let mut values = match no_values(alloc, network) {
         Ok(values) => values,

@@ -4,7 +4,7 @@ ghost use Rattle.std.specs.Io.KnownBytes.{Keeps};
 ghost use Rattle.csv_rows.specs.Limits.{AreWithin, standard};
 ghost use Rattle.file_ports.specs.Counts.{Rose};
 ghost use Rattle.command_line.specs.Ranges.{IsJob};
-ghost use Rattle.command_line.specs.Shown.{shown};
+ghost use Rattle.command_line.specs.Shown.{wanted_job};
 ghost use Rattle.journey_model.specs.Faults.{status_of};
 ghost use Rattle.fault_lines.specs.Lines.{line_of};
 ghost use Rattle.journey_model.specs.Sites.{NamedParts, IsTellable};
@@ -36,13 +36,13 @@ fn answer_of<F: Files>(
     limits: &Limits,
 ) -> Result<Answer, Refusal>
     requires within { AreWithin limits.now }
-    requires job { IsJob (shown job.now) }
+    requires job { IsJob (wanted_job job.now) }
     ensures same { F.files files.new ≡ F.files files.old }
-    ensures answer { IfOk result (λ a. AnswersJob (F.files files.old) limits.now (shown job.now)
+    ensures answer { IfOk result (λ a. AnswersJob (F.files files.old) limits.now (wanted_job job.now)
         (findings_of a.report) a.text.items) }
     ensures fault { IfErr result (IsRefusalBy
-        (FailsJob (F.files files.old) limits.now (shown job.now))) }
-    ensures causes { HasCauses (IsSome (F.files files.old)) (path_in (shown job.now))
+        (FailsJob (F.files files.old) limits.now (wanted_job job.now))) }
+    ensures causes { HasCauses (IsSome (F.files files.old)) (path_in (wanted_job job.now))
         (F.faults files.old) (F.faults files.new)
         (F.faults_of files.old) (F.faults_of files.new) (by_fault result) }
 {

@@ -13,7 +13,7 @@ use Rattle.plan_model.specs.Tree.{Tree, Kids, Done, Ride, Stuck, Nil, Kid, heigh
 use Rattle.plan_model.specs.Strategy.{IsSafe, AreSafe, IsSafeFor}
 use Rattle.plan_model.specs.Unfold.{end_of, kids_after, ride_of, ride_or_stuck, unfold_after, unfold_from, by_place}
 use Rattle.stop_profile.specs.declared.Row.{Row}
-use Rattle.stop_profile.specs.Inserts.{picked, Rises}
+use Rattle.stop_profile.specs.Inserts.{row_in_time, Rises}
 use Rattle.trip_exit.specs.Offers.{Exit}
 use Rattle.meat_scan.specs.Found.{Found, found_rows, leg_choice, chosen_at, chosen_by}
 use Rattle.meat_scan.specs.Solves.{IsSafeAt, HasAnswers, SolvesEach, IsStartAnswer}
@@ -24,18 +24,18 @@ use Rattle.meat_scan.proofs.Starts.{StartOk}
 use Rattle.meat_scan.proofs.ScanStep.{ScanOk}
 
 -- the row that is picked stays picked up to its `by`
-picked_still : {V : Type 0} (rows : List (Row V)) (arrival later : ℕ) (row : Row V) → picked arrival rows ≡ Some row → arrival ≤ later → later ≤ row.by.0 → picked later rows ≡ Some row
+picked_still : {V : Type 0} (rows : List (Row V)) (arrival later : ℕ) (row : Row V) → row_in_time arrival rows ≡ Some row → arrival ≤ later → later ≤ row.by.0 → row_in_time later rows ≡ Some row
 picked_still {V} [] arrival later row is after in_time = absurd (cc)
 picked_still {V} (head ∷ rows) arrival later row is after in_time = elim (cases_lt head.by.0 arrival) [
   | inl late ↦
-      let here : picked arrival (head ∷ rows) ≡ picked arrival rows = grind (arith, nat_tests) in
-      let there : picked later (head ∷ rows) ≡ picked later rows = grind (arith, nat_tests) in
+      let here : row_in_time arrival (head ∷ rows) ≡ row_in_time arrival rows = grind (arith, nat_tests) in
+      let there : row_in_time later (head ∷ rows) ≡ row_in_time later rows = grind (arith, nat_tests) in
       there ∙ picked_still rows arrival later row (sym here ∙ is) after in_time
   | inr early ↦
-      let here : picked arrival (head ∷ rows) ≡ Some head = grind (arith, nat_tests) in
+      let here : row_in_time arrival (head ∷ rows) ≡ Some head = grind (arith, nat_tests) in
       let same : head ≡ row = let both = sym here ∙ is in cc in
       let in_time_head : later ≤ head.by.0 = subst (λ (r : Row V). later ≤ r.by.0) (sym same) in_time in
-      let there : picked later (head ∷ rows) ≡ Some head = grind (arith, nat_tests) in
+      let there : row_in_time later (head ∷ rows) ≡ Some head = grind (arith, nat_tests) in
       there ∙ ap (λ (r : Row V). Some r) same
 ]
 
@@ -45,7 +45,7 @@ option_map-option_map None = refl
 option_map-option_map (Some row) = refl
 
 module _ {V : Type 0} (n : NetworkModel) (target deadline : ℕ) (choice : ℕ → ℕ → Option Leg) (rows : ℕ → List (Row V))
-    (by_rows : (place arrival : ℕ) → choice place arrival ≡ option_map (λ row. row.leg) (picked arrival (rows place))) where
+    (by_rows : (place arrival : ℕ) → choice place arrival ≡ option_map (λ row. row.leg) (row_in_time arrival (rows place))) where
   -- what is unfolded after a leg, over so many rides
   abbrev after_leg : ℕ → Leg → ℕ → Tree
   after_leg rides leg arrival = unfold_after n target (by_place n choice) rides leg arrival
@@ -100,22 +100,22 @@ module _ {V : Type 0} (below covers : V → Tree → Type 0) (gap rank : V → �
     (all : (id : ℕ) → id < count n → scanned id) (differ : q.source.0 ≢ q.target.0) (found : Found V) (exits : ℕ → Option (Exit V))
     (ok : ScanOk below covers gap rank n q scanned (count n) (found_rows found) exits found.start) where
   -- the leg of the row that is picked
-  leg_choice-picked : (place arrival : ℕ) → leg_choice found place arrival ≡ option_map (λ row. row.leg) (picked arrival (found_rows found place))
-  leg_choice-picked place arrival = option_map-option_map (picked arrival (found_rows found place))
+  leg_choice-row_in_time : (place arrival : ℕ) → leg_choice found place arrival ≡ option_map (λ row. row.leg) (row_in_time arrival (found_rows found place))
+  leg_choice-row_in_time place arrival = option_map-option_map (row_in_time arrival (found_rows found place))
 
-  answer : (place arrival : ℕ) → place ≢ q.target.0 → (row : Row V) → picked arrival (found_rows found place) ≡ Some row
+  answer : (place arrival : ℕ) → place ≢ q.target.0 → (row : Row V) → row_in_time arrival (found_rows found place) ≡ Some row
       → IsRowFor below covers gap n q.target.0 q.deadline.0 scanned (found_rows found) (count n) place arrival row
       → SolvesEach below covers gap n q found place arrival (row.value, row.leg)
   answer place arrival away row is claim =
       let tree = Ride row.leg.enter.0 row.leg.exit.0 claim.kids in
       let in_time = picked_in_time arrival (found_rows found place) row is in
       let safe : IsSafeAt n q place arrival tree = (away, claim.leg, boards-limit_of n place arrival row.by.0 row.leg claim.limit in_time, claim.safe) in
-      let chooses : (later : ℕ) → picked later (found_rows found place) ≡ Some row
-      → leg_choice found place later ≡ Some row.leg = λ later there. leg_choice-picked place later ∙ ap (option_map (λ row. row.leg)) there in
+      let chooses : (later : ℕ) → row_in_time later (found_rows found place) ≡ Some row
+      → leg_choice found place later ≡ Some row.leg = λ later there. leg_choice-row_in_time place later ∙ ap (option_map (λ row. row.leg)) there in
       let chosen_is : chosen_at n q found place arrival ≡ tree =
       ap (λ (first : Option Leg). unfold_from n q.target.0 (by_place n (leg_choice found)) first place arrival) (chooses arrival is)
       ∙ unfold_from-chosen n q.target.0 q.deadline.0 (leg_choice found)
-      (found_rows found) leg_choice-picked row.leg.enter.0 row.leg.exit.0 claim.kids row.leg place arrival away refl refl claim.low claim.safe claim.chosen in
+      (found_rows found) leg_choice-row_in_time row.leg.enter.0 row.leg.exit.0 claim.kids row.leg place arrival away refl refl claim.low claim.safe claim.chosen in
       record {
         safe = subst (IsSafeAt n q place arrival) (sym chosen_is) safe;
         covers_chosen = subst (covers row.value) (sym chosen_is) claim.covers_ride;
@@ -134,7 +134,7 @@ module _ {V : Type 0} (below covers : V → Tree → Type 0) (gap rank : V → �
       below_safe (Ride enter exit others) safe = claim.below_all enter exit others (all enter safe.1.enter) safe
       below_safe (Stuck at moment) safe = absurd safe
 
-  answers : (place arrival : ℕ) → place ≢ q.target.0 → (o : Option (Row V)) → picked arrival (found_rows found place) ≡ o
+  answers : (place arrival : ℕ) → place ≢ q.target.0 → (o : Option (Row V)) → row_in_time arrival (found_rows found place) ≡ o
       → PlaceOk below covers gap n q.target.0 q.deadline.0 scanned (found_rows found) (count n) place arrival o
       → MatchOption (option_map (λ row. (row.value, row.leg)) o) ((tree : Tree) → IsSafeAt n q place arrival tree → ⊥) (SolvesEach below covers gap n q found place arrival)
   answers place arrival away None is claim = nothing
@@ -156,7 +156,7 @@ module _ {V : Type 0} (below covers : V → Tree → Type 0) (gap rank : V → �
   start_answers (Some begin) claim =
       let tree = Ride begin.1.enter.0 begin.1.exit.0 claim.kids in
       let tree_is : chosen_by n q found begin.1 ≡ tree = unfold_from-chosen n q.target.0 q.deadline.0 (leg_choice found)
-      (found_rows found) leg_choice-picked begin.1.enter.0 begin.1.exit.0 claim.kids begin.1 q.source.0 q.start.0 differ refl refl claim.low
+      (found_rows found) leg_choice-row_in_time begin.1.enter.0 begin.1.exit.0 claim.kids begin.1 q.source.0 q.start.0 differ refl refl claim.low
       claim.safe claim.chosen in
       let safe : IsSafeFor n q tree = (differ, claim.leg, (claim.from, claim.in_time), claim.safe) in
       record {
@@ -175,7 +175,7 @@ module _ {V : Type 0} (below covers : V → Tree → Type 0) (gap rank : V → �
   pub solves_end : HasAnswers below covers gap n q found
   solves_end = record {
     begins = start_answers found.start ok.begins;
-    goes_on = λ place arrival away. answers place arrival away (picked arrival (found_rows found place)) refl (ok.places place arrival);
+    goes_on = λ place arrival away. answers place arrival away (row_in_time arrival (found_rows found place)) refl (ok.places place arrival);
   }
 
 -- before any connection is scanned
@@ -185,7 +185,7 @@ module _ {V : Type 0} (below covers : V → Tree → Type 0) (gap rank : V → �
   pub scan_ok_start : ScanOk below covers gap rank network query scanned 0 rows exits None
   scan_ok_start = record {
     places = λ place arrival. subst
-        (λ (list : List (Row V)). PlaceOk below covers gap network query.target.0 query.deadline.0 scanned rows 0 place arrival (picked arrival list))
+        (λ (list : List (Row V)). PlaceOk below covers gap network query.target.0 query.deadline.0 scanned rows 0 place arrival (row_in_time arrival list))
         (sym (empty place)) (λ enter exit others known safe. none enter known);
     runs = λ run. subst (RunOk below covers gap network query.target.0 query.deadline.0 scanned rows 0 run) (sym (no_exits run)) (λ other others can. none other can.known);
     begins = λ enter exit others known safe. none enter known;

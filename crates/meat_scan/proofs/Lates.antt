@@ -16,7 +16,7 @@ use Rattle.value_laws.specs.ScoreLaws.{ScoreLaws}
 use Rattle.stop_profile.specs.declared.Row.{Row}
 use Rattle.stop_profile.specs.Shown.{ShownProfile}
 use Rattle.trip_exit.specs.Offers.{Exit}
-use Rattle.meat_scan.specs.Step.{left_by, boarded, exits_next, rows_next, start_next}
+use Rattle.meat_scan.specs.Step.{left_by, boarding_exit, exits_next, rows_next, start_next}
 use Rattle.meat_scan.specs.Values.{value_after_arrival, values_after, in_front}
 use Rattle.meat_scan.specs.Tables.{rows_of_profile, exit_at, has_way, HasRoom, IsEmpty}
 use Rattle.meat_scan.proofs.States.{ScanState, first_state, next_state, id_there}
@@ -56,7 +56,7 @@ module _ {V : Type 0} (rank : V → ℕ) (lowered : V → V → V) (arrived : �
   pub exits_kept : (run : ℕ) → exits_next rank lowered arrived blended network query id rows exits run ≡ exits run
   exits_kept run = rw left_none refl
 
-  boarded_none : boarded network id (exits_next rank lowered arrived blended network query id rows exits) ≡ None
+  boarded_none : boarding_exit network id (exits_next rank lowered arrived blended network query id rows exits) ≡ None
   boarded_none = rw (left_none, no_exits (run_of network id)) (cond_none (connection network id).can_board)
 
   pub rows_kept : (place : ℕ) → rows_next rank lowered arrived blended network query id rows exits place ≡ rows place

@@ -5,9 +5,9 @@ use Rattle.plan_model.specs.declared.model.Leg.{Leg}
 use Rattle.plan_model.specs.declared.model.Query.{Query}
 use Rattle.plan_model.specs.NetworkModel.{NetworkModel}
 use Rattle.plan_model.specs.Tree.{Tree}
-use Rattle.plan_model.specs.Unfold.{unfold_from, unfolded, by_place}
+use Rattle.plan_model.specs.Unfold.{unfold_from, unfolding_of, by_place}
 use Rattle.stop_profile.specs.declared.Row.{Row}
-use Rattle.stop_profile.specs.Inserts.{picked}
+use Rattle.stop_profile.specs.Inserts.{row_in_time}
 use Rattle.meat_scan.specs.Tables.{ShownTables}
 
 -- the start leg with its value, the rows of each place, and the target of the scan
@@ -26,7 +26,7 @@ found_rows found place = slice_index_or found.rows place []
 
 -- what is chosen after an arrival at a place
 abbrev pub choice_of : {V : Type 0} → Found V → ℕ → ℕ → Option (V × Leg)
-choice_of found place arrival = option_map (λ row. (row.value, row.leg)) (picked arrival (found_rows found place))
+choice_of found place arrival = option_map (λ row. (row.value, row.leg)) (row_in_time arrival (found_rows found place))
 
 -- the leg that is chosen after an arrival at a place
 abbrev pub leg_choice : {V : Type 0} → Found V → ℕ → ℕ → Option Leg
@@ -39,4 +39,4 @@ chosen_at network query found place arrival =
 
 -- the tree that is chosen by a start leg
 abbrev pub chosen_by : {V : Type 0} → NetworkModel → Query → Found V → Leg → Tree
-chosen_by network query found leg = unfolded network query (by_place network (leg_choice found)) (Some leg)
+chosen_by network query found leg = unfolding_of network query (by_place network (leg_choice found)) (Some leg)

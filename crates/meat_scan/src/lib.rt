@@ -17,7 +17,7 @@ ghost use Rattle.meat_scan.specs.Tables.{rows_of_profile, spare_at, capacity_at,
 ghost use Rattle.meat_scan.specs.Found.{choice_of, found_in};
 ghost use Rattle.meat_scan.specs.Values.{value_after_arrival, values_after};
 ghost use Rattle.meat_scan.specs.Step.{left_by, exits_with, way_of_place, with_way, rows_with, start_with};
-ghost use Rattle.meat_scan.specs.Step.{boarded, rows_next, exits_next};
+ghost use Rattle.meat_scan.specs.Step.{boarding_exit, rows_next, exits_next};
 ghost use Rattle.meat_scan.specs.Rules.{FollowsRules};
 ghost use Rattle.meat_scan.specs.Solves.{HasAnswers, Solves, SolvesStart};
 
@@ -226,7 +226,7 @@ fn boarded_for<V: Score>(
     id: ConnectionId,
 ) -> Option<(V, ConnectionId)>
     requires { id.0 < count network.now }
-    ensures { result ≡ boarded network.now id.0 (exit_at exits.now) }
+    ensures { result ≡ boarding_exit network.now id.0 (exit_at exits.now) }
 {
     let connection = network.get(id);
     if connection.can_board {
@@ -265,7 +265,7 @@ fn scan_one<V: Score>(
     ensures exit { let rows = rows_of_profile profiles.old in
         let exits = exit_at exits.old in
         let exits = exits_next V.rank V.lowered V.arrived V.blended network.now query.now id.0 rows exits in
-        result ≡ boarded network.now id.0 exits }
+        result ≡ boarding_exit network.now id.0 exits }
     ensures spare { (place : ℕ) →
         let taken = ways_between network.now place (from_of network.now id.0) in
         spare_at profiles.old place ≤ spare_at profiles.new place + taken }

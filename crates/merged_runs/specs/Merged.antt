@@ -10,14 +10,14 @@ abbrev pub rank : NetworkModel → ℕ → ℕ
 rank network i = dep_of network i * most_connections + i
 
 -- a connection at its place among others that stand in the scan order
-abbrev pub placed : NetworkModel → ℕ → List ConnectionId → List ConnectionId
-placed network i [] = record { 0 = i } ∷ []
-placed network i (id ∷ ids) = if nat_lt (rank network i) (rank network id.0) then record { 0 = i } ∷ id ∷ ids else id ∷ placed network i ids
+abbrev pub with_connection : NetworkModel → ℕ → List ConnectionId → List ConnectionId
+with_connection network i [] = record { 0 = i } ∷ []
+with_connection network i (id ∷ ids) = if nat_lt (rank network i) (rank network id.0) then record { 0 = i } ∷ id ∷ ids else id ∷ with_connection network i ids
 
 -- the first m connections, in the scan order
 abbrev pub in_order : NetworkModel → ℕ → List ConnectionId
 in_order network zero = []
-in_order network (suc m) = placed network m (in_order network m)
+in_order network (suc m) = with_connection network m (in_order network m)
 
 -- in the scan order, the connections that stand before the end that is left of their run
 unfoldable pub rest_of : NetworkModel → List ℕ → List ConnectionId

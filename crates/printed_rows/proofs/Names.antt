@@ -1,7 +1,7 @@
 -- The names of a network's places and runs in printed rows.
 use Rattle.std.proofs.Common.{◌≡◌, ℕ, ◌<◌, length, Some, arith}
 use Rattle.std.specs.Prelude.{decimal}
-use Rattle.csv_rows.specs.Spaces.{trimmed}
+use Rattle.csv_rows.specs.Spaces.{trimmed_text}
 use Rattle.plan_model.specs.NetworkModel.{NetworkModel}
 use Rattle.plan_model.specs.NameLists.{NameLists, NamesFit, AreNames}
 use Rattle.plan_model.specs.Network.{IsValid, count, run_of, step_of}
@@ -10,10 +10,10 @@ use Rattle.printed_rows.specs.Writers.{place_name, run_name}
 use Rattle.printed_rows.proofs.Plain.{decimal_kept, whole_back, name_back, name_kept}
 
 module _ (n : NetworkModel) (names : NameLists) (fit : NamesFit names n) where
-  pub place_kept : (place : ℕ) → place < length n.change → trimmed (place_name names place) ≡ place_name names place
+  pub place_kept : (place : ℕ) → place < length n.change → trimmed_text (place_name names place) ≡ place_name names place
   place_kept place there = name_kept names.places place fit.place_names (omega (arith, there, fit.places))
 
-  pub run_kept : (c : ℕ) → c < count n → trimmed (run_name names (run_of n c)) ≡ run_name names (run_of n c)
+  pub run_kept : (c : ℕ) → c < count n → trimmed_text (run_name names (run_of n c)) ≡ run_name names (run_of n c)
   run_kept c there = name_kept names.runs (run_of n c) fit.run_names (fit.below c there)
 
   module _ (own : AreNames names) where
@@ -25,7 +25,7 @@ module _ (n : NetworkModel) (names : NameLists) (fit : NamesFit names n) where
 
 -- and the steps of its connections
 module _ (n : NetworkModel) (valid : IsValid n) where
-  pub step_kept : (c : ℕ) → c < count n → trimmed (decimal (step_of n c)) ≡ decimal (step_of n c)
+  pub step_kept : (c : ℕ) → c < count n → trimmed_text (decimal (step_of n c)) ≡ decimal (step_of n c)
   step_kept c there = decimal_kept (step_of n c) (omega (arith, (valid.connections c there).step_in))
 
   pub step_back : (c : ℕ) → c < count n → whole_at (decimal (step_of n c)) ≡ Some (step_of n c)

@@ -14,8 +14,8 @@ use Rattle.clock_text.specs.Civil.{moment_text, nanos_text, parts_of_day}
 use Rattle.clock_text.specs.Digits.{digits, value_of}
 use Rattle.clock_text.specs.Times.{Parts, text_of_parts}
 use Rattle.plan_model.specs.NameLists.{AreDistinct, IsTrimmed}
-use Rattle.csv_rows.specs.Spaces.{trimmed}
-use Rattle.csv_rows.proofs.SpaceLemmas.{trimmed-IsTrimmed}
+use Rattle.csv_rows.specs.Spaces.{trimmed_text}
+use Rattle.csv_rows.proofs.SpaceLemmas.{trimmed_text-IsTrimmed}
 use Rattle.printed_rows.specs.Fields.{number_of, whole_at}
 use Rattle.printed_rows.proofs.Found.{place_found, false_if, with_utf8}
 
@@ -30,8 +30,8 @@ plain_ends text plain = record {
   end = λ rest ends. false≢true ((and_parts _ _ (sym (list_all-append (nat_lt 32) rest (32 ∷ [])) ∙ sym (ap is_plain ends) ∙ plain)).1);
 }
 
-pub plain_kept : (text : List ℕ) → is_plain text ≡ true → trimmed text ≡ text
-plain_kept text plain = trimmed-IsTrimmed text (plain_ends text plain)
+pub plain_kept : (text : List ℕ) → is_plain text ≡ true → trimmed_text text ≡ text
+plain_kept text plain = trimmed_text-IsTrimmed text (plain_ends text plain)
 
 high : (n : ℕ) → nat_lt 32 (48 + n) ≡ true
 high n = grind (arith, nat_tests)
@@ -49,14 +49,14 @@ digits_plain (b ∷ text) digits =
 parts_plain : (p : Parts) → is_plain (text_of_parts p) ≡ true
 parts_plain p = simp high
 
-pub moment_kept : (moment : ℕ) → trimmed (moment_text moment) ≡ moment_text moment
+pub moment_kept : (moment : ℕ) → trimmed_text (moment_text moment) ≡ moment_text moment
 moment_kept moment = plain_kept (moment_text moment) (parts_plain (parts_of_day (moment / 86400) (moment % 86400)))
 
 -- the text of nanoseconds
 nine_plain : (n : ℕ) → is_plain (46 ∷ digits 9 n) ≡ true
 nine_plain n = simp high
 
-pub nanos_kept : (nanos : ℕ) → trimmed (nanos_text nanos) ≡ nanos_text nanos
+pub nanos_kept : (nanos : ℕ) → trimmed_text (nanos_text nanos) ≡ nanos_text nanos
 nanos_kept nanos = plain_kept (nanos_text nanos)
     (list_all-append (nat_lt 32) (moment_text (nanos / 1_000_000_000)) (46 ∷ digits 9 (nanos % 1_000_000_000))
     ∙ (rw (parts_plain (parts_of_day (nanos / 1_000_000_000 / 86400) (nanos / 1_000_000_000 % 86400)), nine_plain (nanos % 1_000_000_000)) refl))
@@ -78,7 +78,7 @@ decimal_is n below = decimal_by_steps IsDecimal
     })
     n below
 
-pub decimal_kept : (n : ℕ) → n < 2 ^ 64 → trimmed (decimal n) ≡ decimal n
+pub decimal_kept : (n : ℕ) → n < 2 ^ 64 → trimmed_text (decimal n) ≡ decimal n
 decimal_kept n below = plain_kept (decimal n) (digits_plain (decimal n) (decimal_is n below).digits)
 
 whole_by : (text : List ℕ) (n : ℕ) → 1 ≤ length text → length text ≤ 9 → IsDecimal n text → n ≤ 999999999 → whole_at text ≡ Some n
@@ -99,5 +99,5 @@ name_back names i distinct texts within =
     within ((bytes_decides (slice_index_or names i []) (slice_index_or names i [])).1 refl)
     ∙ ap (λ (k : ℕ). Some k) (let e : 0 + i ≡ i = omega arith in e)
 
-pub name_kept : (names : List (List ℕ)) (i : ℕ) → All IsTrimmed names → i < length names → trimmed (slice_index_or names i []) ≡ slice_index_or names i []
-name_kept names i all within = trimmed-IsTrimmed (slice_index_or names i []) (all i [] within)
+pub name_kept : (names : List (List ℕ)) (i : ℕ) → All IsTrimmed names → i < length names → trimmed_text (slice_index_or names i []) ≡ slice_index_or names i []
+name_kept names i all within = trimmed_text-IsTrimmed (slice_index_or names i []) (all i [] within)

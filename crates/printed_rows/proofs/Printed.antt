@@ -6,7 +6,7 @@ use Rattle.csv.specs.Reading.{default_config, records, records_from, strip_bom}
 use Rattle.csv.specs.Writing.{default_writer, row_text, row_body, read_back}
 use Rattle.csv.specs.declared.parser.State.TheVariants as st
 use Rattle.csv.proofs.RoundTrip.{read-write, rows_text as text_of_rows}
-use Rattle.csv_rows.specs.Spaces.{trimmed}
+use Rattle.csv_rows.specs.Spaces.{trimmed_text}
 use Rattle.csv_rows.specs.Tables.{table_of}
 
 -- each record's text has a byte
@@ -32,7 +32,7 @@ records_in (row ∷ rows) (suc turns) enough =
 
 -- a record has a field, and no space stands at an end of one
 abbrev pub IsKept : List (List ℕ) → Type 0
-IsKept row = map trimmed (read_back row) ≡ row
+IsKept row = map trimmed_text (read_back row) ≡ row
 
 abbrev pub AreKept : List (List (List ℕ)) → Type 0
 AreKept [] = Unit {0}
@@ -42,23 +42,23 @@ pub kept-append : (rows more : List (List (List ℕ))) → AreKept rows → AreK
 kept-append [] more kept other = other
 kept-append (row ∷ rows) more kept other = (kept.0, kept-append rows more kept.1 other)
 
-kept_back : (rows : List (List (List ℕ))) → AreKept rows → map (λ row. map trimmed row) (map read_back rows) ≡ rows
+kept_back : (rows : List (List (List ℕ))) → AreKept rows → map (λ row. map trimmed_text row) (map read_back rows) ≡ rows
 kept_back [] kept = refl
 kept_back (row ∷ rows) kept =
-    ap (λ (first : List (List ℕ)). first ∷ map (λ r. map trimmed r) (map read_back rows)) kept.0
+    ap (λ (first : List (List ℕ)). first ∷ map (λ r. map trimmed_text r) (map read_back rows)) kept.0
     ∙ ap (λ (rest : List (List (List ℕ))). row ∷ rest) (kept_back rows kept.1)
 
 -- a text that begins with no byte-order mark is read as its records
 pub table_back : (rows : List (List (List ℕ))) → AreKept rows → strip_bom (text_of_rows rows) ≡ text_of_rows rows → table_of (text_of_rows rows) ≡ rows
 table_back rows kept plain =
-    ap (λ (text : List ℕ). map (λ row. map trimmed row) (records default_config text)) plain
-    ∙ ap (λ (raw : List (List (List ℕ))). map (λ row. map trimmed row) raw) (records_in rows (length (text_of_rows rows) + 1) (omega (arith, few_rows rows)))
+    ap (λ (text : List ℕ). map (λ row. map trimmed_text row) (records default_config text)) plain
+    ∙ ap (λ (raw : List (List (List ℕ))). map (λ row. map trimmed_text row) raw) (records_in rows (length (text_of_rows rows) + 1) (omega (arith, few_rows rows)))
     ∙ kept_back rows kept
 
 -- rows of seven and of four fields
-pub seven_kept : (a b c d e f g : List ℕ) → trimmed a ≡ a → trimmed b ≡ b → trimmed c ≡ c → trimmed d ≡ d → trimmed e ≡ e → trimmed f ≡ f → trimmed g ≡ g
+pub seven_kept : (a b c d e f g : List ℕ) → trimmed_text a ≡ a → trimmed_text b ≡ b → trimmed_text c ≡ c → trimmed_text d ≡ d → trimmed_text e ≡ e → trimmed_text f ≡ f → trimmed_text g ≡ g
     → IsKept (a ∷ b ∷ c ∷ d ∷ e ∷ f ∷ g ∷ [])
 seven_kept a b c d e f g one two three four five six seven = cc
 
-pub four_kept : (a b c d : List ℕ) → trimmed a ≡ a → trimmed b ≡ b → trimmed c ≡ c → trimmed d ≡ d → IsKept (a ∷ b ∷ c ∷ d ∷ [])
+pub four_kept : (a b c d : List ℕ) → trimmed_text a ≡ a → trimmed_text b ≡ b → trimmed_text c ≡ c → trimmed_text d ≡ d → IsKept (a ∷ b ∷ c ∷ d ∷ [])
 four_kept a b c d one two three four = cc

@@ -22,8 +22,8 @@ abbrev pub run_name : NameLists → ℕ → List ℕ
 run_name names run = slice_index_or names.runs run []
 
 -- the text so far
-abbrev pub written : Writer (Vec ℕ Global) → List ℕ
-written w = (writer_under w).items ++ writer_pending w
+abbrev pub text_so_far : Writer (Vec ℕ Global) → List ℕ
+text_so_far w = (writer_under w).items ++ writer_pending w
 
 -- it writes with the crate's defaults, and has ended each row that it began
 pub record IsBetweenRows (w : Writer (Vec ℕ Global)) : Type 0 where

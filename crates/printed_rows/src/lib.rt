@@ -6,7 +6,7 @@ ghost use Rattle.std.specs.Option.{option_map};
 ghost use Rattle.csv_rows.specs.Tables.{row_count};
 ghost use Rattle.plan_model.specs.Network.{count};
 ghost use Rattle.printed_rows.specs.Fields.{number_of, connection_of, is_query, whole_at, rises, is_kind};
-ghost use Rattle.printed_rows.specs.Writers.{row_of_fields, written, IsBetweenRows};
+ghost use Rattle.printed_rows.specs.Writers.{row_of_fields, text_so_far, IsBetweenRows};
 
 use clock_text::read_whole;
 use csv::{Writer, WriterBuilder};
@@ -86,7 +86,7 @@ pub fn is_kind(rows: &Rows, row: usize, kind: &[u8], width: usize) -> bool
 /// A writer of rows that has written nothing.
 pub fn new_writer(alloc: Global) -> Writer<Vec<u8>>
     ensures between { IsBetweenRows result }
-    ensures text { written result ≡ [] }
+    ensures text { text_so_far result ≡ [] }
 {
     WriterBuilder::new().from_writer(Vec::new(alloc))
 }
@@ -94,7 +94,7 @@ pub fn new_writer(alloc: Global) -> Writer<Vec<u8>>
 /// A writer of rows that goes on behind a text. All rows that one writer writes have as many fields as its first.
 pub fn writer_behind(text: Vec<u8>) -> Writer<Vec<u8>>
     ensures between { IsBetweenRows result }
-    ensures text { written result ≡ text.items }
+    ensures text { text_so_far result ≡ text.items }
 {
     WriterBuilder::new().from_writer(text)
 }
@@ -104,7 +104,7 @@ pub fn writer_behind(text: Vec<u8>) -> Writer<Vec<u8>>
 pub fn put_row(writer: &mut Writer<Vec<u8>>, fields: &[&[u8]]) -> Result<(), NoMemory>
     requires { IsBetweenRows writer.old }
     ensures between { OnOk result (IsBetweenRows writer.new) }
-    ensures text { OnOk result (written writer.new ≡ written writer.old ++ row_of_fields (map (λ field. field.now) fields.now)) }
+    ensures text { OnOk result (text_so_far writer.new ≡ text_so_far writer.old ++ row_of_fields (map (λ field. field.now) fields.now)) }
 {
     match writer.write_fields(fields) {
         Ok(()) => Ok(()),
@@ -114,7 +114,7 @@ pub fn put_row(writer: &mut Writer<Vec<u8>>, fields: &[&[u8]]) -> Result<(), NoM
 
 /// The text that was written.
 pub fn text_of(writer: Writer<Vec<u8>>) -> Result<Vec<u8>, NoMemory>
-    ensures { IfOk result (λ text. text.items ≡ written writer) }
+    ensures { IfOk result (λ text. text.items ≡ text_so_far writer) }
 {
     match writer.into_inner() {
         Ok(text) => Ok(text),

@@ -6,21 +6,21 @@ use Rattle.plan_model.specs.declared.model.Outcome.{Outcome}
 use Rattle.plan_model.specs.Tree.{Tree}
 use Rattle.value_laws.specs.ScoreLaws.{ScoreLaws}
 use Rattle.stop_profile.specs.declared.Row.{Row}
-use Rattle.stop_profile.specs.Inserts.{inserted, Rises, picked, rows_after_inserts}
+use Rattle.stop_profile.specs.Inserts.{rows_with_new, Rises, row_in_time, rows_after_inserts}
 use Rattle.stop_profile.specs.LookLaw.{Carries, IsBestRow, LookLaw}
 use Rattle.stop_profile.specs.LookStep.{none, same, holds, first, wins}
 use Rattle.stop_profile.proofs.Looks.{carries_trans, picked_gap}
-use Rattle.stop_profile.proofs.Inserted.{rises-inserted, gaps-inserted, look_step}
+use Rattle.stop_profile.proofs.Inserted.{rises-rows_with_new, gaps-rows_with_new, look_step}
 
 module _ {V : Type 0} {below covers : V → Tree → Type 0} {gap rank : V → ℕ} {arrived : ℕ → V} {blended : List Outcome → List V → V}
     {lowered : V → V → V} (laws : ScoreLaws below covers gap rank arrived blended lowered) where
   rises_after : (inserts : List (Row V)) → Rises rank (rows_after_inserts rank lowered inserts)
   rises_after [] = tt
-  rises_after (new ∷ earlier) = rises-inserted rank lowered laws.lowered_rank new (rows_after_inserts rank lowered earlier) (rises_after earlier)
+  rises_after (new ∷ earlier) = rises-rows_with_new rank lowered laws.lowered_rank new (rows_after_inserts rank lowered earlier) (rises_after earlier)
 
   gaps_after : (most : ℕ) (inserts : List (Row V)) → All (λ insert. gap insert.value ≤ most) inserts → AllByRecursion (λ row. gap row.value ≤ most) (rows_after_inserts rank lowered inserts)
   gaps_after most [] all = tt
-  gaps_after most (new ∷ earlier) all = gaps-inserted laws most new (rows_after_inserts rank lowered earlier) (rises_after earlier) (all 0 new (omega arith))
+  gaps_after most (new ∷ earlier) all = gaps-rows_with_new laws most new (rows_after_inserts rank lowered earlier) (rises_after earlier) (all 0 new (omega arith))
       (gaps_after most earlier (λ k d within. all (suc k) d (omega arith)))
 
   -- the best of earlier inserts, carried on
@@ -58,8 +58,8 @@ module _ {V : Type 0} {below covers : V → Tree → Type 0} {gap rank : V → �
       let rows = rows_after_inserts rank lowered earlier in
       let before = look_law earlier arrival in
       let P = λ (o : Option (Row V)). MatchOption o (All (λ insert. insert.by.0 < arrival) earlier) (IsBestRow below covers gap rank arrival earlier) in
-      let gaps = λ (s : Row V) (is : picked arrival (inserted rank lowered new rows) ≡ Some s) (most : ℕ)
-      (all : All (λ (insert : Row V). gap insert.value ≤ most) (new ∷ earlier)). picked_gap laws most arrival (inserted rank lowered new rows) s
+      let gaps = λ (s : Row V) (is : row_in_time arrival (rows_with_new rank lowered new rows) ≡ Some s) (most : ℕ)
+      (all : All (λ (insert : Row V). gap insert.value ≤ most) (new ∷ earlier)). picked_gap laws most arrival (rows_with_new rank lowered new rows) s
       (gaps_after most (new ∷ earlier) all) is in
       elim (look_step laws arrival new rows (rises_after earlier)) [
         | none late was is ↦ rw is (All-cons (λ (insert : Row V). insert.by.0 < arrival) new earlier late (subst P was before))

@@ -7,7 +7,7 @@ use Rattle.plan_model.specs.declared.model.Outcome.{Outcome}
 use Rattle.plan_model.specs.Tree.{Tree}
 use Rattle.value_laws.specs.ScoreLaws.{ScoreLaws}
 use Rattle.stop_profile.specs.declared.Row.{Row}
-use Rattle.stop_profile.specs.Inserts.{inserted, inserted_by, put_in, kept_out, better_before, others_before, rows_behind, lower_row, Rises, picked}
+use Rattle.stop_profile.specs.Inserts.{rows_with_new, rows_with_new_by, put_in, kept_out, better_before, others_before, rows_behind, lower_row, Rises, row_in_time}
 use Rattle.stop_profile.specs.LookStep.{LookStep}
 use Rattle.stop_profile.proofs.Along.{inserted_along}
 use Rattle.stop_profile.proofs.InsertCases.{kept, taken, replaced, placed, dropped, insert_case}
@@ -15,7 +15,7 @@ use Rattle.stop_profile.proofs.Rising.{AllAfter, rises-inserted_along}
 use Rattle.stop_profile.proofs.Looks.{picked_here, picked_later, picked_after, look_step_along, gaps-inserted_along}
 
 -- what is picked is in time
-picked_in_time : {V : Type 0} (arrival : ℕ) (rows : List (Row V)) (row : Row V) → picked arrival rows ≡ Some row → arrival ≤ row.by.0
+picked_in_time : {V : Type 0} (arrival : ℕ) (rows : List (Row V)) (row : Row V) → row_in_time arrival rows ≡ Some row → arrival ≤ row.by.0
 picked_in_time arrival [] row is = absurd (cc)
 picked_in_time {V} arrival (head ∷ rows) row is = elim (cases_lt head.by.0 arrival) [
   | inl late ↦ picked_in_time arrival rows row (sym (picked_later arrival head rows late) ∙ is)
@@ -65,17 +65,18 @@ module _ {V : Type 0} (rank : V → ℕ) (lowered : V → V → V) where
           let not_behind : rows_behind new.by.0 (row ∷ rows) ≡ rows_behind new.by.0 rows = grind (arith, nat_tests) in
           rw (kept_too, not_other, not_behind) refl
 
-      inserted_by-better : (o : Option (Row V)) → picked new.by.0 rows ≡ o → inserted_by rank lowered new (row ∷ rows) o ≡ lower_row lowered row new ∷ inserted_by rank lowered new rows o
-      inserted_by-better None is = put_in-better []
-      inserted_by-better (Some first) is = elim (cases_lt (rank new.value) (rank first.value)) [
+      rows_with_new_by-better : (o : Option (Row V)) → row_in_time new.by.0 rows ≡ o
+          → rows_with_new_by rank lowered new (row ∷ rows) o ≡ lower_row lowered row new ∷ rows_with_new_by rank lowered new rows o
+      rows_with_new_by-better None is = put_in-better []
+      rows_with_new_by-better (Some first) is = elim (cases_lt (rank new.value) (rank first.value)) [
         | inl wins ↦
-            let here : inserted_by rank lowered new (row ∷ rows) (Some first) ≡ put_in rank lowered new (first ∷ []) (row ∷ rows) = grind (arith, nat_tests) in
-            let there : inserted_by rank lowered new rows (Some first) ≡ put_in rank lowered new (first ∷ []) rows = grind (arith, nat_tests) in
+            let here : rows_with_new_by rank lowered new (row ∷ rows) (Some first) ≡ put_in rank lowered new (first ∷ []) (row ∷ rows) = grind (arith, nat_tests) in
+            let there : rows_with_new_by rank lowered new rows (Some first) ≡ put_in rank lowered new (first ∷ []) rows = grind (arith, nat_tests) in
             here ∙ put_in-better (first ∷ []) ∙ ap (λ more. lower_row lowered row new ∷ more) (sym there)
         | inr holds ↦
             let later = picked_in_time new.by.0 rows first is in
-            let here : inserted_by rank lowered new (row ∷ rows) (Some first) ≡ kept_out lowered new first (row ∷ rows) = grind (arith, nat_tests) in
-            let there : inserted_by rank lowered new rows (Some first) ≡ kept_out lowered new first rows = grind (arith, nat_tests) in
+            let here : rows_with_new_by rank lowered new (row ∷ rows) (Some first) ≡ kept_out lowered new first (row ∷ rows) = grind (arith, nat_tests) in
+            let there : rows_with_new_by rank lowered new rows (Some first) ≡ kept_out lowered new first rows = grind (arith, nat_tests) in
             let lower : kept_out lowered new first (row ∷ rows) ≡ lower_row lowered row new ∷ kept_out lowered new first rows = grind (arith, nat_tests) in
             here ∙ lower ∙ ap (λ more. lower_row lowered row new ∷ more) (sym there)
       ]
@@ -97,13 +98,14 @@ module _ {V : Type 0} (rank : V → ℕ) (lowered : V → V → V) where
               let e : better_before rank by most (head ∷ list) ≡ better_before rank by most list = let less = all.0.1 in grind (arith, nat_tests) in
               e ∙ none_better by most list low all.1
 
-      inserted_by-other : (o : Option (Row V)) → picked new.by.0 rows ≡ o → inserted_by rank lowered new (row ∷ rows) o ≡ inserted_by rank lowered (lower_row lowered new row) rows o
-      inserted_by-other None is = put_in-other []
-      inserted_by-other (Some first) is =
+      rows_with_new_by-other : (o : Option (Row V)) → row_in_time new.by.0 rows ≡ o
+          → rows_with_new_by rank lowered new (row ∷ rows) o ≡ rows_with_new_by rank lowered (lower_row lowered new row) rows o
+      rows_with_new_by-other None is = put_in-other []
+      rows_with_new_by-other (Some first) is =
           let less = (picked_after rank new.by.0 row first rows after is).1 in
           let low = same_rank new.value row.value in
-          let here : inserted_by rank lowered new (row ∷ rows) (Some first) ≡ put_in rank lowered new (first ∷ []) (row ∷ rows) = grind (arith, nat_tests) in
-          let there : inserted_by rank lowered (lower_row lowered new row) rows (Some first) ≡ put_in rank lowered (lower_row lowered new row) (first ∷ []) rows = grind (arith, nat_tests) in
+          let here : rows_with_new_by rank lowered new (row ∷ rows) (Some first) ≡ put_in rank lowered new (first ∷ []) (row ∷ rows) = grind (arith, nat_tests) in
+          let there : rows_with_new_by rank lowered (lower_row lowered new row) rows (Some first) ≡ put_in rank lowered (lower_row lowered new row) (first ∷ []) rows = grind (arith, nat_tests) in
           here ∙ put_in-other (first ∷ []) ∙ sym there
 
     -- a row from the place on
@@ -120,51 +122,53 @@ module _ {V : Type 0} (rank : V → ℕ) (lowered : V → V → V) where
           let lower : kept_out lowered new row (row ∷ rows) ≡ lower_row lowered row new ∷ kept_out lowered new row rows = grind (arith, nat_tests) in
           lower ∙ ap (λ more. lower_row lowered row new ∷ more) (kept_out-behind new row rows (behind_after row.by.0 row rows (omega arith) after))
 
-  pub inserted-along : ((a b : V) → rank (lowered a b) ≡ rank a) → (new : Row V) (rows : List (Row V)) → Rises rank rows → inserted rank lowered new rows ≡ inserted_along rank lowered new rows
-  inserted-along same_rank new [] rises = refl
-  inserted-along same_rank new (row ∷ rows) rises =
+  pub rows_with_new-along : ((a b : V) → rank (lowered a b) ≡ rank a) → (new : Row V) (rows : List (Row V)) → Rises rank rows
+      → rows_with_new rank lowered new rows ≡ inserted_along rank lowered new rows
+  rows_with_new-along same_rank new [] rises = refl
+  rows_with_new-along same_rank new (row ∷ rows) rises =
       let low_new = lower_row lowered new row in
       elim (insert_case rank lowered new row rows) [
         | kept before better is ↦
-            ap (inserted_by rank lowered new (row ∷ rows)) (picked_later new.by.0 row rows before)
-            ∙ inserted_by-better new row rows before better (picked new.by.0 rows) refl
-            ∙ ap (λ more. lower_row lowered row new ∷ more) (inserted-along same_rank new rows rises.1) ∙ sym is
+            ap (rows_with_new_by rank lowered new (row ∷ rows)) (picked_later new.by.0 row rows before)
+            ∙ rows_with_new_by-better new row rows before better (row_in_time new.by.0 rows) refl
+            ∙ ap (λ more. lower_row lowered row new ∷ more) (rows_with_new-along same_rank new rows rises.1) ∙ sym is
         | taken before worse is ↦
-            ap (inserted_by rank lowered new (row ∷ rows)) (picked_later new.by.0 row rows before)
-            ∙ inserted_by-other new row rows same_rank before worse rises.0 (picked new.by.0 rows) refl
-            ∙ inserted-along same_rank low_new rows rises.1 ∙ sym is
+            ap (rows_with_new_by rank lowered new (row ∷ rows)) (picked_later new.by.0 row rows before)
+            ∙ rows_with_new_by-other new row rows same_rank before worse rises.0 (row_in_time new.by.0 rows) refl
+            ∙ rows_with_new-along same_rank low_new rows rises.1 ∙ sym is
         | replaced at better is ↦
             let behind = behind_after new.by.0 row rows (omega arith) rises.0 in
-            let e : inserted_by rank lowered new (row ∷ rows) (Some row) ≡ put_in rank lowered new (row ∷ []) (row ∷ rows) = grind (arith, nat_tests) in
+            let e : rows_with_new_by rank lowered new (row ∷ rows) (Some row) ≡ put_in rank lowered new (row ∷ []) (row ∷ rows) = grind (arith, nat_tests) in
             let gone : rows_behind new.by.0 (row ∷ rows) ≡ rows_behind new.by.0 rows = grind (arith, nat_tests) in
-            ap (inserted_by rank lowered new (row ∷ rows)) (picked_here new.by.0 row rows (omega arith))
+            ap (rows_with_new_by rank lowered new (row ∷ rows)) (picked_here new.by.0 row rows (omega arith))
             ∙ e ∙ put_in-first new row rows (omega arith) rises.0 better
             ∙ ap (λ more. low_new ∷ more) (gone ∙ rows_behind-behind new.by.0 rows behind) ∙ sym is
         | placed later better is ↦
             let behind = behind_after new.by.0 row rows (omega arith) rises.0 in
-            let e : inserted_by rank lowered new (row ∷ rows) (Some row) ≡ put_in rank lowered new (row ∷ []) (row ∷ rows) = grind (arith, nat_tests) in
-            ap (inserted_by rank lowered new (row ∷ rows)) (picked_here new.by.0 row rows (omega arith))
+            let e : rows_with_new_by rank lowered new (row ∷ rows) (Some row) ≡ put_in rank lowered new (row ∷ []) (row ∷ rows) = grind (arith, nat_tests) in
+            ap (rows_with_new_by rank lowered new (row ∷ rows)) (picked_here new.by.0 row rows (omega arith))
             ∙ e ∙ put_in-first new row rows (omega arith) rises.0 better
             ∙ ap (λ more. low_new ∷ more) (rows_behind-behind new.by.0 (row ∷ rows) (later, behind)) ∙ sym is
         | dropped later worse is ↦
-            let e : inserted_by rank lowered new (row ∷ rows) (Some row) ≡ kept_out lowered new row (row ∷ rows) = grind (arith, nat_tests) in
-            ap (inserted_by rank lowered new (row ∷ rows)) (picked_here new.by.0 row rows later)
+            let e : rows_with_new_by rank lowered new (row ∷ rows) (Some row) ≡ kept_out lowered new row (row ∷ rows) = grind (arith, nat_tests) in
+            ap (rows_with_new_by rank lowered new (row ∷ rows)) (picked_here new.by.0 row rows later)
             ∙ e ∙ kept_out-first new row rows later rises.0 ∙ sym is
       ]
 
   -- an insert keeps the rows rising
-  pub rises-inserted : ((a b : V) → rank (lowered a b) ≡ rank a) → (new : Row V) (rows : List (Row V)) → Rises rank rows → Rises rank (inserted rank lowered new rows)
-  rises-inserted same_rank new rows rises = subst (Rises rank) (sym (inserted-along same_rank new rows rises)) (rises-inserted_along rank lowered same_rank new rows rises)
+  pub rises-rows_with_new : ((a b : V) → rank (lowered a b) ≡ rank a) → (new : Row V) (rows : List (Row V)) → Rises rank rows → Rises rank (rows_with_new rank lowered new rows)
+  rises-rows_with_new same_rank new rows rises = subst (Rises rank) (sym (rows_with_new-along same_rank new rows rises)) (rises-inserted_along rank lowered same_rank new rows rises)
 
 module _ {V : Type 0} {below covers : V → Tree → Type 0} {gap rank : V → ℕ} {arrived : ℕ → V} {blended : List Outcome → List V → V}
     {lowered : V → V → V} (laws : ScoreLaws below covers gap rank arrived blended lowered) where
   -- what an insert does to a look
-  pub look_step : (arrival : ℕ) (new : Row V) (rows : List (Row V)) → Rises rank rows → LookStep below covers rank arrival new (picked arrival rows) (picked arrival (inserted rank lowered new rows))
-  look_step arrival new rows rises = subst (λ (list : List (Row V)). LookStep below covers rank arrival new (picked arrival rows)
-      (picked arrival list)) (sym (inserted-along rank lowered laws.lowered_rank new rows rises)) (look_step_along laws arrival new rows rises)
+  pub look_step : (arrival : ℕ) (new : Row V) (rows : List (Row V)) → Rises rank rows
+      → LookStep below covers rank arrival new (row_in_time arrival rows) (row_in_time arrival (rows_with_new rank lowered new rows))
+  look_step arrival new rows rises = subst (λ (list : List (Row V)). LookStep below covers rank arrival new (row_in_time arrival rows)
+      (row_in_time arrival list)) (sym (rows_with_new-along rank lowered laws.lowered_rank new rows rises)) (look_step_along laws arrival new rows rises)
 
   -- gaps stay within a bound
-  pub gaps-inserted : (most : ℕ) (new : Row V) (rows : List (Row V)) → Rises rank rows → gap new.value ≤ most
-      → AllByRecursion (λ row. gap row.value ≤ most) rows → AllByRecursion (λ row. gap row.value ≤ most) (inserted rank lowered new rows)
-  gaps-inserted most new rows rises here all = subst (λ (list : List (Row V)). AllByRecursion (λ row. gap row.value ≤ most) list)
-      (sym (inserted-along rank lowered laws.lowered_rank new rows rises)) (gaps-inserted_along laws most new rows here all)
+  pub gaps-rows_with_new : (most : ℕ) (new : Row V) (rows : List (Row V)) → Rises rank rows → gap new.value ≤ most
+      → AllByRecursion (λ row. gap row.value ≤ most) rows → AllByRecursion (λ row. gap row.value ≤ most) (rows_with_new rank lowered new rows)
+  gaps-rows_with_new most new rows rises here all = subst (λ (list : List (Row V)). AllByRecursion (λ row. gap row.value ≤ most) list)
+      (sym (rows_with_new-along rank lowered laws.lowered_rank new rows rises)) (gaps-inserted_along laws most new rows here all)

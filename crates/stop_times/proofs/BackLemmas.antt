@@ -9,7 +9,7 @@ use Rattle.csv_rows.specs.Keys.{key_at, AreSorted, IsBefore, has_twin, twin_at}
 use Rattle.csv_rows.proofs.FirstLemmas.{first-is, first-told}
 use Rattle.csv_rows.proofs.KeyLemmas.{AreApart, no_twins, asked_before}
 use Rattle.stop_times.specs.declared.rows.TimedRow.{TimedRow}
-use Rattle.stop_times.specs.StopTimes.{trip_of, sequence_of, is_kept, arrival_of, departure_of, just_before, goes_back, repeated_time, backward_time}
+use Rattle.stop_times.specs.StopTimes.{trip_of, sequence_of, is_kept, stop_arrival, departure_of, just_before, goes_back, repeated_time, backward_time}
 use Rattle.stop_times.specs.Keys.{AreKeysOf, is_taken, goes_back_after, backward_after}
 
 pub apart : (rows : List TimedRow) → first_below (repeated_time rows) (length rows) ≡ None → AreApart (trip_of rows) (sequence_of rows) (length rows)
@@ -26,7 +26,7 @@ repeats_first rows keys found s h =
     ∙ ap (option_map (λ row. DuplicateKey StopTimes (row + 2))) (h (trip_of rows) (sequence_of rows) (length rows) s)
 
 late : List TimedRow → ℕ → ℕ → Bool
-late rows i j = nat_lt (arrival_of rows i) (departure_of rows j)
+late rows i j = nat_lt (stop_arrival rows i) (departure_of rows j)
 
 told : Bool → ℕ → Option FeedFault
 told b i = if b then Some (BackwardTime (i + 2)) else None
@@ -35,12 +35,12 @@ kept_back : Bool → Bool → Bool → Bool
 kept_back kept own other = kept && (own || other)
 
 back_by : (rows : List TimedRow) (i : ℕ) (o : Option Key) → is_kept rows i ≡ true → (q : Bool)
-    → any_below (λ j. just_before rows j i && late rows i j) (length rows) ≡ q → (nat_lt (departure_of rows i) (arrival_of rows i) || q) ≡ goes_back_after rows o i
+    → any_below (λ j. just_before rows j i && late rows i j) (length rows) ≡ q → (nat_lt (departure_of rows i) (stop_arrival rows i) || q) ≡ goes_back_after rows o i
     → backward_time rows i ≡ backward_after rows o i
 unfolding backward_time late told kept_back
 back_by rows i o kept q e h =
-    ap (λ b. told (kept_back (is_kept rows i) (nat_lt (departure_of rows i) (arrival_of rows i)) b) i) e
-    ∙ ap (λ b. told (kept_back b (nat_lt (departure_of rows i) (arrival_of rows i)) q) i) kept
+    ap (λ b. told (kept_back (is_kept rows i) (nat_lt (departure_of rows i) (stop_arrival rows i)) b) i) e
+    ∙ ap (λ b. told (kept_back b (nat_lt (departure_of rows i) (stop_arrival rows i)) q) i) kept
     ∙ ap (λ b. told b i) h
 
 module _ (rows : List TimedRow) (keys : List Key) (s : AreKeysOf true rows keys) (none : first_below (repeated_time rows) (length rows) ≡ None) where
@@ -57,7 +57,7 @@ module _ (rows : List TimedRow) (keys : List Key) (s : AreKeysOf true rows keys)
 pub quiet : (rows : List TimedRow) (i : ℕ) → is_taken true rows i ≡ false → backward_time rows i ≡ None
 unfolding backward_time told kept_back
 quiet rows i out =
-    ap (λ b. told (kept_back b (nat_lt (departure_of rows i) (arrival_of rows i)) (any_below (λ j. just_before rows j i && nat_lt (arrival_of rows i) (departure_of rows j)) (length rows))) i) out
+    ap (λ b. told (kept_back b (nat_lt (departure_of rows i) (stop_arrival rows i)) (any_below (λ j. just_before rows j i && nat_lt (stop_arrival rows i) (departure_of rows j)) (length rows))) i) out
 
 told_is : (b : Bool) (i : ℕ) (f : FeedFault) → told b i ≡ Some f → f ≡ BackwardTime (i + 2)
 unfolding told

@@ -9,7 +9,7 @@ use Rattle.csv_rows.proofs.FirstLemmas.{any-true, any-false, none-each}
 use Rattle.csv_rows.specs.Keys.{precedes}
 use Rattle.stop_times.specs.declared.rows.StopRow.{StopRow}
 use Rattle.stop_times.specs.declared.rows.TimedRow.{TimedRow}
-use Rattle.stop_times.specs.StopTimes.{row_at, trip_of, sequence_of, is_kept, times_in, arrival_of, departure_of, just_before, goes_back, backward_time}
+use Rattle.stop_times.specs.StopTimes.{row_at, trip_of, sequence_of, is_kept, times_in, stop_arrival, departure_of, just_before, goes_back, backward_time}
 use Rattle.stop_times.specs.Visits.{no_visit, AreStopTimes}
 
 and_false : (a b : Bool) → a ≡ true → (a && b) ≡ false → b ≡ false
@@ -30,17 +30,17 @@ module _ (rows : List TimedRow) (none : first_below (backward_time rows) (length
   kept : (p : ℕ) → p < length visits → is_kept rows (s.line p) ≡ true
   kept p h = ap is_some (s.visit p h).kept
 
-  arrives : (p : ℕ) → p < length visits → arrival_of rows (s.line p) ≡ (at p).arrival
+  arrives : (p : ℕ) → p < length visits → stop_arrival rows (s.line p) ≡ (at p).arrival
   arrives p h = ap (λ o. (times_in o).0) (s.visit p h).kept
 
   departs : (p : ℕ) → p < length visits → departure_of rows (s.line p) ≡ (at p).departure
   departs p h = ap (λ o. (times_in o).1) (s.visit p h).kept
 
   late : ℕ → ℕ → Bool
-  late i j = nat_lt (arrival_of rows i) (departure_of rows j)
+  late i j = nat_lt (stop_arrival rows i) (departure_of rows j)
 
   holds : (p : ℕ) → p < length visits
-      → (nat_lt (departure_of rows (s.line p)) (arrival_of rows (s.line p)) ≡ false)
+      → (nat_lt (departure_of rows (s.line p)) (stop_arrival rows (s.line p)) ≡ false)
       × (any_below (λ j. just_before rows j (s.line p) && late (s.line p) j) (length rows) ≡ false)
   unfolding backward_time late
   holds p h =
@@ -101,7 +101,7 @@ module _ (rows : List TimedRow) (none : first_below (backward_time rows) (length
       let k : p < length visits = omega arith in
       let i = s.line (p + 1) in
       let no = none_at (λ j. just_before rows j i && late i j) (length rows) (s.line p) (s.visit p k).inside (holds (p + 1) h).1 in
-      omega (arith, ltb-false (arrival_of rows i) (departure_of rows (s.line p)) (and_false (just_before rows (s.line p) i) _ (just p h) no), arrives (p + 1) h, departs p k)
+      omega (arith, ltb-false (stop_arrival rows i) (departure_of rows (s.line p)) (and_false (just_before rows (s.line p) i) _ (just p h) no), arrives (p + 1) h, departs p k)
 
   -- sequences rise from 0 on
   pub rises : (p : ℕ) → p < length visits → p ≤ (row_at rows (s.line p)).sequence

@@ -5,7 +5,7 @@ use Rattle.csv_rows.specs.declared.feed_tables.FeedFault.TheVariants.{BackwardTi
 use Rattle.csv_rows.specs.declared.keys.Key.{Key}
 use Rattle.csv_rows.specs.Keys.{AreSorted}
 use Rattle.stop_times.specs.declared.rows.TimedRow.{TimedRow}
-use Rattle.stop_times.specs.StopTimes.{trip_of, sequence_of, is_kept, arrival_of, departure_of}
+use Rattle.stop_times.specs.StopTimes.{trip_of, sequence_of, is_kept, stop_arrival, departure_of}
 
 -- the rows that are taken: all, or those that are kept
 abbrev pub is_taken : Bool → List TimedRow → ℕ → Bool
@@ -18,10 +18,10 @@ AreKeysOf kept_alone rows keys = AreSorted (is_taken kept_alone rows) (trip_of r
 -- the row arrives before that of the key before departs
 abbrev pub arrives_before : List TimedRow → Option Key → ℕ → Bool
 arrives_before rows None i = false
-arrives_before rows (Some before) i = nat_lt (arrival_of rows i) (departure_of rows before.row)
+arrives_before rows (Some before) i = nat_lt (stop_arrival rows i) (departure_of rows before.row)
 
 abbrev pub goes_back_after : List TimedRow → Option Key → ℕ → Bool
-goes_back_after rows before i = nat_lt (departure_of rows i) (arrival_of rows i) || arrives_before rows before i
+goes_back_after rows before i = nat_lt (departure_of rows i) (stop_arrival rows i) || arrives_before rows before i
 
 abbrev pub backward_after : List TimedRow → Option Key → ℕ → Option FeedFault
 backward_after rows before i = if goes_back_after rows before i then Some (BackwardTime (i + 2)) else None

@@ -138,8 +138,8 @@ abbrev pub times_in : Option StopRow → ℕ × ℕ
 times_in None = (0, 0)
 times_in (Some visit) = (visit.arrival, visit.departure)
 
-abbrev pub arrival_of : List TimedRow → ℕ → ℕ
-arrival_of rows i = (times_in (row_at rows i).visit).0
+abbrev pub stop_arrival : List TimedRow → ℕ → ℕ
+stop_arrival rows i = (times_in (row_at rows i).visit).0
 
 abbrev pub departure_of : List TimedRow → ℕ → ℕ
 departure_of rows i = (times_in (row_at rows i).visit).1
@@ -151,8 +151,8 @@ just_before rows j i = just_precedes (is_kept rows) (trip_of rows) (sequence_of 
 -- a kept row departs before it arrives, or arrives before the kept row before it in its trip departs
 abbrev pub goes_back : List TimedRow → ℕ → Bool
 goes_back rows i =
-    is_kept rows i && (nat_lt (departure_of rows i) (arrival_of rows i)
-    || any_below (λ j. just_before rows j i && nat_lt (arrival_of rows i) (departure_of rows j)) (length rows))
+    is_kept rows i && (nat_lt (departure_of rows i) (stop_arrival rows i)
+    || any_below (λ j. just_before rows j i && nat_lt (stop_arrival rows i) (departure_of rows j)) (length rows))
 
 unfoldable pub backward_time : List TimedRow → ℕ → Option FeedFault
 backward_time rows i = if goes_back rows i then Some (BackwardTime (i + 2)) else None

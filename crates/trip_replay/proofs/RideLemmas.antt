@@ -7,7 +7,7 @@ use Rattle.plan_model.specs.Network.{arr_of, to_of}
 use Rattle.plan_model.specs.Unfold.{outcomes_of}
 use Rattle.plan_graph.specs.Ready.{IsLegOf}
 use Rattle.trip_replay.specs.declared.Ridden.{Ridden}
-use Rattle.trip_replay.specs.Stops.{has_delay, delayed}
+use Rattle.trip_replay.specs.Positions.{has_delay, delayed_arrival}
 use Rattle.trip_replay.specs.Rides.{IsRide, arrival_after, place_after}
 
 pub leg_at : (n : NetworkModel) (most behind left : ℕ) (next : Option Leg) (leg : Leg) → next ≡ Some leg → IfSome next (λ l. IsLegOf n l × (behind + left < most)) → IsLegOf n leg
@@ -20,7 +20,7 @@ ride_by n leg delay x true has is some = record { is_leg = is; is_delay = has; l
 ride_by n leg delay x false has is some = absurd (cc)
 
 -- the ride of a leg with a delay that it can have
-pub is_ride : (n : NetworkModel) (leg : Leg) (delay x : ℕ) → IsLegOf n leg → delayed n leg delay ≡ Some x → IsRide n (record { leg = leg; delay = delay; arrival = record { 0 = x } })
+pub is_ride : (n : NetworkModel) (leg : Leg) (delay x : ℕ) → IsLegOf n leg → delayed_arrival n leg delay ≡ Some x → IsRide n (record { leg = leg; delay = delay; arrival = record { 0 = x } })
 is_ride n leg delay x is some = ride_by n leg delay x (has_delay (outcomes_of n leg) delay) refl is some
 
 pub arrival_after-push : (start : ℕ) (rides : List Ridden) (r : Ridden) → arrival_after start (rides ++ r ∷ []) ≡ r.arrival.0

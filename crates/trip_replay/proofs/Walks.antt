@@ -20,19 +20,19 @@ use Rattle.plan_graph.specs.Tidy.{IsFitTable, IsFitRow}
 use Rattle.plan_graph.proofs.Picked.{picked_leg}
 use Rattle.trip_replay.specs.declared.Ridden.{Ridden}
 use Rattle.trip_replay.specs.declared.Trace.{Trace}
-use Rattle.trip_replay.specs.declared.Stop.{Stop}
+use Rattle.trip_replay.specs.declared.Position.{Position}
 use Rattle.trip_replay.specs.declared.ReplayFault.{ReplayFault}
 use Rattle.trip_replay.specs.declared.ReplayFault.TheVariants as fault
-use Rattle.trip_replay.specs.Walk.{ridden, trace_of, walk, walk_kid, IsAnswer, IsSafeAnswer}
-use Rattle.trip_replay.specs.Stops.{has_delay, delayed, tree_at}
+use Rattle.trip_replay.specs.Walk.{ride_with_delay, trace_of, walk, walk_kid, IsAnswer, IsSafeAnswer}
+use Rattle.trip_replay.specs.Positions.{has_delay, delayed_arrival, tree_at}
 
 -- the walk after a ride, by whether the delay is one of its outcomes
 pub kid_walk : (n : NetworkModel) (f : ℕ → Tree) (scheduled : ℕ) (row : List Outcome) (i j delay : ℕ) (delays : List ℕ) (behind : List Ridden)
     → walk_kid n (kids_after f scheduled row) row i j delay delays behind ≡
-    (if has_delay row delay then walk n (f (scheduled + delay)) delays (behind ++ ridden n i j delay ∷ []) else Err (fault.NotADelay (length behind + 1)))
+    (if has_delay row delay then walk n (f (scheduled + delay)) delays (behind ++ ride_with_delay n i j delay ∷ []) else Err (fault.NotADelay (length behind + 1)))
 kid_walk n f scheduled [] i j delay delays behind = refl
 kid_walk n f scheduled (o ∷ row) i j delay delays behind = elim (cases_eq o.delay delay) [
-  | inl is ↦ rw (eq-eqb o.delay delay is) (ap (λ (d : ℕ). walk n (f (scheduled + d)) delays (behind ++ ridden n i j delay ∷ [])) is)
+  | inl is ↦ rw (eq-eqb o.delay delay is) (ap (λ (d : ℕ). walk n (f (scheduled + d)) delays (behind ++ ride_with_delay n i j delay ∷ [])) is)
   | inr differ ↦ rw (ne_eqb o.delay delay differ) (kid_walk n f scheduled row i j delay delays behind)
 ]
 
@@ -42,7 +42,7 @@ target_there a b test is holds = eqb-true a b (sym is ∙ holds)
 pub target_away : (a b : ℕ) (test : Bool) → test ≡ (a == b) → test ≡ false → a ≢ b
 target_away a b test is fails = eqb-false a b (sym is ∙ fails)
 
-module _ (n : NetworkModel) (target : ℕ) (choice : Leg → ℕ → Option Leg) (s : Stop) (behind : List Ridden) (delays : List ℕ) (i : ℕ) where
+module _ (n : NetworkModel) (target : ℕ) (choice : Leg → ℕ → Option Leg) (s : Position) (behind : List Ridden) (delays : List ℕ) (i : ℕ) where
   at_target : s.place.0 ≡ target → tree_at n target choice s ≡ Done s.moment.0
   at_target is = rw (eq-eqb s.place.0 target is) refl
 
@@ -71,7 +71,7 @@ module _ (n : NetworkModel) (target : ℕ) (choice : Leg → ℕ → Option Leg)
       → walk n (tree_at n target choice s) (drop i delays) behind ≡
       (if has_delay (outcomes_of n leg) (slice_index_or delays i d) then walk n
       (unfold_after n target choice s.left leg (arr_of n leg.exit.0 + slice_index_or delays i d)) (drop (i + 1) delays)
-      (behind ++ ridden n leg.enter.0 leg.exit.0 (slice_index_or delays i d) ∷ []) else Err (fault.NotADelay (length behind + 1)))
+      (behind ++ ride_with_delay n leg.enter.0 leg.exit.0 (slice_index_or delays i d) ∷ []) else Err (fault.NotADelay (length behind + 1)))
   rides_on leg d away is within =
       ap (λ (tree : Tree). walk n tree (drop i delays) behind) (on_the_way (Some leg) away is)
       ∙ ap (λ (list : List ℕ). walk n (ride_or_stuck n (unfold_after n target choice s.left) (Some leg) s.place.0 s.moment.0) list behind) (drop_more delays i d within)
@@ -88,12 +88,12 @@ module _ (n : NetworkModel) (target : ℕ) (choice : Leg → ℕ → Option Leg)
   delay_some leg delay x false is some = absurd (cc)
 
   pub not_a_delay : (leg : Leg) (d : ℕ) → s.place.0 ≢ target → s.next ≡ Some leg → i < length delays
-      → delayed n leg (slice_index_or delays i d) ≡ None → walk n (tree_at n target choice s) (drop i delays) behind ≡ Err (fault.NotADelay (length behind + 1))
+      → delayed_arrival n leg (slice_index_or delays i d) ≡ None → walk n (tree_at n target choice s) (drop i delays) behind ≡ Err (fault.NotADelay (length behind + 1))
   not_a_delay leg d away is within none =
       rides_on leg d away is within ∙ rw (delay_none leg (slice_index_or delays i d) (has_delay (outcomes_of n leg) (slice_index_or delays i d)) refl none) refl
 
   -- after a ride
-  pub after_ride : (leg : Leg) (d x : ℕ) → s.place.0 ≢ target → s.next ≡ Some leg → i < length delays → delayed n leg (slice_index_or delays i d) ≡ Some x
+  pub after_ride : (leg : Leg) (d x : ℕ) → s.place.0 ≢ target → s.next ≡ Some leg → i < length delays → delayed_arrival n leg (slice_index_or delays i d) ≡ Some x
       → walk n (tree_at n target choice s) (drop i delays) behind ≡ walk n (unfold_after n target choice s.left leg x) (drop (i + 1) delays)
       (behind ++ (record { leg = leg; delay = slice_index_or delays i d; arrival = record { 0 = x } }) ∷ [])
   after_ride leg d x away is within some =
@@ -121,8 +121,8 @@ module _ (n : NetworkModel) (target deadline : ℕ) where
     safe_kids Nil row p scheduled i j delay delays behind safe = tt
     safe_kids (Kid w tree kids) [] p scheduled i j delay delays behind safe = absurd safe
     safe_kids (Kid w tree kids) (o ∷ row) p scheduled i j delay delays behind safe =
-        safe_by (o.delay == delay) (walk n tree delays (behind ++ ridden n i j delay ∷ [])) (walk_kid n kids row i j delay delays behind)
-        (safe_walk tree p (scheduled + o.delay) delays (behind ++ ridden n i j delay ∷ []) safe.1) (safe_kids kids row p scheduled i j delay delays behind safe.2)
+        safe_by (o.delay == delay) (walk n tree delays (behind ++ ride_with_delay n i j delay ∷ [])) (walk_kid n kids row i j delay delays behind)
+        (safe_walk tree p (scheduled + o.delay) delays (behind ++ ride_with_delay n i j delay ∷ []) safe.1) (safe_kids kids row p scheduled i j delay delays behind safe.2)
 
 safe_start : (n : NetworkModel) (q : Query) (tree : Tree) (delays : List ℕ) → IsSafeFor n q tree → IsSafeAnswer q.deadline.0 (walk n tree delays [])
 safe_start n q (Done a) [] safe = let is = safe.0 in omega (arith, is, safe.2)

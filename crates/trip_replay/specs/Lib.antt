@@ -1,3 +1,3 @@
 pub mod Walk
-pub mod Stops
+pub mod Positions
 pub mod Rides

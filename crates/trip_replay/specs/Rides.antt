@@ -7,8 +7,8 @@ use Rattle.plan_model.specs.Unfold.{outcomes_of}
 use Rattle.plan_graph.specs.Ready.{IsLegOf}
 use Rattle.trip_replay.specs.declared.Ridden.{Ridden}
 use Rattle.trip_replay.specs.declared.ReplayFault.{ReplayFault}
-use Rattle.trip_replay.specs.declared.ReplayFault.TheVariants.{Stuck}
-use Rattle.trip_replay.specs.Stops.{has_delay}
+use Rattle.trip_replay.specs.declared.ReplayFault.TheVariants.{NotADelay, TooFew, TooMany, Stuck, NoMemory}
+use Rattle.trip_replay.specs.Positions.{has_delay}
 
 -- a leg of the network, with a delay that it can have and the arrival that follows from it
 pub record IsRide (network : NetworkModel) (r : Ridden) : Type 0 where
@@ -30,4 +30,7 @@ place_after network source (r ∷ rides) = place_after network (to_of network r.
 abbrev pub IsStuckAfter : NetworkModel → Query → ReplayFault → Type 0
 IsStuckAfter network query (Stuck place moment) =
     (rides : List Ridden) × All (IsRide network) rides × (place.0 ≡ place_after network query.source.0 rides) × (moment.0 ≡ arrival_after query.start.0 rides)
-IsStuckAfter network query _ = Unit {0}
+IsStuckAfter network query (NotADelay number) = Unit {0}
+IsStuckAfter network query (TooFew ridden) = Unit {0}
+IsStuckAfter network query (TooMany ridden) = Unit {0}
+IsStuckAfter network query NoMemory = Unit {0}

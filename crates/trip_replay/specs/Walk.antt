@@ -10,8 +10,8 @@ use Rattle.trip_replay.specs.declared.ReplayFault.{ReplayFault}
 use Rattle.trip_replay.specs.declared.ReplayFault.TheVariants as fault
 
 -- the ride from connection i to j with a delay
-abbrev pub ridden : NetworkModel → ℕ → ℕ → ℕ → Ridden
-ridden network i j delay = record {
+abbrev pub ride_with_delay : NetworkModel → ℕ → ℕ → ℕ → Ridden
+ride_with_delay network i j delay = record {
   leg = record { enter = record { 0 = i }; exit = record { 0 = j } };
   delay = delay;
   arrival = record { 0 = arr_of network j + delay };
@@ -35,7 +35,7 @@ abbrev mutual
   walk_kid network (Kid w tree kids) [] i j delay delays behind = Err (fault.NotADelay (length behind + 1))
   walk_kid network (Kid w tree kids) (o ∷ row) i j delay delays behind =
       if o.delay == delay
-      then walk network tree delays (behind ++ ridden network i j delay ∷ [])
+      then walk network tree delays (behind ++ ride_with_delay network i j delay ∷ [])
       else walk_kid network kids row i j delay delays behind
 
 -- there was no memory, or it is this

@@ -11,7 +11,7 @@ ghost use Rattle.plan_graph.specs.Ready.{IsLegOf};
 ghost use Rattle.plan_graph.specs.Tidy.{IsFit};
 ghost use Rattle.plan_graph.specs.Unfold.{unfold_plan};
 ghost use Rattle.trip_replay.specs.Walk.{walk, IsAnswer, IsSafeAnswer};
-ghost use Rattle.trip_replay.specs.Stops.{delayed, tree_at};
+ghost use Rattle.trip_replay.specs.Positions.{delayed_arrival, tree_at};
 ghost use Rattle.trip_replay.specs.Rides.{IsRide, arrival_after, IsStuckAfter};
 
 use plan_graph::PlanGraph;
@@ -57,7 +57,7 @@ pub enum ReplayFault {
 
 /// Where the traveller is, since when, which leg is taken next, and how many rides may follow it.
 #[derive(Clone, Copy)]
-struct Stop {
+struct Position {
     place: PlaceId,
     moment: Moment,
     next: Option<Leg>,
@@ -67,7 +67,7 @@ struct Stop {
 /// The arrival of a leg with a delay, where it can have that delay.
 fn arrival_of(network: &Network, leg: Leg, delay: u32) -> Option<Moment>
     requires { leg.exit.0 < count network.now }
-    ensures { option_map (λ moment. moment.0) result ≡ delayed network.now leg delay }
+    ensures { option_map (λ moment. moment.0) result ≡ delayed_arrival network.now leg delay }
 {
     let exit = network.get(leg.exit);
     for outcome in network.row(exit.class) {
@@ -79,14 +79,14 @@ fn arrival_of(network: &Network, leg: Leg, delay: u32) -> Option<Moment>
 }
 
 /// Where the traveller stands after a leg.
-fn stop_after(
+fn position_after(
     graph: &PlanGraph,
     network: &Network,
     query: &Query,
     leg: Leg,
     arrival: Moment,
     left: u32,
-) -> Stop
+) -> Position
     requires fit { IsFit network.now query.now graph.now }
     requires leg { IsLegOf network.now leg }
     ensures tree { tree_at network.now query.now.target.0
@@ -100,14 +100,14 @@ fn stop_after(
 {
     let place = network.get(leg.exit).to;
     if left == 0 {
-        return Stop {
+        return Position {
             place,
             moment: arrival,
             next: None,
             left: 0,
         };
     }
-    Stop {
+    Position {
         place,
         moment: arrival,
         next: graph.pick(place, arrival),
@@ -132,18 +132,18 @@ fn follow(
     ensures stuck { IfErr result (IsStuckAfter network.now query.now) }
 {
     let mut rides = List::new(alloc);
-    let mut stop = Stop {
+    let mut position = Position {
         place: query.source,
         moment: query.start,
         next: graph.start,
         left: network.count().saturating_sub(1),
     };
     for delay in delays {
-        if stop.place == query.target {
+        if position.place == query.target {
             return Err(ReplayFault::TooMany(rides.len() as u32));
         }
-        let Some(leg) = stop.next else {
-            return Err(ReplayFault::Stuck(stop.place, stop.moment));
+        let Some(leg) = position.next else {
+            return Err(ReplayFault::Stuck(position.place, position.moment));
         };
         let Some(arrival) = arrival_of(network, leg, *delay) else {
             return Err(ReplayFault::NotADelay(rides.len() as u32 + 1));
@@ -156,17 +156,17 @@ fn follow(
         if rides.push(ridden).is_err() {
             return Err(ReplayFault::NoMemory);
         }
-        stop = stop_after(graph, network, query, leg, arrival, stop.left);
+        position = position_after(graph, network, query, leg, arrival, position.left);
     }
-    if stop.place == query.target {
+    if position.place == query.target {
         return Ok(Trace {
             rides,
-            arrival: stop.moment,
+            arrival: position.moment,
         });
     }
-    match stop.next {
+    match position.next {
         Some(_) => Err(ReplayFault::TooFew(rides.len() as u32)),
-        None => Err(ReplayFault::Stuck(stop.place, stop.moment)),
+        None => Err(ReplayFault::Stuck(position.place, position.moment)),
     }
 }
 

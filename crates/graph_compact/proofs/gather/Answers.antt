@@ -30,7 +30,8 @@ loop-ride-preserved c =
     let puts : c.put_all.new.table.keys ≡ put_rows r.after (rows_in tables end) =
     c.in_ok-put_all.ensures
     ∙ ap (λ (rows : List GraphRow). put_rows rows c.index_mut.result.now.keys) c.as_slice.ensures
-    ∙ ap (λ (rows : List GraphRow). put_rows r.after rows) (ap (λ (v : BTreeSet GraphRow). v.keys) c.index_mut.ensures.value ∙ sym (get_or-map (λ (v : BTreeSet GraphRow). v.keys) tables end c.index_mut.result.now [] inside)) in
+    ∙ ap (λ (rows : List GraphRow). put_rows r.after rows) (ap (λ (v : BTreeSet GraphRow). v.keys) c.index_mut.ensures.value
+    ∙ sym (get_or-map (λ (v : BTreeSet GraphRow). v.keys) tables end c.index_mut.result.now [] inside)) in
     record {
       len = grind (arith, common_steps, inv.len);
       rows = λ place small. gather_step c.args.network.now rides c.loop-ride.ride-index r tables end c.put_all.new.table place within c.ride-item.is ends inside puts

@@ -1,5 +1,5 @@
 use Rattle.std.proofs.Common.{◌≡◌, sym, subst, List, arith, inr, [], ◌∷◌, Some}
-use Rattle.plan_model.specs.Unfold.{unfolded}
+use Rattle.plan_model.specs.Unfold.{unfolding_of}
 use Rattle.plan_model.specs.declared.model.Leg.{Leg}
 use Rattle.leg_walk.proofs.Reaching.{IsReaching, begin, start_placed, all_seen, popped, popped_there, visited}
 use Rattle.leg_walk.proofs.reach.Goals as goal
@@ -7,7 +7,7 @@ use Rattle.leg_walk.proofs.reach.Goals as goal
 pub loop-init : goal.loop-init
 loop-init g c =
     let choice = g.C.LegChoice.chosen c.args.choice.now c.args.network.now in
-    let whole = unfolded c.args.network.now c.args.query.now choice (Some c.args.start) in
+    let whole = unfolding_of c.args.network.now c.args.query.now choice (Some c.args.start) in
     let safe = c.requires.safe in
     let empty : c.new-todo.result.items ≡ [] = c.new-todo.ensures.items in
     let pushed : c.push.new.self.items ≡ c.args.start ∷ [] = grind arith in
@@ -22,7 +22,7 @@ loop-init g c =
 pub returns-in-None : goal.returns-in-None
 returns-in-None g c =
     let choice = g.C.LegChoice.chosen c.args.choice.now c.args.network.now in
-    let whole = unfolded c.args.network.now c.args.query.now choice (Some c.args.start) in
+    let whole = unfolding_of c.args.network.now c.args.query.now choice (Some c.args.start) in
     let full = c.loop.todo.ok.0 in
     let inv = c.loop.invariant in
     let seen = all_seen c.args.network.now c.args.query.now.target.0 inv.deadline choice whole c.args.start c.loop.todo.items c.loop.seen.keys (omega (arith, full, c.in-None.ensures.cases.0)) in
@@ -42,7 +42,7 @@ visit-requires-clause-there g c =
 pub loop-preserved : goal.loop-preserved
 loop-preserved g c =
     let choice = g.C.LegChoice.chosen c.args.choice.now c.args.network.now in
-    let whole = unfolded c.args.network.now c.args.query.now choice (Some c.args.start) in
+    let whole = unfolding_of c.args.network.now c.args.query.now choice (Some c.args.start) in
     let inv = c.loop.invariant in
     let at = popped c.args.network.now c.args.query.now.target.0 inv.deadline choice whole c.args.start c.loop.todo.items c.pop.new.self.items
     c.loop.seen.keys c.in-Some.leg inv.reaching c.in-Some.ensures.items in

@@ -1,6 +1,6 @@
 use Rattle.std.proofs.Common.{ℕ, Option, Some}
 use Rattle.std.specs.List.Sorted.{IsStrictlySortedBy}
-use Rattle.plan_model.specs.Unfold.{unfolded}
+use Rattle.plan_model.specs.Unfold.{unfolding_of}
 use Rattle.leg_walk.specs.Tables.{leg_cmp}
 use Rattle.leg_walk.proofs.Reaching.{IsReaching}
 use Rattle.leg_walk.proofs.reach.Given as goal
@@ -10,6 +10,6 @@ invariant-loop g l =
     let choice = g.C.LegChoice.chosen l.choice l.network in
     record {
       deadline : Option ℕ;
-      reaching : IsReaching l.network l.query.target.0 deadline choice (unfolded l.network l.query choice (Some l.fn.start)) l.fn.start l.todo.items l.seen.keys;
+      reaching : IsReaching l.network l.query.target.0 deadline choice (unfolding_of l.network l.query choice (Some l.fn.start)) l.fn.start l.todo.items l.seen.keys;
       ordered : IsStrictlySortedBy leg_cmp l.seen.keys;
     }

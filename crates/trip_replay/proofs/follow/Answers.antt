@@ -21,7 +21,7 @@ pub returns-then-eq-clause-walk : goal.returns-then-eq-clause-walk
 returns-then-eq-clause-walk c =
     let n = c.args.network.now in
     let choice = by_place n (pick_at c.args.graph.now.tables) in
-    let s = c.loop-delay.stop in
+    let s = c.loop-delay.position in
     let target = c.args.query.now.target.0 in
     c.loop-delay.invariant.walk
     ∙ too_many n target choice s c.loop-delay.rides c.args.delays.now c.loop-delay.delay-index (target_there s.place.0 target c.eq.result c.eq.ensures c.if-eq.true) c.loop-delay-test.true
@@ -31,7 +31,7 @@ pub returns-in_default-arrival_of-clause-walk : goal.returns-in_default-arrival_
 returns-in_default-arrival_of-clause-walk c =
     let n = c.args.network.now in
     let choice = by_place n (pick_at c.args.graph.now.tables) in
-    let s = c.loop-delay.stop in
+    let s = c.loop-delay.position in
     let target = c.args.query.now.target.0 in
     let none = sym c.arrival_of.ensures ∙ ap (λ (o : Option Moment). option_map (λ moment. moment.0) o) c.in_default-arrival_of.is in
     c.loop-delay.invariant.walk
@@ -43,7 +43,7 @@ pub loop-delay-preserved : goal.loop-delay-preserved
 loop-delay-preserved c =
     let n = c.args.network.now in
     let choice = by_place n (pick_at c.args.graph.now.tables) in
-    let s = c.loop-delay.stop in
+    let s = c.loop-delay.position in
     let target = c.args.query.now.target.0 in
     let behind = c.loop-delay.rides in
     let rest = drop (c.loop-delay.delay-index + 1) c.args.delays.now in
@@ -56,15 +56,15 @@ loop-delay-preserved c =
           ∙ after_ride n target choice s behind c.args.delays.now c.loop-delay.delay-index c.in-Some.leg 0 c.in-Some-arrival_of.arrival.0
           (target_away s.place.0 target c.eq.result c.eq.ensures c.if-eq.false) c.in-Some.is c.loop-delay-test.true some
           ∙ ap (λ (list : List Ridden). walk n (unfold_after n target choice s.left c.in-Some.leg c.in-Some-arrival_of.arrival.0) rest list) (sym pushed)
-          ∙ ap (λ (tree : Tree). walk n tree rest c.push.new.self) (sym c.stop_after-stop.ensures.tree);
-      next = subst (λ (k : ℕ). IfSome c.stop_after-stop.result.next (λ leg. IsLegOf n leg × (k + c.stop_after-stop.result.left < count n))) (sym more)
-          (next_step n (count n) (length behind) s.left c.stop_after-stop.result.left c.stop_after-stop.result.next c.stop_after-stop.ensures.next few);
-      few = omega (arith, more, few, c.stop_after-stop.ensures.left);
+          ∙ ap (λ (tree : Tree). walk n tree rest c.push.new.self) (sym c.position_after-position.ensures.tree);
+      next = subst (λ (k : ℕ). IfSome c.position_after-position.result.next (λ leg. IsLegOf n leg × (k + c.position_after-position.result.left < count n))) (sym more)
+          (next_step n (count n) (length behind) s.left c.position_after-position.result.left c.position_after-position.result.next c.position_after-position.ensures.next few);
+      few = omega (arith, more, few, c.position_after-position.ensures.left);
       rides = subst (All (IsRide n)) (sym pushed)
           (All-push (IsRide n) behind _ c.loop-delay.invariant.rides
           (is_ride n c.in-Some.leg _ c.in-Some-arrival_of.arrival.0 (leg_at n (count n) (length behind) s.left s.next c.in-Some.leg c.in-Some.is c.loop-delay.invariant.next) some));
-      place = c.stop_after-stop.ensures.place
+      place = c.position_after-position.ensures.place
           ∙ sym (ap (λ (list : List Ridden). place_after n c.args.query.now.source.0 list) pushed ∙ place_after-push n c.args.query.now.source.0 behind _);
-      arrival = ap (λ (moment : Moment). moment.0) c.stop_after-stop.ensures.moment
+      arrival = ap (λ (moment : Moment). moment.0) c.position_after-position.ensures.moment
           ∙ sym (ap (λ (list : List Ridden). arrival_after c.args.query.now.start.0 list) pushed ∙ arrival_after-push c.args.query.now.start.0 behind _);
     }

@@ -1,6 +1,6 @@
 use Rattle.std.proofs.Common.{◌≡◌, ◌∙◌, ◌∷◌, ◌++◌, sym, ap, map, ℕ, List}
 use Rattle.csv_rows.specs.Records.{records_in}
-use Rattle.csv_rows.specs.Spaces.{trimmed}
+use Rattle.csv_rows.specs.Spaces.{trimmed_text}
 use Rattle.csv_rows.proofs.RecordLemmas.{record_shorter, records_first, records_none}
 use Rattle.csv_rows.proofs.records.take_record.Goals as goal
 use Rattle.csv_rows.proofs.records.take_record.Goals.{in-Ok-Some, in-Ok-None, in-Err}
@@ -20,7 +20,7 @@ returns-clause-some c =
     elim c.match-push_record.branch [
       | in-Ok-Some w ↦
           let read = rw w.in-Ok-Some.field-0-is at w.in-Ok-Some.ensures.some in
-          let row : c.push_record.new.fields ≡ map trimmed read.0 = read.2 ∙ ap (λ (old : List (List ℕ)). old ++ map trimmed read.0) c.clear.ensures in
+          let row : c.push_record.new.fields ≡ map trimmed_text read.0 = read.2 ∙ ap (λ (old : List (List ℕ)). old ++ map trimmed_text read.0) c.clear.ensures in
           rw w.result-is (records_first c.args.text.now w.in-Ok-Some.after.now read.0 read.1 ∙ ap (λ (fields : List (List ℕ)). fields ∷ records_in w.in-Ok-Some.after.now) (sym row))
       | in-Ok-None w ↦ rw w.result-is tt
       | in-Err w ↦ rw w.result-is tt

@@ -1,5 +1,5 @@
 use Rattle.std.proofs.Common.{◌≡◌, ◌++◌, ◌∙◌, ap, sym, subst, append-nil, map, List, None, arith}
-use Rattle.delay_table.specs.Groups.{Group, group_in, place_of}
+use Rattle.delay_table.specs.Groups.{Group, group_in, group_place}
 use Rattle.delay_table.specs.Delays.{if_other}
 use Rattle.delay_table.specs.Read.{read_outcomes}
 use Rattle.delay_table.proofs.Others.{others-zero, others-next, others-new, other-rows-next}
@@ -17,7 +17,7 @@ pub add_other-requires-clause-new : goal.add_other-requires-clause-new
 add_other-requires-clause-new c =
     let g = c.args.read.now.groups in
     let n = c.loop-place.place in
-    let P : List Group → Type 0 = λ xs. place_of (group_in g n) xs ≡ None in
+    let P : List Group → Type 0 = λ xs. group_place (group_in g n) xs ≡ None in
     subst P (sym c.loop-place.invariant.0) (others-new g c.requires.apart n (omega arith))
 
 pub loop-place-preserved : goal.loop-place-preserved

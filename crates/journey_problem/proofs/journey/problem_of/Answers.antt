@@ -45,7 +45,8 @@ returns-in-Cut-clause-sound g c =
     c.cut_problem.ensures.valid c.cut_problem.ensures.fit c.cut_problem.ensures.timetable
 
 pub returns-in-Feed-clause-problem : goal.returns-in-Feed-clause-problem
-returns-in-Feed-clause-problem g c = let is : timetable_shown c.args.journey.now.timetable ≡ FeedFolder c.in-Feed.folder.now c.in-Feed.horizon = ap (λ (t : Timetable). timetable_shown t) c.in-Feed.is in
+returns-in-Feed-clause-problem g c = let is : timetable_shown c.args.journey.now.timetable ≡ FeedFolder c.in-Feed.folder.now c.in-Feed.horizon = ap
+    (λ (t : Timetable). timetable_shown t) c.in-Feed.is in
     rw is (rw is at c.feed_problem.ensures.problem)
 
 pub returns-in-Feed-clause-fault : goal.returns-in-Feed-clause-fault
@@ -57,7 +58,8 @@ returns-in-Feed-clause-early g c = let is : timetable_shown c.args.journey.now.t
     rw is c.feed_problem.ensures.early
 
 pub returns-in-Feed-clause-causes : goal.returns-in-Feed-clause-causes
-returns-in-Feed-clause-causes g c = λ own. let is : timetable_shown c.args.journey.now.timetable ≡ FeedFolder c.in-Feed.folder.now c.in-Feed.horizon = ap (λ (t : Timetable). timetable_shown t) c.in-Feed.is in
+returns-in-Feed-clause-causes g c = λ own. let is : timetable_shown c.args.journey.now.timetable ≡ FeedFolder c.in-Feed.folder.now c.in-Feed.horizon = ap
+    (λ (t : Timetable). timetable_shown t) c.in-Feed.is in
     rw is (rw is at (c.feed_problem.ensures.causes own))
 
 pub returns-in-Feed-clause-sound : goal.returns-in-Feed-clause-sound

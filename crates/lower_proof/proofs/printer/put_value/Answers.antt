@@ -1,7 +1,7 @@
 use Rattle.std.proofs.Common.{◌≡◌, ◌++◌, ◌∙◌, ℕ, List, subst, ap}
 use Rattle.std.specs.Prelude.{OnOk, decimal}
 use Rattle.plan_model.specs.declared.model.Connection.{Connection}
-use Rattle.printed_rows.specs.Writers.{row_of_fields, run_name, written}
+use Rattle.printed_rows.specs.Writers.{row_of_fields, run_name, text_so_far}
 use Rattle.printed_rows.proofs.Lines.{four_fields, name_is}
 use Rattle.lower_proof.proofs.printer.put_value.Goals as goal
 
@@ -13,4 +13,4 @@ returns-clause-text c =
     ∙ ap (λ (k : Connection). run_name c.args.names.now k.run.0) c.get-connection.ensures.connection)
     (c.as_bytes-2.ensures.value ∙ c.format.ensures.text ∙ ap (λ (k : Connection). decimal k.step) c.get-connection.ensures.connection)
     (c.as_slice-2.ensures ∙ c.write_nanos-nanos.ensures.text) in
-    subst (λ (list : List (List ℕ)). OnOk c.put_row.result (written c.put_row.new.writer ≡ written c.args.writer.now ++ row_of_fields list)) fields c.put_row.ensures.text
+    subst (λ (list : List (List ℕ)). OnOk c.put_row.result (text_so_far c.put_row.new.writer ≡ text_so_far c.args.writer.now ++ row_of_fields list)) fields c.put_row.ensures.text

@@ -1,5 +1,5 @@
 use Rattle.std.proofs.Common.{◌≡◌, ◌++◌, drop}
-use Rattle.printed_rows.specs.Writers.{written, text_of_records, IsBetweenRows}
+use Rattle.printed_rows.specs.Writers.{text_so_far, text_of_records, IsBetweenRows}
 use Rattle.lower_proof.specs.Steps.{AllFit}
 use Rattle.lower_proof.specs.Texts.{value_records}
 use Rattle.lower_proof.proofs.printer.put_values.Given as goal
@@ -8,7 +8,7 @@ use Rattle.lower_proof.proofs.printer.put_values.Given as goal
 abbrev pub invariant-loop-i : goal.invariant-loop-i
 invariant-loop-i l = record {
   between : IsBetweenRows l.writer;
-  text : written l.writer ++ text_of_records (value_records l.network l.names l.i (drop l.i l.values))
-      ≡ written l.initial.writer ++ text_of_records (value_records l.network l.names 0 l.values);
+  text : text_so_far l.writer ++ text_of_records (value_records l.network l.names l.i (drop l.i l.values))
+      ≡ text_so_far l.initial.writer ++ text_of_records (value_records l.network l.names 0 l.values);
   fit : AllFit l.i l.values;
 }

@@ -4,7 +4,7 @@ use Rattle.std.specs.List.{count_by}
 use Rattle.std.specs.Global.{Global}
 use Rattle.std.proofs.lemmas.Result.{IfOk-weaker}
 use Rattle.std.proofs.lemmas.List.Sums.{count_by-le-length}
-use Rattle.printed_rows.specs.Writers.{written}
+use Rattle.printed_rows.specs.Writers.{text_so_far}
 use Rattle.lower_proof.specs.Steps.{AllFit}
 use Rattle.lower_proof.specs.Reading.{IsProofRead, ReadsBack}
 use Rattle.lower_proof.specs.Texts.{proof_text}
@@ -16,7 +16,7 @@ pub returns-clause-text : goal.returns-clause-text
 returns-clause-text c =
     subst (λ (all : List ℕ). IfOk c.text_of.result (λ text. text.items ≡ all))
     (text_is c.args.network.now c.args.names.now c.args.query.now c.args.proof.now.values c.as_slice-values.result.now
-    [] (written c.writer_behind-writer.result) (written c.put_values.new.writer)
+    [] (text_so_far c.writer_behind-writer.result) (text_so_far c.put_values.new.writer)
     c.as_slice-values.ensures refl (c.writer_behind-writer.ensures.text ∙ c.in_ok-first.ensures) c.in_ok-put_values.ensures.text)
     c.text_of.ensures
 

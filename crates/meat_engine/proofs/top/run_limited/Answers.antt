@@ -1,6 +1,6 @@
 use Rattle.std.proofs.Common.{◌≡◌, ◌∙◌, inl, inr, map, string_bytes, sym, subst, arith}
 use Rattle.command_line.specs.Jobs.{Wanted}
-use Rattle.command_line.specs.Shown.{shown}
+use Rattle.command_line.specs.Shown.{wanted_job}
 use Rattle.journey_model.specs.declared.faults.Input.{Input}
 use Rattle.journey_model.specs.declared.faults.Fault.{Fault}
 use Rattle.journey_model.specs.declared.faults.Fault.TheVariants.{Words, Read, Write, NoMemory}
@@ -47,7 +47,7 @@ returns-in-Err-answer_of g c =
     let out = sink_state (g.O.Sink.written c.args.out.now) (g.O.Sink.faults c.args.out.now) in
     let err = sink_state (g.E.Sink.written c.args.err.now) (g.E.Sink.faults c.args.err.now) in
     let err_after = sink_state (g.E.Sink.written c.refuse-in-Err-answer_of.new.err) (g.E.Sink.faults c.refuse-in-Err-answer_of.new.err) in
-    let wanted = shown c.in-Ok.job in
+    let wanted = wanted_job c.in-Ok.job in
     let fault = c.in-Err-answer_of.refusal.fault in
     let why = c.in-Err-answer_of.ensures.fault in
     let known = known_of c.in-Err-answer_of.refusal in
@@ -72,7 +72,7 @@ returns-in-Ok-answer_of g c =
     let err_after = sink_state (g.E.Sink.written c.tell.new.err) (g.E.Sink.faults c.tell.new.err) in
     answered_run c.args.limits.now (map string_bytes c.args.words.now) (findings_of c.in-Ok-answer_of.answer.report) c.tell.result c.in-Ok-answer_of.answer.text.items
     before after out out_after err err_after c.tell.ensures.out
-    (shown c.in-Ok.job) (sym c.in-Ok.ensures.job) c.in-Ok-answer_of.ensures.answer c.tell.ensures.status c.tell.ensures.findings
+    (wanted_job c.in-Ok.job) (sym c.in-Ok.ensures.job) c.in-Ok-answer_of.ensures.answer c.tell.ensures.status c.tell.ensures.findings
     c.tell.ensures.quiet c.tell.ensures.told c.in-Ok-answer_of.ensures.same
     (λ less. (c.in-Ok-answer_of.ensures.causes.grew less).1)
     c.tell.ensures.write c.tell.ensures.grew

@@ -1,5 +1,5 @@
 use Rattle.std.proofs.Common.{◌≡◌, ◌<◌, ◌∙◌, ap, sym, subst, ℕ, Option, Some, None, IfSome, option_map, List, [], length, slice_index_or, Bor}
-use Rattle.delay_table.specs.Groups.{Group, place_of}
+use Rattle.delay_table.specs.Groups.{Group, group_place}
 use Rattle.delay_table.proofs.NumberedFacts.{place-is, unknown-route, number-is}
 use Rattle.delay_table.proofs.groups.Groups.place.Goals as goal
 use Rattle.delay_table.proofs.groups.Groups.place.Goals.{in-None, in-Some+in-Some-number}
@@ -8,8 +8,8 @@ pub returns-in-None-number-clause-place : goal.returns-in-None-number-clause-pla
 returns-in-None-number-clause-place c =
     let s = c.self.inside in
     let r = unknown-route s.routes s.groups c.self.invariant.distinct c.self.invariant.numbers c.in-Some.id.now c.args.class c.args.hour (sym c.in-None-number.ensures.place) in
-    let Q : List Group → Type 0 = λ gs. None ≡ place_of (record { class = c.args.class; route = Some c.in-Some.id.now; hour = c.args.hour }) gs in
-    let P : Option (Bor (List ℕ)) → Type 0 = λ o. None ≡ place_of (record { class = c.args.class; route = option_map (λ s. s.now) o; hour = c.args.hour }) c.args.self.now in
+    let Q : List Group → Type 0 = λ gs. None ≡ group_place (record { class = c.args.class; route = Some c.in-Some.id.now; hour = c.args.hour }) gs in
+    let P : Option (Bor (List ℕ)) → Type 0 = λ o. None ≡ group_place (record { class = c.args.class; route = option_map (λ s. s.now) o; hour = c.args.hour }) c.args.self.now in
     subst P (sym c.in-Some.is) (subst Q c.self.view_is r)
 
 pub returns-clause-place : goal.returns-clause-place

@@ -1,12 +1,12 @@
 use Rattle.std.proofs.Common.{◌≡◌, ◌++◌, drop}
 use Rattle.graph_text.specs.Texts.{tables_text}
-use Rattle.printed_rows.specs.Writers.{written, IsBetweenRows}
+use Rattle.printed_rows.specs.Writers.{text_so_far, IsBetweenRows}
 use Rattle.graph_text.proofs.printer.Printer.put_tables.Given as goal
 
 -- the text so far, and that of the tables that are left
 abbrev pub invariant-loop-table : goal.invariant-loop-table
 invariant-loop-table l = record {
   between : IsBetweenRows l.writer;
-  text : written l.writer ++ tables_text l.self.network.now l.self.names.now l.self.version
-      (drop l.table-index l.tables) ≡ written l.initial.writer ++ tables_text l.self.network.now l.self.names.now l.self.version l.tables;
+  text : text_so_far l.writer ++ tables_text l.self.network.now l.self.names.now l.self.version
+      (drop l.table-index l.tables) ≡ text_so_far l.initial.writer ++ tables_text l.self.network.now l.self.names.now l.self.version l.tables;
 }

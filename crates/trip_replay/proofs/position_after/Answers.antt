@@ -7,7 +7,7 @@ use Rattle.plan_model.specs.Tree.{Done}
 use Rattle.plan_model.specs.Unfold.{end_of, by_place, ride_or_stuck, unfold_after}
 use Rattle.plan_graph.specs.Rows.{pick_at}
 use Rattle.trip_replay.proofs.Walks.{next_leg}
-use Rattle.trip_replay.proofs.stop_after.Goals as goal
+use Rattle.trip_replay.proofs.position_after.Goals as goal
 
 pub returns-clause-next : goal.returns-clause-next
 returns-clause-next c =
