@@ -8,7 +8,6 @@ use Rattle.journey_model.specs.Faults.{unread_of}
 use Rattle.input_files.specs.Files.{HasCauses}
 use Rattle.journey_problem.specs.Problems.{IsProblem, IsProblemFault, IsValidProblem}
 use Rattle.meat_engine.specs.Asks.{no_path}
-use Rattle.meat_engine.specs.Samples.{sample_journey}
 use Rattle.std.proofs.lemmas.Result.{IfOk-weaker, IfErr-weaker}
 use Rattle.meat_engine.proofs.Asking.{never_unread, none_rises}
 use Rattle.meat_engine.proofs.samples.sample_problem.Goals as goal
