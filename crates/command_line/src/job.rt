@@ -136,7 +136,7 @@ fn size_of(settings: &[String]) -> u32
 
 /// Where the connections come from.
 fn timetable_of(settings: &[String]) -> Timetable<'_>
-    ensures wanted_job { timetable_shown result ≡ timetable_of (map string_bytes settings.now) }
+    ensures shown { timetable_shown result ≡ timetable_of (map string_bytes settings.now) }
     ensures horizon { HasHorizon (timetable_shown result) }
 {
     match value_of(settings, OptionName::Feed) {
@@ -147,7 +147,7 @@ fn timetable_of(settings: &[String]) -> Timetable<'_>
 
 /// The journey of a command.
 fn journey_of(settings: &[String]) -> Journey<'_>
-    ensures wanted_job { journey_shown result ≡ journey_of (map string_bytes settings.now) }
+    ensures shown { journey_shown result ≡ journey_of (map string_bytes settings.now) }
     ensures in_range { IsJourney (journey_shown result) }
 {
     Journey {

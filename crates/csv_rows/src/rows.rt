@@ -79,7 +79,7 @@ fn push_row<'a>(
 /// The rows, if there is one.
 fn finished(fields: Fields, ends: Vec<u32>) -> Result<Rows, RowsFault>
     requires fills { Fills ends.items (length fields) }
-    requires trimmed_text { AreTrimmed (parts_from 0 ends.items fields) }
+    requires trimmed { AreTrimmed (parts_from 0 ends.items fields) }
     ensures rows { IfOk result (λ rows. rows ≡ parts_from 0 ends.items fields) }
     ensures header { IfOk result (λ rows. 0 < length rows) }
     ensures none { OnErr result (parts_from 0 ends.items fields ≡ []) }
@@ -154,7 +154,7 @@ impl Rows {
     pub fn count(&self) -> usize
         ensures count { result ≡ row_count self.now }
         ensures few { result < 2 ^ 62 }
-        ensures trimmed_text { AreTrimmed self.now }
+        ensures trimmed { AreTrimmed self.now }
     {
         let ends: &[u32] = &self.ends;
         ends.len().saturating_sub(1)

@@ -36,7 +36,7 @@ fn plain_types(alloc: Global, groups: &Groups) -> Result<Vec<u16>, NoMemory>
 /// The route types that are named, rising.
 pub(crate) fn named_types(alloc: Global, read: &ReadRows) -> Result<Vec<u16>, NoMemory>
     requires { IsRead read.now.groups read.now.rows.items }
-    ensures route_types_below { IfOk result (λ types. types.items
+    ensures named { IfOk result (λ types. types.items
         ≡ route_types_below (read_outcomes read.now.groups read.now.rows.items) end_of_types) }
     ensures size { IfOk result (λ types. length types.items
         ≡ length (plain_types read.now.groups (length read.now.groups))) }
