@@ -1,5 +1,5 @@
 //! The ports in use.
-ghost use Rattle.std.specs.Prelude.{IsErrOf};
+ghost use Rattle.std.specs.Prelude.{◌≡◌, IsErrAnd};
 
 use file_ports::{Files, HostFiles, HostSink, LoadFault, SteadyFiles, load, put_all};
 use memory_ports::{MemoryFiles, MemorySink};
@@ -31,7 +31,7 @@ fn loaded_steadily(
     files: &mut SteadyFiles,
     path: &str,
 ) -> Result<Option<Vec<u8>>, LoadFault>
-    ensures { IsErrOf result LoadFault.Read → ⊥ }
+    ensures { IsErrAnd result (λ fault. fault ≡ LoadFault.Read) → ⊥ }
 {
     load(alloc, files, path, 99)
 }
