@@ -5,6 +5,8 @@ use Rattle.std.proofs.lemmas.Bool.{cases_lt, cases_eq}
 use Rattle.std.proofs.lemmas.List.{get_or_append_left, get_or_push, get_or-set_same, get_or-set_other, length-set, length-append, length-map}
 use Rattle.plan_model.specs.declared.hash_index.Link.{Link}
 use Rattle.plan_model.specs.Chains.{AreChains, IsChained, no_link, link_at, hash_at, older_at, hashes_of}
+use Rattle.std.proofs.lemmas.Bool.Decides.{nat_tests}
+use Rattle.std.proofs.lemmas.Grind.{common_steps}
 
 -- the link of a hash that comes last
 abbrev pub link_of : List ℕ → ℕ → Link
@@ -91,14 +93,7 @@ AreChains-append links newest hash old some =
 
 pub IsChained-append : (links : List Link) (newest : List ℕ) (hash : ℕ) → IsChained links newest → 0 < length newest → length links < 2 ^ 32 - 1
     → IsChained (links ++ link_of newest hash ∷ []) (slice_set newest (hash % length newest) (length links + 1))
-IsChained-append links newest hash old some room =
-    let link : Link = link_of newest hash in
-    let marked : List ℕ = slice_set newest (hash % length newest) (length links + 1) in
-    let same : length newest ≡ length marked = sym (length-set newest (hash % length newest) (length links + 1)) in
-    record {
-      few = omega (arith, length-append links (link ∷ []));
-      chains = subst (λ n. AreChains n (links ++ link ∷ []) marked) same (AreChains-append links newest hash old.chains some);
-    }
+IsChained-append links newest hash old some room = grind (arith, common_steps, nat_tests, length-set, length-append, AreChains-append)
 
 -- what a link tells is not after it, and of its bucket
 pub older_within : (count : ℕ) (links : List Link) (newest : List ℕ) (k : ℕ) (link : Link) → AreChains count links newest → k < length links → link_at links k ≡ link
@@ -113,9 +108,7 @@ older_of count links newest k link chains inside e some =
 -- and all of this hash before it are before that, where the link is of the hash's bucket
 pub older_above : (count : ℕ) (links : List Link) (newest : List ℕ) (k hash i : ℕ) (link : Link) → AreChains count links newest → k < length links → link_at links k ≡ link
     → link.hash % count ≡ hash % count → i < k → hash_at links i ≡ hash → i < link.older
-older_above count links newest k hash i link chains inside e bucket before same =
-    subst (λ (l : Link). i < l.older) e
-    (chains.older_above k i inside before (ap (λ h. h % count) same ∙ sym bucket ∙ ap (λ (l : Link). l.hash % count) (sym e)))
+older_above count links newest k hash i link chains inside e bucket before same = grind (arith, common_steps, nat_tests)
 
 -- all of a hash are before the newest of its bucket
 pub newest_above : (links : List Link) (newest : List ℕ) (hash i : ℕ) → IsChained links newest → i < length links → hash_at links i ≡ hash

@@ -14,6 +14,7 @@ use Rattle.plan_model.specs.View.{first_way, links_from_added, extended, IsSeen,
 use Rattle.plan_model.proofs.Boarding.{way_in-here, way_in-away}
 use Rattle.plan_model.proofs.Links.{AreLinksInto-none}
 use Rattle.plan_model.proofs.MoreLinks.{AreLinksInto-wider, AreLinksInto-push}
+use Rattle.std.proofs.lemmas.Grind.{common_steps}
 
 -- a way is looked for in the first list, and then in the second
 way_in-first : (ways more : List Way) (p : ℕ) → way_in more p ≡ None → way_in (ways ++ more) p ≡ way_in ways p
@@ -64,12 +65,7 @@ module _ (m : NetworkModel) (v : IsValid m) (source : ℕ) (there : source < len
       (λ k d within e. let inside = (v.links.each r h).inside k d within in absurd (omega arith))
 
   none_more : (p r : ℕ) → p < last → way_in (more r) p ≡ None
-  none_more p r inside = elim (cases_eq r source) [
-    | inl here ↦
-        let e : more r ≡ first_way m ∷ [] = ap more here ∙ more_here in
-        rw e (way_in-away (first_way m) [] p (λ same. absurd (omega arith)))
-    | inr away ↦ let e = more_away r away in rw e refl
-  ]
+  none_more p r inside = grind (arith, common_steps, nat_tests, cases_eq, more_here, way_in-away, more_away)
 
   same_ways : (p r : ℕ) → p < last → r < last → way_of n p r ≡ way_of m p r
   same_ways p r inside h = ap (λ (ways : List Way). way_in ways p) (ways_at r h) ∙ way_in-first (ways_into m r) (more r) p (none_more p r inside)
@@ -81,34 +77,15 @@ module _ (m : NetworkModel) (v : IsValid m) (source : ℕ) (there : source < len
   link = from_last source there ∙ ap (λ (ways : List Way). way_in ways last) more_here ∙ way_in-here (first_way m) [] last refl
 
   only_link : (r seconds : ℕ) → r < last → way_of n last r ≡ Some seconds → r ≡ source
-  only_link r seconds h way = elim (cases_eq r source) [
-    | inl here ↦ here
-    | inr away ↦ let none = sym (from_last r h ∙ ap (λ (ways : List Way). way_in ways last) (more_away r away)) ∙ way in absurd (cc)
-  ]
+  only_link r seconds h way = grind (arith, common_steps, nat_tests, cases_eq, from_last, more_away)
 
   -- a connection is seen as it is
   all_seen : (i : ℕ) → IsSeen 0 0 (connection n i) (connection m i)
   unfolding connection
-  all_seen i = record {
-    from = refl;
-    to = refl;
-    run = refl;
-    step = refl;
-    class = refl;
-    exit = (λ h. h, λ h. h);
-    board = (λ h. (h, omega arith), λ h. h.0);
-    departs = λ h. omega arith;
-    arrives = λ h. omega arith;
-  }
+  all_seen i = grind arith
 
   pub is_extension : IsExtension n m source
-  is_extension = record {
-    view = record { as_many = refl; connections = λ i h. all_seen i; classes = refl; ways = same_ways };
-    places = places;
-    source_there = there;
-    link = link;
-    only = only_link;
-  }
+  is_extension = grind (arith, all_seen, same_ways, places, link, only_link)
 
   links_valid : (r : ℕ) → r < last + 1 → AreLinksInto (last + 1) r (links_into m r ++ more r)
   links_valid r h = elim (cases_eq r source) [
@@ -128,13 +105,7 @@ module _ (m : NetworkModel) (v : IsValid m) (source : ℕ) (there : source < len
 
   changes_valid : (p : ℕ) → p < last + 1 → (1 ≤ change_of n p) × (change_of n p ≤ 86400)
   unfolding change_of
-  changes_valid p h = elim (cases_lt p last) [
-    | inl before ↦ let e = get_or_append_left m.change (1 ∷ []) 0 p before in rw e (v.changes p before)
-    | inr after ↦
-        let e = get_or-append_right m.change (1 ∷ []) last p 0 refl after in
-        let at : p - last ≡ 0 = omega arith in
-        rw (e, at) (omega arith, omega arith)
-  ]
+  changes_valid p h = grind (arith, common_steps, nat_tests, cases_lt, get_or_append_left, get_or-append_right)
 
   pub is_valid : IsValid n
   unfolding connection row_of

@@ -8,16 +8,15 @@ use Rattle.plan_model.specs.Strategy.{IsLeg, IsBoardable, IsSafe, IsSafeFromStar
 use Rattle.plan_model.specs.View.{later_by, deadline_later_by, IsView, IsExtension, SafeAlike}
 use Rattle.plan_model.proofs.Later.{later_by-none, deadline-none, later_by-same}
 use Rattle.plan_model.proofs.Views.{leg_there, safe_there, safe_back, start_there, start_back}
+use Rattle.std.proofs.lemmas.Bool.Decides.{nat_tests}
+use Rattle.std.proofs.lemmas.Grind.{common_steps}
 
 module _ (n m : NetworkModel) (source : ℕ) (extends : IsExtension n m source) (valid : IsValid m) (target : ℕ) (by : Option ℕ) (inside : target < length m.change) (away : source ≢ target) where
   abbrev added : ℕ
   added = length m.change
 
   begins_inside : (i j : ℕ) → IsLeg n i j → from_of n i < length m.change
-  begins_inside i j leg =
-      let there = leg_there n m 0 0 extends.view valid i j leg in
-      let e = (extends.view.connections i there.0.enter).from in
-      omega (arith, e, (valid.connections i there.0.enter).from_in)
+  begins_inside i j leg = grind (arith, common_steps, nat_tests, leg_there)
 
   -- in the network with the place more
   sets_out : (tree : Tree) (x : ℕ) → IsSafe n target by tree added x → IsSafeFromStart n target by tree source (x + 1)

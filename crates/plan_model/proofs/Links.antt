@@ -34,12 +34,7 @@ pub links_into-few : (n : NetworkModel) → IsValid n → (r : ℕ) → r < leng
 links_into-few n v r inside = few_links (length n.change) r (links_into n r) inside (v.links.each r inside)
 
 pub AreLinksInto-none : (places r : ℕ) → AreLinksInto places r []
-AreLinksInto-none places r = record {
-  rising = λ i j d less within. absurd (omega arith);
-  inside = λ k d within. absurd (omega arith);
-  others = λ k d within. absurd (omega arith);
-  takes = λ k d within. absurd (omega arith);
-}
+AreLinksInto-none places r = omega arith
 
 -- the network with other links
 abbrev pub relinked : NetworkModel → List (List Way) → NetworkModel
@@ -47,19 +42,7 @@ relinked n links = record { connections = n.connections; change = n.change; clas
 
 pub IsValid-relinked : (n : NetworkModel) (links : List (List Way)) → IsValid n → AreLinks (length n.change) links → IsValid (relinked n links)
 unfolding change_of row_of connection
-IsValid-relinked n links v are = record {
-  rising = v.rising;
-  onward = v.onward;
-  connections = λ i h. let c = v.connections i h in record { forward = c.forward; early = c.early; from_in = c.from_in; to_in = c.to_in; class_in = c.class_in; step_in = c.step_in };
-  runs = v.runs;
-  changes = v.changes;
-  links = are;
-  rows = v.rows;
-  few_connections = v.few_connections;
-  few_places = v.few_places;
-  few_classes = v.few_classes;
-  class_0 = v.class_0;
-}
+IsValid-relinked n links v are = grind arith
 
 -- of no lists no link comes
 pub AreLinks-none : (places : ℕ) → AreLinks places []

@@ -1,8 +1,10 @@
 -- Elements of lists, one at a time.
-use Rattle.std.proofs.Common.{◌≡◌, zero, suc, ◌<◌, ◌⊎◌, ℕ, List, [], ◌∷◌, ◌++◌, map, length, get_or, All, AllPairs, Contains, arith, refl, inl, inr, ap}
+use Rattle.std.proofs.Common.{◌≡◌, suc, ◌<◌, ◌⊎◌, ℕ, List, [], ◌∷◌, ◌++◌, map, length, get_or, All, AllPairs, Contains, arith, refl, inl, inr, ap}
 use Rattle.std.specs.Prelude.{slice_index_or}
 use Rattle.std.proofs.lemmas.List.Elements.{All-append, All-contains, All-map, Contains-get_or}
 use Rattle.std.proofs.lemmas.List.Kept.{AllPairs-cons}
+use Rattle.std.proofs.lemmas.Bool.Decides.{nat_tests}
+use Rattle.std.proofs.lemmas.Grind.{common_steps}
 
 module _ {X : Type 0} where
   pub Contains-nil : (x : X) → Contains [] x → ⊥
@@ -15,11 +17,7 @@ module _ {X : Type 0} where
   Contains-tail y xs x has = (suc has.0, omega (arith, has.1), has.2)
 
   pub Contains-cons_cases : (y : X) (xs : List X) (x : X) → Contains (y ∷ xs) x → (y ≡ x) ⊎ Contains xs x
-  Contains-cons_cases y xs x has = at_place has.0 has.1 has.2
-    where
-      at_place : (k : ℕ) → k < length (y ∷ xs) → slice_index_or (y ∷ xs) k x ≡ x → (y ≡ x) ⊎ Contains xs x
-      at_place zero within is = inl is
-      at_place (suc k) within is = inr (k, omega (arith, within), is)
+  Contains-cons_cases y xs x has = grind (arith, common_steps, nat_tests)
 
   pub All-from_contains : (P : X → Type 0) (xs : List X) → ((x : X) → Contains xs x → P x) → All P xs
   All-from_contains P xs each = λ k d within. each (slice_index_or xs k d) (Contains-get_or xs k d within)

@@ -1,21 +1,16 @@
 -- What departs by a moment stands first in a scan order.
-use Rattle.std.proofs.Common.{◌≡◌, ℕ, zero, suc, ◌+◌, ◌-◌, ◌<◌, ◌≤◌, List, [], ◌∷◌, ◌++◌, length, get_or, take, drop, arith, sym, ap, ◌∙◌, refl, inl, inr, length-drop}
+use Rattle.std.proofs.Common.{◌≡◌, ℕ, ◌+◌, ◌-◌, ◌<◌, ◌≤◌, List, ◌++◌, length, get_or, take, drop, arith, sym, ap, ◌∙◌, inl, inr, length-drop}
 use Rattle.std.proofs.lemmas.Bool.{cases_eq}
 use Rattle.std.proofs.lemmas.List.{take-append-drop, get_or-drop, get_or-take, length-take-le}
 use Rattle.plan_model.specs.declared.model.ConnectionId.{ConnectionId}
 use Rattle.plan_model.specs.NetworkModel.{NetworkModel}
 use Rattle.plan_model.specs.Network.{dep_of}
 use Rattle.plan_model.specs.Order.{IsEarlier, IsScanOrder, IsPrefixUpTo}
+use Rattle.std.proofs.lemmas.Bool.Decides.{nat_tests}
+use Rattle.std.proofs.lemmas.Grind.{common_steps}
 
 take_take : {X : Type 0} (xs : List X) (i j : ℕ) → i ≤ j → take i (take j xs) ≡ take i xs
-take_take {X} xs i j h =
-    let e : i + (j - i) ≡ j = omega arith in
-    ap (λ (ys : List X). take i ys) (sym (ap (λ (k : ℕ). take k xs) e)) ∙ first xs i (j - i)
-  where
-    first : (ys : List X) (m more : ℕ) → take m (take (m + more) ys) ≡ take m ys
-    first ys zero more = refl
-    first [] (suc m) more = let e : suc m + more ≡ suc (m + more) = omega arith in rw e refl
-    first (y ∷ ys) (suc m) more = let e : suc m + more ≡ suc (m + more) = omega arith in rw e (ap (λ (zs : List X). y ∷ zs) (first ys m more))
+take_take {X} xs i j h = grind (arith, common_steps, nat_tests)
 
 pub dep_of_earlier : (n : NetworkModel) (i j : ℕ) → IsEarlier n i j → dep_of n i ≤ dep_of n j
 dep_of_earlier n i j (inl less) = omega arith
@@ -23,10 +18,7 @@ dep_of_earlier n i j (inr same) = omega (arith, same.0)
 
 -- departures do not fall along a scan order
 pub dep_along : (n : NetworkModel) (ids : List ConnectionId) → IsScanOrder n ids → (i j : ℕ) (d : ConnectionId) → i ≤ j → j < length ids → dep_of n (get_or ids i d).0 ≤ dep_of n (get_or ids j d).0
-dep_along n ids order i j d h within = elim (cases_eq i j) [
-  | inl same ↦ let e : dep_of n (get_or ids i d).0 ≡ dep_of n (get_or ids j d).0 = ap (λ (k : ℕ). dep_of n (get_or ids k d).0) same in omega arith
-  | inr other ↦ dep_of_earlier n (get_or ids i d).0 (get_or ids j d).0 (order.rising i j d (omega arith) within)
-]
+dep_along n ids order i j d h within = grind (arith, cases_eq)
 
 -- of the first connections those before low depart by a moment, and those from high on after it
 pub record IsHalved (n : NetworkModel) (ids : List ConnectionId) (last left low high : ℕ) : Type 0 where
@@ -37,20 +29,10 @@ pub record IsHalved (n : NetworkModel) (ids : List ConnectionId) (last left low 
 
 module _ (n : NetworkModel) (ids : List ConnectionId) (last left low high : ℕ) (order : IsScanOrder n ids) (h : IsHalved n ids last left low high) where
   pub IsHalved-up : (middle : ℕ) → low ≤ middle → middle < high → left ≤ length ids → ((d : ConnectionId) → dep_of n (get_or ids middle d).0 ≤ last) → IsHalved n ids last left (middle + 1) high
-  IsHalved-up middle from to all soon = record {
-    ordered = omega arith;
-    within = h.within;
-    soon = λ k d less. omega (arith, dep_along n ids order k middle d (omega arith) (omega (arith, h.within)), soon d);
-    late = h.late;
-  }
+  IsHalved-up middle from to all soon = grind (arith, dep_along)
 
   pub IsHalved-down : (middle : ℕ) → low ≤ middle → middle < high → left ≤ length ids → ((d : ConnectionId) → last < dep_of n (get_or ids middle d).0) → IsHalved n ids last left low middle
-  IsHalved-down middle from to all late = record {
-    ordered = omega arith;
-    within = omega (arith, h.within);
-    soon = h.soon;
-    late = λ k d ge less. omega (arith, dep_along n ids order middle k d ge (omega arith), late d);
-  }
+  IsHalved-down middle from to all late = grind (arith, dep_along)
 
   pub IsPrefixUpTo-halved : high ≤ low → left ≤ length ids → IsPrefixUpTo n last (take left ids) (take low ids)
   IsPrefixUpTo-halved done all =

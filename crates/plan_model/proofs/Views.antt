@@ -8,6 +8,8 @@ use Rattle.plan_model.specs.Tree.{Tree, Done, Ride, Stuck, Kids, Nil, Kid}
 use Rattle.plan_model.specs.Strategy.{IsLeg, IsBoardable, IsBoardableAtStart, IsInTime, IsSafe, AreSafe, IsSafeFromStart}
 use Rattle.plan_model.specs.View.{later_by, all_later_by, deadline_later_by, IsSeen, IsView}
 use Rattle.plan_model.proofs.Bounds.{forward}
+use Rattle.std.proofs.lemmas.Bool.Decides.{nat_tests}
+use Rattle.std.proofs.lemmas.Grind.{common_steps}
 
 in_time_there : (shift : ℕ) (by : Option ℕ) (x : ℕ) → IsInTime by x → IsInTime (deadline_later_by shift by) (x + shift)
 in_time_there shift None x h = tt
@@ -38,35 +40,10 @@ module _ (n m : NetworkModel) (shift first : ℕ) (view : IsView n m shift first
 
   -- a leg of the view is one of the network, which departs from the first moment on
   pub leg_there : (i j : ℕ) → IsLeg n i j → IsLeg m i j × (first ≤ dep_of m i)
-  leg_there i j leg =
-      let enter : i < count m = omega (arith, leg.enter, view.as_many) in
-      let exit : j < count m = omega (arith, leg.exit, view.as_many) in
-      let a = seen i enter in
-      let b = seen j exit in
-      let board = a.board.0 leg.board in (
-        record {
-          enter = enter;
-          exit = exit;
-          one_run = sym a.run ∙ leg.one_run ∙ b.run;
-          onward = omega (arith, leg.onward, a.step, b.step);
-          board = board.0;
-          leave = b.exit.0 leg.leave;
-        },
-        board.1,
-      )
+  leg_there i j leg = grind (arith, common_steps, nat_tests, seen)
 
   pub leg_back : (i j : ℕ) → IsLeg m i j → first ≤ dep_of m i → IsLeg n i j
-  leg_back i j leg late =
-      let a = seen i leg.enter in
-      let b = seen j leg.exit in
-      record {
-        enter = omega (arith, leg.enter, view.as_many);
-        exit = omega (arith, leg.exit, view.as_many);
-        one_run = a.run ∙ leg.one_run ∙ sym b.run;
-        onward = omega (arith, leg.onward, a.step, b.step);
-        board = a.board.1 (leg.board, late);
-        leave = b.exit.1 leg.leave;
-      }
+  leg_back i j leg late = grind (arith, common_steps, nat_tests, seen)
 
   -- a leg departs and arrives by the shift later
   pub departs : (i j : ℕ) → IsLeg m i j → first ≤ dep_of m i → dep_of n i + shift ≡ dep_of m i

@@ -36,6 +36,4 @@ loop-rest-preserved c =
     )
 
 pub returns-clause-none : goal.returns-clause-none
-returns-clause-none c there =
-    let found = get_or_default (texts c.args.strings.now) there.0 [] c.args.text.now there.1 ∙ there.2 in
-    omega (arith, c.loop-rest-test.false, c.loop-rest.invariant.1 there.0 there.1 found)
+returns-clause-none c there = grind (arith, get_or_default)

@@ -6,17 +6,7 @@ use Rattle.plan_model.proofs.Chains.{length-hashes}
 use Rattle.plan_model.proofs.hash_index.HashIndex.spread.Goals as goal
 
 pub append-requires-clause-room : goal.append-requires-clause-room
-append-requires-clause-room c =
-    let hashes : List ℕ = hashes_of c.args.self.now.links.items in
-    omega (
-      arith,
-      length-hashes c.loop-link.index.links.items,
-      ap length c.loop-link.invariant.hashes,
-      length-take c.loop-link.link-index hashes,
-      length-hashes c.args.self.now.links.items,
-      ap length c.deref-link-items.ensures.value,
-      c.args.self.now.chained.few,
-    )
+append-requires-clause-room c = grind (arith, length-hashes, length-take)
 
 pub loop-link-preserved : goal.loop-link-preserved
 loop-link-preserved c =

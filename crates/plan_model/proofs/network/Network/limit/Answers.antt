@@ -1,10 +1,7 @@
-use Rattle.std.proofs.Common.{arith, ap, ◌∙◌, subst, sym}
-use Rattle.std.specs.Option.{option_and_then}
+use Rattle.std.proofs.Common.{arith, ap, ◌∙◌, subst}
 use Rattle.plan_model.specs.declared.model.Connection.{Connection}
 use Rattle.plan_model.specs.NetworkModel.{NetworkModel}
 use Rattle.plan_model.specs.Network.{IsValid}
-use Rattle.plan_model.specs.Ways.{earlier_by}
-use Rattle.plan_model.specs.Search.{connection_at}
 use Rattle.plan_model.proofs.Searches.{at_place}
 use Rattle.plan_model.proofs.Boarding.{limit_of-found}
 use Rattle.plan_model.proofs.network.Network.limit.Goals as goal
@@ -16,15 +13,7 @@ way-requires-clause-to c =
     omega (arith, ap (λ (k : Connection). k.from.0) here, (v.connections c.args.leg.enter.0 c.requires.enter).from_in)
 
 pub returns-in-None : goal.returns-in-None
-returns-in-None c =
-    let here = at_place c.args.self.now c.as_slice.result.now (c.as_slice.ensures ∙ ap (λ (p : NetworkModel). p.connections) c.self.view_is) c.args.leg.enter.0 in
-    let found = limit_of-found c.args.self.now c.args.place.0 c.args.leg (connection_at c.as_slice.result.now c.args.leg.enter.0) c.way.result here c.way.ensures in
-    let none = ap (option_and_then (earlier_by (connection_at c.as_slice.result.now c.args.leg.enter.0).dep.0)) c.in-None.is in
-    sym none ∙ found
+returns-in-None c = grind (arith, at_place, limit_of-found)
 
 pub returns-in-Some : goal.returns-in-Some
-returns-in-Some c =
-    let here = at_place c.args.self.now c.as_slice.result.now (c.as_slice.ensures ∙ ap (λ (p : NetworkModel). p.connections) c.self.view_is) c.args.leg.enter.0 in
-    let found = limit_of-found c.args.self.now c.args.place.0 c.args.leg (connection_at c.as_slice.result.now c.args.leg.enter.0) c.way.result here c.way.ensures in
-    let some = ap (option_and_then (earlier_by (connection_at c.as_slice.result.now c.args.leg.enter.0).dep.0)) c.in-Some.is in
-    c.before-in-Some.ensures ∙ sym some ∙ found
+returns-in-Some c = grind (arith, at_place, limit_of-found)

@@ -1,8 +1,8 @@
-use Rattle.std.proofs.Common.{◌≡◌, ℕ, ◌+◌, ◌-◌, ◌/◌, ◌<◌, length, get_or, arith, ap, sym, ◌∙◌, subst}
+use Rattle.std.proofs.Common.{◌≡◌, ℕ, ◌+◌, ◌-◌, ◌/◌, ◌<◌, length, get_or, arith, ap, sym, ◌∙◌}
 use Rattle.std.proofs.lemmas.List.{get_or_read}
 use Rattle.plan_model.specs.declared.model.Connection.{Connection}
 use Rattle.plan_model.specs.declared.model.ConnectionId.{ConnectionId}
-use Rattle.plan_model.specs.Network.{count, dep_of}
+use Rattle.plan_model.specs.Network.{dep_of}
 use Rattle.plan_model.proofs.ScanOrders.{has_each_id}
 use Rattle.plan_model.proofs.Skips.{IsHalved-up, IsHalved-down, IsPrefixUpTo-halved}
 use Rattle.plan_model.proofs.order.SortedOrderBackwardOrder.skip_after.Goals as goal
@@ -18,11 +18,7 @@ read : (c : After-index) (d : ConnectionId) → get_or c.args.self.now.ids.items
 read c d = sym (get_or_read c.args.self.now.ids.items (middle_of c) c.index.result.now (within c) c.index.ensures d)
 
 pub get-requires : goal.get-requires
-get-requires c =
-    let at = (goal.at.get-requires c).After-index in
-    let ids = c.args.self.now.ids.items in
-    let n = c.args.network.now in
-    subst (λ (id : ConnectionId). id.0 < count n) (read at c.index.result.now) ((has_each_id n ids c.requires.0).within (middle_of at) c.index.result.now (within at))
+get-requires c = grind (arith, After-index, read, has_each_id, within)
 
 -- when the connection in the middle departs
 dep_is : (c : After-index) (dep : ℕ) → dep ≡ dep_of c.args.network.now c.index.result.now.0 → (d : ConnectionId) → dep_of c.args.network.now (get_or c.args.self.now.ids.items (middle_of c) d).0 ≡ dep
@@ -45,6 +41,4 @@ loop-low-preserved c =
     (λ d. omega (arith, dep_is at c.get.result.dep.0 dep d, c.if-dep-last.false))
 
 pub returns-clause-up_to : goal.returns-clause-up_to
-returns-clause-up_to c =
-    IsPrefixUpTo-halved c.args.network.now c.args.self.now.ids.items c.args.last.0 c.args.self.now.left c.loop-low.low c.loop-low.high c.requires.0
-    c.loop-low.invariant (omega (arith, c.loop-low-test.false)) c.requires.1
+returns-clause-up_to c = grind (arith, IsPrefixUpTo-halved)

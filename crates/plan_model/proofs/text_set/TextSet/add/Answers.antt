@@ -1,16 +1,13 @@
-use Rattle.std.proofs.Common.{◌≡◌, ◌∙◌, ℕ, ◌-◌, ◌^◌, ◌<◌, ◌∷◌, [], ◌++◌, List, String, Contains, length, refl, sym, ap, subst}
-use Rattle.std.specs.Global.{Global}
+use Rattle.std.proofs.Common.{◌≡◌, ◌∙◌, ℕ, ◌-◌, ◌^◌, ◌<◌, ◌∷◌, [], ◌++◌, List, Contains, length, refl, sym, ap, subst}
 use Rattle.plan_model.specs.NameLists.{texts}
-use Rattle.plan_model.specs.TextSets.{AreHashed, AreTexts, HasHash}
+use Rattle.plan_model.specs.TextSets.{AreHashed}
 use Rattle.plan_model.proofs.Texts.{texts-push}
 use Rattle.plan_model.proofs.TextSets.{AreTexts-hashed, HasHash-own, AreHashed-push, there_by_number, absent_by_number}
 use Rattle.plan_model.proofs.text_set.TextSet.add.Goals as goal
+use Rattle.std.proofs.Common.{arith}
 
 pub number_of-requires : goal.number_of-requires
-number_of-requires c =
-    let s = c.self.inside in
-    subst (λ (strings : List (String Global)). HasHash (texts strings) s.hashes.links.items c.args.text.now c.hash_of-hash.result) (sym c.deref.ensures.value)
-    (HasHash-own s.key (texts s.strings.items) s.hashes.links.items c.args.text.now c.hash_of-hash.result c.self.invariant c.hash_of-hash.ensures)
+number_of-requires c = grind (arith, HasHash-own)
 
 pub returns-then-is_some-clause-added : goal.returns-then-is_some-clause-added
 returns-then-is_some-clause-added c =
@@ -20,16 +17,11 @@ returns-then-is_some-clause-added c =
 
 -- the texts after one more
 pushed : (c : goal.After-push_reserved) → texts c.push_reserved.new.self.items ≡ texts c.self.inside.strings.items ++ c.args.text.now ∷ []
-pushed c =
-    let strings : List (String Global) = c.self.inside.strings.items in
-    ap texts (c.push_reserved.ensures.items ∙ ap (λ (ks : List (String Global)). ks ++ c.in_ok-text.text ∷ []) c.reserve.ensures.items)
-    ∙ texts-push strings c.in_ok-text.text ∙ ap (λ (w : List ℕ). texts strings ++ w ∷ []) c.in_ok-text.ensures.ok
+pushed c = grind (arith, texts-push)
 
 -- the text was not there
 absent : (c : goal.After-push_reserved) → ¬ Contains (texts c.self.inside.strings.items) c.args.text.now
-absent c =
-    subst (λ (ks : List (String Global)). ¬ Contains (texts ks) c.args.text.now) c.deref.ensures.value
-    (absent_by_number (texts c.deref.result.now) c.args.text.now c.number_of.result c.if-is_some.ensures c.number_of.ensures.none)
+absent c = grind (arith, absent_by_number)
 
 pub invariant_of-self-2 : goal.invariant_of-self-2
 invariant_of-self-2 c =
@@ -40,15 +32,10 @@ invariant_of-self-2 c =
     (absent c) room c.hash_of-hash.ensures c.in_ok-add.ensures.ok)
 
 pub returns-clause-added : goal.returns-clause-added
-returns-clause-added c = (
-  pushed c ∙ ap (λ (w : List (List ℕ)). w ++ c.args.text.now ∷ []) c.self.view_is,
-  subst (λ (w : List (List ℕ)). ¬ Contains w c.args.text.now) c.self.view_is (absent c),
-)
+returns-clause-added c = grind (arith, pushed, absent)
 
 pub returns-then-is_some-clause-texts : goal.returns-then-is_some-clause-texts
-returns-then-is_some-clause-texts c =
-    let s = c.self.inside in
-    subst AreTexts c.self.view_is (AreTexts-hashed s.key s.strings.items s.hashes.links.items c.self.invariant)
+returns-then-is_some-clause-texts c = grind (arith, AreTexts-hashed)
 
 pub returns-clause-texts : goal.returns-clause-texts
 returns-clause-texts c = AreTexts-hashed c.self.inside.key c.push_reserved.new.self.items c.add.new.self.links.items (invariant_of-self-2 c)

@@ -1,9 +1,10 @@
 use Rattle.std.proofs.Common.{List, String, sym, subst}
 use Rattle.std.specs.Global.{Global}
 use Rattle.plan_model.specs.NameLists.{texts}
-use Rattle.plan_model.specs.TextSets.{AreTexts, HasHash}
+use Rattle.plan_model.specs.TextSets.{HasHash}
 use Rattle.plan_model.proofs.TextSets.{AreTexts-hashed, HasHash-own}
 use Rattle.plan_model.proofs.text_set.TextSet.number.Goals as goal
+use Rattle.std.proofs.Common.{arith}
 
 pub number_of-requires : goal.number_of-requires
 number_of-requires c =
@@ -12,6 +13,4 @@ number_of-requires c =
     (HasHash-own s.key (texts s.strings.items) s.hashes.links.items c.args.text.now c.hash_of.result c.self.invariant c.hash_of.ensures)
 
 pub returns-clause-texts : goal.returns-clause-texts
-returns-clause-texts c =
-    let s = c.self.inside in
-    subst AreTexts c.self.view_is (AreTexts-hashed s.key s.strings.items s.hashes.links.items c.self.invariant)
+returns-clause-texts c = grind (arith, AreTexts-hashed)
