@@ -9,17 +9,14 @@ use Rattle.plan_model.specs.Tree.{Tree, Done}
 use Rattle.plan_model.specs.Strategy.{IsLeg, IsBoardableAtStart, IsSafeFor}
 use Rattle.lower_proof.specs.Certificates.{bound_of, IsLeastOf, Offers, IsLeastAtStart, IsVia, HasValueUpTo, IsAccepted, IsTight, arrived_by}
 use Rattle.lower_proof.specs.Promises.{IsBestCertificate}
+use Rattle.lower_proof.proofs.Leasts.{least_up_to}
 use Rattle.lower_proof.proofs.Search.{least_at_start}
 use Rattle.lower_proof.proofs.Soundness.{sound}
 use Rattle.lower_proof.proofs.Near.{near_start}
 use Rattle.lower_proof.proofs.Greatest.{greatest}
 
-least_at_most : (P : ℕ → Type 0) (o : Option ℕ) (v : ℕ) → IsLeastOf P o → P v → HasValueUpTo o v
-least_at_most P None v least h = least v h
-least_at_most P (Some w) v least h = least.1 v h
-
 pub tight_accepted : (n : NetworkModel) (q : Query) (values : List (Option ℕ)) → IsTight n q values → IsAccepted n q values
-tight_accepted n q values tight c there board j v leg via = least_at_most (λ v. (j : ℕ) × IsLeg n c j × IsVia n q values j v) (bound_of values c) v (tight.boarded c there board) (j, leg, via)
+tight_accepted n q values tight c there board j v leg via = least_up_to (λ v. (j : ℕ) × IsLeg n c j × IsVia n q values j v) (bound_of values c) v (tight.boarded c there board) (j, leg, via)
 
 module _ (n : NetworkModel) (valid : IsValid n) (q : Query) (values : List (Option ℕ)) (tight : IsTight n q values) (never : (tree : Tree) → IsSafeFor n q tree → ⊥) where
   never_arrived : q.source.0 ≡ q.target.0 → None ≡ arrived_by q.deadline.0 q.start.0

@@ -12,10 +12,7 @@ use Rattle.lower_proof.proofs.Departures.{after, after_boards}
 
 -- who has arrived at the target is in time
 pub in_time_of : (deadline x v : ℕ) → Some v ≡ arrived_by deadline x → (x ≤ deadline) × (v ≡ 1000000000 * x)
-in_time_of deadline x v is = elim (cases_lt deadline x) [
-  | inl late ↦ let e : arrived_by deadline x ≡ None = grind (arith, nat_tests) in let both = is ∙ e in absurd (cc)
-  | inr in_time ↦ let e : arrived_by deadline x ≡ Some (1000000000 * x) = grind (arith, nat_tests) in let both = is ∙ e in let same : v ≡ 1000000000 * x = (cc) in (in_time, same)
-]
+in_time_of deadline x v is = (grind (arith, nat_tests), grind (arith, nat_tests))
 
 module _ (n : NetworkModel) (valid : IsValid n) (q : Query) (values : List (Option ℕ)) (P : ℕ → ℕ → ℕ → Type 0) where
   -- of each, where at most m connections depart later
@@ -31,18 +28,15 @@ module _ (n : NetworkModel) (valid : IsValid n) (q : Query) (values : List (Opti
     fewer_after : (p x c v : ℕ) → Offers n values (IsBoardable n p x) c v → after n (dep_of n c) + 1 ≤ after n x
     fewer_after p x c v offer = after_boards n x c offer.there (boards_later n valid p x c offer.there offer.boards)
 
-    away_none : HoldsAway zero
-    away_none p x c v few away offer = absurd (omega (arith, fewer_after p x c v offer))
-
-    away_some : (m : ℕ) → HoldsBy m → HoldsAway (suc m)
-    away_some m by p x c v few away offer = let fewer = fewer_after p x c v offer in boarded m p x c v by (omega arith) fewer away offer
-
     or_arrived : (m : ℕ) → HoldsAway m → HoldsBy m
     or_arrived m elsewhere p x v few least = elim (cases_eq p q.target.0) [
       | inl there ↦ let done = in_time_of q.deadline.0 x v (least.at_target there) in arrived p x v there done.0 done.1
       | inr away ↦ let offered = (least.elsewhere away).0 in elsewhere p x offered.0 v few away offered.1
     ]
 
+    holds_away : (m : ℕ) → HoldsAway m
+    holds_away zero p x c v few away offer = absurd (omega (arith, fewer_after p x c v offer))
+    holds_away (suc m) p x c v few away offer = let fewer = fewer_after p x c v offer in boarded m p x c v (or_arrived m (holds_away m)) (omega arith) fewer away offer
+
     pub holds_by : (m : ℕ) → HoldsBy m
-    holds_by zero = or_arrived zero away_none
-    holds_by (suc m) = or_arrived (suc m) (away_some m (holds_by m))
+    holds_by m = or_arrived m (holds_away m)

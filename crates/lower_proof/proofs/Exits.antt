@@ -1,7 +1,5 @@
 -- The least values of leaving the runs, over the connections that are scanned.
 use Rattle.std.proofs.Common.{◌≡◌, ◌≢◌, ℕ, ◌<◌, ◌≤◌, List, [], ◌∷◌, ◌++◌, length, set, Option, Some, None, IsTrue, arith, inl, inr, sym, ◌∙◌, ap, subst, refl}
-use Rattle.std.proofs.Common.{get_or-set_other, get_or-set_same}
-use Rattle.std.proofs.lemmas.Bool.{cases_eq}
 use Rattle.std.proofs.lemmas.List.{length-set}
 use Rattle.plan_model.specs.declared.model.ConnectionId.{ConnectionId}
 use Rattle.plan_model.specs.declared.model.Query.{Query}
@@ -10,6 +8,7 @@ use Rattle.plan_model.specs.Network.{count, connection, dep_of, run_of, IsValid}
 use Rattle.plan_model.specs.Strategy.{IsLeg}
 use Rattle.lower_proof.specs.Certificates.{bound_of, IsLeastOf, IsVia, IsLocal, IsAccepted, IsLastFault}
 use Rattle.lower_proof.specs.Steps.{lesser, KeepsTo, exit_of, IsBestExit}
+use Rattle.lower_proof.proofs.SetAt.{get_or-set}
 use Rattle.lower_proof.proofs.Leasts.{least_with, least_same, least_is, IsLeastOf-unique, keeps_to_each, each_keeps_to}
 use Rattle.lower_proof.proofs.Vias.{least_via}
 use Rattle.plan_model.proofs.ScanOrders.{Known, IsNext}
@@ -116,14 +115,8 @@ module _ {n : NetworkModel} (good : IsValid n) {q : Query} {values : List (Optio
         record {
           rest = rest_popped n good last taken before rest e popped scanned.rest;
           runs = λ c there. omega (arith, scanned.runs c there, length-set exits mine best);
-          are_exits = λ run. elim (cases_eq run mine) [
-            | inl is ↦
-                let at : exit_of (set exits mine best) mine ≡ best = get_or-set_same exits mine best None (scanned.runs e.id.0 scanned_is_next.there) in
-                subst (λ r. IsLeastOf (LeavesBy n q values last (e.id ∷ taken) r) (exit_of (set exits mine best) r)) (sym is) (rw at best_leaving)
-            | inr differ ↦
-                let at : exit_of (set exits mine best) run ≡ exit_of exits run = get_or-set_other exits mine run best None differ in
-                rw at (other_run n q values last taken e.id scanned_is_next run differ (exit_of exits run) (scanned.are_exits run))
-          ];
+          are_exits = λ run. get_or-set (λ r. IsLeastOf (LeavesBy n q values last (e.id ∷ taken) r)) exits mine run best None (scanned.runs e.id.0 scanned_is_next.there) best_leaving
+              (λ differ. other_run n q values last taken e.id scanned_is_next run differ (exit_of exits run) (scanned.are_exits run));
         }
 
 -- ---- and while a check runs: the values that were scanned are kept to

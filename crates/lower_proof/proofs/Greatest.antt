@@ -11,6 +11,7 @@ use Rattle.plan_model.proofs.Bounds.{forward}
 use Rattle.interval_fixed.specs.Means.{weighted}
 use Rattle.lower_proof.specs.Certificates.{bound_of, IsLeastOf, Offers, IsLeastValue, IsLeastAt, IsLeastAtStart, AreLeast, IsVia, IsAccepted, IsTight}
 use Rattle.lower_proof.specs.Promises.{IsGreatestCertificate}
+use Rattle.lower_proof.proofs.Leasts.{least_is}
 use Rattle.lower_proof.proofs.Search.{least_boardable, least_at_start}
 use Rattle.lower_proof.proofs.Vias.{IsLeast-unique}
 use Rattle.lower_proof.proofs.Soundness.{ride_bound, target_least}
@@ -27,11 +28,7 @@ lesser_sum : (row : List Outcome) (ws vs : List ℕ) → EachAtMost ws vs → we
 lesser_sum [] ws vs each = omega arith
 lesser_sum (o ∷ row) [] [] each = omega arith
 lesser_sum (o ∷ row) (w ∷ ws) (v ∷ vs) each = omega (arith, mul-le-mul_left o.weight each.0, lesser_sum row ws vs each.1)
-lesser_sum (o ∷ row) [] (v ∷ vs) each = absurd each
-lesser_sum (o ∷ row) (w ∷ ws) [] each = absurd each
-
-lesser_mean : (row : List Outcome) (ws vs : List ℕ) → EachAtMost ws vs → weighted row ws / 10000 ≤ weighted row vs / 10000
-lesser_mean row ws vs each = let sum = lesser_sum row ws vs each in omega arith
+lesser_sum _ _ _ each = absurd each
 
 module _ (n : NetworkModel) (valid : IsValid n) (q : Query) (values others : List (Option ℕ)) (tight : IsTight n q values) (accepted : IsAccepted n q others) where
   -- where one has a value, the other has one that is at most it
@@ -44,37 +41,27 @@ module _ (n : NetworkModel) (valid : IsValid n) (q : Query) (values others : Lis
   lesser_all : (m : ℕ) → LesserBy m → (p arrival : ℕ) → after n arrival ≤ m → (row : List Outcome) (vs : List ℕ)
       → AreLeast n q values p arrival row vs → (ws : List ℕ) × AreLeast n q others p arrival row ws × EachAtMost ws vs
   lesser_all m lesser p arrival few [] [] all = ([], tt, tt)
-  lesser_all m lesser p arrival few [] (v ∷ vs) all = absurd all
-  lesser_all m lesser p arrival few (o ∷ row) [] all = absurd all
   lesser_all m lesser p arrival few (o ∷ row) (v ∷ vs) all =
       let less = after_less n arrival (arrival + o.delay) (omega arith) in
       let one = lesser p (arrival + o.delay) v (omega arith) all.0 in
       let rest = lesser_all m lesser p arrival few row vs all.1 in
       (one.0 ∷ rest.0, (one.1, rest.1), (one.2, rest.2))
+  lesser_all m lesser p arrival few _ _ all = absurd all
 
-  lesser_ride : (m : ℕ) → LesserBy m → (Boards : ℕ → Type 0) (p x c v : ℕ) → after n (dep_of n c) ≤ m → p ≢ q.target.0 → Boards c → c < count n
-      → IsTrue (connection n c).can_board → bound_of values c ≡ Some v → (least : Option ℕ)
-      → IsLeastOf (λ w. (c : ℕ) × Offers n others Boards c w) least → (w : ℕ) × IsLeastValue n q others Boards p x (Some w) × (w ≤ v)
-  lesser_ride m lesser Boards p x c v few away boards there board is least is_least =
-      let own = subst (IsLeastOf (λ v. (j : ℕ) × IsLeg n c j × IsVia n q values j v)) is (tight.boarded c there board) in
-      let j = own.0.0 in
-      let leg = own.0.1 in
-      let via = own.0.2 in
+  lesser_ride : (m : ℕ) → LesserBy m → (Boards : ℕ → Type 0) (p x c v : ℕ) → after n (dep_of n c) ≤ m → p ≢ q.target.0 → Offers n values Boards c v
+      → (r : Option ℕ) × IsLeastOf (λ w. (c : ℕ) × Offers n others Boards c w) r → (w : ℕ) × IsLeastValue n q others Boards p x (Some w) × (w ≤ v)
+  lesser_ride m lesser Boards p x c v few away offer search =
+      let (j, leg, via) = least_is (λ v. (j : ℕ) × IsLeg n c j × IsVia n q values j v) (bound_of values c) v (tight.boarded c offer.there offer.board) offer.value in
       let later = after_less n (dep_of n c) (arr_of n j) (forward n valid c j leg) in
       let all = lesser_all m lesser (to_of n j) (arr_of n j) (omega arith) (outcomes n j) via.least via.are_least in
-      let less = lesser_mean (outcomes n j) all.0 via.least all.2 in
-      let other_via : IsVia n q others j (weighted (outcomes n j) all.0 / 10000) = record { leave = via.leave; least = all.0; are_least = all.1; mean = refl } in
-      let ride = ride_bound n q others accepted Boards p x c j (weighted (outcomes n j) all.0 / 10000) least away is_least leg boards other_via in
+      let less = lesser_sum (outcomes n j) all.0 via.least all.2 in
+      let ride = ride_bound n q others accepted Boards p x c j all.0 search away leg offer.boards all.1 in
       (ride.0, ride.1, omega (arith, ride.2, less, via.mean))
-
-  lesser_away : (m p x c v : ℕ) → LesserBy m → after n (dep_of n c) ≤ m → after n (dep_of n c) + 1 ≤ after n x → p ≢ q.target.0 → Offers n values (IsBoardable n p x) c v → LesserAt p x v
-  lesser_away m p x c v lesser few fewer away offer =
-      let search = least_boardable n others p x in
-      lesser_ride m lesser (IsBoardable n p x) p x c v few away offer.boards offer.there offer.board offer.value search.0 search.1
 
   lesser_at : (m : ℕ) → LesserBy m
   lesser_at = holds_by n valid q values LesserAt
-      (λ p x v there in_time is. (1000000000 * x, target_least n q others (IsBoardable n p x) p x there in_time, omega (arith, is))) lesser_away
+      (λ p x v there in_time is. (1000000000 * x, target_least n q others (IsBoardable n p x) p x there in_time, omega (arith, is)))
+      (λ m p x c v lesser few fewer away offer. lesser_ride m lesser (IsBoardable n p x) p x c v few away offer (least_boardable n others p x))
 
   pub lesser_start : (v : ℕ) → IsLeastAtStart n q values (Some v) → (w : ℕ) × IsLeastAtStart n q others (Some w) × (w ≤ v)
   lesser_start v least = elim (cases_eq q.source.0 q.target.0) [
@@ -82,12 +69,9 @@ module _ (n : NetworkModel) (valid : IsValid n) (q : Query) (values others : Lis
         let done = in_time_of q.deadline.0 q.start.0 v (least.at_target there) in
         (1000000000 * q.start.0, target_least n q others (IsBoardableAtStart n q.source.0 q.start.0) q.source.0 q.start.0 there done.0, omega (arith, done.1))
     | inr away ↦
-        let offered = (least.elsewhere away).0 in
-        let c = offered.0 in
-        let offer = offered.1 in
-        let search = least_at_start n others q.source.0 q.start.0 in
-        lesser_ride (count n) (lesser_at (count n)) (IsBoardableAtStart n q.source.0 q.start.0) q.source.0 q.start.0 c v
-        (after_le n (dep_of n c)) away offer.boards offer.there offer.board offer.value search.0 search.1
+        let (c, offer) = (least.elsewhere away).0 in
+        lesser_ride (count n) (lesser_at (count n)) (IsBoardableAtStart n q.source.0 q.start.0) q.source.0 q.start.0 c v (after_le n (dep_of n c)) away offer
+        (least_at_start n others q.source.0 q.start.0)
   ]
 
 pub greatest : (n : NetworkModel) → IsValid n → (q : Query) (values : List (Option ℕ)) → IsTight n q values → (v : ℕ) → IsLeastAtStart n q values (Some v) → IsGreatestCertificate n q v

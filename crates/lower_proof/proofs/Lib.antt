@@ -1,3 +1,4 @@
+pub mod SetAt
 pub mod Leasts
 pub mod Vias
 pub mod Search

@@ -9,7 +9,7 @@ use Rattle.plan_model.specs.NetworkModel.{NetworkModel}
 use Rattle.plan_model.specs.Network.{IsValid, count, connection, to_of, dep_of, arr_of, outcomes}
 use Rattle.plan_model.specs.Tree.{Tree, Kids, Done, Ride, Nil, Kid}
 use Rattle.plan_model.specs.Rows.{EachKid, IsValidRow}
-use Rattle.plan_model.specs.Strategy.{IsLeg, IsBoardable, IsSafe, AreSafe, IsSafeFor}
+use Rattle.plan_model.specs.Strategy.{IsLeg, IsBoardable, IsBoardableAtStart, IsSafe, AreSafe, IsSafeFor}
 use Rattle.plan_model.specs.Bounds.{nanos_per_second}
 use Rattle.plan_model.specs.Expected.{Covers, arrival as arrival_of}
 use Rattle.plan_model.proofs.Bounds.{forward}
@@ -17,6 +17,7 @@ use Rattle.interval_fixed.specs.Means.{weighted}
 use Rattle.lower_proof.specs.Certificates.{bound_of, IsLeastOf, Offers, IsLeastAtStart, AreLeast, IsVia, IsTight}
 use Rattle.plan_model.proofs.Laws.{covers_more}
 use Rattle.interval_fixed.proofs.Sums.{mean_covers}
+use Rattle.lower_proof.proofs.Leasts.{least_is}
 use Rattle.lower_proof.proofs.Departures.{after, after_less, after_starts, after_le}
 use Rattle.lower_proof.proofs.ByDepartures.{in_time_of, HoldsBy, holds_by}
 
@@ -29,8 +30,7 @@ raised_sum [] [] k same = omega arith
 raised_sum (o ∷ row) (v ∷ values) k same =
     rw (sum_by-cons (λ o. o.weight) o row, raised_sum row values k (omega arith))
     (raised_step o.weight v k (weighted row values) (sum_by (λ o. o.weight) row))
-raised_sum [] (v ∷ values) k same = absurd (omega arith)
-raised_sum (o ∷ row) [] k same = absurd (omega arith)
+raised_sum _ _ k same = absurd (omega arith)
 
 -- rounding down and up again loses less than one
 raised_mean : (row : List Outcome) (values : List ℕ) (k : ℕ) → IsValidRow row → length row ≡ length values
@@ -42,9 +42,8 @@ raised_mean row values k good same =
 module _ (n : NetworkModel) (valid : IsValid n) (q : Query) (values : List (Option ℕ)) (tight : IsTight n q values) where
   as_many : (p arrival : ℕ) (row : List Outcome) (vs : List ℕ) → AreLeast n q values p arrival row vs → length row ≡ length vs
   as_many p arrival [] [] all = refl
-  as_many p arrival [] (v ∷ vs) all = absurd all
-  as_many p arrival (o ∷ row) [] all = absurd all
   as_many p arrival (o ∷ row) (v ∷ vs) all = omega (arith, as_many p arrival row vs all.1)
+  as_many p arrival _ _ all = absurd all
 
   -- a tree near the least value after an arrival
   abbrev NearAt : ℕ → ℕ → ℕ → Type 0
@@ -57,34 +56,29 @@ module _ (n : NetworkModel) (valid : IsValid n) (q : Query) (values : List (Opti
   near_all : (m k : ℕ) → NearBy m → k ≤ m → (p arrival : ℕ) → after n arrival ≤ k → (row : List Outcome) (vs : List ℕ)
       → AreLeast n q values p arrival row vs → (kids : Kids) × AreSafe n q.target.0 (Some q.deadline.0) kids row p arrival × EachKid Covers row (map (λ v. v + k) vs) kids
   near_all m k near few p arrival later [] [] all = (Nil, tt, tt)
-  near_all m k near few p arrival later [] (v ∷ vs) all = absurd all
-  near_all m k near few p arrival later (o ∷ row) [] all = absurd all
   near_all m k near few p arrival later (o ∷ row) (v ∷ vs) all =
       let less = after_less n arrival (arrival + o.delay) (omega arith) in
       let one = near p (arrival + o.delay) v (omega arith) all.0 in
       let others = near_all m k near few p arrival later row vs all.1 in
       (Kid o.weight one.0 others.0, (refl, one.1, others.1), (refl, covers_more nanos_per_second arrival_of (v + after n (arrival + o.delay)) (v + k) one.0 (omega arith) one.2, others.2))
+  near_all m k near few p arrival later _ _ all = absurd all
 
   -- the ride of a connection that is offered
-  near_ride : (m : ℕ) → NearBy m → (c v : ℕ) → after n (dep_of n c) ≤ m → c < count n → IsTrue (connection n c).can_board → bound_of values c ≡ Some v
-      → (j : ℕ) × (kids : Kids) × IsLeg n c j × AreSafe n q.target.0 (Some q.deadline.0) kids (outcomes n j) (to_of n j) (arr_of n j) × Covers (v + (after n (dep_of n c) + 1)) (Ride c j kids)
-  near_ride m near c v few there board is =
-      let least = subst (IsLeastOf (λ v. (j : ℕ) × IsLeg n c j × IsVia n q values j v)) is (tight.boarded c there board) in
-      let j = least.0.0 in
-      let leg = least.0.1 in
-      let via = least.0.2 in
+  near_ride : (m : ℕ) → NearBy m → (Boards : ℕ → Type 0) (c v more : ℕ) → after n (dep_of n c) ≤ m → after n (dep_of n c) + 1 ≤ more → Offers n values Boards c v
+      → (j : ℕ) × (kids : Kids) × IsLeg n c j × AreSafe n q.target.0 (Some q.deadline.0) kids (outcomes n j) (to_of n j) (arr_of n j) × Covers (v + more) (Ride c j kids)
+  near_ride m near Boards c v more few fewer offer =
+      let (j, leg, via) = least_is (λ v. (j : ℕ) × IsLeg n c j × IsVia n q values j v) (bound_of values c) v (tight.boarded c offer.there offer.board) offer.value in
       let k = after n (dep_of n c) in
       let later = after_less n (dep_of n c) (arr_of n j) (forward n valid c j leg) in
       let good : IsValidRow (outcomes n j) = valid.rows (connection n j).class.0 (valid.connections j leg.exit).class_in in
-      let all = near_all m k near few (to_of n j) (arr_of n j) later (outcomes n j) via.least via.are_least in
-      let covers = mean_covers nanos_per_second arrival_of (outcomes n j) (map (λ w. w + k) via.least) all.0 c j all.2 in
+      let (kids, safe, each) = near_all m k near few (to_of n j) (arr_of n j) later (outcomes n j) via.least via.are_least in
       let near_mean = raised_mean (outcomes n j) via.least k good (as_many (to_of n j) (arr_of n j) (outcomes n j) via.least via.are_least) in (
         j,
-        all.0,
+        kids,
         leg,
-        all.1,
-        covers_more nanos_per_second arrival_of ((weighted (outcomes n j) (map (λ w. w + k) via.least) + 9999) / 10000)
-            (v + (k + 1)) (Ride c j all.0) (omega (arith, near_mean, via.mean)) covers,
+        safe,
+        covers_more nanos_per_second arrival_of _ (v + more) (Ride c j kids) (omega (arith, near_mean, via.mean))
+            (mean_covers nanos_per_second arrival_of (outcomes n j) (map (λ w. w + k) via.least) kids c j each),
       )
 
   done_near : (x v more : ℕ) → v ≡ 1000000000 * x → Covers (v + more) (Done x)
@@ -92,8 +86,8 @@ module _ (n : NetworkModel) (valid : IsValid n) (q : Query) (values : List (Opti
 
   near_away : (m p x c v : ℕ) → NearBy m → after n (dep_of n c) ≤ m → after n (dep_of n c) + 1 ≤ after n x → p ≢ q.target.0 → Offers n values (IsBoardable n p x) c v → NearAt p x v
   near_away m p x c v near few fewer away offer =
-      let ride = near_ride m near c v few offer.there offer.board offer.value in
-      (Ride c ride.0 ride.1, (away, ride.2, offer.boards, ride.3), covers_more nanos_per_second arrival_of (v + (after n (dep_of n c) + 1)) (v + after n x) (Ride c ride.0 ride.1) (omega arith) ride.4)
+      let ride = near_ride m near (IsBoardable n p x) c v (after n x) few fewer offer in
+      (Ride c ride.0 ride.1, (away, ride.2, offer.boards, ride.3), ride.4)
 
   near_at : (m : ℕ) → NearBy m
   near_at = holds_by n valid q values NearAt (λ p x v there in_time is. (Done x, (refl, there, in_time), done_near x v (after n x) is)) near_away
@@ -105,13 +99,7 @@ module _ (n : NetworkModel) (valid : IsValid n) (q : Query) (values : List (Opti
         let done = in_time_of q.deadline.0 q.start.0 v (least.at_target there) in
         (Done q.start.0, (refl, there, done.0), done_near q.start.0 v (count n) done.1)
     | inr away ↦
-        let offered = (least.elsewhere away).0 in
-        let c = offered.0 in
-        let offer = offered.1 in
-        let ride = near_ride (count n) (near_at (count n)) c v (after_le n (dep_of n c)) offer.there offer.board offer.value in (
-          Ride c ride.0 ride.1,
-          (away, ride.2, offer.boards, ride.3),
-          covers_more nanos_per_second arrival_of (v + (after n (dep_of n c) + 1)) (v + count n) (Ride c ride.0 ride.1)
-              (omega (arith, after_starts n c offer.there)) ride.4,
-        )
+        let (c, offer) = (least.elsewhere away).0 in
+        let ride = near_ride (count n) (near_at (count n)) (IsBoardableAtStart n q.source.0 q.start.0) c v (count n) (after_le n (dep_of n c)) (after_starts n c offer.there) offer in
+        (Ride c ride.0 ride.1, (away, ride.2, offer.boards, ride.3), ride.4)
   ]

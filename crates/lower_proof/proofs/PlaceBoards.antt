@@ -1,6 +1,6 @@
 -- The boards of all places.
-use Rattle.std.proofs.Common.{◌≡◌, ◌≢◌, ℕ, ◌+◌, ◌<◌, ◌≤◌, List, length, set, Option, Some, [], arith, inl, inr, sym, ◌∙◌, ap, subst, get_or-set_other, get_or-set_same}
-use Rattle.std.proofs.lemmas.Bool.{cases_eq, cases_lt}
+use Rattle.std.proofs.Common.{◌≡◌, ◌≢◌, ℕ, ◌+◌, ◌<◌, ◌≤◌, List, length, set, Option, Some, [], arith, inl, inr, sym, ◌∙◌, ap, subst}
+use Rattle.std.proofs.lemmas.Bool.{cases_lt}
 use Rattle.std.proofs.lemmas.List.{length-set}
 use Rattle.plan_model.specs.declared.model.Query.{Query}
 use Rattle.plan_model.specs.NetworkModel.{NetworkModel}
@@ -11,6 +11,8 @@ use Rattle.lower_proof.specs.Certificates.{bound_of, IsLeastOf, Offers, IsLeastA
 use Rattle.lower_proof.specs.Boards.{ShownBoard, entry_at, AreEntries, FrontValue, ValueInTime, least_of}
 use Rattle.lower_proof.specs.Departures.{NoneAfter}
 use Rattle.lower_proof.specs.Minima.{AreLate, IsBoard, board_at, IsBoardOf, AreBoards, AllLate}
+use Rattle.lower_proof.proofs.SetAt.{get_or-set}
+use Rattle.lower_proof.proofs.Entries.{no_board}
 use Rattle.lower_proof.proofs.Leasts.{least_same}
 use Rattle.plan_model.proofs.Boarding.{boards_later}
 use Rattle.lower_proof.proofs.Writes.{Agree}
@@ -42,15 +44,9 @@ pub boards_looked : (n : NetworkModel) (last : ℕ) (values : List (Option ℕ))
 boards_looked n last values boards p board within are same right = record {
   none_after = are.none_after;
   as_many = length-set boards p board ∙ are.as_many;
-  each = λ r inside. elim (cases_eq r p) [
-    | inl is ↦
-        let at : board_at (set boards p board) p ≡ board = get_or-set_same boards p board (record { entries = []; least = [] }) within in
-        subst (λ i. IsBoardOf n last i values (board_at (set boards p board) i)) (sym is)
-        (rw at (record { entries = subst (AreEntries n last p (count n)) (sym same) (are.each p within).entries; right = right }))
-    | inr differ ↦
-        let at : board_at (set boards p board) r ≡ board_at boards r = get_or-set_other boards p r board (record { entries = []; least = [] }) differ in
-        rw at (are.each r (omega (arith, length-set boards p board)))
-  ];
+  each = λ r inside. get_or-set (λ i b. IsBoardOf n last i values b) boards p r board no_board within
+      (record { entries = subst (AreEntries n last p (count n)) (sym same) (are.each p within).entries; right = right })
+      (λ differ. are.each r (omega (arith, length-set boards p board)));
 }
 
 module _ (n : NetworkModel) (valid : IsValid n) (last moment : ℕ) (values others : List (Option ℕ)) (agree : Agree n moment values others) (as_many : length others ≡ length values) where

@@ -1,8 +1,7 @@
 use Rattle.std.proofs.Common.{◌≡◌, ◌∙◌, arith, sym, ap}
 use Rattle.plan_model.specs.declared.model.Connection.{Connection}
 use Rattle.plan_model.specs.Network.{connection}
-use Rattle.lower_proof.proofs.Writes.{given}
-use Rattle.lower_proof.proofs.Written.{written_first, written_there, written_next, written_last}
+use Rattle.lower_proof.proofs.Written.{given, written_first, written_there, written_next, written_last}
 use Rattle.lower_proof.proofs.write_all.Goals as goal
 use Rattle.lower_proof.proofs.write_all.Goals.{then-get, else-get}
 
@@ -16,7 +15,7 @@ offer-best-requires-clause-there c = written_there c.requires.valid c.loop-depar
 pub offer-best-requires-clause-run : goal.offer-best-requires-clause-run
 offer-best-requires-clause-run c =
     let written = c.loop-departure.invariant in
-    written.state.scanned.runs c.in-Some.departure.id.0 (written_there c.requires.valid written _ _ c.in-Some.ensures.items)
+    written.scanned.runs c.in-Some.departure.id.0 (written_there c.requires.valid written _ _ c.in-Some.ensures.items)
 
 pub get-requires : goal.get-requires
 get-requires c = written_there c.requires.valid c.loop-departure.invariant _ _ c.in-Some.ensures.items
@@ -24,7 +23,7 @@ get-requires c = written_there c.requires.valid c.loop-departure.invariant _ _ c
 pub bounds-values-id : goal.bounds-values-id
 bounds-values-id c =
     let written = c.loop-departure.invariant in
-    rw written.state.as_many (written_there c.requires.valid written _ _ c.in-Some.ensures.items)
+    rw written.as_many (written_there c.requires.valid written _ _ c.in-Some.ensures.items)
 
 pub loop-departure-preserved : goal.loop-departure-preserved
 loop-departure-preserved c =
