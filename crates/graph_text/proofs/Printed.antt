@@ -8,6 +8,11 @@ use Rattle.graph_text.specs.declared.version.Version.{Version}
 use Rattle.graph_text.specs.declared.version.Version.TheVariants.{First, Second}
 use Rattle.graph_text.specs.Versions.{ninth}
 
+-- what holds of either version holds of each
+pub by_version : (P : Version → Type 0) → P First → P Second → (version : Version) → P version
+by_version P first second First = first
+by_version P first second Second = second
+
 pub fields_kept : (version : Version) (a b c d e f g h last : List ℕ) → trimmed_text a ≡ a → trimmed_text b ≡ b → trimmed_text c ≡ c → trimmed_text d ≡ d → trimmed_text e ≡ e
     → trimmed_text f ≡ f → trimmed_text g ≡ g → trimmed_text h ≡ h → trimmed_text last ≡ last
     → IsKept (a ∷ b ∷ c ∷ d ∷ e ∷ f ∷ g ∷ h ∷ ninth version last)

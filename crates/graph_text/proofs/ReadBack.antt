@@ -1,13 +1,14 @@
 -- What was printed is read back.
-use Rattle.std.proofs.Common.{◌≡◌, ℕ, suc, ◌<◌, ◌≤◌, ◌^◌, List, [], ◌∷◌, ◌++◌, length, Option, Some, None, Bool, true, false, All}
+use Rattle.std.proofs.Common.{◌≡◌, ℕ, ◌<◌, ◌≤◌, ◌^◌, List, [], ◌∷◌, ◌++◌, length, map, Option, Some, None, Bool, true, false, All}
 use Rattle.std.proofs.Common.{AllPairs, arith, sym, refl, ap, ◌∙◌, append_assoc}
-use Rattle.std.specs.Prelude.{◌==◌, ◌||◌, if◌then◌else◌, slice_index_or, decimal, codes, eqb}
+use Rattle.std.specs.Prelude.{◌==◌, if◌then◌else◌, slice_index_or, decimal, codes, eqb}
 use Rattle.std.specs.Option.{option_and_then}
 use Rattle.std.specs.Cmp.Lexicographic.{bytes_decides}
-use Rattle.std.specs.List.{list_any, IsDistinct, AllByRecursion}
-use Rattle.std.proofs.lemmas.Bool.Decides.{nat_tests}
-use Rattle.std.proofs.lemmas.Bool.{false≢true, and_parts, eqb-true, eq-eqb, ne_eqb}
-use Rattle.std.proofs.lemmas.List.Elements.{All-cons, All-nil, All-head, All-tail}
+use Rattle.std.proofs.lemmas.Bool.{and_parts, eqb-true, eq-eqb, ne_eqb}
+use Rattle.std.proofs.lemmas.List.{get_or-map, length-map}
+use Rattle.std.proofs.lemmas.List.Elements.{All-cons, All-nil, All-head, All-tail, All-map, All-contains}
+use Rattle.std.proofs.lemmas.Map.Keys.{IsDistinct-from_apart}
+use Rattle.std.proofs.lemmas.Map.Views.{Contains-from_any}
 use Rattle.std.proofs.lemmas.Map.Steps.{length-le_from_distinct_below}
 use Rattle.csv.proofs.RoundTrip.{rows_text as text_of_rows}
 use Rattle.csv.specs.Reading.{strip_bom}
@@ -41,7 +42,7 @@ use Rattle.printed_rows.proofs.Names.{place_kept, run_kept, place_back, run_back
 use Rattle.graph_text.proofs.Laws.{limit_soon, place_there}
 use Rattle.graph_text.proofs.Accepted.{text_read}
 use Rattle.printed_rows.proofs.Plain.{moment_kept, nanos_kept, decimal_kept, whole_back}
-use Rattle.graph_text.proofs.Printed.{fields_kept, rows-append}
+use Rattle.graph_text.proofs.Printed.{by_version, fields_kept, rows-append}
 use Rattle.printed_rows.proofs.Printed.{IsKept, AreKept, kept-append, table_back}
 use Rattle.plan_model.specs.Bounds.{most_connections}
 
@@ -121,7 +122,7 @@ module _ (n : NetworkModel) (names : NameLists) (version : Version) (valid : IsV
       let enter = valid.connections leg.enter.0 is_leg.enter in
       let exit = valid.connections leg.exit.0 is_leg.exit in
       record {
-        is_of_kind = of_kind version;
+        is_of_kind = by_version (λ v. is_kind kind (width_of v) (leg_record n names v kind (moment_text moment) leg) ≡ true) ((bytes_decides kind kind).1 refl) ((bytes_decides kind kind).1 refl) version;
         by = text_tells moment soon;
         run = run_back n names fit own leg.enter.0 is_leg.enter;
         enter = step_back n valid leg.enter.0 is_leg.enter;
@@ -129,67 +130,35 @@ module _ (n : NetworkModel) (names : NameLists) (version : Version) (valid : IsV
         exit = step_back n valid leg.exit.0 is_leg.exit;
         to = place_back n names fit own (to_of n leg.exit.0) exit.to_in;
         arrival = text_tells (arr_of n leg.exit.0) (omega (arith, exit.early));
-        from = from_back version told;
+        from = by_version (λ v. IsTold n v place leg → entry_in v names place (leg_record n names v kind (moment_text moment) leg) ≡ Some (from_of n leg.enter.0))
+            (λ leaves. ap Some (sym leaves)) (λ any. place_back n names fit own (from_of n leg.enter.0) enter.from_in) version told;
       }
-    where
-      of_kind : (v : Version) → is_kind kind (width_of v) (leg_record n names v kind (moment_text moment) leg) ≡ true
-      of_kind First = (bytes_decides kind kind).1 refl
-      of_kind Second = (bytes_decides kind kind).1 refl
-
-      from_back : (v : Version) → IsTold n v place leg → entry_in v names place (leg_record n names v kind (moment_text moment) leg) ≡ Some (from_of n leg.enter.0)
-      from_back First leaves = ap Some (sym leaves)
-      from_back Second any = place_back n names fit own (from_of n leg.enter.0) (valid.connections leg.enter.0 is_leg.enter).from_in
 
   -- a table has at most a row for each connection, since rows of one entry have one limit
-  abbrev entries : List GraphRow → List ℕ
-  entries [] = []
-  entries (row ∷ rows) = row.leg.enter.0 ∷ entries rows
-
-  entries_length : (rows : List GraphRow) → length (entries rows) ≡ length rows
-  entries_length [] = refl
-  entries_length (row ∷ rows) = omega (arith, entries_length rows)
-
   by_entry : (place : ℕ) (a b : GraphRow) → IsFitRow n place a → IsFitRow n place b → a.leg.enter.0 ≡ b.leg.enter.0 → a.by.0 ≡ b.by.0
   by_entry place a b first second same = some_same (sym first.by ∙ ap (λ (enter : ℕ). option_and_then (earlier_by (dep_of n enter)) (way_of n place (from_of n enter))) same ∙ second.by)
     where
       some_same : {x y : ℕ} → Some x ≡ Some y → x ≡ y
       some_same is = cc
 
-  other_entries : (place : ℕ) (row : GraphRow) (rows : List GraphRow) → IsFitRow n place row → All (IsFitRow n place) rows → All (λ next. row.by.0 < next.by.0) rows
-      → AllByRecursion (λ i. eqb row.leg.enter.0 i ≡ false) (entries rows)
-  other_entries place row [] own_row fits later = tt
-  other_entries place row (next ∷ rows) own_row fits later =
-      let first = All-head (IsFitRow n place) next rows fits in
-      let less = All-head (λ x. row.by.0 < x.by.0) next rows later in (
-        ne_eqb row.leg.enter.0 next.leg.enter.0 (λ same. omega (arith, by_entry place row next own_row first same, less)),
-        other_entries place row rows own_row (All-tail (IsFitRow n place) next rows fits) (All-tail (λ x. row.by.0 < x.by.0) next rows later),
-      )
-
-  entries_differ : (place : ℕ) (rows : List GraphRow) → All (IsFitRow n place) rows → AllPairs (λ a b. a.by.0 < b.by.0) rows → IsDistinct eqb (entries rows)
-  unfolding IsDistinct
-  entries_differ place [] fits rising = tt
-  entries_differ place (row ∷ rows) fits rising = (
-    other_entries place row rows (All-head (IsFitRow n place) row rows fits) (All-tail (IsFitRow n place) row rows fits) (λ k d within. rising 0 (suc k) d (omega arith) (omega (arith, within))),
-    entries_differ place rows (All-tail (IsFitRow n place) row rows fits) (λ i j d less within. rising (suc i) (suc j) d (omega (arith, less)) (omega (arith, within))),
-  )
-
-  entry_if : (test rest : Bool) (q enter : ℕ) → eqb q enter ≡ test → enter < count n → (rest ≡ true → q < count n) → (test || rest) ≡ true → q < count n
-  entry_if true rest q enter same there more found = let e : q ≡ enter = grind (arith, nat_tests) in omega (arith, e, there)
-  entry_if false rest q enter same there more found = more found
-
-  entries_there : (place : ℕ) (rows : List GraphRow) → All (IsFitRow n place) rows → (q : ℕ) → list_any (eqb q) (entries rows) ≡ true → q < count n
-  entries_there place [] fits q found = absurd (false≢true found)
-  entries_there place (row ∷ rows) fits q found =
-      entry_if (eqb q row.leg.enter.0) (list_any (eqb q) (entries rows)) q row.leg.enter.0 refl (All-head (IsFitRow n place) row rows fits).is_leg.enter
-      (entries_there place rows (All-tail (IsFitRow n place) row rows fits) q) found
+  first_row : GraphRow
+  first_row = record { by = record { 0 = 0 }; leg = record { enter = record { 0 = 0 }; exit = record { 0 = 0 } } }
 
   few_legs : (t : PlaceTable) → IsFitTable n t → length t.rows ≤ most_connections
   few_legs t own_table =
-      let few = length-le_from_distinct_below (entries t.rows) (count n) (entries_differ t.place.0 t.rows own_table.rows own_table.rising) (entries_there t.place.0 t.rows own_table.rows) in
-      omega (arith, few, entries_length t.rows, valid.few_connections)
-
-  first_row : GraphRow
-  first_row = record { by = record { 0 = 0 }; leg = record { enter = record { 0 = 0 }; exit = record { 0 = 0 } } }
+      let entry = λ (row : GraphRow). row.leg.enter.0 in
+      let entries = map entry t.rows in
+      let many : length entries ≡ length t.rows = length-map t.rows entry in
+      let differ = IsDistinct-from_apart eqb entries (λ i j d less within.
+      rw (get_or-map entry t.rows i first_row d (omega (arith, less, within, many)), get_or-map entry t.rows j first_row d (omega (arith, within, many)))
+      (ne_eqb _ _ (λ same. omega (
+        arith,
+        own_table.rising i j first_row less (omega (arith, within, many)),
+        by_entry t.place.0 _ _ (own_table.rows i first_row (omega (arith, less, within, many))) (own_table.rows j first_row (omega (arith, within, many))) same,
+      )))) in
+      let inside = All-map (λ (e : ℕ). e < count n) entry t.rows (λ k d within. (own_table.rows k d within).is_leg.enter) in
+      let few = length-le_from_distinct_below entries (count n) differ (λ q found. All-contains (λ (e : ℕ). e < count n) entries q inside (Contains-from_any eqb-true q entries found)) in
+      omega (arith, few, many, valid.few_connections)
 
   table_there : (t : PlaceTable) → IsFitTable n t → t.place.0 < length n.change
   table_there t own_table =
@@ -234,15 +203,11 @@ module _ (n : NetworkModel) (names : NameLists) (version : Version) (valid : IsV
   place_tells t own_table =
       let there = table_there t own_table in
       record {
-        is_of_kind = of_kind version;
+        is_of_kind = by_version (λ v. is_place v (place_record n names v t) ≡ true) refl refl version;
         name = place_back n names fit own t.place.0 there;
         change = whole_back (change_of n t.place.0) (let small = (valid.changes t.place.0 there).1 in omega arith);
         rows = whole_back (length t.rows) (let few = few_legs t own_table in omega arith);
       }
-    where
-      of_kind : (v : Version) → is_place v (place_record n names v t) ≡ true
-      of_kind First = refl
-      of_kind Second = refl
 
   tables_tell : (tables : List PlaceTable) → All (IsToldTable n version) tables → AreTableRows n names version tables (table_records n names version tables)
   tables_tell [] all = tt
@@ -257,17 +222,13 @@ module _ (n : NetworkModel) (names : NameLists) (version : Version) (valid : IsV
   head_kept head asked =
       fields_kept version (codes "graph") (number_of_version version) (place_name names head.query.source.0) (place_name names head.query.target.0)
       (moment_text head.query.start.0) (moment_text head.query.deadline.0) (nanos_text head.bounds.lo) (nanos_text head.bounds.hi) []
-      refl (number_kept version) (place_kept n names fit head.query.source.0 asked.source) (place_kept n names fit head.query.target.0 asked.target)
+      refl (by_version (λ v. trimmed_text (number_of_version v) ≡ number_of_version v) refl refl version) (place_kept n names fit head.query.source.0 asked.source) (place_kept n names fit head.query.target.0 asked.target)
       (moment_kept head.query.start.0) (moment_kept head.query.deadline.0) (nanos_kept head.bounds.lo) (nanos_kept head.bounds.hi) refl
-    where
-      number_kept : (v : Version) → trimmed_text (number_of_version v) ≡ number_of_version v
-      number_kept First = refl
-      number_kept Second = refl
 
   head_tells : (head : Head) → IsPrintableQuery n head.query → head.bounds.lo ≤ head.bounds.hi → head.bounds.hi < 2 ^ 64 → IsHeadRow names version head (head_record names version head)
   head_tells head asked bounds small = record {
-    is_of_kind = of_kind version;
-    number = number_back version;
+    is_of_kind = by_version (λ v. is_head v (head_record names v head) ≡ true) refl refl version;
+    number = by_version (λ v. version_in (head_record names v head) ≡ Some v) refl refl version;
     source = place_back n names fit own head.query.source.0 asked.source;
     target = place_back n names fit own head.query.target.0 asked.target;
     start = text_tells head.query.start.0 asked.start;
@@ -275,14 +236,6 @@ module _ (n : NetworkModel) (names : NameLists) (version : Version) (valid : IsV
     lo = nanos_tell head.bounds.lo (omega (arith, bounds, small));
     hi = nanos_tell head.bounds.hi small;
   }
-    where
-      of_kind : (v : Version) → is_head v (head_record names v head) ≡ true
-      of_kind First = refl
-      of_kind Second = refl
-
-      number_back : (v : Version) → version_in (head_record names v head) ≡ Some v
-      number_back First = refl
-      number_back Second = refl
 
   -- the text begins with no byte-order mark
   no_mark : (rest : List (List ℕ)) (rows : List (List (List ℕ))) → strip_bom (text_of_rows ((codes "graph" ∷ rest) ∷ rows)) ≡ text_of_rows ((codes "graph" ∷ rest) ∷ rows)
@@ -311,12 +264,11 @@ module _ (n : NetworkModel) (names : NameLists) (version : Version) (valid : IsV
       → AreGraphRows n names version q.source.0 start tables (graph_records n names version start tables)
   graph_tells q None tables own_graph all = refl
   graph_tells q (Some leg) tables own_graph all =
-      let enter = valid.connections leg.enter.0 own_graph.starts.is_leg.enter in
-      (leg_tells (codes "start") q.source.0 (dep_of n leg.enter.0) leg own_graph.starts.is_leg (omega (arith, enter.forward, enter.early)) (told version), tables_tell tables all)
-    where
-      told : (v : Version) → IsTold n v q.source.0 leg
-      told First = own_graph.starts.leaves
-      told Second = tt
+      let enter = valid.connections leg.enter.0 own_graph.starts.is_leg.enter in (
+        leg_tells (codes "start") q.source.0 (dep_of n leg.enter.0) leg own_graph.starts.is_leg (omega (arith, enter.forward, enter.early))
+            (by_version (λ v. IsTold n v q.source.0 leg) own_graph.starts.leaves tt version),
+        tables_tell tables all,
+      )
 
   is_text_of : (head : Head) (start : Option Leg) (tables : List PlaceTable) → IsPrintableQuery n head.query → head.query.start.0 ≤ head.query.deadline.0
       → head.bounds.lo ≤ head.bounds.hi → head.bounds.hi < 2 ^ 64 → IsFit n head.query (record { start = start; tables = tables }) → All (IsToldTable n version) tables

@@ -37,11 +37,7 @@ read_raised {A} fault (Err again) told raised is = subst (λ (f : TextFault). Is
 pub fault_on : {A B : Type 0} (fault : TextFault) (told : Result A TextFault) (next : A → Result B TextFault) → IsUnlessNoMemory {A = A} (Err fault) told
     → IsUnlessNoMemory {A = B} (Err fault) (and_then told next)
 fault_on f.NoMemory told next is = tt
-fault_on (f.Row line) told next is = ap (λ r. and_then r next) is
-fault_on (f.UnknownName line) told next is = ap (λ r. and_then r next) is
-fault_on (f.NotRising line) told next is = ap (λ r. and_then r next) is
-fault_on (f.NoLeg line) told next is = ap (λ r. and_then r next) is
-fault_on (f.OtherQuery line) told next is = ap (λ r. and_then r next) is
+fault_on _ told next is = ap (λ r. and_then r next) is
 
 pub ok_on : {A B : Type 0} (told : Result A TextFault) (a : A) (next : A → Result B TextFault) (r : Result B TextFault) → told ≡ Ok a → IsUnlessNoMemory r (next a)
     → IsUnlessNoMemory r (and_then told next)

@@ -21,4 +21,4 @@ returns-clause-text c =
     (c.as_slice-4.ensures ∙ c.write_nanos-lo.ensures.text ∙ ap nanos_text c.lo.ensures.lo)
     (c.as_slice-5.ensures ∙ c.write_nanos-hi.ensures.text ∙ ap nanos_text c.hi.ensures)
     c.as_slice-6.ensures in
-    subst (λ (list : List (List ℕ)). OnOk c.put_row.result (text_so_far c.put_row.new.writer ≡ text_so_far c.args.writer.now ++ row_of_fields list)) fields c.put_row.ensures.text
+    rw fields at c.put_row.ensures.text
