@@ -9,8 +9,7 @@ use Rattle.plan_model.specs.Tree.{Tree, Done}
 use Rattle.plan_model.specs.Strategy.{IsLeg, IsBoardableAtStart, IsSafeFor}
 use Rattle.lower_proof.specs.Certificates.{bound_of, IsLeastOf, Offers, IsLeastAtStart, IsVia, HasValueUpTo, IsAccepted, IsTight, arrived_by}
 use Rattle.lower_proof.specs.Promises.{IsBestCertificate}
-use Rattle.lower_proof.proofs.Leasts.{least_up_to}
-use Rattle.lower_proof.proofs.Search.{least_at_start}
+use Rattle.lower_proof.proofs.Leasts.{least_up_to, least_at_start}
 use Rattle.lower_proof.proofs.Soundness.{sound}
 use Rattle.lower_proof.proofs.Near.{near_start}
 use Rattle.lower_proof.proofs.Greatest.{greatest}

@@ -2,13 +2,13 @@
 use Rattle.std.proofs.Common.{◌≡◌, ℕ, zero, suc, ◌+◌, ◌-◌, ◌<◌, ◌≤◌, ◌⊎◌, List, [], ◌∷◌, ◌++◌, length, get_or, set, reverse, slice_get, Option, Some, IsTrue, true}
 use Rattle.std.proofs.Common.{false, ltb, eqb, arith, inl, inr, sym, ◌∙◌, ap, subst, refl}
 use Rattle.std.specs.declared.cmp.Ordering.{Ordering}
-use Rattle.std.specs.Ordering.{is_lt, nat_cmp, ordering_then}
+use Rattle.std.specs.declared.cmp.Ordering.TheVariants.{Less, Equal, Greater}
+use Rattle.std.specs.Ordering.{MatchOrdering, is_lt, nat_cmp, ordering_then}
 use Rattle.std.specs.List.Sorted.{IsPermutation, IsSorted}
 use Rattle.std.proofs.lemmas.Bool.{cases_lt}
-use Rattle.std.proofs.lemmas.Bool.Decides.{nat_tests}
 use Rattle.std.proofs.lemmas.List.{length-set, length_push, get_or-reverse, get_or_append_left, get_or_at, get_or_default}
 use Rattle.std.specs.Cmp.{IsTotalOrder}
-use Rattle.std.proofs.lemmas.Cmp.{nat_cmp_total, on_total, then_total}
+use Rattle.std.proofs.lemmas.Cmp.{ranked, nat_cmp_total, on_total, then_total}
 use Rattle.std.proofs.lemmas.Map.Keys.{ge_from_not_lt}
 use Rattle.std.proofs.lemmas.List.Sorted.{All-permutation, Contains-permutation, ranks_by, sorted_far}
 use Rattle.plan_model.specs.declared.model.Way.{Way}
@@ -28,13 +28,6 @@ no_board = record { entries = []; least = [] }
 abbrev pub no_entry : Entry
 no_entry = record { by = record { 0 = 0 }; id = record { 0 = 0 } }
 
--- one more empty board
-pub push_empty : (boards : List ShownBoard) (board : ShownBoard) → board ≡ no_board → ((p : ℕ) → board_at boards p ≡ no_board) → (p : ℕ) → board_at (boards ++ board ∷ []) p ≡ no_board
-push_empty [] board is empty zero = is
-push_empty [] board is empty (suc p) = refl
-push_empty (b ∷ boards) board is empty zero = empty zero
-push_empty (b ∷ boards) board is empty (suc p) = push_empty boards board is (λ k. empty (suc k)) p
-
 -- ---- order
 
 abbrev pub entry_cmp : Entry → Entry → Ordering
@@ -44,24 +37,20 @@ entry_cmp a b = ordering_then (nat_cmp a.by.0 b.by.0) (nat_cmp a.id.0 b.id.0)
 abbrev pub InOrder : Entry → Entry → Type 0
 InOrder a b = (a.by.0 < b.by.0) ⊎ ((a.by.0 ≡ b.by.0) × (a.id.0 ≤ b.id.0))
 
-not_above : (x y u v : ℕ) → is_lt (ordering_then (nat_cmp y x) (nat_cmp v u)) ≡ false → (x < y) ⊎ ((x ≡ y) × (u ≤ v))
-not_above x y u v h = elim (cases_lt x y) [
-  | inl less ↦ inl less
-  | inr more ↦ elim (cases_lt y x) [
-    | inl above ↦ let t : ltb y x ≡ true = grind (arith, nat_tests) in absurd (cc (rw t at h))
-    | inr le ↦
-        let e : x ≡ y = omega arith in
-        let s : ltb y x ≡ false = grind (arith, nat_tests) in
-        let t : eqb y x ≡ true = grind (arith, nat_tests) in
-        inr (e, ge_from_not_lt v u (rw (s, t) at h))
-  ]
-]
+not_above : (x y u v : ℕ) (order : Ordering) → MatchOrdering order (y < x) (y ≡ x) (x < y) → is_lt (ordering_then order (nat_cmp v u)) ≡ false → (x < y) ⊎ ((x ≡ y) × (u ≤ v))
+not_above x y u v Less above h = absurd (cc)
+not_above x y u v Equal same h = inr (sym same, ge_from_not_lt v u h)
+not_above x y u v Greater less h = inl less
 
 entries_total : IsTotalOrder entry_cmp
 entries_total = then_total (on_total (λ (e : Entry). e.by.0) nat_cmp_total) (on_total (λ (e : Entry). e.id.0) nat_cmp_total)
 
 pub sorted_in_order : (ys : List Entry) → IsSorted entry_cmp ys → (d : Entry) (i j : ℕ) → i ≤ j → j < length ys → InOrder (get_or ys i d) (get_or ys j d)
-sorted_in_order ys up d i j le within = not_above _ _ _ _ (sorted_far (λ x y. is_lt (entry_cmp x y)) (ranks_by entries_total (λ (e : Entry). e)) ys up i j d le within)
+sorted_in_order ys up d i j le within =
+    let a = get_or ys i d in
+    let b = get_or ys j d in
+    not_above a.by.0 b.by.0 a.id.0 b.id.0 (nat_cmp b.by.0 a.by.0) (ranked b.by.0 a.by.0 (nat_cmp b.by.0 a.by.0) refl)
+    (sorted_far (λ x y. is_lt (entry_cmp x y)) (ranks_by entries_total (λ (e : Entry). e)) ys up i j d le within)
 
 -- sorted and turned round, they fall
 pub falls_reversed : (ys : List Entry) → IsSorted entry_cmp ys → (zs : List Entry) → zs ≡ reverse ys → length zs ≡ length ys → Falls zs

@@ -10,13 +10,12 @@ use Rattle.lower_proof.specs.Certificates.{bound_of, IsLeastOf, IsVia, IsLocal, 
 use Rattle.lower_proof.specs.Steps.{lesser, KeepsTo, exit_of, IsBestExit}
 use Rattle.lower_proof.proofs.SetAt.{get_or-set}
 use Rattle.lower_proof.proofs.Leasts.{least_with, least_same, least_is, IsLeastOf-unique, keeps_to_each, each_keeps_to}
-use Rattle.lower_proof.proofs.Vias.{least_via}
+use Rattle.lower_proof.proofs.Vias.{least_via, no_via}
 use Rattle.plan_model.proofs.ScanOrders.{Known, IsNext}
 use Rattle.plan_model.proofs.Bounds.{forward}
 use Rattle.lower_proof.specs.declared.board.Entry.{Entry}
 use Rattle.lower_proof.specs.Departures.{NoneAfter, AreDepartingBy}
 use Rattle.lower_proof.proofs.Departing.{Late, IsRest, rest_first, rest_popped, next_popped, all_taken}
-use Rattle.lower_proof.proofs.NoVias.{no_via}
 
 -- one can leave the run by a known connection, for this value
 pub record LeavesBy (n : NetworkModel) (q : Query) (values : List (Option ℕ)) (last : ℕ) (taken : List ConnectionId) (run v : ℕ) : Type 0 where

@@ -11,12 +11,10 @@ use Rattle.plan_model.proofs.Bounds.{forward}
 use Rattle.interval_fixed.specs.Means.{weighted}
 use Rattle.lower_proof.specs.Certificates.{bound_of, IsLeastOf, Offers, IsLeastValue, IsLeastAt, IsLeastAtStart, AreLeast, IsVia, IsAccepted, IsTight}
 use Rattle.lower_proof.specs.Promises.{IsGreatestCertificate}
-use Rattle.lower_proof.proofs.Leasts.{least_is}
-use Rattle.lower_proof.proofs.Search.{least_boardable, least_at_start}
+use Rattle.lower_proof.proofs.Leasts.{least_is, least_boardable, least_at_start}
 use Rattle.lower_proof.proofs.Vias.{IsLeast-unique}
 use Rattle.lower_proof.proofs.Soundness.{ride_bound, target_least}
-use Rattle.lower_proof.proofs.Departures.{after, after_less, after_le}
-use Rattle.lower_proof.proofs.ByDepartures.{in_time_of, HoldsBy, holds_by}
+use Rattle.lower_proof.proofs.Departures.{after, after_less, after_le, in_time_of, HoldsBy, holds_by}
 
 -- each value is at most the one that stands beside it
 abbrev EachAtMost : List ℕ → List ℕ → Type 0

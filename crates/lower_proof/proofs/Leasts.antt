@@ -1,8 +1,10 @@
 -- The least of numbers that are found one after the other.
 use Rattle.std.proofs.Common.{◌≡◌, ℕ, zero, suc, ◌+◌, ◌<◌, ◌≤◌, ◌⊎◌, min, List, Option, Some, None, IsTrue, arith, inl, inr, ap, subst, refl}
-use Rattle.std.proofs.lemmas.Bool.{both_ways, cases_Bool, cases_lt}
+use Rattle.std.proofs.lemmas.Bool.{both_ways, cases_Bool, cases_eq, cases_lt}
 use Rattle.plan_model.specs.NetworkModel.{NetworkModel}
-use Rattle.plan_model.specs.Network.{count, connection}
+use Rattle.plan_model.specs.Network.{count, connection, from_of, dep_of}
+use Rattle.plan_model.specs.Ways.{way_of}
+use Rattle.plan_model.specs.Strategy.{IsBoardable, IsBoardableAtStart}
 use Rattle.lower_proof.specs.Certificates.{bound_of, IsLeastOf, Offers, HasValueUpTo}
 use Rattle.lower_proof.specs.Steps.{lesser, KeepsTo}
 
@@ -101,7 +103,7 @@ module _ (n : NetworkModel) (values : List (Option ℕ)) (Boards : ℕ → Type 
   all_offers r = least_same (Below (Offers n values Boards) (count n)) (λ v. (c : ℕ) × Offers n values Boards c v) (λ v o. (o.0, o.2)) r (λ v o. (o.0, o.1.there, o.1))
 
   -- the least is found, where it can be told which can be boarded
-  pub least_offer : ((c : ℕ) → Boards c ⊎ (Boards c → ⊥)) → (r : Option ℕ) × IsLeastOf (λ v. (c : ℕ) × Offers n values Boards c v) r
+  least_offer : ((c : ℕ) → Boards c ⊎ (Boards c → ⊥)) → (r : Option ℕ) × IsLeastOf (λ v. (c : ℕ) × Offers n values Boards c v) r
   least_offer decide = let all = found (count n) (omega arith) in (all.0, all_offers all.0 all.1)
     where
       found : (m : ℕ) → m ≤ count n → (r : Option ℕ) × IsLeastOf (Below (Offers n values Boards) m) r
@@ -116,6 +118,33 @@ module _ (n : NetworkModel) (values : List (Option ℕ)) (Boards : ℕ → Type 
             ]
             | inr never ↦ (before.0, below_same (Offers n values Boards) m before.0 (λ v o. never o.boards) before.1)
           ])
+
+-- it can be told which connections one can board, so the least value of these is found
+module _ (n : NetworkModel) (values : List (Option ℕ)) (p x : ℕ) where
+  -- by the seconds of the way
+  by_way : (c : ℕ) (way : Option ℕ) → way_of n p (from_of n c) ≡ way → IsBoardable n p x c ⊎ (IsBoardable n p x c → ⊥)
+  by_way c None is = inr (λ b. let way = b.way in cc)
+  by_way c (Some seconds) is = elim (cases_lt (dep_of n c) (x + seconds)) [
+    | inl late ↦ inr (λ b. let way = b.way in let same : seconds ≡ b.seconds = (cc) in omega (arith, b.in_time))
+    | inr in_time ↦ inl (record { seconds = seconds; way = is; in_time = in_time })
+  ]
+
+  -- the least of the connections that one can board after an arrival
+  pub least_boardable : (r : Option ℕ) × IsLeastOf (λ v. (c : ℕ) × Offers n values (IsBoardable n p x) c v) r
+  least_boardable = least_offer n values (IsBoardable n p x) (λ c. by_way c (way_of n p (from_of n c)) refl)
+
+  starts_or_not : (c : ℕ) → IsBoardableAtStart n p x c ⊎ (IsBoardableAtStart n p x c → ⊥)
+  starts_or_not c = elim (cases_eq (from_of n c) p) [
+    | inl there ↦ elim (cases_lt (dep_of n c) x) [
+      | inl late ↦ inr (λ b. omega (arith, b.1))
+      | inr in_time ↦ inl (there, in_time)
+    ]
+    | inr away ↦ inr (λ b. away b.0)
+  ]
+
+  -- the least of those that one can board at the start
+  pub least_at_start : (r : Option ℕ) × IsLeastOf (λ v. (c : ℕ) × Offers n values (IsBoardableAtStart n p x) c v) r
+  least_at_start = least_offer n values (IsBoardableAtStart n p x) starts_or_not
 
 -- a value at most the least is at most each
 pub keeps_to_each : (P : ℕ → Type 0) (own best : Option ℕ) → IsLeastOf P best → KeepsTo own best → (v : ℕ) → P v → HasValueUpTo own v

@@ -1,12 +1,9 @@
 pub mod SetAt
 pub mod Leasts
 pub mod Vias
-pub mod Search
 pub mod Soundness
 pub mod Departures
 pub mod Departing
-pub mod NoVias
-pub mod ByDepartures
 pub mod Near
 pub mod Greatest
 pub mod Best

@@ -18,8 +18,7 @@ use Rattle.lower_proof.specs.Certificates.{bound_of, IsLeastOf, Offers, IsLeastA
 use Rattle.plan_model.proofs.Laws.{covers_more}
 use Rattle.interval_fixed.proofs.Sums.{mean_covers}
 use Rattle.lower_proof.proofs.Leasts.{least_is}
-use Rattle.lower_proof.proofs.Departures.{after, after_less, after_starts, after_le}
-use Rattle.lower_proof.proofs.ByDepartures.{in_time_of, HoldsBy, holds_by}
+use Rattle.lower_proof.proofs.Departures.{after, after_less, after_starts, after_le, in_time_of, HoldsBy, holds_by}
 
 raised_step : (w v k s t : ℕ) → w * (v + k) + (s + k * t) ≡ (w * v + s) + k * (w + t)
 raised_step w v k s t = omega (arith, mul-add w v k, mul-add k w t)

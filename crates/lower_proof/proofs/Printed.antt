@@ -3,13 +3,12 @@ use Rattle.std.proofs.Common.{◌≡◌, ℕ, ◌+◌, ◌<◌, ◌≤◌, List,
 use Rattle.std.specs.Prelude.{slice_index_or}
 use Rattle.std.proofs.lemmas.Bool.{cases_eq}
 use Rattle.std.proofs.lemmas.List.{append-nil, drop_all}
-use Rattle.plan_model.specs.declared.model.Query.{Query}
 use Rattle.plan_model.specs.NetworkModel.{NetworkModel}
 use Rattle.plan_model.specs.NameLists.{NameLists}
-use Rattle.printed_rows.specs.Writers.{row_of_fields, text_of_records}
+use Rattle.printed_rows.specs.Writers.{text_of_records}
 use Rattle.printed_rows.proofs.Lines.{text_step, split_at}
 use Rattle.lower_proof.specs.Steps.{AllFit}
-use Rattle.lower_proof.specs.Texts.{bounds_record, entry_text, value_records, proof_text}
+use Rattle.lower_proof.specs.Texts.{entry_text, value_records}
 
 one_more : (n : NetworkModel) (names : NameLists) (c : ℕ) (x : Option ℕ) (values : List (Option ℕ))
     → entry_text n names c x ++ text_of_records (value_records n names (c + 1) values) ≡ text_of_records (value_records n names c (x ∷ values))
@@ -38,12 +37,3 @@ fit_more values i before here = λ c v less is. elim (cases_eq c i) [
   | inl same ↦ here v (subst (λ (k : ℕ). slice_index_or values k None ≡ Some v) same is)
   | inr differ ↦ before c v (omega (arith, less, differ)) is
 ]
-
--- the first row and the rows of values are the text
-pub text_is : (n : NetworkModel) (names : NameLists) (q : Query) (values printed : List (Option ℕ)) (empty first all : List ℕ) → printed ≡ values → empty ≡ []
-    → first ≡ empty ++ row_of_fields (bounds_record names q printed) → all ≡ first ++ text_of_records (value_records n names 0 printed) → all ≡ proof_text n names q values
-text_is n names q values printed empty first all same none one two =
-    two
-    ∙ ap (λ (text : List ℕ). text ++ text_of_records (value_records n names 0 printed))
-    (one ∙ ap (λ (text : List ℕ). text ++ row_of_fields (bounds_record names q printed)) none)
-    ∙ ap (proof_text n names q) same

@@ -16,8 +16,6 @@ use Rattle.clock_text.proofs.Walk.{text_tells}
 use Rattle.clock_text.proofs.NanosLemmas.{nanos_tell}
 use Rattle.csv_rows.specs.Tables.{table_of, row_count, header}
 use Rattle.plan_model.specs.declared.model.Query.{Query}
-use Rattle.plan_model.specs.declared.model.PlaceId.{PlaceId}
-use Rattle.plan_model.specs.declared.model.Moment.{Moment}
 use Rattle.plan_model.specs.NetworkModel.{NetworkModel}
 use Rattle.plan_model.specs.NameLists.{NameLists, NamesFit, AreNames}
 use Rattle.plan_model.specs.Network.{IsValid, count, run_of, step_of}
@@ -39,21 +37,8 @@ use Rattle.lower_proof.specs.Reading.{bounds_numbers, bounds_row_in, bounds_in, 
 use Rattle.lower_proof.specs.Reading.{told_in, value_row, connection_before, value_fault, IsFaultAfter, AreValuesTold, IsProofTold, IsProofRead}
 use Rattle.lower_proof.specs.Reading.{IsReadBack}
 
-abbrev query_of : PlaceId → PlaceId → Moment → Moment → Query
-query_of source target start deadline = record { source = source; target = target; start = start; deadline = deadline }
-
-abbrev place : ℕ → PlaceId
-place x = record { 0 = x }
-
-abbrev moment : ℕ → Moment
-moment x = record { 0 = x }
-
 same_query : (a b : Query) → a.source.0 ≡ b.source.0 → a.target.0 ≡ b.target.0 → a.start.0 ≡ b.start.0 → a.deadline ≡ b.deadline → a ≡ b
-same_query a b one two three four =
-    ap (λ (x : ℕ). query_of (place x) a.target a.start a.deadline) one
-    ∙ ap (λ (x : ℕ). query_of b.source (place x) a.start a.deadline) two
-    ∙ ap (λ (x : ℕ). query_of b.source b.target (moment x) a.deadline) three
-    ∙ ap (λ (x : Moment). query_of b.source b.target b.start x) four
+same_query a b one two three four = λ i. record { source = record { 0 = one i }; target = record { 0 = two i }; start = record { 0 = three i }; deadline = four i }
 
 count_more : (x : Option ℕ) (values : List (Option ℕ)) → count_by is_some (x ∷ values) ≡ cond (is_some x) 1 0 + count_by is_some values
 count_more x values = sum_by-cons (λ (y : Option ℕ). cond (is_some y) 1 0) x values

@@ -16,8 +16,7 @@ use Rattle.lower_proof.specs.Promises.{IsSound}
 use Rattle.plan_model.specs.Bounds.{nanos_per_second}
 use Rattle.plan_model.proofs.Laws.{below_less}
 use Rattle.interval_fixed.proofs.Sums.{mean_below}
-use Rattle.lower_proof.proofs.Leasts.{least_up_to}
-use Rattle.lower_proof.proofs.Search.{least_boardable, least_at_start}
+use Rattle.lower_proof.proofs.Leasts.{least_up_to, least_boardable, least_at_start}
 
 pub at_most : (o : Option ℕ) (v : ℕ) → HasValueUpTo o v → (w : ℕ) × (o ≡ Some w) × (w ≤ v)
 at_most None v h = absurd h

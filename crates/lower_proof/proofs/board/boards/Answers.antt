@@ -29,7 +29,6 @@ pub returns-clause-fresh : goal.returns-clause-fresh
 returns-clause-fresh c =
     let n = c.args.network.now in
     let whole : c.loop-i.i ≡ count n = omega (arith, c.count-i-end.ensures.count) in
-    let have = subst (λ (m : ℕ). HaveEntries n c.args.last.0 m c.loop-i.boards.items) whole c.loop-i.invariant.entries in
-    let given : HaveEntries n c.args.last.0 (count n) c.deref_mut-2.result.now = rw c.deref_mut-2.ensures.value have in
+    let given : HaveEntries n c.args.last.0 (count n) c.deref_mut-2.result.now = rw c.deref_mut-2.ensures.value (rw whole at c.loop-i.invariant.entries) in
     let same : length c.sort_boards.new.boards ≡ c.loop-i.boards.len = omega (arith, c.loop-i.boards.ok.0, c.sort_boards.ensures.len, c.loop-i.invariant.len) in
     rw take_at (c.sort_boards.ensures.fresh c.args.last.0 given)
