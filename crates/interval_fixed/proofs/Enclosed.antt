@@ -9,7 +9,8 @@ use Rattle.interval_fixed.specs.Interval.{Interval}
 use Rattle.interval_fixed.specs.Means.{weighted, weighted_lo, weighted_hi, mean_of}
 use Rattle.interval_fixed.specs.Enclosures.{AreEnclosed, EnclosesMean}
 
-sums_enclosed : (row : List Outcome) (spans : List Interval) (xs : List ℕ) → AreEnclosed spans xs → (weighted_lo row spans ≤ weighted row xs) × (weighted row xs ≤ weighted_hi row spans)
+sums_enclosed : (row : List Outcome) (spans : List Interval) (xs : List ℕ) → AreEnclosed spans xs
+    → (weighted_lo row spans ≤ weighted row xs) × (weighted row xs ≤ weighted_hi row spans)
 sums_enclosed [] spans xs within = (omega arith, omega arith)
 sums_enclosed (o ∷ row) [] [] within = (omega arith, omega arith)
 sums_enclosed (o ∷ row) (span ∷ spans) (x ∷ xs) within =

@@ -48,7 +48,8 @@ each_mapped f P _ _ _ each = absurd each
 module _ (scale : ℕ) (leaf : ℕ → ℕ) where
   -- how the sum of values stands to that of the kids, as each value does to its kid
   module _ (R : ℕ → ℕ → Type 0) (none : R 0 0) (more : (w x y s t : ℕ) → R x y → R s t → R (w * x + s) (w * y + t)) where
-    kids_sum : (row : List Outcome) (values : List ℕ) (kids : Kids) (h : ℕ) → height_of kids ≤ h → EachKid (λ v t. (k : ℕ) → height t ≤ k → R (v * 10000 ^ k) (scale * weighted_by leaf t k)) row values kids
+    kids_sum : (row : List Outcome) (values : List ℕ) (kids : Kids) (h : ℕ) → height_of kids ≤ h
+        → EachKid (λ v t. (k : ℕ) → height t ≤ k → R (v * 10000 ^ k) (scale * weighted_by leaf t k)) row values kids
         → R (weighted row values * 10000 ^ h) (scale * weighted_kids leaf kids h)
     kids_sum [] [] Nil h tall each = let e : scale * 0 ≡ 0 = omega arith in let f : 0 * 10000 ^ h ≡ 0 = omega arith in rw (e, f) none
     kids_sum (o ∷ row) (v ∷ values) (Kid w t kids) h tall each =
@@ -60,7 +61,8 @@ module _ (scale : ℕ) (leaf : ℕ → ℕ) where
   pub mean_below : (row : List Outcome) (values : List ℕ) (kids : Kids) (enter exit : ℕ) → EachKid (BelowBy scale leaf) row values kids
       → BelowBy scale leaf (weighted row values / 10000) (Ride enter exit kids)
   mean_below row values kids enter exit each h tall =
-      rw (pow_down h (omega arith)) (rounded_below (weighted row values) (10000 ^ (h - 1)) _ (kids_sum (λ x y. x ≤ y) (omega arith) sum_step row values kids (h - 1) (omega arith) each))
+      rw (pow_down h (omega arith)) (rounded_below (weighted row values) (10000 ^ (h - 1)) _
+      (kids_sum (λ x y. x ≤ y) (omega arith) sum_step row values kids (h - 1) (omega arith) each))
 
   -- the mean rounded up covers the ride
   pub mean_covers : (row : List Outcome) (values : List ℕ) (kids : Kids) (enter exit : ℕ) → EachKid (CoversBy scale leaf) row values kids

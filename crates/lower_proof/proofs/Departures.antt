@@ -50,7 +50,12 @@ after_boards n x c within early = total_lt _ _ c (count n) within (λ d. one_les
 
 pub after_starts : (n : NetworkModel) (c : ℕ) → c < count n → after n (dep_of n c) + 1 ≤ count n
 unfolding after
-after_starts n c within = omega (arith, total_ones (count n), total_lt _ (λ k. 1) c (count n) within (λ d. at_most_one (dep_of n c) (dep_of n d)) (grind (arith, nat_tests)))
+after_starts n c within = omega (
+  arith,
+  total_ones (count n),
+  total_lt _ (λ k. 1) c (count n) within (λ d. at_most_one (dep_of n c) (dep_of n d))
+      (grind (arith, nat_tests)),
+)
 
 pub after_le : (n : NetworkModel) (x : ℕ) → after n x ≤ count n
 unfolding after
@@ -82,7 +87,8 @@ module _ (n : NetworkModel) (valid : IsValid n) (q : Query) (values : List (Opti
 
     holds_away : (m : ℕ) → HoldsAway m
     holds_away zero p x c v few away offer = absurd (omega (arith, fewer_after p x c v offer))
-    holds_away (suc m) p x c v few away offer = let fewer = fewer_after p x c v offer in boarded m p x c v (or_arrived m (holds_away m)) (omega arith) fewer away offer
+    holds_away (suc m) p x c v few away offer = let fewer = fewer_after p x c v offer in boarded m p x c v (or_arrived m (holds_away m))
+        (omega arith) fewer away offer
 
     pub holds_by : (m : ℕ) → HoldsBy m
     holds_by m = or_arrived m (holds_away m)

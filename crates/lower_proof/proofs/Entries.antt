@@ -1,5 +1,6 @@
 -- The entries of a board, one connection and one way after the other, and in order.
-use Rattle.std.proofs.Common.{◌≡◌, ℕ, zero, suc, ◌+◌, ◌-◌, ◌<◌, ◌≤◌, ◌⊎◌, List, [], ◌∷◌, ◌++◌, length, get_or, set, reverse, slice_get, Option, Some, IsTrue, true}
+use Rattle.std.proofs.Common.{◌≡◌, ℕ, zero, suc, ◌+◌, ◌-◌, ◌<◌, ◌≤◌, ◌⊎◌, List, [], ◌∷◌, ◌++◌, length}
+use Rattle.std.proofs.Common.{get_or, set, reverse, slice_get, Option, Some, IsTrue, true}
 use Rattle.std.proofs.Common.{false, ltb, eqb, arith, inl, inr, sym, ◌∙◌, ap, subst, refl}
 use Rattle.std.specs.declared.cmp.Ordering.{Ordering}
 use Rattle.std.specs.declared.cmp.Ordering.TheVariants.{Less, Equal, Greater}
@@ -37,7 +38,8 @@ entry_cmp a b = ordering_then (nat_cmp a.by.0 b.by.0) (nat_cmp a.id.0 b.id.0)
 abbrev pub InOrder : Entry → Entry → Type 0
 InOrder a b = (a.by.0 < b.by.0) ⊎ ((a.by.0 ≡ b.by.0) × (a.id.0 ≤ b.id.0))
 
-not_above : (x y u v : ℕ) (order : Ordering) → MatchOrdering order (y < x) (y ≡ x) (x < y) → is_lt (ordering_then order (nat_cmp v u)) ≡ false → (x < y) ⊎ ((x ≡ y) × (u ≤ v))
+not_above : (x y u v : ℕ) (order : Ordering) → MatchOrdering order (y < x) (y ≡ x) (x < y) → is_lt (ordering_then order (nat_cmp v u)) ≡ false
+    → (x < y) ⊎ ((x ≡ y) × (u ≤ v))
 not_above x y u v Less above h = absurd (cc)
 not_above x y u v Equal same h = inr (sym same, ge_from_not_lt v u h)
 not_above x y u v Greater less h = inl less
@@ -87,14 +89,16 @@ HaveWays n last id k boards = (p : ℕ) → p < length boards → HasWays n last
 module _ (n : NetworkModel) (last id : ℕ) where
   -- with one connection more, which has an entry where it can be boarded
   entries_next : (p : ℕ) (entries : List Entry) → AreEntries n last p id entries
-      → ((x : ℕ) → dep_of n id ≤ last → IsTrue (connection n id).can_board → IsBoardable n p x id → (i : ℕ) × (i < length entries) × ((entry_at entries i).id.0 ≡ id)) → AreEntries n last p (id + 1) entries
+      → ((x : ℕ) → dep_of n id ≤ last → IsTrue (connection n id).can_board → IsBoardable n p x id
+      → (i : ℕ) × (i < length entries) × ((entry_at entries i).id.0 ≡ id)) → AreEntries n last p (id + 1) entries
   entries_next p entries are own = record {
     each = are.each;
     all = λ c x below soon can boards. elim (cases_lt c id) [
       | inl before ↦ are.all c x before soon can boards
       | inr newest ↦
           let is : c ≡ id = omega arith in
-          subst (λ k. dep_of n k ≤ last → IsTrue (connection n k).can_board → IsBoardable n p x k → (i : ℕ) × (i < length entries) × ((entry_at entries i).id.0 ≡ k)) (sym is) (own x) soon can boards
+          subst (λ k. dep_of n k ≤ last → IsTrue (connection n k).can_board → IsBoardable n p x k
+          → (i : ℕ) × (i < length entries) × ((entry_at entries i).id.0 ≡ k)) (sym is) (own x) soon can boards
     ];
   }
 
@@ -112,7 +116,10 @@ module _ (n : NetworkModel) (last id : ℕ) where
 
   -- a connection that cannot be boarded, or departs later
   pub entries_skipped : (boards : List ShownBoard) → (IsTrue (connection n id).can_board → dep_of n id ≤ last → ⊥) → HaveEntries n last id boards → HaveEntries n last (id + 1) boards
-  entries_skipped boards never have p within = (entries_next p (board_at boards p).entries (have p within).0 (λ x soon can own. absurd (never can soon)), (have p within).1)
+  entries_skipped boards never have p within = (
+    entries_next p (board_at boards p).entries (have p within).0 (λ x soon can own. absurd (never can soon)),
+    (have p within).1,
+  )
 
   module _ (valid : IsValid n) (departs_in : from_of n id < length n.change) (k : ℕ) (way : Way) (listed : slice_get (ways_into n (from_of n id)) k ≡ Some way) where
     same_way : (j : ℕ) (other : Way) → j < k + 1 → slice_get (ways_into n (from_of n id)) j ≡ Some other → (j < k) ⊎ (other ≡ way)
@@ -125,7 +132,8 @@ module _ (n : NetworkModel) (last id : ℕ) where
     seconds_are x board = let both = sym board.way ∙ way_of-listed n valid (from_of n id) departs_in k way listed in cc
 
     -- nobody can board by the way
-    ways_same : (p : ℕ) (board : ShownBoard) → ((x : ℕ) → way.from.0 ≡ p → IsBoardable n p x id → ⊥) → HasWays n last id k p board → HasWays n last id (k + 1) p board
+    ways_same : (p : ℕ) (board : ShownBoard) → ((x : ℕ) → way.from.0 ≡ p → IsBoardable n p x id → ⊥) → HasWays n last id k p board
+        → HasWays n last id (k + 1) p board
     ways_same p board never before = record {
       entries = before.entries;
       own = λ x j other below at from boards_by. elim (same_way j other below at) [

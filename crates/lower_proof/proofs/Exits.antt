@@ -114,7 +114,8 @@ module _ {n : NetworkModel} (good : IsValid n) {q : Query} {values : List (Optio
         record {
           rest = rest_popped n good last taken before rest e popped scanned.rest;
           runs = λ c there. omega (arith, scanned.runs c there, length-set exits mine best);
-          are_exits = λ run. get_or-set (λ r. IsLeastOf (LeavesBy n q values last (e.id ∷ taken) r)) exits mine run best None (scanned.runs e.id.0 scanned_is_next.there) best_leaving
+          are_exits = λ run. get_or-set (λ r. IsLeastOf (LeavesBy n q values last (e.id ∷ taken) r)) exits mine run best None
+              (scanned.runs e.id.0 scanned_is_next.there) best_leaving
               (λ differ. other_run n q values last taken e.id scanned_is_next run differ (exit_of exits run) (scanned.are_exits run));
         }
 

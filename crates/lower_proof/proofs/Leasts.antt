@@ -79,11 +79,13 @@ module _ (R : ℕ → ℕ → Type 0) where
   ]
 
   -- one more, which has this value, where it has one
-  pub below_more : (m : ℕ) (r here : Option ℕ) → ((v : ℕ) → here ≡ Some v → R m v) → ((v : ℕ) → R m v → here ≡ Some v) → IsLeastOf (Below R m) r → IsLeastOf (Below R (m + 1)) (lesser r here)
-  below_more m r here own only least = least_with (Below R m) (Below R (m + 1)) (grown m) r here least (λ v is. (m, omega arith, own v is)) (λ v f. elim (at_last m v f) [
-    | inl before ↦ inl before
-    | inr last ↦ inr (only v last)
-  ])
+  pub below_more : (m : ℕ) (r here : Option ℕ) → ((v : ℕ) → here ≡ Some v → R m v) → ((v : ℕ) → R m v → here ≡ Some v) → IsLeastOf (Below R m) r
+      → IsLeastOf (Below R (m + 1)) (lesser r here)
+  below_more m r here own only least = least_with (Below R m) (Below R (m + 1)) (grown m) r here least (λ v is. (m, omega arith, own v is))
+      (λ v f. elim (at_last m v f) [
+        | inl before ↦ inl before
+        | inr last ↦ inr (only v last)
+      ])
 
   -- one more, which has none
   pub below_same : (m : ℕ) (r : Option ℕ) → ((v : ℕ) → R m v → ⊥) → IsLeastOf (Below R m) r → IsLeastOf (Below R (m + 1)) r
@@ -96,11 +98,13 @@ module _ (n : NetworkModel) (values : List (Option ℕ)) (Boards : ℕ → Type 
   -- one connection more, that can be boarded
   pub with_offer : (m : ℕ) (r : Option ℕ) → m < count n → IsTrue (connection n m).can_board → Boards m → IsLeastOf (Below (Offers n values Boards) m) r
       → IsLeastOf (Below (Offers n values Boards) (m + 1)) (lesser r (bound_of values m))
-  with_offer m r there board boards = below_more (Offers n values Boards) m r (bound_of values m) (λ v is. record { there = there; board = board; boards = boards; value = is }) (λ v o. o.value)
+  with_offer m r there board boards = below_more (Offers n values Boards) m r (bound_of values m)
+      (λ v is. record { there = there; board = board; boards = boards; value = is }) (λ v o. o.value)
 
   -- all of them
   pub all_offers : (r : Option ℕ) → IsLeastOf (Below (Offers n values Boards) (count n)) r → IsLeastOf (λ v. (c : ℕ) × Offers n values Boards c v) r
-  all_offers r = least_same (Below (Offers n values Boards) (count n)) (λ v. (c : ℕ) × Offers n values Boards c v) (λ v o. (o.0, o.2)) r (λ v o. (o.0, o.1.there, o.1))
+  all_offers r = least_same (Below (Offers n values Boards) (count n)) (λ v. (c : ℕ) × Offers n values Boards c v) (λ v o. (o.0, o.2)) r
+      (λ v o. (o.0, o.1.there, o.1))
 
   -- the least is found, where it can be told which can be boarded
   least_offer : ((c : ℕ) → Boards c ⊎ (Boards c → ⊥)) → (r : Option ℕ) × IsLeastOf (λ v. (c : ℕ) × Offers n values Boards c v) r

@@ -4,8 +4,6 @@ pub mod Vias
 pub mod Soundness
 pub mod Departures
 pub mod Departing
-pub mod Near
-pub mod Greatest
 pub mod Best
 pub mod Exits
 pub mod Writes

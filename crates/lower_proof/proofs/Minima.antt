@@ -12,7 +12,8 @@ use Rattle.lower_proof.proofs.Leasts.{least_same, below_more}
 
 module _ (values : List (Option ℕ)) (entries : List Entry) where
   -- the least of the first k, from those that are known
-  pub before_is : (least : List (Option ℕ)) (k known : ℕ) → 1 ≤ k → k ≤ known → AreMinima values entries least known → IsLeastOf (FrontValue values entries k) (least_of least (k - 1))
+  pub before_is : (least : List (Option ℕ)) (k known : ℕ) → 1 ≤ k → k ≤ known → AreMinima values entries least known
+      → IsLeastOf (FrontValue values entries k) (least_of least (k - 1))
   before_is least k known some within minima =
       let e : k - 1 + 1 ≡ k = omega arith in
       subst (λ m. IsLeastOf (FrontValue values entries m) (least_of least (k - 1))) e (minima (k - 1) (omega arith))
@@ -21,7 +22,8 @@ module _ (values : List (Option ℕ)) (entries : List Entry) where
       → IsLeastOf (FrontValue values entries k) before → AreMinima values entries (set least k (lesser before (bound_of values (entry_at entries k).id.0))) (k + 1)
   minima_more least k before within minima is_least j below =
       get_or-set (λ i r. IsLeastOf (FrontValue values entries (i + 1)) r) least k j (lesser before (bound_of values (entry_at entries k).id.0)) None within
-      (below_more (λ i v. bound_of values (entry_at entries i).id.0 ≡ Some v) k before (bound_of values (entry_at entries k).id.0) (λ v is. is) (λ v is. is) is_least)
+      (below_more (λ i v. bound_of values (entry_at entries i).id.0 ≡ Some v) k before (bound_of values (entry_at entries k).id.0) (λ v is. is)
+      (λ v is. is) is_least)
       (λ differ. minima j (omega arith))
 
   -- the first entries that are in time give the values in time

@@ -38,7 +38,13 @@ use Rattle.lower_proof.specs.Reading.{told_in, value_row, connection_before, val
 use Rattle.lower_proof.specs.Reading.{IsReadBack}
 
 same_query : (a b : Query) → a.source.0 ≡ b.source.0 → a.target.0 ≡ b.target.0 → a.start.0 ≡ b.start.0 → a.deadline ≡ b.deadline → a ≡ b
-same_query a b one two three four = λ i. record { source = record { 0 = one i }; target = record { 0 = two i }; start = record { 0 = three i }; deadline = four i }
+same_query a b one two three four = λ i. record {
+  source = record { 0 = one i };
+  target = record { 0 = two i };
+  start = record { 0 = three i };
+  deadline =
+      four i;
+}
 
 count_more : (x : Option ℕ) (values : List (Option ℕ)) → count_by is_some (x ∷ values) ≡ cond (is_some x) 1 0 + count_by is_some values
 count_more x values = sum_by-cons (λ (y : Option ℕ). cond (is_some y) 1 0) x values
@@ -179,9 +185,8 @@ module _ (n : NetworkModel) (names : NameLists) (valid : IsValid n) (fit : Names
     row_faultless stated i inside within =
         let r = row_told i within in
         let c = offset_at values i in
-        ap (λ (b : Bool). if b then result_err (told_in n names (i + 2) (connection_before n names table i) (value_row table i)) else Some (Row (i + 2))) (lt-ltb i stated inside)
-        ∙ ap (λ (fields : List (List ℕ)). result_err (told_in n names (i + 2) (connection_before n names table i) fields)) r.1.row
-        ∙ ap result_err (told_back c r.0 (i + 2) (connection_before n names table i) r.1.there (small c r.0 r.1.value) (row_rises i within))
+        rw (lt-ltb i stated inside, r.1.row) (ap result_err (told_back c r.0 (i + 2) (connection_before n names table i) r.1.there (small c r.0 r.1.value)
+        (row_rises i within)))
 
     -- each value that is there has its row
     row_for : (c v : ℕ) → bound_of values c ≡ Some v → (i : ℕ) × (i < length rows) × (value_row table i ≡ value_record n names c v)
@@ -289,9 +294,7 @@ module _ (n : NetworkModel) (names : NameLists) (valid : IsValid n) (fit : Names
             )
     reads_back as_many small (Err fault) (inl none) = none
     reads_back as_many small (Err fault) (inr first) =
-        let e = table_is as_many in
-        let on_table = subst (λ (t : List (List (List ℕ))). IsFaultAfter n names t (bounds_in names q.source.0 q.target.0 q.start.0 (header t)) fault) e first in
-        let late = subst (λ (h : Result BoundsRow ProofFault). IsFaultAfter n names (bounds_record names q values ∷ value_records n names 0 values) h fault) bounds_back on_table in
+        let late = rw (table_is as_many, bounds_back) at first in
         let none = (all_told (bounds_record names q values) values as_many small).faultless late.i late.within in
         let both : ◌≡◌ {A = Option ProofFault} (Some fault) None = sym late.here ∙ none in
         absurd (cc)

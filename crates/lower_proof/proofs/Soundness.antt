@@ -38,29 +38,45 @@ module _ (n : NetworkModel) (q : Query) (values : List (Option ℕ)) where
 
   module _ (accepted : IsAccepted n q values) where
     -- a ride: the least value is at most that of its exit
-    pub ride_bound : (Boards : ℕ → Type 0) (p x i j : ℕ) (vs : List ℕ) (search : (r : Option ℕ) × IsLeastOf (λ w. (c : ℕ) × Offers n values Boards c w) r) → p ≢ q.target.0
-        → IsLeg n i j → Boards i → AreLeast n q values (to_of n j) (arr_of n j) (outcomes n j) vs → (u : ℕ) × IsLeastValue n q values Boards p x (Some u) × (u ≤ weighted (outcomes n j) vs / 10000)
+    pub ride_bound : (Boards : ℕ → Type 0) (p x i j : ℕ) (vs : List ℕ) (search : (r : Option ℕ) × IsLeastOf (λ w. (c : ℕ) × Offers n values Boards c w) r)
+        → p ≢ q.target.0
+        → IsLeg n i j → Boards i → AreLeast n q values (to_of n j) (arr_of n j) (outcomes n j) vs
+        → (u : ℕ) × IsLeastValue n q values Boards p x (Some u) × (u ≤ weighted (outcomes n j) vs / 10000)
     ride_bound Boards p x i j vs search away leg boards all =
         let v = weighted (outcomes n j) vs / 10000 in
-        let own = at_most (bound_of values i) v (accepted i leg.enter leg.board j v leg (record { leave = leg.leave; least = vs; are_least = all; mean = refl })) in
+        let own = at_most (bound_of values i) v (accepted i leg.enter leg.board j v leg
+        (record { leave = leg.leave; least = vs; are_least = all; mean = refl })) in
         let offer : Offers n values Boards i own.0 = record { there = leg.enter; board = leg.board; boards = boards; value = own.1 } in
-        let found = at_most search.0 own.0 (least_up_to (λ w. (c : ℕ) × Offers n values Boards c w) search.0 own.0 search.1 (i, offer)) in
-        (found.0, record { at_target = λ e. absurd (away e); elsewhere = λ e. subst (IsLeastOf (λ w. (c : ℕ) × Offers n values Boards c w)) found.1 search.1 }, omega (arith, found.2, own.2))
+        let found = at_most search.0 own.0 (least_up_to (λ w. (c : ℕ) × Offers n values Boards c w) search.0 own.0 search.1 (i, offer)) in (
+          found.0,
+          record {
+            at_target = λ e. absurd (away e);
+            elsewhere = λ e. subst
+                (IsLeastOf (λ w. (c : ℕ) × Offers n values Boards c w)) found.1 search.1;
+          },
+          omega (arith, found.2, own.2),
+        )
 
     -- and below the ride
-    ride_below : (Boards : ℕ → Type 0) (p x i j : ℕ) (kids : Kids) (search : (r : Option ℕ) × IsLeastOf (λ w. (c : ℕ) × Offers n values Boards c w) r) → p ≢ q.target.0 → IsLeg n i j → Boards i
+    ride_below : (Boards : ℕ → Type 0) (p x i j : ℕ) (kids : Kids) (search : (r : Option ℕ) × IsLeastOf (λ w. (c : ℕ) × Offers n values Boards c w) r)
+        → p ≢ q.target.0 → IsLeg n i j → Boards i
         → (all : (vs : List ℕ) × AreLeast n q values (to_of n j) (arr_of n j) (outcomes n j) vs × EachKid Below (outcomes n j) vs kids)
         → (v : ℕ) × IsLeastValue n q values Boards p x (Some v) × Below v (Ride i j kids)
     ride_below Boards p x i j kids search away leg boards all =
-        let ride = ride_bound Boards p x i j all.0 search away leg boards all.1 in
-        (ride.0, ride.1, below_less nanos_per_second arrival ride.0 _ (Ride i j kids) ride.2 (mean_below nanos_per_second arrival (outcomes n j) all.0 kids i j all.2))
+        let ride = ride_bound Boards p x i j all.0 search away leg boards all.1 in (
+          ride.0,
+          ride.1,
+          below_less nanos_per_second arrival ride.0 _ (Ride i j kids) ride.2
+              (mean_below nanos_per_second arrival (outcomes n j) all.0 kids i j all.2),
+        )
 
     mutual
       -- after an arrival
       bound_at : (tree : Tree) (p x : ℕ) → IsSafe n q.target.0 (Some q.deadline.0) tree p x → (v : ℕ) × IsLeastAt n q values p x (Some v) × Below v tree
       bound_at (Done a) p x safe = (1000000000 * x, target_least (IsBoardable n p x) p x safe.1 safe.2, done_below a x safe.0)
       bound_at (Ride i j kids) p x safe =
-          ride_below (IsBoardable n p x) p x i j kids (least_boardable n values p x) safe.0 safe.1 safe.2 (bound_all kids (outcomes n j) (to_of n j) (arr_of n j) safe.3)
+          ride_below (IsBoardable n p x) p x i j kids (least_boardable n values p x) safe.0 safe.1 safe.2
+          (bound_all kids (outcomes n j) (to_of n j) (arr_of n j) safe.3)
       bound_at (Stuck at y) p x safe = absurd safe
 
       -- after each outcome

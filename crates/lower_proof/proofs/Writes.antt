@@ -21,9 +21,11 @@ abbrev pub Agree : NetworkModel → ℕ → List (Option ℕ) → List (Option �
 Agree n moment values others = (c : ℕ) → c < count n → moment < dep_of n c → bound_of values c ≡ bound_of others c
 
 -- what is so by the one is so by the other, where that holds of any two that agree: they have the same least number that is so
-same_least : (n : NetworkModel) (moment : ℕ) (P : List (Option ℕ) → ℕ → Type 0) → ((values others : List (Option ℕ)) → Agree n moment values others → (v : ℕ) → P values v → P others v)
+same_least : (n : NetworkModel) (moment : ℕ) (P : List (Option ℕ) → ℕ → Type 0) →
+    ((values others : List (Option ℕ)) → Agree n moment values others → (v : ℕ) → P values v → P others v)
     → (values others : List (Option ℕ)) → Agree n moment values others → (least : Option ℕ) → IsLeastOf (P values) least → IsLeastOf (P others) least
-same_least n moment P each values others agree least = least_same (P values) (P others) (each values others agree) least (each others values (λ c there later. sym (agree c there later)))
+same_least n moment P each values others agree least = least_same (P values) (P others) (each values others agree) least
+    (each others values (λ c there later. sym (agree c there later)))
 
 module _ (n : NetworkModel) (good : IsValid n) (q : Query) (moment : ℕ) where
   offers_agree : (p x : ℕ) → moment ≤ x → (values others : List (Option ℕ)) → Agree n moment values others → (v : ℕ)
@@ -36,7 +38,8 @@ module _ (n : NetworkModel) (good : IsValid n) (q : Query) (moment : ℕ) where
     least_agrees : (p x : ℕ) → moment ≤ x → (least : Option ℕ) → IsLeastAt n q values p x least → IsLeastAt n q others p x least
     least_agrees p x later least is = record {
       at_target = is.at_target;
-      elsewhere = λ away. same_least n moment (λ vs v. (c : ℕ) × Offers n vs (IsBoardable n p x) c v) (offers_agree p x later) values others agree least (is.elsewhere away);
+      elsewhere = λ away. same_least n moment (λ vs v. (c : ℕ) × Offers n vs (IsBoardable n p x) c v) (offers_agree p x later) values others agree least
+          (is.elsewhere away);
     }
 
     all_agree : (p arrival : ℕ) → moment ≤ arrival → (row : List Outcome) (vs : List ℕ) → AreLeast n q values p arrival row vs → AreLeast n q others p arrival row vs
@@ -69,5 +72,6 @@ module _ (n : NetworkModel) (good : IsValid n) (q : Query) (last : ℕ) (taken :
           let on = (good.connections by.exit by.there).forward in
           let later = known_later by.exit by.there by.known in
           let via = via_agrees n good q (dep_of n id.0) a b agree by.exit v (omega arith) by.via in
-          record { exit = by.exit; there = by.there; known = by.known; of_run = by.of_run; via = via }) values others agree (exit_of exits run) (scanned.are_exits run);
+          record { exit = by.exit; there = by.there; known = by.known; of_run = by.of_run; via = via }) values others agree (exit_of exits run)
+          (scanned.are_exits run);
     }

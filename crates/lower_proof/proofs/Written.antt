@@ -1,5 +1,6 @@
 -- What is known while a certificate is written, with the boards.
-use Rattle.std.proofs.Common.{◌≡◌, ℕ, ◌<◌, ◌≤◌, List, ◌∷◌, ◌++◌, [], length, set, Option, None, IsTrue, Bool, true, false, cond, arith, inl, inr, sym, ◌∙◌, ap, refl, subst, get_or-set_other}
+use Rattle.std.proofs.Common.{◌≡◌, ℕ, ◌<◌, ◌≤◌, List, ◌∷◌, ◌++◌, [], length, set, Option, None, IsTrue, Bool, true, false, cond}
+use Rattle.std.proofs.Common.{arith, inl, inr, sym, ◌∙◌, ap, refl, subst, get_or-set_other}
 use Rattle.std.proofs.lemmas.List.{length-set}
 use Rattle.plan_model.specs.declared.model.ConnectionId.{ConnectionId}
 use Rattle.plan_model.specs.declared.model.Query.{Query}
@@ -47,7 +48,11 @@ module _ {n : NetworkModel} (good : IsValid n) {q : Query} {last : ℕ} where
     taken = [];
     scanned = scanned_first n good q values last deadline right.none_after entries exits are runs empty;
     as_many = as_many;
-    own = λ c there after. (λ board. rw (right.none_after c there after) (λ v ride. none_rides n good q values last deadline right.none_after c v after ride), λ never. right.none_after c there after);
+    own = λ c there after. (
+      λ board. rw (right.none_after c there after) (λ v ride. none_rides n good q values last deadline right.none_after c v after
+          ride),
+      λ never. right.none_after c there after,
+    );
     right = right;
     late = λ m all. late m;
   }
@@ -67,7 +72,11 @@ module _ {n : NetworkModel} (good : IsValid n) {q : Query} {last : ℕ} where
         let now = set values e.id.0 value in
         let other : (c : ℕ) → (c ≡ e.id.0 → ⊥) → bound_of now c ≡ bound_of values c = λ c differ. get_or-set_other values e.id.0 c value None differ in
         let agree : Agree n (dep_of n e.id.0) values now = λ c there later. sym (other c (λ is. let same = ap (dep_of n) is in omega arith)) in
-        let own : HasOwn n q values e.id.0 value = (λ board. rw board (best_ride good written.scanned rest e popped exit board), none_given (connection n e.id.0).can_board best) in
+        let own : HasOwn n q values e.id.0 value = (
+          λ board. rw board (best_ride good written.scanned rest e popped exit board),
+          none_given
+              (connection n e.id.0).can_board best,
+        ) in
         record {
           taken = e.id ∷ written.taken;
           scanned = scanned_agrees n good q last written.taken e.id next values now agree (scanned_next good written.scanned rest e popped exit);
@@ -80,7 +89,8 @@ module _ {n : NetworkModel} (good : IsValid n) {q : Query} {last : ℕ} where
               ]) there known in
               (λ board. rides_agree n good q last written.taken e.id next values now agree c there known (bound_of now c) (has.0 board), has.1);
           right = boards_agree n good last (dep_of n e.id.0) values now agree (length-set values e.id.0 value) looked
-              (λ c there after. other c (λ is. next.new (known_left_out (Late n last) written.taken e.id.0 (subst (λ i. last < dep_of n i) is after))) ∙ right.none_after c there after)
+              (λ c there after. other c (λ is. next.new (known_left_out (Late n last) written.taken e.id.0 (subst (λ i. last < dep_of n i) is after)))
+              ∙ right.none_after c there after)
               (late (dep_of n e.id.0) forward (written.late (dep_of n e.id.0) (λ c there known. next.later c there known))) right;
           late = λ m all.
               let at_id = all e.id.0 next.there (inl refl) in

@@ -36,11 +36,13 @@ pub split_at : {X : Type 0} (xs : List X) (i : ℕ) (d : X) → i < length xs �
 split_at xs i d within = let one : suc i ≡ i + 1 = omega arith in subst (λ (k : ℕ). drop i xs ≡ slice_index_or xs i d ∷ drop k xs) one (split xs i d within)
 
 -- the same of a list, whose text is that of each element and then that of the others
-pub text_more : {X : Type 0} (F : List X → List ℕ) (g : X → List ℕ) → ((x : X) (xs : List X) → F (x ∷ xs) ≡ g x ++ F xs) → (xs : List X) (i : ℕ) (x d : X) (new old all : List ℕ)
+pub text_more : {X : Type 0} (F : List X → List ℕ) (g : X → List ℕ) → ((x : X) (xs : List X) → F (x ∷ xs) ≡ g x ++ F xs)
+    → (xs : List X) (i : ℕ) (x d : X) (new old all : List ℕ)
     → i < length xs → x ≡ slice_index_or xs i d → new ≡ old ++ g x → old ++ F (drop i xs) ≡ all → new ++ F (drop (i + 1) xs) ≡ all
 text_more F g step xs i x d new old all within at is before =
     text_step new old (g x) (F (drop (i + 1) xs)) all is
-    (ap (λ (text : List ℕ). old ++ text) (ap (λ y. g y ++ F (drop (i + 1) xs)) at ∙ sym (ap F (split_at xs i d within) ∙ step (slice_index_or xs i d) (drop (i + 1) xs))) ∙ before)
+    (ap (λ (text : List ℕ). old ++ text) (ap (λ y. g y ++ F (drop (i + 1) xs)) at
+    ∙ sym (ap F (split_at xs i d within) ∙ step (slice_index_or xs i d) (drop (i + 1) xs))) ∙ before)
 
 -- the writer's rows are these
 pub records_printed : (rows : List (List (List ℕ))) → text_of_records rows ≡ text_of_rows rows

@@ -6,7 +6,8 @@ use Rattle.lower_proof.proofs.via.Goals as goal
 pub returns-in-None-clause-via : goal.returns-in-None-clause-via
 returns-in-None-clause-via c =
     let boards = c.loop-outcome.invariant.boards in
-    let none = rw (c.from.ensures, c.row-outcome-items.ensures.outcomes, c.get-connection.ensures.connection) at (c.in-None.ensures.least c.args.network.now c.args.scope.now.last.0 boards) in
+    let none = rw (c.from.ensures, c.row-outcome-items.ensures.outcomes, c.get-connection.ensures.connection) at
+    (c.in-None.ensures.least c.args.network.now c.args.scope.now.last.0 boards) in
     let within = rw (c.row-outcome-items.ensures.outcomes, c.get-connection.ensures.connection) at c.loop-outcome-test.true in
     never_via c.args.network.now c.args.scope.now.query c.args.values.now c.args.id.0 c.loop-outcome.outcome-index within none
 
@@ -30,7 +31,8 @@ returns-clause-via c =
     let all = take_all c.loop-outcome.outcome-index c.row-outcome-items.result.now (omega arith) in
     let weighed = rw (all, c.row-outcome-items.ensures.outcomes, c.get-connection.ensures.connection) at c.loop-outcome.invariant.weighed in
     let leave : IsTrue c.get-connection.result.can_exit = search rules in
-    via_weighed c.args.network.now c.args.scope.now.query c.args.values.now c.args.id.0 c.loop-outcome.sum (rw c.get-connection.ensures.connection at leave) weighed
+    via_weighed c.args.network.now c.args.scope.now.query c.args.values.now c.args.id.0 c.loop-outcome.sum
+    (rw c.get-connection.ensures.connection at leave) weighed
 
 pub returns-in-None-clause-boards : goal.returns-in-None-clause-boards
 returns-in-None-clause-boards c = c.in-None.ensures.boards c.args.network.now c.args.scope.now.last.0 c.loop-outcome.invariant.boards

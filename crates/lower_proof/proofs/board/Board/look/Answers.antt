@@ -24,7 +24,8 @@ returns-clause-least c =
     let sizes : length entries ≤ length c.extend.new.least = omega arith in
     let whole : length c.extend.new.least ≡ c.self.inside.least.len = omega arith in
     let front : IsLeastOf (FrontValue values entries wanted) c.if-wanted-eq0.result = elim c.if-wanted-eq0.branch [
-      | then-wanted-eq0 w ↦ let zero_is : wanted ≡ 0 = omega arith in rw (w.result-is, zero_is) (none_below (λ i v. bound_of values (entry_at entries i).id.0 ≡ Some v))
+      | then-wanted-eq0 w ↦ let zero_is : wanted ≡ 0 = omega arith in rw (w.result-is, zero_is)
+          (none_below (λ i v. bound_of values (entry_at entries i).id.0 ≡ Some v))
       | else-wanted-eq0 w ↦
           let some : 1 ≤ wanted = let h = w.if-wanted-eq0.false in omega arith in
           let read = rw take_at at w.index.ensures in
@@ -42,7 +43,8 @@ returns-clause-board c =
     let sizes : length entries ≤ length c.extend.new.least = omega arith in
     let within : c.count_in_time-wanted.result ≤ length entries = rw c.deref.ensures.value at c.count_in_time-wanted.ensures.within in
     let whole : length c.extend.new.least ≡ c.self.inside.least.len = omega arith in
-    rw (take_at, c.max-self-inside.ensures) (board_shown values entries c.extend.new.least (max c.self.inside.known c.count_in_time-wanted.result) old.falls old.ids (omega arith) (omega arith) minima)
+    rw (take_at, c.max-self-inside.ensures) (board_shown values entries c.extend.new.least
+    (max c.self.inside.known c.count_in_time-wanted.result) old.falls old.ids (omega arith) (omega arith) minima)
 
 pub returns-clause-late : goal.returns-clause-late
 returns-clause-late c = λ moment soon before k below.
