@@ -122,7 +122,8 @@ module _ (n : NetworkModel) (names : NameLists) (version : Version) (valid : IsV
       let enter = valid.connections leg.enter.0 is_leg.enter in
       let exit = valid.connections leg.exit.0 is_leg.exit in
       record {
-        is_of_kind = by_version (λ v. is_kind kind (width_of v) (leg_record n names v kind (moment_text moment) leg) ≡ true) ((bytes_decides kind kind).1 refl) ((bytes_decides kind kind).1 refl) version;
+        is_of_kind = by_version (λ v. is_kind kind (width_of v) (leg_record n names v kind (moment_text moment) leg) ≡ true)
+            ((bytes_decides kind kind).1 refl) ((bytes_decides kind kind).1 refl) version;
         by = text_tells moment soon;
         run = run_back n names fit own leg.enter.0 is_leg.enter;
         enter = step_back n valid leg.enter.0 is_leg.enter;
@@ -130,7 +131,8 @@ module _ (n : NetworkModel) (names : NameLists) (version : Version) (valid : IsV
         exit = step_back n valid leg.exit.0 is_leg.exit;
         to = place_back n names fit own (to_of n leg.exit.0) exit.to_in;
         arrival = text_tells (arr_of n leg.exit.0) (omega (arith, exit.early));
-        from = by_version (λ v. IsTold n v place leg → entry_in v names place (leg_record n names v kind (moment_text moment) leg) ≡ Some (from_of n leg.enter.0))
+        from = by_version (λ v. IsTold n v place leg → entry_in v names place (leg_record n names v kind (moment_text moment) leg) ≡ Some
+            (from_of n leg.enter.0))
             (λ leaves. ap Some (sym leaves)) (λ any. place_back n names fit own (from_of n leg.enter.0) enter.from_in) version told;
       }
 
@@ -157,7 +159,8 @@ module _ (n : NetworkModel) (names : NameLists) (version : Version) (valid : IsV
         by_entry t.place.0 _ _ (own_table.rows i first_row (omega (arith, less, within, many))) (own_table.rows j first_row (omega (arith, within, many))) same,
       )))) in
       let inside = All-map (λ (e : ℕ). e < count n) entry t.rows (λ k d within. (own_table.rows k d within).is_leg.enter) in
-      let few = length-le_from_distinct_below entries (count n) differ (λ q found. All-contains (λ (e : ℕ). e < count n) entries q inside (Contains-from_any eqb-true q entries found)) in
+      let few = length-le_from_distinct_below entries (count n) differ (λ q found. All-contains (λ (e : ℕ). e < count n) entries q inside
+      (Contains-from_any eqb-true q entries found)) in
       omega (arith, few, many, valid.few_connections)
 
   table_there : (t : PlaceTable) → IsFitTable n t → t.place.0 < length n.change
@@ -166,13 +169,17 @@ module _ (n : NetworkModel) (names : NameLists) (version : Version) (valid : IsV
       let first = own_table.rows 0 first_row (omega (arith, own_table.some)) in
       place_there n valid t.place.0 row.by.0 row.leg first.is_leg first.by
 
-  -- the records of tables are kept
-  legs_kept : (place : ℕ) (rows : List GraphRow) → All (IsFitRow n place) rows → AreKept (leg_records n names version rows)
-  legs_kept place [] fits = tt
-  legs_kept place (row ∷ rows) fits = (
-    leg_kept (codes "leg") (moment_text row.by.0) row.leg (All-head (IsFitRow n place) row rows fits).is_leg refl (moment_kept row.by.0),
-    legs_kept place rows (All-tail (IsFitRow n place) row rows fits),
-  )
+  -- the rows of a table are kept, and tell it
+  legs_back : (place : ℕ) (rows : List GraphRow) → All (IsToldRow n version place) rows
+      → AreKept (leg_records n names version rows) × AreLegRows n names version place rows (leg_records n names version rows)
+  legs_back place [] all = (tt, tt)
+  legs_back place (row ∷ rows) all =
+      let (fits, told) = All-head (IsToldRow n version place) row rows all in
+      let (kept, tells) = legs_back place rows (All-tail (IsToldRow n version place) row rows all) in
+      let soon : row.by.0 ≤ last_printable = omega (arith, limit_soon n valid place row.by.0 row.leg fits.is_leg fits.by) in (
+        (leg_kept (codes "leg") (moment_text row.by.0) row.leg fits.is_leg refl (moment_kept row.by.0), kept),
+        (leg_tells (codes "leg") place row.by.0 row.leg fits.is_leg soon told, tells),
+      )
 
   place_record_kept : (t : PlaceTable) → IsFitTable n t → IsKept (place_record n names version t)
   place_record_kept t own_table =
@@ -181,23 +188,6 @@ module _ (n : NetworkModel) (names : NameLists) (version : Version) (valid : IsV
       let few = few_legs t own_table in
       fields_kept version (codes "place") (place_name names t.place.0) (decimal (change_of n t.place.0)) (decimal (length t.rows)) [] [] [] [] []
       refl (place_kept n names fit t.place.0 there) (decimal_kept (change_of n t.place.0) (omega (arith, change.1))) (decimal_kept (length t.rows) (omega (arith, few))) refl refl refl refl refl
-
-  tables_kept : (tables : List PlaceTable) → All (IsFitTable n) tables → AreKept (table_records n names version tables)
-  tables_kept [] fits = tt
-  tables_kept (t ∷ tables) fits =
-      let first = All-head (IsFitTable n) t tables fits in (
-        place_record_kept t first,
-        kept-append (leg_records n names version t.rows) (table_records n names version tables) (legs_kept t.place.0 t.rows first.rows) (tables_kept tables (All-tail (IsFitTable n) t tables fits)),
-      )
-
-  -- and tell the tables
-  legs_tell : (place : ℕ) (rows : List GraphRow) → All (IsToldRow n version place) rows → AreLegRows n names version place rows (leg_records n names version rows)
-  legs_tell place [] all = tt
-  legs_tell place (row ∷ rows) all =
-      let first = All-head (IsToldRow n version place) row rows all in (
-        leg_tells (codes "leg") place row.by.0 row.leg first.0.is_leg (omega (arith, limit_soon n valid place row.by.0 row.leg first.0.is_leg first.0.by)) first.1,
-        legs_tell place rows (All-tail (IsToldRow n version place) row rows all),
-      )
 
   place_tells : (t : PlaceTable) → IsFitTable n t → IsPlaceRow n names version t.place.0 (length t.rows) (place_record n names version t)
   place_tells t own_table =
@@ -209,12 +199,15 @@ module _ (n : NetworkModel) (names : NameLists) (version : Version) (valid : IsV
         rows = whole_back (length t.rows) (let few = few_legs t own_table in omega arith);
       }
 
-  tables_tell : (tables : List PlaceTable) → All (IsToldTable n version) tables → AreTableRows n names version tables (table_records n names version tables)
-  tables_tell [] all = tt
-  tables_tell (t ∷ tables) all =
-      let first = All-head (IsToldTable n version) t tables all in (
-        place_tells t first.0,
-        (leg_records n names version t.rows, table_records n names version tables, refl, legs_tell t.place.0 t.rows first.1, tables_tell tables (All-tail (IsToldTable n version) t tables all)),
+  tables_back : (tables : List PlaceTable) → All (IsToldTable n version) tables
+      → AreKept (table_records n names version tables) × AreTableRows n names version tables (table_records n names version tables)
+  tables_back [] all = (tt, tt)
+  tables_back (t ∷ tables) all =
+      let (fits, told) = All-head (IsToldTable n version) t tables all in
+      let legs = legs_back t.place.0 t.rows told in
+      let rest = tables_back tables (All-tail (IsToldTable n version) t tables all) in (
+        (place_record_kept t fits, kept-append (leg_records n names version t.rows) (table_records n names version tables) legs.0 rest.0),
+        (place_tells t fits, (leg_records n names version t.rows, table_records n names version tables, refl, legs.1, rest.1)),
       )
 
   -- the first row
@@ -222,7 +215,8 @@ module _ (n : NetworkModel) (names : NameLists) (version : Version) (valid : IsV
   head_kept head asked =
       fields_kept version (codes "graph") (number_of_version version) (place_name names head.query.source.0) (place_name names head.query.target.0)
       (moment_text head.query.start.0) (moment_text head.query.deadline.0) (nanos_text head.bounds.lo) (nanos_text head.bounds.hi) []
-      refl (by_version (λ v. trimmed_text (number_of_version v) ≡ number_of_version v) refl refl version) (place_kept n names fit head.query.source.0 asked.source) (place_kept n names fit head.query.target.0 asked.target)
+      refl (by_version (λ v. trimmed_text (number_of_version v) ≡ number_of_version v) refl refl version)
+      (place_kept n names fit head.query.source.0 asked.source) (place_kept n names fit head.query.target.0 asked.target)
       (moment_kept head.query.start.0) (moment_kept head.query.deadline.0) (nanos_kept head.bounds.lo) (nanos_kept head.bounds.hi) refl
 
   head_tells : (head : Head) → IsPrintableQuery n head.query → head.bounds.lo ≤ head.bounds.hi → head.bounds.hi < 2 ^ 64 → IsHeadRow names version head (head_record names version head)
@@ -255,19 +249,16 @@ module _ (n : NetworkModel) (names : NameLists) (version : Version) (valid : IsV
       ap (λ (test : Bool). first ++ (if test then [] else second ++ tables_text n names version tables)) (ne_eqb head.query.source.0 head.query.target.0 own_graph.starts.differ)
       ∙ ap (λ (text : List ℕ). first ++ (second ++ text)) (tables_printed n names version tables)
 
-  graph_kept : (q : Query) (start : Option Leg) (tables : List PlaceTable) → IsFit n q (record { start = start; tables = tables }) → AreKept (graph_records n names version start tables)
-  graph_kept q None tables own_graph = tt
-  graph_kept q (Some leg) tables own_graph =
-      (leg_kept (codes "start") (moment_text (dep_of n leg.enter.0)) leg own_graph.starts.is_leg refl (moment_kept (dep_of n leg.enter.0)), tables_kept tables own_graph.tables)
-
-  graph_tells : (q : Query) (start : Option Leg) (tables : List PlaceTable) → IsFit n q (record { start = start; tables = tables }) → All (IsToldTable n version) tables
-      → AreGraphRows n names version q.source.0 start tables (graph_records n names version start tables)
-  graph_tells q None tables own_graph all = refl
-  graph_tells q (Some leg) tables own_graph all =
-      let enter = valid.connections leg.enter.0 own_graph.starts.is_leg.enter in (
-        leg_tells (codes "start") q.source.0 (dep_of n leg.enter.0) leg own_graph.starts.is_leg (omega (arith, enter.forward, enter.early))
-            (by_version (λ v. IsTold n v q.source.0 leg) own_graph.starts.leaves tt version),
-        tables_tell tables all,
+  graph_back : (q : Query) (start : Option Leg) (tables : List PlaceTable) → IsFit n q (record { start = start; tables = tables })
+      → All (IsToldTable n version) tables
+      → AreKept (graph_records n names version start tables) × AreGraphRows n names version q.source.0 start tables (graph_records n names version start tables)
+  graph_back q None tables own_graph all = (tt, refl)
+  graph_back q (Some leg) tables own_graph all =
+      let enter = valid.connections leg.enter.0 own_graph.starts.is_leg.enter in
+      let told = by_version (λ v. IsTold n v q.source.0 leg) own_graph.starts.leaves tt version in
+      let rest = tables_back tables all in (
+        (leg_kept (codes "start") (moment_text (dep_of n leg.enter.0)) leg own_graph.starts.is_leg refl (moment_kept (dep_of n leg.enter.0)), rest.0),
+        (leg_tells (codes "start") q.source.0 (dep_of n leg.enter.0) leg own_graph.starts.is_leg (omega (arith, enter.forward, enter.early)) told, rest.1),
       )
 
   is_text_of : (head : Head) (start : Option Leg) (tables : List PlaceTable) → IsPrintableQuery n head.query → head.query.start.0 ≤ head.query.deadline.0
@@ -275,14 +266,15 @@ module _ (n : NetworkModel) (names : NameLists) (version : Version) (valid : IsV
       → IsTextOf n names head (record { start = start; tables = tables }) (graph_text_in n names version head (record { start = start; tables = tables }))
   is_text_of head start tables asked in_time bounds small own_graph all =
       let records = graph_records n names version start tables in
+      let back = graph_back head.query start tables own_graph all in
       record {
         version = version;
         first = head_record names version head;
         others = records;
         table = ap table_of (graph_printed head start tables own_graph)
-            ∙ table_back (head_record names version head ∷ records) (head_kept head asked, graph_kept head.query start tables own_graph) (no_mark _ records);
+            ∙ table_back (head_record names version head ∷ records) (head_kept head asked, back.0) (no_mark _ records);
         head_row = head_tells head asked bounds small;
-        are_rows = graph_tells head.query start tables own_graph all;
+        are_rows = back.1;
         fit = own_graph;
         in_time = in_time;
         bounds = bounds;

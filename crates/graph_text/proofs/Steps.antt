@@ -39,23 +39,18 @@ pub fault_on : {A B : Type 0} (fault : TextFault) (told : Result A TextFault) (n
 fault_on f.NoMemory told next is = tt
 fault_on _ told next is = ap (λ r. and_then r next) is
 
-pub ok_on : {A B : Type 0} (told : Result A TextFault) (a : A) (next : A → Result B TextFault) (r : Result B TextFault) → told ≡ Ok a → IsUnlessNoMemory r (next a)
-    → IsUnlessNoMemory r (and_then told next)
-ok_on {A} {B} told a next r is read = subst (λ (t : Result A TextFault). IsUnlessNoMemory r (and_then t next)) (sym is) read
-
 -- the tables of the records from one on, after the step of this one
 pub tables_after : (n : NetworkModel) (names : NameLists) (version : Version) (rows : List (List (List ℕ))) (line i : ℕ) (s now : Reading) → i < length rows
     → step n names version line (slice_index_or rows i []) s ≡ Ok now
     → place_tables_from n names version (drop i rows) line s ≡ place_tables_from n names version (drop (i + 1) rows) (line + 1) now
 tables_after n names version rows line i s now within is =
-    ap (λ (list : List (List (List ℕ))). place_tables_from n names version list line s) (split_at rows i [] within)
-    ∙ ap (λ (told : Result Reading TextFault). and_then told (place_tables_from n names version (drop (i + 1) rows) (line + 1))) is
+    rw (split_at rows i [] within, is) refl
 
 pub tables_fail : (n : NetworkModel) (names : NameLists) (version : Version) (rows : List (List (List ℕ))) (line i : ℕ) (s : Reading) (fault : TextFault)
     → i < length rows → IsUnlessNoMemory {A = Reading} (Err fault) (step n names version line (slice_index_or rows i []) s)
     → IsUnlessNoMemory {A = List PlaceTable} (Err fault) (place_tables_from n names version (drop i rows) line s)
 tables_fail n names version rows line i s fault within told =
-    subst (λ (list : List (List (List ℕ))). IsUnlessNoMemory {A = List PlaceTable} (Err fault) (place_tables_from n names version list line s)) (sym (split_at rows i [] within))
+    rw (split_at rows i [] within)
     (fault_on fault (step n names version line (slice_index_or rows i []) s) (place_tables_from n names version (drop (i + 1) rows) (line + 1)) told)
 
 -- a table's records
@@ -70,8 +65,4 @@ pub told_by : (n : NetworkModel) (names : NameLists) (version : Version) (source
     → IsUnlessNoMemory r (and_then (graph_after_first n names version source target start (drop 1 rows)) (λ graph. Ok (head, graph)))
     → IsUnlessNoMemory r (graph_of_records n names source target start rows)
 told_by n names version source target start rows head r some found is read =
-    subst (λ (t : List (List (List ℕ))). IsUnlessNoMemory r (graph_of_records n names source target start t)) (sym (first_split rows some))
-    (subst (λ (v : Option Version). IsUnlessNoMemory r (require v (f.Row 1) (λ own. and_then (head_in names own source target start (slice_index_or rows 0 []))
-    (λ h. and_then (graph_after_first n names own source target start (drop 1 rows)) (λ graph. Ok (h, graph)))))) found
-    (ok_on (head_in names version source target start (slice_index_or rows 0 [])) head
-    (λ h. and_then (graph_after_first n names version source target start (drop 1 rows)) (λ graph. Ok (h, graph))) r (sym is) read))
+    rw (first_split rows some, ← found, ← is) read

@@ -89,6 +89,14 @@ leg_row_is s now (Ok row) is = (row, refl, is)
 leg_row_is s now (Err e) is = absurd (cc)
 
 module _ (n : NetworkModel) (names : NameLists) (version : Version) where
+  -- these rows tell the rows of a table that are to come
+  abbrev AreLater : ℕ → Option ℕ → List GraphRow → List (List (List ℕ)) → Type 0
+  AreLater place by later own = AreLegRows n names version place later own × All (IsFitRow n place) later × RiseFrom by_number by later
+
+  -- and these the tables that are to come
+  abbrev AreMore : Option ℕ → List PlaceTable → List (List (List ℕ)) → Type 0
+  AreMore place more rest = AreTableRows n names version more rest × All (IsFitTable n) more × RiseFrom place_number place more
+
   -- the rows that are left are those of the table that is open, as many as are to come, and then those of further tables
   record Continues (s : Reading) (rs : List (List (List ℕ))) (tables : List PlaceTable) : Type 0 where
     later : List GraphRow
@@ -97,12 +105,8 @@ module _ (n : NetworkModel) (names : NameLists) (version : Version) where
     more : List PlaceTable
     split : rs ≡ own ++ rest
     many : length later ≡ s.left
-    legs : AreLegRows n names version (place_or_first s.place).0 later own
-    fits : All (IsFitRow n (place_or_first s.place).0) later
-    rise : RiseFrom by_number (option_map (λ moment. moment.0) s.by) later
-    table_rows : AreTableRows n names version more rest
-    tables_fit : All (IsFitTable n) more
-    tables_rise : RiseFrom place_number (option_map (λ place. place.0) s.place) more
+    legs : AreLater (place_or_first s.place).0 (option_map (λ moment. moment.0) s.by) later own
+    table_rows : AreMore (option_map (λ place. place.0) s.place) more rest
     closed : s.left ≡ 0 → tables ≡ s.done ++ more
     opened : (s.left ≡ 0 → ⊥) → tables ≡ s.done ++ (record { place = place_or_first s.place; rows = s.rows ++ later }) ∷ more
 
@@ -117,7 +121,7 @@ module _ (n : NetworkModel) (names : NameLists) (version : Version) where
     with_place t none is next =
         let told = table_told n names version line r (option_map (λ place. place.0) s.place) t is in
         let table : IsFitTable n (record { place = t.place; rows = next.later }) =
-        record { some = omega (arith, next.many, told.2); rows = next.fits; rising = pairs_from_rise by_number None next.later next.rise } in
+        record { some = omega (arith, next.many, told.2); rows = next.legs.1; rising = pairs_from_rise by_number None next.later next.legs.2 } in
         record {
           later = [];
           own = [];
@@ -125,12 +129,12 @@ module _ (n : NetworkModel) (names : NameLists) (version : Version) where
           more = (record { place = t.place; rows = next.later }) ∷ next.more;
           split = refl;
           many = sym none;
-          legs = tt;
-          fits = All-nil (IsFitRow n (place_or_first s.place).0);
-          rise = tt;
-          table_rows = (subst (λ k. IsPlaceRow n names version t.place.0 k r) (sym next.many) told.1, (next.own, next.rest, next.split, next.legs, next.table_rows));
-          tables_fit = All-cons (IsFitTable n) (record { place = t.place; rows = next.later }) next.more table next.tables_fit;
-          tables_rise = (told.0, next.tables_rise);
+          legs = (tt, All-nil (IsFitRow n (place_or_first s.place).0), tt);
+          table_rows = (
+            (subst (λ k. IsPlaceRow n names version t.place.0 k r) (sym next.many) told.1, (next.own, next.rest, next.split, next.legs.0, next.table_rows.0)),
+            All-cons (IsFitTable n) (record { place = t.place; rows = next.later }) next.more table next.table_rows.1,
+            (told.0, next.table_rows.2),
+          );
           closed = λ zero_left. next.opened (λ no_rows. omega (arith, no_rows, told.2));
           opened = λ some. absurd (some none);
         }
@@ -139,7 +143,7 @@ module _ (n : NetworkModel) (names : NameLists) (version : Version) where
       with_last : s.left ≡ 1 → Continues (after_last s row) rs tables → Continues s (r ∷ rs) tables
       with_last one next =
           let told = row_told n names version line r (place_or_first s.place).0 (option_map (λ moment. moment.0) s.by) row is in
-          let none = no_rows (place_or_first s.place).0 next.later next.own next.many next.legs in
+          let none = no_rows (place_or_first s.place).0 next.later next.own next.many next.legs.0 in
           record {
             later = row ∷ [];
             own = r ∷ [];
@@ -147,12 +151,12 @@ module _ (n : NetworkModel) (names : NameLists) (version : Version) where
             more = next.more;
             split = ap (λ (list : List (List (List ℕ))). r ∷ list) (next.split ∙ ap (λ (list : List (List (List ℕ))). list ++ next.rest) none);
             many = sym one;
-            legs = (told.1, tt);
-            fits = All-cons (IsFitRow n (place_or_first s.place).0) row [] told.2 (All-nil (IsFitRow n (place_or_first s.place).0));
-            rise = (told.0, tt);
+            legs = (
+              (told.1, tt),
+              All-cons (IsFitRow n (place_or_first s.place).0) row [] told.2 (All-nil (IsFitRow n (place_or_first s.place).0)),
+              (told.0, tt),
+            );
             table_rows = next.table_rows;
-            tables_fit = next.tables_fit;
-            tables_rise = next.tables_rise;
             closed = λ none_left. absurd (omega (arith, none_left, one));
             opened = λ some. next.closed refl ∙ append_assoc s.done ((record { place = place_or_first s.place; rows = s.rows ++ row ∷ [] }) ∷ []) next.more;
           }
@@ -167,12 +171,8 @@ module _ (n : NetworkModel) (names : NameLists) (version : Version) where
             more = next.more;
             split = ap (λ (list : List (List (List ℕ))). r ∷ list) next.split;
             many = let fewer = next.many in omega arith;
-            legs = (told.1, next.legs);
-            fits = All-cons (IsFitRow n (place_or_first s.place).0) row next.later told.2 next.fits;
-            rise = (told.0, next.rise);
+            legs = ((told.1, next.legs.0), All-cons (IsFitRow n (place_or_first s.place).0) row next.later told.2 next.legs.1, (told.0, next.legs.2));
             table_rows = next.table_rows;
-            tables_fit = next.tables_fit;
-            tables_rise = next.tables_rise;
             closed = λ none_left. absurd (some none_left);
             opened = λ more. next.opened (λ none_left. omega arith)
                 ∙ ap (λ (rows : List GraphRow). s.done ++ (record { place = place_or_first s.place; rows = rows }) ∷ next.more) (append_assoc s.rows (row ∷ []) next.later);
@@ -209,12 +209,8 @@ module _ (n : NetworkModel) (names : NameLists) (version : Version) where
         more = [];
         split = refl;
         many = sym none;
-        legs = tt;
-        fits = All-nil (IsFitRow n (place_or_first s.place).0);
-        rise = tt;
-        table_rows = tt;
-        tables_fit = All-nil (IsFitTable n);
-        tables_rise = tt;
+        legs = (tt, All-nil (IsFitRow n (place_or_first s.place).0), tt);
+        table_rows = (tt, All-nil (IsFitTable n), tt);
         closed = λ zero_left. sym (append-nil s.done ∙ same);
         opened = λ some. absurd (some none);
       }
@@ -227,10 +223,10 @@ module _ (n : NetworkModel) (names : NameLists) (version : Version) where
       → AreTableRows n names version tables rs × All (IsFitTable n) tables × AllPairs (λ a b. a.place.0 < b.place.0) tables
   all_told rs line tables is =
       let told = tables_told rs line no_tables tables is in
-      let own = no_rows 0 told.later told.own told.many told.legs in
+      let own = no_rows 0 told.later told.own told.many told.legs.0 in
       let same : told.rest ≡ rs = sym (told.split ∙ ap (λ (list : List (List (List ℕ))). list ++ told.rest) own) in
       subst (λ (ts : List PlaceTable). AreTableRows n names version ts rs × All (IsFitTable n) ts × AllPairs (λ a b. a.place.0 < b.place.0) ts) (sym (told.closed refl))
-      (subst (AreTableRows n names version told.more) same told.table_rows, told.tables_fit, pairs_from_rise place_number None told.more told.tables_rise)
+      (subst (AreTableRows n names version told.more) same told.table_rows.0, told.table_rows.1, pairs_from_rise place_number None told.more told.table_rows.2)
 
   -- ---- and the other way round
 
@@ -255,19 +251,17 @@ module _ (n : NetworkModel) (names : NameLists) (version : Version) where
     rows_read [] own rest line done place before last left all size some legs fits rise goes_on = absurd (omega (arith, size, some))
     rows_read (row ∷ rows) [] rest line done place before last left all size some legs fits rise goes_on = absurd legs
     rows_read (row ∷ []) (r ∷ []) rest line done place before last left all size some legs fits rise goes_on =
-        ap (λ (told : Result Reading TextFault). and_then told (place_tables_from n names version rest (line + 1)))
-        (row_step line r done place before last left row (λ none. omega (arith, none, some)) legs.0 (All-head (IsFitRow n place.0) row [] fits) rise.0
-        ∙ last_row (with_rows done place before last left) row size)
-        ∙ goes_on (line + 1)
+        rw (row_step line r done place before last left row (λ none. omega (arith, none, some)) legs.0 (All-head (IsFitRow n place.0) row [] fits) rise.0
+        ∙ last_row (with_rows done place before last left) row size) (goes_on (line + 1))
     rows_read (row ∷ []) (r ∷ x ∷ own) rest line done place before last left all size some legs fits rise goes_on = absurd legs.1
     rows_read (row ∷ next ∷ rows) (r ∷ own) rest line done place before last left all size some legs fits rise goes_on =
-        ap (λ (told : Result Reading TextFault). and_then told (place_tables_from n names version (own ++ rest) (line + 1)))
-        (row_step line r done place before last left row (λ none. omega (arith, none, some)) legs.0 (All-head (IsFitRow n place.0) row (next ∷ rows) fits) rise.0
+        rw (row_step line r done place before last left row (λ none. omega (arith, none, some)) legs.0
+        (All-head (IsFitRow n place.0) row (next ∷ rows) fits) rise.0
         ∙ further_row (with_rows done place before last left) row (λ one. omega (arith, one, size)))
-        ∙ rows_read (next ∷ rows) own rest (line + 1) done place (before ++ row ∷ []) (Some row.by) (left - 1) all (omega (arith, size)) (omega (arith, size)) legs.1
+        (rows_read (next ∷ rows) own rest (line + 1) done place (before ++ row ∷ []) (Some row.by) (left - 1) all (omega (arith, size))
+        (omega (arith, size)) legs.1
         (All-tail (IsFitRow n place.0) row (next ∷ rows) fits) rise.1
-        (λ later. ap (λ (list : List GraphRow). place_tables_from n names version rest later
-        (record { done = done ++ (record { place = place; rows = list }) ∷ []; place = Some place; rows = []; by = None; left = 0 })) (append_assoc before (row ∷ []) (next ∷ rows)) ∙ goes_on later)
+        (λ later. rw (append_assoc before (row ∷ []) (next ∷ rows)) (goes_on later)))
 
     tables_read : (tables : List PlaceTable) (rs : List (List (List ℕ))) (line : ℕ) (done : List PlaceTable) (last : Option PlaceId) → AreTableRows n names version tables rs
         → All (IsFitTable n) tables → RiseFrom place_number (option_map (λ place. place.0) last) tables
@@ -278,13 +272,15 @@ module _ (n : NetworkModel) (names : NameLists) (version : Version) where
     tables_read (t ∷ tables) (r ∷ rs) line done last rows fits rise =
         let (own, rest, split, legs, more) = rows.1 in
         let first = All-head (IsFitTable n) t tables fits in
-        ap (λ (told : Result TableStart TextFault). and_then (after_place_row (record { done = done; place = last; rows = []; by = None; left = 0 }) told)
-        (place_tables_from n names version rs (line + 1)))
-        (table_read n names version line r (option_map (λ place. place.0) last) (record { place = t.place; count = length t.rows }) rise.0 rows.0 first.some)
-        ∙ ap (λ (list : List (List (List ℕ))). place_tables_from n names version list (line + 1) (with_rows done t.place [] None (length t.rows))) split
-        ∙ rows_read t.rows own rest (line + 1) done t.place [] None (length t.rows) (done ++ t ∷ tables) refl first.some legs first.rows (rise_from_pairs by_number t.rows first.rising)
+        rw (
+          table_read n names version line r (option_map (λ place. place.0) last)
+              (record { place = t.place; count = length t.rows }) rise.0 rows.0 first.some,
+          split,
+        )
+        (rows_read t.rows own rest (line + 1) done t.place [] None (length t.rows) (done ++ t ∷ tables) refl first.some legs first.rows
+        (rise_from_pairs by_number t.rows first.rising)
         (λ later. tables_read tables rest later (done ++ t ∷ []) (Some t.place) more (All-tail (IsFitTable n) t tables fits) rise.1
-        ∙ ap (λ (list : List PlaceTable). Ok list) (append_assoc done (t ∷ []) tables))
+        ∙ ap (λ (list : List PlaceTable). Ok list) (append_assoc done (t ∷ []) tables)))
 
     pub all_read : (rs : List (List (List ℕ))) (line : ℕ) (tables : List PlaceTable) → AreTableRows n names version tables rs → All (IsFitTable n) tables
         → AllPairs (λ a b. a.place.0 < b.place.0) tables → place_tables_from n names version rs line no_tables ≡ Ok tables

@@ -9,7 +9,8 @@ loop-ride-preserved c =
     let own = c.args.self.now in
     record {
       between = c.in_ok-put_ride.ensures.between;
-      text = text_more (rides_text own.network.now own.names.now own.version) (ride_text own.network.now own.names.now own.version) (λ x xs. refl) c.args.rides.now c.loop-ride.ride-index
+      text = text_more (rides_text own.network.now own.names.now own.version) (ride_text own.network.now own.names.now own.version)
+          (λ x xs. refl) c.args.rides.now c.loop-ride.ride-index
           c.ride-item.result c.ride-item.result (text_so_far c.put_ride.new.writer) (text_so_far c.loop-ride.writer) _
           c.loop-ride-test.true c.ride-item.is c.in_ok-put_ride.ensures.text c.loop-ride.invariant.text;
     }

@@ -12,6 +12,8 @@ loop-row-preserved c =
     record {
       between = c.in_ok-put_leg.ensures.between;
       text = text_more (rows_text own.network.now own.names.now own.version c.args.kind.now)
-          (λ row. leg_row own.network.now own.names.now own.version c.args.kind.now (moment_text row.by.0) row.leg) (λ x xs. refl) c.args.rows.now c.loop-row.row-index
-          _ _ (text_so_far c.put_leg.new.writer) (text_so_far c.loop-row.writer) _ c.loop-row-test.true refl (rw by at c.in_ok-put_leg.ensures.text) c.loop-row.invariant.text;
+          (λ row. leg_row own.network.now own.names.now own.version c.args.kind.now (moment_text row.by.0) row.leg)
+          (λ x xs. refl) c.args.rows.now c.loop-row.row-index
+          _ _ (text_so_far c.put_leg.new.writer) (text_so_far c.loop-row.writer) _ c.loop-row-test.true refl
+          (rw by at c.in_ok-put_leg.ensures.text) c.loop-row.invariant.text;
     }

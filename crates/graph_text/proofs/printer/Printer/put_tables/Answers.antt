@@ -9,7 +9,8 @@ loop-table-preserved c =
     let own = c.args.self.now in
     record {
       between = c.in_ok-put_table.ensures.between;
-      text = text_more (tables_text own.network.now own.names.now own.version) (table_text own.network.now own.names.now own.version) (λ x xs. refl) c.args.tables.now c.loop-table.table-index
+      text = text_more (tables_text own.network.now own.names.now own.version) (table_text own.network.now own.names.now own.version)
+          (λ x xs. refl) c.args.tables.now c.loop-table.table-index
           c.table-item.result c.table-item.result (text_so_far c.put_table.new.writer) (text_so_far c.loop-table.writer) _
           c.loop-table-test.true c.table-item.is c.in_ok-put_table.ensures.text c.loop-table.invariant.text;
     }
