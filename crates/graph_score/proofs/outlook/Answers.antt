@@ -1,8 +1,7 @@
 use Rattle.std.proofs.Common.{◌≡◌, ◌<◌, ◌-◌, ◌∙◌, List, arith, ap, drop, length, sym, subst}
 use Rattle.std.specs.Prelude.{slice_index_or}
-use Rattle.std.proofs.lemmas.List.{take-append-le, take_all}
+use Rattle.std.proofs.lemmas.List.{take_at, get_or_default}
 use Rattle.plan_model.specs.Network.{count}
-use Rattle.std.proofs.lemmas.List.{get_or_default}
 use Rattle.graph_score.specs.declared.outlooks.Outlook.{Outlook}
 use Rattle.graph_score.specs.Steps.{IsOutlook, no_outlook, ride_by_rows}
 use Rattle.graph_score.proofs.GraphLegs.{rows_fit, start_fits}
@@ -25,8 +24,8 @@ returns c =
     let list = c.as_slice.result.now in
     let kept = c.fill.new.outlooks in
     let many : c.in_ok-outlooks.outlooks.len ≡ length kept = omega (arith, c.in_ok-outlooks.ensures.len, c.count.ensures.count, c.fill.ensures.as_many) in
-    let same : list ≡ kept = c.as_slice.ensures.value ∙ take-append-le c.in_ok-outlooks.outlooks.len kept
-    (drop (length kept) c.in_ok-outlooks.outlooks.items) (omega (arith, many)) ∙ take_all c.in_ok-outlooks.outlooks.len kept (omega (arith, many)) in
+    let same : list ≡ kept = c.as_slice.ensures.value ∙ take_at kept (drop (length kept) c.in_ok-outlooks.outlooks.items) c.in_ok-outlooks.outlooks.len
+    (sym many) in
     let at = subst (λ (outlooks : List Outlook). IsOutlook n q (slice_index_or outlooks leg.exit.0 no_outlook) tree) (sym same) told in
     let within : leg.exit.0 < length list = let size = ap (λ (outlooks : List Outlook). length outlooks) same in omega (arith, size, c.fill.ensures.as_many, there) in
     let own : c.index-as_slice-start.result ≡ slice_index_or list leg.exit.0 no_outlook = c.index-as_slice-start.is ∙ get_or_default list leg.exit.0 c.index-as_slice-start.result no_outlook within in
@@ -38,7 +37,7 @@ bounds-as_slice-start c =
     let there = (start_fits c.args.network.now c.args.query.now c.args.graph.now c.in-Some.start c.requires.fit c.in-Some.is).is_leg.exit in
     let kept = c.fill.new.outlooks in
     let many : c.in_ok-outlooks.outlooks.len ≡ length kept = omega (arith, c.in_ok-outlooks.ensures.len, c.count.ensures.count, c.fill.ensures.as_many) in
-    let same : c.as_slice.result.now ≡ kept = c.as_slice.ensures.value ∙ take-append-le c.in_ok-outlooks.outlooks.len kept
-    (drop (length kept) c.in_ok-outlooks.outlooks.items) (omega (arith, many)) ∙ take_all c.in_ok-outlooks.outlooks.len kept (omega (arith, many)) in
+    let same : c.as_slice.result.now ≡ kept = c.as_slice.ensures.value ∙ take_at kept
+    (drop (length kept) c.in_ok-outlooks.outlooks.items) c.in_ok-outlooks.outlooks.len (sym many) in
     let size = ap (λ (outlooks : List Outlook). length outlooks) same in
     omega (arith, size, c.fill.ensures.as_many, there)
