@@ -6,12 +6,10 @@ pub mod Departures
 pub mod Departing
 pub mod Best
 pub mod Exits
-pub mod Writes
 pub mod Minima
 pub mod PlaceBoards
 pub mod Entries
 pub mod Written
 pub mod ReadRows
 pub mod ReadBack
-pub mod Printed
 pub mod Deadlines

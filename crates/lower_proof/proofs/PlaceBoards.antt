@@ -15,7 +15,7 @@ use Rattle.lower_proof.proofs.SetAt.{get_or-set}
 use Rattle.lower_proof.proofs.Entries.{no_board}
 use Rattle.lower_proof.proofs.Leasts.{least_same}
 use Rattle.plan_model.proofs.Boarding.{boards_later}
-use Rattle.lower_proof.proofs.Writes.{Agree}
+use Rattle.lower_proof.proofs.Exits.{Agree}
 
 -- the least value in time is the least value after the arrival
 pub board_least : (n : NetworkModel) (last : ℕ) (q : Query) (values : List (Option ℕ)) (p x : ℕ) (entries : List Entry) → NoneAfter n values last → AreEntries n last p (count n) entries

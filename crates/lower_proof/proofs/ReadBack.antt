@@ -1,13 +1,14 @@
--- What was printed of a certificate is read back.
-use Rattle.std.proofs.Common.{◌≡◌, ◌≢◌, ℕ, zero, suc, ◌+◌, ◌<◌, ◌≤◌, ◌^◌, Bool, true, List, [], ◌∷◌, length, Option, Some, None, Ok, Err, Result, arith, inl, inr, sym, ◌∙◌, ap, subst, refl}
+-- What was printed of a certificate is read back, and how its rows are printed one after another.
+use Rattle.std.proofs.Common.{◌≡◌, ◌≢◌, ℕ, zero, suc, ◌+◌, ◌<◌, ◌≤◌, ◌^◌, Bool, true, List, [], ◌∷◌, length, Option, Some, None, Ok, Err}
+use Rattle.std.proofs.Common.{Result, arith, inl, inr, sym, ◌∙◌, ap, subst, refl, ◌++◌, drop}
 use Rattle.std.specs.Prelude.{cond, is_some, codes, decimal, if◌then◌else◌, slice_index_or}
 use Rattle.std.specs.List.{count_by}
 use Rattle.std.specs.Result.{result_err}
 use Rattle.std.specs.Option.{option_map}
 use Rattle.std.proofs.Math.Nat.{max-le}
 use Rattle.std.proofs.lemmas.List.Sums.{sum_by-cons}
-use Rattle.std.proofs.lemmas.List.{ext_get_or}
-use Rattle.std.proofs.lemmas.Bool.{eq-eqb, lt-ltb, le-leb}
+use Rattle.std.proofs.lemmas.List.{ext_get_or, append-nil, drop_all}
+use Rattle.std.proofs.lemmas.Bool.{eq-eqb, lt-ltb, le-leb, cases_eq}
 use Rattle.csv.proofs.RoundTrip.{rows_text as text_of_rows}
 use Rattle.csv.specs.Reading.{strip_bom}
 use Rattle.clock_text.specs.Civil.{moment_text, nanos_text, last_printable}
@@ -20,9 +21,9 @@ use Rattle.plan_model.specs.NetworkModel.{NetworkModel}
 use Rattle.plan_model.specs.NameLists.{NameLists, NamesFit, AreNames}
 use Rattle.plan_model.specs.Network.{IsValid, count, run_of, step_of}
 use Rattle.printed_rows.specs.Fields.{whole_at, rises}
-use Rattle.printed_rows.specs.Writers.{place_name, run_name}
+use Rattle.printed_rows.specs.Writers.{place_name, run_name, text_of_records}
 use Rattle.printed_rows.proofs.Found.{connection_back}
-use Rattle.printed_rows.proofs.Lines.{records_printed}
+use Rattle.printed_rows.proofs.Lines.{records_printed, text_step, split_at}
 use Rattle.printed_rows.proofs.Plain.{moment_kept, nanos_kept, decimal_kept, whole_back}
 use Rattle.printed_rows.proofs.Names.{place_kept, run_kept, place_back, run_back, step_kept, step_back}
 use Rattle.printed_rows.proofs.Printed.{IsKept, AreKept, seven_kept, four_kept, table_back}
@@ -32,10 +33,11 @@ use Rattle.lower_proof.specs.declared.reader.ValueRow.{ValueRow}
 use Rattle.lower_proof.specs.declared.reader.ProofFault.{ProofFault}
 use Rattle.lower_proof.specs.declared.reader.ProofFault.TheVariants.{Row}
 use Rattle.lower_proof.specs.Certificates.{bound_of}
-use Rattle.lower_proof.specs.Texts.{bounds_record, value_record, value_records, proof_text}
-use Rattle.lower_proof.specs.Reading.{bounds_numbers, bounds_row_in, bounds_in, value_numbers, value_row_in, connection_in, nanos_in}
-use Rattle.lower_proof.specs.Reading.{told_in, value_row, connection_before, value_fault, IsFaultAfter, AreValuesTold, IsProofTold, IsProofRead}
-use Rattle.lower_proof.specs.Reading.{IsReadBack}
+use Rattle.lower_proof.specs.Texts.{bounds_record, value_record, value_records, proof_text, entry_text}
+use Rattle.lower_proof.specs.Reading.{bounds_numbers, bounds_row_in, bounds_in, value_numbers, value_row_in, connection_in}
+use Rattle.lower_proof.specs.Reading.{nanos_in, told_in, value_row, connection_before}
+use Rattle.lower_proof.specs.Reading.{value_fault, IsFaultAfter, AreValuesTold, IsProofTold, IsProofRead, IsReadBack}
+use Rattle.lower_proof.specs.Steps.{AllFit}
 
 same_query : (a b : Query) → a.source.0 ≡ b.source.0 → a.target.0 ≡ b.target.0 → a.start.0 ≡ b.start.0 → a.deadline ≡ b.deadline → a ≡ b
 same_query a b one two three four = λ i. record {
@@ -104,8 +106,6 @@ module _ (n : NetworkModel) (names : NameLists) where
   -- each value that is there has a row
   row_of_value : (c : ℕ) (values : List (Option ℕ)) (offset v : ℕ) → bound_of values offset ≡ Some v
       → (k : ℕ) × (k < length (value_records n names c values)) × (slice_index_or (value_records n names c values) k [] ≡ value_record n names (c + offset) v)
-  row_of_value c [] offset v is = absurd (cc)
-  row_of_value c (None ∷ values) zero v is = absurd (cc)
   row_of_value c (None ∷ values) (suc offset) v is =
       let own = row_of_value (c + 1) values offset v is in (own.0, own.1, own.2 ∙ shifted c offset v)
   row_of_value c (Some w ∷ values) zero v is =
@@ -114,6 +114,7 @@ module _ (n : NetworkModel) (names : NameLists) where
       (0, omega arith, ap (λ (d : ℕ). value_record n names d w) e ∙ ap (value_record n names (c + 0)) same)
   row_of_value c (Some w ∷ values) (suc offset) v is =
       let own = row_of_value (c + 1) values offset v is in (suc own.0, omega (arith, own.1), own.2 ∙ shifted c offset v)
+  row_of_value c _ _ v is = absurd (cc)
 
 module _ (n : NetworkModel) (names : NameLists) (valid : IsValid n) (fit : NamesFit names n) (own : AreNames names) where
   -- ---- a value row
@@ -298,3 +299,33 @@ module _ (n : NetworkModel) (names : NameLists) (valid : IsValid n) (fit : Names
         let none = (all_told (bounds_record names q values) values as_many small).faultless late.i late.within in
         let both : ◌≡◌ {A = Option ProofFault} (Some fault) None = sym late.here ∙ none in
         absurd (cc)
+
+-- ---- the rows of values, one after another
+
+one_more : (n : NetworkModel) (names : NameLists) (c : ℕ) (x : Option ℕ) (values : List (Option ℕ))
+    → entry_text n names c x ++ text_of_records (value_records n names (c + 1) values) ≡ text_of_records (value_records n names c (x ∷ values))
+one_more n names c None values = refl
+one_more n names c (Some v) values = refl
+
+-- after one entry more
+pub values_step : (n : NetworkModel) (names : NameLists) (values : List (Option ℕ)) (i : ℕ) (new old all : List ℕ) → i < length values
+    → new ≡ old ++ entry_text n names i (slice_index_or values i None) → old ++ text_of_records (value_records n names i (drop i values)) ≡ all
+    → new ++ text_of_records (value_records n names (i + 1) (drop (i + 1) values)) ≡ all
+values_step n names values i new old all within is before =
+    text_step new old (entry_text n names i (slice_index_or values i None)) (text_of_records (value_records n names (i + 1) (drop (i + 1) values))) all is
+    (ap (λ (text : List ℕ). old ++ text) (one_more n names i (slice_index_or values i None) (drop (i + 1) values))
+    ∙ ap (λ (list : List (Option ℕ)). old ++ text_of_records (value_records n names i list)) (sym (split_at values i None within))
+    ∙ before)
+
+-- after the last one
+pub values_done : (n : NetworkModel) (names : NameLists) (values : List (Option ℕ)) (i : ℕ) (new all : List ℕ) → length values ≤ i
+    → new ++ text_of_records (value_records n names i (drop i values)) ≡ all → new ≡ all
+values_done n names values i new all whole is =
+    sym (append-nil new) ∙ ap (λ (list : List (Option ℕ)). new ++ text_of_records (value_records n names i list)) (sym (drop_all i values whole)) ∙ is
+
+-- one more fits
+pub fit_more : (values : List (Option ℕ)) (i : ℕ) → AllFit i values → ((v : ℕ) → slice_index_or values i None ≡ Some v → v < 2 ^ 64) → AllFit (i + 1) values
+fit_more values i before here = λ c v less is. elim (cases_eq c i) [
+  | inl same ↦ here v (subst (λ (k : ℕ). slice_index_or values k None ≡ Some v) same is)
+  | inr differ ↦ before c v (omega (arith, less, differ)) is
+]

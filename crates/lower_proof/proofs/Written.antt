@@ -15,9 +15,8 @@ use Rattle.lower_proof.specs.Minima.{AreBoards, AllLate}
 use Rattle.plan_model.proofs.ScanOrders.{Known, known_left_out}
 use Rattle.lower_proof.proofs.SetAt.{get_or-set}
 use Rattle.lower_proof.proofs.Departing.{Late, all_taken}
-use Rattle.lower_proof.proofs.Exits.{Rides, IsScanned, scanned_first, scanned_is_next, scanned_next, best_ride, none_rides}
+use Rattle.lower_proof.proofs.Exits.{Rides, IsScanned, scanned_first, scanned_is_next, scanned_next, best_ride, none_rides, Agree, rides_agree, scanned_agrees}
 use Rattle.lower_proof.proofs.PlaceBoards.{boards_agree}
-use Rattle.lower_proof.proofs.Writes.{Agree, rides_agree, scanned_agrees}
 
 -- the value that a connection is given: none where it cannot be boarded
 abbrev pub given : Bool → Option ℕ → Option ℕ
