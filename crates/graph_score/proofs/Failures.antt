@@ -1,5 +1,5 @@
 -- The first failure after the outcomes of a ride, and the bounds where there is none.
-use Rattle.std.proofs.Common.{◌≡◌, ℕ, ◌≤◌, ◌⊎◌, Bool, true, false, List, [], ◌∷◌, Option, Some, None, arith, refl, inl, inr, ◌∙◌, ap}
+use Rattle.std.proofs.Common.{◌≡◌, ℕ, suc, ◌≤◌, ◌⊎◌, Bool, true, false, List, [], ◌∷◌, length, Option, Some, None, arith, refl, inl, inr, ◌∙◌, ap}
 use Rattle.std.specs.Prelude.{if◌then◌else◌}
 use Rattle.std.proofs.lemmas.Bool.{cases_lt}
 use Rattle.std.proofs.lemmas.Bool.Decides.{nat_tests}
@@ -17,7 +17,18 @@ use Rattle.graph_score.specs.declared.outlooks.Outlook.TheVariants.{Safe, Failin
 use Rattle.graph_score.specs.Failures.{Fails, FailsIn, IsNotAfter, IsFirstFailure}
 use Rattle.graph_score.specs.Spans.{span_of, spans_of}
 use Rattle.graph_score.specs.Steps.{is_sooner, sooner_failure, with_outlook, first_failure_of, spans_in, mean_or, blend_of, IsOutlook}
-use Rattle.graph_score.proofs.Lists.{first_failure_of-some}
+
+-- a failure is not forgotten
+first_failure_of-some : (f : Failure) (kids : List Outlook) → first_failure_of (Some f) kids ≡ None → ⊥
+first_failure_of-some f [] none = cc none
+first_failure_of-some f (Safe span ∷ kids) none = first_failure_of-some f kids none
+first_failure_of-some f (Failing g ∷ kids) none = first_failure_of-some (sooner_failure (Some f) g) kids none
+
+-- where none fails there are bounds of each
+pub length_spans : (kids : List Outlook) → first_failure_of None kids ≡ None → length (spans_in kids) ≡ length kids
+length_spans [] none = refl
+length_spans (Safe span ∷ kids) none = ap suc (length_spans kids none)
+length_spans (Failing g ∷ kids) none = absurd (first_failure_of-some g kids none)
 
 abbrev May : Type 1
 May = ℕ → ℕ → Type 0

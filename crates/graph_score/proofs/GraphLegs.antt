@@ -16,7 +16,7 @@ use Rattle.plan_graph.specs.Tidy.{IsFit, IsFitStart, IsFitRow}
 use Rattle.plan_model.proofs.Lists.{Contains-head, Contains-map, All-from_contains}
 use Rattle.graph_score.specs.declared.legs.GraphLeg.{GraphLeg}
 use Rattle.graph_score.specs.declared.legs.GraphLeg.TheVariants.{Start, Row}
-use Rattle.graph_score.specs.Legs.{HasRisingTables, IsFitLeg, IsFirstWrong, start_leg, legs_in, legs_of}
+use Rattle.graph_score.specs.Legs.{IsFitLeg, IsFirstWrong, start_leg, legs_in, legs_of}
 use Rattle.graph_score.specs.Steps.{AreFitRows}
 
 -- a row that fits stands at a place of the network
@@ -77,15 +77,7 @@ start_fits n q graph leg each is =
     let here = subst (λ (s : Option Leg). All (IsFitLeg n q) (start_leg s)) is (each_left (IsFitLeg n q) (start_leg graph.start) (flat_map legs_in graph.tables) each) in
     here 0 (Start leg) (omega arith)
 
--- a graph that fits rises
-pub fit_rises : (n : NetworkModel) (q : Query) (graph : PlanGraph) → IsFit n q graph → HasRisingTables graph
-fit_rises n q graph fit = record {
-  places = fit.rising;
-  rows = λ k d within. (fit.tables k d within).rising;
-  some = λ k d within. (fit.tables k d within).some;
-}
-
--- and each of its legs fits
+-- each leg of a graph that fits does
 pub fit_legs : (n : NetworkModel) (q : Query) (graph : PlanGraph) → IsFit n q graph → All (IsFitLeg n q) (legs_of graph)
 fit_legs n q graph fit = by_start graph.start fit.starts
   where
