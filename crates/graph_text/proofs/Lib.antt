@@ -4,6 +4,5 @@ pub mod Rows
 pub mod Steps
 pub mod Tables
 pub mod Accepted
-pub mod Printed
 pub mod ReadBack
 mod Leaving

@@ -10,6 +10,7 @@ use Rattle.std.proofs.lemmas.List.Elements.{All-cons, All-nil, All-head, All-tai
 use Rattle.std.proofs.lemmas.Map.Keys.{IsDistinct-from_apart}
 use Rattle.std.proofs.lemmas.Map.Views.{Contains-from_any}
 use Rattle.std.proofs.lemmas.Map.Steps.{length-le_from_distinct_below}
+use Rattle.csv.specs.Writing.{default_writer, row_text}
 use Rattle.csv.proofs.RoundTrip.{rows_text as text_of_rows}
 use Rattle.csv.specs.Reading.{strip_bom}
 use Rattle.clock_text.specs.Civil.{moment_text, nanos_text, last_printable}
@@ -42,9 +43,26 @@ use Rattle.printed_rows.proofs.Names.{place_kept, run_kept, place_back, run_back
 use Rattle.graph_text.proofs.Laws.{limit_soon, place_there}
 use Rattle.graph_text.proofs.Accepted.{text_read}
 use Rattle.printed_rows.proofs.Plain.{moment_kept, nanos_kept, decimal_kept, whole_back}
-use Rattle.graph_text.proofs.Printed.{by_version, fields_kept, rows-append}
 use Rattle.printed_rows.proofs.Printed.{IsKept, AreKept, kept-append, table_back}
 use Rattle.plan_model.specs.Bounds.{most_connections}
+
+-- what holds of either version holds of each
+by_version : (P : Version → Type 0) → P First → P Second → (version : Version) → P version
+by_version P first second First = first
+by_version P first second Second = second
+
+fields_kept : (version : Version) (a b c d e f g h last : List ℕ) → trimmed_text a ≡ a → trimmed_text b ≡ b → trimmed_text c ≡ c → trimmed_text d ≡ d → trimmed_text e ≡ e
+    → trimmed_text f ≡ f → trimmed_text g ≡ g → trimmed_text h ≡ h → trimmed_text last ≡ last
+    → IsKept (a ∷ b ∷ c ∷ d ∷ e ∷ f ∷ g ∷ h ∷ ninth version last)
+fields_kept First a b c d e f g h last one two three four five six seven eight nine = cc
+fields_kept Second a b c d e f g h last one two three four five six seven eight nine = cc
+
+rows-append : (rows more : List (List (List ℕ))) → text_of_rows (rows ++ more) ≡ text_of_rows rows ++ text_of_rows more
+unfolding text_of_rows
+rows-append [] more = refl
+rows-append (row ∷ rows) more =
+    ap (λ (text : List ℕ). row_text default_writer row ++ text) (rows-append rows more)
+    ∙ sym (append_assoc (row_text default_writer row) (text_of_rows rows) (text_of_rows more))
 
 -- the records of a leg, of a table's rows, of a place, and of all tables
 abbrev leg_record : NetworkModel → NameLists → Version → List ℕ → List ℕ → Leg → List (List ℕ)

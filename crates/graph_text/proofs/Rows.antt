@@ -105,18 +105,10 @@ module _ (n : NetworkModel) (names : NameLists) (version : Version) (kind : List
     known = leg_names (run_of n leg.enter.0) (to_of n leg.exit.0) (from_of n leg.enter.0)
 
     numbers_read : leg_row_in version kind r ≡ Some numbers
-    numbers_read = rw told.is_of_kind (by_fields _ _ _ _ _ told.by told.enter told.departure told.exit told.arrival)
-      where
-        by_fields : (a b c d e : Option ℕ) → a ≡ Some moment → b ≡ Some (step_of n leg.enter.0) → c ≡ Some (dep_of n leg.enter.0) → d ≡ Some (step_of n leg.exit.0) → e ≡ Some (arr_of n leg.exit.0)
-            → leg_numbers a b c d e ≡ Some numbers
-        by_fields a b c d e one two three four five = rw (one, two, three, four, five) refl
+    numbers_read = rw (told.is_of_kind, told.by, told.enter, told.departure, told.exit, told.arrival) refl
 
     names_read : names_in version names place r ≡ Some known
-    names_read = by_fields _ _ _ told.run told.to told.from
-      where
-        by_fields : (a b c : Option ℕ) → a ≡ Some (run_of n leg.enter.0) → b ≡ Some (to_of n leg.exit.0) → c ≡ Some (from_of n leg.enter.0)
-            → option_and_then (λ run. option_and_then (λ exit. option_map (λ entry. leg_names run exit entry) c) b) a ≡ Some known
-        by_fields a b c one two three = rw (one, two, three) refl
+    names_read = rw (told.run, told.to, told.from) refl
 
     all_agree : agrees n leg.enter.0 leg.exit.0 numbers known ≡ true
     all_agree = rw (
@@ -130,12 +122,9 @@ module _ (n : NetworkModel) (names : NameLists) (version : Version) (kind : List
     ) refl
 
     found_read : leg_found n numbers known ≡ Some leg
-    found_read = by_ends _ _ (connection_back n valid leg.enter.0 is_leg.enter)
-        (ap (λ (run : ℕ). connection_of n run (step_of n leg.exit.0)) is_leg.one_run ∙ connection_back n valid leg.exit.0 is_leg.exit)
-      where
-        by_ends : (a b : Option ℕ) → a ≡ Some leg.enter.0 → b ≡ Some leg.exit.0
-            → option_and_then (λ i. option_and_then (λ j. if agrees n i j numbers known then Some (leg_between i j) else None) b) a ≡ Some leg
-        by_ends a b one two = rw (one, two, all_agree) refl
+    found_read =
+        let exit = ap (λ (run : ℕ). connection_of n run (step_of n leg.exit.0)) is_leg.one_run ∙ connection_back n valid leg.exit.0 is_leg.exit in
+        rw (connection_back n valid leg.enter.0 is_leg.enter, exit, all_agree) refl
 
 -- ---- the rows of a graph
 
@@ -223,11 +212,7 @@ module _ (n : NetworkModel) (names : NameLists) (version : Version) (line : ℕ)
 
   pub table_read : (last : Option ℕ) (t : TableStart) → rises last t.place.0 ≡ true → IsPlaceRow n names version t.place.0 t.count r → 1 ≤ t.count → table_in n names version line last r ≡ Ok t
   table_read last t later told some =
-      let numbers : place_row_in version r ≡ Some (record { change = change_of n t.place.0; count = t.count }) = rw told.is_of_kind (by_fields _ _ told.change told.rows) in
-      rw (numbers, told.name, later, eq-eqb (change_of n t.place.0) (change_of n t.place.0) refl) refl
-    where
-      by_fields : (a b : Option ℕ) → a ≡ Some (change_of n t.place.0) → b ≡ Some t.count → place_numbers a b ≡ Some (record { change = change_of n t.place.0; count = t.count })
-      by_fields a b one two = rw (one, two, le-leb 1 t.count some) refl
+      rw (told.is_of_kind, told.change, told.rows, le-leb 1 t.count some, told.name, later, eq-eqb (change_of n t.place.0) (change_of n t.place.0) refl) refl
 
 -- the first row
 module _ (names : NameLists) (version : Version) (r : List (List ℕ)) (number : version_in r ≡ Some version) where
@@ -276,10 +261,17 @@ module _ (names : NameLists) (version : Version) (r : List (List ℕ)) (number :
       → head_in names version head.query.source.0 head.query.target.0 head.query.start.0 r ≡ Ok head
   head_read head told in_time bounds =
       let q = head.query in
-      let numbers : head_row_in version r ≡ Some (record { start = q.start; deadline = q.deadline; lo = head.bounds.lo; hi = head.bounds.hi }) =
-      rw told.is_of_kind (by_fields _ _ _ _ told.start told.deadline told.lo told.hi) in
-      rw (numbers, told.source, told.target, eq-eqb q.source.0 q.source.0 refl, eq-eqb q.target.0 q.target.0 refl, eq-eqb q.start.0 q.start.0 refl) refl
-    where
-      by_fields : (a b c d : Option ℕ) → a ≡ Some head.query.start.0 → b ≡ Some head.query.deadline.0 → c ≡ Some head.bounds.lo → d ≡ Some head.bounds.hi
-          → head_numbers a b c d ≡ Some (record { start = head.query.start; deadline = head.query.deadline; lo = head.bounds.lo; hi = head.bounds.hi })
-      by_fields a b c d one two three four = rw (one, two, three, four, le-leb head.query.start.0 head.query.deadline.0 in_time, le-leb head.bounds.lo head.bounds.hi bounds) refl
+      rw (
+        told.is_of_kind,
+        told.start,
+        told.deadline,
+        told.lo,
+        told.hi,
+        le-leb q.start.0 q.deadline.0 in_time,
+        le-leb head.bounds.lo head.bounds.hi bounds,
+        told.source,
+        told.target,
+        eq-eqb q.source.0 q.source.0 refl,
+        eq-eqb q.target.0 q.target.0 refl,
+        eq-eqb q.start.0 q.start.0 refl,
+      ) refl
