@@ -12,7 +12,6 @@ use Rattle.std.proofs.lemmas.Bool.{eq-eqb, lt-ltb, le-leb, cases_eq}
 use Rattle.csv.proofs.RoundTrip.{rows_text as text_of_rows}
 use Rattle.csv.specs.Reading.{strip_bom}
 use Rattle.clock_text.specs.Civil.{moment_text, nanos_text, last_printable}
-use Rattle.clock_text.specs.Times.{moment_at}
 use Rattle.clock_text.proofs.Walk.{text_tells}
 use Rattle.clock_text.proofs.NanosLemmas.{nanos_tell}
 use Rattle.csv_rows.specs.Tables.{table_of, row_count, header}
@@ -31,7 +30,6 @@ use Rattle.lower_proof.specs.declared.LowerBounds.{LowerBounds}
 use Rattle.lower_proof.specs.declared.reader.BoundsRow.{BoundsRow}
 use Rattle.lower_proof.specs.declared.reader.ValueRow.{ValueRow}
 use Rattle.lower_proof.specs.declared.reader.ProofFault.{ProofFault}
-use Rattle.lower_proof.specs.declared.reader.ProofFault.TheVariants.{Row}
 use Rattle.lower_proof.specs.Certificates.{bound_of}
 use Rattle.lower_proof.specs.Texts.{bounds_record, value_record, value_records, proof_text, entry_text}
 use Rattle.lower_proof.specs.Reading.{bounds_numbers, bounds_row_in, bounds_in, value_numbers, value_row_in, connection_in}
@@ -132,10 +130,7 @@ module _ (n : NetworkModel) (names : NameLists) (valid : IsValid n) (fit : Names
   numbers c v = record { step = step_of n c; value = v }
 
   numbers_back : (c v : ℕ) → c < count n → v < 2 ^ 64 → value_row_in (value_record n names c v) ≡ Some (numbers c v)
-  numbers_back c v there small = both _ _ (step_back n valid c there) (nanos_tell v small)
-    where
-      both : (a b : Option ℕ) → a ≡ Some (step_of n c) → b ≡ Some v → value_numbers a b ≡ Some (numbers c v)
-      both a b one two = rw (one, two) refl
+  numbers_back c v there small = rw (step_back n valid c there, nanos_tell v small) refl
 
   value_back : (c v : ℕ) → c < count n → v < 2 ^ 64 → nanos_in (value_record n names c v) ≡ Some v
   value_back c v there small = ap (option_map (λ (x : ValueRow). x.value)) (numbers_back c v there small)
@@ -254,11 +249,7 @@ module _ (n : NetworkModel) (names : NameLists) (valid : IsValid n) (fit : Names
 
     bounds_row_back : bounds_row_in (bounds_record names q values) ≡ Some bounds
     bounds_row_back =
-        three (moment_at (moment_text q.start.0)) (moment_at (moment_text q.deadline.0)) (whole_at (decimal (count_by is_some values)))
-        (text_tells q.start.0 start) (text_tells q.deadline.0 deadline) (whole_back (count_by is_some values) few)
-      where
-        three : (a b d : Option ℕ) → a ≡ Some q.start.0 → b ≡ Some q.deadline.0 → d ≡ Some (count_by is_some values) → bounds_numbers a b d ≡ Some bounds
-        three a b d one two more = rw (one, two, more, le-leb q.start.0 q.deadline.0 in_time) refl
+        rw (text_tells q.start.0 start, text_tells q.deadline.0 deadline, whole_back (count_by is_some values) few, le-leb q.start.0 q.deadline.0 in_time) refl
 
     bounds_back : bounds_in names q.source.0 q.target.0 q.start.0 (bounds_record names q values) ≡ Ok bounds
     bounds_back = rw (

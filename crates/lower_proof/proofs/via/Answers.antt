@@ -5,9 +5,8 @@ use Rattle.lower_proof.proofs.via.Goals as goal
 
 pub returns-in-None-clause-via : goal.returns-in-None-clause-via
 returns-in-None-clause-via c =
-    let boards = c.loop-outcome.invariant.boards in
     let none = rw (c.from.ensures, c.row-outcome-items.ensures.outcomes, c.get-connection.ensures.connection) at
-    (c.in-None.ensures.least c.args.network.now c.args.scope.now.last.0 boards) in
+    (c.in-None.ensures.least c.args.network.now c.args.scope.now.last.0 c.loop-outcome.invariant.boards) in
     let within = rw (c.row-outcome-items.ensures.outcomes, c.get-connection.ensures.connection) at c.loop-outcome-test.true in
     never_via c.args.network.now c.args.scope.now.query c.args.values.now c.args.id.0 c.loop-outcome.outcome-index within none
 

@@ -55,6 +55,5 @@ loop-k-preserved c =
 
 pub returns-clause-entries : goal.returns-clause-entries
 returns-clause-entries c last have =
-    let n = c.args.network.now in
     let ways_are = rw c.get-connection.ensures.connection at c.way_count-k-end.ensures in
-    all_ways n last c.args.id.0 c.loop-k.boards c.loop-k.k (omega (arith, ways_are)) (c.loop-k.invariant.ways last have)
+    all_ways c.args.network.now last c.args.id.0 c.loop-k.boards c.loop-k.k (omega (arith, ways_are)) (c.loop-k.invariant.ways last have)

@@ -1,6 +1,5 @@
 use Rattle.std.proofs.Common.{◌≡◌, ◌++◌, ◌∙◌, ℕ, List, subst, ap}
 use Rattle.std.specs.Prelude.{OnOk, decimal}
-use Rattle.printed_rows.specs.Writers.{row_of_fields, text_so_far}
 use Rattle.printed_rows.proofs.Lines.{seven_fields, name_is}
 use Rattle.lower_proof.proofs.printer.put_bounds.Goals as goal
 

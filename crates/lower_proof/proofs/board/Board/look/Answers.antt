@@ -15,7 +15,6 @@ returns-clause-least c =
     let entries = c.self.inside.entries.items in
     let wanted = c.count_in_time-wanted.result in
     let known = c.self.inside.known in
-    let x = c.args.arrival.0 in
     let is = c.deref.ensures.value in
     let within : wanted ≤ length entries = rw is at c.count_in_time-wanted.ensures.within in
     let in_time = rw is at c.count_in_time-wanted.ensures.in_time in
@@ -32,7 +31,7 @@ returns-clause-least c =
           let at : w.index.result.now ≡ least_of c.extend.new.least (wanted - 1) = get_or_read c.extend.new.least (wanted - 1) w.index.result.now (omega arith) read None in
           rw (w.result-is, at) (before_is values entries c.extend.new.least wanted (max known wanted) some (omega arith) minima)
     ] in
-    front_in_time values entries x wanted within in_time late c.if-wanted-eq0.result front
+    front_in_time values entries c.args.arrival.0 wanted within in_time late c.if-wanted-eq0.result front
 
 pub returns-clause-board : goal.returns-clause-board
 returns-clause-board c =
