@@ -52,7 +52,8 @@ module _ (shift start : ℕ) (m : NetworkModel) where
     inside : (i : ℕ) → i < count seen → i < count m
     inside i h = omega (arith, h, as_many)
 
-    parts_at : (i : ℕ) → i < count m → (run_of seen i ≡ run_of m i) × (step_of seen i ≡ step_of m i) × (dep_of seen i ≡ dep_of m i - shift) × (arr_of seen i ≡ arr_of m i - shift)
+    parts_at : (i : ℕ) → i < count m → (run_of seen i ≡ run_of m i) × (step_of seen i ≡ step_of m i) × (dep_of seen i ≡ dep_of m i - shift) ×
+        (arr_of seen i ≡ arr_of m i - shift)
     parts_at i h =
         let e = at i h in
         (ap (λ (c : Connection). c.run.0) e, ap (λ (c : Connection). c.step) e, ap (λ (c : Connection). c.dep.0) e, ap (λ (c : Connection). c.arr.0) e)
