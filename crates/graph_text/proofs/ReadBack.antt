@@ -4,9 +4,10 @@ use Rattle.std.proofs.Common.{AllPairs, arith, sym, refl, ap, ◌∙◌, append_
 use Rattle.std.specs.Prelude.{◌==◌, if◌then◌else◌, slice_index_or, decimal, codes, eqb}
 use Rattle.std.specs.Option.{option_and_then}
 use Rattle.std.specs.Cmp.Lexicographic.{bytes_decides}
-use Rattle.std.proofs.lemmas.Bool.{and_parts, eqb-true, eq-eqb, ne_eqb}
+use Rattle.std.proofs.lemmas.Bool.{eqb-true, eq-eqb, ne_eqb}
 use Rattle.std.proofs.lemmas.List.{get_or-map, length-map}
-use Rattle.std.proofs.lemmas.List.Elements.{All-cons, All-nil, All-head, All-tail, All-map, All-contains}
+use Rattle.std.proofs.lemmas.List.Elements.{All-head, All-tail, All-map, All-contains}
+use Rattle.std.proofs.lemmas.List.Recursion.{and_at}
 use Rattle.std.proofs.lemmas.Map.Keys.{IsDistinct-from_apart}
 use Rattle.std.proofs.lemmas.Map.Views.{Contains-from_any}
 use Rattle.std.proofs.lemmas.Map.Steps.{length-le_from_distinct_below}
@@ -51,7 +52,8 @@ by_version : (P : Version → Type 0) → P First → P Second → (version : Ve
 by_version P first second First = first
 by_version P first second Second = second
 
-fields_kept : (version : Version) (a b c d e f g h last : List ℕ) → trimmed_text a ≡ a → trimmed_text b ≡ b → trimmed_text c ≡ c → trimmed_text d ≡ d → trimmed_text e ≡ e
+fields_kept : (version : Version) (a b c d e f g h last : List ℕ) → trimmed_text a ≡ a → trimmed_text b ≡ b → trimmed_text c ≡ c → trimmed_text d ≡ d
+    → trimmed_text e ≡ e
     → trimmed_text f ≡ f → trimmed_text g ≡ g → trimmed_text h ≡ h → trimmed_text last ≡ last
     → IsKept (a ∷ b ∷ c ∷ d ∷ e ∷ f ∷ g ∷ h ∷ ninth version last)
 fields_kept First a b c d e f g h last one two three four five six seven eight nine = cc
@@ -299,22 +301,18 @@ module _ (n : NetworkModel) (names : NameLists) (version : Version) (valid : IsV
       }
 
 -- the version that a graph has can tell it
-rows_told : (n : NetworkModel) (place : ℕ) (rows : List GraphRow) → rows_leave n place rows ≡ true → All (IsFitRow n place) rows → All (IsToldRow n First place) rows
-rows_told n place [] leave fits = All-nil (IsToldRow n First place)
-rows_told n place (row ∷ rows) leave fits =
-    let both = and_parts (from_of n row.leg.enter.0 == place) (rows_leave n place rows) leave in
-    All-cons (IsToldRow n First place) row rows (All-head (IsFitRow n place) row rows fits, eqb-true (from_of n row.leg.enter.0) place both.0)
-    (rows_told n place rows both.1 (All-tail (IsFitRow n place) row rows fits))
-
-tables_told : (n : NetworkModel) (tables : List PlaceTable) → tables_leave n tables ≡ true → All (IsFitTable n) tables → All (IsToldTable n First) tables
-tables_told n [] leave fits = All-nil (IsToldTable n First)
-tables_told n (t ∷ tables) leave fits =
-    let both = and_parts (rows_leave n t.place.0 t.rows) (tables_leave n tables) leave in
-    let first = All-head (IsFitTable n) t tables fits in
-    All-cons (IsToldTable n First) t tables (first, rows_told n t.place.0 t.rows both.0 first.rows) (tables_told n tables both.1 (All-tail (IsFitTable n) t tables fits))
-
 told_by_version : (n : NetworkModel) (tables : List PlaceTable) (leave : Bool) → tables_leave n tables ≡ leave → All (IsFitTable n) tables → All (IsToldTable n (version_by leave)) tables
-told_by_version n tables true leave fits = tables_told n tables leave fits
+told_by_version n tables true leave fits = λ k d within.
+    let t = slice_index_or tables k d in
+    let own = fits k d within in
+    let all = and_at (tables_leave n) (λ t. rows_leave n t.place.0 t.rows) refl (λ x xs. refl) tables k d within leave in (
+      own,
+      λ i e inside. (
+        own.rows i e inside,
+        eqb-true (from_of n (slice_index_or t.rows i e).leg.enter.0) t.place.0
+            (and_at (rows_leave n t.place.0) (λ row. from_of n row.leg.enter.0 == t.place.0) refl (λ x xs. refl) t.rows i e inside all),
+      ),
+    )
 told_by_version n tables false leave fits = λ k d within. let t = fits k d within in (t, λ i e inside. (t.rows i e inside, tt))
 
 -- a graph that fits is printed, and read back

@@ -1,13 +1,12 @@
 -- The rows of tables are read as the tables that they tell, and as no others.
 use Rattle.std.proofs.Common.{◌≡◌, ◌≢◌, ℕ, suc, ◌+◌, ◌-◌, ◌<◌, ◌≤◌, Bool, true, false, List, [], ◌∷◌, ◌++◌, length, Option, Some, None, Ok, Err, Result, All, AllPairs}
-use Rattle.std.proofs.Common.{arith, sym, subst, refl, ◌∙◌, ap, append_assoc}
+use Rattle.std.proofs.Common.{arith, inl, inr, sym, subst, refl, ◌∙◌, ap, append_assoc}
 use Rattle.std.specs.Prelude.{◌==◌, if◌then◌else◌, codes}
 use Rattle.std.specs.Option.{option_map}
-use Rattle.std.proofs.lemmas.Bool.{false≢true, eqb-true, eq-eqb, ne_eqb, ltb-true, lt-ltb}
+use Rattle.std.proofs.lemmas.Bool.{cases_eq, eqb-true, eq-eqb, ne_eqb, ltb-true, lt-ltb}
 use Rattle.std.proofs.lemmas.List.{append-nil}
 use Rattle.std.proofs.lemmas.List.Elements.{All-cons, All-nil, All-head, All-tail}
 use Rattle.std.proofs.lemmas.List.Kept.{AllPairs-cons}
-use Rattle.plan_model.specs.Results.{and_then}
 use Rattle.plan_model.specs.declared.model.Moment.{Moment}
 use Rattle.plan_model.specs.declared.model.PlaceId.{PlaceId}
 use Rattle.plan_model.specs.NetworkModel.{NetworkModel}
@@ -179,23 +178,24 @@ module _ (n : NetworkModel) (names : NameLists) (version : Version) where
           }
 
     after_step : (now : Reading) → step n names version line r s ≡ Ok now → Continues now rs tables → Continues s (r ∷ rs) tables
-    after_step now is next = by_left (s.left == 0) refl is
-      where
-        by_last : (row : GraphRow) → row_in n names version line (place_or_first s.place).0 (option_map (λ moment. moment.0) s.by) r ≡ Ok row → (s.left ≡ 0 → ⊥)
-            → (test : Bool) → (s.left == 1) ≡ test → ◌≡◌ {A = Result Reading TextFault} (if test then Ok (after_last s row) else Ok (after_row s row)) (Ok now) → Continues s (r ∷ rs) tables
-        by_last row told some true one is = let same : after_last s row ≡ now = (cc) in with_last row told (eqb-true s.left 1 one) (subst (λ u. Continues u rs tables) (sym same) next)
-        by_last row told some false many is =
-            let same : after_row s row ≡ now = (cc) in
-            with_row row told some (λ one. false≢true (sym many ∙ eq-eqb s.left 1 one)) (subst (λ u. Continues u rs tables) (sym same) next)
-
-        by_left : (test : Bool) → (s.left == 0) ≡ test → (if test then after_place_row s (table_in n names version line (option_map (λ place. place.0) s.place) r)
-            else after_leg_row s (row_in n names version line (place_or_first s.place).0 (option_map (λ moment. moment.0) s.by) r)) ≡ Ok now → Continues s (r ∷ rs) tables
-        by_left true none is =
-            let (t, told, same) = place_row_is s now (table_in n names version line (option_map (λ place. place.0) s.place) r) is in
-            with_place t (eqb-true s.left 0 none) told (subst (λ u. Continues u rs tables) (sym same) next)
-        by_left false some is =
-            let (row, told, more) = leg_row_is s now (row_in n names version line (place_or_first s.place).0 (option_map (λ moment. moment.0) s.by) r) is in
-            by_last row told (λ none. false≢true (sym some ∙ eq-eqb s.left 0 none)) (s.left == 1) refl more
+    after_step now is next = elim (cases_eq s.left 0) [
+      | inl none ↦
+          let (t, told, same) = place_row_is s now (table_in n names version line (option_map (λ place. place.0) s.place) r) (rw (eq-eqb s.left 0 none) at is) in
+          with_place t none told (subst (λ u. Continues u rs tables) (sym same) next)
+      | inr some ↦
+          let place = (place_or_first s.place).0 in
+          let (row, told, more) = leg_row_is s now (row_in n names version line place (option_map (λ moment. moment.0) s.by) r) (rw (ne_eqb s.left 0 some) at is) in
+          elim (cases_eq s.left 1) [
+            | inl one ↦
+                let last = rw (eq-eqb s.left 1 one) at more in
+                let same : after_last s row ≡ now = (cc) in
+                with_last row told one (subst (λ u. Continues u rs tables) (sym same) next)
+            | inr many ↦
+                let further = rw (ne_eqb s.left 1 many) at more in
+                let same : after_row s row ≡ now = (cc) in
+                with_row row told some many (subst (λ u. Continues u rs tables) (sym same) next)
+          ]
+    ]
 
   tables_told : (rs : List (List (List ℕ))) (line : ℕ) (s : Reading) (tables : List PlaceTable) → place_tables_from n names version rs line s ≡ Ok tables → Continues s rs tables
   tables_told [] line s tables is =

@@ -6,6 +6,7 @@ use Rattle.std.specs.List.{position_from}
 use Rattle.std.specs.Str.{bytes_eq, is_utf8}
 use Rattle.std.specs.Cmp.Lexicographic.{bytes_decides}
 use Rattle.std.proofs.lemmas.Str.{IsUtf8-from_is_utf8, is_utf8-from_IsUtf8}
+use Rattle.std.proofs.lemmas.Bool.{cases_Bool}
 use Rattle.std.proofs.lemmas.Bool.Decides.{nat_tests}
 use Rattle.plan_model.specs.declared.model.Connection.{Connection}
 use Rattle.plan_model.specs.declared.model.PlaceId.{PlaceId}
@@ -23,28 +24,27 @@ use Rattle.printed_rows.specs.Fields.{number_of, connection_of}
 pub place_found : {X : Type 0} (t : X → Bool) (xs : List X) (from j : ℕ) (d : X) → ((k : ℕ) → k < j → t (slice_index_or xs k d) ≡ false)
     → j < length xs → t (slice_index_or xs j d) ≡ true → position_from t from xs ≡ Some (from + j)
 place_found t [] from j d before within holds = absurd (omega (arith, within))
-place_found t (x ∷ xs) from zero d before within holds = ap (λ (b : Bool). cond b (Some from) (position_from t (from + 1) xs)) holds
-    ∙ ap (λ (k : ℕ). Some k) (let e : from ≡ from + 0 = omega arith in e)
+place_found t (x ∷ xs) from zero d before within holds = rw holds (ap (λ (k : ℕ). Some k) (let e : from ≡ from + 0 = omega arith in e))
 place_found t (x ∷ xs) from (suc j) d before within holds =
-    ap (λ (b : Bool). cond b (Some from) (position_from t (from + 1) xs)) (before 0 (omega arith))
-    ∙ place_found t xs (from + 1) j d (λ k less. before (suc k) (omega (arith, less))) (omega (arith, within)) holds
-    ∙ ap (λ (k : ℕ). Some k) (let e : from + 1 + j ≡ from + suc j = omega arith in e)
+    rw (before 0 (omega arith)) (place_found t xs (from + 1) j d (λ k less. before (suc k) (omega (arith, less))) (omega (arith, within)) holds
+    ∙ ap (λ (k : ℕ). Some k) (let e : from + 1 + j ≡ from + suc j = omega arith in e))
 
 pub place_none : {X : Type 0} (t : X → Bool) (xs : List X) (from : ℕ) (d : X) → ((k : ℕ) → k < length xs → t (slice_index_or xs k d) ≡ false) → position_from t from xs ≡ None
 place_none t [] from d none = refl
-place_none t (x ∷ xs) from d none = ap (λ (b : Bool). cond b (Some from) (position_from t (from + 1) xs)) (none 0 (omega arith))
-    ∙ place_none t xs (from + 1) d (λ k less. none (suc k) (omega (arith, less)))
+place_none t (x ∷ xs) from d none = rw (none 0 (omega arith)) (place_none t xs (from + 1) d (λ k less. none (suc k) (omega (arith, less))))
 
 -- where a place was found, the test holds
 found_holds : {X : Type 0} (t : X → Bool) (xs : List X) (from k : ℕ) (d : X) → position_from t from xs ≡ Some k → (j : ℕ) × (k ≡ from + j) × (j < length xs) × (t (slice_index_or xs j d) ≡ true)
 found_holds t [] from k d is = absurd (cc)
-found_holds {X} t (x ∷ xs) from k d is = by_test (t x) refl is (λ more. found_holds t xs (from + 1) k d more)
-  where
-    by_test : (b : Bool) → t x ≡ b → cond b (Some from) (position_from t (from + 1) xs) ≡ Some k
-        → (position_from t (from + 1) xs ≡ Some k → (j : ℕ) × (k ≡ from + 1 + j) × (j < length xs) × (t (slice_index_or xs j d) ≡ true)) → (j : ℕ)
-        × (k ≡ from + j) × (j < length (x ∷ xs)) × (t (slice_index_or (x ∷ xs) j d) ≡ true)
-    by_test true holds first more = (0, (let e : from ≡ k = (cc) in omega (arith, e)), omega arith, holds)
-    by_test false fails later more = let rest = more later in (suc rest.0, omega (arith, rest.1), omega (arith, rest.2), rest.3)
+found_holds t (x ∷ xs) from k d is = elim (cases_Bool (t x)) [
+  | inl holds ↦
+      let first = rw holds at is in
+      let e : from ≡ k = (cc) in
+      (0, omega (arith, e), omega arith, holds)
+  | inr fails ↦
+      let rest = found_holds t xs (from + 1) k d (rw fails at is) in
+      (suc rest.0, omega (arith, rest.1), omega (arith, rest.2), rest.3)
+]
 
 pub false_if : (b : Bool) → (b ≡ true → ⊥) → b ≡ false
 false_if true no_way = absurd (no_way refl)

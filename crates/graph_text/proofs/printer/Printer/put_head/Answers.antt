@@ -1,7 +1,5 @@
 use Rattle.std.proofs.Common.{◌≡◌, ◌++◌, ◌∙◌, ℕ, List, [], subst, ap, refl}
-use Rattle.std.specs.Prelude.{OnOk}
 use Rattle.clock_text.specs.Civil.{nanos_text}
-use Rattle.printed_rows.specs.Writers.{row_of_fields, text_so_far}
 use Rattle.graph_text.proofs.Fields.{take_nine}
 use Rattle.printed_rows.proofs.Lines.{name_is}
 use Rattle.graph_text.proofs.printer.Printer.put_head.Goals as goal
