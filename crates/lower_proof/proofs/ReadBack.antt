@@ -38,13 +38,7 @@ use Rattle.lower_proof.specs.Reading.{value_fault, IsFaultAfter, AreValuesTold, 
 use Rattle.lower_proof.specs.Steps.{AllFit}
 
 same_query : (a b : Query) → a.source.0 ≡ b.source.0 → a.target.0 ≡ b.target.0 → a.start.0 ≡ b.start.0 → a.deadline ≡ b.deadline → a ≡ b
-same_query a b one two three four = λ i. record {
-  source = record { 0 = one i };
-  target = record { 0 = two i };
-  start = record { 0 = three i };
-  deadline =
-      four i;
-}
+same_query a b s t u d = λ i. record { source = record { 0 = s i }; target = record { 0 = t i }; start = record { 0 = u i }; deadline = d i }
 
 count_more : (x : Option ℕ) (values : List (Option ℕ)) → count_by is_some (x ∷ values) ≡ cond (is_some x) 1 0 + count_by is_some values
 count_more x values = sum_by-cons (λ (y : Option ℕ). cond (is_some y) 1 0) x values
@@ -60,18 +54,6 @@ present [] c v is = absurd (cc)
 present (x ∷ values) zero v is = omega arith
 present (x ∷ values) (suc c) v is = omega (arith, present values c v is)
 
--- row k is of a connection at an offset, and of its value
-record IsRowOf (n : NetworkModel) (names : NameLists) (c : ℕ) (values : List (Option ℕ)) (k offset v : ℕ) : Type 0 where
-  inside : offset < length values
-  value : bound_of values offset ≡ Some v
-  row : slice_index_or (value_records n names c values) k [] ≡ value_record n names (c + offset) v
-
--- row i of a table is of a connection and its value
-record TellsOf (n : NetworkModel) (names : NameLists) (t : List (List (List ℕ))) (values : List (Option ℕ)) (i c v : ℕ) : Type 0 where
-  there : c < count n
-  value : bound_of values c ≡ Some v
-  row : value_row t i ≡ value_record n names c v
-
 -- the offset of row k
 abbrev offset_at : List (Option ℕ) → ℕ → ℕ
 offset_at [] k = 0
@@ -83,16 +65,18 @@ module _ (n : NetworkModel) (names : NameLists) where
   shifted : (c offset v : ℕ) → value_record n names (c + 1 + offset) v ≡ value_record n names (c + suc offset) v
   shifted c offset v = let e : c + 1 + offset ≡ c + suc offset = omega arith in ap (λ (d : ℕ). value_record n names d v) e
 
-  row_at : (c : ℕ) (values : List (Option ℕ)) (k : ℕ) → k < length (value_records n names c values) → (v : ℕ) × IsRowOf n names c values k (offset_at values k) v
+  -- row k is of the connection at this offset, and of its value
+  row_at : (c : ℕ) (values : List (Option ℕ)) (k : ℕ) → k < length (value_records n names c values) → (v : ℕ) × (offset_at values k < length values)
+      × (bound_of values (offset_at values k) ≡ Some v) × (slice_index_or (value_records n names c values) k [] ≡ value_record n names (c + offset_at values k) v)
   row_at c [] k within = absurd (omega (arith, within))
   row_at c (None ∷ values) k within =
-      let own = row_at (c + 1) values k within in
-      (own.0, record { inside = omega (arith, own.1.inside); value = own.1.value; row = own.1.row ∙ shifted c (offset_at values k) own.0 })
+      let (v, inside, value, row) = row_at (c + 1) values k within in
+      (v, omega (arith, inside), value, row ∙ shifted c (offset_at values k) v)
   row_at c (Some w ∷ values) zero within =
-      (w, record { inside = omega arith; value = refl; row = let e : c ≡ c + 0 = omega arith in ap (λ (d : ℕ). value_record n names d w) e })
+      (w, omega arith, refl, let e : c ≡ c + 0 = omega arith in ap (λ (d : ℕ). value_record n names d w) e)
   row_at c (Some w ∷ values) (suc k) within =
-      let own = row_at (c + 1) values k (omega (arith, within)) in
-      (own.0, record { inside = omega (arith, own.1.inside); value = own.1.value; row = own.1.row ∙ shifted c (offset_at values k) own.0 })
+      let (v, inside, value, row) = row_at (c + 1) values k (omega (arith, within)) in
+      (v, omega (arith, inside), value, row ∙ shifted c (offset_at values k) v)
 
   -- offsets rise
   offsets_rise : (c : ℕ) (values : List (Option ℕ)) (k : ℕ) → suc k < length (value_records n names c values) → offset_at values k < offset_at values (suc k)
@@ -154,22 +138,17 @@ module _ (n : NetworkModel) (names : NameLists) (valid : IsValid n) (fit : Names
     row_is : (i : ℕ) → value_row table i ≡ slice_index_or rows i []
     row_is i = let e : i + 1 ≡ suc i = omega arith in ap (λ (k : ℕ). slice_index_or table k []) e
 
-    row_told : (i : ℕ) → i < length rows → (v : ℕ) × TellsOf n names table values i (offset_at values i) v
+    row_told : (i : ℕ) → i < length rows
+        → (v : ℕ) × (offset_at values i < count n) × (bound_of values (offset_at values i) ≡ Some v) × (value_row table i ≡ value_record n names (offset_at values i) v)
     row_told i within =
-        let own_row = row_at n names 0 values i within in
-        let e : 0 + offset_at values i ≡ offset_at values i = omega arith in (
-          own_row.0,
-          record {
-            there = omega (arith, own_row.1.inside, as_many);
-            value = own_row.1.value;
-            row = row_is i ∙ own_row.1.row ∙ ap (λ (d : ℕ). value_record n names d own_row.0) e;
-          },
-        )
+        let (v, inside, value, row) = row_at n names 0 values i within in
+        let e : 0 + offset_at values i ≡ offset_at values i = omega arith in
+        (v, omega (arith, inside, as_many), value, row_is i ∙ row ∙ ap (λ (d : ℕ). value_record n names d v) e)
 
     row_connection : (i : ℕ) → i < length rows → connection_in n names (value_row table i) ≡ Some (offset_at values i)
     row_connection i within =
         let r = row_told i within in
-        ap (connection_in n names) r.1.row ∙ named_back (offset_at values i) r.0 r.1.there (small (offset_at values i) r.0 r.1.value)
+        ap (connection_in n names) r.3 ∙ named_back (offset_at values i) r.0 r.1 (small (offset_at values i) r.0 r.2)
 
     row_rises : (i : ℕ) → i < length rows → rises (connection_before n names table i) (offset_at values i) ≡ true
     row_rises zero within = refl
@@ -181,7 +160,7 @@ module _ (n : NetworkModel) (names : NameLists) (valid : IsValid n) (fit : Names
     row_faultless stated i inside within =
         let r = row_told i within in
         let c = offset_at values i in
-        rw (lt-ltb i stated inside, r.1.row) (ap result_err (told_back c r.0 (i + 2) (connection_before n names table i) r.1.there (small c r.0 r.1.value)
+        rw (lt-ltb i stated inside, r.3) (ap result_err (told_back c r.0 (i + 2) (connection_before n names table i) r.1 (small c r.0 r.2)
         (row_rises i within)))
 
     -- each value that is there has its row
@@ -213,7 +192,7 @@ module _ (n : NetworkModel) (names : NameLists) (valid : IsValid n) (fit : Names
             let r = row_told i within in
             let both : ◌≡◌ {A = Option ℕ} (Some (offset_at values i)) (Some c) = sym (row_connection i within) ∙ at in
             let here : offset_at values i ≡ c = cc in
-            let some : ◌≡◌ {A = Option ℕ} (Some r.0) None = sym r.1.value ∙ ap (bound_of values) here ∙ is in
+            let some : ◌≡◌ {A = Option ℕ} (Some r.0) None = sym r.2 ∙ ap (bound_of values) here ∙ is in
             cc)
             ∙ sym is
 
@@ -230,7 +209,7 @@ module _ (n : NetworkModel) (names : NameLists) (valid : IsValid n) (fit : Names
               let r = row_told i inside in
               let both : ◌≡◌ {A = Option ℕ} (Some (offset_at values i)) (Some c) = sym (row_connection i inside) ∙ at in
               let same : offset_at values i ≡ c = cc in
-              ap (bound_of values) (sym same) ∙ r.1.value ∙ sym (ap nanos_in r.1.row ∙ value_back (offset_at values i) r.0 r.1.there (small (offset_at values i) r.0 r.1.value));
+              ap (bound_of values) (sym same) ∙ r.2 ∙ sym (ap nanos_in r.3 ∙ value_back (offset_at values i) r.0 r.1 (small (offset_at values i) r.0 r.2));
           others = λ c never. never_told c (λ i within. never i (omega (arith, within))) (bound_of values c) refl;
         }
 
@@ -304,9 +283,7 @@ pub values_step : (n : NetworkModel) (names : NameLists) (values : List (Option 
     → new ++ text_of_records (value_records n names (i + 1) (drop (i + 1) values)) ≡ all
 values_step n names values i new old all within is before =
     text_step new old (entry_text n names i (slice_index_or values i None)) (text_of_records (value_records n names (i + 1) (drop (i + 1) values))) all is
-    (ap (λ (text : List ℕ). old ++ text) (one_more n names i (slice_index_or values i None) (drop (i + 1) values))
-    ∙ ap (λ (list : List (Option ℕ)). old ++ text_of_records (value_records n names i list)) (sym (split_at values i None within))
-    ∙ before)
+    (rw (one_more n names i (slice_index_or values i None) (drop (i + 1) values), ← split_at values i None within) before)
 
 -- after the last one
 pub values_done : (n : NetworkModel) (names : NameLists) (values : List (Option ℕ)) (i : ℕ) (new all : List ℕ) → length values ≤ i
