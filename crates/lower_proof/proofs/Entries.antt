@@ -21,7 +21,7 @@ use Rattle.plan_model.proofs.Boarding.{way_of-listed, listed-way_of}
 use Rattle.lower_proof.specs.declared.board.Entry.{Entry}
 use Rattle.lower_proof.specs.Boards.{ShownBoard, entry_at, IsEntry, AreEntries, Falls}
 use Rattle.lower_proof.specs.Minima.{board_at, AreFresh, HaveEntries}
-use Rattle.lower_proof.proofs.SetAt.{get_or-set}
+use Rattle.lower_proof.proofs.Minima.{get_or-set}
 
 abbrev pub no_board : ShownBoard
 no_board = record { entries = []; least = [] }

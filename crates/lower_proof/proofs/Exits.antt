@@ -9,7 +9,7 @@ use Rattle.plan_model.specs.Network.{count, connection, dep_of, run_of, IsValid,
 use Rattle.plan_model.specs.Strategy.{IsLeg, IsBoardable}
 use Rattle.lower_proof.specs.Certificates.{bound_of, IsLeastOf, IsVia, IsLocal, IsAccepted, IsLastFault, Offers, IsLeastAt, AreLeast}
 use Rattle.lower_proof.specs.Steps.{lesser, KeepsTo, exit_of, IsBestExit}
-use Rattle.lower_proof.proofs.SetAt.{get_or-set}
+use Rattle.lower_proof.proofs.Minima.{get_or-set}
 use Rattle.lower_proof.proofs.Leasts.{least_with, least_same, least_is, IsLeastOf-unique, keeps_to_each, each_keeps_to}
 use Rattle.lower_proof.proofs.Vias.{least_via, no_via}
 use Rattle.plan_model.proofs.ScanOrders.{Known, IsNext}

@@ -1,13 +1,10 @@
-pub mod SetAt
 pub mod Leasts
 pub mod Vias
-pub mod Soundness
 pub mod Departures
 pub mod Departing
 pub mod Best
 pub mod Exits
 pub mod Minima
-pub mod PlaceBoards
 pub mod Entries
 pub mod Written
 pub mod ReadRows

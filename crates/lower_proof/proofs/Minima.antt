@@ -1,5 +1,6 @@
 -- Least values of front parts, one entry after the other.
-use Rattle.std.proofs.Common.{◌≡◌, ℕ, ◌+◌, ◌-◌, ◌<◌, ◌≤◌, List, [], ◌++◌, length, take, drop, set, Option, Some, None, arith, inl, inr, sym, subst, get_or-set_other, get_or-set_same}
+use Rattle.std.proofs.Common.{◌≡◌, ◌≢◌, ℕ, ◌+◌, ◌-◌, ◌<◌, ◌≤◌, List, get_or, length, take, set, Option, Some}
+use Rattle.std.proofs.Common.{None, arith, inl, inr, sym, subst, get_or-set_other, get_or-set_same}
 use Rattle.std.proofs.lemmas.Bool.{cases_eq, cases_lt}
 use Rattle.lower_proof.specs.declared.board.Entry.{Entry}
 use Rattle.lower_proof.specs.Certificates.{bound_of, IsLeastOf}
@@ -7,8 +8,15 @@ use Rattle.lower_proof.specs.Steps.{lesser}
 use Rattle.lower_proof.specs.Boards.{entry_at, Falls, FrontValue, ValueInTime, least_of}
 use Rattle.lower_proof.specs.Minima.{AreMinima, IsBoard}
 use Rattle.std.proofs.lemmas.List.{length-take, get_or-take}
-use Rattle.lower_proof.proofs.SetAt.{get_or-set}
 use Rattle.lower_proof.proofs.Leasts.{least_same, below_more}
+
+-- what holds of the elements of a list by their positions, after one is set
+pub get_or-set : {A : Type 0} (P : ℕ → A → Type 0) (xs : List A) (i j : ℕ) (x d : A) → i < length xs → P i x → (j ≢ i → P j (get_or xs j d))
+    → P j (get_or (set xs i x) j d)
+get_or-set P xs i j x d inside here other = elim (cases_eq j i) [
+  | inl is ↦ subst (λ k. P k (get_or (set xs i x) k d)) (sym is) (rw (get_or-set_same xs i x d inside) here)
+  | inr differ ↦ rw (get_or-set_other xs i j x d differ) (other differ)
+]
 
 module _ (values : List (Option ℕ)) (entries : List Entry) where
   -- the least of the first k, from those that are known

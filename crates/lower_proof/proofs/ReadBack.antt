@@ -67,7 +67,8 @@ module _ (n : NetworkModel) (names : NameLists) where
 
   -- row k is of the connection at this offset, and of its value
   row_at : (c : ℕ) (values : List (Option ℕ)) (k : ℕ) → k < length (value_records n names c values) → (v : ℕ) × (offset_at values k < length values)
-      × (bound_of values (offset_at values k) ≡ Some v) × (slice_index_or (value_records n names c values) k [] ≡ value_record n names (c + offset_at values k) v)
+      × (bound_of values (offset_at values k) ≡ Some v) × (slice_index_or (value_records n names c values) k [] ≡ value_record n names
+      (c + offset_at values k) v)
   row_at c [] k within = absurd (omega (arith, within))
   row_at c (None ∷ values) k within =
       let (v, inside, value, row) = row_at (c + 1) values k within in
@@ -139,7 +140,8 @@ module _ (n : NetworkModel) (names : NameLists) (valid : IsValid n) (fit : Names
     row_is i = let e : i + 1 ≡ suc i = omega arith in ap (λ (k : ℕ). slice_index_or table k []) e
 
     row_told : (i : ℕ) → i < length rows
-        → (v : ℕ) × (offset_at values i < count n) × (bound_of values (offset_at values i) ≡ Some v) × (value_row table i ≡ value_record n names (offset_at values i) v)
+        → (v : ℕ) × (offset_at values i < count n) × (bound_of values (offset_at values i) ≡ Some v) ×
+        (value_row table i ≡ value_record n names (offset_at values i) v)
     row_told i within =
         let (v, inside, value, row) = row_at n names 0 values i within in
         let e : 0 + offset_at values i ≡ offset_at values i = omega arith in

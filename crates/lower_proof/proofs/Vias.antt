@@ -46,14 +46,11 @@ room_next items k sum v within small room =
     rw e (room_step (outcome_at items k).weight v sum rest 18446744073709551615 small (rw split at room))
 
 module _ (n : NetworkModel) (q : Query) (values : List (Option ℕ)) (p arrival : ℕ) where
-  same_value : (x v w : ℕ) → IsLeastAt n q values p x (Some v) → IsLeastAt n q values p x (Some w) → v ≡ w
-  same_value x v w h k = let both = IsLeast-unique n q values _ p x (Some v) (Some w) h k in (cc)
-
   -- and only one after each outcome
   pub AreLeast-unique : (row : List Outcome) (vs ws : List ℕ) → AreLeast n q values p arrival row vs → AreLeast n q values p arrival row ws → vs ≡ ws
   AreLeast-unique [] [] [] h k = refl
   AreLeast-unique (o ∷ row) (v ∷ vs) (w ∷ ws) h k =
-      let first = same_value (arrival + o.delay) v w h.0 k.0 in
+      let first = IsLeast-unique n q values _ p (arrival + o.delay) (Some v) (Some w) h.0 k.0 in
       let rest = AreLeast-unique row vs ws h.1 k.1 in
       cc
   AreLeast-unique _ _ _ h k = absurd (assumption (h, k))

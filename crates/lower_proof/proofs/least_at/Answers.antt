@@ -1,7 +1,7 @@
 use Rattle.std.proofs.Common.{◌≢◌, rules}
 use Rattle.std.proofs.lemmas.List.{get_or_default}
 use Rattle.lower_proof.proofs.Entries.{no_board}
-use Rattle.lower_proof.proofs.PlaceBoards.{board_least, boards_looked}
+use Rattle.lower_proof.proofs.Written.{board_least, boards_looked}
 use Rattle.lower_proof.proofs.least_at.Goals as goal
 
 pub returns-clause-least : goal.returns-clause-least
