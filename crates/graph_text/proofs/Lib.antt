@@ -1,7 +1,6 @@
 pub mod Fields
 pub mod Laws
 pub mod Rows
-pub mod Steps
 pub mod Tables
 pub mod Accepted
 pub mod ReadBack

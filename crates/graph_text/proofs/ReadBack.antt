@@ -158,10 +158,10 @@ module _ (n : NetworkModel) (names : NameLists) (version : Version) (valid : IsV
 
   -- a table has at most a row for each connection, since rows of one entry have one limit
   by_entry : (place : ℕ) (a b : GraphRow) → IsFitRow n place a → IsFitRow n place b → a.leg.enter.0 ≡ b.leg.enter.0 → a.by.0 ≡ b.by.0
-  by_entry place a b first second same = some_same (sym first.by ∙ ap (λ (enter : ℕ). option_and_then (earlier_by (dep_of n enter)) (way_of n place (from_of n enter))) same ∙ second.by)
-    where
-      some_same : {x y : ℕ} → Some x ≡ Some y → x ≡ y
-      some_same is = cc
+  by_entry place a b first second same =
+      let both : Some a.by.0 ≡ Some b.by.0 =
+      sym first.by ∙ ap (λ (enter : ℕ). option_and_then (earlier_by (dep_of n enter)) (way_of n place (from_of n enter))) same ∙ second.by in
+      cc
 
   first_row : GraphRow
   first_row = record { by = record { 0 = 0 }; leg = record { enter = record { 0 = 0 }; exit = record { 0 = 0 } } }

@@ -1,31 +1,84 @@
--- The rows of tables are read as the tables that they tell, and as no others.
-use Rattle.std.proofs.Common.{◌≡◌, ◌≢◌, ℕ, suc, ◌+◌, ◌-◌, ◌<◌, ◌≤◌, Bool, true, false, List, [], ◌∷◌, ◌++◌, length, Option, Some, None, Ok, Err, Result, All, AllPairs}
-use Rattle.std.proofs.Common.{arith, inl, inr, sym, subst, refl, ◌∙◌, ap, append_assoc}
-use Rattle.std.specs.Prelude.{◌==◌, if◌then◌else◌, codes}
+-- A step of reading, and the rows of tables, which are read as the tables that they tell, and as no others.
+use Rattle.std.proofs.Common.{◌≡◌, ℕ, ◌+◌, ◌<◌, List, [], ◌∷◌, length, drop, Option, Some, Ok, Err, Result, arith, sym, ap, subst, refl, ◌∙◌, ◌≢◌, suc}
+use Rattle.std.proofs.Common.{◌-◌, ◌≤◌, Bool, true, false, ◌++◌, None, All, AllPairs, inl, inr, append_assoc}
+use Rattle.std.specs.Prelude.{◌==◌, false, slice_index_or, if◌then◌else◌, codes}
 use Rattle.std.specs.Option.{option_map}
-use Rattle.std.proofs.lemmas.Bool.{cases_eq, eqb-true, eq-eqb, ne_eqb, ltb-true, lt-ltb}
+use Rattle.std.specs.Result.{IsErr, IsErrAnd}
+use Rattle.std.proofs.lemmas.Bool.{ne_eqb, cases_eq, eqb-true, eq-eqb, ltb-true, lt-ltb}
+use Rattle.plan_model.specs.Results.{and_then, require}
+use Rattle.plan_model.specs.declared.model.PlaceId.{PlaceId}
+use Rattle.plan_model.specs.NetworkModel.{NetworkModel}
+use Rattle.plan_model.specs.NameLists.{NameLists}
+use Rattle.plan_graph.specs.declared.PlaceTable.{PlaceTable}
+use Rattle.plan_graph.specs.declared.PlanGraph.{PlanGraph}
+use Rattle.graph_text.specs.declared.Head.{Head}
+use Rattle.graph_text.specs.declared.version.Version.{Version}
+use Rattle.graph_text.specs.declared.reader.Reading.{Reading}
+use Rattle.graph_text.specs.declared.reader.TextFault.{TextFault}
+use Rattle.graph_text.specs.declared.reader.TextFault.TheVariants as f
+use Rattle.printed_rows.proofs.Lines.{split_at}
+use Rattle.graph_text.specs.GraphRows.{version_in, IsLegRow, IsPlaceRow, AreLegRows, AreTableRows}
+use Rattle.graph_text.specs.Reading.{after_leg_row, row_in, step, IsUnlessNoMemory, place_or_first, place_tables_from, graph_after_first, head_in}
+use Rattle.graph_text.specs.Reading.{graph_of_records, table_in, after_place_row, no_tables}
 use Rattle.std.proofs.lemmas.List.{append-nil}
 use Rattle.std.proofs.lemmas.List.Elements.{All-cons, All-nil, All-head, All-tail}
 use Rattle.std.proofs.lemmas.List.Kept.{AllPairs-cons}
 use Rattle.plan_model.specs.declared.model.Moment.{Moment}
-use Rattle.plan_model.specs.declared.model.PlaceId.{PlaceId}
-use Rattle.plan_model.specs.NetworkModel.{NetworkModel}
-use Rattle.plan_model.specs.NameLists.{NameLists}
 use Rattle.plan_model.specs.Network.{IsValid}
 use Rattle.plan_graph.specs.declared.GraphRow.{GraphRow}
-use Rattle.plan_graph.specs.declared.PlaceTable.{PlaceTable}
 use Rattle.plan_graph.specs.Tidy.{IsFitRow, IsFitTable}
-use Rattle.graph_text.specs.declared.reader.TextFault.{TextFault}
-use Rattle.graph_text.specs.declared.reader.TextFault.TheVariants as fault
 use Rattle.graph_text.specs.declared.reader.TableStart.{TableStart}
-use Rattle.graph_text.specs.declared.reader.Reading.{Reading}
-use Rattle.graph_text.specs.declared.version.Version.{Version}
-use Rattle.graph_text.specs.Reading.{row_in, table_in, after_place_row, after_leg_row, place_or_first, step, place_tables_from, no_tables}
-use Rattle.graph_text.specs.GraphRows.{IsLegRow, IsPlaceRow, AreLegRows, AreTableRows}
 use Rattle.printed_rows.specs.Fields.{rises}
 use Rattle.printed_rows.proofs.Chains.{and_then-value, if-value}
 use Rattle.graph_text.proofs.Rows.{row_told, row_read, table_told, table_read}
-use Rattle.graph_text.proofs.Steps.{leg_step}
+
+-- where leg rows are to come
+pub leg_step : (n : NetworkModel) (names : NameLists) (version : Version) (line : ℕ) (r : List (List ℕ)) (s : Reading) (place : PlaceId) → (s.left ≡ 0 → ⊥)
+    → s.place ≡ Some place → after_leg_row s (row_in n names version line place.0 (option_map (λ moment. moment.0) s.by) r) ≡ step n names version line r s
+leg_step n names version line r s place some is =
+    sym (rw (ne_eqb s.left 0 some) (ap (λ (p : Option PlaceId). after_leg_row s (row_in n names version line (place_or_first p).0
+    (option_map (λ moment. moment.0) s.by) r)) is))
+
+-- what is read where a step failed is so of what `?` raises again
+pub read_raised : {A : Type 0} (fault : TextFault) (r told : Result A TextFault) → IsErr r × IsErrAnd r (λ raised. raised ≡ fault)
+    → IsUnlessNoMemory (Err fault) told → IsUnlessNoMemory r told
+read_raised fault (Ok a) told raised is = absurd raised.1
+read_raised {A} fault (Err again) told raised is = subst (λ (f : TextFault). IsUnlessNoMemory {A = A} (Err f) told) (sym raised.1) is
+
+pub fault_on : {A B : Type 0} (fault : TextFault) (told : Result A TextFault) (next : A → Result B TextFault) → IsUnlessNoMemory {A = A} (Err fault) told
+    → IsUnlessNoMemory {A = B} (Err fault) (and_then told next)
+fault_on f.NoMemory told next is = tt
+fault_on _ told next is = ap (λ r. and_then r next) is
+
+-- the tables of the records from one on, after the step of this one
+pub tables_after : (n : NetworkModel) (names : NameLists) (version : Version) (rows : List (List (List ℕ))) (line i : ℕ) (s now : Reading) → i < length rows
+    → step n names version line (slice_index_or rows i []) s ≡ Ok now
+    → place_tables_from n names version (drop i rows) line s ≡ place_tables_from n names version (drop (i + 1) rows) (line + 1) now
+tables_after n names version rows line i s now within is =
+    rw (split_at rows i [] within, is) refl
+
+pub tables_fail : (n : NetworkModel) (names : NameLists) (version : Version) (rows : List (List (List ℕ))) (line i : ℕ) (s : Reading) (fault : TextFault)
+    → i < length rows → IsUnlessNoMemory {A = Reading} (Err fault) (step n names version line (slice_index_or rows i []) s)
+    → IsUnlessNoMemory {A = List PlaceTable} (Err fault) (place_tables_from n names version (drop i rows) line s)
+tables_fail n names version rows line i s fault within told =
+    rw (split_at rows i [] within)
+    (fault_on fault (step n names version line (slice_index_or rows i []) s) (place_tables_from n names version (drop (i + 1) rows) (line + 1)) told)
+
+-- a table's records
+pub first_split : (t : List (List (List ℕ))) → 0 < length t → t ≡ slice_index_or t 0 [] ∷ drop 1 t
+first_split [] some = absurd (omega (arith, some))
+first_split (r ∷ rs) some = refl
+
+-- what the first row and the graph of the others tell together
+pub told_by : (n : NetworkModel) (names : NameLists) (version : Version) (source target start : ℕ) (rows : List (List (List ℕ))) (head : Head) (r : Result (Head × PlanGraph) TextFault)
+    → 0 < length rows
+    → Some version ≡ version_in (slice_index_or rows 0 []) → Ok head ≡ head_in names version source target start (slice_index_or rows 0 [])
+    → IsUnlessNoMemory r (and_then (graph_after_first n names version source target start (drop 1 rows)) (λ graph. Ok (head, graph)))
+    → IsUnlessNoMemory r (graph_of_records n names source target start rows)
+told_by n names version source target start rows head r some found is read =
+    rw (first_split rows some, ← found, ← is) read
+
+-- ---- the rows of tables are read as the tables that they tell, and as no others
 
 -- ---- numbers that rise
 
@@ -75,12 +128,6 @@ module _ (s : Reading) (row : GraphRow) where
 
   abbrev after_row : Reading
   after_row = record { done = s.done; place = s.place; rows = s.rows ++ row ∷ []; by = Some row.by; left = s.left - 1 }
-
-  last_row : s.left ≡ 1 → after_leg_row s (Ok row) ≡ Ok after_last
-  last_row one = rw (eq-eqb s.left 1 one) refl
-
-  further_row : s.left ≢ 1 → after_leg_row s (Ok row) ≡ Ok after_row
-  further_row many = rw (ne_eqb s.left 1 many) refl
 
 leg_row_is : (s now : Reading) (told : Result GraphRow TextFault) → after_leg_row s told ≡ Ok now
     → (row : GraphRow) × (told ≡ Ok row) × (◌≡◌ {A = Result Reading TextFault} (if s.left == 1 then Ok (after_last s row) else Ok (after_row s row)) (Ok now))
@@ -180,11 +227,13 @@ module _ (n : NetworkModel) (names : NameLists) (version : Version) where
     after_step : (now : Reading) → step n names version line r s ≡ Ok now → Continues now rs tables → Continues s (r ∷ rs) tables
     after_step now is next = elim (cases_eq s.left 0) [
       | inl none ↦
-          let (t, told, same) = place_row_is s now (table_in n names version line (option_map (λ place. place.0) s.place) r) (rw (eq-eqb s.left 0 none) at is) in
+          let (t, told, same) = place_row_is s now (table_in n names version line (option_map (λ place. place.0) s.place) r)
+          (rw (eq-eqb s.left 0 none) at is) in
           with_place t none told (subst (λ u. Continues u rs tables) (sym same) next)
       | inr some ↦
           let place = (place_or_first s.place).0 in
-          let (row, told, more) = leg_row_is s now (row_in n names version line place (option_map (λ moment. moment.0) s.by) r) (rw (ne_eqb s.left 0 some) at is) in
+          let (row, told, more) = leg_row_is s now (row_in n names version line place (option_map (λ moment. moment.0) s.by) r)
+          (rw (ne_eqb s.left 0 some) at is) in
           elim (cases_eq s.left 1) [
             | inl one ↦
                 let last = rw (eq-eqb s.left 1 one) at more in
@@ -199,7 +248,7 @@ module _ (n : NetworkModel) (names : NameLists) (version : Version) where
 
   tables_told : (rs : List (List (List ℕ))) (line : ℕ) (s : Reading) (tables : List PlaceTable) → place_tables_from n names version rs line s ≡ Ok tables → Continues s rs tables
   tables_told [] line s tables is =
-      let both = if-value (s.left == 0) (Ok s.done) (fault.Row line) tables is in
+      let both = if-value (s.left == 0) (Ok s.done) (f.Row line) tables is in
       let none = eqb-true s.left 0 both.0 in
       let same : s.done ≡ tables = (cc) in
       record {
@@ -251,13 +300,17 @@ module _ (n : NetworkModel) (names : NameLists) (version : Version) where
     rows_read [] own rest line done place before last left all size some legs fits rise goes_on = absurd (omega (arith, size, some))
     rows_read (row ∷ rows) [] rest line done place before last left all size some legs fits rise goes_on = absurd legs
     rows_read (row ∷ []) (r ∷ []) rest line done place before last left all size some legs fits rise goes_on =
-        rw (row_step line r done place before last left row (λ none. omega (arith, none, some)) legs.0 (All-head (IsFitRow n place.0) row [] fits) rise.0
-        ∙ last_row (with_rows done place before last left) row size) (goes_on (line + 1))
+        rw (
+          row_step line r done place before last left row (λ none. omega (arith, none, some)) legs.0 (All-head (IsFitRow n place.0) row [] fits) rise.0,
+          eq-eqb left 1 size,
+        ) (goes_on (line + 1))
     rows_read (row ∷ []) (r ∷ x ∷ own) rest line done place before last left all size some legs fits rise goes_on = absurd legs.1
     rows_read (row ∷ next ∷ rows) (r ∷ own) rest line done place before last left all size some legs fits rise goes_on =
-        rw (row_step line r done place before last left row (λ none. omega (arith, none, some)) legs.0
-        (All-head (IsFitRow n place.0) row (next ∷ rows) fits) rise.0
-        ∙ further_row (with_rows done place before last left) row (λ one. omega (arith, one, size)))
+        rw (
+          row_step line r done place before last left row (λ none. omega (arith, none, some)) legs.0
+              (All-head (IsFitRow n place.0) row (next ∷ rows) fits) rise.0,
+          ne_eqb left 1 (λ one. omega (arith, one, size)),
+        )
         (rows_read (next ∷ rows) own rest (line + 1) done place (before ++ row ∷ []) (Some row.by) (left - 1) all (omega (arith, size))
         (omega (arith, size)) legs.1
         (All-tail (IsFitRow n place.0) row (next ∷ rows) fits) rise.1

@@ -3,7 +3,7 @@ use Rattle.plan_model.specs.Results.{and_then}
 use Rattle.plan_graph.specs.declared.PlanGraph.{PlanGraph}
 use Rattle.graph_text.specs.declared.reader.TextFault.{TextFault}
 use Rattle.graph_text.specs.Reading.{graph_after_first}
-use Rattle.graph_text.proofs.Steps.{told_by, fault_on}
+use Rattle.graph_text.proofs.Tables.{told_by, fault_on}
 use Rattle.graph_text.proofs.reader.read_records.Goals as goal
 
 pub returns-in-Ok : goal.returns-in-Ok
