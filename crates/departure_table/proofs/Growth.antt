@@ -4,7 +4,7 @@ use Rattle.std.specs.Prelude.{AllPairs, MatchOption, nat_le, if◌then◌else◌
 use Rattle.std.proofs.lemmas.Bool.{cases_lt}
 use Rattle.std.proofs.lemmas.Bool.Decides.{nat_tests}
 use Rattle.std.proofs.lemmas.List.Quantifiers.{all_pairs_push}
-use Rattle.std.proofs.lemmas.List.Elements.{All-append, All-cons, All-nil}
+use Rattle.std.proofs.lemmas.List.Elements.{All-nil, All-push}
 use Rattle.plan_model.specs.NetworkModel.{NetworkModel}
 use Rattle.plan_model.specs.Tree.{Tree}
 use Rattle.departure_table.specs.declared.DepartureRow.{DepartureRow}
@@ -63,19 +63,16 @@ module _ (m : NetworkModel) (Safe : ℕ → Tree → Type 0) (first last : ℕ) 
           (λ (new : next ≤ moment). (row, row_last moment rows row (λ k d h. let b = t.before k d h in omega arith) (omega arith), best moment new (omega arith)))
           (cases_lt moment next)
 
-      one : (P : DepartureRow → Type 0) → P row → All P (row ∷ [])
-      one P p = All-cons P row [] p (All-nil P)
-
       pub grown : IsTableTo m Safe first last (row.by.0 + 1) (rows ++ row ∷ [])
       grown =
           let sooner : All (λ (r : DepartureRow). r.by.0 < row.by.0 + 1) rows = λ k d h. let b = t.before k d h in omega arith in
           record {
             in_order = let o = t.in_order in omega arith;
             found = found_more;
-            departures = All-append (IsDepartureRow m) rows (row ∷ []) t.departures (one (IsDepartureRow m) departure);
-            from_first = All-append (λ (r : DepartureRow). first ≤ r.by.0) rows (row ∷ []) t.from_first (one (λ (r : DepartureRow). first ≤ r.by.0) (let o = t.in_order in omega arith));
+            departures = All-push (IsDepartureRow m) rows row t.departures departure;
+            from_first = All-push (λ (r : DepartureRow). first ≤ r.by.0) rows row t.from_first (let o = t.in_order in omega arith);
             rising = all_pairs_push (λ (a b : DepartureRow). (a.by.0 < b.by.0) × (a.by.0 < last)) rows row t.rising (λ k d h. let b = t.before k d h in (omega arith, omega arith));
-            before = All-append (λ (r : DepartureRow). r.by.0 < row.by.0 + 1) rows (row ∷ []) sooner (one (λ (r : DepartureRow). r.by.0 < row.by.0 + 1) (omega arith));
+            before = All-push (λ (r : DepartureRow). r.by.0 < row.by.0 + 1) rows row sooner (omega arith);
           }
 
     abbrev Answer : ℕ → Type 0

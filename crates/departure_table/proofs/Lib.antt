@@ -1,5 +1,4 @@
 pub mod Looks
 pub mod Growth
 pub mod Sources
-pub mod Empty
 pub mod Added

@@ -7,12 +7,9 @@ use Rattle.plan_model.specs.declared.model.Leg.{Leg}
 use Rattle.plan_model.specs.declared.model.Query.{Query}
 use Rattle.plan_model.specs.NetworkModel.{NetworkModel}
 use Rattle.plan_model.specs.Network.{IsValid, count, connection, from_of, dep_of, arr_of}
-use Rattle.plan_model.specs.Ways.{way_of, limit_of}
 use Rattle.plan_model.specs.Tree.{Tree, Done, Ride, Stuck, Kids}
 use Rattle.plan_model.specs.Strategy.{IsLeg, IsBoardable, IsSafe}
 use Rattle.plan_model.specs.Unfold.{by_place, unfold_after, ride_of, ride_or_stuck, kids_after, outcomes_of}
-use Rattle.plan_model.specs.Choices.{IsKept}
-use Rattle.plan_model.proofs.Boarding.{limit_of-some}
 use Rattle.value_laws.specs.declared.MeanSpan.{MeanSpan}
 use Rattle.value_laws.specs.Means.{mean_below, mean_covers, mean_gap}
 use Rattle.meat_scan.specs.Found.{Found, choice_of, leg_choice, chosen_at}
@@ -64,25 +61,26 @@ module _ (n : NetworkModel) (q : Query) (found : Found MeanSpan) (valid : IsVali
       covers_ride : mean_covers choice.0 (Ride enter choice.1.exit.0 chosen_kids)
       covers_ride = subst (λ (t : Tree). mean_covers choice.0 t) begins answer.covers_chosen
 
-      pub departs_later : x < dep_of n enter
-      departs_later =
+      pub looks_ahead : (row : DepartureRow) → row.leg ≡ choice.1 → row.bounds ≡ choice.0.0 → row.by.0 ≡ dep_of n enter
+          → (x < row.by.0) × (row.by.0 < end_of_arrivals) × IsDepartureRow n row ×
+          ((moment : ℕ) → x < moment → moment ≤ row.by.0 → IsBestFrom n (SafeAfter n q) moment row)
+      looks_ahead row leg bounds by =
           let one = second enter safe_ride.2.seconds safe_ride.1.enter safe_ride.2.way in
-          omega (arith, one, safe_ride.2.in_time)
-
-      pub departs_early : dep_of n enter < end_of_arrivals
-      departs_early = let v = valid.connections enter safe_ride.1.enter in omega (arith, v.forward, v.early)
-
-      pub departure : (row : DepartureRow) → row.leg ≡ choice.1 → row.by.0 ≡ dep_of n enter → IsDepartureRow n row
-      departure row leg by =
-          let same : IsLeg n row.leg.enter.0 row.leg.exit.0 = rw leg safe_ride.1 in
-          record { is_leg = same; departs = by ∙ ap (λ (l : Leg). dep_of n l.enter.0) (sym leg) }
-
-      pub best : (row : DepartureRow) → row.leg ≡ choice.1 → row.bounds ≡ choice.0.0 → (moment : ℕ) → x < moment → moment ≤ dep_of n enter → IsBestFrom n (SafeAfter n q) moment row
-      best row leg bounds moment ahead within =
+          let v = valid.connections enter safe_ride.1.enter in
           let tree = Ride enter choice.1.exit.0 chosen_kids in
           let begin : BeginsWith row.leg tree = rw leg (chosen_kids, refl) in
-          record {
-            below_safe = λ other safe. rw bounds (answer.below_safe other (earlier other x (moment - 1) (omega arith) safe));
-            covers_one = (tree, until enter choice.1.exit.0 chosen_kids x (moment - 1) (omega arith) safe_ride, begin, rw bounds covers_ride);
-            gap = rw bounds answer.gap_within;
-          }
+          let same : IsLeg n row.leg.enter.0 row.leg.exit.0 = rw leg safe_ride.1 in (
+            omega (arith, one, safe_ride.2.in_time, by),
+            omega (arith, v.forward, v.early, by),
+            record { is_leg = same; departs = by ∙ ap (λ (l : Leg). dep_of n l.enter.0) (sym leg) },
+            λ moment ahead within. record {
+              below_safe = λ other safe. rw bounds (answer.below_safe other (earlier other x (moment - 1) (omega arith) safe));
+              covers_one = (
+                tree,
+                until enter choice.1.exit.0 chosen_kids x (moment - 1) (omega (arith, ahead, within, by)) safe_ride,
+                begin,
+                rw bounds covers_ride,
+              );
+              gap = rw bounds answer.gap_within;
+            },
+          )

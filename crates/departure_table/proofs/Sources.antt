@@ -1,18 +1,28 @@
 -- What is said of an extended network is said of the network itself.
-use Rattle.std.proofs.Common.{◌≡◌, ◌≢◌, ℕ, ◌+◌, ◌-◌, ◌<◌, ◌≤◌, arith, Option, Some, None, List, [], length, All, refl, sym, ap, ◌∙◌, subst}
-use Rattle.std.specs.Prelude.{MatchOption, ◌↔◌}
+use Rattle.std.proofs.Common.{◌≡◌, ◌≢◌, ℕ, zero, ◌+◌, ◌-◌, ◌<◌, ◌≤◌, arith, Option, Some, None, List, [], ◌∷◌, length, true, refl, sym, ◌∙◌, subst}
+use Rattle.std.specs.Prelude.{MatchOption, nat_le, ◌↔◌}
+use Rattle.std.proofs.lemmas.Bool.Decides.{nat_tests}
 use Rattle.plan_model.specs.declared.model.Query.{Query}
 use Rattle.plan_model.specs.declared.model.Moment.{Moment}
 use Rattle.plan_model.specs.NetworkModel.{NetworkModel}
 use Rattle.plan_model.specs.View.{IsExtension}
 use Rattle.plan_model.specs.Network.{IsValid, count, from_of, dep_of}
-use Rattle.plan_model.specs.Ways.{way_of}
 use Rattle.plan_model.specs.Tree.{Tree}
 use Rattle.plan_model.proofs.Views.{seen, leg_there}
 use Rattle.plan_model.proofs.Extensions.{added_there, added_back}
 use Rattle.departure_table.specs.declared.DepartureRow.{DepartureRow}
 use Rattle.departure_table.specs.Departures.{IsASecondAway, SafeAfter, SafeFrom, IsNoneSafeFrom, IsBestFrom, IsDepartureRow, IsTable, IsGreatestMoment, IsExtendedFor, SaysOfSource, first_row_by}
-use Rattle.departure_table.proofs.Empty.{empty_exactly}
+
+-- a table has no row exactly where nothing is safe from the first moment on
+module _ (m : NetworkModel) (Safe : ℕ → Tree → Type 0) (first last : ℕ) (order : first ≤ last) where
+  empty_exactly : (rows : List DepartureRow) → IsTable m Safe first last rows → (rows ≡ []) ↔ IsNoneSafeFrom Safe first
+  empty_exactly [] t = ((λ same. t.answers first (omega arith) order), (λ none. refl))
+  empty_exactly (row ∷ rows) t =
+      let by = t.from_first zero row (omega arith) in
+      let test : nat_le first row.by.0 ≡ true = grind (arith, nat_tests) in
+      let found : first_row_by first (row ∷ rows) ≡ Some row = rw test refl in
+      let best = subst (λ (o : Option DepartureRow). MatchOption o (IsNoneSafeFrom Safe first) (IsBestFrom m Safe first)) found (t.answers first (omega arith) order) in
+      ((λ same. absurd (cc)), (λ none. absurd (none best.covers_one.0 best.covers_one.1)))
 
 -- answers for one kind of safety are answers for the same kind told otherwise
 module _ (n m : NetworkModel) (S T : ℕ → Tree → Type 0) (many : count n ≡ count m)
@@ -46,17 +56,15 @@ second_away n m source extends v i seconds less way =
 module _ (n : NetworkModel) (q : Query) (m : NetworkModel) (source : ℕ) (e : IsExtendedFor n q m source) where
   to_source : (moment : ℕ) (tree : Tree) → 1 ≤ moment → SafeAfter n q moment tree → SafeFrom m source q moment tree
   to_source moment tree some safe =
-      let place = e.last_place in
-      let there = added_there n m source e.extends e.valid q.target.0 (Some q.deadline.0) e.target_there e.away tree (moment - 1) (rw place at safe) in
+      let there = added_there n m source e.extends e.valid q.target.0 (Some q.deadline.0) e.target_there e.away tree (moment - 1) (rw e.last_place at safe) in
       let now : moment - 1 + 1 ≡ moment = omega arith in
       rw now at there
 
   from_source : (moment : ℕ) (tree : Tree) → 1 ≤ moment → SafeFrom m source q moment tree → SafeAfter n q moment tree
   from_source moment tree some safe =
-      let place = e.last_place in
       let now : moment - 1 + 1 ≡ moment = omega arith in
       let told = rw (← now) at safe in
-      rw place (added_back n m source e.extends e.valid q.target.0 (Some q.deadline.0) e.target_there e.away tree (moment - 1) told)
+      rw e.last_place (added_back n m source e.extends e.valid q.target.0 (Some q.deadline.0) e.target_there e.away tree (moment - 1) told)
 
   departure_told : (row : DepartureRow) → IsDepartureRow n row → IsDepartureRow m row
   departure_told row d =

@@ -1,7 +1,6 @@
 -- The first failure after the outcomes of a ride, and the bounds where there is none.
-use Rattle.std.proofs.Common.{◌≡◌, ℕ, ◌≤◌, ◌⊎◌, Bool, true, false, List, [], ◌∷◌, Option, Some, None, arith, refl, inl, inr, ◌∙◌, ap}
+use Rattle.std.proofs.Common.{◌≡◌, ℕ, suc, ◌≤◌, ◌⊎◌, Bool, true, false, List, [], ◌∷◌, length, Option, Some, None, arith, refl, inl, inr, ◌∙◌, ap}
 use Rattle.std.specs.Prelude.{if◌then◌else◌}
-use Rattle.std.proofs.lemmas.Bool.{cases_lt}
 use Rattle.std.proofs.lemmas.Bool.Decides.{nat_tests}
 use Rattle.plan_model.specs.declared.model.Outcome.{Outcome}
 use Rattle.plan_model.specs.declared.model.Query.{Query}
@@ -17,7 +16,18 @@ use Rattle.graph_score.specs.declared.outlooks.Outlook.TheVariants.{Safe, Failin
 use Rattle.graph_score.specs.Failures.{Fails, FailsIn, IsNotAfter, IsFirstFailure}
 use Rattle.graph_score.specs.Spans.{span_of, spans_of}
 use Rattle.graph_score.specs.Steps.{is_sooner, sooner_failure, with_outlook, first_failure_of, spans_in, mean_or, blend_of, IsOutlook}
-use Rattle.graph_score.proofs.Lists.{first_failure_of-some}
+
+-- a failure is not forgotten
+first_failure_of-some : (f : Failure) (kids : List Outlook) → first_failure_of (Some f) kids ≡ None → ⊥
+first_failure_of-some f [] none = cc none
+first_failure_of-some f (Safe span ∷ kids) none = first_failure_of-some f kids none
+first_failure_of-some f (Failing g ∷ kids) none = first_failure_of-some (sooner_failure (Some f) g) kids none
+
+-- where none fails there are bounds of each
+pub length_spans : (kids : List Outlook) → first_failure_of None kids ≡ None → length (spans_in kids) ≡ length kids
+length_spans [] none = refl
+length_spans (Safe span ∷ kids) none = ap suc (length_spans kids none)
+length_spans (Failing g ∷ kids) none = absurd (first_failure_of-some g kids none)
 
 abbrev May : Type 1
 May = ℕ → ℕ → Type 0
@@ -33,28 +43,13 @@ told_as None F G there back is = λ p x may. is p x (back p x may)
 told_as (Some f) F G there back is = record { fails = there f.place.0 f.moment.0 is.fails; first = λ r y may. is.first r y (back r y may) }
 
 not_after_trans : (p x r y s z : ℕ) → IsNotAfter p x r y → IsNotAfter r y s z → IsNotAfter p x s z
-not_after_trans p x r y s z (inl a) (inl b) = inl (omega (arith, a, b))
-not_after_trans p x r y s z (inl a) (inr b) = inl (omega (arith, a, b.0))
-not_after_trans p x r y s z (inr a) (inl b) = inl (omega (arith, a.0, b))
-not_after_trans p x r y s z (inr a) (inr b) = inr (omega (arith, a.0, b.0), omega (arith, a.1, b.1))
+not_after_trans p x r y s z first second = grind arith
 
 sooner_is : (a b : Failure) → is_sooner a b ≡ true → IsNotAfter a.place.0 a.moment.0 b.place.0 b.moment.0
-sooner_is a b is = elim (cases_lt a.moment.0 b.moment.0) [
-  | inl less ↦ inl less
-  | inr more ↦
-      let same : a.moment.0 ≡ b.moment.0 = grind (arith, nat_tests) in
-      let less : a.place.0 ≤ b.place.0 = grind (arith, nat_tests) in
-      inr (same, less)
-]
+sooner_is a b is = grind (arith, nat_tests)
 
 not_sooner : (a b : Failure) → is_sooner a b ≡ false → IsNotAfter b.place.0 b.moment.0 a.place.0 a.moment.0
-not_sooner a b is = elim (cases_lt b.moment.0 a.moment.0) [
-  | inl less ↦ inl less
-  | inr more ↦
-      let same : b.moment.0 ≡ a.moment.0 = grind (arith, nat_tests) in
-      let less : b.place.0 ≤ a.place.0 = grind (arith, nat_tests) in
-      inr (same, less)
-]
+not_sooner a b is = grind (arith, nat_tests)
 
 -- the sooner of two first failures is the first of both
 first_both : (a f : Failure) (F G : May) → IsFirst (Some a) F → IsFirst (Some f) G → IsFirst (Some (sooner_failure (Some a) f)) (λ p x. F p x ⊎ G p x)
@@ -97,20 +92,7 @@ module _ (n : NetworkModel) (q : Query) where
   ]) is
   first_told (o ∷ row) (value ∷ values) (Kid w tree kids) first F each is =
       told_as (first_failure_of (with_outlook first value) values) (λ p x. (F p x ⊎ Fails q tree p x) ⊎ FailsIn q kids p x) (λ p x. F p x ⊎ (Fails q tree p x ⊎ FailsIn q kids p x))
-      (λ p x may. elim may [
-        | inl here ↦ elim here [
-          | inl own ↦ inl own
-          | inr tree ↦ inr (inl tree)
-        ]
-        | inr there ↦ inr (inr there)
-      ])
-      (λ p x may. elim may [
-        | inl own ↦ inl (inl own)
-        | inr there ↦ elim there [
-          | inl tree ↦ inl (inr tree)
-          | inr rest ↦ inr rest
-        ]
-      ])
+      (λ p x may. grind arith) (λ p x may. grind arith)
       (first_told row values kids (with_outlook first value) (λ p x. F p x ⊎ Fails q tree p x) each.2 (with_tree first value tree F is each.1))
   first_told _ _ _ first F each is = absurd each
 

@@ -2,7 +2,7 @@
 use Rattle.std.proofs.Common.{◌≡◌, ℕ, zero, suc, ◌+◌, ◌<◌, ◌≤◌, List, [], ◌∷◌, ◌++◌, length, map, take, drop, Option, Some, None, All, arith, sym, subst, refl, ◌∙◌, ap}
 use Rattle.std.specs.Prelude.{slice_index_or, MatchOption}
 use Rattle.std.specs.List.{flat_map, AllWithin}
-use Rattle.std.proofs.lemmas.List.{drop_more, take-append-drop, length-take-le}
+use Rattle.std.proofs.lemmas.List.{drop_more, take-append-drop, length-take, length-take-le, get_or-take}
 use Rattle.std.proofs.lemmas.List.Elements.{All-append, All-contains, All-map, All-nil, All-tail, All-cons, Contains-append_left, Contains-append_right}
 use Rattle.plan_model.specs.declared.model.Leg.{Leg}
 use Rattle.plan_model.specs.declared.model.Query.{Query}
@@ -16,7 +16,7 @@ use Rattle.plan_graph.specs.Tidy.{IsFit, IsFitStart, IsFitRow}
 use Rattle.plan_model.proofs.Lists.{Contains-head, Contains-map, All-from_contains}
 use Rattle.graph_score.specs.declared.legs.GraphLeg.{GraphLeg}
 use Rattle.graph_score.specs.declared.legs.GraphLeg.TheVariants.{Start, Row}
-use Rattle.graph_score.specs.Legs.{HasRisingTables, IsFitLeg, IsFirstWrong, start_leg, legs_in, legs_of}
+use Rattle.graph_score.specs.Legs.{IsFitLeg, IsFirstWrong, start_leg, legs_in, legs_of}
 use Rattle.graph_score.specs.Steps.{AreFitRows}
 
 -- a row that fits stands at a place of the network
@@ -29,11 +29,10 @@ fit_place n valid p row fit =
 split_at : {X : Type 0} (xs : List X) (k : ℕ) (d : X) → k < length xs → xs ≡ take k xs ++ slice_index_or xs k d ∷ drop (k + 1) xs
 split_at xs k d within = sym (take-append-drop k xs) ∙ ap (λ rest. take k xs ++ rest) (drop_more xs k d within)
 
-take_each : {X : Type 0} (P : X → Type 0) (xs : List X) (k : ℕ) → AllWithin P xs 0 k → k ≤ length xs → All P (take k xs)
-take_each P xs zero each within = All-nil P
-take_each P [] (suc k) each within = All-nil P
-take_each P (x ∷ xs) (suc k) each within =
-    All-cons P x (take k xs) (each 0 x (omega arith) (omega arith)) (take_each P xs k (λ i d low below. each (suc i) d (omega arith) (omega (arith, below))) (omega (arith, within)))
+take_each : {X : Type 0} (P : X → Type 0) (xs : List X) (k : ℕ) → AllWithin P xs 0 k → All P (take k xs)
+take_each P xs k each i d within =
+    let early : i < k = omega (arith, length-take k xs) in
+    rw (get_or-take k xs i d early) (each i d (omega arith) early)
 
 pub first_wrong_is : (n : NetworkModel) (q : Query) (legs : List GraphLeg) (k : ℕ) (d : GraphLeg) → k < length legs → AllWithin (IsFitLeg n q) legs 0 k
     → (IsFitLeg n q (slice_index_or legs k d) → ⊥) → IsFirstWrong n q legs (k + 1)
@@ -43,7 +42,7 @@ first_wrong_is n q legs k d within fit breaks = record {
   others = drop (k + 1) legs;
   split = split_at legs k d within;
   number = let e = length-take-le k legs (omega (arith, within)) in omega (arith, e);
-  fit = take_each (IsFitLeg n q) legs k fit (omega (arith, within));
+  fit = take_each (IsFitLeg n q) legs k fit;
   breaks = breaks;
 }
 
@@ -78,15 +77,7 @@ start_fits n q graph leg each is =
     let here = subst (λ (s : Option Leg). All (IsFitLeg n q) (start_leg s)) is (each_left (IsFitLeg n q) (start_leg graph.start) (flat_map legs_in graph.tables) each) in
     here 0 (Start leg) (omega arith)
 
--- a graph that fits rises
-pub fit_rises : (n : NetworkModel) (q : Query) (graph : PlanGraph) → IsFit n q graph → HasRisingTables graph
-fit_rises n q graph fit = record {
-  places = fit.rising;
-  rows = λ k d within. (fit.tables k d within).rising;
-  some = λ k d within. (fit.tables k d within).some;
-}
-
--- and each of its legs fits
+-- each leg of a graph that fits does
 pub fit_legs : (n : NetworkModel) (q : Query) (graph : PlanGraph) → IsFit n q graph → All (IsFitLeg n q) (legs_of graph)
 fit_legs n q graph fit = by_start graph.start fit.starts
   where

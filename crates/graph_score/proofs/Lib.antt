@@ -1,6 +1,5 @@
 mod Picks
 mod GraphLegs
-mod Lists
 mod Failures
 mod Trees
 mod Means

@@ -22,7 +22,8 @@ use Rattle.plan_graph.specs.Rows.{pick_at}
 use Rattle.plan_graph.specs.Ready.{IsLegOf}
 use Rattle.graph_score.specs.declared.outlooks.Outlook.{Outlook}
 use Rattle.graph_score.specs.declared.outlooks.Outlook.TheVariants.{Failing}
-use Rattle.graph_score.specs.Steps.{AreFitRows, AreOutlooks, ExitsWithin, IsOutlook, arrived_outlook, by_leg, failure, no_outlook, outlook_at, outlook_of, outlooks_after, ride_by_rows}
+use Rattle.graph_score.specs.Steps.{AreFitRows, AreOutlooks, IsOutlook, arrived_outlook, by_leg, failure, no_outlook}
+use Rattle.graph_score.specs.Steps.{outlook_at, outlook_of, outlooks_after, ride_by_rows}
 use Rattle.graph_score.proofs.Failures.{blend_told}
 use Rattle.graph_score.proofs.Trees.{taken_row, next_after, after-there, after-stuck, after-ride}
 
@@ -59,10 +60,6 @@ pub record AreTold (n : NetworkModel) (q : Query) (tables : List PlaceTable) (or
   pub right : AreRight n q tables outlooks taken
 
 module _ (n : NetworkModel) (valid : IsValid n) (q : Query) (tables : List PlaceTable) (fit : AreFitRows n tables) where
-  -- each exit that is taken is one of the network
-  pub exits_within : ExitsWithin tables (count n)
-  exits_within place moment leg is = (taken_row n tables fit place moment leg is).0.exit
-
   module _ (order : List ConnectionId) (whole : IsScanOrder n order) where
     next_taken : (rest taken : List ConnectionId) (id : ConnectionId) → (rest ++ id ∷ []) ++ taken ≡ order → IsNext n (Known Never taken) id.0
     next_taken rest taken id split = next_of n valid Never order (whole_order n order whole) rest taken id split
@@ -145,25 +142,27 @@ module _ (n : NetworkModel) (valid : IsValid n) (q : Query) (tables : List Place
         before (inl is) other = absurd (other is)
         before (inr earlier) other = earlier
 
-    -- none was looked at
-    pub told_first : (outlooks : List Outlook) → length outlooks ≡ count n → AreTold n q tables order order outlooks
-    told_first outlooks many = record { taken = []; split = append-nil order; as_many = many; right = λ leg rides known. absurd known }
+module _ {n : NetworkModel} (valid : IsValid n) {q : Query} {tables : List PlaceTable} (fit : AreFitRows n tables) {order : List ConnectionId}
+    (whole : IsScanOrder n order) where
+  -- none was looked at
+  pub told_first : (outlooks : List Outlook) → length outlooks ≡ count n → AreTold n q tables order order outlooks
+  told_first outlooks many = record { taken = []; split = append-nil order; as_many = many; right = λ leg rides known. absurd known }
 
-    pub told_there : (rest : List ConnectionId) (id : ConnectionId) (outlooks : List Outlook) → AreTold n q tables order (rest ++ id ∷ []) outlooks → id.0 < count n
-    told_there rest id outlooks told = (next_taken rest told.taken id told.split).there
+  module _ (rest : List ConnectionId) (id : ConnectionId) {outlooks : List Outlook} (told : AreTold n q tables order (rest ++ id ∷ []) outlooks) where
+    pub told_there : id.0 < count n
+    told_there = (next_taken n valid q tables fit order whole rest told.taken id told.split).there
 
-    pub told_next : (rest : List ConnectionId) (id : ConnectionId) (outlooks : List Outlook) → AreTold n q tables order (rest ++ id ∷ []) outlooks
-        → AreTold n q tables order rest (set outlooks id.0 (outlook_of n tables q outlooks id.0))
-    told_next rest id outlooks told = record {
+    pub told_next : AreTold n q tables order rest (set outlooks id.0 (outlook_of n tables q outlooks id.0))
+    told_next = record {
       taken = id ∷ told.taken;
       split = sym (append_assoc rest (id ∷ []) told.taken) ∙ told.split;
       as_many = length-set outlooks id.0 (outlook_of n tables q outlooks id.0) ∙ told.as_many;
-      right = right_next outlooks rest told.taken id told.split told.as_many told.right;
+      right = right_next n valid q tables fit order whole outlooks rest told.taken id told.split told.as_many told.right;
     }
 
-    pub told_last : (rest : List ConnectionId) (outlooks : List Outlook) → rest ≡ [] → AreTold n q tables order rest outlooks → AreOutlooks n q tables outlooks
-    told_last rest outlooks none told leg there =
-        let taken_all : told.taken ≡ order = ap (λ (ids : List ConnectionId). ids ++ told.taken) (sym none) ∙ told.split in
-        let many = ap (λ (ids : List ConnectionId). length ids) taken_all in
-        let has = has_each_id n order whole in
-        told.right leg (count n - 1) (all_known n valid Never order (whole_order n order whole) rest told.taken none told.split leg.exit.0 there) (omega (arith, many, has.as_many, there))
+  pub told_last : {rest : List ConnectionId} {outlooks : List Outlook} → rest ≡ [] → AreTold n q tables order rest outlooks → AreOutlooks n q tables outlooks
+  told_last {rest} none told leg there =
+      let taken_all : told.taken ≡ order = ap (λ (ids : List ConnectionId). ids ++ told.taken) (sym none) ∙ told.split in
+      let many = ap (λ (ids : List ConnectionId). length ids) taken_all in
+      let has = has_each_id n order whole in
+      told.right leg (count n - 1) (all_known n valid Never order (whole_order n order whole) rest told.taken none told.split leg.exit.0 there) (omega (arith, many, has.as_many, there))

@@ -1,5 +1,5 @@
 -- The score of a graph whose legs fit, by what comes of it.
-use Rattle.std.proofs.Common.{◌≡◌, ◌≢◌, ℕ, ◌-◌, ◌<◌, ◌≤◌, ◌⊎◌, Option, Some, None, All, arith, sym, subst, refl, inl, inr}
+use Rattle.std.proofs.Common.{◌≡◌, ◌≢◌, ℕ, ◌-◌, ◌<◌, ◌≤◌, ⊎_elim, Option, Some, None, All, arith, sym, subst, refl, inl, inr}
 use Rattle.std.proofs.lemmas.Bool.{cases_lt, cases_eq}
 use Rattle.plan_model.specs.declared.model.Leg.{Leg}
 use Rattle.plan_model.specs.declared.model.Query.{Query}
@@ -19,7 +19,7 @@ use Rattle.graph_score.specs.Scores.{IsScored, IsUnsafe}
 use Rattle.graph_score.specs.Spans.{span_of}
 use Rattle.graph_score.specs.Steps.{IsOutlook, ride_by_rows}
 use Rattle.graph_score.proofs.GraphLegs.{rows_fit, start_fits}
-use Rattle.graph_score.proofs.Means.{exact_below, exact_covers, ride_enclosed, ride_near}
+use Rattle.graph_score.proofs.Means.{exact_below, exact_covers, ride_spanned}
 use Rattle.graph_score.proofs.Trees.{next_after, safe_never_fails, safe_ride, height_ridden, unfold-start, unfold-none, unfold-there}
 
 -- who may fail is not safe
@@ -32,15 +32,11 @@ module _ (n : NetworkModel) (valid : IsValid n) (q : Query) (graph : PlanGraph) 
 
   done_scored : q.source.0 ≡ q.target.0 → Never (Done q.start.0) → IsScored n q (Done q.start.0) (span_of n (Done q.start.0))
   done_scored there never = record {
-    safe = (refl, there, in_time (cases_lt q.deadline.0 q.start.0));
+    safe = (refl, there, ⊎_elim (λ late. absurd (never q.target.0 q.start.0 (refl, refl, late))) (λ soon. soon) (cases_lt q.deadline.0 q.start.0));
     means = refl;
     encloses = (exact_below q.start.0, exact_covers q.start.0);
     gap = omega arith;
   }
-    where
-      in_time : (q.deadline.0 < q.start.0) ⊎ (q.start.0 ≤ q.deadline.0) → q.start.0 ≤ q.deadline.0
-      in_time (inl late) = absurd (never q.target.0 q.start.0 (refl, refl, late))
-      in_time (inr soon) = soon
 
   ride_scored : (leg : Leg) → IsFitStart n q leg → Never (ride_by_rows n q graph.tables (count n - 1) leg)
       → IsScored n q (ride_by_rows n q graph.tables (count n - 1) leg) (span_of n (ride_by_rows n q graph.tables (count n - 1) leg))
@@ -49,11 +45,11 @@ module _ (n : NetworkModel) (valid : IsValid n) (q : Query) (graph : PlanGraph) 
       let rows = rows_fit n q graph fit in
       let safe = safe_ride n q graph.tables rows rides leg start never in
       let kids = kids_after (next_after n q graph.tables rows rides leg) (arr_of n leg.exit.0) (outcomes_of n leg) in
-      let near = ride_near n q.target.0 (Some q.deadline.0) valid leg.enter.0 leg.exit.0 kids start.is_leg.exit safe.3 in
+      let (within, near) = ride_spanned n valid q.target.0 (Some q.deadline.0) leg.enter.0 leg.exit.0 kids start.is_leg.exit safe.3 in
       record {
         safe = safe;
         means = refl;
-        encloses = ride_enclosed n q.target.0 (Some q.deadline.0) leg.enter.0 leg.exit.0 kids safe.3;
+        encloses = within;
         gap = omega (arith, near, height_ridden n q graph.tables rows rides leg, start.is_leg.exit);
       }
 

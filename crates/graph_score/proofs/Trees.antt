@@ -28,13 +28,10 @@ mutual
   cannot_fail n q (Stuck place moment) p x safe r y fails = absurd safe
 
   none_can_fail : (n : NetworkModel) (q : Query) (kids : Kids) (row : List Outcome) (p arrival : ℕ) → AreSafe n q.target.0 (Some q.deadline.0) kids row p arrival → (r y : ℕ) → FailsIn q kids r y → ⊥
-  none_can_fail n q Nil [] p arrival safe r y fails = fails
-  none_can_fail n q Nil (o ∷ row) p arrival safe r y fails = fails
+  none_can_fail n q Nil row p arrival safe r y fails = absurd fails
   none_can_fail n q (Kid w tree kids) [] p arrival safe r y fails = absurd safe
-  none_can_fail n q (Kid w tree kids) (o ∷ row) p arrival safe r y fails = elim fails [
-    | inl here ↦ cannot_fail n q tree p (arrival + o.delay) safe.1 r y here
-    | inr there ↦ none_can_fail n q kids row p arrival safe.2 r y there
-  ]
+  none_can_fail n q (Kid w tree kids) (o ∷ row) p arrival safe r y (inl here) = cannot_fail n q tree p (arrival + o.delay) safe.1 r y here
+  none_can_fail n q (Kid w tree kids) (o ∷ row) p arrival safe r y (inr there) = none_can_fail n q kids row p arrival safe.2 r y there
 
 pub safe_never_fails : (n : NetworkModel) (q : Query) (tree : Tree) → IsSafeFor n q tree → (r y : ℕ) → Fails q tree r y → ⊥
 safe_never_fails n q (Done a) safe r y fails = omega (arith, safe.0, safe.2, fails.2)
@@ -93,26 +90,34 @@ module _ (n : NetworkModel) (q : Query) (tables : List PlaceTable) (fit : AreFit
   kids_safe next p scheduled each (o ∷ row) never =
       (refl, each (scheduled + o.delay) (λ r y fails. never r y (inl fails)), kids_safe next p scheduled each row (λ r y fails. never r y (inr fails)))
 
-  -- who cannot fail after a leg is safe
-  safe_after : (rides : ℕ) (leg : Leg) (x : ℕ) → Never (next_after rides leg x) → SafeHere (next_after rides leg x) (end_of n leg) x
-  safe_after zero leg x never = elim (cases_eq (end_of n leg) q.target.0) [
-    | inl there ↦ subst (λ t. SafeHere t (end_of n leg) x) (sym (after-there zero leg x there)) (in_time (end_of n leg) x there (subst Never (after-there zero leg x there) never))
-    | inr away ↦ absurd (subst Never (after-over leg x away) never (end_of n leg) x (refl, refl))
+  -- what holds of who has arrived, of who is stuck and of each ride, since it does of what is done after it, holds of what is done after each leg
+  after_each : (P : ℕ → Leg → ℕ → Tree → Type 0) → ((rides : ℕ) (leg : Leg) (x : ℕ) → end_of n leg ≡ q.target.0 → P rides leg x (Done x))
+      → ((rides : ℕ) (leg : Leg) (x : ℕ) → P rides leg x (Stuck (end_of n leg) x))
+      → ((rides : ℕ) (leg : Leg) (x : ℕ) (next : Leg) → end_of n leg ≢ q.target.0 → pick_at tables (end_of n leg) x ≡ Some next
+      → ((y : ℕ) → P rides next y (next_after rides next y)) → P (suc rides) leg x (ride_by_rows n q tables rides next))
+      → (rides : ℕ) (leg : Leg) (x : ℕ) → P rides leg x (next_after rides leg x)
+  after_each P there stuck ride zero leg x = elim (cases_eq (end_of n leg) q.target.0) [
+    | inl here ↦ subst (P zero leg x) (sym (after-there zero leg x here)) (there zero leg x here)
+    | inr away ↦ subst (P zero leg x) (sym (after-over leg x away)) (stuck zero leg x)
   ]
-  safe_after (suc rides) leg x never = elim (cases_eq (end_of n leg) q.target.0) [
-    | inl there ↦ subst (λ t. SafeHere t (end_of n leg) x) (sym (after-there (suc rides) leg x there)) (in_time (end_of n leg) x there (subst Never (after-there (suc rides) leg x there) never))
-    | inr away ↦ by_leg (λ next y now. safe_after rides next y now) away (pick_at tables (end_of n leg) x) refl
+  after_each P there stuck ride (suc rides) leg x = elim (cases_eq (end_of n leg) q.target.0) [
+    | inl here ↦ subst (P (suc rides) leg x) (sym (after-there (suc rides) leg x here)) (there (suc rides) leg x here)
+    | inr away ↦ by_leg (λ next y. after_each P there stuck ride rides next y) away (pick_at tables (end_of n leg) x) refl
   ]
     where
-      by_leg : ((next : Leg) (y : ℕ) → Never (next_after rides next y) → SafeHere (next_after rides next y) (end_of n next) y)
-          → end_of n leg ≢ q.target.0 → (next : Option Leg) → pick_at tables (end_of n leg) x ≡ next → SafeHere (next_after (suc rides) leg x) (end_of n leg) x
-      by_leg onward away None is = absurd (subst Never (after-stuck (suc rides) leg x away is) never (end_of n leg) x (refl, refl))
-      by_leg onward away (Some next) is =
-          let e = after-ride rides leg x next away is in
-          let never_now = subst Never e never in
-          let row = taken_row n tables fit (end_of n leg) x next is in
-          subst (λ t. SafeHere t (end_of n leg) x) (sym e)
-          (away, row.0, row.1, kids_safe (next_after rides next) (end_of n next) (arr_of n next.exit.0) (onward next) (outcomes_of n next) never_now)
+      by_leg : ((next : Leg) (y : ℕ) → P rides next y (next_after rides next y)) → end_of n leg ≢ q.target.0 → (next : Option Leg)
+          → pick_at tables (end_of n leg) x ≡ next
+          → P (suc rides) leg x (next_after (suc rides) leg x)
+      by_leg onward away None is = subst (P (suc rides) leg x) (sym (after-stuck (suc rides) leg x away is)) (stuck (suc rides) leg x)
+      by_leg onward away (Some next) is = subst (P (suc rides) leg x) (sym (after-ride rides leg x next away is)) (ride rides leg x next away is (onward next))
+
+  -- who cannot fail after a leg is safe
+  safe_after : (rides : ℕ) (leg : Leg) (x : ℕ) → Never (next_after rides leg x) → SafeHere (next_after rides leg x) (end_of n leg) x
+  safe_after = after_each (λ rides leg x tree. Never tree → SafeHere tree (end_of n leg) x) (λ rides leg x there never. in_time (end_of n leg) x there never)
+      (λ rides leg x never. absurd (never (end_of n leg) x (refl, refl)))
+      (λ rides leg x next away is onward never.
+      let row = taken_row n tables fit (end_of n leg) x next is in
+      (away, row.0, row.1, kids_safe (next_after rides next) (end_of n next) (arr_of n next.exit.0) onward (outcomes_of n next) never))
 
   -- who cannot fail after the start leg is safe
   pub safe_ride : (rides : ℕ) (leg : Leg) → IsFitStart n q leg → Never (ride_by_rows n q tables rides leg) → IsSafeFor n q (ride_by_rows n q tables rides leg)
@@ -128,19 +133,8 @@ module _ (n : NetworkModel) (q : Query) (tables : List PlaceTable) (fit : AreFit
 
   -- as many rides are nested as may be at most
   height_after : (rides : ℕ) (leg : Leg) (x : ℕ) → height (next_after rides leg x) ≤ rides
-  height_after zero leg x = elim (cases_eq (end_of n leg) q.target.0) [
-    | inl there ↦ rw (after-there zero leg x there) (omega arith)
-    | inr away ↦ rw (after-over leg x away) (omega arith)
-  ]
-  height_after (suc rides) leg x = elim (cases_eq (end_of n leg) q.target.0) [
-    | inl there ↦ rw (after-there (suc rides) leg x there) (omega arith)
-    | inr away ↦ by_next (λ next. height_ride rides next (λ y. height_after rides next y)) away (pick_at tables (end_of n leg) x) refl
-  ]
-    where
-      by_next : ((next : Leg) → height (ride_by_rows n q tables rides next) ≤ suc rides) → end_of n leg ≢ q.target.0 → (next : Option Leg)
-          → pick_at tables (end_of n leg) x ≡ next → height (next_after (suc rides) leg x) ≤ suc rides
-      by_next onward away None is = rw (after-stuck (suc rides) leg x away is) (omega arith)
-      by_next onward away (Some next) is = rw (after-ride rides leg x next away is) (onward next)
+  height_after = after_each (λ rides leg x tree. height tree ≤ rides) (λ rides leg x there. omega arith) (λ rides leg x. omega arith)
+      (λ rides leg x next away is onward. height_ride rides next onward)
 
   pub height_ridden : (rides : ℕ) (leg : Leg) → height (ride_by_rows n q tables rides leg) ≤ suc rides
   height_ridden rides leg = height_ride rides leg (height_after rides leg)

@@ -65,12 +65,7 @@ module _ (n : NetworkModel) (names : NameLists) (source target start : ℕ) (tex
       → IsTextOf n names head graph text × IsHeadOf source target start head
   parts_told version r rs head graph table number is_head is_graph =
       let (row, asked) = head_told names version r number source target start head is_head in
-      let of_query : graph_after_first n names version head.query.source.0 head.query.target.0 head.query.start.0 rs ≡ Ok graph
-      = ap (λ (x : ℕ). graph_after_first n names version x head.query.target.0 head.query.start.0 rs) asked.source
-      ∙ ap (λ (x : ℕ). graph_after_first n names version source x head.query.start.0 rs) asked.target
-      ∙ ap (λ (x : ℕ). graph_after_first n names version source target x rs) asked.start
-      ∙ is_graph in
-      let told = graph_told n names version head.query rs graph of_query in (
+      let told = graph_told n names version head.query rs graph (rw (asked.source, asked.target, asked.start) is_graph) in (
         record {
           version = version;
           first = r;

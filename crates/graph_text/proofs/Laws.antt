@@ -28,22 +28,22 @@ module _ (n : NetworkModel) (valid : IsValid n) where
       let way = limit_of-some n place leg limit is in
       (way_takes n valid place (from_of n leg.enter.0) way.0 (valid.connections leg.enter.0 is_leg.enter).from_in way.1).0
 
+  start_leg : (start : Option Leg) (P : Type 0) (Q : Leg → Type 0) → MatchOption start P Q → ((leg : Leg) → Q leg → IsLegOf n leg) → IfSome start (IsLegOf n)
+  start_leg None P Q is each = tt
+  start_leg (Some leg) P Q is each = each leg is
+
   pub ready_printable : (q : Query) (graph : ExpandedGraph) → IsReady n q graph → IsPrintable n graph
   ready_printable q graph ready = record {
-    start = start_by graph.start ready.starts;
+    start = start_leg graph.start (q.source.0 ≡ q.target.0) (λ leg. (q.source.0 ≢ q.target.0) × IsLegOf n leg) ready.starts (λ leg is. is.1);
     rides = λ k d within. let r = ready.rides k d within in record {
       is_leg = r.is_leg;
       rows = λ i e inside. let row = r.rows i e inside in record { is_leg = row.is_leg; by = omega (arith, row.in_time, limit_soon _ row.limit _ row.is_leg row.is_limit) };
     };
   }
-    where
-      start_by : (start : Option Leg) → MatchOption start (q.source.0 ≡ q.target.0) (λ leg. (q.source.0 ≢ q.target.0) × IsLegOf n leg) → IfSome start (IsLegOf n)
-      start_by None is = tt
-      start_by (Some leg) is = is.1
 
   pub fit_printable : (q : Query) (graph : PlanGraph) → IsFit n q graph → IsPrintablePlan n graph
   fit_printable q graph fit = record {
-    start = start_by graph.start fit.starts;
+    start = start_leg graph.start ((q.source.0 ≡ q.target.0) × (graph.tables ≡ [])) (IsFitStart n q) fit.starts (λ leg is. is.is_leg);
     tables = λ k d within. let t = fit.tables k d within in let table = slice_index_or graph.tables k d in let first = t.rows 0 default (omega (arith, t.some)) in record {
       place = place_there table.place.0 (slice_index_or table.rows 0 default).by.0 (slice_index_or table.rows 0 default).leg first.is_leg first.by;
       rows = λ i e inside. let row = t.rows i e inside in record {
@@ -56,7 +56,3 @@ module _ (n : NetworkModel) (valid : IsValid n) where
     where
       default : GraphRow
       default = record { by = record { 0 = 0 }; leg = record { enter = record { 0 = 0 }; exit = record { 0 = 0 } } }
-
-      start_by : (start : Option Leg) → MatchOption start ((q.source.0 ≡ q.target.0) × (graph.tables ≡ [])) (IsFitStart n q) → IfSome start (IsLegOf n)
-      start_by None is = tt
-      start_by (Some leg) is = is.is_leg

@@ -1,9 +1,7 @@
 pub mod Fields
 pub mod Laws
 pub mod Rows
-pub mod Steps
 pub mod Tables
 pub mod Accepted
-pub mod Printed
 pub mod ReadBack
 mod Leaving

@@ -1,14 +1,17 @@
 -- What was printed is read back.
-use Rattle.std.proofs.Common.{◌≡◌, ℕ, suc, ◌<◌, ◌≤◌, ◌^◌, List, [], ◌∷◌, ◌++◌, length, Option, Some, None, Bool, true, false, All}
+use Rattle.std.proofs.Common.{◌≡◌, ℕ, ◌<◌, ◌≤◌, ◌^◌, List, [], ◌∷◌, ◌++◌, length, map, Option, Some, None, Bool, true, false, All}
 use Rattle.std.proofs.Common.{AllPairs, arith, sym, refl, ap, ◌∙◌, append_assoc}
-use Rattle.std.specs.Prelude.{◌==◌, ◌||◌, if◌then◌else◌, slice_index_or, decimal, codes, eqb}
+use Rattle.std.specs.Prelude.{◌==◌, if◌then◌else◌, slice_index_or, decimal, codes, eqb}
 use Rattle.std.specs.Option.{option_and_then}
 use Rattle.std.specs.Cmp.Lexicographic.{bytes_decides}
-use Rattle.std.specs.List.{list_any, IsDistinct, AllByRecursion}
-use Rattle.std.proofs.lemmas.Bool.Decides.{nat_tests}
-use Rattle.std.proofs.lemmas.Bool.{false≢true, and_parts, eqb-true, eq-eqb, ne_eqb}
-use Rattle.std.proofs.lemmas.List.Elements.{All-cons, All-nil, All-head, All-tail}
+use Rattle.std.proofs.lemmas.Bool.{eqb-true, eq-eqb, ne_eqb}
+use Rattle.std.proofs.lemmas.List.{get_or-map, length-map}
+use Rattle.std.proofs.lemmas.List.Elements.{All-head, All-tail, All-map, All-contains}
+use Rattle.std.proofs.lemmas.List.Recursion.{and_at}
+use Rattle.std.proofs.lemmas.Map.Keys.{IsDistinct-from_apart}
+use Rattle.std.proofs.lemmas.Map.Views.{Contains-from_any}
 use Rattle.std.proofs.lemmas.Map.Steps.{length-le_from_distinct_below}
+use Rattle.csv.specs.Writing.{default_writer, row_text}
 use Rattle.csv.proofs.RoundTrip.{rows_text as text_of_rows}
 use Rattle.csv.specs.Reading.{strip_bom}
 use Rattle.clock_text.specs.Civil.{moment_text, nanos_text, last_printable}
@@ -41,9 +44,27 @@ use Rattle.printed_rows.proofs.Names.{place_kept, run_kept, place_back, run_back
 use Rattle.graph_text.proofs.Laws.{limit_soon, place_there}
 use Rattle.graph_text.proofs.Accepted.{text_read}
 use Rattle.printed_rows.proofs.Plain.{moment_kept, nanos_kept, decimal_kept, whole_back}
-use Rattle.graph_text.proofs.Printed.{fields_kept, rows-append}
 use Rattle.printed_rows.proofs.Printed.{IsKept, AreKept, kept-append, table_back}
 use Rattle.plan_model.specs.Bounds.{most_connections}
+
+-- what holds of either version holds of each
+by_version : (P : Version → Type 0) → P First → P Second → (version : Version) → P version
+by_version P first second First = first
+by_version P first second Second = second
+
+fields_kept : (version : Version) (a b c d e f g h last : List ℕ) → trimmed_text a ≡ a → trimmed_text b ≡ b → trimmed_text c ≡ c → trimmed_text d ≡ d
+    → trimmed_text e ≡ e
+    → trimmed_text f ≡ f → trimmed_text g ≡ g → trimmed_text h ≡ h → trimmed_text last ≡ last
+    → IsKept (a ∷ b ∷ c ∷ d ∷ e ∷ f ∷ g ∷ h ∷ ninth version last)
+fields_kept First a b c d e f g h last one two three four five six seven eight nine = cc
+fields_kept Second a b c d e f g h last one two three four five six seven eight nine = cc
+
+rows-append : (rows more : List (List (List ℕ))) → text_of_rows (rows ++ more) ≡ text_of_rows rows ++ text_of_rows more
+unfolding text_of_rows
+rows-append [] more = refl
+rows-append (row ∷ rows) more =
+    ap (λ (text : List ℕ). row_text default_writer row ++ text) (rows-append rows more)
+    ∙ sym (append_assoc (row_text default_writer row) (text_of_rows rows) (text_of_rows more))
 
 -- the records of a leg, of a table's rows, of a place, and of all tables
 abbrev leg_record : NetworkModel → NameLists → Version → List ℕ → List ℕ → Leg → List (List ℕ)
@@ -121,7 +142,8 @@ module _ (n : NetworkModel) (names : NameLists) (version : Version) (valid : IsV
       let enter = valid.connections leg.enter.0 is_leg.enter in
       let exit = valid.connections leg.exit.0 is_leg.exit in
       record {
-        is_of_kind = of_kind version;
+        is_of_kind = by_version (λ v. is_kind kind (width_of v) (leg_record n names v kind (moment_text moment) leg) ≡ true)
+            ((bytes_decides kind kind).1 refl) ((bytes_decides kind kind).1 refl) version;
         by = text_tells moment soon;
         run = run_back n names fit own leg.enter.0 is_leg.enter;
         enter = step_back n valid leg.enter.0 is_leg.enter;
@@ -129,67 +151,37 @@ module _ (n : NetworkModel) (names : NameLists) (version : Version) (valid : IsV
         exit = step_back n valid leg.exit.0 is_leg.exit;
         to = place_back n names fit own (to_of n leg.exit.0) exit.to_in;
         arrival = text_tells (arr_of n leg.exit.0) (omega (arith, exit.early));
-        from = from_back version told;
+        from = by_version (λ v. IsTold n v place leg → entry_in v names place (leg_record n names v kind (moment_text moment) leg) ≡ Some
+            (from_of n leg.enter.0))
+            (λ leaves. ap Some (sym leaves)) (λ any. place_back n names fit own (from_of n leg.enter.0) enter.from_in) version told;
       }
-    where
-      of_kind : (v : Version) → is_kind kind (width_of v) (leg_record n names v kind (moment_text moment) leg) ≡ true
-      of_kind First = (bytes_decides kind kind).1 refl
-      of_kind Second = (bytes_decides kind kind).1 refl
-
-      from_back : (v : Version) → IsTold n v place leg → entry_in v names place (leg_record n names v kind (moment_text moment) leg) ≡ Some (from_of n leg.enter.0)
-      from_back First leaves = ap Some (sym leaves)
-      from_back Second any = place_back n names fit own (from_of n leg.enter.0) (valid.connections leg.enter.0 is_leg.enter).from_in
 
   -- a table has at most a row for each connection, since rows of one entry have one limit
-  abbrev entries : List GraphRow → List ℕ
-  entries [] = []
-  entries (row ∷ rows) = row.leg.enter.0 ∷ entries rows
-
-  entries_length : (rows : List GraphRow) → length (entries rows) ≡ length rows
-  entries_length [] = refl
-  entries_length (row ∷ rows) = omega (arith, entries_length rows)
-
   by_entry : (place : ℕ) (a b : GraphRow) → IsFitRow n place a → IsFitRow n place b → a.leg.enter.0 ≡ b.leg.enter.0 → a.by.0 ≡ b.by.0
-  by_entry place a b first second same = some_same (sym first.by ∙ ap (λ (enter : ℕ). option_and_then (earlier_by (dep_of n enter)) (way_of n place (from_of n enter))) same ∙ second.by)
-    where
-      some_same : {x y : ℕ} → Some x ≡ Some y → x ≡ y
-      some_same is = cc
-
-  other_entries : (place : ℕ) (row : GraphRow) (rows : List GraphRow) → IsFitRow n place row → All (IsFitRow n place) rows → All (λ next. row.by.0 < next.by.0) rows
-      → AllByRecursion (λ i. eqb row.leg.enter.0 i ≡ false) (entries rows)
-  other_entries place row [] own_row fits later = tt
-  other_entries place row (next ∷ rows) own_row fits later =
-      let first = All-head (IsFitRow n place) next rows fits in
-      let less = All-head (λ x. row.by.0 < x.by.0) next rows later in (
-        ne_eqb row.leg.enter.0 next.leg.enter.0 (λ same. omega (arith, by_entry place row next own_row first same, less)),
-        other_entries place row rows own_row (All-tail (IsFitRow n place) next rows fits) (All-tail (λ x. row.by.0 < x.by.0) next rows later),
-      )
-
-  entries_differ : (place : ℕ) (rows : List GraphRow) → All (IsFitRow n place) rows → AllPairs (λ a b. a.by.0 < b.by.0) rows → IsDistinct eqb (entries rows)
-  unfolding IsDistinct
-  entries_differ place [] fits rising = tt
-  entries_differ place (row ∷ rows) fits rising = (
-    other_entries place row rows (All-head (IsFitRow n place) row rows fits) (All-tail (IsFitRow n place) row rows fits) (λ k d within. rising 0 (suc k) d (omega arith) (omega (arith, within))),
-    entries_differ place rows (All-tail (IsFitRow n place) row rows fits) (λ i j d less within. rising (suc i) (suc j) d (omega (arith, less)) (omega (arith, within))),
-  )
-
-  entry_if : (test rest : Bool) (q enter : ℕ) → eqb q enter ≡ test → enter < count n → (rest ≡ true → q < count n) → (test || rest) ≡ true → q < count n
-  entry_if true rest q enter same there more found = let e : q ≡ enter = grind (arith, nat_tests) in omega (arith, e, there)
-  entry_if false rest q enter same there more found = more found
-
-  entries_there : (place : ℕ) (rows : List GraphRow) → All (IsFitRow n place) rows → (q : ℕ) → list_any (eqb q) (entries rows) ≡ true → q < count n
-  entries_there place [] fits q found = absurd (false≢true found)
-  entries_there place (row ∷ rows) fits q found =
-      entry_if (eqb q row.leg.enter.0) (list_any (eqb q) (entries rows)) q row.leg.enter.0 refl (All-head (IsFitRow n place) row rows fits).is_leg.enter
-      (entries_there place rows (All-tail (IsFitRow n place) row rows fits) q) found
-
-  few_legs : (t : PlaceTable) → IsFitTable n t → length t.rows ≤ most_connections
-  few_legs t own_table =
-      let few = length-le_from_distinct_below (entries t.rows) (count n) (entries_differ t.place.0 t.rows own_table.rows own_table.rising) (entries_there t.place.0 t.rows own_table.rows) in
-      omega (arith, few, entries_length t.rows, valid.few_connections)
+  by_entry place a b first second same =
+      let both : Some a.by.0 ≡ Some b.by.0 =
+      sym first.by ∙ ap (λ (enter : ℕ). option_and_then (earlier_by (dep_of n enter)) (way_of n place (from_of n enter))) same ∙ second.by in
+      cc
 
   first_row : GraphRow
   first_row = record { by = record { 0 = 0 }; leg = record { enter = record { 0 = 0 }; exit = record { 0 = 0 } } }
+
+  few_legs : (t : PlaceTable) → IsFitTable n t → length t.rows ≤ most_connections
+  few_legs t own_table =
+      let entry = λ (row : GraphRow). row.leg.enter.0 in
+      let entries = map entry t.rows in
+      let many : length entries ≡ length t.rows = length-map t.rows entry in
+      let differ = IsDistinct-from_apart eqb entries (λ i j d less within.
+      rw (get_or-map entry t.rows i first_row d (omega (arith, less, within, many)), get_or-map entry t.rows j first_row d (omega (arith, within, many)))
+      (ne_eqb _ _ (λ same. omega (
+        arith,
+        own_table.rising i j first_row less (omega (arith, within, many)),
+        by_entry t.place.0 _ _ (own_table.rows i first_row (omega (arith, less, within, many))) (own_table.rows j first_row (omega (arith, within, many))) same,
+      )))) in
+      let inside = All-map (λ (e : ℕ). e < count n) entry t.rows (λ k d within. (own_table.rows k d within).is_leg.enter) in
+      let few = length-le_from_distinct_below entries (count n) differ (λ q found. All-contains (λ (e : ℕ). e < count n) entries q inside
+      (Contains-from_any eqb-true q entries found)) in
+      omega (arith, few, many, valid.few_connections)
 
   table_there : (t : PlaceTable) → IsFitTable n t → t.place.0 < length n.change
   table_there t own_table =
@@ -197,13 +189,17 @@ module _ (n : NetworkModel) (names : NameLists) (version : Version) (valid : IsV
       let first = own_table.rows 0 first_row (omega (arith, own_table.some)) in
       place_there n valid t.place.0 row.by.0 row.leg first.is_leg first.by
 
-  -- the records of tables are kept
-  legs_kept : (place : ℕ) (rows : List GraphRow) → All (IsFitRow n place) rows → AreKept (leg_records n names version rows)
-  legs_kept place [] fits = tt
-  legs_kept place (row ∷ rows) fits = (
-    leg_kept (codes "leg") (moment_text row.by.0) row.leg (All-head (IsFitRow n place) row rows fits).is_leg refl (moment_kept row.by.0),
-    legs_kept place rows (All-tail (IsFitRow n place) row rows fits),
-  )
+  -- the rows of a table are kept, and tell it
+  legs_back : (place : ℕ) (rows : List GraphRow) → All (IsToldRow n version place) rows
+      → AreKept (leg_records n names version rows) × AreLegRows n names version place rows (leg_records n names version rows)
+  legs_back place [] all = (tt, tt)
+  legs_back place (row ∷ rows) all =
+      let (fits, told) = All-head (IsToldRow n version place) row rows all in
+      let (kept, tells) = legs_back place rows (All-tail (IsToldRow n version place) row rows all) in
+      let soon : row.by.0 ≤ last_printable = omega (arith, limit_soon n valid place row.by.0 row.leg fits.is_leg fits.by) in (
+        (leg_kept (codes "leg") (moment_text row.by.0) row.leg fits.is_leg refl (moment_kept row.by.0), kept),
+        (leg_tells (codes "leg") place row.by.0 row.leg fits.is_leg soon told, tells),
+      )
 
   place_record_kept : (t : PlaceTable) → IsFitTable n t → IsKept (place_record n names version t)
   place_record_kept t own_table =
@@ -213,43 +209,25 @@ module _ (n : NetworkModel) (names : NameLists) (version : Version) (valid : IsV
       fields_kept version (codes "place") (place_name names t.place.0) (decimal (change_of n t.place.0)) (decimal (length t.rows)) [] [] [] [] []
       refl (place_kept n names fit t.place.0 there) (decimal_kept (change_of n t.place.0) (omega (arith, change.1))) (decimal_kept (length t.rows) (omega (arith, few))) refl refl refl refl refl
 
-  tables_kept : (tables : List PlaceTable) → All (IsFitTable n) tables → AreKept (table_records n names version tables)
-  tables_kept [] fits = tt
-  tables_kept (t ∷ tables) fits =
-      let first = All-head (IsFitTable n) t tables fits in (
-        place_record_kept t first,
-        kept-append (leg_records n names version t.rows) (table_records n names version tables) (legs_kept t.place.0 t.rows first.rows) (tables_kept tables (All-tail (IsFitTable n) t tables fits)),
-      )
-
-  -- and tell the tables
-  legs_tell : (place : ℕ) (rows : List GraphRow) → All (IsToldRow n version place) rows → AreLegRows n names version place rows (leg_records n names version rows)
-  legs_tell place [] all = tt
-  legs_tell place (row ∷ rows) all =
-      let first = All-head (IsToldRow n version place) row rows all in (
-        leg_tells (codes "leg") place row.by.0 row.leg first.0.is_leg (omega (arith, limit_soon n valid place row.by.0 row.leg first.0.is_leg first.0.by)) first.1,
-        legs_tell place rows (All-tail (IsToldRow n version place) row rows all),
-      )
-
   place_tells : (t : PlaceTable) → IsFitTable n t → IsPlaceRow n names version t.place.0 (length t.rows) (place_record n names version t)
   place_tells t own_table =
       let there = table_there t own_table in
       record {
-        is_of_kind = of_kind version;
+        is_of_kind = by_version (λ v. is_place v (place_record n names v t) ≡ true) refl refl version;
         name = place_back n names fit own t.place.0 there;
         change = whole_back (change_of n t.place.0) (let small = (valid.changes t.place.0 there).1 in omega arith);
         rows = whole_back (length t.rows) (let few = few_legs t own_table in omega arith);
       }
-    where
-      of_kind : (v : Version) → is_place v (place_record n names v t) ≡ true
-      of_kind First = refl
-      of_kind Second = refl
 
-  tables_tell : (tables : List PlaceTable) → All (IsToldTable n version) tables → AreTableRows n names version tables (table_records n names version tables)
-  tables_tell [] all = tt
-  tables_tell (t ∷ tables) all =
-      let first = All-head (IsToldTable n version) t tables all in (
-        place_tells t first.0,
-        (leg_records n names version t.rows, table_records n names version tables, refl, legs_tell t.place.0 t.rows first.1, tables_tell tables (All-tail (IsToldTable n version) t tables all)),
+  tables_back : (tables : List PlaceTable) → All (IsToldTable n version) tables
+      → AreKept (table_records n names version tables) × AreTableRows n names version tables (table_records n names version tables)
+  tables_back [] all = (tt, tt)
+  tables_back (t ∷ tables) all =
+      let (fits, told) = All-head (IsToldTable n version) t tables all in
+      let legs = legs_back t.place.0 t.rows told in
+      let rest = tables_back tables (All-tail (IsToldTable n version) t tables all) in (
+        (place_record_kept t fits, kept-append (leg_records n names version t.rows) (table_records n names version tables) legs.0 rest.0),
+        (place_tells t fits, (leg_records n names version t.rows, table_records n names version tables, refl, legs.1, rest.1)),
       )
 
   -- the first row
@@ -257,17 +235,14 @@ module _ (n : NetworkModel) (names : NameLists) (version : Version) (valid : IsV
   head_kept head asked =
       fields_kept version (codes "graph") (number_of_version version) (place_name names head.query.source.0) (place_name names head.query.target.0)
       (moment_text head.query.start.0) (moment_text head.query.deadline.0) (nanos_text head.bounds.lo) (nanos_text head.bounds.hi) []
-      refl (number_kept version) (place_kept n names fit head.query.source.0 asked.source) (place_kept n names fit head.query.target.0 asked.target)
+      refl (by_version (λ v. trimmed_text (number_of_version v) ≡ number_of_version v) refl refl version)
+      (place_kept n names fit head.query.source.0 asked.source) (place_kept n names fit head.query.target.0 asked.target)
       (moment_kept head.query.start.0) (moment_kept head.query.deadline.0) (nanos_kept head.bounds.lo) (nanos_kept head.bounds.hi) refl
-    where
-      number_kept : (v : Version) → trimmed_text (number_of_version v) ≡ number_of_version v
-      number_kept First = refl
-      number_kept Second = refl
 
   head_tells : (head : Head) → IsPrintableQuery n head.query → head.bounds.lo ≤ head.bounds.hi → head.bounds.hi < 2 ^ 64 → IsHeadRow names version head (head_record names version head)
   head_tells head asked bounds small = record {
-    is_of_kind = of_kind version;
-    number = number_back version;
+    is_of_kind = by_version (λ v. is_head v (head_record names v head) ≡ true) refl refl version;
+    number = by_version (λ v. version_in (head_record names v head) ≡ Some v) refl refl version;
     source = place_back n names fit own head.query.source.0 asked.source;
     target = place_back n names fit own head.query.target.0 asked.target;
     start = text_tells head.query.start.0 asked.start;
@@ -275,14 +250,6 @@ module _ (n : NetworkModel) (names : NameLists) (version : Version) (valid : IsV
     lo = nanos_tell head.bounds.lo (omega (arith, bounds, small));
     hi = nanos_tell head.bounds.hi small;
   }
-    where
-      of_kind : (v : Version) → is_head v (head_record names v head) ≡ true
-      of_kind First = refl
-      of_kind Second = refl
-
-      number_back : (v : Version) → version_in (head_record names v head) ≡ Some v
-      number_back First = refl
-      number_back Second = refl
 
   -- the text begins with no byte-order mark
   no_mark : (rest : List (List ℕ)) (rows : List (List (List ℕ))) → strip_bom (text_of_rows ((codes "graph" ∷ rest) ∷ rows)) ≡ text_of_rows ((codes "graph" ∷ rest) ∷ rows)
@@ -302,57 +269,50 @@ module _ (n : NetworkModel) (names : NameLists) (version : Version) (valid : IsV
       ap (λ (test : Bool). first ++ (if test then [] else second ++ tables_text n names version tables)) (ne_eqb head.query.source.0 head.query.target.0 own_graph.starts.differ)
       ∙ ap (λ (text : List ℕ). first ++ (second ++ text)) (tables_printed n names version tables)
 
-  graph_kept : (q : Query) (start : Option Leg) (tables : List PlaceTable) → IsFit n q (record { start = start; tables = tables }) → AreKept (graph_records n names version start tables)
-  graph_kept q None tables own_graph = tt
-  graph_kept q (Some leg) tables own_graph =
-      (leg_kept (codes "start") (moment_text (dep_of n leg.enter.0)) leg own_graph.starts.is_leg refl (moment_kept (dep_of n leg.enter.0)), tables_kept tables own_graph.tables)
-
-  graph_tells : (q : Query) (start : Option Leg) (tables : List PlaceTable) → IsFit n q (record { start = start; tables = tables }) → All (IsToldTable n version) tables
-      → AreGraphRows n names version q.source.0 start tables (graph_records n names version start tables)
-  graph_tells q None tables own_graph all = refl
-  graph_tells q (Some leg) tables own_graph all =
+  graph_back : (q : Query) (start : Option Leg) (tables : List PlaceTable) → IsFit n q (record { start = start; tables = tables })
+      → All (IsToldTable n version) tables
+      → AreKept (graph_records n names version start tables) × AreGraphRows n names version q.source.0 start tables (graph_records n names version start tables)
+  graph_back q None tables own_graph all = (tt, refl)
+  graph_back q (Some leg) tables own_graph all =
       let enter = valid.connections leg.enter.0 own_graph.starts.is_leg.enter in
-      (leg_tells (codes "start") q.source.0 (dep_of n leg.enter.0) leg own_graph.starts.is_leg (omega (arith, enter.forward, enter.early)) (told version), tables_tell tables all)
-    where
-      told : (v : Version) → IsTold n v q.source.0 leg
-      told First = own_graph.starts.leaves
-      told Second = tt
+      let told = by_version (λ v. IsTold n v q.source.0 leg) own_graph.starts.leaves tt version in
+      let rest = tables_back tables all in (
+        (leg_kept (codes "start") (moment_text (dep_of n leg.enter.0)) leg own_graph.starts.is_leg refl (moment_kept (dep_of n leg.enter.0)), rest.0),
+        (leg_tells (codes "start") q.source.0 (dep_of n leg.enter.0) leg own_graph.starts.is_leg (omega (arith, enter.forward, enter.early)) told, rest.1),
+      )
 
   is_text_of : (head : Head) (start : Option Leg) (tables : List PlaceTable) → IsPrintableQuery n head.query → head.query.start.0 ≤ head.query.deadline.0
       → head.bounds.lo ≤ head.bounds.hi → head.bounds.hi < 2 ^ 64 → IsFit n head.query (record { start = start; tables = tables }) → All (IsToldTable n version) tables
       → IsTextOf n names head (record { start = start; tables = tables }) (graph_text_in n names version head (record { start = start; tables = tables }))
   is_text_of head start tables asked in_time bounds small own_graph all =
       let records = graph_records n names version start tables in
+      let back = graph_back head.query start tables own_graph all in
       record {
         version = version;
         first = head_record names version head;
         others = records;
         table = ap table_of (graph_printed head start tables own_graph)
-            ∙ table_back (head_record names version head ∷ records) (head_kept head asked, graph_kept head.query start tables own_graph) (no_mark _ records);
+            ∙ table_back (head_record names version head ∷ records) (head_kept head asked, back.0) (no_mark _ records);
         head_row = head_tells head asked bounds small;
-        are_rows = graph_tells head.query start tables own_graph all;
+        are_rows = back.1;
         fit = own_graph;
         in_time = in_time;
         bounds = bounds;
       }
 
 -- the version that a graph has can tell it
-rows_told : (n : NetworkModel) (place : ℕ) (rows : List GraphRow) → rows_leave n place rows ≡ true → All (IsFitRow n place) rows → All (IsToldRow n First place) rows
-rows_told n place [] leave fits = All-nil (IsToldRow n First place)
-rows_told n place (row ∷ rows) leave fits =
-    let both = and_parts (from_of n row.leg.enter.0 == place) (rows_leave n place rows) leave in
-    All-cons (IsToldRow n First place) row rows (All-head (IsFitRow n place) row rows fits, eqb-true (from_of n row.leg.enter.0) place both.0)
-    (rows_told n place rows both.1 (All-tail (IsFitRow n place) row rows fits))
-
-tables_told : (n : NetworkModel) (tables : List PlaceTable) → tables_leave n tables ≡ true → All (IsFitTable n) tables → All (IsToldTable n First) tables
-tables_told n [] leave fits = All-nil (IsToldTable n First)
-tables_told n (t ∷ tables) leave fits =
-    let both = and_parts (rows_leave n t.place.0 t.rows) (tables_leave n tables) leave in
-    let first = All-head (IsFitTable n) t tables fits in
-    All-cons (IsToldTable n First) t tables (first, rows_told n t.place.0 t.rows both.0 first.rows) (tables_told n tables both.1 (All-tail (IsFitTable n) t tables fits))
-
 told_by_version : (n : NetworkModel) (tables : List PlaceTable) (leave : Bool) → tables_leave n tables ≡ leave → All (IsFitTable n) tables → All (IsToldTable n (version_by leave)) tables
-told_by_version n tables true leave fits = tables_told n tables leave fits
+told_by_version n tables true leave fits = λ k d within.
+    let t = slice_index_or tables k d in
+    let own = fits k d within in
+    let all = and_at (tables_leave n) (λ t. rows_leave n t.place.0 t.rows) refl (λ x xs. refl) tables k d within leave in (
+      own,
+      λ i e inside. (
+        own.rows i e inside,
+        eqb-true (from_of n (slice_index_or t.rows i e).leg.enter.0) t.place.0
+            (and_at (rows_leave n t.place.0) (λ row. from_of n row.leg.enter.0 == t.place.0) refl (λ x xs. refl) t.rows i e inside all),
+      ),
+    )
 told_by_version n tables false leave fits = λ k d within. let t = fits k d within in (t, λ i e inside. (t.rows i e inside, tt))
 
 -- a graph that fits is printed, and read back

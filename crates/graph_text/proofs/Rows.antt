@@ -36,29 +36,22 @@ numbers_told : (a b c d e : Option ℕ) (x : LegRow) → leg_numbers a b c d e �
     → (a ≡ Some x.moment.0) × (b ≡ Some x.enter) × (c ≡ Some x.dep.0) × (d ≡ Some x.exit) × (e ≡ Some x.arr.0)
 numbers_told (Some a) (Some b) (Some c) (Some d) (Some e) x is =
     let same : record { moment = record { 0 = a }; enter = b; dep = record { 0 = c }; exit = d; arr = record { 0 = e } } ≡ x = (cc) in
-    subst (λ (y : LegRow). (Some a ≡ Some y.moment.0) × (Some b ≡ Some y.enter) × (Some c ≡ Some y.dep.0) × (Some d ≡ Some y.exit) × (Some e ≡ Some y.arr.0)) same (refl, refl, refl, refl, refl)
-numbers_told None b c d e x is = absurd (cc)
-numbers_told (Some a) None c d e x is = absurd (cc)
-numbers_told (Some a) (Some b) None d e x is = absurd (cc)
-numbers_told (Some a) (Some b) (Some c) None e x is = absurd (cc)
-numbers_told (Some a) (Some b) (Some c) (Some d) None x is = absurd (cc)
+    (ap (λ (y : LegRow). Some y.moment.0) same, (cc), ap (λ (y : LegRow). Some y.dep.0) same, (cc), ap (λ (y : LegRow). Some y.arr.0) same)
+numbers_told _ _ _ _ _ x is = absurd (cc)
 
 names_told : (a b c : Option ℕ) (known : LegNames) → option_and_then (λ run. option_and_then (λ exit. option_map (λ entry. leg_names run exit entry) c) b) a ≡ Some known
     → (a ≡ Some known.run.0) × (b ≡ Some known.exit.0) × (c ≡ Some known.entry.0)
 names_told (Some a) (Some b) (Some c) known is =
     let same : leg_names a b c ≡ known = (cc) in
-    subst (λ (k : LegNames). (Some a ≡ Some k.run.0) × (Some b ≡ Some k.exit.0) × (Some c ≡ Some k.entry.0)) same (refl, refl, refl)
-names_told None b c known is = absurd (cc)
-names_told (Some a) None c known is = absurd (cc)
-names_told (Some a) (Some b) None known is = absurd (cc)
+    (ap (λ (k : LegNames). Some k.run.0) same, ap (λ (k : LegNames). Some k.exit.0) same, ap (λ (k : LegNames). Some k.entry.0) same)
+names_told _ _ _ known is = absurd (cc)
 
 found_told : (test : ℕ → ℕ → Bool) (a b : Option ℕ) (leg : Leg) → option_and_then (λ i. option_and_then (λ j. if test i j then Some (leg_between i j) else None) b) a ≡ Some leg
     → (a ≡ Some leg.enter.0) × (b ≡ Some leg.exit.0) × (test leg.enter.0 leg.exit.0 ≡ true)
 found_told test (Some i) (Some j) leg is =
     let both = some_cases (test i j) (leg_between i j) leg is in
     subst (λ (l : Leg). (Some i ≡ Some l.enter.0) × (Some j ≡ Some l.exit.0) × (test l.enter.0 l.exit.0 ≡ true)) both.1 (refl, refl, both.0)
-found_told test None b leg is = absurd (cc)
-found_told test (Some i) None leg is = absurd (cc)
+found_told test _ _ leg is = absurd (cc)
 
 module _ (n : NetworkModel) (names : NameLists) (version : Version) (kind : List ℕ) (place : ℕ) (r : List (List ℕ)) where
   leg_told : (x : LegRow) (known : LegNames) (leg : Leg) → leg_row_in version kind r ≡ Some x → names_in version names place r ≡ Some known → leg_found n x known ≡ Some leg
@@ -112,18 +105,10 @@ module _ (n : NetworkModel) (names : NameLists) (version : Version) (kind : List
     known = leg_names (run_of n leg.enter.0) (to_of n leg.exit.0) (from_of n leg.enter.0)
 
     numbers_read : leg_row_in version kind r ≡ Some numbers
-    numbers_read = rw told.is_of_kind (by_fields _ _ _ _ _ told.by told.enter told.departure told.exit told.arrival)
-      where
-        by_fields : (a b c d e : Option ℕ) → a ≡ Some moment → b ≡ Some (step_of n leg.enter.0) → c ≡ Some (dep_of n leg.enter.0) → d ≡ Some (step_of n leg.exit.0) → e ≡ Some (arr_of n leg.exit.0)
-            → leg_numbers a b c d e ≡ Some numbers
-        by_fields a b c d e one two three four five = rw (one, two, three, four, five) refl
+    numbers_read = rw (told.is_of_kind, told.by, told.enter, told.departure, told.exit, told.arrival) refl
 
     names_read : names_in version names place r ≡ Some known
-    names_read = by_fields _ _ _ told.run told.to told.from
-      where
-        by_fields : (a b c : Option ℕ) → a ≡ Some (run_of n leg.enter.0) → b ≡ Some (to_of n leg.exit.0) → c ≡ Some (from_of n leg.enter.0)
-            → option_and_then (λ run. option_and_then (λ exit. option_map (λ entry. leg_names run exit entry) c) b) a ≡ Some known
-        by_fields a b c one two three = rw (one, two, three) refl
+    names_read = rw (told.run, told.to, told.from) refl
 
     all_agree : agrees n leg.enter.0 leg.exit.0 numbers known ≡ true
     all_agree = rw (
@@ -137,12 +122,9 @@ module _ (n : NetworkModel) (names : NameLists) (version : Version) (kind : List
     ) refl
 
     found_read : leg_found n numbers known ≡ Some leg
-    found_read = by_ends _ _ (connection_back n valid leg.enter.0 is_leg.enter)
-        (ap (λ (run : ℕ). connection_of n run (step_of n leg.exit.0)) is_leg.one_run ∙ connection_back n valid leg.exit.0 is_leg.exit)
-      where
-        by_ends : (a b : Option ℕ) → a ≡ Some leg.enter.0 → b ≡ Some leg.exit.0
-            → option_and_then (λ i. option_and_then (λ j. if agrees n i j numbers known then Some (leg_between i j) else None) b) a ≡ Some leg
-        by_ends a b one two = rw (one, two, all_agree) refl
+    found_read =
+        let exit = ap (λ (run : ℕ). connection_of n run (step_of n leg.exit.0)) is_leg.one_run ∙ connection_back n valid leg.exit.0 is_leg.exit in
+        rw (connection_back n valid leg.enter.0 is_leg.enter, exit, all_agree) refl
 
 -- ---- the rows of a graph
 
@@ -226,16 +208,11 @@ module _ (n : NetworkModel) (names : NameLists) (version : Version) (line : ℕ)
       numbers_of (Some a) (Some b) x is =
           let some = some_cases (nat_le 1 b) _ x is in
           subst (λ (y : PlaceRow). (Some a ≡ Some y.change) × (Some b ≡ Some y.count) × (1 ≤ y.count)) some.1 (refl, refl, leb-true _ _ some.0)
-      numbers_of None b x is = absurd (cc)
-      numbers_of (Some a) None x is = absurd (cc)
+      numbers_of _ _ x is = absurd (cc)
 
   pub table_read : (last : Option ℕ) (t : TableStart) → rises last t.place.0 ≡ true → IsPlaceRow n names version t.place.0 t.count r → 1 ≤ t.count → table_in n names version line last r ≡ Ok t
   table_read last t later told some =
-      let numbers : place_row_in version r ≡ Some (record { change = change_of n t.place.0; count = t.count }) = rw told.is_of_kind (by_fields _ _ told.change told.rows) in
-      rw (numbers, told.name, later, eq-eqb (change_of n t.place.0) (change_of n t.place.0) refl) refl
-    where
-      by_fields : (a b : Option ℕ) → a ≡ Some (change_of n t.place.0) → b ≡ Some t.count → place_numbers a b ≡ Some (record { change = change_of n t.place.0; count = t.count })
-      by_fields a b one two = rw (one, two, le-leb 1 t.count some) refl
+      rw (told.is_of_kind, told.change, told.rows, le-leb 1 t.count some, told.name, later, eq-eqb (change_of n t.place.0) (change_of n t.place.0) refl) refl
 
 -- the first row
 module _ (names : NameLists) (version : Version) (r : List (List ℕ)) (number : version_in r ≡ Some version) where
@@ -278,19 +255,23 @@ module _ (names : NameLists) (version : Version) (r : List (List ℕ)) (number :
           let order = some_cases (are_in_order a b c d) _ x is in
           subst (λ (y : HeadRow). (Some a ≡ Some y.start.0) × (Some b ≡ Some y.deadline.0) × (Some c ≡ Some y.lo) × (Some d ≡ Some y.hi) × (are_in_order y.start.0 y.deadline.0 y.lo y.hi ≡ true))
           order.1 (refl, refl, refl, refl, order.0)
-      numbers_of None b c d x is = absurd (cc)
-      numbers_of (Some a) None c d x is = absurd (cc)
-      numbers_of (Some a) (Some b) None d x is = absurd (cc)
-      numbers_of (Some a) (Some b) (Some c) None x is = absurd (cc)
+      numbers_of _ _ _ _ x is = absurd (cc)
 
   pub head_read : (head : Head) → IsHeadRow names version head r → head.query.start.0 ≤ head.query.deadline.0 → head.bounds.lo ≤ head.bounds.hi
       → head_in names version head.query.source.0 head.query.target.0 head.query.start.0 r ≡ Ok head
   head_read head told in_time bounds =
       let q = head.query in
-      let numbers : head_row_in version r ≡ Some (record { start = q.start; deadline = q.deadline; lo = head.bounds.lo; hi = head.bounds.hi }) =
-      rw told.is_of_kind (by_fields _ _ _ _ told.start told.deadline told.lo told.hi) in
-      rw (numbers, told.source, told.target, eq-eqb q.source.0 q.source.0 refl, eq-eqb q.target.0 q.target.0 refl, eq-eqb q.start.0 q.start.0 refl) refl
-    where
-      by_fields : (a b c d : Option ℕ) → a ≡ Some head.query.start.0 → b ≡ Some head.query.deadline.0 → c ≡ Some head.bounds.lo → d ≡ Some head.bounds.hi
-          → head_numbers a b c d ≡ Some (record { start = head.query.start; deadline = head.query.deadline; lo = head.bounds.lo; hi = head.bounds.hi })
-      by_fields a b c d one two three four = rw (one, two, three, four, le-leb head.query.start.0 head.query.deadline.0 in_time, le-leb head.bounds.lo head.bounds.hi bounds) refl
+      rw (
+        told.is_of_kind,
+        told.start,
+        told.deadline,
+        told.lo,
+        told.hi,
+        le-leb q.start.0 q.deadline.0 in_time,
+        le-leb head.bounds.lo head.bounds.hi bounds,
+        told.source,
+        told.target,
+        eq-eqb q.source.0 q.source.0 refl,
+        eq-eqb q.target.0 q.target.0 refl,
+        eq-eqb q.start.0 q.start.0 refl,
+      ) refl

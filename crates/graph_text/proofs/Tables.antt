@@ -1,32 +1,84 @@
--- The rows of tables are read as the tables that they tell, and as no others.
-use Rattle.std.proofs.Common.{◌≡◌, ◌≢◌, ℕ, suc, ◌+◌, ◌-◌, ◌<◌, ◌≤◌, Bool, true, false, List, [], ◌∷◌, ◌++◌, length, Option, Some, None, Ok, Err, Result, All, AllPairs}
-use Rattle.std.proofs.Common.{arith, sym, subst, refl, ◌∙◌, ap, append_assoc}
-use Rattle.std.specs.Prelude.{◌==◌, if◌then◌else◌, codes}
+-- A step of reading, and the rows of tables, which are read as the tables that they tell, and as no others.
+use Rattle.std.proofs.Common.{◌≡◌, ℕ, ◌+◌, ◌<◌, List, [], ◌∷◌, length, drop, Option, Some, Ok, Err, Result, arith, sym, ap, subst, refl, ◌∙◌, ◌≢◌, suc}
+use Rattle.std.proofs.Common.{◌-◌, ◌≤◌, Bool, true, false, ◌++◌, None, All, AllPairs, inl, inr, append_assoc}
+use Rattle.std.specs.Prelude.{◌==◌, false, slice_index_or, if◌then◌else◌, codes}
 use Rattle.std.specs.Option.{option_map}
-use Rattle.std.proofs.lemmas.Bool.{false≢true, eqb-true, eq-eqb, ne_eqb, ltb-true, lt-ltb}
-use Rattle.std.proofs.lemmas.List.{append-nil}
-use Rattle.std.proofs.lemmas.List.Elements.{All-cons, All-nil, All-head, All-tail}
-use Rattle.std.proofs.lemmas.List.Kept.{AllPairs-cons}
-use Rattle.plan_model.specs.Results.{and_then}
-use Rattle.plan_model.specs.declared.model.Moment.{Moment}
+use Rattle.std.specs.Result.{IsErr, IsErrAnd}
+use Rattle.std.proofs.lemmas.Bool.{ne_eqb, cases_eq, eqb-true, eq-eqb, ltb-true, lt-ltb}
+use Rattle.plan_model.specs.Results.{and_then, require}
 use Rattle.plan_model.specs.declared.model.PlaceId.{PlaceId}
 use Rattle.plan_model.specs.NetworkModel.{NetworkModel}
 use Rattle.plan_model.specs.NameLists.{NameLists}
+use Rattle.plan_graph.specs.declared.PlaceTable.{PlaceTable}
+use Rattle.plan_graph.specs.declared.PlanGraph.{PlanGraph}
+use Rattle.graph_text.specs.declared.Head.{Head}
+use Rattle.graph_text.specs.declared.version.Version.{Version}
+use Rattle.graph_text.specs.declared.reader.Reading.{Reading}
+use Rattle.graph_text.specs.declared.reader.TextFault.{TextFault}
+use Rattle.graph_text.specs.declared.reader.TextFault.TheVariants as f
+use Rattle.printed_rows.proofs.Lines.{split_at}
+use Rattle.graph_text.specs.GraphRows.{version_in, IsLegRow, IsPlaceRow, AreLegRows, AreTableRows}
+use Rattle.graph_text.specs.Reading.{after_leg_row, row_in, step, IsUnlessNoMemory, place_or_first, place_tables_from, graph_after_first, head_in}
+use Rattle.graph_text.specs.Reading.{graph_of_records, table_in, after_place_row, no_tables}
+use Rattle.std.proofs.lemmas.List.{append-nil}
+use Rattle.std.proofs.lemmas.List.Elements.{All-cons, All-nil, All-head, All-tail}
+use Rattle.std.proofs.lemmas.List.Kept.{AllPairs-cons}
+use Rattle.plan_model.specs.declared.model.Moment.{Moment}
 use Rattle.plan_model.specs.Network.{IsValid}
 use Rattle.plan_graph.specs.declared.GraphRow.{GraphRow}
-use Rattle.plan_graph.specs.declared.PlaceTable.{PlaceTable}
 use Rattle.plan_graph.specs.Tidy.{IsFitRow, IsFitTable}
-use Rattle.graph_text.specs.declared.reader.TextFault.{TextFault}
-use Rattle.graph_text.specs.declared.reader.TextFault.TheVariants as fault
 use Rattle.graph_text.specs.declared.reader.TableStart.{TableStart}
-use Rattle.graph_text.specs.declared.reader.Reading.{Reading}
-use Rattle.graph_text.specs.declared.version.Version.{Version}
-use Rattle.graph_text.specs.Reading.{row_in, table_in, after_place_row, after_leg_row, place_or_first, step, place_tables_from, no_tables}
-use Rattle.graph_text.specs.GraphRows.{IsLegRow, IsPlaceRow, AreLegRows, AreTableRows}
 use Rattle.printed_rows.specs.Fields.{rises}
 use Rattle.printed_rows.proofs.Chains.{and_then-value, if-value}
 use Rattle.graph_text.proofs.Rows.{row_told, row_read, table_told, table_read}
-use Rattle.graph_text.proofs.Steps.{leg_step}
+
+-- where leg rows are to come
+pub leg_step : (n : NetworkModel) (names : NameLists) (version : Version) (line : ℕ) (r : List (List ℕ)) (s : Reading) (place : PlaceId) → (s.left ≡ 0 → ⊥)
+    → s.place ≡ Some place → after_leg_row s (row_in n names version line place.0 (option_map (λ moment. moment.0) s.by) r) ≡ step n names version line r s
+leg_step n names version line r s place some is =
+    sym (rw (ne_eqb s.left 0 some) (ap (λ (p : Option PlaceId). after_leg_row s (row_in n names version line (place_or_first p).0
+    (option_map (λ moment. moment.0) s.by) r)) is))
+
+-- what is read where a step failed is so of what `?` raises again
+pub read_raised : {A : Type 0} (fault : TextFault) (r told : Result A TextFault) → IsErr r × IsErrAnd r (λ raised. raised ≡ fault)
+    → IsUnlessNoMemory (Err fault) told → IsUnlessNoMemory r told
+read_raised fault (Ok a) told raised is = absurd raised.1
+read_raised {A} fault (Err again) told raised is = subst (λ (f : TextFault). IsUnlessNoMemory {A = A} (Err f) told) (sym raised.1) is
+
+pub fault_on : {A B : Type 0} (fault : TextFault) (told : Result A TextFault) (next : A → Result B TextFault) → IsUnlessNoMemory {A = A} (Err fault) told
+    → IsUnlessNoMemory {A = B} (Err fault) (and_then told next)
+fault_on f.NoMemory told next is = tt
+fault_on _ told next is = ap (λ r. and_then r next) is
+
+-- the tables of the records from one on, after the step of this one
+pub tables_after : (n : NetworkModel) (names : NameLists) (version : Version) (rows : List (List (List ℕ))) (line i : ℕ) (s now : Reading) → i < length rows
+    → step n names version line (slice_index_or rows i []) s ≡ Ok now
+    → place_tables_from n names version (drop i rows) line s ≡ place_tables_from n names version (drop (i + 1) rows) (line + 1) now
+tables_after n names version rows line i s now within is =
+    rw (split_at rows i [] within, is) refl
+
+pub tables_fail : (n : NetworkModel) (names : NameLists) (version : Version) (rows : List (List (List ℕ))) (line i : ℕ) (s : Reading) (fault : TextFault)
+    → i < length rows → IsUnlessNoMemory {A = Reading} (Err fault) (step n names version line (slice_index_or rows i []) s)
+    → IsUnlessNoMemory {A = List PlaceTable} (Err fault) (place_tables_from n names version (drop i rows) line s)
+tables_fail n names version rows line i s fault within told =
+    rw (split_at rows i [] within)
+    (fault_on fault (step n names version line (slice_index_or rows i []) s) (place_tables_from n names version (drop (i + 1) rows) (line + 1)) told)
+
+-- a table's records
+pub first_split : (t : List (List (List ℕ))) → 0 < length t → t ≡ slice_index_or t 0 [] ∷ drop 1 t
+first_split [] some = absurd (omega (arith, some))
+first_split (r ∷ rs) some = refl
+
+-- what the first row and the graph of the others tell together
+pub told_by : (n : NetworkModel) (names : NameLists) (version : Version) (source target start : ℕ) (rows : List (List (List ℕ))) (head : Head) (r : Result (Head × PlanGraph) TextFault)
+    → 0 < length rows
+    → Some version ≡ version_in (slice_index_or rows 0 []) → Ok head ≡ head_in names version source target start (slice_index_or rows 0 [])
+    → IsUnlessNoMemory r (and_then (graph_after_first n names version source target start (drop 1 rows)) (λ graph. Ok (head, graph)))
+    → IsUnlessNoMemory r (graph_of_records n names source target start rows)
+told_by n names version source target start rows head r some found is read =
+    rw (first_split rows some, ← found, ← is) read
+
+-- ---- the rows of tables are read as the tables that they tell, and as no others
 
 -- ---- numbers that rise
 
@@ -77,18 +129,20 @@ module _ (s : Reading) (row : GraphRow) where
   abbrev after_row : Reading
   after_row = record { done = s.done; place = s.place; rows = s.rows ++ row ∷ []; by = Some row.by; left = s.left - 1 }
 
-  last_row : s.left ≡ 1 → after_leg_row s (Ok row) ≡ Ok after_last
-  last_row one = rw (eq-eqb s.left 1 one) refl
-
-  further_row : s.left ≢ 1 → after_leg_row s (Ok row) ≡ Ok after_row
-  further_row many = rw (ne_eqb s.left 1 many) refl
-
 leg_row_is : (s now : Reading) (told : Result GraphRow TextFault) → after_leg_row s told ≡ Ok now
     → (row : GraphRow) × (told ≡ Ok row) × (◌≡◌ {A = Result Reading TextFault} (if s.left == 1 then Ok (after_last s row) else Ok (after_row s row)) (Ok now))
 leg_row_is s now (Ok row) is = (row, refl, is)
 leg_row_is s now (Err e) is = absurd (cc)
 
 module _ (n : NetworkModel) (names : NameLists) (version : Version) where
+  -- these rows tell the rows of a table that are to come
+  abbrev AreLater : ℕ → Option ℕ → List GraphRow → List (List (List ℕ)) → Type 0
+  AreLater place by later own = AreLegRows n names version place later own × All (IsFitRow n place) later × RiseFrom by_number by later
+
+  -- and these the tables that are to come
+  abbrev AreMore : Option ℕ → List PlaceTable → List (List (List ℕ)) → Type 0
+  AreMore place more rest = AreTableRows n names version more rest × All (IsFitTable n) more × RiseFrom place_number place more
+
   -- the rows that are left are those of the table that is open, as many as are to come, and then those of further tables
   record Continues (s : Reading) (rs : List (List (List ℕ))) (tables : List PlaceTable) : Type 0 where
     later : List GraphRow
@@ -97,12 +151,8 @@ module _ (n : NetworkModel) (names : NameLists) (version : Version) where
     more : List PlaceTable
     split : rs ≡ own ++ rest
     many : length later ≡ s.left
-    legs : AreLegRows n names version (place_or_first s.place).0 later own
-    fits : All (IsFitRow n (place_or_first s.place).0) later
-    rise : RiseFrom by_number (option_map (λ moment. moment.0) s.by) later
-    table_rows : AreTableRows n names version more rest
-    tables_fit : All (IsFitTable n) more
-    tables_rise : RiseFrom place_number (option_map (λ place. place.0) s.place) more
+    legs : AreLater (place_or_first s.place).0 (option_map (λ moment. moment.0) s.by) later own
+    table_rows : AreMore (option_map (λ place. place.0) s.place) more rest
     closed : s.left ≡ 0 → tables ≡ s.done ++ more
     opened : (s.left ≡ 0 → ⊥) → tables ≡ s.done ++ (record { place = place_or_first s.place; rows = s.rows ++ later }) ∷ more
 
@@ -117,7 +167,7 @@ module _ (n : NetworkModel) (names : NameLists) (version : Version) where
     with_place t none is next =
         let told = table_told n names version line r (option_map (λ place. place.0) s.place) t is in
         let table : IsFitTable n (record { place = t.place; rows = next.later }) =
-        record { some = omega (arith, next.many, told.2); rows = next.fits; rising = pairs_from_rise by_number None next.later next.rise } in
+        record { some = omega (arith, next.many, told.2); rows = next.legs.1; rising = pairs_from_rise by_number None next.later next.legs.2 } in
         record {
           later = [];
           own = [];
@@ -125,12 +175,12 @@ module _ (n : NetworkModel) (names : NameLists) (version : Version) where
           more = (record { place = t.place; rows = next.later }) ∷ next.more;
           split = refl;
           many = sym none;
-          legs = tt;
-          fits = All-nil (IsFitRow n (place_or_first s.place).0);
-          rise = tt;
-          table_rows = (subst (λ k. IsPlaceRow n names version t.place.0 k r) (sym next.many) told.1, (next.own, next.rest, next.split, next.legs, next.table_rows));
-          tables_fit = All-cons (IsFitTable n) (record { place = t.place; rows = next.later }) next.more table next.tables_fit;
-          tables_rise = (told.0, next.tables_rise);
+          legs = (tt, All-nil (IsFitRow n (place_or_first s.place).0), tt);
+          table_rows = (
+            (subst (λ k. IsPlaceRow n names version t.place.0 k r) (sym next.many) told.1, (next.own, next.rest, next.split, next.legs.0, next.table_rows.0)),
+            All-cons (IsFitTable n) (record { place = t.place; rows = next.later }) next.more table next.table_rows.1,
+            (told.0, next.table_rows.2),
+          );
           closed = λ zero_left. next.opened (λ no_rows. omega (arith, no_rows, told.2));
           opened = λ some. absurd (some none);
         }
@@ -139,7 +189,7 @@ module _ (n : NetworkModel) (names : NameLists) (version : Version) where
       with_last : s.left ≡ 1 → Continues (after_last s row) rs tables → Continues s (r ∷ rs) tables
       with_last one next =
           let told = row_told n names version line r (place_or_first s.place).0 (option_map (λ moment. moment.0) s.by) row is in
-          let none = no_rows (place_or_first s.place).0 next.later next.own next.many next.legs in
+          let none = no_rows (place_or_first s.place).0 next.later next.own next.many next.legs.0 in
           record {
             later = row ∷ [];
             own = r ∷ [];
@@ -147,12 +197,12 @@ module _ (n : NetworkModel) (names : NameLists) (version : Version) where
             more = next.more;
             split = ap (λ (list : List (List (List ℕ))). r ∷ list) (next.split ∙ ap (λ (list : List (List (List ℕ))). list ++ next.rest) none);
             many = sym one;
-            legs = (told.1, tt);
-            fits = All-cons (IsFitRow n (place_or_first s.place).0) row [] told.2 (All-nil (IsFitRow n (place_or_first s.place).0));
-            rise = (told.0, tt);
+            legs = (
+              (told.1, tt),
+              All-cons (IsFitRow n (place_or_first s.place).0) row [] told.2 (All-nil (IsFitRow n (place_or_first s.place).0)),
+              (told.0, tt),
+            );
             table_rows = next.table_rows;
-            tables_fit = next.tables_fit;
-            tables_rise = next.tables_rise;
             closed = λ none_left. absurd (omega (arith, none_left, one));
             opened = λ some. next.closed refl ∙ append_assoc s.done ((record { place = place_or_first s.place; rows = s.rows ++ row ∷ [] }) ∷ []) next.more;
           }
@@ -167,39 +217,38 @@ module _ (n : NetworkModel) (names : NameLists) (version : Version) where
             more = next.more;
             split = ap (λ (list : List (List (List ℕ))). r ∷ list) next.split;
             many = let fewer = next.many in omega arith;
-            legs = (told.1, next.legs);
-            fits = All-cons (IsFitRow n (place_or_first s.place).0) row next.later told.2 next.fits;
-            rise = (told.0, next.rise);
+            legs = ((told.1, next.legs.0), All-cons (IsFitRow n (place_or_first s.place).0) row next.later told.2 next.legs.1, (told.0, next.legs.2));
             table_rows = next.table_rows;
-            tables_fit = next.tables_fit;
-            tables_rise = next.tables_rise;
             closed = λ none_left. absurd (some none_left);
             opened = λ more. next.opened (λ none_left. omega arith)
                 ∙ ap (λ (rows : List GraphRow). s.done ++ (record { place = place_or_first s.place; rows = rows }) ∷ next.more) (append_assoc s.rows (row ∷ []) next.later);
           }
 
     after_step : (now : Reading) → step n names version line r s ≡ Ok now → Continues now rs tables → Continues s (r ∷ rs) tables
-    after_step now is next = by_left (s.left == 0) refl is
-      where
-        by_last : (row : GraphRow) → row_in n names version line (place_or_first s.place).0 (option_map (λ moment. moment.0) s.by) r ≡ Ok row → (s.left ≡ 0 → ⊥)
-            → (test : Bool) → (s.left == 1) ≡ test → ◌≡◌ {A = Result Reading TextFault} (if test then Ok (after_last s row) else Ok (after_row s row)) (Ok now) → Continues s (r ∷ rs) tables
-        by_last row told some true one is = let same : after_last s row ≡ now = (cc) in with_last row told (eqb-true s.left 1 one) (subst (λ u. Continues u rs tables) (sym same) next)
-        by_last row told some false many is =
-            let same : after_row s row ≡ now = (cc) in
-            with_row row told some (λ one. false≢true (sym many ∙ eq-eqb s.left 1 one)) (subst (λ u. Continues u rs tables) (sym same) next)
-
-        by_left : (test : Bool) → (s.left == 0) ≡ test → (if test then after_place_row s (table_in n names version line (option_map (λ place. place.0) s.place) r)
-            else after_leg_row s (row_in n names version line (place_or_first s.place).0 (option_map (λ moment. moment.0) s.by) r)) ≡ Ok now → Continues s (r ∷ rs) tables
-        by_left true none is =
-            let (t, told, same) = place_row_is s now (table_in n names version line (option_map (λ place. place.0) s.place) r) is in
-            with_place t (eqb-true s.left 0 none) told (subst (λ u. Continues u rs tables) (sym same) next)
-        by_left false some is =
-            let (row, told, more) = leg_row_is s now (row_in n names version line (place_or_first s.place).0 (option_map (λ moment. moment.0) s.by) r) is in
-            by_last row told (λ none. false≢true (sym some ∙ eq-eqb s.left 0 none)) (s.left == 1) refl more
+    after_step now is next = elim (cases_eq s.left 0) [
+      | inl none ↦
+          let (t, told, same) = place_row_is s now (table_in n names version line (option_map (λ place. place.0) s.place) r)
+          (rw (eq-eqb s.left 0 none) at is) in
+          with_place t none told (subst (λ u. Continues u rs tables) (sym same) next)
+      | inr some ↦
+          let place = (place_or_first s.place).0 in
+          let (row, told, more) = leg_row_is s now (row_in n names version line place (option_map (λ moment. moment.0) s.by) r)
+          (rw (ne_eqb s.left 0 some) at is) in
+          elim (cases_eq s.left 1) [
+            | inl one ↦
+                let last = rw (eq-eqb s.left 1 one) at more in
+                let same : after_last s row ≡ now = (cc) in
+                with_last row told one (subst (λ u. Continues u rs tables) (sym same) next)
+            | inr many ↦
+                let further = rw (ne_eqb s.left 1 many) at more in
+                let same : after_row s row ≡ now = (cc) in
+                with_row row told some many (subst (λ u. Continues u rs tables) (sym same) next)
+          ]
+    ]
 
   tables_told : (rs : List (List (List ℕ))) (line : ℕ) (s : Reading) (tables : List PlaceTable) → place_tables_from n names version rs line s ≡ Ok tables → Continues s rs tables
   tables_told [] line s tables is =
-      let both = if-value (s.left == 0) (Ok s.done) (fault.Row line) tables is in
+      let both = if-value (s.left == 0) (Ok s.done) (f.Row line) tables is in
       let none = eqb-true s.left 0 both.0 in
       let same : s.done ≡ tables = (cc) in
       record {
@@ -209,12 +258,8 @@ module _ (n : NetworkModel) (names : NameLists) (version : Version) where
         more = [];
         split = refl;
         many = sym none;
-        legs = tt;
-        fits = All-nil (IsFitRow n (place_or_first s.place).0);
-        rise = tt;
-        table_rows = tt;
-        tables_fit = All-nil (IsFitTable n);
-        tables_rise = tt;
+        legs = (tt, All-nil (IsFitRow n (place_or_first s.place).0), tt);
+        table_rows = (tt, All-nil (IsFitTable n), tt);
         closed = λ zero_left. sym (append-nil s.done ∙ same);
         opened = λ some. absurd (some none);
       }
@@ -227,10 +272,10 @@ module _ (n : NetworkModel) (names : NameLists) (version : Version) where
       → AreTableRows n names version tables rs × All (IsFitTable n) tables × AllPairs (λ a b. a.place.0 < b.place.0) tables
   all_told rs line tables is =
       let told = tables_told rs line no_tables tables is in
-      let own = no_rows 0 told.later told.own told.many told.legs in
+      let own = no_rows 0 told.later told.own told.many told.legs.0 in
       let same : told.rest ≡ rs = sym (told.split ∙ ap (λ (list : List (List (List ℕ))). list ++ told.rest) own) in
       subst (λ (ts : List PlaceTable). AreTableRows n names version ts rs × All (IsFitTable n) ts × AllPairs (λ a b. a.place.0 < b.place.0) ts) (sym (told.closed refl))
-      (subst (AreTableRows n names version told.more) same told.table_rows, told.tables_fit, pairs_from_rise place_number None told.more told.tables_rise)
+      (subst (AreTableRows n names version told.more) same told.table_rows.0, told.table_rows.1, pairs_from_rise place_number None told.more told.table_rows.2)
 
   -- ---- and the other way round
 
@@ -255,19 +300,21 @@ module _ (n : NetworkModel) (names : NameLists) (version : Version) where
     rows_read [] own rest line done place before last left all size some legs fits rise goes_on = absurd (omega (arith, size, some))
     rows_read (row ∷ rows) [] rest line done place before last left all size some legs fits rise goes_on = absurd legs
     rows_read (row ∷ []) (r ∷ []) rest line done place before last left all size some legs fits rise goes_on =
-        ap (λ (told : Result Reading TextFault). and_then told (place_tables_from n names version rest (line + 1)))
-        (row_step line r done place before last left row (λ none. omega (arith, none, some)) legs.0 (All-head (IsFitRow n place.0) row [] fits) rise.0
-        ∙ last_row (with_rows done place before last left) row size)
-        ∙ goes_on (line + 1)
+        rw (
+          row_step line r done place before last left row (λ none. omega (arith, none, some)) legs.0 (All-head (IsFitRow n place.0) row [] fits) rise.0,
+          eq-eqb left 1 size,
+        ) (goes_on (line + 1))
     rows_read (row ∷ []) (r ∷ x ∷ own) rest line done place before last left all size some legs fits rise goes_on = absurd legs.1
     rows_read (row ∷ next ∷ rows) (r ∷ own) rest line done place before last left all size some legs fits rise goes_on =
-        ap (λ (told : Result Reading TextFault). and_then told (place_tables_from n names version (own ++ rest) (line + 1)))
-        (row_step line r done place before last left row (λ none. omega (arith, none, some)) legs.0 (All-head (IsFitRow n place.0) row (next ∷ rows) fits) rise.0
-        ∙ further_row (with_rows done place before last left) row (λ one. omega (arith, one, size)))
-        ∙ rows_read (next ∷ rows) own rest (line + 1) done place (before ++ row ∷ []) (Some row.by) (left - 1) all (omega (arith, size)) (omega (arith, size)) legs.1
+        rw (
+          row_step line r done place before last left row (λ none. omega (arith, none, some)) legs.0
+              (All-head (IsFitRow n place.0) row (next ∷ rows) fits) rise.0,
+          ne_eqb left 1 (λ one. omega (arith, one, size)),
+        )
+        (rows_read (next ∷ rows) own rest (line + 1) done place (before ++ row ∷ []) (Some row.by) (left - 1) all (omega (arith, size))
+        (omega (arith, size)) legs.1
         (All-tail (IsFitRow n place.0) row (next ∷ rows) fits) rise.1
-        (λ later. ap (λ (list : List GraphRow). place_tables_from n names version rest later
-        (record { done = done ++ (record { place = place; rows = list }) ∷ []; place = Some place; rows = []; by = None; left = 0 })) (append_assoc before (row ∷ []) (next ∷ rows)) ∙ goes_on later)
+        (λ later. rw (append_assoc before (row ∷ []) (next ∷ rows)) (goes_on later)))
 
     tables_read : (tables : List PlaceTable) (rs : List (List (List ℕ))) (line : ℕ) (done : List PlaceTable) (last : Option PlaceId) → AreTableRows n names version tables rs
         → All (IsFitTable n) tables → RiseFrom place_number (option_map (λ place. place.0) last) tables
@@ -278,13 +325,15 @@ module _ (n : NetworkModel) (names : NameLists) (version : Version) where
     tables_read (t ∷ tables) (r ∷ rs) line done last rows fits rise =
         let (own, rest, split, legs, more) = rows.1 in
         let first = All-head (IsFitTable n) t tables fits in
-        ap (λ (told : Result TableStart TextFault). and_then (after_place_row (record { done = done; place = last; rows = []; by = None; left = 0 }) told)
-        (place_tables_from n names version rs (line + 1)))
-        (table_read n names version line r (option_map (λ place. place.0) last) (record { place = t.place; count = length t.rows }) rise.0 rows.0 first.some)
-        ∙ ap (λ (list : List (List (List ℕ))). place_tables_from n names version list (line + 1) (with_rows done t.place [] None (length t.rows))) split
-        ∙ rows_read t.rows own rest (line + 1) done t.place [] None (length t.rows) (done ++ t ∷ tables) refl first.some legs first.rows (rise_from_pairs by_number t.rows first.rising)
+        rw (
+          table_read n names version line r (option_map (λ place. place.0) last)
+              (record { place = t.place; count = length t.rows }) rise.0 rows.0 first.some,
+          split,
+        )
+        (rows_read t.rows own rest (line + 1) done t.place [] None (length t.rows) (done ++ t ∷ tables) refl first.some legs first.rows
+        (rise_from_pairs by_number t.rows first.rising)
         (λ later. tables_read tables rest later (done ++ t ∷ []) (Some t.place) more (All-tail (IsFitTable n) t tables fits) rise.1
-        ∙ ap (λ (list : List PlaceTable). Ok list) (append_assoc done (t ∷ []) tables))
+        ∙ ap (λ (list : List PlaceTable). Ok list) (append_assoc done (t ∷ []) tables)))
 
     pub all_read : (rs : List (List (List ℕ))) (line : ℕ) (tables : List PlaceTable) → AreTableRows n names version tables rs → All (IsFitTable n) tables
         → AllPairs (λ a b. a.place.0 < b.place.0) tables → place_tables_from n names version rs line no_tables ≡ Ok tables

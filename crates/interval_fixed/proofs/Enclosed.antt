@@ -9,25 +9,19 @@ use Rattle.interval_fixed.specs.Interval.{Interval}
 use Rattle.interval_fixed.specs.Means.{weighted, weighted_lo, weighted_hi, mean_of}
 use Rattle.interval_fixed.specs.Enclosures.{AreEnclosed, EnclosesMean}
 
-sums_below : (row : List Outcome) (spans : List Interval) (xs : List ℕ) → AreEnclosed spans xs → weighted_lo row spans ≤ weighted row xs
-sums_below [] spans xs within = omega arith
-sums_below (o ∷ row) [] [] within = omega arith
-sums_below (o ∷ row) (span ∷ spans) (x ∷ xs) within =
-    omega (arith, mul-le-mul_left o.weight within.0, sums_below row spans xs within.2)
-sums_below (o ∷ row) [] (x ∷ xs) within = absurd within
-sums_below (o ∷ row) (span ∷ spans) [] within = absurd within
-
-sums_above : (row : List Outcome) (spans : List Interval) (xs : List ℕ) → AreEnclosed spans xs → weighted row xs ≤ weighted_hi row spans
-sums_above [] spans xs within = omega arith
-sums_above (o ∷ row) [] [] within = omega arith
-sums_above (o ∷ row) (span ∷ spans) (x ∷ xs) within =
-    omega (arith, mul-le-mul_left o.weight within.1, sums_above row spans xs within.2)
-sums_above (o ∷ row) [] (x ∷ xs) within = absurd within
-sums_above (o ∷ row) (span ∷ spans) [] within = absurd within
+sums_enclosed : (row : List Outcome) (spans : List Interval) (xs : List ℕ) → AreEnclosed spans xs
+    → (weighted_lo row spans ≤ weighted row xs) × (weighted row xs ≤ weighted_hi row spans)
+sums_enclosed [] spans xs within = (omega arith, omega arith)
+sums_enclosed (o ∷ row) [] [] within = (omega arith, omega arith)
+sums_enclosed (o ∷ row) (span ∷ spans) (x ∷ xs) within =
+    let rest = sums_enclosed row spans xs within.2 in
+    (omega (arith, mul-le-mul_left o.weight within.0, rest.0), omega (arith, mul-le-mul_left o.weight within.1, rest.1))
+sums_enclosed _ _ _ within = absurd within
 
 pub mean_encloses : (row : List Outcome) (spans : List Interval) (xs : List ℕ) → AreEnclosed spans xs → EnclosesMean (mean_of row spans) row xs
 mean_encloses row spans xs within =
-    (omega (arith, sums_below row spans xs within), omega (arith, sums_above row spans xs within))
+    let sums = sums_enclosed row spans xs within in
+    (omega (arith, sums.0), omega (arith, sums.1))
 
 widened : (w lo hi most l u s : ℕ) → hi - lo ≤ most → u ≤ l + most * s → w * hi + u ≤ (w * lo + l) + most * (w + s)
 widened w lo hi most l u s here rest =
@@ -43,8 +37,7 @@ gap_sum (o ∷ row) (span ∷ spans) most same gaps =
     rw (sum_by-cons (λ o. o.weight) o row)
     (widened o.weight span.lo span.hi most (weighted_lo row spans) (weighted_hi row spans) (sum_by (λ o. o.weight) row) (gaps 0 span (omega arith))
     (gap_sum row spans most (omega arith) (λ k d below. gaps (suc k) d (omega arith))))
-gap_sum [] (span ∷ spans) most same gaps = absurd (omega arith)
-gap_sum (o ∷ row) [] most same gaps = absurd (omega arith)
+gap_sum _ _ most same gaps = absurd (omega arith)
 
 pub mean_gap_within : (row : List Outcome) (spans : List Interval) (most : ℕ) → IsValidRow row → length row ≡ length spans
     → All (λ span. span.hi - span.lo ≤ most) spans → (mean_of row spans).hi - (mean_of row spans).lo ≤ most + 1

@@ -2,7 +2,7 @@
 use Rattle.std.proofs.Common.{◌≡◌, ℕ, ◌+◌, ◌-◌, ◌*◌, ◌/◌, ◌^◌, ◌≤◌, List, [], ◌∷◌, map, arith, ap, ◌∙◌}
 use Rattle.std.proofs.Math.Nat.{mul-le-mul_left, mul-le-mul_right, mul_assoc, mul_comm, mul_left_comm, add-mul, mul-add}
 use Rattle.plan_model.specs.declared.model.Outcome.{Outcome}
-use Rattle.plan_model.specs.Tree.{Tree, Kids, Ride, Nil, Kid, height_of}
+use Rattle.plan_model.specs.Tree.{Tree, Kids, Ride, Nil, Kid, height, height_of}
 use Rattle.plan_model.specs.Rows.{EachKid}
 use Rattle.plan_model.specs.Expected.{weighted_by, weighted_kids, BelowBy, CoversBy}
 use Rattle.plan_model.proofs.Laws.{pow_down}
@@ -16,15 +16,9 @@ scaled_sum w a s p = add-mul (w * a) s p ∙ ap (λ x. x + s * p) (mul_assoc w a
 times_sum : (k w n m : ℕ) → k * (w * n + m) ≡ w * (k * n) + k * m
 times_sum k w n m = mul-add k (w * n) m ∙ ap (λ x. x + k * m) (mul_left_comm k w n)
 
-below_step : (k w a n s m p : ℕ) → a * p ≤ k * n → s * p ≤ k * m → (w * a + s) * p ≤ k * (w * n + m)
-below_step k w a n s m p here rest =
-    let scaled = mul-le-mul_left w here in
-    omega (arith, scaled_sum w a s p, times_sum k w n m)
-
-covers_step : (k w a n s m p : ℕ) → k * n ≤ a * p → k * m ≤ s * p → k * (w * n + m) ≤ (w * a + s) * p
-covers_step k w a n s m p here rest =
-    let scaled = mul-le-mul_left w here in
-    omega (arith, scaled_sum w a s p, times_sum k w n m)
+-- a weighted sum is at most another, where its parts are
+sum_step : (w x y s t : ℕ) → x ≤ y → s ≤ t → w * x + s ≤ w * y + t
+sum_step w x y s t here rest = omega (arith, mul-le-mul_left w here)
 
 -- a scaled sum rounded down is below, where the sum is
 rounded_below : (l p n : ℕ) → l * p ≤ n → l / 10000 * (p * 10000) ≤ n
@@ -52,32 +46,27 @@ each_mapped f P _ _ _ each = absurd each
 
 -- of whatever leaf gives for the arrivals, in units of which there are scale in one
 module _ (scale : ℕ) (leaf : ℕ → ℕ) where
-  -- the sum of lower bounds is below the kids
-  pub below_sum : (row : List Outcome) (values : List ℕ) (kids : Kids) (h : ℕ) → height_of kids ≤ h → EachKid (BelowBy scale leaf) row values kids
-      → weighted row values * 10000 ^ h ≤ scale * weighted_kids leaf kids h
-  below_sum [] [] Nil h tall each = omega arith
-  below_sum (o ∷ row) (v ∷ values) (Kid w t kids) h tall each =
-      rw each.0 (below_step scale o.weight v (weighted_by leaf t h) (weighted row values) (weighted_kids leaf kids h) (10000 ^ h)
-      (each.1 h (omega arith)) (below_sum row values kids h (omega arith) each.2))
-  below_sum _ _ _ h tall each = absurd each
-
-  -- the sum of upper bounds covers the kids
-  pub covers_sum : (row : List Outcome) (values : List ℕ) (kids : Kids) (h : ℕ) → height_of kids ≤ h → EachKid (CoversBy scale leaf) row values kids
-      → scale * weighted_kids leaf kids h ≤ weighted row values * 10000 ^ h
-  covers_sum [] [] Nil h tall each = omega arith
-  covers_sum (o ∷ row) (v ∷ values) (Kid w t kids) h tall each =
-      rw each.0 (covers_step scale o.weight v (weighted_by leaf t h) (weighted row values) (weighted_kids leaf kids h) (10000 ^ h)
-      (each.1 h (omega arith)) (covers_sum row values kids h (omega arith) each.2))
-  covers_sum _ _ _ h tall each = absurd each
+  -- how the sum of values stands to that of the kids, as each value does to its kid
+  module _ (R : ℕ → ℕ → Type 0) (none : R 0 0) (more : (w x y s t : ℕ) → R x y → R s t → R (w * x + s) (w * y + t)) where
+    kids_sum : (row : List Outcome) (values : List ℕ) (kids : Kids) (h : ℕ) → height_of kids ≤ h
+        → EachKid (λ v t. (k : ℕ) → height t ≤ k → R (v * 10000 ^ k) (scale * weighted_by leaf t k)) row values kids
+        → R (weighted row values * 10000 ^ h) (scale * weighted_kids leaf kids h)
+    kids_sum [] [] Nil h tall each = let e : scale * 0 ≡ 0 = omega arith in let f : 0 * 10000 ^ h ≡ 0 = omega arith in rw (e, f) none
+    kids_sum (o ∷ row) (v ∷ values) (Kid w t kids) h tall each =
+        rw (each.0, scaled_sum o.weight v (weighted row values) (10000 ^ h), times_sum scale o.weight (weighted_by leaf t h) (weighted_kids leaf kids h))
+        (more o.weight (v * 10000 ^ h) (scale * weighted_by leaf t h) _ _ (each.1 h (omega arith)) (kids_sum row values kids h (omega arith) each.2))
+    kids_sum _ _ _ h tall each = absurd each
 
   -- the mean rounded down is below the ride
   pub mean_below : (row : List Outcome) (values : List ℕ) (kids : Kids) (enter exit : ℕ) → EachKid (BelowBy scale leaf) row values kids
       → BelowBy scale leaf (weighted row values / 10000) (Ride enter exit kids)
   mean_below row values kids enter exit each h tall =
-      rw (pow_down h (omega arith)) (rounded_below (weighted row values) (10000 ^ (h - 1)) _ (below_sum row values kids (h - 1) (omega arith) each))
+      rw (pow_down h (omega arith)) (rounded_below (weighted row values) (10000 ^ (h - 1)) _
+      (kids_sum (λ x y. x ≤ y) (omega arith) sum_step row values kids (h - 1) (omega arith) each))
 
   -- the mean rounded up covers the ride
   pub mean_covers : (row : List Outcome) (values : List ℕ) (kids : Kids) (enter exit : ℕ) → EachKid (CoversBy scale leaf) row values kids
       → CoversBy scale leaf ((weighted row values + 9999) / 10000) (Ride enter exit kids)
   mean_covers row values kids enter exit each h tall =
-      rw (pow_down h (omega arith)) (rounded_covers (weighted row values) (10000 ^ (h - 1)) _ (covers_sum row values kids (h - 1) (omega arith) each))
+      rw (pow_down h (omega arith)) (rounded_covers (weighted row values) (10000 ^ (h - 1)) _
+      (kids_sum (λ x y. y ≤ x) (omega arith) (λ w x y s t. sum_step w y x t s) row values kids (h - 1) (omega arith) each))

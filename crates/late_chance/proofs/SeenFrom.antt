@@ -1,8 +1,7 @@
 -- The shifted network is valid, and a view of the network.
-use Rattle.std.proofs.Common.{◌≡◌, ℕ, ◌-◌, ◌<◌, ◌≤◌, Bool, true, false, refl, sym, ap, ◌∙◌, inl, inr, ⊎_elim, arith}
+use Rattle.std.proofs.Common.{◌≡◌, ℕ, ◌-◌, ◌<◌, ◌≤◌, Bool, refl, sym, ap, ◌∙◌, inl, inr, ⊎_elim, arith}
 use Rattle.std.specs.Prelude.{IsTrue, nat_le, ◌&&◌, ◌↔◌}
-use Rattle.std.proofs.lemmas.Bool.{cases_lt, false≢true}
-use Rattle.std.proofs.lemmas.Bool.Decides.{nat_tests}
+use Rattle.std.proofs.lemmas.Bool.{and_parts, and_from, leb-true, le-leb}
 use Rattle.std.proofs.lemmas.List.{length-map, get_or-map}
 use Rattle.plan_model.specs.declared.model.Connection.{Connection}
 use Rattle.plan_model.specs.NetworkModel.{NetworkModel}
@@ -11,10 +10,10 @@ use Rattle.plan_model.specs.View.{IsSeen, IsView}
 use Rattle.late_chance.specs.SeenFrom.{shifted_connection, shifted_parts}
 
 both_true : (a : Bool) (x y : ℕ) → IsTrue (a && nat_le x y) ↔ (IsTrue a × (x ≤ y))
-both_true true x y = ⊎_elim (λ (gt : y < x). let test : nat_le x y ≡ false = grind (arith, nat_tests) in rw test ((λ h. absurd (false≢true h)), (λ h. absurd (let e = h.1 in omega arith))))
-    (λ (le : x ≤ y). let test : nat_le x y ≡ true = grind (arith, nat_tests) in rw test ((λ h. (h, le)), (λ h. h.0)))
-    (cases_lt y x)
-both_true false x y = ((λ h. absurd (false≢true h)), (λ h. absurd (false≢true h.0)))
+both_true a x y = (
+  λ h. let both = and_parts a (nat_le x y) h in (both.0, leb-true x y both.1),
+  λ h. and_from a (nat_le x y) h.0 (le-leb x y h.1),
+)
 
 one_seen : (shift start : ℕ) → shift ≤ start → (c : Connection) → IsSeen shift start (shifted_connection shift start c) c
 one_seen shift start soon c = record {
@@ -53,57 +52,47 @@ module _ (shift start : ℕ) (m : NetworkModel) where
     inside : (i : ℕ) → i < count seen → i < count m
     inside i h = omega (arith, h, as_many)
 
-    run_at : (i : ℕ) → i < count m → run_of seen i ≡ run_of m i
-    run_at i h = ap (λ (c : Connection). c.run.0) (at i h)
-
-    step_at : (i : ℕ) → i < count m → step_of seen i ≡ step_of m i
-    step_at i h = ap (λ (c : Connection). c.step) (at i h)
-
-    dep_at : (i : ℕ) → i < count m → dep_of seen i ≡ dep_of m i - shift
-    dep_at i h = ap (λ (c : Connection). c.dep.0) (at i h)
-
-    arr_at : (i : ℕ) → i < count m → arr_of seen i ≡ arr_of m i - shift
-    arr_at i h = ap (λ (c : Connection). c.arr.0) (at i h)
+    parts_at : (i : ℕ) → i < count m → (run_of seen i ≡ run_of m i) × (step_of seen i ≡ step_of m i) × (dep_of seen i ≡ dep_of m i - shift) ×
+        (arr_of seen i ≡ arr_of m i - shift)
+    parts_at i h =
+        let e = at i h in
+        (ap (λ (c : Connection). c.run.0) e, ap (λ (c : Connection). c.step) e, ap (λ (c : Connection). c.dep.0) e, ap (λ (c : Connection). c.arr.0) e)
 
     rises : (i j : ℕ) → i < j → j < count seen → PrecedesByStep seen i j
     rises i j less h =
         let k = inside j h in
-        let a = run_at i (omega arith) in
-        let b = run_at j k in
-        let c = step_at i (omega arith) in
-        let d = step_at j k in
+        let (a, c, d, e) = parts_at i (omega arith) in
+        let (b, f, g, l) = parts_at j k in
         ⊎_elim (λ before. inl (omega arith)) (λ same. inr (a ∙ same.0 ∙ sym b, let s = same.1 in omega arith)) (v.rising i j less k)
 
     goes_on : (i j : ℕ) → i < j → j < count seen → run_of seen i ≡ run_of seen j → arr_of seen i ≤ dep_of seen j
     goes_on i j less h run =
         let k = inside j h in
-        let next = v.onward i j less k (sym (run_at i (omega arith)) ∙ run ∙ run_at j k) in
-        let a = arr_at i (omega arith) in
-        let d = dep_at j k in
-        omega arith
+        let one = parts_at i (omega arith) in
+        let other = parts_at j k in
+        let next = v.onward i j less k (sym one.0 ∙ run ∙ other.0) in
+        omega (arith, one.3, other.2)
 
     one_valid : (i : ℕ) → i < count seen → IsValidConnection seen i
     one_valid i h =
         let k = inside i h in
         let c = v.connections i k in
         let e = at i k in
-        let a = arr_at i k in
-        let d = dep_at i k in
+        let (run, step, dep, arr) = parts_at i k in
         record {
           forward = let f = c.forward in omega arith;
           early = let f = c.early in omega arith;
           from_in = let f = c.from_in in let g = ap (λ (x : Connection). x.from.0) e in omega arith;
           to_in = let f = c.to_in in let g = ap (λ (x : Connection). x.to.0) e in omega arith;
           class_in = let f = c.class_in in let g = ap (λ (x : Connection). x.class.0) e in omega arith;
-          step_in = let f = c.step_in in let g = step_at i k in omega arith;
+          step_in = let f = c.step_in in omega arith;
         }
 
     each_run : (i r : ℕ) → i < count seen → r < run_of seen i → (j : ℕ) × (j < count seen) × (run_of seen j ≡ r)
     each_run i r h less =
         let k = inside i h in
-        let a = run_at i k in
-        let found = v.runs i r k (omega arith) in
-        (found.0, omega (arith, found.1, as_many), run_at found.0 found.1 ∙ found.2)
+        let found = v.runs i r k (omega (arith, (parts_at i k).0, less)) in
+        (found.0, omega (arith, found.1, as_many), (parts_at found.0 found.1).0 ∙ found.2)
 
     pub valid : IsValid seen
     unfolding change_of row_of

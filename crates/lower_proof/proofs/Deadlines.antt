@@ -17,10 +17,8 @@ use Rattle.lower_proof.specs.declared.reader.BoundsRow.{BoundsRow}
 use Rattle.lower_proof.specs.Reading.{bounds_numbers, is_bounds, bounds_row_in, bounds_in, IsProofTold}
 
 by_numbers : (a b c : Option ℕ) (x : BoundsRow) → bounds_numbers a b c ≡ Some x → b ≡ Some x.deadline.0
-by_numbers None b c x is = absurd (cc)
-by_numbers (Some s) None c x is = absurd (cc)
-by_numbers (Some s) (Some d) None x is = absurd (cc)
 by_numbers (Some s) (Some d) (Some k) x is = ap (λ (y : BoundsRow). Some y.deadline.0) (some_cases (nat_le s d) _ x is).1
+by_numbers _ _ _ x is = absurd (cc)
 
 -- the deadline of a first row
 row_deadline : (names : NameLists) (source target start : ℕ) (r : List (List ℕ)) (y : BoundsRow) → bounds_in names source target start r ≡ Ok y → y.deadline.0 ≤ last_printable

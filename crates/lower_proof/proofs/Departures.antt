@@ -1,79 +1,94 @@
--- How many connections depart after a moment.
-use Rattle.std.proofs.Common.{◌≡◌, ℕ, zero, suc, ◌+◌, ◌<◌, ◌≤◌, Bool, true, false, cond, ltb, arith, inl, inr, ap}
-use Rattle.std.proofs.lemmas.Bool.{cases_lt, lt-ltb, le-ltb}
+-- How many connections depart after a moment, and what holds of each least value, since it does where it holds of those after later departures.
+use Rattle.std.proofs.Common.{◌≡◌, ◌≢◌, ℕ, zero, suc, ◌+◌, ◌*◌, ◌<◌, ◌≤◌, cond, ltb, List, Option, Some, arith, inl, inr, refl, subst}
+use Rattle.std.proofs.lemmas.Bool.{cases_eq, cases_lt}
+use Rattle.std.proofs.lemmas.Bool.Decides.{nat_tests}
+use Rattle.plan_model.specs.declared.model.Query.{Query}
 use Rattle.plan_model.specs.NetworkModel.{NetworkModel}
-use Rattle.plan_model.specs.Network.{count, dep_of}
+use Rattle.plan_model.specs.Network.{IsValid, count, dep_of}
+use Rattle.plan_model.specs.Strategy.{IsBoardable}
+use Rattle.plan_model.proofs.Boarding.{boards_later}
+use Rattle.lower_proof.specs.Certificates.{Offers, arrived_by, IsLeastAt}
 
-abbrev one_if : Bool → ℕ
-one_if b = cond b 1 0
+-- the sum of the first m
+abbrev total : (ℕ → ℕ) → ℕ → ℕ
+total f zero = 0
+total f (suc m) = f m + total f m
 
--- of the first m connections
-abbrev departures_after : NetworkModel → ℕ → ℕ → ℕ
-departures_after n x zero = 0
-departures_after n x (suc m) = one_if (ltb x (dep_of n m)) + departures_after n x m
+total_le : (f g : ℕ → ℕ) (m : ℕ) → ((k : ℕ) → f k ≤ g k) → total f m ≤ total g m
+total_le f g zero each = omega arith
+total_le f g (suc m) each = omega (arith, each m, total_le f g m each)
+
+-- where one is less
+total_lt : (f g : ℕ → ℕ) (c m : ℕ) → c < m → ((k : ℕ) → f k ≤ g k) → f c + 1 ≤ g c → total f m + 1 ≤ total g m
+total_lt f g c zero within each less = absurd (omega arith)
+total_lt f g c (suc m) within each less = elim (cases_lt c m) [
+  | inl before ↦ omega (arith, each m, total_lt f g c m before each less)
+  | inr last ↦ let e : c ≡ m = omega arith in omega (arith, total_le f g m each, subst (λ k. f k + 1 ≤ g k) e less)
+]
+
+total_ones : (m : ℕ) → total (λ k. 1) m ≡ m
+total_ones zero = refl
+total_ones (suc m) = omega (arith, total_ones m)
 
 -- of all connections
 unfoldable pub after : NetworkModel → ℕ → ℕ
-after n x = departures_after n x (count n)
+after n x = total (λ c. cond (ltb x (dep_of n c)) 1 0) (count n)
 
-at_most_one : (b : Bool) → one_if b ≤ 1
-at_most_one true = omega arith
-at_most_one false = omega arith
+at_most_one : (x d : ℕ) → cond (ltb x d) 1 0 ≤ 1
+at_most_one x d = grind (arith, nat_tests)
 
-one_is : (x d : ℕ) → x < d → one_if (ltb x d) ≡ 1
-one_is x d less = ap one_if (lt-ltb x d less)
-
-none_is : (x d : ℕ) → d ≤ x → one_if (ltb x d) ≡ 0
-none_is x d more = ap one_if (le-ltb x d more)
-
-one_less : (x y d : ℕ) → x ≤ y → one_if (ltb y d) ≤ one_if (ltb x d)
-one_less x y d later = elim (cases_lt y d) [
-  | inl less ↦ omega (arith, one_is y d less, one_is x d (omega arith))
-  | inr more ↦ omega (arith, none_is y d more)
-]
-
-fewer : (n : NetworkModel) (x y m : ℕ) → x ≤ y → departures_after n y m ≤ departures_after n x m
-fewer n x y zero later = omega arith
-fewer n x y (suc m) later = omega (arith, fewer n x y m later, one_less x y (dep_of n m) later)
-
-at_most_all : (n : NetworkModel) (x m : ℕ) → departures_after n x m ≤ m
-at_most_all n x zero = omega arith
-at_most_all n x (suc m) = omega (arith, at_most_all n x m, at_most_one (ltb x (dep_of n m)))
-
--- one that departs after x and not after y
-one_fewer : (n : NetworkModel) (x y c m : ℕ) → c < m → x < dep_of n c → dep_of n c ≤ y → departures_after n y m + 1 ≤ departures_after n x m
-one_fewer n x y c zero within early late = absurd (omega arith)
-one_fewer n x y c (suc m) within early late = elim (cases_lt c m) [
-  | inl before ↦ omega (arith, one_fewer n x y c m before early late, one_less x y (dep_of n m) (omega arith))
-  | inr last ↦
-      let e : c ≡ m = omega arith in
-      let d = ap (dep_of n) e in
-      omega (arith, one_is x (dep_of n m) (omega arith), none_is y (dep_of n m) (omega arith), fewer n x y m (omega arith))
-]
-
--- one that does not depart after y
-one_left_out : (n : NetworkModel) (y c m : ℕ) → c < m → dep_of n c ≤ y → departures_after n y m + 1 ≤ m
-one_left_out n y c zero within late = absurd (omega arith)
-one_left_out n y c (suc m) within late = elim (cases_lt c m) [
-  | inl before ↦ omega (arith, one_left_out n y c m before late, at_most_one (ltb y (dep_of n m)))
-  | inr last ↦
-      let e : c ≡ m = omega arith in
-      let d = ap (dep_of n) e in
-      omega (arith, none_is y (dep_of n m) (omega arith), at_most_all n y m)
-]
+one_less : (x y d : ℕ) → x ≤ y → cond (ltb y d) 1 0 ≤ cond (ltb x d) 1 0
+one_less x y d later = grind (arith, nat_tests)
 
 pub after_less : (n : NetworkModel) (x y : ℕ) → x ≤ y → after n y ≤ after n x
 unfolding after
-after_less n x y later = fewer n x y (count n) later
+after_less n x y later = total_le _ _ (count n) (λ c. one_less x y (dep_of n c) later)
 
 pub after_boards : (n : NetworkModel) (x c : ℕ) → c < count n → x < dep_of n c → after n (dep_of n c) + 1 ≤ after n x
 unfolding after
-after_boards n x c within early = one_fewer n x (dep_of n c) c (count n) within early (omega arith)
+after_boards n x c within early = total_lt _ _ c (count n) within (λ d. one_less x (dep_of n c) (dep_of n d) (omega arith)) (grind (arith, nat_tests))
 
 pub after_starts : (n : NetworkModel) (c : ℕ) → c < count n → after n (dep_of n c) + 1 ≤ count n
 unfolding after
-after_starts n c within = one_left_out n (dep_of n c) c (count n) within (omega arith)
+after_starts n c within = omega (
+  arith,
+  total_ones (count n),
+  total_lt _ (λ k. 1) c (count n) within (λ d. at_most_one (dep_of n c) (dep_of n d))
+      (grind (arith, nat_tests)),
+)
 
 pub after_le : (n : NetworkModel) (x : ℕ) → after n x ≤ count n
 unfolding after
-after_le n x = at_most_all n x (count n)
+after_le n x = omega (arith, total_ones (count n), total_le _ (λ k. 1) (count n) (λ c. at_most_one x (dep_of n c)))
+
+-- who has arrived at the target is in time
+pub in_time_of : (deadline x v : ℕ) → Some v ≡ arrived_by deadline x → (x ≤ deadline) × (v ≡ 1000000000 * x)
+in_time_of deadline x v is = (grind (arith, nat_tests), grind (arith, nat_tests))
+
+module _ (n : NetworkModel) (valid : IsValid n) (q : Query) (values : List (Option ℕ)) (P : ℕ → ℕ → ℕ → Type 0) where
+  -- of each, where at most m connections depart later
+  abbrev pub HoldsBy : ℕ → Type 0
+  HoldsBy m = (p x v : ℕ) → after n x ≤ m → IsLeastAt n q values p x (Some v) → P p x v
+
+  module _ (arrived : (p x v : ℕ) → p ≡ q.target.0 → x ≤ q.deadline.0 → v ≡ 1000000000 * x → P p x v)
+      (boarded : (m p x c v : ℕ) → HoldsBy m → after n (dep_of n c) ≤ m → after n (dep_of n c) + 1 ≤ after n x → p ≢ q.target.0 → Offers n values (IsBoardable n p x) c v → P p x v) where
+    -- a least value elsewhere than at the target
+    abbrev HoldsAway : ℕ → Type 0
+    HoldsAway m = (p x c v : ℕ) → after n x ≤ m → p ≢ q.target.0 → Offers n values (IsBoardable n p x) c v → P p x v
+
+    fewer_after : (p x c v : ℕ) → Offers n values (IsBoardable n p x) c v → after n (dep_of n c) + 1 ≤ after n x
+    fewer_after p x c v offer = after_boards n x c offer.there (boards_later n valid p x c offer.there offer.boards)
+
+    or_arrived : (m : ℕ) → HoldsAway m → HoldsBy m
+    or_arrived m elsewhere p x v few least = elim (cases_eq p q.target.0) [
+      | inl there ↦ let done = in_time_of q.deadline.0 x v (least.at_target there) in arrived p x v there done.0 done.1
+      | inr away ↦ let offered = (least.elsewhere away).0 in elsewhere p x offered.0 v few away offered.1
+    ]
+
+    holds_away : (m : ℕ) → HoldsAway m
+    holds_away zero p x c v few away offer = absurd (omega (arith, fewer_after p x c v offer))
+    holds_away (suc m) p x c v few away offer = let fewer = fewer_after p x c v offer in boarded m p x c v (or_arrived m (holds_away m))
+        (omega arith) fewer away offer
+
+    pub holds_by : (m : ℕ) → HoldsBy m
+    holds_by m = or_arrived m (holds_away m)

@@ -1,14 +1,15 @@
 -- The entries of a board, one connection and one way after the other, and in order.
-use Rattle.std.proofs.Common.{◌≡◌, ◌≢◌, ℕ, zero, suc, ◌+◌, ◌-◌, ◌<◌, ◌≤◌, ◌⊎◌, List, [], ◌∷◌, ◌++◌, length, get_or, set, reverse, slice_get, Option, Some, IsTrue, true}
-use Rattle.std.proofs.Common.{false, ltb, eqb, arith, inl, inr, sym, ◌∙◌, ap, subst, refl, get_or-set_other, get_or-set_same, zero}
+use Rattle.std.proofs.Common.{◌≡◌, ℕ, zero, suc, ◌+◌, ◌-◌, ◌<◌, ◌≤◌, ◌⊎◌, List, [], ◌∷◌, ◌++◌, length}
+use Rattle.std.proofs.Common.{get_or, set, reverse, slice_get, Option, Some, IsTrue, true}
+use Rattle.std.proofs.Common.{false, ltb, eqb, arith, inl, inr, sym, ◌∙◌, ap, subst, refl}
 use Rattle.std.specs.declared.cmp.Ordering.{Ordering}
-use Rattle.std.specs.Ordering.{is_lt, nat_cmp, ordering_then}
+use Rattle.std.specs.declared.cmp.Ordering.TheVariants.{Less, Equal, Greater}
+use Rattle.std.specs.Ordering.{MatchOrdering, is_lt, nat_cmp, ordering_then}
 use Rattle.std.specs.List.Sorted.{IsPermutation, IsSorted}
-use Rattle.std.proofs.lemmas.Bool.{cases_eq, cases_lt}
-use Rattle.std.proofs.lemmas.Bool.Decides.{nat_tests}
+use Rattle.std.proofs.lemmas.Bool.{cases_lt}
 use Rattle.std.proofs.lemmas.List.{length-set, length_push, get_or-reverse, get_or_append_left, get_or_at, get_or_default}
 use Rattle.std.specs.Cmp.{IsTotalOrder}
-use Rattle.std.proofs.lemmas.Cmp.{nat_cmp_total, on_total, then_total}
+use Rattle.std.proofs.lemmas.Cmp.{ranked, nat_cmp_total, on_total, then_total}
 use Rattle.std.proofs.lemmas.Map.Keys.{ge_from_not_lt}
 use Rattle.std.proofs.lemmas.List.Sorted.{All-permutation, Contains-permutation, ranks_by, sorted_far}
 use Rattle.plan_model.specs.declared.model.Way.{Way}
@@ -19,21 +20,14 @@ use Rattle.plan_model.specs.Strategy.{IsBoardable}
 use Rattle.plan_model.proofs.Boarding.{way_of-listed, listed-way_of}
 use Rattle.lower_proof.specs.declared.board.Entry.{Entry}
 use Rattle.lower_proof.specs.Boards.{ShownBoard, entry_at, IsEntry, AreEntries, Falls}
-use Rattle.lower_proof.specs.Departures.{NoneAfter}
-use Rattle.lower_proof.specs.Minima.{board_at, AreBoards, AllLate, HaveEntries}
+use Rattle.lower_proof.specs.Minima.{board_at, AreFresh, HaveEntries}
+use Rattle.lower_proof.proofs.Minima.{get_or-set}
 
 abbrev pub no_board : ShownBoard
 no_board = record { entries = []; least = [] }
 
 abbrev pub no_entry : Entry
 no_entry = record { by = record { 0 = 0 }; id = record { 0 = 0 } }
-
--- one more empty board
-pub push_empty : (boards : List ShownBoard) (board : ShownBoard) → board ≡ no_board → ((p : ℕ) → board_at boards p ≡ no_board) → (p : ℕ) → board_at (boards ++ board ∷ []) p ≡ no_board
-push_empty [] board is empty zero = is
-push_empty [] board is empty (suc p) = refl
-push_empty (b ∷ boards) board is empty zero = empty zero
-push_empty (b ∷ boards) board is empty (suc p) = push_empty boards board is (λ k. empty (suc k)) p
 
 -- ---- order
 
@@ -44,24 +38,21 @@ entry_cmp a b = ordering_then (nat_cmp a.by.0 b.by.0) (nat_cmp a.id.0 b.id.0)
 abbrev pub InOrder : Entry → Entry → Type 0
 InOrder a b = (a.by.0 < b.by.0) ⊎ ((a.by.0 ≡ b.by.0) × (a.id.0 ≤ b.id.0))
 
-not_above : (x y u v : ℕ) → is_lt (ordering_then (nat_cmp y x) (nat_cmp v u)) ≡ false → (x < y) ⊎ ((x ≡ y) × (u ≤ v))
-not_above x y u v h = elim (cases_lt x y) [
-  | inl less ↦ inl less
-  | inr more ↦ elim (cases_lt y x) [
-    | inl above ↦ let t : ltb y x ≡ true = grind (arith, nat_tests) in absurd (cc (rw t at h))
-    | inr le ↦
-        let e : x ≡ y = omega arith in
-        let s : ltb y x ≡ false = grind (arith, nat_tests) in
-        let t : eqb y x ≡ true = grind (arith, nat_tests) in
-        inr (e, ge_from_not_lt v u (rw (s, t) at h))
-  ]
-]
+not_above : (x y u v : ℕ) (order : Ordering) → MatchOrdering order (y < x) (y ≡ x) (x < y) → is_lt (ordering_then order (nat_cmp v u)) ≡ false
+    → (x < y) ⊎ ((x ≡ y) × (u ≤ v))
+not_above x y u v Less above h = absurd (cc)
+not_above x y u v Equal same h = inr (sym same, ge_from_not_lt v u h)
+not_above x y u v Greater less h = inl less
 
 entries_total : IsTotalOrder entry_cmp
 entries_total = then_total (on_total (λ (e : Entry). e.by.0) nat_cmp_total) (on_total (λ (e : Entry). e.id.0) nat_cmp_total)
 
 pub sorted_in_order : (ys : List Entry) → IsSorted entry_cmp ys → (d : Entry) (i j : ℕ) → i ≤ j → j < length ys → InOrder (get_or ys i d) (get_or ys j d)
-sorted_in_order ys up d i j le within = not_above _ _ _ _ (sorted_far (λ x y. is_lt (entry_cmp x y)) (ranks_by entries_total (λ (e : Entry). e)) ys up i j d le within)
+sorted_in_order ys up d i j le within =
+    let a = get_or ys i d in
+    let b = get_or ys j d in
+    not_above a.by.0 b.by.0 a.id.0 b.id.0 (nat_cmp b.by.0 a.by.0) (ranked b.by.0 a.by.0 (nat_cmp b.by.0 a.by.0) refl)
+    (sorted_far (λ x y. is_lt (entry_cmp x y)) (ranks_by entries_total (λ (e : Entry). e)) ys up i j d le within)
 
 -- sorted and turned round, they fall
 pub falls_reversed : (ys : List Entry) → IsSorted entry_cmp ys → (zs : List Entry) → zs ≡ reverse ys → length zs ≡ length ys → Falls zs
@@ -96,39 +87,37 @@ abbrev pub HaveWays : NetworkModel → ℕ → ℕ → ℕ → List ShownBoard �
 HaveWays n last id k boards = (p : ℕ) → p < length boards → HasWays n last id k p (board_at boards p)
 
 module _ (n : NetworkModel) (last id : ℕ) where
+  -- with one connection more, which has an entry where it can be boarded
+  entries_next : (p : ℕ) (entries : List Entry) → AreEntries n last p id entries
+      → ((x : ℕ) → dep_of n id ≤ last → IsTrue (connection n id).can_board → IsBoardable n p x id
+      → (i : ℕ) × (i < length entries) × ((entry_at entries i).id.0 ≡ id)) → AreEntries n last p (id + 1) entries
+  entries_next p entries are own = record {
+    each = are.each;
+    all = λ c x below soon can boards. elim (cases_lt c id) [
+      | inl before ↦ are.all c x before soon can boards
+      | inr newest ↦
+          let is : c ≡ id = omega arith in
+          subst (λ k. dep_of n k ≤ last → IsTrue (connection n k).can_board → IsBoardable n p x k
+          → (i : ℕ) × (i < length entries) × ((entry_at entries i).id.0 ≡ k)) (sym is) (own x) soon can boards
+    ];
+  }
+
   pub no_ways : (boards : List ShownBoard) → HaveEntries n last id boards → HaveWays n last id 0 boards
   no_ways boards have p within = record { entries = (have p within).0; own = λ x j way below. absurd (omega arith); fresh = (have p within).1 }
 
   -- all ways
   pub all_ways : (boards : List ShownBoard) (k : ℕ) → length (ways_into n (from_of n id)) ≤ k → HaveWays n last id k boards → HaveEntries n last (id + 1) boards
   all_ways boards k whole have p within = (
-    record {
-      each = (have p within).entries.each;
-      all = λ c x below soon board boards. elim (cases_lt c id) [
-        | inl before ↦ (have p within).entries.all c x before soon board boards
-        | inr newest ↦
-            let is : c ≡ id = omega arith in
-            let own = subst (λ i. IsBoardable n p x i) is boards in
-            let (j, listed, is_way) = listed-way_of n p (from_of n id) own.seconds own.way in
-            let (i, inside, at) = (have p within).own x j (record { from = record { 0 = p }; seconds = own.seconds }) (omega arith) is_way refl own in
-            (i, inside, at ∙ sym is)
-      ];
-    },
+    entries_next p (board_at boards p).entries (have p within).entries (λ x soon can own.
+        let (j, listed, is_way) = listed-way_of n p (from_of n id) own.seconds own.way in
+        (have p within).own x j (record { from = record { 0 = p }; seconds = own.seconds }) (omega arith) is_way refl own),
     (have p within).fresh,
   )
 
   -- a connection that cannot be boarded, or departs later
   pub entries_skipped : (boards : List ShownBoard) → (IsTrue (connection n id).can_board → dep_of n id ≤ last → ⊥) → HaveEntries n last id boards → HaveEntries n last (id + 1) boards
   entries_skipped boards never have p within = (
-    record {
-      each = (have p within).0.each;
-      all = λ c x below soon board boards. elim (cases_lt c id) [
-        | inl before ↦ (have p within).0.all c x before soon board boards
-        | inr newest ↦
-            let is : c ≡ id = omega arith in
-            absurd (never (subst (λ i. IsTrue (connection n i).can_board) is board) (subst (λ i. dep_of n i ≤ last) is soon))
-      ];
-    },
+    entries_next p (board_at boards p).entries (have p within).0 (λ x soon can own. absurd (never can soon)),
     (have p within).1,
   )
 
@@ -143,19 +132,21 @@ module _ (n : NetworkModel) (last id : ℕ) where
     seconds_are x board = let both = sym board.way ∙ way_of-listed n valid (from_of n id) departs_in k way listed in cc
 
     -- nobody can board by the way
-    pub way_passed : dep_of n id < way.seconds → (boards : List ShownBoard) → HaveWays n last id k boards → HaveWays n last id (k + 1) boards
-    way_passed early boards have p within = record {
-      entries = (have p within).entries;
+    ways_same : (p : ℕ) (board : ShownBoard) → ((x : ℕ) → way.from.0 ≡ p → IsBoardable n p x id → ⊥) → HasWays n last id k p board
+        → HasWays n last id (k + 1) p board
+    ways_same p board never before = record {
+      entries = before.entries;
       own = λ x j other below at from boards_by. elim (same_way j other below at) [
-        | inl before ↦ (have p within).own x j other before at from boards_by
-        | inr is ↦
-            let here = subst (λ r. IsBoardable n r x id) (sym from ∙ ap (λ (w : Way). w.from.0) is) boards_by in
-            let in_time = here.in_time in
-            let seconds = seconds_are x here in
-            absurd (omega arith)
+        | inl earlier ↦ before.own x j other earlier at from boards_by
+        | inr is ↦ absurd (never x (sym (ap (λ (w : Way). w.from.0) is) ∙ from) boards_by)
       ];
-      fresh = (have p within).fresh;
+      fresh = before.fresh;
     }
+
+    pub way_passed : dep_of n id < way.seconds → (boards : List ShownBoard) → HaveWays n last id k boards → HaveWays n last id (k + 1) boards
+    way_passed early boards have p within = ways_same p (board_at boards p) (λ x from boards_by.
+        let here = subst (λ r. IsBoardable n r x id) (sym from) boards_by in
+        omega (arith, here.in_time, seconds_are x here)) (have p within)
 
     abbrev new_entry : ℕ → Entry
     new_entry by = record { by = record { 0 = by }; id = record { 0 = id } }
@@ -184,29 +175,16 @@ module _ (n : NetworkModel) (last id : ℕ) where
     pub way_added : (by : ℕ) → id < count n → IsTrue (connection n id).can_board → by + way.seconds ≡ dep_of n id
         → (boards : List ShownBoard) (board : ShownBoard) → way.from.0 < length boards
         → board.entries ≡ (board_at boards way.from.0).entries ++ new_entry by ∷ [] → board.least ≡ [] → HaveWays n last id k boards → HaveWays n last id (k + 1) (set boards way.from.0 board)
-    way_added by there can sum boards board inside is fresh have p within = elim (cases_eq p way.from.0) [
-      | inl here ↦
-          let old = (board_at boards way.from.0).entries in
-          let at : board_at (set boards way.from.0 board) way.from.0 ≡ board = get_or-set_same boards way.from.0 board no_board inside in
-          let more : HasWays n last id (k + 1) way.from.0 board = record {
-            entries = rw is (entries_more by there can sum old (have way.from.0 inside).entries);
-            own = λ x j other below listed_at from boards_by. rw is
-                (length old, omega (arith, length_push old (new_entry by)), ap (λ (e : Entry). e.id.0) (get_or_at old (new_entry by) [] no_entry (length old) refl));
-            fresh = fresh;
-          } in
-          subst (λ r. HasWays n last id (k + 1) r (board_at (set boards way.from.0 board) r)) (sym here) (rw at more)
-      | inr away ↦
-          let at : board_at (set boards way.from.0 board) p ≡ board_at boards p = get_or-set_other boards way.from.0 p board no_board away in
-          let before = have p (omega (arith, length-set boards way.from.0 board)) in
-          rw at (record {
-            entries = before.entries;
-            own = λ x j other below listed_at from boards_by. elim (same_way j other below listed_at) [
-              | inl earlier ↦ before.own x j other earlier listed_at from boards_by
-              | inr same ↦ absurd (away (sym from ∙ ap (λ (w : Way). w.from.0) same))
-            ];
-            fresh = before.fresh;
-          })
-    ]
+    way_added by there can sum boards board inside is fresh have p within =
+        let old = (board_at boards way.from.0).entries in
+        get_or-set (HasWays n last id (k + 1)) boards way.from.0 p board no_board inside
+        (record {
+          entries = rw is (entries_more by there can sum old (have way.from.0 inside).entries);
+          own = λ x j other below listed_at from boards_by. rw is
+              (length old, omega (arith, length_push old (new_entry by)), ap (λ (e : Entry). e.id.0) (get_or_at old (new_entry by) [] no_entry (length old) refl));
+          fresh = fresh;
+        })
+        (λ away. ways_same p (board_at boards p) (λ x from boards_by. away (sym from)) (have p (omega (arith, length-set boards way.from.0 board))))
 
 -- ---- all boards in order
 
@@ -218,42 +196,31 @@ pub record AreSorted (n : NetworkModel) (last k : ℕ) (boards : List ShownBoard
 
 pub sorted_more : (n : NetworkModel) (last k : ℕ) (boards : List ShownBoard) (board : ShownBoard) → k < length boards
     → IsPermutation (board_at boards k).entries board.entries → Falls board.entries → board.least ≡ [] → AreSorted n last k boards → AreSorted n last (k + 1) (set boards k board)
-sorted_more n last k boards board inside moved falls fresh sorted =
-    let here : board_at (set boards k board) k ≡ board = get_or-set_same boards k board no_board inside in
-    let there : (p : ℕ) → p ≢ k → board_at (set boards k board) p ≡ board_at boards p = λ p differ. get_or-set_other boards k p board no_board differ in
-    record {
-      len = length-set boards k board ∙ sorted.len;
-      entries = λ p within. elim (cases_eq p k) [
-        | inl is ↦ subst (λ r. AreEntries n last r (count n) (board_at (set boards k board) r).entries
-            × ((board_at (set boards k board) r).least ≡ [])) (sym is)
-            (rw here (entries_permuted n last k (count n) (board_at boards k).entries board.entries moved (sorted.entries k inside).0, fresh))
-        | inr differ ↦ rw (there p differ) (sorted.entries p (omega (arith, length-set boards k board)))
-      ];
-      falls = λ p below. elim (cases_eq p k) [
-        | inl is ↦ subst (λ r. Falls (board_at (set boards k board) r).entries) (sym is) (rw here falls)
-        | inr differ ↦ rw (there p differ) (sorted.falls p (omega arith))
-      ];
-    }
-
--- no value is known yet, so what is known is right
-pub sorted_boards : (n : NetworkModel) (last : ℕ) (boards : List ShownBoard) (values : List (Option ℕ)) → length values ≡ count n → NoneAfter n values last
-    → AreSorted n last (length boards) boards → AreBoards n last values boards
-sorted_boards n last boards values as_many none_after sorted = record {
-  none_after = none_after;
-  as_many = sorted.len;
-  each = λ p within.
-      let have = sorted.entries p within in
-      let none : length (board_at boards p).least ≡ 0 = ap length have.1 in
-      record {
-        entries = have.0;
-        right = record {
-          sizes = omega arith;
-          falls = sorted.falls p within;
-          ids = λ k inside. omega (arith, (have.0.each k inside).there);
-          minima = λ k below. absurd (omega arith);
-        };
-      };
+sorted_more n last k boards board inside moved falls fresh sorted = record {
+  len = length-set boards k board ∙ sorted.len;
+  entries = λ p within. get_or-set (λ r b. AreEntries n last r (count n) b.entries × (b.least ≡ [])) boards k p board no_board inside
+      (entries_permuted n last k (count n) (board_at boards k).entries board.entries moved (sorted.entries k inside).0, fresh)
+      (λ differ. sorted.entries p (omega (arith, length-set boards k board)));
+  falls = λ p below. get_or-set (λ r b. Falls b.entries) boards k p board no_board inside falls (λ differ. sorted.falls p (omega arith));
 }
 
-pub sorted_late : (n : NetworkModel) (last : ℕ) (boards : List ShownBoard) (moment : ℕ) → AreSorted n last (length boards) boards → AllLate moment boards
-sorted_late n last boards moment sorted p within k below = let none : length (board_at boards p).least ≡ 0 = ap length (sorted.entries p within).1 in absurd (omega arith)
+-- no value is known yet, so what is known is right
+pub sorted_fresh : (n : NetworkModel) (last : ℕ) (boards : List ShownBoard) → AreSorted n last (length boards) boards → AreFresh n last boards
+sorted_fresh n last boards sorted =
+    let none : (p : ℕ) → p < length boards → length (board_at boards p).least ≡ 0 = λ p within. ap length (sorted.entries p within).1 in
+    record {
+      right = λ values as_many none_after. record {
+        none_after = none_after;
+        as_many = sorted.len;
+        each = λ p within. record {
+          entries = (sorted.entries p within).0;
+          right = record {
+            sizes = omega (arith, none p within);
+            falls = sorted.falls p within;
+            ids = λ k inside. omega (arith, ((sorted.entries p within).0.each k inside).there);
+            minima = λ k below. absurd (omega (arith, none p within));
+          };
+        };
+      };
+      late = λ m p within k below. absurd (omega (arith, none p within));
+    }

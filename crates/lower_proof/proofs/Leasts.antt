@@ -1,8 +1,10 @@
 -- The least of numbers that are found one after the other.
-use Rattle.std.proofs.Common.{◌≡◌, ℕ, ◌+◌, ◌<◌, ◌≤◌, ◌⊎◌, min, List, Option, Some, None, IsTrue, arith, inl, inr, sym, ap, subst, refl}
-use Rattle.std.proofs.lemmas.Bool.{cases_lt}
+use Rattle.std.proofs.Common.{◌≡◌, ℕ, zero, suc, ◌+◌, ◌<◌, ◌≤◌, ◌⊎◌, min, List, Option, Some, None, IsTrue, arith, inl, inr, ap, subst, refl}
+use Rattle.std.proofs.lemmas.Bool.{both_ways, cases_Bool, cases_eq, cases_lt}
 use Rattle.plan_model.specs.NetworkModel.{NetworkModel}
-use Rattle.plan_model.specs.Network.{count, connection}
+use Rattle.plan_model.specs.Network.{count, connection, from_of, dep_of}
+use Rattle.plan_model.specs.Ways.{way_of}
+use Rattle.plan_model.specs.Strategy.{IsBoardable, IsBoardableAtStart}
 use Rattle.lower_proof.specs.Certificates.{bound_of, IsLeastOf, Offers, HasValueUpTo}
 use Rattle.lower_proof.specs.Steps.{lesser, KeepsTo}
 
@@ -27,26 +29,16 @@ module _ (P Q : ℕ → Type 0) (there : (v : ℕ) → P v → Q v) where
       | inr is ↦ absurd (cc)
     ],
   )
-  least_with (Some v) (Some u) least own cases = elim (cases_lt u v) [
-    | inl less ↦
-        let is : min v u ≡ u = omega arith in
-        subst (λ (m : ℕ). IsLeastOf Q (Some m)) (sym is) (
-          own u refl,
-          λ w h. elim (cases w h) [
-            | inl before ↦ let rest = least.1 w before in omega arith
-            | inr e ↦ let same : u ≡ w = (cc) in omega arith
-          ],
-        )
-    | inr more ↦
-        let is : min v u ≡ v = omega arith in
-        subst (λ (m : ℕ). IsLeastOf Q (Some m)) (sym is) (
-          there v least.0,
-          λ w h. elim (cases w h) [
-            | inl before ↦ least.1 w before
-            | inr e ↦ let same : u ≡ w = (cc) in omega arith
-          ],
-        )
-  ]
+  least_with (Some v) (Some u) least own cases = (
+    elim (cases_lt u v) [
+      | inl less ↦ let is : min v u ≡ u = omega arith in rw is (own u refl)
+      | inr more ↦ let is : min v u ≡ v = omega arith in rw is (there v least.0)
+    ],
+    λ w h. elim (cases w h) [
+      | inl before ↦ let rest = least.1 w before in omega arith
+      | inr e ↦ let same : u ≡ w = (cc) in omega arith
+    ],
+  )
 
   -- with none more
   pub least_same : (r : Option ℕ) → ((v : ℕ) → Q v → P v) → IsLeastOf P r → IsLeastOf Q r
@@ -60,52 +52,103 @@ IsLeastOf-unique P None (Some w) h k = absurd (h w k.0)
 IsLeastOf-unique P (Some v) None h k = absurd (k v h.0)
 IsLeastOf-unique P (Some v) (Some w) h k = let e : v ≡ w = omega (arith, h.1 w k.0, k.1 v h.0) in ap (λ (m : ℕ). Some m) e
 
--- where a number is P, the least is there and not above it
-pub least_some : (P : ℕ → Type 0) (r : Option ℕ) (w : ℕ) → IsLeastOf P r → P w → (v : ℕ) × (r ≡ Some v) × (v ≤ w)
-least_some P None w least offered = absurd (least w offered)
-least_some P (Some v) w least offered = (v, refl, least.1 w offered)
-
 -- the least is P
 pub least_is : (P : ℕ → Type 0) (r : Option ℕ) (v : ℕ) → IsLeastOf P r → r ≡ Some v → P v
 least_is P r v least is = (subst (IsLeastOf P) is least).0
 
--- the offers of the first connections
-abbrev pub OffersBelow : NetworkModel → List (Option ℕ) → (ℕ → Type 0) → ℕ → ℕ → Type 0
-OffersBelow n values Boards m v = (c : ℕ) × (c < m) × Offers n values Boards c v
+-- and not above any
+pub least_up_to : (P : ℕ → Type 0) (r : Option ℕ) (v : ℕ) → IsLeastOf P r → P v → HasValueUpTo r v
+least_up_to P None v least h = least v h
+least_up_to P (Some w) v least h = least.1 v h
 
-module _ (n : NetworkModel) (values : List (Option ℕ)) (Boards : ℕ → Type 0) where
-  pub none_below : IsLeastOf (OffersBelow n values Boards 0) None
-  none_below = λ v o. absurd (omega (arith, o.1))
+-- of those of the first m
+abbrev pub Below : (ℕ → ℕ → Type 0) → ℕ → ℕ → Type 0
+Below R m v = (k : ℕ) × (k < m) × R k v
 
-  grown : (m v : ℕ) → OffersBelow n values Boards m v → OffersBelow n values Boards (m + 1) v
-  grown m v o = (o.0, omega (arith, o.1), o.2)
+module _ (R : ℕ → ℕ → Type 0) where
+  pub none_below : IsLeastOf (Below R 0) None
+  none_below = λ v f. absurd (omega (arith, f.1))
 
-  at_last : (m : ℕ) (v : ℕ) → OffersBelow n values Boards (m + 1) v → OffersBelow n values Boards m v ⊎ Offers n values Boards m v
-  at_last m v o = elim (cases_lt o.0 m) [
-    | inl before ↦ inl (o.0, before, o.2)
-    | inr last ↦ let e : o.0 ≡ m = omega (arith, o.1) in inr (subst (λ (c : ℕ). Offers n values Boards c v) e o.2)
+  grown : (m v : ℕ) → Below R m v → Below R (m + 1) v
+  grown m v f = (f.0, omega (arith, f.1), f.2)
+
+  at_last : (m v : ℕ) → Below R (m + 1) v → Below R m v ⊎ R m v
+  at_last m v f = elim (cases_lt f.0 m) [
+    | inl before ↦ inl (f.0, before, f.2)
+    | inr last ↦ let e : f.0 ≡ m = omega (arith, f.1) in inr (subst (λ k. R k v) e f.2)
   ]
 
-  -- one connection more, that can be boarded
-  pub with_offer : (m : ℕ) (r : Option ℕ) → m < count n → IsTrue (connection n m).can_board → Boards m → IsLeastOf (OffersBelow n values Boards m) r
-      → IsLeastOf (OffersBelow n values Boards (m + 1)) (lesser r (bound_of values m))
-  with_offer m r there board boards least = least_with (OffersBelow n values Boards m) (OffersBelow n values Boards (m + 1)) (grown m) r (bound_of values m) least
-      (λ v is. (m, omega arith, record { there = there; board = board; boards = boards; value = is }))
-      (λ v o. elim (at_last m v o) [
+  -- one more, which has this value, where it has one
+  pub below_more : (m : ℕ) (r here : Option ℕ) → ((v : ℕ) → here ≡ Some v → R m v) → ((v : ℕ) → R m v → here ≡ Some v) → IsLeastOf (Below R m) r
+      → IsLeastOf (Below R (m + 1)) (lesser r here)
+  below_more m r here own only least = least_with (Below R m) (Below R (m + 1)) (grown m) r here least (λ v is. (m, omega arith, own v is))
+      (λ v f. elim (at_last m v f) [
         | inl before ↦ inl before
-        | inr here ↦ inr here.value
+        | inr last ↦ inr (only v last)
       ])
 
-  -- one more, that cannot
-  pub without_offer : (m : ℕ) (r : Option ℕ) → (IsTrue (connection n m).can_board → Boards m → ⊥) → IsLeastOf (OffersBelow n values Boards m) r → IsLeastOf (OffersBelow n values Boards (m + 1)) r
-  without_offer m r never least = least_same (OffersBelow n values Boards m) (OffersBelow n values Boards (m + 1)) (grown m) r (λ v o. elim (at_last m v o) [
+  -- one more, which has none
+  pub below_same : (m : ℕ) (r : Option ℕ) → ((v : ℕ) → R m v → ⊥) → IsLeastOf (Below R m) r → IsLeastOf (Below R (m + 1)) r
+  below_same m r never = least_same (Below R m) (Below R (m + 1)) (grown m) r (λ v f. elim (at_last m v f) [
     | inl before ↦ before
-    | inr here ↦ absurd (never here.board here.boards)
-  ]) least
+    | inr last ↦ absurd (never v last)
+  ])
+
+module _ (n : NetworkModel) (values : List (Option ℕ)) (Boards : ℕ → Type 0) where
+  -- one connection more, that can be boarded
+  pub with_offer : (m : ℕ) (r : Option ℕ) → m < count n → IsTrue (connection n m).can_board → Boards m → IsLeastOf (Below (Offers n values Boards) m) r
+      → IsLeastOf (Below (Offers n values Boards) (m + 1)) (lesser r (bound_of values m))
+  with_offer m r there board boards = below_more (Offers n values Boards) m r (bound_of values m)
+      (λ v is. record { there = there; board = board; boards = boards; value = is }) (λ v o. o.value)
 
   -- all of them
-  pub all_offers : (r : Option ℕ) → IsLeastOf (OffersBelow n values Boards (count n)) r → IsLeastOf (λ v. (c : ℕ) × Offers n values Boards c v) r
-  all_offers r least = least_same (OffersBelow n values Boards (count n)) (λ v. (c : ℕ) × Offers n values Boards c v) (λ v o. (o.0, o.2)) r (λ v o. (o.0, o.1.there, o.1)) least
+  pub all_offers : (r : Option ℕ) → IsLeastOf (Below (Offers n values Boards) (count n)) r → IsLeastOf (λ v. (c : ℕ) × Offers n values Boards c v) r
+  all_offers r = least_same (Below (Offers n values Boards) (count n)) (λ v. (c : ℕ) × Offers n values Boards c v) (λ v o. (o.0, o.2)) r
+      (λ v o. (o.0, o.1.there, o.1))
+
+  -- the least is found, where it can be told which can be boarded
+  least_offer : ((c : ℕ) → Boards c ⊎ (Boards c → ⊥)) → (r : Option ℕ) × IsLeastOf (λ v. (c : ℕ) × Offers n values Boards c v) r
+  least_offer decide = let all = found (count n) (omega arith) in (all.0, all_offers all.0 all.1)
+    where
+      found : (m : ℕ) → m ≤ count n → (r : Option ℕ) × IsLeastOf (Below (Offers n values Boards) m) r
+      found zero within = (None, none_below (Offers n values Boards))
+      found (suc m) within =
+          let before = found m (omega arith) in
+          let next : m + 1 ≡ suc m = omega arith in
+          subst (λ k. (r : Option ℕ) × IsLeastOf (Below (Offers n values Boards) k) r) next (elim (decide m) [
+            | inl boards ↦ elim (cases_Bool (connection n m).can_board) [
+              | inl board ↦ (lesser before.0 (bound_of values m), with_offer m before.0 (omega arith) board boards before.1)
+              | inr closed ↦ (before.0, below_same (Offers n values Boards) m before.0 (λ v o. both_ways (connection n m).can_board closed o.board) before.1)
+            ]
+            | inr never ↦ (before.0, below_same (Offers n values Boards) m before.0 (λ v o. never o.boards) before.1)
+          ])
+
+-- it can be told which connections one can board, so the least value of these is found
+module _ (n : NetworkModel) (values : List (Option ℕ)) (p x : ℕ) where
+  -- by the seconds of the way
+  by_way : (c : ℕ) (way : Option ℕ) → way_of n p (from_of n c) ≡ way → IsBoardable n p x c ⊎ (IsBoardable n p x c → ⊥)
+  by_way c None is = inr (λ b. let way = b.way in cc)
+  by_way c (Some seconds) is = elim (cases_lt (dep_of n c) (x + seconds)) [
+    | inl late ↦ inr (λ b. let way = b.way in let same : seconds ≡ b.seconds = (cc) in omega (arith, b.in_time))
+    | inr in_time ↦ inl (record { seconds = seconds; way = is; in_time = in_time })
+  ]
+
+  -- the least of the connections that one can board after an arrival
+  pub least_boardable : (r : Option ℕ) × IsLeastOf (λ v. (c : ℕ) × Offers n values (IsBoardable n p x) c v) r
+  least_boardable = least_offer n values (IsBoardable n p x) (λ c. by_way c (way_of n p (from_of n c)) refl)
+
+  starts_or_not : (c : ℕ) → IsBoardableAtStart n p x c ⊎ (IsBoardableAtStart n p x c → ⊥)
+  starts_or_not c = elim (cases_eq (from_of n c) p) [
+    | inl there ↦ elim (cases_lt (dep_of n c) x) [
+      | inl late ↦ inr (λ b. omega (arith, b.1))
+      | inr in_time ↦ inl (there, in_time)
+    ]
+    | inr away ↦ inr (λ b. away b.0)
+  ]
+
+  -- the least of those that one can board at the start
+  pub least_at_start : (r : Option ℕ) × IsLeastOf (λ v. (c : ℕ) × Offers n values (IsBoardableAtStart n p x) c v) r
+  least_at_start = least_offer n values (IsBoardableAtStart n p x) starts_or_not
 
 -- a value at most the least is at most each
 pub keeps_to_each : (P : ℕ → Type 0) (own best : Option ℕ) → IsLeastOf P best → KeepsTo own best → (v : ℕ) → P v → HasValueUpTo own v

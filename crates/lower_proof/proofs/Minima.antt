@@ -1,46 +1,38 @@
 -- Least values of front parts, one entry after the other.
-use Rattle.std.proofs.Common.{◌≡◌, ℕ, ◌+◌, ◌-◌, ◌<◌, ◌≤◌, List, [], ◌++◌, length, take, drop, set, Option, Some, None, arith, inl, inr, sym, subst, get_or-set_other, get_or-set_same}
+use Rattle.std.proofs.Common.{◌≡◌, ◌≢◌, ℕ, ◌+◌, ◌-◌, ◌<◌, ◌≤◌, List, get_or, length, take, set, Option, Some}
+use Rattle.std.proofs.Common.{None, arith, inl, inr, sym, subst, get_or-set_other, get_or-set_same}
 use Rattle.std.proofs.lemmas.Bool.{cases_eq, cases_lt}
 use Rattle.lower_proof.specs.declared.board.Entry.{Entry}
 use Rattle.lower_proof.specs.Certificates.{bound_of, IsLeastOf}
 use Rattle.lower_proof.specs.Steps.{lesser}
 use Rattle.lower_proof.specs.Boards.{entry_at, Falls, FrontValue, ValueInTime, least_of}
 use Rattle.lower_proof.specs.Minima.{AreMinima, IsBoard}
-use Rattle.std.proofs.lemmas.List.{append-nil, take_all, drop_all, length-take, get_or-take}
-use Rattle.lower_proof.proofs.Leasts.{least_with, least_same}
+use Rattle.std.proofs.lemmas.List.{length-take, get_or-take}
+use Rattle.lower_proof.proofs.Leasts.{least_same, below_more}
+
+-- what holds of the elements of a list by their positions, after one is set
+pub get_or-set : {A : Type 0} (P : ℕ → A → Type 0) (xs : List A) (i j : ℕ) (x d : A) → i < length xs → P i x → (j ≢ i → P j (get_or xs j d))
+    → P j (get_or (set xs i x) j d)
+get_or-set P xs i j x d inside here other = elim (cases_eq j i) [
+  | inl is ↦ subst (λ k. P k (get_or (set xs i x) k d)) (sym is) (rw (get_or-set_same xs i x d inside) here)
+  | inr differ ↦ rw (get_or-set_other xs i j x d differ) (other differ)
+]
 
 module _ (values : List (Option ℕ)) (entries : List Entry) where
-  pub none_front : IsLeastOf (FrontValue values entries 0) None
-  none_front = λ v f. absurd (omega (arith, f.1))
-
-  one_more : (k : ℕ) (before : Option ℕ) → IsLeastOf (FrontValue values entries k) before → IsLeastOf (FrontValue values entries (k + 1)) (lesser before (bound_of values (entry_at entries k).id.0))
-  one_more k before least = least_with (FrontValue values entries k) (FrontValue values entries (k + 1))
-      (λ v f. (f.0, omega (arith, f.1), f.2)) before (bound_of values (entry_at entries k).id.0) least
-      (λ v is. (k, omega arith, is))
-      (λ v f. elim (cases_lt f.0 k) [
-        | inl earlier ↦ inl (f.0, earlier, f.2)
-        | inr last ↦ let e : f.0 ≡ k = omega (arith, f.1) in inr (subst (λ i. bound_of values (entry_at entries i).id.0 ≡ Some v) e f.2)
-      ])
-
   -- the least of the first k, from those that are known
-  pub before_is : (least : List (Option ℕ)) (k : ℕ) → 1 ≤ k → AreMinima values entries least k → IsLeastOf (FrontValue values entries k) (least_of least (k - 1))
-  before_is least k some minima = let e : k - 1 + 1 ≡ k = omega arith in subst (λ m. IsLeastOf (FrontValue values entries m) (least_of least (k - 1))) e (minima (k - 1) (omega arith))
+  pub before_is : (least : List (Option ℕ)) (k known : ℕ) → 1 ≤ k → k ≤ known → AreMinima values entries least known
+      → IsLeastOf (FrontValue values entries k) (least_of least (k - 1))
+  before_is least k known some within minima =
+      let e : k - 1 + 1 ≡ k = omega arith in
+      subst (λ m. IsLeastOf (FrontValue values entries m) (least_of least (k - 1))) e (minima (k - 1) (omega arith))
 
   pub minima_more : (least : List (Option ℕ)) (k : ℕ) (before : Option ℕ) → k < length least → AreMinima values entries least k
       → IsLeastOf (FrontValue values entries k) before → AreMinima values entries (set least k (lesser before (bound_of values (entry_at entries k).id.0))) (k + 1)
   minima_more least k before within minima is_least j below =
-      let more = lesser before (bound_of values (entry_at entries k).id.0) in
-      elim (cases_eq j k) [
-        | inl is ↦
-            let at : least_of (set least k more) k ≡ more = get_or-set_same least k more None within in
-            subst (λ i. IsLeastOf (FrontValue values entries (i + 1)) (least_of (set least k more) i)) (sym is) (rw at (one_more k before is_least))
-        | inr differ ↦
-            let at : least_of (set least k more) j ≡ least_of least j = get_or-set_other least k j more None differ in
-            rw at (minima j (omega arith))
-      ]
-
-  pub minima_fewer : (least : List (Option ℕ)) (known fewer : ℕ) → fewer ≤ known → AreMinima values entries least known → AreMinima values entries least fewer
-  minima_fewer least known fewer less minima k below = minima k (omega arith)
+      get_or-set (λ i r. IsLeastOf (FrontValue values entries (i + 1)) r) least k j (lesser before (bound_of values (entry_at entries k).id.0)) None within
+      (below_more (λ i v. bound_of values (entry_at entries i).id.0 ≡ Some v) k before (bound_of values (entry_at entries k).id.0) (λ v is. is)
+      (λ v is. is) is_least)
+      (λ differ. minima j (omega arith))
 
   -- the first entries that are in time give the values in time
   pub front_in_time : (x m : ℕ) → m ≤ length entries → ((k : ℕ) → k < m → x ≤ (entry_at entries k).by.0)
@@ -51,12 +43,6 @@ module _ (values : List (Option ℕ)) (entries : List Entry) where
         | inl front ↦ (t.0, front, t.3)
         | inr back ↦ absurd (omega (arith, late t.0 back t.1, t.2))
       ]) is
-
--- a list of so many, written into as many
-pub written_back : {A : Type 0} (new old : List A) (n : ℕ) → length new ≡ n → length old ≡ n → take n (new ++ drop (length new) old) ≡ new
-written_back {A} new old n same old_same =
-    let rest : drop (length new) old ≡ [] = drop_all (length new) old (omega arith) in
-    rw (rest, append-nil new) (take_all n new (omega arith))
 
 -- what is shown of a board whose first least values are known
 pub board_shown : (values : List (Option ℕ)) (entries : List Entry) (least : List (Option ℕ)) (known : ℕ) → Falls entries

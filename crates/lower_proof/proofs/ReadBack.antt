@@ -1,30 +1,28 @@
--- What was printed of a certificate is read back.
-use Rattle.std.proofs.Common.{◌≡◌, ◌≢◌, ℕ, zero, suc, ◌+◌, ◌<◌, ◌≤◌, ◌^◌, Bool, true, List, [], ◌∷◌, length, Option, Some, None, Ok, Err, Result, arith, inl, inr, sym, ◌∙◌, ap, subst, refl}
+-- What was printed of a certificate is read back, and how its rows are printed one after another.
+use Rattle.std.proofs.Common.{◌≡◌, ◌≢◌, ℕ, zero, suc, ◌+◌, ◌<◌, ◌≤◌, ◌^◌, Bool, true, List, [], ◌∷◌, length, Option, Some, None, Ok, Err}
+use Rattle.std.proofs.Common.{Result, arith, inl, inr, sym, ◌∙◌, ap, subst, refl, ◌++◌, drop}
 use Rattle.std.specs.Prelude.{cond, is_some, codes, decimal, if◌then◌else◌, slice_index_or}
 use Rattle.std.specs.List.{count_by}
 use Rattle.std.specs.Result.{result_err}
 use Rattle.std.specs.Option.{option_map}
 use Rattle.std.proofs.Math.Nat.{max-le}
 use Rattle.std.proofs.lemmas.List.Sums.{sum_by-cons}
-use Rattle.std.proofs.lemmas.List.{ext_get_or}
-use Rattle.std.proofs.lemmas.Bool.{eq-eqb, lt-ltb, le-leb}
+use Rattle.std.proofs.lemmas.List.{ext_get_or, append-nil, drop_all}
+use Rattle.std.proofs.lemmas.Bool.{eq-eqb, lt-ltb, le-leb, cases_eq}
 use Rattle.csv.proofs.RoundTrip.{rows_text as text_of_rows}
 use Rattle.csv.specs.Reading.{strip_bom}
 use Rattle.clock_text.specs.Civil.{moment_text, nanos_text, last_printable}
-use Rattle.clock_text.specs.Times.{moment_at}
 use Rattle.clock_text.proofs.Walk.{text_tells}
 use Rattle.clock_text.proofs.NanosLemmas.{nanos_tell}
 use Rattle.csv_rows.specs.Tables.{table_of, row_count, header}
 use Rattle.plan_model.specs.declared.model.Query.{Query}
-use Rattle.plan_model.specs.declared.model.PlaceId.{PlaceId}
-use Rattle.plan_model.specs.declared.model.Moment.{Moment}
 use Rattle.plan_model.specs.NetworkModel.{NetworkModel}
 use Rattle.plan_model.specs.NameLists.{NameLists, NamesFit, AreNames}
 use Rattle.plan_model.specs.Network.{IsValid, count, run_of, step_of}
 use Rattle.printed_rows.specs.Fields.{whole_at, rises}
-use Rattle.printed_rows.specs.Writers.{place_name, run_name}
+use Rattle.printed_rows.specs.Writers.{place_name, run_name, text_of_records}
 use Rattle.printed_rows.proofs.Found.{connection_back}
-use Rattle.printed_rows.proofs.Lines.{records_printed}
+use Rattle.printed_rows.proofs.Lines.{records_printed, text_step, split_at}
 use Rattle.printed_rows.proofs.Plain.{moment_kept, nanos_kept, decimal_kept, whole_back}
 use Rattle.printed_rows.proofs.Names.{place_kept, run_kept, place_back, run_back, step_kept, step_back}
 use Rattle.printed_rows.proofs.Printed.{IsKept, AreKept, seven_kept, four_kept, table_back}
@@ -32,28 +30,15 @@ use Rattle.lower_proof.specs.declared.LowerBounds.{LowerBounds}
 use Rattle.lower_proof.specs.declared.reader.BoundsRow.{BoundsRow}
 use Rattle.lower_proof.specs.declared.reader.ValueRow.{ValueRow}
 use Rattle.lower_proof.specs.declared.reader.ProofFault.{ProofFault}
-use Rattle.lower_proof.specs.declared.reader.ProofFault.TheVariants.{Row}
 use Rattle.lower_proof.specs.Certificates.{bound_of}
-use Rattle.lower_proof.specs.Texts.{bounds_record, value_record, value_records, proof_text}
-use Rattle.lower_proof.specs.Reading.{bounds_numbers, bounds_row_in, bounds_in, value_numbers, value_row_in, connection_in, nanos_in}
-use Rattle.lower_proof.specs.Reading.{told_in, value_row, connection_before, value_fault, IsFaultAfter, AreValuesTold, IsProofTold, IsProofRead}
-use Rattle.lower_proof.specs.Reading.{IsReadBack}
-
-abbrev query_of : PlaceId → PlaceId → Moment → Moment → Query
-query_of source target start deadline = record { source = source; target = target; start = start; deadline = deadline }
-
-abbrev place : ℕ → PlaceId
-place x = record { 0 = x }
-
-abbrev moment : ℕ → Moment
-moment x = record { 0 = x }
+use Rattle.lower_proof.specs.Texts.{bounds_record, value_record, value_records, proof_text, entry_text}
+use Rattle.lower_proof.specs.Reading.{bounds_numbers, bounds_row_in, bounds_in, value_numbers, value_row_in, connection_in}
+use Rattle.lower_proof.specs.Reading.{nanos_in, told_in, value_row, connection_before}
+use Rattle.lower_proof.specs.Reading.{value_fault, IsFaultAfter, AreValuesTold, IsProofTold, IsProofRead, IsReadBack}
+use Rattle.lower_proof.specs.Steps.{AllFit}
 
 same_query : (a b : Query) → a.source.0 ≡ b.source.0 → a.target.0 ≡ b.target.0 → a.start.0 ≡ b.start.0 → a.deadline ≡ b.deadline → a ≡ b
-same_query a b one two three four =
-    ap (λ (x : ℕ). query_of (place x) a.target a.start a.deadline) one
-    ∙ ap (λ (x : ℕ). query_of b.source (place x) a.start a.deadline) two
-    ∙ ap (λ (x : ℕ). query_of b.source b.target (moment x) a.deadline) three
-    ∙ ap (λ (x : Moment). query_of b.source b.target b.start x) four
+same_query a b s t u d = λ i. record { source = record { 0 = s i }; target = record { 0 = t i }; start = record { 0 = u i }; deadline = d i }
 
 count_more : (x : Option ℕ) (values : List (Option ℕ)) → count_by is_some (x ∷ values) ≡ cond (is_some x) 1 0 + count_by is_some values
 count_more x values = sum_by-cons (λ (y : Option ℕ). cond (is_some y) 1 0) x values
@@ -69,18 +54,6 @@ present [] c v is = absurd (cc)
 present (x ∷ values) zero v is = omega arith
 present (x ∷ values) (suc c) v is = omega (arith, present values c v is)
 
--- row k is of a connection at an offset, and of its value
-record IsRowOf (n : NetworkModel) (names : NameLists) (c : ℕ) (values : List (Option ℕ)) (k offset v : ℕ) : Type 0 where
-  inside : offset < length values
-  value : bound_of values offset ≡ Some v
-  row : slice_index_or (value_records n names c values) k [] ≡ value_record n names (c + offset) v
-
--- row i of a table is of a connection and its value
-record TellsOf (n : NetworkModel) (names : NameLists) (t : List (List (List ℕ))) (values : List (Option ℕ)) (i c v : ℕ) : Type 0 where
-  there : c < count n
-  value : bound_of values c ≡ Some v
-  row : value_row t i ≡ value_record n names c v
-
 -- the offset of row k
 abbrev offset_at : List (Option ℕ) → ℕ → ℕ
 offset_at [] k = 0
@@ -92,16 +65,19 @@ module _ (n : NetworkModel) (names : NameLists) where
   shifted : (c offset v : ℕ) → value_record n names (c + 1 + offset) v ≡ value_record n names (c + suc offset) v
   shifted c offset v = let e : c + 1 + offset ≡ c + suc offset = omega arith in ap (λ (d : ℕ). value_record n names d v) e
 
-  row_at : (c : ℕ) (values : List (Option ℕ)) (k : ℕ) → k < length (value_records n names c values) → (v : ℕ) × IsRowOf n names c values k (offset_at values k) v
+  -- row k is of the connection at this offset, and of its value
+  row_at : (c : ℕ) (values : List (Option ℕ)) (k : ℕ) → k < length (value_records n names c values) → (v : ℕ) × (offset_at values k < length values)
+      × (bound_of values (offset_at values k) ≡ Some v) × (slice_index_or (value_records n names c values) k [] ≡ value_record n names
+      (c + offset_at values k) v)
   row_at c [] k within = absurd (omega (arith, within))
   row_at c (None ∷ values) k within =
-      let own = row_at (c + 1) values k within in
-      (own.0, record { inside = omega (arith, own.1.inside); value = own.1.value; row = own.1.row ∙ shifted c (offset_at values k) own.0 })
+      let (v, inside, value, row) = row_at (c + 1) values k within in
+      (v, omega (arith, inside), value, row ∙ shifted c (offset_at values k) v)
   row_at c (Some w ∷ values) zero within =
-      (w, record { inside = omega arith; value = refl; row = let e : c ≡ c + 0 = omega arith in ap (λ (d : ℕ). value_record n names d w) e })
+      (w, omega arith, refl, let e : c ≡ c + 0 = omega arith in ap (λ (d : ℕ). value_record n names d w) e)
   row_at c (Some w ∷ values) (suc k) within =
-      let own = row_at (c + 1) values k (omega (arith, within)) in
-      (own.0, record { inside = omega (arith, own.1.inside); value = own.1.value; row = own.1.row ∙ shifted c (offset_at values k) own.0 })
+      let (v, inside, value, row) = row_at (c + 1) values k (omega (arith, within)) in
+      (v, omega (arith, inside), value, row ∙ shifted c (offset_at values k) v)
 
   -- offsets rise
   offsets_rise : (c : ℕ) (values : List (Option ℕ)) (k : ℕ) → suc k < length (value_records n names c values) → offset_at values k < offset_at values (suc k)
@@ -113,8 +89,6 @@ module _ (n : NetworkModel) (names : NameLists) where
   -- each value that is there has a row
   row_of_value : (c : ℕ) (values : List (Option ℕ)) (offset v : ℕ) → bound_of values offset ≡ Some v
       → (k : ℕ) × (k < length (value_records n names c values)) × (slice_index_or (value_records n names c values) k [] ≡ value_record n names (c + offset) v)
-  row_of_value c [] offset v is = absurd (cc)
-  row_of_value c (None ∷ values) zero v is = absurd (cc)
   row_of_value c (None ∷ values) (suc offset) v is =
       let own = row_of_value (c + 1) values offset v is in (own.0, own.1, own.2 ∙ shifted c offset v)
   row_of_value c (Some w ∷ values) zero v is =
@@ -123,6 +97,7 @@ module _ (n : NetworkModel) (names : NameLists) where
       (0, omega arith, ap (λ (d : ℕ). value_record n names d w) e ∙ ap (value_record n names (c + 0)) same)
   row_of_value c (Some w ∷ values) (suc offset) v is =
       let own = row_of_value (c + 1) values offset v is in (suc own.0, omega (arith, own.1), own.2 ∙ shifted c offset v)
+  row_of_value c _ _ v is = absurd (cc)
 
 module _ (n : NetworkModel) (names : NameLists) (valid : IsValid n) (fit : NamesFit names n) (own : AreNames names) where
   -- ---- a value row
@@ -140,10 +115,7 @@ module _ (n : NetworkModel) (names : NameLists) (valid : IsValid n) (fit : Names
   numbers c v = record { step = step_of n c; value = v }
 
   numbers_back : (c v : ℕ) → c < count n → v < 2 ^ 64 → value_row_in (value_record n names c v) ≡ Some (numbers c v)
-  numbers_back c v there small = both _ _ (step_back n valid c there) (nanos_tell v small)
-    where
-      both : (a b : Option ℕ) → a ≡ Some (step_of n c) → b ≡ Some v → value_numbers a b ≡ Some (numbers c v)
-      both a b one two = rw (one, two) refl
+  numbers_back c v there small = rw (step_back n valid c there, nanos_tell v small) refl
 
   value_back : (c v : ℕ) → c < count n → v < 2 ^ 64 → nanos_in (value_record n names c v) ≡ Some v
   value_back c v there small = ap (option_map (λ (x : ValueRow). x.value)) (numbers_back c v there small)
@@ -167,22 +139,18 @@ module _ (n : NetworkModel) (names : NameLists) (valid : IsValid n) (fit : Names
     row_is : (i : ℕ) → value_row table i ≡ slice_index_or rows i []
     row_is i = let e : i + 1 ≡ suc i = omega arith in ap (λ (k : ℕ). slice_index_or table k []) e
 
-    row_told : (i : ℕ) → i < length rows → (v : ℕ) × TellsOf n names table values i (offset_at values i) v
+    row_told : (i : ℕ) → i < length rows
+        → (v : ℕ) × (offset_at values i < count n) × (bound_of values (offset_at values i) ≡ Some v) ×
+        (value_row table i ≡ value_record n names (offset_at values i) v)
     row_told i within =
-        let own_row = row_at n names 0 values i within in
-        let e : 0 + offset_at values i ≡ offset_at values i = omega arith in (
-          own_row.0,
-          record {
-            there = omega (arith, own_row.1.inside, as_many);
-            value = own_row.1.value;
-            row = row_is i ∙ own_row.1.row ∙ ap (λ (d : ℕ). value_record n names d own_row.0) e;
-          },
-        )
+        let (v, inside, value, row) = row_at n names 0 values i within in
+        let e : 0 + offset_at values i ≡ offset_at values i = omega arith in
+        (v, omega (arith, inside, as_many), value, row_is i ∙ row ∙ ap (λ (d : ℕ). value_record n names d v) e)
 
     row_connection : (i : ℕ) → i < length rows → connection_in n names (value_row table i) ≡ Some (offset_at values i)
     row_connection i within =
         let r = row_told i within in
-        ap (connection_in n names) r.1.row ∙ named_back (offset_at values i) r.0 r.1.there (small (offset_at values i) r.0 r.1.value)
+        ap (connection_in n names) r.3 ∙ named_back (offset_at values i) r.0 r.1 (small (offset_at values i) r.0 r.2)
 
     row_rises : (i : ℕ) → i < length rows → rises (connection_before n names table i) (offset_at values i) ≡ true
     row_rises zero within = refl
@@ -194,9 +162,8 @@ module _ (n : NetworkModel) (names : NameLists) (valid : IsValid n) (fit : Names
     row_faultless stated i inside within =
         let r = row_told i within in
         let c = offset_at values i in
-        ap (λ (b : Bool). if b then result_err (told_in n names (i + 2) (connection_before n names table i) (value_row table i)) else Some (Row (i + 2))) (lt-ltb i stated inside)
-        ∙ ap (λ (fields : List (List ℕ)). result_err (told_in n names (i + 2) (connection_before n names table i) fields)) r.1.row
-        ∙ ap result_err (told_back c r.0 (i + 2) (connection_before n names table i) r.1.there (small c r.0 r.1.value) (row_rises i within))
+        rw (lt-ltb i stated inside, r.3) (ap result_err (told_back c r.0 (i + 2) (connection_before n names table i) r.1 (small c r.0 r.2)
+        (row_rises i within)))
 
     -- each value that is there has its row
     row_for : (c v : ℕ) → bound_of values c ≡ Some v → (i : ℕ) × (i < length rows) × (value_row table i ≡ value_record n names c v)
@@ -227,7 +194,7 @@ module _ (n : NetworkModel) (names : NameLists) (valid : IsValid n) (fit : Names
             let r = row_told i within in
             let both : ◌≡◌ {A = Option ℕ} (Some (offset_at values i)) (Some c) = sym (row_connection i within) ∙ at in
             let here : offset_at values i ≡ c = cc in
-            let some : ◌≡◌ {A = Option ℕ} (Some r.0) None = sym r.1.value ∙ ap (bound_of values) here ∙ is in
+            let some : ◌≡◌ {A = Option ℕ} (Some r.0) None = sym r.2 ∙ ap (bound_of values) here ∙ is in
             cc)
             ∙ sym is
 
@@ -244,7 +211,7 @@ module _ (n : NetworkModel) (names : NameLists) (valid : IsValid n) (fit : Names
               let r = row_told i inside in
               let both : ◌≡◌ {A = Option ℕ} (Some (offset_at values i)) (Some c) = sym (row_connection i inside) ∙ at in
               let same : offset_at values i ≡ c = cc in
-              ap (bound_of values) (sym same) ∙ r.1.value ∙ sym (ap nanos_in r.1.row ∙ value_back (offset_at values i) r.0 r.1.there (small (offset_at values i) r.0 r.1.value));
+              ap (bound_of values) (sym same) ∙ r.2 ∙ sym (ap nanos_in r.3 ∙ value_back (offset_at values i) r.0 r.1 (small (offset_at values i) r.0 r.2));
           others = λ c never. never_told c (λ i within. never i (omega (arith, within))) (bound_of values c) refl;
         }
 
@@ -263,11 +230,7 @@ module _ (n : NetworkModel) (names : NameLists) (valid : IsValid n) (fit : Names
 
     bounds_row_back : bounds_row_in (bounds_record names q values) ≡ Some bounds
     bounds_row_back =
-        three (moment_at (moment_text q.start.0)) (moment_at (moment_text q.deadline.0)) (whole_at (decimal (count_by is_some values)))
-        (text_tells q.start.0 start) (text_tells q.deadline.0 deadline) (whole_back (count_by is_some values) few)
-      where
-        three : (a b d : Option ℕ) → a ≡ Some q.start.0 → b ≡ Some q.deadline.0 → d ≡ Some (count_by is_some values) → bounds_numbers a b d ≡ Some bounds
-        three a b d one two more = rw (one, two, more, le-leb q.start.0 q.deadline.0 in_time) refl
+        rw (text_tells q.start.0 start, text_tells q.deadline.0 deadline, whole_back (count_by is_some values) few, le-leb q.start.0 q.deadline.0 in_time) refl
 
     bounds_back : bounds_in names q.source.0 q.target.0 q.start.0 (bounds_record names q values) ≡ Ok bounds
     bounds_back = rw (
@@ -304,9 +267,35 @@ module _ (n : NetworkModel) (names : NameLists) (valid : IsValid n) (fit : Names
             )
     reads_back as_many small (Err fault) (inl none) = none
     reads_back as_many small (Err fault) (inr first) =
-        let e = table_is as_many in
-        let on_table = subst (λ (t : List (List (List ℕ))). IsFaultAfter n names t (bounds_in names q.source.0 q.target.0 q.start.0 (header t)) fault) e first in
-        let late = subst (λ (h : Result BoundsRow ProofFault). IsFaultAfter n names (bounds_record names q values ∷ value_records n names 0 values) h fault) bounds_back on_table in
+        let late = rw (table_is as_many, bounds_back) at first in
         let none = (all_told (bounds_record names q values) values as_many small).faultless late.i late.within in
         let both : ◌≡◌ {A = Option ProofFault} (Some fault) None = sym late.here ∙ none in
         absurd (cc)
+
+-- ---- the rows of values, one after another
+
+one_more : (n : NetworkModel) (names : NameLists) (c : ℕ) (x : Option ℕ) (values : List (Option ℕ))
+    → entry_text n names c x ++ text_of_records (value_records n names (c + 1) values) ≡ text_of_records (value_records n names c (x ∷ values))
+one_more n names c None values = refl
+one_more n names c (Some v) values = refl
+
+-- after one entry more
+pub values_step : (n : NetworkModel) (names : NameLists) (values : List (Option ℕ)) (i : ℕ) (new old all : List ℕ) → i < length values
+    → new ≡ old ++ entry_text n names i (slice_index_or values i None) → old ++ text_of_records (value_records n names i (drop i values)) ≡ all
+    → new ++ text_of_records (value_records n names (i + 1) (drop (i + 1) values)) ≡ all
+values_step n names values i new old all within is before =
+    text_step new old (entry_text n names i (slice_index_or values i None)) (text_of_records (value_records n names (i + 1) (drop (i + 1) values))) all is
+    (rw (one_more n names i (slice_index_or values i None) (drop (i + 1) values), ← split_at values i None within) before)
+
+-- after the last one
+pub values_done : (n : NetworkModel) (names : NameLists) (values : List (Option ℕ)) (i : ℕ) (new all : List ℕ) → length values ≤ i
+    → new ++ text_of_records (value_records n names i (drop i values)) ≡ all → new ≡ all
+values_done n names values i new all whole is =
+    sym (append-nil new) ∙ ap (λ (list : List (Option ℕ)). new ++ text_of_records (value_records n names i list)) (sym (drop_all i values whole)) ∙ is
+
+-- one more fits
+pub fit_more : (values : List (Option ℕ)) (i : ℕ) → AllFit i values → ((v : ℕ) → slice_index_or values i None ≡ Some v → v < 2 ^ 64) → AllFit (i + 1) values
+fit_more values i before here = λ c v less is. elim (cases_eq c i) [
+  | inl same ↦ here v (subst (λ (k : ℕ). slice_index_or values k None ≡ Some v) same is)
+  | inr differ ↦ before c v (omega (arith, less, differ)) is
+]

@@ -78,9 +78,7 @@ read_first n names t stated values as_many none = record {
 fault_is : (n : NetworkModel) (names : NameLists) (t : List (List (List ℕ))) (stated i : ℕ) (last : Option ℕ) (told : Result Told ProofFault) → i < stated → last ≡ connection_before n names t i
     → told ≡ told_in n names (i + 2) last (value_row t i) → value_fault n names t stated i ≡ result_err told
 fault_is n names t stated i last told inside before is =
-    ap (λ (b : Bool). if b then result_err (told_in n names (i + 2) (connection_before n names t i) (value_row t i)) else Some (Row (i + 2))) (lt-ltb i stated inside)
-    ∙ ap (λ (x : Option ℕ). result_err (told_in n names (i + 2) x (value_row t i))) (sym before)
-    ∙ ap result_err (sym is)
+    rw (lt-ltb i stated inside, ← before) (ap result_err (sym is))
 
 module _ (n : NetworkModel) (names : NameLists) (t : List (List (List ℕ))) (stated i : ℕ) (values : List (Option ℕ)) (last : Option ℕ) (so_far : IsReadTo n names t stated i values last) where
   below_or_here : (k : ℕ) → k < i + 1 → (k < i) ⊎ (k ≡ i)
@@ -147,17 +145,14 @@ module _ (n : NetworkModel) (names : NameLists) (t : List (List (List ℕ))) (st
     i = i;
     within = within;
     here = elim (cases_lt i stated) [
-      | inr too_many ↦
-          ap (λ (b : Bool). if b then result_err (told_in n names (i + 2) (connection_before n names t i) (value_row t i)) else Some (Row (i + 2))) (le-ltb i stated too_many)
-      | inl stated_more ↦ missing stated_more (elim ends [ inl past ↦ past | inr more ↦ absurd (omega (arith, more, stated_more)) ])
+      | inr too_many ↦ rw (le-ltb i stated too_many) refl
+      | inl inside ↦ elim ends [
+        | inl past ↦ rw (lt-ltb i stated inside, get_or_past t (i + 1) [] (omega (arith, past))) refl
+        | inr more ↦ absurd (omega (arith, more, inside))
+      ]
     ];
     first = so_far.faultless;
   }
-    where
-      missing : i < stated → row_count t ≤ i → value_fault n names t stated i ≡ Some (Row (i + 2))
-      missing inside past =
-          ap (λ (b : Bool). if b then result_err (told_in n names (i + 2) (connection_before n names t i) (value_row t i)) else Some (Row (i + 2))) (lt-ltb i stated inside)
-          ∙ ap (λ (r : List (List ℕ)). result_err (told_in n names (i + 2) (connection_before n names t i) r)) (get_or_past t (i + 1) [] (omega (arith, past)))
 
   -- all rows
   pub read_all : max (row_count t) stated ≤ i → AreValuesTold n names t stated values

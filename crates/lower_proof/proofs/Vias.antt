@@ -1,6 +1,7 @@
 -- The value of leaving by a connection.
 use Rattle.std.proofs.Common.{◌≡◌, ℕ, zero, suc, ◌+◌, ◌*◌, ◌/◌, ◌<◌, ◌≤◌, List, [], ◌∷◌, ◌++◌, length, take, drop, get_or, Option, Some, None, IsTrue, arith, inl, inr, sym, ◌∙◌, ap, subst, refl}
 use Rattle.std.proofs.lemmas.Bool.{cases_eq}
+use Rattle.std.proofs.lemmas.Bool.Decides.{nat_tests}
 use Rattle.std.proofs.lemmas.List.{take_more}
 use Rattle.std.proofs.lemmas.List.Sums.{sum_by-cons}
 use Rattle.std.proofs.Math.Seq.{drop-cons}
@@ -9,9 +10,11 @@ use Rattle.std.specs.List.{sum_by}
 use Rattle.plan_model.specs.declared.model.Outcome.{Outcome}
 use Rattle.plan_model.specs.declared.model.Query.{Query}
 use Rattle.plan_model.specs.NetworkModel.{NetworkModel}
-use Rattle.plan_model.specs.Network.{connection, to_of, arr_of, outcomes}
+use Rattle.plan_model.specs.Network.{IsValid, count, connection, to_of, arr_of, outcomes}
+use Rattle.plan_model.proofs.Boarding.{boards_later}
 use Rattle.interval_fixed.specs.Means.{weighted}
-use Rattle.lower_proof.specs.Certificates.{IsLeastOf, Offers, IsLeastValue, IsLeastAt, AreLeast, IsVia}
+use Rattle.lower_proof.specs.Certificates.{IsLeastOf, Offers, arrived_by, IsLeastValue, IsLeastAt, AreLeast, IsVia}
+use Rattle.lower_proof.specs.Departures.{NoneAfter}
 use Rattle.lower_proof.proofs.Leasts.{IsLeastOf-unique}
 
 -- there is only one least value
@@ -43,20 +46,14 @@ room_next items k sum v within small room =
     rw e (room_step (outcome_at items k).weight v sum rest 18446744073709551615 small (rw split at room))
 
 module _ (n : NetworkModel) (q : Query) (values : List (Option ℕ)) (p arrival : ℕ) where
-  same_value : (x v w : ℕ) → IsLeastAt n q values p x (Some v) → IsLeastAt n q values p x (Some w) → v ≡ w
-  same_value x v w h k = let both = IsLeast-unique n q values _ p x (Some v) (Some w) h k in (cc)
-
   -- and only one after each outcome
   pub AreLeast-unique : (row : List Outcome) (vs ws : List ℕ) → AreLeast n q values p arrival row vs → AreLeast n q values p arrival row ws → vs ≡ ws
   AreLeast-unique [] [] [] h k = refl
-  AreLeast-unique [] [] (w ∷ ws) h k = absurd k
-  AreLeast-unique [] (v ∷ vs) ws h k = absurd h
-  AreLeast-unique (o ∷ row) [] ws h k = absurd h
-  AreLeast-unique (o ∷ row) (v ∷ vs) [] h k = absurd k
   AreLeast-unique (o ∷ row) (v ∷ vs) (w ∷ ws) h k =
-      let first = same_value (arrival + o.delay) v w h.0 k.0 in
+      let first = IsLeast-unique n q values _ p (arrival + o.delay) (Some v) (Some w) h.0 k.0 in
       let rest = AreLeast-unique row vs ws h.1 k.1 in
       cc
+  AreLeast-unique _ _ _ h k = absurd (assumption (h, k))
 
   -- the sum by weight of the least values after the outcomes
   pub record Weighed (row : List Outcome) (sum : ℕ) : Type 0 where
@@ -67,15 +64,13 @@ module _ (n : NetworkModel) (q : Query) (values : List (Option ℕ)) (p arrival 
   least_push : (row : List Outcome) (o : Outcome) (vs : List ℕ) (v : ℕ) → AreLeast n q values p arrival row vs
       → IsLeastAt n q values p (arrival + o.delay) (Some v) → AreLeast n q values p arrival (row ++ o ∷ []) (vs ++ v ∷ [])
   least_push [] o [] v all one = (one, tt)
-  least_push [] o (w ∷ vs) v all one = absurd all
-  least_push (e ∷ row) o [] v all one = absurd all
   least_push (e ∷ row) o (w ∷ vs) v all one = (all.0, least_push row o vs v all.1 one)
+  least_push _ o _ v all one = absurd all
 
   sum_push : (row : List Outcome) (o : Outcome) (vs : List ℕ) (v : ℕ) → AreLeast n q values p arrival row vs → weighted (row ++ o ∷ []) (vs ++ v ∷ []) ≡ weighted row vs + o.weight * v
   sum_push [] o [] v all = omega arith
-  sum_push [] o (w ∷ vs) v all = absurd all
-  sum_push (e ∷ row) o [] v all = absurd all
   sum_push (e ∷ row) o (w ∷ vs) v all = omega (arith, sum_push row o vs v all.1)
+  sum_push _ o _ v all = absurd all
 
   -- one outcome more
   pub weighed_next : (items : List Outcome) (k sum v : ℕ) → k < length items → IsLeastAt n q values p (arrival + (outcome_at items k).delay) (Some v)
@@ -113,3 +108,28 @@ module _ (n : NetworkModel) (q : Query) (values : List (Option ℕ)) (j : ℕ) w
 
   pub via_weighed : (sum : ℕ) → IsTrue (connection n j).can_exit → Weighed n q values (to_of n j) (arr_of n j) (outcomes n j) sum → IsLeastOf (IsVia n q values j) (Some (sum / 10000))
   via_weighed sum leave weighed = least_via (sum / 10000) (record { leave = leave; least = weighed.least; are_least = weighed.are_least; mean = ap (λ s. s / 10000) weighed.total })
+
+-- what arrives after the last departure that counts has no value of leaving
+module _ (n : NetworkModel) (good : IsValid n) (q : Query) (values : List (Option ℕ)) (last : ℕ) (deadline : q.deadline.0 ≤ last) (none_after : NoneAfter n values last) where
+  -- nor is there a least value after such an arrival
+  no_least : (p x v : ℕ) → last < x → IsLeastAt n q values p x (Some v) → ⊥
+  no_least p x v late least = elim (cases_eq p q.target.0) [
+    | inl there ↦
+        let none : arrived_by q.deadline.0 x ≡ None = grind (arith, nat_tests) in
+        let both = least.at_target there ∙ none in
+        absurd (cc)
+    | inr away ↦
+        let offer = (least.elsewhere away).0.1 in
+        let c = (least.elsewhere away).0.0 in
+        let boards = boards_later n good p x c offer.there offer.boards in
+        let both = sym offer.value ∙ none_after c offer.there (omega arith) in
+        absurd (cc)
+  ]
+
+  pub no_via : (j v : ℕ) → j < count n → last < arr_of n j → IsVia n q values j v → ⊥
+  no_via j v there late via = by_row (outcomes n j) via.least (good.rows (connection n j).class.0 (good.connections j there).class_in).some via.are_least
+    where
+      by_row : (row : List Outcome) (vs : List ℕ) → 0 < length row → AreLeast n q values (to_of n j) (arr_of n j) row vs → ⊥
+      by_row [] vs some all = omega arith
+      by_row (o ∷ row) [] some all = all
+      by_row (o ∷ row) (v ∷ vs) some all = no_least (to_of n j) (arr_of n j + o.delay) v (omega arith) all.0

@@ -41,6 +41,11 @@ pub record AreBoards (network : NetworkModel) (last : ℕ) (values : List (Optio
 abbrev pub AllLate : ℕ → List ShownBoard → Type 0
 AllLate moment boards = (p : ℕ) → p < length boards → AreLate moment (board_at boards p).entries (length (board_at boards p).least)
 
+-- nothing is known yet: the boards are right for all values without one after a moment, and what is known is late
+pub record AreFresh (network : NetworkModel) (last : ℕ) (boards : List ShownBoard) : Type 0 where
+  pub right : (values : List (Option ℕ)) → length values ≡ count network → NoneAfter network values last → AreBoards network last values boards
+  pub late : (m : ℕ) → AllLate m boards
+
 -- each board has the first m connections, and nothing is known of it
 abbrev pub HaveEntries : NetworkModel → ℕ → ℕ → List ShownBoard → Type 0
 HaveEntries network last m boards = (p : ℕ) → p < length boards → AreEntries network last p m (board_at boards p).entries × ((board_at boards p).least ≡ [])

@@ -2,9 +2,7 @@
 ghost use Rattle.std.specs.Prelude.{◌≡◌, ℕ, ◌+◌, ◌<◌, ◌≤◌, ◌↔◌, length, max, IfOk, OnOk, IsTrue, [], ◌∷◌, ◌++◌, IsPermutation};
 ghost use Rattle.lower_proof.specs.Certificates.{IsLeastOf};
 ghost use Rattle.lower_proof.specs.Boards.{entry_at, Falls, ValueInTime};
-ghost use Rattle.lower_proof.specs.Departures.{NoneAfter};
-ghost use Rattle.lower_proof.specs.Minima.{AreMinima, AreLate, IsBoard, board_at, HaveEntries, AreBoards, AllLate};
-ghost use Rattle.std.specs.Prelude.{List as Sequence, Option as Maybe};
+ghost use Rattle.lower_proof.specs.Minima.{AreMinima, AreLate, IsBoard, board_at, HaveEntries, AreFresh};
 ghost use Rattle.plan_model.specs.Network.{count, connection, dep_of, IsValid};
 
 use crate::lesser;
@@ -179,9 +177,7 @@ fn add_entries(boards: &mut [Board], network: &Network, id: ConnectionId) -> Res
 fn sort_boards(boards: &mut [Board], network: &Network)
     requires len { length boards.old ≡ length network.now.change }
     ensures len { length boards.new ≡ length network.now.change }
-    ensures boards { (last : ℕ) (values : Sequence (Maybe ℕ)) → HaveEntries network.now last (count network.now) boards.old
-        → length values ≡ count network.now → NoneAfter network.now values last → AreBoards network.now last values boards.new }
-    ensures late { (last m : ℕ) → HaveEntries network.now last (count network.now) boards.old → AllLate m boards.new }
+    ensures fresh { (last : ℕ) → HaveEntries network.now last (count network.now) boards.old → AreFresh network.now last boards.new }
 {
     for p in 0..network.places() {
         let board = &mut boards[p as usize];
@@ -200,9 +196,7 @@ fn boards_by(network: &Network, id: ConnectionId, last: Moment) -> bool
 
 /// The boards of all places of a network, with the connections that depart by a moment.
 pub fn boards(alloc: Global, network: &Network, last: Moment) -> Result<Vec<Board>, NoMemory>
-    ensures boards { IfOk result (λ boards. (values : Sequence (Maybe ℕ)) → length values ≡ count network.now
-        → NoneAfter network.now values last.0 → AreBoards network.now last.0 values boards.items) }
-    ensures late { IfOk result (λ boards. (m : ℕ) → AllLate m boards.items) }
+    ensures fresh { IfOk result (λ boards. AreFresh network.now last.0 boards.items) }
     ensures valid { IfOk result (λ _. IsValid network.now) }
 {
     let mut boards = empty_boards(alloc, network.places())?;

@@ -3,7 +3,7 @@ use Rattle.std.proofs.Common.{◌≡◌, ℕ, ◌<◌, Bool, true, false, not, L
 use Rattle.std.specs.Prelude.{◌==◌, ◌&&◌, slice_index_or}
 use Rattle.std.specs.List.{AllWithin}
 use Rattle.std.specs.List.Sorted.{IsPartitionedBy, IsPartitionPoint}
-use Rattle.std.proofs.lemmas.Bool.{cases_lt, false≢true}
+use Rattle.std.proofs.lemmas.Bool.{cases_Bool, cases_lt, false≢true}
 use Rattle.std.proofs.lemmas.Bool.Decides.{nat_tests}
 use Rattle.std.proofs.lemmas.List.Recursion.{found_at, found_nowhere}
 use Rattle.plan_model.specs.declared.model.Leg.{Leg}
@@ -13,31 +13,22 @@ use Rattle.plan_graph.specs.Rows.{pick_row, rows_after, is_ride_of, Precedes, le
 
 -- rides that rise are parted by a leg
 leg_before : (a b : Leg) → Precedes a b → leg_lt a b ≡ true
-leg_before a b (inl less) = grind (arith, nat_tests)
-leg_before a b (inr both) = let same = both.0 in let less = both.1 in grind (arith, nat_tests)
+leg_before a b before = grind (arith, nat_tests)
 
 leg_precedes : (a b : Leg) → leg_lt a b ≡ true → Precedes a b
-leg_precedes a b is = elim (cases_lt a.enter.0 b.enter.0) [
-  | inl less ↦ inl less
-  | inr more ↦
-      let same : (a.enter.0 ≡ b.enter.0) = grind (arith, nat_tests) in
-      let less : (a.exit.0 < b.exit.0) = grind (arith, nat_tests) in
-      inr (same, less)
-]
+leg_precedes a b is = grind (arith, nat_tests)
 
 pub precedes_trans : (a b c : Leg) → Precedes a b → Precedes b c → Precedes a c
-precedes_trans a b c (inl x) (inl y) = inl (omega (arith, x, y))
-precedes_trans a b c (inl x) (inr y) = inl (omega (arith, x, y.0))
-precedes_trans a b c (inr x) (inl y) = inl (omega (arith, x.0, y))
-precedes_trans a b c (inr x) (inr y) = inr (omega (arith, x.0, y.0), omega (arith, x.1, y.1))
+precedes_trans a b c first second = grind arith
 
 -- a leg does not stand before itself
 pub precedes_itself : (a b : Leg) → Precedes a b → a ≡ b → ⊥
 precedes_itself a b (inl less) same = let e = ap (λ (l : Leg). l.enter.0) same in omega (arith, less, e)
 precedes_itself a b (inr both) same = let e = ap (λ (l : Leg). l.exit.0) same in omega (arith, both.1, e)
 
-pub rides_parted : (rides : List Ride) (leg : Leg) → AllPairs (λ a b. Precedes a.leg b.leg) rides → IsPartitionedBy (λ r. leg_lt r.leg leg) rides
-rides_parted rides leg rise i j d before within is = elim (cases_lt i j) [
+pub rides_parted : (own rides : List Ride) (leg : Leg) → rides ≡ own → AllPairs (λ a b. Precedes a.leg b.leg) own
+    → IsPartitionedBy (λ r. leg_lt r.leg leg) rides
+rides_parted own rides leg same rises i j d before within is = let rise = rw (← same) at rises in elim (cases_lt i j) [
   | inl less ↦ leg_before (slice_index_or rides i d).leg leg
       (precedes_trans (slice_index_or rides i d).leg (slice_index_or rides j d).leg leg (rise i j d less within) (leg_precedes (slice_index_or rides j d).leg leg is))
   | inr same ↦ let e : j ≡ i = omega (arith, before, same) in subst (λ (k : ℕ). leg_lt (slice_index_or rides k d).leg leg ≡ true) e is
@@ -60,11 +51,10 @@ leg_tested a b is =
     grind (arith, nat_tests)
 
 other_leg : (a b : Leg) → (a ≡ b → ⊥) → ((a.enter.0 == b.enter.0) && (a.exit.0 == b.exit.0)) ≡ false
-other_leg a b other = by_test ((a.enter.0 == b.enter.0) && (a.exit.0 == b.exit.0)) refl
-  where
-    by_test : (test : Bool) → ((a.enter.0 == b.enter.0) && (a.exit.0 == b.exit.0)) ≡ test → test ≡ false
-    by_test true is = absurd (other (leg_test a b is))
-    by_test false is = refl
+other_leg a b other = elim (cases_Bool ((a.enter.0 == b.enter.0) && (a.exit.0 == b.exit.0))) [
+  | inl is ↦ absurd (other (leg_test a b is))
+  | inr differs ↦ differs
+]
 
 -- the rows after a leg, where the first ride is its
 pub rows_here : (r : Ride) (rides : List Ride) (leg : Leg) → r.leg ≡ leg → rows_after (r ∷ rides) leg ≡ r.after
@@ -113,11 +103,10 @@ pick_after-none own rides leg x i same rise point other =
 
 -- two legs that are not unequal by their parts
 pub leg_same : (a b : Leg) (test : Bool) → test ≡ not ((a.enter.0 == b.enter.0) && (a.exit.0 == b.exit.0)) → test ≡ false → a ≡ b
-leg_same a b test is unequal = leg_test a b (by_test ((a.enter.0 == b.enter.0) && (a.exit.0 == b.exit.0)) (sym is ∙ unequal))
-  where
-    by_test : (t : Bool) → not t ≡ false → t ≡ true
-    by_test true e = refl
-    by_test false e = absurd (false≢true (sym e))
+leg_same a b test is unequal = elim (cases_Bool ((a.enter.0 == b.enter.0) && (a.exit.0 == b.exit.0))) [
+  | inl same ↦ leg_test a b same
+  | inr differ ↦ absurd (false≢true (sym unequal ∙ is ∙ ap not differ))
+]
 
 pub leg_other : (a b : Leg) (test : Bool) → test ≡ not ((a.enter.0 == b.enter.0) && (a.exit.0 == b.exit.0)) → test ≡ true → a ≡ b → ⊥
 leg_other a b test is unequal same = false≢true (ap not (sym (leg_tested a b same)) ∙ sym is ∙ unequal)

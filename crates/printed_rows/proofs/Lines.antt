@@ -1,14 +1,14 @@
 -- The fields of printed rows, and texts one after another.
-use Rattle.std.proofs.Common.{◌≡◌, ℕ, zero, suc, ◌+◌, ◌<◌, List, [], ◌∷◌, ◌++◌, length, drop, Some, Result, arith, ◌∙◌, ap, refl, subst, append_assoc}
+use Rattle.std.proofs.Common.{◌≡◌, ℕ, ◌+◌, ◌<◌, List, [], ◌∷◌, ◌++◌, length, drop, Some, Result, arith, sym, ◌∙◌, ap, refl, subst, append_assoc}
+use Rattle.std.proofs.lemmas.List.{drop_more}
+use Rattle.std.proofs.lemmas.Option.{get_or_from_slice_get}
 use Rattle.std.specs.Prelude.{slice_get, slice_index_or, OnOk}
 use Rattle.csv.proofs.RoundTrip.{rows_text as text_of_rows}
 use Rattle.printed_rows.specs.Writers.{row_of_fields, text_of_records}
 
 -- the name of this number
 pub name_is : (names : List (List ℕ)) (i : ℕ) (name : List ℕ) → slice_get names i ≡ Some name → name ≡ slice_index_or names i []
-name_is [] i name is = absurd (cc)
-name_is (head ∷ names) zero name is = cc
-name_is (head ∷ names) (suc i) name is = name_is names i name is
+name_is names i name is = sym (get_or_from_slice_get names i name [] is)
 
 -- the same fields are the same rows
 pub four_fields : (a b c d a' b' c' d' : List ℕ) → a ≡ a' → b ≡ b' → c ≡ c' → d ≡ d' → ◌≡◌ {A = List (List ℕ)} (a ∷ b ∷ c ∷ d ∷ []) (a' ∷ b' ∷ c' ∷ d' ∷ [])
@@ -26,14 +26,18 @@ pub append_ok : {T E : Type 0} (r : Result T E) (new mid old a b : List ℕ) →
 append_ok r new mid old a b is ok =
     subst (λ (list : List ℕ). OnOk r (new ≡ list)) (ap (λ (list : List ℕ). list ++ b) is ∙ append_assoc old a b) ok
 
-split : {X : Type 0} (xs : List X) (i : ℕ) (d : X) → i < length xs → drop i xs ≡ slice_index_or xs i d ∷ drop (suc i) xs
-split [] i d within = absurd (omega (arith, within))
-split (x ∷ xs) zero d within = refl
-split (x ∷ xs) (suc i) d within = split xs i d (omega (arith, within))
-
 -- after one element more
 pub split_at : {X : Type 0} (xs : List X) (i : ℕ) (d : X) → i < length xs → drop i xs ≡ slice_index_or xs i d ∷ drop (i + 1) xs
-split_at xs i d within = let one : suc i ≡ i + 1 = omega arith in subst (λ (k : ℕ). drop i xs ≡ slice_index_or xs i d ∷ drop k xs) one (split xs i d within)
+split_at xs i d within = drop_more xs i d within
+
+-- the same of a list, whose text is that of each element and then that of the others
+pub text_more : {X : Type 0} (F : List X → List ℕ) (g : X → List ℕ) → ((x : X) (xs : List X) → F (x ∷ xs) ≡ g x ++ F xs)
+    → (xs : List X) (i : ℕ) (x d : X) (new old all : List ℕ)
+    → i < length xs → x ≡ slice_index_or xs i d → new ≡ old ++ g x → old ++ F (drop i xs) ≡ all → new ++ F (drop (i + 1) xs) ≡ all
+text_more F g step xs i x d new old all within at is before =
+    text_step new old (g x) (F (drop (i + 1) xs)) all is
+    (ap (λ (text : List ℕ). old ++ text) (ap (λ y. g y ++ F (drop (i + 1) xs)) at
+    ∙ sym (ap F (split_at xs i d within) ∙ step (slice_index_or xs i d) (drop (i + 1) xs))) ∙ before)
 
 -- the writer's rows are these
 pub records_printed : (rows : List (List (List ℕ))) → text_of_records rows ≡ text_of_rows rows

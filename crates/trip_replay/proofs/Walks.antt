@@ -1,30 +1,51 @@
--- The walk down the tree of a graph.
-use Rattle.std.proofs.Common.{◌≡◌, ◌≢◌, ℕ, ◌+◌, ◌-◌, ◌≤◌, ◌<◌, Bool, true, false, List, [], ◌∷◌, ◌++◌, length, drop, Option, Some, None, Ok, Err, Result}
-use Rattle.std.proofs.Common.{All, arith, sym, subst, refl, inl, inr, ◌∙◌, ap}
-use Rattle.std.specs.Prelude.{◌==◌, if◌then◌else◌, slice_index_or, IfSome, OnOk, is_ok}
-use Rattle.std.proofs.lemmas.Bool.{cases_eq, eq-eqb, ne_eqb, eqb-true, eqb-false}
-use Rattle.std.proofs.lemmas.List.{drop_more, drop_all}
-use Rattle.std.proofs.lemmas.List.Elements.{All-nil}
+-- The rides so far with one more, and the walk down the tree of a graph.
+use Rattle.std.proofs.Common.{◌≡◌, ℕ, ◌+◌, List, [], ◌∷◌, ◌++◌, Some, None, Bool, true, false, refl, ◌≢◌, ◌-◌, ◌≤◌, ◌<◌, length, drop, Option}
+use Rattle.std.proofs.Common.{Ok, Err, Result, All, arith, sym, subst, inl, inr, ◌∙◌, ap}
+use Rattle.std.specs.Prelude.{if◌then◌else◌, ◌==◌, slice_index_or, IfSome, OnOk, is_ok}
 use Rattle.plan_model.specs.declared.model.Leg.{Leg}
-use Rattle.plan_model.specs.declared.model.Outcome.{Outcome}
-use Rattle.plan_model.specs.declared.model.Query.{Query}
 use Rattle.plan_model.specs.NetworkModel.{NetworkModel}
 use Rattle.plan_model.specs.Network.{arr_of, to_of, outcomes}
+use Rattle.plan_model.specs.Unfold.{outcomes_of, kids_after, unfold_after}
+use Rattle.plan_graph.specs.Ready.{IsLegOf}
+use Rattle.trip_replay.specs.declared.Ridden.{Ridden}
+use Rattle.trip_replay.specs.Positions.{has_delay, delayed_arrival, tree_at}
+use Rattle.trip_replay.specs.Rides.{IsRide, arrival_after, place_after}
+use Rattle.std.proofs.lemmas.Bool.{cases_eq, eq-eqb, ne_eqb}
+use Rattle.std.proofs.lemmas.List.{drop_more}
+use Rattle.plan_model.specs.declared.model.Outcome.{Outcome}
+use Rattle.plan_model.specs.declared.model.Query.{Query}
 use Rattle.plan_model.specs.Tree.{Tree, Done, Ride, Stuck, Kids, Nil, Kid}
 use Rattle.plan_model.specs.Strategy.{IsSafe, AreSafe, IsSafeFor}
-use Rattle.plan_model.specs.Unfold.{outcomes_of, kids_after, ride_or_stuck, unfold_after}
 use Rattle.plan_graph.specs.declared.PlaceTable.{PlaceTable}
 use Rattle.plan_graph.specs.Rows.{pick_at, rows_of_place}
-use Rattle.plan_graph.specs.Ready.{IsLegOf}
 use Rattle.plan_graph.specs.Tidy.{IsFitTable, IsFitRow}
 use Rattle.plan_graph.proofs.Picked.{picked_leg}
-use Rattle.trip_replay.specs.declared.Ridden.{Ridden}
 use Rattle.trip_replay.specs.declared.Trace.{Trace}
 use Rattle.trip_replay.specs.declared.Position.{Position}
 use Rattle.trip_replay.specs.declared.ReplayFault.{ReplayFault}
 use Rattle.trip_replay.specs.declared.ReplayFault.TheVariants as fault
 use Rattle.trip_replay.specs.Walk.{ride_with_delay, trace_of, walk, walk_kid, IsAnswer, IsSafeAnswer}
-use Rattle.trip_replay.specs.Positions.{has_delay, delayed_arrival, tree_at}
+
+pub delay_some : (n : NetworkModel) (leg : Leg) (delay x : ℕ) (test : Bool) → has_delay (outcomes_of n leg) delay ≡ test
+    → (if test then Some (arr_of n leg.exit.0 + delay) else None) ≡ Some x → (has_delay (outcomes_of n leg) delay ≡ true) × (arr_of n leg.exit.0 + delay ≡ x)
+delay_some n leg delay x true is some = (is, (cc))
+delay_some n leg delay x false is some = absurd (cc)
+
+-- the ride of a leg with a delay that it can have
+pub is_ride : (n : NetworkModel) (leg : Leg) (delay x : ℕ) → IsLegOf n leg → delayed_arrival n leg delay ≡ Some x → IsRide n (record { leg = leg; delay = delay; arrival = record { 0 = x } })
+is_ride n leg delay x is some =
+    let both = delay_some n leg delay x (has_delay (outcomes_of n leg) delay) refl some in
+    record { is_leg = is; is_delay = both.0; late = (cc) }
+
+pub arrival_after-push : (start : ℕ) (rides : List Ridden) (r : Ridden) → arrival_after start (rides ++ r ∷ []) ≡ r.arrival.0
+arrival_after-push start [] r = refl
+arrival_after-push start (ride ∷ rides) r = arrival_after-push ride.arrival.0 rides r
+
+pub place_after-push : (n : NetworkModel) (source : ℕ) (rides : List Ridden) (r : Ridden) → place_after n source (rides ++ r ∷ []) ≡ to_of n r.leg.exit.0
+place_after-push n source [] r = refl
+place_after-push n source (ride ∷ rides) r = place_after-push n (to_of n ride.leg.exit.0) rides r
+
+-- ---- the walk down the tree of a graph
 
 -- the walk after a ride, by whether the delay is one of its outcomes
 pub kid_walk : (n : NetworkModel) (f : ℕ → Tree) (scheduled : ℕ) (row : List Outcome) (i j delay : ℕ) (delays : List ℕ) (behind : List Ridden)
@@ -36,36 +57,9 @@ kid_walk n f scheduled (o ∷ row) i j delay delays behind = elim (cases_eq o.de
   | inr differ ↦ rw (ne_eqb o.delay delay differ) (kid_walk n f scheduled row i j delay delays behind)
 ]
 
-pub target_there : (a b : ℕ) (test : Bool) → test ≡ (a == b) → test ≡ true → a ≡ b
-target_there a b test is holds = eqb-true a b (sym is ∙ holds)
-
-pub target_away : (a b : ℕ) (test : Bool) → test ≡ (a == b) → test ≡ false → a ≢ b
-target_away a b test is fails = eqb-false a b (sym is ∙ fails)
-
 module _ (n : NetworkModel) (target : ℕ) (choice : Leg → ℕ → Option Leg) (s : Position) (behind : List Ridden) (delays : List ℕ) (i : ℕ) where
-  at_target : s.place.0 ≡ target → tree_at n target choice s ≡ Done s.moment.0
-  at_target is = rw (eq-eqb s.place.0 target is) refl
-
-  on_the_way : (next : Option Leg) → s.place.0 ≢ target → s.next ≡ next → tree_at n target choice s ≡ ride_or_stuck n (unfold_after n target choice s.left) next s.place.0 s.moment.0
-  on_the_way next away is = rw (ne_eqb s.place.0 target away) (ap (λ (o : Option Leg). ride_or_stuck n (unfold_after n target choice s.left) o s.place.0 s.moment.0) is)
-
   pub too_many : s.place.0 ≡ target → i < length delays → walk n (tree_at n target choice s) (drop i delays) behind ≡ Err (fault.TooMany (length behind))
-  too_many is within =
-      ap (λ (tree : Tree). walk n tree (drop i delays) behind) (at_target is)
-      ∙ ap (λ (list : List ℕ). walk n (Done s.moment.0) list behind) (drop_more delays i 0 within)
-
-  pub arrived : s.place.0 ≡ target → length delays ≤ i → walk n (tree_at n target choice s) (drop i delays) behind ≡ Ok (trace_of behind s.moment.0)
-  arrived is over =
-      ap (λ (tree : Tree). walk n tree (drop i delays) behind) (at_target is)
-      ∙ ap (λ (list : List ℕ). walk n (Done s.moment.0) list behind) (drop_all i delays over)
-
-  pub stuck : s.place.0 ≢ target → s.next ≡ None → walk n (tree_at n target choice s) (drop i delays) behind ≡ Err (fault.Stuck s.place s.moment)
-  stuck away is = ap (λ (tree : Tree). walk n tree (drop i delays) behind) (on_the_way None away is)
-
-  pub too_few : (leg : Leg) → s.place.0 ≢ target → s.next ≡ Some leg → length delays ≤ i → walk n (tree_at n target choice s) (drop i delays) behind ≡ Err (fault.TooFew (length behind))
-  too_few leg away is over =
-      ap (λ (tree : Tree). walk n tree (drop i delays) behind) (on_the_way (Some leg) away is)
-      ∙ ap (λ (list : List ℕ). walk n (ride_or_stuck n (unfold_after n target choice s.left) (Some leg) s.place.0 s.moment.0) list behind) (drop_all i delays over)
+  too_many is within = rw (eq-eqb s.place.0 target is, drop_more delays i 0 within) refl
 
   rides_on : (leg : Leg) (d : ℕ) → s.place.0 ≢ target → s.next ≡ Some leg → i < length delays
       → walk n (tree_at n target choice s) (drop i delays) behind ≡
@@ -73,19 +67,14 @@ module _ (n : NetworkModel) (target : ℕ) (choice : Leg → ℕ → Option Leg)
       (unfold_after n target choice s.left leg (arr_of n leg.exit.0 + slice_index_or delays i d)) (drop (i + 1) delays)
       (behind ++ ride_with_delay n leg.enter.0 leg.exit.0 (slice_index_or delays i d) ∷ []) else Err (fault.NotADelay (length behind + 1)))
   rides_on leg d away is within =
-      ap (λ (tree : Tree). walk n tree (drop i delays) behind) (on_the_way (Some leg) away is)
-      ∙ ap (λ (list : List ℕ). walk n (ride_or_stuck n (unfold_after n target choice s.left) (Some leg) s.place.0 s.moment.0) list behind) (drop_more delays i d within)
-      ∙ kid_walk n (unfold_after n target choice s.left leg) (arr_of n leg.exit.0) (outcomes_of n leg) leg.enter.0 leg.exit.0 (slice_index_or delays i d) (drop (i + 1) delays) behind
+      rw (ne_eqb s.place.0 target away, is, drop_more delays i d within)
+      (kid_walk n (unfold_after n target choice s.left leg) (arr_of n leg.exit.0) (outcomes_of n leg) leg.enter.0 leg.exit.0 (slice_index_or delays i d)
+      (drop (i + 1) delays) behind)
 
   delay_none : (leg : Leg) (delay : ℕ) (test : Bool) → has_delay (outcomes_of n leg) delay ≡ test
       → (if test then Some (arr_of n leg.exit.0 + delay) else None) ≡ None → has_delay (outcomes_of n leg) delay ≡ false
   delay_none leg delay true is none = absurd (cc)
   delay_none leg delay false is none = is
-
-  delay_some : (leg : Leg) (delay x : ℕ) (test : Bool) → has_delay (outcomes_of n leg) delay ≡ test
-      → (if test then Some (arr_of n leg.exit.0 + delay) else None) ≡ Some x → (has_delay (outcomes_of n leg) delay ≡ true) × (arr_of n leg.exit.0 + delay ≡ x)
-  delay_some leg delay x true is some = (is, (cc))
-  delay_some leg delay x false is some = absurd (cc)
 
   pub not_a_delay : (leg : Leg) (d : ℕ) → s.place.0 ≢ target → s.next ≡ Some leg → i < length delays
       → delayed_arrival n leg (slice_index_or delays i d) ≡ None → walk n (tree_at n target choice s) (drop i delays) behind ≡ Err (fault.NotADelay (length behind + 1))
@@ -97,7 +86,7 @@ module _ (n : NetworkModel) (target : ℕ) (choice : Leg → ℕ → Option Leg)
       → walk n (tree_at n target choice s) (drop i delays) behind ≡ walk n (unfold_after n target choice s.left leg x) (drop (i + 1) delays)
       (behind ++ (record { leg = leg; delay = slice_index_or delays i d; arrival = record { 0 = x } }) ∷ [])
   after_ride leg d x away is within some =
-      let both = delay_some leg (slice_index_or delays i d) x (has_delay (outcomes_of n leg) (slice_index_or delays i d)) refl some in
+      let both = delay_some n leg (slice_index_or delays i d) x (has_delay (outcomes_of n leg) (slice_index_or delays i d)) refl some in
       rides_on leg d away is within
       ∙ rw both.0 (ap (λ (y : ℕ). walk n (unfold_after n target choice s.left leg y) (drop (i + 1) delays)
       (behind ++ (record { leg = leg; delay = slice_index_or delays i d; arrival = record { 0 = y } }) ∷ [])) both.1)
@@ -153,6 +142,3 @@ pub next_step : (n : NetworkModel) (most before left new_left : ℕ) (next : Opt
     → before + left < most → IfSome next (λ leg. IsLegOf n leg × (before + 1 + new_left < most))
 next_step n most before left new_left None said few = tt
 next_step n most before left new_left (Some leg) said few = (said.0, omega (arith, said.1, few))
-
-pub at_some : (n : NetworkModel) (most behind left : ℕ) (next : Option Leg) (leg : Leg) → next ≡ Some leg → IfSome next (λ l. IsLegOf n l × (behind + left < most)) → behind + left < most
-at_some n most behind left next leg is said = (subst (λ (o : Option Leg). IfSome o (λ l. IsLegOf n l × (behind + left < most))) is said).1

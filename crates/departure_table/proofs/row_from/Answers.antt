@@ -4,37 +4,27 @@ use Rattle.plan_model.specs.declared.model.Connection.{Connection}
 use Rattle.plan_model.specs.declared.model.Leg.{Leg}
 use Rattle.value_laws.specs.declared.MeanSpan.{MeanSpan}
 use Rattle.departure_table.specs.declared.DepartureRow.{DepartureRow}
-use Rattle.departure_table.proofs.Looks.{none_ahead, departs_later, departs_early, departure, best}
+use Rattle.departure_table.proofs.Looks.{none_ahead, looks_ahead}
 use Rattle.departure_table.proofs.row_from.Goals as goal
 
 pub returns-in_default : goal.returns-in_default
 returns-in_default c =
-    let n = c.args.network.now in
     let q = c.args.query.now in
     let found = c.args.scanned.now in
     let s = c.requires.solves in
     let look = s.answers.goes_on q.source.0 (c.args.next.0 - 1) s.differ in
-    none_ahead n q found c.requires.valid s c.requires.second c.args.next.0 (MatchOption-at_none _ _ (sym c.in_default.ensures) look)
+    none_ahead c.args.network.now q found c.requires.valid s c.requires.second c.args.next.0 (MatchOption-at_none _ _ (sym c.in_default.ensures) look)
 
 pub returns : goal.returns
 returns c =
-    let n = c.args.network.now in
-    let q = c.args.query.now in
-    let found = c.args.scanned.now in
     let s = c.requires.solves in
     let x = c.args.next.0 - 1 in
-    let look = s.answers.goes_on q.source.0 x s.differ in
     let is = sym c.in-Some.ensures in
-    let answer = MatchOption-at_some _ _ _ is look in
-    let valid = c.requires.valid in
-    let second = c.requires.second in
+    let answer = MatchOption-at_some _ _ _ is (s.answers.goes_on c.args.query.now.source.0 x s.differ) in
     let choice : MeanSpan × Leg = (c.in-Some.value, c.in-Some.leg) in
     let dep = ap (λ (k : Connection). k.dep.0) c.get.ensures.connection in
-    let later = departs_later n q found valid s second x choice is answer in
-    let early = departs_early n q found valid s second x choice is answer in
-    let row : DepartureRow = record { by = c.get.result.dep; bounds = c.in-Some.value.0; leg = c.in-Some.leg } in (
-      omega arith,
-      omega arith,
-      departure n q found valid s second x choice is answer row refl dep,
-      λ moment ahead within. best n q found valid s second x choice is answer row refl refl moment (omega arith) (omega (arith, dep)),
-    )
+    let row : DepartureRow = record { by = c.get.result.dep; bounds = c.in-Some.value.0; leg = c.in-Some.leg } in
+    let (later, early, departs, best) = looks_ahead c.args.network.now c.args.query.now c.args.scanned.now c.requires.valid s c.requires.second x choice is
+    answer
+    row refl refl dep in
+    (omega arith, omega arith, departs, λ moment ahead within. best moment (omega arith) within)

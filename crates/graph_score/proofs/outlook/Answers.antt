@@ -1,10 +1,9 @@
 use Rattle.std.proofs.Common.{◌≡◌, ◌<◌, ◌-◌, ◌∙◌, List, arith, ap, drop, length, sym, subst}
 use Rattle.std.specs.Prelude.{slice_index_or}
-use Rattle.std.proofs.lemmas.List.{take-append-le, take_all}
+use Rattle.std.proofs.lemmas.List.{take_at, get_or_default}
 use Rattle.plan_model.specs.Network.{count}
-use Rattle.std.proofs.lemmas.List.{get_or_default}
 use Rattle.graph_score.specs.declared.outlooks.Outlook.{Outlook}
-use Rattle.graph_score.specs.Steps.{IsOutlook, no_outlook, ride_by_rows}
+use Rattle.graph_score.specs.Steps.{IsOutlook, no_outlook}
 use Rattle.graph_score.proofs.GraphLegs.{rows_fit, start_fits}
 use Rattle.graph_score.proofs.Trees.{unfold-start}
 use Rattle.graph_score.proofs.outlook.Goals as goal
@@ -20,25 +19,22 @@ returns c =
     let leg = c.in-Some.start in
     let start = start_fits n q graph leg c.requires.fit c.in-Some.is in
     let there = start.is_leg.exit in
-    let tree = ride_by_rows n q graph.tables (count n - 1) leg in
     let told = c.fill.ensures.right leg there in
     let list = c.as_slice.result.now in
     let kept = c.fill.new.outlooks in
     let many : c.in_ok-outlooks.outlooks.len ≡ length kept = omega (arith, c.in_ok-outlooks.ensures.len, c.count.ensures.count, c.fill.ensures.as_many) in
-    let same : list ≡ kept = c.as_slice.ensures.value ∙ take-append-le c.in_ok-outlooks.outlooks.len kept
-    (drop (length kept) c.in_ok-outlooks.outlooks.items) (omega (arith, many)) ∙ take_all c.in_ok-outlooks.outlooks.len kept (omega (arith, many)) in
-    let at = subst (λ (outlooks : List Outlook). IsOutlook n q (slice_index_or outlooks leg.exit.0 no_outlook) tree) (sym same) told in
+    let same : list ≡ kept = c.as_slice.ensures.value ∙ take_at kept (drop (length kept) c.in_ok-outlooks.outlooks.items) c.in_ok-outlooks.outlooks.len
+    (sym many) in
     let within : leg.exit.0 < length list = let size = ap (λ (outlooks : List Outlook). length outlooks) same in omega (arith, size, c.fill.ensures.as_many, there) in
     let own : c.index-as_slice-start.result ≡ slice_index_or list leg.exit.0 no_outlook = c.index-as_slice-start.is ∙ get_or_default list leg.exit.0 c.index-as_slice-start.result no_outlook within in
-    let here = subst (λ o. IsOutlook n q o tree) (sym own) at in
-    subst (λ t. IsOutlook n q c.index-as_slice-start.result t) (sym (unfold-start n q graph leg start.differ c.in-Some.is)) here
+    subst (λ t. IsOutlook n q c.index-as_slice-start.result t) (sym (unfold-start n q graph leg start.differ c.in-Some.is)) (rw (own, same) told)
 
 pub bounds-as_slice-start : goal.bounds-as_slice-start
 bounds-as_slice-start c =
     let there = (start_fits c.args.network.now c.args.query.now c.args.graph.now c.in-Some.start c.requires.fit c.in-Some.is).is_leg.exit in
     let kept = c.fill.new.outlooks in
     let many : c.in_ok-outlooks.outlooks.len ≡ length kept = omega (arith, c.in_ok-outlooks.ensures.len, c.count.ensures.count, c.fill.ensures.as_many) in
-    let same : c.as_slice.result.now ≡ kept = c.as_slice.ensures.value ∙ take-append-le c.in_ok-outlooks.outlooks.len kept
-    (drop (length kept) c.in_ok-outlooks.outlooks.items) (omega (arith, many)) ∙ take_all c.in_ok-outlooks.outlooks.len kept (omega (arith, many)) in
+    let same : c.as_slice.result.now ≡ kept = c.as_slice.ensures.value ∙ take_at kept
+    (drop (length kept) c.in_ok-outlooks.outlooks.items) c.in_ok-outlooks.outlooks.len (sym many) in
     let size = ap (λ (outlooks : List Outlook). length outlooks) same in
     omega (arith, size, c.fill.ensures.as_many, there)

@@ -1,20 +1,13 @@
-use Rattle.std.proofs.Common.{◌≡◌, ◌≤◌, ◌∙◌, ℕ, List, Vec, ap, subst, sym}
-use Rattle.std.specs.Prelude.{IfOk}
+use Rattle.std.proofs.Common.{◌≡◌, ◌≤◌, ℕ, Vec, subst, sym}
 use Rattle.std.specs.Global.{Global}
 use Rattle.std.proofs.lemmas.Result.{IfOk-weaker}
 use Rattle.plan_graph.specs.Tidy.{IsFit}
-use Rattle.graph_text.specs.declared.version.Version.{Version}
-use Rattle.plan_graph.specs.declared.PlaceTable.{PlaceTable}
-use Rattle.graph_text.specs.Versions.{version_by, tables_leave}
-use Rattle.graph_text.specs.Texts.{graph_text, graph_text_in}
+use Rattle.graph_text.specs.Texts.{graph_text}
 use Rattle.graph_text.specs.Reading.{IsReadAs}
 use Rattle.graph_text.proofs.write.Goals as goal
 
 pub returns-clause-text : goal.returns-clause-text
-returns-clause-text c =
-    subst (λ (version : Version). IfOk c.text_by_place.result
-    (λ text. text.items ≡ graph_text_in c.args.network.now c.args.names.now version c.args.head.now c.args.graph.now))
-    (c.version_of_tables.ensures ∙ ap (λ (tables : List PlaceTable). version_by (tables_leave c.args.network.now tables)) c.as_slice.ensures) c.text_by_place.ensures
+returns-clause-text c = rw (c.version_of_tables.ensures, c.as_slice.ensures) at c.text_by_place.ensures
 
 pub returns-clause-reads_back : goal.returns-clause-reads_back
 returns-clause-reads_back c =

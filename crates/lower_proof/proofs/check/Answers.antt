@@ -1,6 +1,6 @@
 use Rattle.std.proofs.Common.{subst}
 use Rattle.lower_proof.specs.Certificates.{IsVerdict}
-use Rattle.lower_proof.proofs.Soundness.{sound}
+use Rattle.lower_proof.proofs.Best.{sound}
 use Rattle.lower_proof.proofs.check.Goals as goal
 
 pub returns-clause-sound : goal.returns-clause-sound

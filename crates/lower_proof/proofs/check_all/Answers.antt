@@ -1,7 +1,8 @@
-use Rattle.std.proofs.Common.{◌∙◌, IsTrue, arith, rules, sym, ap}
+use Rattle.std.proofs.Common.{◌∙◌, ◌<◌, Some, IsTrue, arith, rules, sym, ap}
 use Rattle.std.proofs.lemmas.Bool.{both_ways}
 use Rattle.plan_model.specs.declared.model.Connection.{Connection}
-use Rattle.plan_model.specs.Network.{connection}
+use Rattle.std.proofs.lemmas.List.Elements.{All-pop}
+use Rattle.plan_model.specs.Network.{count, connection}
 use Rattle.lower_proof.specs.Certificates.{bound_of}
 use Rattle.lower_proof.specs.Steps.{KeepsTo}
 use Rattle.lower_proof.proofs.Exits.{check_first, check_there, check_next, check_fails, check_last}
@@ -11,22 +12,14 @@ use Rattle.lower_proof.proofs.check_all.Goals.{else-get-via-then-get+else-not-ke
 pub loop-departure-init : goal.loop-departure-init
 loop-departure-init c = record {
   state = check_first c.requires.valid c.requires.deadline c.requires.boards.none_after c.requires.departures c.requires.runs c.requires.empty;
+  there = λ k d within. (c.requires.departures.each k d within).0;
   boards = c.requires.boards;
 }
-
-pub offer-best-requires-clause-there : goal.offer-best-requires-clause-there
-offer-best-requires-clause-there c = check_there c.requires.valid c.loop-departure.invariant.state _ _ c.in-Some.ensures.items
 
 pub offer-best-requires-clause-run : goal.offer-best-requires-clause-run
 offer-best-requires-clause-run c =
     let state = c.loop-departure.invariant.state in
     state.scanned.runs c.in-Some.departure.id.0 (check_there c.requires.valid state _ _ c.in-Some.ensures.items)
-
-pub get-requires : goal.get-requires
-get-requires c = check_there c.requires.valid c.loop-departure.invariant.state _ _ c.in-Some.ensures.items
-
-pub bounds-values-id : goal.bounds-values-id
-bounds-values-id c = rw c.requires.values (check_there c.requires.valid c.loop-departure.invariant.state _ _ c.in-Some.ensures.items)
 
 pub returns-then-not-keeps_to : goal.returns-then-not-keeps_to
 returns-then-not-keeps_to c =
@@ -44,6 +37,7 @@ loop-departure-preserved c =
     ] in
     rw c.offer-best.ensures.exits (record {
       state = check_next c.requires.valid c.loop-departure.invariant.state _ _ c.in-Some.ensures.items c.offer-best.ensures.best keeps;
+      there = (All-pop (λ e. e.id.0 < count c.args.network.now) _ _ (Some c.in-Some.departure) c.in-Some.ensures.items c.loop-departure.invariant.there).0;
       boards = c.offer-best.ensures.boards;
     })
 

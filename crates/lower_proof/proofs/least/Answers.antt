@@ -3,8 +3,8 @@ use Rattle.std.proofs.lemmas.Bool.{both_ways}
 use Rattle.plan_model.specs.declared.model.Connection.{Connection}
 use Rattle.plan_model.specs.Network.{count, connection}
 use Rattle.plan_model.specs.Strategy.{IsBoardableAtStart}
-use Rattle.lower_proof.specs.Certificates.{IsLeastOf}
-use Rattle.lower_proof.proofs.Leasts.{OffersBelow, with_offer, without_offer, all_offers}
+use Rattle.lower_proof.specs.Certificates.{IsLeastOf, Offers}
+use Rattle.lower_proof.proofs.Leasts.{Below, with_offer, below_same, all_offers}
 use Rattle.lower_proof.proofs.least.Goals as goal
 use Rattle.lower_proof.proofs.least.Goals.{then-get+then-starts, else-get, else-get-via-then-get+else-starts, else-get-via-else-get}
 
@@ -20,9 +20,11 @@ loop-i-preserved c =
           rw (w.least-is, w.lesser-least.ensures) (with_offer n values Boards i c.loop-i.least (omega arith) (board_is ∙ w.if-get.true) (w.starts.ensures.0 w.if-starts.true) c.loop-i.invariant)
       | else-get w ↦ elim w.else-get.branch [
         | else-get-via-then-get+else-starts u ↦ rw w.least-is
-            (without_offer n values Boards i c.loop-i.least (λ board boards. both_ways u.starts.result u.if-starts.false (u.starts.ensures.1 boards)) c.loop-i.invariant)
+            (below_same (Offers n values Boards) i c.loop-i.least (λ v offer. both_ways u.starts.result u.if-starts.false (u.starts.ensures.1 offer.boards))
+            c.loop-i.invariant)
         | else-get-via-else-get u ↦ rw w.least-is
-            (without_offer n values Boards i c.loop-i.least (λ board boards. both_ways (connection n i).can_board (board_is ∙ u.if-get.false) board) c.loop-i.invariant)
+            (below_same (Offers n values Boards) i c.loop-i.least (λ v offer. both_ways (connection n i).can_board (board_is ∙ u.if-get.false) offer.board)
+            c.loop-i.invariant)
       ]
     ]
 
@@ -34,7 +36,8 @@ returns c =
     let values = c.as_slice-values.result.now in
     let whole : c.loop-i.i ≡ count n = omega arith in
     let away : q.source.0 ≢ q.target.0 = search rules in
-    let least = all_offers n values Boards c.loop-i.least (subst (λ (m : ℕ). IsLeastOf (OffersBelow n values Boards m) c.loop-i.least) whole c.loop-i.invariant) in
+    let least = all_offers n values Boards c.loop-i.least (subst (λ (m : ℕ). IsLeastOf (Below (Offers n values Boards) m) c.loop-i.least) whole
+    c.loop-i.invariant) in
     record {
       at_target = λ there. absurd (away there);
       elsewhere = λ e. rw (← c.as_slice-values.ensures) least;

@@ -1,7 +1,7 @@
 use Rattle.plan_model.specs.Strategy.{IsBoardableAtStart}
-use Rattle.lower_proof.specs.Certificates.{IsLeastOf}
-use Rattle.lower_proof.proofs.Leasts.{OffersBelow}
+use Rattle.lower_proof.specs.Certificates.{IsLeastOf, Offers}
+use Rattle.lower_proof.proofs.Leasts.{Below}
 use Rattle.lower_proof.proofs.least.Given as goal
 
 abbrev pub invariant-loop-i : goal.invariant-loop-i
-invariant-loop-i l = IsLeastOf (OffersBelow l.network l.values (IsBoardableAtStart l.network l.query.source.0 l.query.start.0) l.i) l.least
+invariant-loop-i l = IsLeastOf (Below (Offers l.network l.values (IsBoardableAtStart l.network l.query.source.0 l.query.start.0)) l.i) l.least

@@ -1,5 +1,6 @@
 use Rattle.std.proofs.Common.{◌≡◌, ◌∙◌, ℕ, ◌+◌, ◌<◌, List, length, drop, Option, Err, sym, ap, arith, subst}
 use Rattle.std.specs.Prelude.{IfSome, All}
+use Rattle.std.proofs.lemmas.Bool.{eqb-true, eqb-false}
 use Rattle.std.proofs.lemmas.List.Elements.{All-push}
 use Rattle.std.specs.Option.{option_map}
 use Rattle.std.proofs.lemmas.List.{length_push}
@@ -13,8 +14,7 @@ use Rattle.trip_replay.specs.declared.Ridden.{Ridden}
 use Rattle.trip_replay.specs.declared.ReplayFault.TheVariants as fault
 use Rattle.trip_replay.specs.Walk.{walk}
 use Rattle.trip_replay.specs.Rides.{IsRide, arrival_after, place_after}
-use Rattle.trip_replay.proofs.RideLemmas.{leg_at, is_ride, arrival_after-push, place_after-push}
-use Rattle.trip_replay.proofs.Walks.{too_many, not_a_delay, after_ride, target_there, target_away, from_ok, next_step, at_some}
+use Rattle.trip_replay.proofs.Walks.{is_ride, arrival_after-push, place_after-push, too_many, not_a_delay, after_ride, from_ok, next_step}
 use Rattle.trip_replay.proofs.follow.Goals as goal
 
 pub returns-then-eq-clause-walk : goal.returns-then-eq-clause-walk
@@ -24,7 +24,8 @@ returns-then-eq-clause-walk c =
     let s = c.loop-delay.position in
     let target = c.args.query.now.target.0 in
     c.loop-delay.invariant.walk
-    ∙ too_many n target choice s c.loop-delay.rides c.args.delays.now c.loop-delay.delay-index (target_there s.place.0 target c.eq.result c.eq.ensures c.if-eq.true) c.loop-delay-test.true
+    ∙ too_many n target choice s c.loop-delay.rides c.args.delays.now c.loop-delay.delay-index
+    (eqb-true s.place.0 target (sym c.eq.ensures ∙ c.if-eq.true)) c.loop-delay-test.true
     ∙ ap (λ (k : ℕ). Err (fault.TooMany k)) (sym c.len.ensures)
 
 pub returns-in_default-arrival_of-clause-walk : goal.returns-in_default-arrival_of-clause-walk
@@ -36,7 +37,7 @@ returns-in_default-arrival_of-clause-walk c =
     let none = sym c.arrival_of.ensures ∙ ap (λ (o : Option Moment). option_map (λ moment. moment.0) o) c.in_default-arrival_of.is in
     c.loop-delay.invariant.walk
     ∙ not_a_delay n target choice s c.loop-delay.rides c.args.delays.now c.loop-delay.delay-index c.in-Some.leg 0
-    (target_away s.place.0 target c.eq.result c.eq.ensures c.if-eq.false) c.in-Some.is c.loop-delay-test.true none
+    (eqb-false s.place.0 target (sym c.eq.ensures ∙ c.if-eq.false)) c.in-Some.is c.loop-delay-test.true none
     ∙ ap (λ (k : ℕ). Err (fault.NotADelay (k + 1))) (sym c.len-in_default-arrival_of.ensures)
 
 pub loop-delay-preserved : goal.loop-delay-preserved
@@ -50,11 +51,11 @@ loop-delay-preserved c =
     let some = sym c.arrival_of.ensures ∙ ap (λ (o : Option Moment). option_map (λ moment. moment.0) o) c.in-Some-arrival_of.is in
     let pushed = from_ok _ c.push.result c.if-is_err.ensures.negation c.push.ensures.ok in
     let more : length c.push.new.self ≡ length behind + 1 = ap (λ (list : List Ridden). length list) pushed ∙ length_push behind _ in
-    let few : length behind + s.left < count n = at_some n (count n) (length behind) s.left s.next c.in-Some.leg c.in-Some.is c.loop-delay.invariant.next in
+    let (is_leg, few) = rw c.in-Some.is at c.loop-delay.invariant.next in
     record {
       walk = c.loop-delay.invariant.walk
           ∙ after_ride n target choice s behind c.args.delays.now c.loop-delay.delay-index c.in-Some.leg 0 c.in-Some-arrival_of.arrival.0
-          (target_away s.place.0 target c.eq.result c.eq.ensures c.if-eq.false) c.in-Some.is c.loop-delay-test.true some
+          (eqb-false s.place.0 target (sym c.eq.ensures ∙ c.if-eq.false)) c.in-Some.is c.loop-delay-test.true some
           ∙ ap (λ (list : List Ridden). walk n (unfold_after n target choice s.left c.in-Some.leg c.in-Some-arrival_of.arrival.0) rest list) (sym pushed)
           ∙ ap (λ (tree : Tree). walk n tree rest c.push.new.self) (sym c.position_after-position.ensures.tree);
       next = subst (λ (k : ℕ). IfSome c.position_after-position.result.next (λ leg. IsLegOf n leg × (k + c.position_after-position.result.left < count n))) (sym more)
@@ -62,7 +63,7 @@ loop-delay-preserved c =
       few = omega (arith, more, few, c.position_after-position.ensures.left);
       rides = subst (All (IsRide n)) (sym pushed)
           (All-push (IsRide n) behind _ c.loop-delay.invariant.rides
-          (is_ride n c.in-Some.leg _ c.in-Some-arrival_of.arrival.0 (leg_at n (count n) (length behind) s.left s.next c.in-Some.leg c.in-Some.is c.loop-delay.invariant.next) some));
+          (is_ride n c.in-Some.leg _ c.in-Some-arrival_of.arrival.0 is_leg some));
       place = c.position_after-position.ensures.place
           ∙ sym (ap (λ (list : List Ridden). place_after n c.args.query.now.source.0 list) pushed ∙ place_after-push n c.args.query.now.source.0 behind _);
       arrival = ap (λ (moment : Moment). moment.0) c.position_after-position.ensures.moment

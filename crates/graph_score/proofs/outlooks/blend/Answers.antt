@@ -1,5 +1,5 @@
 use Rattle.std.proofs.Common.{sym, ◌∙◌}
-use Rattle.graph_score.proofs.Lists.{length_spans}
+use Rattle.graph_score.proofs.Failures.{length_spans}
 use Rattle.graph_score.proofs.outlooks.blend.Goals as goal
 
 pub mean-requires-clause-as_many : goal.mean-requires-clause-as_many

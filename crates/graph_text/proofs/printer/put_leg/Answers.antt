@@ -1,6 +1,4 @@
 use Rattle.std.proofs.Common.{◌≡◌, ◌++◌, ◌∙◌, ℕ, List, subst}
-use Rattle.std.specs.Prelude.{OnOk}
-use Rattle.printed_rows.specs.Writers.{row_of_fields, text_so_far}
 use Rattle.graph_text.proofs.Fields.{leg_row_fields}
 use Rattle.printed_rows.proofs.Connections.{dep_printable, arr_printable, run_named, from_named, to_named}
 use Rattle.printed_rows.proofs.Lines.{name_is}
@@ -18,7 +16,7 @@ returns-clause-text c =
     (c.as_bytes-4.ensures.value ∙ name_is c.args.names.now.places c.get-exit.result.to.0 c.place_name.result.now c.place_name.ensures.name)
     (c.as_slice-2.ensures ∙ c.write_moment-arr.ensures.text)
     (c.as_bytes-5.ensures.value ∙ name_is c.args.names.now.places c.get-enter.result.from.0 c.place_name-2.result.now c.place_name-2.ensures.name) in
-    subst (λ (list : List (List ℕ)). OnOk c.put_row.result (text_so_far c.put_row.new.writer ≡ text_so_far c.args.writer.now ++ row_of_fields list)) fields c.put_row.ensures.text
+    rw fields at c.put_row.ensures.text
 
 pub write_moment-dep-requires : goal.write_moment-dep-requires
 write_moment-dep-requires c = dep_printable c.args.network.now c.args.leg.enter.0 c.get-enter.result c.count-count.ensures.valid c.requires.enter c.get-enter.ensures.connection

@@ -1,11 +1,9 @@
-use Rattle.std.proofs.Common.{◌≡◌, ◌∙◌, drop, Ok, Err, Result, sym, ap, subst}
+use Rattle.std.proofs.Common.{◌∙◌, drop, Ok, Err, Result, sym, ap}
 use Rattle.plan_model.specs.Results.{and_then}
-use Rattle.plan_model.specs.declared.model.PlaceId.{PlaceId}
-use Rattle.plan_model.specs.declared.model.Moment.{Moment}
 use Rattle.plan_graph.specs.declared.PlanGraph.{PlanGraph}
 use Rattle.graph_text.specs.declared.reader.TextFault.{TextFault}
-use Rattle.graph_text.specs.Reading.{IsUnlessNoMemory, graph_after_first}
-use Rattle.graph_text.proofs.Steps.{told_by, fault_on}
+use Rattle.graph_text.specs.Reading.{graph_after_first}
+use Rattle.graph_text.proofs.Tables.{told_by, fault_on}
 use Rattle.graph_text.proofs.reader.read_records.Goals as goal
 
 pub returns-in-Ok : goal.returns-in-Ok
@@ -17,11 +15,7 @@ returns-in-Ok c =
     let graph = c.in-Ok.graph in
     let rows = c.args.rows.now in
     let query = c.in_ok-head.ensures.query in
-    let told : graph_after_first n names version c.args.source.0 c.args.target.0 c.args.start.0 (drop 1 rows) ≡ Ok graph =
-    ap (λ (p : PlaceId). graph_after_first n names version p.0 c.args.target.0 c.args.start.0 (drop 1 rows)) (sym query.0)
-    ∙ ap (λ (p : PlaceId). graph_after_first n names version head.query.source.0 p.0 c.args.start.0 (drop 1 rows)) (sym query.1)
-    ∙ ap (λ (m : Moment). graph_after_first n names version head.query.source.0 head.query.target.0 m.0 (drop 1 rows)) (sym query.2)
-    ∙ c.in-Ok.ensures in
+    let told = rw (query.0, query.1, query.2) at c.in-Ok.ensures in
     told_by n names version c.args.source.0 c.args.target.0 c.args.start.0 rows head (Ok (head, graph)) c.requires.some (sym c.in-Some.is ∙ c.version_of.ensures) c.in_ok-head.ensures.told
     (ap (λ (r : Result PlanGraph TextFault). and_then r (λ g. Ok (head, g))) told)
 
@@ -34,11 +28,6 @@ returns-in-Err c =
     let fault = c.in-Err.fault in
     let rows = c.args.rows.now in
     let query = c.in_ok-head.ensures.query in
-    let same : graph_after_first n names version head.query.source.0 head.query.target.0 head.query.start.0
-    (drop 1 rows) ≡ graph_after_first n names version c.args.source.0 c.args.target.0 c.args.start.0 (drop 1 rows) =
-    ap (λ (p : PlaceId). graph_after_first n names version p.0 head.query.target.0 head.query.start.0 (drop 1 rows)) query.0
-    ∙ ap (λ (p : PlaceId). graph_after_first n names version c.args.source.0 p.0 head.query.start.0 (drop 1 rows)) query.1
-    ∙ ap (λ (m : Moment). graph_after_first n names version c.args.source.0 c.args.target.0 m.0 (drop 1 rows)) query.2 in
-    let told = subst (λ (r : Result PlanGraph TextFault). IsUnlessNoMemory {A = PlanGraph} (Err fault) r) same c.in-Err.ensures in
+    let told = rw (query.0, query.1, query.2) at c.in-Err.ensures in
     told_by n names version c.args.source.0 c.args.target.0 c.args.start.0 rows head (Err fault) c.requires.some (sym c.in-Some.is ∙ c.version_of.ensures) c.in_ok-head.ensures.told
     (fault_on fault (graph_after_first n names version c.args.source.0 c.args.target.0 c.args.start.0 (drop 1 rows)) (λ g. Ok (head, g)) told)

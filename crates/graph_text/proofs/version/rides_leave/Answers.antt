@@ -1,14 +1,17 @@
-use Rattle.std.proofs.Common.{◌∙◌, sym}
-use Rattle.graph_text.proofs.Leaving.{and_not, and_next, rides_leave-split}
+use Rattle.std.proofs.Common.{sym, refl}
+use Rattle.plan_model.specs.Unfold.{end_of}
+use Rattle.graph_text.specs.Versions.{rows_leave, rides_leave}
+use Rattle.graph_text.proofs.Leaving.{fails_at, passes_at}
 use Rattle.graph_text.proofs.version.rides_leave.Goals as goal
 
 pub returns-then-not-ride_leaves : goal.returns-then-not-ride_leaves
-returns-then-not-ride_leaves c = sym (c.loop-ride.invariant
-    ∙ and_not _ c.ride_leaves.result _ _
-    (rides_leave-split c.args.network.now c.args.rides.now c.loop-ride.ride-index c.ride-item.result c.loop-ride-test.true c.ride-item.is)
-    c.ride_leaves.ensures c.if-not-ride_leaves.true)
+returns-then-not-ride_leaves c = sym (fails_at (rides_leave c.args.network.now) (λ r. rows_leave c.args.network.now
+    (end_of c.args.network.now r.leg) r.after) (λ x xs. refl) c.args.rides.now c.loop-ride.ride-index
+    c.ride-item.result c.ride-item.result _ c.ride_leaves.result c.loop-ride-test.true c.ride-item.is c.loop-ride.invariant c.ride_leaves.ensures
+    c.if-not-ride_leaves.true)
 
 pub loop-ride-preserved : goal.loop-ride-preserved
-loop-ride-preserved c = c.loop-ride.invariant ∙ and_next _ c.ride_leaves.result _ _
-    (rides_leave-split c.args.network.now c.args.rides.now c.loop-ride.ride-index c.ride-item.result c.loop-ride-test.true c.ride-item.is)
-    c.ride_leaves.ensures c.if-not-ride_leaves.false
+loop-ride-preserved c = passes_at (rides_leave c.args.network.now) (λ r. rows_leave c.args.network.now (end_of c.args.network.now r.leg) r.after)
+    (λ x xs. refl) c.args.rides.now c.loop-ride.ride-index
+    c.ride-item.result c.ride-item.result _ c.ride_leaves.result c.loop-ride-test.true c.ride-item.is c.loop-ride.invariant c.ride_leaves.ensures
+    c.if-not-ride_leaves.false

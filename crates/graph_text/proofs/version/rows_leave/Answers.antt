@@ -1,12 +1,16 @@
-use Rattle.std.proofs.Common.{◌∙◌, sym}
-use Rattle.graph_text.proofs.Leaving.{and_not, and_next, rows_leave-split}
+use Rattle.std.proofs.Common.{sym, refl}
+use Rattle.std.specs.Prelude.{◌==◌}
+use Rattle.plan_model.specs.Network.{from_of}
+use Rattle.graph_text.specs.Versions.{rows_leave}
+use Rattle.graph_text.proofs.Leaving.{fails_at, passes_at}
 use Rattle.graph_text.proofs.version.rows_leave.Goals as goal
 
 pub returns-then-not-leaves : goal.returns-then-not-leaves
-returns-then-not-leaves c = sym (c.loop-row.invariant
-    ∙ and_not _ c.leaves.result _ _
-    (rows_leave-split c.args.network.now c.args.place.0 c.args.rows.now c.loop-row.row-index _ c.loop-row-test.true) c.leaves.ensures c.if-not-leaves.true)
+returns-then-not-leaves c = sym (fails_at (rows_leave c.args.network.now c.args.place.0)
+    (λ row. from_of c.args.network.now row.leg.enter.0 == c.args.place.0) (λ x xs. refl)
+    c.args.rows.now c.loop-row.row-index _ _ _ c.leaves.result c.loop-row-test.true refl c.loop-row.invariant c.leaves.ensures c.if-not-leaves.true)
 
 pub loop-row-preserved : goal.loop-row-preserved
-loop-row-preserved c = c.loop-row.invariant ∙ and_next _ c.leaves.result _ _
-    (rows_leave-split c.args.network.now c.args.place.0 c.args.rows.now c.loop-row.row-index _ c.loop-row-test.true) c.leaves.ensures c.if-not-leaves.false
+loop-row-preserved c = passes_at (rows_leave c.args.network.now c.args.place.0) (λ row. from_of c.args.network.now row.leg.enter.0 == c.args.place.0)
+    (λ x xs. refl)
+    c.args.rows.now c.loop-row.row-index _ _ _ c.leaves.result c.loop-row-test.true refl c.loop-row.invariant c.leaves.ensures c.if-not-leaves.false

@@ -1,14 +1,16 @@
-use Rattle.std.proofs.Common.{◌∙◌, sym}
-use Rattle.graph_text.proofs.Leaving.{and_not, and_next, tables_leave-split}
+use Rattle.std.proofs.Common.{sym, refl}
+use Rattle.graph_text.specs.Versions.{rows_leave, tables_leave}
+use Rattle.graph_text.proofs.Leaving.{fails_at, passes_at}
 use Rattle.graph_text.proofs.version.tables_leave.Goals as goal
 
 pub returns-then-not-table_leaves : goal.returns-then-not-table_leaves
-returns-then-not-table_leaves c = sym (c.loop-table.invariant
-    ∙ and_not _ c.table_leaves.result _ _
-    (tables_leave-split c.args.network.now c.args.tables.now c.loop-table.table-index c.table-item.result c.loop-table-test.true c.table-item.is)
-    c.table_leaves.ensures c.if-not-table_leaves.true)
+returns-then-not-table_leaves c = sym (fails_at (tables_leave c.args.network.now) (λ t. rows_leave c.args.network.now t.place.0 t.rows)
+    (λ x xs. refl) c.args.tables.now c.loop-table.table-index
+    c.table-item.result c.table-item.result _ c.table_leaves.result c.loop-table-test.true c.table-item.is c.loop-table.invariant c.table_leaves.ensures
+    c.if-not-table_leaves.true)
 
 pub loop-table-preserved : goal.loop-table-preserved
-loop-table-preserved c = c.loop-table.invariant ∙ and_next _ c.table_leaves.result _ _
-    (tables_leave-split c.args.network.now c.args.tables.now c.loop-table.table-index c.table-item.result c.loop-table-test.true c.table-item.is)
-    c.table_leaves.ensures c.if-not-table_leaves.false
+loop-table-preserved c = passes_at (tables_leave c.args.network.now) (λ t. rows_leave c.args.network.now t.place.0 t.rows)
+    (λ x xs. refl) c.args.tables.now c.loop-table.table-index
+    c.table-item.result c.table-item.result _ c.table_leaves.result c.loop-table-test.true c.table-item.is c.loop-table.invariant c.table_leaves.ensures
+    c.if-not-table_leaves.false

@@ -1,8 +1,5 @@
 use Rattle.std.proofs.Common.{◌≡◌, ℕ, ◌+◌, ◌-◌, ◌/◌, length, arith, ap, drop}
 use Rattle.std.proofs.lemmas.List.{drop_all}
-use Rattle.plan_model.specs.declared.model.Outcome.{Outcome}
-use Rattle.interval_fixed.specs.Interval.{Interval}
-use Rattle.interval_fixed.specs.Means.{weighted, weighted_lo, weighted_hi}
 use Rattle.interval_fixed.proofs.Enclosed.{mean_encloses, mean_gap_within}
 use Rattle.interval_fixed.proofs.Span.mean.Goals as goal
 

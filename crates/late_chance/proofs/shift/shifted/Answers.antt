@@ -12,7 +12,6 @@ try_clone_with-requires c =
 pub returns-clause-view : goal.returns-clause-view
 returns-clause-view c =
     let shift = c.args.promise.0 - seconds_per_week in
-    let a = c.in_ok-connections.ensures.seen in
     IfOk-weaker c.try_clone_with.result (λ copy. copy ≡ record c.args.network.now { connections = c.in_ok-connections.connections })
     (λ seen. IsView seen c.args.network.now shift c.args.start.0)
-    (λ seen told. rw (told, a) (view shift c.args.start.0 c.args.network.now (omega arith))) c.try_clone_with.ensures
+    (λ seen told. rw (told, c.in_ok-connections.ensures.seen) (view shift c.args.start.0 c.args.network.now (omega arith))) c.try_clone_with.ensures

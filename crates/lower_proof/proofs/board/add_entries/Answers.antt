@@ -1,11 +1,9 @@
-use Rattle.std.proofs.Common.{◌≡◌, ◌+◌, ◌-◌, ◌<◌, ◌∙◌, ◌++◌, ◌∷◌, [], length, slice_get, Some, arith, subst, ap}
+use Rattle.std.proofs.Common.{◌≡◌, ◌+◌, ◌-◌, ◌<◌, ◌∙◌, length, slice_get, Some, arith, subst, ap}
 use Rattle.std.proofs.lemmas.List.{length-set, get_or_default}
 use Rattle.plan_model.specs.declared.model.Connection.{Connection}
 use Rattle.plan_model.specs.Network.{from_of, dep_of}
 use Rattle.plan_model.specs.Ways.{ways_into}
 use Rattle.plan_model.proofs.Boarding.{way_takes, way_of-listed}
-use Rattle.lower_proof.specs.Boards.{ShownBoard}
-use Rattle.lower_proof.specs.Minima.{board_at}
 use Rattle.lower_proof.proofs.Entries.{no_board, no_ways, all_ways, way_passed, way_added}
 use Rattle.lower_proof.proofs.board.add_entries.Goals as goal
 use Rattle.lower_proof.proofs.board.add_entries.Goals.{then-seconds-connection+in_ok-add, else-seconds-connection}
@@ -38,13 +36,10 @@ loop-k-preserved c =
           let by = c.get-connection.result.dep.0 - c.from-seconds.result in
           let early = w.if-seconds-connection.true in
           let sum : by + way.seconds ≡ dep_of n id = omega (arith, c.from-seconds.ensures, dep_is) in
-          let takes = way_takes n c.requires.valid way.from.0 (from_of n id) way.seconds (c.requires.valid.connections id c.requires.there).from_in
+          let takes = way_takes n c.requires.valid way.from.0 (from_of n id) way.seconds departs_in
           (way_of-listed n c.requires.valid (from_of n id) departs_in loop.k way listed) in
           let inside : way.from.0 < length boards = omega (arith, takes.0, loop.invariant.len) in
-          let same = get_or_default boards way.from.0 w.index-boards-way.result no_board inside in
-          let is : w.add.new.self.entries ≡ (board_at boards way.from.0).entries ++
-          (record { by = record { 0 = by }; id = record { 0 = id } }) ∷ [] = w.in_ok-add.ensures.added
-          ∙ ap (λ (b : ShownBoard). b.entries ++ (record { by = record { 0 = by }; id = record { 0 = id } }) ∷ []) same in
+          let is = rw (get_or_default boards way.from.0 w.index-boards-way.result no_board inside) at w.in_ok-add.ensures.added in
           rw w.boards-is (record {
             len = length-set boards way.from.0 w.add.new.self ∙ loop.invariant.len;
             ways = λ last have. way_added n last id c.requires.valid departs_in loop.k way listed by c.requires.there c.requires.board sum boards w.add.new.self
@@ -60,6 +55,5 @@ loop-k-preserved c =
 
 pub returns-clause-entries : goal.returns-clause-entries
 returns-clause-entries c last have =
-    let n = c.args.network.now in
-    let ways_are = subst (λ (e : Connection). c.way_count-k-end.result ≡ length (ways_into n e.from.0)) c.get-connection.ensures.connection c.way_count-k-end.ensures in
-    all_ways n last c.args.id.0 c.loop-k.boards c.loop-k.k (omega (arith, ways_are)) (c.loop-k.invariant.ways last have)
+    let ways_are = rw c.get-connection.ensures.connection at c.way_count-k-end.ensures in
+    all_ways c.args.network.now last c.args.id.0 c.loop-k.boards c.loop-k.k (omega (arith, ways_are)) (c.loop-k.invariant.ways last have)

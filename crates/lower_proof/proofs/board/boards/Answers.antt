@@ -1,8 +1,8 @@
-use Rattle.std.proofs.Common.{◌≡◌, ℕ, arith, subst}
+use Rattle.std.proofs.Common.{◌≡◌, ℕ, length, arith, subst}
 use Rattle.std.proofs.lemmas.Bool.{both_ways}
+use Rattle.std.proofs.lemmas.List.{take_at}
 use Rattle.plan_model.specs.Network.{count}
-use Rattle.lower_proof.specs.Minima.{HaveEntries, AllLate}
-use Rattle.lower_proof.proofs.Minima.{written_back}
+use Rattle.lower_proof.specs.Minima.{HaveEntries}
 use Rattle.lower_proof.proofs.Entries.{entries_skipped}
 use Rattle.lower_proof.proofs.board.boards.Goals as goal
 use Rattle.lower_proof.proofs.board.boards.Goals.{then-boards_by+in_ok-add_entries, else-boards_by}
@@ -13,11 +13,10 @@ loop-i-preserved c =
     let loop = c.loop-i in
     elim c.if-boards_by.branch [
       | then-boards_by+in_ok-add_entries w ↦
-          let sizes = loop.boards.ok.0 in
           let added = w.in_ok-add_entries.ensures in
           let given : HaveEntries n c.args.last.0 loop.i w.deref_mut.result.now = rw w.deref_mut.ensures.value loop.invariant.entries in
-          let boards = written_back w.add_entries.new.boards loop.boards.items loop.boards.len (omega (arith, sizes, added.len, loop.invariant.len)) (omega (arith, sizes)) in
-          rw (w.boards-is, boards) (record { valid = loop.invariant.valid; len = added.len; entries = added.entries c.args.last.0 given })
+          let same : length w.add_entries.new.boards ≡ loop.boards.len = omega (arith, loop.boards.ok.0, added.len, loop.invariant.len) in
+          rw (w.boards-is, take_at) (record { valid = loop.invariant.valid; len = added.len; entries = added.entries c.args.last.0 given })
       | else-boards_by w ↦ rw w.boards-is (record {
         valid = loop.invariant.valid;
         len = loop.invariant.len;
@@ -26,23 +25,10 @@ loop-i-preserved c =
       })
     ]
 
-pub returns-clause-boards : goal.returns-clause-boards
-returns-clause-boards c = λ values as_many none_after.
+pub returns-clause-fresh : goal.returns-clause-fresh
+returns-clause-fresh c =
     let n = c.args.network.now in
-    let sizes = c.loop-i.boards.ok.0 in
     let whole : c.loop-i.i ≡ count n = omega (arith, c.count-i-end.ensures.count) in
-    let have = subst (λ (m : ℕ). HaveEntries n c.args.last.0 m c.loop-i.boards.items) whole c.loop-i.invariant.entries in
-    let given : HaveEntries n c.args.last.0 (count n) c.deref_mut-2.result.now = rw c.deref_mut-2.ensures.value have in
-    let back = written_back c.sort_boards.new.boards c.loop-i.boards.items c.loop-i.boards.len (omega (arith, sizes, c.sort_boards.ensures.len, c.loop-i.invariant.len)) (omega (arith, sizes)) in
-    rw back (c.sort_boards.ensures.boards c.args.last.0 values given as_many none_after)
-
-pub returns-clause-late : goal.returns-clause-late
-returns-clause-late c = λ m.
-    let n = c.args.network.now in
-    let sizes = c.loop-i.boards.ok.0 in
-    let whole : c.loop-i.i ≡ count n = omega (arith, c.count-i-end.ensures.count) in
-    let have = subst (λ (m : ℕ). HaveEntries n c.args.last.0 m c.loop-i.boards.items) whole c.loop-i.invariant.entries in
-    let given : HaveEntries n c.args.last.0 (count n) c.deref_mut-2.result.now = rw c.deref_mut-2.ensures.value have in
-    let back = written_back c.sort_boards.new.boards c.loop-i.boards.items c.loop-i.boards.len (omega (arith, sizes, c.sort_boards.ensures.len, c.loop-i.invariant.len)) (omega (arith, sizes)) in
-    let late : AllLate m c.sort_boards.new.boards = c.sort_boards.ensures.late c.args.last.0 m given in
-    rw back late
+    let given : HaveEntries n c.args.last.0 (count n) c.deref_mut-2.result.now = rw c.deref_mut-2.ensures.value (rw whole at c.loop-i.invariant.entries) in
+    let same : length c.sort_boards.new.boards ≡ c.loop-i.boards.len = omega (arith, c.loop-i.boards.ok.0, c.sort_boards.ensures.len, c.loop-i.invariant.len) in
+    rw take_at (c.sort_boards.ensures.fresh c.args.last.0 given)

@@ -1,9 +1,10 @@
-use Rattle.std.proofs.Common.{◌≡◌, ◌<◌, ◌∙◌, length, arith}
+use Rattle.std.proofs.Common.{◌≡◌, ◌<◌, ◌∙◌, length, Some, arith}
 use Rattle.std.proofs.lemmas.List.{length-set}
 use Rattle.lower_proof.specs.Certificates.{IsLeastOf, bound_of}
 use Rattle.lower_proof.specs.Steps.{lesser}
 use Rattle.lower_proof.specs.Boards.{entry_at, FrontValue}
-use Rattle.lower_proof.proofs.Minima.{none_front, before_is, minima_more}
+use Rattle.lower_proof.proofs.Leasts.{none_below}
+use Rattle.lower_proof.proofs.Minima.{before_is, minima_more}
 use Rattle.lower_proof.proofs.board.extend.Goals as goal
 use Rattle.lower_proof.proofs.board.extend.Goals.{then-k-eq0, else-k-eq0}
 
@@ -14,8 +15,9 @@ loop-k-preserved c =
     let loop = c.loop-k in
     let within : loop.k < length loop.least = omega arith in
     let before : IsLeastOf (FrontValue values entries loop.k) c.if-k-eq0.before = elim c.if-k-eq0.branch [
-      | then-k-eq0 w ↦ let zero_is : loop.k ≡ 0 = omega arith in rw (w.before-is, zero_is) (none_front values entries)
-      | else-k-eq0 w ↦ rw w.before-is (before_is values entries loop.least loop.k (omega arith) loop.invariant.minima)
+      | then-k-eq0 w ↦ let zero_is : loop.k ≡ 0 = omega arith in rw (w.before-is, zero_is)
+          (none_below (λ i v. bound_of values (entry_at entries i).id.0 ≡ Some v))
+      | else-k-eq0 w ↦ rw w.before-is (before_is values entries loop.least loop.k loop.k (omega arith) (omega arith) loop.invariant.minima)
     ] in
     rw c.lesser.ensures (record {
       sizes = length-set loop.least loop.k (lesser c.if-k-eq0.before (bound_of values (entry_at entries loop.k).id.0)) ∙ loop.invariant.sizes;

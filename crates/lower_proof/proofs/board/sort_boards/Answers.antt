@@ -2,7 +2,7 @@ use Rattle.std.proofs.Common.{◌≡◌, ◌<◌, ◌∙◌, length, arith, subs
 use Rattle.std.specs.List.Sorted.{IsPermutation}
 use Rattle.std.proofs.lemmas.List.{get_or_default, length-set}
 use Rattle.lower_proof.specs.Boards.{ShownBoard}
-use Rattle.lower_proof.proofs.Entries.{no_board, AreSorted, sorted_more, sorted_boards, sorted_late}
+use Rattle.lower_proof.proofs.Entries.{no_board, AreSorted, sorted_more, sorted_fresh}
 use Rattle.lower_proof.proofs.board.sort_boards.Goals as goal
 
 pub loop-p-preserved : goal.loop-p-preserved
@@ -16,16 +16,9 @@ loop-p-preserved c =
       sorted = λ last have. sorted_more c.args.network.now last p boards c.sort.new.self inside moved c.sort.ensures.falls c.sort.ensures.least (c.loop-p.invariant.sorted last have);
     }
 
-pub returns-clause-boards : goal.returns-clause-boards
-returns-clause-boards c = λ last values have as_many none_after.
+pub returns-clause-fresh : goal.returns-clause-fresh
+returns-clause-fresh c = λ last have.
     let n = c.args.network.now in
     let boards = c.loop-p.boards in
     let whole : c.loop-p.p ≡ length boards = omega (arith, c.loop-p.invariant.len, c.places-p-end.ensures) in
-    sorted_boards n last boards values as_many none_after (subst (λ k. AreSorted n last k boards) whole (c.loop-p.invariant.sorted last have))
-
-pub returns-clause-late : goal.returns-clause-late
-returns-clause-late c = λ last m have.
-    let n = c.args.network.now in
-    let boards = c.loop-p.boards in
-    let whole : c.loop-p.p ≡ length boards = omega (arith, c.loop-p.invariant.len, c.places-p-end.ensures) in
-    sorted_late n last boards m (subst (λ k. AreSorted n last k boards) whole (c.loop-p.invariant.sorted last have))
+    sorted_fresh n last boards (subst (λ k. AreSorted n last k boards) whole (c.loop-p.invariant.sorted last have))

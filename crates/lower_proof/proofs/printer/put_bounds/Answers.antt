@@ -1,6 +1,5 @@
 use Rattle.std.proofs.Common.{◌≡◌, ◌++◌, ◌∙◌, ℕ, List, subst, ap}
 use Rattle.std.specs.Prelude.{OnOk, decimal}
-use Rattle.printed_rows.specs.Writers.{row_of_fields, text_so_far}
 use Rattle.printed_rows.proofs.Lines.{seven_fields, name_is}
 use Rattle.lower_proof.proofs.printer.put_bounds.Goals as goal
 
@@ -17,4 +16,4 @@ returns-clause-text c =
     (c.as_slice-3.ensures ∙ c.write_moment-start.ensures.text)
     (c.as_slice-4.ensures ∙ c.write_moment-deadline.ensures.text)
     (c.as_bytes-3.ensures.value ∙ c.format.ensures.text ∙ ap decimal c.number_of.ensures) in
-    subst (λ (list : List (List ℕ)). OnOk c.put_row.result (text_so_far c.put_row.new.writer ≡ text_so_far c.args.writer.now ++ row_of_fields list)) fields c.put_row.ensures.text
+    rw fields at c.put_row.ensures.text

@@ -13,4 +13,4 @@ returns-clause-text c =
     ∙ ap (λ (k : Connection). run_name c.args.names.now k.run.0) c.get-connection.ensures.connection)
     (c.as_bytes-2.ensures.value ∙ c.format.ensures.text ∙ ap (λ (k : Connection). decimal k.step) c.get-connection.ensures.connection)
     (c.as_slice-2.ensures ∙ c.write_nanos-nanos.ensures.text) in
-    subst (λ (list : List (List ℕ)). OnOk c.put_row.result (text_so_far c.put_row.new.writer ≡ text_so_far c.args.writer.now ++ row_of_fields list)) fields c.put_row.ensures.text
+    rw fields at c.put_row.ensures.text

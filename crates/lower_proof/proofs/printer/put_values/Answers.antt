@@ -1,7 +1,7 @@
 use Rattle.std.proofs.Common.{◌++◌, ◌<◌, length, arith}
 use Rattle.printed_rows.specs.Writers.{text_so_far, text_of_records}
 use Rattle.lower_proof.specs.Texts.{value_records}
-use Rattle.lower_proof.proofs.Printed.{values_step, values_done, fit_more}
+use Rattle.lower_proof.proofs.ReadBack.{values_step, values_done, fit_more}
 use Rattle.lower_proof.proofs.printer.put_values.Goals as goal
 
 pub loop-i-preserved : goal.loop-i-preserved

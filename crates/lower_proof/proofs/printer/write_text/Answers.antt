@@ -1,24 +1,18 @@
-use Rattle.std.proofs.Common.{◌≡◌, ◌≤◌, ℕ, List, [], Option, Vec, length, refl, ◌∙◌, arith, subst}
-use Rattle.std.specs.Prelude.{IfOk, is_some}
+use Rattle.std.proofs.Common.{◌≡◌, ◌≤◌, ℕ, List, Option, Vec, length, arith, subst}
+use Rattle.std.specs.Prelude.{is_some}
 use Rattle.std.specs.List.{count_by}
 use Rattle.std.specs.Global.{Global}
 use Rattle.std.proofs.lemmas.Result.{IfOk-weaker}
 use Rattle.std.proofs.lemmas.List.Sums.{count_by-le-length}
-use Rattle.printed_rows.specs.Writers.{text_so_far}
 use Rattle.lower_proof.specs.Steps.{AllFit}
 use Rattle.lower_proof.specs.Reading.{IsProofRead, ReadsBack}
 use Rattle.lower_proof.specs.Texts.{proof_text}
-use Rattle.lower_proof.proofs.Printed.{text_is}
 use Rattle.lower_proof.proofs.ReadBack.{present, reads_back}
 use Rattle.lower_proof.proofs.printer.write_text.Goals as goal
 
 pub returns-clause-text : goal.returns-clause-text
 returns-clause-text c =
-    subst (λ (all : List ℕ). IfOk c.text_of.result (λ text. text.items ≡ all))
-    (text_is c.args.network.now c.args.names.now c.args.query.now c.args.proof.now.values c.as_slice-values.result.now
-    [] (text_so_far c.writer_behind-writer.result) (text_so_far c.put_values.new.writer)
-    c.as_slice-values.ensures refl (c.writer_behind-writer.ensures.text ∙ c.in_ok-first.ensures) c.in_ok-put_values.ensures.text)
-    c.text_of.ensures
+    rw (c.in_ok-put_values.ensures.text, c.writer_behind-writer.ensures.text, c.in_ok-first.ensures, c.as_slice-values.ensures) at c.text_of.ensures
 
 pub returns-clause-reads_back : goal.returns-clause-reads_back
 returns-clause-reads_back c =

@@ -7,8 +7,7 @@ use Rattle.lower_proof.proofs.reader.read_values.Goals as goal
 use Rattle.lower_proof.proofs.reader.read_values.Goals.{then-row-count-via-then-row-count, then-row-count-via-else-row-count+then-row-most}
 
 pub loop-row-init : goal.loop-row-init
-loop-row-init c =
-    read_first c.args.network.now c.args.names.now c.args.rows.now c.args.stated c.in-Ok.values.items c.in-Ok.ensures.as_many c.in-Ok.ensures.none
+loop-row-init c = read_first _ _ _ _ _ c.in-Ok.ensures.as_many c.in-Ok.ensures.none
 
 pub returns-then-row-count-clause-fault : goal.returns-then-row-count-clause-fault
 returns-then-row-count-clause-fault c =
@@ -20,24 +19,19 @@ returns-then-row-count-clause-fault c =
       | then-row-count-via-then-row-count w ↦ inl (omega (arith, c.count-count.ensures.count))
       | then-row-count-via-else-row-count+then-row-most w ↦ inr (omega arith)
     ] in
-    inr (ends_here c.args.network.now c.args.names.now t c.args.stated loop.row loop.values.items loop.last loop.invariant within ends)
+    inr (ends_here _ _ _ _ _ _ _ loop.invariant within ends)
 
 pub returns-in_err-told-clause-fault : goal.returns-in_err-told-clause-fault
 returns-in_err-told-clause-fault c = if_raised _ c.from_residual.result c.from_residual.ensures
-    (let loop = c.loop-row in
-    inr (fault_here c.args.network.now c.args.names.now c.args.rows.now c.args.stated loop.row loop.values.items loop.last loop.invariant
-    _ (omega (arith, c.count-count.ensures.count)) (omega arith) c.in_err-told.ensures.told))
+    (inr (fault_here _ _ _ _ _ _ _ c.loop-row.invariant _ (omega (arith, c.count-count.ensures.count)) (omega arith) c.in_err-told.ensures.told))
 
 pub loop-row-preserved : goal.loop-row-preserved
 loop-row-preserved c =
-    let loop = c.loop-row in
-    let told = c.in_ok-told.told in
-    rw c.from.ensures (read_on c.args.network.now c.args.names.now c.args.rows.now c.args.stated loop.row loop.values.items loop.last loop.invariant told
-    (omega (arith, c.count-count.ensures.count)) (omega arith) c.in_ok-told.ensures.told c.in_ok-told.ensures.there)
+    let told = c.in_ok-told.ensures in
+    rw c.from.ensures (read_on _ _ _ _ _ _ _ c.loop-row.invariant c.in_ok-told.told (omega (arith, c.count-count.ensures.count))
+    (omega arith) told.told told.there)
 
 pub returns-clause-told : goal.returns-clause-told
 returns-clause-told c =
-    let t = c.args.rows.now in
-    let loop = c.loop-row in
-    let end : c.max-row-end.result ≡ max (row_count t) c.args.stated = c.max-row-end.ensures ∙ ap (λ k. max k c.args.stated) c.count-count.ensures.count in
-    read_all c.args.network.now c.args.names.now t c.args.stated loop.row loop.values.items loop.last loop.invariant (omega (arith, end))
+    let end = c.max-row-end.ensures ∙ ap (λ k. max k c.args.stated) c.count-count.ensures.count in
+    read_all _ _ _ _ _ _ _ c.loop-row.invariant (omega (arith, end))

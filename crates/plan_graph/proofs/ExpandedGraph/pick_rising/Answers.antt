@@ -1,8 +1,8 @@
-use Rattle.std.proofs.Common.{rules, arith, sym, ap, subst, ◌∙◌, List, AllPairs}
+use Rattle.std.proofs.Common.{rules, arith, sym, ap, ◌∙◌, List}
 use Rattle.std.proofs.lemmas.List.Sorted.{IsPartitionPoint-from_clause}
 use Rattle.plan_graph.specs.declared.Ride.{Ride}
 use Rattle.plan_graph.specs.declared.GraphRow.{GraphRow}
-use Rattle.plan_graph.specs.Rows.{leg_lt, Precedes, pick_row}
+use Rattle.plan_graph.specs.Rows.{leg_lt, pick_row}
 use Rattle.std.proofs.lemmas.List.{get_or_default}
 use Rattle.plan_graph.proofs.Searches.{rides_parted, pick_after-at, pick_after-none, leg_same, leg_other}
 use Rattle.plan_graph.proofs.ExpandedGraph.pick_rising.Goals as goal
@@ -10,18 +10,16 @@ use Rattle.plan_graph.proofs.ExpandedGraph.pick_rising.Goals as goal
 pub returns-then-at-rides : goal.returns-then-at-rides
 returns-then-at-rides c =
     let same = c.as_slice-rides.ensures in
-    let rise = subst (λ (list : List Ride). AllPairs (λ a b. Precedes a.leg b.leg) list) (sym same) c.requires in
     let point = IsPartitionPoint-from_clause (λ x. leg_lt x.leg c.args.leg) _ _ c.partition_point-at.ensures.partitioned
-    (rides_parted c.as_slice-rides.result.now c.args.leg rise) (λ a r q k. search rules) in
+    (rides_parted c.args.self.now.rides c.as_slice-rides.result.now c.args.leg same c.requires) (λ a r q k. search rules) in
     sym (pick_after-none c.args.self.now.rides c.as_slice-rides.result.now c.args.leg c.args.arrival.0 c.partition_point-at.result same c.requires
     point (λ d within is. omega (arith, within, c.if-at-rides.true)))
 
 pub returns-then-ne : goal.returns-then-ne
 returns-then-ne c =
     let same = c.as_slice-rides.ensures in
-    let rise = subst (λ (list : List Ride). AllPairs (λ a b. Precedes a.leg b.leg) list) (sym same) c.requires in
     let point = IsPartitionPoint-from_clause (λ x. leg_lt x.leg c.args.leg) _ _ c.partition_point-at.ensures.partitioned
-    (rides_parted c.as_slice-rides.result.now c.args.leg rise) (λ a r q k. search rules) in
+    (rides_parted c.args.self.now.rides c.as_slice-rides.result.now c.args.leg same c.requires) (λ a r q k. search rules) in
     let own = c.index-rides-at.result in
     sym (pick_after-none c.args.self.now.rides c.as_slice-rides.result.now c.args.leg c.args.arrival.0 c.partition_point-at.result same c.requires point (λ d within is.
     leg_other own.leg c.args.leg c.ne.result c.ne.ensures c.if-ne.true
@@ -30,9 +28,8 @@ returns-then-ne c =
 pub returns : goal.returns
 returns c =
     let same = c.as_slice-rides.ensures in
-    let rise = subst (λ (list : List Ride). AllPairs (λ a b. Precedes a.leg b.leg) list) (sym same) c.requires in
     let point = IsPartitionPoint-from_clause (λ x. leg_lt x.leg c.args.leg) _ _ c.partition_point-at.ensures.partitioned
-    (rides_parted c.as_slice-rides.result.now c.args.leg rise) (λ a r q k. search rules) in
+    (rides_parted c.args.self.now.rides c.as_slice-rides.result.now c.args.leg same c.requires) (λ a r q k. search rules) in
     let own = c.index-rides-at.result in
     let here = leg_same own.leg c.args.leg c.ne.result c.ne.ensures c.if-ne.false in
     c.first_leg.ensures

@@ -1,7 +1,5 @@
 use Rattle.std.proofs.Common.{◌≡◌, ◌++◌, ◌∙◌, ℕ, List, [], subst, ap, refl}
-use Rattle.std.specs.Prelude.{OnOk}
 use Rattle.clock_text.specs.Civil.{nanos_text}
-use Rattle.printed_rows.specs.Writers.{row_of_fields, text_so_far}
 use Rattle.graph_text.proofs.Fields.{take_nine}
 use Rattle.printed_rows.proofs.Lines.{name_is}
 use Rattle.graph_text.proofs.printer.Printer.put_head.Goals as goal
@@ -21,4 +19,4 @@ returns-clause-text c =
     (c.as_slice-4.ensures ∙ c.write_nanos-lo.ensures.text ∙ ap nanos_text c.lo.ensures.lo)
     (c.as_slice-5.ensures ∙ c.write_nanos-hi.ensures.text ∙ ap nanos_text c.hi.ensures)
     c.as_slice-6.ensures in
-    subst (λ (list : List (List ℕ)). OnOk c.put_row.result (text_so_far c.put_row.new.writer ≡ text_so_far c.args.writer.now ++ row_of_fields list)) fields c.put_row.ensures.text
+    rw fields at c.put_row.ensures.text

@@ -1,6 +1,5 @@
 use Rattle.std.proofs.Common.{◌≡◌, ◌++◌, ◌∙◌, ℕ, List, [], subst, ap}
 use Rattle.std.specs.Prelude.{OnOk, decimal}
-use Rattle.printed_rows.specs.Writers.{row_of_fields, text_so_far}
 use Rattle.graph_text.proofs.Fields.{take_nine}
 use Rattle.printed_rows.proofs.Lines.{name_is}
 use Rattle.graph_text.proofs.printer.Printer.put_place.Goals as goal
@@ -15,4 +14,4 @@ returns-clause-text c =
     (c.as_bytes-2.ensures.value ∙ c.format.ensures.text ∙ ap decimal c.change.ensures)
     (c.as_bytes-3.ensures.value ∙ c.format-2.ensures.text)
     c.as_slice-none.ensures c.as_slice-none.ensures c.as_slice-none.ensures c.as_slice-none.ensures c.as_slice-none.ensures in
-    subst (λ (list : List (List ℕ)). OnOk c.put_row.result (text_so_far c.put_row.new.writer ≡ text_so_far c.args.writer.now ++ row_of_fields list)) fields c.put_row.ensures.text
+    rw fields at c.put_row.ensures.text

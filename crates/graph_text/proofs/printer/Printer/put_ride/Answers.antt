@@ -1,6 +1,5 @@
-use Rattle.std.proofs.Common.{◌≡◌, ◌++◌, ◌∙◌, ℕ, List, subst, ap, length}
-use Rattle.std.specs.Prelude.{OnOk, codes, decimal}
-use Rattle.plan_graph.specs.declared.GraphRow.{GraphRow}
+use Rattle.std.proofs.Common.{◌∙◌, ap, length}
+use Rattle.std.specs.Prelude.{codes, decimal}
 use Rattle.graph_text.specs.Texts.{leg_row, rows_text}
 use Rattle.printed_rows.specs.Writers.{text_so_far}
 use Rattle.printed_rows.proofs.Lines.{append_ok}
@@ -13,8 +12,6 @@ returns-clause-text c =
     let version = c.args.self.now.version in
     let r = c.args.ride.now in
     let second = c.as_bytes-number.ensures.value ∙ c.format.ensures.text ∙ ap decimal c.len.ensures in
-    let first = c.in_ok-put_leg.ensures.text ∙ ap (λ (bytes : List ℕ). text_so_far c.args.writer.now ++ leg_row n names version (codes "ride") bytes r.leg) second in
     append_ok c.put_rows.result (text_so_far c.put_rows.new.writer) (text_so_far c.put_leg.new.writer) (text_so_far c.args.writer.now)
-    (leg_row n names version (codes "ride") (decimal (length r.after)) r.leg) (rows_text n names version (codes "next") r.after) first
-    (subst (λ (rows : List GraphRow). OnOk c.put_rows.result
-    (text_so_far c.put_rows.new.writer ≡ text_so_far c.put_leg.new.writer ++ rows_text n names version (codes "next") rows)) c.as_slice.ensures c.put_rows.ensures.text)
+    (leg_row n names version (codes "ride") (decimal (length r.after)) r.leg) (rows_text n names version (codes "next") r.after)
+    (rw second at c.in_ok-put_leg.ensures.text) (rw c.as_slice.ensures at c.put_rows.ensures.text)

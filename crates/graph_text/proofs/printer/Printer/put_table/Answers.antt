@@ -1,6 +1,5 @@
-use Rattle.std.proofs.Common.{◌≡◌, ◌++◌, ◌∙◌, ℕ, List, subst, ap, length}
-use Rattle.std.specs.Prelude.{OnOk, codes}
-use Rattle.plan_graph.specs.declared.GraphRow.{GraphRow}
+use Rattle.std.proofs.Common.{length}
+use Rattle.std.specs.Prelude.{codes}
 use Rattle.graph_text.specs.Texts.{place_row, rows_text}
 use Rattle.printed_rows.specs.Writers.{text_so_far}
 use Rattle.printed_rows.proofs.Lines.{append_ok}
@@ -12,8 +11,6 @@ returns-clause-text c =
     let names = c.args.self.now.names.now in
     let version = c.args.self.now.version in
     let t = c.args.table.now in
-    let first = c.in_ok-put_place.ensures.text ∙ ap (λ (count : ℕ). text_so_far c.args.writer.now ++ place_row n names version t.place.0 count) c.len.ensures in
     append_ok c.put_rows.result (text_so_far c.put_rows.new.writer) (text_so_far c.put_place.new.writer) (text_so_far c.args.writer.now)
-    (place_row n names version t.place.0 (length t.rows)) (rows_text n names version (codes "leg") t.rows) first
-    (subst (λ (rows : List GraphRow). OnOk c.put_rows.result
-    (text_so_far c.put_rows.new.writer ≡ text_so_far c.put_place.new.writer ++ rows_text n names version (codes "leg") rows)) c.as_slice.ensures c.put_rows.ensures.text)
+    (place_row n names version t.place.0 (length t.rows)) (rows_text n names version (codes "leg") t.rows)
+    (rw c.len.ensures at c.in_ok-put_place.ensures.text) (rw c.as_slice.ensures at c.put_rows.ensures.text)

@@ -3,7 +3,7 @@ use Rattle.std.specs.Prelude.{slice_index_or}
 use Rattle.graph_text.specs.declared.reader.Reading.{Reading}
 use Rattle.graph_text.specs.declared.reader.TextFault.{TextFault}
 use Rattle.graph_text.specs.Reading.{IsUnlessNoMemory}
-use Rattle.graph_text.proofs.Steps.{leg_step}
+use Rattle.graph_text.proofs.Tables.{leg_step}
 use Rattle.graph_text.proofs.reader.Reader.read_row.Goals as goal
 
 pub returns-clause-told : goal.returns-clause-told

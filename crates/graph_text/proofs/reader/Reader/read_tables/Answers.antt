@@ -2,7 +2,7 @@ use Rattle.std.proofs.Common.{◌≡◌, ◌∙◌, ℕ, ◌+◌, drop, Err, Res
 use Rattle.plan_graph.specs.declared.PlaceTable.{PlaceTable}
 use Rattle.graph_text.specs.declared.reader.TextFault.{TextFault}
 use Rattle.graph_text.specs.Reading.{IsUnlessNoMemory, place_tables_from}
-use Rattle.graph_text.proofs.Steps.{read_raised, tables_after, tables_fail}
+use Rattle.graph_text.proofs.Tables.{read_raised, tables_after, tables_fail}
 use Rattle.graph_text.proofs.reader.Reader.read_tables.Goals as goal
 
 pub returns-in_err-reading : goal.returns-in_err-reading
