@@ -59,7 +59,8 @@ module _ {V : Type 0} {below covers : V → Tree → Type 0} {gap rank : V → �
       let before = look_law earlier arrival in
       let P = λ (o : Option (Row V)). MatchOption o (All (λ insert. insert.by.0 < arrival) earlier) (IsBestRow below covers gap rank arrival earlier) in
       let gaps = λ (s : Row V) (is : row_in_time arrival (rows_with_new rank lowered new rows) ≡ Some s) (most : ℕ)
-      (all : All (λ (insert : Row V). gap insert.value ≤ most) (new ∷ earlier)). picked_holds (λ (row : Row V). gap row.value ≤ most) arrival (rows_with_new rank lowered new rows) s
+      (all : All (λ (insert : Row V). gap insert.value ≤ most) (new ∷ earlier)). picked_holds (λ (row : Row V). gap row.value ≤ most) arrival
+      (rows_with_new rank lowered new rows) s
       (gaps_after most (new ∷ earlier) all) is in
       elim (look_step laws arrival new rows (rises_after earlier)) [
         | none late was is ↦ rw is (All-cons (λ (insert : Row V). insert.by.0 < arrival) new earlier late (subst P was before))

@@ -54,16 +54,20 @@ module _ {V : Type 0} (rank : V → ℕ) (lowered : V → V → V) where
           (cond-cons (ltb (rank new.value) (rank first.value)) (lower_row lowered row new) _ _)
 
       -- another is taken out
-      with_new-other : ((a b : V) → rank (lowered a b) ≡ rank a) → rank new.value ≤ rank row.value → AllAfter rank row rows → (o : Option (Row V)) → row_in_time new.by.0 rows ≡ o
+      with_new-other : ((a b : V) → rank (lowered a b) ≡ rank a) → rank new.value ≤ rank row.value → AllAfter rank row rows → (o : Option (Row V))
+          → row_in_time new.by.0 rows ≡ o
           → rows_with_new_by rank lowered new (row ∷ rows) o ≡ rows_with_new_by rank lowered (lower_row lowered new row) rows o
       with_new-other same_rank worse after o is =
           let not_better : ltb (rank row.value) (rank new.value) ≡ false = le-ltb (rank row.value) (rank new.value) worse in
           let as_good : leb (rank new.value) (rank row.value) ≡ true = le-leb (rank new.value) (rank row.value) worse in
-          let none : better_before rank new.by.0 (rank new.value) rows ≡ [] = filter-none (IsAfter rank row) _ (λ r later. let less = later.1 in grind (arith, nat_tests)) rows after in
-          elim o as (λ o. row_in_time new.by.0 rows ≡ o → rows_with_new_by rank lowered new (row ∷ rows) o ≡ rows_with_new_by rank lowered (lower_row lowered new row) rows o) [
+          let none : better_before rank new.by.0 (rank new.value) rows ≡ [] =
+          filter-none (IsAfter rank row) _ (λ r later. let less = later.1 in grind (arith, nat_tests)) rows after in
+          elim o as (λ o. row_in_time new.by.0 rows ≡ o
+          → rows_with_new_by rank lowered new (row ∷ rows) o ≡ rows_with_new_by rank lowered (lower_row lowered new row) rows o) [
             | None ↦ λ is. rw (by_before, not_behind, not_better, as_good, same_rank new.value row.value, none) refl
             | Some first ↦ λ is.
-                let wins : ltb (rank new.value) (rank first.value) ≡ true = lt-ltb (rank new.value) (rank first.value) (omega (arith, (picked_holds (IsAfter rank row) new.by.0 rows first after is).1)) in
+                let wins : ltb (rank new.value) (rank first.value) ≡ true =
+                lt-ltb (rank new.value) (rank first.value) (omega (arith, (picked_holds (IsAfter rank row) new.by.0 rows first after is).1)) in
                 rw (by_before, not_behind, not_better, as_good, same_rank new.value row.value, wins, none) refl
           ] is
 
@@ -73,11 +77,15 @@ module _ {V : Type 0} (rank : V → ℕ) (lowered : V → V → V) where
       in_time = le-leb new.by.0 row.by.0 later
 
       -- it gives way to a better new one
-      with_new-first : rank new.value < rank row.value → rows_with_new rank lowered new (row ∷ rows) ≡ lower_row lowered new row ∷ cond (ltb new.by.0 row.by.0) (row ∷ rows) rows
+      with_new-first : rank new.value < rank row.value
+          → rows_with_new rank lowered new (row ∷ rows) ≡ lower_row lowered new row ∷ cond (ltb new.by.0 row.by.0) (row ∷ rows) rows
       with_new-first better =
-          let none : better_before rank new.by.0 (rank new.value) rows ≡ [] = filter-none (IsAfter rank row) _ (λ r behind. let less = behind.0 in grind (arith, nat_tests)) rows after in
-          let no_other : others_before rank new.by.0 (rank new.value) rows ≡ [] = filter-none (IsAfter rank row) _ (λ r behind. let less = behind.0 in grind (arith, nat_tests)) rows after in
-          let all : rows_behind new.by.0 rows ≡ rows = filter-all (IsAfter rank row) _ (λ r behind. lt-ltb new.by.0 r.by.0 (omega (arith, behind.0))) rows after in
+          let none : better_before rank new.by.0 (rank new.value) rows ≡ [] =
+          filter-none (IsAfter rank row) _ (λ r behind. let less = behind.0 in grind (arith, nat_tests)) rows after in
+          let no_other : others_before rank new.by.0 (rank new.value) rows ≡ [] =
+          filter-none (IsAfter rank row) _ (λ r behind. let less = behind.0 in grind (arith, nat_tests)) rows after in
+          let all : rows_behind new.by.0 rows ≡ rows =
+          filter-all (IsAfter rank row) _ (λ r behind. lt-ltb new.by.0 r.by.0 (omega (arith, behind.0))) rows after in
           rw (in_time, lt-ltb (rank new.value) (rank row.value) better, le-ltb row.by.0 new.by.0 later, none, no_other, all) refl
 
       -- or keeps one out that is not
@@ -95,7 +103,8 @@ module _ {V : Type 0} (rank : V → ℕ) (lowered : V → V → V) where
       elim (insert_case rank lowered new row rows) [
         | kept before better is ↦ rw (lt-leb new.by.0 row.by.0 before, is) (with_new-better new row rows before better (row_in_time new.by.0 rows) refl
             ∙ ap (λ more. lower_row lowered row new ∷ more) (rows_with_new-along same_rank new rows rises.1))
-        | taken before worse is ↦ rw (lt-leb new.by.0 row.by.0 before, is) (with_new-other new row rows before same_rank worse rises.0 (row_in_time new.by.0 rows) refl
+        | taken before worse is ↦ rw (lt-leb new.by.0 row.by.0 before, is)
+            (with_new-other new row rows before same_rank worse rises.0 (row_in_time new.by.0 rows) refl
             ∙ rows_with_new-along same_rank (lower_row lowered new row) rows rises.1)
         | replaced at better is ↦ with_new-first new row rows (omega arith) rises.0 better ∙ rw (is, le-ltb new.by.0 row.by.0 (omega arith)) refl
         | placed later better is ↦ with_new-first new row rows (omega arith) rises.0 better ∙ rw (is, lt-ltb new.by.0 row.by.0 later) refl
@@ -117,4 +126,5 @@ module _ {V : Type 0} {below covers : V → Tree → Type 0} {gap rank : V → �
   pub gaps-rows_with_new : (most : ℕ) (new : Row V) (rows : List (Row V)) → Rises rank rows → gap new.value ≤ most
       → AllByRecursion (λ row. gap row.value ≤ most) rows → AllByRecursion (λ row. gap row.value ≤ most) (rows_with_new rank lowered new rows)
   gaps-rows_with_new most new rows rises here all = rw (rows_with_new-along rank lowered laws.lowered_rank new rows rises)
-      (All-inserted_along rank lowered (λ row. gap row.value ≤ most) (λ a b worse own other. omega (arith, laws.lowered_gap a.value b.value worse)) new rows here all)
+      (All-inserted_along rank lowered (λ row. gap row.value ≤ most) (λ a b worse own other. omega (arith, laws.lowered_gap a.value b.value worse)) new rows
+      here all)
