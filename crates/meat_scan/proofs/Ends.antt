@@ -107,7 +107,8 @@ module _ {V : Type 0} (below covers : V → Tree → Type 0) (gap rank : V → �
       → PlaceOk below covers gap n q.target.0 q.deadline.0 scanned (found_rows found) (count n) place arrival o
       → MatchOption (option_map (λ row. (row.value, row.leg)) o) ((tree : Tree) → IsSafeAt n q place arrival tree → ⊥) (SolvesEach below covers gap n q found place arrival)
   answers place arrival away None is claim =
-      by_ride (IsSafeAt n q place arrival) (λ moment safe. away safe.1) (λ at moment safe. safe) (λ tree. ⊥) (λ enter exit others safe. claim enter (all enter safe.1.enter) exit others safe)
+      by_ride (IsSafeAt n q place arrival) (λ moment safe. away safe.1) (λ at moment safe. safe) (λ tree. ⊥)
+      (λ enter exit others safe. claim enter (all enter safe.1.enter) exit others safe)
   answers place arrival away (Some row) is (limit, claim) =
       let tree = Ride row.leg.enter.0 row.leg.exit.0 claim.kids in
       let in_time = picked_in_time arrival (found_rows found place) row is in
@@ -135,7 +136,8 @@ module _ {V : Type 0} (below covers : V → Tree → Type 0) (gap rank : V → �
   start_answers : (o : Option (V × Leg)) → StartOk below covers gap n q scanned (found_rows found) (count n) o
       → MatchOption o ((tree : Tree) → IsSafeFor n q tree → ⊥) (IsStartAnswer below covers gap n q found)
   start_answers None claim =
-      by_ride (IsSafeFor n q) (λ moment safe. differ safe.1) (λ at moment safe. safe) (λ tree. ⊥) (λ enter exit others safe. claim enter (all enter safe.1.enter) exit others safe)
+      by_ride (IsSafeFor n q) (λ moment safe. differ safe.1) (λ at moment safe. safe) (λ tree. ⊥)
+      (λ enter exit others safe. claim enter (all enter safe.1.enter) exit others safe)
   start_answers (Some begin) (boards, claim) =
       let tree = Ride begin.1.enter.0 begin.1.exit.0 claim.kids in
       let tree_is : chosen_by n q found begin.1 ≡ tree = unfold_from-chosen n q.target.0 q.deadline.0 (leg_choice found)

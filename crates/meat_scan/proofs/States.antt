@@ -1,5 +1,5 @@
 -- What holds while the scan runs.
-use Rattle.std.proofs.Common.{◌≡◌, ◌≢◌, ℕ, zero, suc, get_or, map, ◌+◌, ◌<◌, ◌≤◌, List, [], ◌∷◌, ◌++◌, length, Option, None, arith, sym, subst, refl, ◌∙◌, ap, append_assoc, cond}
+use Rattle.std.proofs.Common.{◌≡◌, ◌≢◌, ℕ, zero, suc, get_or, map, ◌+◌, ◌<◌, ◌≤◌, List, [], ◌∷◌, ◌++◌, length, Option, None, arith, sym, refl, ◌∙◌, ap, append_assoc, cond}
 use Rattle.std.proofs.lemmas.List.{append-nil}
 use Rattle.std.proofs.lemmas.List.Sums.{sum_by_push}
 use Rattle.plan_model.specs.declared.model.ConnectionId.{ConnectionId}
@@ -66,17 +66,13 @@ module _ {V : Type 0} {below covers : V → Tree → Type 0} {gap rank : V → �
       let known = Known Never (id ∷ state.taken) in
       let next = next_of network good Never order (whole_order network order whole) rest state.taken id state.split in
       let stepped = scan_ok_step laws network good query (Known Never state.taken) (length state.taken) id.0 next (rows_of_profile profiles) (exit_at exits) start state.ok in
-      let counted = subst (λ n. ScanOk below covers gap rank network query known n
-      (λ place. rows_next rank lowered arrived blended network query id.0 (rows_of_profile profiles) (exit_at exits) place)
-      (λ run. exits_next rank lowered arrived blended network query id.0 (rows_of_profile profiles) (exit_at exits) run)
-      (start_next rank lowered arrived blended network query id.0 (rows_of_profile profiles) (exit_at exits) start))
-      (let e : length state.taken + 1 ≡ length (id ∷ state.taken) = omega arith in e) stepped in
+      let count : length (id ∷ state.taken) ≡ length state.taken + 1 = omega arith in
       let rows_same = same_function (rows_of_profile profiles') (λ place. rows_next rank lowered arrived blended network query id.0 (rows_of_profile profiles) (exit_at exits) place) rows_are in
       let exits_same = same_function (exit_at exits') (λ run. exits_next rank lowered arrived blended network query id.0 (rows_of_profile profiles) (exit_at exits) run) exits_are in
       record {
         taken = id ∷ state.taken;
         split = sym (append_assoc rest (id ∷ []) state.taken) ∙ state.split;
-        ok = rw (rows_same, exits_same, start_is) counted;
+        ok = rw (rows_same, exits_same, start_is, count) stepped;
         kept = kept_same rows_same exits_same start_is ∙ ap (kept_next rank lowered arrived blended network query id.0) state.kept;
       }
 
@@ -88,9 +84,7 @@ module _ {V : Type 0} {below covers : V → Tree → Type 0} {gap rank : V → �
       let all_taken : state.taken ≡ order = ap (λ (ids : List ConnectionId). ids ++ state.taken) (sym none) ∙ state.split in
       let all_count : length state.taken ≡ count network = ap length all_taken ∙ (has_each_id network order whole).as_many in
       let known = all_known network good Never order (whole_order network order whole) rest state.taken none state.split in
-      let counted = subst (λ n. ScanOk below covers gap rank network query (Known Never state.taken) n (rows_of_profile profiles) (exit_at exits) found.start) all_count state.ok in
-      solves_end below covers gap rank network query (Known Never state.taken) known differ found (exit_at exits)
-      (subst (λ rows. ScanOk below covers gap rank network query (Known Never state.taken) (count network) rows (exit_at exits) found.start) (sym rows_are) counted)
+      solves_end below covers gap rank network query (Known Never state.taken) known differ found (exit_at exits) (rw (rows_are, ← all_count) state.ok)
 
   -- what was found follows the rules
   pub rules_end : (rest : List ConnectionId) (profiles : List (ShownProfile V)) (exits : List (Option (Exit V))) (found : Found V) → rest ≡ []
