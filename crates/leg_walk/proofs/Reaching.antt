@@ -21,7 +21,7 @@ use Rattle.plan_model.proofs.Lists.{Contains-nil, Contains-map, Contains-from_ma
 use Rattle.leg_walk.proofs.Sets.{Contains-insert_key, Contains-insert_key_cases, Contains-inserted_key}
 use Rattle.leg_walk.proofs.Orders.{leg_cmp-exact}
 use Rattle.leg_walk.proofs.Places.{next_after}
-use Rattle.leg_walk.proofs.Tables.{same_next, table_row}
+use Rattle.leg_walk.proofs.Tables.{one_found, table_row}
 
 -- the leg is to do, or was seen
 abbrev pub Known : List Leg → List Leg → Leg → Type 0
@@ -57,7 +57,7 @@ module _ (n : NetworkModel) (target : ℕ) (by : Option ℕ) (choice : Leg → �
       let at = table_row n target choice leg row has in
       let m = at.from_outcome in
       let t = next_after n target by choice whole leg placed at.away m.o m.has in
-      let one : t.next ≡ m.next = same_next (choice leg (arrival_of n leg m.o.delay)) t.next m.next t.is_chosen m.is_chosen in
+      let one : t.next ≡ m.next = one_found (choice leg (arrival_of n leg m.o.delay)) t.next m.next t.is_chosen m.is_chosen in
       subst (λ (l : Leg). StandsSafely n target by choice whole l) (one ∙ ap (λ (r : GraphRow). r.leg) (sym m.is)) t.placed
 
   module _ (start : Leg) where

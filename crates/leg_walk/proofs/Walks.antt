@@ -20,7 +20,7 @@ use Rattle.leg_walk.specs.Walked.{IsWalked, IsTaken, HasRideOf}
 use Rattle.plan_model.proofs.Lists.{Contains-map, AllPairs-map, All-from_contains}
 use Rattle.leg_walk.proofs.Orders.{leg_cmp-Less}
 use Rattle.leg_walk.proofs.Places.{IsPlacedNext, next_after}
-use Rattle.leg_walk.proofs.Tables.{first_pick, first_there, Sooner, first_in_table, same_next}
+use Rattle.leg_walk.proofs.Tables.{first_pick, first_there, Sooner, first_in_table, one_found}
 use Rattle.leg_walk.proofs.Together.{IsSameNext, unfold_from-together}
 use Rattle.leg_walk.proofs.Rides.{rows_after-own}
 use Rattle.leg_walk.proofs.Whole.{ride_from}
@@ -91,7 +91,7 @@ module _ (n : NetworkModel) (valid : IsValid n) (q : Query) (choice : Leg → �
   covered : (leg : Leg) → Stands leg whole → HasRideOf rides leg
   covered leg there =
       ride_from n target rides closed leg (Some start) q.source.0 q.start.0
-      (λ own is. subst (λ (l : Leg). HasRideOf rides l) (same_next (Some start) start own refl is) (has_ride start reached.start_there))
+      (λ own is. subst (λ (l : Leg). HasRideOf rides l) (one_found (Some start) start own refl is) (has_ride start reached.start_there))
       (subst (λ (tree : Tree). Stands leg tree) (sym unfolds) there)
 
   pub walked : IsWalked n q choice start rides

@@ -5,7 +5,7 @@ use Rattle.plan_model.specs.declared.model.Leg.{Leg}
 use Rattle.plan_model.specs.declared.model.Outcome.{Outcome}
 use Rattle.plan_model.specs.NetworkModel.{NetworkModel}
 use Rattle.plan_model.specs.Network.{count, arr_of}
-use Rattle.plan_model.specs.Tree.{Tree, Done, Stuck}
+use Rattle.plan_model.specs.Tree.{Tree}
 use Rattle.plan_model.specs.Unfold.{end_of, outcomes_of, kids_after, ride_or_stuck, unfold_after, unfold_from}
 use Rattle.plan_graph.specs.declared.GraphRow.{GraphRow}
 use Rattle.plan_graph.specs.declared.Ride.{Ride}
@@ -46,32 +46,21 @@ module _ (n : NetworkModel) (target : ℕ) (rides : List Ride)
   -- after a leg
   ride_after : (leg : Leg) (more : ℕ) (own : Leg) (x : ℕ) → Stands leg (unfold_after n target (pick_after rides) more own x) → HasRideOf rides leg
   ride_after leg zero own x there = elim (cases_eq (end_of n own) target) [
-    | inl is ↦
-        let e : unfold_after n target (pick_after rides) 0 own x ≡ Done x = rw (eq-eqb (end_of n own) target is) refl in
-        absurd (subst (λ (tree : Tree). Stands leg tree) e there)
-    | inr away ↦
-        let e : unfold_after n target (pick_after rides) 0 own x ≡ Stuck (end_of n own) x = rw (ne_eqb (end_of n own) target away) refl in
-        absurd (subst (λ (tree : Tree). Stands leg tree) e there)
+    | inl is ↦ absurd (rw (eq-eqb (end_of n own) target is) at there)
+    | inr away ↦ absurd (rw (ne_eqb (end_of n own) target away) at there)
   ]
   ride_after leg (suc more) own x there = elim (cases_eq (end_of n own) target) [
-    | inl is ↦
-        let e : unfold_after n target (pick_after rides) (suc more) own x ≡ Done x = rw (eq-eqb (end_of n own) target is) refl in
-        absurd (subst (λ (tree : Tree). Stands leg tree) e there)
-    | inr away ↦
-        let next = unfold_after n target (pick_after rides) more in
-        let e : unfold_after n target (pick_after rides) (suc more) own x ≡ ride_or_stuck n next (pick_after rides own x) (end_of n own) x = rw (ne_eqb (end_of n own) target away) refl in
-        ride_of_first leg next (end_of n own) x (pick_after rides own x) (picked_ride own x) (ride_after leg more) (subst (λ (tree : Tree). Stands leg tree) e there)
+    | inl is ↦ absurd (rw (eq-eqb (end_of n own) target is) at there)
+    | inr away ↦ ride_of_first leg (unfold_after n target (pick_after rides) more) (end_of n own) x (pick_after rides own x) (picked_ride own x)
+        (ride_after leg more)
+        (rw (ne_eqb (end_of n own) target away) at there)
   ]
 
   -- from a first leg on, where that has a ride
   pub ride_from : (leg : Leg) (first : Option Leg) (p x : ℕ) → ((own : Leg) → first ≡ Some own → HasRideOf rides own)
       → Stands leg (unfold_from n target (pick_after rides) first p x) → HasRideOf rides leg
   ride_from leg first p x begins there = elim (cases_eq p target) [
-    | inl is ↦
-        let e : unfold_from n target (pick_after rides) first p x ≡ Done x = rw (eq-eqb p target is) refl in
-        absurd (subst (λ (tree : Tree). Stands leg tree) e there)
-    | inr away ↦
-        let next = unfold_after n target (pick_after rides) (count n - 1) in
-        let e : unfold_from n target (pick_after rides) first p x ≡ ride_or_stuck n next first p x = rw (ne_eqb p target away) refl in
-        ride_of_first leg next p x first begins (ride_after leg (count n - 1)) (subst (λ (tree : Tree). Stands leg tree) e there)
+    | inl is ↦ absurd (rw (eq-eqb p target is) at there)
+    | inr away ↦ ride_of_first leg (unfold_after n target (pick_after rides) (count n - 1)) p x first begins (ride_after leg (count n - 1))
+        (rw (ne_eqb p target away) at there)
   ]
