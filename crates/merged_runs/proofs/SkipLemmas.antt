@@ -1,9 +1,10 @@
 -- What is left of the runs of a network up to a moment.
+use Rattle.std.proofs.lemmas.Grind.{common_steps}
 use Rattle.std.proofs.Common.{◌≡◌, ℕ, suc, ◌+◌, ◌-◌, ◌<◌, ◌≤◌, inl, inr, ⊎_elim, Bool, true, false, cond, ltb, List, [], ◌∷◌, ◌++◌, length, get_or, set, All, AllPairs, arith, refl, sym, ap, ◌∙◌}
 use Rattle.std.specs.Prelude.{filter}
 use Rattle.std.proofs.lemmas.Bool.{cases_lt, cases_eq, lt-ltb, ltb-true, cases_Bool}
 use Rattle.std.proofs.lemmas.Bool.Decides.{nat_tests}
-use Rattle.std.proofs.lemmas.List.{get_or-set_same, get_or-set_other, get_or_past, length-set}
+use Rattle.std.proofs.lemmas.List.{get_or-set_same, get_or-set_other, length-set}
 use Rattle.std.proofs.lemmas.List.Elements.{All-tail, All-head, All-cons, All-weaker, filter_agree, filter_passes}
 use Rattle.plan_model.specs.declared.model.ConnectionId.{ConnectionId}
 use Rattle.plan_model.specs.NetworkModel.{NetworkModel}
@@ -13,7 +14,7 @@ use Rattle.plan_model.proofs.Lists.{AllPairs-tail}
 use Rattle.plan_model.proofs.Skips.{dep_of_earlier}
 use Rattle.merged_runs.specs.Merged.{in_order, rest_of, AreStretches, DepartsInOrder, IsParted}
 use Rattle.merged_runs.proofs.ScanLemmas.{IsScanOrder-in_order}
-use Rattle.merged_runs.proofs.StretchLemmas.{of_run, run_between, waiting, filter_none}
+use Rattle.merged_runs.proofs.StretchLemmas.{run_between, filter_none}
 
 late_alike : (p late : ConnectionId → Bool) (ids : List ConnectionId) → All (λ id. late id ≡ true) ids
     → filter p ids ≡ filter (λ id. cond (late id) (p id) false) ids
@@ -122,22 +123,11 @@ module _ (n : NetworkModel) (last : ℕ) (starts left new : List ℕ) (run : ℕ
   own : (id : ConnectionId) → id.0 < get_or left (run_of n id.0) 0
       → IsParted n last (get_or starts (run_of n id.0) 0) (get_or new (run_of n id.0) 0) (get_or new (run_of n id.0) 0)
       (get_or left (run_of n id.0) 0) × (get_or starts (run_of n id.0) 0 ≤ id.0)
-  own id h =
-      let within : run_of n id.0 < length left = waiting n left id.0 h in
-      let there : id.0 < count n = omega (arith, h, left_within n starts left s (run_of n id.0) within) in
-      (parted (run_of n id.0) within, (of_run n starts s.begin id.0 there).from)
+  own id h = grind (arith, common_steps)
 
   -- what is left now is what was left and departs in time
   kept_soon : (id : ConnectionId) → ltb id.0 (get_or new (run_of n id.0) 0) ≡ cond (ltb last (dep_of n id.0)) false (ltb id.0 (get_or left (run_of n id.0) 0))
-  kept_soon id = elim (cases_lt id.0 (get_or left (run_of n id.0) 0)) [
-    | inl old ↦ let o = own id old in same_tests id.0 _ _ last _ old (o.0.soon id.0 o.1) (λ after. o.0.late id.0 after old)
-    | inr past ↦
-        let less : get_or new (run_of n id.0) 0 ≤ get_or left (run_of n id.0) 0 =
-        ⊎_elim (λ (within : run_of n id.0 < length left). (parted (run_of n id.0) within).end)
-        (λ (past : length left ≤ run_of n id.0). omega (arith, get_or_past new (run_of n id.0) 0 (omega (arith, past, l.size))))
-        (cases_lt (run_of n id.0) (length left)) in
-        none_left id.0 _ _ (ltb last (dep_of n id.0)) past less
-  ]
+  kept_soon id = grind (arith, common_steps)
 
   pub rest_of-lowered : IsValid n → IsPrefixUpTo n last (rest_of n left) (rest_of n new)
   unfolding rest_of
