@@ -1,6 +1,6 @@
 -- When all connections are scanned.
+use Rattle.std.proofs.lemmas.Grind.{common_steps}
 use Rattle.std.proofs.Common.{◌≡◌, ◌≢◌, ℕ, zero, suc, ◌+◌, ◌-◌, ◌<◌, ◌≤◌, List, [], ◌∷◌, Option, Some, None, MatchOption, arith, sym, subst, refl, inl, inr, ◌∙◌, ap}
-use Rattle.std.specs.List.{AllByRecursion}
 use Rattle.std.specs.Option.{option_map}
 use Rattle.std.proofs.lemmas.Bool.{cases_lt}
 use Rattle.std.proofs.lemmas.Bool.Decides.{nat_tests}
@@ -13,13 +13,13 @@ use Rattle.plan_model.specs.Tree.{Tree, Kids, Done, Ride, Stuck, Nil, Kid, heigh
 use Rattle.plan_model.specs.Strategy.{IsSafe, AreSafe, IsSafeFor}
 use Rattle.plan_model.specs.Unfold.{end_of, kids_after, ride_of, ride_or_stuck, unfold_after, unfold_from, by_place}
 use Rattle.stop_profile.specs.declared.Row.{Row}
-use Rattle.stop_profile.specs.Inserts.{row_in_time, Rises}
+use Rattle.stop_profile.specs.Inserts.{row_in_time}
 use Rattle.trip_exit.specs.Offers.{Exit}
 use Rattle.meat_scan.specs.Found.{Found, found_rows, leg_choice, chosen_at, chosen_by}
 use Rattle.meat_scan.specs.Solves.{IsSafeAt, HasAnswers, SolvesEach, IsStartAnswer}
 use Rattle.meat_scan.proofs.Ways.{boards-limit_of}
 use Rattle.stop_profile.proofs.Looks.{picked_in_time}
-use Rattle.meat_scan.proofs.Claims.{IsChosen, ChosenKids, by_ride, PlaceOk, RunOk}
+use Rattle.meat_scan.proofs.Claims.{IsChosen, ChosenKids, by_ride, PlaceOk}
 use Rattle.meat_scan.proofs.Starts.{StartOk}
 use Rattle.meat_scan.proofs.ScanStep.{ScanOk}
 
@@ -53,9 +53,7 @@ module _ {V : Type 0} (n : NetworkModel) (target deadline : ℕ) (choice : ℕ �
   -- the ride of a leg, by what its kids are
   ride_of-kids : (enter exit : ℕ) (kids : Kids) (rides : ℕ) (leg : Leg) → leg.enter.0 ≡ enter → leg.exit.0 ≡ exit
       → kids_after (after_leg rides leg) (arr_of n exit) (outcomes n exit) ≡ kids → ride_of n (after_leg rides) leg ≡ Ride enter exit kids
-  ride_of-kids enter exit kids rides leg enters exits same =
-      let after = λ (leave : ℕ). kids_after (after_leg rides leg) (arr_of n leave) (outcomes n leave) in
-      ap (λ i. Ride i leg.exit.0 (after leg.exit.0)) enters ∙ ap (λ j. Ride enter j (after j)) exits ∙ ap (Ride enter exit) same
+  ride_of-kids enter exit kids rides leg enters exits same = grind (arith, common_steps, nat_tests)
 
   mutual
     -- a chosen and safe tree of at most so many rides is what is unfolded
@@ -164,12 +162,4 @@ module _ {V : Type 0} (below covers : V → Tree → Type 0) (gap rank : V → �
     (none : (id : ℕ) → scanned id → ⊥) (rows : ℕ → List (Row V)) (empty : (place : ℕ) → rows place ≡ []) (exits : ℕ → Option (Exit V))
     (no_exits : (run : ℕ) → exits run ≡ None) where
   pub scan_ok_start : ScanOk below covers gap rank network query scanned 0 rows exits None
-  scan_ok_start = record {
-    places = λ place arrival. subst
-        (λ (list : List (Row V)). PlaceOk below covers gap network query.target.0 query.deadline.0 scanned rows 0 place arrival (row_in_time arrival list))
-        (sym (empty place)) (λ enter known exit others safe. none enter known);
-    runs = λ run. subst (RunOk below covers gap network query.target.0 query.deadline.0 scanned rows 0 run) (sym (no_exits run)) (λ other others can. none other can.known);
-    begins = λ enter known exit others safe. none enter known;
-    rises = λ place. subst (Rises rank) (sym (empty place)) tt;
-    gaps = λ place. subst (λ (list : List (Row V)). AllByRecursion (λ row. gap row.value ≤ 0) list) (sym (empty place)) tt;
-  }
+  scan_ok_start = grind (arith, common_steps, nat_tests)

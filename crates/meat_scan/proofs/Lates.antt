@@ -1,15 +1,15 @@
 -- Connections that depart after the deadline change nothing.
+use Rattle.std.proofs.lemmas.Grind.{common_steps}
 use Rattle.std.proofs.Common.{◌≡◌, ℕ, ◌+◌, ◌<◌, Bool, true, false, cond, List, [], ◌∷◌, ◌++◌, length, Option, None, All, arith, sym, ap, refl, ◌∙◌, subst, inl, inr, append_assoc, append-nil}
 use Rattle.std.proofs.lemmas.Bool.{cases_eq}
 use Rattle.std.proofs.lemmas.Bool.Decides.{nat_tests}
 use Rattle.std.proofs.lemmas.List.Elements.{All-tail, All-head}
-use Rattle.std.proofs.lemmas.List.Sums.{sum_by-append}
 use Rattle.plan_model.specs.declared.model.ConnectionId.{ConnectionId}
 use Rattle.plan_model.specs.declared.model.Leg.{Leg}
 use Rattle.plan_model.specs.declared.model.Outcome.{Outcome}
 use Rattle.plan_model.specs.declared.model.Query.{Query}
 use Rattle.plan_model.specs.NetworkModel.{NetworkModel}
-use Rattle.plan_model.specs.Network.{count, connection, from_of, to_of, dep_of, arr_of, run_of, outcomes, IsValid}
+use Rattle.plan_model.specs.Network.{count, connection, to_of, dep_of, arr_of, run_of, outcomes, IsValid}
 use Rattle.plan_model.specs.Order.{IsScanOrder, IsPrefixUpTo}
 use Rattle.plan_model.specs.Tree.{Tree}
 use Rattle.value_laws.specs.ScoreLaws.{ScoreLaws}
@@ -18,7 +18,7 @@ use Rattle.stop_profile.specs.Shown.{ShownProfile}
 use Rattle.trip_exit.specs.Offers.{Exit}
 use Rattle.meat_scan.specs.Step.{left_by, boarding_exit, exits_next, rows_next, start_next}
 use Rattle.meat_scan.specs.Values.{value_after_arrival, values_after, in_front}
-use Rattle.meat_scan.specs.Tables.{rows_of_profile, exit_at, has_way, HasRoom, IsEmpty}
+use Rattle.meat_scan.specs.Tables.{rows_of_profile, exit_at, HasRoom, IsEmpty}
 use Rattle.meat_scan.proofs.States.{ScanState, first_state, next_state, id_there}
 
 -- no value after an arrival past the deadline, where no place has rows
@@ -68,12 +68,7 @@ module _ {V : Type 0} (rank : V → ℕ) (lowered : V → V → V) (arrived : �
 -- the tables have room for less
 pub room_less : {V : Type 0} (network : NetworkModel) (rest skipped : List ConnectionId) (profiles : List (ShownProfile V)) (exits : List (Option (Exit V)))
     (kids : List V) → HasRoom network (rest ++ skipped) profiles exits kids → HasRoom network rest profiles exits kids
-room_less network rest skipped profiles exits kids room = record {
-  places = room.places;
-  runs = room.runs;
-  room = λ place within. omega (arith, room.room place within, sum_by-append (λ (i : ConnectionId). cond (has_way network place (from_of network i.0)) 1 0) rest skipped);
-  outcomes = room.outcomes;
-}
+room_less network rest skipped profiles exits kids room = grind (arith, common_steps, nat_tests)
 
 module _ {V : Type 0} {below covers : V → Tree → Type 0} {gap rank : V → ℕ} {arrived : ℕ → V} {blended : List Outcome → List V → V}
     {lowered : V → V → V} (laws : ScoreLaws below covers gap rank arrived blended lowered) (network : NetworkModel) (good : IsValid network) (query : Query)

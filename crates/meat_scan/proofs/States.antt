@@ -1,4 +1,6 @@
 -- What holds while the scan runs.
+use Rattle.std.proofs.lemmas.Bool.Decides.{nat_tests}
+use Rattle.std.proofs.lemmas.Grind.{common_steps}
 use Rattle.std.proofs.Common.{◌≡◌, ◌≢◌, ℕ, zero, suc, get_or, map, ◌+◌, ◌<◌, ◌≤◌, List, [], ◌∷◌, ◌++◌, length, Option, None, arith, sym, refl, ◌∙◌, ap, append_assoc, cond}
 use Rattle.std.proofs.lemmas.List.{append-nil}
 use Rattle.std.proofs.lemmas.List.Sums.{sum_by_push}
@@ -120,12 +122,7 @@ module _ {V : Type 0} (network : NetworkModel) (rest : List ConnectionId) (id : 
   pub room_next : (profiles' : List (ShownProfile V)) (exits' : List (Option (Exit V))) (kids' : List V)
       → ((place : ℕ) → spare_at profiles place ≤ spare_at profiles' place + cond (has_way network place (from_of network id.0)) 1 0)
       → length profiles' ≡ length profiles → length exits' ≡ length exits → length kids' ≡ length kids → HasRoom network rest profiles' exits' kids'
-  room_next profiles' exits' kids' spare same_places same_runs same_kids = record {
-    places = same_places ∙ room.places;
-    runs = λ i inside. omega (arith, room.runs i inside);
-    room = λ place within. omega (arith, room.room place (omega arith), boardable-push network place rest id, spare place);
-    outcomes = omega (arith, room.outcomes);
-  }
+  room_next profiles' exits' kids' spare same_places same_runs same_kids = grind (arith, common_steps, nat_tests)
 
 -- the rows that are found are those of the profiles
 pub found_rows-profiles : {V : Type 0} (start : Option (V × Leg)) (target : ℕ) (profiles : List (ShownProfile V))

@@ -1,4 +1,5 @@
 -- One way after the other.
+use Rattle.std.proofs.lemmas.Grind.{common_steps}
 use Rattle.std.proofs.Common.{◌≡◌, ◌≢◌, ℕ, suc, ◌+◌, ◌<◌, ◌≤◌, true, List, [], ◌∷◌, ◌++◌, Option, Some, None, AllPairs, length, get_or, take, cond, slice_get}
 use Rattle.std.proofs.Common.{arith, sym, ap, ◌∙◌, refl, inl, inr, subst, set, length-take-le, get_or-set_same, get_or-set_other}
 use Rattle.std.specs.Prelude.{find, ◌==◌, is_some}
@@ -33,10 +34,7 @@ option_or-None (Some way) = refl
 
 with_way-none : {V : Type 0} (rank : V → ℕ) (lowered : V → V → V) (target dep : ℕ) (value : V) (leg : Leg) (place : ℕ) (rows : List (Row V))
     → with_way rank lowered target dep value leg None place rows ≡ rows
-with_way-none rank lowered target dep value leg place rows = elim (cases_eq place target) [
-  | inl here ↦ grind (arith, nat_tests)
-  | inr away ↦ grind (arith, nat_tests)
-]
+with_way-none rank lowered target dep value leg place rows = grind (arith, common_steps, nat_tests)
 
 -- one, where there is a way
 abbrev pub way_number : Option Way → ℕ
