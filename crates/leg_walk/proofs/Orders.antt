@@ -1,4 +1,5 @@
 -- The order of legs.
+use Rattle.std.proofs.lemmas.Grind.{common_steps}
 use Rattle.std.proofs.Common.{◌≡◌, ℕ, ◌<◌, ◌⊎◌, arith, refl, inl, inr, ap}
 use Rattle.std.specs.Cmp.{IsTotalOrder, on_total, then_total}
 use Rattle.std.specs.Ordering.{nat_cmp, ordering_then}
@@ -29,7 +30,4 @@ leg_cmp-exact a b is =
     ap (λ (parts : ℕ × ℕ). leg_of parts.0 parts.1) (exact_pairs nat_cmp nat_cmp exact_unsigned exact_unsigned (a.enter.0, a.exit.0) (b.enter.0, b.exit.0) is)
 
 pub leg_cmp-Less : (a b : Leg) → leg_cmp a b ≡ Less → Precedes a b
-leg_cmp-Less a b is = elim (ordering_then-Less (nat_cmp a.enter.0 b.enter.0) (nat_cmp a.exit.0 b.exit.0) is) [
-  | inl less ↦ inl (nat_cmp-Less a.enter.0 b.enter.0 less)
-  | inr both ↦ inr (exact_unsigned a.enter.0 b.enter.0 both.0, nat_cmp-Less a.exit.0 b.exit.0 both.1)
-]
+leg_cmp-Less a b is = grind (arith, common_steps, nat_tests)

@@ -1,4 +1,6 @@
 -- The rows of a table, and what they pick.
+use Rattle.std.proofs.lemmas.Bool.Decides.{nat_tests}
+use Rattle.std.proofs.lemmas.Grind.{common_steps}
 use Rattle.std.proofs.Common.{◌≡◌, ◌≢◌, ℕ, ◌+◌, ◌≤◌, ◌<◌, List, [], ◌∷◌, map, Option, Some, None, AllPairs, Contains, arith, sym, subst, refl, inl, inr, ◌∙◌, ap}
 use Rattle.std.proofs.lemmas.Bool.{cases_lt, cases_eq, ne_eqb, eq-eqb, le-leb, lt-leb}
 use Rattle.plan_model.specs.declared.model.Leg.{Leg}
@@ -139,28 +141,7 @@ module _ (choice : ℕ → Option Leg) (scheduled : ℕ) where
     before_row : (os : List Outcome) (x : ℕ) (c : IsChosenAt n place choice scheduled os x) (o : Outcome) → Contains os o → x < scheduled + o.delay
         → IsChosenAt n place choice scheduled os (scheduled + o.delay) → (next : Leg) → choice (scheduled + o.delay) ≡ Some next
         → MayPrecede n place (row_by x c.next) (row_by (scheduled + o.delay) next)
-    before_row os x c o has later other next is =
-        let two : other.next ≡ next = one_found (choice (scheduled + o.delay)) other.next next other.is_chosen is in
-        let its : limit_of n place next ≡ Some other.limit = ap (limit_of n place) (sym two) ∙ other.is_limit in
-        elim (cases_lt c.limit (scheduled + o.delay)) [
-          | inl late ↦ record {
-            by = later;
-            limits = λ first second a b.
-                let one = one_found (limit_of n place c.next) first c.limit a c.is_limit in
-                let last = one_found (limit_of n place next) second other.limit b its in
-                omega (arith, one, last, late, other.in_time);
-            legs = λ same.
-                let one = one_found (limit_of n place c.next) other.limit c.limit (same ∙ its) c.is_limit in
-                absurd (omega (arith, one, late, other.in_time));
-          }
-          | inr early ↦
-              let one : c.next ≡ next = one_found (choice (scheduled + o.delay)) c.next next (c.kept o has (omega (arith, later)) early) is in
-              record {
-                by = later;
-                limits = λ first second a b. let e = one_found (limit_of n place next) first second (ap (limit_of n place) (sym one) ∙ a) b in omega (arith, e);
-                legs = λ same. one;
-              }
-        ]
+    before_row os x c o has later other next is = grind (arith, common_steps, nat_tests)
 
     -- the table's rows stand as they may
     pub before_for : (os : List Outcome) → AllPairs Sooner os
