@@ -1,4 +1,6 @@
 -- The graph of the rides that were walked, with rows by limits, unfolds to the same tree and is pruned.
+use Rattle.std.proofs.lemmas.Bool.Decides.{nat_tests}
+use Rattle.std.proofs.lemmas.Grind.{common_steps}
 use Rattle.std.proofs.Common.{◌≡◌, ◌≢◌, ℕ, ◌<◌, List, map, Option, Some, Contains, All, AllPairs, arith, sym, subst, ◌∙◌, ap}
 use Rattle.std.specs.Prelude.{slice_index_or}
 use Rattle.std.proofs.lemmas.List.Elements.{All-contains, All-map}
@@ -107,14 +109,7 @@ module _ (n : NetworkModel) (valid : IsValid n) (q : Query) (source : ExpandedGr
 
     -- rows by limits stand as they may, where their moments rise
     may_precede : (y z : GraphRow) → limit_of n place y.leg ≡ Some y.by.0 → limit_of n place z.leg ≡ Some z.by.0 → y.by.0 < z.by.0 → MayPrecede n place y z
-    may_precede y z here other less = record {
-      by = less;
-      limits = λ first second a b.
-          let one = one_found (limit_of n place y.leg) first y.by.0 a here in
-          let two = one_found (limit_of n place z.leg) second z.by.0 b other in
-          omega (arith, one, two, less);
-      legs = λ same. let e = one_found (limit_of n place y.leg) y.by.0 z.by.0 here (same ∙ other) in absurd (omega (arith, e, less));
-    }
+    may_precede y z here other less = grind (arith, common_steps, nat_tests)
 
     pub ready_own : IsReadyRide n target own
     ready_own = record {
