@@ -16,7 +16,7 @@ use Rattle.stop_profile.specs.declared.Row.{Row}
 use Rattle.stop_profile.specs.Inserts.{row_in_time}
 use Rattle.trip_exit.specs.Offers.{Exit}
 use Rattle.meat_scan.specs.Found.{Found, found_rows, leg_choice, chosen_at, chosen_by}
-use Rattle.meat_scan.specs.Solves.{IsSafeAt, HasAnswers, SolvesEach, IsStartAnswer}
+use Rattle.meat_scan.specs.Solves.{IsSafeAt, HasAnswers, SolvesEach, IsStartAnswer, SolvesStart}
 use Rattle.meat_scan.proofs.Ways.{boards-limit_of}
 use Rattle.stop_profile.proofs.Looks.{picked_in_time}
 use Rattle.meat_scan.proofs.Claims.{IsChosen, ChosenKids, by_ride, PlaceOk}
@@ -163,3 +163,22 @@ module _ {V : Type 0} (below covers : V → Tree → Type 0) (gap rank : V → �
     (no_exits : (run : ℕ) → exits run ≡ None) where
   pub scan_ok_start : ScanOk below covers gap rank network query scanned 0 rows exits None
   scan_ok_start = grind (arith, common_steps, nat_tests)
+
+-- the tree that the start leg chooses is the one
+start_solved : {V : Type 0} (below covers : V → Tree → Type 0) (gap : V → ℕ) (n : NetworkModel) (q : Query) (found : Found V) (start : Option (V × Leg))
+    → MatchOption start ((tree : Tree) → IsSafeFor n q tree → ⊥) (IsStartAnswer below covers gap n q found)
+    → SolvesStart below covers gap n q (option_map (λ s. s.0) start)
+start_solved below covers gap n q found None none = none
+start_solved below covers gap n q found (Some start) answer = record {
+  tree = chosen_by n q found start.1;
+  safe = answer.safe;
+  covers_tree = answer.covers_chosen;
+  below_safe = answer.below_safe;
+  gap_within = answer.gap_within;
+}
+
+pub value_solved : {V : Type 0} (below covers : V → Tree → Type 0) (gap : V → ℕ) (n : NetworkModel) (q : Query) (found : Found V) (start : Option (V × Leg))
+    (value : Option V) → MatchOption start ((tree : Tree) → IsSafeFor n q tree → ⊥) (IsStartAnswer below covers gap n q found)
+    → value ≡ option_map (λ s. s.0) start → SolvesStart below covers gap n q value
+value_solved below covers gap n q found start value answer is =
+    subst (SolvesStart below covers gap n q) (sym is) (start_solved below covers gap n q found start answer)

@@ -11,7 +11,7 @@ use Rattle.plan_model.specs.Network.{count, run_of, no_connection, IsValid}
 use Rattle.plan_model.proofs.ScanOrders.{count_in_order}
 use Rattle.stop_profile.specs.Shown.{ShownProfile}
 use Rattle.trip_exit.specs.Offers.{Exit}
-use Rattle.meat_scan.specs.Tables.{rows_of_profile, spare_at, exit_at, has_way, FitsTables}
+use Rattle.meat_scan.specs.Tables.{rows_of_profile, spare_at, exit_at, has_way, FitsTables, ShownTables, capacity_at, IsEmpty}
 
 -- one connection more is counted, where it passes
 pub count_by-take_more : (p : Connection → Bool) (connections : List Connection) (i : ℕ) → i < length connections
@@ -56,4 +56,21 @@ fits {V} network valid runs below room profiles exits kids long counts as_many e
     room = λ place inside. omega (arith, count_in_order (λ c. has_way network place c.from.0) network order whole, counts place (omega arith), enough place (omega arith));
     outcomes = omega arith;
   };
+}
+
+-- tables with as much room, and with nothing in them, fit the network again
+pub fits_again : {V : Type 0} (network : NetworkModel) (old new : ShownTables V) (used : List (ShownProfile V)) → FitsTables network old → IsEmpty new.profiles new.exits
+    → ((place : ℕ) → spare_at new.profiles place ≡ capacity_at used place) → ((place : ℕ) → capacity_at used place ≡ capacity_at old.profiles place)
+    → length new.profiles ≡ length network.change → length new.exits ≡ length old.exits → length new.kids ≡ length old.kids → FitsTables network new
+fits_again network old new used fit empty spare same places runs outcomes = record {
+  valid = fit.valid;
+  empty = empty;
+  room = λ order whole.
+      let room = fit.room order whole in
+      record {
+        places = places;
+        runs = λ i inside. omega (arith, room.runs i inside, runs);
+        room = λ place within. omega (arith, room.room place (omega (arith, within, places, room.places)), spare place, same place);
+        outcomes = omega (arith, room.outcomes, outcomes);
+      };
 }
