@@ -2,9 +2,8 @@
 use Rattle.std.proofs.lemmas.Grind.{common_steps}
 use Rattle.std.proofs.Common.{◌≡◌, ℕ, suc, ◌+◌, ◌-◌, ◌<◌, ◌≤◌, inl, inr, ⊎_elim, Bool, true, false, cond, ltb, List, [], ◌∷◌, ◌++◌, length, get_or, set, All, AllPairs, arith, refl, sym, ap, ◌∙◌}
 use Rattle.std.specs.Prelude.{filter}
-use Rattle.std.proofs.lemmas.Bool.{cases_lt, cases_eq, lt-ltb, ltb-true, cases_Bool}
+use Rattle.std.proofs.lemmas.Bool.{cases_lt, lt-ltb, ltb-true, cases_Bool}
 use Rattle.std.proofs.lemmas.Bool.Decides.{nat_tests}
-use Rattle.std.proofs.lemmas.List.{get_or-set_same, get_or-set_other, length-set}
 use Rattle.std.proofs.lemmas.List.Elements.{All-tail, All-head, All-cons, All-weaker, filter_agree, filter_passes}
 use Rattle.plan_model.specs.declared.model.ConnectionId.{ConnectionId}
 use Rattle.plan_model.specs.NetworkModel.{NetworkModel}
@@ -51,32 +50,14 @@ left_within n starts left s r h = let next = s.begin.each (r + 1) (omega (arith,
 
 -- where the last one departs in time, all do
 pub IsParted-whole : (n : NetworkModel) (last from to : ℕ) → from ≤ to → DepartsInOrder n from to → (from < to → dep_of n (to - 1) ≤ last) → IsParted n last from to to to
-IsParted-whole n last from to ordered rising soon = record {
-  begin = ordered;
-  ordered = omega arith;
-  end = omega arith;
-  soon = λ i first before. omega (arith, rising i (to - 1) first (omega arith) (omega arith), soon (omega arith));
-  late = λ i after before. absurd (omega arith);
-}
+IsParted-whole n last from to ordered rising soon = grind (arith, common_steps, nat_tests)
 
 module _ (n : NetworkModel) (last from low high to : ℕ) (p : IsParted n last from low high to) (rising : DepartsInOrder n from to) where
   pub IsParted-up : (middle : ℕ) → low ≤ middle → middle < high → dep_of n middle ≤ last → IsParted n last from (middle + 1) high to
-  IsParted-up middle ge less soon = record {
-    begin = omega (arith, p.begin);
-    ordered = omega arith;
-    end = p.end;
-    soon = λ i first before. omega (arith, rising i middle first (omega arith) (omega (arith, p.end)), soon);
-    late = p.late;
-  }
+  IsParted-up middle ge less soon = grind (arith, common_steps, nat_tests)
 
   pub IsParted-down : (middle : ℕ) → low ≤ middle → middle < high → last < dep_of n middle → IsParted n last from low middle to
-  IsParted-down middle ge less late = record {
-    begin = p.begin;
-    ordered = ge;
-    end = omega (arith, p.end);
-    soon = p.soon;
-    late = λ i after before. omega (arith, rising middle i (omega (arith, p.begin)) after before, late);
-  }
+  IsParted-down middle ge less late = grind (arith, common_steps, nat_tests)
 
 -- the ends of the runs before this one are lowered to those that depart by a moment
 pub record AreLowered (n : NetworkModel) (last : ℕ) (starts left : List ℕ) (run : ℕ) (new : List ℕ) : Type 0 where
@@ -90,12 +71,7 @@ module _ (n : NetworkModel) (last : ℕ) (starts left : List ℕ) where
 
   pub AreLowered-more : (run by : ℕ) (new : List ℕ) → run < length left → AreLowered n last starts left run new
       → IsParted n last (get_or starts run 0) by by (get_or left run 0) → AreLowered n last starts left (run + 1) (set new run by)
-  AreLowered-more run by new h l parted = record {
-    size = omega (arith, length-set new run by, l.size);
-    done = λ r less within. ⊎_elim (λ (e : r ≡ run). rw (e, get_or-set_same new run by 0 (omega (arith, l.size))) parted)
-        (λ other. rw (get_or-set_other new run r by 0 other) (l.done r (omega arith) within)) (cases_eq r run);
-    same = λ r ge. get_or-set_other new run r by 0 (λ e. omega arith) ∙ l.same r (omega arith);
-  }
+  AreLowered-more run by new h l parted = grind (arith, common_steps, nat_tests)
 
 same_tests : (i old new last dep : ℕ) → i < old → (i < new → dep ≤ last) → (new ≤ i → last < dep) → ltb i new ≡ cond (ltb last dep) false (ltb i old)
 same_tests i old new last dep before soon late = grind (arith, nat_tests)
@@ -114,11 +90,7 @@ module _ (n : NetworkModel) (last : ℕ) (starts left new : List ℕ) (run : ℕ
   parted r h = l.done r (omega arith) h
 
   pub AreStretches-lowered : AreStretches n starts new
-  AreStretches-lowered = record {
-    begin = s.begin;
-    size = omega (arith, s.size, l.size);
-    within = λ r h. let within : r < length left = omega (arith, l.size) in let p = parted r within in (p.begin, omega (arith, p.end, (s.within r within).1));
-  }
+  AreStretches-lowered = grind (arith, common_steps, nat_tests)
 
   own : (id : ConnectionId) → id.0 < get_or left (run_of n id.0) 0
       → IsParted n last (get_or starts (run_of n id.0) 0) (get_or new (run_of n id.0) 0) (get_or new (run_of n id.0) 0)

@@ -1,4 +1,5 @@
 -- Where the runs of a network start.
+use Rattle.std.proofs.lemmas.Bool.Decides.{nat_tests}
 use Rattle.std.proofs.lemmas.Grind.{common_steps}
 use Rattle.std.proofs.Common.{◌≡◌, ℕ, ◌+◌, ◌-◌, ◌<◌, ◌≤◌, ⊎_elim, List, [], ◌∷◌, ◌++◌, length, get_or, arith}
 use Rattle.std.proofs.lemmas.Bool.{cases_lt}
@@ -15,12 +16,7 @@ pub record AreStartsBelow (n : NetworkModel) (i : ℕ) (starts : List ℕ) : Typ
   pub coming : (j : ℕ) → i ≤ j → j < count n → length starts ≤ run_of n j + 1
 
 pub AreStartsBelow-none : (n : NetworkModel) → AreStartsBelow n 0 []
-AreStartsBelow-none n = record {
-  each = λ r h. absurd (omega arith);
-  few = omega arith;
-  passed = λ j h. absurd (omega arith);
-  coming = λ j h k. omega arith;
-}
+AreStartsBelow-none n = grind (arith, common_steps, nat_tests)
 
 each_push : (n : NetworkModel) (starts : List ℕ) (s : ℕ) → ((r : ℕ) → r < length starts → IsStart n r (get_or starts r 0)) → IsStart n (length starts) s
     → (r : ℕ) → r < length (starts ++ s ∷ []) → IsStart n r (get_or (starts ++ s ∷ []) r 0)

@@ -1,4 +1,5 @@
 -- What is left of the runs of a network.
+use Rattle.std.proofs.lemmas.Bool.Decides.{nat_tests}
 use Rattle.std.proofs.lemmas.Grind.{common_steps}
 use Rattle.std.proofs.Common.{◌≡◌, ℕ, zero, suc, ◌+◌, ◌-◌, ◌<◌, ◌≤◌, ⊎_elim, Bool, true, false, cond, ltb, List, [], ◌∷◌, ◌++◌, length, get_or, set, take, drop, add-one}
 use Rattle.std.proofs.Common.{All, AllPairs, arith, refl, sym, ap, ◌∙◌, subst}
@@ -108,8 +109,7 @@ rest_of-none n starts left s none =
     le-ltb id.0 (get_or left (run_of n id.0) 0) (omega (arith, own.from, none (run_of n id.0) (omega (arith, own.run, s.size)))))
 
 same_test : (i end : ℕ) → (i ≡ end - 1 → ⊥) → ltb i (end - 1) ≡ ltb i end
-same_test i end other =
-    ⊎_elim (λ less. lt-ltb i (end - 1) less ∙ sym (lt-ltb i end (omega arith))) (λ ge. le-ltb i (end - 1) ge ∙ sym (le-ltb i end (omega arith))) (cases_lt i (end - 1))
+same_test i end other = grind (arith, common_steps, nat_tests)
 
 pub waiting : (n : NetworkModel) (left : List ℕ) (i : ℕ) → i < get_or left (run_of n i) 0 → run_of n i < length left
 waiting n left i h = ⊎_elim (λ less. less) (λ ge. absurd (omega (arith, h, get_or_past left (run_of n i) 0 ge))) (cases_lt (run_of n i) (length left))
