@@ -180,5 +180,4 @@ start_solved below covers gap n q found (Some start) answer = record {
 pub value_solved : {V : Type 0} (below covers : V → Tree → Type 0) (gap : V → ℕ) (n : NetworkModel) (q : Query) (found : Found V) (start : Option (V × Leg))
     (value : Option V) → MatchOption start ((tree : Tree) → IsSafeFor n q tree → ⊥) (IsStartAnswer below covers gap n q found)
     → value ≡ option_map (λ s. s.0) start → SolvesStart below covers gap n q value
-value_solved below covers gap n q found start value answer is =
-    subst (SolvesStart below covers gap n q) (sym is) (start_solved below covers gap n q found start answer)
+value_solved below covers gap n q found start value answer is = grind (arith, common_steps, nat_tests)

@@ -1,7 +1,7 @@
 -- What holds while the scan runs.
 use Rattle.std.proofs.lemmas.Bool.Decides.{nat_tests}
 use Rattle.std.proofs.lemmas.Grind.{common_steps}
-use Rattle.std.proofs.Common.{◌≡◌, ◌≢◌, ℕ, zero, suc, get_or, map, ◌+◌, ◌<◌, ◌≤◌, List, [], ◌∷◌, ◌++◌, length, Option, None, arith, sym, refl, ◌∙◌, ap, append_assoc, cond, Bool, true, false, All, subst, inl, inr, append-nil}
+use Rattle.std.proofs.Common.{◌≡◌, ◌≢◌, ℕ, zero, suc, get_or, map, ◌+◌, ◌<◌, ◌≤◌, List, [], ◌∷◌, ◌++◌, length, Option, None, arith, sym, refl, ◌∙◌, ap, append_assoc, cond, Bool, true, false, All, subst, append-nil}
 use Rattle.std.proofs.lemmas.List.{append-nil}
 use Rattle.std.proofs.lemmas.List.Sums.{sum_by_push}
 use Rattle.plan_model.specs.declared.model.ConnectionId.{ConnectionId}
@@ -24,7 +24,6 @@ use Rattle.meat_scan.specs.Found.{Found, found_rows}
 use Rattle.meat_scan.specs.Solves.{HasAnswers}
 use Rattle.meat_scan.proofs.ScanStep.{ScanOk, scan_ok_step}
 use Rattle.meat_scan.proofs.Ends.{scan_ok_start, solves_end}
-use Rattle.std.proofs.lemmas.Bool.{cases_eq}
 use Rattle.std.proofs.lemmas.List.Elements.{All-tail, All-head}
 use Rattle.meat_scan.specs.Values.{value_after_arrival, values_after, in_front}
 
@@ -141,10 +140,7 @@ found_rows-profiles {V} start target profiles = same_function _ (rows_of_profile
 -- no value after an arrival past the deadline, where no place has rows
 no_value : {V : Type 0} (arrived : ℕ → V) (target deadline : ℕ) (rows : ℕ → List (Row V)) (place arrival : ℕ) → rows place ≡ [] → deadline < arrival
     → value_after_arrival arrived target deadline rows place arrival ≡ None
-no_value arrived target deadline rows place arrival none late = rw none (elim (cases_eq place target) [
-  | inl at ↦ grind (arith, nat_tests)
-  | inr away ↦ grind (arith, nat_tests)
-])
+no_value arrived target deadline rows place arrival none late = grind (arith, common_steps, nat_tests)
 
 no_values : {V : Type 0} (arrived : ℕ → V) (target deadline : ℕ) (rows : ℕ → List (Row V)) (place scheduled : ℕ) (row : List Outcome) → 0 < length row
     → rows place ≡ [] → deadline < scheduled → values_after arrived target deadline rows place scheduled row ≡ None
@@ -214,5 +210,4 @@ module _ {V : Type 0} {below covers : V → Tree → Type 0} {gap rank : V → �
 pub skipped_room : {V : Type 0} (network : NetworkModel) (last : ℕ) (order rest : List ConnectionId) (profiles : List (ShownProfile V))
     (exits : List (Option (Exit V))) (kids : List V) → IsPrefixUpTo network last order rest → HasRoom network order profiles exits kids
     → HasRoom network rest profiles exits kids
-skipped_room network last order rest profiles exits kids up_to room =
-    room_less network rest up_to.skipped profiles exits kids (subst (λ (ids : List ConnectionId). HasRoom network ids profiles exits kids) up_to.split room)
+skipped_room network last order rest profiles exits kids up_to room = grind (arith, common_steps, nat_tests)
