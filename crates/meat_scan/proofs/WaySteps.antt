@@ -26,7 +26,8 @@ way_in ways place = find (λ way. way.from.0 == place) ways
 -- where all of them come from elsewhere there is none
 way_in-none : (ways : List Way) (place : ℕ) → ((j : ℕ) (d : Way) → j < length ways → (get_or ways j d).from.0 ≢ place) → way_in ways place ≡ None
 way_in-none [] place away = refl
-way_in-none (way ∷ ways) place away = rw (ne_eqb way.from.0 place (away 0 way (omega arith))) (way_in-none ways place (λ j d within. away (suc j) d (omega arith)))
+way_in-none (way ∷ ways) place away = rw (ne_eqb way.from.0 place (away 0 way (omega arith)))
+    (way_in-none ways place (λ j d within. away (suc j) d (omega arith)))
 
 option_or-None : (o : Option Way) → option_or o None ≡ o
 option_or-None None = refl
