@@ -1,4 +1,6 @@
 -- The graph by place unfolds to the same tree, and is tidy.
+use Rattle.std.proofs.lemmas.Bool.Decides.{nat_tests}
+use Rattle.std.proofs.lemmas.Grind.{common_steps}
 use Rattle.std.proofs.Common.{◌≡◌, ◌≢◌, ℕ, suc, ◌+◌, ◌≤◌, ◌<◌, List, [], ◌∷◌, length, Option, Some, Contains, All, AllPairs, arith, sym, subst, refl, inl, inr, ◌∙◌, ap, ap₂}
 use Rattle.std.specs.Prelude.{slice_index_or, MatchOption}
 use Rattle.std.specs.Ordering.{nat_cmp}
@@ -15,7 +17,6 @@ use Rattle.plan_model.specs.NetworkModel.{NetworkModel}
 use Rattle.plan_model.specs.Network.{IsValid}
 use Rattle.plan_model.specs.Tree.{Tree}
 use Rattle.plan_model.specs.Ways.{limit_of}
-use Rattle.plan_model.specs.Strategy.{IsSafeFromStart}
 use Rattle.plan_model.specs.Unfold.{end_of, arrival_of, outcomes_of, unfolding_of, by_place}
 use Rattle.plan_graph.specs.declared.GraphRow.{GraphRow}
 use Rattle.plan_graph.specs.declared.Ride.{Ride}
@@ -34,8 +35,8 @@ use Rattle.plan_model.proofs.Lists.{All-from_contains, AllPairs-nil}
 use Rattle.leg_walk.proofs.Orders.{nat_cmp-Less, ordering_then-Less, leg_cmp-Less}
 use Rattle.leg_walk.proofs.Together.{unfold_from-together}
 use Rattle.leg_walk.proofs.Places.{IsPlacedNext, next_after}
-use Rattle.leg_walk.proofs.Reaching.{starts_by, start_placed}
-use Rattle.leg_walk.proofs.Tables.{first_pick, first_there, picked_first, same_next, same_limit}
+use Rattle.leg_walk.proofs.Reaching.{start_placed}
+use Rattle.leg_walk.proofs.Tables.{first_pick, first_there, picked_first, one_found}
 use Rattle.leg_walk.proofs.Rides.{ride_there}
 use Rattle.graph_compact.specs.Tables.{row_cmp, with_table, gathered_rows, tables_of}
 use Rattle.graph_compact.proofs.Lists.{IsOf, All-gathered_rows, Contains-gathered_rows, IsStrictlySortedBy-gathered_rows, some_first, first_least}
@@ -225,7 +226,7 @@ module _ (n : NetworkModel) (valid : IsValid n) (q : Query) (graph : ExpandedGra
         let f = find o outcome own.0 in
         ap (λ (list : List GraphRow). pick_row list x) (rows_at (end_of n leg) (ends_inside leg placed.is_leg))
         ∙ first_pick (T (end_of n leg)) x f.0 f.1
-        ∙ ap (λ (l : Leg). Some l) (same_next (pick_row r.found.after x) f.0.leg t.next f.2 picks)
+        ∙ ap (λ (l : Leg). Some l) (one_found (pick_row r.found.after x) f.0.leg t.next f.2 picks)
 
     pub unfolds : unfold_plan plan n q ≡ unfold_expanded graph n q
     unfolds =
@@ -237,9 +238,7 @@ module _ (n : NetworkModel) (valid : IsValid n) (q : Query) (graph : ExpandedGra
         ∙ sym starts_as
 
     safe_start : IsFitStart n q start
-    safe_start =
-        let own = subst (λ (tree : Tree). IsSafeFromStart n target (Some safe.0) tree q.source.0 q.start.0) (starts_by n q choice start differ) safe.1 in
-        record { differ = differ; is_leg = own.1; leaves = own.2.0; in_time = own.2.1 }
+    safe_start = grind (arith, common_steps, nat_tests)
 
     fit_row : (place : ℕ) (x : GraphRow) → Contains (T place) x → IsFitRow n place x
     fit_row place x has =
@@ -273,8 +272,8 @@ module _ (n : NetworkModel) (valid : IsValid n) (q : Query) (graph : ExpandedGra
         let x = arrival_of n r.leg o.delay in
         let own = first_there r.after x row idle.1.2 in
         let s = same_first r source.has o idle.1.1 row source.there own.0 in
-        let leg : s.e.leg ≡ row.leg = same_next (pick_row r.after x) s.e.leg row.leg s.picks (first_pick r.after x row idle.1.2) in
-        let by : s.e.by.0 ≡ row.by.0 = same_limit (limit_of n place row.leg) s.e.by.0 row.by.0
+        let leg : s.e.leg ≡ row.leg = one_found (pick_row r.after x) s.e.leg row.leg s.picks (first_pick r.after x row idle.1.2) in
+        let by : s.e.by.0 ≡ row.by.0 = one_found (limit_of n place row.leg) s.e.by.0 row.by.0
         (ap (limit_of n place) (sym leg) ∙ subst (λ (p : ℕ). limit_of n p s.e.leg ≡ Some s.e.by.0) source.ends (by_limit (end_of n r.leg) s.e s.has)) (by_limit place row has) in
         let first : IsFirstInTime (T (end_of n r.leg)) x row = subst (λ (w : GraphRow). IsFirstInTime (T (end_of n r.leg)) x w) (ap₂ row_by by leg) s.first in
         let there : IsFirstInTime (T place) x row = subst (λ (p : ℕ). IsFirstInTime (T p) x row) source.ends first in

@@ -14,7 +14,7 @@ use Rattle.plan_graph.specs.Rows.{pick_row}
 use Rattle.plan_graph.specs.Ready.{IsPruned, IsByLimits, IsPickedAfter}
 use Rattle.plan_graph.specs.Coherent.{IsCoherent, IsEarliest, IsRowAt}
 use Rattle.plan_graph.specs.Follows.{Follows, IsSteady}
-use Rattle.leg_walk.proofs.Tables.{first_pick, first_there, picked_there, same_next, same_limit}
+use Rattle.leg_walk.proofs.Tables.{first_pick, first_there, picked_there, one_found}
 
 module _ (n : NetworkModel) (q : Query) (graph : ExpandedGraph) (at : ℕ → ℕ → Option Leg)
     (pruned : IsPruned n q graph) (steady : IsSteady n q.target.0 at) (follows : Follows n q.target.0 at graph) where
@@ -28,10 +28,10 @@ module _ (n : NetworkModel) (q : Query) (graph : ExpandedGraph) (at : ℕ → �
       let o = idle.1.0 in
       let x = arrival_of n r.leg o.delay in
       let f = follows r has idle.0 o idle.1.1 in
-      let same : f.0 ≡ row.leg = same_next (pick_row r.after x) f.0 row.leg f.1 (first_pick r.after x row idle.1.2) in
+      let same : f.0 ≡ row.leg = one_found (pick_row r.after x) f.0 row.leg f.1 (first_pick r.after x row idle.1.2) in
       let chosen : at (end_of n r.leg) x ≡ Some row.leg = f.2 ∙ ap (λ (l : Leg). Some l) same in
       let k = steady (end_of n r.leg) x row.leg idle.0 chosen in
-      let limit = same_limit (limit_of n (end_of n r.leg) row.leg) row.by.0 k.limit (by_its_limit r has row there) k.is_limit in
+      let limit = one_found (limit_of n (end_of n r.leg) row.leg) row.by.0 k.limit (by_its_limit r has row there) k.is_limit in
       (idle.0, k.kept row.by.0 (first_there r.after x row idle.1.2).0 (omega (arith, limit)))
 
   at_place : (place : ℕ) (row : GraphRow) → IsRowAt n graph place row → (place ≢ q.target.0) × (at place row.by.0 ≡ Some row.leg)
@@ -48,16 +48,16 @@ module _ (n : NetworkModel) (q : Query) (graph : ExpandedGraph) (at : ℕ → �
       let f = follows r contains own.0 o outcome in
       let w = picked_there r.after x f.0 f.1 in
       let k = steady place x f.0 own.0 f.2 in
-      let by : w.0.by.0 ≡ k.limit = same_limit (limit_of n place f.0) w.0.by.0 k.limit (ap (limit_of n place) (sym w.2) ∙ by_its_limit r contains w.0 w.1) k.is_limit in
+      let by : w.0.by.0 ≡ k.limit = one_found (limit_of n place f.0) w.0.by.0 k.limit (ap (limit_of n place) (sym w.2) ∙ by_its_limit r contains w.0 w.1) k.is_limit in
       let least = earliest.least w.0 (r, contains, refl, w.1) (omega (arith, by, k.in_time)) in
       let later : at place row.by.0 ≡ Some f.0 = k.kept row.by.0 earliest.in_time (omega (arith, by, least)) in
-      f.1 ∙ ap (λ (l : Leg). Some l) (same_next (at place row.by.0) f.0 row.leg later own.1)
+      f.1 ∙ ap (λ (l : Leg). Some l) (one_found (at place row.by.0) f.0 row.leg later own.1)
 
   pub coherent_by : IsCoherent n graph
   coherent_by = record {
     agree = λ place a b stands_a stands_b same.
         let one = at_place place a stands_a in
         let two = at_place place b stands_b in
-        same_next (at place b.by.0) a.leg b.leg (subst (λ (m : ℕ). at place m ≡ Some a.leg) same one.1) two.1;
+        one_found (at place b.by.0) a.leg b.leg (subst (λ (m : ℕ). at place m ≡ Some a.leg) same one.1) two.1;
     picks = coherent_picks;
   }

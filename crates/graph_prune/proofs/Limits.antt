@@ -1,6 +1,6 @@
 -- The rows by their legs' limits, and what they pick.
 use Rattle.std.proofs.Common.{◌≡◌, ℕ, ◌≤◌, ◌<◌, Bool, true, false, List, [], ◌∷◌, Option, Some, None, All, AllPairs, Contains, arith, sym, subst, refl, inl, inr, ◌∙◌, ap, ap₂}
-use Rattle.std.specs.Prelude.{nat_le, if◌then◌else◌}
+use Rattle.std.specs.Prelude.{if◌then◌else◌}
 use Rattle.std.proofs.lemmas.Bool.{cases_lt}
 use Rattle.std.proofs.lemmas.Bool.Decides.{nat_tests}
 use Rattle.std.proofs.lemmas.List.Elements.{All-head, All-tail}
@@ -9,11 +9,11 @@ use Rattle.plan_model.specs.NetworkModel.{NetworkModel}
 use Rattle.plan_model.specs.Ways.{limit_of}
 use Rattle.plan_graph.specs.declared.GraphRow.{GraphRow}
 use Rattle.plan_graph.specs.Rows.{pick_row}
-use Rattle.plan_graph.specs.Ready.{IsFirstInTime, MayPrecede, IsReadyRow, is_within, pick_in_time}
+use Rattle.plan_graph.specs.Ready.{IsFirstInTime, MayPrecede, IsReadyRow, pick_in_time}
 use Rattle.leg_walk.specs.Tables.{row_by}
 use Rattle.plan_model.proofs.Lists.{Contains-nil, Contains-head, Contains-tail, Contains-cons_cases, AllPairs-nil, AllPairs-head, AllPairs-tail, AllPairs-with}
-use Rattle.leg_walk.proofs.Tables.{same_next, same_limit, in_time_here, in_time_next}
-use Rattle.graph_prune.specs.Limits.{is_last, with_limit, by_limits}
+use Rattle.leg_walk.proofs.Tables.{one_found, in_time_here, in_time_next}
+use Rattle.graph_prune.specs.Limits.{is_last, by_limits}
 
 -- the row before, if any, is before the moment
 abbrev pub IsApart : Option ℕ → ℕ → Type 0
@@ -32,11 +32,6 @@ module _ (n : NetworkModel) (place : ℕ) where
   abbrev IsReadyHere : GraphRow → Type 0
   IsReadyHere row = IsReadyRow n place row
 
-  -- the rows, where the first has a limit
-  limits_head : (row : GraphRow) (rows : List GraphRow) (limit : ℕ) (last : Option ℕ) → limit_of n place row.leg ≡ Some limit
-      → by_limits n place (row ∷ rows) last ≡ (if is_last last limit then by_limits n place rows last else row_by limit row.leg ∷ by_limits n place rows (Some limit))
-  limits_head row rows limit last is = ap (λ (l : Option ℕ). with_limit l row.leg (by_limits n place rows) last) is
-
   apart_last : (last : Option ℕ) (x limit : ℕ) → IsApart last x → x ≤ limit → is_last last limit ≡ false
   apart_last None x limit apart within = refl
   apart_last (Some moment) x limit apart within = let less : moment < limit = omega (arith, apart, within) in grind (arith, nat_tests)
@@ -52,15 +47,11 @@ module _ (n : NetworkModel) (place : ℕ) where
         | inl late ↦
             let rest = sym (in_time_next n place row rows x r.limit r.is_limit late) ∙ is in
             let more = λ (before : Option ℕ) (apart : IsApart before x). first_by_limits rows before x leg limit (All-tail IsReadyHere row rows ready) apart rest its in
-            subst (λ (list : List GraphRow). IsFirstInTime list x (row_by limit leg)) (sym (limits_head row rows r.limit last r.is_limit))
-            (late_by r.limit (is_last last r.limit) late (more last apart) (more (Some r.limit) late))
+            rw r.is_limit (late_by r.limit (is_last last r.limit) late (more last apart) (more (Some r.limit) late))
         | inr early ↦
-            let one : row.leg ≡ leg = same_next (pick_in_time n place (row ∷ rows) x) row.leg leg (in_time_here n place row rows x r.limit r.is_limit early) is in
-            let two : r.limit ≡ limit = same_limit (limit_of n place leg) r.limit limit (ap (limit_of n place) (sym one) ∙ r.is_limit) its in
-            subst (λ (list : List GraphRow). IsFirstInTime list x (row_by limit leg))
-            (sym (limits_head row rows r.limit last r.is_limit
-            ∙ ap (λ (test : Bool). if test then by_limits n place rows last else row_by r.limit row.leg ∷ by_limits n place rows (Some r.limit)) (apart_last last x r.limit apart early)))
-            (inl (early, sym (ap₂ row_by two one)))
+            let one : row.leg ≡ leg = one_found (pick_in_time n place (row ∷ rows) x) row.leg leg (in_time_here n place row rows x r.limit r.is_limit early) is in
+            let two : r.limit ≡ limit = one_found (limit_of n place leg) r.limit limit (ap (limit_of n place) (sym one) ∙ r.is_limit) its in
+            rw (r.is_limit, apart_last last x r.limit apart early) (inl (early, sym (ap₂ row_by two one)))
       ]
     where
       late_by : (own : ℕ) (test : Bool) → own < x → IsFirstInTime (by_limits n place rows last) x (row_by limit leg)
@@ -75,7 +66,7 @@ module _ (n : NetworkModel) (place : ℕ) where
   limit_member (row ∷ rows) last y ready has =
       let r = All-head IsReadyHere row rows ready in
       by_test r.limit r.is_limit (is_last last r.limit) (λ before. limit_member rows before y (All-tail IsReadyHere row rows ready))
-      (subst (λ (list : List GraphRow). Contains list y) (limits_head row rows r.limit last r.is_limit) has)
+      (rw r.is_limit at has)
     where
       wider : IsLimitOf n place rows y → IsLimitOf n place (row ∷ rows) y
       wider m = record { row = m.row; has = Contains-tail row rows m.row m.has; limit = m.limit; is_limit = m.is_limit; is = m.is }
@@ -98,7 +89,7 @@ module _ (n : NetworkModel) (place : ℕ) where
       let rest = All-tail IsReadyHere row rows ready in
       let later = AllPairs-tail (MayPrecede n place) row rows pairs in
       let from = least row r.limit (Contains-head row rows) r.is_limit in
-      let there = subst (λ (list : List GraphRow). Contains list y) (limits_head row rows r.limit (Some bound) r.is_limit) has in
+      let there = rw r.is_limit at has in
       elim (cases_lt bound r.limit) [
         | inl less ↦
             let other : is_last (Some bound) r.limit ≡ false = grind (arith, nat_tests) in
@@ -121,8 +112,7 @@ module _ (n : NetworkModel) (place : ℕ) where
       let rest = All-tail IsReadyHere row rows ready in
       let later = AllPairs-tail (MayPrecede n place) row rows pairs in
       let after = λ (y : GraphRow). above rows later r.limit y rest (λ s limit h its. (AllPairs-head (MayPrecede n place) row rows pairs s h).limits r.limit limit r.is_limit its) in
-      subst (λ (list : List GraphRow). AllPairs (λ a b. a.by.0 < b.by.0) list) (sym (limits_head row rows r.limit last r.is_limit))
-      (by_test r.limit (is_last last r.limit) after (limits_rise rows later rest))
+      rw r.is_limit (by_test r.limit (is_last last r.limit) after (limits_rise rows later rest))
     where
       by_test : (limit : ℕ) (test : Bool) → ((y : GraphRow) → Contains (by_limits n place rows (Some limit)) y → limit < y.by.0)
           → ((before : Option ℕ) → AllPairs (λ a b. a.by.0 < b.by.0) (by_limits n place rows before))
@@ -134,8 +124,11 @@ module _ (n : NetworkModel) (place : ℕ) where
   pub in_time_by : (rows : List GraphRow) (x : ℕ) → All (λ row. limit_of n place row.leg ≡ Some row.by.0) rows → pick_row rows x ≡ pick_in_time n place rows x
   in_time_by [] x by = refl
   in_time_by (row ∷ rows) x by =
-      ap (λ (found : Option Leg). if nat_le x row.by.0 then Some row.leg else found) (in_time_by rows x (All-tail (λ row. limit_of n place row.leg ≡ Some row.by.0) row rows by))
-      ∙ ap (λ (limit : Option ℕ). if is_within limit x then Some row.leg else pick_in_time n place rows x) (sym (All-head (λ row. limit_of n place row.leg ≡ Some row.by.0) row rows by))
+      rw (
+        All-head (λ row. limit_of n place row.leg ≡ Some row.by.0) row rows by,
+        in_time_by rows x
+            (All-tail (λ row. limit_of n place row.leg ≡ Some row.by.0) row rows by),
+      ) refl
 
   -- the first row in time is in time, and stays the first up to its limit
   pub record IsKeptInTime (rows : List GraphRow) (x : ℕ) (leg : Leg) : Type 0 where
@@ -158,7 +151,7 @@ module _ (n : NetworkModel) (place : ℕ) where
               kept = λ later after within. in_time_next n place row rows later r.limit r.is_limit (omega (arith, late, after)) ∙ rest.kept later after within;
             }
         | inr early ↦
-            let one : row.leg ≡ leg = same_next (pick_in_time n place (row ∷ rows) x) row.leg leg (in_time_here n place row rows x r.limit r.is_limit early) is in
+            let one : row.leg ≡ leg = one_found (pick_in_time n place (row ∷ rows) x) row.leg leg (in_time_here n place row rows x r.limit r.is_limit early) is in
             record {
               limit = r.limit;
               is_limit = ap (limit_of n place) (sym one) ∙ r.is_limit;

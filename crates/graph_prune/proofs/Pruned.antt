@@ -1,4 +1,6 @@
 -- The graph of the rides that were walked, with rows by limits, unfolds to the same tree and is pruned.
+use Rattle.std.proofs.lemmas.Bool.Decides.{nat_tests}
+use Rattle.std.proofs.lemmas.Grind.{common_steps}
 use Rattle.std.proofs.Common.{◌≡◌, ◌≢◌, ℕ, ◌<◌, List, map, Option, Some, Contains, All, AllPairs, arith, sym, subst, ◌∙◌, ap}
 use Rattle.std.specs.Prelude.{slice_index_or}
 use Rattle.std.proofs.lemmas.List.Elements.{All-contains, All-map}
@@ -20,7 +22,7 @@ use Rattle.plan_graph.specs.Follows.{Follows}
 use Rattle.leg_walk.specs.Tables.{row_by}
 use Rattle.leg_walk.specs.Walked.{IsWalked, HasRideOf}
 use Rattle.plan_model.proofs.Lists.{Contains-map, All-from_contains, AllPairs-map}
-use Rattle.leg_walk.proofs.Tables.{first_pick, picked_there, same_next, same_limit}
+use Rattle.leg_walk.proofs.Tables.{first_pick, picked_there, one_found}
 use Rattle.leg_walk.proofs.Together.{IsSameNext, unfold_from-together}
 use Rattle.leg_walk.proofs.Graphs.{ready, busy, picks_taken}
 use Rattle.graph_prune.specs.Limits.{ride_by_limits}
@@ -107,14 +109,7 @@ module _ (n : NetworkModel) (valid : IsValid n) (q : Query) (source : ExpandedGr
 
     -- rows by limits stand as they may, where their moments rise
     may_precede : (y z : GraphRow) → limit_of n place y.leg ≡ Some y.by.0 → limit_of n place z.leg ≡ Some z.by.0 → y.by.0 < z.by.0 → MayPrecede n place y z
-    may_precede y z here other less = record {
-      by = less;
-      limits = λ first second a b.
-          let one = same_limit (limit_of n place y.leg) first y.by.0 a here in
-          let two = same_limit (limit_of n place z.leg) second z.by.0 b other in
-          omega (arith, one, two, less);
-      legs = λ same. let e = same_limit (limit_of n place y.leg) y.by.0 z.by.0 here (same ∙ other) in absurd (omega (arith, e, less));
-    }
+    may_precede y z here other less = grind (arith, common_steps, nat_tests)
 
     pub ready_own : IsReadyRide n target own
     ready_own = record {
@@ -199,7 +194,7 @@ module _ (n : NetworkModel) (valid : IsValid n) (q : Query) (source : ExpandedGr
       let s = ride_there source.rides r.leg x t.next t.is_chosen in
       let before = subst (λ (l : Leg). FollowsAfter at (record { leg = l; after = s.found.after })) s.same_leg (follows s.found s.has) in
       let f = before away o outcome in
-      let same : f.0 ≡ t.next = same_next (pick_row s.found.after x) f.0 t.next f.1 (ap (λ (list : List GraphRow). pick_row list x) (sym s.same_rows) ∙ t.is_chosen) in
+      let same : f.0 ≡ t.next = one_found (pick_row s.found.after x) f.0 t.next f.1 (ap (λ (list : List GraphRow). pick_row list x) (sym s.same_rows) ∙ t.is_chosen) in
       (t.next, picks_same r there away o outcome t.next (picks_taken n valid q choice start rides walked r there away o outcome), f.2 ∙ ap (λ (l : Leg). Some l) same)
 
   pub follows_on : (at : ℕ → ℕ → Option Leg) → Follows n target at source → Follows n target at graph

@@ -18,7 +18,7 @@ use Rattle.plan_graph.specs.Ready.{IsLegOf, IsReady, IsReadyRide, IsReadyRow, Ma
 use Rattle.leg_walk.specs.Tables.{row_by, table_after}
 use Rattle.leg_walk.specs.Walked.{IsWalked}
 use Rattle.plan_model.proofs.Lists.{AllPairs-nil, All-from_contains}
-use Rattle.leg_walk.proofs.Tables.{IsChosenAt, IsTableRow, Sooner, table_row, table_away, table_there, first_in_table, first_pick, in_time_for, before_for, same_next}
+use Rattle.leg_walk.proofs.Tables.{IsChosenAt, IsTableRow, Sooner, table_row, table_away, table_there, first_in_table, first_pick, in_time_for, before_for, one_found}
 use Rattle.leg_walk.proofs.Walks.{delays_rise}
 
 -- what is chosen after an outcome of a leg can be reached, and is kept at the later outcomes up to its limit
@@ -90,8 +90,8 @@ module _ (n : NetworkModel) (valid : IsValid n) (q : Query) (choice : Leg → �
           let x = arrival_of n r.leg m.o.delay in
           let t = walked.taken r there at.away m.o m.has in
           let c = each at.away m.o m.has in
-          let one : c.next ≡ m.next = same_next (choice r.leg x) c.next m.next c.is_chosen m.is_chosen in
-          let two : t.next ≡ m.next = same_next (choice r.leg x) t.next m.next t.is_chosen m.is_chosen in
+          let one : c.next ≡ m.next = one_found (choice r.leg x) c.next m.next c.is_chosen m.is_chosen in
+          let two : t.next ≡ m.next = one_found (choice r.leg x) t.next m.next t.is_chosen m.is_chosen in
           let here : IsReadyRow n (end_of n r.leg) (row_by x m.next) = record {
             is_leg = subst (λ (l : Leg). IsLegOf n l) two t.is_leg;
             limit = c.limit;

@@ -6,5 +6,4 @@ pub mod Together
 pub mod Reaching
 pub mod Rides
 pub mod Walks
-pub mod Whole
 pub mod Graphs

@@ -1,15 +1,15 @@
 -- The order of legs.
-use Rattle.std.proofs.Common.{◌≡◌, ℕ, ◌<◌, ◌⊎◌, arith, refl, inl, inr, ap}
+use Rattle.std.proofs.lemmas.Grind.{common_steps}
+use Rattle.std.proofs.Common.{◌≡◌, ℕ, ◌<◌, ◌⊎◌, arith, refl, inl, inr}
 use Rattle.std.specs.Cmp.{IsTotalOrder, on_total, then_total}
 use Rattle.std.specs.Ordering.{nat_cmp, ordering_then}
 use Rattle.std.specs.declared.cmp.Ordering.{Ordering}
 use Rattle.std.specs.declared.cmp.Ordering.TheVariants.{Less, Equal, Greater}
 use Rattle.std.proofs.lemmas.Bool.Decides.{nat_tests}
 use Rattle.std.proofs.lemmas.Cmp.{nat_cmp_total}
-use Rattle.std.proofs.lemmas.Map.Lookups.{CmpEqualImpliesEq, exact_unsigned, exact_pairs}
+use Rattle.std.proofs.lemmas.Map.Lookups.{CmpEqualImpliesEq}
 use Rattle.plan_model.specs.declared.model.Leg.{Leg}
 use Rattle.plan_graph.specs.Rows.{Precedes}
-use Rattle.plan_graph.proofs.Searches.{leg_of}
 use Rattle.leg_walk.specs.Tables.{leg_cmp}
 
 pub nat_cmp-Less : (x y : ℕ) → nat_cmp x y ≡ Less → x < y
@@ -25,11 +25,7 @@ leg_cmp-total = then_total (on_total (λ (leg : Leg). leg.enter.0) nat_cmp_total
 
 -- legs that compare as equal are the same
 pub leg_cmp-exact : CmpEqualImpliesEq leg_cmp
-leg_cmp-exact a b is =
-    ap (λ (parts : ℕ × ℕ). leg_of parts.0 parts.1) (exact_pairs nat_cmp nat_cmp exact_unsigned exact_unsigned (a.enter.0, a.exit.0) (b.enter.0, b.exit.0) is)
+leg_cmp-exact a b is = grind (arith, common_steps, nat_tests)
 
 pub leg_cmp-Less : (a b : Leg) → leg_cmp a b ≡ Less → Precedes a b
-leg_cmp-Less a b is = elim (ordering_then-Less (nat_cmp a.enter.0 b.enter.0) (nat_cmp a.exit.0 b.exit.0) is) [
-  | inl less ↦ inl (nat_cmp-Less a.enter.0 b.enter.0 less)
-  | inr both ↦ inr (exact_unsigned a.enter.0 b.enter.0 both.0, nat_cmp-Less a.exit.0 b.exit.0 both.1)
-]
+leg_cmp-Less a b is = grind (arith, common_steps, nat_tests)

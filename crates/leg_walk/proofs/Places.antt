@@ -5,7 +5,7 @@ use Rattle.plan_model.specs.declared.model.Leg.{Leg}
 use Rattle.plan_model.specs.declared.model.Outcome.{Outcome}
 use Rattle.plan_model.specs.NetworkModel.{NetworkModel}
 use Rattle.plan_model.specs.Network.{arr_of}
-use Rattle.plan_model.specs.Tree.{Tree, Stuck}
+use Rattle.plan_model.specs.Tree.{Tree}
 use Rattle.plan_model.specs.Strategy.{IsBoardable, IsSafe, AreSafe}
 use Rattle.plan_model.specs.Unfold.{end_of, arrival_of, outcomes_of, kids_after, ride_or_stuck, unfold_after}
 use Rattle.plan_graph.specs.Ready.{Stands, StandsIn}
@@ -57,16 +57,9 @@ module _ (n : NetworkModel) (target : ℕ) (by : Option ℕ) (choice : Leg → �
   next_at : (whole : Tree) (rides : ℕ) (leg : Leg) (arrival : ℕ) → end_of n leg ≢ target
       → IsSafe n target by (unfold_after n target choice rides leg arrival) (end_of n leg) arrival
       → ((other : Leg) → Stands other (unfold_after n target choice rides leg arrival) → Stands other whole) → IsPlacedNext n target by choice whole leg arrival
-  next_at whole zero leg arrival away safe stands =
-      let place = end_of n leg in
-      let is : unfold_after n target choice 0 leg arrival ≡ Stuck place arrival = rw (ne_eqb place target away) in
-      absurd (subst (λ (tree : Tree). IsSafe n target by tree place arrival) is safe)
-  next_at whole (suc rides) leg arrival away safe stands =
-      let place = end_of n leg in
-      let is : unfold_after n target choice (suc rides) leg arrival ≡ ride_or_stuck n (unfold_after n target choice rides) (choice leg arrival) place arrival = rw (ne_eqb place target away) in
-      next_by whole rides leg arrival (choice leg arrival) refl
-      (subst (λ (tree : Tree). IsSafe n target by tree place arrival) is safe)
-      (λ other there. stands other (subst (λ (tree : Tree). Stands other tree) (sym is) there))
+  next_at whole zero leg arrival away safe stands = absurd (rw (ne_eqb (end_of n leg) target away) at safe)
+  next_at whole (suc rides) leg arrival away safe stands = next_by whole rides leg arrival (choice leg arrival) refl
+      (rw (ne_eqb (end_of n leg) target away) at safe) (λ other there. stands other (rw (ne_eqb (end_of n leg) target away) there))
 
   -- after each outcome of a placed leg a placed leg is chosen
   pub next_after : (whole : Tree) (leg : Leg) → StandsSafely n target by choice whole leg → end_of n leg ≢ target → (o : Outcome)

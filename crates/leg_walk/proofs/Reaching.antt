@@ -1,4 +1,6 @@
 -- What is kept while legs are reached.
+use Rattle.std.proofs.lemmas.Bool.Decides.{nat_tests}
+use Rattle.std.proofs.lemmas.Grind.{common_steps}
 use Rattle.std.proofs.Common.{◌≡◌, ◌≢◌, ℕ, ◌-◌, ◌<◌, ◌⊎◌, Bool, true, false, List, [], ◌∷◌, ◌++◌, map, length, Option, Some, Contains, arith, sym, subst, refl, inl, inr, ◌∙◌, ap}
 use Rattle.std.specs.Prelude.{MatchBool}
 use Rattle.std.specs.BTreeMap.{is_at}
@@ -11,17 +13,16 @@ use Rattle.plan_model.specs.declared.model.Query.{Query}
 use Rattle.plan_model.specs.NetworkModel.{NetworkModel}
 use Rattle.plan_model.specs.Network.{count}
 use Rattle.plan_model.specs.Tree.{Tree}
-use Rattle.plan_model.specs.Strategy.{IsSafeFromStart}
 use Rattle.plan_model.specs.Unfold.{arrival_of, ride_of, unfold_after, unfolding_of}
 use Rattle.plan_graph.specs.declared.GraphRow.{GraphRow}
-use Rattle.plan_graph.specs.Ready.{IsSafeForSome, Stands}
+use Rattle.plan_graph.specs.Ready.{IsSafeForSome}
 use Rattle.leg_walk.specs.Tables.{table_after, leg_cmp, with_leg}
 use Rattle.leg_walk.specs.Placed.{StandsSafely}
 use Rattle.plan_model.proofs.Lists.{Contains-nil, Contains-map, Contains-from_map}
 use Rattle.leg_walk.proofs.Sets.{Contains-insert_key, Contains-insert_key_cases, Contains-inserted_key}
 use Rattle.leg_walk.proofs.Orders.{leg_cmp-exact}
 use Rattle.leg_walk.proofs.Places.{next_after}
-use Rattle.leg_walk.proofs.Tables.{same_next, table_row}
+use Rattle.leg_walk.proofs.Tables.{one_found, table_row}
 
 -- the leg is to do, or was seen
 abbrev pub Known : List Leg → List Leg → Leg → Type 0
@@ -39,16 +40,7 @@ starts_by n q choice start differ = rw (ne_eqb q.source.0 q.target.0 differ) ref
 
 pub start_placed : (n : NetworkModel) (q : Query) (choice : Leg → ℕ → Option Leg) (start : Leg) → q.source.0 ≢ q.target.0
     → (safe : IsSafeForSome n q (unfolding_of n q choice (Some start))) → StandsSafely n q.target.0 (Some safe.0) choice (unfolding_of n q choice (Some start)) start
-start_placed n q choice start differ safe =
-    let begins = starts_by n q choice start differ in
-    let own = subst (λ (tree : Tree). IsSafeFromStart n q.target.0 (Some safe.0) tree q.source.0 q.start.0) begins safe.1 in
-    record {
-      is_leg = own.1;
-      rides = count n - 1;
-      safe = own.3;
-      stands = subst (λ (tree : Tree). Stands start tree) (sym begins) (inl (refl, refl));
-      below = λ other there. subst (λ (tree : Tree). Stands other tree) (sym begins) (inr there);
-    }
+start_placed n q choice start differ safe = grind (arith, common_steps, nat_tests)
 
 module _ (n : NetworkModel) (target : ℕ) (by : Option ℕ) (choice : Leg → ℕ → Option Leg) (whole : Tree) where
   -- the leg of a row of a placed leg's table is placed
@@ -57,22 +49,12 @@ module _ (n : NetworkModel) (target : ℕ) (by : Option ℕ) (choice : Leg → �
       let at = table_row n target choice leg row has in
       let m = at.from_outcome in
       let t = next_after n target by choice whole leg placed at.away m.o m.has in
-      let one : t.next ≡ m.next = same_next (choice leg (arrival_of n leg m.o.delay)) t.next m.next t.is_chosen m.is_chosen in
+      let one : t.next ≡ m.next = one_found (choice leg (arrival_of n leg m.o.delay)) t.next m.next t.is_chosen m.is_chosen in
       subst (λ (l : Leg). StandsSafely n target by choice whole l) (one ∙ ap (λ (r : GraphRow). r.leg) (sym m.is)) t.placed
 
   module _ (start : Leg) where
     pub begin : StandsSafely n target by choice whole start → IsReaching n target by choice whole start (start ∷ []) []
-    begin placed = record {
-      start_known = inl (Contains-push [] start);
-      placed = λ leg known. elim known [
-        | inl has ↦ elim (Contains-push_cases [] start leg has) [
-          | inl none ↦ absurd (Contains-nil leg none)
-          | inr is ↦ subst (λ (l : Leg). StandsSafely n target by choice whole l) is placed
-        ]
-        | inr has ↦ absurd (Contains-nil leg has)
-      ];
-      closed = λ leg has. absurd (Contains-nil leg has);
-    }
+    begin placed = grind (arith, common_steps, nat_tests)
 
     module _ (todo after : List Leg) (seen : List Leg) (leg : Leg) (old : IsReaching n target by choice whole start (todo ++ leg ∷ []) seen)
         (keeps : (l : Leg) → Contains todo l → Contains after l)

@@ -1,6 +1,7 @@
 -- The rows of a table, and what they pick.
-use Rattle.std.proofs.Common.{◌≡◌, ◌≢◌, ℕ, ◌+◌, ◌≤◌, ◌<◌, Bool, true, false, List, [], ◌∷◌, map, Option, Some, None, AllPairs, Contains, arith, sym, subst, refl, inl, inr, ◌∙◌, ap}
-use Rattle.std.specs.Prelude.{if◌then◌else◌}
+use Rattle.std.proofs.lemmas.Bool.Decides.{nat_tests}
+use Rattle.std.proofs.lemmas.Grind.{common_steps}
+use Rattle.std.proofs.Common.{◌≡◌, ◌≢◌, ℕ, ◌+◌, ◌≤◌, ◌<◌, List, [], ◌∷◌, map, Option, Some, None, AllPairs, Contains, arith, sym, subst, refl, inl, inr, ◌∙◌, ap}
 use Rattle.std.proofs.lemmas.Bool.{cases_lt, cases_eq, ne_eqb, eq-eqb, le-leb, lt-leb}
 use Rattle.plan_model.specs.declared.model.Leg.{Leg}
 use Rattle.plan_model.specs.declared.model.Outcome.{Outcome}
@@ -10,21 +11,14 @@ use Rattle.plan_model.specs.Ways.{limit_of}
 use Rattle.plan_model.specs.Unfold.{end_of, outcomes_of}
 use Rattle.plan_graph.specs.declared.GraphRow.{GraphRow}
 use Rattle.plan_graph.specs.Rows.{pick_row}
-use Rattle.plan_graph.specs.Ready.{IsFirstInTime, MayPrecede, is_within, pick_in_time}
+use Rattle.plan_graph.specs.Ready.{IsFirstInTime, MayPrecede, pick_in_time}
 use Rattle.plan_graph.proofs.Picked.{pick_here, pick_further}
 use Rattle.leg_walk.specs.Tables.{row_by, with_row, rows_for, table_after}
 use Rattle.plan_model.proofs.Lists.{Contains-nil, Contains-head, Contains-tail, Contains-cons_cases, AllPairs-nil, AllPairs-head, AllPairs-tail, AllPairs-with}
 
-some_same : (a b : Leg) → ◌≡◌ {A = Option Leg} (Some a) (Some b) → a ≡ b
-some_same a b is = cc
-
--- what is chosen is one leg
-pub same_next : (found : Option Leg) (a b : Leg) → found ≡ Some a → found ≡ Some b → a ≡ b
-same_next found a b one other = some_same a b (sym one ∙ other)
-
--- a limit is one moment
-pub same_limit : (found : Option ℕ) (a b : ℕ) → found ≡ Some a → found ≡ Some b → a ≡ b
-same_limit found a b one other = let both = sym one ∙ other in cc
+-- what is found is one thing
+pub one_found : {A : Type 0} (found : Option A) (a b : A) → found ≡ Some a → found ≡ Some b → a ≡ b
+one_found found a b one other = let both = sym one ∙ other in cc
 
 pub first_pick : (rows : List GraphRow) (x : ℕ) (row : GraphRow) → IsFirstInTime rows x row → pick_row rows x ≡ Some row.leg
 first_pick [] x row f = absurd f
@@ -42,7 +36,7 @@ pub picked_first : (rows : List GraphRow) (x : ℕ) (leg : Leg) → pick_row row
 picked_first [] x leg is = absurd (cc)
 picked_first (row ∷ rows) x leg is = elim (cases_lt row.by.0 x) [
   | inl late ↦ let found = picked_first rows x leg (sym (pick_further row rows x late) ∙ is) in (found.0, inr (late, found.1), found.2)
-  | inr early ↦ (row, inl (early, refl), same_next (pick_row (row ∷ rows) x) row.leg leg (pick_here row rows x early) is)
+  | inr early ↦ (row, inl (early, refl), one_found (pick_row (row ∷ rows) x) row.leg leg (pick_here row rows x early) is)
 ]
 
 -- and is there
@@ -51,15 +45,11 @@ picked_there rows x leg is = let found = picked_first rows x leg is in (found.0,
 
 pub in_time_here : (n : NetworkModel) (place : ℕ) (row : GraphRow) (rows : List GraphRow) (x limit : ℕ) → limit_of n place row.leg ≡ Some limit → x ≤ limit
     → pick_in_time n place (row ∷ rows) x ≡ Some row.leg
-in_time_here n place row rows x limit is early =
-    let test : is_within (limit_of n place row.leg) x ≡ true = ap (λ (l : Option ℕ). is_within l x) is ∙ le-leb x limit early in
-    ap (λ (b : Bool). if b then Some row.leg else pick_in_time n place rows x) test
+in_time_here n place row rows x limit is early = rw (is, le-leb x limit early) refl
 
 pub in_time_next : (n : NetworkModel) (place : ℕ) (row : GraphRow) (rows : List GraphRow) (x limit : ℕ) → limit_of n place row.leg ≡ Some limit → limit < x
     → pick_in_time n place (row ∷ rows) x ≡ pick_in_time n place rows x
-in_time_next n place row rows x limit is late =
-    let test : is_within (limit_of n place row.leg) x ≡ false = ap (λ (l : Option ℕ). is_within l x) is ∙ lt-leb x limit late in
-    ap (λ (b : Bool). if b then Some row.leg else pick_in_time n place rows x) test
+in_time_next n place row rows x limit is late = rw (is, lt-leb x limit late) refl
 
 -- what is chosen at an arrival can be reached, and is chosen at each later arrival of the outcomes up to its limit
 pub record IsChosenAt (n : NetworkModel) (place : ℕ) (choice : ℕ → Option Leg) (scheduled : ℕ) (os : List Outcome) (arrival : ℕ) : Type 0 where
@@ -151,28 +141,7 @@ module _ (choice : ℕ → Option Leg) (scheduled : ℕ) where
     before_row : (os : List Outcome) (x : ℕ) (c : IsChosenAt n place choice scheduled os x) (o : Outcome) → Contains os o → x < scheduled + o.delay
         → IsChosenAt n place choice scheduled os (scheduled + o.delay) → (next : Leg) → choice (scheduled + o.delay) ≡ Some next
         → MayPrecede n place (row_by x c.next) (row_by (scheduled + o.delay) next)
-    before_row os x c o has later other next is =
-        let two : other.next ≡ next = same_next (choice (scheduled + o.delay)) other.next next other.is_chosen is in
-        let its : limit_of n place next ≡ Some other.limit = ap (limit_of n place) (sym two) ∙ other.is_limit in
-        elim (cases_lt c.limit (scheduled + o.delay)) [
-          | inl late ↦ record {
-            by = later;
-            limits = λ first second a b.
-                let one = same_limit (limit_of n place c.next) first c.limit a c.is_limit in
-                let last = same_limit (limit_of n place next) second other.limit b its in
-                omega (arith, one, last, late, other.in_time);
-            legs = λ same.
-                let one = same_limit (limit_of n place c.next) other.limit c.limit (same ∙ its) c.is_limit in
-                absurd (omega (arith, one, late, other.in_time));
-          }
-          | inr early ↦
-              let one : c.next ≡ next = same_next (choice (scheduled + o.delay)) c.next next (c.kept o has (omega (arith, later)) early) is in
-              record {
-                by = later;
-                limits = λ first second a b. let e = same_limit (limit_of n place next) first second (ap (limit_of n place) (sym one) ∙ a) b in omega (arith, e);
-                legs = λ same. one;
-              }
-        ]
+    before_row os x c o has later other next is = grind (arith, common_steps, nat_tests)
 
     -- the table's rows stand as they may
     pub before_for : (os : List Outcome) → AllPairs Sooner os

@@ -5,7 +5,7 @@ use Rattle.plan_model.specs.declared.model.Outcome.{Outcome}
 use Rattle.plan_model.specs.NetworkModel.{NetworkModel}
 use Rattle.plan_model.specs.Unfold.{end_of, arrival_of, outcomes_of, unfold_from}
 use Rattle.plan_model.proofs.SameTree.{unfold_from-same}
-use Rattle.leg_walk.proofs.Tables.{same_next}
+use Rattle.leg_walk.proofs.Tables.{one_found}
 
 -- after a leg that arrives at a moment both choose one leg, of which Q holds
 pub record IsSameNext (choice other : Leg → ℕ → Option Leg) (Q : Leg → Type 0) (leg : Leg) (x : ℕ) : Type 0 where
@@ -31,6 +31,6 @@ module _ (n : NetworkModel) (target : ℕ) (choice other : Leg → ℕ → Optio
         (λ leg y coming away. let s = next_at leg y coming away in s.is_chosen ∙ sym s.is_other)
         (λ leg y next coming away is o there.
         let s = next_at leg y coming away in
-        record { holds = subst Q (same_next (choice leg y) s.next next s.is_chosen is) s.holds; o = o; there = there; at = refl })
+        record { holds = subst Q (one_found (choice leg y) s.next next s.is_chosen is) s.holds; o = o; there = there; at = refl })
         (Some start) p x
-        (λ leg is o there. record { holds = subst Q (same_next (Some start) start leg refl is) holds; o = o; there = there; at = refl })
+        (λ leg is o there. record { holds = subst Q (one_found (Some start) start leg refl is) holds; o = o; there = there; at = refl })

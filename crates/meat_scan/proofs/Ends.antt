@@ -1,6 +1,6 @@
 -- When all connections are scanned.
+use Rattle.std.proofs.lemmas.Grind.{common_steps}
 use Rattle.std.proofs.Common.{◌≡◌, ◌≢◌, ℕ, zero, suc, ◌+◌, ◌-◌, ◌<◌, ◌≤◌, List, [], ◌∷◌, Option, Some, None, MatchOption, arith, sym, subst, refl, inl, inr, ◌∙◌, ap}
-use Rattle.std.specs.List.{AllByRecursion}
 use Rattle.std.specs.Option.{option_map}
 use Rattle.std.proofs.lemmas.Bool.{cases_lt}
 use Rattle.std.proofs.lemmas.Bool.Decides.{nat_tests}
@@ -13,13 +13,13 @@ use Rattle.plan_model.specs.Tree.{Tree, Kids, Done, Ride, Stuck, Nil, Kid, heigh
 use Rattle.plan_model.specs.Strategy.{IsSafe, AreSafe, IsSafeFor}
 use Rattle.plan_model.specs.Unfold.{end_of, kids_after, ride_of, ride_or_stuck, unfold_after, unfold_from, by_place}
 use Rattle.stop_profile.specs.declared.Row.{Row}
-use Rattle.stop_profile.specs.Inserts.{row_in_time, Rises}
+use Rattle.stop_profile.specs.Inserts.{row_in_time}
 use Rattle.trip_exit.specs.Offers.{Exit}
 use Rattle.meat_scan.specs.Found.{Found, found_rows, leg_choice, chosen_at, chosen_by}
-use Rattle.meat_scan.specs.Solves.{IsSafeAt, HasAnswers, SolvesEach, IsStartAnswer}
+use Rattle.meat_scan.specs.Solves.{IsSafeAt, HasAnswers, SolvesEach, IsStartAnswer, SolvesStart}
 use Rattle.meat_scan.proofs.Ways.{boards-limit_of}
-use Rattle.meat_scan.proofs.Claims.{IsChosen, ChosenKids, IsRowFor, PlaceOk, RunOk}
-use Rattle.meat_scan.proofs.Kids.{picked_in_time}
+use Rattle.stop_profile.proofs.Looks.{picked_in_time}
+use Rattle.meat_scan.proofs.Claims.{IsChosen, ChosenKids, by_ride, PlaceOk}
 use Rattle.meat_scan.proofs.Starts.{StartOk}
 use Rattle.meat_scan.proofs.ScanStep.{ScanOk}
 
@@ -53,9 +53,7 @@ module _ {V : Type 0} (n : NetworkModel) (target deadline : ℕ) (choice : ℕ �
   -- the ride of a leg, by what its kids are
   ride_of-kids : (enter exit : ℕ) (kids : Kids) (rides : ℕ) (leg : Leg) → leg.enter.0 ≡ enter → leg.exit.0 ≡ exit
       → kids_after (after_leg rides leg) (arr_of n exit) (outcomes n exit) ≡ kids → ride_of n (after_leg rides) leg ≡ Ride enter exit kids
-  ride_of-kids enter exit kids rides leg enters exits same =
-      let after = λ (leave : ℕ). kids_after (after_leg rides leg) (arr_of n leave) (outcomes n leave) in
-      ap (λ i. Ride i leg.exit.0 (after leg.exit.0)) enters ∙ ap (λ j. Ride enter j (after j)) exits ∙ ap (Ride enter exit) same
+  ride_of-kids enter exit kids rides leg enters exits same = grind (arith, common_steps, nat_tests)
 
   mutual
     -- a chosen and safe tree of at most so many rides is what is unfolded
@@ -103,13 +101,16 @@ module _ {V : Type 0} (below covers : V → Tree → Type 0) (gap rank : V → �
   leg_choice-row_in_time : (place arrival : ℕ) → leg_choice found place arrival ≡ option_map (λ row. row.leg) (row_in_time arrival (found_rows found place))
   leg_choice-row_in_time place arrival = option_map-option_map (row_in_time arrival (found_rows found place))
 
-  answer : (place arrival : ℕ) → place ≢ q.target.0 → (row : Row V) → row_in_time arrival (found_rows found place) ≡ Some row
-      → IsRowFor below covers gap n q.target.0 q.deadline.0 scanned (found_rows found) (count n) place arrival row
-      → SolvesEach below covers gap n q found place arrival (row.value, row.leg)
-  answer place arrival away row is claim =
+  answers : (place arrival : ℕ) → place ≢ q.target.0 → (o : Option (Row V)) → row_in_time arrival (found_rows found place) ≡ o
+      → PlaceOk below covers gap n q.target.0 q.deadline.0 scanned (found_rows found) (count n) place arrival o
+      → MatchOption (option_map (λ row. (row.value, row.leg)) o) ((tree : Tree) → IsSafeAt n q place arrival tree → ⊥) (SolvesEach below covers gap n q found place arrival)
+  answers place arrival away None is claim =
+      by_ride (IsSafeAt n q place arrival) (λ moment safe. away safe.1) (λ at moment safe. safe) (λ tree. ⊥)
+      (λ enter exit others safe. claim enter (all enter safe.1.enter) exit others safe)
+  answers place arrival away (Some row) is (limit, claim) =
       let tree = Ride row.leg.enter.0 row.leg.exit.0 claim.kids in
       let in_time = picked_in_time arrival (found_rows found place) row is in
-      let safe : IsSafeAt n q place arrival tree = (away, claim.leg, boards-limit_of n place arrival row.by.0 row.leg claim.limit in_time, claim.safe) in
+      let safe : IsSafeAt n q place arrival tree = (away, claim.is_leg, boards-limit_of n place arrival row.by.0 row.leg limit in_time, claim.safe) in
       let chooses : (later : ℕ) → row_in_time later (found_rows found place) ≡ Some row
       → leg_choice found place later ≡ Some row.leg = λ later there. leg_choice-row_in_time place later ∙ ap (option_map (λ row. row.leg)) there in
       let chosen_is : chosen_at n q found place arrival ≡ tree =
@@ -117,59 +118,37 @@ module _ {V : Type 0} (below covers : V → Tree → Type 0) (gap rank : V → �
       ∙ unfold_from-chosen n q.target.0 q.deadline.0 (leg_choice found)
       (found_rows found) leg_choice-row_in_time row.leg.enter.0 row.leg.exit.0 claim.kids row.leg place arrival away refl refl claim.low claim.safe claim.chosen in
       record {
-        safe = subst (IsSafeAt n q place arrival) (sym chosen_is) safe;
-        covers_chosen = subst (covers row.value) (sym chosen_is) claim.covers_ride;
-        below_safe = below_safe;
+        safe = rw chosen_is safe;
+        covers_chosen = rw chosen_is claim.covers_ride;
+        below_safe = by_ride (IsSafeAt n q place arrival) (λ moment safe. away safe.1) (λ at moment safe. safe) (below row.value)
+            (λ enter exit others safe. claim.below_all enter (all enter safe.1.enter) exit others safe);
         gap_within = claim.gap_within;
         kept = record {
           limit = row.by.0;
-          is_limit = claim.limit;
+          is_limit = limit;
           in_time = in_time;
           kept = λ later after before. chooses later (picked_still (found_rows found place) arrival later row is after before);
         };
       }
-    where
-      below_safe : (tree : Tree) → IsSafeAt n q place arrival tree → below row.value tree
-      below_safe (Done moment) safe = absurd (away safe.1)
-      below_safe (Ride enter exit others) safe = claim.below_all enter exit others (all enter safe.1.enter) safe
-      below_safe (Stuck at moment) safe = absurd safe
-
-  answers : (place arrival : ℕ) → place ≢ q.target.0 → (o : Option (Row V)) → row_in_time arrival (found_rows found place) ≡ o
-      → PlaceOk below covers gap n q.target.0 q.deadline.0 scanned (found_rows found) (count n) place arrival o
-      → MatchOption (option_map (λ row. (row.value, row.leg)) o) ((tree : Tree) → IsSafeAt n q place arrival tree → ⊥) (SolvesEach below covers gap n q found place arrival)
-  answers place arrival away None is claim = nothing
-    where
-      nothing : (tree : Tree) → IsSafeAt n q place arrival tree → ⊥
-      nothing (Done moment) safe = away safe.1
-      nothing (Ride enter exit others) safe = claim enter exit others (all enter safe.1.enter) safe
-      nothing (Stuck at moment) safe = safe
-  answers place arrival away (Some row) is claim = answer place arrival away row is claim
 
   start_answers : (o : Option (V × Leg)) → StartOk below covers gap n q scanned (found_rows found) (count n) o
       → MatchOption o ((tree : Tree) → IsSafeFor n q tree → ⊥) (IsStartAnswer below covers gap n q found)
-  start_answers None claim = nothing
-    where
-      nothing : (tree : Tree) → IsSafeFor n q tree → ⊥
-      nothing (Done moment) safe = differ safe.1
-      nothing (Ride enter exit others) safe = claim enter exit others (all enter safe.1.enter) safe
-      nothing (Stuck at moment) safe = safe
-  start_answers (Some begin) claim =
+  start_answers None claim =
+      by_ride (IsSafeFor n q) (λ moment safe. differ safe.1) (λ at moment safe. safe) (λ tree. ⊥)
+      (λ enter exit others safe. claim enter (all enter safe.1.enter) exit others safe)
+  start_answers (Some begin) (boards, claim) =
       let tree = Ride begin.1.enter.0 begin.1.exit.0 claim.kids in
       let tree_is : chosen_by n q found begin.1 ≡ tree = unfold_from-chosen n q.target.0 q.deadline.0 (leg_choice found)
       (found_rows found) leg_choice-row_in_time begin.1.enter.0 begin.1.exit.0 claim.kids begin.1 q.source.0 q.start.0 differ refl refl claim.low
       claim.safe claim.chosen in
-      let safe : IsSafeFor n q tree = (differ, claim.leg, (claim.from, claim.in_time), claim.safe) in
+      let safe : IsSafeFor n q tree = (differ, claim.is_leg, boards, claim.safe) in
       record {
-        safe = subst (IsSafeFor n q) (sym tree_is) safe;
-        covers_chosen = subst (covers begin.0) (sym tree_is) claim.covers_ride;
-        below_safe = below_safe;
+        safe = rw tree_is safe;
+        covers_chosen = rw tree_is claim.covers_ride;
+        below_safe = by_ride (IsSafeFor n q) (λ moment safe. differ safe.1) (λ at moment safe. safe) (below begin.0)
+            (λ enter exit others safe. claim.below_all enter (all enter safe.1.enter) exit others safe);
         gap_within = claim.gap_within;
       }
-    where
-      below_safe : (tree : Tree) → IsSafeFor n q tree → below begin.0 tree
-      below_safe (Done moment) safe = absurd (differ safe.1)
-      below_safe (Ride enter exit others) safe = claim.below_all enter exit others (all enter safe.1.enter) safe
-      below_safe (Stuck at moment) safe = absurd safe
 
   -- the scan's answers
   pub solves_end : HasAnswers below covers gap n q found
@@ -183,12 +162,22 @@ module _ {V : Type 0} (below covers : V → Tree → Type 0) (gap rank : V → �
     (none : (id : ℕ) → scanned id → ⊥) (rows : ℕ → List (Row V)) (empty : (place : ℕ) → rows place ≡ []) (exits : ℕ → Option (Exit V))
     (no_exits : (run : ℕ) → exits run ≡ None) where
   pub scan_ok_start : ScanOk below covers gap rank network query scanned 0 rows exits None
-  scan_ok_start = record {
-    places = λ place arrival. subst
-        (λ (list : List (Row V)). PlaceOk below covers gap network query.target.0 query.deadline.0 scanned rows 0 place arrival (row_in_time arrival list))
-        (sym (empty place)) (λ enter exit others known safe. none enter known);
-    runs = λ run. subst (RunOk below covers gap network query.target.0 query.deadline.0 scanned rows 0 run) (sym (no_exits run)) (λ other others can. none other can.known);
-    begins = λ enter exit others known safe. none enter known;
-    rises = λ place. subst (Rises rank) (sym (empty place)) tt;
-    gaps = λ place. subst (λ (list : List (Row V)). AllByRecursion (λ row. gap row.value ≤ 0) list) (sym (empty place)) tt;
-  }
+  scan_ok_start = grind (arith, common_steps, nat_tests)
+
+-- the tree that the start leg chooses is the one
+start_solved : {V : Type 0} (below covers : V → Tree → Type 0) (gap : V → ℕ) (n : NetworkModel) (q : Query) (found : Found V) (start : Option (V × Leg))
+    → MatchOption start ((tree : Tree) → IsSafeFor n q tree → ⊥) (IsStartAnswer below covers gap n q found)
+    → SolvesStart below covers gap n q (option_map (λ s. s.0) start)
+start_solved below covers gap n q found None none = none
+start_solved below covers gap n q found (Some start) answer = record {
+  tree = chosen_by n q found start.1;
+  safe = answer.safe;
+  covers_tree = answer.covers_chosen;
+  below_safe = answer.below_safe;
+  gap_within = answer.gap_within;
+}
+
+pub value_solved : {V : Type 0} (below covers : V → Tree → Type 0) (gap : V → ℕ) (n : NetworkModel) (q : Query) (found : Found V) (start : Option (V × Leg))
+    (value : Option V) → MatchOption start ((tree : Tree) → IsSafeFor n q tree → ⊥) (IsStartAnswer below covers gap n q found)
+    → value ≡ option_map (λ s. s.0) start → SolvesStart below covers gap n q value
+value_solved below covers gap n q found start value answer is = grind (arith, common_steps, nat_tests)

@@ -1,5 +1,7 @@
 -- What holds while the scan runs.
-use Rattle.std.proofs.Common.{◌≡◌, ◌≢◌, ℕ, zero, suc, get_or, map, ◌+◌, ◌<◌, ◌≤◌, List, [], ◌∷◌, ◌++◌, length, Option, None, arith, sym, subst, refl, ◌∙◌, ap, append_assoc, cond}
+use Rattle.std.proofs.lemmas.Bool.Decides.{nat_tests}
+use Rattle.std.proofs.lemmas.Grind.{common_steps}
+use Rattle.std.proofs.Common.{◌≡◌, ◌≢◌, ℕ, zero, suc, get_or, map, ◌+◌, ◌<◌, ◌≤◌, List, [], ◌∷◌, ◌++◌, length, Option, None, arith, sym, refl, ◌∙◌, ap, append_assoc, cond, Bool, true, false, All, subst, append-nil}
 use Rattle.std.proofs.lemmas.List.{append-nil}
 use Rattle.std.proofs.lemmas.List.Sums.{sum_by_push}
 use Rattle.plan_model.specs.declared.model.ConnectionId.{ConnectionId}
@@ -7,21 +9,23 @@ use Rattle.plan_model.specs.declared.model.Leg.{Leg}
 use Rattle.plan_model.specs.declared.model.Outcome.{Outcome}
 use Rattle.plan_model.specs.declared.model.Query.{Query}
 use Rattle.plan_model.specs.NetworkModel.{NetworkModel}
-use Rattle.plan_model.specs.Network.{count, from_of, run_of, IsValid}
+use Rattle.plan_model.specs.Network.{count, from_of, run_of, IsValid, connection, to_of, dep_of, arr_of, outcomes}
 use Rattle.plan_model.specs.Tree.{Tree}
-use Rattle.plan_model.specs.Order.{IsScanOrder}
+use Rattle.plan_model.specs.Order.{IsScanOrder, IsPrefixUpTo}
 use Rattle.plan_model.proofs.ScanOrders.{has_each_id, Known, Never, whole_order, next_of, all_known}
 use Rattle.value_laws.specs.ScoreLaws.{ScoreLaws}
 use Rattle.stop_profile.specs.declared.Row.{Row}
 use Rattle.stop_profile.specs.Shown.{ShownProfile}
 use Rattle.trip_exit.specs.Offers.{Exit}
-use Rattle.meat_scan.specs.Step.{exits_next, rows_next, start_next}
+use Rattle.meat_scan.specs.Step.{exits_next, rows_next, start_next, left_by, boarding_exit}
 use Rattle.meat_scan.specs.Rules.{Kept, kept_next, kept_after, FollowsRules}
 use Rattle.meat_scan.specs.Tables.{rows_of_profile, spare_at, exit_at, has_way, boardable, HasRoom, IsEmpty}
 use Rattle.meat_scan.specs.Found.{Found, found_rows}
 use Rattle.meat_scan.specs.Solves.{HasAnswers}
 use Rattle.meat_scan.proofs.ScanStep.{ScanOk, scan_ok_step}
 use Rattle.meat_scan.proofs.Ends.{scan_ok_start, solves_end}
+use Rattle.std.proofs.lemmas.List.Elements.{All-tail, All-head}
+use Rattle.meat_scan.specs.Values.{value_after_arrival, values_after, in_front}
 
 -- functions that agree everywhere are one
 pub same_function : {A B : Type 0} (f g : A → B) → ((x : A) → f x ≡ g x) → f ≡ g
@@ -66,17 +70,13 @@ module _ {V : Type 0} {below covers : V → Tree → Type 0} {gap rank : V → �
       let known = Known Never (id ∷ state.taken) in
       let next = next_of network good Never order (whole_order network order whole) rest state.taken id state.split in
       let stepped = scan_ok_step laws network good query (Known Never state.taken) (length state.taken) id.0 next (rows_of_profile profiles) (exit_at exits) start state.ok in
-      let counted = subst (λ n. ScanOk below covers gap rank network query known n
-      (λ place. rows_next rank lowered arrived blended network query id.0 (rows_of_profile profiles) (exit_at exits) place)
-      (λ run. exits_next rank lowered arrived blended network query id.0 (rows_of_profile profiles) (exit_at exits) run)
-      (start_next rank lowered arrived blended network query id.0 (rows_of_profile profiles) (exit_at exits) start))
-      (let e : length state.taken + 1 ≡ length (id ∷ state.taken) = omega arith in e) stepped in
+      let count : length (id ∷ state.taken) ≡ length state.taken + 1 = omega arith in
       let rows_same = same_function (rows_of_profile profiles') (λ place. rows_next rank lowered arrived blended network query id.0 (rows_of_profile profiles) (exit_at exits) place) rows_are in
       let exits_same = same_function (exit_at exits') (λ run. exits_next rank lowered arrived blended network query id.0 (rows_of_profile profiles) (exit_at exits) run) exits_are in
       record {
         taken = id ∷ state.taken;
         split = sym (append_assoc rest (id ∷ []) state.taken) ∙ state.split;
-        ok = rw (rows_same, exits_same, start_is) counted;
+        ok = rw (rows_same, exits_same, start_is, count) stepped;
         kept = kept_same rows_same exits_same start_is ∙ ap (kept_next rank lowered arrived blended network query id.0) state.kept;
       }
 
@@ -88,9 +88,7 @@ module _ {V : Type 0} {below covers : V → Tree → Type 0} {gap rank : V → �
       let all_taken : state.taken ≡ order = ap (λ (ids : List ConnectionId). ids ++ state.taken) (sym none) ∙ state.split in
       let all_count : length state.taken ≡ count network = ap length all_taken ∙ (has_each_id network order whole).as_many in
       let known = all_known network good Never order (whole_order network order whole) rest state.taken none state.split in
-      let counted = subst (λ n. ScanOk below covers gap rank network query (Known Never state.taken) n (rows_of_profile profiles) (exit_at exits) found.start) all_count state.ok in
-      solves_end below covers gap rank network query (Known Never state.taken) known differ found (exit_at exits)
-      (subst (λ rows. ScanOk below covers gap rank network query (Known Never state.taken) (count network) rows (exit_at exits) found.start) (sym rows_are) counted)
+      solves_end below covers gap rank network query (Known Never state.taken) known differ found (exit_at exits) (rw (rows_are, ← all_count) state.ok)
 
   -- what was found follows the rules
   pub rules_end : (rest : List ConnectionId) (profiles : List (ShownProfile V)) (exits : List (Option (Exit V))) (found : Found V) → rest ≡ []
@@ -126,12 +124,7 @@ module _ {V : Type 0} (network : NetworkModel) (rest : List ConnectionId) (id : 
   pub room_next : (profiles' : List (ShownProfile V)) (exits' : List (Option (Exit V))) (kids' : List V)
       → ((place : ℕ) → spare_at profiles place ≤ spare_at profiles' place + cond (has_way network place (from_of network id.0)) 1 0)
       → length profiles' ≡ length profiles → length exits' ≡ length exits → length kids' ≡ length kids → HasRoom network rest profiles' exits' kids'
-  room_next profiles' exits' kids' spare same_places same_runs same_kids = record {
-    places = same_places ∙ room.places;
-    runs = λ i inside. omega (arith, room.runs i inside);
-    room = λ place within. omega (arith, room.room place (omega arith), boardable-push network place rest id, spare place);
-    outcomes = omega (arith, room.outcomes);
-  }
+  room_next profiles' exits' kids' spare same_places same_runs same_kids = grind (arith, common_steps, nat_tests)
 
 -- the rows that are found are those of the profiles
 pub found_rows-profiles : {V : Type 0} (start : Option (V × Leg)) (target : ℕ) (profiles : List (ShownProfile V))
@@ -142,3 +135,79 @@ found_rows-profiles {V} start target profiles = same_function _ (rows_of_profile
     at [] place = refl
     at (profile ∷ more) zero = refl
     at (profile ∷ more) (suc place) = at more place
+
+-- Connections that depart after the deadline change nothing.
+-- no value after an arrival past the deadline, where no place has rows
+no_value : {V : Type 0} (arrived : ℕ → V) (target deadline : ℕ) (rows : ℕ → List (Row V)) (place arrival : ℕ) → rows place ≡ [] → deadline < arrival
+    → value_after_arrival arrived target deadline rows place arrival ≡ None
+no_value arrived target deadline rows place arrival none late = grind (arith, common_steps, nat_tests)
+
+no_values : {V : Type 0} (arrived : ℕ → V) (target deadline : ℕ) (rows : ℕ → List (Row V)) (place scheduled : ℕ) (row : List Outcome) → 0 < length row
+    → rows place ≡ [] → deadline < scheduled → values_after arrived target deadline rows place scheduled row ≡ None
+no_values arrived target deadline rows place scheduled [] some none late = absurd (omega arith)
+no_values {V} arrived target deadline rows place scheduled (outcome ∷ row) some none late =
+    ap (λ (value : Option V). in_front value (values_after arrived target deadline rows place scheduled row))
+    (no_value arrived target deadline rows place (scheduled + outcome.delay) none (omega arith))
+
+cond_none : {X : Type 0} (b : Bool) → cond {A = Option X} b None None ≡ None
+cond_none true = refl
+cond_none false = refl
+
+module _ {V : Type 0} (rank : V → ℕ) (lowered : V → V → V) (arrived : ℕ → V) (blended : List Outcome → List V → V) (network : NetworkModel)
+    (good : IsValid network) (query : Query) (id : ℕ) (there : id < count network) (late : query.deadline.0 < dep_of network id)
+    (rows : ℕ → List (Row V)) (exits : ℕ → Option (Exit V)) (no_rows : (place : ℕ) → rows place ≡ []) (no_exits : (run : ℕ) → exits run ≡ None) where
+  -- no exit gives a value
+  left_none : left_by arrived blended network query rows id ≡ None
+  left_none =
+      let row = good.rows (connection network id).class.0 (good.connections id there).class_in in
+      let after : query.deadline.0 < arr_of network id = omega (arith, late, (good.connections id there).forward) in
+      let none : values_after arrived query.target.0 query.deadline.0 rows (to_of network id) (arr_of network id) (outcomes network id) ≡ None =
+      no_values arrived query.target.0 query.deadline.0 rows (to_of network id) (arr_of network id) (outcomes network id) row.some
+      (no_rows (to_of network id)) after in
+      rw none (cond_none (connection network id).can_exit)
+
+  pub exits_kept : (run : ℕ) → exits_next rank lowered arrived blended network query id rows exits run ≡ exits run
+  exits_kept run = rw left_none refl
+
+  boarded_none : boarding_exit network id (exits_next rank lowered arrived blended network query id rows exits) ≡ None
+  boarded_none = rw (left_none, no_exits (run_of network id)) (cond_none (connection network id).can_board)
+
+  pub rows_kept : (place : ℕ) → rows_next rank lowered arrived blended network query id rows exits place ≡ rows place
+  rows_kept place = rw boarded_none refl
+
+  pub start_kept : (start : Option (V × Leg)) → start_next rank lowered arrived blended network query id rows exits start ≡ start
+  start_kept start = rw boarded_none refl
+
+-- the tables have room for less
+pub room_less : {V : Type 0} (network : NetworkModel) (rest skipped : List ConnectionId) (profiles : List (ShownProfile V)) (exits : List (Option (Exit V)))
+    (kids : List V) → HasRoom network (rest ++ skipped) profiles exits kids → HasRoom network rest profiles exits kids
+room_less network rest skipped profiles exits kids room = grind (arith, common_steps, nat_tests)
+
+module _ {V : Type 0} {below covers : V → Tree → Type 0} {gap rank : V → ℕ} {arrived : ℕ → V} {blended : List Outcome → List V → V}
+    {lowered : V → V → V} (laws : ScoreLaws below covers gap rank arrived blended lowered) (network : NetworkModel) (good : IsValid network) (query : Query)
+    (order : List ConnectionId) (whole : IsScanOrder network order) (profiles : List (ShownProfile V)) (exits : List (Option (Exit V))) (empty : IsEmpty profiles exits) where
+  -- after the skipped ones, by induction over them
+  late_state : (rest skipped : List ConnectionId) → rest ++ skipped ≡ order → All (λ id. query.deadline.0 < dep_of network id.0) skipped
+      → ScanState below covers gap rank lowered arrived blended network query order rest profiles exits None
+  late_state rest [] split late =
+      let same : order ≡ rest = sym split ∙ append-nil rest in
+      subst (λ (ids : List ConnectionId). ScanState below covers gap rank lowered arrived blended network query order ids profiles exits None) same
+      (first_state laws network good query order whole profiles exits empty)
+  late_state rest (id ∷ skipped) split late =
+      let before = late_state (rest ++ id ∷ []) skipped (append_assoc rest (id ∷ []) skipped ∙ split) (All-tail (λ (i : ConnectionId). query.deadline.0 < dep_of network i.0) id skipped late) in
+      let after : query.deadline.0 < dep_of network id.0 = All-head (λ (i : ConnectionId). query.deadline.0 < dep_of network i.0) id skipped late in
+      let there = id_there network good order whole rest before.taken id before.split in
+      next_state laws network good query order whole rest id profiles profiles exits exits None None before
+      (λ place. sym (rows_kept rank lowered arrived blended network good query id.0 there after (rows_of_profile profiles) (exit_at exits) empty.no_rows empty.no_exits place))
+      (λ run. sym (exits_kept rank lowered arrived blended network good query id.0 there after (rows_of_profile profiles) (exit_at exits) empty.no_rows empty.no_exits run))
+      (sym (start_kept rank lowered arrived blended network good query id.0 there after (rows_of_profile profiles) (exit_at exits) empty.no_rows empty.no_exits None))
+
+  -- where the scan begins
+  pub skipped_state : (rest : List ConnectionId) → IsPrefixUpTo network query.deadline.0 order rest
+      → ScanState below covers gap rank lowered arrived blended network query order rest profiles exits None
+  skipped_state rest up_to = late_state rest up_to.skipped (sym up_to.split) up_to.late
+
+pub skipped_room : {V : Type 0} (network : NetworkModel) (last : ℕ) (order rest : List ConnectionId) (profiles : List (ShownProfile V))
+    (exits : List (Option (Exit V))) (kids : List V) → IsPrefixUpTo network last order rest → HasRoom network order profiles exits kids
+    → HasRoom network rest profiles exits kids
+skipped_room network last order rest profiles exits kids up_to room = grind (arith, common_steps, nat_tests)

@@ -1,10 +1,12 @@
 -- One way after the other.
-use Rattle.std.proofs.Common.{◌≡◌, ◌≢◌, ℕ, zero, suc, ◌+◌, ◌<◌, ◌≤◌, true, List, [], ◌∷◌, ◌++◌, Option, Some, None, AllPairs, length, get_or, take, cond, slice_get}
+use Rattle.std.proofs.lemmas.Grind.{common_steps}
+use Rattle.std.proofs.Common.{◌≡◌, ◌≢◌, ℕ, suc, ◌+◌, ◌<◌, ◌≤◌, true, List, [], ◌∷◌, ◌++◌, Option, Some, None, AllPairs, length, get_or, take, cond, slice_get}
 use Rattle.std.proofs.Common.{arith, sym, ap, ◌∙◌, refl, inl, inr, subst, set, length-take-le, get_or-set_same, get_or-set_other}
 use Rattle.std.specs.Prelude.{find, ◌==◌, is_some}
-use Rattle.std.specs.Option.{option_map}
-use Rattle.std.specs.List.{AllByRecursion}
-use Rattle.std.proofs.lemmas.Bool.{cases_eq}
+use Rattle.std.specs.Option.{option_map, option_or}
+use Rattle.std.proofs.lemmas.Bool.{cases_eq, eq-eqb, ne_eqb}
+use Rattle.std.proofs.lemmas.List.Folds.{find-append}
+use Rattle.std.proofs.lemmas.Option.{slice_get-get_or}
 use Rattle.std.proofs.lemmas.Bool.Decides.{nat_tests}
 use Rattle.std.proofs.lemmas.List.{take_more, get_or-take}
 use Rattle.plan_model.specs.declared.model.Leg.{Leg}
@@ -21,65 +23,40 @@ use Rattle.meat_scan.specs.Tables.{has_way}
 abbrev pub way_in : List Way → ℕ → Option Way
 way_in ways place = find (λ way. way.from.0 == place) ways
 
--- all of these ways come from elsewhere
-abbrev Elsewhere : ℕ → List Way → Type 0
-Elsewhere place ways = AllByRecursion (λ way. way.from.0 ≢ place) ways
+-- where all of them come from elsewhere there is none
+way_in-none : (ways : List Way) (place : ℕ) → ((j : ℕ) (d : Way) → j < length ways → (get_or ways j d).from.0 ≢ place) → way_in ways place ≡ None
+way_in-none [] place away = refl
+way_in-none (way ∷ ways) place away = rw (ne_eqb way.from.0 place (away 0 way (omega arith)))
+    (way_in-none ways place (λ j d within. away (suc j) d (omega arith)))
 
-way_in-elsewhere : (ways : List Way) (place : ℕ) → Elsewhere place ways → way_in ways place ≡ None
-way_in-elsewhere [] place all = refl
-way_in-elsewhere (way ∷ ways) place all =
-    let e : way_in (way ∷ ways) place ≡ way_in ways place = let away = all.0 in grind (arith, nat_tests) in
-    e ∙ way_in-elsewhere ways place all.1
-
--- a way is the one from its place where no way before it comes from there
-way_in-push : (ways : List Way) (way : Way) (place : ℕ) → Elsewhere way.from.0 ways → way_in (ways ++ way ∷ []) place ≡ (cond (way.from.0 == place) (Some way) (way_in ways place))
-way_in-push [] way place all = refl
-way_in-push (first ∷ ways) way place all = elim (cases_eq first.from.0 place) [
-  | inl here ↦
-      let away : way.from.0 ≢ place = λ at. all.0 (here ∙ sym at) in
-      grind (arith, nat_tests)
-  | inr away ↦
-      let e : way_in (first ∷ (ways ++ way ∷ [])) place ≡ way_in (ways ++ way ∷ []) place = grind (arith, nat_tests) in
-      let f : way_in (first ∷ ways) place ≡ way_in ways place = grind (arith, nat_tests) in
-      e ∙ way_in-push ways way place all.1 ∙ ap (cond (way.from.0 == place) (Some way)) (sym f)
-]
-
-elsewhere_of : (ways : List Way) (place : ℕ) → ((j : ℕ) (d : Way) → j < length ways → (get_or ways j d).from.0 ≢ place) → Elsewhere place ways
-elsewhere_of [] place all = tt
-elsewhere_of (way ∷ ways) place all = (all 0 way (omega arith), elsewhere_of ways place (λ j d within. all (suc j) d (omega arith)))
+option_or-None : (o : Option Way) → option_or o None ≡ o
+option_or-None None = refl
+option_or-None (Some way) = refl
 
 with_way-none : {V : Type 0} (rank : V → ℕ) (lowered : V → V → V) (target dep : ℕ) (value : V) (leg : Leg) (place : ℕ) (rows : List (Row V))
     → with_way rank lowered target dep value leg None place rows ≡ rows
-with_way-none rank lowered target dep value leg place rows = elim (cases_eq place target) [
-  | inl here ↦ grind (arith, nat_tests)
-  | inr away ↦ grind (arith, nat_tests)
-]
+with_way-none rank lowered target dep value leg place rows = grind (arith, common_steps, nat_tests)
 
 -- one, where there is a way
 abbrev pub way_number : Option Way → ℕ
 way_number way = cond (is_some way) 1 0
 
-get_or-slice_get : (ways : List Way) (k : ℕ) (way d : Way) → slice_get ways k ≡ Some way → get_or ways k d ≡ way
-get_or-slice_get [] k way d is = absurd (cc)
-get_or-slice_get (first ∷ ways) zero way d is = cc
-get_or-slice_get (first ∷ ways) (suc k) way d is = get_or-slice_get ways k way d is
-
 module _ (ways : List Way) (distinct : AllPairs (λ a b. a.from.0 ≢ b.from.0) ways) (k : ℕ) (within : k < length ways) (way : Way) (is : slice_get ways k ≡ Some way) where
-  before : Elsewhere way.from.0 (take k ways)
-  before = elsewhere_of (take k ways) way.from.0 (λ j d inside.
-      let below : j < k = omega (arith, length-take-le k ways (omega arith)) in
-      let apart = distinct j k d below within in
-      let taken = get_or-take k ways j d below in
-      λ same. apart (sym (ap (λ (w : Way). w.from.0) taken) ∙ same ∙ sym (ap (λ (w : Way). w.from.0) (get_or-slice_get ways k way d is))))
+  read : (d : Way) → get_or ways k d ≡ way
+  read d = let both = sym is ∙ slice_get-get_or ways k d within in cc
 
   -- no way before it comes from its place
   pub none_before : way_in (take k ways) way.from.0 ≡ None
-  none_before = way_in-elsewhere (take k ways) way.from.0 before
+  none_before = way_in-none (take k ways) way.from.0 (λ j d inside.
+      let below : j < k = omega (arith, length-take-le k ways (omega arith)) in
+      let apart = distinct j k d below within in
+      let taken = get_or-take k ways j d below in
+      λ same. apart (sym (ap (λ (w : Way). w.from.0) taken) ∙ same ∙ sym (ap (λ (w : Way). w.from.0) (read d))))
 
-  next : (place : ℕ) → way_in (take (k + 1) ways) place ≡ cond (way.from.0 == place) (Some way) (way_in (take k ways) place)
+  next : (place : ℕ) → way_in (take (k + 1) ways) place ≡ option_or (way_in (take k ways) place) (way_in (way ∷ []) place)
   next place =
-      ap (λ list. way_in list place) (take_more ways k way within ∙ ap (λ (w : Way). take k ways ++ w ∷ []) (get_or-slice_get ways k way way is))
-      ∙ way_in-push (take k ways) way place before
+      ap (λ list. way_in list place) (take_more ways k way within ∙ ap (λ (w : Way). take k ways ++ w ∷ []) (read way))
+      ∙ find-append (λ (w : Way). w.from.0 == place) (take k ways) (way ∷ [])
 
   -- the way comes from the place, or from elsewhere
   pub data WayCase (place : ℕ) : Type 0 where
@@ -88,8 +65,10 @@ module _ (ways : List Way) (distinct : AllPairs (λ a b. a.from.0 ≢ b.from.0) 
 
   pub way_case : (place : ℕ) → WayCase place
   way_case place = elim (cases_eq way.from.0 place) [
-    | inl here ↦ comes here (subst (λ p. way_in (take k ways) p ≡ None) here none_before) (next place ∙ (grind (arith, nat_tests)))
-    | inr away ↦ passes away (next place ∙ (grind (arith, nat_tests)))
+    | inl here ↦
+        let none = subst (λ p. way_in (take k ways) p ≡ None) here none_before in
+        comes here none (next place ∙ rw (none, eq-eqb way.from.0 place here) refl)
+    | inr away ↦ passes away (next place ∙ rw (ne_eqb way.from.0 place away) (option_or-None (way_in (take k ways) place)))
   ]
 
   -- the rows of a place after one way more
@@ -113,15 +92,8 @@ module _ (ways : List Way) (distinct : AllPairs (λ a b. a.from.0 ≢ b.from.0) 
   pub spare_next : (place old now new : ℕ) → old ≤ now + way_number (way_in (take k ways) place) → now ≤ new + cond (way.from.0 == place) 1 0
       → old ≤ new + way_number (way_in (take (k + 1) ways) place)
   spare_next place old now new before_now now_new = elim (way_case place) [
-    | comes here none some ↦
-        let was : way_number (way_in (take k ways) place) ≡ 0 = ap way_number none in
-        let is_one : way_number (way_in (take (k + 1) ways) place) ≡ 1 = ap way_number some in
-        let one : ◌≡◌ {A = ℕ} (cond (way.from.0 == place) 1 0) 1 = grind (arith, nat_tests) in
-        omega (arith, was, is_one, one)
-    | passes away same ↦
-        let as_before : way_number (way_in (take (k + 1) ways) place) ≡ way_number (way_in (take k ways) place) = ap way_number same in
-        let zero_more : ◌≡◌ {A = ℕ} (cond (way.from.0 == place) 1 0) 0 = grind (arith, nat_tests) in
-        omega (arith, as_before, zero_more)
+    | comes here none some ↦ omega (arith, ap way_number none, ap way_number some, ap (λ b. cond {A = ℕ} b 1 0) (eq-eqb way.from.0 place here))
+    | passes away same ↦ omega (arith, ap way_number same, ap (λ b. cond {A = ℕ} b 1 0) (ne_eqb way.from.0 place away))
   ]
 
   -- a count for each place after one way more

@@ -1,5 +1,7 @@
 -- Who can board a leg: whoever arrives by its limit.
-use Rattle.std.proofs.Common.{◌≡◌, ℕ, ◌-◌, ◌<◌, ◌≤◌, Some, None, arith, sym, ◌∙◌}
+use Rattle.std.proofs.lemmas.Bool.Decides.{nat_tests}
+use Rattle.std.proofs.lemmas.Grind.{common_steps}
+use Rattle.std.proofs.Common.{◌≡◌, ℕ, ◌-◌, ◌<◌, ◌≤◌, Some, None, arith}
 use Rattle.plan_model.specs.declared.model.Leg.{Leg}
 use Rattle.plan_model.specs.NetworkModel.{NetworkModel}
 use Rattle.plan_model.specs.Network.{count, from_of, dep_of, IsValid}
@@ -15,23 +17,15 @@ limit_of-boards n p x leg board =
     (by, is, omega (arith, board.in_time))
 
 pub boards_by : (n : NetworkModel) (p x by : ℕ) (leg : Leg) → limit_of n p leg ≡ Some by → IsBoardable n p x leg.enter.0 → x ≤ by
-boards_by n p x by leg is board =
-    let (latest, is_latest, in_time) = limit_of-boards n p x leg board in
-    let same : latest ≡ by = let both = sym is_latest ∙ is in cc in
-    omega arith
+boards_by n p x by leg is board = grind (arith, common_steps, nat_tests)
 
 -- with no limit nobody can board
 pub never_boards : (n : NetworkModel) (p x : ℕ) (leg : Leg) → limit_of n p leg ≡ None → IsBoardable n p x leg.enter.0 → ⊥
-never_boards n p x leg none board =
-    let (latest, is_latest, in_time) = limit_of-boards n p x leg board in
-    let both = sym is_latest ∙ none in
-    absurd (cc)
+never_boards n p x leg none board = grind (arith, common_steps, nat_tests)
 
 -- whoever has arrived by the limit can board
 pub boards-limit_of : (n : NetworkModel) (p x by : ℕ) (leg : Leg) → limit_of n p leg ≡ Some by → x ≤ by → IsBoardable n p x leg.enter.0
-boards-limit_of n p x by leg is in_time =
-    let (seconds, way, sum) = limit_of-some n p leg by is in
-    record { seconds = seconds; way = way; in_time = omega arith }
+boards-limit_of n p x by leg is in_time = grind (arith, common_steps, nat_tests)
 
 -- the limit is before the departure
 pub limit_of-before : (n : NetworkModel) → IsValid n → (p by : ℕ) (leg : Leg) → leg.enter.0 < count n → limit_of n p leg ≡ Some by → by < dep_of n leg.enter.0

@@ -1,7 +1,8 @@
 -- The scan order of a network, and what is left of it.
-use Rattle.std.proofs.Common.{◌≡◌, ℕ, zero, suc, ◌<◌, ◌≤◌, inl, inr, ⊎_elim, ltb, List, [], ◌∷◌, ◌++◌, All, AllPairs, arith, sym, subst}
+use Rattle.std.proofs.lemmas.Grind.{common_steps}
+use Rattle.std.proofs.Common.{◌≡◌, ℕ, zero, suc, ◌<◌, ◌≤◌, ltb, List, [], ◌∷◌, ◌++◌, All, AllPairs, arith, sym, subst}
 use Rattle.std.specs.List.Sorted.{IsPermutation}
-use Rattle.std.proofs.lemmas.Bool.{cases_lt, cond_both, ltb-true, ltb-false}
+use Rattle.std.proofs.lemmas.Bool.{cond_both, ltb-true, ltb-false}
 use Rattle.std.proofs.lemmas.List.Elements.{All-cons, All-tail, All-head}
 use Rattle.std.proofs.lemmas.List.Kept.{AllPairs-cons}
 use Rattle.std.proofs.lemmas.List.Sorted.{IsPermutation-refl, IsPermutation-cons, IsPermutation-trans, IsPermutation-to_front, IsPermutation-sym, IsPermutation-middle, All-permutation}
@@ -9,7 +10,7 @@ use Rattle.plan_model.proofs.Lists.{AllPairs-first, AllPairs-tail}
 use Rattle.plan_model.specs.Bounds.{most_connections}
 use Rattle.plan_model.specs.declared.model.ConnectionId.{ConnectionId}
 use Rattle.plan_model.specs.NetworkModel.{NetworkModel}
-use Rattle.plan_model.specs.Network.{IsValid, count, dep_of}
+use Rattle.plan_model.specs.Network.{IsValid, count}
 use Rattle.plan_model.specs.Order.{IsScanOrder, IsEarlier, ids_below}
 use Rattle.plan_model.proofs.ScanOrders.{length_ids, get_ids}
 use Rattle.merged_runs.specs.Merged.{rank, with_connection, in_order}
@@ -64,10 +65,7 @@ AllPairs-in_order n (suc m) few =
     AllPairs-with_connection n m (in_order n m) (λ k d within. rank_apart n _ m (All-in_order n m k d within) (omega arith)) (AllPairs-in_order n m (omega arith))
 
 earlier : (n : NetworkModel) → IsValid n → (i j : ℕ) → i < count n → j < count n → rank n i < rank n j → IsEarlier n i j
-earlier n v i j h k less =
-    let few = v.few_connections in
-    ⊎_elim (λ departs. inl departs) (λ ge. let same : dep_of n i ≡ dep_of n j = omega arith in let before : i < j =
-    omega arith in inr (same, v.rising i j before k)) (cases_lt (dep_of n i) (dep_of n j))
+earlier n v i j h k less = grind (arith, common_steps)
 
 pub IsScanOrder-in_order : (n : NetworkModel) → IsValid n → IsScanOrder n (in_order n (count n))
 IsScanOrder-in_order n v =

@@ -1,7 +1,8 @@
 -- Where the runs of a network start.
-use Rattle.std.proofs.Common.{◌≡◌, ℕ, ◌+◌, ◌-◌, ◌<◌, ◌≤◌, ⊎_elim, List, [], ◌∷◌, ◌++◌, length, get_or, arith, ap}
+use Rattle.std.proofs.lemmas.Bool.Decides.{nat_tests}
+use Rattle.std.proofs.lemmas.Grind.{common_steps}
+use Rattle.std.proofs.Common.{◌≡◌, ℕ, ◌+◌, ◌-◌, ◌<◌, ◌≤◌, ⊎_elim, List, [], ◌∷◌, ◌++◌, length, get_or, arith}
 use Rattle.std.proofs.lemmas.Bool.{cases_lt}
-use Rattle.std.proofs.lemmas.List.{get_or_append_left, get_or_push, length_push}
 use Rattle.plan_model.specs.NetworkModel.{NetworkModel}
 use Rattle.plan_model.specs.Network.{IsValid, count, run_of}
 use Rattle.plan_model.proofs.Runs.{run_mono}
@@ -15,34 +16,15 @@ pub record AreStartsBelow (n : NetworkModel) (i : ℕ) (starts : List ℕ) : Typ
   pub coming : (j : ℕ) → i ≤ j → j < count n → length starts ≤ run_of n j + 1
 
 pub AreStartsBelow-none : (n : NetworkModel) → AreStartsBelow n 0 []
-AreStartsBelow-none n = record {
-  each = λ r h. absurd (omega arith);
-  few = omega arith;
-  passed = λ j h. absurd (omega arith);
-  coming = λ j h k. omega arith;
-}
+AreStartsBelow-none n = grind (arith, common_steps, nat_tests)
 
 each_push : (n : NetworkModel) (starts : List ℕ) (s : ℕ) → ((r : ℕ) → r < length starts → IsStart n r (get_or starts r 0)) → IsStart n (length starts) s
     → (r : ℕ) → r < length (starts ++ s ∷ []) → IsStart n r (get_or (starts ++ s ∷ []) r 0)
-each_push n starts s each last r h =
-    ⊎_elim (λ less. rw (get_or_append_left starts (s ∷ []) 0 r less) (each r less))
-    (λ ge. let e : length starts ≡ r = omega (arith, length_push starts s) in rw (get_or_push starts s 0 r e, ← e) last)
-    (cases_lt r (length starts))
+each_push n starts s each last r h = grind (arith, common_steps)
 
 pub AreStartsBelow-start : (n : NetworkModel) → IsValid n → (i : ℕ) (starts : List ℕ) → i < count n → run_of n i ≡ length starts
     → AreStartsBelow n i starts → AreStartsBelow n (i + 1) (starts ++ i ∷ [])
-AreStartsBelow-start n v i starts h new b =
-    let len = length_push starts i in
-    record {
-      each = each_push n starts i b.each (record {
-        within = omega arith;
-        before = b.passed;
-        after = λ j ge less. omega (arith, run_mono n v i j ge less);
-      });
-      few = omega (arith, len, b.few);
-      passed = λ j less. ⊎_elim (λ before. omega (arith, len, b.passed j before)) (λ ge. let e : j ≡ i = omega arith in omega (arith, len, ap (run_of n) e)) (cases_lt j i);
-      coming = λ j ge less. omega (arith, len, run_mono n v i j (omega arith) less);
-    }
+AreStartsBelow-start n v i starts h new b = grind (arith, common_steps)
 
 within : (n : NetworkModel) → IsValid n → (i : ℕ) (starts : List ℕ) → i < count n → (run_of n i ≡ length starts → ⊥) → AreStartsBelow n i starts → run_of n i < length starts
 within n v i starts h other b =
@@ -62,16 +44,4 @@ AreStartsBelow-within n v i starts h other b = record {
 }
 
 pub AreStarts-from_below : (n : NetworkModel) → IsValid n → (starts : List ℕ) → AreStartsBelow n (count n) starts → AreStarts n (starts ++ count n ∷ [])
-AreStarts-from_below n v starts b =
-    let len = length_push starts (count n) in
-    record {
-      valid = v;
-      each = each_push n starts (count n) b.each (record {
-        within = omega arith;
-        before = b.passed;
-        after = λ j ge less. absurd (omega arith);
-      });
-      some = omega (arith, len);
-      few = omega (arith, len, b.few, v.few_connections);
-      whole = get_or_push starts (count n) 0 (length (starts ++ count n ∷ []) - 1) (omega (arith, len));
-    }
+AreStarts-from_below n v starts b = grind (arith, common_steps)

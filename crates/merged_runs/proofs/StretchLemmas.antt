@@ -1,4 +1,6 @@
 -- What is left of the runs of a network.
+use Rattle.std.proofs.lemmas.Bool.Decides.{nat_tests}
+use Rattle.std.proofs.lemmas.Grind.{common_steps}
 use Rattle.std.proofs.Common.{◌≡◌, ℕ, zero, suc, ◌+◌, ◌-◌, ◌<◌, ◌≤◌, ⊎_elim, Bool, true, false, cond, ltb, List, [], ◌∷◌, ◌++◌, length, get_or, set, take, drop, add-one}
 use Rattle.std.proofs.Common.{All, AllPairs, arith, refl, sym, ap, ◌∙◌, subst}
 use Rattle.std.specs.Prelude.{Contains, filter}
@@ -21,37 +23,19 @@ pub record IsOfRun (n : NetworkModel) (starts : List ℕ) (i : ℕ) : Type 0 whe
   pub to : i < get_or starts (run_of n i + 1) 0
 
 pub of_run : (n : NetworkModel) (starts : List ℕ) → AreStarts n starts → (i : ℕ) → i < count n → IsOfRun n starts i
-of_run n starts s i h =
-    let last : ℕ = length starts - 1 in
-    let r : ℕ = run_of n i in
-    let some = s.some in
-    let run : r < last = (s.each last (omega arith)).before i (omega (arith, s.whole)) in
-    record {
-      run = omega arith;
-      from = ⊎_elim (λ less. absurd (omega (arith, (s.each r (omega arith)).before i less))) (λ ge. ge) (cases_lt i (get_or starts r 0));
-      to = ⊎_elim (λ less. less) (λ ge. absurd (omega (arith, (s.each (r + 1) (omega arith)).after i ge h))) (cases_lt i (get_or starts (r + 1) 0));
-    }
+of_run n starts s i h = grind (arith, common_steps)
 
 -- between two starts there are the connections of one run
 pub run_between : (n : NetworkModel) (starts : List ℕ) → AreStarts n starts → (r i : ℕ) → r + 1 < length starts → get_or starts r 0 ≤ i → i < get_or starts (r + 1) 0 → (i < count n) × (run_of n i ≡ r)
-run_between n starts s r i h from to =
-    let first = s.each r (omega arith) in
-    let next = s.each (r + 1) h in
-    let inside : i < count n = omega (arith, next.within, to) in
-    (inside, omega (arith, first.after i from inside, next.before i to))
+run_between n starts s r i h from to = grind (arith, common_steps)
 
 -- what is left of a run ends within the network
 pub within_count : (n : NetworkModel) (starts left : List ℕ) → AreStretches n starts left → (r : ℕ) → r < length left → get_or left r 0 ≤ most_connections
-within_count n starts left s r h =
-    let next = s.begin.each (r + 1) (omega (arith, s.size)) in
-    omega (arith, (s.within r h).1, next.within, s.begin.valid.few_connections)
+within_count n starts left s r h = grind (arith, common_steps)
 
 -- ranks do not fall along a run
 pub rank_along : (n : NetworkModel) → IsValid n → (i j : ℕ) → i ≤ j → j < count n → run_of n i ≡ run_of n j → rank n i ≤ rank n j
-rank_along n v i j h k same =
-    ⊎_elim (λ less. omega (arith, v.onward i j less k same, (v.connections i (omega arith)).forward))
-    (λ ge. let e : i ≡ j = omega arith in omega (arith, ap (rank n) e))
-    (cases_lt i j)
+rank_along n v i j h k same = grind (arith, common_steps)
 
 pub key_of-none : (n : NetworkModel) (starts left : List ℕ) (r : ℕ) → get_or left r 0 ≤ get_or starts r 0 → key_of n starts left r ≡ 0
 unfolding key_of
@@ -125,8 +109,7 @@ rest_of-none n starts left s none =
     le-ltb id.0 (get_or left (run_of n id.0) 0) (omega (arith, own.from, none (run_of n id.0) (omega (arith, own.run, s.size)))))
 
 same_test : (i end : ℕ) → (i ≡ end - 1 → ⊥) → ltb i (end - 1) ≡ ltb i end
-same_test i end other =
-    ⊎_elim (λ less. lt-ltb i (end - 1) less ∙ sym (lt-ltb i end (omega arith))) (λ ge. le-ltb i (end - 1) ge ∙ sym (le-ltb i end (omega arith))) (cases_lt i (end - 1))
+same_test i end other = grind (arith, common_steps, nat_tests)
 
 pub waiting : (n : NetworkModel) (left : List ℕ) (i : ℕ) → i < get_or left (run_of n i) 0 → run_of n i < length left
 waiting n left i h = ⊎_elim (λ less. less) (λ ge. absurd (omega (arith, h, get_or_past left (run_of n i) 0 ge))) (cases_lt (run_of n i) (length left))

@@ -1,4 +1,6 @@
 -- A tournament over the runs of a network.
+use Rattle.std.proofs.lemmas.Bool.Decides.{nat_tests}
+use Rattle.std.proofs.lemmas.Grind.{common_steps}
 use Rattle.std.proofs.Common.{◌≡◌, ℕ, zero, suc, ◌+◌, ◌-◌, ◌*◌, ◌/◌, ◌%◌, ◌<◌, ◌≤◌, ◌⊎◌, inl, inr, ⊎_elim, List, [], ◌∷◌, ◌++◌, length, get_or, set, arith, refl, sym, ap, ◌∙◌, subst}
 use Rattle.std.proofs.lemmas.Bool.{cases_lt, cases_eq}
 use Rattle.std.proofs.lemmas.List.{get_or-set_same, get_or-set_other, length-set}
@@ -113,12 +115,7 @@ module _ (n : NetworkModel) (starts left keys : List ℕ) where
   AreRead-none size = record { size = size; each = λ r h. absurd (omega arith) }
 
   pub AreRead-more : (run key : ℕ) → run < length left → AreRead n starts left run keys → key ≡ key_of n starts left run → AreRead n starts left (run + 1) (set keys (length left + run) key)
-  AreRead-more run key h read own = record {
-    size = omega (arith, length-set keys (length left + run) key, read.size);
-    each = λ r less within. ⊎_elim (λ (same : r ≡ run). rw (same, get_or-set_same keys (length left + run) key 0 (omega (arith, read.size))) own)
-        (λ other. rw (get_or-set_other keys (length left + run) (length left + r) key 0 (λ e. other (omega (arith, e))))
-        (read.each r (omega (arith, less, other)) within)) (cases_eq r run);
-  }
+  AreRead-more run key h read own = grind (arith, common_steps, nat_tests)
 
   pub IsPlayedFrom-runs : (run : ℕ) → length left ≤ run → AreRead n starts left run keys → IsPlayedFrom n starts left (length left) keys
   IsPlayedFrom-runs run all read = record {
@@ -130,11 +127,7 @@ module _ (n : NetworkModel) (starts left keys : List ℕ) where
 
   pub IsPlayedFrom-more : (node key : ℕ) → 0 < node → node < length left → IsPlayedFrom n starts left (node + 1) keys
       → IsWinner n starts left node key → IsPlayedFrom n starts left node (set keys node key)
-  IsPlayedFrom-more node key some few p won = record {
-    size = omega (arith, length-set keys node key, p.size);
-    each = λ k ge k_some k_few. ⊎_elim (λ (same : k ≡ node). rw (same, get_or-set_same keys node key 0 (omega (arith, p.size))) won)
-        (λ other. rw (get_or-set_other keys node k key 0 other) (p.each k (omega arith) k_some k_few)) (cases_eq k node);
-  }
+  IsPlayedFrom-more node key some few p won = grind (arith, common_steps, nat_tests)
 
   -- the final has the greatest key of all
   pub best_of_all : IsTournament n starts left keys → (r : ℕ) → r < length left → key_of n starts left r ≤ get_or keys 1 0
@@ -198,10 +191,7 @@ module _ (n : NetworkModel) (starts left : List ℕ) (run node : ℕ) (keys : Li
   }
 
   pub IsTournament-played : node ≤ 1 → IsTournament n starts left keys
-  IsTournament-played final = record {
-    size = p.size;
-    each = λ k some few. p.each k some few (λ over. omega arith);
-  }
+  IsTournament-played final = grind (arith, common_steps, nat_tests)
 
 -- the run that wins, by the key of the final
 pub record HasWon (n : NetworkModel) (starts left : List ℕ) (key : ℕ) : Type 0 where

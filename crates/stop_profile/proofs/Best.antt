@@ -9,7 +9,7 @@ use Rattle.stop_profile.specs.declared.Row.{Row}
 use Rattle.stop_profile.specs.Inserts.{rows_with_new, Rises, row_in_time, rows_after_inserts}
 use Rattle.stop_profile.specs.LookLaw.{Carries, IsBestRow, LookLaw}
 use Rattle.stop_profile.specs.LookStep.{none, same, holds, first, wins}
-use Rattle.stop_profile.proofs.Looks.{carries_trans, picked_gap}
+use Rattle.stop_profile.proofs.Looks.{carries_trans, picked_holds}
 use Rattle.stop_profile.proofs.Inserted.{rises-rows_with_new, gaps-rows_with_new, look_step}
 
 module _ {V : Type 0} {below covers : V → Tree → Type 0} {gap rank : V → ℕ} {arrived : ℕ → V} {blended : List Outcome → List V → V}
@@ -59,7 +59,8 @@ module _ {V : Type 0} {below covers : V → Tree → Type 0} {gap rank : V → �
       let before = look_law earlier arrival in
       let P = λ (o : Option (Row V)). MatchOption o (All (λ insert. insert.by.0 < arrival) earlier) (IsBestRow below covers gap rank arrival earlier) in
       let gaps = λ (s : Row V) (is : row_in_time arrival (rows_with_new rank lowered new rows) ≡ Some s) (most : ℕ)
-      (all : All (λ (insert : Row V). gap insert.value ≤ most) (new ∷ earlier)). picked_gap laws most arrival (rows_with_new rank lowered new rows) s
+      (all : All (λ (insert : Row V). gap insert.value ≤ most) (new ∷ earlier)). picked_holds (λ (row : Row V). gap row.value ≤ most) arrival
+      (rows_with_new rank lowered new rows) s
       (gaps_after most (new ∷ earlier) all) is in
       elim (look_step laws arrival new rows (rises_after earlier)) [
         | none late was is ↦ rw is (All-cons (λ (insert : Row V). insert.by.0 < arrival) new earlier late (subst P was before))

@@ -1,9 +1,7 @@
-use Rattle.std.proofs.Common.{◌<◌, List, sym, subst}
+use Rattle.std.proofs.Common.{◌<◌}
 use Rattle.std.proofs.lemmas.List.Elements.{recursion_from_All}
 use Rattle.plan_model.specs.Network.{count}
 use Rattle.plan_model.specs.declared.model.Leg.{Leg}
-use Rattle.plan_graph.specs.declared.Ride.{Ride}
-use Rattle.leg_walk.specs.Walked.{IsWalked}
 use Rattle.plan_model.proofs.Lists.{All-from_contains}
 use Rattle.leg_walk.proofs.Walks.{walked}
 use Rattle.leg_walk.proofs.walk.Goals as goal
@@ -15,6 +13,4 @@ rides_of-requires-clause-there g c =
 
 pub returns : goal.returns
 returns g c =
-    let choice = g.C.LegChoice.chosen c.args.choice.now c.args.network.now in
-    subst (λ (rides : List Ride). IsWalked c.args.network.now c.args.query.now choice c.args.start rides) (sym c.in_ok-rides.ensures)
-    (walked c.args.network.now c.count-count.ensures.valid c.args.query.now choice c.args.start c.in_ok-seen.seen.keys c.in_ok-seen.ensures)
+    rw c.in_ok-rides.ensures (walked c.args.network.now c.count-count.ensures.valid c.args.query.now _ c.args.start c.in_ok-seen.seen.keys c.in_ok-seen.ensures)

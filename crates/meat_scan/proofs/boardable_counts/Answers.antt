@@ -2,17 +2,8 @@ use Rattle.std.proofs.Common.{arith}
 use Rattle.stop_profile.proofs.Gaps.{written_back}
 use Rattle.plan_model.specs.Network.{connection}
 use Rattle.meat_scan.specs.Tables.{has_way}
-use Rattle.meat_scan.proofs.Reserves.{count_by-take_more, count_by-take-le}
+use Rattle.meat_scan.proofs.Reserves.{count_by-take_more}
 use Rattle.meat_scan.proofs.boardable_counts.Goals as goal
-
-pub count_ways-requires-clause-few : goal.count_ways-requires-clause-few
-count_ways-requires-clause-few c from inside =
-    let network = c.args.network.now in
-    let loop = c.loop-id in
-    let at = rw c.deref_mut.ensures.value at inside in
-    let counted = loop.invariant.counts from (omega (arith, loop.invariant.len)) in
-    let small = count_by-take-le (λ connection. has_way network from connection.from.0) network.connections loop.id (omega arith) in
-    rw c.deref_mut.ensures.value (omega (arith, counted, small, loop.invariant.valid.few_connections))
 
 pub loop-id-preserved : goal.loop-id-preserved
 unfolding connection

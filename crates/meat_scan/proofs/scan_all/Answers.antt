@@ -1,8 +1,7 @@
-use Rattle.std.proofs.Common.{◌∙◌, ap, length, sym, subst, arith, refl}
+use Rattle.std.proofs.Common.{◌∙◌, sym, subst, arith, refl}
 use Rattle.stop_profile.proofs.Gaps.{written_back}
-use Rattle.meat_scan.specs.Tables.{FitsTables, ShownTables, capacity_at}
-use Rattle.meat_scan.proofs.States.{next_state, last_state, rules_end, id_there, room_for_run, room_for_rows, room_next, found_rows-profiles}
-use Rattle.meat_scan.proofs.Lates.{skipped_state, skipped_room}
+use Rattle.meat_scan.specs.Tables.{FitsTables}
+use Rattle.meat_scan.proofs.States.{next_state, last_state, rules_end, id_there, room_for_run, room_for_rows, room_next, found_rows-profiles, skipped_state, skipped_room}
 use Rattle.meat_scan.proofs.scan_all.Goals as goal
 
 pub loop-id-init : goal.loop-id-init
@@ -94,15 +93,3 @@ returns-clause-rules g c =
     rules_end g.V.Score.laws c.args.network.now loop.valid c.args.query.now
     (g.B.BackwardOrder.rest c.args.order.now c.args.network.now) c.requires.whole
     (g.B.BackwardOrder.rest c.loop-id.order c.args.network.now) c.loop-id.profiles.items c.loop-id.exits _ told rows_are loop.state
-
-pub returns-clause-capacity : goal.returns-clause-capacity
-returns-clause-capacity g c = λ place. c.loop-id.invariant.same_capacity place ∙ ap (λ (tables : ShownTables g.row.V.Denot). capacity_at tables.profiles place) c.tables.view_is
-
-pub returns-clause-places : goal.returns-clause-places
-returns-clause-places g c = c.loop-id.invariant.room.places
-
-pub returns-clause-runs : goal.returns-clause-runs
-returns-clause-runs g c = c.loop-id.invariant.same_runs ∙ ap (λ (tables : ShownTables g.row.V.Denot). length tables.exits) c.tables.view_is
-
-pub returns-clause-outcomes : goal.returns-clause-outcomes
-returns-clause-outcomes g c = c.loop-id.invariant.same_outcomes ∙ ap (λ (tables : ShownTables g.row.V.Denot). length tables.kids) c.tables.view_is

@@ -1,6 +1,7 @@
 use Rattle.std.proofs.Common.{◌∙◌}
 use Rattle.meat_scan.specs.Found.{found_in}
-use Rattle.meat_scan.proofs.StartValues.{value_solved, fits_again}
+use Rattle.meat_scan.proofs.Ends.{value_solved}
+use Rattle.meat_scan.proofs.Reserves.{fits_again}
 use Rattle.meat_scan.proofs.start_value.Goals as goal
 
 pub returns-clause-solves : goal.returns-clause-solves

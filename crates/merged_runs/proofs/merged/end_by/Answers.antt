@@ -1,6 +1,6 @@
 use Rattle.std.proofs.Common.{◌+◌, ◌-◌, ◌/◌, arith, ap}
 use Rattle.plan_model.specs.declared.model.Connection.{Connection}
-use Rattle.merged_runs.proofs.SkipLemmas.{IsParted-up, IsParted-down}
+use Rattle.merged_runs.proofs.SkipLemmas.{IsParted-up}
 use Rattle.merged_runs.proofs.merged.end_by.Goals as goal
 
 pub loop-low-preserved-then-dep-last : goal.loop-low-preserved-then-dep-last
@@ -8,9 +8,3 @@ loop-low-preserved-then-dep-last c =
     IsParted-up c.args.network.now c.args.last.0 c.args.from c.loop-low.low c.loop-low.high c.args.to c.loop-low.invariant c.requires.rising
     (c.loop-low.low + (c.loop-low.high - c.loop-low.low) / 2) (omega arith) (omega (arith, c.loop-low-test.true))
     (omega (arith, ap (λ (x : Connection). x.dep.0) c.get-in-loop-low.ensures.connection, c.if-dep-last.true))
-
-pub loop-low-preserved : goal.loop-low-preserved
-loop-low-preserved c =
-    IsParted-down c.args.network.now c.args.last.0 c.args.from c.loop-low.low c.loop-low.high c.args.to c.loop-low.invariant c.requires.rising
-    (c.loop-low.low + (c.loop-low.high - c.loop-low.low) / 2) (omega arith) (omega (arith, c.loop-low-test.true))
-    (omega (arith, ap (λ (x : Connection). x.dep.0) c.get-in-loop-low.ensures.connection, c.if-dep-last.false))

@@ -1,4 +1,3 @@
-use Rattle.std.proofs.Common.{arith}
 use Rattle.merged_runs.proofs.StretchLemmas.{IsWhole, IsWhole-copied, AreStretches-whole, rest_of-all}
 use Rattle.merged_runs.proofs.merged.MergedRunsBackwardOrder.rewind.Goals as goal
 use Rattle.merged_runs.proofs.merged.MergedRunsBackwardOrder.rewind.Goals.{After-copy_from_slice}
@@ -7,17 +6,6 @@ whole : (c : After-copy_from_slice) → IsWhole c.args.self.now.starts.items c.c
 whole c =
     let starts = c.args.self.now.starts.items in
     rw (c.copy_from_slice.ensures.items, c.deref.ensures.value) (IsWhole-copied starts c.requires.stretches.begin.some)
-
-pub play_all-requires-clause-size : goal.play_all-requires-clause-size
-play_all-requires-clause-size c =
-    let w = whole (goal.at.play_all-requires-clause-size c).After-copy_from_slice in
-    omega (arith, w.size, c.requires.stretches.size, c.requires.tournament.size)
-
-pub returns-clause-fits : goal.returns-clause-fits
-returns-clause-fits c =
-    let w = whole (goal.at.returns-clause-fits c).After-copy_from_slice in
-    let s = AreStretches-whole c.args.network.now c.args.self.now.starts.items c.copy_from_slice.new.self.items c.requires.stretches.begin w in
-    record { stretches = rw (c.play_all.ensures.starts, c.play_all.ensures.left) s; tournament = c.play_all.ensures.tournament }
 
 pub returns-clause-rest : goal.returns-clause-rest
 returns-clause-rest c =
