@@ -1,13 +1,13 @@
 -- The rows of stops.
-use Rattle.std.proofs.Common.{◌≡◌, ℕ, ◌<◌, List, Some, None, sym, ap, ◌∙◌}
-use Rattle.std.specs.Option.{option_or}
+use Rattle.std.proofs.Common.{arith}
+use Rattle.std.proofs.Common.{◌≡◌, ℕ, ◌<◌, List, Some, None, sym, ap}
 use Rattle.csv_rows.specs.declared.columns.Column.TheVariants.{StopId}
 use Rattle.csv_rows.specs.First.{first_below}
 use Rattle.csv_rows.specs.Names.{name_in}
 use Rattle.csv_rows.specs.Tables.{row_count, field}
 use Rattle.csv_rows.proofs.FirstLemmas.{none-each}
 use Rattle.feed_lists.specs.declared.stops.StopColumns.{StopColumns}
-use Rattle.feed_lists.specs.Stops.{stop_columns, stop_in, stop_at, bad_stop, parent_of, parent_in_row, stop_ids, unknown_in, unknown_parent, place_fault, place_from}
+use Rattle.feed_lists.specs.Stops.{stop_columns, stop_in, stop_at, bad_stop, parent_of, parent_in_row, stop_ids, unknown_parent, place_fault, place_from}
 use Rattle.csv_rows.proofs.RowLemmas.{name_is}
 use Rattle.plan_model.proofs.Results.{result_err-require}
 
@@ -19,16 +19,11 @@ stop_is t c i e = ap (λ k. stop_in t k i) (sym e)
 -- the parent of a row whose fields are of their forms
 pub unknown_is : (t : List (List (List ℕ))) (c : StopColumns) (ids : List (List ℕ)) (i : ℕ) → c ≡ stop_columns t → ids ≡ stop_ids t
     → bad_stop t i ≡ None → unknown_parent t i ≡ place_fault ids (stop_in t c i) i
-unknown_is t c ids i e same good =
-    sym (ap (λ b. option_or b (unknown_in (stop_ids t) (parent_of t i) i)) good)
-    ∙ ap (λ s. place_fault (stop_ids t) s i) (stop_is t c i e)
-    ∙ ap (λ xs. place_fault xs (stop_in t c i) i) (sym same)
+unknown_is t c ids i e same good = grind (arith, stop_is)
 
 pub place_is_from : (t : List (List (List ℕ))) (c : StopColumns) (ids : List (List ℕ)) (i p : ℕ) → c ≡ stop_columns t → ids ≡ stop_ids t
     → place_from ids (parent_in_row (stop_in t c i)) i ≡ p → p ≡ place_from (stop_ids t) (parent_of t i) i
-place_is_from t c ids i p e same h =
-    sym h ∙ ap (λ xs. place_from xs (parent_in_row (stop_in t c i)) i) same
-    ∙ ap (λ s. place_from (stop_ids t) (parent_in_row s) i) (sym (stop_is t c i e))
+place_is_from t c ids i p e same h = grind (arith, stop_is)
 
 -- each stop has a name
 pub stops_named : (t : List (List (List ℕ))) → first_below (bad_stop t) (row_count t) ≡ None → (i : ℕ) → i < row_count t → name_in (field t StopId i) ≡ Some (field t StopId i)

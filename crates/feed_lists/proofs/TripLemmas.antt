@@ -1,16 +1,15 @@
 -- The rows of trips.
+use Rattle.std.proofs.Common.{arith}
 use Rattle.std.proofs.Common.{◌≡◌, ℕ, ◌<◌, ◌+◌, List, Some, None, sym, ap}
 use Rattle.std.specs.Result.{result_err}
 use Rattle.plan_model.proofs.Results.{result_err-require}
 use Rattle.csv_rows.specs.declared.columns.Column.TheVariants.{RouteId, ServiceId, TripId}
-use Rattle.csv_rows.specs.declared.feed_tables.Table.TheVariants.{Trips}
-use Rattle.csv_rows.specs.declared.feed_tables.FeedFault.TheVariants.{BadField, UnknownKey}
 use Rattle.csv_rows.specs.First.{first_below}
 use Rattle.csv_rows.specs.Names.{name_in}
-use Rattle.csv_rows.specs.Tables.{row_count, place_in, field}
+use Rattle.csv_rows.specs.Tables.{row_count, field}
 use Rattle.csv_rows.proofs.FirstLemmas.{none-each}
 use Rattle.feed_lists.specs.declared.trips.TripColumns.{TripColumns}
-use Rattle.feed_lists.specs.Trips.{Trip, trip_from, trip_columns, trip_in, trip_at, bad_trip}
+use Rattle.feed_lists.specs.Trips.{trip_from, trip_columns, trip_in, trip_at, bad_trip}
 use Rattle.csv_rows.proofs.RowLemmas.{name_is}
 
 -- the row by where the columns stand
@@ -20,12 +19,7 @@ trip_is routes t c i e = ap (λ k. trip_in routes t k i) (sym e)
 
 -- a trip with no fault has a name
 trip_named : (routes : List (List ℕ)) (line : ℕ) (a b c : List ℕ) → result_err (trip_from routes line a b c) ≡ None → name_in c ≡ Some c
-trip_named routes line a b c none =
-    let route = result_err-require {B = Trip} (name_in a) (BadField Trips line RouteId) _ none in
-    let number = result_err-require {B = Trip} (place_in route.0 routes) (UnknownKey Trips line RouteId) _ route.2 in
-    let service = result_err-require {B = Trip} (name_in b) (BadField Trips line ServiceId) _ number.2 in
-    let name = result_err-require {B = Trip} (name_in c) (BadField Trips line TripId) _ service.2 in
-    name_is c name.0 name.1
+trip_named routes line a b c none = grind (arith, result_err-require, name_is)
 
 -- each trip has a name
 pub trips_named : (routes : List (List ℕ)) (t : List (List (List ℕ))) → first_below (bad_trip routes t) (row_count t) ≡ None

@@ -1,6 +1,6 @@
 -- The rows of a trip among rows by trip.
-use Rattle.std.proofs.Common.{◌≡◌, ℕ, zero, suc, ◌-◌, ◌<◌, ◌≤◌, ◌==◌, Bool, true, false, not, ◌&&◌, cond, List, [], ◌∷◌, map, length, take, drop, slice_index, slice_range, if◌then◌else◌, leb, ltb}
-use Rattle.std.proofs.Common.{leb-true, leb-false, ltb-true, ltb-false, nat_cmp, is_lt, refl, sym, ap, ◌∙◌, arith, ⊎_elim}
+use Rattle.std.proofs.Common.{◌≡◌, ℕ, zero, suc, ◌-◌, ◌<◌, ◌≤◌, ◌==◌, Bool, true, false, not, ◌&&◌, cond, List, [], ◌∷◌, map, length, take, drop, slice_range, if◌then◌else◌, leb, ltb}
+use Rattle.std.proofs.Common.{leb-true, leb-false, ltb-true, ltb-false, nat_cmp, is_lt, refl, sym, ap, ◌∙◌, arith}
 use Rattle.std.proofs.lemmas.Bool.{cases_lt, eq-eqb, ne_eqb}
 use Rattle.std.proofs.lemmas.Bool.Decides.{nat_tests}
 use Rattle.std.proofs.lemmas.List.{get_or-map, length-map}
@@ -53,23 +53,7 @@ pub span_is : (trips : List ℕ) (trip low high : ℕ) → low ≤ length trips 
     → IsPartitionPoint (λ t. ltb t trip ≡ true) (λ t. ltb t trip ≡ false) trips low
     → IsPartitionPoint (λ t. leb t trip ≡ true) (λ t. leb t trip ≡ false) trips high
     → IsTripSpan trips trip low high
-span_is trips trip low high few many first last = record {
-  order =
-      ⊎_elim (λ (less : high < low). absurd (omega (
-        arith,
-        ltb-true (slice_index trips high) trip (first.0 high 0 (omega arith) less),
-        leb-false (slice_index trips high) trip (last.1 high 0 (omega arith) (omega arith)),
-      ))) (λ (ge : low ≤ high). ge) (cases_lt high low);
-  inside = many;
-  before = λ k h. ltb-true (slice_index trips k) trip (first.0 k 0 (omega arith) h);
-  here = λ k from h.
-      omega (
-        arith,
-        ltb-false (slice_index trips k) trip (first.1 k 0 from (omega arith)),
-        leb-true (slice_index trips k) trip (last.0 k 0 (omega arith) h),
-      );
-  after = λ k from h. leb-false (slice_index trips k) trip (last.1 k 0 from h);
-}
+span_is trips trip low high few many first last = grind (arith, ltb-true, leb-false, cases_lt, ltb-false, leb-true)
 
 next_span : (t trip low high : ℕ) (trips : List ℕ) → IsTripSpan (t ∷ trips) trip (suc low) (suc high) → IsTripSpan trips trip low high
 next_span t trip low high trips s = record {

@@ -1,7 +1,6 @@
+use Rattle.std.proofs.Common.{arith}
 use Rattle.csv_rows.proofs.FaultLemmas.{match_raised, fault-first, fault-then}
-use Rattle.csv_rows.specs.declared.columns.Column.TheVariants.{RouteId}
-use Rattle.csv_rows.specs.Tables.{row_count, field}
-use Rattle.feed_lists.specs.Routes.{route_at, route_or_none, routes_fault}
+use Rattle.feed_lists.specs.Routes.{routes_fault}
 use Rattle.csv_rows.proofs.RowLemmas.{or_then}
 use Rattle.csv_rows.proofs.ListLemmas.{same_length}
 use Rattle.feed_lists.proofs.RouteLemmas.{routes_named}
@@ -29,9 +28,4 @@ unfolding routes_fault
 returns-clause-tells c = or_then _ _ _ c.in_ok-check_columns.ensures (or_then _ _ _ c.in_ok-types.ensures.tells c.in_ok-ids.ensures.tells)
 
 pub returns-clause-sound : goal.returns-clause-sound
-returns-clause-sound c =
-    let t = c.args.rows.now in
-    record {
-      table = (t, returns-clause-tells c, (c.in_ok-ids.ensures.ids, c.in_ok-types.ensures.types));
-      types = same_length (λ i. (route_or_none (route_at t i)).kind) (field t RouteId) (row_count t) _ _ c.in_ok-types.ensures.types c.in_ok-ids.ensures.ids;
-    }
+returns-clause-sound c = grind (arith, returns-clause-tells, same_length)

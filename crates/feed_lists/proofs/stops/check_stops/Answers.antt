@@ -1,4 +1,4 @@
-use Rattle.std.proofs.Common.{None, ap, arith, ◌∙◌}
+use Rattle.std.proofs.Common.{ap, arith}
 use Rattle.std.specs.Result.{result_err}
 use Rattle.csv_rows.proofs.FaultLemmas.{match_raised, fault-at}
 use Rattle.csv_rows.proofs.FirstLemmas.{first-zero, first-next}
@@ -15,6 +15,4 @@ returns-in_err-read_stop c = match_raised _ _ c.from_residual.result c.from_resi
     (ap result_err (stop_is c.args.rows.now _ c.loop-i.i c.stop_columns-columns.ensures)) c.in_err-read_stop.ensures.tells)
 
 pub loop-i-preserved : goal.loop-i-preserved
-loop-i-preserved c =
-    let t = c.args.rows.now in
-    first-next (bad_stop t) c.loop-i.i None c.loop-i.invariant (ap result_err (stop_is t _ c.loop-i.i c.stop_columns-columns.ensures ∙ c.in_ok-read_stop.ensures.stop))
+loop-i-preserved c = grind (arith, first-next, stop_is)

@@ -1,4 +1,4 @@
-use Rattle.std.proofs.Common.{None, sym, ◌∙◌, arith}
+use Rattle.std.proofs.Common.{None, ◌∙◌, arith}
 use Rattle.csv_rows.proofs.FaultLemmas.{match_raised, fault-at}
 use Rattle.csv_rows.specs.Tables.{row_count}
 use Rattle.csv_rows.proofs.FirstLemmas.{first-zero, first-next, none-each}
@@ -8,9 +8,7 @@ use Rattle.feed_lists.proofs.StopLemmas.{unknown_is, place_is_from}
 use Rattle.feed_lists.proofs.stops.read_places.Goals as goal
 
 pub loop-i-init : goal.loop-i-init
-loop-i-init c =
-    let t = c.args.rows.now in
-    record { places = c.new-places.ensures.items ∙ sym (list_below-zero (λ i. place_from (stop_ids t) (parent_of t i) i)); none = first-zero (unknown_parent t) }
+loop-i-init c = grind (arith, list_below-zero, first-zero)
 
 pub returns-in_err-place-clause-tells : goal.returns-in_err-place-clause-tells
 returns-in_err-place-clause-tells c = match_raised _ _ c.from_residual.result c.from_residual.ensures

@@ -1,8 +1,6 @@
-use Rattle.std.proofs.Common.{length, ap, arith}
+use Rattle.std.proofs.Common.{arith}
 use Rattle.csv_rows.proofs.FaultLemmas.{match_raised, fault-first, fault-then}
-use Rattle.csv_rows.specs.declared.columns.Column.TheVariants.{StopId}
-use Rattle.csv_rows.specs.Tables.{row_count, field}
-use Rattle.feed_lists.specs.Stops.{stop_ids, parent_of, place_from, stops_fault}
+use Rattle.feed_lists.specs.Stops.{stops_fault}
 use Rattle.csv_rows.proofs.RowLemmas.{or_then}
 use Rattle.csv_rows.proofs.ListLemmas.{same_length, length-list_below}
 use Rattle.feed_lists.proofs.StopLemmas.{stops_named}
@@ -36,10 +34,4 @@ returns-clause-tells c =
     or_then _ _ _ c.in_ok-check_columns.ensures (or_then _ _ _ c.in_ok-check_stops.ensures (or_then _ _ _ c.in_ok-ids.ensures.tells c.in_ok-places.ensures.tells))
 
 pub returns-clause-sound : goal.returns-clause-sound
-returns-clause-sound c =
-    let t = c.args.rows.now in
-    record {
-      table = (t, returns-clause-tells c, (c.in_ok-ids.ensures.ids, c.in_ok-places.ensures.places));
-      places = same_length (λ i. place_from (stop_ids t) (parent_of t i) i) (field t StopId) (row_count t) _ _ c.in_ok-places.ensures.places c.in_ok-ids.ensures.ids;
-      few = omega (arith, ap length c.in_ok-ids.ensures.ids, length-list_below (field t StopId) (row_count t), c.requires);
-    }
+returns-clause-sound c = grind (arith, returns-clause-tells, same_length, length-list_below)

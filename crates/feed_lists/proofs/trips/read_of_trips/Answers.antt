@@ -10,16 +10,7 @@ use Rattle.feed_lists.proofs.TripLemmas.{trip_is}
 use Rattle.feed_lists.proofs.trips.read_of_trips.Goals as goal
 
 pub loop-i-init : goal.loop-i-init
-loop-i-init c =
-    let t = c.args.rows.now in
-    let ids = c.args.routes.now.ids in
-    record {
-      services = ap texts c.new.ensures.items ∙ sym (list_below-zero (λ i. (trip_or_none (trip_at ids t i)).service));
-      types = c.new-2.ensures.items ∙ sym (list_below-zero (λ i. slice_index_or c.args.routes.now.types.items (trip_or_none (trip_at ids t i)).route 0));
-      routes = c.new-3.ensures.items ∙ sym (list_below-zero (λ i. (trip_or_none (trip_at ids t i)).route));
-      known = subst (All (λ route. route < length ids)) (sym c.new-3.ensures.items) (All-nil (λ route. route < length ids));
-      none = first-zero (bad_trip ids t);
-    }
+loop-i-init c = grind (arith, list_below-zero, All-nil, first-zero)
 
 pub returns-in_err-trip-clause-tells : goal.returns-in_err-trip-clause-tells
 returns-in_err-trip-clause-tells c = match_raised _ _ c.from_residual.result c.from_residual.ensures

@@ -9,13 +9,7 @@ use Rattle.trip_frequencies.proofs.FrequencyLemmas.{frequency_is}
 use Rattle.trip_frequencies.proofs.frequencies.read_frequency_rows.Goals as goal
 
 pub loop-i-init : goal.loop-i-init
-loop-i-init c =
-    let t = c.args.rows.now in
-    let trips = c.args.trips.now in
-    record {
-      rows = c.new-found.ensures.items ∙ sym (list_below-zero (λ i. value_or no_frequency (frequency_at trips t i)));
-      none = first-zero (bad_frequency trips t);
-    }
+loop-i-init c = grind (arith, list_below-zero, first-zero)
 
 pub returns-in_err-row-clause-tells : goal.returns-in_err-row-clause-tells
 returns-in_err-row-clause-tells c = match_raised _ _ c.from_residual.result c.from_residual.ensures

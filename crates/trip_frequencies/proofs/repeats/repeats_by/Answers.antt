@@ -1,11 +1,9 @@
-use Rattle.std.proofs.Common.{ℕ, List, ap, ap₂, ◌∙◌, sym, subst}
+use Rattle.std.proofs.Common.{arith}
+use Rattle.std.proofs.Common.{List, sym, subst}
 use Rattle.std.specs.Prelude.{Result, Ok, Err, IfOk}
 use Rattle.std.specs.List.Sorted.{IsNonDecreasing, IsNonDecreasingBy}
 use Rattle.std.proofs.lemmas.Result.{IfOk-weaker}
-use Rattle.trip_frequencies.specs.declared.frequencies.FrequencyRow.{FrequencyRow}
 use Rattle.trip_frequencies.specs.declared.frequencies.TripFrequency.{TripFrequency}
-use Rattle.trip_frequencies.specs.Frequencies.{repeats_of}
-use Rattle.trip_frequencies.specs.Repeats.{all_repeats_in}
 use Rattle.trip_frequencies.proofs.RepeatLemmas.{ordered-parted, all_repeats-parted}
 use Rattle.trip_frequencies.proofs.repeats.repeats_by.Goals as goal
 
@@ -19,9 +17,4 @@ returns-clause-ordered c =
     IfOk-weaker c.parted.result _ _ (λ r trips. subst IsNonDecreasing (sym trips) (ordered-parted c.as_slice.result.now ordered)) c.parted.ensures.trips
 
 pub returns-clause-repeats : goal.returns-clause-repeats
-returns-clause-repeats c =
-    both c.parted.result _ _ _
-    (λ r trips rows count. ap₂ (λ (ts : List ℕ) (rs : List FrequencyRow). all_repeats_in ts rs count) trips rows
-    ∙ all_repeats-parted c.as_slice.result.now c.args.rows.items
-    (λ trip. ap (λ (xs : List TripFrequency). repeats_of xs trip) c.as_slice.ensures.value ∙ c.in_ok-sorted.ensures.kept trip) count)
-    c.parted.ensures.trips c.parted.ensures.rows
+returns-clause-repeats c = grind (arith, all_repeats-parted)
