@@ -1,8 +1,10 @@
 -- The first fault below a number, step by step, and that it is the least of all that hold.
-use Rattle.std.proofs.Common.{◌≡◌, ℕ, zero, suc, ◌+◌, ◌<◌, ◌≤◌, Bool, true, false, ◌||◌, ◌&&◌, Option, Some, None, option_map, if◌then◌else◌, refl, sym, ap, ap₂, ◌∙◌, subst, arith, ⊎_elim}
+use Rattle.std.proofs.Common.{◌≡◌, ℕ, zero, suc, ◌+◌, ◌<◌, Bool, true, false, ◌||◌, ◌&&◌, Option, Some, None, option_map, if◌then◌else◌, refl, sym, ap, ap₂, ◌∙◌, subst, arith, ⊎_elim}
 use Rattle.std.proofs.Common.{eq-or-lt_of_le, add-one, ◌⊎◌, inl, inr}
-use Rattle.std.proofs.lemmas.Option.{none-some}
-use Rattle.std.proofs.lemmas.Bool.{cases_Bool, or_right, and_from, and_parts}
+use Rattle.std.proofs.lemmas.Option.{cond_some, none-some}
+use Rattle.std.proofs.lemmas.Bool.{cases_Bool, and_from, and_parts, false_from_ne_true}
+use Rattle.std.specs.Bool.{Decides}
+use Rattle.std.proofs.lemmas.Bool.Decides.{Decides-below_or}
 use Rattle.std.specs.Option.{option_or}
 use Rattle.csv_rows.specs.First.{first_below, any_below}
 
@@ -23,19 +25,12 @@ first-none f (suc n) h = first-suc f n ∙ ap₂ option_or (first-none f n (λ k
 pub first-next : {F : Type 0} (f : ℕ → Option F) (n : ℕ) (o : Option F) → first_below f n ≡ None → f n ≡ o → first_below f (n + 1) ≡ o
 first-next f n o h e = rw add-one (first-suc f n ∙ ap (λ x. option_or x (f n)) h ∙ e)
 
--- what comes first stays first
-pub first-stays : {F : Type 0} (f : ℕ → Option F) (n m : ℕ) (e : F) → n ≤ m → first_below f n ≡ Some e → first_below f m ≡ Some e
-first-stays f n zero e l h =
-    let z : n ≡ 0 = omega arith in
-    let P : ℕ → Type 0 = λ k. first_below f k ≡ Some e in subst P z h
-first-stays f n (suc m) e l h =
-    ⊎_elim (λ (same : n ≡ suc m). let P : ℕ → Type 0 = λ k. first_below f k ≡ Some e in subst P same h)
-    (λ (less : n < suc m). first-suc f m ∙ ap (λ x. option_or x (f m)) (first-stays f n m e (omega arith) h))
-    (eq-or-lt_of_le l)
-
 -- the one that holds at k, where none holds before
 pub first-at : {F : Type 0} (f : ℕ → Option F) (k n : ℕ) (e : F) → k < n → first_below f k ≡ None → f k ≡ Some e → first_below f n ≡ Some e
-first-at f k n e l none here = first-stays f (k + 1) n e (omega arith) (first-next f k (Some e) none here)
+first-at f k zero e l none here = absurd (omega arith)
+first-at f k (suc n) e l none here =
+    ⊎_elim (λ (same : k ≡ n). subst (λ i. first_below f (suc i) ≡ Some e) same (first-suc f k ∙ ap₂ option_or none here))
+    (λ (less : k < n). first-suc f n ∙ ap (λ x. option_or x (f n)) (first-at f k n e less none here)) (eq-or-lt_of_le (omega arith))
 
 pub none-both : {F : Type 0} (a b : Option F) → option_or a b ≡ None → (a ≡ None) × (b ≡ None)
 none-both None b h = (refl, h)
@@ -70,21 +65,20 @@ first-is f (suc n) e h =
     (λ (w : (first_below f n ≡ None) × (f n ≡ Some e)). record { place = n; inside = omega arith; here = w.1; none = none-each f n w.0 })
     (some_one (first_below f n) (f n) e (sym (first-suc f n) ∙ h))
 
+any-decides : (p : ℕ → Bool) (n : ℕ) → Decides (any_below p n) ((k : ℕ) × (k < n) × (p k ≡ true))
+unfolding any_below
+any-decides p n = Decides-below_or p (λ k. p k ≡ true) (any_below p) (λ k. (λ t. t, λ t. t)) refl (λ k. or_swap (any_below p k) (p k)) n
+  where
+    or_swap : (a b : Bool) → (a || b) ≡ (b || a)
+    or_swap a b = grind arith
+
 -- it holds at k
 pub any-true : (p : ℕ → Bool) (n k : ℕ) → k < n → p k ≡ true → any_below p n ≡ true
-unfolding any_below
-any-true p zero k l h = absurd (omega arith)
-any-true p (suc n) k l h =
-    ⊎_elim (λ (e : k ≡ n). or_right (any_below p n) (p n) (subst (λ (i : ℕ). p i ≡ true) e h))
-    (λ (less : k < n). ap (λ b. b || p n) (any-true p n k less h)) (eq-or-lt_of_le (omega arith))
+any-true p n k l h = (any-decides p n).1 (k, l, h)
 
 -- it holds nowhere
 pub any-false : (p : ℕ → Bool) (n : ℕ) → ((k : ℕ) → k < n → p k ≡ true → ⊥) → any_below p n ≡ false
-unfolding any_below
-any-false p zero h = refl
-any-false p (suc n) h =
-    ⊎_elim (λ (t : p n ≡ true). absurd (h n (omega arith) t))
-    (λ (f : p n ≡ false). ap₂ (λ a b. a || b) (any-false p n (λ k l. h k (omega arith))) f) (cases_Bool (p n))
+any-false p n h = false_from_ne_true (any_below p n) (λ t. let w = (any-decides p n).0 t in h w.0 w.1 w.2)
 
 -- where p holds at one place alone, q is asked there alone
 pub any-one : (p q : ℕ → Bool) (n b : ℕ) → b < n → p b ≡ true → ((j : ℕ) → j < n → p j ≡ true → j ≡ b) → any_below (λ j. p j && q j) n ≡ q b
@@ -127,3 +121,21 @@ first-told fault p (suc n) =
     ∙ ap (λ o. option_or o (if p n then Some (fault n) else None)) (first-told fault p n)
     ∙ told-if fault (p n) n (first_below (λ i. if p i then Some i else None) n)
     ∙ sym (ap (option_map fault) (first-suc (λ i. if p i then Some i else None) n))
+
+-- the first place at which a test holds
+abbrev pub place_by : (ℕ → Bool) → ℕ → Option ℕ
+place_by p n = first_below (λ k. if p k then Some k else None) n
+
+pub place_by-some : (p : ℕ → Bool) (n k : ℕ) → place_by p n ≡ Some k → (k < n) × (p k ≡ true)
+place_by-some p n k h =
+    let w = first-is (λ k. if p k then Some k else None) n k h in
+    let t = cond_some (p w.place) w.place k w.here in subst (λ i. (i < n) × (p i ≡ true)) t.1 (w.inside, t.0)
+
+pub place_by-none : (p : ℕ → Bool) (n : ℕ) → place_by p n ≡ None → (k : ℕ) → k < n → p k ≡ false
+place_by-none p n h k l = let here = none-each (λ k. if p k then Some k else None) n h k l in false_from_ne_true (p k) (λ t. none-some k (sym (rw t at here)))
+
+pub absent_by : (p : ℕ → Bool) (n : ℕ) → ((k : ℕ) → k < n → p k ≡ false) → place_by p n ≡ None
+absent_by p n h = first-none (λ k. if p k then Some k else None) n (λ k l. ap (λ b. if b then Some k else None) (h k l))
+
+pub found_by : (p : ℕ → Bool) (n k : ℕ) → k < n → p k ≡ true → ((j : ℕ) → j < k → p j ≡ false) → place_by p n ≡ Some k
+found_by p n k l here none = first-at (λ k. if p k then Some k else None) k n k l (absent_by p k none) (ap (λ b. if b then Some k else None) here)

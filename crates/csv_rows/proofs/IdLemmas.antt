@@ -1,8 +1,9 @@
 -- Ids by their numbers, and ids that stand twice.
+use Rattle.std.proofs.lemmas.Grind.{common_steps}
 use Rattle.std.proofs.Common.{◌≡◌, ℕ, ◌+◌, ◌<◌, ◌≤◌, ◌==◌, ◌&&◌, Bool, true, false, List, [], ◌∷◌, ◌++◌, length, slice_index_or, Option, Some, None, IfSome, IfNone, Contains, refl, sym, ap, ap₂}
 use Rattle.std.proofs.Common.{◌∙◌, subst, arith, ⊎_elim, bytes_eq, if◌then◌else◌, add-one, length-append}
 use Rattle.std.specs.Prelude.{slice_get, Result, Ok, Err, IfOk, OnErr, ◌-◌, ◌^◌}
-use Rattle.std.proofs.lemmas.Bool.{cases_lt, cases_Bool, eq-eqb, ne_eqb}
+use Rattle.std.proofs.lemmas.Bool.{both_ways, cases_lt, cases_Bool, eq-eqb, ne_eqb}
 use Rattle.std.proofs.lemmas.List.{get_or_default, get_or_append_left, get_or_push}
 use Rattle.std.proofs.lemmas.Option.{slice_get_cases, none-some}
 use Rattle.std.proofs.lemmas.Slice.Eq.{bytes_eq-Decides}
@@ -12,9 +13,9 @@ use Rattle.csv_rows.specs.declared.feed_tables.FeedFault.{FeedFault}
 use Rattle.csv_rows.specs.declared.feed_tables.FeedFault.TheVariants.{DuplicateKey}
 use Rattle.csv_rows.specs.First.{first_below, any_below}
 use Rattle.csv_rows.specs.Tables.{place_in}
-use Rattle.csv_rows.proofs.FirstLemmas.{any-true, any-false, any-one, any-none, first-is, first-suc, first-same, none-each}
+use Rattle.csv_rows.proofs.FirstLemmas.{any-true, any-false, any-one, any-none, first-suc, place_by-some, place_by-none, first-same, none-each}
 use Rattle.csv_rows.proofs.PlaceLemmas.{place_is}
-use Rattle.std.proofs.lemmas.List.Elements.{All-push}
+use Rattle.std.proofs.lemmas.List.Elements.{All-push, Contains-push}
 use Rattle.plan_model.specs.declared.list.NoMemory.{NoMemory}
 use Rattle.plan_model.specs.NameLists.{Adds, AreDistinct, IsTrimmed}
 use Rattle.plan_model.proofs.Texts.{IsNameList-adds}
@@ -25,13 +26,7 @@ use Rattle.csv_rows.proofs.ListLemmas.{length-list_below, get-list_below}
 
 -- what stands at a place where something stands
 pub got : {A : Type 0} (xs : List A) (i : ℕ) (x d : A) → slice_get xs i ≡ Some x → (i < length xs) × (slice_index_or xs i d ≡ x)
-got xs i x d h =
-    ⊎_elim (λ w. (
-      w.1,
-      get_or_default xs i d w.0 w.1 ∙ w.3 ∙ (let e : Some w.0 ≡ Some x = sym w.2 ∙ h in cc),
-    ))
-    (λ w. let never : ⊥ = none-some x (sym w.1 ∙ h) in absurd never)
-    (slice_get_cases xs i).1
+got xs i x d h = grind (arith, common_steps, get_or_default, none-some, slice_get_cases)
 
 -- where an id is found
 pub number_is : (o : Option ℕ) (name : List ℕ) (names : List (List ℕ)) → AreDistinct names → IfSome o (λ i. slice_get names i ≡ Some name)
@@ -91,42 +86,43 @@ one_of table id n none i j a b same =
     (λ (ge : j ≤ i). ⊎_elim (λ (less : j < i). absurd (ids_differ table id n none j i less a (sym same))) (λ (le : i ≤ j). omega arith) (cases_lt j i))
     (cases_lt i j)
 
-place_test : List (List ℕ) → List ℕ → ℕ → Option ℕ
-place_test names name k = if bytes_eq (slice_index_or names k []) name then Some k else None
-
-some_test : (b : Bool) (i k : ℕ) → (if b then Some i else None) ≡ Some k → (b ≡ true) × (i ≡ k)
-some_test true i k e = (refl, cc)
-some_test false i k e = absurd (cc)
-
-none_test : (b : Bool) (i : ℕ) → (if b then Some i else None) ≡ None → b ≡ false
-none_test true i e = absurd (cc)
-none_test false i e = refl
-
 -- what stands at the place of a name
 pub place-here : (name : List ℕ) (names : List (List ℕ)) (k : ℕ) → place_in name names ≡ Some k → (k < length names) × (slice_index_or names k [] ≡ name)
-unfolding place_in place_test
+unfolding place_in
 place-here name names k h =
-    let w = first-is (place_test names name) (length names) k h in
-    let t = some_test (bytes_eq (slice_index_or names w.place []) name) w.place k w.here in
-    let here : slice_index_or names w.place [] ≡ name = (bytes_eq-Decides (slice_index_or names w.place []) name).0 t.0 in
-    (omega (arith, w.inside, t.1), (let P : ℕ → Type 0 = λ i. slice_index_or names i [] ≡ name in subst P t.1 here))
+    let w = place_by-some (λ k. bytes_eq (slice_index_or names k []) name) (length names) k h in (w.0, (bytes_eq-Decides
+        (slice_index_or names k []) name).0 w.1)
 
 -- a name that has no place stands nowhere
 pub place-none : (name : List ℕ) (names : List (List ℕ)) → place_in name names ≡ None → (k : ℕ) → k < length names → bytes_eq (slice_index_or names k []) name ≡ false
-unfolding place_in place_test
-place-none name names h k l = none_test (bytes_eq (slice_index_or names k []) name) k (none-each (place_test names name) (length names) h k l)
+unfolding place_in
+place-none name names h = place_by-none (λ k. bytes_eq (slice_index_or names k []) name) (length names) h
+
+-- a name that stands there has a place
+pub place-contained : (name : List ℕ) (names : List (List ℕ)) → Contains names name → place_in name names ≡ None → ⊥
+place-contained name names c none =
+    both_ways _ (place-none name names none c.0 c.1) ((bytes_eq-Decides (slice_index_or names c.0 []) name).1 (get_or_default names c.0 [] name c.1 ∙ c.2))
+
+-- a name that was added is there
+pub adds_there : (old new : List (List ℕ)) (name : List ℕ) (added : Bool) → Adds old new name added → Contains new name
+adds_there old new name true h = subst (λ (names : List (List ℕ)). Contains names name) (sym h.0) (Contains-push old name)
+adds_there old new name false h = subst (λ (names : List (List ℕ)). Contains names name) (sym h.0) h.1
+
+pub place-adds : (old new : List (List ℕ)) (name : List ℕ) (added : Bool) → Adds old new name added → place_in name new ≡ None → ⊥
+place-adds old new name added a = place-contained name new (adds_there old new name added a)
 
 -- one more name
 pub place-push : (name : List ℕ) (names : List (List ℕ)) (x : List ℕ) → place_in name (names ++ x ∷ []) ≡ option_or (place_in name names) (if bytes_eq x name then Some (length names) else None)
-unfolding place_in place_test
+unfolding place_in
 place-push name names x =
     let n = length names in
     let size : length (names ++ x ∷ []) ≡ n + 1 = length-append names (x ∷ []) in
-    let f : ℕ → Option ℕ = place_test (names ++ x ∷ []) name in
+    let f : ℕ → Option ℕ = λ k. if bytes_eq (slice_index_or (names ++ x ∷ []) k []) name then Some k else None in
     ap (first_below f) size
     ∙ rw add-one (first-suc f n)
     ∙ ap₂ option_or
-    (first-same f (place_test names name) n (λ k l. ap (λ (y : List ℕ). if bytes_eq y name then Some k else None) (get_or_append_left names (x ∷ []) [] k l)))
+    (first-same f (λ k. if bytes_eq (slice_index_or names k []) name then Some k else None) n (λ k l. ap (λ
+        (y : List ℕ). if bytes_eq y name then Some k else None) (get_or_append_left names (x ∷ []) [] k l)))
     (ap (λ (y : List ℕ). if bytes_eq y name then Some n else None) (get_or_push names x [] n refl))
 
 -- an id among those of a table without repetition is that of one row

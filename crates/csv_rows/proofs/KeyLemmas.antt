@@ -1,5 +1,7 @@
 -- What the key before a key tells of the rows before its row in its group.
-use Rattle.std.proofs.Common.{◌≡◌, ◌≢◌, ℕ, ◌-◌, ◌<◌, ◌≤◌, ◌==◌, nat_lt, ◌⊎◌, inl, inr, Bool, true, false, not, ◌&&◌, List, length, Option, Some, None, IfSome, if◌then◌else◌, refl, sym, ap, ◌∙◌}
+use Rattle.std.proofs.lemmas.Grind.{common_steps}
+use Rattle.std.proofs.Common.{rules}
+use Rattle.std.proofs.Common.{◌≡◌, ◌≢◌, ℕ, ◌-◌, ◌<◌, ◌≤◌, ◌==◌, nat_lt, ◌⊎◌, Bool, true, false, not, ◌&&◌, List, length, Option, Some, None, IfSome, if◌then◌else◌, refl, sym, ap, ◌∙◌}
 use Rattle.std.proofs.Common.{subst, arith, ⊎_elim, eq-or-lt_of_le}
 use Rattle.std.proofs.lemmas.Bool.{cases_lt, cases_Bool, eqb-true, eq-eqb, ltb-true, lt-ltb, and_from, and_parts, not_from_false, not-true, true≢false}
 use Rattle.csv_rows.specs.First.{first_below, any_below}
@@ -21,8 +23,7 @@ twin : (ℕ → ℕ) → (ℕ → ℕ) → ℕ → ℕ → Bool
 twin group order i j = (group j == group i) && (order j == order i)
 
 some_not : {F : Type 0} (b : Bool) (e : F) → b ≡ true → (if b then Some e else None) ≢ None
-some_not true e h k = cc
-some_not false e h k = cc
+some_not b e h k = grind (arith, cases_Bool b)
 
 -- no two rows have one group and one order
 abbrev pub AreApart : (group order : ℕ → ℕ) → ℕ → Type 0
@@ -41,22 +42,12 @@ asked q (Some before) = q before.row
 module _ (test : ℕ → Bool) (group order : ℕ → ℕ) (n : ℕ) (keys : List Key) (s : AreSorted test group order n keys) where
   earlier_place : (k m : ℕ) → k < m → m < length keys → (key_at keys k).group ≡ (key_at keys m).group → (key_at keys k).order ≡ (key_at keys m).order
       → (key_at keys k).row < (key_at keys m).row
-  earlier_place k m less h same same' =
-      ⊎_elim (λ (e : (key_at keys k).row ≡ (key_at keys m).row). absurd (s.once k m less h e)) (λ (l : (key_at keys k).row < (key_at keys m).row). l)
-      (eq-or-lt_of_le (less_places (key_at keys k) (key_at keys m) (s.rising k m less h) same same'))
+  earlier_place k m less h same same' = grind (arith, common_steps, less_places)
 
   -- an earlier key of the group is the one before, or stands before that
   earlier_key : (m k : ℕ) → m < k → k < length keys → (key_at keys m).group ≡ (key_at keys k).group
       → ((key_at keys (k - 1)).group ≡ (key_at keys k).group) × ((key_at keys m).order ≤ (key_at keys (k - 1)).order) × ((m ≡ k - 1) ⊎ (m < k - 1))
-  earlier_key m k l inside same =
-      let last = less_group (key_at keys (k - 1)) (key_at keys k) (s.rising (k - 1) k (omega arith) inside) in
-      ⊎_elim (λ (e : m ≡ k - 1). (ap (λ i. (key_at keys i).group) (sym e) ∙ same, omega (arith, ap (λ i. (key_at keys i).order) e), inl e))
-      (λ (before : m < k - 1).
-      let h = s.rising m (k - 1) before (omega arith) in
-      let low = less_group (key_at keys m) (key_at keys (k - 1)) h in
-      let up : (key_at keys (k - 1)).group ≡ (key_at keys k).group = omega (arith, low, last, same) in
-      (up, less_orders (key_at keys m) (key_at keys (k - 1)) h (same ∙ sym up), inr before))
-      (eq-or-lt_of_le (omega arith))
+  earlier_key m k l inside same = search (rules, less_group, less_orders)
 
   pub before_inside : (k : ℕ) → k < length keys → (o : Option Key) → IsBefore keys k o → IfSome o (λ b. b.row < n)
   before_inside k h None b = tt
@@ -73,12 +64,7 @@ module _ (test : ℕ → Bool) (group order : ℕ → ℕ) (n : ℕ) (keys : Lis
 
   -- of one group the key with the lower order stands before
   lower : AreApart group order n → (m k : ℕ) → m < length keys → k < length keys → (key_at keys m).group ≡ (key_at keys k).group → (key_at keys m).order < (key_at keys k).order → m < k
-  lower apart m k g h same less =
-      ⊎_elim (λ (l : m < k). l)
-      (λ (ge : k ≤ m).
-      ⊎_elim (λ (e : k ≡ m). absurd (omega (arith, less, ap (λ i. (key_at keys i).order) e)))
-      (λ (l : k < m). absurd (omega (arith, less, rises apart k m l g (sym same)))) (eq-or-lt_of_le ge))
-      (cases_lt m k)
+  lower apart m k g h same less = search (rules, rises)
 
   stands : ℕ → ℕ → Bool
   stands j i = precedes test group order j i
@@ -86,19 +72,12 @@ module _ (test : ℕ → Bool) (group order : ℕ → ℕ) (n : ℕ) (keys : Lis
   stands_from : (m k : ℕ) → m < length keys → k < length keys → stands (key_at keys m).row (key_at keys k).row ≡ true
       → ((key_at keys m).group ≡ (key_at keys k).group) × ((key_at keys m).order < (key_at keys k).order)
   unfolding stands
-  stands_from m k g h b =
-      let j = (key_at keys m).row in let i = (key_at keys k).row in
-      let p = and_parts (group j == group i) (nat_lt (order j) (order i)) (and_parts (test j && test i) ((group j == group i) && nat_lt (order j) (order i)) b).1 in (
-        s.groups m g ∙ eqb-true (group j) (group i) p.0 ∙ sym (s.groups k h),
-        omega (arith, ltb-true (order j) (order i) p.1, s.orders m g, s.orders k h),
-      )
+  stands_from m k g h b = grind (arith, common_steps, and_parts, eqb-true, ltb-true)
 
   stands_to : (m k : ℕ) → m < length keys → k < length keys → (key_at keys m).group ≡ (key_at keys k).group → (key_at keys m).order < (key_at keys k).order
       → stands (key_at keys m).row (key_at keys k).row ≡ true
   unfolding stands
-  stands_to m k g h same less =
-      and_from _ _ (and_from _ _ (s.taken m g) (s.taken k h))
-      (and_from _ _ (eq-eqb _ _ (sym (s.groups m g) ∙ same ∙ s.groups k h)) (lt-ltb _ _ (omega (arith, less, s.orders m g, s.orders k h))))
+  stands_to m k g h same less = grind (arith, common_steps, and_from, eq-eqb, lt-ltb)
 
   -- the test holds of a row that stands before, and so it has a key
   key_of_first : (x i : ℕ) → x < n → stands x i ≡ true → (k : ℕ) × (k < length keys) × ((key_at keys k).row ≡ x)
@@ -115,14 +94,7 @@ module _ (test : ℕ → Bool) (group order : ℕ → ℕ) (n : ℕ) (keys : Lis
   just_to : AreApart group order n → (k : ℕ) → 0 < k → k < length keys → (key_at keys (k - 1)).group ≡ (key_at keys k).group → just (key_at keys (k - 1)).row (key_at keys k).row ≡ true
   unfolding just between
   just_to apart k some h same =
-      let i = (key_at keys k).row in let j = (key_at keys (k - 1)).row in
-      and_from _ _ (stands_to (k - 1) k (omega arith) h same (rises apart (k - 1) k (omega arith) h same))
-      (not_from_false _ (any-false (between j i) n (λ x less b.
-      let p = and_parts (stands j x) (stands x i) b in
-      let w = key_of_first x i less p.1 in
-      let first = stands_from (k - 1) w.0 (omega arith) w.1 (subst (λ (y : ℕ). stands j y ≡ true) (sym w.2) p.0) in
-      let second = stands_from w.0 k w.1 h (subst (λ (y : ℕ). stands y i ≡ true) (sym w.2) p.1) in
-      omega (arith, lower apart (k - 1) w.0 (omega arith) w.1 first.0 first.1, lower apart w.0 k w.1 h second.0 second.1))))
+      grind (arith, common_steps, and_from, stands_to, rises, not_from_false, any-false, between, and_parts, stands, key_of_first, stands_from, lower)
 
   -- and no other does
   just_from : AreApart group order n → (k : ℕ) → k < length keys → (x : ℕ) → x < n → just x (key_at keys k).row ≡ true

@@ -1,8 +1,8 @@
 -- Names that are not empty, and texts.
-use Rattle.std.proofs.Common.{◌≡◌, ℕ, Bool, true, false, ◌==◌, List, length, Option, Some, None, if◌then◌else◌, IsUtf8, sym, ap, ◌∙◌, ⊎_elim}
+use Rattle.std.proofs.Common.{◌≡◌, ℕ, Bool, true, false, ◌==◌, List, length, Option, Some, None, if◌then◌else◌, IsUtf8, sym, ap, ◌∙◌}
 use Rattle.std.specs.Str.{is_utf8}
 use Rattle.std.proofs.lemmas.Str.{IsUtf8-from_is_utf8, is_utf8-from_IsUtf8}
-use Rattle.std.proofs.lemmas.Bool.{cases_Bool}
+use Rattle.std.proofs.lemmas.Bool.{false_from_ne_true}
 use Rattle.csv_rows.specs.Names.{name_in, text_in}
 
 abbrev name_if : Bool → Bool → List ℕ → Option (List ℕ)
@@ -13,9 +13,8 @@ name_some text x some e u = ap Some e ∙ ap (λ a. name_if a true text) some �
 
 pub name_none : (text : List ℕ) → false ≡ (length text == 0) → (IsUtf8 text → ⊥) → None ≡ name_in text
 name_none text some u =
-    ⊎_elim (λ (t : is_utf8 text ≡ true). absurd (u (IsUtf8-from_is_utf8 text t)))
-    (λ (f : is_utf8 text ≡ false). ap (λ a. name_if a false text) some ∙ ap (λ b. name_if (length text == 0) b text) (sym f))
-    (cases_Bool (is_utf8 text))
+    let f : is_utf8 text ≡ false = false_from_ne_true (is_utf8 text) (λ t. u (IsUtf8-from_is_utf8 text t)) in
+    ap (λ a. name_if a false text) some ∙ ap (λ b. name_if (length text == 0) b text) (sym f)
 
 -- a text that is UTF-8, and one that is not
 pub text_some : (text x : List ℕ) → x ≡ text → IsUtf8 text → Some x ≡ text_in text
@@ -23,6 +22,4 @@ text_some text x e u = ap Some e ∙ ap (λ b. if b then Some text else None) (s
 
 pub text_none : (text : List ℕ) → (IsUtf8 text → ⊥) → None ≡ text_in text
 text_none text u =
-    ⊎_elim (λ (t : is_utf8 text ≡ true). absurd (u (IsUtf8-from_is_utf8 text t)))
-    (λ (f : is_utf8 text ≡ false). ap (λ b. if b then Some text else None) (sym f))
-    (cases_Bool (is_utf8 text))
+    ap (λ b. if b then Some text else None) (sym (false_from_ne_true (is_utf8 text) (λ t. u (IsUtf8-from_is_utf8 text t))))

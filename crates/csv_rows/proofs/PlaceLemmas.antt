@@ -1,12 +1,12 @@
 -- The place of a name in a header.
-use Rattle.std.proofs.Common.{◌≡◌, ℕ, ◌<◌, true, false, List, [], length, slice_index_or, Option, Some, None, IfSome, IfNone, if◌then◌else◌, sym, ap, ⊎_elim, bytes_eq}
+use Rattle.std.proofs.Common.{◌≡◌, ℕ, ◌<◌, false, List, [], length, slice_index_or, Option, Some, None, IfSome, IfNone, sym, bytes_eq}
 use Rattle.std.proofs.lemmas.Slice.Eq.{bytes_eq-Decides}
-use Rattle.std.proofs.lemmas.Bool.{cases_Bool}
+use Rattle.std.proofs.lemmas.Bool.{false_from_ne_true}
 use Rattle.csv_rows.specs.Tables.{place_in}
-use Rattle.csv_rows.proofs.FirstLemmas.{first-none, first-at}
+use Rattle.csv_rows.proofs.FirstLemmas.{absent_by, found_by}
 
 pub bytes_ne : (a b : List ℕ) → (a ≡ b → ⊥) → bytes_eq a b ≡ false
-bytes_ne a b h = ⊎_elim (λ (t : bytes_eq a b ≡ true). absurd (h ((bytes_eq-Decides a b).0 t))) (λ (f : bytes_eq a b ≡ false). f) (cases_Bool (bytes_eq a b))
+bytes_ne a b h = false_from_ne_true (bytes_eq a b) (λ t. h ((bytes_eq-Decides a b).0 t))
 
 -- what a search of the header finds
 pub place_is : (o : Option ℕ) (name : List ℕ) (names : List (List ℕ))
@@ -16,10 +16,7 @@ pub place_is : (o : Option ℕ) (name : List ℕ) (names : List (List ℕ))
     → o ≡ place_in name names
 unfolding place_in
 place_is None name names found first none =
-    let f : ℕ → Option ℕ = λ k. if bytes_eq (slice_index_or names k []) name then Some k else None in
-    sym (first-none f (length names) (λ k l. ap (λ b. if b then Some k else None) (bytes_ne (slice_index_or names k []) name (none k l))))
+    sym (absent_by (λ k. bytes_eq (slice_index_or names k []) name) (length names) (λ k l. bytes_ne (slice_index_or names k []) name (none k l)))
 place_is (Some i) name names found first none =
-    let f : ℕ → Option ℕ = λ k. if bytes_eq (slice_index_or names k []) name then Some k else None in
-    sym (first-at f i (length names) i found.0
-    (first-none f i (λ k l. ap (λ b. if b then Some k else None) (bytes_ne (slice_index_or names k []) name (first k l))))
-    (ap (λ b. if b then Some i else None) ((bytes_eq-Decides (slice_index_or names i []) name).1 found.1)))
+    sym (found_by (λ k. bytes_eq (slice_index_or names k []) name) (length names) i found.0 ((bytes_eq-Decides (slice_index_or names i []) name).1 found.1)
+    (λ k l. bytes_ne (slice_index_or names k []) name (first k l)))

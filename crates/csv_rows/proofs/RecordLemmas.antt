@@ -1,4 +1,5 @@
 -- The records of a text are its first one and those of the text after it.
+use Rattle.std.proofs.lemmas.Grind.{common_steps}
 use Rattle.std.proofs.Common.{◌≡◌, ℕ, zero, suc, ◌+◌, ◌<◌, List, [], ◌∷◌, map, length, Option, Some, None, false, refl, sym, ap, ◌∙◌, arith}
 use Rattle.csv.specs.Machine.{Read, next_record, ends_at_end}
 use Rattle.csv.specs.Reading.{default_config, records, records_from, records_next}
@@ -18,9 +19,7 @@ next_same : (cfg : Config) (n m : ℕ) (s : State) (xs : List ℕ) (o : Option R
     → ((t : State) (ys : List ℕ) → ends_at_end t ≡ false → length ys < length xs → records_from cfg n t ys ≡ records_from cfg m t ys)
     → records_next (records_from cfg n) o ≡ records_next (records_from cfg m) o
 next_same cfg n m s xs None e between more = refl
-next_same cfg n m s xs (Some r) e between more =
-    let t = takes cfg s xs r between e in
-    ap (λ (rest : List (List (List ℕ))). r.0 ∷ rest) (more r.1 r.2 t.1 t.0)
+next_same cfg n m s xs (Some r) e between more = grind (arith, common_steps, takes)
 
 -- with more turns than there are bytes no further turn finds a record
 enough_turns : (cfg : Config) (n m : ℕ) (s : State) (xs : List ℕ) → ends_at_end s ≡ false → length xs < n → length xs < m → records_from cfg n s xs ≡ records_from cfg m s xs

@@ -1,6 +1,5 @@
 -- The soonest of the faults of rows, key by key, and that it is the first.
-use Rattle.std.proofs.Common.{◌≡◌, ℕ, ◌+◌, ◌<◌, ◌≤◌, nat_lt, Bool, true, false, ◌⊎◌, inl, inr, List, length, Option, Some, None, option_map, if◌then◌else◌, refl, sym, subst, arith, ⊎_elim}
-use Rattle.std.proofs.Common.{eq-or-lt_of_le}
+use Rattle.std.proofs.Common.{◌≡◌, ℕ, ◌+◌, ◌<◌, ◌≤◌, nat_lt, Bool, true, false, ◌⊎◌, inl, inr, List, length, Option, Some, None, option_map, if◌then◌else◌, refl, sym, subst, arith, ⊎_elim, below_more}
 use Rattle.std.proofs.lemmas.Bool.{cases_Bool, ltb-true, ltb-false}
 use Rattle.csv_rows.specs.First.{first_below}
 use Rattle.csv_rows.specs.declared.keys.Key.{Key}
@@ -16,26 +15,16 @@ module _ {F : Type 0} (f : ℕ → Option F) (n : ℕ) (keys : List Key) where
   row : ℕ → ℕ
   row k = (key_at keys k).row
 
-  more : (m : ℕ) (P : ℕ → Type 0) → ((k : ℕ) → k < m → P k) → P m → (k : ℕ) → k < m + 1 → P k
-  more m P h here k l = ⊎_elim (λ (e : k ≡ m). subst P (sym e) here) (λ (less : k < m). h k less) (eq-or-lt_of_le (omega arith))
-
   nearer : (m : ℕ) (x : ℕ × F) (e : F) (b : Bool) → nat_lt x.0 (row m) ≡ b → row m < n → f (row m) ≡ Some e → IsSoonest f n keys m (Some x)
       → IsSoonest f n keys (m + 1) (if b then Some x else Some (row m, e))
   unfolding row
-  nearer m x e true less inside here h =
-      (h.0, h.1, more m (λ k. (f (row k) ≡ None) ⊎ (x.0 ≤ row k)) h.2 (inr (omega (arith, ltb-true x.0 (row m) less))))
-  nearer m x e false less inside here h = (
-    here,
-    inside,
-    more m (λ k. (f (row k) ≡ None) ⊎ (row m ≤ row k))
-        (λ k l. ⊎_elim (λ none. inl none) (λ (r : x.0 ≤ row k). inr (omega (arith, ltb-false x.0 (row m) less, r))) (h.2 k l)) (inr (omega arith)),
-  )
+  nearer m x e b less inside here h = grind (arith, cases_Bool b, row, ltb-true, ltb-false)
 
   step : (m : ℕ) (first : Option (ℕ × F)) (o : Option F) → row m < n → f (row m) ≡ o → IsSoonest f n keys m first → IsSoonest f n keys (m + 1) (sooner first (row m) o)
   unfolding row
-  step m None None inside here h = more m (λ k. f (row k) ≡ None) h here
-  step m (Some x) None inside here h = (h.0, h.1, more m (λ k. (f (row k) ≡ None) ⊎ (x.0 ≤ row k)) h.2 (inl here))
-  step m None (Some e) inside here h = (here, inside, more m (λ k. (f (row k) ≡ None) ⊎ (row m ≤ row k)) (λ k l. inl (h k l)) (inr (omega arith)))
+  step m None None inside here h = below_more (λ k. f (row k) ≡ None) m h here
+  step m (Some x) None inside here h = (h.0, h.1, below_more (λ k. (f (row k) ≡ None) ⊎ (x.0 ≤ row k)) m h.2 (inl here))
+  step m None (Some e) inside here h = (here, inside, below_more (λ k. (f (row k) ≡ None) ⊎ (row m ≤ row k)) m (λ k l. inl (h k l)) (inr (omega arith)))
   step m (Some x) (Some e) inside here h = nearer m x e (nat_lt x.0 (row m)) refl inside here h
 
   -- one more key

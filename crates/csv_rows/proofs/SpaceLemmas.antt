@@ -1,4 +1,6 @@
 -- Trimmed fields neither begin nor end with a space.
+use Rattle.std.proofs.lemmas.Bool.{cases_Bool}
+use Rattle.std.proofs.lemmas.Grind.{common_steps}
 use Rattle.std.proofs.Common.{◌≡◌, ◌≢◌, length-append, append-nil, append_assoc, ℕ, zero, suc, ◌<◌, length, take, Option, Some, None, ◌+◌, Bool, true, false, ◌==◌, List, [], ◌∷◌, ◌++◌, map}
 use Rattle.std.proofs.Common.{reverse, slice_index_or, if◌then◌else◌, refl, sym, ap, ◌∙◌, arith}
 use Rattle.std.proofs.lemmas.Bool.Decides.{nat_tests}
@@ -12,8 +14,7 @@ not_space : (b : ℕ) → (b == 32) ≡ false → b ≡ 32 → ⊥
 not_space b h e = grind (arith, nat_tests)
 
 start_if : (t : Bool) (b : ℕ) (bs dropped rest : List ℕ) → (b == 32) ≡ t → (dropped ≡ 32 ∷ rest → ⊥) → (if t then dropped else b ∷ bs) ≡ 32 ∷ rest → ⊥
-start_if true b bs dropped rest e h k = h k
-start_if false b bs dropped rest e h k = not_space b e (cc)
+start_if t b bs dropped rest e h k = grind (arith, cases_Bool t, not_space)
 
 -- with its spaces dropped it begins with none
 pub drop_spaces-start : (field rest : List ℕ) → drop_spaces field ≡ 32 ∷ rest → ⊥
@@ -45,10 +46,7 @@ trimmed_end turned rest first h =
     first (reverse rest) (sym (reverse-reverse turned) ∙ ap reverse h ∙ reverse-append rest (32 ∷ []))
 
 pub IsTrimmed-trimmed_text : (field : List ℕ) → IsTrimmed (trimmed_text field)
-IsTrimmed-trimmed_text field = record {
-  start = λ rest. trimmed_start (drop_spaces field) rest (drop_spaces-start field);
-  end = λ rest. trimmed_end (drop_spaces (reverse (drop_spaces field))) rest (drop_spaces-start (reverse (drop_spaces field)));
-}
+IsTrimmed-trimmed_text field = grind (arith, common_steps, trimmed_start, drop_spaces-start, trimmed_end)
 
 pub IsTrimmed-nil : IsTrimmed []
 IsTrimmed-nil = IsTrimmed-trimmed_text []
@@ -86,8 +84,7 @@ IsTrimmed-field t (Some k) i h = h (i + 1) k
 
 all_if : (t : Bool) (b : ℕ) (bs more dropped rest : List ℕ) → (dropped ≡ [] → rest ≡ drop_spaces more) → (if t then dropped else b ∷ bs) ≡ []
     → (if t then rest else b ∷ (bs ++ more)) ≡ drop_spaces more
-all_if true b bs more dropped rest h e = h e
-all_if false b bs more dropped rest h e = absurd (cc)
+all_if t b bs more dropped rest h e = grind (arith, cases_Bool t)
 
 -- more after nothing but spaces
 pub drop_spaces-all : (field more : List ℕ) → drop_spaces field ≡ [] → drop_spaces (field ++ more) ≡ drop_spaces more
@@ -96,8 +93,7 @@ drop_spaces-all (b ∷ bs) more h = all_if (b == 32) b bs more (drop_spaces bs) 
 
 some_if : (t : Bool) (b : ℕ) (bs more dropped rest : List ℕ) → (0 < length dropped → rest ≡ dropped ++ more) → 0 < length (if t then dropped else b ∷ bs)
     → (if t then rest else b ∷ (bs ++ more)) ≡ (if t then dropped else b ∷ bs) ++ more
-some_if true b bs more dropped rest h e = h e
-some_if false b bs more dropped rest h e = refl
+some_if t b bs more dropped rest h e = grind (arith, cases_Bool t)
 
 -- and after anything else
 pub drop_spaces-some : (field more : List ℕ) → 0 < length (drop_spaces field) → drop_spaces (field ++ more) ≡ drop_spaces field ++ more
@@ -127,7 +123,4 @@ extended-all packed before field more e h =
 
 pub extended-some : (packed before field more : List ℕ) → packed ≡ before ++ drop_spaces field → length packed ≢ length before
     → packed ++ more ≡ before ++ drop_spaces (field ++ more)
-extended-some packed before field more e h =
-    let size = length-append before (drop_spaces field) in
-    let some : 0 < length (drop_spaces field) = omega (arith, size, ap length e) in
-    ap (λ xs. xs ++ more) e ∙ append_assoc before (drop_spaces field) more ∙ ap (λ xs. before ++ xs) (sym (drop_spaces-some field more some))
+extended-some packed before field more e h = grind (arith, common_steps, length-append, append_assoc, drop_spaces-some)

@@ -1,10 +1,10 @@
 -- What the forms of the fields bound.
-use Rattle.std.proofs.Common.{◌≡◌, ℕ, ◌+◌, ◌<◌, ◌≤◌, Bool, true, false, ◌==◌, nat_lt, List, length, Option, Some, None, Result, Ok, Err, IfSome, if◌then◌else◌, refl, subst, arith}
+use Rattle.std.proofs.lemmas.Bool.{cases_Bool}
+use Rattle.std.proofs.Common.{◌≡◌, ℕ, ◌+◌, ◌<◌, ◌≤◌, Bool, true, ◌==◌, nat_lt, List, length, Option, Some, None, Result, Ok, Err, IfSome, if◌then◌else◌, refl, subst, arith}
 use Rattle.csv_rows.specs.declared.columns.Column.{Column}
 use Rattle.csv_rows.specs.declared.columns.Column.TheVariants.{Class, Run, Step, From, To, Dep, Arr, Board, Exit, Change}
-use Rattle.delay_table.proofs.LineFacts.{optional-each}
 use Rattle.clock_text.proofs.DigitLemmas.{whole_bound}
-use Rattle.csv_rows.proofs.RowLemmas.{name_text}
+use Rattle.csv_rows.proofs.RowLemmas.{name_text, optional-each}
 use Rattle.clock_text.specs.Digits.{optional_seconds_of, whole_of}
 use Rattle.clock_text.specs.Times.{moment_at}
 use Rattle.std.proofs.lemmas.Bool.{ltb-true}
@@ -27,8 +27,7 @@ pub record InForm (run from to : List ℕ) (r : Row) : Type 0 where
   pub change : IfSome r.change (λ s. s ≤ 86400)
 
 end_if : (b : Bool) (m n : ℕ) → (b ≡ true → m < end_of_arrivals) → (if b then Some m else None) ≡ Some n → n < end_of_arrivals
-end_if true m n h e = subst (λ (x : ℕ). x < end_of_arrivals) (same_Some m n e) (h refl)
-end_if false m n h e = absurd (cc)
+end_if b m n h e = grind (arith, cases_Bool b, same_Some)
 
 -- a moment before the end
 end_bound : (o : Option ℕ) (n : ℕ) → before_end o ≡ Some n → n < end_of_arrivals

@@ -1,5 +1,6 @@
 -- The fault of a row beside the row before it in its run, by the keys.
-use Rattle.std.proofs.Common.{◌≡◌, ℕ, ◌+◌, ◌<◌, ◌==◌, nat_lt, Bool, true, false, not, ◌&&◌, ◌||◌, List, length, Option, Some, None, if◌then◌else◌, refl, sym, ap, ap₂, ◌∙◌, subst, arith, bytes_eq}
+use Rattle.std.proofs.lemmas.Bool.{cases_Bool}
+use Rattle.std.proofs.Common.{◌≡◌, ℕ, ◌+◌, ◌<◌, ◌==◌, nat_lt, Bool, true, false, not, ◌&&◌, ◌||◌, List, length, Option, Some, None, if◌then◌else◌, sym, ap, ap₂, ◌∙◌, subst, arith, bytes_eq}
 use Rattle.csv_rows.specs.First.{first_below, any_below}
 use Rattle.csv_rows.specs.Tables.{row_count}
 use Rattle.csv_rows.specs.declared.keys.Key.{Key}
@@ -20,14 +21,10 @@ abbrev fault_by : Bool → Bool → ℕ → Option CutFault
 fault_by back broken line = if back then Some (Backward line) else if broken then Some (Broken line) else None
 
 alone : (a : Bool) (line : ℕ) → fault_by (a || false) false line ≡ (if a then Some (Backward line) else None)
-alone true line = refl
-alone false line = refl
+alone a line = grind (arith, cases_Bool a)
 
 with_last : (a q r : Bool) (line : ℕ) → fault_by (a || q) (not r) line ≡ (if a then Some (Backward line) else if q then Some (Backward line) else if r then None else Some (Broken line))
-with_last true q r line = refl
-with_last false true r line = refl
-with_last false false true line = refl
-with_last false false false line = refl
+with_last a q r line = grind (arith, cases_Bool a, cases_Bool q, cases_Bool r)
 
 module _ (t : List (List (List ℕ))) (runs places : List (List ℕ)) (rows : List CutRow) (keys : List Key) (r : IsRead t runs places rows keys)
     (none : first_below (repeated_step t) (row_count t) ≡ None) where

@@ -4,7 +4,7 @@ use Rattle.std.proofs.Common.{refl, sym, subst, arith, ⊎_elim, length-append, 
 use Rattle.csv_rows.specs.Tables.{place_in}
 use Rattle.cut_file.specs.Faults.{row}
 use Rattle.cut_file.specs.Cut.{add_new, run_names, place_names}
-use Rattle.cut_file.proofs.NumberFacts.{get_before, length_add}
+use Rattle.cut_file.proofs.NumberFacts.{get_add, length_add}
 
 get_last : (names : List (List ℕ)) (x : List ℕ) → slice_get (names ++ x ∷ []) (length names) ≡ Some x
 get_last [] x = refl
@@ -23,14 +23,6 @@ new_or_old : (names : List (List ℕ)) (x : List ℕ) (r : ℕ) → r < length (
 unfolding add_new
 new_or_old names x r l = new_if (is_some (place_in x names)) names x r l
 
-keep_if : (b : Bool) (names : List (List ℕ)) (x y : List ℕ) (r : ℕ) → slice_get names r ≡ Some y → slice_get (if b then names else names ++ x ∷ []) r ≡ Some y
-keep_if true names x y r h = h
-keep_if false names x y r h = get_before names (x ∷ []) r y h
-
-keep : (names : List (List ℕ)) (x y : List ℕ) (r : ℕ) → slice_get names r ≡ Some y → slice_get (add_new names x) r ≡ Some y
-unfolding add_new
-keep names x y r h = keep_if (is_some (place_in x names)) names x y r h
-
 pub record OfRun (t : List (List (List ℕ))) (n r : ℕ) : Type 0 where
   pub at : ℕ
   pub inside : at < n
@@ -42,7 +34,7 @@ run_occurs t zero r l = absurd (omega arith)
 run_occurs t (suc n) r l =
     ⊎_elim (λ (old : r < length (run_names t n)).
     let w = run_occurs t n r old in
-    record { at = w.at; inside = omega (arith, w.inside); is = keep (run_names t n) (row t n).run (row t w.at).run r w.is })
+    record { at = w.at; inside = omega (arith, w.inside); is = get_add (run_names t n) (row t n).run r (row t w.at).run w.is })
     (λ (new : slice_get (add_new (run_names t n) (row t n).run) r ≡ Some (row t n).run). record { at = n; inside = omega arith; is = new })
     (new_or_old (run_names t n) (row t n).run r l)
 
@@ -63,10 +55,11 @@ place_occurs t (suc n) p l =
     record {
       at = w.at;
       inside = omega (arith, w.inside);
-      is = ⊎_elim (λ (h : slice_get names p ≡ Some (row t w.at).from). inl (keep (add_new names x) y (row t w.at).from p (keep names x (row t w.at).from p h)))
-          (λ (h : slice_get names p ≡ Some (row t w.at).to). inr (keep (add_new names x) y (row t w.at).to p (keep names x (row t w.at).to p h))) w.is;
+      is = ⊎_elim (λ (h : slice_get names p ≡ Some (row t w.at).from). inl (get_add (add_new names x) y p (row t w.at).from (get_add names x p
+          (row t w.at).from h)))
+          (λ (h : slice_get names p ≡ Some (row t w.at).to). inr (get_add (add_new names x) y p (row t w.at).to (get_add names x p (row t w.at).to h))) w.is;
     })
-    (λ (new : slice_get (add_new names x) p ≡ Some x). record { at = n; inside = omega arith; is = inl (keep (add_new names x) y x p new) })
+    (λ (new : slice_get (add_new names x) p ≡ Some x). record { at = n; inside = omega arith; is = inl (get_add (add_new names x) y p x new) })
     (new_or_old names x p old))
     (λ (new : slice_get (add_new (add_new names x) y) p ≡ Some y). record { at = n; inside = omega arith; is = inr new })
     (new_or_old (add_new names x) y p l)

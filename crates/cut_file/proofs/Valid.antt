@@ -1,5 +1,6 @@
 -- The network of a cut file with no fault is valid.
-use Rattle.std.proofs.Common.{◌≡◌, ℕ, zero, suc, ◌+◌, ◌-◌, ◌<◌, ◌≤◌, ◌==◌, inl, inr, nat_lt, Bool, true, false, ◌&&◌, List, [], length, slice_get, slice_index_or}
+use Rattle.std.proofs.lemmas.Bool.{cases_Bool}
+use Rattle.std.proofs.Common.{◌≡◌, ℕ, zero, suc, ◌+◌, ◌-◌, ◌<◌, ◌≤◌, ◌==◌, inl, inr, nat_lt, Bool, false, ◌&&◌, List, [], length, slice_get, slice_index_or}
 use Rattle.std.proofs.Common.{Option, Some, None, IfSome, if◌then◌else◌, refl, sym, ap, ◌∙◌, subst, arith, ⊎_elim}
 use Rattle.std.proofs.lemmas.Bool.{cases_lt, ltb-false, or_parts}
 use Rattle.std.proofs.lemmas.Bool.Decides.{nat_tests}
@@ -34,8 +35,7 @@ use Rattle.cut_file.proofs.Occurs.{run_occurs, few_places}
 use Rattle.cut_file.proofs.ChangeFacts.{longest-zero, longest-suc}
 
 if_none : (b : Bool) (e : CutFault) (o : Option CutFault) → (if b then Some e else o) ≡ None → (b ≡ false) × (o ≡ None)
-if_none true e o h = absurd (cc)
-if_none false e o h = (refl, h)
+if_none b e o h = grind (arith, cases_Bool b)
 
 pub record HasNone (t : List (List (List ℕ))) (limit : ℕ) : Type 0 where
   pub few : row_count t ≤ limit
@@ -70,8 +70,7 @@ seconds_few None h = omega arith
 seconds_few (Some s) h = omega (arith, h)
 
 by_few : (b : Bool) (r : CutRow) → IfSome r.change (λ s. s ≤ 86400) → change_by b r ≤ 86400
-by_few true r h = seconds_few r.change h
-by_few false r h = omega arith
+by_few b r h = grind (arith, cases_Bool b, seconds_few)
 
 longest_few : (rows : List CutRow) (n p : ℕ) → ((i : ℕ) → i < n → IfSome (cut_row rows i).change (λ s. s ≤ 86400)) → longest rows n p ≤ 86400
 longest_few rows zero p h = omega (arith, longest-zero rows p)
@@ -79,8 +78,7 @@ longest_few rows (suc n) p h =
     omega (arith, longest-suc rows n p, longest_few rows n p (λ i l. h i (omega arith)), by_few ((cut_row rows n).from == p) (cut_row rows n) (h n (omega arith)))
 
 from_if : (b : Bool) (s : ℕ) → (b ≡ false → 1 ≤ s) → s ≤ 86400 → (1 ≤ (if b then 120 else s)) × ((if b then 120 else s) ≤ 86400)
-from_if true s h l = (omega arith, omega arith)
-from_if false s h l = (h refl, l)
+from_if b s h l = grind (arith, cases_Bool b)
 
 some_on : (s : ℕ) → (s == 0) ≡ false → 1 ≤ s
 some_on s h = grind (arith, nat_tests)

@@ -1,12 +1,12 @@
 -- The class of a connection is one of those of the table.
-use Rattle.std.proofs.Common.{◌≡◌, ℕ, ◌+◌, ◌<◌, ◌==◌, List, length, slice_index, Option, Some, None, IfSome, option_map, if◌then◌else◌, refl, subst, arith}
+use Rattle.std.proofs.Common.{◌≡◌, ℕ, ◌+◌, ◌<◌, ◌==◌, List, length, slice_index, Option, Some, None, IfSome, option_map, refl, arith}
 use Rattle.std.specs.Prelude.{unwrap_or}
 use Rattle.std.specs.Option.{option_or}
-use Rattle.csv_rows.proofs.FirstLemmas.{first-is}
+use Rattle.csv_rows.proofs.FirstLemmas.{place_by-some}
 use Rattle.delay_table.specs.DelayLists.{DelayLists, class_for, hour_class, hour_of, other_class, route_class, type_class, type_place}
 use Rattle.delay_table.specs.Groups.{Group, group_place}
 use Rattle.delay_table.specs.Slots.{AreDelays}
-use Rattle.delay_table.proofs.GroupFacts.{group-here, some_test}
+use Rattle.delay_table.proofs.GroupFacts.{group-here}
 
 module _ (n : ℕ) where
   -- it is below n, where it is there
@@ -23,10 +23,7 @@ module _ (n : ℕ) where
 
 type-inside : (types : List ℕ) (route k : ℕ) → type_place types route ≡ Some k → k < length types
 unfolding type_place
-type-inside types route k h =
-    let w = first-is (λ i. if slice_index types i == route then Some i else None) (length types) k h in
-    let t = some_test (slice_index types w.place == route) w.place k w.here in
-    subst (λ i. i < length types) t.1 w.inside
+type-inside types route k h = (place_by-some (λ i. slice_index types i == route) (length types) k h).0
 
 shifted : (o : Option ℕ) (by n : ℕ) → ((k : ℕ) → o ≡ Some k → by + k < n) → IfSome (option_map (λ k. by + k) o) (λ k. k < n)
 shifted None by n h = tt

@@ -1,5 +1,6 @@
 -- The number of the groups is told where there are too many, and no other fault tells it.
-use Rattle.std.proofs.Common.{◌≡◌, ℕ, ◌<◌, ◌+◌, ◌-◌, nat_lt, nat_le, Bool, true, false, List, [], ◌∷◌, length, slice_get, slice_index, Option, Some, None, option_map, if◌then◌else◌, refl, arith}
+use Rattle.std.proofs.lemmas.Bool.{cases_Bool}
+use Rattle.std.proofs.Common.{◌≡◌, ℕ, ◌<◌, ◌+◌, ◌-◌, nat_lt, nat_le, Bool, true, List, [], ◌∷◌, length, slice_get, slice_index, Option, Some, None, option_map, if◌then◌else◌, arith}
 use Rattle.std.proofs.lemmas.Bool.Decides.{nat_tests}
 use Rattle.plan_model.specs.declared.model.Outcome.{Outcome}
 use Rattle.csv_rows.specs.declared.columns.Column.{Column}
@@ -35,16 +36,14 @@ class-other : (rows : Group → List Outcome) (class : Option ℕ) → IsOther (
 class-other rows class = mapped (WeightSum (class_name class)) (other_sum (class_rows rows class)) (λ s n e. absurd (cc))
 
 group_if : (plain : Bool) (line : ℕ) (o : Option ℕ) → IsOther (if plain then None else option_map (GroupSum line) o)
-group_if true line o n e = absurd (cc)
-group_if false line o n e = mapped (GroupSum line) o (λ s m f. absurd (cc)) n e
+group_if plain line o n e = grind (arith, cases_Bool plain, mapped)
 
 default-other : (r : List Outcome) → IsOther (no_default_of r)
 default-other [] n e = absurd (cc)
 default-other (o ∷ os) n e = absurd (cc)
 
 counted : (b : Bool) (count n : ℕ) (rest : Option DelayFault) → IsOther rest → option_or (if b then Some (TooManyClasses count) else None) rest ≡ Some (TooManyClasses n) → (n ≡ count) × (b ≡ true)
-counted true count n rest h e = (cc, refl)
-counted false count n rest h e = absurd (h n e)
+counted b count n rest h e = grind (arith, cases_Bool b)
 
 passes : (count : ℕ) → nat_lt most_groups count ≡ true → most_groups < count
 passes count h = grind (arith, nat_tests)
@@ -64,8 +63,7 @@ told-count rows groups line_of n h =
     (w.0, omega (arith, w.0, passes (length groups) w.1))
 
 column_if : (b : Bool) (column : Column) → IsOther (if b then Some (MissingColumn column) else None)
-column_if true column n e = absurd (cc)
-column_if false column n e = absurd (cc)
+column_if b column n e = grind (arith, cases_Bool b)
 
 pub column-other : (t : List (List (List ℕ))) → IsOther (missing_column t)
 column-other t =
@@ -74,10 +72,7 @@ column-other t =
 
 row_if : (many rising plain : Bool) (a b c : DelayFault) → IsOther (Some a) → IsOther (Some b) → IsOther (Some c)
     → IsOther (if many then Some (if plain then a else b) else if rising then None else Some c)
-row_if true rising true a b c h k m n e = h n e
-row_if true rising false a b c h k m n e = k n e
-row_if false true plain a b c h k m n e = absurd (cc)
-row_if false false plain a b c h k m n e = m n e
+row_if many rising plain a b c h k m n e = grind (arith, cases_Bool many, cases_Bool rising, cases_Bool plain)
 
 row-other : (earlier : Group → List Outcome) (o : Option Line) (number : ℕ) → IsOther (fault_of earlier o number)
 row-other earlier None number n e = absurd (cc)

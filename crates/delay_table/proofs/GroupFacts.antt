@@ -7,7 +7,7 @@ use Rattle.std.proofs.lemmas.List.{get_or_append_left, get_or_push}
 use Rattle.std.proofs.lemmas.Slice.Eq.{bytes_eq-Decides}
 use Rattle.std.specs.Option.{option_or}
 use Rattle.csv_rows.specs.First.{first_below}
-use Rattle.csv_rows.proofs.FirstLemmas.{first-at, first-is, first-none, first-same, first-suc, none-each}
+use Rattle.csv_rows.proofs.FirstLemmas.{absent_by, first-same, first-suc, found_by, place_by-none, place_by-some}
 use Rattle.delay_table.specs.Groups.{Group, same_if, same_number, same_group, of_class, group_in, group_place}
 use Rattle.delay_table.specs.Read.{AreApart}
 
@@ -48,45 +48,27 @@ same-false a b h = false_from_ne_true (same_group a b) (λ t. h (same-equal a b 
 pub false-same : (a b : Group) → same_group a b ≡ false → a ≡ b → ⊥
 false-same a b f e = let t = same-true a b e in absurd (cc)
 
-place_test : Group → List Group → ℕ → Option ℕ
-place_test group groups k = if same_group (group_in groups k) group then Some k else None
-
-pub some_test : (b : Bool) (i k : ℕ) → (if b then Some i else None) ≡ Some k → (b ≡ true) × (i ≡ k)
-some_test true i k e = (refl, cc)
-some_test false i k e = absurd (cc)
-
-none_test : (b : Bool) (i : ℕ) → (if b then Some i else None) ≡ None → b ≡ false
-none_test true i e = absurd (cc)
-none_test false i e = refl
-
 -- what stands at the place of a group
 pub group-here : (group : Group) (groups : List Group) (k : ℕ) → group_place group groups ≡ Some k → (k < length groups) × (group_in groups k ≡ group)
-unfolding group_place place_test
+unfolding group_place
 group-here group groups k h =
-    let w = first-is (place_test group groups) (length groups) k h in
-    let t = some_test (same_group (group_in groups w.place) group) w.place k w.here in
-    let P : ℕ → Type 0 = λ i. (i < length groups) × (group_in groups i ≡ group) in
-    subst P t.1 (w.inside, same-equal (group_in groups w.place) group t.0)
+    let w = place_by-some (λ k. same_group (group_in groups k) group) (length groups) k h in (w.0, same-equal (group_in groups k) group w.1)
 
 -- a group that has no place stands nowhere
 pub nowhere : (group : Group) (groups : List Group) → group_place group groups ≡ None → (k : ℕ) → k < length groups → group_in groups k ≡ group → ⊥
-unfolding group_place place_test
-nowhere group groups h k l =
-    false-same (group_in groups k) group (none_test (same_group (group_in groups k) group) k (none-each (place_test group groups) (length groups) h k l))
+unfolding group_place
+nowhere group groups h k l = false-same (group_in groups k) group (place_by-none (λ k. same_group (group_in groups k) group) (length groups) h k l)
 
 pub none-place : (group : Group) (groups : List Group) → ((k : ℕ) → k < length groups → group_in groups k ≡ group → ⊥) → group_place group groups ≡ None
-unfolding group_place place_test
-none-place group groups h =
-    first-none (place_test group groups) (length groups) (λ k l. ap (λ b. if b then Some k else None) (same-false (group_in groups k) group (h k l)))
+unfolding group_place
+none-place group groups h = absent_by (λ k. same_group (group_in groups k) group) (length groups) (λ k l. same-false (group_in groups k) group (h k l))
 
 -- the first place at which it stands
 pub place-first : (group : Group) (groups : List Group) (k : ℕ) → k < length groups → group_in groups k ≡ group → ((j : ℕ) → j < k → group_in groups j ≡ group → ⊥) → group_place group groups ≡ Some k
-unfolding group_place place_test
+unfolding group_place
 place-first group groups k l e first =
-    let f : ℕ → Option ℕ = place_test group groups in
-    first-at f k (length groups) k l
-    (first-none f k (λ j less. ap (λ b. if b then Some j else None) (same-false (group_in groups j) group (first j less))))
-    (ap (λ b. if b then Some k else None) (same-true (group_in groups k) group e))
+    found_by (λ k. same_group (group_in groups k) group) (length groups) k l (same-true (group_in groups k) group e)
+    (λ j less. same-false (group_in groups j) group (first j less))
 
 -- groups that stand at two places differ
 pub apart-ne : (groups : List Group) → AreApart groups → (j k : ℕ) → j < length groups → k < length groups → (j ≡ k → ⊥) → group_in groups j ≡ group_in groups k → ⊥
@@ -104,15 +86,16 @@ place-at groups apart k l =
 -- one more group
 pub place-push : (group : Group) (groups : List Group) (x : Group) → group_place group (groups ++ x ∷ []) ≡ option_or (group_place group groups)
     (if same_group x group then Some (length groups) else None)
-unfolding group_place place_test
+unfolding group_place
 place-push group groups x =
     let n = length groups in
     let size : length (groups ++ x ∷ []) ≡ n + 1 = length-append groups (x ∷ []) in
-    let f : ℕ → Option ℕ = place_test group (groups ++ x ∷ []) in
+    let f : ℕ → Option ℕ = λ k. if same_group (group_in (groups ++ x ∷ []) k) group then Some k else None in
     ap (first_below f) size
     ∙ rw add-one (first-suc f n)
     ∙ ap₂ option_or
-    (first-same f (place_test group groups) n (λ k l. ap (λ (y : Group). if same_group y group then Some k else None) (get_or_append_left groups (x ∷ []) (of_class None) k l)))
+    (first-same f (λ k. if same_group (group_in groups k) group then Some k else None) n (λ k l. ap (λ
+        (y : Group). if same_group y group then Some k else None) (get_or_append_left groups (x ∷ []) (of_class None) k l)))
     (ap (λ (y : Group). if same_group y group then Some n else None) (get_or_push groups x (of_class None) n refl))
 
 pub push-none : (group : Group) (groups : List Group) (x : Group) → group_place group (groups ++ x ∷ []) ≡ None → (group_place group groups ≡ None) × (x ≡ group → ⊥)

@@ -1,14 +1,14 @@
 -- One row of the table.
-use Rattle.std.proofs.Common.{◌≡◌, ℕ, ◌≤◌, Bool, true, false, ◌==◌, List, length, Option, Some, None, IfSome, ◌<◌, option_map, if◌then◌else◌, refl, sym, ap, ◌∙◌, subst, arith, is_none}
+use Rattle.std.proofs.lemmas.Bool.{cases_Bool}
+use Rattle.std.proofs.Common.{◌≡◌, ℕ, ◌≤◌, Bool, false, ◌==◌, List, length, Option, Some, None, IfSome, ◌<◌, option_map, if◌then◌else◌, refl, sym, ap, ◌∙◌, subst, arith, is_none}
 use Rattle.std.proofs.lemmas.Bool.Decides.{nat_tests}
 use Rattle.std.specs.Prelude.{codes}
 use Rattle.std.specs.Str.{bytes_eq}
-use Rattle.std.proofs.lemmas.Option.{same_Some}
 use Rattle.clock_text.proofs.DigitLemmas.{whole_bound}
 use Rattle.clock_text.specs.Digits.{whole_of}
 use Rattle.csv_rows.specs.declared.columns.Column.TheVariants.{Class, Delay, Weight, RouteId, Hour}
 use Rattle.csv_rows.specs.Names.{name_in}
-use Rattle.csv_rows.proofs.RowLemmas.{name_text}
+use Rattle.csv_rows.proofs.RowLemmas.{mapped-each, name_text, optional-each}
 use Rattle.csv_rows.specs.Tables.{field, field_at}
 use Rattle.plan_model.specs.NameLists.{IsTrimmed}
 use Rattle.plan_model.specs.Bounds.{seconds_per_day}
@@ -17,8 +17,7 @@ use Rattle.delay_table.specs.declared.lines.DelayLine.{DelayLine}
 use Rattle.delay_table.specs.Delays.{Line, delay_class_in, not_zero, route_in, hour_in, given, line_from, line_at}
 
 one_on : (b : Bool) (w : ℕ) → (b ≡ false → 1 ≤ w) → IfSome (if b then None else Some w) (λ n. 1 ≤ n)
-one_on true w h = tt
-one_on false w h = h refl
+one_on b w h = grind (arith, cases_Bool b)
 
 zero_test : (w : ℕ) → (w == 0) ≡ false → 1 ≤ w
 zero_test w h = grind (arith, nat_tests)
@@ -32,21 +31,9 @@ given-holds : {A B : Type 0} (P : B → Type 0) (o : Option A) (next : A → Opt
 given-holds P None next h = tt
 given-holds P (Some a) next h = h a refl
 
--- what holds of each value of a field, holds of the one that is there, where it may lack
-mapped-each : {A : Type 0} (P : A → Type 0) (o : Option A) → ((x : A) → o ≡ Some x → P x) → (r : Option A) → option_map Some o ≡ Some r → IfSome r P
-mapped-each P None h r e = absurd (cc)
-mapped-each P (Some x) h r e = subst (λ (y : Option _). IfSome y P) (same_Some (Some x) r e) (h x refl)
-
-pub optional-each : {A : Type 0} (P : A → Type 0) (none : Bool) (o : Option A) → ((x : A) → o ≡ Some x → P x) → (r : Option A)
-    → (if none then Some None else option_map Some o) ≡ Some r → IfSome r P
-optional-each P true o h r e = subst (λ (y : Option _). IfSome y P) (same_Some None r e) tt
-optional-each P false o h r e = mapped-each P o h r e
-
 route-each : (P : List ℕ → Type 0) (empty any : Bool) (o : Option (List ℕ)) → ((x : List ℕ) → o ≡ Some x → P x) → (r : Option (List ℕ))
     → (if empty then Some None else if any then option_map Some o else None) ≡ Some r → IfSome r P
-route-each P true any o h r e = optional-each P true o h r e
-route-each P false true o h r e = mapped-each P o h r e
-route-each P false false o h r e = absurd (cc)
+route-each P empty any o h r e = grind (arith, cases_Bool empty, cases_Bool any, optional-each, mapped-each)
 
 -- what a row says, where each field is of its form: its route is the field
 pub record IsFormed (field : List ℕ) (line : Line) : Type 0 where

@@ -1,5 +1,5 @@
 -- Groups by the numbers of their routes.
-use Rattle.std.proofs.Common.{◌≡◌, ℕ, suc, ◌+◌, ◌<◌, ◌≤◌, ◌&&◌, Bool, true, false, List, [], ◌∷◌, ◌++◌, length, map, slice_index_or, Option, Some, None, IfSome}
+use Rattle.std.proofs.Common.{◌≡◌, ℕ, suc, ◌<◌, ◌≤◌, ◌&&◌, Bool, true, false, List, [], ◌∷◌, ◌++◌, length, map, slice_index_or, Option, Some, None, IfSome}
 use Rattle.std.proofs.Common.{option_map, is_some, refl, sym, ap, ap₂, ◌∙◌, subst, arith, below_more, inl, inr}
 use Rattle.std.specs.Prelude.{position}
 use Rattle.std.specs.List.{list_any}
@@ -17,20 +17,6 @@ use Rattle.delay_table.specs.declared.numbered.NumberedGroup.{NumberedGroup}
 use Rattle.delay_table.specs.Groups.{Group, same_if, same_number, of_class, group_in, group_place}
 use Rattle.delay_table.specs.Numbered.{no_group, named_group, same_numbered, AreNumbers, IsNumber, StaysSo}
 use Rattle.delay_table.proofs.GroupFacts.{none-place, nowhere, place-first, same_if-equal, same_if-self}
-
--- an id that was added has a place
-pub place-adds : (old new : List (List ℕ)) (x : List ℕ) (added : Bool) → Adds old new x added → place_in x new ≡ None → ⊥
-place-adds old new x true a none =
-    let size : length new ≡ length old + 1 = ap length a.0 ∙ length_push old x in
-    let here : slice_index_or new (length old) [] ≡ x = ap (λ xs. slice_index_or xs (length old) []) a.0 ∙ get_or_push old x [] (length old) refl in
-    let t = (bytes_eq-Decides (slice_index_or new (length old) []) x).1 here in
-    let f = place-none x new none (length old) (omega (arith, size)) in cc
-place-adds old new x false a none =
-    let k = a.1.0 in
-    let inside : k < length new = omega (arith, a.1.1, ap length a.0) in
-    let here : slice_index_or new k [] ≡ x = ap (λ xs. slice_index_or xs k []) a.0 ∙ get_or_default old k [] x a.1.1 ∙ a.1.2 in
-    let t = (bytes_eq-Decides (slice_index_or new k []) x).1 here in
-    let f = place-none x new none k inside in cc
 
 pub numbered-equal : (a b : NumberedGroup) → same_numbered a b ≡ true → a ≡ b
 numbered-equal a b h =

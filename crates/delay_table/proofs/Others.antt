@@ -1,4 +1,5 @@
 -- The groups that name a route or an hour, one more at a time.
+use Rattle.std.proofs.lemmas.Bool.{cases_Bool}
 use Rattle.std.proofs.Common.{◌≡◌, ℕ, zero, suc, ◌+◌, ◌<◌, Bool, true, false, List, [], ◌∷◌, ◌++◌, length, map, None, if◌then◌else◌, refl, sym, ap, ◌∙◌, subst, arith, All, append_assoc, add-one}
 use Rattle.std.proofs.lemmas.List.{map-append}
 use Rattle.std.proofs.lemmas.List.Elements.{All-nil, All-cons, All-append}
@@ -22,8 +23,7 @@ goes-on init before more all old new e f g =
     f ∙ ap (λ xs. xs ++ more) e ∙ append_assoc init before more ∙ ap (λ xs. init ++ xs) (sym g)
 
 mapped-if : (rows : Group → List Outcome) (b : Bool) (g : Group) → map rows (if b then [] else g ∷ []) ≡ (if b then [] else rows g ∷ [])
-mapped-if rows true g = refl
-mapped-if rows false g = refl
+mapped-if rows b g = grind (arith, cases_Bool b)
 
 pub other-rows-next : (rows : Group → List Outcome) (groups : List Group) (n : ℕ) (init old new : List (List Outcome)) → old ≡ init ++ map rows (others groups n)
     → new ≡ old ++ if_other (group_in groups n) (rows (group_in groups n)) → new ≡ init ++ map rows (others groups (n + 1))

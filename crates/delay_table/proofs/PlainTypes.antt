@@ -1,5 +1,6 @@
 -- The route types of the groups of a route type alone, in the order of the groups: sorted, they are those that are named.
-use Rattle.std.proofs.Common.{◌≡◌, ◌≢◌, ℕ, zero, suc, ◌+◌, ◌<◌, ◌≤◌, Bool, true, false, ◌&&◌, eqb, List, [], ◌∷◌, ◌++◌, length, get_or, Option, Some, None, IfSome}
+use Rattle.std.proofs.lemmas.Bool.{cases_Bool}
+use Rattle.std.proofs.Common.{◌≡◌, ◌≢◌, ℕ, zero, suc, ◌+◌, ◌<◌, ◌≤◌, Bool, ◌&&◌, eqb, List, [], ◌∷◌, ◌++◌, length, get_or, Option, Some, None, IfSome}
 use Rattle.std.proofs.Common.{if◌then◌else◌, refl, sym, ap, ◌∙◌, subst, arith, ⊎_elim, All, AllPairs, Contains, length-append, append-nil, add-one, nat_cmp}
 use Rattle.std.specs.Prelude.{is_none}
 use Rattle.std.specs.List.{IsDistinct}
@@ -54,8 +55,7 @@ kind-by class (Some s) None h = refl
 kind-by class (Some s) (Some hour) h = refl
 
 if-length : {A B : Type 0} (b : Bool) (x : A) (y : B) → length (if b then [] else x ∷ []) ≡ length (if b then [] else y ∷ [])
-if-length true x y = refl
-if-length false x y = refl
+if-length b x y = grind (arith, cases_Bool b)
 
 kind-one : (g : Group) → (g ≡ of_class None → ⊥) → length (listed (plain_type g)) + length (if_other g g) ≡ 1
 kind-one g h = ap (λ n. length (listed (plain_type g)) + n) (if-length (is_plain g) g zero) ∙ kind-by g.class g.route g.hour h

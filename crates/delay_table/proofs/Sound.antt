@@ -1,4 +1,5 @@
 -- The classes of a table without a fault are valid.
+use Rattle.std.proofs.lemmas.Bool.{cases_Bool}
 use Rattle.std.proofs.Common.{◌≡◌, ℕ, ◌+◌, ◌<◌, ◌≤◌, ◌==◌, nat_lt, Bool, true, false, List, [], ◌∷◌, ◌++◌, length, map, get_or, sum_by, Option, Some, None, IfSome}
 use Rattle.std.proofs.Common.{option_map, if◌then◌else◌, refl, sym, ap, ◌∙◌, subst, arith, All, length-append}
 use Rattle.std.proofs.lemmas.List.{get_or_default, length-map}
@@ -36,16 +37,13 @@ none_mapped f None h = refl
 none_mapped f (Some x) h = absurd (cc)
 
 none_else : (b : Bool) (o : Option DelayFault) → b ≡ false → (if b then None else o) ≡ None → o ≡ None
-none_else true o e h = absurd (cc)
-none_else false o e h = h
+none_else b o e h = grind (arith, cases_Bool b)
 
 few_if : (b : Bool) (e : DelayFault) → (if b then Some e else None) ≡ None → b ≡ false
-few_if true e h = absurd (cc)
-few_if false e h = refl
+few_if b e h = grind (arith, cases_Bool b)
 
 sum_if : (b : Bool) (n : ℕ) → (if b then None else Some n) ≡ None → b ≡ true
-sum_if true n h = refl
-sum_if false n h = absurd (cc)
+sum_if b n h = grind (arith, cases_Bool b)
 
 sum_right : (r : List Outcome) → 0 < length r → other_sum r ≡ None → sum_by (λ o. o.weight) r ≡ whole_weight
 sum_right [] some h = absurd (omega arith)

@@ -1,4 +1,5 @@
 -- The outcomes of one group, one more at a time.
+use Rattle.std.proofs.lemmas.Bool.{cases_Bool}
 use Rattle.std.proofs.Common.{◌≡◌, ◌+◌, ◌-◌, ◌<◌, ◌≤◌, Bool, true, false, nat_le, List, [], ◌∷◌, ◌++◌, length, slice_get, slice_index_or, Option, Some, None}
 use Rattle.std.proofs.Common.{if◌then◌else◌, refl, sym, subst, arith, ⊎_elim, length-append, append-nil, zero, suc, ℕ, IfSome, add-one, ap, ◌∙◌}
 use Rattle.std.proofs.lemmas.Bool.{cases_lt, leb-false, ltb-true}
@@ -21,9 +22,7 @@ use Rattle.delay_table.proofs.LineFacts.{IsFormed, formed_at}
 use Rattle.delay_table.proofs.ReadFacts.{outcomes-next}
 
 none_cases : (a b : Bool) (x y : DelayFault) → (if a then Some x else if b then None else Some y) ≡ None → (a ≡ false) × (b ≡ true)
-none_cases true b x y h = absurd (cc)
-none_cases false true x y h = (refl, refl)
-none_cases false false x y h = absurd (cc)
+none_cases a b x y h = grind (arith, cases_Bool a, cases_Bool b)
 
 -- the last delay is below one that delay_rises
 rises_last : (r : List Outcome) (delay : ℕ) (d : Outcome) → delay_rises (slice_get r (length r - 1)) delay ≡ true → 0 < length r → (slice_index_or r (length r - 1) d).delay < delay
@@ -58,8 +57,7 @@ start_next r line number s none d w =
     }
 
 start_if : (b : Bool) (r : List Outcome) (o : Outcome) → IsGroupStart r → (b ≡ true → IsGroupStart (r ++ o ∷ [])) → IsGroupStart (r ++ (if b then o ∷ [] else []))
-start_if true r o s h = h refl
-start_if false r o s h = subst IsGroupStart (sym (append-nil r)) s
+start_if b r o s h = grind (arith, cases_Bool b, append-nil)
 
 start_line : (t : List (List (List ℕ))) (n : ℕ) (group : Group) (o : Option Line) → ((g : Group) → IsGroupStart (group_outcomes t n g))
     → fault_of (group_outcomes t n) o (n + 2) ≡ None → IfSome o (IsFormed (field t RouteId n)) → IsGroupStart (group_outcomes t n group ++ of_group group o)

@@ -1,12 +1,12 @@
 -- The place of a route type among those that are named, and the greatest delay of a class.
 use Rattle.std.proofs.Common.{◌≡◌, slice_get, ℕ, zero, suc, ◌+◌, ◌-◌, ◌<◌, ◌≤◌, ◌==◌, List, length, get_or, slice_index, slice_index_or, Option, Some, None, option_map}
-use Rattle.std.proofs.Common.{if◌then◌else◌, sym, ap, ◌∙◌, subst, arith, ⊎_elim, eq-or-lt_of_le, Contains, All}
+use Rattle.std.proofs.Common.{sym, ap, ◌∙◌, subst, arith, ⊎_elim, eq-or-lt_of_le, Contains, All}
 use Rattle.std.proofs.lemmas.Bool.{cases_lt, eq-eqb, ne_eqb}
 use Rattle.std.proofs.lemmas.List.{get_or_default}
 use Rattle.std.proofs.lemmas.Option.{slice_get_within, get_or_from_slice_get}
 use Rattle.plan_model.specs.declared.model.Outcome.{Outcome}
 use Rattle.plan_model.specs.Rows.{IsValidRow}
-use Rattle.csv_rows.proofs.FirstLemmas.{first-none, first-at}
+use Rattle.csv_rows.proofs.FirstLemmas.{absent_by, found_by}
 use Rattle.delay_table.specs.DelayLists.{DelayLists, class_for, hour_class, hour_of, route_class, type_class, type_place}
 use Rattle.std.specs.Prelude.{unwrap_or}
 use Rattle.std.specs.Option.{option_or}
@@ -40,17 +40,16 @@ greatest_last r last v k d l =
 no_place : (types : List ℕ) (route : ℕ) → ¬ Contains types route → type_place types route ≡ None
 unfolding type_place
 no_place types route h =
-    first-none (λ k. if slice_index types k == route then Some k else None) (length types) (λ k l.
-    ap (λ b. if b then Some k else None) (ne_eqb (slice_index types k) route (λ e. h (k, l, get_or_default types k route 0 l ∙ e))))
+    absent_by (λ k. slice_index types k == route) (length types) (λ k l. ne_eqb (slice_index types k) route (λ e. h
+        (k, l, get_or_default types k route 0 l ∙ e)))
 
 own_place : (types : List ℕ) → ((i j : ℕ) → i < j → j < length types → get_or types i 0 < get_or types j 0) → (route j : ℕ) → slice_get types j ≡ Some route → type_place types route ≡ Some j
 unfolding type_place
 own_place types rising route j h =
-    let f : ℕ → Option ℕ = λ k. if slice_index types k == route then Some k else None in
     let here = get_or_from_slice_get types j route 0 h in
     let inside = slice_get_within types j route h in
-    let none = first-none f j (λ k l. ap (λ b. if b then Some k else None) (ne_eqb (slice_index types k) route (λ e. let less = rising k j l inside in omega (arith, less, e, here)))) in
-    first-at f j (length types) j inside none (ap (λ b. if b then Some j else None) (eq-eqb (slice_index types j) route here))
+    found_by (λ k. slice_index types k == route) (length types) j inside (eq-eqb (slice_index types j) route here)
+    (λ k l. ne_eqb (slice_index types k) route (λ e. let less = rising k j l inside in omega (arith, less, e, here)))
 
 -- the place of a route type, by its class
 pub class-place : (types : List ℕ) → ((i j : ℕ) → i < j → j < length types → get_or types i 0 < get_or types j 0) → (route k : ℕ)

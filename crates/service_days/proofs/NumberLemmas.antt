@@ -1,16 +1,17 @@
 -- Exceptions by the numbers of their services, one more at a time.
-use Rattle.std.proofs.Common.{◌≡◌, ℕ, ℤ, ◌+◌, ◌<◌, ◌≤◌, ◌&&◌, ◌||◌, Bool, true, false, List, [], ◌∷◌, length, slice_index_or, Option, Some, None, if◌then◌else◌, refl, sym, ap, ◌∙◌, subst, arith}
-use Rattle.std.proofs.Common.{⊎_elim, bytes_eq, add-one, length-append}
+use Rattle.std.proofs.lemmas.Bool.{cases_Bool}
+use Rattle.std.proofs.Common.{◌≡◌, ℕ, ℤ, ◌+◌, ◌≤◌, ◌&&◌, ◌||◌, Bool, true, false, List, [], length, Option, Some, None, if◌then◌else◌, refl, sym, ap, ◌∙◌, subst, arith}
+use Rattle.std.proofs.Common.{bytes_eq, add-one, length-append}
 use Rattle.std.specs.Ordering.{int_eq}
 use mathlib.Core.Bool.{beq}
 use Rattle.plan_model.specs.NameLists.{Adds}
 use Rattle.csv_rows.specs.First.{any_below}
 use Rattle.csv_rows.specs.Tables.{place_in}
-use Rattle.std.proofs.lemmas.List.{get_or_default, get_or_push}
 use Rattle.std.proofs.lemmas.Slice.Eq.{bytes_eq-Decides}
-use Rattle.std.proofs.lemmas.Bool.{cases_Bool, or_from, ne_eqb}
+use Rattle.std.proofs.lemmas.Bool.{false_from_ne_true, or_from, ne_eqb}
+use Rattle.std.proofs.lemmas.Option.{none-some}
 use Rattle.std.specs.Option.{option_or}
-use Rattle.csv_rows.proofs.IdLemmas.{place-push, place-same, place-here, place-none}
+use Rattle.csv_rows.proofs.IdLemmas.{place-push, place-same, place-here}
 use Rattle.service_days.specs.declared.exceptions.Exception.{Exception}
 use Rattle.service_days.specs.Dates.{is_for, is_excepted, date_of}
 use Rattle.service_days.specs.Exceptions.{same, has, has_at}
@@ -24,28 +25,18 @@ asks_or asks n None false h g = refl
 -- what is false of no number and of the next one is the same after a name is added
 pub asks-adds : (old new : List (List ℕ)) (x : List ℕ) (added : Bool) (asks : Option ℕ → Bool) (name : List ℕ) → Adds old new x added → asks None ≡ false → asks (Some (length old)) ≡ false
     → asks (place_in name new) ≡ asks (place_in name old)
-asks-adds old new x true asks name a h g =
-    ap (λ xs. asks (place_in name xs)) a.0 ∙ ap asks (place-push name old x) ∙ asks_or asks (length old) (place_in name old) (bytes_eq x name) h g
-asks-adds old new x false asks name a h g = ap (λ xs. asks (place_in name xs)) a.0
+asks-adds old new x added asks name a h g = grind (arith, cases_Bool added, place-push, asks_or)
 
 pub length-adds : (old new : List (List ℕ)) (x : List ℕ) (added : Bool) → Adds old new x added → (length old ≤ length new) × (length new ≤ length old + 1)
-length-adds old new x true a =
-    let size = ap length a.0 ∙ length-append old (x ∷ []) in
-    (omega (arith, size), omega (arith, size))
-length-adds old new x false a = (omega (arith, ap length a.0), omega (arith, ap length a.0))
+length-adds old new x added a = grind (arith, cases_Bool added, length-append)
 
 or_swap : (a b : Bool) → (a || b) ≡ (b || a)
-or_swap true true = refl
-or_swap true false = refl
-or_swap false true = refl
-or_swap false false = refl
+or_swap a b = grind (arith, cases_Bool a, cases_Bool b)
 
 bytes_self : (x y : List ℕ) (ids : List (List ℕ)) (m : ℕ) → place_in x ids ≡ Some m → place_in y ids ≡ None → bytes_eq x y ≡ false
 bytes_self x y ids m h g =
-    ⊎_elim (λ (t : bytes_eq x y ≡ true).
-    let e : x ≡ y = (bytes_eq-Decides x y).0 t in
-    let s : Some m ≡ None = sym h ∙ ap (λ z. place_in z ids) e ∙ g in absurd (cc))
-    (λ (f : bytes_eq x y ≡ false). f) (cases_Bool (bytes_eq x y))
+    false_from_ne_true (bytes_eq x y) (λ t.
+    let e : x ≡ y = (bytes_eq-Decides x y).0 t in none-some m (sym (sym h ∙ ap (λ z. place_in z ids) e ∙ g)))
 
 -- the exceptions of a service after one more
 excepts : (ids : List (List ℕ)) (before after : List Exception) (x : List ℕ) (m : ℕ) (d : ℤ) (a : Bool) → place_in x ids ≡ Some m
@@ -91,17 +82,3 @@ numbered_none t ids exceptions e =
     none_at : (o : Option ℕ) (day : ℤ) (adds : Bool) → has_at [] day adds o ≡ false
     none_at None day adds = refl
     none_at (Some k) day adds = refl
-
--- an added name has a place
-pub place-adds : (old new : List (List ℕ)) (x : List ℕ) (added : Bool) → Adds old new x added → place_in x new ≡ None → ⊥
-place-adds old new x true a none =
-    let size : length new ≡ length old + 1 = ap length a.0 ∙ length-append old (x ∷ []) in
-    let here : slice_index_or new (length old) [] ≡ x = ap (λ xs. slice_index_or xs (length old) []) a.0 ∙ get_or_push old x [] (length old) refl in
-    let t = (bytes_eq-Decides (slice_index_or new (length old) []) x).1 here in
-    let f = place-none x new none (length old) (omega (arith, size)) in cc
-place-adds old new x false a none =
-    let k = a.1.0 in
-    let inside : k < length new = omega (arith, a.1.1, ap length a.0) in
-    let here : slice_index_or new k [] ≡ x = ap (λ xs. slice_index_or xs k []) a.0 ∙ get_or_default old k [] x a.1.1 ∙ a.1.2 in
-    let t = (bytes_eq-Decides (slice_index_or new k []) x).1 here in
-    let f = place-none x new none k inside in cc

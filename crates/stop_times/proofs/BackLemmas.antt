@@ -1,4 +1,7 @@
 -- The fault of a kept row beside the kept row before it in its trip, by the keys.
+use Rattle.std.proofs.lemmas.Grind.{common_steps}
+use Rattle.std.proofs.Common.{arith}
+use Rattle.std.proofs.lemmas.Bool.{cases_Bool}
 use Rattle.std.proofs.Common.{◌≡◌, ℕ, ◌+◌, ◌<◌, nat_lt, Bool, true, false, ◌&&◌, ◌||◌, List, length, Option, Some, None, option_map, if◌then◌else◌, refl, ap, ◌∙◌}
 use Rattle.csv_rows.specs.declared.feed_tables.Table.TheVariants.{StopTimes}
 use Rattle.csv_rows.specs.declared.feed_tables.FeedFault.{FeedFault}
@@ -38,10 +41,7 @@ back_by : (rows : List TimedRow) (i : ℕ) (o : Option Key) → is_kept rows i �
     → any_below (λ j. just_before rows j i && late rows i j) (length rows) ≡ q → (nat_lt (departure_of rows i) (stop_arrival rows i) || q) ≡ goes_back_after rows o i
     → backward_time rows i ≡ backward_after rows o i
 unfolding backward_time late told kept_back
-back_by rows i o kept q e h =
-    ap (λ b. told (kept_back (is_kept rows i) (nat_lt (departure_of rows i) (stop_arrival rows i)) b) i) e
-    ∙ ap (λ b. told (kept_back b (nat_lt (departure_of rows i) (stop_arrival rows i)) q) i) kept
-    ∙ ap (λ b. told b i) h
+back_by rows i o kept q e h = grind (arith, common_steps, told, kept_back)
 
 module _ (rows : List TimedRow) (keys : List Key) (s : AreKeysOf true rows keys) (none : first_below (repeated_time rows) (length rows) ≡ None) where
   pub back_is : (k : ℕ) → k < length keys → (o : Option Key) → IsBefore keys k o → backward_time rows (key_at keys k).row ≡ backward_after rows o (key_at keys k).row
@@ -61,8 +61,7 @@ quiet rows i out =
 
 told_is : (b : Bool) (i : ℕ) (f : FeedFault) → told b i ≡ Some f → f ≡ BackwardTime (i + 2)
 unfolding told
-told_is true i f h = cc
-told_is false i f h = absurd (cc)
+told_is b i f h = grind (arith, cases_Bool b)
 
 -- the first fault is a time that goes back
 pub backward_is : (rows : List TimedRow) (f : FeedFault) → first_below (backward_time rows) (length rows) ≡ Some f → (line : ℕ) × (f ≡ BackwardTime line)

@@ -1,7 +1,9 @@
 -- Two kept rows of a trip that stand beside each other: the first departs no later than the second arrives.
-use Rattle.std.proofs.Common.{◌≡◌, ℕ, zero, suc, ◌+◌, ◌<◌, ◌≤◌, ◌==◌, nat_lt, Bool, true, false, ◌&&◌, List, length, slice_index_or, Some, None, if◌then◌else◌, refl, sym, ap, ◌∙◌, arith, ⊎_elim}
+use Rattle.std.proofs.lemmas.Bool.Decides.{nat_tests}
+use Rattle.std.proofs.lemmas.Grind.{common_steps}
+use Rattle.std.proofs.Common.{◌≡◌, ℕ, zero, suc, ◌+◌, ◌<◌, ◌≤◌, ◌==◌, nat_lt, Bool, true, false, ◌&&◌, List, length, slice_index_or, Some, None, if◌then◌else◌, sym, ap, ◌∙◌, arith, ⊎_elim}
 use Rattle.std.specs.Prelude.{is_some}
-use Rattle.std.proofs.lemmas.Bool.{cases_lt, cases_Bool, eqb-true, eq-eqb, ltb-true, lt-ltb, ltb-false, and_from, and_parts, or_parts, not_from_false}
+use Rattle.std.proofs.lemmas.Bool.{cases_lt, cases_Bool, eqb-true, eq-eqb, ltb-true, ltb-false, and_from, and_parts, or_parts, not_from_false}
 use Rattle.csv_rows.specs.declared.feed_tables.FeedFault.{FeedFault}
 use Rattle.csv_rows.specs.declared.feed_tables.FeedFault.TheVariants.{BackwardTime}
 use Rattle.csv_rows.specs.First.{first_below, any_below}
@@ -13,12 +15,10 @@ use Rattle.stop_times.specs.StopTimes.{row_at, trip_of, sequence_of, is_kept, ti
 use Rattle.stop_times.specs.Visits.{no_visit, AreStopTimes}
 
 and_false : (a b : Bool) → a ≡ true → (a && b) ≡ false → b ≡ false
-and_false true b h k = k
-and_false false b h k = absurd (cc)
+and_false a b h k = grind (arith, cases_Bool a)
 
 if_none : (b : Bool) (f : FeedFault) → (if b then Some f else None) ≡ None → b ≡ false
-if_none true f h = absurd (cc)
-if_none false f h = refl
+if_none b f h = grind (arith, cases_Bool b)
 
 none_at : (p : ℕ → Bool) (n k : ℕ) → k < n → any_below p n ≡ false → p k ≡ false
 none_at p n k l h = ⊎_elim (λ (t : p k ≡ true). let u = any-true p n k l t in absurd (cc)) (λ (f : p k ≡ false). f) (cases_Bool (p k))
@@ -59,9 +59,7 @@ module _ (rows : List TimedRow) (none : first_below (backward_time rows) (length
 
   before : (p q : ℕ) → p < q → q < length visits → stands (s.line p) (s.line q) ≡ true
   unfolding stands
-  before p q l h =
-      let k : p < length visits = omega arith in
-      and_from _ _ (and_from _ _ (kept p k) (kept q h)) (and_from _ _ (same p q k h) (lt-ltb _ _ (s.rising p q l h)))
+  before p q l h = grind (arith, common_steps, nat_tests, and_from, kept, same)
 
   between : ℕ → ℕ → ℕ → Bool
   between j i x = stands j x && stands x i
@@ -91,9 +89,7 @@ module _ (rows : List TimedRow) (none : first_below (backward_time rows) (length
 
   just : (p : ℕ) → p + 1 < length visits → just_before rows (s.line p) (s.line (p + 1)) ≡ true
   unfolding between stands
-  just p h =
-      and_from _ _ (before p (p + 1) (omega arith) h)
-      (not_from_false _ (any-false (between (s.line p) (s.line (p + 1))) (length rows) (λ x inside b. none_between p x h inside b)))
+  just p h = grind (arith, common_steps, and_from, before, not_from_false, any-false, between, none_between)
 
   pub onward : (p : ℕ) → p + 1 < length visits → (at p).departure ≤ (at (p + 1)).arrival
   unfolding late

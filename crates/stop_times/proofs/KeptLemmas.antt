@@ -1,4 +1,5 @@
 -- The keys of the kept rows, by those of all rows.
+use Rattle.std.proofs.lemmas.Bool.{cases_Bool}
 use Rattle.std.proofs.Common.{◌≡◌, ℕ, ◌<◌, zero, suc, Bool, true, false, cond, List, [], ◌∷◌, length, get_or, Contains, refl, ap, subst, ◌∙◌, arith}
 use Rattle.std.specs.List.{All, AllPairs, filter}
 use Rattle.std.proofs.lemmas.List.{get_or_default}
@@ -24,8 +25,7 @@ one_more true y x ys c = (suc c.0, omega (arith, c.1), c.2)
 one_more false y x ys c = c
 
 passing : (b : Bool) (y x : Key) (ys : List Key) → b ≡ true → y ≡ x → Contains (cond b (y ∷ ys) ys) x
-passing true y x ys t e = (0, omega arith, e)
-passing false y x ys t e = absurd (cc)
+passing b y x ys t e = grind (arith, cases_Bool b)
 
 -- what passes stands in the filter
 in_filter : (p : Key → Bool) (keys : List Key) (x : Key) (k : ℕ) → k < length keys → get_or keys k x ≡ x → p x ≡ true → Contains (filter p keys) x

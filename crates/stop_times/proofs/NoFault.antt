@@ -1,14 +1,14 @@
 -- What holds of the kept rows of a trip, where the table has no fault.
-use Rattle.std.proofs.Common.{◌≡◌, ℕ, ◌+◌, ◌-◌, ◌<◌, ◌≤◌, List, length, slice_index_or, Option, Some, None, IfSome, refl, sym, subst, arith, ⊎_elim}
+use Rattle.std.proofs.lemmas.Grind.{common_steps}
+use Rattle.std.proofs.Common.{◌≡◌, ℕ, ◌+◌, ◌-◌, ◌<◌, ◌≤◌, List, length, slice_index_or, Option, Some, None, IfSome, refl, subst, arith, ⊎_elim}
 use Rattle.std.proofs.lemmas.Bool.{cases_lt}
 use Rattle.plan_model.specs.Bounds.{end_of_steps}
-use Rattle.plan_model.specs.Results.{value_or}
 use Rattle.csv_rows.specs.First.{first_below}
 use Rattle.csv_rows.specs.Tables.{row_count}
 use Rattle.csv_rows.proofs.FirstLemmas.{none-each, none-both}
 use Rattle.csv_rows.proofs.ListLemmas.{get-list_below}
 use Rattle.stop_times.specs.declared.rows.StopRow.{StopRow}
-use Rattle.stop_times.specs.StopTimes.{timed_rows, timed_at, row_at, no_row, time_columns, missing_time_column, bad_time, repeated_time, backward_time, order_fault, stop_times_fault}
+use Rattle.stop_times.specs.StopTimes.{timed_rows, row_at, time_columns, missing_time_column, bad_time, repeated_time, backward_time, order_fault, stop_times_fault}
 use Rattle.stop_times.specs.Visits.{no_visit, AreStopTimes}
 use Rattle.stop_times.proofs.TimeLemmas.{timed_count}
 use Rattle.stop_times.proofs.RowForms.{IsAtStop, InForm, row_in_form}
@@ -30,11 +30,7 @@ has_none trips stops places t h =
 
 in_form : (trips stops : List (List ℕ)) (places : List ℕ) (t : List (List (List ℕ))) → HasNone trips stops places t → (i : ℕ) → i < length (timed_rows trips stops places t)
     → InForm (length stops) places (row_at (timed_rows trips stops places t) i)
-in_form trips stops places t none i h =
-    let inside : i < row_count t = omega (arith, timed_count trips stops places t) in
-    subst (InForm (length stops) places)
-    (sym (get-list_below (λ j. value_or no_row (timed_at trips stops places t j)) (row_count t) i no_row inside))
-    (row_in_form trips stops places t i (none-each (bad_time trips stops places t) (row_count t) none.fields i inside))
+in_form trips stops places t none i h = grind (arith, common_steps, timed_count, get-list_below, row_in_form, none-each)
 
 at_stop : (n : ℕ) (places : List ℕ) (o : Option StopRow) (v : StopRow) → o ≡ Some v → IfSome o (IsAtStop n places) → IsAtStop n places v
 at_stop n places o v e h = let P : Option StopRow → Type 0 = λ x. IfSome x (IsAtStop n places) in subst P e h

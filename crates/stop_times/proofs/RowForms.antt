@@ -1,13 +1,16 @@
 -- What the form of a row of stop times tells.
-use Rattle.std.proofs.Common.{◌≡◌, ℕ, ◌+◌, ◌*◌, ◌<◌, ◌≤◌, ◌-◌, ◌==◌, nat_eq, nat_le, nat_lt, ◌&&◌, Bool, true, false, List, [], length, take, drop, slice_index, slice_index_or, Option, Some, None}
-use Rattle.std.proofs.Common.{IfSome, option_map, if◌then◌else◌, refl, sym, subst, arith}
+use Rattle.std.proofs.lemmas.Grind.{common_steps}
+use Rattle.std.proofs.Common.{rules}
+use Rattle.std.proofs.lemmas.Bool.Decides.{nat_tests}
+use Rattle.std.proofs.Common.{◌≡◌, ℕ, ◌+◌, ◌<◌, ◌≤◌, ◌-◌, ◌==◌, nat_eq, nat_le, ◌&&◌, Bool, List, [], length, take, drop, slice_index, slice_index_or, Option, Some, None}
+use Rattle.std.proofs.Common.{IfSome, refl, subst, arith}
 use Rattle.std.specs.Prelude.{Result, Ok, Err}
 use Rattle.std.specs.List.{list_all}
 use Rattle.std.specs.Char.{is_ascii_digit}
-use Rattle.std.proofs.lemmas.Bool.{ltb-true, and_parts, leb-true}
+use Rattle.std.proofs.lemmas.Bool.{and_parts}
 use Rattle.std.specs.Result.{result_err}
 use Rattle.plan_model.specs.Results.{value_or}
-use Rattle.clock_text.specs.Digits.{value_of, whole_of}
+use Rattle.clock_text.specs.Digits.{whole_of}
 use Rattle.clock_text.specs.Times.{time_at, time_of, seconds_of_time}
 use Rattle.clock_text.proofs.OneText.{if_cases, some_cases}
 use Rattle.csv_rows.specs.declared.columns.Column.TheVariants.{TripId, StopId, StopSequence, ArrivalTime, DepartureTime, PickupType, DropOffType}
@@ -22,7 +25,7 @@ use Rattle.stop_times.specs.declared.rows.TimedRow.{TimedRow}
 use Rattle.stop_times.specs.Forms.{allows_in, time_in}
 use Rattle.stop_times.specs.StopTimes.{time_columns, number_in, times_of, visit_of, timed_from, timed_at, no_row}
 use Rattle.clock_text.proofs.DigitLemmas.{whole_bound}
-use Rattle.csv_rows.proofs.RowLemmas.{place_inside}
+use Rattle.csv_rows.proofs.RowLemmas.{optional-each, place_inside}
 use Rattle.stop_times.specs.Bounds.{end_of_times}
 use Rattle.plan_model.proofs.Results.{require-each}
 
@@ -44,22 +47,8 @@ same_ok x r e = cc
 abbrev IsBelow : ℕ → Option ℕ → Type 0
 IsBelow n o = IfSome o (λ k. k < n)
 
-place_few : (name : List ℕ) (names : List (List ℕ)) (o : Option ℕ) → o ≡ place_in name names → IsBelow (length names) o
-place_few name names None e = tt
-place_few name names (Some k) e = place_inside name names k (sym e)
-
--- an empty text is none
-or_none : (b : Bool) (p : Option ℕ) (n : ℕ) (o : Option ℕ) → IsBelow n p → (if b then Some None else option_map Some p) ≡ Some o → IsBelow n o
-or_none true p n o h e = let same : None ≡ o = cc in subst (IsBelow n) same tt
-or_none false None n o h e = absurd (cc)
-or_none false (Some k) n o h e = let same : Some k ≡ o = cc in subst (IsBelow n) same h
-
 seconds_below : (h m s n : ℕ) → seconds_of_time h m s ≡ Some n → n < end_of_times
-seconds_below h m s n e =
-    let parts = some_cases (nat_le h 167 && (nat_lt m 60 && nat_lt s 60)) (3600 * h + (60 * m + s)) n e in
-    let hours = and_parts (nat_le h 167) (nat_lt m 60 && nat_lt s 60) parts.0 in
-    let rest = and_parts (nat_lt m 60) (nat_lt s 60) hours.1 in
-    omega (arith, leb-true h 167 hours.0, ltb-true m 60 rest.0, ltb-true s 60 rest.1, parts.1)
+seconds_below h m s n e = grind (arith, common_steps, nat_tests, some_cases, and_parts)
 
 has_marks : ℕ → List ℕ → Bool
 has_marks k t =
@@ -68,27 +57,15 @@ has_marks k t =
 
 of_below : (k : ℕ) (t : List ℕ) (n : ℕ) → time_of k t ≡ Some n → n < end_of_times
 unfolding has_marks
-of_below k t n e =
-    let hour = value_of (take k t) in let minute = value_of (take 2 (drop (k + 1) t)) in let second = value_of (take 2 (drop (k + 4) t)) in
-    seconds_below hour minute second n (if_cases (has_marks k t) (seconds_of_time hour minute second) n e).1
+of_below k t n e = search (rules, seconds_below, if_cases, has_marks)
 
 pub time_below : (text : List ℕ) (n : ℕ) → time_at text ≡ Some n → n < end_of_times
 time_below text n e =
     of_below (length text - 6) text n (if_cases (nat_le 7 (length text) && nat_le (length text) 9) (time_of (length text - 6) text) n e).1
 
-below_if : (o : Option ℕ) (n : ℕ) → ((m : ℕ) → o ≡ Some m → m < n) → IsBelow n o
-below_if None n h = tt
-below_if (Some m) n h = h m refl
-
-time_few : (text : List ℕ) → IsBelow end_of_times (time_at text)
-time_few text = below_if (time_at text) end_of_times (time_below text)
-
 visit_form : (stops : ℕ) (places : List ℕ) (o a d : Option ℕ) (board exit : Bool) → IsBelow stops o → IsBelow end_of_times a → IsBelow end_of_times d
     → IfSome (visit_of places o (times_of a d) board exit) (IsAtStop stops places)
-visit_form stops places None None None board exit h k l = tt
-visit_form stops places None None (Some y) board exit h k l = tt
-visit_form stops places None (Some x) None board exit h k l = tt
-visit_form stops places None (Some x) (Some y) board exit h k l = tt
+visit_form stops places None a d board exit h k l = tt
 visit_form stops places (Some i) None None board exit h k l = tt
 visit_form stops places (Some i) None (Some y) board exit h k l = record { stop = i; inside = h; place = refl; arrival = l; departure = l }
 visit_form stops places (Some i) (Some x) None board exit h k l = record { stop = i; inside = h; place = refl; arrival = k; departure = k }
@@ -111,9 +88,9 @@ from_in_form trips stops places line trip stop sequence arrival departure pickup
     subst P (same_ok _ r q) (record {
       sequence = whole_bound 999999999 sequence' sequence e4;
       visit = visit_form (length stops) places stop_number arrival' departure' board exit
-          (or_none (length stop' == 0) (place_in stop' stops) (length stops) stop_number (place_few stop' stops (place_in stop' stops) refl) e3)
-          (or_none (length arrival == 0) (time_at arrival) end_of_times arrival' (time_few arrival) e5)
-          (or_none (length departure == 0) (time_at departure) end_of_times departure' (time_few departure) e6);
+          (optional-each (λ k. k < length stops) (length stop' == 0) (place_in stop' stops) (place_inside stop' stops) stop_number e3)
+          (optional-each (λ k. k < end_of_times) (length arrival == 0) (time_at arrival) (time_below arrival) arrival' e5)
+          (optional-each (λ k. k < end_of_times) (length departure == 0) (time_at departure) (time_below departure) departure' e6);
     }))))))))))
 
 ok_form : (P : TimedRow → Type 0) (o : Result TimedRow FeedFault) → result_err o ≡ None → ((r : TimedRow) → o ≡ Ok r → P r) → P (value_or no_row o)

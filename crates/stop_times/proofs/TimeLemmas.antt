@@ -1,5 +1,8 @@
 -- The rows of stop times.
-use Rattle.std.proofs.Common.{◌≡◌, ◌≢◌, ℕ, ◌+◌, ◌<◌, ◌≤◌, ◌==◌, nat_lt, Bool, true, false, List, [], length, slice_index_or, Option, Some, None, if◌then◌else◌, refl, sym, ap, ◌∙◌, subst, arith}
+use Rattle.std.proofs.lemmas.Grind.{common_steps}
+use Rattle.std.proofs.Common.{rules}
+use Rattle.std.proofs.lemmas.Bool.{cases_Bool}
+use Rattle.std.proofs.Common.{◌≡◌, ◌≢◌, ℕ, ◌+◌, ◌<◌, ◌≤◌, nat_lt, Bool, true, false, List, [], length, slice_index_or, Option, Some, None, if◌then◌else◌, refl, sym, ap, ◌∙◌, subst, arith}
 use Rattle.std.specs.Prelude.{Result, Ok, Err}
 use Rattle.std.proofs.lemmas.Bool.Decides.{nat_tests}
 use Rattle.plan_model.specs.Results.{and_then, unless, value_or}
@@ -38,8 +41,7 @@ timed_count trips stops places t = length-list_below (λ i. value_or no_row (tim
 
 if_counted : (b : Bool) (x fault f : FeedFault) (o : Option FeedFault) → f ≢ NoMemory → (fault ≢ NoMemory → o ≡ Some fault)
     → (if b then Some x else Some fault) ≡ Some f → (if b then Some x else o) ≡ Some f
-if_counted true x fault f o free here h = h
-if_counted false x fault f o free here h = let same : fault ≡ f = cc in here (λ e. free (sym same ∙ e)) ∙ h
+if_counted b x fault f o free here h = grind (arith, cases_Bool b)
 
 -- the fault of a row, where there are not too many
 pub counted_row : (most n : ℕ) (fault f : FeedFault) (o : Option FeedFault) → f ≢ NoMemory → (fault ≢ NoMemory → o ≡ Some fault)
@@ -48,9 +50,7 @@ counted_row most n fault f o free here h = if_counted (nat_lt most n) (TooManyRo
 
 -- where there are too many, whatever the rows are
 pub counted_many : (most n : ℕ) (a b : Option FeedFault) → most < n → counted_fault most n a ≡ counted_fault most n b
-counted_many most n a b h =
-    let test : nat_lt most n ≡ true = grind (arith, nat_tests) in
-    ap (λ t. if t then Some (TooManyRows StopTimes n) else a) test ∙ sym (ap (λ t. if t then Some (TooManyRows StopTimes n) else b) test)
+counted_many most n a b h = grind (arith, common_steps, nat_tests)
 
 -- a fault that comes before others
 pub counted_same : (most n : ℕ) (a b : Option FeedFault) (f : FeedFault) → ((x : FeedFault) → a ≡ Some x → b ≡ Some x) → counted_fault most n a ≡ Some f → counted_fault most n b ≡ Some f
@@ -64,34 +64,23 @@ counted_same most n a b f k h = by (nat_lt most n) h
 fault_by : (a b : Bool) (n : ℕ) (t : Records) (check : Records → Option FeedFault) (f : FeedFault) → a ≡ false
     → (if b then Some (TooManyRows StopTimes n) else check t) ≡ Some f
     → and_then (required StopTimes TripId (if a then Ok NoRecord else if b then Err (TooManyRows StopTimes n) else Ok (Found t))) (λ x. unless (check x) x) ≡ Err f
-fault_by true b n t check f e h = absurd (cc)
-fault_by false true n t check f e h = let same : TooManyRows StopTimes n ≡ f = cc in ap Err same
-fault_by false false n t check f e h = ap (λ o. unless o t) h
+fault_by a b n t check f e h = grind (arith, cases_Bool a, cases_Bool b)
 
 sound_by : (a b : Bool) (n : ℕ) (t : Records) (check : Records → Option FeedFault) → a ≡ false → b ≡ false → check t ≡ None
     → and_then (required StopTimes TripId (if a then Ok NoRecord else if b then Err (TooManyRows StopTimes n) else Ok (Found t))) (λ x. unless (check x) x) ≡ Ok t
-sound_by true b n t check e k h = absurd (cc)
-sound_by false true n t check e k h = absurd (cc)
-sound_by false false n t check e k h = ap (λ o. unless o t) h
+sound_by a b n t check e k h = grind (arith, cases_Bool a, cases_Bool b)
 
 pub times_fault : (trips stops : List (List ℕ)) (places : List ℕ) (most : ℕ) (t : List (List (List ℕ))) (f : FeedFault) → 0 < length t
     → counted_fault most (row_count t) (stop_times_fault trips stops places t) ≡ Some f → stop_times_from (loaded_from StopTimes most t) trips stops places ≡ Err f
-times_fault trips stops places most t f some h =
-    let test : (length t == 0) ≡ false = grind (arith, nat_tests) in
-    fault_by (length t == 0) (nat_lt most (row_count t)) (row_count t) t (stop_times_fault trips stops places) f test h
+times_fault trips stops places most t f some h = grind (arith, common_steps, nat_tests, fault_by)
 
 pub times_sound : (trips stops : List (List ℕ)) (places : List ℕ) (most : ℕ) (t : List (List (List ℕ))) → 0 < length t → row_count t ≤ most
     → stop_times_fault trips stops places t ≡ None → stop_times_from (loaded_from StopTimes most t) trips stops places ≡ Ok t
-times_sound trips stops places most t some few h =
-    let test : (length t == 0) ≡ false = grind (arith, nat_tests) in
-    let room : nat_lt most (row_count t) ≡ false = grind (arith, nat_tests) in
-    sound_by (length t == 0) (nat_lt most (row_count t)) (row_count t) t (stop_times_fault trips stops places) test room h
+times_sound trips stops places most t some few h = grind (arith, common_steps, nat_tests, sound_by)
 
 -- where the rows may be so many, the fault of the table is counted no more
 pub counted_few : (most n : ℕ) (o : Option FeedFault) → n ≤ most → counted_fault most n o ≡ o
-counted_few most n o h =
-    let room : nat_lt most n ≡ false = grind (arith, nat_tests) in
-    ap (λ t. if t then Some (TooManyRows StopTimes n) else o) room
+counted_few most n o h = grind (arith, common_steps, nat_tests)
 
 -- the fault of the table: in its header, in a row by itself, and of the rows beside each other
 pub fault_of_header : (trips stops : List (List ℕ)) (places : List ℕ) (t : List (List (List ℕ))) (f : FeedFault)
@@ -145,6 +134,4 @@ visits_of_rows trips stops places most t rows visits r size each =
 pub visits_of_text : (trips stops : List (List ℕ)) (places : List ℕ) (most : ℕ) (t : List (List (List ℕ))) (rows : List TimedRow) (visits : List (List StopRow))
     → AreTimedRows trips stops places most t rows → order_fault rows ≡ None → AreVisits trips stops places (Ok t) visits
     → AreVisits trips stops places (stop_times_from (loaded_from StopTimes most t) trips stops places) visits
-visits_of_text trips stops places most t rows visits r h v =
-    subst (λ (read : Result Records FeedFault). AreVisits trips stops places read visits)
-    (sym (times_sound trips stops places most t r.some (few_rows trips stops places most t rows r) (order_sound trips stops places most t rows r h))) v
+visits_of_text trips stops places most t rows visits r h v = search (rules, times_sound, few_rows, order_sound)

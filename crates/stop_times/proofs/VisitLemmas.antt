@@ -1,6 +1,8 @@
 -- The kept rows of a trip, by the keys that are of it.
+use Rattle.std.proofs.lemmas.Grind.{common_steps}
+use Rattle.std.proofs.Common.{rules}
 use Rattle.std.proofs.Common.{◌≡◌, ℕ, ◌+◌, ◌-◌, ◌<◌, ◌≤◌, true, List, [], ◌∷◌, ◌++◌, length, drop, slice_range, slice_index, slice_index_or, Option, Some, None, refl, sym, ap, ◌∙◌, subst, arith}
-use Rattle.std.proofs.Common.{⊎_elim, eq-or-lt_of_le}
+use Rattle.std.proofs.Common.{⊎_elim}
 use Rattle.std.specs.Prelude.{is_some}
 use Rattle.std.proofs.lemmas.Bool.{cases_lt}
 use Rattle.std.proofs.lemmas.List.{get_or_append_left, get_or_push, get_or-take, get_or-drop, length-take-le, length-drop}
@@ -76,10 +78,7 @@ module _ (rows : List TimedRow) (keys : List Key) (s : AreKeysOf true rows keys)
   module _ (bounds : List ℕ) (trips : ℕ) (count : length bounds ≡ trips + 1)
       (spans : (trip : ℕ) → trip < trips → IsSpanOf keys trip (slice_index bounds trip) (slice_index bounds (trip + 1))) where
     pub bounded : IsBounded visits bounds
-    bounded = record {
-      order = λ trip h. (spans trip (omega (arith, h, count))).order;
-      inside = λ trip h. omega (arith, (spans trip (omega (arith, h, count))).inside, long);
-    }
+    bounded = grind (arith, common_steps, long)
 
     pub parted_count : length (parted visits bounds) ≡ trips
     parted_count = omega (arith, length-list_below (rows_between visits bounds) (length bounds - 1), count)
@@ -92,42 +91,17 @@ module _ (rows : List TimedRow) (keys : List Key) (s : AreKeysOf true rows keys)
         subst (AreStopTimes rows trip) (sym (here trip h)) (visits_are none trip (slice_index bounds trip) (slice_index bounds (trip + 1)) (spans trip h))
 
     pub parted_few : (most : ℕ) → length keys ≤ most → (trip : ℕ) → trip < trips → length (slice_index_or (parted visits bounds) trip []) ≤ most
-    parted_few most few trip h =
-        let span = spans trip h in
-        omega (arith, ap length (here trip h), length-range visits (slice_index bounds trip) (slice_index bounds (trip + 1)) (omega (arith, span.inside, long)), span.inside, few)
+    parted_few most few trip h = grind (arith, common_steps, here, length-range, long)
 
 -- the keys of a trip, where those before are of earlier trips
 pub span_is : (keys : List Key) → IsRising keys → (trip low high : ℕ) → low ≤ high → high ≤ length keys
     → ((k : ℕ) → k < low → (key_at keys k).group < trip) → ((k : ℕ) → low ≤ k → k < length keys → trip ≤ (key_at keys k).group)
     → ((k : ℕ) → low ≤ k → k < high → (key_at keys k).group ≡ trip) → (high < length keys → (key_at keys high).group ≡ trip → ⊥)
     → IsSpanOf keys trip low high
-span_is keys rising trip low high order inside before rest here other =
-    let next : high < length keys → trip < (key_at keys high).group
-    = λ h. ⊎_elim (λ (same : trip ≡ (key_at keys high).group). absurd (other h (sym same))) (λ (less : trip < (key_at keys high).group). less) (eq-or-lt_of_le (rest high order h)) in
-    record {
-      order = order;
-      inside = inside;
-      before = before;
-      here = here;
-      after = λ k from h.
-          ⊎_elim (λ (same : high ≡ k). let P : ℕ → Type 0 = λ j. trip < (key_at keys j).group in subst P same (next (omega arith)))
-          (λ (less : high < k). omega (arith, next (omega arith), less_group (key_at keys high) (key_at keys k) (rising high k less h)))
-          (eq-or-lt_of_le from);
-    }
+span_is keys rising trip low high order inside before rest here other = search (rules, here, less_group)
 
 -- one more bound leaves the spans before, and tells the next
 pub spans_next : (keys : List Key) (old new : List ℕ) (start end n : ℕ) → length old ≡ n + 1 → new ≡ old ++ end ∷ [] → slice_index old n ≡ start
     → ((t : ℕ) → t < n → IsSpanOf keys t (slice_index old t) (slice_index old (t + 1))) → IsSpanOf keys n start end
     → (t : ℕ) → t < n + 1 → IsSpanOf keys t (slice_index new t) (slice_index new (t + 1))
-spans_next keys old new start end n size e first each here t h =
-    let kept : (k : ℕ) → k < n + 1 → slice_index new k ≡ slice_index old k
-    = λ k less. ap (λ (xs : List ℕ). slice_index xs k) e ∙ get_or_append_left old (end ∷ []) 0 k (omega (arith, less, size)) in
-    ⊎_elim (λ (less : t < n).
-    subst (λ (b : ℕ). IsSpanOf keys t (slice_index new t) b) (sym (kept (t + 1) (omega arith)))
-    (subst (λ (a : ℕ). IsSpanOf keys t a (slice_index old (t + 1))) (sym (kept t h)) (each t less)))
-    (λ (ge : n ≤ t).
-    let same : n ≡ t = omega arith in
-    let last : slice_index new (n + 1) ≡ end = ap (λ (xs : List ℕ). slice_index xs (n + 1)) e ∙ get_or_push old end 0 (n + 1) size in
-    subst (λ (k : ℕ). IsSpanOf keys k (slice_index new k) (slice_index new (k + 1))) same
-    (subst (λ (b : ℕ). IsSpanOf keys n (slice_index new n) b) (sym last) (subst (λ (a : ℕ). IsSpanOf keys n a end) (sym (kept n (omega arith) ∙ first)) here)))
-    (cases_lt t n)
+spans_next keys old new start end n size e first each here t h = grind (arith, common_steps, get_or_append_left, get_or_push, here)

@@ -1,7 +1,5 @@
-use Rattle.std.proofs.Common.{◌≡◌, ℕ, Option, None, Some, refl, sym, ap, ◌∙◌, arith, length, subst}
-use Rattle.csv_rows.specs.Names.{name_in}
-use Rattle.plan_model.specs.NameLists.{Adds, IsTrimmed}
-use Rattle.csv_rows.proofs.SpaceLemmas.{IsTrimmed-field}
+use Rattle.std.proofs.Common.{None, Some, refl, sym, ap, ◌∙◌, arith, length, subst}
+use Rattle.plan_model.specs.NameLists.{Adds}
 use Rattle.csv_rows.specs.declared.feed_tables.FeedFault.TheVariants.{DuplicateKey}
 use Rattle.csv_rows.specs.Tables.{row_count, field, field_at}
 use Rattle.csv_rows.proofs.FirstLemmas.{first-zero, first-next, first-at}
@@ -18,16 +16,6 @@ loop-i-init c =
 pub add-requires-clause-room : goal.add-requires-clause-room
 add-requires-clause-room c =
     omega (arith, c.requires.few, ap length c.loop-i.invariant.ids, length-list_below (field c.args.rows.now c.args.column) c.loop-i.i)
-
-pub name_at-requires-clause-named : goal.name_at-requires-clause-named
-name_at-requires-clause-named c =
-    let t = c.args.rows.now in
-    let i = c.loop-i.i in
-    subst (λ (p : Option ℕ). name_in (field_at t p i) ≡ Some (field_at t p i)) (sym c.place_of-place.ensures) (c.requires.named i (omega arith))
-
-pub add-requires-clause-trimmed : goal.add-requires-clause-trimmed
-add-requires-clause-trimmed c =
-    subst IsTrimmed (sym c.name_at.ensures) (IsTrimmed-field c.args.rows.now c.place_of-place.result c.loop-i.i c.count-i-end.ensures.trimmed)
 
 pub loop-i-preserved : goal.loop-i-preserved
 loop-i-preserved c =

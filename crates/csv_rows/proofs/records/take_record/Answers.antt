@@ -15,33 +15,20 @@ returns-in-Some-clause-shorter c =
     let read = rw c.in-Some.is at c.in_ok-after.ensures in
     record_shorter c.args.text.now c.in-Some.after.now read.0 read.1
 
-pub returns-clause-some : goal.returns-clause-some
-returns-clause-some c =
+pub returns : goal.returns
+returns c =
     elim c.match-push_record.branch [
       | in-Ok-Some w ↦
           let read = rw w.in-Ok-Some.field-0-is at w.in-Ok-Some.ensures.some in
           let row : c.push_record.new.fields ≡ map trimmed_text read.0 = read.2 ∙ ap (λ (old : List (List ℕ)). old ++ map trimmed_text read.0) c.clear.ensures in
-          rw w.result-is (records_first c.args.text.now w.in-Ok-Some.after.now read.0 read.1 ∙ ap (λ (fields : List (List ℕ)). fields ∷ records_in w.in-Ok-Some.after.now) (sym row))
-      | in-Ok-None w ↦ rw w.result-is tt
-      | in-Err w ↦ rw w.result-is tt
-    ]
-
-pub returns-clause-shorter : goal.returns-clause-shorter
-returns-clause-shorter c =
-    elim c.match-push_record.branch [
-      | in-Ok-Some w ↦
-          let read = rw w.in-Ok-Some.field-0-is at w.in-Ok-Some.ensures.some in
-          rw w.result-is (record_shorter c.args.text.now w.in-Ok-Some.after.now read.0 read.1)
-      | in-Ok-None w ↦ rw w.result-is tt
-      | in-Err w ↦ rw w.result-is tt
-    ]
-
-pub returns-clause-none : goal.returns-clause-none
-returns-clause-none c =
-    elim c.match-push_record.branch [
-      | in-Ok-Some w ↦ rw w.result-is tt
+          rw w.result-is (record {
+            some = records_first c.args.text.now w.in-Ok-Some.after.now read.0 read.1 ∙ ap (λ (fields : List
+                (List ℕ)). fields ∷ records_in w.in-Ok-Some.after.now) (sym row);
+            shorter = record_shorter c.args.text.now w.in-Ok-Some.after.now read.0 read.1;
+            none = tt;
+          })
       | in-Ok-None w ↦
           let none = rw w.in-Ok-None.field-0-is at w.in-Ok-None.ensures.none in
-          rw w.result-is (records_none c.args.text.now none.0)
-      | in-Err w ↦ rw w.result-is tt
+          rw w.result-is (record { some = tt; shorter = tt; none = records_none c.args.text.now none.0 })
+      | in-Err w ↦ rw w.result-is (record { some = tt; shorter = tt; none = tt })
     ]

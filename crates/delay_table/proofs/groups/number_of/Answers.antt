@@ -1,5 +1,5 @@
 use Rattle.std.proofs.Common.{sym}
-use Rattle.delay_table.proofs.NumberedFacts.{place-adds}
+use Rattle.csv_rows.proofs.IdLemmas.{place-adds}
 use Rattle.delay_table.proofs.groups.number_of.Goals as goal
 
 pub unreachable-requires : goal.unreachable-requires

@@ -1,5 +1,5 @@
 use Rattle.std.proofs.Common.{sym}
-use Rattle.service_days.proofs.NumberLemmas.{place-adds}
+use Rattle.csv_rows.proofs.IdLemmas.{place-adds}
 use Rattle.service_days.proofs.exceptions.number_of.Goals as goal
 
 pub unreachable-requires : goal.unreachable-requires

@@ -1,5 +1,6 @@
 use Rattle.std.proofs.Common.{◌≡◌, List, ℕ, length, ap, ◌∙◌, subst, arith}
 use Rattle.std.specs.Prelude.{Err}
+use Rattle.std.proofs.lemmas.Grind.{common_steps}
 use Rattle.csv_rows.specs.declared.feed_tables.Table.TheVariants.{StopTimes}
 use Rattle.table_files.specs.Loading.{loaded_from}
 use Rattle.csv_rows.specs.Tables.{table_of}
@@ -10,8 +11,8 @@ use Rattle.stop_times.proofs.timetable.read_stop_times.Goals as goal
 pub in_order-requires : goal.in_order-requires
 in_order-requires c = omega (arith, ap length c.as_slice-2.ensures.value, c.in_ok-timed.ensures.few, c.requires.most)
 
-pub returns-in-Ok-clause-visits : goal.returns-in-Ok-clause-visits
-returns-in-Ok-clause-visits c =
+pub returns-in-Ok : goal.returns-in-Ok
+returns-in-Ok c =
     let trips = c.args.trips.now in
     let stops = c.args.stops.now in
     let places = c.args.places.now in
@@ -24,24 +25,17 @@ returns-in-Ok-clause-visits c =
     c.in_ok-timed.ensures.few c.in_ok-timed.ensures.rest in
     let size : length visits ≡ length trips = c.in-Ok.ensures.size ∙ c.len.ensures.count in
     let are = visits_of_rows trips stops places most t rows visits read size (λ trip h. c.in-Ok.ensures.each trip (omega (arith, h, c.len.ensures.count))) in
-    subst (λ (bytes : List ℕ). AreVisits trips stops places (stop_times_from (loaded_from StopTimes most (table_of bytes)) trips stops places) visits)
-    c.as_slice.ensures.value (visits_of_text trips stops places most t rows visits read c.in-Ok.ensures.tells are)
-
-pub returns-in-Ok-clause-sound : goal.returns-in-Ok-clause-sound
-returns-in-Ok-clause-sound c =
-    let trips = c.args.trips.now in
-    let stops = c.args.stops.now in
-    let places = c.args.places.now in
-    let most = c.args.most in
-    let t = table_of c.as_slice.result.now in
-    let rows = c.as_slice-2.result.now in
-    let visits = c.in-Ok.visits in
-    let same = c.as_slice-2.ensures.value in
-    let read = timed_rows_are trips stops places most t c.in_ok-timed.timed.items rows same c.in_ok-timed.ensures.rows c.in_ok-timed.ensures.header
-    c.in_ok-timed.ensures.few c.in_ok-timed.ensures.rest in
-    let size : length visits ≡ length trips = c.in-Ok.ensures.size ∙ c.len.ensures.count in
-    let are = visits_of_rows trips stops places most t rows visits read size (λ trip h. c.in-Ok.ensures.each trip (omega (arith, h, c.len.ensures.count))) in
-    (t, order_sound trips stops places most t rows read c.in-Ok.ensures.tells, are)
+    record {
+      few = grind (arith, common_steps);
+      size = size;
+      visits = subst (λ (bytes : List ℕ). AreVisits trips stops places
+          (stop_times_from (loaded_from StopTimes most (table_of bytes)) trips stops places) visits)
+          c.as_slice.ensures.value (visits_of_text trips stops places most t rows visits read c.in-Ok.ensures.tells are);
+      sound = (t, order_sound trips stops places most t rows read c.in-Ok.ensures.tells, are);
+      fault = tt;
+      content = tt;
+      own = tt;
+    }
 
 pub returns-clause-fault : goal.returns-clause-fault
 returns-clause-fault c = λ free.

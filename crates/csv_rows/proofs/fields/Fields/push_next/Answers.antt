@@ -1,11 +1,11 @@
-use Rattle.std.proofs.Common.{◌≡◌, ◌∙◌, ◌+◌, sym, ap, arith, Bool, true, false, ℕ, List, length, length-append, if◌then◌else◌}
+use Rattle.std.proofs.lemmas.Bool.{cases_Bool}
+use Rattle.std.proofs.Common.{◌≡◌, ◌∙◌, ◌+◌, sym, ap, arith, Bool, true, ℕ, List, length, length-append, if◌then◌else◌}
 use Rattle.csv_rows.specs.Spaces.{trimmed_text}
 use Rattle.csv_rows.proofs.PartsLemmas.{parts-push, fills-push}
 use Rattle.csv_rows.proofs.fields.Fields.push_next.Goals as goal
 
 if_true : (b : Bool) (xs ys new : List ℕ) → new ≡ (if b then xs else ys) → b ≡ true → new ≡ xs
-if_true true xs ys new e h = e
-if_true false xs ys new e h = absurd (cc)
+if_true b xs ys new e h = grind (arith, cases_Bool b)
 
 pub invariant_of-self : goal.invariant_of-self
 invariant_of-self c =
