@@ -80,6 +80,7 @@ fn add_rides(
 }
 
 /// The rides of these runs, by run and step. There is room for so many at once.
+#[tactic(auto, using(crate::proofs::JoinLemmas::join_steps), unfolding(crate::specs::Networks::rides_below, crate::specs::Networks::run_rides))]
 pub(crate) fn connections_of(
     alloc: Global,
     feed: &Feed,

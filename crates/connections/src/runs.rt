@@ -79,6 +79,7 @@ pub(crate) fn may_run(
 }
 
 /// Whether a run with these kept rows rides in the window.
+#[tactic(auto, using(crate::proofs::JoinLemmas::join_steps), unfolding(crate::specs::Rides::steps_below))]
 fn rides(rows: &[StopRow], origin: Origin, window: Window) -> bool
     ensures { result ≡ rides window rows.now origin }
 {
@@ -169,6 +170,7 @@ fn add_trip(
 }
 
 /// Adds the runs of the trips that are active on a day and ride in the window then.
+#[tactic(auto, using(crate::proofs::JoinLemmas::join_steps), unfolding(crate::specs::TripRuns::day_runs))]
 fn add_day(
     alloc: Global,
     runs: &mut Vec<Run>,
@@ -193,6 +195,7 @@ fn add_day(
 
 /// The runs that ride in the window, by service day, position of the trip, departure from the first kept row and line of the
 /// row of frequencies.
+#[tactic(auto, using(crate::proofs::JoinLemmas::join_steps), unfolding(crate::specs::TripRuns::runs_below))]
 pub(crate) fn runs_of(
     alloc: Global,
     feed: &Feed,

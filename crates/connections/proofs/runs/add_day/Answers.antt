@@ -8,7 +8,8 @@ use Rattle.connections.specs.Origins.{origin_of_day}
 use Rattle.connections.specs.TripRuns.{frequencies_of, runs_of_trip, trip_runs, day_runs}
 use Rattle.connections.proofs.StepLemmas.{goes-on}
 use Rattle.connections.proofs.ReachLemmas.{departures_are}
-use Rattle.connections.proofs.DayLemmas.{day-zero, day-next, active_runs, idle_runs, no_runs, where_none}
+use Rattle.connections.proofs.JoinLemmas.{join-next}
+use Rattle.connections.proofs.DayLemmas.{active_runs, idle_runs, no_runs, where_none}
 use Rattle.connections.proofs.runs.add_day.Goals as goal
 use Rattle.connections.proofs.runs.add_day.Goals.{then-may_run+then-has_service+in_ok-add_trip, else-may_run, else-may_run-via-then-may_run+else-has_service, else-may_run-via-else-may_run}
 
@@ -16,9 +17,6 @@ pub may_run-requires : goal.may_run-requires
 may_run-requires c =
     subst AreDepartures (sym c.stop_times-rows.ensures) (departures_are (rows_of c.args.feed.now c.loop-trip.trip) (length c.args.feed.now.stop_ids)
     (c.trip_count-trip-end.ensures.timed c.loop-trip.trip (search rules)))
-
-pub loop-trip-init : goal.loop-trip-init
-loop-trip-init c = sym (ap (λ xs. c.args.runs.now.items ++ xs) (day-zero c.args.feed.now c.args.services.now c.args.window c.args.day) ∙ append-nil c.args.runs.now.items)
 
 pub add_trip-requires-clause-departures : goal.add_trip-requires-clause-departures
 add_trip-requires-clause-departures c =
@@ -29,9 +27,10 @@ pub add_trip-requires-clause-repeats : goal.add_trip-requires-clause-repeats
 add_trip-requires-clause-repeats c = subst AreRepeats (sym c.frequencies-frequencies.ensures) (c.trip_count-trip-end.ensures.repeats c.loop-trip.trip (search rules))
 
 pub loop-trip-preserved : goal.loop-trip-preserved
+unfolding day_runs
 loop-trip-preserved c =
     let f = c.args.feed.now in let s = c.args.services.now in let w = c.args.window in let day = c.args.day in let k = c.loop-trip.trip in
-    let next = day-next f s w day k in
+    let next = join-next (trip_runs f s w day) k in
     let before = day_runs f s w day k in
     let all = day_runs f s w day (k + 1) in
     let old = c.args.runs.now.items in
