@@ -5,7 +5,6 @@ use mathlib.Core.Path.{fun_ext}
 use Rattle.std.proofs.lemmas.Bool.{lt-ltb}
 use Rattle.std.proofs.lemmas.List.{length-map, take_all}
 use Rattle.std.proofs.lemmas.List.Sums.{sum_by-append, sum_by-cons, sum_by_more}
-use Rattle.plan_model.specs.declared.model.Connection.{Connection}
 use Rattle.delay_table.specs.DelayLists.{DelayLists}
 use Rattle.trip_frequencies.specs.declared.frequencies.FrequencyRow.{FrequencyRow}
 use Rattle.stop_times.specs.declared.rows.StopRow.{StopRow}
@@ -25,7 +24,7 @@ use Rattle.connections.specs.Repeats.{origin_at, riding_by, riding_of, in_order}
 use Rattle.connections.specs.TripRuns.{frequencies_of, own_run, repeat_run, runs_of_trip, trip_runs, day_runs, runs_below, window_runs, run_at, no_run, run_steps}
 use Rattle.connections.specs.Counts.{steps_sum, rows_sum, runs_sum, day_sum, days_sum, count_in}
 use Rattle.connections.specs.Networks.{ride, run_rides, rides_below, class_of_trip}
-use Rattle.connections.proofs.JoinLemmas.{join-zero, join-suc, join-next}
+use Rattle.connections.proofs.JoinLemmas.{join-zero, join-suc}
 use Rattle.connections.proofs.OrderLemmas.{in_order_sum}
 
 pub sum-zero : (f : ℕ → ℕ) → sum_below f 0 ≡ 0
@@ -121,20 +120,3 @@ module _ (f : FeedParts) (s : ServiceParts) (d : DelayLists) (w : Window) where
       ∙ ap (λ (g : ℕ → ℕ). sum_below g (length rs)) (fun_ext (λ r. length-map (run_steps f w (run_at rs r))
       (ride (rows_of f (run_at rs r).trip) (run_at rs r).origin r (class_of_trip f d (run_at rs r).trip))))
       ∙ sym (sum_by-at own no_run rs) ∙ ap (sum_by own) e ∙ by_days 18
-
-pub rides-zero : (f : FeedParts) (d : DelayLists) (w : Window) (rs : List Run) → rides_below f d w rs 0 ≡ []
-unfolding rides_below
-rides-zero f d w rs = join-zero (run_rides f d w rs)
-
--- the rides of one more run
-pub rides-next : (f : FeedParts) (d : DelayLists) (w : Window) (rs : List Run) (n : ℕ) (class : ℕ → ℕ) (rows : List StopRow) (old new : List Connection)
-    → old ≡ rides_below f d w rs n → rows ≡ rows_of f (run_at rs n).trip → class ≡ class_of_trip f d (run_at rs n).trip
-    → new ≡ old ++ map (ride rows (run_at rs n).origin n class) (steps_of w rows (run_at rs n).origin) → new ≡ rides_below f d w rs (n + 1)
-unfolding run_rides rides_below
-rides-next f d w rs n class rows old new e same same' h =
-    let o = (run_at rs n).origin in
-    h
-    ∙ ap (λ (xs : List Connection). xs ++ map (ride rows o n class) (steps_of w rows o)) e
-    ∙ ap (λ (xs : List StopRow). rides_below f d w rs n ++ map (ride xs o n class) (steps_of w xs o)) same
-    ∙ ap (λ (k : ℕ → ℕ). rides_below f d w rs n ++ map (ride (rows_of f (run_at rs n).trip) o n k) (run_steps f w (run_at rs n))) same'
-    ∙ sym (join-next (run_rides f d w rs) n)

@@ -1,5 +1,5 @@
 -- The steps of a trip in a window.
-use Rattle.std.proofs.Common.{◌≡◌, ℕ, ◌+◌, ◌<◌, ◌≤◌, ◌≤ℤ◌, ℤ, pos, Bool, true, false, List, [], ◌++◌, length, map, get_or, All, refl, sym, ap, ◌∙◌, subst, ⊎_elim, append_assoc, arith}
+use Rattle.std.proofs.Common.{◌≡◌, ℕ, ◌+◌, ◌<◌, ◌≤◌, ◌≤ℤ◌, ℤ, pos, Bool, true, false, List, [], ◌++◌, length, map, get_or, All, refl, sym, ap, ◌∙◌, subst, ⊎_elim, append_assoc, append-nil, arith}
 use Rattle.std.specs.Prelude.{AllPairs, int_le}
 use Rattle.std.proofs.lemmas.Int.{ints}
 use Rattle.std.proofs.lemmas.List.{map-append, nil_from_length}
@@ -66,10 +66,8 @@ module _ (w : Window) (rows : List StopRow) (o : Origin) where
       (λ (some : 0 < length (steps_below w rows o n)). let x = some_ride n some in absurd (let no = none x.0 x.1.inside in let yes = x.1.holding in cc))
       (λ (few : length (steps_below w rows o n) ≤ 0). omega arith) (cases_lt 0 (length (steps_below w rows o n))))
 
--- the same of what a function makes of them
-pub map-next : {A : Type 0} (f : ℕ → A) (w : Window) (rows : List StopRow) (o : Origin) (n : ℕ) (b : Bool) → b ≡ holds w (departs rows o n)
-    → map f (steps_below w rows o (n + 1)) ≡ map f (steps_below w rows o n) ++ map f (only_if b n)
-map-next f w rows o n b h = ap (map f) (steps-next w rows o n) ∙ map-append f (steps_below w rows o n) (only_if _ n) ∙ ap (λ x. map f (steps_below w rows o n) ++ map f (only_if x n)) (sym h)
+-- the start and the step of a loop that makes something of each
+pub ruleset map_steps = (steps-zero, steps-next, map-append, append_assoc, append-nil)
 
 -- a list so far, and one that goes on
 pub goes-on : {A : Type 0} (old before more all new : List A) → all ≡ before ++ more → new ≡ (old ++ before) ++ more → new ≡ old ++ all

@@ -8,7 +8,7 @@ ghost use Rattle.connections.specs.Counts.{each_of, steps_sum, leaving_sum, row_
 
 use crate::origins::{Origin, ServiceDay};
 use crate::repeats::leaving;
-use crate::runs::{has_service, leaves, may_run};
+use crate::runs::{frequencies_of, has_service, leaves, may_run, rows_of};
 use crate::window::{DAYS, Window};
 use change_times::Changes;
 use gtfs_tables::{Feed, FrequencyRow, StopRow};
@@ -180,8 +180,8 @@ fn sum_trip(
     ensures { result ≡ min
         (trip_sum (each_of changes.now counted) feed.now services.now window day trip) (2 ^ 64 - 1) }
 {
-    let rows = feed.stop_times(trip);
-    let frequencies = feed.frequencies(trip);
+    let rows = rows_of(feed, trip);
+    let frequencies = frequencies_of(feed, trip);
     if !may_run(rows, frequencies, day, window) || !has_service(feed, services, trip, day) {
         return 0;
     }

@@ -58,6 +58,7 @@ fn ride(rows: &[StopRow], step: usize, run: &Numbered<'_>, delays: &DelayTable) 
 }
 
 /// Adds the rides of a run that depart in the window.
+#[tactic(auto, using(crate::proofs::StepLemmas::map_steps))]
 fn add_rides(
     connections: &mut Vec<Connection>,
     rows: &[StopRow],

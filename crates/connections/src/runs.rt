@@ -1,12 +1,13 @@
 //! The runs that ride in a window.
 ghost use Rattle.std.specs.Prelude.{◌≡◌, ◌<◌, ◌++◌, length, map, [], false, All, IfOk, OnOk};
 ghost use Rattle.stop_times.specs.Bounds.{end_of_times};
-ghost use Rattle.gtfs_tables.specs.Repeats.{AreRepeats};
+ghost use Rattle.gtfs_tables.specs.Repeats.{AreRepeats, AreRepeating};
+ghost use Rattle.gtfs_tables.specs.Timed.{IsTimed, rows_of};
 ghost use Rattle.connections.specs.Joins.{only_if};
 ghost use Rattle.connections.specs.Window.{holds, IsWindow};
 ghost use Rattle.connections.specs.Origins.{origin_of_day};
 ghost use Rattle.connections.specs.Rides.{DepartInOrder, AreDepartures, departs, is_active_trip, rides, steps_of};
-ghost use Rattle.connections.specs.TripRuns.{own_run, repeat_run, runs_of_trip, day_runs, window_runs};
+ghost use Rattle.connections.specs.TripRuns.{frequencies_of, own_run, repeat_run, runs_of_trip, day_runs, window_runs};
 
 use crate::origins::{Origin, ServiceDay};
 use crate::repeats::{Repeat, origin_at, repeats_of};
@@ -99,6 +100,26 @@ pub(crate) fn has_service(feed: &Feed, services: &Services, trip: u32, day: Serv
     services.runs_on(feed.service_of(trip), day.number)
 }
 
+/// The kept rows of a trip.
+pub(crate) fn rows_of(feed: &Feed, trip: u32) -> &[StopRow]
+    requires trip { trip < length feed.now.trip_ids }
+    requires timed { IsTimed feed.now }
+    ensures rows { result.now ≡ rows_of feed.now trip }
+    ensures departures { AreDepartures result.now }
+{
+    feed.stop_times(trip)
+}
+
+/// The rows of frequencies of a trip.
+pub(crate) fn frequencies_of(feed: &Feed, trip: u32) -> &[FrequencyRow]
+    requires trip { trip < length feed.now.trip_ids }
+    requires repeats { AreRepeating feed.now }
+    ensures rows { result.now ≡ frequencies_of feed.now trip }
+    ensures repeats { AreRepeats result.now }
+{
+    feed.frequencies(trip)
+}
+
 /// Adds the run of a trip that does not repeat, where it rides in the window.
 fn add_own(
     runs: &mut Vec<Run>,
@@ -184,8 +205,8 @@ fn add_day(
         ≡ runs.old.items ++ day_runs feed.now services.now window day (length feed.now.trip_ids)) }
 {
     for trip in 0..feed.trip_count() {
-        let rows = feed.stop_times(trip);
-        let frequencies = feed.frequencies(trip);
+        let rows = rows_of(feed, trip);
+        let frequencies = frequencies_of(feed, trip);
         if may_run(rows, frequencies, day, window) && has_service(feed, services, trip, day) {
             add_trip(alloc, runs, rows, frequencies, day, trip, window)?;
         }
