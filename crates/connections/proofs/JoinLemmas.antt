@@ -6,7 +6,7 @@ use Rattle.std.proofs.lemmas.Bool.{cases_lt, cases_eq}
 use Rattle.std.proofs.lemmas.List.Elements.{All-nil, All-cons, All-append, All-get_or, All-weaker, Contains-append_left, Contains-append_right}
 use Rattle.plan_model.proofs.Lists.{AllPairs-append, AllPairs-nil, AllPairs-one}
 use Rattle.csv_rows.specs.Lists.{list_below}
-use Rattle.csv_rows.proofs.ListLemmas.{list_below-zero, list_below-next}
+use Rattle.csv_rows.proofs.ListLemmas.{list_below-zero, list_below-next, length-list_below}
 use Rattle.connections.specs.Joins.{join_below, only_if}
 
 pub join-zero : {A : Type 0} (f : ℕ → List A) → join_below f 0 ≡ []
@@ -27,7 +27,7 @@ pub list_below-more : {A : Type 0} (f : ℕ → A) (n : ℕ) → list_below f (n
 list_below-more f n = sym (list_below-next f n (list_below f n) _ (f n) refl refl refl)
 
 -- the same of a loop that adds one element at a time
-pub ruleset list_steps = (list_below-zero, list_below-more, append-nil, append_assoc)
+pub ruleset list_steps = (list_below-zero, list_below-more, length-list_below, append-nil, append_assoc)
 
 pub join-same : {A : Type 0} (f g : ℕ → List A) (n : ℕ) → ((i : ℕ) → i < n → f i ≡ g i) → join_below f n ≡ join_below g n
 join-same f g zero h = cc (join-zero f, join-zero g)

@@ -68,7 +68,3 @@ module _ (w : Window) (rows : List StopRow) (o : Origin) where
 
 -- the start and the step of a loop that makes something of each
 pub ruleset map_steps = (steps-zero, steps-next, map-append, append_assoc, append-nil)
-
--- a list so far, and one that goes on
-pub goes-on : {A : Type 0} (old before more all new : List A) → all ≡ before ++ more → new ≡ (old ++ before) ++ more → new ≡ old ++ all
-goes-on old before more all new e h = cc (append_assoc old before more)

@@ -146,6 +146,7 @@ fn links_of(alloc: Global, changes: &Changes, places: u32) -> Result<List<List<W
 
 /// The network of the connections that depart in the window, and the names of its places and runs. There is room for so many
 /// connections at once.
+#[tactic(auto, using(crate::proofs::JoinLemmas::list_steps))]
 fn network_of(
     alloc: Global,
     feed: &Feed,

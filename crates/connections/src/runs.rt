@@ -7,7 +7,7 @@ ghost use Rattle.connections.specs.Joins.{only_if};
 ghost use Rattle.connections.specs.Window.{holds, IsWindow};
 ghost use Rattle.connections.specs.Origins.{origin_of_day};
 ghost use Rattle.connections.specs.Rides.{DepartInOrder, AreDepartures, departs, is_active_trip, rides, steps_of};
-ghost use Rattle.connections.specs.TripRuns.{frequencies_of, own_run, repeat_run, runs_of_trip, day_runs, window_runs};
+ghost use Rattle.connections.specs.TripRuns.{frequencies_of, own_run, repeat_run, runs_of_trip, trip_runs, day_runs, window_runs};
 
 use crate::origins::{Origin, ServiceDay};
 use crate::repeats::{Repeat, origin_at, repeats_of};
@@ -190,6 +190,31 @@ fn add_trip(
     add_repeats(runs, rows, day, trip, repeats.as_slice())
 }
 
+/// Adds the runs of a trip that ride in the window on a day, where its service is active then.
+fn add_active(
+    alloc: Global,
+    runs: &mut Vec<Run>,
+    feed: &Feed,
+    services: &Services,
+    trip: u32,
+    day: ServiceDay,
+    window: Window,
+) -> Result<(), NoMemory>
+    requires window { IsWindow window }
+    requires trip { trip < length feed.now.trip_ids }
+    requires timed { IsTimed feed.now }
+    requires repeats { AreRepeating feed.now }
+    ensures { OnOk result (runs.new.items
+        ≡ runs.old.items ++ trip_runs feed.now services.now window day trip) }
+{
+    let rows = rows_of(feed, trip);
+    let frequencies = frequencies_of(feed, trip);
+    if !may_run(rows, frequencies, day, window) || !has_service(feed, services, trip, day) {
+        return Ok(());
+    }
+    add_trip(alloc, runs, rows, frequencies, day, trip, window)
+}
+
 /// Adds the runs of the trips that are active on a day and ride in the window then.
 #[tactic(auto, using(crate::proofs::JoinLemmas::join_steps), unfolding(crate::specs::TripRuns::day_runs))]
 fn add_day(
@@ -205,11 +230,7 @@ fn add_day(
         ≡ runs.old.items ++ day_runs feed.now services.now window day (length feed.now.trip_ids)) }
 {
     for trip in 0..feed.trip_count() {
-        let rows = rows_of(feed, trip);
-        let frequencies = frequencies_of(feed, trip);
-        if may_run(rows, frequencies, day, window) && has_service(feed, services, trip, day) {
-            add_trip(alloc, runs, rows, frequencies, day, trip, window)?;
-        }
+        add_active(alloc, runs, feed, services, trip, day, window)?;
     }
     Ok(())
 }

@@ -27,16 +27,6 @@ network_of_runs-requires-clause-few c =
     let size = rides_counted c.args.feed.now c.args.services.now c.args.delays.now c.args.window c.as_slice.result.now (c.as_slice.ensures.value ∙ c.in_ok-runs.ensures) in
     omega (arith, size, c.requires.few)
 
-pub network_of_runs-requires-clause-places : goal.network_of_runs-requires-clause-places
-network_of_runs-requires-clause-places c =
-    ap length c.in_ok-change.ensures.seconds ∙ length-list_below (seconds_of c.args.changes.now) c.stop_count.result ∙ c.stop_count.ensures.count
-
-pub with_links-requires-clause-many : goal.with_links-requires-clause-many
-with_links-requires-clause-many c =
-    ap length c.in_ok-links.ensures ∙ length-list_below (links_of c.args.changes.now) c.stop_count-2.result
-    ∙ sym (ap length c.in_ok-network.ensures.change ∙ ap length c.in_ok-change.ensures.seconds ∙ length-list_below (seconds_of c.args.changes.now) c.stop_count.result
-    ∙ c.stop_count.ensures.count ∙ sym c.stop_count-2.ensures.count)
-
 pub with_links-requires-clause-each : goal.with_links-requires-clause-each
 with_links-requires-clause-each c =
     let places : length c.in_ok-network.network.change ≡ length c.args.feed.now.stop_ids
