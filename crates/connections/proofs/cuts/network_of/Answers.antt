@@ -36,20 +36,6 @@ with_links-requires-clause-each c =
     λ r inside. subst (λ n. AreLinksInto n r (slice_index_or c.in_ok-links.links r [])) (sym places)
     (links_fit (length c.args.feed.now.stop_ids) c.args.changes.now c.links_into-link.ensures.sound c.requires.links c.in_ok-links.links links r (omega (arith, inside, places)))
 
-pub returns-clause-network : goal.returns-clause-network
-returns-clause-network c =
-    let f = c.args.feed.now in let s = c.args.services.now in let w = c.args.window in
-    let rs : c.as_slice.result.now ≡ window_runs f s w = c.as_slice.ensures.value ∙ c.in_ok-runs.ensures in
-    record {
-      connections = c.with_links.ensures.connections ∙ c.in_ok-network.ensures.connections ∙ ap (λ (x : List Run). rides_below f c.args.delays.now w x (length x)) rs;
-      change_of_places = c.with_links.ensures.change ∙ c.in_ok-network.ensures.change ∙ c.in_ok-change.ensures.seconds
-          ∙ ap (list_below (seconds_of c.args.changes.now)) c.stop_count.ensures.count;
-      links_of_places = c.with_links.ensures.links ∙ c.in_ok-links.ensures ∙ ap (list_below (links_of c.args.changes.now)) c.stop_count-2.ensures.count;
-      classes_of_delays = c.with_links.ensures.classes ∙ c.in_ok-network.ensures.classes;
-      places = c.in_ok-network.ensures.places;
-      runs = subst (λ (x : List Run). AreRunNames f x (length x) c.in_ok-network.names.runs) rs c.in_ok-network.ensures.runs;
-    }
-
 pub returns-clause-count : goal.returns-clause-count
 returns-clause-count c =
     ap length (c.with_links.ensures.connections ∙ c.in_ok-network.ensures.connections)
