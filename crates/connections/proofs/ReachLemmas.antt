@@ -11,7 +11,7 @@ use Rattle.connections.specs.declared.origins.Origin.{Origin}
 use Rattle.connections.specs.declared.window.Window.{Window}
 use Rattle.connections.specs.Origins.{moment_of}
 use Rattle.connections.specs.Window.{holds}
-use Rattle.connections.specs.Rides.{DepartInOrder, AreDepartures, departs, rides, steps_below, steps_of}
+use Rattle.connections.specs.Rides.{DepartInOrder, AreDepartures, departs, rides, steps_of}
 use Rattle.connections.proofs.StepLemmas.{some_step, steps_none}
 
 -- times do not go back over several rows

@@ -1,5 +1,5 @@
 -- The runs of a row of frequencies that ride in a window, gathered from the last kept row to the first.
-use Rattle.std.proofs.Common.{◌≡◌, ℕ, ℤ, pos, zero, suc, ◌+◌, ◌-◌, ◌*◌, ◌<◌, ◌≤◌, ◌<ℤ◌, ◌≤ℤ◌, max, nat_lt, nat_le, Bool, true, false, List, [], ◌++◌, length, All, refl, sym, ap, ◌∙◌, subst, arith}
+use Rattle.std.proofs.Common.{◌≡◌, ℕ, ℤ, pos, suc, ◌+◌, ◌-◌, ◌*◌, ◌<◌, ◌≤◌, ◌<ℤ◌, ◌≤ℤ◌, max, nat_lt, nat_le, Bool, true, false, List, ◌++◌, length, All, refl, sym, ap, ◌∙◌, arith}
 use Rattle.std.proofs.Common.{⊎_elim, if◌then◌else◌}
 use Rattle.std.specs.Prelude.{AllPairs}
 use Rattle.std.proofs.Math.Nat.{le-mul_of_pos_right, mul-le-mul_right, suc-mul}
@@ -13,12 +13,11 @@ use Rattle.trip_frequencies.specs.Frequencies.{no_frequency}
 use Rattle.gtfs_tables.specs.Repeats.{IsFrequency, AreRepeats, repeat_at}
 use Rattle.run_repeat.specs.Runs.{AreBelow, IsRunOf, departure}
 use Rattle.connections.specs.declared.origins.ServiceDay.{ServiceDay}
-use Rattle.connections.specs.declared.origins.Origin.{Origin}
 use Rattle.connections.specs.declared.repeats.Repeat.{Repeat}
 use Rattle.connections.specs.declared.window.Window.{Window}
 use Rattle.connections.specs.Joins.{join_below, only_if}
 use Rattle.connections.specs.Window.{holds}
-use Rattle.connections.specs.Rides.{AreDepartures, departs, rides, steps_below}
+use Rattle.connections.specs.Rides.{AreDepartures, departs, rides}
 use Rattle.connections.specs.Repeats.{repeat_of, origin_at, rides_by, riding_by, riding_of, in_order}
 use Rattle.connections.proofs.JoinLemmas.{join-same, join-rest, join-on, All-join, AllPairs-join, All-only_if, AllPairs-only_if}
 use Rattle.connections.proofs.OrderLemmas.{Differ, All-in_order}

@@ -5,7 +5,7 @@ use mathlib.Core.Path.{fun_ext}
 use Rattle.std.proofs.Math.Nat.{le-mul_of_pos_right, suc-mul, add-mul, zero-mul}
 use Rattle.std.proofs.lemmas.Bool.{cases_lt, cases_Bool, cond_both, and_parts}
 use Rattle.std.proofs.lemmas.Int.{ints}
-use Rattle.std.proofs.lemmas.List.Sums.{sum_by-append, sum_by-cons}
+use Rattle.std.proofs.lemmas.List.Sums.{sum_by-cons}
 use Rattle.std.proofs.lemmas.List.Elements.{All-get_or}
 use Rattle.plan_model.specs.declared.model.PlaceId.{PlaceId}
 use Rattle.plan_model.specs.declared.model.Way.{Way}

@@ -1,12 +1,9 @@
-use Rattle.std.proofs.Common.{◌≡◌, List, [], length, ap, sym, subst, ◌∙◌, arith}
+use Rattle.std.proofs.Common.{◌≡◌, [], length, ap, sym, subst, ◌∙◌, arith}
 use Rattle.std.specs.Prelude.{slice_index_or}
 use Rattle.csv_rows.specs.Lists.{list_below}
 use Rattle.csv_rows.proofs.ListLemmas.{length-list_below}
 use Rattle.plan_model.specs.Network.{AreLinksInto}
 use Rattle.change_times.specs.Changes.{seconds_of, links_of}
-use Rattle.connections.specs.declared.runs.Run.{Run}
-use Rattle.connections.specs.TripRuns.{window_runs}
-use Rattle.connections.specs.Networks.{rides_below, AreRunNames}
 use Rattle.connections.proofs.CountLemmas.{rides_counted}
 use Rattle.connections.proofs.LinkLemmas.{links_fit, names_fit}
 use Rattle.connections.proofs.RunLemmas.{runs_are}
