@@ -75,7 +75,8 @@ module _ (w : Window) (v : IsWindow w) (rows : List StopRow) (places : ℕ) (t :
 
   pub good_rides : All (IsGood places classes runs) (map (ride rows o number class) steps)
   good_rides = All-map (IsGood places classes runs) (ride rows o number class) steps
-      (All-weaker (IsStep w rows o (length rows - 1)) (λ k. IsGood places classes runs (ride rows o number class k)) good_ride steps (steps_are w rows o (length rows - 1)))
+      (All-weaker (IsStep w rows o (length rows - 1)) (λ k. IsGood places classes runs (ride rows o number class k)) good_ride steps (steps_are w rows o
+          (length rows - 1)))
 
   follow : (a b : ℕ) → a < b → IsStep w rows o (length rows - 1) a → IsStep w rows o (length rows - 1) b → Follows (ride rows o number class a) (ride rows o number class b)
   follow a b l s h =
@@ -100,7 +101,8 @@ pub record AreGood (places classes runs : ℕ) (cs : List Connection) : Type 0 w
 
 module _ (f : FeedParts) (delays : DelayLists) (w : Window) (v : IsWindow w) (timed : IsTimed f) (rs : List Run) (runs : AreRunsOf f rs) (classes : ℕ)
     (few : (trip arr : ℕ) → class_of_trip f delays trip arr < classes) (some : AllRide f w rs) where
-  own : (n : ℕ) → n < length rs → All (IsGood (length f.stop_ids) classes (length rs)) (run_rides f delays w rs n) × AllPairs Follows (run_rides f delays w rs n)
+  own : (n : ℕ) → n < length rs → All (IsGood (length f.stop_ids) classes (length rs)) (run_rides f delays w rs n) × AllPairs Follows
+      (run_rides f delays w rs n)
       × All (λ c. c.run.0 ≡ n) (run_rides f delays w rs n) × (0 < length (run_rides f delays w rs n))
   unfolding run_rides
   own n h =
@@ -120,10 +122,12 @@ module _ (f : FeedParts) (delays : DelayLists) (w : Window) (v : IsWindow w) (ti
       let all = run_rides f delays w rs in
       record {
         good = All-join (IsGood (length f.stop_ids) classes (length rs)) all (length rs) (λ n h. (own n h).0);
-        order = AllPairs-join Follows (λ n c. c.run.0 ≡ n) all (length rs) (λ n h. (own n h).2) (λ n h. (own n h).1) (λ i j x y l h a b. inl (omega (arith, l, a, b)));
+        order = AllPairs-join Follows (λ n c. c.run.0 ≡ n) all (length rs) (λ n h. (own n h).2) (λ n h. (own n h).1) (λ i j x y l h a b. inl (omega
+            (arith, l, a, b)));
         each = λ r d h.
             let x = Contains-join all (length rs) r (get_or (all r) 0 d) h (Contains-get_or (all r) 0 d (own r h).3) in
-            (x.0, x.1, ap (λ (c : Connection). c.run.0) (get_or_default (join_below all (length rs)) x.0 d _ x.1 ∙ x.2) ∙ All-get_or (λ (c : Connection). c.run.0 ≡ r) (all r) 0 d (own r h).3 (own r h).2);
+            (x.0, x.1, ap (λ (c : Connection). c.run.0) (get_or_default (join_below all (length rs)) x.0 d _ x.1 ∙ x.2)
+                ∙ All-get_or (λ (c : Connection). c.run.0 ≡ r) (all r) 0 d (own r h).3 (own r h).2);
         many = join-many all (length rs) (λ n h. (own n h).3);
       }
 

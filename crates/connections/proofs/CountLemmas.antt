@@ -47,7 +47,8 @@ sum_by-ones {A} (x ∷ xs) = omega (arith, sum_by-cons (λ (y : A). 1) x xs, sum
 
 pub sum_by-join : {A : Type 0} (g : A → ℕ) (f : ℕ → List A) (n : ℕ) → sum_by g (join_below f n) ≡ sum_below (λ i. sum_by g (f i)) n
 sum_by-join g f zero = ap (sum_by g) (join-zero f) ∙ sym (sum-zero (λ i. sum_by g (f i)))
-sum_by-join g f (suc n) = omega (arith, ap (sum_by g) (join-suc f n), sum_by-append g (join_below f n) (f n), sum_by-join g f n, sum-suc (λ i. sum_by g (f i)) n)
+sum_by-join g f (suc n) = omega (arith, ap (sum_by g) (join-suc f n), sum_by-append g (join_below f n) (f n), sum_by-join g f n, sum-suc (λ i. sum_by g
+    (f i)) n)
 
 pub length-join : {A : Type 0} (f : ℕ → List A) (n : ℕ) → length (join_below f n) ≡ sum_below (λ i. length (f i)) n
 length-join f zero = omega (arith, ap length (join-zero f), sum-zero (λ i. length (f i)))
@@ -86,7 +87,8 @@ module _ (f : FeedParts) (s : ServiceParts) (d : DelayLists) (w : Window) where
   abbrev own : Run → ℕ
   own run = length (run_steps f w run)
 
-  of_runs : (day : ServiceDay) (trip : ℕ) (fs : List FrequencyRow) → sum_by own (runs_of_trip w (rows_of f trip) fs day trip) ≡ runs_sum (λ place. 1) w (rows_of f trip) fs day
+  of_runs : (day : ServiceDay) (trip : ℕ) (fs : List FrequencyRow) → sum_by own (runs_of_trip w (rows_of f trip) fs day trip) ≡ runs_sum (λ place. 1) w
+      (rows_of f trip) fs day
   unfolding riding_of rows_sum
   of_runs day trip [] =
       let steps = steps_of w (rows_of f trip) (origin_of_day day) in

@@ -44,7 +44,8 @@ not_after_itself : (y : Repeat) → NotAfter y y
 not_after_itself y = grind (arith, nat_tests)
 
 sorted : (rs : List Repeat) → IsSorted repeat_cmp rs → AllPairs NotAfter rs
-sorted rs up i j d below within = sorted_far repeat_precedes order rs (λ k e low high. sym (same_order (get_or rs (k + 1) e) (get_or rs k e)) ∙ up k e low high) i j d (omega arith) within
+sorted rs up i j d below within = sorted_far repeat_precedes order rs (λ k e low high. sym (same_order (get_or rs (k + 1) e) (get_or rs k e))
+    ∙ up k e low high) i j d (omega arith) within
 
 -- one for what repeat_precedes y
 abbrev before : Repeat → Repeat → ℕ
@@ -81,12 +82,14 @@ with_repeat-moves r [] = IsPermutation-refl (r ∷ [])
 with_repeat-moves r (x ∷ xs) =
     cond_both (repeat_precedes x r) (x ∷ with_repeat r xs) (r ∷ x ∷ xs) (IsPermutation (r ∷ x ∷ xs))
     (λ sooner. IsPermutation-trans (r ∷ x ∷ xs) (x ∷ r ∷ xs) (x ∷ with_repeat r xs)
-    (IsPermutation-append_left xs (r ∷ x ∷ []) (x ∷ r ∷ []) (IsPermutation-append_comm (r ∷ []) (x ∷ []))) (IsPermutation-cons x (r ∷ xs) (with_repeat r xs) (with_repeat-moves r xs)))
+    (IsPermutation-append_left xs (r ∷ x ∷ []) (x ∷ r ∷ []) (IsPermutation-append_comm (r ∷ []) (x ∷ []))) (IsPermutation-cons x (r ∷ xs) (with_repeat r xs)
+        (with_repeat-moves r xs)))
     (λ later. IsPermutation-refl (r ∷ x ∷ xs))
 
 in_order-moves : (rs : List Repeat) → IsPermutation rs (in_order rs)
 in_order-moves [] = IsPermutation-refl []
-in_order-moves (r ∷ rs) = IsPermutation-trans (r ∷ rs) (r ∷ in_order rs) _ (IsPermutation-cons r rs (in_order rs) (in_order-moves rs)) (with_repeat-moves r (in_order rs))
+in_order-moves (r ∷ rs) = IsPermutation-trans (r ∷ rs) (r ∷ in_order rs) _ (IsPermutation-cons r rs (in_order rs) (in_order-moves rs)) (with_repeat-moves r
+    (in_order rs))
 
 -- in their order they add up to the same
 pub in_order_sum : (g : Repeat → ℕ) (rs : List Repeat) → sum_by g (in_order rs) ≡ sum_by g rs
@@ -103,8 +106,10 @@ placed_in_order r [] up = AllPairs-one NotAfter r
 placed_in_order r (x ∷ xs) up =
     let first = AllPairs-first NotAfter x xs up in
     cond_both (repeat_precedes x r) (x ∷ with_repeat r xs) (r ∷ x ∷ xs) (AllPairs NotAfter)
-    (λ sooner. AllPairs-cons NotAfter x (with_repeat r xs) (All-with_repeat (NotAfter x) r xs (order.one_way x r sooner) first) (placed_in_order r xs (AllPairs-tail NotAfter x xs up)))
-    (λ later. AllPairs-cons NotAfter r (x ∷ xs) (All-cons (NotAfter r) x xs later (All-weaker (NotAfter x) (NotAfter r) (λ y h. order.chain y x r h later) xs first)) up)
+    (λ sooner. AllPairs-cons NotAfter x (with_repeat r xs) (All-with_repeat (NotAfter x) r xs (order.one_way x r sooner) first) (placed_in_order r xs
+        (AllPairs-tail NotAfter x xs up)))
+    (λ later. AllPairs-cons NotAfter r (x ∷ xs) (All-cons (NotAfter r) x xs later (All-weaker (NotAfter x) (NotAfter r)
+        (λ y h. order.chain y x r h later) xs first)) up)
 
 in_order_in_order : (rs : List Repeat) → AllPairs NotAfter (in_order rs)
 in_order_in_order [] = AllPairs-nil NotAfter
@@ -112,7 +117,8 @@ in_order_in_order (r ∷ rs) = placed_in_order r (in_order rs) (in_order_in_orde
 
 -- what a sort makes of a list is its order
 pub in_order_is : (rs ys : List Repeat) → IsPermutation rs ys → IsSorted repeat_cmp ys → ys ≡ in_order rs
-in_order_is rs ys moved up = one_order ys (in_order rs) (sorted ys up) (in_order_in_order rs) (λ g. sum_by-IsPermutation g rs ys moved ∙ sym (in_order_sum g rs))
+in_order_is rs ys moved up = one_order ys (in_order rs) (sorted ys up) (in_order_in_order rs) (λ g. sum_by-IsPermutation g rs ys moved
+    ∙ sym (in_order_sum g rs))
 
 -- two that differ
 abbrev pub Differ : Repeat → Repeat → Type 0
@@ -122,7 +128,8 @@ pairs_placed : (r : Repeat) (xs : List Repeat) → All (Differ r) xs → AllPair
 pairs_placed r [] all p = AllPairs-one Differ r
 pairs_placed r (x ∷ xs) all p =
     cond_both (repeat_precedes x r) (x ∷ with_repeat r xs) (r ∷ x ∷ xs) (AllPairs Differ)
-    (λ sooner. AllPairs-cons Differ x (with_repeat r xs) (All-with_repeat (Differ x) r xs (λ e. All-head (Differ r) x xs all (sym e)) (AllPairs-first Differ x xs p))
+    (λ sooner. AllPairs-cons Differ x (with_repeat r xs) (All-with_repeat (Differ x) r xs (λ e. All-head (Differ r) x xs all (sym e))
+        (AllPairs-first Differ x xs p))
     (pairs_placed r xs (All-tail (Differ r) x xs all) (AllPairs-tail Differ x xs p)))
     (λ later. AllPairs-cons Differ r (x ∷ xs) all p)
 

@@ -162,7 +162,8 @@ module _ (w : Window) (rows : List StopRow) (day : ServiceDay) where
   pub riding_by_all : (P : Repeat → Type 0) (row : FrequencyRow)
       → ((m : ℕ) → IsRunOf row m → rides w rows (origin_at rows day (departure row m)) ≡ true → P (repeat_of row m)) → All P (riding_by w rows day row)
   unfolding riding_by
-  riding_by_all P row h = All-join P (λ m. only_if (rides_by w rows day row m) (repeat_of row m)) end_of_times (λ m l. All-only_if P (rides_by w rows day row m) (repeat_of row m) (λ r.
+  riding_by_all P row h = All-join P (λ m. only_if (rides_by w rows day row m) (repeat_of row m)) end_of_times (λ m l. All-only_if P
+      (rides_by w rows day row m) (repeat_of row m) (λ r.
       let p = and_parts (nat_lt (departure row m) row.end) (rides w rows (origin_at rows day (departure row m))) r in h m (ltb-true (departure row m) row.end p.0) p.1))
 
   pub riding_of_all : (P : Repeat → Type 0) (fs : List FrequencyRow) → ((i : ℕ) → i < length fs → All P (riding_by w rows day (repeat_at fs i))) → All P (riding_of w rows day fs)
@@ -191,12 +192,15 @@ module _ (w : Window) (rows : List StopRow) (day : ServiceDay) where
   unfolding riding_by
   riding_by_pairs row is =
       let At : ℕ → Repeat → Type 0 = λ m r. r.departure ≡ departure row m in
-      AllPairs-join Differ At (λ m. only_if (rides_by w rows day row m) (repeat_of row m)) end_of_times (λ m l. All-only_if (At m) (rides_by w rows day row m) (repeat_of row m) (λ r. refl))
-      (λ m l. AllPairs-only_if Differ (rides_by w rows day row m) (repeat_of row m)) (λ m n a b l h at at' e. omega (arith, at, at', rising row is.some m n l, ap (λ (r : Repeat). r.departure) e))
+      AllPairs-join Differ At (λ m. only_if (rides_by w rows day row m) (repeat_of row m)) end_of_times (λ m l. All-only_if (At m)
+          (rides_by w rows day row m) (repeat_of row m) (λ r. refl))
+      (λ m l. AllPairs-only_if Differ (rides_by w rows day row m) (repeat_of row m)) (λ m n a b l h at at' e. omega
+          (arith, at, at', rising row is.some m n l, ap (λ (r : Repeat). r.departure) e))
 
   pub riding_of_pairs : (fs : List FrequencyRow) → AreRepeats fs → AllPairs Differ (riding_of w rows day fs)
   unfolding riding_of
   riding_of_pairs fs are =
       let At : ℕ → Repeat → Type 0 = λ i r. r.line ≡ (repeat_at fs i).line in
       AllPairs-join Differ At (λ i. riding_by w rows day (repeat_at fs i)) (length fs) (λ i l. riding_by_all (At i) (repeat_at fs i) (λ m run r. refl))
-      (λ i l. riding_by_pairs (repeat_at fs i) (are.each i no_frequency.row l)) (λ i j a b l h at at' e. omega (arith, at, at', are.rising i j l h, ap (λ (r : Repeat). r.line) e))
+      (λ i l. riding_by_pairs (repeat_at fs i) (are.each i no_frequency.row l)) (λ i j a b l h at at' e. omega (arith, at, at', are.rising i j l h, ap (λ
+          (r : Repeat). r.line) e))

@@ -44,7 +44,8 @@ module _ (w : Window) (rows : List StopRow) (day : ServiceDay) (trip : ℕ) wher
 
   own_rides : AreRides (only_if (rides w rows (origin_of_day day)) (own_run day trip))
   own_rides = record {
-    each = All-only_if (IsRide w rows day trip) (rides w rows (origin_of_day day)) (own_run day trip) (λ h. record { same = refl; trip_is = refl; rides = ltb-true 0 _ h });
+    each = All-only_if (IsRide w rows day trip) (rides w rows (origin_of_day day)) (own_run day trip)
+        (λ h. record { same = refl; trip_is = refl; rides = ltb-true 0 _ h });
     order = AllPairs-only_if Precedes (rides w rows (origin_of_day day)) (own_run day trip);
   }
 
@@ -52,7 +53,8 @@ module _ (w : Window) (rows : List StopRow) (day : ServiceDay) (trip : ℕ) wher
   repeat_rides fs are =
       let f = repeat_run rows day trip in
       let P : Repeat → Type 0 = λ r. IsRide w rows day trip (f r) in
-      let all : All P (in_order (riding_of w rows day fs)) = All-in_order P (riding_of w rows day fs) (riding_of_all w rows day P fs (λ i l. riding_by_all w rows day P _ (λ m run h.
+      let all : All P (in_order (riding_of w rows day fs)) = All-in_order P (riding_of w rows day fs) (riding_of_all w rows day P fs
+          (λ i l. riding_by_all w rows day P _ (λ m run h.
       record { same = refl; trip_is = refl; rides = ltb-true 0 _ h }))) in
       let apart = pairs_in_order (riding_of w rows day fs) (riding_of_pairs w rows day fs are) in
       record {
@@ -76,7 +78,8 @@ module _ (f : FeedParts) (s : ServiceParts) (w : Window) (repeats : AreRepeating
     pub rides : 0 < length (run_steps f w run)
 
   of_trip : (day : ServiceDay) (trip : ℕ) → trip < length f.trip_ids → AreRides w (rows_of f trip) day trip (trip_runs f s w day trip)
-  of_trip day trip h = rides_where w (rows_of f trip) day trip (is_active_trip f s day trip) _ (rides_of_trip w (rows_of f trip) day trip (frequencies_of f trip) (repeats trip h))
+  of_trip day trip h = rides_where w (rows_of f trip) day trip (is_active_trip f s day trip) _ (rides_of_trip w (rows_of f trip) day trip
+      (frequencies_of f trip) (repeats trip h))
 
   of_day : (day : ServiceDay) → All (IsRunOn day) (day_runs f s w day (length f.trip_ids)) × AllPairs Precedes (day_runs f s w day (length f.trip_ids))
   unfolding day_runs
@@ -98,8 +101,10 @@ module _ (f : FeedParts) (s : ServiceParts) (w : Window) (repeats : AreRepeating
       let Q : Run → Type 0 = λ run. IsRunOfFeed f run × (0 < length (run_steps f w run)) in
       let of : ℕ → List Run = λ d. day_runs f s w (day_at w d) (length f.trip_ids) in
       let all = All-join Q of days (λ d h. All-weaker (IsRunOn (day_at w d)) Q (λ run r.
-      (record { trip = r.trip; day = record { from = omega (arith, ints, r.same, v.early); to = omega (arith, ints, r.same, h, v.late) } }, r.rides)) (of d) (of_day (day_at w d)).0) in
-      let order = AllPairs-join Precedes (λ d. IsRunOn (day_at w d)) of days (λ d h. (of_day (day_at w d)).0) (λ d h. (of_day (day_at w d)).1) (λ i j x y l h a b.
+      (record { trip = r.trip; day = record { from = omega (arith, ints, r.same, v.early); to = omega (arith, ints, r.same, h, v.late) } }, r.rides)) (of d)
+          (of_day (day_at w d)).0) in
+      let order = AllPairs-join Precedes (λ d. IsRunOn (day_at w d)) of days (λ d h. (of_day (day_at w d)).0) (λ d h. (of_day (day_at w d)).1)
+          (λ i j x y l h a b.
       inl (omega (arith, ints, a.same, b.same, l))) in
       subst P (sym e) (
         record {

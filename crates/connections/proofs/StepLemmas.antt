@@ -45,7 +45,8 @@ module _ (w : Window) (rows : List StopRow) (o : Origin) where
 
   pub steps_are : (n : ℕ) → All (IsStep w rows o n) (steps_below w rows o n)
   unfolding steps_below
-  steps_are n = All-join (IsStep w rows o n) step_of n (λ k l. All-only_if (IsStep w rows o n) (holds w (departs rows o k)) k (λ h. record { inside = l; holding = h }))
+  steps_are n = All-join (IsStep w rows o n) step_of n (λ k l. All-only_if (IsStep w rows o n) (holds w (departs rows o k)) k
+      (λ h. record { inside = l; holding = h }))
 
   pub steps_rise : (n : ℕ) → AllPairs Less (steps_below w rows o n)
   unfolding steps_below

@@ -60,11 +60,13 @@ only-sum : (f : ℕ → ℕ) (b : Bool) (k : ℕ) → sum_by f (only_if b k) ≡
 only-sum f true k = let one : sum_by f (k ∷ []) ≡ f k = omega arith in one
 only-sum f false k = refl
 
-pub steps-sum : (f : ℕ → ℕ) (w : Window) (rows : List StopRow) (o : Origin) (n : ℕ) → sum_by f (steps_below w rows o n) ≡ sum_below (λ k. if holds w (departs rows o k) then f k else 0) n
+pub steps-sum : (f : ℕ → ℕ) (w : Window) (rows : List StopRow) (o : Origin) (n : ℕ) → sum_by f (steps_below w rows o n) ≡ sum_below (λ k. if holds w
+    (departs rows o k) then f k else 0) n
 unfolding steps_below
 steps-sum f w rows o n =
     sum_by-join f (λ k. only_if (holds w (departs rows o k)) k) n
-    ∙ sum-same (λ k. sum_by f (only_if (holds w (departs rows o k)) k)) (λ k. if holds w (departs rows o k) then f k else 0) n (λ k. only-sum f (holds w (departs rows o k)) k)
+    ∙ sum-same (λ k. sum_by f (only_if (holds w (departs rows o k)) k)) (λ k. if holds w (departs rows o k) then f k else 0) n (λ k. only-sum f (holds w
+        (departs rows o k)) k)
 
 where-sum : (is : Bool) (holds' : ℕ → Bool) (f : ℕ → ℕ) (n : ℕ) → (if is then sum_below (λ k. if holds' k then f k else 0) n else 0) ≡ sum_below (λ k. if is && holds' k then f k else 0) n
 where-sum true holds' f n = refl
@@ -92,12 +94,14 @@ one_if b = if b then 1 else 0
 sum-times : (p : ℕ → Bool) (x n : ℕ) → sum_below (λ m. if p m then x else 0) n ≡ sum_below (λ m. one_if (p m)) n * x
 sum-times p x zero = rw (sum-zero (λ m. if p m then x else 0), sum-zero (λ m. one_if (p m)), zero-mul) refl
 sum-times p x (suc n) =
-    let here : (if p n then x else 0) ≡ one_if (p n) * x = cond_both (p n) 1 0 (λ k. (if p n then x else 0) ≡ k * x) (λ is. rw is (omega arith)) (λ not. rw not (omega arith)) in
+    let here : (if p n then x else 0) ≡ one_if (p n) * x = cond_both (p n) 1 0 (λ k. (if p n then x else 0) ≡ k * x) (λ is. rw is (omega arith))
+        (λ not. rw not (omega arith)) in
     let all = ap (λ k. k * x) (sum-suc (λ m. one_if (p m)) n) ∙ add-mul (sum_below (λ m. one_if (p m)) n) (one_if (p n)) x in
     omega (arith, sum-suc (λ m. if p m then x else 0) n, sum-times p x n, here, all)
 
 -- what holds from one number on to another holds so often
-between-count : (p : ℕ → Bool) (a c n : ℕ) → ((m : ℕ) → p m ≡ true → (a ≤ m) × (m < c)) → ((m : ℕ) → a ≤ m → m < c → p m ≡ true) → sum_below (λ m. one_if (p m)) n ≡ min c n - a
+between-count : (p : ℕ → Bool) (a c n : ℕ) → ((m : ℕ) → p m ≡ true → (a ≤ m) × (m < c)) → ((m : ℕ) → a ≤ m → m < c → p m ≡ true)
+    → sum_below (λ m. one_if (p m)) n ≡ min c n - a
 between-count p a c zero inside out = omega (arith, sum-zero (λ m. one_if (p m)))
 between-count p a c (suc n) inside out =
     let in' : a ≤ n → n < c → one_if (p n) ≡ 1 = λ low high. ap one_if (out n low high) in
@@ -180,7 +184,8 @@ module _ (w : Window) (each : PlaceId → ℕ) (h : (place : PlaceId) → each p
   runs-scale rows (row ∷ more) day =
       let fs = row ∷ more in
       sum-scale (λ i. row_sum each w rows day (repeat_at fs i)) (λ i. row_sum (λ place. 1) w rows day (repeat_at fs i)) (length fs) (λ i less.
-      sum_by-scale (λ (r : Repeat). steps_sum each w rows (origin_at rows day r.departure)) (λ (r : Repeat). steps_sum (λ place. 1) w rows (origin_at rows day r.departure))
+      sum_by-scale (λ (r : Repeat). steps_sum each w rows (origin_at rows day r.departure)) (λ (r : Repeat). steps_sum (λ place. 1) w rows
+          (origin_at rows day r.departure))
       (riding_by w rows day (repeat_at fs i)) (λ r. steps-scale rows (origin_at rows day r.departure)))
 
   -- where each place counts for so many at most, the sum is at most so many times that of ones
@@ -198,7 +203,8 @@ length-only false n = omega arith
 steps-few : (w : Window) (rows : List StopRow) (o : Origin) (n : ℕ) → length (steps_below w rows o n) ≤ n
 unfolding steps_below
 steps-few w rows o n =
-    let f : ℕ → List ℕ = λ k. only_if (holds w (departs rows o k)) k in omega (arith, length-join f n, sum-few 1 (λ k. length (f k)) n (λ k l. length-only (holds w (departs rows o k)) k))
+    let f : ℕ → List ℕ = λ k. only_if (holds w (departs rows o k)) k in omega (arith, length-join f n, sum-few 1 (λ k. length (f k)) n (λ k l. length-only
+        (holds w (departs rows o k)) k))
 
 if_few : (active : Bool) (b x : ℕ) → x ≤ b → (if active then x else 0) ≤ b
 if_few true b x h = h
