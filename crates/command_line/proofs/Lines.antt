@@ -1,11 +1,15 @@
 -- A line is a command and its settings, and the other way round.
 use Rattle.std.proofs.Common.{◌≡◌, ◌≢◌, ℕ, suc, List, [], ◌∷◌, arith, refl, ap, sym, ◌∙◌, Option, Some, None, Bool, true, false, IsTrue}
-use Rattle.std.specs.Prelude.{is_none, ◌&&◌, if◌then◌else◌, All, AllPairs}
-use Rattle.std.specs.List.{flat_map, find}
+use Rattle.std.specs.Prelude.{slice_get, is_none, ◌&&◌, if◌then◌else◌, All, AllPairs}
+use Rattle.std.specs.List.{flat_map, find, position_or_len}
 use Rattle.std.specs.Str.{bytes_eq}
-use Rattle.std.proofs.lemmas.Bool.{false≢true}
+use Rattle.std.proofs.lemmas.Bool.{false≢true, and_parts, false_from_ne_true}
+use Rattle.std.proofs.lemmas.Option.{get_or_from_slice_get, slice_get_within}
+use Rattle.std.proofs.lemmas.List.Folds.{find_at}
+use Rattle.std.proofs.lemmas.List.Recursion.{found_nowhere}
+use Rattle.std.proofs.lemmas.List.Sums.{passes_at_first}
 use Rattle.std.proofs.lemmas.Slice.Eq.{bytes_eq-Decides}
-use Rattle.std.proofs.lemmas.List.Elements.{All-nil, All-cons, All-head, All-tail}
+use Rattle.std.proofs.lemmas.List.Elements.{All-nil, All-cons}
 use Rattle.std.proofs.lemmas.List.Kept.{AllPairs-cons}
 use Rattle.command_line.specs.declared.options.OptionName.{OptionName}
 use Rattle.command_line.specs.declared.options.OptionName.TheVariants.{Cut, Feed, Delays, From, To, At, Alpha, Horizon, Graph, Late, Size, Proof, By, Until, Last}
@@ -34,24 +38,14 @@ named Last = refl
 same_option : (a b : OptionName) → option_name a ≡ option_name b → a ≡ b
 same_option a b same = let one = sym (named a) ∙ ap option_named same ∙ named b in cc
 
-find_at : {X : Type 0} (p : X → Bool) (xs : List X) (y x : X) (b : Bool) → p y ≡ b → (find p xs ≡ Some x → p x ≡ true) → find p (y ∷ xs) ≡ Some x → p x ≡ true
-find_at p xs y x true e rest found =
-    let here = ap (λ (c : Bool). if c then Some y else find p xs) e in
-    let one = sym here ∙ found in
-    cc
-find_at p xs y x false e rest found = rest (sym (ap (λ (c : Bool). if c then Some y else find p xs) e) ∙ found)
-
 find-passes : {X : Type 0} (p : X → Bool) (xs : List X) (x : X) → find p xs ≡ Some x → p x ≡ true
-find-passes p [] x found = absurd (cc)
-find-passes p (y ∷ xs) x found = find_at p xs y x (p y) refl (find-passes p xs x) found
+find-passes p xs x found =
+    let at : slice_get xs (position_or_len p xs) ≡ Some x = sym (find_at p xs) ∙ found in
+    ap p (sym (get_or_from_slice_get xs (position_or_len p xs) x x at)) ∙ passes_at_first p xs x (slice_get_within xs (position_or_len p xs) x at)
 
 -- a word that names an option is its word
 word_is : (word : List ℕ) (option : OptionName) → option_named word ≡ Some option → word ≡ option_name option
 word_is word option is = (bytes_eq-Decides word (option_name option)).0 (find-passes (λ o. bytes_eq word (option_name o)) all_options option is)
-
-and_both : (a b : Bool) → IsTrue (a && b) → IsTrue a × IsTrue b
-and_both true b both = (refl, both)
-and_both false b both = absurd (false≢true both)
 
 none_is : {T : Type 0} (o : Option T) → IsTrue (is_none o) → o ≡ None
 none_is None is = refl
@@ -61,18 +55,12 @@ none_is (Some v) is = absurd (false≢true is)
 abbrev Lacks : List Setting → OptionName → Type 0
 Lacks given option = All (λ s. option ≢ s.option) given
 
-lacks_at : (s : Setting) (given : List Setting) (option : OptionName) (b : Bool) → bytes_eq (option_name s.option) (option_name option) ≡ b
-    → Lacks (s ∷ given) option → value_in given option ≡ None → value_in (s ∷ given) option ≡ None
-unfolding value_in
-lacks_at s given option true e none rest =
-    absurd (All-head (λ (t : Setting). option ≢ t.option) s given none (same_option option s.option (sym ((bytes_eq-Decides (option_name s.option) (option_name option)).0 e))))
-lacks_at s given option false e none rest = ap (λ (c : Bool). if c then Some s.value else value_in given option) e ∙ rest
-
 lacks : (given : List Setting) (option : OptionName) → Lacks given option → value_in given option ≡ None
 unfolding value_in
-lacks [] option none = refl
-lacks (s ∷ given) option none = lacks_at s given option (bytes_eq (option_name s.option) (option_name option)) refl none
-    (lacks given option (All-tail (λ (t : Setting). option ≢ t.option) s given none))
+lacks given option none =
+    let d : Setting = record { option = option; value = [] } in
+    found_nowhere (λ (given : List Setting). value_in given option) (λ s. bytes_eq (option_name s.option) (option_name option)) (λ s. Some s.value) None refl (λ _ _. refl) given d (λ k l.
+    false_from_ne_true _ (λ e. none k d l (same_option option _ (sym ((bytes_eq-Decides _ (option_name option)).0 e)))))
 
 lacking_at : (s : Setting) (given : List Setting) (option : OptionName) (b : Bool) → bytes_eq (option_name s.option) (option_name option) ≡ b
     → value_in (s ∷ given) option ≡ None → (value_in given option ≡ None → Lacks given option) → Lacks (s ∷ given) option
@@ -129,6 +117,6 @@ unfolding are_settings value_of value_in
 read_settings [] are = ([], record { words_are = refl; once = λ i j d before within. absurd (omega arith); values = λ option. refl })
 read_settings (name ∷ []) are = absurd (false≢true are)
 read_settings (name ∷ value ∷ others) are =
-    let parts = and_both (is_new (option_named name) others) (are_settings others) are in
+    let parts = and_parts (is_new (option_named name) others) (are_settings others) are in
     let rest = read_settings others parts.1 in
     read_pair name value others (option_named name) refl parts.0 rest.0 rest.1

@@ -1,14 +1,11 @@
 -- The change seconds of places, one after the other.
-use Rattle.std.proofs.Common.{◌≡◌, ℕ, ◌<◌, ◌≤◌, List, [], ◌∷◌, ◌++◌, length, sym, ap, subst, arith, ⊎_elim, length-append}
+use Rattle.std.proofs.Common.{◌≡◌, ℕ, ◌<◌, ◌≤◌, List, [], ◌∷◌, ◌++◌, length, sym, subst, arith, ⊎_elim, length-append}
 use Rattle.std.proofs.lemmas.Bool.{cases_lt}
 use Rattle.std.proofs.lemmas.List.{get_or_append_left, get_or_push}
 use Rattle.connections.specs.Networks.{AreChanges}
 
 abbrev Fits : ℕ → Type 0
 Fits x = (1 ≤ x) × (x ≤ 86400)
-
-pub changes-none : (xs : List ℕ) → xs ≡ [] → AreChanges xs
-changes-none xs e p h = absurd (omega (arith, ap length e))
 
 pub changes-next : (old new : List ℕ) (x : ℕ) → AreChanges old → new ≡ old ++ x ∷ [] → 1 ≤ x → x ≤ 86400 → AreChanges new
 changes-next old new x a e least most =

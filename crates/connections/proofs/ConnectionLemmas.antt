@@ -1,12 +1,12 @@
 -- The rides of runs are in order, fit their places and classes, and each run has one.
-use Rattle.std.proofs.Common.{◌≡◌, ℕ, zero, suc, ◌+◌, ◌-◌, ◌<◌, ◌≤◌, ◌⊎◌, inl, inr, ℤ, pos, negsuc, ◌≤ℤ◌, Bool, true, false, List, [], ◌∷◌, ◌++◌, length, map, get_or, slice_index, Some, All, refl}
-use Rattle.std.proofs.Common.{sym, ap, ◌∙◌, subst, arith, ⊎_elim, length-append}
+use Rattle.std.proofs.Common.{◌≡◌, ℕ, suc, ◌+◌, ◌-◌, ◌<◌, ◌≤◌, ◌⊎◌, inl, inr, ℤ, pos, negsuc, ◌≤ℤ◌, List, length, map, get_or, slice_index, Some, All, refl, sym, ap, ◌∙◌, subst, arith, ⊎_elim}
 use Rattle.std.specs.Prelude.{AllPairs, unsigned_abs}
-use Rattle.std.proofs.lemmas.Bool.{cases_lt}
 use Rattle.std.proofs.lemmas.Int.{ints}
-use Rattle.std.proofs.lemmas.List.{get_or_append_left, get_or-append_right, get_or-map, length-map}
-use Rattle.std.proofs.lemmas.List.Elements.{All-push, All-append, All-weaker, All-nil, All-get_or, All-map}
+use Rattle.std.proofs.lemmas.List.{get_or_default, length-map}
+use Rattle.std.proofs.lemmas.List.Elements.{All-weaker, All-get_or, All-map, Contains-get_or}
 use Rattle.plan_model.proofs.Links.{AreLinks-none}
+use Rattle.plan_model.proofs.Lists.{AllPairs-map}
+use Rattle.plan_model.specs.Bounds.{end_of_arrivals, end_of_steps, most_connections}
 use Rattle.plan_model.specs.declared.model.Connection.{Connection}
 use Rattle.plan_model.specs.declared.model.Outcome.{Outcome}
 use Rattle.plan_model.specs.NameLists.{NameLists, IsTrimmed, NamesFit}
@@ -22,81 +22,21 @@ use Rattle.gtfs_tables.specs.Timed.{rows_of, kept_at, AreTimed, IsTimed}
 use Rattle.connections.specs.declared.origins.Origin.{Origin}
 use Rattle.connections.specs.declared.window.Window.{Window}
 use Rattle.connections.specs.declared.runs.Run.{Run}
-use Rattle.connections.specs.Joins.{only_if}
-use Rattle.connections.specs.Window.{holds, IsWindow}
-use Rattle.connections.specs.Rides.{departs, steps_below, steps_of}
+use Rattle.connections.specs.Joins.{join_below}
+use Rattle.connections.specs.Window.{IsWindow}
+use Rattle.connections.specs.Rides.{departs, steps_of}
 use Rattle.connections.specs.TripRuns.{run_at, run_steps}
 use Rattle.connections.specs.Runs.{AreRunsOf, AllRide}
 use Rattle.connections.specs.Networks.{AreChanges, AreRunNames, arrives, ride, run_rides, rides_below, class_of_trip, route_of}
+use Rattle.connections.proofs.JoinLemmas.{All-join, AllPairs-join, Contains-join, join-many}
 use Rattle.connections.proofs.NameLemmas.{names_trimmed}
-use Rattle.connections.proofs.CountLemmas.{rides-zero, rides-suc}
-use Rattle.plan_model.proofs.Lists.{AllPairs-append, AllPairs-nil, AllPairs-one}
-use Rattle.connections.proofs.StepLemmas.{holds_parts, steps-zero, steps-suc}
-use Rattle.plan_model.specs.Bounds.{end_of_arrivals, end_of_steps, most_connections}
+use Rattle.connections.proofs.ReachLemmas.{onward_to}
+use Rattle.connections.proofs.StepLemmas.{IsStep, holds_parts, steps_are, steps_rise}
 
 -- a moment that is not before 1970
 pub not_before : (z : ℤ) → pos 0 ≤ℤ z → pos (unsigned_abs z) ≡ z
 not_before (pos n) h = refl
 not_before (negsuc n) h = absurd (omega (arith, ints, h))
-
-abbrev pub Less : ℕ → ℕ → Type 0
-Less a b = a < b
-
--- a step whose row is left in the window
-pub record IsStep (w : Window) (rows : List StopRow) (o : Origin) (n k : ℕ) : Type 0 where
-  pub inside : k < n
-  pub from : pos w.start ≤ℤ departs rows o k
-  pub to : departs rows o k ≤ℤ pos w.end
-
-module _ (w : Window) (rows : List StopRow) (o : Origin) where
-  one_step : (n : ℕ) (b : Bool) → (b ≡ true → IsStep w rows o (n + 1) n) → All (IsStep w rows o (n + 1)) (only_if b n)
-  one_step n true h = All-push (IsStep w rows o (n + 1)) [] n (All-nil (IsStep w rows o (n + 1))) (h refl)
-  one_step n false h = All-nil (IsStep w rows o (n + 1))
-
-  pairs_of : (n : ℕ) (b : Bool) → AllPairs Less (only_if b n)
-  pairs_of n true = AllPairs-one Less n
-  pairs_of n false = AllPairs-nil Less
-
-  one_at : (n : ℕ) (b : Bool) (j d : ℕ) → j < length (only_if b n) → get_or (only_if b n) j d ≡ n
-  one_at n true j d h = let z : j ≡ 0 = omega arith in ap (λ i. get_or (n ∷ []) i d) z
-  one_at n false j d h = absurd (omega arith)
-
-  step_here : (n : ℕ) → holds w (departs rows o n) ≡ true → IsStep w rows o (n + 1) n
-  step_here n t =
-      let p = holds_parts w (departs rows o n) t in record { inside = omega arith; from = p.0; to = p.1 }
-
-  pub steps_are : (n : ℕ) → All (IsStep w rows o n) (steps_below w rows o n)
-  steps_are zero = subst (All (IsStep w rows o 0)) (sym (steps-zero w rows o)) (All-nil (IsStep w rows o 0))
-  steps_are (suc n) =
-      let e : n + 1 ≡ suc n = omega arith in
-      let xs = steps_below w rows o n in
-      let b = holds w (departs rows o n) in
-      let P : ℕ → Type 0 = λ k. All (IsStep w rows o k) (steps_below w rows o (suc n)) in
-      subst P e (subst (All (IsStep w rows o (n + 1))) (sym (steps-suc w rows o n))
-      (All-append (IsStep w rows o (n + 1)) xs (only_if b n)
-      (All-weaker (IsStep w rows o n) (IsStep w rows o (n + 1)) (λ k s. record { inside = omega (arith, s.inside); from = s.from; to = s.to }) xs (steps_are n))
-      (one_step n b (step_here n))))
-
-  pub steps_rise : (n : ℕ) → AllPairs Less (steps_below w rows o n)
-  steps_rise zero = subst (AllPairs Less) (sym (steps-zero w rows o)) (AllPairs-nil Less)
-  steps_rise (suc n) =
-      let xs = steps_below w rows o n in
-      let b = holds w (departs rows o n) in
-      subst (AllPairs Less) (sym (steps-suc w rows o n))
-      (AllPairs-append Less xs (only_if b n) (steps_rise n) (pairs_of n b) (λ i j d l h.
-      let s = All-get_or (IsStep w rows o n) xs i d l (steps_are n) in omega (arith, s.inside, one_at n b j d h)))
-
--- times do not go back over several rows
-pub onward_to : (rows : List StopRow) (places : ℕ) → AreTimed rows places → (p m : ℕ) → p + suc m < length rows → (kept_at rows (p + 1)).arrival ≤ (kept_at rows (p + suc m)).departure
-onward_to rows places t p zero h =
-    let e : p + 1 ≡ p + suc zero = omega arith in
-    omega (arith, ap (λ k. (kept_at rows k).departure) e, t.forward (p + 1) (omega arith))
-onward_to rows places t p (suc m) h =
-    let e : p + suc m + 1 ≡ p + suc (suc m) = omega arith in
-    let before = onward_to rows places t p m (omega arith) in
-    let next = t.onward (p + suc m) (omega arith) in
-    let same = t.forward (p + suc m + 1) (omega arith) in
-    omega (arith, before, next, same, ap (λ k. (kept_at rows k).departure) e)
 
 -- one stands before the other, and the later one of a run departs when the earlier one has arrived
 abbrev pub Follows : Connection → Connection → Type 0
@@ -112,132 +52,84 @@ pub record IsGood (places classes runs : ℕ) (c : Connection) : Type 0 where
   pub run_in : c.run.0 < runs
 
 module _ (w : Window) (v : IsWindow w) (rows : List StopRow) (places : ℕ) (t : AreTimed rows places) (o : Origin) (number : ℕ) (class : ℕ → ℕ)
-    (classes : ℕ) (few : (arr : ℕ) → class arr < classes) where
+    (classes runs : ℕ) (few : (arr : ℕ) → class arr < classes) (inside : number < runs) where
   abbrev steps : List ℕ
   steps = steps_of w rows o
 
-  good_ride : (k : ℕ) → IsStep w rows o (length rows - 1) k → IsGood places classes (number + 1) (ride rows o number class k)
+  good_ride : (k : ℕ) → IsStep w rows o (length rows - 1) k → IsGood places classes runs (ride rows o number class k)
   good_ride k s =
       let here : k < length rows = omega (arith, s.inside) in
       let next : k + 1 < length rows = omega (arith, s.inside) in
-      let dep = not_before (departs rows o k) (omega (arith, ints, s.from)) in
-      let arr = not_before (arrives rows o k) (omega (arith, ints, s.from, t.onward k next)) in
+      let held = holds_parts w (departs rows o k) s.holding in
+      let dep = not_before (departs rows o k) (omega (arith, ints, held.0)) in
+      let arr = not_before (arrives rows o k) (omega (arith, ints, held.0, t.onward k next)) in
       record {
         forward = omega (arith, ints, dep, arr, t.onward k next);
-        early = omega (arith, ints, arr, s.to, v.late, v.short, t.early (k + 1) next, t.forward (k + 1) next);
+        early = omega (arith, ints, arr, held.1, v.late, v.short, t.early (k + 1) next, t.forward (k + 1) next);
         from_in = t.place k here;
         to_in = t.place (k + 1) next;
         class_in = few (unsigned_abs (arrives rows o k));
         step_in = omega (arith, t.few, next);
-        run_in = omega arith;
+        run_in = inside;
       }
 
-  pub good_rides : All (IsGood places classes (number + 1)) (map (ride rows o number class) steps)
-  good_rides = All-map (IsGood places classes (number + 1)) (ride rows o number class) steps
-      (All-weaker (IsStep w rows o (length rows - 1)) (λ k. IsGood places classes (number + 1) (ride rows o number class k)) good_ride steps (steps_are w rows o (length rows - 1)))
+  pub good_rides : All (IsGood places classes runs) (map (ride rows o number class) steps)
+  good_rides = All-map (IsGood places classes runs) (ride rows o number class) steps
+      (All-weaker (IsStep w rows o (length rows - 1)) (λ k. IsGood places classes runs (ride rows o number class k)) good_ride steps (steps_are w rows o
+          (length rows - 1)))
 
   follow : (a b : ℕ) → a < b → IsStep w rows o (length rows - 1) a → IsStep w rows o (length rows - 1) b → Follows (ride rows o number class a) (ride rows o number class b)
   follow a b l s h =
       let e : a + suc (b - a - 1) ≡ b = omega arith in
       let on = onward_to rows places t a (b - a - 1) (omega (arith, h.inside)) in
-      let arr = not_before (arrives rows o a) (omega (arith, ints, s.from, t.onward a (omega (arith, s.inside)))) in
-      let dep = not_before (departs rows o b) (omega (arith, ints, h.from)) in
+      let arr = not_before (arrives rows o a) (omega (arith, ints, (holds_parts w (departs rows o a) s.holding).0, t.onward a (omega (arith, s.inside)))) in
+      let dep = not_before (departs rows o b) (omega (arith, ints, (holds_parts w (departs rows o b) h.holding).0)) in
       inr (refl, l, omega (arith, ints, arr, dep, on, ap (λ k. (kept_at rows k).departure) e))
 
   pub rides_follow : AllPairs Follows (map (ride rows o number class) steps)
-  rides_follow i j d l h =
-      let f = ride rows o number class in
-      let size = length-map steps f in
-      let j' : j < length steps = omega (arith, size) in
-      let i' : i < length steps = omega arith in
-      let a = get_or steps i 0 in let b = get_or steps j 0 in
-      let P : Connection → Type 0 = λ x. Follows x (get_or (map f steps) j d) in
-      subst P (sym (get_or-map f steps i 0 d i'))
-      (subst (Follows (f a)) (sym (get_or-map f steps j 0 d j'))
-      (follow a b (steps_rise w rows o (length rows - 1) i j 0 l j')
-      (All-get_or (IsStep w rows o (length rows - 1)) steps i 0 i' (steps_are w rows o (length rows - 1)))
-      (All-get_or (IsStep w rows o (length rows - 1)) steps j 0 j' (steps_are w rows o (length rows - 1)))))
+  rides_follow = AllPairs-map (ride rows o number class) Follows steps (λ i j d l h.
+      let are = steps_are w rows o (length rows - 1) in
+      follow (get_or steps i d) (get_or steps j d) (steps_rise w rows o (length rows - 1) i j d l h)
+      (All-get_or (IsStep w rows o (length rows - 1)) steps i d (omega arith) are) (All-get_or (IsStep w rows o (length rows - 1)) steps j d h are))
 
--- the connections of the first n runs
-pub record AreGood (f : FeedParts) (w : Window) (rs : List Run) (places classes n : ℕ) (cs : List Connection) : Type 0 where
-  pub good : All (IsGood places classes n) cs
+-- the connections of runs
+pub record AreGood (places classes runs : ℕ) (cs : List Connection) : Type 0 where
+  pub good : All (IsGood places classes runs) cs
   pub order : AllPairs Follows cs
-  pub each : (r : ℕ) (d : Connection) → r < n → (j : ℕ) × (j < length cs) × ((get_or cs j d).run.0 ≡ r)
-  pub many : n ≤ length cs
+  pub each : (r : ℕ) (d : Connection) → r < runs → (j : ℕ) × (j < length cs) × ((get_or cs j d).run.0 ≡ r)
+  pub many : runs ≤ length cs
 
 module _ (f : FeedParts) (delays : DelayLists) (w : Window) (v : IsWindow w) (timed : IsTimed f) (rs : List Run) (runs : AreRunsOf f rs) (classes : ℕ)
-    (few : (trip arr : ℕ) → class_of_trip f delays trip arr < classes) (some : (r : ℕ) → r < length rs → 0 < length (run_steps f w (run_at rs r))) where
-  abbrev places : ℕ
-  places = length f.stop_ids
-
-  own : (n : ℕ) → n < length rs
-      → All (IsGood places classes (n + 1)) (run_rides f delays w rs n) × AllPairs Follows (run_rides f delays w rs n) × (length (run_rides f delays w rs n) ≡ length (run_steps f w (run_at rs n)))
+    (few : (trip arr : ℕ) → class_of_trip f delays trip arr < classes) (some : AllRide f w rs) where
+  own : (n : ℕ) → n < length rs → All (IsGood (length f.stop_ids) classes (length rs)) (run_rides f delays w rs n) × AllPairs Follows
+      (run_rides f delays w rs n)
+      × All (λ c. c.run.0 ≡ n) (run_rides f delays w rs n) × (0 < length (run_rides f delays w rs n))
   unfolding run_rides
   own n h =
       let run = run_at rs n in
       let t = timed run.trip (runs.each n h).trip in
-      let class = class_of_trip f delays run.trip in (
-        good_rides w v (rows_of f run.trip) places t run.origin n class classes (few run.trip),
-        rides_follow w v (rows_of f run.trip) places t run.origin n class classes (few run.trip),
-        length-map (run_steps f w run) (ride (rows_of f run.trip) run.origin n class),
+      let class = class_of_trip f delays run.trip in
+      let made = ride (rows_of f run.trip) run.origin n class in (
+        good_rides w v (rows_of f run.trip) (length f.stop_ids) t run.origin n class classes (length rs) (few run.trip) h,
+        rides_follow w v (rows_of f run.trip) (length f.stop_ids) t run.origin n class classes (length rs) (few run.trip) h,
+        All-map (λ (c : Connection). c.run.0 ≡ n) made (run_steps f w run) (λ k d l. refl),
+        omega (arith, length-map (run_steps f w run) made, some n h),
       )
 
-  own_run : (n j : ℕ) (d : Connection) → n < length rs → j < length (run_rides f delays w rs n) → (get_or (run_rides f delays w rs n) j d).run.0 ≡ n
-  unfolding run_rides
-  own_run n j d h l =
-      let run = run_at rs n in
-      let g = ride (rows_of f run.trip) run.origin n (class_of_trip f delays run.trip) in
-      let size = length-map (run_steps f w run) g in
-      ap (λ c. c.run.0) (get_or-map g (run_steps f w run) j 0 d (omega (arith, size)))
-
-  own_here : (n r : ℕ) (d : Connection) → n < length rs → n ≡ r → (m : ℕ) → 0 < length (run_rides f delays w rs n) → m ≡ 0 → (get_or (run_rides f delays w rs n) m d).run.0 ≡ r
-  own_here n r d h e m l z = let P : ℕ → Type 0 = λ j. (get_or (run_rides f delays w rs n) j d).run.0 ≡ r in subst P (sym z) (own_run n 0 d h l ∙ e)
-
-  add : (n : ℕ) (cs : List Connection) → n < length rs → AreGood f w rs places classes n cs → AreGood f w rs places classes (n + 1) (cs ++ run_rides f delays w rs n)
-  add n cs h a =
-      let ds = run_rides f delays w rs n in
-      let o = own n h in
-      let size = length-append cs ds in
-      let has = some n h in
+  pub all_good : AreGood (length f.stop_ids) classes (length rs) (rides_below f delays w rs (length rs))
+  unfolding rides_below
+  all_good =
+      let all = run_rides f delays w rs in
       record {
-        good = All-append (IsGood places classes (n + 1)) cs ds
-            (All-weaker (IsGood places classes n) (IsGood places classes (n + 1)) (λ c g. record {
-              forward = g.forward;
-              early = g.early;
-              from_in = g.from_in;
-              to_in = g.to_in;
-              class_in = g.class_in;
-              step_in = g.step_in;
-              run_in = omega (arith, g.run_in);
-            }) cs a.good)
-            o.0;
-        order = AllPairs-append Follows cs ds a.order o.1 (λ i j d l k. inl (omega (arith, (All-get_or (IsGood places classes n) cs i d l a.good).run_in, own_run n j d h k)));
-        each = λ r d l.
-            ⊎_elim (λ (less : r < n).
-            let x = a.each r d less in
-            (x.0, omega (arith, size, x.1), ap (λ c. c.run.0) (get_or_append_left cs ds d x.0 x.1) ∙ x.2))
-            (λ (from : n ≤ r). (
-              length cs,
-              omega (arith, size, o.2, has),
-              ap (λ c. c.run.0) (get_or-append_right cs ds (length cs) (length cs) d refl (omega arith))
-                  ∙ own_here n r d h (omega arith) (length cs - length cs) (omega (arith, o.2, has)) (omega arith),
-            ))
-            (cases_lt r n);
-        many = omega (arith, a.many, size, o.2, has);
+        good = All-join (IsGood (length f.stop_ids) classes (length rs)) all (length rs) (λ n h. (own n h).0);
+        order = AllPairs-join Follows (λ n c. c.run.0 ≡ n) all (length rs) (λ n h. (own n h).2) (λ n h. (own n h).1) (λ i j x y l h a b. inl (omega
+            (arith, l, a, b)));
+        each = λ r d h.
+            let x = Contains-join all (length rs) r (get_or (all r) 0 d) h (Contains-get_or (all r) 0 d (own r h).3) in
+            (x.0, x.1, ap (λ (c : Connection). c.run.0) (get_or_default (join_below all (length rs)) x.0 d _ x.1 ∙ x.2)
+                ∙ All-get_or (λ (c : Connection). c.run.0 ≡ r) (all r) 0 d (own r h).3 (own r h).2);
+        many = join-many all (length rs) (λ n h. (own n h).3);
       }
-
-  pub all_good : (n : ℕ) → n ≤ length rs → AreGood f w rs places classes n (rides_below f delays w rs n)
-  all_good zero h =
-      subst (AreGood f w rs places classes 0) (sym (rides-zero f delays w rs)) (record {
-        good = All-nil (IsGood places classes 0);
-        order = AllPairs-nil Follows;
-        each = λ r d l. absurd (omega arith);
-        many = omega arith;
-      })
-  all_good (suc n) h =
-      let e : n + 1 ≡ suc n = omega arith in
-      let P : ℕ → Type 0 = λ k. AreGood f w rs places classes k (rides_below f delays w rs (suc n)) in
-      subst P e (subst (AreGood f w rs places classes (n + 1)) (sym (rides-suc f delays w rs n)) (add n (rides_below f delays w rs n) (omega arith) (all_good n (omega arith))))
 
 -- what the parts of a network are made of
 module _ (f : FeedParts) (d : DelayLists) (delays : AreDelays d) (w : Window) (v : IsWindow w) (timed : IsTimed f) (rs : List Run) (runs : AreRunsOf f rs) (some : AllRide f w rs)
@@ -249,8 +141,8 @@ module _ (f : FeedParts) (d : DelayLists) (delays : AreDelays d) (w : Window) (v
   class_few : (trip arr : ℕ) → class_of_trip f d trip arr < length d.classes
   class_few trip arr = class_for-inside d delays (Some (slice_index f.route_types trip)) (Some (route_of f trip)) arr
 
-  good : AreGood f w rs (length f.stop_ids) (length d.classes) (length rs) cs
-  good = all_good f d w v timed rs runs (length d.classes) class_few some (length rs) (omega arith)
+  good : AreGood (length f.stop_ids) (length d.classes) (length rs) cs
+  good = all_good f d w v timed rs runs (length d.classes) class_few some
 
   valid_here : IsValid (plain_network cs change d.classes)
   unfolding connection change_of row_of

@@ -1,16 +1,12 @@
 -- How many rides runs have, and their rides, run by run.
-use Rattle.std.proofs.Common.{◌≡◌, ℕ, zero, suc, ◌+◌, ◌<◌, ◌≤◌, ◌&&◌, Bool, true, false, List, [], ◌∷◌, ◌++◌, length, map, take, get_or, All, if◌then◌else◌, refl, sym, ap, ◌∙◌, arith, add-one}
-use Rattle.std.proofs.Common.{length-append}
+use Rattle.std.proofs.Common.{◌≡◌, ℕ, zero, suc, ◌+◌, ◌≤◌, ◌&&◌, Bool, true, false, List, [], ◌∷◌, length, map, take, get_or, if◌then◌else◌, refl, sym, ap, ◌∙◌, arith, add-one, length-append}
 use Rattle.std.specs.Prelude.{sum_by, nat_lt}
 use mathlib.Core.Path.{fun_ext}
-use Rattle.std.proofs.lemmas.Bool.Decides.{nat_tests}
-use Rattle.std.proofs.lemmas.List.{length-map, take_all, take_more}
-use Rattle.std.proofs.lemmas.List.Elements.{All-nil, All-cons, All-head, All-tail, All-map, All-weaker}
-use Rattle.std.proofs.lemmas.List.Sums.{sum_by-append, sum_by-cons}
-use Rattle.plan_model.specs.declared.model.Connection.{Connection}
+use Rattle.std.proofs.lemmas.Bool.{lt-ltb}
+use Rattle.std.proofs.lemmas.List.{length-map, take_all}
+use Rattle.std.proofs.lemmas.List.Sums.{sum_by-append, sum_by-cons, sum_by_more}
 use Rattle.delay_table.specs.DelayLists.{DelayLists}
 use Rattle.trip_frequencies.specs.declared.frequencies.FrequencyRow.{FrequencyRow}
-use Rattle.stop_times.specs.declared.rows.StopRow.{StopRow}
 use Rattle.gtfs_tables.specs.Feeds.{FeedParts}
 use Rattle.gtfs_tables.specs.Repeats.{repeat_at}
 use Rattle.gtfs_tables.specs.Timed.{rows_of}
@@ -22,10 +18,10 @@ use Rattle.connections.specs.declared.runs.Run.{Run}
 use Rattle.connections.specs.Joins.{join_below, only_if, sum_below}
 use Rattle.connections.specs.Origins.{origin_of_day}
 use Rattle.connections.specs.Window.{day_at}
-use Rattle.connections.specs.Rides.{is_active_trip, rides, steps_of}
+use Rattle.connections.specs.Rides.{is_active_trip, steps_of}
 use Rattle.connections.specs.Repeats.{origin_at, riding_by, riding_of, in_order}
 use Rattle.connections.specs.TripRuns.{frequencies_of, own_run, repeat_run, runs_of_trip, trip_runs, day_runs, runs_below, window_runs, run_at, no_run, run_steps}
-use Rattle.connections.specs.Counts.{steps_sum, rows_sum, runs_sum, trip_sum, day_sum, days_sum, count_in}
+use Rattle.connections.specs.Counts.{steps_sum, rows_sum, runs_sum, day_sum, days_sum, count_in}
 use Rattle.connections.specs.Networks.{ride, run_rides, rides_below, class_of_trip}
 use Rattle.connections.proofs.JoinLemmas.{join-zero, join-suc}
 use Rattle.connections.proofs.OrderLemmas.{in_order_sum}
@@ -41,6 +37,9 @@ sum-suc f n = refl
 pub sum-next : (f : ℕ → ℕ) (n : ℕ) → sum_below f (n + 1) ≡ sum_below f n + f n
 sum-next f n = rw add-one (sum-suc f n)
 
+-- the start and the step of a loop that adds up
+pub ruleset sum_steps = (sum-zero, sum-next)
+
 -- ones add up to their number
 pub sum_by-ones : {A : Type 0} (xs : List A) → sum_by (λ x. 1) xs ≡ length xs
 sum_by-ones {A} [] = refl
@@ -48,23 +47,19 @@ sum_by-ones {A} (x ∷ xs) = omega (arith, sum_by-cons (λ (y : A). 1) x xs, sum
 
 pub sum_by-join : {A : Type 0} (g : A → ℕ) (f : ℕ → List A) (n : ℕ) → sum_by g (join_below f n) ≡ sum_below (λ i. sum_by g (f i)) n
 sum_by-join g f zero = ap (sum_by g) (join-zero f) ∙ sym (sum-zero (λ i. sum_by g (f i)))
-sum_by-join g f (suc n) =
-    ap (sum_by g) (join-suc f n) ∙ sum_by-append g (join_below f n) (f n) ∙ ap (λ k. k + sum_by g (f n)) (sum_by-join g f n) ∙ sym (sum-suc (λ i. sum_by g (f i)) n)
+sum_by-join g f (suc n) = omega (arith, ap (sum_by g) (join-suc f n), sum_by-append g (join_below f n) (f n), sum_by-join g f n, sum-suc (λ i. sum_by g
+    (f i)) n)
 
-length-join : {A : Type 0} (f : ℕ → List A) (n : ℕ) → length (join_below f n) ≡ sum_below (λ i. length (f i)) n
-length-join f zero = ap length (join-zero f) ∙ sym (sum-zero (λ i. length (f i)))
-length-join f (suc n) =
-    ap length (join-suc f n) ∙ length-append (join_below f n) (f n) ∙ ap (λ k. k + length (f n)) (length-join f n) ∙ sym (sum-suc (λ i. length (f i)) n)
+pub length-join : {A : Type 0} (f : ℕ → List A) (n : ℕ) → length (join_below f n) ≡ sum_below (λ i. length (f i)) n
+length-join f zero = omega (arith, ap length (join-zero f), sum-zero (λ i. length (f i)))
+length-join f (suc n) = omega (arith, ap length (join-suc f n), length-append (join_below f n) (f n), length-join f n, sum-suc (λ i. length (f i)) n)
 
 -- a list by its positions
 sum_by-take : {A : Type 0} (g : A → ℕ) (d : A) (xs : List A) (n : ℕ) → n ≤ length xs → sum_by g (take n xs) ≡ sum_below (λ i. g (get_or xs i d)) n
 sum_by-take g d xs zero h = sym (sum-zero (λ i. g (get_or xs i d)))
 sum_by-take g d xs (suc n) h =
-    let x = get_or xs n d in
-    let more : take (suc n) xs ≡ take n xs ++ x ∷ [] = rw (← add-one) (take_more xs n d (omega arith)) in
-    let one : sum_by g (x ∷ []) ≡ g x = omega arith in
-    ap (sum_by g) more ∙ sum_by-append g (take n xs) (x ∷ []) ∙ ap (λ k. sum_by g (take n xs) + k) one
-    ∙ ap (λ k. k + g x) (sum_by-take g d xs n (omega arith)) ∙ sym (sum-suc (λ i. g (get_or xs i d)) n)
+    let e : suc n ≡ n + 1 = omega arith in
+    omega (arith, ap (λ k. sum_by g (take k xs)) e, sum_by_more g xs n d (omega arith), sum_by-take g d xs n (omega arith), sum-suc (λ i. g (get_or xs i d)) n)
 
 pub sum_by-at : {A : Type 0} (g : A → ℕ) (d : A) (xs : List A) → sum_by g xs ≡ sum_below (λ i. g (get_or xs i d)) (length xs)
 sum_by-at g d xs = ap (sum_by g) (sym (take_all (length xs) xs (omega arith))) ∙ sum_by-take g d xs (length xs) (omega arith)
@@ -74,7 +69,7 @@ pub sum-rides : {A : Type 0} (is : Bool) (each : ℕ → ℕ) (steps : List ℕ)
     → sum_by g (only_if (is && nat_lt 0 (length steps)) x) ≡ (if is then sum_by each steps else 0)
 sum-rides true each [] g x e = refl
 sum-rides true each (k ∷ steps) g x e =
-    let some : nat_lt 0 (length (k ∷ steps)) ≡ true = let h : 0 < length (k ∷ steps) = omega arith in grind (arith, nat_tests) in
+    let some : nat_lt 0 (length (k ∷ steps)) ≡ true = lt-ltb 0 (length (k ∷ steps)) (omega arith) in
     let one : sum_by g (x ∷ []) ≡ g x = omega arith in
     ap (λ b. sum_by g (only_if (true && b) x)) some ∙ one ∙ e
 sum-rides false each steps g x e = refl
@@ -83,64 +78,34 @@ sum_by-map : {A B : Type 0} (g : B → ℕ) (f : A → B) (xs : List A) → sum_
 sum_by-map g f [] = refl
 sum_by-map g f (x ∷ xs) = omega (arith, sum_by-cons g (f x) (map f xs), sum_by-cons (λ y. g (f y)) x xs, sum_by-map g f xs)
 
-module _ (w : Window) (rows : List StopRow) (day : ServiceDay) (trip : ℕ) where
-  -- how many rides a run of the trip has
-  abbrev ridden : Run → ℕ
-  ridden run = length (steps_of w rows run.origin)
-
-  own_counted : sum_by ridden (only_if (rides w rows (origin_of_day day)) (own_run day trip)) ≡ steps_sum (λ place. 1) w rows (origin_of_day day)
-  own_counted = sum-rides true (λ k. 1) (steps_of w rows (origin_of_day day)) ridden (own_run day trip) (sym (sum_by-ones (steps_of w rows (origin_of_day day))))
-
-  repeats_counted : (fs : List FrequencyRow) → sum_by ridden (map (repeat_run rows day trip) (in_order (riding_of w rows day fs))) ≡ rows_sum (λ place. 1) w rows day fs (length fs)
-  unfolding riding_of rows_sum
-  repeats_counted fs =
-      let each : Repeat → ℕ = λ r. steps_sum (λ place. 1) w rows (origin_at rows day r.departure) in
-      sum_by-map ridden (repeat_run rows day trip) (in_order (riding_of w rows day fs))
-      ∙ ap (λ (g : Repeat → ℕ). sum_by g (in_order (riding_of w rows day fs))) (fun_ext (λ r. sym (sum_by-ones (steps_of w rows (origin_at rows day r.departure)))))
-      ∙ in_order_sum each (riding_of w rows day fs)
-      ∙ sum_by-join each (λ i. riding_by w rows day (repeat_at fs i)) (length fs)
-
-  pub runs_counted : (fs : List FrequencyRow) → sum_by ridden (runs_of_trip w rows fs day trip) ≡ runs_sum (λ place. 1) w rows fs day
-  runs_counted [] = own_counted
-  runs_counted (row ∷ more) = repeats_counted (row ∷ more)
-
-  only_of_trip : (b : Bool) → All (λ (run : Run). run.trip ≡ trip) (only_if b (own_run day trip))
-  only_of_trip true = All-cons (λ (run : Run). run.trip ≡ trip) (own_run day trip) [] refl (All-nil (λ (run : Run). run.trip ≡ trip))
-  only_of_trip false = All-nil (λ (run : Run). run.trip ≡ trip)
-
-  -- each run is of the trip
-  pub of_trip : (fs : List FrequencyRow) → All (λ (run : Run). run.trip ≡ trip) (runs_of_trip w rows fs day trip)
-  of_trip [] = only_of_trip (rides w rows (origin_of_day day))
-  of_trip (row ∷ more) = All-map (λ (run : Run). run.trip ≡ trip) (repeat_run rows day trip) (in_order (riding_of w rows day (row ∷ more))) (λ k d h. refl)
-
--- equal numbers add up to the same
-sum_by-all : {A : Type 0} (g h : A → ℕ) (xs : List A) → All (λ x. g x ≡ h x) xs → sum_by g xs ≡ sum_by h xs
-sum_by-all g h [] e = refl
-sum_by-all g h (x ∷ xs) e =
-    omega (arith, sum_by-cons g x xs, sum_by-cons h x xs, All-head (λ y. g y ≡ h y) x xs e, sum_by-all g h xs (All-tail (λ y. g y ≡ h y) x xs e))
-
 sum-where : {A : Type 0} (active : Bool) (g : A → ℕ) (xs : List A) (n : ℕ) → sum_by g xs ≡ n → sum_by g (if active then xs else []) ≡ (if active then n else 0)
 sum-where true g xs n e = e
 sum-where false g xs n e = refl
 
 module _ (f : FeedParts) (s : ServiceParts) (d : DelayLists) (w : Window) where
+  -- how many rides a run has
   abbrev own : Run → ℕ
   own run = length (run_steps f w run)
 
-  by_trip : (day : ServiceDay) (trip : ℕ) → sum_by own (trip_runs f s w day trip) ≡ trip_sum (λ place. 1) f s w day trip
-  by_trip day trip =
-      let rs = runs_of_trip w (rows_of f trip) (frequencies_of f trip) day trip in
-      sum-where (is_active_trip f s day trip) own rs (runs_sum (λ place. 1) w (rows_of f trip) (frequencies_of f trip) day)
-      (sum_by-all own (ridden w (rows_of f trip) day trip) rs
-      (All-weaker (λ (run : Run). run.trip ≡ trip) (λ (run : Run). own run ≡ ridden w (rows_of f trip) day trip run)
-      (λ run e. ap (λ k. length (steps_of w (rows_of f k) run.origin)) e) rs (of_trip w (rows_of f trip) day trip (frequencies_of f trip)))
-      ∙ runs_counted w (rows_of f trip) day trip (frequencies_of f trip))
+  of_runs : (day : ServiceDay) (trip : ℕ) (fs : List FrequencyRow) → sum_by own (runs_of_trip w (rows_of f trip) fs day trip) ≡ runs_sum (λ place. 1) w
+      (rows_of f trip) fs day
+  unfolding riding_of rows_sum
+  of_runs day trip [] =
+      let steps = steps_of w (rows_of f trip) (origin_of_day day) in
+      sum-rides true (λ k. 1) steps own (own_run day trip) (sym (sum_by-ones steps))
+  of_runs day trip (row ∷ more) =
+      let rows = rows_of f trip in let fs = row ∷ more in
+      let each : Repeat → ℕ = λ r. steps_sum (λ place. 1) w rows (origin_at rows day r.departure) in
+      sum_by-map own (repeat_run rows day trip) (in_order (riding_of w rows day fs))
+      ∙ ap (λ (g : Repeat → ℕ). sum_by g (in_order (riding_of w rows day fs))) (fun_ext (λ r. sym (sum_by-ones (steps_of w rows (origin_at rows day r.departure)))))
+      ∙ in_order_sum each (riding_of w rows day fs)
+      ∙ sum_by-join each (λ i. riding_by w rows day (repeat_at fs i)) (length fs)
 
   by_day : (day : ServiceDay) (n : ℕ) → sum_by own (day_runs f s w day n) ≡ day_sum (λ place. 1) f s w day n
   unfolding day_runs day_sum
   by_day day n =
       sum_by-join own (trip_runs f s w day) n
-      ∙ ap (λ (g : ℕ → ℕ). sum_below g n) (fun_ext (by_trip day))
+      ∙ ap (λ (g : ℕ → ℕ). sum_below g n) (fun_ext (λ trip. sum-where (is_active_trip f s day trip) own _ _ (of_runs day trip (frequencies_of f trip))))
 
   by_days : (n : ℕ) → sum_by own (runs_below f s w n) ≡ days_sum (λ place. 1) f s w n
   unfolding runs_below days_sum
@@ -148,38 +113,11 @@ module _ (f : FeedParts) (s : ServiceParts) (d : DelayLists) (w : Window) where
       sum_by-join own (λ d. day_runs f s w (day_at w d) (length f.trip_ids)) n
       ∙ ap (λ (g : ℕ → ℕ). sum_below g n) (fun_ext (λ d. by_day (day_at w d) (length f.trip_ids)))
 
-  own_length : (rs : List Run) (r : ℕ) → length (run_rides f d w rs r) ≡ own (run_at rs r)
-  unfolding run_rides
-  own_length rs r = length-map (run_steps f w (run_at rs r)) (ride (rows_of f (run_at rs r).trip) (run_at rs r).origin r (class_of_trip f d (run_at rs r).trip))
-
   -- the rides of all runs are as many as the sum tells
   pub rides_counted : (rs : List Run) → rs ≡ window_runs f s w → length (rides_below f d w rs (length rs)) ≡ count_in f s w
-  unfolding rides_below
+  unfolding rides_below run_rides
   rides_counted rs e =
       length-join (run_rides f d w rs) (length rs)
-      ∙ ap (λ (g : ℕ → ℕ). sum_below g (length rs)) (fun_ext (own_length rs))
-      ∙ sym (sum_by-at own no_run rs)
-      ∙ ap (sum_by own) e
-      ∙ by_days 18
-
-pub rides-zero : (f : FeedParts) (d : DelayLists) (w : Window) (rs : List Run) → rides_below f d w rs 0 ≡ []
-unfolding rides_below
-rides-zero f d w rs = join-zero (run_rides f d w rs)
-
-pub rides-suc : (f : FeedParts) (d : DelayLists) (w : Window) (rs : List Run) (n : ℕ) → rides_below f d w rs (suc n) ≡ rides_below f d w rs n ++ run_rides f d w rs n
-unfolding rides_below
-rides-suc f d w rs n = join-suc (run_rides f d w rs) n
-
--- the rides of one more run
-pub rides-next : (f : FeedParts) (d : DelayLists) (w : Window) (rs : List Run) (n : ℕ) (class : ℕ → ℕ) (rows : List StopRow) (old new : List Connection)
-    → old ≡ rides_below f d w rs n → rows ≡ rows_of f (run_at rs n).trip → class ≡ class_of_trip f d (run_at rs n).trip
-    → new ≡ old ++ map (ride rows (run_at rs n).origin n class) (steps_of w rows (run_at rs n).origin) → new ≡ rides_below f d w rs (n + 1)
-unfolding run_rides
-rides-next f d w rs n class rows old new e same same' h =
-    let o = (run_at rs n).origin in
-    let more : rides_below f d w rs (n + 1) ≡ rides_below f d w rs n ++ run_rides f d w rs n = rw add-one (rides-suc f d w rs n) in
-    h
-    ∙ ap (λ (xs : List Connection). xs ++ map (ride rows o n class) (steps_of w rows o)) e
-    ∙ ap (λ (xs : List StopRow). rides_below f d w rs n ++ map (ride xs o n class) (steps_of w xs o)) same
-    ∙ ap (λ (k : ℕ → ℕ). rides_below f d w rs n ++ map (ride (rows_of f (run_at rs n).trip) o n k) (run_steps f w (run_at rs n))) same'
-    ∙ sym more
+      ∙ ap (λ (g : ℕ → ℕ). sum_below g (length rs)) (fun_ext (λ r. length-map (run_steps f w (run_at rs r))
+      (ride (rows_of f (run_at rs r).trip) (run_at rs r).origin r (class_of_trip f d (run_at rs r).trip))))
+      ∙ sym (sum_by-at own no_run rs) ∙ ap (sum_by own) e ∙ by_days 18

@@ -4,8 +4,6 @@ pub mod OrderLemmas
 pub mod CountLemmas
 pub mod SumLemmas
 pub mod LinkLemmas
-pub mod FaultLemmas
-pub mod DayLemmas
 pub mod DateLemmas
 pub mod NameLemmas
 pub mod RunLemmas

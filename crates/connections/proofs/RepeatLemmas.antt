@@ -1,11 +1,10 @@
 -- The runs of a row of frequencies that ride in a window, gathered from the last kept row to the first.
-use Rattle.std.proofs.Common.{◌≡◌, ℕ, ℤ, pos, zero, suc, ◌+◌, ◌-◌, ◌*◌, ◌<◌, ◌≤◌, ◌<ℤ◌, ◌≤ℤ◌, max, nat_lt, nat_le, Bool, true, false, List, [], ◌++◌, length, All, refl, sym, ap, ◌∙◌, subst, arith}
+use Rattle.std.proofs.Common.{◌≡◌, ℕ, ℤ, pos, suc, ◌+◌, ◌-◌, ◌*◌, ◌<◌, ◌≤◌, ◌<ℤ◌, ◌≤ℤ◌, max, nat_lt, nat_le, Bool, true, false, List, ◌++◌, length, All, refl, sym, ap, ◌∙◌, arith}
 use Rattle.std.proofs.Common.{⊎_elim, if◌then◌else◌}
 use Rattle.std.specs.Prelude.{AllPairs}
 use Rattle.std.proofs.Math.Nat.{le-mul_of_pos_right, mul-le-mul_right, suc-mul}
 use Rattle.std.proofs.lemmas.Bool.{cases_lt, false_from_ne_true, and_parts, and_from, lt-leb, le-ltb, leb-true, ltb-true, le-leb, lt-ltb}
 use Rattle.std.proofs.lemmas.Int.{ints, by_lt_z}
-use Rattle.std.proofs.lemmas.List.Elements.{All-nil, All-cons, All-get_or}
 use Rattle.csv_rows.specs.Lists.{list_below}
 use Rattle.trip_frequencies.specs.declared.frequencies.FrequencyRow.{FrequencyRow}
 use Rattle.stop_times.specs.declared.rows.StopRow.{StopRow}
@@ -14,18 +13,16 @@ use Rattle.trip_frequencies.specs.Frequencies.{no_frequency}
 use Rattle.gtfs_tables.specs.Repeats.{IsFrequency, AreRepeats, repeat_at}
 use Rattle.run_repeat.specs.Runs.{AreBelow, IsRunOf, departure}
 use Rattle.connections.specs.declared.origins.ServiceDay.{ServiceDay}
-use Rattle.connections.specs.declared.origins.Origin.{Origin}
 use Rattle.connections.specs.declared.repeats.Repeat.{Repeat}
 use Rattle.connections.specs.declared.window.Window.{Window}
 use Rattle.connections.specs.Joins.{join_below, only_if}
 use Rattle.connections.specs.Window.{holds}
-use Rattle.connections.specs.Rides.{AreDepartures, departs, rides, steps_below}
+use Rattle.connections.specs.Rides.{AreDepartures, departs, rides}
 use Rattle.connections.specs.Repeats.{repeat_of, origin_at, rides_by, riding_by, riding_of, in_order}
-use Rattle.connections.proofs.JoinLemmas.{join-zero, join-suc, join-same, join-rest, join-on, All-join}
+use Rattle.connections.proofs.JoinLemmas.{join-same, join-rest, join-on, All-join, AllPairs-join, All-only_if, AllPairs-only_if}
 use Rattle.connections.proofs.OrderLemmas.{Differ, All-in_order}
-use Rattle.plan_model.proofs.Lists.{AllPairs-append, AllPairs-nil, AllPairs-one}
 use Rattle.connections.proofs.ReachLemmas.{rides_true}
-use Rattle.connections.proofs.StepLemmas.{holds_parts, steps-zero, length-next}
+use Rattle.connections.proofs.StepLemmas.{holds_parts, some_ride}
 
 same_bool : (a b : Bool) → (a ≡ true → b ≡ true) → (b ≡ true → a ≡ true) → a ≡ b
 same_bool true b h k = sym (h refl)
@@ -34,20 +31,6 @@ same_bool false false h k = refl
 
 pub holds_in : (w : Window) (moment : ℤ) → pos w.start ≤ℤ moment → moment ≤ℤ pos w.end → holds w moment ≡ true
 holds_in w moment h k = grind (arith, ints)
-
-some_or : (w : Window) (rows : List StopRow) (o : Origin) (n : ℕ) (b : Bool) → b ≡ holds w (departs rows o n)
-    → (0 < length (steps_below w rows o n) → (j : ℕ) × (j < n) × (holds w (departs rows o j) ≡ true))
-    → 0 < length (steps_below w rows o n) + length (only_if b n) → (j : ℕ) × (j < suc n) × (holds w (departs rows o j) ≡ true)
-some_or w rows o n true e before h = (n, omega arith, sym e)
-some_or w rows o n false e before h = let x = before (omega (arith, h)) in (x.0, omega (arith, x.1), x.2)
-
--- a run that rides leaves some kept row in the window
-pub some_ride : (w : Window) (rows : List StopRow) (o : Origin) (n : ℕ) → 0 < length (steps_below w rows o n) → (j : ℕ) × (j < n) × (holds w (departs rows o j) ≡ true)
-some_ride w rows o zero h = absurd (omega (arith, h, ap length (steps-zero w rows o)))
-some_ride w rows o (suc n) h =
-    let e : suc n ≡ n + 1 = omega arith in
-    let size = ap (λ k. length (steps_below w rows o k)) e ∙ length-next w rows o n (holds w (departs rows o n)) refl in
-    some_or w rows o n (holds w (departs rows o n)) refl (some_ride w rows o n) (omega (arith, size, h))
 
 -- the first runs of a row that are taken
 abbrev pub taken_runs : FrequencyRow → (ℕ → Bool) → ℕ → List Repeat
@@ -161,7 +144,7 @@ module _ (w : Window) (rows : List StopRow) (day : ServiceDay) (row : FrequencyR
       found m h =
           let p = and_parts (nat_lt (departure row m) row.end) (rides w rows (origin_at rows day (departure row m))) h in
           let x = some_ride w rows (origin_at rows day (departure row m)) (length rows - 1) (ltb-true 0 _ p.1) in
-          t.all m x.0 (omega arith) x.1 (ltb-true (departure row m) row.end p.0) x.2
+          t.all m x.0 (omega arith) x.1.inside (ltb-true (departure row m) row.end p.0) x.1.holding
 
       pub all_taken : taken_runs row taken next ≡ riding_by w rows day row
       unfolding riding_by
@@ -174,20 +157,13 @@ module _ (w : Window) (rows : List StopRow) (day : ServiceDay) (row : FrequencyR
           ∙ sym (join-rest own next rest (λ m ge. ap (λ b. only_if b (repeat_of row m)) (false_from_ne_true (rides_by w rows day row m) (λ r. omega (arith, (found m r).0, ge)))))
           ∙ ap (join_below own) e
 
-one_all : (P : Repeat → Type 0) (b : Bool) (r : Repeat) → (b ≡ true → P r) → All P (only_if b r)
-one_all P true r h = All-cons P r [] (h refl) (All-nil P)
-one_all P false r h = All-nil P
-
-one_pair : (b : Bool) (r : Repeat) → AllPairs Differ (only_if b r)
-one_pair true r = AllPairs-one Differ r
-one_pair false r = AllPairs-nil Differ
-
 module _ (w : Window) (rows : List StopRow) (day : ServiceDay) where
   -- what holds of each run of a row that rides
   pub riding_by_all : (P : Repeat → Type 0) (row : FrequencyRow)
       → ((m : ℕ) → IsRunOf row m → rides w rows (origin_at rows day (departure row m)) ≡ true → P (repeat_of row m)) → All P (riding_by w rows day row)
   unfolding riding_by
-  riding_by_all P row h = All-join P (λ m. only_if (rides_by w rows day row m) (repeat_of row m)) end_of_times (λ m l. one_all P (rides_by w rows day row m) (repeat_of row m) (λ r.
+  riding_by_all P row h = All-join P (λ m. only_if (rides_by w rows day row m) (repeat_of row m)) end_of_times (λ m l. All-only_if P
+      (rides_by w rows day row m) (repeat_of row m) (λ r.
       let p = and_parts (nat_lt (departure row m) row.end) (rides w rows (origin_at rows day (departure row m))) r in h m (ltb-true (departure row m) row.end p.0) p.1))
 
   pub riding_of_all : (P : Repeat → Type 0) (fs : List FrequencyRow) → ((i : ℕ) → i < length fs → All P (riding_by w rows day (repeat_at fs i))) → All P (riding_of w rows day fs)
@@ -205,41 +181,26 @@ module _ (w : Window) (rows : List StopRow) (day : ServiceDay) where
   riding_some fs some =
       let P : Repeat → Type 0 = λ r. 0 < length rows in
       let all : All P (in_order (riding_of w rows day fs)) = All-in_order P (riding_of w rows day fs) (riding_of_all P fs (λ i l. riding_by_all P (repeat_at fs i) (λ m run h.
-      let x = some_ride w rows (origin_at rows day (departure (repeat_at fs i) m)) (length rows - 1) (ltb-true 0 _ h) in omega (arith, x.1)))) in
+      let x = some_ride w rows (origin_at rows day (departure (repeat_at fs i) m)) (length rows - 1) (ltb-true 0 _ h) in omega (arith, x.1.inside)))) in
       all 0 (record { departure = 0; line = 0 }) some
 
   rising : (row : FrequencyRow) → 1 ≤ row.headway → (m n : ℕ) → m < n → departure row m < departure row n
   rising row some m n h =
       let a : suc m * row.headway ≤ n * row.headway = mul-le-mul_right row.headway (omega (arith, h)) in omega (arith, a, suc-mul m row.headway, some)
 
-  pairs_below : (row : FrequencyRow) → IsFrequency row → (n : ℕ) → AllPairs Differ (join_below (λ m. only_if (rides_by w rows day row m) (repeat_of row m)) n)
-  pairs_below row is zero = subst (AllPairs Differ) (sym (join-zero (λ m. only_if (rides_by w rows day row m) (repeat_of row m)))) (AllPairs-nil Differ)
-  pairs_below row is (suc n) =
-      let f : ℕ → List Repeat = λ m. only_if (rides_by w rows day row m) (repeat_of row m) in
-      let Sooner : Repeat → Type 0 = λ r. r.departure < departure row n in
-      let Here : Repeat → Type 0 = λ r. r.departure ≡ departure row n in
-      let before : All Sooner (join_below f n) = All-join Sooner f n (λ m l. one_all Sooner (rides_by w rows day row m) (repeat_of row m) (λ r. rising row is.some m n l)) in
-      let here : All Here (f n) = one_all Here (rides_by w rows day row n) (repeat_of row n) (λ r. refl) in
-      subst (AllPairs Differ) (sym (join-suc f n))
-      (AllPairs-append Differ (join_below f n) (f n) (pairs_below row is n) (one_pair (rides_by w rows day row n) (repeat_of row n)) (λ i j d l h e.
-      omega (arith, All-get_or Sooner (join_below f n) i d l before, All-get_or Here (f n) j d h here, ap (λ (r : Repeat). r.departure) e)))
-
   pub riding_by_pairs : (row : FrequencyRow) → IsFrequency row → AllPairs Differ (riding_by w rows day row)
   unfolding riding_by
-  riding_by_pairs row is = pairs_below row is end_of_times
-
-  rows_pairs : (fs : List FrequencyRow) → AreRepeats fs → (n : ℕ) → n ≤ length fs → AllPairs Differ (join_below (λ i. riding_by w rows day (repeat_at fs i)) n)
-  rows_pairs fs are zero le = subst (AllPairs Differ) (sym (join-zero (λ i. riding_by w rows day (repeat_at fs i)))) (AllPairs-nil Differ)
-  rows_pairs fs are (suc n) le =
-      let f : ℕ → List Repeat = λ i. riding_by w rows day (repeat_at fs i) in
-      let Sooner : Repeat → Type 0 = λ r. r.line < (repeat_at fs n).line in
-      let Here : Repeat → Type 0 = λ r. r.line ≡ (repeat_at fs n).line in
-      let before : All Sooner (join_below f n) = All-join Sooner f n (λ i l. riding_by_all Sooner (repeat_at fs i) (λ m run r. are.rising i n l (omega arith))) in
-      let here : All Here (f n) = riding_by_all Here (repeat_at fs n) (λ m run r. refl) in
-      subst (AllPairs Differ) (sym (join-suc f n))
-      (AllPairs-append Differ (join_below f n) (f n) (rows_pairs fs are n (omega arith)) (riding_by_pairs (repeat_at fs n) (are.each n no_frequency.row (omega arith))) (λ i j d l h e.
-      omega (arith, All-get_or Sooner (join_below f n) i d l before, All-get_or Here (f n) j d h here, ap (λ (r : Repeat). r.line) e)))
+  riding_by_pairs row is =
+      let At : ℕ → Repeat → Type 0 = λ m r. r.departure ≡ departure row m in
+      AllPairs-join Differ At (λ m. only_if (rides_by w rows day row m) (repeat_of row m)) end_of_times (λ m l. All-only_if (At m)
+          (rides_by w rows day row m) (repeat_of row m) (λ r. refl))
+      (λ m l. AllPairs-only_if Differ (rides_by w rows day row m) (repeat_of row m)) (λ m n a b l h at at' e. omega
+          (arith, at, at', rising row is.some m n l, ap (λ (r : Repeat). r.departure) e))
 
   pub riding_of_pairs : (fs : List FrequencyRow) → AreRepeats fs → AllPairs Differ (riding_of w rows day fs)
   unfolding riding_of
-  riding_of_pairs fs are = rows_pairs fs are (length fs) (omega arith)
+  riding_of_pairs fs are =
+      let At : ℕ → Repeat → Type 0 = λ i r. r.line ≡ (repeat_at fs i).line in
+      AllPairs-join Differ At (λ i. riding_by w rows day (repeat_at fs i)) (length fs) (λ i l. riding_by_all (At i) (repeat_at fs i) (λ m run r. refl))
+      (λ i l. riding_by_pairs (repeat_at fs i) (are.each i no_frequency.row l)) (λ i j a b l h at at' e. omega (arith, at, at', are.rising i j l h, ap (λ
+          (r : Repeat). r.line) e))

@@ -1,28 +1,17 @@
 -- The steps of a trip in a window.
-use Rattle.std.proofs.Common.{◌≡◌, ℕ, suc, ◌+◌, Bool, true, List, [], ◌++◌, length, map, sym, ap, ◌∙◌, length-append, add-one, append_assoc, arith}
-use Rattle.std.specs.Prelude.{ℤ, pos, ◌≤ℤ◌, int_le}
+use Rattle.std.proofs.Common.{◌≡◌, ℕ, ◌+◌, ◌<◌, ◌≤◌, ◌≤ℤ◌, ℤ, pos, Bool, true, false, List, [], ◌++◌, length, map, get_or, All, refl, sym, ap, ◌∙◌, subst, ⊎_elim, append_assoc, append-nil, arith}
+use Rattle.std.specs.Prelude.{AllPairs, int_le}
 use Rattle.std.proofs.lemmas.Int.{ints}
-use Rattle.std.proofs.lemmas.List.{map-append}
-use Rattle.std.proofs.lemmas.Bool.{and_parts}
+use Rattle.std.proofs.lemmas.List.{map-append, nil_from_length}
+use Rattle.std.proofs.lemmas.List.Elements.{All-get_or}
+use Rattle.std.proofs.lemmas.Bool.{and_parts, cases_lt}
 use Rattle.stop_times.specs.declared.rows.StopRow.{StopRow}
 use Rattle.connections.specs.declared.origins.Origin.{Origin}
 use Rattle.connections.specs.declared.window.Window.{Window}
 use Rattle.connections.specs.Joins.{only_if}
 use Rattle.connections.specs.Window.{holds}
 use Rattle.connections.specs.Rides.{steps_below, departs}
-use Rattle.connections.proofs.JoinLemmas.{join-zero, join-suc}
-
-pub steps-zero : (w : Window) (rows : List StopRow) (o : Origin) → steps_below w rows o 0 ≡ []
-unfolding steps_below
-steps-zero w rows o = join-zero (λ k. only_if (holds w (departs rows o k)) k)
-
-pub steps-suc : (w : Window) (rows : List StopRow) (o : Origin) (n : ℕ) → steps_below w rows o (suc n) ≡ steps_below w rows o n ++ only_if (holds w (departs rows o n)) n
-unfolding steps_below
-steps-suc w rows o n = join-suc (λ k. only_if (holds w (departs rows o k)) k) n
-
--- one more row
-pub steps-next : (w : Window) (rows : List StopRow) (o : Origin) (n : ℕ) (b : Bool) → b ≡ holds w (departs rows o n) → steps_below w rows o (n + 1) ≡ steps_below w rows o n ++ only_if b n
-steps-next w rows o n b h = (rw add-one (steps-suc w rows o n)) ∙ ap (λ x. steps_below w rows o n ++ only_if x n) (sym h)
+use Rattle.connections.proofs.JoinLemmas.{join-zero, join-next, All-join, AllPairs-join, Contains-join, All-only_if, AllPairs-only_if}
 
 le_is : (a b : ℤ) → int_le a b ≡ true → a ≤ℤ b
 le_is a b h = grind (arith, ints)
@@ -33,19 +22,50 @@ holds_parts w moment h =
     let p = and_parts (int_le (pos w.start) moment) (int_le moment (pos w.end)) h in
     (le_is (pos w.start) moment p.0, le_is moment (pos w.end) p.1)
 
-pub length-one : (b : Bool) (n : ℕ) → b ≡ true → length (only_if b n) ≡ 1
-length-one b n h = ap (λ x. length (only_if x n)) h
+abbrev pub Less : ℕ → ℕ → Type 0
+Less a b = a < b
 
--- how many there are, with one more row
-pub length-next : (w : Window) (rows : List StopRow) (o : Origin) (n : ℕ) (b : Bool) → b ≡ holds w (departs rows o n)
-    → length (steps_below w rows o (n + 1)) ≡ length (steps_below w rows o n) + length (only_if b n)
-length-next w rows o n b h = ap length (steps-next w rows o n b h) ∙ length-append (steps_below w rows o n) (only_if b n)
+-- a step whose row is left in the window
+pub record IsStep (w : Window) (rows : List StopRow) (o : Origin) (n k : ℕ) : Type 0 where
+  pub inside : k < n
+  pub holding : holds w (departs rows o k) ≡ true
 
--- the same of what a function makes of them
-pub map-next : {A : Type 0} (f : ℕ → A) (w : Window) (rows : List StopRow) (o : Origin) (n : ℕ) (b : Bool) → b ≡ holds w (departs rows o n)
-    → map f (steps_below w rows o (n + 1)) ≡ map f (steps_below w rows o n) ++ map f (only_if b n)
-map-next f w rows o n b h = ap (map f) (steps-next w rows o n b h) ∙ map-append f (steps_below w rows o n) (only_if b n)
+module _ (w : Window) (rows : List StopRow) (o : Origin) where
+  abbrev step_of : ℕ → List ℕ
+  step_of k = only_if (holds w (departs rows o k)) k
 
--- a list so far, and one that goes on
-pub goes-on : {A : Type 0} (old before more all new : List A) → all ≡ before ++ more → new ≡ (old ++ before) ++ more → new ≡ old ++ all
-goes-on old before more all new e h = h ∙ append_assoc old before more ∙ ap (λ xs. old ++ xs) (sym e)
+  pub steps-zero : steps_below w rows o 0 ≡ []
+  unfolding steps_below
+  steps-zero = join-zero step_of
+
+  -- one more row
+  pub steps-next : (n : ℕ) → steps_below w rows o (n + 1) ≡ steps_below w rows o n ++ only_if (holds w (departs rows o n)) n
+  unfolding steps_below
+  steps-next = join-next step_of
+
+  pub steps_are : (n : ℕ) → All (IsStep w rows o n) (steps_below w rows o n)
+  unfolding steps_below
+  steps_are n = All-join (IsStep w rows o n) step_of n (λ k l. All-only_if (IsStep w rows o n) (holds w (departs rows o k)) k
+      (λ h. record { inside = l; holding = h }))
+
+  pub steps_rise : (n : ℕ) → AllPairs Less (steps_below w rows o n)
+  unfolding steps_below
+  steps_rise n = AllPairs-join Less (λ k step. step ≡ k) step_of n (λ k l. All-only_if (λ step. step ≡ k) (holds w (departs rows o k)) k (λ h. refl))
+      (λ k l. AllPairs-only_if Less (holds w (departs rows o k)) k) (λ i j x y l h a b. omega (arith, l, a, b))
+
+  -- a row that is left in the window is a ride
+  pub some_step : (n k : ℕ) → k < n → holds w (departs rows o k) ≡ true → 0 < length (steps_below w rows o n)
+  unfolding steps_below
+  some_step n k l h = let has = Contains-join step_of n k k l (rw h (0, omega arith, refl)) in omega (arith, has.1)
+
+  -- a run that rides leaves some kept row in the window
+  pub some_ride : (n : ℕ) → 0 < length (steps_below w rows o n) → (j : ℕ) × IsStep w rows o n j
+  some_ride n some = (get_or (steps_below w rows o n) 0 0, All-get_or (IsStep w rows o n) (steps_below w rows o n) 0 0 some (steps_are n))
+
+  pub steps_none : (n : ℕ) → ((k : ℕ) → k < n → holds w (departs rows o k) ≡ false) → steps_below w rows o n ≡ []
+  steps_none n none = nil_from_length (steps_below w rows o n) (⊎_elim
+      (λ (some : 0 < length (steps_below w rows o n)). let x = some_ride n some in absurd (let no = none x.0 x.1.inside in let yes = x.1.holding in cc))
+      (λ (few : length (steps_below w rows o n) ≤ 0). omega arith) (cases_lt 0 (length (steps_below w rows o n))))
+
+-- the start and the step of a loop that makes something of each
+pub ruleset map_steps = (steps-zero, steps-next, map-append, append_assoc, append-nil)

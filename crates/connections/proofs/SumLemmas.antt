@@ -1,11 +1,11 @@
 -- Sums over the steps, the trips and the days of a window.
-use Rattle.std.proofs.Common.{◌≡◌, ℕ, zero, suc, ◌+◌, ◌-◌, ◌*◌, ◌^◌, ◌<◌, ◌≤◌, min, Bool, true, false, List, [], ◌∷◌, length, get_or, if◌then◌else◌, refl, sym, ap, ◌∙◌, arith, ◌⊎◌, inl, inr, ⊎_elim}
+use Rattle.std.proofs.Common.{◌≡◌, ℕ, zero, suc, ◌+◌, ◌-◌, ◌*◌, ◌^◌, ◌<◌, ◌≤◌, min, Bool, true, false, List, [], ◌∷◌, length, get_or, if◌then◌else◌, refl, sym, ap, ◌∙◌, arith, ⊎_elim}
 use Rattle.std.specs.Prelude.{sum_by, nat_lt, ◌&&◌, pos, ◌≤ℤ◌}
 use mathlib.Core.Path.{fun_ext}
 use Rattle.std.proofs.Math.Nat.{le-mul_of_pos_right, suc-mul, add-mul, zero-mul}
-use Rattle.std.proofs.lemmas.Bool.{cases_lt, and_parts}
+use Rattle.std.proofs.lemmas.Bool.{cases_lt, cases_Bool, cond_both, and_parts}
 use Rattle.std.proofs.lemmas.Int.{ints}
-use Rattle.std.proofs.lemmas.List.Sums.{sum_by-append, sum_by-cons}
+use Rattle.std.proofs.lemmas.List.Sums.{sum_by-cons}
 use Rattle.std.proofs.lemmas.List.Elements.{All-get_or}
 use Rattle.plan_model.specs.declared.model.PlaceId.{PlaceId}
 use Rattle.plan_model.specs.declared.model.Way.{Way}
@@ -31,22 +31,8 @@ use Rattle.connections.specs.Rides.{departs, is_active_trip, steps_below, steps_
 use Rattle.connections.specs.Repeats.{origin_at, repeat_of, rides_by, riding_by}
 use Rattle.connections.specs.TripRuns.{frequencies_of, days}
 use Rattle.connections.specs.Counts.{each_of, steps_sum, row_sum, rows_sum, runs_sum, leaving_sum, trip_sum, day_sum, days_sum, window_sum, count_in, entries_in}
-use Rattle.connections.proofs.CountLemmas.{sum-zero, sum-suc, sum_by-ones, sum_by-join, sum_by-at, sum-rides}
-use Rattle.connections.proofs.StepLemmas.{holds_parts, steps-zero, steps-next, length-next}
-
-pub step-in : (f : ℕ → ℕ) (b : Bool) (k x : ℕ) → b ≡ true → x ≡ f k → x ≡ sum_by f (only_if b k)
-step-in f true k x is e = let one : sum_by f (k ∷ []) ≡ f k = omega arith in e ∙ sym one
-step-in f false k x is e = absurd (cc)
-
-pub step-out : (f : ℕ → ℕ) (b : Bool) (k : ℕ) → b ≡ false → 0 ≡ sum_by f (only_if b k)
-step-out f true k is = absurd (cc)
-step-out f false k is = refl
-
--- one more row
-pub sum_by-next : (f : ℕ → ℕ) (w : Window) (rows : List StopRow) (o : Origin) (k : ℕ)
-    → sum_by f (steps_below w rows o (k + 1)) ≡ sum_by f (steps_below w rows o k) + sum_by f (only_if (holds w (departs rows o k)) k)
-sum_by-next f w rows o k =
-    ap (sum_by f) (steps-next w rows o k (holds w (departs rows o k)) refl) ∙ sum_by-append f (steps_below w rows o k) (only_if (holds w (departs rows o k)) k)
+use Rattle.connections.proofs.CountLemmas.{sum-zero, sum-suc, sum_by-ones, sum_by-join, length-join, sum_by-at, sum-rides}
+use Rattle.connections.proofs.StepLemmas.{holds_parts}
 
 pub active-sum : (active : Bool) (n x : ℕ) → active ≡ true → x ≡ min n (2 ^ 64 - 1) → x ≡ min (if active then n else 0) (2 ^ 64 - 1)
 active-sum active n x is e = rw is e
@@ -74,13 +60,13 @@ only-sum : (f : ℕ → ℕ) (b : Bool) (k : ℕ) → sum_by f (only_if b k) ≡
 only-sum f true k = let one : sum_by f (k ∷ []) ≡ f k = omega arith in one
 only-sum f false k = refl
 
-steps-sum : (f : ℕ → ℕ) (w : Window) (rows : List StopRow) (o : Origin) (n : ℕ) → sum_by f (steps_below w rows o n) ≡ sum_below (λ k. if holds w (departs rows o k) then f k else 0) n
-steps-sum f w rows o zero = ap (sum_by f) (steps-zero w rows o) ∙ sym (sum-zero (λ k. if holds w (departs rows o k) then f k else 0))
-steps-sum f w rows o (suc n) =
-    let e : suc n ≡ n + 1 = omega arith in
-    ap (λ k. sum_by f (steps_below w rows o k)) e ∙ sum_by-next f w rows o n ∙ ap (λ x. x + sum_by f (only_if (holds w (departs rows o n)) n)) (steps-sum f w rows o n)
-    ∙ ap (λ x. sum_below (λ k. if holds w (departs rows o k) then f k else 0) n + x) (only-sum f (holds w (departs rows o n)) n)
-    ∙ sym (sum-suc (λ k. if holds w (departs rows o k) then f k else 0) n)
+pub steps-sum : (f : ℕ → ℕ) (w : Window) (rows : List StopRow) (o : Origin) (n : ℕ) → sum_by f (steps_below w rows o n) ≡ sum_below (λ k. if holds w
+    (departs rows o k) then f k else 0) n
+unfolding steps_below
+steps-sum f w rows o n =
+    sum_by-join f (λ k. only_if (holds w (departs rows o k)) k) n
+    ∙ sum-same (λ k. sum_by f (only_if (holds w (departs rows o k)) k)) (λ k. if holds w (departs rows o k) then f k else 0) n (λ k. only-sum f (holds w
+        (departs rows o k)) k)
 
 where-sum : (is : Bool) (holds' : ℕ → Bool) (f : ℕ → ℕ) (n : ℕ) → (if is then sum_below (λ k. if holds' k then f k else 0) n else 0) ≡ sum_below (λ k. if is && holds' k then f k else 0) n
 where-sum true holds' f n = refl
@@ -102,52 +88,47 @@ row_sum-leaving each w rows day row =
     ∙ where-sum (nat_lt (departure row m) row.end) (λ k. holds w (departs rows (o m) k)) f (length rows - 1))
     ∙ sum-swap F end_of_times (length rows - 1)
 
-one-step : (b : Bool) (x n a c : ℕ) (p : Bool) → b ≡ p → (p ≡ true → (a ≤ n) × (n < c)) → (a ≤ n → n < c → p ≡ true) → (min c n - a) * x + (if b then x else 0) ≡ (min c (suc n) - a) * x
-one-step true x n a c p e inside out =
-    let h = inside (sym e) in
-    let k : min c (suc n) - a ≡ suc (min c n - a) = omega (arith, h.0, h.1) in
-    sym (ap (λ y. y * x) k ∙ suc-mul (min c n - a) x)
-one-step false x n a c p e inside out =
-    let k : min c (suc n) - a ≡ min c n - a = ⊎_elim (λ (less : n < a). omega arith)
-    (λ (ge : a ≤ n). ⊎_elim (λ (below : n < c). absurd (let t : p ≡ true = out ge below in cc)) (λ (past : c ≤ n). omega arith) (cases_lt n c)) (cases_lt n a) in
-    let none : (min c n - a) * x + 0 ≡ (min c n - a) * x = omega arith in
-    none ∙ sym (ap (λ y. y * x) k)
-
--- what holds from one number on to another adds up to so many times as much
-pub between-sum : (p : ℕ → Bool) (a c x n : ℕ) → ((m : ℕ) → p m ≡ true → (a ≤ m) × (m < c)) → ((m : ℕ) → a ≤ m → m < c → p m ≡ true) → sum_below (λ m. if p m then x else 0) n ≡ (min c n - a) * x
-between-sum p a c x zero inside out =
-    let k : min c 0 - a ≡ 0 = omega arith in
-    sum-zero (λ m. if p m then x else 0) ∙ sym (ap (λ y. y * x) k ∙ zero-mul x)
-between-sum p a c x (suc n) inside out =
-    sum-suc (λ m. if p m then x else 0) n ∙ ap (λ y. y + (if p n then x else 0)) (between-sum p a c x n inside out) ∙ one-step (p n) x n a c (p n) refl (inside n) (out n)
-
--- the first and the last number of which a test holds
 abbrev one_if : Bool → ℕ
 one_if b = if b then 1 else 0
 
-abbrev Spread : (p : ℕ → Bool) (n : ℕ) → Type 0
-Spread p n = (sum_below (λ m. if p m then 1 else 0) n ≡ 0) ⊎ ((m : ℕ) × (k : ℕ) × (p m ≡ true) × (p k ≡ true) × (k < n) × (sum_below (λ m. if p m then 1 else 0) n + m ≤ k + 1))
+sum-times : (p : ℕ → Bool) (x n : ℕ) → sum_below (λ m. if p m then x else 0) n ≡ sum_below (λ m. one_if (p m)) n * x
+sum-times p x zero = rw (sum-zero (λ m. if p m then x else 0), sum-zero (λ m. one_if (p m)), zero-mul) refl
+sum-times p x (suc n) =
+    let here : (if p n then x else 0) ≡ one_if (p n) * x = cond_both (p n) 1 0 (λ k. (if p n then x else 0) ≡ k * x) (λ is. rw is (omega arith))
+        (λ not. rw not (omega arith)) in
+    let all = ap (λ k. k * x) (sum-suc (λ m. one_if (p m)) n) ∙ add-mul (sum_below (λ m. one_if (p m)) n) (one_if (p n)) x in
+    omega (arith, sum-suc (λ m. if p m then x else 0) n, sum-times p x n, here, all)
 
-spread_more : (p : ℕ → Bool) (n : ℕ) (b : Bool) → b ≡ p n → Spread p n → Spread p (suc n)
-spread_more p n true e before =
-    let t : p n ≡ true = sym e in
-    let one : one_if (p n) ≡ 1 = ap one_if t in
-    let more = sum-suc (λ m. if p m then 1 else 0) n in
-    ⊎_elim (λ none. inr (n, n, t, t, omega arith, omega (arith, more, one, none)))
-    (λ x. inr (x.0, n, x.2, t, omega arith, omega (arith, more, one, x.4, x.5))) before
-spread_more p n false e before =
-    let none' : one_if (p n) ≡ 0 = ap one_if (sym e) in
-    let more = sum-suc (λ m. if p m then 1 else 0) n in
-    ⊎_elim (λ none. inl (omega (arith, more, none', none)))
-    (λ x. inr (x.0, x.1, x.2, x.3, omega (arith, x.4), omega (arith, more, none', x.5))) before
+-- what holds from one number on to another holds so often
+between-count : (p : ℕ → Bool) (a c n : ℕ) → ((m : ℕ) → p m ≡ true → (a ≤ m) × (m < c)) → ((m : ℕ) → a ≤ m → m < c → p m ≡ true)
+    → sum_below (λ m. one_if (p m)) n ≡ min c n - a
+between-count p a c zero inside out = omega (arith, sum-zero (λ m. one_if (p m)))
+between-count p a c (suc n) inside out =
+    let in' : a ≤ n → n < c → one_if (p n) ≡ 1 = λ low high. ap one_if (out n low high) in
+    let more = sum-suc (λ m. one_if (p m)) n in
+    let before = between-count p a c n inside out in
+    ⊎_elim (λ (is : p n ≡ true). let h = inside n is in omega (arith, ap one_if is, h.0, h.1))
+    (λ (not : p n ≡ false). let none = ap one_if not in ⊎_elim (λ (less : n < a). omega arith)
+    (λ (ge : a ≤ n). ⊎_elim (λ (below : n < c). omega (arith, in' ge below)) (λ (past : c ≤ n). omega arith) (cases_lt n c)) (cases_lt n a)) (cases_Bool (p n))
 
-spread : (p : ℕ → Bool) (n : ℕ) → Spread p n
-spread p zero = inl (sum-zero (λ m. if p m then 1 else 0))
-spread p (suc n) = spread_more p n (p n) refl (spread p n)
+-- and adds up to so many times as much
+pub between-sum : (p : ℕ → Bool) (a c x n : ℕ) → ((m : ℕ) → p m ≡ true → (a ≤ m) × (m < c)) → ((m : ℕ) → a ≤ m → m < c → p m ≡ true) → sum_below (λ m. if p m then x else 0) n ≡ (min c n - a) * x
+between-sum p a c x n inside out = sum-times p x n ∙ ap (λ k. k * x) (between-count p a c n inside out)
+
+-- what holds from a number on only
+later-few : (p : ℕ → Bool) (a n : ℕ) → ((m : ℕ) → p m ≡ true → m < n → a ≤ m) → sum_below (λ m. one_if (p m)) n ≤ n - a
+later-few p a zero low = omega (arith, sum-zero (λ m. one_if (p m)))
+later-few p a (suc n) low =
+    let before = later-few p a n (λ m is less. low m is (omega arith)) in
+    ⊎_elim (λ (is : p n ≡ true). omega (arith, sum-suc (λ m. one_if (p m)) n, before, ap one_if is, low n is (omega arith)))
+    (λ (not : p n ≡ false). omega (arith, sum-suc (λ m. one_if (p m)) n, before, ap one_if not)) (cases_Bool (p n))
 
 -- where no two are farther apart than a limit, there are few
-near-few : (p : ℕ → Bool) (limit n : ℕ) → ((m k : ℕ) → p m ≡ true → p k ≡ true → k ≤ m + limit) → sum_below (λ m. if p m then 1 else 0) n ≤ limit + 1
-near-few p limit n near = ⊎_elim (λ none. omega (arith, none)) (λ x. omega (arith, x.5, near x.0 x.1 x.2 x.3)) (spread p n)
+near-few : (p : ℕ → Bool) (limit n : ℕ) → ((m k : ℕ) → p m ≡ true → p k ≡ true → k ≤ m + limit) → sum_below (λ m. one_if (p m)) n ≤ limit + 1
+near-few p limit zero near = omega (arith, sum-zero (λ m. one_if (p m)))
+near-few p limit (suc n) near =
+    ⊎_elim (λ (is : p n ≡ true). omega (arith, later-few p (n - limit) (suc n) (λ m h less. omega (arith, near m n h is))))
+    (λ (not : p n ≡ false). omega (arith, sum-suc (λ m. one_if (p m)) n, near-few p limit n near, ap one_if not)) (cases_Bool (p n))
 
 -- at most as many runs of a row leave a kept row in the window as it has seconds
 leaving-few : (w : Window) → IsWindow w → (rows : List StopRow) (day : ServiceDay) (row : FrequencyRow) → 1 ≤ row.headway → (k : ℕ) → leaving_sum (λ place. 1) w rows day row k ≤ 259201
@@ -167,68 +148,67 @@ leaving-few w v rows day row some k =
     omega (arith, ints, far, apart, first.0, first.1, last.0, last.1, v.short))
     (λ (le : n ≤ m). omega arith) (cases_lt m n))
 
--- a sum of numbers that are at most so many times those of another sum
-sum-scale : (b : ℕ) (f g : ℕ → ℕ) (n : ℕ) → ((k : ℕ) → k < n → f k ≤ b * g k) → sum_below f n ≤ b * sum_below g n
-sum-scale b f g zero h = omega (arith, sum-zero f)
-sum-scale b f g (suc n) h =
-    let rest = sum-scale b f g n (λ k less. h k (omega arith)) in
-    omega (arith, sum-suc f n, ap (λ x. b * x) (sum-suc g n), rest, h n (omega arith))
-
-sum_by-scale : {A : Type 0} (b : ℕ) (f g : A → ℕ) (xs : List A) → ((x : A) → f x ≤ b * g x) → sum_by f xs ≤ b * sum_by g xs
-sum_by-scale b f g [] h = omega arith
-sum_by-scale b f g (x ∷ xs) h = omega (arith, sum_by-cons f x xs, ap (λ n. b * n) (sum_by-cons g x xs), sum_by-scale b f g xs h, h x)
-
-if_scale : (active : Bool) (b x y : ℕ) → x ≤ b * y → (if active then x else 0) ≤ b * (if active then y else 0)
-if_scale true b x y h = h
-if_scale false b x y h = omega arith
-
-module _ (w : Window) (b : ℕ) (each : PlaceId → ℕ) (h : (place : PlaceId) → each place ≤ b * 1) where
-  steps-scale : (rows : List StopRow) (o : Origin) → steps_sum each w rows o ≤ b * steps_sum (λ place. 1) w rows o
-  steps-scale rows o = sum_by-scale b (λ k. each (kept_at rows k).place) (λ k. 1) (steps_of w rows o) (λ k. h (kept_at rows k).place)
-
-  runs-scale : (rows : List StopRow) (fs : List FrequencyRow) (day : ServiceDay) → runs_sum each w rows fs day ≤ b * runs_sum (λ place. 1) w rows fs day
-  unfolding rows_sum
-  runs-scale rows [] day = steps-scale rows (origin_of_day day)
-  runs-scale rows (row ∷ more) day =
-      let fs = row ∷ more in
-      sum-scale b (λ i. row_sum each w rows day (repeat_at fs i)) (λ i. row_sum (λ place. 1) w rows day (repeat_at fs i)) (length fs) (λ i less.
-      sum_by-scale b (λ (r : Repeat). steps_sum each w rows (origin_at rows day r.departure)) (λ (r : Repeat). steps_sum (λ place. 1) w rows (origin_at rows day r.departure))
-      (riding_by w rows day (repeat_at fs i)) (λ r. steps-scale rows (origin_at rows day r.departure)))
-
-  -- where each place counts for so many at most, the sum is at most so many times that of ones
-  pub window-scale : (f : FeedParts) (s : ServiceParts) → window_sum each f s w ≤ b * window_sum (λ place. 1) f s w
-  unfolding day_sum days_sum
-  window-scale f s =
-      sum-scale b (λ d. day_sum each f s w (day_at w d) (length f.trip_ids)) (λ d. day_sum (λ place. 1) f s w (day_at w d) (length f.trip_ids)) days (λ d less.
-      sum-scale b (trip_sum each f s w (day_at w d)) (trip_sum (λ place. 1) f s w (day_at w d)) (length f.trip_ids) (λ trip inside.
-      if_scale (is_active_trip f s (day_at w d) trip) b _ _ (runs-scale (rows_of f trip) (frequencies_of f trip) (day_at w d))))
-
-length-only : (b : Bool) (n : ℕ) → length (only_if b n) ≤ 1
-length-only true n = omega arith
-length-only false n = omega arith
-
-steps-few : (w : Window) (rows : List StopRow) (o : Origin) (n : ℕ) → length (steps_below w rows o n) ≤ n
-steps-few w rows o zero = omega (arith, ap length (steps-zero w rows o))
-steps-few w rows o (suc n) =
-    let e : n + 1 ≡ suc n = omega arith in
-    let more = length-next w rows o n (holds w (departs rows o n)) refl in
-    omega (arith, ap (λ k. length (steps_below w rows o k)) e, more, length-only (holds w (departs rows o n)) n, steps-few w rows o n)
-
-sum-few : (b : ℕ) (f : ℕ → ℕ) (n : ℕ) → ((k : ℕ) → k < n → f k ≤ b) → sum_below f n ≤ n * b
-sum-few b f zero h = omega (arith, sum-zero f)
-sum-few b f (suc n) h = omega (arith, sum-suc f n, sum-few b f n (λ k less. h k (omega arith)), h n (omega arith))
-
-if_few : (active : Bool) (b x : ℕ) → x ≤ b → (if active then x else 0) ≤ b
-if_few true b x h = h
-if_few false b x h = omega arith
-
--- the same of numbers that are bounded by other numbers
+-- a sum of numbers that are bounded by other numbers
 sum-linear : (a c : ℕ) (f g : ℕ → ℕ) (n : ℕ) → ((k : ℕ) → k < n → f k ≤ a + g k * c) → sum_below f n ≤ n * a + sum_below g n * c
 sum-linear a c f g zero h = omega (arith, sum-zero f)
 sum-linear a c f g (suc n) h =
     let rest = sum-linear a c f g n (λ k less. h k (omega arith)) in
     let whole : sum_below g (suc n) * c ≡ sum_below g n * c + g n * c = ap (λ x. x * c) (sum-suc g n) ∙ add-mul (sum_below g n) (g n) c in
     omega (arith, sum-suc f n, suc-mul n a, whole, rest, h n (omega arith))
+
+sum-few : (b : ℕ) (f : ℕ → ℕ) (n : ℕ) → ((k : ℕ) → k < n → f k ≤ b) → sum_below f n ≤ n * b
+sum-few b f n h = omega (arith, sum-linear b 0 f (λ k. 0) n (λ k l. omega (arith, h k l)))
+
+-- a number of ways into a place is at most this
+abbrev most : ℕ
+most = 4294967297
+
+sum-scale : (f g : ℕ → ℕ) (n : ℕ) → ((k : ℕ) → k < n → f k ≤ most * g k) → sum_below f n ≤ most * sum_below g n
+sum-scale f g n h = omega (arith, sum-linear 0 most f g n (λ k l. omega (arith, h k l)))
+
+sum_by-scale : {A : Type 0} (f g : A → ℕ) (xs : List A) → ((x : A) → f x ≤ most * g x) → sum_by f xs ≤ most * sum_by g xs
+sum_by-scale f g [] h = omega arith
+sum_by-scale f g (x ∷ xs) h = omega (arith, sum_by-cons f x xs, sum_by-cons g x xs, sum_by-scale f g xs h, h x)
+
+if_scale : (active : Bool) (x y : ℕ) → x ≤ most * y → (if active then x else 0) ≤ most * (if active then y else 0)
+if_scale true x y h = h
+if_scale false x y h = omega arith
+
+module _ (w : Window) (each : PlaceId → ℕ) (h : (place : PlaceId) → each place ≤ most) where
+  steps-scale : (rows : List StopRow) (o : Origin) → steps_sum each w rows o ≤ most * steps_sum (λ place. 1) w rows o
+  steps-scale rows o = sum_by-scale (λ k. each (kept_at rows k).place) (λ k. 1) (steps_of w rows o) (λ k. omega (arith, h (kept_at rows k).place))
+
+  runs-scale : (rows : List StopRow) (fs : List FrequencyRow) (day : ServiceDay) → runs_sum each w rows fs day ≤ most * runs_sum (λ place. 1) w rows fs day
+  unfolding rows_sum
+  runs-scale rows [] day = steps-scale rows (origin_of_day day)
+  runs-scale rows (row ∷ more) day =
+      let fs = row ∷ more in
+      sum-scale (λ i. row_sum each w rows day (repeat_at fs i)) (λ i. row_sum (λ place. 1) w rows day (repeat_at fs i)) (length fs) (λ i less.
+      sum_by-scale (λ (r : Repeat). steps_sum each w rows (origin_at rows day r.departure)) (λ (r : Repeat). steps_sum (λ place. 1) w rows
+          (origin_at rows day r.departure))
+      (riding_by w rows day (repeat_at fs i)) (λ r. steps-scale rows (origin_at rows day r.departure)))
+
+  -- where each place counts for so many at most, the sum is at most so many times that of ones
+  pub window-scale : (f : FeedParts) (s : ServiceParts) → window_sum each f s w ≤ most * window_sum (λ place. 1) f s w
+  unfolding day_sum days_sum
+  window-scale f s =
+      sum-scale (λ d. day_sum each f s w (day_at w d) (length f.trip_ids)) (λ d. day_sum (λ place. 1) f s w (day_at w d) (length f.trip_ids)) days (λ d less.
+      sum-scale (trip_sum each f s w (day_at w d)) (trip_sum (λ place. 1) f s w (day_at w d)) (length f.trip_ids) (λ trip inside.
+      if_scale (is_active_trip f s (day_at w d) trip) _ _ (runs-scale (rows_of f trip) (frequencies_of f trip) (day_at w d))))
+
+length-only : (b : Bool) (n : ℕ) → length (only_if b n) ≤ 1
+length-only true n = omega arith
+length-only false n = omega arith
+
+steps-few : (w : Window) (rows : List StopRow) (o : Origin) (n : ℕ) → length (steps_below w rows o n) ≤ n
+unfolding steps_below
+steps-few w rows o n =
+    let f : ℕ → List ℕ = λ k. only_if (holds w (departs rows o k)) k in omega (arith, length-join f n, sum-few 1 (λ k. length (f k)) n (λ k l. length-only
+        (holds w (departs rows o k)) k))
+
+if_few : (active : Bool) (b x : ℕ) → x ≤ b → (if active then x else 0) ≤ b
+if_few true b x h = h
+if_few false b x h = omega arith
 
 runs-few : (w : Window) → IsWindow w → (rows : List StopRow) → length rows ≤ 33554432 → (fs : List FrequencyRow) → AreRepeats fs → (day : ServiceDay)
     → runs_sum (λ place. 1) w rows fs day ≤ 33554432 + length fs * 8697342328832
@@ -271,4 +251,4 @@ links_few places to (way ∷ links) are =
 -- the entries of a window by its connections
 pub entries-few : (f : FeedParts) (s : ServiceParts) (c : ChangeParts) (w : Window) → ((to : ℕ) → AreLinksInto 4294967296 to (links_of c to)) → entries_in f s c w ≤ 4294967297 * count_in f s w
 entries-few f s c w are =
-    window-scale w 4294967297 (each_of c Entries) (λ place. omega (arith, links_few 4294967296 place.0 (links_of c place.0) (are place.0))) f s
+    window-scale w (each_of c Entries) (λ place. omega (arith, links_few 4294967296 place.0 (links_of c place.0) (are place.0))) f s

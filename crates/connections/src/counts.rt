@@ -1,15 +1,14 @@
 //! What the connections of a window add up to, before any of them stands.
-ghost use Rattle.std.specs.Prelude.{◌≡◌, ◌≤◌, ◌<◌, ◌^◌, ◌-◌, length, min, sum_by};
+ghost use Rattle.std.specs.Prelude.{◌≡◌, ◌≤◌, ◌<◌, ◌^◌, ◌-◌, length, min, if◌then◌else◌};
 ghost use Rattle.gtfs_tables.specs.Timed.{IsTimed, kept_at};
 ghost use Rattle.gtfs_tables.specs.Repeats.{IsFrequency, AreRepeats, AreRepeating};
-ghost use Rattle.connections.specs.Joins.{only_if};
 ghost use Rattle.connections.specs.Window.{holds, IsWindow};
 ghost use Rattle.connections.specs.Rides.{AreDepartures, departs};
 ghost use Rattle.connections.specs.Counts.{each_of, steps_sum, leaving_sum, row_sum, rows_sum, runs_sum, trip_sum, day_sum, window_sum};
 
 use crate::origins::{Origin, ServiceDay};
 use crate::repeats::leaving;
-use crate::runs::{has_service, leaves, may_run};
+use crate::runs::{frequencies_of, has_service, leaves, may_run, rows_of};
 use crate::window::{DAYS, Window};
 use change_times::Changes;
 use gtfs_tables::{Feed, FrequencyRow, StopRow};
@@ -43,8 +42,8 @@ fn sum_step(
     window: Window,
 ) -> u64
     requires { step < length rows.now }
-    ensures { result ≡ sum_by (λ k. each_of changes.now counted (kept_at rows.now k).place)
-        (only_if (holds window (departs rows.now origin step)) step) }
+    ensures { result ≡ (if holds window (departs rows.now origin step)
+        then each_of changes.now counted (kept_at rows.now step).place else 0) }
 {
     if leaves(rows, step, origin, window) {
         let row = rows[step];
@@ -55,6 +54,7 @@ fn sum_step(
 }
 
 /// What the connections of a run with these kept rows count for.
+#[tactic(auto, using(crate::proofs::CountLemmas::sum_steps))]
 fn sum_steps(
     changes: &Changes,
     counted: Counted,
@@ -95,6 +95,7 @@ fn sum_leaving(
 }
 
 /// What the connections of the runs of a row of frequencies count for.
+#[tactic(auto, using(crate::proofs::CountLemmas::sum_steps))]
 fn sum_row(
     changes: &Changes,
     counted: Counted,
@@ -117,6 +118,7 @@ fn sum_row(
 }
 
 /// What the connections of the runs of a trip that repeats count for on a day.
+#[tactic(auto, using(crate::proofs::CountLemmas::sum_steps), unfolding(crate::specs::Counts::rows_sum))]
 fn sum_repeats(
     changes: &Changes,
     counted: Counted,
@@ -178,8 +180,8 @@ fn sum_trip(
     ensures { result ≡ min
         (trip_sum (each_of changes.now counted) feed.now services.now window day trip) (2 ^ 64 - 1) }
 {
-    let rows = feed.stop_times(trip);
-    let frequencies = feed.frequencies(trip);
+    let rows = rows_of(feed, trip);
+    let frequencies = frequencies_of(feed, trip);
     if !may_run(rows, frequencies, day, window) || !has_service(feed, services, trip, day) {
         return 0;
     }
@@ -187,6 +189,7 @@ fn sum_trip(
 }
 
 /// What the connections of all trips count for on a day.
+#[tactic(auto, using(crate::proofs::CountLemmas::sum_steps), unfolding(crate::specs::Counts::day_sum))]
 fn sum_day(
     feed: &Feed,
     services: &Services,
@@ -207,6 +210,7 @@ fn sum_day(
 }
 
 /// What the connections of a window count for; from the greatest `u64` on this.
+#[tactic(auto, using(crate::proofs::CountLemmas::sum_steps), unfolding(crate::specs::Counts::days_sum))]
 pub(crate) fn sum_window(
     feed: &Feed,
     services: &Services,

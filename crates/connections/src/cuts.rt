@@ -75,6 +75,25 @@ fn network_of_runs(
     Ok((Network::from_parts(connections, change, classes), names))
 }
 
+/// How many connections a window has.
+fn connections_within(feed: &Feed, services: &Services, changes: &Changes, window: Window) -> u64
+    requires { IsWindow window }
+    ensures { result ≡ count_in feed.now services.now window }
+{
+    let _trips = feed.trip_count();
+    sum_window(feed, services, changes, Counted::Connections, window)
+}
+
+/// How many entries a window has, of no more than the most connections.
+fn entries_within(feed: &Feed, services: &Services, changes: &Changes, window: Window) -> u64
+    requires window { IsWindow window }
+    requires few { count_in feed.now services.now window ≤ most_connections }
+    ensures { result ≡ entries_in feed.now services.now changes.now window }
+{
+    let _link = changes.links_into(PlaceId(0));
+    sum_window(feed, services, changes, Counted::Entries, window)
+}
+
 /// How many connections a window has, or its first fault.
 fn count_within(
     feed: &Feed,
@@ -88,13 +107,11 @@ fn count_within(
     ensures { result_err result ≡ window_fault limits.now (count_in feed.now services.now window)
         (entries_in feed.now services.now changes.now window) }
 {
-    let _trips = feed.trip_count();
-    let _link = changes.links_into(PlaceId(0));
-    let count = sum_window(feed, services, changes, Counted::Connections, window);
+    let count = connections_within(feed, services, changes, window);
     if limits.connections < count {
         return Err(WindowFault::TooMany(count));
     }
-    let entries = sum_window(feed, services, changes, Counted::Entries, window);
+    let entries = entries_within(feed, services, changes, window);
     if limits.entries < entries {
         return Err(WindowFault::TooManyEntries(entries));
     }
@@ -102,6 +119,7 @@ fn count_within(
 }
 
 /// The change seconds of each place.
+#[tactic(auto, using(crate::proofs::JoinLemmas::list_steps))]
 fn changes_of(alloc: Global, changes: &Changes, places: u32) -> Result<List<u32>, NoMemory>
     ensures seconds { IfOk result (λ change. change ≡ list_below (seconds_of changes.now) places) }
     ensures fit { IfOk result AreChanges }
@@ -114,6 +132,7 @@ fn changes_of(alloc: Global, changes: &Changes, places: u32) -> Result<List<u32>
 }
 
 /// The links into each place.
+#[tactic(auto, using(crate::proofs::JoinLemmas::list_steps))]
 fn links_of(alloc: Global, changes: &Changes, places: u32) -> Result<List<List<Way>>, NoMemory>
     ensures { IfOk result (λ links. links ≡ list_below (links_of changes.now) places) }
 {
@@ -127,6 +146,7 @@ fn links_of(alloc: Global, changes: &Changes, places: u32) -> Result<List<List<W
 
 /// The network of the connections that depart in the window, and the names of its places and runs. There is room for so many
 /// connections at once.
+#[tactic(auto, using(crate::proofs::JoinLemmas::list_steps))]
 fn network_of(
     alloc: Global,
     feed: &Feed,

@@ -66,6 +66,7 @@ pub(crate) fn leaving(
 }
 
 /// Adds the runs of a row from one number on to another.
+#[tactic(auto, using(crate::proofs::JoinLemmas::list_steps))]
 fn add_between(
     repeats: &mut Vec<Repeat>,
     row: &FrequencyRow,
@@ -76,9 +77,9 @@ fn add_between(
     ensures { OnOk result (repeats.new.items
         ≡ repeats.old.items ++ list_below (λ i. repeat_of row.now (from + i)) (to - from)) }
 {
-    for m in from..to {
+    for i in 0..to.saturating_sub(from) {
         repeats.push(Repeat {
-            departure: departure(row, m),
+            departure: departure(row, from + i),
             line: row.line,
         })?;
     }
@@ -110,6 +111,7 @@ fn add_riding(
 }
 
 /// The runs of these rows that ride in the window, row by row.
+#[tactic(auto, using(crate::proofs::JoinLemmas::join_steps), unfolding(crate::specs::Repeats::riding_of))]
 fn riding_of(
     alloc: Global,
     rows: &[StopRow],

@@ -58,6 +58,7 @@ fn ride(rows: &[StopRow], step: usize, run: &Numbered<'_>, delays: &DelayTable) 
 }
 
 /// Adds the rides of a run that depart in the window.
+#[tactic(auto, using(crate::proofs::StepLemmas::map_steps))]
 fn add_rides(
     connections: &mut Vec<Connection>,
     rows: &[StopRow],
@@ -80,6 +81,7 @@ fn add_rides(
 }
 
 /// The rides of these runs, by run and step. There is room for so many at once.
+#[tactic(auto, using(crate::proofs::JoinLemmas::join_steps), unfolding(crate::specs::Networks::rides_below, crate::specs::Networks::run_rides))]
 pub(crate) fn connections_of(
     alloc: Global,
     feed: &Feed,

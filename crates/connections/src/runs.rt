@@ -1,12 +1,13 @@
 //! The runs that ride in a window.
 ghost use Rattle.std.specs.Prelude.{◌≡◌, ◌<◌, ◌++◌, length, map, [], false, All, IfOk, OnOk};
 ghost use Rattle.stop_times.specs.Bounds.{end_of_times};
-ghost use Rattle.gtfs_tables.specs.Repeats.{AreRepeats};
+ghost use Rattle.gtfs_tables.specs.Repeats.{AreRepeats, AreRepeating};
+ghost use Rattle.gtfs_tables.specs.Timed.{IsTimed, rows_of};
 ghost use Rattle.connections.specs.Joins.{only_if};
 ghost use Rattle.connections.specs.Window.{holds, IsWindow};
 ghost use Rattle.connections.specs.Origins.{origin_of_day};
 ghost use Rattle.connections.specs.Rides.{DepartInOrder, AreDepartures, departs, is_active_trip, rides, steps_of};
-ghost use Rattle.connections.specs.TripRuns.{own_run, repeat_run, runs_of_trip, day_runs, window_runs};
+ghost use Rattle.connections.specs.TripRuns.{frequencies_of, own_run, repeat_run, runs_of_trip, trip_runs, day_runs, window_runs};
 
 use crate::origins::{Origin, ServiceDay};
 use crate::repeats::{Repeat, origin_at, repeats_of};
@@ -79,6 +80,7 @@ pub(crate) fn may_run(
 }
 
 /// Whether a run with these kept rows rides in the window.
+#[tactic(auto, using(crate::proofs::JoinLemmas::join_steps), unfolding(crate::specs::Rides::steps_below))]
 fn rides(rows: &[StopRow], origin: Origin, window: Window) -> bool
     ensures { result ≡ rides window rows.now origin }
 {
@@ -96,6 +98,26 @@ pub(crate) fn has_service(feed: &Feed, services: &Services, trip: u32, day: Serv
     ensures { result ≡ is_active_trip feed.now services.now day trip }
 {
     services.runs_on(feed.service_of(trip), day.number)
+}
+
+/// The kept rows of a trip.
+pub(crate) fn rows_of(feed: &Feed, trip: u32) -> &[StopRow]
+    requires trip { trip < length feed.now.trip_ids }
+    requires timed { IsTimed feed.now }
+    ensures rows { result.now ≡ rows_of feed.now trip }
+    ensures departures { AreDepartures result.now }
+{
+    feed.stop_times(trip)
+}
+
+/// The rows of frequencies of a trip.
+pub(crate) fn frequencies_of(feed: &Feed, trip: u32) -> &[FrequencyRow]
+    requires trip { trip < length feed.now.trip_ids }
+    requires repeats { AreRepeating feed.now }
+    ensures rows { result.now ≡ frequencies_of feed.now trip }
+    ensures repeats { AreRepeats result.now }
+{
+    feed.frequencies(trip)
 }
 
 /// Adds the run of a trip that does not repeat, where it rides in the window.
@@ -168,7 +190,33 @@ fn add_trip(
     add_repeats(runs, rows, day, trip, repeats.as_slice())
 }
 
+/// Adds the runs of a trip that ride in the window on a day, where its service is active then.
+fn add_active(
+    alloc: Global,
+    runs: &mut Vec<Run>,
+    feed: &Feed,
+    services: &Services,
+    trip: u32,
+    day: ServiceDay,
+    window: Window,
+) -> Result<(), NoMemory>
+    requires window { IsWindow window }
+    requires trip { trip < length feed.now.trip_ids }
+    requires timed { IsTimed feed.now }
+    requires repeats { AreRepeating feed.now }
+    ensures { OnOk result (runs.new.items
+        ≡ runs.old.items ++ trip_runs feed.now services.now window day trip) }
+{
+    let rows = rows_of(feed, trip);
+    let frequencies = frequencies_of(feed, trip);
+    if !may_run(rows, frequencies, day, window) || !has_service(feed, services, trip, day) {
+        return Ok(());
+    }
+    add_trip(alloc, runs, rows, frequencies, day, trip, window)
+}
+
 /// Adds the runs of the trips that are active on a day and ride in the window then.
+#[tactic(auto, using(crate::proofs::JoinLemmas::join_steps), unfolding(crate::specs::TripRuns::day_runs))]
 fn add_day(
     alloc: Global,
     runs: &mut Vec<Run>,
@@ -182,17 +230,14 @@ fn add_day(
         ≡ runs.old.items ++ day_runs feed.now services.now window day (length feed.now.trip_ids)) }
 {
     for trip in 0..feed.trip_count() {
-        let rows = feed.stop_times(trip);
-        let frequencies = feed.frequencies(trip);
-        if may_run(rows, frequencies, day, window) && has_service(feed, services, trip, day) {
-            add_trip(alloc, runs, rows, frequencies, day, trip, window)?;
-        }
+        add_active(alloc, runs, feed, services, trip, day, window)?;
     }
     Ok(())
 }
 
 /// The runs that ride in the window, by service day, position of the trip, departure from the first kept row and line of the
 /// row of frequencies.
+#[tactic(auto, using(crate::proofs::JoinLemmas::join_steps), unfolding(crate::specs::TripRuns::runs_below))]
 pub(crate) fn runs_of(
     alloc: Global,
     feed: &Feed,

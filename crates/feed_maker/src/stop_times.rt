@@ -107,7 +107,7 @@ fn add_stop_time(text: &mut Vec<u8>, front: &str, trip: Trip, place: u32, end: &
 }
 
 /// Adds the rows of a run, by the ends of the rows at its places.
-#[tactic(auto, unfolding(crate::specs::Tables::run_rows))]
+#[tactic(auto, using(crate::proofs::JoinedLemmas::joined_steps), unfolding(crate::specs::Tables::run_rows))]
 fn add_run(text: &mut Vec<u8>, trip: Trip, ends: &[ArrayString<PIECE_ROOM>])
     requires line { trip.line ≤ 400 }
     requires run { trip.run < 96 }
@@ -126,7 +126,7 @@ fn add_run(text: &mut Vec<u8>, trip: Trip, ends: &[ArrayString<PIECE_ROOM>])
 }
 
 /// Adds the rows of a line's runs.
-#[tactic(auto, unfolding(crate::specs::Tables::line_rows))]
+#[tactic(auto, using(crate::proofs::JoinedLemmas::joined_steps), unfolding(crate::specs::Tables::line_rows))]
 fn add_line(text: &mut Vec<u8>, line: u32)
     requires line { line ≤ 400 }
     requires room { vec_len text.old + 201600 ≤ vec_capacity text.old }
@@ -141,7 +141,7 @@ fn add_line(text: &mut Vec<u8>, line: u32)
 }
 
 /// The times of so many lines' runs at their places.
-#[tactic(auto, unfolding(crate::specs::Tables::stop_times_text))]
+#[tactic(auto, using(crate::proofs::JoinedLemmas::joined_steps), unfolding(crate::specs::Tables::stop_times_text))]
 pub(crate) fn stop_times(alloc: Global, lines: u32) -> Result<Vec<u8>, NoMemory>
     requires { lines ≤ 400 }
     ensures { IfOk result (λ text. text.items ≡ stop_times_text lines) }

@@ -7,6 +7,7 @@ use crate::names::{Route, Stop, Trip};
 use std::alloc::{AllocError, Global};
 
 /// Writes the rows of the hubs.
+#[tactic(auto, using(crate::proofs::JoinedLemmas::joined_steps))]
 fn write_hubs(text: &mut String) -> Result<(), AllocError>
     ensures { OnOk result (string_bytes text.new ≡ string_bytes text.old ++ joined hub_row 10) }
 {
@@ -18,7 +19,7 @@ fn write_hubs(text: &mut String) -> Result<(), AllocError>
 }
 
 /// Writes the rows of the stops of a line's own.
-#[tactic(auto, unfolding(crate::specs::Tables::own_rows))]
+#[tactic(auto, using(crate::proofs::JoinedLemmas::joined_steps), unfolding(crate::specs::Tables::own_rows))]
 fn write_own_stops(text: &mut String, line: u32) -> Result<(), AllocError>
     ensures { OnOk result (string_bytes text.new ≡ string_bytes text.old ++ own_rows line) }
 {
@@ -30,7 +31,7 @@ fn write_own_stops(text: &mut String, line: u32) -> Result<(), AllocError>
 }
 
 /// The stops of so many lines.
-#[tactic(auto, unfolding(crate::specs::Tables::stops_text))]
+#[tactic(auto, using(crate::proofs::JoinedLemmas::joined_steps), unfolding(crate::specs::Tables::stops_text))]
 pub fn stops(alloc: Global, lines: u32) -> Result<String, AllocError>
     ensures { IfOk result (λ text. string_bytes text ≡ stops_text lines) }
 {
@@ -43,7 +44,7 @@ pub fn stops(alloc: Global, lines: u32) -> Result<String, AllocError>
 }
 
 /// The routes of so many lines.
-#[tactic(auto, unfolding(crate::specs::Tables::routes_text))]
+#[tactic(auto, using(crate::proofs::JoinedLemmas::joined_steps), unfolding(crate::specs::Tables::routes_text))]
 pub fn routes(alloc: Global, lines: u32) -> Result<String, AllocError>
     ensures { IfOk result (λ text. string_bytes text ≡ routes_text lines) }
 {
@@ -57,7 +58,7 @@ pub fn routes(alloc: Global, lines: u32) -> Result<String, AllocError>
 }
 
 /// Writes the rows of a line's trips.
-#[tactic(auto, unfolding(crate::specs::Tables::trip_rows))]
+#[tactic(auto, using(crate::proofs::JoinedLemmas::joined_steps), unfolding(crate::specs::Tables::trip_rows))]
 fn write_trips(text: &mut String, line: u32) -> Result<(), AllocError>
     ensures { OnOk result (string_bytes text.new ≡ string_bytes text.old ++ trip_rows line) }
 {
@@ -70,7 +71,7 @@ fn write_trips(text: &mut String, line: u32) -> Result<(), AllocError>
 }
 
 /// The trips of so many lines.
-#[tactic(auto, unfolding(crate::specs::Tables::trips_text))]
+#[tactic(auto, using(crate::proofs::JoinedLemmas::joined_steps), unfolding(crate::specs::Tables::trips_text))]
 pub fn trips(alloc: Global, lines: u32) -> Result<String, AllocError>
     ensures { IfOk result (λ text. string_bytes text ≡ trips_text lines) }
 {

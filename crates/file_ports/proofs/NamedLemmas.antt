@@ -1,8 +1,12 @@
 -- The first entry with a path, by its place.
-use Rattle.std.proofs.Common.{◌≡◌, ◌<◌, ◌≤◌, ℕ, ◌+◌, List, [], ◌∷◌, ◌++◌, Bool, true, false, cond, not, get_or, set, length, refl, ap, sym, ◌∙◌, arith}
+use Rattle.std.proofs.Common.{◌≡◌, ◌<◌, ◌≤◌, ℕ, ◌+◌, List, [], ◌∷◌, ◌++◌, Bool, true, false, get_or, set, length, refl, ap, sym, ◌∙◌, subst, arith, length-append}
 use Rattle.std.specs.Prelude.{Option, None, Some, if◌then◌else◌, bytes_eq, string_bytes, position}
+use Rattle.std.proofs.lemmas.Bool.{cond_both}
 use Rattle.std.proofs.lemmas.Grind.{common_steps}
+use Rattle.std.proofs.lemmas.List.{get_or-set_same, get_or-set_other, get_or_append_left, get_or_push, length-set}
 use Rattle.std.proofs.lemmas.List.Quantifiers.{position-Some}
+use Rattle.std.proofs.lemmas.List.Recursion.{found_at, found_nowhere, found_set_other, found_push_other}
+use Rattle.std.proofs.lemmas.List.Sums.{fails_before_first}
 use Rattle.std.proofs.lemmas.Slice.Eq.{bytes_eq-Decides}
 use Rattle.std.specs.List.{position_or_len}
 use Rattle.file_ports.specs.declared.named.Named.{Named}
@@ -15,109 +19,66 @@ at_path q e = bytes_eq (string_bytes e.path) q
 pub get_or_next : {A : Type 0} (x : A) (xs : List A) (n : ℕ) (d : A) → get_or (x ∷ xs) (1 + n) d ≡ get_or xs n d
 get_or_next x xs n d = grind (arith, common_steps)
 
-some_step : {T : Type 0} (b : Bool) (e d : Named T) (es : List (Named T)) (v : Option T) (n : ℕ) → cond (not b) (1 + n) 0 < length (e ∷ es)
-    → (n < length es → v ≡ Some (get_or es n d).value)
-    → if◌then◌else◌ b (Some e.value) v ≡ Some (get_or (e ∷ es) (cond (not b) (1 + n) 0) d).value
-some_step true e d es v n h ih = refl
-some_step false e d es v n h ih = ih (omega arith) ∙ ap (λ (x : Named _). Some x.value) (sym (get_or_next e es n d))
-
-some_place : {T : Type 0} (es : List (Named T)) (q : List ℕ) (d : Named T) → position_or_len (at_path q) es < length es
-    → value_at es q ≡ Some (get_or es (position_or_len (at_path q) es) d).value
-some_place [] q d h = absurd (omega arith)
-some_place (e ∷ es) q d h = some_step (at_path q e) e d es (value_at es q) (position_or_len (at_path q) es) h (some_place es q d)
-
-none_step : {T : Type 0} (b : Bool) (e : Named T) (es : List (Named T)) (v : Option T) (n : ℕ) → length (e ∷ es) ≤ cond (not b) (1 + n) 0
-    → (length es ≤ n → v ≡ None) → if◌then◌else◌ b (Some e.value) v ≡ None
-none_step true e es v n h ih = absurd (omega arith)
-none_step false e es v n h ih = ih (omega arith)
-
-no_place : {T : Type 0} (es : List (Named T)) (q : List ℕ) → length es ≤ position_or_len (at_path q) es → value_at es q ≡ None
-no_place [] q h = refl
-no_place (e ∷ es) q h = none_step (at_path q e) e es (value_at es q) (position_or_len (at_path q) es) h (no_place es q)
-
--- what a search by path gives
-pub place_gives_none : {T : Type 0} (es : List (Named T)) (q : List ℕ) → position (at_path q) es ≡ None → value_at es q ≡ None
-place_gives_none es q h = grind (arith, common_steps, no_place es q)
-
-pub place_gives : {T : Type 0} (es : List (Named T)) (q : List ℕ) (i : ℕ) (d : Named T) → position (at_path q) es ≡ Some i
-    → (i < length es) × (value_at es q ≡ Some (get_or es i d).value)
-place_gives es q i d h = grind (arith, common_steps, some_place es q d)
-
 same_path : (x y : List ℕ) → bytes_eq x y ≡ true → x ≡ y
 same_path x y h = (bytes_eq-Decides x y).0 h
 
-equal_paths : (x y : List ℕ) → x ≡ y → bytes_eq x y ≡ true
-equal_paths x y h = (bytes_eq-Decides x y).1 h
+none_pass : {A : Type 0} (p : A → Bool) (xs : List A) → position p xs ≡ None → length xs ≤ position_or_len p xs
+none_pass p xs h = grind (arith, common_steps)
 
--- a path that is q's neighbour's is not q's own
-differs : (x q r : List ℕ) (b : Bool) → bytes_eq q r ≡ b → bytes_eq x q ≡ false → bytes_eq x r ≡ true → b ≡ false
-differs x q r false h n e = refl
-differs x q r true h n e =
-    let one : x ≡ r = same_path x r e in
-    let two : q ≡ r = same_path q r h in
-    let both : bytes_eq x q ≡ true = equal_paths x q (one ∙ sym two) in
-    absurd (let k : true ≡ false = sym both ∙ n in cc)
+pub none_at : {A : Type 0} (p : A → Bool) (xs : List A) → position p xs ≡ None → (k : ℕ) (d : A) → k < length xs → p (get_or xs k d) ≡ false
+none_at p xs h k d l = let far = none_pass p xs h in fails_before_first p xs k d (omega arith)
 
--- the head has the path q and gets the value w
-head_set : {T : Type 0} (p q r : List ℕ) (b : Bool) (w v : T) (rest : Option T) → bytes_eq q r ≡ b → p ≡ q
-    → if◌then◌else◌ b (Some w) rest ≡ if◌then◌else◌ b (Some w) (if◌then◌else◌ (bytes_eq p r) (Some v) rest)
-head_set p q r true w v rest h e = refl
-head_set p q r false w v rest h e =
-    let k : bytes_eq p r ≡ false = ap (λ z. bytes_eq z r) e ∙ h in
-    ap (λ (c : Bool). if◌then◌else◌ c (Some v) rest) (sym k)
+module _ {T : Type 0} where
+  -- where the first entry with the path stands
+  first_at : (es : List (Named T)) (q : List ℕ) (i : ℕ) (e : Named T) → i < length es → ((k : ℕ) → k < i → at_path q (get_or es k e) ≡ false)
+      → get_or es i e ≡ e → string_bytes e.path ≡ q → value_at es q ≡ Some e.value
+  first_at es q i e inside before here is =
+      let own : at_path q (get_or es i e) ≡ true = ap (at_path q) here ∙ (bytes_eq-Decides (string_bytes e.path) q).1 is in
+      found_at (λ (es : List (Named T)). value_at es q) (at_path q) (λ e. Some e.value) None refl (λ _ _. refl) es i e inside before own
+          ∙ ap (λ (e : Named T). Some e.value) here
 
--- the head has another path
-tail_set : {T : Type 0} (p q r : List ℕ) (b : Bool) (w v : T) (old new : Option T) → bytes_eq p r ≡ b → bytes_eq p q ≡ false
-    → new ≡ if◌then◌else◌ (bytes_eq q r) (Some w) old
-    → if◌then◌else◌ b (Some v) new ≡ if◌then◌else◌ (bytes_eq q r) (Some w) (if◌then◌else◌ b (Some v) old)
-tail_set p q r true w v old new h n ih =
-    let k : bytes_eq q r ≡ false = differs p q r (bytes_eq q r) refl n h in
-    ap (λ (c : Bool). if◌then◌else◌ c (Some w) (Some v)) (sym k)
-tail_set p q r false w v old new h n ih = ih
+  -- what a search by path gives
+  pub place_gives_none : (es : List (Named T)) (q : List ℕ) → position (at_path q) es ≡ None → value_at es q ≡ None
+  place_gives_none [] q h = refl
+  place_gives_none (e ∷ es) q h =
+      found_nowhere (λ (es : List (Named T)). value_at es q) (at_path q) (λ e. Some e.value) None refl (λ _ _. refl) (e ∷ es) e (λ k l. none_at (at_path q)
+          (e ∷ es) h k e l)
 
-set_next : {A : Type 0} (x : A) (xs : List A) (n : ℕ) (y : A) → set (x ∷ xs) (1 + n) y ≡ x ∷ set xs n y
-set_next x xs n y = grind (arith, common_steps)
+  pub place_gives : (es : List (Named T)) (q : List ℕ) (i : ℕ) (d : Named T) → position (at_path q) es ≡ Some i
+      → (i < length es) × (value_at es q ≡ Some (get_or es i d).value)
+  place_gives es q i d h =
+      let s = position-Some (at_path q) es i d h in
+      (s.0, found_at (λ (es : List (Named T)). value_at es q) (at_path q) (λ e. Some e.value) None refl (λ _ _. refl) es i d s.0 s.2 s.1)
 
-set_step : {T : Type 0} (b : Bool) (e w : Named T) (es : List (Named T)) (q r : List ℕ) (n : ℕ) → at_path q e ≡ b
-    → cond (not b) (1 + n) 0 < length (e ∷ es) → string_bytes w.path ≡ q
-    → (n < length es → value_at (set es n w) r ≡ if◌then◌else◌ (bytes_eq q r) (Some w.value) (value_at es r))
-    → value_at (set (e ∷ es) (cond (not b) (1 + n) 0) w) r ≡ if◌then◌else◌ (bytes_eq q r) (Some w.value) (value_at (e ∷ es) r)
-set_step true e w es q r n t h same ih =
-    let p : string_bytes e.path ≡ q = same_path _ _ t in
-    ap (λ z. if◌then◌else◌ (bytes_eq z r) (Some w.value) (value_at es r)) same
-    ∙ head_set (string_bytes e.path) q r (bytes_eq q r) w.value e.value (value_at es r) refl p
-set_step false e w es q r n t h same ih =
-    ap (λ z. value_at z r) (set_next e es n w)
-    ∙ tail_set (string_bytes e.path) q r (bytes_eq (string_bytes e.path) r) w.value e.value (value_at es r) (value_at (set es n w) r) refl t (ih (omega arith))
+  -- a value put at a path, where nothing changes at the others
+  put_by : (old new : List (Named T)) (q r : List ℕ) (v : T) → value_at new q ≡ Some v → (bytes_eq q r ≡ false → value_at new r ≡ value_at old r)
+      → value_at new r ≡ if◌then◌else◌ (bytes_eq q r) (Some v) (value_at old r)
+  put_by old new q r v here others =
+      cond_both (bytes_eq q r) (Some v) (value_at old r) (λ (o : Option T). value_at new r ≡ o) (λ e. subst (λ z. value_at new z ≡ Some v)
+          (same_path q r e) here) others
 
-set_place : {T : Type 0} (es : List (Named T)) (q r : List ℕ) (w : Named T) → position_or_len (at_path q) es < length es → string_bytes w.path ≡ q
-    → value_at (set es (position_or_len (at_path q) es) w) r ≡ if◌then◌else◌ (bytes_eq q r) (Some w.value) (value_at es r)
-set_place [] q r w h same = absurd (omega arith)
-set_place (e ∷ es) q r w h same = set_step (at_path q e) e w es q r (position_or_len (at_path q) es) refl h same (λ k. set_place es q r w k same)
+  -- a new value at the first place with this path
+  pub set_gives : (es : List (Named T)) (q r : List ℕ) (i : ℕ) (w : Named T) → position (at_path q) es ≡ Some i → string_bytes w.path ≡ q
+      → value_at (set es i w) r ≡ if◌then◌else◌ (bytes_eq q r) (Some w.value) (value_at es r)
+  set_gives es q r i w h same =
+      let s = position-Some (at_path q) es i w h in
+      let size = length-set es i w in
+      put_by es (set es i w) q r w.value
+      (first_at (set es i w) q i w (omega arith) (λ k l. ap (at_path q) (get_or-set_other es i k w w (λ e. omega (arith, l, e)))
+          ∙ s.2 k l) (get_or-set_same es i w w s.0) same)
+      (λ other. found_set_other (λ (es : List (Named T)). value_at es r) (at_path r) (λ e. Some e.value) None refl (λ _ _. refl) es i w w
+      (ap (λ z. bytes_eq z r) (same_path (string_bytes (get_or es i w).path) q s.1) ∙ other) (ap (λ z. bytes_eq z r) same ∙ other))
 
--- a new value at the first place with this path
-pub set_gives : {T : Type 0} (es : List (Named T)) (q r : List ℕ) (i : ℕ) (w : Named T) → position (at_path q) es ≡ Some i → string_bytes w.path ≡ q
-    → value_at (set es i w) r ≡ if◌then◌else◌ (bytes_eq q r) (Some w.value) (value_at es r)
-set_gives es q r i w h same = grind (arith, common_steps, set_place es q r w)
-
-push_step : {T : Type 0} (b : Bool) (e w : Named T) (es : List (Named T)) (r : List ℕ) (n : ℕ) → at_path (string_bytes w.path) e ≡ b
-    → length (e ∷ es) ≤ cond (not b) (1 + n) 0
-    → (length es ≤ n → value_at (es ++ w ∷ []) r ≡ if◌then◌else◌ (bytes_eq (string_bytes w.path) r) (Some w.value) (value_at es r))
-    → value_at (e ∷ (es ++ w ∷ [])) r ≡ if◌then◌else◌ (bytes_eq (string_bytes w.path) r) (Some w.value) (value_at (e ∷ es) r)
-push_step true e w es r n t h ih = absurd (omega arith)
-push_step false e w es r n t h ih =
-    tail_set (string_bytes e.path) (string_bytes w.path) r (bytes_eq (string_bytes e.path) r) w.value e.value (value_at es r) (value_at (es ++ w ∷ []) r) refl t (ih (omega arith))
-
-push_place : {T : Type 0} (es : List (Named T)) (r : List ℕ) (w : Named T) → length es ≤ position_or_len (at_path (string_bytes w.path)) es
-    → value_at (es ++ w ∷ []) r ≡ if◌then◌else◌ (bytes_eq (string_bytes w.path) r) (Some w.value) (value_at es r)
-push_place [] r w h = refl
-push_place (e ∷ es) r w h =
-    push_step (at_path (string_bytes w.path) e) e w es r (position_or_len (at_path (string_bytes w.path)) es) refl h (push_place es r w)
-
--- a new entry, whose path has none yet
-pub push_gives : {T : Type 0} (es : List (Named T)) (r : List ℕ) (w : Named T) → position (at_path (string_bytes w.path)) es ≡ None
-    → value_at (es ++ w ∷ []) r ≡ if◌then◌else◌ (bytes_eq (string_bytes w.path) r) (Some w.value) (value_at es r)
-push_gives es r w h = grind (arith, common_steps, push_place es r w)
+  -- a new entry, whose path has none yet
+  pub push_gives : (es : List (Named T)) (r : List ℕ) (w : Named T) → position (at_path (string_bytes w.path)) es ≡ None
+      → value_at (es ++ w ∷ []) r ≡ if◌then◌else◌ (bytes_eq (string_bytes w.path) r) (Some w.value) (value_at es r)
+  push_gives es r w h =
+      let q = string_bytes w.path in
+      let size = length-append es (w ∷ []) in
+      put_by es (es ++ w ∷ []) q r w.value
+      (first_at (es ++ w ∷ []) q (length es) w (omega arith) (λ k l. ap (at_path q) (get_or_append_left es (w ∷ []) w k l)
+          ∙ none_at (at_path q) es h k w l) (get_or_push es w w (length es) refl) refl)
+      (λ other. found_push_other (λ (es : List (Named T)). value_at es r) (at_path r) (λ e. Some e.value) None refl (λ _ _. refl) es w other)
 
 -- what a search answered, of the list that was lent
 pub searched : {T : Type 0} (es lent : List (Named T)) (q : List ℕ) (r w : Option ℕ) → r ≡ position (at_path q) lent → lent ≡ es → r ≡ w → position (at_path q) es ≡ w

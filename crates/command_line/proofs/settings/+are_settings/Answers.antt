@@ -1,6 +1,6 @@
 use Rattle.std.proofs.Common.{◌≡◌, ℕ, List, sym, ◌∙◌, true, false, Bor}
 use Rattle.std.specs.Prelude.{is_some}
-use Rattle.command_line.proofs.Pairs.{are_settings-short, are_settings-unknown, are_settings-known}
+use Rattle.command_line.proofs.Pairs.{IsPair, are_settings-short, are_settings-unknown, are_settings-known}
 use Rattle.command_line.proofs.settings.+are_settings.Goals as goal
 
 pub returns-in_default : goal.returns-in_default
@@ -8,19 +8,19 @@ returns-in_default t c = are_settings-short c.args.settings.now c.is_empty.resul
 
 pub returns-in-None : goal.returns-in-None
 returns-in-None t c =
-    are_settings-unknown c.args.settings.now c.name-item.result c._value-item.result c.as_str.result.now
-    c.in-len2-up.len_at_least c.name-item.is c._value-item.is c.as_str.ensures.value (sym c.option_named.ensures ∙ c.in-None.is)
+    let pair : IsPair _ _ _ _ = record { two = c.in-len2-up.len_at_least; name_is = c.name-item.is; value_is = c._value-item.is; word_is = c.as_str.ensures.value } in
+    are_settings-unknown _ _ _ _ pair (sym c.option_named.ensures ∙ c.in-None.is)
 
 pub returns-then-is_none : goal.returns-then-is_none
 returns-then-is_none t c =
-    let all = are_settings-known (λ (value : Bor (List ℕ)). value.now) c.value_of.result c.args.settings.now c.name-item.result c._value-item.result c.as_str.result.now c.in-Some.option
-    c.in-len2-up.len_at_least c.name-item.is c._value-item.is c.as_str.ensures.value (sym c.option_named.ensures ∙ c.in-Some.is) c.value_of.ensures in
+    let pair : IsPair _ _ _ _ = record { two = c.in-len2-up.len_at_least; name_is = c.name-item.is; value_is = c._value-item.is; word_is = c.as_str.ensures.value } in
+    let all = are_settings-known _ _ _ _ pair (λ (value : Bor (List ℕ)). value.now) c.value_of.result c.in-Some.option (sym c.option_named.ensures ∙ c.in-Some.is) c.value_of.ensures in
     let none : is_some c.value_of.result ≡ false = c.if-is_none.ensures in
     c.are_settings.ensures ∙ sym (rw none at all)
 
 pub returns-else-is_none : goal.returns-else-is_none
 returns-else-is_none t c =
-    let all = are_settings-known (λ (value : Bor (List ℕ)). value.now) c.value_of.result c.args.settings.now c.name-item.result c._value-item.result c.as_str.result.now c.in-Some.option
-    c.in-len2-up.len_at_least c.name-item.is c._value-item.is c.as_str.ensures.value (sym c.option_named.ensures ∙ c.in-Some.is) c.value_of.ensures in
+    let pair : IsPair _ _ _ _ = record { two = c.in-len2-up.len_at_least; name_is = c.name-item.is; value_is = c._value-item.is; word_is = c.as_str.ensures.value } in
+    let all = are_settings-known _ _ _ _ pair (λ (value : Bor (List ℕ)). value.now) c.value_of.result c.in-Some.option (sym c.option_named.ensures ∙ c.in-Some.is) c.value_of.ensures in
     let some : is_some c.value_of.result ≡ true = c.if-is_none.ensures in
     c.if-is_none.false ∙ sym (rw some at all)

@@ -1,18 +1,12 @@
-use Rattle.std.proofs.Common.{◌-◌, ◌^◌, ℕ, List, min, sym, ap, arith}
-use Rattle.std.specs.Prelude.{sum_by}
+use Rattle.std.proofs.Common.{◌≡◌, ◌-◌, ℕ, length, arith}
 use Rattle.gtfs_tables.specs.Timed.{kept_at}
 use Rattle.connections.specs.Counts.{each_of}
-use Rattle.connections.proofs.StepLemmas.{steps-zero}
-use Rattle.connections.proofs.SumLemmas.{sum_by-next}
+use Rattle.connections.proofs.SumLemmas.{steps-sum}
 use Rattle.connections.proofs.counts.sum_steps.Goals as goal
 
-pub loop-k-init : goal.loop-k-init
-loop-k-init c =
-    sym (ap (λ (xs : List ℕ). min (sum_by (λ (k : ℕ). each_of c.args.changes.now c.args.counted (kept_at c.args.rows.now k).place) xs) (2 ^ 64 - 1))
-    (steps-zero c.args.window c.args.rows.now c.args.origin))
-
-pub loop-k-preserved : goal.loop-k-preserved
-loop-k-preserved c =
-    let each = λ (k : ℕ). each_of c.args.changes.now c.args.counted (kept_at c.args.rows.now k).place in
-    let more = sum_by-next each c.args.window c.args.rows.now c.args.origin c.loop-k.k in
-    omega (arith, more, c.loop-k.invariant, c.sum_step.ensures, c.saturating_add-sum.ensures)
+pub returns : goal.returns
+returns c =
+    let end : length c.args.rows.now - 1 ≡ c.loop-k.k = omega (arith, c.saturating_sub-k-end.ensures) in
+    let sum = steps-sum (λ (k : ℕ). each_of c.args.changes.now c.args.counted
+        (kept_at c.args.rows.now k).place) c.args.window c.args.rows.now c.args.origin c.loop-k.k in
+    rw end (omega (arith, c.loop-k.invariant, sum))

@@ -1,25 +1,12 @@
-use Rattle.std.proofs.Common.{◌-◌, ◌^◌, List, min, length, sym, subst, ap₂, ◌∙◌}
+use Rattle.std.proofs.Common.{◌-◌, ◌^◌, List, min, sym, ap₂, ◌∙◌}
 use Rattle.trip_frequencies.specs.declared.frequencies.FrequencyRow.{FrequencyRow}
 use Rattle.stop_times.specs.declared.rows.StopRow.{StopRow}
-use Rattle.gtfs_tables.specs.Repeats.{AreRepeats}
 use Rattle.gtfs_tables.specs.Timed.{rows_of}
-use Rattle.connections.specs.Rides.{AreDepartures, is_active_trip}
+use Rattle.connections.specs.Rides.{is_active_trip}
 use Rattle.connections.specs.TripRuns.{frequencies_of}
 use Rattle.connections.specs.Counts.{each_of, runs_sum}
-use Rattle.connections.proofs.ReachLemmas.{departures_are}
 use Rattle.connections.proofs.SumLemmas.{active-sum}
 use Rattle.connections.proofs.counts.sum_trip.Goals as goal
-
-pub may_run-requires : goal.may_run-requires
-may_run-requires c = subst AreDepartures (sym c.stop_times-rows.ensures)
-    (departures_are (rows_of c.args.feed.now c.args.trip) (length c.args.feed.now.stop_ids) (c.requires.timed c.args.trip c.requires.trip))
-
-pub sum_runs-requires-clause-departures : goal.sum_runs-requires-clause-departures
-sum_runs-requires-clause-departures c = subst AreDepartures (sym c.stop_times-rows.ensures)
-    (departures_are (rows_of c.args.feed.now c.args.trip) (length c.args.feed.now.stop_ids) (c.requires.timed c.args.trip c.requires.trip))
-
-pub sum_runs-requires-clause-repeats : goal.sum_runs-requires-clause-repeats
-sum_runs-requires-clause-repeats c = subst AreRepeats (sym c.frequencies-frequencies.ensures) (c.requires.repeats c.args.trip c.requires.trip)
 
 pub returns : goal.returns
 returns c =
@@ -27,4 +14,5 @@ returns c =
     (runs_sum (each_of c.args.changes.now c.args.counted) c.args.window (rows_of c.args.feed.now c.args.trip) (frequencies_of c.args.feed.now c.args.trip) c.args.day)
     c.sum_runs.result (sym c.has_service.ensures ∙ c.if-not-has_service.false)
     (c.sum_runs.ensures ∙ ap₂ (λ (rows : List StopRow) (fs : List FrequencyRow). min
-    (runs_sum (each_of c.args.changes.now c.args.counted) c.args.window rows fs c.args.day) (2 ^ 64 - 1)) c.stop_times-rows.ensures c.frequencies-frequencies.ensures)
+    (runs_sum (each_of c.args.changes.now c.args.counted) c.args.window rows fs c.args.day)
+        (2 ^ 64 - 1)) c.rows_of-rows.ensures.rows c.frequencies_of-frequencies.ensures.rows)

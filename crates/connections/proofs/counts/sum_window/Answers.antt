@@ -1,21 +1,14 @@
-use Rattle.std.proofs.Common.{◌-◌, ◌^◌, ℕ, min, length, sym, ap, ◌∙◌, arith}
+use Rattle.std.proofs.Common.{◌-◌, ◌^◌, min, length, ap, ◌∙◌, arith}
 use Rattle.connections.specs.declared.origins.ServiceDay.{ServiceDay}
 use Rattle.connections.specs.Window.{day_at}
 use Rattle.connections.specs.Counts.{each_of, day_sum, days_sum}
-use Rattle.connections.proofs.CountLemmas.{sum-zero, sum-next}
+use Rattle.connections.proofs.CountLemmas.{sum-next}
 use Rattle.connections.proofs.counts.sum_window.Goals as goal
-
-pub loop-d-init : goal.loop-d-init
-unfolding days_sum
-loop-d-init c =
-    let f = c.args.feed.now in
-    sym (ap (λ (n : ℕ). min n (2 ^ 64 - 1)) (sum-zero (λ d. day_sum (each_of c.args.changes.now c.args.counted) f c.args.services.now c.args.window (day_at c.args.window d) (length f.trip_ids))))
 
 pub loop-d-preserved : goal.loop-d-preserved
 unfolding days_sum
 loop-d-preserved c =
-    let f = c.args.feed.now in let s = c.args.services.now in let w = c.args.window in let d = c.loop-d.d in
+    let f = c.args.feed.now in let s = c.args.services.now in let w = c.args.window in
     let each = each_of c.args.changes.now c.args.counted in
-    let more = sum-next (λ d. day_sum each f s w (day_at w d) (length f.trip_ids)) d in
     let here = c.sum_day-day.ensures ∙ ap (λ (day : ServiceDay). min (day_sum each f s w day (length f.trip_ids)) (2 ^ 64 - 1)) c.day.ensures in
-    omega (arith, more, c.loop-d.invariant, here, c.saturating_add-sum.ensures)
+    omega (arith, sum-next (λ d. day_sum each f s w (day_at w d) (length f.trip_ids)) c.loop-d.d, c.loop-d.invariant, here, c.saturating_add-sum.ensures)

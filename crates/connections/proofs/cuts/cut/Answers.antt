@@ -1,7 +1,13 @@
-use Rattle.std.proofs.Common.{arith}
-use Rattle.connections.proofs.FaultLemmas.{not_many}
+use Rattle.std.proofs.Common.{◌≡◌, Bool, true, false, refl, arith}
+use Rattle.std.specs.Prelude.{Option, Some, None, if◌then◌else◌}
+use Rattle.std.specs.Option.{option_or}
+use Rattle.std.proofs.lemmas.Bool.{ltb-false}
+use Rattle.connections.specs.declared.cuts.WindowFault.{WindowFault}
 use Rattle.connections.proofs.cuts.cut.Goals as goal
 
+none_is : (b : Bool) (fault : WindowFault) (more : Option WindowFault) → None ≡ option_or (if b then Some fault else None) more → b ≡ false
+none_is true fault more e = absurd (cc)
+none_is false fault more e = refl
+
 pub network_of-requires-clause-few : goal.network_of-requires-clause-few
-network_of-requires-clause-few c =
-    omega (arith, not_many c.args.limits.now _ _ c.in_ok-count.ensures, c.requires.limits.connections)
+network_of-requires-clause-few c = omega (arith, ltb-false c.args.limits.now.connections _ (none_is _ _ _ c.in_ok-count.ensures), c.requires.limits.connections)

@@ -1,12 +1,9 @@
-use Rattle.std.proofs.Common.{◌≡◌, List, [], length, ap, sym, subst, ◌∙◌, arith}
+use Rattle.std.proofs.Common.{◌≡◌, [], length, ap, sym, subst, ◌∙◌, arith}
 use Rattle.std.specs.Prelude.{slice_index_or}
 use Rattle.csv_rows.specs.Lists.{list_below}
 use Rattle.csv_rows.proofs.ListLemmas.{length-list_below}
 use Rattle.plan_model.specs.Network.{AreLinksInto}
 use Rattle.change_times.specs.Changes.{seconds_of, links_of}
-use Rattle.connections.specs.declared.runs.Run.{Run}
-use Rattle.connections.specs.TripRuns.{window_runs}
-use Rattle.connections.specs.Networks.{rides_below, AreRunNames}
 use Rattle.connections.proofs.CountLemmas.{rides_counted}
 use Rattle.connections.proofs.LinkLemmas.{links_fit, names_fit}
 use Rattle.connections.proofs.RunLemmas.{runs_are}
@@ -27,16 +24,6 @@ network_of_runs-requires-clause-few c =
     let size = rides_counted c.args.feed.now c.args.services.now c.args.delays.now c.args.window c.as_slice.result.now (c.as_slice.ensures.value ∙ c.in_ok-runs.ensures) in
     omega (arith, size, c.requires.few)
 
-pub network_of_runs-requires-clause-places : goal.network_of_runs-requires-clause-places
-network_of_runs-requires-clause-places c =
-    ap length c.in_ok-change.ensures.seconds ∙ length-list_below (seconds_of c.args.changes.now) c.stop_count.result ∙ c.stop_count.ensures.count
-
-pub with_links-requires-clause-many : goal.with_links-requires-clause-many
-with_links-requires-clause-many c =
-    ap length c.in_ok-links.ensures ∙ length-list_below (links_of c.args.changes.now) c.stop_count-2.result
-    ∙ sym (ap length c.in_ok-network.ensures.change ∙ ap length c.in_ok-change.ensures.seconds ∙ length-list_below (seconds_of c.args.changes.now) c.stop_count.result
-    ∙ c.stop_count.ensures.count ∙ sym c.stop_count-2.ensures.count)
-
 pub with_links-requires-clause-each : goal.with_links-requires-clause-each
 with_links-requires-clause-each c =
     let places : length c.in_ok-network.network.change ≡ length c.args.feed.now.stop_ids
@@ -45,20 +32,6 @@ with_links-requires-clause-each c =
     = c.in_ok-links.ensures ∙ ap (list_below (links_of c.args.changes.now)) c.stop_count-2.ensures.count in
     λ r inside. subst (λ n. AreLinksInto n r (slice_index_or c.in_ok-links.links r [])) (sym places)
     (links_fit (length c.args.feed.now.stop_ids) c.args.changes.now c.links_into-link.ensures.sound c.requires.links c.in_ok-links.links links r (omega (arith, inside, places)))
-
-pub returns-clause-network : goal.returns-clause-network
-returns-clause-network c =
-    let f = c.args.feed.now in let s = c.args.services.now in let w = c.args.window in
-    let rs : c.as_slice.result.now ≡ window_runs f s w = c.as_slice.ensures.value ∙ c.in_ok-runs.ensures in
-    record {
-      connections = c.with_links.ensures.connections ∙ c.in_ok-network.ensures.connections ∙ ap (λ (x : List Run). rides_below f c.args.delays.now w x (length x)) rs;
-      change_of_places = c.with_links.ensures.change ∙ c.in_ok-network.ensures.change ∙ c.in_ok-change.ensures.seconds
-          ∙ ap (list_below (seconds_of c.args.changes.now)) c.stop_count.ensures.count;
-      links_of_places = c.with_links.ensures.links ∙ c.in_ok-links.ensures ∙ ap (list_below (links_of c.args.changes.now)) c.stop_count-2.ensures.count;
-      classes_of_delays = c.with_links.ensures.classes ∙ c.in_ok-network.ensures.classes;
-      places = c.in_ok-network.ensures.places;
-      runs = subst (λ (x : List Run). AreRunNames f x (length x) c.in_ok-network.names.runs) rs c.in_ok-network.ensures.runs;
-    }
 
 pub returns-clause-count : goal.returns-clause-count
 returns-clause-count c =

@@ -1,7 +1,7 @@
-use Rattle.std.proofs.Common.{◌≡◌, ◌+◌, ◌-◌, ◌≤◌, ◌++◌, max}
+use Rattle.std.proofs.Common.{◌≡◌, ◌+◌, ◌++◌}
 use Rattle.csv_rows.specs.Lists.{list_below}
 use Rattle.connections.specs.Repeats.{repeat_of}
 use Rattle.connections.proofs.repeats.add_between.Given as goal
 
-abbrev pub invariant-loop-m : goal.invariant-loop-m
-invariant-loop-m l = (l.repeats.items ≡ l.initial.repeats.items ++ list_below (λ i. repeat_of l.row (l.from + i)) (l.m - l.from)) × (l.m ≤ max l.from l.to)
+abbrev pub invariant-loop-i : goal.invariant-loop-i
+invariant-loop-i l = l.repeats.items ≡ l.initial.repeats.items ++ list_below (λ i. repeat_of l.row (l.from + i)) l.i
