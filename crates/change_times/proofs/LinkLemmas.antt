@@ -1,11 +1,10 @@
 -- The links into places, built one place after the other.
-use Rattle.std.proofs.Common.{◌≡◌, ℕ, zero, suc, ◌+◌, ◌-◌, ◌<◌, max, List, [], ◌∷◌, ◌++◌, length, take, get_or, set, Option, Some, None, refl, sym, ap, ◌∙◌, subst, arith, add-one}
-use Rattle.std.proofs.Common.{length-append, get_or-set_same, get_or-set_other, inl, inr}
-use Rattle.std.specs.Prelude.{OnOk, Result, Ok, Err}
+use Rattle.std.proofs.Common.{◌≡◌, ℕ, zero, suc, ◌+◌, ◌-◌, ◌<◌, max, List, [], ◌∷◌, ◌++◌, length, take, get_or, set, Option, Some, None, refl, sym, ap, ◌∙◌}
+use Rattle.std.proofs.Common.{subst, arith, add-one, length-append, get_or-set_same, get_or-set_other, inl, inr, OnOk, Result, Ok, Err, append-nil}
 use Rattle.std.proofs.lemmas.Bool.{cases_eq}
 use Rattle.std.proofs.lemmas.Bool.Decides.{nat_tests}
 use Rattle.std.proofs.Math.Seq.{set-append_seam}
-use Rattle.std.proofs.lemmas.List.{get_or_default, append-nil, get_or_push, take_more}
+use Rattle.std.proofs.lemmas.List.{get_or_default, get_or_push, take_more}
 use Rattle.std.proofs.lemmas.List.Elements.{All-append, All-get_or, All-nil, All-push, All-weaker}
 use Rattle.plan_model.specs.declared.model.Way.{Way}
 use Rattle.change_times.specs.declared.links.Walk.{Walk}

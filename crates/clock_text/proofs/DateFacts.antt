@@ -1,6 +1,6 @@
 -- Dates from 1970 on.
-use Rattle.std.proofs.Common.{◌≡◌, ℕ, ◌<◌, ◌≤◌, ◌⊎◌, inl, inr, arith, rules, pos, negsuc, ℤ, ◌≤ℤ◌, ◌<ℤ◌, true, refl, sym, ap, subst, ◌∙◌}
-use Rattle.std.specs.Prelude.{Some, None, if◌then◌else◌, unsigned_abs}
+use Rattle.std.proofs.Common.{◌≡◌, ℕ, ◌<◌, ◌≤◌, ◌⊎◌, inl, inr, arith, rules, pos, negsuc, ℤ, ◌≤ℤ◌, ◌<ℤ◌, true, refl, sym, ap, subst, ◌∙◌, Some, None}
+use Rattle.std.proofs.Common.{if◌then◌else◌, unsigned_abs}
 use Rattle.std.proofs.lemmas.Bool.{cases_order}
 use Rattle.std.proofs.lemmas.Int.{by_lt_z}
 use Rattle.jiff_core.proofs.DateLemmas.{epoch_day-lt}

@@ -1,8 +1,7 @@
 -- A line is a command and its settings, and the other way round.
-use Rattle.std.proofs.Common.{◌≡◌, ◌≢◌, ℕ, suc, List, [], ◌∷◌, arith, refl, ap, sym, ◌∙◌, Option, Some, None, Bool, true, false, IsTrue}
-use Rattle.std.specs.Prelude.{slice_get, is_none, ◌&&◌, if◌then◌else◌, All, AllPairs}
-use Rattle.std.specs.List.{flat_map, find, position_or_len}
-use Rattle.std.specs.Str.{bytes_eq}
+use Rattle.std.proofs.Common.{◌≡◌, ◌≢◌, ℕ, suc, List, [], ◌∷◌, arith, refl, ap, sym, ◌∙◌, Option, Some, None, Bool, true, false, IsTrue, slice_get, is_none}
+use Rattle.std.proofs.Common.{if◌then◌else◌, All, AllPairs, flat_map, find, bytes_eq}
+use Rattle.std.specs.List.{position_or_len}
 use Rattle.std.proofs.lemmas.Bool.{false≢true, and_parts, false_from_ne_true}
 use Rattle.std.proofs.lemmas.Option.{get_or_from_slice_get, slice_get_within}
 use Rattle.std.proofs.lemmas.List.Folds.{find_at}

@@ -1,9 +1,7 @@
 -- Words as a name, a value and the others.
-use Rattle.std.proofs.Common.{◌≡◌, ℕ, suc, ◌-◌, ◌<◌, ◌≤◌, List, [], ◌∷◌, length, map, string_bytes, arith, refl, ap, sym, ◌∙◌, Option, Some, None, Bool, true, false, take, drop, get_or}
+use Rattle.std.proofs.Common.{◌≡◌, ℕ, suc, ◌-◌, ◌<◌, ◌≤◌, List, [], ◌∷◌, length, map, string_bytes, arith, refl, ap, sym, ◌∙◌, Option, Some, None, Bool, true}
+use Rattle.std.proofs.Common.{false, take, drop, get_or, String, is_none, is_some, not, option_map, ◌&&◌, ◌==◌, bytes_eq, Global}
 use Rattle.std.proofs.Math.Seq.{take-length}
-use Rattle.std.specs.Prelude.{String, is_none, is_some, not, option_map, ◌&&◌, ◌==◌}
-use Rattle.std.specs.Str.{bytes_eq}
-use Rattle.std.specs.Global.{Global}
 use Rattle.command_line.specs.declared.options.OptionName.{OptionName}
 use Rattle.command_line.specs.Options.{option_name, option_named}
 use Rattle.command_line.specs.Settings.{value_of, is_new, are_settings}

@@ -1,6 +1,6 @@
 -- The rides of runs are in order, fit their places and classes, and each run has one.
-use Rattle.std.proofs.Common.{◌≡◌, ℕ, suc, ◌+◌, ◌-◌, ◌<◌, ◌≤◌, ◌⊎◌, inl, inr, ℤ, pos, negsuc, ◌≤ℤ◌, List, length, map, get_or, slice_index, Some, All, refl, sym, ap, ◌∙◌, subst, arith, ⊎_elim}
-use Rattle.std.specs.Prelude.{AllPairs, unsigned_abs}
+use Rattle.std.proofs.Common.{◌≡◌, ℕ, suc, ◌+◌, ◌-◌, ◌<◌, ◌≤◌, ◌⊎◌, inl, inr, ℤ, pos, negsuc, ◌≤ℤ◌, List, length, map, get_or, slice_index, Some, All, refl}
+use Rattle.std.proofs.Common.{sym, ap, ◌∙◌, subst, arith, ⊎_elim, AllPairs, unsigned_abs}
 use Rattle.std.proofs.lemmas.Int.{ints}
 use Rattle.std.proofs.lemmas.List.{get_or_default, length-map}
 use Rattle.std.proofs.lemmas.List.Elements.{All-weaker, All-get_or, All-map, Contains-get_or}

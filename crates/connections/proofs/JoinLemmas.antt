@@ -1,7 +1,6 @@
 -- Lists joined one after the other.
-use Rattle.std.proofs.Common.{◌≡◌, ℕ, zero, suc, ◌+◌, ◌-◌, ◌<◌, ◌≤◌, Bool, true, false, List, [], ◌∷◌, ◌++◌, length, get_or, All, Contains, refl, sym, ap, ◌∙◌, subst, arith, inl, inr, ⊎_elim, add-one}
-use Rattle.std.proofs.Common.{append-nil, append_assoc, length-append}
-use Rattle.std.specs.Prelude.{AllPairs}
+use Rattle.std.proofs.Common.{◌≡◌, ℕ, zero, suc, ◌+◌, ◌-◌, ◌<◌, ◌≤◌, Bool, true, false, List, [], ◌∷◌, ◌++◌, length, get_or, All, Contains, refl, sym, ap}
+use Rattle.std.proofs.Common.{subst, arith, inl, inr, ⊎_elim, add-one, append-nil, append_assoc, length-append, AllPairs}
 use Rattle.std.proofs.lemmas.Bool.{cases_lt, cases_eq}
 use Rattle.std.proofs.lemmas.List.Elements.{All-nil, All-cons, All-append, All-get_or, All-weaker, Contains-append_left, Contains-append_right}
 use Rattle.plan_model.proofs.Lists.{AllPairs-append, AllPairs-nil, AllPairs-one}

@@ -1,9 +1,8 @@
 -- The runs that ride in a window, by service day, position of the trip, and how they start.
-use Rattle.std.proofs.Common.{◌≡◌, ℕ, ◌<ℤ◌, ◌<◌, ◌⊎◌, inl, inr, Bool, true, false, List, [], ◌∷◌, length, map, All, refl, sym, ◌∙◌, subst, arith, ⊎_elim, if◌then◌else◌}
-use Rattle.std.specs.Prelude.{AllPairs}
+use Rattle.std.proofs.Common.{◌≡◌, ℕ, ◌<ℤ◌, ◌<◌, ◌⊎◌, inl, inr, Bool, true, false, List, [], ◌∷◌, length, map, All, refl, sym, ◌∙◌, subst, arith, ⊎_elim}
+use Rattle.std.proofs.Common.{if◌then◌else◌, AllPairs, ltb-true}
 use Rattle.std.proofs.lemmas.Int.{ints}
 use Rattle.std.proofs.lemmas.List.Elements.{All-weaker, All-nil, All-get_or, All-map}
-use Rattle.std.proofs.lemmas.Bool.{ltb-true}
 use Rattle.std.proofs.lemmas.Option.{same_Some}
 use Rattle.trip_frequencies.specs.declared.frequencies.FrequencyRow.{FrequencyRow}
 use Rattle.stop_times.specs.declared.rows.StopRow.{StopRow}

@@ -1,8 +1,7 @@
 -- In which table a fault is, and the first of several.
-use Rattle.std.proofs.Common.{◌≡◌, ℕ, ◌<◌, Option, Some, None, IfSome, Result, Ok, Err, IfErr, MatchResult, sym, ap, ◌∙◌, subst}
+use Rattle.std.proofs.Common.{◌≡◌, ℕ, ◌<◌, Option, Some, None, IfSome, Result, Ok, Err, IfErr, MatchResult, sym, ap, ◌∙◌, subst, IsErr, IsErrAnd}
 use Rattle.std.specs.Prelude.{⊤}
 use Rattle.std.specs.Option.{option_or}
-use Rattle.std.specs.Result.{IsErr, IsErrAnd}
 use Rattle.csv_rows.specs.declared.feed_tables.Table.{Table}
 use Rattle.csv_rows.specs.declared.feed_tables.FeedFault.{FeedFault}
 use Rattle.csv_rows.specs.First.{first_below}

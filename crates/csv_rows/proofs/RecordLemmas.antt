@@ -1,6 +1,6 @@
 -- The records of a text are its first one and those of the text after it.
-use Rattle.std.proofs.lemmas.Grind.{common_steps}
 use Rattle.std.proofs.Common.{◌≡◌, ℕ, zero, suc, ◌+◌, ◌<◌, List, [], ◌∷◌, map, length, Option, Some, None, false, refl, sym, ap, ◌∙◌, arith}
+use Rattle.std.proofs.lemmas.Grind.{common_steps}
 use Rattle.csv.specs.Machine.{Read, next_record, ends_at_end}
 use Rattle.csv.specs.Reading.{default_config, records, records_from, records_next}
 use Rattle.csv.specs.declared.parser.Config.{Config}

@@ -1,8 +1,8 @@
 -- Trimmed fields neither begin nor end with a space.
+use Rattle.std.proofs.Common.{◌≡◌, ◌≢◌, length-append, append-nil, append_assoc, ℕ, zero, suc, ◌<◌, length, take, Option, Some, None, ◌+◌, Bool, true, false}
+use Rattle.std.proofs.Common.{◌==◌, List, [], ◌∷◌, ◌++◌, map, reverse, slice_index_or, if◌then◌else◌, refl, sym, ap, ◌∙◌, arith}
 use Rattle.std.proofs.lemmas.Bool.{cases_Bool}
 use Rattle.std.proofs.lemmas.Grind.{common_steps}
-use Rattle.std.proofs.Common.{◌≡◌, ◌≢◌, length-append, append-nil, append_assoc, ℕ, zero, suc, ◌<◌, length, take, Option, Some, None, ◌+◌, Bool, true, false, ◌==◌, List, [], ◌∷◌, ◌++◌, map}
-use Rattle.std.proofs.Common.{reverse, slice_index_or, if◌then◌else◌, refl, sym, ap, ◌∙◌, arith}
 use Rattle.std.proofs.lemmas.Bool.Decides.{nat_tests}
 use Rattle.std.proofs.lemmas.List.{reverse-append, reverse-reverse}
 use Rattle.std.proofs.Math.Seq.{take-append-add, take-append_seam}

@@ -1,6 +1,5 @@
 -- The first fault of a table, by the step that finds it.
-use Rattle.std.proofs.Common.{◌≡◌, ℕ, ◌<◌, ◌≤◌, List, length, Option, Some, None, slice_index_or, if◌then◌else◌, refl, sym, ap, ◌∙◌, subst}
-use Rattle.std.proofs.lemmas.Bool.{lt-ltb, le-ltb}
+use Rattle.std.proofs.Common.{◌≡◌, ℕ, ◌<◌, ◌≤◌, List, length, Option, Some, None, slice_index_or, if◌then◌else◌, refl, sym, ap, ◌∙◌, subst, lt-ltb, le-ltb}
 use Rattle.std.specs.Option.{option_or}
 use Rattle.csv_rows.specs.First.{first_below}
 use Rattle.csv_rows.specs.declared.columns.Column.TheVariants.{Run, Step, From, To, Dep, Arr}

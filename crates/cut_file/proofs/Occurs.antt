@@ -1,6 +1,6 @@
 -- Each number is that of some row.
-use Rattle.std.proofs.Common.{◌≡◌, ℕ, zero, suc, ◌*◌, ◌<◌, ◌≤◌, ◌⊎◌, inl, inr, Bool, true, false, List, [], ◌∷◌, ◌++◌, length, slice_get, Some, is_some, if◌then◌else◌}
-use Rattle.std.proofs.Common.{refl, sym, subst, arith, ⊎_elim, length-append, eq-or-lt_of_le}
+use Rattle.std.proofs.Common.{◌≡◌, ℕ, zero, suc, ◌*◌, ◌<◌, ◌≤◌, ◌⊎◌, inl, inr, Bool, true, false, List, [], ◌∷◌, ◌++◌, length, slice_get, Some, is_some}
+use Rattle.std.proofs.Common.{if◌then◌else◌, refl, sym, subst, arith, ⊎_elim, length-append, eq-or-lt_of_le}
 use Rattle.csv_rows.specs.Tables.{place_in}
 use Rattle.cut_file.specs.Faults.{row}
 use Rattle.cut_file.specs.Cut.{add_new, run_names, place_names}

@@ -1,6 +1,5 @@
 -- The class of a connection is one of those of the table.
-use Rattle.std.proofs.Common.{◌≡◌, ℕ, ◌+◌, ◌<◌, ◌==◌, List, length, slice_index, Option, Some, None, IfSome, option_map, refl, arith}
-use Rattle.std.specs.Prelude.{unwrap_or}
+use Rattle.std.proofs.Common.{◌≡◌, ℕ, ◌+◌, ◌<◌, ◌==◌, List, length, slice_index, Option, Some, None, IfSome, option_map, refl, arith, unwrap_or}
 use Rattle.std.specs.Option.{option_or}
 use Rattle.csv_rows.proofs.FirstLemmas.{place_by-some}
 use Rattle.delay_table.specs.DelayLists.{DelayLists, class_for, hour_class, hour_of, other_class, route_class, type_class, type_place}

@@ -1,6 +1,7 @@
 -- The number of the groups is told where there are too many, and no other fault tells it.
+use Rattle.std.proofs.Common.{◌≡◌, ℕ, ◌<◌, ◌+◌, ◌-◌, nat_lt, nat_le, Bool, true, List, [], ◌∷◌, length, slice_get, slice_index, Option, Some, None, option_map}
+use Rattle.std.proofs.Common.{if◌then◌else◌, arith, is_none}
 use Rattle.std.proofs.lemmas.Bool.{cases_Bool}
-use Rattle.std.proofs.Common.{◌≡◌, ℕ, ◌<◌, ◌+◌, ◌-◌, nat_lt, nat_le, Bool, true, List, [], ◌∷◌, length, slice_get, slice_index, Option, Some, None, option_map, if◌then◌else◌, arith}
 use Rattle.std.proofs.lemmas.Bool.Decides.{nat_tests}
 use Rattle.plan_model.specs.declared.model.Outcome.{Outcome}
 use Rattle.csv_rows.specs.declared.columns.Column.{Column}
@@ -8,7 +9,6 @@ use Rattle.csv_rows.specs.declared.columns.Column.TheVariants.{Class, Delay, Wei
 use Rattle.csv_rows.specs.First.{first_below}
 use Rattle.csv_rows.specs.Tables.{place_of, row_count}
 use Rattle.csv_rows.proofs.FirstLemmas.{first-is}
-use Rattle.std.specs.Prelude.{is_none}
 use Rattle.std.specs.Option.{option_or}
 use Rattle.delay_table.specs.declared.faults.DelayFault.{DelayFault}
 use Rattle.delay_table.specs.declared.faults.DelayFault.TheVariants.{MissingColumn, TooManyRows, GroupRows, NotRising, TooManyClasses, WeightSum, GroupSum}

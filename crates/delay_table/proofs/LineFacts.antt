@@ -1,9 +1,8 @@
 -- One row of the table.
+use Rattle.std.proofs.Common.{◌≡◌, ℕ, ◌≤◌, Bool, false, ◌==◌, List, length, Option, Some, None, IfSome, ◌<◌, option_map, if◌then◌else◌, refl, sym, ap, ◌∙◌}
+use Rattle.std.proofs.Common.{subst, arith, is_none, codes, bytes_eq}
 use Rattle.std.proofs.lemmas.Bool.{cases_Bool}
-use Rattle.std.proofs.Common.{◌≡◌, ℕ, ◌≤◌, Bool, false, ◌==◌, List, length, Option, Some, None, IfSome, ◌<◌, option_map, if◌then◌else◌, refl, sym, ap, ◌∙◌, subst, arith, is_none}
 use Rattle.std.proofs.lemmas.Bool.Decides.{nat_tests}
-use Rattle.std.specs.Prelude.{codes}
-use Rattle.std.specs.Str.{bytes_eq}
 use Rattle.clock_text.proofs.DigitLemmas.{whole_bound}
 use Rattle.clock_text.specs.Digits.{whole_of}
 use Rattle.csv_rows.specs.declared.columns.Column.TheVariants.{Class, Delay, Weight, RouteId, Hour}

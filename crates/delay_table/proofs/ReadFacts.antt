@@ -1,7 +1,6 @@
 -- The groups of the rows that are read, one row more at a time.
-use Rattle.std.proofs.Common.{◌≡◌, ℕ, ◌+◌, ◌<◌, false, List, [], ◌∷◌, ◌++◌, length, slice_index, Option, Some, None, IfSome, Result, Ok, Err, if◌then◌else◌, refl, sym, ap}
-use Rattle.std.proofs.Common.{ap₂, ◌∙◌, subst, arith, ⊎_elim, add-one, append-nil, below_more}
-use Rattle.std.specs.Prelude.{OnOk}
+use Rattle.std.proofs.Common.{◌≡◌, ℕ, ◌+◌, ◌<◌, false, List, [], ◌∷◌, ◌++◌, length, slice_index, Option, Some, None, IfSome, Result, Ok, Err, if◌then◌else◌}
+use Rattle.std.proofs.Common.{refl, sym, ap, ap₂, ◌∙◌, subst, arith, ⊎_elim, add-one, append-nil, below_more, OnOk}
 use Rattle.std.proofs.lemmas.Bool.{cases_eq}
 use Rattle.std.proofs.lemmas.List.{get_or_append_left, get_or_push, get_or-map, length-map, length_push, map-append}
 use Rattle.plan_model.specs.declared.model.Outcome.{Outcome}

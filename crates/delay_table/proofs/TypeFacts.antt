@@ -1,14 +1,13 @@
 -- The place of a route type among those that are named, and the greatest delay of a class.
-use Rattle.std.proofs.Common.{◌≡◌, slice_get, ℕ, zero, suc, ◌+◌, ◌-◌, ◌<◌, ◌≤◌, ◌==◌, List, length, get_or, slice_index, slice_index_or, Option, Some, None, option_map}
-use Rattle.std.proofs.Common.{sym, ap, ◌∙◌, subst, arith, ⊎_elim, eq-or-lt_of_le, Contains, All}
-use Rattle.std.proofs.lemmas.Bool.{cases_lt, eq-eqb, ne_eqb}
+use Rattle.std.proofs.Common.{◌≡◌, slice_get, ℕ, zero, suc, ◌+◌, ◌-◌, ◌<◌, ◌≤◌, ◌==◌, List, length, get_or, slice_index, slice_index_or, Option, Some, None}
+use Rattle.std.proofs.Common.{option_map, sym, ap, ◌∙◌, subst, arith, ⊎_elim, eq-or-lt_of_le, Contains, All, eq-eqb, ne_eqb, unwrap_or}
+use Rattle.std.proofs.lemmas.Bool.{cases_lt}
 use Rattle.std.proofs.lemmas.List.{get_or_default}
 use Rattle.std.proofs.lemmas.Option.{slice_get_within, get_or_from_slice_get}
 use Rattle.plan_model.specs.declared.model.Outcome.{Outcome}
 use Rattle.plan_model.specs.Rows.{IsValidRow}
 use Rattle.csv_rows.proofs.FirstLemmas.{absent_by, found_by}
 use Rattle.delay_table.specs.DelayLists.{DelayLists, class_for, hour_class, hour_of, route_class, type_class, type_place}
-use Rattle.std.specs.Prelude.{unwrap_or}
 use Rattle.std.specs.Option.{option_or}
 use Rattle.delay_table.specs.Slots.{AreDelays, IsClassOf}
 

@@ -1,6 +1,5 @@
 -- When one can leave: the latest moment, and that some strategy is safe.
-use Rattle.std.proofs.Common.{◌≡◌, ℕ, zero, ◌<◌, ◌≤◌, List, [], ◌∷◌, length, Option, Some, true, refl, subst, arith}
-use Rattle.std.specs.Prelude.{◌≢◌, MatchOption, All, nat_le}
+use Rattle.std.proofs.Common.{◌≡◌, ℕ, zero, ◌<◌, ◌≤◌, List, [], ◌∷◌, length, Option, Some, true, refl, subst, arith, ◌≢◌, MatchOption, All, nat_le}
 use Rattle.std.proofs.lemmas.List.Elements.{All-nil}
 use Rattle.std.proofs.lemmas.Bool.Decides.{nat_tests}
 use Rattle.plan_model.specs.declared.model.Moment.{Moment}

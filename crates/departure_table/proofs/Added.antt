@@ -1,6 +1,5 @@
 -- The parts of a network with a place more.
-use Rattle.std.proofs.Common.{◌≡◌, ℕ, ◌+◌, ◌<◌, ◌≤◌, List, [], ◌∷◌, ◌++◌, map, length, false, slice_index_or, length-append, refl, ap, sym, ◌∙◌, subst, arith}
-use Rattle.std.specs.Prelude.{◌==◌, if◌then◌else◌}
+use Rattle.std.proofs.Common.{◌≡◌, ℕ, ◌+◌, ◌<◌, List, [], ◌∷◌, ◌++◌, map, length, false, slice_index_or, length-append, refl, ap, sym, ◌∙◌, arith, ◌==◌}
 use Rattle.std.specs.List.{range_with_len}
 use Rattle.std.proofs.lemmas.Bool.Decides.{nat_tests}
 use Rattle.std.proofs.lemmas.List.{get_or_past}
@@ -10,7 +9,7 @@ use Rattle.plan_model.specs.declared.model.Outcome.{Outcome}
 use Rattle.plan_model.specs.declared.model.Way.{Way}
 use Rattle.plan_model.specs.NetworkModel.{NetworkModel, plain_network}
 use Rattle.plan_model.specs.Network.{IsValid, AreLinksInto, links_into}
-use Rattle.plan_model.specs.View.{first_way, links_from_added, extended}
+use Rattle.plan_model.specs.View.{links_from_added, extended}
 use Rattle.plan_model.proofs.Extended.{is_valid}
 use Rattle.plan_model.proofs.Links.{IsValid-relinked, AreLinks-none}
 

@@ -1,6 +1,6 @@
 -- A table that grows from look to look.
-use Rattle.std.proofs.Common.{◌≡◌, ℕ, zero, suc, ◌+◌, ◌-◌, ◌<◌, ◌≤◌, arith, Option, Some, None, List, [], ◌∷◌, ◌++◌, length, get_or, true, false, refl, sym, ap, ◌∙◌, subst, ⊎_elim, length-append, All}
-use Rattle.std.specs.Prelude.{AllPairs, MatchOption, nat_le, if◌then◌else◌}
+use Rattle.std.proofs.Common.{◌≡◌, ℕ, zero, suc, ◌+◌, ◌-◌, ◌<◌, ◌≤◌, arith, Some, None, List, [], ◌∷◌, ◌++◌, true, false, refl, ⊎_elim, All, AllPairs}
+use Rattle.std.proofs.Common.{MatchOption, nat_le}
 use Rattle.std.proofs.lemmas.Bool.{cases_lt}
 use Rattle.std.proofs.lemmas.Bool.Decides.{nat_tests}
 use Rattle.std.proofs.lemmas.List.Quantifiers.{all_pairs_push}

@@ -1,21 +1,19 @@
 -- What a choice at a moment says of all from then on.
-use Rattle.std.proofs.Common.{◌≡◌, ◌≢◌, ℕ, ◌+◌, ◌-◌, ◌<◌, ◌≤◌, arith, Option, Some, None, false, refl, sym, ap, ◌∙◌, subst}
-use Rattle.std.specs.Prelude.{◌==◌, if◌then◌else◌, MatchOption}
-use Rattle.std.specs.Option.{option_map}
+use Rattle.std.proofs.Common.{◌≡◌, ℕ, ◌-◌, ◌<◌, ◌≤◌, arith, Some, false, refl, sym, ap, ◌∙◌, subst, ◌==◌, option_map}
 use Rattle.std.proofs.lemmas.Bool.Decides.{nat_tests}
 use Rattle.plan_model.specs.declared.model.Leg.{Leg}
 use Rattle.plan_model.specs.declared.model.Query.{Query}
 use Rattle.plan_model.specs.NetworkModel.{NetworkModel}
-use Rattle.plan_model.specs.Network.{IsValid, count, connection, from_of, dep_of, arr_of}
+use Rattle.plan_model.specs.Network.{IsValid, count, dep_of, arr_of}
 use Rattle.plan_model.specs.Tree.{Tree, Done, Ride, Stuck, Kids}
-use Rattle.plan_model.specs.Strategy.{IsLeg, IsBoardable, IsSafe}
-use Rattle.plan_model.specs.Unfold.{by_place, unfold_after, ride_of, ride_or_stuck, kids_after, outcomes_of}
+use Rattle.plan_model.specs.Strategy.{IsLeg, IsBoardable}
+use Rattle.plan_model.specs.Unfold.{by_place, unfold_after, kids_after, outcomes_of}
 use Rattle.value_laws.specs.declared.MeanSpan.{MeanSpan}
 use Rattle.value_laws.specs.Means.{mean_below, mean_covers, mean_gap}
 use Rattle.meat_scan.specs.Found.{Found, choice_of, leg_choice, chosen_at}
 use Rattle.meat_scan.specs.Solves.{Solves, SolvesEach, IsSafeAt}
 use Rattle.departure_table.specs.declared.DepartureRow.{DepartureRow}
-use Rattle.departure_table.specs.Departures.{IsASecondAway, SafeAfter, IsNoneSafeFrom, BeginsWith, IsBestFrom, IsDepartureRow, LooksAhead}
+use Rattle.departure_table.specs.Departures.{IsASecondAway, SafeAfter, IsNoneSafeFrom, BeginsWith, IsBestFrom, IsDepartureRow}
 use Rattle.plan_model.specs.Bounds.{end_of_arrivals}
 
 module _ (n : NetworkModel) (q : Query) (found : Found MeanSpan) (valid : IsValid n) (solves : Solves mean_below mean_covers mean_gap found n q) (second : IsASecondAway n q.source.0) where

@@ -1,12 +1,12 @@
 -- What is said of an extended network is said of the network itself.
-use Rattle.std.proofs.Common.{◌≡◌, ◌≢◌, ℕ, zero, ◌+◌, ◌-◌, ◌<◌, ◌≤◌, arith, Option, Some, None, List, [], ◌∷◌, length, true, refl, sym, ◌∙◌, subst}
-use Rattle.std.specs.Prelude.{MatchOption, nat_le, ◌↔◌}
+use Rattle.std.proofs.Common.{◌≡◌, ℕ, zero, ◌+◌, ◌-◌, ◌<◌, ◌≤◌, arith, Option, Some, None, List, [], ◌∷◌, length, true, refl, sym, ◌∙◌, subst, MatchOption}
+use Rattle.std.proofs.Common.{nat_le, ◌↔◌}
 use Rattle.std.proofs.lemmas.Bool.Decides.{nat_tests}
 use Rattle.plan_model.specs.declared.model.Query.{Query}
 use Rattle.plan_model.specs.declared.model.Moment.{Moment}
 use Rattle.plan_model.specs.NetworkModel.{NetworkModel}
 use Rattle.plan_model.specs.View.{IsExtension}
-use Rattle.plan_model.specs.Network.{IsValid, count, from_of, dep_of}
+use Rattle.plan_model.specs.Network.{IsValid, count, from_of}
 use Rattle.plan_model.specs.Tree.{Tree}
 use Rattle.plan_model.proofs.Views.{seen, leg_there}
 use Rattle.plan_model.proofs.Extensions.{added_there, added_back}

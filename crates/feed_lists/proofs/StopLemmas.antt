@@ -1,6 +1,5 @@
 -- The rows of stops.
-use Rattle.std.proofs.Common.{arith}
-use Rattle.std.proofs.Common.{◌≡◌, ℕ, ◌<◌, List, Some, None, sym, ap}
+use Rattle.std.proofs.Common.{arith, ◌≡◌, ℕ, ◌<◌, List, Some, None, sym, ap}
 use Rattle.csv_rows.specs.declared.columns.Column.TheVariants.{StopId}
 use Rattle.csv_rows.specs.First.{first_below}
 use Rattle.csv_rows.specs.Names.{name_in}

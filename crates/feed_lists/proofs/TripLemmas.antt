@@ -1,6 +1,5 @@
 -- The rows of trips.
-use Rattle.std.proofs.Common.{arith}
-use Rattle.std.proofs.Common.{◌≡◌, ℕ, ◌<◌, ◌+◌, List, Some, None, sym, ap}
+use Rattle.std.proofs.Common.{arith, ◌≡◌, ℕ, ◌<◌, ◌+◌, List, Some, None, sym, ap}
 use Rattle.std.specs.Result.{result_err}
 use Rattle.plan_model.proofs.Results.{result_err-require}
 use Rattle.csv_rows.specs.declared.columns.Column.TheVariants.{RouteId, ServiceId, TripId}

@@ -1,6 +1,5 @@
 -- A file put in front of the others.
-use Rattle.std.proofs.Common.{◌≡◌, ℕ, List, [], ◌∷◌, ◌++◌, Bool, true, false, refl, ap, sym, ◌∙◌, codes}
-use Rattle.std.specs.Prelude.{Option, None, Some, if◌then◌else◌, bytes_eq}
+use Rattle.std.proofs.Common.{◌≡◌, ℕ, List, [], ◌∷◌, ◌++◌, Bool, true, false, refl, ap, sym, ◌∙◌, codes, Option, None, Some, if◌then◌else◌, bytes_eq}
 use Rattle.std.proofs.lemmas.Slice.Eq.{bytes_eq-Decides}
 use Rattle.file_ports.specs.Ports.{FileMap, file_at}
 use Rattle.file_ports.specs.Steady.{PutsFile}

@@ -1,6 +1,5 @@
 -- The head and the graph of a graph file, from its bytes.
-use Rattle.std.proofs.Common.{◌≡◌, ℕ, List, Option, None, Result, Ok, Err, ap, ◌∙◌, refl, sym}
-use Rattle.std.specs.Prelude.{◌≢◌, IfErr, IfOk, IfSome}
+use Rattle.std.proofs.Common.{◌≡◌, ℕ, List, Option, None, Result, Ok, Err, ap, ◌∙◌, refl, sym, ◌≢◌, IfErr, IfOk, IfSome}
 use Rattle.plan_model.specs.Results.{and_then}
 use Rattle.file_ports.specs.Ports.{FileMap, file_at}
 use Rattle.csv_rows.specs.declared.limits.Limits.{Limits}

@@ -1,6 +1,5 @@
 -- The steps of a check, put together.
-use Rattle.std.proofs.Common.{◌≡◌, ℕ, List, Option, None, Result, Ok, Err, refl, sym, subst}
-use Rattle.std.specs.Prelude.{◌≢◌, IfErr, IfOk, IfSome}
+use Rattle.std.proofs.Common.{◌≡◌, ℕ, List, Option, None, Result, Ok, Err, refl, sym, subst, ◌≢◌, IfErr, IfOk, IfSome}
 use Rattle.file_ports.specs.Ports.{FileMap, file_at}
 use Rattle.csv_rows.specs.declared.limits.Limits.{Limits}
 use Rattle.plan_model.specs.declared.model.Query.{Query}

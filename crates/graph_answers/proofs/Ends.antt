@@ -1,6 +1,5 @@
 -- The names of the two ends of a journey in a text.
-use Rattle.std.proofs.Common.{◌≡◌, ℕ, List, [], Some, ap, ◌∙◌}
-use Rattle.std.specs.Prelude.{slice_get, slice_index_or}
+use Rattle.std.proofs.Common.{◌≡◌, ℕ, List, [], Some, ap, ◌∙◌, slice_get, slice_index_or}
 use Rattle.printed_rows.proofs.Lines.{name_is}
 
 pub ends_named : (F : List ℕ → List ℕ → List ℕ) (places : List (List ℕ)) (source target : ℕ) (from to text : List ℕ) → text ≡ F from to

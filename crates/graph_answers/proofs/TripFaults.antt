@@ -1,6 +1,5 @@
 -- The fault of a trip, and where it is.
-use Rattle.std.proofs.Common.{◌≡◌, ℕ, List, None, Some, Result, Ok, Err, sym, subst, arith, refl}
-use Rattle.std.specs.Prelude.{◌≢◌, ◌<◌, ◌≤◌, length}
+use Rattle.std.proofs.Common.{◌≡◌, ℕ, List, None, Some, Result, Err, sym, subst, arith, refl, ◌≢◌, ◌<◌, ◌≤◌, length}
 use Rattle.plan_model.specs.declared.model.Query.{Query}
 use Rattle.plan_model.specs.NameLists.{NamesFit}
 use Rattle.plan_model.specs.Network.{IsValid}
@@ -11,7 +10,6 @@ use Rattle.trip_replay.specs.declared.ReplayFault.TheVariants as replay
 use Rattle.trip_replay.specs.declared.Trace.{Trace}
 use Rattle.trip_replay.specs.Rides.{IsStuckAfter}
 use Rattle.trip_replay.specs.Walk.{IsAnswer}
-use Rattle.journey_model.specs.declared.faults.Fault.{Fault}
 use Rattle.journey_model.specs.declared.faults.Fault.TheVariants.{Replay, NoMemory}
 use Rattle.journey_model.specs.Faults.{unread_of}
 use Rattle.journey_model.specs.Sites.{last_printable, IsTellable}

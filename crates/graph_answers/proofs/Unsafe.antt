@@ -1,6 +1,6 @@
 -- Where one may fail by a graph: at a place of the network, at a moment that has a text.
-use Rattle.std.proofs.Common.{◌≡◌, ℕ, zero, suc, ◌+◌, ◌-◌, ◌<◌, ◌≤◌, List, [], ◌∷◌, length, Bool, true, false, Option, Some, None, Err, inl, inr, refl, sym, subst, arith}
-use Rattle.std.specs.Prelude.{◌⊎◌, All, if◌then◌else◌, ◌==◌}
+use Rattle.std.proofs.Common.{◌≡◌, ℕ, zero, suc, ◌+◌, ◌-◌, ◌<◌, ◌≤◌, List, [], ◌∷◌, length, Bool, true, false, Option, Some, None, Err, inl, inr, refl, sym}
+use Rattle.std.proofs.Common.{subst, arith, All, if◌then◌else◌, ◌==◌}
 use Rattle.std.proofs.lemmas.List.Elements.{All-head, All-tail}
 use Rattle.std.proofs.lemmas.Option.{MatchOption-at_some}
 use Rattle.plan_model.specs.declared.model.Leg.{Leg}

@@ -1,6 +1,5 @@
 -- What a ready graph picks.
-use Rattle.std.proofs.Common.{◌≡◌, ◌≢◌, ℕ, List, Option, Some, Contains, All, sym, subst, ◌∙◌, ap}
-use Rattle.std.specs.Prelude.{MatchOption}
+use Rattle.std.proofs.Common.{◌≡◌, ◌≢◌, ℕ, List, Option, Some, Contains, All, sym, subst, ◌∙◌, ap, MatchOption}
 use Rattle.std.proofs.lemmas.List.Elements.{All-contains}
 use Rattle.plan_model.specs.declared.model.Leg.{Leg}
 use Rattle.plan_model.specs.declared.model.Outcome.{Outcome}

@@ -1,8 +1,8 @@
 -- The legs of a graph that fit, and those that do not.
-use Rattle.std.proofs.Common.{◌≡◌, ℕ, zero, suc, ◌+◌, ◌<◌, ◌≤◌, List, [], ◌∷◌, ◌++◌, length, map, take, drop, Option, Some, None, All, arith, sym, subst, refl, ◌∙◌, ap}
-use Rattle.std.specs.Prelude.{slice_index_or, MatchOption}
-use Rattle.std.specs.List.{flat_map, AllWithin}
-use Rattle.std.proofs.lemmas.List.{drop_more, take-append-drop, length-take, length-take-le, get_or-take}
+use Rattle.std.proofs.Common.{◌≡◌, ℕ, ◌+◌, ◌<◌, List, [], ◌∷◌, ◌++◌, length, map, take, drop, Option, Some, None, All, arith, sym, subst, ◌∙◌, ap}
+use Rattle.std.proofs.Common.{slice_index_or, MatchOption, flat_map, take-append-drop, length-take, length-take-le, get_or-take}
+use Rattle.std.specs.List.{AllWithin}
+use Rattle.std.proofs.lemmas.List.{drop_more}
 use Rattle.std.proofs.lemmas.List.Elements.{All-append, All-contains, All-map, All-nil, All-tail, All-cons, Contains-append_left, Contains-append_right}
 use Rattle.plan_model.specs.declared.model.Leg.{Leg}
 use Rattle.plan_model.specs.declared.model.Query.{Query}

@@ -1,10 +1,8 @@
 -- What is known of the connections that were looked at, the last ones first.
-use Rattle.std.proofs.Common.{◌≡◌, ◌≢◌, ℕ, zero, suc, ◌+◌, ◌-◌, ◌<◌, ◌≤◌, true, false, List, [], ◌∷◌, ◌++◌, length, set, Option, Some, None, arith, sym, subst, refl, inl, inr, ◌∙◌, ap, append_assoc}
-use Rattle.std.specs.Prelude.{slice_index_or, ◌==◌, nat_le}
-use Rattle.std.proofs.Common.{get_or-set_other, get_or-set_same}
+use Rattle.std.proofs.Common.{◌≡◌, ◌≢◌, ℕ, zero, suc, ◌+◌, ◌-◌, ◌<◌, ◌≤◌, true, false, List, [], ◌∷◌, ◌++◌, length, set, Option, Some, None, arith, sym, subst}
+use Rattle.std.proofs.Common.{refl, inl, inr, ◌∙◌, ap, append_assoc, slice_index_or, ◌==◌, nat_le, get_or-set_other, get_or-set_same, append-nil, length-set}
 use Rattle.std.proofs.lemmas.Bool.{cases_lt, cases_eq}
 use Rattle.std.proofs.lemmas.Bool.Decides.{nat_tests}
-use Rattle.std.proofs.lemmas.List.{append-nil, length-set}
 use Rattle.plan_model.specs.declared.model.ConnectionId.{ConnectionId}
 use Rattle.plan_model.specs.declared.model.Leg.{Leg}
 use Rattle.plan_model.specs.declared.model.Outcome.{Outcome}

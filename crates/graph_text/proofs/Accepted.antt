@@ -1,7 +1,6 @@
 -- The texts that are read are those of the graphs that fit.
-use Rattle.std.proofs.Common.{◌≡◌, ℕ, ◌≤◌, List, [], ◌∷◌, Option, Some, None, Ok, arith, sym, subst, ◌∙◌, ap, refl}
-use Rattle.std.specs.Prelude.{◌==◌}
-use Rattle.std.proofs.lemmas.Bool.{false≢true, eqb-true, eq-eqb, ne_eqb}
+use Rattle.std.proofs.Common.{◌≡◌, ℕ, ◌≤◌, List, [], ◌∷◌, Option, Some, None, Ok, arith, sym, subst, ◌∙◌, ap, refl, ◌==◌, eqb-true, eq-eqb, ne_eqb}
+use Rattle.std.proofs.lemmas.Bool.{false≢true}
 use Rattle.std.proofs.lemmas.List.Elements.{All-nil}
 use Rattle.clock_text.specs.Civil.{last_printable}
 use Rattle.clock_text.proofs.Range.{moment_range}

@@ -1,6 +1,5 @@
 -- The fields of printed rows.
-use Rattle.std.proofs.Common.{◌≡◌, ℕ, List, [], ◌∷◌, take, ◌∙◌, ap, refl}
-use Rattle.std.specs.Prelude.{decimal}
+use Rattle.std.proofs.Common.{◌≡◌, ℕ, List, [], ◌∷◌, take, ◌∙◌, ap, refl, decimal}
 use Rattle.clock_text.specs.Civil.{moment_text}
 use Rattle.plan_model.specs.declared.model.Leg.{Leg}
 use Rattle.plan_model.specs.declared.model.Connection.{Connection}

@@ -1,6 +1,5 @@
 -- Whether all that is left of a list passes, element by element.
-use Rattle.std.proofs.Common.{◌≡◌, ℕ, ◌+◌, ◌<◌, Bool, true, false, List, ◌∷◌, length, drop, sym, ap, ◌∙◌}
-use Rattle.std.specs.Prelude.{◌&&◌, slice_index_or}
+use Rattle.std.proofs.Common.{◌≡◌, ℕ, ◌+◌, ◌<◌, Bool, true, false, List, ◌∷◌, length, drop, sym, ap, ◌∙◌, ◌&&◌, slice_index_or}
 use Rattle.printed_rows.proofs.Lines.{split_at}
 
 -- F tells whether each element of a list passes, as p tells of one

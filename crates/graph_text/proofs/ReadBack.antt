@@ -1,10 +1,7 @@
 -- What was printed is read back.
-use Rattle.std.proofs.Common.{◌≡◌, ℕ, ◌<◌, ◌≤◌, ◌^◌, List, [], ◌∷◌, ◌++◌, length, map, Option, Some, None, Bool, true, false, All}
-use Rattle.std.proofs.Common.{AllPairs, arith, sym, refl, ap, ◌∙◌, append_assoc}
-use Rattle.std.specs.Prelude.{◌==◌, if◌then◌else◌, slice_index_or, decimal, codes, eqb}
-use Rattle.std.specs.Option.{option_and_then}
+use Rattle.std.proofs.Common.{◌≡◌, ℕ, ◌<◌, ◌≤◌, ◌^◌, List, [], ◌∷◌, ◌++◌, length, map, Option, Some, None, Bool, true, false, All, arith, sym, refl, ap, ◌∙◌}
+use Rattle.std.proofs.Common.{append_assoc, ◌==◌, if◌then◌else◌, slice_index_or, decimal, codes, eqb, option_and_then, eqb-true, eq-eqb, ne_eqb}
 use Rattle.std.specs.Cmp.Lexicographic.{bytes_decides}
-use Rattle.std.proofs.lemmas.Bool.{eqb-true, eq-eqb, ne_eqb}
 use Rattle.std.proofs.lemmas.List.{get_or-map, length-map}
 use Rattle.std.proofs.lemmas.List.Elements.{All-head, All-tail, All-map, All-contains}
 use Rattle.std.proofs.lemmas.List.Recursion.{and_at}

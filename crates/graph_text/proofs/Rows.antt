@@ -1,8 +1,7 @@
 -- A row is read as what it tells, and as nothing else.
-use Rattle.std.proofs.Common.{◌≡◌, ℕ, ◌≤◌, Bool, true, List, Option, Some, None, Ok, arith, sym, subst, refl, ◌∙◌, ap}
-use Rattle.std.specs.Prelude.{◌==◌, nat_le, if◌then◌else◌, codes}
-use Rattle.std.specs.Option.{option_map, option_and_then}
-use Rattle.std.proofs.lemmas.Bool.{false≢true, eqb-true, eq-eqb, and_parts, leb-true, le-leb}
+use Rattle.std.proofs.Common.{◌≡◌, ℕ, ◌≤◌, Bool, true, List, Option, Some, None, Ok, arith, sym, subst, refl, ◌∙◌, ap, ◌==◌, nat_le, if◌then◌else◌, codes}
+use Rattle.std.proofs.Common.{option_map, option_and_then, eqb-true, eq-eqb, leb-true, le-leb}
+use Rattle.std.proofs.lemmas.Bool.{false≢true, and_parts}
 use Rattle.clock_text.specs.Times.{moment_at, nanos_at}
 use Rattle.clock_text.proofs.OneText.{if_cases, some_cases}
 use Rattle.plan_model.proofs.Results.{require-ok}

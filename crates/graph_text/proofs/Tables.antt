@@ -1,11 +1,9 @@
 -- A step of reading, and the rows of tables, which are read as the tables that they tell, and as no others.
-use Rattle.std.proofs.Common.{◌≡◌, ℕ, ◌+◌, ◌<◌, List, [], ◌∷◌, length, drop, Option, Some, Ok, Err, Result, arith, sym, ap, subst, refl, ◌∙◌, ◌≢◌, suc}
-use Rattle.std.proofs.Common.{◌-◌, ◌≤◌, Bool, true, false, ◌++◌, None, All, AllPairs, inl, inr, append_assoc}
-use Rattle.std.specs.Prelude.{◌==◌, false, slice_index_or, if◌then◌else◌, codes}
-use Rattle.std.specs.Option.{option_map}
-use Rattle.std.specs.Result.{IsErr, IsErrAnd}
-use Rattle.std.proofs.lemmas.Bool.{ne_eqb, cases_eq, eqb-true, eq-eqb, ltb-true, lt-ltb}
-use Rattle.plan_model.specs.Results.{and_then, require}
+use Rattle.std.proofs.Common.{◌≡◌, ℕ, ◌+◌, ◌<◌, List, [], ◌∷◌, length, drop, Option, Some, Ok, Err, Result, arith, sym, ap, subst, refl, ◌∙◌, ◌≢◌, suc, ◌-◌}
+use Rattle.std.proofs.Common.{◌≤◌, true, ◌++◌, None, All, AllPairs, inl, inr, append_assoc, ◌==◌, slice_index_or, if◌then◌else◌, codes, option_map, IsErr}
+use Rattle.std.proofs.Common.{IsErrAnd, ne_eqb, eqb-true, eq-eqb, ltb-true, lt-ltb, append-nil}
+use Rattle.std.proofs.lemmas.Bool.{cases_eq}
+use Rattle.plan_model.specs.Results.{and_then}
 use Rattle.plan_model.specs.declared.model.PlaceId.{PlaceId}
 use Rattle.plan_model.specs.NetworkModel.{NetworkModel}
 use Rattle.plan_model.specs.NameLists.{NameLists}
@@ -20,7 +18,6 @@ use Rattle.printed_rows.proofs.Lines.{split_at}
 use Rattle.graph_text.specs.GraphRows.{version_in, IsLegRow, IsPlaceRow, AreLegRows, AreTableRows}
 use Rattle.graph_text.specs.Reading.{after_leg_row, row_in, step, IsUnlessNoMemory, place_or_first, place_tables_from, graph_after_first, head_in}
 use Rattle.graph_text.specs.Reading.{graph_of_records, table_in, after_place_row, no_tables}
-use Rattle.std.proofs.lemmas.List.{append-nil}
 use Rattle.std.proofs.lemmas.List.Elements.{All-cons, All-nil, All-head, All-tail}
 use Rattle.std.proofs.lemmas.List.Kept.{AllPairs-cons}
 use Rattle.plan_model.specs.declared.model.Moment.{Moment}

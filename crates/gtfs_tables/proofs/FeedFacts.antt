@@ -1,6 +1,6 @@
 -- A feed's trips are timed: their kept rows stand at places of the feed, and no time goes back.
 use Rattle.std.proofs.Common.{◌≡◌, ℕ, ◌<◌, ◌==◌, Bool, true, false, List, length, slice_index, Option, Some, None, IfSome, if◌then◌else◌, refl, sym, ap, arith}
-use Rattle.std.specs.Prelude.{unwrap_or}
+use Rattle.std.proofs.Common.{unwrap_or}
 use Rattle.csv_rows.specs.Tables.{place_in, row_count, field}
 use Rattle.csv_rows.specs.declared.columns.Column.TheVariants.{StopId, TripId}
 use Rattle.gtfs_tables.specs.Feeds.{FeedParts, IsSoundFeed}

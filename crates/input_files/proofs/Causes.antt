@@ -1,6 +1,5 @@
 -- The causes of a step after others.
-use Rattle.std.proofs.Common.{◌≡◌, ℕ, List, Option, None, Result, Ok, Err, sym, ap, subst}
-use Rattle.std.specs.Prelude.{IfErr, IsErrAnd}
+use Rattle.std.proofs.Common.{◌≡◌, ℕ, List, Option, None, Result, Ok, Err, sym, ap, subst, IfErr, IsErrAnd}
 use Rattle.file_ports.specs.Counts.{HasCausesOf}
 use Rattle.file_ports.proofs.CauseLemmas.{causes-of, causes-idle, causes-silent, causes-next}
 use Rattle.journey_model.specs.declared.faults.Input.{Input}

@@ -1,6 +1,5 @@
 -- The steps of reading a cut file and a delay file, put together.
-use Rattle.std.proofs.Common.{◌≡◌, ℕ, List, Option, Some, None, Result, Ok, option_map, sym, ap, ◌∙◌}
-use Rattle.std.specs.Prelude.{◌≢◌, ◌≤◌}
+use Rattle.std.proofs.Common.{◌≡◌, ℕ, List, Option, Some, None, Result, Ok, option_map, sym, ap, ◌∙◌, ◌≢◌, ◌≤◌}
 use Rattle.csv_rows.specs.Limits.{standard}
 use Rattle.csv_rows.specs.Tables.{table_of}
 use Rattle.csv_rows.specs.declared.limits.Limits.{Limits}

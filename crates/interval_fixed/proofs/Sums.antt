@@ -1,6 +1,6 @@
 -- Sums by weight, and their means, against the trees of a ride.
-use Rattle.std.proofs.Common.{◌≡◌, ℕ, ◌+◌, ◌-◌, ◌*◌, ◌/◌, ◌^◌, ◌≤◌, List, [], ◌∷◌, map, arith, ap, ◌∙◌}
-use Rattle.std.proofs.Math.Nat.{mul-le-mul_left, mul-le-mul_right, mul_assoc, mul_comm, mul_left_comm, add-mul, mul-add}
+use Rattle.std.proofs.Common.{◌≡◌, ℕ, ◌+◌, ◌-◌, ◌*◌, ◌/◌, ◌^◌, ◌≤◌, List, [], ◌∷◌, map, arith, ap, ◌∙◌, mul-le-mul_left, mul-le-mul_right, mul_assoc, mul_comm}
+use Rattle.std.proofs.Common.{mul_left_comm, add-mul, mul-add}
 use Rattle.plan_model.specs.declared.model.Outcome.{Outcome}
 use Rattle.plan_model.specs.Tree.{Tree, Kids, Ride, Nil, Kid, height, height_of}
 use Rattle.plan_model.specs.Rows.{EachKid}

@@ -1,11 +1,9 @@
 -- Faults that are at no site of a timetable.
-use Rattle.std.specs.Prelude.{◌≡◌, Option}
-use Rattle.trip_replay.specs.declared.ReplayFault.{ReplayFault}
+use Rattle.std.proofs.Common.{◌≡◌, Option, refl}
 use Rattle.journey_model.specs.declared.faults.Fault.{Fault}
 use Rattle.journey_model.specs.declared.faults.Fault.TheVariants.{Replay, ProofFails, Unsafe}
 use Rattle.journey_model.specs.Stages.{stage_of, AtOutcome}
 use Rattle.journey_model.specs.Sites.{NamedParts, IsTellable}
-use Rattle.std.proofs.Common.{refl}
 
 -- only what a command comes to is at a site
 pub tellable : (known : Option NamedParts) (fault : Fault) → (stage_of fault ≡ AtOutcome → ⊥) → IsTellable known fault

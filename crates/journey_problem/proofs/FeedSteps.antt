@@ -1,6 +1,5 @@
 -- The steps of reading a feed, put together.
-use Rattle.std.proofs.Common.{◌≡◌, ℕ, List, Option, Some, None, Result, Ok, Err, inr, sym, subst}
-use Rattle.std.specs.Prelude.{◌≢◌, IfOk, IfErr, OnOk, IfSome}
+use Rattle.std.proofs.Common.{◌≡◌, ℕ, List, Option, Some, None, Result, Ok, Err, inr, sym, subst, ◌≢◌, IfOk, IfErr, OnOk, IfSome}
 use Rattle.file_ports.specs.Ports.{FileMap, file_at}
 use Rattle.csv_rows.specs.declared.limits.Limits.{Limits}
 use Rattle.change_times.specs.Transfers.{place_of_stop}

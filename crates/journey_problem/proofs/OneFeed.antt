@@ -1,7 +1,5 @@
 -- The tables of a feed make one feed.
-use Rattle.std.proofs.Common.{◌≡◌, ℕ, ◌<◌, sym, ap, ◌∙◌, arith, List, [], length, Some, Result, Ok, Err, true}
-use Rattle.std.specs.Prelude.{is_some}
-use Rattle.std.proofs.lemmas.List.{ext_get_or}
+use Rattle.std.proofs.Common.{◌≡◌, ℕ, ◌<◌, sym, ap, ◌∙◌, arith, List, [], length, Some, Result, Ok, Err, true, is_some, ext_get_or}
 use Rattle.csv_rows.specs.Tables.{row_count}
 use Rattle.csv_rows.specs.declared.feed_tables.FeedFault.{FeedFault}
 use Rattle.stop_times.specs.declared.rows.StopRow.{StopRow}

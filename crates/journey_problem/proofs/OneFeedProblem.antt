@@ -1,6 +1,5 @@
 -- A folder with a delay file has one problem.
-use Rattle.std.proofs.Common.{◌≡◌, ℕ, ◌<◌, ◌≤◌, sym, ap, ◌∙◌, subst, arith, List, [], length, ⊎_elim, Some, None, Result, Ok, Err}
-use Rattle.std.specs.Prelude.{IsOkAnd, option_map}
+use Rattle.std.proofs.Common.{◌≡◌, ℕ, ◌<◌, ◌≤◌, sym, ap, ◌∙◌, subst, arith, List, [], length, ⊎_elim, Some, None, Result, Ok, Err, IsOkAnd, option_map}
 use Rattle.std.proofs.lemmas.Bool.{cases_lt}
 use Rattle.std.proofs.lemmas.List.{get_or_past}
 use Rattle.file_ports.specs.Ports.{FileMap, file_at}

@@ -1,8 +1,6 @@
 -- The window of a feed has one network and one list of names.
-use Rattle.std.proofs.Common.{◌≡◌, ℕ, ◌+◌, ◌<◌, ◌++◌, ◌∷◌, [], sym, ap, ◌∙◌, subst, arith, List, length, Bool}
-use Rattle.std.specs.Prelude.{ℤ, slice_index_or, if◌then◌else◌}
+use Rattle.std.proofs.Common.{◌≡◌, ℕ, ◌+◌, ◌<◌, ◌++◌, ◌∷◌, [], sym, ap, ◌∙◌, subst, arith, List, length, Bool, ℤ, slice_index_or, if◌then◌else◌, ext_get_or}
 use mathlib.Core.Path.{fun_ext}
-use Rattle.std.proofs.lemmas.List.{ext_get_or}
 use Rattle.plan_model.specs.declared.model.PlaceId.{PlaceId}
 use Rattle.plan_model.specs.declared.model.Way.{Way}
 use Rattle.plan_model.specs.NameLists.{NameLists}

@@ -1,6 +1,5 @@
 -- Files that tell the same bytes have the same problems.
-use Rattle.std.proofs.Common.{◌≡◌, ℕ, ap, subst, List, Option, None}
-use Rattle.std.specs.Prelude.{IsOkAnd}
+use Rattle.std.proofs.Common.{◌≡◌, ℕ, ap, subst, List, Option, None, IsOkAnd}
 use mathlib.Core.Path.{fun_ext}
 use Rattle.file_ports.specs.Ports.{FileMap, file_at}
 use Rattle.csv_rows.specs.declared.limits.Limits.{Limits}

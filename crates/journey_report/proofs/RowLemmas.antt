@@ -1,7 +1,5 @@
 -- A row by its fields.
-use Rattle.std.proofs.Common.{◌≡◌, ℕ, List, Result, Vec, subst}
-use Rattle.std.specs.Prelude.{IfOk}
-use Rattle.std.specs.Global.{Global}
+use Rattle.std.proofs.Common.{◌≡◌, ℕ, List, Result, Vec, subst, IfOk, Global}
 use Rattle.csv.specs.Writing.{default_writer, row_text}
 use Rattle.plan_model.specs.declared.list.NoMemory.{NoMemory}
 

@@ -1,6 +1,5 @@
 -- The rides of legs.
-use Rattle.std.proofs.Common.{◌≡◌, ℕ, Bool, true, false, List, [], ◌∷◌, Some, AllPairs, Contains, refl, inl, inr, ◌∙◌, ap}
-use Rattle.std.specs.Prelude.{◌==◌, ◌&&◌, if◌then◌else◌}
+use Rattle.std.proofs.Common.{◌≡◌, ℕ, Bool, true, false, List, [], ◌∷◌, Some, AllPairs, Contains, refl, inl, inr, ◌∙◌, ap, ◌==◌, ◌&&◌, if◌then◌else◌}
 use Rattle.plan_model.specs.declared.model.Leg.{Leg}
 use Rattle.plan_graph.specs.declared.Ride.{Ride}
 use Rattle.plan_graph.specs.Rows.{pick_row, pick_after, rows_after, Precedes}

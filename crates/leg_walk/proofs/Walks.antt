@@ -1,6 +1,6 @@
 -- The rides of the legs that were reached.
-use Rattle.std.proofs.Common.{◌≡◌, ◌≢◌, ℕ, List, map, Option, Some, Contains, All, AllPairs, sym, subst, refl, ◌∙◌, ap, zero, suc, ◌+◌, ◌-◌, [], ◌∷◌, None, inl, inr}
-use Rattle.std.specs.Prelude.{slice_index_or}
+use Rattle.std.proofs.Common.{◌≡◌, ◌≢◌, ℕ, List, map, Option, Some, Contains, All, AllPairs, sym, subst, refl, ◌∙◌, ap, zero, suc, ◌+◌, ◌-◌, [], ◌∷◌, None, inl}
+use Rattle.std.proofs.Common.{inr, slice_index_or, ne_eqb, eq-eqb}
 use Rattle.std.proofs.lemmas.List.Elements.{All-map, All-contains}
 use Rattle.std.proofs.lemmas.Map.Keys.{Less-from_sorted}
 use Rattle.plan_model.specs.declared.model.Leg.{Leg}
@@ -23,7 +23,7 @@ use Rattle.leg_walk.proofs.Places.{IsPlacedNext, next_after}
 use Rattle.leg_walk.proofs.Tables.{first_pick, first_there, Sooner, first_in_table, one_found, picked_there}
 use Rattle.leg_walk.proofs.Together.{IsSameNext, unfold_from-together}
 use Rattle.leg_walk.proofs.Rides.{rows_after-own, ride_there}
-use Rattle.std.proofs.lemmas.Bool.{cases_eq, ne_eqb, eq-eqb}
+use Rattle.std.proofs.lemmas.Bool.{cases_eq}
 use Rattle.plan_graph.proofs.Searches.{same_leg}
 
 -- what stands after the outcomes of a ride stands after one of them

@@ -1,6 +1,5 @@
 -- The deadline of a certificate that is read has a text.
-use Rattle.std.proofs.Common.{◌≡◌, ℕ, ◌≤◌, List, Option, Some, None, Ok, subst, ap, sym, ◌∙◌}
-use Rattle.std.specs.Prelude.{nat_le}
+use Rattle.std.proofs.Common.{◌≡◌, ℕ, ◌≤◌, List, Option, Some, Ok, subst, ap, sym, ◌∙◌, nat_le}
 use Rattle.clock_text.specs.Civil.{last_printable}
 use Rattle.clock_text.specs.Times.{moment_at}
 use Rattle.clock_text.proofs.OneText.{if_cases, some_cases}

@@ -1,11 +1,10 @@
 -- The connections that depart by a moment, sorted by departure and number, stand in the scan order.
-use Rattle.std.proofs.Common.{◌≡◌, ℕ, ◌+◌, ◌<◌, ◌≤◌, ◌∷◌, [], ◌++◌, List, Bool, false, length, get_or, map, All, AllPairs, eqb, arith}
-use Rattle.std.proofs.Common.{⊎_elim, inl, inr, sym, ap, ◌∙◌, refl, subst, append_assoc}
-use Rattle.std.specs.List.Sorted.{IsPermutation, IsSorted}
+use Rattle.std.proofs.Common.{◌≡◌, ℕ, ◌+◌, ◌<◌, ◌≤◌, ◌∷◌, [], ◌++◌, List, Bool, false, length, get_or, map, All, AllPairs, eqb, arith, ⊎_elim, inl, inr, sym}
+use Rattle.std.proofs.Common.{ap, ◌∙◌, refl, subst, append_assoc, IsPermutation, IsSorted, append-nil}
 use Rattle.std.proofs.lemmas.Bool.{cases_lt}
 use Rattle.std.proofs.lemmas.Cmp.{nat_eq_equiv}
 use Rattle.std.proofs.lemmas.Bool.Decides.{nat_tests}
-use Rattle.std.proofs.lemmas.List.{append-nil, get_or-map, get_or_default, length-map, length_push, get_or_append_left, get_or_at, map-append}
+use Rattle.std.proofs.lemmas.List.{get_or-map, get_or_default, length-map, length_push, get_or_append_left, get_or_at, map-append}
 use Rattle.std.proofs.lemmas.List.Elements.{All-push}
 use Rattle.std.proofs.lemmas.List.Quantifiers.{all_pairs_push}
 use Rattle.std.proofs.lemmas.List.Sorted.{All-permutation, Contains-permutation}

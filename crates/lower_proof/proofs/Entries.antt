@@ -1,13 +1,9 @@
 -- The entries of a board, one connection and one way after the other, and in order.
-use Rattle.std.proofs.Common.{◌≡◌, ℕ, zero, suc, ◌+◌, ◌-◌, ◌<◌, ◌≤◌, ◌⊎◌, List, [], ◌∷◌, ◌++◌, length}
-use Rattle.std.proofs.Common.{get_or, set, reverse, slice_get, Option, Some, IsTrue, true}
-use Rattle.std.proofs.Common.{false, ltb, eqb, arith, inl, inr, sym, ◌∙◌, ap, subst, refl}
-use Rattle.std.specs.declared.cmp.Ordering.{Ordering}
-use Rattle.std.specs.declared.cmp.Ordering.TheVariants.{Less, Equal, Greater}
-use Rattle.std.specs.Ordering.{MatchOrdering, is_lt, nat_cmp, ordering_then}
-use Rattle.std.specs.List.Sorted.{IsPermutation, IsSorted}
+use Rattle.std.proofs.Common.{◌≡◌, ℕ, ◌+◌, ◌-◌, ◌<◌, ◌≤◌, ◌⊎◌, List, [], ◌∷◌, ◌++◌, length, get_or, set, reverse, slice_get, Some, IsTrue, false, arith, inl}
+use Rattle.std.proofs.Common.{inr, sym, ◌∙◌, ap, subst, refl, Ordering, Less, Equal, Greater, is_lt, nat_cmp, IsPermutation, IsSorted, length-set}
+use Rattle.std.specs.Ordering.{MatchOrdering, ordering_then}
 use Rattle.std.proofs.lemmas.Bool.{cases_lt}
-use Rattle.std.proofs.lemmas.List.{length-set, length_push, get_or-reverse, get_or_append_left, get_or_at, get_or_default}
+use Rattle.std.proofs.lemmas.List.{length_push, get_or-reverse, get_or_append_left, get_or_at, get_or_default}
 use Rattle.std.specs.Cmp.{IsTotalOrder}
 use Rattle.std.proofs.lemmas.Cmp.{ranked, nat_cmp_total, on_total, then_total}
 use Rattle.std.proofs.lemmas.Map.Keys.{ge_from_not_lt}

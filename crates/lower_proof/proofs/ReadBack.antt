@@ -1,25 +1,23 @@
 -- What was printed of a certificate is read back, and how its rows are printed one after another.
-use Rattle.std.proofs.Common.{◌≡◌, ◌≢◌, ℕ, zero, suc, ◌+◌, ◌<◌, ◌≤◌, ◌^◌, Bool, true, List, [], ◌∷◌, length, Option, Some, None, Ok, Err}
-use Rattle.std.proofs.Common.{Result, arith, inl, inr, sym, ◌∙◌, ap, subst, refl, ◌++◌, drop}
-use Rattle.std.specs.Prelude.{cond, is_some, codes, decimal, if◌then◌else◌, slice_index_or}
-use Rattle.std.specs.List.{count_by}
+use Rattle.std.proofs.Common.{◌≡◌, ◌≢◌, ℕ, zero, suc, ◌+◌, ◌<◌, ◌≤◌, ◌^◌, true, List, [], ◌∷◌, length, Option, Some, None, Ok, Err, Result, arith, inl, inr}
+use Rattle.std.proofs.Common.{sym, ◌∙◌, ap, subst, refl, ◌++◌, drop, cond, is_some, codes, decimal, slice_index_or, count_by, option_map, ext_get_or}
+use Rattle.std.proofs.Common.{append-nil, eq-eqb, lt-ltb, le-leb}
 use Rattle.std.specs.Result.{result_err}
-use Rattle.std.specs.Option.{option_map}
 use Rattle.std.proofs.Math.Nat.{max-le}
 use Rattle.std.proofs.lemmas.List.Sums.{sum_by-cons}
-use Rattle.std.proofs.lemmas.List.{ext_get_or, append-nil, drop_all}
-use Rattle.std.proofs.lemmas.Bool.{eq-eqb, lt-ltb, le-leb, cases_eq}
+use Rattle.std.proofs.lemmas.List.{drop_all}
+use Rattle.std.proofs.lemmas.Bool.{cases_eq}
 use Rattle.csv.proofs.RoundTrip.{rows_text as text_of_rows}
 use Rattle.csv.specs.Reading.{strip_bom}
 use Rattle.clock_text.specs.Civil.{moment_text, nanos_text, last_printable}
 use Rattle.clock_text.proofs.Walk.{text_tells}
 use Rattle.clock_text.proofs.NanosLemmas.{nanos_tell}
-use Rattle.csv_rows.specs.Tables.{table_of, row_count, header}
+use Rattle.csv_rows.specs.Tables.{table_of, row_count}
 use Rattle.plan_model.specs.declared.model.Query.{Query}
 use Rattle.plan_model.specs.NetworkModel.{NetworkModel}
 use Rattle.plan_model.specs.NameLists.{NameLists, NamesFit, AreNames}
 use Rattle.plan_model.specs.Network.{IsValid, count, run_of, step_of}
-use Rattle.printed_rows.specs.Fields.{whole_at, rises}
+use Rattle.printed_rows.specs.Fields.{rises}
 use Rattle.printed_rows.specs.Writers.{place_name, run_name, text_of_records}
 use Rattle.printed_rows.proofs.Found.{connection_back}
 use Rattle.printed_rows.proofs.Lines.{records_printed, text_step, split_at}
@@ -32,9 +30,9 @@ use Rattle.lower_proof.specs.declared.reader.ValueRow.{ValueRow}
 use Rattle.lower_proof.specs.declared.reader.ProofFault.{ProofFault}
 use Rattle.lower_proof.specs.Certificates.{bound_of}
 use Rattle.lower_proof.specs.Texts.{bounds_record, value_record, value_records, proof_text, entry_text}
-use Rattle.lower_proof.specs.Reading.{bounds_numbers, bounds_row_in, bounds_in, value_numbers, value_row_in, connection_in}
+use Rattle.lower_proof.specs.Reading.{bounds_row_in, bounds_in, value_row_in, connection_in}
 use Rattle.lower_proof.specs.Reading.{nanos_in, told_in, value_row, connection_before}
-use Rattle.lower_proof.specs.Reading.{value_fault, IsFaultAfter, AreValuesTold, IsProofTold, IsProofRead, IsReadBack}
+use Rattle.lower_proof.specs.Reading.{value_fault, AreValuesTold, IsProofTold, IsProofRead, IsReadBack}
 use Rattle.lower_proof.specs.Steps.{AllFit}
 
 same_query : (a b : Query) → a.source.0 ≡ b.source.0 → a.target.0 ≡ b.target.0 → a.start.0 ≡ b.start.0 → a.deadline ≡ b.deadline → a ≡ b

@@ -1,12 +1,10 @@
 -- What is read of the value rows so far.
-use Rattle.std.proofs.Common.{◌≡◌, ◌≢◌, ℕ, suc, ◌+◌, ◌<◌, ◌≤◌, ◌⊎◌, Bool, true, List, [], length, set, Option, Some, None, Ok, Err, Result, arith, inl, inr, sym}
-use Rattle.std.proofs.Common.{◌∙◌, ap, subst, refl, get_or-set_other, get_or-set_same}
-use Rattle.std.specs.Prelude.{max, if◌then◌else◌}
+use Rattle.std.proofs.Common.{◌≡◌, ◌≢◌, ℕ, suc, ◌+◌, ◌<◌, ◌≤◌, ◌⊎◌, true, List, [], length, set, Option, Some, None, Ok, Err, Result, arith, inl, inr, sym, ◌∙◌}
+use Rattle.std.proofs.Common.{ap, subst, refl, get_or-set_other, get_or-set_same, max, option_map, option_and_then, lt-ltb, ltb-true, le-ltb, length-set}
 use Rattle.std.specs.Result.{result_err}
-use Rattle.std.specs.Option.{option_map, option_and_then}
 use Rattle.std.proofs.Math.Nat.{le-max_left}
-use Rattle.std.proofs.lemmas.Bool.{cases_lt, lt-ltb, ltb-true, le-ltb}
-use Rattle.std.proofs.lemmas.List.{length-set, get_or_past}
+use Rattle.std.proofs.lemmas.Bool.{cases_lt}
+use Rattle.std.proofs.lemmas.List.{get_or_past}
 use Rattle.csv_rows.specs.Tables.{row_count}
 use Rattle.plan_model.proofs.Results.{require-ok}
 use Rattle.printed_rows.proofs.Chains.{if-value}

@@ -1,8 +1,7 @@
 -- The boards of all places, and what is known while a certificate is written.
-use Rattle.std.proofs.Common.{◌≡◌, ◌≢◌, ℕ, ◌+◌, ◌<◌, ◌≤◌, List, length, set, Option, Some, [], arith, inl, inr, sym, ◌∙◌, ap, subst}
-use Rattle.std.proofs.Common.{◌∷◌, ◌++◌, None, IsTrue, Bool, true, false, cond, refl, get_or-set_other}
+use Rattle.std.proofs.Common.{◌≡◌, ◌≢◌, ℕ, ◌+◌, ◌<◌, ◌≤◌, List, length, set, Option, Some, [], arith, inl, inr, sym, ◌∙◌, ap, subst, ◌∷◌, ◌++◌, None, IsTrue}
+use Rattle.std.proofs.Common.{Bool, true, false, cond, refl, get_or-set_other, length-set}
 use Rattle.std.proofs.lemmas.Bool.{cases_lt}
-use Rattle.std.proofs.lemmas.List.{length-set}
 use Rattle.plan_model.specs.declared.model.Query.{Query}
 use Rattle.plan_model.specs.NetworkModel.{NetworkModel}
 use Rattle.plan_model.specs.Network.{count, dep_of, IsValid, connection, arr_of, run_of}

@@ -1,6 +1,5 @@
 -- A run by its steps.
-use Rattle.std.proofs.Common.{◌≡◌, ◌<◌, ℕ, sym, subst, arith, ⊎_elim, List, Option, Some, None, Ok}
-use Rattle.std.specs.Prelude.{◌≢◌, IsSome}
+use Rattle.std.proofs.Common.{◌≡◌, ◌<◌, ℕ, sym, subst, arith, ⊎_elim, List, Option, Some, None, Ok, ◌≢◌, IsSome}
 use Rattle.std.specs.Io.KnownBytes.{Keeps}
 use Rattle.file_ports.specs.Counts.{Rose, RoseAt}
 use Rattle.csv_rows.specs.declared.limits.Limits.{Limits}

@@ -1,6 +1,5 @@
 -- The status of a call, by what it comes to.
-use Rattle.std.proofs.Common.{◌≡◌, ℕ, ap, refl, sym, ◌∙◌, subst, inl, inr, List, Option, Some, None, Ok}
-use Rattle.std.specs.Prelude.{◌≢◌, ◌⊎◌}
+use Rattle.std.proofs.Common.{◌≡◌, ℕ, ap, refl, sym, ◌∙◌, subst, inl, inr, List, Option, Some, None, Ok, ◌≢◌, ◌⊎◌}
 use Rattle.file_ports.specs.Ports.{FileMap}
 use Rattle.csv_rows.specs.declared.limits.Limits.{Limits}
 use Rattle.feed_maker.specs.Made.{made, SameFolder}

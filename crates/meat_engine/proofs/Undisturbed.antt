@@ -1,6 +1,5 @@
 -- What an outcome says, where no file failed to be read and the answer was written.
-use Rattle.std.proofs.Common.{◌≡◌, ℕ, subst, inl, inr, List, Option, Some, None, Ok}
-use Rattle.std.specs.Prelude.{◌≢◌}
+use Rattle.std.proofs.Common.{◌≡◌, ℕ, subst, inl, inr, List, Option, Some, None, Ok, ◌≢◌}
 use Rattle.file_ports.specs.Ports.{FileMap}
 use Rattle.csv_rows.specs.declared.limits.Limits.{Limits}
 use Rattle.command_line.specs.Jobs.{Wanted, job_of}

@@ -1,14 +1,14 @@
 -- One way after the other.
-use Rattle.std.proofs.lemmas.Grind.{common_steps}
 use Rattle.std.proofs.Common.{◌≡◌, ◌≢◌, ℕ, suc, ◌+◌, ◌<◌, ◌≤◌, true, List, [], ◌∷◌, ◌++◌, Option, Some, None, AllPairs, length, get_or, take, cond, slice_get}
-use Rattle.std.proofs.Common.{arith, sym, ap, ◌∙◌, refl, inl, inr, subst, set, length-take-le, get_or-set_same, get_or-set_other}
-use Rattle.std.specs.Prelude.{find, ◌==◌, is_some}
-use Rattle.std.specs.Option.{option_map, option_or}
-use Rattle.std.proofs.lemmas.Bool.{cases_eq, eq-eqb, ne_eqb}
+use Rattle.std.proofs.Common.{arith, sym, ap, ◌∙◌, refl, inl, inr, subst, set, length-take-le, get_or-set_same, get_or-set_other, find, ◌==◌, is_some}
+use Rattle.std.proofs.Common.{option_map, eq-eqb, ne_eqb, get_or-take}
+use Rattle.std.proofs.lemmas.Grind.{common_steps}
+use Rattle.std.specs.Option.{option_or}
+use Rattle.std.proofs.lemmas.Bool.{cases_eq}
 use Rattle.std.proofs.lemmas.List.Folds.{find-append}
 use Rattle.std.proofs.lemmas.Option.{slice_get-get_or}
 use Rattle.std.proofs.lemmas.Bool.Decides.{nat_tests}
-use Rattle.std.proofs.lemmas.List.{take_more, get_or-take}
+use Rattle.std.proofs.lemmas.List.{take_more}
 use Rattle.plan_model.specs.declared.model.Leg.{Leg}
 use Rattle.plan_model.specs.declared.model.Way.{Way}
 use Rattle.plan_model.specs.NetworkModel.{NetworkModel}

@@ -1,8 +1,7 @@
 -- Entries whose calls are forgotten one after the other, and whose counts stay.
-use Rattle.std.proofs.Common.{◌≡◌, ◌<◌, ℕ, ◌+◌, List, [], ◌∷◌, Bool, true, false, map, get_or, set, length, refl, ap, sym, ◌∙◌, arith}
-use Rattle.std.specs.Prelude.{Option, if◌then◌else◌, Some, bytes_eq, string_bytes, nat_eq}
+use Rattle.std.proofs.Common.{◌≡◌, ◌<◌, ℕ, ◌+◌, List, [], ◌∷◌, Bool, true, false, map, get_or, set, length, refl, ap, sym, ◌∙◌, arith, Option, if◌then◌else◌}
+use Rattle.std.proofs.Common.{Some, bytes_eq, string_bytes, nat_eq, get_or-set_same, get_or-set_other}
 use Rattle.std.specs.List.{list_any}
-use Rattle.std.proofs.lemmas.List.{get_or-set_same, get_or-set_other}
 use Rattle.file_ports.specs.declared.named.Named.{Named}
 use Rattle.memory_ports.specs.declared.memory.Failing.{Failing}
 use Rattle.file_ports.specs.Named.{value_at}

@@ -1,6 +1,5 @@
 -- A search that has a least worst arrival has a safe strategy.
-use Rattle.std.proofs.Common.{◌≡◌, Option, Some, None}
-use Rattle.std.specs.Prelude.{◌≤◌, MatchOption}
+use Rattle.std.proofs.Common.{◌≡◌, Option, Some, None, ◌≤◌, MatchOption}
 use Rattle.plan_model.specs.declared.model.Moment.{Moment}
 use Rattle.plan_model.specs.declared.model.Query.{Query}
 use Rattle.plan_model.specs.NetworkModel.{NetworkModel}

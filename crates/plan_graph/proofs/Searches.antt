@@ -1,6 +1,6 @@
 -- Searches by halving find what comes first in a list that rises.
-use Rattle.std.proofs.Common.{◌≡◌, ℕ, ◌<◌, Bool, true, false, not, List, [], ◌∷◌, length, None, AllPairs, arith, sym, subst, refl, inl, inr, ◌∙◌, ap, ap₂}
-use Rattle.std.specs.Prelude.{◌==◌, ◌&&◌, slice_index_or}
+use Rattle.std.proofs.Common.{◌≡◌, ℕ, ◌<◌, Bool, true, false, not, List, [], ◌∷◌, length, None, AllPairs, arith, sym, subst, refl, inl, inr, ◌∙◌, ap, ap₂, ◌==◌}
+use Rattle.std.proofs.Common.{◌&&◌, slice_index_or}
 use Rattle.std.specs.List.{AllWithin}
 use Rattle.std.specs.List.Sorted.{IsPartitionedBy, IsPartitionPoint}
 use Rattle.std.proofs.lemmas.Bool.{cases_Bool, cases_lt, false≢true}

@@ -1,6 +1,6 @@
 -- Elements of lists, one at a time.
 use Rattle.std.proofs.Common.{◌≡◌, suc, ◌<◌, ◌⊎◌, ℕ, List, [], ◌∷◌, ◌++◌, map, length, get_or, All, AllPairs, Contains, arith, refl, inl, inr, ap}
-use Rattle.std.specs.Prelude.{slice_index_or}
+use Rattle.std.proofs.Common.{slice_index_or}
 use Rattle.std.proofs.lemmas.List.Elements.{All-append, All-contains, All-map, Contains-get_or}
 use Rattle.std.proofs.lemmas.List.Kept.{AllPairs-cons}
 use Rattle.std.proofs.lemmas.Bool.Decides.{nat_tests}

@@ -1,11 +1,10 @@
 -- Texts and their hashes.
-use Rattle.std.proofs.Common.{◌≡◌, ℕ, ◌-◌, ◌^◌, ◌<◌, true, false, Option, Some, None, String, List, [], ◌∷◌, ◌++◌, length, get_or, refl, sym, ap, ◌∙◌, arith, Contains}
-use Rattle.std.specs.Prelude.{map, is_some, slice_get, IfSome, IfNone}
+use Rattle.std.proofs.Common.{◌≡◌, ℕ, ◌-◌, ◌^◌, ◌<◌, true, false, Option, Some, None, String, List, [], ◌∷◌, ◌++◌, length, get_or, refl, sym, ap, ◌∙◌, arith}
+use Rattle.std.proofs.Common.{Contains, map, is_some, slice_get, IfSome, IfNone, Global}
 use Rattle.std.proofs.lemmas.Option.{slice_get_within, get_or_from_slice_get}
 use Rattle.std.proofs.lemmas.List.{get_or-map, length-map, map-append}
 use Rattle.plan_model.specs.declared.hash_key.HashKey.{HashKey}
 use Rattle.plan_model.specs.declared.hash_index.Link.{Link}
-use Rattle.std.specs.Global.{Global}
 use Rattle.plan_model.specs.NameLists.{texts}
 use Rattle.plan_model.specs.Chains.{no_link, hashes_of}
 use Rattle.plan_model.specs.Hashes.{hash_of}

@@ -1,8 +1,8 @@
 -- The fields of printed rows, and texts one after another.
-use Rattle.std.proofs.Common.{◌≡◌, ℕ, ◌+◌, ◌<◌, List, [], ◌∷◌, ◌++◌, length, drop, Some, Result, arith, sym, ◌∙◌, ap, refl, subst, append_assoc}
+use Rattle.std.proofs.Common.{◌≡◌, ℕ, ◌+◌, ◌<◌, List, [], ◌∷◌, ◌++◌, length, drop, Some, Result, sym, ◌∙◌, ap, refl, subst, append_assoc, slice_get}
+use Rattle.std.proofs.Common.{slice_index_or, OnOk}
 use Rattle.std.proofs.lemmas.List.{drop_more}
 use Rattle.std.proofs.lemmas.Option.{get_or_from_slice_get}
-use Rattle.std.specs.Prelude.{slice_get, slice_index_or, OnOk}
 use Rattle.csv.proofs.RoundTrip.{rows_text as text_of_rows}
 use Rattle.printed_rows.specs.Writers.{row_of_fields, text_of_records}
 

@@ -1,6 +1,5 @@
 -- The names of a network's places and runs in printed rows.
-use Rattle.std.proofs.Common.{◌≡◌, ℕ, ◌<◌, length, Some, arith}
-use Rattle.std.specs.Prelude.{decimal}
+use Rattle.std.proofs.Common.{◌≡◌, ℕ, ◌<◌, length, Some, arith, decimal}
 use Rattle.csv_rows.specs.Spaces.{trimmed_text}
 use Rattle.plan_model.specs.NetworkModel.{NetworkModel}
 use Rattle.plan_model.specs.NameLists.{NameLists, NamesFit, AreNames}

@@ -1,6 +1,5 @@
 -- The rows of exceptions.
-use Rattle.std.proofs.Common.{◌≡◌, ℕ, ◌+◌, List, ap, sym, ◌∙◌, subst}
-use Rattle.std.specs.Prelude.{Ok}
+use Rattle.std.proofs.Common.{◌≡◌, ℕ, ◌+◌, List, ap, sym, ◌∙◌, subst, Ok}
 use Rattle.clock_text.specs.Times.{date_at}
 use Rattle.csv_rows.specs.Names.{name_in}
 use Rattle.csv_rows.specs.Spaces.{AreTrimmed}

@@ -1,6 +1,6 @@
 -- The calendars of a folder, by what was read of each table.
-use Rattle.std.proofs.Common.{◌≡◌, ◌≢◌, ℕ, ◌&&◌, Bool, true, false, List, Option, Some, None, Ok, Err, IfSome, IsOkAnd, if◌then◌else◌, refl, sym, ap, ap₂, ◌∙◌, subst}
-use Rattle.std.specs.Prelude.{Result}
+use Rattle.std.proofs.Common.{◌≡◌, ◌≢◌, ℕ, ◌&&◌, Bool, true, false, List, Option, Some, None, Ok, Err, IfSome, IsOkAnd, if◌then◌else◌, refl, sym, ap, ap₂, ◌∙◌}
+use Rattle.std.proofs.Common.{subst, Result}
 use Rattle.plan_model.specs.Results.{and_then}
 use Rattle.file_ports.specs.Ports.{FileMap}
 use Rattle.csv_rows.specs.declared.feed_tables.Table.TheVariants as table

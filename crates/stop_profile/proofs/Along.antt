@@ -1,5 +1,5 @@
 -- An insert as a walk along the rows.
-use Rattle.std.specs.Prelude.{ℕ, List, [], ◌∷◌, nat_lt, ◌==◌, if◌then◌else◌}
+use Rattle.std.proofs.Common.{ℕ, List, [], ◌∷◌, nat_lt, ◌==◌, if◌then◌else◌}
 use Rattle.stop_profile.specs.declared.Row.{Row}
 use Rattle.stop_profile.specs.Inserts.{lower_row}
 

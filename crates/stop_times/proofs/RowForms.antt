@@ -1,10 +1,8 @@
 -- What the form of a row of stop times tells.
+use Rattle.std.proofs.Common.{rules, ◌≡◌, ℕ, ◌+◌, ◌<◌, ◌≤◌, ◌-◌, ◌==◌, nat_eq, nat_le, ◌&&◌, Bool, List, [], length, take, drop, slice_index, slice_index_or}
+use Rattle.std.proofs.Common.{Option, Some, None, IfSome, refl, subst, arith, Result, Ok, Err}
 use Rattle.std.proofs.lemmas.Grind.{common_steps}
-use Rattle.std.proofs.Common.{rules}
 use Rattle.std.proofs.lemmas.Bool.Decides.{nat_tests}
-use Rattle.std.proofs.Common.{◌≡◌, ℕ, ◌+◌, ◌<◌, ◌≤◌, ◌-◌, ◌==◌, nat_eq, nat_le, ◌&&◌, Bool, List, [], length, take, drop, slice_index, slice_index_or, Option, Some, None}
-use Rattle.std.proofs.Common.{IfSome, refl, subst, arith}
-use Rattle.std.specs.Prelude.{Result, Ok, Err}
 use Rattle.std.specs.List.{list_all}
 use Rattle.std.specs.Char.{is_ascii_digit}
 use Rattle.std.proofs.lemmas.Bool.{and_parts}

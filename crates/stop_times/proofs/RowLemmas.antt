@@ -1,8 +1,6 @@
 -- The stop that a field names.
+use Rattle.std.proofs.Common.{arith, ◌≡◌, ℕ, ◌==◌, false, List, length, Some, IsUtf8, slice_get}
 use Rattle.std.proofs.lemmas.Grind.{common_steps}
-use Rattle.std.proofs.Common.{arith}
-use Rattle.std.proofs.Common.{◌≡◌, ℕ, ◌==◌, false, List, length, Some, IsUtf8}
-use Rattle.std.specs.Prelude.{slice_get}
 use Rattle.csv_rows.specs.Ids.{AreIds}
 use Rattle.csv_rows.proofs.IdLemmas.{found}
 use Rattle.csv_rows.proofs.NameLemmas.{text_some}

@@ -1,7 +1,7 @@
 -- The rows of a trip among rows by trip.
-use Rattle.std.proofs.Common.{◌≡◌, ℕ, zero, suc, ◌-◌, ◌<◌, ◌≤◌, ◌==◌, Bool, true, false, not, ◌&&◌, cond, List, [], ◌∷◌, map, length, take, drop, slice_range, if◌then◌else◌, leb, ltb}
-use Rattle.std.proofs.Common.{leb-true, leb-false, ltb-true, ltb-false, nat_cmp, is_lt, refl, sym, ap, ◌∙◌, arith}
-use Rattle.std.proofs.lemmas.Bool.{cases_lt, eq-eqb, ne_eqb}
+use Rattle.std.proofs.Common.{◌≡◌, ℕ, zero, suc, ◌-◌, ◌<◌, ◌≤◌, ◌==◌, Bool, true, false, not, ◌&&◌, cond, List, [], ◌∷◌, map, length, take, drop, slice_range}
+use Rattle.std.proofs.Common.{if◌then◌else◌, leb, ltb, leb-true, leb-false, ltb-true, ltb-false, nat_cmp, is_lt, refl, sym, ap, ◌∙◌, arith, eq-eqb, ne_eqb}
+use Rattle.std.proofs.lemmas.Bool.{cases_lt}
 use Rattle.std.proofs.lemmas.Bool.Decides.{nat_tests}
 use Rattle.std.proofs.lemmas.List.{get_or-map, length-map}
 use Rattle.std.proofs.lemmas.List.Elements.{filter_agree}

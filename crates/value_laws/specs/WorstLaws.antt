@@ -1,6 +1,6 @@
 -- The latest arrival keeps the laws. (The proof stands here, since the trait names it.)
-use Rattle.std.specs.Prelude.{◌≤◌, ◌⊎◌, List, [], ◌∷◌, refl}
 use Rattle.std.proofs.Common.{arith, inl, inr}
+use Rattle.std.specs.Prelude.{◌≤◌, ◌⊎◌, List, [], ◌∷◌, refl}
 use Rattle.plan_model.specs.declared.model.Outcome.{Outcome}
 use Rattle.plan_model.specs.Tree.{Tree, Kids, Nil, Kid, worst_of}
 use Rattle.plan_model.specs.Rows.{EachKid}

@@ -1,5 +1,4 @@
-use Rattle.std.proofs.Common.{◌≡◌, ◌≤◌, ℕ, ◌+◌, ◌-◌}
-use Rattle.std.specs.Prelude.{MatchOption}
+use Rattle.std.proofs.Common.{◌≡◌, ◌≤◌, ◌+◌, ◌-◌, MatchOption}
 use Rattle.plan_model.specs.Bounds.{end_of_arrivals}
 use Rattle.plan_model.specs.Tree.{Tree}
 use Rattle.departure_table.specs.Departures.{SafeAfter}

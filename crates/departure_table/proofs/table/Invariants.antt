@@ -1,4 +1,4 @@
-use Rattle.std.proofs.Common.{ℕ, ◌+◌, ◌-◌}
+use Rattle.std.proofs.Common.{◌+◌, ◌-◌}
 use Rattle.departure_table.specs.Departures.{SafeAfter}
 use Rattle.departure_table.proofs.Growth.{IsTableTo}
 use Rattle.departure_table.proofs.table.Given as goal

@@ -1,5 +1,4 @@
-use Rattle.std.proofs.Common.{◌≡◌, ◌++◌, drop, None}
-use Rattle.std.specs.Option.{option_map}
+use Rattle.std.proofs.Common.{◌≡◌, ◌++◌, drop, None, option_map}
 use Rattle.graph_prune.specs.Limits.{by_limits}
 use Rattle.graph_prune.proofs.rows_by_limits.Given as goal
 

@@ -1,6 +1,5 @@
-use Rattle.std.proofs.Common.{◌≡◌, ◌<◌, ◌-◌, ◌∙◌, List, arith, ap, drop, length, sym, subst}
-use Rattle.std.specs.Prelude.{slice_index_or}
-use Rattle.std.proofs.lemmas.List.{take_at, get_or_default}
+use Rattle.std.proofs.Common.{◌≡◌, ◌<◌, ◌-◌, ◌∙◌, List, arith, ap, drop, length, sym, subst, slice_index_or, take_at}
+use Rattle.std.proofs.lemmas.List.{get_or_default}
 use Rattle.plan_model.specs.Network.{count}
 use Rattle.graph_score.specs.declared.outlooks.Outlook.{Outlook}
 use Rattle.graph_score.specs.Steps.{IsOutlook, no_outlook}

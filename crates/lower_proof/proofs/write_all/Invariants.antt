@@ -1,4 +1,4 @@
-use Rattle.std.proofs.Common.{ℕ, ◌<◌, All, length}
+use Rattle.std.proofs.Common.{◌<◌, All, length}
 use Rattle.plan_model.specs.Network.{count}
 use Rattle.lower_proof.proofs.Written.{Written}
 use Rattle.lower_proof.proofs.write_all.Given as goal

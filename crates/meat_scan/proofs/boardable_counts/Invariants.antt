@@ -1,5 +1,4 @@
-use Rattle.std.proofs.Common.{◌≡◌, ℕ, ◌<◌, length, get_or, take}
-use Rattle.std.specs.Prelude.{count_by}
+use Rattle.std.proofs.Common.{◌≡◌, ℕ, ◌<◌, length, get_or, take, count_by}
 use Rattle.plan_model.specs.Network.{IsValid}
 use Rattle.meat_scan.specs.Tables.{has_way}
 use Rattle.meat_scan.proofs.boardable_counts.Given as goal

@@ -1,5 +1,4 @@
-use Rattle.std.proofs.Common.{◌≡◌, ◌+◌, ◌≤◌, ◌<◌, drop, length, []}
-use Rattle.std.specs.Prelude.{All, IfSome}
+use Rattle.std.proofs.Common.{◌≡◌, ◌+◌, ◌≤◌, ◌<◌, drop, length, [], All, IfSome}
 use Rattle.plan_model.specs.Network.{count}
 use Rattle.plan_model.specs.Unfold.{by_place}
 use Rattle.plan_graph.specs.Rows.{pick_at}

@@ -1,5 +1,4 @@
-use Rattle.std.proofs.Common.{◌++◌, ◌<◌, Option, ℕ, length, take, sym, ap, ◌∙◌, arith}
-use Rattle.std.proofs.lemmas.List.{take_all}
+use Rattle.std.proofs.Common.{◌++◌, ◌<◌, Option, ℕ, length, take, sym, ap, ◌∙◌, arith, take_all}
 use Rattle.change_times.specs.Links.{link_from}
 use Rattle.change_times.specs.Walks.{most_to}
 use Rattle.change_times.proofs.LinkLemmas.{most-next}

@@ -1,7 +1,5 @@
-use Rattle.std.proofs.Common.{◌≡◌, Bool, true, false, refl, arith}
-use Rattle.std.specs.Prelude.{Option, Some, None, if◌then◌else◌}
+use Rattle.std.proofs.Common.{◌≡◌, Bool, true, false, refl, arith, Option, Some, None, if◌then◌else◌, ltb-false}
 use Rattle.std.specs.Option.{option_or}
-use Rattle.std.proofs.lemmas.Bool.{ltb-false}
 use Rattle.connections.specs.declared.cuts.WindowFault.{WindowFault}
 use Rattle.connections.proofs.cuts.cut.Goals as goal
 

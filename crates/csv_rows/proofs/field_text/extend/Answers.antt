@@ -1,5 +1,4 @@
-use Rattle.std.proofs.Common.{◌≡◌, ◌∙◌, ◌++◌, sym, ap, subst, List, ℕ, length, is_ok, if◌then◌else◌}
-use Rattle.std.specs.Prelude.{Result, Ok, Err, OnOk}
+use Rattle.std.proofs.Common.{◌≡◌, ◌∙◌, ◌++◌, sym, ap, subst, List, ℕ, length, is_ok, if◌then◌else◌, Result, Ok, Err, OnOk}
 use Rattle.csv_rows.specs.Spaces.{drop_spaces}
 use Rattle.csv_rows.proofs.SpaceLemmas.{extended-all, extended-some}
 use Rattle.csv_rows.proofs.field_text.extend.Goals as goal

@@ -1,4 +1,4 @@
-use Rattle.std.proofs.Common.{◌≡◌, ◌+◌, ◌<◌, ◌≤◌, length, map, [], arith, ap, sym, ◌∙◌}
+use Rattle.std.proofs.Common.{◌≡◌, length, map, arith, ap, ◌∙◌}
 use Rattle.std.specs.List.{range_with_len}
 use Rattle.plan_model.specs.View.{links_from_added}
 use Rattle.departure_table.proofs.Added.{links_more, none_added}

@@ -1,5 +1,4 @@
-use Rattle.std.proofs.Common.{◌∙◌}
-use Rattle.std.specs.Prelude.{codes}
+use Rattle.std.proofs.Common.{◌∙◌, codes}
 use Rattle.clock_text.specs.Civil.{moment_text}
 use Rattle.printed_rows.specs.Writers.{place_name}
 use Rattle.printed_rows.proofs.Lines.{name_is}

@@ -1,9 +1,7 @@
-use Rattle.std.proofs.Common.{◌≡◌, Ok, None, Option, sym, subst}
-use Rattle.std.specs.Prelude.{IfSome}
-use Rattle.file_ports.specs.Ports.{FileMap, file_at}
+use Rattle.std.proofs.Common.{◌≡◌, Option, sym, subst, IfSome}
+use Rattle.file_ports.specs.Ports.{file_at}
 use Rattle.journey_model.specs.declared.faults.Input.{Input}
 use Rattle.journey_model.specs.declared.faults.Input.TheVariants as input
-use Rattle.input_files.specs.Files.{bytes_of}
 use Rattle.input_files.proofs.Causes.{causes-quiet}
 use Rattle.std.proofs.lemmas.Option.{IfSome_then}
 use Rattle.std.proofs.lemmas.Result.{IfOk-weaker, IfErr-weaker}

@@ -1,5 +1,4 @@
-use Rattle.std.proofs.Common.{◌<◌, length, arith, rules, sym}
-use Rattle.std.specs.Prelude.{nat_lt}
+use Rattle.std.proofs.Common.{◌<◌, length, arith, rules, sym, nat_lt}
 use Rattle.std.proofs.lemmas.List.Sorted.{IsPartitionPoint-from_clause}
 use Rattle.plan_graph.specs.declared.GraphRow.{GraphRow}
 use Rattle.graph_score.proofs.Picks.{parted, pick_row-at, pick_row-none}

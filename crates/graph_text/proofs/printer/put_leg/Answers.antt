@@ -1,4 +1,4 @@
-use Rattle.std.proofs.Common.{◌≡◌, ◌++◌, ◌∙◌, ℕ, List, subst}
+use Rattle.std.proofs.Common.{◌∙◌}
 use Rattle.graph_text.proofs.Fields.{leg_row_fields}
 use Rattle.printed_rows.proofs.Connections.{dep_printable, arr_printable, run_named, from_named, to_named}
 use Rattle.printed_rows.proofs.Lines.{name_is}

@@ -1,9 +1,8 @@
-use Rattle.std.specs.Prelude.{◌+◌}
+use Rattle.std.proofs.Common.{◌+◌, refl}
 use Rattle.input_files.proofs.Loads.{if_some_any, bytes_of-unread}
 use Rattle.input_files.proofs.EarlyFacts.{early_read, early_missing, early_limit}
 use Rattle.file_ports.specs.Ports.{file_at}
 use Rattle.file_ports.proofs.CauseLemmas.{causes-of}
-use Rattle.std.proofs.Common.{refl}
 use Rattle.input_files.proofs.inputs.load_bytes.Goals as goal
 
 pub returns-in-Err-Read-clause-bytes : goal.returns-in-Err-Read-clause-bytes

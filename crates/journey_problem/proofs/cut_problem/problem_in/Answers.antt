@@ -1,5 +1,4 @@
-use Rattle.std.proofs.Common.{◌≡◌, List, ℕ, Some, None, subst}
-use Rattle.std.specs.Prelude.{IfErr, OnOk}
+use Rattle.std.proofs.Common.{◌≡◌, List, ℕ, Some, None, subst, IfErr, OnOk}
 use Rattle.std.proofs.lemmas.Result.{IfErr-weaker}
 use Rattle.cut_file.specs.CutNetwork.{IsCutNetwork}
 use Rattle.cut_file.specs.Read.{IsRead}

@@ -1,5 +1,4 @@
-use Rattle.std.proofs.Common.{◌∙◌, Option, ap, inl, inr, sym, subst}
-use Rattle.std.specs.Prelude.{IsSome}
+use Rattle.std.proofs.Common.{◌∙◌, Option, ap, inl, inr, sym, subst, IsSome}
 use Rattle.std.proofs.lemmas.Result.{IfOk-weaker, IfErr-weaker}
 use Rattle.file_ports.specs.Ports.{FileMap}
 use Rattle.command_line.specs.Jobs.{FeedFolder}

@@ -1,5 +1,4 @@
-use Rattle.std.proofs.Common.{◌∙◌, Option, inl, inr, sym, subst}
-use Rattle.std.specs.Prelude.{IsSome}
+use Rattle.std.proofs.Common.{◌∙◌, Option, inl, inr, sym, subst, IsSome}
 use Rattle.file_ports.specs.Ports.{FileMap}
 use Rattle.journey_problem.proofs.FeedSteps.{if_some_both}
 use Rattle.file_ports.proofs.CauseLemmas.{causes-next}

@@ -1,5 +1,4 @@
-use Rattle.std.proofs.Common.{◌∙◌, Option, inl, inr, refl, sym, subst}
-use Rattle.std.specs.Prelude.{IsSome, IsOk, IsOkAnd, None, Result, Ok, Err}
+use Rattle.std.proofs.Common.{◌∙◌, Option, inl, inr, refl, sym, subst, IsSome, IsOk, IsOkAnd, None, Result, Ok, Err}
 use Rattle.file_ports.specs.Ports.{FileMap}
 use Rattle.service_days.specs.Services.{runs}
 use Rattle.service_days.specs.Calendars.{calendars_in, RunsBy}

@@ -1,6 +1,5 @@
-use Rattle.std.proofs.Common.{◌≡◌, ℕ, ◌<◌, List, length, Result, Ok, Err, ap, sym, subst, arith}
+use Rattle.std.proofs.Common.{◌≡◌, ℕ, ◌<◌, List, length, Result, Ok, Err, ap, sym, subst, arith, IfOk}
 use Rattle.std.proofs.lemmas.Option.{slice_get_within}
-use Rattle.std.specs.Prelude.{IfOk}
 use Rattle.plan_model.specs.Network.{IsValid}
 use Rattle.plan_model.specs.NameLists.{NamesFit}
 use Rattle.command_line.specs.declared.job.Timetable.{Timetable}

@@ -1,5 +1,4 @@
-use Rattle.std.proofs.Common.{[], ◌∷◌, ap, ◌∙◌, arith}
-use Rattle.std.specs.Prelude.{decimal}
+use Rattle.std.proofs.Common.{[], ◌∷◌, ap, ◌∙◌, arith, decimal}
 use Rattle.clock_text.specs.Civil.{nanos_text}
 use Rattle.plan_model.specs.declared.model.Connection.{Connection}
 use Rattle.printed_rows.proofs.Connections.{run_named}

@@ -1,5 +1,4 @@
-use Rattle.std.proofs.Common.{◌≡◌, ◌+◌, ◌*◌, ◌≤◌, length, take}
-use Rattle.std.specs.Prelude.{sum_by, ◌^◌}
+use Rattle.std.proofs.Common.{◌≡◌, ◌+◌, ◌*◌, ◌≤◌, length, take, sum_by, ◌^◌}
 use Rattle.journey_report.specs.Texts.{start_count}
 use Rattle.journey_report.proofs.texts.leg_count.Given as goal
 

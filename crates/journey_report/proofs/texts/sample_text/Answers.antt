@@ -1,7 +1,6 @@
-use Rattle.std.proofs.Common.{[], ◌∷◌, ap, ◌∙◌}
+use Rattle.std.proofs.Common.{[], ◌∷◌, ap, ◌∙◌, decimal}
 use Rattle.journey_report.specs.Texts.{sample_text}
 use Rattle.journey_report.proofs.RowLemmas.{row-of}
-use Rattle.std.specs.Prelude.{decimal}
 use Rattle.clock_text.specs.Civil.{nanos_text}
 use Rattle.journey_report.proofs.texts.sample_text.Goals as goal
 

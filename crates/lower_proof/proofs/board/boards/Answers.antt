@@ -1,6 +1,5 @@
-use Rattle.std.proofs.Common.{◌≡◌, ℕ, length, arith, subst}
+use Rattle.std.proofs.Common.{◌≡◌, length, arith, take_at}
 use Rattle.std.proofs.lemmas.Bool.{both_ways}
-use Rattle.std.proofs.lemmas.List.{take_at}
 use Rattle.plan_model.specs.Network.{count}
 use Rattle.lower_proof.specs.Minima.{HaveEntries}
 use Rattle.lower_proof.proofs.Entries.{entries_skipped}

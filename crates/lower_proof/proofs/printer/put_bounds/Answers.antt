@@ -1,5 +1,4 @@
-use Rattle.std.proofs.Common.{◌≡◌, ◌++◌, ◌∙◌, ℕ, List, subst, ap}
-use Rattle.std.specs.Prelude.{OnOk, decimal}
+use Rattle.std.proofs.Common.{◌∙◌, ap, decimal}
 use Rattle.printed_rows.proofs.Lines.{seven_fields, name_is}
 use Rattle.lower_proof.proofs.printer.put_bounds.Goals as goal
 

@@ -1,7 +1,6 @@
-use Rattle.std.proofs.Common.{◌≡◌, ◌++◌, ◌∙◌, ℕ, List, subst, ap}
-use Rattle.std.specs.Prelude.{OnOk, decimal}
+use Rattle.std.proofs.Common.{◌∙◌, ap, decimal}
 use Rattle.plan_model.specs.declared.model.Connection.{Connection}
-use Rattle.printed_rows.specs.Writers.{row_of_fields, run_name, text_so_far}
+use Rattle.printed_rows.specs.Writers.{run_name}
 use Rattle.printed_rows.proofs.Lines.{four_fields, name_is}
 use Rattle.lower_proof.proofs.printer.put_value.Goals as goal
 

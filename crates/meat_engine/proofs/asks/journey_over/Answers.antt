@@ -1,5 +1,4 @@
-use Rattle.std.proofs.Common.{Option, Ok, Err, sym, subst}
-use Rattle.std.specs.Prelude.{IsSome}
+use Rattle.std.proofs.Common.{Option, Ok, Err, sym, subst, IsSome}
 use Rattle.file_ports.specs.Ports.{FileMap}
 use Rattle.command_line.specs.Shown.{journey_shown, ask_shown}
 use Rattle.journey_model.specs.declared.faults.Fault.{Fault}

@@ -1,5 +1,4 @@
-use Rattle.std.proofs.Common.{◌≡◌, ℕ, List, Option, Result, Ok, Err, None, subst}
-use Rattle.std.specs.Prelude.{IfOk, IfErr}
+use Rattle.std.proofs.Common.{◌≡◌, ℕ, List, Option, Result, Ok, Err, None, subst, IfOk, IfErr}
 use Rattle.feed_maker.specs.Files.{folder_of}
 use Rattle.command_line.specs.Jobs.{WantedJourney}
 use Rattle.journey_model.specs.declared.faults.Fault.{Fault}

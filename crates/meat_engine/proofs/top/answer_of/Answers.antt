@@ -1,5 +1,4 @@
-use Rattle.std.proofs.Common.{ap, sym, subst}
-use Rattle.std.specs.Prelude.{IfErr}
+use Rattle.std.proofs.Common.{ap, sym, subst, IfErr}
 use Rattle.command_line.specs.declared.job.Job.{Job}
 use Rattle.command_line.specs.Jobs.{Wanted}
 use Rattle.command_line.specs.Shown.{wanted_job}

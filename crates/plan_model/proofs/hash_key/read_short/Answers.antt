@@ -1,4 +1,4 @@
-use Rattle.std.specs.Prelude.{length}
+use Rattle.std.proofs.Common.{length}
 use borrow.Author.Tests.{le-leb, lt-leb, lt-ltb, le-ltb}
 use Rattle.std.specs.Hash.FoldHasher.{read_short}
 use Rattle.plan_model.proofs.hash_key.read_short.Goals as goal

@@ -1,6 +1,6 @@
+use Rattle.std.proofs.Common.{rules}
 use Rattle.plan_model.proofs.Later.{below-later, below-sooner, covers-later, covers-sooner, late-later}
 use Rattle.plan_model.proofs.view.late_by_view.Goals as goal
-use Rattle.std.proofs.Common.{rules}
 
 pub returns-clause-below : goal.returns-clause-below
 returns-clause-below c = search (rules, below-later, late-later, below-sooner)

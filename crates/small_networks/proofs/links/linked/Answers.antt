@@ -1,5 +1,4 @@
-use Rattle.std.proofs.Common.{[], ℕ, subst, arith}
-use Rattle.std.specs.Prelude.{slice_index_or}
+use Rattle.std.proofs.Common.{[], ℕ, subst, arith, slice_index_or}
 use Rattle.plan_model.specs.Network.{AreLinksInto}
 use Rattle.small_networks.proofs.Pushed.{NamesFit-same}
 use Rattle.small_networks.proofs.links.linked.Goals as goal

@@ -1,5 +1,4 @@
-use Rattle.std.proofs.Common.{◌≡◌, ◌<◌, ℕ, [], length}
-use Rattle.std.specs.Prelude.{slice_index_or}
+use Rattle.std.proofs.Common.{◌≡◌, ◌<◌, ℕ, [], length, slice_index_or}
 use Rattle.plan_model.specs.Network.{AreLinksInto}
 use Rattle.small_networks.proofs.links.lists_of.Given as goal
 

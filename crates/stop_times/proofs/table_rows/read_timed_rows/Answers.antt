@@ -1,5 +1,4 @@
-use Rattle.std.proofs.Common.{◌≡◌, ◌<◌, ◌+◌, ◌∷◌, ◌∙◌, List, ℕ, None, Some, sym, ap, subst, arith, length}
-use Rattle.std.specs.Prelude.{Err}
+use Rattle.std.proofs.Common.{◌≡◌, ◌<◌, ◌+◌, ◌∷◌, ◌∙◌, List, ℕ, None, Some, sym, ap, subst, arith, length, Err}
 use Rattle.std.proofs.lemmas.Result.{IfErr-weaker, on_ok_weaker}
 use Rattle.csv_rows.specs.declared.feed_tables.Table.TheVariants.{StopTimes}
 use Rattle.csv_rows.specs.First.{first_below}

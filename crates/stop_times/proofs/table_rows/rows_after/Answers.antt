@@ -1,6 +1,5 @@
-use Rattle.std.proofs.Common.{◌≡◌, ◌<◌, ◌+◌, ◌-◌, ◌∷◌, ◌∙◌, ℕ, [], Option, None, Some, sym, ap, subst, arith, drop, length}
+use Rattle.std.proofs.Common.{◌≡◌, ◌<◌, ◌+◌, ◌-◌, ◌∷◌, ◌∙◌, ℕ, [], Option, None, Some, sym, ap, subst, arith, drop, length, Ok, Err}
 use Rattle.std.proofs.lemmas.List.{length_push}
-use Rattle.std.specs.Prelude.{Ok, Err}
 use Rattle.std.specs.Result.{result_err}
 use Rattle.plan_model.specs.Results.{value_or}
 use Rattle.csv_rows.specs.declared.feed_tables.FeedFault.{FeedFault}

@@ -1,5 +1,4 @@
-use Rattle.std.proofs.Common.{refl}
-use Rattle.std.proofs.Common.{◌+◌, true, length, List, Some, option_map, sym, subst, ap, ◌∙◌}
+use Rattle.std.proofs.Common.{refl, ◌+◌, true, length, List, Some, option_map, sym, subst, ap, ◌∙◌}
 use Rattle.csv_rows.specs.declared.feed_tables.Table.TheVariants.{Frequencies}
 use Rattle.csv_rows.specs.declared.feed_tables.FeedFault.TheVariants.{DuplicateKey}
 use Rattle.csv_rows.specs.declared.keys.Key.{Key}

@@ -1,6 +1,4 @@
-use Rattle.std.proofs.Common.{arith}
-use Rattle.std.proofs.Common.{List, sym, subst}
-use Rattle.std.specs.Prelude.{Result, Ok, Err, IfOk}
+use Rattle.std.proofs.Common.{arith, List, sym, subst, Result, Ok, Err, IfOk}
 use Rattle.std.specs.List.Sorted.{IsNonDecreasing, IsNonDecreasingBy}
 use Rattle.std.proofs.lemmas.Result.{IfOk-weaker}
 use Rattle.trip_frequencies.specs.declared.frequencies.TripFrequency.{TripFrequency}

@@ -1,5 +1,5 @@
-use Rattle.std.proofs.lemmas.Bool.{cases_Bool}
 use Rattle.std.proofs.Common.{◌≡◌, ◌∙◌, ◌+◌, sym, ap, arith, Bool, true, ℕ, List, length, length-append, if◌then◌else◌}
+use Rattle.std.proofs.lemmas.Bool.{cases_Bool}
 use Rattle.csv_rows.specs.Spaces.{trimmed_text}
 use Rattle.csv_rows.proofs.PartsLemmas.{parts-push, fills-push}
 use Rattle.csv_rows.proofs.fields.Fields.push_next.Goals as goal

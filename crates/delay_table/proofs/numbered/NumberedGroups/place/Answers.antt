@@ -1,5 +1,4 @@
-use Rattle.std.proofs.Common.{is_some, ap, ◌∙◌}
-use Rattle.std.specs.Prelude.{position}
+use Rattle.std.proofs.Common.{is_some, ap, ◌∙◌, position}
 use Rattle.delay_table.specs.Numbered.{same_numbered}
 use Rattle.delay_table.proofs.PlaceFacts.{any-position}
 use Rattle.delay_table.proofs.numbered.NumberedGroups.place.Goals as goal

@@ -1,5 +1,4 @@
-use Rattle.std.proofs.Common.{◌≡◌, ◌≢◌, subst, List, Some, None, option_map}
-use Rattle.std.specs.Prelude.{OnOk, IfErr}
+use Rattle.std.proofs.Common.{◌≡◌, ◌≢◌, subst, List, Some, None, option_map, OnOk, IfErr}
 use Rattle.plan_model.specs.declared.model.Outcome.{Outcome}
 use Rattle.delay_table.specs.declared.faults.DelayFault.TheVariants.{NoMemory}
 use Rattle.delay_table.specs.Delays.{Line, fault_after, line_with}

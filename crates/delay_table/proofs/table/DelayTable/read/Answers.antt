@@ -1,5 +1,4 @@
-use Rattle.std.proofs.Common.{◌≡◌, ◌≢◌, ◌<◌, ◌∙◌, ap, sym, subst, length, ℕ, Some, None, rules}
-use Rattle.std.specs.Prelude.{IfOk, OnOk, IfErr}
+use Rattle.std.proofs.Common.{◌≡◌, ◌≢◌, ◌<◌, ◌∙◌, ap, sym, subst, length, ℕ, Some, None, rules, IfOk, OnOk, IfErr}
 use Rattle.csv_rows.proofs.FaultLemmas.{if_raised}
 use Rattle.delay_table.specs.declared.faults.DelayFault.TheVariants.{NoMemory, TooManyClasses}
 use Rattle.delay_table.specs.Bounds.{most_groups}

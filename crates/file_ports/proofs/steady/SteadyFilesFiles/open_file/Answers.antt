@@ -1,5 +1,4 @@
-use Rattle.std.proofs.Common.{true, sym, ◌∙◌, ap, ◌≡◌}
-use Rattle.std.specs.Prelude.{position, vec_items}
+use Rattle.std.proofs.Common.{true, sym, ◌∙◌, ap, ◌≡◌, position, vec_items}
 use Rattle.file_ports.proofs.NamedLemmas.{at_path}
 use Rattle.file_ports.proofs.HandLemmas.{opened_left, opened_hand, absent}
 use Rattle.file_ports.proofs.steady.SteadyFilesFiles.open_file.Goals as goal

@@ -1,5 +1,4 @@
-use Rattle.std.proofs.Common.{sym, ◌∙◌, ◌≡◌, length, drop, ◌+◌}
-use Rattle.std.specs.Prelude.{vec_items}
+use Rattle.std.proofs.Common.{sym, ◌∙◌, ◌≡◌, length, drop, ◌+◌, vec_items}
 use Rattle.file_ports.specs.Steady.{left_of}
 use Rattle.file_ports.proofs.HandLemmas.{holds, hand_left, if_some_at, read_count, moved, at_end, consumes_known, end_known}
 use Rattle.file_ports.proofs.steady.SteadyFilesFiles.read.Goals as goal

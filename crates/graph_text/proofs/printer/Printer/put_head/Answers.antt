@@ -1,4 +1,4 @@
-use Rattle.std.proofs.Common.{◌≡◌, ◌++◌, ◌∙◌, ℕ, List, [], subst, ap, refl}
+use Rattle.std.proofs.Common.{◌∙◌, [], ap, refl}
 use Rattle.clock_text.specs.Civil.{nanos_text}
 use Rattle.graph_text.proofs.Fields.{take_nine}
 use Rattle.printed_rows.proofs.Lines.{name_is}

@@ -1,5 +1,4 @@
-use Rattle.std.proofs.Common.{◌≡◌, ◌++◌, ◌∙◌, ℕ, List, [], subst, ap}
-use Rattle.std.specs.Prelude.{OnOk, decimal}
+use Rattle.std.proofs.Common.{◌∙◌, [], ap, decimal}
 use Rattle.graph_text.proofs.Fields.{take_nine}
 use Rattle.printed_rows.proofs.Lines.{name_is}
 use Rattle.graph_text.proofs.printer.Printer.put_place.Goals as goal

@@ -1,5 +1,4 @@
-use Rattle.std.proofs.Common.{length}
-use Rattle.std.specs.Prelude.{codes}
+use Rattle.std.proofs.Common.{length, codes}
 use Rattle.graph_text.specs.Texts.{place_row, rows_text}
 use Rattle.printed_rows.specs.Writers.{text_so_far}
 use Rattle.printed_rows.proofs.Lines.{append_ok}

@@ -1,5 +1,4 @@
-use Rattle.std.proofs.Common.{subst, Result, ◌+◌, []}
-use Rattle.std.specs.Prelude.{slice_index_or}
+use Rattle.std.proofs.Common.{subst, Result, ◌+◌, [], slice_index_or}
 use Rattle.graph_text.specs.declared.reader.Reading.{Reading}
 use Rattle.graph_text.specs.declared.reader.TextFault.{TextFault}
 use Rattle.graph_text.specs.Reading.{IsUnlessNoMemory}

@@ -1,6 +1,6 @@
-use Rattle.std.proofs.Common.{◌≡◌, ◌-◌, ◌<◌, ◌≤◌, length, max, take, drop, ◌++◌, None, Some, arith, inl, inr, subst, sym}
+use Rattle.std.proofs.Common.{◌≡◌, ◌-◌, ◌<◌, ◌≤◌, length, max, take, drop, ◌++◌, None, Some, arith, inl, inr, subst, sym, length-take, take_at}
 use Rattle.std.proofs.lemmas.Bool.{cases_lt}
-use Rattle.std.proofs.lemmas.List.{get_or_read, length-take, take_at}
+use Rattle.std.proofs.lemmas.List.{get_or_read}
 use Rattle.lower_proof.specs.Certificates.{bound_of, IsLeastOf}
 use Rattle.lower_proof.specs.Boards.{ShownBoard, entry_at, FrontValue, least_of}
 use Rattle.lower_proof.specs.Minima.{IsBoard, AreMinima, AreLate}

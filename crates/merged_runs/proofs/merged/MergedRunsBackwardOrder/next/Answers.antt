@@ -1,5 +1,5 @@
-use Rattle.std.proofs.Common.{◌≡◌, ℕ, List, ◌-◌, ◌<◌, ◌%◌, ◌++◌, ◌∷◌, [], length, get_or, set, arith, refl, ap, sym, ◌∙◌}
-use Rattle.std.proofs.lemmas.Bool.{eqb-true, eqb-false}
+use Rattle.std.proofs.Common.{◌≡◌, ℕ, List, ◌-◌, ◌<◌, ◌%◌, ◌++◌, ◌∷◌, [], length, get_or, set, arith, refl, ap, sym, ◌∙◌, eqb-true}
+use Rattle.std.proofs.lemmas.Bool.{eqb-false}
 use Rattle.std.proofs.lemmas.List.{get_or_read, length_push}
 use Rattle.plan_model.specs.Bounds.{most_connections}
 use Rattle.plan_model.specs.declared.model.Connection.{Connection}

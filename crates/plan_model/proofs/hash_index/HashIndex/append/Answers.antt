@@ -1,5 +1,4 @@
-use Rattle.std.proofs.Common.{◌≡◌, ℕ, ◌+◌, ◌%◌, List, ◌∷◌, [], ◌++◌, length, sym, ap, ◌∙◌, subst, arith}
-use Rattle.std.specs.Prelude.{slice_index, slice_set}
+use Rattle.std.proofs.Common.{◌≡◌, ℕ, ◌+◌, ◌%◌, List, ◌∷◌, [], ◌++◌, length, sym, ap, ◌∙◌, subst, arith, slice_index, slice_set}
 use Rattle.std.proofs.lemmas.List.{get_or_read}
 use Rattle.plan_model.specs.declared.hash_index.Link.{Link}
 use Rattle.plan_model.specs.Chains.{IsChained}

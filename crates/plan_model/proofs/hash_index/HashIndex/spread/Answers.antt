@@ -1,5 +1,5 @@
-use Rattle.std.proofs.Common.{ℕ, ◌∷◌, [], ◌++◌, List, length, get_or, take, ◌<◌, sym, ap, ◌∙◌, arith}
-use Rattle.std.proofs.lemmas.List.{get_or-map, length-take, take_more}
+use Rattle.std.proofs.Common.{ℕ, ◌∷◌, [], ◌++◌, List, length, get_or, take, ◌<◌, sym, ap, ◌∙◌, arith, length-take}
+use Rattle.std.proofs.lemmas.List.{get_or-map, take_more}
 use Rattle.plan_model.specs.declared.hash_index.Link.{Link}
 use Rattle.plan_model.specs.Chains.{hashes_of, link_at, no_link}
 use Rattle.plan_model.proofs.Chains.{length-hashes}

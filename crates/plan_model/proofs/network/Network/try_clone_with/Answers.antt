@@ -1,6 +1,6 @@
+use Rattle.std.proofs.Common.{arith}
 use Rattle.plan_model.proofs.SameParts.{same_parts}
 use Rattle.plan_model.proofs.network.Network.try_clone_with.Goals as goal
-use Rattle.std.proofs.Common.{arith}
 
 pub invariant_of-result : goal.invariant_of-result
 invariant_of-result c = grind (arith, same_parts)

@@ -1,10 +1,9 @@
-use Rattle.std.proofs.Common.{◌≡◌, ◌∙◌, ℕ, ◌-◌, ◌^◌, ◌<◌, ◌∷◌, [], ◌++◌, List, Contains, length, refl, sym, ap, subst}
+use Rattle.std.proofs.Common.{◌≡◌, ◌∙◌, ℕ, ◌-◌, ◌^◌, ◌<◌, ◌∷◌, [], ◌++◌, List, Contains, length, refl, sym, ap, subst, arith}
 use Rattle.plan_model.specs.NameLists.{texts}
 use Rattle.plan_model.specs.TextSets.{AreHashed}
 use Rattle.plan_model.proofs.Texts.{texts-push}
 use Rattle.plan_model.proofs.TextSets.{AreTexts-hashed, HasHash-own, AreHashed-push, there_by_number, absent_by_number}
 use Rattle.plan_model.proofs.text_set.TextSet.add.Goals as goal
-use Rattle.std.proofs.Common.{arith}
 
 pub number_of-requires : goal.number_of-requires
 number_of-requires c = grind (arith, HasHash-own)

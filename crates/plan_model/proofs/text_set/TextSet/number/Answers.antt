@@ -1,10 +1,8 @@
-use Rattle.std.proofs.Common.{List, String, sym, subst}
-use Rattle.std.specs.Global.{Global}
+use Rattle.std.proofs.Common.{List, String, sym, subst, Global, arith}
 use Rattle.plan_model.specs.NameLists.{texts}
 use Rattle.plan_model.specs.TextSets.{HasHash}
 use Rattle.plan_model.proofs.TextSets.{AreTexts-hashed, HasHash-own}
 use Rattle.plan_model.proofs.text_set.TextSet.number.Goals as goal
-use Rattle.std.proofs.Common.{arith}
 
 pub number_of-requires : goal.number_of-requires
 number_of-requires c =

@@ -1,5 +1,5 @@
-use Rattle.std.proofs.Common.{arith}
-use Rattle.std.proofs.lemmas.List.{length-map, length-take}
+use Rattle.std.proofs.Common.{arith, length-take}
+use Rattle.std.proofs.lemmas.List.{length-map}
 use Rattle.plan_model.proofs.Texts.{take-adds, texts-at}
 use Rattle.plan_model.proofs.text_set.TextSet.try_clone.Goals as goal
 
