@@ -1,4 +1,4 @@
-pub mod Forms
+pub mod TransferForms
 pub mod Transfers
 pub mod Greatest
 pub mod Links

@@ -16,7 +16,7 @@ use Rattle.csv_rows.specs.Tables.{row_count, place_in, place_of, field_at}
 use Rattle.gtfs_tables.specs.Feeds.{FeedParts}
 use Rattle.change_times.specs.declared.transfers.Transfer.{Transfer}
 use Rattle.change_times.specs.declared.transfers.TransferColumns.{TransferColumns}
-use Rattle.change_times.specs.Forms.{is_timed_in}
+use Rattle.change_times.specs.TransferForms.{is_timed_in}
 
 -- the place of the stop of this id
 abbrev pub place_of_stop : FeedParts → List ℕ → Option ℕ

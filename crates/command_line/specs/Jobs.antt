@@ -12,13 +12,13 @@ use Rattle.command_line.specs.Uses.{is_useless, is_missing}
 use Rattle.command_line.specs.Values.{default_alpha, default_horizon, least_size, start_of, promise_at, later_at, alpha_at, horizon_at, size_at, late_at, is_bad}
 
 -- where the connections come from: a cut file, or the folder of a feed, of which so many hours are looked at
-pub data WantedTimetable : Type 0 where
-  CutFile : (path : List ℕ) → WantedTimetable
-  FeedFolder : (folder : List ℕ) (horizon : ℕ) → WantedTimetable
+pub data TimetableModel : Type 0 where
+  CutFile : (path : List ℕ) → TimetableModel
+  FeedFolder : (folder : List ℕ) (horizon : ℕ) → TimetableModel
 
 -- a journey over a timetable: the path of the delays, the stops where it begins and ends, and its start
-pub record WantedJourney : Type 0 where
-  pub timetable : WantedTimetable
+pub record JourneyModel : Type 0 where
+  pub timetable : TimetableModel
   pub delays : List ℕ
   pub from : List ℕ
   pub to : List ℕ
@@ -29,22 +29,22 @@ pub record WantedJourney : Type 0 where
 -- deadline; whether that of this path holds; the bounds of the graph of this path; the graph with the least chance of an arrival after a promised moment, by a
 -- percentage for the deadline; what each departure up to a last moment promises, by this deadline; or the latest moment at which
 -- one can leave, by this deadline
-pub data WantedAsk : Type 0 where
-  Safe : (alpha : ℕ) → WantedAsk
-  Expand : (alpha : ℕ) → WantedAsk
-  Plan : (alpha : ℕ) → WantedAsk
-  Replay : (graph : List ℕ) (late : List ℕ) → WantedAsk
-  Certify : (alpha : ℕ) → WantedAsk
-  CheckProof : (proof : List ℕ) → WantedAsk
-  CheckGraph : (graph : List ℕ) → WantedAsk
-  Punctual : (alpha : ℕ) (promise : ℕ) → WantedAsk
-  Departures : (until : ℕ) (last : ℕ) → WantedAsk
-  Latest : (until : ℕ) → WantedAsk
+pub data AskModel : Type 0 where
+  Safe : (alpha : ℕ) → AskModel
+  Expand : (alpha : ℕ) → AskModel
+  Plan : (alpha : ℕ) → AskModel
+  Replay : (graph : List ℕ) (late : List ℕ) → AskModel
+  Certify : (alpha : ℕ) → AskModel
+  CheckProof : (proof : List ℕ) → AskModel
+  CheckGraph : (graph : List ℕ) → AskModel
+  Punctual : (alpha : ℕ) (promise : ℕ) → AskModel
+  Departures : (until : ℕ) (last : ℕ) → AskModel
+  Latest : (until : ℕ) → AskModel
 
 -- what the words ask for: something about a journey, or the plan of one over a timetable that is made
-pub data Wanted : Type 0 where
-  Ask : (journey : WantedJourney) (ask : WantedAsk) → Wanted
-  Sample : (size : ℕ) → Wanted
+pub data JobModel : Type 0 where
+  Ask : (journey : JourneyModel) (ask : AskModel) → JobModel
+  Sample : (size : ℕ) → JobModel
 
 -- the moment by which one has promised to be there
 abbrev pub promise_of : List (List ℕ) → ℕ
@@ -69,14 +69,14 @@ size_of settings = unwrap_or (option_and_then size_at (value_of settings Size)) 
 abbrev pub late_in : List ℕ → List ℕ
 late_in text = unwrap_or (late_at text) []
 
-abbrev pub timetable_by : Option (List ℕ) → ℕ → List ℕ → WantedTimetable
+abbrev pub timetable_by : Option (List ℕ) → ℕ → List ℕ → TimetableModel
 timetable_by None horizon cut = CutFile cut
 timetable_by (Some folder) horizon cut = FeedFolder folder horizon
 
-abbrev pub timetable_of : List (List ℕ) → WantedTimetable
+abbrev pub timetable_of : List (List ℕ) → TimetableModel
 timetable_of settings = timetable_by (value_of settings Feed) (horizon_of settings) (text_of settings Cut)
 
-abbrev pub journey_of : List (List ℕ) → WantedJourney
+abbrev pub journey_of : List (List ℕ) → JourneyModel
 journey_of settings = record {
   timetable = timetable_of settings;
   delays = text_of settings Delays;
@@ -86,15 +86,15 @@ journey_of settings = record {
 }
 
 -- the graph of a path is checked where one is given, and else the certificate of one
-abbrev pub check_by : Option (List ℕ) → List ℕ → WantedAsk
+abbrev pub check_by : Option (List ℕ) → List ℕ → AskModel
 check_by None proof = CheckProof proof
 check_by (Some graph) proof = CheckGraph graph
 
-abbrev pub check_of : List (List ℕ) → WantedAsk
+abbrev pub check_of : List (List ℕ) → AskModel
 check_of settings = check_by (value_of settings Graph) (text_of settings Proof)
 
 -- what a command asks about a journey, if it is about one
-abbrev pub ask_of : Command → List (List ℕ) → Option WantedAsk
+abbrev pub ask_of : Command → List (List ℕ) → Option AskModel
 ask_of command.Safe settings = Some (Safe (alpha_of settings))
 ask_of command.Expand settings = Some (Expand (alpha_of settings))
 ask_of command.Plan settings = Some (Plan (alpha_of settings))
@@ -106,24 +106,24 @@ ask_of command.Departures settings = Some (Departures (later_of settings Until) 
 ask_of command.Latest settings = Some (Latest (later_of settings Until))
 ask_of command.Sample settings = None
 
-abbrev pub wanted_by : Option WantedAsk → List (List ℕ) → Wanted
+abbrev pub wanted_by : Option AskModel → List (List ℕ) → JobModel
 wanted_by None settings = Sample (size_of settings)
 wanted_by (Some ask) settings = Ask (journey_of settings) ask
 
-abbrev pub wanted_of : Command → List (List ℕ) → Wanted
+abbrev pub wanted_of : Command → List (List ℕ) → JobModel
 wanted_of command settings = wanted_by (ask_of command settings) settings
 
 -- the refusal that the least option calls for, if one does
 abbrev pub refusal : (ℕ → WordsFault) → Option OptionName → Option WordsFault
 refusal fault option = option_map (λ o. fault (option_number o)) option
 
-abbrev pub unless_refused : Option WordsFault → Result Wanted WordsFault → Result Wanted WordsFault
+abbrev pub unless_refused : Option WordsFault → Result JobModel WordsFault → Result JobModel WordsFault
 unless_refused None next = next
 unless_refused (Some fault) next = Err fault
 
 -- the job of a command with its settings: first each option is used, then none is missing, then each value is of
 -- its form
-abbrev pub job_by : Option Command → List (List ℕ) → Result Wanted WordsFault
+abbrev pub job_by : Option Command → List (List ℕ) → Result JobModel WordsFault
 job_by None settings = Err UnknownCommand
 job_by (Some command) settings =
     unless_refused (refusal NotUsed (find (is_useless command settings) all_options))
@@ -132,6 +132,6 @@ job_by (Some command) settings =
     (Ok (wanted_of command settings))))
 
 -- what the words ask for, or the first fault
-abbrev pub job_of : List (List ℕ) → Result Wanted WordsFault
+abbrev pub job_of : List (List ℕ) → Result JobModel WordsFault
 job_of [] = Err Line
 job_of (command ∷ settings) = if are_settings settings then job_by (command_named command) settings else Err Line

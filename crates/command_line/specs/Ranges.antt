@@ -2,15 +2,15 @@
 use Rattle.std.specs.Prelude.{ℕ, ◌≤◌, ◌+◌}
 use Rattle.command_line.specs.Values.{least_alpha, most_alpha, least_horizon, most_horizon, least_size, most_size, last_until, longest_promise}
 use Rattle.plan_model.specs.Bounds.{first_start, last_start}
-use Rattle.command_line.specs.Jobs.{WantedTimetable, CutFile, FeedFolder, WantedJourney, WantedAsk, Safe, Expand, Plan, Replay, Certify, CheckProof, CheckGraph}
-use Rattle.command_line.specs.Jobs.{Punctual, Departures, Latest, Wanted, Ask, Sample}
+use Rattle.command_line.specs.Jobs.{TimetableModel, CutFile, FeedFolder, JourneyModel, AskModel, Safe, Expand, Plan, Replay, Certify, CheckProof, CheckGraph}
+use Rattle.command_line.specs.Jobs.{Punctual, Departures, Latest, JobModel, Ask, Sample}
 
-abbrev pub HasHorizon : WantedTimetable → Type 0
+abbrev pub HasHorizon : TimetableModel → Type 0
 HasHorizon (CutFile path) = Unit {0}
 HasHorizon (FeedFolder folder horizon) = (least_horizon ≤ horizon) × (horizon ≤ most_horizon)
 
 -- the start is from 1970-01-08T00:00:00 to 2399-12-31T23:59:59, and the horizon from 1 to 72 hours
-pub record IsJourney (j : WantedJourney) : Type 0 where
+pub record IsJourney (j : JourneyModel) : Type 0 where
   pub early : first_start ≤ j.start
   pub late : j.start ≤ last_start
   pub horizon : HasHorizon j.timetable
@@ -24,7 +24,7 @@ abbrev pub IsLater : ℕ → ℕ → Type 0
 IsLater start moment = (start ≤ moment) × (moment ≤ last_until)
 
 -- what is asked about a journey that begins at this moment; a promise is at most a week after it
-abbrev pub IsAsk : ℕ → WantedAsk → Type 0
+abbrev pub IsAsk : ℕ → AskModel → Type 0
 IsAsk start (Safe alpha) = IsPercentage alpha
 IsAsk start (Expand alpha) = IsPercentage alpha
 IsAsk start (Plan alpha) = IsPercentage alpha
@@ -37,6 +37,6 @@ IsAsk start (Departures until last) = IsLater start until × IsLater start last
 IsAsk start (Latest until) = IsLater start until
 
 -- the size of a made timetable is from 10 to 400
-abbrev pub IsJob : Wanted → Type 0
+abbrev pub IsJob : JobModel → Type 0
 IsJob (Ask j a) = IsJourney j × IsAsk j.start a
 IsJob (Sample size) = (least_size ≤ size) × (size ≤ most_size)

@@ -8,17 +8,17 @@ use Rattle.command_line.specs.declared.job.Ask.{Ask}
 use Rattle.command_line.specs.declared.job.Ask.TheVariants as ask
 use Rattle.command_line.specs.declared.job.Job.{Job}
 use Rattle.command_line.specs.declared.job.Job.TheVariants as job
-use Rattle.command_line.specs.Jobs.{WantedTimetable, CutFile, FeedFolder, WantedJourney, WantedAsk, Safe, Expand, Plan, Replay, Certify, CheckProof, CheckGraph}
-use Rattle.command_line.specs.Jobs.{Punctual, Departures, Latest, Wanted, Ask as Asks, Sample, late_in}
+use Rattle.command_line.specs.Jobs.{TimetableModel, CutFile, FeedFolder, JourneyModel, AskModel, Safe, Expand, Plan, Replay, Certify, CheckProof, CheckGraph}
+use Rattle.command_line.specs.Jobs.{Punctual, Departures, Latest, JobModel, Ask as Asks, Sample, late_in}
 
-abbrev pub timetable_shown : Timetable → WantedTimetable
+abbrev pub timetable_shown : Timetable → TimetableModel
 timetable_shown (timetable.Cut path) = CutFile path.now
 timetable_shown (timetable.Feed folder horizon) = FeedFolder folder.now horizon
 
-abbrev pub journey_shown : Journey → WantedJourney
+abbrev pub journey_shown : Journey → JourneyModel
 journey_shown j = record { timetable = timetable_shown j.timetable; delays = j.delays.now; from = j.from.now; to = j.to.now; start = j.start.0 }
 
-abbrev pub ask_shown : Ask → WantedAsk
+abbrev pub ask_shown : Ask → AskModel
 ask_shown (ask.Safe alpha) = Safe alpha
 ask_shown (ask.Expand alpha) = Expand alpha
 ask_shown (ask.Plan alpha) = Plan alpha
@@ -30,11 +30,11 @@ ask_shown (ask.Punctual alpha promise) = Punctual alpha promise.0
 ask_shown (ask.Departures until last) = Departures until.0 last.0
 ask_shown (ask.Latest until) = Latest until.0
 
-abbrev pub wanted_job : Job → Wanted
+abbrev pub wanted_job : Job → JobModel
 wanted_job (job.Journey j a) = Asks (journey_shown j) (ask_shown a)
 wanted_job (job.Sample size) = Sample size
 
 -- an answer by what it says
-abbrev pub answer_shown : Result Job WordsFault → Result Wanted WordsFault
+abbrev pub answer_shown : Result Job WordsFault → Result JobModel WordsFault
 answer_shown (Ok job) = Ok (wanted_job job)
 answer_shown (Err fault) = Err fault

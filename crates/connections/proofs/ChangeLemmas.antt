@@ -2,7 +2,7 @@
 use Rattle.std.proofs.Common.{◌≡◌, ℕ, ◌<◌, ◌≤◌, List, [], ◌∷◌, ◌++◌, length, sym, subst, arith, ⊎_elim, length-append}
 use Rattle.std.proofs.lemmas.Bool.{cases_lt}
 use Rattle.std.proofs.lemmas.List.{get_or_append_left, get_or_push}
-use Rattle.connections.specs.Networks.{AreChanges}
+use Rattle.connections.specs.FeedNetworks.{AreChanges}
 
 abbrev Fits : ℕ → Type 0
 Fits x = (1 ≤ x) × (x ≤ 86400)

@@ -26,8 +26,8 @@ use Rattle.connections.specs.Joins.{join_below}
 use Rattle.connections.specs.Window.{IsWindow}
 use Rattle.connections.specs.Rides.{departs, steps_of}
 use Rattle.connections.specs.TripRuns.{run_at, run_steps}
-use Rattle.connections.specs.Runs.{AreRunsOf, AllRide}
-use Rattle.connections.specs.Networks.{AreChanges, AreRunNames, arrives, ride, run_rides, rides_below, class_of_trip, route_of}
+use Rattle.connections.specs.FeedRuns.{AreRunsOf, AllRide}
+use Rattle.connections.specs.FeedNetworks.{AreChanges, AreRunNames, arrives, ride, run_rides, rides_below, class_of_trip, route_of}
 use Rattle.connections.proofs.JoinLemmas.{All-join, AllPairs-join, Contains-join, join-many}
 use Rattle.connections.proofs.NameLemmas.{names_trimmed}
 use Rattle.connections.proofs.ReachLemmas.{onward_to}
@@ -76,7 +76,7 @@ module _ (w : Window) (v : IsWindow w) (rows : List StopRow) (places : ℕ) (t :
   pub good_rides : All (IsGood places classes runs) (map (ride rows o number class) steps)
   good_rides = All-map (IsGood places classes runs) (ride rows o number class) steps
       (All-weaker (IsStep w rows o (length rows - 1)) (λ k. IsGood places classes runs (ride rows o number class k)) good_ride steps (steps_are w rows o
-          (length rows - 1)))
+      (length rows - 1)))
 
   follow : (a b : ℕ) → a < b → IsStep w rows o (length rows - 1) a → IsStep w rows o (length rows - 1) b → Follows (ride rows o number class a) (ride rows o number class b)
   follow a b l s h =
@@ -125,9 +125,12 @@ module _ (f : FeedParts) (delays : DelayLists) (w : Window) (v : IsWindow w) (ti
         order = AllPairs-join Follows (λ n c. c.run.0 ≡ n) all (length rs) (λ n h. (own n h).2) (λ n h. (own n h).1) (λ i j x y l h a b. inl (omega
             (arith, l, a, b)));
         each = λ r d h.
-            let x = Contains-join all (length rs) r (get_or (all r) 0 d) h (Contains-get_or (all r) 0 d (own r h).3) in
-            (x.0, x.1, ap (λ (c : Connection). c.run.0) (get_or_default (join_below all (length rs)) x.0 d _ x.1 ∙ x.2)
-                ∙ All-get_or (λ (c : Connection). c.run.0 ≡ r) (all r) 0 d (own r h).3 (own r h).2);
+            let x = Contains-join all (length rs) r (get_or (all r) 0 d) h (Contains-get_or (all r) 0 d (own r h).3) in (
+              x.0,
+              x.1,
+              ap (λ (c : Connection). c.run.0) (get_or_default (join_below all (length rs)) x.0 d _ x.1 ∙ x.2)
+                  ∙ All-get_or (λ (c : Connection). c.run.0 ≡ r) (all r) 0 d (own r h).3 (own r h).2,
+            );
         many = join-many all (length rs) (λ n h. (own n h).3);
       }
 

@@ -7,7 +7,7 @@ use Rattle.std.proofs.lemmas.List.Sums.{sum_by-append, sum_by-cons, sum_by_more}
 use Rattle.delay_table.specs.DelayLists.{DelayLists}
 use Rattle.trip_frequencies.specs.declared.frequencies.FrequencyRow.{FrequencyRow}
 use Rattle.gtfs_tables.specs.Feeds.{FeedParts}
-use Rattle.gtfs_tables.specs.Repeats.{repeat_at}
+use Rattle.gtfs_tables.specs.TripRepeats.{repeat_at}
 use Rattle.gtfs_tables.specs.Timed.{rows_of}
 use Rattle.service_days.specs.Services.{ServiceParts}
 use Rattle.connections.specs.declared.origins.ServiceDay.{ServiceDay}
@@ -18,10 +18,10 @@ use Rattle.connections.specs.Joins.{join_below, only_if, sum_below}
 use Rattle.connections.specs.Origins.{origin_of_day}
 use Rattle.connections.specs.Window.{day_at}
 use Rattle.connections.specs.Rides.{is_active_trip, steps_of}
-use Rattle.connections.specs.Repeats.{origin_at, riding_by, riding_of, in_order}
+use Rattle.connections.specs.RepeatedRuns.{origin_at, riding_by, riding_of, in_order}
 use Rattle.connections.specs.TripRuns.{frequencies_of, own_run, repeat_run, runs_of_trip, trip_runs, day_runs, runs_below, window_runs, run_at, no_run, run_steps}
 use Rattle.connections.specs.Counts.{steps_sum, rows_sum, runs_sum, day_sum, days_sum, count_in}
-use Rattle.connections.specs.Networks.{ride, run_rides, rides_below, class_of_trip}
+use Rattle.connections.specs.FeedNetworks.{ride, run_rides, rides_below, class_of_trip}
 use Rattle.connections.proofs.JoinLemmas.{join-zero, join-suc}
 use Rattle.connections.proofs.OrderLemmas.{in_order_sum}
 
@@ -46,8 +46,14 @@ sum_by-ones {A} (x ∷ xs) = omega (arith, sum_by-cons (λ (y : A). 1) x xs, sum
 
 pub sum_by-join : {A : Type 0} (g : A → ℕ) (f : ℕ → List A) (n : ℕ) → sum_by g (join_below f n) ≡ sum_below (λ i. sum_by g (f i)) n
 sum_by-join g f zero = ap (sum_by g) (join-zero f) ∙ sym (sum-zero (λ i. sum_by g (f i)))
-sum_by-join g f (suc n) = omega (arith, ap (sum_by g) (join-suc f n), sum_by-append g (join_below f n) (f n), sum_by-join g f n, sum-suc (λ i. sum_by g
-    (f i)) n)
+sum_by-join g f (suc n) = omega (
+  arith,
+  ap (sum_by g) (join-suc f n),
+  sum_by-append g (join_below f n) (f n),
+  sum_by-join g f n,
+  sum-suc (λ i. sum_by g
+      (f i)) n,
+)
 
 pub length-join : {A : Type 0} (f : ℕ → List A) (n : ℕ) → length (join_below f n) ≡ sum_below (λ i. length (f i)) n
 length-join f zero = omega (arith, ap length (join-zero f), sum-zero (λ i. length (f i)))

@@ -13,7 +13,7 @@ use Rattle.clock_text.specs.Civil.{parts_of_day}
 use Rattle.clock_text.proofs.OneText.{if_cases}
 use Rattle.clock_text.proofs.Walk.{found}
 use Rattle.connections.specs.declared.origins.ServiceDay.{ServiceDay}
-use Rattle.connections.specs.Runs.{IsDay}
+use Rattle.connections.specs.FeedRuns.{IsDay}
 
 -- the days of 1969 are its last seven
 days_before : (k : ℕ) → k < 7 → HasDate (negsuc k)

@@ -3,8 +3,8 @@ use Rattle.std.proofs.Common.{◌≡◌, ℕ, ◌-◌, ◌*◌, ◌&&◌, min, n
 use Rattle.std.proofs.lemmas.Bool.{and_parts, and_from}
 use Rattle.trip_frequencies.specs.declared.frequencies.FrequencyRow.{FrequencyRow}
 use Rattle.stop_times.specs.declared.rows.StopRow.{StopRow}
-use Rattle.stop_times.specs.Bounds.{end_of_times}
-use Rattle.gtfs_tables.specs.Repeats.{IsFrequency}
+use Rattle.stop_times.specs.StopTimeBounds.{end_of_times}
+use Rattle.gtfs_tables.specs.TripRepeats.{IsFrequency}
 use Rattle.gtfs_tables.specs.Timed.{kept_at}
 use Rattle.plan_model.specs.declared.model.PlaceId.{PlaceId}
 use Rattle.run_repeat.specs.Runs.{departure}
@@ -12,7 +12,7 @@ use Rattle.connections.specs.declared.origins.ServiceDay.{ServiceDay}
 use Rattle.connections.specs.declared.window.Window.{Window}
 use Rattle.connections.specs.Window.{holds}
 use Rattle.connections.specs.Rides.{AreDepartures, departs}
-use Rattle.connections.specs.Repeats.{origin_at}
+use Rattle.connections.specs.RepeatedRuns.{origin_at}
 use Rattle.connections.specs.Counts.{leaving_sum}
 use Rattle.connections.proofs.RepeatLemmas.{AreLeaving, between, inside, to_few}
 use Rattle.connections.proofs.SumLemmas.{between-sum}

@@ -18,8 +18,8 @@ use Rattle.csv_rows.specs.Ids.{AreIds}
 use Rattle.connections.specs.declared.repeats.Repeat.{Repeat}
 use Rattle.connections.specs.declared.runs.Run.{Run}
 use Rattle.connections.specs.TripRuns.{run_at}
-use Rattle.connections.specs.Runs.{IsRunOfFeed, AreRunsOf, IsSmallRepeat}
-use Rattle.connections.specs.Networks.{start_text, IsRunName, AreRunNames}
+use Rattle.connections.specs.FeedRuns.{IsRunOfFeed, AreRunsOf, IsSmallRepeat}
+use Rattle.connections.specs.FeedNetworks.{start_text, IsRunName, AreRunNames}
 use Rattle.delay_table.proofs.NumberedFacts.{one_index}
 use Rattle.connections.proofs.DateLemmas.{date_text}
 

@@ -11,7 +11,7 @@ use Rattle.std.proofs.lemmas.List.Sorted.{sorted_far, sum_by-IsPermutation, All-
 use Rattle.std.proofs.lemmas.List.Sums.{sum_by-cons, sum_by-le}
 use Rattle.plan_model.proofs.Lists.{AllPairs-nil, AllPairs-one, AllPairs-first, AllPairs-tail}
 use Rattle.connections.specs.declared.repeats.Repeat.{Repeat}
-use Rattle.connections.specs.Repeats.{repeat_precedes, with_repeat, in_order}
+use Rattle.connections.specs.RepeatedRuns.{repeat_precedes, with_repeat, in_order}
 
 -- the order of the program is that of the definition
 abbrev pub repeat_cmp : Repeat → Repeat → Ordering
@@ -81,7 +81,7 @@ with_repeat-moves r (x ∷ xs) =
     cond_both (repeat_precedes x r) (x ∷ with_repeat r xs) (r ∷ x ∷ xs) (IsPermutation (r ∷ x ∷ xs))
     (λ sooner. IsPermutation-trans (r ∷ x ∷ xs) (x ∷ r ∷ xs) (x ∷ with_repeat r xs)
     (IsPermutation-append_left xs (r ∷ x ∷ []) (x ∷ r ∷ []) (IsPermutation-append_comm (r ∷ []) (x ∷ []))) (IsPermutation-cons x (r ∷ xs) (with_repeat r xs)
-        (with_repeat-moves r xs)))
+    (with_repeat-moves r xs)))
     (λ later. IsPermutation-refl (r ∷ x ∷ xs))
 
 in_order-moves : (rs : List Repeat) → IsPermutation rs (in_order rs)
@@ -105,9 +105,9 @@ placed_in_order r (x ∷ xs) up =
     let first = AllPairs-first NotAfter x xs up in
     cond_both (repeat_precedes x r) (x ∷ with_repeat r xs) (r ∷ x ∷ xs) (AllPairs NotAfter)
     (λ sooner. AllPairs-cons NotAfter x (with_repeat r xs) (All-with_repeat (NotAfter x) r xs (order.one_way x r sooner) first) (placed_in_order r xs
-        (AllPairs-tail NotAfter x xs up)))
+    (AllPairs-tail NotAfter x xs up)))
     (λ later. AllPairs-cons NotAfter r (x ∷ xs) (All-cons (NotAfter r) x xs later (All-weaker (NotAfter x) (NotAfter r)
-        (λ y h. order.chain y x r h later) xs first)) up)
+    (λ y h. order.chain y x r h later) xs first)) up)
 
 in_order_in_order : (rs : List Repeat) → AllPairs NotAfter (in_order rs)
 in_order_in_order [] = AllPairs-nil NotAfter
@@ -127,7 +127,7 @@ pairs_placed r [] all p = AllPairs-one Differ r
 pairs_placed r (x ∷ xs) all p =
     cond_both (repeat_precedes x r) (x ∷ with_repeat r xs) (r ∷ x ∷ xs) (AllPairs Differ)
     (λ sooner. AllPairs-cons Differ x (with_repeat r xs) (All-with_repeat (Differ x) r xs (λ e. All-head (Differ r) x xs all (sym e))
-        (AllPairs-first Differ x xs p))
+    (AllPairs-first Differ x xs p))
     (pairs_placed r xs (All-tail (Differ r) x xs all) (AllPairs-tail Differ x xs p)))
     (λ later. AllPairs-cons Differ r (x ∷ xs) all p)
 

@@ -3,7 +3,7 @@ use Rattle.std.proofs.Common.{◌≡◌, ℕ, zero, suc, ◌+◌, ◌-◌, ◌<�
 use Rattle.std.proofs.lemmas.Bool.{cases_eq}
 use Rattle.std.proofs.lemmas.Bool.Decides.{nat_tests}
 use Rattle.std.proofs.lemmas.Int.{ints}
-use Rattle.stop_times.specs.Bounds.{end_of_times}
+use Rattle.stop_times.specs.StopTimeBounds.{end_of_times}
 use Rattle.stop_times.specs.declared.rows.StopRow.{StopRow}
 use Rattle.gtfs_tables.specs.Timed.{AreTimed, kept_at}
 use Rattle.connections.specs.declared.origins.Origin.{Origin}
@@ -20,8 +20,14 @@ onward_to rows places t p zero h =
     omega (arith, ap (λ k. (kept_at rows k).departure) e, t.forward (p + 1) (omega arith))
 onward_to rows places t p (suc m) h =
     let e : p + suc m + 1 ≡ p + suc (suc m) = omega arith in
-    omega (arith, onward_to rows places t p m (omega arith), t.onward (p + suc m) (omega arith), t.forward (p + suc m + 1) (omega arith), ap (λ k.
-        (kept_at rows k).departure) e)
+    omega (
+      arith,
+      onward_to rows places t p m (omega arith),
+      t.onward (p + suc m) (omega arith),
+      t.forward (p + suc m + 1) (omega arith),
+      ap (λ k.
+          (kept_at rows k).departure) e,
+    )
 
 -- the departures of a trip
 pub departures_are : (rows : List StopRow) (places : ℕ) → AreTimed rows places → AreDepartures rows
@@ -49,20 +55,35 @@ module _ (w : Window) (rows : List StopRow) (o : Origin) where
 
   -- where the first ride is late
   pub none_late : DepartInOrder rows → pos w.end <ℤ departs rows o 0 → steps_of w rows o ≡ []
-  none_late ordered late = steps_none w rows o (length rows - 1) (λ k less. holds_late w (departs rows o k) (omega (arith, ints, late, ordered 0 k
-      (omega arith) (omega arith))))
+  none_late ordered late = steps_none w rows o (length rows - 1) (λ k less. holds_late w (departs rows o k) (omega (
+    arith,
+    ints,
+    late,
+    ordered 0 k
+        (omega arith) (omega arith),
+  )))
 
   -- where the last ride is early
   pub none_early : DepartInOrder rows → departs rows o (length rows - 1 - 1) <ℤ pos w.start → steps_of w rows o ≡ []
   none_early ordered early =
-      steps_none w rows o (length rows - 1) (λ k less. holds_early w (departs rows o k) (omega (arith, ints, early, ordered k (length rows - 1 - 1)
-          (omega arith) (omega arith))))
+      steps_none w rows o (length rows - 1) (λ k less. holds_early w (departs rows o k) (omega (
+        arith,
+        ints,
+        early,
+        ordered k (length rows - 1 - 1)
+            (omega arith) (omega arith),
+      )))
 
   -- where even the end of times is early
   pub none_early_all : ((k : ℕ) → k < length rows → (kept_at rows k).departure < end_of_times) → moment_of o end_of_times <ℤ pos w.start
       → steps_of w rows o ≡ []
-  none_early_all few early = steps_none w rows o (length rows - 1) (λ k less. holds_early w (departs rows o k) (omega (arith, ints, early, few k
-      (omega arith))))
+  none_early_all few early = steps_none w rows o (length rows - 1) (λ k less. holds_early w (departs rows o k) (omega (
+    arith,
+    ints,
+    early,
+    few k
+        (omega arith),
+  )))
 
   pub rides_true : (k : ℕ) → k < length rows - 1 → holds w (departs rows o k) ≡ true → true ≡ rides w rows o
   rides_true k h t = let some = some_step w rows o (length rows - 1) k h t in grind (arith, nat_tests)

@@ -7,9 +7,9 @@ use Rattle.std.proofs.lemmas.Int.{ints, by_lt_z}
 use Rattle.csv_rows.specs.Lists.{list_below}
 use Rattle.trip_frequencies.specs.declared.frequencies.FrequencyRow.{FrequencyRow}
 use Rattle.stop_times.specs.declared.rows.StopRow.{StopRow}
-use Rattle.stop_times.specs.Bounds.{end_of_times}
+use Rattle.stop_times.specs.StopTimeBounds.{end_of_times}
 use Rattle.trip_frequencies.specs.Frequencies.{no_frequency}
-use Rattle.gtfs_tables.specs.Repeats.{IsFrequency, AreRepeats, repeat_at}
+use Rattle.gtfs_tables.specs.TripRepeats.{IsFrequency, AreRepeats, repeat_at}
 use Rattle.run_repeat.specs.Runs.{AreBelow, IsRunOf, departure}
 use Rattle.connections.specs.declared.origins.ServiceDay.{ServiceDay}
 use Rattle.connections.specs.declared.repeats.Repeat.{Repeat}
@@ -17,7 +17,7 @@ use Rattle.connections.specs.declared.window.Window.{Window}
 use Rattle.connections.specs.Joins.{join_below, only_if}
 use Rattle.connections.specs.Window.{holds}
 use Rattle.connections.specs.Rides.{AreDepartures, departs, rides}
-use Rattle.connections.specs.Repeats.{repeat_of, origin_at, rides_by, riding_by, riding_of, in_order}
+use Rattle.connections.specs.RepeatedRuns.{repeat_of, origin_at, rides_by, riding_by, riding_of, in_order}
 use Rattle.connections.proofs.JoinLemmas.{join-same, join-rest, join-on, All-join, AllPairs-join, All-only_if, AllPairs-only_if}
 use Rattle.connections.proofs.OrderLemmas.{Differ, All-in_order}
 use Rattle.connections.proofs.ReachLemmas.{rides_true}
@@ -192,14 +192,20 @@ module _ (w : Window) (rows : List StopRow) (day : ServiceDay) where
   riding_by_pairs row is =
       let At : ℕ → Repeat → Type 0 = λ m r. r.departure ≡ departure row m in
       AllPairs-join Differ At (λ m. only_if (rides_by w rows day row m) (repeat_of row m)) end_of_times (λ m l. All-only_if (At m)
-          (rides_by w rows day row m) (repeat_of row m) (λ r. refl))
+      (rides_by w rows day row m) (repeat_of row m) (λ r. refl))
       (λ m l. AllPairs-only_if Differ (rides_by w rows day row m) (repeat_of row m)) (λ m n a b l h at at' e. omega
-          (arith, at, at', rising row is.some m n l, ap (λ (r : Repeat). r.departure) e))
+      (arith, at, at', rising row is.some m n l, ap (λ (r : Repeat). r.departure) e))
 
   pub riding_of_pairs : (fs : List FrequencyRow) → AreRepeats fs → AllPairs Differ (riding_of w rows day fs)
   unfolding riding_of
   riding_of_pairs fs are =
       let At : ℕ → Repeat → Type 0 = λ i r. r.line ≡ (repeat_at fs i).line in
       AllPairs-join Differ At (λ i. riding_by w rows day (repeat_at fs i)) (length fs) (λ i l. riding_by_all (At i) (repeat_at fs i) (λ m run r. refl))
-      (λ i l. riding_by_pairs (repeat_at fs i) (are.each i no_frequency.row l)) (λ i j a b l h at at' e. omega (arith, at, at', are.rising i j l h, ap (λ
-          (r : Repeat). r.line) e))
+      (λ i l. riding_by_pairs (repeat_at fs i) (are.each i no_frequency.row l)) (λ i j a b l h at at' e. omega (
+        arith,
+        at,
+        at',
+        are.rising i j l h,
+        ap (λ
+            (r : Repeat). r.line) e,
+      ))

@@ -7,7 +7,7 @@ use Rattle.std.proofs.lemmas.Option.{same_Some}
 use Rattle.trip_frequencies.specs.declared.frequencies.FrequencyRow.{FrequencyRow}
 use Rattle.stop_times.specs.declared.rows.StopRow.{StopRow}
 use Rattle.gtfs_tables.specs.Feeds.{FeedParts}
-use Rattle.gtfs_tables.specs.Repeats.{AreRepeats, AreRepeating}
+use Rattle.gtfs_tables.specs.TripRepeats.{AreRepeats, AreRepeating}
 use Rattle.gtfs_tables.specs.Timed.{rows_of}
 use Rattle.service_days.specs.Services.{ServiceParts}
 use Rattle.connections.specs.declared.origins.ServiceDay.{ServiceDay}
@@ -18,9 +18,9 @@ use Rattle.connections.specs.Joins.{join_below, only_if}
 use Rattle.connections.specs.Origins.{origin_of_day}
 use Rattle.connections.specs.Window.{day_at, IsWindow}
 use Rattle.connections.specs.Rides.{is_active_trip, rides, steps_of}
-use Rattle.connections.specs.Repeats.{riding_of, in_order}
+use Rattle.connections.specs.RepeatedRuns.{riding_of, in_order}
 use Rattle.connections.specs.TripRuns.{frequencies_of, own_run, repeat_run, runs_of_trip, trip_runs, day_runs, runs_below, window_runs, no_run, run_steps, days}
-use Rattle.connections.specs.Runs.{IsRunOfFeed, AreRunsOf, AllRide}
+use Rattle.connections.specs.FeedRuns.{IsRunOfFeed, AreRunsOf, AllRide}
 use Rattle.connections.proofs.JoinLemmas.{All-join, AllPairs-join, All-only_if, AllPairs-only_if}
 use Rattle.connections.proofs.OrderLemmas.{All-in_order, pairs_in_order}
 use Rattle.connections.proofs.RepeatLemmas.{riding_by_all, riding_of_all, riding_of_pairs}
@@ -53,7 +53,7 @@ module _ (w : Window) (rows : List StopRow) (day : ServiceDay) (trip : ℕ) wher
       let f = repeat_run rows day trip in
       let P : Repeat → Type 0 = λ r. IsRide w rows day trip (f r) in
       let all : All P (in_order (riding_of w rows day fs)) = All-in_order P (riding_of w rows day fs) (riding_of_all w rows day P fs
-          (λ i l. riding_by_all w rows day P _ (λ m run h.
+      (λ i l. riding_by_all w rows day P _ (λ m run h.
       record { same = refl; trip_is = refl; rides = ltb-true 0 _ h }))) in
       let apart = pairs_in_order (riding_of w rows day fs) (riding_of_pairs w rows day fs are) in
       record {
@@ -101,9 +101,9 @@ module _ (f : FeedParts) (s : ServiceParts) (w : Window) (repeats : AreRepeating
       let of : ℕ → List Run = λ d. day_runs f s w (day_at w d) (length f.trip_ids) in
       let all = All-join Q of days (λ d h. All-weaker (IsRunOn (day_at w d)) Q (λ run r.
       (record { trip = r.trip; day = record { from = omega (arith, ints, r.same, v.early); to = omega (arith, ints, r.same, h, v.late) } }, r.rides)) (of d)
-          (of_day (day_at w d)).0) in
+      (of_day (day_at w d)).0) in
       let order = AllPairs-join Precedes (λ d. IsRunOn (day_at w d)) of days (λ d h. (of_day (day_at w d)).0) (λ d h. (of_day (day_at w d)).1)
-          (λ i j x y l h a b.
+      (λ i j x y l h a b.
       inl (omega (arith, ints, a.same, b.same, l))) in
       subst P (sym e) (
         record {

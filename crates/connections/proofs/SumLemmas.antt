@@ -14,8 +14,8 @@ use Rattle.connections.specs.declared.counts.Counted.TheVariants.{Entries}
 use Rattle.trip_frequencies.specs.declared.frequencies.FrequencyRow.{FrequencyRow}
 use Rattle.stop_times.specs.declared.rows.StopRow.{StopRow}
 use Rattle.gtfs_tables.specs.Feeds.{FeedParts}
-use Rattle.stop_times.specs.Bounds.{end_of_times}
-use Rattle.gtfs_tables.specs.Repeats.{IsFrequency, AreRepeats, AreRepeating, IsSmall, repeat_at}
+use Rattle.stop_times.specs.StopTimeBounds.{end_of_times}
+use Rattle.gtfs_tables.specs.TripRepeats.{IsFrequency, AreRepeats, AreRepeating, IsSmall, repeat_at}
 use Rattle.gtfs_tables.specs.Timed.{rows_of, kept_at}
 use Rattle.run_repeat.specs.Runs.{departure}
 use Rattle.service_days.specs.Services.{ServiceParts}
@@ -27,7 +27,7 @@ use Rattle.connections.specs.Joins.{only_if, sum_below}
 use Rattle.connections.specs.Origins.{origin_of_day}
 use Rattle.connections.specs.Window.{holds, day_at, IsWindow}
 use Rattle.connections.specs.Rides.{departs, is_active_trip, steps_below, steps_of}
-use Rattle.connections.specs.Repeats.{origin_at, repeat_of, rides_by, riding_by}
+use Rattle.connections.specs.RepeatedRuns.{origin_at, repeat_of, rides_by, riding_by}
 use Rattle.connections.specs.TripRuns.{frequencies_of, days}
 use Rattle.connections.specs.Counts.{each_of, steps_sum, row_sum, rows_sum, runs_sum, leaving_sum, trip_sum, day_sum, days_sum, window_sum, count_in, entries_in}
 use Rattle.connections.proofs.CountLemmas.{sum-zero, sum-suc, sum_by-ones, sum_by-join, length-join, sum_by-at, sum-rides}
@@ -65,7 +65,7 @@ unfolding steps_below
 steps-sum f w rows o n =
     sum_by-join f (λ k. only_if (holds w (departs rows o k)) k) n
     ∙ sum-same (λ k. sum_by f (only_if (holds w (departs rows o k)) k)) (λ k. if holds w (departs rows o k) then f k else 0) n (λ k. only-sum f (holds w
-        (departs rows o k)) k)
+    (departs rows o k)) k)
 
 where-sum : (is : Bool) (holds' : ℕ → Bool) (f : ℕ → ℕ) (n : ℕ) → (if is then sum_below (λ k. if holds' k then f k else 0) n else 0) ≡ sum_below (λ k. if is && holds' k then f k else 0) n
 where-sum true holds' f n = refl
@@ -94,7 +94,7 @@ sum-times : (p : ℕ → Bool) (x n : ℕ) → sum_below (λ m. if p m then x el
 sum-times p x zero = rw (sum-zero (λ m. if p m then x else 0), sum-zero (λ m. one_if (p m)), zero-mul) refl
 sum-times p x (suc n) =
     let here : (if p n then x else 0) ≡ one_if (p n) * x = cond_both (p n) 1 0 (λ k. (if p n then x else 0) ≡ k * x) (λ is. rw is (omega arith))
-        (λ not. rw not (omega arith)) in
+    (λ not. rw not (omega arith)) in
     let all = ap (λ k. k * x) (sum-suc (λ m. one_if (p m)) n) ∙ add-mul (sum_below (λ m. one_if (p m)) n) (one_if (p n)) x in
     omega (arith, sum-suc (λ m. if p m then x else 0) n, sum-times p x n, here, all)
 
@@ -184,7 +184,7 @@ module _ (w : Window) (each : PlaceId → ℕ) (h : (place : PlaceId) → each p
       let fs = row ∷ more in
       sum-scale (λ i. row_sum each w rows day (repeat_at fs i)) (λ i. row_sum (λ place. 1) w rows day (repeat_at fs i)) (length fs) (λ i less.
       sum_by-scale (λ (r : Repeat). steps_sum each w rows (origin_at rows day r.departure)) (λ (r : Repeat). steps_sum (λ place. 1) w rows
-          (origin_at rows day r.departure))
+      (origin_at rows day r.departure))
       (riding_by w rows day (repeat_at fs i)) (λ r. steps-scale rows (origin_at rows day r.departure)))
 
   -- where each place counts for so many at most, the sum is at most so many times that of ones
@@ -202,8 +202,12 @@ length-only false n = omega arith
 steps-few : (w : Window) (rows : List StopRow) (o : Origin) (n : ℕ) → length (steps_below w rows o n) ≤ n
 unfolding steps_below
 steps-few w rows o n =
-    let f : ℕ → List ℕ = λ k. only_if (holds w (departs rows o k)) k in omega (arith, length-join f n, sum-few 1 (λ k. length (f k)) n (λ k l. length-only
-        (holds w (departs rows o k)) k))
+    let f : ℕ → List ℕ = λ k. only_if (holds w (departs rows o k)) k in omega (
+      arith,
+      length-join f n,
+      sum-few 1 (λ k. length (f k)) n (λ k l. length-only
+          (holds w (departs rows o k)) k),
+    )
 
 if_few : (active : Bool) (b x : ℕ) → x ≤ b → (if active then x else 0) ≤ b
 if_few true b x h = h

@@ -4,8 +4,8 @@ use Rattle.plan_model.specs.declared.model.PlaceId.{PlaceId}
 use Rattle.trip_frequencies.specs.declared.frequencies.FrequencyRow.{FrequencyRow}
 use Rattle.stop_times.specs.declared.rows.StopRow.{StopRow}
 use Rattle.gtfs_tables.specs.Feeds.{FeedParts}
-use Rattle.stop_times.specs.Bounds.{end_of_times}
-use Rattle.gtfs_tables.specs.Repeats.{repeat_at}
+use Rattle.stop_times.specs.StopTimeBounds.{end_of_times}
+use Rattle.gtfs_tables.specs.TripRepeats.{repeat_at}
 use Rattle.gtfs_tables.specs.Timed.{rows_of, kept_at}
 use Rattle.run_repeat.specs.Runs.{departure}
 use Rattle.service_days.specs.Services.{ServiceParts}
@@ -19,7 +19,7 @@ use Rattle.connections.specs.Joins.{sum_below}
 use Rattle.connections.specs.Origins.{origin_of_day}
 use Rattle.connections.specs.Window.{holds, day_at}
 use Rattle.connections.specs.Rides.{is_active_trip, departs, steps_of}
-use Rattle.connections.specs.Repeats.{origin_at, riding_by}
+use Rattle.connections.specs.RepeatedRuns.{origin_at, riding_by}
 use Rattle.connections.specs.TripRuns.{frequencies_of, days}
 
 -- what the connections of a run with these kept rows add up to, by the places that they leave

@@ -12,7 +12,7 @@ use Rattle.connections.specs.declared.cuts.WindowFault.{WindowFault}
 use Rattle.connections.specs.Window.{window_of}
 use Rattle.connections.specs.Faults.{window_fault}
 use Rattle.connections.specs.Counts.{count_in, entries_in}
-use Rattle.connections.specs.Networks.{IsNetworkOf}
+use Rattle.connections.specs.FeedNetworks.{IsNetworkOf}
 
 -- its connections are the rides in the window, its change seconds and links are those of the feed's transfers, and its classes
 -- those of the delays

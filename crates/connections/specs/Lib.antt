@@ -2,10 +2,10 @@ pub mod Joins
 pub mod Window
 pub mod Origins
 pub mod Rides
-pub mod Repeats
+pub mod RepeatedRuns
 pub mod TripRuns
-pub mod Runs
+pub mod FeedRuns
 pub mod Counts
-pub mod Networks
+pub mod FeedNetworks
 pub mod Faults
 pub mod Cut

@@ -2,7 +2,7 @@
 use Rattle.std.specs.Prelude.{ℕ, ℤ, ◌-◌, ◌<◌, ◌≤◌, nat_lt, Bool, List, [], length, slice_index_or}
 use Rattle.stop_times.specs.declared.rows.StopRow.{StopRow}
 use Rattle.gtfs_tables.specs.Feeds.{FeedParts}
-use Rattle.stop_times.specs.Bounds.{end_of_times}
+use Rattle.stop_times.specs.StopTimeBounds.{end_of_times}
 use Rattle.gtfs_tables.specs.Timed.{kept_at}
 use Rattle.service_days.specs.Services.{ServiceParts, runs}
 use Rattle.connections.specs.declared.origins.ServiceDay.{ServiceDay}

@@ -13,7 +13,7 @@ use Rattle.connections.specs.Joins.{join_below, only_if}
 use Rattle.connections.specs.Origins.{origin_of_day}
 use Rattle.connections.specs.Window.{day_at}
 use Rattle.connections.specs.Rides.{rides, steps_of, is_active_trip}
-use Rattle.connections.specs.Repeats.{origin_at, riding_of, in_order}
+use Rattle.connections.specs.RepeatedRuns.{origin_at, riding_of, in_order}
 
 -- the rows of frequencies of a trip
 abbrev pub frequencies_of : FeedParts → ℕ → List FrequencyRow

@@ -1,7 +1,7 @@
 //! What the connections of a window add up to, before any of them stands.
 ghost use Rattle.std.specs.Prelude.{◌≡◌, ◌≤◌, ◌<◌, ◌^◌, ◌-◌, length, min, if◌then◌else◌};
 ghost use Rattle.gtfs_tables.specs.Timed.{IsTimed, kept_at};
-ghost use Rattle.gtfs_tables.specs.Repeats.{IsFrequency, AreRepeats, AreRepeating};
+ghost use Rattle.gtfs_tables.specs.TripRepeats.{IsFrequency, AreRepeats, AreRepeating};
 ghost use Rattle.connections.specs.Window.{holds, IsWindow};
 ghost use Rattle.connections.specs.Rides.{AreDepartures, departs};
 ghost use Rattle.connections.specs.Counts.{each_of, steps_sum, leaving_sum, row_sum, rows_sum, runs_sum, trip_sum, day_sum, window_sum};

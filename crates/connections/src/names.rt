@@ -2,8 +2,8 @@
 ghost use Rattle.std.specs.Prelude.{◌≡◌, ◌≤◌, ◌<◌, ◌++◌, [], length, string_bytes, OnOk, IfOk};
 ghost use Rattle.plan_model.specs.Bounds.{most_connections};
 ghost use Rattle.csv_rows.specs.Ids.{AreIds};
-ghost use Rattle.connections.specs.Runs.{IsDay, IsSmallRepeat, AreRunsOf};
-ghost use Rattle.connections.specs.Networks.{start_text, IsRunName, AreRunNames};
+ghost use Rattle.connections.specs.FeedRuns.{IsDay, IsSmallRepeat, AreRunsOf};
+ghost use Rattle.connections.specs.FeedNetworks.{start_text, IsRunName, AreRunNames};
 
 use crate::repeats::Repeat;
 use crate::runs::Run;

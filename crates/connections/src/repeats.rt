@@ -1,12 +1,12 @@
 //! The runs that the rows of frequencies of a trip start.
 ghost use Rattle.std.specs.Prelude.{◌≡◌, ℕ, ◌+◌, ◌-◌, ◌<◌, ◌≤◌, ◌++◌, ◌<ℤ◌, ◌≤ℤ◌, pos, length, All, OnOk, IfOk};
 ghost use Rattle.csv_rows.specs.Lists.{list_below};
-ghost use Rattle.stop_times.specs.Bounds.{end_of_times};
-ghost use Rattle.gtfs_tables.specs.Repeats.{IsFrequency, AreRepeats};
+ghost use Rattle.stop_times.specs.StopTimeBounds.{end_of_times};
+ghost use Rattle.gtfs_tables.specs.TripRepeats.{IsFrequency, AreRepeats};
 ghost use Rattle.run_repeat.specs.Runs.{AreBelow, IsRunOf, departure};
 ghost use Rattle.connections.specs.Window.{IsWindow};
 ghost use Rattle.connections.specs.Rides.{AreDepartures, departs};
-ghost use Rattle.connections.specs.Repeats.{repeat_of, origin_at, riding_by, riding_of, in_order};
+ghost use Rattle.connections.specs.RepeatedRuns.{repeat_of, origin_at, riding_by, riding_of, in_order};
 
 use crate::origins::{Origin, ServiceDay};
 use crate::window::Window;
@@ -111,7 +111,7 @@ fn add_riding(
 }
 
 /// The runs of these rows that ride in the window, row by row.
-#[tactic(auto, using(crate::proofs::JoinLemmas::join_steps), unfolding(crate::specs::Repeats::riding_of))]
+#[tactic(auto, using(crate::proofs::JoinLemmas::join_steps), unfolding(crate::specs::RepeatedRuns::riding_of))]
 fn riding_of(
     alloc: Global,
     rows: &[StopRow],

@@ -4,8 +4,8 @@ ghost use Rattle.plan_model.specs.Bounds.{end_of_steps, most_connections};
 ghost use Rattle.connections.specs.Rides.{steps_of};
 ghost use Rattle.delay_table.specs.DelayLists.{class_for};
 ghost use Rattle.gtfs_tables.specs.Timed.{IsTimed};
-ghost use Rattle.connections.specs.Runs.{AreRunsOf};
-ghost use Rattle.connections.specs.Networks.{ride, rides_below};
+ghost use Rattle.connections.specs.FeedRuns.{AreRunsOf};
+ghost use Rattle.connections.specs.FeedNetworks.{ride, rides_below};
 
 use crate::origins::Origin;
 use crate::runs::{Run, leaves};
@@ -81,7 +81,7 @@ fn add_rides(
 }
 
 /// The rides of these runs, by run and step. There is room for so many at once.
-#[tactic(auto, using(crate::proofs::JoinLemmas::join_steps), unfolding(crate::specs::Networks::rides_below, crate::specs::Networks::run_rides))]
+#[tactic(auto, using(crate::proofs::JoinLemmas::join_steps), unfolding(crate::specs::FeedNetworks::rides_below, crate::specs::FeedNetworks::run_rides))]
 pub(crate) fn connections_of(
     alloc: Global,
     feed: &Feed,

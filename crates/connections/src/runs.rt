@@ -1,7 +1,7 @@
 //! The runs that ride in a window.
 ghost use Rattle.std.specs.Prelude.{◌≡◌, ◌<◌, ◌++◌, length, map, [], false, All, IfOk, OnOk};
-ghost use Rattle.stop_times.specs.Bounds.{end_of_times};
-ghost use Rattle.gtfs_tables.specs.Repeats.{AreRepeats, AreRepeating};
+ghost use Rattle.stop_times.specs.StopTimeBounds.{end_of_times};
+ghost use Rattle.gtfs_tables.specs.TripRepeats.{AreRepeats, AreRepeating};
 ghost use Rattle.gtfs_tables.specs.Timed.{IsTimed, rows_of};
 ghost use Rattle.connections.specs.Joins.{only_if};
 ghost use Rattle.connections.specs.Window.{holds, IsWindow};

@@ -90,8 +90,11 @@ one_of table id n none i j a b same =
 pub place-here : (name : List ℕ) (names : List (List ℕ)) (k : ℕ) → place_in name names ≡ Some k → (k < length names) × (slice_index_or names k [] ≡ name)
 unfolding place_in
 place-here name names k h =
-    let w = place_by-some (λ k. bytes_eq (slice_index_or names k []) name) (length names) k h in (w.0, (bytes_eq-Decides
-        (slice_index_or names k []) name).0 w.1)
+    let w = place_by-some (λ k. bytes_eq (slice_index_or names k []) name) (length names) k h in (
+      w.0,
+      (bytes_eq-Decides
+          (slice_index_or names k []) name).0 w.1,
+    )
 
 -- a name that has no place stands nowhere
 pub place-none : (name : List ℕ) (names : List (List ℕ)) → place_in name names ≡ None → (k : ℕ) → k < length names → bytes_eq (slice_index_or names k []) name ≡ false
@@ -122,7 +125,7 @@ place-push name names x =
     ∙ rw add-one (first-suc f n)
     ∙ ap₂ option_or
     (first-same f (λ k. if bytes_eq (slice_index_or names k []) name then Some k else None) n (λ k l. ap (λ
-        (y : List ℕ). if bytes_eq y name then Some k else None) (get_or_append_left names (x ∷ []) [] k l)))
+    (y : List ℕ). if bytes_eq y name then Some k else None) (get_or_append_left names (x ∷ []) [] k l)))
     (ap (λ (y : List ℕ). if bytes_eq y name then Some n else None) (get_or_push names x [] n refl))
 
 -- an id among those of a table without repetition is that of one row

@@ -68,7 +68,7 @@ module _ (test : ℕ → Bool) (group order : ℕ → ℕ) where
   unfolding IsOwn key_of
   sorted_are n xs ys keys moved up =
       let distinct : IsDistinct by_row xs = IsDistinct-from_apart by_row xs (λ i j d less inside. ne_eqb _ _ (λ e. omega
-          (arith, e, keys.rising i j d less inside))) in
+      (arith, e, keys.rising i j d less inside))) in
       let apart = IsDistinct-IsPermutation by_row (λ x y. grind (arith, nat_tests)) xs ys moved distinct in
       let own = All-permutation (IsOwn n) xs ys moved keys.own in
       record {

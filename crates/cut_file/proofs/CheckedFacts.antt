@@ -10,8 +10,8 @@ use Rattle.csv_rows.specs.declared.keys.Key.{Key}
 use Rattle.cut_file.specs.declared.faults.CutFault.{CutFault}
 use Rattle.cut_file.specs.declared.faults.CutFault.TheVariants.{TooManyRows}
 use Rattle.cut_file.specs.Faults.{missing_column, too_many_rows, bad_field, repeated_step, run_fault, first_cut_fault, row}
-use Rattle.cut_file.specs.Cut.{AreColumns, missing_in, lack, run_names, place_names, IsNumbered}
-use Rattle.cut_file.specs.Keys.{AreKeysOf, no_row}
+use Rattle.cut_file.specs.NumberedRows.{AreColumns, missing_in, lack, run_names, place_names, IsNumbered}
+use Rattle.cut_file.specs.CutKeys.{AreKeysOf, no_row}
 use Rattle.cut_file.specs.Read.{IsRead}
 
 pub missing_is : (t : List (List (List ℕ))) (c : Columns) → AreColumns t c → missing_column t ≡ missing_in c

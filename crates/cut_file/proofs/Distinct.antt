@@ -9,7 +9,7 @@ use Rattle.plan_model.proofs.Texts.{AreDistinct-push}
 use Rattle.csv_rows.specs.Tables.{place_in}
 use Rattle.delay_table.proofs.NumberedFacts.{one_index}
 use Rattle.cut_file.specs.Faults.{row}
-use Rattle.cut_file.specs.Cut.{add_new, run_names, place_names}
+use Rattle.cut_file.specs.NumberedRows.{add_new, run_names, place_names}
 use Rattle.cut_file.proofs.NumberFacts.{there_place}
 
 push_if : (names : List (List ℕ)) (x : List ℕ) (b : Bool) → (b ≡ false → Contains names x → ⊥) → AreDistinct names → AreDistinct (if b then names else names ++ x ∷ [])

@@ -11,10 +11,10 @@ use Rattle.csv_rows.proofs.SpaceLemmas.{IsTrimmed-field}
 use Rattle.delay_table.specs.DelayLists.{DelayLists}
 use Rattle.delay_table.specs.Slots.{AreDelays}
 use Rattle.cut_file.specs.Faults.{row, bad_field}
-use Rattle.cut_file.specs.Cut.{place_names}
+use Rattle.cut_file.specs.NumberedRows.{place_names}
 use Rattle.cut_file.specs.Read.{Cut}
 use Rattle.cut_file.specs.Sound.{IsFaultless}
-use Rattle.cut_file.specs.Networks.{IsNetwork}
+use Rattle.cut_file.specs.CutNetworks.{IsNetwork}
 use Rattle.cut_file.proofs.FormFacts.{InForm, row_in_form}
 use Rattle.cut_file.proofs.Occurs.{run_occurs, place_occurs}
 use Rattle.cut_file.proofs.Valid.{none_of, is_at, key_of_run, run_inside}

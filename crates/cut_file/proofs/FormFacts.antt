@@ -10,8 +10,8 @@ use Rattle.clock_text.specs.Digits.{optional_seconds_of, whole_of}
 use Rattle.clock_text.specs.Times.{moment_at}
 use Rattle.std.proofs.lemmas.Option.{same_Some}
 use Rattle.csv_rows.specs.Names.{name_in}
-use Rattle.cut_file.specs.Forms.{before_end, early, class_in, flag_in}
-use Rattle.cut_file.specs.Rows.{Row, row_from, row_at}
+use Rattle.cut_file.specs.CutForms.{before_end, moment_before_end, class_in, flag_in}
+use Rattle.cut_file.specs.CutRows.{Row, row_from, row_at}
 use Rattle.cut_file.specs.Faults.{bad_of, bad_field, row_of, row}
 use Rattle.csv_rows.specs.Tables.{field}
 use Rattle.plan_model.specs.Bounds.{end_of_arrivals}
@@ -43,8 +43,8 @@ row_form a b c d e f g h j k =
     require-each (InForm a c d) (whole_of 999999999 b) Step _ (λ step p2.
     require-each (InForm a c d) (name_in c) From _ (λ from p3.
     require-each (InForm a c d) (name_in d) To _ (λ to p4.
-    require-each (InForm a c d) (early e) Dep _ (λ dep p5.
-    require-each (InForm a c d) (early f) Arr _ (λ arr p6.
+    require-each (InForm a c d) (moment_before_end e) Dep _ (λ dep p5.
+    require-each (InForm a c d) (moment_before_end f) Arr _ (λ arr p6.
     require-each (InForm a c d) (class_in g) Class _ (λ class p7.
     require-each (InForm a c d) (flag_in h) Board _ (λ board p8.
     require-each (InForm a c d) (flag_in j) Exit _ (λ exit p9.

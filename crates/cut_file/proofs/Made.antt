@@ -8,7 +8,7 @@ use Rattle.delay_table.specs.DelayLists.{DelayLists}
 use Rattle.cut_file.specs.declared.rows.CutRow.{CutRow}
 use Rattle.csv_rows.specs.declared.keys.Key.{Key}
 use Rattle.cut_file.specs.Read.{Cut}
-use Rattle.cut_file.specs.Networks.{AreConnections, IsNetwork, longest, change_from}
+use Rattle.cut_file.specs.CutNetworks.{AreConnections, IsNetwork, longest, change_from}
 
 pub make_network : (cut : Cut) (delays : DelayLists) (r : List CutRow) (k : List Key) (places : ℕ) (connections : List Connection) (change : List ℕ) (classes : List (List Outcome))
     → r ≡ cut.rows → k ≡ cut.keys → places ≡ length cut.places → length change ≡ places

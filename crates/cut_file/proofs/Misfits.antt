@@ -11,7 +11,7 @@ use Rattle.cut_file.specs.declared.rows.CutRow.{CutRow}
 use Rattle.cut_file.specs.declared.faults.CutFault.{CutFault}
 use Rattle.cut_file.specs.declared.faults.CutFault.TheVariants.{Backward, Broken}
 use Rattle.cut_file.specs.Faults.{row, precedes, just_precedes, repeated_step, run_fault}
-use Rattle.cut_file.specs.Keys.{cut_row, run_of, step_of, beside}
+use Rattle.cut_file.specs.CutKeys.{cut_row, run_of, step_of, beside}
 use Rattle.cut_file.specs.Read.{IsRead}
 use Rattle.cut_file.proofs.Distinct.{same_name}
 use Rattle.cut_file.proofs.Repeats.{one_place_name, run_is, step_is, apart}

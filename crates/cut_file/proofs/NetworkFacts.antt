@@ -7,9 +7,9 @@ use Rattle.csv_rows.specs.Tables.{row_count}
 use Rattle.delay_table.specs.DelayLists.{DelayLists, class_for}
 use Rattle.cut_file.specs.Faults.{row}
 use Rattle.csv_rows.specs.Keys.{key_at}
-use Rattle.cut_file.specs.Keys.{cut_row}
+use Rattle.cut_file.specs.CutKeys.{cut_row}
 use Rattle.cut_file.specs.Read.{Cut, IsRead}
-use Rattle.cut_file.specs.Networks.{IsNetwork, longest, seconds_of, change_from}
+use Rattle.cut_file.specs.CutNetworks.{IsNetwork, longest, seconds_of, change_from}
 use Rattle.cut_file.specs.CutNetwork.{IsRide, largest, IsCutNetwork}
 use Rattle.cut_file.proofs.ChangeFacts.{longest-zero, longest-suc}
 use Rattle.cut_file.proofs.Repeats.{one_place_name}

@@ -10,8 +10,8 @@ use Rattle.csv_rows.proofs.FirstLemmas.{absent_by}
 use Rattle.csv_rows.proofs.IdLemmas.{place-contained}
 use Rattle.csv_rows.proofs.PlaceLemmas.{bytes_ne}
 use Rattle.cut_file.specs.declared.rows.CutRow.{CutRow}
-use Rattle.cut_file.specs.Rows.{Row}
-use Rattle.cut_file.specs.Cut.{add_new, IsNumbered}
+use Rattle.cut_file.specs.CutRows.{Row}
+use Rattle.cut_file.specs.NumberedRows.{add_new, IsNumbered}
 
 abbrev add_if : Bool → List (List ℕ) → List ℕ → List (List ℕ)
 add_if b names name = if b then names else names ++ name ∷ []

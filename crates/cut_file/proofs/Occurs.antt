@@ -3,7 +3,7 @@ use Rattle.std.proofs.Common.{◌≡◌, ℕ, zero, suc, ◌*◌, ◌<◌, ◌�
 use Rattle.std.proofs.Common.{if◌then◌else◌, refl, sym, subst, arith, ⊎_elim, length-append, eq-or-lt_of_le}
 use Rattle.csv_rows.specs.Tables.{place_in}
 use Rattle.cut_file.specs.Faults.{row}
-use Rattle.cut_file.specs.Cut.{add_new, run_names, place_names}
+use Rattle.cut_file.specs.NumberedRows.{add_new, run_names, place_names}
 use Rattle.cut_file.proofs.NumberFacts.{get_add, length_add}
 
 get_last : (names : List (List ℕ)) (x : List ℕ) → slice_get (names ++ x ∷ []) (length names) ≡ Some x

@@ -11,7 +11,7 @@ use Rattle.cut_file.specs.declared.rows.CutRow.{CutRow}
 use Rattle.cut_file.specs.declared.faults.CutFault.{CutFault}
 use Rattle.cut_file.specs.declared.faults.CutFault.TheVariants.{DuplicateStep}
 use Rattle.cut_file.specs.Faults.{row, same_run, repeated_step}
-use Rattle.cut_file.specs.Keys.{run_of, step_of}
+use Rattle.cut_file.specs.CutKeys.{run_of, step_of}
 use Rattle.cut_file.specs.Read.{IsRead}
 use Rattle.cut_file.proofs.Distinct.{runs_distinct, places_distinct, same_name}
 

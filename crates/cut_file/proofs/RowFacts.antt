@@ -6,9 +6,9 @@ use Rattle.csv_rows.specs.declared.columns.Column.TheVariants.{Class, Run, Step,
 use Rattle.csv_rows.specs.Tables.{field}
 use Rattle.cut_file.specs.declared.rows.CutRow.{CutRow}
 use Rattle.cut_file.specs.declared.faults.CutFault.TheVariants.{BadField}
-use Rattle.cut_file.specs.Rows.{Row, row_from, row_at}
+use Rattle.cut_file.specs.CutRows.{Row, row_from, row_at}
 use Rattle.cut_file.specs.Faults.{bad_of, bad_field, row_of, row}
-use Rattle.cut_file.specs.Cut.{add_new, run_names, place_names, IsNumbered}
+use Rattle.cut_file.specs.NumberedRows.{add_new, run_names, place_names, IsNumbered}
 use Rattle.cut_file.proofs.NumberFacts.{numbered_grows}
 
 -- a row by its fields

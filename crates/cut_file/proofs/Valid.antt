@@ -7,7 +7,7 @@ use Rattle.std.proofs.lemmas.Bool.Decides.{nat_tests}
 use Rattle.std.proofs.lemmas.Option.{slice_get_within}
 use Rattle.plan_model.proofs.Links.{AreLinks-none}
 use Rattle.plan_model.specs.NetworkModel.{NetworkModel}
-use Rattle.plan_model.specs.Rows.{IsValidRow}
+use Rattle.plan_model.specs.DelayRows.{IsValidRow}
 use Rattle.plan_model.specs.Network.{IsValid, IsValidConnection, AreLinks, count, connection, no_connection, row_of, run_of, step_of}
 use Rattle.plan_model.proofs.Local.{FitsNext, IsLocallyValid, IsValid-from_local}
 use Rattle.csv_rows.specs.First.{first_below, any_below}
@@ -23,10 +23,10 @@ use Rattle.csv_rows.proofs.KeyLemmas.{less_group}
 use Rattle.cut_file.specs.declared.faults.CutFault.{CutFault}
 use Rattle.cut_file.specs.declared.faults.CutFault.TheVariants.{TooManyRows, Backward, Broken}
 use Rattle.cut_file.specs.Faults.{row, just_precedes, goes_back, is_broken, missing_column, too_many_rows, bad_field, repeated_step, run_fault, first_cut_fault}
-use Rattle.cut_file.specs.Keys.{cut_row, misfit, beside}
+use Rattle.cut_file.specs.CutKeys.{cut_row, misfit, beside}
 use Rattle.cut_file.specs.Read.{Cut}
 use Rattle.cut_file.specs.Sound.{IsFaultless}
-use Rattle.cut_file.specs.Networks.{IsConnection, IsNetwork, longest, change_by, change_from, seconds_of}
+use Rattle.cut_file.specs.CutNetworks.{IsConnection, IsNetwork, longest, change_by, change_from, seconds_of}
 use Rattle.cut_file.proofs.Repeats.{one_run, steps_rise}
 use Rattle.cut_file.proofs.Misfits.{misfit_is}
 use Rattle.cut_file.proofs.Distinct.{one_number}

@@ -7,10 +7,10 @@ use Rattle.plan_model.specs.NetworkModel.{NetworkModel}
 use Rattle.plan_model.specs.Network.{count, connection, change_of}
 use Rattle.csv_rows.specs.Tables.{row_count}
 use Rattle.delay_table.specs.DelayLists.{DelayLists, class_for}
-use Rattle.cut_file.specs.Rows.{Row}
+use Rattle.cut_file.specs.CutRows.{Row}
 use Rattle.cut_file.specs.Faults.{row}
-use Rattle.cut_file.specs.Cut.{run_names, place_names}
-use Rattle.cut_file.specs.Networks.{seconds_of, change_from}
+use Rattle.cut_file.specs.NumberedRows.{run_names, place_names}
+use Rattle.cut_file.specs.CutNetworks.{seconds_of, change_from}
 
 -- a row as a connection whose numbers are those of its names; its class is told by its class column and its arrival, since a
 -- cut file has no routes

@@ -8,7 +8,7 @@ use Rattle.csv_rows.specs.First.{first_below, any_below}
 use Rattle.csv_rows.specs.Tables.{place_of, row_count}
 use Rattle.cut_file.specs.declared.faults.CutFault.{CutFault}
 use Rattle.cut_file.specs.declared.faults.CutFault.TheVariants.{MissingColumn, TooManyRows, BadField, DuplicateStep, Backward, Broken}
-use Rattle.cut_file.specs.Rows.{Row, row_at}
+use Rattle.cut_file.specs.CutRows.{Row, row_at}
 
 abbrev pub lacks : List (List (List ℕ)) → Column → Option CutFault
 lacks t column = if is_none (place_of column t) then Some (MissingColumn column) else None

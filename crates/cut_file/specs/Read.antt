@@ -4,8 +4,8 @@ use Rattle.csv_rows.specs.Tables.{row_count}
 use Rattle.cut_file.specs.declared.rows.CutRow.{CutRow}
 use Rattle.csv_rows.specs.declared.keys.Key.{Key}
 use Rattle.cut_file.specs.Faults.{row}
-use Rattle.cut_file.specs.Cut.{run_names, place_names, IsNumbered}
-use Rattle.cut_file.specs.Keys.{cut_row, AreKeysOf}
+use Rattle.cut_file.specs.NumberedRows.{run_names, place_names, IsNumbered}
+use Rattle.cut_file.specs.CutKeys.{cut_row, AreKeysOf}
 
 -- its names in the order in which they first stand, its rows with their numbers, and the order of the rows by run and step
 pub record IsRead (t : List (List (List ℕ))) (runs places : List (List ℕ)) (rows : List CutRow) (keys : List Key) : Type 0 where

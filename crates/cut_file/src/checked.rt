@@ -2,7 +2,7 @@
 ghost use Rattle.std.specs.Prelude.{◌≡◌, ◌≢◌, ◌≤◌, ◌^◌, length, Some, None, OnOk, IfOk, IfErr};
 ghost use Rattle.csv_rows.specs.Spaces.{AreTrimmed};
 ghost use Rattle.cut_file.specs.Faults.{first_cut_fault};
-ghost use Rattle.cut_file.specs.Cut.{AreColumns, missing_in};
+ghost use Rattle.cut_file.specs.NumberedRows.{AreColumns, missing_in};
 ghost use Rattle.cut_file.specs.Read.{IsRead};
 
 use crate::faults::CutFault;

@@ -1,6 +1,6 @@
 //! The forms of the fields.
 ghost use Rattle.std.specs.Prelude.{◌≡◌, option_map};
-ghost use Rattle.cut_file.specs.Forms.{early, class_in, flag_in};
+ghost use Rattle.cut_file.specs.CutForms.{moment_before_end, class_in, flag_in};
 
 use clock_text::{read_moment, read_whole};
 
@@ -9,7 +9,7 @@ const END: u64 = 13_601_088_000;
 
 /// A moment before 2401.
 pub(crate) fn read_early(text: &[u8]) -> Option<u64>
-    ensures { result ≡ early text.now }
+    ensures { result ≡ moment_before_end text.now }
 {
     match read_moment(text) {
         None => None,

@@ -1,6 +1,6 @@
 //! One row of a cut file.
 ghost use Rattle.std.specs.Prelude.{◌≡◌, Ok, Err, IfOk, IfErr};
-ghost use Rattle.cut_file.specs.Rows.{row_from};
+ghost use Rattle.cut_file.specs.CutRows.{row_from};
 
 use crate::fields::{read_class, read_early, read_flag};
 use clock_text::{read_optional_seconds, read_whole};

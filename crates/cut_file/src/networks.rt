@@ -1,8 +1,8 @@
 //! The parts of the network of a cut file.
 ghost use Rattle.std.specs.Prelude.{◌≡◌, ℕ, ◌<◌, length, slice_index, IfOk, None};
 ghost use Rattle.delay_table.specs.DelayLists.{class_for};
-ghost use Rattle.cut_file.specs.Keys.{AreKeysOf, cut_row};
-ghost use Rattle.cut_file.specs.Networks.{IsConnection, AreConnections, longest, change_from, seconds_of};
+ghost use Rattle.cut_file.specs.CutKeys.{AreKeysOf, cut_row};
+ghost use Rattle.cut_file.specs.CutNetworks.{IsConnection, AreConnections, longest, change_from, seconds_of};
 
 use crate::rows::CutRow;
 use csv_rows::Key;

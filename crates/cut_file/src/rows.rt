@@ -4,9 +4,9 @@ ghost use Rattle.csv_rows.specs.declared.columns.Column.TheVariants.{Class, Run,
 ghost use Rattle.csv_rows.specs.First.{first_below};
 ghost use Rattle.csv_rows.specs.Tables.{row_count, field};
 ghost use Rattle.cut_file.specs.declared.rows.CutRow.{CutRow};
-ghost use Rattle.cut_file.specs.Rows.{row_at};
+ghost use Rattle.cut_file.specs.CutRows.{row_at};
 ghost use Rattle.cut_file.specs.Faults.{bad_field, row};
-ghost use Rattle.cut_file.specs.Cut.{add_new, run_names, place_names, IsNumbered, AreColumns};
+ghost use Rattle.cut_file.specs.NumberedRows.{add_new, run_names, place_names, IsNumbered, AreColumns};
 
 use crate::faults::CutFault;
 use crate::lines::{Fields, NamedRow, read_fields};

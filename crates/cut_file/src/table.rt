@@ -3,7 +3,7 @@ ghost use Rattle.std.specs.Prelude.{◌≡◌, ◌≢◌, ◌≤◌, ◌^◌, �
 ghost use Rattle.plan_model.specs.NameLists.{NamesFit};
 ghost use Rattle.cut_file.specs.Faults.{first_cut_fault};
 ghost use Rattle.cut_file.specs.Read.{IsRead};
-ghost use Rattle.cut_file.specs.Networks.{IsNetwork};
+ghost use Rattle.cut_file.specs.CutNetworks.{IsNetwork};
 ghost use Rattle.cut_file.specs.CutNetwork.{IsCutNetwork};
 
 use crate::checked::{Checked, read_checked};

@@ -10,11 +10,11 @@ use Rattle.plan_model.specs.NetworkModel.{NetworkModel}
 use Rattle.plan_model.specs.Tree.{Tree, Done, Ride, Stuck}
 use Rattle.plan_model.specs.Strategy.{IsSafeFor}
 use Rattle.plan_model.specs.Unfold.{unfolding_of}
-use Rattle.plan_graph.specs.Rows.{Precedes, pick_after}
+use Rattle.plan_graph.specs.PickedRows.{Precedes, pick_after}
 use Rattle.plan_graph.specs.Ready.{Stands}
 use Rattle.plan_graph.specs.declared.ExpandedGraph.{ExpandedGraph}
 use Rattle.plan_graph.specs.declared.Ride.{Ride as RideTable}
-use Rattle.decision_graph.specs.Bounds.{IsBestBy}
+use Rattle.decision_graph.specs.GraphValues.{IsBestBy}
 use Rattle.plan_model.proofs.Lists.{Contains-nil, AllPairs-nil}
 use Rattle.decision_graph.specs.Expanded.{IsExpandedBy, HasSteadyChoice}
 

@@ -7,17 +7,17 @@ use Rattle.plan_model.specs.NetworkModel.{NetworkModel}
 use Rattle.plan_model.specs.Tree.{Tree}
 use Rattle.plan_graph.specs.declared.ExpandedGraph.{ExpandedGraph}
 use Rattle.plan_graph.specs.Unfold.{unfold_expanded}
-use Rattle.meat_scan.specs.Found.{Found, chosen_by, leg_choice}
+use Rattle.meat_scan.specs.ScanResult.{ScanResult, chosen_by, leg_choice}
 use Rattle.meat_scan.specs.Solves.{Solves, IsStartAnswer}
 use Rattle.leg_extract.specs.Extracted.{IsExtracted}
-use Rattle.decision_graph.specs.Bounds.{IsBestBy}
+use Rattle.decision_graph.specs.GraphValues.{IsBestBy}
 use Rattle.decision_graph.specs.Expanded.{IsNoneSafe, IsExpandedBy, HasSteadyChoice}
 
 -- the graph of the choices of a scan, from its start leg on
-abbrev pub IsOfStart : {V : Type 0} → NetworkModel → Query → Found V → ExpandedGraph → Type 0
+abbrev pub IsOfStart : {V : Type 0} → NetworkModel → Query → ScanResult V → ExpandedGraph → Type 0
 IsOfStart {V} n q found graph = (start : V × Leg) × (found.start ≡ Some start) × IsExtracted n q found start.1 graph
 
-module _ {V : Type 0} (below covers : V → Tree → Type 0) (gap : V → ℕ) (arrived : ℕ → V) (n : NetworkModel) (q : Query) (found : Found V) where
+module _ {V : Type 0} (below covers : V → Tree → Type 0) (gap : V → ℕ) (arrived : ℕ → V) (n : NetworkModel) (q : Query) (found : ScanResult V) where
   -- the strategy of the start is a best one
   best_strategy : (start : V × Leg) → q.source.0 ≢ q.target.0 → IsStartAnswer below covers gap n q found start → IsBestBy below covers gap arrived n q (chosen_by n q found start.1) start.0
   best_strategy start differ answer = record {
@@ -44,5 +44,5 @@ module _ {V : Type 0} (below covers : V → Tree → Type 0) (gap : V → ℕ) (
       }
 
 -- it follows the choices of the scan, which are steady
-pub steady_choice : {V : Type 0} (n : NetworkModel) (q : Query) (found : Found V) (graph : ExpandedGraph) → IsOfStart n q found graph → HasSteadyChoice n q graph
+pub steady_choice : {V : Type 0} (n : NetworkModel) (q : Query) (found : ScanResult V) (graph : ExpandedGraph) → IsOfStart n q found graph → HasSteadyChoice n q graph
 steady_choice n q found graph (start, is, extracted) = record { choice = leg_choice found; steady = extracted.steady; follows = extracted.follows }

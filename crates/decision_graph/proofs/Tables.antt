@@ -7,7 +7,7 @@ use Rattle.plan_graph.specs.declared.ExpandedGraph.{ExpandedGraph}
 use Rattle.plan_graph.specs.declared.PlanGraph.{PlanGraph}
 use Rattle.plan_graph.specs.Unfold.{unfold_expanded, unfold_plan}
 use Rattle.plan_graph.specs.Tidy.{IsTidy}
-use Rattle.decision_graph.specs.Bounds.{IsBestBy}
+use Rattle.decision_graph.specs.GraphValues.{IsBestBy}
 use Rattle.decision_graph.specs.Expanded.{IsExpandedBy}
 use Rattle.decision_graph.specs.Planned.{IsPlannedBy}
 

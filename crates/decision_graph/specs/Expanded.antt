@@ -11,7 +11,7 @@ use Rattle.plan_graph.specs.Unfold.{unfold_expanded}
 use Rattle.plan_graph.specs.Ready.{IsReady, IsBusy}
 use Rattle.plan_graph.specs.Follows.{IsSteady, Follows}
 use Rattle.leg_extract.specs.Extracted.{HasArrivals, IsWhole}
-use Rattle.decision_graph.specs.Bounds.{IsBestBy, IsBest}
+use Rattle.decision_graph.specs.GraphValues.{IsBestBy, IsBest}
 
 -- no strategy is safe for the query
 abbrev pub IsNoneSafe : NetworkModel → Query → Type 0

@@ -1,3 +1,3 @@
-pub mod Bounds
+pub mod GraphValues
 pub mod Expanded
 pub mod Planned

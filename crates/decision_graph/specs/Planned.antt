@@ -7,7 +7,7 @@ use Rattle.plan_model.specs.NetworkModel.{NetworkModel}
 use Rattle.plan_graph.specs.declared.PlanGraph.{PlanGraph}
 use Rattle.plan_graph.specs.Unfold.{unfold_plan}
 use Rattle.plan_graph.specs.Tidy.{IsTidy}
-use Rattle.decision_graph.specs.Bounds.{IsBestBy, IsBest}
+use Rattle.decision_graph.specs.GraphValues.{IsBestBy, IsBest}
 
 -- the graph unfolds to a best strategy, and every row of it is picked somewhere on the way
 pub record IsPlannedBy {V : Type 0} (below covers : V → Tree → Type 0) (gap : V → ℕ) (arrived : ℕ → V) (network : NetworkModel) (query : Query) (graph : PlanGraph) (value : V) : Type 0 where

@@ -12,7 +12,7 @@ use Rattle.csv_rows.proofs.FirstLemmas.{first-is}
 use Rattle.std.specs.Option.{option_or}
 use Rattle.delay_table.specs.declared.faults.DelayFault.{DelayFault}
 use Rattle.delay_table.specs.declared.faults.DelayFault.TheVariants.{MissingColumn, TooManyRows, GroupRows, NotRising, TooManyClasses, WeightSum, GroupSum}
-use Rattle.delay_table.specs.Bounds.{end_of_types, most_groups, most_rows}
+use Rattle.delay_table.specs.DelayBounds.{end_of_types, most_groups, most_rows}
 use Rattle.delay_table.specs.Groups.{Group, is_plain, group_in}
 use Rattle.delay_table.specs.Delays.{Line, class_name, class_rows, class_sum, fault_of, group_sum_at, groups_fault, lacks, line_at, line_fault, missing_column, route_types_below}
 use Rattle.delay_table.specs.Delays.{no_default_of, other_sum, group_outcomes, type_sum_at, delay_rises}

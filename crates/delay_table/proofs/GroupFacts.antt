@@ -94,7 +94,7 @@ place-push group groups x =
     ∙ rw add-one (first-suc f n)
     ∙ ap₂ option_or
     (first-same f (λ k. if same_group (group_in groups k) group then Some k else None) n (λ k l. ap (λ
-        (y : Group). if same_group y group then Some k else None) (get_or_append_left groups (x ∷ []) (of_class None) k l)))
+    (y : Group). if same_group y group then Some k else None) (get_or_append_left groups (x ∷ []) (of_class None) k l)))
     (ap (λ (y : Group). if same_group y group then Some n else None) (get_or_push groups x (of_class None) n refl))
 
 pub push-none : (group : Group) (groups : List Group) (x : Group) → group_place group (groups ++ x ∷ []) ≡ None → (group_place group groups ≡ None) × (x ≡ group → ⊥)

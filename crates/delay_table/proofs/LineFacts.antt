@@ -11,7 +11,7 @@ use Rattle.csv_rows.proofs.RowLemmas.{mapped-each, name_text, optional-each}
 use Rattle.csv_rows.specs.Tables.{field, field_at}
 use Rattle.plan_model.specs.NameLists.{IsTrimmed}
 use Rattle.plan_model.specs.Bounds.{seconds_per_day}
-use Rattle.delay_table.specs.Bounds.{end_of_types, last_type, whole_weight}
+use Rattle.delay_table.specs.DelayBounds.{end_of_types, last_type, whole_weight}
 use Rattle.delay_table.specs.declared.lines.DelayLine.{DelayLine}
 use Rattle.delay_table.specs.Delays.{Line, delay_class_in, not_zero, route_in, hour_in, given, line_from, line_at}
 

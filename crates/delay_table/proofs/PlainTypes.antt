@@ -15,7 +15,7 @@ use Rattle.std.proofs.lemmas.Map.Keys.{IsDistinct-IsPermutation, IsStrictlyIncre
 use Rattle.std.proofs.lemmas.Map.Made.{IsDistinct-from_AllPairs}
 use Rattle.plan_model.specs.declared.model.Outcome.{Outcome}
 use Rattle.delay_table.specs.declared.reading.GroupRows.{GroupRows}
-use Rattle.delay_table.specs.Bounds.{end_of_types}
+use Rattle.delay_table.specs.DelayBounds.{end_of_types}
 use Rattle.delay_table.specs.Groups.{Group, group_in, is_plain, listed, of_class, group_place, plain_type, plain_types}
 use Rattle.delay_table.specs.Delays.{if_other, route_types_below, others, type_rows}
 use Rattle.delay_table.specs.Read.{AreApart, IsRead, outcomes_at, read_outcomes}

@@ -12,7 +12,7 @@ use Rattle.delay_table.specs.Delays.{Line, of_group, group_outcomes, line_at, fa
 use Rattle.delay_table.specs.Read.{no_rows, group_rows_at, outcomes_at, read_outcomes, AreApart, IsPushed, AddsRow, IsReadTo}
 use Rattle.csv_rows.specs.Tables.{field}
 use Rattle.csv_rows.specs.declared.columns.Column.TheVariants.{RouteId}
-use Rattle.delay_table.specs.Bounds.{end_of_types}
+use Rattle.delay_table.specs.DelayBounds.{end_of_types}
 use Rattle.delay_table.proofs.LineFacts.{IsFormed, formed_at}
 use Rattle.delay_table.proofs.GroupFacts.{same-true, same-false, group-here, nowhere, apart-ne, place-at, push-none}
 

@@ -6,14 +6,14 @@ use Rattle.std.proofs.lemmas.List.{get_or_default, length-map}
 use Rattle.std.proofs.lemmas.List.Elements.{All-cons, All-append, All-map}
 use Rattle.std.specs.Option.{option_or}
 use Rattle.plan_model.specs.declared.model.Outcome.{Outcome}
-use Rattle.plan_model.specs.Rows.{IsValidRow}
+use Rattle.plan_model.specs.DelayRows.{IsValidRow}
 use Rattle.csv_rows.specs.First.{first_below}
 use Rattle.csv_rows.proofs.FirstLemmas.{none-both, none-each}
 use Rattle.delay_table.specs.declared.faults.DelayFault.{DelayFault}
 use Rattle.delay_table.specs.declared.faults.DelayFault.TheVariants.{TooManyClasses, WeightSum, GroupSum}
 use Rattle.delay_table.specs.declared.reading.GroupRows.{GroupRows}
 use Rattle.delay_table.specs.DelayLists.{DelayLists}
-use Rattle.delay_table.specs.Bounds.{end_of_types, most_groups, whole_weight}
+use Rattle.delay_table.specs.DelayBounds.{end_of_types, most_groups, whole_weight}
 use Rattle.delay_table.specs.Groups.{Group, group_in, is_plain, of_class, plain_types}
 use Rattle.delay_table.specs.Delays.{class_name, class_rows, class_sum, delays_in, group_sum, group_sum_at, groups_fault, groups_of, route_types_below, no_default_of, other_sum}
 use Rattle.delay_table.specs.Delays.{others, too_many_classes, type_rows, type_sum_at}

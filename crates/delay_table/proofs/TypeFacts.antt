@@ -5,7 +5,7 @@ use Rattle.std.proofs.lemmas.Bool.{cases_lt}
 use Rattle.std.proofs.lemmas.List.{get_or_default}
 use Rattle.std.proofs.lemmas.Option.{slice_get_within, get_or_from_slice_get}
 use Rattle.plan_model.specs.declared.model.Outcome.{Outcome}
-use Rattle.plan_model.specs.Rows.{IsValidRow}
+use Rattle.plan_model.specs.DelayRows.{IsValidRow}
 use Rattle.csv_rows.proofs.FirstLemmas.{absent_by, found_by}
 use Rattle.delay_table.specs.DelayLists.{DelayLists, class_for, hour_class, hour_of, route_class, type_class, type_place}
 use Rattle.std.specs.Option.{option_or}
@@ -40,7 +40,7 @@ no_place : (types : List ℕ) (route : ℕ) → ¬ Contains types route → type
 unfolding type_place
 no_place types route h =
     absent_by (λ k. slice_index types k == route) (length types) (λ k l. ne_eqb (slice_index types k) route (λ e. h
-        (k, l, get_or_default types k route 0 l ∙ e)))
+    (k, l, get_or_default types k route 0 l ∙ e)))
 
 own_place : (types : List ℕ) → ((i j : ℕ) → i < j → j < length types → get_or types i 0 < get_or types j 0) → (route j : ℕ) → slice_get types j ≡ Some route → type_place types route ≡ Some j
 unfolding type_place

@@ -3,7 +3,7 @@ use Rattle.std.specs.Prelude.{ℕ, ◌+◌, ◌==◌, ◌/◌, ◌%◌, List, le
 use Rattle.std.specs.Option.{option_or}
 use Rattle.plan_model.specs.declared.model.Outcome.{Outcome}
 use Rattle.csv_rows.specs.First.{first_below}
-use Rattle.delay_table.specs.Bounds.{seconds_per_hour, hours_per_day}
+use Rattle.delay_table.specs.DelayBounds.{seconds_per_hour, hours_per_day}
 use Rattle.delay_table.specs.Groups.{Group, group_place}
 
 -- the named route types, rising; the groups that name a route or an hour; and the outcomes of class 0, of each route type

@@ -15,7 +15,7 @@ use Rattle.delay_table.specs.declared.faults.DelayFault.TheVariants.{MissingColu
 use Rattle.csv_rows.specs.First.{first_below}
 use Rattle.csv_rows.specs.Names.{name_in}
 use Rattle.csv_rows.specs.Tables.{place_of, field, row_count}
-use Rattle.delay_table.specs.Bounds.{most_rows, most_groups, last_type, end_of_types, whole_weight, last_hour}
+use Rattle.delay_table.specs.DelayBounds.{most_rows, most_groups, last_type, end_of_types, whole_weight, last_hour}
 use Rattle.delay_table.specs.DelayLists.{DelayLists}
 use Rattle.delay_table.specs.Groups.{Group, of_class, group_in, is_plain, same_group}
 

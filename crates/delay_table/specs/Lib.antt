@@ -1,8 +1,8 @@
-pub mod Bounds
+pub mod DelayBounds
 pub mod Groups
 pub mod DelayLists
 pub mod Delays
-pub mod Lines
+pub mod DelayColumns
 pub mod Numbered
 pub mod Read
 pub mod Slots

@@ -1,9 +1,9 @@
 -- The outcomes of the classes by their numbers.
 use Rattle.std.specs.Prelude.{◌≡◌, ℕ, ◌+◌, ◌<◌, ◌≤◌, List, [], length, slice_index_or, slice_get, Some, Contains, All, AllPairs, zero, suc}
 use Rattle.plan_model.specs.declared.model.Outcome.{Outcome}
-use Rattle.plan_model.specs.Rows.{IsValidRow}
+use Rattle.plan_model.specs.DelayRows.{IsValidRow}
 use Rattle.plan_model.specs.Bounds.{seconds_per_day}
-use Rattle.delay_table.specs.Bounds.{most_rows, most_groups}
+use Rattle.delay_table.specs.DelayBounds.{most_rows, most_groups}
 use Rattle.delay_table.specs.DelayLists.{DelayLists}
 
 abbrev pub slot : List (List Outcome) → ℕ → List Outcome

@@ -5,9 +5,9 @@ ghost use Rattle.csv_rows.specs.Tables.{row_count};
 ghost use Rattle.plan_model.specs.NameLists.{IsTrimmed};
 ghost use Rattle.clock_text.specs.Digits.{whole_of};
 ghost use Rattle.plan_model.specs.Bounds.{seconds_per_day};
-ghost use Rattle.delay_table.specs.Bounds.{whole_weight};
+ghost use Rattle.delay_table.specs.DelayBounds.{whole_weight};
 ghost use Rattle.delay_table.specs.Delays.{delay_class_in, hour_in, not_zero, route_in, class_name, lacks, line_from, line_at, missing_column};
-ghost use Rattle.delay_table.specs.Lines.{AreColumns};
+ghost use Rattle.delay_table.specs.DelayColumns.{AreColumns};
 
 use crate::faults::{ClassName, DelayFault};
 use clock_text::read_whole;

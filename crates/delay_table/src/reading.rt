@@ -6,7 +6,7 @@ ghost use Rattle.csv_rows.specs.Tables.{row_count};
 ghost use Rattle.plan_model.specs.NameLists.{IsTrimmed};
 ghost use Rattle.delay_table.specs.Groups.{group_in, of_class, group_place};
 ghost use Rattle.delay_table.specs.Delays.{fault_after, line_fault, line_with, too_many};
-ghost use Rattle.delay_table.specs.Lines.{AreColumns};
+ghost use Rattle.delay_table.specs.DelayColumns.{AreColumns};
 ghost use Rattle.delay_table.specs.Read.{AddsRow, IsPushed, IsRead, IsReadTo, line_at, group_rows_at, read_outcomes};
 
 use crate::faults::DelayFault;

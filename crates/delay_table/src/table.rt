@@ -1,7 +1,7 @@
 //! The delays by class.
 ghost use Rattle.std.specs.Prelude.{ℕ, ◌≡◌, ◌≢◌, ◌<◌, ◌≤◌, ◌++◌, ◌∷◌, [], length, map, slice_index_or, option_map, Some, None, All, Any, OnOk, IfOk, IfErr, IfSome};
 ghost use Rattle.delay_table.specs.DelayLists.{class_for, hour_of, other_class, route_class, type_class};
-ghost use Rattle.delay_table.specs.Bounds.{end_of_types, most_groups};
+ghost use Rattle.delay_table.specs.DelayBounds.{end_of_types, most_groups};
 ghost use Rattle.delay_table.specs.Delays.{class_rows, class_type, delays_in, delays_of, first_delay_fault, groups_fault, groups_of, if_other, route_types_below, others, type_rows};
 ghost use Rattle.delay_table.specs.Groups.{group_in, group_place, plain_types};
 ghost use Rattle.delay_table.specs.Read.{IsRead, line_at, read_outcomes};

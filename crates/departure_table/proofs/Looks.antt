@@ -10,13 +10,13 @@ use Rattle.plan_model.specs.Strategy.{IsLeg, IsBoardable}
 use Rattle.plan_model.specs.Unfold.{by_place, unfold_after, kids_after, outcomes_of}
 use Rattle.value_laws.specs.declared.MeanSpan.{MeanSpan}
 use Rattle.value_laws.specs.Means.{mean_below, mean_covers, mean_gap}
-use Rattle.meat_scan.specs.Found.{Found, choice_of, leg_choice, chosen_at}
+use Rattle.meat_scan.specs.ScanResult.{ScanResult, choice_of, leg_choice, chosen_at}
 use Rattle.meat_scan.specs.Solves.{Solves, SolvesEach, IsSafeAt}
 use Rattle.departure_table.specs.declared.DepartureRow.{DepartureRow}
 use Rattle.departure_table.specs.Departures.{IsASecondAway, SafeAfter, IsNoneSafeFrom, BeginsWith, IsBestFrom, IsDepartureRow}
 use Rattle.plan_model.specs.Bounds.{end_of_arrivals}
 
-module _ (n : NetworkModel) (q : Query) (found : Found MeanSpan) (valid : IsValid n) (solves : Solves mean_below mean_covers mean_gap found n q) (second : IsASecondAway n q.source.0) where
+module _ (n : NetworkModel) (q : Query) (found : ScanResult MeanSpan) (valid : IsValid n) (solves : Solves mean_below mean_covers mean_gap found n q) (second : IsASecondAway n q.source.0) where
   abbrev here : ℕ
   here = q.source.0
 

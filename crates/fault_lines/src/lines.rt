@@ -2,7 +2,7 @@
 ghost use Rattle.std.specs.Prelude.{◌≡◌, ◌++◌, codes, Option as Optional, Some, IfSome, IfNone};
 ghost use Rattle.std.specs.Fmt.{WritesOnOk};
 ghost use Rattle.journey_model.specs.Sites.{NamedParts};
-ghost use Rattle.fault_lines.specs.Lines.{at_line, too_many_rows, line_of, IsFormatted};
+ghost use Rattle.fault_lines.specs.FaultLines.{at_line, too_many_rows, line_of, IsFormatted};
 
 use command_line::{WordsFault, option_word};
 use csv_rows::{FeedFault, Table};
@@ -53,7 +53,7 @@ fn too_many_rows<W: fmt::Write>(f: &mut fmt::Formatter<W>, file: &str, count: u6
 struct WordsText(WordsFault);
 
 impl fmt::Display for WordsText {
-    ghost use Rattle.fault_lines.specs.Lines.{words_text};
+    ghost use Rattle.fault_lines.specs.FaultLines.{words_text};
 
     ghost output = { λ t. Some (words_text t.0) };
 
@@ -82,7 +82,7 @@ impl fmt::Display for WordsText {
 struct FeedText(FeedFault);
 
 impl fmt::Display for FeedText {
-    ghost use Rattle.fault_lines.specs.Lines.{feed_text};
+    ghost use Rattle.fault_lines.specs.FaultLines.{feed_text};
 
     ghost output = { λ t. Some (feed_text t.0) };
 
@@ -126,7 +126,7 @@ impl fmt::Display for FeedText {
 struct CutText(CutFault);
 
 impl fmt::Display for CutText {
-    ghost use Rattle.fault_lines.specs.Lines.{cut_text};
+    ghost use Rattle.fault_lines.specs.FaultLines.{cut_text};
 
     ghost output = { λ t. Some (cut_text t.0) };
 
@@ -153,7 +153,7 @@ impl fmt::Display for CutText {
 struct ClassText(ClassName);
 
 impl fmt::Display for ClassText {
-    ghost use Rattle.fault_lines.specs.Lines.{class_text};
+    ghost use Rattle.fault_lines.specs.FaultLines.{class_text};
 
     ghost output = { λ t. Some (class_text t.0) };
 
@@ -170,7 +170,7 @@ impl fmt::Display for ClassText {
 struct DelayText(DelayFault);
 
 impl fmt::Display for DelayText {
-    ghost use Rattle.fault_lines.specs.Lines.{delay_text};
+    ghost use Rattle.fault_lines.specs.FaultLines.{delay_text};
 
     ghost output = { λ t. Some (delay_text t.0) };
 
@@ -208,7 +208,7 @@ impl fmt::Display for DelayText {
 struct GraphText(TextFault);
 
 impl fmt::Display for GraphText {
-    ghost use Rattle.fault_lines.specs.Lines.{graph_text};
+    ghost use Rattle.fault_lines.specs.FaultLines.{graph_text};
 
     ghost output = { λ t. Some (graph_text t.0) };
 
@@ -229,7 +229,7 @@ impl fmt::Display for GraphText {
 struct ReplayText(ReplayFault);
 
 impl fmt::Display for ReplayText {
-    ghost use Rattle.fault_lines.specs.Lines.{replay_text};
+    ghost use Rattle.fault_lines.specs.FaultLines.{replay_text};
 
     ghost output = { λ t. Some (replay_text t.0) };
 
@@ -249,7 +249,7 @@ impl fmt::Display for ReplayText {
 struct ProofText(ProofFault);
 
 impl fmt::Display for ProofText {
-    ghost use Rattle.fault_lines.specs.Lines.{proof_text};
+    ghost use Rattle.fault_lines.specs.FaultLines.{proof_text};
 
     ghost output = { λ t. Some (proof_text t.0) };
 
@@ -270,7 +270,7 @@ impl fmt::Display for ProofText {
 struct LimitText(LimitKind, u64);
 
 impl fmt::Display for LimitText {
-    ghost use Rattle.fault_lines.specs.Lines.{limit_text};
+    ghost use Rattle.fault_lines.specs.FaultLines.{limit_text};
 
     ghost output = { λ t. Some (limit_text t.0 t.1) };
 
@@ -294,7 +294,7 @@ impl fmt::Display for LimitText {
 pub(crate) struct FaultText(pub(crate) Fault);
 
 impl fmt::Display for FaultText {
-    ghost use Rattle.fault_lines.specs.Lines.{plain_text};
+    ghost use Rattle.fault_lines.specs.FaultLines.{plain_text};
 
     ghost output = { λ t. Some (plain_text t.0) };
 

@@ -1,6 +1,6 @@
 //! The line of a fault, by the names of its timetable.
 ghost use Rattle.std.specs.Prelude.{◌≡◌, ◌<◌, ◌≤◌, ◌++◌, length, IfOk, codes};
-ghost use Rattle.fault_lines.specs.Lines.{plain_text, line_of};
+ghost use Rattle.fault_lines.specs.FaultLines.{plain_text, line_of};
 ghost use Rattle.journey_model.specs.Sites.{last_printable, arrival_text, step_text, site_of, site_text, site_text_in, IsTellable, IsTellableSite};
 ghost use Rattle.fault_lines.specs.Known.{known_parts, known_in};
 

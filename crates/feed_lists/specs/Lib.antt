@@ -1,5 +1,5 @@
-pub mod Bounds
-pub mod Forms
+pub mod ListBounds
+pub mod StopForms
 pub mod Stops
 pub mod Routes
 pub mod Trips

@@ -10,7 +10,7 @@ use Rattle.table_files.specs.Required.{Records, required, IsOfSomeTable}
 use Rattle.feed_lists.specs.declared.routes.Routes.{Routes}
 use Rattle.feed_lists.specs.declared.stops.Stops.{Stops}
 use Rattle.feed_lists.specs.declared.trips.Trips.{Trips}
-use Rattle.feed_lists.specs.Bounds.{most_stops, most_trips}
+use Rattle.feed_lists.specs.ListBounds.{most_stops, most_trips}
 use Rattle.feed_lists.specs.Stops.{stop_ids, stop_places, stops_fault}
 use Rattle.feed_lists.specs.Routes.{route_ids, route_types, routes_fault}
 use Rattle.feed_lists.specs.Trips.{trip_ids, trip_routes, trip_services, trip_types, trips_fault}

@@ -12,7 +12,7 @@ use Rattle.csv_rows.specs.Names.{name_in}
 use Rattle.csv_rows.specs.Tables.{row_count, place_in, place_of, field_at, field}
 use Rattle.feed_lists.specs.declared.stops.StopColumns.{StopColumns}
 use Rattle.csv_rows.specs.RowFaults.{first_lack, repeated_id}
-use Rattle.feed_lists.specs.Forms.{is_stop_in, parent_in}
+use Rattle.feed_lists.specs.StopForms.{is_stop_in, parent_in}
 use Rattle.csv_rows.specs.Lists.{list_below}
 
 -- a stop by its id and its parent station, which is empty where it has none

@@ -7,7 +7,7 @@ ghost use Rattle.csv_rows.specs.RowFaults.{TellsFirst};
 ghost use Rattle.csv_rows.specs.Tables.{row_count};
 ghost use Rattle.feed_lists.specs.Lists.{HasStops, AreSoundStops};
 ghost use Rattle.feed_lists.specs.Stops.{stop_columns, stop_in, bad_stop, parent_in_row, stop_ids, place_fault, unknown_parent, place_from, stop_places, stops_fault};
-ghost use Rattle.feed_lists.specs.Bounds.{most_stops};
+ghost use Rattle.feed_lists.specs.ListBounds.{most_stops};
 
 use crate::forms::{read_is_stop, read_parent};
 use csv_rows::{Column, FeedFault, Ids, Rows, Table, check_columns, read_ids, read_name};

@@ -8,7 +8,7 @@ ghost use Rattle.plan_model.specs.NameLists.{texts};
 ghost use Rattle.csv_rows.specs.RowFaults.{TellsFirst};
 ghost use Rattle.feed_lists.specs.Lists.{HasTrips, AreSoundTrips};
 ghost use Rattle.feed_lists.specs.Trips.{trip_columns, trip_in, bad_trip, trip_routes, trip_services, trip_types, trips_fault};
-ghost use Rattle.feed_lists.specs.Bounds.{most_trips};
+ghost use Rattle.feed_lists.specs.ListBounds.{most_trips};
 
 use crate::routes::Routes;
 use csv_rows::{Column, FeedFault, Ids, Rows, Table, check_columns, read_ids, read_name};

@@ -3,7 +3,7 @@ use Rattle.std.proofs.Common.{◌≡◌, ℕ, List, [], ◌∷◌, ◌++◌, Boo
 use Rattle.std.proofs.lemmas.Slice.Eq.{bytes_eq-Decides}
 use Rattle.file_ports.specs.Ports.{FileMap, file_at}
 use Rattle.file_ports.specs.Steady.{PutsFile}
-use Rattle.feed_maker.specs.Tables.{stops_text, routes_text, trips_text, stop_times_text, calendar_text, delays_text}
+use Rattle.feed_maker.specs.MadeTables.{stops_text, routes_text, trips_text, stop_times_text, calendar_text, delays_text}
 use Rattle.feed_maker.specs.Made.{made, other_files, SameFolder}
 
 pub folder_none : (folder : FileMap) → folder ≡ [] → SameFolder [] folder

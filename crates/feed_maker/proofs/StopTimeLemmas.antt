@@ -2,7 +2,7 @@
 use Rattle.std.proofs.Common.{◌≡◌, ℕ, ◌+◌, ◌-◌, ◌<◌, ◌≤◌, suc, List, [], ◌++◌, length, take, drop, ap, sym, ◌∙◌, arith, append_assoc, take-append-drop, codes}
 use Rattle.std.proofs.lemmas.Grind.{common_steps}
 use Rattle.std.proofs.lemmas.List.{take_rest, drop-drop}
-use Rattle.feed_maker.specs.Tables.{joined, line_rows, stop_times_text}
+use Rattle.feed_maker.specs.MadeTables.{joined, line_rows, stop_times_text}
 use Rattle.feed_maker.specs.StopTimes.{rows_from}
 
 -- the rows of a line, and of those that come

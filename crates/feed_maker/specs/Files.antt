@@ -3,7 +3,7 @@ use Rattle.std.specs.Prelude.{ℕ, List, ◌∷◌, Option, Some, codes, if◌th
 use Rattle.file_ports.specs.Ports.{FileMap}
 use Rattle.file_ports.specs.Steady.{folder_of as others_on, hand_of as hand_on, left_of as left_on}
 use Rattle.feed_maker.specs.StopTimes.{left_of as times_left, lines_of}
-use Rattle.feed_maker.specs.Tables.{stop_times_text}
+use Rattle.feed_maker.specs.MadeTables.{stop_times_text}
 use Rattle.feed_maker.specs.declared.files.MadeFiles.{MadeFiles}
 
 -- the files by their paths

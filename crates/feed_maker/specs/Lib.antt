@@ -1,6 +1,6 @@
-pub mod Lines
+pub mod HubLines
 pub mod Names
-pub mod Tables
+pub mod MadeTables
 pub mod Made
 pub mod Pieces
 pub mod StopTimes

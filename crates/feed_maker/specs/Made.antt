@@ -1,7 +1,7 @@
 -- The files of a made timetable.
 use Rattle.std.specs.Prelude.{◌≡◌, ℕ, List, [], ◌∷◌, codes}
 use Rattle.file_ports.specs.Ports.{FileMap, file_at}
-use Rattle.feed_maker.specs.Tables.{stops_text, routes_text, trips_text, stop_times_text, calendar_text, delays_text}
+use Rattle.feed_maker.specs.MadeTables.{stops_text, routes_text, trips_text, stop_times_text, calendar_text, delays_text}
 
 -- the files of so many lines by their paths
 unfoldable pub made : ℕ → FileMap

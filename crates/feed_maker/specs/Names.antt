@@ -1,6 +1,6 @@
 -- How hubs, stops, routes, trips and times are written.
 use Rattle.std.specs.Prelude.{ℕ, ◌/◌, ◌%◌, List, ◌++◌, codes, decimal, nat_eq, if◌then◌else◌}
-use Rattle.feed_maker.specs.Lines.{first_hub, last_hub}
+use Rattle.feed_maker.specs.HubLines.{first_hub, last_hub}
 use Rattle.feed_maker.specs.declared.names.Stop.{Stop}
 use Rattle.feed_maker.specs.declared.names.Stop.TheVariants.{Hub, Own}
 

@@ -1,7 +1,7 @@
 -- What stop times that are made as they are read stand for.
 use Rattle.std.specs.Prelude.{ℕ, ◌-◌, List, ◌++◌, drop, flat_map}
 use Rattle.std.specs.List.{range_with_len}
-use Rattle.feed_maker.specs.Tables.{line_rows}
+use Rattle.feed_maker.specs.MadeTables.{line_rows}
 use Rattle.feed_maker.specs.declared.stop_times.StopTimes.{StopTimes}
 
 -- the rows of so many lines from one on

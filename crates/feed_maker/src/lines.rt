@@ -1,6 +1,6 @@
 //! Lines between hubs, and when their runs are at their places.
 ghost use Rattle.std.specs.Prelude.{◌≡◌, ◌*◌, ◌<◌, ◌≤◌};
-ghost use Rattle.feed_maker.specs.Lines.{hop_of, seconds_at};
+ghost use Rattle.feed_maker.specs.HubLines.{hop_of, seconds_at};
 ghost use Rattle.feed_maker.specs.Names.{name_at, stop_name};
 
 use crate::names::Stop;
@@ -33,7 +33,7 @@ pub fn stop_at(line: u32, place: u32) -> Stop
 }
 
 /// The seconds from one place of a line to the next.
-#[tactic(auto, unfolding(crate::specs::Lines::hop_of))]
+#[tactic(auto, unfolding(crate::specs::HubLines::hop_of))]
 fn hop_of(line: u32) -> u32
     ensures value { result ≡ hop_of line }
     ensures bound { result ≤ 90 }
@@ -51,7 +51,7 @@ fn ride_to(line: u32, place: u32) -> u32
 }
 
 /// The seconds of the service day at which a run is at a place of its line.
-#[tactic(auto, unfolding(crate::specs::Lines::seconds_at))]
+#[tactic(auto, unfolding(crate::specs::HubLines::seconds_at))]
 pub fn seconds_at(line: u32, run: u32, place: u32) -> u32
     requires line { line ≤ 400 }
     requires run { run < 96 }

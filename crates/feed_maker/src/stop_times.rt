@@ -3,7 +3,7 @@ ghost use Rattle.std.specs.Prelude.{◌≡◌, ◌+◌, ◌<◌, ◌≤◌, ◌+
 ghost use Rattle.arrayvec.specs.ArrayString.{array_string_len};
 ghost use Rattle.feed_maker.specs.Names.{stop_name};
 ghost use Rattle.feed_maker.specs.Pieces.{run_piece, place_piece, ArePlacePieces};
-ghost use Rattle.feed_maker.specs.Tables.{stop_time_row, run_rows, line_rows, stop_times_text};
+ghost use Rattle.feed_maker.specs.MadeTables.{stop_time_row, run_rows, line_rows, stop_times_text};
 
 use crate::lines::{PLACES, RUNS, seconds_at, stop_at};
 use crate::names::{Stop, Trip, clock};
@@ -84,7 +84,7 @@ fn place_pieces(line: u32) -> ArrayVec<ArrayString<PIECE_ROOM>, 21>
 }
 
 /// Adds the row of a run at a place of its line, by the front and the end that it has.
-#[tactic(auto, unfolding(crate::specs::Tables::stop_time_row))]
+#[tactic(auto, unfolding(crate::specs::MadeTables::stop_time_row))]
 fn add_stop_time(text: &mut Vec<u8>, front: &str, trip: Trip, place: u32, end: &str)
     requires line { trip.line ≤ 400 }
     requires run { trip.run < 96 }
@@ -107,7 +107,7 @@ fn add_stop_time(text: &mut Vec<u8>, front: &str, trip: Trip, place: u32, end: &
 }
 
 /// Adds the rows of a run, by the ends of the rows at its places.
-#[tactic(auto, using(crate::proofs::JoinedLemmas::joined_steps), unfolding(crate::specs::Tables::run_rows))]
+#[tactic(auto, using(crate::proofs::JoinedLemmas::joined_steps), unfolding(crate::specs::MadeTables::run_rows))]
 fn add_run(text: &mut Vec<u8>, trip: Trip, ends: &[ArrayString<PIECE_ROOM>])
     requires line { trip.line ≤ 400 }
     requires run { trip.run < 96 }
@@ -126,7 +126,7 @@ fn add_run(text: &mut Vec<u8>, trip: Trip, ends: &[ArrayString<PIECE_ROOM>])
 }
 
 /// Adds the rows of a line's runs.
-#[tactic(auto, using(crate::proofs::JoinedLemmas::joined_steps), unfolding(crate::specs::Tables::line_rows))]
+#[tactic(auto, using(crate::proofs::JoinedLemmas::joined_steps), unfolding(crate::specs::MadeTables::line_rows))]
 fn add_line(text: &mut Vec<u8>, line: u32)
     requires line { line ≤ 400 }
     requires room { vec_len text.old + 201600 ≤ vec_capacity text.old }
@@ -141,7 +141,7 @@ fn add_line(text: &mut Vec<u8>, line: u32)
 }
 
 /// The times of so many lines' runs at their places.
-#[tactic(auto, using(crate::proofs::JoinedLemmas::joined_steps), unfolding(crate::specs::Tables::stop_times_text))]
+#[tactic(auto, using(crate::proofs::JoinedLemmas::joined_steps), unfolding(crate::specs::MadeTables::stop_times_text))]
 pub(crate) fn stop_times(alloc: Global, lines: u32) -> Result<Vec<u8>, NoMemory>
     requires { lines ≤ 400 }
     ensures { IfOk result (λ text. text.items ≡ stop_times_text lines) }
@@ -171,7 +171,7 @@ pub(crate) struct StopTimes {
 impl StopTimes {
     ghost use Rattle.std.specs.Prelude.{◌≡◌, ◌+◌, ◌<◌, ◌≤◌, ◌++◌, min, length, take, [], IfOk};
     ghost use Rattle.feed_maker.specs.StopTimes.{left_of, lines_of};
-    ghost use Rattle.feed_maker.specs.Tables.{stop_times_text};
+    ghost use Rattle.feed_maker.specs.MadeTables.{stop_times_text};
 
     /// The stop times of so many lines, none of them read.
     pub(crate) fn new(alloc: Global, lines: u32) -> Result<StopTimes, NoMemory>
@@ -188,7 +188,7 @@ impl StopTimes {
     }
 
     /// From now on they are read from the start.
-    #[tactic(auto, unfolding(crate::specs::Tables::stop_times_text))]
+    #[tactic(auto, unfolding(crate::specs::MadeTables::stop_times_text))]
     pub(crate) fn rewind(&mut self)
         ensures lines { lines_of self.new ≡ lines_of self.old }
         ensures left { left_of self.new ≡ stop_times_text (lines_of self.old) }

@@ -1,6 +1,6 @@
 //! The texts of the tables.
 ghost use Rattle.std.specs.Prelude.{◌≡◌, ◌++◌, IfOk, OnOk, string_bytes};
-ghost use Rattle.feed_maker.specs.Tables.{joined, hub_row, own_rows, stops_text, routes_text, trip_rows, trips_text, calendar_text, delays_text};
+ghost use Rattle.feed_maker.specs.MadeTables.{joined, hub_row, own_rows, stops_text, routes_text, trip_rows, trips_text, calendar_text, delays_text};
 
 use crate::lines::{HUBS, LAST, RUNS};
 use crate::names::{Route, Stop, Trip};
@@ -19,7 +19,7 @@ fn write_hubs(text: &mut String) -> Result<(), AllocError>
 }
 
 /// Writes the rows of the stops of a line's own.
-#[tactic(auto, using(crate::proofs::JoinedLemmas::joined_steps), unfolding(crate::specs::Tables::own_rows))]
+#[tactic(auto, using(crate::proofs::JoinedLemmas::joined_steps), unfolding(crate::specs::MadeTables::own_rows))]
 fn write_own_stops(text: &mut String, line: u32) -> Result<(), AllocError>
     ensures { OnOk result (string_bytes text.new ≡ string_bytes text.old ++ own_rows line) }
 {
@@ -31,7 +31,7 @@ fn write_own_stops(text: &mut String, line: u32) -> Result<(), AllocError>
 }
 
 /// The stops of so many lines.
-#[tactic(auto, using(crate::proofs::JoinedLemmas::joined_steps), unfolding(crate::specs::Tables::stops_text))]
+#[tactic(auto, using(crate::proofs::JoinedLemmas::joined_steps), unfolding(crate::specs::MadeTables::stops_text))]
 pub fn stops(alloc: Global, lines: u32) -> Result<String, AllocError>
     ensures { IfOk result (λ text. string_bytes text ≡ stops_text lines) }
 {
@@ -44,7 +44,7 @@ pub fn stops(alloc: Global, lines: u32) -> Result<String, AllocError>
 }
 
 /// The routes of so many lines.
-#[tactic(auto, using(crate::proofs::JoinedLemmas::joined_steps), unfolding(crate::specs::Tables::routes_text))]
+#[tactic(auto, using(crate::proofs::JoinedLemmas::joined_steps), unfolding(crate::specs::MadeTables::routes_text))]
 pub fn routes(alloc: Global, lines: u32) -> Result<String, AllocError>
     ensures { IfOk result (λ text. string_bytes text ≡ routes_text lines) }
 {
@@ -58,7 +58,7 @@ pub fn routes(alloc: Global, lines: u32) -> Result<String, AllocError>
 }
 
 /// Writes the rows of a line's trips.
-#[tactic(auto, using(crate::proofs::JoinedLemmas::joined_steps), unfolding(crate::specs::Tables::trip_rows))]
+#[tactic(auto, using(crate::proofs::JoinedLemmas::joined_steps), unfolding(crate::specs::MadeTables::trip_rows))]
 fn write_trips(text: &mut String, line: u32) -> Result<(), AllocError>
     ensures { OnOk result (string_bytes text.new ≡ string_bytes text.old ++ trip_rows line) }
 {
@@ -71,7 +71,7 @@ fn write_trips(text: &mut String, line: u32) -> Result<(), AllocError>
 }
 
 /// The trips of so many lines.
-#[tactic(auto, using(crate::proofs::JoinedLemmas::joined_steps), unfolding(crate::specs::Tables::trips_text))]
+#[tactic(auto, using(crate::proofs::JoinedLemmas::joined_steps), unfolding(crate::specs::MadeTables::trips_text))]
 pub fn trips(alloc: Global, lines: u32) -> Result<String, AllocError>
     ensures { IfOk result (λ text. string_bytes text ≡ trips_text lines) }
 {
@@ -83,7 +83,7 @@ pub fn trips(alloc: Global, lines: u32) -> Result<String, AllocError>
 }
 
 /// The calendar: one service, on each day of 2024.
-#[tactic(auto, unfolding(crate::specs::Tables::calendar_text))]
+#[tactic(auto, unfolding(crate::specs::MadeTables::calendar_text))]
 pub fn calendar() -> &'static str
     ensures { result.now ≡ calendar_text }
 {
@@ -92,7 +92,7 @@ pub fn calendar() -> &'static str
 }
 
 /// The delays of any route, and those of the routes of types 1 and 2.
-#[tactic(auto, unfolding(crate::specs::Tables::delays_text))]
+#[tactic(auto, unfolding(crate::specs::MadeTables::delays_text))]
 pub fn delays() -> &'static str
     ensures { result.now ≡ delays_text }
 {

@@ -35,14 +35,14 @@ module _ {T : Type 0} where
   first_at es q i e inside before here is =
       let own : at_path q (get_or es i e) ≡ true = ap (at_path q) here ∙ (bytes_eq-Decides (string_bytes e.path) q).1 is in
       found_at (λ (es : List (Named T)). value_at es q) (at_path q) (λ e. Some e.value) None refl (λ _ _. refl) es i e inside before own
-          ∙ ap (λ (e : Named T). Some e.value) here
+      ∙ ap (λ (e : Named T). Some e.value) here
 
   -- what a search by path gives
   pub place_gives_none : (es : List (Named T)) (q : List ℕ) → position (at_path q) es ≡ None → value_at es q ≡ None
   place_gives_none [] q h = refl
   place_gives_none (e ∷ es) q h =
       found_nowhere (λ (es : List (Named T)). value_at es q) (at_path q) (λ e. Some e.value) None refl (λ _ _. refl) (e ∷ es) e (λ k l. none_at (at_path q)
-          (e ∷ es) h k e l)
+      (e ∷ es) h k e l)
 
   pub place_gives : (es : List (Named T)) (q : List ℕ) (i : ℕ) (d : Named T) → position (at_path q) es ≡ Some i
       → (i < length es) × (value_at es q ≡ Some (get_or es i d).value)
@@ -55,7 +55,7 @@ module _ {T : Type 0} where
       → value_at new r ≡ if◌then◌else◌ (bytes_eq q r) (Some v) (value_at old r)
   put_by old new q r v here others =
       cond_both (bytes_eq q r) (Some v) (value_at old r) (λ (o : Option T). value_at new r ≡ o) (λ e. subst (λ z. value_at new z ≡ Some v)
-          (same_path q r e) here) others
+      (same_path q r e) here) others
 
   -- a new value at the first place with this path
   pub set_gives : (es : List (Named T)) (q r : List ℕ) (i : ℕ) (w : Named T) → position (at_path q) es ≡ Some i → string_bytes w.path ≡ q
@@ -65,7 +65,7 @@ module _ {T : Type 0} where
       let size = length-set es i w in
       put_by es (set es i w) q r w.value
       (first_at (set es i w) q i w (omega arith) (λ k l. ap (at_path q) (get_or-set_other es i k w w (λ e. omega (arith, l, e)))
-          ∙ s.2 k l) (get_or-set_same es i w w s.0) same)
+      ∙ s.2 k l) (get_or-set_same es i w w s.0) same)
       (λ other. found_set_other (λ (es : List (Named T)). value_at es r) (at_path r) (λ e. Some e.value) None refl (λ _ _. refl) es i w w
       (ap (λ z. bytes_eq z r) (same_path (string_bytes (get_or es i w).path) q s.1) ∙ other) (ap (λ z. bytes_eq z r) same ∙ other))
 
@@ -77,7 +77,7 @@ module _ {T : Type 0} where
       let size = length-append es (w ∷ []) in
       put_by es (es ++ w ∷ []) q r w.value
       (first_at (es ++ w ∷ []) q (length es) w (omega arith) (λ k l. ap (at_path q) (get_or_append_left es (w ∷ []) w k l)
-          ∙ none_at (at_path q) es h k w l) (get_or_push es w w (length es) refl) refl)
+      ∙ none_at (at_path q) es h k w l) (get_or_push es w w (length es) refl) refl)
       (λ other. found_push_other (λ (es : List (Named T)). value_at es r) (at_path r) (λ e. Some e.value) None refl (λ _ _. refl) es w other)
 
 -- what a search answered, of the list that was lent

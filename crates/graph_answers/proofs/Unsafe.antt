@@ -12,7 +12,7 @@ use Rattle.plan_model.specs.Network.{IsValid, count, connection, arr_of}
 use Rattle.plan_model.specs.Tree.{Tree, Done, Stuck}
 use Rattle.plan_model.specs.Unfold.{end_of, outcomes_of, kids_after, ride_or_stuck, unfold_after, unfold_from, by_place}
 use Rattle.plan_graph.specs.declared.PlanGraph.{PlanGraph}
-use Rattle.plan_graph.specs.Rows.{pick_at}
+use Rattle.plan_graph.specs.PickedRows.{pick_at}
 use Rattle.plan_graph.specs.Tidy.{IsFit}
 use Rattle.plan_graph.specs.Unfold.{unfold_plan}
 use Rattle.plan_graph.proofs.Picked.{picked_leg}

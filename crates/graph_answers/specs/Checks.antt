@@ -10,7 +10,7 @@ use Rattle.journey_model.specs.declared.faults.Fault.{Fault}
 use Rattle.journey_model.specs.declared.faults.Fault.TheVariants.{ProofFails}
 use Rattle.journey_model.specs.declared.problem.Problem.{Problem}
 use Rattle.journey_report.specs.Findings.{Findings, check_findings}
-use Rattle.journey_report.specs.Texts.{holds_text}
+use Rattle.journey_report.specs.AnswerTexts.{holds_text}
 
 -- that a certificate holds is told, with its least value at the start, which is below each strategy that is safe for its query
 pub record IsHeld (p : Problem) (found : Findings) (text : List ℕ) (query : Query) (proof : LowerBounds) : Type 0 where

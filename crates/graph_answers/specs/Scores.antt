@@ -12,7 +12,7 @@ use Rattle.journey_model.specs.declared.faults.Fault.{Fault}
 use Rattle.journey_model.specs.declared.faults.Fault.TheVariants.{Unsafe}
 use Rattle.journey_model.specs.declared.problem.Problem.{Problem}
 use Rattle.journey_report.specs.Findings.{Findings, score_findings}
-use Rattle.journey_report.specs.Texts.{encloses_text}
+use Rattle.journey_report.specs.AnswerTexts.{encloses_text}
 
 -- the bounds of a graph are told, whose strategy is safe for its own query
 pub record IsEnclosed (p : Problem) (found : Findings) (text : List ℕ) (head : Head) (graph : PlanGraph) : Type 0 where

@@ -12,7 +12,7 @@ use Rattle.journey_model.specs.declared.faults.Fault.{Fault}
 use Rattle.journey_model.specs.declared.faults.Fault.TheVariants.{Replay, NoMemory}
 use Rattle.journey_model.specs.declared.problem.Problem.{Problem}
 use Rattle.journey_report.specs.Findings.{Findings, replay_findings}
-use Rattle.journey_report.specs.Texts.{trace_text}
+use Rattle.journey_report.specs.AnswerTexts.{trace_text}
 
 -- a fault of a trip as one of the run
 abbrev pub replay_as : ReplayFault → Fault

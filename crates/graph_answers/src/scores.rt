@@ -6,7 +6,7 @@ ghost use Rattle.journey_model.specs.Faults.{unread_of};
 ghost use Rattle.journey_model.specs.Sites.{last_printable, IsTellable};
 ghost use Rattle.journey_model.specs.Known.{parts_of};
 ghost use Rattle.journey_report.specs.Findings.{findings_of, score_findings};
-ghost use Rattle.journey_report.specs.Texts.{encloses_text};
+ghost use Rattle.journey_report.specs.AnswerTexts.{encloses_text};
 ghost use Rattle.printed_rows.specs.Writers.{place_name};
 ghost use Rattle.plan_model.specs.Bounds.{last_start};
 ghost use Rattle.graph_answers.specs.Scores.{IsEnclosed, IsUnsafeGraph};

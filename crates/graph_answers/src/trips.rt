@@ -7,7 +7,7 @@ ghost use Rattle.journey_model.specs.Faults.{unread_of};
 ghost use Rattle.journey_model.specs.Sites.{last_printable, IsTellable};
 ghost use Rattle.journey_model.specs.Known.{parts_of};
 ghost use Rattle.journey_report.specs.Findings.{findings_of, replay_findings};
-ghost use Rattle.journey_report.specs.Texts.{trace_text};
+ghost use Rattle.journey_report.specs.AnswerTexts.{trace_text};
 ghost use Rattle.trip_replay.specs.Rides.{IsRide};
 ghost use Rattle.plan_model.specs.Bounds.{last_start};
 ghost use Rattle.graph_answers.specs.Trips.{replay_as, IsTripTold, IsTripFault};

@@ -8,7 +8,7 @@ ghost use Rattle.plan_graph.specs.Ready.{IsPruned, IsLegOf};
 ghost use Rattle.plan_graph.specs.Coherent.{IsCoherent};
 ghost use Rattle.plan_graph.specs.Tidy.{IsTidy};
 ghost use Rattle.plan_graph.specs.Unfold.{unfold_expanded, unfold_plan};
-ghost use Rattle.graph_compact.specs.Tables.{put_rows, gathered_rows, lists_of, rows_in, with_table, tables_of};
+ghost use Rattle.graph_compact.specs.RowsByPlace.{put_rows, gathered_rows, lists_of, rows_in, with_table, tables_of};
 
 use plan_graph::{ExpandedGraph, GraphRow, PlaceTable, PlanGraph};
 use plan_model::{List, Network, NoMemory, PlaceId, Query};

@@ -10,7 +10,7 @@ use Rattle.plan_model.specs.Unfold.{end_of, arrival_of, outcomes_of}
 use Rattle.plan_graph.specs.declared.GraphRow.{GraphRow}
 use Rattle.plan_graph.specs.declared.Ride.{Ride}
 use Rattle.plan_graph.specs.declared.ExpandedGraph.{ExpandedGraph}
-use Rattle.plan_graph.specs.Rows.{pick_row}
+use Rattle.plan_graph.specs.PickedRows.{pick_row}
 use Rattle.plan_graph.specs.Ready.{IsPruned, IsByLimits, IsPickedAfter}
 use Rattle.plan_graph.specs.Coherent.{IsCoherent, IsEarliest, IsRowAt}
 use Rattle.plan_graph.specs.Follows.{Follows, IsSteady}

@@ -14,11 +14,11 @@ use Rattle.plan_model.specs.Unfold.{end_of, arrival_of, outcomes_of, unfolding_o
 use Rattle.plan_graph.specs.declared.GraphRow.{GraphRow}
 use Rattle.plan_graph.specs.declared.Ride.{Ride}
 use Rattle.plan_graph.specs.declared.ExpandedGraph.{ExpandedGraph}
-use Rattle.plan_graph.specs.Rows.{pick_row, pick_after, Precedes}
+use Rattle.plan_graph.specs.PickedRows.{pick_row, pick_after, Precedes}
 use Rattle.plan_graph.specs.Unfold.{unfold_expanded}
 use Rattle.plan_graph.specs.Ready.{IsReady, IsReadyRide, IsReadyRow, MayPrecede, IsBusy, IsPruned, IsByLimits, IsPickedAfter, IsFirstInTime, IsSafeForSome, Stands}
 use Rattle.plan_graph.specs.Follows.{Follows}
-use Rattle.leg_walk.specs.Tables.{row_by}
+use Rattle.leg_walk.specs.WalkTables.{row_by}
 use Rattle.leg_walk.specs.Walked.{IsWalked, HasRideOf}
 use Rattle.plan_model.proofs.Lists.{Contains-map, All-from_contains, AllPairs-map}
 use Rattle.leg_walk.proofs.Tables.{first_pick, picked_there, one_found}

@@ -9,7 +9,7 @@ use Rattle.plan_model.specs.Unfold.{end_of, arrival_of, outcomes_of}
 use Rattle.plan_graph.specs.declared.GraphRow.{GraphRow}
 use Rattle.plan_graph.specs.declared.Ride.{Ride}
 use Rattle.plan_graph.specs.declared.ExpandedGraph.{ExpandedGraph}
-use Rattle.plan_graph.specs.Rows.{pick_row, pick_after, HasRisingRides}
+use Rattle.plan_graph.specs.PickedRows.{pick_row, pick_after, HasRisingRides}
 use Rattle.plan_graph.specs.Ready.{IsReady, IsReadyRide, IsReadyRow, IsLegOf, pick_in_time}
 use Rattle.leg_walk.proofs.Rides.{ride_there}
 use Rattle.leg_walk.proofs.Graphs.{IsKeptAfter}

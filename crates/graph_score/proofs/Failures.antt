@@ -5,7 +5,7 @@ use Rattle.plan_model.specs.declared.model.Outcome.{Outcome}
 use Rattle.plan_model.specs.declared.model.Query.{Query}
 use Rattle.plan_model.specs.NetworkModel.{NetworkModel}
 use Rattle.plan_model.specs.Network.{outcomes}
-use Rattle.plan_model.specs.Rows.{EachKid}
+use Rattle.plan_model.specs.DelayRows.{EachKid}
 use Rattle.plan_model.specs.Tree.{Tree, Ride, Kids, Nil, Kid}
 use Rattle.interval_fixed.specs.Interval.{Interval}
 use Rattle.interval_fixed.specs.Means.{mean_of}

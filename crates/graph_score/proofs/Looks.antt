@@ -10,13 +10,13 @@ use Rattle.plan_model.specs.declared.model.Query.{Query}
 use Rattle.plan_model.specs.NetworkModel.{NetworkModel}
 use Rattle.plan_model.specs.Network.{IsValid, count, dep_of, arr_of}
 use Rattle.plan_model.specs.Order.{IsScanOrder}
-use Rattle.plan_model.specs.Rows.{EachKid}
+use Rattle.plan_model.specs.DelayRows.{EachKid}
 use Rattle.plan_model.specs.Tree.{Tree, Done, Stuck}
 use Rattle.plan_model.specs.Unfold.{end_of, outcomes_of, kids_after}
 use Rattle.plan_model.proofs.Boarding.{boards_later}
 use Rattle.plan_model.proofs.ScanOrders.{has_each_id, Known, Never, whole_order, IsNext, next_of, all_known}
 use Rattle.plan_graph.specs.declared.PlaceTable.{PlaceTable}
-use Rattle.plan_graph.specs.Rows.{pick_at}
+use Rattle.plan_graph.specs.PickedRows.{pick_at}
 use Rattle.plan_graph.specs.Ready.{IsLegOf}
 use Rattle.graph_score.specs.declared.outlooks.Outlook.{Outlook}
 use Rattle.graph_score.specs.declared.outlooks.Outlook.TheVariants.{Failing}

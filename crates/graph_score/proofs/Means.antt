@@ -5,7 +5,7 @@ use Rattle.plan_model.specs.declared.model.Outcome.{Outcome}
 use Rattle.plan_model.specs.NetworkModel.{NetworkModel}
 use Rattle.plan_model.specs.Bounds.{nanos_per_second}
 use Rattle.plan_model.specs.Network.{IsValid, count, to_of, arr_of, outcomes}
-use Rattle.plan_model.specs.Rows.{EachKid}
+use Rattle.plan_model.specs.DelayRows.{EachKid}
 use Rattle.plan_model.specs.Tree.{Tree, Done, Ride, Stuck, Kids, Nil, Kid, height, height_of}
 use Rattle.plan_model.specs.Strategy.{IsSafe, AreSafe}
 use Rattle.plan_model.specs.Expected.{Below, Covers, Encloses, arrival}

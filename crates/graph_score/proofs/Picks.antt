@@ -8,7 +8,7 @@ use Rattle.std.proofs.lemmas.Bool.Decides.{nat_tests}
 use Rattle.plan_graph.specs.declared.GraphRow.{GraphRow}
 use Rattle.plan_graph.specs.declared.PlaceTable.{PlaceTable}
 use Rattle.std.proofs.lemmas.List.Recursion.{found_at, found_nowhere}
-use Rattle.plan_graph.specs.Rows.{pick_row, rows_of_place, is_table_of}
+use Rattle.plan_graph.specs.PickedRows.{pick_row, rows_of_place, is_table_of}
 
 -- a list that rises is parted by a number
 pub parted : {X : Type 0} (f : X → ℕ) (xs : List X) (t : ℕ) → AllPairs (λ a b. f a < f b) xs → IsPartitionedBy (λ x. nat_lt (f x) t) xs

@@ -12,7 +12,7 @@ use Rattle.plan_model.specs.Unfold.{end_of, outcomes_of, kids_after, ride_or_stu
 use Rattle.plan_model.proofs.Boarding.{limit_of-some}
 use Rattle.plan_graph.specs.declared.PlaceTable.{PlaceTable}
 use Rattle.plan_graph.specs.declared.PlanGraph.{PlanGraph}
-use Rattle.plan_graph.specs.Rows.{pick_at, rows_of_place}
+use Rattle.plan_graph.specs.PickedRows.{pick_at, rows_of_place}
 use Rattle.plan_graph.specs.Ready.{IsLegOf}
 use Rattle.plan_graph.specs.Tidy.{IsFitRow, IsFitStart}
 use Rattle.plan_graph.specs.Unfold.{unfold_plan}

@@ -9,7 +9,7 @@ use Rattle.plan_model.specs.Network.{connection}
 use Rattle.graph_text.specs.declared.version.Version.{Version}
 use Rattle.graph_text.specs.declared.version.Version.TheVariants.{First, Second}
 use Rattle.graph_text.specs.Versions.{width_of, ninth}
-use Rattle.graph_text.specs.Texts.{leg_fields}
+use Rattle.graph_text.specs.GraphTexts.{leg_fields}
 use Rattle.printed_rows.specs.Writers.{place_name, run_name}
 
 -- the fields that a version has of nine

@@ -32,7 +32,7 @@ use Rattle.graph_text.specs.declared.version.Version.{Version}
 use Rattle.graph_text.specs.declared.version.Version.TheVariants.{First, Second}
 use Rattle.graph_text.specs.Versions.{number_of_version, width_of, ninth, rows_leave, tables_leave, version_by}
 use Rattle.graph_text.specs.Printable.{IsPrintableQuery}
-use Rattle.graph_text.specs.Texts.{leg_fields, rows_text, tables_text, graph_text_in, graph_text}
+use Rattle.graph_text.specs.GraphTexts.{leg_fields, rows_text, tables_text, graph_text_in, graph_text}
 use Rattle.printed_rows.specs.Writers.{place_name, run_name, row_of_fields}
 use Rattle.graph_text.specs.Reading.{IsReadAs}
 use Rattle.graph_text.specs.GraphRows.{entry_in, is_place, is_head, version_in, IsLegRow, IsPlaceRow, IsHeadRow, AreLegRows, AreTableRows, AreGraphRows, IsTextOf}

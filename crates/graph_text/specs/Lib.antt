@@ -1,5 +1,5 @@
 pub mod Versions
-pub mod Texts
+pub mod GraphTexts
 pub mod Printable
 pub mod Reading
 pub mod GraphRows

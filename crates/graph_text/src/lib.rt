@@ -10,7 +10,7 @@ ghost use Rattle.plan_graph.specs.declared.ExpandedGraph.{ExpandedGraph as Expan
 ghost use Rattle.plan_graph.specs.declared.PlanGraph.{PlanGraph as Plan};
 ghost use Rattle.plan_model.specs.NetworkModel.{NetworkModel};
 ghost use Rattle.plan_model.specs.declared.model.Query.{Query as QueryParts};
-ghost use Rattle.graph_text.specs.Texts.{expanded_text, expanded_text_in, graph_text, graph_text_in};
+ghost use Rattle.graph_text.specs.GraphTexts.{expanded_text, expanded_text_in, graph_text, graph_text_in};
 ghost use Rattle.graph_text.specs.declared.Head.{Head as HeadParts};
 ghost use Rattle.graph_text.specs.Reading.{graph_of, IsReadAs};
 ghost use Rattle.graph_text.specs.GraphRows.{IsTextOf};

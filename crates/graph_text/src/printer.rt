@@ -3,7 +3,7 @@ ghost use Rattle.std.specs.Prelude.{◌≡◌, ◌<◌, ◌++◌, [], map, take,
 ghost use Rattle.plan_model.specs.NameLists.{NamesFit};
 ghost use Rattle.plan_model.specs.Network.{count};
 ghost use Rattle.plan_graph.specs.Ready.{IsLegOf};
-ghost use Rattle.graph_text.specs.Texts.{leg_row, head_row, start_leg_text, rows_text, ride_text, rides_text, place_row, table_text, tables_text, expanded_text_in, graph_text_in};
+ghost use Rattle.graph_text.specs.GraphTexts.{leg_row, head_row, start_leg_text, rows_text, ride_text, rides_text, place_row, table_text, tables_text, expanded_text_in, graph_text_in};
 ghost use Rattle.printed_rows.specs.Writers.{row_of_fields, text_so_far, IsBetweenRows};
 ghost use Rattle.graph_text.specs.Versions.{width_of};
 ghost use Rattle.graph_text.specs.Printable.{IsPrintableQuery, IsPrintableRow, IsPrintableRide, IsPrintableTable, IsPrintable, IsPrintablePlan};

@@ -23,11 +23,11 @@ use Rattle.csv_rows.proofs.FirstLemmas.{first-zero, none-both, none-each}
 use Rattle.csv_rows.proofs.ListLemmas.{length-list_below, get-list_below}
 use Rattle.trip_frequencies.specs.declared.frequencies.FrequencyRow.{FrequencyRow}
 use Rattle.trip_frequencies.specs.declared.frequencies.TripFrequency.{TripFrequency}
-use Rattle.trip_frequencies.specs.Bounds.{most_headway}
+use Rattle.trip_frequencies.specs.FrequencyBounds.{most_headway}
 use Rattle.gtfs_tables.specs.Feeds.{FeedParts, IsSoundFeed}
-use Rattle.trip_frequencies.specs.Forms.{headway_in, is_exact_in}
+use Rattle.trip_frequencies.specs.FrequencyForms.{headway_in, is_exact_in}
 use Rattle.trip_frequencies.specs.Frequencies.{frequency_from, frequency_columns, frequency_at, frequency_rows, bad_frequency, no_frequency, frequencies_fault, fault_of_frequencies, repeats_of}
-use Rattle.gtfs_tables.specs.Repeats.{IsFrequency, AreRepeats, AreRepeating}
+use Rattle.gtfs_tables.specs.TripRepeats.{IsFrequency, AreRepeats, AreRepeating}
 use Rattle.feed_lists.specs.Trips.{trip_ids}
 use Rattle.trip_frequencies.proofs.FrequencyLemmas.{frequency_count}
 use Rattle.stop_times.proofs.RowForms.{time_below}

@@ -7,7 +7,7 @@ use Rattle.csv_rows.specs.Lists.{list_below}
 use Rattle.csv_rows.proofs.ListLemmas.{list_below-zero, list_below-next, length-list_below}
 use Rattle.trip_frequencies.specs.declared.frequencies.FrequencyRow.{FrequencyRow}
 use Rattle.gtfs_tables.specs.declared.feed.Feed.TheInside.{Inside}
-use Rattle.gtfs_tables.specs.Repeats.{IsSmall}
+use Rattle.gtfs_tables.specs.TripRepeats.{IsSmall}
 use Rattle.trip_frequencies.specs.Repeats.{repeats_in, all_repeats_in}
 use Rattle.gtfs_tables.specs.FeedInside.{feed_parts_of, IsWhole}
 

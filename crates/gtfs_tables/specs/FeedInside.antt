@@ -2,9 +2,9 @@
 use Rattle.std.specs.Prelude.{◌≡◌, ℕ, ◌<◌, ◌≤◌, [], slice_index_or, length, All}
 use Rattle.std.specs.List.Sorted.{IsNonDecreasing}
 use Rattle.gtfs_tables.specs.declared.feed.Feed.TheInside.{Inside}
-use Rattle.stop_times.specs.Bounds.{most_stop_times}
-use Rattle.trip_frequencies.specs.Bounds.{most_frequencies}
-use Rattle.feed_lists.specs.Bounds.{most_stops, most_trips}
+use Rattle.stop_times.specs.StopTimeBounds.{most_stop_times}
+use Rattle.trip_frequencies.specs.FrequencyBounds.{most_frequencies}
+use Rattle.feed_lists.specs.ListBounds.{most_stops, most_trips}
 use Rattle.gtfs_tables.specs.Feeds.{FeedParts, IsSoundFeed}
 use Rattle.gtfs_tables.specs.Parts.{parts_by}
 

@@ -1,4 +1,4 @@
-pub mod Repeats
+pub mod TripRepeats
 pub mod Feeds
 pub mod Parts
 pub mod FeedInside

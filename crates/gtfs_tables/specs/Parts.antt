@@ -9,8 +9,8 @@ use Rattle.table_files.specs.declared.loading.Loaded.{Loaded}
 use Rattle.gtfs_tables.specs.declared.lists.FeedLists.{FeedLists}
 use Rattle.feed_lists.specs.Lists.{HasStops, HasRoutes, HasTrips, AreSoundStops, AreSoundRoutes, AreSoundTrips, stops_from, routes_from, trips_from}
 use Rattle.gtfs_tables.specs.declared.times.TripTimes.{TripTimes}
-use Rattle.stop_times.specs.Bounds.{most_stop_times}
-use Rattle.trip_frequencies.specs.Bounds.{most_frequencies}
+use Rattle.stop_times.specs.StopTimeBounds.{most_stop_times}
+use Rattle.trip_frequencies.specs.FrequencyBounds.{most_frequencies}
 use Rattle.table_files.specs.Required.{Records, IsOfSomeTable}
 use Rattle.stop_times.specs.Timetables.{stop_times_from, AreVisits}
 use Rattle.gtfs_tables.specs.Feeds.{FeedParts}

@@ -3,7 +3,7 @@ use Rattle.std.specs.Prelude.{ℕ, ◌+◌, ◌<◌, ◌≤◌, List, [], length
 use Rattle.stop_times.specs.declared.rows.StopRow.{StopRow}
 use Rattle.gtfs_tables.specs.Feeds.{FeedParts}
 use Rattle.stop_times.specs.Visits.{no_visit}
-use Rattle.stop_times.specs.Bounds.{end_of_times}
+use Rattle.stop_times.specs.StopTimeBounds.{end_of_times}
 use Rattle.plan_model.specs.Bounds.{end_of_steps}
 
 -- the kept rows of a trip

@@ -1,6 +1,6 @@
 //! A feed.
 ghost use Rattle.std.specs.Prelude.{◌≡◌};
-ghost use Rattle.feed_lists.specs.Bounds.{most_stops, most_trips};
+ghost use Rattle.feed_lists.specs.ListBounds.{most_stops, most_trips};
 
 use crate::lists::{FeedLists, load_lists};
 use crate::times::{TripTimes, load_times};
@@ -49,7 +49,7 @@ impl Feed {
     ghost use Rattle.table_files.specs.Loading.{HasFeedCauses};
     ghost use Rattle.csv_rows.specs.Tables.{place_in};
     ghost use Rattle.gtfs_tables.specs.Feeds.{tables_in, IsFeedOf, IsFeedTableFault, IsSoundFeed};
-    ghost use Rattle.gtfs_tables.specs.Repeats.{AreRepeating, IsSmall};
+    ghost use Rattle.gtfs_tables.specs.TripRepeats.{AreRepeating, IsSmall};
     ghost use Rattle.gtfs_tables.specs.Timed.{IsTimed};
 
     /// Reads the tables `stops.txt`, `routes.txt`, `trips.txt`, `stop_times.txt` and `frequencies.txt` of a folder, or

@@ -6,7 +6,7 @@ ghost use Rattle.csv_rows.specs.FeedTables.{unread_of, IsFaultOf};
 ghost use Rattle.csv_rows.specs.Limits.{AreWithin, rows_of};
 ghost use Rattle.table_files.specs.Loading.{HasFeedCauses, load_in, loaded_from};
 ghost use Rattle.csv_rows.specs.Tables.{table_of};
-ghost use Rattle.stop_times.specs.Bounds.{most_stop_times};
+ghost use Rattle.stop_times.specs.StopTimeBounds.{most_stop_times};
 ghost use Rattle.table_files.specs.Required.{required, IsOfSomeTable};
 ghost use Rattle.stop_times.specs.Timetables.{stop_times_from, AreVisits};
 ghost use Rattle.stop_times.specs.StopTimes.{stop_times_fault};

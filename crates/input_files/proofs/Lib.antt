@@ -1,4 +1,4 @@
 pub mod Loads
-pub mod EarlyFacts
+pub mod FactsBeforeSearch
 pub mod Causes
 pub mod TableSteps

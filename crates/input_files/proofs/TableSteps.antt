@@ -15,7 +15,7 @@ use Rattle.journey_model.specs.declared.faults.Fault.{Fault}
 use Rattle.journey_model.specs.declared.faults.Fault.TheVariants.{Delays, NoMemory}
 use Rattle.journey_model.specs.Faults.{IsFirst, unread_of}
 use Rattle.input_files.specs.Files.{Records}
-use Rattle.input_files.specs.Tables.{cut_as, fault_in, cut_fault, cut_records, delay_records, delay_fault, IsCutOf, IsCutOfSome, AreDelaysOf}
+use Rattle.input_files.specs.InputTables.{cut_as, fault_in, cut_fault, cut_records, delay_records, delay_fault, IsCutOf, IsCutOfSome, AreDelaysOf}
 
 -- a table that was read with no fault
 pub cut_of_some : (table : Records) (parts : CutParts) (text : List ℕ) (limit : ℕ) → table ≡ table_of text → limit ≤ standard.cut_rows

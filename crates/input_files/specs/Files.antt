@@ -5,7 +5,7 @@ use Rattle.file_ports.specs.Counts.{HasCausesOf}
 use Rattle.csv_rows.specs.FeedTables.{path_of as table_path}
 use Rattle.csv_rows.specs.Tables.{table_of}
 use Rattle.csv_rows.specs.declared.feed_tables.Table.{Table}
-use Rattle.command_line.specs.Jobs.{WantedTimetable, CutFile, FeedFolder, WantedJourney}
+use Rattle.command_line.specs.Jobs.{TimetableModel, CutFile, FeedFolder, JourneyModel}
 use Rattle.journey_model.specs.declared.faults.Input.{Input}
 use Rattle.journey_model.specs.declared.faults.Input.TheVariants as input
 use Rattle.journey_model.specs.declared.faults.LimitKind.TheVariants.{Bytes}
@@ -17,11 +17,11 @@ use Rattle.journey_model.specs.Faults.{unread_of, is_unread}
 abbrev pub Records : Type 0
 Records = List (List (List ℕ))
 
-abbrev pub cut_path : WantedTimetable → Option (List ℕ)
+abbrev pub cut_path : TimetableModel → Option (List ℕ)
 cut_path (CutFile path) = Some path
 cut_path (FeedFolder folder horizon) = None
 
-abbrev pub feed_path : WantedTimetable → Table → Option (List ℕ)
+abbrev pub feed_path : TimetableModel → Table → Option (List ℕ)
 feed_path (CutFile path) table = None
 feed_path (FeedFolder folder horizon) table = Some (table_path folder table)
 
@@ -30,14 +30,14 @@ abbrev pub OwnPaths : Type 0
 OwnPaths = Input → Option (List ℕ)
 
 -- the path of an input: of a journey's files over a timetable, or of another file that is read beside them, by its own
-abbrev pub path_by : WantedTimetable → WantedJourney → OwnPaths → Input → Option (List ℕ)
+abbrev pub path_by : TimetableModel → JourneyModel → OwnPaths → Input → Option (List ℕ)
 path_by timetable j own (input.Feed table) = feed_path timetable table
 path_by timetable j own input.Cut = cut_path timetable
 path_by timetable j own input.Delays = Some j.delays
 path_by timetable j own input.Graph = own input.Graph
 path_by timetable j own input.Proof = own input.Proof
 
-abbrev pub path_of : WantedJourney → OwnPaths → Input → Option (List ℕ)
+abbrev pub path_of : JourneyModel → OwnPaths → Input → Option (List ℕ)
 path_of j own = path_by j.timetable j own
 
 -- the bytes of a file that is there and not too long

@@ -1,3 +1,3 @@
-pub mod EarlyFaults
+pub mod FaultsBeforeSearch
 pub mod Files
-pub mod Tables
+pub mod InputTables

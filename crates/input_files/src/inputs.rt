@@ -6,10 +6,10 @@ ghost use Rattle.delay_table.specs.Slots.{AreDelays};
 ghost use Rattle.file_ports.specs.Ports.{file_at};
 ghost use Rattle.journey_model.specs.Faults.{MayBeUnread, unread_of};
 ghost use Rattle.input_files.specs.Files.{bytes_of, records_of, Finds, HasCauses};
-ghost use Rattle.command_line.specs.Jobs.{WantedTimetable, CutFile};
-ghost use Rattle.input_files.specs.EarlyFaults.{IsEarly, IsInputOf};
+ghost use Rattle.command_line.specs.Jobs.{TimetableModel, CutFile};
+ghost use Rattle.input_files.specs.FaultsBeforeSearch.{IsBeforeSearch, IsInputOf};
 ghost use Rattle.journey_model.specs.Stages.{IsOfInput};
-ghost use Rattle.input_files.specs.Tables.{cut_as, CutAgrees, DelayAgrees, IsCutOfSome};
+ghost use Rattle.input_files.specs.InputTables.{cut_as, CutAgrees, DelayAgrees, IsCutOfSome};
 
 use csv_rows::{Column, Limits, Rows, RowsFault};
 use cut_file::{CutFault, CutTable, read_cut};
@@ -32,8 +32,8 @@ pub fn load_bytes<F: Files>(
     ensures bytes { IfSome (F.files files.old) (λ m. Finds (λ bytes. bytes.items)
         (λ unread. bytes_of limits.now.bytes input unread (file_at m path.now)) result) }
     ensures own { IfErr result (MayBeUnread input) }
-    ensures early { (timetable : WantedTimetable) → IsInputOf timetable input
-        → IfErr result (IsEarly timetable) }
+    ensures early { (timetable : TimetableModel) → IsInputOf timetable input
+        → IfErr result (IsBeforeSearch timetable) }
     ensures stage { IfErr result (λ fault. fault ≢ Fault.NoMemory → IsOfInput input fault) }
     ensures causes { HasCauses (IsSome (F.files files.old)) (λ other. Some path.now)
         (F.faults files.old) (F.faults files.new)
@@ -59,15 +59,15 @@ fn load_rows<F: Files>(
 ) -> Result<Rows, Fault>
     requires bytes { limits.now.bytes ≤ 2 ^ 30 }
     requires headless { unread_of headless ≡ None }
-    requires early { (timetable : WantedTimetable) → IsInputOf timetable input
-        → IsEarly timetable headless }
+    requires early { (timetable : TimetableModel) → IsInputOf timetable input
+        → IsBeforeSearch timetable headless }
     ensures same { F.files files.new ≡ F.files files.old }
     ensures text { IfOk result (λ rows. (text : Bytes ℕ) × (rows ≡ table_of text)) }
     ensures table { IfSome (F.files files.old) (λ m. Finds (λ rows. rows)
         (λ unread. records_of limits.now.bytes input headless unread (file_at m path.now)) result) }
     ensures own { IfErr result (MayBeUnread input) }
-    ensures early { (timetable : WantedTimetable) → IsInputOf timetable input
-        → IfErr result (IsEarly timetable) }
+    ensures early { (timetable : TimetableModel) → IsInputOf timetable input
+        → IfErr result (IsBeforeSearch timetable) }
     ensures causes { HasCauses (IsSome (F.files files.old)) (λ other. Some path.now)
         (F.faults files.old) (F.faults files.new)
         (F.faults_of files.old) (F.faults_of files.new) result }
@@ -83,7 +83,7 @@ fn load_rows<F: Files>(
 /// A fault of the cut file as one of the run.
 fn fault_of_cut(fault: CutFault) -> Fault
     ensures fault { result ≡ cut_as fault }
-    ensures early { (path : Bytes ℕ) → IsEarly (CutFile path) result }
+    ensures early { (path : Bytes ℕ) → IsBeforeSearch (CutFile path) result }
     ensures read { unread_of result ≡ None }
 {
     match fault {
@@ -106,7 +106,7 @@ pub fn read_cut_file<F: Files>(
         CutAgrees limits.now (file_at m path.now) result) }
     ensures sound { IfOk result IsCutOfSome }
     ensures own { IfErr result (MayBeUnread Input.Cut) }
-    ensures early { IfErr result (IsEarly (CutFile path.now)) }
+    ensures early { IfErr result (IsBeforeSearch (CutFile path.now)) }
     ensures causes { HasCauses (IsSome (F.files files.old)) (λ other. Some path.now)
         (F.faults files.old) (F.faults files.new)
         (F.faults_of files.old) (F.faults_of files.new) result }
@@ -123,7 +123,7 @@ pub fn read_cut_file<F: Files>(
 fn fault_of_delays(fault: DelayFault) -> Fault
     ensures fault { fault ≢ DelayFault.NoMemory → result ≡ Fault.Delays fault }
     ensures memory { fault ≡ DelayFault.NoMemory → result ≡ Fault.NoMemory }
-    ensures early { (timetable : WantedTimetable) → IsEarly timetable result }
+    ensures early { (timetable : TimetableModel) → IsBeforeSearch timetable result }
     ensures read { unread_of result ≡ None }
 {
     match fault {
@@ -145,7 +145,7 @@ pub fn read_delay_file<F: Files>(
         DelayAgrees limits.now (file_at m path.now) result) }
     ensures sound { IfOk result AreDelays }
     ensures own { IfErr result (MayBeUnread Input.Delays) }
-    ensures early { (timetable : WantedTimetable) → IfErr result (IsEarly timetable) }
+    ensures early { (timetable : TimetableModel) → IfErr result (IsBeforeSearch timetable) }
     ensures causes { HasCauses (IsSome (F.files files.old)) (λ other. Some path.now)
         (F.faults files.old) (F.faults files.new)
         (F.faults_of files.old) (F.faults_of files.new) result }

@@ -2,7 +2,7 @@
 use Rattle.std.proofs.Common.{◌≡◌, ℕ, suc, ◌+◌, ◌-◌, ◌*◌, ◌≤◌, List, [], ◌∷◌, length, All, arith, sum_by, mul-le-mul_left, mul_comm, mul-add}
 use Rattle.std.proofs.lemmas.List.Sums.{sum_by-cons}
 use Rattle.plan_model.specs.declared.model.Outcome.{Outcome}
-use Rattle.plan_model.specs.Rows.{IsValidRow}
+use Rattle.plan_model.specs.DelayRows.{IsValidRow}
 use Rattle.interval_fixed.specs.Interval.{Interval}
 use Rattle.interval_fixed.specs.Means.{weighted, weighted_lo, weighted_hi, mean_of}
 use Rattle.interval_fixed.specs.Enclosures.{AreEnclosed, EnclosesMean}

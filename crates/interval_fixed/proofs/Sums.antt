@@ -3,7 +3,7 @@ use Rattle.std.proofs.Common.{◌≡◌, ℕ, ◌+◌, ◌-◌, ◌*◌, ◌/◌
 use Rattle.std.proofs.Common.{mul_left_comm, add-mul, mul-add}
 use Rattle.plan_model.specs.declared.model.Outcome.{Outcome}
 use Rattle.plan_model.specs.Tree.{Tree, Kids, Ride, Nil, Kid, height, height_of}
-use Rattle.plan_model.specs.Rows.{EachKid}
+use Rattle.plan_model.specs.DelayRows.{EachKid}
 use Rattle.plan_model.specs.Expected.{weighted_by, weighted_kids, BelowBy, CoversBy}
 use Rattle.plan_model.proofs.Laws.{pow_down}
 use Rattle.interval_fixed.specs.Means.{weighted}

@@ -69,17 +69,17 @@ stage_of NoMemory = AtMemory
 
 -- it comes before the files of a command and after the words, where a fault is of a timetable, of its delays, of the stops of a
 -- journey or of the window; or there was no memory
-abbrev pub IsEarlyStage : Stage → Type 0
-IsEarlyStage AtWords = ⊥
-IsEarlyStage AtTimetable = Unit {0}
-IsEarlyStage AtDelays = Unit {0}
-IsEarlyStage AtStops = Unit {0}
-IsEarlyStage AtWindow = Unit {0}
-IsEarlyStage AtGraphFile = ⊥
-IsEarlyStage AtProofFile = ⊥
-IsEarlyStage AtOutcome = ⊥
-IsEarlyStage AtOutput = ⊥
-IsEarlyStage AtMemory = Unit {0}
+abbrev pub IsStageBeforeSearch : Stage → Type 0
+IsStageBeforeSearch AtWords = ⊥
+IsStageBeforeSearch AtTimetable = Unit {0}
+IsStageBeforeSearch AtDelays = Unit {0}
+IsStageBeforeSearch AtStops = Unit {0}
+IsStageBeforeSearch AtWindow = Unit {0}
+IsStageBeforeSearch AtGraphFile = ⊥
+IsStageBeforeSearch AtProofFile = ⊥
+IsStageBeforeSearch AtOutcome = ⊥
+IsStageBeforeSearch AtOutput = ⊥
+IsStageBeforeSearch AtMemory = Unit {0}
 
 -- it is of what a table of the feed holds: not that this cannot be read, is too long or has too many rows, nor of memory
 abbrev pub IsOfFeedText : FeedFault → Type 0

@@ -10,7 +10,7 @@ use Rattle.delay_table.specs.Slots.{AreDelays}
 use Rattle.plan_model.specs.NameLists.{NameLists}
 use Rattle.plan_model.specs.Network.{IsValid}
 use Rattle.plan_model.specs.NetworkModel.{NetworkModel}
-use Rattle.command_line.specs.Jobs.{WantedJourney}
+use Rattle.command_line.specs.Jobs.{JourneyModel}
 use Rattle.journey_model.specs.declared.faults.Input.{Input}
 use Rattle.journey_model.specs.declared.faults.Input.TheVariants as input
 use Rattle.journey_model.specs.declared.faults.Fault.{Fault}
@@ -18,7 +18,7 @@ use Rattle.journey_model.specs.declared.faults.Fault.TheVariants.{NoMemory}
 use Rattle.journey_model.specs.Faults.{IsFirst, MayBeUnread, unread_of}
 use Rattle.journey_model.specs.declared.problem.Problem.{Problem}
 use Rattle.input_files.specs.Files.{Records}
-use Rattle.input_files.specs.Tables.{HasCut, cut_fault, cut_records, delay_fault, IsCutOfSome, AreDelaysOf}
+use Rattle.input_files.specs.InputTables.{HasCut, cut_fault, cut_records, delay_fault, IsCutOfSome, AreDelaysOf}
 use Rattle.journey_problem.specs.CutProblems.{places_in, stop_fault, cut_problem_fault, IsNamed, IsCutProblem, HasCutTimetable}
 
 -- what holds of a network and its names, holds of the problem of them
@@ -32,7 +32,7 @@ abbrev pub IsNetworkOf : CutParts → DelayLists → Problem → Type 0
 IsNetworkOf cut lists p =
     (table : Records) → IsRead table cut.runs cut.places cut.rows cut.keys → IsCutNetwork table lists p.network p.names
 
-module _ (j : WantedJourney) (cut : CutParts) (lists : DelayLists) where
+module _ (j : JourneyModel) (cut : CutParts) (lists : DelayLists) where
   -- the timetable of a cut file is that of some cut file
   pub cut_timetable : (r : Result Problem Fault) → IsCutOfSome cut → AreDelays lists → IfOk r (IsNetworkOf cut lists)
       → IfOk r (λ p. IsValid p.network) → IfOk r (λ p. IsNamed p.names p.source.0 j.from) → IfOk r (λ p. IsNamed p.names p.target.0 j.to)
@@ -84,7 +84,7 @@ no_fault_beside limits file None own none = none
 no_fault_beside limits file (Some other) own none = subst (λ (i : Input). cut_fault limits file (Some i) ≡ None) (sym own) none
 
 -- the fault of the delay file after a cut file with none
-pub delay_first : (limits : Limits) (files : FileMap) (path : List ℕ) (j : WantedJourney) (cut : CutParts) (fault : Fault) → HasCut limits (file_at files path) cut
+pub delay_first : (limits : Limits) (files : FileMap) (path : List ℕ) (j : JourneyModel) (cut : CutParts) (fault : Fault) → HasCut limits (file_at files path) cut
     → MayBeUnread input.Delays fault → IsFirst (delay_fault limits (file_at files j.delays)) fault → IsFirst (cut_problem_fault limits files path j) fault
 delay_first limits files path j cut fault has own first = λ free.
     let u = unread_of fault in

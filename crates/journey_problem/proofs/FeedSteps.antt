@@ -7,14 +7,14 @@ use Rattle.connections.specs.Cut.{IsNetworkFrom}
 use Rattle.delay_table.specs.DelayLists.{DelayLists}
 use Rattle.delay_table.specs.Slots.{AreDelays}
 use Rattle.gtfs_tables.specs.Feeds.{IsSoundFeed}
-use Rattle.command_line.specs.Jobs.{WantedJourney}
+use Rattle.command_line.specs.Jobs.{JourneyModel}
 use Rattle.journey_model.specs.declared.faults.Input.{Input}
 use Rattle.journey_model.specs.declared.faults.Fault.{Fault}
 use Rattle.journey_model.specs.declared.faults.Fault.TheVariants.{NoMemory}
 use Rattle.journey_model.specs.declared.problem.Problem.{Problem}
 use Rattle.journey_model.specs.Faults.{MayBeUnread, unread_of}
-use Rattle.input_files.specs.Tables.{AreDelaysOf, delay_fault}
-use Rattle.journey_problem.specs.FeedProblems.{FolderParts, IsFolder, IsWindowFault, IsFaultAfterFolder, IsFeedProblem, HasFeedTimetable, window_fault_of}
+use Rattle.input_files.specs.InputTables.{AreDelaysOf, delay_fault}
+use Rattle.journey_problem.specs.FeedProblems.{GtfsFolder, IsFolder, IsWindowFault, IsFaultAfterFolder, IsFeedProblem, HasFeedTimetable, window_fault_of}
 
 -- what holds of a told folder before and after a step that leaves it the same
 pub if_some_both : {A : Type 0} (o later : Option A) {P Q R : A → Type 0} → later ≡ o → IfSome o P → IfSome later Q → ((a : A) → P a → Q a → R a) → IfSome o R
@@ -23,7 +23,7 @@ if_some_both (Some a) None same p q f = absurd (cc)
 if_some_both (Some a) (Some b) {Q = Q} same p q f = let one : b ≡ a = (cc) in f a p (subst Q one q)
 
 -- a window of a feed is that of some feed
-pub feed_timetable : (horizon : ℕ) (j : WantedJourney) (h : FolderParts) (lists : DelayLists) (r : Result Problem Fault)
+pub feed_timetable : (horizon : ℕ) (j : JourneyModel) (h : GtfsFolder) (lists : DelayLists) (r : Result Problem Fault)
     → IsSoundFeed h.feed → AreDelays lists
     → IfOk r (λ p. IsNetworkFrom h.feed h.services h.changes lists j.start horizon p.network p.names)
     → IfOk r (λ p. place_of_stop h.feed j.from ≡ Some p.source.0)
@@ -32,7 +32,7 @@ pub feed_timetable : (horizon : ℕ) (j : WantedJourney) (h : FolderParts) (list
 feed_timetable horizon j h lists (Ok p) sound are network source target = (h, lists, sound, are, record { is_network = network; source = source; target = target })
 feed_timetable horizon j h lists (Err fault) sound are network source target = tt
 
-module _ (limits : Limits) (files : FileMap) (horizon : ℕ) (j : WantedJourney) (h : FolderParts) (lists : DelayLists)
+module _ (limits : Limits) (files : FileMap) (horizon : ℕ) (j : JourneyModel) (h : GtfsFolder) (lists : DelayLists)
     (sound : delay_fault limits (file_at files j.delays) None ≡ None) (are : AreDelaysOf limits (file_at files j.delays) lists) where
   pub window_fault : (r : Result Problem Fault) → IfErr r (λ fault. fault ≢ NoMemory → IsWindowFault limits horizon j h fault)
       → IfErr r (λ fault. fault ≢ NoMemory → IsFaultAfterFolder limits files horizon j h fault)

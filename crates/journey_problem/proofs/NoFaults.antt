@@ -11,15 +11,15 @@ use Rattle.service_days.specs.Calendars.{calendars_in, RunsBy}
 use Rattle.service_days.specs.Services.{runs}
 use Rattle.change_times.specs.Changes.{AreToldChanges, transfers_in}
 use Rattle.change_times.specs.Transfers.{place_of_stop}
-use Rattle.command_line.specs.Jobs.{WantedTimetable, CutFile, FeedFolder, WantedJourney}
+use Rattle.command_line.specs.Jobs.{TimetableModel, CutFile, FeedFolder, JourneyModel}
 use Rattle.journey_model.specs.declared.faults.Input.{Input}
 use Rattle.journey_model.specs.declared.faults.Input.TheVariants as input
 use Rattle.journey_model.specs.declared.faults.Fault.{Fault}
 use Rattle.journey_model.specs.declared.faults.Fault.TheVariants.{Read, NoMemory}
 use Rattle.journey_model.specs.Faults.{unread_of}
 use Rattle.journey_problem.specs.CutProblems.{cut_problem_fault}
-use Rattle.input_files.specs.Tables.{delay_fault}
-use Rattle.journey_problem.specs.FeedProblems.{feed_as, FolderParts, IsFolder, IsFolderFault, IsLaterTableFault, IsFaultAfterFolder, IsWindowFault, IsFeedProblem, IsFeedProblemFault}
+use Rattle.input_files.specs.InputTables.{delay_fault}
+use Rattle.journey_problem.specs.FeedProblems.{feed_as, GtfsFolder, IsFolder, IsFolderFault, IsLaterTableFault, IsFaultAfterFolder, IsWindowFault, IsFeedProblem, IsFeedProblemFault}
 use Rattle.journey_problem.specs.FeedProblems.{feed_stop_fault, window_fault_of}
 use Rattle.journey_problem.specs.Problems.{IsProblem, IsProblemOver, IsProblemFault, IsProblemFaultOver}
 use Rattle.journey_problem.proofs.OneFeed.{one_feed_of}
@@ -47,7 +47,7 @@ pub not_feed : (r : Result Tables FeedFault) (f : FeedParts) (e : FeedFault) →
 not_feed (Ok t) f e h k = cc
 not_feed (Err g) f e h k = h
 
-no_cut_fault : (limits : Limits) (files : FileMap) (path : List ℕ) (j : WantedJourney) (fault : Fault) → cut_problem_fault limits files path j None ≡ None
+no_cut_fault : (limits : Limits) (files : FileMap) (path : List ℕ) (j : JourneyModel) (fault : Fault) → cut_problem_fault limits files path j None ≡ None
     → NotRead fault → cut_problem_fault limits files path j (unread_of fault) ≡ Some fault → ⊥
 no_cut_fault limits files path j fault none n h =
     not_both (cut_problem_fault limits files path j None) fault none (subst (λ (u : Option Input). cut_problem_fault limits files path j u ≡ Some fault) (none_unread fault n) h)
@@ -56,7 +56,7 @@ no_stop : (f : FeedParts) (from to : List ℕ) (a b : ℕ) (fault : Fault) → p
 no_stop f from to a b fault h k e =
     let g : feed_stop_fault f from to ≡ None = rw (h, k) refl in cc
 
-module _ (limits : Limits) (files : FileMap) (folder : List ℕ) (h : FolderParts) (is : IsFolder limits files folder h) where
+module _ (limits : Limits) (files : FileMap) (folder : List ℕ) (h : GtfsFolder) (is : IsFolder limits files folder h) where
   no_later : (f : FeedParts) (g : FeedFault) → f ≡ h.feed → unread_table_of g ≡ None → IsLaterTableFault limits files folder f g → ⊥
   no_later f g e u (inl k) =
       not_err (calendars_in files folder limits None) (RunsBy (runs h.services)) g is.services (subst (λ (t : Option Table). calendars_in files folder limits t ≡ Err g) u k)
@@ -69,19 +69,19 @@ module _ (limits : Limits) (files : FileMap) (folder : List ℕ) (h : FolderPart
       not_feed (tables_in files folder limits None) h.feed g is.feed (subst (λ (t : Option Table). tables_in files folder limits t ≡ Err g) u k)
   no_folder_fault g u (inr (f, feed, later)) = no_later f g (one_feed_of (tables_in files folder limits None) f h.feed feed is.feed) u later
 
-no_window : (limits : Limits) (horizon : ℕ) (j : WantedJourney) (h : FolderParts) (a b : ℕ) (fault : Fault) → place_of_stop h.feed j.from ≡ Some a → place_of_stop h.feed j.to ≡ Some b
+no_window : (limits : Limits) (horizon : ℕ) (j : JourneyModel) (h : GtfsFolder) (a b : ℕ) (fault : Fault) → place_of_stop h.feed j.from ≡ Some a → place_of_stop h.feed j.to ≡ Some b
     → window_fault_of limits horizon j h ≡ None → IsWindowFault limits horizon j h fault → ⊥
 no_window limits horizon j h a b fault from to sound (inl e) = no_stop h.feed j.from j.to a b fault from to e
 no_window limits horizon j h a b fault from to sound (inr (none, is)) = not_both (window_fault_of limits horizon j h) fault sound is
 
-no_after : (limits : Limits) (files : FileMap) (horizon : ℕ) (j : WantedJourney) (h : FolderParts) (a b : ℕ) (fault : Fault) → NotRead fault → delay_fault limits (file_at files j.delays) None ≡ None
+no_after : (limits : Limits) (files : FileMap) (horizon : ℕ) (j : JourneyModel) (h : GtfsFolder) (a b : ℕ) (fault : Fault) → NotRead fault → delay_fault limits (file_at files j.delays) None ≡ None
     → place_of_stop h.feed j.from ≡ Some a → place_of_stop h.feed j.to ≡ Some b → window_fault_of limits horizon j h ≡ None
     → IsFaultAfterFolder limits files horizon j h fault → ⊥
 no_after limits files horizon j h a b fault n none from to sound (inl e) =
     not_both (delay_fault limits (file_at files j.delays) None) fault none (subst (λ (u : Option Input). delay_fault limits (file_at files j.delays) u ≡ Some fault) (none_unread fault n) e)
 no_after limits files horizon j h a b fault n none from to sound (inr (ok, w)) = no_window limits horizon j h a b fault from to sound w
 
-no_feed_fault : (limits : Limits) (files : FileMap) (folder : List ℕ) (horizon : ℕ) (j : WantedJourney) (p : _) (fault : Fault) → IsFeedProblem limits files folder horizon j p
+no_feed_fault : (limits : Limits) (files : FileMap) (folder : List ℕ) (horizon : ℕ) (j : JourneyModel) (p : _) (fault : Fault) → IsFeedProblem limits files folder horizon j p
     → NotRead fault → IsFeedProblemFault limits files folder horizon j fault → ⊥
 no_feed_fault limits files folder horizon j p fault a n (inl (g, is, why)) =
     no_folder_fault limits files folder a.parts a.is_folder g (table_read limits g (λ i e. n i (is ∙ e))) why
@@ -91,11 +91,11 @@ no_feed_fault limits files folder horizon j p fault a n (inr (h, is, why)) =
     no_after limits files horizon j h p.source.0 p.target.0 fault n a.no_delay_fault
     (ap (λ (f : FeedParts). place_of_stop f j.from) (sym same.feed) ∙ a.timetable.source) (ap (λ (f : FeedParts). place_of_stop f j.to) (sym same.feed) ∙ a.timetable.target) sound why
 
-no_fault_over : (limits : Limits) (files : FileMap) (timetable : WantedTimetable) (j : WantedJourney) (p : _) (fault : Fault) → IsProblemOver limits files timetable j p → NotRead fault
+no_fault_over : (limits : Limits) (files : FileMap) (timetable : TimetableModel) (j : JourneyModel) (p : _) (fault : Fault) → IsProblemOver limits files timetable j p → NotRead fault
     → IsProblemFaultOver limits files timetable j fault → ⊥
 no_fault_over limits files (CutFile path) j p fault a n why = no_cut_fault limits files path j fault a.no_fault n why
 no_fault_over limits files (FeedFolder folder horizon) j p fault a n why = no_feed_fault limits files folder horizon j p fault a n why
 
-pub no_fault : (limits : Limits) (files : FileMap) (j : WantedJourney) (p : _) (fault : Fault) → IsProblem limits files j p → ((i : Input) → fault ≡ Read i → ⊥) → fault ≢ NoMemory
+pub no_fault : (limits : Limits) (files : FileMap) (j : JourneyModel) (p : _) (fault : Fault) → IsProblem limits files j p → ((i : Input) → fault ≡ Read i → ⊥) → fault ≢ NoMemory
     → IsProblemFault limits files j fault → ⊥
 no_fault limits files j p fault a n m why = no_fault_over limits files j.timetable j p fault a n (why m)

@@ -8,7 +8,7 @@ use Rattle.plan_model.specs.Network.{change_of, connection, count, no_connection
 use Rattle.plan_model.specs.declared.model.Connection.{Connection}
 use Rattle.csv_rows.specs.Tables.{row_count}
 use Rattle.delay_table.specs.DelayLists.{DelayLists}
-use Rattle.cut_file.specs.Rows.{Row}
+use Rattle.cut_file.specs.CutRows.{Row}
 use Rattle.cut_file.specs.Faults.{row}
 use Rattle.cut_file.specs.CutNetwork.{IsRide, IsCutNetwork}
 use Rattle.cut_file.proofs.Distinct.{runs_distinct, places_distinct, one_number}

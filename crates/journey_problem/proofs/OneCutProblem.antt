@@ -7,10 +7,10 @@ use Rattle.delay_table.specs.DelayLists.{DelayLists}
 use Rattle.delay_table.specs.Delays.{delays_of}
 use Rattle.cut_file.specs.CutNetwork.{IsCutNetwork}
 use Rattle.cut_file.proofs.Distinct.{one_number}
-use Rattle.command_line.specs.Jobs.{WantedJourney}
+use Rattle.command_line.specs.Jobs.{JourneyModel}
 use Rattle.journey_model.specs.declared.problem.Problem.{Problem}
 use Rattle.input_files.specs.Files.{Records}
-use Rattle.input_files.specs.Tables.{AreDelaysOf}
+use Rattle.input_files.specs.InputTables.{AreDelaysOf}
 use Rattle.journey_problem.specs.CutProblems.{IsCutProblem}
 use Rattle.journey_problem.proofs.OneCutNetwork.{one_network, same_names, runs_apart, places_apart}
 
@@ -24,7 +24,7 @@ one_end : (names : List (List ℕ)) → AreDistinct names → (a b : ℕ) (x : L
 one_end names apart a b x h k = one_number names apart a b x h k
 
 -- a cut file and a delay file have one problem of a journey
-pub one_cut_problem : (limits : Limits) (files : FileMap) (path : List ℕ) (j : WantedJourney) (p q : Problem)
+pub one_cut_problem : (limits : Limits) (files : FileMap) (path : List ℕ) (j : JourneyModel) (p q : Problem)
     → IsCutProblem limits files path j p → IsCutProblem limits files path j q → p ≡ q
 one_cut_problem limits files path j p q a b =
     let table : b.table ≡ a.table = same_ok _ b.table a.table b.is_table a.is_table in

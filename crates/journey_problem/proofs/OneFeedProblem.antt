@@ -14,14 +14,14 @@ use Rattle.change_times.specs.Changes.{ChangeParts, AreToldChanges, seconds_of, 
 use Rattle.change_times.specs.Transfers.{place_of_stop}
 use Rattle.connections.specs.Cut.{IsNetworkFrom, connection_count, entry_count}
 use Rattle.connections.specs.Faults.{window_fault}
-use Rattle.command_line.specs.Jobs.{WantedJourney}
-use Rattle.journey_problem.specs.FeedProblems.{FolderParts, IsFolder, IsFeedProblem, window_as, window_fault_of}
+use Rattle.command_line.specs.Jobs.{JourneyModel}
+use Rattle.journey_problem.specs.FeedProblems.{GtfsFolder, IsFolder, IsFeedProblem, window_as, window_fault_of}
 use Rattle.journey_problem.proofs.OneCutProblem.{delays_of_one}
 use Rattle.journey_problem.proofs.OneFeed.{one_feed_of}
 use Rattle.journey_problem.proofs.OneWindow.{SameDays, same_count, same_entries, one_window}
 
 -- two folders as they are read: one feed, services that run on the same days, and the same change times and links
-pub record SameFolderParts (g h : FolderParts) : Type 0 where
+pub record SameGtfsFolder (g h : GtfsFolder) : Type 0 where
   pub feed : g.feed ≡ h.feed
   pub days : SameDays g.services h.services
   pub changes : (place : ℕ) → seconds_of g.changes place ≡ seconds_of h.changes place
@@ -45,7 +45,7 @@ same_links (Err fault) f c d a b = absurd a
 
 module _ (limits : Limits) (files : FileMap) (folder : List ℕ) where
   -- a folder is read in one way
-  pub one_folder : (g h : FolderParts) → IsFolder limits files folder g → IsFolder limits files folder h → SameFolderParts g h
+  pub one_folder : (g h : GtfsFolder) → IsFolder limits files folder g → IsFolder limits files folder h → SameGtfsFolder g h
   one_folder g h a b =
       let feed : g.feed ≡ h.feed = one_feed_of (tables_in files folder limits None) g.feed h.feed a.feed b.feed in
       let other = subst (λ (f : FeedParts). IsOkAnd (transfers_in files folder limits None f) (AreToldChanges f h.changes)) (sym feed) b.changes in
@@ -60,7 +60,7 @@ module _ (limits : Limits) (files : FileMap) (folder : List ℕ) where
   one_place f g e id a b h k = let l : Some a ≡ Some b = sym h ∙ ap (λ (x : FeedParts). place_of_stop x id) e ∙ k in cc
 
   -- the window has one first fault
-  pub one_window_fault : (horizon : ℕ) (j : WantedJourney) (g h : FolderParts) → SameFolderParts g h → window_fault_of limits horizon j g ≡ window_fault_of limits horizon j h
+  pub one_window_fault : (horizon : ℕ) (j : JourneyModel) (g h : GtfsFolder) → SameGtfsFolder g h → window_fault_of limits horizon j g ≡ window_fault_of limits horizon j h
   one_window_fault horizon j g h s =
       ap (λ n. option_map window_as (window_fault limits n (entry_count g.feed g.services g.changes j.start horizon))) (same_count g.feed g.services h.services j.start horizon s.days)
       ∙ ap (λ n. option_map window_as (window_fault limits (connection_count g.feed h.services j.start horizon) n))
@@ -68,7 +68,7 @@ module _ (limits : Limits) (files : FileMap) (folder : List ℕ) where
       ∙ ap (λ (f : FeedParts). window_fault_of limits horizon j (record { feed = f; services = h.services; changes = h.changes })) s.feed
 
   -- a folder and a delay file have one problem of a journey
-  pub one_feed_problem : (horizon : ℕ) (j : WantedJourney) (p q : _) → IsFeedProblem limits files folder horizon j p → IsFeedProblem limits files folder horizon j q → p ≡ q
+  pub one_feed_problem : (horizon : ℕ) (j : JourneyModel) (p q : _) → IsFeedProblem limits files folder horizon j p → IsFeedProblem limits files folder horizon j q → p ≡ q
   one_feed_problem horizon j p q a b =
       let parts = one_folder a.parts b.parts a.is_folder b.is_folder in
       let lists : a.lists ≡ b.lists = delays_of_one limits (file_at files j.delays) a.lists b.lists a.are_delays b.are_delays in

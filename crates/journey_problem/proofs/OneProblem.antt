@@ -2,14 +2,14 @@
 use Rattle.std.proofs.Common.{◌≡◌}
 use Rattle.file_ports.specs.Ports.{FileMap}
 use Rattle.csv_rows.specs.declared.limits.Limits.{Limits}
-use Rattle.command_line.specs.Jobs.{WantedTimetable, CutFile, FeedFolder, WantedJourney}
+use Rattle.command_line.specs.Jobs.{TimetableModel, CutFile, FeedFolder, JourneyModel}
 use Rattle.journey_problem.specs.Problems.{IsProblem, IsProblemOver}
 use Rattle.journey_problem.proofs.OneCutProblem.{one_cut_problem}
 use Rattle.journey_problem.proofs.OneFeedProblem.{one_feed_problem}
 
-over : (limits : Limits) (files : FileMap) (timetable : WantedTimetable) (j : WantedJourney) (p q : _) → IsProblemOver limits files timetable j p → IsProblemOver limits files timetable j q → p ≡ q
+over : (limits : Limits) (files : FileMap) (timetable : TimetableModel) (j : JourneyModel) (p q : _) → IsProblemOver limits files timetable j p → IsProblemOver limits files timetable j q → p ≡ q
 over limits files (CutFile path) j p q a b = one_cut_problem limits files path j p q a b
 over limits files (FeedFolder folder horizon) j p q a b = one_feed_problem limits files folder horizon j p q a b
 
-pub one_problem : (limits : Limits) (files : FileMap) (j : WantedJourney) (p q : _) → IsProblem limits files j p → IsProblem limits files j q → p ≡ q
+pub one_problem : (limits : Limits) (files : FileMap) (j : JourneyModel) (p q : _) → IsProblem limits files j p → IsProblem limits files j q → p ≡ q
 one_problem limits files j p q a b = over limits files j.timetable j p q a b

@@ -17,7 +17,7 @@ use Rattle.connections.specs.Joins.{join_below, sum_below}
 use Rattle.connections.specs.Window.{day_at, window_of}
 use Rattle.connections.specs.TripRuns.{frequencies_of, runs_of_trip, day_runs, runs_below, window_runs, run_at, days}
 use Rattle.connections.specs.Counts.{runs_sum, day_sum, days_sum, window_sum}
-use Rattle.connections.specs.Networks.{start_text, IsRunName, AreRunNames, rides_below}
+use Rattle.connections.specs.FeedNetworks.{start_text, IsRunName, AreRunNames, rides_below}
 use Rattle.connections.specs.Cut.{IsNetworkFrom, connection_count, entry_count}
 
 -- they run on the same days

@@ -10,10 +10,10 @@ use Rattle.gtfs_tables.specs.Feeds.{tables_in, tables_from, IsFeedOf}
 use Rattle.service_days.specs.Services.{runs}
 use Rattle.service_days.specs.Calendars.{calendars_in, calendars_from, calendar_from, dates_from, RunsBy}
 use Rattle.change_times.specs.Changes.{AreToldChanges, transfers_from}
-use Rattle.command_line.specs.Jobs.{WantedJourney}
+use Rattle.command_line.specs.Jobs.{JourneyModel}
 use Rattle.journey_model.specs.declared.problem.Problem.{Problem}
-use Rattle.input_files.specs.Tables.{AreDelaysOf, delay_fault}
-use Rattle.journey_problem.specs.FeedProblems.{FolderParts, IsFolder, IsFeedProblem}
+use Rattle.input_files.specs.InputTables.{AreDelaysOf, delay_fault}
+use Rattle.journey_problem.specs.FeedProblems.{GtfsFolder, IsFolder, IsFeedProblem}
 
 module _ (limits : Limits) (files other : FileMap) (same : (path : List ℕ) → file_at files path ≡ file_at other path) where
   same_tables : (folder : List ℕ) → tables_in files folder limits None ≡ tables_in other folder limits None
@@ -25,14 +25,14 @@ module _ (limits : Limits) (files other : FileMap) (same : (path : List ℕ) →
   same_calendars folder = ap (λ (f : List ℕ → Option (List ℕ)).
       calendars_from (calendar_from (load_of None limits Calendar (f (path_of folder Calendar)))) (dates_from (load_of None limits CalendarDates (f (path_of folder CalendarDates))))) (fun_ext same)
 
-  same_folder : (folder : List ℕ) (h : FolderParts) → IsFolder limits files folder h → IsFolder limits other folder h
+  same_folder : (folder : List ℕ) (h : GtfsFolder) → IsFolder limits files folder h → IsFolder limits other folder h
   same_folder folder h a = record {
     feed = subst (λ r. IsFeedOf r h.feed) (same_tables folder) a.feed;
     services = subst (λ r. IsOkAnd r (RunsBy (runs h.services))) (same_calendars folder) a.services;
     changes = subst (λ (f : Option (List ℕ)). IsOkAnd (transfers_from h.feed (load_of None limits Transfers f)) (AreToldChanges h.feed h.changes)) (same (path_of folder Transfers)) a.changes;
   }
 
-  pub same_feed_problem : (folder : List ℕ) (horizon : ℕ) (j : WantedJourney) (p : Problem) → IsFeedProblem limits files folder horizon j p → IsFeedProblem limits other folder horizon j p
+  pub same_feed_problem : (folder : List ℕ) (horizon : ℕ) (j : JourneyModel) (p : Problem) → IsFeedProblem limits files folder horizon j p → IsFeedProblem limits other folder horizon j p
   same_feed_problem folder horizon j p a = record {
     parts = a.parts;
     lists = a.lists;

@@ -6,20 +6,20 @@ use Rattle.std.specs.Option.{option_or}
 use Rattle.file_ports.specs.Ports.{FileMap, file_at}
 use Rattle.csv_rows.specs.declared.limits.Limits.{Limits}
 use Rattle.csv_rows.specs.Tables.{row_count}
-use Rattle.cut_file.specs.Cut.{place_names}
+use Rattle.cut_file.specs.NumberedRows.{place_names}
 use Rattle.cut_file.specs.CutNetwork.{IsCutNetwork}
 use Rattle.delay_table.specs.DelayLists.{DelayLists}
 use Rattle.delay_table.specs.Slots.{AreDelays}
 use Rattle.plan_model.specs.NameLists.{NameLists}
 use Rattle.plan_model.specs.Network.{IsValid}
-use Rattle.command_line.specs.Jobs.{WantedJourney}
+use Rattle.command_line.specs.Jobs.{JourneyModel}
 use Rattle.journey_model.specs.declared.faults.Input.{Input}
 use Rattle.journey_model.specs.declared.faults.Which.TheVariants as which
 use Rattle.journey_model.specs.declared.faults.Fault.{Fault}
 use Rattle.journey_model.specs.declared.faults.Fault.TheVariants.{UnknownStop}
 use Rattle.journey_model.specs.declared.problem.Problem.{Problem}
 use Rattle.input_files.specs.Files.{Records}
-use Rattle.input_files.specs.Tables.{IsCutTable, AreDelaysOf, cut_records, cut_fault, delay_fault}
+use Rattle.input_files.specs.InputTables.{IsCutTable, AreDelaysOf, cut_records, cut_fault, delay_fault}
 
 -- the place names of the cut file
 abbrev pub places_in : Result Records Fault → List (List ℕ)
@@ -38,7 +38,7 @@ stop_fault names from to =
     else Some (UnknownStop which.From)
 
 -- the first fault: of the cut file, of the delay file, of the stops
-abbrev pub cut_problem_fault : Limits → FileMap → List ℕ → WantedJourney → Option Input → Option Fault
+abbrev pub cut_problem_fault : Limits → FileMap → List ℕ → JourneyModel → Option Input → Option Fault
 cut_problem_fault limits files path j unread =
     option_or (cut_fault limits (file_at files path) unread)
     (option_or (delay_fault limits (file_at files j.delays) unread)
@@ -50,18 +50,18 @@ IsNamed names place name = slice_get names.places place ≡ Some name
 
 -- the network and the names are those of the cut file of this table with these delays; and the journey goes from the place
 -- that is named as its first stop to that of its last
-pub record IsCutTimetable (table : Records) (lists : DelayLists) (j : WantedJourney) (p : Problem) : Type 0 where
+pub record IsCutTimetable (table : Records) (lists : DelayLists) (j : JourneyModel) (p : Problem) : Type 0 where
   pub is_network : IsCutNetwork table lists p.network p.names
   pub valid : IsValid p.network
   pub source : IsNamed p.names p.source.0 j.from
   pub target : IsNamed p.names p.target.0 j.to
 
 -- this is so of some cut file with no fault and some delays
-abbrev pub HasCutTimetable : WantedJourney → Problem → Type 0
+abbrev pub HasCutTimetable : JourneyModel → Problem → Type 0
 HasCutTimetable j p = (table : Records) × (lists : DelayLists) × IsCutTable table × AreDelays lists × IsCutTimetable table lists j p
 
 -- no file has a fault, and the timetable is that of the cut file with the delays of the delay file
-pub record IsCutProblem (limits : Limits) (files : FileMap) (path : List ℕ) (j : WantedJourney) (p : Problem) : Type 0 where
+pub record IsCutProblem (limits : Limits) (files : FileMap) (path : List ℕ) (j : JourneyModel) (p : Problem) : Type 0 where
   pub table : Records
   pub lists : DelayLists
   pub no_fault : cut_problem_fault limits files path j None ≡ None

@@ -15,7 +15,7 @@ use Rattle.delay_table.specs.Slots.{AreDelays}
 use Rattle.connections.specs.declared.cuts.WindowFault.{WindowFault}
 use Rattle.connections.specs.declared.cuts.WindowFault.TheVariants as window
 use Rattle.connections.specs.Cut.{IsNetworkFrom, fault_from}
-use Rattle.command_line.specs.Jobs.{WantedJourney}
+use Rattle.command_line.specs.Jobs.{JourneyModel}
 use Rattle.journey_model.specs.declared.faults.Input.TheVariants as input
 use Rattle.journey_model.specs.declared.faults.Which.TheVariants as which
 use Rattle.journey_model.specs.declared.faults.LimitKind.TheVariants.{Bytes, Rows, Connections, Entries}
@@ -23,7 +23,7 @@ use Rattle.journey_model.specs.declared.faults.Fault.{Fault}
 use Rattle.journey_model.specs.declared.faults.Fault.TheVariants.{Feed, UnknownStop, Limit, Read, NoMemory}
 use Rattle.journey_model.specs.declared.problem.Problem.{Problem}
 use Rattle.journey_model.specs.Faults.{unread_of}
-use Rattle.input_files.specs.Tables.{AreDelaysOf, delay_fault}
+use Rattle.input_files.specs.InputTables.{AreDelaysOf, delay_fault}
 
 -- a fault of a feed as one of the run
 abbrev pub feed_as : Limits → FeedFault → Fault
@@ -39,13 +39,13 @@ feed_as limits (feed.TooManyRows table count) = Limit (Rows table) count
 feed_as limits feed.NoMemory = NoMemory
 
 -- what a folder holds
-pub record FolderParts : Type 0 where
+pub record GtfsFolder : Type 0 where
   pub feed : FeedParts
   pub services : ServiceParts
   pub changes : ChangeParts
 
 -- none of its tables has a fault, and these are its feed, its services and its change times
-pub record IsFolder (limits : Limits) (files : FileMap) (folder : List ℕ) (h : FolderParts) : Type 0 where
+pub record IsFolder (limits : Limits) (files : FileMap) (folder : List ℕ) (h : GtfsFolder) : Type 0 where
   pub feed : IsFeedOf (tables_in files folder limits None) h.feed
   pub services : IsOkAnd (calendars_in files folder limits None) (RunsBy (runs h.services))
   pub changes : IsOkAnd (transfers_in files folder limits None h.feed) (AreToldChanges h.feed h.changes)
@@ -82,42 +82,42 @@ window_as (window.TooManyEntries count) = Limit Entries count
 window_as window.NoMemory = NoMemory
 
 -- the first fault of the window of the journey
-abbrev pub window_fault_of : Limits → ℕ → WantedJourney → FolderParts → Option Fault
+abbrev pub window_fault_of : Limits → ℕ → JourneyModel → GtfsFolder → Option Fault
 window_fault_of limits horizon j h = option_map window_as (fault_from limits h.feed h.services h.changes j.start horizon)
 
 -- after a delay file with no fault the first fault is this one: of the stops, or else of the window
-abbrev pub IsWindowFault : Limits → ℕ → WantedJourney → FolderParts → Fault → Type 0
+abbrev pub IsWindowFault : Limits → ℕ → JourneyModel → GtfsFolder → Fault → Type 0
 IsWindowFault limits horizon j h fault =
     (feed_stop_fault h.feed j.from j.to ≡ Some fault)
     ⊎ ((feed_stop_fault h.feed j.from j.to ≡ None) × (window_fault_of limits horizon j h ≡ Some fault))
 
 -- after a folder with no fault the first fault is this one: of the delay file, or else of the window
-abbrev pub IsFaultAfterFolder : Limits → FileMap → ℕ → WantedJourney → FolderParts → Fault → Type 0
+abbrev pub IsFaultAfterFolder : Limits → FileMap → ℕ → JourneyModel → GtfsFolder → Fault → Type 0
 IsFaultAfterFolder limits files horizon j h fault =
     (delay_fault limits (file_at files j.delays) (unread_of fault) ≡ Some fault)
     ⊎ ((delay_fault limits (file_at files j.delays) None ≡ None) × IsWindowFault limits horizon j h fault)
 
 -- the first fault is this one: of the folder, or else of what comes after it
-abbrev pub IsFeedProblemFault : Limits → FileMap → List ℕ → ℕ → WantedJourney → Fault → Type 0
+abbrev pub IsFeedProblemFault : Limits → FileMap → List ℕ → ℕ → JourneyModel → Fault → Type 0
 IsFeedProblemFault limits files folder horizon j fault =
     ((g : FeedFault) × (fault ≡ feed_as limits g) × IsFolderFault limits files folder g)
-    ⊎ ((h : FolderParts) × IsFolder limits files folder h × IsFaultAfterFolder limits files horizon j h fault)
+    ⊎ ((h : GtfsFolder) × IsFolder limits files folder h × IsFaultAfterFolder limits files horizon j h fault)
 
 -- the network and the names are those of the window of a feed of these parts with these delays; and the journey goes from
 -- the place of its first stop to that of its last
-pub record IsFeedTimetable (parts : FolderParts) (lists : DelayLists) (horizon : ℕ) (j : WantedJourney) (p : Problem) : Type 0 where
+pub record IsFeedTimetable (parts : GtfsFolder) (lists : DelayLists) (horizon : ℕ) (j : JourneyModel) (p : Problem) : Type 0 where
   pub is_network : IsNetworkFrom parts.feed parts.services parts.changes lists j.start horizon p.network p.names
   pub source : place_of_stop parts.feed j.from ≡ Some p.source.0
   pub target : place_of_stop parts.feed j.to ≡ Some p.target.0
 
 -- this is so of some feed with no fault and some delays
-abbrev pub HasFeedTimetable : ℕ → WantedJourney → Problem → Type 0
+abbrev pub HasFeedTimetable : ℕ → JourneyModel → Problem → Type 0
 HasFeedTimetable horizon j p =
-    (parts : FolderParts) × (lists : DelayLists) × IsSoundFeed parts.feed × AreDelays lists × IsFeedTimetable parts lists horizon j p
+    (parts : GtfsFolder) × (lists : DelayLists) × IsSoundFeed parts.feed × AreDelays lists × IsFeedTimetable parts lists horizon j p
 
 -- no file has a fault, the timetable is that of the feed with the delays of the delay file, and its window has no fault
-pub record IsFeedProblem (limits : Limits) (files : FileMap) (folder : List ℕ) (horizon : ℕ) (j : WantedJourney) (p : Problem) : Type 0 where
-  pub parts : FolderParts
+pub record IsFeedProblem (limits : Limits) (files : FileMap) (folder : List ℕ) (horizon : ℕ) (j : JourneyModel) (p : Problem) : Type 0 where
+  pub parts : GtfsFolder
   pub lists : DelayLists
   pub is_folder : IsFolder limits files folder parts
   pub no_delay_fault : delay_fault limits (file_at files j.delays) None ≡ None

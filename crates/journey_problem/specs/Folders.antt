@@ -1,6 +1,6 @@
 -- What a folder holds, as it is read.
 use Rattle.journey_problem.specs.declared.feed_problem.FeedTables.{FeedTables}
-use Rattle.journey_problem.specs.FeedProblems.{FolderParts}
+use Rattle.journey_problem.specs.FeedProblems.{GtfsFolder}
 
-abbrev pub folder_parts_of : FeedTables → FolderParts
-folder_parts_of t = record { feed = t.feed; services = t.rules.services; changes = t.rules.changes }
+abbrev pub gtfs_folder_of : FeedTables → GtfsFolder
+gtfs_folder_of t = record { feed = t.feed; services = t.rules.services; changes = t.rules.changes }

@@ -4,50 +4,50 @@ use Rattle.file_ports.specs.Ports.{FileMap}
 use Rattle.csv_rows.specs.declared.limits.Limits.{Limits}
 use Rattle.plan_model.specs.Network.{IsValid}
 use Rattle.plan_model.specs.NameLists.{NamesFit}
-use Rattle.command_line.specs.Jobs.{WantedTimetable, CutFile, FeedFolder, WantedJourney}
+use Rattle.command_line.specs.Jobs.{TimetableModel, CutFile, FeedFolder, JourneyModel}
 use Rattle.journey_model.specs.declared.faults.Fault.{Fault}
 use Rattle.journey_model.specs.declared.faults.Fault.TheVariants.{NoMemory}
 use Rattle.journey_model.specs.declared.problem.Problem.{Problem}
 use Rattle.journey_model.specs.Faults.{unread_of, IsUndisturbed}
-use Rattle.input_files.specs.EarlyFaults.{IsEarly}
+use Rattle.input_files.specs.FaultsBeforeSearch.{IsBeforeSearch}
 use Rattle.journey_problem.specs.CutProblems.{cut_problem_fault, IsCutProblem, HasCutTimetable}
 use Rattle.journey_problem.specs.FeedProblems.{IsFeedProblem, IsFeedProblemFault, HasFeedTimetable}
 
 -- this is the problem of the journey, and its files have no fault
-abbrev pub IsProblemOver : Limits → FileMap → WantedTimetable → WantedJourney → Problem → Type 0
+abbrev pub IsProblemOver : Limits → FileMap → TimetableModel → JourneyModel → Problem → Type 0
 IsProblemOver limits files (CutFile path) j p = IsCutProblem limits files path j p
 IsProblemOver limits files (FeedFolder folder horizon) j p = IsFeedProblem limits files folder horizon j p
 
-abbrev pub IsProblem : Limits → FileMap → WantedJourney → Problem → Type 0
+abbrev pub IsProblem : Limits → FileMap → JourneyModel → Problem → Type 0
 IsProblem limits files j p = IsProblemOver limits files j.timetable j p
 
 -- this is the first fault of the journey's files, where no file but that of the fault is unread
-abbrev pub IsProblemFaultOver : Limits → FileMap → WantedTimetable → WantedJourney → Fault → Type 0
+abbrev pub IsProblemFaultOver : Limits → FileMap → TimetableModel → JourneyModel → Fault → Type 0
 IsProblemFaultOver limits files (CutFile path) j fault = cut_problem_fault limits files path j (unread_of fault) ≡ Some fault
 IsProblemFaultOver limits files (FeedFolder folder horizon) j fault = IsFeedProblemFault limits files folder horizon j fault
 
-abbrev pub IsProblemFault : Limits → FileMap → WantedJourney → Fault → Type 0
+abbrev pub IsProblemFault : Limits → FileMap → JourneyModel → Fault → Type 0
 IsProblemFault limits files j fault = fault ≢ NoMemory → IsProblemFaultOver limits files j.timetable j fault
 
 -- the files of a journey have no fault, but where one fails to be read or there is no memory
-abbrev pub IsFaultless : Limits → FileMap → WantedJourney → Type 0
+abbrev pub IsFaultless : Limits → FileMap → JourneyModel → Type 0
 IsFaultless limits files j =
     (fault : Fault) → IsUndisturbed (Some fault) → fault ≢ NoMemory → IsProblemFault limits files j fault → ⊥
 
 -- the journey's files or its stops have this fault; where the files are told, it is the first
-abbrev pub FailsEarly : Option FileMap → Limits → WantedJourney → Fault → Type 0
-FailsEarly contents limits j fault = IsEarly j.timetable fault × IfSome contents (λ files. IsProblemFault limits files j fault)
+abbrev pub FailsBeforeSearch : Option FileMap → Limits → JourneyModel → Fault → Type 0
+FailsBeforeSearch contents limits j fault = IsBeforeSearch j.timetable fault × IfSome contents (λ files. IsProblemFault limits files j fault)
 
 -- the problem is that of the journey over some timetable with some delays
-abbrev pub HasTimetable : WantedTimetable → WantedJourney → Problem → Type 0
+abbrev pub HasTimetable : TimetableModel → JourneyModel → Problem → Type 0
 HasTimetable (CutFile path) j p = HasCutTimetable j p
 HasTimetable (FeedFolder folder horizon) j p = HasFeedTimetable horizon j p
 
-pub record IsValidProblem (j : WantedJourney) (p : Problem) : Type 0 where
+pub record IsValidProblem (j : JourneyModel) (p : Problem) : Type 0 where
   pub valid : IsValid p.network
   pub fit : NamesFit p.names p.network
   pub timetable : HasTimetable j.timetable j p
 
 -- there is a problem of the journey, where the files are told theirs, of which this holds
-abbrev pub InProblem : Option FileMap → Limits → WantedJourney → (Problem → Type 0) → Type 0
+abbrev pub InProblem : Option FileMap → Limits → JourneyModel → (Problem → Type 0) → Type 0
 InProblem contents limits j P = (p : Problem) × IsValidProblem j p × IfSome contents (λ files. IsProblem limits files j p) × P p

@@ -7,12 +7,12 @@ ghost use Rattle.file_ports.specs.Ports.{file_at};
 ghost use Rattle.plan_model.specs.NameLists.{NamesFit};
 ghost use Rattle.plan_model.specs.Network.{IsValid};
 ghost use Rattle.command_line.specs.Shown.{journey_shown};
-ghost use Rattle.command_line.specs.Jobs.{WantedTimetable, CutFile};
+ghost use Rattle.command_line.specs.Jobs.{TimetableModel, CutFile};
 ghost use Rattle.journey_model.specs.Faults.{IsFirst, MayBeUnread, unread_of};
 ghost use Rattle.input_files.specs.Files.{Records, OwnPaths, path_by, HasCauses};
-ghost use Rattle.input_files.specs.EarlyFaults.{IsEarly};
+ghost use Rattle.input_files.specs.FaultsBeforeSearch.{IsBeforeSearch};
 ghost use Rattle.journey_problem.specs.CutProblems.{cut_problem_fault, IsCutProblem, HasCutTimetable, IsNamed, stop_fault};
-ghost use Rattle.input_files.specs.Tables.{HasCut, IsCutOfSome};
+ghost use Rattle.input_files.specs.InputTables.{HasCut, IsCutOfSome};
 
 use command_line::Journey;
 use csv_rows::Limits;
@@ -31,7 +31,7 @@ fn ends_of(names: &Names, from: &str, to: &str) -> Result<Ends, Fault>
     ensures none { OnOk result (stop_fault names.now.places from.now to.now ≡ None) }
     ensures fault { IfErr result (λ fault.
         stop_fault names.now.places from.now to.now ≡ Some fault) }
-    ensures early { (timetable : WantedTimetable) → IfErr result (IsEarly timetable) }
+    ensures early { (timetable : TimetableModel) → IfErr result (IsBeforeSearch timetable) }
     ensures read { IfErr result (λ fault. unread_of fault ≡ None) }
 {
     let Some(source) = names.place(from) else {
@@ -54,7 +54,7 @@ fn problem_between(network: Network, names: Names, journey: &Journey) -> Result<
         (stop_fault names.places journey.now.from.now journey.now.to.now ≡ None) }
     ensures fault { IfErr result (λ fault.
         stop_fault names.places journey.now.from.now journey.now.to.now ≡ Some fault) }
-    ensures early { (timetable : WantedTimetable) → IfErr result (IsEarly timetable) }
+    ensures early { (timetable : TimetableModel) → IfErr result (IsBeforeSearch timetable) }
     ensures read { IfErr result (λ fault. unread_of fault ≡ None) }
 {
     let ends = ends_of(&names, journey.from, journey.to)?;
@@ -79,7 +79,7 @@ fn problem_in(
         (stop_fault cut.now.places journey.now.from.now journey.now.to.now ≡ None) }
     ensures fault { IfErr result (λ fault. fault ≢ Fault.NoMemory
         → stop_fault cut.now.places journey.now.from.now journey.now.to.now ≡ Some fault) }
-    ensures early { (timetable : WantedTimetable) → IfErr result (IsEarly timetable) }
+    ensures early { (timetable : TimetableModel) → IfErr result (IsBeforeSearch timetable) }
     ensures read { IfErr result (λ fault. unread_of fault ≡ None) }
 {
     match cut.network(alloc, delays) {
@@ -105,7 +105,7 @@ fn problem_after<F: Files>(
     ensures fault { IfSome (F.files files.old) (λ m. IfErr result (λ fault. (path : Bytes ℕ)
         → HasCut limits.now (file_at m path) cut.now
         → IsFirst (cut_problem_fault limits.now m path (journey_shown journey.now)) fault)) }
-    ensures early { (timetable : WantedTimetable) → IfErr result (IsEarly timetable) }
+    ensures early { (timetable : TimetableModel) → IfErr result (IsBeforeSearch timetable) }
     ensures own { IfErr result (MayBeUnread Input.Delays) }
     ensures valid { IfOk result (λ p. IsValid p.network) }
     ensures fit { IfOk result (λ p. NamesFit p.names p.network) }
@@ -136,7 +136,7 @@ pub(crate) fn cut_problem<F: Files>(
         (IsCutProblem limits.now m path.now (journey_shown journey.now))) }
     ensures fault { IfSome (F.files files.old) (λ m. IfErr result
         (IsFirst (cut_problem_fault limits.now m path.now (journey_shown journey.now)))) }
-    ensures early { IfErr result (IsEarly (CutFile path.now)) }
+    ensures early { IfErr result (IsBeforeSearch (CutFile path.now)) }
     ensures valid { IfOk result (λ p. IsValid p.network) }
     ensures fit { IfOk result (λ p. NamesFit p.names p.network) }
     ensures timetable { IfOk result (HasCutTimetable (journey_shown journey.now)) }

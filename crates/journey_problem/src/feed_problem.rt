@@ -9,13 +9,13 @@ ghost use Rattle.gtfs_tables.specs.Feeds.{IsSoundFeed};
 ghost use Rattle.plan_model.specs.NameLists.{NamesFit};
 ghost use Rattle.plan_model.specs.Network.{IsValid};
 ghost use Rattle.command_line.specs.Shown.{journey_shown};
-ghost use Rattle.command_line.specs.Jobs.{WantedTimetable, FeedFolder};
+ghost use Rattle.command_line.specs.Jobs.{TimetableModel, FeedFolder};
 ghost use Rattle.command_line.specs.Ranges.{IsJourney};
 ghost use Rattle.journey_model.specs.Faults.{MayBeUnread, unread_of};
 ghost use Rattle.input_files.specs.Files.{OwnPaths, path_by, HasCauses};
-ghost use Rattle.input_files.specs.EarlyFaults.{IsEarly};
+ghost use Rattle.input_files.specs.FaultsBeforeSearch.{IsBeforeSearch};
 ghost use Rattle.journey_problem.specs.FeedProblems.{feed_as, feed_stop_fault, window_fault_of, AreRules, IsFolder, IsFolderFault, IsLaterTableFault, IsFaultAfterFolder, IsWindowFault, IsFeedProblem, IsFeedProblemFault, HasFeedTimetable};
-ghost use Rattle.journey_problem.specs.Folders.{folder_parts_of};
+ghost use Rattle.journey_problem.specs.Folders.{gtfs_folder_of};
 
 use change_times::Changes;
 use command_line::Journey;
@@ -90,7 +90,7 @@ fn read_folder<F: Files>(
     requires { AreWithin limits.now }
     ensures same { F.files files.new ≡ F.files files.old }
     ensures folder { IfSome (F.files files.old) (λ m.
-        IfOk result (λ t. IsFolder limits.now m folder.now (folder_parts_of t))) }
+        IfOk result (λ t. IsFolder limits.now m folder.now (gtfs_folder_of t))) }
     ensures fault { IfSome (F.files files.old) (λ m. IfErr result (λ f. f ≢ FeedFault.NoMemory
         → IsFolderFault limits.now m folder.now f)) }
     ensures sound { IfOk result (λ t. IsSoundFeed t.feed) }
@@ -116,7 +116,7 @@ fn read_folder<F: Files>(
 fn fault_of(fault: FeedFault, limits: &Limits) -> Fault
     requires { AreWithin limits.now }
     ensures fault { result ≡ feed_as limits.now fault }
-    ensures early { (folder : Bytes ℕ) (horizon : ℕ) → IsEarly (FeedFolder folder horizon) result }
+    ensures early { (folder : Bytes ℕ) (horizon : ℕ) → IsBeforeSearch (FeedFolder folder horizon) result }
 {
     match fault {
         FeedFault::Read(table) => Fault::Read(Input::Feed(table)),
@@ -137,7 +137,7 @@ fn ends_of(feed: &Feed, from: &str, to: &str) -> Result<Ends, Fault>
     ensures target_in { IfOk result (λ ends. ends.target.0 < length feed.now.stop_ids) }
     ensures none { OnOk result (feed_stop_fault feed.now from.now to.now ≡ None) }
     ensures fault { IfErr result (λ fault. feed_stop_fault feed.now from.now to.now ≡ Some fault) }
-    ensures early { (timetable : WantedTimetable) → IfErr result (IsEarly timetable) }
+    ensures early { (timetable : TimetableModel) → IfErr result (IsBeforeSearch timetable) }
 {
     let Some(source) = feed.place_of(from) else {
         return Err(Fault::UnknownStop(Which::From));
@@ -164,7 +164,7 @@ fn window_problem(
     ensures network { IfOk result (λ p. IsNetworkFrom tables.now.feed tables.now.rules.services
         tables.now.rules.changes delays.now journey.now.start.0 horizon p.network p.names) }
     ensures no_window_fault { OnOk result (window_fault_of limits.now horizon
-        (journey_shown journey.now) (folder_parts_of tables.now) ≡ None) }
+        (journey_shown journey.now) (gtfs_folder_of tables.now) ≡ None) }
     ensures valid { IfOk result (λ p. IsValid p.network) }
     ensures fit { IfOk result (λ p. NamesFit p.names p.network) }
     ensures source { IfOk result (λ p.
@@ -174,8 +174,8 @@ fn window_problem(
     ensures source_in { IfOk result (λ p. p.source.0 < length p.network.change) }
     ensures target_in { IfOk result (λ p. p.target.0 < length p.network.change) }
     ensures fault { IfErr result (λ fault. fault ≢ Fault.NoMemory → IsWindowFault limits.now
-        horizon (journey_shown journey.now) (folder_parts_of tables.now) fault) }
-    ensures early { (folder : Bytes ℕ) → IfErr result (IsEarly (FeedFolder folder horizon)) }
+        horizon (journey_shown journey.now) (gtfs_folder_of tables.now) fault) }
+    ensures early { (folder : Bytes ℕ) → IfErr result (IsBeforeSearch (FeedFolder folder horizon)) }
     ensures read { IfErr result (λ fault. unread_of fault ≡ None) }
 {
     let ends = ends_of(&tables.feed, journey.from, journey.to)?;
@@ -212,12 +212,12 @@ fn problem_in<F: Files>(
     requires sound { IsSoundFeed tables.now.feed }
     ensures same { F.files files.new ≡ F.files files.old }
     ensures problem { IfSome (F.files files.old) (λ m. IfOk result (λ p. (folder : Bytes ℕ)
-        → IsFolder limits.now m folder (folder_parts_of tables.now)
+        → IsFolder limits.now m folder (gtfs_folder_of tables.now)
         → IsFeedProblem limits.now m folder horizon (journey_shown journey.now) p)) }
     ensures fault { IfSome (F.files files.old) (λ m. IfErr result (λ fault. fault ≢ Fault.NoMemory
         → IsFaultAfterFolder limits.now m horizon (journey_shown journey.now)
-        (folder_parts_of tables.now) fault)) }
-    ensures early { (folder : Bytes ℕ) → IfErr result (IsEarly (FeedFolder folder horizon)) }
+        (gtfs_folder_of tables.now) fault)) }
+    ensures early { (folder : Bytes ℕ) → IfErr result (IsBeforeSearch (FeedFolder folder horizon)) }
     ensures own { IfErr result (MayBeUnread Input.Delays) }
     ensures valid { IfOk result (λ p. IsValid p.network) }
     ensures fit { IfOk result (λ p. NamesFit p.names p.network) }
@@ -252,7 +252,7 @@ pub(crate) fn feed_problem<F: Files>(
         (IsFeedProblem limits.now m folder.now horizon (journey_shown journey.now))) }
     ensures fault { IfSome (F.files files.old) (λ m. IfErr result (λ fault. fault ≢ Fault.NoMemory
         → IsFeedProblemFault limits.now m folder.now horizon (journey_shown journey.now) fault)) }
-    ensures early { IfErr result (IsEarly (FeedFolder folder.now horizon)) }
+    ensures early { IfErr result (IsBeforeSearch (FeedFolder folder.now horizon)) }
     ensures valid { IfOk result (λ p. IsValid p.network) }
     ensures fit { IfOk result (λ p. NamesFit p.names p.network) }
     ensures timetable { IfOk result (HasFeedTimetable horizon (journey_shown journey.now)) }

@@ -3,7 +3,7 @@ ghost use Rattle.std.specs.Prelude.{◌≡◌, ◌<◌, length, IsSome, IfSome, 
 ghost use Rattle.csv_rows.specs.Limits.{AreWithin};
 ghost use Rattle.command_line.specs.Shown.{journey_shown};
 ghost use Rattle.command_line.specs.Ranges.{IsJourney};
-ghost use Rattle.input_files.specs.EarlyFaults.{IsEarly};
+ghost use Rattle.input_files.specs.FaultsBeforeSearch.{IsBeforeSearch};
 ghost use Rattle.input_files.specs.Files.{OwnPaths, path_of, HasCauses};
 ghost use Rattle.journey_problem.specs.Problems.{IsProblem, IsProblemFault, IsValidProblem};
 
@@ -30,7 +30,7 @@ pub fn problem_of<F: Files>(
         (IsProblem limits.now m (journey_shown journey.now))) }
     ensures fault { IfSome (F.files files.old) (λ m. IfErr result
         (IsProblemFault limits.now m (journey_shown journey.now))) }
-    ensures early { IfErr result (IsEarly (journey_shown journey.now).timetable) }
+    ensures early { IfErr result (IsBeforeSearch (journey_shown journey.now).timetable) }
     ensures sound { IfOk result (IsValidProblem (journey_shown journey.now)) }
     ensures source { IfOk result (λ p. p.source.0 < length p.network.change) }
     ensures target { IfOk result (λ p. p.target.0 < length p.network.change) }

@@ -14,7 +14,7 @@ use Rattle.printed_rows.proofs.Lines.{split_at, text_step}
 use Rattle.trip_replay.specs.declared.Ridden.{Ridden}
 use Rattle.trip_replay.specs.Rides.{IsRide, arrival_after, place_after}
 use Rattle.plan_model.specs.declared.model.Moment.{Moment}
-use Rattle.journey_report.specs.Texts.{ride_text, rides_text, arrived_text}
+use Rattle.journey_report.specs.AnswerTexts.{ride_text, rides_text, arrived_text}
 use Rattle.journey_model.specs.Sites.{last_printable}
 
 delay_at : (o : Outcome) (row : List Outcome) (d : ℕ) (b : Bool) → (o.delay == d) ≡ b → o.delay ≤ 86400 → (list_any (λ x. x.delay == d) row ≡ true → d ≤ 86400)

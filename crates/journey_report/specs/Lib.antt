@@ -1,3 +1,3 @@
 pub mod Findings
-pub mod Texts
+pub mod AnswerTexts
 pub mod DepartureTexts

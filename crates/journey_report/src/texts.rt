@@ -3,7 +3,7 @@ ghost use Rattle.std.specs.Prelude.{◌≡◌, ◌≤◌, ◌<◌, ◌++◌, [],
 ghost use Rattle.csv.specs.Writing.{default_writer, row_text};
 ghost use Rattle.plan_model.specs.NameLists.{NamesFit};
 ghost use Rattle.trip_replay.specs.Rides.{IsRide};
-ghost use Rattle.journey_report.specs.Texts.{safe_text, ride_text, rides_text, arrived_text, trace_text, leg_count, sample_text, least_text, holds_text, encloses_text, punctual_row};
+ghost use Rattle.journey_report.specs.AnswerTexts.{safe_text, ride_text, rides_text, arrived_text, trace_text, leg_count, sample_text, least_text, holds_text, encloses_text, punctual_row};
 ghost use Rattle.journey_model.specs.Sites.{last_printable};
 
 use clock_text::{write_moment, write_nanos};

@@ -20,7 +20,7 @@ use Rattle.plan_model.proofs.LaterTrees.{same_end, same_arrival, same_row, unfol
 use Rattle.plan_graph.specs.declared.GraphRow.{GraphRow}
 use Rattle.plan_graph.specs.declared.PlaceTable.{PlaceTable}
 use Rattle.plan_graph.specs.declared.PlanGraph.{PlanGraph}
-use Rattle.plan_graph.specs.Rows.{pick_row, pick_at, rows_of_place}
+use Rattle.plan_graph.specs.PickedRows.{pick_row, pick_at, rows_of_place}
 use Rattle.plan_graph.specs.Ready.{IsLegOf, Stands, StandsIn, IsFirstInTime}
 use Rattle.plan_graph.specs.Tidy.{IsFitRow, IsFitTable, IsFitStart, IsFit, IsPickedIn, IsTidy}
 use Rattle.plan_graph.specs.Unfold.{unfold_plan}

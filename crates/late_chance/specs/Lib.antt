@@ -2,4 +2,4 @@ pub mod Chances
 pub mod LaterGraphs
 pub mod SeenFrom
 pub mod Punctual
-pub mod Texts
+pub mod ChanceTexts

@@ -19,11 +19,11 @@ use Rattle.leg_walk.specs.Walked.{IsWalked}
 use Rattle.plan_model.proofs.Lists.{All-from_contains}
 use Rattle.leg_walk.proofs.Tables.{table_away, table_there, by_for}
 use Rattle.leg_walk.proofs.Graphs.{IsKeptAfter, ready, busy, table_of_ride, picks_taken}
-use Rattle.meat_scan.specs.Found.{Found, choice_of, leg_choice, chosen_by}
+use Rattle.meat_scan.specs.ScanResult.{ScanResult, choice_of, leg_choice, chosen_by}
 use Rattle.meat_scan.specs.Solves.{HasAnswers, SolvesEach, IsStartAnswer, IsSafeAt}
 use Rattle.leg_extract.specs.Extracted.{IsExtracted, HasArrivals}
 
-module _ {V : Type 0} {below covers : V → Tree → Type 0} {gap : V → ℕ} (n : NetworkModel) (q : Query) (found : Found V) (answers : HasAnswers below covers gap n q found) where
+module _ {V : Type 0} {below covers : V → Tree → Type 0} {gap : V → ℕ} (n : NetworkModel) (q : Query) (found : ScanResult V) (answers : HasAnswers below covers gap n q found) where
   steady_by : (place arrival : ℕ) (leg : Leg) (choice : Option (V × Leg))
       → MatchOption choice ((tree : Tree) → IsSafeAt n q place arrival tree → ⊥) (SolvesEach below covers gap n q found place arrival)
       → option_map (λ c. c.1) choice ≡ Some leg → IsKept n (leg_choice found) place arrival leg

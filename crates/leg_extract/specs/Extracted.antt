@@ -10,7 +10,7 @@ use Rattle.plan_graph.specs.Unfold.{unfold_expanded}
 use Rattle.plan_graph.specs.Ready.{IsReady, IsBusy, Stands}
 use Rattle.plan_graph.specs.Follows.{Follows, IsSteady}
 use Rattle.leg_walk.specs.Walked.{HasRideOf}
-use Rattle.meat_scan.specs.Found.{Found, leg_choice, chosen_by}
+use Rattle.meat_scan.specs.ScanResult.{ScanResult, leg_choice, chosen_by}
 
 -- one row for each outcome, by its arrival; none at the target
 abbrev pub HasArrivals : NetworkModel → ℕ → Ride → Type 0
@@ -24,7 +24,7 @@ IsWhole network query graph = (leg : Leg) → Stands leg (unfold_expanded graph 
 
 -- the graph has the rides that the scan's choices reach from a start leg on, each with a row for each outcome;
 -- it unfolds to the tree that they fix, and is ready to be pruned; what is chosen is kept up to its limit
-pub record IsExtracted {V : Type 0} (network : NetworkModel) (query : Query) (found : Found V) (start : Leg) (graph : ExpandedGraph) : Type 0 where
+pub record IsExtracted {V : Type 0} (network : NetworkModel) (query : Query) (found : ScanResult V) (start : Leg) (graph : ExpandedGraph) : Type 0 where
   pub starts : graph.start ≡ Some start
   pub unfolds : unfold_expanded graph network query ≡ chosen_by network query found start
   pub ready : IsReady network query graph

@@ -22,7 +22,7 @@ struct ScanChoice<'a, V: Score> {
 impl<'a, V: Score> LegChoice for ScanChoice<'a, V> {
     ghost use Rattle.std.specs.Prelude.{◌≡◌, length};
     ghost use Rattle.plan_model.specs.Unfold.{by_place};
-    ghost use Rattle.meat_scan.specs.Found.{leg_choice};
+    ghost use Rattle.meat_scan.specs.ScanResult.{leg_choice};
 
     ghost fits = { λ s n target. (length s.scanned.now.rows ≡ length n.change) × (s.scanned.now.target ≡ target) };
 

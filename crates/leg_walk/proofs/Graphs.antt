@@ -13,9 +13,9 @@ use Rattle.plan_model.specs.Unfold.{end_of, arrival_of, outcomes_of, unfolding_o
 use Rattle.plan_graph.specs.declared.GraphRow.{GraphRow}
 use Rattle.plan_graph.specs.declared.Ride.{Ride}
 use Rattle.plan_graph.specs.declared.ExpandedGraph.{ExpandedGraph}
-use Rattle.plan_graph.specs.Rows.{pick_row}
+use Rattle.plan_graph.specs.PickedRows.{pick_row}
 use Rattle.plan_graph.specs.Ready.{IsLegOf, IsReady, IsReadyRide, IsReadyRow, MayPrecede, IsBusy, IsPickedAfter, IsSafeForSome, IsFirstInTime, Stands, pick_in_time}
-use Rattle.leg_walk.specs.Tables.{row_by, table_after}
+use Rattle.leg_walk.specs.WalkTables.{row_by, table_after}
 use Rattle.leg_walk.specs.Walked.{IsWalked}
 use Rattle.plan_model.proofs.Lists.{AllPairs-nil, All-from_contains}
 use Rattle.leg_walk.proofs.Tables.{IsChosenAt, IsTableRow, Sooner, table_row, table_away, table_there, first_in_table, first_pick, in_time_for, before_for, one_found}

@@ -7,8 +7,8 @@ use Rattle.std.proofs.lemmas.Bool.Decides.{nat_tests}
 use Rattle.std.proofs.lemmas.Cmp.{nat_cmp_total}
 use Rattle.std.proofs.lemmas.Map.Lookups.{CmpEqualImpliesEq}
 use Rattle.plan_model.specs.declared.model.Leg.{Leg}
-use Rattle.plan_graph.specs.Rows.{Precedes}
-use Rattle.leg_walk.specs.Tables.{leg_cmp}
+use Rattle.plan_graph.specs.PickedRows.{Precedes}
+use Rattle.leg_walk.specs.WalkTables.{leg_cmp}
 
 pub nat_cmp-Less : (x y : ℕ) → nat_cmp x y ≡ Less → x < y
 nat_cmp-Less x y is = grind (arith, nat_tests)

@@ -15,7 +15,7 @@ use Rattle.plan_model.specs.Tree.{Tree}
 use Rattle.plan_model.specs.Unfold.{arrival_of, ride_of, unfold_after, unfolding_of}
 use Rattle.plan_graph.specs.declared.GraphRow.{GraphRow}
 use Rattle.plan_graph.specs.Ready.{IsSafeForSome}
-use Rattle.leg_walk.specs.Tables.{table_after, leg_cmp, with_leg}
+use Rattle.leg_walk.specs.WalkTables.{table_after, leg_cmp, with_leg}
 use Rattle.leg_walk.specs.Placed.{StandsSafely}
 use Rattle.plan_model.proofs.Lists.{Contains-nil, Contains-map, Contains-from_map}
 use Rattle.leg_walk.proofs.Sets.{Contains-insert_key, Contains-insert_key_cases, Contains-inserted_key}

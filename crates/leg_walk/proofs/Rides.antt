@@ -2,7 +2,7 @@
 use Rattle.std.proofs.Common.{◌≡◌, ℕ, Bool, true, false, List, [], ◌∷◌, Some, AllPairs, Contains, refl, inl, inr, ◌∙◌, ap, ◌==◌, ◌&&◌, if◌then◌else◌}
 use Rattle.plan_model.specs.declared.model.Leg.{Leg}
 use Rattle.plan_graph.specs.declared.Ride.{Ride}
-use Rattle.plan_graph.specs.Rows.{pick_row, pick_after, rows_after, Precedes}
+use Rattle.plan_graph.specs.PickedRows.{pick_row, pick_after, rows_after, Precedes}
 use Rattle.plan_graph.proofs.Searches.{leg_test, rows_here, rows_further, precedes_itself}
 use Rattle.plan_model.proofs.Lists.{Contains-nil, Contains-head, Contains-tail, Contains-cons_cases, AllPairs-head, AllPairs-tail}
 

@@ -10,10 +10,10 @@ use Rattle.plan_model.specs.Network.{arr_of}
 use Rattle.plan_model.specs.Ways.{limit_of}
 use Rattle.plan_model.specs.Unfold.{end_of, outcomes_of}
 use Rattle.plan_graph.specs.declared.GraphRow.{GraphRow}
-use Rattle.plan_graph.specs.Rows.{pick_row}
+use Rattle.plan_graph.specs.PickedRows.{pick_row}
 use Rattle.plan_graph.specs.Ready.{IsFirstInTime, MayPrecede, pick_in_time}
 use Rattle.plan_graph.proofs.Picked.{pick_here, pick_further}
-use Rattle.leg_walk.specs.Tables.{row_by, with_row, rows_for, table_after}
+use Rattle.leg_walk.specs.WalkTables.{row_by, with_row, rows_for, table_after}
 use Rattle.plan_model.proofs.Lists.{Contains-nil, Contains-head, Contains-tail, Contains-cons_cases, AllPairs-nil, AllPairs-head, AllPairs-tail, AllPairs-with}
 
 -- what is found is one thing

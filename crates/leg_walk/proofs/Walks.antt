@@ -12,9 +12,9 @@ use Rattle.plan_model.specs.Tree.{Tree}
 use Rattle.plan_model.specs.Unfold.{end_of, arrival_of, outcomes_of, unfolding_of, kids_after, ride_or_stuck, unfold_after, unfold_from}
 use Rattle.plan_graph.specs.declared.GraphRow.{GraphRow}
 use Rattle.plan_graph.specs.declared.Ride.{Ride}
-use Rattle.plan_graph.specs.Rows.{pick_row, pick_after, Precedes}
+use Rattle.plan_graph.specs.PickedRows.{pick_row, pick_after, Precedes}
 use Rattle.plan_graph.specs.Ready.{IsLegOf, Stands, StandsIn}
-use Rattle.leg_walk.specs.Tables.{row_by, table_after, ride_of_leg, leg_cmp}
+use Rattle.leg_walk.specs.WalkTables.{row_by, table_after, ride_of_leg, leg_cmp}
 use Rattle.leg_walk.specs.Placed.{IsReached}
 use Rattle.leg_walk.specs.Walked.{IsWalked, IsTaken, HasRideOf}
 use Rattle.plan_model.proofs.Lists.{Contains-map, AllPairs-map, All-from_contains}

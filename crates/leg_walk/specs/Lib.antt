@@ -1,3 +1,3 @@
-pub mod Tables
+pub mod WalkTables
 pub mod Placed
 pub mod Walked

@@ -9,7 +9,7 @@ use Rattle.plan_model.specs.Strategy.{AreSafe}
 use Rattle.plan_model.specs.Unfold.{end_of, outcomes_of, kids_after, unfold_after}
 use Rattle.plan_graph.specs.declared.GraphRow.{GraphRow}
 use Rattle.plan_graph.specs.Ready.{IsLegOf, Stands, StandsIn}
-use Rattle.leg_walk.specs.Tables.{table_after, leg_cmp}
+use Rattle.leg_walk.specs.WalkTables.{table_after, leg_cmp}
 
 -- what is done after a leg, over at most so many rides
 abbrev pub kids_of : NetworkModel → ℕ → (Leg → ℕ → Option Leg) → ℕ → Leg → Kids

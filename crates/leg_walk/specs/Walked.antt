@@ -8,9 +8,9 @@ use Rattle.plan_model.specs.Strategy.{IsBoardable}
 use Rattle.plan_model.specs.Unfold.{end_of, arrival_of, outcomes_of, unfolding_of}
 use Rattle.plan_graph.specs.declared.GraphRow.{GraphRow}
 use Rattle.plan_graph.specs.declared.Ride.{Ride}
-use Rattle.plan_graph.specs.Rows.{Precedes, pick_after}
+use Rattle.plan_graph.specs.PickedRows.{Precedes, pick_after}
 use Rattle.plan_graph.specs.Ready.{IsLegOf, Stands}
-use Rattle.leg_walk.specs.Tables.{table_after}
+use Rattle.leg_walk.specs.WalkTables.{table_after}
 
 -- a ride of the leg is among these
 abbrev pub HasRideOf : List Ride → Leg → Type 0

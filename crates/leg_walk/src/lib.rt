@@ -7,7 +7,7 @@ ghost use Rattle.std.specs.BTreeSet.{contains, IsOrdered};
 ghost use Rattle.plan_model.specs.Network.{count};
 ghost use Rattle.plan_model.specs.Unfold.{unfolding_of};
 ghost use Rattle.plan_graph.specs.Ready.{IsSafeForSome};
-ghost use Rattle.leg_walk.specs.Tables.{table_after, ride_of_leg, leg_cmp, with_leg};
+ghost use Rattle.leg_walk.specs.WalkTables.{table_after, ride_of_leg, leg_cmp, with_leg};
 ghost use Rattle.leg_walk.specs.Placed.{IsReached};
 ghost use Rattle.leg_walk.specs.Walked.{IsWalked};
 
@@ -39,7 +39,7 @@ pub trait LegChoice {
 }
 
 impl LegChoice for ExpandedGraph {
-    ghost use Rattle.plan_graph.specs.Rows.{HasRisingRides, pick_after};
+    ghost use Rattle.plan_graph.specs.PickedRows.{HasRisingRides, pick_after};
 
     ghost fits = { λ graph n target. HasRisingRides graph.rides };
 

@@ -7,7 +7,7 @@ use Rattle.plan_model.specs.declared.model.Query.{Query}
 use Rattle.plan_model.specs.NetworkModel.{NetworkModel}
 use Rattle.plan_model.specs.Network.{to_of, arr_of, outcomes, IsValid, count, connection, dep_of}
 use Rattle.plan_model.specs.Tree.{Tree, Kids, Done, Ride, Stuck, Nil, Kid}
-use Rattle.plan_model.specs.Rows.{EachKid, IsValidRow}
+use Rattle.plan_model.specs.DelayRows.{EachKid, IsValidRow}
 use Rattle.plan_model.specs.Strategy.{IsLeg, IsBoardable, IsBoardableAtStart, IsSafe, AreSafe, IsSafeFor}
 use Rattle.plan_model.specs.Expected.{Below, arrival as arrival_of, Covers}
 use Rattle.interval_fixed.specs.Means.{weighted}

@@ -29,7 +29,7 @@ use Rattle.lower_proof.specs.declared.reader.BoundsRow.{BoundsRow}
 use Rattle.lower_proof.specs.declared.reader.ValueRow.{ValueRow}
 use Rattle.lower_proof.specs.declared.reader.ProofFault.{ProofFault}
 use Rattle.lower_proof.specs.Certificates.{bound_of}
-use Rattle.lower_proof.specs.Texts.{bounds_record, value_record, value_records, proof_text, entry_text}
+use Rattle.lower_proof.specs.CertificateTexts.{bounds_record, value_record, value_records, proof_text, entry_text}
 use Rattle.lower_proof.specs.Reading.{bounds_row_in, bounds_in, value_row_in, connection_in}
 use Rattle.lower_proof.specs.Reading.{nanos_in, told_in, value_row, connection_before}
 use Rattle.lower_proof.specs.Reading.{value_fault, AreValuesTold, IsProofTold, IsProofRead, IsReadBack}

@@ -4,5 +4,5 @@ pub mod Steps
 pub mod Boards
 pub mod Departures
 pub mod Minima
-pub mod Texts
+pub mod CertificateTexts
 pub mod Reading

@@ -6,7 +6,7 @@ ghost use Rattle.plan_model.specs.Network.{count};
 ghost use Rattle.printed_rows.specs.Writers.{row_of_fields, text_of_records, text_so_far, IsBetweenRows};
 ghost use Rattle.lower_proof.specs.Steps.{AllFit};
 ghost use Rattle.lower_proof.specs.Reading.{ReadsBack};
-ghost use Rattle.lower_proof.specs.Texts.{bounds_record, value_record, entry_text, value_records, proof_text};
+ghost use Rattle.lower_proof.specs.CertificateTexts.{bounds_record, value_record, entry_text, value_records, proof_text};
 ghost use Rattle.clock_text.specs.Civil.{last_printable};
 
 use crate::LowerBounds;

@@ -3,7 +3,7 @@ use Rattle.std.proofs.Common.{◌≡◌, ℕ, List, Option, None, Some, Result, 
 use Rattle.file_ports.specs.Ports.{FileMap}
 use Rattle.csv_rows.specs.declared.limits.Limits.{Limits}
 use Rattle.command_line.specs.declared.job.Ask.{Ask}
-use Rattle.command_line.specs.Jobs.{WantedAsk}
+use Rattle.command_line.specs.Jobs.{AskModel}
 use Rattle.command_line.specs.Shown.{ask_shown}
 use Rattle.journey_model.specs.declared.faults.Fault.{Fault}
 use Rattle.journey_model.specs.declared.faults.Fault.TheVariants.{NoSafe, NoMemory}
@@ -20,7 +20,7 @@ use Rattle.meat_engine.proofs.Asking.{unsafe_told}
 
 module _ (told : Option FileMap) (limits : Limits) (start : ℕ) (p : Problem) where
   -- the answer is one to what is asked, and the fault is why there is none
-  pub record IsAnswered (ask : WantedAsk) (r : Result Answer Fault) : Type 0 where
+  pub record IsAnswered (ask : AskModel) (r : Result Answer Fault) : Type 0 where
     pub answer : IfOk r (λ a. AnswersAsk told limits start p ask (findings_of a.report) a.text.items)
     pub fault : IfErr r (λ fault. fault ≢ NoMemory → FailsAsk told limits start p ask fault)
 
@@ -30,12 +30,12 @@ module _ (told : Option FileMap) (limits : Limits) (start : ℕ) (p : Problem) w
   answered-asked r is answer fault = subst (λ (ask : Ask). IsAnswered (ask_shown ask) r) (sym is) (record { answer = answer; fault = fault })
 
   -- and no file of its own is read: it fails only as no strategy is safe, or for want of memory
-  pub record IsAnsweredAlone (ask : WantedAsk) (r : Result Answer Fault) : Type 0 where
+  pub record IsAnsweredAlone (ask : AskModel) (r : Result Answer Fault) : Type 0 where
     pub own : IsAnswered ask r
     pub tellable : IfErr r (IsTellable (Some (parts_of p)))
     pub unread : IfErr r (λ fault. unread_of fault ≡ None)
 
-  alone : (ask : WantedAsk) → ((fault : Fault) → FailsAsk told limits start p ask fault → fault ≡ NoSafe) → (r : Result Answer Fault)
+  alone : (ask : AskModel) → ((fault : Fault) → FailsAsk told limits start p ask fault → fault ≡ NoSafe) → (r : Result Answer Fault)
       → IfOk r (λ a. AnswersAsk told limits start p ask (findings_of a.report) a.text.items) → IfErr r (OrNoMemory (FailsAsk told limits start p ask)) → IsAnsweredAlone ask r
   alone ask unsafe (Ok a) answer fails = record { own = record { answer = answer; fault = tt }; tellable = tt; unread = tt }
   alone ask unsafe (Err fault) answer fails =

@@ -1,17 +1,17 @@
 -- Answers and faults, one from another.
 use Rattle.std.proofs.Common.{◌≡◌, ℕ, List, Option, None, Result, inl, inr, refl, ap, sym, ◌∙◌, subst, arith, ◌≢◌, option_map}
 use Rattle.file_ports.specs.Counts.{Rose, RoseAt}
-use Rattle.command_line.specs.Jobs.{WantedTimetable, WantedJourney, WantedAsk, Safe, Expand, Plan, Replay, Certify, CheckProof, CheckGraph, Punctual, Departures, Latest}
+use Rattle.command_line.specs.Jobs.{TimetableModel, JourneyModel, AskModel, Safe, Expand, Plan, Replay, Certify, CheckProof, CheckGraph, Punctual, Departures, Latest}
 use Rattle.journey_model.specs.declared.faults.Input.{Input}
 use Rattle.journey_model.specs.declared.faults.Input.TheVariants as input
 use Rattle.journey_model.specs.declared.faults.Fault.{Fault}
 use Rattle.journey_model.specs.declared.faults.Fault.TheVariants.{Read, NoSafe, NoMemory}
 use Rattle.journey_model.specs.Faults.{unread_of}
 use Rattle.journey_model.specs.Sites.{NamedParts, IsTellable}
-use Rattle.journey_model.specs.Stages.{IsEarlyStage}
+use Rattle.journey_model.specs.Stages.{IsStageBeforeSearch}
 use Rattle.journey_model.proofs.Sited.{tellable}
 use Rattle.journey_model.specs.declared.problem.Problem.{Problem}
-use Rattle.input_files.specs.EarlyFaults.{IsEarly}
+use Rattle.input_files.specs.FaultsBeforeSearch.{IsBeforeSearch}
 use Rattle.input_files.specs.Files.{path_of, HasCauses}
 use Rattle.meat_engine.specs.declared.refusal.Refusal.{Refusal}
 use Rattle.journey_model.specs.Wants.{OrNoMemory}
@@ -21,8 +21,8 @@ use Rattle.journey_model.specs.Known.{parts_of}
 use Rattle.meat_engine.specs.Refusals.{IsRefusalBy}
 
 -- an early fault is at no site
-pub early_tellable : (known : Option NamedParts) (timetable : WantedTimetable) (fault : Fault) → IsEarly timetable fault → IsTellable known fault
-early_tellable known timetable fault early = tellable known fault (λ at. subst IsEarlyStage at early.stage)
+pub early_tellable : (known : Option NamedParts) (timetable : TimetableModel) (fault : Fault) → IsBeforeSearch timetable fault → IsTellable known fault
+early_tellable known timetable fault early = tellable known fault (λ at. subst IsStageBeforeSearch at early.stage)
 
 -- nor is that there are no strategies: what is told where it fails only as no strategy is safe, or for want of memory
 pub record IsUnsafeTold (Fails : Fault → Type 0) (known : Option NamedParts) (fault : Fault) : Type 0 where
@@ -72,7 +72,7 @@ causes-paths r rises h = record {
 }
 
 -- the paths that an ask has are those of its job beside the files of the journey
-beside_graph : (graph : List ℕ) (j : WantedJourney) (before_of now_of : List ℕ → ℕ) (file : Input) → RoseAt (graph_path graph file) before_of now_of
+beside_graph : (graph : List ℕ) (j : JourneyModel) (before_of now_of : List ℕ → ℕ) (file : Input) → RoseAt (graph_path graph file) before_of now_of
     → RoseAt (path_of j (graph_path graph) file) before_of now_of
 beside_graph graph j before_of now_of (input.Feed table) rose = absurd rose
 beside_graph graph j before_of now_of input.Cut rose = absurd rose
@@ -80,7 +80,7 @@ beside_graph graph j before_of now_of input.Delays rose = absurd rose
 beside_graph graph j before_of now_of input.Graph rose = rose
 beside_graph graph j before_of now_of input.Proof rose = absurd rose
 
-beside_proof : (proof : List ℕ) (j : WantedJourney) (before_of now_of : List ℕ → ℕ) (file : Input) → RoseAt (proof_path proof file) before_of now_of
+beside_proof : (proof : List ℕ) (j : JourneyModel) (before_of now_of : List ℕ → ℕ) (file : Input) → RoseAt (proof_path proof file) before_of now_of
     → RoseAt (path_of j (proof_path proof) file) before_of now_of
 beside_proof proof j before_of now_of (input.Feed table) rose = absurd rose
 beside_proof proof j before_of now_of input.Cut rose = absurd rose
@@ -88,7 +88,7 @@ beside_proof proof j before_of now_of input.Delays rose = absurd rose
 beside_proof proof j before_of now_of input.Graph rose = absurd rose
 beside_proof proof j before_of now_of input.Proof rose = rose
 
-pub beside : (ask : WantedAsk) (j : WantedJourney) (before_of now_of : List ℕ → ℕ) (file : Input) → RoseAt (own_paths ask file) before_of now_of
+pub beside : (ask : AskModel) (j : JourneyModel) (before_of now_of : List ℕ → ℕ) (file : Input) → RoseAt (own_paths ask file) before_of now_of
     → RoseAt (path_of j (own_paths ask) file) before_of now_of
 beside (Safe alpha) j before_of now_of file rose = absurd rose
 beside (Expand alpha) j before_of now_of file rose = absurd rose

@@ -6,7 +6,7 @@ use Rattle.plan_model.specs.declared.model.Query.{Query}
 use Rattle.plan_model.specs.declared.model.Moment.{Moment}
 use Rattle.plan_model.specs.NetworkModel.{NetworkModel}
 use Rattle.plan_model.specs.Strategy.{Reaches, IsLeastWorst}
-use Rattle.command_line.specs.Jobs.{WantedJourney, WantedAsk, Safe, Expand, Plan, Replay as Replays, Certify, CheckProof, CheckGraph, Punctual, Departures, Latest}
+use Rattle.command_line.specs.Jobs.{JourneyModel, AskModel, Safe, Expand, Plan, Replay as Replays, Certify, CheckProof, CheckGraph, Punctual, Departures, Latest}
 use Rattle.journey_model.specs.declared.faults.Input.{Input}
 use Rattle.journey_model.specs.declared.faults.Input.TheVariants as input
 use Rattle.journey_model.specs.declared.faults.Fault.{Fault}
@@ -42,7 +42,7 @@ module _ (p : Problem) (start : ℕ) where
 
 module _ (limits : Limits) (files : FileMap) (start : ℕ) (p : Problem) where
   -- an answered question
-  pub answers_end : (ask : WantedAsk) (found : Findings) (text : List ℕ) → AnswersAsk (Some files) limits start p ask found text → EndsAsk limits files start p ask 0
+  pub answers_end : (ask : AskModel) (found : Findings) (text : List ℕ) → AnswersAsk (Some files) limits start p ask found text → EndsAsk limits files start p ask 0
   answers_end (Safe alpha) found text (q, w, asked, tells) = asked_ends p start alpha q w asked
   answers_end (Expand alpha) found text (q, w, asked, tells) = asked_ends p start alpha q w asked
   answers_end (Plan alpha) found text (q, w, asked, tells) = asked_ends p start alpha q w asked
@@ -77,7 +77,7 @@ module _ (limits : Limits) (files : FileMap) (start : ℕ) (p : Problem) where
       inl (head, plan, file.reads, inr (ap (λ (f : Fault). status_of (Some f)) is, why.unsafe))
 
   -- a question with no answer
-  pub fails_end : (ask : WantedAsk) (fault : Fault) → ((i : Input) → fault ≡ Read i → ⊥) → FailsAsk (Some files) limits start p ask fault
+  pub fails_end : (ask : AskModel) (fault : Fault) → ((i : Input) → fault ≡ Read i → ⊥) → FailsAsk (Some files) limits start p ask fault
       → EndsAsk limits files start p ask (status_of (Some fault))
   fails_end (Safe alpha) fault never fails = unsafe_ends p start fault fails
   fails_end (Expand alpha) fault never fails = unsafe_ends p start fault fails
@@ -90,7 +90,7 @@ module _ (limits : Limits) (files : FileMap) (start : ℕ) (p : Problem) where
   fails_end (Departures until last) fault never (is, none) = inr (ap (λ (f : Fault). status_of (Some f)) is, λ h. none h.0 h.1)
   fails_end (Latest until) fault never (is, none) = inr (ap (λ (f : Fault). status_of (Some f)) is, λ h. none h.0 h.2 h.1 h.3)
 
-module _ (limits : Limits) (files : FileMap) (j : WantedJourney) (a : WantedAsk) where
+module _ (limits : Limits) (files : FileMap) (j : JourneyModel) (a : AskModel) where
   -- over some problem of the files it ends so
   abbrev pub EndsOver : ℕ → Type 0
   EndsOver status = (p : Problem) × IsProblem limits files j p × EndsAsk limits files j.start p a status

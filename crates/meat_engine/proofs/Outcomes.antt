@@ -4,14 +4,14 @@ use Rattle.std.proofs.lemmas.Option.{same_Some}
 use Rattle.std.specs.Io.KnownBytes.{Keeps}
 use Rattle.file_ports.specs.Ports.{FileMap}
 use Rattle.csv_rows.specs.declared.limits.Limits.{Limits}
-use Rattle.command_line.specs.Jobs.{WantedAsk, Safe, Expand, Plan, Replay as Replays, Certify, CheckProof, CheckGraph, Punctual, Departures, Latest, Wanted, Ask, Sample, job_of}
+use Rattle.command_line.specs.Jobs.{AskModel, Safe, Expand, Plan, Replay as Replays, Certify, CheckProof, CheckGraph, Punctual, Departures, Latest, JobModel, Ask, Sample, job_of}
 use Rattle.journey_model.specs.declared.faults.Input.{Input}
 use Rattle.journey_model.specs.declared.faults.Input.TheVariants as input
 use Rattle.journey_model.specs.declared.faults.LimitKind.{LimitKind}
 use Rattle.journey_model.specs.declared.faults.LimitKind.TheVariants.{Bytes}
 use Rattle.journey_model.specs.declared.faults.Fault.{Fault}
 use Rattle.journey_model.specs.declared.faults.Fault.TheVariants.{Missing, Limit, Read, Write, NoMemory}
-use Rattle.fault_lines.specs.Lines.{line_of, IsFormatted}
+use Rattle.fault_lines.specs.FaultLines.{line_of, IsFormatted}
 use Rattle.journey_model.specs.Sites.{NamedParts}
 use Rattle.journey_model.specs.Stages.{stage_of_input, stage_of_limit}
 use Rattle.journey_model.specs.declared.problem.Problem.{Problem}
@@ -46,7 +46,7 @@ no_memory_or_not _ = inr (λ same. absurd (cc))
 
 module _ (told : Option FileMap) (limits : Limits) (words : List (List ℕ)) where
   -- what is asked does not fail because its answer cannot be written
-  ask_write : (start : ℕ) (p : Problem) (ask : WantedAsk) → FailsAsk told limits start p ask Write → ⊥
+  ask_write : (start : ℕ) (p : Problem) (ask : AskModel) → FailsAsk told limits start p ask Write → ⊥
   ask_write start p (Safe alpha) (is, none) = cc
   ask_write start p (Expand alpha) (is, none) = cc
   ask_write start p (Plan alpha) (is, none) = cc
@@ -61,14 +61,14 @@ module _ (told : Option FileMap) (limits : Limits) (words : List (List ℕ)) whe
   ask_write start p (Departures until last) (is, none) = cc
   ask_write start p (Latest until) (is, none) = cc
 
-  pub write_fails : (wanted : Wanted) (known : Option NamedParts) → FailsJob told limits wanted known Write → ⊥
+  pub write_fails : (wanted : JobModel) (known : Option NamedParts) → FailsJob told limits wanted known Write → ⊥
   write_fails (Ask j ask) known (inl (p, sound, problem, (is, why))) = ask_write j.start p ask why
   write_fails (Ask j ask) known (inr early) = early.0.stage
   write_fails (Sample size) known (read, (files, same, inl (p, sound, problem, (is, why)))) = cc why.0
   write_fails (Sample size) known (read, (files, same, inr early)) = early.0.stage
 
   -- why a job fails is why there is no answer to its words
-  pub job_cause : (wanted : Wanted) (known : Option NamedParts) → job_of words ≡ Ok wanted → (fault : Fault) → (fault ≢ NoMemory → FailsJob told limits wanted known fault)
+  pub job_cause : (wanted : JobModel) (known : Option NamedParts) → job_of words ≡ Ok wanted → (fault : Fault) → (fault ≢ NoMemory → FailsJob told limits wanted known fault)
       → IsExplained told limits words known fault
   job_cause wanted known is fault fails =
       ⊎_elim (λ (same : fault ≡ NoMemory). inl same) (λ (other : fault ≢ NoMemory). inr (inr (wanted, is, fails other))) (no_memory_or_not fault)
@@ -94,7 +94,7 @@ module _ (told : Option FileMap) (limits : Limits) (words : List (List ℕ)) whe
       same
 
   -- an answer that was written, or not wholly
-  pub answered_outcome : (wanted : Wanted) (answer : Findings) (report : Report) (text : List ℕ) (old new : Option (List ℕ)) (IsLine : List ℕ → Type 0) (found : Option Fault)
+  pub answered_outcome : (wanted : JobModel) (answer : Findings) (report : Report) (text : List ℕ) (old new : Option (List ℕ)) (IsLine : List ℕ → Type 0) (found : Option Fault)
       → job_of words ≡ Ok wanted → findings_of report ≡ answer
       → AnswersJob told limits wanted answer text → IsWritten old new text found → ((known : Option NamedParts) → found ≡ Some Write → IsLine (line_of known Write))
       → Outcome told limits words report old new IsLine found

@@ -3,17 +3,17 @@ use Rattle.std.proofs.Common.{◌≡◌, ◌<◌, ℕ, sym, subst, arith, ⊎_el
 use Rattle.std.specs.Io.KnownBytes.{Keeps}
 use Rattle.file_ports.specs.Counts.{Rose, RoseAt}
 use Rattle.csv_rows.specs.declared.limits.Limits.{Limits}
-use Rattle.command_line.specs.Jobs.{Wanted, job_of}
+use Rattle.command_line.specs.Jobs.{JobModel, job_of}
 use Rattle.journey_model.specs.declared.faults.Input.{Input}
 use Rattle.journey_model.specs.declared.faults.Fault.{Fault}
 use Rattle.journey_model.specs.declared.faults.Fault.TheVariants.{Read, Write, NoMemory}
 use Rattle.journey_model.specs.Faults.{status_of}
-use Rattle.fault_lines.specs.Lines.{line_of, IsFormatted}
+use Rattle.fault_lines.specs.FaultLines.{line_of, IsFormatted}
 use Rattle.journey_model.specs.Sites.{NamedParts}
 use Rattle.journey_report.specs.declared.report.Report.{Report}
 use Rattle.journey_report.specs.Findings.{Findings, findings_of, no_findings}
 use Rattle.meat_engine.specs.Received.{Ending, AnswersJob, IsExplained, IsRefusedWith, IsWritten, IsWrittenBy, Outcome, path_in}
-use Rattle.meat_engine.specs.Runs.{FilesState, SinkState, TellsLine, IsRun}
+use Rattle.meat_engine.specs.RunPromises.{FilesState, SinkState, TellsLine, IsRun}
 use Rattle.meat_engine.proofs.Outcomes.{refused_ending, keeps_same, refused_outcome, answered_outcome, refused_some, refused_is, refused_read}
 use Rattle.meat_engine.proofs.Statuses.{complete}
 use Rattle.meat_engine.proofs.Undisturbed.{one_job}
@@ -32,7 +32,7 @@ module _ (limits : Limits) (words : List (List ℕ)) (report : Report) (before a
   pub refused_run : report.status.0 ≡ status_of report.fault → findings_of report ≡ no_findings
       → IsExplained before.contents limits words known wanted → wanted ≢ Write → after.contents ≡ before.contents
       → ((input : Input) → wanted ≡ Read input → Rose before.faults after.faults)
-      → ((job : Wanted) (input : Input) → job_of words ≡ Ok job → IsSome before.contents → wanted ≡ Read input
+      → ((job : JobModel) (input : Input) → job_of words ≡ Ok job → IsSome before.contents → wanted ≡ Read input
       → RoseAt (path_in job input) before.faults_of after.faults_of)
       → (before.faults < after.faults → (input : Input) × (wanted ≡ Read input))
       → IsRun limits words report before after out out err err_after
@@ -73,7 +73,7 @@ module _ (limits : Limits) (words : List (List ℕ)) (answer : Findings) (report
   never_read : (input : Input) → report.fault ≡ Some (Read input) → ⊥
   never_read input is = let same : Read input ≡ Write = written_fault out.written out_after.written text report.fault (Read input) written is in cc
 
-  pub answered_run : (job : Wanted) → job_of words ≡ Ok job → AnswersJob before.contents limits job answer text
+  pub answered_run : (job : JobModel) → job_of words ≡ Ok job → AnswersJob before.contents limits job answer text
       → report.status.0 ≡ status_of report.fault → findings_of report ≡ answer
       → (report.fault ≡ None → Keeps err.written err_after.written)
       → ((known : Option NamedParts) → report.fault ≡ Some Write → TellsLine err err_after (line_of known Write))
@@ -101,8 +101,8 @@ module _ (limits : Limits) (words : List (List ℕ)) (answer : Findings) (report
       }
 
 -- the words ask for one job
-pub path_of_job : (words : List (List ℕ)) (job other : Wanted) (before after : List ℕ → ℕ) (input : Input) → job_of words ≡ Ok job → job_of words ≡ Ok other
+pub path_of_job : (words : List (List ℕ)) (job other : JobModel) (before after : List ℕ → ℕ) (input : Input) → job_of words ≡ Ok job → job_of words ≡ Ok other
     → RoseAt (path_in other input) before after → RoseAt (path_in job input) before after
 path_of_job words job other before after input is asked rose =
     let same : other ≡ job = one_job words other job asked is in
-    subst (λ (wanted : Wanted). RoseAt (path_in wanted input) before after) same rose
+    subst (λ (wanted : JobModel). RoseAt (path_in wanted input) before after) same rose

@@ -3,7 +3,7 @@ use Rattle.std.proofs.Common.{◌≡◌, ℕ, ap, refl, sym, ◌∙◌, subst, i
 use Rattle.file_ports.specs.Ports.{FileMap}
 use Rattle.csv_rows.specs.declared.limits.Limits.{Limits}
 use Rattle.feed_maker.specs.Made.{made, SameFolder}
-use Rattle.command_line.specs.Jobs.{WantedJourney, WantedAsk, Plan, Ask, Sample, job_of}
+use Rattle.command_line.specs.Jobs.{JourneyModel, AskModel, Plan, Ask, Sample, job_of}
 use Rattle.journey_model.specs.declared.faults.Input.{Input}
 use Rattle.journey_model.specs.declared.faults.Fault.{Fault}
 use Rattle.journey_model.specs.declared.faults.Fault.TheVariants.{Read, NoMemory}
@@ -25,17 +25,17 @@ use Rattle.meat_engine.proofs.Outcomes.{no_memory_or_not}
 use Rattle.meat_engine.proofs.Undisturbed.{fails, answered}
 
 -- what a journey comes to over told files: its question ends over a problem, or its files have a fault, or there was no memory
-abbrev Comes : Limits → FileMap → WantedJourney → WantedAsk → Option Fault → Type 0
+abbrev Comes : Limits → FileMap → JourneyModel → AskModel → Option Fault → Type 0
 Comes limits files j a fault =
     EndsOver limits files j a (status_of fault)
     ⊎ (((f : Fault) × (fault ≡ Some f) × (f ≢ NoMemory) × IsProblemFault limits files j f) ⊎ (fault ≡ Some NoMemory))
 
-comes_by : (limits : Limits) (files : FileMap) (j : WantedJourney) (a : WantedAsk) (fault : Fault) → fault ≢ NoMemory
+comes_by : (limits : Limits) (files : FileMap) (j : JourneyModel) (a : AskModel) (fault : Fault) → fault ≢ NoMemory
     → EndsOver limits files j a (status_of (Some fault)) ⊎ IsProblemFault limits files j fault → Comes limits files j a (Some fault)
 comes_by limits files j a fault m (inl ends) = inl ends
 comes_by limits files j a fault m (inr first) = inr (inl (fault, refl, m, first))
 
-module _ (limits : Limits) (files : FileMap) (words : List (List ℕ)) (report : Report) (old new : Option (List ℕ)) (Tells : List ℕ → Type 0) (j : WantedJourney) (a : WantedAsk) where
+module _ (limits : Limits) (files : FileMap) (words : List (List ℕ)) (report : Report) (old new : Option (List ℕ)) (Tells : List ℕ → Type 0) (j : JourneyModel) (a : AskModel) where
   fault_comes : (fault : Fault) → job_of words ≡ Ok (Ask j a) → Outcome (Some files) limits words report old new Tells (Some fault)
       → IsUndisturbed (Some fault) → (fault ≡ NoMemory) ⊎ (fault ≡ NoMemory → ⊥) → Comes limits files j a (Some fault)
   fault_comes fault h o calm (inl e) = inr (inr (ap Some e))
@@ -51,7 +51,7 @@ module _ (limits : Limits) (files : FileMap) (words : List (List ℕ)) (report :
       inl (w.0, w.2, answers_end limits files j.start w.0 a (findings_of report) r.0 w.3)
   comes (Some fault) h o calm = fault_comes fault h o calm (no_memory_or_not fault)
 
-module _ (limits : Limits) (files : FileMap) (j : WantedJourney) (a : WantedAsk) (fault : Option Fault) (status : ℕ) (is : status ≡ status_of fault) (calm : IsUndisturbed fault) where
+module _ (limits : Limits) (files : FileMap) (j : JourneyModel) (a : AskModel) (fault : Option Fault) (status : ℕ) (is : status ≡ status_of fault) (calm : IsUndisturbed fault) where
   problem_status : (p : Problem) → IsProblem limits files j p → Comes limits files j a fault → EndsAsk limits files j.start p a status ⊎ (status ≡ 9)
   problem_status p one (inl ends) = inl (subst (λ s. EndsAsk limits files j.start p a s) (sym is) (ends_in limits files j a p (status_of fault) one ends))
   problem_status p one (inr (inl (f, e, m, first))) = absurd (no_fault limits files j p f one (λ i k. calm.0 i (e ∙ ap Some k)) m first)
@@ -96,7 +96,7 @@ module _ (told : Option FileMap) (limits : Limits) (words : List (List ℕ)) (re
   sample_status (Some fault) h one o calm is = sample_fault fault h one o calm is (no_memory_or_not fault)
 
 module _ (told : Option FileMap) (limits : Limits) (words : List (List ℕ)) (report : Report) (old new : Option (List ℕ)) (Tells : List ℕ → Type 0) (fault : Option Fault) (status : ℕ) where
-  journey_comes : Outcome told limits words report old new Tells fault → IsUndisturbed fault → (files : FileMap) (j : WantedJourney) (a : WantedAsk) → told ≡ Some files
+  journey_comes : Outcome told limits words report old new Tells fault → IsUndisturbed fault → (files : FileMap) (j : JourneyModel) (a : AskModel) → told ≡ Some files
       → job_of words ≡ Ok (Ask j a) → Comes limits files j a fault
   journey_comes o calm files j a e h =
       comes limits files words report old new Tells j a fault h (subst (λ (t : Option FileMap). Outcome t limits words report old new Tells fault) e o) calm

@@ -2,12 +2,12 @@
 use Rattle.std.specs.Prelude.{◌≡◌, ◌⊎◌, ℕ, List, Option, None, Some}
 use Rattle.file_ports.specs.Ports.{FileMap}
 use Rattle.csv_rows.specs.declared.limits.Limits.{Limits}
-use Rattle.command_line.specs.Jobs.{WantedJourney, WantedAsk, Safe, Expand, Plan, Replay, Certify, CheckProof, CheckGraph, Punctual, Departures, Latest}
+use Rattle.command_line.specs.Jobs.{JourneyModel, AskModel, Safe, Expand, Plan, Replay, Certify, CheckProof, CheckGraph, Punctual, Departures, Latest}
 use Rattle.journey_model.specs.declared.faults.Fault.{Fault}
 use Rattle.journey_model.specs.Sites.{NamedParts}
 use Rattle.journey_model.specs.declared.problem.Problem.{Problem}
 use Rattle.input_files.specs.Files.{OwnPaths}
-use Rattle.journey_problem.specs.Problems.{FailsEarly, InProblem}
+use Rattle.journey_problem.specs.Problems.{FailsBeforeSearch, InProblem}
 use Rattle.journey_report.specs.Findings.{Findings}
 use Rattle.journey_model.specs.Known.{parts_of}
 use Rattle.plan_answers.specs.Answers.{InQuery, TellsWorst, TellsExpanded, TellsPlanned, IsNoSafe}
@@ -27,7 +27,7 @@ abbrev pub no_path : OwnPaths
 no_path input = None
 
 -- the paths of the files that are read beside those of the journey
-abbrev pub own_paths : WantedAsk → OwnPaths
+abbrev pub own_paths : AskModel → OwnPaths
 own_paths (Safe alpha) = no_path
 own_paths (Expand alpha) = no_path
 own_paths (Plan alpha) = no_path
@@ -40,7 +40,7 @@ own_paths (Departures until last) = no_path
 own_paths (Latest until) = no_path
 
 -- the findings and the text answer what is asked about a problem, from a start on
-abbrev pub AnswersAsk : Option FileMap → Limits → ℕ → Problem → WantedAsk → Findings → List ℕ → Type 0
+abbrev pub AnswersAsk : Option FileMap → Limits → ℕ → Problem → AskModel → Findings → List ℕ → Type 0
 AnswersAsk contents limits start p (Safe alpha) found text = InQuery p start alpha (TellsWorst p found text)
 AnswersAsk contents limits start p (Expand alpha) found text = InQuery p start alpha (TellsExpanded p found text)
 AnswersAsk contents limits start p (Plan alpha) found text = InQuery p start alpha (TellsPlanned p found text)
@@ -53,7 +53,7 @@ AnswersAsk contents limits start p (Departures until last) found text = TellsDep
 AnswersAsk contents limits start p (Latest until) found text = TellsLatest p (query_until p start until) found text
 
 -- why it has no answer, but for want of memory
-abbrev pub FailsAsk : Option FileMap → Limits → ℕ → Problem → WantedAsk → Fault → Type 0
+abbrev pub FailsAsk : Option FileMap → Limits → ℕ → Problem → AskModel → Fault → Type 0
 FailsAsk contents limits start p (Safe alpha) fault = IsNoSafe p start fault
 FailsAsk contents limits start p (Expand alpha) fault = IsNoSafe p start fault
 FailsAsk contents limits start p (Plan alpha) fault = IsNoSafe p start fault
@@ -66,7 +66,7 @@ FailsAsk contents limits start p (Departures until last) fault = FailsDepartures
 FailsAsk contents limits start p (Latest until) fault = FailsLatest p (query_until p start until) fault
 
 -- the status that it ends with, but for want of memory, where no file fails to be read and the answer is written
-abbrev pub EndsAsk : Limits → FileMap → ℕ → Problem → WantedAsk → ℕ → Type 0
+abbrev pub EndsAsk : Limits → FileMap → ℕ → Problem → AskModel → ℕ → Type 0
 EndsAsk limits files start p (Safe alpha) status = EndsBySafety p start status
 EndsAsk limits files start p (Expand alpha) status = EndsBySafety p start status
 EndsAsk limits files start p (Plan alpha) status = EndsBySafety p start status
@@ -80,7 +80,7 @@ EndsAsk limits files start p (Latest until) status = EndsByLatest p (query_until
 
 -- why what is asked about a journey has no answer, but for want of memory, where this timetable is known: it has none over the
 -- problem of the journey, whose timetable that is; or it is the first fault of the files of the journey
-abbrev pub FailsJourney : Option FileMap → Limits → WantedJourney → WantedAsk → Option NamedParts → Fault → Type 0
+abbrev pub FailsJourney : Option FileMap → Limits → JourneyModel → AskModel → Option NamedParts → Fault → Type 0
 FailsJourney contents limits j a known fault =
     InProblem contents limits j (λ p. (known ≡ Some (parts_of p)) × FailsAsk contents limits j.start p a fault)
-    ⊎ FailsEarly contents limits j fault
+    ⊎ FailsBeforeSearch contents limits j fault

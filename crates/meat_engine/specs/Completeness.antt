@@ -3,7 +3,7 @@ use Rattle.std.specs.Prelude.{◌≡◌, ◌⊎◌, ℕ, List, Option, Some, Ok}
 use Rattle.file_ports.specs.Ports.{FileMap}
 use Rattle.csv_rows.specs.declared.limits.Limits.{Limits}
 use Rattle.feed_maker.specs.Made.{made}
-use Rattle.command_line.specs.Jobs.{WantedJourney, WantedAsk, Ask, Sample, job_of}
+use Rattle.command_line.specs.Jobs.{JourneyModel, AskModel, Ask, Sample, job_of}
 use Rattle.journey_model.specs.declared.problem.Problem.{Problem}
 use Rattle.journey_problem.specs.Problems.{IsProblem, IsFaultless}
 use Rattle.meat_engine.specs.Asks.{EndsAsk}
@@ -13,13 +13,13 @@ use Rattle.meat_engine.specs.Samples.{sample_journey}
 -- over files that have a problem: what is asked about it ends as it says, or for want of memory
 abbrev pub EndsInProblem : Option FileMap → Limits → List (List ℕ) → ℕ → Type 0
 EndsInProblem contents limits words status =
-    (files : FileMap) (j : WantedJourney) (a : WantedAsk) (p : Problem) → contents ≡ Some files → job_of words ≡ Ok (Ask j a)
+    (files : FileMap) (j : JourneyModel) (a : AskModel) (p : Problem) → contents ≡ Some files → job_of words ≡ Ok (Ask j a)
     → IsProblem limits files j p → EndsAsk limits files j.start p a status ⊎ (status ≡ 9)
 
 -- over files with no fault: they have a problem, and what is asked about it ends as it says, or for want of memory
 abbrev pub EndsWithoutFault : Option FileMap → Limits → List (List ℕ) → ℕ → Type 0
 EndsWithoutFault contents limits words status =
-    (files : FileMap) (j : WantedJourney) (a : WantedAsk) → contents ≡ Some files → job_of words ≡ Ok (Ask j a) → IsFaultless limits files j
+    (files : FileMap) (j : JourneyModel) (a : AskModel) → contents ≡ Some files → job_of words ≡ Ok (Ask j a) → IsFaultless limits files j
     → ((p : Problem) × IsProblem limits files j p × EndsAsk limits files j.start p a status) ⊎ (status ≡ 9)
 
 -- `sample` over made files that have a problem: 0 where a strategy is safe, 1 where none is, or 9

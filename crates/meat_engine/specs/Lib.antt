@@ -4,4 +4,4 @@ pub mod Samples
 pub mod Refusals
 pub mod Received
 pub mod Completeness
-pub mod Runs
+pub mod RunPromises

@@ -6,11 +6,11 @@ use Rattle.file_ports.specs.Loading.{AppendsFront}
 use Rattle.file_ports.specs.Ports.{FileMap}
 use Rattle.csv_rows.specs.declared.limits.Limits.{Limits}
 use Rattle.command_line.specs.declared.job.WordsFault.{WordsFault}
-use Rattle.command_line.specs.Jobs.{Wanted, Ask, Sample, job_of}
+use Rattle.command_line.specs.Jobs.{JobModel, Ask, Sample, job_of}
 use Rattle.journey_model.specs.declared.faults.Input.{Input}
 use Rattle.journey_model.specs.declared.faults.Fault.{Fault}
 use Rattle.journey_model.specs.declared.faults.Fault.TheVariants.{Words, NoMemory}
-use Rattle.fault_lines.specs.Lines.{line_of, IsFormatted}
+use Rattle.fault_lines.specs.FaultLines.{line_of, IsFormatted}
 use Rattle.journey_model.specs.Sites.{NamedParts}
 use Rattle.journey_model.specs.Stages.{Stage, stage_of, AtWords, AtTimetable, AtDelays, AtStops, AtWindow, AtGraphFile, AtProofFile, AtOutcome, AtOutput, AtMemory}
 use Rattle.input_files.specs.Files.{path_of}
@@ -21,23 +21,23 @@ use Rattle.journey_report.specs.Findings.{Findings, findings_of, no_findings}
 use Rattle.meat_engine.specs.Samples.{AnswersSample, FailsSample}
 
 -- the path of an input of a job, where it has one; a made timetable has none that is read
-abbrev pub path_in : Wanted → Input → Option (List ℕ)
+abbrev pub path_in : JobModel → Input → Option (List ℕ)
 path_in (Ask j a) input = path_of j (own_paths a) input
 path_in (Sample size) input = no_path input
 
 -- the findings and the text answer the job
-abbrev pub AnswersJob : Option FileMap → Limits → Wanted → Findings → List ℕ → Type 0
+abbrev pub AnswersJob : Option FileMap → Limits → JobModel → Findings → List ℕ → Type 0
 AnswersJob contents limits (Ask j a) found text = InProblem contents limits j (λ p. AnswersAsk contents limits j.start p a found text)
 AnswersJob contents limits (Sample size) found text = AnswersSample limits size found text
 
 -- why the job has no answer, but for want of memory, where this timetable is known
-abbrev pub FailsJob : Option FileMap → Limits → Wanted → Option NamedParts → Fault → Type 0
+abbrev pub FailsJob : Option FileMap → Limits → JobModel → Option NamedParts → Fault → Type 0
 FailsJob contents limits (Ask j a) known fault = FailsJourney contents limits j a known fault
 FailsJob contents limits (Sample size) known fault = FailsSample limits size known fault
 
 -- the words are a job, of which this holds
-abbrev pub Asks : List (List ℕ) → (Wanted → Type 0) → Type 0
-Asks words P = (wanted : Wanted) × (job_of words ≡ Ok wanted) × P wanted
+abbrev pub Asks : List (List ℕ) → (JobModel → Type 0) → Type 0
+Asks words P = (wanted : JobModel) × (job_of words ≡ Ok wanted) × P wanted
 
 -- the findings and the text answer what the words ask
 abbrev pub AnswersWords : Option FileMap → Limits → List (List ℕ) → Findings → List ℕ → Type 0

@@ -9,7 +9,7 @@ use Rattle.interval_fixed.specs.Interval.{Interval}
 use Rattle.plan_graph.specs.declared.PlanGraph.{PlanGraph}
 use Rattle.decision_graph.specs.Planned.{IsPlanned}
 use Rattle.feed_maker.specs.Made.{made, SameFolder}
-use Rattle.command_line.specs.Jobs.{WantedJourney, FeedFolder, Plan}
+use Rattle.command_line.specs.Jobs.{JourneyModel, FeedFolder, Plan}
 use Rattle.journey_model.specs.declared.faults.Fault.{Fault}
 use Rattle.journey_model.specs.Faults.{unread_of}
 use Rattle.journey_model.specs.Sites.{NamedParts}
@@ -18,10 +18,10 @@ use Rattle.journey_problem.specs.Problems.{InProblem}
 use Rattle.plan_answers.specs.Answers.{InQuery}
 use Rattle.meat_engine.specs.Asks.{FailsJourney}
 use Rattle.journey_report.specs.Findings.{Findings, sample_findings}
-use Rattle.journey_report.specs.Texts.{leg_count, sample_text}
+use Rattle.journey_report.specs.AnswerTexts.{leg_count, sample_text}
 
 -- from the hub H0 to the hub H5, from 2024-06-03T08:00:01 on, in a window of 24 hours
-abbrev pub sample_journey : WantedJourney
+abbrev pub sample_journey : JourneyModel
 sample_journey = record {
   timetable = FeedFolder (codes "feed") 24;
   delays = codes "delays.csv";

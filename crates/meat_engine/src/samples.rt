@@ -4,7 +4,7 @@ ghost use Rattle.csv_rows.specs.Limits.{AreWithin};
 ghost use Rattle.command_line.specs.Shown.{journey_shown};
 ghost use Rattle.journey_model.specs.Faults.{unread_of};
 ghost use Rattle.journey_model.specs.declared.faults.Fault.{Fault};
-ghost use Rattle.input_files.specs.EarlyFaults.{IsEarly};
+ghost use Rattle.input_files.specs.FaultsBeforeSearch.{IsBeforeSearch};
 ghost use Rattle.journey_problem.specs.Problems.{IsProblem, IsProblemFault, IsValidProblem};
 ghost use Rattle.plan_answers.specs.Answers.{FailsIn};
 ghost use Rattle.journey_report.specs.Findings.{findings_of};
@@ -74,7 +74,7 @@ fn sample_problem(alloc: Global, size: u32, limits: &Limits) -> Result<Problem, 
     ensures target { IfOk result (λ p. p.target.0 < length p.network.change) }
     ensures fault { IfErr result (λ f. f ≢ Fault.NoMemory
         → OverMade size (λ files. IsProblemFault limits.now files sample_journey f)) }
-    ensures early { IfErr result (IsEarly sample_journey.timetable) }
+    ensures early { IfErr result (IsBeforeSearch sample_journey.timetable) }
     ensures read { IfErr result (λ f. unread_of f ≡ None) }
 {
     match MadeFiles::new(alloc, size) {

@@ -6,7 +6,7 @@ ghost use Rattle.file_ports.specs.Counts.{Rose};
 ghost use Rattle.command_line.specs.Ranges.{IsJob};
 ghost use Rattle.command_line.specs.Shown.{wanted_job};
 ghost use Rattle.journey_model.specs.Faults.{status_of};
-ghost use Rattle.fault_lines.specs.Lines.{line_of};
+ghost use Rattle.fault_lines.specs.FaultLines.{line_of};
 ghost use Rattle.journey_model.specs.Sites.{NamedParts, IsTellable};
 ghost use Rattle.fault_lines.specs.Known.{known_in};
 ghost use Rattle.input_files.specs.Files.{HasCauses};
@@ -14,7 +14,7 @@ ghost use Rattle.journey_model.specs.Known.{parts_of};
 ghost use Rattle.journey_report.specs.Findings.{findings_of, no_findings};
 ghost use Rattle.meat_engine.specs.Refusals.{known_of, IsRefusalBy, by_fault};
 ghost use Rattle.meat_engine.specs.Received.{path_in, AnswersJob, FailsJob, IsLineTold, IsWritten, IsRefusedWith};
-ghost use Rattle.meat_engine.specs.Runs.{IsRun, files_state, sink_state};
+ghost use Rattle.meat_engine.specs.RunPromises.{IsRun, files_state, sink_state};
 
 use crate::asks::journey_over;
 use crate::refusal::Refusal;

@@ -15,7 +15,7 @@ use Rattle.plan_model.specs.Unfold.{end_of, kids_after, ride_of, ride_or_stuck, 
 use Rattle.stop_profile.specs.declared.Row.{Row}
 use Rattle.stop_profile.specs.Inserts.{row_in_time}
 use Rattle.trip_exit.specs.Offers.{Exit}
-use Rattle.meat_scan.specs.Found.{Found, found_rows, leg_choice, chosen_at, chosen_by}
+use Rattle.meat_scan.specs.ScanResult.{ScanResult, found_rows, leg_choice, chosen_at, chosen_by}
 use Rattle.meat_scan.specs.Solves.{IsSafeAt, HasAnswers, SolvesEach, IsStartAnswer, SolvesStart}
 use Rattle.meat_scan.proofs.Ways.{boards-limit_of}
 use Rattle.stop_profile.proofs.Looks.{picked_in_time}
@@ -95,7 +95,7 @@ module _ {V : Type 0} (n : NetworkModel) (target deadline : ℕ) (choice : ℕ �
       (kids_after-chosen kids (count n - 1) leg (outcomes n exit) (to_of n exit) (arr_of n exit) (ap (to_of n) exits) (omega arith) safe is)
 
 module _ {V : Type 0} (below covers : V → Tree → Type 0) (gap rank : V → ℕ) (n : NetworkModel) (q : Query) (scanned : ℕ → Type 0)
-    (all : (id : ℕ) → id < count n → scanned id) (differ : q.source.0 ≢ q.target.0) (found : Found V) (exits : ℕ → Option (Exit V))
+    (all : (id : ℕ) → id < count n → scanned id) (differ : q.source.0 ≢ q.target.0) (found : ScanResult V) (exits : ℕ → Option (Exit V))
     (ok : ScanOk below covers gap rank n q scanned (count n) (found_rows found) exits found.start) where
   -- the leg of the row that is picked
   leg_choice-row_in_time : (place arrival : ℕ) → leg_choice found place arrival ≡ option_map (λ row. row.leg) (row_in_time arrival (found_rows found place))
@@ -165,7 +165,7 @@ module _ {V : Type 0} (below covers : V → Tree → Type 0) (gap rank : V → �
   scan_ok_start = grind (arith, common_steps, nat_tests)
 
 -- the tree that the start leg chooses is the one
-start_solved : {V : Type 0} (below covers : V → Tree → Type 0) (gap : V → ℕ) (n : NetworkModel) (q : Query) (found : Found V) (start : Option (V × Leg))
+start_solved : {V : Type 0} (below covers : V → Tree → Type 0) (gap : V → ℕ) (n : NetworkModel) (q : Query) (found : ScanResult V) (start : Option (V × Leg))
     → MatchOption start ((tree : Tree) → IsSafeFor n q tree → ⊥) (IsStartAnswer below covers gap n q found)
     → SolvesStart below covers gap n q (option_map (λ s. s.0) start)
 start_solved below covers gap n q found None none = none
@@ -177,7 +177,7 @@ start_solved below covers gap n q found (Some start) answer = record {
   gap_within = answer.gap_within;
 }
 
-pub value_solved : {V : Type 0} (below covers : V → Tree → Type 0) (gap : V → ℕ) (n : NetworkModel) (q : Query) (found : Found V) (start : Option (V × Leg))
+pub value_solved : {V : Type 0} (below covers : V → Tree → Type 0) (gap : V → ℕ) (n : NetworkModel) (q : Query) (found : ScanResult V) (start : Option (V × Leg))
     (value : Option V) → MatchOption start ((tree : Tree) → IsSafeFor n q tree → ⊥) (IsStartAnswer below covers gap n q found)
     → value ≡ option_map (λ s. s.0) start → SolvesStart below covers gap n q value
 value_solved below covers gap n q found start value answer is = grind (arith, common_steps, nat_tests)

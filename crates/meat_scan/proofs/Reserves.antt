@@ -11,7 +11,7 @@ use Rattle.plan_model.specs.Network.{count, run_of, no_connection, IsValid}
 use Rattle.plan_model.proofs.ScanOrders.{count_in_order}
 use Rattle.stop_profile.specs.Shown.{ShownProfile}
 use Rattle.trip_exit.specs.Offers.{Exit}
-use Rattle.meat_scan.specs.Tables.{rows_of_profile, spare_at, exit_at, has_way, FitsTables, ShownTables, capacity_at, IsEmpty}
+use Rattle.meat_scan.specs.ScanTables.{rows_of_profile, spare_at, exit_at, has_way, FitsTables, ShownTables, capacity_at, IsEmpty}
 
 -- one connection more is counted, where it passes
 pub count_by-take_more : (p : Connection → Bool) (connections : List Connection) (i : ℕ) → i < length connections

@@ -19,8 +19,8 @@ use Rattle.stop_profile.specs.Shown.{ShownProfile}
 use Rattle.trip_exit.specs.Offers.{Exit}
 use Rattle.meat_scan.specs.Step.{exits_next, rows_next, start_next, left_by, boarding_exit}
 use Rattle.meat_scan.specs.Rules.{Kept, kept_next, kept_after, FollowsRules}
-use Rattle.meat_scan.specs.Tables.{rows_of_profile, spare_at, exit_at, has_way, boardable, HasRoom, IsEmpty}
-use Rattle.meat_scan.specs.Found.{Found, found_rows}
+use Rattle.meat_scan.specs.ScanTables.{rows_of_profile, spare_at, exit_at, has_way, boardable, HasRoom, IsEmpty}
+use Rattle.meat_scan.specs.ScanResult.{ScanResult, found_rows}
 use Rattle.meat_scan.specs.Solves.{HasAnswers}
 use Rattle.meat_scan.proofs.ScanStep.{ScanOk, scan_ok_step}
 use Rattle.meat_scan.proofs.Ends.{scan_ok_start, solves_end}
@@ -81,7 +81,7 @@ module _ {V : Type 0} {below covers : V → Tree → Type 0} {gap rank : V → �
       }
 
   -- after the last
-  pub last_state : (rest : List ConnectionId) (profiles : List (ShownProfile V)) (exits : List (Option (Exit V))) (found : Found V)
+  pub last_state : (rest : List ConnectionId) (profiles : List (ShownProfile V)) (exits : List (Option (Exit V))) (found : ScanResult V)
       → query.source.0 ≢ query.target.0 → rest ≡ [] → found_rows found ≡ rows_of_profile profiles
       → ScanState below covers gap rank lowered arrived blended network query order rest profiles exits found.start → HasAnswers below covers gap network query found
   last_state rest profiles exits found differ none rows_are state =
@@ -91,7 +91,7 @@ module _ {V : Type 0} {below covers : V → Tree → Type 0} {gap rank : V → �
       solves_end below covers gap rank network query (Known Never state.taken) known differ found (exit_at exits) (rw (rows_are, ← all_count) state.ok)
 
   -- what was found follows the rules
-  pub rules_end : (rest : List ConnectionId) (profiles : List (ShownProfile V)) (exits : List (Option (Exit V))) (found : Found V) → rest ≡ []
+  pub rules_end : (rest : List ConnectionId) (profiles : List (ShownProfile V)) (exits : List (Option (Exit V))) (found : ScanResult V) → rest ≡ []
       → found_rows found ≡ rows_of_profile profiles
       → ScanState below covers gap rank lowered arrived blended network query order rest profiles exits found.start
       → FollowsRules rank lowered arrived blended network query order found

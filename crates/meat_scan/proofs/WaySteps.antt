@@ -17,7 +17,7 @@ use Rattle.plan_model.specs.Ways.{ways_into}
 use Rattle.plan_model.proofs.Boarding.{way_of-listed, way_takes, ways_into-distinct}
 use Rattle.stop_profile.specs.declared.Row.{Row}
 use Rattle.meat_scan.specs.Step.{with_way, way_of_place}
-use Rattle.meat_scan.specs.Tables.{has_way}
+use Rattle.meat_scan.specs.ScanTables.{has_way}
 
 -- the way from a place, in a list of them
 abbrev pub way_in : List Way → ℕ → Option Way

@@ -1,6 +1,6 @@
 pub mod Values
 pub mod Step
-pub mod Found
+pub mod ScanResult
 pub mod Rules
 pub mod Solves
-pub mod Tables
+pub mod ScanTables

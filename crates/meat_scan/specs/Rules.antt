@@ -8,7 +8,7 @@ use Rattle.plan_model.specs.NetworkModel.{NetworkModel}
 use Rattle.stop_profile.specs.declared.Row.{Row}
 use Rattle.trip_exit.specs.Offers.{Exit}
 use Rattle.meat_scan.specs.Step.{rows_next, exits_next, start_next}
-use Rattle.meat_scan.specs.Found.{Found, found_rows}
+use Rattle.meat_scan.specs.ScanResult.{ScanResult, found_rows}
 
 -- the rows of the places, the exits of the runs, and the start leg
 pub record Kept (V : Type 0) : Type 0 where
@@ -33,6 +33,6 @@ kept_after rank lowered arrived blended network query (id ∷ later) =
 -- what was found is what the rules keep of all connections, in the scan order: so the better value is kept, on a tie the one
 -- that the scan took earlier, and a connection is a row of each place from which a way leads to it, up to its limit there
 pub record FollowsRules {V : Type 0} (rank : V → ℕ) (lowered : V → V → V) (arrived : ℕ → V) (blended : List Outcome → List V → V) (network : NetworkModel)
-    (query : Query) (order : List ConnectionId) (found : Found V) : Type 0 where
+    (query : Query) (order : List ConnectionId) (found : ScanResult V) : Type 0 where
   pub rows : (place : ℕ) → found_rows found place ≡ (kept_after rank lowered arrived blended network query order).rows place
   pub start : found.start ≡ (kept_after rank lowered arrived blended network query order).start

@@ -7,7 +7,7 @@ use Rattle.plan_model.specs.Network.{count}
 use Rattle.plan_model.specs.Tree.{Tree}
 use Rattle.plan_model.specs.Strategy.{IsSafe, IsSafeFor}
 use Rattle.plan_model.specs.Choices.{IsKept}
-use Rattle.meat_scan.specs.Found.{Found, choice_of, leg_choice, chosen_at, chosen_by}
+use Rattle.meat_scan.specs.ScanResult.{ScanResult, choice_of, leg_choice, chosen_at, chosen_by}
 
 -- the tree is safe after an arrival at a place
 abbrev pub IsSafeAt : NetworkModel → Query → ℕ → ℕ → Tree → Type 0
@@ -15,7 +15,7 @@ IsSafeAt network query place arrival tree = IsSafe network query.target.0 (Some 
 
 -- the choice after an arrival: its tree is safe, its value covers that tree and is below every safe one, within the gap,
 -- and its leg is kept up to its limit
-pub record SolvesEach {V : Type 0} (below covers : V → Tree → Type 0) (gap : V → ℕ) (network : NetworkModel) (query : Query) (found : Found V) (place arrival : ℕ) (answer : V × Leg) : Type 0 where
+pub record SolvesEach {V : Type 0} (below covers : V → Tree → Type 0) (gap : V → ℕ) (network : NetworkModel) (query : Query) (found : ScanResult V) (place arrival : ℕ) (answer : V × Leg) : Type 0 where
   pub safe : IsSafeAt network query place arrival (chosen_at network query found place arrival)
   pub covers_chosen : covers answer.0 (chosen_at network query found place arrival)
   pub below_safe : (tree : Tree) → IsSafeAt network query place arrival tree → below answer.0 tree
@@ -23,14 +23,14 @@ pub record SolvesEach {V : Type 0} (below covers : V → Tree → Type 0) (gap :
   pub kept : IsKept network (leg_choice found) place arrival answer.1
 
 -- the start leg with its value
-pub record IsStartAnswer {V : Type 0} (below covers : V → Tree → Type 0) (gap : V → ℕ) (network : NetworkModel) (query : Query) (found : Found V) (start : V × Leg) : Type 0 where
+pub record IsStartAnswer {V : Type 0} (below covers : V → Tree → Type 0) (gap : V → ℕ) (network : NetworkModel) (query : Query) (found : ScanResult V) (start : V × Leg) : Type 0 where
   pub safe : IsSafeFor network query (chosen_by network query found start.1)
   pub covers_chosen : covers start.0 (chosen_by network query found start.1)
   pub below_safe : (tree : Tree) → IsSafeFor network query tree → below start.0 tree
   pub gap_within : gap start.0 ≤ count network
 
 -- the answers from the start and after each arrival at each place; none exactly where nothing is safe
-pub record HasAnswers {V : Type 0} (below covers : V → Tree → Type 0) (gap : V → ℕ) (network : NetworkModel) (query : Query) (found : Found V) : Type 0 where
+pub record HasAnswers {V : Type 0} (below covers : V → Tree → Type 0) (gap : V → ℕ) (network : NetworkModel) (query : Query) (found : ScanResult V) : Type 0 where
   pub begins : MatchOption found.start ((tree : Tree) → IsSafeFor network query tree → ⊥) (IsStartAnswer below covers gap network query found)
   pub goes_on : (place arrival : ℕ) → place ≢ query.target.0 →
       MatchOption (choice_of found place arrival)
@@ -38,7 +38,7 @@ pub record HasAnswers {V : Type 0} (below covers : V → Tree → Type 0) (gap :
       (SolvesEach below covers gap network query found place arrival)
 
 -- what was found solves the query
-pub record Solves {V : Type 0} (below covers : V → Tree → Type 0) (gap : V → ℕ) (found : Found V) (network : NetworkModel) (query : Query) : Type 0 where
+pub record Solves {V : Type 0} (below covers : V → Tree → Type 0) (gap : V → ℕ) (found : ScanResult V) (network : NetworkModel) (query : Query) : Type 0 where
   pub as_many : length found.rows ≡ length network.change
   pub same_target : found.target ≡ query.target.0
   pub source_there : query.source.0 < length network.change

@@ -13,8 +13,8 @@ ghost use Rattle.plan_model.specs.Bounds.{most_connections, end_of_arrivals, end
 ghost use Rattle.plan_model.specs.Network.{count, from_of, run_of, IsValid};
 ghost use Rattle.plan_model.specs.Order.{IsScanOrder};
 ghost use Rattle.std.specs.Option.{option_map};
-ghost use Rattle.meat_scan.specs.Tables.{rows_of_profile, spare_at, capacity_at, exit_at, has_way, ways_between, FitsTables, IsEmpty};
-ghost use Rattle.meat_scan.specs.Found.{choice_of, found_in};
+ghost use Rattle.meat_scan.specs.ScanTables.{rows_of_profile, spare_at, capacity_at, exit_at, has_way, ways_between, FitsTables, IsEmpty};
+ghost use Rattle.meat_scan.specs.ScanResult.{choice_of, found_in};
 ghost use Rattle.meat_scan.specs.Values.{value_after_arrival, values_after};
 ghost use Rattle.meat_scan.specs.Step.{left_by, exits_with, way_of_place, with_way, rows_with, start_with};
 ghost use Rattle.meat_scan.specs.Step.{boarding_exit, rows_next, exits_next};
@@ -291,7 +291,7 @@ pub struct ScanTables<V: Score> {
 }
 
 impl<V: Score> Model for ScanTables<V> {
-    ghost use Rattle.meat_scan.specs.Tables.{ShownTables};
+    ghost use Rattle.meat_scan.specs.ScanTables.{ShownTables};
 
     ghost Value = { ShownTables V };
 
@@ -312,9 +312,9 @@ pub struct Scanned<V: Score> {
 
 impl<V: Score> Model for Scanned<V> {
     ghost use Rattle.std.specs.Prelude.{map};
-    ghost use Rattle.meat_scan.specs.Found.{Found};
+    ghost use Rattle.meat_scan.specs.ScanResult.{ScanResult};
 
-    ghost Value = { Found V };
+    ghost Value = { ScanResult V };
 
     ghost view = { λ s. record {
       start = s.start;

@@ -20,7 +20,7 @@ pub push_stands : {T : Type 0} (es : List (Named T)) (q : List ℕ) (w : Named T
     → position (at_path q) (es ++ w ∷ []) ≡ Some (length es)
 push_stands es q w path h =
     let own : at_path q (get_or (es ++ w ∷ []) (length es) w) ≡ true = ap (at_path q) (get_or_push es w w (length es) refl)
-        ∙ (bytes_eq-Decides (string_bytes w.path) q).1 path in
+    ∙ (bytes_eq-Decides (string_bytes w.path) q).1 path in
     let last = position_or_len_is (at_path q) (es ++ w ∷ []) (length es) w (omega (arith, length-append es (w ∷ [])))
     (λ k l. ap (at_path q) (get_or_append_left es (w ∷ []) w k l) ∙ none_at (at_path q) es h k w l) (λ l. own) in
     grind (arith, common_steps, last)
@@ -61,7 +61,7 @@ same_by : {A : Type 0} (f : Option Failing → A) (es : List (Named Failing)) (q
     → f (if◌then◌else◌ (bytes_eq q p) (Some x) (value_at es p)) ≡ f (value_at es p)
 same_by f es q p x h =
     cond_both (bytes_eq q p) (Some x) (value_at es p) (λ o. f o ≡ f (value_at es p)) (λ e. h
-        ∙ ap (λ z. f (value_at es z)) ((bytes_eq-Decides q p).0 e)) (λ e. refl)
+    ∙ ap (λ z. f (value_at es z)) ((bytes_eq-Decides q p).0 e)) (λ e. refl)
 
 pub count_elsewhere : (es : List (Named Failing)) (q p : List ℕ) (i n : ℕ) (e : Named Failing) → Stands es q i e → p ≢ q
     → faults_in (set es i (counted e n)) p ≡ faults_in es p
@@ -79,7 +79,7 @@ pub count_later : (es : List (Named Failing)) (q p : List ℕ) (i n : ℕ) (e : 
 count_later es q p i n e s h = rw (set_value es q p i n e s) (
     cond_both (bytes_eq q p) (Some (counted e n).value) (value_at es p) (λ o. faults_in es p ≤ count_of o)
     (λ same. let k : faults_in es p ≡ e.value.faults = ap (λ z. faults_in es z) (sym ((bytes_eq-Decides q p).0 same))
-        ∙ ap count_of (found es q i e s) in omega (arith, k, h))
+    ∙ ap count_of (found es q i e s) in omega (arith, k, h))
     (λ other. omega arith))
 
 -- this entry with these calls

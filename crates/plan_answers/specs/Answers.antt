@@ -11,14 +11,14 @@ use Rattle.decision_graph.specs.Expanded.{IsExpanded}
 use Rattle.decision_graph.specs.Planned.{IsPlanned}
 use Rattle.graph_text.specs.declared.Head.{Head}
 use Rattle.graph_text.specs.Reading.{IsReadAs}
-use Rattle.graph_text.specs.Texts.{expanded_text, graph_text}
+use Rattle.graph_text.specs.GraphTexts.{expanded_text, graph_text}
 use Rattle.printed_rows.specs.Writers.{place_name}
 use Rattle.journey_model.specs.declared.faults.Fault.{Fault}
 use Rattle.journey_model.specs.declared.faults.Fault.TheVariants.{NoSafe}
 use Rattle.journey_model.specs.Sites.{last_printable}
 use Rattle.journey_model.specs.declared.problem.Problem.{Problem}
 use Rattle.journey_report.specs.Findings.{Findings, safe_findings, expand_findings, plan_findings}
-use Rattle.journey_report.specs.Texts.{safe_text}
+use Rattle.journey_report.specs.AnswerTexts.{safe_text}
 use Rattle.plan_model.specs.Bounds.{end_of_time, last_start}
 use Rattle.journey_model.specs.Wants.{OrNoMemory}
 

@@ -6,7 +6,7 @@ use Rattle.lower_proof.specs.declared.LowerBounds.{LowerBounds}
 use Rattle.lower_proof.specs.Certificates.{IsTight}
 use Rattle.lower_proof.specs.Promises.{IsBestCertificate}
 use Rattle.lower_proof.specs.Reading.{ReadsBack}
-use Rattle.lower_proof.specs.Texts.{proof_text}
+use Rattle.lower_proof.specs.CertificateTexts.{proof_text}
 use Rattle.journey_model.specs.declared.problem.Problem.{Problem}
 use Rattle.journey_report.specs.Findings.{Findings, certify_findings}
 

@@ -5,13 +5,13 @@ use Rattle.plan_model.specs.declared.model.Query.{Query}
 use Rattle.interval_fixed.specs.Interval.{Interval}
 use Rattle.plan_graph.specs.declared.PlanGraph.{PlanGraph}
 use Rattle.plan_graph.specs.Unfold.{unfold_plan}
-use Rattle.graph_text.specs.Texts.{graph_text}
+use Rattle.graph_text.specs.GraphTexts.{graph_text}
 use Rattle.graph_score.specs.Scores.{IsScored}
 use Rattle.late_chance.specs.Punctual.{IsPunctual}
 use Rattle.journey_model.specs.declared.problem.Problem.{Problem}
 use Rattle.plan_answers.specs.Answers.{head_of}
 use Rattle.journey_report.specs.Findings.{Findings, punctual_findings}
-use Rattle.journey_report.specs.Texts.{punctual_row}
+use Rattle.journey_report.specs.AnswerTexts.{punctual_row}
 
 -- a decision graph by place is told with bounds of its chance to arrive after the promised moment, which is the least, and of its
 -- expected arrival

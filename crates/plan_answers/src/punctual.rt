@@ -10,12 +10,12 @@ ghost use Rattle.late_chance.specs.Chances.{promised, seconds_per_week};
 ghost use Rattle.late_chance.specs.Punctual.{IsPunctual, asked_for, seen_for};
 ghost use Rattle.command_line.specs.Ranges.{IsPercentage};
 ghost use Rattle.journey_model.specs.Sites.{last_printable};
-ghost use Rattle.graph_text.specs.Texts.{graph_text};
+ghost use Rattle.graph_text.specs.GraphTexts.{graph_text};
 ghost use Rattle.plan_answers.specs.Answers.{InQuery, IsPrintable, FailsIn, head_of};
 ghost use Rattle.journey_report.specs.Findings.{findings_of, punctual_findings};
 ghost use Rattle.plan_model.specs.Bounds.{end_of_time, last_start};
 ghost use Rattle.plan_answers.specs.Punctual.{TellsPunctual};
-ghost use Rattle.journey_report.specs.Texts.{punctual_row};
+ghost use Rattle.journey_report.specs.AnswerTexts.{punctual_row};
 
 use crate::answers::{Asked, asked_of};
 use decision_graph::{ScoredPlan, plan_by};

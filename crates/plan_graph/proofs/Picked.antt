@@ -7,7 +7,7 @@ use Rattle.plan_model.specs.declared.model.Leg.{Leg}
 use Rattle.plan_model.specs.NetworkModel.{NetworkModel}
 use Rattle.plan_graph.specs.declared.GraphRow.{GraphRow}
 use Rattle.plan_graph.specs.declared.PlaceTable.{PlaceTable}
-use Rattle.plan_graph.specs.Rows.{pick_row, pick_at, rows_of_place, is_table_of}
+use Rattle.plan_graph.specs.PickedRows.{pick_row, pick_at, rows_of_place, is_table_of}
 use Rattle.plan_graph.specs.Ready.{IsLegOf}
 use Rattle.plan_graph.specs.Tidy.{IsFitRow, IsFitTable}
 

@@ -9,7 +9,7 @@ use Rattle.std.proofs.lemmas.List.Recursion.{found_at, found_nowhere}
 use Rattle.plan_model.specs.declared.model.Leg.{Leg}
 use Rattle.plan_graph.specs.declared.GraphRow.{GraphRow}
 use Rattle.plan_graph.specs.declared.Ride.{Ride}
-use Rattle.plan_graph.specs.Rows.{pick_row, rows_after, is_ride_of, Precedes, leg_lt}
+use Rattle.plan_graph.specs.PickedRows.{pick_row, rows_after, is_ride_of, Precedes, leg_lt}
 
 -- rides that rise are parted by a leg
 leg_before : (a b : Leg) → Precedes a b → leg_lt a b ≡ true

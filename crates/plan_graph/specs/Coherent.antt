@@ -6,7 +6,7 @@ use Rattle.plan_model.specs.Unfold.{end_of, arrival_of, outcomes_of}
 use Rattle.plan_graph.specs.declared.GraphRow.{GraphRow}
 use Rattle.plan_graph.specs.declared.Ride.{Ride}
 use Rattle.plan_graph.specs.declared.ExpandedGraph.{ExpandedGraph}
-use Rattle.plan_graph.specs.Rows.{pick_row}
+use Rattle.plan_graph.specs.PickedRows.{pick_row}
 
 -- the row stands after some ride that ends at the place
 abbrev pub IsRowAt : NetworkModel → ExpandedGraph → ℕ → GraphRow → Type 0

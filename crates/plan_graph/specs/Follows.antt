@@ -7,7 +7,7 @@ use Rattle.plan_model.specs.Choices.{IsKept}
 use Rattle.plan_model.specs.Unfold.{end_of, arrival_of, outcomes_of}
 use Rattle.plan_graph.specs.declared.Ride.{Ride}
 use Rattle.plan_graph.specs.declared.ExpandedGraph.{ExpandedGraph}
-use Rattle.plan_graph.specs.Rows.{pick_row}
+use Rattle.plan_graph.specs.PickedRows.{pick_row}
 
 -- away from the target, what is chosen is kept up to its leg's limit
 abbrev pub IsSteady : NetworkModel → ℕ → (ℕ → ℕ → Option Leg) → Type 0

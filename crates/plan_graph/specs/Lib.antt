@@ -1,4 +1,4 @@
-pub mod Rows
+pub mod PickedRows
 pub mod Unfold
 pub mod Ready
 pub mod Coherent

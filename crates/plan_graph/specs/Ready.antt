@@ -11,7 +11,7 @@ use Rattle.plan_model.specs.Unfold.{end_of, arrival_of, outcomes_of}
 use Rattle.plan_graph.specs.declared.GraphRow.{GraphRow}
 use Rattle.plan_graph.specs.declared.Ride.{Ride}
 use Rattle.plan_graph.specs.declared.ExpandedGraph.{ExpandedGraph}
-use Rattle.plan_graph.specs.Rows.{pick_row, Precedes}
+use Rattle.plan_graph.specs.PickedRows.{pick_row, Precedes}
 use Rattle.plan_graph.specs.Unfold.{unfold_expanded}
 
 abbrev pub IsLegOf : NetworkModel → Leg → Type 0

@@ -5,7 +5,7 @@ use Rattle.plan_model.specs.Tree.{Tree}
 use Rattle.plan_model.specs.Unfold.{unfolding_of, by_place}
 use Rattle.plan_graph.specs.declared.ExpandedGraph.{ExpandedGraph}
 use Rattle.plan_graph.specs.declared.PlanGraph.{PlanGraph}
-use Rattle.plan_graph.specs.Rows.{pick_after, pick_at}
+use Rattle.plan_graph.specs.PickedRows.{pick_after, pick_at}
 
 -- by the legs that the rows after each ride pick
 abbrev pub unfold_expanded : ExpandedGraph → NetworkModel → Query → Tree

@@ -3,7 +3,7 @@
 
 ghost use Rattle.std.specs.Prelude.{◌≡◌, nat_le, find};
 ghost use Rattle.std.specs.Option.{option_copied};
-ghost use Rattle.plan_graph.specs.Rows.{pick_row, pick_after, pick_at, is_ride_of, is_table_of, leg_lt, HasRisingRides};
+ghost use Rattle.plan_graph.specs.PickedRows.{pick_row, pick_after, pick_at, is_ride_of, is_table_of, leg_lt, HasRisingRides};
 
 use plan_model::{Leg, List, Moment, PlaceId};
 

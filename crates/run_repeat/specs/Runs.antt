@@ -1,6 +1,6 @@
 -- The runs of a trip that repeats, by one of its rows.
 use Rattle.std.specs.Prelude.{ℕ, ℤ, pos, ◌+◌, ◌*◌, ◌<◌, ◌<ℤ◌, ◌≤ℤ◌}
-use Rattle.stop_times.specs.Bounds.{end_of_times}
+use Rattle.stop_times.specs.StopTimeBounds.{end_of_times}
 use Rattle.trip_frequencies.specs.declared.frequencies.FrequencyRow.{FrequencyRow}
 
 -- each departs a headway after the one before, from the row's start on

@@ -1,6 +1,6 @@
 //! The runs of a row.
 ghost use Rattle.std.specs.Prelude.{◌≡◌, ◌+◌, ◌<◌, ◌≤◌, ◌≤ℤ◌, ◌<ℤ◌, pos, ℕ};
-ghost use Rattle.stop_times.specs.Bounds.{end_of_times};
+ghost use Rattle.stop_times.specs.StopTimeBounds.{end_of_times};
 ghost use Rattle.run_repeat.specs.Runs.{AreBelow, AreTimes, IsRunOf, PassesBefore, PassesUpTo, departure};
 
 use gtfs_tables::FrequencyRow;

@@ -7,7 +7,7 @@ ghost use Rattle.plan_model.specs.Order.{IsScanOrder};
 ghost use Rattle.plan_model.specs.Strategy.{IsSafeFor, IsLeastWorst, deadline_of};
 ghost use Rattle.plan_model.specs.Network.{IsValid};
 ghost use Rattle.plan_model.specs.Tree.{Tree};
-ghost use Rattle.meat_scan.specs.Tables.{FitsTables};
+ghost use Rattle.meat_scan.specs.ScanTables.{FitsTables};
 
 use meat_scan::{ScanTables, start_value};
 use plan_model::{BackwardOrder, Moment, Network, PlaceId, Query};

@@ -9,7 +9,7 @@ use Rattle.csv_rows.proofs.SpaceLemmas.{IsTrimmed-field}
 use Rattle.plan_model.specs.NameLists.{IsTrimmed}
 use Rattle.service_days.specs.declared.dates.DateColumns.{DateColumns}
 use Rattle.service_days.specs.Dates.{ServiceDate, date_from, date_columns, date_in, date_at_row}
-use Rattle.service_days.specs.Forms.{adds_in}
+use Rattle.service_days.specs.CalendarForms.{adds_in}
 use Rattle.plan_model.proofs.Results.{require-ok}
 
 -- the row by where the columns stand

@@ -16,7 +16,7 @@ use Rattle.csv_rows.specs.Names.{name_in}
 use Rattle.csv_rows.specs.RowFaults.{first_lack}
 use Rattle.csv_rows.specs.Tables.{row_count, place_of, field_at}
 use Rattle.service_days.specs.declared.dates.DateColumns.{DateColumns}
-use Rattle.service_days.specs.Forms.{adds_in}
+use Rattle.service_days.specs.CalendarForms.{adds_in}
 
 -- a service, a day, and whether it is added or removed
 pub record ServiceDate : Type 0 where

@@ -1,4 +1,4 @@
-pub mod Forms
+pub mod CalendarForms
 pub mod Periods
 pub mod Dates
 pub mod Exceptions

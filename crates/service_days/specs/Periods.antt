@@ -19,7 +19,7 @@ use Rattle.csv_rows.specs.Tables.{row_count, place_of, field_at, field}
 use Rattle.service_days.specs.declared.periods.Week.{Week}
 use Rattle.service_days.specs.declared.periods.Period.{Period}
 use Rattle.service_days.specs.declared.periods.PeriodColumns.{PeriodColumns}
-use Rattle.service_days.specs.Forms.{weekday_flag_in}
+use Rattle.service_days.specs.CalendarForms.{weekday_flag_in}
 
 -- the flag of a weekday, from 0 for Monday to 6 for Sunday
 abbrev pub flag_of : Week → ℕ → Bool

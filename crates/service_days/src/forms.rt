@@ -1,6 +1,6 @@
 //! The forms of the fields of the calendars (GTFS Schedule reference).
 ghost use Rattle.std.specs.Prelude.{◌≡◌};
-ghost use Rattle.service_days.specs.Forms.{weekday_flag_in, adds_in};
+ghost use Rattle.service_days.specs.CalendarForms.{weekday_flag_in, adds_in};
 
 /// The flag of a weekday.
 pub(crate) fn read_flag(text: &[u8]) -> Option<bool>

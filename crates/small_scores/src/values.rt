@@ -1,6 +1,6 @@
 //! Scores through their bound, and the chance of being late.
 ghost use Rattle.std.specs.Prelude.{◌≡◌, length};
-ghost use Rattle.plan_model.specs.Rows.{IsValidRow};
+ghost use Rattle.plan_model.specs.DelayRows.{IsValidRow};
 
 use late_chance::{LateChance, sooner, write_chance};
 use plan_model::{Moment, Outcome, PlaceId, Query};

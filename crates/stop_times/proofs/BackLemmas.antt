@@ -13,7 +13,7 @@ use Rattle.csv_rows.proofs.FirstLemmas.{first-is, first-told}
 use Rattle.csv_rows.proofs.KeyLemmas.{AreApart, no_twins, asked_before}
 use Rattle.stop_times.specs.declared.rows.TimedRow.{TimedRow}
 use Rattle.stop_times.specs.StopTimes.{trip_of, sequence_of, is_kept, stop_arrival, departure_of, just_before, goes_back, repeated_time, backward_time}
-use Rattle.stop_times.specs.Keys.{AreKeysOf, is_taken, goes_back_after, backward_after}
+use Rattle.stop_times.specs.StopTimeKeys.{AreKeysOf, is_taken, goes_back_after, backward_after}
 
 pub apart : (rows : List TimedRow) → first_below (repeated_time rows) (length rows) ≡ None → AreApart (trip_of rows) (sequence_of rows) (length rows)
 unfolding repeated_time

@@ -9,7 +9,7 @@ use Rattle.csv_rows.specs.declared.keys.Key.{Key}
 use Rattle.csv_rows.specs.Keys.{no_key, key_at, IsAtMost}
 use Rattle.stop_times.specs.declared.rows.TimedRow.{TimedRow}
 use Rattle.stop_times.specs.StopTimes.{trip_of, sequence_of, is_kept}
-use Rattle.stop_times.specs.Keys.{AreKeysOf}
+use Rattle.stop_times.specs.StopTimeKeys.{AreKeysOf}
 
 all_of : (P : Key → Type 0) (keys : List Key) → ((k : ℕ) → k < length keys → P (key_at keys k)) → All P keys
 all_of P keys each = λ k d h. subst P (get_or_default keys k no_key d h) (each k h)

@@ -20,11 +20,11 @@ use Rattle.csv_rows.specs.Records.{field_of}
 use Rattle.csv_rows.specs.Tables.{place_in}
 use Rattle.stop_times.specs.declared.rows.StopRow.{StopRow}
 use Rattle.stop_times.specs.declared.rows.TimedRow.{TimedRow}
-use Rattle.stop_times.specs.Forms.{allows_in, time_in}
+use Rattle.stop_times.specs.StopTimeForms.{allows_in, time_in}
 use Rattle.stop_times.specs.StopTimes.{time_columns, number_in, times_of, visit_of, timed_from, timed_at, no_row}
 use Rattle.clock_text.proofs.DigitLemmas.{whole_bound}
 use Rattle.csv_rows.proofs.RowLemmas.{optional-each, place_inside}
-use Rattle.stop_times.specs.Bounds.{end_of_times}
+use Rattle.stop_times.specs.StopTimeBounds.{end_of_times}
 use Rattle.plan_model.proofs.Results.{require-each}
 
 -- a kept row stands at the place of a stop, at times of at most 167 hours

@@ -12,7 +12,7 @@ use Rattle.csv_rows.specs.Keys.{key_at, IsRising}
 use Rattle.csv_rows.specs.Lists.{list_below}
 use Rattle.stop_times.specs.StopTimes.{row_at, trip_of, sequence_of, repeated_time}
 use Rattle.stop_times.specs.Bounded.{IsBounded, rows_between, parted}
-use Rattle.stop_times.specs.Keys.{AreKeysOf, is_taken}
+use Rattle.stop_times.specs.StopTimeKeys.{AreKeysOf, is_taken}
 use Rattle.stop_times.specs.Visits.{no_visit, visit_or_none, visit_at, IsVisit, AreStopTimes, IsSpanOf}
 use Rattle.csv_rows.proofs.KeyLemmas.{less_group, rises}
 use Rattle.csv_rows.proofs.ListLemmas.{length-list_below, get-list_below}

@@ -1,8 +1,8 @@
-pub mod Bounds
-pub mod Forms
+pub mod StopTimeBounds
+pub mod StopTimeForms
 pub mod StopTimes
 pub mod StoredRows
-pub mod Keys
+pub mod StopTimeKeys
 pub mod Visits
 pub mod Timetables
 pub mod Bounded

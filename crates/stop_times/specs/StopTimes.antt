@@ -19,7 +19,7 @@ use Rattle.stop_times.specs.declared.rows.StopRow.{StopRow}
 use Rattle.stop_times.specs.declared.rows.TimedRow.{TimedRow}
 use Rattle.stop_times.specs.declared.rows.TimeColumns.{TimeColumns}
 use Rattle.csv_rows.specs.RowFaults.{lack}
-use Rattle.stop_times.specs.Forms.{allows_in, time_in}
+use Rattle.stop_times.specs.StopTimeForms.{allows_in, time_in}
 use Rattle.csv_rows.specs.Lists.{list_below}
 
 -- the number of a stop, or none where the text is empty

@@ -2,7 +2,7 @@
 ghost use Rattle.std.specs.Prelude.{◌≡◌, ◌<◌, ◌≤◌, ◌^◌, length, true, false, None, IfOk, IfSome};
 ghost use Rattle.std.specs.List.{filter};
 ghost use Rattle.csv_rows.specs.First.{first_below};
-ghost use Rattle.stop_times.specs.Keys.{AreKeysOf, goes_back_after, backward_after};
+ghost use Rattle.stop_times.specs.StopTimeKeys.{AreKeysOf, goes_back_after, backward_after};
 ghost use Rattle.stop_times.specs.StopTimes.{times_in, row_at, is_kept, repeated_time, backward_time};
 
 use crate::stored_row::StoredRow;

@@ -6,7 +6,7 @@ ghost use Rattle.csv_rows.specs.Records.{field_of};
 ghost use Rattle.csv_rows.specs.declared.feed_tables.FeedFault.{FeedFault};
 ghost use Rattle.stop_times.specs.declared.rows.TimedRow.{TimedRow};
 ghost use Rattle.stop_times.specs.StopTimes.{number_in, times_of, visit_of, columns_of, timed_of, missing_time_column, row_from_trip, row_from_stop, IsTripOf, IsStopOf, IsKnownIn};
-ghost use Rattle.stop_times.specs.Forms.{time_in};
+ghost use Rattle.stop_times.specs.StopTimeForms.{time_in};
 
 use crate::forms::{read_allows, read_time_or_none};
 use clock_text::read_whole;

@@ -9,7 +9,7 @@ ghost use Rattle.csv_rows.specs.declared.feed_tables.FeedFault.{FeedFault};
 ghost use Rattle.stop_times.specs.declared.rows.TimedRow.{TimedRow};
 ghost use Rattle.stop_times.specs.Timetables.{stop_times_from};
 ghost use Rattle.stop_times.specs.StopTimes.{columns_of, timed_of, bad_time, counted_fault, timed_rows, order_fault, stop_times_fault, IsKnownIn};
-ghost use Rattle.stop_times.specs.Bounds.{most_stop_times};
+ghost use Rattle.stop_times.specs.StopTimeBounds.{most_stop_times};
 
 use crate::rows::{
     KnownTrip, Named, TimeColumns, columns_of, keep_trip, missing_column, named_trip,

@@ -3,8 +3,8 @@ ghost use Rattle.std.specs.Prelude.{◌≡◌, ◌<◌, ◌≤◌, ◌+◌, ℕ,
 ghost use Rattle.csv_rows.specs.First.{first_below};
 ghost use Rattle.csv_rows.specs.Keys.{key_at, IsRising};
 ghost use Rattle.csv_rows.specs.Lists.{list_below};
-ghost use Rattle.stop_times.specs.Bounds.{most_stop_times};
-ghost use Rattle.stop_times.specs.Keys.{AreKeysOf};
+ghost use Rattle.stop_times.specs.StopTimeBounds.{most_stop_times};
+ghost use Rattle.stop_times.specs.StopTimeKeys.{AreKeysOf};
 ghost use Rattle.stop_times.specs.StopTimes.{row_at, is_kept, repeated_time};
 ghost use Rattle.stop_times.specs.Visits.{visit_or_none, visit_at, AreStopTimes, IsSpanOf};
 

@@ -21,7 +21,7 @@ use Rattle.csv_rows.specs.Tables.{row_count, place_in, place_of, field_at}
 use Rattle.trip_frequencies.specs.declared.frequencies.FrequencyRow.{FrequencyRow}
 use Rattle.trip_frequencies.specs.declared.frequencies.TripFrequency.{TripFrequency}
 use Rattle.trip_frequencies.specs.declared.frequencies.FrequencyColumns.{FrequencyColumns}
-use Rattle.trip_frequencies.specs.Forms.{headway_in, is_exact_in}
+use Rattle.trip_frequencies.specs.FrequencyForms.{headway_in, is_exact_in}
 
 -- the row of these fields, or the first that is not of its form or names no trip; both kinds of `exact_times` are read alike
 abbrev pub frequency_from : (trips : List (List ℕ)) (line : ℕ) (trip start end headway exact : List ℕ) → Result TripFrequency FeedFault

@@ -1,4 +1,4 @@
-pub mod Bounds
-pub mod Forms
+pub mod FrequencyBounds
+pub mod FrequencyForms
 pub mod Frequencies
 pub mod Repeats

@@ -5,7 +5,7 @@ ghost use Rattle.csv_rows.specs.declared.feed_tables.Table.TheVariants.{Frequenc
 ghost use Rattle.csv_rows.specs.RowFaults.{TellsFirst};
 ghost use Rattle.table_files.specs.Loading.{HasAtMost};
 ghost use Rattle.csv_rows.specs.Tables.{row_count};
-ghost use Rattle.trip_frequencies.specs.Bounds.{most_frequencies};
+ghost use Rattle.trip_frequencies.specs.FrequencyBounds.{most_frequencies};
 ghost use Rattle.trip_frequencies.specs.Frequencies.{AreFrequencies, frequency_rows, frequencies_fault, fault_of_frequencies, repeats_of, all_repeats_of};
 ghost use Rattle.trip_frequencies.specs.Repeats.{IsTripSpan, repeats_in, all_repeats_in};
 

@@ -6,7 +6,7 @@ ghost use Rattle.csv_rows.specs.FeedTables.{unread_of, IsFaultOf};
 ghost use Rattle.csv_rows.specs.Limits.{AreWithin};
 ghost use Rattle.table_files.specs.Loading.{HasFeedCauses, load_in};
 ghost use Rattle.table_files.specs.Required.{IsOfSomeTable};
-ghost use Rattle.trip_frequencies.specs.Bounds.{most_frequencies};
+ghost use Rattle.trip_frequencies.specs.FrequencyBounds.{most_frequencies};
 ghost use Rattle.trip_frequencies.specs.Frequencies.{frequencies_from, fault_of_frequencies, AreFrequencies};
 ghost use Rattle.trip_frequencies.specs.Repeats.{all_repeats_in};
 

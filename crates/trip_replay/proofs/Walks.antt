@@ -16,7 +16,7 @@ use Rattle.plan_model.specs.declared.model.Query.{Query}
 use Rattle.plan_model.specs.Tree.{Tree, Done, Ride, Stuck, Kids, Nil, Kid}
 use Rattle.plan_model.specs.Strategy.{IsSafe, AreSafe, IsSafeFor}
 use Rattle.plan_graph.specs.declared.PlaceTable.{PlaceTable}
-use Rattle.plan_graph.specs.Rows.{pick_at}
+use Rattle.plan_graph.specs.PickedRows.{pick_at}
 use Rattle.plan_graph.specs.Tidy.{IsFitTable}
 use Rattle.plan_graph.proofs.Picked.{picked_leg}
 use Rattle.trip_replay.specs.declared.Trace.{Trace}

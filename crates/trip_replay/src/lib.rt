@@ -6,7 +6,7 @@ ghost use Rattle.std.specs.Option.{option_map};
 ghost use Rattle.plan_model.specs.Network.{count, to_of};
 ghost use Rattle.plan_model.specs.Strategy.{IsSafeFor};
 ghost use Rattle.plan_model.specs.Unfold.{by_place, end_of, unfold_after};
-ghost use Rattle.plan_graph.specs.Rows.{pick_at};
+ghost use Rattle.plan_graph.specs.PickedRows.{pick_at};
 ghost use Rattle.plan_graph.specs.Ready.{IsLegOf};
 ghost use Rattle.plan_graph.specs.Tidy.{IsFit};
 ghost use Rattle.plan_graph.specs.Unfold.{unfold_plan};

@@ -6,7 +6,7 @@ use Rattle.std.proofs.lemmas.List.{length-map}
 use Rattle.std.proofs.lemmas.List.Elements.{All-map}
 use Rattle.plan_model.specs.declared.model.Outcome.{Outcome}
 use Rattle.plan_model.specs.Tree.{Tree, Kids, Done, Ride}
-use Rattle.plan_model.specs.Rows.{IsValidRow, EachKid}
+use Rattle.plan_model.specs.DelayRows.{IsValidRow, EachKid}
 use Rattle.plan_model.specs.Expected.{BelowBy, CoversBy}
 use Rattle.interval_fixed.specs.Interval.{Interval}
 use Rattle.interval_fixed.specs.Means.{mean_of}

@@ -3,7 +3,7 @@ use Rattle.std.proofs.Common.{arith, inl, inr}
 use Rattle.std.specs.Prelude.{◌≤◌, ◌⊎◌, List, [], ◌∷◌, refl}
 use Rattle.plan_model.specs.declared.model.Outcome.{Outcome}
 use Rattle.plan_model.specs.Tree.{Tree, Kids, Nil, Kid, worst_of}
-use Rattle.plan_model.specs.Rows.{EachKid}
+use Rattle.plan_model.specs.DelayRows.{EachKid}
 use Rattle.value_laws.specs.declared.WorstMoment.{WorstMoment}
 use Rattle.value_laws.specs.ScoreLaws.{ScoreLaws}
 use Rattle.value_laws.specs.Worsts.{worst_below, worst_covers, worst_gap, worst_rank, worst_from, worst_blended, worst_lowered, latest}

@@ -1,6 +1,6 @@
 use Rattle.std.proofs.Common.{◌∙◌, codes}
 use Rattle.file_ports.specs.Steady.{folder_of}
-use Rattle.feed_maker.specs.Tables.{stop_times_text}
+use Rattle.feed_maker.specs.MadeTables.{stop_times_text}
 use Rattle.feed_maker.specs.Made.{other_files}
 use Rattle.feed_maker.proofs.FolderLemmas.{folder_more, stop_times_first}
 use Rattle.feed_maker.proofs.make.Goals as goal

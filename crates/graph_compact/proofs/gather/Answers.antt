@@ -6,7 +6,7 @@ use Rattle.plan_model.specs.Unfold.{end_of}
 use Rattle.plan_graph.specs.Ready.{IsLegOf}
 use Rattle.plan_graph.specs.declared.Ride.{Ride}
 use Rattle.plan_graph.specs.declared.GraphRow.{GraphRow}
-use Rattle.graph_compact.specs.Tables.{put_rows, rows_in}
+use Rattle.graph_compact.specs.RowsByPlace.{put_rows, rows_in}
 use Rattle.graph_compact.proofs.Lists.{gather_step}
 use Rattle.graph_compact.proofs.gather.Goals as goal
 

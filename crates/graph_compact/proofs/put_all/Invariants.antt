@@ -1,5 +1,5 @@
 use Rattle.std.proofs.Common.{◌≡◌, drop}
-use Rattle.graph_compact.specs.Tables.{put_rows}
+use Rattle.graph_compact.specs.RowsByPlace.{put_rows}
 use Rattle.graph_compact.proofs.put_all.Given as goal
 
 -- the rows that are left are to be put

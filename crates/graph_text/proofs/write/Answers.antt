@@ -1,7 +1,7 @@
 use Rattle.std.proofs.Common.{◌≡◌, ◌≤◌, ℕ, Vec, subst, sym, Global}
 use Rattle.std.proofs.lemmas.Result.{IfOk-weaker}
 use Rattle.plan_graph.specs.Tidy.{IsFit}
-use Rattle.graph_text.specs.Texts.{graph_text}
+use Rattle.graph_text.specs.GraphTexts.{graph_text}
 use Rattle.graph_text.specs.Reading.{IsReadAs}
 use Rattle.graph_text.proofs.write.Goals as goal
 

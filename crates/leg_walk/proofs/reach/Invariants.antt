@@ -1,7 +1,7 @@
 use Rattle.std.proofs.Common.{ℕ, Option, Some}
 use Rattle.std.specs.List.Sorted.{IsStrictlySortedBy}
 use Rattle.plan_model.specs.Unfold.{unfolding_of}
-use Rattle.leg_walk.specs.Tables.{leg_cmp}
+use Rattle.leg_walk.specs.WalkTables.{leg_cmp}
 use Rattle.leg_walk.proofs.Reaching.{IsReaching}
 use Rattle.leg_walk.proofs.reach.Given as goal
 

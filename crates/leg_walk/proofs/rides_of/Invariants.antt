@@ -1,7 +1,7 @@
 use Rattle.std.proofs.Common.{◌≡◌, ◌<◌, ◌++◌, map}
 use Rattle.std.specs.List.{AllByRecursion}
 use Rattle.plan_model.specs.Network.{count}
-use Rattle.leg_walk.specs.Tables.{ride_of_leg}
+use Rattle.leg_walk.specs.WalkTables.{ride_of_leg}
 use Rattle.leg_walk.proofs.rides_of.Given as goal
 
 -- the rides so far, and those of the legs that are left

@@ -1,5 +1,5 @@
 use Rattle.std.proofs.Common.{◌≡◌, ◌++◌, drop}
-use Rattle.leg_walk.specs.Tables.{rows_for}
+use Rattle.leg_walk.specs.WalkTables.{rows_for}
 use Rattle.leg_walk.proofs.table.Given as goal
 
 -- the rows so far, and those of the outcomes that are left

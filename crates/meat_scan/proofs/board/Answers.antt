@@ -2,7 +2,7 @@ use Rattle.std.proofs.Common.{◌∙◌, ◌<◌, ◌≤◌, ◌≡◌, cond, le
 use Rattle.plan_model.specs.Network.{from_of}
 use Rattle.plan_model.specs.Ways.{ways_into}
 use Rattle.plan_model.proofs.Boarding.{ways_into-distinct}
-use Rattle.meat_scan.specs.Tables.{has_way, spare_at}
+use Rattle.meat_scan.specs.ScanTables.{has_way, spare_at}
 use Rattle.meat_scan.proofs.WaySteps.{from_in, room_left, rows_next, spare_next}
 use Rattle.meat_scan.proofs.board.Goals as goal
 

@@ -1,7 +1,7 @@
 use Rattle.std.proofs.Common.{arith}
 use Rattle.stop_profile.proofs.Gaps.{written_back}
 use Rattle.plan_model.specs.Network.{connection}
-use Rattle.meat_scan.specs.Tables.{has_way}
+use Rattle.meat_scan.specs.ScanTables.{has_way}
 use Rattle.meat_scan.proofs.Reserves.{count_by-take_more}
 use Rattle.meat_scan.proofs.boardable_counts.Goals as goal
 

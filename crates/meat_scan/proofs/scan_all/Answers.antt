@@ -1,6 +1,6 @@
 use Rattle.std.proofs.Common.{◌∙◌, sym, subst, arith, refl}
 use Rattle.stop_profile.proofs.Gaps.{written_back}
-use Rattle.meat_scan.specs.Tables.{FitsTables}
+use Rattle.meat_scan.specs.ScanTables.{FitsTables}
 use Rattle.meat_scan.proofs.States.{next_state, last_state, rules_end, id_there, room_for_run, room_for_rows, room_next, found_rows-profiles, skipped_state, skipped_room}
 use Rattle.meat_scan.proofs.scan_all.Goals as goal
 

@@ -1,5 +1,5 @@
 use Rattle.plan_model.specs.Order.{IsScanOrder}
-use Rattle.meat_scan.specs.Tables.{FitsTables}
+use Rattle.meat_scan.specs.ScanTables.{FitsTables}
 use Rattle.safe_arrival.proofs.least_worst.Given as goal
 
 abbrev pub invariant-loop-hours : goal.invariant-loop-hours

@@ -6,7 +6,7 @@ use Rattle.plan_model.specs.declared.model.Moment.{Moment}
 use Rattle.plan_model.specs.Network.{count}
 use Rattle.plan_model.specs.Tree.{Tree}
 use Rattle.plan_model.specs.Unfold.{by_place, unfold_after}
-use Rattle.plan_graph.specs.Rows.{pick_at}
+use Rattle.plan_graph.specs.PickedRows.{pick_at}
 use Rattle.plan_graph.specs.Ready.{IsLegOf}
 use Rattle.trip_replay.specs.declared.Ridden.{Ridden}
 use Rattle.trip_replay.specs.declared.ReplayFault.TheVariants as fault

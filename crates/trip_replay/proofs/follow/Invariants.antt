@@ -1,7 +1,7 @@
 use Rattle.std.proofs.Common.{◌≡◌, ◌+◌, ◌≤◌, ◌<◌, drop, length, [], All, IfSome}
 use Rattle.plan_model.specs.Network.{count}
 use Rattle.plan_model.specs.Unfold.{by_place}
-use Rattle.plan_graph.specs.Rows.{pick_at}
+use Rattle.plan_graph.specs.PickedRows.{pick_at}
 use Rattle.plan_graph.specs.Ready.{IsLegOf}
 use Rattle.plan_graph.specs.Unfold.{unfold_plan}
 use Rattle.trip_replay.specs.Walk.{walk}

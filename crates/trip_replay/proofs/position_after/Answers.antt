@@ -4,7 +4,7 @@ use Rattle.plan_model.specs.declared.model.Leg.{Leg}
 use Rattle.plan_model.specs.NetworkModel.{NetworkModel}
 use Rattle.plan_model.specs.Tree.{Done}
 use Rattle.plan_model.specs.Unfold.{end_of, by_place, ride_or_stuck, unfold_after}
-use Rattle.plan_graph.specs.Rows.{pick_at}
+use Rattle.plan_graph.specs.PickedRows.{pick_at}
 use Rattle.trip_replay.proofs.Walks.{next_leg}
 use Rattle.trip_replay.proofs.position_after.Goals as goal
 

@@ -15,4 +15,4 @@ returns c =
     c.sum_runs.result (sym c.has_service.ensures ∙ c.if-not-has_service.false)
     (c.sum_runs.ensures ∙ ap₂ (λ (rows : List StopRow) (fs : List FrequencyRow). min
     (runs_sum (each_of c.args.changes.now c.args.counted) c.args.window rows fs c.args.day)
-        (2 ^ 64 - 1)) c.rows_of-rows.ensures.rows c.frequencies_of-frequencies.ensures.rows)
+    (2 ^ 64 - 1)) c.rows_of-rows.ensures.rows c.frequencies_of-frequencies.ensures.rows)

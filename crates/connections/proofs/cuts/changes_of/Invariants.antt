@@ -1,7 +1,7 @@
 use Rattle.std.proofs.Common.{◌≡◌}
 use Rattle.csv_rows.specs.Lists.{list_below}
 use Rattle.change_times.specs.Changes.{seconds_of}
-use Rattle.connections.specs.Networks.{AreChanges}
+use Rattle.connections.specs.FeedNetworks.{AreChanges}
 use Rattle.connections.proofs.cuts.changes_of.Given as goal
 
 abbrev pub invariant-loop-place : goal.invariant-loop-place

@@ -1,8 +1,8 @@
 use Rattle.std.proofs.Common.{◌≡◌, ℕ, ◌<◌, ◌≤◌, ◌+◌, arith, sym, ◌∙◌, subst, ⊎_elim}
 use Rattle.std.proofs.lemmas.Bool.{cases_lt}
 use Rattle.connections.specs.TripRuns.{run_at}
-use Rattle.connections.specs.Runs.{IsSmallRepeat}
-use Rattle.connections.specs.Networks.{IsRunName}
+use Rattle.connections.specs.FeedRuns.{IsSmallRepeat}
+use Rattle.connections.specs.FeedNetworks.{IsRunName}
 use Rattle.connections.proofs.NameLemmas.{run_adds}
 use Rattle.connections.proofs.names.add_runs.Goals as goal
 

@@ -1,6 +1,6 @@
 use Rattle.std.proofs.Common.{◌≡◌, ℕ, ◌<◌}
-use Rattle.connections.specs.Networks.{AreRunNames}
-use Rattle.connections.specs.Runs.{IsSmallRepeat}
+use Rattle.connections.specs.FeedNetworks.{AreRunNames}
+use Rattle.connections.specs.FeedRuns.{IsSmallRepeat}
 use Rattle.connections.specs.TripRuns.{run_at}
 use Rattle.connections.proofs.names.add_runs.Given as goal
 

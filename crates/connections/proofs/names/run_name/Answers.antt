@@ -2,7 +2,7 @@ use Rattle.std.proofs.Common.{◌++◌, ◌∷◌, [], ℤ, w32, SFits, Some, sy
 use Rattle.clock_text.specs.Times.{HasDate}
 use Rattle.std.proofs.lemmas.Option.{get_or_from_slice_get}
 use Rattle.std.proofs.lemmas.Str.{IsUtf8-from_ascii}
-use Rattle.connections.specs.Networks.{start_text}
+use Rattle.connections.specs.FeedNetworks.{start_text}
 use Rattle.connections.proofs.DateLemmas.{has_date, date_is_ascii}
 use Rattle.connections.proofs.names.run_name.Goals as goal
 

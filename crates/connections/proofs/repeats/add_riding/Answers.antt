@@ -2,7 +2,7 @@ use Rattle.std.proofs.Common.{◌≡◌, ℕ, ◌+◌, ◌-◌, ◌<◌, ◌++�
 use Rattle.csv_rows.specs.Lists.{list_below}
 use Rattle.connections.specs.declared.repeats.Repeat.{Repeat}
 use Rattle.connections.specs.Joins.{only_if}
-use Rattle.connections.specs.Repeats.{repeat_of}
+use Rattle.connections.specs.RepeatedRuns.{repeat_of}
 use Rattle.connections.proofs.JoinLemmas.{join-zero}
 use Rattle.connections.proofs.RepeatLemmas.{AreTaken, AreLeaving, taken_runs, more, none_taken, step_taken, step_list, all_taken}
 use Rattle.connections.proofs.repeats.add_riding.Goals as goal

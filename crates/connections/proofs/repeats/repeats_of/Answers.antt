@@ -1,5 +1,5 @@
 use Rattle.std.proofs.Common.{ap, ◌∙◌}
-use Rattle.connections.specs.Repeats.{in_order}
+use Rattle.connections.specs.RepeatedRuns.{in_order}
 use Rattle.connections.proofs.OrderLemmas.{in_order_is}
 use Rattle.connections.proofs.repeats.repeats_of.Goals as goal
 

@@ -1,7 +1,7 @@
 use Rattle.std.proofs.Common.{◌≡◌}
-use Rattle.gtfs_tables.specs.Repeats.{repeat_at}
+use Rattle.gtfs_tables.specs.TripRepeats.{repeat_at}
 use Rattle.connections.specs.Joins.{join_below}
-use Rattle.connections.specs.Repeats.{riding_by}
+use Rattle.connections.specs.RepeatedRuns.{riding_by}
 use Rattle.connections.proofs.repeats.riding_of.Given as goal
 
 abbrev pub invariant-loop-i : goal.invariant-loop-i

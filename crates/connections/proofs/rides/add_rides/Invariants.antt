@@ -1,7 +1,7 @@
 use Rattle.std.proofs.Common.{◌≡◌, ◌++◌, map, Some}
 use Rattle.delay_table.specs.DelayLists.{class_for}
 use Rattle.connections.specs.Rides.{steps_below}
-use Rattle.connections.specs.Networks.{ride}
+use Rattle.connections.specs.FeedNetworks.{ride}
 use Rattle.connections.proofs.rides.add_rides.Given as goal
 
 abbrev pub invariant-loop-k : goal.invariant-loop-k

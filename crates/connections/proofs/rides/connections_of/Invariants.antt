@@ -1,5 +1,5 @@
 use Rattle.std.proofs.Common.{◌≡◌}
-use Rattle.connections.specs.Networks.{rides_below}
+use Rattle.connections.specs.FeedNetworks.{rides_below}
 use Rattle.connections.proofs.rides.connections_of.Given as goal
 
 abbrev pub invariant-loop-r : goal.invariant-loop-r

@@ -1,5 +1,5 @@
 use Rattle.std.proofs.Common.{sym, subst}
-use Rattle.gtfs_tables.specs.Repeats.{AreRepeats}
+use Rattle.gtfs_tables.specs.TripRepeats.{AreRepeats}
 use Rattle.connections.proofs.runs.frequencies_of.Goals as goal
 
 pub returns-clause-repeats : goal.returns-clause-repeats

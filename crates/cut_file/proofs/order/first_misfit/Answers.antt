@@ -4,7 +4,7 @@ use Rattle.csv_rows.proofs.KeyLemmas.{before_inside}
 use Rattle.csv_rows.proofs.SoonestLemmas.{soonest-next, soonest-first}
 use Rattle.cut_file.specs.declared.faults.CutFault.{CutFault}
 use Rattle.cut_file.specs.Faults.{run_fault}
-use Rattle.cut_file.specs.Keys.{run_of, step_of}
+use Rattle.cut_file.specs.CutKeys.{run_of, step_of}
 use Rattle.cut_file.proofs.Misfits.{misfit_is}
 use Rattle.cut_file.proofs.order.first_misfit.Goals as goal
 

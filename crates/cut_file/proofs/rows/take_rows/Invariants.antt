@@ -2,7 +2,7 @@ use Rattle.std.proofs.Common.{◌≡◌, ℕ, ◌<◌, ◌≤◌, ◌*◌, lengt
 use Rattle.csv_rows.specs.First.{first_below}
 use Rattle.cut_file.specs.declared.rows.CutRow.{CutRow}
 use Rattle.cut_file.specs.Faults.{bad_field, row}
-use Rattle.cut_file.specs.Cut.{run_names, place_names, IsNumbered}
+use Rattle.cut_file.specs.NumberedRows.{run_names, place_names, IsNumbered}
 use Rattle.cut_file.proofs.rows.take_rows.Given as goal
 
 abbrev pub invariant-loop-i : goal.invariant-loop-i

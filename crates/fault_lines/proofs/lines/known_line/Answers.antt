@@ -1,6 +1,6 @@
 use Rattle.std.proofs.Common.{◌∙◌, ap, sym}
 use Rattle.journey_model.specs.declared.faults.Fault.{Fault}
-use Rattle.fault_lines.specs.Lines.{line_of}
+use Rattle.fault_lines.specs.FaultLines.{line_of}
 use Rattle.fault_lines.proofs.lines.known_line.Goals as goal
 
 pub returns-in-Read-clause-line : goal.returns-in-Read-clause-line

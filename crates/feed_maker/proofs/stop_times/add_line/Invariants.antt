@@ -1,5 +1,5 @@
 use Rattle.std.proofs.Common.{◌≡◌, ◌+◌, ◌*◌, ◌≤◌, ◌++◌, vec_len, vec_capacity}
-use Rattle.feed_maker.specs.Tables.{joined, run_rows}
+use Rattle.feed_maker.specs.MadeTables.{joined, run_rows}
 use Rattle.feed_maker.proofs.stop_times.add_line.Given as goal
 
 -- the rows of the runs so far, and the room that they took

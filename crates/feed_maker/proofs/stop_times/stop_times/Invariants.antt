@@ -1,5 +1,5 @@
 use Rattle.std.proofs.Common.{◌≡◌, ◌++◌, codes}
-use Rattle.feed_maker.specs.Tables.{joined, line_rows}
+use Rattle.feed_maker.specs.MadeTables.{joined, line_rows}
 use Rattle.feed_maker.proofs.stop_times.stop_times.Given as goal
 
 -- the rows of the lines so far

@@ -1,4 +1,4 @@
-use Rattle.journey_report.specs.Texts.{holds_text}
+use Rattle.journey_report.specs.AnswerTexts.{holds_text}
 use Rattle.graph_answers.proofs.Ends.{ends_named}
 use Rattle.graph_answers.proofs.checks.held_answer.Goals as goal
 

@@ -1,4 +1,4 @@
-use Rattle.journey_report.specs.Texts.{encloses_text}
+use Rattle.journey_report.specs.AnswerTexts.{encloses_text}
 use Rattle.graph_answers.proofs.Ends.{ends_named}
 use Rattle.graph_answers.proofs.scores.enclosed_answer.Goals as goal
 

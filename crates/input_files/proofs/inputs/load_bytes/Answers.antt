@@ -1,6 +1,6 @@
 use Rattle.std.proofs.Common.{◌+◌, refl}
 use Rattle.input_files.proofs.Loads.{if_some_any, bytes_of-unread}
-use Rattle.input_files.proofs.EarlyFacts.{early_read, early_missing, early_limit}
+use Rattle.input_files.proofs.FactsBeforeSearch.{early_read, early_missing, early_limit}
 use Rattle.file_ports.specs.Ports.{file_at}
 use Rattle.file_ports.proofs.CauseLemmas.{causes-of}
 use Rattle.input_files.proofs.inputs.load_bytes.Goals as goal

@@ -6,7 +6,7 @@ use Rattle.command_line.specs.Shown.{journey_shown}
 use Rattle.journey_model.specs.declared.faults.Input.TheVariants as input
 use Rattle.journey_problem.specs.FeedProblems.{feed_as}
 use Rattle.input_files.specs.Files.{path_by}
-use Rattle.journey_problem.specs.Folders.{folder_parts_of}
+use Rattle.journey_problem.specs.Folders.{gtfs_folder_of}
 use Rattle.input_files.proofs.Loads.{if_some_any}
 use Rattle.std.proofs.lemmas.Option.{IfSome_then}
 use Rattle.input_files.proofs.Causes.{causes-then}
@@ -21,7 +21,7 @@ returns-in-Ok-clause-problem g c =
 pub returns-in-Ok-clause-fault : goal.returns-in-Ok-clause-fault
 returns-in-Ok-clause-fault g c =
     if_some_both (g.F.Files.files c.args.files.now) (g.F.Files.files c.read_folder.new.files) c.in-Ok.ensures.same c.in-Ok.ensures.folder c.problem_in.ensures.fault
-    (λ m is later. IfErr-weaker c.problem_in.result _ _ (λ fault why other. inr (folder_parts_of c.in-Ok.tables, is, why other)) later)
+    (λ m is later. IfErr-weaker c.problem_in.result _ _ (λ fault why other. inr (gtfs_folder_of c.in-Ok.tables, is, why other)) later)
 
 pub returns-in-Ok-clause-causes : goal.returns-in-Ok-clause-causes
 returns-in-Ok-clause-causes g c = λ own.

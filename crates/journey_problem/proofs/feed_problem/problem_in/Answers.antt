@@ -2,7 +2,7 @@ use Rattle.std.proofs.Common.{inl}
 use Rattle.command_line.specs.Jobs.{FeedFolder}
 use Rattle.command_line.specs.Shown.{journey_shown}
 use Rattle.journey_model.specs.declared.faults.Input.TheVariants as input
-use Rattle.journey_problem.specs.Folders.{folder_parts_of}
+use Rattle.journey_problem.specs.Folders.{gtfs_folder_of}
 use Rattle.input_files.proofs.Causes.{causes-quiet}
 use Rattle.journey_problem.proofs.FeedSteps.{feed_timetable, window_fault, window_problem, none_unread_of}
 use Rattle.std.proofs.lemmas.Option.{IfSome_then}
@@ -18,18 +18,18 @@ pub returns-in-Ok-clause-problem : goal.returns-in-Ok-clause-problem
 returns-in-Ok-clause-problem g c =
     let is = c.window_problem.ensures in
     IfSome_then (g.F.Files.files c.args.files.now) c.in-Ok.ensures.table (λ m delays.
-    window_problem c.args.limits.now m c.args.horizon (journey_shown c.args.journey.now) (folder_parts_of c.args.tables.now) c.in-Ok.delays delays.0 delays.1 c.window_problem.result
+    window_problem c.args.limits.now m c.args.horizon (journey_shown c.args.journey.now) (gtfs_folder_of c.args.tables.now) c.in-Ok.delays delays.0 delays.1 c.window_problem.result
     is.network is.no_window_fault is.source is.target)
 
 pub returns-in-Ok-clause-fault : goal.returns-in-Ok-clause-fault
 returns-in-Ok-clause-fault g c =
     IfSome_then (g.F.Files.files c.args.files.now) c.in-Ok.ensures.table (λ m delays.
-    window_fault c.args.limits.now m c.args.horizon (journey_shown c.args.journey.now) (folder_parts_of c.args.tables.now) c.in-Ok.delays delays.0 delays.1 c.window_problem.result
+    window_fault c.args.limits.now m c.args.horizon (journey_shown c.args.journey.now) (gtfs_folder_of c.args.tables.now) c.in-Ok.delays delays.0 delays.1 c.window_problem.result
     c.window_problem.ensures.fault)
 
 pub returns-in-Ok-clause-timetable : goal.returns-in-Ok-clause-timetable
 returns-in-Ok-clause-timetable g c =
-    feed_timetable c.args.horizon (journey_shown c.args.journey.now) (folder_parts_of c.args.tables.now) c.in-Ok.delays
+    feed_timetable c.args.horizon (journey_shown c.args.journey.now) (gtfs_folder_of c.args.tables.now) c.in-Ok.delays
     c.window_problem.result c.requires.sound c.in-Ok.ensures.sound
     c.window_problem.ensures.network c.window_problem.ensures.source c.window_problem.ensures.target
 

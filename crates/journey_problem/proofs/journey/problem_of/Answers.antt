@@ -3,7 +3,7 @@ use Rattle.std.proofs.lemmas.Option.{slice_get_within}
 use Rattle.plan_model.specs.Network.{IsValid}
 use Rattle.plan_model.specs.NameLists.{NamesFit}
 use Rattle.command_line.specs.declared.job.Timetable.{Timetable}
-use Rattle.command_line.specs.Jobs.{WantedTimetable, CutFile, FeedFolder, WantedJourney}
+use Rattle.command_line.specs.Jobs.{TimetableModel, CutFile, FeedFolder, JourneyModel}
 use Rattle.command_line.specs.Shown.{journey_shown, timetable_shown}
 use Rattle.journey_model.specs.declared.faults.Fault.{Fault}
 use Rattle.journey_model.specs.declared.problem.Problem.{Problem}
@@ -11,9 +11,9 @@ use Rattle.journey_problem.specs.CutProblems.{IsNamed}
 use Rattle.journey_problem.specs.Problems.{HasTimetable, IsValidProblem}
 use Rattle.journey_problem.proofs.journey.problem_of.Goals as goal
 
-sound : (timetable : WantedTimetable) (j : WantedJourney) (r : Result Problem Fault) → j.timetable ≡ timetable → IfOk r (λ p. IsValid p.network) → IfOk r (λ p. NamesFit p.names p.network)
+sound : (timetable : TimetableModel) (j : JourneyModel) (r : Result Problem Fault) → j.timetable ≡ timetable → IfOk r (λ p. IsValid p.network) → IfOk r (λ p. NamesFit p.names p.network)
     → IfOk r (HasTimetable timetable j) → IfOk r (IsValidProblem j)
-sound timetable j (Ok p) is valid fit has = record { valid = valid; fit = fit; timetable = subst (λ (t : WantedTimetable). HasTimetable t j p) (sym is) has }
+sound timetable j (Ok p) is valid fit has = record { valid = valid; fit = fit; timetable = subst (λ (t : TimetableModel). HasTimetable t j p) (sym is) has }
 sound timetable j (Err fault) is valid fit has = tt
 
 -- a place that has a name is one of the network

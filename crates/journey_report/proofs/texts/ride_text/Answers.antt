@@ -4,7 +4,7 @@ use Rattle.printed_rows.specs.Writers.{place_name, run_name}
 use Rattle.plan_model.specs.declared.model.Connection.{Connection}
 use Rattle.printed_rows.proofs.Connections.{dep_printable, arr_printable}
 use Rattle.printed_rows.proofs.Lines.{name_is}
-use Rattle.journey_report.specs.Texts.{ride_text}
+use Rattle.journey_report.specs.AnswerTexts.{ride_text}
 use Rattle.journey_report.proofs.RowLemmas.{row-of}
 use Rattle.journey_report.proofs.TextLemmas.{ride_arrival}
 use Rattle.journey_report.proofs.texts.ride_text.Goals as goal

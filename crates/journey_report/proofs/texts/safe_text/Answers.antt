@@ -1,5 +1,5 @@
 use Rattle.std.proofs.Common.{[], ◌∷◌, ◌∙◌}
-use Rattle.journey_report.specs.Texts.{safe_text}
+use Rattle.journey_report.specs.AnswerTexts.{safe_text}
 use Rattle.journey_report.proofs.RowLemmas.{row-of}
 use Rattle.journey_report.proofs.texts.safe_text.Goals as goal
 

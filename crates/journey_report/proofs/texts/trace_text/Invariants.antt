@@ -1,5 +1,5 @@
 use Rattle.std.proofs.Common.{◌≡◌, ◌++◌, drop}
-use Rattle.journey_report.specs.Texts.{rides_text}
+use Rattle.journey_report.specs.AnswerTexts.{rides_text}
 use Rattle.journey_report.proofs.texts.trace_text.Given as goal
 
 -- the text so far, and that of the rides that are left

@@ -1,7 +1,7 @@
 use Rattle.std.proofs.Common.{◌≡◌, ◌++◌, drop}
 use Rattle.printed_rows.specs.Writers.{text_so_far, text_of_records, IsBetweenRows}
 use Rattle.lower_proof.specs.Steps.{AllFit}
-use Rattle.lower_proof.specs.Texts.{value_records}
+use Rattle.lower_proof.specs.CertificateTexts.{value_records}
 use Rattle.lower_proof.proofs.printer.put_values.Given as goal
 
 -- the text so far, and that of the values that are left

@@ -3,7 +3,7 @@ use Rattle.std.proofs.lemmas.Result.{IfOk-weaker}
 use Rattle.std.proofs.lemmas.List.Sums.{count_by-le-length}
 use Rattle.lower_proof.specs.Steps.{AllFit}
 use Rattle.lower_proof.specs.Reading.{IsProofRead, ReadsBack}
-use Rattle.lower_proof.specs.Texts.{proof_text}
+use Rattle.lower_proof.specs.CertificateTexts.{proof_text}
 use Rattle.lower_proof.proofs.ReadBack.{present, reads_back}
 use Rattle.lower_proof.proofs.printer.write_text.Goals as goal
 

@@ -1,6 +1,6 @@
 use Rattle.std.proofs.Common.{◌≡◌, ℕ, List, Option, Result, Ok, Err, None, subst, IfOk, IfErr}
 use Rattle.feed_maker.specs.Files.{folder_of}
-use Rattle.command_line.specs.Jobs.{WantedJourney}
+use Rattle.command_line.specs.Jobs.{JourneyModel}
 use Rattle.journey_model.specs.declared.faults.Fault.{Fault}
 use Rattle.journey_model.specs.declared.faults.Input.{Input}
 use Rattle.journey_model.specs.Faults.{unread_of}
@@ -26,14 +26,14 @@ returns-in-Ok-clause-problem c =
     let limits = c.args.limits.now in
     let files = folder_of c.in-Ok.files in
     IfOk-weaker c.problem_of.result _ _ (λ p both. (files, c.in-Ok.ensures.files, (both.0, both.1)))
-    (both_ok c.problem_of.result _ _ (subst (λ (j : WantedJourney). IfOk c.problem_of.result (IsValidProblem j)) c.sample_journey.ensures c.problem_of.ensures.sound)
-    (subst (λ (j : WantedJourney). IfOk c.problem_of.result (IsProblem limits files j)) c.sample_journey.ensures c.problem_of.ensures.problem))
+    (both_ok c.problem_of.result _ _ (subst (λ (j : JourneyModel). IfOk c.problem_of.result (IsValidProblem j)) c.sample_journey.ensures c.problem_of.ensures.sound)
+    (subst (λ (j : JourneyModel). IfOk c.problem_of.result (IsProblem limits files j)) c.sample_journey.ensures c.problem_of.ensures.problem))
 
 pub returns-in-Ok-clause-fault : goal.returns-in-Ok-clause-fault
 returns-in-Ok-clause-fault c =
     let limits = c.args.limits.now in
     let files = folder_of c.in-Ok.files in
-    IfErr-weaker c.problem_of.result _ _ (λ f first other. (files, c.in-Ok.ensures.files, subst (λ (j : WantedJourney). IsProblemFault limits files j f) c.sample_journey.ensures first))
+    IfErr-weaker c.problem_of.result _ _ (λ f first other. (files, c.in-Ok.ensures.files, subst (λ (j : JourneyModel). IsProblemFault limits files j f) c.sample_journey.ensures first))
     c.problem_of.ensures.fault
 
 pub returns-in-Ok-clause-read : goal.returns-in-Ok-clause-read

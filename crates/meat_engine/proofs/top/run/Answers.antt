@@ -1,6 +1,6 @@
 use Rattle.std.proofs.Common.{subst, map, string_bytes}
 use Rattle.csv_rows.specs.declared.limits.Limits.{Limits}
-use Rattle.meat_engine.specs.Runs.{IsRun, files_state, sink_state}
+use Rattle.meat_engine.specs.RunPromises.{IsRun, files_state, sink_state}
 use Rattle.meat_engine.proofs.top.run.Goals as goal
 
 pub returns : goal.returns

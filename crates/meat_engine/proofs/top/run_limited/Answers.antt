@@ -1,5 +1,5 @@
 use Rattle.std.proofs.Common.{◌≡◌, ◌∙◌, inl, inr, map, string_bytes, sym, subst, arith}
-use Rattle.command_line.specs.Jobs.{Wanted}
+use Rattle.command_line.specs.Jobs.{JobModel}
 use Rattle.command_line.specs.Shown.{wanted_job}
 use Rattle.journey_model.specs.declared.faults.Input.{Input}
 use Rattle.journey_model.specs.declared.faults.Fault.{Fault}
@@ -7,7 +7,7 @@ use Rattle.journey_model.specs.declared.faults.Fault.TheVariants.{Words, Read, W
 use Rattle.journey_model.specs.Sites.{IsTellable}
 use Rattle.journey_report.specs.Findings.{findings_of}
 use Rattle.meat_engine.specs.Received.{FailsJob}
-use Rattle.meat_engine.specs.Runs.{files_state, sink_state}
+use Rattle.meat_engine.specs.RunPromises.{files_state, sink_state}
 use Rattle.meat_engine.specs.Refusals.{known_of}
 use Rattle.meat_engine.proofs.Outcomes.{job_cause, write_fails}
 use Rattle.meat_engine.proofs.Runs.{refused_run, answered_run, path_of_job}
@@ -34,7 +34,7 @@ returns-in-Err g c =
     (λ (write : wanted ≡ Write). let none : Words c.in-Err.fault ≡ Write = sym is ∙ write in absurd (cc))
     (cc)
     (λ (input : Input) (read : wanted ≡ Read input). let none : Words c.in-Err.fault ≡ Read input = sym is ∙ read in absurd (cc))
-    (λ (job : Wanted) (input : Input) asked some (read : wanted ≡ Read input). let none : Words c.in-Err.fault ≡ Read input = sym is ∙ read in absurd (cc))
+    (λ (job : JobModel) (input : Input) asked some (read : wanted ≡ Read input). let none : Words c.in-Err.fault ≡ Read input = sym is ∙ read in absurd (cc))
     (λ less. absurd (omega (arith, less)))
 
 pub returns-in-Err-answer_of : goal.returns-in-Err-answer_of

@@ -3,7 +3,7 @@ use Rattle.csv_rows.specs.declared.feed_tables.FeedFault.{FeedFault}
 use Rattle.csv_rows.proofs.KeyLemmas.{before_inside}
 use Rattle.csv_rows.proofs.SoonestLemmas.{soonest-next, soonest-first}
 use Rattle.stop_times.specs.StopTimes.{trip_of, sequence_of, backward_time}
-use Rattle.stop_times.specs.Keys.{is_taken}
+use Rattle.stop_times.specs.StopTimeKeys.{is_taken}
 use Rattle.stop_times.proofs.BackLemmas.{back_is, quiet}
 use Rattle.stop_times.proofs.keys.first_backward.Goals as goal
 

@@ -5,7 +5,7 @@ use Rattle.csv_rows.specs.declared.keys.Key.{Key}
 use Rattle.csv_rows.proofs.SortLemmas.{AreKeys, key_of, sorted_are, keys-none, keys-taken}
 use Rattle.stop_times.specs.declared.rows.TimedRow.{TimedRow}
 use Rattle.stop_times.specs.StopTimes.{trip_of, sequence_of, no_row}
-use Rattle.stop_times.specs.Keys.{is_taken}
+use Rattle.stop_times.specs.StopTimeKeys.{is_taken}
 use Rattle.stop_times.proofs.keys.sorted_keys.Goals as goal
 
 pushed : (xs ys : List Key) (x : Key) → ys ≡ xs ++ x ∷ [] → length ys ≡ length xs + 1

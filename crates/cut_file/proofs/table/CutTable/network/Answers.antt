@@ -3,7 +3,7 @@ use Rattle.plan_model.specs.NetworkModel.{NetworkModel, plain_network}
 use Rattle.plan_model.proofs.SameParts.{same_parts}
 use Rattle.delay_table.specs.DelayLists.{DelayLists}
 use Rattle.cut_file.specs.Read.{Cut, IsRead}
-use Rattle.cut_file.specs.Networks.{IsNetwork}
+use Rattle.cut_file.specs.CutNetworks.{IsNetwork}
 use Rattle.cut_file.proofs.Made.{make_network}
 use Rattle.plan_model.specs.NameLists.{NameLists, NamesFit}
 use Rattle.cut_file.proofs.Fit.{names_fit}

@@ -1,7 +1,7 @@
 use Rattle.std.proofs.Common.{◌≡◌, ◌≢◌, ◌<◌, ◌∙◌, ap, sym, subst, length, ℕ, Some, None, rules, IfOk, OnOk, IfErr}
 use Rattle.csv_rows.proofs.FaultLemmas.{if_raised}
 use Rattle.delay_table.specs.declared.faults.DelayFault.TheVariants.{NoMemory, TooManyClasses}
-use Rattle.delay_table.specs.Bounds.{most_groups}
+use Rattle.delay_table.specs.DelayBounds.{most_groups}
 use Rattle.delay_table.specs.DelayLists.{DelayLists}
 use Rattle.delay_table.specs.Delays.{delays_of}
 use Rattle.delay_table.proofs.Counted.{column-other, lines-other}

@@ -1,7 +1,7 @@
 use Rattle.std.proofs.Common.{◌∙◌, ap, codes}
 use Rattle.file_ports.specs.Steady.{folder_of as others_on}
 use Rattle.feed_maker.specs.StopTimes.{lines_of}
-use Rattle.feed_maker.specs.Tables.{stop_times_text}
+use Rattle.feed_maker.specs.MadeTables.{stop_times_text}
 use Rattle.feed_maker.specs.Made.{other_files}
 use Rattle.feed_maker.proofs.FolderLemmas.{folder_front, stop_times_first}
 use Rattle.feed_maker.proofs.files.MadeFiles.new.Goals as goal

@@ -1,7 +1,7 @@
 use Rattle.std.proofs.Common.{codes, sym, ◌∙◌}
 use Rattle.file_ports.specs.Steady.{folder_of as others_on, left_of}
 use Rattle.feed_maker.specs.StopTimes.{lines_of}
-use Rattle.feed_maker.specs.Tables.{stop_times_text}
+use Rattle.feed_maker.specs.MadeTables.{stop_times_text}
 use Rattle.feed_maker.proofs.HandLemmas.{opens_behind}
 use Rattle.feed_maker.proofs.files.MadeFilesFiles.open_file.Goals as goal
 

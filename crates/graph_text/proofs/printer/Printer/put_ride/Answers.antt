@@ -1,5 +1,5 @@
 use Rattle.std.proofs.Common.{◌∙◌, ap, length, codes, decimal}
-use Rattle.graph_text.specs.Texts.{leg_row, rows_text}
+use Rattle.graph_text.specs.GraphTexts.{leg_row, rows_text}
 use Rattle.printed_rows.specs.Writers.{text_so_far}
 use Rattle.printed_rows.proofs.Lines.{append_ok}
 use Rattle.graph_text.proofs.printer.Printer.put_ride.Goals as goal

@@ -1,5 +1,5 @@
 use Rattle.std.proofs.Common.{refl}
-use Rattle.graph_text.specs.Texts.{ride_text, rides_text}
+use Rattle.graph_text.specs.GraphTexts.{ride_text, rides_text}
 use Rattle.printed_rows.specs.Writers.{text_so_far}
 use Rattle.printed_rows.proofs.Lines.{text_more}
 use Rattle.graph_text.proofs.printer.Printer.put_rides.Goals as goal

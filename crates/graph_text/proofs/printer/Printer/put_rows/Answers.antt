@@ -1,6 +1,6 @@
 use Rattle.std.proofs.Common.{◌∙◌, refl}
 use Rattle.clock_text.specs.Civil.{moment_text}
-use Rattle.graph_text.specs.Texts.{leg_row, rows_text}
+use Rattle.graph_text.specs.GraphTexts.{leg_row, rows_text}
 use Rattle.printed_rows.specs.Writers.{text_so_far}
 use Rattle.printed_rows.proofs.Lines.{text_more}
 use Rattle.graph_text.proofs.printer.Printer.put_rows.Goals as goal

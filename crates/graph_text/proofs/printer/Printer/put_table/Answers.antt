@@ -1,5 +1,5 @@
 use Rattle.std.proofs.Common.{length, codes}
-use Rattle.graph_text.specs.Texts.{place_row, rows_text}
+use Rattle.graph_text.specs.GraphTexts.{place_row, rows_text}
 use Rattle.printed_rows.specs.Writers.{text_so_far}
 use Rattle.printed_rows.proofs.Lines.{append_ok}
 use Rattle.graph_text.proofs.printer.Printer.put_table.Goals as goal

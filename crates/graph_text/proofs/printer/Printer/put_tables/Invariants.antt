@@ -1,5 +1,5 @@
 use Rattle.std.proofs.Common.{◌≡◌, ◌++◌, drop}
-use Rattle.graph_text.specs.Texts.{tables_text}
+use Rattle.graph_text.specs.GraphTexts.{tables_text}
 use Rattle.printed_rows.specs.Writers.{text_so_far, IsBetweenRows}
 use Rattle.graph_text.proofs.printer.Printer.put_tables.Given as goal
 

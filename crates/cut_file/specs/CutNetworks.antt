@@ -7,7 +7,7 @@ use Rattle.delay_table.specs.DelayLists.{DelayLists, class_for}
 use Rattle.cut_file.specs.declared.rows.CutRow.{CutRow}
 use Rattle.csv_rows.specs.declared.keys.Key.{Key}
 use Rattle.csv_rows.specs.Keys.{key_at}
-use Rattle.cut_file.specs.Keys.{cut_row}
+use Rattle.cut_file.specs.CutKeys.{cut_row}
 use Rattle.cut_file.specs.Read.{Cut}
 
 -- a row as a connection; a cut file has no routes

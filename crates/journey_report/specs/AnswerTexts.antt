@@ -13,7 +13,7 @@ use Rattle.plan_graph.specs.declared.PlanGraph.{PlanGraph}
 use Rattle.printed_rows.specs.Writers.{place_name, run_name}
 use Rattle.trip_replay.specs.declared.Ridden.{Ridden}
 use Rattle.trip_replay.specs.declared.Trace.{Trace}
-use Rattle.late_chance.specs.Texts.{chance_text}
+use Rattle.late_chance.specs.ChanceTexts.{chance_text}
 
 -- one row: the source, the target, the start, the least worst arrival and the deadline
 unfoldable pub safe_text : List ℕ → List ℕ → Query → Moment → List ℕ

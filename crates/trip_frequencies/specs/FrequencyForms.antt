@@ -2,7 +2,7 @@
 use Rattle.std.specs.Prelude.{ℕ, ◌==◌, Bool, true, false, ◌||◌, List, length, Option, Some, None, option_and_then, if◌then◌else◌, codes}
 use Rattle.std.specs.Str.{bytes_eq}
 use Rattle.clock_text.specs.Digits.{whole_of}
-use Rattle.trip_frequencies.specs.Bounds.{most_headway}
+use Rattle.trip_frequencies.specs.FrequencyBounds.{most_headway}
 
 -- the seconds from one departure to the next: one at least, and a day at most
 abbrev pub headway_in : List ℕ → Option ℕ

@@ -8,7 +8,7 @@ use Rattle.csv_rows.specs.declared.columns.Column.TheVariants.{Class, Run, Step,
 use Rattle.csv_rows.specs.Tables.{place_in, place_of}
 use Rattle.cut_file.specs.declared.rows.CutRow.{CutRow}
 use Rattle.cut_file.specs.declared.rows.Columns.{Columns}
-use Rattle.cut_file.specs.Rows.{Row}
+use Rattle.cut_file.specs.CutRows.{Row}
 use Rattle.cut_file.specs.Faults.{row}
 
 -- a name goes last, unless it is there

@@ -1,8 +1,8 @@
 -- What holds of the rows of frequencies of the trips of a feed.
 use Rattle.std.specs.Prelude.{◌≡◌, ℕ, ◌<◌, ◌≤◌, List, [], length, slice_index_or, All, sum_by}
 use Rattle.trip_frequencies.specs.declared.frequencies.FrequencyRow.{FrequencyRow}
-use Rattle.stop_times.specs.Bounds.{end_of_times, most_stop_times}
-use Rattle.trip_frequencies.specs.Bounds.{most_headway, most_frequencies}
+use Rattle.stop_times.specs.StopTimeBounds.{end_of_times, most_stop_times}
+use Rattle.trip_frequencies.specs.FrequencyBounds.{most_headway, most_frequencies}
 use Rattle.gtfs_tables.specs.Feeds.{FeedParts}
 use Rattle.trip_frequencies.specs.Frequencies.{no_frequency}
 

@@ -6,7 +6,7 @@ use Rattle.csv_rows.specs.declared.columns.Column.{Column}
 use Rattle.csv_rows.specs.declared.columns.Column.TheVariants.{Class, Run, Step, From, To, Dep, Arr, Board, Exit, Change}
 use Rattle.csv_rows.specs.Tables.{field}
 use Rattle.csv_rows.specs.Names.{name_in}
-use Rattle.cut_file.specs.Forms.{early, class_in, flag_in}
+use Rattle.cut_file.specs.CutForms.{moment_before_end, class_in, flag_in}
 
 -- a row with its names; the class is a route type, and none for `*`
 pub record Row : Type 0 where
@@ -28,8 +28,8 @@ row_from run step from to dep arr class board exit change =
     require (whole_of 999999999 step) Step (λ step'.
     require (name_in from) From (λ from'.
     require (name_in to) To (λ to'.
-    require (early dep) Dep (λ dep'.
-    require (early arr) Arr (λ arr'.
+    require (moment_before_end dep) Dep (λ dep'.
+    require (moment_before_end arr) Arr (λ arr'.
     require (class_in class) Class (λ class'.
     require (flag_in board) Board (λ board'.
     require (flag_in exit) Exit (λ exit'.

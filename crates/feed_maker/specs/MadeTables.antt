@@ -1,7 +1,7 @@
 -- What the tables of the feed and the delay file hold, for so many lines.
 use Rattle.std.specs.Prelude.{ℕ, ◌+◌, ◌%◌, List, ◌++◌, codes, decimal, flat_map}
 use Rattle.std.specs.List.{range_with_len}
-use Rattle.feed_maker.specs.Lines.{seconds_at}
+use Rattle.feed_maker.specs.HubLines.{seconds_at}
 use Rattle.feed_maker.specs.Names.{hub_name, own_name, route_name, trip_name, name_at, time_text}
 
 -- the pieces of the numbers below `count`, one after another

@@ -8,35 +8,35 @@ use Rattle.plan_model.specs.Tree.{Tree}
 use Rattle.plan_model.specs.Unfold.{unfold_from, unfolding_of, by_place}
 use Rattle.stop_profile.specs.declared.Row.{Row}
 use Rattle.stop_profile.specs.Inserts.{row_in_time}
-use Rattle.meat_scan.specs.Tables.{ShownTables}
+use Rattle.meat_scan.specs.ScanTables.{ShownTables}
 
 -- the start leg with its value, the rows of each place, and the target of the scan
-pub record Found (V : Type 0) : Type 0 where
+pub record ScanResult (V : Type 0) : Type 0 where
   pub start : Option (V × Leg)
   pub rows : List (List (Row V))
   pub target : ℕ
 
 -- what the tables hold after a scan
-abbrev pub found_in : {V : Type 0} → ShownTables V → Option (V × Leg) → ℕ → Found V
+abbrev pub found_in : {V : Type 0} → ShownTables V → Option (V × Leg) → ℕ → ScanResult V
 found_in tables start target = record { start = start; rows = map (λ profile. profile.rows) tables.profiles; target = target }
 
 -- the rows of a place
-abbrev pub found_rows : {V : Type 0} → Found V → ℕ → List (Row V)
+abbrev pub found_rows : {V : Type 0} → ScanResult V → ℕ → List (Row V)
 found_rows found place = slice_index_or found.rows place []
 
 -- what is chosen after an arrival at a place
-abbrev pub choice_of : {V : Type 0} → Found V → ℕ → ℕ → Option (V × Leg)
+abbrev pub choice_of : {V : Type 0} → ScanResult V → ℕ → ℕ → Option (V × Leg)
 choice_of found place arrival = option_map (λ row. (row.value, row.leg)) (row_in_time arrival (found_rows found place))
 
 -- the leg that is chosen after an arrival at a place
-abbrev pub leg_choice : {V : Type 0} → Found V → ℕ → ℕ → Option Leg
+abbrev pub leg_choice : {V : Type 0} → ScanResult V → ℕ → ℕ → Option Leg
 leg_choice found place arrival = option_map (λ choice. choice.1) (choice_of found place arrival)
 
 -- the tree that is chosen after an arrival at a place
-abbrev pub chosen_at : {V : Type 0} → NetworkModel → Query → Found V → ℕ → ℕ → Tree
+abbrev pub chosen_at : {V : Type 0} → NetworkModel → Query → ScanResult V → ℕ → ℕ → Tree
 chosen_at network query found place arrival =
     unfold_from network query.target.0 (by_place network (leg_choice found)) (leg_choice found place arrival) place arrival
 
 -- the tree that is chosen by a start leg
-abbrev pub chosen_by : {V : Type 0} → NetworkModel → Query → Found V → Leg → Tree
+abbrev pub chosen_by : {V : Type 0} → NetworkModel → Query → ScanResult V → Leg → Tree
 chosen_by network query found leg = unfolding_of network query (by_place network (leg_choice found)) (Some leg)

@@ -4,7 +4,7 @@ use Rattle.std.specs.Io.KnownBytes.{Keeps}
 use Rattle.file_ports.specs.Counts.{Rose, RoseAt}
 use Rattle.file_ports.specs.Ports.{FileMap}
 use Rattle.csv_rows.specs.declared.limits.Limits.{Limits}
-use Rattle.command_line.specs.Jobs.{Wanted, job_of}
+use Rattle.command_line.specs.Jobs.{JobModel, job_of}
 use Rattle.journey_model.specs.declared.faults.Input.{Input}
 use Rattle.journey_model.specs.declared.faults.Fault.TheVariants.{Read, Write}
 use Rattle.journey_model.specs.Faults.{status_of}
@@ -45,7 +45,7 @@ pub record IsRun (limits : Limits) (words : List (List ℕ)) (report : Report) (
   -- a file cannot be read only where the files failed, where it is one of the job, and where it is told its own path failed
   -- too; and always where the files failed
   pub read : (input : Input) → report.fault ≡ Some (Read input) → Rose before.faults after.faults
-  pub read_path : (wanted : Wanted) (input : Input) → job_of words ≡ Ok wanted → IsSome before.contents
+  pub read_path : (wanted : JobModel) (input : Input) → job_of words ≡ Ok wanted → IsSome before.contents
       → report.fault ≡ Some (Read input) → RoseAt (path_in wanted input) before.faults_of after.faults_of
   pub files_grew : before.faults < after.faults → (input : Input) × (report.fault ≡ Some (Read input))
   -- the answer cannot be written only where its sink failed, and always where it did

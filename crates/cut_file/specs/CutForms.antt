@@ -10,8 +10,8 @@ before_end None = None
 before_end (Some m) = if nat_lt m end_of_arrivals then Some m else None
 
 -- a moment before 2401-01-01
-abbrev pub early : List ℕ → Option ℕ
-early text = before_end (moment_at text)
+abbrev pub moment_before_end : List ℕ → Option ℕ
+moment_before_end text = before_end (moment_at text)
 
 -- a route type, and none for `*`, which an empty field stands for
 abbrev pub class_in : List ℕ → Option (Option ℕ)
