@@ -7,7 +7,7 @@ use Rattle.std.proofs.lemmas.List.Elements.{All-append, All-contains, All-map, A
 use Rattle.plan_model.specs.declared.model.Leg.{Leg}
 use Rattle.plan_model.specs.declared.model.Query.{Query}
 use Rattle.plan_model.specs.NetworkModel.{NetworkModel}
-use Rattle.plan_model.specs.Network.{IsValid, from_of}
+use Rattle.plan_model.specs.Network.{IsValid}
 use Rattle.plan_model.proofs.Boarding.{limit_of-some, way_takes}
 use Rattle.plan_graph.specs.declared.GraphRow.{GraphRow}
 use Rattle.plan_graph.specs.declared.PlaceTable.{PlaceTable}
@@ -21,18 +21,14 @@ use Rattle.graph_score.specs.Steps.{AreFitRows}
 
 -- a row that fits stands at a place of the network
 pub fit_place : (n : NetworkModel) → IsValid n → (p : ℕ) (row : GraphRow) → IsFitRow n p row → p < length n.change
-fit_place n valid p row fit =
-    let some = limit_of-some n p row.leg row.by.0 fit.by in
-    (way_takes n valid p (from_of n row.leg.enter.0) some.0 ((valid.connections row.leg.enter.0 fit.is_leg.enter).from_in) some.1).0
+fit_place n valid p row fit = grind (arith, limit_of-some, way_takes)
 
 -- the k-th element of a list with what stands before and after it
 split_at : {X : Type 0} (xs : List X) (k : ℕ) (d : X) → k < length xs → xs ≡ take k xs ++ slice_index_or xs k d ∷ drop (k + 1) xs
 split_at xs k d within = sym (take-append-drop k xs) ∙ ap (λ rest. take k xs ++ rest) (drop_more xs k d within)
 
 take_each : {X : Type 0} (P : X → Type 0) (xs : List X) (k : ℕ) → AllWithin P xs 0 k → All P (take k xs)
-take_each P xs k each i d within =
-    let early : i < k = omega (arith, length-take k xs) in
-    rw (get_or-take k xs i d early) (each i d (omega arith) early)
+take_each P xs k each i d within = grind (arith, length-take, get_or-take)
 
 pub first_wrong_is : (n : NetworkModel) (q : Query) (legs : List GraphLeg) (k : ℕ) (d : GraphLeg) → k < length legs → AllWithin (IsFitLeg n q) legs 0 k
     → (IsFitLeg n q (slice_index_or legs k d) → ⊥) → IsFirstWrong n q legs (k + 1)
@@ -73,9 +69,7 @@ rows_fit n q graph each = tables_fit n q graph.tables (each_right (IsFitLeg n q)
 
 -- and the start leg, where there is one
 pub start_fits : (n : NetworkModel) (q : Query) (graph : PlanGraph) (leg : Leg) → All (IsFitLeg n q) (legs_of graph) → graph.start ≡ Some leg → IsFitStart n q leg
-start_fits n q graph leg each is =
-    let here = subst (λ (s : Option Leg). All (IsFitLeg n q) (start_leg s)) is (each_left (IsFitLeg n q) (start_leg graph.start) (flat_map legs_in graph.tables) each) in
-    here 0 (Start leg) (omega arith)
+start_fits n q graph leg each is = grind (arith, each_left)
 
 -- each leg of a graph that fits does
 pub fit_legs : (n : NetworkModel) (q : Query) (graph : PlanGraph) → IsFit n q graph → All (IsFitLeg n q) (legs_of graph)

@@ -1,6 +1,6 @@
 -- What is known of the connections that were looked at, the last ones first.
 use Rattle.std.proofs.Common.{◌≡◌, ◌≢◌, ℕ, zero, suc, ◌+◌, ◌-◌, ◌<◌, ◌≤◌, true, false, List, [], ◌∷◌, ◌++◌, length, set, Option, Some, None, arith, sym, subst}
-use Rattle.std.proofs.Common.{refl, inl, inr, ◌∙◌, ap, append_assoc, slice_index_or, ◌==◌, nat_le, get_or-set_other, get_or-set_same, append-nil, length-set}
+use Rattle.std.proofs.Common.{refl, inl, inr, ◌∙◌, ap, append_assoc, slice_index_or, ◌==◌, get_or-set_other, get_or-set_same, append-nil, length-set}
 use Rattle.std.proofs.lemmas.Bool.{cases_lt, cases_eq}
 use Rattle.std.proofs.lemmas.Bool.Decides.{nat_tests}
 use Rattle.plan_model.specs.declared.model.ConnectionId.{ConnectionId}
@@ -32,14 +32,7 @@ some_known (id ∷ taken) i known = omega arith
 
 -- where source and target are one place, or one has arrived
 pub arrived_told : (n : NetworkModel) (q : Query) (p x : ℕ) → p ≡ q.target.0 → IsOutlook n q (arrived_outlook q.deadline.0 p x) (Done x)
-arrived_told n q p x there = elim (cases_lt q.deadline.0 x) [
-  | inl late ↦
-      let e : nat_le x q.deadline.0 ≡ false = grind (arith, nat_tests) in
-      rw e (record { fails = (there, refl, late); first = λ r y fails. inr (sym fails.1, omega (arith, there, fails.0)) })
-  | inr soon ↦
-      let e : nat_le x q.deadline.0 ≡ true = grind (arith, nat_tests) in
-      rw e ((λ r y fails. omega (arith, fails.2, soon)), refl)
-]
+arrived_told n q p x there = grind (arith, cases_lt)
 
 -- one who is stuck
 pub stuck_told : (n : NetworkModel) (q : Query) (p x : ℕ) → IsOutlook n q (Failing (failure p x)) (Stuck p x)

@@ -12,10 +12,7 @@ use Rattle.plan_graph.specs.PickedRows.{pick_row, rows_of_place, is_table_of}
 
 -- a list that rises is parted by a number
 pub parted : {X : Type 0} (f : X → ℕ) (xs : List X) (t : ℕ) → AllPairs (λ a b. f a < f b) xs → IsPartitionedBy (λ x. nat_lt (f x) t) xs
-parted f xs t rise i j d before within is = elim (cases_lt i j) [
-  | inl less ↦ lt-ltb (f (slice_index_or xs i d)) t (omega (arith, rise i j d less within, ltb-true (f (slice_index_or xs j d)) t is))
-  | inr same ↦ let e : j ≡ i = omega (arith, before, same) in subst (λ (k : ℕ). nat_lt (f (slice_index_or xs k d)) t ≡ true) e is
-]
+parted f xs t rise i j d before within is = grind (arith, cases_lt, lt-ltb, ltb-true)
 
 -- what is picked is the row at which those before an arrival end
 pub pick_row-at : (rows : List GraphRow) (x i : ℕ) (d : GraphRow) → AllWithin (λ r. nat_lt r.by.0 x ≡ true) rows 0 i → i < length rows

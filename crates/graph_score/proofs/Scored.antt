@@ -1,5 +1,5 @@
 -- The score of a graph whose legs fit, by what comes of it.
-use Rattle.std.proofs.Common.{◌≡◌, ◌≢◌, ℕ, ◌-◌, ⊎_elim, Option, Some, None, All, arith, sym, subst, refl, inl, inr}
+use Rattle.std.proofs.Common.{◌≡◌, ◌≢◌, ℕ, ◌-◌, Option, Some, None, All, arith, sym, subst, refl, inl, inr}
 use Rattle.std.proofs.lemmas.Bool.{cases_lt, cases_eq}
 use Rattle.plan_model.specs.declared.model.Leg.{Leg}
 use Rattle.plan_model.specs.declared.model.Query.{Query}
@@ -31,12 +31,7 @@ module _ (n : NetworkModel) (valid : IsValid n) (q : Query) (graph : PlanGraph) 
   Never tree = (p x : ℕ) → Fails q tree p x → ⊥
 
   done_scored : q.source.0 ≡ q.target.0 → Never (Done q.start.0) → IsScored n q (Done q.start.0) (span_of n (Done q.start.0))
-  done_scored there never = record {
-    safe = (refl, there, ⊎_elim (λ late. absurd (never q.target.0 q.start.0 (refl, refl, late))) (λ soon. soon) (cases_lt q.deadline.0 q.start.0));
-    means = refl;
-    encloses = (exact_below q.start.0, exact_covers q.start.0);
-    gap = omega arith;
-  }
+  done_scored there never = grind (arith, cases_lt, exact_below, exact_covers)
 
   ride_scored : (leg : Leg) → IsFitStart n q leg → Never (ride_by_rows n q graph.tables (count n - 1) leg)
       → IsScored n q (ride_by_rows n q graph.tables (count n - 1) leg) (span_of n (ride_by_rows n q graph.tables (count n - 1) leg))
@@ -55,9 +50,7 @@ module _ (n : NetworkModel) (valid : IsValid n) (q : Query) (graph : PlanGraph) 
 
   as_told : (tree : Tree) → (Never tree → IsScored n q tree (span_of n tree)) → unfold_plan graph n q ≡ tree → (span : Interval)
       → IsOutlook n q (Safe span) (unfold_plan graph n q) → IsScored n q (unfold_plan graph n q) span
-  as_told tree scored is span told =
-      subst (IsScored n q (unfold_plan graph n q)) (sym told.1)
-      (subst (λ t. IsScored n q t (span_of n t)) (sym is) (scored (subst Never is told.0)))
+  as_told tree scored is span told = grind arith
 
   -- who cannot fail is safe, and the bounds enclose
   pub safe_told : (span : Interval) → IsOutlook n q (Safe span) (unfold_plan graph n q) → IsScored n q (unfold_plan graph n q) span

@@ -79,10 +79,7 @@ module _ (n : NetworkModel) (q : Query) (tables : List PlaceTable) (fit : AreFit
   after-ride rides leg x next away some = rw (ne_eqb (end_of n leg) q.target.0 away) (ap (λ next. ride_or_stuck n (next_after rides) next (end_of n leg) x) some)
 
   in_time : (p x : ℕ) → p ≡ q.target.0 → Never (Done x) → SafeHere (Done x) p x
-  in_time p x there never = elim (cases_lt q.deadline.0 x) [
-    | inl late ↦ absurd (never q.target.0 x (refl, refl, late))
-    | inr soon ↦ (refl, there, soon)
-  ]
+  in_time p x there never = grind (arith, cases_lt)
 
   kids_safe : (next : ℕ → Tree) (p scheduled : ℕ) → ((x : ℕ) → Never (next x) → SafeHere (next x) p x) → (row : List Outcome)
       → ((r y : ℕ) → FailsIn q (kids_after next scheduled row) r y → ⊥) → AreSafe n q.target.0 (Some q.deadline.0) (kids_after next scheduled row) row p scheduled

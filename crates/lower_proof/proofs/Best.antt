@@ -1,5 +1,5 @@
 -- What is accepted is a lower bound on each safe tree, and a tight certificate is the best.
-use Rattle.std.proofs.Common.{◌≡◌, ◌≢◌, ℕ, ◌+◌, ◌*◌, ◌/◌, ◌^◌, ◌≤◌, List, [], ◌∷◌, Option, Some, None, arith, sym, subst, refl, map, length, sum_by, inl, inr}
+use Rattle.std.proofs.Common.{◌≡◌, ◌≢◌, ℕ, ◌+◌, ◌*◌, ◌/◌, ◌^◌, ◌≤◌, List, [], ◌∷◌, Option, Some, None, arith, subst, refl, map, length, sum_by, inl, inr}
 use Rattle.std.proofs.Common.{mul_assoc, mul-add, mul-le-mul_left}
 use Rattle.std.proofs.lemmas.Bool.Decides.{nat_tests}
 use Rattle.plan_model.specs.declared.model.Outcome.{Outcome}
@@ -34,10 +34,7 @@ arrived_in_time deadline x in_time = grind (arith, nat_tests)
 module _ (n : NetworkModel) (q : Query) (values : List (Option ℕ)) where
   -- who is at the target has arrived
   pub target_least : (Boards : ℕ → Type 0) (p x : ℕ) → p ≡ q.target.0 → x ≤ q.deadline.0 → IsLeastValue n q values Boards p x (Some (1000000000 * x))
-  target_least Boards p x there in_time = record {
-    at_target = λ e. sym (arrived_in_time q.deadline.0 x in_time);
-    elsewhere = λ away. absurd (away there);
-  }
+  target_least Boards p x there in_time = grind (arith, arrived_in_time)
 
   done_below : (a x : ℕ) → a ≡ x → Below (1000000000 * x) (Done a)
   done_below a x is h tall = rw is (omega (arith, mul_assoc 1000000000 x (10000 ^ h)))

@@ -28,15 +28,7 @@ pub record AreFound (n : NetworkModel) (last m : ℕ) (entries : List Entry) : T
   pub rising : AllPairs (λ a b. a.id.0 < b.id.0) entries
 
 pub found_later : (n : NetworkModel) (last m : ℕ) (entries : List Entry) → last < dep_of n m → AreFound n last m entries → AreFound n last (m + 1) entries
-found_later n last m entries late found = record {
-  each = found.each;
-  below = λ k d within. let less = found.below k d within in omega arith;
-  all = λ c less soon. elim (cases_lt c m) [
-    | inl before ↦ found.all c before soon
-    | inr newest ↦ let is : c ≡ m = omega arith in absurd (let same = ap (dep_of n) is in omega arith)
-  ];
-  rising = found.rising;
-}
+found_later n last m entries late found = grind (arith, cases_lt)
 
 pub found_more : (n : NetworkModel) (last m : ℕ) (entries : List Entry) (e : Entry) → m < count n → e.id.0 ≡ m → e.by.0 ≡ dep_of n m → e.by.0 ≤ last
     → AreFound n last m entries → AreFound n last (m + 1) (entries ++ e ∷ [])

@@ -80,10 +80,7 @@ module _ (n : NetworkModel) (valid : IsValid n) (q : Query) (values : List (Opti
     fewer_after p x c v offer = after_boards n x c offer.there (boards_later n valid p x c offer.there offer.boards)
 
     or_arrived : (m : ℕ) → HoldsAway m → HoldsBy m
-    or_arrived m elsewhere p x v few least = elim (cases_eq p q.target.0) [
-      | inl there ↦ let done = in_time_of q.deadline.0 x v (least.at_target there) in arrived p x v there done.0 done.1
-      | inr away ↦ let offered = (least.elsewhere away).0 in elsewhere p x offered.0 v few away offered.1
-    ]
+    or_arrived m elsewhere p x v few least = grind (arith, cases_eq, in_time_of)
 
     holds_away : (m : ℕ) → HoldsAway m
     holds_away zero p x c v few away offer = absurd (omega (arith, fewer_after p x c v offer))

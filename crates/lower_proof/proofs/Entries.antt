@@ -112,17 +112,11 @@ module _ (n : NetworkModel) (last id : ℕ) where
 
   -- a connection that cannot be boarded, or departs later
   pub entries_skipped : (boards : List ShownBoard) → (IsTrue (connection n id).can_board → dep_of n id ≤ last → ⊥) → HaveEntries n last id boards → HaveEntries n last (id + 1) boards
-  entries_skipped boards never have p within = (
-    entries_next p (board_at boards p).entries (have p within).0 (λ x soon can own. absurd (never can soon)),
-    (have p within).1,
-  )
+  entries_skipped boards never have p within = grind (arith, entries_next)
 
   module _ (valid : IsValid n) (departs_in : from_of n id < length n.change) (k : ℕ) (way : Way) (listed : slice_get (ways_into n (from_of n id)) k ≡ Some way) where
     same_way : (j : ℕ) (other : Way) → j < k + 1 → slice_get (ways_into n (from_of n id)) j ≡ Some other → (j < k) ⊎ (other ≡ way)
-    same_way j other below at = elim (cases_lt j k) [
-      | inl before ↦ inl before
-      | inr last ↦ let e : j ≡ k = omega arith in inr (let both = sym at ∙ ap (slice_get (ways_into n (from_of n id))) e ∙ listed in cc)
-    ]
+    same_way j other below at = grind (arith, cases_lt)
 
     seconds_are : (x : ℕ) (board : IsBoardable n way.from.0 x id) → board.seconds ≡ way.seconds
     seconds_are x board = let both = sym board.way ∙ way_of-listed n valid (from_of n id) departs_in k way listed in cc
@@ -202,21 +196,4 @@ sorted_more n last k boards board inside moved falls fresh sorted = record {
 
 -- no value is known yet, so what is known is right
 pub sorted_fresh : (n : NetworkModel) (last : ℕ) (boards : List ShownBoard) → AreSorted n last (length boards) boards → AreFresh n last boards
-sorted_fresh n last boards sorted =
-    let none : (p : ℕ) → p < length boards → length (board_at boards p).least ≡ 0 = λ p within. ap length (sorted.entries p within).1 in
-    record {
-      right = λ values as_many none_after. record {
-        none_after = none_after;
-        as_many = sorted.len;
-        each = λ p within. record {
-          entries = (sorted.entries p within).0;
-          right = record {
-            sizes = omega (arith, none p within);
-            falls = sorted.falls p within;
-            ids = λ k inside. omega (arith, ((sorted.entries p within).0.each k inside).there);
-            minima = λ k below. absurd (omega (arith, none p within));
-          };
-        };
-      };
-      late = λ m p within k below. absurd (omega (arith, none p within));
-    }
+sorted_fresh n last boards sorted = grind arith

@@ -1,6 +1,6 @@
 -- The least values of leaving the runs, over the connections that are scanned.
-use Rattle.std.proofs.Common.{◌≡◌, ◌≢◌, ℕ, ◌<◌, ◌≤◌, List, [], ◌∷◌, ◌++◌, length, set, Option, Some, None, IsTrue, arith, inl, inr, sym, ◌∙◌, ap, subst, refl}
-use Rattle.std.proofs.Common.{◌+◌, length-set}
+use Rattle.std.proofs.Common.{◌≡◌, ◌≢◌, ℕ, ◌<◌, ◌≤◌, List, [], ◌∷◌, ◌++◌, length, set, Option, Some, None, IsTrue, arith, inl, inr, sym, ◌∙◌, subst, refl, ◌+◌}
+use Rattle.std.proofs.Common.{length-set}
 use Rattle.plan_model.specs.declared.model.ConnectionId.{ConnectionId}
 use Rattle.plan_model.specs.declared.model.Query.{Query}
 use Rattle.plan_model.specs.NetworkModel.{NetworkModel}
@@ -53,22 +53,11 @@ module _ (n : NetworkModel) (q : Query) (values : List (Option ℕ)) (last : ℕ
 
   -- another run
   other_run : (run : ℕ) → run ≢ run_of n id.0 → (least : Option ℕ) → IsLeastOf (LeavesBy n q values last taken run) least → IsLeastOf (LeavesBy n q values last (id ∷ taken) run) least
-  other_run run differ least = least_same (LeavesBy n q values last taken run) (LeavesBy n q values last (id ∷ taken) run) (grown run) least
-      (λ v by. elim by.known [
-        | inl is ↦ absurd (differ (sym by.of_run ∙ ap (run_of n) is))
-        | inr known ↦ record { exit = by.exit; there = by.there; known = known; of_run = by.of_run; via = by.via }
-      ])
+  other_run run differ least = grind (arith, least_same, grown)
 
   -- whoever boards the connection can leave by the known ones of its run
   least_ride : IsTrue (connection n id.0).can_board → (best : Option ℕ) → IsLeastOf (LeavesBy n q values last (id ∷ taken) (run_of n id.0)) best → IsLeastOf (Rides n q values id.0) best
-  least_ride board best = least_same (LeavesBy n q values last (id ∷ taken) (run_of n id.0)) (Rides n q values id.0)
-      (λ v by. (
-        by.exit,
-        record { enter = next.there; exit = by.there; one_run = sym by.of_run; onward = next.exits_after by.exit by.there by.known by.of_run; board = board; leave = by.via.leave },
-        by.via,
-      ))
-      best
-      (λ v ride. record { exit = ride.0; there = ride.1.exit; known = next.exits_known ride.0 ride.1; of_run = sym ride.1.one_run; via = ride.2 })
+  least_ride board best = grind (arith, least_same)
 
 -- ---- what is known while connections are scanned
 
@@ -205,10 +194,7 @@ module _ (n : NetworkModel) (good : IsValid n) (q : Query) (moment : ℕ) where
 
 module _ (n : NetworkModel) (good : IsValid n) (q : Query) (last : ℕ) (taken : List ConnectionId) (id : ConnectionId) (next : IsNext n (Known (Late n last) taken) id.0) where
   known_later : (c : ℕ) → c < count n → Known (Late n last) (id ∷ taken) c → dep_of n id.0 ≤ dep_of n c
-  known_later c there known = elim known [
-    | inl is ↦ let same = ap (dep_of n) is in omega arith
-    | inr before ↦ next.later c there before
-  ]
+  known_later c there known = grind arith
 
   module _ (values others : List (Option ℕ)) (agree : Agree n (dep_of n id.0) values others) where
     pub rides_agree : (c : ℕ) → c < count n → Known (Late n last) (id ∷ taken) c → (least : Option ℕ) → IsLeastOf (Rides n q values c) least → IsLeastOf (Rides n q others c) least

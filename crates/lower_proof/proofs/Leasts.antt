@@ -73,10 +73,7 @@ module _ (R : ℕ → ℕ → Type 0) where
   grown m v f = (f.0, omega (arith, f.1), f.2)
 
   at_last : (m v : ℕ) → Below R (m + 1) v → Below R m v ⊎ R m v
-  at_last m v f = elim (cases_lt f.0 m) [
-    | inl before ↦ inl (f.0, before, f.2)
-    | inr last ↦ let e : f.0 ≡ m = omega (arith, f.1) in inr (subst (λ k. R k v) e f.2)
-  ]
+  at_last m v f = grind (arith, cases_lt)
 
   -- one more, which has this value, where it has one
   pub below_more : (m : ℕ) (r here : Option ℕ) → ((v : ℕ) → here ≡ Some v → R m v) → ((v : ℕ) → R m v → here ≡ Some v) → IsLeastOf (Below R m) r
@@ -138,13 +135,7 @@ module _ (n : NetworkModel) (values : List (Option ℕ)) (p x : ℕ) where
   least_boardable = least_offer n values (IsBoardable n p x) (λ c. by_way c (way_of n p (from_of n c)) refl)
 
   starts_or_not : (c : ℕ) → IsBoardableAtStart n p x c ⊎ (IsBoardableAtStart n p x c → ⊥)
-  starts_or_not c = elim (cases_eq (from_of n c) p) [
-    | inl there ↦ elim (cases_lt (dep_of n c) x) [
-      | inl late ↦ inr (λ b. omega (arith, b.1))
-      | inr in_time ↦ inl (there, in_time)
-    ]
-    | inr away ↦ inr (λ b. away b.0)
-  ]
+  starts_or_not c = grind (arith, cases_eq, cases_lt)
 
   -- the least of those that one can board at the start
   pub least_at_start : (r : Option ℕ) × IsLeastOf (λ v. (c : ℕ) × Offers n values (IsBoardableAtStart n p x) c v) r

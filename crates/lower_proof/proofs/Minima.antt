@@ -1,6 +1,6 @@
 -- Least values of front parts, one entry after the other.
-use Rattle.std.proofs.Common.{◌≡◌, ◌≢◌, ℕ, ◌+◌, ◌-◌, ◌<◌, ◌≤◌, List, get_or, length, take, set, Option, Some, None, arith, inl, inr, sym, subst}
-use Rattle.std.proofs.Common.{get_or-set_other, get_or-set_same, length-take, get_or-take}
+use Rattle.std.proofs.Common.{◌≡◌, ◌≢◌, ℕ, ◌+◌, ◌-◌, ◌<◌, ◌≤◌, List, get_or, length, take, set, Option, Some, None, arith, get_or-set_other, get_or-set_same}
+use Rattle.std.proofs.Common.{length-take, get_or-take}
 use Rattle.std.proofs.lemmas.Bool.{cases_eq, cases_lt}
 use Rattle.lower_proof.specs.declared.board.Entry.{Entry}
 use Rattle.lower_proof.specs.Certificates.{bound_of, IsLeastOf}
@@ -12,18 +12,13 @@ use Rattle.lower_proof.proofs.Leasts.{least_same, below_more}
 -- what holds of the elements of a list by their positions, after one is set
 pub get_or-set : {A : Type 0} (P : ℕ → A → Type 0) (xs : List A) (i j : ℕ) (x d : A) → i < length xs → P i x → (j ≢ i → P j (get_or xs j d))
     → P j (get_or (set xs i x) j d)
-get_or-set P xs i j x d inside here other = elim (cases_eq j i) [
-  | inl is ↦ subst (λ k. P k (get_or (set xs i x) k d)) (sym is) (rw (get_or-set_same xs i x d inside) here)
-  | inr differ ↦ rw (get_or-set_other xs i j x d differ) (other differ)
-]
+get_or-set P xs i j x d inside here other = grind (arith, cases_eq, get_or-set_same, get_or-set_other)
 
 module _ (values : List (Option ℕ)) (entries : List Entry) where
   -- the least of the first k, from those that are known
   pub before_is : (least : List (Option ℕ)) (k known : ℕ) → 1 ≤ k → k ≤ known → AreMinima values entries least known
       → IsLeastOf (FrontValue values entries k) (least_of least (k - 1))
-  before_is least k known some within minima =
-      let e : k - 1 + 1 ≡ k = omega arith in
-      subst (λ m. IsLeastOf (FrontValue values entries m) (least_of least (k - 1))) e (minima (k - 1) (omega arith))
+  before_is least k known some within minima = grind arith
 
   pub minima_more : (least : List (Option ℕ)) (k : ℕ) (before : Option ℕ) → k < length least → AreMinima values entries least k
       → IsLeastOf (FrontValue values entries k) before → AreMinima values entries (set least k (lesser before (bound_of values (entry_at entries k).id.0))) (k + 1)
@@ -36,22 +31,10 @@ module _ (values : List (Option ℕ)) (entries : List Entry) where
   -- the first entries that are in time give the values in time
   pub front_in_time : (x m : ℕ) → m ≤ length entries → ((k : ℕ) → k < m → x ≤ (entry_at entries k).by.0)
       → ((k : ℕ) → m ≤ k → k < length entries → (entry_at entries k).by.0 < x) → (least : Option ℕ) → IsLeastOf (FrontValue values entries m) least → IsLeastOf (ValueInTime values entries x) least
-  front_in_time x m within in_time late least is = least_same (FrontValue values entries m) (ValueInTime values entries x)
-      (λ v f. (f.0, omega (arith, f.1), in_time f.0 f.1, f.2)) least
-      (λ v t. elim (cases_lt t.0 m) [
-        | inl front ↦ (t.0, front, t.3)
-        | inr back ↦ absurd (omega (arith, late t.0 back t.1, t.2))
-      ]) is
+  front_in_time x m within in_time late least is = grind (arith, least_same, cases_lt)
 
 -- what is shown of a board whose first least values are known
 pub board_shown : (values : List (Option ℕ)) (entries : List Entry) (least : List (Option ℕ)) (known : ℕ) → Falls entries
     → ((k : ℕ) → k < length entries → (entry_at entries k).id.0 < length values) → known ≤ length least → known ≤ length entries
     → AreMinima values entries least known → IsBoard values (record { entries = entries; least = take known least })
-board_shown values entries least known falls ids within inside minima = record {
-  sizes = omega (arith, length-take known least);
-  falls = falls;
-  ids = ids;
-  minima = λ k below.
-      let early : k < known = omega (arith, length-take known least) in
-      rw (get_or-take known least k None early) (minima k early);
-}
+board_shown values entries least known falls ids within inside minima = grind (arith, length-take, get_or-take)

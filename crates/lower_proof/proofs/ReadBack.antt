@@ -9,7 +9,7 @@ use Rattle.std.proofs.lemmas.List.{drop_all}
 use Rattle.std.proofs.lemmas.Bool.{cases_eq}
 use Rattle.csv.proofs.RoundTrip.{rows_text as text_of_rows}
 use Rattle.csv.specs.Reading.{strip_bom}
-use Rattle.clock_text.specs.Civil.{moment_text, nanos_text, last_printable}
+use Rattle.clock_text.specs.Civil.{nanos_text, last_printable}
 use Rattle.clock_text.proofs.Walk.{text_tells}
 use Rattle.clock_text.proofs.NanosLemmas.{nanos_tell}
 use Rattle.csv_rows.specs.Tables.{table_of, row_count}
@@ -18,7 +18,7 @@ use Rattle.plan_model.specs.NetworkModel.{NetworkModel}
 use Rattle.plan_model.specs.NameLists.{NameLists, NamesFit, AreNames}
 use Rattle.plan_model.specs.Network.{IsValid, count, run_of, step_of}
 use Rattle.printed_rows.specs.Fields.{rises}
-use Rattle.printed_rows.specs.Writers.{place_name, run_name, text_of_records}
+use Rattle.printed_rows.specs.Writers.{run_name, text_of_records}
 use Rattle.printed_rows.proofs.Found.{connection_back}
 use Rattle.printed_rows.proofs.Lines.{records_printed, text_step, split_at}
 use Rattle.printed_rows.proofs.Plain.{moment_kept, nanos_kept, decimal_kept, whole_back}
@@ -218,10 +218,7 @@ module _ (n : NetworkModel) (names : NameLists) (valid : IsValid n) (fit : Names
   module _ (q : Query) (values : List (Option ℕ)) (source : q.source.0 < length n.change) (target : q.target.0 < length n.change)
       (start : q.start.0 ≤ last_printable) (deadline : q.deadline.0 ≤ last_printable) (in_time : q.start.0 ≤ q.deadline.0) (few : count_by is_some values ≤ 999999999) where
     bounds_kept : IsKept (bounds_record names q values)
-    bounds_kept =
-        seven_kept (codes "bounds") (codes "1") (place_name names q.source.0) (place_name names q.target.0) (moment_text q.start.0) (moment_text q.deadline.0)
-        (decimal (count_by is_some values)) refl refl (place_kept n names fit q.source.0 source) (place_kept n names fit q.target.0 target) (moment_kept q.start.0) (moment_kept q.deadline.0)
-        (decimal_kept (count_by is_some values) (omega (arith, few)))
+    bounds_kept = grind (arith, seven_kept, place_kept, moment_kept, decimal_kept)
 
     abbrev bounds : BoundsRow
     bounds = record { start = q.start; deadline = q.deadline; number = count_by is_some values }
@@ -231,14 +228,7 @@ module _ (n : NetworkModel) (names : NameLists) (valid : IsValid n) (fit : Names
         rw (text_tells q.start.0 start, text_tells q.deadline.0 deadline, whole_back (count_by is_some values) few, le-leb q.start.0 q.deadline.0 in_time) refl
 
     bounds_back : bounds_in names q.source.0 q.target.0 q.start.0 (bounds_record names q values) ≡ Ok bounds
-    bounds_back = rw (
-      bounds_row_back,
-      place_back n names fit own q.source.0 source,
-      place_back n names fit own q.target.0 target,
-      eq-eqb q.source.0 q.source.0 refl,
-      eq-eqb q.target.0 q.target.0 refl,
-      eq-eqb q.start.0 q.start.0 refl,
-    ) refl
+    bounds_back = grind (arith, bounds_row_back, place_back, eq-eqb)
 
     no_mark : (rest : List (List ℕ)) (others : List (List (List ℕ))) → strip_bom (text_of_rows ((codes "bounds" ∷ rest) ∷ others)) ≡ text_of_rows ((codes "bounds" ∷ rest) ∷ others)
     unfolding strip_bom text_of_rows
@@ -293,7 +283,4 @@ values_done n names values i new all whole is =
 
 -- one more fits
 pub fit_more : (values : List (Option ℕ)) (i : ℕ) → AllFit i values → ((v : ℕ) → slice_index_or values i None ≡ Some v → v < 2 ^ 64) → AllFit (i + 1) values
-fit_more values i before here = λ c v less is. elim (cases_eq c i) [
-  | inl same ↦ here v (subst (λ (k : ℕ). slice_index_or values k None ≡ Some v) same is)
-  | inr differ ↦ before c v (omega (arith, less, differ)) is
-]
+fit_more values i before here = grind (arith, cases_eq)

@@ -61,16 +61,7 @@ pub record IsReadTo (n : NetworkModel) (names : NameLists) (t : List (List (List
 
 pub read_first : (n : NetworkModel) (names : NameLists) (t : List (List (List ℕ))) (stated : ℕ) (values : List (Option ℕ)) → length values ≡ count n → ((c : ℕ) → bound_of values c ≡ None)
     → IsReadTo n names t stated 0 values None
-read_first n names t stated values as_many none = record {
-  rows = omega arith;
-  stated_rows = omega arith;
-  faultless = λ k less. absurd (omega (arith, less));
-  before = refl;
-  below = λ k c less is. absurd (omega (arith, less));
-  as_many = as_many;
-  told = λ k c less is. absurd (omega (arith, less));
-  others = λ c never. none c;
-}
+read_first n names t stated values as_many none = grind arith
 
 -- the fault of row i, by what it tells after the row before
 fault_is : (n : NetworkModel) (names : NameLists) (t : List (List (List ℕ))) (stated i : ℕ) (last : Option ℕ) (told : Result Told ProofFault) → i < stated → last ≡ connection_before n names t i
@@ -119,10 +110,7 @@ module _ (n : NetworkModel) (names : NameLists) (t : List (List (List ℕ))) (st
       fresh k less at = let b = so_far.below k c less at in let l_below = above last b.0 c b.1 own_row.rise in omega (arith, l_below, b.2)
 
       named : (k d : ℕ) → k ≡ i → connection_in n names (value_row t k) ≡ Some d → d ≡ c
-      named k d same at =
-          let at_i : connection_in n names (value_row t i) ≡ Some d = subst (λ (m : ℕ). connection_in n names (value_row t m) ≡ Some d) same at in
-          let both : ◌≡◌ {A = Option ℕ} (Some d) (Some c) = sym at_i ∙ own_row.connection in
-          cc
+      named k d same at = grind (arith, own_row)
 
       stored : bound_of (set values c (Some told.value)) c ≡ Some told.value
       stored = get_or-set_same values c (Some told.value) None (omega (arith, there, so_far.as_many))

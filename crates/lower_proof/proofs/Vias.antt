@@ -1,8 +1,7 @@
 -- The value of leaving by a connection.
 use Rattle.std.proofs.Common.{◌≡◌, ℕ, zero, suc, ◌+◌, ◌*◌, ◌/◌, ◌<◌, ◌≤◌, List, [], ◌∷◌, ◌++◌, length, take, drop, get_or, Option, Some, None, IsTrue, arith}
-use Rattle.std.proofs.Common.{inl, inr, sym, ◌∙◌, ap, subst, refl, drop-cons, mul-le-mul_left, mul-add, mul_comm, sum_by}
+use Rattle.std.proofs.Common.{sym, ◌∙◌, ap, subst, refl, drop-cons, mul-le-mul_left, mul-add, mul_comm, sum_by}
 use Rattle.std.proofs.lemmas.Bool.{cases_eq}
-use Rattle.std.proofs.lemmas.Bool.Decides.{nat_tests}
 use Rattle.std.proofs.lemmas.List.{take_more}
 use Rattle.std.proofs.lemmas.List.Sums.{sum_by-cons}
 use Rattle.plan_model.specs.declared.model.Outcome.{Outcome}
@@ -11,17 +10,14 @@ use Rattle.plan_model.specs.NetworkModel.{NetworkModel}
 use Rattle.plan_model.specs.Network.{IsValid, count, connection, to_of, arr_of, outcomes}
 use Rattle.plan_model.proofs.Boarding.{boards_later}
 use Rattle.interval_fixed.specs.Means.{weighted}
-use Rattle.lower_proof.specs.Certificates.{IsLeastOf, Offers, arrived_by, IsLeastValue, IsLeastAt, AreLeast, IsVia}
+use Rattle.lower_proof.specs.Certificates.{IsLeastOf, IsLeastValue, IsLeastAt, AreLeast, IsVia}
 use Rattle.lower_proof.specs.Departures.{NoneAfter}
 use Rattle.lower_proof.proofs.Leasts.{IsLeastOf-unique}
 
 -- there is only one least value
 pub IsLeast-unique : (n : NetworkModel) (q : Query) (values : List (Option ℕ)) (Boards : ℕ → Type 0) (p x : ℕ) (r s : Option ℕ) → IsLeastValue n q values Boards p x r
     → IsLeastValue n q values Boards p x s → r ≡ s
-IsLeast-unique n q values Boards p x r s h k = elim (cases_eq p q.target.0) [
-  | inl there ↦ h.at_target there ∙ sym (k.at_target there)
-  | inr away ↦ IsLeastOf-unique (λ v. (c : ℕ) × Offers n values Boards c v) r s (h.elsewhere away) (k.elsewhere away)
-]
+IsLeast-unique n q values Boards p x r s h k = grind (arith, cases_eq, IsLeastOf-unique)
 
 -- an outcome of a row
 abbrev pub outcome_at : List Outcome → ℕ → Outcome
@@ -29,9 +25,7 @@ outcome_at items k = get_or items k (record { delay = 0; weight = 0 })
 
 -- room for one outcome less
 room_step : (w v s t most : ℕ) → v ≤ most → s + most * (w + t) ≤ 184467440737095516150000 → s + w * v + most * t ≤ 184467440737095516150000
-room_step w v s t most small room =
-    let scaled = mul-le-mul_left w small in
-    omega (arith, scaled, mul-add most w t, mul_comm w most)
+room_step w v s t most small room = grind (arith, mul-le-mul_left, mul-add, mul_comm)
 
 pub room_next : (items : List Outcome) (k sum v : ℕ) → k < length items → v ≤ 18446744073709551615
     → sum + 18446744073709551615 * sum_by (λ o. o.weight) (drop k items) ≤ 184467440737095516150000
@@ -111,18 +105,7 @@ module _ (n : NetworkModel) (q : Query) (values : List (Option ℕ)) (j : ℕ) w
 module _ (n : NetworkModel) (good : IsValid n) (q : Query) (values : List (Option ℕ)) (last : ℕ) (deadline : q.deadline.0 ≤ last) (none_after : NoneAfter n values last) where
   -- nor is there a least value after such an arrival
   no_least : (p x v : ℕ) → last < x → IsLeastAt n q values p x (Some v) → ⊥
-  no_least p x v late least = elim (cases_eq p q.target.0) [
-    | inl there ↦
-        let none : arrived_by q.deadline.0 x ≡ None = grind (arith, nat_tests) in
-        let both = least.at_target there ∙ none in
-        absurd (cc)
-    | inr away ↦
-        let offer = (least.elsewhere away).0.1 in
-        let c = (least.elsewhere away).0.0 in
-        let boards = boards_later n good p x c offer.there offer.boards in
-        let both = sym offer.value ∙ none_after c offer.there (omega arith) in
-        absurd (cc)
-  ]
+  no_least p x v late least = grind (arith, cases_eq, boards_later)
 
   pub no_via : (j v : ℕ) → j < count n → last < arr_of n j → IsVia n q values j v → ⊥
   no_via j v there late via = by_row (outcomes n j) via.least (good.rows (connection n j).class.0 (good.connections j there).class_in).some via.are_least

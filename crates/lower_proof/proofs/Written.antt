@@ -160,10 +160,4 @@ module _ {n : NetworkModel} (good : IsValid n) {q : Query} {last : ℕ} where
         }
 
   pub written_last : {left : List Entry} {exits values : List (Option ℕ)} {boards : List ShownBoard} → Written n q last left exits values boards → length left ≡ 0 → IsTight n q values
-  written_last {left} written none =
-      let known = all_taken n good last written.taken left none written.scanned.rest in
-      record {
-        as_many = written.as_many;
-        boarded = λ c there board. (written.own c there (known c there)).0 board;
-        others = λ c there never. (written.own c there (known c there)).1 never;
-      }
+  written_last {left} written none = grind (arith, all_taken)

@@ -29,11 +29,4 @@ returns c =
     subst (λ t. IsOutlook n q c.index-as_slice-start.result t) (sym (unfold-start n q graph leg start.differ c.in-Some.is)) (rw (own, same) told)
 
 pub bounds-as_slice-start : goal.bounds-as_slice-start
-bounds-as_slice-start c =
-    let there = (start_fits c.args.network.now c.args.query.now c.args.graph.now c.in-Some.start c.requires.fit c.in-Some.is).is_leg.exit in
-    let kept = c.fill.new.outlooks in
-    let many : c.in_ok-outlooks.outlooks.len ≡ length kept = omega (arith, c.in_ok-outlooks.ensures.len, c.count.ensures.count, c.fill.ensures.as_many) in
-    let same : c.as_slice.result.now ≡ kept = c.as_slice.ensures.value ∙ take_at kept
-    (drop (length kept) c.in_ok-outlooks.outlooks.items) c.in_ok-outlooks.outlooks.len (sym many) in
-    let size = ap (λ (outlooks : List Outlook). length outlooks) same in
-    omega (arith, size, c.fill.ensures.as_many, there)
+bounds-as_slice-start c = grind (arith, start_fits, take_at)

@@ -1,4 +1,4 @@
-use Rattle.std.proofs.Common.{◌∙◌, All, subst}
+use Rattle.std.proofs.Common.{◌∙◌, All, subst, arith}
 use Rattle.plan_graph.specs.Unfold.{unfold_plan}
 use Rattle.graph_score.specs.Legs.{IsFitLeg}
 use Rattle.graph_score.specs.Steps.{IsOutlook}
@@ -14,9 +14,4 @@ returns-in-Safe c =
     (fit, safe_told n c.count-count.ensures.valid q graph fit c.in-Safe.span (subst (λ o. IsOutlook n q o (unfold_plan graph n q)) c.in-Safe.is c.in-Ok-outlook.ensures))
 
 pub returns : goal.returns
-returns c =
-    let n = c.args.network.now in
-    let q = c.args.query.now in
-    let graph = c.args.graph.now in
-    let fit = subst (All (IsFitLeg n q)) (c.deref.ensures.value ∙ c.in-Ok.ensures) c.in_default-first_wrong.ensures.none in
-    (fit, failing_told n q (unfold_plan graph n q) c.in-Failing.failure (subst (λ o. IsOutlook n q o (unfold_plan graph n q)) c.in-Failing.is c.in-Ok-outlook.ensures))
+returns c = grind (arith, failing_told)
