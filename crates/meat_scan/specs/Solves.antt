@@ -15,7 +15,8 @@ IsSafeAt network query place arrival tree = IsSafe network query.target.0 (Some 
 
 -- the choice after an arrival: its tree is safe, its value covers that tree and is below every safe one, within the gap,
 -- and its leg is kept up to its limit
-pub record SolvesEach {V : Type 0} (below covers : V → Tree → Type 0) (gap : V → ℕ) (network : NetworkModel) (query : Query) (found : ScanResult V) (place arrival : ℕ) (answer : V × Leg) : Type 0 where
+pub record SolvesEach {V : Type 0} (below covers : V → Tree → Type 0) (gap : V → ℕ) (network : NetworkModel) (query : Query)
+    (found : ScanResult V) (place arrival : ℕ) (answer : V × Leg) : Type 0 where
   pub safe : IsSafeAt network query place arrival (chosen_at network query found place arrival)
   pub covers_chosen : covers answer.0 (chosen_at network query found place arrival)
   pub below_safe : (tree : Tree) → IsSafeAt network query place arrival tree → below answer.0 tree
