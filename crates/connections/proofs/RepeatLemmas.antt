@@ -1,7 +1,8 @@
 -- The runs of a row of frequencies that ride in a window, gathered from the last kept row to the first.
 use Rattle.std.proofs.Common.{◌≡◌, ℕ, ℤ, pos, suc, ◌+◌, ◌-◌, ◌*◌, ◌<◌, ◌≤◌, ◌<ℤ◌, ◌≤ℤ◌, max, nat_lt, nat_le, Bool, true, false, List, ◌++◌, length, All, refl}
-use Rattle.std.proofs.Common.{sym, ap, ◌∙◌, arith, ⊎_elim, if◌then◌else◌, AllPairs, le-mul_of_pos_right, mul-le-mul_right, suc-mul, le-ltb, leb-true, ltb-true}
+use Rattle.std.proofs.Common.{sym, ap, ◌∙◌, arith, ⊎_elim, if◌then◌else◌, AllPairs, le-ltb, leb-true, ltb-true}
 use Rattle.std.proofs.Common.{le-leb, lt-ltb}
+use Rattle.std.proofs.Math.Nat.{le-mul_of_pos_right, mul-le-mul_right, suc-mul}
 use Rattle.std.proofs.lemmas.Bool.{cases_lt, false_from_ne_true, and_parts, and_from, lt-leb}
 use Rattle.std.proofs.lemmas.Int.{ints, by_lt_z}
 use Rattle.csv_rows.specs.Lists.{list_below}

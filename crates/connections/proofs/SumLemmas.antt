@@ -1,6 +1,7 @@
 -- Sums over the steps, the trips and the days of a window.
 use Rattle.std.proofs.Common.{◌≡◌, ℕ, zero, suc, ◌+◌, ◌-◌, ◌*◌, ◌^◌, ◌<◌, ◌≤◌, min, Bool, true, false, List, [], ◌∷◌, length, get_or, if◌then◌else◌, refl, sym}
-use Rattle.std.proofs.Common.{ap, ◌∙◌, arith, ⊎_elim, sum_by, nat_lt, ◌&&◌, pos, ◌≤ℤ◌, le-mul_of_pos_right, suc-mul, add-mul, zero-mul}
+use Rattle.std.proofs.Common.{ap, ◌∙◌, arith, ⊎_elim, sum_by, nat_lt, ◌&&◌, pos, ◌≤ℤ◌}
+use Rattle.std.proofs.Math.Nat.{le-mul_of_pos_right, suc-mul, add-mul, zero-mul}
 use mathlib.Core.Path.{fun_ext}
 use Rattle.std.proofs.lemmas.Bool.{cases_lt, cases_Bool, cond_both, and_parts}
 use Rattle.std.proofs.lemmas.Int.{ints}

@@ -1,5 +1,6 @@
 -- The mean of chances is at most certainty.
-use Rattle.std.proofs.Common.{ℕ, ◌*◌, ◌≤◌, List, [], ◌∷◌, All, arith, zero, suc, sum_by, mul-le-mul_left, mul-add, mul_comm}
+use Rattle.std.proofs.Common.{ℕ, ◌*◌, ◌≤◌, List, [], ◌∷◌, All, arith, zero, suc, sum_by}
+use Rattle.std.proofs.Math.Nat.{mul-le-mul_left, mul-add, mul_comm}
 use Rattle.std.proofs.lemmas.List.Sums.{sum_by-cons}
 use Rattle.plan_model.specs.declared.model.Outcome.{Outcome}
 use Rattle.plan_model.specs.DelayRows.{IsValidRow}

@@ -1,6 +1,6 @@
 -- What is accepted is a lower bound on each safe tree, and a tight certificate is the best.
 use Rattle.std.proofs.Common.{◌≡◌, ◌≢◌, ℕ, ◌+◌, ◌*◌, ◌/◌, ◌^◌, ◌≤◌, List, [], ◌∷◌, Option, Some, None, arith, subst, refl, map, length, sum_by, inl, inr}
-use Rattle.std.proofs.Common.{mul_assoc, mul-add, mul-le-mul_left}
+use Rattle.std.proofs.Math.Nat.{mul_assoc, mul-add, mul-le-mul_left}
 use Rattle.std.proofs.lemmas.Bool.Decides.{nat_tests}
 use Rattle.plan_model.specs.declared.model.Outcome.{Outcome}
 use Rattle.plan_model.specs.declared.model.Query.{Query}

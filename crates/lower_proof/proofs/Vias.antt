@@ -1,6 +1,8 @@
 -- The value of leaving by a connection.
 use Rattle.std.proofs.Common.{◌≡◌, ℕ, zero, suc, ◌+◌, ◌*◌, ◌/◌, ◌<◌, ◌≤◌, List, [], ◌∷◌, ◌++◌, length, take, drop, get_or, Option, Some, None, IsTrue, arith}
-use Rattle.std.proofs.Common.{sym, ◌∙◌, ap, subst, refl, drop-cons, mul-le-mul_left, mul-add, mul_comm, sum_by}
+use Rattle.std.proofs.Common.{sym, ◌∙◌, ap, subst, refl, sum_by}
+use Rattle.std.proofs.Math.Seq.{drop-cons}
+use Rattle.std.proofs.Math.Nat.{mul-le-mul_left, mul-add, mul_comm}
 use Rattle.std.proofs.lemmas.Bool.{cases_eq}
 use Rattle.std.proofs.lemmas.List.{take_more}
 use Rattle.std.proofs.lemmas.List.Sums.{sum_by-cons}

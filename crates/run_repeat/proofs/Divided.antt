@@ -1,5 +1,6 @@
 -- How many departures are before a second, by a quotient.
-use Rattle.std.proofs.Common.{ℕ, ◌+◌, ◌-◌, ◌*◌, ◌/◌, ◌<◌, ◌≤◌, ◌↔◌, arith, le-div_iff_mul-le}
+use Rattle.std.proofs.Common.{ℕ, ◌+◌, ◌-◌, ◌*◌, ◌/◌, ◌<◌, ◌≤◌, ◌↔◌, arith}
+use Rattle.std.proofs.Math.Nat.{le-div_iff_mul-le}
 use Rattle.trip_frequencies.specs.declared.frequencies.FrequencyRow.{FrequencyRow}
 use Rattle.run_repeat.specs.Runs.{AreBelow, departure}
 

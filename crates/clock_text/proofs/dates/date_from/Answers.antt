@@ -1,4 +1,5 @@
-use Rattle.std.proofs.Common.{arith, ◌≡◌, ◌∙◌, pos, ◌+ℤ◌, FitsSigned, w32, w64, to_z-of_z}
+use Rattle.std.proofs.Common.{arith, ◌≡◌, ◌∙◌, pos, ◌+ℤ◌, FitsSigned, w32, w64}
+use Rattle.std.proofs.lemmas.Int.{to_z-of_z}
 use Rattle.std.proofs.lemmas.Result.{IfOk-at_ok}
 use Rattle.jiff_core.proofs.SignedLemmas.{signed_arith}
 use Rattle.jiff_core.specs.Date.{epoch_day}

@@ -1,5 +1,5 @@
-use Rattle.std.proofs.Common.{arith, ◌≡◌, pos, FitsSigned, w8, w32, ◌∙◌, ap, to_z-of_z, w16}
-use Rattle.std.proofs.lemmas.Int.{to_z_pos}
+use Rattle.std.proofs.Common.{arith, ◌≡◌, pos, FitsSigned, w8, w32, ◌∙◌, ap, w16}
+use Rattle.std.proofs.lemmas.Int.{to_z_pos, to_z-of_z}
 use Rattle.jiff_core.proofs.SignedLemmas.{signed_arith}
 use Rattle.jiff_core.specs.Date.{epoch_day}
 use Rattle.clock_text.proofs.DateFacts.{day_is, after_epoch}

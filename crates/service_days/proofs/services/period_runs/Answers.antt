@@ -1,4 +1,5 @@
-use Rattle.std.proofs.Common.{◌∙◌, ap, sym, Some, w32, to_z-of_z}
+use Rattle.std.proofs.Common.{◌∙◌, ap, sym, Some, w32}
+use Rattle.std.proofs.lemmas.Int.{to_z-of_z}
 use Rattle.std.proofs.lemmas.Option.{slice_get-get_or, slice_get_past}
 use Rattle.service_days.specs.Periods.{runs_in_period}
 use Rattle.service_days.specs.Services.{runs_within}

@@ -1,4 +1,5 @@
-use Rattle.std.proofs.Common.{sym, ap, ◌∙◌, filter, w32, ◌++◌, ◌∷◌, [], to_z-of_z}
+use Rattle.std.proofs.Common.{sym, ap, ◌∙◌, filter, w32, ◌++◌, ◌∷◌, []}
+use Rattle.std.proofs.lemmas.Int.{to_z-of_z}
 use Rattle.service_days.specs.Services.{runs}
 use Rattle.service_days.proofs.DayLemmas.{days_from-zero, filter-kept, filter-dropped}
 use Rattle.service_days.proofs.services.Services.days.Goals as goal
