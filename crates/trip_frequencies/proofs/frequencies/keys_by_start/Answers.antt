@@ -1,14 +1,18 @@
-use Rattle.std.proofs.Common.{◌≡◌, ℕ, true, length, subst, arith}
+use Rattle.std.proofs.Common.{◌≡◌, ℕ, true, length, refl, subst, arith}
 use Rattle.csv_rows.proofs.SortLemmas.{AreKeys, key_of, sorted_are, keys-none, keys-taken}
 use Rattle.trip_frequencies.specs.Frequencies.{trip_of_row, start_of_row}
 use Rattle.trip_frequencies.proofs.frequencies.keys_by_start.Goals as goal
 
 pub loop-i-init : goal.loop-i-init
-loop-i-init c = grind (arith, keys-none)
+loop-i-init c =
+    let rows = c.args.rows.now in
+    keys-none (λ i. true) (trip_of_row rows) (start_of_row rows) c.new-keys.result.items c.new-keys.ensures.items
 
 pub loop-i-preserved : goal.loop-i-preserved
 unfolding key_of
-loop-i-preserved c = grind (arith, keys-taken)
+loop-i-preserved c =
+    let rows = c.args.rows.now in
+    keys-taken (λ i. true) (trip_of_row rows) (start_of_row rows) c.loop-i.i c.loop-i.keys.items c.push.new.self.items _ c.loop-i.invariant refl c.in_ok-push.ensures.items refl
 
 pub returns : goal.returns
 returns c =
