@@ -6,6 +6,7 @@ use Rattle.interval_fixed.specs.Interval.{Interval}
 use Rattle.plan_graph.specs.declared.PlanGraph.{PlanGraph}
 use Rattle.plan_graph.specs.Unfold.{unfold_plan}
 use Rattle.graph_text.specs.GraphTexts.{graph_text}
+use Rattle.graph_text.specs.Reading.{IsReadAs}
 use Rattle.graph_score.specs.Scores.{IsScored}
 use Rattle.late_chance.specs.Punctual.{IsPunctual}
 use Rattle.journey_model.specs.declared.problem.Problem.{Problem}
@@ -13,10 +14,15 @@ use Rattle.plan_answers.specs.Answers.{head_of}
 use Rattle.journey_report.specs.Findings.{Findings, punctual_findings}
 use Rattle.journey_report.specs.AnswerTexts.{punctual_row}
 
+-- the text of a graph with its chance is the row of the promise and the text of the graph, which reads back
+pub record IsPunctualText (p : Problem) (promise : ℕ) (query : Query) (graph : PlanGraph) (chance bounds : Interval) (text : List ℕ) : Type 0 where
+  pub rows : text ≡ punctual_row promise chance ++ graph_text p.network p.names (head_of query bounds) graph
+  pub reads_back : IsReadAs p.network p.names (head_of query bounds) graph (graph_text p.network p.names (head_of query bounds) graph)
+
 -- a decision graph by place is told with bounds of its chance to arrive after the promised moment, which is the least, and of its
 -- expected arrival
 abbrev pub TellsPunctual : Problem → ℕ → Findings → List ℕ → Query → Moment → Type 0
 TellsPunctual p promise found text query worst =
     (graph : PlanGraph) × (chance : Interval) × (bounds : Interval) × (found ≡ punctual_findings query worst graph bounds chance)
     × IsPunctual p.network query promise graph chance × IsScored p.network query (unfold_plan graph p.network query) bounds
-    × (text ≡ punctual_row promise chance ++ graph_text p.network p.names (head_of query bounds) graph)
+    × IsPunctualText p promise query graph chance bounds text

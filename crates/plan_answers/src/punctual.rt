@@ -1,5 +1,5 @@
 //! The decision graph with the least chance of an arrival after a promised moment.
-ghost use Rattle.std.specs.Prelude.{◌≡◌, ◌<◌, ◌≤◌, ◌+◌, ◌++◌, length, IfOk, IfErr, MatchOption};
+ghost use Rattle.std.specs.Prelude.{◌≡◌, ◌<◌, ◌≤◌, ◌+◌, length, IfOk, IfErr, MatchOption};
 ghost use Rattle.plan_model.specs.NameLists.{NamesFit};
 ghost use Rattle.plan_graph.specs.Tidy.{IsTidy};
 ghost use Rattle.plan_graph.specs.Unfold.{unfold_plan};
@@ -10,12 +10,10 @@ ghost use Rattle.late_chance.specs.Chances.{promised, seconds_per_week};
 ghost use Rattle.late_chance.specs.Punctual.{IsPunctual, asked_for, seen_for};
 ghost use Rattle.command_line.specs.Ranges.{IsPercentage};
 ghost use Rattle.journey_model.specs.Sites.{last_printable};
-ghost use Rattle.graph_text.specs.GraphTexts.{graph_text};
-ghost use Rattle.plan_answers.specs.Answers.{InQuery, IsPrintable, FailsIn, head_of};
+ghost use Rattle.plan_answers.specs.Answers.{InQuery, IsPrintable, FailsIn};
 ghost use Rattle.journey_report.specs.Findings.{findings_of, punctual_findings};
 ghost use Rattle.plan_model.specs.Bounds.{end_of_time, last_start};
-ghost use Rattle.plan_answers.specs.Punctual.{TellsPunctual};
-ghost use Rattle.journey_report.specs.AnswerTexts.{punctual_row};
+ghost use Rattle.plan_answers.specs.Punctual.{IsPunctualText, TellsPunctual};
 
 use crate::answers::{Asked, asked_of};
 use decision_graph::{ScoredPlan, plan_by};
@@ -156,8 +154,8 @@ fn punctual_text(
     requires printable { IsPrintable problem.now.network asked.query asked.worst }
     requires promise { promise.0 ≤ last_printable }
     requires tidy { IsTidy problem.now.network asked.query found.now.graph }
-    ensures { IfOk result (λ text. text.items ≡ punctual_row promise.0 found.now.chance
-        ++ graph_text problem.now.network problem.now.names (head_of asked.query bounds) found.now.graph) }
+    ensures { IfOk result (λ text. IsPunctualText problem.now promise.0 asked.query found.now.graph
+        found.now.chance bounds text.items) }
 {
     let head = Head {
         query: asked.query,
@@ -187,8 +185,8 @@ fn punctual_answer(
     requires tidy { IsTidy problem.now.network asked.query found.graph }
     ensures found { IfOk result (λ a. findings_of a.report
         ≡ punctual_findings asked.query asked.worst found.graph bounds found.chance) }
-    ensures text { IfOk result (λ a. a.text.items ≡ punctual_row promise.0 found.chance
-        ++ graph_text problem.now.network problem.now.names (head_of asked.query bounds) found.graph) }
+    ensures text { IfOk result (λ a. IsPunctualText problem.now promise.0 asked.query found.graph
+        found.chance bounds a.text.items) }
 {
     let text = punctual_text(alloc, problem, asked, promise, &found, bounds)?;
     let report = Report {
