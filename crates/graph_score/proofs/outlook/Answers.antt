@@ -1,4 +1,4 @@
-use Rattle.std.proofs.Common.{◌≡◌, ◌<◌, ◌-◌, ◌∙◌, List, arith, ap, drop, length, sym, subst, slice_index_or, take_at}
+use Rattle.std.proofs.Common.{◌≡◌, ◌<◌, ◌∙◌, List, arith, ap, drop, length, sym, subst, slice_index_or, take_at}
 use Rattle.std.proofs.lemmas.List.{get_or_default}
 use Rattle.plan_model.specs.Network.{count}
 use Rattle.graph_score.specs.declared.outlooks.Outlook.{Outlook}

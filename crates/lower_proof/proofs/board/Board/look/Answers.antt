@@ -1,4 +1,4 @@
-use Rattle.std.proofs.Common.{◌≡◌, ◌-◌, ◌≤◌, length, max, arith, subst, sym, length-take, take_at}
+use Rattle.std.proofs.Common.{◌≡◌, ◌≤◌, length, max, arith, subst, sym, length-take, take_at}
 use Rattle.std.proofs.lemmas.Bool.{cases_lt}
 use Rattle.std.proofs.lemmas.List.{get_or_read}
 use Rattle.lower_proof.specs.Minima.{IsBoard, AreMinima}

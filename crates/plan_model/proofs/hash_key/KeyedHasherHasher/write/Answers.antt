@@ -1,4 +1,4 @@
-use Rattle.std.proofs.Common.{◌-◌, length, refl, arith}
+use Rattle.std.proofs.Common.{length, refl, arith}
 use borrow.Author.Tests.{le-leb}
 use Rattle.plan_model.specs.Hashes.{mix_blocks, write}
 use Rattle.plan_model.proofs.hash_key.KeyedHasherHasher.write.Goals as goal
