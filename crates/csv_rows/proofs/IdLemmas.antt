@@ -41,13 +41,16 @@ pub found : (keys names : List (List ℕ)) (name : List ℕ) (i : ℕ) → AreDi
 found keys names name i distinct same here = number_is (Some i) name keys distinct here tt ∙ ap (place_in name) same
 
 -- ids stay ids where one is added, and where there was no memory for it
-pub AreIds-add : (old new : List (List ℕ)) (id : List ℕ) (added : Result Bool NoMemory) → AreIds old → IsTrimmed id → length old < 2 ^ 32 - 1
-    → IfOk added (Adds old new id) → OnErr added (new ≡ old) → AreIds new
-AreIds-add old new id (Ok true) h trimmed room adds same =
-    subst AreIds (sym adds.0) (record {
-      names = IsNameList-adds old (old ++ id ∷ []) id true h.names room (refl, adds.1);
+pub AreIds-push : (old new : List (List ℕ)) (id : List ℕ) → AreIds old → IsTrimmed id → length old < 2 ^ 32 - 1 → ¬ Contains old id → new ≡ old ++ id ∷ [] → AreIds new
+AreIds-push old new id h trimmed room absent last =
+    subst AreIds (sym last) (record {
+      names = IsNameList-adds old (old ++ id ∷ []) id true h.names room (refl, absent);
       trimmed = All-push IsTrimmed old id h.trimmed trimmed;
     })
+
+pub AreIds-add : (old new : List (List ℕ)) (id : List ℕ) (added : Result Bool NoMemory) → AreIds old → IsTrimmed id → length old < 2 ^ 32 - 1
+    → IfOk added (Adds old new id) → OnErr added (new ≡ old) → AreIds new
+AreIds-add old new id (Ok true) h trimmed room adds same = AreIds-push old new id h trimmed room adds.1 adds.0
 AreIds-add old new id (Ok false) h trimmed room adds same = subst AreIds (sym adds.0) h
 AreIds-add old new id (Err fault) h trimmed room adds same = subst AreIds (sym same) h
 

@@ -2,13 +2,12 @@ pub mod FaultLemmas
 pub mod FirstLemmas
 pub mod IdLemmas
 pub mod KeyLemmas
+pub mod KeyTexts
 pub mod ListLemmas
-pub mod MachineLemmas
 pub mod NameLemmas
 pub mod PartsLemmas
 pub mod PlaceLemmas
 pub mod ReachedRecords
-pub mod RecordLemmas
 pub mod RowLemmas
 pub mod SoonestLemmas
 pub mod SortLemmas

@@ -1,11 +1,10 @@
 -- Trimmed fields neither begin nor end with a space.
-use Rattle.std.proofs.Common.{◌≡◌, ◌≢◌, length-append, append-nil, append_assoc, ℕ, zero, suc, ◌<◌, length, take, Option, Some, None, ◌+◌, Bool, true, false}
+use Rattle.std.proofs.Common.{◌≡◌, ℕ, zero, suc, Option, Some, None, ◌+◌, Bool, true, false}
 use Rattle.std.proofs.Common.{◌==◌, List, [], ◌∷◌, ◌++◌, map, reverse, slice_index_or, if◌then◌else◌, refl, sym, ap, ◌∙◌, arith}
 use Rattle.std.proofs.lemmas.Bool.{cases_Bool}
 use Rattle.std.proofs.lemmas.Grind.{common_steps}
 use Rattle.std.proofs.lemmas.Bool.Decides.{nat_tests}
 use Rattle.std.proofs.lemmas.List.{reverse-append, reverse-reverse}
-use Rattle.std.proofs.Math.Seq.{take-append-add, take-append_seam}
 use Rattle.plan_model.specs.NameLists.{IsTrimmed}
 use Rattle.csv_rows.specs.Spaces.{drop_spaces, trimmed_text, AreTrimmed}
 use Rattle.csv_rows.specs.Tables.{field_at}
@@ -81,46 +80,3 @@ AreTrimmed-map (row ∷ rows) (suc i) k = AreTrimmed-map rows i k
 pub IsTrimmed-field : (t : List (List (List ℕ))) (place : Option ℕ) (i : ℕ) → AreTrimmed t → IsTrimmed (field_at t place i)
 IsTrimmed-field t None i h = IsTrimmed-nil
 IsTrimmed-field t (Some k) i h = h (i + 1) k
-
-all_if : (t : Bool) (b : ℕ) (bs more dropped rest : List ℕ) → (dropped ≡ [] → rest ≡ drop_spaces more) → (if t then dropped else b ∷ bs) ≡ []
-    → (if t then rest else b ∷ (bs ++ more)) ≡ drop_spaces more
-all_if t b bs more dropped rest h e = grind (arith, cases_Bool t)
-
--- more after nothing but spaces
-pub drop_spaces-all : (field more : List ℕ) → drop_spaces field ≡ [] → drop_spaces (field ++ more) ≡ drop_spaces more
-drop_spaces-all [] more h = refl
-drop_spaces-all (b ∷ bs) more h = all_if (b == 32) b bs more (drop_spaces bs) (drop_spaces (bs ++ more)) (drop_spaces-all bs more) h
-
-some_if : (t : Bool) (b : ℕ) (bs more dropped rest : List ℕ) → (0 < length dropped → rest ≡ dropped ++ more) → 0 < length (if t then dropped else b ∷ bs)
-    → (if t then rest else b ∷ (bs ++ more)) ≡ (if t then dropped else b ∷ bs) ++ more
-some_if t b bs more dropped rest h e = grind (arith, cases_Bool t)
-
--- and after anything else
-pub drop_spaces-some : (field more : List ℕ) → 0 < length (drop_spaces field) → drop_spaces (field ++ more) ≡ drop_spaces field ++ more
-drop_spaces-some [] more h = absurd (omega arith)
-drop_spaces-some (b ∷ bs) more h = some_if (b == 32) b bs more (drop_spaces bs) (drop_spaces (bs ++ more)) (drop_spaces-some bs more) h
-
--- a field cut back by the spaces at its end
-pub cut-spaces : (before field : List ℕ) → take (length before + length (reverse (drop_spaces (reverse field)))) (before ++ field) ≡ before ++ reverse (drop_spaces (reverse field))
-cut-spaces before field =
-    let d = drops (reverse field) in
-    let kept = reverse (drop_spaces (reverse field)) in
-    let whole : field ≡ kept ++ reverse d.spaces = sym (reverse-reverse field) ∙ ap reverse d.is ∙ reverse-append d.spaces (drop_spaces (reverse field)) in
-    take-append-add before field (length kept)
-    ∙ ap (λ xs. before ++ xs) (ap (take (length kept)) whole ∙ take-append_seam kept (reverse d.spaces))
-
--- a field that goes on, where it has nothing yet and where it has something
-pub extended-all : (packed before field more : List ℕ) → packed ≡ before ++ drop_spaces field → length packed ≡ length before
-    → packed ++ drop_spaces more ≡ before ++ drop_spaces (field ++ more)
-extended-all packed before field more e h =
-    let size = length-append before (drop_spaces field) in
-    let none : drop_spaces field ≡ [] = length-nil (drop_spaces field) (omega (arith, size, ap length e)) in
-    ap (λ xs. xs ++ drop_spaces more) (e ∙ ap (λ xs. before ++ xs) none ∙ append-nil before) ∙ ap (λ xs. before ++ xs) (sym (drop_spaces-all field more none))
-  where
-    length-nil : (xs : List ℕ) → length xs ≡ 0 → xs ≡ []
-    length-nil [] k = refl
-    length-nil (x ∷ xs) k = absurd (omega arith)
-
-pub extended-some : (packed before field more : List ℕ) → packed ≡ before ++ drop_spaces field → length packed ≢ length before
-    → packed ++ more ≡ before ++ drop_spaces (field ++ more)
-extended-some packed before field more e h = grind (arith, common_steps, length-append, append_assoc, drop_spaces-some)

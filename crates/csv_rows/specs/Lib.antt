@@ -7,9 +7,7 @@ pub mod Keys
 pub mod Limits
 pub mod Lists
 pub mod Names
-pub mod NextField
 pub mod Parts
-pub mod RecordFields
 pub mod Records
 pub mod RowFaults
 pub mod Rows

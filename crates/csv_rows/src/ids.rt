@@ -1,5 +1,5 @@
 //! Ids, numbered in the order in which they stand in a table.
-ghost use Rattle.std.specs.Prelude.{◌≡◌, ◌≢◌, ◌<◌, ◌-◌, ◌^◌, ℕ, [], length, None, Some, IfOk, IfErr, IfSome, OnOk, OnErr, slice_get};
+ghost use Rattle.std.specs.Prelude.{◌≡◌, ◌<◌, ◌-◌, ◌^◌, ◌++◌, ◌∷◌, ℕ, [], length, None, Some, IfOk, IfErr, IfSome, OnOk, OnErr, All, Contains, slice_get};
 ghost use Rattle.csv_rows.specs.First.{first_below};
 ghost use Rattle.csv_rows.specs.Names.{name_in};
 ghost use Rattle.csv_rows.specs.Tables.{row_count, place_in, field, field_at};
@@ -12,19 +12,24 @@ use crate::columns::Column;
 use crate::feed_tables::{FeedFault, Table};
 use crate::names::read_name;
 use crate::rows::Rows;
-use plan_model::{HashKey, NoMemory, TextSet};
+use indexmap::IndexSet;
+use plan_model::{HashKey, NoMemory, TextList};
 use std::alloc::Global;
 use std::marker::Model;
 
 /// Distinct ids, of which each has its place as its number. None begins or ends with a space.
 pub struct Ids {
-    ids: TextSet,
+    key: HashKey,
+    ids: TextList,
 }
 
 impl Drop for Ids {
     /// Lets go of its parts here, so that a caller lets go of one value.
     fn drop(self) {
-        let Ids { ids: _ids } = self;
+        let Ids {
+            key: _key,
+            ids: _ids,
+        } = self;
     }
 }
 
@@ -41,21 +46,31 @@ impl Model for Ids {
 }
 
 impl Ids {
-    /// No ids, which will be hashed by a key.
+    /// No ids, which will be hashed by a key where they are looked up.
     pub fn with_key(alloc: Global, key: HashKey) -> Ids
         ensures { result ≡ [] }
     {
         Ids {
-            ids: TextSet::with_key(alloc, key),
+            key,
+            ids: TextList::new(alloc),
         }
+    }
+
+    /// These texts as ids, which will be hashed by a key where they are looked up.
+    pub fn of(key: HashKey, texts: TextList) -> Ids
+        requires { All IsTrimmed texts }
+        ensures { result ≡ texts }
+    {
+        let _count = texts.len();
+        Ids { key, ids: texts }
     }
 
     /// The key by which they are hashed.
     pub fn key(&self) -> HashKey {
-        self.ids.key()
+        self.key
     }
 
-    /// Adds an id at the end, and says whether it is new.
+    /// Adds an id at the end, and says whether it is new. Each id is looked at in turn.
     pub fn add(&mut self, alloc: Global, id: &str) -> Result<bool, NoMemory>
         requires room { length self.old < 2 ^ 32 - 1 }
         requires trimmed { IsTrimmed id.now }
@@ -63,6 +78,17 @@ impl Ids {
         ensures err { OnErr result (self.new ≡ self.old) }
     {
         self.ids.add(alloc, id)
+    }
+
+    /// Adds an id that is new at the end.
+    pub fn push(&mut self, alloc: Global, id: &str) -> Result<(), NoMemory>
+        requires room { length self.old < 2 ^ 32 - 1 }
+        requires trimmed { IsTrimmed id.now }
+        requires absent { ¬ Contains self.old id.now }
+        ensures ok { OnOk result (self.new ≡ self.old ++ id.now ∷ []) }
+        ensures err { OnErr result (self.new ≡ self.old) }
+    {
+        self.ids.push(alloc, id)
     }
 
     /// How many there are.
@@ -73,7 +99,7 @@ impl Ids {
         self.ids.len()
     }
 
-    /// The number of an id, if it is there.
+    /// The number of an id, if it is there. Each id is looked at in turn.
     pub fn number(&self, id: &str) -> Option<u32>
         ensures place { result ≡ place_in id.now self.now }
         ensures inside { IfSome result (λ number. number < length self.now) }
@@ -87,6 +113,13 @@ impl Ids {
         ensures { slice_get self.now number ≡ Some result.now }
     {
         self.ids.get(number)
+    }
+
+    /// The ids as texts, in the order of their numbers.
+    pub fn texts(&self) -> &TextList
+        ensures { result.now ≡ self.now }
+    {
+        &self.ids
     }
 }
 
@@ -112,11 +145,13 @@ pub fn read_ids(alloc: Global, rows: &Rows, table: Table, column: Column) -> Res
         (first_below (repeated_id table (field rows.now column)) (row_count rows.now)) result }
 {
     let place = rows.place_of(column);
+    let mut seen: IndexSet<&str, HashKey> = IndexSet::with_hasher(alloc, rows.key());
     let mut ids = Ids::with_key(alloc, rows.key());
     for i in 0..rows.count() {
-        match ids.add(alloc, name_at(rows, i, place)) {
+        let name = name_at(rows, i, place);
+        match seen.insert(name) {
             Err(_) => return Err(FeedFault::NoMemory),
-            Ok(true) => {}
+            Ok(true) => ids.push(alloc, name)?,
             Ok(false) => return Err(FeedFault::DuplicateKey(table, rows.line(i))),
         }
     }

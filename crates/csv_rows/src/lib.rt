@@ -4,15 +4,11 @@
 
 mod columns;
 mod feed_tables;
-mod field_text;
 mod fields;
 mod ids;
 mod keys;
 mod limits;
 mod names;
-mod plain_text;
-mod record_text;
-mod records;
 mod row_faults;
 mod rows;
 mod spaces;
@@ -23,6 +19,6 @@ pub use ids::{Ids, read_ids};
 pub use keys::{Key, before_at, first_repeat, in_order, sooner};
 pub use limits::Limits;
 pub use names::{read_name, read_text};
-pub use records::{Record, Records};
 pub use row_faults::{check_columns, lack};
 pub use rows::{Rows, RowsFault};
+pub use spaces::trimmed;

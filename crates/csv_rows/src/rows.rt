@@ -1,17 +1,14 @@
 //! The rows of a table.
 ghost use Rattle.std.specs.Prelude.{◌≡◌, ◌<◌, ◌+◌, ◌-◌, ◌^◌, ℕ, List, [], ◌∷◌, ◌++◌, map, length, take, OnOk, OnErr, IfOk, IfSome, IfNone, IsErrOf, Err, slice_index_or, ◌≢◌};
-ghost use Rattle.csv.specs.Machine.{next_record};
-ghost use Rattle.csv.specs.Reading.{default_config};
-ghost use Rattle.csv.specs.declared.parser.State.TheVariants as st;
-ghost use Rattle.csv_rows.specs.NextField.{IsRecord};
+ghost use Rattle.csv.specs.Records as csv;
 ghost use Rattle.csv_rows.specs.Parts.{parts_from, Fills};
 ghost use Rattle.csv_rows.specs.Spaces.{trimmed_text, AreTrimmed};
 ghost use Rattle.csv_rows.specs.Tables.{table_of, header, row_count, place_of, field_at};
 
 use crate::columns::Column;
-use crate::field_text::without_mark;
 use crate::fields::{Fields, start_of};
-use crate::record_text::push_record;
+use crate::spaces::trimmed;
+use csv::{ByteRecord, ReaderBuilder};
 use plan_model::{HashKey, NoMemory};
 use std::alloc::{AllocError, Global};
 use std::marker::Model;
@@ -46,32 +43,44 @@ impl Model for Rows {
     ghost invariant = { AreRows };
 }
 
+/// The field of a record at a place.
+fn field_of(row: &ByteRecord, i: usize) -> &[u8]
+    requires { i < length (csv.fields_of row.now) }
+    ensures { result.now ≡ slice_index_or (csv.fields_of row.now) i [] }
+{
+    match row.get(i) {
+        Some(field) => field,
+        None => unreachable!(),
+    }
+}
+
+/// Adds the fields of a record, with no ASCII space round each.
+fn push_fields(fields: &mut Fields, row: &ByteRecord) -> Result<(), AllocError>
+    ensures { OnOk result (fields.new ≡ fields.old ++ map trimmed_text (csv.fields_of row.now)) }
+{
+    for i in 0..row.len() {
+        fields.push(trimmed(field_of(row, i)))?;
+    }
+    Ok(())
+}
+
 /// All rows together have fewer fields.
 const LIMIT: usize = 1 << 32;
 
-/// Adds the next record of a text, with no ASCII space round its fields, and gives the text after it, if there is one.
-fn push_row<'a>(
-    fields: &mut Fields,
-    ends: &mut Vec<u32>,
-    text: &'a [u8],
-) -> Result<Option<&'a [u8]>, AllocError>
+/// Adds a record to the fields of all rows and the places where rows end.
+fn push_row(fields: &mut Fields, ends: &mut Vec<u32>, row: &ByteRecord) -> Result<(), AllocError>
     requires { Fills ends.old.items (length fields.old) }
     ensures fills { OnOk result (Fills ends.new.items (length fields.new)) }
-    ensures some { IfOk result (λ o. IfSome o (λ after. (raw : List (List ℕ)) × IsRecord text.now raw after.now
-        × (parts_from 0 ends.new.items fields.new
-        ≡ parts_from 0 ends.old.items fields.old ++ map trimmed_text raw ∷ []))) }
-    ensures none { IfOk result (λ o. IfNone o ((next_record default_config st.StartRecord [] [] text.now ≡ None)
-        × (parts_from 0 ends.new.items fields.new ≡ parts_from 0 ends.old.items fields.old))) }
+    ensures rows { OnOk result (parts_from 0 ends.new.items fields.new
+        ≡ parts_from 0 ends.old.items fields.old ++ map trimmed_text (csv.fields_of row.now) ∷ []) }
 {
-    let Some(after) = push_record(fields, text)? else {
-        return Ok(None);
-    };
+    push_fields(fields, row)?;
     let end = fields.len();
     if end >= LIMIT {
         return Err(AllocError);
     }
     match ends.push(end as u32) {
-        Ok(()) => Ok(Some(after)),
+        Ok(()) => Ok(()),
         Err(_) => Err(AllocError),
     }
 }
@@ -121,16 +130,24 @@ impl Rows {
         ensures header { IfOk result (λ rows. 0 < length rows) }
         ensures none { IsErrOf result RowsFault.NoHeader → table_of bytes.now ≡ [] }
     {
+        let mut reader = ReaderBuilder::new()
+            .has_headers(false)
+            .flexible(true)
+            .from_reader(alloc, bytes);
+        let mut row = ByteRecord::new(alloc);
         let mut fields = Fields::new(alloc);
         let mut ends = Vec::new(alloc);
-        let mut rest = without_mark(bytes);
-        loop {
-            match push_row(&mut fields, &mut ends, rest) {
-                Ok(Some(after)) => rest = after,
-                Ok(None) => return finished(fields, ends),
+        for _ in 0..u64::MAX {
+            match reader.read_byte_record(&mut row) {
+                Ok(true) => match push_row(&mut fields, &mut ends, &row) {
+                    Ok(()) => {}
+                    Err(_) => return Err(RowsFault::NoMemory),
+                },
+                Ok(false) => return finished(fields, ends),
                 Err(_) => return Err(RowsFault::NoMemory),
             }
         }
+        Err(RowsFault::NoMemory)
     }
 
     /// The same rows, with a key by which their ids are hashed.

@@ -1,44 +1,71 @@
-use Rattle.std.proofs.Common.{None, Some, refl, sym, ap, ◌∙◌, arith, length, subst}
-use Rattle.plan_model.specs.NameLists.{Adds}
+use Rattle.std.proofs.Common.{◌≡◌, ◌++◌, ◌∷◌, [], List, ℕ, Contains, false, None, Some, refl, sym, ap, ◌∙◌, arith, length, subst, true, not, Bool}
 use Rattle.csv_rows.specs.declared.feed_tables.FeedFault.TheVariants.{DuplicateKey}
 use Rattle.csv_rows.specs.Tables.{row_count, field, field_at}
 use Rattle.csv_rows.proofs.FirstLemmas.{first-zero, first-next, first-at}
 use Rattle.csv_rows.specs.RowFaults.{repeated_id}
 use Rattle.csv_rows.proofs.ListLemmas.{list_below-zero, list_below-next, length-list_below}
 use Rattle.csv_rows.proofs.IdLemmas.{not_repeated, repeated}
+use Rattle.csv_rows.proofs.KeyTexts.{has_key, key_there, key_absent, key_last, key_texts}
 use Rattle.csv_rows.proofs.ids.read_ids.Goals as goal
+
+new_is : (b : Bool) → true ≡ not b → b ≡ false
+new_is true e = absurd (cc)
+new_is false e = refl
+
+known_is : (b : Bool) → false ≡ not b → b ≡ true
+known_is true e = refl
+known_is false e = absurd (cc)
 
 pub loop-i-init : goal.loop-i-init
 loop-i-init c =
     let id = field c.args.rows.now c.args.column in
-    record { ids = c.with_key-ids.ensures ∙ sym (list_below-zero id); none = first-zero (repeated_id c.args.table id) }
+    record {
+      ids = c.with_key-ids.ensures ∙ sym (list_below-zero id);
+      seen = ap key_texts c.with_hasher-seen.ensures.empty ∙ sym c.with_key-ids.ensures;
+      none = first-zero (repeated_id c.args.table id);
+    }
 
-pub add-requires-clause-room : goal.add-requires-clause-room
-add-requires-clause-room c =
+pub push-requires-clause-room : goal.push-requires-clause-room
+push-requires-clause-room c =
     omega (arith, c.requires.few, ap length c.loop-i.invariant.ids, length-list_below (field c.args.rows.now c.args.column) c.loop-i.i)
+
+pub push-requires-clause-absent : goal.push-requires-clause-absent
+push-requires-clause-absent c =
+    let name = c.name_at-name.result.now in
+    let keys = c.loop-i.seen.keys in
+    let fresh : has_key name keys ≡ false = new_is (has_key name keys) (sym c.in-Ok-true.field-0-test ∙ c.in-Ok-true.ensures.added) in
+    subst (λ (w : List (List ℕ)). ¬ Contains w name) c.loop-i.invariant.seen (key_absent name keys fresh)
 
 pub loop-i-preserved : goal.loop-i-preserved
 loop-i-preserved c =
     let t = c.args.rows.now in
     let id = field t c.args.column in
-    let name = c.name_at.ensures ∙ ap (λ p. field_at t p c.loop-i.i) c.place_of-place.ensures in
-    let added = subst (Adds c.loop-i.ids c.add.new.self c.name_at.result.now) c.in-Ok-true.field-0-test c.in-Ok-true.ensures.added in
+    let name = c.name_at-name.result.now in
+    let keys = c.loop-i.seen.keys in
+    let is = c.name_at-name.ensures ∙ ap (λ p. field_at t p c.loop-i.i) c.place_of-place.ensures in
+    let fresh : has_key name keys ≡ false = new_is (has_key name keys) (sym c.in-Ok-true.field-0-test ∙ c.in-Ok-true.ensures.added) in
+    let absent = subst (λ (w : List (List ℕ)). ¬ Contains w name) c.loop-i.invariant.seen (key_absent name keys fresh) in
     record {
-      ids = list_below-next id c.loop-i.i c.loop-i.ids c.add.new.self c.name_at.result.now c.loop-i.invariant.ids added.0 name;
+      ids = list_below-next id c.loop-i.i c.loop-i.ids c.push.new.self name c.loop-i.invariant.ids c.in_ok-push-in-Ok-true.ensures.ok is;
+      seen = key_last keys c.insert.new.self.keys c.name_at-name.result fresh c.in-Ok-true.ensures.keys
+          ∙ ap (λ (w : List (List ℕ)). w ++ name ∷ []) c.loop-i.invariant.seen ∙ sym c.in_ok-push-in-Ok-true.ensures.ok;
       none = first-next (repeated_id c.args.table id) c.loop-i.i None c.loop-i.invariant.none
-          (not_repeated c.args.table id c.loop-i.i c.loop-i.ids c.name_at.result.now c.loop-i.invariant.ids name added.1);
+          (not_repeated c.args.table id c.loop-i.i c.loop-i.ids name c.loop-i.invariant.ids is absent);
     }
 
 pub returns-in-Ok-false-clause-tells : goal.returns-in-Ok-false-clause-tells
 returns-in-Ok-false-clause-tells c =
     let t = c.args.rows.now in
     let id = field t c.args.column in
-    let name = c.name_at.ensures ∙ ap (λ p. field_at t p c.loop-i.i) c.place_of-place.ensures in
-    let added = subst (Adds c.loop-i.ids c.add.new.self c.name_at.result.now) c.in-Ok-false.field-0-test c.in-Ok-false.ensures.added in
+    let name = c.name_at-name.result.now in
+    let keys = c.loop-i.seen.keys in
+    let is = c.name_at-name.ensures ∙ ap (λ p. field_at t p c.loop-i.i) c.place_of-place.ensures in
+    let known : has_key name keys ≡ true = known_is (has_key name keys) (sym c.in-Ok-false.field-0-test ∙ c.in-Ok-false.ensures.added) in
+    let there = subst (λ (w : List (List ℕ)). Contains w name) c.loop-i.invariant.seen (key_there name keys known) in
     record {
       why = λ free.
           first-at (repeated_id c.args.table id) c.loop-i.i (row_count t) (DuplicateKey c.args.table c.line.result) (omega arith) c.loop-i.invariant.none
-          (repeated c.args.table id c.loop-i.i c.loop-i.ids c.name_at.result.now c.loop-i.invariant.ids name added.1 ∙ ap (λ n. Some (DuplicateKey c.args.table n)) (sym c.line.ensures));
+          (repeated c.args.table id c.loop-i.i c.loop-i.ids name c.loop-i.invariant.ids is there ∙ ap (λ n. Some (DuplicateKey c.args.table n)) (sym c.line.ensures));
       content = refl;
       own = refl;
     }

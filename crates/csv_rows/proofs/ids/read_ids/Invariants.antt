@@ -3,10 +3,12 @@ use Rattle.csv_rows.specs.First.{first_below}
 use Rattle.csv_rows.specs.Tables.{field}
 use Rattle.csv_rows.specs.RowFaults.{repeated_id}
 use Rattle.csv_rows.specs.Lists.{list_below}
+use Rattle.csv_rows.proofs.KeyTexts.{key_texts}
 use Rattle.csv_rows.proofs.ids.read_ids.Given as goal
 
 abbrev pub invariant-loop-i : goal.invariant-loop-i
 invariant-loop-i l = record {
   ids : l.ids ≡ list_below (field l.rows l.fn.column) l.i;
+  seen : key_texts l.seen.keys ≡ l.ids;
   none : first_below (repeated_id l.table (field l.rows l.fn.column)) l.i ≡ None;
 }
