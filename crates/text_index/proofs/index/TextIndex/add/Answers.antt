@@ -1,0 +1,31 @@
+use Rattle.std.proofs.Common.{◌-◌, ◌^◌, ◌<◌, ℕ, List, Some, length, sym, subst}
+use Rattle.plan_model.specs.NameLists.{Adds}
+use Rattle.plan_model.proofs.Texts.{IsNameList-adds}
+use Rattle.csv_rows.proofs.IdLemmas.{number_is}
+use Rattle.csv_rows.proofs.KeyTexts.{key_adds}
+use Rattle.text_index.specs.KeyTexts.{key_texts}
+use Rattle.text_index.proofs.KeyLemmas.{text_of_stored}
+use Rattle.text_index.proofs.index.TextIndex.add.Goals as goal
+
+pub invariant_of-self-2 : goal.invariant_of-self-2
+invariant_of-self-2 c =
+    let old = c.self.inside.numbers.keys in
+    let new = c.insert_full.new.self.keys in
+    let added = key_adds old new c.args.text c.in_ok-number.ensures.keys in
+    let room : length (key_texts old) < 2 ^ 32 - 1 = subst (λ (w : List (List ℕ)). length w < 2 ^ 32 - 1) (sym c.self.view_is) c.requires in
+    IsNameList-adds (key_texts old) (key_texts new) c.args.text.now added.0 c.self.invariant room added.1
+
+pub returns-clause-added : goal.returns-clause-added
+returns-clause-added c =
+    let new = c.insert_full.new.self.keys in
+    let added = key_adds c.self.inside.numbers.keys new c.args.text c.in_ok-number.ensures.keys in
+    (added.0, subst (λ (w : List (List ℕ)). Adds w (key_texts new) c.args.text.now added.0) c.self.view_is added.1)
+
+pub returns-clause-found : goal.returns-clause-found
+returns-clause-found c =
+    let stored = c.in_ok-number.ensures.stored in
+    text_of_stored c.insert_full.new.self.keys c.in_ok-number.number stored.0 c.args.text.now stored.1 stored.2
+
+pub returns-clause-place : goal.returns-clause-place
+returns-clause-place c =
+    sym (number_is (Some c.in_ok-number.number) c.args.text.now (key_texts c.insert_full.new.self.keys) (invariant_of-self-2 c).distinct (returns-clause-found c) tt)

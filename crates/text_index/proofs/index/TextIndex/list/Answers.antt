@@ -1,0 +1,21 @@
+use Rattle.std.proofs.Common.{◌∙◌, ◌++◌, ◌∷◌, [], List, ℕ, Contains, length-take, arith, sym, ap, subst, take}
+use Rattle.std.proofs.lemmas.List.{take_more}
+use Rattle.csv_rows.proofs.IdLemmas.{got}
+use Rattle.text_index.proofs.KeyLemmas.{new_after_those_before}
+use Rattle.text_index.proofs.index.TextIndex.list.Goals as goal
+
+pub push-requires-clause-room : goal.push-requires-clause-room
+push-requires-clause-room c = grind (arith, length-take, c.loop-i.invariant, c.len-i-end.ensures.names.few)
+
+pub push-requires-clause-absent : goal.push-requires-clause-absent
+push-requires-clause-absent c =
+    let w = got c.args.self.now c.loop-i.i c.get.result.now [] c.get.ensures in
+    subst (λ (xs : List (List ℕ)). ¬ Contains xs c.get.result.now) (sym c.loop-i.invariant)
+    (subst (λ (x : List ℕ). ¬ Contains (take c.loop-i.i c.args.self.now) x) w.1
+    (new_after_those_before c.args.self.now c.loop-i.i c.len-i-end.ensures.names.distinct w.0))
+
+pub loop-i-preserved : goal.loop-i-preserved
+loop-i-preserved c =
+    let w = got c.args.self.now c.loop-i.i c.get.result.now [] c.get.ensures in
+    c.in_ok-push.ensures.ok ∙ ap (λ xs. xs ++ c.get.result.now ∷ []) c.loop-i.invariant
+    ∙ ap (λ (x : List ℕ). take c.loop-i.i c.args.self.now ++ x ∷ []) (sym w.1) ∙ sym (take_more c.args.self.now c.loop-i.i [] w.0)

@@ -1,0 +1,31 @@
+use Rattle.std.proofs.Common.{◌≡◌, ℕ, None, Some, List, Contains, slice_get, sym, subst, ◌∙◌, ap}
+use Rattle.csv_rows.specs.Tables.{place_in}
+use Rattle.csv_rows.proofs.IdLemmas.{number_is}
+use Rattle.csv_rows.proofs.KeyTexts.{key_absent, key_place}
+use Rattle.text_index.specs.KeyTexts.{key_texts}
+use Rattle.text_index.proofs.index.TextIndex.number.Goals as goal
+
+pub returns-in-None-clause-none : goal.returns-in-None-clause-none
+returns-in-None-clause-none c =
+    let keys = c.self.inside.numbers.keys in
+    let text = c.args.text.now in
+    subst (λ (w : List (List ℕ)). ¬ Contains w text) c.self.view_is (key_absent text keys (sym c.in-None.ensures.found))
+
+pub returns-in-None-clause-place : goal.returns-in-None-clause-place
+returns-in-None-clause-place c =
+    let keys = c.self.inside.numbers.keys in
+    let text = c.args.text.now in
+    number_is None text (key_texts keys) c.self.invariant.distinct tt (key_absent text keys (sym c.in-None.ensures.found)) ∙ ap (place_in text) c.self.view_is
+
+pub returns-in-Some-clause-found : goal.returns-in-Some-clause-found
+returns-in-Some-clause-found c =
+    let keys = c.self.inside.numbers.keys in
+    let text = c.args.text.now in
+    subst (λ (w : List (List ℕ)). slice_get w c.in-Some.number ≡ Some text) c.self.view_is (key_place text keys c.in-Some.number (sym c.in-Some.ensures.index))
+
+pub returns-in-Some-clause-place : goal.returns-in-Some-clause-place
+returns-in-Some-clause-place c =
+    let keys = c.self.inside.numbers.keys in
+    let text = c.args.text.now in
+    number_is (Some c.in-Some.number) text (key_texts keys) c.self.invariant.distinct (key_place text keys c.in-Some.number (sym c.in-Some.ensures.index)) tt
+    ∙ ap (place_in text) c.self.view_is

@@ -1,0 +1,6 @@
+use Rattle.std.proofs.Common.{◌≡◌, take}
+use Rattle.text_index.specs.KeyTexts.{key_texts}
+use Rattle.text_index.proofs.index.TextIndex.of.Given as goal
+
+abbrev pub invariant-loop-i : goal.invariant-loop-i
+invariant-loop-i l = key_texts l.numbers.keys ≡ take l.i l.texts
