@@ -18,23 +18,13 @@ pub struct HostFiles<R: rt::Files> {
     key: HashKey,
 }
 
-/// A key of what the system draws, and the fixed one where it draws nothing.
-fn draw_key(source: &impl RandomSource) -> HashKey {
-    let mut bytes = [0; 16];
-    if source.fill_bytes(&mut bytes).is_err() {
-        return HashKey::fixed();
-    }
-    let drawn = u128::from_le_bytes(bytes);
-    HashKey::new((drawn & 0xFFFF_FFFF_FFFF_FFFF) as u64, (drawn >> 64) as u64)
-}
-
 impl<R: rt::Files + RandomSource> HostFiles<R> {
     /// No file is in hand, and nothing has failed. The key of its hashes is drawn anew in each call. It takes no memory.
     pub fn new(rt: R) -> HostFiles<R>
         ensures hand { ⟦<HostFiles<R> as Files>⟧.in_hand result ≡ None }
         ensures faults { ⟦<HostFiles<R> as Files>⟧.faults result ≡ 0 }
     {
-        let key = draw_key(&rt);
+        let key = HashKey::drawn(&rt);
         HostFiles {
             rt,
             file: None,
