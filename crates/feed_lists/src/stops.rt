@@ -12,6 +12,7 @@ ghost use Rattle.feed_lists.specs.ListBounds.{most_stops};
 use crate::forms::{read_is_stop, read_parent};
 use csv_rows::{Column, FeedFault, Ids, Rows, Table, check_columns, read_ids, read_name};
 use std::alloc::Global;
+use text_index::TextIndex;
 
 /// The ids of the stops, and the place of each: the number of its parent station or its own.
 pub struct Stops {
@@ -89,7 +90,12 @@ fn check_stops(rows: &Rows) -> Result<(), FeedFault>
 }
 
 /// The place of the stop of a row, where its parent is one of these.
-fn read_place(rows: &Rows, columns: StopColumns, ids: &Ids, row: usize) -> Result<u32, FeedFault>
+fn read_place(
+    rows: &Rows,
+    columns: StopColumns,
+    ids: &TextIndex<'_>,
+    row: usize,
+) -> Result<u32, FeedFault>
     requires inside { row < row_count rows.now }
     requires few { row_count rows.now ≤ most_stops }
     ensures place { IfOk result
@@ -117,9 +123,10 @@ fn read_places(alloc: Global, rows: &Rows, ids: &Ids) -> Result<Vec<u32>, FeedFa
         (first_below (unknown_parent rows.now) (row_count rows.now)) result }
 {
     let columns = stop_columns(rows);
+    let index = TextIndex::of(alloc, ids.key(), ids.texts())?;
     let mut places: Vec<u32> = Vec::new(alloc);
     for i in 0..rows.count() {
-        let place = read_place(rows, columns, ids, i)?;
+        let place = read_place(rows, columns, &index, i)?;
         places.push(place)?;
     }
     Ok(places)

@@ -14,6 +14,7 @@ use crate::routes::Routes;
 use csv_rows::{Column, FeedFault, Ids, Rows, Table, check_columns, read_ids, read_name};
 use plan_model::NoMemory;
 use std::alloc::Global;
+use text_index::TextIndex;
 
 /// The ids of the trips, and the service, the route and the route type of each.
 pub struct Trips {
@@ -85,7 +86,7 @@ fn trip_columns(rows: &Rows) -> TripColumns
 fn read_trip<'a>(
     rows: &'a Rows,
     columns: TripColumns,
-    routes: &Ids,
+    routes: &TextIndex<'_>,
     row: usize,
 ) -> Result<Trip<'a>, FeedFault>
     requires { row < row_count rows.now }
@@ -150,13 +151,14 @@ fn read_of_trips(alloc: Global, rows: &Rows, routes: &Routes) -> Result<OfTrips,
         (first_below (bad_trip routes.now.ids rows.now) (row_count rows.now)) result }
 {
     let columns = trip_columns(rows);
+    let index = TextIndex::of(alloc, routes.ids.key(), routes.ids.texts())?;
     let mut of_trips = OfTrips {
         services: Vec::new(alloc),
         types: Vec::new(alloc),
         routes: Vec::new(alloc),
     };
     for i in 0..rows.count() {
-        let trip = read_trip(rows, columns, &routes.ids, i)?;
+        let trip = read_trip(rows, columns, &index, i)?;
         add_trip(alloc, &mut of_trips, trip, routes)?;
     }
     Ok(of_trips)

@@ -11,9 +11,9 @@ pub loop-i-init : goal.loop-i-init
 loop-i-init c = grind (arith, list_below-zero, first-zero)
 
 pub returns-in_err-place-clause-tells : goal.returns-in_err-place-clause-tells
-returns-in_err-place-clause-tells c = match_raised _ _ c.from_residual.result c.from_residual.ensures
+returns-in_err-place-clause-tells c = match_raised _ _ c.from_residual-in_err-place.result c.from_residual-in_err-place.ensures
     (fault-at _ c.loop-i.i _ (omega arith) c.loop-i.invariant.none
-    (unknown_is c.args.rows.now _ c.args.ids.now c.loop-i.i c.stop_columns-columns.ensures c.requires.ids (none-each _ _ c.requires.formed _ (omega arith))) c.in_err-place.ensures.tells)
+    (unknown_is c.args.rows.now _ c.in_ok-index.index c.loop-i.i c.stop_columns-columns.ensures (c.in_ok-index.ensures ∙ c.texts.ensures ∙ c.requires.ids) (none-each _ _ c.requires.formed _ (omega arith))) c.in_err-place.ensures.tells)
 
 pub loop-i-preserved : goal.loop-i-preserved
 loop-i-preserved c =
@@ -21,7 +21,7 @@ loop-i-preserved c =
     let i = c.loop-i.i in
     record {
       places = list_below-next (λ k. place_from (stop_ids t) (parent_of t k) k) i c.loop-i.places.items c.push.new.self.items c.in_ok-place.place c.loop-i.invariant.places c.in_ok-push.ensures.items
-          (place_is_from t _ c.args.ids.now i c.in_ok-place.place c.stop_columns-columns.ensures c.requires.ids c.in_ok-place.ensures.place);
+          (place_is_from t _ c.in_ok-index.index i c.in_ok-place.place c.stop_columns-columns.ensures (c.in_ok-index.ensures ∙ c.texts.ensures ∙ c.requires.ids) c.in_ok-place.ensures.place);
       none = first-next (unknown_parent t) i None c.loop-i.invariant.none
-          (unknown_is t _ c.args.ids.now i c.stop_columns-columns.ensures c.requires.ids (none-each (bad_stop t) (row_count t) c.requires.formed i (omega arith)) ∙ c.in_ok-place.ensures.tells);
+          (unknown_is t _ c.in_ok-index.index i c.stop_columns-columns.ensures (c.in_ok-index.ensures ∙ c.texts.ensures ∙ c.requires.ids) (none-each (bad_stop t) (row_count t) c.requires.formed i (omega arith)) ∙ c.in_ok-place.ensures.tells);
     }

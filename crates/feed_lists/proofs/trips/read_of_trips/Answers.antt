@@ -1,10 +1,10 @@
-use Rattle.std.proofs.Common.{◌<◌, None, sym, subst, ap, ◌∙◌, arith, length, slice_index_or, All}
+use Rattle.std.proofs.Common.{List, ℕ, ◌<◌, None, sym, subst, ap, ◌∙◌, arith, length, slice_index_or, All}
 use Rattle.std.proofs.lemmas.List.Elements.{All-push, All-nil}
 use Rattle.std.specs.Result.{result_err}
 use Rattle.csv_rows.proofs.FaultLemmas.{match_raised, fault-at}
 use Rattle.csv_rows.proofs.FirstLemmas.{first-zero, first-next}
 use Rattle.plan_model.specs.NameLists.{texts}
-use Rattle.feed_lists.specs.Trips.{bad_trip, trip_at, trip_or_none}
+use Rattle.feed_lists.specs.Trips.{bad_trip, trip_at, trip_in, trip_or_none}
 use Rattle.csv_rows.proofs.ListLemmas.{list_below-zero, list_below-next}
 use Rattle.feed_lists.proofs.TripLemmas.{trip_is}
 use Rattle.feed_lists.proofs.trips.read_of_trips.Goals as goal
@@ -13,9 +13,11 @@ pub loop-i-init : goal.loop-i-init
 loop-i-init c = grind (arith, list_below-zero, All-nil, first-zero)
 
 pub returns-in_err-trip-clause-tells : goal.returns-in_err-trip-clause-tells
-returns-in_err-trip-clause-tells c = match_raised _ _ c.from_residual.result c.from_residual.ensures
+returns-in_err-trip-clause-tells c = match_raised _ _ c.from_residual-in_err-trip.result c.from_residual-in_err-trip.ensures
     (fault-at _ c.loop-i.i _ (omega arith) c.loop-i.invariant.none
-    (ap result_err (trip_is c.args.routes.now.ids c.args.rows.now _ c.loop-i.i c.trip_columns-columns.ensures)) c.in_err-trip.ensures.tells)
+    (ap result_err (trip_is c.args.routes.now.ids c.args.rows.now _ c.loop-i.i c.trip_columns-columns.ensures
+    ∙ ap (λ (ids : List (List ℕ)). trip_in ids c.args.rows.now c.trip_columns-columns.result c.loop-i.i) (sym (c.in_ok-index.ensures ∙ c.texts.ensures))))
+    c.in_err-trip.ensures.tells)
 
 pub loop-i-preserved : goal.loop-i-preserved
 loop-i-preserved c =
@@ -25,7 +27,9 @@ loop-i-preserved c =
     let trip = c.in_ok-trip.trip in
     let before = c.loop-i.of_trips in
     let new = c.add_trip.new.of_trips in
-    let here = trip_is ids t _ c.loop-i.i c.trip_columns-columns.ensures ∙ c.in_ok-trip.ensures.trip in
+    let here = trip_is ids t _ c.loop-i.i c.trip_columns-columns.ensures
+    ∙ ap (λ (ids : List (List ℕ)). trip_in ids t c.trip_columns-columns.result c.loop-i.i) (sym (c.in_ok-index.ensures ∙ c.texts.ensures)) ∙ c.in_ok-trip.ensures.trip in
+    let known = subst (λ (ids : List (List ℕ)). trip.route < length ids) (c.in_ok-index.ensures ∙ c.texts.ensures) c.in_ok-trip.ensures.route in
     record {
       services = list_below-next (λ i. (trip_or_none (trip_at ids t i)).service) c.loop-i.i (texts before.services.items) (texts new.services.items)
           trip.service.now c.loop-i.invariant.services c.in_ok-add_trip.ensures.services (sym (ap (λ r. (trip_or_none r).service) here));
@@ -34,6 +38,6 @@ loop-i-preserved c =
       routes = list_below-next (λ i. (trip_or_none (trip_at ids t i)).route) c.loop-i.i before.routes.items new.routes.items
           trip.route c.loop-i.invariant.routes c.in_ok-add_trip.ensures.routes (sym (ap (λ r. (trip_or_none r).route) here));
       known = subst (All (λ route. route < length ids)) (sym c.in_ok-add_trip.ensures.routes)
-          (All-push (λ route. route < length ids) before.routes.items trip.route c.loop-i.invariant.known c.in_ok-trip.ensures.route);
+          (All-push (λ route. route < length ids) before.routes.items trip.route c.loop-i.invariant.known known);
       none = first-next (bad_trip ids t) c.loop-i.i None c.loop-i.invariant.none (ap result_err here);
     }
