@@ -1,7 +1,9 @@
 pub mod LineFacts
 pub mod GroupFacts
+pub mod RouteFacts
 pub mod NumberedFacts
 pub mod PlaceFacts
+pub mod LineGroups
 pub mod ReadFacts
 pub mod Starts
 pub mod Others

@@ -9,7 +9,6 @@ use Rattle.csv_rows.specs.declared.columns.Column.TheVariants.{Class, Delay, Wei
 use Rattle.csv_rows.specs.Names.{name_in}
 use Rattle.csv_rows.proofs.RowLemmas.{mapped-each, name_text, optional-each}
 use Rattle.csv_rows.specs.Tables.{field, field_at}
-use Rattle.plan_model.specs.NameLists.{IsTrimmed}
 use Rattle.plan_model.specs.Bounds.{seconds_per_day}
 use Rattle.delay_table.specs.DelayBounds.{end_of_types, last_type, whole_weight}
 use Rattle.delay_table.specs.declared.lines.DelayLine.{DelayLine}
@@ -76,11 +75,6 @@ pub of-mapped : {X Y : Type 0} (f : X → Y) (P : Y → Type 0) (o : Option X) (
 of-mapped f P None m e h = tt
 of-mapped f P (Some x) m e h = subst (λ (y : Option _). IfSome y P) (sym e) h
 
--- a route that is a field has no space at either end
-pub route-trimmed : {X : Type 0} (f : X → List ℕ) (o : Option X) (field : List ℕ) → IsTrimmed field → IfSome (option_map f o) (λ r. r ≡ field) → IfSome o (λ x. IsTrimmed (f x))
-route-trimmed f None field t h = tt
-route-trimmed f (Some x) field t h = subst IsTrimmed (sym h) t
-
 -- the line that is read
 abbrev pub own_line : DelayLine → Line
 own_line l = record { group = record { class = l.class; route = option_map (λ s. s.now) l.route; hour = l.hour }; outcome = l.outcome }
@@ -91,10 +85,3 @@ line_is_formed class delay weight route hour None e = tt
 line_is_formed class delay weight route hour (Some l) e =
     let f = of-mapped own_line (IsFormed route) (Some l) (line_from class delay weight route hour) e (line_formed class delay weight route hour) in
     (f.delay, f.weight)
-
-pub line_is_trimmed : (class delay weight route hour : List ℕ) → IsTrimmed route → (o : Option DelayLine) → option_map own_line o ≡ line_from class delay weight route hour
-    → IfSome o (λ l. IfSome l.route (λ s. IsTrimmed s.now))
-line_is_trimmed class delay weight route hour t None e = tt
-line_is_trimmed class delay weight route hour t (Some l) e =
-    let f = of-mapped own_line (IsFormed route) (Some l) (line_from class delay weight route hour) e (line_formed class delay weight route hour) in
-    route-trimmed (λ s. s.now) l.route route t f.route

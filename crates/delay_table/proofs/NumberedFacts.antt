@@ -1,5 +1,5 @@
 -- Groups by the numbers of their routes.
-use Rattle.std.proofs.Common.{◌≡◌, ℕ, suc, ◌<◌, ◌≤◌, ◌&&◌, Bool, true, false, List, [], ◌∷◌, ◌++◌, length, map, slice_index_or, Option, Some, None, IfSome}
+use Rattle.std.proofs.Common.{◌≡◌, ℕ, suc, ◌<◌, ◌≤◌, ◌&&◌, true, false, List, [], ◌∷◌, ◌++◌, length, map, slice_index_or, Option, Some, None, IfSome}
 use Rattle.std.proofs.Common.{option_map, is_some, refl, sym, ap, ap₂, ◌∙◌, subst, arith, below_more, inl, inr, position, eqb-true, eq-eqb}
 use Rattle.std.specs.List.{list_any}
 use Rattle.std.proofs.lemmas.Bool.{cases_order, and_from, and_parts, false_from_ne_true}
@@ -7,14 +7,13 @@ use Rattle.std.proofs.lemmas.Option.{same_Some}
 use Rattle.std.proofs.lemmas.List.{get_or_default, get_or_append_left, get_or_push, get_or-map, length-map, length_push, map-append}
 use Rattle.std.proofs.lemmas.List.Folds.{Any-from_list_any, list_any_at}
 use Rattle.std.proofs.lemmas.List.Quantifiers.{position-Some}
-use Rattle.std.proofs.lemmas.Slice.Eq.{bytes_eq-Decides}
-use Rattle.plan_model.specs.NameLists.{Adds, AreDistinct}
-use Rattle.plan_model.proofs.Texts.{AreDistinct-push}
+use Rattle.plan_model.specs.NameLists.{AreDistinct}
 use Rattle.csv_rows.specs.Tables.{place_in}
-use Rattle.csv_rows.proofs.IdLemmas.{place-here, place-none}
+use Rattle.csv_rows.proofs.IdLemmas.{place-here}
 use Rattle.delay_table.specs.declared.numbered.NumberedGroup.{NumberedGroup}
-use Rattle.delay_table.specs.Groups.{Group, same_if, same_number, of_class, group_in, group_place}
-use Rattle.delay_table.specs.Numbered.{no_group, named_group, same_numbered, AreNumbers, IsNumber, StaysSo}
+use Rattle.delay_table.specs.Groups.{Group, same_if, same_number, of_class, group_in, group_place, numbered_route, routes_of, with_route}
+use Rattle.delay_table.specs.Numbered.{no_group, named_group, same_numbered, AreNumbers, IsNumber, IsNumbering}
+use Rattle.delay_table.proofs.RouteFacts.{routes-distinct, routes-next, with_route-cases, with_route-distinct}
 use Rattle.delay_table.proofs.GroupFacts.{none-place, nowhere, place-first, same_if-equal, same_if-self}
 
 pub numbered-equal : (a b : NumberedGroup) → same_numbered a b ≡ true → a ≡ b
@@ -47,13 +46,6 @@ one_route routes distinct None None h g e = refl
 one_route routes distinct None (Some n) h g e = absurd (cc)
 one_route routes distinct (Some m) None h g e = absurd (cc)
 one_route routes distinct (Some m) (Some n) h g e = ap Some (one_index routes distinct m n h g (same_Some (slice_index_or routes m []) (slice_index_or routes n []) e))
-
--- a route that has no number is none of these
-no_route : (routes : List (List ℕ)) (id : List ℕ) (a : Option ℕ) → place_in id routes ≡ None → IfSome a (λ n. n < length routes) → option_map (λ k. slice_index_or routes k []) a ≡ Some id → ⊥
-no_route routes id None none h e = absurd (cc)
-no_route routes id (Some m) none h e =
-    let t = (bytes_eq-Decides (slice_index_or routes m []) id).1 (same_Some (slice_index_or routes m []) id e) in
-    let f = place-none id routes none m h in absurd (cc)
 
 module _ (routes : List (List ℕ)) (keys : List NumberedGroup) (distinct : AreDistinct routes) (numbers : AreNumbers routes keys) where
   abbrev key_at : ℕ → NumberedGroup
@@ -114,17 +106,9 @@ module _ (routes : List (List ℕ)) (keys : List NumberedGroup) (distinct : AreD
         (λ k before. subst P (sym (get_or_append_left keys (key ∷ []) no_group k before)) (numbers k before))
         (subst P (sym (get_or_push keys key no_group (length keys) refl)) number) k (omega (arith, l, length_push keys key)))
 
-  -- a route without a number has no group
-  pub unknown-route : (id : List ℕ) (class : Option ℕ) (hour : Option ℕ) → place_in id routes ≡ None → None ≡ group_place (record { class = class; route = Some id; hour = hour }) groups
-  unknown-route id class hour none =
-      let group : Group = record { class = class; route = Some id; hour = hour } in
-      sym (none-place group groups (λ k l g.
-      let inside : k < length keys = omega (arith, size) in
-      no_route routes id (key_at k).route none (numbers k inside) (ap (λ (x : Group). x.route) (sym (at k inside) ∙ g))))
-
 -- the groups stay when a route is added
 same_route : (routes : List (List ℕ)) (id : List ℕ) (a : Option ℕ) → IfSome a (λ n. n < length routes)
-    → option_map (λ k. slice_index_or (routes ++ id ∷ []) k []) a ≡ option_map (λ k. slice_index_or routes k []) a
+    → numbered_route (routes ++ id ∷ []) a ≡ numbered_route routes a
 same_route routes id None h = refl
 same_route routes id (Some n) h = ap Some (get_or_append_left routes (id ∷ []) [] n h)
 
@@ -139,15 +123,17 @@ wider : (a : Option ℕ) (m n : ℕ) → m ≤ n → IfSome a (λ k. k < m) → 
 wider None m n l h = tt
 wider (Some k) m n l h = omega (arith, l, h)
 
-pub stays-adds : (old new : List (List ℕ)) (id : List ℕ) (added : Bool) (keys : List NumberedGroup) → AreDistinct old → AreNumbers old keys → Adds old new id added → StaysSo old new keys
-stays-adds old new id true keys distinct numbers a =
-    subst (λ (xs : List (List ℕ)). StaysSo old xs keys) (sym a.0) (record {
-      distinct = AreDistinct-push old id distinct a.1;
-      numbers = λ k l. wider (slice_index_or keys k no_group).route (length old) (length (old ++ id ∷ [])) (omega (arith, length_push old id)) (numbers k l);
-      names = same_names old id keys numbers;
+record StaysSo (keys : List NumberedGroup) (groups : List Group) (routes : List (List ℕ)) : Type 0 where
+  numbers : AreNumbers routes keys
+  are : map (named_group routes) keys ≡ groups
+
+stays : (routes : List (List ℕ)) (keys : List NumberedGroup) (groups : List Group) → IsNumbering routes keys groups → (route : Option (List ℕ)) → StaysSo keys groups (with_route routes route)
+stays routes keys groups h None = record { numbers = h.numbers; are = h.are }
+stays routes keys groups h (Some id) =
+    with_route-cases (StaysSo keys groups) routes id (λ c. record { numbers = h.numbers; are = h.are }) (λ n. record {
+      numbers = λ k l. wider (slice_index_or keys k no_group).route (length routes) (length (routes ++ id ∷ [])) (omega (arith, length_push routes id)) (h.numbers k l);
+      are = same_names routes id keys h.numbers ∙ h.are;
     })
-stays-adds old new id false keys distinct numbers a =
-    subst (λ (xs : List (List ℕ)). StaysSo old xs keys) (sym a.0) (record { distinct = distinct; numbers = numbers; names = refl })
 
 -- where a group stands, by the number of its route
 pub place-is : (routes : List (List ℕ)) (keys : List NumberedGroup) (distinct : AreDistinct routes) (numbers : AreNumbers routes keys) (all : List Group)
@@ -162,12 +148,8 @@ place-is routes keys distinct numbers all class number hour route view inside is
     found-place routes keys distinct numbers key group inside named o here found ∙ ap (group_place group) view
 
 -- the number of a route is that of its id
-pub number-is : (routes : List (List ℕ)) (id : List ℕ) (n : ℕ) → place_in id routes ≡ Some n → (n < length routes) × (slice_index_or routes n [] ≡ id)
-number-is routes id n h = place-here id routes n h
-
-pub stays-same : (old new : List (List ℕ)) (keys : List NumberedGroup) → new ≡ old → AreDistinct old → AreNumbers old keys → StaysSo old new keys
-stays-same old new keys e distinct numbers =
-    subst (λ (xs : List (List ℕ)). StaysSo old xs keys) (sym e) (record { distinct = distinct; numbers = numbers; names = refl })
+pub number-is : (routes : List (List ℕ)) (id : List ℕ) (n : ℕ) → place_in id routes ≡ Some n → IsNumber routes (Some n) (Some id)
+number-is routes id n h = let w = place-here id routes n h in record { inside = w.0; is = ap Some w.1 }
 
 module _ (routes : List (List ℕ)) (keys : List NumberedGroup) (distinct : AreDistinct routes) (numbers : AreNumbers routes keys) (all : List Group)
     (class number hour : Option ℕ) (route : Option (List ℕ)) (view : map (named_group routes) keys ≡ all) (is : IsNumber routes number route) where
@@ -191,10 +173,32 @@ module _ (routes : List (List ℕ)) (keys : List NumberedGroup) (distinct : AreD
   pub numbers-more : (more : List NumberedGroup) → more ≡ keys ++ own_key ∷ [] → AreNumbers routes more
   numbers-more more e = numbers-last routes keys distinct numbers own_key own_group is.inside own-named more e
 
--- the group at a place, by its key
-pub group-at : (routes : List (List ℕ)) (keys : List NumberedGroup) (all : List Group) (key : NumberedGroup) (route : Option (List ℕ)) (k : ℕ) → map (named_group routes) keys ≡ all → k < length keys
-    → key ≡ slice_index_or keys k no_group → route ≡ option_map (λ n. slice_index_or routes n []) key.route
-    → ◌≡◌ {A = Group} (record { class = key.class; route = route; hour = key.hour }) (group_in all k)
-group-at routes keys all key route k view l e is =
-    let same : ◌≡◌ {A = Group} (record { class = key.class; route = route; hour = key.hour }) (named_group routes key) = λ i. record { class = key.class; route = is i; hour = key.hour } in
-    same ∙ ap (named_group routes) e ∙ sym (get_or-map (named_group routes) keys k no_group (of_class None) l) ∙ ap (λ gs. group_in gs k) view
+-- no groups
+numbering-nothing : IsNumbering [] [] []
+unfolding routes_of
+numbering-nothing = record { named = refl; numbers = λ k l. absurd (omega arith); are = refl }
+
+pub numbering-none : (routes : List (List ℕ)) (keys : List NumberedGroup) → routes ≡ [] → keys ≡ [] → IsNumbering routes keys []
+numbering-none routes keys e f = subst (λ (xs : List (List ℕ)). IsNumbering xs keys []) (sym e) (subst (λ (ks : List NumberedGroup). IsNumbering [] ks []) (sym f) numbering-nothing)
+
+-- one more group, which is new
+module _ (routes : List (List ℕ)) (keys : List NumberedGroup) (groups : List Group) (were : IsNumbering routes keys groups) (group : Group) (number : Option ℕ)
+    (new : List (List ℕ)) (named : new ≡ with_route routes group.route) (is : IsNumber new number group.route) where
+  abbrev next : NumberedGroup
+  next = record { class = group.class; route = number; hour = group.hour }
+
+  so : StaysSo keys groups new
+  so = subst (StaysSo keys groups) (sym named) (stays routes keys groups were group.route)
+
+  differ : AreDistinct new
+  differ = subst AreDistinct (sym (named ∙ ap (λ xs. with_route xs group.route) were.named)) (with_route-distinct (routes_of groups) group.route (routes-distinct groups))
+
+  pub numbering-new : group_place group groups ≡ None → list_any (same_numbered next) keys ≡ false
+  numbering-new = key-is-new new keys differ so.numbers groups group.class number group.hour group.route so.are is
+
+  pub numbering-next : (more : List NumberedGroup) → more ≡ keys ++ next ∷ [] → IsNumbering new more (groups ++ group ∷ [])
+  numbering-next more e = record {
+    named = named ∙ ap (λ xs. with_route xs group.route) were.named ∙ sym (routes-next groups group);
+    numbers = numbers-more new keys differ so.numbers groups group.class number group.hour group.route so.are is more e;
+    are = groups-last new keys differ so.numbers groups group.class number group.hour group.route so.are is more e;
+  }

@@ -1,6 +1,6 @@
 -- The groups that name a route or an hour, one more at a time.
 use Rattle.std.proofs.lemmas.Bool.{cases_Bool}
-use Rattle.std.proofs.Common.{◌≡◌, ℕ, zero, suc, ◌+◌, ◌<◌, Bool, true, false, List, [], ◌∷◌, ◌++◌, length, map, None, if◌then◌else◌, refl, sym, ap, ◌∙◌, subst, arith, All, append_assoc, add-one}
+use Rattle.std.proofs.Common.{◌≡◌, ℕ, zero, suc, ◌+◌, ◌<◌, Bool, true, false, List, [], ◌∷◌, ◌++◌, length, map, None, if◌then◌else◌, refl, sym, ap, ◌∙◌, subst, arith, All, append_assoc, append-nil, add-one}
 use Rattle.std.proofs.lemmas.List.{map-append}
 use Rattle.std.proofs.lemmas.List.Elements.{All-nil, All-cons, All-append}
 use Rattle.plan_model.specs.declared.model.Outcome.{Outcome}
@@ -16,6 +16,13 @@ others-zero groups = refl
 pub others-next : (groups : List Group) (n : ℕ) → others groups (n + 1) ≡ others groups n ++ if_other (group_in groups n) (group_in groups n)
 unfolding others
 others-next groups n = ap (others groups) (add-one n)
+
+pub others-plain : (groups : List Group) (n : ℕ) → is_plain (group_in groups n) ≡ true → others groups (n + 1) ≡ others groups n
+others-plain groups n h =
+    others-next groups n ∙ ap (λ b. others groups n ++ (if b then [] else group_in groups n ∷ [])) h ∙ append-nil (others groups n)
+
+pub others-other : (groups : List Group) (n : ℕ) → is_plain (group_in groups n) ≡ false → others groups (n + 1) ≡ others groups n ++ group_in groups n ∷ []
+others-other groups n h = others-next groups n ∙ ap (λ b. others groups n ++ (if b then [] else group_in groups n ∷ [])) h
 
 -- a list that goes on
 pub goes-on : {A : Type 0} (init before more all old new : List A) → old ≡ init ++ before → new ≡ old ++ more → all ≡ before ++ more → new ≡ init ++ all

@@ -7,7 +7,7 @@ use Rattle.std.proofs.lemmas.Option.{slice_get_within, get_or_from_slice_get}
 use Rattle.plan_model.specs.declared.model.Outcome.{Outcome}
 use Rattle.plan_model.specs.DelayRows.{IsValidRow}
 use Rattle.csv_rows.proofs.FirstLemmas.{absent_by, found_by}
-use Rattle.delay_table.specs.DelayLists.{DelayLists, class_for, hour_class, hour_of, route_class, type_class, type_place}
+use Rattle.delay_table.specs.DelayLists.{DelayLists, class_at, hour_class, route_class, type_class, type_place}
 use Rattle.std.specs.Option.{option_or}
 use Rattle.delay_table.specs.Slots.{AreDelays, IsClassOf}
 
@@ -69,11 +69,7 @@ class-some d s route k h e =
     ap Some n ∙ sym (ap (option_map (λ n. n + 1)) ((class-place d.types s.rising route k h).1 (k - 1) n))
 
 -- the class is that of the first of these that is there
-pub class-is : (d : DelayLists) (class own : Option ℕ) (route : Option (List ℕ)) (hour arr : ℕ) → class ≡ own → hour ≡ hour_of arr → {a b c e f : Option ℕ}
+pub class-is : (d : DelayLists) (class : Option ℕ) (route : Option (List ℕ)) (hour : ℕ) → {a b c e f : Option ℕ}
     → a ≡ route_class d route (Some hour) → b ≡ route_class d route None → c ≡ hour_class d class hour → e ≡ type_class d class → f ≡ hour_class d None hour
-    → unwrap_or (option_or a (option_or b (option_or c (option_or e f)))) 0 ≡ class_for d own route arr
-unfolding class_for
-class-is d class own route hour arr same is p q r s t =
-    (λ m. unwrap_or (option_or (p m) (option_or (q m) (option_or (r m) (option_or (s m) (t m))))) 0)
-    ∙ (λ m. unwrap_or (option_or (route_class d route (Some (is m))) (option_or (route_class d route None)
-    (option_or (hour_class d (same m) (is m)) (option_or (type_class d (same m)) (hour_class d None (is m)))))) 0)
+    → unwrap_or (option_or a (option_or b (option_or c (option_or e f)))) 0 ≡ class_at d class route hour
+class-is d class route hour p q r s t = λ m. unwrap_or (option_or (p m) (option_or (q m) (option_or (r m) (option_or (s m) (t m))))) 0

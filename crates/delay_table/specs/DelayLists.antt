@@ -39,9 +39,14 @@ route_class d (Some route) hour = other_class d (record { class = None; route = 
 abbrev pub hour_class : DelayLists → Option ℕ → ℕ → Option ℕ
 hour_class d class hour = other_class d (record { class = class; route = None; hour = Some hour })
 
--- the class of a connection, by its route type, its route where it has one, and its arrival: that of the first group that is
--- there among those of this route and hour, this route, this route type and hour, this route type, `*` and this hour, and `*`
+-- the class of a connection, by its route type, its route where it has one, and the hour of its arrival: that of the first group
+-- that is there among those of this route and hour, this route, this route type and hour, this route type, `*` and this hour,
+-- and `*`
+abbrev pub class_at : DelayLists → (class : Option ℕ) → (route : Option (List ℕ)) → (hour : ℕ) → ℕ
+class_at d class route hour =
+    unwrap_or (option_or (route_class d route (Some hour)) (option_or (route_class d route None)
+    (option_or (hour_class d class hour) (option_or (type_class d class) (hour_class d None hour))))) 0
+
+-- the same by the moment of its arrival
 unfoldable pub class_for : DelayLists → (class : Option ℕ) → (route : Option (List ℕ)) → (arr : ℕ) → ℕ
-class_for d class route arr =
-    unwrap_or (option_or (route_class d route (Some (hour_of arr))) (option_or (route_class d route None)
-    (option_or (hour_class d class (hour_of arr)) (option_or (type_class d class) (hour_class d None (hour_of arr)))))) 0
+class_for d class route arr = class_at d class route (hour_of arr)

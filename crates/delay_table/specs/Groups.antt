@@ -1,7 +1,8 @@
 -- Groups of the rows of a delay file: each is of one class, one route and one hour.
-use Rattle.std.specs.Prelude.{ℕ, zero, suc, ◌==◌, Bool, true, false, ◌&&◌, List, [], ◌∷◌, ◌++◌, length, slice_index_or, Option, Some, None, is_none, if◌then◌else◌}
+use Rattle.std.specs.Prelude.{ℕ, zero, suc, ◌==◌, Bool, true, false, ◌&&◌, List, [], ◌∷◌, ◌++◌, length, slice_index_or, fold, Option, Some, None, is_none, is_some, option_map, if◌then◌else◌}
 use Rattle.std.specs.Str.{bytes_eq}
 use Rattle.csv_rows.specs.First.{first_below}
+use Rattle.csv_rows.specs.Tables.{place_in}
 
 -- what the rows are of: the route type of the class, and none for `*`; a route and an hour, where they are told
 pub record Group : Type 0 where
@@ -50,3 +51,20 @@ listed (Some n) = n ∷ []
 unfoldable pub plain_types : List Group → ℕ → List ℕ
 plain_types groups zero = []
 plain_types groups (suc n) = plain_types groups n ++ listed (plain_type (group_in groups n))
+
+-- one more route goes last, unless none is told or it is there
+abbrev pub with_route : List (List ℕ) → Option (List ℕ) → List (List ℕ)
+with_route routes None = routes
+with_route routes (Some id) = if is_some (place_in id routes) then routes else routes ++ id ∷ []
+
+-- the routes that groups name, each once, in the order of the groups
+unfoldable pub routes_of : List Group → List (List ℕ)
+routes_of groups = fold (λ routes (group : Group). with_route routes group.route) [] groups
+
+-- the route of a number, where one is told
+abbrev pub numbered_route : List (List ℕ) → Option ℕ → Option (List ℕ)
+numbered_route routes number = option_map (λ k. slice_index_or routes k []) number
+
+-- one more group goes last, unless it is there
+abbrev pub with_group : List Group → Group → List Group
+with_group groups group = if is_some (group_place group groups) then groups else groups ++ group ∷ []

@@ -1,18 +1,34 @@
 -- Groups by the numbers of their routes.
-use Rattle.std.specs.Prelude.{◌≡◌, ℕ, ◌<◌, Bool, ◌&&◌, List, [], map, length, slice_index_or, Option, None, IfSome, option_map, position}
+use Rattle.std.specs.Prelude.{◌≡◌, ℕ, ◌<◌, Bool, ◌&&◌, List, map, length, slice_index_or, Option, None, IfSome, option_map, position}
+use Rattle.std.specs.Borrow.{Bor}
 use Rattle.std.specs.HashMap.{get}
-use Rattle.plan_model.specs.NameLists.{AreDistinct}
+use Rattle.std.specs.Str.{bytes_eq}
+use Rattle.delay_table.specs.declared.groups.LineGroup.{LineGroup}
+use Rattle.delay_table.specs.declared.groups.Groups.TheInside as line_groups
 use Rattle.delay_table.specs.declared.numbered.NumberedGroup.{NumberedGroup}
 use Rattle.delay_table.specs.declared.numbered.NumberedGroups.TheInside as numbered
-use Rattle.delay_table.specs.declared.groups.Groups.TheInside.{Inside}
-use Rattle.delay_table.specs.Groups.{Group, same_if, same_number}
+use Rattle.delay_table.specs.declared.other_groups.OtherGroups.TheInside.{Inside}
+use Rattle.delay_table.specs.Groups.{Group, same_if, same_number, numbered_route, routes_of}
+
+-- the group of a line's class, route and hour
+abbrev pub line_group : LineGroup → Group
+line_group g = record { class = g.class; route = option_map (λ s. s.now) g.route; hour = g.hour }
+
+abbrev pub same_text : Bor (List ℕ) → Bor (List ℕ) → Bool
+same_text a b = bytes_eq a.now b.now
+
+abbrev pub same_line : LineGroup → LineGroup → Bool
+same_line a b = same_if same_number a.class b.class && (same_if same_text a.route b.route && same_if same_number a.hour b.hour)
+
+abbrev pub line_groups_of : line_groups.Inside → List Group
+line_groups_of s = map line_group s.groups.keys
 
 abbrev pub no_group : NumberedGroup
 no_group = record { class = None; route = None; hour = None }
 
 -- the group of a numbered one
 abbrev pub named_group : List (List ℕ) → NumberedGroup → Group
-named_group routes g = record { class = g.class; route = option_map (λ k. slice_index_or routes k []) g.route; hour = g.hour }
+named_group routes g = record { class = g.class; route = numbered_route routes g.route; hour = g.hour }
 
 abbrev pub same_numbered : NumberedGroup → NumberedGroup → Bool
 same_numbered a b = same_if same_number a.class b.class && (same_if same_number a.route b.route && same_if same_number a.hour b.hour)
@@ -28,20 +44,16 @@ groups_of s = map (named_group s.routes) s.groups
 abbrev pub AreNumbers : List (List ℕ) → List NumberedGroup → Type 0
 AreNumbers routes keys = (k : ℕ) → k < length keys → IfSome (slice_index_or keys k no_group).route (λ n. n < length routes)
 
-pub record HasGroups (s : Inside) : Type 0 where
-  pub distinct : AreDistinct s.routes
-  pub numbers : AreNumbers s.routes s.groups
+-- these are groups by the numbers of their routes
+pub record IsNumbering (routes : List (List ℕ)) (keys : List NumberedGroup) (groups : List Group) : Type 0 where
+  pub named : routes ≡ routes_of groups
+  pub numbers : AreNumbers routes keys
+  pub are : map (named_group routes) keys ≡ groups
 
--- the groups of these keys stay as they are when routes are added
-pub record StaysSo (old new : List (List ℕ)) (keys : List NumberedGroup) : Type 0 where
-  pub distinct : AreDistinct new
-  pub numbers : AreNumbers new keys
-  pub names : map (named_group new) keys ≡ map (named_group old) keys
-
-abbrev pub Keeps : List (List ℕ) → List (List ℕ) → Type 0
-Keeps old new = (keys : List NumberedGroup) → AreDistinct old → AreNumbers old keys → StaysSo old new keys
+abbrev pub AreNumbered : Inside → Type 0
+AreNumbered s = IsNumbering s.routes s.groups (groups_of s)
 
 -- this is the number of a route, where one is told
 pub record IsNumber (routes : List (List ℕ)) (number : Option ℕ) (route : Option (List ℕ)) : Type 0 where
   pub inside : IfSome number (λ n. n < length routes)
-  pub is : option_map (λ k. slice_index_or routes k []) number ≡ route
+  pub is : numbered_route routes number ≡ route

@@ -1,106 +1,45 @@
 //! Groups of the rows of a delay file, in the order in which they first stand.
-ghost use Rattle.std.specs.Prelude.{◌≡◌, ◌<◌, ◌++◌, ◌∷◌, [], Bool, length, slice_index_or, None, Some, IfSome, IfOk, OnErr, OnOk, option_map};
-ghost use Rattle.csv_rows.specs.Tables.{place_in};
-ghost use Rattle.plan_model.specs.NameLists.{Adds, IsTrimmed};
-ghost use Rattle.delay_table.specs.Numbered.{IsNumber, Keeps};
-ghost use Rattle.delay_table.specs.Groups.{group_in, is_plain, group_place, plain_type};
+ghost use Rattle.std.specs.Prelude.{◌≡◌, ◌<◌, [], length, IfOk, OnOk, option_map};
+ghost use Rattle.delay_table.specs.Groups.{group_in, group_place, is_plain, of_class, plain_type, with_group};
+ghost use Rattle.delay_table.specs.Numbered.{line_group};
 
-use crate::numbered::{NumberedGroup, NumberedGroups};
-use csv_rows::Ids;
+use indexmap::IndexSet;
 use plan_model::{HashKey, NoMemory};
 use std::alloc::Global;
 use std::marker::Model;
 
-/// The number of a route, which is added where it is new.
-fn number_of(alloc: Global, routes: &mut Ids, id: &str) -> Result<u32, NoMemory>
-    requires { IsTrimmed id.now }
-    ensures added { OnOk result ((b : Bool) × Adds routes.old routes.new id.now b) }
-    ensures number { IfOk result (λ n. place_in id.now routes.new ≡ Some n) }
-    ensures err { OnErr result (routes.new ≡ routes.old) }
-{
-    if routes.len() == u32::MAX {
-        return Err(NoMemory);
-    }
-    routes.add(alloc, id)?;
-    match routes.number(id) {
-        Some(number) => Ok(number),
-        None => unreachable!(),
-    }
+/// What the rows of a group are of. The class is a route type, and none for `*`.
+#[derive(Clone, Copy, PartialEq, Eq, Hash)]
+pub(crate) struct LineGroup<'a> {
+    pub(crate) class: Option<u16>,
+    pub(crate) route: Option<&'a str>,
+    pub(crate) hour: Option<u8>,
 }
 
-/// The number of a route, where one is told.
-fn add_route(alloc: Global, routes: &mut Ids, route: Option<&str>) -> Result<Option<u32>, NoMemory>
-    requires trimmed { IfSome route (λ s. IsTrimmed s.now) }
-    ensures number { IfOk result (λ n.
-        IsNumber routes.new n (option_map (λ s. s.now) route.entry)) }
-    ensures keeps { Keeps routes.old routes.new }
-{
-    let Some(id) = route else {
-        return Ok(None);
-    };
-    match number_of(alloc, routes, id) {
-        Ok(number) => Ok(Some(number)),
-        Err(_) => Err(NoMemory),
-    }
+/// Groups, numbered in the order in which they appear.
+#[derive(Drop)]
+pub(crate) struct Groups<'a> {
+    groups: IndexSet<LineGroup<'a>, HashKey>,
 }
 
-/// The route of a number, where one is told.
-fn route_of(routes: &Ids, number: Option<u32>) -> Option<&str>
-    requires { IfSome number (λ n. n < length routes.now) }
-    ensures is { option_map (λ s. s.now) result
-        ≡ option_map (λ k. slice_index_or routes.now k []) number }
-    ensures trimmed { IfSome result (λ s. IsTrimmed s.now) }
-{
-    let _count = routes.len();
-    match number {
-        None => None,
-        Some(number) => Some(routes.get(number)),
-    }
-}
-
-/// Groups, each of one class, one route and one hour, in the order in which they were added.
-pub(crate) struct Groups {
-    routes: Ids,
-    groups: NumberedGroups,
-}
-
-impl Drop for Groups {
-    /// Lets go of its parts here, so that a caller lets go of one value.
-    fn drop(self) {
-        let Groups {
-            routes: _routes,
-            groups: _groups,
-        } = self;
-    }
-}
-
-impl Model for Groups {
+impl<'a> Model for Groups<'a> {
     ghost use Rattle.std.specs.Prelude.{List};
     ghost use Rattle.delay_table.specs.Groups.{Group};
+    ghost use Rattle.delay_table.specs.Numbered.{line_groups_of};
 
     ghost Value = { List Group };
 
-    ghost use Rattle.delay_table.specs.Numbered.{groups_of, HasGroups};
-
-    ghost view = { groups_of };
-
-    ghost invariant = { HasGroups };
+    ghost view = { line_groups_of };
 }
 
-impl Groups {
+impl<'a> Groups<'a> {
     /// No groups, which will be hashed by a key.
-    pub(crate) fn with_key(alloc: Global, key: HashKey) -> Groups
+    pub(crate) fn with_key(alloc: Global, key: HashKey) -> Groups<'a>
         ensures { result ≡ [] }
     {
         Groups {
-            routes: Ids::with_key(alloc, key),
-            groups: NumberedGroups::with_key(alloc, key),
+            groups: IndexSet::with_hasher(alloc, key),
         }
-    }
-
-    /// The key by which they are hashed.
-    pub(crate) fn key(&self) -> HashKey {
-        self.routes.key()
     }
 
     /// How many there are.
@@ -110,57 +49,35 @@ impl Groups {
         self.groups.len()
     }
 
-    /// The place of a group, if it is there.
-    pub(crate) fn place(
-        &self,
-        class: Option<u16>,
-        route: Option<&str>,
-        hour: Option<u8>,
-    ) -> Option<usize>
-        ensures place { result ≡ group_place (record {
-          class = class;
-          route = option_map (λ s. s.now) route.entry;
-          hour = hour;
-        }) self.now }
-        ensures inside { IfSome result (λ place. place < length self.now) }
+    /// The place of the group of a class alone, if it is there.
+    pub(crate) fn class_place(&self, class: Option<u16>) -> Option<usize>
+        ensures { result ≡ group_place (of_class class) self.now }
     {
-        let route = match route {
-            None => None,
-            Some(id) => match self.routes.number(id) {
-                None => return None,
-                Some(number) => Some(number),
-            },
-        };
-        self.groups.place(&NumberedGroup { class, route, hour })
+        self.groups.get_index_of(&LineGroup {
+            class,
+            route: None,
+            hour: None,
+        })
     }
 
-    /// Adds a group that is new.
-    pub(crate) fn add(
-        &mut self,
-        alloc: Global,
-        class: Option<u16>,
-        route: Option<&str>,
-        hour: Option<u8>,
-    ) -> Result<(), NoMemory>
-        requires new { group_place (record {
-          class = class;
-          route = option_map (λ s. s.now) route;
-          hour = hour;
-        }) self.old ≡ None }
-        requires trimmed { IfSome route (λ s. IsTrimmed s.now) }
-        ensures { OnOk result (self.new ≡ self.old ++ (record {
-          class = class;
-          route = option_map (λ s. s.now) route.entry;
-          hour = hour;
-        }) ∷ []) }
+    /// The place of a group that is there. One that is not goes last.
+    pub(crate) fn number(&mut self, group: LineGroup<'a>) -> Result<Option<usize>, NoMemory>
+        ensures place { IfOk result (λ place. place ≡ group_place (line_group group.entry) self.old) }
+        ensures groups { OnOk result (self.new ≡ with_group self.old (line_group group.entry)) }
     {
-        let number = add_route(alloc, &mut self.routes, route)?;
-        let group = NumberedGroup {
-            class,
-            route: number,
-            hour,
-        };
-        self.groups.add(group)
+        let (place, is_new) = self.groups.insert_full(group)?;
+        if is_new {
+            return Ok(None);
+        }
+        Ok(Some(place))
+    }
+
+    /// The group at a place.
+    pub(crate) fn at(&self, place: usize) -> LineGroup<'a>
+        requires { place < length self.now }
+        ensures { line_group result ≡ group_in self.now place }
+    {
+        self.groups.as_slice()[place]
     }
 
     /// Whether a group names neither a route nor an hour.
@@ -168,7 +85,7 @@ impl Groups {
         requires { place < length self.now }
         ensures { result ≡ is_plain (group_in self.now place) }
     {
-        let group = self.groups.at(place);
+        let group = self.at(place);
         group.route.is_none() && group.hour.is_none()
     }
 
@@ -180,22 +97,6 @@ impl Groups {
         if !self.is_plain(place) {
             return None;
         }
-        self.groups.at(place).class
-    }
-
-    /// Adds a group of another list, which is new here.
-    pub(crate) fn add_from(
-        &mut self,
-        alloc: Global,
-        other: &Groups,
-        place: usize,
-    ) -> Result<(), NoMemory>
-        requires inside { place < length other.now }
-        requires new { group_place (group_in other.now place) self.old ≡ None }
-        ensures { OnOk result (self.new ≡ self.old ++ group_in other.now place ∷ []) }
-    {
-        let group = other.groups.at(place);
-        let route = route_of(&other.routes, group.route);
-        self.add(alloc, group.class, route, group.hour)
+        self.at(place).class
     }
 }

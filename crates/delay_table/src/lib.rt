@@ -6,6 +6,7 @@ mod faults;
 mod groups;
 mod lines;
 mod numbered;
+mod other_groups;
 mod reading;
 mod sums;
 mod table;

@@ -1,8 +1,6 @@
 //! One row of a delay file.
 ghost use Rattle.std.specs.Prelude.{◌≡◌, ◌<◌, ◌≤◌, option_map, IfSome};
-ghost use Rattle.csv_rows.specs.Spaces.{AreTrimmed};
 ghost use Rattle.csv_rows.specs.Tables.{row_count};
-ghost use Rattle.plan_model.specs.NameLists.{IsTrimmed};
 ghost use Rattle.clock_text.specs.Digits.{whole_of};
 ghost use Rattle.plan_model.specs.Bounds.{seconds_per_day};
 ghost use Rattle.delay_table.specs.DelayBounds.{whole_weight};
@@ -164,13 +162,11 @@ fn read_line<'a>(
 pub(crate) fn line_at<'a>(rows: &'a Rows, row: usize, columns: &Columns) -> Option<DelayLine<'a>>
     requires row { row < row_count rows.now }
     requires columns { AreColumns rows.now columns.now }
-    requires trimmed { AreTrimmed rows.now }
     ensures line { option_map (λ l. record {
       group = record { class = l.class; route = option_map (λ s. s.now) l.route; hour = l.hour };
       outcome = l.outcome;
     }) result ≡ line_at rows.now row }
     ensures form { IfSome result (λ l. (l.outcome.delay ≤ seconds_per_day) × (1 ≤ l.outcome.weight)) }
-    ensures trimmed { IfSome result (λ l. IfSome l.route (λ s. IsTrimmed s.now)) }
 {
     let class = rows.field_at(row, columns.class);
     let delay = rows.field_at(row, columns.delay);

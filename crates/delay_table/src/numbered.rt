@@ -1,7 +1,7 @@
 //! Groups by the numbers of their routes, and the place of each.
-ghost use Rattle.std.specs.Prelude.{◌≡◌, ◌<◌, ◌++◌, ◌∷◌, [], length, slice_index_or, OnErr, OnOk, is_some, position, false};
+ghost use Rattle.std.specs.Prelude.{◌≡◌, ◌++◌, ◌∷◌, [], OnErr, OnOk, is_some, position, false};
 ghost use Rattle.std.specs.List.{list_any};
-ghost use Rattle.delay_table.specs.Numbered.{no_group, same_numbered};
+ghost use Rattle.delay_table.specs.Numbered.{same_numbered};
 
 use plan_model::{HashKey, NoMemory};
 use std::alloc::Global;
@@ -56,27 +56,12 @@ impl NumberedGroups {
         }
     }
 
-    /// How many there are.
-    pub(crate) fn len(&self) -> usize
-        ensures { result ≡ length self.now }
-    {
-        self.list.len()
-    }
-
     /// The place of a group, if it is there.
     pub(crate) fn place(&self, group: &NumberedGroup) -> Option<usize>
         ensures place { result ≡ position (same_numbered group.now) self.now }
         ensures found { is_some result ≡ list_any (same_numbered group.now) self.now }
     {
         self.places.get(group).copied()
-    }
-
-    /// The group at a place.
-    pub(crate) fn at(&self, place: usize) -> NumberedGroup
-        requires { place < length self.now }
-        ensures { result ≡ slice_index_or self.now place no_group }
-    {
-        self.list.as_slice()[place]
     }
 
     /// Adds a group that is new.

@@ -1,16 +1,14 @@
 //! The outcomes of each group, row by row.
-ghost use Rattle.std.specs.Prelude.{◌≡◌, ◌≢◌, ◌+◌, ◌<◌, ◌++◌, ◌∷◌, [], length, Some, None, OnOk, IfOk, IfErr, IfSome, option_map};
+ghost use Rattle.std.specs.Prelude.{◌≡◌, ◌≢◌, ◌+◌, ◌<◌, ◌++◌, ◌∷◌, [], length, Some, None, OnOk, IfOk, IfErr, option_map};
 ghost use Rattle.csv_rows.specs.First.{first_below};
-ghost use Rattle.csv_rows.specs.Spaces.{AreTrimmed};
 ghost use Rattle.csv_rows.specs.Tables.{row_count};
-ghost use Rattle.plan_model.specs.NameLists.{IsTrimmed};
 ghost use Rattle.delay_table.specs.Groups.{group_in, of_class, group_place};
 ghost use Rattle.delay_table.specs.Delays.{fault_after, line_fault, line_with, too_many};
 ghost use Rattle.delay_table.specs.DelayColumns.{AreColumns};
 ghost use Rattle.delay_table.specs.Read.{AddsRow, IsPushed, IsRead, IsReadTo, line_at, group_rows_at, read_outcomes};
 
 use crate::faults::DelayFault;
-use crate::groups::Groups;
+use crate::groups::{Groups, LineGroup};
 use crate::lines::{Columns, DelayLine, class_name, line_at};
 use csv_rows::Rows;
 use plan_model::{List, Outcome};
@@ -28,8 +26,8 @@ pub(crate) struct GroupRows {
 
 /// The groups in the order of their first rows, and the outcomes of each.
 #[derive(Drop)]
-pub(crate) struct ReadRows {
-    pub(crate) groups: Groups,
+pub(crate) struct ReadRows<'a> {
+    pub(crate) groups: Groups<'a>,
     pub(crate) rows: Vec<GroupRows>,
 }
 
@@ -73,7 +71,7 @@ fn outcomes_at(rows: &[GroupRows], place: usize) -> &[Outcome]
     rows[place].outcomes.as_slice()
 }
 
-impl ReadRows {
+impl<'a> ReadRows<'a> {
     /// Adds a row to those of a group that is there.
     fn push(&mut self, place: usize, line: &DelayLine<'_>, number: u64) -> Result<(), DelayFault>
         requires { place < length self.old.rows.items }
@@ -96,19 +94,13 @@ impl ReadRows {
         Ok(())
     }
 
-    /// Adds the first row of a group.
+    /// Adds the first row of the last group.
     fn begin(&mut self, alloc: Global, line: &DelayLine<'_>, number: u64) -> Result<(), DelayFault>
-        requires new { group_place (line_with line.now.class (option_map (λ s. s.now) line.now.route)
-            line.now.hour line.now.outcome).group self.old.groups ≡ None }
-        requires trimmed { IfSome line.now.route (λ s. IsTrimmed s.now) }
-        ensures groups { OnOk result (self.new.groups ≡ self.old.groups
-            ++ (line_with line.now.class (option_map (λ s. s.now) line.now.route)
-            line.now.hour line.now.outcome).group ∷ []) }
+        ensures groups { self.new.groups ≡ self.old.groups }
         ensures rows { OnOk result (self.new.rows.items ≡ self.old.rows.items
             ++ (record { line = number; outcomes = line.now.outcome ∷ [] }) ∷ []) }
         ensures err { IfErr result (λ f. f ≡ DelayFault.NoMemory) }
     {
-        self.groups.add(alloc, line.class, line.route, line.hour)?;
         let mut outcomes: List<Outcome> = List::new(alloc);
         outcomes.push(line.outcome)?;
         let row = GroupRows {
@@ -122,9 +114,8 @@ impl ReadRows {
     }
 
     /// Adds a row to those of its group.
-    fn add(&mut self, alloc: Global, line: &DelayLine<'_>, number: u64) -> Result<(), DelayFault>
-        requires size { length self.old.rows.items ≡ length self.old.groups }
-        requires trimmed { IfSome line.now.route (λ s. IsTrimmed s.now) }
+    fn add(&mut self, alloc: Global, line: &DelayLine<'a>, number: u64) -> Result<(), DelayFault>
+        requires { length self.old.rows.items ≡ length self.old.groups }
         ensures none { OnOk result (fault_after (read_outcomes self.old.groups self.old.rows.items
             (line_with line.now.class (option_map (λ s. s.now) line.now.route)
             line.now.hour line.now.outcome).group)
@@ -140,7 +131,13 @@ impl ReadRows {
             (line_with line.now.class (option_map (λ s. s.now) line.now.route)
             line.now.hour line.now.outcome) number ≡ Some f) }
     {
-        match self.groups.place(line.class, line.route, line.hour) {
+        let group = LineGroup {
+            class: line.class,
+            route: line.route,
+            hour: line.hour,
+        };
+        let place = self.groups.number(group)?;
+        match place {
             Some(place) => self.push(place, line, number),
             None => self.begin(alloc, line, number),
         }
@@ -150,13 +147,12 @@ impl ReadRows {
     fn add_line(
         &mut self,
         alloc: Global,
-        rows: &Rows,
+        rows: &'a Rows,
         row: usize,
         columns: &Columns,
     ) -> Result<(), DelayFault>
         requires row { row < row_count rows.now }
         requires columns { AreColumns rows.now columns.now }
-        requires trimmed { AreTrimmed rows.now }
         requires read { IsReadTo rows.now row self.old.groups self.old.rows.items }
         ensures none { OnOk result (line_fault rows.now row ≡ None) }
         ensures read { OnOk result (IsReadTo rows.now (row + 1) self.new.groups self.new.rows.items) }
@@ -174,7 +170,7 @@ impl ReadRows {
         requires { length self.now.rows.items ≡ length self.now.groups }
         ensures { result.now ≡ read_outcomes self.now.groups self.now.rows.items (of_class class) }
     {
-        match self.groups.place(class, None, None) {
+        match self.groups.class_place(class) {
             Some(place) => outcomes_at(self.rows.as_slice(), place),
             None => &[],
         }
@@ -199,11 +195,11 @@ impl ReadRows {
 }
 
 /// The outcomes of each group.
-pub(crate) fn read_rows(
+pub(crate) fn read_rows<'a>(
     alloc: Global,
-    rows: &Rows,
+    rows: &'a Rows,
     columns: &Columns,
-) -> Result<ReadRows, DelayFault>
+) -> Result<ReadRows<'a>, DelayFault>
     requires { AreColumns rows.now columns.now }
     ensures none { OnOk result (first_below (line_fault rows.now) (row_count rows.now) ≡ None) }
     ensures read { IfOk result (λ read.

@@ -44,7 +44,7 @@ fn other_sum(row: &[Outcome]) -> Option<u32>
 }
 
 /// The fault of a class alone.
-fn class_sum(read: &ReadRows, class: Option<u16>) -> Option<DelayFault>
+fn class_sum(read: &ReadRows<'_>, class: Option<u16>) -> Option<DelayFault>
     requires { IsRead read.now.groups read.now.rows.items }
     ensures { result ≡ class_sum (read_outcomes read.now.groups read.now.rows.items) class }
 {
@@ -55,7 +55,7 @@ fn class_sum(read: &ReadRows, class: Option<u16>) -> Option<DelayFault>
 }
 
 /// The first fault of these route types.
-fn type_fault(read: &ReadRows, types: &[u16]) -> Option<DelayFault>
+fn type_fault(read: &ReadRows<'_>, types: &[u16]) -> Option<DelayFault>
     requires { IsRead read.now.groups read.now.rows.items }
     ensures { result ≡ first_below (type_sum_at (read_outcomes read.now.groups read.now.rows.items) types.now)
         (length types.now) }
@@ -69,7 +69,7 @@ fn type_fault(read: &ReadRows, types: &[u16]) -> Option<DelayFault>
 }
 
 /// The fault of a group, if it names a route or an hour.
-fn group_sum(read: &ReadRows, place: usize) -> Option<DelayFault>
+fn group_sum(read: &ReadRows<'_>, place: usize) -> Option<DelayFault>
     requires place { place < length read.now.groups }
     requires read { IsRead read.now.groups read.now.rows.items }
     ensures { result ≡ group_sum_at (read_outcomes read.now.groups read.now.rows.items)
@@ -86,7 +86,7 @@ fn group_sum(read: &ReadRows, place: usize) -> Option<DelayFault>
 }
 
 /// The first fault of the groups that name a route or an hour.
-fn group_fault(read: &ReadRows) -> Option<DelayFault>
+fn group_fault(read: &ReadRows<'_>) -> Option<DelayFault>
     requires { IsRead read.now.groups read.now.rows.items }
     ensures { result ≡ first_below (group_sum_at (read_outcomes read.now.groups read.now.rows.items)
         read.now.groups (line_at read.now.rows.items)) (length read.now.groups) }
@@ -120,7 +120,7 @@ fn too_many(count: u64) -> Option<DelayFault>
 }
 
 /// The first fault of the groups, where these are the route types that are named.
-pub(crate) fn groups_fault(read: &ReadRows, types: &[u16]) -> Option<DelayFault>
+pub(crate) fn groups_fault(read: &ReadRows<'_>, types: &[u16]) -> Option<DelayFault>
     requires read { IsRead read.now.groups read.now.rows.items }
     requires types { types.now ≡ route_types_below (read_outcomes read.now.groups read.now.rows.items) end_of_types }
     ensures { result ≡ groups_fault (read_outcomes read.now.groups read.now.rows.items)

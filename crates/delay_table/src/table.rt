@@ -1,20 +1,20 @@
 //! The delays by class.
-ghost use Rattle.std.specs.Prelude.{ℕ, ◌≡◌, ◌≢◌, ◌<◌, ◌≤◌, ◌++◌, ◌∷◌, [], length, map, slice_index_or, option_map, Some, None, All, Any, OnOk, IfOk, IfErr, IfSome};
-ghost use Rattle.delay_table.specs.DelayLists.{class_for, hour_of, other_class, route_class, type_class};
+ghost use Rattle.std.specs.Prelude.{ℕ, ◌≡◌, ◌≢◌, ◌<◌, ◌≤◌, ◌++◌, ◌∷◌, List, [], length, map, slice_index_or, option_map, Some, None, All, Any, Contains, OnOk, IfOk, IfErr, IfSome, IfNone};
+ghost use Rattle.delay_table.specs.DelayLists.{class_at, class_for, hour_of, other_class, route_class, type_class};
 ghost use Rattle.delay_table.specs.DelayBounds.{end_of_types, most_groups};
 ghost use Rattle.delay_table.specs.Delays.{class_rows, class_type, delays_in, delays_of, first_delay_fault, groups_fault, groups_of, if_other, route_types_below, others, type_rows};
-ghost use Rattle.delay_table.specs.Groups.{group_in, group_place, plain_types};
+ghost use Rattle.delay_table.specs.Groups.{group_in, numbered_route, plain_types, routes_of};
 ghost use Rattle.delay_table.specs.Read.{IsRead, line_at, read_outcomes};
 ghost use Rattle.delay_table.specs.Slots.{IsClassOf, AreDelays};
 
 use crate::faults::{ClassName, DelayFault};
-use crate::groups::Groups;
 use crate::lines::{columns_of, missing_column};
+use crate::other_groups::OtherGroups;
 use crate::reading::{ReadRows, read_rows};
 use crate::sums::groups_fault;
 use crate::types::named_types;
 use csv_rows::Rows;
-use plan_model::{ClassId, List, Moment, NoMemory, Outcome};
+use plan_model::{ClassId, HashKey, List, Moment, NoMemory, Outcome, TextList};
 use std::alloc::Global;
 use std::marker::Model;
 
@@ -22,7 +22,7 @@ use std::marker::Model;
 /// order.
 pub struct DelayTable {
     types: List<u16>,
-    others: Groups,
+    others: OtherGroups,
     classes: List<List<Outcome>>,
 }
 
@@ -59,7 +59,7 @@ fn copied(alloc: Global, row: &[Outcome]) -> Result<List<Outcome>, NoMemory>
 /// Adds the outcomes of these route types.
 fn add_types(
     alloc: Global,
-    read: &ReadRows,
+    read: &ReadRows<'_>,
     types: &[u16],
     classes: &mut List<List<Outcome>>,
 ) -> Result<(), NoMemory>
@@ -77,7 +77,7 @@ fn add_types(
 /// The outcomes of `*` and of these route types.
 fn type_classes(
     alloc: Global,
-    read: &ReadRows,
+    read: &ReadRows<'_>,
     types: &[u16],
 ) -> Result<List<List<Outcome>>, NoMemory>
     requires { IsRead read.now.groups read.now.rows.items }
@@ -92,53 +92,50 @@ fn type_classes(
     Ok(classes)
 }
 
-/// Adds a group and its outcomes, where it names a route or an hour.
+/// Adds the outcomes of the group at a place, where it names a route or an hour.
 fn add_other(
     alloc: Global,
-    read: &ReadRows,
+    read: &ReadRows<'_>,
     place: usize,
-    groups: &mut Groups,
     classes: &mut List<List<Outcome>>,
 ) -> Result<(), NoMemory>
     requires place { place < length read.now.groups }
     requires read { IsRead read.now.groups read.now.rows.items }
-    requires new { group_place (group_in read.now.groups place) groups.old ≡ None }
-    ensures groups { OnOk result (groups.new ≡ groups.old
-        ++ if_other (group_in read.now.groups place) (group_in read.now.groups place)) }
-    ensures classes { OnOk result (classes.new ≡ classes.old
+    ensures { OnOk result (classes.new ≡ classes.old
         ++ if_other (group_in read.now.groups place)
         (read_outcomes read.now.groups read.now.rows.items (group_in read.now.groups place))) }
 {
     if !read.groups.is_plain(place) {
-        groups.add_from(alloc, &read.groups, place)?;
         let copy = copied(alloc, read.group_rows(place))?;
         classes.push(copy)?;
     }
     Ok(())
 }
 
-/// The groups that name a route or an hour, whose outcomes are added.
+/// Adds the outcomes of the groups that name a route or an hour.
 fn add_others(
     alloc: Global,
-    read: &ReadRows,
+    read: &ReadRows<'_>,
     classes: &mut List<List<Outcome>>,
-) -> Result<Groups, NoMemory>
+) -> Result<(), NoMemory>
     requires { IsRead read.now.groups read.now.rows.items }
-    ensures groups { IfOk result (λ groups. groups
-        ≡ others read.now.groups (length read.now.groups)) }
-    ensures classes { OnOk result (classes.new ≡ classes.old
+    ensures { OnOk result (classes.new ≡ classes.old
         ++ map (read_outcomes read.now.groups read.now.rows.items)
         (others read.now.groups (length read.now.groups))) }
 {
-    let mut groups = Groups::with_key(alloc, read.groups.key());
     for place in 0..read.groups.len() {
-        add_other(alloc, read, place, &mut groups, classes)?;
+        add_other(alloc, read, place, classes)?;
     }
-    Ok(groups)
+    Ok(())
 }
 
 /// The table of these outcomes, where these are the route types that are named.
-fn delays_in(alloc: Global, read: &ReadRows, types: Vec<u16>) -> Result<DelayTable, NoMemory>
+fn delays_in(
+    alloc: Global,
+    key: HashKey,
+    read: &ReadRows<'_>,
+    types: Vec<u16>,
+) -> Result<DelayTable, NoMemory>
     requires read { IsRead read.now.groups read.now.rows.items }
     requires types { types.items ≡ route_types_below (read_outcomes read.now.groups read.now.rows.items) end_of_types }
     requires size { length types.items
@@ -151,7 +148,8 @@ fn delays_in(alloc: Global, read: &ReadRows, types: Vec<u16>) -> Result<DelayTab
         read.now.groups).classes ≡ length read.now.groups) }
 {
     let mut classes = type_classes(alloc, read, types.as_slice())?;
-    let others = add_others(alloc, read, &mut classes)?;
+    add_others(alloc, read, &mut classes)?;
+    let others = OtherGroups::of(alloc, key, &read.groups)?;
     Ok(DelayTable {
         types: List::from_vec(types),
         others,
@@ -160,7 +158,7 @@ fn delays_in(alloc: Global, read: &ReadRows, types: Vec<u16>) -> Result<DelayTab
 }
 
 /// The table of these outcomes, or the first fault of their groups.
-fn table_of(alloc: Global, read: &ReadRows) -> Result<DelayTable, DelayFault>
+fn table_of(alloc: Global, key: HashKey, read: &ReadRows<'_>) -> Result<DelayTable, DelayFault>
     requires { IsRead read.now.groups read.now.rows.items }
     ensures table { IfOk result (λ table.
         table ≡ delays_in (read_outcomes read.now.groups read.now.rows.items) read.now.groups) }
@@ -179,7 +177,7 @@ fn table_of(alloc: Global, read: &ReadRows) -> Result<DelayTable, DelayFault>
     if let Some(fault) = groups_fault(read, types.as_slice()) {
         return Err(fault);
     }
-    match delays_in(alloc, read, types) {
+    match delays_in(alloc, key, read, types) {
         Ok(table) => Ok(table),
         Err(_) => Err(DelayFault::NoMemory),
     }
@@ -223,7 +221,7 @@ impl DelayTable {
             return Err(fault);
         }
         let read = read_rows(alloc, rows, &columns_of(rows))?;
-        table_of(alloc, &read)
+        table_of(alloc, rows.key(), &read)
     }
 
     /// The class of a route type: 0, that of `*`, where the table does not name it, and else its place among the named ones
@@ -248,16 +246,24 @@ impl DelayTable {
         ClassId(0)
     }
 
+    /// The routes that the rows name, each once, in the order in which they first stand.
+    pub fn routes(&self) -> &TextList
+        ensures { result.now ≡ routes_of self.now.others }
+    {
+        self.others.routes()
+    }
+
     /// The class of a group that names a route or an hour, where it is there.
     fn other_class(
         &self,
         class: Option<u16>,
-        route: Option<&str>,
+        route: Option<u32>,
         hour: Option<u8>,
     ) -> Option<ClassId>
+        requires { IfSome route (λ n. n < length (routes_of self.now.others)) }
         ensures class { option_map (λ c. c.0) result ≡ other_class self.now (record {
           class = class;
-          route = option_map (λ s. s.now) route.entry;
+          route = numbered_route (routes_of self.now.others) route;
           hour = hour;
         }) }
         ensures in_range { IfSome result (λ c. c.0 < length self.now.classes) }
@@ -267,9 +273,10 @@ impl DelayTable {
     }
 
     /// The class of a route, where it is told and there.
-    fn route_class(&self, route: Option<&str>, hour: Option<u8>) -> Option<ClassId>
+    fn route_class(&self, route: Option<u32>, hour: Option<u8>) -> Option<ClassId>
+        requires { IfSome route (λ n. n < length (routes_of self.now.others)) }
         ensures class { option_map (λ c. c.0) result
-            ≡ route_class self.now (option_map (λ s. s.now) route.entry) hour }
+            ≡ route_class self.now (numbered_route (routes_of self.now.others) route) hour }
         ensures in_range { IfSome result (λ c. c.0 < length self.now.classes) }
     {
         if route.is_none() {
@@ -290,16 +297,14 @@ impl DelayTable {
         if class.0 == 0 { None } else { Some(class) }
     }
 
-    /// The class of a connection, by its class, its route where it has one, and its arrival: that of the first group that is
-    /// there among those of this route and hour, of this route, of this class and hour, of this class, of `*` and this hour,
-    /// and of `*`. The hour is the civil hour of the arrival.
-    pub fn class_for(&self, class: ClassName, route: Option<&str>, arrival: Moment) -> ClassId
-        ensures class { result.0 ≡ class_for self.now (class_type class)
-            (option_map (λ s. s.now) route.entry) arrival.0 }
+    /// The class of a connection by the number of its route.
+    fn numbered_class(&self, class: Option<u16>, route: Option<u32>, hour: u8) -> ClassId
+        requires { IfSome route (λ n. n < length (routes_of self.now.others)) }
+        ensures class { result.0 ≡ class_at self.now class
+            (numbered_route (routes_of self.now.others) route) hour }
         ensures in_range { result.0 < length self.now.classes }
     {
-        let class = class_type(class);
-        let hour = Some(hour_of(arrival));
+        let hour = Some(hour);
         if let Some(found) = self.route_class(route, hour) {
             return found;
         }
@@ -316,6 +321,34 @@ impl DelayTable {
             Some(found) => found,
             None => self.default_class(),
         }
+    }
+
+    /// The class of a connection, as `class_for` gives it, by the number of its route among `routes`. A connection whose route
+    /// no row names is as one without a route.
+    pub fn class_at(&self, class: ClassName, route: Option<u32>, arrival: Moment) -> ClassId
+        requires { IfSome route (λ n. n < length (routes_of self.now.others)) }
+        ensures class { result.0 ≡ class_for self.now (class_type class)
+            (numbered_route (routes_of self.now.others) route) arrival.0 }
+        ensures not_named { IfNone route ((id : List ℕ) → ¬ Contains (routes_of self.now.others) id
+            → result.0 ≡ class_for self.now (class_type class) (Some id) arrival.0) }
+        ensures in_range { result.0 < length self.now.classes }
+    {
+        self.numbered_class(class_type(class), route, hour_of(arrival))
+    }
+
+    /// The class of a connection, by its class, its route where it has one, and its arrival: that of the first group that is
+    /// there among those of this route and hour, of this route, of this class and hour, of this class, of `*` and this hour,
+    /// and of `*`. The hour is the civil hour of the arrival.
+    pub fn class_for(&self, class: ClassName, route: Option<&str>, arrival: Moment) -> ClassId
+        ensures class { result.0 ≡ class_for self.now (class_type class)
+            (option_map (λ s. s.now) route.entry) arrival.0 }
+        ensures in_range { result.0 < length self.now.classes }
+    {
+        let number = match route {
+            None => None,
+            Some(id) => self.routes().number(id),
+        };
+        self.class_at(class, number, arrival)
     }
 
     /// The outcomes of a class, rising by delay: delays in seconds, and weights that add up to 10,000.

@@ -11,7 +11,7 @@ use plan_model::NoMemory;
 use std::alloc::Global;
 
 /// Adds the route type of a group, where it is of a route type alone.
-fn add_type(types: &mut Vec<u16>, groups: &Groups, place: usize) -> Result<(), NoMemory>
+fn add_type(types: &mut Vec<u16>, groups: &Groups<'_>, place: usize) -> Result<(), NoMemory>
     requires { place < length groups.now }
     ensures { OnOk result (types.new.items
         ≡ types.old.items ++ listed (plain_type (group_in groups.now place))) }
@@ -23,7 +23,7 @@ fn add_type(types: &mut Vec<u16>, groups: &Groups, place: usize) -> Result<(), N
 }
 
 /// The route types of the groups of a route type alone, in the order of the groups.
-fn plain_types(alloc: Global, groups: &Groups) -> Result<Vec<u16>, NoMemory>
+fn plain_types(alloc: Global, groups: &Groups<'_>) -> Result<Vec<u16>, NoMemory>
     ensures { IfOk result (λ types. types.items ≡ plain_types groups.now (length groups.now)) }
 {
     let mut types: Vec<u16> = Vec::new(alloc);
@@ -34,7 +34,7 @@ fn plain_types(alloc: Global, groups: &Groups) -> Result<Vec<u16>, NoMemory>
 }
 
 /// The route types that are named, rising.
-pub(crate) fn named_types(alloc: Global, read: &ReadRows) -> Result<Vec<u16>, NoMemory>
+pub(crate) fn named_types(alloc: Global, read: &ReadRows<'_>) -> Result<Vec<u16>, NoMemory>
     requires { IsRead read.now.groups read.now.rows.items }
     ensures named { IfOk result (λ types. types.items
         ≡ route_types_below (read_outcomes read.now.groups read.now.rows.items) end_of_types) }

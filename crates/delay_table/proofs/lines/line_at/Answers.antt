@@ -1,9 +1,7 @@
-use Rattle.std.proofs.Common.{◌∙◌, sym, subst}
+use Rattle.std.proofs.Common.{◌∙◌}
 use Rattle.csv_rows.specs.declared.columns.Column.TheVariants.{Class, Delay, Weight, RouteId, Hour}
 use Rattle.csv_rows.specs.Tables.{place_of}
-use Rattle.plan_model.specs.NameLists.{IsTrimmed}
-use Rattle.csv_rows.proofs.SpaceLemmas.{IsTrimmed-field}
-use Rattle.delay_table.proofs.LineFacts.{line_here, field_is, line_is_formed, line_is_trimmed}
+use Rattle.delay_table.proofs.LineFacts.{line_here, field_is, line_is_formed}
 use Rattle.delay_table.proofs.lines.line_at.Goals as goal
 
 pub returns-clause-line : goal.returns-clause-line
@@ -24,9 +22,3 @@ pub returns-clause-form : goal.returns-clause-form
 returns-clause-form c =
     line_is_formed c.field_at-class.result.now c.field_at-delay.result.now c.field_at-weight.result.now c.field_at-route.result.now c.field_at-hour.result.now
     c.read_line.result c.read_line.ensures
-
-pub returns-clause-trimmed : goal.returns-clause-trimmed
-returns-clause-trimmed c =
-    let trimmed = IsTrimmed-field c.args.rows.now c.args.columns.now.route c.args.row c.requires.trimmed in
-    line_is_trimmed c.field_at-class.result.now c.field_at-delay.result.now c.field_at-weight.result.now c.field_at-route.result.now c.field_at-hour.result.now
-    (subst IsTrimmed (sym c.field_at-route.ensures) trimmed) c.read_line.result c.read_line.ensures

@@ -4,6 +4,4 @@ use Rattle.delay_table.specs.Read.{read_outcomes}
 use Rattle.delay_table.proofs.table.add_others.Given as goal
 
 abbrev pub invariant-loop-place : goal.invariant-loop-place
-invariant-loop-place l =
-    (l.groups ≡ others l.read.groups l.place)
-    × (l.classes ≡ l.initial.classes ++ map (read_outcomes l.read.groups l.read.rows.items) (others l.read.groups l.place))
+invariant-loop-place l = l.classes ≡ l.initial.classes ++ map (read_outcomes l.read.groups l.read.rows.items) (others l.read.groups l.place)

@@ -14,8 +14,8 @@ returns-clause-table c =
     let named : List ℕ → List (List Outcome) = λ ts. class_rows rs None ∷ map (type_rows rs) ts in
     made-is rs g c.from_vec.result c.in_ok-others.others c.add_others.new.classes
     (c.from_vec.ensures ∙ c.requires.types)
-    c.in_ok-others.ensures.groups
-    (c.in_ok-others.ensures.classes ∙ ap (λ xs. xs ++ map rs (others g (length g)))
+    c.in_ok-others.ensures
+    (c.in_ok-add_others.ensures ∙ ap (λ xs. xs ++ map rs (others g (length g)))
     (c.in_ok-classes.ensures ∙ ap named (c.as_slice.ensures.value ∙ c.requires.types)))
 
 pub invariant_of-result : goal.invariant_of-result

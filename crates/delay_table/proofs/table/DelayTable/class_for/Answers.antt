@@ -1,37 +1,27 @@
-use Rattle.std.proofs.Common.{◌∙◌, option_map, refl}
+use Rattle.std.proofs.Common.{◌≡◌, sym, subst, Bor, ℕ, List, Option, Some, option_map, IfNone, IfSome, Contains, slice_get}
+use Rattle.delay_table.specs.DelayLists.{class_for}
 use Rattle.delay_table.specs.Delays.{class_type}
-use Rattle.delay_table.proofs.TypeFacts.{class-is}
+use Rattle.delay_table.specs.Groups.{numbered_route, routes_of}
+use Rattle.delay_table.proofs.RouteFacts.{numbered-class}
 use Rattle.delay_table.proofs.table.DelayTable.class_for.Goals as goal
+use Rattle.delay_table.proofs.table.DelayTable.class_for.Goals.{in-None, in-Some}
 
-pub returns-in-Some-clause-class : goal.returns-in-Some-clause-class
-returns-in-Some-clause-class c =
-    class-is c.args.self.now c.class_type-class.result (class_type c.args.class) (option_map (λ s. s.now) c.args.route) c.hour_of.result c.args.arrival.0
-    c.class_type-class.ensures c.hour_of.ensures c.in-Some.ensures.class refl refl refl refl
-
-pub returns-in-Some-route_class-clause-class : goal.returns-in-Some-route_class-clause-class
-returns-in-Some-route_class-clause-class c =
-    class-is c.args.self.now c.class_type-class.result (class_type c.args.class) (option_map (λ s. s.now) c.args.route) c.hour_of.result c.args.arrival.0
-    c.class_type-class.ensures c.hour_of.ensures c.in_default.ensures.class c.in-Some-route_class.ensures.class refl refl refl
-
-pub returns-in-Some-other_class-clause-class : goal.returns-in-Some-other_class-clause-class
-returns-in-Some-other_class-clause-class c =
-    class-is c.args.self.now c.class_type-class.result (class_type c.args.class) (option_map (λ s. s.now) c.args.route) c.hour_of.result c.args.arrival.0
-    c.class_type-class.ensures c.hour_of.ensures c.in_default.ensures.class c.in_default-route_class.ensures.class c.in-Some-other_class.ensures.class refl refl
-
-pub returns-in-Some-type_class-clause-class : goal.returns-in-Some-type_class-clause-class
-returns-in-Some-type_class-clause-class c =
-    class-is c.args.self.now c.class_type-class.result (class_type c.args.class) (option_map (λ s. s.now) c.args.route) c.hour_of.result c.args.arrival.0
-    c.class_type-class.ensures c.hour_of.ensures c.in_default.ensures.class c.in_default-route_class.ensures.class c.in_default-other_class.ensures.class c.in-Some-type_class.ensures.class refl
-
-pub returns-in-Some-other_class-2-clause-class : goal.returns-in-Some-other_class-2-clause-class
-returns-in-Some-other_class-2-clause-class c =
-    class-is c.args.self.now c.class_type-class.result (class_type c.args.class) (option_map (λ s. s.now) c.args.route) c.hour_of.result c.args.arrival.0
-    c.class_type-class.ensures c.hour_of.ensures c.in_default.ensures.class c.in_default-route_class.ensures.class c.in_default-other_class.ensures.class c.in_default-type_class.ensures.class
-    c.in-Some-other_class-2.ensures.class
-
-pub returns-in-None-clause-class : goal.returns-in-None-clause-class
-returns-in-None-clause-class c =
-    c.default_class.ensures.class
-    ∙ class-is c.args.self.now c.class_type-class.result (class_type c.args.class) (option_map (λ s. s.now) c.args.route) c.hour_of.result c.args.arrival.0
-    c.class_type-class.ensures c.hour_of.ensures c.in_default.ensures.class c.in_default-route_class.ensures.class c.in_default-other_class.ensures.class c.in_default-type_class.ensures.class
-    c.in-None.ensures.class
+pub returns-clause-class : goal.returns-clause-class
+returns-clause-class c =
+    let d = c.args.self.now in
+    let own = class_type c.args.class in
+    let arr = c.args.arrival.0 in
+    let found = c.class_at.result.0 in
+    let Q : Option (Bor (List ℕ)) → Type 0 = λ o. found ≡ class_for d own (option_map (λ s. s.now) o) arr in
+    let P : Option ℕ → Type 0 = λ n. found ≡ class_for d own (numbered_route (routes_of d.others) n) arr in
+    elim c.match-route.branch [
+      | in-None w ↦ subst Q (sym w.in-None.is) (subst P w.number-is c.class_at.ensures.class)
+      | in-Some w ↦
+          let id = w.in-Some.id.now in
+          let n = w.number-number.result in
+          let F : List (List ℕ) → Type 0 = λ xs. IfSome n (λ k. slice_get xs k ≡ Some id) in
+          let G : List (List ℕ) → Type 0 = λ xs. IfNone n (¬ Contains xs id) in
+          let here = subst F w.routes.ensures w.number-number.ensures.found in
+          let absent = subst G w.routes.ensures w.number-number.ensures.none in
+          subst Q (sym w.in-Some.is) (numbered-class d id n own arr found here absent (subst P w.number-is c.class_at.ensures.class))
+    ]

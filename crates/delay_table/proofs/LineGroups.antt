@@ -1,0 +1,106 @@
+-- The groups of lines, as they are numbered.
+use Rattle.std.proofs.Common.{◌≡◌, Bor, ℕ, ◌<◌, ◌&&◌, Bool, true, false, not, cond, List, [], ◌∷◌, ◌++◌, length, map, slice_index_or, Option, Some, None, is_some, option_map, if◌then◌else◌, refl, sym, ap, ◌∙◌, arith, position, bytes_eq}
+use Rattle.std.specs.Prelude.{nat_lt}
+use Rattle.std.specs.List.{list_any, position_or_len}
+use Rattle.std.proofs.lemmas.List.{get_or-map, length-map, map-append}
+use Rattle.std.proofs.lemmas.List.Folds.{list_any_at}
+use Rattle.std.proofs.lemmas.List.Quantifiers.{position-Some}
+use Rattle.indexmap.specs.IndexSet.{insert_key}
+use Rattle.delay_table.specs.declared.groups.LineGroup.{LineGroup}
+use Rattle.delay_table.specs.Groups.{Group, same_if, same_number, same_group, of_class, group_in, group_place, with_group}
+use Rattle.delay_table.specs.Numbered.{line_group, same_line, same_text}
+use Rattle.delay_table.proofs.GroupFacts.{none-place, place-first, same-equal, same-true}
+use Rattle.delay_table.proofs.PlaceFacts.{any-position}
+
+abbrev no_line : LineGroup
+no_line = record { class = None; route = None; hour = None }
+
+same_route : (a b : Option (Bor (List ℕ))) → same_if same_text a b ≡ same_if bytes_eq (option_map (λ s. s.now) a) (option_map (λ s. s.now) b)
+same_route None None = refl
+same_route None (Some b) = refl
+same_route (Some a) None = refl
+same_route (Some a) (Some b) = refl
+
+-- lines are of one group where the groups are the same
+same-shown : (a b : LineGroup) → same_line a b ≡ same_group (line_group a) (line_group b)
+unfolding same_group
+same-shown a b = ap (λ r. same_if same_number a.class b.class && (r && same_if same_number a.hour b.hour)) (same_route a.route b.route)
+
+turned : (b c : Bool) → not b ≡ c → b ≡ not c
+turned true c e = ap not e
+turned false c e = ap not e
+
+held : (b : Bool) (m n : ℕ) → cond b (Some m) None ≡ Some n → Some m ≡ Some n
+held true m n e = e
+held false m n e = absurd (cc)
+
+module _ (key : LineGroup) (keys : List LineGroup) where
+  abbrev groups : List Group
+  groups = map line_group keys
+
+  abbrev key_at : ℕ → LineGroup
+  key_at k = slice_index_or keys k no_line
+
+  at : (k : ℕ) → k < length keys → group_in groups k ≡ line_group (key_at k)
+  at k l = get_or-map line_group keys k no_line (of_class None) l
+
+  size : length groups ≡ length keys
+  size = length-map keys line_group
+
+  back : (k : ℕ) → k < length keys → group_in groups k ≡ line_group key → same_line key (key_at k) ≡ true
+  back k l e = same-shown key (key_at k) ∙ same-true (line_group key) (line_group (key_at k)) (sym e ∙ at k l)
+
+  forth : (k : ℕ) → k < length keys → same_line key (key_at k) ≡ true → group_in groups k ≡ line_group key
+  forth k l t = at k l ∙ sym (same-equal (line_group key) (line_group (key_at k)) (sym (same-shown key (key_at k)) ∙ t))
+
+  by-place : (o : Option ℕ) → position (same_line key) keys ≡ o → o ≡ group_place (line_group key) groups
+  by-place None e = sym (none-place (line_group key) groups (λ k l g.
+      let inside : k < length keys = omega (arith, size) in
+      let t = list_any_at (same_line key) keys k no_line inside (back k inside g) in
+      let f : false ≡ true = ap is_some (sym e) ∙ any-position (same_line key) keys ∙ t in cc))
+  by-place (Some i) e =
+      let w = position-Some (same_line key) keys i no_line e in
+      sym (place-first (line_group key) groups i (omega (arith, size, w.0)) (forth i w.0 w.1) (λ k less g.
+      let t = back k (omega (arith, w.0)) g in
+      let f = w.2 k less in cc))
+
+  -- where the group of a line stands
+  pub line-place : position (same_line key) keys ≡ group_place (line_group key) groups
+  line-place = by-place (position (same_line key) keys) refl
+
+  some-place : is_some (group_place (line_group key) groups) ≡ list_any (same_line key) keys
+  some-place = ap is_some (sym line-place) ∙ any-position (same_line key) keys
+
+  there-place : (o : Option ℕ) (place : ℕ) → position (same_line key) keys ≡ o → is_some o ≡ true → place ≡ position_or_len (same_line key) keys → Some place ≡ position (same_line key) keys
+  there-place None place e h p = absurd (cc)
+  there-place (Some i) place e h p =
+      ap Some p ∙ held (nat_lt (position_or_len (same_line key) keys) (length keys)) (position_or_len (same_line key) keys) i e ∙ sym e
+
+  no-place : (o : Option ℕ) → is_some o ≡ false → None ≡ o
+  no-place None h = refl
+  no-place (Some i) h = absurd (cc)
+
+  -- the number of a line's group, if it was there
+  pub line-new : list_any (same_line key) keys ≡ false → None ≡ group_place (line_group key) groups
+  line-new h = no-place (group_place (line_group key) groups) (some-place ∙ h)
+
+  pub line-there : (place : ℕ) → list_any (same_line key) keys ≡ true → place ≡ position_or_len (same_line key) keys → Some place ≡ group_place (line_group key) groups
+  line-there place h p = there-place (position (same_line key) keys) place refl (any-position (same_line key) keys ∙ h) p ∙ line-place
+
+  shown-if : (b : Bool) → map line_group (if b then keys else keys ++ key ∷ []) ≡ (if b then groups else groups ++ line_group key ∷ [])
+  shown-if true = refl
+  shown-if false = map-append line_group keys (key ∷ [])
+
+  -- the groups after it
+  pub lines-next : (new : List LineGroup) → new ≡ insert_key same_line keys key → map line_group new ≡ with_group groups (line_group key)
+  lines-next new e =
+      ap (map line_group) e
+      ∙ shown-if (list_any (same_line key) keys)
+      ∙ ap (λ (b : Bool). if b then groups else groups ++ line_group key ∷ []) (sym some-place)
+
+  -- what `insert_full` tells
+  pub told-new : not (list_any (same_line key) keys) ≡ true → None ≡ group_place (line_group key) groups
+  told-new h = line-new (turned (list_any (same_line key) keys) true h)
+
+  pub told-there : (place : ℕ) → not (list_any (same_line key) keys) ≡ false → place ≡ position_or_len (same_line key) keys → Some place ≡ group_place (line_group key) groups
+  told-there place h = line-there place (turned (list_any (same_line key) keys) false h)
