@@ -1,3 +1,4 @@
+pub mod RecordLemmas
 pub mod RowLemmas
 pub mod TimeLemmas
 pub mod BackLemmas

@@ -1,4 +1,6 @@
 pub mod StopTimeBounds
+pub mod RecordFields
+pub mod RecordsLeft
 pub mod StopTimeForms
 pub mod StopTimes
 pub mod StoredRows

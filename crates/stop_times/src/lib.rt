@@ -4,6 +4,7 @@
 mod by_trip;
 mod forms;
 mod keys;
+mod records;
 mod rows;
 mod stop_order;
 mod stored_row;

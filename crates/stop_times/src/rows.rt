@@ -9,10 +9,12 @@ ghost use Rattle.stop_times.specs.StopTimes.{number_in, times_of, visit_of, colu
 ghost use Rattle.stop_times.specs.StopTimeForms.{time_in};
 
 use crate::forms::{read_allows, read_time_or_none};
+use crate::records::Record;
 use clock_text::read_whole;
-use csv_rows::{Column, FeedFault, Ids, Record, Table, lack, read_name, read_text};
+use csv_rows::{Column, FeedFault, Table, lack, read_name, read_text};
 use plan_model::{NoMemory, PlaceId};
 use std::alloc::Global;
+use text_index::TextIndex;
 
 /// A stop of a trip, with its times in seconds from noon minus twelve hours of the service day.
 #[derive(Clone, Copy, Debug, PartialEq, Eq)]
@@ -52,7 +54,7 @@ pub(crate) struct TimeColumns {
 }
 
 /// Where the columns of a header stand.
-pub(crate) fn columns_of(header: &Record<'_>) -> TimeColumns
+pub(crate) fn columns_of(header: &Record) -> TimeColumns
     ensures { result ≡ columns_of header.now }
 {
     TimeColumns {
@@ -87,7 +89,7 @@ pub(crate) fn missing_column(columns: TimeColumns) -> Option<FeedFault>
 }
 
 /// The number of a stop, or none where the text is empty.
-fn number_of(stops: &Ids, text: &str) -> Option<Option<u32>>
+fn number_of(stops: &TextIndex<'_>, text: &str) -> Option<Option<u32>>
     ensures number { result ≡ number_in stops.now text.now }
     ensures inside { IfSome result (λ o. IfSome o (λ k. k < length stops.now)) }
 {
@@ -102,7 +104,7 @@ fn number_of(stops: &Ids, text: &str) -> Option<Option<u32>>
 
 /// The number of the stop that a field names, or none where it is empty. It is looked up only where it is not the expected one.
 fn read_stop_number(
-    stops: &Ids,
+    stops: &TextIndex<'_>,
     line: u64,
     id: &[u8],
     expected: u32,
@@ -174,8 +176,8 @@ fn visit_of(
 /// What the fields of a row name: the trips, and the stops with the place of each.
 #[derive(Drop)]
 pub(crate) struct Named<'a> {
-    pub(crate) trips: &'a Ids,
-    pub(crate) stops: &'a Ids,
+    pub(crate) trips: TextIndex<'a>,
+    pub(crate) stops: TextIndex<'a>,
     pub(crate) places: &'a [u32],
 }
 
@@ -188,7 +190,7 @@ pub(crate) struct NamedTrip<'a> {
 
 /// The number of the trip that a field names. It is looked up only where the field is not that of a trip that is known.
 fn read_trip_number(
-    trips: &Ids,
+    trips: &TextIndex<'_>,
     line: u64,
     id: &[u8],
     known: Option<NamedTrip<'_>>,
@@ -257,25 +259,25 @@ pub(crate) fn keep_trip(known: &mut KnownTrip, id: &[u8], trip: u32) -> Result<(
 
 /// The row of a record, or the first field that is not of its form or names nothing.
 pub(crate) fn read_timed_row(
-    row: &Record<'_>,
+    row: &Record,
     columns: TimeColumns,
     named: &Named<'_>,
     line: u64,
     known: Option<NamedTrip<'_>>,
     expected: u32,
 ) -> Result<TimedRow, FeedFault>
-    requires known { IfSome known (λ k. IsTripOf named.now.trips.now k.id.now k.trip) }
-    requires places { length named.now.places.now ≡ length named.now.stops.now }
+    requires known { IfSome known (λ k. IsTripOf named.now.trips k.id.now k.trip) }
+    requires places { length named.now.places.now ≡ length named.now.stops }
     ensures row { IfOk result (λ r.
-        timed_of named.now.trips.now named.now.stops.now named.now.places.now line columns row.now ≡ Ok r) }
-    ensures trip { IfOk result (λ r. IsTripOf named.now.trips.now (field_of row.now columns.trip) r.trip) }
+        timed_of named.now.trips named.now.stops named.now.places.now line columns row.now ≡ Ok r) }
+    ensures trip { IfOk result (λ r. IsTripOf named.now.trips (field_of row.now columns.trip) r.trip) }
     ensures fault { IfErr result (λ f.
-        timed_of named.now.trips.now named.now.stops.now named.now.places.now line columns row.now ≡ Err f) }
+        timed_of named.now.trips named.now.stops named.now.places.now line columns row.now ≡ Err f) }
     ensures content { IfErr result (λ f. unread_of f ≡ None) }
     ensures own { IfErr result (IsFaultOf StopTimesTable) }
 {
-    let trip = read_trip_number(named.trips, line, row.field_at(columns.trip), known)?;
-    let stop = read_stop_number(named.stops, line, row.field_at(columns.stop), expected)?;
+    let trip = read_trip_number(&named.trips, line, row.field_at(columns.trip), known)?;
+    let stop = read_stop_number(&named.stops, line, row.field_at(columns.stop), expected)?;
     let Some(sequence) = read_whole(row.field_at(columns.sequence), 999_999_999) else {
         return Err(FeedFault::BadField(Table::StopTimes, line, Column::StopSequence));
     };

@@ -1,8 +1,8 @@
 //! The order in which stops are passed.
 
-use csv_rows::Ids;
 use plan_model::NoMemory;
 use std::alloc::Global;
+use text_index::TextIndex;
 
 /// The stop of the last row, and for each stop the one that came after it. The trips of a route pass the same stops, so what
 /// came after a stop most often comes after it again.
@@ -14,7 +14,7 @@ pub(crate) struct StopOrder {
 
 impl StopOrder {
     /// That of no row.
-    pub(crate) fn new(alloc: Global, stops: &Ids) -> Result<StopOrder, NoMemory> {
+    pub(crate) fn new(alloc: Global, stops: &TextIndex<'_>) -> Result<StopOrder, NoMemory> {
         Ok(StopOrder {
             last: 0,
             after: vec![in alloc; 0; stops.len() as usize]?,

@@ -11,13 +11,14 @@ ghost use Rattle.stop_times.specs.Timetables.{stop_times_from};
 ghost use Rattle.stop_times.specs.StopTimes.{columns_of, timed_of, bad_time, counted_fault, timed_rows, order_fault, stop_times_fault, IsKnownIn};
 ghost use Rattle.stop_times.specs.StopTimeBounds.{most_stop_times};
 
+use crate::records::{Record, Records};
 use crate::rows::{
     KnownTrip, Named, TimeColumns, columns_of, keep_trip, missing_column, named_trip,
     read_timed_row,
 };
 use crate::stop_order::StopOrder;
 use crate::stored_row::StoredRow;
-use csv_rows::{Column, FeedFault, Record, Records, Table};
+use csv_rows::{Column, FeedFault, Table};
 use plan_model::NoMemory;
 use std::alloc::Global;
 
@@ -27,18 +28,18 @@ const BYTES_OF_A_ROW: usize = 32;
 /// Takes the row of a record after those that were taken, and keeps its trip, or gives its fault.
 fn take_row(
     timed: &mut Vec<StoredRow>,
-    row: &Record<'_>,
+    row: &Record,
     columns: TimeColumns,
     named: &Named<'_>,
     known: &mut KnownTrip,
     order: &mut StopOrder,
 ) -> Result<(), FeedFault>
-    requires known { IsKnownIn named.now.trips.now known.old }
-    requires places { length named.now.places.now ≡ length named.now.stops.now }
-    ensures row { OnOk result ((r : TimedRow) × (timed_of named.now.trips.now named.now.stops.now named.now.places.now
+    requires known { IsKnownIn named.now.trips known.old }
+    requires places { length named.now.places.now ≡ length named.now.stops }
+    ensures row { OnOk result ((r : TimedRow) × (timed_of named.now.trips named.now.stops named.now.places.now
         (length timed.old.items + 2) columns row.now ≡ Ok r) × (timed.new.items ≡ timed.old.items ++ r ∷ [])) }
-    ensures known { OnOk result (IsKnownIn named.now.trips.now known.new) }
-    ensures fault { IfErr result (λ f. f ≢ FeedFault.NoMemory → timed_of named.now.trips.now named.now.stops.now named.now.places.now
+    ensures known { OnOk result (IsKnownIn named.now.trips known.new) }
+    ensures fault { IfErr result (λ f. f ≢ FeedFault.NoMemory → timed_of named.now.trips named.now.stops named.now.places.now
         (length timed.old.items + 2) columns row.now ≡ Err f) }
     ensures content { IfErr result (λ f. unread_of f ≡ None) }
     ensures own { IfErr result (IsFaultOf StopTimesTable) }
@@ -61,16 +62,16 @@ fn take_row(
 
 /// The fault of a table that has this one, where so many rows stand before the records that are left: where there are too
 /// many, that comes first.
-fn counted_fault<'a>(
-    records: &Records<'a>,
-    row: &mut Record<'a>,
+fn counted_fault(
+    records: &mut Records<'_>,
+    row: &mut Record,
     taken: u64,
     most: u64,
     fault: FeedFault,
 ) -> FeedFault
     requires { taken ≤ 2 ^ 32 }
     ensures fault { result ≢ FeedFault.NoMemory
-        → counted_fault most (taken + length records.now) (Some fault) ≡ Some result }
+        → counted_fault most (taken + length records.old) (Some fault) ≡ Some result }
     ensures content { unread_of fault ≡ None → unread_of result ≡ None }
     ensures own { IsFaultOf StopTimesTable fault → IsFaultOf StopTimesTable result }
 {
@@ -99,26 +100,26 @@ fn room_for(alloc: Global, bytes: usize, most: u64) -> Result<Vec<StoredRow>, No
 
 /// The rows of the records after a header, or their first fault: that there are too many, and then the first of one by itself.
 /// The text has so many bytes.
-fn rows_after<'a>(
+fn rows_after(
     alloc: Global,
     bytes: usize,
-    records: &mut Records<'a>,
-    row: &mut Record<'a>,
+    records: &mut Records<'_>,
+    row: &mut Record,
     columns: TimeColumns,
     named: &Named<'_>,
     most: u64,
 ) -> Result<Vec<StoredRow>, FeedFault>
     requires columns { columns ≡ columns_of row.old }
-    requires places { length named.now.places.now ≡ length named.now.stops.now }
+    requires places { length named.now.places.now ≡ length named.now.stops }
     requires most { most ≤ most_stop_times }
     ensures rows { IfOk result (λ timed. timed.items
-        ≡ timed_rows named.now.trips.now named.now.stops.now named.now.places.now (row.old ∷ records.old)) }
+        ≡ timed_rows named.now.trips named.now.stops named.now.places.now (row.old ∷ records.old)) }
     ensures few { IfOk result (λ timed. length timed.items ≤ most) }
     ensures none { OnOk result (first_below
-        (bad_time named.now.trips.now named.now.stops.now named.now.places.now (row.old ∷ records.old))
+        (bad_time named.now.trips named.now.stops named.now.places.now (row.old ∷ records.old))
         (length records.old) ≡ None) }
     ensures fault { IfErr result (λ f. f ≢ FeedFault.NoMemory → counted_fault most (length records.old)
-        (first_below (bad_time named.now.trips.now named.now.stops.now named.now.places.now (row.old ∷ records.old))
+        (first_below (bad_time named.now.trips named.now.stops named.now.places.now (row.old ∷ records.old))
         (length records.old)) ≡ Some f) }
     ensures content { IfErr result (λ f. unread_of f ≡ None) }
     ensures own { IfErr result (IsFaultOf StopTimesTable) }
@@ -128,7 +129,7 @@ fn rows_after<'a>(
         id: Vec::new(alloc),
         trip: None,
     };
-    let mut order = StopOrder::new(alloc, named.stops)?;
+    let mut order = StopOrder::new(alloc, &named.stops)?;
     loop {
         match records.next(row) {
             Ok(true) => {}
@@ -155,22 +156,22 @@ pub(crate) fn read_timed_rows(
     named: &Named<'_>,
     most: u64,
 ) -> Result<Vec<StoredRow>, FeedFault>
-    requires places { length named.now.places.now ≡ length named.now.stops.now }
+    requires places { length named.now.places.now ≡ length named.now.stops }
     requires most { most ≤ most_stop_times }
     ensures rows { IfOk result (λ timed. timed.items
-        ≡ timed_rows named.now.trips.now named.now.stops.now named.now.places.now (table_of bytes.now)) }
+        ≡ timed_rows named.now.trips named.now.stops named.now.places.now (table_of bytes.now)) }
     ensures few { IfOk result (λ timed. length timed.items ≤ most) }
     ensures header { OnOk result (0 < length (table_of bytes.now)) }
     ensures rest { OnOk result
-        (stop_times_fault named.now.trips.now named.now.stops.now named.now.places.now (table_of bytes.now)
-        ≡ order_fault (timed_rows named.now.trips.now named.now.stops.now named.now.places.now (table_of bytes.now))) }
+        (stop_times_fault named.now.trips named.now.stops named.now.places.now (table_of bytes.now)
+        ≡ order_fault (timed_rows named.now.trips named.now.stops named.now.places.now (table_of bytes.now))) }
     ensures fault { IfErr result (λ f. f ≢ FeedFault.NoMemory
         → stop_times_from (loaded_from StopTimesTable most (table_of bytes.now))
-        named.now.trips.now named.now.stops.now named.now.places.now ≡ Err f) }
+        named.now.trips named.now.stops named.now.places.now ≡ Err f) }
     ensures content { IfErr result (λ f. unread_of f ≡ None) }
     ensures own { IfErr result (IsFaultOf StopTimesTable) }
 {
-    let mut records = Records::of(bytes);
+    let mut records = Records::of(alloc, bytes);
     let mut row = Record::new(alloc);
     match records.next(&mut row) {
         Ok(true) => {}
@@ -179,7 +180,7 @@ pub(crate) fn read_timed_rows(
     }
     let columns = columns_of(&row);
     if let Some(fault) = missing_column(columns) {
-        return Err(counted_fault(&records, &mut row, 0, most, fault));
+        return Err(counted_fault(&mut records, &mut row, 0, most, fault));
     }
     rows_after(
         alloc,

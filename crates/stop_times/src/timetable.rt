@@ -1,5 +1,5 @@
 //! The stop times of a feed.
-ghost use Rattle.std.specs.Prelude.{◌≡◌, ◌≢◌, ◌<◌, ◌≤◌, ℕ, length, slice_index_or, [], false, None, Ok, Err, IfOk, IfErr};
+ghost use Rattle.std.specs.Prelude.{◌≡◌, ◌≢◌, ◌<◌, ◌≤◌, ℕ, length, slice_index_or, [], false, None, Ok, Err, IfOk, IfErr, OnOk};
 ghost use Rattle.csv_rows.specs.declared.feed_tables.Table.TheVariants.{StopTimes as StopTimesTable};
 ghost use Rattle.csv_rows.specs.First.{first_below};
 ghost use Rattle.csv_rows.specs.FeedTables.{unread_of, IsFaultOf};
@@ -10,7 +10,7 @@ ghost use Rattle.stop_times.specs.StopTimeBounds.{most_stop_times};
 ghost use Rattle.stop_times.specs.StopTimeKeys.{AreKeysOf};
 ghost use Rattle.stop_times.specs.Timetables.{stop_times_from, AreVisits};
 ghost use Rattle.table_files.specs.Required.{IsOfSomeTable};
-ghost use Rattle.stop_times.specs.StopTimes.{repeated_time, order_fault, stop_times_fault};
+ghost use Rattle.stop_times.specs.StopTimes.{repeated_time, order_fault, stop_times_fault, timed_rows};
 ghost use Rattle.stop_times.specs.Visits.{AreStopTimes};
 
 use crate::by_trip::StopTimes;
@@ -21,6 +21,7 @@ use crate::table_rows::read_timed_rows;
 use crate::visits::visits_of;
 use csv_rows::{FeedFault, Ids, Key, Table, first_repeat};
 use std::alloc::Global;
+use text_index::TextIndex;
 
 /// The first row that has the trip and the sequence of an earlier one, by the keys of all rows in their order.
 fn check_once(rows: &[StoredRow], keys: &[Key]) -> Result<(), FeedFault>
@@ -58,6 +59,40 @@ fn in_order(alloc: Global, rows: &[StoredRow], trips: u32) -> Result<StopTimes, 
     }
 }
 
+/// The rows of the stop times with this text, or the first of its faults, as `read_timed_rows` tells them. The indexes of the
+/// trips and of the stops are let go after.
+fn rows_of(
+    alloc: Global,
+    bytes: &[u8],
+    trips: &Ids,
+    stops: &Ids,
+    places: &[u32],
+    most: u64,
+) -> Result<Vec<StoredRow>, FeedFault>
+    requires places { length places.now ≡ length stops.now }
+    requires most { most ≤ most_stop_times }
+    ensures rows { IfOk result (λ timed. timed.items
+        ≡ timed_rows trips.now stops.now places.now (table_of bytes.now)) }
+    ensures few { IfOk result (λ timed. length timed.items ≤ most) }
+    ensures header { OnOk result (0 < length (table_of bytes.now)) }
+    ensures rest { OnOk result (stop_times_fault trips.now stops.now places.now (table_of bytes.now)
+        ≡ order_fault (timed_rows trips.now stops.now places.now (table_of bytes.now))) }
+    ensures fault { IfErr result (λ f. f ≢ FeedFault.NoMemory
+        → stop_times_from (loaded_from StopTimesTable most (table_of bytes.now))
+        trips.now stops.now places.now ≡ Err f) }
+    ensures content { IfErr result (λ f. unread_of f ≡ None) }
+    ensures own { IfErr result (IsFaultOf StopTimesTable) }
+{
+    let trip_index = TextIndex::of(alloc, trips.key(), trips.texts())?;
+    let stop_index = TextIndex::of(alloc, stops.key(), stops.texts())?;
+    let named = Named {
+        trips: trip_index,
+        stops: stop_index,
+        places,
+    };
+    read_timed_rows(alloc, bytes, &named, most)
+}
+
 /// The kept rows of each trip, in rising order of their sequences, or the first fault of the stop times with this text, which
 /// may have so many rows at most. The text is let go before the rows are put in order, so that both do not stand in memory at
 /// once.
@@ -86,12 +121,7 @@ pub fn read_stop_times(
     ensures content { IfErr result (λ f. unread_of f ≡ None) }
     ensures own { IfErr result (IsFaultOf StopTimesTable) }
 {
-    let named = Named {
-        trips,
-        stops,
-        places,
-    };
-    let timed = read_timed_rows(alloc, bytes.as_slice(), &named, most)?;
+    let timed = rows_of(alloc, bytes.as_slice(), trips, stops, places, most)?;
     drop(bytes);
     match in_order(alloc, timed.as_slice(), trips.len()) {
         Ok(visits) => Ok(visits),

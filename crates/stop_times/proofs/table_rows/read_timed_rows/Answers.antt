@@ -11,8 +11,8 @@ use Rattle.stop_times.proofs.table_rows.read_timed_rows.Goals as goal
 
 pub returns-in-Some-clause-fault : goal.returns-in-Some-clause-fault
 returns-in-Some-clause-fault c = λ free.
-    let trips = c.args.named.now.trips.now in
-    let stops = c.args.named.now.stops.now in
+    let trips = c.args.named.now.trips in
+    let stops = c.args.named.now.stops in
     let places = c.args.named.now.places.now in
     let t = c.next.new.fields ∷ c.next.new.self in
     let all : t ≡ table_of c.args.bytes.now = sym (sym c.of-records.ensures ∙ c.in-Ok-true.ensures.some c.in-Ok-true.field-0-test) in
@@ -26,8 +26,8 @@ returns-in-Some-clause-fault c = λ free.
 
 pub returns-clause-rest : goal.returns-clause-rest
 returns-clause-rest c =
-    let trips = c.args.named.now.trips.now in
-    let stops = c.args.named.now.stops.now in
+    let trips = c.args.named.now.trips in
+    let stops = c.args.named.now.stops in
     let places = c.args.named.now.places.now in
     let t = c.next.new.fields ∷ c.next.new.self in
     let all : t ≡ table_of c.args.bytes.now = sym (sym c.of-records.ensures ∙ c.in-Ok-true.ensures.some c.in-Ok-true.field-0-test) in
@@ -40,8 +40,8 @@ returns-clause-rest c =
 
 pub returns-clause-fault : goal.returns-clause-fault
 returns-clause-fault c =
-    let trips = c.args.named.now.trips.now in
-    let stops = c.args.named.now.stops.now in
+    let trips = c.args.named.now.trips in
+    let stops = c.args.named.now.stops in
     let places = c.args.named.now.places.now in
     let t = c.next.new.fields ∷ c.next.new.self in
     let all : t ≡ table_of c.args.bytes.now = sym (sym c.of-records.ensures ∙ c.in-Ok-true.ensures.some c.in-Ok-true.field-0-test) in

@@ -16,8 +16,8 @@ use Rattle.stop_times.proofs.table_rows.rows_after.Goals as goal
 pub loop-timed-init : goal.loop-timed-init
 loop-timed-init c =
     let t = c.args.row.now ∷ c.args.records.now in
-    let trips = c.args.named.now.trips.now in
-    let stops = c.args.named.now.stops.now in
+    let trips = c.args.named.now.trips in
+    let stops = c.args.named.now.stops in
     let places = c.args.named.now.places.now in
     let none : length c.in_ok-timed.timed.items ≡ 0 = ap length c.in_ok-timed.ensures in
     let start : 0 ≡ length c.in_ok-timed.timed.items = sym none in
@@ -34,8 +34,8 @@ loop-timed-init c =
 pub returns-in-Ok-false-clause-rows : goal.returns-in-Ok-false-clause-rows
 returns-in-Ok-false-clause-rows c =
     let t = c.args.row.now ∷ c.args.records.now in
-    let trips = c.args.named.now.trips.now in
-    let stops = c.args.named.now.stops.now in
+    let trips = c.args.named.now.trips in
+    let stops = c.args.named.now.stops in
     let places = c.args.named.now.places.now in
     let end = drop-none t (length c.loop-timed.timed.items + 1) (c.loop-timed.invariant.left ∙ c.in-Ok-false.ensures.none c.in-Ok-false.field-0-test) in
     let all : length c.loop-timed.timed.items ≡ length t - 1 = omega (arith, end, c.loop-timed.invariant.inside) in
@@ -44,8 +44,8 @@ returns-in-Ok-false-clause-rows c =
 pub returns-in-Ok-false-clause-none : goal.returns-in-Ok-false-clause-none
 returns-in-Ok-false-clause-none c =
     let t = c.args.row.now ∷ c.args.records.now in
-    let trips = c.args.named.now.trips.now in
-    let stops = c.args.named.now.stops.now in
+    let trips = c.args.named.now.trips in
+    let stops = c.args.named.now.stops in
     let places = c.args.named.now.places.now in
     let end = drop-none t (length c.loop-timed.timed.items + 1) (c.loop-timed.invariant.left ∙ c.in-Ok-false.ensures.none c.in-Ok-false.field-0-test) in
     let all : length c.args.records.now ≡ length c.loop-timed.timed.items = omega (arith, end, c.loop-timed.invariant.inside) in
@@ -65,8 +65,8 @@ returns-then-most-taken-clause-fault c = λ free.
 pub loop-timed-preserved : goal.loop-timed-preserved
 loop-timed-preserved c =
     let t = c.args.row.now ∷ c.args.records.now in
-    let trips = c.args.named.now.trips.now in
-    let stops = c.args.named.now.stops.now in
+    let trips = c.args.named.now.trips in
+    let stops = c.args.named.now.stops in
     let places = c.args.named.now.places.now in
     let old = c.loop-timed.timed.items in
     let new = c.take_row.new.timed.items in
@@ -90,8 +90,8 @@ loop-timed-preserved c =
 pub returns-in-Err-take_row-clause-fault : goal.returns-in-Err-take_row-clause-fault
 returns-in-Err-take_row-clause-fault c = λ free.
     let t = c.args.row.now ∷ c.args.records.now in
-    let trips = c.args.named.now.trips.now in
-    let stops = c.args.named.now.stops.now in
+    let trips = c.args.named.now.trips in
+    let stops = c.args.named.now.stops in
     let places = c.args.named.now.places.now in
     let n = length c.loop-timed.timed.items in
     let fault = c.in-Err-take_row.fault in

@@ -10,9 +10,9 @@ invariant-loop-timed l = record {
   left : drop (length l.timed.items + 1) (l.initial.row ∷ l.initial.records) ≡ l.records;
   inside : length l.timed.items ≤ length l.initial.records;
   few : length l.timed.items ≤ l.most;
-  rows : l.timed.items ≡ list_below (λ i. value_or no_row (timed_at l.named.trips.now l.named.stops.now l.named.places.now (l.initial.row ∷ l.initial.records) i)) (length l.timed.items);
-  none : first_below (bad_time l.named.trips.now l.named.stops.now l.named.places.now (l.initial.row ∷ l.initial.records)) (length l.timed.items) ≡ None;
-  known : IsKnownIn l.named.trips.now l.known;
+  rows : l.timed.items ≡ list_below (λ i. value_or no_row (timed_at l.named.trips l.named.stops l.named.places.now (l.initial.row ∷ l.initial.records) i)) (length l.timed.items);
+  none : first_below (bad_time l.named.trips l.named.stops l.named.places.now (l.initial.row ∷ l.initial.records)) (length l.timed.items) ≡ None;
+  known : IsKnownIn l.named.trips l.known;
 }
 
 abbrev pub decreases-loop-timed : goal.decreases-loop-timed
