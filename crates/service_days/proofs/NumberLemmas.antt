@@ -1,9 +1,10 @@
 -- Exceptions by the numbers of their services, one more at a time.
 use Rattle.std.proofs.Common.{◌≡◌, ℕ, ℤ, ◌+◌, ◌≤◌, ◌&&◌, ◌||◌, Bool, true, false, List, [], length, Option, Some, None, if◌then◌else◌, refl, sym, ap, ◌∙◌}
-use Rattle.std.proofs.Common.{subst, arith, bytes_eq, add-one, length-append, int_eq, ne_eqb}
+use Rattle.std.proofs.Common.{All, subst, arith, bytes_eq, add-one, length-append, int_eq, ne_eqb}
 use Rattle.std.proofs.lemmas.Bool.{cases_Bool}
 use mathlib.Core.Bool.{beq}
-use Rattle.plan_model.specs.NameLists.{Adds}
+use Rattle.plan_model.specs.NameLists.{Adds, IsTrimmed}
+use Rattle.std.proofs.lemmas.List.Elements.{All-push}
 use Rattle.csv_rows.specs.First.{any_below}
 use Rattle.csv_rows.specs.Tables.{place_in}
 use Rattle.std.proofs.lemmas.Slice.Eq.{bytes_eq-Decides}
@@ -28,6 +29,11 @@ asks-adds old new x added asks name a h g = grind (arith, cases_Bool added, plac
 
 pub length-adds : (old new : List (List ℕ)) (x : List ℕ) (added : Bool) → Adds old new x added → (length old ≤ length new) × (length new ≤ length old + 1)
 length-adds old new x added a = grind (arith, cases_Bool added, length-append)
+
+-- texts without spaces at their ends stay so
+pub trimmed-adds : (old new : List (List ℕ)) (x : List ℕ) (added : Bool) → Adds old new x added → All IsTrimmed old → IsTrimmed x → All IsTrimmed new
+trimmed-adds old new x true a h trimmed = subst (All IsTrimmed) (sym a.0) (All-push IsTrimmed old x h trimmed)
+trimmed-adds old new x false a h trimmed = subst (All IsTrimmed) (sym a.0) h
 
 or_swap : (a b : Bool) → (a || b) ≡ (b || a)
 or_swap a b = grind (arith, cases_Bool a, cases_Bool b)

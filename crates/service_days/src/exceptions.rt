@@ -1,10 +1,10 @@
 //! Days that are added to services or removed, by the numbers of the services.
-ghost use Rattle.std.specs.Prelude.{◌≡◌, ◌<◌, ◌+◌, ◌-◌, ◌^◌, ◌||◌, Bool, ℕ, [], Some, IfOk, OnOk, length};
+ghost use Rattle.std.specs.Prelude.{◌≡◌, ◌<◌, ◌+◌, ◌-◌, ◌^◌, ◌||◌, IfOk, OnOk, length, All};
 ghost use Rattle.csv_rows.specs.declared.feed_tables.Table.TheVariants.{CalendarDates as DatesTable};
 ghost use Rattle.csv_rows.specs.First.{first_below};
 ghost use Rattle.csv_rows.specs.RowFaults.{TellsFirst};
-ghost use Rattle.csv_rows.specs.Tables.{row_count, place_in};
-ghost use Rattle.plan_model.specs.NameLists.{Adds, IsTrimmed};
+ghost use Rattle.csv_rows.specs.Tables.{row_count};
+ghost use Rattle.plan_model.specs.NameLists.{IsTrimmed};
 ghost use Rattle.service_days.specs.declared.exceptions.Exception.{Exception};
 ghost use Rattle.service_days.specs.Dates.{bad_date, dates_fault};
 ghost use Rattle.service_days.specs.Exceptions.{same, has};
@@ -15,6 +15,7 @@ use csv_rows::{Column, FeedFault, Ids, Rows, Table, check_columns};
 use plan_model::{HashKey, NoMemory};
 use std::alloc::Global;
 use std::collections::HashSet;
+use text_index::TextIndex;
 
 /// A day that is added to a service or removed, by the number of the service.
 #[derive(Clone, Copy, PartialEq, Eq, Hash)]
@@ -50,33 +51,17 @@ fn insert(
     Ok(())
 }
 
-/// The number of a service, which is added where it is new.
-fn number_of(alloc: Global, ids: &mut Ids, service: &str) -> Result<u32, NoMemory>
-    requires room { length ids.old < 2 ^ 32 - 1 }
-    requires trimmed { IsTrimmed service.now }
-    ensures added { OnOk result ((b : Bool) × Adds ids.old ids.new service.now b) }
-    ensures number { IfOk result (λ n. place_in service.now ids.new ≡ Some n) }
-{
-    ids.add(alloc, service)?;
-    match ids.number(service) {
-        Some(number) => Ok(number),
-        None => unreachable!(),
-    }
-}
-
-/// Adds the exception of a row.
-fn add(
-    alloc: Global,
-    ids: &mut Ids,
+/// Adds the exception of a row, and its service where it is new.
+fn add<'a>(
+    services: &mut TextIndex<'a>,
     exceptions: &mut HashSet<Exception, HashKey>,
-    row: ServiceDate<'_>,
+    row: ServiceDate<'a>,
 ) -> Result<(), NoMemory>
-    requires room { length ids.old < 2 ^ 32 - 1 }
-    requires trimmed { IsTrimmed row.service.now }
-    ensures { OnOk result (AddsDate ids.old ids.new exceptions.old.keys exceptions.new.keys
+    requires { length services.old < 2 ^ 32 - 1 }
+    ensures { OnOk result (AddsDate services.old services.new exceptions.old.keys exceptions.new.keys
         (record { service = row.entry.service.now; day = row.entry.day; adds = row.entry.adds })) }
 {
-    let service = number_of(alloc, ids, row.service)?;
+    let service = services.add(row.service)?;
     insert(
         exceptions,
         Exception {
@@ -87,23 +72,42 @@ fn add(
     )
 }
 
-/// The exceptions of all rows, or the first field that is not of its form.
-fn read_rows(alloc: Global, rows: &Rows, ids: Ids) -> Result<Numbered, FeedFault>
-    requires { length ids + row_count rows.now < 2 ^ 32 - 1 }
-    ensures numbered { IfOk result (λ n.
-        AreNumbered rows.now (row_count rows.now) ids n.ids n.exceptions.keys) }
+/// The exceptions of all rows, or the first field that is not of its form. Services that are new are numbered after those
+/// that are there.
+fn read_rows<'a>(
+    alloc: Global,
+    rows: &'a Rows,
+    services: &mut TextIndex<'a>,
+) -> Result<HashSet<Exception, HashKey>, FeedFault>
+    requires few { length services.old + row_count rows.now < 2 ^ 32 - 1 }
+    requires trimmed { All IsTrimmed services.old }
+    ensures numbered { IfOk result (λ exceptions.
+        AreNumbered rows.now (row_count rows.now) services.old services.new exceptions.keys) }
+    ensures trimmed { OnOk result (All IsTrimmed services.new) }
     ensures tells { TellsFirst DatesTable (first_below (bad_date rows.now) (row_count rows.now)) result }
 {
     let columns = date_columns(rows);
-    let mut numbered = Numbered {
-        ids,
-        exceptions: HashSet::with_hasher(alloc, rows.key()),
-    };
+    let mut exceptions = HashSet::with_hasher(alloc, rows.key());
     for i in 0..rows.count() {
         let row = read_exception(rows, columns, i)?;
-        add(alloc, &mut numbered.ids, &mut numbered.exceptions, row)?;
+        add(services, &mut exceptions, row)?;
     }
-    Ok(numbered)
+    Ok(exceptions)
+}
+
+/// The exceptions of all rows by the numbers of their services, or the first field that is not of its form.
+fn number_rows(alloc: Global, rows: &Rows, ids: &Ids) -> Result<Numbered, FeedFault>
+    requires { length ids.now + row_count rows.now < 2 ^ 32 - 1 }
+    ensures numbered { IfOk result (λ n.
+        AreNumbered rows.now (row_count rows.now) ids.now n.ids n.exceptions.keys) }
+    ensures tells { TellsFirst DatesTable (first_below (bad_date rows.now) (row_count rows.now)) result }
+{
+    let _count = ids.len();
+    let mut services = TextIndex::of(alloc, ids.key(), ids.texts())?;
+    let exceptions = read_rows(alloc, rows, &mut services)?;
+    let list = services.list(alloc)?;
+    let ids = Ids::of(ids.key(), list);
+    Ok(Numbered { ids, exceptions })
 }
 
 /// The exceptions of a table, or the first of its faults. The services that are there keep their numbers.
@@ -118,5 +122,5 @@ pub(crate) fn read_exceptions(alloc: Global, rows: &Rows, ids: Ids) -> Result<Nu
         Table::CalendarDates,
         &[Column::ServiceId, Column::Date, Column::ExceptionType],
     )?;
-    read_rows(alloc, rows, ids)
+    number_rows(alloc, rows, &ids)
 }

@@ -3,7 +3,7 @@ ghost use Rattle.std.specs.Prelude.{◌≡◌, ◌≢◌, ℕ, ℤ, None, Some, 
 ghost use Rattle.csv_rows.specs.FeedTables.{unread_of};
 ghost use Rattle.csv_rows.specs.Limits.{AreWithin};
 ghost use Rattle.table_files.specs.Loading.{HasFeedCauses};
-ghost use Rattle.service_days.specs.Services.{period_runs, runs};
+ghost use Rattle.service_days.specs.Services.{period_runs, runs, runs_at};
 ghost use Rattle.service_days.specs.Days.{day_count, days_between};
 ghost use Rattle.service_days.specs.Calendars.{calendars_in, RunsBy, IsCalendarFault};
 
@@ -12,7 +12,7 @@ use crate::periods::Period;
 use crate::tables::{LoadedCalendar, load_calendar, load_dates};
 use csv_rows::{FeedFault, Ids, Limits, Table};
 use file_ports::Files;
-use plan_model::{HashKey, List, NoMemory};
+use plan_model::{HashKey, List, NoMemory, TextList};
 use std::alloc::Global;
 use std::collections::HashSet;
 use std::marker::Model;
@@ -88,13 +88,28 @@ impl Services {
         })
     }
 
+    /// The services that the calendars name, in the order of their numbers.
+    pub fn services(&self) -> &TextList
+        ensures { result.now ≡ self.now.ids }
+    {
+        self.ids.texts()
+    }
+
     /// Whether a service runs on a day, which is a day number from 1970-01-01: a row of `calendar.txt` has the service, its
     /// range holds the day, both ends included, and the flag of the day's weekday is 1, or an exception adds the day; and
     /// no exception removes it. A service that is named nowhere never runs.
     pub fn runs_on(&self, service: &str, day: i32) -> bool
         ensures { result ≡ runs self.now service.now day }
     {
-        let Some(service) = self.ids.number(service) else {
+        self.runs_at(self.ids.number(service), day)
+    }
+
+    /// Whether the service of this number runs on a day, as `runs_on` says it of its name. One without a number, as it is
+    /// named nowhere, never runs.
+    pub fn runs_at(&self, service: Option<u32>, day: i32) -> bool
+        ensures { result ≡ runs_at self.now.periods self.now.exceptions day service }
+    {
+        let Some(service) = service else {
             return false;
         };
         let removed = Exception {
@@ -125,10 +140,11 @@ impl Services {
         ensures { IfOk result (λ days.
             days ≡ filter (runs self.now service.now) (days_between first last)) }
     {
+        let number = self.ids.number(service);
         let mut days: List<i32> = List::new(alloc);
         for n in 0..day_count(first, last) {
             let day = day_after(first, last, n);
-            if self.runs_on(service, day) {
+            if self.runs_at(number, day) {
                 days.push(day)?;
             }
         }

@@ -8,4 +8,4 @@ returns-in_err-check_columns-clause-tells c = match_raised _ _ c.from_residual.r
 
 pub returns-clause-tells : goal.returns-clause-tells
 unfolding dates_fault
-returns-clause-tells c = tells-then _ _ _ c.read_rows.result c.in_ok-check_columns.ensures c.read_rows.ensures.tells
+returns-clause-tells c = tells-then _ _ _ c.number_rows.result c.in_ok-check_columns.ensures c.number_rows.ensures.tells

@@ -5,7 +5,7 @@ use Rattle.csv_rows.proofs.FirstLemmas.{first-zero, first-next}
 use Rattle.service_days.specs.Dates.{ServiceDate, bad_date, date_of, date_or_none}
 use Rattle.service_days.specs.Numbered.{AddsDate}
 use Rattle.service_days.proofs.DateLemmas.{date_is, service_trimmed}
-use Rattle.service_days.proofs.NumberLemmas.{numbered_none, numbered_next, length-adds}
+use Rattle.service_days.proofs.NumberLemmas.{numbered_none, numbered_next, length-adds, trimmed-adds}
 use Rattle.service_days.proofs.exceptions.read_rows.Goals as goal
 
 pub loop-i-init : goal.loop-i-init
@@ -13,7 +13,8 @@ loop-i-init c =
     let t = c.args.rows.now in
     record {
       none = first-zero (bad_date t);
-      numbered = numbered_none t c.args.ids c.with_hasher.result.keys c.with_hasher.ensures.empty;
+      numbered = numbered_none t c.args.services.now c.with_hasher-exceptions.result.keys c.with_hasher-exceptions.ensures.empty;
+      trimmed = c.requires.trimmed;
       room = omega arith;
       few = omega arith;
     }
@@ -23,22 +24,24 @@ returns-in_err-row-clause-tells c = match_raised _ _ c.from_residual.result c.fr
     (fault-at _ c.loop-i.i _ (omega arith) c.loop-i.invariant.none
     (ap result_err (date_is c.args.rows.now _ c.loop-i.i c.date_columns-columns.ensures)) c.in_err-row.ensures.tells)
 
-pub add-requires-clause-trimmed : goal.add-requires-clause-trimmed
-add-requires-clause-trimmed c =
-    service_trimmed c.args.rows.now c.date_columns-columns.result c.loop-i.i _ c.count-i-end.ensures.trimmed c.in_ok-row.ensures.exception
-
 pub loop-i-preserved : goal.loop-i-preserved
 loop-i-preserved c =
     let t = c.args.rows.now in
     let i = c.loop-i.i in
     let here = date_is t _ i c.date_columns-columns.ensures ∙ c.in_ok-row.ensures.exception in
-    let old = c.loop-i.numbered in
-    let P : ServiceDate → Type 0 = λ d. AddsDate old.ids c.add.new.ids old.exceptions.keys c.add.new.exceptions.keys d in
+    let old = c.loop-i.services in
+    let new = c.add.new.services in
+    let before = c.loop-i.exceptions.keys in
+    let after = c.add.new.exceptions.keys in
+    let P : ServiceDate → Type 0 = λ d. AddsDate old new before after d in
     let added = subst P (sym (ap date_or_none here)) c.in_ok-add.ensures in
-    let size = length-adds old.ids c.add.new.ids (date_of t i).service added.new added.added in
+    let service = c.in_ok-row.row.service.now in
+    let size = length-adds old new (date_of t i).service added.new added.added in
     record {
       none = first-next (bad_date t) i None c.loop-i.invariant.none (ap result_err here);
-      numbered = numbered_next t i c.args.ids old.ids c.add.new.ids old.exceptions.keys c.add.new.exceptions.keys c.loop-i.invariant.numbered c.loop-i.invariant.room added;
+      numbered = numbered_next t i c.args.services.now old new before after c.loop-i.invariant.numbered c.loop-i.invariant.room added;
+      trimmed = trimmed-adds old new service c.in_ok-add.ensures.new c.in_ok-add.ensures.added c.loop-i.invariant.trimmed
+          (service_trimmed t c.date_columns-columns.result i _ c.count-i-end.ensures.trimmed c.in_ok-row.ensures.exception);
       room = omega (arith, c.loop-i.invariant.room, size.0);
       few = omega (arith, c.loop-i.invariant.few, size.1);
     }
