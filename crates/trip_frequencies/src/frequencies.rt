@@ -13,6 +13,7 @@ use clock_text::read_time;
 use csv_rows::{Column, FeedFault, Ids, Key, Rows, Table, first_repeat, in_order, read_name};
 use plan_model::NoMemory;
 use std::alloc::Global;
+use text_index::TextIndex;
 
 /// How a trip repeats: it departs from its first stop at `first`, each `headway` later, and last before `end`. By the GTFS
 /// Schedule reference, `frequencies.txt`.
@@ -64,7 +65,7 @@ fn frequency_columns(rows: &Rows) -> FrequencyColumns
 fn read_frequency(
     rows: &Rows,
     columns: FrequencyColumns,
-    trips: &Ids,
+    trips: &TextIndex<'_>,
     row: usize,
 ) -> Result<TripFrequency, FeedFault>
     requires { row < row_count rows.now }
@@ -113,9 +114,10 @@ pub(crate) fn read_frequency_rows(
         (first_below (bad_frequency trips.now rows.now) (row_count rows.now)) result }
 {
     let columns = frequency_columns(rows);
+    let index = TextIndex::of(alloc, trips.key(), trips.texts())?;
     let mut found: Vec<TripFrequency> = Vec::new(alloc);
     for i in 0..rows.count() {
-        let row = read_frequency(rows, columns, trips, i)?;
+        let row = read_frequency(rows, columns, &index, i)?;
         found.push(row)?;
     }
     Ok(found)

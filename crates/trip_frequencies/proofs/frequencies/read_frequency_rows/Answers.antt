@@ -1,9 +1,9 @@
-use Rattle.std.proofs.Common.{None, sym, ap, ◌∙◌, arith}
+use Rattle.std.proofs.Common.{List, ℕ, None, sym, ap, ◌∙◌, arith}
 use Rattle.std.specs.Result.{result_err}
 use Rattle.plan_model.specs.Results.{value_or}
 use Rattle.csv_rows.proofs.FaultLemmas.{match_raised, fault-at}
 use Rattle.csv_rows.proofs.FirstLemmas.{first-zero, first-next}
-use Rattle.trip_frequencies.specs.Frequencies.{bad_frequency, frequency_at, no_frequency}
+use Rattle.trip_frequencies.specs.Frequencies.{bad_frequency, frequency_at, frequency_in, no_frequency}
 use Rattle.csv_rows.proofs.ListLemmas.{list_below-zero, list_below-next}
 use Rattle.trip_frequencies.proofs.FrequencyLemmas.{frequency_is}
 use Rattle.trip_frequencies.proofs.frequencies.read_frequency_rows.Goals as goal
@@ -12,15 +12,18 @@ pub loop-i-init : goal.loop-i-init
 loop-i-init c = grind (arith, list_below-zero, first-zero)
 
 pub returns-in_err-row-clause-tells : goal.returns-in_err-row-clause-tells
-returns-in_err-row-clause-tells c = match_raised _ _ c.from_residual.result c.from_residual.ensures
+returns-in_err-row-clause-tells c = match_raised _ _ c.from_residual-in_err-row.result c.from_residual-in_err-row.ensures
     (fault-at _ c.loop-i.i _ (omega arith) c.loop-i.invariant.none
-    (ap result_err (frequency_is c.args.trips.now c.args.rows.now _ c.loop-i.i c.frequency_columns-columns.ensures)) c.in_err-row.ensures.tells)
+    (ap result_err (frequency_is c.args.trips.now c.args.rows.now _ c.loop-i.i c.frequency_columns-columns.ensures
+    ∙ ap (λ (ids : List (List ℕ)). frequency_in ids c.args.rows.now c.frequency_columns-columns.result c.loop-i.i) (sym (c.in_ok-index.ensures ∙ c.texts.ensures))))
+    c.in_err-row.ensures.tells)
 
 pub loop-i-preserved : goal.loop-i-preserved
 loop-i-preserved c =
     let t = c.args.rows.now in
     let trips = c.args.trips.now in
-    let here = frequency_is trips t _ c.loop-i.i c.frequency_columns-columns.ensures ∙ c.in_ok-row.ensures.row in
+    let here = frequency_is trips t _ c.loop-i.i c.frequency_columns-columns.ensures
+    ∙ ap (λ (ids : List (List ℕ)). frequency_in ids t c.frequency_columns-columns.result c.loop-i.i) (sym (c.in_ok-index.ensures ∙ c.texts.ensures)) ∙ c.in_ok-row.ensures.row in
     record {
       rows = list_below-next (λ i. value_or no_frequency (frequency_at trips t i)) c.loop-i.i c.loop-i.found.items c.push.new.self.items c.in_ok-row.row
           c.loop-i.invariant.rows c.in_ok-push.ensures.items (sym (ap (value_or no_frequency) here));
