@@ -6,7 +6,7 @@ use crate::lists::{FeedLists, load_lists};
 use crate::times::{TripTimes, load_times};
 use csv_rows::{FeedFault, Limits};
 use file_ports::Files;
-use plan_model::{HashKey, PlaceId};
+use plan_model::{HashKey, PlaceId, TextList};
 use std::alloc::Global;
 use std::marker::Model;
 use stop_times::StopRow;
@@ -101,14 +101,30 @@ impl Feed {
         self.lists.stops.ids.get(stop)
     }
 
-    /// The stop with this id.
+    /// The ids of the stops, in the order of their numbers.
+    pub fn stops(&self) -> &TextList
+        ensures { result.now ≡ self.now.stop_ids }
+    {
+        self.lists.stops.ids.texts()
+    }
+
+    /// The place of a stop: its parent station, or else itself.
+    pub fn place(&self, stop: u32) -> PlaceId
+        requires { stop < length self.now.stop_ids }
+        ensures place { result.0 ≡ slice_index self.now.places stop }
+        ensures in_range { result.0 < length self.now.stop_ids }
+    {
+        PlaceId(self.lists.stops.places[stop as usize])
+    }
+
+    /// The stop with this id. Each id is looked at in turn.
     pub fn stop_of(&self, id: &str) -> Option<u32>
         ensures { result ≡ place_in id.now self.now.stop_ids }
     {
         self.lists.stops.ids.number(id)
     }
 
-    /// The place of the stop with this id: its parent station, or else itself.
+    /// The place of the stop with this id: its parent station, or else itself. Each id is looked at in turn.
     pub fn place_of(&self, id: &str) -> Option<PlaceId>
         ensures place { option_map (λ p. p.0) result
             ≡ option_map (λ stop. slice_index self.now.places stop) (place_in id.now self.now.stop_ids) }
@@ -116,7 +132,7 @@ impl Feed {
     {
         match self.lists.stops.ids.number(id) {
             None => None,
-            Some(stop) => Some(PlaceId(self.lists.stops.places[stop as usize])),
+            Some(stop) => Some(self.place(stop)),
         }
     }
 
@@ -157,13 +173,28 @@ impl Feed {
         self.lists.trips.of_trips.types[trip as usize]
     }
 
+    /// The ids of the routes, in the order of their numbers.
+    pub fn routes(&self) -> &TextList
+        ensures { result.now ≡ self.now.route_ids }
+    {
+        self.lists.routes.ids.texts()
+    }
+
+    /// The number of the route of a trip.
+    pub fn route(&self, trip: u32) -> u32
+        requires { trip < length self.now.trip_ids }
+        ensures number { result ≡ slice_index self.now.routes trip }
+        ensures inside { result < length self.now.route_ids }
+    {
+        self.lists.trips.of_trips.routes[trip as usize]
+    }
+
     /// The id of the route of a trip.
     pub fn route_id(&self, trip: u32) -> &str
         requires { trip < length self.now.trip_ids }
         ensures { result.now ≡ slice_index_or self.now.route_ids (slice_index self.now.routes trip) [] }
     {
-        let route = self.lists.trips.of_trips.routes[trip as usize];
-        self.lists.routes.ids.get(route)
+        self.lists.routes.ids.get(self.route(trip))
     }
 
     /// The kept rows of a trip, in rising order of `stop_sequence`.

@@ -1,0 +1,14 @@
+use Rattle.std.proofs.Common.{◌<◌, length, ap, arith}
+use Rattle.std.proofs.lemmas.Grind.{get_or_default_zero}
+use Rattle.gtfs_tables.specs.Feeds.{FeedParts}
+use Rattle.gtfs_tables.specs.FeedInside.{feed_parts_of}
+use Rattle.gtfs_tables.proofs.FeedFacts.{place_below}
+use Rattle.gtfs_tables.proofs.feed.Feed.place.Goals as goal
+
+pub returns-clause-in_range : goal.returns-clause-in_range
+returns-clause-in_range c =
+    let same = ap (λ (f : FeedParts). length f.stop_ids) c.self.view_is in
+    let inside : c.args.stop < length (feed_parts_of c.self.inside).stop_ids = omega (arith, c.requires, same) in
+    let below = place_below (feed_parts_of c.self.inside) c.self.invariant.sound c.args.stop inside in
+    let zero = get_or_default_zero c.self.inside.lists.stops.places.items c.args.stop c.index.result.now (omega (arith, inside, c.self.invariant.places)) in
+    omega (arith, below, c.index.ensures, same, zero)
