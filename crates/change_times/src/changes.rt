@@ -19,6 +19,7 @@ ghost use Rattle.change_times.specs.Told.{AreTold};
 ghost use Rattle.change_times.specs.Changes.{fault_of_transfers, seconds_of, links_of, transfers_in, AreToldChanges, LinksComeFrom};
 
 use crate::links::{Walk, Ways, add_walk, links_of, no_walks};
+use crate::stops::FeedStops;
 use crate::transfers::{Transfer, read_transfer, transfer_columns};
 use csv_rows::{Column, FeedFault, Limits, Rows, Table, check_columns};
 use file_ports::Files;
@@ -117,7 +118,7 @@ fn note(told: &mut Told, transfer: Option<Transfer>) -> Result<(), NoMemory>
 }
 
 /// What the rows tell, or the first of their faults.
-fn tell(nothing: Told, feed: &Feed, rows: &Rows) -> Result<Told, FeedFault>
+fn tell(nothing: Told, feed: &FeedStops<'_>, rows: &Rows) -> Result<Told, FeedFault>
     requires { AreTold feed.now rows.now 0 nothing }
     ensures told { IfOk result (AreTold feed.now rows.now (row_count rows.now)) }
     ensures tells { TellsFirst TransfersTable
@@ -132,6 +133,17 @@ fn tell(nothing: Told, feed: &Feed, rows: &Rows) -> Result<Told, FeedFault>
     Ok(told)
 }
 
+/// What the rows tell of a feed, whose stops are found by their ids, or the first of their faults.
+fn told_of(alloc: Global, nothing: Told, feed: &Feed, rows: &Rows) -> Result<Told, FeedFault>
+    requires { AreTold feed.now rows.now 0 nothing }
+    ensures told { IfOk result (AreTold feed.now rows.now (row_count rows.now)) }
+    ensures tells { TellsFirst TransfersTable
+        (first_below (bad_transfer feed.now rows.now) (row_count rows.now)) result }
+{
+    let stops = FeedStops::of(alloc, feed)?;
+    tell(nothing, &stops, rows)
+}
+
 /// The change times and the links that the rows tell, or the first of their faults.
 fn read_rows(alloc: Global, feed: &Feed, rows: &Rows) -> Result<Changes, FeedFault>
     ensures changes { IfOk result (λ c. AreToldChanges feed.now c rows.now) }
@@ -140,7 +152,7 @@ fn read_rows(alloc: Global, feed: &Feed, rows: &Rows) -> Result<Changes, FeedFau
         (first_below (bad_transfer feed.now rows.now) (row_count rows.now)) result }
 {
     let nothing = nothing_told(alloc, feed.stop_count(), rows.key())?;
-    let told = tell(nothing, feed, rows)?;
+    let told = told_of(alloc, nothing, feed, rows)?;
     let links = links_of(alloc, told.walks.as_slice())?;
     Ok(Changes {
         seconds: told.seconds,

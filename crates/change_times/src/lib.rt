@@ -4,6 +4,7 @@
 mod changes;
 mod forms;
 mod links;
+mod stops;
 mod transfers;
 
 pub use changes::Changes;

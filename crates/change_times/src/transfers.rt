@@ -9,9 +9,9 @@ ghost use Rattle.csv_rows.specs.Tables.{row_count};
 ghost use Rattle.change_times.specs.Transfers.{place_named_by, transfer_between, transfer_columns, timed_transfer_in, is_general_in, transfer_in};
 
 use crate::forms::read_is_timed;
+use crate::stops::FeedStops;
 use clock_text::read_optional_seconds;
 use csv_rows::{Column, FeedFault, Rows, Table, read_name};
-use gtfs_tables::Feed;
 use plan_model::PlaceId;
 
 /// A transfer between two places, which may be one, and the seconds that it takes at least.
@@ -52,7 +52,12 @@ pub(crate) fn transfer_columns(rows: &Rows) -> TransferColumns
 }
 
 /// The place of the stop that a field of this line names.
-fn read_place(feed: &Feed, text: &[u8], line: u64, column: Column) -> Result<PlaceId, FeedFault>
+fn read_place(
+    feed: &FeedStops<'_>,
+    text: &[u8],
+    line: u64,
+    column: Column,
+) -> Result<PlaceId, FeedFault>
     ensures place { IfOk result (λ p. place_named_by feed.now line column text.now ≡ Ok p.0) }
     ensures in_range { IfOk result (λ p. p.0 < length feed.now.stop_ids) }
     ensures fault { IfErr result (λ f. place_named_by feed.now line column text.now ≡ Err f) }
@@ -84,7 +89,7 @@ fn transfer_between(from: PlaceId, to: PlaceId, seconds: Option<u32>) -> Option<
 
 /// The transfer of a row of type 2 for all routes and trips, or the first of its faults.
 fn read_timed(
-    feed: &Feed,
+    feed: &FeedStops<'_>,
     rows: &Rows,
     columns: TransferColumns,
     row: usize,
@@ -122,7 +127,7 @@ fn is_general(rows: &Rows, columns: TransferColumns, row: usize) -> bool
 /// The transfer of a row, or the first of its faults. A row of another type than 2, or for some routes or trips, has none, and
 /// its other fields are not looked at.
 pub(crate) fn read_transfer(
-    feed: &Feed,
+    feed: &FeedStops<'_>,
     rows: &Rows,
     columns: TransferColumns,
     row: usize,
