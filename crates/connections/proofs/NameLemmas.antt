@@ -1,5 +1,5 @@
 -- The names of runs: no two runs have one name, and none begins or ends with a space.
-use Rattle.std.proofs.Common.{◌≡◌, ◌≢◌, ℕ, zero, suc, ◌+◌, ◌-◌, ◌<◌, Bool, true, false, List, [], ◌∷◌, ◌++◌, length, take, drop, get_or, slice_index_or, Some, None, Option, ℤ, All}
+use Rattle.std.proofs.Common.{Contains, ◌≡◌, ◌≢◌, ℕ, zero, suc, ◌+◌, ◌-◌, ◌<◌, true, false, List, [], ◌∷◌, ◌++◌, length, take, drop, get_or, slice_index_or, Some, None, Option, ℤ, All}
 use Rattle.std.proofs.Common.{decimal, append_assoc, ◌^◌, refl, sym, ap, ap₂, ◌∙◌, subst, arith, below_more, length-append}
 use Rattle.std.specs.List.{list_all}
 use Rattle.std.specs.Char.{is_ascii_digit}
@@ -12,7 +12,7 @@ use Rattle.std.specs.Int.{IsInRange}
 use Rattle.std.proofs.lemmas.Fmt.{decimal_is_IsNumeral, decimal_injective}
 use Rattle.std.proofs.lemmas.Str.Parse.{digit_from_value}
 use Rattle.clock_text.specs.Times.{date_at}
-use Rattle.plan_model.specs.NameLists.{Adds, IsTrimmed}
+use Rattle.plan_model.specs.NameLists.{IsTrimmed}
 use Rattle.gtfs_tables.specs.Feeds.{FeedParts}
 use Rattle.csv_rows.specs.Ids.{AreIds}
 use Rattle.connections.specs.declared.repeats.Repeat.{Repeat}
@@ -93,22 +93,26 @@ name_at : (f : FeedParts) (rs : List Run) (n : ℕ) (names : List (List ℕ)) �
 name_at f rs n names a k d h = subst (IsRunName f (run_at rs k)) (get_or_default names k [] d (omega (arith, a.size))) (a.each k h)
 
 -- the name of one more run
-pub run_adds : (f : FeedParts) (rs : List Run) (r : ℕ) (old new : List (List ℕ)) (name : List ℕ) (added : Bool) → AreIds f.trip_ids → AreRunsOf f rs
-    → ((k : ℕ) → k < r + 1 → IsSmallRepeat (run_at rs k).repeat) → r < length rs
-    → AreRunNames f rs r old → IsRunName f (run_at rs r) name → Adds old new name added → AreRunNames f rs (r + 1) new
-run_adds f rs r old new name true ids runs small inside a h k =
-    subst (AreRunNames f rs (r + 1)) (sym k.0) (record {
+pub run_pushes : (f : FeedParts) (rs : List Run) (r : ℕ) (old new : List (List ℕ)) (name : List ℕ) → AreRunNames f rs r old → IsRunName f (run_at rs r) name
+    → new ≡ old ++ name ∷ [] → AreRunNames f rs (r + 1) new
+run_pushes f rs r old new name a h last =
+    subst (AreRunNames f rs (r + 1)) (sym last) (record {
       size = omega (arith, a.size, length-append old (name ∷ []));
       each = below_more (λ i. IsRunName f (run_at rs i) (get_or (old ++ name ∷ []) i [])) r
           (λ i less. subst (IsRunName f (run_at rs i)) (sym (get_or_append_left old (name ∷ []) [] i (omega (arith, a.size)))) (a.each i less))
           (subst (IsRunName f (run_at rs r)) (sym (get_or_push old name [] r a.size)) h);
     })
-run_adds f rs r old new name false ids runs small inside a h k =
-    let i = k.1.0 in
-    let less : i < r = omega (arith, k.1.1, a.size) in
-    let here = subst (IsRunName f (run_at rs i)) k.1.2 (name_at f rs r old a i name less) in
+
+-- and it is new
+pub run_new : (f : FeedParts) (rs : List Run) (r : ℕ) (names : List (List ℕ)) (name : List ℕ) → AreIds f.trip_ids → AreRunsOf f rs
+    → ((k : ℕ) → k < r + 1 → IsSmallRepeat (run_at rs k).repeat) → r < length rs
+    → AreRunNames f rs r names → IsRunName f (run_at rs r) name → ¬ Contains names name
+run_new f rs r names name ids runs small inside a h there =
+    let i = there.0 in
+    let less : i < r = omega (arith, there.1, a.size) in
+    let here = subst (IsRunName f (run_at rs i)) there.2 (name_at f rs r names a i name less) in
     let same = one_run f ids (run_at rs i) (run_at rs r) name (runs.each i (omega arith)) (runs.each r inside) (small i (omega arith)) (small r (omega arith)) here h in
-    absurd (runs.apart i r less inside same.0 same.1 same.2)
+    runs.apart i r less inside same.0 same.1 same.2
 
 digit_from : (c : ℕ) → is_ascii_digit c ≡ true → c ≡ 32 → ⊥
 digit_from c h e = grind (arith, nat_tests)

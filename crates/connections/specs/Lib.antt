@@ -2,10 +2,12 @@ pub mod Joins
 pub mod Window
 pub mod Origins
 pub mod Rides
+pub mod TripDays
 pub mod RepeatedRuns
 pub mod TripRuns
 pub mod FeedRuns
 pub mod Counts
 pub mod FeedNetworks
+pub mod RouteNumbers
 pub mod Faults
 pub mod Cut

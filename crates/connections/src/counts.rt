@@ -9,11 +9,11 @@ ghost use Rattle.connections.specs.Counts.{each_of, steps_sum, leaving_sum, row_
 use crate::origins::{Origin, ServiceDay};
 use crate::repeats::leaving;
 use crate::runs::{frequencies_of, has_service, leaves, may_run, rows_of};
+use crate::trip_days::TripDays;
 use crate::window::{DAYS, Window};
 use change_times::Changes;
 use gtfs_tables::{Feed, FrequencyRow, StopRow};
 use plan_model::PlaceId;
-use service_days::Services;
 
 /// What is counted: connections, or entries, which are the pairs of a connection and a way into the place that it leaves.
 #[derive(Clone, Copy)]
@@ -166,19 +166,20 @@ fn sum_runs(
 /// What the connections of a trip count for on a day.
 fn sum_trip(
     feed: &Feed,
-    services: &Services,
+    services: &TripDays<'_>,
     changes: &Changes,
     counted: Counted,
     trip: u32,
     day: ServiceDay,
     window: Window,
 ) -> u64
+    requires same { services.now.feed ≡ feed.now }
     requires window { IsWindow window }
     requires trip { trip < length feed.now.trip_ids }
     requires timed { IsTimed feed.now }
     requires repeats { AreRepeating feed.now }
     ensures { result ≡ min
-        (trip_sum (each_of changes.now counted) feed.now services.now window day trip) (2 ^ 64 - 1) }
+        (trip_sum (each_of changes.now counted) feed.now services.now.services window day trip) (2 ^ 64 - 1) }
 {
     let rows = rows_of(feed, trip);
     let frequencies = frequencies_of(feed, trip);
@@ -192,14 +193,15 @@ fn sum_trip(
 #[tactic(auto, using(crate::proofs::CountLemmas::sum_steps), unfolding(crate::specs::Counts::day_sum))]
 fn sum_day(
     feed: &Feed,
-    services: &Services,
+    services: &TripDays<'_>,
     changes: &Changes,
     counted: Counted,
     day: ServiceDay,
     window: Window,
 ) -> u64
-    requires { IsWindow window }
-    ensures { result ≡ min (day_sum (each_of changes.now counted) feed.now services.now window day
+    requires same { services.now.feed ≡ feed.now }
+    requires window { IsWindow window }
+    ensures { result ≡ min (day_sum (each_of changes.now counted) feed.now services.now.services window day
         (length feed.now.trip_ids)) (2 ^ 64 - 1) }
 {
     let mut sum = 0u64;
@@ -213,13 +215,14 @@ fn sum_day(
 #[tactic(auto, using(crate::proofs::CountLemmas::sum_steps), unfolding(crate::specs::Counts::days_sum))]
 pub(crate) fn sum_window(
     feed: &Feed,
-    services: &Services,
+    services: &TripDays<'_>,
     changes: &Changes,
     counted: Counted,
     window: Window,
 ) -> u64
-    requires { IsWindow window }
-    ensures { result ≡ min (window_sum (each_of changes.now counted) feed.now services.now window)
+    requires same { services.now.feed ≡ feed.now }
+    requires window { IsWindow window }
+    ensures { result ≡ min (window_sum (each_of changes.now counted) feed.now services.now.services window)
         (2 ^ 64 - 1) }
 {
     let mut sum = 0u64;

@@ -19,6 +19,7 @@ use crate::counts::{Counted, sum_window};
 use crate::names::names_of;
 use crate::rides::connections_of;
 use crate::runs::{Run, runs_of};
+use crate::trip_days::TripDays;
 use crate::window::Window;
 use change_times::Changes;
 use csv_rows::Limits;
@@ -76,19 +77,26 @@ fn network_of_runs(
 }
 
 /// How many connections a window has.
-fn connections_within(feed: &Feed, services: &Services, changes: &Changes, window: Window) -> u64
-    requires { IsWindow window }
-    ensures { result ≡ count_in feed.now services.now window }
+fn connections_within(
+    feed: &Feed,
+    services: &TripDays<'_>,
+    changes: &Changes,
+    window: Window,
+) -> u64
+    requires same { services.now.feed ≡ feed.now }
+    requires window { IsWindow window }
+    ensures { result ≡ count_in feed.now services.now.services window }
 {
     let _trips = feed.trip_count();
     sum_window(feed, services, changes, Counted::Connections, window)
 }
 
 /// How many entries a window has, of no more than the most connections.
-fn entries_within(feed: &Feed, services: &Services, changes: &Changes, window: Window) -> u64
+fn entries_within(feed: &Feed, services: &TripDays<'_>, changes: &Changes, window: Window) -> u64
+    requires same { services.now.feed ≡ feed.now }
     requires window { IsWindow window }
-    requires few { count_in feed.now services.now window ≤ most_connections }
-    ensures { result ≡ entries_in feed.now services.now changes.now window }
+    requires few { count_in feed.now services.now.services window ≤ most_connections }
+    ensures { result ≡ entries_in feed.now services.now.services changes.now window }
 {
     let _link = changes.links_into(PlaceId(0));
     sum_window(feed, services, changes, Counted::Entries, window)
@@ -97,15 +105,16 @@ fn entries_within(feed: &Feed, services: &Services, changes: &Changes, window: W
 /// How many connections a window has, or its first fault.
 fn count_within(
     feed: &Feed,
-    services: &Services,
+    services: &TripDays<'_>,
     changes: &Changes,
     window: Window,
     limits: &Limits,
 ) -> Result<u64, WindowFault>
+    requires same { services.now.feed ≡ feed.now }
     requires window { IsWindow window }
     requires limits { AreWithin limits.now }
-    ensures { result_err result ≡ window_fault limits.now (count_in feed.now services.now window)
-        (entries_in feed.now services.now changes.now window) }
+    ensures { result_err result ≡ window_fault limits.now (count_in feed.now services.now.services window)
+        (entries_in feed.now services.now.services changes.now window) }
 {
     let count = connections_within(feed, services, changes, window);
     if limits.connections < count {
@@ -150,21 +159,22 @@ fn links_of(alloc: Global, changes: &Changes, places: u32) -> Result<List<List<W
 fn network_of(
     alloc: Global,
     feed: &Feed,
-    services: &Services,
+    services: &TripDays<'_>,
     changes: &Changes,
     delays: &DelayTable,
     window: Window,
     room: u64,
 ) -> Result<(Network, Names), NoMemory>
+    requires same { services.now.feed ≡ feed.now }
     requires window { IsWindow window }
-    requires few { count_in feed.now services.now window ≤ most_connections }
+    requires few { count_in feed.now services.now.services window ≤ most_connections }
     requires links { LinksComeFrom (length feed.now.stop_ids) changes.now }
-    ensures network { IfOk result (λ r. IsNetworkOf feed.now services.now
+    ensures network { IfOk result (λ r. IsNetworkOf feed.now services.now.services
         (list_below (seconds_of changes.now) (length feed.now.stop_ids))
         (list_below (links_of changes.now) (length feed.now.stop_ids)) delays.now window r.0 r.1) }
     ensures fit { IfOk result (λ r. NamesFit r.1 r.0) }
     ensures count { IfOk result (λ r. length r.0.connections
-        ≡ count_in feed.now services.now window) }
+        ≡ count_in feed.now services.now.services window) }
 {
     let _trips = feed.trip_count();
     let _link = changes.links_into(PlaceId(0));
@@ -181,6 +191,41 @@ fn network_of(
         room,
     )?;
     Ok((network.with_links(links), names))
+}
+
+/// The network of a feed whose services are found, or its fault, as `cut` tells them.
+fn network_within(
+    alloc: Global,
+    feed: &Feed,
+    services: &TripDays<'_>,
+    changes: &Changes,
+    delays: &DelayTable,
+    start: Moment,
+    horizon: u32,
+    limits: &Limits,
+) -> Result<(Network, Names), WindowFault>
+    requires same { services.now.feed ≡ feed.now }
+    requires early { 604_800 ≤ start.0 }
+    requires late { start.0 < 13_569_465_600 }
+    requires horizon { horizon ≤ 72 }
+    requires limits { AreWithin limits.now }
+    requires links { LinksComeFrom (length feed.now.stop_ids) changes.now }
+    ensures network { IfOk result (λ r. IsNetworkFrom feed.now services.now.services changes.now delays.now
+        start.0 horizon r.0 r.1) }
+    ensures fit { IfOk result (λ r. NamesFit r.1 r.0) }
+    ensures count { IfOk result (λ r. length r.0.connections
+        ≡ connection_count feed.now services.now.services start.0 horizon) }
+    ensures none { OnOk result
+        (fault_from limits.now feed.now services.now.services changes.now start.0 horizon ≡ None) }
+    ensures fault { IfErr result (λ f. f ≢ WindowFault.NoMemory
+        → fault_from limits.now feed.now services.now.services changes.now start.0 horizon ≡ Some f) }
+{
+    let window = Window::new(start.0, horizon);
+    let count = count_within(feed, services, changes, window, limits)?;
+    match network_of(alloc, feed, services, changes, delays, window, count) {
+        Ok(parts) => Ok(parts),
+        Err(_) => Err(WindowFault::NoMemory),
+    }
 }
 
 /// The network of the connections of a feed that depart from the start to so many hours later, both ends included, over
@@ -221,10 +266,10 @@ pub fn cut(
     ensures fault { IfErr result (λ f. f ≢ WindowFault.NoMemory
         → fault_from limits.now feed.now services.now changes.now start.0 horizon ≡ Some f) }
 {
-    let window = Window::new(start.0, horizon);
-    let count = count_within(feed, services, changes, window, limits)?;
-    match network_of(alloc, feed, services, changes, delays, window, count) {
-        Ok(parts) => Ok(parts),
+    match TripDays::of(alloc, feed, services) {
+        Ok(services) => network_within(
+            alloc, feed, &services, changes, delays, start, horizon, limits,
+        ),
         Err(_) => Err(WindowFault::NoMemory),
     }
 }

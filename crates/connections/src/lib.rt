@@ -8,6 +8,7 @@ mod origins;
 mod repeats;
 mod rides;
 mod runs;
+mod trip_days;
 mod window;
 
 pub use cuts::{WindowFault, cut};

@@ -58,7 +58,7 @@ fn add_places(names: &mut Names, feed: &Feed) -> Result<(), NoMemory>
     ensures runs { names.new.runs ≡ names.old.runs }
 {
     for stop in 0..feed.stop_count() {
-        names.add_place(feed.stop_id(stop))?;
+        names.push_place(feed.stop_id(stop))?;
     }
     Ok(())
 }
@@ -74,7 +74,7 @@ fn add_runs(alloc: Global, names: &mut Names, feed: &Feed, runs: &[Run]) -> Resu
 {
     for r in 0..runs.len() {
         let name = run_name(alloc, feed, runs[r])?;
-        names.add_run(name.as_str())?;
+        names.push_run(name.as_str())?;
     }
     Ok(())
 }

@@ -1,11 +1,11 @@
 //! The connections of a window.
-ghost use Rattle.std.specs.Prelude.{◌≡◌, ◌+◌, ◌≤◌, ◌<◌, ◌++◌, ℕ, length, map, Some, OnOk, IfOk};
+ghost use Rattle.std.specs.Prelude.{◌≡◌, ◌+◌, ◌≤◌, ◌<◌, ◌++◌, ℕ, length, map, unsigned_abs, OnOk, IfOk, IfSome};
 ghost use Rattle.plan_model.specs.Bounds.{end_of_steps, most_connections};
 ghost use Rattle.connections.specs.Rides.{steps_of};
-ghost use Rattle.delay_table.specs.DelayLists.{class_for};
 ghost use Rattle.gtfs_tables.specs.Timed.{IsTimed};
 ghost use Rattle.connections.specs.FeedRuns.{AreRunsOf};
-ghost use Rattle.connections.specs.FeedNetworks.{ride, rides_below};
+ghost use Rattle.connections.specs.RouteNumbers.{route_numbers, IsRouteOf, IsClassOfHour};
+ghost use Rattle.connections.specs.FeedNetworks.{arrives, class_of_trip, ride, rides_below};
 
 use crate::origins::Origin;
 use crate::runs::{Run, leaves};
@@ -14,44 +14,107 @@ use delay_table::{ClassName, DelayTable};
 use gtfs_tables::{Feed, StopRow};
 use plan_model::{ClassId, Connection, List, Moment, NoMemory, RunId};
 use std::alloc::Global;
+use text_index::TextIndex;
 
-/// A run by its origin and its number, its route type and the id of its route.
+/// A run by its origin, its number and its trip, and the number of its route among those that the delays name.
 #[derive(Clone, Copy)]
-struct Numbered<'a> {
+struct Numbered {
     origin: Origin,
     number: u32,
-    route_type: u16,
-    route: &'a str,
+    trip: u32,
+    route: Option<u32>,
+}
+
+/// The class of the connections of a run that arrive in an hour of the day.
+#[derive(Clone, Copy)]
+struct HourClass {
+    hour: u64,
+    class: u16,
+}
+
+/// The seconds of an hour.
+const SECONDS_PER_HOUR: u64 = 3_600;
+
+/// The hours of a day.
+const HOURS_PER_DAY: u64 = 24;
+
+/// The number of each route of a feed among those that the delays name, where it is one of them.
+#[tactic(auto, using(crate::proofs::JoinLemmas::list_steps))]
+fn route_numbers(
+    alloc: Global,
+    feed: &Feed,
+    delays: &DelayTable,
+) -> Result<Vec<Option<u32>>, NoMemory>
+    ensures { IfOk result (λ numbers. numbers.items ≡ route_numbers feed.now delays.now) }
+{
+    let index = TextIndex::of(alloc, feed.hash_key(), delays.routes())?;
+    let routes = feed.routes();
+    let mut numbers: Vec<Option<u32>> = Vec::new(alloc);
+    for route in 0..routes.len() {
+        numbers.push(index.number(routes.get(route)))?;
+    }
+    Ok(numbers)
 }
 
 /// The number of the class of a connection of a run, by its arrival.
-fn class_of(delays: &DelayTable, run: &Numbered<'_>, arrival: u64) -> u16
-    ensures { result ≡ class_for delays.now (Some run.now.route_type)
-        (Some run.now.route.now) arrival }
+fn class_of(feed: &Feed, delays: &DelayTable, run: &Numbered, arrival: u64) -> u16
+    requires inside { run.now.trip < length feed.now.trip_ids }
+    requires route { IsRouteOf feed.now delays.now run.now.trip run.now.route }
+    ensures { result ≡ class_of_trip feed.now delays.now run.now.trip arrival }
 {
-    let class = ClassName::Route(run.route_type);
-    delays.class_for(class, Some(run.route), Moment(arrival)).0
+    let class = ClassName::Route(feed.route_type(run.trip));
+    delays.class_at(class, run.route, Moment(arrival)).0
 }
 
-/// The ride from one kept row to the next, where it departs in a window, whose moments are not before 1970.
-fn ride(rows: &[StopRow], step: usize, run: &Numbered<'_>, delays: &DelayTable) -> Connection
+/// The same with the hour of the arrival, by the class of an hour that is known.
+fn class_in_hour(
+    feed: &Feed,
+    delays: &DelayTable,
+    run: &Numbered,
+    arrival: u64,
+    known: Option<HourClass>,
+) -> HourClass
+    requires inside { run.now.trip < length feed.now.trip_ids }
+    requires route { IsRouteOf feed.now delays.now run.now.trip run.now.route }
+    requires known { IfSome known (IsClassOfHour feed.now delays.now run.now.trip) }
+    ensures class { result.class ≡ class_of_trip feed.now delays.now run.now.trip arrival }
+    ensures hour { IsClassOfHour feed.now delays.now run.now.trip result }
+{
+    let hour = arrival / SECONDS_PER_HOUR % HOURS_PER_DAY;
+    if let Some(known) = known {
+        if known.hour == hour {
+            return known;
+        }
+    }
+    let class = class_of(feed, delays, run, arrival);
+    HourClass { hour, class }
+}
+
+/// When the ride from one kept row to the next arrives, where it departs in a window, whose moments are not before 1970.
+fn arrival_of(rows: &[StopRow], step: usize, origin: Origin) -> u64
+    requires { step + 1 < length rows.now }
+    ensures { result ≡ unsigned_abs (arrives rows.now origin step) }
+{
+    origin.plus(rows[step + 1].arrival).unsigned_abs()
+}
+
+/// The ride from one kept row to the next, where it departs in a window, whose moments are not before 1970, with its class.
+fn ride(rows: &[StopRow], step: usize, run: &Numbered, class: u16) -> Connection
     requires inside { step + 1 < length rows.now }
     requires few { step ≤ end_of_steps }
-    ensures { result ≡ ride rows.now run.now.origin run.now.number
-        (class_for delays.now (Some run.now.route_type) (Some run.now.route.now)) step }
+    ensures { (class_by : ℕ → ℕ) → class ≡ class_by (unsigned_abs (arrives rows.now run.now.origin step))
+        → result ≡ ride rows.now run.now.origin run.now.number class_by step }
 {
     let from = rows[step];
     let to = rows[step + 1];
-    let departure = run.origin.plus(from.departure).unsigned_abs();
-    let arrival = run.origin.plus(to.arrival).unsigned_abs();
     Connection {
         from: from.place,
         to: to.place,
-        dep: Moment(departure),
-        arr: Moment(arrival),
+        dep: Moment(run.origin.plus(from.departure).unsigned_abs()),
+        arr: Moment(arrival_of(rows, step, run.origin)),
         run: RunId(run.number),
         step: step as u32,
-        class: ClassId(class_of(delays, run, arrival)),
+        class: ClassId(class),
         can_board: from.can_board,
         can_exit: to.can_exit,
     }
@@ -61,20 +124,26 @@ fn ride(rows: &[StopRow], step: usize, run: &Numbered<'_>, delays: &DelayTable) 
 #[tactic(auto, using(crate::proofs::StepLemmas::map_steps))]
 fn add_rides(
     connections: &mut Vec<Connection>,
-    rows: &[StopRow],
-    run: &Numbered<'_>,
+    feed: &Feed,
     delays: &DelayTable,
+    rows: &[StopRow],
+    run: &Numbered,
     window: Window,
 ) -> Result<(), NoMemory>
-    requires { length rows.now ≤ end_of_steps }
+    requires trip { run.now.trip < length feed.now.trip_ids }
+    requires route { IsRouteOf feed.now delays.now run.now.trip run.now.route }
+    requires few { length rows.now ≤ end_of_steps }
     ensures { OnOk result (connections.new.items
         ≡ connections.old.items ++ map (ride rows.now run.now.origin run.now.number
-        (class_for delays.now (Some run.now.route_type) (Some run.now.route.now)))
-        (steps_of window rows.now run.now.origin)) }
+        (class_of_trip feed.now delays.now run.now.trip)) (steps_of window rows.now run.now.origin)) }
 {
+    let mut known: Option<HourClass> = None;
     for k in 0..rows.len().saturating_sub(1) {
         if leaves(rows, k, run.origin, window) {
-            connections.push(ride(rows, k, run, delays))?;
+            let arrival = arrival_of(rows, k, run.origin);
+            let class = class_in_hour(feed, delays, run, arrival, known);
+            connections.push(ride(rows, k, run, class.class))?;
+            known = Some(class);
         }
     }
     Ok(())
@@ -96,20 +165,22 @@ pub(crate) fn connections_of(
     ensures { IfOk result (λ connections.
         connections ≡ rides_below feed.now delays.now window runs.now (length runs.now)) }
 {
+    let routes = route_numbers(alloc, feed, delays)?;
     let mut connections: Vec<Connection> = Vec::with_capacity(alloc, room as usize)?;
     for r in 0..runs.len() {
         let run = runs[r];
         let numbered = Numbered {
             origin: run.origin,
             number: r as u32,
-            route_type: feed.route_type(run.trip),
-            route: feed.route_id(run.trip),
+            trip: run.trip,
+            route: routes[feed.route(run.trip) as usize],
         };
         add_rides(
             &mut connections,
+            feed,
+            delays,
             feed.stop_times(run.trip),
             &numbered,
-            delays,
             window,
         )?;
     }

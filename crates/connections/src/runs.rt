@@ -11,10 +11,10 @@ ghost use Rattle.connections.specs.TripRuns.{frequencies_of, own_run, repeat_run
 
 use crate::origins::{Origin, ServiceDay};
 use crate::repeats::{Repeat, origin_at, repeats_of};
+use crate::trip_days::TripDays;
 use crate::window::{DAYS, Window};
 use gtfs_tables::{Feed, FrequencyRow, StopRow};
 use plan_model::NoMemory;
-use service_days::Services;
 use std::alloc::Global;
 
 /// Each time of a service day is before this second of it.
@@ -93,11 +93,12 @@ fn rides(rows: &[StopRow], origin: Origin, window: Window) -> bool
 }
 
 /// Whether the service of a trip is active on a day.
-pub(crate) fn has_service(feed: &Feed, services: &Services, trip: u32, day: ServiceDay) -> bool
-    requires { trip < length feed.now.trip_ids }
-    ensures { result ≡ is_active_trip feed.now services.now day trip }
+pub(crate) fn has_service(feed: &Feed, services: &TripDays<'_>, trip: u32, day: ServiceDay) -> bool
+    requires same { services.now.feed ≡ feed.now }
+    requires inside { trip < length feed.now.trip_ids }
+    ensures { result ≡ is_active_trip feed.now services.now.services day trip }
 {
-    services.runs_on(feed.service_of(trip), day.number)
+    services.is_active(trip, day)
 }
 
 /// The kept rows of a trip.
@@ -195,17 +196,18 @@ fn add_active(
     alloc: Global,
     runs: &mut Vec<Run>,
     feed: &Feed,
-    services: &Services,
+    services: &TripDays<'_>,
     trip: u32,
     day: ServiceDay,
     window: Window,
 ) -> Result<(), NoMemory>
+    requires same { services.now.feed ≡ feed.now }
     requires window { IsWindow window }
     requires trip { trip < length feed.now.trip_ids }
     requires timed { IsTimed feed.now }
     requires repeats { AreRepeating feed.now }
     ensures { OnOk result (runs.new.items
-        ≡ runs.old.items ++ trip_runs feed.now services.now window day trip) }
+        ≡ runs.old.items ++ trip_runs feed.now services.now.services window day trip) }
 {
     let rows = rows_of(feed, trip);
     let frequencies = frequencies_of(feed, trip);
@@ -221,13 +223,14 @@ fn add_day(
     alloc: Global,
     runs: &mut Vec<Run>,
     feed: &Feed,
-    services: &Services,
+    services: &TripDays<'_>,
     day: ServiceDay,
     window: Window,
 ) -> Result<(), NoMemory>
-    requires { IsWindow window }
+    requires same { services.now.feed ≡ feed.now }
+    requires window { IsWindow window }
     ensures { OnOk result (runs.new.items
-        ≡ runs.old.items ++ day_runs feed.now services.now window day (length feed.now.trip_ids)) }
+        ≡ runs.old.items ++ day_runs feed.now services.now.services window day (length feed.now.trip_ids)) }
 {
     for trip in 0..feed.trip_count() {
         add_active(alloc, runs, feed, services, trip, day, window)?;
@@ -241,11 +244,12 @@ fn add_day(
 pub(crate) fn runs_of(
     alloc: Global,
     feed: &Feed,
-    services: &Services,
+    services: &TripDays<'_>,
     window: Window,
 ) -> Result<Vec<Run>, NoMemory>
-    requires { IsWindow window }
-    ensures { IfOk result (λ runs. runs.items ≡ window_runs feed.now services.now window) }
+    requires same { services.now.feed ≡ feed.now }
+    requires window { IsWindow window }
+    ensures { IfOk result (λ runs. runs.items ≡ window_runs feed.now services.now.services window) }
 {
     let mut runs: Vec<Run> = Vec::new(alloc);
     for d in 0..DAYS {

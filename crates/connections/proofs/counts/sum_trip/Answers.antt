@@ -10,7 +10,7 @@ use Rattle.connections.proofs.counts.sum_trip.Goals as goal
 
 pub returns : goal.returns
 returns c =
-    active-sum (is_active_trip c.args.feed.now c.args.services.now c.args.day c.args.trip)
+    active-sum (is_active_trip c.args.feed.now c.args.services.now.services c.args.day c.args.trip)
     (runs_sum (each_of c.args.changes.now c.args.counted) c.args.window (rows_of c.args.feed.now c.args.trip) (frequencies_of c.args.feed.now c.args.trip) c.args.day)
     c.sum_runs.result (sym c.has_service.ensures ∙ c.if-not-has_service.false)
     (c.sum_runs.ensures ∙ ap₂ (λ (rows : List StopRow) (fs : List FrequencyRow). min

@@ -10,17 +10,17 @@ use Rattle.connections.proofs.cuts.network_of.Goals as goal
 
 pub network_of_runs-requires-clause-runs : goal.network_of_runs-requires-clause-runs
 network_of_runs-requires-clause-runs c =
-    (runs_are c.args.feed.now c.args.services.now c.args.window c.trip_count-trips.ensures.repeats c.requires.window c.as_slice.result.now
+    (runs_are c.args.feed.now c.args.services.now.services c.args.window c.trip_count-trips.ensures.repeats c.requires.window c.as_slice.result.now
     (c.as_slice.ensures.value ∙ c.in_ok-runs.ensures)).0
 
 pub network_of_runs-requires-clause-rides : goal.network_of_runs-requires-clause-rides
 network_of_runs-requires-clause-rides c =
-    (runs_are c.args.feed.now c.args.services.now c.args.window c.trip_count-trips.ensures.repeats c.requires.window c.as_slice.result.now
+    (runs_are c.args.feed.now c.args.services.now.services c.args.window c.trip_count-trips.ensures.repeats c.requires.window c.as_slice.result.now
     (c.as_slice.ensures.value ∙ c.in_ok-runs.ensures)).1
 
 pub network_of_runs-requires-clause-few : goal.network_of_runs-requires-clause-few
 network_of_runs-requires-clause-few c =
-    let size = rides_counted c.args.feed.now c.args.services.now c.args.delays.now c.args.window c.as_slice.result.now (c.as_slice.ensures.value ∙ c.in_ok-runs.ensures) in
+    let size = rides_counted c.args.feed.now c.args.services.now.services c.args.delays.now c.args.window c.as_slice.result.now (c.as_slice.ensures.value ∙ c.in_ok-runs.ensures) in
     omega (arith, size, c.requires.few)
 
 pub with_links-requires-clause-each : goal.with_links-requires-clause-each
@@ -35,7 +35,7 @@ with_links-requires-clause-each c =
 pub returns-clause-count : goal.returns-clause-count
 returns-clause-count c =
     ap length (c.with_links.ensures.connections ∙ c.in_ok-network.ensures.connections)
-    ∙ rides_counted c.args.feed.now c.args.services.now c.args.delays.now c.args.window c.as_slice.result.now (c.as_slice.ensures.value ∙ c.in_ok-runs.ensures)
+    ∙ rides_counted c.args.feed.now c.args.services.now.services c.args.delays.now c.args.window c.as_slice.result.now (c.as_slice.ensures.value ∙ c.in_ok-runs.ensures)
 
 pub returns-clause-fit : goal.returns-clause-fit
 returns-clause-fit c =

@@ -1,13 +1,21 @@
-use Rattle.std.proofs.Common.{arith, sym, ◌∙◌, []}
-use Rattle.std.proofs.lemmas.Option.{get_or_from_slice_get}
-use Rattle.plan_model.proofs.Texts.{take-adds}
+use Rattle.std.proofs.Common.{sym, subst, ◌∙◌, [], ap, take, List, ℕ, Contains, ◌++◌, ◌∷◌}
+use Rattle.std.proofs.lemmas.List.{take_more}
+use Rattle.csv_rows.proofs.IdLemmas.{got}
+use Rattle.text_index.proofs.KeyLemmas.{new_after_those_before}
 use Rattle.connections.proofs.names.add_places.Goals as goal
+
+pub push_place-requires-clause-absent : goal.push_place-requires-clause-absent
+push_place-requires-clause-absent c =
+    let ids = c.args.feed.now.stop_ids in
+    let w = got ids c.loop-stop.stop c.stop_id.result.now [] c.stop_id.ensures in
+    subst (λ (xs : List (List ℕ)). ¬ Contains xs c.stop_id.result.now) (sym c.loop-stop.invariant.0)
+    (subst (λ (x : List ℕ). ¬ Contains (take c.loop-stop.stop ids) x) w.1 (new_after_those_before ids c.loop-stop.stop c.requires.ids.names.distinct w.0))
 
 pub loop-stop-preserved : goal.loop-stop-preserved
 loop-stop-preserved c =
-    let ids = c.args.feed.now.stop_ids in (
-      take-adds ids c.loop-stop.names.places c.add_place.new.self.places c.loop-stop.stop c.stop_id.result.now c.in_ok-add_place.field-0 c.requires.ids.names.distinct
-          (omega (arith, c.stop_count-stop-end.ensures.count, c.loop-stop-test.true)) c.loop-stop.invariant.0
-          (sym (get_or_from_slice_get ids c.loop-stop.stop c.stop_id.result.now [] c.stop_id.ensures)) c.in_ok-add_place.ensures.added,
-      c.add_place.ensures.runs ∙ c.loop-stop.invariant.1,
+    let ids = c.args.feed.now.stop_ids in
+    let w = got ids c.loop-stop.stop c.stop_id.result.now [] c.stop_id.ensures in (
+      c.in_ok-push_place.ensures.ok ∙ ap (λ xs. xs ++ c.stop_id.result.now ∷ []) c.loop-stop.invariant.0
+          ∙ ap (λ (x : List ℕ). take c.loop-stop.stop ids ++ x ∷ []) (sym w.1) ∙ sym (take_more ids c.loop-stop.stop [] w.0),
+      c.push_place.ensures.runs ∙ c.loop-stop.invariant.1,
     )

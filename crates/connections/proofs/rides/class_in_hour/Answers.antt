@@ -1,0 +1,10 @@
+use Rattle.std.proofs.Common.{Some, slice_index, sym, ◌∙◌}
+use Rattle.delay_table.proofs.RouteFacts.{same-hour}
+use Rattle.connections.specs.FeedNetworks.{route_of}
+use Rattle.connections.proofs.rides.class_in_hour.Goals as goal
+
+pub returns-clause-hour : goal.returns-clause-hour
+returns-clause-hour c = λ arr same.
+    c.class_of-class.ensures
+    ∙ same-hour c.args.delays.now (Some (slice_index c.args.feed.now.route_types c.args.run.now.trip)) (Some (route_of c.args.feed.now c.args.run.now.trip))
+    c.args.arrival arr (sym same)
