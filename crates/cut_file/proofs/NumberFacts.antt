@@ -1,17 +1,30 @@
 -- Names that are numbered as they come.
 use Rattle.std.proofs.Common.{◌≡◌, ℕ, zero, suc, ◌+◌, ◌≤◌, Bool, true, false, List, [], ◌∷◌, ◌++◌, length, get_or, slice_get, Option, Some, None, is_some}
-use Rattle.std.proofs.Common.{if◌then◌else◌, refl, ◌∙◌, arith, Contains, length-append, bytes_eq}
+use Rattle.std.proofs.Common.{if◌then◌else◌, refl, sym, ap, ◌∙◌, subst, take, arith, Contains, length-append, bytes_eq}
 use Rattle.std.proofs.lemmas.Bool.{cases_Bool}
-use Rattle.std.proofs.lemmas.List.{get_or_default}
+use Rattle.std.proofs.lemmas.List.{get_or_default, take_more}
 use Rattle.std.proofs.lemmas.Option.{none-some, slice_get_within, get_or_from_slice_get}
-use Rattle.plan_model.specs.NameLists.{Adds}
+use Rattle.plan_model.specs.NameLists.{Adds, AreDistinct}
+use Rattle.text_index.proofs.KeyLemmas.{new_after_those_before}
 use Rattle.csv_rows.specs.Tables.{place_in}
 use Rattle.csv_rows.proofs.FirstLemmas.{absent_by}
-use Rattle.csv_rows.proofs.IdLemmas.{place-contained}
+use Rattle.csv_rows.proofs.IdLemmas.{got, place-contained}
 use Rattle.csv_rows.proofs.PlaceLemmas.{bytes_ne}
 use Rattle.cut_file.specs.declared.rows.CutRow.{CutRow}
 use Rattle.cut_file.specs.CutRows.{Row}
 use Rattle.cut_file.specs.NumberedRows.{add_new, IsNumbered}
+
+-- the next of these names is new after those before it
+pub next_absent : (names taken : List (List ℕ)) (k : ℕ) (name : List ℕ) → AreDistinct names → taken ≡ take k names → slice_get names k ≡ Some name → ¬ Contains taken name
+next_absent names taken k name distinct e h =
+    let w = got names k name [] h in
+    subst (λ (xs : List (List ℕ)). ¬ Contains xs name) (sym e) (subst (λ (x : List ℕ). ¬ Contains (take k names) x) w.1 (new_after_those_before names k distinct w.0))
+
+-- and goes last
+pub next_taken : (names taken more : List (List ℕ)) (k : ℕ) (name : List ℕ) → taken ≡ take k names → slice_get names k ≡ Some name → more ≡ taken ++ name ∷ [] → more ≡ take (k + 1) names
+next_taken names taken more k name e h f =
+    let w = got names k name [] h in
+    f ∙ ap (λ xs. xs ++ name ∷ []) e ∙ ap (λ (x : List ℕ). take k names ++ x ∷ []) (sym w.1) ∙ sym (take_more names k [] w.0)
 
 abbrev add_if : Bool → List (List ℕ) → List ℕ → List (List ℕ)
 add_if b names name = if b then names else names ++ name ∷ []

@@ -10,10 +10,11 @@ ghost use Rattle.cut_file.specs.NumberedRows.{add_new, run_names, place_names, I
 
 use crate::faults::CutFault;
 use crate::lines::{Fields, NamedRow, read_fields};
-use crate::numbers::{place_after, place_number, run_number};
+use crate::numbers::{Numbering, names_of, number_after, number_of};
 use csv_rows::{Column, Rows};
 use plan_model::{Names, NoMemory};
 use std::alloc::Global;
+use text_index::TextIndex;
 
 /// A row with numbers for its names.
 #[derive(Clone, Copy)]
@@ -146,9 +147,9 @@ fn end_of(before: Option<CutRow>) -> Option<u32>
 
 /// The row with numbers for its names. Mostly it is of the run of the row before, and from where that ends to the place that
 /// was numbered next.
-fn numbered(
-    names: &mut Names,
-    row: &NamedRow<'_>,
+fn numbered<'a>(
+    names: &mut Numbering<'a>,
+    row: &NamedRow<'a>,
     before: Option<CutRow>,
 ) -> Result<CutRow, NoMemory>
     requires runs { length names.old.runs < 2 ^ 32 - 1 }
@@ -172,10 +173,10 @@ fn numbered(
           change = row.now.change;
         }) c) }
 {
-    let run = run_number(names, row.run, run_of(before))?;
-    let from = place_number(names, row.from, end_of(before))?;
-    let next = place_after(names, from);
-    let to = place_number(names, row.to, next)?;
+    let run = number_of(&mut names.runs, row.run, run_of(before))?;
+    let from = number_of(&mut names.places, row.from, end_of(before))?;
+    let next = number_after(&names.places, from);
+    let to = number_of(&mut names.places, row.to, next)?;
     Ok(CutRow {
         run,
         step: row.step,
@@ -191,10 +192,10 @@ fn numbered(
 }
 
 /// Takes the rows, where each is of its form, and the names of their numbers.
-fn take_rows(
-    rows: &Rows,
+fn take_rows<'a>(
+    rows: &'a Rows,
     columns: &Columns,
-    names: &mut Names,
+    names: &mut Numbering<'a>,
     cut: &mut Vec<CutRow>,
 ) -> Result<(), CutFault>
     requires columns { AreColumns rows.now columns.now }
@@ -244,8 +245,14 @@ pub(crate) fn read_rows(
     ensures err { IfErr result (λ f. f ≢ CutFault.NoMemory
         → first_below (bad_field rows.now) (row_count rows.now) ≡ Some f) }
 {
-    let mut names = Names::with_key(alloc, rows.key());
+    let mut numbering = Numbering {
+        runs: TextIndex::new(alloc, rows.key()),
+        places: TextIndex::new(alloc, rows.key()),
+    };
     let mut cut: Vec<CutRow> = Vec::new(alloc);
-    take_rows(rows, columns, &mut names, &mut cut)?;
-    Ok(NumberedRows { names, rows: cut })
+    take_rows(rows, columns, &mut numbering, &mut cut)?;
+    match names_of(alloc, rows.key(), &numbering) {
+        Ok(names) => Ok(NumberedRows { names, rows: cut }),
+        Err(_) => Err(CutFault::NoMemory),
+    }
 }
