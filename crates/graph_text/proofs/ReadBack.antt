@@ -8,9 +8,6 @@ use Rattle.std.proofs.lemmas.List.Recursion.{and_at}
 use Rattle.std.proofs.lemmas.Map.Keys.{IsDistinct-from_apart}
 use Rattle.std.proofs.lemmas.Map.Views.{Contains-from_any}
 use Rattle.std.proofs.lemmas.Map.Steps.{length-le_from_distinct_below}
-use Rattle.csv.specs.Writing.{default_writer, row_text}
-use Rattle.csv.proofs.RoundTrip.{rows_text as text_of_rows}
-use Rattle.csv.specs.Reading.{strip_bom}
 use Rattle.clock_text.specs.Civil.{moment_text, nanos_text, last_printable}
 use Rattle.clock_text.proofs.Walk.{text_tells}
 use Rattle.clock_text.proofs.NanosLemmas.{nanos_tell}
@@ -33,7 +30,7 @@ use Rattle.graph_text.specs.declared.version.Version.TheVariants.{First, Second}
 use Rattle.graph_text.specs.Versions.{number_of_version, width_of, ninth, rows_leave, tables_leave, version_by}
 use Rattle.graph_text.specs.Printable.{IsPrintableQuery}
 use Rattle.graph_text.specs.GraphTexts.{leg_fields, rows_text, tables_text, graph_text_in, graph_text}
-use Rattle.printed_rows.specs.Writers.{place_name, run_name, row_of_fields}
+use Rattle.printed_rows.specs.Writers.{place_name, run_name, row_of_fields, text_of_records}
 use Rattle.graph_text.specs.Reading.{IsReadAs}
 use Rattle.graph_text.specs.GraphRows.{entry_in, is_place, is_head, version_in, IsLegRow, IsPlaceRow, IsHeadRow, AreLegRows, AreTableRows, AreGraphRows, IsTextOf}
 use Rattle.printed_rows.specs.Fields.{is_kind}
@@ -56,12 +53,11 @@ fields_kept : (version : Version) (a b c d e f g h last : List ℕ) → trimmed_
 fields_kept First a b c d e f g h last one two three four five six seven eight nine = cc
 fields_kept Second a b c d e f g h last one two three four five six seven eight nine = cc
 
-rows-append : (rows more : List (List (List ℕ))) → text_of_rows (rows ++ more) ≡ text_of_rows rows ++ text_of_rows more
-unfolding text_of_rows
+rows-append : (rows more : List (List (List ℕ))) → text_of_records (rows ++ more) ≡ text_of_records rows ++ text_of_records more
 rows-append [] more = refl
 rows-append (row ∷ rows) more =
-    ap (λ (text : List ℕ). row_text default_writer row ++ text) (rows-append rows more)
-    ∙ sym (append_assoc (row_text default_writer row) (text_of_rows rows) (text_of_rows more))
+    ap (λ (text : List ℕ). row_of_fields row ++ text) (rows-append rows more)
+    ∙ sym (append_assoc (row_of_fields row) (text_of_records rows) (text_of_records more))
 
 -- the records of a leg, of a table's rows, of a place, and of all tables
 abbrev leg_record : NetworkModel → NameLists → Version → List ℕ → List ℕ → Leg → List (List ℕ)
@@ -89,20 +85,18 @@ head_record names version head =
     ∷ moment_text head.query.start.0 ∷ moment_text head.query.deadline.0 ∷ nanos_text head.bounds.lo ∷ nanos_text head.bounds.hi ∷ ninth version []
 
 -- their text is what is printed
-legs_printed : (n : NetworkModel) (names : NameLists) (version : Version) (rows : List GraphRow) → rows_text n names version (codes "leg") rows ≡ text_of_rows (leg_records n names version rows)
-unfolding text_of_rows row_of_fields
+legs_printed : (n : NetworkModel) (names : NameLists) (version : Version) (rows : List GraphRow) → rows_text n names version (codes "leg") rows ≡ text_of_records (leg_records n names version rows)
 legs_printed n names version [] = refl
 legs_printed n names version (row ∷ rows) =
     ap (λ (text : List ℕ). row_of_fields (leg_record n names version (codes "leg") (moment_text row.by.0) row.leg) ++ text) (legs_printed n names version rows)
 
-tables_printed : (n : NetworkModel) (names : NameLists) (version : Version) (tables : List PlaceTable) → tables_text n names version tables ≡ text_of_rows (table_records n names version tables)
-unfolding text_of_rows row_of_fields
+tables_printed : (n : NetworkModel) (names : NameLists) (version : Version) (tables : List PlaceTable) → tables_text n names version tables ≡ text_of_records (table_records n names version tables)
 tables_printed n names version [] = refl
 tables_printed n names version (t ∷ tables) =
     let first = row_of_fields (place_record n names version t) in
     append_assoc first (rows_text n names version (codes "leg") t.rows) (tables_text n names version tables)
     ∙ ap (λ (text : List ℕ). first ++ (text ++ tables_text n names version tables)) (legs_printed n names version t.rows)
-    ∙ ap (λ (text : List ℕ). first ++ (text_of_rows (leg_records n names version t.rows) ++ text)) (tables_printed n names version tables)
+    ∙ ap (λ (text : List ℕ). first ++ (text_of_records (leg_records n names version t.rows) ++ text)) (tables_printed n names version tables)
     ∙ ap (λ (text : List ℕ). first ++ text) (sym (rows-append (leg_records n names version t.rows) (table_records n names version tables)))
 
 -- in a text of the first version the leg leaves its row's place
@@ -248,15 +242,9 @@ module _ (n : NetworkModel) (names : NameLists) (version : Version) (valid : IsV
     hi = nanos_tell head.bounds.hi small;
   }
 
-  -- the text begins with no byte-order mark
-  no_mark : (rest : List (List ℕ)) (rows : List (List (List ℕ))) → strip_bom (text_of_rows ((codes "graph" ∷ rest) ∷ rows)) ≡ text_of_rows ((codes "graph" ∷ rest) ∷ rows)
-  unfolding strip_bom text_of_rows
-  no_mark rest rows = refl
-
   -- a graph that fits, by the start leg and the tables
   graph_printed : (head : Head) (start : Option Leg) (tables : List PlaceTable) → IsFit n head.query (record { start = start; tables = tables })
-      → graph_text_in n names version head (record { start = start; tables = tables }) ≡ text_of_rows (head_record names version head ∷ graph_records n names version start tables)
-  unfolding text_of_rows row_of_fields
+      → graph_text_in n names version head (record { start = start; tables = tables }) ≡ text_of_records (head_record names version head ∷ graph_records n names version start tables)
   graph_printed head None tables own_graph =
       ap (λ (test : Bool). row_of_fields (head_record names version head) ++ (if test then [] else tables_text n names version tables))
       (eq-eqb head.query.source.0 head.query.target.0 own_graph.starts.0)
@@ -281,6 +269,7 @@ module _ (n : NetworkModel) (names : NameLists) (version : Version) (valid : IsV
   is_text_of : (head : Head) (start : Option Leg) (tables : List PlaceTable) → IsPrintableQuery n head.query → head.query.start.0 ≤ head.query.deadline.0
       → head.bounds.lo ≤ head.bounds.hi → head.bounds.hi < 2 ^ 64 → IsFit n head.query (record { start = start; tables = tables }) → All (IsToldTable n version) tables
       → IsTextOf n names head (record { start = start; tables = tables }) (graph_text_in n names version head (record { start = start; tables = tables }))
+  unfolding row_of_fields
   is_text_of head start tables asked in_time bounds small own_graph all =
       let records = graph_records n names version start tables in
       let back = graph_back head.query start tables own_graph all in
@@ -289,7 +278,7 @@ module _ (n : NetworkModel) (names : NameLists) (version : Version) (valid : IsV
         first = head_record names version head;
         others = records;
         table = ap table_of (graph_printed head start tables own_graph)
-            ∙ table_back (head_record names version head ∷ records) (head_kept head asked, back.0) (no_mark _ records);
+            ∙ table_back (head_record names version head ∷ records) 103 _ (head_kept head asked, back.0) refl refl;
         head_row = head_tells head asked bounds small;
         are_rows = back.1;
         fit = own_graph;

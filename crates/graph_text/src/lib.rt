@@ -10,7 +10,7 @@ ghost use Rattle.plan_graph.specs.declared.ExpandedGraph.{ExpandedGraph as Expan
 ghost use Rattle.plan_graph.specs.declared.PlanGraph.{PlanGraph as Plan};
 ghost use Rattle.plan_model.specs.NetworkModel.{NetworkModel};
 ghost use Rattle.plan_model.specs.declared.model.Query.{Query as QueryParts};
-ghost use Rattle.graph_text.specs.GraphTexts.{expanded_text, expanded_text_in, graph_text, graph_text_in};
+ghost use Rattle.graph_text.specs.GraphTexts.{expanded_text, graph_text};
 ghost use Rattle.graph_text.specs.declared.Head.{Head as HeadParts};
 ghost use Rattle.graph_text.specs.Reading.{graph_of, IsReadAs};
 ghost use Rattle.graph_text.specs.GraphRows.{IsTextOf};
@@ -24,7 +24,6 @@ mod version;
 use interval_fixed::Span;
 use plan_graph::{ExpandedGraph, PlanGraph};
 use plan_model::{Names, Network, NoMemory, Query};
-use printed_rows::{new_writer, text_of};
 use printer::Printer;
 pub use reader::{TextFault, read};
 use std::alloc::Global;
@@ -37,26 +36,6 @@ pub struct Head {
     pub query: Query,
     /// The least and the greatest moment of the expected arrival, in nanoseconds since 1970-01-01.
     pub bounds: Span,
-}
-
-/// The text of a graph by ride in the printer's version.
-fn text_by_ride(
-    alloc: Global,
-    graph: &ExpandedGraph,
-    head: &Head,
-    printer: &Printer<'_>,
-) -> Result<Vec<u8>, NoMemory>
-    requires names { NamesFit printer.now.names.now printer.now.network.now }
-    requires query { IsPrintableQuery printer.now.network.now head.now.query }
-    requires graph { IsPrintable printer.now.network.now graph.now }
-    ensures { IfOk result (λ text. text.items ≡ expanded_text_in printer.now.network.now
-        printer.now.names.now printer.now.version head.now graph.now) }
-{
-    let mut writer = new_writer(alloc);
-    match printer.put_by_ride(&mut writer, graph, head) {
-        Ok(()) => text_of(writer),
-        Err(_) => Err(NoMemory),
-    }
 }
 
 /// The text of a graph by ride: a first row, the start leg, and for each ride a row and one for
@@ -79,7 +58,7 @@ pub fn write_expanded(
         names,
         version: version_of_rides(network, graph.rides.as_slice()),
     };
-    text_by_ride(alloc, graph, head, &printer)
+    printer.put_by_ride(Vec::new(alloc), graph, head)
 }
 
 /// A law: where a graph fits the network and the question, whose start is not after its deadline,
@@ -97,26 +76,6 @@ fn written_reads_back(graph: &PlanGraph, head: &Head, network: &Network, names: 
     let _places = names.places();
     let _lo = head.bounds.lo();
     let _hi = head.bounds.hi();
-}
-
-/// The text of a graph by place in the printer's version.
-fn text_by_place(
-    alloc: Global,
-    graph: &PlanGraph,
-    head: &Head,
-    printer: &Printer<'_>,
-) -> Result<Vec<u8>, NoMemory>
-    requires names { NamesFit printer.now.names.now printer.now.network.now }
-    requires query { IsPrintableQuery printer.now.network.now head.now.query }
-    requires graph { IsPrintablePlan printer.now.network.now graph.now }
-    ensures { IfOk result (λ text. text.items ≡ graph_text_in printer.now.network.now
-        printer.now.names.now printer.now.version head.now graph.now) }
-{
-    let mut writer = new_writer(alloc);
-    match printer.put_by_place(&mut writer, graph, head) {
-        Ok(()) => text_of(writer),
-        Err(_) => Err(NoMemory),
-    }
 }
 
 /// The text of a graph by place: a first row, the start leg, and for each place a row and one for
@@ -144,7 +103,7 @@ pub fn write(
         names,
         version: version_of_tables(network, graph.tables.as_slice()),
     };
-    text_by_place(alloc, graph, head, &printer)
+    printer.put_by_place(Vec::new(alloc), graph, head)
 }
 
 /// A graph that is ready to be pruned can be printed.

@@ -1,17 +1,16 @@
 //! Rows of printed graphs.
-ghost use Rattle.std.specs.Prelude.{◌≡◌, ◌<◌, ◌++◌, [], map, take, All, IfOk, IfSome, OnOk, length};
+ghost use Rattle.std.specs.Prelude.{◌≡◌, ◌<◌, ◌++◌, map, take, All, IfOk, IfSome, length};
 ghost use Rattle.plan_model.specs.NameLists.{NamesFit};
 ghost use Rattle.plan_model.specs.Network.{count};
 ghost use Rattle.plan_graph.specs.Ready.{IsLegOf};
 ghost use Rattle.graph_text.specs.GraphTexts.{leg_row, head_row, start_leg_text, rows_text, ride_text, rides_text, place_row, table_text, tables_text, expanded_text_in, graph_text_in};
-ghost use Rattle.printed_rows.specs.Writers.{row_of_fields, text_so_far, IsBetweenRows};
+ghost use Rattle.printed_rows.specs.Writers.{row_of_fields};
 ghost use Rattle.graph_text.specs.Versions.{width_of};
 ghost use Rattle.graph_text.specs.Printable.{IsPrintableQuery, IsPrintableRow, IsPrintableRide, IsPrintableTable, IsPrintable, IsPrintablePlan};
 
 use crate::Head;
 use crate::version::{Version, digit, width};
 use clock_text::{write_moment, write_nanos};
-use csv::Writer;
 use itoa::Buffer;
 use plan_graph::{ExpandedGraph, GraphRow, PlaceTable, PlanGraph, Ride};
 use plan_model::{Leg, Names, Network, NoMemory, PlaceId};
@@ -24,33 +23,29 @@ pub(crate) struct Printer<'a> {
     pub(crate) version: Version,
 }
 
-/// Writes a row of fields, of which the first version leaves out the ninth.
-fn put_row(writer: &mut Writer<Vec<u8>>, version: Version, fields: &[&[u8]]) -> Result<(), NoMemory>
-    requires between { IsBetweenRows writer.old }
+/// Puts a row of fields behind a text; the first version leaves out the ninth.
+fn put_row(text: Vec<u8>, version: Version, fields: &[&[u8]]) -> Result<Vec<u8>, NoMemory>
     requires nine { length fields.now ≡ 9 }
-    ensures between { OnOk result (IsBetweenRows writer.new) }
-    ensures text { OnOk result (text_so_far writer.new ≡ text_so_far writer.old
+    ensures { IfOk result (λ whole. whole.items ≡ text.items
         ++ row_of_fields (take (width_of version) (map (λ field. field.now) fields.now))) }
 {
-    printed_rows::put_row(writer, &fields[..width(version)])
+    printed_rows::put_row(text, &fields[..width(version)])
 }
 
-/// Writes the row of a leg.
+/// Puts the row of a leg behind a text.
 fn put_leg<'a>(
-    writer: &mut Writer<Vec<u8>>,
+    text: Vec<u8>,
     network: &Network,
     names: &'a Names,
     version: Version,
     kind: &'a [u8],
     second: &'a [u8],
     leg: Leg,
-) -> Result<(), NoMemory>
-    requires between { IsBetweenRows writer.old }
+) -> Result<Vec<u8>, NoMemory>
     requires names { NamesFit names.now network.now }
     requires enter { leg.enter.0 < count network.now }
     requires exit { leg.exit.0 < count network.now }
-    ensures between { OnOk result (IsBetweenRows writer.new) }
-    ensures text { OnOk result (text_so_far writer.new ≡ text_so_far writer.old
+    ensures { IfOk result (λ whole. whole.items ≡ text.items
         ++ leg_row network.now names.now version kind.now second.now leg) }
 {
     let _count = network.count();
@@ -61,7 +56,7 @@ fn put_leg<'a>(
     let mut entry_step = Buffer::new();
     let mut exit_step = Buffer::new();
     put_row(
-        writer,
+        text,
         version,
         &[
             kind,
@@ -78,18 +73,11 @@ fn put_leg<'a>(
 }
 
 impl<'a> Printer<'a> {
-    /// Writes the first row.
-    fn put_head(
-        &self,
-        writer: &mut Writer<Vec<u8>>,
-        kind: &[u8],
-        head: &Head,
-    ) -> Result<(), NoMemory>
-        requires between { IsBetweenRows writer.old }
+    /// Puts the first row behind a text.
+    fn put_head(&self, text: Vec<u8>, kind: &[u8], head: &Head) -> Result<Vec<u8>, NoMemory>
         requires names { NamesFit self.now.names.now self.now.network.now }
         requires query { IsPrintableQuery self.now.network.now head.now.query }
-        ensures between { OnOk result (IsBetweenRows writer.new) }
-        ensures text { OnOk result (text_so_far writer.new ≡ text_so_far writer.old
+        ensures { IfOk result (λ whole. whole.items ≡ text.items
             ++ head_row self.now.names.now self.now.version kind.now head.now) }
     {
         let query = head.query;
@@ -99,7 +87,7 @@ impl<'a> Printer<'a> {
         let hi = write_nanos(head.bounds.hi());
         let number = [digit(self.version)];
         put_row(
-            writer,
+            text,
             self.version,
             &[
                 kind,
@@ -115,22 +103,20 @@ impl<'a> Printer<'a> {
         )
     }
 
-    /// Writes the row of the start leg.
-    fn put_start(&self, writer: &mut Writer<Vec<u8>>, start: Option<Leg>) -> Result<(), NoMemory>
-        requires between { IsBetweenRows writer.old }
+    /// Puts the row of the start leg behind a text.
+    fn put_start(&self, text: Vec<u8>, start: Option<Leg>) -> Result<Vec<u8>, NoMemory>
         requires names { NamesFit self.now.names.now self.now.network.now }
         requires leg { IfSome start (IsLegOf self.now.network.now) }
-        ensures between { OnOk result (IsBetweenRows writer.new) }
-        ensures text { OnOk result (text_so_far writer.new ≡ text_so_far writer.old
+        ensures { IfOk result (λ whole. whole.items ≡ text.items
             ++ start_leg_text self.now.network.now self.now.names.now self.now.version start) }
     {
         let Some(leg) = start else {
-            return Ok(());
+            return Ok(text);
         };
         let _count = self.network.count();
         let dep = write_moment(self.network.get(leg.enter).dep);
         put_leg(
-            writer,
+            text,
             self.network,
             self.names,
             self.version,
@@ -140,24 +126,22 @@ impl<'a> Printer<'a> {
         )
     }
 
-    /// Writes the rows of a table.
+    /// Puts the rows of a table behind a text.
     fn put_rows(
         &self,
-        writer: &mut Writer<Vec<u8>>,
+        mut text: Vec<u8>,
         kind: &[u8],
         rows: &[GraphRow],
-    ) -> Result<(), NoMemory>
-        requires between { IsBetweenRows writer.old }
+    ) -> Result<Vec<u8>, NoMemory>
         requires names { NamesFit self.now.names.now self.now.network.now }
         requires rows { All (IsPrintableRow self.now.network.now) rows.now }
-        ensures between { OnOk result (IsBetweenRows writer.new) }
-        ensures text { OnOk result (text_so_far writer.new ≡ text_so_far writer.old
+        ensures { IfOk result (λ whole. whole.items ≡ text.items
             ++ rows_text self.now.network.now self.now.names.now self.now.version kind.now rows.now) }
     {
         for row in rows {
             let by = write_moment(row.by);
-            put_leg(
-                writer,
+            text = put_leg(
+                text,
                 self.network,
                 self.names,
                 self.version,
@@ -166,22 +150,20 @@ impl<'a> Printer<'a> {
                 row.leg,
             )?;
         }
-        Ok(())
+        Ok(text)
     }
 
-    /// Writes the row of a ride, and its rows.
-    fn put_ride(&self, writer: &mut Writer<Vec<u8>>, ride: &Ride) -> Result<(), NoMemory>
-        requires between { IsBetweenRows writer.old }
+    /// Puts the row of a ride and its rows behind a text.
+    fn put_ride(&self, text: Vec<u8>, ride: &Ride) -> Result<Vec<u8>, NoMemory>
         requires names { NamesFit self.now.names.now self.now.network.now }
         requires ride { IsPrintableRide self.now.network.now ride.now }
-        ensures between { OnOk result (IsBetweenRows writer.new) }
-        ensures text { OnOk result (text_so_far writer.new ≡ text_so_far writer.old
+        ensures { IfOk result (λ whole. whole.items ≡ text.items
             ++ ride_text self.now.network.now self.now.names.now self.now.version ride.now) }
     {
         let mut number = Buffer::new();
         let number = number.format(ride.after.len()).as_bytes();
-        put_leg(
-            writer,
+        let text = put_leg(
+            text,
             self.network,
             self.names,
             self.version,
@@ -189,56 +171,45 @@ impl<'a> Printer<'a> {
             number,
             ride.leg,
         )?;
-        self.put_rows(writer, b"next", ride.after.as_slice())
+        self.put_rows(text, b"next", ride.after.as_slice())
     }
 
-    /// Writes the rows of all rides.
-    fn put_rides(&self, writer: &mut Writer<Vec<u8>>, rides: &[Ride]) -> Result<(), NoMemory>
-        requires between { IsBetweenRows writer.old }
+    /// Puts the rows of all rides behind a text.
+    fn put_rides(&self, mut text: Vec<u8>, rides: &[Ride]) -> Result<Vec<u8>, NoMemory>
         requires names { NamesFit self.now.names.now self.now.network.now }
         requires rides { All (IsPrintableRide self.now.network.now) rides.now }
-        ensures between { OnOk result (IsBetweenRows writer.new) }
-        ensures text { OnOk result (text_so_far writer.new ≡ text_so_far writer.old
+        ensures { IfOk result (λ whole. whole.items ≡ text.items
             ++ rides_text self.now.network.now self.now.names.now self.now.version rides.now) }
     {
         for ride in rides {
-            self.put_ride(writer, ride)?;
+            text = self.put_ride(text, ride)?;
         }
-        Ok(())
+        Ok(text)
     }
 
-    /// Writes the row of a place, and its rows.
-    fn put_table(&self, writer: &mut Writer<Vec<u8>>, table: &PlaceTable) -> Result<(), NoMemory>
-        requires between { IsBetweenRows writer.old }
+    /// Puts the row of a place and its rows behind a text.
+    fn put_table(&self, text: Vec<u8>, table: &PlaceTable) -> Result<Vec<u8>, NoMemory>
         requires names { NamesFit self.now.names.now self.now.network.now }
         requires table { IsPrintableTable self.now.network.now table.now }
-        ensures between { OnOk result (IsBetweenRows writer.new) }
-        ensures text { OnOk result (text_so_far writer.new ≡ text_so_far writer.old
+        ensures { IfOk result (λ whole. whole.items ≡ text.items
             ++ table_text self.now.network.now self.now.names.now self.now.version table.now) }
     {
-        self.put_place(writer, table.place, table.rows.len())?;
-        self.put_rows(writer, b"leg", table.rows.as_slice())
+        let text = self.put_place(text, table.place, table.rows.len())?;
+        self.put_rows(text, b"leg", table.rows.as_slice())
     }
 
-    /// Writes the row of a place.
-    fn put_place(
-        &self,
-        writer: &mut Writer<Vec<u8>>,
-        place: PlaceId,
-        count: usize,
-    ) -> Result<(), NoMemory>
-        requires between { IsBetweenRows writer.old }
+    /// Puts the row of a place behind a text.
+    fn put_place(&self, text: Vec<u8>, place: PlaceId, count: usize) -> Result<Vec<u8>, NoMemory>
         requires names { NamesFit self.now.names.now self.now.network.now }
         requires place { place.0 < length self.now.network.now.change }
-        ensures between { OnOk result (IsBetweenRows writer.new) }
-        ensures text { OnOk result (text_so_far writer.new ≡ text_so_far writer.old
+        ensures { IfOk result (λ whole. whole.items ≡ text.items
             ++ place_row self.now.network.now self.now.names.now self.now.version place.0 count) }
     {
         let mut change = Buffer::new();
         let mut number = Buffer::new();
         let none = b"".as_slice();
         put_row(
-            writer,
+            text,
             self.version,
             &[
                 b"place".as_slice(),
@@ -254,68 +225,58 @@ impl<'a> Printer<'a> {
         )
     }
 
-    /// Writes the rows of all places.
-    fn put_tables(
-        &self,
-        writer: &mut Writer<Vec<u8>>,
-        tables: &[PlaceTable],
-    ) -> Result<(), NoMemory>
-        requires between { IsBetweenRows writer.old }
+    /// Puts the rows of all places behind a text.
+    fn put_tables(&self, mut text: Vec<u8>, tables: &[PlaceTable]) -> Result<Vec<u8>, NoMemory>
         requires names { NamesFit self.now.names.now self.now.network.now }
         requires tables { All (IsPrintableTable self.now.network.now) tables.now }
-        ensures between { OnOk result (IsBetweenRows writer.new) }
-        ensures text { OnOk result (text_so_far writer.new ≡ text_so_far writer.old
+        ensures { IfOk result (λ whole. whole.items ≡ text.items
             ++ tables_text self.now.network.now self.now.names.now self.now.version tables.now) }
     {
         for table in tables {
-            self.put_table(writer, table)?;
+            text = self.put_table(text, table)?;
         }
-        Ok(())
+        Ok(text)
     }
 
-    /// Writes the rows of a graph by ride.
+    /// Puts the rows of a graph by ride behind a text.
     pub(crate) fn put_by_ride(
         &self,
-        writer: &mut Writer<Vec<u8>>,
+        text: Vec<u8>,
         graph: &ExpandedGraph,
         head: &Head,
-    ) -> Result<(), NoMemory>
-        requires between { IsBetweenRows writer.old }
+    ) -> Result<Vec<u8>, NoMemory>
         requires names { NamesFit self.now.names.now self.now.network.now }
         requires query { IsPrintableQuery self.now.network.now head.now.query }
         requires graph { IsPrintable self.now.network.now graph.now }
-        ensures between { OnOk result (IsBetweenRows writer.new) }
-        ensures text { OnOk result (text_so_far writer.new ≡ text_so_far writer.old
+        ensures { IfOk result (λ whole. whole.items ≡ text.items
             ++ expanded_text_in self.now.network.now self.now.names.now self.now.version head.now graph.now) }
     {
-        self.put_head(writer, b"expanded", head)?;
+        let text = self.put_head(text, b"expanded", head)?;
         if head.query.source == head.query.target {
-            return Ok(());
+            return Ok(text);
         }
-        self.put_start(writer, graph.start)?;
-        self.put_rides(writer, graph.rides.as_slice())
+        let text = self.put_start(text, graph.start)?;
+        self.put_rides(text, graph.rides.as_slice())
     }
 
-    /// Writes the rows of a graph by place.
+    /// Puts the rows of a graph by place behind a text.
     pub(crate) fn put_by_place(
         &self,
-        writer: &mut Writer<Vec<u8>>,
+        text: Vec<u8>,
         graph: &PlanGraph,
         head: &Head,
-    ) -> Result<(), NoMemory>
-        requires between { IsBetweenRows writer.old }
+    ) -> Result<Vec<u8>, NoMemory>
         requires names { NamesFit self.now.names.now self.now.network.now }
         requires query { IsPrintableQuery self.now.network.now head.now.query }
         requires graph { IsPrintablePlan self.now.network.now graph.now }
-        ensures between { OnOk result (IsBetweenRows writer.new) }
-        ensures text { OnOk result (text_so_far writer.new ≡ text_so_far writer.old
+        ensures { IfOk result (λ whole. whole.items ≡ text.items
             ++ graph_text_in self.now.network.now self.now.names.now self.now.version head.now graph.now) }
     {
-        self.put_head(writer, b"graph", head)?;
+        let text = self.put_head(text, b"graph", head)?;
         if head.query.source == head.query.target {
-            return Ok(());
+            return Ok(text);
         }
-        self.put_start(writer, graph.start)?;
-        self.put_tables(writer, graph.tables.as_slice())
+        let text = self.put_start(text, graph.start)?;
+        self.put_tables(text, graph.tables.as_slice())
     }
 }

@@ -1,6 +1,5 @@
 -- The printed texts of departures, and of the latest moment at which one can leave.
 use Rattle.std.specs.Prelude.{ℕ, List, [], ◌∷◌, ◌++◌, length, codes, decimal}
-use Rattle.csv.specs.Writing.{default_writer, row_text}
 use Rattle.clock_text.specs.Civil.{moment_text, nanos_text}
 use Rattle.plan_model.specs.declared.model.Moment.{Moment}
 use Rattle.plan_model.specs.declared.model.Query.{Query}
@@ -8,18 +7,18 @@ use Rattle.plan_model.specs.NetworkModel.{NetworkModel}
 use Rattle.plan_model.specs.NameLists.{NameLists}
 use Rattle.plan_model.specs.Network.{run_of, step_of}
 use Rattle.departure_table.specs.declared.DepartureRow.{DepartureRow}
-use Rattle.printed_rows.specs.Writers.{place_name, run_name}
+use Rattle.printed_rows.specs.Writers.{row_of_fields, place_name, run_name}
 
 -- the first row: the version of the text, the source, the target, the first moment and the last, the deadline, and how many rows follow
 unfoldable pub departures_head : List ℕ → List ℕ → Query → (last count : ℕ) → List ℕ
 departures_head source target query last count =
-    row_text default_writer
+    row_of_fields
     (codes "departures" ∷ codes "1" ∷ source ∷ target ∷ moment_text query.start.0 ∷ moment_text last ∷ moment_text query.deadline.0 ∷ decimal count ∷ [])
 
 -- the row of a departure: its moment, the run and the entry step of its leg, and the two bounds
 unfoldable pub departure_text : NetworkModel → NameLists → DepartureRow → List ℕ
 departure_text network names r =
-    row_text default_writer
+    row_of_fields
     (codes "row"
     ∷ moment_text r.by.0
     ∷ run_name names (run_of network r.leg.enter.0)
@@ -40,4 +39,4 @@ departures_text network names query last rows =
 -- one row: the source, the target, the first moment, the deadline and the latest moment
 unfoldable pub latest_text : List ℕ → List ℕ → Query → Moment → List ℕ
 latest_text source target query moment =
-    row_text default_writer (codes "latest" ∷ source ∷ target ∷ moment_text query.start.0 ∷ moment_text query.deadline.0 ∷ moment_text moment.0 ∷ [])
+    row_of_fields (codes "latest" ∷ source ∷ target ∷ moment_text query.start.0 ∷ moment_text query.deadline.0 ∷ moment_text moment.0 ∷ [])

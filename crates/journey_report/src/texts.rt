@@ -1,34 +1,27 @@
 //! The printed texts of the answers that are no graphs.
 ghost use Rattle.std.specs.Prelude.{◌≡◌, ◌≤◌, ◌<◌, ◌++◌, [], ◌∷◌, map, length, sum_by, All, IfOk};
-ghost use Rattle.csv.specs.Writing.{default_writer, row_text};
 ghost use Rattle.plan_model.specs.NameLists.{NamesFit};
+ghost use Rattle.printed_rows.specs.Writers.{row_of_fields};
 ghost use Rattle.trip_replay.specs.Rides.{IsRide};
 ghost use Rattle.journey_report.specs.AnswerTexts.{safe_text, ride_text, rides_text, arrived_text, trace_text, leg_count, sample_text, least_text, holds_text, encloses_text, punctual_row};
 ghost use Rattle.journey_model.specs.Sites.{last_printable};
 
 use clock_text::{write_moment, write_nanos};
-use csv::WriterBuilder;
 use interval_fixed::Span;
 use itoa::Buffer;
 use late_chance::{LateChance, write_chance};
 use plan_graph::PlanGraph;
 use plan_model::{Moment, Names, Network, NoMemory, PlaceId, Query};
+use printed_rows::put_row;
 use std::alloc::Global;
 use trip_replay::{Ridden, Trace};
 
 /// A row of fields, quoted where they need it, with its line end.
 pub(crate) fn row(alloc: Global, fields: &[&[u8]]) -> Result<Vec<u8>, NoMemory>
     ensures { IfOk result (λ text.
-        text.items ≡ row_text default_writer (map (λ field. field.now) fields.now)) }
+        text.items ≡ row_of_fields (map (λ field. field.now) fields.now)) }
 {
-    let mut writer = WriterBuilder::new().from_writer(Vec::new(alloc));
-    if writer.write_fields(fields).is_err() {
-        return Err(NoMemory);
-    }
-    match writer.into_inner() {
-        Ok(text) => Ok(text),
-        Err(_) => Err(NoMemory),
-    }
+    put_row(Vec::new(alloc), fields)
 }
 
 /// The text of the least worst arrival and the deadline.

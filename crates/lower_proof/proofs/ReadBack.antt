@@ -1,14 +1,12 @@
 -- What was printed of a certificate is read back, and how its rows are printed one after another.
 use Rattle.std.proofs.Common.{◌≡◌, ◌≢◌, ℕ, zero, suc, ◌+◌, ◌<◌, ◌≤◌, ◌^◌, true, List, [], ◌∷◌, length, Option, Some, None, Ok, Err, Result, arith, inl, inr}
 use Rattle.std.proofs.Common.{sym, ◌∙◌, ap, subst, refl, ◌++◌, drop, cond, is_some, codes, decimal, slice_index_or, count_by, option_map, ext_get_or}
-use Rattle.std.proofs.Common.{append-nil, eq-eqb, lt-ltb, le-leb}
+use Rattle.std.proofs.Common.{append-nil, eq-eqb, lt-ltb, le-leb, IfOk, OnOk}
 use Rattle.std.specs.Result.{result_err}
 use Rattle.std.proofs.Math.Nat.{max-le}
 use Rattle.std.proofs.lemmas.List.Sums.{sum_by-cons}
 use Rattle.std.proofs.lemmas.List.{drop_all}
 use Rattle.std.proofs.lemmas.Bool.{cases_eq}
-use Rattle.csv.proofs.RoundTrip.{rows_text as text_of_rows}
-use Rattle.csv.specs.Reading.{strip_bom}
 use Rattle.clock_text.specs.Civil.{nanos_text, last_printable}
 use Rattle.clock_text.proofs.Walk.{text_tells}
 use Rattle.clock_text.proofs.NanosLemmas.{nanos_tell}
@@ -18,9 +16,9 @@ use Rattle.plan_model.specs.NetworkModel.{NetworkModel}
 use Rattle.plan_model.specs.NameLists.{NameLists, NamesFit, AreNames}
 use Rattle.plan_model.specs.Network.{IsValid, count, run_of, step_of}
 use Rattle.printed_rows.specs.Fields.{rises}
-use Rattle.printed_rows.specs.Writers.{run_name, text_of_records}
+use Rattle.printed_rows.specs.Writers.{run_name, row_of_fields, text_of_records}
 use Rattle.printed_rows.proofs.Found.{connection_back}
-use Rattle.printed_rows.proofs.Lines.{records_printed, text_step, split_at}
+use Rattle.printed_rows.proofs.Lines.{text_step, split_at}
 use Rattle.printed_rows.proofs.Plain.{moment_kept, nanos_kept, decimal_kept, whole_back}
 use Rattle.printed_rows.proofs.Names.{place_kept, run_kept, place_back, run_back, step_kept, step_back}
 use Rattle.printed_rows.proofs.Printed.{IsKept, AreKept, seven_kept, four_kept, table_back}
@@ -34,6 +32,11 @@ use Rattle.lower_proof.specs.Reading.{bounds_row_in, bounds_in, value_row_in, co
 use Rattle.lower_proof.specs.Reading.{nanos_in, told_in, value_row, connection_before}
 use Rattle.lower_proof.specs.Reading.{value_fault, AreValuesTold, IsProofTold, IsProofRead, IsReadBack}
 use Rattle.lower_proof.specs.Steps.{AllFit}
+
+-- two facts of one result
+pub IfOk-with : {T E : Type 0} (r : Result T E) (P Q : T → Type 0) (R : Type 0) → ((x : T) → P x → R → Q x) → IfOk r P → OnOk r R → IfOk r Q
+IfOk-with (Ok x) P Q R both p r = both x p r
+IfOk-with (Err e) P Q R both p r = tt
 
 same_query : (a b : Query) → a.source.0 ≡ b.source.0 → a.target.0 ≡ b.target.0 → a.start.0 ≡ b.start.0 → a.deadline ≡ b.deadline → a ≡ b
 same_query a b s t u d = λ i. record { source = record { 0 = s i }; target = record { 0 = t i }; start = record { 0 = u i }; deadline = d i }
@@ -230,14 +233,10 @@ module _ (n : NetworkModel) (names : NameLists) (valid : IsValid n) (fit : Names
     bounds_back : bounds_in names q.source.0 q.target.0 q.start.0 (bounds_record names q values) ≡ Ok bounds
     bounds_back = grind (arith, bounds_row_back, place_back, eq-eqb)
 
-    no_mark : (rest : List (List ℕ)) (others : List (List (List ℕ))) → strip_bom (text_of_rows ((codes "bounds" ∷ rest) ∷ others)) ≡ text_of_rows ((codes "bounds" ∷ rest) ∷ others)
-    unfolding strip_bom text_of_rows
-    no_mark rest others = refl
-
     table_is : length values ≡ count n → table_of (proof_text n names q values) ≡ bounds_record names q values ∷ value_records n names 0 values
+    unfolding row_of_fields
     table_is as_many =
-        ap table_of (records_printed (bounds_record names q values ∷ value_records n names 0 values))
-        ∙ table_back (bounds_record names q values ∷ value_records n names 0 values) (bounds_kept, records_kept 0 values (omega (arith, as_many))) (no_mark _ (value_records n names 0 values))
+        table_back (bounds_record names q values ∷ value_records n names 0 values) 98 _ (bounds_kept, records_kept 0 values (omega (arith, as_many))) refl refl
 
     -- whatever is read of the text is what was printed
     pub reads_back : length values ≡ count n → ((c v : ℕ) → bound_of values c ≡ Some v → v < 2 ^ 64)

@@ -1,9 +1,9 @@
 //! The text of a certificate.
-ghost use Rattle.std.specs.Prelude.{◌≡◌, ℕ, ◌<◌, ◌≤◌, ◌++◌, ◌^◌, IfOk, OnOk, length, is_some, Option as Maybe};
+ghost use Rattle.std.specs.Prelude.{◌≡◌, ℕ, ◌<◌, ◌≤◌, ◌++◌, ◌^◌, IfOk, length, is_some, Option as Maybe};
 ghost use Rattle.std.specs.List.{count_by};
 ghost use Rattle.plan_model.specs.NameLists.{NamesFit};
 ghost use Rattle.plan_model.specs.Network.{count};
-ghost use Rattle.printed_rows.specs.Writers.{row_of_fields, text_of_records, text_so_far, IsBetweenRows};
+ghost use Rattle.printed_rows.specs.Writers.{row_of_fields, text_of_records};
 ghost use Rattle.lower_proof.specs.Steps.{AllFit};
 ghost use Rattle.lower_proof.specs.Reading.{ReadsBack};
 ghost use Rattle.lower_proof.specs.CertificateTexts.{bounds_record, value_record, entry_text, value_records, proof_text};
@@ -11,10 +11,9 @@ ghost use Rattle.clock_text.specs.Civil.{last_printable};
 
 use crate::LowerBounds;
 use clock_text::{write_moment, write_nanos};
-use csv::Writer;
 use itoa::Buffer;
 use plan_model::{ConnectionId, Names, Network, NoMemory, Query};
-use printed_rows::{new_writer, put_row, text_of, writer_behind};
+use printed_rows::put_row;
 use std::alloc::Global;
 
 /// How many of these there are.
@@ -24,27 +23,25 @@ fn number_of(values: &[Option<u64>]) -> usize
     values.iter().filter(|value| value.is_some()).count()
 }
 
-/// Writes the first row.
+/// Puts the first row behind a text.
 fn put_bounds(
-    writer: &mut Writer<Vec<u8>>,
+    text: Vec<u8>,
     names: &Names,
     query: &Query,
     values: &[Option<u64>],
-) -> Result<(), NoMemory>
-    requires between { IsBetweenRows writer.old }
+) -> Result<Vec<u8>, NoMemory>
     requires source { query.now.source.0 < length names.now.places }
     requires target { query.now.target.0 < length names.now.places }
     requires start { query.now.start.0 ≤ last_printable }
     requires deadline { query.now.deadline.0 ≤ last_printable }
-    ensures between { OnOk result (IsBetweenRows writer.new) }
-    ensures text { OnOk result (text_so_far writer.new ≡ text_so_far writer.old
+    ensures { IfOk result (λ whole. whole.items ≡ text.items
         ++ row_of_fields (bounds_record names.now query.now values.now)) }
 {
     let start = write_moment(query.start);
     let deadline = write_moment(query.deadline);
     let mut number = Buffer::new();
     put_row(
-        writer,
+        text,
         &[
             b"bounds".as_slice(),
             b"1".as_slice(),
@@ -57,45 +54,24 @@ fn put_bounds(
     )
 }
 
-/// The text of the first row.
-fn bounds_text(
-    alloc: Global,
-    names: &Names,
-    query: &Query,
-    values: &[Option<u64>],
-) -> Result<Vec<u8>, NoMemory>
-    requires source { query.now.source.0 < length names.now.places }
-    requires target { query.now.target.0 < length names.now.places }
-    requires start { query.now.start.0 ≤ last_printable }
-    requires deadline { query.now.deadline.0 ≤ last_printable }
-    ensures { IfOk result (λ text.
-        text.items ≡ row_of_fields (bounds_record names.now query.now values.now)) }
-{
-    let mut writer = new_writer(alloc);
-    put_bounds(&mut writer, names, query, values)?;
-    text_of(writer)
-}
-
-/// Writes the row of a connection with its value.
+/// Puts the row of a connection with its value behind a text.
 fn put_value(
-    writer: &mut Writer<Vec<u8>>,
+    text: Vec<u8>,
     network: &Network,
     names: &Names,
     id: ConnectionId,
     value: u64,
-) -> Result<(), NoMemory>
-    requires between { IsBetweenRows writer.old }
+) -> Result<Vec<u8>, NoMemory>
     requires names { NamesFit names.now network.now }
     requires there { id.0 < count network.now }
-    ensures between { OnOk result (IsBetweenRows writer.new) }
-    ensures text { OnOk result (text_so_far writer.new ≡ text_so_far writer.old
+    ensures { IfOk result (λ whole. whole.items ≡ text.items
         ++ row_of_fields (value_record network.now names.now id.0 value)) }
 {
     let connection = network.get(id);
     let nanos = write_nanos(value);
     let mut step = Buffer::new();
     put_row(
-        writer,
+        text,
         &[
             b"value".as_slice(),
             names.run_name(connection.run).as_bytes(),
@@ -105,47 +81,43 @@ fn put_value(
     )
 }
 
-/// Writes the row of a connection, where it has a value.
+/// Puts the row of a connection behind a text, where it has a value.
 fn put_entry(
-    writer: &mut Writer<Vec<u8>>,
+    text: Vec<u8>,
     network: &Network,
     names: &Names,
     id: ConnectionId,
     value: Option<u64>,
-) -> Result<(), NoMemory>
-    requires between { IsBetweenRows writer.old }
+) -> Result<Vec<u8>, NoMemory>
     requires names { NamesFit names.now network.now }
     requires there { id.0 < count network.now }
-    ensures between { OnOk result (IsBetweenRows writer.new) }
-    ensures text { OnOk result (text_so_far writer.new ≡ text_so_far writer.old
+    ensures text { IfOk result (λ whole. whole.items ≡ text.items
         ++ entry_text network.now names.now id.0 value) }
     ensures fits { (v : ℕ) → value ≡ Maybe.Some v → v < 2 ^ 64 }
 {
     match value {
-        Some(value) => put_value(writer, network, names, id, value),
-        None => Ok(()),
+        Some(value) => put_value(text, network, names, id, value),
+        None => Ok(text),
     }
 }
 
-/// Writes a row for each connection that has a value.
+/// Puts a row for each connection that has a value behind a text.
 fn put_values(
-    writer: &mut Writer<Vec<u8>>,
+    mut text: Vec<u8>,
     network: &Network,
     names: &Names,
     values: &[Option<u64>],
-) -> Result<(), NoMemory>
-    requires between { IsBetweenRows writer.old }
+) -> Result<Vec<u8>, NoMemory>
     requires names { NamesFit names.now network.now }
     requires as_many { length values.now ≡ count network.now }
-    ensures between { OnOk result (IsBetweenRows writer.new) }
-    ensures text { OnOk result (text_so_far writer.new ≡ text_so_far writer.old
+    ensures text { IfOk result (λ whole. whole.items ≡ text.items
         ++ text_of_records (value_records network.now names.now 0 values.now)) }
-    ensures fit { OnOk result (AllFit (length values.now) values.now) }
+    ensures fit { IfOk result (λ _. AllFit (length values.now) values.now) }
 {
     for i in 0..network.count() {
-        put_entry(writer, network, names, ConnectionId(i), values[i as usize])?;
+        text = put_entry(text, network, names, ConnectionId(i), values[i as usize])?;
     }
-    Ok(())
+    Ok(text)
 }
 
 /// The text of a certificate with the query that it is for: a first row, and one for each connection that has a value, in
@@ -170,9 +142,6 @@ pub fn write_text(
     let _count = network.count();
     let _places = names.places();
     let values = proof.values.as_slice();
-    let first = bounds_text(alloc, names, query, values)?;
-    // The rows of values have another number of fields.
-    let mut writer = writer_behind(first);
-    put_values(&mut writer, network, names, values)?;
-    text_of(writer)
+    let text = put_bounds(Vec::new(alloc), names, query, values)?;
+    put_values(text, network, names, values)
 }

@@ -1,10 +1,8 @@
 -- The fields of printed rows, and texts one after another.
 use Rattle.std.proofs.Common.{◌≡◌, ℕ, ◌+◌, ◌<◌, List, [], ◌∷◌, ◌++◌, length, drop, Some, Result, sym, ◌∙◌, ap, refl, subst, append_assoc, slice_get}
-use Rattle.std.proofs.Common.{slice_index_or, OnOk}
+use Rattle.std.proofs.Common.{slice_index_or, IfOk, Vec, Global}
 use Rattle.std.proofs.lemmas.List.{drop_more}
 use Rattle.std.proofs.lemmas.Option.{get_or_from_slice_get}
-use Rattle.csv.proofs.RoundTrip.{rows_text as text_of_rows}
-use Rattle.printed_rows.specs.Writers.{row_of_fields, text_of_records}
 
 -- the name of this number
 pub name_is : (names : List (List ℕ)) (i : ℕ) (name : List ℕ) → slice_get names i ≡ Some name → name ≡ slice_index_or names i []
@@ -22,9 +20,10 @@ seven_fields a b c d e f g a' b' c' d' e' f' g' = λ one two three four five six
 pub text_step : (new old a rest all : List ℕ) → new ≡ old ++ a → old ++ (a ++ rest) ≡ all → new ++ rest ≡ all
 text_step new old a rest all is before = ap (λ (list : List ℕ). list ++ rest) is ∙ append_assoc old a rest ∙ before
 
-pub append_ok : {T E : Type 0} (r : Result T E) (new mid old a b : List ℕ) → mid ≡ old ++ a → OnOk r (new ≡ mid ++ b) → OnOk r (new ≡ old ++ (a ++ b))
-append_ok r new mid old a b is ok =
-    subst (λ (list : List ℕ). OnOk r (new ≡ list)) (ap (λ (list : List ℕ). list ++ b) is ∙ append_assoc old a b) ok
+pub append_ok : {E : Type 0} (r : Result (Vec ℕ Global) E) (mid old a b : List ℕ) → mid ≡ old ++ a → IfOk r (λ whole. whole.items ≡ mid ++ b)
+    → IfOk r (λ whole. whole.items ≡ old ++ (a ++ b))
+append_ok r mid old a b is ok =
+    subst (λ (list : List ℕ). IfOk r (λ whole. whole.items ≡ list)) (ap (λ (list : List ℕ). list ++ b) is ∙ append_assoc old a b) ok
 
 -- after one element more
 pub split_at : {X : Type 0} (xs : List X) (i : ℕ) (d : X) → i < length xs → drop i xs ≡ slice_index_or xs i d ∷ drop (i + 1) xs
@@ -38,9 +37,3 @@ text_more F g step xs i x d new old all within at is before =
     text_step new old (g x) (F (drop (i + 1) xs)) all is
     (ap (λ (text : List ℕ). old ++ text) (ap (λ y. g y ++ F (drop (i + 1) xs)) at
     ∙ sym (ap F (split_at xs i d within) ∙ step (slice_index_or xs i d) (drop (i + 1) xs))) ∙ before)
-
--- the writer's rows are these
-pub records_printed : (rows : List (List (List ℕ))) → text_of_records rows ≡ text_of_rows rows
-unfolding text_of_rows row_of_fields
-records_printed [] = refl
-records_printed (row ∷ rows) = ap (λ (text : List ℕ). row_of_fields row ++ text) (records_printed rows)

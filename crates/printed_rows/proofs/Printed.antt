@@ -1,5 +1,5 @@
 -- The records of a printed text.
-use Rattle.std.proofs.Common.{◌≡◌, ℕ, zero, suc, ◌+◌, ◌≤◌, List, [], ◌∷◌, ◌++◌, length, map, arith, refl, ap, ◌∙◌, length-append}
+use Rattle.std.proofs.Common.{◌≡◌, ℕ, zero, suc, ◌+◌, ◌≤◌, ◌==◌, false, List, [], ◌∷◌, ◌++◌, length, map, arith, refl, sym, ap, ◌∙◌, length-append}
 use Rattle.csv.specs.Machine.{next_record}
 use Rattle.csv.specs.Reading.{default_config, records, records_from, strip_bom}
 use Rattle.csv.specs.Writing.{default_writer, row_text, row_body, read_back}
@@ -7,6 +7,7 @@ use Rattle.csv.specs.declared.parser.State.TheVariants as st
 use Rattle.csv.proofs.RoundTrip.{read-write, rows_text as text_of_rows}
 use Rattle.csv_rows.specs.Spaces.{trimmed_text}
 use Rattle.csv_rows.specs.Tables.{table_of}
+use Rattle.printed_rows.specs.Writers.{row_of_fields, text_of_records}
 
 -- each record's text has a byte
 last_byte : (front mid : List ℕ) → 1 ≤ length (front ++ (mid ++ 10 ∷ []))
@@ -47,10 +48,26 @@ kept_back (row ∷ rows) kept =
     ap (λ (first : List (List ℕ)). first ∷ map (λ r. map trimmed_text r) (map read_back rows)) kept.0
     ∙ ap (λ (rest : List (List (List ℕ))). row ∷ rest) (kept_back rows kept.1)
 
--- a text that begins with no byte-order mark is read as its records
-pub table_back : (rows : List (List (List ℕ))) → AreKept rows → strip_bom (text_of_rows rows) ≡ text_of_rows rows → table_of (text_of_rows rows) ≡ rows
-table_back rows kept plain =
-    ap (λ (text : List ℕ). map (λ row. map trimmed_text row) (records default_config text)) plain
+-- a text that begins with another byte begins with no byte-order mark
+no_mark : (b : ℕ) (rest : List ℕ) → (b == 239) ≡ false → strip_bom (b ∷ rest) ≡ b ∷ rest
+unfolding strip_bom
+no_mark b [] other = refl
+no_mark b (c ∷ []) other = refl
+no_mark b (c ∷ d ∷ rest) other = rw other refl
+
+-- the text of records is that of the writer
+as_written : (rows : List (List (List ℕ))) → text_of_records rows ≡ text_of_rows rows
+unfolding text_of_rows row_of_fields
+as_written [] = refl
+as_written (row ∷ rows) = ap (λ (text : List ℕ). row_of_fields row ++ text) (as_written rows)
+
+-- so it is read as its records
+pub table_back : (rows : List (List (List ℕ))) (b : ℕ) (rest : List ℕ) → AreKept rows → text_of_records rows ≡ b ∷ rest → (b == 239) ≡ false
+    → table_of (text_of_records rows) ≡ rows
+table_back rows b rest kept begins other =
+    let same = as_written rows in
+    let plain : strip_bom (text_of_records rows) ≡ text_of_rows rows = ap strip_bom begins ∙ no_mark b rest other ∙ sym begins ∙ same in
+    ap (λ (text : List ℕ). map (λ row. map trimmed_text row) (records_from default_config (length text + 1) st.StartRecord text)) plain
     ∙ ap (λ (raw : List (List (List ℕ))). map (λ row. map trimmed_text row) raw) (records_in rows (length (text_of_rows rows) + 1) (omega (arith, few_rows rows)))
     ∙ kept_back rows kept
 

@@ -1,18 +1,17 @@
 //! Rows of printed files: their fields as they are written, and as they are read.
 #![tactic(auto)]
 
-ghost use Rattle.std.specs.Prelude.{◌≡◌, ℕ, ◌<◌, ◌+◌, ◌++◌, [], map, IfOk, IfSome, OnOk, length, slice_index_or};
+ghost use Rattle.std.specs.Prelude.{◌≡◌, ℕ, ◌<◌, ◌+◌, ◌++◌, [], map, IfOk, IfSome, length, slice_index_or};
 ghost use Rattle.std.specs.Option.{option_map};
 ghost use Rattle.csv_rows.specs.Tables.{row_count};
 ghost use Rattle.plan_model.specs.Network.{count};
 ghost use Rattle.printed_rows.specs.Fields.{number_of, connection_of, is_query, whole_at, rises, is_kind};
-ghost use Rattle.printed_rows.specs.Writers.{row_of_fields, text_so_far, IsBetweenRows};
+ghost use Rattle.printed_rows.specs.Writers.{row_of_fields};
 
 use clock_text::read_whole;
-use csv::{Writer, WriterBuilder};
+use csv::WriterBuilder;
 use csv_rows::Rows;
 use plan_model::{ConnectionId, Moment, Names, Network, NoMemory, PlaceId, RunId};
-use std::alloc::Global;
 
 /// The place of this name; none where it is not among the names.
 pub fn place_of(names: &Names, text: &[u8]) -> Option<PlaceId>
@@ -83,41 +82,17 @@ pub fn is_kind(rows: &Rows, row: usize, kind: &[u8], width: usize) -> bool
     rows.width(row) == width && rows.field(row, 0) == kind
 }
 
-/// A writer of rows that has written nothing.
-pub fn new_writer(alloc: Global) -> Writer<Vec<u8>>
-    ensures between { IsBetweenRows result }
-    ensures text { text_so_far result ≡ [] }
-{
-    WriterBuilder::new().from_writer(Vec::new(alloc))
-}
-
-/// A writer of rows that goes on behind a text. All rows that one writer writes have as many fields as its first.
-pub fn writer_behind(text: Vec<u8>) -> Writer<Vec<u8>>
-    ensures between { IsBetweenRows result }
-    ensures text { text_so_far result ≡ text.items }
-{
-    WriterBuilder::new().from_writer(text)
-}
-
-/// Writes a row of fields, quoted where they need it.
+/// Puts a row of fields behind a text, quoted where they need it.
 #[tactic(auto, unfolding(crate::specs::Writers::row_of_fields))]
-pub fn put_row(writer: &mut Writer<Vec<u8>>, fields: &[&[u8]]) -> Result<(), NoMemory>
-    requires { IsBetweenRows writer.old }
-    ensures between { OnOk result (IsBetweenRows writer.new) }
-    ensures text { OnOk result (text_so_far writer.new ≡ text_so_far writer.old ++ row_of_fields (map (λ field. field.now) fields.now)) }
+pub fn put_row(text: Vec<u8>, fields: &[&[u8]]) -> Result<Vec<u8>, NoMemory>
+    ensures { IfOk result (λ whole. whole.items ≡ text.items ++ row_of_fields (map (λ field. field.now) fields.now)) }
 {
-    match writer.write_fields(fields) {
-        Ok(()) => Ok(()),
-        Err(_) => Err(NoMemory),
+    let mut writer = WriterBuilder::new().from_writer(text);
+    if writer.write_fields(fields).is_err() {
+        return Err(NoMemory);
     }
-}
-
-/// The text that was written.
-pub fn text_of(writer: Writer<Vec<u8>>) -> Result<Vec<u8>, NoMemory>
-    ensures { IfOk result (λ text. text.items ≡ text_so_far writer) }
-{
     match writer.into_inner() {
-        Ok(text) => Ok(text),
+        Ok(whole) => Ok(whole),
         Err(_) => Err(NoMemory),
     }
 }

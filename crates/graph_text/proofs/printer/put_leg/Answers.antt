@@ -4,8 +4,8 @@ use Rattle.printed_rows.proofs.Connections.{dep_printable, arr_printable, run_na
 use Rattle.printed_rows.proofs.Lines.{name_is}
 use Rattle.graph_text.proofs.printer.put_leg.Goals as goal
 
-pub returns-clause-text : goal.returns-clause-text
-returns-clause-text c =
+pub returns : goal.returns
+returns c =
     let fields = leg_row_fields c.args.network.now c.args.names.now c.args.version c.args.leg c.get-enter.result c.get-exit.result c.args.kind.now c.args.second.now
     c.as_bytes.result.now c.as_bytes-2.result.now c.as_slice.result.now c.as_bytes-3.result.now c.as_bytes-4.result.now c.as_slice-2.result.now c.as_bytes-5.result.now
     c.get-enter.ensures.connection c.get-exit.ensures.connection
@@ -16,7 +16,7 @@ returns-clause-text c =
     (c.as_bytes-4.ensures.value ∙ name_is c.args.names.now.places c.get-exit.result.to.0 c.place_name.result.now c.place_name.ensures.name)
     (c.as_slice-2.ensures ∙ c.write_moment-arr.ensures.text)
     (c.as_bytes-5.ensures.value ∙ name_is c.args.names.now.places c.get-enter.result.from.0 c.place_name-2.result.now c.place_name-2.ensures.name) in
-    rw fields at c.put_row.ensures.text
+    rw fields at c.put_row.ensures
 
 pub write_moment-dep-requires : goal.write_moment-dep-requires
 write_moment-dep-requires c = dep_printable c.args.network.now c.args.leg.enter.0 c.get-enter.result c.count-count.ensures.valid c.requires.enter c.get-enter.ensures.connection

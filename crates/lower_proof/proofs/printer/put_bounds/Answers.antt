@@ -2,8 +2,8 @@ use Rattle.std.proofs.Common.{◌∙◌, ap, decimal}
 use Rattle.printed_rows.proofs.Lines.{seven_fields, name_is}
 use Rattle.lower_proof.proofs.printer.put_bounds.Goals as goal
 
-pub returns-clause-text : goal.returns-clause-text
-returns-clause-text c =
+pub returns : goal.returns
+returns c =
     let places = c.args.names.now.places in
     let query = c.args.query.now in
     let fields = seven_fields c.as_slice.result.now c.as_slice-2.result.now c.as_bytes.result.now c.as_bytes-2.result.now c.as_slice-3.result.now c.as_slice-4.result.now
@@ -15,4 +15,4 @@ returns-clause-text c =
     (c.as_slice-3.ensures ∙ c.write_moment-start.ensures.text)
     (c.as_slice-4.ensures ∙ c.write_moment-deadline.ensures.text)
     (c.as_bytes-3.ensures.value ∙ c.format.ensures.text ∙ ap decimal c.number_of.ensures) in
-    rw fields at c.put_row.ensures.text
+    rw fields at c.put_row.ensures

@@ -1,5 +1,5 @@
 use Rattle.std.proofs.Common.{◌++◌, ◌<◌, length, arith}
-use Rattle.printed_rows.specs.Writers.{text_so_far, text_of_records}
+use Rattle.printed_rows.specs.Writers.{text_of_records}
 use Rattle.lower_proof.specs.CertificateTexts.{value_records}
 use Rattle.lower_proof.proofs.ReadBack.{values_step, values_done, fit_more}
 use Rattle.lower_proof.proofs.printer.put_values.Goals as goal
@@ -10,13 +10,12 @@ loop-i-preserved c =
     let values = c.args.values.now in
     let inside : c.loop-i.i < length values = omega (arith, c.requires.as_many) in
     record {
-      between = c.in_ok-put_entry.ensures.between;
-      text = values_step n c.args.names.now values c.loop-i.i (text_so_far c.put_entry.new.writer) (text_so_far c.loop-i.writer)
-          (text_so_far c.args.writer.now ++ text_of_records (value_records n c.args.names.now 0 values)) inside c.in_ok-put_entry.ensures.text c.loop-i.invariant.text;
-      fit = fit_more values c.loop-i.i c.loop-i.invariant.fit c.in_ok-put_entry.ensures.fits;
+      text = values_step n c.args.names.now values c.loop-i.i c.in_ok-text.text.items c.loop-i.text.items
+          (c.args.text.items ++ text_of_records (value_records n c.args.names.now 0 values)) inside c.in_ok-text.ensures.text c.loop-i.invariant.text;
+      fit = fit_more values c.loop-i.i c.loop-i.invariant.fit c.in_ok-text.ensures.fits;
     }
 
 pub returns-clause-text : goal.returns-clause-text
 returns-clause-text c =
-    values_done c.args.network.now c.args.names.now c.args.values.now c.loop-i.i (text_so_far c.loop-i.writer)
-    (text_so_far c.args.writer.now ++ text_of_records (value_records c.args.network.now c.args.names.now 0 c.args.values.now)) (omega (arith, c.requires.as_many)) c.loop-i.invariant.text
+    values_done c.args.network.now c.args.names.now c.args.values.now c.loop-i.i c.loop-i.text.items
+    (c.args.text.items ++ text_of_records (value_records c.args.network.now c.args.names.now 0 c.args.values.now)) (omega (arith, c.requires.as_many)) c.loop-i.invariant.text

@@ -4,8 +4,8 @@ use Rattle.graph_text.proofs.Fields.{take_nine}
 use Rattle.printed_rows.proofs.Lines.{name_is}
 use Rattle.graph_text.proofs.printer.Printer.put_head.Goals as goal
 
-pub returns-clause-text : goal.returns-clause-text
-returns-clause-text c =
+pub returns : goal.returns
+returns c =
     let fields =
     take_nine c.args.self.now.version c.args.kind.now c.as_slice.result.now c.as_bytes.result.now c.as_bytes-2.result.now c.as_slice-2.result.now
     c.as_slice-3.result.now c.as_slice-4.result.now c.as_slice-5.result.now c.as_slice-6.result.now
@@ -19,4 +19,4 @@ returns-clause-text c =
     (c.as_slice-4.ensures ∙ c.write_nanos-lo.ensures.text ∙ ap nanos_text c.lo.ensures.lo)
     (c.as_slice-5.ensures ∙ c.write_nanos-hi.ensures.text ∙ ap nanos_text c.hi.ensures)
     c.as_slice-6.ensures in
-    rw fields at c.put_row.ensures.text
+    rw fields at c.put_row.ensures

@@ -3,8 +3,8 @@ use Rattle.graph_text.proofs.Fields.{take_nine}
 use Rattle.printed_rows.proofs.Lines.{name_is}
 use Rattle.graph_text.proofs.printer.Printer.put_place.Goals as goal
 
-pub returns-clause-text : goal.returns-clause-text
-returns-clause-text c =
+pub returns : goal.returns
+returns c =
     let none = c.as_slice-none.result.now in
     let fields = take_nine c.args.self.now.version c.as_slice.result.now c.as_bytes.result.now c.as_bytes-2.result.now c.as_bytes-3.result.now none none none none none
     _ _ _ _ _ _ _ _ []
@@ -13,4 +13,4 @@ returns-clause-text c =
     (c.as_bytes-2.ensures.value ∙ c.format.ensures.text ∙ ap decimal c.change.ensures)
     (c.as_bytes-3.ensures.value ∙ c.format-2.ensures.text)
     c.as_slice-none.ensures c.as_slice-none.ensures c.as_slice-none.ensures c.as_slice-none.ensures c.as_slice-none.ensures in
-    rw fields at c.put_row.ensures.text
+    rw fields at c.put_row.ensures

@@ -1,16 +1,12 @@
 use Rattle.std.proofs.Common.{refl}
 use Rattle.graph_text.specs.GraphTexts.{ride_text, rides_text}
-use Rattle.printed_rows.specs.Writers.{text_so_far}
 use Rattle.printed_rows.proofs.Lines.{text_more}
 use Rattle.graph_text.proofs.printer.Printer.put_rides.Goals as goal
 
 pub loop-ride-preserved : goal.loop-ride-preserved
 loop-ride-preserved c =
     let own = c.args.self.now in
-    record {
-      between = c.in_ok-put_ride.ensures.between;
-      text = text_more (rides_text own.network.now own.names.now own.version) (ride_text own.network.now own.names.now own.version)
-          (λ x xs. refl) c.args.rides.now c.loop-ride.ride-index
-          c.ride-item.result c.ride-item.result (text_so_far c.put_ride.new.writer) (text_so_far c.loop-ride.writer) _
-          c.loop-ride-test.true c.ride-item.is c.in_ok-put_ride.ensures.text c.loop-ride.invariant.text;
-    }
+    text_more (rides_text own.network.now own.names.now own.version) (ride_text own.network.now own.names.now own.version)
+    (λ x xs. refl) c.args.rides.now c.loop-ride.ride-index
+    c.ride-item.result c.ride-item.result c.in_ok-text.text.items c.loop-ride.text.items _
+    c.loop-ride-test.true c.ride-item.is c.in_ok-text.ensures c.loop-ride.invariant

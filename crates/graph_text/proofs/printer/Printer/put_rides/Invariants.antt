@@ -1,12 +1,9 @@
 use Rattle.std.proofs.Common.{◌≡◌, ◌++◌, drop}
 use Rattle.graph_text.specs.GraphTexts.{rides_text}
-use Rattle.printed_rows.specs.Writers.{text_so_far, IsBetweenRows}
 use Rattle.graph_text.proofs.printer.Printer.put_rides.Given as goal
 
 -- the text so far, and that of the rides that are left
 abbrev pub invariant-loop-ride : goal.invariant-loop-ride
-invariant-loop-ride l = record {
-  between : IsBetweenRows l.writer;
-  text : text_so_far l.writer ++ rides_text l.self.network.now l.self.names.now l.self.version
-      (drop l.ride-index l.rides) ≡ text_so_far l.initial.writer ++ rides_text l.self.network.now l.self.names.now l.self.version l.rides;
-}
+invariant-loop-ride l =
+    l.text.items ++ rides_text l.self.network.now l.self.names.now l.self.version
+    (drop l.ride-index l.rides) ≡ l.initial.text.items ++ rides_text l.self.network.now l.self.names.now l.self.version l.rides

@@ -1,12 +1,9 @@
 use Rattle.std.proofs.Common.{◌≡◌, ◌++◌, drop}
 use Rattle.graph_text.specs.GraphTexts.{rows_text}
-use Rattle.printed_rows.specs.Writers.{text_so_far, IsBetweenRows}
 use Rattle.graph_text.proofs.printer.Printer.put_rows.Given as goal
 
 -- the text so far, and that of the rows that are left
 abbrev pub invariant-loop-row : goal.invariant-loop-row
-invariant-loop-row l = record {
-  between : IsBetweenRows l.writer;
-  text : text_so_far l.writer ++ rows_text l.self.network.now l.self.names.now l.self.version l.kind
-      (drop l.row-index l.rows) ≡ text_so_far l.initial.writer ++ rows_text l.self.network.now l.self.names.now l.self.version l.kind l.rows;
-}
+invariant-loop-row l =
+    l.text.items ++ rows_text l.self.network.now l.self.names.now l.self.version l.kind
+    (drop l.row-index l.rows) ≡ l.initial.text.items ++ rows_text l.self.network.now l.self.names.now l.self.version l.kind l.rows

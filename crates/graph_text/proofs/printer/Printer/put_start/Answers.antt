@@ -3,7 +3,7 @@ use Rattle.clock_text.specs.Civil.{moment_text}
 use Rattle.plan_model.specs.declared.model.Connection.{Connection}
 use Rattle.graph_text.proofs.printer.Printer.put_start.Goals as goal
 
-pub returns-clause-text : goal.returns-clause-text
-returns-clause-text c =
+pub returns : goal.returns
+returns c =
     let second = c.as_slice.ensures ∙ c.write_moment-dep.ensures.text ∙ ap (λ (k : Connection). moment_text k.dep.0) c.get.ensures.connection in
-    rw c.in-Some.is (rw second at c.put_leg.ensures.text)
+    rw c.in-Some.is (rw second at c.put_leg.ensures)

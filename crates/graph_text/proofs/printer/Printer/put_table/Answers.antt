@@ -1,15 +1,14 @@
 use Rattle.std.proofs.Common.{length, codes}
 use Rattle.graph_text.specs.GraphTexts.{place_row, rows_text}
-use Rattle.printed_rows.specs.Writers.{text_so_far}
 use Rattle.printed_rows.proofs.Lines.{append_ok}
 use Rattle.graph_text.proofs.printer.Printer.put_table.Goals as goal
 
-pub returns-clause-text : goal.returns-clause-text
-returns-clause-text c =
+pub returns : goal.returns
+returns c =
     let n = c.args.self.now.network.now in
     let names = c.args.self.now.names.now in
     let version = c.args.self.now.version in
     let t = c.args.table.now in
-    append_ok c.put_rows.result (text_so_far c.put_rows.new.writer) (text_so_far c.put_place.new.writer) (text_so_far c.args.writer.now)
+    append_ok c.put_rows.result c.in_ok-text.text.items c.args.text.items
     (place_row n names version t.place.0 (length t.rows)) (rows_text n names version (codes "leg") t.rows)
-    (rw c.len.ensures at c.in_ok-put_place.ensures.text) (rw c.as_slice.ensures at c.put_rows.ensures.text)
+    (rw c.len.ensures at c.in_ok-text.ensures) (rw c.as_slice.ensures at c.put_rows.ensures)

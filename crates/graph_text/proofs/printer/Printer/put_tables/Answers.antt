@@ -1,16 +1,12 @@
 use Rattle.std.proofs.Common.{refl}
 use Rattle.graph_text.specs.GraphTexts.{table_text, tables_text}
-use Rattle.printed_rows.specs.Writers.{text_so_far}
 use Rattle.printed_rows.proofs.Lines.{text_more}
 use Rattle.graph_text.proofs.printer.Printer.put_tables.Goals as goal
 
 pub loop-table-preserved : goal.loop-table-preserved
 loop-table-preserved c =
     let own = c.args.self.now in
-    record {
-      between = c.in_ok-put_table.ensures.between;
-      text = text_more (tables_text own.network.now own.names.now own.version) (table_text own.network.now own.names.now own.version)
-          (λ x xs. refl) c.args.tables.now c.loop-table.table-index
-          c.table-item.result c.table-item.result (text_so_far c.put_table.new.writer) (text_so_far c.loop-table.writer) _
-          c.loop-table-test.true c.table-item.is c.in_ok-put_table.ensures.text c.loop-table.invariant.text;
-    }
+    text_more (tables_text own.network.now own.names.now own.version) (table_text own.network.now own.names.now own.version)
+    (λ x xs. refl) c.args.tables.now c.loop-table.table-index
+    c.table-item.result c.table-item.result c.in_ok-text.text.items c.loop-table.text.items _
+    c.loop-table-test.true c.table-item.is c.in_ok-text.ensures c.loop-table.invariant

@@ -1,12 +1,9 @@
 use Rattle.std.proofs.Common.{◌≡◌, ◌++◌, drop}
 use Rattle.graph_text.specs.GraphTexts.{tables_text}
-use Rattle.printed_rows.specs.Writers.{text_so_far, IsBetweenRows}
 use Rattle.graph_text.proofs.printer.Printer.put_tables.Given as goal
 
 -- the text so far, and that of the tables that are left
 abbrev pub invariant-loop-table : goal.invariant-loop-table
-invariant-loop-table l = record {
-  between : IsBetweenRows l.writer;
-  text : text_so_far l.writer ++ tables_text l.self.network.now l.self.names.now l.self.version
-      (drop l.table-index l.tables) ≡ text_so_far l.initial.writer ++ tables_text l.self.network.now l.self.names.now l.self.version l.tables;
-}
+invariant-loop-table l =
+    l.text.items ++ tables_text l.self.network.now l.self.names.now l.self.version
+    (drop l.table-index l.tables) ≡ l.initial.text.items ++ tables_text l.self.network.now l.self.names.now l.self.version l.tables
