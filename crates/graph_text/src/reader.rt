@@ -18,8 +18,9 @@ use csv_rows::{Rows, RowsFault};
 use interval_fixed::Span;
 use plan_graph::{GraphRow, PlaceTable, PlanGraph};
 use plan_model::{Leg, List, Moment, Names, Network, NoMemory, PlaceId, Query, RunId};
-use printed_rows::{connection_of, is_kind, is_query, place_of, rises, run_of, whole};
+use printed_rows::{connection_of, is_kind, is_query, rises, whole};
 use std::alloc::Global;
+use text_index::NameIndex;
 
 /// Why a text is no graph of a network and a question. A line is the number of a record, from 1 on.
 #[derive(Clone, Copy, Debug, PartialEq, Eq)]
@@ -96,7 +97,7 @@ struct Reader<'a> {
     version: Version,
     rows: &'a Rows,
     network: &'a Network,
-    names: &'a Names,
+    names: NameIndex<'a>,
 }
 
 /// Whether there is a limit, and it is this moment.
@@ -238,23 +239,23 @@ impl<'a> Reader<'a> {
     /// The place where a row has its leg begin: its own place, or the one that it names.
     fn entry_of(&self, row: usize, here: PlaceId) -> Option<PlaceId>
         requires { row < row_count self.now.rows.now }
-        ensures { option_map (λ id. id.0) result ≡ entry_in self.now.version self.now.names.now here.0
+        ensures { option_map (λ id. id.0) result ≡ entry_in self.now.version self.now.names here.0
             (slice_index_or self.now.rows.now (row + 1) []) }
     {
         match self.version {
             Version::First => Some(here),
-            Version::Second => place_of(self.names, self.rows.field(row, 8)),
+            Version::Second => self.names.place(self.rows.field(row, 8)),
         }
     }
 
     /// The names of a leg's row of a place, where each is known.
     fn names_of(&self, row: usize, here: PlaceId) -> Option<LegNames>
         requires { row < row_count self.now.rows.now }
-        ensures { result ≡ names_in self.now.version self.now.names.now here.0
+        ensures { result ≡ names_in self.now.version self.now.names here.0
             (slice_index_or self.now.rows.now (row + 1) []) }
     {
-        let run = run_of(self.names, self.rows.field(row, 2))?;
-        let exit = place_of(self.names, self.rows.field(row, 6))?;
+        let run = self.names.run(self.rows.field(row, 2))?;
+        let exit = self.names.place(self.rows.field(row, 6))?;
         let entry = self.entry_of(row, here)?;
         Some(LegNames { run, exit, entry })
     }
@@ -294,7 +295,7 @@ impl<'a> Reader<'a> {
     /// The start leg of a row.
     fn start_row(&self, row: usize, source: PlaceId, start: Moment) -> Result<Leg, TextFault>
         requires { row < row_count self.now.rows.now }
-        ensures { result ≡ start_in self.now.network.now self.now.names.now self.now.version (row + 2) source.0 start.0
+        ensures { result ≡ start_in self.now.network.now self.now.names self.now.version (row + 2) source.0 start.0
             (slice_index_or self.now.rows.now (row + 1) []) }
     {
         let line = self.rows.line(row);
@@ -333,7 +334,7 @@ impl<'a> Reader<'a> {
     ) -> Result<GraphRow, TextFault>
         requires row { row < row_count self.now.rows.now }
         requires place { place.0 < length self.now.network.now.change }
-        ensures { result ≡ row_in self.now.network.now self.now.names.now self.now.version (row + 2) place.0 last
+        ensures { result ≡ row_in self.now.network.now self.now.names self.now.version (row + 2) place.0 last
             (slice_index_or self.now.rows.now (row + 1) []) }
     {
         let line = self.rows.line(row);
@@ -408,8 +409,8 @@ impl<'a> Reader<'a> {
     /// A place row, after one of an earlier place.
     fn table_start(&self, row: usize, last: Option<u32>) -> Result<TableStart, TextFault>
         requires row { row < row_count self.now.rows.now }
-        requires names { NamesFit self.now.names.now self.now.network.now }
-        ensures told { result ≡ table_in self.now.network.now self.now.names.now self.now.version (row + 2) last
+        requires names { NamesFit self.now.names self.now.network.now }
+        ensures told { result ≡ table_in self.now.network.now self.now.names self.now.version (row + 2) last
             (slice_index_or self.now.rows.now (row + 1) []) }
         ensures there { IfOk result (λ table. table.place.0 < length self.now.network.now.change) }
     {
@@ -417,7 +418,7 @@ impl<'a> Reader<'a> {
         let Some(numbers) = self.place_row(row) else {
             return Err(TextFault::Row(line));
         };
-        let Some(place) = place_of(self.names, self.rows.field(row, 1)) else {
+        let Some(place) = self.names.place(self.rows.field(row, 1)) else {
             return Err(TextFault::UnknownName(line));
         };
         if !rises(last.map(|last| u64::from(last)), u64::from(place.0)) {
@@ -436,8 +437,8 @@ impl<'a> Reader<'a> {
     /// After a place row.
     fn read_place(&self, alloc: Global, row: usize, reading: Reading) -> Result<Reading, TextFault>
         requires row { row < row_count self.now.rows.now }
-        requires names { NamesFit self.now.names.now self.now.network.now }
-        ensures told { after_place_row reading (table_in self.now.network.now self.now.names.now self.now.version (row + 2)
+        requires names { NamesFit self.now.names self.now.network.now }
+        ensures told { after_place_row reading (table_in self.now.network.now self.now.names self.now.version (row + 2)
             (option_map (λ place. place.0) reading.place) (slice_index_or self.now.rows.now (row + 1) []))
             ≡ result }
         ensures place { IfOk result (IsPlaced self.now.network.now) }
@@ -459,7 +460,7 @@ impl<'a> Reader<'a> {
         requires last { reading.place ≡ Some place }
         requires place { place.0 < length self.now.network.now.change }
         ensures told { IsUnlessNoMemory result (after_leg_row reading
-            (row_in self.now.network.now self.now.names.now self.now.version (row + 2) place.0
+            (row_in self.now.network.now self.now.names self.now.version (row + 2) place.0
             (option_map (λ moment. moment.0) reading.by) (slice_index_or self.now.rows.now (row + 1) []))) }
         ensures place { IfOk result (IsPlaced self.now.network.now) }
     {
@@ -474,8 +475,8 @@ impl<'a> Reader<'a> {
     fn read_row(&self, alloc: Global, row: usize, reading: Reading) -> Result<Reading, TextFault>
         requires row { row < row_count self.now.rows.now }
         requires place { IsPlaced self.now.network.now reading }
-        requires names { NamesFit self.now.names.now self.now.network.now }
-        ensures told { IsUnlessNoMemory result (step self.now.network.now self.now.names.now self.now.version (row + 2)
+        requires names { NamesFit self.now.names self.now.network.now }
+        ensures told { IsUnlessNoMemory result (step self.now.network.now self.now.names self.now.version (row + 2)
             (slice_index_or self.now.rows.now (row + 1) []) reading) }
         ensures place { IfOk result (IsPlaced self.now.network.now) }
     {
@@ -490,8 +491,8 @@ impl<'a> Reader<'a> {
 
     /// The tables of the rows from the second on.
     fn read_tables(&self, alloc: Global) -> Result<List<PlaceTable>, TextFault>
-        requires names { NamesFit self.now.names.now self.now.network.now }
-        ensures { IsUnlessNoMemory result (place_tables_from self.now.network.now self.now.names.now self.now.version (drop 2 self.now.rows.now) 3 no_tables) }
+        requires names { NamesFit self.now.names self.now.network.now }
+        ensures { IsUnlessNoMemory result (place_tables_from self.now.network.now self.now.names self.now.version (drop 2 self.now.rows.now) 3 no_tables) }
     {
         let mut reading = Reading::new(alloc);
         let count = self.rows.count();
@@ -548,15 +549,15 @@ impl<'a> Reader<'a> {
 
     /// The head, whose source, target and start are these.
     fn read_head(&self, source: PlaceId, target: PlaceId, start: Moment) -> Result<Head, TextFault>
-        ensures told { result ≡ head_in self.now.names.now self.now.version source.0 target.0 start.0 (header self.now.rows.now) }
+        ensures told { result ≡ head_in self.now.names self.now.version source.0 target.0 start.0 (header self.now.rows.now) }
         ensures query { IfOk result (λ head. (head.query.source ≡ source)
             × (head.query.target ≡ target) × (head.query.start ≡ start)) }
     {
         let Some(numbers) = self.head_row() else {
             return Err(TextFault::Row(1));
         };
-        let from = place_of(self.names, self.rows.header_field(2));
-        let to = place_of(self.names, self.rows.header_field(3));
+        let from = self.names.place(self.rows.header_field(2));
+        let to = self.names.place(self.rows.header_field(3));
         let (Some(from), Some(to)) = (from, to) else {
             return Err(TextFault::UnknownName(1));
         };
@@ -577,8 +578,8 @@ impl<'a> Reader<'a> {
     /// The graph of the start row and the rows after it.
     fn read_rows(&self, alloc: Global, query: &Query) -> Result<PlanGraph, TextFault>
         requires some { 0 < row_count self.now.rows.now }
-        requires names { NamesFit self.now.names.now self.now.network.now }
-        ensures { IsUnlessNoMemory result (started_in self.now.network.now self.now.names.now self.now.version query.now.source.0 query.now.start.0
+        requires names { NamesFit self.now.names self.now.network.now }
+        ensures { IsUnlessNoMemory result (started_in self.now.network.now self.now.names self.now.version query.now.source.0 query.now.start.0
             (slice_index_or self.now.rows.now 1 []) (drop 2 self.now.rows.now)) }
     {
         let leg = self.start_row(0, query.source, query.start)?;
@@ -591,9 +592,9 @@ impl<'a> Reader<'a> {
 
     /// The graph of the rows after the first.
     fn read_graph(&self, alloc: Global, query: &Query) -> Result<PlanGraph, TextFault>
-        requires names { NamesFit self.now.names.now self.now.network.now }
+        requires names { NamesFit self.now.names self.now.network.now }
         ensures { IsUnlessNoMemory result
-            (graph_after_first self.now.network.now self.now.names.now self.now.version query.now.source.0 query.now.target.0 query.now.start.0
+            (graph_after_first self.now.network.now self.now.names self.now.version query.now.source.0 query.now.target.0 query.now.start.0
             (drop 1 self.now.rows.now)) }
     {
         let here = query.source.0 == query.target.0;
@@ -631,15 +632,15 @@ fn read_records(
     alloc: Global,
     rows: &Rows,
     network: &Network,
-    names: &Names,
+    names: NameIndex<'_>,
     source: PlaceId,
     target: PlaceId,
     start: Moment,
 ) -> Result<(Head, PlanGraph), TextFault>
-    requires names { NamesFit names.now network.now }
+    requires names { NamesFit names network.now }
     requires some { 0 < length rows.now }
     ensures { IsUnlessNoMemory result
-        (graph_of_records network.now names.now source.0 target.0 start.0 rows.now) }
+        (graph_of_records network.now names.entry source.0 target.0 start.0 rows.now) }
 {
     let Some(version) = version_of(rows) else {
         return Err(TextFault::Row(1));
@@ -671,9 +672,13 @@ pub fn read(
     requires { NamesFit names.now network.now }
     ensures { IsUnlessNoMemory result (graph_of bytes.now network.now names.now source.0 target.0 start.0) }
 {
-    match Rows::read(alloc, bytes) {
-        Ok(rows) => read_records(alloc, &rows, network, names, source, target, start),
-        Err(RowsFault::NoHeader) => Err(TextFault::Row(1)),
-        Err(RowsFault::NoMemory) => Err(TextFault::NoMemory),
+    let rows = match Rows::read(alloc, bytes) {
+        Ok(rows) => rows,
+        Err(RowsFault::NoHeader) => return Err(TextFault::Row(1)),
+        Err(RowsFault::NoMemory) => return Err(TextFault::NoMemory),
+    };
+    match NameIndex::of(alloc, names) {
+        Ok(names) => read_records(alloc, &rows, network, names, source, target, start),
+        Err(_) => Err(TextFault::NoMemory),
     }
 }

@@ -9,8 +9,9 @@ use crate::{LowerBounds, no_values};
 use clock_text::{read_moment, read_nanos};
 use csv_rows::{Rows, RowsFault};
 use plan_model::{ConnectionId, List, Moment, Names, Network, NoMemory, PlaceId, Query};
-use printed_rows::{connection_of, is_kind, is_query, place_of, rises, run_of, whole};
+use printed_rows::{connection_of, is_kind, is_query, rises, whole};
 use std::alloc::Global;
+use text_index::NameIndex;
 
 /// Why a text is no certificate for a network and a question. A line is the number of a record, from 1 on.
 #[derive(Clone, Copy, Debug, PartialEq, Eq)]
@@ -91,7 +92,7 @@ fn bounds_row(rows: &Rows) -> Option<BoundsRow>
 /// What the first row tells, which is of this source, target and start.
 fn read_bounds(
     rows: &Rows,
-    names: &Names,
+    names: &NameIndex<'_>,
     source: PlaceId,
     target: PlaceId,
     start: Moment,
@@ -101,8 +102,8 @@ fn read_bounds(
     let Some(numbers) = bounds_row(rows) else {
         return Err(ProofFault::Row(1));
     };
-    let from = place_of(names, rows.header_field(2));
-    let to = place_of(names, rows.header_field(3));
+    let from = names.place(rows.header_field(2));
+    let to = names.place(rows.header_field(3));
     let (Some(from), Some(to)) = (from, to) else {
         return Err(ProofFault::UnknownName(1));
     };
@@ -131,7 +132,7 @@ fn read_value(
     rows: &Rows,
     row: usize,
     network: &Network,
-    names: &Names,
+    names: &NameIndex<'_>,
     last: Option<u64>,
 ) -> Result<Told, ProofFault>
     requires { row < row_count rows.now }
@@ -142,7 +143,7 @@ fn read_value(
     let Some(numbers) = value_numbers(rows, row) else {
         return Err(ProofFault::Row(line));
     };
-    let Some(run) = run_of(names, rows.field(row, 1)) else {
+    let Some(run) = names.run(rows.field(row, 1)) else {
         return Err(ProofFault::UnknownName(line));
     };
     let Some(id) = connection_of(network, run, numbers.step) else {
@@ -163,7 +164,7 @@ fn read_values(
     alloc: Global,
     rows: &Rows,
     network: &Network,
-    names: &Names,
+    names: &NameIndex<'_>,
     stated: u32,
 ) -> Result<Vec<Option<u64>>, ProofFault>
     ensures told { IfOk result (λ values. AreValuesTold network.now names.now rows.now stated values.items) }
@@ -206,8 +207,12 @@ pub fn read_text(
         Err(RowsFault::NoHeader) => return Err(ProofFault::Row(1)),
         Err(RowsFault::NoMemory) => return Err(ProofFault::NoMemory),
     };
-    let bounds = read_bounds(&rows, names, source, target, start)?;
-    let values = read_values(alloc, &rows, network, names, bounds.number)?;
+    let names = match NameIndex::of(alloc, names) {
+        Ok(names) => names,
+        Err(_) => return Err(ProofFault::NoMemory),
+    };
+    let bounds = read_bounds(&rows, &names, source, target, start)?;
+    let values = read_values(alloc, &rows, network, &names, bounds.number)?;
     let query = Query {
         source,
         target,

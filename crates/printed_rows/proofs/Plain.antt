@@ -16,7 +16,7 @@ use Rattle.plan_model.specs.NameLists.{AreDistinct, IsTrimmed}
 use Rattle.csv_rows.specs.Spaces.{trimmed_text}
 use Rattle.csv_rows.proofs.SpaceLemmas.{trimmed_text-IsTrimmed}
 use Rattle.printed_rows.specs.Fields.{number_of, whole_at}
-use Rattle.printed_rows.proofs.Found.{place_found, false_if, with_utf8}
+use Rattle.text_index.proofs.Numbers.{place_found, false_if, with_utf8}
 
 -- each byte is above the space
 abbrev is_plain : List ℕ → Bool

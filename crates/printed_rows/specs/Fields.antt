@@ -1,9 +1,10 @@
 -- What the fields of a printed row tell.
-use Rattle.std.specs.Prelude.{ℕ, Bool, true, List, [], length, ◌==◌, ◌&&◌, nat_lt, if◌then◌else◌, slice_index_or, Option, Some, None}
+use Rattle.std.specs.Prelude.{ℕ, Bool, true, List, [], length, ◌==◌, ◌&&◌, nat_lt, slice_index_or, Option, Some, None}
 use Rattle.std.specs.List.{position_from}
-use Rattle.std.specs.Str.{bytes_eq, is_utf8}
+use Rattle.std.specs.Str.{bytes_eq}
 use Rattle.clock_text.specs.Digits.{whole_of}
 use Rattle.plan_model.specs.NetworkModel.{NetworkModel}
+pub use Rattle.text_index.specs.Numbers.{number_of}
 
 -- a field of a record
 abbrev pub field : List (List ℕ) → ℕ → List ℕ
@@ -16,10 +17,6 @@ is_kind kind width r = (length r == width) && bytes_eq (field r 0) kind
 -- a whole number: one to nine digits
 abbrev pub whole_at : List ℕ → Option ℕ
 whole_at text = whole_of 999999999 text
-
--- the number of a name; none where it is not among the names
-abbrev pub number_of : List (List ℕ) → List ℕ → Option ℕ
-number_of names text = if is_utf8 text then position_from (λ name. bytes_eq name text) 0 names else None
 
 -- the connection of a run and step
 abbrev pub connection_of : NetworkModel → ℕ → ℕ → Option ℕ

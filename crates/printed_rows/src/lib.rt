@@ -1,38 +1,17 @@
 //! Rows of printed files: their fields as they are written, and as they are read.
 #![tactic(auto)]
 
-ghost use Rattle.std.specs.Prelude.{◌≡◌, ℕ, ◌<◌, ◌+◌, ◌++◌, [], map, IfOk, IfSome, length, slice_index_or};
+ghost use Rattle.std.specs.Prelude.{◌≡◌, ℕ, ◌<◌, ◌+◌, ◌++◌, [], map, IfOk, IfSome, slice_index_or};
 ghost use Rattle.std.specs.Option.{option_map};
 ghost use Rattle.csv_rows.specs.Tables.{row_count};
 ghost use Rattle.plan_model.specs.Network.{count};
-ghost use Rattle.printed_rows.specs.Fields.{number_of, connection_of, is_query, whole_at, rises, is_kind};
+ghost use Rattle.printed_rows.specs.Fields.{connection_of, is_query, whole_at, rises, is_kind};
 ghost use Rattle.printed_rows.specs.Writers.{row_of_fields};
 
 use clock_text::read_whole;
 use csv::WriterBuilder;
 use csv_rows::Rows;
-use plan_model::{ConnectionId, Moment, Names, Network, NoMemory, PlaceId, RunId};
-
-/// The place of this name; none where it is not among the names.
-pub fn place_of(names: &Names, text: &[u8]) -> Option<PlaceId>
-    ensures number { option_map (λ id. id.0) result ≡ number_of names.now.places text.now }
-    ensures there { IfSome result (λ id. id.0 < length names.now.places) }
-{
-    match std::str::from_utf8(text) {
-        Ok(name) => names.place(name),
-        Err(_) => None,
-    }
-}
-
-/// The run of this name; none where it is not among the names.
-pub fn run_of(names: &Names, text: &[u8]) -> Option<RunId>
-    ensures { option_map (λ id. id.0) result ≡ number_of names.now.runs text.now }
-{
-    match std::str::from_utf8(text) {
-        Ok(name) => names.run(name),
-        Err(_) => None,
-    }
-}
+use plan_model::{ConnectionId, Moment, Network, NoMemory, PlaceId, RunId};
 
 /// The connection of a run and step; none where the run has no such step.
 pub fn connection_of(network: &Network, run: RunId, step: u32) -> Option<ConnectionId>

@@ -2,5 +2,7 @@
 #![tactic(auto)]
 
 mod index;
+mod names;
 
 pub use index::TextIndex;
+pub use names::NameIndex;

@@ -1,15 +1,14 @@
-use Rattle.std.proofs.Common.{◌∙◌, drop, Ok, Err, Result, sym, ap}
+use Rattle.std.proofs.Common.{◌∙◌, Ok, Result, sym, ap}
 use Rattle.plan_model.specs.Results.{and_then}
 use Rattle.plan_graph.specs.declared.PlanGraph.{PlanGraph}
 use Rattle.graph_text.specs.declared.reader.TextFault.{TextFault}
-use Rattle.graph_text.specs.Reading.{graph_after_first}
-use Rattle.graph_text.proofs.Tables.{told_by, fault_on}
+use Rattle.graph_text.proofs.Tables.{told_by}
 use Rattle.graph_text.proofs.reader.read_records.Goals as goal
 
 pub returns-in-Ok : goal.returns-in-Ok
 returns-in-Ok c =
     let n = c.args.network.now in
-    let names = c.args.names.now in
+    let names = c.args.names in
     let version = c.in-Some.version in
     let head = c.in_ok-head.head in
     let graph = c.in-Ok.graph in
@@ -18,16 +17,3 @@ returns-in-Ok c =
     let told = rw (query.0, query.1, query.2) at c.in-Ok.ensures in
     told_by n names version c.args.source.0 c.args.target.0 c.args.start.0 rows head (Ok (head, graph)) c.requires.some (sym c.in-Some.is ∙ c.version_of.ensures) c.in_ok-head.ensures.told
     (ap (λ (r : Result PlanGraph TextFault). and_then r (λ g. Ok (head, g))) told)
-
-pub returns-in-Err : goal.returns-in-Err
-returns-in-Err c =
-    let n = c.args.network.now in
-    let names = c.args.names.now in
-    let version = c.in-Some.version in
-    let head = c.in_ok-head.head in
-    let fault = c.in-Err.fault in
-    let rows = c.args.rows.now in
-    let query = c.in_ok-head.ensures.query in
-    let told = rw (query.0, query.1, query.2) at c.in-Err.ensures in
-    told_by n names version c.args.source.0 c.args.target.0 c.args.start.0 rows head (Err fault) c.requires.some (sym c.in-Some.is ∙ c.version_of.ensures) c.in_ok-head.ensures.told
-    (fault_on fault (graph_after_first n names version c.args.source.0 c.args.target.0 c.args.start.0 (drop 1 rows)) (λ g. Ok (head, g)) told)

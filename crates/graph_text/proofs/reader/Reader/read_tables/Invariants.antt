@@ -5,7 +5,7 @@ use Rattle.graph_text.proofs.reader.Reader.read_tables.Given as goal
 -- what the rows that are left tell from here on
 abbrev pub invariant-loop-row : goal.invariant-loop-row
 invariant-loop-row l = record {
-  told : place_tables_from l.self.network.now l.self.names.now l.self.version
-      (drop 2 l.self.rows.now) 3 no_tables ≡ place_tables_from l.self.network.now l.self.names.now l.self.version (drop (l.row + 1) l.self.rows.now) (l.row + 2) l.reading;
+  told : place_tables_from l.self.network.now l.self.names l.self.version
+      (drop 2 l.self.rows.now) 3 no_tables ≡ place_tables_from l.self.network.now l.self.names l.self.version (drop (l.row + 1) l.self.rows.now) (l.row + 2) l.reading;
   place : IsPlaced l.self.network.now l.reading;
 }

@@ -1,9 +1,0 @@
-use Rattle.printed_rows.proofs.Found.{run_number, no_number}
-use Rattle.printed_rows.proofs.run_of.Goals as goal
-
-pub returns-in-Ok : goal.returns-in-Ok
-returns-in-Ok c = run_number c.run.result c.args.names.now.runs c.args.text.now c.in-Ok.name.now
-    c.in-Ok.ensures.cases.0 c.in-Ok.ensures.cases.1 c.run.ensures.found c.run.ensures.none c.run.ensures.distinct
-
-pub returns-in-Err : goal.returns-in-Err
-returns-in-Err c = no_number c.args.text.now c.args.names.now.runs c.in-Err.ensures.cases.0
