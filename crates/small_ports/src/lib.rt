@@ -1,4 +1,4 @@
-//! Files and sinks in use, the rows, ids and keys of small tables, sets of texts, and made files.
+//! Files and sinks in use, the rows, ids and keys of small tables, lists and indexes of texts, and made files.
 #![tactic(auto)]
 
 #[cfg(test)]

@@ -176,7 +176,7 @@ fn numbers_of(ids: &Ids, names: [&str; 3]) -> (Option<u32>, Option<u32>, Option<
 
 #[test]
 fn numbers_ids(rt: HostRuntime) -> Result<(), Fail> {
-    let mut ids = Ids::with_key(rt.alloc(), HashKey::new(3, 5));
+    let mut ids = Ids::with_key(rt.alloc(), HashKey::fixed());
     let added = adds_each_once(rt.alloc(), &mut ids)?;
     assert!(rt; added);
     assert!(rt; are(&ids, &["b", "a"]));

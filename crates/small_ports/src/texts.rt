@@ -1,62 +1,117 @@
-//! Sets of texts that outgrow their first buckets, also where all texts share one hash.
-use plan_model::{HashKey, TextSet};
+//! Lists of distinct texts, and indexes of them that outgrow their first buckets.
+use csv_rows::Ids;
+use plan_model::{HashKey, Names, TextList};
 use std::alloc::Global;
 use std::test::Fail;
+use text_index::TextIndex;
 
-/// More texts than a set has buckets at first, all of one length.
+/// More texts than an index has buckets at first, all of one length.
 const TEXTS: [&str; 20] = [
     "aa", "ab", "ac", "ad", "ae", "af", "ag", "ah", "ai", "aj", "ba", "bb", "bc", "bd", "be", "bf",
     "bg", "bh", "bi", "bj",
 ];
 
-/// A key by which all texts of two bytes have the hash 0: it multiplies by its multiplier and twice the length, joined by
-/// exclusive or.
-fn key_of_one_hash() -> HashKey {
-    HashKey::new(7, 4)
-}
-
-/// The set of these texts, each added twice, and how many of them were new.
-fn set_of(alloc: Global, key: HashKey) -> Result<(TextSet, u32), Fail> {
-    let mut set = TextSet::with_key(alloc, key);
+/// The list of these texts, each added twice, and how many of them were new.
+fn list_of(alloc: Global) -> Result<(TextList, u32), Fail> {
+    let mut list = TextList::new(alloc);
     let mut new = 0u32;
     for text in TEXTS.iter().chain(TEXTS.iter()) {
-        if set.len() < 100 && new < 100 && set.add(alloc, text)? {
+        if list.len() < 100 && new < 100 && list.add(alloc, text)? {
             new += 1;
         }
     }
-    Ok((set, new))
+    Ok((list, new))
 }
 
-/// Whether each text has its place as its number, and the number its text.
-fn has_all(set: &TextSet) -> bool {
+/// Whether a list has each text at its place, and no other.
+fn lists_all(list: &TextList) -> bool {
     for (i, text) in TEXTS.iter().enumerate() {
-        let Some(number) = set.number(text) else {
+        let Some(number) = list.number(text) else {
             return false;
         };
-        if number as usize != i || number >= set.len() || set.get(number) != *text {
+        if number as usize != i || number >= list.len() || list.get(number) != *text {
             return false;
         }
     }
-    set.number("zz").is_none() && set.number("a").is_none()
+    list.len() == 20 && list.number("zz").is_none() && list.number("a").is_none()
 }
 
-/// Whether a set by this key, and a copy of it, have each text once.
-fn keeps_all(alloc: Global, key: HashKey) -> Result<bool, Fail> {
-    let (set, new) = set_of(alloc, key)?;
-    let copy = set.try_clone(alloc)?;
-    Ok(new == 20 && set.len() == 20 && has_all(&set) && copy.len() == 20 && has_all(&copy))
+/// The same of an index.
+fn finds_all(index: &TextIndex<'_>) -> bool {
+    for (i, text) in TEXTS.iter().enumerate() {
+        let Some(number) = index.number(text) else {
+            return false;
+        };
+        if number as usize != i || number >= index.len() || index.get(number) != *text {
+            return false;
+        }
+    }
+    index.len() == 20 && index.number("zz").is_none() && index.number("a").is_none()
 }
 
 #[test]
-fn finds_each_text_of_many(rt: HostRuntime) -> Result<(), Fail> {
-    let kept = keeps_all(rt.alloc(), HashKey::new(3, 5))?;
-    assert!(rt; kept);
+fn lists_each_text_once(rt: HostRuntime) -> Result<(), Fail> {
+    let (list, new) = list_of(rt.alloc())?;
+    assert_eq!(rt; new, 20);
+    assert!(rt; lists_all(&list));
+    let copy = list.try_clone(rt.alloc())?;
+    assert!(rt; lists_all(&copy));
+    Ok(())
+}
+
+/// Whether an index of a list by this key finds each text.
+fn index_finds_all(alloc: Global, key: HashKey) -> Result<bool, Fail> {
+    let (list, _new) = list_of(alloc)?;
+    let index = TextIndex::of(alloc, key, &list)?;
+    Ok(finds_all(&index))
+}
+
+#[test]
+fn finds_the_texts_of_a_list(rt: HostRuntime) -> Result<(), Fail> {
+    let fixed = index_finds_all(rt.alloc(), HashKey::fixed())?;
+    assert!(rt; fixed);
+    let drawn = index_finds_all(rt.alloc(), HashKey::drawn(&rt))?;
+    assert!(rt; drawn);
+    Ok(())
+}
+
+/// Whether an index that takes each text twice numbers it by its first place.
+fn numbers_by_appearance(index: &mut TextIndex<'_>) -> Result<bool, Fail> {
+    for (i, text) in TEXTS.iter().chain(TEXTS.iter()).enumerate() {
+        if index.len() >= 100 || index.add(text)? as usize != i % 20 {
+            return Ok(false);
+        }
+    }
+    Ok(true)
+}
+
+#[test]
+fn numbers_texts_as_they_appear(rt: HostRuntime) -> Result<(), Fail> {
+    let mut index = TextIndex::new(rt.alloc(), HashKey::fixed());
+    let numbered = numbers_by_appearance(&mut index)?;
+    assert!(rt; numbered);
+    assert!(rt; finds_all(&index));
+    let list = index.list(rt.alloc())?;
+    assert!(rt; lists_all(&list));
     Ok(())
 }
 
 #[test]
-fn finds_texts_that_share_a_hash(rt: HostRuntime) -> Result<(), Fail> {
-    let kept = keeps_all(rt.alloc(), key_of_one_hash())?;
-    assert!(rt; kept);
+fn names_that_are_new_go_last(rt: HostRuntime) -> Result<(), Fail> {
+    let mut names = Names::new(rt.alloc());
+    names.push_place("a")?;
+    names.push_run("b")?;
+    assert_eq!(rt; names.place_texts().number("a"), Some(0));
+    assert_eq!(rt; names.run_texts().number("b"), Some(0));
+    assert_eq!(rt; names.run_texts().number("a"), None);
+    Ok(())
+}
+
+#[test]
+fn an_id_that_is_new_goes_last(rt: HostRuntime) -> Result<(), Fail> {
+    let mut ids = Ids::of(HashKey::fixed(), TextList::new(rt.alloc()));
+    ids.push(rt.alloc(), "a")?;
+    assert_eq!(rt; ids.texts().number("a"), Some(0));
+    assert_eq!(rt; ids.len(), 1);
     Ok(())
 }
