@@ -44,11 +44,12 @@ module _ {V : Type 0} (below covers : V → Tree → Type 0) (gap rank : V → �
   }
 
   pub expanded_at_once : (n : NetworkModel) (q : Query) (graph : ExpandedGraph) (value : V) → q.source.0 ≡ q.target.0 → q.start.0 ≤ q.deadline.0
-      → graph ≡ no_rides → value ≡ arrived q.start.0 → IsExpandedBy below covers gap arrived n q graph value
+      → graph ≡ no_rides → value ≡ arrived q.start.0 → IsExpandedBy below covers gap rank arrived blended lowered n q graph value
   expanded_at_once n q graph value same early is exact =
       let best = subst (λ (t : Tree). IsBestBy below covers gap arrived n q t (arrived q.start.0)) (sym (unfolds n q (pick_after []) same)) (best_at_once n q same early) in
-      let whole : IsExpandedBy below covers gap arrived n q no_rides (arrived q.start.0) = record {
+      let whole : IsExpandedBy below covers gap rank arrived blended lowered n q no_rides (arrived q.start.0) = record {
         best = best;
+        by_rules = λ differ. absurd (differ same);
         ready = record { safe = (q.deadline.0, best.safe); starts = same; rising = AllPairs-nil (λ (a b : RideTable). Precedes a.leg b.leg); rides = All-nil _ };
         busy = record { picked = All-nil _; stands = All-nil _ };
         whole = λ leg there. absurd (subst (λ (t : Tree). Stands leg t) (unfolds n q (pick_after []) same) there);

@@ -1,7 +1,8 @@
 -- The decision graph ride by ride.
-use Rattle.std.specs.Prelude.{ℕ, All, Option}
+use Rattle.std.specs.Prelude.{◌≢◌, ℕ, All, Option, List}
 use Rattle.interval_fixed.specs.Interval.{Interval}
 use Rattle.plan_model.specs.declared.model.Leg.{Leg}
+use Rattle.plan_model.specs.declared.model.Outcome.{Outcome}
 use Rattle.plan_model.specs.declared.model.Query.{Query}
 use Rattle.plan_model.specs.NetworkModel.{NetworkModel}
 use Rattle.plan_model.specs.Tree.{Tree}
@@ -10,6 +11,8 @@ use Rattle.plan_graph.specs.declared.ExpandedGraph.{ExpandedGraph}
 use Rattle.plan_graph.specs.Unfold.{unfold_expanded}
 use Rattle.plan_graph.specs.Ready.{IsReady, IsBusy}
 use Rattle.plan_graph.specs.Follows.{IsSteady, Follows}
+use Rattle.value_laws.specs.Means.{mean_rank, mean_lowered, mean_arrived, mean_blended, from_span}
+use Rattle.meat_scan.specs.Rules.{IsByRules}
 use Rattle.leg_extract.specs.Extracted.{HasArrivals, IsWhole}
 use Rattle.decision_graph.specs.GraphValues.{IsBestBy, IsBest}
 
@@ -17,10 +20,12 @@ use Rattle.decision_graph.specs.GraphValues.{IsBestBy, IsBest}
 abbrev pub IsNoneSafe : NetworkModel → Query → Type 0
 IsNoneSafe network query = (tree : Tree) → IsSafeFor network query tree → ⊥
 
--- the graph unfolds to a best strategy; it has a row for each outcome, every row is picked, and its rides are those that stand
--- in the unfolding, each of them
-pub record IsExpandedBy {V : Type 0} (below covers : V → Tree → Type 0) (gap : V → ℕ) (arrived : ℕ → V) (network : NetworkModel) (query : Query) (graph : ExpandedGraph) (value : V) : Type 0 where
+-- the graph unfolds to a best strategy, which is the one that the rules of the scan keep where source and target differ; it has a row for
+-- each outcome, every row is picked, and its rides are those that stand in the unfolding, each of them
+pub record IsExpandedBy {V : Type 0} (below covers : V → Tree → Type 0) (gap rank : V → ℕ) (arrived : ℕ → V) (blended : List Outcome → List V → V)
+    (lowered : V → V → V) (network : NetworkModel) (query : Query) (graph : ExpandedGraph) (value : V) : Type 0 where
   pub best : IsBestBy below covers gap arrived network query (unfold_expanded graph network query) value
+  pub by_rules : query.source.0 ≢ query.target.0 → IsByRules rank lowered arrived blended network query (unfold_expanded graph network query) value
   pub ready : IsReady network query graph
   pub busy : IsBusy network query graph
   pub whole : IsWhole network query graph
@@ -35,6 +40,8 @@ pub record HasSteadyChoice (network : NetworkModel) (query : Query) (graph : Exp
 -- the same of the bounds on the expected arrival
 pub record IsExpanded (network : NetworkModel) (query : Query) (graph : ExpandedGraph) (bounds : Interval) : Type 0 where
   pub best : IsBest network query (unfold_expanded graph network query) bounds
+  pub by_rules : query.source.0 ≢ query.target.0
+      → IsByRules mean_rank mean_lowered mean_arrived mean_blended network query (unfold_expanded graph network query) (from_span bounds)
   pub ready : IsReady network query graph
   pub busy : IsBusy network query graph
   pub whole : IsWhole network query graph

@@ -2,12 +2,13 @@
 use Rattle.std.specs.Prelude.{◌≡◌, ℕ, ◌-◌, ◌*◌, ◌≤◌}
 use Rattle.plan_model.specs.Bounds.{nanos_per_second}
 use Rattle.interval_fixed.specs.Interval.{Interval}
-use Rattle.plan_model.specs.Expected.{Below, Encloses}
+use Rattle.plan_model.specs.Expected.{Below, Encloses, arrival}
 use Rattle.plan_model.specs.declared.model.Query.{Query}
 use Rattle.plan_model.specs.NetworkModel.{NetworkModel}
 use Rattle.plan_model.specs.Network.{count}
 use Rattle.plan_model.specs.Tree.{Tree}
 use Rattle.plan_model.specs.Strategy.{IsSafeFor}
+use Rattle.value_laws.specs.Rounded.{rounded_up, rounded_down}
 
 -- the strategy is safe; the value covers it and is below every safe strategy, this one too;
 -- its gap is at most the number of connections; where source and target are one place, it is that of having arrived at the start
@@ -18,11 +19,14 @@ pub record IsBestBy {V : Type 0} (below covers : V → Tree → Type 0) (gap : V
   pub gap_within : gap value ≤ count network
   pub at_once : query.source.0 ≡ query.target.0 → value ≡ arrived query.start.0
 
--- the strategy is safe; the bounds enclose its expected arrival, and the lower one is below that of every safe strategy;
--- they differ by at most one nanosecond for each connection of the network; where source and target are one place, both are the start
+-- the strategy is safe; the bounds enclose its expected arrival, and the upper one is that with each mean rounded up, ride by ride; the lower
+-- one is below that of every safe strategy, and at most that with each mean rounded down; they differ by at most one nanosecond for each
+-- connection of the network; where source and target are one place, both are the start
 pub record IsBest (network : NetworkModel) (query : Query) (strategy : Tree) (bounds : Interval) : Type 0 where
   pub safe : IsSafeFor network query strategy
   pub encloses : Encloses bounds.lo bounds.hi strategy
+  pub rounded : bounds.hi ≡ rounded_up nanos_per_second arrival strategy
   pub below_safe : (tree : Tree) → IsSafeFor network query tree → Below bounds.lo tree
+  pub least : (tree : Tree) → IsSafeFor network query tree → bounds.lo ≤ rounded_down nanos_per_second arrival tree
   pub gap : bounds.hi - bounds.lo ≤ count network
   pub at_once : query.source.0 ≡ query.target.0 → bounds ≡ record { lo = nanos_per_second * query.start.0; hi = nanos_per_second * query.start.0 }

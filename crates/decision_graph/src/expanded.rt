@@ -45,7 +45,7 @@ pub(crate) fn expand_with<V: Score, B: BackwardOrder>(
     requires deadline { query.now.start.0 ≤ query.now.deadline.0 }
     requires arrived { arrived ≡ V.arrived query.now.start.0 }
     ensures plan { IfOk result (λ found. MatchOption found (IsNoneSafe network.now query.now)
-        (λ p. IsExpandedBy V.below V.covers V.gap V.arrived network.now query.now p.graph p.value)) }
+        (λ p. IsExpandedBy V.below V.covers V.gap V.rank V.arrived V.blended V.lowered network.now query.now p.graph p.value)) }
     ensures steady { IfOk result (λ found. IfSome found (λ p. HasSteadyChoice network.now query.now p.graph)) }
     ensures fits { B.fits order.new network.now }
 {
@@ -71,6 +71,7 @@ pub(crate) fn expand_with<V: Score, B: BackwardOrder>(
 
 /// The decision graph of a query ride by ride, by a scan in this order of the network's connections, with bounds that enclose the least expected arrival
 /// of all strategies that are safe for it. None exactly where no strategy is safe.
+#[tactic(auto, using(crate::proofs::Means::expanded_means))]
 pub fn expand<B: BackwardOrder>(
     alloc: Global,
     order: &mut B,

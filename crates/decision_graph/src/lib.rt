@@ -8,7 +8,9 @@
 #![tactic(auto)]
 
 mod expanded;
+mod laws;
 mod planned;
 
 pub use expanded::{ExpandedPlan, expand};
+pub use laws::{a_later_deadline_is_no_worse, least_worst_is_kept};
 pub use planned::{CompactPlan, ScoredPlan, plan, plan_by};

@@ -50,7 +50,7 @@ fn plan_with<V: Score, B: BackwardOrder>(
     requires deadline { query.now.start.0 ≤ query.now.deadline.0 }
     requires arrived { arrived ≡ V.arrived query.now.start.0 }
     ensures plan { IfOk result (λ found. MatchOption found (IsNoneSafe network.now query.now)
-        (λ p. IsPlannedBy V.below V.covers V.gap V.arrived network.now query.now p.graph p.value)) }
+        (λ p. IsPlannedBy V.below V.covers V.gap V.rank V.arrived V.blended V.lowered network.now query.now p.graph p.value)) }
     ensures fits { B.fits order.new network.now }
 {
     let Some(expanded) = expand_with(alloc, order, network, query, arrived)? else {
@@ -81,7 +81,7 @@ pub fn plan_by<V: Score, B: BackwardOrder>(
     requires start { query.now.start.0 < end_of_time }
     requires deadline { query.now.start.0 ≤ query.now.deadline.0 }
     ensures plan { IfOk result (λ found. MatchOption found (IsNoneSafe network.now query.now)
-        (λ p. IsPlannedBy V.below V.covers V.gap V.arrived network.now query.now p.graph p.value)) }
+        (λ p. IsPlannedBy V.below V.covers V.gap V.rank V.arrived V.blended V.lowered network.now query.now p.graph p.value)) }
     ensures fits { B.fits order.new network.now }
 {
     plan_with(alloc, order, network, query, V::arrive(query.start))
@@ -90,6 +90,7 @@ pub fn plan_by<V: Score, B: BackwardOrder>(
 /// The decision graph of a query with one table for each place, by a scan in this order of the
 /// network's connections, and bounds that enclose the least
 /// expected arrival of all strategies that are safe for it. None exactly where no strategy is safe.
+#[tactic(auto, using(crate::proofs::Means::planned_means))]
 pub fn plan<B: BackwardOrder>(
     alloc: Global,
     order: &mut B,

@@ -13,6 +13,7 @@ use Rattle.departure_table.specs.Departures.{IsNoneSafeFrom, SafeFrom, IsBestFro
 use Rattle.journey_model.specs.Sites.{last_printable}
 use Rattle.journey_model.specs.declared.problem.Problem.{Problem}
 use Rattle.plan_model.specs.declared.model.Query.{Query}
+use Rattle.departure_answers.specs.ByRules.{AreByRules}
 use Rattle.departure_answers.specs.Departures.{SafeOf, AreDepartures, HasSafeFor, HasNoneFor}
 
 module _ (n : NetworkModel) (source target deadline : ℕ) where
@@ -78,12 +79,13 @@ module _ (p : Problem) (q : Query) where
         (subst (λ (d : Moment). IsGreatestMoment (λ moment tree. IsSafeFromStart p.network own.target.0 (Some d.0) tree q.source.0 moment) first result) deadline is)
 
   -- departures between two places
-  pub departures_away : (last : ℕ) (rows : List DepartureRow) → q.source.0 ≢ q.target.0 → IsTable p.network (SafeOf p q) q.start.0 last rows → AreDepartures p q last rows
-  departures_away last rows differ is = record { at_once = λ same. absurd (differ same); table = λ other. is }
+  pub departures_away : (last : ℕ) (rows : List DepartureRow) → q.source.0 ≢ q.target.0 → IsTable p.network (SafeOf p q) q.start.0 last rows
+      → AreByRules p q last rows → AreDepartures p q last rows
+  departures_away last rows differ is ruled = record { at_once = λ same. absurd (differ same); table = λ other. is; by_rules = λ other. ruled }
 
   -- and from a place to itself
   pub departures_at_once : (last : ℕ) (rows : List DepartureRow) → rows ≡ [] → q.source.0 ≡ q.target.0 → AreDepartures p q last rows
-  departures_at_once last rows none same = record { at_once = λ other. none; table = λ differ. absurd (differ same) }
+  departures_at_once last rows none same = record { at_once = λ other. none; table = λ differ. absurd (differ same); by_rules = λ differ. absurd (differ same) }
 
   -- the rows have texts
   pub rows_depart : (last : ℕ) (rows : List DepartureRow) → AreDepartures p q last rows → All (IsDepartureRow p.network) rows

@@ -6,6 +6,7 @@ use Rattle.plan_model.specs.Tree.{Tree}
 use Rattle.plan_model.specs.Strategy.{IsSafeFor}
 use Rattle.departure_table.specs.declared.DepartureRow.{DepartureRow}
 use Rattle.departure_table.specs.Departures.{SafeFrom, IsTable, IsGreatestMoment}
+use Rattle.departure_answers.specs.ByRules.{AreByRules}
 use Rattle.printed_rows.specs.Writers.{place_name}
 use Rattle.journey_model.specs.declared.faults.Fault.{Fault}
 use Rattle.journey_model.specs.declared.faults.Fault.TheVariants.{NoSafe}
@@ -29,10 +30,11 @@ HasSafeFor p query = (tree : Tree) × IsSafeFor p.network query tree
 abbrev pub HasNoneFor : Problem → Query → Type 0
 HasNoneFor p query = (tree : Tree) → IsSafeFor p.network query tree → ⊥
 
--- the departures from the start of the query to a last moment; none where source and target are one place
+-- the departures from the start of the query to a last moment, as the rules of the scan give them; none where source and target are one place
 pub record AreDepartures (p : Problem) (query : Query) (last : ℕ) (rows : List DepartureRow) : Type 0 where
   pub at_once : query.source.0 ≡ query.target.0 → rows ≡ []
   pub table : query.source.0 ≢ query.target.0 → IsTable p.network (SafeOf p query) query.start.0 last rows
+  pub by_rules : query.source.0 ≢ query.target.0 → AreByRules p query last rows
 
 -- the departures are told; some tree is safe from the first moment
 abbrev pub TellsDepartures : Problem → Query → ℕ → Findings → List ℕ → Type 0

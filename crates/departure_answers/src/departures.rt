@@ -7,6 +7,8 @@ ghost use Rattle.meat_scan.specs.Solves.{Solves};
 ghost use Rattle.value_laws.specs.Means.{mean_below, mean_covers, mean_gap};
 ghost use Rattle.command_line.specs.Values.{last_until};
 ghost use Rattle.journey_model.specs.Wants.{OrNoMemory};
+ghost use Rattle.plan_model.specs.View.{extended as with_added};
+ghost use Rattle.departure_answers.specs.ByRules.{IsRuled, AreByRules, added_query};
 ghost use Rattle.departure_answers.specs.Departures.{query_until, SafeOf, AreDepartures, HasSafeFor, HasNoneFor, IsUntil, TellsDepartures, TellsLatest, FailsDepartures, FailsLatest};
 ghost use Rattle.journey_report.specs.Findings.{findings_of};
 
@@ -45,8 +47,9 @@ fn scan_of(alloc: Global, network: &Network, query: &Query) -> Result<Scanned<Me
     requires source { query.now.source.0 < length network.now.change }
     requires target { query.now.target.0 < length network.now.change }
     requires differ { query.now.source.0 ≢ query.now.target.0 }
-    ensures { IfOk result (λ scanned. Solves mean_below mean_covers mean_gap
+    ensures solves { IfOk result (λ scanned. Solves mean_below mean_covers mean_gap
         scanned network.now query.now) }
+    ensures ruled { IfOk result (IsRuled network.now query.now) }
 {
     let mut order = MergedRuns::new(alloc, network)?;
     let tables: ScanTables<MeanSpan> = ScanTables::reserve(alloc, network)?;
@@ -64,6 +67,9 @@ fn scan_from_added(alloc: Global, problem: &Problem, query: &Query) -> Result<Fr
     ensures deadline { IfOk result (λ found. found.query.deadline ≡ query.now.deadline) }
     ensures solves { IfOk result (λ found. Solves mean_below mean_covers mean_gap
         found.scanned found.network found.query) }
+    ensures ruled { IfOk result (λ found. IsRuled found.network found.query found.scanned) }
+    ensures network { IfOk result (λ found. found.network ≡ with_added problem.now.network query.now.source.0) }
+    ensures query { IfOk result (λ found. found.query ≡ added_query problem.now.network query.now) }
 {
     // That the network is valid is known from its count.
     let _count = problem.network.count();
@@ -94,7 +100,8 @@ fn rows_of(
 ) -> Result<List<DepartureRow>, NoMemory>
     requires until { IsUntil problem.now query.now }
     requires differ { query.now.source.0 ≢ query.now.target.0 }
-    ensures { IfOk result (IsTable problem.now.network (SafeOf problem.now query.now) query.now.start.0 last.0) }
+    ensures table { IfOk result (IsTable problem.now.network (SafeOf problem.now query.now) query.now.start.0 last.0) }
+    ensures by_rules { IfOk result (AreByRules problem.now query.now last.0) }
 {
     let found = scan_from_added(alloc, problem, query)?;
     says_of_source();

@@ -72,12 +72,14 @@ module _ (n : NetworkModel) (q : Query) (found : ScanResult MeanSpan) (valid : I
             omega (arith, v.forward, v.early, by),
             record { is_leg = same; departs = by ∙ ap (λ (l : Leg). dep_of n l.enter.0) (sym leg) },
             λ moment ahead within. record {
-              below_safe = λ other safe. rw bounds (answer.below_safe other (earlier other x (moment - 1) (omega arith) safe));
+              below_safe = λ other safe. rw bounds (answer.below_safe other (earlier other x (moment - 1) (omega arith) safe)).0;
+              least = λ other safe. rw bounds (answer.below_safe other (earlier other x (moment - 1) (omega arith) safe)).1;
               covers_one = (
                 tree,
                 until enter choice.1.exit.0 chosen_kids x (moment - 1) (omega (arith, ahead, within, by)) safe_ride,
                 begin,
-                rw bounds covers_ride,
+                rw bounds covers_ride.0,
+                rw bounds covers_ride.1,
               );
               gap = rw bounds answer.gap_within;
             },

@@ -30,7 +30,8 @@ module _ (n m : NetworkModel) (S T : ℕ → Tree → Type 0) (many : count n �
   best_told : (moment : ℕ) (row : DepartureRow) → 1 ≤ moment → IsBestFrom n S moment row → IsBestFrom m T moment row
   best_told moment row some b = record {
     below_safe = λ tree safe. b.below_safe tree (from moment tree some safe);
-    covers_one = let c = b.covers_one in (c.0, to moment c.0 some c.1, c.2, c.3);
+    least = λ tree safe. b.least tree (from moment tree some safe);
+    covers_one = let c = b.covers_one in (c.0, to moment c.0 some c.1, c.2, c.3, c.4);
     gap = let g = b.gap in omega arith;
   }
 

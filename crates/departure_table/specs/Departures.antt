@@ -3,14 +3,15 @@ use Rattle.std.specs.Prelude.{◌≡◌, ◌≢◌, ℕ, ◌-◌, ◌<◌, ◌�
 use Rattle.plan_model.specs.declared.model.Leg.{Leg}
 use Rattle.plan_model.specs.declared.model.Query.{Query}
 use Rattle.plan_model.specs.declared.model.Moment.{Moment}
-use Rattle.plan_model.specs.Bounds.{end_of_arrivals}
+use Rattle.plan_model.specs.Bounds.{end_of_arrivals, nanos_per_second}
 use Rattle.plan_model.specs.NetworkModel.{NetworkModel}
 use Rattle.plan_model.specs.Network.{IsValid, count, from_of, dep_of}
 use Rattle.plan_model.specs.Ways.{way_of}
 use Rattle.plan_model.specs.Tree.{Tree, Ride, Kids}
-use Rattle.plan_model.specs.Expected.{Below, Covers}
+use Rattle.plan_model.specs.Expected.{Below, Covers, arrival}
 use Rattle.plan_model.specs.Strategy.{IsLeg, IsSafeFromStart}
 use Rattle.plan_model.specs.View.{IsExtension}
+use Rattle.value_laws.specs.Rounded.{rounded_up, rounded_down}
 use Rattle.meat_scan.specs.Solves.{IsSafeAt}
 use Rattle.departure_table.specs.declared.DepartureRow.{DepartureRow}
 
@@ -34,11 +35,13 @@ IsNoneSafeFrom Safe moment = (tree : Tree) → Safe moment tree → ⊥
 abbrev pub BeginsWith : Leg → Tree → Type 0
 BeginsWith leg tree = (kids : Kids) × (tree ≡ Ride leg.enter.0 leg.exit.0 kids)
 
--- the best of what is safe from a moment on begins with the row's leg: its lower bound is below all that is safe,
--- and the upper one covers one that begins with the leg
+-- the best of what is safe from a moment on begins with the row's leg: its lower bound is below all that is safe, and at most
+-- that with each mean rounded down, ride by ride; the upper one covers one that begins with the leg, and is that rounded up
 pub record IsBestFrom (m : NetworkModel) (Safe : ℕ → Tree → Type 0) (moment : ℕ) (row : DepartureRow) : Type 0 where
   pub below_safe : (tree : Tree) → Safe moment tree → Below row.bounds.lo tree
+  pub least : (tree : Tree) → Safe moment tree → row.bounds.lo ≤ rounded_down nanos_per_second arrival tree
   pub covers_one : (tree : Tree) × Safe moment tree × BeginsWith row.leg tree × Covers row.bounds.hi tree
+      × (row.bounds.hi ≡ rounded_up nanos_per_second arrival tree)
   pub gap : row.bounds.hi - row.bounds.lo ≤ count m
 
 -- the row's leg is one of the network, and departs by the row's moment

@@ -10,6 +10,7 @@ ghost use Rattle.plan_model.specs.Network.{IsValid};
 ghost use Rattle.value_laws.specs.Means.{mean_below, mean_covers, mean_gap};
 ghost use Rattle.meat_scan.specs.Solves.{Solves};
 ghost use Rattle.departure_table.specs.Departures.{IsASecondAway, SafeAfter, IsExtendedFor, IsTable, IsGreatestMoment, LooksAhead, SaysOfSource};
+ghost use Rattle.departure_table.specs.Looked.{row_found, AreLooked};
 ghost use Rattle.plan_model.specs.declared.model.Query.{Query as Asked};
 
 use interval_fixed::Span;
@@ -19,8 +20,10 @@ use std::alloc::Global;
 use value_laws::MeanSpan;
 
 mod added_place;
+mod laws;
 
 pub use added_place::extended;
+pub use laws::{greatest_moment_agrees_with_the_least_worst, greatest_moment_is_of_the_last_row};
 
 /// What whoever sets out by a moment, and not by that of the row before, does best.
 #[derive(Clone, Copy, Debug)]
@@ -44,7 +47,8 @@ fn row_from(
     requires valid { IsValid network.now }
     requires solves { Solves mean_below mean_covers mean_gap scanned.now network.now query.now }
     requires second { IsASecondAway network.now query.now.source.0 }
-    ensures { LooksAhead network.now (SafeAfter network.now query.now) next.0 result }
+    ensures ahead { LooksAhead network.now (SafeAfter network.now query.now) next.0 result }
+    ensures found { result ≡ row_found network.now query.now scanned.now next.0 }
 {
     let Some((value, leg)) = scanned.choice(query.source, Moment(next.0 - 1)) else {
         return None;
@@ -72,7 +76,8 @@ pub fn table(
     requires valid { IsValid network.now }
     requires solves { Solves mean_below mean_covers mean_gap scanned.now network.now query.now }
     requires second { IsASecondAway network.now query.now.source.0 }
-    ensures { IfOk result (IsTable network.now (SafeAfter network.now query.now) first.0 last.0) }
+    ensures table { IfOk result (IsTable network.now (SafeAfter network.now query.now) first.0 last.0) }
+    ensures looked { IfOk result (AreLooked (row_found network.now query.now scanned.now) last.0 first.0) }
 {
     let mut rows = List::new(alloc);
     let mut next = first.0;

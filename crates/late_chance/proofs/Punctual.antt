@@ -1,5 +1,5 @@
 -- The least chance of being late in a view is that in the network.
-use Rattle.std.proofs.Common.{◌≡◌, ℕ, ◌+◌, arith, Some, sym, subst}
+use Rattle.std.proofs.Common.{◌≡◌, ℕ, ◌+◌, ◌≤◌, arith, Some, sym, ap, ◌∙◌, subst}
 use Rattle.interval_fixed.specs.Interval.{Interval}
 use Rattle.plan_model.specs.declared.model.Query.{Query}
 use Rattle.plan_model.specs.NetworkModel.{NetworkModel}
@@ -14,7 +14,9 @@ use Rattle.plan_graph.specs.declared.PlanGraph.{PlanGraph}
 use Rattle.plan_graph.specs.Unfold.{unfold_plan}
 use Rattle.late_chance.specs.LaterGraphs.{later_graph, later_query, IsShown}
 use Rattle.late_chance.specs.Punctual.{IsPunctual, PunctualAlike}
+use Rattle.value_laws.specs.Rounded.{rounded_up, rounded_down}
 use Rattle.late_chance.proofs.LaterGraphs.{alike}
+use Rattle.late_chance.proofs.Rounded.{up-later, down-later}
 
 module _ (n m : NetworkModel) (shift first : ℕ) (q : Query) (shown : IsShown n m shift first q) where
   abbrev Sooner : Tree → Type 0
@@ -29,6 +31,12 @@ module _ (n m : NetworkModel) (shift first : ℕ) (q : Query) (shown : IsShown n
   covers : (promise hi : ℕ) (tree : Tree) → LateCovers promise hi tree → LateCovers (promise + shift) hi (later_by shift tree)
   covers promise hi tree b = covers-later shift (late (promise + shift)) (late promise) (late-later shift promise) certainty hi tree b
 
+  up : (promise : ℕ) (tree : Tree) → rounded_up certainty (late (promise + shift)) (later_by shift tree) ≡ rounded_up certainty (late promise) tree
+  up promise = up-later certainty shift (late (promise + shift)) (late promise) (late-later shift promise)
+
+  down : (promise lo : ℕ) (tree : Tree) → lo ≤ rounded_down certainty (late promise) tree → lo ≤ rounded_down certainty (late (promise + shift)) (later_by shift tree)
+  down promise lo tree less = let e = down-later certainty shift (late (promise + shift)) (late promise) (late-later shift promise) tree in omega (arith, e, less)
+
   graphs : (promise : ℕ) (graph : PlanGraph) (chance : Interval) → IsPunctual n q promise graph chance → IsPunctual m (later_query shift q) (promise + shift) (later_graph shift graph) chance
   graphs promise graph chance p =
       let told = alike n m shift first q shown graph p.tidy p.safe in
@@ -38,7 +46,9 @@ module _ (n m : NetworkModel) (shift first : ℕ) (q : Query) (shown : IsShown n
         safe = told.safe;
         below_own = subst (λ (t : Tree). LateBelow (promise + shift) chance.lo t) (sym told.unfolds) (below promise chance.lo own p.below_own);
         covers_own = subst (λ (t : Tree). LateCovers (promise + shift) chance.hi t) (sym told.unfolds) (covers promise chance.hi own p.covers_own);
+        rounded = p.rounded ∙ sym (up promise own) ∙ ap (rounded_up certainty (late (promise + shift))) (sym told.unfolds);
         below_safe = λ u safe. let s = sooner u safe in subst (λ (t : Tree). LateBelow (promise + shift) chance.lo t) s.1 (below promise chance.lo s.0 (p.below_safe s.0 s.2));
+        least = λ u safe. let s = sooner u safe in subst (λ (t : Tree). chance.lo ≤ rounded_down certainty (late (promise + shift)) t) s.1 (down promise chance.lo s.0 (p.least s.0 s.2));
         gap = let g = p.gap in let many = shown.view.as_many in omega arith;
         at_once = λ same by. p.at_once same (omega arith);
       }

@@ -5,8 +5,10 @@ use Rattle.plan_model.specs.declared.model.Query.{Query}
 use Rattle.plan_model.specs.NetworkModel.{NetworkModel}
 use Rattle.plan_model.specs.Network.{count}
 use Rattle.plan_model.specs.Tree.{Tree}
+use Rattle.plan_model.specs.Bounds.{certainty}
+use Rattle.value_laws.specs.Rounded.{rounded_up, rounded_down}
 use Rattle.plan_model.specs.Strategy.{IsSafeFor}
-use Rattle.plan_model.specs.Late.{LateBelow, LateCovers}
+use Rattle.plan_model.specs.Late.{late, LateBelow, LateCovers}
 use Rattle.plan_graph.specs.declared.PlanGraph.{PlanGraph}
 use Rattle.plan_graph.specs.Tidy.{IsTidy}
 use Rattle.plan_graph.specs.Unfold.{unfold_plan}
@@ -15,13 +17,16 @@ use Rattle.late_chance.specs.SeenFrom.{shifted_parts}
 use Rattle.late_chance.specs.LaterGraphs.{later_graph, later_query, sooner_query}
 
 -- the graph is tidy and its strategy safe; the bounds enclose the chance that it arrives after the promised moment,
--- and the lower one is below that of every safe strategy; they differ by at most one unit for each connection
+-- the upper one is that with each mean rounded up, ride by ride; the lower one is below that of every safe strategy, and at most
+-- that with each mean rounded down; they differ by at most one unit for each connection
 pub record IsPunctual (m : NetworkModel) (query : Query) (promise : ℕ) (graph : PlanGraph) (chance : Interval) : Type 0 where
   pub tidy : IsTidy m query graph
   pub safe : IsSafeFor m query (unfold_plan graph m query)
   pub below_own : LateBelow promise chance.lo (unfold_plan graph m query)
   pub covers_own : LateCovers promise chance.hi (unfold_plan graph m query)
+  pub rounded : chance.hi ≡ rounded_up certainty (late promise) (unfold_plan graph m query)
   pub below_safe : (tree : Tree) → IsSafeFor m query tree → LateBelow promise chance.lo tree
+  pub least : (tree : Tree) → IsSafeFor m query tree → chance.lo ≤ rounded_down certainty (late promise) tree
   pub gap : chance.hi - chance.lo ≤ count m
   pub at_once : query.source.0 ≡ query.target.0 → query.start.0 ≤ promise → chance ≡ record { lo = 0; hi = 0 }
 

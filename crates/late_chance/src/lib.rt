@@ -16,7 +16,8 @@ ghost use Rattle.plan_graph.specs.Unfold.{unfold_plan};
 ghost use Rattle.late_chance.specs.Chances.{seconds_per_week};
 ghost use Rattle.late_chance.specs.LaterGraphs.{IsShown, LaterAlike};
 ghost use Rattle.late_chance.specs.SeenFrom.{shifted_parts};
-ghost use Rattle.late_chance.specs.Punctual.{PunctualAlike, TellsOfNetwork};
+ghost use Rattle.late_chance.specs.Punctual.{IsPunctual, PunctualAlike, TellsOfNetwork};
+ghost use Rattle.interval_fixed.specs.Interval.{Interval};
 
 mod chance;
 mod shift;
@@ -53,4 +54,10 @@ pub fn punctual_in_view()
 pub fn punctual_by_shift()
     ensures { (m : NetworkModel) (q : Query) (promise : ℕ) → IsValid m → q.start.0 < end_of_time → q.start.0 ≤ q.deadline.0 →
         seconds_per_week ≤ promise → q.start.0 ≤ promise → promise ≤ q.start.0 + seconds_per_week → TellsOfNetwork m q promise }
+{}
+
+/// Where the promised moment is not before the deadline, both bounds are 0.
+pub fn no_chance_by_the_deadline()
+    ensures { (m : NetworkModel) (q : Query) (promise : ℕ) (graph : PlanGraph) (chance : Interval) → IsPunctual m q promise graph chance
+        → q.deadline.0 ≤ promise → chance ≡ record { lo = 0; hi = 0 } }
 {}

@@ -1,11 +1,16 @@
--- The rules of a scan, over all connections: which rows, exits and start leg they leave.
-use Rattle.std.specs.Prelude.{◌≡◌, ℕ, List, [], ◌∷◌, Option, None}
+-- The rules of a scan, over all connections: which rows, exits and start leg they leave, and so which strategy.
+use Rattle.std.specs.Prelude.{◌≡◌, ℕ, List, [], ◌∷◌, Option, None, Some}
+use Rattle.std.specs.Option.{option_map}
 use Rattle.plan_model.specs.declared.model.ConnectionId.{ConnectionId}
 use Rattle.plan_model.specs.declared.model.Leg.{Leg}
 use Rattle.plan_model.specs.declared.model.Outcome.{Outcome}
 use Rattle.plan_model.specs.declared.model.Query.{Query}
 use Rattle.plan_model.specs.NetworkModel.{NetworkModel}
+use Rattle.plan_model.specs.Order.{IsScanOrder}
+use Rattle.plan_model.specs.Tree.{Tree}
+use Rattle.plan_model.specs.Unfold.{unfolding_of, by_place}
 use Rattle.stop_profile.specs.declared.Row.{Row}
+use Rattle.stop_profile.specs.Inserts.{row_in_time}
 use Rattle.trip_exit.specs.Offers.{Exit}
 use Rattle.meat_scan.specs.Step.{rows_next, exits_next, start_next}
 use Rattle.meat_scan.specs.ScanResult.{ScanResult, found_rows}
@@ -36,3 +41,16 @@ pub record FollowsRules {V : Type 0} (rank : V → ℕ) (lowered : V → V → V
     (query : Query) (order : List ConnectionId) (found : ScanResult V) : Type 0 where
   pub rows : (place : ℕ) → found_rows found place ≡ (kept_after rank lowered arrived blended network query order).rows place
   pub start : found.start ≡ (kept_after rank lowered arrived blended network query order).start
+
+-- at a place, the leg of the first row kept there that an arrival is in time for
+abbrev pub kept_leg : {V : Type 0} → Kept V → ℕ → ℕ → Option Leg
+kept_leg kept place arrival = option_map (λ row. row.leg) (row_in_time arrival (kept.rows place))
+
+-- of the connections in their scan order the rules keep a start leg with this value, and rows by which it goes on as the strategy does
+pub record IsByRules {V : Type 0} (rank : V → ℕ) (lowered : V → V → V) (arrived : ℕ → V) (blended : List Outcome → List V → V) (network : NetworkModel)
+    (query : Query) (strategy : Tree) (value : V) : Type 0 where
+  pub order : List ConnectionId
+  pub is_order : IsScanOrder network order
+  pub start : Leg
+  pub begins : (kept_after rank lowered arrived blended network query order).start ≡ Some (value, start)
+  pub goes_on : strategy ≡ unfolding_of network query (by_place network (kept_leg (kept_after rank lowered arrived blended network query order))) (Some start)

@@ -1,1 +1,3 @@
 pub mod Sought
+pub mod Chances
+pub mod Bounds

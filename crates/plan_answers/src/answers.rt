@@ -142,8 +142,9 @@ pub fn planned_of<B: BackwardOrder>(
     requires fits { B.fits order.old problem.now.network }
     requires least { IsWorst problem.now.network asked.query asked.worst }
     requires printable { IsPrintable problem.now.network asked.query asked.worst }
-    ensures { IfOk result (λ found.
+    ensures planned { IfOk result (λ found.
         IsPlanned problem.now.network asked.query found.graph found.bounds) }
+    ensures fits { B.fits order.new problem.now.network }
 {
     order.rewind(&problem.network);
     match plan(alloc, order, &problem.network, &asked.query)? {

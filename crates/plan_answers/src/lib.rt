@@ -4,8 +4,10 @@
 
 mod answers;
 mod certificates;
+mod laws;
 mod punctual;
 
 pub use answers::{Asked, asked_of, expand_over, plan_over, planned_of, safe_over};
 pub use certificates::certify_over;
+pub use laws::upper_bound_is_that_of_the_graph;
 pub use punctual::punctual_over;

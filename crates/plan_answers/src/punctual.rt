@@ -6,14 +6,14 @@ ghost use Rattle.plan_graph.specs.Unfold.{unfold_plan};
 ghost use Rattle.plan_model.specs.Strategy.{IsSafeFor};
 ghost use Rattle.decision_graph.specs.Expanded.{IsNoneSafe};
 ghost use Rattle.graph_score.specs.Scores.{IsScored};
-ghost use Rattle.late_chance.specs.Chances.{promised, seconds_per_week};
+ghost use Rattle.late_chance.specs.Chances.{seconds_per_week};
 ghost use Rattle.late_chance.specs.Punctual.{IsPunctual, asked_for, seen_for};
 ghost use Rattle.command_line.specs.Ranges.{IsPercentage};
 ghost use Rattle.journey_model.specs.Sites.{last_printable};
 ghost use Rattle.plan_answers.specs.Answers.{InQuery, IsPrintable, FailsIn};
 ghost use Rattle.journey_report.specs.Findings.{findings_of, punctual_findings};
 ghost use Rattle.plan_model.specs.Bounds.{end_of_time, last_start};
-ghost use Rattle.plan_answers.specs.Punctual.{IsPunctualText, TellsPunctual};
+ghost use Rattle.plan_answers.specs.Punctual.{IsLeastChance, IsSeenLater, IsPunctualText, TellsPunctual};
 
 use crate::answers::{Asked, asked_of};
 use decision_graph::{ScoredPlan, plan_by};
@@ -41,6 +41,7 @@ struct PunctualPlan {
 
 /// The decision graph of a query with the least chance of an arrival after the moment that stands for a
 /// promise; none where no strategy is safe for the query.
+#[tactic(auto, using(crate::proofs::Chances::least_chance))]
 fn least_chance_of(
     alloc: Global,
     network: &Network,
@@ -51,7 +52,7 @@ fn least_chance_of(
     requires start { query.now.start.0 < end_of_time }
     requires deadline { query.now.start.0 ≤ query.now.deadline.0 }
     ensures { IfOk result (λ found. MatchOption found (IsNoneSafe network.now query.now)
-        (λ plan. IsPunctual network.now query.now promised plan.graph plan.chance)) }
+        (λ plan. IsLeastChance network.now query.now plan.graph plan.chance)) }
 {
     let mut order = MergedRuns::new(alloc, network)?;
     let found: Option<ScoredPlan<LateChance>> = plan_by(alloc, &mut order, network, query)?;
@@ -80,8 +81,8 @@ fn seen_plan(
     requires soon { promise.0 ≤ query.now.start.0 + seconds_per_week }
     ensures { IfOk result (λ found. MatchOption found
         (IsNoneSafe (seen_for network.now query.now promise.0) (asked_for query.now promise.0))
-        (λ plan. IsPunctual (seen_for network.now query.now promise.0)
-        (asked_for query.now promise.0) promised plan.graph plan.chance)) }
+        (λ plan. IsLeastChance (seen_for network.now query.now promise.0)
+        (asked_for query.now promise.0) plan.graph plan.chance)) }
 {
     let seen = shifted(alloc, network, query.start, promise)?;
     let sought = sooner(query, promise.0 - SECONDS_PER_WEEK);
@@ -104,7 +105,8 @@ fn punctual_of(
     requires later { query.now.start.0 ≤ promise.0 }
     requires soon { promise.0 ≤ query.now.start.0 + seconds_per_week }
     ensures { IfOk result (λ found. MatchOption found (IsNoneSafe network.now query.now)
-        (λ plan. IsPunctual network.now query.now promise.0 plan.graph plan.chance)) }
+        (λ plan. IsPunctual network.now query.now promise.0 plan.graph plan.chance
+        × IsSeenLater network.now query.now promise.0 plan.graph plan.chance)) }
 {
     // That the network is valid is known from its count.
     let _count = network.count();

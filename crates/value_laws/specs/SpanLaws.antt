@@ -1,18 +1,19 @@
 -- Bounds on a mean over the arrivals keep the laws, whatever is averaged. (The proof stands here, since the trait names it.)
-use Rattle.std.proofs.Common.{arith, inl, inr}
-use Rattle.std.specs.Prelude.{◌≡◌, ℕ, ◌+◌, ◌-◌, ◌*◌, ◌^◌, ◌≤◌, ◌⊎◌, min, max, List, length, map, All, refl}
-use Rattle.std.proofs.Math.Nat.{mul-le-mul_right, mul_assoc}
+use Rattle.std.proofs.Common.{arith, inl, inr, ap}
+use Rattle.std.specs.Prelude.{◌≡◌, ℕ, ◌+◌, ◌-◌, ◌*◌, ◌/◌, ◌^◌, ◌≤◌, ◌⊎◌, min, max, List, [], ◌∷◌, length, map, All, refl}
+use Rattle.std.proofs.Math.Nat.{mul-le-mul_left, mul-le-mul_right, mul_assoc}
 use Rattle.std.proofs.lemmas.List.{length-map}
 use Rattle.std.proofs.lemmas.List.Elements.{All-map}
 use Rattle.plan_model.specs.declared.model.Outcome.{Outcome}
-use Rattle.plan_model.specs.Tree.{Tree, Kids, Done, Ride}
+use Rattle.plan_model.specs.Tree.{Tree, Kids, Nil, Kid, Done, Ride}
 use Rattle.plan_model.specs.DelayRows.{IsValidRow, EachKid}
 use Rattle.plan_model.specs.Expected.{BelowBy, CoversBy}
 use Rattle.interval_fixed.specs.Interval.{Interval}
-use Rattle.interval_fixed.specs.Means.{mean_of}
+use Rattle.interval_fixed.specs.Means.{weighted, mean_of}
 use Rattle.interval_fixed.proofs.Enclosed.{mean_gap_within}
 use Rattle.interval_fixed.proofs.Sums.{each_mapped, mean_below, mean_covers}
 use Rattle.value_laws.specs.ScoreLaws.{ScoreLaws}
+use Rattle.value_laws.specs.Rounded.{rounded_up, sum_up, rounded_down, sum_down}
 use Rattle.value_laws.specs.Spans.{span_below, span_covers, span_gap, span_rank, span_arrived, span_blended, span_lowered}
 
 -- the lesser of two is below what either is below
@@ -24,6 +25,12 @@ lesser_below a b p n (inr other) =
     let lesser : min a b ≤ b = omega arith in
     omega (arith, mul-le-mul_right p lesser)
 
+-- what holds of each value and its kid gives what follows from it
+each_weaker : {V : Type 0} (P Q : V → Tree → Type 0) → ((v : V) (t : Tree) → P v t → Q v t) → (row : List Outcome) (values : List V) (kids : Kids) → EachKid P row values kids → EachKid Q row values kids
+each_weaker P Q weaker [] [] Nil each = each
+each_weaker P Q weaker (o ∷ row) (v ∷ values) (Kid w t kids) each = (each.0, weaker v t each.1, each_weaker P Q weaker row values kids each.2)
+each_weaker P Q weaker _ _ _ each = absurd each
+
 -- values that are spans, of whatever leaf gives for the arrivals, in units of which there are scale in one
 module _ {V : Type 0} (scale : ℕ) (leaf : ℕ → ℕ) (span : V → Interval) (value : Interval → V) (same : (s : Interval) → span (value s) ≡ s) where
   at_value : (P : Interval → Type 0) (s : Interval) → P s → P (span (value s))
@@ -33,26 +40,61 @@ module _ {V : Type 0} (scale : ℕ) (leaf : ℕ → ℕ) (span : V → Interval)
       → BelowBy scale leaf (mean_of row (map span values)).lo (Ride enter exit kids)
   blended_below row values kids enter exit each =
       mean_below scale leaf row (map (λ s. s.lo) (map span values)) kids enter exit
-      (each_mapped (λ (s : Interval). s.lo) (BelowBy scale leaf) row (map span values) kids (each_mapped span (λ s t. BelowBy scale leaf s.lo t) row values kids each))
+      (each_mapped (λ (s : Interval). s.lo) (BelowBy scale leaf) row (map span values) kids
+      (each_mapped span (λ s t. BelowBy scale leaf s.lo t) row values kids
+      (each_weaker (span_below scale leaf span) (λ v t. BelowBy scale leaf (span v).lo t) (λ v t is. is.0) row values kids each)))
+
+  -- the sum of lower bounds is at most that of the means
+  lo_sum : (row : List Outcome) (values : List V) (kids : Kids) → EachKid (span_below scale leaf span) row values kids
+      → weighted row (map (λ s. s.lo) (map span values)) ≤ sum_down scale leaf kids
+  lo_sum [] [] Nil each = omega arith
+  lo_sum (o ∷ row) (v ∷ values) (Kid w t kids) each =
+      rw each.0 (omega (arith, mul-le-mul_left o.weight each.1.1, lo_sum row values kids each.2))
+  lo_sum _ _ _ each = absurd each
+
+  blended_down : (row : List Outcome) (values : List V) (kids : Kids) (enter exit : ℕ) → EachKid (span_below scale leaf span) row values kids
+      → (mean_of row (map span values)).lo ≤ rounded_down scale leaf (Ride enter exit kids)
+  blended_down row values kids enter exit each = omega (arith, lo_sum row values kids each)
 
   blended_covers : (row : List Outcome) (values : List V) (kids : Kids) (enter exit : ℕ) → EachKid (span_covers scale leaf span) row values kids
       → CoversBy scale leaf (mean_of row (map span values)).hi (Ride enter exit kids)
   blended_covers row values kids enter exit each =
       mean_covers scale leaf row (map (λ s. s.hi) (map span values)) kids enter exit
-      (each_mapped (λ (s : Interval). s.hi) (CoversBy scale leaf) row (map span values) kids (each_mapped span (λ s t. CoversBy scale leaf s.hi t) row values kids each))
+      (each_mapped (λ (s : Interval). s.hi) (CoversBy scale leaf) row (map span values) kids
+      (each_mapped span (λ s t. CoversBy scale leaf s.hi t) row values kids
+      (each_weaker (span_covers scale leaf span) (λ v t. CoversBy scale leaf (span v).hi t) (λ v t is. is.0) row values kids each)))
+
+  -- the sum of upper bounds is that of the means
+  hi_sum : (row : List Outcome) (values : List V) (kids : Kids) → EachKid (span_covers scale leaf span) row values kids
+      → weighted row (map (λ s. s.hi) (map span values)) ≡ sum_up scale leaf kids
+  hi_sum [] [] Nil each = refl
+  hi_sum (o ∷ row) (v ∷ values) (Kid w t kids) each = rw (each.0, each.1.1, hi_sum row values kids each.2) refl
+  hi_sum _ _ _ each = absurd each
+
+  blended_up : (row : List Outcome) (values : List V) (kids : Kids) (enter exit : ℕ) → EachKid (span_covers scale leaf span) row values kids
+      → (mean_of row (map span values)).hi ≡ rounded_up scale leaf (Ride enter exit kids)
+  blended_up row values kids enter exit each = ap (λ (u : ℕ). (u + 9999) / 10000) (hi_sum row values kids each)
 
   blended_gap : (row : List Outcome) (values : List V) (most : ℕ) → IsValidRow row → length row ≡ length values
       → All (λ v. span_gap span v ≤ most) values → (mean_of row (map span values)).hi - (mean_of row (map span values)).lo ≤ most + 1
   blended_gap row values most good as_many gaps =
       mean_gap_within row (map span values) most good (omega (arith, as_many, length-map values span)) (All-map (λ (s : Interval). s.hi - s.lo ≤ most) span values gaps)
 
+  abbrev LowerBound : Tree → Interval → Type 0
+  LowerBound tree s = BelowBy scale leaf s.lo tree × (s.lo ≤ rounded_down scale leaf tree)
+
+  abbrev UpperBound : Tree → Interval → Type 0
+  UpperBound tree s = CoversBy scale leaf s.hi tree × (s.hi ≡ rounded_up scale leaf tree)
+
   abbrev lesser : V → V → Interval
   lesser a b = record { lo = min (span a).lo (span b).lo; hi = (span a).hi }
 
   lowered_below : (a b : V) (tree : Tree) → span_rank span a ≤ span_rank span b → span_below scale leaf span a tree
       ⊎ span_below scale leaf span b tree → span_below scale leaf span (span_lowered span value a b) tree
-  lowered_below a b tree better (inl own) = at_value (λ s. BelowBy scale leaf s.lo tree) (lesser a b) (λ h tall. lesser_below (span a).lo (span b).lo (10000 ^ h) _ (inl (own h tall)))
-  lowered_below a b tree better (inr other) = at_value (λ s. BelowBy scale leaf s.lo tree) (lesser a b) (λ h tall. lesser_below (span a).lo (span b).lo (10000 ^ h) _ (inr (other h tall)))
+  lowered_below a b tree better (inl own) =
+      at_value (LowerBound tree) (lesser a b) ((λ h tall. lesser_below (span a).lo (span b).lo (10000 ^ h) _ (inl (own.0 h tall))), omega (arith, own.1))
+  lowered_below a b tree better (inr other) =
+      at_value (LowerBound tree) (lesser a b) ((λ h tall. lesser_below (span a).lo (span b).lo (10000 ^ h) _ (inr (other.0 h tall))), omega (arith, other.1))
 
   abbrev exact : ℕ → Interval
   exact moment = record { lo = scale * leaf moment; hi = scale * leaf moment }
@@ -60,16 +102,16 @@ module _ {V : Type 0} (scale : ℕ) (leaf : ℕ → ℕ) (span : V → Interval)
   pub span_laws : ScoreLaws (span_below scale leaf span) (span_covers scale leaf span) (span_gap span) (span_rank span)
       (span_arrived scale leaf value) (span_blended span value) (span_lowered span value)
   span_laws = record {
-    arrived_below = λ moment. at_value (λ s. BelowBy scale leaf s.lo (Done moment)) (exact moment) (λ h tall. omega (arith, mul_assoc scale (leaf moment) (10000 ^ h)));
-    arrived_covers = λ moment. at_value (λ s. CoversBy scale leaf s.hi (Done moment)) (exact moment) (λ h tall. omega (arith, mul_assoc scale (leaf moment) (10000 ^ h)));
+    arrived_below = λ moment. at_value (LowerBound (Done moment)) (exact moment) ((λ h tall. omega (arith, mul_assoc scale (leaf moment) (10000 ^ h))), omega arith);
+    arrived_covers = λ moment. at_value (UpperBound (Done moment)) (exact moment) ((λ h tall. omega (arith, mul_assoc scale (leaf moment) (10000 ^ h))), refl);
     arrived_gap = λ moment. at_value (λ s. s.hi - s.lo ≡ 0) (exact moment) (omega arith);
-    blended_below = λ row values kids enter exit good each. at_value (λ s. BelowBy scale leaf s.lo (Ride enter exit kids))
-        (mean_of row (map span values)) (blended_below row values kids enter exit each);
-    blended_covers = λ row values kids enter exit good each. at_value (λ s. CoversBy scale leaf s.hi (Ride enter exit kids))
-        (mean_of row (map span values)) (blended_covers row values kids enter exit each);
+    blended_below = λ row values kids enter exit good each. at_value (LowerBound (Ride enter exit kids))
+        (mean_of row (map span values)) (blended_below row values kids enter exit each, blended_down row values kids enter exit each);
+    blended_covers = λ row values kids enter exit good each. at_value (UpperBound (Ride enter exit kids))
+        (mean_of row (map span values)) (blended_covers row values kids enter exit each, blended_up row values kids enter exit each);
     blended_gap = λ row values most good as_many gaps. at_value (λ s. s.hi - s.lo ≤ most + 1) (mean_of row (map span values)) (blended_gap row values most good as_many gaps);
     lowered_below = lowered_below;
-    lowered_covers = λ a b tree better covers. at_value (λ s. CoversBy scale leaf s.hi tree) (lesser a b) covers;
+    lowered_covers = λ a b tree better covers. at_value (UpperBound tree) (lesser a b) covers;
     lowered_rank = λ a b. at_value (λ s. s.hi ≡ (span a).hi) (lesser a b) refl;
     lowered_gap = λ a b better. at_value (λ s. s.hi - s.lo ≤ max (span_gap span a) (span_gap span b)) (lesser a b) (omega arith);
   }

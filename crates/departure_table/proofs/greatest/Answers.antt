@@ -3,7 +3,7 @@ use Rattle.departure_table.proofs.greatest.Goals as goal
 
 pub loop-row-preserved : goal.loop-row-preserved
 loop-row-preserved c =
-    let ahead = c.in-Some.ensures in
+    let ahead = c.in-Some.ensures.ahead in
     let best = ahead.3 c.in-Some.row.by.0 ahead.0 (omega arith) in
     let tree = best.covers_one in
     record {

@@ -1,22 +1,37 @@
-use Rattle.std.proofs.Common.{◌-◌, sym, ap, refl, arith}
+use Rattle.std.proofs.Common.{◌-◌, ◌∙◌, Some, sym, ap, refl, arith}
+use Rattle.std.specs.Option.{option_map}
+use Rattle.interval_fixed.specs.Interval.{Interval}
+use Rattle.plan_model.specs.declared.model.Moment.{Moment}
 use Rattle.std.proofs.lemmas.Option.{MatchOption-at_some, MatchOption-at_none}
 use Rattle.plan_model.specs.declared.model.Connection.{Connection}
 use Rattle.plan_model.specs.declared.model.Leg.{Leg}
 use Rattle.value_laws.specs.declared.MeanSpan.{MeanSpan}
 use Rattle.departure_table.specs.declared.DepartureRow.{DepartureRow}
+use Rattle.departure_table.specs.Looked.{row_of_choice}
 use Rattle.departure_table.proofs.Looks.{none_ahead, looks_ahead}
 use Rattle.departure_table.proofs.row_from.Goals as goal
 
-pub returns-in_default : goal.returns-in_default
-returns-in_default c =
+abbrev row_by : Moment → Interval → Leg → DepartureRow
+row_by by bounds leg = record { by = by; bounds = bounds; leg = leg }
+
+pub returns-in_default-clause-ahead : goal.returns-in_default-clause-ahead
+returns-in_default-clause-ahead c =
     let q = c.args.query.now in
     let found = c.args.scanned.now in
     let s = c.requires.solves in
     let look = s.answers.goes_on q.source.0 (c.args.next.0 - 1) s.differ in
     none_ahead c.args.network.now q found c.requires.valid s c.requires.second c.args.next.0 (MatchOption-at_none _ _ (sym c.in_default.ensures) look)
 
-pub returns : goal.returns
-returns c =
+pub returns-in_default-clause-found : goal.returns-in_default-clause-found
+returns-in_default-clause-found c = ap (option_map (row_of_choice c.args.network.now)) c.in_default.ensures
+
+pub returns-clause-found : goal.returns-clause-found
+returns-clause-found c =
+    ap (λ (k : Connection). Some (row_by k.dep c.in-Some.value.0 c.in-Some.leg)) c.get.ensures.connection
+    ∙ ap (option_map (row_of_choice c.args.network.now)) c.in-Some.ensures
+
+pub returns-clause-ahead : goal.returns-clause-ahead
+returns-clause-ahead c =
     let s = c.requires.solves in
     let x = c.args.next.0 - 1 in
     let is = sym c.in-Some.ensures in

@@ -1,10 +1,17 @@
-use Rattle.std.proofs.Common.{◌+◌, ◌-◌}
+use Rattle.std.proofs.Common.{◌+◌, ◌-◌, ◌++◌, List}
+use Rattle.departure_table.specs.declared.DepartureRow.{DepartureRow}
 use Rattle.departure_table.specs.Departures.{SafeAfter}
+use Rattle.departure_table.specs.Looked.{row_found, AreLooked}
 use Rattle.departure_table.proofs.Growth.{IsTableTo}
 use Rattle.departure_table.proofs.table.Given as goal
 
+-- the rows so far, and then those that are looked up from the next moment on, are those from the first moment on
 abbrev pub invariant-loop-next : goal.invariant-loop-next
-invariant-loop-next l = IsTableTo l.network (SafeAfter l.network l.query) l.fn.first.0 l.fn.last.0 l.next l.rows
+invariant-loop-next l = record {
+  table : IsTableTo l.network (SafeAfter l.network l.query) l.fn.first.0 l.fn.last.0 l.next l.rows;
+  looked : (more : List DepartureRow) → AreLooked (row_found l.network l.query l.scanned) l.fn.last.0 l.next more
+      → AreLooked (row_found l.network l.query l.scanned) l.fn.last.0 l.fn.first.0 (l.rows ++ more);
+}
 
 abbrev pub decreases-loop-next : goal.decreases-loop-next
 decreases-loop-next l = l.fn.last.0 + 1 - l.next

@@ -22,7 +22,8 @@ returns-then-query-clause-steady g c = steady_at_once c.args.network.now c.args.
 pub returns-clause-plan : goal.returns-clause-plan
 returns-clause-plan g c =
     let found = c.scan-scanned.result in
-    expanded g.V.Score.below g.V.Score.covers g.V.Score.gap g.V.Score.arrived c.args.network.now c.args.query.now found c.scan-scanned.ensures.solves _ c.in-Some.ensures c.in-Some-2.graph
+    expanded g.V.Score.below g.V.Score.covers g.V.Score.gap g.V.Score.rank g.V.Score.arrived g.V.Score.blended g.V.Score.lowered c.args.network.now c.args.query.now found
+    c.scan-scanned.ensures.solves _ c.requires.whole c.scan-scanned.ensures.rules _ c.in-Some.ensures c.in-Some-2.graph
     (MatchOption-at_some (found.start ≡ None) (IsOfStart c.args.network.now c.args.query.now found) c.in-Some-2.graph c.in-Some-2.is c.in_ok-extract.ensures)
 
 pub returns-clause-steady : goal.returns-clause-steady

@@ -11,10 +11,10 @@ returns-then-query c = (
 
 pub returns-then-len-eq0 : goal.returns-then-len-eq0
 returns-then-len-eq0 c =
-    none_leaves c.args.problem.now c.args.query.now c.args.last.0 c.in_ok-rows.rows c.requires.last c.in_ok-rows.ensures (sym c.len.ensures ∙ c.if-len-eq0.true)
+    none_leaves c.args.problem.now c.args.query.now c.args.last.0 c.in_ok-rows.rows c.requires.last c.in_ok-rows.ensures.table (sym c.len.ensures ∙ c.if-len-eq0.true)
 
 pub returns : goal.returns
 returns c = (
-  departures_away c.args.problem.now c.args.query.now c.args.last.0 c.in_ok-rows.rows c.if-query.false c.in_ok-rows.ensures,
-  some_leaves c.args.problem.now c.args.query.now c.args.last.0 c.in_ok-rows.rows c.requires.last c.in_ok-rows.ensures (λ none. c.if-len-eq0.false (c.len.ensures ∙ none)),
+  departures_away c.args.problem.now c.args.query.now c.args.last.0 c.in_ok-rows.rows c.if-query.false c.in_ok-rows.ensures.table c.in_ok-rows.ensures.by_rules,
+  some_leaves c.args.problem.now c.args.query.now c.args.last.0 c.in_ok-rows.rows c.requires.last c.in_ok-rows.ensures.table (λ none. c.if-len-eq0.false (c.len.ensures ∙ none)),
 )

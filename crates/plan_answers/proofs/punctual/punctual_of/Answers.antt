@@ -3,6 +3,7 @@ use Rattle.std.proofs.lemmas.Option.{MatchOption-at_some}
 use Rattle.plan_graph.specs.declared.PlanGraph.{PlanGraph}
 use Rattle.decision_graph.specs.Expanded.{IsNoneSafe}
 use Rattle.late_chance.specs.Punctual.{IsPunctual, seen_for, asked_for}
+use Rattle.plan_answers.specs.Punctual.{IsLeastChance}
 use Rattle.plan_answers.proofs.Sought.{match_none}
 use Rattle.plan_answers.proofs.punctual.punctual_of.Goals as goal
 
@@ -19,7 +20,7 @@ unshifted-requires c =
     let r = c.requires in
     let tells = c.punctual_by_shift.ensures c.args.network.now c.args.query.now c.args.promise.0 c.count-count.ensures.valid (omega (arith, r.start)) r.deadline
     (omega (arith, r.week, r.later)) r.later r.soon in
-    tells.in_range c.in-Some.found.graph (MatchOption-at_some _ _ _ c.in-Some.is c.in_ok-found.ensures).tidy
+    tells.in_range c.in-Some.found.graph (MatchOption-at_some _ _ _ c.in-Some.is c.in_ok-found.ensures).punctual.tidy
 
 pub returns : goal.returns
 returns c =
@@ -28,5 +29,7 @@ returns c =
     let r = c.requires in
     let chance = c.in-Some.found.chance in
     let tells = c.punctual_by_shift.ensures m q c.args.promise.0 c.count-count.ensures.valid (omega (arith, r.start)) r.deadline (omega (arith, r.week, r.later)) r.later r.soon in
-    subst (λ (g : PlanGraph). IsPunctual m q c.args.promise.0 g chance) (sym c.in_ok-graph.ensures)
-    (tells.graphs c.in-Some.found.graph chance (MatchOption-at_some _ _ _ c.in-Some.is c.in_ok-found.ensures))
+    let least : IsLeastChance (seen_for m q c.args.promise.0) (asked_for q c.args.promise.0) c.in-Some.found.graph chance = MatchOption-at_some _ _ _ c.in-Some.is c.in_ok-found.ensures in (
+      subst (λ (g : PlanGraph). IsPunctual m q c.args.promise.0 g chance) (sym c.in_ok-graph.ensures) (tells.graphs c.in-Some.found.graph chance least.punctual),
+      record { seen = c.in-Some.found.graph; least = least; later = c.in_ok-graph.ensures },
+    )

@@ -12,7 +12,8 @@ unreachable-requires c =
 pub returns-clause-answer : goal.returns-clause-answer
 returns-clause-answer c =
     let asked = c.in_ok-asked.asked in
-    let found = c.in-Some.found in (
+    let found = c.in-Some.found in
+    let both = MatchOption-at_some _ _ _ c.in-Some.is c.in_ok-found.ensures in (
       asked.query,
       asked.worst,
       c.in_ok-asked.ensures.asked,
@@ -21,7 +22,8 @@ returns-clause-answer c =
         found.chance,
         c.in_ok-bounds.bounds,
         c.in_ok-answer.ensures.found,
-        MatchOption-at_some _ _ _ c.in-Some.is c.in_ok-found.ensures,
+        both.0,
+        both.1,
         c.in_ok-bounds.ensures,
         c.in_ok-answer.ensures.text,
       ),

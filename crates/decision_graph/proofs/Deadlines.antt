@@ -1,0 +1,44 @@
+-- Plans by one deadline and by another.
+use Rattle.std.proofs.Common.{◌≡◌, ℕ, ◌+◌, ◌*◌, ◌^◌, ◌<◌, ◌≤◌, Some, arith, inl, inr, mul-le-mul_right}
+use Rattle.std.proofs.lemmas.Bool.{cases_lt}
+use Rattle.std.proofs.Math.Nat.{one-le-pow}
+use Rattle.interval_fixed.specs.Interval.{Interval}
+use Rattle.plan_model.specs.NetworkModel.{NetworkModel}
+use Rattle.plan_model.specs.declared.model.Query.{Query}
+use Rattle.plan_model.specs.Strategy.{IsSafeFor, IsLeastWorst}
+use Rattle.plan_model.specs.Tree.{Tree, worst, height}
+use Rattle.plan_model.specs.Expected.{Below, Covers}
+use Rattle.plan_graph.specs.declared.PlanGraph.{PlanGraph}
+use Rattle.plan_graph.specs.Unfold.{unfold_plan}
+use Rattle.plan_model.proofs.Laws.{reaches_from_safe, safe_from_reaches}
+use Rattle.decision_graph.specs.Planned.{IsPlanned}
+
+pub worst_kept : (n : NetworkModel) (q : Query) (graph : PlanGraph) (bounds : Interval) → IsPlanned n q graph bounds
+    → IsLeastWorst n q.source.0 q.target.0 q.start.0 (Some q.deadline) → worst (unfold_plan graph n q) ≡ q.deadline.0
+worst_kept n q graph bounds planned least =
+    let t = unfold_plan graph n q in
+    let r = reaches_from_safe n q.source.0 q.target.0 q.start.0 q.deadline.0 t planned.best.safe in
+    omega (arith, r.1, least.1 t r.0)
+
+-- a number above zero, times which one is at most another only where it is at most the other
+cancel : (a b p : ℕ) → 0 < p → a * p ≤ b * p → a ≤ b
+cancel a b p some less = elim (cases_lt b a) [
+  | inl greater ↦ let more : (b + 1) * p ≤ a * p = mul-le-mul_right p (omega (arith, greater)) in absurd (omega (arith, more, less, some))
+  | inr at_most ↦ at_most
+]
+
+-- what is below a strategy is at most what covers it
+pub below_covers : (lo hi : ℕ) (t : Tree) → Below lo t → Covers hi t → lo ≤ hi
+below_covers lo hi t below covers =
+    let h = height t in
+    let some : 1 ≤ 10000 ^ h = one-le-pow h 10000 (omega arith) in
+    cancel lo hi (10000 ^ h) some (omega (arith, below h (omega arith), covers h (omega arith)))
+
+pub no_worse : (n : NetworkModel) (q r : Query) (graph other : PlanGraph) (bounds later : Interval) → IsPlanned n q graph bounds → IsPlanned n r other later
+    → r.source.0 ≡ q.source.0 → r.target.0 ≡ q.target.0 → r.start.0 ≡ q.start.0 → q.deadline.0 ≤ r.deadline.0 → later.lo ≤ bounds.hi
+no_worse n q r graph other bounds later one two source target start less =
+    let t = unfold_plan graph n q in
+    let reached = reaches_from_safe n q.source.0 q.target.0 q.start.0 q.deadline.0 t one.best.safe in
+    let safe = safe_from_reaches n q.source.0 q.target.0 q.start.0 r.deadline.0 t reached.0 (omega (arith, reached.1, less)) in
+    let own : IsSafeFor n r t = rw (source, target, start) safe in
+    below_covers later.lo bounds.hi t (two.best.below_safe t own) one.best.encloses.1

@@ -1,0 +1,55 @@
+-- The bounds of a plan, and those that `check` finds of its graph.
+use Rattle.std.proofs.Common.{◌≡◌, ℕ, ◌+◌, ◌/◌, ◌≤◌, arith, Option, Some, List, [], ◌∷◌, refl, sym, ◌∙◌, ap}
+use Rattle.interval_fixed.specs.Interval.{Interval}
+use Rattle.interval_fixed.specs.Means.{weighted_lo, weighted_hi}
+use Rattle.plan_model.specs.declared.model.Outcome.{Outcome}
+use Rattle.plan_model.specs.declared.model.Query.{Query}
+use Rattle.plan_model.specs.NetworkModel.{NetworkModel}
+use Rattle.plan_model.specs.Network.{to_of, arr_of, outcomes}
+use Rattle.plan_model.specs.Bounds.{nanos_per_second}
+use Rattle.plan_model.specs.Expected.{arrival}
+use Rattle.plan_model.specs.Tree.{Tree, Done, Ride, Stuck, Kids, Nil, Kid}
+use Rattle.plan_model.specs.Strategy.{IsSafe, AreSafe, IsSafeFor}
+use Rattle.value_laws.specs.Rounded.{rounded_up, sum_up, rounded_down, sum_down}
+use Rattle.graph_score.specs.Spans.{span_of, spans_of}
+use Rattle.decision_graph.specs.GraphValues.{IsBest}
+
+module _ (n : NetworkModel) (target : ℕ) (by : Option ℕ) where
+  -- the bounds of a tree are its means, rounded ride by ride
+  abbrev AreRounded : Tree → Type 0
+  AreRounded tree = ((span_of n tree).hi ≡ rounded_up nanos_per_second arrival tree) × ((span_of n tree).lo ≡ rounded_down nanos_per_second arrival tree)
+
+  abbrev AreSums : List Outcome → Kids → Type 0
+  AreSums row kids =
+      (weighted_hi row (spans_of n kids) ≡ sum_up nanos_per_second arrival kids) × (weighted_lo row (spans_of n kids) ≡ sum_down nanos_per_second arrival kids)
+
+  ride : (i j : ℕ) (kids : Kids) → AreSums (outcomes n j) kids → AreRounded (Ride i j kids)
+  ride i j kids sums = (ap (λ (u : ℕ). (u + 9999) / 10000) sums.0, ap (λ (l : ℕ). l / 10000) sums.1)
+
+  mutual
+    spans : (tree : Tree) (p x : ℕ) → IsSafe n target by tree p x → AreRounded tree
+    spans (Done a) p x safe = (refl, refl)
+    spans (Ride i j kids) p x safe = ride i j kids (kid_spans kids (outcomes n j) (to_of n j) (arr_of n j) safe.3)
+    spans (Stuck q y) p x safe = absurd safe
+
+    kid_spans : (kids : Kids) (row : List Outcome) (p scheduled : ℕ) → AreSafe n target by kids row p scheduled → AreSums row kids
+    kid_spans Nil [] p scheduled safe = (refl, refl)
+    kid_spans Nil (o ∷ row) p scheduled safe = absurd safe
+    kid_spans (Kid w tree kids) [] p scheduled safe = absurd safe
+    kid_spans (Kid w tree kids) (o ∷ row) p scheduled safe =
+        let (hi, lo) = spans tree p (scheduled + o.delay) safe.1 in
+        let (his, los) = kid_spans kids row p scheduled safe.2 in
+        (rw (safe.0, hi, his) refl, rw (safe.0, lo, los) refl)
+
+safe_spans : (n : NetworkModel) (q : Query) (tree : Tree) → IsSafeFor n q tree
+    → ((span_of n tree).hi ≡ rounded_up nanos_per_second arrival tree) × ((span_of n tree).lo ≡ rounded_down nanos_per_second arrival tree)
+safe_spans n q (Done a) safe = (refl, refl)
+safe_spans n q (Ride i j kids) safe =
+    ride n q.target.0 (Some q.deadline.0) i j kids (kid_spans n q.target.0 (Some q.deadline.0) kids (outcomes n j) (to_of n j) (arr_of n j) safe.3)
+safe_spans n q (Stuck p x) safe = absurd safe
+
+pub bounds_of_graph : (n : NetworkModel) (q : Query) (tree : Tree) (bounds : Interval) → IsBest n q tree bounds → (bounds.hi ≡ (span_of n tree).hi) × (bounds.lo ≤ (span_of n tree).lo)
+bounds_of_graph n q tree bounds best =
+    let (hi, lo) = safe_spans n q tree best.safe in
+    let low = best.least tree best.safe in
+    (best.rounded ∙ sym hi, omega (arith, lo, low))

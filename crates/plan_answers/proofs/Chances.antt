@@ -1,0 +1,36 @@
+-- What the chance as a score says of a graph is what its bounds say.
+use Rattle.std.proofs.Common.{◌≡◌, ℕ, ◌*◌, ◌≤◌, arith, true, refl, ◌∙◌, nat_le}
+use Rattle.std.proofs.lemmas.Bool.Decides.{nat_tests}
+use Rattle.interval_fixed.specs.Interval.{Interval}
+use Rattle.plan_model.specs.Bounds.{certainty}
+use Rattle.plan_model.specs.Late.{late}
+use Rattle.plan_model.specs.declared.model.Query.{Query}
+use Rattle.plan_model.specs.NetworkModel.{NetworkModel}
+use Rattle.plan_graph.specs.declared.PlanGraph.{PlanGraph}
+use Rattle.plan_graph.specs.Unfold.{unfold_plan}
+use Rattle.decision_graph.specs.Planned.{IsPlannedBy}
+use Rattle.late_chance.specs.Chances.{promised, chance_below, chance_covers, chance_gap, chance_rank, chance_arrived, chance_blended, chance_lowered}
+use Rattle.plan_answers.specs.Punctual.{IsLeastChance}
+
+none_late : (promise start : ℕ) → start ≤ promise → ◌≡◌ {A = Interval} (record { lo = certainty * late promise start; hi = certainty * late promise start }) (record { lo = 0; hi = 0 })
+none_late promise start by = let test : nat_le start promise ≡ true = grind (arith, nat_tests) in rw test refl
+
+pub least_chance : (n : NetworkModel) (q : Query) (graph : PlanGraph) (chance : Interval)
+    → IsPlannedBy chance_below chance_covers chance_gap chance_rank chance_arrived chance_blended chance_lowered n q graph chance → IsLeastChance n q graph chance
+least_chance n q graph chance by =
+    let own = by.best.below_safe (unfold_plan graph n q) by.best.safe in
+    record {
+      punctual = record {
+        tidy = by.tidy;
+        safe = by.best.safe;
+        below_own = own.0;
+        covers_own = by.best.covers_own.0;
+        rounded = by.best.covers_own.1;
+        below_safe = λ tree safe. (by.best.below_safe tree safe).0;
+        least = λ tree safe. (by.best.below_safe tree safe).1;
+        gap = by.best.gap_within;
+        at_once = λ same early. by.best.at_once same ∙ none_late promised q.start.0 early;
+      };
+      by_rules = by.by_rules;
+      at_once = by.best.at_once;
+    }
