@@ -1,3 +1,4 @@
 pub mod Walk
 pub mod Positions
 pub mod Rides
+pub mod Late

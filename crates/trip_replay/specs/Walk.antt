@@ -48,4 +48,7 @@ IsAnswer (Err e) walked = walked ≡ Err e
 abbrev pub IsSafeAnswer : ℕ → Result Trace ReplayFault → Type 0
 IsSafeAnswer deadline (Ok trace) = trace.arrival.0 ≤ deadline
 IsSafeAnswer deadline (Err (fault.Stuck place moment)) = ⊥
-IsSafeAnswer deadline (Err e) = Unit {0}
+IsSafeAnswer deadline (Err (fault.NotADelay ride)) = Unit {0}
+IsSafeAnswer deadline (Err (fault.TooFew rides)) = Unit {0}
+IsSafeAnswer deadline (Err (fault.TooMany rides)) = Unit {0}
+IsSafeAnswer deadline (Err fault.NoMemory) = Unit {0}

@@ -14,6 +14,9 @@ ghost use Rattle.trip_replay.specs.Walk.{walk, IsAnswer, IsSafeAnswer};
 ghost use Rattle.trip_replay.specs.Positions.{delayed_arrival, tree_at};
 ghost use Rattle.trip_replay.specs.Rides.{IsRide, arrival_after, IsStuckAfter};
 
+mod laws;
+
+pub use laws::a_safe_trip_arrives;
 use plan_graph::PlanGraph;
 use plan_model::{Leg, List, Moment, Network, PlaceId, Query};
 use std::alloc::Global;
