@@ -10,3 +10,4 @@ pub mod Written
 pub mod ReadRows
 pub mod ReadBack
 pub mod Deadlines
+pub mod ReadOnce

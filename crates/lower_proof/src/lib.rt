@@ -16,11 +16,13 @@ ghost use Rattle.interval_fixed.specs.Interval.{end_of_nanos};
 ghost use Rattle.plan_model.specs.Bounds.{end_of_time};
 
 mod board;
+mod laws;
 mod printer;
 mod reader;
 mod walk;
 
 use board::{Board, Entry, boards};
+pub use laws::{no_text_lacks_memory, one_text_tells_one_certificate};
 use plan_model::{ConnectionId, List, Moment, Network, NoMemory, PlaceId, Query};
 pub use printer::write_text;
 pub use reader::{ProofFault, read_text};

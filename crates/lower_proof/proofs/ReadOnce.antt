@@ -1,0 +1,155 @@
+-- A text tells one certificate, or has one first fault, and that is never want of memory.
+use Rattle.std.proofs.Common.{◌≡◌, ◌≢◌, ℕ, zero, suc, ◌+◌, ◌<◌, ◌⊎◌, Bool, true, false, List, Option, Some, None, Ok, Err, Result, arith, inl, inr, sym, ◌∙◌, ap, subst, ext_get_or, if◌then◌else◌}
+use Rattle.std.specs.Result.{result_err}
+use Rattle.std.proofs.lemmas.Bool.{cases_eq, cases_lt, cases_order}
+use Rattle.csv_rows.specs.Tables.{table_of, row_count, header}
+use Rattle.plan_model.specs.Results.{require}
+use Rattle.plan_model.specs.declared.model.Query.{Query}
+use Rattle.plan_model.specs.NetworkModel.{NetworkModel}
+use Rattle.plan_model.specs.NameLists.{NameLists}
+use Rattle.printed_rows.specs.Fields.{field, number_of, connection_of, rises, is_query}
+use Rattle.lower_proof.specs.declared.LowerBounds.{LowerBounds}
+use Rattle.lower_proof.specs.declared.reader.BoundsRow.{BoundsRow}
+use Rattle.lower_proof.specs.declared.reader.Told.{Told}
+use Rattle.lower_proof.specs.declared.reader.ProofFault.{ProofFault}
+use Rattle.lower_proof.specs.declared.reader.ProofFault.TheVariants.{Row, UnknownName, NoConnection, NotRising, OtherQuery, NoMemory}
+use Rattle.lower_proof.specs.Certificates.{bound_of}
+use Rattle.lower_proof.specs.Reading.{bounds_row_in, bounds_in, value_row_in, connection_in, told_in, value_row, connection_before}
+use Rattle.lower_proof.specs.Reading.{value_fault, IsFirstLineFault, IsFaultAfter, AreValuesTold, IsProofTold, IsProofRead}
+
+-- ---- no line lacks memory
+
+-- the fault of a chain is that of its first part, or of the rest
+require-err : {A B E : Type 0} (o : Option A) (fault : E) (next : A → Result B E) (f : E) → require o fault next ≡ Err f → (fault ≡ f) ⊎ ((a : A) × (next a ≡ Err f))
+require-err None fault next f is = inl (cc)
+require-err (Some a) fault next f is = inr (a, is)
+
+if-err : {A E : Type 0} (test : Bool) (a : A) (fault f : E) → (if test then Ok a else Err fault) ≡ Err f → fault ≡ f
+if-err true a fault f is = absurd (cc)
+if-err false a fault f is = cc
+
+told_in_memory : (n : NetworkModel) (names : NameLists) (line : ℕ) (before : Option ℕ) (r : List (List ℕ)) → told_in n names line before r ≡ Err NoMemory → ⊥
+told_in_memory n names line before r is = elim (require-err (value_row_in r) (Row line) _ NoMemory is) [
+  | inl e ↦ absurd (cc)
+  | inr row ↦ elim (require-err (number_of names.runs (field r 1)) (UnknownName line) _ NoMemory row.1) [
+    | inl e ↦ absurd (cc)
+    | inr run ↦ elim (require-err (connection_of n run.0 row.0.step) (NoConnection line) _ NoMemory run.1) [
+      | inl e ↦ absurd (cc)
+      | inr c ↦ let e = if-err (rises before c.0) _ (NotRising line) NoMemory c.1 in absurd (cc)
+    ]
+  ]
+]
+
+bounds_in_memory : (names : NameLists) (source target start : ℕ) (r : List (List ℕ)) → bounds_in names source target start r ≡ Err NoMemory → ⊥
+bounds_in_memory names source target start r is = elim (require-err (bounds_row_in r) (Row 1) _ NoMemory is) [
+  | inl e ↦ absurd (cc)
+  | inr row ↦ elim (require-err (number_of names.places (field r 2)) (UnknownName 1) _ NoMemory row.1) [
+    | inl e ↦ absurd (cc)
+    | inr from ↦ elim (require-err (number_of names.places (field r 3)) (UnknownName 1) _ NoMemory from.1) [
+      | inl e ↦ absurd (cc)
+      | inr to ↦ let e = if-err (is_query from.0 to.0 row.0.start.0 source target start) _ (OtherQuery 1) NoMemory to.1 in absurd (cc)
+    ]
+  ]
+]
+
+result_err-some : {A E : Type 0} (r : Result A E) (f : E) → result_err r ≡ Some f → r ≡ Err f
+result_err-some (Ok a) f is = absurd (cc)
+result_err-some (Err e) f is = let same : e ≡ f = cc in ap Err same
+
+cond_memory : (test : Bool) (told : Result Told ProofFault) (line : ℕ) → (told ≡ Err NoMemory → ⊥) → (if test then result_err told else Some (Row line)) ≡ Some NoMemory → ⊥
+cond_memory true told line not is = not (result_err-some told NoMemory is)
+cond_memory false told line not is = absurd (cc)
+
+after_memory : (n : NetworkModel) (names : NameLists) (t : List (List (List ℕ))) (first : Result BoundsRow ProofFault) → (first ≡ Err NoMemory → ⊥) → IsFaultAfter n names t first NoMemory → ⊥
+after_memory n names t (Ok bounds) not late =
+    cond_memory _ (told_in n names (late.i + 2) (connection_before n names t late.i) (value_row t late.i)) (late.i + 2)
+    (told_in_memory n names (late.i + 2) (connection_before n names t late.i) (value_row t late.i)) late.here
+after_memory n names t (Err fault) not is = not (ap Err is)
+
+-- the first fault of a text is not that there was no memory
+pub never_memory : (n : NetworkModel) (names : NameLists) (source target start : ℕ) (t : List (List (List ℕ))) (fault : ProofFault)
+    → IsFaultAfter n names t (bounds_in names source target start (header t)) fault → fault ≢ NoMemory
+never_memory n names source target start t fault late same =
+    after_memory n names t (bounds_in names source target start (header t)) (bounds_in_memory names source target start (header t))
+    (subst (λ (f : ProofFault). IsFaultAfter n names t (bounds_in names source target start (header t)) f) same late)
+
+-- ---- one certificate
+
+same_query : (a b : Query) → a.source.0 ≡ b.source.0 → a.target.0 ≡ b.target.0 → a.start.0 ≡ b.start.0 → a.deadline ≡ b.deadline → a ≡ b
+same_query a b s t u d = λ i. record { source = record { 0 = s i }; target = record { 0 = t i }; start = record { 0 = u i }; deadline = d i }
+
+same_read : (a b : Query × LowerBounds) → a.0 ≡ b.0 → a.1.values ≡ b.1.values → a ≡ b
+same_read a b query values = λ i. (query i, record { values = values i })
+
+is_number : (o : Option ℕ) (c : ℕ) → (o ≡ Some c) ⊎ (o ≢ Some c)
+is_number None c = inr (λ e. cc)
+is_number (Some d) c = elim (cases_eq d c) [ inl same ↦ inl (ap Some same) | inr other ↦ inr (λ e. other (cc)) ]
+
+module _ (n : NetworkModel) (names : NameLists) (t : List (List (List ℕ))) where
+  -- one of the first m rows is of a connection, or none is
+  of_rows : (c m : ℕ) → ((i : ℕ) × (i < m) × (connection_in n names (value_row t i) ≡ Some c)) ⊎ ((i : ℕ) → i < m → connection_in n names (value_row t i) ≢ Some c)
+  of_rows c zero = inr (λ i less. absurd (omega (arith, less)))
+  of_rows c (suc m) = elim (of_rows c m) [
+    | inl at ↦ inl (at.0, omega (arith, at.1), at.2)
+    | inr never ↦ elim (is_number (connection_in n names (value_row t m)) c) [
+      | inl here ↦ inl (m, omega arith, here)
+      | inr other ↦ inr (λ i less at. elim (cases_lt i m) [
+        | inl own ↦ never i own at
+        | inr le ↦ let same : i ≡ m = omega (arith, le, less) in other (subst (λ (k : ℕ). connection_in n names (value_row t k) ≡ Some c) same at)
+      ])
+    ]
+  ]
+
+  one_values : (stated other : ℕ) (a b : List (Option ℕ)) → AreValuesTold n names t stated a → AreValuesTold n names t other b → a ≡ b
+  one_values stated other a b one two = ext_get_or None a b (one.as_many ∙ sym two.as_many) (λ c within. same c)
+    where
+      same : (c : ℕ) → bound_of a c ≡ bound_of b c
+      same c = elim (of_rows c (row_count t)) [
+        | inl at ↦ one.told at.0 c at.1 at.2 ∙ sym (two.told at.0 c at.1 at.2)
+        | inr never ↦ one.others c never ∙ sym (two.others c never)
+      ]
+
+  one_fault : (stated : ℕ) (f g : ProofFault) → IsFirstLineFault n names t stated f → IsFirstLineFault n names t stated g → f ≡ g
+  one_fault stated f g one two = elim (cases_order one.i two.i) [
+    | inl same ↦
+        let here : value_fault n names t stated two.i ≡ Some f = subst (λ (k : ℕ). value_fault n names t stated k ≡ Some f) same one.here in
+        let both : ◌≡◌ {A = Option ProofFault} (Some f) (Some g) = sym here ∙ two.here in
+        cc
+    | inr apart ↦ elim apart [
+      | inl sooner ↦ let both : ◌≡◌ {A = Option ProofFault} (Some f) None = sym one.here ∙ two.first one.i sooner in absurd (cc)
+      | inr later ↦ let both : ◌≡◌ {A = Option ProofFault} (Some g) None = sym two.here ∙ one.first two.i later in absurd (cc)
+    ]
+  ]
+
+  after_one : (first : Result BoundsRow ProofFault) (f g : ProofFault) → IsFaultAfter n names t first f → IsFaultAfter n names t first g → f ≡ g
+  after_one (Ok bounds) f g one two = one_fault bounds.number f g one two
+  after_one (Err fault) f g one two = sym one ∙ two
+
+  not_both : (first : Result BoundsRow ProofFault) (bounds : BoundsRow) (values : List (Option ℕ)) (f : ProofFault) → first ≡ Ok bounds
+      → AreValuesTold n names t bounds.number values → IsFaultAfter n names t first f → ⊥
+  not_both (Ok own) bounds values f is told late =
+      let same : own ≡ bounds = cc in
+      let first : IsFirstLineFault n names t bounds.number f = subst (λ (b : BoundsRow). IsFirstLineFault n names t b.number f) same late in
+      let both : ◌≡◌ {A = Option ProofFault} (Some f) None = sym first.here ∙ told.faultless first.i first.within in
+      absurd (cc)
+  not_both (Err fault) bounds values f is told late = absurd (cc)
+
+module _ (n : NetworkModel) (names : NameLists) (source target start : ℕ) where
+  one_told : (t : List (List (List ℕ))) (a b : Query × LowerBounds) → IsProofTold n names source target start t a.0 a.1.values → IsProofTold n names source target start t b.0 b.1.values → a ≡ b
+  one_told t a b one two =
+      let both : ◌≡◌ {A = Result BoundsRow ProofFault} (Ok one.bounds) (Ok two.bounds) = sym one.head ∙ two.head in
+      let same : ◌≡◌ {A = BoundsRow} one.bounds two.bounds = cc in
+      same_read a b
+      (same_query a.0 b.0 (one.from ∙ sym two.from) (one.to ∙ sym two.to) (one.since ∙ sym two.since) (one.until ∙ ap (λ (r : BoundsRow). r.deadline) same ∙ sym two.until))
+      (one_values n names t one.bounds.number two.bounds.number a.1.values b.1.values one.told two.told)
+
+  -- what is read of a text is one, but for want of memory
+  pub read_once : (text : List ℕ) (r s : Result (Query × LowerBounds) ProofFault) → IsProofRead n names source target start text r → IsProofRead n names source target start text s
+      → r ≢ Err NoMemory → s ≢ Err NoMemory → r ≡ s
+  read_once text (Ok a) (Ok b) one two _ _ = ap Ok (one_told (table_of text) a b one two)
+  read_once text (Ok a) (Err g) one (inl none) _ some = absurd (some (ap Err none))
+  read_once text (Ok a) (Err g) one (inr late) _ _ = absurd (not_both n names (table_of text) _ one.bounds a.1.values g one.head one.told late)
+  read_once text (Err f) s (inl none) two some _ = absurd (some (ap Err none))
+  read_once text (Err f) (Ok b) (inr late) two _ _ = absurd (not_both n names (table_of text) _ two.bounds b.1.values f two.head two.told late)
+  read_once text (Err f) (Err g) (inr late) (inl none) _ some = absurd (some (ap Err none))
+  read_once text (Err f) (Err g) (inr late) (inr other) _ _ = ap Err (after_one n names (table_of text) _ f g late other)

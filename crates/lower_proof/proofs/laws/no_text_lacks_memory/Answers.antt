@@ -1,0 +1,6 @@
+use Rattle.csv_rows.specs.Tables.{table_of}
+use Rattle.lower_proof.proofs.ReadOnce.{never_memory}
+use Rattle.lower_proof.proofs.laws.no_text_lacks_memory.Goals as goal
+
+pub returns : goal.returns
+returns c = λ n names source target start text. never_memory n names source target start (table_of text)
