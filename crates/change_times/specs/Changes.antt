@@ -77,6 +77,12 @@ fault_of_transfers feed (Found t) = transfers_fault feed t
 fault_of_transfers feed Absent = None
 fault_of_transfers feed NoRecord = None
 
+-- whatever the files tell, change times and links are those of some table with no fault
+pub record AreToldBySome (feed : FeedParts) (c : ChangeParts) : Type 0 where
+  pub loaded : Loaded
+  pub no_fault : fault_of_transfers feed loaded ≡ None
+  pub told : AreToldChanges feed c (loaded_rows loaded)
+
 abbrev pub transfers_from : FeedParts → Result Loaded FeedFault → Result Records FeedFault
 transfers_from feed loaded = and_then loaded (λ l. unless (fault_of_transfers feed l) (loaded_rows l))
 

@@ -16,7 +16,7 @@ ghost use Rattle.change_times.specs.Greatest.{greater};
 ghost use Rattle.plan_model.specs.Network.{AreLinksInto};
 ghost use Rattle.change_times.specs.Walks.{walks_of, most_to, seconds_between, link_between};
 ghost use Rattle.change_times.specs.Told.{AreTold};
-ghost use Rattle.change_times.specs.Changes.{fault_of_transfers, seconds_of, links_of, transfers_in, AreToldChanges, LinksComeFrom};
+ghost use Rattle.change_times.specs.Changes.{fault_of_transfers, seconds_of, links_of, transfers_in, AreToldChanges, AreToldBySome, LinksComeFrom};
 
 use crate::links::{Walk, Ways, add_walk, links_of, no_walks};
 use crate::stops::FeedStops;
@@ -217,6 +217,7 @@ impl Changes {
         ensures same { F.files files.new ≡ F.files files.old }
         ensures changes { IfSome (F.files files.old) (λ m. IfOk result (λ c. IsOkAnd
             (transfers_in m folder.now limits.now None feed.now) (AreToldChanges feed.now c))) }
+        ensures sound { IfOk result (AreToldBySome feed.now) }
         ensures links { IfOk result (λ c. LinksComeFrom (length feed.now.stop_ids) c) }
         ensures fault { IfSome (F.files files.old) (λ m. IfErr result (λ f. f ≢ FeedFault.NoMemory
             → transfers_in m folder.now limits.now (unread_of f) feed.now ≡ Err f)) }

@@ -6,7 +6,6 @@ use Rattle.change_times.specs.Transfers.{place_of_stop}
 use Rattle.connections.specs.Cut.{IsNetworkFrom}
 use Rattle.delay_table.specs.DelayLists.{DelayLists}
 use Rattle.delay_table.specs.Slots.{AreDelays}
-use Rattle.gtfs_tables.specs.Feeds.{IsSoundFeed}
 use Rattle.command_line.specs.Jobs.{JourneyModel}
 use Rattle.journey_model.specs.declared.faults.Input.{Input}
 use Rattle.journey_model.specs.declared.faults.Fault.{Fault}
@@ -14,7 +13,7 @@ use Rattle.journey_model.specs.declared.faults.Fault.TheVariants.{NoMemory}
 use Rattle.journey_model.specs.declared.problem.Problem.{Problem}
 use Rattle.journey_model.specs.Faults.{MayBeUnread, unread_of}
 use Rattle.input_files.specs.InputTables.{AreDelaysOf, delay_fault}
-use Rattle.journey_problem.specs.FeedProblems.{GtfsFolder, IsFolder, IsWindowFault, IsFaultAfterFolder, IsFeedProblem, HasFeedTimetable, window_fault_of}
+use Rattle.journey_problem.specs.FeedProblems.{GtfsFolder, IsFolder, IsSoundFolder, IsWindowFault, IsFaultAfterFolder, IsFeedProblem, HasFeedTimetable, window_fault_of}
 
 -- what holds of a told folder before and after a step that leaves it the same
 pub if_some_both : {A : Type 0} (o later : Option A) {P Q R : A → Type 0} → later ≡ o → IfSome o P → IfSome later Q → ((a : A) → P a → Q a → R a) → IfSome o R
@@ -24,7 +23,7 @@ if_some_both (Some a) (Some b) {Q = Q} same p q f = let one : b ≡ a = (cc) in 
 
 -- a window of a feed is that of some feed
 pub feed_timetable : (horizon : ℕ) (j : JourneyModel) (h : GtfsFolder) (lists : DelayLists) (r : Result Problem Fault)
-    → IsSoundFeed h.feed → AreDelays lists
+    → IsSoundFolder h → AreDelays lists
     → IfOk r (λ p. IsNetworkFrom h.feed h.services h.changes lists j.start horizon p.network p.names)
     → IfOk r (λ p. place_of_stop h.feed j.from ≡ Some p.source.0)
     → IfOk r (λ p. place_of_stop h.feed j.to ≡ Some p.target.0)

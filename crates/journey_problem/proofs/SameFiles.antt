@@ -25,7 +25,7 @@ module _ (limits : Limits) (files other : FileMap) (same : (path : List ℕ) →
   same_calendars folder = ap (λ (f : List ℕ → Option (List ℕ)).
       calendars_from (calendar_from (load_of None limits Calendar (f (path_of folder Calendar)))) (dates_from (load_of None limits CalendarDates (f (path_of folder CalendarDates))))) (fun_ext same)
 
-  same_folder : (folder : List ℕ) (h : GtfsFolder) → IsFolder limits files folder h → IsFolder limits other folder h
+  pub same_folder : (folder : List ℕ) (h : GtfsFolder) → IsFolder limits files folder h → IsFolder limits other folder h
   same_folder folder h a = record {
     feed = subst (λ r. IsFeedOf r h.feed) (same_tables folder) a.feed;
     services = subst (λ r. IsOkAnd r (RunsBy (runs h.services))) (same_calendars folder) a.services;

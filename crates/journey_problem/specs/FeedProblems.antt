@@ -7,8 +7,8 @@ use Rattle.csv_rows.specs.declared.limits.Limits.{Limits}
 use Rattle.csv_rows.specs.FeedTables.{unread_of as unread_table_of}
 use Rattle.gtfs_tables.specs.Feeds.{FeedParts, tables_in, IsFeedOf, IsSoundFeed}
 use Rattle.service_days.specs.Services.{ServiceParts, runs}
-use Rattle.service_days.specs.Calendars.{calendars_in, RunsBy}
-use Rattle.change_times.specs.Changes.{ChangeParts, AreToldChanges, transfers_in}
+use Rattle.service_days.specs.Calendars.{calendars_in, RunsBy, RunsBySome}
+use Rattle.change_times.specs.Changes.{ChangeParts, AreToldChanges, AreToldBySome, transfers_in}
 use Rattle.change_times.specs.Transfers.{place_of_stop}
 use Rattle.delay_table.specs.DelayLists.{DelayLists}
 use Rattle.delay_table.specs.Slots.{AreDelays}
@@ -110,10 +110,16 @@ pub record IsFeedTimetable (parts : GtfsFolder) (lists : DelayLists) (horizon : 
   pub source : place_of_stop parts.feed j.from ≡ Some p.source.0
   pub target : place_of_stop parts.feed j.to ≡ Some p.target.0
 
--- this is so of some feed with no fault and some delays
+-- whatever the files tell, each part is that of some tables with no fault
+pub record IsSoundFolder (h : GtfsFolder) : Type 0 where
+  pub feed : IsSoundFeed h.feed
+  pub services : RunsBySome (runs h.services)
+  pub changes : AreToldBySome h.feed h.changes
+
+-- this is so of some folder with no fault and some delays
 abbrev pub HasFeedTimetable : ℕ → JourneyModel → Problem → Type 0
 HasFeedTimetable horizon j p =
-    (parts : GtfsFolder) × (lists : DelayLists) × IsSoundFeed parts.feed × AreDelays lists × IsFeedTimetable parts lists horizon j p
+    (parts : GtfsFolder) × (lists : DelayLists) × IsSoundFolder parts × AreDelays lists × IsFeedTimetable parts lists horizon j p
 
 -- no file has a fault, the timetable is that of the feed with the delays of the delay file, and its window has no fault
 pub record IsFeedProblem (limits : Limits) (files : FileMap) (folder : List ℕ) (horizon : ℕ) (j : JourneyModel) (p : Problem) : Type 0 where

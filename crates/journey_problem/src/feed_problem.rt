@@ -3,9 +3,10 @@ ghost use Rattle.std.specs.Prelude.{◌≡◌, ◌≢◌, ◌<◌, ◌≤◌, �
 ghost use Rattle.csv_rows.specs.Limits.{AreWithin};
 ghost use Rattle.table_files.specs.Loading.{HasFeedCauses};
 ghost use Rattle.change_times.specs.Transfers.{place_of_stop};
-ghost use Rattle.change_times.specs.Changes.{LinksComeFrom};
+ghost use Rattle.change_times.specs.Changes.{LinksComeFrom, AreToldBySome};
 ghost use Rattle.connections.specs.Cut.{IsNetworkFrom};
-ghost use Rattle.gtfs_tables.specs.Feeds.{IsSoundFeed};
+ghost use Rattle.service_days.specs.Services.{runs};
+ghost use Rattle.service_days.specs.Calendars.{RunsBySome};
 ghost use Rattle.plan_model.specs.NameLists.{NamesFit};
 ghost use Rattle.plan_model.specs.Network.{IsValid};
 ghost use Rattle.command_line.specs.Shown.{journey_shown};
@@ -14,7 +15,7 @@ ghost use Rattle.command_line.specs.Ranges.{IsJourney};
 ghost use Rattle.journey_model.specs.Faults.{MayBeUnread, unread_of};
 ghost use Rattle.input_files.specs.Files.{OwnPaths, path_by, HasCauses};
 ghost use Rattle.input_files.specs.FaultsBeforeSearch.{IsBeforeSearch};
-ghost use Rattle.journey_problem.specs.FeedProblems.{feed_as, feed_stop_fault, window_fault_of, AreRules, IsFolder, IsFolderFault, IsLaterTableFault, IsFaultAfterFolder, IsWindowFault, IsFeedProblem, IsFeedProblemFault, HasFeedTimetable};
+ghost use Rattle.journey_problem.specs.FeedProblems.{feed_as, feed_stop_fault, window_fault_of, AreRules, IsFolder, IsSoundFolder, IsFolderFault, IsLaterTableFault, IsFaultAfterFolder, IsWindowFault, IsFeedProblem, IsFeedProblemFault, HasFeedTimetable};
 ghost use Rattle.journey_problem.specs.Folders.{gtfs_folder_of};
 
 use change_times::Changes;
@@ -66,6 +67,8 @@ fn read_rules<F: Files>(
         AreRules limits.now m folder.now feed.now r.services r.changes)) }
     ensures fault { IfSome (F.files files.old) (λ m. IfErr result (λ f. f ≢ FeedFault.NoMemory
         → IsLaterTableFault limits.now m folder.now feed.now f)) }
+    ensures services { IfOk result (λ r. RunsBySome (runs r.services)) }
+    ensures changes { IfOk result (λ r. AreToldBySome feed.now r.changes) }
     ensures links { IfOk result (λ r. LinksComeFrom (length feed.now.stop_ids) r.changes) }
     ensures causes { HasFeedCauses (IsSome (F.files files.old)) folder.now
         (F.faults files.old) (F.faults files.new) (F.faults_of files.old) (F.faults_of files.new) result }
@@ -93,7 +96,7 @@ fn read_folder<F: Files>(
         IfOk result (λ t. IsFolder limits.now m folder.now (gtfs_folder_of t))) }
     ensures fault { IfSome (F.files files.old) (λ m. IfErr result (λ f. f ≢ FeedFault.NoMemory
         → IsFolderFault limits.now m folder.now f)) }
-    ensures sound { IfOk result (λ t. IsSoundFeed t.feed) }
+    ensures sound { IfOk result (λ t. IsSoundFolder (gtfs_folder_of t)) }
     ensures links { IfOk result (λ t. LinksComeFrom (length t.feed.stop_ids) t.rules.changes) }
     ensures causes { HasFeedCauses (IsSome (F.files files.old)) folder.now
         (F.faults files.old) (F.faults files.new) (F.faults_of files.old) (F.faults_of files.new) result }
@@ -209,7 +212,7 @@ fn problem_in<F: Files>(
     requires journey { IsJourney (journey_shown journey.now) }
     requires horizon { horizon ≤ 72 }
     requires links { LinksComeFrom (length tables.now.feed.stop_ids) tables.now.rules.changes }
-    requires sound { IsSoundFeed tables.now.feed }
+    requires sound { IsSoundFolder (gtfs_folder_of tables.now) }
     ensures same { F.files files.new ≡ F.files files.old }
     ensures problem { IfSome (F.files files.old) (λ m. IfOk result (λ p. (folder : Bytes ℕ)
         → IsFolder limits.now m folder (gtfs_folder_of tables.now)

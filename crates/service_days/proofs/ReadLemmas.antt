@@ -15,7 +15,8 @@ use Rattle.service_days.specs.declared.exceptions.Exception.{Exception}
 use Rattle.csv_rows.specs.Tables.{row_count}
 use Rattle.service_days.specs.Numbered.{AreNumbered}
 use Rattle.service_days.specs.Services.{ServiceParts, runs}
-use Rattle.service_days.specs.Calendars.{Calendars, RunsBy, both_of, calendar_from, dates_from, calendars_from, calendars_in, IsCalendar, AreDates}
+use Rattle.service_days.specs.Periods.{service_ids, periods_of}
+use Rattle.service_days.specs.Calendars.{Calendars, RunsBy, RunsBySome, both_of, has_no_record, fault_of_calendar, fault_of_dates, calendar_from, dates_from, calendars_from, calendars_in, AreDistinctRows, IsCalendar, AreDates, IsOfCalendar, AreOfDates}
 use Rattle.table_files.proofs.LoadLemmas.{load_in-other}
 use Rattle.service_days.proofs.ActiveLemmas.{runs_is}
 
@@ -94,3 +95,22 @@ services_here None folder limits missing missing' ids ids' periods exceptions s 
 services_here (Some m) folder limits missing missing' ids ids' periods exceptions s same h k e =
     services_from missing missing' ids ids' periods exceptions (calendar_from (load_in m folder limits None table.Calendar)) (dates_from (load_in m folder limits None table.CalendarDates))
     s same h k e
+
+-- what was read of a table with no fault is of some table
+pub of_calendar : (l : Loaded) (missing : Bool) (ids : List (List ℕ)) (periods : List Period) → fault_of_calendar l ≡ None → missing ≡ has_no_record l
+    → ids ≡ service_ids (loaded_rows l) → periods ≡ periods_of (loaded_rows l) → AreDistinctRows (loaded_rows l) → IsOfCalendar missing ids periods
+of_calendar l missing ids periods sound absent named held distinct = (l, rw sound (absent, named, held, distinct))
+
+pub of_dates : (l : Loaded) (before : List (List ℕ)) (missing : Bool) (ids : List (List ℕ)) (exceptions : List Exception) → fault_of_dates l ≡ None → missing ≡ has_no_record l
+    → AreNumbered (loaded_rows l) (row_count (loaded_rows l)) before ids exceptions → AreOfDates before missing ids exceptions
+of_dates l before missing ids exceptions sound absent numbered = (l, rw sound (absent, numbered))
+
+-- and services run by these
+pub runs_by_some : (missing missing' : Bool) (ids ids' : List (List ℕ)) (periods : List Period) (exceptions : List Exception) (s : ServiceParts)
+    → s ≡ record { ids = ids'; periods = periods; exceptions = exceptions } → IsOfCalendar missing ids periods → AreOfDates ids missing' ids' exceptions → (missing && missing') ≡ false
+    → RunsBySome (runs s)
+runs_by_some missing missing' ids ids' periods exceptions s same (c, calendar) (d, dates) some = record {
+  calendar = c;
+  dates = d;
+  runs_by = services_from missing missing' ids ids' periods exceptions (calendar_from (Ok c)) (dates_from (Ok d)) s same calendar dates some;
+}

@@ -1,5 +1,5 @@
 -- The calendars of a feed, and on which days a service is active (GTFS Schedule reference).
-use Rattle.std.specs.Prelude.{◌≡◌, ℕ, ℤ, ◌&&◌, ◌||◌, not, Bool, true, false, List, Option, None, Result, Ok, Err, IfSome, if◌then◌else◌}
+use Rattle.std.specs.Prelude.{◌≡◌, ℕ, ℤ, ◌&&◌, ◌||◌, not, Bool, true, false, List, Option, None, Result, Ok, Err, IfSome, IsOkAnd, if◌then◌else◌}
 use Rattle.plan_model.specs.Results.{and_then, unless}
 use Rattle.csv_rows.specs.declared.feed_tables.Table.{Table}
 use Rattle.csv_rows.specs.declared.feed_tables.Table.TheVariants.{Stops, Routes, Trips, StopTimes, Frequencies, Calendar, CalendarDates, Transfers}
@@ -79,6 +79,12 @@ unfoldable pub calendars_in : FileMap → List ℕ → Limits → Option Table �
 calendars_in files folder limits unread =
     calendars_from (calendar_from (load_in files folder limits unread Calendar)) (dates_from (load_in files folder limits unread CalendarDates))
 
+-- whatever the files tell, the services run on the days of some calendars with no fault
+pub record RunsBySome (runs : List ℕ → ℤ → Bool) : Type 0 where
+  pub calendar : Loaded
+  pub dates : Loaded
+  pub runs_by : IsOkAnd (calendars_from (calendar_from (Ok calendar)) (dates_from (Ok dates))) (RunsBy runs)
+
 -- what was read of each table
 abbrev pub IsCalendar : Result Loaded FeedFault → Bool → List (List ℕ) → List Period → Type 0
 IsCalendar (Ok l) missing ids periods =
@@ -89,6 +95,13 @@ abbrev pub AreDates : Result Loaded FeedFault → List (List ℕ) → Bool → L
 AreDates (Ok l) before missing ids exceptions =
     (missing ≡ has_no_record l) × AreNumbered (loaded_rows l) (row_count (loaded_rows l)) before ids exceptions
 AreDates (Err fault) before missing ids exceptions = ⊥
+
+-- of some table each
+abbrev pub IsOfCalendar : Bool → List (List ℕ) → List Period → Type 0
+IsOfCalendar missing ids periods = (l : Loaded) × IsCalendar (calendar_from (Ok l)) missing ids periods
+
+abbrev pub AreOfDates : List (List ℕ) → Bool → List (List ℕ) → List Exception → Type 0
+AreOfDates before missing ids exceptions = (l : Loaded) × AreDates (dates_from (Ok l)) before missing ids exceptions
 
 -- the two tables
 abbrev pub IsCalendarTable : Table → Type 0

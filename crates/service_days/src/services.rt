@@ -5,7 +5,7 @@ ghost use Rattle.csv_rows.specs.Limits.{AreWithin};
 ghost use Rattle.table_files.specs.Loading.{HasFeedCauses};
 ghost use Rattle.service_days.specs.Services.{period_runs, runs, runs_at};
 ghost use Rattle.service_days.specs.Days.{day_count, days_between};
-ghost use Rattle.service_days.specs.Calendars.{calendars_in, RunsBy, IsCalendarFault};
+ghost use Rattle.service_days.specs.Calendars.{calendars_in, RunsBy, RunsBySome, IsCalendarFault};
 
 use crate::exceptions::{Exception, has};
 use crate::periods::Period;
@@ -70,6 +70,7 @@ impl Services {
         ensures same { F.files files.new ≡ F.files files.old }
         ensures services { IfSome (F.files files.old) (λ m. IfOk result (λ s.
             IsOkAnd (calendars_in m folder.now limits.now None) (RunsBy (runs s)))) }
+        ensures sound { IfOk result (λ s. RunsBySome (runs s)) }
         ensures fault { IfSome (F.files files.old) (λ m. IfErr result (λ f. f ≢ FeedFault.NoMemory
             → calendars_in m folder.now limits.now (unread_of f) ≡ Err f)) }
         ensures own { IfErr result IsCalendarFault }

@@ -8,7 +8,7 @@ ghost use Rattle.csv_rows.specs.RowFaults.{TellsFirst};
 ghost use Rattle.csv_rows.specs.Tables.{row_count};
 ghost use Rattle.service_days.specs.Periods.{service_ids, periods_of};
 ghost use Rattle.service_days.specs.Numbered.{AreNumbered};
-ghost use Rattle.service_days.specs.Calendars.{has_no_record, fault_of_calendar, fault_of_dates, calendar_from, dates_from, IsCalendar, AreDates, AreDistinctRows};
+ghost use Rattle.service_days.specs.Calendars.{has_no_record, fault_of_calendar, fault_of_dates, calendar_from, dates_from, IsCalendar, AreDates, IsOfCalendar, AreOfDates, AreDistinctRows};
 
 use crate::exceptions::{Numbered, read_exceptions};
 use crate::periods::{Calendar, read_calendar};
@@ -109,6 +109,7 @@ pub(crate) fn load_calendar<F: Files>(
     ensures calendar { IfSome (F.files files.old) (λ m. IfOk result (λ c.
         IsCalendar (calendar_from (load_in m folder.now limits.now None CalendarTable))
         c.missing c.calendar.ids c.calendar.periods.items)) }
+    ensures sound { IfOk result (λ c. IsOfCalendar c.missing c.calendar.ids c.calendar.periods.items) }
     ensures fault { IfSome (F.files files.old) (λ m. IfErr result (λ f. f ≢ FeedFault.NoMemory
         → calendar_from (load_in m folder.now limits.now (unread_of f) CalendarTable) ≡ Err f)) }
     ensures few { IfOk result (λ c. length c.calendar.ids ≤ 2 ^ 20) }
@@ -136,6 +137,8 @@ pub(crate) fn load_dates<F: Files>(
     ensures dates { IfSome (F.files files.old) (λ m. IfOk result (λ d.
         AreDates (dates_from (load_in m folder.now limits.now None DatesTable))
         ids d.missing d.numbered.ids d.numbered.exceptions.keys)) }
+    ensures sound { IfOk result (λ d.
+        AreOfDates ids d.missing d.numbered.ids d.numbered.exceptions.keys) }
     ensures fault { IfSome (F.files files.old) (λ m. IfErr result (λ f. f ≢ FeedFault.NoMemory
         → dates_from (load_in m folder.now limits.now (unread_of f) DatesTable) ≡ Err f)) }
     ensures own { IfErr result (IsFaultOf DatesTable) }

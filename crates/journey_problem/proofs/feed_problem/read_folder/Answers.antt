@@ -31,3 +31,10 @@ returns-in-Ok-read_rules-clause-folder g c =
 pub returns-in-Ok-read_rules-clause-causes : goal.returns-in-Ok-read_rules-clause-causes
 returns-in-Ok-read_rules-clause-causes g c =
     causes-next (λ table is. is) (λ told. subst (λ (o : Option FileMap). IsSome o) (sym c.in-Ok.ensures.same) told) c.in-Ok.ensures.causes c.in-Ok-read_rules.ensures.causes
+
+pub returns-in-Ok-read_rules-clause-sound : goal.returns-in-Ok-read_rules-clause-sound
+returns-in-Ok-read_rules-clause-sound g c = record {
+  feed = c.stop_count-count.ensures.sound;
+  services = c.in-Ok-read_rules.ensures.services;
+  changes = c.in-Ok-read_rules.ensures.changes;
+}

@@ -7,7 +7,7 @@ use Rattle.csv_rows.specs.FeedTables.{unread_of}
 use Rattle.table_files.specs.Loading.{load_in}
 use Rattle.csv_rows.proofs.FaultLemmas.{some_raised}
 use Rattle.service_days.specs.Calendars.{dates_from, AreDates}
-use Rattle.service_days.proofs.ReadLemmas.{calendar_first, dates_first, none_there, services_here}
+use Rattle.service_days.proofs.ReadLemmas.{calendar_first, dates_first, none_there, services_here, runs_by_some}
 use Rattle.service_days.proofs.services.Services.read.Goals as goal
 use Rattle.service_days.proofs.services.Services.read.Goals.{else-missing-via-then-missing+else-dates, else-missing-via-else-missing}
 
@@ -40,6 +40,16 @@ returns-clause-services g c =
     x.calendar.ids d.missing d.numbered.ids d.numbered.exceptions.keys) in
     services_here (g.F.Files.files c.args.files.now) c.args.folder.now c.args.limits.now x.missing d.missing x.calendar.ids d.numbered.ids x.calendar.periods.items d.numbered.exceptions.keys
     _ refl c.in_ok-missing.ensures.calendar (subst P c.in_ok-missing.ensures.same c.in_ok-dates.ensures.dates)
+    (elim c.else-missing.branch [
+      | else-missing-via-then-missing+else-dates w ↦ and_right x.missing d.missing w.if-dates.false
+      | else-missing-via-else-missing w ↦ and_left x.missing d.missing w.if-missing.false
+    ])
+
+pub returns-clause-sound : goal.returns-clause-sound
+returns-clause-sound g c =
+    let x = c.in_ok-missing.field-0 in
+    let d = c.in_ok-dates.dates in
+    runs_by_some x.missing d.missing x.calendar.ids d.numbered.ids x.calendar.periods.items d.numbered.exceptions.keys _ refl c.in_ok-missing.ensures.sound c.in_ok-dates.ensures.sound
     (elim c.else-missing.branch [
       | else-missing-via-then-missing+else-dates w ↦ and_right x.missing d.missing w.if-dates.false
       | else-missing-via-else-missing w ↦ and_left x.missing d.missing w.if-missing.false
