@@ -1,0 +1,133 @@
+-- Two choices that fix one tree, which is safe, choose the same after each leg that stands in it.
+use Rattle.std.proofs.Common.{◌≡◌, ◌≢◌, ℕ, zero, suc, ◌+◌, List, [], ◌∷◌, Option, Some, None, Contains, sym, subst, refl, inl, inr, ap, ne_eqb, ◌-◌}
+use Rattle.std.proofs.lemmas.Bool.{cases_eq, eq-eqb}
+use Rattle.plan_model.specs.declared.model.Leg.{Leg}
+use Rattle.plan_model.specs.declared.model.Outcome.{Outcome}
+use Rattle.plan_model.specs.NetworkModel.{NetworkModel}
+use Rattle.plan_model.specs.Network.{arr_of, count}
+use Rattle.plan_model.specs.Tree.{Tree, Done, Ride, Stuck, Kids, Nil, Kid}
+use Rattle.plan_model.specs.Strategy.{IsSafe, IsSafeFromStart, AreSafe}
+use Rattle.plan_model.specs.Unfold.{end_of, arrival_of, outcomes_of, kids_after, ride_of, ride_or_stuck, unfold_after, unfold_from}
+use Rattle.plan_graph.specs.Ready.{Stands, StandsIn}
+use Rattle.plan_graph.proofs.Searches.{same_leg}
+use Rattle.leg_walk.proofs.Places.{safe_kid}
+use Rattle.plan_model.proofs.Lists.{Contains-nil, Contains-head, Contains-tail, Contains-cons_cases}
+
+abbrev first_tree : Tree → Kids → Tree
+first_tree else Nil = else
+first_tree else (Kid weight tree others) = tree
+
+abbrev other_kids : Kids → Kids
+other_kids Nil = Nil
+other_kids (Kid weight tree others) = others
+
+-- kids that are the same are so one by one
+kid_same : (f g : ℕ → Tree) (row : List Outcome) (scheduled : ℕ) → kids_after f scheduled row ≡ kids_after g scheduled row → (o : Outcome) → Contains row o
+    → f (scheduled + o.delay) ≡ g (scheduled + o.delay)
+kid_same f g [] scheduled same o has = absurd (Contains-nil o has)
+kid_same f g (head ∷ row) scheduled same o has = elim (Contains-cons_cases head row o has) [
+  | inl is ↦ subst (λ (u : Outcome). f (scheduled + u.delay) ≡ g (scheduled + u.delay)) is (ap (first_tree (Done 0)) same)
+  | inr more ↦ kid_same f g row scheduled (ap other_kids same) o more
+]
+
+-- what stands in the kids stands after an outcome
+stands_after : (f : ℕ → Tree) (row : List Outcome) (scheduled : ℕ) (other : Leg) → StandsIn other (kids_after f scheduled row)
+    → (o : Outcome) × Contains row o × Stands other (f (scheduled + o.delay))
+stands_after f [] scheduled other there = absurd there
+stands_after f (head ∷ row) scheduled other (inl here) = (head, Contains-head head row, here)
+stands_after f (head ∷ row) scheduled other (inr more) =
+    let found = stands_after f row scheduled other more in
+    (found.0, Contains-tail head row found.0 found.1, found.2)
+
+abbrev enter_of : Tree → ℕ
+enter_of (Done moment) = 0
+enter_of (Ride i j kids) = i
+enter_of (Stuck place moment) = 0
+
+abbrev exit_of : Tree → ℕ
+exit_of (Done moment) = 0
+exit_of (Ride i j kids) = j
+exit_of (Stuck place moment) = 0
+
+abbrev kids_in : Tree → Kids
+kids_in (Done moment) = Nil
+kids_in (Ride i j kids) = kids
+kids_in (Stuck place moment) = Nil
+
+-- the first rides of one tree are of one leg
+one_leg : (n : NetworkModel) (f g : Leg → ℕ → Tree) (a b : Option Leg) (place x : ℕ) → ride_or_stuck n f a place x ≡ ride_or_stuck n g b place x → a ≡ b
+one_leg n f g None None place x same = refl
+one_leg n f g None (Some b) place x same = absurd (cc)
+one_leg n f g (Some a) None place x same = absurd (cc)
+one_leg n f g (Some a) (Some b) place x same = ap (λ (l : Leg). Some l) (same_leg a b (ap enter_of same) (ap exit_of same))
+
+module _ (n : NetworkModel) (target : ℕ) (c d : Leg → ℕ → Option Leg) where
+  -- after each outcome of a leg that does not end at the target both choose the same
+  abbrev pub Agrees : Leg → Type 0
+  Agrees leg = end_of n leg ≢ target → (o : Outcome) → Contains (outcomes_of n leg) o → c leg (arrival_of n leg o.delay) ≡ d leg (arrival_of n leg o.delay)
+
+  pub start_same : (a b : Option Leg) (p x : ℕ) → p ≢ target → unfold_from n target c a p x ≡ unfold_from n target d b p x → a ≡ b
+  start_same a b p x away same =
+      one_leg n (unfold_after n target c (count n - 1)) (unfold_after n target d (count n - 1)) a b p x (rw (ne_eqb p target away) at same)
+
+  module _ (by : Option ℕ) where
+    next_same : (rides : ℕ) (leg : Leg) (x : ℕ) → end_of n leg ≢ target → unfold_after n target c rides leg x ≡ unfold_after n target d rides leg x
+        → IsSafe n target by (unfold_after n target c rides leg x) (end_of n leg) x → c leg x ≡ d leg x
+    next_same zero leg x away same safe = absurd (rw (ne_eqb (end_of n leg) target away) at safe)
+    next_same (suc rides) leg x away same safe =
+        one_leg n (unfold_after n target c rides) (unfold_after n target d rides) (c leg x) (d leg x) (end_of n leg) x (rw (ne_eqb (end_of n leg) target away) at same)
+
+    -- over so many rides more they agree after each leg that stands
+    abbrev AgreeOver : ℕ → Type 0
+    AgreeOver rides = (leg : Leg) (x : ℕ) → unfold_after n target c rides leg x ≡ unfold_after n target d rides leg x
+        → IsSafe n target by (unfold_after n target c rides leg x) (end_of n leg) x → (other : Leg) → Stands other (unfold_after n target c rides leg x) → Agrees other
+
+    agree_ride : (rides : ℕ) → AgreeOver rides → (leg : Leg) → ride_of n (unfold_after n target c rides) leg ≡ ride_of n (unfold_after n target d rides) leg
+        → AreSafe n target by (kids_after (unfold_after n target c rides leg) (arr_of n leg.exit.0) (outcomes_of n leg)) (outcomes_of n leg) (end_of n leg) (arr_of n leg.exit.0)
+        → (other : Leg) → Stands other (ride_of n (unfold_after n target c rides) leg) → Agrees other
+    agree_ride rides over leg same safe other stands =
+        let f = unfold_after n target c rides leg in
+        let g = unfold_after n target d rides leg in
+        let kid : (o : Outcome) → Contains (outcomes_of n leg) o → f (arrival_of n leg o.delay) ≡ g (arrival_of n leg o.delay)
+        = kid_same f g (outcomes_of n leg) (arr_of n leg.exit.0) (ap kids_in same) in
+        let kid_safe = safe_kid n target by c f (outcomes_of n leg) (end_of n leg) (arr_of n leg.exit.0) safe in
+        elim stands [
+          | inl is ↦ subst Agrees (sym (same_leg other leg is.0 is.1))
+              (λ away o has. next_same rides leg (arrival_of n leg o.delay) away (kid o has) (kid_safe o has))
+          | inr below ↦
+              let found = stands_after f (outcomes_of n leg) (arr_of n leg.exit.0) other below in
+              over leg (arrival_of n leg found.0.delay) (kid found.0 found.1) (kid_safe found.0 found.1) other found.2
+        ]
+
+    agree_by : (rides : ℕ) → AgreeOver rides → (a b : Option Leg) (place x : ℕ)
+        → ride_or_stuck n (unfold_after n target c rides) a place x ≡ ride_or_stuck n (unfold_after n target d rides) b place x
+        → IsSafe n target by (ride_or_stuck n (unfold_after n target c rides) a place x) place x
+        → (other : Leg) → Stands other (ride_or_stuck n (unfold_after n target c rides) a place x) → Agrees other
+    agree_by rides over None b place x same safe other stands = absurd stands
+    agree_by rides over (Some a) None place x same safe other stands = absurd (cc)
+    agree_by rides over (Some a) (Some b) place x same safe other stands =
+        let f = unfold_after n target c rides in
+        let g = unfold_after n target d rides in
+        let leg : b ≡ a = sym (same_leg a b (ap enter_of same) (ap exit_of same)) in
+        agree_ride rides over a (subst (λ (l : Leg). ride_of n f a ≡ ride_of n g l) leg same) safe.3 other stands
+
+    pub agree_over : (rides : ℕ) → AgreeOver rides
+    agree_over zero leg x same safe other stands = elim (cases_eq (end_of n leg) target) [
+      | inl is ↦ absurd (rw (eq-eqb (end_of n leg) target is) at stands)
+      | inr away ↦ absurd (rw (ne_eqb (end_of n leg) target away) at stands)
+    ]
+    agree_over (suc rides) leg x same safe other stands = elim (cases_eq (end_of n leg) target) [
+      | inl is ↦ absurd (rw (eq-eqb (end_of n leg) target is) at stands)
+      | inr away ↦
+          let test = ne_eqb (end_of n leg) target away in
+          agree_by rides (agree_over rides) (c leg x) (d leg x) (end_of n leg) x (rw test at same) (rw test at safe) other (rw test at stands)
+    ]
+
+    -- from a start leg on they agree after each leg that stands
+    pub agree_from : (start : Leg) (p x : ℕ) → p ≢ target → unfold_from n target c (Some start) p x ≡ unfold_from n target d (Some start) p x
+        → IsSafeFromStart n target by (unfold_from n target c (Some start) p x) p x
+        → (other : Leg) → Stands other (unfold_from n target c (Some start) p x) → Agrees other
+    agree_from start p x away same safe other stands =
+        let test = ne_eqb p target away in
+        let there = rw test at safe in
+        agree_ride (count n - 1) (agree_over (count n - 1)) start (rw test at same) there.3 other (rw test at stands)

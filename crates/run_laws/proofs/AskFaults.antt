@@ -1,0 +1,214 @@
+-- What is asked about a problem has an answer or one first fault.
+use Rattle.std.proofs.Common.{◌≡◌, ◌≢◌, ℕ, ◌<◌, ◌⊎◌, List, Option, Some, Result, Ok, Err, inl, inr, sym, subst, ap, ◌∙◌, arith}
+use Rattle.std.proofs.lemmas.Bool.{cases_eq, cases_order}
+use Rattle.file_ports.specs.Ports.{FileMap, file_at}
+use Rattle.csv_rows.specs.Tables.{table_of}
+use Rattle.csv_rows.specs.declared.limits.Limits.{Limits}
+use Rattle.plan_model.specs.declared.model.Query.{Query}
+use Rattle.plan_model.specs.NetworkModel.{NetworkModel}
+use Rattle.plan_model.specs.Network.{IsValid, count, dep_of}
+use Rattle.plan_model.specs.Order.{IsEarlier}
+use Rattle.plan_graph.specs.declared.PlanGraph.{PlanGraph}
+use Rattle.graph_text.specs.declared.Head.{Head}
+use Rattle.trip_replay.specs.declared.ReplayFault.{ReplayFault}
+use Rattle.graph_score.specs.Failures.{IsNotAfter, IsFirstFailure}
+use Rattle.lower_proof.specs.declared.LowerBounds.{LowerBounds}
+use Rattle.lower_proof.specs.declared.reader.ProofFault.{ProofFault}
+use Rattle.lower_proof.specs.declared.reader.ProofFault.TheVariants.{NoMemory as NoRoom}
+use Rattle.lower_proof.specs.Certificates.{IsLastFault}
+use Rattle.lower_proof.proofs.ReadOnce.{read_once, never_memory}
+use Rattle.command_line.specs.Jobs.{AskModel, Safe, Expand, Plan, Replay as Replays, Certify, CheckProof, CheckGraph, Punctual, Departures, Latest}
+use Rattle.journey_model.specs.declared.faults.Input.{Input}
+use Rattle.journey_model.specs.declared.faults.Input.TheVariants as input
+use Rattle.journey_model.specs.declared.faults.Fault.{Fault}
+use Rattle.journey_model.specs.declared.faults.Fault.TheVariants.{Replay, ProofFile, ProofFails, Unsafe}
+use Rattle.journey_model.specs.declared.problem.Problem.{Problem}
+use Rattle.journey_report.specs.Findings.{Findings}
+use Rattle.journey_problem.proofs.NoFaults.{none_unread}
+use Rattle.input_files.specs.Files.{bytes_of}
+use Rattle.graph_answers.specs.Trips.{IsTripTold, IsTripFault, trip_by}
+use Rattle.graph_answers.specs.Scores.{IsEnclosed, IsUnsafeGraph}
+use Rattle.graph_answers.specs.Checks.{IsHeld, IsBroken}
+use Rattle.file_answers.specs.GraphFiles.{graph_in, InGraphFile, FailsGraph, FailsReplay, FailsScore}
+use Rattle.file_answers.specs.ProofFiles.{FailsText, FailsFile, FailsCheck, FailsProof, InProofFile}
+use Rattle.plan_answers.specs.Answers.{IsNoSafe}
+use Rattle.meat_engine.specs.Asks.{AnswersAsk, FailsAsk}
+use Rattle.run_laws.proofs.FirstFaults.{NotRead}
+use Rattle.run_laws.proofs.OneFile.{one_err, never_both, read_graph, in_graph, read_bytes, Reads, in_proof}
+use Rattle.run_laws.proofs.Queries.{not_none}
+
+-- ---- of two failures one is first
+
+one_failure : (F : ℕ → ℕ → Type 0) (p x r y : ℕ) → IsFirstFailure F p x → IsFirstFailure F r y → (p ≡ r) × (x ≡ y)
+one_failure F p x r y a b = both (a.first r y b.fails) (b.first p x a.fails)
+  where
+    both : IsNotAfter p x r y → IsNotAfter r y p x → (p ≡ r) × (x ≡ y)
+    both (inl less) (inl more) = absurd (omega (arith, less, more))
+    both (inl less) (inr more) = absurd (omega (arith, less, more.0))
+    both (inr less) (inl more) = absurd (omega (arith, less.0, more))
+    both (inr less) (inr more) = (omega (arith, less.1, more.1), less.0)
+
+-- ---- of two connections one is earlier
+
+either_earlier : (n : NetworkModel) → IsValid n → (c d : ℕ) → c < count n → d < count n → c ≢ d → IsEarlier n c d ⊎ IsEarlier n d c
+either_earlier n valid c d there here apart = elim (cases_order (dep_of n c) (dep_of n d)) [
+  | inl same ↦ elim (cases_order c d) [
+    | inl is ↦ absurd (apart is)
+    | inr way ↦ elim way [
+      | inl before ↦ inl (inr (same, valid.rising c d before here))
+      | inr after ↦ inr (inr (sym same, valid.rising d c after there))
+    ]
+  ]
+  | inr way ↦ elim way [
+    | inl before ↦ inl (inl before)
+    | inr after ↦ inr (inl after)
+  ]
+]
+
+one_last : (n : NetworkModel) → IsValid n → (q : Query) (values : List (Option ℕ)) (c d : ℕ) → IsLastFault n q values c → IsLastFault n q values d → c ≡ d
+one_last n valid q values c d a b = elim (cases_eq c d) [
+  | inl same ↦ same
+  | inr apart ↦ elim (either_earlier n valid c d a.there b.there apart) [
+    | inl before ↦ absurd (b.fault (a.last d b.there b.board before))
+    | inr after ↦ absurd (a.fault (b.last c a.there a.board after))
+  ]
+]
+
+module _ (p : Problem) (files : FileMap) (limits : Limits) (start : ℕ) where
+  -- ---- graph files
+
+  module _ (path : List ℕ) where
+    abbrev graph_read : Result (Head × PlanGraph) Fault
+    graph_read = read_graph p files limits start path
+
+    abbrev bytes_read : Result (List ℕ) Fault
+    bytes_read = read_bytes p files limits start path
+
+    abbrev Told : List ℕ → Result (Query × LowerBounds) ProofFault → Type 0
+    Told = Reads p files limits start path
+
+    graph_fault : (fault : Fault) → NotRead fault → FailsGraph (Some files) limits start path p fault → graph_read ≡ Err fault
+    graph_fault fault never fails = subst (λ (u : Option Input). graph_in limits p start u (file_at files path) ≡ Err fault) (none_unread fault never) fails.1
+
+    -- what the file's graph comes to stands against no fault of the file
+    of_graph : (P : Head → PlanGraph → Type 0) (fault : Fault) → NotRead fault → FailsGraph (Some files) limits start path p fault → InGraphFile (Some files) limits start path p P → ⊥
+    of_graph P fault never fails (head, graph, is, holds) = never_both graph_read (head, graph) fault is.reads (graph_fault fault never fails)
+
+    one_trip_fault : (late : List ℕ) (a b : Fault) (head : Head) (graph : PlanGraph) → IsTripFault p late a head graph → IsTripFault p late b head graph → a ≡ b
+    one_trip_fault late a b head graph is also =
+        is.fault_is ∙ ap (λ (stop : ReplayFault). Replay stop) (one_err (trip_by p head graph late) is.stop also.stop is.trip also.trip) ∙ sym also.fault_is
+
+    one_replay_fault : (late : List ℕ) (a b : Fault) → NotRead a → NotRead b → FailsReplay (Some files) limits start path late p a → FailsReplay (Some files) limits start path late p b → a ≡ b
+    one_replay_fault late a b m n (inl is) (inl also) = one_err graph_read a b (graph_fault a m is) (graph_fault b n also)
+    one_replay_fault late a b m n (inl is) (inr also) = absurd (of_graph (IsTripFault p late b) a m is also)
+    one_replay_fault late a b m n (inr is) (inl also) = absurd (of_graph (IsTripFault p late a) b n also is)
+    one_replay_fault late a b m n (inr is) (inr also) = in_graph p files limits start path (IsTripFault p late a) (IsTripFault p late b) (a ≡ b) (one_trip_fault late a b) is also
+
+    told_or_stopped : (late : List ℕ) (found : Findings) (text : List ℕ) (a : Fault) (head : Head) (graph : PlanGraph) → IsTripTold p late found text head graph → IsTripFault p late a head graph → ⊥
+    told_or_stopped late found text a head graph told stopped = never_both (trip_by p head graph late) told.trace stopped.stop told.trip stopped.trip
+
+    replayed : (late : List ℕ) (found : Findings) (text : List ℕ) (a : Fault) → NotRead a → InGraphFile (Some files) limits start path p (IsTripTold p late found text)
+        → FailsReplay (Some files) limits start path late p a → ⊥
+    replayed late found text a m told (inl is) = of_graph (IsTripTold p late found text) a m is told
+    replayed late found text a m told (inr is) = in_graph p files limits start path (IsTripTold p late found text) (IsTripFault p late a) ⊥ (told_or_stopped late found text a) told is
+
+    one_unsafe : (a b : Fault) (head : Head) (graph : PlanGraph) → IsUnsafeGraph p a head graph → IsUnsafeGraph p b head graph → a ≡ b
+    one_unsafe a b head graph (place, moment, is, unsafe) (other, later, also, more) =
+        let both = one_failure _ place.0 moment.0 other.0 later.0 unsafe.first more.first in
+        let same : Unsafe place moment ≡ Unsafe other later = λ i. Unsafe (record { 0 = both.0 i }) (record { 0 = both.1 i }) in
+        is ∙ same ∙ sym also
+
+    one_score_fault : (a b : Fault) → NotRead a → NotRead b → FailsScore (Some files) limits start path p a → FailsScore (Some files) limits start path p b → a ≡ b
+    one_score_fault a b m n (inl is) (inl also) = one_err graph_read a b (graph_fault a m is) (graph_fault b n also)
+    one_score_fault a b m n (inl is) (inr also) = absurd (of_graph (IsUnsafeGraph p b) a m is also)
+    one_score_fault a b m n (inr is) (inl also) = absurd (of_graph (IsUnsafeGraph p a) b n also is)
+    one_score_fault a b m n (inr is) (inr also) = in_graph p files limits start path (IsUnsafeGraph p a) (IsUnsafeGraph p b) (a ≡ b) (one_unsafe a b) is also
+
+    scored_or_unsafe : (found : Findings) (text : List ℕ) (a : Fault) (head : Head) (graph : PlanGraph) → IsEnclosed p found text head graph → IsUnsafeGraph p a head graph → ⊥
+    scored_or_unsafe found text a head graph told (place, moment, is, unsafe) = unsafe.unsafe told.scored.safe
+
+    scored : (found : Findings) (text : List ℕ) (a : Fault) → NotRead a → InGraphFile (Some files) limits start path p (IsEnclosed p found text) → FailsScore (Some files) limits start path p a → ⊥
+    scored found text a m told (inl is) = of_graph (IsEnclosed p found text) a m is told
+    scored found text a m told (inr is) = in_graph p files limits start path (IsEnclosed p found text) (IsUnsafeGraph p a) ⊥ (scored_or_unsafe found text a) told is
+
+    -- ---- proof files
+
+    proof_fault : (fault : Fault) → NotRead fault → FailsProof (Some files) limits start path p fault → FailsFile p start bytes_read fault
+    proof_fault fault never fails = subst (λ (u : Option Input). FailsFile p start (bytes_of limits.bytes input.Proof u (file_at files path)) fault) (none_unread fault never) fails.1
+
+    free : (text : List ℕ) (first : ProofFault) → (first ≡ NoRoom → ⊥) → ◌≢◌ {A = Result (Query × LowerBounds) ProofFault} (Err first) (Err NoRoom)
+    free text first some is = some (cc)
+
+    one_text_fault : (text : List ℕ) (a b : Fault) → FailsText p start text a → FailsText p start text b → a ≡ b
+    one_text_fault text a b (first, is, late) (second, also, after) =
+        let never = never_memory p.network p.names p.source.0 p.target.0 start (table_of text) first late in
+        let neither = never_memory p.network p.names p.source.0 p.target.0 start (table_of text) second after in
+        let one = read_once p.network p.names p.source.0 p.target.0 start text (Err first) (Err second) (inr late) (inr after) (free text first never) (free text second neither) in
+        let same : first ≡ second = cc in
+        is ∙ ap (λ (f : ProofFault). ProofFile f) same ∙ sym also
+
+    one_file_fault : (r : Result (List ℕ) Fault) (a b : Fault) → FailsFile p start r a → FailsFile p start r b → a ≡ b
+    one_file_fault (Ok text) a b is also = one_text_fault text a b is also
+    one_file_fault (Err first) a b is also = is ∙ sym also
+
+    -- a text with a fault tells no certificate
+    text_or_fault : (r : Result (List ℕ) Fault) (text : List ℕ) (q : Query) (proof : LowerBounds) (a : Fault) → r ≡ Ok text → Told text (Ok (q, proof)) → FailsFile p start r a → ⊥
+    text_or_fault (Ok other) text q proof a there told (first, is, late) =
+        let same : other ≡ text = cc in
+        let never = never_memory p.network p.names p.source.0 p.target.0 start (table_of other) first late in
+        let both = read_once p.network p.names p.source.0 p.target.0 start other (Ok (q, proof)) (Err first) (subst (λ (t : List ℕ). Told t (Ok (q, proof))) (sym same) told) (inr late)
+        (λ e. cc) (free other first never) in
+        cc
+    text_or_fault (Err e) text q proof a there told fails = cc
+
+    of_proof : (P : Query → LowerBounds → Type 0) (a : Fault) → NotRead a → FailsProof (Some files) limits start path p a → InProofFile (Some files) limits start path p P → ⊥
+    of_proof P a m fails (q, proof, is, holds) = text_or_fault bytes_read is.text q proof a is.reads is.tells (proof_fault a m fails)
+
+    one_broken : IsValid p.network → (a b : Fault) (q : Query) (proof : LowerBounds) → IsBroken p a q proof → IsBroken p b q proof → a ≡ b
+    one_broken valid a b q proof (c, is, last) (d, also, other) =
+        let same : c.0 ≡ d.0 = one_last p.network valid q proof.values c.0 d.0 last other in
+        let fault : ProofFails c ≡ ProofFails d = λ i. ProofFails (record { 0 = same i }) in
+        is ∙ fault ∙ sym also
+
+    one_check_fault : IsValid p.network → (a b : Fault) → NotRead a → NotRead b → FailsCheck (Some files) limits start path p a → FailsCheck (Some files) limits start path p b → a ≡ b
+    one_check_fault valid a b m n (inl is) (inl also) = one_file_fault bytes_read a b (proof_fault a m is) (proof_fault b n also)
+    one_check_fault valid a b m n (inl is) (inr also) = absurd (of_proof (IsBroken p b) a m is also)
+    one_check_fault valid a b m n (inr is) (inl also) = absurd (of_proof (IsBroken p a) b n also is)
+    one_check_fault valid a b m n (inr is) (inr also) = in_proof p files limits start path (IsBroken p a) (IsBroken p b) (a ≡ b) (one_broken valid a b) is also
+
+    held_or_broken : (found : Findings) (text : List ℕ) (a : Fault) (q : Query) (proof : LowerBounds) → IsHeld p found text q proof → IsBroken p a q proof → ⊥
+    held_or_broken found text a q proof held (c, is, last) = last.fault (held.accepted c.0 last.there last.board)
+
+    checked : (found : Findings) (text : List ℕ) (a : Fault) → NotRead a → InProofFile (Some files) limits start path p (IsHeld p found text) → FailsCheck (Some files) limits start path p a → ⊥
+    checked found text a m told (inl is) = of_proof (IsHeld p found text) a m is told
+    checked found text a m told (inr is) = in_proof p files limits start path (IsHeld p found text) (IsBroken p a) ⊥ (held_or_broken found text a) told is
+
+  -- ---- whatever is asked
+
+  one_no_safe : (a b : Fault) → IsNoSafe p start a → IsNoSafe p start b → a ≡ b
+  one_no_safe a b is also = is.0 ∙ sym also.0
+
+  pub one_ask_fault : IsValid p.network → (ask : AskModel) (a b : Fault) → NotRead a → NotRead b → FailsAsk (Some files) limits start p ask a → FailsAsk (Some files) limits start p ask b → a ≡ b
+  one_ask_fault valid (Safe alpha) a b m n is also = one_no_safe a b is also
+  one_ask_fault valid (Expand alpha) a b m n is also = one_no_safe a b is also
+  one_ask_fault valid (Plan alpha) a b m n is also = one_no_safe a b is also
+  one_ask_fault valid (Replays graph late) a b m n is also = one_replay_fault graph late a b m n is also
+  one_ask_fault valid (Certify alpha) a b m n is also = one_no_safe a b is also
+  one_ask_fault valid (CheckProof proof) a b m n is also = one_check_fault proof valid a b m n is also
+  one_ask_fault valid (CheckGraph graph) a b m n is also = one_score_fault graph a b m n is also
+  one_ask_fault valid (Punctual alpha promise) a b m n is also = one_no_safe a b is also
+  one_ask_fault valid (Departures until last) a b m n is also = is.0 ∙ sym also.0
+  one_ask_fault valid (Latest until) a b m n is also = is.0 ∙ sym also.0
+
+  -- what has an answer has no fault
+  pub answered_or_not : (ask : AskModel) (found : Findings) (text : List ℕ) (a : Fault) → NotRead a → AnswersAsk (Some files) limits start p ask found text → FailsAsk (Some files) limits start p ask a → ⊥
+  answered_or_not (Safe alpha) found text a m (q, w, is, tells) fails = not_none p start alpha q w is fails.1
+  answered_or_not (Expand alpha) found text a m (q, w, is, tells) fails = not_none p start alpha q w is fails.1
+  answered_or_not (Plan alpha) found text a m (q, w, is, tells) fails = not_none p start alpha q w is fails.1
+  answered_or_not (Replays graph late) found text a m told fails = replayed graph late found text a m told fails
+  answered_or_not (Certify alpha) found text a m (q, w, is, tells) fails = not_none p start alpha q w is fails.1
+  answered_or_not (CheckProof proof) found text a m told fails = checked proof found text a m told fails
+  answered_or_not (CheckGraph graph) found text a m told fails = scored graph found text a m told fails
+  answered_or_not (Punctual alpha promise) found text a m (q, w, is, tells) fails = not_none p start alpha q w is fails.1
+  answered_or_not (Departures until last) found text a m (rows, is, are, safe, told) fails = fails.1 safe.0 safe.1
+  answered_or_not (Latest until) found text a m (moment, is, greatest, told) fails = fails.1 moment.0 greatest.0 greatest.1.0 greatest.1.1

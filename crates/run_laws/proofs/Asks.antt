@@ -1,0 +1,100 @@
+-- The answers of two runs are one.
+use Rattle.std.proofs.Common.{◌≡◌, ℕ, ◌++◌, List, Option, None, Some, Ok, sym, subst, ap, ap₂, ◌∙◌}
+use Rattle.interval_fixed.specs.Interval.{Interval}
+use Rattle.std.specs.Io.KnownBytes.{Appends}
+use Rattle.file_ports.specs.Ports.{FileMap}
+use Rattle.csv_rows.specs.declared.limits.Limits.{Limits}
+use Rattle.plan_model.specs.declared.model.Moment.{Moment}
+use Rattle.plan_model.specs.declared.model.Query.{Query}
+use Rattle.plan_model.specs.Network.{IsValid, count}
+use Rattle.plan_graph.specs.declared.PlanGraph.{PlanGraph}
+use Rattle.command_line.specs.Jobs.{JobModel, Ask, Sample, AskModel, Safe, Expand, Plan, Replay, Certify, CheckProof, CheckGraph, Punctual, Departures, Latest}
+use Rattle.journey_model.specs.declared.problem.Problem.{Problem}
+use Rattle.journey_model.specs.declared.faults.Fault.{Fault}
+use Rattle.journey_problem.specs.OneProblem.{HasOneProblem}
+use Rattle.journey_problem.proofs.SameFiles.{same_feed_problem}
+use Rattle.journey_report.specs.Findings.{Findings, findings_of, sample_findings}
+use Rattle.journey_report.specs.AnswerTexts.{leg_count, sample_text}
+use Rattle.journey_report.specs.declared.report.Report.{Report}
+use Rattle.departure_answers.specs.Departures.{query_until}
+use Rattle.meat_engine.specs.Asks.{AnswersAsk}
+use Rattle.meat_engine.specs.Received.{AnswersJob, AnswersWords, HasAnswer, Outcome}
+use Rattle.meat_engine.specs.Samples.{sample_journey, sample_alpha, TellsSampled, IsSampled}
+use Rattle.meat_engine.specs.RunPromises.{TellsLine}
+use Rattle.run_laws.specs.OneAnswer.{IsOneAnswer}
+use Rattle.run_laws.proofs.Plans.{one_planned}
+use Rattle.run_laws.proofs.Queries.{in_one_query}
+use Rattle.run_laws.proofs.Certificates.{one_certificate_answer, one_check_answer}
+use Rattle.run_laws.proofs.Departures.{one_departures_answer}
+use Rattle.run_laws.proofs.Texts.{one_safe_answer, one_plan_answer, one_expanded_answer}
+use Rattle.run_laws.proofs.Punctuals.{one_punctual_answer}
+use Rattle.run_laws.proofs.Files.{one_trip_answer, one_score_answer, one_latest_answer}
+use Rattle.run_laws.specs.OneRun.{EndsWell, HasOneRun}
+
+module _ (found others : Findings) (text other : List ℕ) where
+  abbrev One : Type 0
+  One = IsOneAnswer found others text other
+
+  one_ask : (files : FileMap) (limits : Limits) (start : ℕ) (p : Problem) → IsValid p.network → (a : AskModel) → AnswersAsk (Some files) limits start p a found text
+      → AnswersAsk (Some files) limits start p a others other → One
+  one_ask files limits start p valid (Safe alpha) = one_safe_answer p found others text other start alpha
+  one_ask files limits start p valid (Expand alpha) = one_expanded_answer p found others text other start alpha
+  one_ask files limits start p valid (Plan alpha) = one_plan_answer p found others text other start alpha
+  one_ask files limits start p valid (Replay graph late) = one_trip_answer p found others text other files limits start graph late
+  one_ask files limits start p valid (Certify alpha) = one_certificate_answer p found others text other valid start alpha
+  one_ask files limits start p valid (CheckProof proof) = one_check_answer p found others text other files limits start proof
+  one_ask files limits start p valid (CheckGraph graph) = one_score_answer p found others text other files limits start graph
+  one_ask files limits start p valid (Punctual alpha promise) = one_punctual_answer p found others text other promise start alpha
+  one_ask files limits start p valid (Departures until last) = one_departures_answer p (query_until p start until) last found others text other
+  one_ask files limits start p valid (Latest until) = one_latest_answer p found others text other (query_until p start until)
+
+  one_sample_told : (size : ℕ) (p : Problem) (q : Query) (w : Moment) → TellsSampled size p found text q w → TellsSampled size p others other q w → One
+  one_sample_told size p q w (graph, bounds, is, plan, text_is) (graphs, spans, is_other, plan_other, text_other) =
+      let both = one_planned p.network q graph graphs bounds spans plan plan_other in
+      record {
+        found = is ∙ ap₂ (λ (g : PlanGraph) (b : Interval). sample_findings q w g b (count p.network)) both.0 both.1 ∙ sym is_other;
+        text_is = text_is ∙ ap₂ (λ (g : PlanGraph) (b : Interval). sample_text size (count p.network) (leg_count g) b) both.0 both.1 ∙ sym text_other;
+      }
+
+  one_sample : (size : ℕ) (p : Problem) → IsSampled size p found text → IsSampled size p others other → One
+  one_sample size p (q, w, is, tells) (r, v, also, told) =
+      one_sample_told size p q w tells (in_one_query p sample_journey.start sample_alpha (TellsSampled size p others other) q r w v is also told)
+
+  module _ (one_problem : HasOneProblem) where
+    one_job : (files : FileMap) (limits : Limits) (job : JobModel) → AnswersJob (Some files) limits job found text → AnswersJob (Some files) limits job others other → One
+    one_job files limits (Ask j a) (p, valid, is, answers) (q, valid_other, also, told) =
+        one_ask files limits j.start p valid.valid a answers
+        (subst (λ (r : Problem). AnswersAsk (Some files) limits j.start r a others other) (one_problem limits files j q p also is) told)
+    one_job files limits (Sample size) (folder, same, (p, valid, is, answers)) (other_folder, same_other, (q, valid_other, also, told)) =
+        let here = same_feed_problem limits other_folder folder (λ path. same_other path ∙ sym (same path)) _ _ sample_journey q also in
+        one_sample size p answers (subst (λ (r : Problem). IsSampled size r others other) (one_problem limits folder sample_journey q p here is) told)
+
+    pub one_words : (files : FileMap) (limits : Limits) (words : List (List ℕ)) → AnswersWords (Some files) limits words found text → AnswersWords (Some files) limits words others other → One
+    one_words files limits words (wanted, is, answers) (wants, also, told) =
+        let both : Ok wants ≡ Ok wanted = sym also ∙ is in
+        let same : wants ≡ wanted = cc in
+        one_job files limits wanted answers (subst (λ (w : JobModel). AnswersJob (Some files) limits w others other) same told)
+
+-- what is written after the same bytes is the same
+pub one_written : (old text other : List ℕ) (new now : Option (List ℕ)) → text ≡ other → Appends (Some old) new text → Appends (Some old) now other → new ≡ now
+one_written old text other None now same first second = absurd first
+one_written old text other (Some new) None same first second = absurd second
+one_written old text other (Some new) (Some now) same first second = ap (λ (xs : List ℕ). Some xs) (first ∙ ap (λ (xs : List ℕ). old ++ xs) same ∙ sym second)
+
+-- the answer of a run that ends well
+answer_of : (files : FileMap) (limits : Limits) (words : List (List ℕ)) (report : Report) (old : List ℕ) (new : Option (List ℕ)) → EndsWell files limits words report old new
+    → HasAnswer (Some files) limits words report (Appends (Some old) new)
+answer_of files limits words report old new ends =
+    let by : Option FileMap → Option (List ℕ) → Option (List ℕ) → Option Fault → Type 0 = λ contents had has fault.
+    Outcome contents limits words report had has (TellsLine ends.err ends.err_after) fault in
+    let over = subst (λ (c : Option FileMap). by c ends.out.written ends.out_after.written report.fault) ends.tells ends.run.outcome in
+    let from = subst (λ (w : Option (List ℕ)). by (Some files) w ends.out_after.written report.fault) ends.had over in
+    let to = subst (λ (w : Option (List ℕ)). by (Some files) (Some old) w report.fault) ends.has from in
+    subst (λ (f : Option Fault). by (Some files) (Some old) new f) ends.no_fault to
+
+pub one_run : HasOneProblem → HasOneRun
+one_run one_problem files limits words report second old new now ends other =
+    let (text, answers, written) = answer_of files limits words report old new ends in
+    let (texts, told, writes) = answer_of files limits words second old now other in
+    let one = one_words (findings_of report) (findings_of second) text texts one_problem files limits words answers told in
+    (one.found, one_written old text texts new now one.text_is written writes)

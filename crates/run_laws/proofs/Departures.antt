@@ -1,0 +1,68 @@
+-- The departures of a query are told by the problem.
+use Rattle.std.proofs.Common.{◌≡◌, ℕ, ◌+◌, ◌-◌, List, [], ◌∷◌, Option, sym, subst, refl, ap, ap₂, ◌∙◌, inl, inr, arith}
+use Rattle.std.specs.Option.{option_map}
+use Rattle.std.proofs.lemmas.Bool.{cases_eq}
+use Rattle.plan_model.specs.declared.model.ConnectionId.{ConnectionId}
+use Rattle.plan_model.specs.declared.model.Query.{Query}
+use Rattle.plan_model.specs.NetworkModel.{NetworkModel}
+use Rattle.plan_model.specs.View.{extended}
+use Rattle.value_laws.specs.declared.MeanSpan.{MeanSpan}
+use Rattle.value_laws.specs.Means.{mean_rank, mean_lowered, mean_arrived, mean_blended}
+use Rattle.stop_profile.specs.declared.Row.{Row}
+use Rattle.stop_profile.specs.Inserts.{row_in_time}
+use Rattle.meat_scan.specs.Rules.{kept_after}
+use Rattle.meat_scan.specs.ScanResult.{ScanResult}
+use Rattle.departure_table.specs.declared.DepartureRow.{DepartureRow}
+use Rattle.departure_table.specs.Looked.{row_of_choice, row_found, AreLooked}
+use Rattle.leg_walk.proofs.Tables.{one_found}
+use Rattle.journey_model.specs.declared.problem.Problem.{Problem}
+use Rattle.journey_report.specs.Findings.{Findings, departures_findings}
+use Rattle.journey_report.specs.DepartureTexts.{departures_text}
+use Rattle.departure_answers.specs.ByRules.{IsRuled, AreByRules, added_query}
+use Rattle.departure_answers.specs.Departures.{AreDepartures, TellsDepartures}
+use Rattle.run_laws.proofs.OneOrder.{one_order}
+use Rattle.run_laws.specs.OneAnswer.{IsOneAnswer}
+
+-- rows that are looked up in the same way are the same
+one_looked : (look : ℕ → Option DepartureRow) (last next : ℕ) (xs ys : List DepartureRow) → AreLooked look last next xs → AreLooked look last next ys → xs ≡ ys
+one_looked look last next [] [] a b = refl
+one_looked look last next [] (y ∷ ys) (inl late) b = absurd (omega (arith, late, b.0))
+one_looked look last next [] (y ∷ ys) (inr none) b = let found = b.1 in absurd (cc)
+one_looked look last next (x ∷ xs) [] a (inl late) = absurd (omega (arith, late, a.0))
+one_looked look last next (x ∷ xs) [] a (inr none) = let found = a.1 in absurd (cc)
+one_looked look last next (x ∷ xs) (y ∷ ys) a b =
+    let same = one_found (look next) x y a.1 b.1 in
+    ap₂ (λ (z : DepartureRow) (zs : List DepartureRow). z ∷ zs) same
+    (one_looked look last (x.by.0 + 1) xs ys a.2 (subst (λ (z : DepartureRow). AreLooked look last (z.by.0 + 1) ys) (sym same) b.2))
+
+-- what the rules give at a moment is one row
+one_look : (n : NetworkModel) (q : Query) (a b : ScanResult MeanSpan) → IsRuled n q a → IsRuled n q b → (next : ℕ) → row_found n q a next ≡ row_found n q b next
+one_look n q a b is other next =
+    let place = q.source.0 in
+    let kept : List ConnectionId → List (Row MeanSpan) = λ ids. (kept_after mean_rank mean_lowered mean_arrived mean_blended n q ids).rows place in
+    let same = is.rules.rows place ∙ ap kept (one_order n is.order other.order is.is_order other.is_order) ∙ sym (other.rules.rows place) in
+    ap (λ (rows : List (Row MeanSpan)). option_map (row_of_choice n) (option_map (λ (row : Row MeanSpan). (row.value, row.leg)) (row_in_time (next - 1) rows))) same
+
+module _ (p : Problem) (q : Query) (last : ℕ) where
+  one_by_rules : (xs ys : List DepartureRow) → AreByRules p q last xs → AreByRules p q last ys → xs ≡ ys
+  one_by_rules xs ys is other =
+      let n = extended p.network q.source.0 in
+      let asked = added_query p.network q in
+      let same = one_look n asked is.found other.found is.ruled other.ruled in
+      one_looked (row_found n asked is.found) last q.start.0 xs ys is.looked
+      (subst (λ (look : ℕ → Option DepartureRow). AreLooked look last q.start.0 ys) (λ i next. sym (same next) i) other.looked)
+
+  one_departures : (xs ys : List DepartureRow) → AreDepartures p q last xs → AreDepartures p q last ys → xs ≡ ys
+  one_departures xs ys is other = elim (cases_eq q.source.0 q.target.0) [
+    | inl same ↦ is.at_once same ∙ sym (other.at_once same)
+    | inr differ ↦ one_by_rules xs ys (is.by_rules differ) (other.by_rules differ)
+  ]
+
+  pub one_departures_answer : (found others : Findings) (text other : List ℕ) → TellsDepartures p q last found text → TellsDepartures p q last others other
+      → IsOneAnswer found others text other
+  one_departures_answer found others text other (rows, is, departures, safe, text_is) (more, is_other, departures_other, safe_other, text_other) =
+      let same = one_departures rows more departures departures_other in
+      record {
+        found = is ∙ ap (departures_findings q) same ∙ sym is_other;
+        text_is = text_is ∙ ap (departures_text p.network p.names q last) same ∙ sym text_other;
+      }

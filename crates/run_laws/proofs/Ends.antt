@@ -1,0 +1,238 @@
+-- Two runs that nothing disturbs end in one way.
+use Rattle.std.proofs.Common.{◌≡◌, ◌≢◌, ℕ, ◌⊎◌, List, Option, None, Some, Ok, Err, inl, inr, refl, sym, subst, ap, ◌∙◌}
+use Rattle.std.specs.Io.KnownBytes.{Appends, Keeps}
+use Rattle.file_ports.specs.Ports.{FileMap, file_at}
+use Rattle.csv_rows.specs.declared.limits.Limits.{Limits}
+use Rattle.command_line.specs.declared.job.WordsFault.{WordsFault}
+use Rattle.command_line.specs.Jobs.{JobModel, Ask, Sample, JourneyModel, AskModel, Plan, job_of}
+use Rattle.journey_model.specs.declared.faults.Fault.{Fault}
+use Rattle.journey_model.specs.declared.faults.Fault.TheVariants.{Words, Replay, ProofFails, Unsafe, Write, NoMemory}
+use Rattle.journey_model.specs.declared.problem.Problem.{Problem}
+use Rattle.journey_model.specs.Faults.{status_of}
+use Rattle.journey_model.specs.Known.{parts_of}
+use Rattle.journey_model.specs.Sites.{NamedParts}
+use Rattle.journey_model.specs.Stages.{stage_of, IsStageBeforeSearch}
+use Rattle.fault_lines.specs.FaultLines.{line_of}
+use Rattle.journey_problem.specs.OneProblem.{HasOneProblem}
+use Rattle.journey_problem.proofs.NoFaults.{no_fault}
+use Rattle.journey_problem.proofs.OneProblem.{one_problem}
+use Rattle.journey_problem.proofs.SameFiles.{same_feed_problem}
+use Rattle.plan_answers.specs.Answers.{IsNoSafe}
+use Rattle.journey_report.specs.Findings.{Findings, findings_of, no_findings}
+use Rattle.journey_report.specs.declared.report.Report.{Report}
+use Rattle.meat_engine.specs.Asks.{FailsAsk, FailsJourney}
+use Rattle.meat_engine.specs.Received.{Ending, AnswersJob, AnswersWords, FailsJob, IsExplained, IsRefused, Outcome, OutcomeBy}
+use Rattle.meat_engine.specs.RunPromises.{TellsLine}
+use Rattle.meat_engine.specs.Samples.{sample_journey, sample_alpha}
+use Rattle.meat_engine.proofs.Outcomes.{refused_ending}
+use Rattle.run_laws.specs.OneRun.{IsCalmRun, IsOneEnd, HasOneEnd}
+use Rattle.run_laws.proofs.Asks.{one_words, one_written}
+use Rattle.run_laws.proofs.AskFaults.{one_ask_fault, answered_or_not}
+use Rattle.run_laws.proofs.FirstFaults.{NotRead, one_first_fault}
+use Rattle.run_laws.proofs.Queries.{not_none}
+use Rattle.run_laws.proofs.SameFaults.{same_feed_fault}
+
+-- a fault that comes before the search is at no site, so its line is one whatever timetable is known
+line_before : (known other : Option NamedParts) (fault : Fault) → IsStageBeforeSearch (stage_of fault) → line_of known fault ≡ line_of other fault
+line_before known other (Replay stop) before = absurd before
+line_before known other (ProofFails connection) before = absurd before
+line_before known other (Unsafe place moment) before = absurd before
+line_before known other _ before = refl
+
+-- the two faults are one, with one line
+record IsOneFault (known other : Option NamedParts) (a b : Fault) : Type 0 where
+  same : a ≡ b
+  line : line_of known a ≡ line_of other b
+
+with_line : (known other : Option NamedParts) (a b : Fault) → a ≡ b → line_of known a ≡ line_of other a → IsOneFault known other a b
+with_line known other a b same line = record { same = same; line = line ∙ ap (line_of other) same }
+
+one_known : (p q : Problem) (known other : Option NamedParts) → known ≡ Some (parts_of p) → other ≡ Some (parts_of q) → p ≡ q → known ≡ other
+one_known p q known other is also same = is ∙ ap (λ (r : Problem). Some (parts_of r)) same ∙ sym also
+
+one_job : (words : List (List ℕ)) (a b : JobModel) → job_of words ≡ Ok a → job_of words ≡ Ok b → a ≡ b
+one_job words a b is also = cc
+
+one_refusal : (words : List (List ℕ)) (a b : WordsFault) → job_of words ≡ Err a → job_of words ≡ Err b → a ≡ b
+one_refusal words a b is also = cc
+
+refused_or_not : (words : List (List ℕ)) (refusal : WordsFault) (job : JobModel) → job_of words ≡ Err refusal → job_of words ≡ Ok job → ⊥
+refused_or_not words refusal job is also = absurd (cc)
+
+-- the fault is neither that a file cannot be read, nor that there was no memory
+record IsCalm (fault : Fault) : Type 0 where
+  read : NotRead fault
+  memory : fault ≢ NoMemory
+
+module _ (limits : Limits) (files : FileMap) where
+  abbrev Fails : JourneyModel → AskModel → Option NamedParts → Fault → Type 0
+  Fails j a known fault = FailsJourney (Some files) limits j a known fault
+
+  one_journey_fault : (j : JourneyModel) (ask : AskModel) (known other : Option NamedParts) (a b : Fault) → IsCalm a → IsCalm b → Fails j ask known a → Fails j ask other b → IsOneFault known other a b
+  one_journey_fault j ask known other a b m n (inl (p, valid, is, (named, fails))) (inl (q, sound, also, (called, misses))) =
+      let one = one_problem limits files j q p also is in
+      let same = one_ask_fault p files limits j.start valid.valid ask a b m.read n.read fails (subst (λ (r : Problem). FailsAsk (Some files) limits j.start r ask b) one misses) in
+      with_line known other a b same (ap (λ (k : Option NamedParts). line_of k a) (one_known p q known other named called (sym one)))
+  one_journey_fault j ask known other a b m n (inl (p, valid, is, fails)) (inr early) = absurd (no_fault limits files j p b is n.read n.memory early.1)
+  one_journey_fault j ask known other a b m n (inr early) (inl (q, sound, also, misses)) = absurd (no_fault limits files j q a also m.read m.memory early.1)
+  one_journey_fault j ask known other a b m n (inr early) (inr soon) =
+      with_line known other a b (one_first_fault limits files j a b m.read n.read m.memory n.memory early.1 soon.1) (line_before known other a early.0.stage)
+
+  -- what is refused over a made timetable is so over other files that tell the same bytes
+  made_fault : (other : FileMap) (known : Option NamedParts) (fault : Fault) → ((path : List ℕ) → file_at other path ≡ file_at files path)
+      → FailsJourney (Some other) limits sample_journey (Plan sample_alpha) known fault → Fails sample_journey (Plan sample_alpha) known fault
+  made_fault other known fault same (inl (p, valid, is, fails)) = inl (p, valid, same_feed_problem limits other files same _ _ sample_journey p is, fails)
+  made_fault other known fault same (inr early) = inr (early.0, λ some. same_feed_fault limits other files same _ 24 sample_journey fault (early.1 some))
+
+module _ (limits : Limits) (files : FileMap) where
+  one_job_fault : (job : JobModel) (known other : Option NamedParts) (a b : Fault) → IsCalm a → IsCalm b → FailsJob (Some files) limits job known a → FailsJob (Some files) limits job other b
+      → IsOneFault known other a b
+  one_job_fault (Ask j ask) known other a b m n fails misses = one_journey_fault limits files j ask known other a b m n fails misses
+  one_job_fault (Sample size) known other a b m n (read, (folder, same, fails)) (reads, (made, alike, misses)) =
+      one_journey_fault limits folder sample_journey (Plan sample_alpha) known other a b m n fails
+      (made_fault limits folder made other b (λ path. alike path ∙ sym (same path)) misses)
+
+  -- what is explained is one fault
+  one_cause : (words : List (List ℕ)) (known other : Option NamedParts) (a b : Fault) → IsCalm a → IsCalm b → IsExplained (Some files) limits words known a
+      → IsExplained (Some files) limits words other b → IsOneFault known other a b
+  one_cause words known other a b m n (inl none) also = absurd (m.memory none)
+  one_cause words known other a b m n (inr is) (inl none) = absurd (n.memory none)
+  one_cause words known other a b m n (inr (inl (refusal, is, from))) (inr (inl (second, also, of))) =
+      let same = is ∙ ap (λ (r : WordsFault). Words r) (one_refusal words refusal second from of) ∙ sym also in
+      with_line known other a b same (subst (λ (f : Fault). line_of known f ≡ line_of other f) (sym is) refl)
+  one_cause words known other a b m n (inr (inl (refusal, is, from))) (inr (inr (job, of, misses))) = absurd (refused_or_not words refusal job from of)
+  one_cause words known other a b m n (inr (inr (job, from, fails))) (inr (inl (second, also, of))) = absurd (refused_or_not words second job of from)
+  one_cause words known other a b m n (inr (inr (job, from, fails))) (inr (inr (second, of, misses))) =
+      one_job_fault job known other a b m n fails (subst (λ (w : JobModel). FailsJob (Some files) limits w other b) (one_job words second job of from) misses)
+
+  -- ---- an answer stands against a fault
+
+  journey_answered : (j : JourneyModel) (ask : AskModel) (found : Findings) (text : List ℕ) (known : Option NamedParts) (a : Fault) → IsCalm a
+      → AnswersJob (Some files) limits (Ask j ask) found text → FailsJourney (Some files) limits j ask known a → ⊥
+  journey_answered j ask found text known a m (p, valid, is, answers) (inl (q, sound, also, (called, fails))) =
+      answered_or_not p files limits j.start ask found text a m.read answers
+      (subst (λ (r : Problem). FailsAsk (Some files) limits j.start r ask a) (one_problem limits files j q p also is) fails)
+  journey_answered j ask found text known a m (p, valid, is, answers) (inr early) = no_fault limits files j p a is m.read m.memory early.1
+
+  job_answered : (job : JobModel) (found : Findings) (text : List ℕ) (known : Option NamedParts) (a : Fault) → IsCalm a → AnswersJob (Some files) limits job found text
+      → FailsJob (Some files) limits job known a → ⊥
+  job_answered (Ask j ask) found text known a m answers fails = journey_answered j ask found text known a m answers fails
+  job_answered (Sample size) found text known a m (folder, same, (p, valid, is, (q, w, asked, tells))) (read, (made, alike, fails)) =
+      sampled (made_fault limits folder made known a (λ path. alike path ∙ sym (same path)) fails)
+    where
+      sampled : FailsJourney (Some folder) limits sample_journey (Plan sample_alpha) known a → ⊥
+      sampled (inl (r, sound, also, (called, none))) =
+          let one = one_problem limits folder sample_journey r p also is in
+          let never = subst (λ (x : Problem). IsNoSafe x sample_journey.start a) one none in
+          not_none p sample_journey.start sample_alpha q w asked never.1
+      sampled (inr early) = no_fault limits folder sample_journey p a is m.read m.memory early.1
+
+  answered_or_refused : (words : List (List ℕ)) (found : Findings) (text : List ℕ) (known : Option NamedParts) (a : Fault) → IsCalm a → AnswersWords (Some files) limits words found text
+      → IsExplained (Some files) limits words known a → ⊥
+  answered_or_refused words found text known a m answers (inl none) = m.memory none
+  answered_or_refused words found text known a m (job, is, answers) (inr (inl (refusal, also, from))) = refused_or_not words refusal job from is
+  answered_or_refused words found text known a m (job, is, answers) (inr (inr (other, from, fails))) =
+      job_answered job found text known a m answers (subst (λ (w : JobModel). FailsJob (Some files) limits w known a) (one_job words other job from is) fails)
+
+  -- ---- how a run ends that nothing disturbs
+
+  module _ (words : List (List ℕ)) (old said : List ℕ) where
+    -- with an answer
+    record Answers (report : Report) (new line : Option (List ℕ)) : Type 0 where
+      none : report.fault ≡ None
+      text : List ℕ
+      answers : AnswersWords (Some files) limits words (findings_of report) text
+      out : Appends (Some old) new text
+      err : Keeps (Some said) line
+
+    -- or with a fault
+    record Refuses (report : Report) (new line : Option (List ℕ)) : Type 0 where
+      fault : Fault
+      some : report.fault ≡ Some fault
+      calm : IsCalm fault
+      findings : findings_of report ≡ no_findings
+      known : Option NamedParts
+      why : IsExplained (Some files) limits words known fault
+      out : Keeps (Some old) new
+      err : Appends (Some said) line (line_of known fault)
+
+    module _ (report : Report) (new line : Option (List ℕ)) (run : IsCalmRun files limits words report old said new line) where
+      abbrev Tells : List ℕ → Type 0
+      Tells = TellsLine run.err run.err_after
+
+      -- what it comes to, by what the files tell and the sinks received
+      outcome : (fault : Option Fault) → report.fault ≡ fault → Outcome (Some files) limits words report (Some old) new Tells fault
+      outcome fault is =
+          let by : Option FileMap → Option (List ℕ) → Option (List ℕ) → Option Fault → Type 0 = λ contents had has f. Outcome contents limits words report had has Tells f in
+          let told = subst (λ (c : Option FileMap). by c run.out.written run.out_after.written report.fault) run.tells run.run.outcome in
+          let from = subst (λ (w : Option (List ℕ)). by (Some files) w run.out_after.written report.fault) run.had told in
+          let to = subst (λ (w : Option (List ℕ)). by (Some files) (Some old) w report.fault) run.has from in
+          subst (λ (f : Option Fault). by (Some files) (Some old) new f) is to
+
+      keeps_err : report.fault ≡ None → Keeps (Some said) line
+      keeps_err none =
+          subst (λ (w : Option (List ℕ)). Keeps (Some said) w) run.has_said (subst (λ (w : Option (List ℕ)). Keeps w run.err_after.written) run.had_said (run.run.quiet none))
+
+      tells_err : (text : List ℕ) → Tells text → Appends (Some said) line text
+      tells_err text tells =
+          subst (λ (w : Option (List ℕ)). Appends (Some said) w text) run.has_said (subst (λ (w : Option (List ℕ)). Appends w run.err_after.written text) run.had_said (tells.1 run.err_calm))
+
+      calm_fault : (fault : Fault) → report.fault ≡ Some fault → IsCalm fault
+      calm_fault fault is = record {
+        read = λ i read. run.files_calm (run.run.read i (is ∙ ap (λ (f : Fault). Some f) read));
+        memory = λ none. run.memory (is ∙ ap (λ (f : Fault). Some f) none);
+      }
+
+      not_write : (fault : Fault) → report.fault ≡ Some fault → fault ≢ Write
+      not_write fault is write = run.out_calm (run.run.write (is ∙ ap (λ (f : Fault). Some f) write))
+
+      settled : (fault : Option Fault) → report.fault ≡ fault → Answers report new line ⊎ Refuses report new line
+      settled None is =
+          let (text, answers, out) = outcome None is in
+          inl (record { none = is; text = text; answers = answers; out = out; err = keeps_err is })
+      settled (Some fault) is =
+          let both = subst (λ (e : Ending). OutcomeBy e (Some files) limits words report (Some old) new Tells (Some fault)) (refused_ending fault (not_write fault is)) (outcome (Some fault) is) in
+          let refused : IsRefused (Some files) limits words report Tells fault = both.1 in
+          inr (record {
+            fault = fault;
+            some = is;
+            calm = calm_fault fault is;
+            findings = refused.0;
+            known = refused.1.0;
+            why = refused.1.1;
+            out = both.0;
+            err = tells_err (line_of refused.1.0 fault) refused.1.2;
+          })
+
+pub one_kept : (old : List ℕ) (new now : Option (List ℕ)) → Keeps (Some old) new → Keeps (Some old) now → new ≡ now
+one_kept old None now first second = absurd first
+one_kept old (Some new) None first second = absurd second
+one_kept old (Some new) (Some now) first second = ap (λ (xs : List ℕ). Some xs) (first ∙ sym second)
+
+pub one_end : HasOneProblem → HasOneEnd
+one_end by files limits words report second old said new now line other run also =
+    ends (settled limits files words old said report new line run report.fault refl) (settled limits files words old said second now other also second.fault refl)
+  where
+    ends : Answers limits files words old said report new line ⊎ Refuses limits files words old said report new line
+        → Answers limits files words old said second now other ⊎ Refuses limits files words old said second now other → IsOneEnd report second new now line other
+    ends (inl a) (inl b) =
+        let one = one_words (findings_of report) (findings_of second) a.text b.text by files limits words a.answers b.answers in
+        record {
+          fault = a.none ∙ sym b.none;
+          status = run.run.status ∙ ap status_of (a.none ∙ sym b.none) ∙ sym also.run.status;
+          findings = one.found;
+          out = one_written old a.text b.text new now one.text_is a.out b.out;
+          err = one_kept said line other a.err b.err;
+        }
+    ends (inl a) (inr b) = absurd (answered_or_refused limits files words (findings_of report) a.text b.known b.fault b.calm a.answers b.why)
+    ends (inr a) (inl b) = absurd (answered_or_refused limits files words (findings_of second) b.text a.known a.fault a.calm b.answers a.why)
+    ends (inr a) (inr b) =
+        let one = one_cause limits files words a.known b.known a.fault b.fault a.calm b.calm a.why b.why in
+        let same : report.fault ≡ second.fault = a.some ∙ ap (λ (f : Fault). Some f) one.same ∙ sym b.some in
+        record {
+          fault = same;
+          status = run.run.status ∙ ap status_of same ∙ sym also.run.status;
+          findings = a.findings ∙ sym b.findings;
+          out = one_kept old new now a.out b.out;
+          err = one_written said (line_of a.known a.fault) (line_of b.known b.fault) line other one.line a.err b.err;
+        }

@@ -1,0 +1,72 @@
+-- What is told of a graph file, and of the latest moment, is told by the files.
+use Rattle.std.proofs.Common.{◌≡◌, ℕ, List, Some, Ok, sym, ap, ◌∙◌, inl, inr, arith}
+use Rattle.std.proofs.lemmas.Bool.{cases_lt}
+use Rattle.file_ports.specs.Ports.{FileMap}
+use Rattle.csv_rows.specs.declared.limits.Limits.{Limits}
+use Rattle.plan_model.specs.declared.model.Moment.{Moment}
+use Rattle.plan_model.specs.declared.model.Query.{Query}
+use Rattle.plan_graph.specs.declared.PlanGraph.{PlanGraph}
+use Rattle.graph_text.specs.declared.Head.{Head}
+use Rattle.printed_rows.specs.Writers.{place_name}
+use Rattle.departure_table.specs.Departures.{IsGreatestMoment}
+use Rattle.plan_model.specs.Tree.{Tree}
+use Rattle.journey_model.specs.declared.problem.Problem.{Problem}
+use Rattle.journey_report.specs.Findings.{Findings, replay_findings, score_findings, latest_findings}
+use Rattle.journey_report.specs.AnswerTexts.{trace_text, encloses_text}
+use Rattle.journey_report.specs.DepartureTexts.{latest_text}
+use Rattle.graph_answers.specs.Trips.{IsTripTold}
+use Rattle.graph_answers.specs.Scores.{IsEnclosed}
+use Rattle.file_answers.specs.GraphFiles.{InGraphFile}
+use Rattle.departure_answers.specs.Departures.{SafeOf, TellsLatest}
+use Rattle.run_laws.specs.OneAnswer.{IsOneAnswer}
+use Rattle.run_laws.proofs.OneFile.{in_graph}
+
+abbrev moment_of : ℕ → Moment
+moment_of m = record { 0 = m }
+
+one_greatest : (Safe : ℕ → Tree → Type 0) (first : ℕ) (a b : Moment) → IsGreatestMoment Safe first (Some a) → IsGreatestMoment Safe first (Some b) → a ≡ b
+one_greatest Safe first a b is other = elim (cases_lt a.0 b.0) [
+  | inl less ↦ absurd (is.2 b.0 less other.1.0 other.1.1)
+  | inr from ↦ elim (cases_lt b.0 a.0) [
+    | inl more ↦ absurd (other.2 a.0 more is.1.0 is.1.1)
+    | inr same ↦ ap moment_of (omega (arith, from, same))
+  ]
+]
+
+module _ (p : Problem) (found others : Findings) (text other : List ℕ) where
+  abbrev One : Type 0
+  One = IsOneAnswer found others text other
+
+  pub one_latest_answer : (q : Query) → TellsLatest p q found text → TellsLatest p q others other → One
+  one_latest_answer q (moment, is, greatest, text_is) (moments, is_other, greatest_other, text_other) =
+      let same = one_greatest (SafeOf p q) q.start.0 moment moments greatest greatest_other in
+      record {
+        found = is ∙ ap (latest_findings q) same ∙ sym is_other;
+        text_is = text_is ∙ ap (latest_text (place_name p.names q.source.0) (place_name p.names q.target.0) q) same ∙ sym text_other;
+      }
+
+  one_trip : (late : List ℕ) (head : Head) (graph : PlanGraph) → IsTripTold p late found text head graph → IsTripTold p late others other head graph → One
+  one_trip late head graph tells told =
+      let both : Ok tells.trace ≡ Ok told.trace = sym tells.trip ∙ told.trip in
+      let same : tells.trace ≡ told.trace = cc in
+      record {
+        found = tells.found_is ∙ ap (replay_findings head.query graph) same ∙ sym told.found_is;
+        text_is = tells.text_is ∙ ap (trace_text p.network p.names p.target.0) same ∙ sym told.text_is;
+      }
+
+  one_enclosed : (head : Head) (graph : PlanGraph) → IsEnclosed p found text head graph → IsEnclosed p others other head graph → One
+  one_enclosed head graph tells told =
+      let same : tells.bounds ≡ told.bounds = tells.scored.means ∙ sym told.scored.means in
+      record {
+        found = tells.found_is ∙ ap (score_findings head.query graph) same ∙ sym told.found_is;
+        text_is = tells.text_is ∙ ap (encloses_text (place_name p.names p.source.0) (place_name p.names p.target.0) head.query) same ∙ sym told.text_is;
+      }
+
+  module _ (files : FileMap) (limits : Limits) (start : ℕ) (path : List ℕ) where
+    pub one_trip_answer : (late : List ℕ) → InGraphFile (Some files) limits start path p (IsTripTold p late found text)
+        → InGraphFile (Some files) limits start path p (IsTripTold p late others other) → One
+    one_trip_answer late = in_graph p files limits start path (IsTripTold p late found text) (IsTripTold p late others other) One (one_trip late)
+
+    pub one_score_answer : InGraphFile (Some files) limits start path p (IsEnclosed p found text)
+        → InGraphFile (Some files) limits start path p (IsEnclosed p others other) → One
+    one_score_answer = in_graph p files limits start path (IsEnclosed p found text) (IsEnclosed p others other) One one_enclosed

@@ -1,0 +1,98 @@
+-- The files of a journey have one first fault.
+use Rattle.std.proofs.Common.{◌≡◌, ◌≢◌, ℕ, List, Option, None, Some, Result, Ok, Err, IsOk, inl, inr, sym, subst, ap, ◌∙◌}
+use Rattle.file_ports.specs.Ports.{FileMap, file_at}
+use Rattle.csv_rows.specs.declared.limits.Limits.{Limits}
+use Rattle.csv_rows.specs.declared.feed_tables.Table.{Table}
+use Rattle.csv_rows.specs.declared.feed_tables.FeedFault.{FeedFault}
+use Rattle.csv_rows.specs.FeedTables.{unread_of as unread_table_of}
+use Rattle.gtfs_tables.specs.Feeds.{FeedParts, tables_in}
+use Rattle.service_days.specs.Calendars.{calendars_in}
+use Rattle.change_times.specs.Changes.{transfers_in}
+use Rattle.command_line.specs.Jobs.{TimetableModel, CutFile, FeedFolder, JourneyModel}
+use Rattle.journey_model.specs.declared.faults.Input.{Input}
+use Rattle.journey_model.specs.declared.faults.Fault.{Fault}
+use Rattle.journey_model.specs.declared.faults.Fault.TheVariants.{Read, NoMemory}
+use Rattle.journey_model.specs.Faults.{unread_of}
+use Rattle.input_files.specs.InputTables.{delay_fault}
+use Rattle.journey_problem.specs.CutProblems.{cut_problem_fault}
+use Rattle.journey_problem.specs.FeedProblems.{GtfsFolder, feed_as, feed_stop_fault, window_fault_of, IsFolderFault, IsLaterTableFault, IsWindowFault, IsFaultAfterFolder, IsFeedProblemFault}
+use Rattle.journey_problem.specs.Problems.{IsProblemFault, IsProblemFaultOver}
+use Rattle.journey_problem.proofs.NoFaults.{none_unread, table_read, not_feed, no_folder_fault}
+use Rattle.journey_problem.proofs.OneFeed.{one_feed_of}
+use Rattle.journey_problem.proofs.OneFeedProblem.{SameGtfsFolder, one_folder, one_window_fault}
+
+abbrev pub NotRead : Fault → Type 0
+NotRead fault = (i : Input) → fault ≡ Read i → ⊥
+
+one_some : {A : Type 0} (o : Option A) (a b : A) → o ≡ Some a → o ≡ Some b → a ≡ b
+one_some o a b one two = cc
+
+not_both : {A : Type 0} (o : Option A) (a : A) → o ≡ None → o ≡ Some a → ⊥
+not_both o a none some = absurd (cc)
+
+one_err : {A E : Type 0} (r : Result A E) (e f : E) → r ≡ Err e → r ≡ Err f → e ≡ f
+one_err r e f one two = cc
+
+not_ok : {A E : Type 0} (r : Result A E) (e : E) → IsOk r → r ≡ Err e → ⊥
+not_ok (Ok a) e ok is = absurd (cc)
+not_ok (Err f) e ok is = absurd (cc)
+
+module _ (limits : Limits) (files : FileMap) where
+  -- where no file is unread
+  quiet : (first : Option Input → Option Fault) (fault : Fault) → NotRead fault → first (unread_of fault) ≡ Some fault → first None ≡ Some fault
+  quiet first fault never is = subst (λ (u : Option Input). first u ≡ Some fault) (none_unread fault never) is
+
+  module _ (folder : List ℕ) where
+    one_later : (f : FeedParts) (a b : FeedFault) → unread_table_of a ≡ None → unread_table_of b ≡ None → IsLaterTableFault limits files folder f a → IsLaterTableFault limits files folder f b → a ≡ b
+    one_later f a b u v (inl is) (inl also) =
+        one_err (calendars_in files folder limits None) a b (subst (λ (t : Option Table). calendars_in files folder limits t ≡ Err a) u is)
+        (subst (λ (t : Option Table). calendars_in files folder limits t ≡ Err b) v also)
+    one_later f a b u v (inl is) (inr (ok, also)) = absurd (not_ok (calendars_in files folder limits None) a ok (subst (λ (t : Option Table). calendars_in files folder limits t ≡ Err a) u is))
+    one_later f a b u v (inr (ok, is)) (inl also) = absurd (not_ok (calendars_in files folder limits None) b ok (subst (λ (t : Option Table). calendars_in files folder limits t ≡ Err b) v also))
+    one_later f a b u v (inr (ok, is)) (inr (good, also)) =
+        one_err (transfers_in files folder limits None f) a b (subst (λ (t : Option Table). transfers_in files folder limits t f ≡ Err a) u is)
+        (subst (λ (t : Option Table). transfers_in files folder limits t f ≡ Err b) v also)
+
+    of_tables : (fault : FeedFault) → unread_table_of fault ≡ None → tables_in files folder limits (unread_table_of fault) ≡ Err fault → tables_in files folder limits None ≡ Err fault
+    of_tables fault u is = subst (λ (t : Option Table). tables_in files folder limits t ≡ Err fault) u is
+
+    one_table_fault : (a b : FeedFault) → unread_table_of a ≡ None → unread_table_of b ≡ None → IsFolderFault limits files folder a → IsFolderFault limits files folder b → a ≡ b
+    one_table_fault a b u v (inl is) (inl also) = one_err (tables_in files folder limits None) a b (of_tables a u is) (of_tables b v also)
+    one_table_fault a b u v (inl is) (inr (f, feed, later)) = absurd (not_feed (tables_in files folder limits None) f a feed (of_tables a u is))
+    one_table_fault a b u v (inr (f, feed, later)) (inl also) = absurd (not_feed (tables_in files folder limits None) f b feed (of_tables b v also))
+    one_table_fault a b u v (inr (f, feed, later)) (inr (g, other, after)) =
+        let same = one_feed_of (tables_in files folder limits None) g f other feed in
+        one_later f a b u v later (subst (λ (x : FeedParts). IsLaterTableFault limits files folder x b) same after)
+
+    module _ (horizon : ℕ) (j : JourneyModel) where
+      one_window : (h g : GtfsFolder) (a b : Fault) → SameGtfsFolder h g → IsWindowFault limits horizon j h a → IsWindowFault limits horizon j g b → a ≡ b
+      one_window h g a b same (inl is) (inl also) = one_some (feed_stop_fault h.feed j.from j.to) a b is (ap (λ (f : FeedParts). feed_stop_fault f j.from j.to) same.feed ∙ also)
+      one_window h g a b same (inl is) (inr (none, also)) = absurd (not_both (feed_stop_fault h.feed j.from j.to) a (ap (λ (f : FeedParts). feed_stop_fault f j.from j.to) same.feed ∙ none) is)
+      one_window h g a b same (inr (none, is)) (inl also) = absurd (not_both (feed_stop_fault h.feed j.from j.to) b none (ap (λ (f : FeedParts). feed_stop_fault f j.from j.to) same.feed ∙ also))
+      one_window h g a b same (inr (none, is)) (inr (free, also)) =
+          one_some (window_fault_of limits horizon j h) a b is (one_window_fault limits files folder horizon j h g same ∙ also)
+
+      one_after : (h g : GtfsFolder) (a b : Fault) → SameGtfsFolder h g → NotRead a → NotRead b → IsFaultAfterFolder limits files horizon j h a → IsFaultAfterFolder limits files horizon j g b → a ≡ b
+      one_after h g a b same m n (inl is) (inl also) =
+          one_some (delay_fault limits (file_at files j.delays) None) a b (quiet (delay_fault limits (file_at files j.delays)) a m is) (quiet (delay_fault limits (file_at files j.delays)) b n also)
+      one_after h g a b same m n (inl is) (inr (none, later)) =
+          absurd (not_both (delay_fault limits (file_at files j.delays) None) a none (quiet (delay_fault limits (file_at files j.delays)) a m is))
+      one_after h g a b same m n (inr (none, later)) (inl also) =
+          absurd (not_both (delay_fault limits (file_at files j.delays) None) b none (quiet (delay_fault limits (file_at files j.delays)) b n also))
+      one_after h g a b same m n (inr (none, later)) (inr (free, after)) = one_window h g a b same later after
+
+      one_feed_fault : (a b : Fault) → NotRead a → NotRead b → IsFeedProblemFault limits files folder horizon j a → IsFeedProblemFault limits files folder horizon j b → a ≡ b
+      one_feed_fault a b m n (inl (f, is, why)) (inl (g, also, whys)) =
+          let same = one_table_fault f g (table_read limits f (λ i e. m i (is ∙ e))) (table_read limits g (λ i e. n i (also ∙ e))) why whys in
+          is ∙ ap (feed_as limits) same ∙ sym also
+      one_feed_fault a b m n (inl (f, is, why)) (inr (h, folder_is, after)) = absurd (no_folder_fault limits files folder h folder_is f (table_read limits f (λ i e. m i (is ∙ e))) why)
+      one_feed_fault a b m n (inr (h, folder_is, after)) (inl (g, also, whys)) = absurd (no_folder_fault limits files folder h folder_is g (table_read limits g (λ i e. n i (also ∙ e))) whys)
+      one_feed_fault a b m n (inr (h, folder_is, after)) (inr (g, other_is, afters)) = one_after h g a b (one_folder limits files folder h g folder_is other_is) m n after afters
+
+  one_over : (timetable : TimetableModel) (j : JourneyModel) (a b : Fault) → NotRead a → NotRead b → IsProblemFaultOver limits files timetable j a → IsProblemFaultOver limits files timetable j b → a ≡ b
+  one_over (CutFile path) j a b m n is also =
+      one_some (cut_problem_fault limits files path j None) a b (quiet (cut_problem_fault limits files path j) a m is) (quiet (cut_problem_fault limits files path j) b n also)
+  one_over (FeedFolder folder horizon) j a b m n is also = one_feed_fault folder horizon j a b m n is also
+
+  pub one_first_fault : (j : JourneyModel) (a b : Fault) → NotRead a → NotRead b → a ≢ NoMemory → b ≢ NoMemory → IsProblemFault limits files j a → IsProblemFault limits files j b → a ≡ b
+  one_first_fault j a b m n some more is also = one_over j.timetable j a b m n (is some) (also more)

@@ -1,0 +1,51 @@
+-- A graph file tells one graph, and a proof file one certificate; what holds of the one that is told holds of the other.
+use Rattle.std.proofs.Common.{◌≡◌, ℕ, List, None, Some, Result, Ok, Err, subst}
+use Rattle.file_ports.specs.Ports.{FileMap, file_at}
+use Rattle.csv_rows.specs.declared.limits.Limits.{Limits}
+use Rattle.plan_model.specs.declared.model.Query.{Query}
+use Rattle.plan_graph.specs.declared.PlanGraph.{PlanGraph}
+use Rattle.graph_text.specs.declared.Head.{Head}
+use Rattle.lower_proof.specs.declared.LowerBounds.{LowerBounds}
+use Rattle.lower_proof.specs.declared.reader.ProofFault.{ProofFault}
+use Rattle.lower_proof.specs.Reading.{IsProofRead}
+use Rattle.lower_proof.proofs.ReadOnce.{read_once}
+use Rattle.journey_model.specs.declared.faults.Input.TheVariants as input
+use Rattle.journey_model.specs.declared.faults.Fault.{Fault}
+use Rattle.journey_model.specs.declared.problem.Problem.{Problem}
+use Rattle.input_files.specs.Files.{bytes_of}
+use Rattle.file_answers.specs.GraphFiles.{graph_in, InGraphFile}
+use Rattle.file_answers.specs.ProofFiles.{InProofFile}
+
+pub one_ok : {A E : Type 0} (r : Result A E) (a b : A) → r ≡ Ok a → r ≡ Ok b → a ≡ b
+one_ok r a b one two = cc
+
+pub one_err : {A E : Type 0} (r : Result A E) (e f : E) → r ≡ Err e → r ≡ Err f → e ≡ f
+one_err r e f one two = cc
+
+pub never_both : {A E : Type 0} (r : Result A E) (a : A) (e : E) → r ≡ Ok a → r ≡ Err e → ⊥
+never_both r a e one two = cc
+
+module _ (p : Problem) (files : FileMap) (limits : Limits) (start : ℕ) (path : List ℕ) where
+  abbrev pub read_graph : Result (Head × PlanGraph) Fault
+  read_graph = graph_in limits p start None (file_at files path)
+
+  pub in_graph : (P Q : Head → PlanGraph → Type 0) (R : Type 0) → ((head : Head) (graph : PlanGraph) → P head graph → Q head graph → R)
+      → InGraphFile (Some files) limits start path p P → InGraphFile (Some files) limits start path p Q → R
+  in_graph P Q R both (head, graph, is, holds) (other, more, also, others) =
+      let same : (other, more) ≡ (head, graph) = one_ok read_graph (other, more) (head, graph) also.reads is.reads in
+      both head graph holds (subst (λ (w : Head × PlanGraph). Q w.0 w.1) same others)
+
+  abbrev pub read_bytes : Result (List ℕ) Fault
+  read_bytes = bytes_of limits.bytes input.Proof None (file_at files path)
+
+  abbrev pub Reads : List ℕ → Result (Query × LowerBounds) ProofFault → Type 0
+  Reads = IsProofRead p.network p.names p.source.0 p.target.0 start
+
+  pub in_proof : (P Q : Query → LowerBounds → Type 0) (R : Type 0) → ((q : Query) (proof : LowerBounds) → P q proof → Q q proof → R)
+      → InProofFile (Some files) limits start path p P → InProofFile (Some files) limits start path p Q → R
+  in_proof P Q R both (q, proof, is, holds) (r, more, also, others) =
+      let text : also.text ≡ is.text = one_ok read_bytes also.text is.text also.reads is.reads in
+      let told : Reads is.text (Ok (r, more)) = subst (λ (t : List ℕ). Reads t (Ok (r, more))) text also.tells in
+      let one = read_once p.network p.names p.source.0 p.target.0 start is.text (Ok (r, more)) (Ok (q, proof)) told is.tells (λ e. cc) (λ e. cc) in
+      let same : (r, more) ≡ (q, proof) = cc in
+      both q proof holds (subst (λ (w : Query × LowerBounds). Q w.0 w.1) same others)

@@ -1,0 +1,24 @@
+-- A network has one scan order.
+use Rattle.std.proofs.Common.{◌≡◌, ◌<◌, List, arith}
+use Rattle.std.proofs.lemmas.List.Elements.{All-contains}
+use Rattle.plan_model.specs.declared.model.ConnectionId.{ConnectionId}
+use Rattle.plan_model.specs.NetworkModel.{NetworkModel}
+use Rattle.plan_model.specs.Network.{count}
+use Rattle.plan_model.specs.Order.{IsScanOrder, IsEarlier}
+use Rattle.plan_model.proofs.ScanOrders.{HasEachId, has_each_id}
+use Rattle.run_laws.proofs.Rising.{HasAll, one_rising}
+
+abbrev Before : NetworkModel → ConnectionId → ConnectionId → Type 0
+Before n a b = IsEarlier n a.0 b.0
+
+one_way : (n : NetworkModel) (a b : ConnectionId) → Before n a b → Before n b a → ⊥
+one_way n a b first second = grind arith
+
+has_all : (n : NetworkModel) (xs ys : List ConnectionId) → HasEachId n xs → HasEachId n ys → HasAll xs ys
+has_all n xs ys each others id has = others.all id.0 (All-contains (λ (i : ConnectionId). i.0 < count n) xs id each.within has)
+
+pub one_order : (n : NetworkModel) (xs ys : List ConnectionId) → IsScanOrder n xs → IsScanOrder n ys → xs ≡ ys
+one_order n xs ys order other =
+    let each = has_each_id n xs order in
+    let others = has_each_id n ys other in
+    one_rising (Before n) (one_way n) xs ys order.rising other.rising (has_all n xs ys each others) (has_all n ys xs others each)

@@ -1,0 +1,56 @@
+-- The graphs and the bounds of a query are told by the network and the query.
+use Rattle.std.proofs.Common.{◌≡◌, ◌≢◌, Option, Some, None, MatchOption, refl}
+use Rattle.interval_fixed.specs.Interval.{Interval}
+use Rattle.plan_model.specs.declared.model.Leg.{Leg}
+use Rattle.plan_model.specs.declared.model.Query.{Query}
+use Rattle.plan_model.specs.NetworkModel.{NetworkModel}
+use Rattle.plan_model.specs.Unfold.{by_place}
+use Rattle.plan_graph.specs.declared.ExpandedGraph.{ExpandedGraph}
+use Rattle.plan_graph.specs.declared.PlanGraph.{PlanGraph}
+use Rattle.plan_graph.specs.PickedRows.{pick_after, pick_at}
+use Rattle.plan_graph.specs.Unfold.{unfold_expanded, unfold_plan}
+use Rattle.decision_graph.specs.Expanded.{IsExpanded}
+use Rattle.decision_graph.specs.Planned.{IsPlanned}
+use Rattle.run_laws.specs.Wholes.{IsTold, IsOneStrategy}
+use Rattle.run_laws.proofs.Agree.{start_same}
+use Rattle.run_laws.proofs.OneStrategy.{IsTheMean, the_best, one_best}
+use Rattle.run_laws.proofs.RideTables.{one_told}
+use Rattle.run_laws.proofs.PlaceTables.{one_tidy}
+
+module _ (n : NetworkModel) (q : Query) where
+  of_plan : (graph : PlanGraph) (bounds : Interval) → IsPlanned n q graph bounds → IsTheMean n q (unfold_plan graph n q) bounds
+  of_plan graph bounds is = the_best n q (unfold_plan graph n q) bounds is.best is.by_rules
+
+  of_expanded : (graph : ExpandedGraph) (bounds : Interval) → IsExpanded n q graph bounds → IsTheMean n q (unfold_expanded graph n q) bounds
+  of_expanded graph bounds is = the_best n q (unfold_expanded graph n q) bounds is.best is.by_rules
+
+  pub one_planned : (a b : PlanGraph) (s t : Interval) → IsPlanned n q a s → IsPlanned n q b t → (a ≡ b) × (s ≡ t)
+  one_planned a b s t plan other =
+      let both = one_best n q (unfold_plan a n q) (unfold_plan b n q) s t (of_plan a s plan) (of_plan b t other) in
+      (one_tidy n q a b plan.tidy other.tidy (q.deadline.0, plan.best.safe) both.0, both.1)
+
+  told : (graph : ExpandedGraph) (bounds : Interval) → IsExpanded n q graph bounds → IsTold n q graph
+  told graph bounds is = record { ready = is.ready; busy = is.busy; whole = is.whole; arrivals = is.arrivals }
+
+  pub one_expanded : (a b : ExpandedGraph) (s t : Interval) → IsExpanded n q a s → IsExpanded n q b t → (a ≡ b) × (s ≡ t)
+  one_expanded a b s t plan other =
+      let both = one_best n q (unfold_expanded a n q) (unfold_expanded b n q) s t (of_expanded a s plan) (of_expanded b t other) in
+      (one_told n q a b (told a s plan) (told b t other) both.0, both.1)
+
+  by_start : {P Q : Leg → Type 0} {R : Type 0} (s t : Option Leg) → (q.source.0 ≢ q.target.0 → s ≡ t) → ((leg : Leg) → P leg → q.source.0 ≢ q.target.0) → ((leg : Leg) → Q leg → q.source.0 ≢ q.target.0)
+      → (R → q.source.0 ≡ q.target.0) → MatchOption s (q.source.0 ≡ q.target.0) P → MatchOption t R Q → s ≡ t
+  by_start None None same p d r none nothing = refl
+  by_start None (Some t) same p d r none fit = absurd (d t fit none)
+  by_start (Some s) None same p d r fit none = absurd (p s fit (r none))
+  by_start (Some s) (Some t) same p d r fit fits = same (p s fit)
+
+  pub one_strategy : (a : ExpandedGraph) (b : PlanGraph) (s t : Interval) → IsExpanded n q a s → IsPlanned n q b t → IsOneStrategy n q a b s t
+  one_strategy a b s t expanded plan =
+      let both = one_best n q (unfold_expanded a n q) (unfold_plan b n q) s t (of_expanded a s expanded) (of_plan b t plan) in
+      record {
+        tree = both.0;
+        start = by_start a.start b.start
+            (λ differ. start_same n q.target.0 (pick_after a.rides) (by_place n (pick_at b.tables)) a.start b.start q.source.0 q.start.0 differ both.0)
+            (λ leg fit. fit.0) (λ leg fit. fit.differ) (λ none. none.0) expanded.ready.starts plan.tidy.fit.starts;
+        bounds = both.1;
+      }

@@ -1,0 +1,52 @@
+-- A problem, a start, a percentage and a promise have one answer.
+use Rattle.std.proofs.Common.{◌≡◌, ℕ, List, ◌++◌, sym, ap, ap₂, ◌∙◌}
+use Rattle.interval_fixed.specs.Interval.{Interval}
+use Rattle.plan_model.specs.declared.model.Moment.{Moment}
+use Rattle.plan_model.specs.declared.model.Query.{Query}
+use Rattle.plan_model.specs.NetworkModel.{NetworkModel}
+use Rattle.plan_graph.specs.declared.PlanGraph.{PlanGraph}
+use Rattle.plan_graph.specs.Unfold.{unfold_plan}
+use Rattle.graph_score.specs.Spans.{span_of}
+use Rattle.graph_text.specs.GraphTexts.{graph_text}
+use Rattle.late_chance.specs.Chances.{chance_rank, chance_lowered, chance_arrived, chance_blended}
+use Rattle.late_chance.specs.LaterGraphs.{later_graph}
+use Rattle.late_chance.specs.Punctual.{seen_for, asked_for, shift_for}
+use Rattle.journey_model.specs.declared.problem.Problem.{Problem}
+use Rattle.journey_report.specs.Findings.{Findings, punctual_findings}
+use Rattle.journey_report.specs.AnswerTexts.{punctual_row}
+use Rattle.plan_answers.specs.Answers.{InQuery, head_of}
+use Rattle.plan_answers.specs.Punctual.{IsLeastChance, IsSeenLater, TellsPunctual}
+use Rattle.run_laws.proofs.OneStrategy.{IsThe, only_one}
+use Rattle.run_laws.proofs.PlaceTables.{one_tidy}
+use Rattle.run_laws.specs.OneAnswer.{IsOneAnswer}
+use Rattle.run_laws.proofs.Queries.{in_one_query}
+
+module _ (n : NetworkModel) (q : Query) where
+  the : (graph : PlanGraph) (chance : Interval) → IsLeastChance n q graph chance
+      → IsThe chance_rank chance_lowered chance_arrived chance_blended n q (unfold_plan graph n q) chance
+  the graph chance is = record { safe = is.punctual.safe; by_rules = is.by_rules; at_once = is.at_once }
+
+  one_chance : (a b : PlanGraph) (s t : Interval) → IsLeastChance n q a s → IsLeastChance n q b t → (a ≡ b) × (s ≡ t)
+  one_chance a b s t is other =
+      let both = only_one chance_rank chance_lowered chance_arrived chance_blended n q (unfold_plan a n q) (unfold_plan b n q) s t (the a s is) (the b t other) in
+      (one_tidy n q a b is.punctual.tidy other.punctual.tidy (q.deadline.0, is.punctual.safe) both.0, both.1)
+
+one_seen : (n : NetworkModel) (q : Query) (promise : ℕ) (a b : PlanGraph) (s t : Interval) → IsSeenLater n q promise a s → IsSeenLater n q promise b t → (a ≡ b) × (s ≡ t)
+one_seen n q promise a b s t is other =
+    let both = one_chance (seen_for n q promise) (asked_for q promise) is.seen other.seen s t is.least other.least in
+    (is.later ∙ ap (later_graph (shift_for promise)) both.0 ∙ sym other.later, both.1)
+
+module _ (p : Problem) (found others : Findings) (text other : List ℕ) (promise : ℕ) where
+  one_told : (q : Query) (w : Moment) → TellsPunctual p promise found text q w → TellsPunctual p promise others other q w → IsOneAnswer found others text other
+  one_told q w (graph, chance, bounds, is, least, seen, scored, own) (graphs, chances, spans, is_other, least_other, seen_other, scored_other, own_other) =
+      let both = one_seen p.network q promise graph graphs chance chances seen seen_other in
+      let same : bounds ≡ spans = scored.means ∙ ap (λ (g : PlanGraph). span_of p.network (unfold_plan g p.network q)) both.0 ∙ sym scored_other.means in
+      let text_of : PlanGraph → Interval → List ℕ = λ g b. graph_text p.network p.names (head_of q b) g in
+      record {
+        found = is ∙ ap₂ (λ (g : PlanGraph) (b : Interval). punctual_findings q w g b chance) both.0 same ∙ ap (punctual_findings q w graphs spans) both.1 ∙ sym is_other;
+        text_is = own.rows ∙ ap₂ (λ (c : Interval) (rest : List ℕ). punctual_row promise c ++ rest) both.1 (ap₂ text_of both.0 same) ∙ sym own_other.rows;
+      }
+
+  pub one_punctual_answer : (start alpha : ℕ) → InQuery p start alpha (TellsPunctual p promise found text) → InQuery p start alpha (TellsPunctual p promise others other)
+      → IsOneAnswer found others text other
+  one_punctual_answer start alpha (q, w, is, tells) (r, v, also, told) = one_told q w tells (in_one_query p start alpha (TellsPunctual p promise others other) q r w v is also told)

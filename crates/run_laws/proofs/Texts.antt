@@ -1,0 +1,47 @@
+-- A problem, a start and a percentage have one answer.
+use Rattle.std.proofs.Common.{ℕ, List, sym, ap₂, ◌∙◌}
+use Rattle.interval_fixed.specs.Interval.{Interval}
+use Rattle.plan_model.specs.declared.model.Moment.{Moment}
+use Rattle.plan_model.specs.declared.model.Query.{Query}
+use Rattle.plan_graph.specs.declared.ExpandedGraph.{ExpandedGraph}
+use Rattle.plan_graph.specs.declared.PlanGraph.{PlanGraph}
+use Rattle.graph_text.specs.GraphTexts.{expanded_text, graph_text}
+use Rattle.journey_model.specs.declared.problem.Problem.{Problem}
+use Rattle.journey_report.specs.Findings.{Findings, expand_findings, plan_findings}
+use Rattle.plan_answers.specs.Answers.{InQuery, TellsWorst, TellsExpanded, TellsPlanned, head_of}
+use Rattle.run_laws.proofs.Plans.{one_planned, one_expanded}
+use Rattle.run_laws.specs.OneAnswer.{IsOneAnswer}
+use Rattle.run_laws.proofs.Queries.{in_one_query}
+
+module _ (p : Problem) (found others : Findings) (text other : List ℕ) where
+  abbrev One : Type 0
+  One = IsOneAnswer found others text other
+
+  one_worst_told : (q : Query) (w : Moment) → TellsWorst p found text q w → TellsWorst p others other q w → One
+  one_worst_told q w tells told = record { found = tells.0 ∙ sym told.0; text_is = tells.1 ∙ sym told.1 }
+
+  one_plan_told : (q : Query) (w : Moment) → TellsPlanned p found text q w → TellsPlanned p others other q w → One
+  one_plan_told q w (graph, bounds, is, plan, text_is, reads) (graphs, spans, is_other, plan_other, text_other, reads_other) =
+      let both = one_planned p.network q graph graphs bounds spans plan plan_other in
+      record {
+        found = is ∙ ap₂ (plan_findings q w) both.0 both.1 ∙ sym is_other;
+        text_is = text_is ∙ ap₂ (λ (b : Interval) (g : PlanGraph). graph_text p.network p.names (head_of q b) g) both.1 both.0 ∙ sym text_other;
+      }
+
+  one_expanded_told : (q : Query) (w : Moment) → TellsExpanded p found text q w → TellsExpanded p others other q w → One
+  one_expanded_told q w (graph, bounds, is, plan, text_is) (graphs, spans, is_other, plan_other, text_other) =
+      let both = one_expanded p.network q graph graphs bounds spans plan plan_other in
+      record {
+        found = is ∙ ap₂ (expand_findings q w) both.0 both.1 ∙ sym is_other;
+        text_is = text_is ∙ ap₂ (λ (b : Interval) (g : ExpandedGraph). expanded_text p.network p.names (head_of q b) g) both.1 both.0 ∙ sym text_other;
+      }
+
+  module _ (start alpha : ℕ) where
+    pub one_safe_answer : InQuery p start alpha (TellsWorst p found text) → InQuery p start alpha (TellsWorst p others other) → One
+    one_safe_answer (q, w, is, tells) (r, v, also, told) = one_worst_told q w tells (in_one_query p start alpha (TellsWorst p others other) q r w v is also told)
+
+    pub one_plan_answer : InQuery p start alpha (TellsPlanned p found text) → InQuery p start alpha (TellsPlanned p others other) → One
+    one_plan_answer (q, w, is, tells) (r, v, also, told) = one_plan_told q w tells (in_one_query p start alpha (TellsPlanned p others other) q r w v is also told)
+
+    pub one_expanded_answer : InQuery p start alpha (TellsExpanded p found text) → InQuery p start alpha (TellsExpanded p others other) → One
+    one_expanded_answer (q, w, is, tells) (r, v, also, told) = one_expanded_told q w tells (in_one_query p start alpha (TellsExpanded p others other) q r w v is also told)

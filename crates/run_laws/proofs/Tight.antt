@@ -1,0 +1,70 @@
+-- A network and a query have one tight certificate.
+use Rattle.std.proofs.Common.{◌≡◌, ℕ, zero, suc, ◌+◌, ◌<◌, ◌≤◌, List, [], ◌∷◌, Option, Some, None, IsTrue, arith, sym, ◌∙◌, inl, inr, ext_get_or}
+use Rattle.std.proofs.lemmas.Bool.{cases_Bool, both_ways}
+use Rattle.plan_model.specs.declared.model.Outcome.{Outcome}
+use Rattle.plan_model.specs.declared.model.Query.{Query}
+use Rattle.plan_model.specs.NetworkModel.{NetworkModel}
+use Rattle.plan_model.specs.Network.{IsValid, count, connection, to_of, dep_of, arr_of, outcomes}
+use Rattle.plan_model.specs.Strategy.{IsLeg, IsBoardable}
+use Rattle.plan_model.proofs.Boarding.{boards_later}
+use Rattle.plan_model.proofs.Bounds.{forward}
+use Rattle.lower_proof.specs.Certificates.{bound_of, Offers, IsLeastAt, AreLeast, IsVia, IsTight}
+use Rattle.lower_proof.proofs.Departures.{after, after_less, after_boards, after_le}
+use Rattle.lower_proof.proofs.Leasts.{least_same, IsLeastOf-unique}
+
+module _ (n : NetworkModel) (valid : IsValid n) (q : Query) where
+  -- both have the same values at the connections after whose departure fewer than so many depart
+  abbrev Agree : (values others : List (Option ℕ)) → ℕ → Type 0
+  Agree values others m = (c : ℕ) → c < count n → after n (dep_of n c) < m → bound_of values c ≡ bound_of others c
+
+  module _ (values others : List (Option ℕ)) (m : ℕ) (agree : Agree values others m) (p x : ℕ) (few : after n x ≤ m) where
+    -- what the one offers after an arrival the other does
+    offered : (v : ℕ) → ((c : ℕ) × Offers n values (IsBoardable n p x) c v) → (c : ℕ) × Offers n others (IsBoardable n p x) c v
+    offered v (c, offer) =
+        let fewer = after_boards n x c offer.there (boards_later n valid p x c offer.there offer.boards) in
+        (c, record { there = offer.there; board = offer.board; boards = offer.boards; value = sym (agree c offer.there (omega (arith, fewer, few))) ∙ offer.value })
+
+  module _ (values others : List (Option ℕ)) (m : ℕ) (agree : Agree values others m) where
+    back : Agree others values m
+    back c there few = sym (agree c there few)
+
+    least_at : (p x v : ℕ) → after n x ≤ m → IsLeastAt n q values p x (Some v) → IsLeastAt n q others p x (Some v)
+    least_at p x v few least = record {
+      at_target = least.at_target;
+      elsewhere = λ away. least_same (λ w. (c : ℕ) × Offers n values (IsBoardable n p x) c w) (λ w. (c : ℕ) × Offers n others (IsBoardable n p x) c w)
+          (offered values others m agree p x few) (Some v) (offered others values m back p x few) (least.elsewhere away);
+    }
+
+    are_least : (p arrival : ℕ) → after n arrival ≤ m → (row : List Outcome) (vs : List ℕ) → AreLeast n q values p arrival row vs → AreLeast n q others p arrival row vs
+    are_least p arrival few [] [] all = tt
+    are_least p arrival few (o ∷ row) (v ∷ vs) all =
+        let less = after_less n arrival (arrival + o.delay) (omega arith) in
+        (least_at p (arrival + o.delay) v (omega (arith, less, few)) all.0, are_least p arrival few row vs all.1)
+    are_least p arrival few _ _ all = absurd all
+
+    via : (c : ℕ) → after n (dep_of n c) ≤ m → (v : ℕ) → ((j : ℕ) × IsLeg n c j × IsVia n q values j v) → (j : ℕ) × IsLeg n c j × IsVia n q others j v
+    via c few v (j, leg, is) =
+        let later = after_less n (dep_of n c) (arr_of n j) (forward n valid c j leg) in
+        (j, leg, record { leave = is.leave; least = is.least; are_least = are_least (to_of n j) (arr_of n j) (omega (arith, later, few)) (outcomes n j) is.least is.are_least; mean = is.mean })
+
+  module _ (values others : List (Option ℕ)) (tight : IsTight n q values) (tights : IsTight n q others) where
+    same_boarded : (m : ℕ) → Agree values others m → (c : ℕ) → c < count n → after n (dep_of n c) ≤ m → IsTrue (connection n c).can_board → bound_of values c ≡ bound_of others c
+    same_boarded m agree c there few board =
+        let ways : List (Option ℕ) → ℕ → Type 0 = λ bounds v. (j : ℕ) × IsLeg n c j × IsVia n q bounds j v in
+        IsLeastOf-unique (ways others) (bound_of values c) (bound_of others c)
+        (least_same (ways values) (ways others) (via values others m agree c few) (bound_of values c) (via others values m (back values others m agree) c few)
+        (tight.boarded c there board))
+        (tights.boarded c there board)
+
+    agree_by : (m : ℕ) → Agree values others m
+    agree_by zero c there few = absurd (omega (arith, few))
+    agree_by (suc m) c there few = elim (cases_Bool (connection n c).can_board) [
+      | inl board ↦ same_boarded m (agree_by m) c there (omega (arith, few)) board
+      | inr closed ↦
+          let never : IsTrue (connection n c).can_board → ⊥ = λ board. both_ways (connection n c).can_board closed board in
+          tight.others c there never ∙ sym (tights.others c there never)
+    ]
+
+    pub one_tight : values ≡ others
+    one_tight = ext_get_or None values others (tight.as_many ∙ sym tights.as_many) (λ c within.
+        agree_by (count n + 1) c (omega (arith, within, tight.as_many)) (let le = after_le n (dep_of n c) in omega (arith, le)))

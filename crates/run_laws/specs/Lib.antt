@@ -1,0 +1,4 @@
+pub mod Wholes
+pub mod OneAnswer
+pub mod OneRun
+pub mod Printed

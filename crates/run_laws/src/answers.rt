@@ -1,0 +1,43 @@
+//! That a problem, a start and a percentage have one answer.
+ghost use Rattle.std.specs.Prelude.{ℕ, List};
+ghost use Rattle.plan_model.specs.declared.model.Moment.{Moment as Instant};
+ghost use Rattle.plan_model.specs.declared.model.Query.{Query as QueryParts};
+ghost use Rattle.journey_model.specs.declared.problem.Problem.{Problem as ProblemParts};
+ghost use Rattle.journey_report.specs.Findings.{Findings};
+ghost use Rattle.plan_answers.specs.Answers.{IsQueryOf, InQuery, HasNoSafe, TellsWorst, TellsPlanned, TellsExpanded};
+ghost use Rattle.plan_answers.specs.Punctual.{TellsPunctual};
+ghost use Rattle.run_laws.specs.OneAnswer.{IsOneAnswer};
+
+/// Two answers of `safe` over one problem are one.
+pub fn one_safe_answer()
+    ensures { (p : ProblemParts) (found others : Findings) (text other : List ℕ) (start alpha : ℕ)
+        → InQuery p start alpha (TellsWorst p found text) → InQuery p start alpha (TellsWorst p others other)
+        → IsOneAnswer found others text other }
+{}
+
+/// Two answers of `plan` over one problem are one.
+pub fn one_plan_answer()
+    ensures { (p : ProblemParts) (found others : Findings) (text other : List ℕ) (start alpha : ℕ)
+        → InQuery p start alpha (TellsPlanned p found text) → InQuery p start alpha (TellsPlanned p others other)
+        → IsOneAnswer found others text other }
+{}
+
+/// Two answers of `expand` over one problem are one.
+pub fn one_expanded_answer()
+    ensures { (p : ProblemParts) (found others : Findings) (text other : List ℕ) (start alpha : ℕ)
+        → InQuery p start alpha (TellsExpanded p found text) → InQuery p start alpha (TellsExpanded p others other)
+        → IsOneAnswer found others text other }
+{}
+
+/// Two answers of `punctual` over one problem are one.
+pub fn one_punctual_answer()
+    ensures { (p : ProblemParts) (found others : Findings) (text other : List ℕ) (promise start alpha : ℕ)
+        → InQuery p start alpha (TellsPunctual p promise found text)
+        → InQuery p start alpha (TellsPunctual p promise others other) → IsOneAnswer found others text other }
+{}
+
+/// Where one call has a query, another does not find that no strategy is safe.
+pub fn a_query_has_a_safe_strategy()
+    ensures { (p : ProblemParts) (start alpha : ℕ) (query : QueryParts) (worst : Instant)
+        → IsQueryOf p start alpha query worst → HasNoSafe p start → ⊥ }
+{}
