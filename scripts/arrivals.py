@@ -1,0 +1,135 @@
+"""When a plan arrives: the chance of each arrival, by the delays of a delay file.
+
+The rides of a plan are late independently, each by one of the delays of its group in the delay file. Chances are exact
+fractions. What is reckoned here shares no code with the program, so it is also a check of the bounds that the program prints.
+"""
+
+from __future__ import annotations
+
+import datetime
+import heapq
+import os
+from collections import defaultdict
+from fractions import Fraction
+from typing import NamedTuple, Optional
+
+from feeds import Table, routes_of, trip_of_run, trips_of
+from plans import Moment, Plan, Refused, seconds_between
+
+WHOLE = 10_000
+
+
+class Group(NamedTuple):
+    """What rows of a delay file are of: a class, and a route and an hour where they name one."""
+    kind: str
+    route: str
+    hour: str
+
+
+Outcomes = list[tuple[int, Fraction]]
+
+
+class Delays:
+    """The delays of a delay file, by class, route and hour, each with its chance."""
+
+    def __init__(self, path: str) -> None:
+        self.groups: dict[Group, Outcomes] = defaultdict(list)
+        table = Table(path, ["class", "delay", "weight"], ["route_id", "hour"])
+        for number, (kind, delay, weight, route, hour) in table:
+            try:
+                group = Group(kind if kind == "*" else str(int(kind)), route, str(int(hour)) if hour else "")
+                self.groups[group].append((int(delay), Fraction(int(weight), WHOLE)))
+            except ValueError:
+                raise Refused(f"{table.name} line {number}: bad field") from None
+        for group, outcomes in self.groups.items():
+            if sum(chance for _, chance in outcomes) != 1:
+                raise Refused(f"{table.name}: the weights of class {group.kind} do not add up to {WHOLE}")
+        if Group("*", "", "") not in self.groups:
+            raise Refused(f"{table.name}: class * is missing")
+
+    def of(self, kind: str, route: str, due: Moment) -> Outcomes:
+        """The delays of a ride of a route type and a route that is due at a moment: those of the first group that is there."""
+        hour = str(due.hour)
+        ranked = ([Group("*", route, hour), Group("*", route, "")] if route else []) + [
+            Group(kind, "", hour), Group(kind, "", ""), Group("*", "", hour)]
+        return next((self.groups[group] for group in ranked if group in self.groups), self.groups[Group("*", "", "")])
+
+
+class RideKinds:
+    """The route type and the route of each ride of a plan, from its feed or its cut file."""
+
+    def __init__(self, plan: Plan, feed: Optional[str], cut: Optional[str]) -> None:
+        self.is_feed = feed is not None
+        self.routes: dict[str, str] = {}
+        self.kinds: dict[str, str] = {}
+        self.of_steps: dict[tuple[str, int], str] = {}
+        if feed is not None:
+            trips = trips_of(feed, {trip_of_run(leg.run) for leg in plan.legs()})
+            routes = routes_of(feed, {trip.route for trip in trips.values()})
+            self.routes = {trip.number: trip.route for trip in trips.values()}
+            self.kinds = {route.number: str(int(route.kind)) for route in routes.values()}
+        elif cut is not None:
+            wanted = {(leg.run, leg.exit_step) for leg in plan.legs()}
+            for number, (run, step, kind) in Table(cut, ["run", "step"], ["class"]):
+                if not step.isascii() or not step.isdigit():
+                    raise Refused(f"{os.path.basename(cut)} line {number}: bad step")
+                if (run, int(step)) in wanted:
+                    self.of_steps[run, int(step)] = kind if kind in ("", "*") else str(int(kind))
+
+    def of(self, run: str, step: int) -> tuple[str, str]:
+        """The class and the route of the connection at a step of a run; the route is empty in a cut file."""
+        if self.is_feed:
+            route = self.routes.get(trip_of_run(run))
+            if route is None or route not in self.kinds:
+                raise Refused(f"the feed has no trip of run {run}: the plan is of another feed")
+            return self.kinds[route], route
+        if (run, step) not in self.of_steps:
+            raise Refused(f"the cut file has no step {step} of run {run}: the plan is of another file")
+        return self.of_steps[run, step] or "*", ""
+
+
+def arrivals_of(plan: Plan, delays: Delays, kinds: RideKinds) -> dict[Moment, Fraction]:
+    """The chance of each arrival at the target, where each ride is late by one of its delays, independently of the others.
+
+    A traveller who stands at a place at a moment takes the first row that is not too late. Departures come after the arrivals
+    that lead to them, so the places are gone through by their moments."""
+    if plan.first is None:
+        return {plan.start: Fraction(1)}
+    chances: dict[tuple[Moment, str], Fraction] = defaultdict(Fraction)
+    found: dict[Moment, Fraction] = defaultdict(Fraction)
+    waiting: list[tuple[Moment, str]] = []
+    taken = [(plan.first, Fraction(1))]
+    while taken or waiting:
+        for leg, chance in taken:
+            for delay, share in delays.of(*kinds.of(leg.run, leg.exit_step), leg.arrival):
+                state = leg.arrival + datetime.timedelta(seconds=delay), leg.exit
+                if state not in chances:
+                    heapq.heappush(waiting, state)
+                chances[state] += chance * share
+        taken = []
+        if waiting:
+            moment, place = heapq.heappop(waiting)
+            chance = chances.pop((moment, place))
+            leg_there = plan.leg_after(place, moment)
+            if place == plan.target:
+                found[moment] += chance
+            elif leg_there is None:
+                raise Refused(f"the plan has no row at {place} for {moment.isoformat()}: it is of another feed or other delays")
+            else:
+                taken = [(leg_there, chance)]
+    return dict(sorted(found.items()))
+
+
+def mean_of(chances: dict[Moment, Fraction], start: Moment) -> Fraction:
+    """The mean of arrivals, in seconds after a moment."""
+    return sum((chance * seconds_between(start, moment) for moment, chance in chances.items()), Fraction(0))
+
+
+def moment_by(chances: dict[Moment, Fraction], share: Fraction) -> Moment:
+    """The first arrival by which one is there in this share of all cases."""
+    reached = Fraction(0)
+    for moment, chance in chances.items():
+        reached += chance
+        if reached >= share:
+            return moment
+    return max(chances)

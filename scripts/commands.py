@@ -1,0 +1,102 @@
+"""What the scripts share as commands: their streams, how they end, and how they call the program."""
+
+from __future__ import annotations
+
+import argparse
+import errno
+import os
+import shutil
+import subprocess
+import sys
+from typing import Callable
+
+from plans import Refused
+
+HERE = os.path.dirname(os.path.realpath(__file__))
+
+
+def read_input() -> str:
+    """The text on standard input."""
+    try:
+        return sys.stdin.buffer.read().decode("utf-8-sig")
+    except UnicodeDecodeError:
+        raise Refused("the text is no UTF-8") from None
+
+
+def show(text: str) -> None:
+    """Writes a text to standard output, in UTF-8 whatever the locale is."""
+    sys.stdout.buffer.write(text.encode("utf-8", errors="surrogateescape"))
+    sys.stdout.buffer.flush()
+
+
+def tell(name: str, text: str) -> None:
+    """Writes a line to standard error."""
+    try:
+        sys.stderr.buffer.write(f"{name}: {text}\n".encode("utf-8", errors="backslashreplace"))
+        sys.stderr.buffer.flush()
+    except OSError:
+        pass
+
+
+def run(name: str, work: Callable[[], int]) -> None:
+    """Ends with the status of the work. What is refused, and a stream that fails, is one line on standard error, and status 1."""
+    try:
+        status = work()
+    except Refused as fault:
+        tell(name, str(fault))
+        status = 1
+    except KeyboardInterrupt:
+        status = 130
+    except OSError as fault:
+        if fault.errno != errno.EPIPE:
+            tell(name, f"cannot write: {fault.strerror}" if fault.filename is None else f"{fault.filename}: {fault.strerror}")
+        status = 1
+    # What a stream still holds cannot be written either, and is not to be tried again.
+    try:
+        sys.stdout.flush()
+    except OSError:
+        os.dup2(os.open(os.devnull, os.O_WRONLY), 1)
+    sys.exit(status)
+
+
+def whole_number(least: int, most: int) -> Callable[[str], int]:
+    """Reads a whole number between two bounds, for an option."""
+    def read(text: str) -> int:
+        if not (text.isascii() and text.isdigit() and least <= int(text) <= most):
+            raise argparse.ArgumentTypeError(f"a whole number from {least} to {most} is expected")
+        return int(text)
+    return read
+
+
+def program() -> str:
+    """The planner: what MEAT names, the launcher of the repository, or the one that is installed beside the scripts."""
+    named = os.environ.get("MEAT")
+    beside = [os.path.join(HERE, "..", "meat"), os.path.join(HERE, "..", "..", "bin", "meat")]
+    found = [named] if named else [path for path in beside if os.path.isfile(path) and os.access(path, os.X_OK)]
+    path = found[0] if found else shutil.which("meat")
+    if path is None:
+        raise Refused("the planner `meat` is not found: name it in the environment as MEAT")
+    return os.path.abspath(path)
+
+
+class Answer:
+    """What a call of the program printed, and how it ended."""
+
+    def __init__(self, words: list[str], status: int, text: str, line: str) -> None:
+        self.words, self.status, self.text, self.line = words, status, text, line
+
+
+# The status at which no strategy reaches the target by the deadline whatever the delays.
+NO_STRATEGY = 1
+
+
+def ask(words: list[str]) -> Answer:
+    """Calls the program. The answer, or that there is no strategy; anything else that it refuses is refused with its line."""
+    try:
+        ran = subprocess.run([program(), *words], stdin=subprocess.DEVNULL, stdout=subprocess.PIPE, stderr=subprocess.PIPE)
+    except OSError as fault:
+        raise Refused(f"the planner cannot be run: {fault.strerror}") from None
+    lines = ran.stderr.decode("utf-8", errors="replace").rstrip("\n").split("\n")
+    if ran.returncode not in (0, NO_STRATEGY):
+        raise Refused(lines[-1] or f"the planner ended with status {ran.returncode}")
+    return Answer(words, ran.returncode, ran.stdout.decode("utf-8"), lines[-1])

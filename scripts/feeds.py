@@ -1,0 +1,142 @@
+"""Reads the tables of an unpacked GTFS folder as the program does, for the scripts beside it.
+
+Tables are read a row at a time, and only what is asked for is kept. Spaces round a field and a byte-order mark are dropped,
+short rows have empty fields at their end, and the first of two columns of one name counts.
+"""
+
+from __future__ import annotations
+
+import csv
+import os
+import sys
+from collections import defaultdict
+from dataclasses import dataclass
+from typing import Iterable, Iterator, Optional
+
+from plans import Refused
+
+# The types of locations in stops.txt.
+STOP, STATION, ENTRANCE, NODE, BOARDING_AREA = "", "1", "2", "3", "4"
+LOCATIONS = {"0": STOP}
+# What the route types of the GTFS Schedule reference are called, and after them the extended types by hundreds.
+VEHICLES = {0: "tram", 1: "metro", 2: "train", 3: "bus", 4: "ferry", 5: "cable tram", 6: "cable car", 7: "funicular",
+            11: "trolleybus", 12: "monorail", 405: "monorail"}
+EXTENDED = {1: "train", 2: "coach", 3: "train", 4: "metro", 5: "metro", 6: "metro", 7: "bus", 8: "trolleybus", 9: "tram",
+            10: "ferry", 11: "flight", 12: "ferry", 13: "cable car", 14: "funicular", 15: "taxi"}
+
+
+class Table:
+    """The rows of a table with the columns that are asked for, and the number of each row; the header is row 1."""
+
+    def __init__(self, path: str, required: Iterable[str], optional: Iterable[str] = ()) -> None:
+        self.path, self.name = path, os.path.basename(path)
+        self.required, self.optional = list(required), list(optional)
+
+    def __iter__(self) -> Iterator[tuple[int, list[str]]]:
+        csv.field_size_limit(sys.maxsize)
+        try:
+            with open(self.path, encoding="utf-8-sig", errors="replace", newline="") as file:
+                rows = (row for row in csv.reader(file) if row)
+                header = [name.strip(" ") for name in next(rows, [])]
+                for name in self.required:
+                    if name not in header:
+                        raise Refused(f"{self.name} has no column {name}")
+                places = [header.index(name) if name in header else len(header) for name in (*self.required, *self.optional)]
+                most = max(places, default=0) + 1
+                for number, row in enumerate(rows, start=2):
+                    row = row[:len(header)] + [""] * (most - min(len(row), len(header)))
+                    yield number, [row[place].strip(" ") for place in places]
+        except (OSError, csv.Error) as fault:
+            raise Refused(f"cannot read {self.name}: {reason_of(fault)}") from None
+
+
+def reason_of(fault: Exception) -> str:
+    """Why a file cannot be read, without its path."""
+    if isinstance(fault, OSError):
+        return str(fault.strerror)
+    return str(fault)
+
+
+def table_of(folder: str, name: str, required: Iterable[str], optional: Iterable[str] = ()) -> Table:
+    """A table of a feed. A folder that is none is refused by what it is."""
+    if os.path.isfile(folder):
+        raise Refused(f"{folder} is a file and no folder: unpack the feed, and give the folder that has stops.txt")
+    return Table(os.path.join(folder, name), required, optional)
+
+
+def has_table(folder: str, name: str) -> bool:
+    """Whether a feed has an optional table with a record."""
+    path = os.path.join(folder, name)
+    return os.path.isfile(path) and os.path.getsize(path) > 0
+
+
+@dataclass(frozen=True)
+class Stop:
+    """A row of stops.txt. The place of a stop or platform is its parent station, where it has one."""
+    number: str
+    name: str
+    kind: str
+    parent: str
+    code: str
+    platform: str
+
+    @property
+    def place(self) -> str:
+        return self.parent if self.kind == STOP and self.parent else self.number
+
+
+def stops_of(folder: str) -> Iterator[Stop]:
+    """The stops of a feed, a row at a time."""
+    optional = ("stop_name", "location_type", "parent_station", "stop_code", "platform_code")
+    for _, (number, name, kind, parent, code, platform) in table_of(folder, "stops.txt", ["stop_id"], optional):
+        yield Stop(number, name, LOCATIONS.get(kind, kind), parent, code, platform)
+
+
+@dataclass(frozen=True)
+class Trip:
+    """A trip with the route that it is of."""
+    number: str
+    route: str
+    service: str
+    sign: str
+    short_name: str
+
+
+@dataclass(frozen=True)
+class Route:
+    """A route as travellers know it, and its type."""
+    number: str
+    kind: str
+    short_name: str
+    long_name: str
+
+    def vehicle(self) -> str:
+        kind = int(self.kind) if self.kind.isascii() and self.kind.isdigit() else -1
+        return VEHICLES.get(kind, EXTENDED.get(kind // 100, "trip"))
+
+
+def trip_of_run(run: str) -> str:
+    """The id of the trip of a run of a feed, whose name is its service date, how it starts, a colon and the trip."""
+    return run.partition(":")[2]
+
+
+def trips_of(folder: str, wanted: Optional[set[str]] = None) -> dict[str, Trip]:
+    """The trips of these ids, or all."""
+    table = table_of(folder, "trips.txt", ["trip_id", "route_id", "service_id"], ["trip_headsign", "trip_short_name"])
+    return {row[0]: Trip(*row) for _, row in table if wanted is None or row[0] in wanted}
+
+
+def routes_of(folder: str, wanted: Optional[set[str]] = None) -> dict[str, Route]:
+    """The routes of these ids, or all."""
+    table = table_of(folder, "routes.txt", ["route_id", "route_type"], ["route_short_name", "route_long_name"])
+    return {row[0]: Route(*row) for _, row in table if wanted is None or row[0] in wanted}
+
+
+def kept_stops(folder: str, wanted: set[str]) -> dict[str, list[str]]:
+    """Of each of these trips the stops of its kept rows, by rising sequence: a row is kept that has a stop and a time."""
+    rows: dict[str, list[tuple[int, str]]] = defaultdict(list)
+    columns = ["trip_id", "stop_id", "stop_sequence", "arrival_time", "departure_time"]
+    for _, (trip, stop, sequence, arrival, departure) in table_of(folder, "stop_times.txt", columns):
+        if trip in wanted and stop and (arrival or departure) and sequence.isascii() and sequence.isdigit():
+            rows[trip].append((int(sequence), stop))
+    return {trip: [stop for _, stop in sorted(of)] for trip, of in rows.items()}
