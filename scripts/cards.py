@@ -1,0 +1,191 @@
+"""The sentences of a card, for text and for a page alike."""
+
+from __future__ import annotations
+
+from dataclasses import dataclass
+from fractions import Fraction
+from typing import Iterator, Union
+
+from arrivals import moment_by
+from names import Names
+from plans import Departures, Leg, Moment, Plan, by_first_arrival, seconds_between
+
+Chances = dict[Moment, Fraction]
+# In how many of 100 cases a card says by when one is there.
+SHARES = (50, 95, 100)
+
+
+class Clock:
+    """Moments as clock times, with the day where it is not that of the start."""
+
+    def __init__(self, start: Moment) -> None:
+        self.day = start.date()
+
+    def time(self, moment: Moment) -> str:
+        text = moment.strftime("%H:%M:%S" if moment.second else "%H:%M")
+        return text if moment.date() == self.day else f"{text} on {self.date(moment)}"
+
+    @staticmethod
+    def date(moment: Moment) -> str:
+        weekday = ("Mon", "Tue", "Wed", "Thu", "Fri", "Sat", "Sun")[moment.weekday()]
+        return f"{weekday} {moment.date().isoformat()}"
+
+
+def span(seconds: int) -> str:
+    """A number of seconds in words."""
+    minutes, rest = divmod(seconds, 60)
+    words = ([f"{minutes} min"] if minutes else []) + ([f"{rest} s"] if rest or not minutes else [])
+    return " ".join(words)
+
+
+def cases(chance: Fraction) -> str:
+    """A chance as cases of 100, never less than it is."""
+    if chance == 0:
+        return "never"
+    hundredths = -(-chance.numerator * 10_000 // chance.denominator)
+    if hundredths == 1 and chance * 10_000 < 1:
+        return "in fewer than 0.01 of 100 cases"
+    whole, rest = divmod(hundredths, 100)
+    digits = f"{whole}.{rest:02}".rstrip("0").rstrip(".")
+    return f"in at most {digits} of 100 cases"
+
+
+@dataclass(frozen=True)
+class Name:
+    """A name from outside, which keeps its own direction of writing."""
+    text: str
+
+
+Words = list[Union[str, Name]]
+
+
+@dataclass
+class Step:
+    """What to take: until when one has to be there for it, empty at the start, and the ride in parts."""
+    until: str
+    ride: Words
+    departure: str
+    target: Words
+    arrival: str
+
+    def words(self) -> Words:
+        """The step as one sentence."""
+        return [*self.ride, f" at {self.departure} to ", *self.target, f", due {self.arrival}"]
+
+
+@dataclass
+class Part:
+    """A place with what to do there."""
+    heading: Words
+    steps: list[Step]
+
+
+def joined(words: Words) -> str:
+    return "".join(word.text if isinstance(word, Name) else word for word in words)
+
+
+class Card:
+    """A card: its title, the sentences at its head, its parts, and the sentences at its foot."""
+    # What the columns of a page are called.
+    columns = ("if you are there by", "take", "at", "to", "due")
+
+    def title(self) -> Words:
+        raise NotImplementedError
+
+    def head(self) -> list[str]:
+        raise NotImplementedError
+
+    def parts(self) -> Iterator[Part]:
+        raise NotImplementedError
+
+    def foot(self) -> list[str]:
+        return []
+
+
+class PlanCard(Card):
+    """The card of a plan."""
+
+    def __init__(self, plan: Plan, names: Names, chances: Chances) -> None:
+        self.plan, self.names, self.chances, self.clock = plan, names, chances, Clock(plan.start)
+        # Sentences that whoever makes the card adds to its head.
+        self.more: list[str] = []
+
+    def title(self) -> Words:
+        return [Name(self.names.place(self.plan.source)), " to ", Name(self.names.place(self.plan.target))]
+
+    def head(self) -> list[str]:
+        plan, time = self.plan, self.clock.time
+        lines = [f"{self.clock.date(plan.start)}, from {time(plan.start)} on."]
+        if plan.first is None:
+            return [*lines, "You are there already."]
+        lines.append(f"There at {time(plan.expected.middle())} on average.")
+        lines.append(self.promised() if self.chances else f"Whatever the delays, not later than {time(plan.deadline)}.")
+        if plan.promise:
+            lines.append(f"Later than {time(plan.promise.moment)} {cases(plan.promise.upper)}.")
+        return lines + self.more
+
+    def promised(self) -> str:
+        """By when one is there, in how many of 100 cases."""
+        by_share: dict[Moment, int] = {}
+        for share in SHARES:
+            by_share[moment_by(self.chances, Fraction(share, 100))] = share
+        words = [f"by {self.clock.time(moment)} in {share if share < 100 else 'all'}" for moment, share in by_share.items()]
+        words[0] += " cases" if next(iter(by_share.values())) == 100 else " of 100 cases"
+        last = f" and {words.pop()}" if len(words) > 1 else ""
+        return f"There {', '.join(words)}{last}."
+
+    def ride(self, leg: Leg, place: str) -> Words:
+        """What is ridden, with the walk before it and the platform from which it leaves."""
+        words: Words = []
+        if leg.entry != place:
+            walk = span(seconds_between(leg.by, leg.departure))
+            words += [f"walk {walk} to ", Name(self.names.other_place(leg.entry, place)), ", "]
+        words.append(Name(self.names.run(leg.run)))
+        platform = self.names.entry_platform(leg)
+        return [*words, " from platform ", Name(platform)] if platform else words
+
+    def step(self, leg: Leg, place: str, until: str) -> Step:
+        target: Words = [Name(self.names.other_place(leg.exit, leg.entry))]
+        platform = self.names.exit_platform(leg)
+        if platform:
+            target += [" (platform ", Name(platform), ")"]
+        return Step(until, self.ride(leg, place), self.clock.time(leg.departure), target, self.clock.time(leg.arrival))
+
+    def parts(self) -> Iterator[Part]:
+        if self.plan.first is None:
+            return
+        source = self.plan.source
+        yield Part(["At ", Name(self.names.place(source))], [self.step(self.plan.first, source, "")])
+        for place in by_first_arrival(self.plan):
+            steps = [self.step(leg, place.name, self.clock.time(leg.by)) for leg in place.legs]
+            yield Part(["At ", Name(self.names.place(place.name)), f" (a change takes {span(place.change)})"], steps)
+
+    def foot(self) -> list[str]:
+        if not self.plan.places:
+            return []
+        return ["At each place take the first row that you are in time for.",
+                "Where no row is left, a trip was later than the delay table knows: ask again from there."]
+
+
+class DepartureCard(Card):
+    """The card of a table of departures."""
+    columns = ("set out by", "take", "at", "to", "there on average")
+
+    def __init__(self, departures: Departures, names: Names) -> None:
+        self.departures, self.names, self.clock = departures, names, Clock(departures.first)
+
+    def title(self) -> Words:
+        return [Name(self.names.place(self.departures.source)), " to ", Name(self.names.place(self.departures.target))]
+
+    def head(self) -> list[str]:
+        found, time = self.departures, self.clock.time
+        lines = [f"{self.clock.date(found.first)}, from {time(found.first)} to {time(found.last)}.",
+                 f"Each departure arrives by {time(found.deadline)} whatever the delays."]
+        return lines if found.rows else [*lines, "There is none."]
+
+    def parts(self) -> Iterator[Part]:
+        target: Words = [Name(self.names.place(self.departures.target))]
+        steps = [Step(self.clock.time(row.moment), [Name(self.names.run(row.run))], self.clock.time(row.moment), target,
+                      self.clock.time(row.expected.middle())) for row in self.departures.rows]
+        if steps:
+            yield Part(["Departures"], steps)

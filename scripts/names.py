@@ -1,0 +1,85 @@
+"""What places and runs are called, from the tables of a feed where there is one."""
+
+from __future__ import annotations
+
+from typing import Optional
+
+from feeds import ENTRANCE, NODE, Route, Stop, Trip, kept_stops, routes_of, stops_of, trip_of_run, trips_of
+from plans import Departures, Leg, Plan
+
+
+class Names:
+    """What the places and runs of a text are called. Only the rows of a feed that the text names are kept."""
+
+    def __init__(self, folder: Optional[str], places: set[str], runs: set[str]) -> None:
+        self.stops: dict[str, Stop] = {}
+        self.trips: dict[str, Trip] = {}
+        self.routes: dict[str, Route] = {}
+        self.ridden: dict[str, list[str]] = {}
+        if folder is None:
+            return
+        has_platforms = False
+        for stop in stops_of(folder):
+            if stop.number in places or stop.place in places and stop.kind not in (ENTRANCE, NODE):
+                self.stops[stop.number] = stop
+                has_platforms = has_platforms or bool(stop.platform)
+        trips = {trip_of_run(run) for run in runs}
+        self.trips = trips_of(folder, trips)
+        self.routes = routes_of(folder, {trip.route for trip in self.trips.values()})
+        if has_platforms:
+            self.ridden = kept_stops(folder, trips)
+
+    @staticmethod
+    def of_plan(folder: Optional[str], plan: Plan) -> Names:
+        places = {plan.source, plan.target} | {name for leg in plan.legs() for name in (leg.entry, leg.exit)}
+        return Names(folder, places, {leg.run for leg in plan.legs()})
+
+    @staticmethod
+    def of_departures(folder: Optional[str], departures: Departures) -> Names:
+        return Names(folder, {departures.source, departures.target}, {row.run for row in departures.rows})
+
+    def place(self, place: str) -> str:
+        """A place by its name."""
+        stop = self.stops.get(place)
+        return plain(stop.name) if stop and stop.name else plain(place)
+
+    def other_place(self, place: str, beside: str) -> str:
+        """A place by its name; by its code or id too, where the place beside it has the same name."""
+        name = self.place(place)
+        if name != self.place(beside) or place not in self.stops:
+            return name
+        return f"{name} ({plain(self.stops[place].code or place)})"
+
+    def run(self, run: str) -> str:
+        """A run as a traveller knows it: its vehicle and line, with the trip's number and headsign."""
+        trip = self.trips.get(trip_of_run(run))
+        if trip is None:
+            return plain(run)
+        route = self.routes.get(trip.route)
+        line = (route and (route.short_name or route.long_name)) or trip.short_name or trip.number
+        vehicle = route.vehicle() if route else "trip"
+        number = f" ({plain(trip.short_name)})" if trip.short_name and trip.short_name != line else ""
+        sign = plain(trip.sign)
+        towards = "" if not sign else f" {sign}" if sign.lower().startswith("to ") else f" towards {sign}"
+        return f"{vehicle} {plain(line)}{number}{towards}"
+
+    def platform(self, run: str, row: int) -> str:
+        """The platform at which a run stops at a kept row of its trip, empty where none is told."""
+        stops = self.ridden.get(trip_of_run(run), [])
+        stop = self.stops.get(stops[row]) if row < len(stops) else None
+        return plain(stop.platform) if stop else ""
+
+    def entry_platform(self, leg: Leg) -> str:
+        return self.platform(leg.run, leg.entry_step)
+
+    def exit_platform(self, leg: Leg) -> str:
+        return self.platform(leg.run, leg.exit_step + 1)
+
+
+def plain(text: str) -> str:
+    """A name in one line: control characters and line ends become spaces."""
+    return " ".join("".join(letter if letter.isprintable() or letter in FORMATS else " " for letter in text).split())
+
+
+# Characters that are not printed and belong to names all the same: joiners of scripts and emoji.
+FORMATS = "\u200c\u200d"

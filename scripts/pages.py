@@ -1,0 +1,61 @@
+"""A card as one page of HTML, without scripts: for a phone, for paper, in light and dark."""
+
+from __future__ import annotations
+
+import html
+
+from cards import Card, Name, Step, Words, joined
+
+STYLE = """
+:root { color-scheme: light dark; }
+body { font: 1.05rem/1.45 system-ui, sans-serif; max-width: 44rem; margin: 0 auto; padding: 1rem; overflow-wrap: anywhere;
+  color: #111; background: #fff; }
+h1 { font-size: 1.4rem; margin: 0 0 .5rem; }
+h2 { font-size: 1.1rem; margin: 1.4rem 0 .4rem; border-bottom: 2px solid; }
+p { margin: .2rem 0; }
+table { width: 100%; border-collapse: collapse; }
+th, td { text-align: left; vertical-align: top; padding: .35rem .5rem .35rem 0; border-bottom: 1px solid #bbb; }
+th { font-size: .9rem; font-weight: 600; }
+td.time { white-space: nowrap; font-variant-numeric: tabular-nums; }
+footer { margin-top: 1.5rem; font-size: .95rem; }
+@media (prefers-color-scheme: dark) { body { color: #eee; background: #111; } th, td { border-color: #555; } }
+@media (max-width: 30rem) { td.time { white-space: normal; } }
+@media print {
+  body { font-size: 11pt; padding: 0; color: #000; background: #fff; }
+  tr { break-inside: avoid; }
+  h2 { break-after: avoid; }
+}
+"""
+
+
+def marked(words: Words) -> str:
+    """Words with their names set apart, so that a name written from right to left does not turn what stands beside it."""
+    return "".join(f"<bdi>{html.escape(word.text)}</bdi>" if isinstance(word, Name) else html.escape(word) for word in words)
+
+
+def row_of(step: Step, has_until: bool) -> str:
+    until = f'<td class="time">{html.escape(step.until)}</td>' if has_until else ""
+    return (f'<tr>{until}<td>{marked(step.ride)}</td><td class="time">{html.escape(step.departure)}</td>'
+            f'<td>{marked(step.target)}</td><td class="time">{html.escape(step.arrival)}</td></tr>')
+
+
+def table_of(card: Card, steps: list[Step]) -> list[str]:
+    has_until = any(step.until for step in steps)
+    heads = card.columns if has_until else card.columns[1:]
+    head = "".join(f'<th scope="col">{html.escape(text)}</th>' for text in heads)
+    rows = [row_of(step, has_until) for step in steps]
+    return ["<table>", f"<thead><tr>{head}</tr></thead>", "<tbody>", *rows, "</tbody>", "</table>"]
+
+
+def as_page(card: Card) -> str:
+    title = joined(card.title())
+    parts = ["<!DOCTYPE html>", '<html lang="en">', "<head>", '<meta charset="utf-8">',
+             '<meta name="viewport" content="width=device-width, initial-scale=1">', f"<title>{html.escape(title)}</title>",
+             f"<style>{STYLE}</style>", "</head>", "<body>", "<main>", f"<h1>{marked(card.title())}</h1>"]
+    parts += [f"<p>{html.escape(line)}</p>" for line in card.head()]
+    for part in card.parts():
+        parts += ["<section>", f"<h2>{marked(part.heading)}</h2>", *table_of(card, part.steps), "</section>"]
+    parts.append("</main>")
+    if card.foot():
+        parts += ["<footer>", *(f"<p>{html.escape(line)}</p>" for line in card.foot()), "</footer>"]
+    return "\n".join([*parts, "</body>", "</html>"]) + "\n"
