@@ -1,0 +1,225 @@
+"""Observed arrivals, read from a table: how late each was, and of which route type, route and hour."""
+
+from __future__ import annotations
+
+import csv
+import datetime
+import io
+import re
+import sys
+from dataclasses import dataclass
+from fractions import Fraction
+from typing import Optional
+
+from feeds import routes_of, trips_of
+from plans import Refused
+
+MOST_DELAY = 86_400
+MOST_ROUTE_TYPE = 65_534
+DAY = 86_400
+# The columns of a delay file that name a group beside its class.
+GROUP_COLUMNS = ("route_id", "hour")
+NUMBER = re.compile(r"-?\d{1,9}(\.\d{1,9})?", re.ASCII)
+TIME = re.compile(r"(\d{1,3}):(\d\d)(?::(\d\d)(?:\.\d+)?)?", re.ASCII)
+MOMENT = re.compile(r"(\d{4})-(\d\d)-(\d\d)[T ](\d\d):(\d\d)(?::(\d\d)(?:\.\d+)?)?(Z|[+-]\d\d:?\d\d)?", re.ASCII)
+DOTTED = re.compile(r"(\d{1,2})\.(\d{1,2})\.(\d{4}) (\d\d):(\d\d)(?::(\d\d)(?:\.\d+)?)?", re.ASCII)
+
+
+@dataclass(frozen=True)
+class Observation:
+    """The route type, the route and the hour of an arrival, empty where they are not known, and the seconds that it was late."""
+    kind: str
+    route: str
+    hour: str
+    late: int
+
+
+@dataclass(frozen=True)
+class Columns:
+    """Where a table says how late an arrival was, and the feed that knows the routes of its trips."""
+    late: str
+    due: Optional[str]
+    actual: Optional[str]
+    feed: Optional[str]
+
+    def needed(self) -> list[str]:
+        times = [self.late] if self.due is None or self.actual is None else [self.due, self.actual]
+        return times + (["trip_id"] if self.feed is not None else [])
+
+
+@dataclass(frozen=True)
+class Clock:
+    """A time: its seconds, counted from a day that is known or not, and whether they are a plain number."""
+    seconds: int
+    has_day: bool
+    is_number: bool = False
+
+    def hour(self) -> str:
+        return "" if self.is_number else str(self.seconds // 3600 % 24)
+
+
+class Bad(Exception):
+    """Why an observation is bad."""
+
+
+def clock_of(text: str) -> Clock:
+    """The time of a text: a number of seconds, a time of the day, or a moment with or without a zone."""
+    if NUMBER.fullmatch(text):
+        return Clock(whole_of(text), has_day=False, is_number=True)
+    time = TIME.fullmatch(text)
+    if time and int(time[2]) < 60 and int(time[3] or 0) < 60:
+        return Clock(int(time[1]) * 3600 + int(time[2]) * 60 + int(time[3] or 0), has_day=False)
+    moment, dotted = MOMENT.fullmatch(text), DOTTED.fullmatch(text)
+    try:
+        if moment:
+            return Clock(seconds_of(moment[1], moment[2], moment[3], moment[4], moment[5], moment[6]), has_day=True)
+        if dotted:
+            return Clock(seconds_of(dotted[3], dotted[2], dotted[1], dotted[4], dotted[5], dotted[6]), has_day=True)
+    except ValueError:
+        pass
+    raise Bad(f"{text!r} is no time")
+
+
+def seconds_of(*parts: Optional[str]) -> int:
+    """The seconds of a civil moment from 1970-01-01 on, by its year, month, day, hour, minute and second."""
+    year, month, day, hour, minute, second = (int(part or 0) for part in parts)
+    return int((datetime.datetime(year, month, day, hour, minute, second) - datetime.datetime(1970, 1, 1)).total_seconds())
+
+
+def whole_of(text: str) -> int:
+    """A number of seconds, rounded up, so that no delay counts as less than it was."""
+    number = Fraction(text)
+    return -(-number.numerator // number.denominator)
+
+
+def zone_of(text: str) -> int:
+    """The seconds by which the zone of a moment is ahead, 0 where it tells none."""
+    found = MOMENT.fullmatch(text)
+    zone = found[7] if found else None
+    if zone is None or zone == "Z":
+        return 0
+    digits = zone[1:].replace(":", "")
+    return (1 if zone[0] == "+" else -1) * (int(digits[:2]) * 3600 + int(digits[2:]) * 60)
+
+
+def between(due: str, actual: str) -> tuple[int, str]:
+    """The seconds from a due time to an actual one, and the hour of the due one. Times of the day are the nearest ones."""
+    first, last = clock_of(due), clock_of(actual)
+    if first.has_day != last.has_day or first.is_number != last.is_number:
+        raise Bad(f"{due!r} and {actual!r} are not of one form")
+    late = last.seconds - first.seconds
+    if first.has_day:
+        late -= zone_of(actual) - zone_of(due)
+    elif not first.is_number:
+        late = (late + DAY // 2) % DAY - DAY // 2
+    return late, first.hour()
+
+
+class Observations:
+    """The observations of a table, with what was bad in it."""
+
+    def __init__(self, columns: Columns, delimiter: str, skips_bad: bool) -> None:
+        self.columns_read, self.delimiter, self.skips_bad = columns, delimiter, skips_bad
+        self.found: list[Observation] = []
+        self.columns: list[str] = []
+        self.early = self.bad = self.unknown = self.left_out = 0
+        self.earliest = 0
+        self.first_bad = ""
+        self.routes: dict[str, tuple[str, str]] = {}
+
+    def read(self, text: str) -> None:
+        """Takes the observations of a text."""
+        csv.field_size_limit(sys.maxsize)
+        try:
+            rows = (row for row in csv.reader(io.StringIO(text, newline=""), delimiter=self.delimiter, strict=True) if row)
+            header = [name.strip(" ") for name in next(rows, [])]
+            for name in self.columns_read.needed():
+                if name not in header:
+                    raise Refused(f"there is no column {name}; the columns are {', '.join(header) or 'none'}")
+            self.prepare(header)
+            for number, row in enumerate(rows, start=2):
+                fields = [field.strip(" ") for field in row] + [""] * (len(header) - len(row))
+                self.take(number, dict(zip(reversed(header), reversed(fields[:len(header)]))))
+        except csv.Error as fault:
+            raise Refused(f"the text is no table: {fault}") from None
+
+    def prepare(self, header: list[str]) -> None:
+        """What is known of the groups: the columns that the delay file has, and the routes of the feed's trips."""
+        columns = self.columns_read
+        if columns.feed is not None:
+            kinds = {route.number: route.kind for route in routes_of(columns.feed).values()}
+            self.routes = {trip.number: (kinds.get(trip.route, ""), trip.route) for trip in trips_of(columns.feed).values()}
+        known = {"route_id": columns.feed is not None, "hour": columns.due is not None}
+        self.columns = [name for name in GROUP_COLUMNS if name in header or known[name]]
+
+    def take(self, number: int, row: dict[str, str]) -> None:
+        try:
+            observation = self.observation(row)
+        except Bad as fault:
+            if not self.skips_bad:
+                raise Refused(f"line {number}: {fault}") from None
+            self.first_bad = self.first_bad or f"line {number}: {fault}"
+            self.bad += 1
+        else:
+            self.found.append(observation)
+
+    def observation(self, row: dict[str, str]) -> Observation:
+        columns = self.columns_read
+        if columns.due is not None and columns.actual is not None:
+            late, hour = between(row[columns.due], row[columns.actual])
+        else:
+            text, hour = row[columns.late], ""
+            if not NUMBER.fullmatch(text):
+                raise Bad(f"{text!r} is no number of seconds")
+            late = whole_of(text)
+        if late > MOST_DELAY:
+            raise Bad(f"{late} seconds are more than a day")
+        kind, route = row.get("route_type", ""), row.get("route_id", "")
+        if columns.feed is not None:
+            known = self.routes.get(row["trip_id"])
+            self.unknown += known is None
+            kind, route = known or (kind, route)
+        hour = number_of(row.get("hour", ""), 10**5, "hour", 24) or hour
+        kind = number_of(kind, MOST_ROUTE_TYPE, "route_type", None)
+        self.early += late < 0
+        self.earliest = min(self.earliest, late)
+        return Observation(kind, route, hour, max(late, 0))
+
+    def leave_out(self, share: float) -> list[int]:
+        """Leaves out the latest of 100, and gives their delays, rising."""
+        count = int(len(self.found) * Fraction(str(share)) / 100)
+        if not count:
+            return []
+        order = sorted(range(len(self.found)), key=lambda at: self.found[at].late)
+        gone = set(order[-count:])
+        left_out = [self.found[at].late for at in order[-count:]]
+        self.found = [observation for at, observation in enumerate(self.found) if at not in gone]
+        self.left_out = count
+        return left_out
+
+    def summary(self, groups: int) -> str:
+        """What there was, in one line."""
+        words = [f"{len(self.found) + self.left_out + self.bad} observations"]
+        if self.early:
+            words.append(f"{self.early} early, up to {-self.earliest} seconds, which count as on time")
+        if self.bad:
+            words.append(f"{self.bad} bad and passed over, the first at {self.first_bad}")
+        if self.unknown:
+            words.append(f"{self.unknown} of trips that the feed does not have")
+        if self.left_out:
+            words.append(f"{self.left_out} left out")
+        words.append(f"{groups} group{'s' if groups != 1 else ''}")
+        words.append(f"greatest delay {max(observation.late for observation in self.found)} seconds")
+        if len({observation.late for observation in self.found}) == 1:
+            words.append("all alike: plans will rely on it")
+        return "; ".join(words)
+
+
+def number_of(text: str, most: int, name: str, fold: Optional[int]) -> str:
+    """A whole number of a field, as it is written without leading zeros, folded where it counts on; empty where the field is."""
+    if not text:
+        return ""
+    whole = text[:-2] if text.endswith(".0") else text
+    if not re.fullmatch(r"\d{1,5}", whole, re.ASCII) or int(whole) > most:
+        raise Bad(f"{text!r} is no {name}")
+    return str(int(whole) % fold if fold else int(whole))

@@ -1,0 +1,69 @@
+"""The outcomes of a group of observed delays: at most so many values, never less than what was observed, with their weights."""
+
+from __future__ import annotations
+
+import heapq
+from collections import Counter
+
+WHOLE = 10_000
+
+
+def outcomes_of(delays: list[int], most: int, multiple: int) -> list[tuple[int, int]]:
+    """The delays that stand for these, rising, each with its weight of 10,000."""
+    values = values_of(delays, most, multiple)
+    return list(zip((value for value, _ in values), weights_of([count for _, count in values])))
+
+
+def values_of(delays: list[int], most: int, multiple: int) -> list[tuple[int, int]]:
+    """At most so many values, each with how many delays it stands for: the delays themselves where they are few, else rounded up
+    to a multiple, but not above the greatest, and merged."""
+    exact = sorted(Counter(delays).items())
+    if len(exact) <= most:
+        return exact
+    greatest = exact[-1][0]
+    rounded: Counter[int] = Counter()
+    for value, count in exact:
+        rounded[min(-(-value // multiple) * multiple, greatest)] += count
+    return merged(sorted(rounded.items()), most)
+
+
+def merged(values: list[tuple[int, int]], most: int) -> list[tuple[int, int]]:
+    """Merges a value into the next greater one, where that adds the fewest seconds in all, until so many are left."""
+    delays, counts = [delay for delay, _ in values], [count for _, count in values]
+    later = [at + 1 for at in range(len(values))]
+    sooner = [at - 1 for at in range(len(values))]
+
+    def added(at: int) -> int:
+        return (delays[later[at]] - delays[at]) * counts[at]
+
+    steps = [(added(at), at) for at in range(len(values) - 1)]
+    heapq.heapify(steps)
+    kept = set(range(len(values)))
+    while len(kept) > most:
+        cost, at = heapq.heappop(steps)
+        if at not in kept or cost != added(at):
+            continue
+        kept.remove(at)
+        up, down = later[at], sooner[at]
+        counts[up] += counts[at]
+        sooner[up] = down
+        if down >= 0:
+            later[down] = up
+            heapq.heappush(steps, (added(down), down))
+        if later[up] < len(values):
+            heapq.heappush(steps, (added(up), up))
+    return [(delays[at], counts[at]) for at in sorted(kept)]
+
+
+def weights_of(counts: list[int]) -> list[int]:
+    """Shares of 10,000 that add up, by the largest remainders; each is at least 1, which the largest shares pay for."""
+    total = sum(counts)
+    shares = [max(1, count * WHOLE // total) for count in counts]
+    spare = WHOLE - sum(shares)
+    by_remainder = sorted(range(len(counts)), key=lambda at: (-(counts[at] * WHOLE % total), at))
+    for at in by_remainder[:max(spare, 0)]:
+        shares[at] += 1
+    while spare < 0:
+        shares[max(range(len(shares)), key=lambda at: (shares[at], -at))] -= 1
+        spare += 1
+    return shares
