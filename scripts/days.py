@@ -1,0 +1,89 @@
+"""The service days of a feed: how many trips run on each, by calendar.txt and calendar_dates.txt."""
+
+from __future__ import annotations
+
+import datetime
+from collections import Counter, defaultdict
+from typing import Iterator
+
+from feeds import has_table, table_of
+
+Date = datetime.date
+ONE_DAY = datetime.timedelta(days=1)
+WEEKDAYS = ("monday", "tuesday", "wednesday", "thursday", "friday", "saturday", "sunday")
+SHORT = ("Mon", "Tue", "Wed", "Thu", "Fri", "Sat", "Sun")
+
+
+def date_of(text: str) -> Date:
+    return datetime.datetime.strptime(text, "%Y%m%d").date()
+
+
+class Services:
+    """On which days each service runs: those of its calendar and the ones that are added, less the ones that are removed."""
+
+    def __init__(self, folder: str) -> None:
+        self.periods: dict[str, tuple[list[bool], Date, Date]] = {}
+        self.added: dict[str, set[Date]] = defaultdict(set)
+        self.removed: dict[str, set[Date]] = defaultdict(set)
+        if has_table(folder, "calendar.txt"):
+            columns = ["service_id", *WEEKDAYS, "start_date", "end_date"]
+            for _, (service, *flags, first, last) in table_of(folder, "calendar.txt", columns):
+                self.periods[service] = [flag == "1" for flag in flags], date_of(first), date_of(last)
+        if has_table(folder, "calendar_dates.txt"):
+            for _, (service, date, kind) in table_of(folder, "calendar_dates.txt", ["service_id", "date", "exception_type"]):
+                (self.added if kind == "1" else self.removed)[service].add(date_of(date))
+
+    def __contains__(self, service: str) -> bool:
+        return service in self.periods or service in self.added or service in self.removed
+
+    def runs_on(self, service: str, date: Date) -> bool:
+        if date in self.removed.get(service, ()):
+            return False
+        if date in self.added.get(service, ()):
+            return True
+        if service not in self.periods:
+            return False
+        flags, first, last = self.periods[service]
+        return first <= date <= last and flags[date.weekday()]
+
+    def days(self, service: str) -> Iterator[Date]:
+        """The days on which a service runs, in no order."""
+        flags, first, last = self.periods.get(service, ([], Date.max, Date.min))
+        date = first
+        while date <= last:
+            if flags[date.weekday()] and date not in self.removed[service]:
+                yield date
+            date += ONE_DAY
+        for date in self.added[service] - self.removed[service]:
+            if service not in self.periods or not (first <= date <= last and flags[date.weekday()]):
+                yield date
+
+
+def trips_by_service(folder: str) -> Counter[str]:
+    """How many trips each service has."""
+    return Counter(service for _, (_, service) in table_of(folder, "trips.txt", ["trip_id", "service_id"]))
+
+
+def trips_by_day(services: Services, trips: Counter[str]) -> dict[Date, int]:
+    """How many trips run on each day on which one does, rising."""
+    counts: Counter[Date] = Counter()
+    for service, count in trips.items():
+        for date in services.days(service):
+            counts[date] += count
+    return dict(sorted(counts.items()))
+
+
+def weeks_of(counts: dict[Date, int]) -> Iterator[tuple[Date, Date, list[int]]]:
+    """The first and the last day of equal weeks in a row, with the trips of each weekday. Days without trips have 0."""
+    if not counts:
+        return
+    first, last = min(counts), max(counts)
+    monday = first - first.weekday() * ONE_DAY
+    begun, before = first, [counts.get(monday + at * ONE_DAY, 0) for at in range(7)]
+    while monday <= last:
+        week = [counts.get(monday + at * ONE_DAY, 0) for at in range(7)]
+        if week != before:
+            yield begun, monday - ONE_DAY, before
+            begun, before = monday, week
+        monday += 7 * ONE_DAY
+    yield begun, last, before

@@ -1,0 +1,68 @@
+"""Questions to the program about one journey over a feed."""
+
+from __future__ import annotations
+
+import datetime
+from typing import Optional
+
+from commands import ask
+from plans import Latest, Moment, Refused, Safe, moment_text, read, seconds_between
+
+# The greatest value of --horizon, in hours, and the least and the greatest of --alpha, in percent.
+HOURS = 72
+LEAST_ALPHA, MOST_ALPHA = 100, 1000
+# The first and the last moment that --at takes.
+FIRST, LAST = Moment(1970, 1, 8), Moment(2399, 12, 31, 23, 59, 59)
+
+
+class Journey:
+    """A source, a target and a start over a feed, with the hours of departures that count."""
+
+    def __init__(self, feed: str, delays: str, source: str, target: str, start: Moment, horizon: int = 24) -> None:
+        self.feed, self.delays, self.source, self.target = feed, delays, source, target
+        self.start, self.horizon = start, horizon
+
+    def words(self, command: str) -> list[str]:
+        return [command, "--feed", self.feed, "--delays", self.delays, "--from", self.source, "--to", self.target,
+                "--at", moment_text(self.start), "--horizon", str(self.horizon)]
+
+    def safe(self) -> Optional[Safe]:
+        """The least worst arrival, where some strategy always arrives."""
+        answer = ask(self.words("safe"))
+        found = read(answer.text) if answer.status == 0 else None
+        return found if isinstance(found, Safe) else None
+
+    def plan(self, alpha: int) -> Optional[str]:
+        """The text of a plan, where there is one."""
+        answer = ask([*self.words("plan"), "--alpha", str(alpha)])
+        return answer.text if answer.status == 0 else None
+
+    def latest(self, deadline: Moment) -> Optional[Moment]:
+        """The latest moment from the start on at which one can leave and be there by a deadline, whatever the delays. The
+        departures up to the deadline count."""
+        hours = max(1, min(HOURS, hours_to(self.start, deadline)))
+        words = self.words("latest")
+        words[words.index("--horizon") + 1] = str(hours)
+        answer = ask([*words, "--until", moment_text(deadline)])
+        found = read(answer.text) if answer.status == 0 else None
+        return found.moment if isinstance(found, Latest) else None
+
+
+def hours_to(first: Moment, last: Moment) -> int:
+    """The hours from one moment to another, rounded up."""
+    return -(-max(0, seconds_between(first, last)) // 3600)
+
+
+def alpha_within(safe: Safe, by: Moment) -> int:
+    """The greatest percentage whose deadline is not after a moment that is not before the least worst arrival."""
+    least, most = seconds_between(safe.start, safe.worst), seconds_between(safe.start, by)
+    if most < least:
+        raise Refused("no deadline is so soon")
+    if least == 0:
+        return MOST_ALPHA
+    # The deadline is the start and so many percent of the least time, rounded down to a second.
+    return max(LEAST_ALPHA, min(MOST_ALPHA, ((most + 1) * 100 - 1) // least))
+
+
+def day_before(moment: Moment) -> Moment:
+    return max(FIRST, moment - datetime.timedelta(days=1))

@@ -1,0 +1,122 @@
+"""Tests of ask: stops by name, plans within a deadline of one's own, and why there is none."""
+
+from __future__ import annotations
+
+import unittest
+from random import Random
+
+from support import OLD_TOWN, USUAL, WALK, Case, Ran, call, made_feed, meat
+
+from journeys import alpha_within, hours_to
+from plans import Moment, Safe, read, read_plan
+
+FEED, DELAYS = f"{OLD_TOWN}/feed", f"{OLD_TOWN}/delays.csv"
+
+
+class Stops(Case):
+    def ask(self, source: str, target: str, *more: str) -> Ran:
+        return call("ask", "", FEED, DELAYS, source, target, "2024-06-03T08:00", *more)
+
+    def test_by_name_or_id(self) -> None:
+        for source in ("MIL", "mill", "Mil"):
+            ran = self.ask(source, "AIRPORT")
+            self.assertEqual(ran.status, 0, ran.told)
+            self.assertIn("There by 08:50 in 50 of 100 cases, by 09:06 in 95 and by 09:21 in all.\n", ran.printed)
+        self.assertTrue(self.ask("MIL", "old town").printed.startswith("Mill to Old Town, Square\n"))
+        self.assertIn("<main>", self.ask("MIL", "AIR", "--html").printed)
+
+    def test_what_is_unknown_or_many(self) -> None:
+        self.is_refused(self.ask("nowhere", "AIR"), "FROM: there is no stop nowhere")
+        self.is_refused(self.ask("MIL", "a"), "TO: a may be AIR (stop of Airport), HLF (stop of Halfway), S,1 (station of Old Town, Square); give the id")
+
+    def test_moments(self) -> None:
+        for when in ("2024-06-03 8:00", "2024-06-03T08:00:00"):
+            self.assertEqual(call("ask", "", FEED, DELAYS, "MIL", "AIR", when).status, 0)
+        for when in ("2024-06-03T08:61", "2024-13-03T08:00", "now", "2024-06-03"):
+            self.is_refused(call("ask", "", FEED, DELAYS, "MIL", "AIR", when), "WHEN: ")
+        # A time is of today, for which the feed has no trips.
+        self.is_refused(call("ask", "", FEED, DELAYS, "MIL", "AIR", "08:00"), "the feed has trips from 2024-01-01 to 2024-12-31")
+
+
+class By(Case):
+    def test_a_plan_within_it(self) -> None:
+        ran = call("ask", "", FEED, DELAYS, "MIL", "AIR", "2024-06-03T07:00", "--by", "09:30")
+        self.assertEqual(ran.status, 0, ran.told)
+        self.assertIn("To be there by 09:30 whatever the delays, leave by 08:00.\n", ran.printed)
+
+    def test_too_soon(self) -> None:
+        ran = call("ask", "", FEED, DELAYS, "MIL", "AIR", "2024-06-03T08:00", "--by", "09:20")
+        self.is_refused(ran, "not even from the day before on")
+        sooner = call("ask", "", FEED, DELAYS, "MIL", "AIR", "2024-06-04T08:01", "--by", "2024-06-04T09:30")
+        self.is_refused(sooner, "leave by 08:00: ask for 2024-06-04T08:00:00")
+        self.is_refused(call("ask", "", FEED, DELAYS, "MIL", "AIR", "2024-06-03T08:00", "--by", "07:00"), "--by is before the start")
+
+    def test_the_greatest_alpha(self) -> None:
+        made = Random(5)
+        for _ in range(2000):
+            start = Moment(2024, 6, 3, 8)
+            worst, by = sorted(Moment(2024, 6, 3 + made.randrange(0, 3), made.randrange(8, 24), made.randrange(60), made.randrange(60))
+                               for _ in range(2))
+            alpha = alpha_within(Safe("A", "T", start, worst, worst), by)
+            least, most = int((worst - start).total_seconds()), int((by - start).total_seconds())
+            self.assertTrue(100 <= alpha <= 1000 and least * alpha // 100 <= most)
+            self.assertTrue(alpha == 1000 or least * (alpha + 1) // 100 > most)
+        self.assertEqual((hours_to(Moment(2024, 6, 3), Moment(2024, 6, 3, 1)), hours_to(Moment(2024, 6, 3), Moment(2024, 6, 3, 1, 0, 1))), (1, 2))
+
+    def test_the_deadline_is_kept(self) -> None:
+        found = 0
+        for number in range(40):
+            feed = self.feed(str(number), **made_feed(Random(number)))
+            words = ["--feed", feed, "--delays", self.write("usual.csv", USUAL), "--from", "S0", "--to", "S1", "--at", "2024-06-03T08:00:00"]
+            safe = meat("safe", *words)
+            if safe.status:
+                continue
+            known = read(safe.printed)
+            assert isinstance(known, Safe)
+            by = known.worst + (known.worst - known.start) / 7
+            by = by.replace(microsecond=0)
+            plan = read_plan(meat("plan", *words, "--alpha", str(alpha_within(known, by))).printed)
+            self.assertLessEqual(plan.deadline, by)
+            self.assertEqual(call("ask", "", feed, words[3], "S0", "S1", "2024-06-03T08:00", "--by", str(by)).status, 0)
+            found += 1
+        self.assertGreater(found, 10)
+
+
+class Why(Case):
+    """Each cause that is known is told."""
+
+    def why(self, feed: str, source: str, target: str, *more: str, when: str = "2024-06-03T08:00", delays: str = DELAYS) -> str:
+        ran = call("ask", "", feed, delays, source, target, when, *more)
+        self.is_refused(ran, "no safe strategy: ")
+        return ran.told
+
+    def test_days(self) -> None:
+        self.assertIn("no trip runs on 2024-06-09", self.why(FEED, "MIL", "AIR", "--horizon", "12", when="2024-06-09T08:00"))
+        self.assertIn("no trip runs on 2030-06-03", self.why(FEED, "MIL", "AIR", when="2030-06-03T08:00"))
+
+    def test_entrances_and_places_without_trips(self) -> None:
+        stops = "stop_id,stop_name,location_type,parent_station\nA,A,,\nE,Entrance,2,S\nS,Station,1,\nB,B,,S\nX,Alone,,\n"
+        feed = self.feed("feed", stops=stops, routes="route_id,route_type\nR,3\n", trips="route_id,service_id,trip_id\nR,WK,t\n",
+                         stop_times="trip_id,stop_sequence,stop_id,arrival_time,departure_time\nt,1,A,8:10:00,8:10:00\nt,2,B,8:20:00,8:20:00\n")
+        self.assertIn("E is an entrance; ask to S", self.why(feed, "A", "E"))
+        self.assertIn("no trip stops at Alone", self.why(feed, "A", "X"))
+        self.assertIn("there is no way from Station to A within 72 hours", self.why(feed, "S", "A"))
+
+    def test_walks(self) -> None:
+        there = f"{WALK}/there"
+        self.assertIn("the last way would be a walk of 300 seconds from X1", self.why(there, "A", "X2", delays=f"{WALK}/delays.csv"))
+        self.assertIn("the first way would be a walk of 300 seconds to X2", self.why(there, "X1", "T", delays=f"{WALK}/delays.csv",
+                                                                                      when="2024-06-03T08:00"))
+
+    def test_a_longer_window_and_delays(self) -> None:
+        self.assertIn("ask with --horizon 72", self.why(FEED, "MIL", "AIR", "--horizon", "1", when="2024-06-03T06:30"))
+        strict = self.write("strict.csv", "class,delay,weight\n*,0,5000\n*,86400,5000\n")
+        told = self.why(FEED, "MIL", "AIR", delays=strict, when="2024-12-31T08:00")
+        self.assertIn("if nothing were late, one would be there at 08:50", told)
+
+    def test_other_refusals(self) -> None:
+        self.is_refused(call("ask", "", FEED, f"{self.room}/none", "MIL", "AIR", "2024-06-03T08:00"), "delay file is missing")
+
+
+if __name__ == "__main__":
+    unittest.main()
