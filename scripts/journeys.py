@@ -11,8 +11,8 @@ from plans import Latest, Moment, Refused, Safe, moment_text, read, seconds_betw
 # The greatest value of --horizon, in hours, and the least and the greatest of --alpha, in percent.
 HOURS = 72
 LEAST_ALPHA, MOST_ALPHA = 100, 1000
-# The first and the last moment that --at takes.
-FIRST, LAST = Moment(1970, 1, 8), Moment(2399, 12, 31, 23, 59, 59)
+# The first moment that --at takes.
+FIRST = Moment(1970, 1, 8)
 
 
 class Journey:
