@@ -78,3 +78,49 @@ fn tells_the_line_of_a_group(rt: HostRuntime) -> Result<(), Fail> {
     }
     Ok(())
 }
+
+/// The text of a row with a number in it.
+fn row_of(alloc: Global, start: &str, number: u32, end: &str) -> Result<String, Fail> {
+    Ok(format!(in alloc; "{start}{number}{end}")?)
+}
+
+/// A file with so many rows, each with its number.
+fn with_rows(
+    alloc: Global,
+    head: &str,
+    start: &str,
+    end: &str,
+    count: u32,
+) -> Result<String, Fail> {
+    let mut text = String::from_str(alloc, head)?;
+    for number in 0..count {
+        let row = row_of(alloc, start, number, end)?;
+        text.push_str(row.as_str())?;
+    }
+    Ok(text)
+}
+
+#[test]
+fn refuses_more_rows_and_groups_than_there_may_be(rt: HostRuntime) -> Result<(), Fail> {
+    for (head, start, end, count, line) in [
+        (
+            "class,delay,weight\n",
+            "3,",
+            ",100\n",
+            65,
+            "meat: delay class 3 has more than 64 rows\n",
+        ),
+        (
+            "class,delay,weight,route_id\n*,0,10000,\n",
+            "*,0,10000,T",
+            "\n",
+            65_536,
+            "meat: too many delay classes: 65537\n",
+        ),
+    ] {
+        let delays = with_rows(rt.alloc(), head, start, end, count)?;
+        let sources = [("c", AT_NINE), ("d", delays.as_str())];
+        refuses(&rt, rt.alloc(), sources.as_slice(), SAFE, 4, line)?;
+    }
+    Ok(())
+}

@@ -234,6 +234,26 @@ fn refuses_any_row_where_a_limit_is_none(rt: HostRuntime) -> Result<(), Fail> {
     Ok(())
 }
 
+const REPEATS: Source<'static> = (
+    "f/frequencies.txt",
+    "trip_id,start_time,end_time,headway_secs\nt100,08:00:00,09:00:00,600\n",
+);
+
+#[test]
+fn refuses_any_repeat_where_the_limit_is_none(rt: HostRuntime) -> Result<(), Fail> {
+    let [stops, routes, trips, stop_times, calendar, delays] = old_town(USUAL);
+    ends_within(
+        &rt,
+        rt.alloc(),
+        [stops, routes, trips, stop_times, calendar, delays, REPEATS].as_slice(),
+        PLAN,
+        &none_of(Table::Frequencies),
+        6,
+        rows(Table::Frequencies, 1),
+        "meat: frequencies.txt has too many rows: 1\n",
+    )
+}
+
 #[test]
 fn refuses_any_byte_where_the_limit_is_none(rt: HostRuntime) -> Result<(), Fail> {
     let none = Limits {

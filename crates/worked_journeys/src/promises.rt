@@ -42,6 +42,10 @@ const BOTH: &str =
 const UP_TO_THE_FIRST: &str =
     "departures --cut c --delays d --from B --to T --at 2024-06-03T08:00:00 --until 2024-06-03T10:42:00 --last 2024-06-03T08:24:00";
 
+/// Those up to ten minutes past eight: the one row is that of the bus after.
+const PAST_THE_LAST: &str =
+    "departures --cut c --delays d --from B --to T --at 2024-06-03T08:00:00 --until 2024-06-03T10:42:00 --last 2024-06-03T08:10:00";
+
 /// Those with a deadline that no bus is sure to keep.
 const TOO_LATE: &str =
     "departures --cut c --delays d --from B --to T --at 2024-06-03T08:00:00 --until 2024-06-03T09:00:00 --last 2024-06-03T08:40:00";
@@ -133,6 +137,17 @@ fn tells_each_departure(rt: HostRuntime) -> Result<(), Fail> {
         CHANGE.as_slice(),
         UP_TO_THE_FIRST,
         "departures,1,B,T,2024-06-03T08:00:00,2024-06-03T08:24:00,2024-06-03T10:42:00,1\nrow,2024-06-03T08:24:00,r2,1,2024-06-03T08:51:30.000000000,2024-06-03T08:51:30.000000000\n",
+    )
+}
+
+#[test]
+fn tells_the_departure_after_the_last_moment(rt: HostRuntime) -> Result<(), Fail> {
+    answers(
+        &rt,
+        rt.alloc(),
+        CHANGE.as_slice(),
+        PAST_THE_LAST,
+        "departures,1,B,T,2024-06-03T08:00:00,2024-06-03T08:10:00,2024-06-03T10:42:00,1\nrow,2024-06-03T08:24:00,r2,1,2024-06-03T08:51:30.000000000,2024-06-03T08:51:30.000000000\n",
     )
 }
 
