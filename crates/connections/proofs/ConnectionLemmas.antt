@@ -166,7 +166,7 @@ module _ (f : FeedParts) (d : DelayLists) (delays : AreDelays d) (w : Window) (v
             };
         runs = λ i r h l.
             let c = All-get_or (IsGood (length f.stop_ids) (length d.classes) (length rs)) cs i no_connection h g.good in
-            g.each r no_connection (omega (arith, c.run_in, l));
+            ∣ g.each r no_connection (omega (arith, c.run_in, l)) ∣₁;
         changes = changes;
         links = AreLinks-none (length change);
         rows = λ k h. delays.rows k h;
@@ -195,7 +195,7 @@ module _ (f : FeedParts) (d : DelayLists) (delays : AreDelays d) (w : Window) (v
             omega (arith, ap (λ (xs : List Connection). (get_or xs i no_connection).run.0) e, c.run_in, named.size);
         each = λ r l.
             let x = g.each r no_connection (omega (arith, named.size)) in
-            (x.0, omega (arith, x.1, ap length e), ap (λ (xs : List Connection). (get_or xs x.0 no_connection).run.0) e ∙ x.2);
+            ∣ (x.0, omega (arith, x.1, ap length e), ap (λ (xs : List Connection). (get_or xs x.0 no_connection).run.0) e ∙ x.2) ∣₁;
         place_names = subst (All IsTrimmed) (sym places) trimmed;
         run_names = names_trimmed f rs names.runs ids runs named;
       }

@@ -1,5 +1,6 @@
 -- The links of a network, and its names with them.
 use Rattle.std.proofs.Common.{◌≡◌, ℕ, ◌<◌, List, [], length, get_or, sym, ap, ◌∙◌, subst, arith, slice_index_or}
+use Rattle.std.proofs.Math.Logic.{∥∥₁_map}
 use Rattle.csv_rows.specs.Lists.{list_below}
 use Rattle.csv_rows.proofs.ListLemmas.{get-list_below}
 use Rattle.plan_model.specs.declared.model.Connection.{Connection}
@@ -25,7 +26,7 @@ names_fit names n m e h a =
     record {
       places = a.places ∙ ap length h;
       below = λ i l. omega (arith, run i, a.below i (omega (arith, ap length e, l)));
-      each = λ r l. let x = a.each r l in (x.0, omega (arith, ap length e, x.1), sym (run x.0) ∙ x.2);
+      each = λ r l. ∥∥₁_map (a.each r l) (λ x. (x.0, omega (arith, ap length e, x.1), sym (run x.0) ∙ x.2));
       place_names = a.place_names;
       run_names = a.run_names;
     }

@@ -1,5 +1,6 @@
 -- The shifted network is valid, and a view of the network.
 use Rattle.std.proofs.Common.{◌≡◌, ℕ, ◌-◌, ◌<◌, ◌≤◌, Bool, refl, sym, ap, ◌∙◌, inl, inr, ⊎_elim, arith, IsTrue, nat_le, ◌&&◌, ◌↔◌, leb-true, le-leb}
+use Rattle.std.proofs.Math.Logic.{∥∥₁_map}
 use Rattle.std.proofs.lemmas.Bool.{and_parts, and_from}
 use Rattle.std.proofs.lemmas.List.{length-map, get_or-map}
 use Rattle.plan_model.specs.declared.model.Connection.{Connection}
@@ -87,11 +88,11 @@ module _ (shift start : ℕ) (m : NetworkModel) where
           step_in = let f = c.step_in in omega arith;
         }
 
-    each_run : (i r : ℕ) → i < count seen → r < run_of seen i → (j : ℕ) × (j < count seen) × (run_of seen j ≡ r)
+    each_run : (i r : ℕ) → i < count seen → r < run_of seen i → ∥ ((j : ℕ) × (j < count seen) × (run_of seen j ≡ r)) ∥₁
     each_run i r h less =
         let k = inside i h in
-        let found = v.runs i r k (omega (arith, (parts_at i k).0, less)) in
-        (found.0, omega (arith, found.1, as_many), (parts_at found.0 found.1).0 ∙ found.2)
+        ∥∥₁_map (v.runs i r k (omega (arith, (parts_at i k).0, less)))
+        (λ found. (found.0, omega (arith, found.1, as_many), (parts_at found.0 found.1).0 ∙ found.2))
 
     pub valid : IsValid seen
     unfolding change_of row_of

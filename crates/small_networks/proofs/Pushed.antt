@@ -1,6 +1,7 @@
 -- Links into a place, one put after the others, the lists of them, and names that fit with links too.
 use Rattle.std.proofs.Common.{◌≡◌, ◌≢◌, ℕ, ◌+◌, ◌<◌, ◌≤◌, List, [], ◌∷◌, ◌++◌, length, get_or, All, sym, ap, ◌∙◌, subst, arith, length-append, ⊎_elim}
 use Rattle.std.proofs.Common.{slice_index_or}
+use Rattle.std.proofs.Math.Logic.{∥∥₁_map}
 use Rattle.std.proofs.lemmas.Bool.{cases_lt}
 use Rattle.std.proofs.lemmas.List.{get_or_append_left, get_or_push}
 use Rattle.std.proofs.lemmas.List.Elements.{All-get_or, All-push}
@@ -62,7 +63,7 @@ NamesFit-same names n m e h a =
     record {
       places = a.places ∙ ap length (sym h);
       below = λ i l. omega (arith, run i, a.below i (omega (arith, ap length e, l)));
-      each = λ r l. let x = a.each r l in (x.0, omega (arith, ap length e, x.1), run x.0 ∙ x.2);
+      each = λ r l. ∥∥₁_map (a.each r l) (λ x. (x.0, omega (arith, ap length e, x.1), run x.0 ∙ x.2));
       place_names = a.place_names;
       run_names = a.run_names;
     }

@@ -19,5 +19,5 @@ pub returns-clause-fresh : goal.returns-clause-fresh
 returns-clause-fresh c = λ last have.
     let n = c.args.network.now in
     let boards = c.loop-p.boards in
-    let whole : c.loop-p.p ≡ length boards = omega (arith, c.loop-p.invariant.len, c.places-p-end.ensures) in
+    let whole : c.loop-p.p ≡ length boards = omega (arith, c.loop-p.invariant.len, c.places-p-end.ensures.count) in
     sorted_fresh n last boards (subst (λ k. AreSorted n last k boards) whole (c.loop-p.invariant.sorted last have))

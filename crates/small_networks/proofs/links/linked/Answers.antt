@@ -9,4 +9,4 @@ returns-clause-fit c = λ names fit.
 
 pub with_links-requires-clause-each : goal.with_links-requires-clause-each
 with_links-requires-clause-each c = λ r less.
-    subst (λ (places : ℕ). AreLinksInto places r (slice_index_or c.in_ok-lists.lists r [])) c.places.ensures (c.in_ok-lists.ensures.each r (omega (arith, less, c.places.ensures)))
+    subst (λ (places : ℕ). AreLinksInto places r (slice_index_or c.in_ok-lists.lists r [])) c.places.ensures.count (c.in_ok-lists.ensures.each r (omega (arith, less, c.places.ensures.count)))
