@@ -1,5 +1,7 @@
 -- Where the runs of a network start.
 use Rattle.std.proofs.Common.{◌≡◌, ℕ, ◌+◌, ◌<◌, ◌≤◌, ⊎_elim, List, [], ◌∷◌, ◌++◌, length, get_or, arith}
+use Rattle.std.proofs.Math.Logic.{∥∥₁_elim}
+use Rattle.std.specs.Coded.{le_prop}
 use Rattle.std.proofs.lemmas.Bool.Decides.{nat_tests}
 use Rattle.std.proofs.lemmas.Grind.{common_steps}
 use Rattle.std.proofs.lemmas.Bool.{cases_lt}
@@ -29,10 +31,10 @@ AreStartsBelow-start n v i starts h new b = grind (arith, common_steps)
 within : (n : NetworkModel) → IsValid n → (i : ℕ) (starts : List ℕ) → i < count n → (run_of n i ≡ length starts → ⊥) → AreStartsBelow n i starts → run_of n i < length starts
 within n v i starts h other b =
     ⊎_elim (λ less. less)
-    (λ ge. let missing = v.runs i (length starts) h (omega (arith, other)) in
+    (λ ge. ∥∥₁_elim (v.runs i (length starts) h (omega (arith, other))) le_prop (λ missing.
     ⊎_elim (λ before. absurd (omega (arith, b.passed missing.0 before, missing.2)))
     (λ after. absurd (omega (arith, run_mono n v i missing.0 after missing.1, missing.2, other)))
-    (cases_lt missing.0 i))
+    (cases_lt missing.0 i)))
     (cases_lt (run_of n i) (length starts))
 
 pub AreStartsBelow-within : (n : NetworkModel) → IsValid n → (i : ℕ) (starts : List ℕ) → i < count n → (run_of n i ≡ length starts → ⊥) → AreStartsBelow n i starts → AreStartsBelow n (i + 1) starts
