@@ -5,7 +5,6 @@ ghost use Rattle.std.specs.HashMap.{get};
 ghost use Rattle.csv_rows.specs.declared.feed_tables.Table.TheVariants.{Transfers as TransfersTable};
 ghost use Rattle.csv_rows.specs.FeedTables.{unread_of, IsFaultOf};
 ghost use Rattle.csv_rows.specs.First.{first_below};
-ghost use Rattle.csv_rows.specs.Limits.{AreWithin};
 ghost use Rattle.csv_rows.specs.RowFaults.{TellsFirst};
 ghost use Rattle.table_files.specs.Loading.{HasFeedCauses, loaded_rows};
 ghost use Rattle.csv_rows.specs.Tables.{row_count};
@@ -213,7 +212,6 @@ impl Changes {
         feed: &Feed,
         limits: &Limits,
     ) -> Result<Changes, FeedFault>
-        requires { AreWithin limits.now }
         ensures same { F.files files.new ≡ F.files files.old }
         ensures changes { IfSome (F.files files.old) (λ m. IfOk result (λ c. IsOkAnd
             (transfers_in m folder.now limits.now None feed.now) (AreToldChanges feed.now c))) }

@@ -1,7 +1,6 @@
 //! The network of a feed in a window of time.
 ghost use Rattle.std.specs.Prelude.{◌≡◌, ◌≢◌, ◌<◌, ◌≤◌, [], length, Some, None, OnOk, IfOk, IfErr};
 ghost use Rattle.std.specs.Result.{result_err};
-ghost use Rattle.csv_rows.specs.Limits.{AreWithin};
 ghost use Rattle.csv_rows.specs.Lists.{list_below};
 ghost use Rattle.change_times.specs.Changes.{seconds_of, links_of, LinksComeFrom};
 ghost use Rattle.csv_rows.specs.Ids.{AreIds};
@@ -112,7 +111,6 @@ fn count_within(
 ) -> Result<u64, WindowFault>
     requires same { services.now.feed ≡ feed.now }
     requires window { IsWindow window }
-    requires limits { AreWithin limits.now }
     ensures { result_err result ≡ window_fault limits.now (count_in feed.now services.now.services window)
         (entries_in feed.now services.now.services changes.now window) }
 {
@@ -208,7 +206,6 @@ fn network_within(
     requires early { 604_800 ≤ start.0 }
     requires late { start.0 < 13_569_465_600 }
     requires horizon { horizon ≤ 72 }
-    requires limits { AreWithin limits.now }
     requires links { LinksComeFrom (length feed.now.stop_ids) changes.now }
     ensures network { IfOk result (λ r. IsNetworkFrom feed.now services.now.services changes.now delays.now
         start.0 horizon r.0 r.1) }
@@ -254,7 +251,6 @@ pub fn cut(
     requires early { 604_800 ≤ start.0 }
     requires late { start.0 < 13_569_465_600 }
     requires horizon { horizon ≤ 72 }
-    requires limits { AreWithin limits.now }
     requires links { LinksComeFrom (length feed.now.stop_ids) changes.now }
     ensures network { IfOk result (λ r. IsNetworkFrom feed.now services.now changes.now delays.now
         start.0 horizon r.0 r.1) }

@@ -1,5 +1,6 @@
 -- How much is read at most.
-use Rattle.std.specs.Prelude.{ℕ, ◌≤◌}
+use Rattle.std.specs.Prelude.{ℕ}
+use Rattle.std.proofs.Common.{le_refl}
 use Rattle.csv_rows.specs.declared.feed_tables.Table.{Table}
 use Rattle.csv_rows.specs.declared.feed_tables.Table.TheVariants.{Stops, Routes, Trips, StopTimes, Frequencies, Calendar, CalendarDates, Transfers}
 use Rattle.csv_rows.specs.declared.limits.Limits.{Limits}
@@ -19,22 +20,19 @@ standard = record {
   cut_rows = 8388608;
   connections = 8388608;
   entries = 67108864;
+  bytes_in = le_refl 1073741824;
+  stops_in = le_refl 1048576;
+  routes_in = le_refl 65536;
+  trips_in = le_refl 4194304;
+  stop_times_in = le_refl 33554432;
+  frequencies_in = le_refl 65536;
+  calendar_in = le_refl 1048576;
+  calendar_dates_in = le_refl 16777216;
+  transfers_in = le_refl 4194304;
+  cut_rows_in = le_refl 8388608;
+  connections_in = le_refl 8388608;
+  entries_in = le_refl 67108864;
 }
-
--- none is above the standard one
-pub record AreWithin (limits : Limits) : Type 0 where
-  pub bytes : limits.bytes ≤ standard.bytes
-  pub stops : limits.stops ≤ standard.stops
-  pub routes : limits.routes ≤ standard.routes
-  pub trips : limits.trips ≤ standard.trips
-  pub stop_times : limits.stop_times ≤ standard.stop_times
-  pub frequencies : limits.frequencies ≤ standard.frequencies
-  pub calendar : limits.calendar ≤ standard.calendar
-  pub calendar_dates : limits.calendar_dates ≤ standard.calendar_dates
-  pub transfers : limits.transfers ≤ standard.transfers
-  pub cut_rows : limits.cut_rows ≤ standard.cut_rows
-  pub connections : limits.connections ≤ standard.connections
-  pub entries : limits.entries ≤ standard.entries
 
 -- the rows of a table
 abbrev pub rows_of : Limits → Table → ℕ

@@ -1,10 +1,10 @@
 //! How much is read.
-ghost use Rattle.std.specs.Prelude.{◌≡◌};
-ghost use Rattle.csv_rows.specs.Limits.{standard, rows_of};
+ghost use Rattle.std.specs.Prelude.{◌≡◌, ◌≤◌};
 
 use crate::feed_tables::Table;
 
-/// The most that is read: bytes of one file, rows of each table, and connections of a window and their entries.
+/// The most that is read: bytes of one file, rows of each table, and connections of a window and their entries. None is above
+/// the standard one.
 #[derive(Clone, Copy, Debug, PartialEq, Eq)]
 pub struct Limits {
     /// Bytes of one file.
@@ -31,9 +31,23 @@ pub struct Limits {
     pub connections: u64,
     /// Entries of a window: pairs of a connection and a way into the place that it leaves.
     pub entries: u64,
+    pub ghost bytes_in: { bytes ≤ 1_073_741_824 },
+    pub ghost stops_in: { stops ≤ 1_048_576 },
+    pub ghost routes_in: { routes ≤ 65_536 },
+    pub ghost trips_in: { trips ≤ 4_194_304 },
+    pub ghost stop_times_in: { stop_times ≤ 33_554_432 },
+    pub ghost frequencies_in: { frequencies ≤ 65_536 },
+    pub ghost calendar_in: { calendar ≤ 1_048_576 },
+    pub ghost calendar_dates_in: { calendar_dates ≤ 16_777_216 },
+    pub ghost transfers_in: { transfers ≤ 4_194_304 },
+    pub ghost cut_rows_in: { cut_rows ≤ 8_388_608 },
+    pub ghost connections_in: { connections ≤ 8_388_608 },
+    pub ghost entries_in: { entries ≤ 67_108_864 },
 }
 
 impl Limits {
+    ghost use Rattle.csv_rows.specs.Limits.{standard, rows_of};
+
     /// The limits with which the largest accepted feed fits in 8 GB of memory.
     pub fn standard() -> Limits
         ensures { result ≡ standard }

@@ -1,5 +1,5 @@
 //! A cut file with no fault.
-ghost use Rattle.std.specs.Prelude.{◌≡◌, ◌≢◌, ◌≤◌, ◌^◌, length, Some, None, OnOk, IfOk, IfErr};
+ghost use Rattle.std.specs.Prelude.{◌≡◌, ◌≢◌, length, Some, None, OnOk, IfOk, IfErr};
 ghost use Rattle.csv_rows.specs.Spaces.{AreTrimmed};
 ghost use Rattle.cut_file.specs.Faults.{first_cut_fault};
 ghost use Rattle.cut_file.specs.NumberedRows.{AreColumns, missing_in};
@@ -41,7 +41,6 @@ fn missing_column(columns: &Columns) -> Option<CutFault>
 
 /// The rows of a cut file, or the first of its faults.
 pub(crate) fn read_checked(alloc: Global, rows: &Rows, limits: &Limits) -> Result<Checked, CutFault>
-    requires { limits.now.cut_rows ≤ 2 ^ 23 }
     ensures trimmed { OnOk result (AreTrimmed rows.now) }
     ensures none { OnOk result (first_cut_fault rows.now limits.now.cut_rows ≡ None) }
     ensures cut { IfOk result (λ c.

@@ -1,5 +1,5 @@
 //! The rows of a cut file, of which a network is made.
-ghost use Rattle.std.specs.Prelude.{◌≡◌, ◌≢◌, ◌≤◌, ◌^◌, ℕ, List, Some, None, OnOk, IfOk, IfErr};
+ghost use Rattle.std.specs.Prelude.{◌≡◌, ◌≢◌, ℕ, List, Some, None, OnOk, IfOk, IfErr};
 ghost use Rattle.plan_model.specs.NameLists.{NamesFit};
 ghost use Rattle.cut_file.specs.Faults.{first_cut_fault};
 ghost use Rattle.cut_file.specs.Read.{IsRead};
@@ -60,7 +60,6 @@ impl Model for CutTable {
 /// and `arr`; `class`, `board`, `exit` and `change` may lack. Rows stand in any order; runs and places are numbered as they
 /// first stand, `from` before `to` in one row.
 pub fn read_cut(alloc: Global, rows: &Rows, limits: &Limits) -> Result<CutTable, CutFault>
-    requires { limits.now.cut_rows ≤ 2 ^ 23 }
     ensures table { IfOk result (λ table. IsRead rows.now table.runs table.places table.rows table.keys) }
     ensures none { OnOk result (first_cut_fault rows.now limits.now.cut_rows ≡ None) }
     ensures fault { IfErr result (λ f. f ≢ CutFault.NoMemory

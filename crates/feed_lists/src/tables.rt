@@ -2,7 +2,6 @@
 ghost use Rattle.std.specs.Prelude.{◌≡◌, ◌≢◌, length, None, Err, IfOk, IfErr, IfSome, IsSome};
 ghost use Rattle.csv_rows.specs.declared.feed_tables.Table.TheVariants.{Stops as StopsTable, Routes as RoutesTable, Trips as TripsTable};
 ghost use Rattle.csv_rows.specs.FeedTables.{unread_of, IsFaultOf};
-ghost use Rattle.csv_rows.specs.Limits.{AreWithin};
 ghost use Rattle.table_files.specs.Loading.{HasFeedCauses, load_in};
 ghost use Rattle.feed_lists.specs.Lists.{stops_from, routes_from, trips_from, HasStops, HasRoutes, HasTrips, AreSoundStops, AreSoundRoutes, AreSoundTrips};
 
@@ -21,7 +20,6 @@ pub fn load_stops<F: Files>(
     folder: &str,
     limits: &Limits,
 ) -> Result<Stops, FeedFault>
-    requires { AreWithin limits.now }
     ensures same { F.files files.new ≡ F.files files.old }
     ensures stops { IfSome (F.files files.old) (λ m. IfOk result
         (HasStops (stops_from (load_in m folder.now limits.now None StopsTable)))) }
@@ -43,7 +41,6 @@ pub fn load_routes<F: Files>(
     folder: &str,
     limits: &Limits,
 ) -> Result<Routes, FeedFault>
-    requires { AreWithin limits.now }
     ensures same { F.files files.new ≡ F.files files.old }
     ensures routes { IfSome (F.files files.old) (λ m. IfOk result
         (HasRoutes (routes_from (load_in m folder.now limits.now None RoutesTable)))) }
@@ -66,7 +63,6 @@ pub fn load_trips<F: Files>(
     limits: &Limits,
     routes: &Routes,
 ) -> Result<Trips, FeedFault>
-    requires limits { AreWithin limits.now }
     requires types { length routes.now.types.items ≡ length routes.now.ids }
     ensures same { F.files files.new ≡ F.files files.old }
     ensures trips { IfSome (F.files files.old) (λ m. IfOk result (HasTrips routes.now

@@ -1,6 +1,5 @@
 //! What is asked of the graph of a file: the trip by it, and bounds on its expected arrival.
 ghost use Rattle.std.specs.Prelude.{◌≡◌, ◌≢◌, ◌<◌, ◌≤◌, length, Some, None, Ok, Err, IfOk, IfErr, IfSome, IsSome};
-ghost use Rattle.csv_rows.specs.Limits.{AreWithin};
 ghost use Rattle.plan_model.specs.NameLists.{NamesFit};
 ghost use Rattle.plan_graph.specs.Tidy.{IsFit};
 ghost use Rattle.graph_text.specs.Asked.{IsHeadOf};
@@ -70,7 +69,6 @@ fn read_graph_file<F: Files>(
     start: Moment,
     limits: &Limits,
 ) -> Result<(Head, PlanGraph), Fault>
-    requires within { AreWithin limits.now }
     requires fit { NamesFit problem.now.names problem.now.network }
     ensures same { F.files files.new ≡ F.files files.old }
     ensures graph { IfSome (F.files files.old) (λ m. Finds (λ f. (f.0, f.1))
@@ -100,7 +98,6 @@ pub fn replay_over<F: Files>(
     late: &str,
     limits: &Limits,
 ) -> Result<Answer, Fault>
-    requires within { AreWithin limits.now }
     requires fit { NamesFit problem.now.names problem.now.network }
     requires source { problem.now.source.0 < length problem.now.network.change }
     requires target { problem.now.target.0 < length problem.now.network.change }
@@ -130,7 +127,6 @@ pub fn check_graph_over<F: Files>(
     graph: &str,
     limits: &Limits,
 ) -> Result<Answer, Fault>
-    requires within { AreWithin limits.now }
     requires fit { NamesFit problem.now.names problem.now.network }
     requires source { problem.now.source.0 < length problem.now.network.change }
     requires target { problem.now.target.0 < length problem.now.network.change }

@@ -1,6 +1,5 @@
 //! What is asked of the certificate of a file: whether it holds.
 ghost use Rattle.std.specs.Prelude.{◌≡◌, ◌≢◌, ◌<◌, ◌≤◌, length, Some, None, IfOk, IfErr, IfSome, IsSome};
-ghost use Rattle.csv_rows.specs.Limits.{AreWithin};
 ghost use Rattle.plan_model.specs.NameLists.{NamesFit};
 ghost use Rattle.journey_model.specs.Faults.{MayBeUnread, unread_of};
 ghost use Rattle.journey_model.specs.Sites.{IsTellable};
@@ -60,7 +59,6 @@ fn read_proof_file<F: Files>(
     start: Moment,
     limits: &Limits,
 ) -> Result<(Query, LowerBounds), Fault>
-    requires within { AreWithin limits.now }
     ensures same { F.files files.new ≡ F.files files.old }
     ensures proof { IfOk result (λ f. IsProofFile (F.files files.old) limits.now start.0
         path.now problem.now f.0 f.1) }
@@ -85,7 +83,6 @@ pub fn check_proof_over<F: Files>(
     proof: &str,
     limits: &Limits,
 ) -> Result<Answer, Fault>
-    requires within { AreWithin limits.now }
     requires fit { NamesFit problem.now.names problem.now.network }
     requires source { problem.now.source.0 < length problem.now.network.change }
     requires target { problem.now.target.0 < length problem.now.network.change }

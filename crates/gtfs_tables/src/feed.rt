@@ -45,7 +45,6 @@ impl Feed {
     ghost use Rattle.std.specs.Prelude.{◌≡◌, ◌≢◌, ◌<◌, ◌≤◌, None, Some, Ok, Err, IfOk, IfErr, IfSome, IsSome, length, slice_get, slice_index, slice_index_or, option_map, []};
     ghost use Rattle.csv_rows.specs.FeedTables.{unread_of};
     ghost use Rattle.csv_rows.specs.Ids.{AreIds};
-    ghost use Rattle.csv_rows.specs.Limits.{AreWithin};
     ghost use Rattle.table_files.specs.Loading.{HasFeedCauses};
     ghost use Rattle.csv_rows.specs.Tables.{place_in};
     ghost use Rattle.gtfs_tables.specs.Feeds.{tables_in, IsFeedOf, IsFeedTableFault, IsSoundFeed};
@@ -61,7 +60,6 @@ impl Feed {
         folder: &str,
         limits: &Limits,
     ) -> Result<Feed, FeedFault>
-        requires { AreWithin limits.now }
         ensures same { F.files files.new ≡ F.files files.old }
 
         // Where the files are told: the feed of their tables, or the first of all faults.

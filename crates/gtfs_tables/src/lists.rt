@@ -1,7 +1,6 @@
 //! The stops, the routes and the trips of a feed.
 ghost use Rattle.std.specs.Prelude.{◌≡◌, ◌≢◌, None, Err, IfOk, IfErr, IfSome, IsSome};
 ghost use Rattle.csv_rows.specs.FeedTables.{unread_of};
-ghost use Rattle.csv_rows.specs.Limits.{AreWithin};
 ghost use Rattle.table_files.specs.Loading.{HasFeedCauses, load_in};
 ghost use Rattle.gtfs_tables.specs.Feeds.{tables_in, IsFeedTableFault};
 ghost use Rattle.gtfs_tables.specs.Parts.{AreLists, AreSoundLists};
@@ -36,7 +35,6 @@ pub(crate) fn load_lists<F: Files>(
     folder: &str,
     limits: &Limits,
 ) -> Result<FeedLists, FeedFault>
-    requires { AreWithin limits.now }
     ensures same { F.files files.new ≡ F.files files.old }
     ensures lists { IfSome (F.files files.old) (λ m. IfOk result
         (AreLists (load_in m folder.now limits.now None))) }

@@ -3,7 +3,7 @@ ghost use Rattle.std.specs.Prelude.{◌≡◌, ◌≢◌, ◌<◌, ◌≤◌, �
 ghost use Rattle.csv_rows.specs.declared.columns.Column.TheVariants.{TripId};
 ghost use Rattle.csv_rows.specs.declared.feed_tables.Table.TheVariants.{StopTimes as StopTimesTable};
 ghost use Rattle.csv_rows.specs.FeedTables.{unread_of, IsFaultOf};
-ghost use Rattle.csv_rows.specs.Limits.{AreWithin, rows_of};
+ghost use Rattle.csv_rows.specs.Limits.{rows_of};
 ghost use Rattle.table_files.specs.Loading.{HasFeedCauses, load_in, loaded_from};
 ghost use Rattle.csv_rows.specs.Tables.{table_of};
 ghost use Rattle.stop_times.specs.StopTimeBounds.{most_stop_times};
@@ -25,7 +25,6 @@ fn load_times_text<F: Files>(
     folder: &str,
     limits: &Limits,
 ) -> Result<Vec<u8>, FeedFault>
-    requires { AreWithin limits.now }
     ensures same { F.files files.new ≡ F.files files.old }
     ensures text { IfSome (F.files files.old) (λ m. IfOk result (λ text.
         load_in m folder.now limits.now None StopTimesTable
@@ -51,7 +50,6 @@ pub(crate) fn load_stop_times<F: Files>(
     trips: &Ids,
     stops: &Stops,
 ) -> Result<StopTimes, FeedFault>
-    requires limits { AreWithin limits.now }
     requires places { length stops.now.places.items ≡ length stops.now.ids }
     ensures same { F.files files.new ≡ F.files files.old }
     ensures visits { IfSome (F.files files.old) (λ m. IfOk result (λ v.

@@ -1,7 +1,6 @@
 //! When the trips of a feed run.
 ghost use Rattle.std.specs.Prelude.{◌≡◌, ◌≢◌, None, Err, IfOk, IfErr, IfSome, IsSome, length};
 ghost use Rattle.csv_rows.specs.FeedTables.{unread_of};
-ghost use Rattle.csv_rows.specs.Limits.{AreWithin};
 ghost use Rattle.table_files.specs.Loading.{HasFeedCauses, load_in};
 ghost use Rattle.gtfs_tables.specs.Feeds.{tables_in, IsFeedTableFault};
 ghost use Rattle.gtfs_tables.specs.Parts.{AreLists, AreTripTimes, AreSoundTimes};
@@ -38,7 +37,6 @@ pub(crate) fn load_times<F: Files>(
     limits: &Limits,
     lists: &FeedLists,
 ) -> Result<TripTimes, FeedFault>
-    requires limits { AreWithin limits.now }
     requires places { length lists.now.stops.places.items ≡ length lists.now.stops.ids }
     ensures same { F.files files.new ≡ F.files files.old }
     ensures times { IfSome (F.files files.old) (λ m. IfOk result

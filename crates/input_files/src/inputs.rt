@@ -1,6 +1,5 @@
 //! The files that a command reads.
-ghost use Rattle.std.specs.Prelude.{◌≡◌, ◌≢◌, ◌≤◌, ℕ, List as Bytes, Some, None, IsSome, IfSome, IfOk, IfErr, ◌^◌, ◌+◌};
-ghost use Rattle.csv_rows.specs.Limits.{AreWithin};
+ghost use Rattle.std.specs.Prelude.{◌≡◌, ◌≢◌, ℕ, List as Bytes, Some, None, IsSome, IfSome, IfOk, IfErr, ◌+◌};
 ghost use Rattle.csv_rows.specs.Tables.{table_of};
 ghost use Rattle.delay_table.specs.Slots.{AreDelays};
 ghost use Rattle.file_ports.specs.Ports.{file_at};
@@ -27,7 +26,6 @@ pub fn load_bytes<F: Files>(
     input: Input,
     limits: &Limits,
 ) -> Result<Vec<u8>, Fault>
-    requires { limits.now.bytes ≤ 2 ^ 30 }
     ensures same { F.files files.new ≡ F.files files.old }
     ensures bytes { IfSome (F.files files.old) (λ m. Finds (λ bytes. bytes.items)
         (λ unread. bytes_of limits.now.bytes input unread (file_at m path.now)) result) }
@@ -57,7 +55,6 @@ fn load_rows<F: Files>(
     headless: Fault,
     limits: &Limits,
 ) -> Result<Rows, Fault>
-    requires bytes { limits.now.bytes ≤ 2 ^ 30 }
     requires headless { unread_of headless ≡ None }
     requires early { (timetable : TimetableModel) → IsInputOf timetable input
         → IsBeforeSearch timetable headless }
@@ -100,7 +97,6 @@ pub fn read_cut_file<F: Files>(
     path: &str,
     limits: &Limits,
 ) -> Result<CutTable, Fault>
-    requires { AreWithin limits.now }
     ensures same { F.files files.new ≡ F.files files.old }
     ensures table { IfSome (F.files files.old) (λ m.
         CutAgrees limits.now (file_at m path.now) result) }
@@ -139,7 +135,6 @@ pub fn read_delay_file<F: Files>(
     path: &str,
     limits: &Limits,
 ) -> Result<DelayTable, Fault>
-    requires { AreWithin limits.now }
     ensures same { F.files files.new ≡ F.files files.old }
     ensures table { IfSome (F.files files.old) (λ m.
         DelayAgrees limits.now (file_at m path.now) result) }

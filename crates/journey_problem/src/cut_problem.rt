@@ -1,6 +1,5 @@
 //! A journey over a cut file.
 ghost use Rattle.std.specs.Prelude.{◌≡◌, ◌≢◌, ℕ, List as Bytes, None, Some, IsSome, IfSome, IfOk, IfErr, OnOk};
-ghost use Rattle.csv_rows.specs.Limits.{AreWithin};
 ghost use Rattle.cut_file.specs.CutNetwork.{IsCutNetwork};
 ghost use Rattle.cut_file.specs.Read.{IsRead};
 ghost use Rattle.file_ports.specs.Ports.{file_at};
@@ -96,7 +95,6 @@ fn problem_after<F: Files>(
     journey: &Journey,
     limits: &Limits,
 ) -> Result<Problem, Fault>
-    requires within { AreWithin limits.now }
     requires sound { IsCutOfSome cut.now }
     ensures same { F.files files.new ≡ F.files files.old }
     ensures problem { IfSome (F.files files.old) (λ m. IfOk result (λ p. (path : Bytes ℕ)
@@ -130,7 +128,6 @@ pub(crate) fn cut_problem<F: Files>(
     journey: &Journey,
     limits: &Limits,
 ) -> Result<Problem, Fault>
-    requires within { AreWithin limits.now }
     ensures same { F.files files.new ≡ F.files files.old }
     ensures problem { IfSome (F.files files.old) (λ m. IfOk result
         (IsCutProblem limits.now m path.now (journey_shown journey.now))) }

@@ -1,6 +1,5 @@
 //! A journey over a feed.
 ghost use Rattle.std.specs.Prelude.{◌≡◌, ◌≢◌, ◌<◌, ◌≤◌, ℕ, List as Bytes, length, None, Some, IsSome, IfSome, IfOk, IfErr, OnOk};
-ghost use Rattle.csv_rows.specs.Limits.{AreWithin};
 ghost use Rattle.table_files.specs.Loading.{HasFeedCauses};
 ghost use Rattle.change_times.specs.Transfers.{place_of_stop};
 ghost use Rattle.change_times.specs.Changes.{LinksComeFrom, AreToldBySome};
@@ -61,7 +60,6 @@ fn read_rules<F: Files>(
     feed: &Feed,
     limits: &Limits,
 ) -> Result<FeedRules, FeedFault>
-    requires { AreWithin limits.now }
     ensures same { F.files files.new ≡ F.files files.old }
     ensures rules { IfSome (F.files files.old) (λ m. IfOk result (λ r.
         AreRules limits.now m folder.now feed.now r.services r.changes)) }
@@ -90,7 +88,6 @@ fn read_folder<F: Files>(
     folder: &str,
     limits: &Limits,
 ) -> Result<FeedTables, FeedFault>
-    requires { AreWithin limits.now }
     ensures same { F.files files.new ≡ F.files files.old }
     ensures folder { IfSome (F.files files.old) (λ m.
         IfOk result (λ t. IsFolder limits.now m folder.now (gtfs_folder_of t))) }
@@ -117,7 +114,6 @@ fn read_folder<F: Files>(
 
 /// A fault of a feed as one of the run.
 fn fault_of(fault: FeedFault, limits: &Limits) -> Fault
-    requires { AreWithin limits.now }
     ensures fault { result ≡ feed_as limits.now fault }
     ensures early { (folder : Bytes ℕ) (horizon : ℕ) → IsBeforeSearch (FeedFolder folder horizon) result }
 {
@@ -160,7 +156,6 @@ fn window_problem(
     journey: &Journey,
     limits: &Limits,
 ) -> Result<Problem, Fault>
-    requires within { AreWithin limits.now }
     requires journey { IsJourney (journey_shown journey.now) }
     requires horizon { horizon ≤ 72 }
     requires links { LinksComeFrom (length tables.now.feed.stop_ids) tables.now.rules.changes }
@@ -208,7 +203,6 @@ fn problem_in<F: Files>(
     journey: &Journey,
     limits: &Limits,
 ) -> Result<Problem, Fault>
-    requires within { AreWithin limits.now }
     requires journey { IsJourney (journey_shown journey.now) }
     requires horizon { horizon ≤ 72 }
     requires links { LinksComeFrom (length tables.now.feed.stop_ids) tables.now.rules.changes }
@@ -247,7 +241,6 @@ pub(crate) fn feed_problem<F: Files>(
     journey: &Journey,
     limits: &Limits,
 ) -> Result<Problem, Fault>
-    requires within { AreWithin limits.now }
     requires journey { IsJourney (journey_shown journey.now) }
     requires horizon { horizon ≤ 72 }
     ensures same { F.files files.new ≡ F.files files.old }

@@ -1,6 +1,5 @@
 //! The problem of a journey over its files.
 ghost use Rattle.std.specs.Prelude.{◌≡◌, ◌<◌, length, IsSome, IfSome, IfOk, IfErr};
-ghost use Rattle.csv_rows.specs.Limits.{AreWithin};
 ghost use Rattle.command_line.specs.Shown.{journey_shown};
 ghost use Rattle.command_line.specs.Ranges.{IsJourney};
 ghost use Rattle.input_files.specs.FaultsBeforeSearch.{IsBeforeSearch};
@@ -23,7 +22,6 @@ pub fn problem_of<F: Files>(
     journey: &Journey,
     limits: &Limits,
 ) -> Result<Problem, Fault>
-    requires within { AreWithin limits.now }
     requires journey { IsJourney (journey_shown journey.now) }
     ensures same { F.files files.new ≡ F.files files.old }
     ensures problem { IfSome (F.files files.old) (λ m. IfOk result

@@ -1,6 +1,5 @@
 //! What is asked about a journey, over its files.
 ghost use Rattle.std.specs.Prelude.{◌≡◌, ◌≢◌, ◌<◌, ◌≤◌, length, Some, IsSome, IfOk, IfErr};
-ghost use Rattle.csv_rows.specs.Limits.{AreWithin};
 ghost use Rattle.plan_model.specs.NameLists.{NamesFit};
 ghost use Rattle.command_line.specs.Ranges.{IsJourney, IsAsk};
 ghost use Rattle.command_line.specs.Shown.{journey_shown, ask_shown};
@@ -35,7 +34,6 @@ fn ask_over<F: Files>(
     ask: &Ask,
     limits: &Limits,
 ) -> Result<Answer, Fault>
-    requires within { AreWithin limits.now }
     requires fit { NamesFit problem.now.names problem.now.network }
     requires source { problem.now.source.0 < length problem.now.network.change }
     requires target { problem.now.target.0 < length problem.now.network.change }
@@ -76,7 +74,6 @@ pub(crate) fn journey_over<F: Files>(
     ask: &Ask,
     limits: &Limits,
 ) -> Result<Answer, Refusal>
-    requires within { AreWithin limits.now }
     requires journey { IsJourney (journey_shown journey.now) }
     requires ask { IsAsk journey.now.start.0 (ask_shown ask.now) }
     ensures same { F.files files.new ≡ F.files files.old }

@@ -1,6 +1,5 @@
 //! A plan over a timetable that is made.
 ghost use Rattle.std.specs.Prelude.{◌≡◌, ◌≢◌, ◌<◌, ◌≤◌, length, None, IfOk, IfErr};
-ghost use Rattle.csv_rows.specs.Limits.{AreWithin};
 ghost use Rattle.command_line.specs.Shown.{journey_shown};
 ghost use Rattle.journey_model.specs.Faults.{unread_of};
 ghost use Rattle.journey_model.specs.declared.faults.Fault.{Fault};
@@ -67,7 +66,6 @@ fn sample_in(alloc: Global, size: u32, problem: &Problem, start: Moment) -> Resu
 fn sample_problem(alloc: Global, size: u32, limits: &Limits) -> Result<Problem, Fault>
     requires low { 10 ≤ size }
     requires high { size ≤ 400 }
-    requires within { AreWithin limits.now }
     ensures problem { IfOk result (λ p. OverMade size (λ files.
         IsValidProblem sample_journey p × IsProblem limits.now files sample_journey p)) }
     ensures source { IfOk result (λ p. p.source.0 < length p.network.change) }
@@ -87,7 +85,6 @@ fn sample_problem(alloc: Global, size: u32, limits: &Limits) -> Result<Problem, 
 pub(crate) fn sample(alloc: Global, size: u32, limits: &Limits) -> Result<Answer, Refusal>
     requires low { 10 ≤ size }
     requires high { size ≤ 400 }
-    requires within { AreWithin limits.now }
     ensures sampled { IfOk result (λ a.
         AnswersSample limits.now size (findings_of a.report) a.text.items) }
     ensures fault { IfErr result (IsRefusalBy (FailsSample limits.now size)) }

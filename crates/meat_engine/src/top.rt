@@ -1,7 +1,7 @@
 //! The top call.
 ghost use Rattle.std.specs.Prelude.{◌≡◌, ◌<◌, map, string_bytes, option_map, Option as Optional, Some, None, IsSome, IfOk, IfErr};
 ghost use Rattle.std.specs.Io.KnownBytes.{Keeps};
-ghost use Rattle.csv_rows.specs.Limits.{AreWithin, standard};
+ghost use Rattle.csv_rows.specs.Limits.{standard};
 ghost use Rattle.file_ports.specs.Counts.{Rose};
 ghost use Rattle.command_line.specs.Ranges.{IsJob};
 ghost use Rattle.command_line.specs.Shown.{wanted_job};
@@ -35,7 +35,6 @@ fn answer_of<F: Files>(
     job: &Job,
     limits: &Limits,
 ) -> Result<Answer, Refusal>
-    requires within { AreWithin limits.now }
     requires job { IsJob (wanted_job job.now) }
     ensures same { F.files files.new ≡ F.files files.old }
     ensures answer { IfOk result (λ a. AnswersJob (F.files files.old) limits.now (wanted_job job.now)
@@ -150,7 +149,6 @@ pub fn run_limited<F: Files, O: Sink, E: Sink>(
     err: &mut E,
     limits: &Limits,
 ) -> Report
-    requires { AreWithin limits.now }
     ensures { IsRun limits.now (map string_bytes words.now) result
         (files_state (F.files files.old) (F.faults files.old) (F.faults_of files.old))
         (files_state (F.files files.new) (F.faults files.new) (F.faults_of files.new))

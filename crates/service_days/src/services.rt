@@ -1,7 +1,6 @@
 //! Services and the days on which they run.
 ghost use Rattle.std.specs.Prelude.{◌≡◌, ◌≢◌, ℕ, ℤ, None, Some, Err, IfOk, IfErr, IfSome, IsOkAnd, IsSome, ◌<◌, ◌+ℤ◌, pos, filter};
 ghost use Rattle.csv_rows.specs.FeedTables.{unread_of};
-ghost use Rattle.csv_rows.specs.Limits.{AreWithin};
 ghost use Rattle.table_files.specs.Loading.{HasFeedCauses};
 ghost use Rattle.service_days.specs.Services.{period_runs, runs, runs_at};
 ghost use Rattle.service_days.specs.Days.{day_count, days_between};
@@ -66,7 +65,6 @@ impl Services {
         folder: &str,
         limits: &Limits,
     ) -> Result<Services, FeedFault>
-        requires { AreWithin limits.now }
         ensures same { F.files files.new ≡ F.files files.old }
         ensures services { IfSome (F.files files.old) (λ m. IfOk result (λ s.
             IsOkAnd (calendars_in m folder.now limits.now None) (RunsBy (runs s)))) }

@@ -2,7 +2,6 @@
 ghost use Rattle.std.specs.Prelude.{◌≡◌, ◌≢◌, ◌≤◌, ◌^◌, ℕ, [], length, None, Some, Ok, Err, IfOk, IfErr, IfSome, IsSome, OnOk};
 ghost use Rattle.csv_rows.specs.declared.feed_tables.Table.TheVariants.{Calendar as CalendarTable, CalendarDates as DatesTable};
 ghost use Rattle.csv_rows.specs.FeedTables.{unread_of, IsFaultOf};
-ghost use Rattle.csv_rows.specs.Limits.{AreWithin};
 ghost use Rattle.table_files.specs.Loading.{HasAtMost, HasFeedCauses, load_in, loaded_rows};
 ghost use Rattle.csv_rows.specs.RowFaults.{TellsFirst};
 ghost use Rattle.csv_rows.specs.Tables.{row_count};
@@ -104,7 +103,6 @@ pub(crate) fn load_calendar<F: Files>(
     folder: &str,
     limits: &Limits,
 ) -> Result<LoadedCalendar, FeedFault>
-    requires { AreWithin limits.now }
     ensures same { F.files files.new ≡ F.files files.old }
     ensures calendar { IfSome (F.files files.old) (λ m. IfOk result (λ c.
         IsCalendar (calendar_from (load_in m folder.now limits.now None CalendarTable))
@@ -131,7 +129,6 @@ pub(crate) fn load_dates<F: Files>(
     limits: &Limits,
     ids: Ids,
 ) -> Result<LoadedDates, FeedFault>
-    requires limits { AreWithin limits.now }
     requires ids { length ids ≤ 2 ^ 20 }
     ensures same { F.files files.new ≡ F.files files.old }
     ensures dates { IfSome (F.files files.old) (λ m. IfOk result (λ d.

@@ -1,5 +1,4 @@
 //! A small feed, and what becomes of it where a table is another.
-ghost use Rattle.csv_rows.specs.Limits.{AreWithin};
 
 use csv_rows::{Column, FeedFault, Limits, Table};
 use file_ports::SteadyFiles;
@@ -43,9 +42,7 @@ fn feed_with(alloc: Global, path: &str, text: &str) -> Result<SteadyFiles, NoMem
 }
 
 /// The limits with which the largest feed is read.
-fn limits() -> Limits
-    ensures { AreWithin result }
-{
+fn limits() -> Limits {
     Limits::standard()
 }
 
@@ -317,9 +314,7 @@ fn refuses_tables(rt: HostRuntime) {
 }
 
 /// The limits with which two stops are read.
-fn two_stops() -> Limits
-    ensures { AreWithin result }
-{
+fn two_stops() -> Limits {
     let mut limits = Limits::standard();
     limits.stops = 2;
     limits

@@ -1,5 +1,4 @@
 //! A feed with a station of two platforms, and what its transfers tell.
-ghost use Rattle.csv_rows.specs.Limits.{AreWithin};
 
 use change_times::Changes;
 use csv_rows::{Column, FeedFault, Limits, Table};
@@ -26,9 +25,7 @@ fn files_with(alloc: Global, transfers: &str) -> Result<SteadyFiles, NoMemory> {
 }
 
 /// The limits with which the largest feed is read.
-fn limits() -> Limits
-    ensures { AreWithin result }
-{
+fn limits() -> Limits {
     Limits::standard()
 }
 

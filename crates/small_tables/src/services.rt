@@ -1,5 +1,3 @@
-ghost use Rattle.csv_rows.specs.Limits.{AreWithin};
-
 use csv_rows::{Column, FeedFault, Limits, Table};
 use memory_ports::MemoryFiles;
 use plan_model::{List, NoMemory};
@@ -31,9 +29,7 @@ fn files_with(
 }
 
 /// The limits with which the largest feed is read.
-fn limits() -> Limits
-    ensures { AreWithin result }
-{
+fn limits() -> Limits {
     Limits::standard()
 }
 

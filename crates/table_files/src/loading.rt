@@ -3,7 +3,7 @@ ghost use Rattle.std.specs.Prelude.{◌≡◌, ◌≢◌, ◌≤◌, ◌^◌, �
 ghost use Rattle.file_ports.specs.Counts.{KeepsOthers};
 ghost use Rattle.file_ports.specs.Ports.{file_at};
 ghost use Rattle.csv_rows.specs.FeedTables.{path_of, unread_of, is_unread};
-ghost use Rattle.csv_rows.specs.Limits.{AreWithin, rows_of};
+ghost use Rattle.csv_rows.specs.Limits.{rows_of};
 ghost use Rattle.table_files.specs.Loading.{load_of, loaded_from, loaded_bytes, HasAtMost, IsAbsent, IsLoadFault, HasFeedCauses};
 ghost use Rattle.csv_rows.specs.Tables.{table_of};
 
@@ -73,7 +73,6 @@ pub fn read_file<F: Files>(
     table: Table,
     limits: &Limits,
 ) -> Result<Option<Vec<u8>>, FeedFault>
-    requires { AreWithin limits.now }
     ensures same { F.files files.new ≡ F.files files.old }
 
     // Where the files are told: the bytes, or the fault of this file.
@@ -109,7 +108,6 @@ pub fn read_table<F: Files>(
     table: Table,
     limits: &Limits,
 ) -> Result<Loaded, FeedFault>
-    requires { AreWithin limits.now }
     ensures same { F.files files.new ≡ F.files files.old }
 
     // Where the files are told: the records, or the fault of this file.

@@ -1,7 +1,7 @@
 //! The tables that a feed has to have.
 ghost use Rattle.std.specs.Prelude.{◌≡◌, ◌≢◌, ◌≤◌, None, Ok, Err, IfOk, IfErr, IfSome, IsSome};
 ghost use Rattle.csv_rows.specs.FeedTables.{unread_of, IsFaultOf};
-ghost use Rattle.csv_rows.specs.Limits.{AreWithin, rows_of};
+ghost use Rattle.csv_rows.specs.Limits.{rows_of};
 ghost use Rattle.csv_rows.specs.Tables.{row_count};
 ghost use Rattle.table_files.specs.Loading.{HasFeedCauses, load_in};
 ghost use Rattle.table_files.specs.Required.{required};
@@ -21,7 +21,6 @@ pub fn read_required<F: Files>(
     first: Column,
     limits: &Limits,
 ) -> Result<Rows, FeedFault>
-    requires { AreWithin limits.now }
     ensures same { F.files files.new ≡ F.files files.old }
     ensures rows { IfSome (F.files files.old) (λ m. IfOk result (λ t.
         required table first (load_in m folder.now limits.now None table) ≡ Ok t)) }

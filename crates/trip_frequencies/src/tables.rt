@@ -3,7 +3,6 @@ ghost use Rattle.std.specs.Prelude.{◌≡◌, ◌≢◌, ◌≤◌, length, Non
 ghost use Rattle.std.specs.List.Sorted.{IsNonDecreasing};
 ghost use Rattle.csv_rows.specs.declared.feed_tables.Table.TheVariants.{Frequencies as FrequenciesTable};
 ghost use Rattle.csv_rows.specs.FeedTables.{unread_of, IsFaultOf};
-ghost use Rattle.csv_rows.specs.Limits.{AreWithin};
 ghost use Rattle.table_files.specs.Loading.{HasFeedCauses, load_in};
 ghost use Rattle.table_files.specs.Required.{IsOfSomeTable};
 ghost use Rattle.trip_frequencies.specs.FrequencyBounds.{most_frequencies};
@@ -25,7 +24,6 @@ pub fn load_frequencies<F: Files>(
     limits: &Limits,
     trips: &Ids,
 ) -> Result<Repeats, FeedFault>
-    requires { AreWithin limits.now }
     ensures same { F.files files.new ≡ F.files files.old }
     ensures repeats { IfSome (F.files files.old) (λ m. IfOk result (λ r. AreFrequencies trips.now
         (frequencies_from (load_in m folder.now limits.now None FrequenciesTable) trips.now)

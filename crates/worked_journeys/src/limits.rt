@@ -1,7 +1,4 @@
 //! Limits, each passed by a run within smaller ones, and none of them anything.
-ghost use Rattle.std.specs.Prelude.{◌≤◌};
-ghost use Rattle.csv_rows.specs.Limits.{AreWithin};
-
 use crate::feeds::{OLD_TOWN_PLAN, PLAN, old_town};
 use crate::told::{
     CHANGE, CHANGE_PLAN, ROOM, Source, Told, USUAL, files_of, is_told, told_by, words_of,
@@ -14,32 +11,13 @@ use std::alloc::Global;
 use std::process::Abort;
 use std::test::Fail;
 
-/// The limit, or the most that it may be.
-fn at_most(most: u64, limit: u64) -> u64
-    ensures { result ≤ most }
+/// The standard limits after a change.
+pub(crate) fn changed<F: Fn(&mut Limits)>(change: F) -> Limits
+    requires { F.IsAlwaysCallable change }
 {
-    if limit <= most { limit } else { most }
-}
-
-/// The limits, each at most the standard one.
-fn within(limits: &Limits) -> Limits
-    ensures { AreWithin result }
-{
-    let all = Limits::standard();
-    Limits {
-        bytes: at_most(all.bytes, limits.bytes),
-        stops: at_most(all.stops, limits.stops),
-        routes: at_most(all.routes, limits.routes),
-        trips: at_most(all.trips, limits.trips),
-        stop_times: at_most(all.stop_times, limits.stop_times),
-        frequencies: at_most(all.frequencies, limits.frequencies),
-        calendar: at_most(all.calendar, limits.calendar),
-        calendar_dates: at_most(all.calendar_dates, limits.calendar_dates),
-        transfers: at_most(all.transfers, limits.transfers),
-        cut_rows: at_most(all.cut_rows, limits.cut_rows),
-        connections: at_most(all.connections, limits.connections),
-        entries: at_most(all.entries, limits.entries),
-    }
+    let mut limits = Limits::standard();
+    change(&mut limits);
+    limits
 }
 
 /// The status and the fault that a run within limits ended with.
@@ -51,7 +29,7 @@ fn end_within(
     err: &mut MemorySink,
     limits: &Limits,
 ) -> (u8, Option<Fault>) {
-    let report = run_limited(alloc, words, files, out, err, &within(limits));
+    let report = run_limited(alloc, words, files, out, err, limits);
     (report.status.0, report.fault)
 }
 
@@ -160,23 +138,19 @@ fn refuses_feed(
 
 #[test]
 fn refuses_a_feed_above_its_limits(rt: HostRuntime) -> Result<(), Fail> {
-    let all = Limits::standard();
     for (limits, fault, line) in [
         (
-            Limits { stops: 2, ..all },
+            changed(|limits: &mut Limits| limits.stops = 2),
             rows(Table::Stops, 6),
             "meat: stops.txt has too many rows: 6\n",
         ),
         (
-            Limits { bytes: 100, ..all },
+            changed(|limits: &mut Limits| limits.bytes = 100),
             bytes(Table::Stops, 101),
             "meat: stops.txt is too long\n",
         ),
         (
-            Limits {
-                connections: 3,
-                ..all
-            },
+            changed(|limits: &mut Limits| limits.connections = 3),
             Fault::Limit(LimitKind::Connections, 4),
             "meat: too many connections: 4\n",
         ),
@@ -256,10 +230,7 @@ fn refuses_any_repeat_where_the_limit_is_none(rt: HostRuntime) -> Result<(), Fai
 
 #[test]
 fn refuses_any_byte_where_the_limit_is_none(rt: HostRuntime) -> Result<(), Fail> {
-    let none = Limits {
-        bytes: 0,
-        ..Limits::standard()
-    };
+    let none = changed(|limits: &mut Limits| limits.bytes = 0);
     let fault = bytes(Table::Stops, 1);
     refuses_feed(
         &rt,
@@ -272,10 +243,7 @@ fn refuses_any_byte_where_the_limit_is_none(rt: HostRuntime) -> Result<(), Fail>
 
 #[test]
 fn refuses_any_connection_where_the_limit_is_none(rt: HostRuntime) -> Result<(), Fail> {
-    let none = Limits {
-        connections: 0,
-        ..Limits::standard()
-    };
+    let none = changed(|limits: &mut Limits| limits.connections = 0);
     let fault = Fault::Limit(LimitKind::Connections, 4);
     refuses_feed(
         &rt,
@@ -289,18 +257,17 @@ fn refuses_any_connection_where_the_limit_is_none(rt: HostRuntime) -> Result<(),
 /// What is just not too much is taken.
 #[test]
 fn plans_over_a_feed_at_its_limits(rt: HostRuntime) -> Result<(), Fail> {
-    let enough = Limits {
-        stops: 6,
-        routes: 2,
-        trips: 3,
-        stop_times: 7,
-        calendar: 1,
-        calendar_dates: 1,
-        transfers: 2,
-        cut_rows: 0,
-        connections: 4,
-        ..Limits::standard()
-    };
+    let enough = changed(|limits: &mut Limits| {
+        limits.stops = 6;
+        limits.routes = 2;
+        limits.trips = 3;
+        limits.stop_times = 7;
+        limits.calendar = 1;
+        limits.calendar_dates = 1;
+        limits.transfers = 2;
+        limits.cut_rows = 0;
+        limits.connections = 4;
+    });
     answers_within(
         &rt,
         rt.alloc(),
@@ -313,10 +280,7 @@ fn plans_over_a_feed_at_its_limits(rt: HostRuntime) -> Result<(), Fail> {
 
 #[test]
 fn looks_up_stops_before_the_window_is_counted(rt: HostRuntime) -> Result<(), Fail> {
-    let few = Limits {
-        connections: 3,
-        ..Limits::standard()
-    };
+    let few = changed(|limits: &mut Limits| limits.connections = 3);
     ends_within(
         &rt,
         rt.alloc(),
@@ -333,44 +297,51 @@ const PLAN_CUT: &str = "plan --cut c --delays d --from A --to T --at 2024-06-03T
 
 #[test]
 fn refuses_a_cut_file_above_its_limits(rt: HostRuntime) -> Result<(), Fail> {
-    let all = Limits::standard();
     let long = "meat: cut file is too long\n";
     let many = "meat: cut file has too many rows: 3\n";
     for (limits, kind, count, line) in [
         (
-            Limits { bytes: 8, ..all },
+            changed(|limits: &mut Limits| limits.bytes = 8),
             LimitKind::Bytes(Input::Cut),
             9,
             long,
         ),
         (
-            Limits { bytes: 0, ..all },
+            changed(|limits: &mut Limits| limits.bytes = 0),
             LimitKind::Bytes(Input::Cut),
             1,
             long,
         ),
         (
-            Limits {
-                bytes: 8,
-                cut_rows: 3,
-                ..all
-            },
+            changed(|limits: &mut Limits| {
+                limits.bytes = 8;
+                limits.cut_rows = 3;
+            }),
             LimitKind::Bytes(Input::Cut),
             9,
             long,
         ),
         (
-            Limits {
-                bytes: 1 << 20,
-                cut_rows: 1,
-                ..all
-            },
+            changed(|limits: &mut Limits| {
+                limits.bytes = 1 << 20;
+                limits.cut_rows = 1;
+            }),
             LimitKind::CutRows,
             3,
             many,
         ),
-        (Limits { cut_rows: 1, ..all }, LimitKind::CutRows, 3, many),
-        (Limits { cut_rows: 0, ..all }, LimitKind::CutRows, 3, many),
+        (
+            changed(|limits: &mut Limits| limits.cut_rows = 1),
+            LimitKind::CutRows,
+            3,
+            many,
+        ),
+        (
+            changed(|limits: &mut Limits| limits.cut_rows = 0),
+            LimitKind::CutRows,
+            3,
+            many,
+        ),
     ] {
         let fault = Fault::Limit(kind, count);
         ends_within(
@@ -390,12 +361,11 @@ fn refuses_a_cut_file_above_its_limits(rt: HostRuntime) -> Result<(), Fail> {
 /// The limits of a feed are none of a cut file.
 #[test]
 fn plans_over_a_cut_file_at_its_limits(rt: HostRuntime) -> Result<(), Fail> {
-    let enough = Limits {
-        cut_rows: 3,
-        connections: 0,
-        stops: 0,
-        ..Limits::standard()
-    };
+    let enough = changed(|limits: &mut Limits| {
+        limits.cut_rows = 3;
+        limits.connections = 0;
+        limits.stops = 0;
+    });
     answers_within(
         &rt,
         rt.alloc(),

@@ -1,5 +1,5 @@
 //! Journeys that walk from one place to another between two rides, through the top call.
-use crate::limits::{answers_within, ends_within};
+use crate::limits::{answers_within, changed, ends_within};
 use crate::told::{Source, answers, refuses};
 use csv_rows::Limits;
 use meat_engine::{Fault, LimitKind};
@@ -84,14 +84,6 @@ fn walks_in_one_direction(rt: HostRuntime) -> Result<(), Fail> {
     )
 }
 
-/// The limits but for that of entries.
-fn entries(entries: u64) -> Limits {
-    Limits {
-        entries,
-        ..Limits::standard()
-    }
-}
-
 #[test]
 fn counts_a_connection_for_each_way_to_it(rt: HostRuntime) -> Result<(), Fail> {
     ends_within(
@@ -99,7 +91,7 @@ fn counts_a_connection_for_each_way_to_it(rt: HostRuntime) -> Result<(), Fail> {
         rt.alloc(),
         feed(JUST_TIME).as_slice(),
         WORDS,
-        &entries(2),
+        &changed(|limits: &mut Limits| limits.entries = 2),
         6,
         Fault::Limit(LimitKind::Entries, 4),
         "meat: too many entries: 4\n",
@@ -113,7 +105,7 @@ fn plans_with_just_so_many_ways(rt: HostRuntime) -> Result<(), Fail> {
         rt.alloc(),
         feed(JUST_TIME).as_slice(),
         WORDS,
-        &entries(4),
+        &changed(|limits: &mut Limits| limits.entries = 4),
         PLAN,
     )
 }

@@ -1,5 +1,4 @@
 //! The rows of frequencies of a feed, and their faults.
-ghost use Rattle.csv_rows.specs.Limits.{AreWithin};
 
 use csv_rows::{Column, FeedFault, Limits, Table};
 use file_ports::SteadyFiles;
@@ -26,9 +25,7 @@ fn files_with(alloc: Global, frequencies: &[u8]) -> Result<SteadyFiles, NoMemory
 }
 
 /// The fault of the feed with these frequencies.
-fn fault_with(alloc: Global, frequencies: &[u8], limits: &Limits) -> Option<FeedFault>
-    requires { AreWithin limits.now }
-{
+fn fault_with(alloc: Global, frequencies: &[u8], limits: &Limits) -> Option<FeedFault> {
     let Ok(mut files) = files_with(alloc, frequencies) else {
         return Some(FeedFault::NoMemory);
     };

@@ -8,4 +8,4 @@ none_is true fault more e = absurd (cc)
 none_is false fault more e = refl
 
 pub network_of-requires-clause-few : goal.network_of-requires-clause-few
-network_of-requires-clause-few c = omega (arith, ltb-false c.args.limits.now.connections _ (none_is _ _ _ c.in_ok-count.ensures), c.requires.limits.connections)
+network_of-requires-clause-few c = omega (arith, ltb-false c.args.limits.now.connections _ (none_is _ _ _ c.in_ok-count.ensures), c.args.limits.now.connections_in)

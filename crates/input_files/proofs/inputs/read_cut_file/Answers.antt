@@ -24,5 +24,5 @@ returns-clause-early g c = c.fault_of_cut.ensures.early c.args.path.now
 
 pub returns-in-Ok-clause-sound : goal.returns-in-Ok-clause-sound
 returns-in-Ok-clause-sound g c =
-    cut_of_some c.in_ok-rows.rows c.in-Ok.table c.in_ok-rows.ensures.text.0 c.args.limits.now.cut_rows c.in_ok-rows.ensures.text.1 c.requires.cut_rows
+    cut_of_some c.in_ok-rows.rows c.in-Ok.table c.in_ok-rows.ensures.text.0 c.args.limits.now.cut_rows c.in_ok-rows.ensures.text.1 c.args.limits.now.cut_rows_in
     c.in-Ok.ensures.none c.in-Ok.ensures.table
