@@ -1,5 +1,5 @@
 //! The change times of the places of a feed, and the links between them.
-ghost use Rattle.std.specs.Prelude.{◌≡◌, ◌≢◌, ◌<◌, ◌≤◌, ◌+◌, ◌-◌, ◌^◌, ℕ, None, Ok, Err, IfOk, IfErr, IfSome, IsOkAnd, IsSome, OnOk, is_none, nat_eq, length, if◌then◌else◌, []};
+ghost use Rattle.std.specs.Prelude.{◌≡◌, ◌≢◌, ◌<◌, ◌≤◌, ◌+◌, ◌-◌, ◌^◌, ℕ, None, Ok, Err, IfOk, IfErr, IfSome, IsOkAnd, OnOk, is_none, nat_eq, length, if◌then◌else◌, []};
 ghost use Rattle.plan_model.specs.Bounds.{seconds_per_day};
 ghost use Rattle.std.specs.HashMap.{get};
 ghost use Rattle.csv_rows.specs.declared.feed_tables.Table.TheVariants.{Transfers as TransfersTable};
@@ -212,16 +212,14 @@ impl Changes {
         feed: &Feed,
         limits: &Limits,
     ) -> Result<Changes, FeedFault>
-        ensures same { F.files files.new ≡ F.files files.old }
-        ensures changes { IfSome (F.files files.old) (λ m. IfOk result (λ c. IsOkAnd
+        ensures changes { IfSome (F.state files.old).files (λ m. IfOk result (λ c. IsOkAnd
             (transfers_in m folder.now limits.now None feed.now) (AreToldChanges feed.now c))) }
         ensures sound { IfOk result (AreToldBySome feed.now) }
         ensures links { IfOk result (λ c. LinksComeFrom (length feed.now.stop_ids) c) }
-        ensures fault { IfSome (F.files files.old) (λ m. IfErr result (λ f. f ≢ FeedFault.NoMemory
+        ensures fault { IfSome (F.state files.old).files (λ m. IfErr result (λ f. f ≢ FeedFault.NoMemory
             → transfers_in m folder.now limits.now (unread_of f) feed.now ≡ Err f)) }
         ensures own { IfErr result (IsFaultOf TransfersTable) }
-        ensures causes { HasFeedCauses (IsSome (F.files files.old)) folder.now
-            (F.faults files.old) (F.faults files.new) (F.faults_of files.old) (F.faults_of files.new) result }
+        ensures causes { HasFeedCauses folder.now (F.state files.old) (F.state files.new) result }
     {
         let loaded = read_table(alloc, files, folder, Table::Transfers, limits)?;
         changes_of(alloc, feed, &loaded)

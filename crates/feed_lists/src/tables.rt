@@ -1,5 +1,5 @@
 //! The tables of stops, routes and trips, each loaded and read.
-ghost use Rattle.std.specs.Prelude.{◌≡◌, ◌≢◌, length, None, Err, IfOk, IfErr, IfSome, IsSome};
+ghost use Rattle.std.specs.Prelude.{◌≡◌, ◌≢◌, length, None, Err, IfOk, IfErr, IfSome};
 ghost use Rattle.csv_rows.specs.declared.feed_tables.Table.TheVariants.{Stops as StopsTable, Routes as RoutesTable, Trips as TripsTable};
 ghost use Rattle.csv_rows.specs.FeedTables.{unread_of, IsFaultOf};
 ghost use Rattle.table_files.specs.Loading.{HasFeedCauses, load_in};
@@ -20,15 +20,13 @@ pub fn load_stops<F: Files>(
     folder: &str,
     limits: &Limits,
 ) -> Result<Stops, FeedFault>
-    ensures same { F.files files.new ≡ F.files files.old }
-    ensures stops { IfSome (F.files files.old) (λ m. IfOk result
+    ensures stops { IfSome (F.state files.old).files (λ m. IfOk result
         (HasStops (stops_from (load_in m folder.now limits.now None StopsTable)))) }
-    ensures fault { IfSome (F.files files.old) (λ m. IfErr result (λ f. f ≢ FeedFault.NoMemory
+    ensures fault { IfSome (F.state files.old).files (λ m. IfErr result (λ f. f ≢ FeedFault.NoMemory
         → stops_from (load_in m folder.now limits.now (unread_of f) StopsTable) ≡ Err f)) }
     ensures sound { IfOk result AreSoundStops }
     ensures own { IfErr result (IsFaultOf StopsTable) }
-    ensures causes { HasFeedCauses (IsSome (F.files files.old)) folder.now
-        (F.faults files.old) (F.faults files.new) (F.faults_of files.old) (F.faults_of files.new) result }
+    ensures causes { HasFeedCauses folder.now (F.state files.old) (F.state files.new) result }
 {
     let rows = read_required(alloc, files, folder, Table::Stops, Column::StopId, limits)?;
     read_stops(alloc, &rows)
@@ -41,15 +39,13 @@ pub fn load_routes<F: Files>(
     folder: &str,
     limits: &Limits,
 ) -> Result<Routes, FeedFault>
-    ensures same { F.files files.new ≡ F.files files.old }
-    ensures routes { IfSome (F.files files.old) (λ m. IfOk result
+    ensures routes { IfSome (F.state files.old).files (λ m. IfOk result
         (HasRoutes (routes_from (load_in m folder.now limits.now None RoutesTable)))) }
-    ensures fault { IfSome (F.files files.old) (λ m. IfErr result (λ f. f ≢ FeedFault.NoMemory
+    ensures fault { IfSome (F.state files.old).files (λ m. IfErr result (λ f. f ≢ FeedFault.NoMemory
         → routes_from (load_in m folder.now limits.now (unread_of f) RoutesTable) ≡ Err f)) }
     ensures sound { IfOk result AreSoundRoutes }
     ensures own { IfErr result (IsFaultOf RoutesTable) }
-    ensures causes { HasFeedCauses (IsSome (F.files files.old)) folder.now
-        (F.faults files.old) (F.faults files.new) (F.faults_of files.old) (F.faults_of files.new) result }
+    ensures causes { HasFeedCauses folder.now (F.state files.old) (F.state files.new) result }
 {
     let rows = read_required(alloc, files, folder, Table::Routes, Column::RouteId, limits)?;
     read_routes(alloc, &rows)
@@ -64,16 +60,14 @@ pub fn load_trips<F: Files>(
     routes: &Routes,
 ) -> Result<Trips, FeedFault>
     requires types { length routes.now.types.items ≡ length routes.now.ids }
-    ensures same { F.files files.new ≡ F.files files.old }
-    ensures trips { IfSome (F.files files.old) (λ m. IfOk result (HasTrips routes.now
+    ensures trips { IfSome (F.state files.old).files (λ m. IfOk result (HasTrips routes.now
         (trips_from (load_in m folder.now limits.now None TripsTable) routes.now.ids))) }
-    ensures fault { IfSome (F.files files.old) (λ m. IfErr result (λ f. f ≢ FeedFault.NoMemory
+    ensures fault { IfSome (F.state files.old).files (λ m. IfErr result (λ f. f ≢ FeedFault.NoMemory
         → trips_from (load_in m folder.now limits.now (unread_of f) TripsTable) routes.now.ids
         ≡ Err f)) }
     ensures sound { IfOk result (AreSoundTrips routes.now) }
     ensures own { IfErr result (IsFaultOf TripsTable) }
-    ensures causes { HasFeedCauses (IsSome (F.files files.old)) folder.now
-        (F.faults files.old) (F.faults files.new) (F.faults_of files.old) (F.faults_of files.new) result }
+    ensures causes { HasFeedCauses folder.now (F.state files.old) (F.state files.new) result }
 {
     let rows = read_required(alloc, files, folder, Table::Trips, Column::RouteId, limits)?;
     read_trips(alloc, &rows, routes)

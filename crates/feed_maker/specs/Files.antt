@@ -1,6 +1,6 @@
 -- What the files of a made timetable stand for.
 use Rattle.std.specs.Prelude.{ℕ, List, ◌∷◌, Option, Some, codes, if◌then◌else◌}
-use Rattle.file_ports.specs.Ports.{FileMap}
+use Rattle.file_ports.specs.Ports.{FileMap, FilesState}
 use Rattle.file_ports.specs.Steady.{folder_of as others_on, hand_of as hand_on, left_of as left_on}
 use Rattle.feed_maker.specs.StopTimes.{left_of as times_left, lines_of}
 use Rattle.feed_maker.specs.MadeTables.{stop_times_text}
@@ -17,3 +17,7 @@ hand_of f = if f.in_times then Some (codes "feed/stop_times.txt") else hand_on f
 -- what is unread of it
 abbrev pub left_of : MadeFiles → Option (List ℕ)
 left_of f = if f.in_times then Some (times_left f.times) else left_on f.others
+
+-- all of it
+abbrev pub state_of : MadeFiles → FilesState
+state_of f = record { files = Some (folder_of f); in_hand = hand_of f; left = left_of f; faults = 0; faults_of = λ _. 0 }

@@ -40,31 +40,19 @@ impl MadeFiles {
 }
 
 impl Files for MadeFiles {
-    ghost use Rattle.std.specs.Prelude.{IsSome, IfSome, Some, IsOk};
+    ghost use Rattle.std.specs.Prelude.{IsSome, IsOk};
     ghost use Rattle.std.specs.Io.{ReadsAtMost};
     ghost use Rattle.std.specs.Io.KnownBytes.{ReadConsumes};
-    ghost use Rattle.file_ports.specs.Counts.{HasCause, HasPathCause};
-    ghost use Rattle.file_ports.specs.Ports.{Opens, TakesInHand};
-    ghost use Rattle.feed_maker.specs.Files.{folder_of, hand_of, left_of};
+    ghost use Rattle.file_ports.specs.Counts.{HasFileCause};
+    ghost use Rattle.file_ports.specs.Ports.{Opens, TakesInHand, path_in_hand};
+    ghost use Rattle.feed_maker.specs.Files.{state_of};
 
-    ghost files = { λ f. Some (folder_of f) };
-
-    ghost in_hand = { hand_of };
-
-    ghost left = { left_of };
-
-    ghost faults = { λ _. 0 };
-
-    ghost faults_of = { λ _ _. 0 };
+    ghost state = { state_of };
 
     fn open_file(&mut self, path: &str) -> Result<Presence, Failed>
-        ensures same { Some (folder_of self.new) ≡ Some (folder_of self.old) }
-        ensures opens { Opens (Some (folder_of self.old)) path.now result (left_of self.new) }
-        ensures in_hand { TakesInHand
-            (IsSome (Some (folder_of self.old))) path.now result (hand_of self.new) }
-        ensures cause { HasCause 0 0 result }
-        ensures path_cause { HasPathCause (IsSome (Some (folder_of self.old))) path.now
-            (λ _. 0) (λ _. 0) result }
+        ensures opens { Opens (state_of self.old).files path.now result (state_of self.new).left }
+        ensures in_hand { TakesInHand (state_of self.old) path.now result (state_of self.new).in_hand }
+        ensures cause { HasFileCause path.now (state_of self.old) (state_of self.new) result }
         ensures never_fails { IsOk result }
     {
         if path == STOP_TIMES {
@@ -77,15 +65,13 @@ impl Files for MadeFiles {
     }
 
     fn read(&mut self, buffer: &mut [u8]) -> Result<usize, Failed>
-        requires in_hand { IsSome (hand_of self.old) }
+        requires in_hand { IsSome (state_of self.old).in_hand }
         requires room { 0 < length buffer.old }
-        ensures same { Some (folder_of self.new) ≡ Some (folder_of self.old) }
-        ensures in_hand { hand_of self.new ≡ hand_of self.old }
+        ensures in_hand { (state_of self.new).in_hand ≡ (state_of self.old).in_hand }
         ensures bound { ReadsAtMost result buffer.new }
-        ensures bytes { ReadConsumes (left_of self.old) (left_of self.new) result buffer.new }
-        ensures cause { HasCause 0 0 result }
-        ensures path_cause { IfSome (hand_of self.old) (λ path.
-            HasPathCause (IsSome (Some (folder_of self.old))) path (λ _. 0) (λ _. 0) result) }
+        ensures bytes { ReadConsumes (state_of self.old).left (state_of self.new).left result buffer.new }
+        ensures cause { let old = state_of self.old in
+            HasFileCause (path_in_hand old) old (state_of self.new) result }
         ensures never_fails { IsOk result }
     {
         if self.in_times {

@@ -1,5 +1,5 @@
 //! What is asked of the graph of a file: the trip by it, and bounds on its expected arrival.
-ghost use Rattle.std.specs.Prelude.{◌≡◌, ◌≢◌, ◌<◌, ◌≤◌, length, Some, None, Ok, Err, IfOk, IfErr, IfSome, IsSome};
+ghost use Rattle.std.specs.Prelude.{◌≡◌, ◌≢◌, ◌<◌, ◌≤◌, length, Some, None, Ok, Err, IfOk, IfErr, IfSome};
 ghost use Rattle.plan_model.specs.NameLists.{NamesFit};
 ghost use Rattle.plan_graph.specs.Tidy.{IsFit};
 ghost use Rattle.graph_text.specs.Asked.{IsHeadOf};
@@ -70,8 +70,7 @@ fn read_graph_file<F: Files>(
     limits: &Limits,
 ) -> Result<(Head, PlanGraph), Fault>
     requires fit { NamesFit problem.now.names problem.now.network }
-    ensures same { F.files files.new ≡ F.files files.old }
-    ensures graph { IfSome (F.files files.old) (λ m. Finds (λ f. (f.0, f.1))
+    ensures graph { IfSome (F.state files.old).files (λ m. Finds (λ f. (f.0, f.1))
         (λ unread. graph_in limits.now problem.now start.0 unread (file_at m path.now)) result) }
     ensures fit { IfOk result (λ f. IsFit problem.now.network f.0.query f.1) }
     ensures head { IfOk result (λ f.
@@ -79,9 +78,7 @@ fn read_graph_file<F: Files>(
     ensures deadline { IfOk result (λ f. f.0.query.deadline.0 ≤ last_printable) }
     ensures own { IfErr result (MayBeUnread Input.Graph) }
     ensures stage { IfErr result (λ fault. fault ≢ Fault.NoMemory → IsOfInput Input.Graph fault) }
-    ensures causes { HasCauses (IsSome (F.files files.old)) (λ other. Some path.now)
-        (F.faults files.old) (F.faults files.new)
-        (F.faults_of files.old) (F.faults_of files.new) result }
+    ensures causes { HasCauses (λ other. Some path.now) (F.state files.old) (F.state files.new) result }
 {
     read_fits();
     let bytes = load_bytes(alloc, files, path, Input::Graph, limits)?;
@@ -102,17 +99,14 @@ pub fn replay_over<F: Files>(
     requires source { problem.now.source.0 < length problem.now.network.change }
     requires target { problem.now.target.0 < length problem.now.network.change }
     requires start { start.0 ≤ last_start }
-    ensures same { F.files files.new ≡ F.files files.old }
-    ensures answer { IfOk result (λ a. InGraphFile (F.files files.old) limits.now start.0
+    ensures answer { IfOk result (λ a. InGraphFile (F.state files.old).files limits.now start.0
         graph.now problem.now (IsTripTold problem.now (late_in late.now)
         (findings_of a.report) a.text.items)) }
     ensures fault { IfErr result (λ fault. fault ≢ Fault.NoMemory
-        → FailsReplay (F.files files.old) limits.now start.0 graph.now (late_in late.now)
+        → FailsReplay (F.state files.old).files limits.now start.0 graph.now (late_in late.now)
         problem.now fault) }
     ensures tellable { IfErr result (IsTellable (Some (parts_of problem.now))) }
-    ensures causes { HasCauses (IsSome (F.files files.old)) (graph_path graph.now)
-        (F.faults files.old) (F.faults files.new)
-        (F.faults_of files.old) (F.faults_of files.new) result }
+    ensures causes { HasCauses (graph_path graph.now) (F.state files.old) (F.state files.new) result }
 {
     let (head, graph) = read_graph_file(alloc, files, graph, problem, start, limits)?;
     trip_over(alloc, problem, head, graph, late)
@@ -131,15 +125,12 @@ pub fn check_graph_over<F: Files>(
     requires source { problem.now.source.0 < length problem.now.network.change }
     requires target { problem.now.target.0 < length problem.now.network.change }
     requires start { start.0 ≤ last_start }
-    ensures same { F.files files.new ≡ F.files files.old }
-    ensures answer { IfOk result (λ a. InGraphFile (F.files files.old) limits.now start.0
+    ensures answer { IfOk result (λ a. InGraphFile (F.state files.old).files limits.now start.0
         graph.now problem.now (IsEnclosed problem.now (findings_of a.report) a.text.items)) }
     ensures fault { IfErr result (λ fault. fault ≢ Fault.NoMemory
-        → FailsScore (F.files files.old) limits.now start.0 graph.now problem.now fault) }
+        → FailsScore (F.state files.old).files limits.now start.0 graph.now problem.now fault) }
     ensures tellable { IfErr result (IsTellable (Some (parts_of problem.now))) }
-    ensures causes { HasCauses (IsSome (F.files files.old)) (graph_path graph.now)
-        (F.faults files.old) (F.faults files.new)
-        (F.faults_of files.old) (F.faults_of files.new) result }
+    ensures causes { HasCauses (graph_path graph.now) (F.state files.old) (F.state files.new) result }
 {
     let (head, graph) = read_graph_file(alloc, files, graph, problem, start, limits)?;
     score_over(alloc, problem, head, graph)

@@ -1,5 +1,5 @@
 //! What is asked of the certificate of a file: whether it holds.
-ghost use Rattle.std.specs.Prelude.{◌≡◌, ◌≢◌, ◌<◌, ◌≤◌, length, Some, None, IfOk, IfErr, IfSome, IsSome};
+ghost use Rattle.std.specs.Prelude.{◌≡◌, ◌≢◌, ◌<◌, ◌≤◌, length, Some, None, IfOk, IfErr, IfSome};
 ghost use Rattle.plan_model.specs.NameLists.{NamesFit};
 ghost use Rattle.journey_model.specs.Faults.{MayBeUnread, unread_of};
 ghost use Rattle.journey_model.specs.Sites.{IsTellable};
@@ -59,16 +59,13 @@ fn read_proof_file<F: Files>(
     start: Moment,
     limits: &Limits,
 ) -> Result<(Query, LowerBounds), Fault>
-    ensures same { F.files files.new ≡ F.files files.old }
-    ensures proof { IfOk result (λ f. IsProofFile (F.files files.old) limits.now start.0
+    ensures proof { IfOk result (λ f. IsProofFile (F.state files.old).files limits.now start.0
         path.now problem.now f.0 f.1) }
     ensures fault { IfErr result (λ fault. fault ≢ Fault.NoMemory
-        → FailsProof (F.files files.old) limits.now start.0 path.now problem.now fault) }
+        → FailsProof (F.state files.old).files limits.now start.0 path.now problem.now fault) }
     ensures own { IfErr result (MayBeUnread Input.Proof) }
     ensures stage { IfErr result (λ fault. fault ≢ Fault.NoMemory → IsOfInput Input.Proof fault) }
-    ensures causes { HasCauses (IsSome (F.files files.old)) (λ other. Some path.now)
-        (F.faults files.old) (F.faults files.new)
-        (F.faults_of files.old) (F.faults_of files.new) result }
+    ensures causes { HasCauses (λ other. Some path.now) (F.state files.old) (F.state files.new) result }
 {
     let bytes = load_bytes(alloc, files, path, Input::Proof, limits)?;
     proof_of_bytes(alloc, bytes.as_slice(), problem, start)
@@ -87,15 +84,12 @@ pub fn check_proof_over<F: Files>(
     requires source { problem.now.source.0 < length problem.now.network.change }
     requires target { problem.now.target.0 < length problem.now.network.change }
     requires start { start.0 ≤ last_start }
-    ensures same { F.files files.new ≡ F.files files.old }
-    ensures answer { IfOk result (λ a. InProofFile (F.files files.old) limits.now start.0
+    ensures answer { IfOk result (λ a. InProofFile (F.state files.old).files limits.now start.0
         proof.now problem.now (IsHeld problem.now (findings_of a.report) a.text.items)) }
     ensures fault { IfErr result (λ fault. fault ≢ Fault.NoMemory
-        → FailsCheck (F.files files.old) limits.now start.0 proof.now problem.now fault) }
+        → FailsCheck (F.state files.old).files limits.now start.0 proof.now problem.now fault) }
     ensures tellable { IfErr result (IsTellable (Some (parts_of problem.now))) }
-    ensures causes { HasCauses (IsSome (F.files files.old)) (proof_path proof.now)
-        (F.faults files.old) (F.faults files.new)
-        (F.faults_of files.old) (F.faults_of files.new) result }
+    ensures causes { HasCauses (proof_path proof.now) (F.state files.old) (F.state files.new) result }
 {
     let (query, proof) = read_proof_file(alloc, files, proof, problem, start, limits)?;
     check_over(alloc, problem, query, proof)

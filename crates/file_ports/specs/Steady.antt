@@ -1,6 +1,6 @@
 -- What files in memory that never fail stand for.
 use Rattle.std.specs.Prelude.{◌≡◌, ℕ, List, map, if◌then◌else◌, Option, Some, option_map, option_and_then, slice_get, drop, bytes_eq, string_bytes}
-use Rattle.file_ports.specs.Ports.{FileMap, file_at}
+use Rattle.file_ports.specs.Ports.{FileMap, FilesState, file_at}
 use Rattle.file_ports.specs.declared.steady.SteadyFiles.{SteadyFiles}
 
 -- the files by their paths
@@ -14,6 +14,10 @@ hand_of f = option_and_then (λ i. option_map (λ e. string_bytes e.path) (slice
 -- what is unread of it
 abbrev pub left_of : SteadyFiles → Option (List ℕ)
 left_of f = option_and_then (λ i. option_map (λ e. drop f.place e.value.items) (slice_get f.held.items i)) f.hand
+
+-- all of it
+abbrev pub state_of : SteadyFiles → FilesState
+state_of f = record { files = Some (folder_of f); in_hand = hand_of f; left = left_of f; faults = 0; faults_of = λ _. 0 }
 
 -- the most that a read gives
 abbrev pub piece_of : SteadyFiles → ℕ

@@ -21,8 +21,8 @@ pub struct HostFiles<R: rt::Files> {
 impl<R: rt::Files + RandomSource> HostFiles<R> {
     /// No file is in hand, and nothing has failed. The key of its hashes is drawn anew in each call. It takes no memory.
     pub fn new(rt: R) -> HostFiles<R>
-        ensures hand { ⟦<HostFiles<R> as Files>⟧.in_hand result ≡ None }
-        ensures faults { ⟦<HostFiles<R> as Files>⟧.faults result ≡ 0 }
+        ensures hand { (⟦<HostFiles<R> as Files>⟧.state result).in_hand ≡ None }
+        ensures faults { (⟦<HostFiles<R> as Files>⟧.state result).faults ≡ 0 }
     {
         let key = HashKey::drawn(&rt);
         HostFiles {
@@ -37,15 +37,13 @@ impl<R: rt::Files + RandomSource> HostFiles<R> {
 impl<R: rt::Files> Files for HostFiles<R> {
     ghost use Rattle.std.specs.Prelude.{[], None, Some, is_some, if◌then◌else◌};
 
-    ghost files = { λ _. None };
-
-    ghost in_hand = { λ s. if is_some s.file then Some [] else None };
-
-    ghost left = { λ _. None };
-
-    ghost faults = { λ s. s.faults };
-
-    ghost faults_of = { λ _ _. 0 };
+    ghost state = { λ s. record {
+      files = None;
+      in_hand = if is_some s.file then Some [] else None;
+      left = None;
+      faults = s.faults;
+      faults_of = λ _. 0;
+    } };
 
     fn open_file(&mut self, path: &str) -> Result<Presence, Failed> {
         self.file = None;

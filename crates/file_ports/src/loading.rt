@@ -3,7 +3,7 @@ ghost use Rattle.std.specs.Prelude.{◌≡◌, ◌<◌, ◌≤◌, ◌+◌, ◌^
 ghost use Rattle.std.specs.Io.KnownBytes.{Appends, Consumes, IsAtEnd};
 ghost use Rattle.file_ports.specs.Counts.{HasCause, KeepsOthers};
 ghost use Rattle.file_ports.specs.Loading.{HasLoadCauses, IsLonger, Takes, AppendsFront};
-ghost use Rattle.file_ports.specs.Ports.{file_at};
+ghost use Rattle.file_ports.specs.Ports.{file_at, path_in_hand};
 
 use crate::ports::{Failed, Files, Presence, Sink};
 use std::alloc::Global;
@@ -23,18 +23,17 @@ const CHUNK: usize = 4096;
 
 /// Reads the file in hand to its end, at most so many bytes and one more.
 fn read_rest<F: Files>(alloc: Global, files: &mut F, most: usize) -> Result<Vec<u8>, LoadFault>
-    requires in_hand { IsSome (F.in_hand files.old) }
+    requires in_hand { IsSome (F.state files.old).in_hand }
     requires most { most ≤ 2 ^ 30 }
-    ensures same { F.files files.new ≡ F.files files.old }
-    ensures in_hand { F.in_hand files.new ≡ F.in_hand files.old }
-    ensures whole { IfOk result (λ v. Consumes (F.left files.old) (F.left files.new) v.items
-        × IsAtEnd (F.left files.new)) }
+    ensures in_hand { (F.state files.new).in_hand ≡ (F.state files.old).in_hand }
+    ensures whole { IfOk result (λ v. Consumes (F.state files.old).left (F.state files.new).left v.items
+        × IsAtEnd (F.state files.new).left) }
     ensures bound { IfOk result (λ v. length v.items ≤ most) }
-    ensures takes { Takes most (F.left files.old) (F.left files.new) result }
-    ensures causes { IfSome (F.in_hand files.old) (λ path. HasLoadCauses (IsSome (F.files files.old)) path
-        (F.faults files.old) (F.faults files.new) (F.faults_of files.old) (F.faults_of files.new) result) }
-    ensures others { IfSome (F.in_hand files.old) (λ path. KeepsOthers (IsSome (F.files files.old)) path
-        (F.faults_of files.old) (F.faults_of files.new)) }
+    ensures takes { Takes most (F.state files.old).left (F.state files.new).left result }
+    ensures causes { let old = F.state files.old in
+        HasLoadCauses (path_in_hand old) old (F.state files.new) result }
+    ensures others { let old = F.state files.old in
+        KeepsOthers (path_in_hand old) old (F.state files.new) }
 {
     let mut bytes = Vec::new(alloc);
     let mut buffer = [0; CHUNK];
@@ -61,24 +60,21 @@ pub fn load<F: Files>(
     most: u64,
 ) -> Result<Option<Vec<u8>>, LoadFault>
     requires { most ≤ 2 ^ 30 }
-    ensures same { F.files files.new ≡ F.files files.old }
 
     // `None` exactly where the file was answered absent: then none is in hand.
-    ensures absent { IfOk result (λ o. IsNone o ↔ (F.in_hand files.new ≡ None)) }
+    ensures absent { IfOk result (λ o. IsNone o ↔ ((F.state files.new).in_hand ≡ None)) }
 
     // Where the files are told: the whole file, or none exactly where there is none.
-    ensures found { IfSome (F.files files.old) (λ m.
+    ensures found { IfSome (F.state files.old).files (λ m.
         IfOk result (λ o. option_map vec_items o ≡ file_at m path.now)) }
     ensures bound { IfOk result (λ o. IfSome o (λ v. length v.items ≤ most)) }
-    ensures too_long { IsErrOf result LoadFault.TooLong → IsSome (F.in_hand files.new) }
-    ensures longer { IfSome (F.files files.old) (λ m.
+    ensures too_long { IsErrOf result LoadFault.TooLong → IsSome (F.state files.new).in_hand }
+    ensures longer { IfSome (F.state files.old).files (λ m.
         IsErrOf result LoadFault.TooLong → IsLonger most (file_at m path.now)) }
-    ensures takes { IfSome (F.files files.old) (λ m.
-        IsSome (F.in_hand files.new) → Takes most (file_at m path.now) (F.left files.new) result) }
-    ensures causes { HasLoadCauses (IsSome (F.files files.old)) path.now
-        (F.faults files.old) (F.faults files.new) (F.faults_of files.old) (F.faults_of files.new) result }
-    ensures others { KeepsOthers (IsSome (F.files files.old)) path.now
-        (F.faults_of files.old) (F.faults_of files.new) }
+    ensures takes { IfSome (F.state files.old).files (λ m.
+        IsSome (F.state files.new).in_hand → Takes most (file_at m path.now) (F.state files.new).left result) }
+    ensures causes { HasLoadCauses path.now (F.state files.old) (F.state files.new) result }
+    ensures others { KeepsOthers path.now (F.state files.old) (F.state files.new) }
 {
     match files.open_file(path) {
         Err(Failed) => Err(LoadFault::Read),

@@ -1,9 +1,9 @@
 //! The two interfaces to the outside.
-ghost use Rattle.std.specs.Prelude.{◌≡◌, ◌<◌, ◌≤◌, ◌^◌, ℕ, List, Option, length, IfOk, IfSome, IsSome};
+ghost use Rattle.std.specs.Prelude.{◌≡◌, ◌<◌, ◌≤◌, ℕ, List, Option, length, IfOk, IsSome};
 ghost use Rattle.std.specs.Io.{ReadsAtMost};
 ghost use Rattle.std.specs.Io.KnownBytes.{ReadConsumes, WriteAppends};
-ghost use Rattle.file_ports.specs.Counts.{HasCause, HasPathCause};
-ghost use Rattle.file_ports.specs.Ports.{FileMap, Opens, TakesInHand};
+ghost use Rattle.file_ports.specs.Counts.{HasCause, HasFileCause};
+ghost use Rattle.file_ports.specs.Ports.{FilesState, Opens, TakesInHand, path_in_hand};
 
 use plan_model::HashKey;
 
@@ -22,41 +22,24 @@ pub struct Failed;
 
 /// A folder of files, of which one at a time can be in hand.
 pub trait Files {
-    /// The files by their paths, where they are told.
-    ghost files: { Self → Option FileMap };
-
-    /// The path of the file in hand. Where the files are not told only whether there is one counts.
-    ghost in_hand: { Self → Option (List ℕ) };
-
-    /// What is unread of the file in hand, where it is told.
-    ghost left: { Self → Option (List ℕ) };
-
-    /// How often the outside has failed.
-    ghost faults: { Self → ℕ };
-
-    /// How often it has failed at each path. It counts where the files are told.
-    ghost faults_of: { Self → List ℕ → ℕ };
+    /// What the files stand for.
+    ghost state: { Self → FilesState };
 
     /// Takes the file with this path in hand, if there is one.
     fn open_file(&mut self, path: &str) -> Result<Presence, Failed>
-        ensures same { files self.new ≡ files self.old }
-        ensures opens { Opens (files self.old) path.now result (left self.new) }
-        ensures in_hand { TakesInHand (IsSome (files self.old)) path.now result (in_hand self.new) }
-        ensures cause { HasCause (faults self.old) (faults self.new) result }
-        ensures path_cause { HasPathCause (IsSome (files self.old)) path.now
-            (faults_of self.old) (faults_of self.new) result };
+        ensures opens { Opens (state self.old).files path.now result (state self.new).left }
+        ensures in_hand { TakesInHand (state self.old) path.now result (state self.new).in_hand }
+        ensures cause { HasFileCause path.now (state self.old) (state self.new) result };
 
     /// Moves some bytes of the file in hand to the front of the buffer, none only at its end.
     fn read(&mut self, buffer: &mut [u8]) -> Result<usize, Failed>
-        requires in_hand { IsSome (in_hand self.old) }
+        requires in_hand { IsSome (state self.old).in_hand }
         requires room { 0 < length buffer.old }
-        ensures same { files self.new ≡ files self.old }
-        ensures in_hand { in_hand self.new ≡ in_hand self.old }
+        ensures in_hand { (state self.new).in_hand ≡ (state self.old).in_hand }
         ensures bound { ReadsAtMost result buffer.new }
-        ensures bytes { ReadConsumes (left self.old) (left self.new) result buffer.new }
-        ensures cause { HasCause (faults self.old) (faults self.new) result }
-        ensures path_cause { IfSome (in_hand self.old) (λ path.
-            HasPathCause (IsSome (files self.old)) path (faults_of self.old) (faults_of self.new) result) };
+        ensures bytes { ReadConsumes (state self.old).left (state self.new).left result buffer.new }
+        ensures cause { let old = state self.old in
+            HasFileCause (path_in_hand old) old (state self.new) result };
 
     /// The key by which ids that come from these files are hashed. It is one that nobody knows where the host draws it.
     fn hash_key(&self) -> HashKey {

@@ -42,7 +42,7 @@ impl Model for Feed {
 }
 
 impl Feed {
-    ghost use Rattle.std.specs.Prelude.{◌≡◌, ◌≢◌, ◌<◌, ◌≤◌, None, Some, Ok, Err, IfOk, IfErr, IfSome, IsSome, length, slice_get, slice_index, slice_index_or, option_map, []};
+    ghost use Rattle.std.specs.Prelude.{◌≡◌, ◌≢◌, ◌<◌, ◌≤◌, None, Some, Ok, Err, IfOk, IfErr, IfSome, length, slice_get, slice_index, slice_index_or, option_map, []};
     ghost use Rattle.csv_rows.specs.FeedTables.{unread_of};
     ghost use Rattle.csv_rows.specs.Ids.{AreIds};
     ghost use Rattle.table_files.specs.Loading.{HasFeedCauses};
@@ -60,16 +60,13 @@ impl Feed {
         folder: &str,
         limits: &Limits,
     ) -> Result<Feed, FeedFault>
-        ensures same { F.files files.new ≡ F.files files.old }
-
         // Where the files are told: the feed of their tables, or the first of all faults.
-        ensures feed { IfSome (F.files files.old) (λ m. IfOk result (λ feed.
+        ensures feed { IfSome (F.state files.old).files (λ m. IfOk result (λ feed.
             IsFeedOf (tables_in m folder.now limits.now None) feed)) }
-        ensures fault { IfSome (F.files files.old) (λ m. IfErr result (λ f. f ≢ FeedFault.NoMemory
+        ensures fault { IfSome (F.state files.old).files (λ m. IfErr result (λ f. f ≢ FeedFault.NoMemory
             → tables_in m folder.now limits.now (unread_of f) ≡ Err f)) }
         ensures own { IfErr result IsFeedTableFault }
-        ensures causes { HasFeedCauses (IsSome (F.files files.old)) folder.now
-            (F.faults files.old) (F.faults files.new) (F.faults_of files.old) (F.faults_of files.new) result }
+        ensures causes { HasFeedCauses folder.now (F.state files.old) (F.state files.new) result }
     {
         let lists = load_lists(alloc, files, folder, limits)?;
         let times = load_times(alloc, files, folder, limits, &lists)?;

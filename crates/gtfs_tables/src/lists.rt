@@ -1,5 +1,5 @@
 //! The stops, the routes and the trips of a feed.
-ghost use Rattle.std.specs.Prelude.{◌≡◌, ◌≢◌, None, Err, IfOk, IfErr, IfSome, IsSome};
+ghost use Rattle.std.specs.Prelude.{◌≡◌, ◌≢◌, None, Err, IfOk, IfErr, IfSome};
 ghost use Rattle.csv_rows.specs.FeedTables.{unread_of};
 ghost use Rattle.table_files.specs.Loading.{HasFeedCauses, load_in};
 ghost use Rattle.gtfs_tables.specs.Feeds.{tables_in, IsFeedTableFault};
@@ -35,15 +35,13 @@ pub(crate) fn load_lists<F: Files>(
     folder: &str,
     limits: &Limits,
 ) -> Result<FeedLists, FeedFault>
-    ensures same { F.files files.new ≡ F.files files.old }
-    ensures lists { IfSome (F.files files.old) (λ m. IfOk result
+    ensures lists { IfSome (F.state files.old).files (λ m. IfOk result
         (AreLists (load_in m folder.now limits.now None))) }
-    ensures fault { IfSome (F.files files.old) (λ m. IfErr result (λ f. f ≢ FeedFault.NoMemory
+    ensures fault { IfSome (F.state files.old).files (λ m. IfErr result (λ f. f ≢ FeedFault.NoMemory
         → tables_in m folder.now limits.now (unread_of f) ≡ Err f)) }
     ensures sound { IfOk result AreSoundLists }
     ensures own { IfErr result IsFeedTableFault }
-    ensures causes { HasFeedCauses (IsSome (F.files files.old)) folder.now
-        (F.faults files.old) (F.faults files.new) (F.faults_of files.old) (F.faults_of files.new) result }
+    ensures causes { HasFeedCauses folder.now (F.state files.old) (F.state files.new) result }
 {
     let stops = load_stops(alloc, files, folder, limits)?;
     let routes = load_routes(alloc, files, folder, limits)?;

@@ -1,5 +1,5 @@
 //! The table of stop times, loaded and read.
-ghost use Rattle.std.specs.Prelude.{◌≡◌, ◌≢◌, ◌<◌, ◌≤◌, ℕ, [], length, slice_index_or, None, Ok, Err, IfOk, IfErr, IfSome, IsSome};
+ghost use Rattle.std.specs.Prelude.{◌≡◌, ◌≢◌, ◌<◌, ◌≤◌, ℕ, [], length, slice_index_or, None, Ok, Err, IfOk, IfErr, IfSome};
 ghost use Rattle.csv_rows.specs.declared.columns.Column.TheVariants.{TripId};
 ghost use Rattle.csv_rows.specs.declared.feed_tables.Table.TheVariants.{StopTimes as StopTimesTable};
 ghost use Rattle.csv_rows.specs.FeedTables.{unread_of, IsFaultOf};
@@ -25,15 +25,13 @@ fn load_times_text<F: Files>(
     folder: &str,
     limits: &Limits,
 ) -> Result<Vec<u8>, FeedFault>
-    ensures same { F.files files.new ≡ F.files files.old }
-    ensures text { IfSome (F.files files.old) (λ m. IfOk result (λ text.
+    ensures text { IfSome (F.state files.old).files (λ m. IfOk result (λ text.
         load_in m folder.now limits.now None StopTimesTable
         ≡ loaded_from StopTimesTable (rows_of limits.now StopTimesTable) (table_of text.items))) }
-    ensures fault { IfSome (F.files files.old) (λ m. IfErr result (λ f. f ≢ FeedFault.NoMemory
+    ensures fault { IfSome (F.state files.old).files (λ m. IfErr result (λ f. f ≢ FeedFault.NoMemory
         → required StopTimesTable TripId (load_in m folder.now limits.now (unread_of f) StopTimesTable) ≡ Err f)) }
     ensures own { IfErr result (IsFaultOf StopTimesTable) }
-    ensures causes { HasFeedCauses (IsSome (F.files files.old)) folder.now
-        (F.faults files.old) (F.faults files.new) (F.faults_of files.old) (F.faults_of files.new) result }
+    ensures causes { HasFeedCauses folder.now (F.state files.old) (F.state files.new) result }
 {
     match read_file(alloc, files, folder, Table::StopTimes, limits)? {
         Some(text) => Ok(text),
@@ -51,13 +49,12 @@ pub(crate) fn load_stop_times<F: Files>(
     stops: &Stops,
 ) -> Result<StopTimes, FeedFault>
     requires places { length stops.now.places.items ≡ length stops.now.ids }
-    ensures same { F.files files.new ≡ F.files files.old }
-    ensures visits { IfSome (F.files files.old) (λ m. IfOk result (λ v.
+    ensures visits { IfSome (F.state files.old).files (λ m. IfOk result (λ v.
         AreVisits trips.now stops.now.ids stops.now.places.items
         (stop_times_from (load_in m folder.now limits.now None StopTimesTable)
         trips.now stops.now.ids stops.now.places.items)
         v)) }
-    ensures fault { IfSome (F.files files.old) (λ m. IfErr result (λ f. f ≢ FeedFault.NoMemory
+    ensures fault { IfSome (F.state files.old).files (λ m. IfErr result (λ f. f ≢ FeedFault.NoMemory
         → stop_times_from (load_in m folder.now limits.now (unread_of f) StopTimesTable)
         trips.now stops.now.ids stops.now.places.items ≡ Err f)) }
     ensures sound { IfOk result (λ v.
@@ -67,8 +64,7 @@ pub(crate) fn load_stop_times<F: Files>(
         → length (slice_index_or v trip []) ≤ most_stop_times) }
     ensures sized { IfOk result (λ v. length v ≡ length trips.now) }
     ensures own { IfErr result (IsFaultOf StopTimesTable) }
-    ensures causes { HasFeedCauses (IsSome (F.files files.old)) folder.now
-        (F.faults files.old) (F.faults files.new) (F.faults_of files.old) (F.faults_of files.new) result }
+    ensures causes { HasFeedCauses folder.now (F.state files.old) (F.state files.new) result }
 {
     let text = load_times_text(alloc, files, folder, limits)?;
     let most = limits.rows_of(Table::StopTimes);

@@ -1,5 +1,5 @@
 //! When the trips of a feed run.
-ghost use Rattle.std.specs.Prelude.{◌≡◌, ◌≢◌, None, Err, IfOk, IfErr, IfSome, IsSome, length};
+ghost use Rattle.std.specs.Prelude.{◌≡◌, ◌≢◌, None, Err, IfOk, IfErr, IfSome, length};
 ghost use Rattle.csv_rows.specs.FeedTables.{unread_of};
 ghost use Rattle.table_files.specs.Loading.{HasFeedCauses, load_in};
 ghost use Rattle.gtfs_tables.specs.Feeds.{tables_in, IsFeedTableFault};
@@ -38,16 +38,14 @@ pub(crate) fn load_times<F: Files>(
     lists: &FeedLists,
 ) -> Result<TripTimes, FeedFault>
     requires places { length lists.now.stops.places.items ≡ length lists.now.stops.ids }
-    ensures same { F.files files.new ≡ F.files files.old }
-    ensures times { IfSome (F.files files.old) (λ m. IfOk result
+    ensures times { IfSome (F.state files.old).files (λ m. IfOk result
         (AreTripTimes (load_in m folder.now limits.now None) lists.now)) }
-    ensures fault { IfSome (F.files files.old) (λ m. IfErr result (λ f. f ≢ FeedFault.NoMemory
+    ensures fault { IfSome (F.state files.old).files (λ m. IfErr result (λ f. f ≢ FeedFault.NoMemory
         → AreLists (load_in m folder.now limits.now None) lists.now
         → tables_in m folder.now limits.now (unread_of f) ≡ Err f)) }
     ensures sound { IfOk result (AreSoundTimes lists.now) }
     ensures own { IfErr result IsFeedTableFault }
-    ensures causes { HasFeedCauses (IsSome (F.files files.old)) folder.now
-        (F.faults files.old) (F.faults files.new) (F.faults_of files.old) (F.faults_of files.new) result }
+    ensures causes { HasFeedCauses folder.now (F.state files.old) (F.state files.new) result }
 {
     let trips = &lists.trips.ids;
     let visits = load_stop_times(alloc, files, folder, limits, trips, &lists.stops)?;

@@ -2,6 +2,7 @@
 use Rattle.std.specs.Prelude.{◌≡◌, ◌≢◌, ℕ, ◌+◌, List, [], ◌∷◌, length, Option, None, Some, Result, Ok, Err, IsErrAnd, if◌then◌else◌, nat_lt}
 use Rattle.plan_model.specs.Results.{and_then}
 use Rattle.file_ports.specs.Counts.{HasCausesOf}
+use Rattle.file_ports.specs.Ports.{FilesState}
 use Rattle.csv_rows.specs.FeedTables.{path_of as table_path}
 use Rattle.csv_rows.specs.Tables.{table_of}
 use Rattle.csv_rows.specs.declared.feed_tables.Table.{Table}
@@ -63,7 +64,7 @@ abbrev pub Finds : {A B : Type 0} → (A → B) → (Option Input → Result B F
 Finds shown wanted (Ok a) = wanted None ≡ Ok (shown a)
 Finds shown wanted (Err fault) = fault ≢ NoMemory → wanted (unread_of fault) ≡ Err fault
 
--- `Read` only where the count of faults rose, where it is told that of the input's own path too; and always where it grew
-abbrev pub HasCauses : {T : Type 0} (told : Type 0) (path : Input → Option (List ℕ)) (before now : ℕ) (before_of now_of : List ℕ → ℕ) → Result T Fault → Type 0
-HasCauses told path before now before_of now_of result =
-    HasCausesOf (λ input. IsErrAnd result (λ fault. fault ≡ Read input)) told path before now before_of now_of
+-- the files are kept, and `Read` comes only where the count of faults rose, where the files are told that of the input's own path
+-- too; and always where it grew
+abbrev pub HasCauses : {T : Type 0} (path : Input → Option (List ℕ)) (before now : FilesState) → Result T Fault → Type 0
+HasCauses path before now result = HasCausesOf (λ input. IsErrAnd result (λ fault. fault ≡ Read input)) path before now

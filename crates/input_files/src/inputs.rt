@@ -1,5 +1,5 @@
 //! The files that a command reads.
-ghost use Rattle.std.specs.Prelude.{◌≡◌, ◌≢◌, ℕ, List as Bytes, Some, None, IsSome, IfSome, IfOk, IfErr, ◌+◌};
+ghost use Rattle.std.specs.Prelude.{◌≡◌, ◌≢◌, ℕ, List as Bytes, Some, None, IfSome, IfOk, IfErr, ◌+◌};
 ghost use Rattle.csv_rows.specs.Tables.{table_of};
 ghost use Rattle.delay_table.specs.Slots.{AreDelays};
 ghost use Rattle.file_ports.specs.Ports.{file_at};
@@ -26,16 +26,13 @@ pub fn load_bytes<F: Files>(
     input: Input,
     limits: &Limits,
 ) -> Result<Vec<u8>, Fault>
-    ensures same { F.files files.new ≡ F.files files.old }
-    ensures bytes { IfSome (F.files files.old) (λ m. Finds (λ bytes. bytes.items)
+    ensures bytes { IfSome (F.state files.old).files (λ m. Finds (λ bytes. bytes.items)
         (λ unread. bytes_of limits.now.bytes input unread (file_at m path.now)) result) }
     ensures own { IfErr result (MayBeUnread input) }
     ensures early { (timetable : TimetableModel) → IsInputOf timetable input
         → IfErr result (IsBeforeSearch timetable) }
     ensures stage { IfErr result (λ fault. fault ≢ Fault.NoMemory → IsOfInput input fault) }
-    ensures causes { HasCauses (IsSome (F.files files.old)) (λ other. Some path.now)
-        (F.faults files.old) (F.faults files.new)
-        (F.faults_of files.old) (F.faults_of files.new) result }
+    ensures causes { HasCauses (λ other. Some path.now) (F.state files.old) (F.state files.new) result }
 {
     match load(alloc, files, path, limits.bytes) {
         Err(LoadFault::Read) => Err(Fault::Read(input)),
@@ -58,16 +55,13 @@ fn load_rows<F: Files>(
     requires headless { unread_of headless ≡ None }
     requires early { (timetable : TimetableModel) → IsInputOf timetable input
         → IsBeforeSearch timetable headless }
-    ensures same { F.files files.new ≡ F.files files.old }
     ensures text { IfOk result (λ rows. (text : Bytes ℕ) × (rows ≡ table_of text)) }
-    ensures table { IfSome (F.files files.old) (λ m. Finds (λ rows. rows)
+    ensures table { IfSome (F.state files.old).files (λ m. Finds (λ rows. rows)
         (λ unread. records_of limits.now.bytes input headless unread (file_at m path.now)) result) }
     ensures own { IfErr result (MayBeUnread input) }
     ensures early { (timetable : TimetableModel) → IsInputOf timetable input
         → IfErr result (IsBeforeSearch timetable) }
-    ensures causes { HasCauses (IsSome (F.files files.old)) (λ other. Some path.now)
-        (F.faults files.old) (F.faults files.new)
-        (F.faults_of files.old) (F.faults_of files.new) result }
+    ensures causes { HasCauses (λ other. Some path.now) (F.state files.old) (F.state files.new) result }
 {
     let bytes = load_bytes(alloc, files, path, input, limits)?;
     match Rows::read(alloc, bytes.as_slice()) {
@@ -97,15 +91,12 @@ pub fn read_cut_file<F: Files>(
     path: &str,
     limits: &Limits,
 ) -> Result<CutTable, Fault>
-    ensures same { F.files files.new ≡ F.files files.old }
-    ensures table { IfSome (F.files files.old) (λ m.
+    ensures table { IfSome (F.state files.old).files (λ m.
         CutAgrees limits.now (file_at m path.now) result) }
     ensures sound { IfOk result IsCutOfSome }
     ensures own { IfErr result (MayBeUnread Input.Cut) }
     ensures early { IfErr result (IsBeforeSearch (CutFile path.now)) }
-    ensures causes { HasCauses (IsSome (F.files files.old)) (λ other. Some path.now)
-        (F.faults files.old) (F.faults files.new)
-        (F.faults_of files.old) (F.faults_of files.new) result }
+    ensures causes { HasCauses (λ other. Some path.now) (F.state files.old) (F.state files.new) result }
 {
     let headless = Fault::Cut(CutFault::MissingColumn(Column::Run));
     let rows = load_rows(alloc, files, path, Input::Cut, headless, limits)?;
@@ -135,15 +126,12 @@ pub fn read_delay_file<F: Files>(
     path: &str,
     limits: &Limits,
 ) -> Result<DelayTable, Fault>
-    ensures same { F.files files.new ≡ F.files files.old }
-    ensures table { IfSome (F.files files.old) (λ m.
+    ensures table { IfSome (F.state files.old).files (λ m.
         DelayAgrees limits.now (file_at m path.now) result) }
     ensures sound { IfOk result AreDelays }
     ensures own { IfErr result (MayBeUnread Input.Delays) }
     ensures early { (timetable : TimetableModel) → IfErr result (IsBeforeSearch timetable) }
-    ensures causes { HasCauses (IsSome (F.files files.old)) (λ other. Some path.now)
-        (F.faults files.old) (F.faults files.new)
-        (F.faults_of files.old) (F.faults_of files.new) result }
+    ensures causes { HasCauses (λ other. Some path.now) (F.state files.old) (F.state files.new) result }
 {
     let headless = Fault::Delays(DelayFault::MissingColumn(Column::Class));
     let rows = load_rows(alloc, files, path, Input::Delays, headless, limits)?;

@@ -1,5 +1,5 @@
 //! A journey over a cut file.
-ghost use Rattle.std.specs.Prelude.{◌≡◌, ◌≢◌, ℕ, List as Bytes, None, Some, IsSome, IfSome, IfOk, IfErr, OnOk};
+ghost use Rattle.std.specs.Prelude.{◌≡◌, ◌≢◌, ℕ, List as Bytes, None, Some, IfSome, IfOk, IfErr, OnOk};
 ghost use Rattle.cut_file.specs.CutNetwork.{IsCutNetwork};
 ghost use Rattle.cut_file.specs.Read.{IsRead};
 ghost use Rattle.file_ports.specs.Ports.{file_at};
@@ -96,11 +96,10 @@ fn problem_after<F: Files>(
     limits: &Limits,
 ) -> Result<Problem, Fault>
     requires sound { IsCutOfSome cut.now }
-    ensures same { F.files files.new ≡ F.files files.old }
-    ensures problem { IfSome (F.files files.old) (λ m. IfOk result (λ p. (path : Bytes ℕ)
+    ensures problem { IfSome (F.state files.old).files (λ m. IfOk result (λ p. (path : Bytes ℕ)
         → HasCut limits.now (file_at m path) cut.now
         → IsCutProblem limits.now m path (journey_shown journey.now) p)) }
-    ensures fault { IfSome (F.files files.old) (λ m. IfErr result (λ fault. (path : Bytes ℕ)
+    ensures fault { IfSome (F.state files.old).files (λ m. IfErr result (λ fault. (path : Bytes ℕ)
         → HasCut limits.now (file_at m path) cut.now
         → IsFirst (cut_problem_fault limits.now m path (journey_shown journey.now)) fault)) }
     ensures early { (timetable : TimetableModel) → IfErr result (IsBeforeSearch timetable) }
@@ -110,9 +109,8 @@ fn problem_after<F: Files>(
     ensures timetable { IfOk result (HasCutTimetable (journey_shown journey.now)) }
     ensures source { IfOk result (λ p. IsNamed p.names p.source.0 journey.now.from.now) }
     ensures target { IfOk result (λ p. IsNamed p.names p.target.0 journey.now.to.now) }
-    ensures causes { HasCauses (IsSome (F.files files.old)) (λ other. Some journey.now.delays.now)
-        (F.faults files.old) (F.faults files.new)
-        (F.faults_of files.old) (F.faults_of files.new) result }
+    ensures causes { HasCauses (λ other. Some journey.now.delays.now)
+        (F.state files.old) (F.state files.new) result }
 {
     match read_delay_file(alloc, files, journey.delays, limits) {
         Err(fault) => Err(fault),
@@ -128,10 +126,9 @@ pub(crate) fn cut_problem<F: Files>(
     journey: &Journey,
     limits: &Limits,
 ) -> Result<Problem, Fault>
-    ensures same { F.files files.new ≡ F.files files.old }
-    ensures problem { IfSome (F.files files.old) (λ m. IfOk result
+    ensures problem { IfSome (F.state files.old).files (λ m. IfOk result
         (IsCutProblem limits.now m path.now (journey_shown journey.now))) }
-    ensures fault { IfSome (F.files files.old) (λ m. IfErr result
+    ensures fault { IfSome (F.state files.old).files (λ m. IfErr result
         (IsFirst (cut_problem_fault limits.now m path.now (journey_shown journey.now)))) }
     ensures early { IfErr result (IsBeforeSearch (CutFile path.now)) }
     ensures valid { IfOk result (λ p. IsValid p.network) }
@@ -139,10 +136,9 @@ pub(crate) fn cut_problem<F: Files>(
     ensures timetable { IfOk result (HasCutTimetable (journey_shown journey.now)) }
     ensures source { IfOk result (λ p. IsNamed p.names p.source.0 journey.now.from.now) }
     ensures target { IfOk result (λ p. IsNamed p.names p.target.0 journey.now.to.now) }
-    ensures causes { (own : OwnPaths) → HasCauses (IsSome (F.files files.old))
+    ensures causes { (own : OwnPaths) → HasCauses
         (path_by (CutFile path.now) (journey_shown journey.now) own)
-        (F.faults files.old) (F.faults files.new)
-        (F.faults_of files.old) (F.faults_of files.new) result }
+        (F.state files.old) (F.state files.new) result }
 {
     match read_cut_file(alloc, files, path, limits) {
         Err(fault) => Err(fault),

@@ -1,5 +1,5 @@
 //! A journey over a feed.
-ghost use Rattle.std.specs.Prelude.{◌≡◌, ◌≢◌, ◌<◌, ◌≤◌, ℕ, List as Bytes, length, None, Some, IsSome, IfSome, IfOk, IfErr, OnOk};
+ghost use Rattle.std.specs.Prelude.{◌≡◌, ◌≢◌, ◌<◌, ◌≤◌, ℕ, List as Bytes, length, None, Some, IfSome, IfOk, IfErr, OnOk};
 ghost use Rattle.table_files.specs.Loading.{HasFeedCauses};
 ghost use Rattle.change_times.specs.Transfers.{place_of_stop};
 ghost use Rattle.change_times.specs.Changes.{LinksComeFrom, AreToldBySome};
@@ -60,16 +60,14 @@ fn read_rules<F: Files>(
     feed: &Feed,
     limits: &Limits,
 ) -> Result<FeedRules, FeedFault>
-    ensures same { F.files files.new ≡ F.files files.old }
-    ensures rules { IfSome (F.files files.old) (λ m. IfOk result (λ r.
+    ensures rules { IfSome (F.state files.old).files (λ m. IfOk result (λ r.
         AreRules limits.now m folder.now feed.now r.services r.changes)) }
-    ensures fault { IfSome (F.files files.old) (λ m. IfErr result (λ f. f ≢ FeedFault.NoMemory
+    ensures fault { IfSome (F.state files.old).files (λ m. IfErr result (λ f. f ≢ FeedFault.NoMemory
         → IsLaterTableFault limits.now m folder.now feed.now f)) }
     ensures services { IfOk result (λ r. RunsBySome (runs r.services)) }
     ensures changes { IfOk result (λ r. AreToldBySome feed.now r.changes) }
     ensures links { IfOk result (λ r. LinksComeFrom (length feed.now.stop_ids) r.changes) }
-    ensures causes { HasFeedCauses (IsSome (F.files files.old)) folder.now
-        (F.faults files.old) (F.faults files.new) (F.faults_of files.old) (F.faults_of files.new) result }
+    ensures causes { HasFeedCauses folder.now (F.state files.old) (F.state files.new) result }
 {
     let services = match Services::read(alloc, files, folder, limits) {
         Err(fault) => return Err(fault),
@@ -88,15 +86,13 @@ fn read_folder<F: Files>(
     folder: &str,
     limits: &Limits,
 ) -> Result<FeedTables, FeedFault>
-    ensures same { F.files files.new ≡ F.files files.old }
-    ensures folder { IfSome (F.files files.old) (λ m.
+    ensures folder { IfSome (F.state files.old).files (λ m.
         IfOk result (λ t. IsFolder limits.now m folder.now (gtfs_folder_of t))) }
-    ensures fault { IfSome (F.files files.old) (λ m. IfErr result (λ f. f ≢ FeedFault.NoMemory
+    ensures fault { IfSome (F.state files.old).files (λ m. IfErr result (λ f. f ≢ FeedFault.NoMemory
         → IsFolderFault limits.now m folder.now f)) }
     ensures sound { IfOk result (λ t. IsSoundFolder (gtfs_folder_of t)) }
     ensures links { IfOk result (λ t. LinksComeFrom (length t.feed.stop_ids) t.rules.changes) }
-    ensures causes { HasFeedCauses (IsSome (F.files files.old)) folder.now
-        (F.faults files.old) (F.faults files.new) (F.faults_of files.old) (F.faults_of files.new) result }
+    ensures causes { HasFeedCauses folder.now (F.state files.old) (F.state files.new) result }
 {
     let feed = match Feed::read(alloc, files, folder, limits) {
         Err(fault) => return Err(fault),
@@ -207,11 +203,10 @@ fn problem_in<F: Files>(
     requires horizon { horizon ≤ 72 }
     requires links { LinksComeFrom (length tables.now.feed.stop_ids) tables.now.rules.changes }
     requires sound { IsSoundFolder (gtfs_folder_of tables.now) }
-    ensures same { F.files files.new ≡ F.files files.old }
-    ensures problem { IfSome (F.files files.old) (λ m. IfOk result (λ p. (folder : Bytes ℕ)
+    ensures problem { IfSome (F.state files.old).files (λ m. IfOk result (λ p. (folder : Bytes ℕ)
         → IsFolder limits.now m folder (gtfs_folder_of tables.now)
         → IsFeedProblem limits.now m folder horizon (journey_shown journey.now) p)) }
-    ensures fault { IfSome (F.files files.old) (λ m. IfErr result (λ fault. fault ≢ Fault.NoMemory
+    ensures fault { IfSome (F.state files.old).files (λ m. IfErr result (λ fault. fault ≢ Fault.NoMemory
         → IsFaultAfterFolder limits.now m horizon (journey_shown journey.now)
         (gtfs_folder_of tables.now) fault)) }
     ensures early { (folder : Bytes ℕ) → IfErr result (IsBeforeSearch (FeedFolder folder horizon)) }
@@ -221,9 +216,8 @@ fn problem_in<F: Files>(
     ensures timetable { IfOk result (HasFeedTimetable horizon (journey_shown journey.now)) }
     ensures source { IfOk result (λ p. p.source.0 < length p.network.change) }
     ensures target { IfOk result (λ p. p.target.0 < length p.network.change) }
-    ensures causes { HasCauses (IsSome (F.files files.old)) (λ other. Some journey.now.delays.now)
-        (F.faults files.old) (F.faults files.new)
-        (F.faults_of files.old) (F.faults_of files.new) result }
+    ensures causes { HasCauses (λ other. Some journey.now.delays.now)
+        (F.state files.old) (F.state files.new) result }
 {
     match read_delay_file(alloc, files, journey.delays, limits) {
         Err(fault) => Err(fault),
@@ -243,10 +237,9 @@ pub(crate) fn feed_problem<F: Files>(
 ) -> Result<Problem, Fault>
     requires journey { IsJourney (journey_shown journey.now) }
     requires horizon { horizon ≤ 72 }
-    ensures same { F.files files.new ≡ F.files files.old }
-    ensures problem { IfSome (F.files files.old) (λ m. IfOk result
+    ensures problem { IfSome (F.state files.old).files (λ m. IfOk result
         (IsFeedProblem limits.now m folder.now horizon (journey_shown journey.now))) }
-    ensures fault { IfSome (F.files files.old) (λ m. IfErr result (λ fault. fault ≢ Fault.NoMemory
+    ensures fault { IfSome (F.state files.old).files (λ m. IfErr result (λ fault. fault ≢ Fault.NoMemory
         → IsFeedProblemFault limits.now m folder.now horizon (journey_shown journey.now) fault)) }
     ensures early { IfErr result (IsBeforeSearch (FeedFolder folder.now horizon)) }
     ensures valid { IfOk result (λ p. IsValid p.network) }
@@ -254,10 +247,9 @@ pub(crate) fn feed_problem<F: Files>(
     ensures timetable { IfOk result (HasFeedTimetable horizon (journey_shown journey.now)) }
     ensures source { IfOk result (λ p. p.source.0 < length p.network.change) }
     ensures target { IfOk result (λ p. p.target.0 < length p.network.change) }
-    ensures causes { (own : OwnPaths) → HasCauses (IsSome (F.files files.old))
+    ensures causes { (own : OwnPaths) → HasCauses
         (path_by (FeedFolder folder.now horizon) (journey_shown journey.now) own)
-        (F.faults files.old) (F.faults files.new)
-        (F.faults_of files.old) (F.faults_of files.new) result }
+        (F.state files.old) (F.state files.new) result }
 {
     match read_folder(alloc, files, folder, limits) {
         Err(fault) => Err(fault_of(fault, limits)),

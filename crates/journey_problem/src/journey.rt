@@ -1,5 +1,5 @@
 //! The problem of a journey over its files.
-ghost use Rattle.std.specs.Prelude.{◌≡◌, ◌<◌, length, IsSome, IfSome, IfOk, IfErr};
+ghost use Rattle.std.specs.Prelude.{◌≡◌, ◌<◌, length, IfSome, IfOk, IfErr};
 ghost use Rattle.command_line.specs.Shown.{journey_shown};
 ghost use Rattle.command_line.specs.Ranges.{IsJourney};
 ghost use Rattle.input_files.specs.FaultsBeforeSearch.{IsBeforeSearch};
@@ -23,19 +23,17 @@ pub fn problem_of<F: Files>(
     limits: &Limits,
 ) -> Result<Problem, Fault>
     requires journey { IsJourney (journey_shown journey.now) }
-    ensures same { F.files files.new ≡ F.files files.old }
-    ensures problem { IfSome (F.files files.old) (λ m. IfOk result
+    ensures problem { IfSome (F.state files.old).files (λ m. IfOk result
         (IsProblem limits.now m (journey_shown journey.now))) }
-    ensures fault { IfSome (F.files files.old) (λ m. IfErr result
+    ensures fault { IfSome (F.state files.old).files (λ m. IfErr result
         (IsProblemFault limits.now m (journey_shown journey.now))) }
     ensures early { IfErr result (IsBeforeSearch (journey_shown journey.now).timetable) }
     ensures sound { IfOk result (IsValidProblem (journey_shown journey.now)) }
     ensures source { IfOk result (λ p. p.source.0 < length p.network.change) }
     ensures target { IfOk result (λ p. p.target.0 < length p.network.change) }
-    ensures causes { (own : OwnPaths) → HasCauses (IsSome (F.files files.old))
+    ensures causes { (own : OwnPaths) → HasCauses
         (path_of (journey_shown journey.now) own)
-        (F.faults files.old) (F.faults files.new)
-        (F.faults_of files.old) (F.faults_of files.new) result }
+        (F.state files.old) (F.state files.new) result }
 {
     match journey.timetable {
         Timetable::Cut(path) => cut_problem(alloc, files, path, journey, limits),

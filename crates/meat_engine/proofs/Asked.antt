@@ -1,6 +1,6 @@
 -- What a line of `ask_over` promises, told of what is asked.
 use Rattle.std.proofs.Common.{◌≡◌, ℕ, List, Option, None, Some, Result, Ok, Err, sym, subst, ◌≢◌, IfOk, IfErr}
-use Rattle.file_ports.specs.Ports.{FileMap}
+use Rattle.file_ports.specs.Ports.{FileMap, FilesState}
 use Rattle.csv_rows.specs.declared.limits.Limits.{Limits}
 use Rattle.command_line.specs.declared.job.Ask.{Ask}
 use Rattle.command_line.specs.Jobs.{AskModel}
@@ -48,7 +48,6 @@ module _ (told : Option FileMap) (limits : Limits) (start : ℕ) (p : Problem) w
       → IfErr r (OrNoMemory (FailsAsk told limits start p (ask_shown asked))) → IsAnsweredAlone (ask_shown ask) r
   alone-asked {asked = asked} r is unsafe answer fails = subst (λ (ask : Ask). IsAnsweredAlone (ask_shown ask) r) (sym is) (alone (ask_shown asked) unsafe r answer fails)
 
-pub causes-asked : {told : Type 0} {before now : ℕ} {before_of now_of : List ℕ → ℕ} {ask asked : Ask} (r : Result Answer Fault) → ask ≡ asked
-    → HasCauses told (own_paths (ask_shown asked)) before now before_of now_of r → HasCauses told (own_paths (ask_shown ask)) before now before_of now_of r
-causes-asked {told = told} {before = before} {now = now} {before_of = before_of} {now_of = now_of} r is =
-    subst (λ (ask : Ask). HasCauses told (own_paths (ask_shown ask)) before now before_of now_of r) (sym is)
+pub causes-asked : {before now : FilesState} {ask asked : Ask} (r : Result Answer Fault) → ask ≡ asked
+    → HasCauses (own_paths (ask_shown asked)) before now r → HasCauses (own_paths (ask_shown ask)) before now r
+causes-asked {before = before} {now = now} r is = subst (λ (ask : Ask). HasCauses (own_paths (ask_shown ask)) before now r) (sym is)

@@ -1,6 +1,7 @@
 -- Answers and faults, one from another.
-use Rattle.std.proofs.Common.{◌≡◌, ℕ, List, Option, None, Result, inl, inr, refl, ap, sym, ◌∙◌, subst, arith, ◌≢◌, option_map}
-use Rattle.file_ports.specs.Counts.{Rose, RoseAt}
+use Rattle.std.proofs.Common.{◌≡◌, ℕ, List, Option, None, Result, inl, inr, refl, ap, sym, ◌∙◌, subst, ◌≢◌, option_map}
+use Rattle.file_ports.specs.Counts.{RoseAt}
+use Rattle.file_ports.specs.Ports.{FilesState}
 use Rattle.command_line.specs.Jobs.{TimetableModel, JourneyModel, AskModel, Safe, Expand, Plan, Replay, Certify, CheckProof, CheckGraph, Punctual, Departures, Latest}
 use Rattle.journey_model.specs.declared.faults.Input.{Input}
 use Rattle.journey_model.specs.declared.faults.Input.TheVariants as input
@@ -56,14 +57,12 @@ pub never_unread : (fault : Fault) → ((input : Input) → fault ≡ Read input
 never_unread (Read file) never = absurd (never file refl)
 never_unread _ never = refl
 
-pub none_rises : Rose 0 0 → ⊥
-none_rises rose = omega (arith, rose)
-
 -- the causes by other paths, where what is told of a path is told of the other
-pub causes-paths : {T : Type 0} {told : Type 0} {path other : Input → Option (List ℕ)} {before now : ℕ} {before_of now_of : List ℕ → ℕ} (r : Result T Fault)
-    → ((file : Input) → RoseAt (path file) before_of now_of → RoseAt (other file) before_of now_of)
-    → HasCauses told path before now before_of now_of r → HasCauses told other before now before_of now_of r
+pub causes-paths : {T : Type 0} {path other : Input → Option (List ℕ)} {before now : FilesState} (r : Result T Fault)
+    → ((file : Input) → RoseAt (path file) before.faults_of now.faults_of → RoseAt (other file) before.faults_of now.faults_of)
+    → HasCauses path before now r → HasCauses other before now r
 causes-paths r rises h = record {
+  same = h.same;
   later = h.later;
   later_of = h.later_of;
   read = h.read;

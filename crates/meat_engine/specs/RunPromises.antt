@@ -2,7 +2,7 @@
 use Rattle.std.specs.Prelude.{◌≡◌, ℕ, ◌<◌, List, Option, None, Some, Ok, IsSome}
 use Rattle.std.specs.Io.KnownBytes.{Keeps}
 use Rattle.file_ports.specs.Counts.{Rose, RoseAt}
-use Rattle.file_ports.specs.Ports.{FileMap}
+use Rattle.file_ports.specs.Ports.{FilesState}
 use Rattle.csv_rows.specs.declared.limits.Limits.{Limits}
 use Rattle.command_line.specs.Jobs.{JobModel, job_of}
 use Rattle.journey_model.specs.declared.faults.Input.{Input}
@@ -11,15 +11,6 @@ use Rattle.journey_model.specs.Faults.{status_of}
 use Rattle.journey_report.specs.declared.report.Report.{Report}
 use Rattle.meat_engine.specs.Received.{Outcome, IsLineTold, path_in}
 use Rattle.meat_engine.specs.Completeness.{IsComplete}
-
--- what files tell, where they do; and how often they failed, in all and by path
-pub record FilesState : Type 0 where
-  pub contents : Option FileMap
-  pub faults : ℕ
-  pub faults_of : List ℕ → ℕ
-
-abbrev pub files_state : Option FileMap → ℕ → (List ℕ → ℕ) → FilesState
-files_state contents faults faults_of = record { contents = contents; faults = faults; faults_of = faults_of }
 
 -- what a sink received, where that is known; and how often it failed
 pub record SinkState : Type 0 where
@@ -38,14 +29,14 @@ TellsLine old new = IsLineTold old.written new.written old.faults new.faults
 pub record IsRun (limits : Limits) (words : List (List ℕ)) (report : Report) (before after : FilesState) (out out_after err err_after : SinkState) : Type 0 where
   -- the status is that of the fault, and the fault is that of the run
   pub status : report.status.0 ≡ status_of report.fault
-  pub outcome : Outcome before.contents limits words report out.written out_after.written (TellsLine err err_after) report.fault
+  pub outcome : Outcome before.files limits words report out.written out_after.written (TellsLine err err_after) report.fault
   -- where there is no fault nothing is told of one
   pub quiet : report.fault ≡ None → Keeps err.written err_after.written
-  pub same : after.contents ≡ before.contents
+  pub same : after.files ≡ before.files
   -- a file cannot be read only where the files failed, where it is one of the job, and where it is told its own path failed
   -- too; and always where the files failed
   pub read : (input : Input) → report.fault ≡ Some (Read input) → Rose before.faults after.faults
-  pub read_path : (wanted : JobModel) (input : Input) → job_of words ≡ Ok wanted → IsSome before.contents
+  pub read_path : (wanted : JobModel) (input : Input) → job_of words ≡ Ok wanted → IsSome before.files
       → report.fault ≡ Some (Read input) → RoseAt (path_in wanted input) before.faults_of after.faults_of
   pub files_grew : before.faults < after.faults → (input : Input) × (report.fault ≡ Some (Read input))
   -- the answer cannot be written only where its sink failed, and always where it did
@@ -53,4 +44,4 @@ pub record IsRun (limits : Limits) (words : List (List ℕ)) (report : Report) (
   pub out_grew : out.faults < out_after.faults → report.fault ≡ Some Write
   -- the status, where neither failed and the files have no fault
   pub complete : ¬ Rose before.faults after.faults → ¬ Rose out.faults out_after.faults
-      → IsComplete before.contents limits words report.status.0
+      → IsComplete before.files limits words report.status.0

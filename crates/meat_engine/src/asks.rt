@@ -1,5 +1,5 @@
 //! What is asked about a journey, over its files.
-ghost use Rattle.std.specs.Prelude.{◌≡◌, ◌≢◌, ◌<◌, ◌≤◌, length, Some, IsSome, IfOk, IfErr};
+ghost use Rattle.std.specs.Prelude.{◌≡◌, ◌≢◌, ◌<◌, ◌≤◌, length, Some, IfOk, IfErr};
 ghost use Rattle.plan_model.specs.NameLists.{NamesFit};
 ghost use Rattle.command_line.specs.Ranges.{IsJourney, IsAsk};
 ghost use Rattle.command_line.specs.Shown.{journey_shown, ask_shown};
@@ -40,15 +40,13 @@ fn ask_over<F: Files>(
     requires first { first_start ≤ start.0 }
     requires start { start.0 ≤ last_start }
     requires ask { IsAsk start.0 (ask_shown ask.now) }
-    ensures same { F.files files.new ≡ F.files files.old }
-    ensures answer { IfOk result (λ a. AnswersAsk (F.files files.old) limits.now start.0
+    ensures answer { IfOk result (λ a. AnswersAsk (F.state files.old).files limits.now start.0
         problem.now (ask_shown ask.now) (findings_of a.report) a.text.items) }
     ensures fault { IfErr result (λ fault. fault ≢ Fault.NoMemory
-        → FailsAsk (F.files files.old) limits.now start.0 problem.now (ask_shown ask.now) fault) }
+        → FailsAsk (F.state files.old).files limits.now start.0 problem.now (ask_shown ask.now) fault) }
     ensures tellable { IfErr result (IsTellable (Some (parts_of problem.now))) }
-    ensures causes { HasCauses (IsSome (F.files files.old)) (own_paths (ask_shown ask.now))
-        (F.faults files.old) (F.faults files.new)
-        (F.faults_of files.old) (F.faults_of files.new) result }
+    ensures causes { HasCauses (own_paths (ask_shown ask.now))
+        (F.state files.old) (F.state files.new) result }
 {
     match *ask {
         Ask::Safe { alpha } => safe_over(alloc, problem, start, alpha),
@@ -76,16 +74,14 @@ pub(crate) fn journey_over<F: Files>(
 ) -> Result<Answer, Refusal>
     requires journey { IsJourney (journey_shown journey.now) }
     requires ask { IsAsk journey.now.start.0 (ask_shown ask.now) }
-    ensures same { F.files files.new ≡ F.files files.old }
-    ensures answer { IfOk result (λ a. InProblem (F.files files.old) limits.now
-        (journey_shown journey.now) (λ p. AnswersAsk (F.files files.old) limits.now
+    ensures answer { IfOk result (λ a. InProblem (F.state files.old).files limits.now
+        (journey_shown journey.now) (λ p. AnswersAsk (F.state files.old).files limits.now
         journey.now.start.0 p (ask_shown ask.now) (findings_of a.report) a.text.items)) }
-    ensures fault { IfErr result (IsRefusalBy (FailsJourney (F.files files.old) limits.now
+    ensures fault { IfErr result (IsRefusalBy (FailsJourney (F.state files.old).files limits.now
         (journey_shown journey.now) (ask_shown ask.now))) }
-    ensures causes { HasCauses (IsSome (F.files files.old))
+    ensures causes { HasCauses
         (path_of (journey_shown journey.now) (own_paths (ask_shown ask.now)))
-        (F.faults files.old) (F.faults files.new)
-        (F.faults_of files.old) (F.faults_of files.new) (by_fault result) }
+        (F.state files.old) (F.state files.new) (by_fault result) }
 {
     let problem = match problem_of(alloc, files, journey, limits) {
         Err(fault) => return Err(Refusal::plain(fault)),

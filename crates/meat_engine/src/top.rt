@@ -1,5 +1,5 @@
 //! The top call.
-ghost use Rattle.std.specs.Prelude.{◌≡◌, ◌<◌, map, string_bytes, option_map, Option as Optional, Some, None, IsSome, IfOk, IfErr};
+ghost use Rattle.std.specs.Prelude.{◌≡◌, ◌<◌, map, string_bytes, option_map, Option as Optional, Some, None, IfOk, IfErr};
 ghost use Rattle.std.specs.Io.KnownBytes.{Keeps};
 ghost use Rattle.csv_rows.specs.Limits.{standard};
 ghost use Rattle.file_ports.specs.Counts.{Rose};
@@ -14,7 +14,7 @@ ghost use Rattle.journey_model.specs.Known.{parts_of};
 ghost use Rattle.journey_report.specs.Findings.{findings_of, no_findings};
 ghost use Rattle.meat_engine.specs.Refusals.{known_of, IsRefusalBy, by_fault};
 ghost use Rattle.meat_engine.specs.Received.{path_in, AnswersJob, FailsJob, IsLineTold, IsWritten, IsRefusedWith};
-ghost use Rattle.meat_engine.specs.RunPromises.{IsRun, files_state, sink_state};
+ghost use Rattle.meat_engine.specs.RunPromises.{IsRun, sink_state};
 
 use crate::asks::journey_over;
 use crate::refusal::Refusal;
@@ -36,14 +36,12 @@ fn answer_of<F: Files>(
     limits: &Limits,
 ) -> Result<Answer, Refusal>
     requires job { IsJob (wanted_job job.now) }
-    ensures same { F.files files.new ≡ F.files files.old }
-    ensures answer { IfOk result (λ a. AnswersJob (F.files files.old) limits.now (wanted_job job.now)
+    ensures answer { IfOk result (λ a. AnswersJob (F.state files.old).files limits.now (wanted_job job.now)
         (findings_of a.report) a.text.items) }
     ensures fault { IfErr result (IsRefusalBy
-        (FailsJob (F.files files.old) limits.now (wanted_job job.now))) }
-    ensures causes { HasCauses (IsSome (F.files files.old)) (path_in (wanted_job job.now))
-        (F.faults files.old) (F.faults files.new)
-        (F.faults_of files.old) (F.faults_of files.new) (by_fault result) }
+        (FailsJob (F.state files.old).files limits.now (wanted_job job.now))) }
+    ensures causes { HasCauses (path_in (wanted_job job.now))
+        (F.state files.old) (F.state files.new) (by_fault result) }
 {
     match *job {
         Job::Journey(journey, ask) => journey_over(alloc, files, &journey, &ask, limits),
@@ -150,8 +148,7 @@ pub fn run_limited<F: Files, O: Sink, E: Sink>(
     limits: &Limits,
 ) -> Report
     ensures { IsRun limits.now (map string_bytes words.now) result
-        (files_state (F.files files.old) (F.faults files.old) (F.faults_of files.old))
-        (files_state (F.files files.new) (F.faults files.new) (F.faults_of files.new))
+        (F.state files.old) (F.state files.new)
         (sink_state (O.written out.old) (O.faults out.old))
         (sink_state (O.written out.new) (O.faults out.new))
         (sink_state (E.written err.old) (E.faults err.old))
@@ -176,8 +173,7 @@ pub fn run<F: Files, O: Sink, E: Sink>(
     err: &mut E,
 ) -> Report
     ensures { IsRun standard (map string_bytes words.now) result
-        (files_state (F.files files.old) (F.faults files.old) (F.faults_of files.old))
-        (files_state (F.files files.new) (F.faults files.new) (F.faults_of files.new))
+        (F.state files.old) (F.state files.new)
         (sink_state (O.written out.old) (O.faults out.old))
         (sink_state (O.written out.new) (O.faults out.new))
         (sink_state (E.written err.old) (E.faults err.old))

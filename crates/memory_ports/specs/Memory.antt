@@ -1,6 +1,6 @@
 -- What files in memory that fail where they were told to stand for.
-use Rattle.std.specs.Prelude.{◌≡◌, ℕ, List, Bool, ◌||◌, ◌&&◌, Option, bytes_eq, nat_eq}
-use Rattle.file_ports.specs.Ports.{FileMap}
+use Rattle.std.specs.Prelude.{◌≡◌, ℕ, List, Bool, ◌||◌, ◌&&◌, Option, Some, bytes_eq, nat_eq}
+use Rattle.file_ports.specs.Ports.{FileMap, FilesState}
 use Rattle.memory_ports.specs.Failing.{faults_in, fails_in}
 use Rattle.file_ports.specs.Steady.{folder_of as steady_folder, hand_of as steady_hand, left_of as steady_left, piece_of as steady_piece, SameFiles as SameSteadily}
 use Rattle.memory_ports.specs.declared.memory.MemoryFiles.{MemoryFiles}
@@ -32,6 +32,10 @@ faults_at f path = faults_in f.failing.items path
 -- how often calls have failed
 abbrev pub total_faults : MemoryFiles → ℕ
 total_faults f = f.faults
+
+-- all of what they stand for
+abbrev pub state_of : MemoryFiles → FilesState
+state_of f = record { files = Some (folder_of f); in_hand = hand_of f; left = left_of f; faults = total_faults f; faults_of = faults_at f }
 
 -- this call on this path fails: call 0 opens it, and call k is the k-th read since then
 abbrev pub fails_at : MemoryFiles → List ℕ → ℕ → Bool

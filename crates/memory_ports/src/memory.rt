@@ -158,31 +158,19 @@ impl MemoryFiles {
 }
 
 impl Files for MemoryFiles {
-    ghost use Rattle.std.specs.Prelude.{IsSome, IfSome, IfOk, Some, is_err};
+    ghost use Rattle.std.specs.Prelude.{IsSome, IfSome, IfOk, is_err};
     ghost use Rattle.std.specs.Io.{ReadsAtMost};
     ghost use Rattle.std.specs.Io.KnownBytes.{ReadConsumes};
-    ghost use Rattle.file_ports.specs.Counts.{RoseByOne, HasCause, HasPathCause};
-    ghost use Rattle.file_ports.specs.Ports.{Opens, TakesInHand};
-    ghost use Rattle.memory_ports.specs.Memory.{folder_of, faults_at, fails_at, hand_of, left_of, piece_of, reads_of, total_faults, FailsAlike};
+    ghost use Rattle.file_ports.specs.Counts.{RoseByOne, HasFileCause};
+    ghost use Rattle.file_ports.specs.Ports.{Opens, TakesInHand, path_in_hand};
+    ghost use Rattle.memory_ports.specs.Memory.{faults_at, fails_at, hand_of, left_of, piece_of, reads_of, state_of, total_faults, FailsAlike};
 
-    ghost files = { λ s. Some (folder_of s) };
-
-    ghost in_hand = { hand_of };
-
-    ghost left = { left_of };
-
-    ghost faults = { total_faults };
-
-    ghost faults_of = { faults_at };
+    ghost state = { state_of };
 
     fn open_file(&mut self, path: &str) -> Result<Presence, Failed>
-        ensures same { Some (folder_of self.new) ≡ Some (folder_of self.old) }
-        ensures opens { Opens (Some (folder_of self.old)) path.now result (left_of self.new) }
-        ensures in_hand { TakesInHand
-            (IsSome (Some (folder_of self.old))) path.now result (hand_of self.new) }
-        ensures cause { HasCause (total_faults self.old) (total_faults self.new) result }
-        ensures path_cause { HasPathCause (IsSome (Some (folder_of self.old))) path.now
-            (faults_at self.old) (faults_at self.new) result }
+        ensures opens { Opens (state_of self.old).files path.now result (state_of self.new).left }
+        ensures in_hand { TakesInHand (state_of self.old) path.now result (state_of self.new).in_hand }
+        ensures cause { HasFileCause path.now (state_of self.old) (state_of self.new) result }
         ensures fails { is_err result ≡ fails_at self.old path.now 0 }
         ensures one { OnErr result (RoseByOne (total_faults self.old) (total_faults self.new)) }
         ensures one_at_path { OnErr result
@@ -201,15 +189,13 @@ impl Files for MemoryFiles {
     }
 
     fn read(&mut self, buffer: &mut [u8]) -> Result<usize, Failed>
-        requires in_hand { IsSome (hand_of self.old) }
+        requires in_hand { IsSome (state_of self.old).in_hand }
         requires room { 0 < length buffer.old }
-        ensures same { Some (folder_of self.new) ≡ Some (folder_of self.old) }
-        ensures in_hand { hand_of self.new ≡ hand_of self.old }
+        ensures in_hand { (state_of self.new).in_hand ≡ (state_of self.old).in_hand }
         ensures bound { ReadsAtMost result buffer.new }
-        ensures bytes { ReadConsumes (left_of self.old) (left_of self.new) result buffer.new }
-        ensures cause { HasCause (total_faults self.old) (total_faults self.new) result }
-        ensures path_cause { IfSome (hand_of self.old) (λ path.
-            HasPathCause (IsSome (Some (folder_of self.old))) path (faults_at self.old) (faults_at self.new) result) }
+        ensures bytes { ReadConsumes (state_of self.old).left (state_of self.new).left result buffer.new }
+        ensures cause { let old = state_of self.old in
+            HasFileCause (path_in_hand old) old (state_of self.new) result }
         ensures fails { IfSome (hand_of self.old) (λ path.
             is_err result ≡ fails_at self.old path (reads_of self.new)) }
         ensures one { OnErr result (RoseByOne (total_faults self.old) (total_faults self.new)) }

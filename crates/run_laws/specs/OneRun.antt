@@ -1,12 +1,12 @@
 -- That words have one answer over files that tell their bytes.
 use Rattle.std.specs.Prelude.{◌≡◌, ◌≢◌, ℕ, List, Option, None, Some}
 use Rattle.file_ports.specs.Counts.{Rose}
-use Rattle.file_ports.specs.Ports.{FileMap}
+use Rattle.file_ports.specs.Ports.{FileMap, FilesState}
 use Rattle.csv_rows.specs.declared.limits.Limits.{Limits}
 use Rattle.journey_model.specs.declared.faults.Fault.TheVariants.{NoMemory}
 use Rattle.journey_report.specs.declared.report.Report.{Report}
 use Rattle.journey_report.specs.Findings.{findings_of}
-use Rattle.meat_engine.specs.RunPromises.{IsRun, FilesState, SinkState}
+use Rattle.meat_engine.specs.RunPromises.{IsRun, SinkState}
 
 -- a run of the words, over files that tell these bytes, ends without a fault; its sink had received the old bytes and then has the new ones
 pub record EndsWell (files : FileMap) (limits : Limits) (words : List (List ℕ)) (report : Report) (old : List ℕ) (new : Option (List ℕ)) : Type 0 where
@@ -17,7 +17,7 @@ pub record EndsWell (files : FileMap) (limits : Limits) (words : List (List ℕ)
   pub err : SinkState
   pub err_after : SinkState
   pub run : IsRun limits words report before after out out_after err err_after
-  pub tells : before.contents ≡ Some files
+  pub tells : before.files ≡ Some files
   pub had : out.written ≡ Some old
   pub has : out_after.written ≡ new
   pub no_fault : report.fault ≡ None
@@ -32,7 +32,7 @@ pub record IsCalmRun (files : FileMap) (limits : Limits) (words : List (List ℕ
   pub err : SinkState
   pub err_after : SinkState
   pub run : IsRun limits words report before after out out_after err err_after
-  pub tells : before.contents ≡ Some files
+  pub tells : before.files ≡ Some files
   pub had : out.written ≡ Some old
   pub has : out_after.written ≡ new
   pub had_said : err.written ≡ Some said

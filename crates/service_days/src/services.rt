@@ -1,5 +1,5 @@
 //! Services and the days on which they run.
-ghost use Rattle.std.specs.Prelude.{◌≡◌, ◌≢◌, ℕ, ℤ, None, Some, Err, IfOk, IfErr, IfSome, IsOkAnd, IsSome, ◌<◌, ◌+ℤ◌, pos, filter};
+ghost use Rattle.std.specs.Prelude.{◌≡◌, ◌≢◌, ℕ, ℤ, None, Some, Err, IfOk, IfErr, IfSome, IsOkAnd, ◌<◌, ◌+ℤ◌, pos, filter};
 ghost use Rattle.csv_rows.specs.FeedTables.{unread_of};
 ghost use Rattle.table_files.specs.Loading.{HasFeedCauses};
 ghost use Rattle.service_days.specs.Services.{period_runs, runs, runs_at};
@@ -65,15 +65,13 @@ impl Services {
         folder: &str,
         limits: &Limits,
     ) -> Result<Services, FeedFault>
-        ensures same { F.files files.new ≡ F.files files.old }
-        ensures services { IfSome (F.files files.old) (λ m. IfOk result (λ s.
+        ensures services { IfSome (F.state files.old).files (λ m. IfOk result (λ s.
             IsOkAnd (calendars_in m folder.now limits.now None) (RunsBy (runs s)))) }
         ensures sound { IfOk result (λ s. RunsBySome (runs s)) }
-        ensures fault { IfSome (F.files files.old) (λ m. IfErr result (λ f. f ≢ FeedFault.NoMemory
+        ensures fault { IfSome (F.state files.old).files (λ m. IfErr result (λ f. f ≢ FeedFault.NoMemory
             → calendars_in m folder.now limits.now (unread_of f) ≡ Err f)) }
         ensures own { IfErr result IsCalendarFault }
-        ensures causes { HasFeedCauses (IsSome (F.files files.old)) folder.now
-            (F.faults files.old) (F.faults files.new) (F.faults_of files.old) (F.faults_of files.new) result }
+        ensures causes { HasFeedCauses folder.now (F.state files.old) (F.state files.new) result }
     {
         let LoadedCalendar { missing, calendar } = load_calendar(alloc, files, folder, limits)?;
         let dates = load_dates(alloc, files, folder, limits, calendar.ids)?;

@@ -1,5 +1,5 @@
 //! The calendars of a feed, each loaded and read.
-ghost use Rattle.std.specs.Prelude.{◌≡◌, ◌≢◌, ◌≤◌, ◌^◌, ℕ, [], length, None, Some, Ok, Err, IfOk, IfErr, IfSome, IsSome, OnOk};
+ghost use Rattle.std.specs.Prelude.{◌≡◌, ◌≢◌, ◌≤◌, ◌^◌, ℕ, [], length, None, Some, Ok, Err, IfOk, IfErr, IfSome, OnOk};
 ghost use Rattle.csv_rows.specs.declared.feed_tables.Table.TheVariants.{Calendar as CalendarTable, CalendarDates as DatesTable};
 ghost use Rattle.csv_rows.specs.FeedTables.{unread_of, IsFaultOf};
 ghost use Rattle.table_files.specs.Loading.{HasAtMost, HasFeedCauses, load_in, loaded_rows};
@@ -103,17 +103,15 @@ pub(crate) fn load_calendar<F: Files>(
     folder: &str,
     limits: &Limits,
 ) -> Result<LoadedCalendar, FeedFault>
-    ensures same { F.files files.new ≡ F.files files.old }
-    ensures calendar { IfSome (F.files files.old) (λ m. IfOk result (λ c.
+    ensures calendar { IfSome (F.state files.old).files (λ m. IfOk result (λ c.
         IsCalendar (calendar_from (load_in m folder.now limits.now None CalendarTable))
         c.missing c.calendar.ids c.calendar.periods.items)) }
     ensures sound { IfOk result (λ c. IsOfCalendar c.missing c.calendar.ids c.calendar.periods.items) }
-    ensures fault { IfSome (F.files files.old) (λ m. IfErr result (λ f. f ≢ FeedFault.NoMemory
+    ensures fault { IfSome (F.state files.old).files (λ m. IfErr result (λ f. f ≢ FeedFault.NoMemory
         → calendar_from (load_in m folder.now limits.now (unread_of f) CalendarTable) ≡ Err f)) }
     ensures few { IfOk result (λ c. length c.calendar.ids ≤ 2 ^ 20) }
     ensures own { IfErr result (IsFaultOf CalendarTable) }
-    ensures causes { HasFeedCauses (IsSome (F.files files.old)) folder.now
-        (F.faults files.old) (F.faults files.new) (F.faults_of files.old) (F.faults_of files.new) result }
+    ensures causes { HasFeedCauses folder.now (F.state files.old) (F.state files.new) result }
 {
     let loaded = read_table(alloc, files, folder, Table::Calendar, limits)?;
     let missing = has_no_record(&loaded);
@@ -130,17 +128,15 @@ pub(crate) fn load_dates<F: Files>(
     ids: Ids,
 ) -> Result<LoadedDates, FeedFault>
     requires ids { length ids ≤ 2 ^ 20 }
-    ensures same { F.files files.new ≡ F.files files.old }
-    ensures dates { IfSome (F.files files.old) (λ m. IfOk result (λ d.
+    ensures dates { IfSome (F.state files.old).files (λ m. IfOk result (λ d.
         AreDates (dates_from (load_in m folder.now limits.now None DatesTable))
         ids d.missing d.numbered.ids d.numbered.exceptions.keys)) }
     ensures sound { IfOk result (λ d.
         AreOfDates ids d.missing d.numbered.ids d.numbered.exceptions.keys) }
-    ensures fault { IfSome (F.files files.old) (λ m. IfErr result (λ f. f ≢ FeedFault.NoMemory
+    ensures fault { IfSome (F.state files.old).files (λ m. IfErr result (λ f. f ≢ FeedFault.NoMemory
         → dates_from (load_in m folder.now limits.now (unread_of f) DatesTable) ≡ Err f)) }
     ensures own { IfErr result (IsFaultOf DatesTable) }
-    ensures causes { HasFeedCauses (IsSome (F.files files.old)) folder.now
-        (F.faults files.old) (F.faults files.new) (F.faults_of files.old) (F.faults_of files.new) result }
+    ensures causes { HasFeedCauses folder.now (F.state files.old) (F.state files.new) result }
 {
     let loaded = read_table(alloc, files, folder, Table::CalendarDates, limits)?;
     let missing = has_no_record(&loaded);

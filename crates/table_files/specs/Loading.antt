@@ -1,7 +1,7 @@
 -- What a folder holds of a table, and the faults of reading it.
 use Rattle.std.specs.Prelude.{◌≡◌, ℕ, ◌≤◌, ◌==◌, nat_lt, List, [], length, Option, None, Some, Result, Ok, Err, IsErrAnd, if◌then◌else◌}
 use Rattle.file_ports.specs.Counts.{HasCausesOf}
-use Rattle.file_ports.specs.Ports.{FileMap, file_at}
+use Rattle.file_ports.specs.Ports.{FileMap, FilesState, file_at}
 use Rattle.csv_rows.specs.declared.feed_tables.Table.{Table}
 use Rattle.csv_rows.specs.declared.feed_tables.FeedFault.{FeedFault}
 use Rattle.csv_rows.specs.declared.feed_tables.FeedFault.TheVariants.{Read, TooLong, MissingTable, MissingColumn, BadField, UnknownKey, DuplicateKey, BackwardTime, TooManyRows, NoMemory}
@@ -68,7 +68,7 @@ IsLoadFault table (UnknownKey t line column) = ⊥
 IsLoadFault table (DuplicateKey t line) = ⊥
 IsLoadFault table (BackwardTime line) = ⊥
 
--- `Read` of a table of this folder only where the counts rose, and always where the count of all grew
-abbrev pub HasFeedCauses : {T : Type 0} (told : Type 0) (folder : List ℕ) (before now : ℕ) (before_of now_of : List ℕ → ℕ) → Result T FeedFault → Type 0
-HasFeedCauses told folder before now before_of now_of result =
-    HasCausesOf (λ table. IsErrAnd result (λ fault. fault ≡ Read table)) told (λ table. Some (path_of folder table)) before now before_of now_of
+-- the files are kept, and `Read` of a table of this folder comes only where the counts rose, and always where the count of all grew
+abbrev pub HasFeedCauses : {T : Type 0} (folder : List ℕ) (before now : FilesState) → Result T FeedFault → Type 0
+HasFeedCauses folder before now result =
+    HasCausesOf (λ table. IsErrAnd result (λ fault. fault ≡ Read table)) (λ table. Some (path_of folder table)) before now

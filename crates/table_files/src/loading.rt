@@ -1,5 +1,5 @@
 //! The tables of a feed from its folder.
-ghost use Rattle.std.specs.Prelude.{◌≡◌, ◌≢◌, ◌≤◌, ◌^◌, ◌↔◌, None, Ok, Err, IfOk, IfErr, IfSome, IsSome, IsNone, OnOk, option_map, vec_items, string_bytes};
+ghost use Rattle.std.specs.Prelude.{◌≡◌, ◌≢◌, ◌≤◌, ◌^◌, ◌↔◌, None, Ok, Err, IfOk, IfErr, IfSome, IsNone, OnOk, option_map, vec_items, string_bytes};
 ghost use Rattle.file_ports.specs.Counts.{KeepsOthers};
 ghost use Rattle.file_ports.specs.Ports.{file_at};
 ghost use Rattle.csv_rows.specs.FeedTables.{path_of, unread_of, is_unread};
@@ -73,20 +73,16 @@ pub fn read_file<F: Files>(
     table: Table,
     limits: &Limits,
 ) -> Result<Option<Vec<u8>>, FeedFault>
-    ensures same { F.files files.new ≡ F.files files.old }
-
     // Where the files are told: the bytes, or the fault of this file.
-    ensures loaded { IfSome (F.files files.old) (λ m. IfOk result (λ o.
+    ensures loaded { IfSome (F.state files.old).files (λ m. IfOk result (λ o.
         load_of None limits.now table (file_at m (path_of folder.now table))
         ≡ loaded_bytes limits.now table (option_map vec_items o))) }
-    ensures fault { IfSome (F.files files.old) (λ m. IfErr result (λ f. f ≢ FeedFault.NoMemory
+    ensures fault { IfSome (F.state files.old).files (λ m. IfErr result (λ f. f ≢ FeedFault.NoMemory
         → load_of (unread_of f) limits.now table (file_at m (path_of folder.now table)) ≡ Err f)) }
     ensures own { IfErr result (IsLoadFault table) }
-    ensures absent { IfOk result (λ o. IsNone o ↔ (F.in_hand files.new ≡ None)) }
-    ensures causes { HasFeedCauses (IsSome (F.files files.old)) folder.now
-        (F.faults files.old) (F.faults files.new) (F.faults_of files.old) (F.faults_of files.new) result }
-    ensures others { KeepsOthers (IsSome (F.files files.old)) (path_of folder.now table)
-        (F.faults_of files.old) (F.faults_of files.new) }
+    ensures absent { IfOk result (λ o. IsNone o ↔ ((F.state files.new).in_hand ≡ None)) }
+    ensures causes { HasFeedCauses folder.now (F.state files.old) (F.state files.new) result }
+    ensures others { KeepsOthers (path_of folder.now table) (F.state files.old) (F.state files.new) }
 {
     let path = match path_of(alloc, folder, table) {
         Ok(path) => path,
@@ -108,20 +104,16 @@ pub fn read_table<F: Files>(
     table: Table,
     limits: &Limits,
 ) -> Result<Loaded, FeedFault>
-    ensures same { F.files files.new ≡ F.files files.old }
-
     // Where the files are told: the records, or the fault of this file.
-    ensures loaded { IfSome (F.files files.old) (λ m. IfOk result (λ l.
+    ensures loaded { IfSome (F.state files.old).files (λ m. IfOk result (λ l.
         load_of None limits.now table (file_at m (path_of folder.now table)) ≡ Ok l)) }
-    ensures fault { IfSome (F.files files.old) (λ m. IfErr result (λ f. f ≢ FeedFault.NoMemory
+    ensures fault { IfSome (F.state files.old).files (λ m. IfErr result (λ f. f ≢ FeedFault.NoMemory
         → load_of (unread_of f) limits.now table (file_at m (path_of folder.now table)) ≡ Err f)) }
     ensures few { IfOk result (HasAtMost (rows_of limits.now table)) }
     ensures own { IfErr result (IsLoadFault table) }
-    ensures absent { IfOk result (λ l. IsAbsent l ↔ (F.in_hand files.new ≡ None)) }
-    ensures causes { HasFeedCauses (IsSome (F.files files.old)) folder.now
-        (F.faults files.old) (F.faults files.new) (F.faults_of files.old) (F.faults_of files.new) result }
-    ensures others { KeepsOthers (IsSome (F.files files.old)) (path_of folder.now table)
-        (F.faults_of files.old) (F.faults_of files.new) }
+    ensures absent { IfOk result (λ l. IsAbsent l ↔ ((F.state files.new).in_hand ≡ None)) }
+    ensures causes { HasFeedCauses folder.now (F.state files.old) (F.state files.new) result }
+    ensures others { KeepsOthers (path_of folder.now table) (F.state files.old) (F.state files.new) }
 {
     match read_file(alloc, files, folder, table, limits)? {
         None => Ok(Loaded::Absent),

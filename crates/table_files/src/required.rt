@@ -1,5 +1,5 @@
 //! The tables that a feed has to have.
-ghost use Rattle.std.specs.Prelude.{◌≡◌, ◌≢◌, ◌≤◌, None, Ok, Err, IfOk, IfErr, IfSome, IsSome};
+ghost use Rattle.std.specs.Prelude.{◌≡◌, ◌≢◌, ◌≤◌, None, Ok, Err, IfOk, IfErr, IfSome};
 ghost use Rattle.csv_rows.specs.FeedTables.{unread_of, IsFaultOf};
 ghost use Rattle.csv_rows.specs.Limits.{rows_of};
 ghost use Rattle.csv_rows.specs.Tables.{row_count};
@@ -21,15 +21,13 @@ pub fn read_required<F: Files>(
     first: Column,
     limits: &Limits,
 ) -> Result<Rows, FeedFault>
-    ensures same { F.files files.new ≡ F.files files.old }
-    ensures rows { IfSome (F.files files.old) (λ m. IfOk result (λ t.
+    ensures rows { IfSome (F.state files.old).files (λ m. IfOk result (λ t.
         required table first (load_in m folder.now limits.now None table) ≡ Ok t)) }
-    ensures fault { IfSome (F.files files.old) (λ m. IfErr result (λ f. f ≢ FeedFault.NoMemory
+    ensures fault { IfSome (F.state files.old).files (λ m. IfErr result (λ f. f ≢ FeedFault.NoMemory
         → required table first (load_in m folder.now limits.now (unread_of f) table) ≡ Err f)) }
     ensures few { IfOk result (λ t. row_count t ≤ rows_of limits.now table) }
     ensures own { IfErr result (IsFaultOf table) }
-    ensures causes { HasFeedCauses (IsSome (F.files files.old)) folder.now
-        (F.faults files.old) (F.faults files.new) (F.faults_of files.old) (F.faults_of files.new) result }
+    ensures causes { HasFeedCauses folder.now (F.state files.old) (F.state files.new) result }
 {
     match read_table(alloc, files, folder, table, limits)? {
         Loaded::Found(rows) => Ok(rows),

@@ -1,5 +1,5 @@
 //! The table of frequencies, loaded and read.
-ghost use Rattle.std.specs.Prelude.{◌≡◌, ◌≢◌, ◌≤◌, length, None, Ok, Err, IfOk, IfErr, IfSome, IsSome};
+ghost use Rattle.std.specs.Prelude.{◌≡◌, ◌≢◌, ◌≤◌, length, None, Ok, Err, IfOk, IfErr, IfSome};
 ghost use Rattle.std.specs.List.Sorted.{IsNonDecreasing};
 ghost use Rattle.csv_rows.specs.declared.feed_tables.Table.TheVariants.{Frequencies as FrequenciesTable};
 ghost use Rattle.csv_rows.specs.FeedTables.{unread_of, IsFaultOf};
@@ -24,11 +24,10 @@ pub fn load_frequencies<F: Files>(
     limits: &Limits,
     trips: &Ids,
 ) -> Result<Repeats, FeedFault>
-    ensures same { F.files files.new ≡ F.files files.old }
-    ensures repeats { IfSome (F.files files.old) (λ m. IfOk result (λ r. AreFrequencies trips.now
+    ensures repeats { IfSome (F.state files.old).files (λ m. IfOk result (λ r. AreFrequencies trips.now
         (frequencies_from (load_in m folder.now limits.now None FrequenciesTable) trips.now)
         (all_repeats_in r.trips.items r.rows.items (length trips.now)))) }
-    ensures fault { IfSome (F.files files.old) (λ m. IfErr result (λ f. f ≢ FeedFault.NoMemory
+    ensures fault { IfSome (F.state files.old).files (λ m. IfErr result (λ f. f ≢ FeedFault.NoMemory
         → frequencies_from (load_in m folder.now limits.now (unread_of f) FrequenciesTable) trips.now
         ≡ Err f)) }
     ensures sound { IfOk result (λ r. IsOfSomeTable (fault_of_frequencies trips.now) (λ l.
@@ -37,8 +36,7 @@ pub fn load_frequencies<F: Files>(
     ensures paired { IfOk result (λ r. length r.rows.items ≡ length r.trips.items) }
     ensures few { IfOk result (λ r. length r.rows.items ≤ most_frequencies) }
     ensures own { IfErr result (IsFaultOf FrequenciesTable) }
-    ensures causes { HasFeedCauses (IsSome (F.files files.old)) folder.now
-        (F.faults files.old) (F.faults files.new) (F.faults_of files.old) (F.faults_of files.new) result }
+    ensures causes { HasFeedCauses folder.now (F.state files.old) (F.state files.new) result }
 {
     let loaded = read_table(alloc, files, folder, Table::Frequencies, limits)?;
     repeats_from(alloc, &loaded, trips)

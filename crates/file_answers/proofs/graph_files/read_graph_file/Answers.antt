@@ -11,7 +11,7 @@ use Rattle.file_answers.proofs.graph_files.read_graph_file.Goals as goal
 
 pub returns-clause-graph : goal.returns-clause-graph
 returns-clause-graph g c =
-    IfSome_then (g.F.Files.files c.args.files.now) c.in_ok-bytes.ensures.bytes (λ m there.
+    IfSome_then (g.F.Files.state c.args.files.now).files c.in_ok-bytes.ensures.bytes (λ m there.
     graph_finds c.args.limits.now c.args.problem.now c.args.start.0 (file_at m c.args.path.now) c.in_ok-bytes.bytes.items c.as_slice.result.now there c.as_slice.ensures.value
     c.graph_of_bytes.result c.graph_of_bytes.ensures.graph c.graph_of_bytes.ensures.fault c.graph_of_bytes.ensures.read)
 

@@ -9,17 +9,17 @@ use Rattle.file_answers.proofs.proof_files.read_proof_file.Goals as goal
 
 pub returns-in_err-bytes-clause-fault : goal.returns-in_err-bytes-clause-fault
 returns-in_err-bytes-clause-fault g c = if_raised _ c.from_residual.result c.from_residual.ensures
-    (unloaded (g.F.Files.files c.args.files.now) c.args.limits.now c.args.start.0 c.args.path.now c.args.problem.now _
+    (unloaded (g.F.Files.state c.args.files.now).files c.args.limits.now c.args.start.0 c.args.path.now c.args.problem.now _
     c.in_err-bytes.ensures.stage c.in_err-bytes.ensures.bytes)
 
 pub returns-clause-proof : goal.returns-clause-proof
 returns-clause-proof g c =
-    read (g.F.Files.files c.args.files.now) c.args.limits.now c.args.start.0 c.args.path.now c.args.problem.now c.in_ok-bytes.bytes.items c.as_slice.result.now
+    read (g.F.Files.state c.args.files.now).files c.args.limits.now c.args.start.0 c.args.path.now c.args.problem.now c.in_ok-bytes.bytes.items c.as_slice.result.now
     c.as_slice.ensures.value c.in_ok-bytes.ensures.bytes c.proof_of_bytes.result c.proof_of_bytes.ensures.proof
 
 pub returns-clause-fault : goal.returns-clause-fault
 returns-clause-fault g c =
-    unread (g.F.Files.files c.args.files.now) c.args.limits.now c.args.start.0 c.args.path.now c.args.problem.now c.in_ok-bytes.bytes.items c.as_slice.result.now
+    unread (g.F.Files.state c.args.files.now).files c.args.limits.now c.args.start.0 c.args.path.now c.args.problem.now c.in_ok-bytes.bytes.items c.as_slice.result.now
     c.as_slice.ensures.value c.in_ok-bytes.ensures.bytes c.proof_of_bytes.result c.proof_of_bytes.ensures.fault c.proof_of_bytes.ensures.stage c.proof_of_bytes.ensures.read
 
 pub returns-clause-own : goal.returns-clause-own

@@ -7,7 +7,7 @@ use Rattle.input_files.proofs.inputs.load_bytes.Goals as goal
 
 pub returns-in-Err-Read-clause-bytes : goal.returns-in-Err-Read-clause-bytes
 returns-in-Err-Read-clause-bytes g c =
-    if_some_any (g.F.Files.files c.args.files.now) _ (λ m memory. bytes_of-unread c.args.limits.now.bytes c.args.input (file_at m c.args.path.now))
+    if_some_any (g.F.Files.state c.args.files.now).files _ (λ m memory. bytes_of-unread c.args.limits.now.bytes c.args.input (file_at m c.args.path.now))
 
 pub returns-in-Err-Read-clause-early : goal.returns-in-Err-Read-clause-early
 returns-in-Err-Read-clause-early g c = λ timetable own. early_read timetable c.args.input own

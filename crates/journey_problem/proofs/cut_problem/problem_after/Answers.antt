@@ -8,18 +8,18 @@ use Rattle.journey_problem.proofs.cut_problem.problem_after.Goals as goal
 
 pub returns-in-Err-clause-fault : goal.returns-in-Err-clause-fault
 returns-in-Err-clause-fault g c =
-    IfSome_then (g.F.Files.files c.args.files.now) c.in-Err.ensures.table (λ m first path has.
+    IfSome_then (g.F.Files.state c.args.files.now).files c.in-Err.ensures.table (λ m first path has.
     delay_first c.args.limits.now m path (journey_shown c.args.journey.now) c.args.cut.now c.in-Err.fault has c.in-Err.ensures.own first)
 
 pub returns-in-Ok-clause-problem : goal.returns-in-Ok-clause-problem
 returns-in-Ok-clause-problem g c =
     let is = c.problem_in.ensures in
-    IfSome_then (g.F.Files.files c.args.files.now) c.in-Ok.ensures.table (λ m delays.
+    IfSome_then (g.F.Files.state c.args.files.now).files c.in-Ok.ensures.table (λ m delays.
     cut_file_problem (journey_shown c.args.journey.now) c.args.cut.now c.in-Ok.delays c.args.limits.now m c.problem_in.result delays is.network is.valid is.source is.target is.none)
 
 pub returns-in-Ok-clause-fault : goal.returns-in-Ok-clause-fault
 returns-in-Ok-clause-fault g c =
-    IfSome_then (g.F.Files.files c.args.files.now) c.in-Ok.ensures.table (λ m delays.
+    IfSome_then (g.F.Files.state c.args.files.now).files c.in-Ok.ensures.table (λ m delays.
     stop_first (journey_shown c.args.journey.now) c.args.cut.now c.in-Ok.delays c.args.limits.now m c.problem_in.result delays.0 c.problem_in.ensures.fault c.problem_in.ensures.read)
 
 pub returns-in-Ok-clause-timetable : goal.returns-in-Ok-clause-timetable

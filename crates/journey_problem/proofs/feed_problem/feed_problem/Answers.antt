@@ -1,6 +1,5 @@
-use Rattle.std.proofs.Common.{◌∙◌, Option, ap, inl, inr, sym, subst, IsSome}
+use Rattle.std.proofs.Common.{◌∙◌, ap, inl, inr}
 use Rattle.std.proofs.lemmas.Result.{IfOk-weaker, IfErr-weaker}
-use Rattle.file_ports.specs.Ports.{FileMap}
 use Rattle.command_line.specs.Jobs.{FeedFolder}
 use Rattle.command_line.specs.Shown.{journey_shown}
 use Rattle.journey_model.specs.declared.faults.Input.TheVariants as input
@@ -15,25 +14,22 @@ use Rattle.journey_problem.proofs.feed_problem.feed_problem.Goals as goal
 
 pub returns-in-Ok-clause-problem : goal.returns-in-Ok-clause-problem
 returns-in-Ok-clause-problem g c =
-    if_some_both (g.F.Files.files c.args.files.now) (g.F.Files.files c.read_folder.new.files) c.in-Ok.ensures.same c.in-Ok.ensures.folder c.problem_in.ensures.problem
+    if_some_both (g.F.Files.state c.args.files.now).files (g.F.Files.state c.read_folder.new.files).files c.in-Ok.ensures.causes.same c.in-Ok.ensures.folder c.problem_in.ensures.problem
     (λ m is all. IfOk-weaker c.problem_in.result _ _ (λ p one. one c.args.folder.now is) all)
 
 pub returns-in-Ok-clause-fault : goal.returns-in-Ok-clause-fault
 returns-in-Ok-clause-fault g c =
-    if_some_both (g.F.Files.files c.args.files.now) (g.F.Files.files c.read_folder.new.files) c.in-Ok.ensures.same c.in-Ok.ensures.folder c.problem_in.ensures.fault
+    if_some_both (g.F.Files.state c.args.files.now).files (g.F.Files.state c.read_folder.new.files).files c.in-Ok.ensures.causes.same c.in-Ok.ensures.folder c.problem_in.ensures.fault
     (λ m is later. IfErr-weaker c.problem_in.result _ _ (λ fault why other. inr (gtfs_folder_of c.in-Ok.tables, is, why other)) later)
 
 pub returns-in-Ok-clause-causes : goal.returns-in-Ok-clause-causes
 returns-in-Ok-clause-causes g c = λ own.
-    causes-then {told = IsSome (g.F.Files.files c.args.files.now)} {path = path_by (FeedFolder c.args.folder.now c.args.horizon) (journey_shown c.args.journey.now) own}
-    input.Delays c.problem_in.result (λ table is. is) (λ told. subst (λ (o : Option FileMap). IsSome o) (sym c.in-Ok.ensures.same) told)
+    causes-then {path = path_by (FeedFolder c.args.folder.now c.args.horizon) (journey_shown c.args.journey.now) own}
+    input.Delays c.problem_in.result (λ table is. is)
     c.in-Ok.ensures.causes c.problem_in.ensures.causes c.problem_in.ensures.own
 
 pub returns-in-Ok-clause-early : goal.returns-in-Ok-clause-early
 returns-in-Ok-clause-early g c = c.problem_in.ensures.early c.args.folder.now
-
-pub returns-in-Ok-clause-same : goal.returns-in-Ok-clause-same
-returns-in-Ok-clause-same g c = c.problem_in.ensures.same ∙ c.in-Ok.ensures.same
 
 pub returns-in-Ok-clause-valid : goal.returns-in-Ok-clause-valid
 returns-in-Ok-clause-valid g c = c.problem_in.ensures.valid
@@ -50,17 +46,14 @@ returns-in-Ok-clause-source g c = c.problem_in.ensures.source
 pub returns-in-Ok-clause-target : goal.returns-in-Ok-clause-target
 returns-in-Ok-clause-target g c = c.problem_in.ensures.target
 
-pub returns-in-Err-clause-same : goal.returns-in-Err-clause-same
-returns-in-Err-clause-same g c = c.in-Err.ensures.same
-
 pub returns-in-Err-clause-early : goal.returns-in-Err-clause-early
 returns-in-Err-clause-early g c = c.fault_of.ensures.early c.args.folder.now c.args.horizon
 
 pub returns-in-Err-clause-problem : goal.returns-in-Err-clause-problem
-returns-in-Err-clause-problem g c = if_some_any (g.F.Files.files c.args.files.now) _ (λ m. tt)
+returns-in-Err-clause-problem g c = if_some_any (g.F.Files.state c.args.files.now).files _ (λ m. tt)
 
 pub returns-in-Err-clause-fault : goal.returns-in-Err-clause-fault
 returns-in-Err-clause-fault g c =
     let is = c.fault_of.ensures.fault in
-    IfSome_then (g.F.Files.files c.args.files.now) c.in-Err.ensures.fault (λ m why other.
+    IfSome_then (g.F.Files.state c.args.files.now).files c.in-Err.ensures.fault (λ m why other.
     inl (c.in-Err.fault, is, why (λ same. other (is ∙ ap (feed_as c.args.limits.now) same))))

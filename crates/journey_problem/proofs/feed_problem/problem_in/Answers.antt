@@ -9,7 +9,7 @@ use Rattle.std.proofs.lemmas.Option.{IfSome_then}
 use Rattle.journey_problem.proofs.feed_problem.problem_in.Goals as goal
 
 pub returns-in-Err-clause-fault : goal.returns-in-Err-clause-fault
-returns-in-Err-clause-fault g c = IfSome_then (g.F.Files.files c.args.files.now) c.in-Err.ensures.table (λ m first other. inl (first other))
+returns-in-Err-clause-fault g c = IfSome_then (g.F.Files.state c.args.files.now).files c.in-Err.ensures.table (λ m first other. inl (first other))
 
 pub returns-in-Err-clause-early : goal.returns-in-Err-clause-early
 returns-in-Err-clause-early g c = λ folder. c.in-Err.ensures.early (FeedFolder folder c.args.horizon)
@@ -17,13 +17,13 @@ returns-in-Err-clause-early g c = λ folder. c.in-Err.ensures.early (FeedFolder 
 pub returns-in-Ok-clause-problem : goal.returns-in-Ok-clause-problem
 returns-in-Ok-clause-problem g c =
     let is = c.window_problem.ensures in
-    IfSome_then (g.F.Files.files c.args.files.now) c.in-Ok.ensures.table (λ m delays.
+    IfSome_then (g.F.Files.state c.args.files.now).files c.in-Ok.ensures.table (λ m delays.
     window_problem c.args.limits.now m c.args.horizon (journey_shown c.args.journey.now) (gtfs_folder_of c.args.tables.now) c.in-Ok.delays delays.0 delays.1 c.window_problem.result
     is.network is.no_window_fault is.source is.target)
 
 pub returns-in-Ok-clause-fault : goal.returns-in-Ok-clause-fault
 returns-in-Ok-clause-fault g c =
-    IfSome_then (g.F.Files.files c.args.files.now) c.in-Ok.ensures.table (λ m delays.
+    IfSome_then (g.F.Files.state c.args.files.now).files c.in-Ok.ensures.table (λ m delays.
     window_fault c.args.limits.now m c.args.horizon (journey_shown c.args.journey.now) (gtfs_folder_of c.args.tables.now) c.in-Ok.delays delays.0 delays.1 c.window_problem.result
     c.window_problem.ensures.fault)
 

@@ -1,5 +1,4 @@
-use Rattle.std.proofs.Common.{◌∙◌, Option, inl, inr, refl, sym, subst, IsSome, IsOk, IsOkAnd, None, Result, Ok, Err}
-use Rattle.file_ports.specs.Ports.{FileMap}
+use Rattle.std.proofs.Common.{inl, inr, refl, IsOk, IsOkAnd, None, Result, Ok, Err}
 use Rattle.service_days.specs.Services.{runs}
 use Rattle.service_days.specs.Calendars.{calendars_in, RunsBy}
 use Rattle.journey_problem.proofs.FeedSteps.{if_some_both}
@@ -13,27 +12,21 @@ ok_by (Ok x) P is = refl
 ok_by (Err e) P is = absurd is
 
 pub returns-in-Err-clause-fault : goal.returns-in-Err-clause-fault
-returns-in-Err-clause-fault g c = IfSome_then (g.F.Files.files c.args.files.now) c.in-Err.ensures.fault (λ m first free. inl (first free))
-
-pub returns-in-Err-read-clause-same : goal.returns-in-Err-read-clause-same
-returns-in-Err-read-clause-same g c = c.in-Err-read.ensures.same ∙ c.in-Ok.ensures.same
+returns-in-Err-clause-fault g c = IfSome_then (g.F.Files.state c.args.files.now).files c.in-Err.ensures.fault (λ m first free. inl (first free))
 
 pub returns-in-Err-read-clause-fault : goal.returns-in-Err-read-clause-fault
 returns-in-Err-read-clause-fault g c =
-    if_some_both (g.F.Files.files c.args.files.now) (g.F.Files.files c.read.new.files) c.in-Ok.ensures.same c.in-Ok.ensures.services c.in-Err-read.ensures.fault
+    if_some_both (g.F.Files.state c.args.files.now).files (g.F.Files.state c.read.new.files).files c.in-Ok.ensures.causes.same c.in-Ok.ensures.services c.in-Err-read.ensures.fault
     (λ m is later free. inr (ok_by (calendars_in m c.args.folder.now c.args.limits.now None) (RunsBy (runs c.in-Ok.services)) is, later free))
 
 pub returns-in-Err-read-clause-causes : goal.returns-in-Err-read-clause-causes
 returns-in-Err-read-clause-causes g c =
-    causes-next (λ table is. is) (λ told. subst (λ (o : Option FileMap). IsSome o) (sym c.in-Ok.ensures.same) told) c.in-Ok.ensures.causes c.in-Err-read.ensures.causes
-
-pub returns-in-Ok-read-clause-same : goal.returns-in-Ok-read-clause-same
-returns-in-Ok-read-clause-same g c = c.in-Ok-read.ensures.same ∙ c.in-Ok.ensures.same
+    causes-next (λ table is. is) c.in-Ok.ensures.causes c.in-Err-read.ensures.causes
 
 pub returns-in-Ok-read-clause-rules : goal.returns-in-Ok-read-clause-rules
 returns-in-Ok-read-clause-rules g c =
-    if_some_both (g.F.Files.files c.args.files.now) (g.F.Files.files c.read.new.files) c.in-Ok.ensures.same c.in-Ok.ensures.services c.in-Ok-read.ensures.changes (λ m is are. (is, are))
+    if_some_both (g.F.Files.state c.args.files.now).files (g.F.Files.state c.read.new.files).files c.in-Ok.ensures.causes.same c.in-Ok.ensures.services c.in-Ok-read.ensures.changes (λ m is are. (is, are))
 
 pub returns-in-Ok-read-clause-causes : goal.returns-in-Ok-read-clause-causes
 returns-in-Ok-read-clause-causes g c =
-    causes-next (λ table is. is) (λ told. subst (λ (o : Option FileMap). IsSome o) (sym c.in-Ok.ensures.same) told) c.in-Ok.ensures.causes c.in-Ok-read.ensures.causes
+    causes-next (λ table is. is) c.in-Ok.ensures.causes c.in-Ok-read.ensures.causes

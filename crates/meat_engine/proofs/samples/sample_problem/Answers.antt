@@ -1,5 +1,6 @@
-use Rattle.std.proofs.Common.{◌≡◌, ℕ, List, Option, Result, Ok, Err, None, subst, IfOk, IfErr}
+use Rattle.std.proofs.Common.{◌≡◌, ℕ, List, Option, Result, Ok, Err, None, refl, subst, arith, IfOk, IfErr}
 use Rattle.feed_maker.specs.Files.{folder_of}
+use Rattle.file_ports.specs.Ports.{FilesState}
 use Rattle.command_line.specs.Jobs.{JourneyModel}
 use Rattle.journey_model.specs.declared.faults.Fault.{Fault}
 use Rattle.journey_model.specs.declared.faults.Input.{Input}
@@ -8,14 +9,14 @@ use Rattle.input_files.specs.Files.{HasCauses}
 use Rattle.journey_problem.specs.Problems.{IsProblem, IsProblemFault, IsValidProblem}
 use Rattle.meat_engine.specs.Asks.{no_path}
 use Rattle.std.proofs.lemmas.Result.{IfOk-weaker, IfErr-weaker}
-use Rattle.meat_engine.proofs.Asking.{never_unread, none_rises}
+use Rattle.meat_engine.proofs.Asking.{never_unread}
 use Rattle.meat_engine.proofs.samples.sample_problem.Goals as goal
 
 -- files that never fail
-all_read : {T told : Type 0} {path : Input → Option (List ℕ)} {before_of now_of : List ℕ → ℕ} (r : Result T Fault)
-    → HasCauses told path 0 0 before_of now_of r → IfErr r (λ f. unread_of f ≡ None)
-all_read (Ok a) causes = tt
-all_read (Err f) causes = never_unread f (λ input is. none_rises (causes.read input (cc)))
+all_read : {T : Type 0} {path : Input → Option (List ℕ)} {before now : FilesState} (r : Result T Fault)
+    → before.faults ≡ 0 → now.faults ≡ 0 → HasCauses path before now r → IfErr r (λ f. unread_of f ≡ None)
+all_read (Ok a) quiet still causes = tt
+all_read (Err f) quiet still causes = never_unread f (λ input is. let rose = causes.read input (cc) in absurd (omega (arith, quiet, still, rose)))
 
 both_ok : {A E : Type 0} (r : Result A E) (P Q : A → Type 0) → IfOk r P → IfOk r Q → IfOk r (λ a. P a × Q a)
 both_ok (Ok a) P Q p q = (p, q)
@@ -37,4 +38,4 @@ returns-in-Ok-clause-fault c =
     c.problem_of.ensures.fault
 
 pub returns-in-Ok-clause-read : goal.returns-in-Ok-clause-read
-returns-in-Ok-clause-read c = all_read c.problem_of.result (c.problem_of.ensures.causes no_path)
+returns-in-Ok-clause-read c = all_read c.problem_of.result refl refl (c.problem_of.ensures.causes no_path)

@@ -8,5 +8,5 @@ use Rattle.meat_engine.proofs.top.answer_of.Goals as goal
 
 pub returns-in-Journey-clause-fault : goal.returns-in-Journey-clause-fault
 returns-in-Journey-clause-fault g c =
-    subst (λ (wanted : JobModel). IfErr c.journey_over.result (IsRefusalBy (FailsJob (g.F.Files.files c.args.files.now) c.args.limits.now wanted)))
+    subst (λ (wanted : JobModel). IfErr c.journey_over.result (IsRefusalBy (FailsJob (g.F.Files.state c.args.files.now).files c.args.limits.now wanted)))
     (ap (λ (job : Job). wanted_job job) (sym c.in-Journey.is)) c.journey_over.ensures.fault

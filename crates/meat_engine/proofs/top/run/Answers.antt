@@ -1,12 +1,12 @@
 use Rattle.std.proofs.Common.{subst, map, string_bytes}
 use Rattle.csv_rows.specs.declared.limits.Limits.{Limits}
-use Rattle.meat_engine.specs.RunPromises.{IsRun, files_state, sink_state}
+use Rattle.meat_engine.specs.RunPromises.{IsRun, sink_state}
 use Rattle.meat_engine.proofs.top.run.Goals as goal
 
 pub returns : goal.returns
 returns g c =
-    let before = files_state (g.F.Files.files c.args.files.now) (g.F.Files.faults c.args.files.now) (g.F.Files.faults_of c.args.files.now) in
-    let after = files_state (g.F.Files.files c.run_limited.new.files) (g.F.Files.faults c.run_limited.new.files) (g.F.Files.faults_of c.run_limited.new.files) in
+    let before = g.F.Files.state c.args.files.now in
+    let after = g.F.Files.state c.run_limited.new.files in
     let out = sink_state (g.O.Sink.written c.args.out.now) (g.O.Sink.faults c.args.out.now) in
     let out_after = sink_state (g.O.Sink.written c.run_limited.new.out) (g.O.Sink.faults c.run_limited.new.out) in
     let err = sink_state (g.E.Sink.written c.args.err.now) (g.E.Sink.faults c.args.err.now) in

@@ -7,7 +7,7 @@ use Rattle.journey_model.specs.declared.faults.Fault.TheVariants.{Words, Read, W
 use Rattle.journey_model.specs.Sites.{IsTellable}
 use Rattle.journey_report.specs.Findings.{findings_of}
 use Rattle.meat_engine.specs.Received.{FailsJob}
-use Rattle.meat_engine.specs.RunPromises.{files_state, sink_state}
+use Rattle.meat_engine.specs.RunPromises.{sink_state}
 use Rattle.meat_engine.specs.Refusals.{known_of}
 use Rattle.meat_engine.proofs.Outcomes.{job_cause, write_fails}
 use Rattle.meat_engine.proofs.Runs.{refused_run, answered_run, path_of_job}
@@ -22,7 +22,7 @@ refuse-requires-in-Err-answer_of g c = c.in-Err-answer_of.ensures.fault.tellable
 pub returns-in-Err : goal.returns-in-Err
 returns-in-Err g c =
     let words = map string_bytes c.args.words.now in
-    let files = files_state (g.F.Files.files c.args.files.now) (g.F.Files.faults c.args.files.now) (g.F.Files.faults_of c.args.files.now) in
+    let files = g.F.Files.state c.args.files.now in
     let out = sink_state (g.O.Sink.written c.args.out.now) (g.O.Sink.faults c.args.out.now) in
     let err = sink_state (g.E.Sink.written c.args.err.now) (g.E.Sink.faults c.args.err.now) in
     let err_after = sink_state (g.E.Sink.written c.refuse.new.err) (g.E.Sink.faults c.refuse.new.err) in
@@ -39,11 +39,10 @@ returns-in-Err g c =
 
 pub returns-in-Err-answer_of : goal.returns-in-Err-answer_of
 returns-in-Err-answer_of g c =
-    let told = g.F.Files.files c.args.files.now in
     let limits = c.args.limits.now in
     let words = map string_bytes c.args.words.now in
-    let before = files_state told (g.F.Files.faults c.args.files.now) (g.F.Files.faults_of c.args.files.now) in
-    let after = files_state (g.F.Files.files c.answer_of.new.files) (g.F.Files.faults c.answer_of.new.files) (g.F.Files.faults_of c.answer_of.new.files) in
+    let before = g.F.Files.state c.args.files.now in
+    let after = g.F.Files.state c.answer_of.new.files in
     let out = sink_state (g.O.Sink.written c.args.out.now) (g.O.Sink.faults c.args.out.now) in
     let err = sink_state (g.E.Sink.written c.args.err.now) (g.E.Sink.faults c.args.err.now) in
     let err_after = sink_state (g.E.Sink.written c.refuse-in-Err-answer_of.new.err) (g.E.Sink.faults c.refuse-in-Err-answer_of.new.err) in
@@ -54,18 +53,17 @@ returns-in-Err-answer_of g c =
     let asked = sym c.in-Ok.ensures.job in
     refused_run limits words c.refuse-in-Err-answer_of.result before after out err err_after known fault c.refuse-in-Err-answer_of.ensures.told
     c.refuse-in-Err-answer_of.ensures.status c.refuse-in-Err-answer_of.ensures.findings
-    (job_cause told limits words wanted known asked fault why.holds)
-    (λ write. write_fails told limits words wanted known (subst (FailsJob told limits wanted known) write (why.holds (λ memory. let none : Write ≡ NoMemory = sym write ∙ memory in absurd (cc)))))
-    c.in-Err-answer_of.ensures.same
+    (job_cause before.files limits words wanted known asked fault why.holds)
+    (λ write. write_fails before.files limits words wanted known (subst (FailsJob before.files limits wanted known) write (why.holds (λ memory. let none : Write ≡ NoMemory = sym write ∙ memory in absurd (cc)))))
+    c.in-Err-answer_of.ensures.causes.same
     (λ input read. c.in-Err-answer_of.ensures.causes.read input (cc))
     (λ job input is some read. path_of_job words job wanted before.faults_of after.faults_of input is asked (c.in-Err-answer_of.ensures.causes.read_path some input (cc)))
     (λ less. let read = c.in-Err-answer_of.ensures.causes.grew less in (read.0, (cc)))
 
 pub returns-in-Ok-answer_of : goal.returns-in-Ok-answer_of
 returns-in-Ok-answer_of g c =
-    let told = g.F.Files.files c.args.files.now in
-    let before = files_state told (g.F.Files.faults c.args.files.now) (g.F.Files.faults_of c.args.files.now) in
-    let after = files_state (g.F.Files.files c.answer_of.new.files) (g.F.Files.faults c.answer_of.new.files) (g.F.Files.faults_of c.answer_of.new.files) in
+    let before = g.F.Files.state c.args.files.now in
+    let after = g.F.Files.state c.answer_of.new.files in
     let out = sink_state (g.O.Sink.written c.args.out.now) (g.O.Sink.faults c.args.out.now) in
     let out_after = sink_state (g.O.Sink.written c.tell.new.out) (g.O.Sink.faults c.tell.new.out) in
     let err = sink_state (g.E.Sink.written c.args.err.now) (g.E.Sink.faults c.args.err.now) in
@@ -73,6 +71,6 @@ returns-in-Ok-answer_of g c =
     answered_run c.args.limits.now (map string_bytes c.args.words.now) (findings_of c.in-Ok-answer_of.answer.report) c.tell.result c.in-Ok-answer_of.answer.text.items
     before after out out_after err err_after c.tell.ensures.out
     (wanted_job c.in-Ok.job) (sym c.in-Ok.ensures.job) c.in-Ok-answer_of.ensures.answer c.tell.ensures.status c.tell.ensures.findings
-    c.tell.ensures.quiet c.tell.ensures.told c.in-Ok-answer_of.ensures.same
+    c.tell.ensures.quiet c.tell.ensures.told c.in-Ok-answer_of.ensures.causes.same
     (λ less. (c.in-Ok-answer_of.ensures.causes.grew less).1)
     c.tell.ensures.write c.tell.ensures.grew

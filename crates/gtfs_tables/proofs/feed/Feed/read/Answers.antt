@@ -7,7 +7,7 @@ load_times-requires-clause-places g c = c.in_ok-lists.ensures.sound.stops.places
 
 pub returns-in_err-times-clause-fault : goal.returns-in_err-times-clause-fault
 returns-in_err-times-clause-fault g c = some_raised _ _ _ c.from_residual-in_err-times.result c.from_residual-in_err-times.ensures
-    (fault_after _ _ _ _ c.in_ok-lists.ensures.lists (if_same _ _ _ c.in_ok-lists.ensures.same c.in_err-times.ensures.fault))
+    (fault_after _ _ _ _ c.in_ok-lists.ensures.lists (if_same _ _ _ c.in_ok-lists.ensures.causes.same c.in_err-times.ensures.fault))
 
 pub invariant_of-result : goal.invariant_of-result
 invariant_of-result g c =
@@ -31,11 +31,11 @@ invariant_of-result g c =
 
 pub returns-clause-feed : goal.returns-clause-feed
 returns-clause-feed g c =
-    feed_of_tables c.args.folder.now c.args.limits.now c.in_ok-lists.lists c.in_ok-times.times (g.F.Files.files c.args.files.now)
-    c.in_ok-lists.ensures.lists (if_same _ _ _ c.in_ok-lists.ensures.same c.in_ok-times.ensures.times)
+    feed_of_tables c.args.folder.now c.args.limits.now c.in_ok-lists.lists c.in_ok-times.times (g.F.Files.state c.args.files.now).files
+    c.in_ok-lists.ensures.lists (if_same _ _ _ c.in_ok-lists.ensures.causes.same c.in_ok-times.ensures.times)
 
 pub returns-in_err-lists-clause-feed : goal.returns-in_err-lists-clause-feed
-returns-in_err-lists-clause-feed g c = none_read (g.F.Files.files c.args.files.now) _ c.from_residual.result c.from_residual.ensures.0
+returns-in_err-lists-clause-feed g c = none_read (g.F.Files.state c.args.files.now).files _ c.from_residual.result c.from_residual.ensures.0
 
 pub returns-in_err-times-clause-feed : goal.returns-in_err-times-clause-feed
-returns-in_err-times-clause-feed g c = none_read (g.F.Files.files c.args.files.now) _ c.from_residual-in_err-times.result c.from_residual-in_err-times.ensures.0
+returns-in_err-times-clause-feed g c = none_read (g.F.Files.state c.args.files.now).files _ c.from_residual-in_err-times.result c.from_residual-in_err-times.ensures.0
