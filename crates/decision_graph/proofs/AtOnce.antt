@@ -1,9 +1,8 @@
 -- A journey that is at its target when it begins.
-use Rattle.std.proofs.Common.{◌≡◌, ℕ, ◌≤◌, List, [], Option, None, true, refl, sym, subst, arith, ◌==◌}
+use Rattle.std.proofs.Common.{◌≡◌, ℕ, ◌≤◌, [], Option, None, true, refl, sym, subst, arith, ◌==◌}
 use Rattle.std.proofs.lemmas.Bool.Decides.{nat_tests}
 use Rattle.std.proofs.lemmas.List.Elements.{All-nil}
-use Rattle.plan_model.specs.declared.model.Outcome.{Outcome}
-use Rattle.value_laws.specs.ScoreLaws.{ScoreLaws}
+use Rattle.value_laws.specs.ScoreLaws.{Scoring, ScoreLaws}
 use Rattle.plan_model.specs.declared.model.Leg.{Leg}
 use Rattle.plan_model.specs.declared.model.Query.{Query}
 use Rattle.plan_model.specs.NetworkModel.{NetworkModel}
@@ -27,14 +26,13 @@ abbrev no_rides : ExpandedGraph
 no_rides = record { start = None; rides = [] }
 
 -- to have arrived is the one safe strategy
-module _ {V : Type 0} (below covers : V → Tree → Type 0) (gap rank : V → ℕ) (arrived : ℕ → V) (blended : List Outcome → List V → V)
-    (lowered : V → V → V) (laws : ScoreLaws below covers gap rank arrived blended lowered) where
-  below_all : (n : NetworkModel) (q : Query) → q.source.0 ≡ q.target.0 → (tree : Tree) → IsSafeFor n q tree → below (arrived q.start.0) tree
-  below_all n q same (Done moment) safe = subst (λ (m : ℕ). below (arrived q.start.0) (Done m)) (sym safe.0) (laws.arrived_below q.start.0)
+module _ {V : Type 0} (scoring : Scoring V) (laws : ScoreLaws scoring) where
+  below_all : (n : NetworkModel) (q : Query) → q.source.0 ≡ q.target.0 → (tree : Tree) → IsSafeFor n q tree → scoring.below (scoring.arrived q.start.0) tree
+  below_all n q same (Done moment) safe = subst (λ (m : ℕ). scoring.below (scoring.arrived q.start.0) (Done m)) (sym safe.0) (laws.arrived_below q.start.0)
   below_all n q same (Ride i j kids) safe = absurd (safe.0 same)
   below_all n q same (Stuck p x) safe = absurd safe
 
-  best_at_once : (n : NetworkModel) (q : Query) → q.source.0 ≡ q.target.0 → q.start.0 ≤ q.deadline.0 → IsBestBy below covers gap arrived n q (Done q.start.0) (arrived q.start.0)
+  best_at_once : (n : NetworkModel) (q : Query) → q.source.0 ≡ q.target.0 → q.start.0 ≤ q.deadline.0 → IsBestBy scoring n q (Done q.start.0) (scoring.arrived q.start.0)
   best_at_once n q same early = record {
     safe = (refl, same, early);
     covers_own = laws.arrived_covers q.start.0;
@@ -44,10 +42,10 @@ module _ {V : Type 0} (below covers : V → Tree → Type 0) (gap rank : V → �
   }
 
   pub expanded_at_once : (n : NetworkModel) (q : Query) (graph : ExpandedGraph) (value : V) → q.source.0 ≡ q.target.0 → q.start.0 ≤ q.deadline.0
-      → graph ≡ no_rides → value ≡ arrived q.start.0 → IsExpandedBy below covers gap rank arrived blended lowered n q graph value
+      → graph ≡ no_rides → value ≡ scoring.arrived q.start.0 → IsExpandedBy scoring n q graph value
   expanded_at_once n q graph value same early is exact =
-      let best = subst (λ (t : Tree). IsBestBy below covers gap arrived n q t (arrived q.start.0)) (sym (unfolds n q (pick_after []) same)) (best_at_once n q same early) in
-      let whole : IsExpandedBy below covers gap rank arrived blended lowered n q no_rides (arrived q.start.0) = record {
+      let best = subst (λ (t : Tree). IsBestBy scoring n q t (scoring.arrived q.start.0)) (sym (unfolds n q (pick_after []) same)) (best_at_once n q same early) in
+      let whole : IsExpandedBy scoring n q no_rides (scoring.arrived q.start.0) = record {
         best = best;
         by_rules = λ differ. absurd (differ same);
         ready = record { safe = (q.deadline.0, best.safe); starts = same; rising = AllPairs-nil (λ (a b : RideTable). Precedes a.leg b.leg); rides = All-nil _ };

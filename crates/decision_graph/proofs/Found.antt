@@ -1,15 +1,15 @@
 -- From what a scan promises to a best strategy.
-use Rattle.std.proofs.Common.{◌≡◌, ◌≢◌, ℕ, List, Some, sym, ◌∙◌, subst}
+use Rattle.std.proofs.Common.{◌≡◌, ◌≢◌, List, Some, sym, ◌∙◌, subst}
 use Rattle.std.proofs.lemmas.Option.{MatchOption-at_some}
 use Rattle.plan_model.specs.declared.model.ConnectionId.{ConnectionId}
 use Rattle.plan_model.specs.declared.model.Leg.{Leg}
-use Rattle.plan_model.specs.declared.model.Outcome.{Outcome}
 use Rattle.plan_model.specs.declared.model.Query.{Query}
 use Rattle.plan_model.specs.NetworkModel.{NetworkModel}
 use Rattle.plan_model.specs.Order.{IsScanOrder}
 use Rattle.plan_model.specs.Tree.{Tree}
 use Rattle.plan_graph.specs.declared.ExpandedGraph.{ExpandedGraph}
 use Rattle.plan_graph.specs.Unfold.{unfold_expanded}
+use Rattle.value_laws.specs.ScoreLaws.{Scoring}
 use Rattle.meat_scan.specs.Rules.{FollowsRules, IsByRules}
 use Rattle.meat_scan.specs.ScanResult.{ScanResult, chosen_by, leg_choice}
 use Rattle.meat_scan.specs.Solves.{Solves, IsStartAnswer}
@@ -22,10 +22,10 @@ use Rattle.decision_graph.specs.Expanded.{IsNoneSafe, IsExpandedBy, HasSteadyCho
 abbrev pub IsOfStart : {V : Type 0} → NetworkModel → Query → ScanResult V → ExpandedGraph → Type 0
 IsOfStart {V} n q found graph = (start : V × Leg) × (found.start ≡ Some start) × IsExtracted n q found start.1 graph
 
-module _ {V : Type 0} (below covers : V → Tree → Type 0) (gap rank : V → ℕ) (arrived : ℕ → V) (blended : List Outcome → List V → V) (lowered : V → V → V)
+module _ {V : Type 0} (scoring : Scoring V)
     (n : NetworkModel) (q : Query) (found : ScanResult V) where
   -- the strategy of the start is a best one
-  best_strategy : (start : V × Leg) → q.source.0 ≢ q.target.0 → IsStartAnswer below covers gap n q found start → IsBestBy below covers gap arrived n q (chosen_by n q found start.1) start.0
+  best_strategy : (start : V × Leg) → q.source.0 ≢ q.target.0 → IsStartAnswer scoring n q found start → IsBestBy scoring n q (chosen_by n q found start.1) start.0
   best_strategy start differ answer = record {
     safe = answer.safe;
     covers_own = answer.covers_chosen;
@@ -35,18 +35,18 @@ module _ {V : Type 0} (below covers : V → Tree → Type 0) (gap rank : V → �
   }
 
   abbrev ByRules : Tree → V → Type 0
-  ByRules = IsByRules rank lowered arrived blended n q
+  ByRules = IsByRules scoring n q
 
   -- the graph that was extracted, with the bounds of the start
-  pub expanded : Solves below covers gap found n q → (order : List ConnectionId) → IsScanOrder n order → FollowsRules rank lowered arrived blended n q order found
-      → (first : V × Leg) → Some first ≡ found.start → (graph : ExpandedGraph) → IsOfStart n q found graph → IsExpandedBy below covers gap rank arrived blended lowered n q graph first.0
+  pub expanded : Solves scoring found n q → (order : List ConnectionId) → IsScanOrder n order → FollowsRules scoring n q order found
+      → (first : V × Leg) → Some first ≡ found.start → (graph : ExpandedGraph) → IsOfStart n q found graph → IsExpandedBy scoring n q graph first.0
   expanded solves order is_order rules first some graph (start, is, extracted) =
       let same : start ≡ first = let both = some ∙ is in cc in
-      let answer = MatchOption-at_some (IsNoneSafe n q) (IsStartAnswer below covers gap n q found) start is solves.answers.begins in
-      let ruled = by_rules rank lowered arrived blended n q found order is_order rules start is in
+      let answer = MatchOption-at_some (IsNoneSafe n q) (IsStartAnswer scoring n q found) start is solves.answers.begins in
+      let ruled = by_rules scoring n q found order is_order rules start is in
       record {
-        best = subst (λ (v : V × Leg). IsBestBy below covers gap arrived n q (unfold_expanded graph n q) v.0) same
-            (subst (λ (t : Tree). IsBestBy below covers gap arrived n q t start.0) (sym extracted.unfolds) (best_strategy start solves.differ answer));
+        best = subst (λ (v : V × Leg). IsBestBy scoring n q (unfold_expanded graph n q) v.0) same
+            (subst (λ (t : Tree). IsBestBy scoring n q t start.0) (sym extracted.unfolds) (best_strategy start solves.differ answer));
         by_rules = λ differ. subst (λ (v : V × Leg). ByRules (unfold_expanded graph n q) v.0) same (subst (λ (t : Tree). ByRules t start.0) (sym extracted.unfolds) ruled);
         ready = extracted.ready;
         busy = extracted.busy;

@@ -6,12 +6,12 @@ use Rattle.plan_model.specs.NetworkModel.{NetworkModel}
 use Rattle.plan_graph.specs.declared.ExpandedGraph.{ExpandedGraph}
 use Rattle.plan_graph.specs.declared.PlanGraph.{PlanGraph}
 use Rattle.value_laws.specs.declared.MeanSpan.{MeanSpan}
-use Rattle.value_laws.specs.Means.{span_of, mean_below, mean_covers, mean_gap, mean_rank, mean_arrived, mean_blended, mean_lowered}
+use Rattle.value_laws.specs.Means.{span_of, mean_scoring}
 use Rattle.decision_graph.specs.GraphValues.{IsBestBy, IsBest}
 use Rattle.decision_graph.specs.Expanded.{IsExpandedBy, IsExpanded}
 use Rattle.decision_graph.specs.Planned.{IsPlannedBy, IsPlanned}
 
-best : (n : NetworkModel) (q : Query) (strategy : Tree) (value : MeanSpan) → IsBestBy mean_below mean_covers mean_gap mean_arrived n q strategy value → IsBest n q strategy value.0
+best : (n : NetworkModel) (q : Query) (strategy : Tree) (value : MeanSpan) → IsBestBy mean_scoring n q strategy value → IsBest n q strategy value.0
 best n q strategy value by = record {
   safe = by.safe;
   encloses = ((by.below_safe strategy by.safe).0, by.covers_own.0);
@@ -23,7 +23,7 @@ best n q strategy value by = record {
 }
 
 pub expanded_means : (n : NetworkModel) (q : Query) (graph : ExpandedGraph) (value : MeanSpan)
-    → IsExpandedBy mean_below mean_covers mean_gap mean_rank mean_arrived mean_blended mean_lowered n q graph value → IsExpanded n q graph value.0
+    → IsExpandedBy mean_scoring n q graph value → IsExpanded n q graph value.0
 expanded_means n q graph value by = record {
   best = best n q _ value by.best;
   by_rules = by.by_rules;
@@ -34,5 +34,5 @@ expanded_means n q graph value by = record {
 }
 
 pub planned_means : (n : NetworkModel) (q : Query) (graph : PlanGraph) (value : MeanSpan)
-    → IsPlannedBy mean_below mean_covers mean_gap mean_rank mean_arrived mean_blended mean_lowered n q graph value → IsPlanned n q graph value.0
+    → IsPlannedBy mean_scoring n q graph value → IsPlanned n q graph value.0
 planned_means n q graph value by = record { best = best n q _ value by.best; by_rules = by.by_rules; tidy = by.tidy }

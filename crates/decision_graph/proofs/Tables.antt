@@ -1,6 +1,5 @@
 -- From the graph ride by ride to the one with one table for each place.
-use Rattle.std.proofs.Common.{◌≡◌, ℕ, List, sym, ◌∙◌, subst}
-use Rattle.plan_model.specs.declared.model.Outcome.{Outcome}
+use Rattle.std.proofs.Common.{◌≡◌, sym, ◌∙◌, subst}
 use Rattle.plan_model.specs.declared.model.Query.{Query}
 use Rattle.plan_model.specs.NetworkModel.{NetworkModel}
 use Rattle.plan_model.specs.Tree.{Tree}
@@ -8,20 +7,21 @@ use Rattle.plan_graph.specs.declared.ExpandedGraph.{ExpandedGraph}
 use Rattle.plan_graph.specs.declared.PlanGraph.{PlanGraph}
 use Rattle.plan_graph.specs.Unfold.{unfold_expanded, unfold_plan}
 use Rattle.plan_graph.specs.Tidy.{IsTidy}
+use Rattle.value_laws.specs.ScoreLaws.{Scoring}
 use Rattle.meat_scan.specs.Rules.{IsByRules}
 use Rattle.decision_graph.specs.GraphValues.{IsBestBy}
 use Rattle.decision_graph.specs.Expanded.{IsExpandedBy}
 use Rattle.decision_graph.specs.Planned.{IsPlannedBy}
 
 -- the plan unfolds to the strategy of the graph
-pub planned : {V : Type 0} (below covers : V → Tree → Type 0) (gap rank : V → ℕ) (arrived : ℕ → V) (blended : List Outcome → List V → V) (lowered : V → V → V)
-    (n : NetworkModel) (q : Query) (graph pruned : ExpandedGraph) (plan : PlanGraph) (value : V) → IsExpandedBy below covers gap rank arrived blended lowered n q graph value
+pub planned : {V : Type 0} (scoring : Scoring V)
+    (n : NetworkModel) (q : Query) (graph pruned : ExpandedGraph) (plan : PlanGraph) (value : V) → IsExpandedBy scoring n q graph value
     → unfold_expanded pruned n q ≡ unfold_expanded graph n q → unfold_plan plan n q ≡ unfold_expanded pruned n q → IsTidy n q plan
-    → IsPlannedBy below covers gap rank arrived blended lowered n q plan value
-planned below covers gap rank arrived blended lowered n q graph pruned plan value expanded prunes compacts tidy =
+    → IsPlannedBy scoring n q plan value
+planned scoring n q graph pruned plan value expanded prunes compacts tidy =
     let same = sym (compacts ∙ prunes) in
     record {
-      best = subst (λ (t : Tree). IsBestBy below covers gap arrived n q t value) same expanded.best;
-      by_rules = λ differ. subst (λ (t : Tree). IsByRules rank lowered arrived blended n q t value) same (expanded.by_rules differ);
+      best = subst (λ (t : Tree). IsBestBy scoring n q t value) same expanded.best;
+      by_rules = λ differ. subst (λ (t : Tree). IsByRules scoring n q t value) same (expanded.by_rules differ);
       tidy = tidy;
     }

@@ -1,8 +1,7 @@
 -- The decision graph ride by ride.
-use Rattle.std.specs.Prelude.{◌≢◌, ℕ, All, Option, List}
+use Rattle.std.specs.Prelude.{◌≢◌, ℕ, All, Option}
 use Rattle.interval_fixed.specs.Interval.{Interval}
 use Rattle.plan_model.specs.declared.model.Leg.{Leg}
-use Rattle.plan_model.specs.declared.model.Outcome.{Outcome}
 use Rattle.plan_model.specs.declared.model.Query.{Query}
 use Rattle.plan_model.specs.NetworkModel.{NetworkModel}
 use Rattle.plan_model.specs.Tree.{Tree}
@@ -11,7 +10,8 @@ use Rattle.plan_graph.specs.declared.ExpandedGraph.{ExpandedGraph}
 use Rattle.plan_graph.specs.Unfold.{unfold_expanded}
 use Rattle.plan_graph.specs.Ready.{IsReady, IsBusy}
 use Rattle.plan_graph.specs.Follows.{IsSteady, Follows}
-use Rattle.value_laws.specs.Means.{mean_rank, mean_lowered, mean_arrived, mean_blended, from_span}
+use Rattle.value_laws.specs.Means.{mean_scoring, from_span}
+use Rattle.value_laws.specs.ScoreLaws.{Scoring}
 use Rattle.meat_scan.specs.Rules.{IsByRules}
 use Rattle.leg_extract.specs.Extracted.{HasArrivals, IsWhole}
 use Rattle.decision_graph.specs.GraphValues.{IsBestBy, IsBest}
@@ -22,10 +22,9 @@ IsNoneSafe network query = (tree : Tree) → IsSafeFor network query tree → �
 
 -- the graph unfolds to a best strategy, which is the one that the rules of the scan keep where source and target differ; it has a row for
 -- each outcome, every row is picked, and its rides are those that stand in the unfolding, each of them
-pub record IsExpandedBy {V : Type 0} (below covers : V → Tree → Type 0) (gap rank : V → ℕ) (arrived : ℕ → V) (blended : List Outcome → List V → V)
-    (lowered : V → V → V) (network : NetworkModel) (query : Query) (graph : ExpandedGraph) (value : V) : Type 0 where
-  pub best : IsBestBy below covers gap arrived network query (unfold_expanded graph network query) value
-  pub by_rules : query.source.0 ≢ query.target.0 → IsByRules rank lowered arrived blended network query (unfold_expanded graph network query) value
+pub record IsExpandedBy {V : Type 0} (scoring : Scoring V) (network : NetworkModel) (query : Query) (graph : ExpandedGraph) (value : V) : Type 0 where
+  pub best : IsBestBy scoring network query (unfold_expanded graph network query) value
+  pub by_rules : query.source.0 ≢ query.target.0 → IsByRules scoring network query (unfold_expanded graph network query) value
   pub ready : IsReady network query graph
   pub busy : IsBusy network query graph
   pub whole : IsWhole network query graph
@@ -41,7 +40,7 @@ pub record HasSteadyChoice (network : NetworkModel) (query : Query) (graph : Exp
 pub record IsExpanded (network : NetworkModel) (query : Query) (graph : ExpandedGraph) (bounds : Interval) : Type 0 where
   pub best : IsBest network query (unfold_expanded graph network query) bounds
   pub by_rules : query.source.0 ≢ query.target.0
-      → IsByRules mean_rank mean_lowered mean_arrived mean_blended network query (unfold_expanded graph network query) (from_span bounds)
+      → IsByRules mean_scoring network query (unfold_expanded graph network query) (from_span bounds)
   pub ready : IsReady network query graph
   pub busy : IsBusy network query graph
   pub whole : IsWhole network query graph

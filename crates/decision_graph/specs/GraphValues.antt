@@ -1,5 +1,5 @@
 -- What the value of a decision graph says.
-use Rattle.std.specs.Prelude.{◌≡◌, ℕ, ◌-◌, ◌*◌, ◌≤◌}
+use Rattle.std.specs.Prelude.{◌≡◌, ◌-◌, ◌*◌, ◌≤◌}
 use Rattle.plan_model.specs.Bounds.{nanos_per_second}
 use Rattle.interval_fixed.specs.Interval.{Interval}
 use Rattle.plan_model.specs.Expected.{Below, Encloses, arrival}
@@ -9,15 +9,16 @@ use Rattle.plan_model.specs.Network.{count}
 use Rattle.plan_model.specs.Tree.{Tree}
 use Rattle.plan_model.specs.Strategy.{IsSafeFor}
 use Rattle.value_laws.specs.Rounded.{rounded_up, rounded_down}
+use Rattle.value_laws.specs.ScoreLaws.{Scoring}
 
 -- the strategy is safe; the value covers it and is below every safe strategy, this one too;
 -- its gap is at most the number of connections; where source and target are one place, it is that of having arrived at the start
-pub record IsBestBy {V : Type 0} (below covers : V → Tree → Type 0) (gap : V → ℕ) (arrived : ℕ → V) (network : NetworkModel) (query : Query) (strategy : Tree) (value : V) : Type 0 where
+pub record IsBestBy {V : Type 0} (scoring : Scoring V) (network : NetworkModel) (query : Query) (strategy : Tree) (value : V) : Type 0 where
   pub safe : IsSafeFor network query strategy
-  pub covers_own : covers value strategy
-  pub below_safe : (tree : Tree) → IsSafeFor network query tree → below value tree
-  pub gap_within : gap value ≤ count network
-  pub at_once : query.source.0 ≡ query.target.0 → value ≡ arrived query.start.0
+  pub covers_own : scoring.covers value strategy
+  pub below_safe : (tree : Tree) → IsSafeFor network query tree → scoring.below value tree
+  pub gap_within : scoring.gap value ≤ count network
+  pub at_once : query.source.0 ≡ query.target.0 → value ≡ scoring.arrived query.start.0
 
 -- the strategy is safe; the bounds enclose its expected arrival, and the upper one is that with each mean rounded up, ride by ride; the lower
 -- one is below that of every safe strategy, and at most that with each mean rounded down; they differ by at most one nanosecond for each

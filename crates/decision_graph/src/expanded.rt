@@ -43,9 +43,9 @@ pub(crate) fn expand_with<V: Score, B: BackwardOrder>(
     requires source { query.now.source.0 < length network.now.change }
     requires target { query.now.target.0 < length network.now.change }
     requires deadline { query.now.start.0 ≤ query.now.deadline.0 }
-    requires arrived { arrived ≡ V.arrived query.now.start.0 }
+    requires arrived { arrived ≡ V.scoring.arrived query.now.start.0 }
     ensures plan { IfOk result (λ found. MatchOption found (IsNoneSafe network.now query.now)
-        (λ p. IsExpandedBy V.below V.covers V.gap V.rank V.arrived V.blended V.lowered network.now query.now p.graph p.value)) }
+        (λ p. IsExpandedBy V.scoring network.now query.now p.graph p.value)) }
     ensures steady { IfOk result (λ found. IfSome found (λ p. HasSteadyChoice network.now query.now p.graph)) }
     ensures fits { B.fits order.new network.now }
 {

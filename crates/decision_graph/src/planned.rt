@@ -48,9 +48,9 @@ fn plan_with<V: Score, B: BackwardOrder>(
     requires source { query.now.source.0 < length network.now.change }
     requires target { query.now.target.0 < length network.now.change }
     requires deadline { query.now.start.0 ≤ query.now.deadline.0 }
-    requires arrived { arrived ≡ V.arrived query.now.start.0 }
+    requires arrived { arrived ≡ V.scoring.arrived query.now.start.0 }
     ensures plan { IfOk result (λ found. MatchOption found (IsNoneSafe network.now query.now)
-        (λ p. IsPlannedBy V.below V.covers V.gap V.rank V.arrived V.blended V.lowered network.now query.now p.graph p.value)) }
+        (λ p. IsPlannedBy V.scoring network.now query.now p.graph p.value)) }
     ensures fits { B.fits order.new network.now }
 {
     let Some(expanded) = expand_with(alloc, order, network, query, arrived)? else {
@@ -81,7 +81,7 @@ pub fn plan_by<V: Score, B: BackwardOrder>(
     requires start { query.now.start.0 < end_of_time }
     requires deadline { query.now.start.0 ≤ query.now.deadline.0 }
     ensures plan { IfOk result (λ found. MatchOption found (IsNoneSafe network.now query.now)
-        (λ p. IsPlannedBy V.below V.covers V.gap V.rank V.arrived V.blended V.lowered network.now query.now p.graph p.value)) }
+        (λ p. IsPlannedBy V.scoring network.now query.now p.graph p.value)) }
     ensures fits { B.fits order.new network.now }
 {
     plan_with(alloc, order, network, query, V::arrive(query.start))

@@ -6,7 +6,7 @@ use Rattle.plan_model.specs.NetworkModel.{NetworkModel}
 use Rattle.plan_model.specs.Order.{IsScanOrder}
 use Rattle.plan_model.specs.View.{extended}
 use Rattle.value_laws.specs.declared.MeanSpan.{MeanSpan}
-use Rattle.value_laws.specs.Means.{mean_rank, mean_lowered, mean_arrived, mean_blended}
+use Rattle.value_laws.specs.Means.{mean_scoring}
 use Rattle.meat_scan.specs.Rules.{FollowsRules}
 use Rattle.meat_scan.specs.ScanResult.{ScanResult}
 use Rattle.departure_table.specs.declared.DepartureRow.{DepartureRow}
@@ -17,7 +17,7 @@ use Rattle.journey_model.specs.declared.problem.Problem.{Problem}
 pub record IsRuled (network : NetworkModel) (query : Query) (found : ScanResult MeanSpan) : Type 0 where
   pub order : List ConnectionId
   pub is_order : IsScanOrder network order
-  pub rules : FollowsRules mean_rank mean_lowered mean_arrived mean_blended network query order found
+  pub rules : FollowsRules mean_scoring network query order found
 
 -- the query from the place that is added to the network
 abbrev pub added_query : NetworkModel → Query → Query

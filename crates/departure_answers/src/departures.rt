@@ -4,7 +4,7 @@ ghost use Rattle.plan_model.specs.NameLists.{NamesFit};
 ghost use Rattle.command_line.specs.Ranges.{IsLater};
 ghost use Rattle.departure_table.specs.Departures.{IsExtendedFor, IsGreatestMoment, IsTable};
 ghost use Rattle.meat_scan.specs.Solves.{Solves};
-ghost use Rattle.value_laws.specs.Means.{mean_below, mean_covers, mean_gap};
+ghost use Rattle.value_laws.specs.Means.{mean_scoring};
 ghost use Rattle.command_line.specs.Values.{last_until};
 ghost use Rattle.journey_model.specs.Wants.{OrNoMemory};
 ghost use Rattle.plan_model.specs.View.{extended as with_added};
@@ -47,7 +47,7 @@ fn scan_of(alloc: Global, network: &Network, query: &Query) -> Result<Scanned<Me
     requires source { query.now.source.0 < length network.now.change }
     requires target { query.now.target.0 < length network.now.change }
     requires differ { query.now.source.0 ≢ query.now.target.0 }
-    ensures solves { IfOk result (λ scanned. Solves mean_below mean_covers mean_gap
+    ensures solves { IfOk result (λ scanned. Solves mean_scoring
         scanned network.now query.now) }
     ensures ruled { IfOk result (IsRuled network.now query.now) }
 {
@@ -65,7 +65,7 @@ fn scan_from_added(alloc: Global, problem: &Problem, query: &Query) -> Result<Fr
         problem.now.network query.now.source.0) }
     ensures target { IfOk result (λ found. found.query.target ≡ query.now.target) }
     ensures deadline { IfOk result (λ found. found.query.deadline ≡ query.now.deadline) }
-    ensures solves { IfOk result (λ found. Solves mean_below mean_covers mean_gap
+    ensures solves { IfOk result (λ found. Solves mean_scoring
         found.scanned found.network found.query) }
     ensures ruled { IfOk result (λ found. IsRuled found.network found.query found.scanned) }
     ensures network { IfOk result (λ found. found.network ≡ with_added problem.now.network query.now.source.0) }

@@ -9,14 +9,14 @@ use Rattle.plan_model.specs.Tree.{Tree, Done, Ride, Stuck, Kids}
 use Rattle.plan_model.specs.Strategy.{IsLeg, IsBoardable}
 use Rattle.plan_model.specs.Unfold.{by_place, unfold_after, kids_after, outcomes_of}
 use Rattle.value_laws.specs.declared.MeanSpan.{MeanSpan}
-use Rattle.value_laws.specs.Means.{mean_below, mean_covers, mean_gap}
+use Rattle.value_laws.specs.Means.{mean_scoring}
 use Rattle.meat_scan.specs.ScanResult.{ScanResult, choice_of, leg_choice, chosen_at}
 use Rattle.meat_scan.specs.Solves.{Solves, SolvesEach, IsSafeAt}
 use Rattle.departure_table.specs.declared.DepartureRow.{DepartureRow}
 use Rattle.departure_table.specs.Departures.{IsASecondAway, SafeAfter, IsNoneSafeFrom, BeginsWith, IsBestFrom, IsDepartureRow}
 use Rattle.plan_model.specs.Bounds.{end_of_arrivals}
 
-module _ (n : NetworkModel) (q : Query) (found : ScanResult MeanSpan) (valid : IsValid n) (solves : Solves mean_below mean_covers mean_gap found n q) (second : IsASecondAway n q.source.0) where
+module _ (n : NetworkModel) (q : Query) (found : ScanResult MeanSpan) (valid : IsValid n) (solves : Solves mean_scoring found n q) (second : IsASecondAway n q.source.0) where
   abbrev here : ℕ
   here = q.source.0
 
@@ -49,15 +49,15 @@ module _ (n : NetworkModel) (q : Query) (found : ScanResult MeanSpan) (valid : I
         let leg : leg_choice found here x ≡ Some choice.1 = ap (option_map (λ c. c.1)) is in
         rw (test, leg) refl
 
-    module _ (answer : SolvesEach mean_below mean_covers mean_gap n q found here x choice) where
+    module _ (answer : SolvesEach mean_scoring n q found here x choice) where
       abbrev enter : ℕ
       enter = choice.1.enter.0
 
       safe_ride : IsSafeAt n q here x (Ride enter choice.1.exit.0 chosen_kids)
       safe_ride = subst (λ (t : Tree). IsSafeAt n q here x t) begins answer.safe
 
-      covers_ride : mean_covers choice.0 (Ride enter choice.1.exit.0 chosen_kids)
-      covers_ride = subst (λ (t : Tree). mean_covers choice.0 t) begins answer.covers_chosen
+      covers_ride : mean_scoring.covers choice.0 (Ride enter choice.1.exit.0 chosen_kids)
+      covers_ride = subst (λ (t : Tree). mean_scoring.covers choice.0 t) begins answer.covers_chosen
 
       pub looks_ahead : (row : DepartureRow) → row.leg ≡ choice.1 → row.bounds ≡ choice.0.0 → row.by.0 ≡ dep_of n enter
           → (x < row.by.0) × (row.by.0 < end_of_arrivals) × IsDepartureRow n row ×

@@ -4,10 +4,10 @@
 //! there the departures are legs after an arrival, and the rows of one scan tell them all.
 #![tactic(auto)]
 
-ghost use Rattle.std.specs.Prelude.{◌≡◌, ◌≢◌, ℕ, ◌+◌, ◌<◌, ◌≤◌, IfOk};
+ghost use Rattle.std.specs.Prelude.{◌≡◌, ℕ, ◌+◌, ◌<◌, ◌≤◌, IfOk};
 ghost use Rattle.plan_model.specs.NetworkModel.{NetworkModel};
 ghost use Rattle.plan_model.specs.Network.{IsValid};
-ghost use Rattle.value_laws.specs.Means.{mean_below, mean_covers, mean_gap};
+ghost use Rattle.value_laws.specs.Means.{mean_scoring};
 ghost use Rattle.meat_scan.specs.Solves.{Solves};
 ghost use Rattle.departure_table.specs.Departures.{IsASecondAway, SafeAfter, IsExtendedFor, IsTable, IsGreatestMoment, LooksAhead, SaysOfSource};
 ghost use Rattle.departure_table.specs.Looked.{row_found, AreLooked};
@@ -45,7 +45,7 @@ fn row_from(
 ) -> Option<DepartureRow>
     requires next { 1 ≤ next.0 }
     requires valid { IsValid network.now }
-    requires solves { Solves mean_below mean_covers mean_gap scanned.now network.now query.now }
+    requires solves { Solves mean_scoring scanned.now network.now query.now }
     requires second { IsASecondAway network.now query.now.source.0 }
     ensures ahead { LooksAhead network.now (SafeAfter network.now query.now) next.0 result }
     ensures found { result ≡ row_found network.now query.now scanned.now next.0 }
@@ -74,7 +74,7 @@ pub fn table(
 ) -> Result<List<DepartureRow>, NoMemory>
     requires first { 1 ≤ first.0 }
     requires valid { IsValid network.now }
-    requires solves { Solves mean_below mean_covers mean_gap scanned.now network.now query.now }
+    requires solves { Solves mean_scoring scanned.now network.now query.now }
     requires second { IsASecondAway network.now query.now.source.0 }
     ensures table { IfOk result (IsTable network.now (SafeAfter network.now query.now) first.0 last.0) }
     ensures looked { IfOk result (AreLooked (row_found network.now query.now scanned.now) last.0 first.0) }
@@ -104,7 +104,7 @@ pub fn greatest(
 ) -> Option<Moment>
     requires first { 1 ≤ first.0 }
     requires valid { IsValid network.now }
-    requires solves { Solves mean_below mean_covers mean_gap scanned.now network.now query.now }
+    requires solves { Solves mean_scoring scanned.now network.now query.now }
     requires second { IsASecondAway network.now query.now.source.0 }
     ensures { IsGreatestMoment (SafeAfter network.now query.now) first.0 result }
 {

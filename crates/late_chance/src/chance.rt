@@ -63,23 +63,9 @@ impl LateChance {
 }
 
 impl Score for LateChance {
-    ghost use Rattle.late_chance.specs.Chances.{chance_below, chance_covers, chance_gap, chance_rank};
-    ghost use Rattle.late_chance.specs.Chances.{chance_arrived, chance_blended, chance_lowered};
-    ghost use Rattle.late_chance.specs.Chances.{chance_laws};
+    ghost use Rattle.late_chance.specs.Chances.{chance_scoring, chance_laws};
 
-    ghost below = { chance_below };
-
-    ghost covers = { chance_covers };
-
-    ghost gap = { chance_gap };
-
-    ghost rank = { chance_rank };
-
-    ghost arrived = { chance_arrived };
-
-    ghost blended = { chance_blended };
-
-    ghost lowered = { chance_lowered };
+    ghost scoring = { chance_scoring };
 
     ghost laws = { chance_laws };
 

@@ -19,13 +19,14 @@ use Rattle.leg_walk.specs.Walked.{IsWalked}
 use Rattle.plan_model.proofs.Lists.{All-from_contains}
 use Rattle.leg_walk.proofs.Tables.{table_away, table_there, by_for}
 use Rattle.leg_walk.proofs.Graphs.{IsKeptAfter, ready, busy, table_of_ride, picks_taken}
+use Rattle.value_laws.specs.ScoreLaws.{Scoring}
 use Rattle.meat_scan.specs.ScanResult.{ScanResult, choice_of, leg_choice, chosen_by}
 use Rattle.meat_scan.specs.Solves.{HasAnswers, SolvesEach, IsStartAnswer, IsSafeAt}
 use Rattle.leg_extract.specs.Extracted.{IsExtracted, HasArrivals}
 
-module _ {V : Type 0} {below covers : V → Tree → Type 0} {gap : V → ℕ} (n : NetworkModel) (q : Query) (found : ScanResult V) (answers : HasAnswers below covers gap n q found) where
+module _ {V : Type 0} {scoring : Scoring V} (n : NetworkModel) (q : Query) (found : ScanResult V) (answers : HasAnswers scoring n q found) where
   steady_by : (place arrival : ℕ) (leg : Leg) (choice : Option (V × Leg))
-      → MatchOption choice ((tree : Tree) → IsSafeAt n q place arrival tree → ⊥) (SolvesEach below covers gap n q found place arrival)
+      → MatchOption choice ((tree : Tree) → IsSafeAt n q place arrival tree → ⊥) (SolvesEach scoring n q found place arrival)
       → option_map (λ c. c.1) choice ≡ Some leg → IsKept n (leg_choice found) place arrival leg
   steady_by place arrival leg None answer is = absurd (cc)
   steady_by place arrival leg (Some choice) answer is = let one : choice.1 ≡ leg = (cc) in subst (λ (l : Leg). IsKept n (leg_choice found) place arrival l) one answer.kept
@@ -36,7 +37,7 @@ module _ {V : Type 0} {below covers : V → Tree → Type 0} {gap : V → ℕ} (
 
   pub safe_start : (start : V × Leg) → found.start ≡ Some start → IsSafeFor n q (chosen_by n q found start.1)
   safe_start start is =
-      let begins = subst (λ (f : Option (V × Leg)). MatchOption f ((tree : Tree) → IsSafeFor n q tree → ⊥) (IsStartAnswer below covers gap n q found)) is answers.begins in
+      let begins = subst (λ (f : Option (V × Leg)). MatchOption f ((tree : Tree) → IsSafeFor n q tree → ⊥) (IsStartAnswer scoring n q found)) is answers.begins in
       begins.safe
 
   module _ (valid : IsValid n) (differ : q.source.0 ≢ q.target.0) (start : V × Leg) (starts : found.start ≡ Some start) (rides : List Ride)

@@ -46,7 +46,7 @@ pub fn extract<V: Score>(
     network: &Network,
     query: &Query,
 ) -> Result<Option<ExpandedGraph>, NoMemory>
-    requires { Solves V.below V.covers V.gap scanned.now network.now query.now }
+    requires { Solves V.scoring scanned.now network.now query.now }
     ensures { IfOk result (λ graph. MatchOption graph (scanned.now.start ≡ None)
         (λ graph. (start : V × LegParts) × (scanned.now.start ≡ Some start)
         × IsExtracted network.now query.now scanned.now start.1 graph)) }

@@ -12,6 +12,7 @@ use Rattle.plan_model.specs.Network.{count, to_of, arr_of, outcomes}
 use Rattle.plan_model.specs.Tree.{Tree, Kids, Done, Ride, Stuck, Nil, Kid, height, height_of}
 use Rattle.plan_model.specs.Strategy.{IsSafe, AreSafe, IsSafeFor}
 use Rattle.plan_model.specs.Unfold.{end_of, kids_after, ride_of, ride_or_stuck, unfold_after, unfold_from, by_place}
+use Rattle.value_laws.specs.ScoreLaws.{Scoring}
 use Rattle.stop_profile.specs.declared.Row.{Row}
 use Rattle.stop_profile.specs.Inserts.{row_in_time}
 use Rattle.trip_exit.specs.Offers.{Exit}
@@ -94,16 +95,16 @@ module _ {V : Type 0} (n : NetworkModel) (target deadline : ℕ) (choice : ℕ �
       e ∙ ride_of-kids enter exit kids (count n - 1) leg enters exits
       (kids_after-chosen kids (count n - 1) leg (outcomes n exit) (to_of n exit) (arr_of n exit) (ap (to_of n) exits) (omega arith) safe is)
 
-module _ {V : Type 0} (below covers : V → Tree → Type 0) (gap rank : V → ℕ) (n : NetworkModel) (q : Query) (scanned : ℕ → Type 0)
+module _ {V : Type 0} (scoring : Scoring V) (n : NetworkModel) (q : Query) (scanned : ℕ → Type 0)
     (all : (id : ℕ) → id < count n → scanned id) (differ : q.source.0 ≢ q.target.0) (found : ScanResult V) (exits : ℕ → Option (Exit V))
-    (ok : ScanOk below covers gap rank n q scanned (count n) (found_rows found) exits found.start) where
+    (ok : ScanOk scoring n q scanned (count n) (found_rows found) exits found.start) where
   -- the leg of the row that is picked
   leg_choice-row_in_time : (place arrival : ℕ) → leg_choice found place arrival ≡ option_map (λ row. row.leg) (row_in_time arrival (found_rows found place))
   leg_choice-row_in_time place arrival = option_map-option_map (row_in_time arrival (found_rows found place))
 
   answers : (place arrival : ℕ) → place ≢ q.target.0 → (o : Option (Row V)) → row_in_time arrival (found_rows found place) ≡ o
-      → PlaceOk below covers gap n q.target.0 q.deadline.0 scanned (found_rows found) (count n) place arrival o
-      → MatchOption (option_map (λ row. (row.value, row.leg)) o) ((tree : Tree) → IsSafeAt n q place arrival tree → ⊥) (SolvesEach below covers gap n q found place arrival)
+      → PlaceOk scoring n q.target.0 q.deadline.0 scanned (found_rows found) (count n) place arrival o
+      → MatchOption (option_map (λ row. (row.value, row.leg)) o) ((tree : Tree) → IsSafeAt n q place arrival tree → ⊥) (SolvesEach scoring n q found place arrival)
   answers place arrival away None is claim =
       by_ride (IsSafeAt n q place arrival) (λ moment safe. away safe.1) (λ at moment safe. safe) (λ tree. ⊥)
       (λ enter exit others safe. claim enter (all enter safe.1.enter) exit others safe)
@@ -120,7 +121,7 @@ module _ {V : Type 0} (below covers : V → Tree → Type 0) (gap rank : V → �
       record {
         safe = rw chosen_is safe;
         covers_chosen = rw chosen_is claim.covers_ride;
-        below_safe = by_ride (IsSafeAt n q place arrival) (λ moment safe. away safe.1) (λ at moment safe. safe) (below row.value)
+        below_safe = by_ride (IsSafeAt n q place arrival) (λ moment safe. away safe.1) (λ at moment safe. safe) (scoring.below row.value)
             (λ enter exit others safe. claim.below_all enter (all enter safe.1.enter) exit others safe);
         gap_within = claim.gap_within;
         kept = record {
@@ -131,8 +132,8 @@ module _ {V : Type 0} (below covers : V → Tree → Type 0) (gap rank : V → �
         };
       }
 
-  start_answers : (o : Option (V × Leg)) → StartOk below covers gap n q scanned (found_rows found) (count n) o
-      → MatchOption o ((tree : Tree) → IsSafeFor n q tree → ⊥) (IsStartAnswer below covers gap n q found)
+  start_answers : (o : Option (V × Leg)) → StartOk scoring n q scanned (found_rows found) (count n) o
+      → MatchOption o ((tree : Tree) → IsSafeFor n q tree → ⊥) (IsStartAnswer scoring n q found)
   start_answers None claim =
       by_ride (IsSafeFor n q) (λ moment safe. differ safe.1) (λ at moment safe. safe) (λ tree. ⊥)
       (λ enter exit others safe. claim enter (all enter safe.1.enter) exit others safe)
@@ -145,31 +146,31 @@ module _ {V : Type 0} (below covers : V → Tree → Type 0) (gap rank : V → �
       record {
         safe = rw tree_is safe;
         covers_chosen = rw tree_is claim.covers_ride;
-        below_safe = by_ride (IsSafeFor n q) (λ moment safe. differ safe.1) (λ at moment safe. safe) (below begin.0)
+        below_safe = by_ride (IsSafeFor n q) (λ moment safe. differ safe.1) (λ at moment safe. safe) (scoring.below begin.0)
             (λ enter exit others safe. claim.below_all enter (all enter safe.1.enter) exit others safe);
         gap_within = claim.gap_within;
       }
 
   -- the scan's answers
-  pub solves_end : HasAnswers below covers gap n q found
+  pub solves_end : HasAnswers scoring n q found
   solves_end = record {
     begins = start_answers found.start ok.begins;
     goes_on = λ place arrival away. answers place arrival away (row_in_time arrival (found_rows found place)) refl (ok.places place arrival);
   }
 
 -- before any connection is scanned
-module _ {V : Type 0} (below covers : V → Tree → Type 0) (gap rank : V → ℕ) (network : NetworkModel) (query : Query) (scanned : ℕ → Type 0)
+module _ {V : Type 0} (scoring : Scoring V) (network : NetworkModel) (query : Query) (scanned : ℕ → Type 0)
     (none : (id : ℕ) → scanned id → ⊥) (rows : ℕ → List (Row V)) (empty : (place : ℕ) → rows place ≡ []) (exits : ℕ → Option (Exit V))
     (no_exits : (run : ℕ) → exits run ≡ None) where
-  pub scan_ok_start : ScanOk below covers gap rank network query scanned 0 rows exits None
+  pub scan_ok_start : ScanOk scoring network query scanned 0 rows exits None
   scan_ok_start = grind (arith, common_steps, nat_tests)
 
 -- the tree that the start leg chooses is the one
-start_solved : {V : Type 0} (below covers : V → Tree → Type 0) (gap : V → ℕ) (n : NetworkModel) (q : Query) (found : ScanResult V) (start : Option (V × Leg))
-    → MatchOption start ((tree : Tree) → IsSafeFor n q tree → ⊥) (IsStartAnswer below covers gap n q found)
-    → SolvesStart below covers gap n q (option_map (λ s. s.0) start)
-start_solved below covers gap n q found None none = none
-start_solved below covers gap n q found (Some start) answer = record {
+start_solved : {V : Type 0} (scoring : Scoring V) (n : NetworkModel) (q : Query) (found : ScanResult V) (start : Option (V × Leg))
+    → MatchOption start ((tree : Tree) → IsSafeFor n q tree → ⊥) (IsStartAnswer scoring n q found)
+    → SolvesStart scoring n q (option_map (λ s. s.0) start)
+start_solved scoring n q found None none = none
+start_solved scoring n q found (Some start) answer = record {
   tree = chosen_by n q found start.1;
   safe = answer.safe;
   covers_tree = answer.covers_chosen;
@@ -177,7 +178,7 @@ start_solved below covers gap n q found (Some start) answer = record {
   gap_within = answer.gap_within;
 }
 
-pub value_solved : {V : Type 0} (below covers : V → Tree → Type 0) (gap : V → ℕ) (n : NetworkModel) (q : Query) (found : ScanResult V) (start : Option (V × Leg))
-    (value : Option V) → MatchOption start ((tree : Tree) → IsSafeFor n q tree → ⊥) (IsStartAnswer below covers gap n q found)
-    → value ≡ option_map (λ s. s.0) start → SolvesStart below covers gap n q value
-value_solved below covers gap n q found start value answer is = grind (arith, common_steps, nat_tests)
+pub value_solved : {V : Type 0} (scoring : Scoring V) (n : NetworkModel) (q : Query) (found : ScanResult V) (start : Option (V × Leg))
+    (value : Option V) → MatchOption start ((tree : Tree) → IsSafeFor n q tree → ⊥) (IsStartAnswer scoring n q found)
+    → value ≡ option_map (λ s. s.0) start → SolvesStart scoring n q value
+value_solved scoring n q found start value answer is = grind (arith, common_steps, nat_tests)

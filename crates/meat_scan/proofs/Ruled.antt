@@ -3,25 +3,25 @@ use Rattle.std.proofs.Common.{◌≡◌, ℕ, List, Option, Some, None, sym, ref
 use Rattle.std.specs.Option.{option_map}
 use Rattle.plan_model.specs.declared.model.ConnectionId.{ConnectionId}
 use Rattle.plan_model.specs.declared.model.Leg.{Leg}
-use Rattle.plan_model.specs.declared.model.Outcome.{Outcome}
 use Rattle.plan_model.specs.declared.model.Query.{Query}
 use Rattle.plan_model.specs.NetworkModel.{NetworkModel}
 use Rattle.plan_model.specs.Order.{IsScanOrder}
 use Rattle.plan_model.specs.Unfold.{unfolding_of, by_place}
+use Rattle.value_laws.specs.ScoreLaws.{Scoring}
 use Rattle.stop_profile.specs.declared.Row.{Row}
 use Rattle.stop_profile.specs.Inserts.{row_in_time}
 use Rattle.meat_scan.specs.Rules.{FollowsRules, IsByRules, kept_after, kept_leg}
 use Rattle.meat_scan.specs.ScanResult.{ScanResult, chosen_by, leg_choice, found_rows}
 
-module _ {V : Type 0} (rank : V → ℕ) (lowered : V → V → V) (arrived : ℕ → V) (blended : List Outcome → List V → V) (n : NetworkModel) (q : Query) (found : ScanResult V) where
+module _ {V : Type 0} (scoring : Scoring V) (n : NetworkModel) (q : Query) (found : ScanResult V) where
   leg_of_row : (row : Option (Row V)) → option_map (λ (c : V × Leg). c.1) (option_map (λ (r : Row V). (r.value, r.leg)) row) ≡ option_map (λ (r : Row V). r.leg) row
   leg_of_row None = refl
   leg_of_row (Some row) = refl
 
-  pub by_rules : (order : List ConnectionId) → IsScanOrder n order → FollowsRules rank lowered arrived blended n q order found → (start : V × Leg) → found.start ≡ Some start
-      → IsByRules rank lowered arrived blended n q (chosen_by n q found start.1) start.0
+  pub by_rules : (order : List ConnectionId) → IsScanOrder n order → FollowsRules scoring n q order found → (start : V × Leg) → found.start ≡ Some start
+      → IsByRules scoring n q (chosen_by n q found start.1) start.0
   by_rules order is_order rules start is =
-      let same : (place arrival : ℕ) → leg_choice found place arrival ≡ kept_leg (kept_after rank lowered arrived blended n q order) place arrival = λ place arrival.
+      let same : (place arrival : ℕ) → leg_choice found place arrival ≡ kept_leg (kept_after scoring n q order) place arrival = λ place arrival.
       leg_of_row (row_in_time arrival (found_rows found place)) ∙ ap (λ (rows : List (Row V)). option_map (λ (r : Row V). r.leg) (row_in_time arrival rows)) (rules.rows place) in
       record {
         order = order;

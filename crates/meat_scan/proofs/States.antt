@@ -10,10 +10,9 @@ use Rattle.plan_model.specs.declared.model.Outcome.{Outcome}
 use Rattle.plan_model.specs.declared.model.Query.{Query}
 use Rattle.plan_model.specs.NetworkModel.{NetworkModel}
 use Rattle.plan_model.specs.Network.{count, from_of, run_of, IsValid, connection, to_of, dep_of, arr_of, outcomes}
-use Rattle.plan_model.specs.Tree.{Tree}
 use Rattle.plan_model.specs.Order.{IsScanOrder, IsPrefixUpTo}
 use Rattle.plan_model.proofs.ScanOrders.{has_each_id, Known, Never, whole_order, next_of, all_known}
-use Rattle.value_laws.specs.ScoreLaws.{ScoreLaws}
+use Rattle.value_laws.specs.ScoreLaws.{Scoring, ScoreLaws}
 use Rattle.stop_profile.specs.declared.Row.{Row}
 use Rattle.stop_profile.specs.Shown.{ShownProfile}
 use Rattle.trip_exit.specs.Offers.{Exit}
@@ -32,72 +31,70 @@ pub same_function : {A B : Type 0} (f g : A → B) → ((x : A) → f x ≡ g x)
 same_function f g h = λ i x. h x i
 
 -- the ids that are taken, and what is claimed of them
-pub record ScanState {V : Type 0} (below covers : V → Tree → Type 0) (gap rank : V → ℕ) (lowered : V → V → V) (arrived : ℕ → V)
-    (blended : List Outcome → List V → V) (network : NetworkModel) (query : Query) (order rest : List ConnectionId) (profiles : List (ShownProfile V))
+pub record ScanState {V : Type 0} (scoring : Scoring V) (network : NetworkModel) (query : Query) (order rest : List ConnectionId) (profiles : List (ShownProfile V))
     (exits : List (Option (Exit V))) (start : Option (V × Leg)) : Type 0 where
   pub taken : List ConnectionId
   pub split : rest ++ taken ≡ order
-  pub ok : ScanOk below covers gap rank network query (Known Never taken) (length taken) (rows_of_profile profiles) (exit_at exits) start
-  pub kept : record { rows = rows_of_profile profiles; exits = exit_at exits; start = start } ≡ kept_after rank lowered arrived blended network query taken
+  pub ok : ScanOk scoring network query (Known Never taken) (length taken) (rows_of_profile profiles) (exit_at exits) start
+  pub kept : record { rows = rows_of_profile profiles; exits = exit_at exits; start = start } ≡ kept_after scoring network query taken
 
 -- what is kept, part for part
 kept_same : {V : Type 0} {rows rows' : ℕ → List (Row V)} {exits exits' : ℕ → Option (Exit V)} {start start' : Option (V × Leg)} → rows ≡ rows'
     → exits ≡ exits' → start ≡ start' → ◌≡◌ {A = Kept V} (record { rows = rows; exits = exits; start = start }) (record { rows = rows'; exits = exits'; start = start' })
 kept_same rows exits start = λ i. record { rows = rows i; exits = exits i; start = start i }
 
-module _ {V : Type 0} {below covers : V → Tree → Type 0} {gap rank : V → ℕ} {arrived : ℕ → V} {blended : List Outcome → List V → V}
-    {lowered : V → V → V} (laws : ScoreLaws below covers gap rank arrived blended lowered) (network : NetworkModel) (good : IsValid network) (query : Query)
+module _ {V : Type 0} {scoring : Scoring V} (laws : ScoreLaws scoring) (network : NetworkModel) (good : IsValid network) (query : Query)
     (order : List ConnectionId) (whole : IsScanOrder network order) where
   -- before the first
   pub first_state : (profiles : List (ShownProfile V)) (exits : List (Option (Exit V))) → IsEmpty profiles exits
-      → ScanState below covers gap rank lowered arrived blended network query order order profiles exits None
+      → ScanState scoring network query order order profiles exits None
   first_state profiles exits empty = record {
     taken = [];
     split = append-nil order;
-    ok = scan_ok_start below covers gap rank network query (Known Never []) (λ id known. known) (rows_of_profile profiles) empty.no_rows (exit_at exits) empty.no_exits;
+    ok = scan_ok_start scoring network query (Known Never []) (λ id known. known) (rows_of_profile profiles) empty.no_rows (exit_at exits) empty.no_exits;
     kept = kept_same (same_function (rows_of_profile profiles) (λ place. []) empty.no_rows) (same_function (exit_at exits) (λ run. None) empty.no_exits) refl;
   }
 
   -- one more
   pub next_state : (rest : List ConnectionId) (id : ConnectionId) (profiles profiles' : List (ShownProfile V)) (exits exits' : List (Option (Exit V)))
-      (start start' : Option (V × Leg)) → ScanState below covers gap rank lowered arrived blended network query order
+      (start start' : Option (V × Leg)) → ScanState scoring network query order
       (rest ++ id ∷ []) profiles exits start → ((place : ℕ)
-      → rows_of_profile profiles' place ≡ rows_next rank lowered arrived blended network query id.0 (rows_of_profile profiles) (exit_at exits) place)
-      → ((run : ℕ) → exit_at exits' run ≡ exits_next rank lowered arrived blended network query id.0 (rows_of_profile profiles) (exit_at exits) run)
-      → start' ≡ start_next rank lowered arrived blended network query id.0 (rows_of_profile profiles) (exit_at exits) start
-      → ScanState below covers gap rank lowered arrived blended network query order rest profiles' exits' start'
+      → rows_of_profile profiles' place ≡ rows_next scoring network query id.0 (rows_of_profile profiles) (exit_at exits) place)
+      → ((run : ℕ) → exit_at exits' run ≡ exits_next scoring network query id.0 (rows_of_profile profiles) (exit_at exits) run)
+      → start' ≡ start_next scoring network query id.0 (rows_of_profile profiles) (exit_at exits) start
+      → ScanState scoring network query order rest profiles' exits' start'
   next_state rest id profiles profiles' exits exits' start start' state rows_are exits_are start_is =
       let known = Known Never (id ∷ state.taken) in
       let next = next_of network good Never order (whole_order network order whole) rest state.taken id state.split in
       let stepped = scan_ok_step laws network good query (Known Never state.taken) (length state.taken) id.0 next (rows_of_profile profiles) (exit_at exits) start state.ok in
       let count : length (id ∷ state.taken) ≡ length state.taken + 1 = omega arith in
-      let rows_same = same_function (rows_of_profile profiles') (λ place. rows_next rank lowered arrived blended network query id.0 (rows_of_profile profiles) (exit_at exits) place) rows_are in
-      let exits_same = same_function (exit_at exits') (λ run. exits_next rank lowered arrived blended network query id.0 (rows_of_profile profiles) (exit_at exits) run) exits_are in
+      let rows_same = same_function (rows_of_profile profiles') (λ place. rows_next scoring network query id.0 (rows_of_profile profiles) (exit_at exits) place) rows_are in
+      let exits_same = same_function (exit_at exits') (λ run. exits_next scoring network query id.0 (rows_of_profile profiles) (exit_at exits) run) exits_are in
       record {
         taken = id ∷ state.taken;
         split = sym (append_assoc rest (id ∷ []) state.taken) ∙ state.split;
         ok = rw (rows_same, exits_same, start_is, count) stepped;
-        kept = kept_same rows_same exits_same start_is ∙ ap (kept_next rank lowered arrived blended network query id.0) state.kept;
+        kept = kept_same rows_same exits_same start_is ∙ ap (kept_next scoring network query id.0) state.kept;
       }
 
   -- after the last
   pub last_state : (rest : List ConnectionId) (profiles : List (ShownProfile V)) (exits : List (Option (Exit V))) (found : ScanResult V)
       → query.source.0 ≢ query.target.0 → rest ≡ [] → found_rows found ≡ rows_of_profile profiles
-      → ScanState below covers gap rank lowered arrived blended network query order rest profiles exits found.start → HasAnswers below covers gap network query found
+      → ScanState scoring network query order rest profiles exits found.start → HasAnswers scoring network query found
   last_state rest profiles exits found differ none rows_are state =
       let all_taken : state.taken ≡ order = ap (λ (ids : List ConnectionId). ids ++ state.taken) (sym none) ∙ state.split in
       let all_count : length state.taken ≡ count network = ap length all_taken ∙ (has_each_id network order whole).as_many in
       let known = all_known network good Never order (whole_order network order whole) rest state.taken none state.split in
-      solves_end below covers gap rank network query (Known Never state.taken) known differ found (exit_at exits) (rw (rows_are, ← all_count) state.ok)
+      solves_end scoring network query (Known Never state.taken) known differ found (exit_at exits) (rw (rows_are, ← all_count) state.ok)
 
   -- what was found follows the rules
   pub rules_end : (rest : List ConnectionId) (profiles : List (ShownProfile V)) (exits : List (Option (Exit V))) (found : ScanResult V) → rest ≡ []
       → found_rows found ≡ rows_of_profile profiles
-      → ScanState below covers gap rank lowered arrived blended network query order rest profiles exits found.start
-      → FollowsRules rank lowered arrived blended network query order found
+      → ScanState scoring network query order rest profiles exits found.start
+      → FollowsRules scoring network query order found
   rules_end rest profiles exits found none rows_are state =
       let all_taken : state.taken ≡ order = ap (λ (ids : List ConnectionId). ids ++ state.taken) (sym none) ∙ state.split in
-      let all_kept = state.kept ∙ ap (kept_after rank lowered arrived blended network query) all_taken in
+      let all_kept = state.kept ∙ ap (kept_after scoring network query) all_taken in
       record {
         rows = λ place. ap (λ (rows : ℕ → List (Row V)). rows place) rows_are ∙ ap (λ (kept : Kept V). kept.rows place) all_kept;
         start = ap (λ (kept : Kept V). kept.start) all_kept;
@@ -153,29 +150,29 @@ cond_none : {X : Type 0} (b : Bool) → cond {A = Option X} b None None ≡ None
 cond_none true = refl
 cond_none false = refl
 
-module _ {V : Type 0} (rank : V → ℕ) (lowered : V → V → V) (arrived : ℕ → V) (blended : List Outcome → List V → V) (network : NetworkModel)
+module _ {V : Type 0} (scoring : Scoring V) (network : NetworkModel)
     (good : IsValid network) (query : Query) (id : ℕ) (there : id < count network) (late : query.deadline.0 < dep_of network id)
     (rows : ℕ → List (Row V)) (exits : ℕ → Option (Exit V)) (no_rows : (place : ℕ) → rows place ≡ []) (no_exits : (run : ℕ) → exits run ≡ None) where
   -- no exit gives a value
-  left_none : left_by arrived blended network query rows id ≡ None
+  left_none : left_by scoring network query rows id ≡ None
   left_none =
       let row = good.rows (connection network id).class.0 (good.connections id there).class_in in
       let after : query.deadline.0 < arr_of network id = omega (arith, late, (good.connections id there).forward) in
-      let none : values_after arrived query.target.0 query.deadline.0 rows (to_of network id) (arr_of network id) (outcomes network id) ≡ None =
-      no_values arrived query.target.0 query.deadline.0 rows (to_of network id) (arr_of network id) (outcomes network id) row.some
+      let none : values_after scoring.arrived query.target.0 query.deadline.0 rows (to_of network id) (arr_of network id) (outcomes network id) ≡ None =
+      no_values scoring.arrived query.target.0 query.deadline.0 rows (to_of network id) (arr_of network id) (outcomes network id) row.some
       (no_rows (to_of network id)) after in
       rw none (cond_none (connection network id).can_exit)
 
-  pub exits_kept : (run : ℕ) → exits_next rank lowered arrived blended network query id rows exits run ≡ exits run
+  pub exits_kept : (run : ℕ) → exits_next scoring network query id rows exits run ≡ exits run
   exits_kept run = rw left_none refl
 
-  boarded_none : boarding_exit network id (exits_next rank lowered arrived blended network query id rows exits) ≡ None
+  boarded_none : boarding_exit network id (exits_next scoring network query id rows exits) ≡ None
   boarded_none = rw (left_none, no_exits (run_of network id)) (cond_none (connection network id).can_board)
 
-  pub rows_kept : (place : ℕ) → rows_next rank lowered arrived blended network query id rows exits place ≡ rows place
+  pub rows_kept : (place : ℕ) → rows_next scoring network query id rows exits place ≡ rows place
   rows_kept place = rw boarded_none refl
 
-  pub start_kept : (start : Option (V × Leg)) → start_next rank lowered arrived blended network query id rows exits start ≡ start
+  pub start_kept : (start : Option (V × Leg)) → start_next scoring network query id rows exits start ≡ start
   start_kept start = rw boarded_none refl
 
 -- the tables have room for less
@@ -183,28 +180,27 @@ pub room_less : {V : Type 0} (network : NetworkModel) (rest skipped : List Conne
     (kids : List V) → HasRoom network (rest ++ skipped) profiles exits kids → HasRoom network rest profiles exits kids
 room_less network rest skipped profiles exits kids room = grind (arith, common_steps, nat_tests)
 
-module _ {V : Type 0} {below covers : V → Tree → Type 0} {gap rank : V → ℕ} {arrived : ℕ → V} {blended : List Outcome → List V → V}
-    {lowered : V → V → V} (laws : ScoreLaws below covers gap rank arrived blended lowered) (network : NetworkModel) (good : IsValid network) (query : Query)
+module _ {V : Type 0} {scoring : Scoring V} (laws : ScoreLaws scoring) (network : NetworkModel) (good : IsValid network) (query : Query)
     (order : List ConnectionId) (whole : IsScanOrder network order) (profiles : List (ShownProfile V)) (exits : List (Option (Exit V))) (empty : IsEmpty profiles exits) where
   -- after the skipped ones, by induction over them
   late_state : (rest skipped : List ConnectionId) → rest ++ skipped ≡ order → All (λ id. query.deadline.0 < dep_of network id.0) skipped
-      → ScanState below covers gap rank lowered arrived blended network query order rest profiles exits None
+      → ScanState scoring network query order rest profiles exits None
   late_state rest [] split late =
       let same : order ≡ rest = sym split ∙ append-nil rest in
-      subst (λ (ids : List ConnectionId). ScanState below covers gap rank lowered arrived blended network query order ids profiles exits None) same
+      subst (λ (ids : List ConnectionId). ScanState scoring network query order ids profiles exits None) same
       (first_state laws network good query order whole profiles exits empty)
   late_state rest (id ∷ skipped) split late =
       let before = late_state (rest ++ id ∷ []) skipped (append_assoc rest (id ∷ []) skipped ∙ split) (All-tail (λ (i : ConnectionId). query.deadline.0 < dep_of network i.0) id skipped late) in
       let after : query.deadline.0 < dep_of network id.0 = All-head (λ (i : ConnectionId). query.deadline.0 < dep_of network i.0) id skipped late in
       let there = id_there network good order whole rest before.taken id before.split in
       next_state laws network good query order whole rest id profiles profiles exits exits None None before
-      (λ place. sym (rows_kept rank lowered arrived blended network good query id.0 there after (rows_of_profile profiles) (exit_at exits) empty.no_rows empty.no_exits place))
-      (λ run. sym (exits_kept rank lowered arrived blended network good query id.0 there after (rows_of_profile profiles) (exit_at exits) empty.no_rows empty.no_exits run))
-      (sym (start_kept rank lowered arrived blended network good query id.0 there after (rows_of_profile profiles) (exit_at exits) empty.no_rows empty.no_exits None))
+      (λ place. sym (rows_kept scoring network good query id.0 there after (rows_of_profile profiles) (exit_at exits) empty.no_rows empty.no_exits place))
+      (λ run. sym (exits_kept scoring network good query id.0 there after (rows_of_profile profiles) (exit_at exits) empty.no_rows empty.no_exits run))
+      (sym (start_kept scoring network good query id.0 there after (rows_of_profile profiles) (exit_at exits) empty.no_rows empty.no_exits None))
 
   -- where the scan begins
   pub skipped_state : (rest : List ConnectionId) → IsPrefixUpTo network query.deadline.0 order rest
-      → ScanState below covers gap rank lowered arrived blended network query order rest profiles exits None
+      → ScanState scoring network query order rest profiles exits None
   skipped_state rest up_to = late_state rest up_to.skipped (sym up_to.split) up_to.late
 
 pub skipped_room : {V : Type 0} (network : NetworkModel) (last : ℕ) (order rest : List ConnectionId) (profiles : List (ShownProfile V))

@@ -15,6 +15,7 @@ use Rattle.plan_model.specs.NetworkModel.{NetworkModel}
 use Rattle.plan_model.specs.Network.{IsValid}
 use Rattle.plan_model.specs.Ways.{ways_into}
 use Rattle.plan_model.proofs.Boarding.{way_of-listed, way_takes, ways_into-distinct}
+use Rattle.value_laws.specs.ScoreLaws.{Scoring}
 use Rattle.stop_profile.specs.declared.Row.{Row}
 use Rattle.meat_scan.specs.Step.{with_way, way_of_place}
 use Rattle.meat_scan.specs.ScanTables.{has_way}
@@ -33,9 +34,9 @@ option_or-None : (o : Option Way) → option_or o None ≡ o
 option_or-None None = refl
 option_or-None (Some way) = refl
 
-with_way-none : {V : Type 0} (rank : V → ℕ) (lowered : V → V → V) (target dep : ℕ) (value : V) (leg : Leg) (place : ℕ) (rows : List (Row V))
-    → with_way rank lowered target dep value leg None place rows ≡ rows
-with_way-none rank lowered target dep value leg place rows = grind (arith, common_steps, nat_tests)
+with_way-none : {V : Type 0} (scoring : Scoring V) (target dep : ℕ) (value : V) (leg : Leg) (place : ℕ) (rows : List (Row V))
+    → with_way scoring target dep value leg None place rows ≡ rows
+with_way-none scoring target dep value leg place rows = grind (arith, common_steps, nat_tests)
 
 -- one, where there is a way
 abbrev pub way_number : Option Way → ℕ
@@ -72,20 +73,20 @@ module _ (ways : List Way) (distinct : AllPairs (λ a b. a.from.0 ≢ b.from.0) 
   ]
 
   -- the rows of a place after one way more
-  pub rows_next : {V : Type 0} (rank : V → ℕ) (lowered : V → V → V) (target dep : ℕ) (value : V) (leg : Leg) (place : ℕ) (old now new : List (Row V))
-      → now ≡ with_way rank lowered target dep value leg (way_in (take k ways) place) place old
-      → new ≡ with_way rank lowered target dep value leg (way_of_place way place) place now
-      → new ≡ with_way rank lowered target dep value leg (way_in (take (k + 1) ways) place) place old
-  rows_next rank lowered target dep value leg place old now new is_now is_new = elim (way_case place) [
+  pub rows_next : {V : Type 0} (scoring : Scoring V) (target dep : ℕ) (value : V) (leg : Leg) (place : ℕ) (old now new : List (Row V))
+      → now ≡ with_way scoring target dep value leg (way_in (take k ways) place) place old
+      → new ≡ with_way scoring target dep value leg (way_of_place way place) place now
+      → new ≡ with_way scoring target dep value leg (way_in (take (k + 1) ways) place) place old
+  rows_next scoring target dep value leg place old now new is_now is_new = elim (way_case place) [
     | comes here none some ↦
         let from : way_of_place way place ≡ Some way = grind (arith, nat_tests) in
-        let same : now ≡ old = is_now ∙ ap (λ w. with_way rank lowered target dep value leg w place old) none ∙ with_way-none rank lowered target dep value leg place old in
-        is_new ∙ ap (λ w. with_way rank lowered target dep value leg w place now) from ∙ ap (with_way rank lowered target dep value leg (Some way) place) same
-        ∙ ap (λ w. with_way rank lowered target dep value leg w place old) (sym some)
+        let same : now ≡ old = is_now ∙ ap (λ w. with_way scoring target dep value leg w place old) none ∙ with_way-none scoring target dep value leg place old in
+        is_new ∙ ap (λ w. with_way scoring target dep value leg w place now) from ∙ ap (with_way scoring target dep value leg (Some way) place) same
+        ∙ ap (λ w. with_way scoring target dep value leg w place old) (sym some)
     | passes away same ↦
         let from : way_of_place way place ≡ None = grind (arith, nat_tests) in
-        is_new ∙ ap (λ w. with_way rank lowered target dep value leg w place now) from ∙ with_way-none rank lowered target dep value leg place now ∙ is_now
-        ∙ ap (λ w. with_way rank lowered target dep value leg w place old) (sym same)
+        is_new ∙ ap (λ w. with_way scoring target dep value leg w place now) from ∙ with_way-none scoring target dep value leg place now ∙ is_now
+        ∙ ap (λ w. with_way scoring target dep value leg w place old) (sym same)
   ]
 
   -- the room of a place after one way more

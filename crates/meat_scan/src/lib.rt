@@ -42,7 +42,7 @@ fn value_after<V: Score>(
     requires soon { arrival.0 < end_of_time }
     ensures { let query = query.now in
         let rows = rows_of_profile profiles.now in
-        result ≡ value_after_arrival V.arrived query.target.0 query.deadline.0 rows place.0 arrival.0 }
+        result ≡ value_after_arrival V.scoring.arrived query.target.0 query.deadline.0 rows place.0 arrival.0 }
 {
     if place == query.target {
         if arrival <= query.deadline {
@@ -73,7 +73,7 @@ fn fill_kids<V: Score>(
     requires room { length row.now ≤ length kids.old }
     ensures filled { let query = query.now in
         let rows = rows_of_profile profiles.now in
-        let values = values_after V.arrived query.target.0 query.deadline.0 rows place.0 scheduled.0
+        let values = values_after V.scoring.arrived query.target.0 query.deadline.0 rows place.0 scheduled.0
         in
         MatchBool result
         (values row.now ≡ Some (take (length row.now) kids.new))
@@ -104,7 +104,7 @@ fn put_leg<V: Score>(
     ensures rows { (place : ℕ) →
         let old = rows_of_profile profiles.old place in
         let from = way_of_place way place in
-        rows_of_profile profiles.new place ≡ with_way V.rank V.lowered target.0 dep.0 value leg from place old }
+        rows_of_profile profiles.new place ≡ with_way V.scoring target.0 dep.0 value leg from place old }
     ensures spare { (place : ℕ) →
         let taken = if way.from.0 == place then 1 else 0 in
         spare_at profiles.old place ≤ spare_at profiles.new place + taken }
@@ -135,7 +135,7 @@ fn board<V: Score>(
         ways_between network.now place (from_of network.now id.0) ≤ spare_at profiles.old place }
     ensures rows { (place : ℕ) →
         let old = rows_of_profile profiles.old in
-        rows_of_profile profiles.new place ≡ rows_with V.rank V.lowered network.now query.now id.0 exit old place }
+        rows_of_profile profiles.new place ≡ rows_with V.scoring network.now query.now id.0 exit old place }
     ensures spare { (place : ℕ) →
         let taken = ways_between network.now place (from_of network.now id.0) in
         spare_at profiles.old place ≤ spare_at profiles.new place + taken }
@@ -162,7 +162,7 @@ fn begin<V: Score>(
     start: Option<(V, Leg)>,
 ) -> Option<(V, Leg)>
     requires { id.0 < count network.now }
-    ensures { result ≡ start_with V.rank V.lowered network.now query.now id.0 exit start }
+    ensures { result ≡ start_with V.scoring network.now query.now id.0 exit start }
 {
     let Some((value, exit)) = exit else {
         return start;
@@ -192,7 +192,7 @@ fn left_value<V: Score>(
     requires places { length profiles.now ≡ length network.now.change }
     requires outcomes { 64 ≤ length kids.old }
     ensures value { let rows = rows_of_profile profiles.now in
-        result ≡ left_by V.arrived V.blended network.now query.now rows id.0 }
+        result ≡ left_by V.scoring network.now query.now rows id.0 }
     ensures len { length kids.new ≡ length kids.old }
 {
     let connection = network.get(id);
@@ -211,7 +211,7 @@ fn leave<V: Score>(exits: &mut ExitTable<V>, run: RunId, id: ConnectionId, value
     requires { run.0 < length exits.old }
     ensures exits { (other : ℕ) →
         let old = exit_at exits.old in
-        exit_at exits.new other ≡ exits_with V.rank V.lowered id run.0 value old other }
+        exit_at exits.new other ≡ exits_with V.scoring id run.0 value old other }
     ensures len { length exits.new ≡ length exits.old }
 {
     if let Some(value) = value {
@@ -256,15 +256,15 @@ fn scan_one<V: Score>(
         let rows = rows_of_profile profiles.old in
         let exits = exit_at exits.old in
         rows_of_profile profiles.new place
-        ≡ rows_next V.rank V.lowered V.arrived V.blended network.now query.now id.0 rows exits place }
+        ≡ rows_next V.scoring network.now query.now id.0 rows exits place }
     ensures exits { (run : ℕ) →
         let rows = rows_of_profile profiles.old in
         let before = exit_at exits.old in
         exit_at exits.new run
-        ≡ exits_next V.rank V.lowered V.arrived V.blended network.now query.now id.0 rows before run }
+        ≡ exits_next V.scoring network.now query.now id.0 rows before run }
     ensures exit { let rows = rows_of_profile profiles.old in
         let exits = exit_at exits.old in
-        let exits = exits_next V.rank V.lowered V.arrived V.blended network.now query.now id.0 rows exits in
+        let exits = exits_next V.scoring network.now query.now id.0 rows exits in
         result ≡ boarding_exit network.now id.0 exits }
     ensures spare { (place : ℕ) →
         let taken = ways_between network.now place (from_of network.now id.0) in
@@ -434,10 +434,10 @@ fn scan_all<V: Score, B: BackwardOrder>(
     requires target { query.now.target.0 < length network.now.change }
     requires differ { query.now.source.0 ≢ query.now.target.0 }
     ensures answers { let found = found_in result.0 result.1 query.now.target.0 in
-        HasAnswers V.below V.covers V.gap network.now query.now found }
+        HasAnswers V.scoring network.now query.now found }
     ensures rules { let found = found_in result.0 result.1 query.now.target.0 in
         let whole = B.rest order.old network.now in
-        FollowsRules V.rank V.lowered V.arrived V.blended network.now query.now whole found }
+        FollowsRules V.scoring network.now query.now whole found }
     ensures valid { IsValid network.now }
     ensures fits { B.fits order.new network.now }
     ensures capacity { (place : ℕ) → capacity_at result.0.profiles place ≡ capacity_at tables.profiles place }
@@ -480,9 +480,9 @@ pub fn scan<V: Score, B: BackwardOrder>(
     requires source { query.now.source.0 < length network.now.change }
     requires target { query.now.target.0 < length network.now.change }
     requires differ { query.now.source.0 ≢ query.now.target.0 }
-    ensures solves { Solves V.below V.covers V.gap result network.now query.now }
+    ensures solves { Solves V.scoring result network.now query.now }
     ensures rules { let whole = B.rest order.old network.now in
-        FollowsRules V.rank V.lowered V.arrived V.blended network.now query.now whole result }
+        FollowsRules V.scoring network.now query.now whole result }
     ensures valid { IsValid network.now }
     ensures fits { B.fits order.new network.now }
 {
@@ -557,7 +557,7 @@ pub fn start_value<V: Score, B: BackwardOrder>(
     requires source { query.now.source.0 < length network.now.change }
     requires target { query.now.target.0 < length network.now.change }
     requires differ { query.now.source.0 ≢ query.now.target.0 }
-    ensures solves { SolvesStart V.below V.covers V.gap network.now query.now result.1 }
+    ensures solves { SolvesStart V.scoring network.now query.now result.1 }
     ensures tables_fit { FitsTables network.now result.0 }
     ensures valid { IsValid network.now }
     ensures fits { B.fits order.new network.now }

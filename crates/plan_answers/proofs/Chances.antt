@@ -9,14 +9,14 @@ use Rattle.plan_model.specs.NetworkModel.{NetworkModel}
 use Rattle.plan_graph.specs.declared.PlanGraph.{PlanGraph}
 use Rattle.plan_graph.specs.Unfold.{unfold_plan}
 use Rattle.decision_graph.specs.Planned.{IsPlannedBy}
-use Rattle.late_chance.specs.Chances.{promised, chance_below, chance_covers, chance_gap, chance_rank, chance_arrived, chance_blended, chance_lowered}
+use Rattle.late_chance.specs.Chances.{promised, chance_scoring}
 use Rattle.plan_answers.specs.Punctual.{IsLeastChance}
 
 none_late : (promise start : ℕ) → start ≤ promise → ◌≡◌ {A = Interval} (record { lo = certainty * late promise start; hi = certainty * late promise start }) (record { lo = 0; hi = 0 })
 none_late promise start by = let test : nat_le start promise ≡ true = grind (arith, nat_tests) in rw test refl
 
 pub least_chance : (n : NetworkModel) (q : Query) (graph : PlanGraph) (chance : Interval)
-    → IsPlannedBy chance_below chance_covers chance_gap chance_rank chance_arrived chance_blended chance_lowered n q graph chance → IsLeastChance n q graph chance
+    → IsPlannedBy chance_scoring n q graph chance → IsLeastChance n q graph chance
 least_chance n q graph chance by =
     let own = by.best.below_safe (unfold_plan graph n q) by.best.safe in
     record {

@@ -9,7 +9,7 @@ use Rattle.plan_graph.specs.Unfold.{unfold_plan}
 use Rattle.graph_text.specs.GraphTexts.{graph_text}
 use Rattle.graph_text.specs.Reading.{IsReadAs}
 use Rattle.graph_score.specs.Scores.{IsScored}
-use Rattle.late_chance.specs.Chances.{promised, chance_rank, chance_lowered, chance_arrived, chance_blended}
+use Rattle.late_chance.specs.Chances.{promised, chance_scoring}
 use Rattle.late_chance.specs.LaterGraphs.{later_graph}
 use Rattle.late_chance.specs.Punctual.{IsPunctual, seen_for, asked_for, shift_for}
 use Rattle.meat_scan.specs.Rules.{IsByRules}
@@ -23,8 +23,8 @@ use Rattle.journey_report.specs.AnswerTexts.{punctual_row}
 pub record IsLeastChance (network : NetworkModel) (query : Query) (graph : PlanGraph) (chance : Interval) : Type 0 where
   pub punctual : IsPunctual network query promised graph chance
   pub by_rules : query.source.0 ≢ query.target.0
-      → IsByRules chance_rank chance_lowered chance_arrived chance_blended network query (unfold_plan graph network query) chance
-  pub at_once : query.source.0 ≡ query.target.0 → chance ≡ chance_arrived query.start.0
+      → IsByRules chance_scoring network query (unfold_plan graph network query) chance
+  pub at_once : query.source.0 ≡ query.target.0 → chance ≡ chance_scoring.arrived query.start.0
 
 -- the graph is that of the network as it is seen for the promise, by the shift later
 pub record IsSeenLater (network : NetworkModel) (query : Query) (promise : ℕ) (graph : PlanGraph) (chance : Interval) : Type 0 where

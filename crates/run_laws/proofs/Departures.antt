@@ -7,7 +7,7 @@ use Rattle.plan_model.specs.declared.model.Query.{Query}
 use Rattle.plan_model.specs.NetworkModel.{NetworkModel}
 use Rattle.plan_model.specs.View.{extended}
 use Rattle.value_laws.specs.declared.MeanSpan.{MeanSpan}
-use Rattle.value_laws.specs.Means.{mean_rank, mean_lowered, mean_arrived, mean_blended}
+use Rattle.value_laws.specs.Means.{mean_scoring}
 use Rattle.stop_profile.specs.declared.Row.{Row}
 use Rattle.stop_profile.specs.Inserts.{row_in_time}
 use Rattle.meat_scan.specs.Rules.{kept_after}
@@ -39,7 +39,7 @@ one_looked look last next (x ∷ xs) (y ∷ ys) a b =
 one_look : (n : NetworkModel) (q : Query) (a b : ScanResult MeanSpan) → IsRuled n q a → IsRuled n q b → (next : ℕ) → row_found n q a next ≡ row_found n q b next
 one_look n q a b is other next =
     let place = q.source.0 in
-    let kept : List ConnectionId → List (Row MeanSpan) = λ ids. (kept_after mean_rank mean_lowered mean_arrived mean_blended n q ids).rows place in
+    let kept : List ConnectionId → List (Row MeanSpan) = λ ids. (kept_after mean_scoring n q ids).rows place in
     let same = is.rules.rows place ∙ ap kept (one_order n is.order other.order is.is_order other.is_order) ∙ sym (other.rules.rows place) in
     ap (λ (rows : List (Row MeanSpan)). option_map (row_of_choice n) (option_map (λ (row : Row MeanSpan). (row.value, row.leg)) (row_in_time (next - 1) rows))) same
 

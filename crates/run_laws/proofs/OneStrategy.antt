@@ -4,13 +4,13 @@ use Rattle.std.proofs.lemmas.Bool.{cases_eq}
 use Rattle.interval_fixed.specs.Interval.{Interval}
 use Rattle.plan_model.specs.declared.model.ConnectionId.{ConnectionId}
 use Rattle.plan_model.specs.declared.model.Leg.{Leg}
-use Rattle.plan_model.specs.declared.model.Outcome.{Outcome}
 use Rattle.plan_model.specs.declared.model.Query.{Query}
 use Rattle.plan_model.specs.NetworkModel.{NetworkModel}
 use Rattle.plan_model.specs.Strategy.{IsSafeFor}
 use Rattle.plan_model.specs.Tree.{Tree, Done, Ride, Stuck}
 use Rattle.plan_model.specs.Unfold.{unfolding_of, by_place}
-use Rattle.value_laws.specs.Means.{mean_rank, mean_lowered, mean_arrived, mean_blended, from_span, span_of}
+use Rattle.value_laws.specs.Means.{mean_scoring, from_span, span_of}
+use Rattle.value_laws.specs.ScoreLaws.{Scoring}
 use Rattle.meat_scan.specs.Rules.{Kept, IsByRules, kept_after, kept_leg}
 use Rattle.decision_graph.specs.GraphValues.{IsBest}
 use Rattle.run_laws.proofs.OneOrder.{one_order}
@@ -21,15 +21,15 @@ at_once n q (Done moment) same safe = ap (λ (m : ℕ). Done m) safe.0
 at_once n q (Ride i j kids) same safe = absurd (safe.0 same)
 at_once n q (Stuck place moment) same safe = absurd safe
 
-module _ {V : Type 0} (rank : V → ℕ) (lowered : V → V → V) (arrived : ℕ → V) (blended : List Outcome → List V → V) (n : NetworkModel) (q : Query) where
+module _ {V : Type 0} (scoring : Scoring V) (n : NetworkModel) (q : Query) where
   abbrev kept : List ConnectionId → Kept V
-  kept order = kept_after rank lowered arrived blended n q order
+  kept order = kept_after scoring n q order
 
   abbrev tree_of : List ConnectionId → Leg → Tree
   tree_of order start = unfolding_of n q (by_place n (kept_leg (kept order))) (Some start)
 
   abbrev ByRules : Tree → V → Type 0
-  ByRules = IsByRules rank lowered arrived blended n q
+  ByRules = IsByRules scoring n q
 
   one_by_rules : (s t : Tree) (v w : V) → ByRules s v → ByRules t w → (s ≡ t) × (v ≡ w)
   one_by_rules s t v w a b =
@@ -42,7 +42,7 @@ module _ {V : Type 0} (rank : V → ℕ) (lowered : V → V → V) (arrived : �
   pub record IsThe (strategy : Tree) (value : V) : Type 0 where
     pub safe : IsSafeFor n q strategy
     pub by_rules : q.source.0 ≢ q.target.0 → ByRules strategy value
-    pub at_once : q.source.0 ≡ q.target.0 → value ≡ arrived q.start.0
+    pub at_once : q.source.0 ≡ q.target.0 → value ≡ scoring.arrived q.start.0
 
   pub only_one : (s t : Tree) (v w : V) → IsThe s v → IsThe t w → (s ≡ t) × (v ≡ w)
   only_one s t v w a b = elim (cases_eq q.source.0 q.target.0) [
@@ -52,13 +52,13 @@ module _ {V : Type 0} (rank : V → ℕ) (lowered : V → V → V) (arrived : �
 
 -- a best strategy that is by the rules
 abbrev pub IsTheMean : NetworkModel → Query → Tree → Interval → Type 0
-IsTheMean n q tree bounds = IsThe mean_rank mean_lowered mean_arrived mean_blended n q tree (from_span bounds)
+IsTheMean n q tree bounds = IsThe mean_scoring n q tree (from_span bounds)
 
 pub the_best : (n : NetworkModel) (q : Query) (tree : Tree) (bounds : Interval) → IsBest n q tree bounds
-    → (q.source.0 ≢ q.target.0 → IsByRules mean_rank mean_lowered mean_arrived mean_blended n q tree (from_span bounds)) → IsTheMean n q tree bounds
+    → (q.source.0 ≢ q.target.0 → IsByRules mean_scoring n q tree (from_span bounds)) → IsTheMean n q tree bounds
 the_best n q tree bounds best ruled = record { safe = best.safe; by_rules = ruled; at_once = λ same. ap from_span (best.at_once same) }
 
 pub one_best : (n : NetworkModel) (q : Query) (s t : Tree) (a b : Interval) → IsTheMean n q s a → IsTheMean n q t b → (s ≡ t) × (a ≡ b)
 one_best n q s t a b best other =
-    let both = only_one mean_rank mean_lowered mean_arrived mean_blended n q s t (from_span a) (from_span b) best other in
+    let both = only_one mean_scoring n q s t (from_span a) (from_span b) best other in
     (both.0, ap span_of both.1)

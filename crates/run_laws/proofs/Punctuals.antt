@@ -8,7 +8,7 @@ use Rattle.plan_graph.specs.declared.PlanGraph.{PlanGraph}
 use Rattle.plan_graph.specs.Unfold.{unfold_plan}
 use Rattle.graph_score.specs.Spans.{span_of}
 use Rattle.graph_text.specs.GraphTexts.{graph_text}
-use Rattle.late_chance.specs.Chances.{chance_rank, chance_lowered, chance_arrived, chance_blended}
+use Rattle.late_chance.specs.Chances.{chance_scoring}
 use Rattle.late_chance.specs.LaterGraphs.{later_graph}
 use Rattle.late_chance.specs.Punctual.{seen_for, asked_for, shift_for}
 use Rattle.journey_model.specs.declared.problem.Problem.{Problem}
@@ -23,12 +23,12 @@ use Rattle.run_laws.proofs.Queries.{in_one_query}
 
 module _ (n : NetworkModel) (q : Query) where
   the : (graph : PlanGraph) (chance : Interval) → IsLeastChance n q graph chance
-      → IsThe chance_rank chance_lowered chance_arrived chance_blended n q (unfold_plan graph n q) chance
+      → IsThe chance_scoring n q (unfold_plan graph n q) chance
   the graph chance is = record { safe = is.punctual.safe; by_rules = is.by_rules; at_once = is.at_once }
 
   one_chance : (a b : PlanGraph) (s t : Interval) → IsLeastChance n q a s → IsLeastChance n q b t → (a ≡ b) × (s ≡ t)
   one_chance a b s t is other =
-      let both = only_one chance_rank chance_lowered chance_arrived chance_blended n q (unfold_plan a n q) (unfold_plan b n q) s t (the a s is) (the b t other) in
+      let both = only_one chance_scoring n q (unfold_plan a n q) (unfold_plan b n q) s t (the a s is) (the b t other) in
       (one_tidy n q a b is.punctual.tidy other.punctual.tidy (q.deadline.0, is.punctual.safe) both.0, both.1)
 
 one_seen : (n : NetworkModel) (q : Query) (promise : ℕ) (a b : PlanGraph) (s t : Interval) → IsSeenLater n q promise a s → IsSeenLater n q promise b t → (a ≡ b) × (s ≡ t)

@@ -11,11 +11,11 @@ use Rattle.plan_model.specs.Strategy.{IsSafeFor, Reaches, IsLeastWorst}
 use Rattle.plan_model.proofs.Bounds.{before_last, after_LeastWorst, before_LeastWorst}
 use Rattle.plan_model.proofs.Laws.{reaches_from_safe, safe_from_reaches}
 use Rattle.value_laws.specs.declared.WorstMoment.{WorstMoment}
-use Rattle.value_laws.specs.Worsts.{worst_below, worst_covers, worst_gap}
+use Rattle.value_laws.specs.Worsts.{worst_scoring}
 use Rattle.meat_scan.specs.Solves.{IsStartValue}
 
 -- what is the best by a deadline is the best of all: what is not safe by it is worse
-pub least_from_value : (n : NetworkModel) (q : Query) (value : WorstMoment) → IsStartValue worst_below worst_covers worst_gap n q value → IsLeastWorst n q.source.0 q.target.0 q.start.0 (Some value.0)
+pub least_from_value : (n : NetworkModel) (q : Query) (value : WorstMoment) → IsStartValue worst_scoring n q value → IsLeastWorst n q.source.0 q.target.0 q.start.0 (Some value.0)
 least_from_value n q value v =
     let reaches = reaches_from_safe n q.source.0 q.target.0 q.start.0 q.deadline.0 v.tree v.safe in
     let exact : worst v.tree ≡ value.0.0 = omega (arith, v.covers_tree, v.below_safe v.tree v.safe) in (

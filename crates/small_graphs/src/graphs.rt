@@ -3,7 +3,7 @@ ghost use Rattle.std.specs.Prelude.{◌≢◌, ◌<◌, length, IfOk};
 ghost use Rattle.plan_graph.specs.Ready.{IsReady, IsPruned};
 ghost use Rattle.plan_graph.specs.Coherent.{IsCoherent};
 ghost use Rattle.decision_graph.specs.Expanded.{HasSteadyChoice};
-ghost use Rattle.value_laws.specs.Means.{mean_below, mean_covers, mean_gap};
+ghost use Rattle.value_laws.specs.Means.{mean_scoring};
 ghost use Rattle.meat_scan.specs.Solves.{Solves};
 
 use decision_graph::{CompactPlan, ExpandedPlan, expand, plan};
@@ -28,7 +28,7 @@ fn solved(alloc: Global, network: &Network, query: &Query) -> Result<Scanned<Mea
     requires target { query.now.target.0 < length network.now.change }
     requires differ { query.now.source.0 ≢ query.now.target.0 }
     ensures { IfOk result (λ found.
-        Solves mean_below mean_covers mean_gap found network.now query.now) }
+        Solves mean_scoring found network.now query.now) }
 {
     let mut order = SortedOrder::new(alloc, network)?;
     let tables = ScanTables::reserve(alloc, network)?;

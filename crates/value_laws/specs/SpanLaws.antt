@@ -12,9 +12,9 @@ use Rattle.interval_fixed.specs.Interval.{Interval}
 use Rattle.interval_fixed.specs.Means.{weighted, mean_of}
 use Rattle.interval_fixed.proofs.Enclosed.{mean_gap_within}
 use Rattle.interval_fixed.proofs.Sums.{each_mapped, mean_below, mean_covers}
-use Rattle.value_laws.specs.ScoreLaws.{ScoreLaws}
+use Rattle.value_laws.specs.ScoreLaws.{Scoring, ScoreLaws}
 use Rattle.value_laws.specs.Rounded.{rounded_up, sum_up, rounded_down, sum_down}
-use Rattle.value_laws.specs.Spans.{span_below, span_covers, span_gap, span_rank, span_arrived, span_blended, span_lowered}
+use Rattle.value_laws.specs.Spans.{span_scoring}
 
 -- the lesser of two is below what either is below
 lesser_below : (a b p n : ℕ) → a * p ≤ n ⊎ b * p ≤ n → min a b * p ≤ n
@@ -33,50 +33,53 @@ each_weaker P Q weaker _ _ _ each = absurd each
 
 -- values that are spans, of whatever leaf gives for the arrivals, in units of which there are scale in one
 module _ {V : Type 0} (scale : ℕ) (leaf : ℕ → ℕ) (span : V → Interval) (value : Interval → V) (same : (s : Interval) → span (value s) ≡ s) where
+  abbrev scoring : Scoring V
+  scoring = span_scoring scale leaf span value
+
   at_value : (P : Interval → Type 0) (s : Interval) → P s → P (span (value s))
   at_value P s p = rw (same s) p
 
-  blended_below : (row : List Outcome) (values : List V) (kids : Kids) (enter exit : ℕ) → EachKid (span_below scale leaf span) row values kids
+  blended_below : (row : List Outcome) (values : List V) (kids : Kids) (enter exit : ℕ) → EachKid scoring.below row values kids
       → BelowBy scale leaf (mean_of row (map span values)).lo (Ride enter exit kids)
   blended_below row values kids enter exit each =
       mean_below scale leaf row (map (λ s. s.lo) (map span values)) kids enter exit
       (each_mapped (λ (s : Interval). s.lo) (BelowBy scale leaf) row (map span values) kids
       (each_mapped span (λ s t. BelowBy scale leaf s.lo t) row values kids
-      (each_weaker (span_below scale leaf span) (λ v t. BelowBy scale leaf (span v).lo t) (λ v t is. is.0) row values kids each)))
+      (each_weaker scoring.below (λ v t. BelowBy scale leaf (span v).lo t) (λ v t is. is.0) row values kids each)))
 
   -- the sum of lower bounds is at most that of the means
-  lo_sum : (row : List Outcome) (values : List V) (kids : Kids) → EachKid (span_below scale leaf span) row values kids
+  lo_sum : (row : List Outcome) (values : List V) (kids : Kids) → EachKid scoring.below row values kids
       → weighted row (map (λ s. s.lo) (map span values)) ≤ sum_down scale leaf kids
   lo_sum [] [] Nil each = omega arith
   lo_sum (o ∷ row) (v ∷ values) (Kid w t kids) each =
       rw each.0 (omega (arith, mul-le-mul_left o.weight each.1.1, lo_sum row values kids each.2))
   lo_sum _ _ _ each = absurd each
 
-  blended_down : (row : List Outcome) (values : List V) (kids : Kids) (enter exit : ℕ) → EachKid (span_below scale leaf span) row values kids
+  blended_down : (row : List Outcome) (values : List V) (kids : Kids) (enter exit : ℕ) → EachKid scoring.below row values kids
       → (mean_of row (map span values)).lo ≤ rounded_down scale leaf (Ride enter exit kids)
   blended_down row values kids enter exit each = omega (arith, lo_sum row values kids each)
 
-  blended_covers : (row : List Outcome) (values : List V) (kids : Kids) (enter exit : ℕ) → EachKid (span_covers scale leaf span) row values kids
+  blended_covers : (row : List Outcome) (values : List V) (kids : Kids) (enter exit : ℕ) → EachKid scoring.covers row values kids
       → CoversBy scale leaf (mean_of row (map span values)).hi (Ride enter exit kids)
   blended_covers row values kids enter exit each =
       mean_covers scale leaf row (map (λ s. s.hi) (map span values)) kids enter exit
       (each_mapped (λ (s : Interval). s.hi) (CoversBy scale leaf) row (map span values) kids
       (each_mapped span (λ s t. CoversBy scale leaf s.hi t) row values kids
-      (each_weaker (span_covers scale leaf span) (λ v t. CoversBy scale leaf (span v).hi t) (λ v t is. is.0) row values kids each)))
+      (each_weaker scoring.covers (λ v t. CoversBy scale leaf (span v).hi t) (λ v t is. is.0) row values kids each)))
 
   -- the sum of upper bounds is that of the means
-  hi_sum : (row : List Outcome) (values : List V) (kids : Kids) → EachKid (span_covers scale leaf span) row values kids
+  hi_sum : (row : List Outcome) (values : List V) (kids : Kids) → EachKid scoring.covers row values kids
       → weighted row (map (λ s. s.hi) (map span values)) ≡ sum_up scale leaf kids
   hi_sum [] [] Nil each = refl
   hi_sum (o ∷ row) (v ∷ values) (Kid w t kids) each = rw (each.0, each.1.1, hi_sum row values kids each.2) refl
   hi_sum _ _ _ each = absurd each
 
-  blended_up : (row : List Outcome) (values : List V) (kids : Kids) (enter exit : ℕ) → EachKid (span_covers scale leaf span) row values kids
+  blended_up : (row : List Outcome) (values : List V) (kids : Kids) (enter exit : ℕ) → EachKid scoring.covers row values kids
       → (mean_of row (map span values)).hi ≡ rounded_up scale leaf (Ride enter exit kids)
   blended_up row values kids enter exit each = ap (λ (u : ℕ). (u + 9999) / 10000) (hi_sum row values kids each)
 
   blended_gap : (row : List Outcome) (values : List V) (most : ℕ) → IsValidRow row → length row ≡ length values
-      → All (λ v. span_gap span v ≤ most) values → (mean_of row (map span values)).hi - (mean_of row (map span values)).lo ≤ most + 1
+      → All (λ v. scoring.gap v ≤ most) values → (mean_of row (map span values)).hi - (mean_of row (map span values)).lo ≤ most + 1
   blended_gap row values most good as_many gaps =
       mean_gap_within row (map span values) most good (omega (arith, as_many, length-map values span)) (All-map (λ (s : Interval). s.hi - s.lo ≤ most) span values gaps)
 
@@ -89,8 +92,8 @@ module _ {V : Type 0} (scale : ℕ) (leaf : ℕ → ℕ) (span : V → Interval)
   abbrev lesser : V → V → Interval
   lesser a b = record { lo = min (span a).lo (span b).lo; hi = (span a).hi }
 
-  lowered_below : (a b : V) (tree : Tree) → span_rank span a ≤ span_rank span b → span_below scale leaf span a tree
-      ⊎ span_below scale leaf span b tree → span_below scale leaf span (span_lowered span value a b) tree
+  lowered_below : (a b : V) (tree : Tree) → scoring.rank a ≤ scoring.rank b → scoring.below a tree
+      ⊎ scoring.below b tree → scoring.below (scoring.lowered a b) tree
   lowered_below a b tree better (inl own) =
       at_value (LowerBound tree) (lesser a b) ((λ h tall. lesser_below (span a).lo (span b).lo (10000 ^ h) _ (inl (own.0 h tall))), omega (arith, own.1))
   lowered_below a b tree better (inr other) =
@@ -99,8 +102,7 @@ module _ {V : Type 0} (scale : ℕ) (leaf : ℕ → ℕ) (span : V → Interval)
   abbrev exact : ℕ → Interval
   exact moment = record { lo = scale * leaf moment; hi = scale * leaf moment }
 
-  pub span_laws : ScoreLaws (span_below scale leaf span) (span_covers scale leaf span) (span_gap span) (span_rank span)
-      (span_arrived scale leaf value) (span_blended span value) (span_lowered span value)
+  pub span_laws : ScoreLaws scoring
   span_laws = record {
     arrived_below = λ moment. at_value (LowerBound (Done moment)) (exact moment) ((λ h tall. omega (arith, mul_assoc scale (leaf moment) (10000 ^ h))), omega arith);
     arrived_covers = λ moment. at_value (UpperBound (Done moment)) (exact moment) ((λ h tall. omega (arith, mul_assoc scale (leaf moment) (10000 ^ h))), refl);
@@ -113,5 +115,5 @@ module _ {V : Type 0} (scale : ℕ) (leaf : ℕ → ℕ) (span : V → Interval)
     lowered_below = lowered_below;
     lowered_covers = λ a b tree better covers. at_value (UpperBound tree) (lesser a b) covers;
     lowered_rank = λ a b. at_value (λ s. s.hi ≡ (span a).hi) (lesser a b) refl;
-    lowered_gap = λ a b better. at_value (λ s. s.hi - s.lo ≤ max (span_gap span a) (span_gap span b)) (lesser a b) (omega arith);
+    lowered_gap = λ a b better. at_value (λ s. s.hi - s.lo ≤ max (scoring.gap a) (scoring.gap b)) (lesser a b) (omega arith);
   }

@@ -6,23 +6,23 @@ use Rattle.plan_model.specs.Tree.{Tree, Kids, Nil, Kid, worst_of}
 use Rattle.plan_model.specs.DelayRows.{EachKid}
 use Rattle.value_laws.specs.declared.WorstMoment.{WorstMoment}
 use Rattle.value_laws.specs.ScoreLaws.{ScoreLaws}
-use Rattle.value_laws.specs.Worsts.{worst_below, worst_covers, worst_gap, worst_rank, worst_from, worst_blended, worst_lowered, latest}
+use Rattle.value_laws.specs.Worsts.{worst_scoring, latest}
 
-blended_below : (row : List Outcome) (values : List WorstMoment) (kids : Kids) → EachKid worst_below row values kids → latest values ≤ worst_of kids
+blended_below : (row : List Outcome) (values : List WorstMoment) (kids : Kids) → EachKid worst_scoring.below row values kids → latest values ≤ worst_of kids
 blended_below [] [] Nil each = omega arith
 blended_below (o ∷ row) (v ∷ values) (Kid w t kids) each = omega (arith, blended_below row values kids each.2)
 blended_below _ _ _ each = absurd each
 
-blended_covers : (row : List Outcome) (values : List WorstMoment) (kids : Kids) → EachKid worst_covers row values kids → worst_of kids ≤ latest values
+blended_covers : (row : List Outcome) (values : List WorstMoment) (kids : Kids) → EachKid worst_scoring.covers row values kids → worst_of kids ≤ latest values
 blended_covers [] [] Nil each = omega arith
 blended_covers (o ∷ row) (v ∷ values) (Kid w t kids) each = omega (arith, blended_covers row values kids each.2)
 blended_covers _ _ _ each = absurd each
 
-lowered_below : (a b : WorstMoment) (tree : Tree) → worst_rank a ≤ worst_rank b → worst_below a tree ⊎ worst_below b tree → worst_below a tree
+lowered_below : (a b : WorstMoment) (tree : Tree) → worst_scoring.rank a ≤ worst_scoring.rank b → worst_scoring.below a tree ⊎ worst_scoring.below b tree → worst_scoring.below a tree
 lowered_below a b tree better (inl own) = own
 lowered_below a b tree better (inr other) = omega arith
 
-pub worst_laws : ScoreLaws worst_below worst_covers worst_gap worst_rank worst_from worst_blended worst_lowered
+pub worst_laws : ScoreLaws worst_scoring
 worst_laws = record {
   arrived_below = λ moment. omega arith;
   arrived_covers = λ moment. omega arith;

@@ -38,7 +38,7 @@ loop-k-preserved g c =
     record {
       len = put.len ∙ loop.invariant.len;
       rows = λ place. rows_next (ways_into network r) distinct loop.k
-          (omega arith) way c.way_at-way.ensures score.rank score.lowered c.args.query.now.target.0 c.get-connection.result.dep.0 _ _ place _ _ _
+          (omega arith) way c.way_at-way.ensures score.scoring c.args.query.now.target.0 c.get-connection.result.dep.0 _ _ place _ _ _
           (loop.invariant.rows place) (put.rows place);
       spare = λ place. spare_next (ways_into network r) distinct loop.k (omega arith) way c.way_at-way.ensures place _ _ _ (loop.invariant.spare place) (put.spare place);
       capacity = λ place. put.capacity place ∙ loop.invariant.capacity place;

@@ -11,7 +11,7 @@ invariant-loop-id g l =
       valid : IsValid l.network;
       fits : g.B.BackwardOrder.fits l.order l.network;
       room : HasRoom l.network (g.B.BackwardOrder.rest l.order l.network) l.profiles.items l.exits l.kids.items;
-      state : ScanState score.below score.covers score.gap score.rank score.lowered score.arrived score.blended l.network l.query
+      state : ScanState score.scoring l.network l.query
           (g.B.BackwardOrder.rest l.fn.order l.network) (g.B.BackwardOrder.rest l.order l.network) l.profiles.items l.exits l.start;
       same_capacity : (place : ℕ) → capacity_at l.profiles.items place ≡ capacity_at l.initial.profiles.items place;
       same_runs : length l.exits ≡ length l.initial.exits;

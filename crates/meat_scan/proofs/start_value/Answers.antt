@@ -8,7 +8,7 @@ pub returns-clause-solves : goal.returns-clause-solves
 returns-clause-solves g c =
     let score = g.V.Score in
     let scanned = c.scan_all-tables in
-    value_solved score.below score.covers score.gap c.args.network.now c.args.query.now
+    value_solved score.scoring c.args.network.now c.args.query.now
     (found_in scanned.result.0 scanned.result.1 c.args.query.now.target.0) scanned.result.1 c.leg_value-value.result
     scanned.ensures.answers.begins c.leg_value-value.ensures
 

@@ -12,7 +12,7 @@ graph_of rides = record { start = None; rides = rides }
 pub returns-then-query-clause-plan : goal.returns-then-query-clause-plan
 unfolding graph_of
 returns-then-query-clause-plan g c =
-    expanded_at_once g.V.Score.below g.V.Score.covers g.V.Score.gap g.V.Score.rank g.V.Score.arrived g.V.Score.blended g.V.Score.lowered g.V.Score.laws
+    expanded_at_once g.V.Score.scoring g.V.Score.laws
     c.args.network.now c.args.query.now (graph_of c.new.result) c.args.arrived c.if-query.true c.requires.deadline (ap graph_of c.new.ensures) c.requires.arrived
 
 pub returns-then-query-clause-steady : goal.returns-then-query-clause-steady
@@ -22,7 +22,7 @@ returns-then-query-clause-steady g c = steady_at_once c.args.network.now c.args.
 pub returns-clause-plan : goal.returns-clause-plan
 returns-clause-plan g c =
     let found = c.scan-scanned.result in
-    expanded g.V.Score.below g.V.Score.covers g.V.Score.gap g.V.Score.rank g.V.Score.arrived g.V.Score.blended g.V.Score.lowered c.args.network.now c.args.query.now found
+    expanded g.V.Score.scoring c.args.network.now c.args.query.now found
     c.scan-scanned.ensures.solves _ c.requires.whole c.scan-scanned.ensures.rules _ c.in-Some.ensures c.in-Some-2.graph
     (MatchOption-at_some (found.start ≡ None) (IsOfStart c.args.network.now c.args.query.now found) c.in-Some-2.graph c.in-Some-2.is c.in_ok-extract.ensures)
 

@@ -11,9 +11,9 @@ compact-requires-clause-coherent g c =
 
 pub returns-clause-plan : goal.returns-clause-plan
 returns-clause-plan g c =
-    planned g.V.Score.below g.V.Score.covers g.V.Score.gap g.V.Score.rank g.V.Score.arrived g.V.Score.blended g.V.Score.lowered c.args.network.now c.args.query.now c.in-Some.expanded.graph
+    planned g.V.Score.scoring c.args.network.now c.args.query.now c.in-Some.expanded.graph
     c.in_ok-pruned.pruned c.in_ok-graph.graph c.in-Some.expanded.value
     (MatchOption-at_some (IsNoneSafe c.args.network.now c.args.query.now)
-    (λ p. IsExpandedBy g.V.Score.below g.V.Score.covers g.V.Score.gap g.V.Score.rank g.V.Score.arrived g.V.Score.blended g.V.Score.lowered c.args.network.now c.args.query.now p.graph p.value) c.in-Some.expanded
+    (λ p. IsExpandedBy g.V.Score.scoring c.args.network.now c.args.query.now p.graph p.value) c.in-Some.expanded
     c.in-Some.is c.in_ok-expanded.ensures.plan)
     c.in_ok-pruned.ensures.unfolds c.in_ok-graph.ensures.unfolds c.in_ok-graph.ensures.tidy
