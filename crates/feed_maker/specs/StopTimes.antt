@@ -10,8 +10,8 @@ rows_from line count = flat_map line_rows (range_with_len line count)
 
 -- how many lines have rows
 abbrev pub lines_of : StopTimes → ℕ
-lines_of t = t.lines
+lines_of t = t.lines.count
 
 -- what is unread: the rest of what was made, and the lines that come
 abbrev pub left_of : StopTimes → List ℕ
-left_of t = drop t.place t.text.items ++ rows_from t.next (t.lines - t.next)
+left_of t = drop t.place t.text.items ++ rows_from t.next (t.lines.count - t.next)

@@ -1,6 +1,7 @@
 //! The files of a made timetable.
 ghost use Rattle.std.specs.Prelude.{◌≡◌, ◌<◌, ◌≤◌, length};
 
+use crate::lines::Lines;
 use crate::stop_times::StopTimes;
 use crate::{STOP_TIMES, other_files};
 use file_ports::{Failed, Files, Presence, SteadyFiles};
@@ -29,8 +30,9 @@ impl MadeFiles {
         ensures files { IfOk result (λ files. SameFolder (made size) (folder_of files)) }
         ensures hand { IfOk result (λ files. hand_of files ≡ None) }
     {
-        let others = other_files(alloc, size)?;
-        let times = StopTimes::new(alloc, size)?;
+        let lines = Lines { count: size };
+        let others = other_files(alloc, lines)?;
+        let times = StopTimes::new(alloc, lines)?;
         Ok(MadeFiles {
             others,
             times,

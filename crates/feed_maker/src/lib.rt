@@ -13,6 +13,7 @@ mod tables;
 
 use file_ports::SteadyFiles;
 pub use files::MadeFiles;
+use lines::Lines;
 use plan_model::NoMemory;
 use std::alloc::Global;
 
@@ -23,15 +24,15 @@ const PIECE: usize = 65_536;
 const STOP_TIMES: &str = "feed/stop_times.txt";
 
 /// The files of a made timetable, but for the stop times.
-fn other_files(alloc: Global, size: u32) -> Result<SteadyFiles, NoMemory>
-    ensures files { IfOk result (λ files. SameFolder (other_files size) (folder_of files)) }
+fn other_files(alloc: Global, lines: Lines) -> Result<SteadyFiles, NoMemory>
+    ensures files { IfOk result (λ files. SameFolder (other_files lines.count) (folder_of files)) }
     ensures piece { IfOk result (λ files. piece_of files ≡ 65536) }
     ensures hand { IfOk result (λ files. hand_of files ≡ None) }
 {
     let mut files = SteadyFiles::new(alloc, PIECE);
-    let stops = tables::stops(alloc, size)?;
-    let routes = tables::routes(alloc, size)?;
-    let trips = tables::trips(alloc, size)?;
+    let stops = tables::stops(alloc, lines.count)?;
+    let routes = tables::routes(alloc, lines.count)?;
+    let trips = tables::trips(alloc, lines)?;
     files.add("delays.csv", tables::delays().as_bytes())?;
     files.add("feed/calendar.txt", tables::calendar().as_bytes())?;
     files.add("feed/trips.txt", trips.as_bytes())?;
@@ -56,8 +57,9 @@ pub fn make(alloc: Global, size: u32) -> Result<SteadyFiles, NoMemory>
     ensures piece { IfOk result (λ files. piece_of files ≡ 65536) }
     ensures hand { IfOk result (λ files. hand_of files ≡ None) }
 {
-    let mut files = other_files(alloc, size)?;
-    let times = stop_times::stop_times(alloc, size)?;
+    let lines = Lines { count: size };
+    let mut files = other_files(alloc, lines)?;
+    let times = stop_times::stop_times(alloc, lines)?;
     files.add(STOP_TIMES, times.as_slice())?;
     Ok(files)
 }

@@ -2,6 +2,7 @@
 ghost use Rattle.std.specs.Prelude.{◌≡◌, ◌+◌, ◌<◌, ◌++◌, Some, codes};
 ghost use Rattle.feed_maker.specs.Names.{route_name, trip_name, time_text};
 
+use crate::lines::Line;
 use std::fmt;
 
 /// A stop of the feed.
@@ -42,15 +43,16 @@ impl fmt::Display for Route {
 /// A run of a line.
 #[derive(Clone, Copy)]
 pub struct Trip {
-    pub line: u32,
+    pub line: Line,
     pub run: u32,
+    pub ghost daily: { run < 96 },
 }
 
 impl fmt::Display for Trip {
-    ghost output = { λ trip. Some (trip_name trip.line trip.run) };
+    ghost output = { λ trip. Some (trip_name trip.line.number trip.run) };
 
     fn fmt<W: fmt::Write>(&self, f: &mut fmt::Formatter<W>) -> fmt::Result {
-        let line = self.line;
+        let line = self.line.number;
         let run = self.run;
         write!(f, "T{line}_{run}")
     }

@@ -5,7 +5,7 @@ ghost use Rattle.feed_maker.specs.Names.{stop_name};
 ghost use Rattle.feed_maker.specs.Pieces.{run_piece, place_piece, ArePlacePieces};
 ghost use Rattle.feed_maker.specs.MadeTables.{stop_time_row, run_rows, line_rows, stop_times_text};
 
-use crate::lines::{PLACES, RUNS, seconds_at, stop_at};
+use crate::lines::{Line, Lines, PLACES, Place, RUNS, seconds_at, stop_at};
 use crate::names::{Stop, Trip, clock};
 use arrayvec::{ArrayString, ArrayVec};
 use itoa::Buffer;
@@ -45,12 +45,12 @@ fn stop_piece(stop: Stop) -> ArrayString<PIECE_ROOM>
 
 /// The front of the rows of a run.
 fn run_piece(trip: Trip) -> ArrayString<PIECE_ROOM>
-    ensures { result.bytes ≡ run_piece trip.line trip.run }
+    ensures { result.bytes ≡ run_piece trip.line.number trip.run }
 {
     let mut digits = Buffer::new();
     let mut piece = ArrayString::new();
     piece.push_str("T");
-    piece.push_str(digits.format(trip.line));
+    piece.push_str(digits.format(trip.line.number));
     piece.push_str("_");
     piece.push_str(digits.format(trip.run));
     piece.push_str(",");
@@ -58,62 +58,59 @@ fn run_piece(trip: Trip) -> ArrayString<PIECE_ROOM>
 }
 
 /// The end of the rows at a place of a line.
-fn place_piece(line: u32, place: u32) -> ArrayString<PIECE_ROOM>
-    requires line { line ≤ 400 }
-    requires place { place ≤ 20 }
-    ensures { result.bytes ≡ place_piece line place }
+fn place_piece(line: Line, place: Place) -> ArrayString<PIECE_ROOM>
+    ensures { result.bytes ≡ place_piece line.number place.number }
 {
     let mut digits = Buffer::new();
     let mut piece = stop_piece(stop_at(line, place));
     piece.push_str(",");
-    piece.push_str(digits.format(place + 1));
+    piece.push_str(digits.format(place.number + 1));
     piece.push_str("\n");
     piece
 }
 
 /// The ends of the rows at the places of a line, for each run alike.
-fn place_pieces(line: u32) -> ArrayVec<ArrayString<PIECE_ROOM>, 21>
-    requires { line ≤ 400 }
-    ensures { ArePlacePieces line result.items }
+fn place_pieces(line: Line) -> ArrayVec<ArrayString<PIECE_ROOM>, 21>
+    ensures { ArePlacePieces line.number result.items }
 {
     let mut ends = ArrayVec::new();
     for place in 0..PLACES {
-        ends.push(place_piece(line, place));
+        ends.push(place_piece(line, Place { number: place }));
     }
     ends
 }
 
 /// Adds the row of a run at a place of its line, by the front and the end that it has.
 #[tactic(auto, unfolding(crate::specs::MadeTables::stop_time_row))]
-fn add_stop_time(text: &mut Vec<u8>, front: &str, trip: Trip, place: u32, end: &str)
-    requires line { trip.line ≤ 400 }
-    requires run { trip.run < 96 }
-    requires place { place ≤ 20 }
-    requires front { front.now ≡ run_piece trip.line trip.run }
-    requires end { end.now ≡ place_piece trip.line place }
-    requires front_room { length front.now ≤ 40 }
-    requires end_room { length end.now ≤ 40 }
+fn add_stop_time(
+    text: &mut Vec<u8>,
+    front: &ArrayString<PIECE_ROOM>,
+    trip: Trip,
+    place: Place,
+    end: &ArrayString<PIECE_ROOM>,
+)
+    requires front { front.now.bytes ≡ run_piece trip.line.number trip.run }
+    requires end { end.now.bytes ≡ place_piece trip.line.number place.number }
     requires room { vec_len text.old + 100 ≤ vec_capacity text.old }
-    ensures row { text.new.items ≡ text.old.items ++ stop_time_row trip.line trip.run place }
+    ensures row { text.new.items
+        ≡ text.old.items ++ stop_time_row trip.line.number trip.run place.number }
     ensures longer { vec_len text.old < vec_len text.new }
     ensures short { vec_len text.new ≤ vec_len text.old + 100 }
     ensures capacity { vec_capacity text.old ≤ vec_capacity text.new }
 {
-    let time = clock(seconds_at(trip.line, trip.run, place));
-    text.extend_from_slice(front.as_bytes()).unwrap();
+    let time = clock(seconds_at(trip, place));
+    text.extend_from_slice(front.as_str().as_bytes()).unwrap();
     text.extend_from_slice(&time).unwrap();
     text.extend_from_slice(&time).unwrap();
-    text.extend_from_slice(end.as_bytes()).unwrap();
+    text.extend_from_slice(end.as_str().as_bytes()).unwrap();
 }
 
 /// Adds the rows of a run, by the ends of the rows at its places.
 #[tactic(auto, using(crate::proofs::JoinedLemmas::joined_steps), unfolding(crate::specs::MadeTables::run_rows))]
 fn add_run(text: &mut Vec<u8>, trip: Trip, ends: &[ArrayString<PIECE_ROOM>])
-    requires line { trip.line ≤ 400 }
-    requires run { trip.run < 96 }
-    requires ends { ArePlacePieces trip.line ends.now }
+    requires ends { ArePlacePieces trip.line.number ends.now }
     requires room { vec_len text.old + 2100 ≤ vec_capacity text.old }
-    ensures rows { text.new.items ≡ text.old.items ++ run_rows trip.line trip.run }
+    ensures rows { text.new.items ≡ text.old.items ++ run_rows trip.line.number trip.run }
     ensures longer { vec_len text.old < vec_len text.new }
     ensures short { vec_len text.new ≤ vec_len text.old + 2100 }
     ensures capacity { vec_capacity text.old ≤ vec_capacity text.new }
@@ -121,16 +118,15 @@ fn add_run(text: &mut Vec<u8>, trip: Trip, ends: &[ArrayString<PIECE_ROOM>])
     let front = run_piece(trip);
     for place in 0..PLACES {
         let end = &ends[place as usize];
-        add_stop_time(text, front.as_str(), trip, place, end.as_str());
+        add_stop_time(text, &front, trip, Place { number: place }, end);
     }
 }
 
 /// Adds the rows of a line's runs.
 #[tactic(auto, using(crate::proofs::JoinedLemmas::joined_steps), unfolding(crate::specs::MadeTables::line_rows))]
-fn add_line(text: &mut Vec<u8>, line: u32)
-    requires line { line ≤ 400 }
+fn add_line(text: &mut Vec<u8>, line: Line)
     requires room { vec_len text.old + 201600 ≤ vec_capacity text.old }
-    ensures rows { text.new.items ≡ text.old.items ++ line_rows line }
+    ensures rows { text.new.items ≡ text.old.items ++ line_rows line.number }
     ensures longer { vec_len text.old < vec_len text.new }
     ensures capacity { vec_capacity text.old ≤ vec_capacity text.new }
 {
@@ -142,14 +138,13 @@ fn add_line(text: &mut Vec<u8>, line: u32)
 
 /// The times of so many lines' runs at their places.
 #[tactic(auto, using(crate::proofs::JoinedLemmas::joined_steps), unfolding(crate::specs::MadeTables::stop_times_text))]
-pub(crate) fn stop_times(alloc: Global, lines: u32) -> Result<Vec<u8>, NoMemory>
-    requires { lines ≤ 400 }
-    ensures { IfOk result (λ text. text.items ≡ stop_times_text lines) }
+pub(crate) fn stop_times(alloc: Global, lines: Lines) -> Result<Vec<u8>, NoMemory>
+    ensures { IfOk result (λ text. text.items ≡ stop_times_text lines.count) }
 {
     let mut text = Vec::from_slice(alloc, HEADER.as_bytes())?;
-    for line in 0..lines {
+    for line in 0..lines.count {
         text.reserve(LINE_ROOM)?;
-        add_line(&mut text, line);
+        add_line(&mut text, Line { number: line });
     }
     Ok(text)
 }
@@ -158,12 +153,11 @@ pub(crate) fn stop_times(alloc: Global, lines: u32) -> Result<Vec<u8>, NoMemory>
 /// made next. No call on them takes memory.
 #[derive(Drop)]
 pub(crate) struct StopTimes {
-    lines: u32,
+    lines: Lines,
     next: u32,
     text: Vec<u8>,
     place: usize,
-    ghost few: { lines ≤ 400 },
-    ghost inside: { next ≤ lines },
+    ghost inside: { next ≤ lines.count },
     ghost room: { 201600 ≤ vec_capacity text },
     ghost within: { place ≤ vec_len text },
 }
@@ -174,9 +168,8 @@ impl StopTimes {
     ghost use Rattle.feed_maker.specs.MadeTables.{stop_times_text};
 
     /// The stop times of so many lines, none of them read.
-    pub(crate) fn new(alloc: Global, lines: u32) -> Result<StopTimes, NoMemory>
-        requires { lines ≤ 400 }
-        ensures lines { IfOk result (λ times. lines_of times ≡ lines) }
+    pub(crate) fn new(alloc: Global, lines: Lines) -> Result<StopTimes, NoMemory>
+        ensures lines { IfOk result (λ times. lines_of times ≡ lines.count) }
     {
         let text = Vec::with_capacity(alloc, LINE_ROOM)?;
         Ok(StopTimes {
@@ -205,12 +198,12 @@ impl StopTimes {
         ensures left { left_of self.new ≡ left_of self.old }
         ensures some { self.new.place ≡ vec_len self.new.text → left_of self.new ≡ [] }
     {
-        if self.place < self.text.len() || self.next == self.lines {
+        if self.place < self.text.len() || self.next == self.lines.count {
             return;
         }
         self.place = 0;
         self.text.clear();
-        add_line(&mut self.text, self.next);
+        add_line(&mut self.text, Line { number: self.next });
         self.next += 1;
     }
 

@@ -2,7 +2,7 @@
 ghost use Rattle.std.specs.Prelude.{◌≡◌, ◌++◌, IfOk, OnOk, string_bytes};
 ghost use Rattle.feed_maker.specs.MadeTables.{joined, hub_row, own_rows, stops_text, routes_text, trip_rows, trips_text, calendar_text, delays_text};
 
-use crate::lines::{HUBS, LAST, RUNS};
+use crate::lines::{HUBS, LAST, Line, Lines, RUNS};
 use crate::names::{Route, Stop, Trip};
 use std::alloc::{AllocError, Global};
 
@@ -59,10 +59,10 @@ pub fn routes(alloc: Global, lines: u32) -> Result<String, AllocError>
 
 /// Writes the rows of a line's trips.
 #[tactic(auto, using(crate::proofs::JoinedLemmas::joined_steps), unfolding(crate::specs::MadeTables::trip_rows))]
-fn write_trips(text: &mut String, line: u32) -> Result<(), AllocError>
-    ensures { OnOk result (string_bytes text.new ≡ string_bytes text.old ++ trip_rows line) }
+fn write_trips(text: &mut String, line: Line) -> Result<(), AllocError>
+    ensures { OnOk result (string_bytes text.new ≡ string_bytes text.old ++ trip_rows line.number) }
 {
-    let route = Route(line);
+    let route = Route(line.number);
     for run in 0..RUNS {
         let trip = Trip { line, run };
         writeln!(text, "{route},D,{trip}")?;
@@ -72,12 +72,12 @@ fn write_trips(text: &mut String, line: u32) -> Result<(), AllocError>
 
 /// The trips of so many lines.
 #[tactic(auto, using(crate::proofs::JoinedLemmas::joined_steps), unfolding(crate::specs::MadeTables::trips_text))]
-pub fn trips(alloc: Global, lines: u32) -> Result<String, AllocError>
-    ensures { IfOk result (λ text. string_bytes text ≡ trips_text lines) }
+pub fn trips(alloc: Global, lines: Lines) -> Result<String, AllocError>
+    ensures { IfOk result (λ text. string_bytes text ≡ trips_text lines.count) }
 {
     let mut text = String::from_str(alloc, "route_id,service_id,trip_id\n")?;
-    for line in 0..lines {
-        write_trips(&mut text, line)?;
+    for line in 0..lines.count {
+        write_trips(&mut text, Line { number: line })?;
     }
     Ok(text)
 }

@@ -11,5 +11,4 @@ add_stop_time-requires-clause-end c =
     let end = c.index-ends-place.result in
     let inside : place < length ends = omega arith in
     let here : slice_get ends place ≡ Some end = slice_get-get_or ends place end inside ∙ ap Some (sym c.index-ends-place.is) in
-    c.as_str-in-loop-place.ensures.value
-    ∙ subst (λ o. IfSome o (λ (e : ArrayString). e.bytes ≡ place_piece c.args.trip.line place)) here (c.requires.ends.each place inside)
+    subst (λ o. IfSome o (λ (e : ArrayString). e.bytes ≡ place_piece c.args.trip.line.number place)) here (c.requires.ends.each place inside)

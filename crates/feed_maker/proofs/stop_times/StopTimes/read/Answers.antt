@@ -8,4 +8,4 @@ returns-clause-bytes c =
     let made = c.fill.new.self in
     sym c.fill.ensures.left
     ∙ left_after made.text.items c.deref.result.now c.copy_front-count.new.buffer
-    (rows_from made.next (made.lines - made.next)) made.place c.copy_front-count.result c.deref.ensures.value c.copy_front-count.ensures.front
+    (rows_from made.next (made.lines.count - made.next)) made.place c.copy_front-count.result c.deref.ensures.value c.copy_front-count.ensures.front
