@@ -1,5 +1,5 @@
 -- The route types of the groups of a route type alone, in the order of the groups: sorted, they are those that are named.
-use Rattle.std.proofs.Common.{◌≡◌, ◌≢◌, ℕ, zero, suc, ◌+◌, ◌<◌, ◌≤◌, Bool, ◌&&◌, eqb, List, [], ◌∷◌, ◌++◌, length, get_or, Option, Some, None, IfSome}
+use Rattle.std.proofs.Common.{◌≡◌, ◌≢◌, ℕ, zero, suc, ◌+◌, ◌<◌, ◌≤◌, Bool, ◌&&◌, eqb, List, [], ◌∷◌, ◌++◌, length, get_or, Option, Some, None}
 use Rattle.std.proofs.Common.{if◌then◌else◌, refl, sym, ap, ◌∙◌, subst, arith, ⊎_elim, All, AllPairs, Contains, length-append, append-nil, add-one, nat_cmp}
 use Rattle.std.proofs.Common.{is_none, IsPermutation, IsSorted}
 use Rattle.std.proofs.lemmas.Bool.{cases_Bool}
@@ -148,9 +148,6 @@ is-there groups rows group h =
     let w = somewhere rows (group_place group groups) h in
     let here = group-here group groups w.0 w.1 in (w.0, here.0, here.1)
 
-bound_at : (o : Option ℕ) (r : ℕ) → IfSome o (λ n. n < end_of_types) → o ≡ Some r → r < end_of_types
-bound_at o r h e = subst (λ (x : Option ℕ). IfSome x (λ n. n < end_of_types)) e h
-
 module _ (groups : List Group) (rows : List GroupRows) (is : IsRead groups rows) (sorted : List ℕ)
     (moved : IsPermutation (plain_types groups (length groups)) sorted) (up : IsSorted nat_cmp sorted) where
   abbrev own : Group → List Outcome
@@ -168,7 +165,7 @@ module _ (groups : List Group) (rows : List GroupRows) (is : IsRead groups rows)
   route_types_below-are-sorted : AreNamed own end_of_types sorted
   route_types_below-are-sorted = record {
     below = All-permutation (λ r. r < end_of_types) plain sorted moved (λ k d l.
-        let p = are.own k d l in bound_at (group_in groups p.0).class (get_or plain k d) (is.types p.0 p.1) (ap (λ (g : Group). g.class) p.2));
+        let p = are.own k d l in is.types p.0 (get_or plain k d) p.1 (ap (λ (g : Group). g.class) p.2));
     rising = AllPairs-from_increasing sorted (IsStrictlyIncreasing-from_distinct sorted (IsNonDecreasingBy-from_sort (λ x. x) sorted up) distinct);
     some = All-permutation (λ r. 0 < length (type_rows own r)) plain sorted moved (λ k d l.
         let p = are.own k d l in subst (λ (g : Group). 0 < length (own g)) p.2 (is.some p.0 p.1));

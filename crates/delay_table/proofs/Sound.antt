@@ -146,6 +146,9 @@ pub made-is : (rows : Group → List Outcome) (groups : List Group) (route_types
 unfolding delays_in
 made-is rows groups route_types os classes e f g = λ i. record { types = e i; others = f i; classes = g i }
 
+bound_at : (o : Option ℕ) (r : ℕ) → IfSome o (λ n. n < end_of_types) → o ≡ Some r → r < end_of_types
+bound_at o r h e = subst (λ (x : Option ℕ). IfSome x (λ n. n < end_of_types)) e h
+
 -- the groups of all rows
 pub is-read : (t : List (List (List ℕ))) (groups : List Group) (rows : List GroupRows) → first_below (line_fault t) (row_count t) ≡ None → IsReadTo t (row_count t) groups rows → IsRead groups rows
 is-read t groups rows none r = record {
@@ -153,7 +156,8 @@ is-read t groups rows none r = record {
   apart = r.apart;
   some = λ k l. subst (λ (x : List Outcome). 0 < length x) (sym (rows-here groups rows r.apart k l)) (r.some k l);
   starts = λ group. subst IsGroupStart (sym (rows-are t (row_count t) groups rows r group)) (starts t (row_count t) none group);
-  types = λ k l. subst (λ (gs : List Group). IfSome (group_in gs k).class (λ route. route < end_of_types)) (sym r.are) (types-bounded t (firsts t (row_count t)) k (omega (arith, ap length r.are)));
+  types = λ k route l is. bound_at (group_in groups k).class route
+      (subst (λ (gs : List Group). IfSome (group_in gs k).class (λ route. route < end_of_types)) (sym r.are) (types-bounded t (firsts t (row_count t)) k (omega (arith, ap length r.are)))) is;
 }
 
 -- their faults are those of the table

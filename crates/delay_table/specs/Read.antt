@@ -1,5 +1,5 @@
 -- The rows of a delay file by their groups, as far as they are read.
-use Rattle.std.specs.Prelude.{◌≡◌, ℕ, ◌+◌, ◌<◌, false, List, [], ◌∷◌, ◌++◌, length, slice_index, slice_index_or, Option, Some, None, IfSome}
+use Rattle.std.specs.Prelude.{◌≡◌, ℕ, ◌+◌, ◌<◌, false, List, [], ◌∷◌, ◌++◌, length, slice_index, slice_index_or, Option, Some, None}
 use Rattle.plan_model.specs.declared.model.Outcome.{Outcome}
 use Rattle.delay_table.specs.declared.reading.GroupRows.{GroupRows}
 use Rattle.delay_table.specs.Delays.{Line, group_outcomes, firsts, groups_at}
@@ -56,4 +56,4 @@ pub record IsRead (groups : List Group) (rows : List GroupRows) : Type 0 where
   pub apart : AreApart groups
   pub some : (k : ℕ) → k < length groups → 0 < length (read_outcomes groups rows (group_in groups k))
   pub starts : (group : Group) → IsGroupStart (read_outcomes groups rows group)
-  pub types : (k : ℕ) → k < length groups → IfSome (group_in groups k).class (λ route. route < end_of_types)
+  pub types : (k route : ℕ) → k < length groups → (group_in groups k).class ≡ Some route → route < end_of_types

@@ -36,11 +36,11 @@ pub(crate) struct DelayLine<'a> {
 /// The places of the columns.
 #[derive(Clone, Copy)]
 pub(crate) struct Columns {
-    pub(crate) class: Option<usize>,
-    pub(crate) delay: Option<usize>,
-    pub(crate) weight: Option<usize>,
-    pub(crate) route: Option<usize>,
-    pub(crate) hour: Option<usize>,
+    class: Option<usize>,
+    delay: Option<usize>,
+    weight: Option<usize>,
+    route: Option<usize>,
+    hour: Option<usize>,
 }
 
 /// The places of the columns in this table.
@@ -54,6 +54,14 @@ pub(crate) fn columns_of(rows: &Rows) -> Columns
         route: rows.place_of(Column::RouteId),
         hour: rows.place_of(Column::Hour),
     }
+}
+
+/// The rows of a delay file, and the places of its columns.
+#[derive(Clone, Copy)]
+pub(crate) struct DelayRows<'a> {
+    pub(crate) rows: &'a Rows,
+    pub(crate) columns: Columns,
+    ghost are: { AreColumns rows.now columns },
 }
 
 /// The fault of a column that is not there.
@@ -159,15 +167,15 @@ fn read_line<'a>(
 }
 
 /// The row at a place, where each of its fields is of its form.
-pub(crate) fn line_at<'a>(rows: &'a Rows, row: usize, columns: &Columns) -> Option<DelayLine<'a>>
-    requires row { row < row_count rows.now }
-    requires columns { AreColumns rows.now columns.now }
+pub(crate) fn line_at<'a>(table: &DelayRows<'a>, row: usize) -> Option<DelayLine<'a>>
+    requires { row < row_count table.now.rows.now }
     ensures line { option_map (λ l. record {
       group = record { class = l.class; route = option_map (λ s. s.now) l.route; hour = l.hour };
       outcome = l.outcome;
-    }) result ≡ line_at rows.now row }
+    }) result ≡ line_at table.now.rows.now row }
     ensures form { IfSome result (λ l. (l.outcome.delay ≤ seconds_per_day) × (1 ≤ l.outcome.weight)) }
 {
+    let DelayRows { rows, columns } = *table;
     let class = rows.field_at(row, columns.class);
     let delay = rows.field_at(row, columns.delay);
     let weight = rows.field_at(row, columns.weight);

@@ -3,10 +3,9 @@ ghost use Rattle.std.specs.Prelude.{◌≡◌, ◌+◌, ◌<◌, length, None, I
 ghost use Rattle.delay_table.specs.Delays.{others};
 ghost use Rattle.delay_table.specs.Groups.{group_place, numbered_route, routes_of, with_route};
 ghost use Rattle.delay_table.specs.Numbered.{IsNumber, IsNumbering};
-ghost use Rattle.delay_table.specs.Read.{AreApart};
 
-use crate::groups::Groups;
 use crate::numbered::{NumberedGroup, NumberedGroups};
+use crate::reading::ReadRows;
 use plan_model::{HashKey, NoMemory, TextList};
 use std::alloc::Global;
 use std::marker::Model;
@@ -40,20 +39,19 @@ fn number_of<'a>(
 
 /// Adds the group at a place, where it names a route or an hour.
 fn add_other<'a>(
-    groups: &Groups<'a>,
+    read: &ReadRows<'a>,
     place: usize,
     numbering: &mut Numbering<'a>,
 ) -> Result<(), NoMemory>
-    requires place { place < length groups.now }
-    requires apart { AreApart groups.now }
-    requires made { IsNumbering numbering.old.routes numbering.old.groups (others groups.now place) }
+    requires place { place < length read.now.groups }
+    requires made { IsNumbering numbering.old.routes numbering.old.groups (others read.now.groups place) }
     ensures { OnOk result (IsNumbering numbering.new.routes numbering.new.groups
-        (others groups.now (place + 1))) }
+        (others read.now.groups (place + 1))) }
 {
-    if groups.is_plain(place) {
+    if read.groups.is_plain(place) {
         return Ok(());
     }
-    let group = groups.at(place);
+    let group = read.groups.at(place);
     let route = number_of(&mut numbering.routes, group.route)?;
     numbering.groups.add(NumberedGroup {
         class: group.class,
@@ -66,18 +64,17 @@ fn add_other<'a>(
 fn numbering_of<'a>(
     alloc: Global,
     key: HashKey,
-    groups: &Groups<'a>,
+    read: &ReadRows<'a>,
 ) -> Result<Numbering<'a>, NoMemory>
-    requires { AreApart groups.now }
     ensures { IfOk result (λ n. IsNumbering n.routes n.groups
-        (others groups.now (length groups.now))) }
+        (others read.now.groups (length read.now.groups))) }
 {
     let mut numbering = Numbering {
         routes: TextIndex::new(alloc, key),
         groups: NumberedGroups::with_key(alloc, key),
     };
-    for place in 0..groups.len() {
-        add_other(groups, place, &mut numbering)?;
+    for place in 0..read.groups.len() {
+        add_other(read, place, &mut numbering)?;
     }
     Ok(numbering)
 }
@@ -116,12 +113,11 @@ impl OtherGroups {
     pub(crate) fn of(
         alloc: Global,
         key: HashKey,
-        groups: &Groups<'_>,
+        read: &ReadRows<'_>,
     ) -> Result<OtherGroups, NoMemory>
-        requires { AreApart groups.now }
-        ensures { IfOk result (λ them. them ≡ others groups.now (length groups.now)) }
+        ensures { IfOk result (λ them. them ≡ others read.now.groups (length read.now.groups)) }
     {
-        let Numbering { routes, groups } = numbering_of(alloc, key, groups)?;
+        let Numbering { routes, groups } = numbering_of(alloc, key, read)?;
         let routes = routes.list(alloc)?;
         Ok(OtherGroups { routes, groups })
     }

@@ -4,13 +4,11 @@ ghost use Rattle.csv_rows.specs.First.{first_below};
 ghost use Rattle.csv_rows.specs.Tables.{row_count};
 ghost use Rattle.delay_table.specs.Groups.{group_in, of_class, group_place};
 ghost use Rattle.delay_table.specs.Delays.{fault_after, line_fault, line_with, too_many};
-ghost use Rattle.delay_table.specs.DelayColumns.{AreColumns};
 ghost use Rattle.delay_table.specs.Read.{AddsRow, IsPushed, IsRead, IsReadTo, line_at, group_rows_at, read_outcomes};
 
 use crate::faults::DelayFault;
 use crate::groups::{Groups, LineGroup};
-use crate::lines::{Columns, DelayLine, class_name, line_at};
-use csv_rows::Rows;
+use crate::lines::{DelayLine, DelayRows, class_name, line_at};
 use plan_model::{List, Outcome};
 use std::alloc::Global;
 
@@ -24,11 +22,19 @@ pub(crate) struct GroupRows {
     pub(crate) outcomes: List<Outcome>,
 }
 
-/// The groups in the order of their first rows, and the outcomes of each.
+/// The groups in the order of their first rows, and the outcomes of each, as far as the rows are read.
+#[derive(Drop)]
+struct Reading<'a> {
+    groups: Groups<'a>,
+    rows: Vec<GroupRows>,
+}
+
+/// The groups of all rows in the order of their first rows, and the outcomes of each.
 #[derive(Drop)]
 pub(crate) struct ReadRows<'a> {
     pub(crate) groups: Groups<'a>,
     pub(crate) rows: Vec<GroupRows>,
+    pub(crate) ghost read: { IsRead groups rows.items },
 }
 
 /// The fault of a 65th row of a group.
@@ -71,7 +77,7 @@ fn outcomes_at(rows: &[GroupRows], place: usize) -> &[Outcome]
     rows[place].outcomes.as_slice()
 }
 
-impl<'a> ReadRows<'a> {
+impl<'a> Reading<'a> {
     /// Adds a row to those of a group that is there.
     fn push(&mut self, place: usize, line: &DelayLine<'_>, number: u64) -> Result<(), DelayFault>
         requires { place < length self.old.rows.items }
@@ -147,27 +153,26 @@ impl<'a> ReadRows<'a> {
     fn add_line(
         &mut self,
         alloc: Global,
-        rows: &'a Rows,
+        table: &DelayRows<'a>,
         row: usize,
-        columns: &Columns,
     ) -> Result<(), DelayFault>
-        requires row { row < row_count rows.now }
-        requires columns { AreColumns rows.now columns.now }
-        requires read { IsReadTo rows.now row self.old.groups self.old.rows.items }
-        ensures none { OnOk result (line_fault rows.now row ≡ None) }
-        ensures read { OnOk result (IsReadTo rows.now (row + 1) self.new.groups self.new.rows.items) }
-        ensures err { IfErr result (λ f. f ≢ DelayFault.NoMemory → line_fault rows.now row ≡ Some f) }
+        requires row { row < row_count table.now.rows.now }
+        requires read { IsReadTo table.now.rows.now row self.old.groups self.old.rows.items }
+        ensures none { OnOk result (line_fault table.now.rows.now row ≡ None) }
+        ensures read { OnOk result (IsReadTo table.now.rows.now (row + 1) self.new.groups self.new.rows.items) }
+        ensures err { IfErr result (λ f. f ≢ DelayFault.NoMemory → line_fault table.now.rows.now row ≡ Some f) }
     {
-        let number = rows.line(row);
-        let Some(line) = line_at(rows, row, columns) else {
+        let number = table.rows.line(row);
+        let Some(line) = line_at(table, row) else {
             return Err(DelayFault::BadField(number));
         };
         self.add(alloc, &line, number)
     }
+}
 
+impl<'a> ReadRows<'a> {
     /// The outcomes of a class alone, none where it is not named.
     pub(crate) fn class_rows(&self, class: Option<u16>) -> &[Outcome]
-        requires { length self.now.rows.items ≡ length self.now.groups }
         ensures { result.now ≡ read_outcomes self.now.groups self.now.rows.items (of_class class) }
     {
         match self.groups.class_place(class) {
@@ -178,8 +183,7 @@ impl<'a> ReadRows<'a> {
 
     /// The outcomes of the group at a place.
     pub(crate) fn group_rows(&self, place: usize) -> &[Outcome]
-        requires place { place < length self.now.groups }
-        requires read { IsRead self.now.groups self.now.rows.items }
+        requires { place < length self.now.groups }
         ensures { result.now ≡ read_outcomes self.now.groups self.now.rows.items (group_in self.now.groups place) }
     {
         outcomes_at(self.rows.as_slice(), place)
@@ -187,7 +191,7 @@ impl<'a> ReadRows<'a> {
 
     /// The line where the group at a place begins.
     pub(crate) fn line(&self, place: usize) -> u64
-        requires { place < length self.now.rows.items }
+        requires { place < length self.now.groups }
         ensures { result ≡ line_at self.now.rows.items place }
     {
         self.rows[place].line
@@ -197,22 +201,21 @@ impl<'a> ReadRows<'a> {
 /// The outcomes of each group.
 pub(crate) fn read_rows<'a>(
     alloc: Global,
-    rows: &'a Rows,
-    columns: &Columns,
+    table: &DelayRows<'a>,
 ) -> Result<ReadRows<'a>, DelayFault>
-    requires { AreColumns rows.now columns.now }
-    ensures none { OnOk result (first_below (line_fault rows.now) (row_count rows.now) ≡ None) }
+    ensures none { OnOk result (first_below (line_fault table.now.rows.now) (row_count table.now.rows.now) ≡ None) }
     ensures read { IfOk result (λ read.
-        IsReadTo rows.now (row_count rows.now) read.groups read.rows.items) }
+        IsReadTo table.now.rows.now (row_count table.now.rows.now) read.groups read.rows.items) }
     ensures err { IfErr result (λ f. f ≢ DelayFault.NoMemory
-        → first_below (line_fault rows.now) (row_count rows.now) ≡ Some f) }
+        → first_below (line_fault table.now.rows.now) (row_count table.now.rows.now) ≡ Some f) }
 {
-    let mut read = ReadRows {
-        groups: Groups::with_key(alloc, rows.key()),
+    let mut reading = Reading {
+        groups: Groups::with_key(alloc, table.rows.key()),
         rows: Vec::new(alloc),
     };
-    for i in 0..rows.count() {
-        read.add_line(alloc, rows, i, columns)?;
+    for i in 0..table.rows.count() {
+        reading.add_line(alloc, table, i)?;
     }
-    Ok(read)
+    let Reading { groups, rows } = reading;
+    Ok(ReadRows { groups, rows })
 }

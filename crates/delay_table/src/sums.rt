@@ -3,7 +3,7 @@ ghost use Rattle.std.specs.Prelude.{◌≡◌, ◌<◌, ◌≤◌, length, sum_b
 ghost use Rattle.csv_rows.specs.First.{first_below};
 ghost use Rattle.delay_table.specs.DelayBounds.{end_of_types, most_rows};
 ghost use Rattle.delay_table.specs.Delays.{class_sum, group_sum_at, groups_fault, route_types_below, no_default_of, other_sum, too_many_classes, type_sum_at};
-ghost use Rattle.delay_table.specs.Read.{IsRead, line_at, read_outcomes};
+ghost use Rattle.delay_table.specs.Read.{line_at, read_outcomes};
 
 use crate::faults::DelayFault;
 use crate::lines::class_name;
@@ -45,7 +45,6 @@ fn other_sum(row: &[Outcome]) -> Option<u32>
 
 /// The fault of a class alone.
 fn class_sum(read: &ReadRows<'_>, class: Option<u16>) -> Option<DelayFault>
-    requires { IsRead read.now.groups read.now.rows.items }
     ensures { result ≡ class_sum (read_outcomes read.now.groups read.now.rows.items) class }
 {
     match other_sum(read.class_rows(class)) {
@@ -56,7 +55,6 @@ fn class_sum(read: &ReadRows<'_>, class: Option<u16>) -> Option<DelayFault>
 
 /// The first fault of these route types.
 fn type_fault(read: &ReadRows<'_>, types: &[u16]) -> Option<DelayFault>
-    requires { IsRead read.now.groups read.now.rows.items }
     ensures { result ≡ first_below (type_sum_at (read_outcomes read.now.groups read.now.rows.items) types.now)
         (length types.now) }
 {
@@ -70,8 +68,7 @@ fn type_fault(read: &ReadRows<'_>, types: &[u16]) -> Option<DelayFault>
 
 /// The fault of a group, if it names a route or an hour.
 fn group_sum(read: &ReadRows<'_>, place: usize) -> Option<DelayFault>
-    requires place { place < length read.now.groups }
-    requires read { IsRead read.now.groups read.now.rows.items }
+    requires { place < length read.now.groups }
     ensures { result ≡ group_sum_at (read_outcomes read.now.groups read.now.rows.items)
         read.now.groups (line_at read.now.rows.items) place }
 {
@@ -87,7 +84,6 @@ fn group_sum(read: &ReadRows<'_>, place: usize) -> Option<DelayFault>
 
 /// The first fault of the groups that name a route or an hour.
 fn group_fault(read: &ReadRows<'_>) -> Option<DelayFault>
-    requires { IsRead read.now.groups read.now.rows.items }
     ensures { result ≡ first_below (group_sum_at (read_outcomes read.now.groups read.now.rows.items)
         read.now.groups (line_at read.now.rows.items)) (length read.now.groups) }
 {
@@ -121,8 +117,7 @@ fn too_many(count: u64) -> Option<DelayFault>
 
 /// The first fault of the groups, where these are the route types that are named.
 pub(crate) fn groups_fault(read: &ReadRows<'_>, types: &[u16]) -> Option<DelayFault>
-    requires read { IsRead read.now.groups read.now.rows.items }
-    requires types { types.now ≡ route_types_below (read_outcomes read.now.groups read.now.rows.items) end_of_types }
+    requires { types.now ≡ route_types_below (read_outcomes read.now.groups read.now.rows.items) end_of_types }
     ensures { result ≡ groups_fault (read_outcomes read.now.groups read.now.rows.items)
         read.now.groups (line_at read.now.rows.items) }
 {

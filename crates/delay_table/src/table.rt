@@ -4,11 +4,11 @@ ghost use Rattle.delay_table.specs.DelayLists.{class_at, class_for, hour_of, oth
 ghost use Rattle.delay_table.specs.DelayBounds.{end_of_types, most_groups};
 ghost use Rattle.delay_table.specs.Delays.{class_rows, class_type, delays_in, delays_of, first_delay_fault, groups_fault, groups_of, if_other, route_types_below, others, type_rows};
 ghost use Rattle.delay_table.specs.Groups.{group_in, numbered_route, plain_types, routes_of};
-ghost use Rattle.delay_table.specs.Read.{IsRead, line_at, read_outcomes};
+ghost use Rattle.delay_table.specs.Read.{line_at, read_outcomes};
 ghost use Rattle.delay_table.specs.Slots.{IsClassOf, AreDelays};
 
 use crate::faults::{ClassName, DelayFault};
-use crate::lines::{columns_of, missing_column};
+use crate::lines::{DelayRows, columns_of, missing_column};
 use crate::other_groups::OtherGroups;
 use crate::reading::{ReadRows, read_rows};
 use crate::sums::groups_fault;
@@ -63,7 +63,6 @@ fn add_types(
     types: &[u16],
     classes: &mut List<List<Outcome>>,
 ) -> Result<(), NoMemory>
-    requires { IsRead read.now.groups read.now.rows.items }
     ensures { OnOk result (classes.new
         ≡ classes.old ++ map (type_rows (read_outcomes read.now.groups read.now.rows.items)) types.now) }
 {
@@ -80,7 +79,6 @@ fn type_classes(
     read: &ReadRows<'_>,
     types: &[u16],
 ) -> Result<List<List<Outcome>>, NoMemory>
-    requires { IsRead read.now.groups read.now.rows.items }
     ensures { IfOk result (λ classes. classes
         ≡ class_rows (read_outcomes read.now.groups read.now.rows.items) None
         ∷ map (type_rows (read_outcomes read.now.groups read.now.rows.items)) types.now) }
@@ -99,8 +97,7 @@ fn add_other(
     place: usize,
     classes: &mut List<List<Outcome>>,
 ) -> Result<(), NoMemory>
-    requires place { place < length read.now.groups }
-    requires read { IsRead read.now.groups read.now.rows.items }
+    requires { place < length read.now.groups }
     ensures { OnOk result (classes.new ≡ classes.old
         ++ if_other (group_in read.now.groups place)
         (read_outcomes read.now.groups read.now.rows.items (group_in read.now.groups place))) }
@@ -118,7 +115,6 @@ fn add_others(
     read: &ReadRows<'_>,
     classes: &mut List<List<Outcome>>,
 ) -> Result<(), NoMemory>
-    requires { IsRead read.now.groups read.now.rows.items }
     ensures { OnOk result (classes.new ≡ classes.old
         ++ map (read_outcomes read.now.groups read.now.rows.items)
         (others read.now.groups (length read.now.groups))) }
@@ -136,7 +132,6 @@ fn delays_in(
     read: &ReadRows<'_>,
     types: Vec<u16>,
 ) -> Result<DelayTable, NoMemory>
-    requires read { IsRead read.now.groups read.now.rows.items }
     requires types { types.items ≡ route_types_below (read_outcomes read.now.groups read.now.rows.items) end_of_types }
     requires size { length types.items
         ≡ length (plain_types read.now.groups (length read.now.groups)) }
@@ -149,7 +144,7 @@ fn delays_in(
 {
     let mut classes = type_classes(alloc, read, types.as_slice())?;
     add_others(alloc, read, &mut classes)?;
-    let others = OtherGroups::of(alloc, key, &read.groups)?;
+    let others = OtherGroups::of(alloc, key, read)?;
     Ok(DelayTable {
         types: List::from_vec(types),
         others,
@@ -159,7 +154,6 @@ fn delays_in(
 
 /// The table of these outcomes, or the first fault of their groups.
 fn table_of(alloc: Global, key: HashKey, read: &ReadRows<'_>) -> Result<DelayTable, DelayFault>
-    requires { IsRead read.now.groups read.now.rows.items }
     ensures table { IfOk result (λ table.
         table ≡ delays_in (read_outcomes read.now.groups read.now.rows.items) read.now.groups) }
     ensures sound { IfOk result (λ table. AreDelays table) }
@@ -220,7 +214,8 @@ impl DelayTable {
         if let Some(fault) = missing_column(rows) {
             return Err(fault);
         }
-        let read = read_rows(alloc, rows, &columns_of(rows))?;
+        let columns = columns_of(rows);
+        let read = read_rows(alloc, &DelayRows { rows, columns })?;
         table_of(alloc, rows.key(), &read)
     }
 

@@ -3,7 +3,7 @@ ghost use Rattle.std.specs.Prelude.{◌≡◌, ◌<◌, ◌++◌, length, OnOk, 
 ghost use Rattle.delay_table.specs.DelayBounds.{end_of_types};
 ghost use Rattle.delay_table.specs.Delays.{route_types_below};
 ghost use Rattle.delay_table.specs.Groups.{group_in, listed, plain_type, plain_types};
-ghost use Rattle.delay_table.specs.Read.{IsRead, read_outcomes};
+ghost use Rattle.delay_table.specs.Read.{read_outcomes};
 
 use crate::groups::Groups;
 use crate::reading::ReadRows;
@@ -35,7 +35,6 @@ fn plain_types(alloc: Global, groups: &Groups<'_>) -> Result<Vec<u16>, NoMemory>
 
 /// The route types that are named, rising.
 pub(crate) fn named_types(alloc: Global, read: &ReadRows<'_>) -> Result<Vec<u16>, NoMemory>
-    requires { IsRead read.now.groups read.now.rows.items }
     ensures named { IfOk result (λ types. types.items
         ≡ route_types_below (read_outcomes read.now.groups read.now.rows.items) end_of_types) }
     ensures size { IfOk result (λ types. length types.items

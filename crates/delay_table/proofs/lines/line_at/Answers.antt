@@ -6,10 +6,10 @@ use Rattle.delay_table.proofs.lines.line_at.Goals as goal
 
 pub returns-clause-line : goal.returns-clause-line
 returns-clause-line c =
-    let t = c.args.rows.now in
+    let t = c.args.table.now.rows.now in
     let i = c.args.row in
-    let col = c.args.columns.now in
-    let r = c.requires.columns in
+    let col = c.args.table.now.columns in
+    let r = c.args.table.now.are in
     c.read_line.ensures
     ∙ line_here t i c.field_at-class.result.now c.field_at-delay.result.now c.field_at-weight.result.now c.field_at-route.result.now c.field_at-hour.result.now
     (field_is t i c.field_at-class.result.now col.class (place_of Class t) c.field_at-class.ensures r.class)

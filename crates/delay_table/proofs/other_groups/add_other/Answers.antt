@@ -11,20 +11,20 @@ pub returns-then-is_plain : goal.returns-then-is_plain
 returns-then-is_plain c =
     let m = c.args.numbering.now in
     let P : List Group → Type 0 = λ gs. IsNumbering m.routes m.groups gs in
-    subst P (sym (others-plain c.args.groups.now c.args.place (sym c.is_plain.ensures ∙ c.if-is_plain.true))) c.requires.made
+    subst P (sym (others-plain c.args.read.now.groups c.args.place (sym c.is_plain.ensures ∙ c.if-is_plain.true))) c.requires.made
 
 pub add-requires : goal.add-requires
 add-requires c =
-    let g = c.args.groups.now in
+    let g = c.args.read.now.groups in
     let m = c.args.numbering.now in
     let n = c.in_ok-route.ensures in
     let before = others g c.args.place in
     numbering-new m.routes m.groups before c.requires.made (line_group c.at-group.result) c.in_ok-route.route c.number_of.new.routes n.routes n.number
-    (ap (λ x. group_place x before) c.at-group.ensures ∙ others-new g c.requires.apart c.args.place c.requires.place)
+    (ap (λ x. group_place x before) c.at-group.ensures ∙ others-new g c.args.read.now.read.apart c.args.place c.requires.place)
 
 pub returns : goal.returns
 returns c =
-    let g = c.args.groups.now in
+    let g = c.args.read.now.groups in
     let m = c.args.numbering.now in
     let n = c.in_ok-route.ensures in
     let before = others g c.args.place in

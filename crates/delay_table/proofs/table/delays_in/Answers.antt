@@ -23,10 +23,10 @@ invariant_of-result c =
     let g = c.args.read.now.groups in
     let P : ℕ → Type 0 = λ n. n ≡ length (plain_types g (length g)) in
     subst AreDelays (sym (returns-clause-table c))
-    (delays_valid g c.args.read.now.rows.items c.requires.read c.requires.sound (subst P (ap length c.requires.types) c.requires.size))
+    (delays_valid g c.args.read.now.rows.items c.args.read.now.read c.requires.sound (subst P (ap length c.requires.types) c.requires.size))
 
 pub returns-clause-size : goal.returns-clause-size
 returns-clause-size c =
     let g = c.args.read.now.groups in
     let P : ℕ → Type 0 = λ n. n ≡ length (plain_types g (length g)) in
-    classes-are g c.args.read.now.rows.items c.requires.read c.requires.sound (subst P (ap length c.requires.types) c.requires.size)
+    classes-are g c.args.read.now.rows.items c.args.read.now.read c.requires.sound (subst P (ap length c.requires.types) c.requires.size)

@@ -17,4 +17,4 @@ returns-in-None c = rows-new c.args.self.now.groups c.args.self.now.rows.items (
 pub outcomes_at-requires : goal.outcomes_at-requires
 outcomes_at-requires c =
     let here = group-here (of_class c.args.class) c.args.self.now.groups c.in-Some.place (sym c.in-Some.ensures) in
-    omega (arith, here.0, c.requires, ap length c.as_slice.ensures.value)
+    omega (arith, here.0, c.args.self.now.read.size, ap length c.as_slice.ensures.value)

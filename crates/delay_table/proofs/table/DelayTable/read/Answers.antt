@@ -5,7 +5,7 @@ use Rattle.delay_table.specs.DelayBounds.{most_groups}
 use Rattle.delay_table.specs.DelayLists.{DelayLists}
 use Rattle.delay_table.specs.Delays.{delays_of}
 use Rattle.delay_table.proofs.Counted.{column-other, lines-other}
-use Rattle.delay_table.proofs.Sound.{column-first, line-first, fault-same, is-read, delays-same, groups-count}
+use Rattle.delay_table.proofs.Sound.{column-first, line-first, fault-same, delays-same, groups-count}
 use Rattle.delay_table.proofs.table.DelayTable.read.Goals as goal
 
 pub returns-in-Some-clause-fault : goal.returns-in-Some-clause-fault
@@ -22,9 +22,6 @@ pub returns-in_err-read-clause-count : goal.returns-in_err-read-clause-count
 returns-in_err-read-clause-count c = if_raised _ c.from_residual.result c.from_residual.ensures (λ n e.
     let told = c.in_err-read.ensures.err (λ f. let never : TooManyClasses n ≡ NoMemory = sym e ∙ f in absurd (cc)) in
     absurd (lines-other c.args.rows.now n (told ∙ ap Some e)))
-
-pub table_of-requires : goal.table_of-requires
-table_of-requires c = is-read c.args.rows.now c.in_ok-read.read.groups c.in_ok-read.read.rows.items c.in_ok-read.ensures.none c.in_ok-read.ensures.read
 
 pub returns : goal.returns
 returns c =

@@ -6,14 +6,14 @@ use Rattle.delay_table.specs.Delays.{Line, fault_after, line_fault}
 use Rattle.delay_table.specs.Read.{AddsRow, read_outcomes}
 use Rattle.delay_table.proofs.LineFacts.{own_line}
 use Rattle.delay_table.proofs.ReadFacts.{read-next, rows-are, fault_here, bad_here}
-use Rattle.delay_table.proofs.reading.ReadRows.add_line.Goals as goal
+use Rattle.delay_table.proofs.reading.Reading.add_line.Goals as goal
 
 pub returns-in_default-clause-err : goal.returns-in_default-clause-err
-returns-in_default-clause-err c = λ free. bad_here c.args.rows.now c.args.row c.line-number.result c.in_default.ensures.line c.line-number.ensures
+returns-in_default-clause-err c = λ free. bad_here c.args.table.now.rows.now c.args.row c.line-number.result c.in_default.ensures.line c.line-number.ensures
 
 pub returns : goal.returns
 returns c =
-    let t = c.args.rows.now in
+    let t = c.args.table.now.rows.now in
     let i = c.args.row in
     let line : Line = own_line c.in-Some.line in
     let groups = c.args.self.now.groups in

@@ -4,7 +4,7 @@ use Rattle.delay_table.specs.declared.faults.DelayFault.TheVariants.{NoMemory}
 use Rattle.delay_table.specs.Delays.{Line, fault_after, line_with}
 use Rattle.delay_table.proofs.GroupFacts.{group-here}
 use Rattle.delay_table.proofs.ReadFacts.{rows-known, rows-new, first-none}
-use Rattle.delay_table.proofs.reading.ReadRows.add.Goals as goal
+use Rattle.delay_table.proofs.reading.Reading.add.Goals as goal
 
 pub returns-in-Some-clause-none : goal.returns-in-Some-clause-none
 returns-in-Some-clause-none c =
