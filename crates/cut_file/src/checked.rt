@@ -7,7 +7,7 @@ ghost use Rattle.cut_file.specs.Read.{IsRead};
 
 use crate::faults::CutFault;
 use crate::order::{run_fault, sorted_keys};
-use crate::rows::{Columns, CutRow, NumberedRows, columns_of, read_rows};
+use crate::rows::{Columns, CutRow, CutRows, NumberedRows, columns_of, read_rows};
 use csv_rows::{Column, Key, Limits, Rows};
 use std::alloc::Global;
 
@@ -56,7 +56,7 @@ pub(crate) fn read_checked(alloc: Global, rows: &Rows, limits: &Limits) -> Resul
     if limits.cut_rows < count {
         return Err(CutFault::TooManyRows(count));
     }
-    let cut = read_rows(alloc, rows, &columns)?;
+    let cut = read_rows(alloc, &CutRows { rows, columns })?;
     let keys = match sorted_keys(alloc, cut.rows.as_slice()) {
         Ok(keys) => keys,
         Err(_) => return Err(CutFault::NoMemory),

@@ -71,21 +71,30 @@ pub(crate) fn columns_of(rows: &Rows) -> Columns
     }
 }
 
+/// The rows of a cut file that is not too long, and the places of its columns.
+#[derive(Clone, Copy)]
+pub(crate) struct CutRows<'a> {
+    pub(crate) rows: &'a Rows,
+    pub(crate) columns: Columns,
+    ghost are: { AreColumns rows.now columns },
+    ghost few: { row_count rows.now ≤ 8_388_608 },
+}
+
 /// The fields of a row.
-fn fields_of<'a>(rows: &'a Rows, row: usize, columns: &Columns) -> Fields<'a>
-    requires row { row < row_count rows.now }
-    requires columns { AreColumns rows.now columns.now }
-    ensures run { result.run.now ≡ field rows.now Run row }
-    ensures step { result.step.now ≡ field rows.now Step row }
-    ensures from { result.from.now ≡ field rows.now From row }
-    ensures to { result.to.now ≡ field rows.now To row }
-    ensures dep { result.dep.now ≡ field rows.now Dep row }
-    ensures arr { result.arr.now ≡ field rows.now Arr row }
-    ensures class { result.class.now ≡ field rows.now Class row }
-    ensures board { result.board.now ≡ field rows.now Board row }
-    ensures exit { result.exit.now ≡ field rows.now Exit row }
-    ensures change { result.change.now ≡ field rows.now Change row }
+fn fields_of<'a>(table: &CutRows<'a>, row: usize) -> Fields<'a>
+    requires { row < row_count table.now.rows.now }
+    ensures run { result.run.now ≡ field table.now.rows.now Run row }
+    ensures step { result.step.now ≡ field table.now.rows.now Step row }
+    ensures from { result.from.now ≡ field table.now.rows.now From row }
+    ensures to { result.to.now ≡ field table.now.rows.now To row }
+    ensures dep { result.dep.now ≡ field table.now.rows.now Dep row }
+    ensures arr { result.arr.now ≡ field table.now.rows.now Arr row }
+    ensures class { result.class.now ≡ field table.now.rows.now Class row }
+    ensures board { result.board.now ≡ field table.now.rows.now Board row }
+    ensures exit { result.exit.now ≡ field table.now.rows.now Exit row }
+    ensures change { result.change.now ≡ field table.now.rows.now Change row }
 {
+    let CutRows { rows, columns } = *table;
     Fields {
         run: rows.field_at(row, columns.run),
         step: rows.field_at(row, columns.step),
@@ -101,10 +110,9 @@ fn fields_of<'a>(rows: &'a Rows, row: usize, columns: &Columns) -> Fields<'a>
 }
 
 /// The row at a place, or its first column that is not of its form.
-fn read_row<'a>(rows: &'a Rows, row: usize, columns: &Columns) -> Result<NamedRow<'a>, Column>
-    requires row { row < row_count rows.now }
-    requires columns { AreColumns rows.now columns.now }
-    ensures row { IfOk result (λ r. row_at rows.now row
+fn read_row<'a>(table: &CutRows<'a>, row: usize) -> Result<NamedRow<'a>, Column>
+    requires { row < row_count table.now.rows.now }
+    ensures row { IfOk result (λ r. row_at table.now.rows.now row
         ≡ Ok (record {
           run = r.run.now;
           step = r.step;
@@ -117,9 +125,9 @@ fn read_row<'a>(rows: &'a Rows, row: usize, columns: &Columns) -> Result<NamedRo
           exit = r.exit;
           change = r.change;
         })) }
-    ensures column { IfErr result (λ column. row_at rows.now row ≡ Err column) }
+    ensures column { IfErr result (λ column. row_at table.now.rows.now row ≡ Err column) }
 {
-    match read_fields(fields_of(rows, row, columns)) {
+    match read_fields(fields_of(table, row)) {
         Ok(row) => Ok(row),
         Err(column) => Err(column),
     }
@@ -193,29 +201,26 @@ fn numbered<'a>(
 
 /// Takes the rows, where each is of its form, and the names of their numbers.
 fn take_rows<'a>(
-    rows: &'a Rows,
-    columns: &Columns,
+    table: &CutRows<'a>,
     names: &mut Numbering<'a>,
     cut: &mut Vec<CutRow>,
 ) -> Result<(), CutFault>
-    requires columns { AreColumns rows.now columns.now }
-    requires few { row_count rows.now ≤ 2 ^ 23 }
     requires no_runs { names.old.runs ≡ [] }
     requires no_places { names.old.places ≡ [] }
     requires no_rows { cut.old.items ≡ [] }
-    ensures none { OnOk result (first_below (bad_field rows.now) (row_count rows.now) ≡ None) }
-    ensures size { OnOk result (length cut.new.items ≡ row_count rows.now) }
-    ensures each { OnOk result ((k : ℕ) (d : CutRow) → k < row_count rows.now
-        → IsNumbered names.new.runs names.new.places (row rows.now k) (slice_index_or cut.new.items k d)) }
-    ensures runs { OnOk result (names.new.runs ≡ run_names rows.now (row_count rows.now)) }
-    ensures places { OnOk result (names.new.places ≡ place_names rows.now (row_count rows.now)) }
+    ensures none { OnOk result (first_below (bad_field table.now.rows.now) (row_count table.now.rows.now) ≡ None) }
+    ensures size { OnOk result (length cut.new.items ≡ row_count table.now.rows.now) }
+    ensures each { OnOk result ((k : ℕ) (d : CutRow) → k < row_count table.now.rows.now
+        → IsNumbered names.new.runs names.new.places (row table.now.rows.now k) (slice_index_or cut.new.items k d)) }
+    ensures runs { OnOk result (names.new.runs ≡ run_names table.now.rows.now (row_count table.now.rows.now)) }
+    ensures places { OnOk result (names.new.places ≡ place_names table.now.rows.now (row_count table.now.rows.now)) }
     ensures err { IfErr result (λ f. f ≢ CutFault.NoMemory
-        → first_below (bad_field rows.now) (row_count rows.now) ≡ Some f) }
+        → first_below (bad_field table.now.rows.now) (row_count table.now.rows.now) ≡ Some f) }
 {
     let mut before: Option<CutRow> = None;
-    for i in 0..rows.count() {
-        match read_row(rows, i, columns) {
-            Err(column) => return Err(CutFault::BadField(rows.line(i), column)),
+    for i in 0..table.rows.count() {
+        match read_row(table, i) {
+            Err(column) => return Err(CutFault::BadField(table.rows.line(i), column)),
             Ok(row) => match numbered(names, &row, before) {
                 Err(_) => return Err(CutFault::NoMemory),
                 Ok(row) => match cut.push(row) {
@@ -229,29 +234,24 @@ fn take_rows<'a>(
 }
 
 /// The rows, where each is of its form.
-pub(crate) fn read_rows(
-    alloc: Global,
-    rows: &Rows,
-    columns: &Columns,
-) -> Result<NumberedRows, CutFault>
-    requires columns { AreColumns rows.now columns.now }
-    requires few { row_count rows.now ≤ 2 ^ 23 }
-    ensures none { OnOk result (first_below (bad_field rows.now) (row_count rows.now) ≡ None) }
-    ensures size { IfOk result (λ cut. length cut.rows.items ≡ row_count rows.now) }
-    ensures each { IfOk result (λ cut. (k : ℕ) (d : CutRow) → k < row_count rows.now
-        → IsNumbered cut.names.runs cut.names.places (row rows.now k) (slice_index_or cut.rows.items k d)) }
-    ensures runs { IfOk result (λ cut. cut.names.runs ≡ run_names rows.now (row_count rows.now)) }
-    ensures places { IfOk result (λ cut. cut.names.places ≡ place_names rows.now (row_count rows.now)) }
+pub(crate) fn read_rows(alloc: Global, table: &CutRows<'_>) -> Result<NumberedRows, CutFault>
+    ensures none { OnOk result (first_below (bad_field table.now.rows.now) (row_count table.now.rows.now) ≡ None) }
+    ensures size { IfOk result (λ cut. length cut.rows.items ≡ row_count table.now.rows.now) }
+    ensures each { IfOk result (λ cut. (k : ℕ) (d : CutRow) → k < row_count table.now.rows.now
+        → IsNumbered cut.names.runs cut.names.places (row table.now.rows.now k) (slice_index_or cut.rows.items k d)) }
+    ensures runs { IfOk result (λ cut. cut.names.runs ≡ run_names table.now.rows.now (row_count table.now.rows.now)) }
+    ensures places { IfOk result (λ cut. cut.names.places ≡ place_names table.now.rows.now (row_count table.now.rows.now)) }
     ensures err { IfErr result (λ f. f ≢ CutFault.NoMemory
-        → first_below (bad_field rows.now) (row_count rows.now) ≡ Some f) }
+        → first_below (bad_field table.now.rows.now) (row_count table.now.rows.now) ≡ Some f) }
 {
+    let key = table.rows.key();
     let mut numbering = Numbering {
-        runs: TextIndex::new(alloc, rows.key()),
-        places: TextIndex::new(alloc, rows.key()),
+        runs: TextIndex::new(alloc, key),
+        places: TextIndex::new(alloc, key),
     };
     let mut cut: Vec<CutRow> = Vec::new(alloc);
-    take_rows(rows, columns, &mut numbering, &mut cut)?;
-    match names_of(alloc, rows.key(), &numbering) {
+    take_rows(table, &mut numbering, &mut cut)?;
+    match names_of(alloc, key, &numbering) {
         Ok(names) => Ok(NumberedRows { names, rows: cut }),
         Err(_) => Err(CutFault::NoMemory),
     }

@@ -12,7 +12,7 @@ use Rattle.cut_file.proofs.rows.take_rows.Goals as goal
 
 pub loop-i-init : goal.loop-i-init
 loop-i-init c =
-    let t = c.args.rows.now in
+    let t = c.args.table.now.rows.now in
     record {
       none = first-zero (bad_field t);
       size = ap length c.requires.no_rows;
@@ -27,13 +27,13 @@ loop-i-init c =
 
 pub returns-in-Err-clause-err : goal.returns-in-Err-clause-err
 returns-in-Err-clause-err c = λ free.
-    let t = c.args.rows.now in
+    let t = c.args.table.now.rows.now in
     first-at (bad_field t) c.loop-i.i (row_count t) (BadField c.line.result c.in-Err.column) (omega arith) c.loop-i.invariant.none
     (bad_here t c.loop-i.i c.in-Err.column c.in-Err.ensures.column ∙ ap (λ n. Some (BadField n c.in-Err.column)) (sym c.line.ensures))
 
 pub loop-i-preserved : goal.loop-i-preserved
 loop-i-preserved c =
-    let t = c.args.rows.now in
+    let t = c.args.table.now.rows.now in
     let i = c.loop-i.i in
     let x = c.in-Ok.row in
     let r : Row = record { run = x.run.now; step = x.step; from = x.from.now; to = x.to.now; dep = x.dep; arr = x.arr; class = x.class; board = x.board; exit = x.exit; change = x.change } in

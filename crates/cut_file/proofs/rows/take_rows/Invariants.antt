@@ -7,11 +7,11 @@ use Rattle.cut_file.proofs.rows.take_rows.Given as goal
 
 abbrev pub invariant-loop-i : goal.invariant-loop-i
 invariant-loop-i l = record {
-  none : first_below (bad_field l.rows) l.i ≡ None;
+  none : first_below (bad_field l.table.rows.now) l.i ≡ None;
   size : length l.cut.items ≡ l.i;
-  each : (k : ℕ) (d : CutRow) → k < l.i → IsNumbered l.names.runs l.names.places (row l.rows k) (slice_index_or l.cut.items k d);
-  runs : l.names.runs ≡ run_names l.rows l.i;
-  places : l.names.places ≡ place_names l.rows l.i;
+  each : (k : ℕ) (d : CutRow) → k < l.i → IsNumbered l.names.runs l.names.places (row l.table.rows.now k) (slice_index_or l.cut.items k d);
+  runs : l.names.runs ≡ run_names l.table.rows.now l.i;
+  places : l.names.places ≡ place_names l.table.rows.now l.i;
   few_runs : length l.names.runs ≤ l.i;
   few_places : length l.names.places ≤ 2 * l.i;
   run_before : IfSome l.before (λ b. b.run < length l.names.runs);
