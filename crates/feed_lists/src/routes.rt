@@ -1,12 +1,11 @@
 //! The routes of a feed.
-ghost use Rattle.std.specs.Prelude.{◌≡◌, ◌<◌, ◌≤◌, Ok, IfOk};
+ghost use Rattle.std.specs.Prelude.{◌≡◌, ◌<◌, ◌≤◌, Ok, IfOk, length};
 ghost use Rattle.std.specs.Result.{result_err};
 ghost use Rattle.clock_text.specs.Digits.{whole_of};
 ghost use Rattle.csv_rows.specs.declared.feed_tables.Table.TheVariants.{Routes as RoutesTable};
 ghost use Rattle.csv_rows.specs.First.{first_below};
 ghost use Rattle.csv_rows.specs.Tables.{row_count};
 ghost use Rattle.csv_rows.specs.RowFaults.{TellsFirst};
-ghost use Rattle.feed_lists.specs.Lists.{HasRoutes, AreSoundRoutes};
 ghost use Rattle.feed_lists.specs.Routes.{route_columns, route_in, bad_route, route_types, routes_fault};
 
 use clock_text::read_whole;
@@ -19,6 +18,7 @@ pub struct Routes {
     pub ids: Ids,
     /// The route type of each.
     pub types: Vec<u16>,
+    pub ghost typed: { length types.items ≡ length ids },
 }
 
 impl Drop for Routes {
@@ -96,15 +96,19 @@ fn read_types(alloc: Global, rows: &Rows) -> Result<Vec<u16>, FeedFault>
     Ok(types)
 }
 
-/// The routes of a table, or the first of its faults.
-pub(crate) fn read_routes(alloc: Global, rows: &Rows) -> Result<Routes, FeedFault>
-    requires { row_count rows.now ≤ 65536 }
-    ensures routes { IfOk result (HasRoutes (Ok rows.now)) }
-    ensures sound { IfOk result AreSoundRoutes }
-    ensures tells { TellsFirst RoutesTable (routes_fault rows.now) result }
-{
-    check_columns(rows, Table::Routes, &[Column::RouteId, Column::RouteType])?;
-    let types = read_types(alloc, rows)?;
-    let ids = read_ids(alloc, rows, Table::Routes, Column::RouteId)?;
-    Ok(Routes { ids, types })
+impl Routes {
+    ghost use Rattle.feed_lists.specs.Lists.{HasRoutes, AreSoundRoutes};
+
+    /// The routes of a table, or the first of its faults.
+    pub(crate) fn read(alloc: Global, rows: &Rows) -> Result<Routes, FeedFault>
+        requires { row_count rows.now ≤ 65536 }
+        ensures routes { IfOk result (HasRoutes (Ok rows.now)) }
+        ensures sound { IfOk result AreSoundRoutes }
+        ensures tells { TellsFirst RoutesTable (routes_fault rows.now) result }
+    {
+        check_columns(rows, Table::Routes, &[Column::RouteId, Column::RouteType])?;
+        let types = read_types(alloc, rows)?;
+        let ids = read_ids(alloc, rows, Table::Routes, Column::RouteId)?;
+        Ok(Routes { ids, types })
+    }
 }

@@ -1,11 +1,10 @@
 //! The stops of a feed.
-ghost use Rattle.std.specs.Prelude.{◌≡◌, ◌<◌, ◌≤◌, None, Ok, IfOk};
+ghost use Rattle.std.specs.Prelude.{◌≡◌, ◌<◌, ◌≤◌, None, Ok, IfOk, length};
 ghost use Rattle.std.specs.Result.{result_err};
 ghost use Rattle.csv_rows.specs.declared.feed_tables.Table.TheVariants.{Stops as StopsTable};
 ghost use Rattle.csv_rows.specs.First.{first_below};
 ghost use Rattle.csv_rows.specs.RowFaults.{TellsFirst};
 ghost use Rattle.csv_rows.specs.Tables.{row_count};
-ghost use Rattle.feed_lists.specs.Lists.{HasStops, AreSoundStops};
 ghost use Rattle.feed_lists.specs.Stops.{stop_columns, stop_in, bad_stop, parent_in_row, stop_ids, place_fault, unknown_parent, place_from, stop_places, stops_fault};
 ghost use Rattle.feed_lists.specs.ListBounds.{most_stops};
 
@@ -20,6 +19,7 @@ pub struct Stops {
     pub ids: Ids,
     /// The number of the place of each: that of its parent station, or its own.
     pub places: Vec<u32>,
+    pub ghost placed: { length places.items ≡ length ids },
 }
 
 impl Drop for Stops {
@@ -132,16 +132,20 @@ fn read_places(alloc: Global, rows: &Rows, ids: &Ids) -> Result<Vec<u32>, FeedFa
     Ok(places)
 }
 
-/// The stops of a table, or the first of its faults.
-pub(crate) fn read_stops(alloc: Global, rows: &Rows) -> Result<Stops, FeedFault>
-    requires { row_count rows.now ≤ most_stops }
-    ensures stops { IfOk result (HasStops (Ok rows.now)) }
-    ensures sound { IfOk result AreSoundStops }
-    ensures tells { TellsFirst StopsTable (stops_fault rows.now) result }
-{
-    check_columns(rows, Table::Stops, &[Column::StopId])?;
-    check_stops(rows)?;
-    let ids = read_ids(alloc, rows, Table::Stops, Column::StopId)?;
-    let places = read_places(alloc, rows, &ids)?;
-    Ok(Stops { ids, places })
+impl Stops {
+    ghost use Rattle.feed_lists.specs.Lists.{HasStops, AreSoundStops};
+
+    /// The stops of a table, or the first of its faults.
+    pub(crate) fn read(alloc: Global, rows: &Rows) -> Result<Stops, FeedFault>
+        requires { row_count rows.now ≤ most_stops }
+        ensures stops { IfOk result (HasStops (Ok rows.now)) }
+        ensures sound { IfOk result AreSoundStops }
+        ensures tells { TellsFirst StopsTable (stops_fault rows.now) result }
+    {
+        check_columns(rows, Table::Stops, &[Column::StopId])?;
+        check_stops(rows)?;
+        let ids = read_ids(alloc, rows, Table::Stops, Column::StopId)?;
+        let places = read_places(alloc, rows, &ids)?;
+        Ok(Stops { ids, places })
+    }
 }

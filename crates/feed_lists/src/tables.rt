@@ -1,12 +1,12 @@
 //! The tables of stops, routes and trips, each loaded and read.
-ghost use Rattle.std.specs.Prelude.{◌≡◌, ◌≢◌, length, None, Err, IfOk, IfErr, IfSome};
+ghost use Rattle.std.specs.Prelude.{◌≡◌, ◌≢◌, None, Err, IfOk, IfErr, IfSome};
 ghost use Rattle.csv_rows.specs.declared.feed_tables.Table.TheVariants.{Stops as StopsTable, Routes as RoutesTable, Trips as TripsTable};
 ghost use Rattle.csv_rows.specs.FeedTables.{unread_of, IsFaultOf};
 ghost use Rattle.table_files.specs.Loading.{HasFeedCauses, load_in};
 ghost use Rattle.feed_lists.specs.Lists.{stops_from, routes_from, trips_from, HasStops, HasRoutes, HasTrips, AreSoundStops, AreSoundRoutes, AreSoundTrips};
 
-use crate::routes::{Routes, read_routes};
-use crate::stops::{Stops, read_stops};
+use crate::routes::Routes;
+use crate::stops::Stops;
 use crate::trips::{Trips, read_trips};
 use csv_rows::{Column, FeedFault, Limits, Table};
 use file_ports::Files;
@@ -29,7 +29,7 @@ pub fn load_stops<F: Files>(
     ensures causes { HasFeedCauses folder.now (F.state files.old) (F.state files.new) result }
 {
     let rows = read_required(alloc, files, folder, Table::Stops, Column::StopId, limits)?;
-    read_stops(alloc, &rows)
+    Stops::read(alloc, &rows)
 }
 
 /// The routes of the feed in this folder, or the first fault of `routes.txt`, as of the stops.
@@ -48,7 +48,7 @@ pub fn load_routes<F: Files>(
     ensures causes { HasFeedCauses folder.now (F.state files.old) (F.state files.new) result }
 {
     let rows = read_required(alloc, files, folder, Table::Routes, Column::RouteId, limits)?;
-    read_routes(alloc, &rows)
+    Routes::read(alloc, &rows)
 }
 
 /// The trips of the feed in this folder, which are of these routes, or the first fault of `trips.txt`, as of the stops.
@@ -59,7 +59,6 @@ pub fn load_trips<F: Files>(
     limits: &Limits,
     routes: &Routes,
 ) -> Result<Trips, FeedFault>
-    requires types { length routes.now.types.items ≡ length routes.now.ids }
     ensures trips { IfSome (F.state files.old).files (λ m. IfOk result (HasTrips routes.now
         (trips_from (load_in m folder.now limits.now None TripsTable) routes.now.ids))) }
     ensures fault { IfSome (F.state files.old).files (λ m. IfErr result (λ f. f ≢ FeedFault.NoMemory

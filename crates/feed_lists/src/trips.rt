@@ -140,7 +140,6 @@ fn add_trip(
 
 /// The service, the route type and the route of each trip, or the first fault of a row.
 fn read_of_trips(alloc: Global, rows: &Rows, routes: &Routes) -> Result<OfTrips, FeedFault>
-    requires { length routes.now.types.items ≡ length routes.now.ids }
     ensures services { IfOk result (λ o. texts o.services.items
         ≡ trip_services routes.now.ids rows.now) }
     ensures types { IfOk result (λ o. o.types.items
@@ -166,8 +165,7 @@ fn read_of_trips(alloc: Global, rows: &Rows, routes: &Routes) -> Result<OfTrips,
 
 /// The trips of a table, or the first of its faults.
 pub(crate) fn read_trips(alloc: Global, rows: &Rows, routes: &Routes) -> Result<Trips, FeedFault>
-    requires few { row_count rows.now ≤ most_trips }
-    requires types { length routes.now.types.items ≡ length routes.now.ids }
+    requires { row_count rows.now ≤ most_trips }
     ensures trips { IfOk result (HasTrips routes.now (Ok rows.now)) }
     ensures sound { IfOk result (AreSoundTrips routes.now) }
     ensures tells { TellsFirst TripsTable (trips_fault routes.now.ids rows.now) result }

@@ -48,7 +48,6 @@ pub(crate) fn load_stop_times<F: Files>(
     trips: &Ids,
     stops: &Stops,
 ) -> Result<StopTimes, FeedFault>
-    requires places { length stops.now.places.items ≡ length stops.now.ids }
     ensures visits { IfSome (F.state files.old).files (λ m. IfOk result (λ v.
         AreVisits trips.now stops.now.ids stops.now.places.items
         (stop_times_from (load_in m folder.now limits.now None StopTimesTable)
@@ -67,13 +66,12 @@ pub(crate) fn load_stop_times<F: Files>(
     ensures causes { HasFeedCauses folder.now (F.state files.old) (F.state files.new) result }
 {
     let text = load_times_text(alloc, files, folder, limits)?;
-    let most = limits.rows_of(Table::StopTimes);
     read_stop_times(
         alloc,
         text,
         trips,
         &stops.ids,
         stops.places.as_slice(),
-        most,
+        limits,
     )
 }

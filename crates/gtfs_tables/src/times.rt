@@ -1,5 +1,5 @@
 //! When the trips of a feed run.
-ghost use Rattle.std.specs.Prelude.{◌≡◌, ◌≢◌, None, Err, IfOk, IfErr, IfSome, length};
+ghost use Rattle.std.specs.Prelude.{◌≡◌, ◌≢◌, None, Err, IfOk, IfErr, IfSome};
 ghost use Rattle.csv_rows.specs.FeedTables.{unread_of};
 ghost use Rattle.table_files.specs.Loading.{HasFeedCauses, load_in};
 ghost use Rattle.gtfs_tables.specs.Feeds.{tables_in, IsFeedTableFault};
@@ -37,7 +37,6 @@ pub(crate) fn load_times<F: Files>(
     limits: &Limits,
     lists: &FeedLists,
 ) -> Result<TripTimes, FeedFault>
-    requires places { length lists.now.stops.places.items ≡ length lists.now.stops.ids }
     ensures times { IfSome (F.state files.old).files (λ m. IfOk result
         (AreTripTimes (load_in m folder.now limits.now None) lists.now)) }
     ensures fault { IfSome (F.state files.old).files (λ m. IfErr result (λ f. f ≢ FeedFault.NoMemory

@@ -179,6 +179,7 @@ pub(crate) struct Named<'a> {
     pub(crate) trips: TextIndex<'a>,
     pub(crate) stops: TextIndex<'a>,
     pub(crate) places: &'a [u32],
+    ghost placed: { length places.now ≡ length stops },
 }
 
 /// A field that names a trip, and the number of that trip.
@@ -266,8 +267,7 @@ pub(crate) fn read_timed_row(
     known: Option<NamedTrip<'_>>,
     expected: u32,
 ) -> Result<TimedRow, FeedFault>
-    requires known { IfSome known (λ k. IsTripOf named.now.trips k.id.now k.trip) }
-    requires places { length named.now.places.now ≡ length named.now.stops }
+    requires { IfSome known (λ k. IsTripOf named.now.trips k.id.now k.trip) }
     ensures row { IfOk result (λ r.
         timed_of named.now.trips named.now.stops named.now.places.now line columns row.now ≡ Ok r) }
     ensures trip { IfOk result (λ r. IsTripOf named.now.trips (field_of row.now columns.trip) r.trip) }

@@ -9,7 +9,6 @@ ghost use Rattle.csv_rows.specs.declared.feed_tables.FeedFault.{FeedFault};
 ghost use Rattle.stop_times.specs.declared.rows.TimedRow.{TimedRow};
 ghost use Rattle.stop_times.specs.Timetables.{stop_times_from};
 ghost use Rattle.stop_times.specs.StopTimes.{columns_of, timed_of, bad_time, counted_fault, timed_rows, order_fault, stop_times_fault, IsKnownIn};
-ghost use Rattle.stop_times.specs.StopTimeBounds.{most_stop_times};
 
 use crate::records::{Record, Records};
 use crate::rows::{
@@ -18,7 +17,7 @@ use crate::rows::{
 };
 use crate::stop_order::StopOrder;
 use crate::stored_row::StoredRow;
-use csv_rows::{Column, FeedFault, Table};
+use csv_rows::{Column, FeedFault, Limits, Table};
 use plan_model::NoMemory;
 use std::alloc::Global;
 
@@ -34,8 +33,7 @@ fn take_row(
     known: &mut KnownTrip,
     order: &mut StopOrder,
 ) -> Result<(), FeedFault>
-    requires known { IsKnownIn named.now.trips known.old }
-    requires places { length named.now.places.now ≡ length named.now.stops }
+    requires { IsKnownIn named.now.trips known.old }
     ensures row { OnOk result ((r : TimedRow) × (timed_of named.now.trips named.now.stops named.now.places.now
         (length timed.old.items + 2) columns row.now ≡ Ok r) × (timed.new.items ≡ timed.old.items ++ r ∷ [])) }
     ensures known { OnOk result (IsKnownIn named.now.trips known.new) }
@@ -107,23 +105,22 @@ fn rows_after(
     row: &mut Record,
     columns: TimeColumns,
     named: &Named<'_>,
-    most: u64,
+    limits: &Limits,
 ) -> Result<Vec<StoredRow>, FeedFault>
-    requires columns { columns ≡ columns_of row.old }
-    requires places { length named.now.places.now ≡ length named.now.stops }
-    requires most { most ≤ most_stop_times }
+    requires { columns ≡ columns_of row.old }
     ensures rows { IfOk result (λ timed. timed.items
         ≡ timed_rows named.now.trips named.now.stops named.now.places.now (row.old ∷ records.old)) }
-    ensures few { IfOk result (λ timed. length timed.items ≤ most) }
+    ensures few { IfOk result (λ timed. length timed.items ≤ limits.now.stop_times) }
     ensures none { OnOk result (first_below
         (bad_time named.now.trips named.now.stops named.now.places.now (row.old ∷ records.old))
         (length records.old) ≡ None) }
-    ensures fault { IfErr result (λ f. f ≢ FeedFault.NoMemory → counted_fault most (length records.old)
+    ensures fault { IfErr result (λ f. f ≢ FeedFault.NoMemory → counted_fault limits.now.stop_times (length records.old)
         (first_below (bad_time named.now.trips named.now.stops named.now.places.now (row.old ∷ records.old))
         (length records.old)) ≡ Some f) }
     ensures content { IfErr result (λ f. unread_of f ≡ None) }
     ensures own { IfErr result (IsFaultOf StopTimesTable) }
 {
+    let most = limits.stop_times;
     let mut timed = room_for(alloc, bytes, most)?;
     let mut known = KnownTrip {
         id: Vec::new(alloc),
@@ -154,19 +151,17 @@ pub(crate) fn read_timed_rows(
     alloc: Global,
     bytes: &[u8],
     named: &Named<'_>,
-    most: u64,
+    limits: &Limits,
 ) -> Result<Vec<StoredRow>, FeedFault>
-    requires places { length named.now.places.now ≡ length named.now.stops }
-    requires most { most ≤ most_stop_times }
     ensures rows { IfOk result (λ timed. timed.items
         ≡ timed_rows named.now.trips named.now.stops named.now.places.now (table_of bytes.now)) }
-    ensures few { IfOk result (λ timed. length timed.items ≤ most) }
+    ensures few { IfOk result (λ timed. length timed.items ≤ limits.now.stop_times) }
     ensures header { OnOk result (0 < length (table_of bytes.now)) }
     ensures rest { OnOk result
         (stop_times_fault named.now.trips named.now.stops named.now.places.now (table_of bytes.now)
         ≡ order_fault (timed_rows named.now.trips named.now.stops named.now.places.now (table_of bytes.now))) }
     ensures fault { IfErr result (λ f. f ≢ FeedFault.NoMemory
-        → stop_times_from (loaded_from StopTimesTable most (table_of bytes.now))
+        → stop_times_from (loaded_from StopTimesTable limits.now.stop_times (table_of bytes.now))
         named.now.trips named.now.stops named.now.places.now ≡ Err f) }
     ensures content { IfErr result (λ f. unread_of f ≡ None) }
     ensures own { IfErr result (IsFaultOf StopTimesTable) }
@@ -180,6 +175,7 @@ pub(crate) fn read_timed_rows(
     }
     let columns = columns_of(&row);
     if let Some(fault) = missing_column(columns) {
+        let most = limits.stop_times;
         return Err(counted_fault(&mut records, &mut row, 0, most, fault));
     }
     rows_after(
@@ -189,6 +185,6 @@ pub(crate) fn read_timed_rows(
         &mut row,
         columns,
         named,
-        most,
+        limits,
     )
 }

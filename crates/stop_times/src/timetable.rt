@@ -19,7 +19,7 @@ use crate::rows::Named;
 use crate::stored_row::StoredRow;
 use crate::table_rows::read_timed_rows;
 use crate::visits::visits_of;
-use csv_rows::{FeedFault, Ids, Key, Table, first_repeat};
+use csv_rows::{FeedFault, Ids, Key, Limits, Table, first_repeat};
 use std::alloc::Global;
 use text_index::TextIndex;
 
@@ -67,18 +67,17 @@ fn rows_of(
     trips: &Ids,
     stops: &Ids,
     places: &[u32],
-    most: u64,
+    limits: &Limits,
 ) -> Result<Vec<StoredRow>, FeedFault>
-    requires places { length places.now ≡ length stops.now }
-    requires most { most ≤ most_stop_times }
+    requires { length places.now ≡ length stops.now }
     ensures rows { IfOk result (λ timed. timed.items
         ≡ timed_rows trips.now stops.now places.now (table_of bytes.now)) }
-    ensures few { IfOk result (λ timed. length timed.items ≤ most) }
+    ensures few { IfOk result (λ timed. length timed.items ≤ limits.now.stop_times) }
     ensures header { OnOk result (0 < length (table_of bytes.now)) }
     ensures rest { OnOk result (stop_times_fault trips.now stops.now places.now (table_of bytes.now)
         ≡ order_fault (timed_rows trips.now stops.now places.now (table_of bytes.now))) }
     ensures fault { IfErr result (λ f. f ≢ FeedFault.NoMemory
-        → stop_times_from (loaded_from StopTimesTable most (table_of bytes.now))
+        → stop_times_from (loaded_from StopTimesTable limits.now.stop_times (table_of bytes.now))
         trips.now stops.now places.now ≡ Err f) }
     ensures content { IfErr result (λ f. unread_of f ≡ None) }
     ensures own { IfErr result (IsFaultOf StopTimesTable) }
@@ -90,11 +89,11 @@ fn rows_of(
         stops: stop_index,
         places,
     };
-    read_timed_rows(alloc, bytes, &named, most)
+    read_timed_rows(alloc, bytes, &named, limits)
 }
 
 /// The kept rows of each trip, in rising order of their sequences, or the first fault of the stop times with this text, which
-/// may have so many rows at most. The text is let go before the rows are put in order, so that both do not stand in memory at
+/// may have so many rows as the limits say. The text is let go before the rows are put in order, so that both do not stand in memory at
 /// once.
 pub fn read_stop_times(
     alloc: Global,
@@ -102,26 +101,25 @@ pub fn read_stop_times(
     trips: &Ids,
     stops: &Ids,
     places: &[u32],
-    most: u64,
+    limits: &Limits,
 ) -> Result<StopTimes, FeedFault>
-    requires most { most ≤ most_stop_times }
-    requires places { length places.now ≡ length stops.now }
+    requires { length places.now ≡ length stops.now }
     ensures few { IfOk result (λ visits. (trip : ℕ) → trip < length trips.now
         → length (slice_index_or visits trip []) ≤ most_stop_times) }
     ensures size { IfOk result (λ visits. length visits ≡ length trips.now) }
     ensures visits { IfOk result (λ visits. AreVisits trips.now stops.now places.now
-        (stop_times_from (loaded_from StopTimesTable most (table_of bytes.items))
+        (stop_times_from (loaded_from StopTimesTable limits.now.stop_times (table_of bytes.items))
         trips.now stops.now places.now) visits) }
     ensures sound { IfOk result (λ visits.
         IsOfSomeTable (stop_times_fault trips.now stops.now places.now)
         (λ t. AreVisits trips.now stops.now places.now (Ok t) visits)) }
     ensures fault { IfErr result (λ f. f ≢ FeedFault.NoMemory
-        → stop_times_from (loaded_from StopTimesTable most (table_of bytes.items))
+        → stop_times_from (loaded_from StopTimesTable limits.now.stop_times (table_of bytes.items))
         trips.now stops.now places.now ≡ Err f) }
     ensures content { IfErr result (λ f. unread_of f ≡ None) }
     ensures own { IfErr result (IsFaultOf StopTimesTable) }
 {
-    let timed = rows_of(alloc, bytes.as_slice(), trips, stops, places, most)?;
+    let timed = rows_of(alloc, bytes.as_slice(), trips, stops, places, limits)?;
     drop(bytes);
     match in_order(alloc, timed.as_slice(), trips.len()) {
         Ok(visits) => Ok(visits),

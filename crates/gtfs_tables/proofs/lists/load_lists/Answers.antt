@@ -26,6 +26,3 @@ returns-clause-lists g c =
 
 pub returns-clause-sound : goal.returns-clause-sound
 returns-clause-sound g c = record { stops = c.in_ok-stops.ensures.sound; routes = c.in_ok-routes.ensures.sound; trips = c.in_ok-trips.ensures.sound }
-
-pub load_trips-requires-clause-types : goal.load_trips-requires-clause-types
-load_trips-requires-clause-types g c = c.in_ok-routes.ensures.sound.types

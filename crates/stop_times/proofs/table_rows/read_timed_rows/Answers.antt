@@ -20,9 +20,9 @@ returns-in-Some-clause-fault c = λ free.
     = fault_of_header trips stops places t c.in-Some.fault (sym (ap missing_time_column c.columns_of-columns.ensures) ∙ sym c.in-Some.ensures.fault) in
     let count : row_count t ≡ 0 + length c.next.new.self = omega arith in
     let some : 0 < length t = omega arith in
-    let P : List (List (List ℕ)) → Type 0 = λ x. stop_times_from (loaded_from StopTimes c.args.most x) trips stops places ≡ Err c.counted_fault.result in
-    subst P all (times_fault trips stops places c.args.most t c.counted_fault.result some
-    (ap (counted_fault c.args.most (row_count t)) first ∙ ap (λ (k : ℕ). counted_fault c.args.most k (Some c.in-Some.fault)) count ∙ c.counted_fault.ensures.fault free))
+    let P : List (List (List ℕ)) → Type 0 = λ x. stop_times_from (loaded_from StopTimes c.args.limits.now.stop_times x) trips stops places ≡ Err c.counted_fault.result in
+    subst P all (times_fault trips stops places c.args.limits.now.stop_times t c.counted_fault.result some
+    (ap (counted_fault c.args.limits.now.stop_times (row_count t)) first ∙ ap (λ (k : ℕ). counted_fault c.args.limits.now.stop_times k (Some c.in-Some.fault)) count ∙ c.counted_fault.ensures.fault free))
 
 pub returns-clause-rest : goal.returns-clause-rest
 returns-clause-rest c =
@@ -50,9 +50,9 @@ returns-clause-fault c =
     let some : 0 < length t = omega arith in
     IfErr-weaker c.rows_after.result _ _
     (λ f h free.
-    let P : List (List (List ℕ)) → Type 0 = λ x. stop_times_from (loaded_from StopTimes c.args.most x) trips stops places ≡ Err f in
-    subst P all (times_fault trips stops places c.args.most t f some
-    (counted_same c.args.most (row_count t) (first_below (bad_time trips stops places t) (row_count t)) (stop_times_fault trips stops places t) f
+    let P : List (List (List ℕ)) → Type 0 = λ x. stop_times_from (loaded_from StopTimes c.args.limits.now.stop_times x) trips stops places ≡ Err f in
+    subst P all (times_fault trips stops places c.args.limits.now.stop_times t f some
+    (counted_same c.args.limits.now.stop_times (row_count t) (first_below (bad_time trips stops places t) (row_count t)) (stop_times_fault trips stops places t) f
     (λ x e. fault_of_row trips stops places t x whole e)
-    (ap (λ (k : ℕ). counted_fault c.args.most k (first_below (bad_time trips stops places t) k)) count ∙ h free))))
+    (ap (λ (k : ℕ). counted_fault c.args.limits.now.stop_times k (first_below (bad_time trips stops places t) k)) count ∙ h free))))
     c.rows_after.ensures.fault

@@ -58,9 +58,9 @@ returns-then-most-taken-clause-fault c = λ free.
     let step = drop-next t (n + 1) c.next.new.fields c.next.new.self [] (c.loop-timed.invariant.left ∙ c.in-Ok-true.ensures.some c.in-Ok-true.field-0-test) in
     let taken : c.len.result ≡ n = omega arith in
     let all : length c.args.records.now ≡ c.len.result + 1 + length c.next.new.self = omega (arith, step.2, taken) in
-    let many : c.args.most < length c.args.records.now = omega (arith, c.if-most-taken.true, all) in
+    let many : c.args.limits.now.stop_times < length c.args.records.now = omega (arith, c.if-most-taken.true, all) in
     let so_far : Option FeedFault = Some (TooManyRows StopTimes (c.len.result + 1)) in
-    counted_many c.args.most (length c.args.records.now) _ so_far many ∙ ap (λ (k : ℕ). counted_fault c.args.most k so_far) all ∙ c.counted_fault.ensures.fault free
+    counted_many c.args.limits.now.stop_times (length c.args.records.now) _ so_far many ∙ ap (λ (k : ℕ). counted_fault c.args.limits.now.stop_times k so_far) all ∙ c.counted_fault.ensures.fault free
 
 pub loop-timed-preserved : goal.loop-timed-preserved
 loop-timed-preserved c =
@@ -74,7 +74,7 @@ loop-timed-preserved c =
     let step = drop-next t (n + 1) c.next.new.fields c.next.new.self [] (c.loop-timed.invariant.left ∙ c.in-Ok-true.ensures.some c.in-Ok-true.field-0-test) in
     let w = c.in-Ok.ensures.row in
     let more : length new ≡ n + 1 = ap length w.2 ∙ length_push old w.0 in
-    let here : timed_at trips stops places t n ≡ Ok w.0 = row_is trips stops places t c.args.columns n c.next.new.fields (Ok w.0) c.requires.columns step.0 w.1 in
+    let here : timed_at trips stops places t n ≡ Ok w.0 = row_is trips stops places t c.args.columns n c.next.new.fields (Ok w.0) c.requires step.0 w.1 in
     let P : ℕ → Type 0 = λ k. new ≡ list_below (λ i. value_or no_row (timed_at trips stops places t i)) k in
     record {
       left = ap (λ (k : ℕ). drop (k + 1) t) more ∙ step.1;
@@ -99,8 +99,8 @@ returns-in-Err-take_row-clause-fault c = λ free.
     let taken : c.len.result ≡ n = omega arith in
     let all : length c.args.records.now ≡ c.len.result + 1 + length c.next.new.self = omega (arith, step.2, taken) in
     let inside : n < length c.args.records.now = omega (arith, all, taken) in
-    counted_row c.args.most (length c.args.records.now) fault c.counted_fault-in-Err-take_row.result
+    counted_row c.args.limits.now.stop_times (length c.args.records.now) fault c.counted_fault-in-Err-take_row.result
     (first_below (bad_time trips stops places t) (length c.args.records.now)) free
     (λ fine. first-at (bad_time trips stops places t) n (length c.args.records.now) fault inside c.loop-timed.invariant.none
-    (ap result_err (row_is trips stops places t c.args.columns n c.next.new.fields (Err fault) c.requires.columns step.0 (c.in-Err-take_row.ensures.fault fine))))
-    (ap (λ (k : ℕ). counted_fault c.args.most k (Some fault)) all ∙ c.counted_fault-in-Err-take_row.ensures.fault free)
+    (ap result_err (row_is trips stops places t c.args.columns n c.next.new.fields (Err fault) c.requires step.0 (c.in-Err-take_row.ensures.fault fine))))
+    (ap (λ (k : ℕ). counted_fault c.args.limits.now.stop_times k (Some fault)) all ∙ c.counted_fault-in-Err-take_row.ensures.fault free)

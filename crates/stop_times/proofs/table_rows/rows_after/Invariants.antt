@@ -9,7 +9,7 @@ abbrev pub invariant-loop-timed : goal.invariant-loop-timed
 invariant-loop-timed l = record {
   left : drop (length l.timed.items + 1) (l.initial.row ∷ l.initial.records) ≡ l.records;
   inside : length l.timed.items ≤ length l.initial.records;
-  few : length l.timed.items ≤ l.most;
+  few : length l.timed.items ≤ l.limits.stop_times;
   rows : l.timed.items ≡ list_below (λ i. value_or no_row (timed_at l.named.trips l.named.stops l.named.places.now (l.initial.row ∷ l.initial.records) i)) (length l.timed.items);
   none : first_below (bad_time l.named.trips l.named.stops l.named.places.now (l.initial.row ∷ l.initial.records)) (length l.timed.items) ≡ None;
   known : IsKnownIn l.named.trips l.known;

@@ -8,14 +8,14 @@ use Rattle.stop_times.proofs.TimeLemmas.{timed_rows_are, order_faulty, order_sou
 use Rattle.stop_times.proofs.timetable.read_stop_times.Goals as goal
 
 pub in_order-requires : goal.in_order-requires
-in_order-requires c = omega (arith, ap length c.as_slice-2.ensures.value, c.in_ok-timed.ensures.few, c.requires.most)
+in_order-requires c = omega (arith, ap length c.as_slice-2.ensures.value, c.in_ok-timed.ensures.few, c.args.limits.now.stop_times_in)
 
 pub returns-in-Ok : goal.returns-in-Ok
 returns-in-Ok c =
     let trips = c.args.trips.now in
     let stops = c.args.stops.now in
     let places = c.args.places.now in
-    let most = c.args.most in
+    let most = c.args.limits.now.stop_times in
     let t = table_of c.as_slice.result.now in
     let rows = c.as_slice-2.result.now in
     let visits = c.in-Ok.visits in
@@ -41,7 +41,7 @@ returns-clause-fault c = λ free.
     let trips = c.args.trips.now in
     let stops = c.args.stops.now in
     let places = c.args.places.now in
-    let most = c.args.most in
+    let most = c.args.limits.now.stop_times in
     let t = table_of c.as_slice.result.now in
     let rows = c.as_slice-2.result.now in
     let same = c.as_slice-2.ensures.value in

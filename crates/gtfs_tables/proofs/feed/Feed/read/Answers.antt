@@ -2,9 +2,6 @@ use Rattle.csv_rows.proofs.FaultLemmas.{some_raised}
 use Rattle.gtfs_tables.proofs.FeedLemmas.{if_same, none_read, fault_after, feed_of_tables, sound_feed}
 use Rattle.gtfs_tables.proofs.feed.Feed.read.Goals as goal
 
-pub load_times-requires-clause-places : goal.load_times-requires-clause-places
-load_times-requires-clause-places g c = c.in_ok-lists.ensures.sound.stops.places
-
 pub returns-in_err-times-clause-fault : goal.returns-in_err-times-clause-fault
 returns-in_err-times-clause-fault g c = some_raised _ _ _ c.from_residual-in_err-times.result c.from_residual-in_err-times.ensures
     (fault_after _ _ _ _ c.in_ok-lists.ensures.lists (if_same _ _ _ c.in_ok-lists.ensures.causes.same c.in_err-times.ensures.fault))

@@ -2,9 +2,9 @@ use Rattle.std.proofs.Common.{arith}
 use Rattle.csv_rows.proofs.FaultLemmas.{match_raised, fault-first, fault-then}
 use Rattle.feed_lists.specs.Routes.{routes_fault}
 use Rattle.csv_rows.proofs.RowLemmas.{or_then}
-use Rattle.csv_rows.proofs.ListLemmas.{same_length}
+use Rattle.csv_rows.proofs.ListLemmas.{same_length, length-list_below}
 use Rattle.feed_lists.proofs.RouteLemmas.{routes_named}
-use Rattle.feed_lists.proofs.routes.read_routes.Goals as goal
+use Rattle.feed_lists.proofs.routes.Routes.read.Goals as goal
 
 pub returns-in_err-check_columns-clause-tells : goal.returns-in_err-check_columns-clause-tells
 unfolding routes_fault
@@ -29,3 +29,6 @@ returns-clause-tells c = or_then _ _ _ c.in_ok-check_columns.ensures (or_then _ 
 
 pub returns-clause-sound : goal.returns-clause-sound
 returns-clause-sound c = grind (arith, returns-clause-tells, same_length)
+
+pub invariant_of-result : goal.invariant_of-result
+invariant_of-result c = record { typed = grind (arith, same_length, length-list_below) }

@@ -4,7 +4,7 @@ use Rattle.feed_lists.specs.Stops.{stops_fault}
 use Rattle.csv_rows.proofs.RowLemmas.{or_then}
 use Rattle.csv_rows.proofs.ListLemmas.{same_length, length-list_below}
 use Rattle.feed_lists.proofs.StopLemmas.{stops_named}
-use Rattle.feed_lists.proofs.stops.read_stops.Goals as goal
+use Rattle.feed_lists.proofs.stops.Stops.read.Goals as goal
 
 pub returns-in_err-check_columns-clause-tells : goal.returns-in_err-check_columns-clause-tells
 unfolding stops_fault
@@ -35,3 +35,6 @@ returns-clause-tells c =
 
 pub returns-clause-sound : goal.returns-clause-sound
 returns-clause-sound c = grind (arith, returns-clause-tells, same_length, length-list_below)
+
+pub invariant_of-result : goal.invariant_of-result
+invariant_of-result c = record { placed = grind (arith, same_length, length-list_below) }
