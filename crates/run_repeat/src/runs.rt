@@ -1,6 +1,5 @@
 //! The runs of a row.
-ghost use Rattle.std.specs.Prelude.{◌≡◌, ◌+◌, ◌<◌, ◌≤◌, ◌≤ℤ◌, ◌<ℤ◌, pos, ℕ};
-ghost use Rattle.stop_times.specs.StopTimeBounds.{end_of_times};
+ghost use Rattle.std.specs.Prelude.{◌≡◌, ◌+◌, ◌<◌, ◌≤◌};
 ghost use Rattle.run_repeat.specs.Runs.{AreBelow, AreTimes, IsRunOf, PassesBefore, PassesUpTo, departure};
 
 use gtfs_tables::FrequencyRow;
@@ -68,8 +67,6 @@ fn passes_up_to(row: &FrequencyRow, offset: u32, moment: i64) -> u32
 pub fn within(row: &FrequencyRow, offset: u32, low: i64, high: i64) -> (u32, u32)
     requires headway { 1 ≤ row.now.headway }
     requires times { AreTimes row.now }
-    requires offset { offset < end_of_times }
-    requires order { low ≤ℤ high }
     ensures before { AreBelow result.0 (λ k. PassesBefore row.now offset low k) }
     ensures up_to { AreBelow result.1 (λ k. PassesUpTo row.now offset high k) }
 {
