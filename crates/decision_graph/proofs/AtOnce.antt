@@ -1,5 +1,5 @@
 -- A journey that is at its target when it begins.
-use Rattle.std.proofs.Common.{◌≡◌, ℕ, ◌≤◌, [], Option, None, true, refl, sym, subst, arith, ◌==◌}
+use Rattle.std.proofs.Common.{◌≡◌, ℕ, ◌<◌, ◌≤◌, [], Option, None, true, refl, sym, subst, arith, ◌==◌}
 use Rattle.std.proofs.lemmas.Bool.Decides.{nat_tests}
 use Rattle.std.proofs.lemmas.List.Elements.{All-nil}
 use Rattle.value_laws.specs.ScoreLaws.{Scoring, ScoreLaws}
@@ -15,7 +15,7 @@ use Rattle.plan_graph.specs.declared.ExpandedGraph.{ExpandedGraph}
 use Rattle.plan_graph.specs.declared.Ride.{Ride as RideTable}
 use Rattle.decision_graph.specs.GraphValues.{IsBestBy}
 use Rattle.plan_model.proofs.Lists.{Contains-nil, AllPairs-nil}
-use Rattle.decision_graph.specs.Expanded.{IsExpandedBy, HasSteadyChoice}
+use Rattle.decision_graph.specs.Expanded.{IsNoneSafe, IsExpandedBy, HasSteadyChoice}
 
 unfolds : (n : NetworkModel) (q : Query) (choice : Leg → ℕ → Option Leg) → q.source.0 ≡ q.target.0 → unfolding_of n q choice None ≡ Done q.start.0
 unfolds n q choice same =
@@ -54,6 +54,12 @@ module _ {V : Type 0} (scoring : Scoring V) (laws : ScoreLaws scoring) where
         arrivals = All-nil _;
       } in
       rw (is, exact) whole
+
+-- past the deadline nothing is safe
+pub none_late : (n : NetworkModel) (q : Query) → q.source.0 ≡ q.target.0 → q.deadline.0 < q.start.0 → IsNoneSafe n q
+none_late n q same late (Done moment) safe = absurd (omega (arith, safe.0, safe.2))
+none_late n q same late (Ride i j kids) safe = absurd (safe.0 same)
+none_late n q same late (Stuck p x) safe = absurd safe
 
 -- nothing is chosen after no ride
 pub steady_at_once : (n : NetworkModel) (q : Query) (graph : ExpandedGraph) → graph ≡ no_rides → HasSteadyChoice n q graph

@@ -1,5 +1,5 @@
 //! The decision graph ride by ride.
-ghost use Rattle.std.specs.Prelude.{◌≡◌, ◌<◌, ◌≤◌, length, IfOk, IfSome, MatchOption};
+ghost use Rattle.std.specs.Prelude.{◌≡◌, ◌<◌, IfOk, IfSome, MatchOption};
 ghost use Rattle.plan_model.specs.Order.{IsScanOrder};
 ghost use Rattle.decision_graph.specs.Expanded.{IsNoneSafe, IsExpanded, IsExpandedBy, HasSteadyChoice};
 ghost use Rattle.interval_fixed.specs.Interval.{end_of_nanos};
@@ -40,9 +40,6 @@ pub(crate) fn expand_with<V: Score, B: BackwardOrder>(
 ) -> Result<Option<Scored<V>>, NoMemory>
     requires fits { B.fits order.old network.now }
     requires whole { IsScanOrder network.now (B.rest order.old network.now) }
-    requires source { query.now.source.0 < length network.now.change }
-    requires target { query.now.target.0 < length network.now.change }
-    requires deadline { query.now.start.0 ≤ query.now.deadline.0 }
     requires arrived { arrived ≡ V.scoring.arrived query.now.start.0 }
     ensures plan { IfOk result (λ found. MatchOption found (IsNoneSafe network.now query.now)
         (λ p. IsExpandedBy V.scoring network.now query.now p.graph p.value)) }
@@ -50,6 +47,9 @@ pub(crate) fn expand_with<V: Score, B: BackwardOrder>(
     ensures fits { B.fits order.new network.now }
 {
     if query.source.0 == query.target.0 {
+        if query.deadline.0 < query.start.0 {
+            return Ok(None);
+        }
         return Ok(Some(Scored {
             graph: ExpandedGraph {
                 start: None,
@@ -80,10 +80,7 @@ pub fn expand<B: BackwardOrder>(
 ) -> Result<Option<ExpandedPlan>, NoMemory>
     requires fits { B.fits order.old network.now }
     requires whole { IsScanOrder network.now (B.rest order.old network.now) }
-    requires source { query.now.source.0 < length network.now.change }
-    requires target { query.now.target.0 < length network.now.change }
     requires start { query.now.start.0 < end_of_nanos }
-    requires deadline { query.now.start.0 ≤ query.now.deadline.0 }
     ensures plan { IfOk result (λ found. MatchOption found (IsNoneSafe network.now query.now)
         (λ p. IsExpanded network.now query.now p.graph p.bounds)) }
     ensures fits { B.fits order.new network.now }

@@ -1,5 +1,5 @@
 //! The decision graph with one table for each place.
-ghost use Rattle.std.specs.Prelude.{◌≡◌, ◌<◌, ◌≤◌, length, IfOk, MatchOption};
+ghost use Rattle.std.specs.Prelude.{◌≡◌, ◌<◌, IfOk, MatchOption};
 ghost use Rattle.plan_model.specs.Bounds.{end_of_time};
 ghost use Rattle.plan_model.specs.Order.{IsScanOrder};
 ghost use Rattle.decision_graph.specs.Expanded.{IsNoneSafe};
@@ -45,9 +45,6 @@ fn plan_with<V: Score, B: BackwardOrder>(
 ) -> Result<Option<ScoredPlan<V>>, NoMemory>
     requires fits { B.fits order.old network.now }
     requires whole { IsScanOrder network.now (B.rest order.old network.now) }
-    requires source { query.now.source.0 < length network.now.change }
-    requires target { query.now.target.0 < length network.now.change }
-    requires deadline { query.now.start.0 ≤ query.now.deadline.0 }
     requires arrived { arrived ≡ V.scoring.arrived query.now.start.0 }
     ensures plan { IfOk result (λ found. MatchOption found (IsNoneSafe network.now query.now)
         (λ p. IsPlannedBy V.scoring network.now query.now p.graph p.value)) }
@@ -76,10 +73,7 @@ pub fn plan_by<V: Score, B: BackwardOrder>(
 ) -> Result<Option<ScoredPlan<V>>, NoMemory>
     requires fits { B.fits order.old network.now }
     requires whole { IsScanOrder network.now (B.rest order.old network.now) }
-    requires source { query.now.source.0 < length network.now.change }
-    requires target { query.now.target.0 < length network.now.change }
     requires start { query.now.start.0 < end_of_time }
-    requires deadline { query.now.start.0 ≤ query.now.deadline.0 }
     ensures plan { IfOk result (λ found. MatchOption found (IsNoneSafe network.now query.now)
         (λ p. IsPlannedBy V.scoring network.now query.now p.graph p.value)) }
     ensures fits { B.fits order.new network.now }
@@ -99,10 +93,7 @@ pub fn plan<B: BackwardOrder>(
 ) -> Result<Option<CompactPlan>, NoMemory>
     requires fits { B.fits order.old network.now }
     requires whole { IsScanOrder network.now (B.rest order.old network.now) }
-    requires source { query.now.source.0 < length network.now.change }
-    requires target { query.now.target.0 < length network.now.change }
     requires start { query.now.start.0 < end_of_nanos }
-    requires deadline { query.now.start.0 ≤ query.now.deadline.0 }
     ensures plan { IfOk result (λ found. MatchOption found (IsNoneSafe network.now query.now)
         (λ p. IsPlanned network.now query.now p.graph p.bounds)) }
     ensures fits { B.fits order.new network.now }

@@ -16,7 +16,7 @@ use Rattle.departure_table.specs.declared.DepartureRow.{DepartureRow}
 use Rattle.departure_table.specs.Departures.{IsASecondAway, SafeAfter, IsNoneSafeFrom, BeginsWith, IsBestFrom, IsDepartureRow}
 use Rattle.plan_model.specs.Bounds.{end_of_arrivals}
 
-module _ (n : NetworkModel) (q : Query) (found : ScanResult MeanSpan) (valid : IsValid n) (solves : Solves mean_scoring found n q) (second : IsASecondAway n q.source.0) where
+module _ (n : NetworkModel) (q : Query) (found : ScanResult MeanSpan) (solves : Solves mean_scoring found n q) (second : IsASecondAway n q.source.0) where
   abbrev here : ℕ
   here = q.source.0
 
@@ -59,10 +59,10 @@ module _ (n : NetworkModel) (q : Query) (found : ScanResult MeanSpan) (valid : I
       covers_ride : mean_scoring.covers choice.0 (Ride enter choice.1.exit.0 chosen_kids)
       covers_ride = subst (λ (t : Tree). mean_scoring.covers choice.0 t) begins answer.covers_chosen
 
-      pub looks_ahead : (row : DepartureRow) → row.leg ≡ choice.1 → row.bounds ≡ choice.0.0 → row.by.0 ≡ dep_of n enter
+      pub looks_ahead : IsValid n → (row : DepartureRow) → row.leg ≡ choice.1 → row.bounds ≡ choice.0.0 → row.by.0 ≡ dep_of n enter
           → (x < row.by.0) × (row.by.0 < end_of_arrivals) × IsDepartureRow n row ×
           ((moment : ℕ) → x < moment → moment ≤ row.by.0 → IsBestFrom n (SafeAfter n q) moment row)
-      looks_ahead row leg bounds by =
+      looks_ahead valid row leg bounds by =
           let one = second enter safe_ride.2.seconds safe_ride.1.enter safe_ride.2.way in
           let v = valid.connections enter safe_ride.1.enter in
           let tree = Ride enter choice.1.exit.0 chosen_kids in

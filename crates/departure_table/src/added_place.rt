@@ -36,7 +36,6 @@ fn links_with_added(
     requires { source.0 < length network.now.change }
     ensures { IfOk result (λ links. links ≡ map (links_from_added network.now source.0) (range_with_len 0 (length network.now.change + 1))) }
 {
-    let _count = network.count();
     let mut links = Vec::new(alloc);
     for place in 0..network.places() {
         links.push(links_to(alloc, network, source, PlaceId(place))?)?;

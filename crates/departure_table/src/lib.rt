@@ -6,7 +6,6 @@
 
 ghost use Rattle.std.specs.Prelude.{◌≡◌, ℕ, ◌+◌, ◌<◌, ◌≤◌, IfOk};
 ghost use Rattle.plan_model.specs.NetworkModel.{NetworkModel};
-ghost use Rattle.plan_model.specs.Network.{IsValid};
 ghost use Rattle.value_laws.specs.Means.{mean_scoring};
 ghost use Rattle.meat_scan.specs.Solves.{Solves};
 ghost use Rattle.departure_table.specs.Departures.{IsASecondAway, SafeAfter, IsExtendedFor, IsTable, IsGreatestMoment, LooksAhead, SaysOfSource};
@@ -44,7 +43,6 @@ fn row_from(
     next: Moment,
 ) -> Option<DepartureRow>
     requires next { 1 ≤ next.0 }
-    requires valid { IsValid network.now }
     requires solves { Solves mean_scoring scanned.now network.now query.now }
     requires second { IsASecondAway network.now query.now.source.0 }
     ensures ahead { LooksAhead network.now (SafeAfter network.now query.now) next.0 result }
@@ -73,7 +71,6 @@ pub fn table(
     last: Moment,
 ) -> Result<List<DepartureRow>, NoMemory>
     requires first { 1 ≤ first.0 }
-    requires valid { IsValid network.now }
     requires solves { Solves mean_scoring scanned.now network.now query.now }
     requires second { IsASecondAway network.now query.now.source.0 }
     ensures table { IfOk result (IsTable network.now (SafeAfter network.now query.now) first.0 last.0) }
@@ -103,7 +100,6 @@ pub fn greatest(
     first: Moment,
 ) -> Option<Moment>
     requires first { 1 ≤ first.0 }
-    requires valid { IsValid network.now }
     requires solves { Solves mean_scoring scanned.now network.now query.now }
     requires second { IsASecondAway network.now query.now.source.0 }
     ensures { IsGreatestMoment (SafeAfter network.now query.now) first.0 result }

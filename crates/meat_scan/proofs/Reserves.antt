@@ -42,27 +42,26 @@ no_exits (suc n) (suc run) = no_exits n run
 -- what was reserved fits the network
 pub fits : {V : Type 0} (network : NetworkModel) → IsValid network
     → (runs : ℕ) (below : (i : ℕ) → i < count network → run_of network i < runs) (room : List ℕ) (profiles : List (ShownProfile V))
-    (exits : List (Option (Exit V))) (kids : List V) → length room ≡ length network.change
+    (exits : List (Option (Exit V))) → length room ≡ length network.change
     → ((place : ℕ) → place < length network.change → get_or room place 0 ≡ count_by (λ c. has_way network place c.from.0) network.connections)
     → length profiles ≡ length room → ((place : ℕ) → rows_of_profile profiles place ≡ [])
-    → ((place : ℕ) → place < length room → get_or room place 0 ≤ spare_at profiles place) → exits ≡ replicate runs None → length kids ≡ 64
-    → FitsTables network (record { profiles = profiles; exits = exits; kids = kids })
-fits {V} network valid runs below room profiles exits kids long counts as_many empty enough none kids_there = record {
+    → ((place : ℕ) → place < length room → get_or room place 0 ≤ spare_at profiles place) → exits ≡ replicate runs None
+    → FitsTables network (record { profiles = profiles; exits = exits })
+fits {V} network valid runs below room profiles exits long counts as_many empty enough none = record {
   valid = valid;
   empty = record { no_rows = empty; no_exits = λ run. rw none (no_exits runs run) };
   room = λ order whole. record {
     places = as_many ∙ long;
     runs = λ i inside. let n : length exits ≡ runs = rw none (length-replicate runs None) in omega (arith, below i inside);
     room = λ place inside. omega (arith, count_in_order (λ c. has_way network place c.from.0) network order whole, counts place (omega arith), enough place (omega arith));
-    outcomes = omega arith;
   };
 }
 
 -- tables with as much room, and with nothing in them, fit the network again
 pub fits_again : {V : Type 0} (network : NetworkModel) (old new : ShownTables V) (used : List (ShownProfile V)) → FitsTables network old → IsEmpty new.profiles new.exits
     → ((place : ℕ) → spare_at new.profiles place ≡ capacity_at used place) → ((place : ℕ) → capacity_at used place ≡ capacity_at old.profiles place)
-    → length new.profiles ≡ length network.change → length new.exits ≡ length old.exits → length new.kids ≡ length old.kids → FitsTables network new
-fits_again network old new used fit empty spare same places runs outcomes = record {
+    → length new.profiles ≡ length network.change → length new.exits ≡ length old.exits → FitsTables network new
+fits_again network old new used fit empty spare same places runs = record {
   valid = fit.valid;
   empty = empty;
   room = λ order whole.
@@ -71,6 +70,5 @@ fits_again network old new used fit empty spare same places runs outcomes = reco
         places = places;
         runs = λ i inside. omega (arith, room.runs i inside, runs);
         room = λ place within. omega (arith, room.room place (omega (arith, within, places, room.places)), spare place, same place);
-        outcomes = omega (arith, room.outcomes, outcomes);
       };
 }

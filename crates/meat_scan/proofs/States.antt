@@ -16,9 +16,9 @@ use Rattle.value_laws.specs.ScoreLaws.{Scoring, ScoreLaws}
 use Rattle.stop_profile.specs.declared.Row.{Row}
 use Rattle.stop_profile.specs.Shown.{ShownProfile}
 use Rattle.trip_exit.specs.Offers.{Exit}
-use Rattle.meat_scan.specs.Step.{exits_next, rows_next, start_next, left_by, boarding_exit}
-use Rattle.meat_scan.specs.Rules.{Kept, kept_next, kept_after, FollowsRules}
-use Rattle.meat_scan.specs.ScanTables.{rows_of_profile, spare_at, exit_at, has_way, boardable, HasRoom, IsEmpty}
+use Rattle.meat_scan.specs.Step.{exits_next, rows_next, start_next, left_by, boarding_exit, exits_with, rows_with, start_with}
+use Rattle.meat_scan.specs.Rules.{Kept, kept_in, kept_next, kept_after, FollowsRules}
+use Rattle.meat_scan.specs.ScanTables.{rows_of_profile, spare_at, exit_at, has_way, boardable, HasRoom, HasRoomFor, IsEmpty}
 use Rattle.meat_scan.specs.ScanResult.{ScanResult, found_rows}
 use Rattle.meat_scan.specs.Solves.{HasAnswers}
 use Rattle.meat_scan.proofs.ScanStep.{ScanOk, scan_ok_step}
@@ -36,12 +36,29 @@ pub record ScanState {V : Type 0} (scoring : Scoring V) (network : NetworkModel)
   pub taken : List ConnectionId
   pub split : rest ++ taken ≡ order
   pub ok : ScanOk scoring network query (Known Never taken) (length taken) (rows_of_profile profiles) (exit_at exits) start
-  pub kept : record { rows = rows_of_profile profiles; exits = exit_at exits; start = start } ≡ kept_after scoring network query taken
+  pub kept : kept_in profiles exits start ≡ kept_after scoring network query taken
 
 -- what is kept, part for part
 kept_same : {V : Type 0} {rows rows' : ℕ → List (Row V)} {exits exits' : ℕ → Option (Exit V)} {start start' : Option (V × Leg)} → rows ≡ rows'
     → exits ≡ exits' → start ≡ start' → ◌≡◌ {A = Kept V} (record { rows = rows; exits = exits; start = start }) (record { rows = rows'; exits = exits'; start = start' })
 kept_same rows exits start = λ i. record { rows = rows i; exits = exits i; start = start i }
+
+-- what the steps of one connection keep
+pub kept_by : {V : Type 0} (scoring : Scoring V) (network : NetworkModel) (query : Query) (id : ConnectionId) (run : ℕ) (value : Option V) (exit : Option (Exit V))
+    (profiles profiles' : List (ShownProfile V)) (exits exits' : List (Option (Exit V))) (start start' : Option (V × Leg)) → run ≡ run_of network id.0
+    → value ≡ left_by scoring network query (rows_of_profile profiles) id.0
+    → ((other : ℕ) → exit_at exits' other ≡ exits_with scoring id run value (exit_at exits) other)
+    → exit ≡ boarding_exit network id.0 (exit_at exits')
+    → ((place : ℕ) → rows_of_profile profiles' place ≡ rows_with scoring network query id.0 exit (rows_of_profile profiles) place)
+    → start' ≡ start_with scoring network query id.0 exit start
+    → kept_in profiles' exits' start' ≡ kept_next scoring network query id.0 (kept_in profiles exits start)
+kept_by scoring network query id run value exit profiles profiles' exits exits' start start' run_is value_is exits_are exit_is rows_are start_is =
+    let exits_same = same_function (exit_at exits') (λ other. exits_next scoring network query id.0 (rows_of_profile profiles) (exit_at exits) other)
+    (λ other. rw (run_is, value_is) at (exits_are other)) in
+    let boards = exit_is ∙ ap (boarding_exit network id.0) exits_same in
+    kept_same
+    (same_function (rows_of_profile profiles') (λ place. rows_next scoring network query id.0 (rows_of_profile profiles) (exit_at exits) place) (λ place. rw boards at (rows_are place)))
+    exits_same (rw boards at start_is)
 
 module _ {V : Type 0} {scoring : Scoring V} (laws : ScoreLaws scoring) (network : NetworkModel) (good : IsValid network) (query : Query)
     (order : List ConnectionId) (whole : IsScanOrder network order) where
@@ -58,23 +75,19 @@ module _ {V : Type 0} {scoring : Scoring V} (laws : ScoreLaws scoring) (network 
   -- one more
   pub next_state : (rest : List ConnectionId) (id : ConnectionId) (profiles profiles' : List (ShownProfile V)) (exits exits' : List (Option (Exit V)))
       (start start' : Option (V × Leg)) → ScanState scoring network query order
-      (rest ++ id ∷ []) profiles exits start → ((place : ℕ)
-      → rows_of_profile profiles' place ≡ rows_next scoring network query id.0 (rows_of_profile profiles) (exit_at exits) place)
-      → ((run : ℕ) → exit_at exits' run ≡ exits_next scoring network query id.0 (rows_of_profile profiles) (exit_at exits) run)
-      → start' ≡ start_next scoring network query id.0 (rows_of_profile profiles) (exit_at exits) start
+      (rest ++ id ∷ []) profiles exits start
+      → kept_in profiles' exits' start' ≡ kept_next scoring network query id.0 (kept_in profiles exits start)
       → ScanState scoring network query order rest profiles' exits' start'
-  next_state rest id profiles profiles' exits exits' start start' state rows_are exits_are start_is =
+  next_state rest id profiles profiles' exits exits' start start' state kept_is =
       let known = Known Never (id ∷ state.taken) in
       let next = next_of network good Never order (whole_order network order whole) rest state.taken id state.split in
       let stepped = scan_ok_step laws network good query (Known Never state.taken) (length state.taken) id.0 next (rows_of_profile profiles) (exit_at exits) start state.ok in
       let count : length (id ∷ state.taken) ≡ length state.taken + 1 = omega arith in
-      let rows_same = same_function (rows_of_profile profiles') (λ place. rows_next scoring network query id.0 (rows_of_profile profiles) (exit_at exits) place) rows_are in
-      let exits_same = same_function (exit_at exits') (λ run. exits_next scoring network query id.0 (rows_of_profile profiles) (exit_at exits) run) exits_are in
       record {
         taken = id ∷ state.taken;
         split = sym (append_assoc rest (id ∷ []) state.taken) ∙ state.split;
-        ok = rw (rows_same, exits_same, start_is, count) stepped;
-        kept = kept_same rows_same exits_same start_is ∙ ap (kept_next scoring network query id.0) state.kept;
+        ok = rw (ap (λ (k : Kept V). k.rows) kept_is, ap (λ (k : Kept V). k.exits) kept_is, ap (λ (k : Kept V). k.start) kept_is, count) stepped;
+        kept = kept_is ∙ ap (kept_next scoring network query id.0) state.kept;
       }
 
   -- after the last
@@ -111,17 +124,17 @@ boardable-push : (network : NetworkModel) (place : ℕ) (rest : List ConnectionI
 boardable-push network place rest id = sum_by_push (λ (i : ConnectionId). cond (has_way network place (from_of network i.0)) 1 0) rest id
 
 module _ {V : Type 0} (network : NetworkModel) (rest : List ConnectionId) (id : ConnectionId) (there : id.0 < count network) (profiles : List (ShownProfile V))
-    (exits : List (Option (Exit V))) (kids : List V) (room : HasRoom network (rest ++ id ∷ []) profiles exits kids) where
+    (exits : List (Option (Exit V))) (room : HasRoom network (rest ++ id ∷ []) profiles exits) where
   pub room_for_run : run_of network id.0 < length exits
   room_for_run = room.runs id.0 there
 
-  pub room_for_rows : (place : ℕ) → place < length network.change → cond (has_way network place (from_of network id.0)) 1 0 ≤ spare_at profiles place
+  pub room_for_rows : HasRoomFor network id.0 profiles
   room_for_rows place inside = omega (arith, room.room place (omega (arith, room.places)), boardable-push network place rest id)
 
-  pub room_next : (profiles' : List (ShownProfile V)) (exits' : List (Option (Exit V))) (kids' : List V)
+  pub room_next : (profiles' : List (ShownProfile V)) (exits' : List (Option (Exit V)))
       → ((place : ℕ) → spare_at profiles place ≤ spare_at profiles' place + cond (has_way network place (from_of network id.0)) 1 0)
-      → length profiles' ≡ length profiles → length exits' ≡ length exits → length kids' ≡ length kids → HasRoom network rest profiles' exits' kids'
-  room_next profiles' exits' kids' spare same_places same_runs same_kids = grind (arith, common_steps, nat_tests)
+      → length profiles' ≡ length profiles → length exits' ≡ length exits → HasRoom network rest profiles' exits'
+  room_next profiles' exits' spare same_places same_runs = grind (arith, common_steps, nat_tests)
 
 -- the rows that are found are those of the profiles
 pub found_rows-profiles : {V : Type 0} (start : Option (V × Leg)) (target : ℕ) (profiles : List (ShownProfile V))
@@ -177,8 +190,8 @@ module _ {V : Type 0} (scoring : Scoring V) (network : NetworkModel)
 
 -- the tables have room for less
 pub room_less : {V : Type 0} (network : NetworkModel) (rest skipped : List ConnectionId) (profiles : List (ShownProfile V)) (exits : List (Option (Exit V)))
-    (kids : List V) → HasRoom network (rest ++ skipped) profiles exits kids → HasRoom network rest profiles exits kids
-room_less network rest skipped profiles exits kids room = grind (arith, common_steps, nat_tests)
+    → HasRoom network (rest ++ skipped) profiles exits → HasRoom network rest profiles exits
+room_less network rest skipped profiles exits room = grind (arith, common_steps, nat_tests)
 
 module _ {V : Type 0} {scoring : Scoring V} (laws : ScoreLaws scoring) (network : NetworkModel) (good : IsValid network) (query : Query)
     (order : List ConnectionId) (whole : IsScanOrder network order) (profiles : List (ShownProfile V)) (exits : List (Option (Exit V))) (empty : IsEmpty profiles exits) where
@@ -194,9 +207,10 @@ module _ {V : Type 0} {scoring : Scoring V} (laws : ScoreLaws scoring) (network 
       let after : query.deadline.0 < dep_of network id.0 = All-head (λ (i : ConnectionId). query.deadline.0 < dep_of network i.0) id skipped late in
       let there = id_there network good order whole rest before.taken id before.split in
       next_state laws network good query order whole rest id profiles profiles exits exits None None before
-      (λ place. sym (rows_kept scoring network good query id.0 there after (rows_of_profile profiles) (exit_at exits) empty.no_rows empty.no_exits place))
-      (λ run. sym (exits_kept scoring network good query id.0 there after (rows_of_profile profiles) (exit_at exits) empty.no_rows empty.no_exits run))
-      (sym (start_kept scoring network good query id.0 there after (rows_of_profile profiles) (exit_at exits) empty.no_rows empty.no_exits None))
+      (kept_same
+      (same_function _ _ (λ place. sym (rows_kept scoring network good query id.0 there after (rows_of_profile profiles) (exit_at exits) empty.no_rows empty.no_exits place)))
+      (same_function _ _ (λ run. sym (exits_kept scoring network good query id.0 there after (rows_of_profile profiles) (exit_at exits) empty.no_rows empty.no_exits run)))
+      (sym (start_kept scoring network good query id.0 there after (rows_of_profile profiles) (exit_at exits) empty.no_rows empty.no_exits None)))
 
   -- where the scan begins
   pub skipped_state : (rest : List ConnectionId) → IsPrefixUpTo network query.deadline.0 order rest
@@ -204,6 +218,5 @@ module _ {V : Type 0} {scoring : Scoring V} (laws : ScoreLaws scoring) (network 
   skipped_state rest up_to = late_state rest up_to.skipped (sym up_to.split) up_to.late
 
 pub skipped_room : {V : Type 0} (network : NetworkModel) (last : ℕ) (order rest : List ConnectionId) (profiles : List (ShownProfile V))
-    (exits : List (Option (Exit V))) (kids : List V) → IsPrefixUpTo network last order rest → HasRoom network order profiles exits kids
-    → HasRoom network rest profiles exits kids
-skipped_room network last order rest profiles exits kids up_to room = grind (arith, common_steps, nat_tests)
+    (exits : List (Option (Exit V))) → IsPrefixUpTo network last order rest → HasRoom network order profiles exits → HasRoom network rest profiles exits
+skipped_room network last order rest profiles exits up_to room = grind (arith, common_steps, nat_tests)

@@ -11,7 +11,9 @@ use Rattle.plan_model.specs.Unfold.{unfolding_of, by_place}
 use Rattle.value_laws.specs.ScoreLaws.{Scoring}
 use Rattle.stop_profile.specs.declared.Row.{Row}
 use Rattle.stop_profile.specs.Inserts.{row_in_time}
+use Rattle.stop_profile.specs.Shown.{ShownProfile}
 use Rattle.trip_exit.specs.Offers.{Exit}
+use Rattle.meat_scan.specs.ScanTables.{rows_of_profile, exit_at}
 use Rattle.meat_scan.specs.Step.{rows_next, exits_next, start_next}
 use Rattle.meat_scan.specs.ScanResult.{ScanResult, found_rows}
 
@@ -20,6 +22,10 @@ pub record Kept (V : Type 0) : Type 0 where
   pub rows : ℕ → List (Row V)
   pub exits : ℕ → Option (Exit V)
   pub start : Option (V × Leg)
+
+-- what the tables keep, with a start leg
+abbrev pub kept_in : {V : Type 0} → List (ShownProfile V) → List (Option (Exit V)) → Option (V × Leg) → Kept V
+kept_in profiles exits start = record { rows = rows_of_profile profiles; exits = exit_at exits; start = start }
 
 -- what is kept with one connection more
 abbrev pub kept_next : {V : Type 0} → Scoring V → NetworkModel → Query → ℕ → Kept V → Kept V

@@ -41,12 +41,15 @@ ways_between network place to = if has_way network place to then 1 else 0
 abbrev pub boardable : NetworkModel → ℕ → List ConnectionId → ℕ
 boardable network place ids = count_by (λ id. has_way network place (from_of network id.0)) ids
 
+-- at each place there is room for the row of a connection that can be boarded from there
+abbrev pub HasRoomFor : {V : Type 0} → NetworkModel → ℕ → List (ShownProfile V) → Type 0
+HasRoomFor network id profiles = (place : ℕ) → place < length network.change → ways_between network place (from_of network id) ≤ spare_at profiles place
+
 -- the tables have room for the connections that are left
-pub record HasRoom {V : Type 0} (network : NetworkModel) (rest : List ConnectionId) (profiles : List (ShownProfile V)) (exits : List (Option (Exit V))) (kids : List V) : Type 0 where
+pub record HasRoom {V : Type 0} (network : NetworkModel) (rest : List ConnectionId) (profiles : List (ShownProfile V)) (exits : List (Option (Exit V))) : Type 0 where
   pub places : length profiles ≡ length network.change
   pub runs : (i : ℕ) → i < count network → run_of network i < length exits
   pub room : (place : ℕ) → place < length profiles → boardable network place rest ≤ spare_at profiles place
-  pub outcomes : 64 ≤ length kids
 
 -- nothing is kept yet
 pub record IsEmpty {V : Type 0} (profiles : List (ShownProfile V)) (exits : List (Option (Exit V))) : Type 0 where
@@ -57,10 +60,9 @@ pub record IsEmpty {V : Type 0} (profiles : List (ShownProfile V)) (exits : List
 pub record ShownTables (V : Type 0) : Type 0 where
   pub profiles : List (ShownProfile V)
   pub exits : List (Option (Exit V))
-  pub kids : List V
 
 -- the tables are empty, and were made for the network, which is valid
 pub record FitsTables {V : Type 0} (network : NetworkModel) (tables : ShownTables V) : Type 0 where
   pub valid : IsValid network
   pub empty : IsEmpty tables.profiles tables.exits
-  pub room : (order : List ConnectionId) → IsScanOrder network order → HasRoom network order tables.profiles tables.exits tables.kids
+  pub room : (order : List ConnectionId) → IsScanOrder network order → HasRoom network order tables.profiles tables.exits

@@ -1,5 +1,5 @@
 -- What a scan gives: the best of all safe strategies, from the start and from each place.
-use Rattle.std.specs.Prelude.{◌≡◌, ◌≢◌, ℕ, ◌<◌, ◌≤◌, Option, Some, MatchOption, length}
+use Rattle.std.specs.Prelude.{◌≡◌, ◌≢◌, ℕ, ◌≤◌, Option, Some, MatchOption, length}
 use Rattle.plan_model.specs.declared.model.Leg.{Leg}
 use Rattle.plan_model.specs.declared.model.Query.{Query}
 use Rattle.plan_model.specs.NetworkModel.{NetworkModel}
@@ -43,8 +43,6 @@ pub record HasAnswers {V : Type 0} (scoring : Scoring V) (network : NetworkModel
 pub record Solves {V : Type 0} (scoring : Scoring V) (found : ScanResult V) (network : NetworkModel) (query : Query) : Type 0 where
   pub as_many : length found.rows ≡ length network.change
   pub same_target : found.target ≡ query.target.0
-  pub source_there : query.source.0 < length network.change
-  pub target_there : query.target.0 < length network.change
   pub differ : query.source.0 ≢ query.target.0
   pub answers : HasAnswers scoring network query found
 

@@ -13,12 +13,12 @@ ghost use Rattle.plan_model.specs.Bounds.{most_connections, end_of_arrivals, end
 ghost use Rattle.plan_model.specs.Network.{count, from_of, run_of, IsValid};
 ghost use Rattle.plan_model.specs.Order.{IsScanOrder};
 ghost use Rattle.std.specs.Option.{option_map};
-ghost use Rattle.meat_scan.specs.ScanTables.{rows_of_profile, spare_at, capacity_at, exit_at, has_way, ways_between, FitsTables, IsEmpty};
+ghost use Rattle.meat_scan.specs.ScanTables.{rows_of_profile, spare_at, capacity_at, exit_at, has_way, ways_between, HasRoomFor, FitsTables, IsEmpty};
 ghost use Rattle.meat_scan.specs.ScanResult.{choice_of, found_in};
 ghost use Rattle.meat_scan.specs.Values.{value_after_arrival, values_after};
 ghost use Rattle.meat_scan.specs.Step.{left_by, exits_with, way_of_place, with_way, rows_with, start_with};
-ghost use Rattle.meat_scan.specs.Step.{boarding_exit, rows_next, exits_next};
-ghost use Rattle.meat_scan.specs.Rules.{FollowsRules};
+ghost use Rattle.meat_scan.specs.Step.{boarding_exit};
+ghost use Rattle.meat_scan.specs.Rules.{FollowsRules, kept_in, kept_next};
 ghost use Rattle.meat_scan.specs.Solves.{HasAnswers, Solves, SolvesStart};
 
 use plan_model::{
@@ -38,8 +38,7 @@ fn value_after<V: Score>(
     arrival: Moment,
     query: &Query,
 ) -> Option<V>
-    requires place { place.0 < length profiles.now }
-    requires soon { arrival.0 < end_of_time }
+    requires { arrival.0 < end_of_time }
     ensures { let query = query.now in
         let rows = rows_of_profile profiles.now in
         result ≡ value_after_arrival V.scoring.arrived query.target.0 query.deadline.0 rows place.0 arrival.0 }
@@ -51,10 +50,9 @@ fn value_after<V: Score>(
             None
         }
     } else {
-        match profiles[place.0 as usize].first(arrival) {
-            Some(row) => Some(row.value),
-            None => None,
-        }
+        let profile = profiles.get(place.0 as usize)?;
+        let row = profile.first(arrival)?;
+        Some(row.value)
     }
 }
 
@@ -67,7 +65,6 @@ fn fill_kids<V: Score>(
     query: &Query,
     kids: &mut [V],
 ) -> bool
-    requires place { place.0 < length profiles.now }
     requires soon { scheduled.0 < end_of_arrivals }
     requires delays { All (λ o. o.delay ≤ seconds_per_day) row.now }
     requires room { length row.now ≤ length kids.old }
@@ -99,8 +96,7 @@ fn put_leg<V: Score>(
     value: V,
     leg: Leg,
 )
-    requires from { way.from.0 < length profiles.old }
-    requires room { 1 ≤ spare_at profiles.old way.from.0 }
+    requires { 1 ≤ spare_at profiles.old way.from.0 }
     ensures rows { (place : ℕ) →
         let old = rows_of_profile profiles.old place in
         let from = way_of_place way place in
@@ -120,24 +116,23 @@ fn put_leg<V: Score>(
     profile.insert(by, value, leg);
 }
 
-// Puts a connection, boarded for an exit, into the rows of each place from which a way leads to it.
-fn board<V: Score>(
-    profiles: &mut [Profile<V>],
-    network: &Network,
-    query: &Query,
+// A connection of a network, as it is scanned for a query.
+#[derive(Clone, Copy)]
+struct Site<'a> {
+    network: &'a Network,
+    query: &'a Query,
     id: ConnectionId,
-    exit: Option<(V, ConnectionId)>,
-)
-    requires valid { IsValid network.now }
-    requires there { id.0 < count network.now }
-    requires places { length profiles.old ≡ length network.now.change }
-    requires room { (place : ℕ) → place < length network.now.change →
-        ways_between network.now place (from_of network.now id.0) ≤ spare_at profiles.old place }
+    ghost there: { id.0 < count network.now },
+}
+
+// Puts a connection, boarded for an exit, into the rows of each place from which a way leads to it.
+fn board<V: Score>(profiles: &mut [Profile<V>], site: &Site, exit: Option<(V, ConnectionId)>)
+    requires { HasRoomFor site.now.network.now site.now.id.0 profiles.old }
     ensures rows { (place : ℕ) →
         let old = rows_of_profile profiles.old in
-        rows_of_profile profiles.new place ≡ rows_with V.scoring network.now query.now id.0 exit old place }
+        rows_of_profile profiles.new place ≡ rows_with V.scoring site.now.network.now site.now.query.now site.now.id.0 exit old place }
     ensures spare { (place : ℕ) →
-        let taken = ways_between network.now place (from_of network.now id.0) in
+        let taken = ways_between site.now.network.now place (from_of site.now.network.now site.now.id.0) in
         spare_at profiles.old place ≤ spare_at profiles.new place + taken }
     ensures capacity { (place : ℕ) → capacity_at profiles.new place ≡ capacity_at profiles.old place }
     ensures len { length profiles.new ≡ length profiles.old }
@@ -145,33 +140,37 @@ fn board<V: Score>(
     let Some((value, exit)) = exit else {
         return;
     };
-    let connection = network.get(id);
-    let leg = Leg { enter: id, exit };
+    let network = site.network;
+    let connection = network.get(site.id);
+    let leg = Leg {
+        enter: site.id,
+        exit,
+    };
     for k in 0..network.way_count(connection.from) {
         let way = network.way_at(connection.from, k);
-        put_leg(profiles, query.target, way, connection.dep, value, leg);
+        put_leg(profiles, site.query.target, way, connection.dep, value, leg);
     }
 }
 
 // The start leg, with a connection that is boarded for an exit.
 fn begin<V: Score>(
-    network: &Network,
-    query: &Query,
-    id: ConnectionId,
+    site: &Site,
     exit: Option<(V, ConnectionId)>,
     start: Option<(V, Leg)>,
 ) -> Option<(V, Leg)>
-    requires { id.0 < count network.now }
-    ensures { result ≡ start_with V.scoring network.now query.now id.0 exit start }
+    ensures { result ≡ start_with V.scoring site.now.network.now site.now.query.now site.now.id.0 exit start }
 {
     let Some((value, exit)) = exit else {
         return start;
     };
-    let connection = network.get(id);
-    if connection.from != query.source || connection.dep < query.start {
+    let connection = site.network.get(site.id);
+    if connection.from != site.query.source || connection.dep < site.query.start {
         return start;
     }
-    let leg = Leg { enter: id, exit };
+    let leg = Leg {
+        enter: site.id,
+        exit,
+    };
     match start {
         None => Some((value, leg)),
         Some(kept) if value.better(&kept.0) => Some((value.lower_to(&kept.0), leg)),
@@ -179,31 +178,28 @@ fn begin<V: Score>(
     }
 }
 
+// Room for the values after the outcomes of a ride, as many as a delay row may have.
+#[derive(Drop)]
+struct KidValues<V> {
+    values: Vec<V>,
+    ghost many: { 64 ≤ length values.items },
+}
+
 // The value of leaving a run by a connection, where that is allowed and safe.
-fn left_value<V: Score>(
-    profiles: &[Profile<V>],
-    network: &Network,
-    query: &Query,
-    id: ConnectionId,
-    kids: &mut [V],
-) -> Option<V>
-    requires valid { IsValid network.now }
-    requires there { id.0 < count network.now }
-    requires places { length profiles.now ≡ length network.now.change }
-    requires outcomes { 64 ≤ length kids.old }
-    ensures value { let rows = rows_of_profile profiles.now in
-        result ≡ left_by V.scoring network.now query.now rows id.0 }
-    ensures len { length kids.new ≡ length kids.old }
+fn left_value<V: Score>(profiles: &[Profile<V>], site: &Site, kids: &mut KidValues<V>) -> Option<V>
+    ensures { let rows = rows_of_profile profiles.now in
+        result ≡ left_by V.scoring site.now.network.now site.now.query.now rows site.now.id.0 }
 {
-    let connection = network.get(id);
+    let connection = site.network.get(site.id);
     if !connection.can_exit {
         return None;
     }
-    let row = network.row(connection.class);
-    if !fill_kids(profiles, row, connection.to, connection.arr, query, kids) {
+    let row = site.network.row(connection.class);
+    let (to, arr) = (connection.to, connection.arr);
+    if !fill_kids(profiles, row, to, arr, site.query, &mut kids.values) {
         return None;
     }
-    Some(V::blend(row, &kids[..row.len()]))
+    Some(V::blend(row, &kids.values[..row.len()]))
 }
 
 // Offers a connection as an exit of its run, where it has a value.
@@ -220,15 +216,10 @@ fn leave<V: Score>(exits: &mut ExitTable<V>, run: RunId, id: ConnectionId, value
 }
 
 // The exit that a connection is boarded for, if it can be boarded.
-fn boarded_for<V: Score>(
-    exits: &ExitTable<V>,
-    network: &Network,
-    id: ConnectionId,
-) -> Option<(V, ConnectionId)>
-    requires { id.0 < count network.now }
-    ensures { result ≡ boarding_exit network.now id.0 (exit_at exits.now) }
+fn boarded_for<V: Score>(exits: &ExitTable<V>, site: &Site) -> Option<(V, ConnectionId)>
+    ensures { result ≡ boarding_exit site.now.network.now site.now.id.0 (exit_at exits.now) }
 {
-    let connection = network.get(id);
+    let connection = site.network.get(site.id);
     if connection.can_board {
         exits.best(connection.run)
     } else {
@@ -236,49 +227,30 @@ fn boarded_for<V: Score>(
     }
 }
 
-// Scans one connection, and gives the exit that it is boarded for.
+// Scans one connection, and gives the start leg with it.
 fn scan_one<V: Score>(
     profiles: &mut [Profile<V>],
     exits: &mut ExitTable<V>,
-    kids: &mut [V],
-    network: &Network,
-    query: &Query,
-    id: ConnectionId,
-) -> Option<(V, ConnectionId)>
-    requires valid { IsValid network.now }
-    requires there { id.0 < count network.now }
-    requires places { length profiles.old ≡ length network.now.change }
-    requires run { run_of network.now id.0 < length exits.old }
-    requires outcomes { 64 ≤ length kids.old }
-    requires room { (place : ℕ) → place < length network.now.change →
-        ways_between network.now place (from_of network.now id.0) ≤ spare_at profiles.old place }
-    ensures rows { (place : ℕ) →
-        let rows = rows_of_profile profiles.old in
-        let exits = exit_at exits.old in
-        rows_of_profile profiles.new place
-        ≡ rows_next V.scoring network.now query.now id.0 rows exits place }
-    ensures exits { (run : ℕ) →
-        let rows = rows_of_profile profiles.old in
-        let before = exit_at exits.old in
-        exit_at exits.new run
-        ≡ exits_next V.scoring network.now query.now id.0 rows before run }
-    ensures exit { let rows = rows_of_profile profiles.old in
-        let exits = exit_at exits.old in
-        let exits = exits_next V.scoring network.now query.now id.0 rows exits in
-        result ≡ boarding_exit network.now id.0 exits }
+    kids: &mut KidValues<V>,
+    start: Option<(V, Leg)>,
+    site: &Site,
+) -> Option<(V, Leg)>
+    requires run { run_of site.now.network.now site.now.id.0 < length exits.old }
+    requires room { HasRoomFor site.now.network.now site.now.id.0 profiles.old }
+    ensures kept { let before = kept_in profiles.old exits.old start in
+        kept_in profiles.new exits.new result ≡ kept_next V.scoring site.now.network.now site.now.query.now site.now.id.0 before }
     ensures spare { (place : ℕ) →
-        let taken = ways_between network.now place (from_of network.now id.0) in
+        let taken = ways_between site.now.network.now place (from_of site.now.network.now site.now.id.0) in
         spare_at profiles.old place ≤ spare_at profiles.new place + taken }
     ensures capacity { (place : ℕ) → capacity_at profiles.new place ≡ capacity_at profiles.old place }
     ensures places { length profiles.new ≡ length profiles.old }
     ensures runs { length exits.new ≡ length exits.old }
-    ensures outcomes { length kids.new ≡ length kids.old }
 {
-    let value = left_value(profiles, network, query, id, kids);
-    leave(exits, network.get(id).run, id, value);
-    let exit = boarded_for(exits, network, id);
-    board(profiles, network, query, id, exit);
-    exit
+    let value = left_value(profiles, site, kids);
+    leave(exits, site.network.get(site.id).run, site.id, value);
+    let exit = boarded_for(exits, site);
+    board(profiles, site, exit);
+    begin(site, exit, start)
 }
 
 /// The memory of a scan: the profile of each place, the best exit of each run, and the values after
@@ -287,7 +259,7 @@ fn scan_one<V: Score>(
 pub struct ScanTables<V: Score> {
     profiles: Vec<Profile<V>>,
     exits: ExitTable<V>,
-    kids: Vec<V>,
+    kids: KidValues<V>,
 }
 
 impl<V: Score> Model for ScanTables<V> {
@@ -298,7 +270,6 @@ impl<V: Score> Model for ScanTables<V> {
     ghost view = { λ t. record {
       profiles = t.profiles.items;
       exits = t.exits;
-      kids = t.kids.items;
     } };
 }
 
@@ -382,19 +353,15 @@ fn reserve_profiles<V: Score>(alloc: Global, room: &[u32]) -> Result<Vec<Profile
     let mut profiles = Vec::new(alloc);
     for rows in room {
         let profile = Profile::reserve(alloc, *rows)?;
-        if profiles.push(profile).is_err() {
-            return Err(NoMemory);
-        }
+        profiles.push(profile)?;
     }
     Ok(profiles)
 }
 
 // As many values as a delay row may have outcomes.
-fn reserve_kids<V: Score>(alloc: Global) -> Result<Vec<V>, NoMemory>
-    ensures { IfOk result (λ kids. length kids.items ≡ 64) }
-{
-    let kids = vec![in alloc; V::arrive(Moment(0)); 64]?;
-    Ok(kids)
+fn reserve_kids<V: Score>(alloc: Global) -> Result<KidValues<V>, NoMemory> {
+    let values = vec![in alloc; V::arrive(Moment(0)); 64]?;
+    Ok(KidValues { values })
 }
 
 impl<V: Score> Scanned<V> {
@@ -406,16 +373,13 @@ impl<V: Score> Scanned<V> {
     }
 
     /// The leg to take after an arrival at a place other than the target, with its value; none where
-    /// no strategy is safe from there.
+    /// no strategy is safe from there, as where there is no such place.
     pub fn choice(&self, place: PlaceId, arrival: Moment) -> Option<(V, Leg)>
-        requires there { place.0 < length self.now.rows }
-        requires away { place.0 ≢ self.now.target }
         ensures { result ≡ choice_of self.now place.0 arrival.0 }
     {
-        match self.profiles[place.0 as usize].first(arrival) {
-            Some(row) => Some((row.value, row.leg)),
-            None => None,
-        }
+        let profile = self.profiles.get(place.0 as usize)?;
+        let row = profile.first(arrival)?;
+        Some((row.value, row.leg))
     }
 }
 
@@ -430,8 +394,6 @@ fn scan_all<V: Score, B: BackwardOrder>(
     requires tables_fit { FitsTables network.now tables }
     requires fits { B.fits order.old network.now }
     requires whole { IsScanOrder network.now (B.rest order.old network.now) }
-    requires source { query.now.source.0 < length network.now.change }
-    requires target { query.now.target.0 < length network.now.change }
     requires differ { query.now.source.0 ≢ query.now.target.0 }
     ensures answers { let found = found_in result.0 result.1 query.now.target.0 in
         HasAnswers V.scoring network.now query.now found }
@@ -443,7 +405,6 @@ fn scan_all<V: Score, B: BackwardOrder>(
     ensures capacity { (place : ℕ) → capacity_at result.0.profiles place ≡ capacity_at tables.profiles place }
     ensures places { length result.0.profiles ≡ length network.now.change }
     ensures runs { length result.0.exits ≡ length tables.exits }
-    ensures outcomes { length result.0.kids ≡ length tables.kids }
 {
     let ScanTables {
         mut profiles,
@@ -453,8 +414,8 @@ fn scan_all<V: Score, B: BackwardOrder>(
     order.skip_after(network, query.deadline);
     let mut start: Option<(V, Leg)> = None;
     while let Some(id) = order.next(network) {
-        let exit = scan_one(&mut profiles, &mut exits, &mut kids, network, query, id);
-        start = begin(network, query, id, exit, start);
+        let site = Site { network, query, id };
+        start = scan_one(&mut profiles, &mut exits, &mut kids, start, &site);
     }
     let tables = ScanTables {
         profiles,
@@ -477,8 +438,6 @@ pub fn scan<V: Score, B: BackwardOrder>(
     requires tables_fit { FitsTables network.now tables }
     requires fits { B.fits order.old network.now }
     requires whole { IsScanOrder network.now (B.rest order.old network.now) }
-    requires source { query.now.source.0 < length network.now.change }
-    requires target { query.now.target.0 < length network.now.change }
     requires differ { query.now.source.0 ≢ query.now.target.0 }
     ensures solves { Solves V.scoring result network.now query.now }
     ensures rules { let whole = B.rest order.old network.now in
@@ -517,7 +476,6 @@ fn emptied<V: Score>(tables: ScanTables<V>) -> ScanTables<V>
     ensures spare { (place : ℕ) → spare_at result.profiles place ≡ capacity_at tables.profiles place }
     ensures places { length result.profiles ≡ length tables.profiles }
     ensures runs { length result.exits ≡ length tables.exits }
-    ensures outcomes { length result.kids ≡ length tables.kids }
 {
     let ScanTables {
         mut profiles,
@@ -537,10 +495,8 @@ fn emptied<V: Score>(tables: ScanTables<V>) -> ScanTables<V>
 fn leg_value<V: Score>(start: Option<(V, Leg)>) -> Option<V>
     ensures { result ≡ option_map (λ s. s.0) start }
 {
-    match start {
-        Some((value, _)) => Some(value),
-        None => None,
-    }
+    let (value, _) = start?;
+    Some(value)
 }
 
 /// The value of the best safe strategy from the start, by the same scan; none where no strategy is
@@ -554,8 +510,6 @@ pub fn start_value<V: Score, B: BackwardOrder>(
     requires tables_fit { FitsTables network.now tables }
     requires fits { B.fits order.old network.now }
     requires whole { IsScanOrder network.now (B.rest order.old network.now) }
-    requires source { query.now.source.0 < length network.now.change }
-    requires target { query.now.target.0 < length network.now.change }
     requires differ { query.now.source.0 ≢ query.now.target.0 }
     ensures solves { SolvesStart V.scoring network.now query.now result.1 }
     ensures tables_fit { FitsTables network.now result.0 }

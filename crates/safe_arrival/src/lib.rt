@@ -1,7 +1,7 @@
 //! The least worst arrival, by the backward scan, and the deadline that follows from it.
 #![tactic(auto)]
 
-ghost use Rattle.std.specs.Prelude.{◌≡◌, ◌≢◌, ◌<◌, ◌≤◌, length, Some, IfSome, MatchOption};
+ghost use Rattle.std.specs.Prelude.{◌≡◌, ◌≢◌, ◌<◌, ◌≤◌, Some, IfSome, MatchOption};
 ghost use Rattle.plan_model.specs.Bounds.{end_of_time};
 ghost use Rattle.plan_model.specs.Order.{IsScanOrder};
 ghost use Rattle.plan_model.specs.Strategy.{IsSafeFor, IsLeastWorst, deadline_of};
@@ -29,8 +29,6 @@ fn least_worst_by<B: BackwardOrder>(
     requires tables_fit { FitsTables network.now tables }
     requires fits { B.fits order.old network.now }
     requires whole { IsScanOrder network.now (B.rest order.old network.now) }
-    requires source { query.now.source.0 < length network.now.change }
-    requires target { query.now.target.0 < length network.now.change }
     requires differ { query.now.source.0 ≢ query.now.target.0 }
     ensures least { let query = query.now in
         MatchOption result.1 ((tree : Tree) → IsSafeFor network.now query tree → ⊥)
@@ -61,8 +59,6 @@ pub fn least_worst<B: BackwardOrder>(
     requires tables_fit { FitsTables network.now tables }
     requires fits { B.fits order.old network.now }
     requires whole { IsScanOrder network.now (B.rest order.old network.now) }
-    requires source { source.0 < length network.now.change }
-    requires target { target.0 < length network.now.change }
     requires start { start.0 < end_of_time }
     ensures least { IsLeastWorst network.now source.0 target.0 start.0 result }
 

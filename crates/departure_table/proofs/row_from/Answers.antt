@@ -20,7 +20,7 @@ returns-in_default-clause-ahead c =
     let found = c.args.scanned.now in
     let s = c.requires.solves in
     let look = s.answers.goes_on q.source.0 (c.args.next.0 - 1) s.differ in
-    none_ahead c.args.network.now q found c.requires.valid s c.requires.second c.args.next.0 (MatchOption-at_none _ _ (sym c.in_default.ensures) look)
+    none_ahead c.args.network.now q found s c.requires.second c.args.next.0 (MatchOption-at_none _ _ (sym c.in_default.ensures) look)
 
 pub returns-in_default-clause-found : goal.returns-in_default-clause-found
 returns-in_default-clause-found c = ap (option_map (row_of_choice c.args.network.now)) c.in_default.ensures
@@ -39,7 +39,7 @@ returns-clause-ahead c =
     let choice : MeanSpan × Leg = (c.in-Some.value, c.in-Some.leg) in
     let dep = ap (λ (k : Connection). k.dep.0) c.get.ensures.connection in
     let row : DepartureRow = record { by = c.get.result.dep; bounds = c.in-Some.value.0; leg = c.in-Some.leg } in
-    let (later, early, departs, best) = looks_ahead c.args.network.now c.args.query.now c.args.scanned.now c.requires.valid s c.requires.second x choice is
-    answer
+    let (later, early, departs, best) = looks_ahead c.args.network.now c.args.query.now c.args.scanned.now s c.requires.second x choice is
+    answer c.get.ensures.valid
     row refl refl dep in
     (omega arith, omega arith, departs, λ moment ahead within. best moment (omega arith) within)

@@ -12,7 +12,7 @@ invariant-loop-k g l =
     let ways = take l.k (ways_into l.network l.connection.from.0) in
     record {
       len : length l.profiles ≡ length l.initial.profiles;
-      rows : (place : ℕ) → rows_of_profile l.profiles place ≡ with_way score.scoring l.query.target.0 l.connection.dep.0 l.value l.leg (way_in ways place) place
+      rows : (place : ℕ) → rows_of_profile l.profiles place ≡ with_way score.scoring l.site.query.now.target.0 l.connection.dep.0 l.value l.leg (way_in ways place) place
           (rows_of_profile l.initial.profiles place);
       spare : (place : ℕ) → spare_at l.initial.profiles place ≤ spare_at l.profiles place + way_number (way_in ways place);
       capacity : (place : ℕ) → capacity_at l.profiles place ≡ capacity_at l.initial.profiles place;

@@ -12,68 +12,56 @@ loop-id-init g c =
     record {
       valid = fit.valid;
       fits = c.skip_after.ensures.fits;
-      room = skipped_room c.args.network.now c.args.query.now.deadline.0 order rest _ _ _ c.skip_after.ensures.up_to (fit.room order c.requires.whole);
+      room = skipped_room c.args.network.now c.args.query.now.deadline.0 order rest _ _ c.skip_after.ensures.up_to (fit.room order c.requires.whole);
       state = skipped_state g.V.Score.laws c.args.network.now fit.valid c.args.query.now order c.requires.whole _ _ fit.empty rest c.skip_after.ensures.up_to;
       same_capacity = λ place. refl;
       same_runs = refl;
-      same_outcomes = refl;
     }
 
-pub scan_one-exit-requires-clause-there : goal.scan_one-exit-requires-clause-there
-scan_one-exit-requires-clause-there g c =
+pub invariant_of-site : goal.invariant_of-site
+invariant_of-site g c =
     let loop = c.loop-id.invariant in
     let state = rw c.in-Some.ensures.last at loop.state in
-    id_there c.args.network.now loop.valid _ c.requires.whole _ state.taken c.in-Some.id state.split
+    record { there = id_there c.args.network.now loop.valid _ c.requires.whole _ state.taken c.in-Some.id state.split }
 
-pub scan_one-exit-requires-clause-run : goal.scan_one-exit-requires-clause-run
-scan_one-exit-requires-clause-run g c =
+pub scan_one-start-requires-clause-run : goal.scan_one-start-requires-clause-run
+scan_one-start-requires-clause-run g c =
     let loop = c.loop-id.invariant in
     let room = rw c.in-Some.ensures.last at loop.room in
     let state = rw c.in-Some.ensures.last at loop.state in
     let there = id_there c.args.network.now loop.valid _ c.requires.whole _ state.taken c.in-Some.id state.split in
-    room_for_run c.args.network.now (g.B.BackwardOrder.rest c.next.new.self c.args.network.now) c.in-Some.id there c.loop-id.profiles.items c.loop-id.exits c.loop-id.kids.items room
+    room_for_run c.args.network.now (g.B.BackwardOrder.rest c.next.new.self c.args.network.now) c.in-Some.id there c.loop-id.profiles.items c.loop-id.exits room
 
-pub scan_one-exit-requires-clause-room : goal.scan_one-exit-requires-clause-room
-scan_one-exit-requires-clause-room g c =
+pub scan_one-start-requires-clause-room : goal.scan_one-start-requires-clause-room
+scan_one-start-requires-clause-room g c =
     let loop = c.loop-id.invariant in
     let room = rw c.in-Some.ensures.last at loop.room in
     let state = rw c.in-Some.ensures.last at loop.state in
     let there = id_there c.args.network.now loop.valid _ c.requires.whole _ state.taken c.in-Some.id state.split in
     rw c.deref_mut.ensures.value (room_for_rows c.args.network.now
-    (g.B.BackwardOrder.rest c.next.new.self c.args.network.now) c.in-Some.id there c.loop-id.profiles.items c.loop-id.exits c.loop-id.kids.items room)
-
-pub begin-start-requires : goal.begin-start-requires
-begin-start-requires g c =
-    let loop = c.loop-id.invariant in
-    let state = rw c.in-Some.ensures.last at loop.state in
-    id_there c.args.network.now loop.valid _ c.requires.whole _ state.taken c.in-Some.id state.split
+    (g.B.BackwardOrder.rest c.next.new.self c.args.network.now) c.in-Some.id there c.loop-id.profiles.items c.loop-id.exits room)
 
 pub loop-id-preserved : goal.loop-id-preserved
 loop-id-preserved g c =
     let loop = c.loop-id.invariant in
-    let one = c.scan_one-exit in
+    let one = c.scan_one-start in
     let rest = g.B.BackwardOrder.rest c.next.new.self c.args.network.now in
     let room = rw c.in-Some.ensures.last at loop.room in
     let state = rw c.in-Some.ensures.last at loop.state in
     let there = id_there c.args.network.now loop.valid _ c.requires.whole _ state.taken c.in-Some.id state.split in
     let profiles_whole = c.loop-id.profiles.ok.0 in
-    let kids_whole = c.loop-id.kids.ok.0 in
     let profiles_are = written_back one.new.profiles c.loop-id.profiles.items c.loop-id.profiles.len (omega arith) (omega arith) in
-    let kids_are = written_back one.new.kids c.loop-id.kids.items c.loop-id.kids.len (omega arith) (omega arith) in
     let old = c.deref_mut.ensures.value in
-    let exit = rw old at one.ensures.exit in
-    rw (profiles_are, kids_are) (record {
+    rw profiles_are (record {
       valid = loop.valid;
       fits = c.in-Some.ensures.fits;
-      room = room_next c.args.network.now rest c.in-Some.id there c.loop-id.profiles.items c.loop-id.exits c.loop-id.kids.items room one.new.profiles
-          one.new.exits one.new.kids (rw old at one.ensures.spare) (rw old at one.ensures.places) one.ensures.runs (omega arith);
+      room = room_next c.args.network.now rest c.in-Some.id there c.loop-id.profiles.items c.loop-id.exits room one.new.profiles
+          one.new.exits (rw old at one.ensures.spare) (rw old at one.ensures.places) one.ensures.runs;
       state = next_state g.V.Score.laws c.args.network.now loop.valid c.args.query.now
           (g.B.BackwardOrder.rest c.args.order.now c.args.network.now) c.requires.whole rest c.in-Some.id c.loop-id.profiles.items one.new.profiles
-          c.loop-id.exits one.new.exits c.loop-id.start c.begin-start.result state (rw old at one.ensures.rows) (rw old at one.ensures.exits)
-          (rw exit at c.begin-start.ensures);
+          c.loop-id.exits one.new.exits c.loop-id.start one.result state (rw old at one.ensures.kept);
       same_capacity = λ place. rw old at (one.ensures.capacity place) ∙ loop.same_capacity place;
       same_runs = one.ensures.runs ∙ loop.same_runs;
-      same_outcomes = omega (arith, loop.same_outcomes);
     })
 
 pub returns-clause-answers : goal.returns-clause-answers

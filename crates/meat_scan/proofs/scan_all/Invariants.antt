@@ -10,12 +10,11 @@ invariant-loop-id g l =
     record {
       valid : IsValid l.network;
       fits : g.B.BackwardOrder.fits l.order l.network;
-      room : HasRoom l.network (g.B.BackwardOrder.rest l.order l.network) l.profiles.items l.exits l.kids.items;
+      room : HasRoom l.network (g.B.BackwardOrder.rest l.order l.network) l.profiles.items l.exits;
       state : ScanState score.scoring l.network l.query
           (g.B.BackwardOrder.rest l.fn.order l.network) (g.B.BackwardOrder.rest l.order l.network) l.profiles.items l.exits l.start;
       same_capacity : (place : ℕ) → capacity_at l.profiles.items place ≡ capacity_at l.initial.profiles.items place;
       same_runs : length l.exits ≡ length l.initial.exits;
-      same_outcomes : length l.kids.items ≡ length l.initial.kids.items;
     }
 
 abbrev pub decreases-loop-id : goal.decreases-loop-id

@@ -17,4 +17,4 @@ returns-clause-tables_fit g c =
     let used = c.scan_all-tables in
     let made = c.emptied.ensures in
     fits_again c.args.network.now c.args.tables c.emptied.result used.result.0.profiles c.requires.tables_fit made.empty made.spare
-    used.ensures.capacity (made.places ∙ used.ensures.places) (made.runs ∙ used.ensures.runs) (made.outcomes ∙ used.ensures.outcomes)
+    used.ensures.capacity (made.places ∙ used.ensures.places) (made.runs ∙ used.ensures.runs)

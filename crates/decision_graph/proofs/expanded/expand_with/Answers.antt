@@ -1,19 +1,22 @@
-use Rattle.std.proofs.Common.{◌≡◌, None, List, ap}
+use Rattle.std.proofs.Common.{◌≡◌, None, List, ap, arith}
 use Rattle.std.proofs.lemmas.Option.{MatchOption-at_some}
 use Rattle.plan_graph.specs.declared.Ride.{Ride}
 use Rattle.plan_graph.specs.declared.ExpandedGraph.{ExpandedGraph}
-use Rattle.decision_graph.proofs.AtOnce.{expanded_at_once, steady_at_once}
+use Rattle.decision_graph.proofs.AtOnce.{expanded_at_once, none_late, steady_at_once}
 use Rattle.decision_graph.proofs.Found.{IsOfStart, expanded, steady_choice}
 use Rattle.decision_graph.proofs.expanded.expand_with.Goals as goal
 
 graph_of : List Ride → ExpandedGraph
 graph_of rides = record { start = None; rides = rides }
 
+pub returns-then-query-2-clause-plan : goal.returns-then-query-2-clause-plan
+returns-then-query-2-clause-plan g c = none_late c.args.network.now c.args.query.now c.if-query.true c.if-query-2.true
+
 pub returns-then-query-clause-plan : goal.returns-then-query-clause-plan
 unfolding graph_of
 returns-then-query-clause-plan g c =
     expanded_at_once g.V.Score.scoring g.V.Score.laws
-    c.args.network.now c.args.query.now (graph_of c.new.result) c.args.arrived c.if-query.true c.requires.deadline (ap graph_of c.new.ensures) c.requires.arrived
+    c.args.network.now c.args.query.now (graph_of c.new.result) c.args.arrived c.if-query.true (omega (arith, c.if-query-2.false)) (ap graph_of c.new.ensures) c.requires.arrived
 
 pub returns-then-query-clause-steady : goal.returns-then-query-clause-steady
 unfolding graph_of

@@ -14,5 +14,5 @@ returns c =
     let source = c.args.source.0 in
     let last : c.loop-place.place ≡ length m.change = omega arith in
     let before = c.loop-place.invariant ∙ ap (λ k. map (links_from_added m source) (range_with_len 0 k)) last in
-    let none = c.new.ensures ∙ none_added m c.count-count.ensures.valid source c.requires in
+    let none = c.new.ensures ∙ none_added m c.places-place-end.ensures.valid source c.requires in
     c.from_vec.ensures ∙ links_more m source (length m.change) c.loop-place.links.items _ _ before none c.in_ok-push-2.ensures.items

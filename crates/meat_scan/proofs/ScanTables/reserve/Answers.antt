@@ -7,6 +7,6 @@ returns g c =
     let room = c.in_ok-room.room.items in
     let profiles = c.in_ok-profiles.profiles.items in
     let value = c.deref.ensures.value in
-    fits network c.in_ok-room.ensures.valid c.runs.result c.runs.ensures.below room profiles c.in_ok-exits.exits c.in_ok-kids.kids.items c.in_ok-room.ensures.len c.in_ok-room.ensures.counts
+    fits network c.in_ok-room.ensures.valid c.runs.result c.runs.ensures.below room profiles c.in_ok-exits.exits c.in_ok-room.ensures.len c.in_ok-room.ensures.counts
     (rw value at c.in_ok-profiles.ensures.len) c.in_ok-profiles.ensures.empty (rw value at c.in_ok-profiles.ensures.room)
-    c.in_ok-exits.ensures c.in_ok-kids.ensures
+    c.in_ok-exits.ensures
