@@ -14,7 +14,7 @@ ghost use Rattle.plan_graph.specs.Coherent.{IsCoherent};
 ghost use Rattle.plan_graph.specs.Follows.{Follows, IsSteady};
 ghost use Rattle.graph_prune.specs.Limits.{is_last, with_limit, by_limits, ride_by_limits};
 
-use leg_walk::walk;
+use leg_walk::{GraphChoice, walk};
 use plan_graph::{ExpandedGraph, GraphRow, Ride};
 use plan_model::{Leg, List, Moment, Network, NoMemory, PlaceId, Query};
 use std::alloc::Global;
@@ -109,14 +109,14 @@ pub fn prune(
         → Follows network.now query.now.target.0 choice graph.now
         → Follows network.now query.now.target.0 choice pruned) }
 {
-    let _count = network.count();
     match graph.start {
         None => Ok(ExpandedGraph {
             start: None,
             rides: List::new(alloc),
         }),
         Some(start) => {
-            let walked = walk(alloc, graph, network, query, start)?;
+            let choice = GraphChoice { graph };
+            let walked = walk(alloc, &choice, network, query, start)?;
             let rides = rides_by_limits(alloc, network, query, walked.as_slice())?;
             Ok(ExpandedGraph {
                 start: Some(start),

@@ -20,21 +20,15 @@ struct ScanChoice<'a, V: Score> {
 }
 
 impl<'a, V: Score> LegChoice for ScanChoice<'a, V> {
-    ghost use Rattle.std.specs.Prelude.{◌≡◌, length};
     ghost use Rattle.plan_model.specs.Unfold.{by_place};
     ghost use Rattle.meat_scan.specs.ScanResult.{leg_choice};
 
-    ghost fits = { λ s n target. (length s.scanned.now.rows ≡ length n.change) × (s.scanned.now.target ≡ target) };
-
     ghost chosen = { λ s n. by_place n (leg_choice s.scanned.now) };
 
-    fn choose(&self, network: &Network, query: &Query, leg: Leg, arrival: Moment) -> Option<Leg> {
-        let _ = query;
+    fn choose(&self, network: &Network, leg: Leg, arrival: Moment) -> Option<Leg> {
         let end = network.get(leg.exit).to;
-        match self.scanned.choice(end, arrival) {
-            Some((_, next)) => Some(next),
-            None => None,
-        }
+        let (_, next) = self.scanned.choice(end, arrival)?;
+        Some(next)
     }
 }
 
@@ -51,7 +45,6 @@ pub fn extract<V: Score>(
         (λ graph. (start : V × LegParts) × (scanned.now.start ≡ Some start)
         × IsExtracted network.now query.now scanned.now start.1 graph)) }
 {
-    let _count = network.count();
     match scanned.start() {
         None => Ok(None),
         Some((_, start)) => {

@@ -1,3 +1,4 @@
 pub mod WalkTables
+pub mod RisingRides
 pub mod Placed
 pub mod Walked

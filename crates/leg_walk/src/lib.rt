@@ -4,9 +4,11 @@
 ghost use Rattle.std.specs.Prelude.{◌≡◌, ◌≢◌, ℕ, ◌<◌, ◌++◌, map, Some, IfOk, OnOk, MatchBool};
 ghost use Rattle.std.specs.List.{AllByRecursion};
 ghost use Rattle.std.specs.BTreeSet.{contains, IsOrdered};
-ghost use Rattle.plan_model.specs.Network.{count};
+ghost use Rattle.plan_model.specs.Network.{IsValid, count};
 ghost use Rattle.plan_model.specs.Unfold.{unfolding_of};
 ghost use Rattle.plan_graph.specs.Ready.{IsSafeForSome};
+ghost use Rattle.plan_graph.specs.PickedRows.{HasRisingRides};
+ghost use Rattle.leg_walk.specs.RisingRides.{HasRisingRides-prop};
 ghost use Rattle.leg_walk.specs.WalkTables.{table_after, ride_of_leg, leg_cmp, with_leg};
 ghost use Rattle.leg_walk.specs.Placed.{IsReached};
 ghost use Rattle.leg_walk.specs.Walked.{IsWalked};
@@ -18,37 +20,36 @@ use std::collections::BTreeSet;
 
 /// A choice of the leg that is taken after each ride.
 pub trait LegChoice {
-    ghost use Rattle.std.specs.Prelude.{◌≡◌, ◌≢◌, ℕ, ◌<◌, Option};
+    ghost use Rattle.std.specs.Prelude.{◌≡◌, ℕ, ◌<◌, Option};
     ghost use Rattle.plan_model.specs.declared.model.Leg.{Leg};
     ghost use Rattle.plan_model.specs.NetworkModel.{NetworkModel};
     ghost use Rattle.plan_model.specs.Network.{count};
-    ghost use Rattle.plan_model.specs.Unfold.{end_of};
-
-    /// It can be asked about this network, away from this target.
-    ghost fits: { Self → NetworkModel → ℕ → Type 0 };
 
     /// The leg that it chooses after a leg that arrives at a moment.
     ghost chosen: { Self → NetworkModel → Leg → ℕ → Option Leg };
 
     /// The leg that is chosen after a leg that arrives at the moment.
-    fn choose(&self, network: &Network, query: &Query, leg: Leg, arrival: Moment) -> Option<Leg>
-        requires fits { fits self.now network.now query.now.target.0 }
-        requires there { leg.exit.0 < count network.now }
-        requires away { end_of network.now leg ≢ query.now.target.0 }
+    fn choose(&self, network: &Network, leg: Leg, arrival: Moment) -> Option<Leg>
+        requires { leg.exit.0 < count network.now }
         ensures { result ≡ chosen self.now network.now leg arrival.0 };
 }
 
-impl LegChoice for ExpandedGraph {
-    ghost use Rattle.plan_graph.specs.PickedRows.{HasRisingRides, pick_after};
+/// The choice by a graph whose rides rise.
+#[derive(Drop)]
+pub struct GraphChoice<'a> {
+    /// The graph.
+    pub graph: &'a ExpandedGraph,
+    pub ghost rising: { HasRisingRides graph.now.rides } by { HasRisingRides-prop graph.now.rides },
+}
 
-    ghost fits = { λ graph n target. HasRisingRides graph.rides };
+impl<'a> LegChoice for GraphChoice<'a> {
+    ghost use Rattle.plan_graph.specs.PickedRows.{pick_after};
 
-    ghost chosen = { λ graph n. pick_after graph.rides };
+    ghost chosen = { λ choice n. pick_after choice.graph.now.rides };
 
-    fn choose(&self, network: &Network, query: &Query, leg: Leg, arrival: Moment) -> Option<Leg> {
+    fn choose(&self, network: &Network, leg: Leg, arrival: Moment) -> Option<Leg> {
         let _ = network;
-        let _ = query;
-        self.pick_rising(leg, arrival)
+        self.graph.pick_rising(leg, arrival)
     }
 }
 
@@ -60,8 +61,7 @@ fn table<C: LegChoice>(
     query: &Query,
     leg: Leg,
 ) -> Result<Vec<GraphRow>, NoMemory>
-    requires fits { C.fits choice.now network.now query.now.target.0 }
-    requires there { leg.exit.0 < count network.now }
+    requires { leg.exit.0 < count network.now }
     ensures { IfOk result (λ rows. rows.items ≡ table_after network.now query.now.target.0
         (C.chosen choice.now network.now) leg) }
 {
@@ -72,7 +72,7 @@ fn table<C: LegChoice>(
     }
     for outcome in network.row(exit.class) {
         let by = Moment(exit.arr.0 + u64::from(outcome.delay));
-        if let Some(next) = choice.choose(network, query, leg, by) {
+        if let Some(next) = choice.choose(network, leg, by) {
             rows.push(GraphRow { by, leg: next })?;
         }
     }
@@ -99,8 +99,7 @@ fn visit<C: LegChoice>(
     todo: &mut Vec<Leg>,
     seen: &mut BTreeSet<Leg>,
 ) -> Result<(), NoMemory>
-    requires fits { C.fits choice.now network.now query.now.target.0 }
-    requires there { leg.exit.0 < count network.now }
+    requires { leg.exit.0 < count network.now }
     ensures ordered { OnOk result (IsOrdered leg_cmp seen.new) }
     ensures seen { OnOk result (seen.new.keys ≡ with_leg seen.old.keys leg) }
     ensures todo { OnOk result (MatchBool (contains leg_cmp seen.old leg)
@@ -108,17 +107,11 @@ fn visit<C: LegChoice>(
         ++ map (λ row. row.leg) (table_after network.now query.now.target.0
         (C.chosen choice.now network.now) leg))) }
 {
-    match seen.insert(leg) {
-        Err(_) => Err(NoMemory),
-        Ok(added) => {
-            if added {
-                let rows = table(alloc, choice, network, query, leg)?;
-                push_legs(todo, &rows)
-            } else {
-                Ok(())
-            }
-        }
+    if !seen.insert(leg)? {
+        return Ok(());
     }
+    let rows = table(alloc, choice, network, query, leg)?;
+    push_legs(todo, &rows)
 }
 
 // The legs that are reached from the start leg.
@@ -129,7 +122,6 @@ fn reach<C: LegChoice>(
     query: &Query,
     start: Leg,
 ) -> Result<BTreeSet<Leg>, NoMemory>
-    requires fits { C.fits choice.now network.now query.now.target.0 }
     requires differ { query.now.source.0 ≢ query.now.target.0 }
     requires safe { IsSafeForSome network.now query.now
         (unfolding_of network.now query.now (C.chosen choice.now network.now) (Some start)) }
@@ -157,8 +149,7 @@ fn rides_of<C: LegChoice>(
     query: &Query,
     seen: &BTreeSet<Leg>,
 ) -> Result<List<Ride>, NoMemory>
-    requires fits { C.fits choice.now network.now query.now.target.0 }
-    requires there { AllByRecursion (λ leg. leg.exit.0 < count network.now) seen.now.keys }
+    requires { AllByRecursion (λ leg. leg.exit.0 < count network.now) seen.now.keys }
     ensures { IfOk result (λ rides. rides ≡ map
         (ride_of_leg network.now query.now.target.0
         (C.chosen choice.now network.now)) seen.now.keys) }
@@ -184,11 +175,11 @@ pub fn walk<C: LegChoice>(
     query: &Query,
     start: Leg,
 ) -> Result<List<Ride>, NoMemory>
-    requires fits { C.fits choice.now network.now query.now.target.0 }
     requires differ { query.now.source.0 ≢ query.now.target.0 }
     requires safe { IsSafeForSome network.now query.now
         (unfolding_of network.now query.now (C.chosen choice.now network.now) (Some start)) }
-    ensures { IfOk result (IsWalked network.now query.now (C.chosen choice.now network.now) start) }
+    ensures walked { IfOk result (IsWalked network.now query.now (C.chosen choice.now network.now) start) }
+    ensures valid { IfOk result (λ _. IsValid network.now) }
 {
     let _count = network.count();
     let seen = reach(alloc, choice, network, query, start)?;

@@ -15,5 +15,5 @@ returns-in_ok-rides-in-Some g c =
       (c.in-Some.field-0-0, c.in-Some.start),
       is,
       extracted c.args.network.now c.args.query.now c.args.scanned.now c.requires.answers
-          c.count-count.ensures.valid c.requires.differ (c.in-Some.field-0-0, c.in-Some.start) is c.in_ok-rides-in-Some.rides c.in_ok-rides-in-Some.ensures,
+          c.in_ok-rides-in-Some.ensures.valid c.requires.differ (c.in-Some.field-0-0, c.in-Some.start) is c.in_ok-rides-in-Some.rides c.in_ok-rides-in-Some.ensures.walked,
     )

@@ -34,8 +34,8 @@ returns-in-None g c =
       ordered = inv.ordered;
     }
 
-pub visit-requires-clause-there : goal.visit-requires-clause-there
-visit-requires-clause-there g c =
+pub visit-requires : goal.visit-requires
+visit-requires g c =
     popped_there _ _ _ _ _ _ c.pop.new.self.items c.loop.seen.keys c.in-Some.leg
     (popped _ _ _ _ _ _ c.loop.todo.items c.pop.new.self.items c.loop.seen.keys c.in-Some.leg c.loop.invariant.reaching c.in-Some.ensures.items)
 
