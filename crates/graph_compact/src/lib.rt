@@ -1,8 +1,8 @@
 //! A graph by place from a graph by ride.
 #![tactic(auto)]
 
-ghost use Rattle.std.specs.Prelude.{◌≡◌, ℕ, ◌<◌, length, map, IfOk, OnOk, All, [], ◌++◌, List as Sequence};
-ghost use Rattle.std.specs.BTreeSet.{btree_set_len};
+ghost use Rattle.std.specs.Prelude.{◌≡◌, ℕ, ◌<◌, length, IfOk, OnOk, All, [], ◌++◌, List as Sequence};
+ghost use Rattle.plan_model.specs.Network.{IsValid};
 ghost use Rattle.plan_graph.specs.declared.PlaceTable.{PlaceTable as TableParts};
 ghost use Rattle.plan_graph.specs.Ready.{IsPruned, IsLegOf};
 ghost use Rattle.plan_graph.specs.Coherent.{IsCoherent};
@@ -29,6 +29,7 @@ fn put_all(table: &mut BTreeSet<GraphRow>, rows: &[GraphRow]) -> Result<(), NoMe
 fn no_tables(alloc: Global, network: &Network) -> Result<Vec<BTreeSet<GraphRow>>, NoMemory>
     ensures len { IfOk result (λ tables. length tables.items ≡ length network.now.change) }
     ensures empty { IfOk result (λ tables. (place : ℕ) → rows_in tables.items place ≡ []) }
+    ensures valid { IfOk result (λ _. IsValid network.now) }
 {
     let mut tables = Vec::new(alloc);
     for _ in 0..network.places() {
@@ -47,9 +48,9 @@ fn gather(
     ensures len { IfOk result (λ tables. length tables.items ≡ length network.now.change) }
     ensures rows { IfOk result (λ tables. (place : ℕ) → place < length network.now.change
         → rows_in tables.items place ≡ gathered_rows network.now place graph.now.rides []) }
+    ensures valid { IfOk result (λ _. IsValid network.now) }
 {
     let mut tables = no_tables(alloc, network)?;
-    let _count = network.count();
     for ride in graph.rides.as_slice() {
         let end = network.get(ride.leg.exit).to.0 as usize;
         put_all(&mut tables[end], ride.after.as_slice())?;
@@ -112,7 +113,6 @@ pub fn compact(
         ≡ unfold_expanded graph.now network.now query.now) }
     ensures tidy { IfOk result (IsTidy network.now query.now) }
 {
-    let _count = network.count();
     let _ = query;
     match graph.start {
         None => Ok(PlanGraph {

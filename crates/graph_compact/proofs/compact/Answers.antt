@@ -8,12 +8,12 @@ pub returns-in_ok-tables-in-Some-clause-unfolds : goal.returns-in_ok-tables-in-S
 returns-in_ok-tables-in-Some-clause-unfolds c =
     let tables = c.in_ok-rows-in-Some.rows.items in
     rw (c.in_ok-tables-in-Some.ensures, c.deref.ensures.value)
-    (unfolds c.args.network.now c.count-count.ensures.valid c.args.query.now c.args.graph.now c.requires.pruned c.requires.coherent c.in-Some.start
+    (unfolds c.args.network.now c.in_ok-rows-in-Some.ensures.valid c.args.query.now c.args.graph.now c.requires.pruned c.requires.coherent c.in-Some.start
     c.in-Some.is (lists_of tables) (length-map tables (λ table. table.keys) ∙ c.in_ok-rows-in-Some.ensures.len) c.in_ok-rows-in-Some.ensures.rows)
 
 pub returns-in_ok-tables-in-Some-clause-tidy : goal.returns-in_ok-tables-in-Some-clause-tidy
 returns-in_ok-tables-in-Some-clause-tidy c =
     let tables = c.in_ok-rows-in-Some.rows.items in
     rw (c.in_ok-tables-in-Some.ensures, c.deref.ensures.value)
-    (tidy c.args.network.now c.count-count.ensures.valid c.args.query.now c.args.graph.now c.requires.pruned c.requires.coherent c.in-Some.start
+    (tidy c.args.network.now c.in_ok-rows-in-Some.ensures.valid c.args.query.now c.args.graph.now c.requires.pruned c.requires.coherent c.in-Some.start
     c.in-Some.is (lists_of tables) (length-map tables (λ table. table.keys) ∙ c.in_ok-rows-in-Some.ensures.len) c.in_ok-rows-in-Some.ensures.rows)

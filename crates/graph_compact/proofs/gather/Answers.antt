@@ -23,7 +23,7 @@ loop-ride-preserved c =
     subst (λ (x : Ride). IsLegOf c.args.network.now x.leg) (sym c.ride-item.is)
     (subst (λ (list : List Ride). (k : ℕ) (d : Ride) → k < length list → IsLegOf c.args.network.now (slice_index_or list k d).leg)
     (sym c.as_slice-ride-items.ensures) c.requires c.loop-ride.ride-index r within) in
-    let there = (c.count-count.ensures.valid.connections r.leg.exit.0 leg.exit).to_in in
+    let there = (c.get-end.ensures.valid.connections r.leg.exit.0 leg.exit).to_in in
     let inside : end < length tables = omega (arith, inv.len, there, ends) in
     let puts : c.put_all.new.table.keys ≡ put_rows r.after (rows_in tables end) =
     c.in_ok-put_all.ensures
