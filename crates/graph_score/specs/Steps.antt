@@ -88,10 +88,6 @@ abbrev pub IsOutlook : NetworkModel → Query → Outlook → Tree → Type 0
 IsOutlook network query (Safe span) tree = ((p x : ℕ) → Fails query tree p x → ⊥) × (span ≡ span_of network tree)
 IsOutlook network query (Failing f) tree = IsFirstFailure (Fails query tree) f.place.0 f.moment.0
 
--- each leg that is taken ends by one of the first so many connections
-abbrev pub ExitsWithin : List PlaceTable → ℕ → Type 0
-ExitsWithin tables many = (place moment : ℕ) (leg : Leg) → pick_at tables place moment ≡ Some leg → leg.exit.0 < many
-
 -- each row fits
 abbrev pub AreFitRows : NetworkModel → List PlaceTable → Type 0
 AreFitRows network tables = All (λ table. All (IsFitRow network table.place.0) table.rows) tables

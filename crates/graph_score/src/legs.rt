@@ -1,5 +1,5 @@
 //! The legs of a graph, in their order, and the first that does not fit.
-ghost use Rattle.std.specs.Prelude.{◌≡◌, ℕ, ◌+◌, ◌++◌, ◌↔◌, map, IsTrue, IfOk, OnOk, IfSome, IfNone, All};
+ghost use Rattle.std.specs.Prelude.{◌≡◌, ◌+◌, ◌++◌, ◌↔◌, map, IsTrue, IfOk, OnOk, IfSome, IfNone, All};
 ghost use Rattle.plan_graph.specs.Ready.{IsLegOf};
 ghost use Rattle.plan_graph.specs.Tidy.{IsFitStart, IsFitRow};
 ghost use Rattle.graph_score.specs.Legs.{IsFitLeg, IsFirstWrong, legs_of};
@@ -58,7 +58,6 @@ fn is_leg(network: &Network, leg: Leg) -> bool
 fn is_fit_row(network: &Network, place: PlaceId, row: &GraphRow) -> bool
     ensures { IsTrue result ↔ IsFitRow network.now place.0 row.now }
 {
-    let _count = network.count();
     if place.0 >= network.places() || !is_leg(network, row.leg) {
         return false;
     }

@@ -17,7 +17,7 @@ mod outlooks;
 
 use interval_fixed::Span;
 use legs::{first_wrong, legs_of};
-use outlooks::{Failure, Outlook, arrived, fill};
+use outlooks::{Failure, Outlook, RisingGraph, arrived, outlooks_of, told};
 use plan_graph::PlanGraph;
 use plan_model::{Moment, Network, NoMemory, PlaceId, Query, SortedOrder};
 use std::alloc::Global;
@@ -36,17 +36,26 @@ pub enum ScoreFault {
     NoMemory,
 }
 
+impl From<NoMemory> for ScoreFault {
+    ghost use Rattle.graph_score.specs.declared.ScoreFault.TheVariants.{NoMemory as WantOfMemory};
+
+    ghost from_gives = { λ _ e. e ≡ WantOfMemory };
+
+    fn from(_: NoMemory) -> ScoreFault {
+        ScoreFault::NoMemory
+    }
+}
+
 /// What comes of a graph whose legs fit.
 fn outlook(
     alloc: Global,
-    graph: &PlanGraph,
+    rising: &RisingGraph,
     network: &Network,
     query: &Query,
 ) -> Result<Outlook, NoMemory>
-    requires rising { HasRisingTables graph.now }
-    requires fit { All (IsFitLeg network.now query.now) (legs_of graph.now) }
+    requires fit { All (IsFitLeg network.now query.now) (legs_of rising.now.graph.now) }
     requires start { query.now.source.0 ≡ query.now.target.0 → query.now.start.0 < end_of_nanos }
-    ensures { IfOk result (λ outlook. IsOutlook network.now query.now outlook (unfold_plan graph.now network.now query.now)) }
+    ensures { IfOk result (λ outlook. IsOutlook network.now query.now outlook (unfold_plan rising.now.graph.now network.now query.now)) }
 {
     if query.source.0 == query.target.0 {
         return Ok(arrived(query.deadline, query.source, query.start));
@@ -55,14 +64,12 @@ fn outlook(
         moment: query.start,
         place: query.source,
     });
-    let Some(start) = graph.start else {
+    let Some(start) = rising.graph.start else {
         return Ok(stuck);
     };
     let mut order = SortedOrder::new(alloc, network)?;
-    let mut outlooks: Vec<Outlook> = vec![in alloc; stuck; network.count() as usize]?;
-    fill(&mut order, &mut outlooks, graph, network, query);
-    let outlook = outlooks.as_slice()[start.exit.0 as usize];
-    Ok(outlook)
+    let outlooks = outlooks_of(alloc, &mut order, rising, network, query)?;
+    Ok(told(&outlooks, start.exit))
 }
 
 /// Bounds on the expected arrival of a graph, in nanoseconds since 1970-01-01: from the arrivals
@@ -83,16 +90,12 @@ pub fn score(
     ensures { IsScore network.now query.now graph.now result }
 {
     let _count = network.count();
-    let Ok(legs) = legs_of(alloc, graph) else {
-        return Err(ScoreFault::NoMemory);
-    };
+    let legs = legs_of(alloc, graph)?;
     if let Some(at) = first_wrong(network, query, &legs) {
         return Err(ScoreFault::NoSuchLeg(at as u64 + 1));
     }
-    let Ok(outlook) = outlook(alloc, graph, network, query) else {
-        return Err(ScoreFault::NoMemory);
-    };
-    match outlook {
+    let rising = RisingGraph { graph };
+    match outlook(alloc, &rising, network, query)? {
         Outlook::Safe(span) => Ok(span),
         Outlook::Failing(failure) => Err(ScoreFault::Unsafe(failure.place, failure.moment)),
     }

@@ -1,20 +1,22 @@
 //! What comes of leaving by each connection, the last ones first.
-ghost use Rattle.std.specs.Prelude.{◌≡◌, ℕ, ◌+◌, ◌<◌, ◌≤◌, length, IsTrue, slice_set, AllPairs, Some, None, Option as Maybe};
-ghost use Rattle.plan_model.specs.declared.model.Leg.{Leg as LegParts};
+ghost use Rattle.std.specs.Prelude.{◌≡◌, ◌+◌, ◌<◌, length, slice_index_or, IfOk, AllPairs, Some, None, Option as Maybe};
 ghost use Rattle.plan_model.specs.Bounds.{end_of_time};
-ghost use Rattle.plan_model.specs.Network.{IsValid, count};
+ghost use Rattle.plan_model.specs.Network.{count};
 ghost use Rattle.plan_model.specs.Order.{IsScanOrder};
 ghost use Rattle.plan_model.specs.DelayRows.{IsValidRow};
 ghost use Rattle.interval_fixed.specs.Means.{mean_of};
-ghost use Rattle.plan_graph.specs.PickedRows.{pick_row, pick_at, rows_of_place};
+ghost use Rattle.plan_graph.specs.PickedRows.{pick_row, rows_of_place};
 ghost use Rattle.graph_score.specs.Legs.{HasRisingTables};
-ghost use Rattle.graph_score.specs.Steps.{no_outlook, is_sooner, sooner_failure, first_failure_of, spans_in, blend_of, arrived_outlook, outlook_at, outlooks_after, outlook_of, ExitsWithin, AreFitRows, AreOutlooks};
+ghost use Rattle.graph_score.specs.Steps.{no_outlook, is_sooner, sooner_failure, first_failure_of, spans_in, blend_of, arrived_outlook, outlook_at, outlook_of, AreFitRows, AreOutlooks};
 ghost use Rattle.interval_fixed.specs.Interval.{end_of_nanos};
 
 use arrayvec::ArrayVec;
 use interval_fixed::Span;
 use plan_graph::{GraphRow, PlaceTable, PlanGraph};
-use plan_model::{BackwardOrder, ConnectionId, Leg, Moment, Network, Outcome, PlaceId, Query};
+use plan_model::{
+    BackwardOrder, ConnectionId, Leg, Moment, Network, NoMemory, Outcome, PlaceId, Query,
+};
+use std::alloc::Global;
 
 /// Where a traveller is stuck, or too late, and when.
 #[derive(Clone, Copy)]
@@ -41,6 +43,13 @@ impl Default for Outlook {
             place: PlaceId(0),
         })
     }
+}
+
+/// A graph whose places and rows rise.
+#[derive(Clone, Copy)]
+pub struct RisingGraph<'a> {
+    pub graph: &'a PlanGraph,
+    pub ghost rising: { HasRisingTables graph.now },
 }
 
 /// The rows of a place; none where it has no table.
@@ -140,71 +149,74 @@ pub fn arrived(deadline: Moment, place: PlaceId, moment: Moment) -> Outlook
     }
 }
 
+/// What comes of leaving by a connection, where that is told.
+pub fn told(outlooks: &[Outlook], exit: ConnectionId) -> Outlook
+    ensures { result ≡ slice_index_or outlooks.now exit.0 no_outlook }
+{
+    match outlooks.get(exit.0 as usize) {
+        Some(outlook) => *outlook,
+        None => Outlook::default(),
+    }
+}
+
 /// What comes of an arrival at a place.
 fn outlook_at(
-    graph: &PlanGraph,
+    rising: &RisingGraph,
     query: &Query,
     outlooks: &[Outlook],
     place: PlaceId,
     moment: Moment,
 ) -> Outlook
-    requires rising { HasRisingTables graph.now }
-    requires exits { ExitsWithin graph.now.tables (length outlooks.now) }
-    requires soon { moment.0 < end_of_time }
-    ensures { result ≡ outlook_at graph.now.tables query.now outlooks.now place.0 moment.0 }
+    requires { moment.0 < end_of_time }
+    ensures { result ≡ outlook_at rising.now.graph.now.tables query.now outlooks.now place.0 moment.0 }
 {
     if place.0 == query.target.0 {
         return arrived(query.deadline, place, moment);
     }
-    match leg_at(rows_at(graph.tables.as_slice(), place), moment) {
+    match leg_at(rows_at(rising.graph.tables.as_slice(), place), moment) {
         None => Outlook::Failing(Failure { moment, place }),
-        Some(leg) => outlooks[leg.exit.0 as usize],
+        Some(leg) => told(outlooks, leg.exit),
     }
 }
 
 /// What comes of leaving by a connection, by what comes of leaving by later ones.
 fn outlook_of(
-    graph: &PlanGraph,
+    rising: &RisingGraph,
     network: &Network,
     query: &Query,
     outlooks: &[Outlook],
     id: ConnectionId,
 ) -> Outlook
-    requires valid { IsValid network.now }
-    requires rising { HasRisingTables graph.now }
-    requires exits { ExitsWithin graph.now.tables (length outlooks.now) }
-    requires there { id.0 < count network.now }
-    ensures { result ≡ outlook_of network.now graph.now.tables query.now outlooks.now id.0 }
+    requires { id.0 < count network.now }
+    ensures { result ≡ outlook_of network.now rising.now.graph.now.tables query.now outlooks.now id.0 }
 {
     let exit = network.get(id);
     let row = network.row(exit.class);
     let mut kids: ArrayVec<Outlook, 64> = ArrayVec::new();
     for outcome in row {
         let moment = Moment(exit.arr.0 + u64::from(outcome.delay));
-        kids.push(outlook_at(graph, query, outlooks, exit.to, moment));
+        kids.push(outlook_at(rising, query, outlooks, exit.to, moment));
     }
     blend(row, &kids)
 }
 
-/// Tells what comes of leaving by each connection, in the scan order, the last one first.
-pub fn fill<B: BackwardOrder>(
+/// What comes of leaving by each connection, told in the scan order, the last one first.
+pub fn outlooks_of<B: BackwardOrder>(
+    alloc: Global,
     order: &mut B,
-    outlooks: &mut [Outlook],
-    graph: &PlanGraph,
+    rising: &RisingGraph,
     network: &Network,
     query: &Query,
-)
-    requires valid { IsValid network.now }
+) -> Result<Vec<Outlook>, NoMemory>
     requires fits { B.fits order.old network.now }
     requires whole { IsScanOrder network.now (B.rest order.old network.now) }
-    requires rising { HasRisingTables graph.now }
-    requires fit { AreFitRows network.now graph.now.tables }
-    requires as_many { length outlooks.old ≡ count network.now }
-    ensures as_many { length outlooks.new ≡ count network.now }
-    ensures right { AreOutlooks network.now query.now graph.now.tables outlooks.new }
+    requires fit { AreFitRows network.now rising.now.graph.now.tables }
+    ensures { IfOk result (λ outlooks. AreOutlooks network.now query.now rising.now.graph.now.tables outlooks.items) }
 {
+    let mut outlooks: Vec<Outlook> = vec![in alloc; Outlook::default(); network.count() as usize]?;
     while let Some(id) = order.next(network) {
-        let outlook = outlook_of(graph, network, query, outlooks, id);
+        let outlook = outlook_of(rising, network, query, &outlooks, id);
         outlooks[id.0 as usize] = outlook;
     }
+    Ok(outlooks)
 }

@@ -8,7 +8,7 @@ use Rattle.graph_score.proofs.outlooks.outlook_at.Goals as goal
 pub leg_at-requires : goal.leg_at-requires
 leg_at-requires c =
     let rises = rows_of_place-by (λ place (rows : List GraphRow). AllPairs
-    (λ (a b : GraphRow). a.by.0 < b.by.0) rows) c.args.graph.now.tables c.args.place.0
-    (λ i j d less within. absurd (omega (arith, less, within))) c.requires.rising.rows in
+    (λ (a b : GraphRow). a.by.0 < b.by.0) rows) c.args.rising.now.graph.now.tables c.args.place.0
+    (λ i j d less within. absurd (omega (arith, less, within))) c.args.rising.now.rising.rows in
     subst (λ (rows : List GraphRow). AllPairs (λ (a b : GraphRow). a.by.0 < b.by.0) rows)
     (sym (c.rows_at.ensures ∙ ap (λ (tables : List PlaceTable). rows_of_place tables c.args.place.0) c.as_slice.ensures)) rises
