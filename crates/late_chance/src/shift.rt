@@ -1,9 +1,9 @@
 //! A network as it is seen from a start on, and graphs by the shift later.
-ghost use Rattle.std.specs.Prelude.{◌≡◌, ℕ, ◌+◌, ◌-◌, ◌^◌, ◌<◌, ◌≤◌, All, IfOk, map};
+ghost use Rattle.std.specs.Prelude.{◌≡◌, ◌+◌, ◌-◌, ◌^◌, ◌<◌, ◌≤◌, All, IfOk, map};
 ghost use Rattle.plan_model.specs.Network.{IsValid};
 ghost use Rattle.plan_model.specs.View.{IsView};
 ghost use Rattle.late_chance.specs.Chances.{seconds_per_week};
-ghost use Rattle.late_chance.specs.LaterGraphs.{later_row, later_table, later_graph, sooner_query};
+ghost use Rattle.late_chance.specs.LaterGraphs.{later_row, later_graph, sooner_query};
 ghost use Rattle.late_chance.specs.SeenFrom.{shifted_connection, shifted_parts};
 
 use plan_graph::{GraphRow, PlaceTable, PlanGraph};
@@ -45,17 +45,16 @@ pub fn unshifted(alloc: Global, graph: &PlanGraph, seconds: u64) -> Result<PlanG
     })
 }
 
-/// The query with its start and its deadline so many seconds sooner.
+/// The query with its start and its deadline so many seconds sooner, and 0 where they would be before
+/// all time.
 pub fn sooner(query: &Query, seconds: u64) -> Query
-    requires start { seconds ≤ query.now.start.0 }
-    requires deadline { seconds ≤ query.now.deadline.0 }
     ensures { result ≡ sooner_query seconds query.now }
 {
     Query {
         source: query.source,
         target: query.target,
-        start: Moment(query.start.0 - seconds),
-        deadline: Moment(query.deadline.0 - seconds),
+        start: moment_before(query.start, seconds),
+        deadline: moment_before(query.deadline, seconds),
     }
 }
 
@@ -63,10 +62,7 @@ pub fn sooner(query: &Query, seconds: u64) -> Query
 fn moment_before(moment: Moment, seconds: u64) -> Moment
     ensures { result ≡ record { 0 = moment.0 - seconds } }
 {
-    if moment.0 < seconds {
-        return Moment(0);
-    }
-    Moment(moment.0 - seconds)
+    Moment(moment.0.saturating_sub(seconds))
 }
 
 /// A connection as it is seen from the start on.
@@ -101,7 +97,7 @@ fn seen_connections(
 
 /// The network as it is seen from the start on: no connection before the start can be boarded, and
 /// all moments are less by so many seconds that the promised one is 1970-01-08T00:00:00, or 0 where
-/// they would be before all time. Places, delays and links stay. `NoMemory` comes where there is no
+/// they would be before all time; for a promise before that they stay. Places, delays and links stay. `NoMemory` comes where there is no
 /// memory for it.
 pub fn shifted(
     alloc: Global,
@@ -109,12 +105,11 @@ pub fn shifted(
     start: Moment,
     promise: Moment,
 ) -> Result<Network, NoMemory>
-    requires promise { seconds_per_week ≤ promise.0 }
-    requires soon { promise.0 ≤ start.0 + seconds_per_week }
+    requires { promise.0 ≤ start.0 + seconds_per_week }
     ensures parts { IfOk result (λ seen. seen ≡ shifted_parts (promise.0 - seconds_per_week) start.0 network.now) }
     ensures view { IfOk result (λ seen. IsView seen network.now (promise.0 - seconds_per_week) start.0) }
 {
-    let shift = promise.0 - SECONDS_PER_WEEK;
+    let shift = promise.0.saturating_sub(SECONDS_PER_WEEK);
     let connections = seen_connections(alloc, network, start, shift)?;
     network.try_clone_with(alloc, connections)
 }
