@@ -1,5 +1,5 @@
 //! The scan order of a network, merged from its runs.
-ghost use Rattle.std.specs.Prelude.{◌≡◌, ℕ, ◌+◌, ◌-◌, ◌*◌, ◌<◌, ◌≤◌, length, slice_index, slice_set, IfOk, MatchBool};
+ghost use Rattle.std.specs.Prelude.{◌≡◌, ◌+◌, ◌-◌, ◌*◌, ◌<◌, ◌≤◌, length, slice_index, slice_set, IfOk};
 ghost use Rattle.plan_model.specs.Bounds.{most_connections};
 ghost use Rattle.plan_model.specs.Order.{IsScanOrder};
 ghost use Rattle.merged_runs.specs.Merged.{AreStarts, AreStretches, IsWinner, IsTournament, IsMerge, DepartsInOrder, IsParted, key_of, rest_of};
@@ -23,6 +23,7 @@ pub struct MergedRuns {
     /// equal departures with its number. Node 1 is the final, node k is between the nodes 2 k and 2 k + 1, and from the count
     /// of runs on the nodes are the runs themselves.
     keys: Vec<u64>,
+    ghost size: { length keys.items ≡ 2 * length left.items },
 }
 
 /// Where the connections of each run begin, and after the last run their count.
@@ -102,7 +103,6 @@ impl MergedRuns {
 
     /// The greatest key below a node, by those of the two nodes below it.
     fn winner(&self, network: &Network, node: usize) -> u64
-        requires size { length self.now.keys.items ≡ 2 * length self.now.left.items }
         requires low { 0 < node }
         requires high { node < length self.now.left.items }
         requires first { IsWinner network.now self.now.starts.items self.now.left.items (2 * node)
@@ -119,8 +119,7 @@ impl MergedRuns {
 
     /// Plays all nodes, the final at last.
     fn play_all(&mut self, network: &Network)
-        requires stretches { AreStretches network.now self.old.starts.items self.old.left.items }
-        requires size { length self.old.keys.items ≡ 2 * length self.old.left.items }
+        requires { AreStretches network.now self.old.starts.items self.old.left.items }
         ensures tournament { IsTournament network.now self.new.starts.items self.new.left.items self.new.keys.items }
         ensures starts { self.new.starts.items ≡ self.old.starts.items }
         ensures left { self.new.left.items ≡ self.old.left.items }

@@ -8,9 +8,9 @@ whole c =
     let starts = c.in_ok-starts.starts.items in
     rw (c.in_ok-left.ensures.items, c.deref.ensures.value) (IsWhole-copied starts (let s : AreStarts c.args.network.now starts = c.in_ok-starts.ensures in s.some))
 
-pub play_all-requires-clause-stretches : goal.play_all-requires-clause-stretches
-play_all-requires-clause-stretches c =
-    AreStretches-whole c.args.network.now c.in_ok-starts.starts.items c.in_ok-left.left.items c.in_ok-starts.ensures (whole (goal.at.play_all-requires-clause-stretches c).In_ok-left)
+pub play_all-requires : goal.play_all-requires
+play_all-requires c =
+    AreStretches-whole c.args.network.now c.in_ok-starts.starts.items c.in_ok-left.left.items c.in_ok-starts.ensures (whole (goal.at.play_all-requires c).In_ok-left)
 
 pub returns-clause-fits : goal.returns-clause-fits
 returns-clause-fits c =
