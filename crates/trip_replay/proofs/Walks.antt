@@ -1,6 +1,6 @@
 -- The rides so far with one more, and the walk down the tree of a graph.
 use Rattle.std.proofs.Common.{◌≡◌, ℕ, ◌+◌, List, [], ◌∷◌, ◌++◌, Some, None, Bool, true, false, refl, ◌≢◌, ◌-◌, ◌<◌, length, drop, Option, Ok, Err, Result, All}
-use Rattle.std.proofs.Common.{arith, sym, subst, inl, inr, ◌∙◌, ap, if◌then◌else◌, ◌==◌, slice_index_or, IfSome, OnOk, is_ok, eq-eqb, ne_eqb}
+use Rattle.std.proofs.Common.{arith, sym, subst, inl, inr, ◌∙◌, ap, if◌then◌else◌, ◌==◌, slice_index_or, IfSome, eq-eqb, ne_eqb}
 use Rattle.plan_model.specs.declared.model.Leg.{Leg}
 use Rattle.plan_model.specs.NetworkModel.{NetworkModel}
 use Rattle.plan_model.specs.Network.{arr_of, to_of, outcomes}
@@ -130,11 +130,6 @@ pub next_leg : (n : NetworkModel) (tables : List PlaceTable) → All (IsFitTable
     → found ≡ pick_at tables place x → 0 < left → IfSome found (λ next. IsLegOf n next × (left - 1 < left))
 next_leg n tables fit place x left None is some = tt
 next_leg n tables fit place x left (Some leg) is some = (picked_leg n tables fit place x leg (sym is), omega (arith, some))
-
--- what is said of a success, where it was one
-pub from_ok : {T E : Type 0} (P : Type 0) (r : Result T E) → is_ok r ≡ true → OnOk r P → P
-from_ok P (Ok x) holds said = said
-from_ok P (Err e) holds said = absurd (cc)
 
 -- a leg that is next leaves fewer rides
 pub next_step : (n : NetworkModel) (most before left new_left : ℕ) (next : Option Leg) → IfSome next (λ leg. IsLegOf n leg × (new_left < left))

@@ -1,11 +1,11 @@
 //! A trip by a graph, as the delays come.
 #![tactic(auto)]
 
-ghost use Rattle.std.specs.Prelude.{◌≡◌, ℕ, ◌+◌, ◌-◌, ◌<◌, ◌≤◌, [], All, IfSome, IfOk, IfErr};
+ghost use Rattle.std.specs.Prelude.{◌≡◌, ◌+◌, ◌-◌, ◌<◌, ◌≤◌, [], All, IfSome, IfOk, IfErr};
 ghost use Rattle.std.specs.Option.{option_map};
 ghost use Rattle.plan_model.specs.Network.{count, to_of};
 ghost use Rattle.plan_model.specs.Strategy.{IsSafeFor};
-ghost use Rattle.plan_model.specs.Unfold.{by_place, end_of, unfold_after};
+ghost use Rattle.plan_model.specs.Unfold.{by_place, unfold_after};
 ghost use Rattle.plan_graph.specs.PickedRows.{pick_at};
 ghost use Rattle.plan_graph.specs.Ready.{IsLegOf};
 ghost use Rattle.plan_graph.specs.Tidy.{IsFit};
@@ -18,7 +18,7 @@ mod laws;
 
 pub use laws::a_safe_trip_arrives;
 use plan_graph::PlanGraph;
-use plan_model::{Leg, List, Moment, Network, PlaceId, Query};
+use plan_model::{Leg, List, Moment, Network, NoMemory, PlaceId, Query};
 use std::alloc::Global;
 
 /// A ride, with its delay in seconds and its arrival.
@@ -56,6 +56,16 @@ pub enum ReplayFault {
     Stuck(PlaceId, Moment),
     /// There was no memory.
     NoMemory,
+}
+
+impl From<NoMemory> for ReplayFault {
+    ghost use Rattle.trip_replay.specs.declared.ReplayFault.TheVariants.{NoMemory as WantOfMemory};
+
+    ghost from_gives = { λ _ e. e ≡ WantOfMemory };
+
+    fn from(_: NoMemory) -> ReplayFault {
+        ReplayFault::NoMemory
+    }
 }
 
 /// Where the traveller is, since when, which leg is taken next, and how many rides may follow it.
@@ -156,9 +166,7 @@ fn follow(
             delay: *delay,
             arrival,
         };
-        if rides.push(ridden).is_err() {
-            return Err(ReplayFault::NoMemory);
-        }
+        rides.push(ridden)?;
         position = position_after(graph, network, query, leg, arrival, position.left);
     }
     if position.place == query.target {

@@ -12,7 +12,7 @@ use Rattle.trip_replay.specs.declared.Ridden.{Ridden}
 use Rattle.trip_replay.specs.declared.ReplayFault.TheVariants as fault
 use Rattle.trip_replay.specs.Walk.{walk}
 use Rattle.trip_replay.specs.Rides.{IsRide, arrival_after, place_after}
-use Rattle.trip_replay.proofs.Walks.{is_ride, arrival_after-push, place_after-push, too_many, not_a_delay, after_ride, from_ok, next_step}
+use Rattle.trip_replay.proofs.Walks.{is_ride, arrival_after-push, place_after-push, too_many, not_a_delay, after_ride, next_step}
 use Rattle.trip_replay.proofs.follow.Goals as goal
 
 pub returns-then-eq-clause-walk : goal.returns-then-eq-clause-walk
@@ -47,7 +47,7 @@ loop-delay-preserved c =
     let behind = c.loop-delay.rides in
     let rest = drop (c.loop-delay.delay-index + 1) c.args.delays.now in
     let some = sym c.arrival_of.ensures ∙ ap (λ (o : Option Moment). option_map (λ moment. moment.0) o) c.in-Some-arrival_of.is in
-    let pushed = from_ok _ c.push.result c.if-is_err.ensures.negation c.push.ensures.ok in
+    let pushed = c.in_ok-push.ensures.ok in
     let more : length c.push.new.self ≡ length behind + 1 = ap (λ (list : List Ridden). length list) pushed ∙ length_push behind _ in
     let (is_leg, few) = rw c.in-Some.is at c.loop-delay.invariant.next in
     record {
