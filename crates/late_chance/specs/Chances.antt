@@ -3,12 +3,13 @@ use Rattle.std.specs.Prelude.{ℕ, refl}
 use Rattle.plan_model.specs.Bounds.{certainty}
 use Rattle.plan_model.specs.Late.{late}
 use Rattle.interval_fixed.specs.Interval.{Interval}
+use Rattle.late_chance.specs.declared.shift.TheConstants.{SECONDS_PER_WEEK}
 use Rattle.value_laws.specs.ScoreLaws.{Scoring, ScoreLaws}
 use Rattle.value_laws.specs.Spans.{span_scoring}
 use Rattle.value_laws.specs.SpanLaws.{span_laws}
 
 abbrev pub seconds_per_week : ℕ
-seconds_per_week = 604800
+seconds_per_week = SECONDS_PER_WEEK
 
 -- the moment that stands for the promised one: a week after the first of all time
 abbrev pub promised : ℕ

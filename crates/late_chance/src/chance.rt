@@ -2,14 +2,15 @@
 ghost use Rattle.std.specs.Prelude.{◌≡◌, ◌≤◌};
 ghost use Rattle.plan_model.specs.Bounds.{certainty};
 
+use crate::shift::SECONDS_PER_WEEK;
 use arrayvec::ArrayVec;
 use interval_fixed::Span;
 use plan_model::{Moment, Outcome};
 use std::marker::Model;
 use value_laws::Score;
 
-/// The moment that stands for the promised one.
-const PROMISED: u64 = 604_800;
+/// The moment that stands for the promised one: a week after the first of all time.
+const PROMISED: u64 = SECONDS_PER_WEEK;
 
 /// Certainty, in units of 10 to the -18.
 const CERTAINTY: u64 = 1_000_000_000_000_000_000;
