@@ -61,19 +61,13 @@ tables_fail n names version rows line i s fault within told =
     rw (split_at rows i [] within)
     (fault_on fault (step n names version line (slice_index_or rows i []) s) (place_tables_from n names version (drop (i + 1) rows) (line + 1)) told)
 
--- a table's records
-pub first_split : (t : List (List (List ℕ))) → 0 < length t → t ≡ slice_index_or t 0 [] ∷ drop 1 t
-first_split [] some = absurd (omega (arith, some))
-first_split (r ∷ rs) some = refl
-
 -- what the first row and the graph of the others tell together
 pub told_by : (n : NetworkModel) (names : NameLists) (version : Version) (source target start : ℕ) (rows : List (List (List ℕ))) (head : Head) (r : Result (Head × PlanGraph) TextFault)
-    → 0 < length rows
     → Some version ≡ version_in (slice_index_or rows 0 []) → Ok head ≡ head_in names version source target start (slice_index_or rows 0 [])
     → IsUnlessNoMemory r (and_then (graph_after_first n names version source target start (drop 1 rows)) (λ graph. Ok (head, graph)))
     → IsUnlessNoMemory r (graph_of_records n names source target start rows)
-told_by n names version source target start rows head r some found is read =
-    rw (first_split rows some, ← found, ← is) read
+told_by n names version source target start [] head r found is read = absurd (cc)
+told_by n names version source target start (first ∷ rows) head r found is read = rw (← found, ← is) read
 
 -- ---- the rows of tables are read as the tables that they tell, and as no others
 

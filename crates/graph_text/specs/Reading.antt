@@ -4,6 +4,8 @@ use Rattle.std.specs.Option.{option_map, option_and_then}
 use Rattle.plan_model.specs.Results.{and_then, require}
 use Rattle.clock_text.specs.Times.{moment_at, nanos_at}
 use Rattle.csv_rows.specs.Tables.{table_of}
+use Rattle.csv_rows.specs.declared.rows.RowsFault.{RowsFault}
+use Rattle.csv_rows.specs.declared.rows.RowsFault.TheVariants as rows
 use Rattle.plan_model.specs.declared.model.Leg.{Leg}
 use Rattle.plan_model.specs.NetworkModel.{NetworkModel}
 use Rattle.plan_model.specs.NameLists.{NameLists}
@@ -215,6 +217,11 @@ graph_of text network names source target start = graph_of_records network names
 -- the text is read as this head and this graph, where the head's question is asked
 abbrev pub IsReadAs : NetworkModel → NameLists → Head → PlanGraph → List ℕ → Type 0
 IsReadAs network names head graph text = graph_of text network names head.query.source.0 head.query.target.0 head.query.start.0 ≡ Ok (head, graph)
+
+-- the fault of a text that is no table: it has no first row, or there was no memory
+abbrev pub fault_of_rows : RowsFault → TextFault
+fault_of_rows rows.NoHeader = Row 1
+fault_of_rows rows.NoMemory = NoMemory
 
 -- there was no memory, or it is this
 abbrev pub IsUnlessNoMemory : {A : Type 0} → Result A TextFault → Result A TextFault → Type 0

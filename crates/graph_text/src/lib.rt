@@ -27,7 +27,7 @@ use plan_model::{Names, Network, NoMemory, Query};
 use printer::Printer;
 pub use reader::{TextFault, read};
 use std::alloc::Global;
-use version::{version_of_rides, version_of_tables};
+use version::{rides_leave, tables_leave, version_by};
 
 /// The question that a graph answers, and bounds on the expected arrival in nanoseconds.
 #[derive(Clone, Copy, Debug)]
@@ -56,26 +56,10 @@ pub fn write_expanded(
     let printer = Printer {
         network,
         names,
-        version: version_of_rides(network, graph.rides.as_slice()),
+        head,
+        version: version_by(rides_leave(network, graph.rides.as_slice())),
     };
-    printer.put_by_ride(Vec::new(alloc), graph, head)
-}
-
-/// A law: where a graph fits the network and the question, whose start is not after its deadline,
-/// the text of it and its head is read as this head and this graph.
-fn written_reads_back(graph: &PlanGraph, head: &Head, network: &Network, names: &Names)
-    requires names { NamesFit names.now network.now }
-    requires query { IsPrintableQuery network.now head.now.query }
-    ensures { IsFit network.now head.now.query graph.now
-        → head.now.query.start.0 ≤ head.now.query.deadline.0
-        → IsReadAs network.now names.now head.now graph.now
-        (graph_text network.now names.now head.now graph.now) }
-{
-    let _ = graph;
-    let _count = network.count();
-    let _places = names.places();
-    let _lo = head.bounds.lo();
-    let _hi = head.bounds.hi();
+    printer.put_by_ride(Vec::new(alloc), graph)
 }
 
 /// The text of a graph by place: a first row, the start leg, and for each place a row and one for
@@ -97,13 +81,16 @@ pub fn write(
         → head.now.query.start.0 ≤ head.now.query.deadline.0
         → IsReadAs network.now names.now head.now graph.now text.items) }
 {
-    written_reads_back(graph, head, network, names);
+    let are_named = names.places() == network.places();
+    let are_ordered = head.bounds.lo() <= head.bounds.hi();
+    prove!(are_named && are_ordered);
     let printer = Printer {
         network,
         names,
-        version: version_of_tables(network, graph.tables.as_slice()),
+        head,
+        version: version_by(tables_leave(network, graph.tables.as_slice())),
     };
-    printer.put_by_place(Vec::new(alloc), graph, head)
+    printer.put_by_place(Vec::new(alloc), graph)
 }
 
 /// A graph that is ready to be pruned can be printed.

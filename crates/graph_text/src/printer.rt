@@ -1,7 +1,6 @@
 //! Rows of printed graphs.
 ghost use Rattle.std.specs.Prelude.{◌≡◌, ◌<◌, ◌++◌, map, take, All, IfOk, IfSome, length};
 ghost use Rattle.plan_model.specs.NameLists.{NamesFit};
-ghost use Rattle.plan_model.specs.Network.{count};
 ghost use Rattle.plan_graph.specs.Ready.{IsLegOf};
 ghost use Rattle.graph_text.specs.GraphTexts.{leg_row, head_row, start_leg_text, rows_text, ride_text, rides_text, place_row, table_text, tables_text, expanded_text_in, graph_text_in};
 ghost use Rattle.printed_rows.specs.Writers.{row_of_fields};
@@ -15,80 +14,74 @@ use itoa::Buffer;
 use plan_graph::{ExpandedGraph, GraphRow, PlaceTable, PlanGraph, Ride};
 use plan_model::{Leg, Names, Network, NoMemory, PlaceId};
 
-/// What the rows of a graph tell of, a network with the names of its places and runs, and how.
+/// What the rows of a graph tell of, a network with the names of its places and runs and a question
+/// about it with its bounds, and how.
 #[derive(Drop)]
 pub(crate) struct Printer<'a> {
     pub(crate) network: &'a Network,
     pub(crate) names: &'a Names,
+    pub(crate) head: &'a Head,
     pub(crate) version: Version,
-}
-
-/// Puts a row of fields behind a text; the first version leaves out the ninth.
-fn put_row(text: Vec<u8>, version: Version, fields: &[&[u8]]) -> Result<Vec<u8>, NoMemory>
-    requires nine { length fields.now ≡ 9 }
-    ensures { IfOk result (λ whole. whole.items ≡ text.items
-        ++ row_of_fields (take (width_of version) (map (λ field. field.now) fields.now))) }
-{
-    printed_rows::put_row(text, &fields[..width(version)])
-}
-
-/// Puts the row of a leg behind a text.
-fn put_leg<'a>(
-    text: Vec<u8>,
-    network: &Network,
-    names: &'a Names,
-    version: Version,
-    kind: &'a [u8],
-    second: &'a [u8],
-    leg: Leg,
-) -> Result<Vec<u8>, NoMemory>
-    requires names { NamesFit names.now network.now }
-    requires enter { leg.enter.0 < count network.now }
-    requires exit { leg.exit.0 < count network.now }
-    ensures { IfOk result (λ whole. whole.items ≡ text.items
-        ++ leg_row network.now names.now version kind.now second.now leg) }
-{
-    let _count = network.count();
-    let enter = network.get(leg.enter);
-    let exit = network.get(leg.exit);
-    let dep = write_moment(enter.dep);
-    let arr = write_moment(exit.arr);
-    let mut entry_step = Buffer::new();
-    let mut exit_step = Buffer::new();
-    put_row(
-        text,
-        version,
-        &[
-            kind,
-            second,
-            names.run_name(enter.run).as_bytes(),
-            entry_step.format(enter.step).as_bytes(),
-            dep.as_slice(),
-            exit_step.format(exit.step).as_bytes(),
-            names.place_name(exit.to).as_bytes(),
-            arr.as_slice(),
-            names.place_name(enter.from).as_bytes(),
-        ],
-    )
+    pub(crate) ghost fit: { NamesFit names.now network.now },
+    pub(crate) ghost query: { IsPrintableQuery network.now head.now.query },
 }
 
 impl<'a> Printer<'a> {
-    /// Puts the first row behind a text.
-    fn put_head(&self, text: Vec<u8>, kind: &[u8], head: &Head) -> Result<Vec<u8>, NoMemory>
-        requires names { NamesFit self.now.names.now self.now.network.now }
-        requires query { IsPrintableQuery self.now.network.now head.now.query }
+    /// Puts a row of fields behind a text; the first version leaves out the ninth.
+    fn put_row(&self, text: Vec<u8>, fields: &[&[u8]; 9]) -> Result<Vec<u8>, NoMemory>
         ensures { IfOk result (λ whole. whole.items ≡ text.items
-            ++ head_row self.now.names.now self.now.version kind.now head.now) }
+            ++ row_of_fields (take (width_of self.now.version) (map (λ field. field.now) fields.now))) }
     {
-        let query = head.query;
+        printed_rows::put_row(text, &fields[..width(self.version)])
+    }
+
+    /// Puts the row of a leg behind a text.
+    fn put_leg<'b>(
+        &self,
+        text: Vec<u8>,
+        kind: &'b [u8],
+        second: &'b [u8],
+        leg: Leg,
+    ) -> Result<Vec<u8>, NoMemory>
+        requires { IsLegOf self.now.network.now leg }
+        ensures { IfOk result (λ whole. whole.items ≡ text.items
+            ++ leg_row self.now.network.now self.now.names.now self.now.version kind.now second.now leg) }
+    {
+        let enter = self.network.get(leg.enter);
+        let exit = self.network.get(leg.exit);
+        let dep = write_moment(enter.dep);
+        let arr = write_moment(exit.arr);
+        let mut entry_step = Buffer::new();
+        let mut exit_step = Buffer::new();
+        self.put_row(
+            text,
+            &[
+                kind,
+                second,
+                self.names.run_name(enter.run).as_bytes(),
+                entry_step.format(enter.step).as_bytes(),
+                dep.as_slice(),
+                exit_step.format(exit.step).as_bytes(),
+                self.names.place_name(exit.to).as_bytes(),
+                arr.as_slice(),
+                self.names.place_name(enter.from).as_bytes(),
+            ],
+        )
+    }
+
+    /// Puts the first row behind a text.
+    fn put_head(&self, text: Vec<u8>, kind: &[u8]) -> Result<Vec<u8>, NoMemory>
+        ensures { IfOk result (λ whole. whole.items ≡ text.items
+            ++ head_row self.now.names.now self.now.version kind.now self.now.head.now) }
+    {
+        let query = self.head.query;
         let start = write_moment(query.start);
         let deadline = write_moment(query.deadline);
-        let lo = write_nanos(head.bounds.lo());
-        let hi = write_nanos(head.bounds.hi());
+        let lo = write_nanos(self.head.bounds.lo());
+        let hi = write_nanos(self.head.bounds.hi());
         let number = [digit(self.version)];
-        put_row(
+        self.put_row(
             text,
-            self.version,
             &[
                 kind,
                 number.as_slice(),
@@ -105,25 +98,15 @@ impl<'a> Printer<'a> {
 
     /// Puts the row of the start leg behind a text.
     fn put_start(&self, text: Vec<u8>, start: Option<Leg>) -> Result<Vec<u8>, NoMemory>
-        requires names { NamesFit self.now.names.now self.now.network.now }
-        requires leg { IfSome start (IsLegOf self.now.network.now) }
+        requires { IfSome start (IsLegOf self.now.network.now) }
         ensures { IfOk result (λ whole. whole.items ≡ text.items
             ++ start_leg_text self.now.network.now self.now.names.now self.now.version start) }
     {
         let Some(leg) = start else {
             return Ok(text);
         };
-        let _count = self.network.count();
         let dep = write_moment(self.network.get(leg.enter).dep);
-        put_leg(
-            text,
-            self.network,
-            self.names,
-            self.version,
-            b"start",
-            dep.as_slice(),
-            leg,
-        )
+        self.put_leg(text, b"start", dep.as_slice(), leg)
     }
 
     /// Puts the rows of a table behind a text.
@@ -133,51 +116,32 @@ impl<'a> Printer<'a> {
         kind: &[u8],
         rows: &[GraphRow],
     ) -> Result<Vec<u8>, NoMemory>
-        requires names { NamesFit self.now.names.now self.now.network.now }
-        requires rows { All (IsPrintableRow self.now.network.now) rows.now }
+        requires { All (IsPrintableRow self.now.network.now) rows.now }
         ensures { IfOk result (λ whole. whole.items ≡ text.items
             ++ rows_text self.now.network.now self.now.names.now self.now.version kind.now rows.now) }
     {
         for row in rows {
             let by = write_moment(row.by);
-            text = put_leg(
-                text,
-                self.network,
-                self.names,
-                self.version,
-                kind,
-                by.as_slice(),
-                row.leg,
-            )?;
+            text = self.put_leg(text, kind, by.as_slice(), row.leg)?;
         }
         Ok(text)
     }
 
     /// Puts the row of a ride and its rows behind a text.
     fn put_ride(&self, text: Vec<u8>, ride: &Ride) -> Result<Vec<u8>, NoMemory>
-        requires names { NamesFit self.now.names.now self.now.network.now }
-        requires ride { IsPrintableRide self.now.network.now ride.now }
+        requires { IsPrintableRide self.now.network.now ride.now }
         ensures { IfOk result (λ whole. whole.items ≡ text.items
             ++ ride_text self.now.network.now self.now.names.now self.now.version ride.now) }
     {
         let mut number = Buffer::new();
         let number = number.format(ride.after.len()).as_bytes();
-        let text = put_leg(
-            text,
-            self.network,
-            self.names,
-            self.version,
-            b"ride",
-            number,
-            ride.leg,
-        )?;
+        let text = self.put_leg(text, b"ride", number, ride.leg)?;
         self.put_rows(text, b"next", ride.after.as_slice())
     }
 
     /// Puts the rows of all rides behind a text.
     fn put_rides(&self, mut text: Vec<u8>, rides: &[Ride]) -> Result<Vec<u8>, NoMemory>
-        requires names { NamesFit self.now.names.now self.now.network.now }
-        requires rides { All (IsPrintableRide self.now.network.now) rides.now }
+        requires { All (IsPrintableRide self.now.network.now) rides.now }
         ensures { IfOk result (λ whole. whole.items ≡ text.items
             ++ rides_text self.now.network.now self.now.names.now self.now.version rides.now) }
     {
@@ -189,8 +153,7 @@ impl<'a> Printer<'a> {
 
     /// Puts the row of a place and its rows behind a text.
     fn put_table(&self, text: Vec<u8>, table: &PlaceTable) -> Result<Vec<u8>, NoMemory>
-        requires names { NamesFit self.now.names.now self.now.network.now }
-        requires table { IsPrintableTable self.now.network.now table.now }
+        requires { IsPrintableTable self.now.network.now table.now }
         ensures { IfOk result (λ whole. whole.items ≡ text.items
             ++ table_text self.now.network.now self.now.names.now self.now.version table.now) }
     {
@@ -200,17 +163,15 @@ impl<'a> Printer<'a> {
 
     /// Puts the row of a place behind a text.
     fn put_place(&self, text: Vec<u8>, place: PlaceId, count: usize) -> Result<Vec<u8>, NoMemory>
-        requires names { NamesFit self.now.names.now self.now.network.now }
-        requires place { place.0 < length self.now.network.now.change }
+        requires { place.0 < length self.now.network.now.change }
         ensures { IfOk result (λ whole. whole.items ≡ text.items
             ++ place_row self.now.network.now self.now.names.now self.now.version place.0 count) }
     {
         let mut change = Buffer::new();
         let mut number = Buffer::new();
         let none = b"".as_slice();
-        put_row(
+        self.put_row(
             text,
-            self.version,
             &[
                 b"place".as_slice(),
                 self.names.place_name(place).as_bytes(),
@@ -227,8 +188,7 @@ impl<'a> Printer<'a> {
 
     /// Puts the rows of all places behind a text.
     fn put_tables(&self, mut text: Vec<u8>, tables: &[PlaceTable]) -> Result<Vec<u8>, NoMemory>
-        requires names { NamesFit self.now.names.now self.now.network.now }
-        requires tables { All (IsPrintableTable self.now.network.now) tables.now }
+        requires { All (IsPrintableTable self.now.network.now) tables.now }
         ensures { IfOk result (λ whole. whole.items ≡ text.items
             ++ tables_text self.now.network.now self.now.names.now self.now.version tables.now) }
     {
@@ -243,16 +203,13 @@ impl<'a> Printer<'a> {
         &self,
         text: Vec<u8>,
         graph: &ExpandedGraph,
-        head: &Head,
     ) -> Result<Vec<u8>, NoMemory>
-        requires names { NamesFit self.now.names.now self.now.network.now }
-        requires query { IsPrintableQuery self.now.network.now head.now.query }
-        requires graph { IsPrintable self.now.network.now graph.now }
+        requires { IsPrintable self.now.network.now graph.now }
         ensures { IfOk result (λ whole. whole.items ≡ text.items
-            ++ expanded_text_in self.now.network.now self.now.names.now self.now.version head.now graph.now) }
+            ++ expanded_text_in self.now.network.now self.now.names.now self.now.version self.now.head.now graph.now) }
     {
-        let text = self.put_head(text, b"expanded", head)?;
-        if head.query.source == head.query.target {
+        let text = self.put_head(text, b"expanded")?;
+        if self.head.query.source == self.head.query.target {
             return Ok(text);
         }
         let text = self.put_start(text, graph.start)?;
@@ -260,20 +217,13 @@ impl<'a> Printer<'a> {
     }
 
     /// Puts the rows of a graph by place behind a text.
-    pub(crate) fn put_by_place(
-        &self,
-        text: Vec<u8>,
-        graph: &PlanGraph,
-        head: &Head,
-    ) -> Result<Vec<u8>, NoMemory>
-        requires names { NamesFit self.now.names.now self.now.network.now }
-        requires query { IsPrintableQuery self.now.network.now head.now.query }
-        requires graph { IsPrintablePlan self.now.network.now graph.now }
+    pub(crate) fn put_by_place(&self, text: Vec<u8>, graph: &PlanGraph) -> Result<Vec<u8>, NoMemory>
+        requires { IsPrintablePlan self.now.network.now graph.now }
         ensures { IfOk result (λ whole. whole.items ≡ text.items
-            ++ graph_text_in self.now.network.now self.now.names.now self.now.version head.now graph.now) }
+            ++ graph_text_in self.now.network.now self.now.names.now self.now.version self.now.head.now graph.now) }
     {
-        let text = self.put_head(text, b"graph", head)?;
-        if head.query.source == head.query.target {
+        let text = self.put_head(text, b"graph")?;
+        if self.head.query.source == self.head.query.target {
             return Ok(text);
         }
         let text = self.put_start(text, graph.start)?;

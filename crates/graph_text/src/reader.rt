@@ -1,12 +1,12 @@
 //! The graph of a printed text.
-ghost use Rattle.std.specs.Prelude.{◌≡◌, ℕ, ◌+◌, ◌<◌, length, slice_index_or, IfOk, IfSome, IsTrue, Some, Ok, drop, codes, [], ◌≤◌};
+ghost use Rattle.std.specs.Prelude.{◌≡◌, ◌+◌, ◌<◌, length, slice_index_or, IfOk, IfSome, IsTrue, Some, Ok, drop, [], ◌≤◌};
 ghost use Rattle.std.specs.Option.{option_map};
 ghost use Rattle.csv_rows.specs.Tables.{header, row_count};
 ghost use Rattle.plan_model.specs.NameLists.{NamesFit};
 ghost use Rattle.plan_model.specs.Network.{count};
 ghost use Rattle.graph_text.specs.GraphRows.{has_no_entry, entry_in, is_blank, is_place, is_head, version_in};
-ghost use Rattle.graph_text.specs.Reading.{leg_row_in, names_in, leg_found, can_start, start_in, is_limit, is_by_limit, row_in, place_row_in, table_in, are_in_order, head_row_in, head_in};
-ghost use Rattle.graph_text.specs.Reading.{after_place_row, after_leg_row, place_or_first, IsPlaced, no_tables, step, place_tables_from};
+ghost use Rattle.graph_text.specs.Reading.{leg_row_in, names_in, leg_found, can_start, start_in, is_limit, row_in, place_row_in, table_in, are_in_order, head_row_in, head_in};
+ghost use Rattle.graph_text.specs.Reading.{after_place_row, after_leg_row, IsPlaced, no_tables, step, place_tables_from};
 ghost use Rattle.graph_text.specs.Reading.{graph_after_first, started_in, graph_of_records, graph_of, IsUnlessNoMemory};
 ghost use Rattle.graph_text.specs.Versions.{width_of};
 ghost use Rattle.printed_rows.specs.Fields.{is_kind};
@@ -18,7 +18,7 @@ use csv_rows::{Rows, RowsFault};
 use interval_fixed::Span;
 use plan_graph::{GraphRow, PlaceTable, PlanGraph};
 use plan_model::{Leg, List, Moment, Names, Network, NoMemory, PlaceId, Query, RunId};
-use printed_rows::{connection_of, is_kind, is_query, rises, whole};
+use printed_rows::{Record, connection_of, is_query, rises, whole};
 use std::alloc::Global;
 use text_index::NameIndex;
 
@@ -38,6 +38,29 @@ pub enum TextFault {
     OtherQuery(u64),
     /// There was no memory.
     NoMemory,
+}
+
+impl From<RowsFault> for TextFault {
+    ghost use Rattle.graph_text.specs.Reading.{fault_of_rows};
+
+    ghost from_gives = { λ fault told. told ≡ fault_of_rows fault };
+
+    fn from(fault: RowsFault) -> Self {
+        match fault {
+            RowsFault::NoHeader => TextFault::Row(1),
+            RowsFault::NoMemory => TextFault::NoMemory,
+        }
+    }
+}
+
+impl From<NoMemory> for TextFault {
+    ghost use Rattle.graph_text.specs.declared.reader.TextFault.TheVariants.{NoMemory as NoMemoryFault};
+
+    ghost from_gives = { λ _ fault. fault ≡ NoMemoryFault };
+
+    fn from(_: NoMemory) -> Self {
+        TextFault::NoMemory
+    }
 }
 
 /// The numbers of a leg's row.
@@ -98,6 +121,7 @@ struct Reader<'a> {
     rows: &'a Rows,
     network: &'a Network,
     names: NameIndex<'a>,
+    ghost fit: { NamesFit names network.now },
 }
 
 /// Whether there is a limit, and it is this moment.
@@ -177,26 +201,6 @@ fn extend(
     })
 }
 
-/// The number of a place, if there is one.
-fn number(place: Option<PlaceId>) -> Option<u32>
-    ensures { result ≡ option_map (λ place. place.0) place }
-{
-    match place {
-        Some(place) => Some(place.0),
-        None => None,
-    }
-}
-
-/// The seconds of a moment, if there is one.
-fn seconds(by: Option<Moment>) -> Option<u64>
-    ensures { result ≡ option_map (λ moment. moment.0) by }
-{
-    match by {
-        Some(by) => Some(by.0),
-        None => None,
-    }
-}
-
 /// Whether two moments and two bounds are in order.
 fn are_in_order(start: Moment, deadline: Moment, lo: u64, hi: u64) -> bool
     ensures test { result ≡ are_in_order start.0 deadline.0 lo hi }
@@ -207,26 +211,24 @@ fn are_in_order(start: Moment, deadline: Moment, lo: u64, hi: u64) -> bool
 
 impl<'a> Reader<'a> {
     /// Whether a row is of this kind, with as many fields as the version has.
-    fn is_kind(&self, row: usize, kind: &[u8]) -> bool
-        requires { row < row_count self.now.rows.now }
-        ensures { result ≡ is_kind kind.now (width_of self.now.version) (slice_index_or self.now.rows.now (row + 1) []) }
+    fn is_kind(&self, record: &Record<'_>, kind: &[u8]) -> bool
+        ensures { result ≡ is_kind kind.now (width_of self.now.version) record.now.fields }
     {
-        is_kind(self.rows, row, kind, width(self.version))
+        record.is_kind(kind, width(self.version))
     }
 
     /// The numbers of a leg's row, where each field is of its form.
-    fn leg_row(&self, row: usize, kind: &[u8]) -> Option<LegRow>
-        requires { row < row_count self.now.rows.now }
-        ensures { result ≡ leg_row_in self.now.version kind.now (slice_index_or self.now.rows.now (row + 1) []) }
+    fn leg_row(&self, record: &Record<'_>, kind: &[u8]) -> Option<LegRow>
+        ensures { result ≡ leg_row_in self.now.version kind.now record.now.fields }
     {
-        if !self.is_kind(row, kind) {
+        if !self.is_kind(record, kind) {
             return None;
         }
-        let moment = read_moment(self.rows.field(row, 1))?;
-        let enter = whole(self.rows.field(row, 3))?;
-        let dep = read_moment(self.rows.field(row, 4))?;
-        let exit = whole(self.rows.field(row, 5))?;
-        let arr = read_moment(self.rows.field(row, 7))?;
+        let moment = read_moment(record.field(1))?;
+        let enter = whole(record.field(3))?;
+        let dep = read_moment(record.field(4))?;
+        let exit = whole(record.field(5))?;
+        let arr = read_moment(record.field(7))?;
         Some(LegRow {
             moment,
             enter,
@@ -237,26 +239,24 @@ impl<'a> Reader<'a> {
     }
 
     /// The place where a row has its leg begin: its own place, or the one that it names.
-    fn entry_of(&self, row: usize, here: PlaceId) -> Option<PlaceId>
-        requires { row < row_count self.now.rows.now }
+    fn entry_of(&self, record: &Record<'_>, here: PlaceId) -> Option<PlaceId>
         ensures { option_map (λ id. id.0) result ≡ entry_in self.now.version self.now.names here.0
-            (slice_index_or self.now.rows.now (row + 1) []) }
+            record.now.fields }
     {
         match self.version {
             Version::First => Some(here),
-            Version::Second => self.names.place(self.rows.field(row, 8)),
+            Version::Second => self.names.place(record.field(8)),
         }
     }
 
     /// The names of a leg's row of a place, where each is known.
-    fn names_of(&self, row: usize, here: PlaceId) -> Option<LegNames>
-        requires { row < row_count self.now.rows.now }
+    fn names_of(&self, record: &Record<'_>, here: PlaceId) -> Option<LegNames>
         ensures { result ≡ names_in self.now.version self.now.names here.0
-            (slice_index_or self.now.rows.now (row + 1) []) }
+            record.now.fields }
     {
-        let run = self.names.run(self.rows.field(row, 2))?;
-        let exit = self.names.place(self.rows.field(row, 6))?;
-        let entry = self.entry_of(row, here)?;
+        let run = self.names.run(record.field(2))?;
+        let exit = self.names.place(record.field(6))?;
+        let entry = self.entry_of(record, here)?;
         Some(LegNames { run, exit, entry })
     }
 
@@ -293,16 +293,20 @@ impl<'a> Reader<'a> {
     }
 
     /// The start leg of a row.
-    fn start_row(&self, row: usize, source: PlaceId, start: Moment) -> Result<Leg, TextFault>
-        requires { row < row_count self.now.rows.now }
-        ensures { result ≡ start_in self.now.network.now self.now.names self.now.version (row + 2) source.0 start.0
-            (slice_index_or self.now.rows.now (row + 1) []) }
+    fn start_row(
+        &self,
+        record: &Record<'_>,
+        source: PlaceId,
+        start: Moment,
+    ) -> Result<Leg, TextFault>
+        ensures { result ≡ start_in self.now.network.now self.now.names self.now.version record.now.line source.0 start.0
+            record.now.fields }
     {
-        let line = self.rows.line(row);
-        let Some(numbers) = self.leg_row(row, b"start") else {
+        let line = record.line();
+        let Some(numbers) = self.leg_row(record, b"start") else {
             return Err(TextFault::Row(line));
         };
-        let Some(known) = self.names_of(row, source) else {
+        let Some(known) = self.names_of(record, source) else {
             return Err(TextFault::UnknownName(line));
         };
         let Some(leg) = self.leg_found(&numbers, &known) else {
@@ -315,33 +319,22 @@ impl<'a> Reader<'a> {
         }
     }
 
-    /// Whether the moment is the limit of a leg at a place.
-    fn is_by_limit(&self, place: PlaceId, moment: Moment, leg: Leg) -> bool
-        requires place { place.0 < length self.now.network.now.change }
-        requires enter { leg.enter.0 < count self.now.network.now }
-        requires exit { leg.exit.0 < count self.now.network.now }
-        ensures { result ≡ is_by_limit self.now.network.now place.0 moment.0 leg }
-    {
-        is_limit(self.network.limit(place, leg), moment)
-    }
-
     /// A leg row of a place, after one by an earlier moment.
     fn table_row(
         &self,
-        row: usize,
+        record: &Record<'_>,
         place: PlaceId,
         last: Option<u64>,
     ) -> Result<GraphRow, TextFault>
-        requires row { row < row_count self.now.rows.now }
         requires place { place.0 < length self.now.network.now.change }
-        ensures { result ≡ row_in self.now.network.now self.now.names self.now.version (row + 2) place.0 last
-            (slice_index_or self.now.rows.now (row + 1) []) }
+        ensures { result ≡ row_in self.now.network.now self.now.names self.now.version record.now.line place.0 last
+            record.now.fields }
     {
-        let line = self.rows.line(row);
-        let Some(numbers) = self.leg_row(row, b"leg") else {
+        let line = record.line();
+        let Some(numbers) = self.leg_row(record, b"leg") else {
             return Err(TextFault::Row(line));
         };
-        let Some(known) = self.names_of(row, place) else {
+        let Some(known) = self.names_of(record, place) else {
             return Err(TextFault::UnknownName(line));
         };
         if !rises(last, numbers.moment.0) {
@@ -350,7 +343,7 @@ impl<'a> Reader<'a> {
         let Some(leg) = self.leg_found(&numbers, &known) else {
             return Err(TextFault::NoLeg(line));
         };
-        if self.is_by_limit(place, numbers.moment, leg) {
+        if is_limit(self.network.limit(place, leg), numbers.moment) {
             Ok(GraphRow {
                 by: numbers.moment,
                 leg,
@@ -361,45 +354,41 @@ impl<'a> Reader<'a> {
     }
 
     /// Whether the fields of a place row after its numbers are empty, up to the eighth.
-    fn is_blank(&self, row: usize) -> bool
-        requires { row < row_count self.now.rows.now }
-        ensures { result ≡ is_blank (slice_index_or self.now.rows.now (row + 1) []) }
+    fn is_blank(&self, record: &Record<'_>) -> bool
+        ensures { result ≡ is_blank record.now.fields }
     {
-        self.rows.field(row, 4).len() == 0
-            && self.rows.field(row, 5).len() == 0
-            && self.rows.field(row, 6).len() == 0
-            && self.rows.field(row, 7).len() == 0
+        record.field(4).len() == 0
+            && record.field(5).len() == 0
+            && record.field(6).len() == 0
+            && record.field(7).len() == 0
     }
 
     /// Whether the field of the entry place is empty, where the version has one.
-    fn has_no_entry(&self, row: usize) -> bool
-        requires { row < row_count self.now.rows.now }
-        ensures { result ≡ has_no_entry self.now.version (slice_index_or self.now.rows.now (row + 1) []) }
+    fn has_no_entry(&self, record: &Record<'_>) -> bool
+        ensures { result ≡ has_no_entry self.now.version record.now.fields }
     {
         match self.version {
             Version::First => true,
-            Version::Second => self.rows.field(row, 8).len() == 0,
+            Version::Second => record.field(8).len() == 0,
         }
     }
 
     /// Whether a row is a place row, whose fields after its numbers are empty.
-    fn is_place(&self, row: usize) -> bool
-        requires { row < row_count self.now.rows.now }
-        ensures { result ≡ is_place self.now.version (slice_index_or self.now.rows.now (row + 1) []) }
+    fn is_place(&self, record: &Record<'_>) -> bool
+        ensures { result ≡ is_place self.now.version record.now.fields }
     {
-        self.is_kind(row, b"place") && (self.is_blank(row) && self.has_no_entry(row))
+        self.is_kind(record, b"place") && (self.is_blank(record) && self.has_no_entry(record))
     }
 
     /// The numbers of a place row, where each field is of its form.
-    fn place_row(&self, row: usize) -> Option<PlaceRow>
-        requires { row < row_count self.now.rows.now }
-        ensures { result ≡ place_row_in self.now.version (slice_index_or self.now.rows.now (row + 1) []) }
+    fn place_row(&self, record: &Record<'_>) -> Option<PlaceRow>
+        ensures { result ≡ place_row_in self.now.version record.now.fields }
     {
-        if !self.is_place(row) {
+        if !self.is_place(record) {
             return None;
         }
-        let change = whole(self.rows.field(row, 2))?;
-        let count = whole(self.rows.field(row, 3))?;
+        let change = whole(record.field(2))?;
+        let count = whole(record.field(3))?;
         if count == 0 {
             return None;
         }
@@ -407,18 +396,16 @@ impl<'a> Reader<'a> {
     }
 
     /// A place row, after one of an earlier place.
-    fn table_start(&self, row: usize, last: Option<u32>) -> Result<TableStart, TextFault>
-        requires row { row < row_count self.now.rows.now }
-        requires names { NamesFit self.now.names self.now.network.now }
-        ensures told { result ≡ table_in self.now.network.now self.now.names self.now.version (row + 2) last
-            (slice_index_or self.now.rows.now (row + 1) []) }
+    fn table_start(&self, record: &Record<'_>, last: Option<u32>) -> Result<TableStart, TextFault>
+        ensures told { result ≡ table_in self.now.network.now self.now.names self.now.version record.now.line last
+            record.now.fields }
         ensures there { IfOk result (λ table. table.place.0 < length self.now.network.now.change) }
     {
-        let line = self.rows.line(row);
-        let Some(numbers) = self.place_row(row) else {
+        let line = record.line();
+        let Some(numbers) = self.place_row(record) else {
             return Err(TextFault::Row(line));
         };
-        let Some(place) = self.names.place(self.rows.field(row, 1)) else {
+        let Some(place) = self.names.place(record.field(1)) else {
             return Err(TextFault::UnknownName(line));
         };
         if !rises(last.map(|last| u64::from(last)), u64::from(place.0)) {
@@ -435,15 +422,18 @@ impl<'a> Reader<'a> {
     }
 
     /// After a place row.
-    fn read_place(&self, alloc: Global, row: usize, reading: Reading) -> Result<Reading, TextFault>
-        requires row { row < row_count self.now.rows.now }
-        requires names { NamesFit self.now.names self.now.network.now }
-        ensures told { after_place_row reading (table_in self.now.network.now self.now.names self.now.version (row + 2)
-            (option_map (λ place. place.0) reading.place) (slice_index_or self.now.rows.now (row + 1) []))
+    fn read_place(
+        &self,
+        alloc: Global,
+        record: &Record<'_>,
+        reading: Reading,
+    ) -> Result<Reading, TextFault>
+        ensures told { after_place_row reading (table_in self.now.network.now self.now.names self.now.version record.now.line
+            (option_map (λ place. place.0) reading.place) record.now.fields)
             ≡ result }
         ensures place { IfOk result (IsPlaced self.now.network.now) }
     {
-        let start = self.table_start(row, number(reading.place))?;
+        let start = self.table_start(record, reading.place.map(|place| place.0))?;
         Ok(begin(alloc, reading, start))
     }
 
@@ -451,53 +441,51 @@ impl<'a> Reader<'a> {
     fn read_leg(
         &self,
         alloc: Global,
-        row: usize,
+        record: &Record<'_>,
         reading: Reading,
         place: PlaceId,
     ) -> Result<Reading, TextFault>
-        requires row { row < row_count self.now.rows.now }
         requires left { 1 ≤ reading.left }
         requires last { reading.place ≡ Some place }
         requires place { place.0 < length self.now.network.now.change }
         ensures told { IsUnlessNoMemory result (after_leg_row reading
-            (row_in self.now.network.now self.now.names self.now.version (row + 2) place.0
-            (option_map (λ moment. moment.0) reading.by) (slice_index_or self.now.rows.now (row + 1) []))) }
+            (row_in self.now.network.now self.now.names self.now.version record.now.line place.0
+            (option_map (λ moment. moment.0) reading.by) record.now.fields)) }
         ensures place { IfOk result (IsPlaced self.now.network.now) }
     {
-        let row = self.table_row(row, place, seconds(reading.by))?;
-        match extend(alloc, reading, place, row) {
-            Ok(reading) => Ok(reading),
-            Err(_) => Err(TextFault::NoMemory),
-        }
+        let row = self.table_row(record, place, reading.by.map(|by| by.0))?;
+        Ok(extend(alloc, reading, place, row)?)
     }
 
     /// After one row more: a place row where no leg row is to come, and else a leg row.
-    fn read_row(&self, alloc: Global, row: usize, reading: Reading) -> Result<Reading, TextFault>
-        requires row { row < row_count self.now.rows.now }
+    fn read_row(
+        &self,
+        alloc: Global,
+        record: &Record<'_>,
+        reading: Reading,
+    ) -> Result<Reading, TextFault>
         requires place { IsPlaced self.now.network.now reading }
-        requires names { NamesFit self.now.names self.now.network.now }
-        ensures told { IsUnlessNoMemory result (step self.now.network.now self.now.names self.now.version (row + 2)
-            (slice_index_or self.now.rows.now (row + 1) []) reading) }
+        ensures told { IsUnlessNoMemory result (step self.now.network.now self.now.names self.now.version record.now.line
+            record.now.fields reading) }
         ensures place { IfOk result (IsPlaced self.now.network.now) }
     {
         if reading.left == 0 {
-            return self.read_place(alloc, row, reading);
+            return self.read_place(alloc, record, reading);
         }
         match reading.place {
-            Some(place) => self.read_leg(alloc, row, reading, place),
+            Some(place) => self.read_leg(alloc, record, reading, place),
             None => unreachable!(),
         }
     }
 
     /// The tables of the rows from the second on.
     fn read_tables(&self, alloc: Global) -> Result<List<PlaceTable>, TextFault>
-        requires names { NamesFit self.now.names self.now.network.now }
         ensures { IsUnlessNoMemory result (place_tables_from self.now.network.now self.now.names self.now.version (drop 2 self.now.rows.now) 3 no_tables) }
     {
         let mut reading = Reading::new(alloc);
         let count = self.rows.count();
         for row in 1..count {
-            reading = self.read_row(alloc, row, reading)?;
+            reading = self.read_row(alloc, &Record::of_row(self.rows, row), reading)?;
         }
         if reading.left == 0 {
             return Ok(reading.done);
@@ -505,37 +493,25 @@ impl<'a> Reader<'a> {
         Err(TextFault::Row(count as u64 + 2))
     }
 
-    /// Whether the first row is one of a graph.
-    fn is_head(&self) -> bool
-        ensures { result ≡ is_head self.now.version (header self.now.rows.now) }
+    /// Whether a record is the first of a graph.
+    fn is_head(&self, record: &Record<'_>) -> bool
+        ensures { result ≡ is_head self.now.version record.now.fields }
     {
-        self.rows.header_width() == width(self.version)
-            && self.rows.header_field(0) == b"graph".as_slice()
-            && self.heads_no_entry()
-    }
-
-    /// Whether the first row's field of the entry place is empty, where the version has one.
-    fn heads_no_entry(&self) -> bool
-        ensures { result ≡ has_no_entry self.now.version (header self.now.rows.now) }
-    {
-        match self.version {
-            Version::First => true,
-            Version::Second => self.rows.header_field(8).len() == 0,
-        }
+        self.is_kind(record, b"graph") && self.has_no_entry(record)
     }
 
     /// The numbers of the first row, where each field is of its form.
-    fn head_row(&self) -> Option<HeadRow>
-        ensures told { result ≡ head_row_in self.now.version (header self.now.rows.now) }
+    fn head_row(&self, record: &Record<'_>) -> Option<HeadRow>
+        ensures told { result ≡ head_row_in self.now.version record.now.fields }
         ensures ordered { IfSome result (λ numbers. numbers.lo ≤ numbers.hi) }
     {
-        if !self.is_head() {
+        if !self.is_head(record) {
             return None;
         }
-        let start = read_moment(self.rows.header_field(4))?;
-        let deadline = read_moment(self.rows.header_field(5))?;
-        let lo = read_nanos(self.rows.header_field(6))?;
-        let hi = read_nanos(self.rows.header_field(7))?;
+        let start = read_moment(record.field(4))?;
+        let deadline = read_moment(record.field(5))?;
+        let lo = read_nanos(record.field(6))?;
+        let hi = read_nanos(record.field(7))?;
         if !are_in_order(start, deadline, lo, hi) {
             return None;
         }
@@ -553,11 +529,12 @@ impl<'a> Reader<'a> {
         ensures query { IfOk result (λ head. (head.query.source ≡ source)
             × (head.query.target ≡ target) × (head.query.start ≡ start)) }
     {
-        let Some(numbers) = self.head_row() else {
+        let first = Record::first(self.rows);
+        let Some(numbers) = self.head_row(&first) else {
             return Err(TextFault::Row(1));
         };
-        let from = self.names.place(self.rows.header_field(2));
-        let to = self.names.place(self.rows.header_field(3));
+        let from = self.names.place(first.field(2));
+        let to = self.names.place(first.field(3));
         let (Some(from), Some(to)) = (from, to) else {
             return Err(TextFault::UnknownName(1));
         };
@@ -577,12 +554,11 @@ impl<'a> Reader<'a> {
 
     /// The graph of the start row and the rows after it.
     fn read_rows(&self, alloc: Global, query: &Query) -> Result<PlanGraph, TextFault>
-        requires some { 0 < row_count self.now.rows.now }
-        requires names { NamesFit self.now.names self.now.network.now }
+        requires { 0 < row_count self.now.rows.now }
         ensures { IsUnlessNoMemory result (started_in self.now.network.now self.now.names self.now.version query.now.source.0 query.now.start.0
             (slice_index_or self.now.rows.now 1 []) (drop 2 self.now.rows.now)) }
     {
-        let leg = self.start_row(0, query.source, query.start)?;
+        let leg = self.start_row(&Record::of_row(self.rows, 0), query.source, query.start)?;
         let tables = self.read_tables(alloc)?;
         Ok(PlanGraph {
             start: Some(leg),
@@ -592,7 +568,6 @@ impl<'a> Reader<'a> {
 
     /// The graph of the rows after the first.
     fn read_graph(&self, alloc: Global, query: &Query) -> Result<PlanGraph, TextFault>
-        requires names { NamesFit self.now.names self.now.network.now }
         ensures { IsUnlessNoMemory result
             (graph_after_first self.now.network.now self.now.names self.now.version query.now.source.0 query.now.target.0 query.now.start.0
             (drop 1 self.now.rows.now)) }
@@ -618,10 +593,11 @@ impl<'a> Reader<'a> {
 fn version_of(rows: &Rows) -> Option<Version>
     ensures { result ≡ version_in (header rows.now) }
 {
-    if rows.header_field(1) == b"1".as_slice() {
+    let number = Record::first(rows).field(1);
+    if number == b"1".as_slice() {
         return Some(Version::First);
     }
-    if rows.header_field(1) == b"2".as_slice() {
+    if number == b"2".as_slice() {
         return Some(Version::Second);
     }
     None
@@ -637,8 +613,7 @@ fn read_records(
     target: PlaceId,
     start: Moment,
 ) -> Result<(Head, PlanGraph), TextFault>
-    requires names { NamesFit names network.now }
-    requires some { 0 < length rows.now }
+    requires { NamesFit names network.now }
     ensures { IsUnlessNoMemory result
         (graph_of_records network.now names.entry source.0 target.0 start.0 rows.now) }
 {
@@ -672,13 +647,7 @@ pub fn read(
     requires { NamesFit names.now network.now }
     ensures { IsUnlessNoMemory result (graph_of bytes.now network.now names.now source.0 target.0 start.0) }
 {
-    let rows = match Rows::read(alloc, bytes) {
-        Ok(rows) => rows,
-        Err(RowsFault::NoHeader) => return Err(TextFault::Row(1)),
-        Err(RowsFault::NoMemory) => return Err(TextFault::NoMemory),
-    };
-    match NameIndex::of(alloc, names) {
-        Ok(names) => read_records(alloc, &rows, network, names, source, target, start),
-        Err(_) => Err(TextFault::NoMemory),
-    }
+    let rows = Rows::read(alloc, bytes)?;
+    let names = NameIndex::of(alloc, names)?;
+    read_records(alloc, &rows, network, names, source, target, start)
 }

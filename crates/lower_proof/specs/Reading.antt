@@ -5,6 +5,8 @@ use Rattle.std.specs.Result.{result_err}
 use Rattle.std.specs.Str.{bytes_eq}
 use Rattle.clock_text.specs.Times.{moment_at, nanos_at}
 use Rattle.csv_rows.specs.Tables.{table_of, header, row_count}
+use Rattle.csv_rows.specs.declared.rows.RowsFault.{RowsFault}
+use Rattle.csv_rows.specs.declared.rows.RowsFault.TheVariants as rows
 use Rattle.plan_model.specs.Results.{require}
 use Rattle.plan_model.specs.declared.model.Query.{Query}
 use Rattle.plan_model.specs.NetworkModel.{NetworkModel}
@@ -115,6 +117,11 @@ pub record IsProofTold (network : NetworkModel) (names : NameLists) (source targ
   pub since : query.start.0 ≡ start
   pub until : query.deadline ≡ bounds.deadline
   pub told : AreValuesTold network names t bounds.number values
+
+-- the fault of a text that is no table: it has no first row, or there was no memory
+abbrev pub fault_of_rows : RowsFault → ProofFault
+fault_of_rows rows.NoHeader = Row 1
+fault_of_rows rows.NoMemory = NoMemory
 
 -- what is read of a text, of this source, target and start: a query and values, or the first fault, or there was no memory
 abbrev pub IsProofRead : NetworkModel → NameLists → ℕ → ℕ → ℕ → List ℕ → Result (Query × LowerBounds) ProofFault → Type 0

@@ -1,7 +1,7 @@
 //! The certificate of a text.
-ghost use Rattle.std.specs.Prelude.{◌≡◌, ◌+◌, ◌<◌, ◌⊎◌, [], length, nat_le, slice_index_or, IfOk};
+ghost use Rattle.std.specs.Prelude.{◌≡◌, ◌+◌, ◌<◌, ◌⊎◌, nat_le, IfOk};
 ghost use Rattle.std.specs.Result.{IfErr};
-ghost use Rattle.csv_rows.specs.Tables.{header, row_count};
+ghost use Rattle.csv_rows.specs.Tables.{header};
 ghost use Rattle.plan_model.specs.Network.{count};
 ghost use Rattle.lower_proof.specs.Reading.{is_bounds, bounds_row_in, bounds_in, value_row_in, told_in, IsFirstLineFault, AreValuesTold, IsProofRead};
 
@@ -9,7 +9,7 @@ use crate::{LowerBounds, no_values};
 use clock_text::{read_moment, read_nanos};
 use csv_rows::{Rows, RowsFault};
 use plan_model::{ConnectionId, List, Moment, Names, Network, NoMemory, PlaceId, Query};
-use printed_rows::{connection_of, is_kind, is_query, rises, whole};
+use printed_rows::{Record, connection_of, is_query, rises, whole};
 use std::alloc::Global;
 use text_index::NameIndex;
 
@@ -29,6 +29,29 @@ pub enum ProofFault {
     OtherQuery(u64),
     /// There was no memory.
     NoMemory,
+}
+
+impl From<RowsFault> for ProofFault {
+    ghost use Rattle.lower_proof.specs.Reading.{fault_of_rows};
+
+    ghost from_gives = { λ fault told. told ≡ fault_of_rows fault };
+
+    fn from(fault: RowsFault) -> Self {
+        match fault {
+            RowsFault::NoHeader => ProofFault::Row(1),
+            RowsFault::NoMemory => ProofFault::NoMemory,
+        }
+    }
+}
+
+impl From<NoMemory> for ProofFault {
+    ghost use Rattle.lower_proof.specs.declared.reader.ProofFault.TheVariants.{NoMemory as NoMemoryFault};
+
+    ghost from_gives = { λ _ fault. fault ≡ NoMemoryFault };
+
+    fn from(_: NoMemory) -> Self {
+        ProofFault::NoMemory
+    }
 }
 
 /// The numbers of the first row.
@@ -53,13 +76,11 @@ pub(crate) struct Told {
     value: u64,
 }
 
-/// Whether the first row is one of a certificate, of the version that is known.
-fn is_bounds(rows: &Rows) -> bool
-    ensures { result ≡ is_bounds (header rows.now) }
+/// Whether a record is the first of a certificate, of the version that is known.
+fn is_bounds(record: &Record<'_>) -> bool
+    ensures { result ≡ is_bounds record.now.fields }
 {
-    rows.header_width() == 7
-        && rows.header_field(0) == b"bounds".as_slice()
-        && rows.header_field(1) == b"1".as_slice()
+    record.is_kind(b"bounds", 7) && record.field(1) == b"1".as_slice()
 }
 
 /// Whether a start is not after a deadline.
@@ -70,15 +91,15 @@ fn is_in_time(start: Moment, deadline: Moment) -> bool
 }
 
 /// The numbers of the first row, where each field is of its form.
-fn bounds_row(rows: &Rows) -> Option<BoundsRow>
-    ensures { result ≡ bounds_row_in (header rows.now) }
+fn bounds_row(record: &Record<'_>) -> Option<BoundsRow>
+    ensures { result ≡ bounds_row_in record.now.fields }
 {
-    if !is_bounds(rows) {
+    if !is_bounds(record) {
         return None;
     }
-    let start = read_moment(rows.header_field(4))?;
-    let deadline = read_moment(rows.header_field(5))?;
-    let number = whole(rows.header_field(6))?;
+    let start = read_moment(record.field(4))?;
+    let deadline = read_moment(record.field(5))?;
+    let number = whole(record.field(6))?;
     if !is_in_time(start, deadline) {
         return None;
     }
@@ -99,11 +120,12 @@ fn read_bounds(
 ) -> Result<BoundsRow, ProofFault>
     ensures { result ≡ bounds_in names.now source.0 target.0 start.0 (header rows.now) }
 {
-    let Some(numbers) = bounds_row(rows) else {
+    let first = Record::first(rows);
+    let Some(numbers) = bounds_row(&first) else {
         return Err(ProofFault::Row(1));
     };
-    let from = names.place(rows.header_field(2));
-    let to = names.place(rows.header_field(3));
+    let from = names.place(first.field(2));
+    let to = names.place(first.field(3));
     let (Some(from), Some(to)) = (from, to) else {
         return Err(ProofFault::UnknownName(1));
     };
@@ -115,35 +137,32 @@ fn read_bounds(
 }
 
 /// The numbers of a value row, where each field is of its form.
-fn value_numbers(rows: &Rows, row: usize) -> Option<ValueRow>
-    requires { row < row_count rows.now }
-    ensures { result ≡ value_row_in (slice_index_or rows.now (row + 1) []) }
+fn value_numbers(record: &Record<'_>) -> Option<ValueRow>
+    ensures { result ≡ value_row_in record.now.fields }
 {
-    if !is_kind(rows, row, b"value", 4) {
+    if !record.is_kind(b"value", 4) {
         return None;
     }
-    let step = whole(rows.field(row, 2))?;
-    let value = read_nanos(rows.field(row, 3))?;
+    let step = whole(record.field(2))?;
+    let value = read_nanos(record.field(3))?;
     Some(ValueRow { step, value })
 }
 
 /// What a value row tells, after one of an earlier connection.
 fn read_value(
-    rows: &Rows,
-    row: usize,
+    record: &Record<'_>,
     network: &Network,
     names: &NameIndex<'_>,
     last: Option<u64>,
 ) -> Result<Told, ProofFault>
-    requires { row < row_count rows.now }
-    ensures told { result ≡ told_in network.now names.now (row + 2) last (slice_index_or rows.now (row + 1) []) }
+    ensures told { result ≡ told_in network.now names.now record.now.line last record.now.fields }
     ensures there { IfOk result (λ told. told.id.0 < count network.now) }
 {
-    let line = rows.line(row);
-    let Some(numbers) = value_numbers(rows, row) else {
+    let line = record.line();
+    let Some(numbers) = value_numbers(record) else {
         return Err(ProofFault::Row(line));
     };
-    let Some(run) = names.run(rows.field(row, 1)) else {
+    let Some(run) = names.run(record.field(1)) else {
         return Err(ProofFault::UnknownName(line));
     };
     let Some(id) = connection_of(network, run, numbers.step) else {
@@ -170,10 +189,7 @@ fn read_values(
     ensures told { IfOk result (λ values. AreValuesTold network.now names.now rows.now stated values.items) }
     ensures fault { IfErr result (λ fault. (fault ≡ ProofFault.NoMemory) ⊎ IsFirstLineFault network.now names.now rows.now stated fault) }
 {
-    let mut values = match no_values(alloc, network) {
-        Ok(values) => values,
-        Err(_) => return Err(ProofFault::NoMemory),
-    };
+    let mut values = no_values(alloc, network)?;
     let mut last = None;
     let count = rows.count();
     let most = stated as usize;
@@ -181,7 +197,7 @@ fn read_values(
         if row >= count || row >= most {
             return Err(ProofFault::Row(row as u64 + 2));
         }
-        let told = read_value(rows, row, network, names, last)?;
+        let told = read_value(&Record::of_row(rows, row), network, names, last)?;
         values[told.id.0 as usize] = Some(told.value);
         last = Some(u64::from(told.id.0));
     }
@@ -202,15 +218,8 @@ pub fn read_text(
 ) -> Result<(Query, LowerBounds), ProofFault>
     ensures { IsProofRead network.now names.now source.0 target.0 start.0 bytes.now result }
 {
-    let rows = match Rows::read(alloc, bytes) {
-        Ok(rows) => rows,
-        Err(RowsFault::NoHeader) => return Err(ProofFault::Row(1)),
-        Err(RowsFault::NoMemory) => return Err(ProofFault::NoMemory),
-    };
-    let names = match NameIndex::of(alloc, names) {
-        Ok(names) => names,
-        Err(_) => return Err(ProofFault::NoMemory),
-    };
+    let rows = Rows::read(alloc, bytes)?;
+    let names = NameIndex::of(alloc, names)?;
     let bounds = read_bounds(&rows, &names, source, target, start)?;
     let values = read_values(alloc, &rows, network, &names, bounds.number)?;
     let query = Query {

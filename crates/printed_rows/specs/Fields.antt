@@ -4,6 +4,7 @@ use Rattle.std.specs.List.{position_from}
 use Rattle.std.specs.Str.{bytes_eq}
 use Rattle.clock_text.specs.Digits.{whole_of}
 use Rattle.plan_model.specs.NetworkModel.{NetworkModel}
+use Rattle.printed_rows.specs.declared.TheConstants.{MOST_WHOLE}
 pub use Rattle.text_index.specs.Numbers.{number_of}
 
 -- a field of a record
@@ -16,7 +17,7 @@ is_kind kind width r = (length r == width) && bytes_eq (field r 0) kind
 
 -- a whole number: one to nine digits
 abbrev pub whole_at : List ℕ → Option ℕ
-whole_at text = whole_of 999999999 text
+whole_at text = whole_of MOST_WHOLE text
 
 -- the connection of a run and step
 abbrev pub connection_of : NetworkModel → ℕ → ℕ → Option ℕ

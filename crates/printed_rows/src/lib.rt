@@ -1,32 +1,35 @@
 //! Rows of printed files: their fields as they are written, and as they are read.
 #![tactic(auto)]
 
-ghost use Rattle.std.specs.Prelude.{◌≡◌, ℕ, ◌<◌, ◌+◌, ◌++◌, [], map, IfOk, IfSome, slice_index_or};
+ghost use Rattle.std.specs.Prelude.{◌≡◌, ◌<◌, ◌++◌, map, IfOk, IfSome};
 ghost use Rattle.std.specs.Option.{option_map};
-ghost use Rattle.csv_rows.specs.Tables.{row_count};
 ghost use Rattle.plan_model.specs.Network.{count};
-ghost use Rattle.printed_rows.specs.Fields.{connection_of, is_query, whole_at, rises, is_kind};
+ghost use Rattle.printed_rows.specs.Fields.{connection_of, is_query, whole_at, rises};
 ghost use Rattle.printed_rows.specs.Writers.{row_of_fields};
+
+mod record;
 
 use clock_text::read_whole;
 use csv::WriterBuilder;
-use csv_rows::Rows;
 use plan_model::{ConnectionId, Moment, Network, NoMemory, PlaceId, RunId};
+pub use record::Record;
 
 /// The connection of a run and step; none where the run has no such step.
 pub fn connection_of(network: &Network, run: RunId, step: u32) -> Option<ConnectionId>
     ensures number { option_map (λ id. id.0) result ≡ connection_of network.now run.0 step }
     ensures there { IfSome result (λ id. id.0 < count network.now) }
 {
-    let _count = network.count();
     network.find(run, step)
 }
+
+/// The greatest whole number of nine digits.
+pub const MOST_WHOLE: u32 = 999_999_999;
 
 /// A whole number of one to nine digits; none where the text is not of this form.
 pub fn whole(text: &[u8]) -> Option<u32>
     ensures { result ≡ whole_at text.now }
 {
-    read_whole(text, 999_999_999)
+    read_whole(text, MOST_WHOLE)
 }
 
 /// Whether two places and a moment are these.
@@ -50,15 +53,6 @@ pub fn rises(last: Option<u64>, x: u64) -> bool
         Some(last) => last < x,
         None => true,
     }
-}
-
-/// Whether a row is of this kind, with so many fields.
-pub fn is_kind(rows: &Rows, row: usize, kind: &[u8], width: usize) -> bool
-    requires row { row < row_count rows.now }
-    requires some { 0 < width }
-    ensures { result ≡ is_kind kind.now width (slice_index_or rows.now (row + 1) []) }
-{
-    rows.width(row) == width && rows.field(row, 0) == kind
 }
 
 /// Puts a row of fields behind a text, quoted where they need it.

@@ -15,5 +15,5 @@ returns-in-Ok c =
     let rows = c.args.rows.now in
     let query = c.in_ok-head.ensures.query in
     let told = rw (query.0, query.1, query.2) at c.in-Ok.ensures in
-    told_by n names version c.args.source.0 c.args.target.0 c.args.start.0 rows head (Ok (head, graph)) c.requires.some (sym c.in-Some.is ∙ c.version_of.ensures) c.in_ok-head.ensures.told
+    told_by n names version c.args.source.0 c.args.target.0 c.args.start.0 rows head (Ok (head, graph)) (sym c.in-Some.is ∙ c.version_of.ensures) c.in_ok-head.ensures.told
     (ap (λ (r : Result PlanGraph TextFault). and_then r (λ g. Ok (head, g))) told)

@@ -7,4 +7,4 @@ use Rattle.lower_proof.proofs.reader.read_text.Goals as goal
 pub returns-in_err-values : goal.returns-in_err-values
 returns-in_err-values c =
     subst (λ (names : NameLists). IsProofRead c.args.network.now names c.args.source.0 c.args.target.0 c.args.start.0 c.args.bytes.now c.from_residual-in_err-values.result)
-    c.in-Ok-of.ensures (search rules)
+    c.in_ok-names.ensures (search rules)

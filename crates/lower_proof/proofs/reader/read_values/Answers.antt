@@ -6,7 +6,7 @@ use Rattle.lower_proof.proofs.reader.read_values.Goals as goal
 use Rattle.lower_proof.proofs.reader.read_values.Goals.{then-row-count-via-then-row-count, then-row-count-via-else-row-count+then-row-most}
 
 pub loop-row-init : goal.loop-row-init
-loop-row-init c = read_first _ _ _ _ _ c.in-Ok.ensures.as_many c.in-Ok.ensures.none
+loop-row-init c = read_first _ _ _ _ _ c.in_ok-values.ensures.as_many c.in_ok-values.ensures.none
 
 pub returns-then-row-count-clause-fault : goal.returns-then-row-count-clause-fault
 returns-then-row-count-clause-fault c =
@@ -21,14 +21,14 @@ returns-then-row-count-clause-fault c =
     inr (ends_here _ _ _ _ _ _ _ loop.invariant within ends)
 
 pub returns-in_err-told-clause-fault : goal.returns-in_err-told-clause-fault
-returns-in_err-told-clause-fault c = if_raised _ c.from_residual.result c.from_residual.ensures
-    (inr (fault_here _ _ _ _ _ _ _ c.loop-row.invariant _ (omega (arith, c.count-count.ensures.count)) (omega arith) c.in_err-told.ensures.told))
+returns-in_err-told-clause-fault c = if_raised _ c.from_residual-in_err-told.result c.from_residual-in_err-told.ensures
+    (inr (fault_here _ _ _ _ _ _ _ c.loop-row.invariant _ (omega (arith, c.count-count.ensures.count)) (omega arith) (rw c.of_row.ensures at c.in_err-told.ensures.told)))
 
 pub loop-row-preserved : goal.loop-row-preserved
 loop-row-preserved c =
     let told = c.in_ok-told.ensures in
     rw c.from.ensures (read_on _ _ _ _ _ _ _ c.loop-row.invariant c.in_ok-told.told (omega (arith, c.count-count.ensures.count))
-    (omega arith) told.told told.there)
+    (omega arith) (rw c.of_row.ensures at told.told) told.there)
 
 pub returns-clause-told : goal.returns-clause-told
 returns-clause-told c =

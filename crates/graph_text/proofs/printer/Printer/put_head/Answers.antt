@@ -12,8 +12,8 @@ returns c =
     _ _ _ _ _ _ _ _ []
     refl
     (c.as_slice.ensures ∙ c.digit.ensures)
-    (c.as_bytes.ensures.value ∙ name_is c.args.self.now.names.now.places c.args.head.now.query.source.0 c.place_name.result.now c.place_name.ensures.name)
-    (c.as_bytes-2.ensures.value ∙ name_is c.args.self.now.names.now.places c.args.head.now.query.target.0 c.place_name-2.result.now c.place_name-2.ensures.name)
+    (c.as_bytes.ensures.value ∙ name_is c.args.self.now.names.now.places c.args.self.now.head.now.query.source.0 c.place_name.result.now c.place_name.ensures.name)
+    (c.as_bytes-2.ensures.value ∙ name_is c.args.self.now.names.now.places c.args.self.now.head.now.query.target.0 c.place_name-2.result.now c.place_name-2.ensures.name)
     (c.as_slice-2.ensures ∙ c.write_moment-start.ensures.text)
     (c.as_slice-3.ensures ∙ c.write_moment-deadline.ensures.text)
     (c.as_slice-4.ensures ∙ c.write_nanos-lo.ensures.text ∙ ap nanos_text c.lo.ensures.lo)
